@@ -1,0 +1,24 @@
+# make          builds the program and leaves it as ./ttx
+# make test     the gate: every proof from nothing, every test, and the program over real files
+# make demo     the main job on a shipped example
+# make bench    times the program beside plain tools; writes nothing into the repository
+
+BUILT = crates/ttx/out/ttx
+
+.PHONY: all ttx test demo bench
+
+all: ttx
+
+ttx:
+	cd crates/ttx && rt run < stdin > /dev/null
+	cp $(BUILT) ttx
+
+test:
+	rt ci
+	sh tests/cli.sh $(BUILT)
+
+demo: ttx
+	sh demo/demo.sh ./ttx
+
+bench: ttx
+	sh bench/bench.sh ./ttx
