@@ -1,0 +1,59 @@
+//! The Hamming 8/4 code (EN 300 706, 8.2): four bits in a byte, of which one may be received wrong.
+
+ghost use Rattle.std.specs.Prelude.{◌≡◌, ℕ, ◌<◌, ◌↔◌, IsTrue, MatchOption};
+ghost use Rattle.ttx_code.specs.Words.{hamming_word, Reads, IsWord, is_word, reading};
+
+// The code word of each number.
+static WORDS: [u8; 16] = [
+    0x15, 0x02, 0x49, 0x5e, 0x64, 0x73, 0x38, 0x2f, 0xd0, 0xc7, 0x8c, 0x9b, 0xa1, 0xb6, 0xfd, 0xea,
+];
+
+// The number that each byte reads as, and 16 where it is unreadable.
+#[rattlefmt::skip]
+static NUMBERS: [u8; 256] = [
+     1, 16,  1,  1, 16,  0,  1, 16, 16,  2,  1, 16, 10, 16, 16,  7,
+    16,  0,  1, 16,  0,  0, 16,  0,  6, 16, 16, 11, 16,  0,  3, 16,
+    16, 12,  1, 16,  4, 16, 16,  7,  6, 16, 16,  7, 16,  7,  7,  7,
+     6, 16, 16,  5, 16,  0, 13, 16,  6,  6,  6, 16,  6, 16, 16,  7,
+    16,  2,  1, 16,  4, 16, 16,  9,  2,  2, 16,  2, 16,  2,  3, 16,
+     8, 16, 16,  5, 16,  0,  3, 16, 16,  2,  3, 16,  3, 16,  3,  3,
+     4, 16, 16,  5,  4,  4,  4, 16, 16,  2, 15, 16,  4, 16, 16,  7,
+    16,  5,  5,  5,  4, 16, 16,  5,  6, 16, 16,  5, 16, 14,  3, 16,
+    16, 12,  1, 16, 10, 16, 16,  9, 10, 16, 16, 11, 10, 10, 10, 16,
+     8, 16, 16, 11, 16,  0, 13, 16, 16, 11, 11, 11, 10, 16, 16, 11,
+    12, 12, 16, 12, 16, 12, 13, 16, 16, 12, 15, 16, 10, 16, 16,  7,
+    16, 12, 13, 16, 13, 16, 13, 13,  6, 16, 16, 11, 16, 14, 13, 16,
+     8, 16, 16,  9, 16,  9,  9,  9, 16,  2, 15, 16, 10, 16, 16,  9,
+     8,  8,  8, 16,  8, 16, 16,  9,  8, 16, 16, 11, 16, 14,  3, 16,
+    16, 12, 15, 16,  4, 16, 16,  9, 15, 16, 15, 15, 16, 14, 15, 16,
+     8, 16, 16,  5, 16, 14, 13, 16, 16, 14, 15, 16, 14, 14, 16, 14,
+];
+
+/// The code word of a number below 16.
+pub fn ham(n: u8) -> u8
+    requires { n < 16 }
+    ensures { result ≡ hamming_word n }
+{
+    WORDS[usize::from(n)]
+}
+
+/// The number whose code word differs from the byte in at most one bit. Any two code words differ in at least four
+/// bits, so there is one such number or none, and `None` says that at least two bits are wrong.
+pub fn unham(b: u8) -> Option<u8>
+    ensures near { MatchOption result ((n : ℕ) → Reads b n → ⊥) (λ n. Reads b n) }
+    ensures value { result ≡ reading b }
+{
+    let n = NUMBERS[usize::from(b)];
+    if n < 16 { Some(n) } else { None }
+}
+
+/// Whether the byte is a code word: each of its bits is right.
+pub fn is_word(b: u8) -> bool
+    ensures word { IsTrue result ↔ IsWord b }
+    ensures value { result ≡ is_word b }
+{
+    match unham(b) {
+        Some(n) => ham(n) == b,
+        None => false,
+    }
+}
