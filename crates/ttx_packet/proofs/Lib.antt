@@ -1,0 +1,4 @@
+pub mod Choices
+pub mod Cases
+pub mod Receptions
+pub mod Addresses

@@ -1,0 +1,32 @@
+-- Laws of slots, which the layers above may use. Each is proved by the function of its name in `laws`.
+--
+--   KindIsKept                      wrong bits leave the kind of a clean slot as it is
+--   EachSlotMayBeReceivedAsSent     no wrong bit is permitted
+--   EmptySlotsAreEmpty              the kind of 42 zero bytes
+--   AddressIsReadBack               the kind of a packet that begins with a written address
+use Rattle.std.specs.Prelude.{◌≡◌, ◌⊎◌, ◌↔◌, ℕ, ◌<◌, ◌≤◌, List, ◌++◌, true, false}
+use Rattle.ttx_packet.specs.Slots.{IsSlot, IsEmpty, IsRow, kind_of, packet_kind, is_empty, is_clean, are_words, address_bytes, read_number}
+use Rattle.ttx_packet.specs.Receptions.{MayBeReceivedAs}
+
+-- what is received of a clean slot that isn't empty has its kind, magazine and number; or row 2 of magazine 1 is received as 42 zero bytes
+abbrev pub KindIsKept : Type 0
+KindIsKept =
+    (sent received : List ℕ) → IsSlot sent → is_clean sent ≡ true → is_empty sent ≡ false → MayBeReceivedAs sent received →
+    (kind_of received ≡ kind_of sent) ⊎ ((kind_of sent ≡ IsRow 1 2) × (is_empty received ≡ true))
+
+-- a slot may be received as it was sent
+abbrev pub EachSlotMayBeReceivedAsSent : Type 0
+EachSlotMayBeReceivedAsSent = (slot : List ℕ) → IsSlot slot → MayBeReceivedAs slot slot
+
+-- 42 zero bytes have the kind of an empty slot, and nothing else has
+abbrev pub EmptySlotsAreEmpty : Type 0
+EmptySlotsAreEmpty = (slot : List ℕ) → kind_of slot ≡ IsEmpty ↔ is_empty slot ≡ true
+
+-- the two bytes of an address are code words, and a packet that begins with them has this magazine and this number
+pub record IsReadBack (mag number : ℕ) (rest : List ℕ) : Type 0 where
+  pub words : are_words (address_bytes mag number) ≡ true
+  pub numbered : read_number (address_bytes mag number ++ rest) ≡ number
+  pub kind : kind_of (address_bytes mag number ++ rest) ≡ packet_kind (address_bytes mag number ++ rest) mag number
+
+abbrev pub AddressIsReadBack : Type 0
+AddressIsReadBack = (mag number : ℕ) (rest : List ℕ) → 1 ≤ mag → mag ≤ 8 → number < 32 → IsReadBack mag number rest

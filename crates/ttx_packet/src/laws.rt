@@ -1,0 +1,32 @@
+//! Laws of slots. A call costs nothing and gives the caller's proof the law.
+
+ghost use Rattle.ttx_packet.specs.Laws.{KindIsKept, EachSlotMayBeReceivedAsSent, EmptySlotsAreEmpty, AddressIsReadBack};
+
+/// One wrong bit in each byte leaves the kind, the magazine and the number of a clean slot, with one exception: row 2
+/// of magazine 1 may be received as 42 zero bytes, and then no character of it is received.
+pub fn kind_is_kept()
+    ensures { KindIsKept }
+{
+    ttx_code::laws::words_have_numbers();
+    ttx_code::laws::words_are_read_under_one_wrong_bit();
+}
+
+/// A slot may be received as it was sent.
+pub fn each_slot_may_be_received_as_sent()
+    ensures { EachSlotMayBeReceivedAsSent }
+{
+    ttx_code::laws::each_byte_is_near_itself();
+}
+
+/// 42 zero bytes have the kind of an empty slot, and nothing else has.
+pub fn empty_slots_are_empty()
+    ensures { EmptySlotsAreEmpty }
+{}
+
+/// The two bytes of an address are code words, and a packet that begins with them has this magazine and this number.
+pub fn address_is_read_back()
+    ensures { AddressIsReadBack }
+{
+    ttx_code::laws::words_are_read();
+    ttx_code::laws::words_are_words();
+}

@@ -1,0 +1,124 @@
+//! What the 42 bytes of a slot are. Bytes are counted from 0, after clock run-in and framing code.
+
+ghost use Rattle.std.specs.Prelude.{◌≡◌, drop};
+ghost use Rattle.ttx_packet.specs.Slots.{is_empty, are_readable, are_words, packet_kind, read_number, is_clean};
+ghost use Rattle.ttx_packet.specs.Lent.{Shows, ShowsAs};
+
+use crate::place::Address;
+use ttx_code::{is_word, unham};
+
+/// What the 42 bytes of a slot are, with the address, and the bytes where more is to be read from them.
+#[derive(Clone, Copy)]
+pub enum Slot<'a> {
+    /// 42 zero bytes: nothing was sent.
+    Empty,
+    /// A byte that says what the packet is has two wrong bits or more.
+    Unreadable,
+    /// Packet 0, with all its bytes.
+    Header(Address, &'a [u8; 42]),
+    /// Packets 1 to 24, with bytes 2 to 41: the characters of a row.
+    Row(Address, &'a [u8; 40]),
+    /// Packet 27 with designation 0, with all its bytes.
+    Links(Address, &'a [u8; 42]),
+    /// Packet 30 of magazine 8, with all its bytes.
+    Info(Address, &'a [u8; 42]),
+    /// Any other packet.
+    Other(Address),
+}
+
+// The 40 bytes after the address.
+fn text_of(bytes: &[u8; 42]) -> &[u8; 40]
+    ensures { result.now ≡ drop 2 bytes.now }
+{
+    bytes.last_chunk::<40>().unwrap()
+}
+
+// Whether all bytes are zero.
+fn is_zero(bytes: &[u8]) -> bool
+    ensures { result ≡ is_empty bytes.now }
+{
+    bytes.iter().all(|b| *b == 0)
+}
+
+// Whether each byte is readable.
+fn is_readable(bytes: &[u8]) -> bool
+    ensures { result ≡ are_readable bytes.now }
+{
+    bytes.iter().all(|b| unham(*b).is_some())
+}
+
+// What a packet with this address is.
+#[tactic(auto, unfolding(crate::specs::Slots::packet_kind))]
+fn packet_of<'a>(bytes: &'a [u8; 42], at: Address) -> Slot<'a>
+    ensures { ShowsAs result (packet_kind bytes.now at.mag at.number) bytes.now }
+{
+    match at.number {
+        0 => {
+            if is_readable(&bytes[2..10]) {
+                Slot::Header(at, bytes)
+            } else {
+                Slot::Unreadable
+            }
+        }
+        1..=24 => Slot::Row(at, text_of(bytes)),
+        27 => match unham(bytes[2]) {
+            Some(0) => Slot::Links(at, bytes),
+            Some(_) => Slot::Other(at),
+            None => Slot::Unreadable,
+        },
+        30 if at.mag == 8 => Slot::Info(at, bytes),
+        _ => Slot::Other(at),
+    }
+}
+
+/// What the 42 bytes of a slot are: the first case that fits.
+///
+/// 1. 42 zero bytes are an empty slot. (A zero byte alone would be read as 1, with one bit corrected.)
+/// 2. The slot is unreadable where a byte among 0 and 1, among 2 to 9 of packet 0, or byte 2 of packet 27 is.
+/// 3. Else its magazine and packet number say what it is, and for packet 27 the designation in byte 2.
+#[tactic(auto, unfolding(crate::specs::Slots::kind_of))]
+pub fn slot_of<'a>(bytes: &'a [u8; 42]) -> Slot<'a>
+    ensures { Shows result bytes.now }
+{
+    if is_zero(bytes) {
+        return Slot::Empty;
+    }
+    let Some(low) = unham(bytes[0]) else {
+        return Slot::Unreadable;
+    };
+    let Some(high) = unham(bytes[1]) else {
+        return Slot::Unreadable;
+    };
+    let mag = if low % 8 == 0 { 8 } else { low % 8 };
+    let number = low / 8 + 2 * high;
+    packet_of(bytes, Address { mag, number })
+}
+
+// Whether each byte is a code word.
+fn are_code_words(bytes: &[u8]) -> bool
+    ensures { result ≡ are_words bytes.now }
+{
+    bytes.iter().all(|b| is_word(*b))
+}
+
+// The packet number that the address reads as, where an unreadable byte counts as 0.
+fn number_of(bytes: &[u8; 42]) -> u8
+    ensures { result ≡ read_number bytes.now }
+{
+    unham(bytes[0]).unwrap_or(0) / 8 + 2 * unham(bytes[1]).unwrap_or(0)
+}
+
+/// Whether one wrong bit in each byte can't make another packet of the slot: it is empty, or the bytes that say what
+/// it is are code words. These are bytes 0 and 1, bytes 2 to 9 of packet 0, and byte 2 of packet 27.
+#[tactic(auto, unfolding(crate::specs::Slots::is_clean))]
+pub fn clean(bytes: &[u8; 42]) -> bool
+    ensures { result ≡ is_clean bytes.now }
+{
+    is_zero(bytes)
+        || are_code_words(&bytes[0..2])
+            && match number_of(bytes) {
+                0 => are_code_words(&bytes[2..10]),
+                27 => is_word(bytes[2]),
+                _ => true,
+            }
+}
