@@ -1,0 +1,4 @@
+pub mod FlagBits
+pub mod Slices
+pub mod PacketZero
+pub mod Readings

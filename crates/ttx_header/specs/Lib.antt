@@ -1,0 +1,5 @@
+pub mod Ids
+pub mod Control
+pub mod Fields
+pub mod Headers
+pub mod Laws

@@ -1,0 +1,77 @@
+//! Page headers.
+
+ghost use Rattle.std.specs.Prelude.{◌≡◌, SomeIff};
+ghost use Rattle.ttx_header.specs.Control.{IsControl};
+ghost use Rattle.ttx_header.specs.Fields.{IsHeaderFields, fields_at};
+
+use crate::control::Control;
+use crate::ids::PageId;
+use std::marker::Model;
+
+/// A page header: the page's id, its control bits, and the 24 characters and the 8 of the clock as the bytes that are sent.
+#[derive(Clone, Copy, PartialEq, Eq, Debug)]
+pub struct Header {
+    id: PageId,
+    control: Control,
+    text: [u8; 24],
+    clock: [u8; 8],
+}
+
+impl Model for Header {
+    ghost use Rattle.ttx_header.specs.Fields.{HeaderFields, IsHeaderFields, fields_at};
+
+    ghost Value = { HeaderFields };
+
+    ghost view = { λ h. fields_at h.id h.control.0 h.text h.clock };
+
+    ghost inverse = { λ f. record { id = f.id; control = record { 0 = f.control }; text = f.text; clock = f.clock } };
+
+    ghost invariant = { λ h. IsHeaderFields (fields_at h.id h.control.0 h.text h.clock) };
+}
+
+impl Header {
+    /// The header of these fields. None where a control bit above bit 10 is set.
+    pub fn new(id: PageId, control: Control, text: [u8; 24], clock: [u8; 8]) -> Option<Header>
+        ensures { SomeIff result (IsControl control.0) (fields_at id control.0 text clock) }
+    {
+        if control.0 < 2048 {
+            Some(Header {
+                id,
+                control,
+                text,
+                clock,
+            })
+        } else {
+            None
+        }
+    }
+
+    /// The id of the page.
+    pub fn id(&self) -> PageId
+        ensures value { result ≡ self.now.id }
+        ensures ranges { IsHeaderFields self.now }
+    {
+        self.id
+    }
+
+    /// The control bits.
+    pub fn control(&self) -> Control
+        ensures { result.0 ≡ self.now.control }
+    {
+        self.control
+    }
+
+    /// Bytes 10 to 33, as they are sent.
+    pub fn text(&self) -> &[u8; 24]
+        ensures { result.now ≡ self.now.text }
+    {
+        &self.text
+    }
+
+    /// Bytes 34 to 41, as they are sent.
+    pub fn clock(&self) -> &[u8; 8]
+        ensures { result.now ≡ self.now.clock }
+    {
+        &self.clock
+    }
+}

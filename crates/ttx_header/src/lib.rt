@@ -1,0 +1,18 @@
+//! Page headers: the ids of pages, the control bits, and what the 42 bytes of a page header say.
+#![tactic(auto)]
+
+pub mod control;
+pub mod headers;
+pub mod ids;
+pub mod laws;
+pub mod parts;
+mod reading;
+#[cfg(test)]
+mod tests;
+mod writing;
+
+pub use control::Control;
+pub use headers::Header;
+pub use ids::PageId;
+pub use reading::read_header;
+pub use writing::{time_fill, write_header};

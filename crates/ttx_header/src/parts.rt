@@ -1,0 +1,32 @@
+//! Parts of a packet, as the readers and writers of packets need them.
+
+ghost use Rattle.std.specs.Prelude.{◌≡◌, ◌+◌, ◌<◌, ◌≤◌, ◌++◌, length, take};
+ghost use Rattle.ttx_packet.specs.Slots.{are_readable};
+ghost use Rattle.ttx_header.specs.Headers.{number};
+
+use ttx_code::unham;
+
+/// Whether each of the bytes is readable as a Hamming 8/4 word.
+pub fn is_readable(bytes: &[u8]) -> bool
+    ensures { result ≡ are_readable bytes.now }
+{
+    bytes.iter().all(|b| unham(*b).is_some())
+}
+
+/// The number that byte `at` of a packet reads as, 0 to 15; 0 where it is unreadable.
+pub fn number_at(bytes: &[u8; 42], at: usize) -> u8
+    requires { at < 42 }
+    ensures value { result ≡ number bytes.now at }
+    ensures range { result < 16 }
+{
+    unham(bytes[at]).unwrap_or(0)
+}
+
+/// Writes a part of a packet, from byte `at` on. The bytes before it stay.
+#[tactic(auto, using(std::proofs::lemmas::Slice::overwrites))]
+pub fn put(bytes: &mut [u8; 42], at: usize, part: &[u8])
+    requires { at + length part.now ≤ 42 }
+    ensures { take (at + length part.now) bytes.new ≡ take at bytes.old ++ part.now }
+{
+    bytes[at..at + part.len()].copy_from_slice(part);
+}
