@@ -1,0 +1,5 @@
+pub mod Each
+pub mod Magazines
+pub mod Receptions
+pub mod Said
+pub mod Written

@@ -1,0 +1,33 @@
+-- Magazines, of which 8 is written 0, and the difference of two.
+use Rattle.std.proofs.Common.{◌≡◌, ℕ, ◌<◌, ◌≤◌, ◌%◌, ◌==◌, true, false, refl, arith, bit_xor, ltb, eqb, inl, inr, eqb-true}
+use Rattle.std.proofs.lemmas.Bool.{agree_below, agree_below_at, ltb-true, cases_Bool}
+use Rattle.std.proofs.lemmas.Bool.Decides.{nat_tests}
+use Rattle.ttx_packet.specs.Slots.{magazine}
+
+small : agree_below (λ a. agree_below (λ b. ltb (bit_xor a b) 8) (λ _. true) 8) (λ _. true) 8 ≡ true
+small = refl
+
+-- the difference of two magazines has three bits
+pub xor_below_8 : (a b : ℕ) → a < 8 → b < 8 → bit_xor a b < 8
+xor_below_8 a b p q =
+    ltb-true _ _ (agree_below_at (λ b. ltb (bit_xor a b) 8) (λ _. true) 8 b
+    (agree_below_at (λ a. agree_below (λ b. ltb (bit_xor a b) 8) (λ _. true) 8) (λ _. true) 8 a small p) q)
+
+twice : agree_below (λ a. agree_below (λ b. eqb (bit_xor a (bit_xor a b)) b) (λ _. true) 8) (λ _. true) 8 ≡ true
+twice = refl
+
+-- the difference gives the other magazine back
+pub xor_back : (a b : ℕ) → a < 8 → b < 8 → bit_xor a (bit_xor a b) ≡ b
+xor_back a b p q =
+    eqb-true _ _ (agree_below_at (λ b. eqb (bit_xor a (bit_xor a b)) b) (λ _. true) 8 b
+    (agree_below_at (λ a. agree_below (λ b. eqb (bit_xor a (bit_xor a b)) b) (λ _. true) 8) (λ _. true) 8 a twice p) q)
+
+pub magazine_back : (mag : ℕ) → 1 ≤ mag → mag ≤ 8 → magazine (mag % 8) ≡ mag
+magazine_back mag from to =
+    elim (cases_Bool (mag % 8 % 8 == 0)) as (λ _. magazine (mag % 8) ≡ mag) [
+      | inl z ↦ let zero : mag % 8 % 8 ≡ 0 = eqb-true _ 0 z in rw z (omega arith)
+      | inr z ↦ rw z (let some : 1 ≤ mag % 8 % 8 = positive z in omega arith)
+    ]
+  where
+    positive : (mag % 8 % 8 == 0) ≡ false → 1 ≤ mag % 8 % 8
+    positive z = grind (arith, nat_tests)

@@ -1,0 +1,15 @@
+//! Packets X/27/0: the six links of a page.
+#![tactic(auto)]
+
+pub mod laws;
+mod reading;
+pub mod sets;
+pub mod targets;
+#[cfg(test)]
+mod tests;
+mod writing;
+
+pub use reading::{read_link, read_links};
+pub use sets::Links;
+pub use targets::Target;
+pub use writing::{write_link, write_links};

@@ -1,0 +1,74 @@
+//! Reads packets X/27/0, and links wherever they stand.
+
+ghost use Rattle.std.specs.Prelude.{◌≡◌, ◌+◌, ◌≤◌, true, SomeIff, slice_range, option_map};
+ghost use Rattle.ttx_packet.specs.Slots.{are_readable};
+ghost use Rattle.ttx_links.specs.Sets.{link_at, fields_of, links_of};
+
+use crate::sets::Links;
+use crate::targets::Target;
+use ttx_header::parts::{is_readable, number_at};
+
+// The link whose six bytes begin at byte `at`, where these are readable.
+fn link_at(mag: u8, bytes: &[u8; 42], at: usize) -> Option<Target>
+    requires low { 1 ≤ mag }
+    requires high { mag ≤ 8 }
+    requires inside { at + 6 ≤ 42 }
+    ensures { result ≡ link_at mag bytes.now at }
+{
+    let s2 = number_at(bytes, at + 3);
+    let s4 = number_at(bytes, at + 5);
+    let page = number_at(bytes, at) + 16 * number_at(bytes, at + 1);
+    let sub = u16::from(number_at(bytes, at + 2))
+        + 16 * u16::from(s2 % 8)
+        + 256 * u16::from(number_at(bytes, at + 4))
+        + 4096 * u16::from(s4 % 4);
+    let other = (mag % 8) ^ (s2 / 8 + 2 * (s4 / 4));
+    let target_mag = if other % 8 == 0 { 8 } else { other % 8 };
+    Target::new(target_mag, page, sub)
+}
+
+/// The link whose six bytes begin at byte `at`, in a packet of the magazine. None where one of the six is unreadable;
+/// `Some(None)` where they are page FF with subcode 3F7F, which is no link.
+pub fn read_link(mag: u8, bytes: &[u8; 42], at: usize) -> Option<Option<Target>>
+    requires low { 1 ≤ mag }
+    requires high { mag ≤ 8 }
+    requires inside { at + 6 ≤ 42 }
+    ensures { SomeIff result (are_readable (slice_range bytes.now at (at + 6)) ≡ true) (link_at mag bytes.now at) }
+{
+    if is_readable(&bytes[at..at + 6]) {
+        Some(link_at(mag, bytes, at))
+    } else {
+        None
+    }
+}
+
+fn crc_of(bytes: &[u8; 42]) -> [u8; 2]
+    ensures { result ≡ slice_range bytes.now 40 42 }
+{
+    let mut crc = [0; 2];
+    crc.copy_from_slice(&bytes[40..42]);
+    crc
+}
+
+/// What a packet X/27/0 of the magazine says: bytes 3 to 41 are looked at. None where one of bytes 3 to 39 is unreadable.
+#[tactic(auto, unfolding(crate::specs::Sets::links_of))]
+pub fn read_links(mag: u8, bytes: &[u8; 42]) -> Option<Links>
+    requires low { 1 ≤ mag }
+    requires high { mag ≤ 8 }
+    ensures fields { SomeIff result (are_readable (slice_range bytes.now 3 40) ≡ true) (fields_of mag bytes.now) }
+    ensures set { option_map (λ f. f.set) result ≡ links_of mag bytes.now }
+{
+    if !is_readable(&bytes[3..40]) {
+        return None;
+    }
+    let six = [
+        link_at(mag, bytes, 3),
+        link_at(mag, bytes, 9),
+        link_at(mag, bytes, 15),
+        link_at(mag, bytes, 21),
+        link_at(mag, bytes, 27),
+        link_at(mag, bytes, 33),
+    ];
+    let show24 = number_at(bytes, 39) / 8 == 1;
+    Some(Links::new(six, show24, crc_of(bytes)))
+}

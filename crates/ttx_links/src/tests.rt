@@ -1,0 +1,53 @@
+//! A packet X/27/0 by its bytes.
+
+use crate::{Links, Target, read_links, write_links};
+
+// The link 205/3F7F and five times none, in magazine 1.
+const SENT: [u8; 42] = [
+    0xc7, 0xb6, 0x15, 0x73, 0x15, 0xea, 0xea, 0xea, 0x2f, 0xea, 0xea, 0xea, 0x2f, 0xea, 0x5e, 0xea,
+    0xea, 0xea, 0x2f, 0xea, 0x5e, 0xea, 0xea, 0xea, 0x2f, 0xea, 0x5e, 0xea, 0xea, 0xea, 0x2f, 0xea,
+    0x5e, 0xea, 0xea, 0xea, 0x2f, 0xea, 0x5e, 0x2f, 0x00, 0x00,
+];
+
+fn one_link(show24: bool) -> Links {
+    let link = Target::new(2, 0x05, 0x3f7f);
+    Links::new([link, None, None, None, None, None], show24, [0, 0])
+}
+
+#[test]
+fn ranges_of_targets(rt: HostRuntime) {
+    assert_eq!(rt; Target::new(1, 0xff, 0x3f7f), None);
+    assert_eq!(rt; Target::new(1, 0xff, 0).is_some(), true);
+    assert_eq!(rt; Target::new(1, 0, 0x3f7f).is_some(), true);
+    assert_eq!(rt; Target::new(0, 0, 0), None);
+    assert_eq!(rt; Target::new(1, 0, 0x80), None);
+}
+
+#[test]
+fn links_of_a_page(rt: HostRuntime) {
+    assert_eq!(rt; read_links(1, &SENT), Some(one_link(false)));
+    assert_eq!(rt; write_links(1, &one_link(false)), SENT);
+    let mut bytes = SENT;
+    bytes[39] = 0xea;
+    assert_eq!(rt; read_links(1, &bytes), Some(one_link(true)));
+    assert_eq!(rt; write_links(1, &one_link(true)), bytes);
+}
+
+#[test]
+fn ignored_bits(rt: HostRuntime) {
+    let mut bytes = SENT;
+    bytes[12] = 0xea;
+    bytes[14] = 0xea;
+    bytes[39] = 0x15;
+    assert_eq!(rt; read_links(1, &bytes), Some(one_link(false)));
+}
+
+#[test]
+fn unreadable_links(rt: HostRuntime) {
+    let mut bytes = SENT;
+    bytes[3] = 0x16;
+    assert_eq!(rt; read_links(1, &bytes), None);
+    bytes = SENT;
+    bytes[39] = 0x16;
+    assert_eq!(rt; read_links(1, &bytes), None);
+}
