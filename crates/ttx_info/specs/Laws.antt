@@ -1,0 +1,22 @@
+-- Laws of packet 8/30 format 1, which the layers above may use. Each is proved by the function of its name in `laws`.
+--
+--   SaidInfosAreRead        the fields that 42 bytes say are the ones that are read
+--   WrittenInfosAreRead     what is written is read again as the same fields
+use Rattle.std.specs.Prelude.{◌≡◌, ℕ, List, Ok, true}
+use Rattle.ttx_packet.specs.Slots.{IsSlot, IsInfo, kind_of, is_clean}
+use Rattle.ttx_links.specs.Sets.{IsLink}
+use Rattle.ttx_info.specs.Infos.{InfoFields, IsInfoFields, Says, info_of, info_bytes}
+
+-- 42 bytes that say fields are read as these fields
+abbrev pub SaidInfosAreRead : Type 0
+SaidInfosAreRead = (f : InfoFields) (s : List ℕ) → IsInfoFields f → IsLink f.initial → IsSlot s → Says f s → info_of s ≡ Ok f
+
+-- what is written of fields is clean, has the kind info, says the fields and is read as the same fields
+pub record IsWritten (f : InfoFields) : Type 0 where
+  pub kind : kind_of (info_bytes f) ≡ IsInfo
+  pub clean : is_clean (info_bytes f) ≡ true
+  pub says : Says f (info_bytes f)
+  pub fields : info_of (info_bytes f) ≡ Ok f
+
+abbrev pub WrittenInfosAreRead : Type 0
+WrittenInfosAreRead = (f : InfoFields) → IsInfoFields f → IsLink f.initial → IsWritten f
