@@ -1,0 +1,61 @@
+-- Tests and choices.
+use Rattle.std.proofs.Common.{◌≡◌, ◌⊎◌, Bool, true, false, not, ◌&&◌, if◌then◌else◌, List, [], ◌∷◌, Option, Some, None, refl, ap, inl, inr}
+
+-- what holds of both choices
+pub if_ind : {A : Type 0} (P : A → Type 0) (b : Bool) (x y : A) → (b ≡ true → P x) → (b ≡ false → P y) → P (if b then x else y)
+if_ind P true x y f g = f refl
+if_ind P false x y f g = g refl
+
+pub and_left : (a b : Bool) → (a && b) ≡ true → a ≡ true
+and_left true b h = refl
+and_left false b h = h
+
+pub and_right : (a b : Bool) → (a && b) ≡ true → b ≡ true
+and_right true b h = h
+and_right false b h = cc
+
+pub not_true : (a : Bool) → not a ≡ true → a ≡ false
+not_true true h = cc
+not_true false h = refl
+
+pub no_both : (a : Bool) → a ≡ true → a ≡ false → ⊥
+no_both a h k = cc
+
+pub cases_bool : (b : Bool) → (b ≡ true) ⊎ (b ≡ false)
+cases_bool true = inl refl
+cases_bool false = inr refl
+
+-- a fact, or its refutation
+abbrev pub Decided : Type 0 → Type 0
+Decided P = P ⊎ (P → ⊥)
+
+pub by_refuting : {P : Type 0} → Decided P → ((P → ⊥) → ⊥) → P
+by_refuting (inl p) f = p
+by_refuting (inr n) f = absurd (f n)
+
+pub both : {P Q : Type 0} → Decided P → Decided Q → Decided (P × Q)
+both (inl p) (inl q) = inl (p, q)
+both (inl p) (inr n) = inr (λ b. n b.1)
+both (inr n) q = inr (λ b. n b.0)
+
+pub same_bool : (a b : Bool) → Decided (a ≡ b)
+same_bool true true = inl refl
+same_bool false false = inl refl
+same_bool true false = inr (λ e. cc)
+same_bool false true = inr (λ e. cc)
+
+module _ {A : Type 0} (same : (a b : A) → Decided (a ≡ b)) where
+  pub same_option : (a b : Option A) → Decided (a ≡ b)
+  same_option None None = inl refl
+  same_option None (Some b) = inr (λ e. cc)
+  same_option (Some a) None = inr (λ e. cc)
+  same_option (Some a) (Some b) = elim (same a b) as (λ _. Decided (Some a ≡ Some b)) [ inl e ↦ inl (ap Some e) | inr ne ↦ inr (λ e. ne (cc)) ]
+
+  pub same_list : (xs ys : List A) → Decided (xs ≡ ys)
+  same_list [] [] = inl refl
+  same_list [] (y ∷ ys) = inr (λ e. cc)
+  same_list (x ∷ xs) [] = inr (λ e. cc)
+  same_list (x ∷ xs) (y ∷ ys) = elim (same x y) as (λ _. Decided ((x ∷ xs) ≡ (y ∷ ys))) [
+    | inl e ↦ elim (same_list xs ys) as (λ _. Decided ((x ∷ xs) ≡ (y ∷ ys))) [ inl f ↦ inl (cc) | inr ne ↦ inr (λ f. ne (cc)) ]
+    | inr ne ↦ inr (λ f. ne (cc))
+  ]

@@ -1,0 +1,14 @@
+pub mod Rules
+pub mod Kept
+pub mod PageLists
+pub mod Decisions
+pub mod Places
+pub mod Blank
+pub mod Choices
+pub mod Exact
+pub mod Moved
+pub mod OwnContents
+pub mod Owners
+pub mod Runs
+pub mod Turns
+pub mod Examples

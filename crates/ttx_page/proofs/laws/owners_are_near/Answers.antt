@@ -1,0 +1,5 @@
+use Rattle.ttx_page.proofs.Owners.{owners_are_near}
+use Rattle.ttx_page.proofs.laws.owners_are_near.Goals as goal
+
+pub returns : goal.returns
+returns c = owners_are_near

@@ -1,0 +1,5 @@
+use Rattle.ttx_page.proofs.Blank.{page_is_shown}
+use Rattle.ttx_page.proofs.laws.page_is_shown.Goals as goal
+
+pub returns : goal.returns
+returns c = page_is_shown

@@ -1,0 +1,14 @@
+use Rattle.std.proofs.Common.{[], ap, length, get_or, sym, subst, arith}
+use Rattle.ttx_page.specs.Pages.{IsRow}
+use Rattle.ttx_page.proofs.Kept.{rows-blank}
+use Rattle.ttx_page.proofs.memory.PageMemory.blank.Goals as goal
+
+pub invariant_of-result : goal.invariant_of-result
+invariant_of-result c = record {
+  kept = record {
+    row_count = ap length c.blank_rows.ensures;
+    rows = λ r lt. subst (λ rows. IsRow (get_or rows r [])) (sym c.blank_rows.ensures) (rows-blank 25 r lt);
+    control = omega arith;
+    at_most = omega arith;
+  };
+}

@@ -1,0 +1,10 @@
+pub mod Packets
+pub mod Pages
+pub mod Memories
+pub mod Receivers
+pub mod Streams
+pub mod Receptions
+pub mod Steady
+pub mod Views
+pub mod Laws
+pub mod Examples

@@ -1,0 +1,53 @@
+//! The parts of a page.
+
+ghost use Rattle.std.specs.Prelude.{◌≡◌, ◌≤◌, SomeIff};
+
+use std::marker::Model;
+
+/// The number of a row below row 0: 1 to 24.
+#[derive(Clone, Copy, PartialEq, Eq, Debug)]
+pub struct RowNumber {
+    number: u8,
+}
+
+impl Model for RowNumber {
+    ghost use Rattle.std.specs.Prelude.{◌≤◌, ℕ};
+
+    ghost Value = { ℕ };
+
+    ghost view = { λ r. r.number };
+
+    ghost inverse = { λ n. record { number = n } };
+
+    ghost invariant = { λ r. (1 ≤ r.number) × (r.number ≤ 24) };
+}
+
+impl RowNumber {
+    /// The row of this number. None where it isn't 1 to 24.
+    pub fn new(number: u8) -> Option<RowNumber>
+        ensures { SomeIff result ((1 ≤ number) × (number ≤ 24)) number }
+    {
+        if 1 <= number && number <= 24 {
+            Some(RowNumber { number })
+        } else {
+            None
+        }
+    }
+
+    /// The number, 1 to 24.
+    pub fn number(&self) -> u8
+        ensures value { result ≡ self.now }
+        ensures from { 1 ≤ result }
+        ensures to { result ≤ 24 }
+    {
+        self.number
+    }
+}
+
+/// A part of a page: the characters of row 0, a row, or the links.
+#[derive(Clone, Copy, PartialEq, Eq, Debug)]
+pub enum Item {
+    Head,
+    Row(RowNumber),
+    Links,
+}

@@ -1,0 +1,104 @@
+//! Pages as authored.
+
+ghost use Rattle.std.specs.Prelude.{◌≡◌, ◌≢◌, ◌↔◌, false, length, IsTrue, IsSome, IfSome};
+ghost use Rattle.ttx_header.specs.Control.{IsControl, c4};
+ghost use Rattle.ttx_header.specs.Ids.{IsId};
+ghost use Rattle.ttx_page.specs.Pages.{IsPage, page_at};
+
+use crate::codes::{are_rows, is_head};
+use ttx_header::{Control, PageId};
+use ttx_links::Links;
+
+/// A page as authored: the characters of row 0 from column 8 to 31, and rows 1 to 24 (`rows[0]` is row 1). Every character is
+/// below 128, C4 is clear, the page number isn't FF and the subcode isn't 3F7F.
+#[derive(Clone, Copy, PartialEq, Eq, Debug)]
+pub struct Page {
+    id: PageId,
+    control: Control,
+    head: [u8; 24],
+    rows: [[u8; 40]; 24],
+    links: Links,
+    ghost kept: { IsPage (page_at id control.0 head rows links.set links.crc) },
+    ghost six: { length links.set.six ≡ 6 },
+}
+
+// Whether the id is a page's: no page FF, and no subcode 3F7F.
+fn is_page_id(id: PageId) -> bool
+    ensures not_filling { IsTrue result ↔ (id.page ≢ 255) × (id.sub ≢ 16255) }
+    ensures ranges { IsId id }
+{
+    let _mag = id.mag();
+    id.page() != 0xff && id.sub() != 0x3f7f
+}
+
+// Whether the bits are control bits, and C4 is clear.
+fn is_page_control(control: Control) -> bool
+    ensures { IsTrue result ↔ IsControl control.0 × (c4 control.0 ≡ false) }
+{
+    control.0 < 2048 && !control.erases_page()
+}
+
+impl Page {
+    ghost use Rattle.ttx_page.specs.Views.{page_of};
+
+    /// The page of these fields. None where one of the type's rules fails.
+    pub fn new(
+        id: PageId,
+        control: Control,
+        head: [u8; 24],
+        rows: [[u8; 40]; 24],
+        links: Links,
+    ) -> Option<Page>
+        ensures some { IsSome result ↔ IsPage (page_at id control.0 head rows links.set links.crc) }
+        ensures fields { IfSome result (λ p. page_of p ≡ page_at id control.0 head rows links.set links.crc) }
+    {
+        let _six = links.six();
+        if is_page_id(id) && is_page_control(control) && is_head(&head) && are_rows(&rows) {
+            Some(Page {
+                id,
+                control,
+                head,
+                rows,
+                links,
+            })
+        } else {
+            None
+        }
+    }
+
+    /// The page's id.
+    pub fn id(&self) -> PageId
+        ensures { result ≡ (page_of self.now).id }
+    {
+        self.id
+    }
+
+    /// The control bits, of which C4 is clear.
+    pub fn control(&self) -> Control
+        ensures { result.0 ≡ (page_of self.now).control }
+    {
+        self.control
+    }
+
+    /// The characters of row 0 from column 8 to 31.
+    pub fn head(&self) -> &[u8; 24]
+        ensures { result.now ≡ (page_of self.now).head }
+    {
+        &self.head
+    }
+
+    /// Rows 1 to 24: the first is row 1.
+    pub fn rows(&self) -> &[[u8; 40]; 24]
+        ensures { result.now ≡ (page_of self.now).rows }
+    {
+        &self.rows
+    }
+
+    /// The links and the bytes of the page CRC.
+    pub fn links(&self) -> &Links
+        ensures set { result.now.set ≡ (page_of self.now).links }
+        ensures crc { result.now.crc ≡ (page_of self.now).crc }
+    {
+        &self.links
+    }
+}

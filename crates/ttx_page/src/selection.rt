@@ -1,0 +1,12 @@
+//! What a receiver is set to.
+
+use ttx_header::PageId;
+
+/// What a receiver is set to: one subpage by its id, or any subpage of a page number (magazine and two digits).
+#[derive(Clone, Copy, PartialEq, Eq, Debug)]
+pub enum Selection {
+    Exact(PageId),
+    AnySub(u8, u8),
+}
+
+mod calls;
