@@ -1,0 +1,73 @@
+-- What the laws of the display say.
+--
+--   AttributesAreInForce, HeldIsFromLatest      the looking back of attributes and held mosaics, as relations
+--   ContentsDecide                              a View depends on rows, control bits and links alone
+--   ShowingIsSeeing                             a memory that shows a page has its View
+--   IsLetter, IsOwn         the letters A and B; cells that show their own code
+--   LetterIsShown, LetterIsSeen         such a letter shows where it stands, and nowhere else
+--   item_of, ShowsBut, WrongLetterIsSeen        so one wrong letter in a needed item is seen
+use Rattle.std.specs.Prelude.{◌≡◌, ◌≢◌, ◌<◌, ◌⊎◌, ◌↔◌, ℕ, zero, suc, Bool, true, false, List, length}
+use Rattle.ttx_page.specs.Memories.{Memory, Holds, Shows, memory_of_page, char_at}
+use Rattle.ttx_page.specs.Pages.{Page, needed}
+use Rattle.ttx_page.specs.declared.item.Item.{Item}
+use Rattle.ttx_page.specs.declared.item.Item.TheVariants.{Head as TheHead, Row as TheRow}
+use Rattle.ttx_render.specs.declared.cells.Glyph.TheVariants.{Char}
+use Rattle.ttx_render.specs.Attributes.{IsEachInForce}
+use Rattle.ttx_render.specs.Mosaics.{IsHeldFromLatest}
+use Rattle.ttx_render.specs.View.{view_of, is_shown, is_below}
+use Rattle.ttx_render.specs.Comparison.{cell_in, IsCompared, SameButClock}
+
+-- each attribute at a column has the value of the last code that sets it and acts there
+abbrev pub AttributesAreInForce : Type 0
+AttributesAreInForce = (tall : Bool) (row : List ℕ) (c : ℕ) → IsEachInForce tall row c
+
+-- the held mosaic at a column is that of the latest before it, if mode and height have stayed; else a space
+abbrev pub HeldIsFromLatest : Type 0
+HeldIsFromLatest = (tall : Bool) (row : List ℕ) (c : ℕ) → IsHeldFromLatest tall row c
+
+-- memories with the same rows, control bits and links have the same View
+abbrev pub ContentsDecide : Type 0
+ContentsDecide = (m n : Memory) → m.rows ≡ n.rows → m.control ≡ n.control → m.links ≡ n.links → view_of m ≡ view_of n
+
+-- a memory that has a page's control bits and needed items has the page's View
+abbrev pub ShowingIsSeeing : Type 0
+ShowingIsSeeing = (p : Page) (m : Memory) → length p.head ≡ 24 → Shows p m → SameButClock (view_of m) (view_of (memory_of_page p))
+
+-- A or B, which each national set shows at this code alone
+abbrev pub IsLetter : ℕ → Type 0
+IsLetter letter = (letter ≡ 0x41) ⊎ (letter ≡ 0x42)
+
+-- a compared cell of a row that is shown and isn't hidden
+abbrev pub IsOwn : Memory → ℕ → ℕ → Type 0
+IsOwn m number c = IsCompared number c × (is_shown m number ≡ true) × (is_below m number ≡ false)
+
+-- such a cell shows the letter exactly where its code is the letter's
+abbrev pub LetterIsShown : Type 0
+LetterIsShown =
+    (m : Memory) (number c letter : ℕ) → IsLetter letter → IsOwn m number c → char_at m number c < 128 →
+    ((cell_in (view_of m) number c).glyph ≡ Char letter) ↔ (char_at m number c ≡ letter)
+
+-- so two memories have different Views where one has the letter in such a cell and the other hasn't
+abbrev pub LetterIsSeen : Type 0
+LetterIsSeen =
+    (m n : Memory) (number c letter : ℕ) → IsLetter letter → IsOwn m number c → IsOwn n number c →
+    char_at m number c < 128 → char_at n number c < 128 →
+    char_at m number c ≡ letter → char_at n number c ≢ letter → ¬ SameButClock (view_of m) (view_of n)
+
+-- the item that a row belongs to
+abbrev pub item_of : ℕ → Item
+item_of zero = TheHead
+item_of (suc above) = TheRow (suc above)
+
+-- the memory has all that a viewer sees of the page, but perhaps for one row
+pub record ShowsBut (p : Page) (m : Memory) (but : Item) : Type 0 where
+  pub control : m.control ≡ p.control
+  pub links : m.links ≡ p.links
+  pub items : (item : Item) → item ≢ but → needed p item ≡ true → Holds p m item
+
+-- where the memory has a letter in the place of another character of a needed row, it hasn't the page's View
+abbrev pub WrongLetterIsSeen : Type 0
+WrongLetterIsSeen =
+    (p : Page) (m : Memory) (number c letter : ℕ) → IsLetter letter → IsCompared number c → needed p (item_of number) ≡ true →
+    ShowsBut p m (item_of number) → char_at m number c ≡ letter → char_at (memory_of_page p) number c < 128 →
+    char_at (memory_of_page p) number c ≢ letter → ¬ SameButClock (view_of m) (view_of (memory_of_page p))

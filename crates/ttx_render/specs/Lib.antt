@@ -1,0 +1,11 @@
+pub mod Colours
+pub mod Spacing
+pub mod Attributes
+pub mod Mosaics
+pub mod Cells
+pub mod View
+pub mod Words
+pub mod Comparison
+pub mod Columns
+pub mod Touch
+pub mod Laws

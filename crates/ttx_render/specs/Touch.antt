@@ -1,0 +1,16 @@
+-- Memories that differ in one row, and the rows of their Views.
+use Rattle.std.specs.Prelude.{◌≡◌, ◌≢◌, ◌<◌, ℕ, List, [], length, slice_index_or}
+use Rattle.ttx_page.specs.Memories.{Memory}
+use Rattle.ttx_render.specs.declared.cells.Cell.{Cell}
+use Rattle.ttx_render.specs.View.{view_row}
+
+-- what the View shows of two memories is alike, but perhaps for one row
+pub record DiffersAt (m n : Memory) (row : ℕ) : Type 0 where
+  pub control : m.control ≡ n.control
+  pub show24 : m.links.show24 ≡ n.links.show24
+  pub others : (k : ℕ) → k ≢ row → slice_index_or m.rows k [] ≡ slice_index_or n.rows k []
+
+-- 25 rows of cells, each that of the memory's View
+pub record IsView (m : Memory) (cells : List (List Cell)) : Type 0 where
+  pub size : length cells ≡ 25
+  pub rows : (k : ℕ) → k < 25 → slice_index_or cells k [] ≡ view_row m k

@@ -1,0 +1,76 @@
+//! The attributes of a column (EN 300 706, 12.2).
+
+ghost use Rattle.std.specs.Prelude.{◌≡◌};
+ghost use Rattle.ttx_render.specs.Attributes.{start};
+ghost use Rattle.ttx_render.specs.Columns.{attributes_in, attributes_after};
+
+use crate::colour::Colour;
+use crate::spacing::Spacing;
+
+/// The attributes in force at a column, or left by the columns before it.
+#[derive(Clone, Copy)]
+pub struct Attributes {
+    pub fore: Colour,
+    pub back: Colour,
+    pub flash: bool,
+    pub boxed: bool,
+    pub double: bool,
+    pub concealed: bool,
+    pub mosaic: bool,
+    pub separated: bool,
+    pub hold: bool,
+}
+
+impl Attributes {
+    /// Those in which a row starts.
+    pub fn start() -> Attributes
+        ensures { result ≡ start }
+    {
+        Attributes {
+            fore: Colour::White,
+            back: Colour::Black,
+            flash: false,
+            boxed: false,
+            double: false,
+            concealed: false,
+            mosaic: false,
+            separated: false,
+            hold: false,
+        }
+    }
+
+    /// In force at a column that sets this, from those left before it: the Set-At codes.
+    #[rattlefmt::skip]
+    pub fn at(self, sets: Spacing) -> Attributes
+        ensures { result ≡ attributes_in sets self }
+    {
+        match sets {
+            Spacing::Steady => Attributes { flash: false, ..self },
+            Spacing::NormalHeight => Attributes { double: false, ..self },
+            Spacing::Conceal => Attributes { concealed: true, ..self },
+            Spacing::Contiguous => Attributes { separated: false, ..self },
+            Spacing::Separated => Attributes { separated: true, ..self },
+            Spacing::BlackBackground => Attributes { back: Colour::Black, ..self },
+            Spacing::NewBackground => Attributes { back: self.fore, ..self },
+            Spacing::HoldMosaics => Attributes { hold: true, ..self },
+            _ => self,
+        }
+    }
+
+    /// Left by a column that sets this, from those in force at it: the Set-After codes.
+    #[rattlefmt::skip]
+    pub fn after(self, sets: Spacing) -> Attributes
+        ensures { result ≡ attributes_after sets self }
+    {
+        match sets {
+            Spacing::AlphaColour(fore) => Attributes { fore, concealed: false, mosaic: false, ..self },
+            Spacing::MosaicColour(fore) => Attributes { fore, concealed: false, mosaic: true, ..self },
+            Spacing::Flash => Attributes { flash: true, ..self },
+            Spacing::EndBox => Attributes { boxed: false, ..self },
+            Spacing::StartBox => Attributes { boxed: true, ..self },
+            Spacing::DoubleHeight => Attributes { double: true, ..self },
+            Spacing::ReleaseMosaics => Attributes { hold: false, ..self },
+            _ => self,
+        }
+    }
+}

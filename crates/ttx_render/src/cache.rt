@@ -1,0 +1,68 @@
+//! A memory that is kept with its View.
+
+ghost use Rattle.std.specs.Prelude.{◌≡◌, ◌<◌};
+ghost use Rattle.ttx_page.specs.Memories.{memory_row};
+ghost use Rattle.ttx_page.specs.Receivers.{with_row};
+ghost use Rattle.ttx_page.specs.Views.{memory_of};
+ghost use Rattle.ttx_render.specs.View.{view_of};
+
+use crate::touch::retouch;
+use crate::view::{View, render};
+use std::marker::Model;
+use ttx_page::PageMemory;
+
+/// A memory that is kept with its View, which follows it row by row.
+#[derive(Drop)]
+pub struct Cache {
+    memory: PageMemory,
+    view: View,
+}
+
+impl Model for Cache {
+    ghost use Rattle.std.specs.Prelude.{◌≡◌};
+    ghost use Rattle.ttx_page.specs.Memories.{Memory};
+    ghost use Rattle.ttx_page.specs.Views.{memory_of};
+    ghost use Rattle.ttx_render.specs.View.{view_of};
+
+    ghost Value = { Memory };
+
+    ghost view = { λ c. memory_of c.memory };
+
+    ghost invariant = { λ c. c.view ≡ view_of (memory_of c.memory) };
+}
+
+impl Cache {
+    /// Keeps a copy of a memory.
+    pub fn new(memory: &PageMemory) -> Cache
+        ensures { result ≡ memory_of memory.now }
+    {
+        Cache {
+            memory: *memory,
+            view: render(memory),
+        }
+    }
+
+    /// The View of the memory that is kept.
+    pub fn view(&self) -> &View
+        ensures { result.now ≡ view_of self.now }
+    {
+        &self.view
+    }
+
+    /// Replaces a row of the memory that is kept by this memory's, and renders no other row but those that double height changes.
+    pub fn touch(&mut self, memory: &PageMemory, row: usize)
+        requires { row < 25 }
+        ensures { self.new ≡ with_row self.old row (memory_row (memory_of memory.now) row) }
+    {
+        let kept = self.memory.with_row(row, &memory.rows()[row]);
+        retouch(&self.memory, &kept, row, &mut self.view.cells);
+        self.memory = kept;
+    }
+
+    /// Keeps a copy of another memory in place of the one that is kept.
+    pub fn touch_all(&mut self, memory: &PageMemory)
+        ensures { self.new ≡ memory_of memory.now }
+    {
+        *self = Cache::new(memory);
+    }
+}
