@@ -1,0 +1,143 @@
+-- Receivers that surely clear: what is blank needn't be sent.
+use Rattle.std.proofs.Common.{◌≡◌, ◌≢◌, ◌⊎◌, ℕ, zero, suc, ◌+◌, ◌-◌, ◌*◌, ◌%◌, ◌<◌, ◌≤◌, min, Bool, true, false, not, ◌&&◌, ◌||◌, ◌==◌, if◌then◌else◌, List, [], ◌∷◌, ◌++◌, Option, Some, None, length, get_or, set, take, drop, replicate, refl, sym, ap, ◌∙◌, subst, inl, inr, arith, nat_le, get_or-set_other}
+use Rattle.std.proofs.lemmas.Bool.{cases_lt}
+use Rattle.std.proofs.lemmas.List.{get_or-replicate}
+use Rattle.ttx_page.specs.Packets.{Packet, Empty, Unreadable, Header, Row, Links, Info, Other, packet_of}
+use Rattle.ttx_links.specs.Sets.{LinkSet, no_links}
+use Rattle.ttx_page.specs.Pages.{Page, IsPage, selected_mag, needed, page_row, matches, blank_row, IsBlank}
+use Rattle.ttx_page.specs.declared.selection.Selection.{Selection}
+use Rattle.ttx_page.specs.declared.item.Item.{Item}
+use Rattle.ttx_page.specs.declared.item.Item.TheVariants.{Head as TheHead, Row as TheRow, Links as TheLinks}
+use Rattle.ttx_page.specs.declared.class.Class.{Class}
+use Rattle.ttx_page.specs.declared.class.Class.TheVariants.{Any, Clearing}
+use Rattle.ttx_header.specs.Control.{c4, c11}
+use Rattle.ttx_page.specs.Memories.{Memory, char_at}
+use Rattle.ttx_page.specs.Receivers.{older, after, Step, Run, erased, begun, with_storing, with_row, with_links, erases, misses, stored_row}
+use Rattle.ttx_page.specs.Streams.{heads, heads_matched, ends_serial, carries}
+use Rattle.ttx_receiver.proofs.Choices.{no_both, cases_bool, if_ind, and_left, and_right}
+use Rattle.ttx_receiver.proofs.OneStep.{Shape, IsHeadOf, IsRowOf, AreLinksOf, shape_after, after_begin, erased_row}
+use Rattle.ttx_receiver.proofs.Keeps.{keep_row, keep_links}
+use Rattle.ttx_receiver.proofs.Runs.{packet_at, run_keeps, IsOwnedAt, ReceivesPage, IsTuned, tuned_begin, tuned_next}
+use Rattle.ttx_receiver.proofs.Items.{needed_row}
+
+or_true : (a b : Bool) → b ≡ true → (a || b) ≡ true
+or_true true b h = refl
+or_true false b h = h
+
+module _ (lines : ℕ) (sel : Selection) where
+  -- a receiver stays fresh until a matching header
+  after_fresh : (choice : Bool) (m : Memory) (pkt : Packet) → heads_matched sel pkt ≡ false → (after Clearing lines sel choice m pkt).fresh ≡ m.fresh
+  after_fresh choice m (Header id control text) h =
+      if_ind (λ (new : Memory). new.fresh ≡ m.fresh) (matches sel id) _ _ (λ e. absurd (no_both _ e h))
+      (λ _. if_ind (λ (new : Memory). new.fresh ≡ m.fresh) (id.mag == selected_mag sel) _ _ (λ _. refl)
+      (λ _. if_ind (λ (new : Memory). new.fresh ≡ m.fresh) (c11 control && choice) (with_storing m false) m (λ _. refl) (λ _. refl)))
+  after_fresh choice m (Row mag number text) h =
+      if_ind (λ (new : Memory). new.fresh ≡ m.fresh) ((mag == selected_mag sel) && m.storing && not (misses lines choice m))
+      (with_row m number (stored_row (get_or m.rows number []) text)) m (λ _. refl) (λ _. refl)
+  after_fresh choice m (Links mag None) h =
+      if_ind (λ (new : Memory). new.fresh ≡ m.fresh) ((mag == selected_mag sel) && m.storing && not (misses lines choice m)) m m (λ _. refl) (λ _. refl)
+  after_fresh choice m (Links mag (Some content)) h =
+      if_ind (λ (new : Memory). new.fresh ≡ m.fresh) ((mag == selected_mag sel) && m.storing && not (misses lines choice m)) (with_links m (Some content)) m (λ _. refl) (λ _. refl)
+  after_fresh choice m Empty h = refl
+  after_fresh choice m Unreadable h = refl
+  after_fresh choice m Info h = refl
+  after_fresh choice m Other h = refl
+
+  -- a matching header blanks the rows and links of a fresh one
+  blanks_row : (r c : ℕ) → 1 ≤ r → r < 25 → c < 40 → (choice : Bool) (m : Memory) (pkt : Packet) → Shape m → m.fresh ≡ true → heads_matched sel pkt ≡ true →
+      char_at (after Clearing lines sel choice m pkt) r c ≡ get_or blank_row c 0
+  blanks_row zero c low high col choice m pkt s f h = absurd (omega arith)
+  blanks_row (suc r) c low high col choice m (Header id control text) s f h =
+      if_ind (λ (new : Memory). char_at new (suc r) c ≡ get_or blank_row c 0) (matches sel id) _ _
+      (λ _. if_ind {A = Memory} (λ x. char_at (begun x control text) (suc r) c ≡ get_or blank_row c 0) (erases Clearing choice m control) (erased m) m
+      (λ _.
+      let ne : suc r ≢ 0 = omega arith in
+      let lt : r < 24 = omega arith in
+      ap (λ row. get_or row c 0) (get_or-set_other (erased m).rows 0 (suc r) _ [] ne ∙ erased_row m.rows r s.count lt))
+      (λ e. absurd (no_both _ (or_true (c4 control) m.fresh f) e)))
+      (λ e. absurd (no_both _ h e))
+  blanks_row (suc r) c low high col choice m (Row mag number text) s f h = absurd (no_both _ h refl)
+  blanks_row (suc r) c low high col choice m (Links mag content) s f h = absurd (no_both _ h refl)
+  blanks_row (suc r) c low high col choice m Empty s f h = absurd (no_both _ h refl)
+  blanks_row (suc r) c low high col choice m Unreadable s f h = absurd (no_both _ h refl)
+  blanks_row (suc r) c low high col choice m Info s f h = absurd (no_both _ h refl)
+  blanks_row (suc r) c low high col choice m Other s f h = absurd (no_both _ h refl)
+
+  blanks_links : (choice : Bool) (m : Memory) (pkt : Packet) → m.fresh ≡ true → heads_matched sel pkt ≡ true → (after Clearing lines sel choice m pkt).links ≡ no_links
+  blanks_links choice m (Header id control text) f h =
+      if_ind (λ (new : Memory). new.links ≡ no_links) (matches sel id) _ _
+      (λ _. if_ind {A = Memory} (λ x. (begun x control text).links ≡ no_links) (erases Clearing choice m control) (erased m) m
+      (λ _. refl) (λ e. absurd (no_both _ (or_true (c4 control) m.fresh f) e)))
+      (λ e. absurd (no_both _ h e))
+  blanks_links choice m (Row mag number text) f h = absurd (no_both _ h refl)
+  blanks_links choice m (Links mag content) f h = absurd (no_both _ h refl)
+  blanks_links choice m Empty f h = absurd (no_both _ h refl)
+  blanks_links choice m Unreadable f h = absurd (no_both _ h refl)
+  blanks_links choice m Info f h = absurd (no_both _ h refl)
+  blanks_links choice m Other f h = absurd (no_both _ h refl)
+
+module _ (lines : ℕ) (sel : Selection) (p : Page) (page : IsPage p) (received : List (List ℕ)) (receives_page : ReceivesPage sel p (packet_at received) (length received)) where
+  abbrev g : ℕ → Packet
+  g = packet_at received
+
+  abbrev next : Bool → Memory → ℕ → Memory
+  next choice m t = after Clearing lines sel choice (older m) (g t)
+
+  -- what a fresh receiver's first header brings, and each slot keeps, is there in the end
+  blank_held : (Good : Memory → Type 0) (i : ℕ) → i < length received → heads_matched sel (g i) ≡ true →
+      ((t : ℕ) → (choice : Bool) (m : Memory) → Shape m → m.fresh ≡ true → heads_matched sel (g t) ≡ true → Good (next choice m t)) →
+      ((t : ℕ) → t < length received → (choice : Bool) (m : Memory) → Shape m → IsTuned sel p g t m → Good m → Good (next choice m t)) →
+      (m new : Memory) → Shape m → m.fresh ≡ true → Run Clearing lines sel m received new → (new.control ≡ p.control) × Good new
+  blank_held Good i inside here brings keeps m new shape fresh run =
+      let last = run_keeps Clearing lines sel Inv received 0 step m new run (shape, inl fresh, (λ lt. absurd (omega arith))) in
+      elim last.1 as (λ _. (new.control ≡ p.control) × Good new)
+      [ inl f ↦ absurd (no_both _ f (last.2 (omega arith))) | inr w ↦ (w.0.control, w.1) ]
+    where
+      Inv : ℕ → Memory → Type 0
+      Inv t x = Shape x × ((x.fresh ≡ true) ⊎ (IsTuned sel p g t x × Good x)) × (i < t → x.fresh ≡ false)
+
+      stepped : (t : ℕ) → t < length received → (choice : Bool) (x : Memory) → Inv t x → Inv (suc t) (next choice x t)
+      stepped t lt choice x v =
+          let s = shape_after Clearing lines sel choice (older x) (g t) (record { count = v.0.count; width = v.0.width }) in
+          elim v.1 as (λ _. Inv (suc t) (next choice x t)) [
+            | inl f ↦ elim (cases_bool (heads_matched sel (g t))) as (λ _. Inv (suc t) (next choice x t)) [
+              | inl h ↦ let b = (tuned_begin Clearing lines sel p g (length received) receives_page t lt h choice x).0 in (s, inr (b, brings t choice x v.0 f h), (λ _. b.settled))
+              | inr h ↦ let e = after_fresh lines sel choice (older x) (g t) h in (
+                s,
+                inl (e ∙ f),
+                (λ le. elim (cases_lt i t) as (λ _. (next choice x t).fresh ≡ false) [
+                  | inl less ↦ absurd (no_both _ f (v.2 less))
+                  | inr ge ↦ let q : i ≡ t = omega arith in absurd (no_both _ (subst (λ z. heads_matched sel (g z) ≡ true) q here) h)
+                ]),
+              )
+            ]
+            | inr w ↦ let b = tuned_next Clearing lines sel p g (length received) receives_page t lt choice x w.0 in
+                (s, inr (b, keeps t lt choice x v.0 w.0 w.1), (λ _. b.settled))
+          ]
+
+      step : (k : ℕ) → k < length received → (choice : Bool) (x : Memory) → Inv (0 + k) x → Inv (suc (0 + k)) (after Clearing lines sel choice (older x) (packet_at received k))
+      step k lt choice x v =
+          let e : k ≡ 0 + k = omega arith in
+          subst (λ t. Inv (suc t) (after Clearing lines sel choice (older x) (packet_at received k))) e (stepped k lt choice x (subst (λ t. Inv t x) (sym e) v))
+
+  pub blank_row_held : (r c : ℕ) → needed p (TheRow r) ≡ true → c < 40 → page_row p r ≡ blank_row → (i : ℕ) → i < length received → heads_matched sel (g i) ≡ true →
+      (m new : Memory) → Shape m → m.fresh ≡ true → Run Clearing lines sel m received new → (new.control ≡ p.control) × (char_at new r c ≡ get_or (page_row p r) c 0)
+  blank_row_held r c need col blank i inside here m new shape fresh run =
+      let range = needed_row p r need in
+      blank_held (λ x. char_at x r c ≡ get_or (page_row p r) c 0) i inside here
+      (λ t choice x s f h.
+      blanks_row lines sel r c range.0 (omega (arith, range.1)) col choice (older x) (g t) (record { count = s.count; width = s.width }) f h ∙ ap (λ row. get_or row c 0) (sym blank))
+      (λ t lt choice x s tuned good.
+      keep_row Clearing lines sel p page.no_erase r c range.0 (omega (arith, range.1)) col choice (older x) (g t) (record { count = s.count; width = s.width }) tuned.settled
+      (receives_page.heads t lt) (λ st carry. receives_page.rows t lt (tuned.owned st) r need carry) good)
+      m new shape fresh run
+
+  pub blank_links_held : p.links ≡ no_links → (i : ℕ) → i < length received → heads_matched sel (g i) ≡ true →
+      (m new : Memory) → Shape m → m.fresh ≡ true → Run Clearing lines sel m received new → (new.control ≡ p.control) × (new.links ≡ p.links)
+  blank_links_held blank i inside here m new shape fresh run =
+      blank_held (λ x. x.links ≡ p.links) i inside here
+      (λ t choice x s f h. blanks_links lines sel choice (older x) (g t) f h ∙ sym blank)
+      (λ t lt choice x s tuned good.
+      keep_links Clearing lines sel p page.no_erase choice (older x) (g t) tuned.settled
+      (receives_page.heads t lt) (λ st carry. receives_page.links t lt (tuned.owned st) carry) good)
+      m new shape fresh run

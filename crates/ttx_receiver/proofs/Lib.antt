@@ -1,0 +1,12 @@
+mod Choices
+mod OneStep
+mod Keeps
+mod Received
+mod Runs
+mod Items
+mod Blank
+mod Places
+mod Tuned
+mod OneItem
+mod ByKind
+mod Permitted

@@ -1,0 +1,230 @@
+-- A receiver over the packets of a page.
+use Rattle.std.proofs.Common.{◌≡◌, ◌⊎◌, ℕ, zero, suc, ◌+◌, ◌-◌, ◌*◌, ◌%◌, ◌<◌, ◌≤◌, min, Bool, true, false, not, ◌&&◌, ◌||◌, ◌==◌, ◌≢◌, if◌then◌else◌, List, [], ◌∷◌, ◌++◌, Option, Some, None, length, get_or, take, drop, set, replicate, refl, sym, ap, ◌∙◌, subst, inl, inr, arith, eqb, eqb-true, eq-eqb, nat_le, leb-false, length-set, get_or-set_same, get_or-set_other, length-append, length-take-le, length-drop, get_or-drop, get_or-append-add}
+use Rattle.std.proofs.lemmas.Bool.{cases_lt}
+use Rattle.std.proofs.lemmas.List.{get_or-replicate}
+use Rattle.ttx_code.specs.Words.{is_odd}
+use Rattle.ttx_header.specs.Ids.{Id, same_id}
+use Rattle.ttx_links.specs.Sets.{LinkSet, no_links}
+use Rattle.ttx_page.specs.Packets.{Packet, Empty, Unreadable, Header, Row, Links, Info, Other, packet_of}
+use Rattle.ttx_page.specs.Pages.{Page, selected_mag, matches, needed, page_row, blank_row}
+use Rattle.ttx_page.specs.declared.selection.Selection.{Selection}
+use Rattle.ttx_page.specs.declared.selection.Selection.TheVariants.{Exact, AnySub}
+use Rattle.ttx_page.specs.declared.item.Item.{Item}
+use Rattle.ttx_page.specs.declared.item.Item.TheVariants.{Head as TheHead, Row as TheRow, Links as TheLinks}
+use Rattle.ttx_page.specs.declared.class.Class.{Class}
+use Rattle.ttx_page.specs.declared.class.Class.TheVariants.{Any, Clearing}
+use Rattle.ttx_header.specs.Control.{c4, c11}
+use Rattle.ttx_page.specs.Memories.{Memory, char_at}
+use Rattle.ttx_page.specs.Receivers.{stored_row, with_row, with_storing, older, erased, begun, with_links, erases, misses, after, Step, Run}
+use Rattle.ttx_page.specs.Streams.{heads, heads_page, heads_matched, ends_serial, carries}
+use Rattle.ttx_receiver.proofs.Choices.{if_ind, and_left, and_right, and_both, not_true, not_false, no_both, cases_bool, eq_sym, length-stored_row, IsTaken, stored_row_at, stored_row_good}
+
+matches_mag : (sel : Selection) (id : Id) → matches sel id ≡ true → (id.mag == selected_mag sel) ≡ true
+matches_mag (Exact own) id h = eq_sym own.mag id.mag (and_left _ _ (and_left _ _ h))
+matches_mag (AnySub mag page) id h = eq_sym mag id.mag (and_left _ _ h)
+
+pub matched_heads : (sel : Selection) (pkt : Packet) → heads_matched sel pkt ≡ true → heads (selected_mag sel) pkt ≡ true
+matched_heads sel (Header id control text) h = matches_mag sel id h
+matched_heads sel Empty h = h
+matched_heads sel Unreadable h = h
+matched_heads sel (Row mag number text) h = h
+matched_heads sel (Links mag content) h = h
+matched_heads sel Info h = h
+matched_heads sel Other h = h
+
+-- a byte of odd parity has the right character
+abbrev pub GoodText : List ℕ → ℕ → List ℕ → Type 0
+GoodText chars n text = (c : ℕ) → c < n → is_odd (get_or text c 0) ≡ true → get_or text c 0 % 128 ≡ get_or chars c 0
+
+abbrev pub IsHeadOf : Page → Packet → Type 0
+IsHeadOf p (Header id control text) = (control ≡ p.control) × GoodText p.head 24 text
+IsHeadOf p Empty = Unit {0}
+IsHeadOf p Unreadable = Unit {0}
+IsHeadOf p (Row mag number text) = Unit {0}
+IsHeadOf p (Links mag content) = Unit {0}
+IsHeadOf p Info = Unit {0}
+IsHeadOf p Other = Unit {0}
+
+abbrev pub IsRowOf : Page → ℕ → Packet → Type 0
+IsRowOf p r (Row mag number text) = GoodText (page_row p r) 40 text
+IsRowOf p r Empty = Unit {0}
+IsRowOf p r Unreadable = Unit {0}
+IsRowOf p r (Header id control text) = Unit {0}
+IsRowOf p r (Links mag content) = Unit {0}
+IsRowOf p r Info = Unit {0}
+IsRowOf p r Other = Unit {0}
+
+abbrev pub AreLinksOf : Page → Packet → Type 0
+AreLinksOf p (Links mag content) = content ≡ Some p.links
+AreLinksOf p Empty = Unit {0}
+AreLinksOf p Unreadable = Unit {0}
+AreLinksOf p (Header id control text) = Unit {0}
+AreLinksOf p (Row mag number text) = Unit {0}
+AreLinksOf p Info = Unit {0}
+AreLinksOf p Other = Unit {0}
+
+-- the rows of a memory have their lengths
+pub record Shape (m : Memory) : Type 0 where
+  pub count : length m.rows ≡ 25
+  pub width : (r : ℕ) → r < 25 → length (get_or m.rows r []) ≡ 40
+
+shape_set : (rows : List (List ℕ)) (n : ℕ) (row : List ℕ) → length row ≡ 40 → length rows ≡ 25 → ((r : ℕ) → r < 25 → length (get_or rows r []) ≡ 40) →
+    (r : ℕ) → r < 25 → length (get_or (set rows n row) r []) ≡ 40
+shape_set rows n row w k f r h = elim (cases_bool (r == n)) as (λ _. length (get_or (set rows n row) r []) ≡ 40) [
+  | inl e ↦ let same : r ≡ n = eqb-true r n e in
+      let lt : n < length rows = omega arith in
+      subst (λ x. length (get_or (set rows n row) x []) ≡ 40) (sym same) (ap length (get_or-set_same rows n row [] lt) ∙ w)
+  | inr e ↦ let ne : r ≢ n = λ q. no_both (r == n) (eq-eqb r n q) e in
+      ap length (get_or-set_other rows n r row [] ne) ∙ f r h
+]
+
+shape_row : (m : Memory) (n : ℕ) (row : List ℕ) → Shape m → (n < 25 → length row ≡ 40) → Shape (with_row m n row)
+shape_row m n row s w = elim (cases_lt n 25) as (λ _. Shape (with_row m n row)) [
+  | inl lt ↦ record { count = length-set m.rows n row ∙ s.count; width = shape_set m.rows n row (w lt) s.count s.width }
+  | inr ge ↦ record {
+    count = length-set m.rows n row ∙ s.count;
+    width = λ r h. let ne : r ≢ n = omega arith in ap length (get_or-set_other m.rows n r row [] ne) ∙ s.width r h;
+  }
+]
+
+-- row 0 and the 24 others
+pub erased_row : (rows : List (List ℕ)) (r : ℕ) → length rows ≡ 25 → r < 24 → get_or (take 1 rows ++ replicate 24 blank_row) (suc r) [] ≡ blank_row
+erased_row [] r k h = absurd (omega arith)
+erased_row (row ∷ rows) r k h = get_or-replicate 24 r blank_row [] h
+
+pub erased_first : (rows : List (List ℕ)) → length rows ≡ 25 → get_or (take 1 rows ++ replicate 24 blank_row) 0 [] ≡ get_or rows 0 []
+erased_first [] k = absurd (omega arith)
+erased_first (row ∷ rows) k = refl
+
+erased_count : (rows : List (List ℕ)) → length rows ≡ 25 → length (take 1 rows ++ replicate 24 blank_row) ≡ 25
+erased_count [] k = absurd (omega arith)
+erased_count (row ∷ rows) k = refl
+
+pub shape_erased : (m : Memory) → Shape m → Shape (erased m)
+shape_erased m s = record { count = erased_count m.rows s.count; width = width_at }
+  where
+    width_at : (r : ℕ) → r < 25 → length (get_or (take 1 m.rows ++ replicate 24 blank_row) r []) ≡ 40
+    width_at zero h = ap length (erased_first m.rows s.count) ∙ s.width 0 h
+    width_at (suc r) h = ap length (erased_row m.rows r s.count (omega arith))
+
+head_width : (row text : List ℕ) → length row ≡ 40 → length (take 8 row ++ stored_row (drop 8 row) text) ≡ 40
+head_width row text w =
+    length-append (take 8 row) (stored_row (drop 8 row) text) ∙ omega (arith, length-take-le 8 row (omega arith), length-stored_row (drop 8 row) text, length-drop 8 row)
+
+shape_begun : (m : Memory) (control : ℕ) (text : List ℕ) → Shape m → Shape (begun m control text)
+shape_begun m control text s =
+    let row = get_or m.rows 0 [] in
+    let new : List ℕ = take 8 row ++ stored_row (drop 8 row) text in
+    let w : length new ≡ 40 = head_width row text (s.width 0 (omega arith)) in
+    record { count = length-set m.rows 0 new ∙ s.count; width = shape_set m.rows 0 new w s.count s.width }
+
+shape_same : (m n : Memory) → m.rows ≡ n.rows → Shape m → Shape n
+shape_same m n e s = record {
+  count = ap length (sym e) ∙ s.count;
+  width = λ r h. ap (λ rows. length (get_or rows r [])) (sym e) ∙ s.width r h;
+}
+
+module _ (class : Class) (lines : ℕ) (sel : Selection) where
+  pub shape_after : (choice : Bool) (m : Memory) (pkt : Packet) → Shape m → Shape (after class lines sel choice m pkt)
+  shape_after choice m (Header id control text) s =
+      if_ind {A = Memory} Shape (matches sel id) _ _
+      (λ _. shape_begun _ control text (if_ind {A = Memory} Shape (erases class choice m control) (erased m) m (λ _. shape_erased m s) (λ _. s)))
+      (λ _. if_ind {A = Memory} Shape (id.mag == selected_mag sel) _ _ (λ _. shape_same m (with_storing m false) refl s)
+      (λ _. if_ind {A = Memory} Shape (c11 control && choice) (with_storing m false) m (λ _. shape_same m (with_storing m false) refl s) (λ _. s)))
+  shape_after choice m (Row mag number text) s =
+      if_ind {A = Memory} Shape ((mag == selected_mag sel) && m.storing && not (misses lines choice m)) _ m
+      (λ _. shape_row m number (stored_row (get_or m.rows number []) text) s (λ lt. length-stored_row (get_or m.rows number []) text ∙ s.width number lt)) (λ _. s)
+  shape_after choice m (Links mag None) s =
+      if_ind {A = Memory} Shape ((mag == selected_mag sel) && m.storing && not (misses lines choice m)) m m (λ _. s) (λ _. s)
+  shape_after choice m (Links mag (Some content)) s =
+      if_ind {A = Memory} Shape ((mag == selected_mag sel) && m.storing && not (misses lines choice m)) (with_links m (Some content)) m
+      (λ _. shape_same m (with_links m (Some content)) refl s) (λ _. s)
+  shape_after choice m Empty s = s
+  shape_after choice m Unreadable s = s
+  shape_after choice m Info s = s
+  shape_after choice m Other s = s
+
+  -- a page is stored_row after a slot only where the slot is a matching header, or the page was stored_row and the slot is no header of the magazine
+  pub after_storing : (choice : Bool) (m : Memory) (pkt : Packet) → (after class lines sel choice m pkt).storing ≡ true →
+      (heads_matched sel pkt ≡ true) ⊎ ((m.storing ≡ true) × (heads (selected_mag sel) pkt ≡ false))
+  after_storing choice m (Header id control text) st =
+      if_ind (λ (new : Memory). new.storing ≡ true → (matches sel id ≡ true) ⊎ ((m.storing ≡ true) × ((id.mag == selected_mag sel) ≡ false))) (matches sel id) _ _
+      (λ e _. inl e)
+      (λ _. if_ind (λ (new : Memory). new.storing ≡ true → (matches sel id ≡ true) ⊎ ((m.storing ≡ true) × ((id.mag == selected_mag sel) ≡ false)))
+      (id.mag == selected_mag sel) _ _ (λ _ h. absurd (no_both false h refl))
+      (λ e. if_ind (λ (new : Memory). new.storing ≡ true → (matches sel id ≡ true) ⊎ ((m.storing ≡ true) × ((id.mag == selected_mag sel) ≡ false)))
+      (c11 control && choice) (with_storing m false) m (λ _ h. absurd (no_both false h refl)) (λ _ h. inr (h, e)))) st
+  after_storing choice m (Row mag number text) st =
+      if_ind (λ (new : Memory). new.storing ≡ true → (false ≡ true) ⊎ ((m.storing ≡ true) × (false ≡ false))) ((mag == selected_mag sel) && m.storing && not (misses lines choice m))
+      (with_row m number (stored_row (get_or m.rows number []) text)) m (λ _ h. inr (h, refl)) (λ _ h. inr (h, refl)) st
+  after_storing choice m (Links mag None) st =
+      if_ind (λ (new : Memory). new.storing ≡ true → (false ≡ true) ⊎ ((m.storing ≡ true) × (false ≡ false))) ((mag == selected_mag sel) && m.storing && not (misses lines choice m))
+      m m (λ _ h. inr (h, refl)) (λ _ h. inr (h, refl)) st
+  after_storing choice m (Links mag (Some content)) st =
+      if_ind (λ (new : Memory). new.storing ≡ true → (false ≡ true) ⊎ ((m.storing ≡ true) × (false ≡ false))) ((mag == selected_mag sel) && m.storing && not (misses lines choice m))
+      (with_links m (Some content)) m (λ _ h. inr (h, refl)) (λ _ h. inr (h, refl)) st
+  after_storing choice m Empty h = inr (h, refl)
+  after_storing choice m Unreadable h = inr (h, refl)
+  after_storing choice m Info h = inr (h, refl)
+  after_storing choice m Other h = inr (h, refl)
+
+  -- without a header of the magazine and without an end in serial transmission the page goes on being stored_row
+  pub after_ready : (choice : Bool) (m : Memory) (pkt : Packet) → heads (selected_mag sel) pkt ≡ false → ends_serial (selected_mag sel) pkt ≡ false →
+      m.storing ≡ true → ((after class lines sel choice m pkt).storing ≡ true) × ((after class lines sel choice m pkt).age ≡ m.age)
+  after_ready choice m (Header id control text) other on st =
+      if_ind (λ (new : Memory). (new.storing ≡ true) × (new.age ≡ m.age)) (matches sel id) _ _
+      (λ e. absurd (no_both _ (matches_mag sel id e) other))
+      (λ _. if_ind (λ (new : Memory). (new.storing ≡ true) × (new.age ≡ m.age)) (id.mag == selected_mag sel) _ _
+      (λ e. absurd (no_both _ e other))
+      (λ e. if_ind (λ (new : Memory). (new.storing ≡ true) × (new.age ≡ m.age)) (c11 control && choice) (with_storing m false) m
+      (λ c. absurd (no_both _ (and_both _ _ (not_false _ e) (and_left _ _ c)) on)) (λ _. (st, refl))))
+  after_ready choice m (Row mag number text) other on st =
+      if_ind (λ (new : Memory). (new.storing ≡ true) × (new.age ≡ m.age)) ((mag == selected_mag sel) && m.storing && not (misses lines choice m))
+      (with_row m number (stored_row (get_or m.rows number []) text)) m (λ _. (st, refl)) (λ _. (st, refl))
+  after_ready choice m (Links mag None) other on st =
+      if_ind (λ (new : Memory). (new.storing ≡ true) × (new.age ≡ m.age)) ((mag == selected_mag sel) && m.storing && not (misses lines choice m))
+      m m (λ _. (st, refl)) (λ _. (st, refl))
+  after_ready choice m (Links mag (Some content)) other on st =
+      if_ind (λ (new : Memory). (new.storing ≡ true) × (new.age ≡ m.age)) ((mag == selected_mag sel) && m.storing && not (misses lines choice m))
+      (with_links m (Some content)) m (λ _. (st, refl)) (λ _. (st, refl))
+  after_ready choice m Empty other on st = (st, refl)
+  after_ready choice m Unreadable other on st = (st, refl)
+  after_ready choice m Info other on st = (st, refl)
+  after_ready choice m Other other on st = (st, refl)
+
+module _ (class : Class) (lines : ℕ) (sel : Selection) (p : Page) where
+  -- what a matching header leaves
+  pub after_begin : (choice : Bool) (m : Memory) (pkt : Packet) → heads_matched sel pkt ≡ true → IsHeadOf p pkt →
+      let new = after class lines sel choice m pkt in
+      (new.storing ≡ true) × (new.age ≡ 0) × (new.fresh ≡ false) × (new.control ≡ p.control)
+  after_begin choice m (Header id control text) h r =
+      if_ind (λ (new : Memory). (new.storing ≡ true) × (new.age ≡ 0) × (new.fresh ≡ false) × (new.control ≡ p.control)) (matches sel id) _ _
+      (λ e. (refl, refl, refl, r.0)) (λ e. absurd (no_both (matches sel id) h e))
+  after_begin choice m Empty h r = absurd (no_both false h refl)
+  after_begin choice m Unreadable h r = absurd (no_both false h refl)
+  after_begin choice m (Row mag number text) h r = absurd (no_both false h refl)
+  after_begin choice m (Links mag content) h r = absurd (no_both false h refl)
+  after_begin choice m Info h r = absurd (no_both false h refl)
+  after_begin choice m Other h r = absurd (no_both false h refl)
+
+  -- a receiver that isn't fresh keeps the page's control bits
+  pub after_settled : (choice : Bool) (m : Memory) (pkt : Packet) → (heads_matched sel pkt ≡ true → IsHeadOf p pkt) →
+      m.fresh ≡ false → m.control ≡ p.control → ((after class lines sel choice m pkt).fresh ≡ false) × ((after class lines sel choice m pkt).control ≡ p.control)
+  after_settled choice m (Header id control text) r f k =
+      if_ind (λ (new : Memory). (new.fresh ≡ false) × (new.control ≡ p.control)) (matches sel id) _ _
+      (λ e. (refl, (r e).0))
+      (λ _. if_ind (λ (new : Memory). (new.fresh ≡ false) × (new.control ≡ p.control)) (id.mag == selected_mag sel) _ _ (λ _. (f, k))
+      (λ _. if_ind (λ (new : Memory). (new.fresh ≡ false) × (new.control ≡ p.control)) (c11 control && choice) (with_storing m false) m (λ _. (f, k)) (λ _. (f, k))))
+  after_settled choice m (Row mag number text) r f k =
+      if_ind (λ (new : Memory). (new.fresh ≡ false) × (new.control ≡ p.control)) ((mag == selected_mag sel) && m.storing && not (misses lines choice m))
+      (with_row m number (stored_row (get_or m.rows number []) text)) m (λ _. (f, k)) (λ _. (f, k))
+  after_settled choice m (Links mag None) r f k =
+      if_ind (λ (new : Memory). (new.fresh ≡ false) × (new.control ≡ p.control)) ((mag == selected_mag sel) && m.storing && not (misses lines choice m))
+      m m (λ _. (f, k)) (λ _. (f, k))
+  after_settled choice m (Links mag (Some content)) r f k =
+      if_ind (λ (new : Memory). (new.fresh ≡ false) × (new.control ≡ p.control)) ((mag == selected_mag sel) && m.storing && not (misses lines choice m))
+      (with_links m (Some content)) m (λ _. (f, k)) (λ _. (f, k))
+  after_settled choice m Empty r f k = (f, k)
+  after_settled choice m Unreadable r f k = (f, k)
+  after_settled choice m Info r f k = (f, k)
+  after_settled choice m Other r f k = (f, k)

@@ -1,0 +1,92 @@
+//! A receiver that surely clears the page when it is set to it.
+
+ghost use Rattle.std.specs.Prelude.{◌≡◌, MatchOption, replicate, false};
+ghost use Rattle.ttx_page.specs.Memories.{Memory};
+ghost use Rattle.ttx_page.specs.Receivers.{Step};
+ghost use Rattle.ttx_page.specs.Views.{memory_of};
+ghost use Rattle.ttx_page.specs.declared.class.Class.TheVariants.{Clearing};
+ghost use Rattle.ttx_receiver.specs.Tuning.{tuned_at, stepped};
+
+use crate::receiver::Receiver;
+use crate::steps::{EMPTY, take_slot};
+use std::marker::Model;
+use ttx_page::{Class, PageMemory, Selection};
+
+/// A receiver that erases at the first header of its page, and takes no other choice.
+#[derive(Drop)]
+pub struct Cleared {
+    selection: Selection,
+    lines: u8,
+    memory: PageMemory,
+}
+
+impl Model for Cleared {
+    ghost use Rattle.ttx_page.specs.Views.{memory_of};
+    ghost use Rattle.ttx_receiver.specs.Tuning.{Tuned, tuned_at};
+
+    ghost Value = { Tuned };
+
+    ghost view = { λ r. tuned_at r.selection r.lines (memory_of r.memory) };
+}
+
+impl Cleared {
+    /// A receiver set to the selection, with `lines` slots in a field, that holds the memory.
+    pub fn new(selection: Selection, lines: u8, memory: PageMemory) -> Cleared
+        ensures { result ≡ tuned_at selection lines (memory_of memory) }
+    {
+        Cleared {
+            selection,
+            lines,
+            memory,
+        }
+    }
+}
+
+impl Receiver for Cleared {
+    ghost held = { λ r. r.memory };
+
+    ghost tuned = { λ r. r.selection };
+
+    ghost field = { λ r. r.lines };
+
+    ghost kind = { λ r. Clearing };
+
+    fn selection(&self) -> Selection {
+        self.selection
+    }
+
+    fn lines(&self) -> u8 {
+        self.lines
+    }
+
+    fn class(&self) -> Class {
+        Class::Clearing
+    }
+
+    fn memory(&self) -> &PageMemory {
+        &self.memory
+    }
+
+    fn step(&mut self, slot: Option<&[u8; 42]>)
+        ensures value { MatchOption slot.entry (self.new ≡ stepped Clearing false self.old (replicate 42 0)) (λ s. self.new ≡ stepped Clearing false self.old s.now) }
+        ensures step { MatchOption slot.entry (Step Clearing self.old.lines self.old.selection self.old.memory (replicate 42 0) self.new.memory)
+            (λ s. Step Clearing self.old.lines self.old.selection self.old.memory s.now self.new.memory) }
+        ensures selection { self.new.selection ≡ self.old.selection }
+        ensures lines { self.new.lines ≡ self.old.lines }
+        ensures class { Clearing ≡ Clearing }
+    {
+        self.memory.grow_older();
+        let (memory, selection) = (&mut self.memory, &self.selection);
+        match slot {
+            Some(bytes) => take_slot(memory, Class::Clearing, self.lines, selection, false, bytes),
+            None => take_slot(
+                memory,
+                Class::Clearing,
+                self.lines,
+                selection,
+                false,
+                &EMPTY,
+            ),
+        }
+    }
+}

@@ -1,0 +1,18 @@
+//! Receivers: what a permitted receiver does with the slots that it is given, and the law that what is sent is held.
+#![tactic(auto)]
+
+mod careful;
+mod cleared;
+mod eager;
+pub mod laws;
+pub mod receiver;
+mod scripted;
+mod steps;
+#[cfg(test)]
+mod tests;
+
+pub use careful::Careful;
+pub use cleared::Cleared;
+pub use eager::Eager;
+pub use receiver::Receiver;
+pub use scripted::Scripted;

@@ -1,0 +1,77 @@
+//! Receivers over the slots of a page whose row 1 stands two slots after its header, in fields of two slots.
+
+use crate::{Careful, Cleared, Eager, Receiver, Scripted};
+use ttx_header::{Control, PageId};
+use ttx_page::{PageMemory, Selection};
+
+fn header() -> [u8; 42] {
+    let mut slot = [0x20; 42];
+    let words = [0x02, 0x15, 0x15, 0x15, 0x15, 0x15, 0x15, 0x15, 0x15, 0x02];
+    slot[..10].copy_from_slice(&words);
+    slot
+}
+
+fn row_1() -> [u8; 42] {
+    let mut slot = [0x20; 42];
+    slot[..2].copy_from_slice(&[0xc7, 0x15]);
+    slot
+}
+
+fn page_100() -> Selection {
+    match PageId::new(1, 0, 0) {
+        Some(id) => Selection::Exact(id),
+        None => Selection::AnySub(1, 0),
+    }
+}
+
+// A memory of spaces, but for an X at the begin of row 1.
+fn former(fresh: bool) -> PageMemory {
+    let mut rows = [[0x20; 40]; 25];
+    rows[1][0] = 0x58;
+    let memory = PageMemory::new(rows, Control(0), [None; 6], false, false, 64, fresh);
+    memory.unwrap_or(PageMemory::blank())
+}
+
+// What stands at the begin of row 1 after two periods.
+fn first_of_row_1<R: Receiver>(receiver: &mut R) -> u8 {
+    for _ in 0..2 {
+        receiver.step(Some(&header()));
+        receiver.step(None);
+        receiver.step(Some(&row_1()));
+        for _ in 0..25 {
+            receiver.step(None);
+        }
+    }
+    receiver.memory().rows()[1][0]
+}
+
+#[test]
+fn a_row_within_a_field_may_be_missed(rt: HostRuntime) {
+    let mut eager = Eager::new(page_100(), 2, former(false));
+    assert_eq!(rt; first_of_row_1(&mut eager), 0x20);
+    let mut careful = Careful::new(page_100(), 2, former(false));
+    assert_eq!(rt; first_of_row_1(&mut careful), 0x58);
+    let mut in_time = Careful::new(page_100(), 1, former(false));
+    assert_eq!(rt; first_of_row_1(&mut in_time), 0x20);
+}
+
+#[test]
+fn a_receiver_that_clears_begins_anew(rt: HostRuntime) {
+    let mut cleared = Cleared::new(page_100(), 2, former(true));
+    cleared.step(Some(&header()));
+    assert_eq!(rt; cleared.memory().rows()[1][0], 0x20);
+    let mut settled = Cleared::new(page_100(), 2, former(false));
+    settled.step(Some(&header()));
+    assert_eq!(rt; settled.memory().rows()[1][0], 0x58);
+}
+
+// The slots with a choice are those of row 1, two slots after the header in each period.
+#[test]
+fn a_script_is_asked_at_each_choice(rt: HostRuntime) {
+    let mut once = Scripted::new(page_100(), 2, former(false), &[true]);
+    assert_eq!(rt; first_of_row_1(&mut once), 0x20);
+    let mut twice = Scripted::new(page_100(), 2, former(false), &[true, true]);
+    assert_eq!(rt; first_of_row_1(&mut twice), 0x58);
+    let mut never = Scripted::new(page_100(), 2, former(false), &[]);
+    assert_eq!(rt; first_of_row_1(&mut never), 0x20);
+}
