@@ -1,0 +1,23 @@
+-- Texts of bounded length.
+--
+--   ReadsText     what is answered for the bytes of a text
+--   CountsText    a read fault is answered only where one was counted
+use Rattle.std.specs.Prelude.{◌≡◌, ℕ, ◌<◌, ◌≤◌, List, length, ⊤, Result, Ok, Err, Vec}
+use Rattle.std.specs.declared.alloc.Global.{Global}
+use Rattle.ttx_cycle.specs.Counts.{HasRisen}
+use Rattle.ttx_cycle.specs.declared.faults.TextFault.{TextFault}
+use Rattle.ttx_cycle.specs.declared.faults.TextFault.TheVariants.{Read, TooLong, NoMemory}
+
+-- all the bytes where there are no more than the most, and no text where there are more
+abbrev pub ReadsText : List ℕ → ℕ → Result (Vec ℕ Global) TextFault → Type 0
+ReadsText bytes most (Ok text) = (text.items ≡ bytes) × (length bytes ≤ most)
+ReadsText bytes most (Err Read) = ⊤
+ReadsText bytes most (Err TooLong) = most < length bytes
+ReadsText bytes most (Err NoMemory) = ⊤
+
+-- the faults counted before and after
+abbrev pub CountsText : {T : Type 0} → Result T TextFault → ℕ → ℕ → Type 0
+CountsText (Ok _) old new = new ≡ old
+CountsText (Err Read) old new = HasRisen old new
+CountsText (Err TooLong) old new = new ≡ old
+CountsText (Err NoMemory) old new = new ≡ old

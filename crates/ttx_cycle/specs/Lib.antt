@@ -1,0 +1,9 @@
+pub mod Counts
+pub mod Counters
+pub mod Files
+pub mod Cycles
+pub mod Reading
+pub mod SlotReaders
+pub mod Writing
+pub mod Faulty
+pub mod Bounded

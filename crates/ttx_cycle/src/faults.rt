@@ -1,0 +1,44 @@
+//! Why a packet file or a text isn't read or written.
+
+use thiserror::Error;
+
+/// Why a packet file isn't read.
+#[derive(Clone, Copy, Debug, PartialEq, Eq, Error)]
+pub enum CycleFault {
+    /// A call of `read` failed.
+    #[error("the packet file can't be read")]
+    Read,
+    /// 1 to 41 bytes stand after the last whole slot.
+    #[error("{rest} bytes stand after the last whole slot")]
+    Truncated { rest: usize },
+    /// The file has no byte.
+    #[error("the packet file has no slot")]
+    Empty,
+    /// The file has more than 2,752,512 bytes. Told before `Truncated`.
+    #[error("the packet file has more than 65536 slots")]
+    TooLong,
+    /// A growth was refused.
+    #[error("out of memory")]
+    NoMemory,
+}
+
+/// A write failed. The first `written` bytes went out, and no more.
+#[derive(Clone, Copy, Debug, PartialEq, Eq, Error)]
+#[error("a write failed after {written} bytes")]
+pub struct WriteFault {
+    pub written: usize,
+}
+
+/// Why a text isn't read.
+#[derive(Clone, Copy, Debug, PartialEq, Eq, Error)]
+pub enum TextFault {
+    /// A call of `read` failed.
+    #[error("the text can't be read")]
+    Read,
+    /// The text has more bytes than are allowed.
+    #[error("the text is too long")]
+    TooLong,
+    /// A growth was refused.
+    #[error("out of memory")]
+    NoMemory,
+}

@@ -1,0 +1,23 @@
+//! Packet files: the slots of a cycle end to end, 42 bytes each.
+#![tactic(auto)]
+
+mod arrays;
+pub mod counted;
+pub mod cycles;
+pub mod faults;
+pub mod faulty;
+mod filling;
+mod reading;
+mod slot_reader;
+#[cfg(test)]
+mod tests;
+mod texts;
+mod writing;
+
+pub use counted::Counted;
+pub use cycles::Cycle;
+pub use faults::{CycleFault, TextFault, WriteFault};
+pub use reading::read_cycle;
+pub use slot_reader::SlotReader;
+pub use texts::read_text;
+pub use writing::{write_bytes, write_cycle};

@@ -1,0 +1,176 @@
+//! Packet files read and written in pieces, with faults in the middle.
+
+use crate::faulty::{Failure, FaultyReader, FaultyWriter};
+use crate::{Counted, Cycle, CycleFault, SlotReader, WriteFault, read_cycle, write_cycle};
+use std::alloc::{AllocError, Global};
+use std::io::Write;
+use std::test::Fail;
+use ttx_packet::address;
+
+// Adds a slot: its first bytes, and then the same byte to its end.
+fn push_slot(bytes: &mut Vec<u8>, front: &[u8], last: u8) -> Result<(), AllocError> {
+    bytes.extend_from_slice(front)?;
+    for _ in front.len()..42 {
+        bytes.push(last)?;
+    }
+    Ok(())
+}
+
+// A cycle of 28 slots: a header, two empty slots, 23 blank rows, X/27/0 without links, a time-filling header.
+fn base(alloc: Global) -> Result<Vec<u8>, AllocError> {
+    let mut bytes = Vec::new(alloc);
+    let header = [0x02, 0x15, 0x15, 0x15, 0x15, 0x15, 0x15, 0x15, 0x15, 0x02];
+    push_slot(&mut bytes, &header, 0x20)?;
+    push_slot(&mut bytes, &[], 0)?;
+    push_slot(&mut bytes, &[], 0)?;
+    for row in 1..24 {
+        push_slot(&mut bytes, &address(1, row), 0x20)?;
+    }
+    bytes.extend_from_slice(&[0xc7, 0xb6, 0x15])?;
+    for _ in 0..6 {
+        bytes.extend_from_slice(&[0xea, 0xea, 0xea, 0x2f, 0xea, 0x5e])?;
+    }
+    bytes.extend_from_slice(&[0x2f, 0, 0])?;
+    let time_filling = [0x02, 0x15, 0xea, 0xea, 0xea, 0x2f, 0xea, 0x5e, 0x15, 0x02];
+    push_slot(&mut bytes, &time_filling, 0x20)?;
+    Ok(bytes)
+}
+
+// What is read of these bytes, given in pieces.
+fn read_in_pieces(alloc: Global, bytes: &[u8], piece: usize) -> Result<Cycle, CycleFault> {
+    let mut reader = Counted::new(FaultyReader::new(bytes, piece, None));
+    read_cycle(alloc, &mut reader)
+}
+
+// Whether these bytes, the front of a packet file, are read as their slots or refused as what they are.
+fn is_judged(alloc: Global, bytes: &[u8], piece: usize) -> bool {
+    let rest = bytes.len() % 42;
+    match read_in_pieces(alloc, bytes, piece) {
+        Ok(cycle) => rest == 0 && cycle.slots().as_flattened() == bytes,
+        Err(CycleFault::Truncated { rest: told }) => rest > 0 && told == rest,
+        Err(fault) => fault == CycleFault::Empty && bytes.is_empty(),
+    }
+}
+
+#[test]
+fn each_prefix_in_pieces(rt: HostRuntime) -> Result<(), Fail> {
+    let bytes = base(rt.alloc())?;
+    assert_eq!(rt; bytes.len(), 1176);
+    for piece in 1..44 {
+        for end in 0..bytes.len() {
+            assert!(rt; is_judged(rt.alloc(), &bytes[..end], piece));
+        }
+        assert!(rt; is_judged(rt.alloc(), bytes.as_slice(), piece));
+    }
+    Ok(())
+}
+
+#[test]
+fn files_of_no_slot(rt: HostRuntime) {
+    let truncated = CycleFault::Truncated { rest: 41 };
+    assert_eq!(rt;
+        read_in_pieces(rt.alloc(), &[0; 83], 100).err(),
+        Some(truncated)
+    );
+    assert_eq!(rt;
+        read_in_pieces(rt.alloc(), &[], 100).err(),
+        Some(CycleFault::Empty)
+    );
+}
+
+#[test]
+fn longest_file(rt: HostRuntime) -> Result<(), Fail> {
+    let mut bytes = Vec::new(rt.alloc());
+    for _ in 0..65_536 {
+        bytes.extend_from_slice(&[0x20; 42])?;
+    }
+    let cycle = read_in_pieces(rt.alloc(), bytes.as_slice(), 4096);
+    assert_eq!(rt; cycle.map(|cycle| cycle.slots().len()), Ok(65_536));
+    bytes.push(0x20)?;
+    let outcome = read_in_pieces(rt.alloc(), bytes.as_slice(), 4096);
+    assert_eq!(rt; outcome.err(), Some(CycleFault::TooLong));
+    Ok(())
+}
+
+#[test]
+fn slots_one_by_one(rt: HostRuntime) -> Result<(), Fail> {
+    let mut bytes = Vec::new(rt.alloc());
+    push_slot(&mut bytes, &[], 1)?;
+    push_slot(&mut bytes, &[], 2)?;
+    bytes.push(3)?;
+    let mut reader = Counted::new(FaultyReader::new(bytes.as_slice(), 42, Some(3)));
+    let mut slots = SlotReader::new();
+    let mut slot = [0; 42];
+    assert_eq!(rt; slots.next(&mut reader, &mut slot), Ok(true));
+    assert!(rt; slot.iter().all(|byte| *byte == 1));
+    assert_eq!(rt; slots.next(&mut reader, &mut slot), Ok(true));
+    assert!(rt; slot.iter().all(|byte| *byte == 2));
+    assert_eq!(rt; slots.next(&mut reader, &mut slot), Err(CycleFault::Read));
+    assert_eq!(rt; slots.next(&mut reader, &mut slot), Ok(false));
+    assert_eq!(rt; reader.calls(), 3);
+    assert_eq!(rt; reader.faults(), 1);
+    Ok(())
+}
+
+// Writes a cycle in pieces of 5 bytes and answers the calls made, where what went out is the front of the file.
+fn write_in_pieces(
+    alloc: Global,
+    cycle: &Cycle,
+    failure: Option<Failure>,
+) -> Result<Option<(u64, Result<(), WriteFault>)>, AllocError> {
+    let file = cycle.slots().as_flattened();
+    let mut room = Vec::new(alloc);
+    for _ in 0..1200 {
+        room.push(0xff)?;
+    }
+    let mut writer = Counted::new(FaultyWriter::new(room.as_mut_slice(), 5, failure));
+    let outcome = write_cycle(&mut writer, cycle);
+    let calls = writer.calls();
+    let sent = writer.get_ref().taken();
+    let wanted = match outcome {
+        Ok(()) => file.len(),
+        Err(fault) => fault.written,
+    };
+    if file.starts_with(sent) && sent.len() == wanted {
+        Ok(Some((calls, outcome)))
+    } else {
+        Ok(None)
+    }
+}
+
+#[test]
+fn writes_in_pieces(rt: HostRuntime) -> Result<(), Fail> {
+    let bytes = base(rt.alloc())?;
+    let Ok(cycle) = read_in_pieces(rt.alloc(), bytes.as_slice(), 42) else {
+        panic!(rt; "the cycle isn't read");
+    };
+    let whole = write_in_pieces(rt.alloc(), &cycle, None)?;
+    assert_eq!(rt; whole, Some((236, Ok(()))));
+    let fourth = write_in_pieces(rt.alloc(), &cycle, Some(Failure::Error { at: 4 }))?;
+    assert_eq!(rt; fourth, Some((4, Err(WriteFault { written: 15 }))));
+    let first = write_in_pieces(rt.alloc(), &cycle, Some(Failure::Nothing { at: 1 }))?;
+    assert_eq!(rt; first, Some((1, Err(WriteFault { written: 0 }))));
+    Ok(())
+}
+
+#[test]
+fn a_full_slice_takes_nothing(rt: HostRuntime) {
+    let mut room = [0; 3];
+    let mut writer = Counted::new(FaultyWriter::new(&mut room, 9, None));
+    assert_eq!(rt; writer.write(b"abcd").ok(), Some(3));
+    assert_eq!(rt; writer.write(b"d").ok(), Some(0));
+    assert_eq!(rt; writer.write(b"").ok(), Some(0));
+    assert_eq!(rt; writer.calls(), 3);
+    assert_eq!(rt; writer.faults(), 1);
+    assert_eq!(rt; writer.into_inner().taken(), b"abc".as_slice());
+}
+
+#[test]
+fn cycles_of_lists(rt: HostRuntime) -> Result<(), Fail> {
+    let mut slots = Vec::new(rt.alloc());
+    assert!(rt; Cycle::of(Vec::new(rt.alloc())).is_none());
+    slots.push([0x20; 42])?;
+    let cycle = Cycle::of(slots);
+    assert_eq!(rt; cycle.map(|cycle| cycle.slots().len()), Some(1));
+    Ok(())
+}
