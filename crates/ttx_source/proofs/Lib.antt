@@ -1,0 +1,6 @@
+pub mod Sequences
+pub mod Plain
+pub mod RowTable
+pub mod LinkArray
+pub mod PageList
+pub mod PageArray

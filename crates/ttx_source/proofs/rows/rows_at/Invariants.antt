@@ -1,0 +1,14 @@
+use Rattle.std.proofs.Common.{◌≡◌, map, drop, take, length}
+use Rattle.toml.specs.View.{table_view}
+use Rattle.ttx_source.specs.Keys.{rows_of, AreRows}
+use Rattle.ttx_source.proofs.Sequences.{then}
+use Rattle.ttx_source.proofs.rows.rows_at.Given as goal
+
+-- the rows so far, and then those of the keys that are left
+abbrev pub invariant-loop-index : goal.invariant-loop-index
+invariant-loop-index l = record {
+  long : length l.rows ≡ 24;
+  rows : AreRows l.rows;
+  so_far : rows_of (map (λ key. key.now) l.keys) (table_view l.table)
+      ≡ then (take l.index l.rows) (rows_of (map (λ key. key.now) (drop l.index l.keys)) (table_view l.table));
+}

@@ -1,0 +1,38 @@
+-- The faults of the program as those of the definitions.
+--
+--   fault_of       a fault
+--   outcome        a value, seen by a function, or its fault
+--   placed         a value, seen by a function, or its fault and the page that it is in
+--   IsUnlessMemory     a fact, but where memory ran out
+use Rattle.std.specs.Prelude.{◌≡◌, ◌⊎◌, ℕ, Result, Ok, Err}
+use Rattle.ttx_source.specs.Values.{Fault, not_toml, missing, wrong_kind, wrong_page_number, wrong_subcode, duplicate, too_long, wrong_character, wrong_often, out_of_range, no_memory}
+use Rattle.ttx_source.specs.declared.faults.SourceError.{SourceError}
+use Rattle.ttx_source.specs.declared.faults.SourceFault.{SourceFault}
+use Rattle.ttx_source.specs.declared.faults.SourceFault.TheVariants.{NotToml, Missing, Kind, PageNumber, Subcode, Duplicate, RowTooLong, Character, Often, Range, NoMemory}
+
+abbrev pub fault_of : SourceFault → Fault
+fault_of NotToml = not_toml
+fault_of (Missing key) = missing key.now
+fault_of (Kind key) = wrong_kind key.now
+fault_of PageNumber = wrong_page_number
+fault_of Subcode = wrong_subcode
+fault_of Duplicate = duplicate
+fault_of RowTooLong = too_long
+fault_of Character = wrong_character
+fault_of Often = wrong_often
+fault_of (Range key) = out_of_range key.now
+fault_of NoMemory = no_memory
+
+-- a value under a view, or its fault
+abbrev pub outcome : {A B : Type 0} → (A → B) → Result A SourceFault → Result B Fault
+outcome seen (Ok a) = Ok (seen a)
+outcome seen (Err e) = Err (fault_of e)
+
+abbrev pub placed : {A B : Type 0} → (A → B) → Result A SourceError → Result B (Fault × ℕ)
+placed seen (Ok a) = Ok (seen a)
+placed seen (Err e) = Err (fault_of e.fault, e.page)
+
+-- want of memory is told with no page
+abbrev pub IsUnlessMemory : {A : Type 0} → Result A SourceError → Type 0 → Type 0
+IsUnlessMemory (Ok a) P = P
+IsUnlessMemory (Err e) P = (e ≡ record { fault = NoMemory; page = 0 }) ⊎ P

@@ -1,0 +1,5 @@
+pub mod Values
+pub mod Keys
+pub mod Services
+pub mod Views
+pub mod Faults

@@ -1,0 +1,135 @@
+-- The service that a TOML text is, or its first fault: the keys in the order in which they are looked at (profile).
+--
+--   Authored, ServiceFields         a page with how often it is sent; a service, as contracts see it
+--   IsService                       the ranges of a service
+--   id_of, authored_of              a page from its table
+--   settings_of, after              a service without its pages, and with the pages of some tables added
+--   service_of, read_bytes          the service that a table is, and that a text is
+use Rattle.std.specs.Prelude.{◌≡◌, ◌≢◌, ℕ, ◌+◌, ◌≤◌, ◌++◌, List, [], ◌∷◌, codes, length, map, Bool, true, ◌&&◌, Option, Some, None, Result, Ok, Err, if◌then◌else◌, nat_lt, is_some}
+use Rattle.std.specs.List.{list_any, All, AllPairs}
+use Rattle.std.specs.Str.{is_utf8}
+use Rattle.toml.specs.Data.{Data, Items, no_items, item, Members, get_member, as_str, as_array, as_table}
+use Rattle.toml.specs.Parse.{parse_document}
+use Rattle.ttx_header.specs.Ids.{Id, id_at, same_id}
+use Rattle.ttx_header.specs.Control.{c11}
+use Rattle.ttx_info.specs.Infos.{InfoFields}
+use Rattle.ttx_page.specs.Pages.{Page, page_at, IsPage}
+use Rattle.ttx_source.specs.Values.{Fault, not_toml, out_of_range, wrong_kind, duplicate, ◌>>=◌, of_kind, required, with_default, page_number, subcode}
+use Rattle.ttx_source.specs.Keys.{lines, serial, info, often, is_often, control_of, head, rows, links_of, count, zeros}
+
+-- a page, and how often it is sent
+pub record Authored : Type 0 where
+  pub page : Page
+  pub often : ℕ
+
+abbrev pub authored_at : Page → ℕ → Authored
+authored_at page often = record { page = page; often = often }
+
+-- A service: the slots in a field, serial or parallel transmission, its packet 8/30, and its pages in authored order.
+pub record ServiceFields : Type 0 where
+  pub lines : ℕ
+  pub serial : Bool
+  pub info : Option InfoFields
+  pub pages : List Authored
+
+abbrev pub service_at : ℕ → Bool → Option InfoFields → List Authored → ServiceFields
+service_at lines serial info pages = record { lines = lines; serial = serial; info = info; pages = pages }
+
+-- the service, and one page more at its end
+abbrev pub with_page : ServiceFields → Authored → ServiceFields
+with_page service page = service_at service.lines service.serial service.info (service.pages ++ page ∷ [])
+
+abbrev pub ids_of : List Authored → List Id
+ids_of pages = map (λ p. p.page.id) pages
+
+-- a page in its ranges, with C11 as the service has it, sent 1, 2, 4 or 8 times
+pub record IsAuthored (serial : Bool) (authored : Authored) : Type 0 where
+  pub page : IsPage authored.page
+  pub c11 : c11 authored.page.control ≡ serial
+  pub often : is_often authored.often ≡ true
+
+-- 1 to 32 lines, at most 2,000 pages, and no id twice
+pub record IsService (service : ServiceFields) : Type 0 where
+  pub lines_from : 1 ≤ service.lines
+  pub lines_to : service.lines ≤ 32
+  pub count : length service.pages ≤ 2000
+  pub pages : All (IsAuthored service.serial) service.pages
+  pub distinct : AllPairs (λ a b. a ≢ b) (ids_of service.pages)
+
+-- whether a page of the list has the id
+abbrev pub has_id : List Authored → Id → Bool
+has_id pages id = list_any (same_id id) (ids_of pages)
+
+abbrev pub new_id : List Authored → Id → Result Id Fault
+new_id earlier id = if has_id earlier id then Err duplicate else Ok id
+
+-- a page's id, which no earlier page has
+unfoldable pub id_of : List Authored → Members → Result Id Fault
+id_of earlier table = do
+  number ← required (codes "number") as_str table >>= page_number
+  sub ← with_default (codes "sub") as_str zeros table >>= subcode
+  new_id earlier (id_at number.0 number.1 sub)
+
+-- a page of a service, after its earlier pages
+unfoldable pub authored_of : Bool → List Authored → Members → Result Authored Fault
+authored_of is_serial earlier table = do
+  id ← id_of earlier table
+  times ← often table
+  control ← control_of is_serial table
+  characters ← head table
+  texts ← rows table
+  links ← links_of table
+  Ok (authored_at (page_at id control characters texts links.set links.crc) times)
+
+-- a fault, and the page that it is in, counted from 1; 0 outside pages
+abbrev pub in_page : {A : Type 0} → ℕ → Result A Fault → Result A (Fault × ℕ)
+in_page page (Ok a) = Ok a
+in_page page (Err fault) = Err (fault, page)
+
+abbrev pub next_page : ServiceFields → Data → Result Authored (Fault × ℕ)
+next_page service value =
+    in_page 0 (of_kind (codes "page") as_table value)
+    >>= (λ table. in_page (length service.pages + 1) (authored_of service.serial service.pages table))
+
+-- the service with the pages of an array added
+unfoldable pub after : ServiceFields → Items → Result ServiceFields (Fault × ℕ)
+after service no_items = Ok service
+after service (item value values) = next_page service value >>= (λ page. after (with_page service page) values)
+
+-- each item is a table
+abbrev pub are_tables : Items → Bool
+are_tables no_items = true
+are_tables (item value values) = is_some (as_table value) && are_tables values
+
+-- at most 2,000 tables
+abbrev pub tables_in : Items → Result Items Fault
+tables_in values =
+    if nat_lt 2000 (count values) then Err (out_of_range (codes "page"))
+    else if are_tables values then Ok values
+    else Err (wrong_kind (codes "page"))
+
+abbrev pub page_tables : Members → Result Items Fault
+page_tables table = with_default (codes "page") as_array no_items table >>= tables_in
+
+-- the service of a table, without its pages
+unfoldable pub settings_of : Members → Result ServiceFields Fault
+settings_of table = do
+  slots ← lines table
+  is_serial ← serial table
+  packet ← info table
+  Ok (service_at slots is_serial packet [])
+
+-- the service that a table is, or its first fault
+unfoldable pub service_of : Members → Result ServiceFields (Fault × ℕ)
+service_of table = do
+  service ← in_page 0 (settings_of table)
+  pages ← in_page 0 (page_tables table)
+  after service pages
+
+abbrev pub service_in : Option Members → Result ServiceFields (Fault × ℕ)
+service_in None = Err (not_toml, 0)
+service_in (Some table) = service_of table
+
+-- the service that a text is: it is UTF-8, and a TOML document
+abbrev pub read_bytes : List ℕ → Result ServiceFields (Fault × ℕ)
+read_bytes bytes = if is_utf8 bytes then service_in (parse_document bytes) else Err (not_toml, 0)

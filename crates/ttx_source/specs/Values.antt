@@ -1,0 +1,154 @@
+-- The values of a service definition by kind, and the fault of what a kind refuses (profile). Texts are lists of bytes.
+--
+--   Fault                     why a service definition is refused, with the last part of the key's name where it matters
+--   required, with_default    the value at a key, which must be there or has a default
+--   integer_within            an integer in a range
+--   characters                a text as the codes of its characters, filled with spaces
+--   digit, two_digits, four_digits    hexadecimal digits, 0 to 9 and A to F
+--   page_number, subcode, link, byte_pair    texts of such digits
+use Rattle.std.specs.Prelude.{ℕ, ℤ, pos, negsuc, ◌+◌, ◌-◌, ◌*◌, ◌/◌, ◌%◌, ◌++◌, List, [], ◌∷◌, length, replicate, slice_index, Bool, false, not, ◌&&◌, ◌==◌, nat_lt, nat_le, Option, Some, None, Result, Ok, Err, if◌then◌else◌}
+use Rattle.std.specs.List.{list_all}
+use Rattle.std.specs.Str.{chars}
+use Rattle.ttx_header.specs.Ids.{Id, id_at}
+use Rattle.toml.specs.Data.{Data, Members, get_member, as_integer, as_bool, as_str}
+
+-- why a service definition is refused
+pub data Fault : Type 0 where
+  not_toml : Fault
+  missing : (key : List ℕ) → Fault
+  wrong_kind : (key : List ℕ) → Fault
+  wrong_page_number : Fault
+  wrong_subcode : Fault
+  duplicate : Fault
+  too_long : Fault
+  wrong_character : Fault
+  wrong_often : Fault
+  out_of_range : (key : List ℕ) → Fault
+  no_memory : Fault
+
+-- the first fault, or what follows from the value
+infixl 10 ◌>>=◌
+abbrev pub ◌>>=◌ : {A B E : Type 0} → Result A E → (A → Result B E) → Result B E
+Ok a >>= f = f a
+Err e >>= f = Err e
+
+-- a fault in the place of no value
+abbrev pub or_fault : {A : Type 0} → Fault → Option A → Result A Fault
+or_fault fault None = Err fault
+or_fault fault (Some a) = Ok a
+
+-- a value of a kind
+abbrev pub of_kind : {A : Type 0} → List ℕ → (Data → Option A) → Data → Result A Fault
+of_kind key kind value = or_fault (wrong_kind key) (kind value)
+
+-- the value at a key that must be there
+abbrev pub required : {A : Type 0} → List ℕ → (Data → Option A) → Members → Result A Fault
+required key kind table = or_fault (missing key) (get_member key table) >>= of_kind key kind
+
+-- the value at a key that has a default
+abbrev pub value_or : {A : Type 0} → List ℕ → (Data → Option A) → A → Option Data → Result A Fault
+value_or key kind default None = Ok default
+value_or key kind default (Some value) = of_kind key kind value
+
+abbrev pub with_default : {A : Type 0} → List ℕ → (Data → Option A) → A → Members → Result A Fault
+with_default key kind default table = value_or key kind default (get_member key table)
+
+-- an integer from low to high
+abbrev pub is_within : ℕ → ℕ → ℤ → Bool
+is_within low high (pos n) = nat_le low n && nat_le n high
+is_within low high (negsuc n) = false
+
+abbrev pub magnitude : ℤ → ℕ
+magnitude (pos n) = n
+magnitude (negsuc n) = n + 1
+
+abbrev pub integer_within : List ℕ → ℕ → ℕ → ℤ → Result ℕ Fault
+integer_within key low high z = if is_within low high z then Ok (magnitude z) else Err (out_of_range key)
+
+-- the integer at a key that must be there, in a range
+abbrev pub integer_at : List ℕ → ℕ → ℕ → Members → Result ℕ Fault
+integer_at key low high table = required key as_integer table >>= integer_within key low high
+
+-- the integer at a key that has a default, in a range
+abbrev pub integer_at_or : List ℕ → ℕ → ℕ → ℕ → Members → Result ℕ Fault
+integer_at_or key low high default table = with_default key as_integer (pos default) table >>= integer_within key low high
+
+-- at most so many characters, each of a code below 80 hexadecimal, then spaces
+unfoldable pub characters : ℕ → List ℕ → Result (List ℕ) Fault
+characters most text =
+    if nat_lt most (length (chars text)) then Err too_long
+    else if list_all (λ b. nat_lt b 128) text then Ok (text ++ replicate (most - length text) 32)
+    else Err wrong_character
+
+-- a digit: 0 to 9, A to F
+unfoldable pub digit : ℕ → Option ℕ
+digit c =
+    if nat_le 48 c && nat_le c 57 then Some (c - 48)
+    else if nat_le 65 c && nat_le c 70 then Some (c - 55)
+    else None
+
+abbrev pub joined : ℕ → Option ℕ → Option ℕ → Option ℕ
+joined weight None low = None
+joined weight (Some high) None = None
+joined weight (Some high) (Some low) = Some (weight * high + low)
+
+-- the number of the two digits from a place on, the higher one first
+unfoldable pub two_digits : List ℕ → ℕ → Option ℕ
+two_digits text at = joined 16 (digit (slice_index text at)) (digit (slice_index text (at + 1)))
+
+-- the number of four digits
+unfoldable pub four_digits : List ℕ → ℕ → Option ℕ
+four_digits text at = joined 256 (two_digits text at) (two_digits text (at + 2))
+
+-- the magazine, 1 to 8, and the page number, two digits but not FF, in the first three characters
+abbrev pub numbered : ℕ → Option ℕ → Option (ℕ × ℕ)
+numbered mag None = None
+numbered mag (Some page) = if (nat_le 49 mag && nat_le mag 56) && not (page == 255) then Some (mag - 48, page) else None
+
+unfoldable pub first_number : List ℕ → Option (ℕ × ℕ)
+first_number text = numbered (slice_index text 0) (two_digits text 1)
+
+-- MPP: a magazine and a page number alone
+unfoldable pub page_number : List ℕ → Result (ℕ × ℕ) Fault
+page_number text = if length text == 3 then or_fault wrong_page_number (first_number text) else Err wrong_page_number
+
+-- inside 3F7F hexadecimal (EN 300 706, 9.3.1.2)
+abbrev pub is_inside_mask : ℕ → Bool
+is_inside_mask sub = nat_lt sub 16384 && (sub / 128 % 2 == 0)
+
+-- 3F7F hexadecimal, which in a link is any subpage
+abbrev pub any_subcode : ℕ
+any_subcode = 16255
+
+-- SSSS: the subcode of a page
+abbrev pub subcode_of : Option ℕ → Result ℕ Fault
+subcode_of None = Err wrong_subcode
+subcode_of (Some sub) = if is_inside_mask sub && not (sub == any_subcode) then Ok sub else Err wrong_subcode
+
+unfoldable pub subcode : List ℕ → Result ℕ Fault
+subcode text = if length text == 4 then subcode_of (four_digits text 0) else Err wrong_subcode
+
+-- a link to a page number and a subcode inside 3F7F
+abbrev pub linked : Option (ℕ × ℕ) → Option ℕ → Result (Option Id) Fault
+linked None sub = Err wrong_page_number
+linked (Some number) None = Err wrong_page_number
+linked (Some number) (Some sub) =
+    if is_inside_mask sub then Ok (Some (id_at number.0 number.1 sub)) else Err wrong_subcode
+
+-- nothing: no link; MPP: any subpage; MPP/SSSS
+unfoldable pub link : List ℕ → Result (Option Id) Fault
+link text =
+    if length text == 0 then Ok None
+    else if length text == 3 then linked (first_number text) (Some any_subcode)
+    else if (length text == 8) && (slice_index text 3 == 47) then linked (first_number text) (four_digits text 4)
+    else Err wrong_page_number
+
+-- two bytes, as four digits
+abbrev pub pair_of : Option ℕ → Option ℕ → Option (List ℕ)
+pair_of None low = None
+pair_of (Some high) None = None
+pair_of (Some high) (Some low) = Some (high ∷ low ∷ [])
+
+unfoldable pub byte_pair : List ℕ → List ℕ → Result (List ℕ) Fault
+byte_pair key text =
+    if length text == 4 then or_fault (out_of_range key) (pair_of (two_digits text 0) (two_digits text 2)) else Err (out_of_range key)

@@ -1,0 +1,73 @@
+//! The keys of a page that set its control bits.
+
+ghost use Rattle.std.specs.Prelude.{◌≡◌, ◌≤◌, ◌%◌, codes, false, IfOk};
+ghost use Rattle.ttx_header.specs.Control.{IsControl, c4, c11};
+ghost use Rattle.toml.specs.View.{table_view};
+ghost use Rattle.ttx_source.specs.Keys as rule;
+ghost use Rattle.ttx_source.specs.Faults.{outcome};
+
+use crate::faults::SourceFault;
+use crate::values::{flag, integer_or, within};
+use toml::Table;
+use ttx_header::Control;
+
+// The national option.
+fn option(page: &Table) -> Result<u32, SourceFault>
+    ensures value { outcome (λ n. n) result ≡ rule.option (table_view page.now) }
+    ensures most { IfOk result (λ n. n ≤ 7) }
+{
+    within(integer_or(page, "option", 0)?, "option", 0, 7)
+}
+
+// The value of a control bit.
+fn bit_at(bit: Control, set: bool) -> u16
+    ensures { result ≡ rule.bit_at bit.0 set }
+{
+    if set { bit.0 } else { 0 }
+}
+
+// The control bits of a national option, of which C12 is the upper bit.
+fn national(option: u32) -> u16
+    requires { option ≤ 7 }
+    ensures value { result ≡ rule.national option }
+    ensures place { result % 256 ≡ 0 }
+    ensures most { result ≤ 1792 }
+{
+    bit_at(Control::C12, option / 4 == 1)
+        + bit_at(Control::C13, option / 2 % 2 == 1)
+        + bit_at(Control::C14, option % 2 == 1)
+}
+
+// The control bits C5 to C10 of a page.
+#[tactic(auto, unfolding(crate::specs::Keys::flags_of))]
+fn flags(page: &Table) -> Result<u16, SourceFault>
+    ensures value { outcome (λ n. n) result ≡ rule.flags_of (table_view page.now) }
+    ensures place { IfOk result (λ n. n % 2 ≡ 0) }
+    ensures most { IfOk result (λ n. n ≤ 126) }
+{
+    let newsflash = flag(page, "newsflash")?;
+    let subtitle = flag(page, "subtitle")?;
+    let suppress = flag(page, "suppress")?;
+    let update = flag(page, "update")?;
+    let interrupted = flag(page, "interrupted")?;
+    let inhibit = flag(page, "inhibit")?;
+    Ok(
+        bit_at(Control::C5, newsflash)
+            + bit_at(Control::C6, subtitle)
+            + bit_at(Control::C7, suppress)
+            + bit_at(Control::C8, update)
+            + bit_at(Control::C9, interrupted)
+            + bit_at(Control::C10, inhibit),
+    )
+}
+
+/// The control bits of a page, with C11 as the service has it.
+#[tactic(auto, unfolding(crate::specs::Keys::control_of))]
+pub fn control(page: &Table, serial: bool) -> Result<Control, SourceFault>
+    ensures value { outcome (λ c. c.0) result ≡ rule.control_of serial (table_view page.now) }
+    ensures ranges { IfOk result (λ c. IsControl c.0 × (c4 c.0 ≡ false) × (c11 c.0 ≡ serial)) }
+{
+    let option = option(page)?;
+    let flags = flags(page)?;
+    Ok(Control(flags + bit_at(Control::C11, serial) + national(option)))
+}

@@ -1,0 +1,88 @@
+//! The table `info` of a service: its packet 8/30 format 1.
+
+ghost use Rattle.std.specs.Prelude.{◌≡◌, ◌≤◌, ◌<◌, ℕ, codes, slice_index, IfOk};
+ghost use Rattle.toml.specs.View.{table_view};
+ghost use Rattle.ttx_source.specs.Keys as rule;
+ghost use Rattle.ttx_source.specs.Faults.{outcome};
+
+use crate::faults::SourceFault;
+use crate::texts::{byte_pair, characters, link};
+use crate::values::{integer, integer_or, member, table_of, text, text_or, within};
+use toml::Table;
+use ttx_info::Info;
+use ttx_links::Target;
+
+fn designation(info: &Table) -> Result<u8, SourceFault>
+    ensures value { outcome (λ n. n) result ≡ rule.designation (table_view info.now) }
+    ensures range { IfOk result (λ n. n < 2) }
+{
+    let number = within(integer_or(info, "designation", 0)?, "designation", 0, 1)?;
+    Ok(number as u8)
+}
+
+fn initial(info: &Table) -> Result<Option<Target>, SourceFault>
+    ensures { outcome (λ l. l) result ≡ rule.initial (table_view info.now) }
+{
+    link(text_or(info, "initial", "")?)
+}
+
+fn network(info: &Table) -> Result<[u8; 2], SourceFault>
+    ensures { outcome (λ b. b) result ≡ rule.network (table_view info.now) }
+{
+    byte_pair(text(info, "network")?, "network")
+}
+
+// The local offset in half-hours, and whether it is negative.
+fn halves(info: &Table) -> Result<(u8, bool), SourceFault>
+    ensures value { outcome (λ h. h) result ≡ rule.halves (table_view info.now) }
+    ensures range { IfOk result (λ h. h.0 < 32) }
+{
+    let number = integer_or(info, "halves", 0)?;
+    if number < -31 || number > 31 {
+        return Err(SourceFault::Range { key: "halves" });
+    }
+    if number < 0 {
+        Ok(((-number) as u8, true))
+    } else {
+        Ok((number as u8, false))
+    }
+}
+
+fn status(info: &Table) -> Result<[u8; 20], SourceFault>
+    ensures value { outcome (λ t. t) result ≡ rule.text (table_view info.now) }
+    ensures codes { IfOk result (λ t. (c : ℕ) → slice_index t c < 128) }
+{
+    characters::<20>(text_or(info, "text", "")?)
+}
+
+// The packet of a table.
+#[tactic(auto, unfolding(crate::specs::Keys::info_of))]
+fn info_of(table: &Table) -> Result<Info, SourceFault>
+    ensures { outcome (λ i. i) result ≡ rule.info_of (table_view table.now) }
+{
+    let designation = designation(table)?;
+    let initial = match initial(table) {
+        Ok(initial) => initial,
+        Err(fault) => return Err(fault),
+    };
+    let network = network(table)?;
+    let (halves, west) = halves(table)?;
+    let mjd = integer(table, "mjd", 0, 99_999)?;
+    let utc = integer(table, "utc", 0, 999_999)?;
+    let text = status(table)?;
+    let info = Info::new(designation, initial, network, halves, west, mjd, utc, text);
+    Ok(info.unwrap())
+}
+
+/// The packet 8/30 of a service; none where the service has no table `info`.
+pub fn info(service: &Table) -> Result<Option<Info>, SourceFault>
+    ensures { outcome (λ i. i) result ≡ rule.info (table_view service.now) }
+{
+    match member(service, "info") {
+        None => Ok(None),
+        Some(value) => match info_of(table_of(value, "info")?) {
+            Ok(info) => Ok(Some(info)),
+            Err(fault) => Err(fault),
+        },
+    }
+}

@@ -1,0 +1,19 @@
+//! Service definitions: the pages and settings of a service, read from TOML.
+#![tactic(auto)]
+
+mod controls;
+pub mod faults;
+mod info_table;
+mod links;
+mod page_table;
+mod reading;
+mod rows;
+pub mod services;
+#[cfg(test)]
+mod tests;
+mod texts;
+mod values;
+
+pub use faults::{SourceError, SourceFault};
+pub use reading::read_service;
+pub use services::Service;

@@ -1,0 +1,83 @@
+//! The keys of a page for its packet X/27/0.
+
+ghost use Rattle.std.specs.Prelude.{◌≡◌, ◌≤◌, length, codes, Ok};
+ghost use Rattle.toml.specs.Data.{no_items};
+ghost use Rattle.toml.specs.View.{table_view, items_view, view};
+ghost use Rattle.ttx_source.specs.Keys as rule;
+ghost use Rattle.ttx_source.specs.Faults.{outcome};
+
+use crate::faults::SourceFault;
+use crate::texts::{byte_pair, link};
+use crate::values::{array_of, flag, member, text_of, text_or};
+use toml::{Table, Value};
+use ttx_links::{Links, Target};
+
+// The link that a value of the array is.
+fn link_of(value: &Value) -> Result<Option<Target>, SourceFault>
+    ensures { outcome (λ l. l) result ≡ rule.link_of (view value.now) }
+{
+    link(text_of(value, "links")?)
+}
+
+// The six links of an array of at most six.
+fn six_of(values: &[Value]) -> Result<[Option<Target>; 6], SourceFault>
+    requires { length values.now ≤ 6 }
+    ensures { outcome (λ l. l) result ≡ rule.six_of (items_view values.now) }
+{
+    let mut six = [None; 6];
+    for (place, value) in values.iter().enumerate() {
+        match link_of(value) {
+            Ok(link) => six[place] = link,
+            Err(fault) => return Err(fault),
+        }
+    }
+    Ok(six)
+}
+
+/// How many values an array has.
+pub fn count(values: &[Value]) -> usize
+    ensures count { result ≡ rule.count (items_view values.now) }
+    ensures length { result ≡ length values.now }
+{
+    values.len()
+}
+
+fn no_links() -> [Option<Target>; 6]
+    ensures { Ok result ≡ rule.six_of no_items }
+{
+    [None; 6]
+}
+
+// The six links of a page.
+fn six_links(page: &Table) -> Result<[Option<Target>; 6], SourceFault>
+    ensures { outcome (λ l. l) result ≡ rule.six_links (table_view page.now) }
+{
+    let Some(value) = member(page, "links") else {
+        return Ok(no_links());
+    };
+    let values = array_of(value, "links")?.as_slice();
+    if count(values) > 6 {
+        return Err(SourceFault::Range { key: "links" });
+    }
+    six_of(values)
+}
+
+fn crc(page: &Table) -> Result<[u8; 2], SourceFault>
+    ensures { outcome (λ b. b) result ≡ rule.crc (table_view page.now) }
+{
+    byte_pair(text_or(page, "crc", "0000")?, "crc")
+}
+
+/// The links of a page, show24 and the bytes of the page CRC.
+#[tactic(auto, unfolding(crate::specs::Keys::links_of))]
+pub fn links(page: &Table) -> Result<Links, SourceFault>
+    ensures { outcome (λ l. l) result ≡ rule.links_of (table_view page.now) }
+{
+    let six = match six_links(page) {
+        Ok(six) => six,
+        Err(fault) => return Err(fault),
+    };
+    let show24 = flag(page, "row24")?;
+    let crc = crc(page)?;
+    Ok(Links::new(six, show24, crc))
+}

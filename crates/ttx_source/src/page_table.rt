@@ -1,0 +1,94 @@
+//! The table of a page.
+
+ghost use Rattle.std.specs.Prelude.{◌≡◌, ◌≢◌, ◌<◌, ℕ, codes, true, false, slice_index, IfOk};
+ghost use Rattle.toml.specs.View.{table_view};
+ghost use Rattle.ttx_header.specs.Ids.{IsId};
+ghost use Rattle.ttx_header.specs.Control.{c11};
+ghost use Rattle.ttx_page.specs.Pages.{IsPage, page_at};
+ghost use Rattle.ttx_page.specs.Views.{page_of};
+ghost use Rattle.ttx_source.specs.Keys as rule;
+ghost use Rattle.ttx_source.specs.Services.{id_of, authored_at, authored_of, has_id};
+ghost use Rattle.ttx_source.specs.Faults.{outcome};
+
+use crate::controls::control;
+use crate::faults::SourceFault;
+use crate::links::links;
+use crate::rows::rows;
+use crate::services::Service;
+use crate::texts::{characters, page_number, subcode};
+use crate::values::{integer_or, text, text_or};
+use toml::Table;
+use ttx_header::{Control, PageId};
+use ttx_links::Links;
+use ttx_page::Page;
+
+// The id of a page, which no earlier page has.
+#[tactic(auto, unfolding(crate::specs::Services::id_of))]
+fn id(page: &Table, service: &Service) -> Result<PageId, SourceFault>
+    ensures value { outcome (λ id. id) result ≡ id_of service.now.pages (table_view page.now) }
+    ensures new { IfOk result (λ id. has_id service.now.pages id ≡ false) }
+    ensures ranges { IfOk result (λ id. IsId id × (id.page ≢ 255) × (id.sub ≢ 16255)) }
+{
+    let (mag, number) = page_number(text(page, "number")?)?;
+    let sub = subcode(text_or(page, "sub", "0000")?)?;
+    let id = PageId::new(mag, number, sub).unwrap();
+    if service.contains(id) {
+        return Err(SourceFault::Duplicate);
+    }
+    Ok(id)
+}
+
+// How often a page is sent.
+fn often(page: &Table) -> Result<u8, SourceFault>
+    ensures value { outcome (λ n. n) result ≡ rule.often (table_view page.now) }
+    ensures range { IfOk result (λ n. rule.is_often n ≡ true) }
+{
+    let number = integer_or(page, "often", 1)?;
+    if number == 1 || number == 2 || number == 4 || number == 8 {
+        Ok(number as u8)
+    } else {
+        Err(SourceFault::Often)
+    }
+}
+
+fn head(page: &Table) -> Result<[u8; 24], SourceFault>
+    ensures value { outcome (λ t. t) result ≡ rule.head (table_view page.now) }
+    ensures codes { IfOk result (λ t. (c : ℕ) → slice_index t c < 128) }
+{
+    characters::<24>(text_or(page, "head", "")?)
+}
+
+fn page_with(
+    id: PageId,
+    control: Control,
+    head: [u8; 24],
+    rows: [[u8; 40]; 24],
+    links: Links,
+) -> Page
+    requires { IsPage (page_at id control.0 head rows links.set links.crc) }
+    ensures { page_of result ≡ page_at id control.0 head rows links.set links.crc }
+{
+    Page::new(id, control, head, rows, links).unwrap()
+}
+
+/// The page that a table is, after the pages of the service, and how often it is sent.
+#[tactic(auto, unfolding(crate::specs::Services::authored_of))]
+pub fn page(table: &Table, service: &Service) -> Result<(Page, u8), SourceFault>
+    ensures value { outcome (λ p. authored_at (page_of p.0) p.1) result ≡ authored_of service.now.serial service.now.pages (table_view table.now) }
+    ensures new { IfOk result (λ p. has_id service.now.pages (page_of p.0).id ≡ false) }
+    ensures c11 { IfOk result (λ p. c11 (page_of p.0).control ≡ service.now.serial) }
+    ensures often { IfOk result (λ p. rule.is_often p.1 ≡ true) }
+{
+    let id = match id(table, service) {
+        Ok(id) => id,
+        Err(fault) => return Err(fault),
+    };
+    let often = often(table)?;
+    let control = control(table, service.serial())?;
+    let head = head(table)?;
+    let rows = rows(table)?;
+    match links(table) {
+        Ok(links) => Ok((page_with(id, control, head, rows, links), often)),
+        Err(fault) => Err(fault),
+    }
+}

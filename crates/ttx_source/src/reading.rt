@@ -1,0 +1,146 @@
+//! Reads a service definition.
+
+ghost use Rattle.std.specs.Prelude.{◌≡◌, ◌≤◌, ◌+◌, [], length, codes, true, false, is_some, IfOk};
+ghost use Rattle.std.specs.List.{list_all};
+ghost use Rattle.toml.specs.Data.{as_table};
+ghost use Rattle.toml.specs.View.{table_view, items_view, view};
+ghost use Rattle.ttx_header.specs.Control.{c11};
+ghost use Rattle.ttx_page.specs.Views.{page_of};
+ghost use Rattle.ttx_source.specs.Keys.{is_often};
+ghost use Rattle.ttx_source.specs.Services.{authored_at, has_id};
+ghost use Rattle.ttx_source.specs.Services as rule;
+ghost use Rattle.ttx_source.specs.Faults.{outcome, placed, IsUnlessMemory};
+
+use crate::faults::{SourceError, SourceFault};
+use crate::info_table::info;
+use crate::links::count;
+use crate::page_table::page;
+use crate::services::Service;
+use crate::values::{array_of, boolean, integer, member, table_of};
+use std::alloc::Global;
+use toml::{Table, Value};
+use ttx_page::Page;
+
+const NO_MEMORY: SourceError = SourceError {
+    fault: SourceFault::NoMemory,
+    page: 0,
+};
+
+// The service of a table without its pages.
+#[tactic(auto, unfolding(crate::specs::Services::settings_of))]
+fn settings(alloc: Global, table: &Table) -> Result<Service, SourceFault>
+    ensures value { outcome (λ s. s) result ≡ rule.settings_of (table_view table.now) }
+    ensures none { IfOk result (λ s. s.pages ≡ []) }
+{
+    let lines = integer(table, "lines", 1, 32)?;
+    let serial = boolean(table, "serial")?;
+    match info(table) {
+        Ok(info) => Ok(Service::new(alloc, lines as u8, serial, info)),
+        Err(fault) => Err(fault),
+    }
+}
+
+fn each_is_table(values: &[Value]) -> bool
+    ensures { result ≡ list_all (λ v. is_some (as_table (view v))) values.now }
+{
+    values.iter().all(|value| value.is_table())
+}
+
+fn are_tables(values: &[Value]) -> bool
+    ensures { result ≡ rule.are_tables (items_view values.now) }
+{
+    each_is_table(values)
+}
+
+// The tables of the pages.
+fn page_tables<'a>(table: &'a Table) -> Result<&'a [Value], SourceFault>
+    ensures value { outcome (λ v. items_view v.now) result ≡ rule.page_tables (table_view table.now) }
+    ensures most { IfOk result (λ v. length v.now ≤ 2000) }
+{
+    let Some(value) = member(table, "page") else {
+        return Ok(&[]);
+    };
+    let values = array_of(value, "page")?.as_slice();
+    if count(values) > 2000 {
+        return Err(SourceFault::Range { key: "page" });
+    }
+    if !are_tables(values) {
+        return Err(SourceFault::Kind { key: "page" });
+    }
+    Ok(values)
+}
+
+// The page of a value, after the pages of the service; `number` counts it from 1.
+fn next_page(value: &Value, number: usize, service: &Service) -> Result<(Page, u8), SourceError>
+    requires { number ≡ length service.now.pages + 1 }
+    ensures value { placed (λ p. authored_at (page_of p.0) p.1) result ≡ rule.next_page service.now (view value.now) }
+    ensures new { IfOk result (λ p. has_id service.now.pages (page_of p.0).id ≡ false) }
+    ensures c11 { IfOk result (λ p. c11 (page_of p.0).control ≡ service.now.serial) }
+    ensures often { IfOk result (λ p. is_often p.1 ≡ true) }
+{
+    let table = match table_of(value, "page") {
+        Ok(table) => table,
+        Err(fault) => return Err(SourceError { fault, page: 0 }),
+    };
+    match page(table, service) {
+        Ok(page) => Ok(page),
+        Err(fault) => Err(SourceError {
+            fault,
+            page: number,
+        }),
+    }
+}
+
+// The service with the pages of some values.
+fn with_pages(mut service: Service, values: &[Value]) -> Result<Service, SourceError>
+    requires none { service.pages ≡ [] }
+    requires most { length values.now ≤ 2000 }
+    ensures { IsUnlessMemory result (placed (λ s. s) result ≡ rule.after service (items_view values.now)) }
+{
+    for (index, value) in values.iter().enumerate() {
+        let (page, often) = match next_page(value, index + 1, &service) {
+            Ok(page) => page,
+            Err(error) => return Err(error),
+        };
+        match service.add(page, often) {
+            Ok(()) => {}
+            Err(_) => return Err(NO_MEMORY),
+        }
+    }
+    Ok(service)
+}
+
+// The service that a table is, or its first fault.
+#[tactic(auto, unfolding(crate::specs::Services::service_of))]
+fn service_of(alloc: Global, table: &Table) -> Result<Service, SourceError>
+    ensures { IsUnlessMemory result (placed (λ s. s) result ≡ rule.service_of (table_view table.now)) }
+{
+    let service = match settings(alloc, table) {
+        Ok(service) => service,
+        Err(fault) => return Err(SourceError { fault, page: 0 }),
+    };
+    match page_tables(table) {
+        Ok(values) => with_pages(service, values),
+        Err(fault) => Err(SourceError { fault, page: 0 }),
+    }
+}
+
+/// The service that a TOML text says. Lines, serial and `info` are looked at before the pages, and the pages in their order.
+pub fn read_service(alloc: Global, bytes: &[u8]) -> Result<Service, SourceError>
+    ensures { IsUnlessMemory result (placed (λ s. s) result ≡ rule.read_bytes bytes.now) }
+{
+    let Ok(text) = std::str::from_utf8(bytes) else {
+        return Err(SourceError {
+            fault: SourceFault::NotToml,
+            page: 0,
+        });
+    };
+    match toml::table_from_str(alloc, text) {
+        Ok(table) => service_of(alloc, &table),
+        Err(error) if error.is_memory() => Err(NO_MEMORY),
+        Err(_) => Err(SourceError {
+            fault: SourceFault::NotToml,
+            page: 0,
+        }),
+    }
+}

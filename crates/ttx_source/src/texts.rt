@@ -1,0 +1,183 @@
+//! Texts of characters, and of hexadecimal digits.
+
+ghost use Rattle.std.specs.Prelude.{◌≡◌, ◌≢◌, ◌≤◌, ◌<◌, ◌+◌, ◌-◌, ◌++◌, length, replicate, nat_lt, slice_index, ℕ, IfSome, IfOk};
+ghost use Rattle.std.specs.List.{list_all};
+ghost use Rattle.std.specs.Str.{chars};
+ghost use Rattle.ttx_header.specs.Ids.{IsSubcode};
+ghost use Rattle.ttx_source.specs.Values as rule;
+ghost use Rattle.ttx_source.specs.Faults.{outcome};
+
+use crate::faults::SourceFault;
+use ttx_links::Target;
+
+/// The subcode that in a link stands for any subpage.
+pub const ANY_SUBCODE: u16 = 0x3F7F;
+
+// How many characters a text has.
+fn char_count(text: &str) -> usize
+    ensures { result ≡ length (chars text.now) }
+{
+    text.chars().count()
+}
+
+// Whether each byte is a code below 128.
+fn is_plain(text: &str) -> bool
+    ensures { result ≡ list_all (λ b. nat_lt b 128) text.now }
+{
+    text.as_bytes().iter().all(|b| *b < 128)
+}
+
+// The bytes, with spaces at the end.
+fn padded<const N: usize>(bytes: &[u8]) -> [u8; N]
+    requires { length bytes.now ≤ N }
+    ensures { result ≡ bytes.now ++ replicate (N - length bytes.now) 32 }
+{
+    let mut codes = [b' '; N];
+    codes[..bytes.len()].copy_from_slice(bytes);
+    codes
+}
+
+/// The codes of a text of at most `N` characters, with spaces at the end.
+pub fn characters<const N: usize>(text: &str) -> Result<[u8; N], SourceFault>
+    ensures value { outcome (λ r. r) result ≡ rule.characters N text.now }
+    ensures codes { IfOk result (λ row. (c : ℕ) → slice_index row c < 128) }
+{
+    if char_count(text) > N {
+        return Err(SourceFault::RowTooLong);
+    }
+    if !is_plain(text) {
+        return Err(SourceFault::Character);
+    }
+    Ok(padded::<N>(text.as_bytes()))
+}
+
+// The value of a digit, 0 to 9 and A to F.
+#[tactic(auto, unfolding(crate::specs::Values::digit))]
+fn digit(code: u8) -> Option<u8>
+    ensures value { result ≡ rule.digit code }
+    ensures small { IfSome result (λ n. n < 16) }
+{
+    match code {
+        b'0'..=b'9' => Some(code - b'0'),
+        b'A'..=b'F' => Some(code - b'A' + 10),
+        _ => None,
+    }
+}
+
+// The number of the two digits from a place on.
+#[tactic(auto, unfolding(crate::specs::Values::two_digits))]
+fn two_digits(text: &[u8], at: usize) -> Option<u8>
+    requires { at + 2 ≤ length text.now }
+    ensures { result ≡ rule.two_digits text.now at }
+{
+    let high = digit(text[at])?;
+    let low = digit(text[at + 1])?;
+    Some(16 * high + low)
+}
+
+// The number of the four digits from a place on.
+#[tactic(auto, unfolding(crate::specs::Values::four_digits))]
+fn four_digits(text: &[u8], at: usize) -> Option<u16>
+    requires { at + 4 ≤ length text.now }
+    ensures { result ≡ rule.four_digits text.now at }
+{
+    let high = two_digits(text, at)?;
+    let low = two_digits(text, at + 2)?;
+    Some(256 * high as u16 + low as u16)
+}
+
+// The magazine and the page number in the first three characters.
+#[tactic(auto, unfolding(crate::specs::Values::first_number))]
+fn first_number(text: &[u8]) -> Option<(u8, u8)>
+    requires { 3 ≤ length text.now }
+    ensures value { result ≡ rule.first_number text.now }
+    ensures ranges { IfSome result (λ n. (1 ≤ n.0) × (n.0 ≤ 8) × (n.1 ≢ 255)) }
+{
+    let page = two_digits(text, 1)?;
+    if text[0] < b'1' || text[0] > b'8' || page == 0xFF {
+        return None;
+    }
+    Some((text[0] - b'0', page))
+}
+
+/// The magazine and the page number that `MPP` names.
+#[tactic(auto, unfolding(crate::specs::Values::page_number))]
+pub fn page_number(text: &str) -> Result<(u8, u8), SourceFault>
+    ensures value { outcome (λ n. n) result ≡ rule.page_number text.now }
+    ensures ranges { IfOk result (λ n. (1 ≤ n.0) × (n.0 ≤ 8) × (n.1 ≢ 255)) }
+{
+    let text = text.as_bytes();
+    if text.len() != 3 {
+        return Err(SourceFault::PageNumber);
+    }
+    match first_number(text) {
+        None => Err(SourceFault::PageNumber),
+        Some(number) => Ok(number),
+    }
+}
+
+// Whether a number is inside 3F7F.
+fn is_inside_mask(sub: u16) -> bool
+    ensures { result ≡ rule.is_inside_mask sub }
+{
+    sub < 0x4000 && sub / 128 % 2 == 0
+}
+
+/// The subcode of a page, as four digits.
+#[tactic(auto, unfolding(crate::specs::Values::subcode))]
+pub fn subcode(text: &str) -> Result<u16, SourceFault>
+    ensures value { outcome (λ n. n) result ≡ rule.subcode text.now }
+    ensures ranges { IfOk result (λ sub. IsSubcode sub × (sub ≢ 16255)) }
+{
+    let text = text.as_bytes();
+    if text.len() != 4 {
+        return Err(SourceFault::Subcode);
+    }
+    match four_digits(text, 0) {
+        Some(sub) if is_inside_mask(sub) && sub != ANY_SUBCODE => Ok(sub),
+        _ => Err(SourceFault::Subcode),
+    }
+}
+
+/// Two bytes, as four digits.
+#[tactic(auto, unfolding(crate::specs::Values::byte_pair))]
+pub fn byte_pair(text: &str, key: &'static str) -> Result<[u8; 2], SourceFault>
+    ensures { outcome (λ b. b) result ≡ rule.byte_pair key.now text.now }
+{
+    let text = text.as_bytes();
+    if text.len() != 4 {
+        return Err(SourceFault::Range { key });
+    }
+    match (two_digits(text, 0), two_digits(text, 2)) {
+        (Some(high), Some(low)) => Ok([high, low]),
+        _ => Err(SourceFault::Range { key }),
+    }
+}
+
+// The target of a link, if both parts of its text are numbers.
+fn target(number: Option<(u8, u8)>, sub: Option<u16>) -> Result<Option<Target>, SourceFault>
+    requires { IfSome number (λ n. (1 ≤ n.0) × (n.0 ≤ 8) × (n.1 ≢ 255)) }
+    ensures { outcome (λ l. l) result ≡ rule.linked number sub }
+{
+    let (Some((mag, page)), Some(sub)) = (number, sub) else {
+        return Err(SourceFault::PageNumber);
+    };
+    match Target::new(mag, page, sub) {
+        None => Err(SourceFault::Subcode),
+        Some(target) => Ok(Some(target)),
+    }
+}
+
+/// A link: none in an empty text, else `MPP` for any subpage or `MPP/SSSS`.
+#[tactic(auto, unfolding(crate::specs::Values::link))]
+pub fn link(text: &str) -> Result<Option<Target>, SourceFault>
+    ensures { outcome (λ l. l) result ≡ rule.link text.now }
+{
+    let text = text.as_bytes();
+    match text.len() {
+        0 => Ok(None),
+        3 => target(first_number(text), Some(ANY_SUBCODE)),
+        8 if text[3] == b'/' => target(first_number(text), four_digits(text, 4)),
+        _ => Err(SourceFault::PageNumber),
+    }
+}
