@@ -1,0 +1,191 @@
+-- The queues hold what the bound on the length counts, and the slots of a serial cycle are within it.
+use Rattle.std.proofs.Common.{◌≡◌, ℕ, zero, suc, ◌+◌, ◌*◌, ◌<◌, ◌≤◌, Bool, true, false, cond, List, [], ◌∷◌, ◌++◌, map, length, replicate, Option, refl, sym, ap, ◌∙◌, subst, arith, inl, inr, eqb, length-append, get_or}
+use Rattle.std.specs.Prelude.{flat_map, sum_by, filter}
+use Rattle.std.proofs.lemmas.List.{map-append, length-map, length-replicate}
+use Rattle.std.proofs.lemmas.List.Sums.{sum_by-cons}
+use Rattle.std.proofs.lemmas.Bool.{cond-true, cond-false, cond_both, cases_eq, eq-eqb, ne_eqb, or_left}
+use Rattle.ttx_plan.specs.declared.packet.Packet.{Packet}
+use Rattle.ttx_plan.specs.declared.packet.Slot.{Slot}
+use Rattle.ttx_plan.specs.declared.packet.Slot.TheVariants.{Empty, Sent}
+use Rattle.ttx_plan.specs.declared.block.PageBlock.{PageBlock}
+use Rattle.ttx_plan.specs.Blocks.{Block, rest_packet, packets_of, round_of, rounds_to, sent_blocks, has_pages, used_to, used_queues, time_filling_packet, queue_packets, queues_to, packets_in}
+use Rattle.ttx_plan.specs.Counting.{sum_to, slots_for}
+use Rattle.ttx_plan.specs.Packets.{bytes_of}
+use Rattle.ttx_plan.specs.Seen.{seen}
+use Rattle.ttx_plan.specs.Serial.{serial_block, serial_list, with_info, IsLaid, filled}
+use Rattle.ttx_plan.specs.Turns.{missing}
+use Rattle.ttx_plan.proofs.Sums.{sum_same, sum_less}
+use Rattle.ttx_plan.proofs.Laid.{laid_length, laid_least}
+
+-- ---- each block belongs to one of the eight queues
+
+abbrev pub AreQueued : List Block → Type 0
+AreQueued [] = Unit {0}
+AreQueued (b ∷ blocks) = (b.queue < 8) × AreQueued blocks
+
+pub queued_seen : (blocks : List PageBlock) → AreQueued (map seen blocks)
+queued_seen [] = tt
+queued_seen (b ∷ blocks) = (b.queue_to, queued_seen blocks)
+
+queued_append : (xs ys : List Block) → AreQueued xs → AreQueued ys → AreQueued (xs ++ ys)
+queued_append [] ys a b = b
+queued_append (x ∷ xs) ys a b = (a.0, queued_append xs ys a.1 b)
+
+queued_filter : (p : Block → Bool) (xs : List Block) → AreQueued xs → AreQueued (filter p xs)
+queued_filter p [] a = tt
+queued_filter p (x ∷ xs) a = cond_both (p x) (x ∷ filter p xs) (filter p xs) AreQueued (λ _. (a.0, queued_filter p xs a.1)) (λ _. queued_filter p xs a.1)
+
+queued_rounds : (blocks : List Block) (n : ℕ) → AreQueued blocks → AreQueued (rounds_to blocks n)
+queued_rounds blocks zero a = tt
+queued_rounds blocks (suc n) a = queued_append (rounds_to blocks n) (round_of blocks n) (queued_rounds blocks n a) (queued_filter _ blocks a)
+
+-- ---- what the queues hold
+
+slots_for-append : (lines : ℕ) (xs ys : List Packet) → slots_for lines (xs ++ ys) ≡ slots_for lines xs + slots_for lines ys
+slots_for-append lines [] ys = omega arith
+slots_for-append lines (x ∷ xs) ys = let h : slots_for lines (xs ++ ys) ≡ slots_for lines xs + slots_for lines ys = slots_for-append lines xs ys in omega arith
+
+slots_for-rest : (lines : ℕ) (xs : List (List ℕ)) → slots_for lines (map rest_packet xs) ≡ length xs
+slots_for-rest lines [] = refl
+slots_for-rest lines (x ∷ xs) = let h : slots_for lines (map rest_packet xs) ≡ length xs = slots_for-rest lines xs in omega arith
+
+sum_add : (f g : ℕ → ℕ) (n : ℕ) → sum_to n (λ m. f m + g m) ≡ sum_to n f + sum_to n g
+sum_add f g zero = refl
+sum_add f g (suc n) = let h : sum_to n (λ m. f m + g m) ≡ sum_to n f + sum_to n g = sum_add f g n in omega arith
+
+sum_zero : (n : ℕ) → sum_to n (λ m. 0) ≡ 0
+sum_zero zero = refl
+sum_zero (suc n) = let h : sum_to n (λ m. 0) ≡ 0 = sum_zero n in omega arith
+
+sum_at : (f : ℕ → ℕ) (n m : ℕ) → m < n → f m ≤ sum_to n f
+sum_at f zero m lt = absurd (omega arith)
+sum_at f (suc n) m lt = elim (cases_eq m n) as (λ _. f m ≤ sum_to n f + f n) [
+  | inl e ↦ let h : f m ≡ f n = ap f e in omega arith
+  | inr ne ↦ let k : m < n = strict ne in let h : f m ≤ sum_to n f = sum_at f n m k in omega arith
+]
+  where
+    strict : (m ≡ n → ⊥) → m < n
+    strict ne = grind arith
+
+-- a block's packets in this queue
+abbrev pub in_queue : ℕ → Block → List Packet
+in_queue queue block = cond (eqb block.queue queue) (packets_of block) []
+
+blocks_slots : (lines : ℕ) (blocks : List Block) → AreQueued blocks → sum_to 8 (λ m. slots_for lines (flat_map (in_queue m) blocks)) ≡ sum_by (λ b. length b.rest + 1) blocks + length blocks * lines
+blocks_slots lines [] a = sum_zero 8 ∙ omega arith
+blocks_slots lines (block ∷ blocks) a =
+    let h : sum_to 8 (λ m. slots_for lines (flat_map (in_queue m) blocks)) ≡ sum_by (λ b. length b.rest + 1) blocks + length blocks * lines = blocks_slots lines blocks a.1 in
+    let k : sum_to 8 (λ m. slots_for lines (in_queue m block ++ flat_map (in_queue m) blocks)) ≡ (suc lines + length block.rest) + sum_to 8 (λ m. slots_for lines (flat_map (in_queue m) blocks)) =
+    sum_less (λ m. slots_for lines (in_queue m block ++ flat_map (in_queue m) blocks)) (λ m. slots_for lines (flat_map (in_queue m) blocks)) (suc lines + length block.rest) 8 block.queue a.0
+    (slots_for-append lines (in_queue block.queue block) (flat_map (in_queue block.queue) blocks) ∙ ap (λ n. n + slots_for lines (flat_map (in_queue block.queue) blocks)) (own block))
+    (λ m ne. ap (λ x. slots_for lines (x ++ flat_map (in_queue m) blocks)) (cond-false (eqb block.queue m) (packets_of block) [] (ne_eqb block.queue m (λ e. ne (sym e))))) in
+    let z : suc (length blocks) * lines ≡ lines + length blocks * lines = omega arith in
+    k ∙ omega (arith, h, z, sum_by-cons (λ (b : Block). length b.rest + 1) block blocks)
+  where
+    own : (b : Block) → slots_for lines (in_queue b.queue b) ≡ suc lines + length b.rest
+    own b = ap (slots_for lines) (cond-true (eqb b.queue b.queue) (packets_of b) [] (eq-eqb b.queue b.queue refl)) ∙ ap (λ n. suc lines + n) (slots_for-rest lines b.rest)
+
+fillings_slots : (lines : ℕ) (blocks : List Block) (n : ℕ) → sum_to n (λ m. slots_for lines (cond (has_pages blocks m) (time_filling_packet false m ∷ []) [])) ≡ length (used_to blocks n)
+fillings_slots lines blocks zero = refl
+fillings_slots lines blocks (suc n) =
+    let h : sum_to n (λ m. slots_for lines (cond (has_pages blocks m) (time_filling_packet false m ∷ []) [])) ≡ length (used_to blocks n) = fillings_slots lines blocks n in
+    let k : slots_for lines (cond (has_pages blocks n) (time_filling_packet false n ∷ []) []) ≡ length (cond (has_pages blocks n) (n ∷ []) []) = one (has_pages blocks n) in
+    omega (arith, length-append (used_to blocks n) (cond (has_pages blocks n) (n ∷ []) []))
+  where
+    one : (b : Bool) → slots_for lines (cond b (time_filling_packet false n ∷ []) []) ≡ length (cond b (n ∷ []) [])
+    one true = refl
+    one false = refl
+
+pub queues_slots : (lines : ℕ) (blocks : List Block) → AreQueued blocks → sum_to 8 (λ m. slots_for lines (queue_packets blocks m)) ≡ packets_in blocks + length (sent_blocks blocks) * lines + length (used_queues blocks)
+queues_slots lines blocks a =
+    sum_same (λ m. slots_for lines (queue_packets blocks m)) (λ m. slots_for lines (flat_map (in_queue m) (sent_blocks blocks)) + slots_for lines (cond (has_pages blocks m) (time_filling_packet false m ∷ []) [])) 8
+    (λ m lt. slots_for-append lines (flat_map (in_queue m) (sent_blocks blocks)) (cond (has_pages blocks m) (time_filling_packet false m ∷ []) []))
+    ∙ sum_add (λ m. slots_for lines (flat_map (in_queue m) (sent_blocks blocks))) (λ m. slots_for lines (cond (has_pages blocks m) (time_filling_packet false m ∷ []) [])) 8
+    ∙ ap (λ n. n + sum_to 8 (λ m. slots_for lines (cond (has_pages blocks m) (time_filling_packet false m ∷ []) []))) (blocks_slots lines (sent_blocks blocks) (queued_rounds blocks 8 a))
+    ∙ ap (λ n. sum_by (λ b. length b.rest + 1) (sent_blocks blocks) + length (sent_blocks blocks) * lines + n) (fillings_slots lines blocks 8)
+
+pub queues_some : (blocks : List Block) → AreQueued blocks → 0 < length blocks → 0 < sum_to 8 (λ m. length (queue_packets blocks m))
+queues_some [] a h = absurd (omega arith)
+queues_some (block ∷ blocks) a h =
+    let own : has_pages (block ∷ blocks) block.queue ≡ true = or_left (eqb block.queue block.queue) (has_pages blocks block.queue) (eq-eqb block.queue block.queue refl) in
+    let one : length (cond (has_pages (block ∷ blocks) block.queue) (time_filling_packet false block.queue ∷ []) []) ≡ 1 = ap length (cond-true (has_pages (block ∷ blocks) block.queue) (time_filling_packet false block.queue ∷ []) [] own) in
+    let most : length (queue_packets (block ∷ blocks) block.queue) ≤ sum_to 8 (λ m. length (queue_packets (block ∷ blocks) m)) = sum_at (λ m. length (queue_packets (block ∷ blocks) m)) 8 block.queue a.0 in
+    let size = length-append (flat_map (in_queue block.queue) (sent_blocks (block ∷ blocks))) (cond (has_pages (block ∷ blocks) block.queue) (time_filling_packet false block.queue ∷ []) []) in
+    omega (arith, one, most, size)
+
+-- the same over queues as lists
+pub over_queues : (f : List Packet → ℕ) (blocks : List Block) (lists : List (List Packet)) → lists ≡ queues_to blocks 8 → sum_to 8 (λ m. f (get_or lists m [])) ≡ sum_to 8 (λ m. f (queue_packets blocks m))
+over_queues f blocks lists e = subst (λ x. sum_to 8 (λ m. f (get_or x m [])) ≡ sum_to 8 (λ m. f (queue_packets blocks m))) (sym e) refl
+
+-- ---- serial transmission
+
+empties : (n : ℕ) → map bytes_of (replicate n Empty) ≡ replicate n (replicate 42 0)
+empties zero = refl
+empties (suc n) = ap (λ x. replicate 42 0 ∷ x) (empties n)
+
+-- laid slots, filled
+pub serial_filled : (lines : ℕ) (info : Option (List ℕ)) (list : List Slot) (slots new : List (List ℕ)) → IsLaid lines info list slots → new ≡ slots ++ replicate (missing lines (length slots)) (replicate 42 0) →
+    new ≡ map bytes_of (filled lines (with_info lines info 0 list))
+serial_filled lines info list slots new l e =
+    let n : length slots ≡ length (with_info lines info 0 list) = ap length l.slots_are ∙ length-map (with_info lines info 0 list) bytes_of in
+    e ∙ ap (λ x. x ++ replicate (missing lines (length slots)) (replicate 42 0)) l.slots_are
+    ∙ ap (λ k. map bytes_of (with_info lines info 0 list) ++ replicate (missing lines k) (replicate 42 0)) n
+    ∙ ap (λ x. map bytes_of (with_info lines info 0 list) ++ x) (sym (empties (missing lines (length (with_info lines info 0 list)))))
+    ∙ sym (map-append bytes_of (with_info lines info 0 list) (replicate (missing lines (length (with_info lines info 0 list))) Empty))
+
+block_length : (lines : ℕ) (block : Block) → length (serial_block lines block) ≡ suc lines + length block.rest
+block_length lines block =
+    omega (arith, length-append (replicate lines Empty) (map (λ bytes. Sent block.queue (rest_packet bytes)) block.rest), length-replicate lines Empty, length-map block.rest (λ bytes. Sent block.queue (rest_packet bytes)))
+
+blocks_length : (lines : ℕ) (blocks : List Block) → length (flat_map (serial_block lines) blocks) ≡ sum_by (λ b. length b.rest + 1) blocks + length blocks * lines
+blocks_length lines [] = omega arith
+blocks_length lines (block ∷ blocks) =
+    let h : length (flat_map (serial_block lines) blocks) ≡ sum_by (λ b. length b.rest + 1) blocks + length blocks * lines = blocks_length lines blocks in
+    let z : suc (length blocks) * lines ≡ lines + length blocks * lines = omega arith in
+    omega (arith, h, z, sum_by-cons (λ (b : Block). length b.rest + 1) block blocks, block_length lines block, length-append (serial_block lines block) (flat_map (serial_block lines) blocks))
+
+serial_length : (lines : ℕ) (blocks : List Block) → length (serial_list lines blocks) ≡ packets_in blocks + length (sent_blocks blocks) * lines + length (used_queues blocks)
+serial_length lines blocks =
+    omega (arith, length-append (flat_map (serial_block lines) (sent_blocks blocks)) (map (λ queue. Sent queue (time_filling_packet true queue)) (used_queues blocks)), blocks_length lines (sent_blocks blocks), length-map (used_queues blocks) (λ queue. Sent queue (time_filling_packet true queue)))
+
+pub filled_most : (lines : ℕ) (info : Option (List ℕ)) (blocks : List Block) (slots new : List (List ℕ)) → 1 ≤ lines → IsLaid lines info (serial_list lines blocks) slots →
+    new ≡ slots ++ replicate (missing lines (length slots)) (replicate 42 0) →
+    2 * (packets_in blocks + length (sent_blocks blocks) * lines + length (used_queues blocks)) + 2 * lines ≤ 65536 → length new ≤ 65536
+filled_most lines info blocks slots new some l e few =
+    let size : length new ≡ length slots + missing lines (length slots) = ap length e ∙ length-append slots (replicate (missing lines (length slots)) (replicate 42 0)) ∙ ap (λ n. length slots + n) (length-replicate (missing lines (length slots)) (replicate 42 0)) in
+    let rest : missing lines (length slots) ≤ lines = omega arith in
+    let q : length (serial_list lines blocks) ≡ packets_in blocks + length (sent_blocks blocks) * lines + length (used_queues blocks) = serial_length lines blocks in
+    let two : length slots ≤ 2 * length (serial_list lines blocks) = laid_length lines info (serial_list lines blocks) slots l in
+    bound (length new) (length slots) (missing lines (length slots)) (length (serial_list lines blocks)) lines size rest two (subst (λ n. 2 * n + 2 * lines ≤ 65536) (sym q) few)
+  where
+    bound : (n s m l lines : ℕ) → n ≡ s + m → m ≤ lines → s ≤ 2 * l → 2 * l + 2 * lines ≤ 65536 → n ≤ 65536
+    bound n s m l lines a b c d = omega arith
+
+-- ---- a cycle has a slot
+
+used_some : (blocks : List Block) (n queue : ℕ) → queue < n → has_pages blocks queue ≡ true → 0 < length (used_to blocks n)
+used_some blocks zero queue lt e = absurd (omega arith)
+used_some blocks (suc n) queue lt e = elim (cases_eq queue n) as (λ _. 0 < length (used_to blocks n ++ cond (has_pages blocks n) (n ∷ []) [])) [
+  | inl q ↦
+      let here : has_pages blocks n ≡ true = ap (has_pages blocks) (sym q) ∙ e in
+      let one : length (cond (has_pages blocks n) (n ∷ []) []) ≡ 1 = ap length (cond-true (has_pages blocks n) (n ∷ []) [] here) in
+      omega (arith, one, length-append (used_to blocks n) (cond (has_pages blocks n) (n ∷ []) []))
+  | inr q ↦
+      let h : 0 < length (used_to blocks n) = used_some blocks n queue (strict q) e in
+      omega (arith, h, length-append (used_to blocks n) (cond (has_pages blocks n) (n ∷ []) []))
+]
+  where
+    strict : (queue ≡ n → ⊥) → queue < n
+    strict ne = grind arith
+
+serial_some : (lines : ℕ) (blocks : List Block) → AreQueued blocks → 0 < length blocks → 0 < length (serial_list lines blocks)
+serial_some lines [] a h = absurd (omega arith)
+serial_some lines (block ∷ blocks) a h =
+    let own : has_pages (block ∷ blocks) block.queue ≡ true = or_left (eqb block.queue block.queue) (has_pages blocks block.queue) (eq-eqb block.queue block.queue refl) in
+    let used : 0 < length (used_queues (block ∷ blocks)) = used_some (block ∷ blocks) 8 block.queue a.0 own in
+    omega (arith, used, serial_length lines (block ∷ blocks))
+
+pub filled_some : (lines : ℕ) (info : Option (List ℕ)) (blocks : List Block) (slots new : List (List ℕ)) → AreQueued blocks → 0 < length blocks → IsLaid lines info (serial_list lines blocks) slots →
+    new ≡ slots ++ replicate (missing lines (length slots)) (replicate 42 0) → 0 < length new
+filled_some lines info blocks slots new a some l e =
+    omega (arith, serial_some lines blocks a some, laid_least lines info (serial_list lines blocks) slots l, ap length e, length-append slots (replicate (missing lines (length slots)) (replicate 42 0)))

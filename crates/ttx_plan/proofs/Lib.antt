@@ -1,0 +1,11 @@
+pub mod Bound
+pub mod Laid
+pub mod Lengths
+pub mod Orders
+pub mod State
+pub mod Listed
+pub mod Often
+pub mod Sums
+pub mod Tracking
+pub mod Used
+pub mod Waiting

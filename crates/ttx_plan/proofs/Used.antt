@@ -1,0 +1,26 @@
+-- The queues that have pages.
+use Rattle.std.proofs.Common.{◌≡◌, ℕ, ◌+◌, Bool, true, false, cond, List, [], ◌∷◌, ◌++◌, ◌||◌, map, refl, sym, ap, ◌∙◌, append_assoc, add-one, eqb}
+use Rattle.std.specs.List.{list_any}
+use Rattle.std.proofs.lemmas.List.{map-append}
+use Rattle.ttx_plan.specs.declared.packet.Slot.{Slot}
+use Rattle.ttx_plan.specs.declared.packet.Slot.TheVariants.{Sent}
+use Rattle.ttx_plan.specs.declared.block.PageBlock.{PageBlock}
+use Rattle.ttx_plan.specs.Blocks.{Block, has_pages, used_to, time_filling_packet}
+use Rattle.ttx_plan.specs.Seen.{seen}
+
+pub any_seen : (queue : ℕ) (blocks : List PageBlock) → list_any (λ b. eqb b.queue queue) blocks ≡ has_pages (map seen blocks) queue
+any_seen queue [] = refl
+any_seen queue (b ∷ blocks) = ap (λ x. eqb b.queue queue || x) (any_seen queue blocks)
+
+pub used_more : (front : List Slot) (blocks : List Block) (queue : ℕ) (b : Bool) → has_pages blocks queue ≡ b →
+    (front ++ map (λ n. Sent n (time_filling_packet true n)) (used_to blocks queue)) ++ cond b (Sent queue (time_filling_packet true queue) ∷ []) [] ≡ front ++ map (λ n. Sent n (time_filling_packet true n)) (used_to blocks (queue + 1))
+used_more front blocks queue b e =
+    append_assoc front (map (λ n. Sent n (time_filling_packet true n)) (used_to blocks queue)) (cond b (Sent queue (time_filling_packet true queue) ∷ []) [])
+    ∙ ap (λ x. front ++ (map (λ n. Sent n (time_filling_packet true n)) (used_to blocks queue) ++ x)) (one b)
+    ∙ ap (λ x. front ++ x) (sym (map-append (λ n. Sent n (time_filling_packet true n)) (used_to blocks queue) (cond b (queue ∷ []) [])))
+    ∙ ap (λ x. front ++ map (λ n. Sent n (time_filling_packet true n)) (used_to blocks queue ++ cond x (queue ∷ []) [])) (sym e)
+    ∙ ap (λ n. front ++ map (λ n. Sent n (time_filling_packet true n)) (used_to blocks n)) (sym (add-one queue))
+  where
+    one : (x : Bool) → cond x (Sent queue (time_filling_packet true queue) ∷ []) [] ≡ map (λ n. Sent n (time_filling_packet true n)) (cond x (queue ∷ []) [])
+    one true = refl
+    one false = refl

@@ -1,0 +1,26 @@
+use Rattle.std.proofs.Common.{◌≡◌, ◌++◌, ◌∷◌, [], false, map, sym, ap, ◌∙◌, arith, take_all}
+use Rattle.std.specs.Prelude.{flat_map, ◌==◌, if◌then◌else◌, List}
+use Rattle.std.proofs.lemmas.List.{append-nil}
+use Rattle.std.proofs.lemmas.Bool.{cond-true, cond-false}
+use Rattle.ttx_plan.specs.declared.packet.Packet.{Packet}
+use Rattle.ttx_plan.specs.Blocks.{packets_of, sent_blocks, has_pages, time_filling_packet}
+use Rattle.ttx_plan.specs.Seen.{seen}
+use Rattle.ttx_plan.proofs.Used.{any_seen}
+use Rattle.ttx_plan.proofs.rounds.queue_packets.Goals as goal
+use Rattle.ttx_plan.proofs.rounds.queue_packets.Goals.{then-has_pages+in_ok-push, else-has_pages}
+
+pub returns : goal.returns
+returns c =
+    let of_blocks : List Packet = flat_map (λ b. if b.queue == c.args.queue then packets_of b else []) (sent_blocks (map seen c.args.blocks.now)) in
+    let sent : c.loop-block.packets.items ≡ of_blocks =
+    c.loop-block.invariant
+    ∙ ap (λ x. flat_map (λ b. if b.queue == c.args.queue then packets_of b else []) (map (λ b. seen b.now) x)) (take_all c.loop-block.block-index c.args.sent.now (omega arith))
+    ∙ ap (flat_map (λ b. if b.queue == c.args.queue then packets_of b else [])) c.requires.sent in
+    elim c.if-has_pages.branch [
+      | then-has_pages+in_ok-push w ↦
+          ap (λ x. x.items) w.packets-is ∙ w.in_ok-push.ensures.items ∙ ap (λ x. x ++ w.time_filling.result ∷ []) sent ∙ ap (λ x. of_blocks ++ x ∷ []) w.time_filling.ensures
+          ∙ ap (λ x. of_blocks ++ x) (sym (cond-true (has_pages (map seen c.args.blocks.now) c.args.queue) (time_filling_packet false c.args.queue ∷ []) [] (sym (any_seen _ c.args.blocks.now) ∙ sym c.has_pages.ensures ∙ w.if-has_pages.true)))
+      | else-has_pages w ↦
+          ap (λ x. x.items) w.packets-is ∙ sent ∙ sym (append-nil of_blocks)
+          ∙ ap (λ x. of_blocks ++ x) (sym (cond-false (has_pages (map seen c.args.blocks.now) c.args.queue) (time_filling_packet false c.args.queue ∷ []) [] (sym (any_seen _ c.args.blocks.now) ∙ sym c.has_pages.ensures ∙ w.if-has_pages.false)))
+    ]

@@ -1,0 +1,37 @@
+-- What a planned cycle carries.
+--
+--   magazines_for           what the magazines send in parallel transmission
+--   CarriesBlocks           a cycle of blocks, in serial or in parallel transmission
+--   blocks_of               the blocks of a service's pages, for receivers of a class
+--   Carries                 a cycle that carries a service
+use Rattle.std.specs.Prelude.{◌≡◌, ℕ, Bool, true, false, List, map, Option, option_map}
+use Rattle.ttx_info.specs.Infos.{info_bytes}
+use Rattle.ttx_page.specs.declared.class.Class.{Class}
+use Rattle.ttx_source.specs.Services.{Authored, ServiceFields}
+use Rattle.ttx_plan.specs.Blocks.{Block, queues_to}
+use Rattle.ttx_plan.specs.Contents.{block_of}
+use Rattle.ttx_plan.specs.Packets.{bytes_of}
+use Rattle.ttx_plan.specs.Serial.{serial_slots}
+use Rattle.ttx_plan.specs.Turns.{Magazines, IsParallel}
+
+-- the queues of the eight magazines
+abbrev pub magazines_for : ℕ → Option (List ℕ) → List Block → Magazines
+magazines_for lines info blocks = record { lines = lines; info = info; queues = queues_to blocks 8 }
+
+-- serial: the cycle is the one list; parallel: it keeps the rule of turns
+abbrev pub CarriesBlocks : Bool → ℕ → Option (List ℕ) → List Block → List (List ℕ) → Type 0
+CarriesBlocks true lines info blocks cycle = cycle ≡ map bytes_of (serial_slots lines info blocks)
+CarriesBlocks false lines info blocks cycle = IsParallel (magazines_for lines info blocks) cycle
+
+-- a page's block
+abbrev pub block_at : Class → Authored → Block
+block_at class authored = block_of class authored.page authored.often
+
+-- the blocks of pages, in authored order
+abbrev pub blocks_of : Class → List Authored → List Block
+blocks_of class pages = map (block_at class) pages
+
+-- the cycle carries the service to receivers of the class
+abbrev pub Carries : Class → ServiceFields → List (List ℕ) → Type 0
+Carries class service cycle =
+    CarriesBlocks service.serial service.lines (option_map info_bytes service.info) (blocks_of class service.pages) cycle

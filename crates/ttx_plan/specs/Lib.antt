@@ -1,0 +1,10 @@
+pub mod Blocks
+pub mod Carries
+pub mod Contents
+pub mod Counting
+pub mod Cursors
+pub mod Packets
+pub mod Ranges
+pub mod Seen
+pub mod Serial
+pub mod Turns

@@ -1,0 +1,45 @@
+-- Packets as the scheduler sees them, and the slots of a cycle. Magazine queues are counted from 0: queue 0 is that of magazine 1.
+--
+--   is_page_header, is_row_or_links     what a packet is
+--   is_sent, has_header     a slot of a packet, and one of the page header of a queue's block
+--   bytes_of, sent_bytes    the bytes of a slot, and of slots
+use Rattle.std.specs.Prelude.{ℕ, Bool, true, false, List, [], ◌∷◌, ◌++◌, ◌==◌, ◌&&◌, replicate}
+use Rattle.ttx_plan.specs.declared.packet.Kind.{Kind}
+use Rattle.ttx_plan.specs.declared.packet.Kind.TheVariants.{PageHeader, RowOrLinks, TimeFilling}
+use Rattle.ttx_plan.specs.declared.packet.Slot.{Slot}
+use Rattle.ttx_plan.specs.declared.packet.Slot.TheVariants.{Empty, Info, Sent}
+
+-- the page header of a block
+abbrev pub is_page_header : Kind → Bool
+is_page_header PageHeader = true
+is_page_header RowOrLinks = false
+is_page_header TimeFilling = false
+
+-- a row or X/27/0 of a block
+abbrev pub is_row_or_links : Kind → Bool
+is_row_or_links PageHeader = false
+is_row_or_links RowOrLinks = true
+is_row_or_links TimeFilling = false
+
+-- the slot holds a packet of a queue
+abbrev pub is_sent : Slot → Bool
+is_sent Empty = false
+is_sent (Info bytes) = false
+is_sent (Sent queue packet) = true
+
+-- the slot holds the page header of a block of this queue
+abbrev pub has_header : ℕ → Slot → Bool
+has_header queue Empty = false
+has_header queue (Info bytes) = false
+has_header queue (Sent n packet) = (n == queue) && is_page_header packet.kind
+
+-- the 42 bytes of a slot
+abbrev pub bytes_of : Slot → List ℕ
+bytes_of Empty = replicate 42 0
+bytes_of (Info bytes) = bytes
+bytes_of (Sent queue packet) = packet.bytes
+
+-- the bytes of slots that are given latest first, in the order of sending
+abbrev pub sent_bytes : List Slot → List (List ℕ)
+sent_bytes [] = []
+sent_bytes (slot ∷ before) = sent_bytes before ++ bytes_of slot ∷ []

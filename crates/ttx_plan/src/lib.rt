@@ -1,0 +1,18 @@
+//! The scheduler: it lays the packets of a service out in a cycle, in magazine serial or parallel transmission.
+#![tactic(auto)]
+
+mod block;
+mod bounds;
+mod contents;
+mod cursors;
+mod cycle;
+mod faults;
+mod packet;
+mod parallel;
+mod planning;
+mod rounds;
+mod serial;
+mod slots;
+
+pub use faults::PlanFault;
+pub use planning::{plan, plan_for};

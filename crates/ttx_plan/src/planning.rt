@@ -1,0 +1,88 @@
+//! The cycle that carries a service.
+
+ghost use Rattle.std.specs.Prelude.{◌≡◌, ◌≢◌, ◌↔◌, ◌<◌, ◌≤◌, [], IfOk, map, option_map};
+ghost use Rattle.ttx_cycle.specs.Cycles.{slots_of};
+ghost use Rattle.ttx_info.specs.Infos.{info_bytes};
+ghost use Rattle.ttx_page.specs.declared.class.Class.TheVariants.{Any};
+ghost use Rattle.ttx_plan.specs.Blocks.{length_bound};
+ghost use Rattle.ttx_plan.specs.Carries.{Carries, blocks_of};
+ghost use Rattle.ttx_plan.specs.Seen.{seen};
+
+use crate::block::PageBlock;
+use crate::bounds::length_bound;
+use crate::cycle::cycle_slots;
+use crate::faults::PlanFault;
+use std::alloc::{AllocError, Global};
+use ttx_cycle::Cycle;
+use ttx_info::write_info;
+use ttx_page::Class;
+use ttx_source::Service;
+
+/// The blocks of the service's pages, in authored order.
+pub fn blocks_of(
+    alloc: Global,
+    class: Class,
+    service: &Service,
+) -> Result<Vec<PageBlock>, AllocError>
+    ensures { IfOk result (λ blocks. map seen blocks.items ≡ blocks_of class service.now.pages) }
+{
+    let pages = service.pages();
+    let mut blocks = Vec::new(alloc);
+    for index in 0..pages.len() {
+        let often = service.often(index);
+        blocks.push(PageBlock::new(alloc, class, &pages[index], often)?)?;
+    }
+    Ok(blocks)
+}
+
+/// Packet 8/30, where the service sends it.
+pub fn info_packet(service: &Service) -> Option<[u8; 42]>
+    ensures { result ≡ option_map info_bytes service.now.info }
+{
+    match service.info() {
+        Some(info) => Some(write_info(info)),
+        None => None,
+    }
+}
+
+// The cycle that carries a service of at least one page.
+fn cycle_of(alloc: Global, class: Class, service: &Service) -> Result<Cycle, AllocError>
+    requires some { service.now.pages ≢ [] }
+    requires few { length_bound service.now.lines (blocks_of class service.now.pages) ≤ 65536 }
+    ensures { IfOk result (λ cycle. Carries class service.now (slots_of cycle)) }
+{
+    let blocks = blocks_of(alloc, class, service)?;
+    let lines = usize::from(service.lines());
+    let info = info_packet(service);
+    let slots = cycle_slots(alloc, service.serial(), lines, info, &blocks)?;
+    Ok(Cycle::of(slots).unwrap())
+}
+
+/// The cycle that carries a service to receivers of a class: to those that surely clear a page no blank row and no empty
+/// X/27/0 is sent. `NoPages` where the service has no pages. `TooLong` where twice the slots of all blocks (each with an empty
+/// field) and time-filling headers, and two fields more, are above 65,536. Both are told before any memory is taken.
+pub fn plan_for(alloc: Global, service: &Service, class: Class) -> Result<Cycle, PlanFault>
+    ensures carries { IfOk result (λ cycle. Carries class service.now (slots_of cycle)) }
+    ensures no_pages { (result ≡ Err PlanFault.NoPages) ↔ (service.now.pages ≡ []) }
+    ensures too_long { (result ≡ Err PlanFault.TooLong) ↔ (65536 < length_bound service.now.lines (blocks_of class service.now.pages)) }
+{
+    if service.pages().is_empty() {
+        return Err(PlanFault::NoPages);
+    }
+    if length_bound(class, service) > Cycle::MOST {
+        return Err(PlanFault::TooLong);
+    }
+    match cycle_of(alloc, class, service) {
+        Ok(cycle) => Ok(cycle),
+        Err(_) => Err(PlanFault::NoMemory),
+    }
+}
+
+/// The cycle that carries a service to receivers of any class: `plan_for` with `Class::Any`.
+pub fn plan(alloc: Global, service: &Service) -> Result<Cycle, PlanFault>
+    ensures carries { IfOk result (λ cycle. Carries Any service.now (slots_of cycle)) }
+    ensures no_pages { (result ≡ Err PlanFault.NoPages) ↔ (service.now.pages ≡ []) }
+    ensures too_long { (result ≡ Err PlanFault.TooLong) ↔ (65536 < length_bound service.now.lines (blocks_of Any service.now.pages)) }
+{
+    plan_for(alloc, service, Class::Any)
+}

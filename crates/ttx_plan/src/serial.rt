@@ -1,0 +1,103 @@
+//! Serial transmission.
+
+ghost use Rattle.std.specs.Prelude.{◌≡◌, ◌∷◌, [], ◌++◌, ◌≤◌, List, map, length, IfOk};
+ghost use Rattle.ttx_plan.specs.declared.packet.Slot.{Slot};
+ghost use Rattle.ttx_plan.specs.Blocks.{sent_blocks};
+ghost use Rattle.ttx_plan.specs.Packets.{bytes_of};
+ghost use Rattle.ttx_plan.specs.Seen.{seen};
+ghost use Rattle.ttx_plan.specs.Serial.{info_if, serial_block, serial_list, IsLaid};
+ghost use Rattle.ttx_plan.specs.Turns.{is_due};
+
+use crate::block::PageBlock;
+use crate::packet::{Kind, Packet, Slot};
+use crate::rounds::{has_pages, time_filling};
+use std::alloc::{AllocError, Global};
+
+// Puts packet 8/30 behind the others where it is due.
+fn put_info(
+    slots: &mut Vec<[u8; 42]>,
+    lines: usize,
+    info: Option<[u8; 42]>,
+) -> Result<(), AllocError>
+    requires { (1 ≤ lines) × (lines ≤ 32) }
+    ensures { IfOk result (λ _. slots.new.items ≡ slots.old.items ++ map bytes_of (info_if info (is_due lines (length slots.old.items)))) }
+{
+    if let Some(bytes) = info
+        && slots.len() % (50 * lines) == 0
+    {
+        slots.push(bytes)?;
+    }
+    Ok(())
+}
+
+// Puts a slot behind the others, and packet 8/30 before it where it is due.
+fn put(
+    slots: &mut Vec<[u8; 42]>,
+    lines: usize,
+    info: Option<[u8; 42]>,
+    slot: Slot,
+) -> Result<(), AllocError>
+    requires { (1 ≤ lines) × (lines ≤ 32) }
+    ensures { IfOk result (λ _. (list : List Slot) → IsLaid lines info list slots.old.items → IsLaid lines info (list ++ slot ∷ []) slots.new.items) }
+{
+    put_info(slots, lines, info)?;
+    slots.push(slot.bytes())?;
+    Ok(())
+}
+
+// Puts a block behind the others: its page header, an empty field, its rows and X/27/0.
+fn put_block(
+    slots: &mut Vec<[u8; 42]>,
+    lines: usize,
+    info: Option<[u8; 42]>,
+    block: &PageBlock,
+) -> Result<(), AllocError>
+    requires { (1 ≤ lines) × (lines ≤ 32) }
+    ensures { IfOk result (λ _. (list : List Slot) → IsLaid lines info list slots.old.items → IsLaid lines info (list ++ serial_block lines (seen block.now)) slots.new.items) }
+{
+    let header = Packet {
+        kind: Kind::PageHeader,
+        bytes: block.header,
+    };
+    put(slots, lines, info, Slot::Sent(block.queue, header))?;
+    for _ in 0..lines {
+        put(slots, lines, info, Slot::Empty)?;
+    }
+    for bytes in &block.rest {
+        let packet = Packet {
+            kind: Kind::RowOrLinks,
+            bytes: *bytes,
+        };
+        put(slots, lines, info, Slot::Sent(block.queue, packet))?;
+    }
+    Ok(())
+}
+
+/// The slots up to the last time-filling header.
+pub fn serial_slots(
+    alloc: Global,
+    blocks: &[PageBlock],
+    sent: &[&PageBlock],
+    lines: usize,
+    info: Option<[u8; 42]>,
+) -> Result<Vec<[u8; 42]>, AllocError>
+    requires lines { (1 ≤ lines) × (lines ≤ 32) }
+    requires sent { map (λ b. seen b.now) sent.now ≡ sent_blocks (map seen blocks.now) }
+    ensures { IfOk result (λ slots. IsLaid lines info (serial_list lines (map seen blocks.now)) slots.items) }
+{
+    let mut slots = Vec::new(alloc);
+    for block in sent {
+        put_block(&mut slots, lines, info, block)?;
+    }
+    for queue in 0..8 {
+        if has_pages(blocks, queue) {
+            put(
+                &mut slots,
+                lines,
+                info,
+                Slot::Sent(queue, time_filling(queue, true)),
+            )?;
+        }
+    }
+    Ok(slots)
+}
