@@ -1,0 +1,42 @@
+-- Choices, tests and order of whole numbers.
+use Rattle.std.proofs.Common.{◌≡◌, ◌⊎◌, ℤ, ◌<ℤ◌, ◌≤ℤ◌, Bool, true, false, not, ◌&&◌, ◌||◌, if◌then◌else◌, refl, sym, inl, inr}
+use Rattle.std.proofs.lemmas.Int.{by_lt_z}
+
+-- what holds of both choices
+pub if_ind : {A : Type 0} (P : A → Type 0) (b : Bool) (x y : A) → (b ≡ true → P x) → (b ≡ false → P y) → P (if b then x else y)
+if_ind P true x y f g = f refl
+if_ind P false x y f g = g refl
+
+pub and_left : (a b : Bool) → (a && b) ≡ true → a ≡ true
+and_left true b h = refl
+and_left false b h = h
+
+pub and_right : (a b : Bool) → (a && b) ≡ true → b ≡ true
+and_right true b h = h
+and_right false b h = cc
+
+pub and_both : (a b : Bool) → a ≡ true → b ≡ true → (a && b) ≡ true
+and_both true b h k = k
+and_both false b h k = h
+
+pub or_false : (a b : Bool) → a ≡ false → b ≡ false → (a || b) ≡ false
+or_false true b h k = h
+or_false false b h k = k
+
+pub not_true : (a : Bool) → not a ≡ true → a ≡ false
+not_true true h = cc
+not_true false h = refl
+
+pub not_false : (a : Bool) → a ≡ false → not a ≡ true
+not_false true h = sym h
+not_false false h = refl
+
+pub no_both : (a : Bool) → a ≡ true → a ≡ false → ⊥
+no_both a h k = cc
+
+pub cases_bool : (b : Bool) → (b ≡ true) ⊎ (b ≡ false)
+cases_bool true = inl refl
+cases_bool false = inr refl
+
+pub cases_ltz : (a b : ℤ) → (a <ℤ b) ⊎ (b ≤ℤ a)
+cases_ltz a b = by_lt_z a b (λ h. inl h) (λ h. inr h)

@@ -1,0 +1,7 @@
+use Rattle.std.proofs.Common.{◌≡◌, ℕ, ◌<◌, ◌≤◌, length}
+use Rattle.ttx_cycle.specs.Cycles.{slots_of}
+use Rattle.ttx_witness.specs.Reasons.{BadSlotAt}
+use Rattle.ttx_witness.proofs.bad_slots.bad_slot.Given as goal
+
+abbrev pub invariant-loop-j : goal.invariant-loop-j
+invariant-loop-j l = record { none : (i : ℕ) → i < l.j → BadSlotAt l.slots i → ⊥ }

@@ -1,0 +1,22 @@
+use Rattle.std.proofs.Common.{◌≡◌, ◌-◌, take, length, None, pos, refl, subst, ap, sym, arith, ◌≤◌}
+use Rattle.ttx_witness.specs.Transmissions.{runs}
+use Rattle.ttx_witness.specs.Tracks.{IsTrack}
+use Rattle.ttx_witness.proofs.OneByOne.{take_more, track_begins}
+use Rattle.ttx_witness.proofs.Steps.{take_whole}
+use Rattle.ttx_witness.proofs.items.judge_item.Goals as goal
+
+pub loop-i-init : goal.loop-i-init
+loop-i-init c = record {
+  held = track_begins (c.args.repeat - 1) c.args.limit c.args.starts.now (record { recent = c.in_ok-recent.recent; progress = record { next = 0; previous = pos 0; first_end = pos 0; late = None } }) c.in_ok-recent.ensures refl;
+}
+
+pub loop-i-preserved : goal.loop-i-preserved
+loop-i-preserved c = record {
+  held = subst (λ ts. IsTrack (c.args.repeat - 1) c.args.limit c.args.starts.now ts c.note.new.track) (take_more c.args.sent.now c.loop-i.i _ c.loop-i-test.true)
+      (c.note.ensures (c.args.repeat - 1) (take c.loop-i.i c.args.sent.now) c.loop-i.invariant.held);
+}
+
+pub returns : goal.returns
+returns c =
+    c.finish.ensures (c.args.repeat - 1) c.args.sent.now
+    (subst (λ ts. IsTrack (c.args.repeat - 1) c.args.limit c.args.starts.now ts c.loop-i.track) (take_whole c.loop-i.i c.args.sent.now (omega (arith, c.loop-i-test.false))) c.loop-i.invariant.held)

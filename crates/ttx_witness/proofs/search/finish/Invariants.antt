@@ -1,0 +1,15 @@
+use Rattle.std.proofs.Common.{ℕ, ◌+◌, ◌*◌, ◌≤◌, List, length}
+use Rattle.std.specs.List.{AllByRecursion}
+use Rattle.ttx_witness.specs.Transmissions.{Transmission, Run}
+use Rattle.ttx_witness.specs.Searching.{IsFound}
+use Rattle.ttx_witness.specs.Tracks.{IsSearch, IsWithin, IsRound}
+use Rattle.ttx_witness.proofs.search.finish.Given as goal
+
+abbrev pub invariant-loop-i : goal.invariant-loop-i
+invariant-loop-i l = record {
+  some : 1 ≤ length l.search.recent.firsts.items;
+  firsts : length l.search.recent.firsts.items ≤ 7;
+  small : AllByRecursion (IsWithin ((l.i + 1) * 65536)) l.search.recent.firsts.items;
+  round : (k : ℕ) (ts : List Transmission) → IsSearch k ts l.initial.search → (rs : List Run)
+      × IsRound k l.period l.i ts rs l.search.recent × IsFound rs l.search.starts.items l.search.spread;
+}

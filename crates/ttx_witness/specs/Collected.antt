@@ -1,0 +1,81 @@
+-- The owners of the eight magazines, and the transmissions of all items of all pages, while the slots of a period are read.
+--
+--   taint, seen_by          an owner after a header of another magazine; an owner as one of the pages sees it
+--   Finds                   a look-up that tells the place of an id among the ids of pages
+--   AreOwners               the owners are right for each page
+--   IsItem, place           the items of a page, and where the transmissions of an item of a page are kept
+--   held, AreCollected      the list in a place; the lists are the transmissions of all items
+use Rattle.std.specs.Prelude.{◌≡◌, ℕ, ◌+◌, ◌-◌, ◌*◌, ◌<◌, ◌≤◌, Bool, false, ◌||◌, ◌==◌, List, [], slice_get, get_or, map, length, nat_eq, Option, Some, None, Vec}
+use Rattle.std.specs.Global.{Global}
+use Rattle.ttx_header.specs.Ids.{Id, IsId, same_id}
+use Rattle.ttx_page.specs.Streams.{Stream}
+use Rattle.ttx_page.specs.declared.item.Item.{Item}
+use Rattle.ttx_page.specs.declared.item.Item.TheVariants.{Head as TheHead, Row as TheRow, Links as TheLinks}
+use Rattle.ttx_witness.specs.Transmissions.{Transmission}
+use Rattle.ttx_witness.specs.Sent.{PageOwner, owner_scan, sent_scan}
+use Rattle.std.specs.HashMap.{get}
+use Rattle.ttx_witness.specs.declared.owners.Owner.{Owner}
+use Rattle.ttx_witness.specs.declared.page_index.PageIndex.{PageIndex}
+
+abbrev pub taint : Bool → Option Owner → Option Owner
+taint ends None = None
+taint ends (Some o) = Some (record { slot = o.slot; page = o.page; tainted = o.tainted || ends })
+
+abbrev pub is_page : ℕ → Option ℕ → Bool
+is_page i None = false
+is_page i (Some j) = j == i
+
+-- the owner as the i-th page sees it
+abbrev pub seen_by : ℕ → Option Owner → Option PageOwner
+seen_by i None = None
+seen_by i (Some o) = Some (record { slot = o.slot; mine = is_page i o.page; tainted = o.tainted })
+
+-- the answer for an id is the place of the page that has it
+abbrev pub Finds : List Id → Id → Option ℕ → Type 0
+Finds ids id answer = (i : ℕ) (own : Id) → slice_get ids i ≡ Some own → is_page i answer ≡ same_id own id
+
+-- the owner that the i-th page sees in its magazine
+abbrev pub owner_for : List (Option Owner) → ℕ → Id → Option PageOwner
+owner_for owners i id = seen_by i (get_or owners (id.mag - 1) None)
+
+-- after j slots, from these owners on
+abbrev pub AreOwners : List Id → Stream → List (Option Owner) → ℕ → List (Option Owner) → Type 0
+AreOwners ids s entry j owners = (i : ℕ) (id : Id) → slice_get ids i ≡ Some id → IsId id → owner_for owners i id ≡ owner_scan id s (owner_for entry i id) j
+
+-- a page is never the owner's in another magazine than its own
+abbrev pub IsForeign : ℕ → Option Owner → Type 0
+IsForeign i None = Unit {0}
+IsForeign i (Some o) = is_page i o.page ≡ false
+
+abbrev pub AreApart : List Id → List (Option Owner) → Type 0
+AreApart ids owners = (m i : ℕ) (id : Id) → m < 8 → slice_get ids i ≡ Some id → (m + 1 ≡ id.mag → ⊥) → IsForeign i (get_or owners m None)
+
+abbrev pub IsItem : Item → Type 0
+IsItem TheHead = Unit {0}
+IsItem (TheRow r) = (1 ≤ r) × (r ≤ 24)
+IsItem TheLinks = Unit {0}
+
+abbrev pub item_number : Item → ℕ
+item_number TheHead = 0
+item_number (TheRow r) = r
+item_number TheLinks = 25
+
+abbrev pub place : ℕ → Item → ℕ
+place i item = 26 * i + item_number item
+
+-- the list in a place
+abbrev pub held : List (Vec Transmission Global) → ℕ → List Transmission
+held lists n = get_or (map (λ v. v.items) lists) n []
+
+-- the lists of all items of all pages are the transmissions of j slots
+pub record AreCollected (ids : List Id) (lines : ℕ) (s : Stream) (entry : List (Option Owner)) (j : ℕ) (lists : List (Vec Transmission Global)) : Type 0 where
+  pub count : length lists ≡ 26 * length ids
+  pub each : (i : ℕ) (id : Id) (item : Item) → slice_get ids i ≡ Some id → IsId id → IsItem item → held lists (place i item) ≡ sent_scan id lines item s (owner_for entry i id) j
+
+-- an id as one number
+abbrev pub key_of : Id → ℕ
+key_of id = (id.mag * 256 + id.page) * 16384 + id.sub
+
+-- the index answers every id
+abbrev pub IsIndex : List Id → PageIndex → Type 0
+IsIndex ids index = (id : Id) → IsId id → Finds ids id (get nat_eq index.by_key (key_of id))

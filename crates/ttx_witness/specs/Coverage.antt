@@ -1,0 +1,63 @@
+-- What a certificate is, and when a cycle is accepted with it (profile). Slots are counted from 0, deadlines in fields.
+--
+--   Certificate, IsCertificate      the numbers of a certificate and the starts that it names; their ranges
+--   limit                   the deadline in slots
+--   IsSureStart             a slot of the period from which a sure run of the item begins
+--   IsCovered               an item is seen in time from every tuning slot, by its named starts
+--   IsLeftOut               a blank item that isn't sent: each header of the page is followed in time by the next
+--   Accepts                 no slot is bad, each page is steady, and each item that a viewer sees is covered or left out
+use Rattle.std.specs.Prelude.{◌≡◌, ◌⊎◌, ◌↔◌, ℕ, ◌+◌, ◌*◌, ◌<◌, ◌≤◌, ℤ, pos, ◌+ℤ◌, ◌<ℤ◌, ◌≤ℤ◌, true, false, if◌then◌else◌, nat_lt, List, [], length, slice_get, slice_index_or, Contains, Some}
+use Rattle.ttx_packet.specs.Slots.{is_clean}
+use Rattle.ttx_header.specs.Ids.{Id}
+use Rattle.ttx_page.specs.Packets.{packet_of}
+use Rattle.ttx_page.specs.Pages.{Page, IsBlank, needed}
+use Rattle.ttx_page.specs.declared.item.Item.{Item}
+use Rattle.ttx_page.specs.declared.class.Class.{Class}
+use Rattle.ttx_page.specs.declared.class.Class.TheVariants.{Clearing}
+use Rattle.ttx_page.specs.Streams.{repeated, turned, IsOwned, HasSureRun, EndsBelow, heads_page}
+use Rattle.ttx_page.specs.Steady.{Steady}
+use Rattle.ttx_witness.specs.Confirming.{Rising}
+
+-- lines to a field, how often an item is sent for one right reception, the deadline in fields, the class of receivers, and the
+-- starts that are named for each item of each page
+pub record Certificate : Type 0 where
+  pub lines : ℕ
+  pub repeat : ℕ
+  pub deadline : ℕ
+  pub class : Class
+  pub starts : Id → Item → List ℕ
+
+pub record IsCertificate (w : Certificate) : Type 0 where
+  pub some_lines : 1 ≤ w.lines
+  pub few_lines : w.lines ≤ 32
+  pub some_repeats : 1 ≤ w.repeat
+  pub few_repeats : w.repeat ≤ 8
+  pub some_fields : 1 ≤ w.deadline
+  pub few_fields : w.deadline ≤ 1000000
+  pub rising : (page : Id) (item : Item) → Rising (w.starts page item)
+
+abbrev pub limit : Certificate → ℕ
+limit w = w.deadline * w.lines
+
+abbrev pub IsSureStart : List (List ℕ) → Id → ℕ → ℕ → Item → ℕ → Type 0
+IsSureStart cycle page lines repeat item start = (start < length cycle) × HasSureRun (repeated cycle) page lines repeat item (pos start)
+
+-- A start is named, each named start has a sure run, and for each tuning slot tau one of these runs has its first owner at tau or
+-- later and ends before the deadline.
+pub record IsCovered (cycle : List (List ℕ)) (p : Page) (w : Certificate) (item : Item) : Type 0 where
+  pub named : (start : ℕ) × Contains (w.starts p.id item) start
+  pub sure : (start : ℕ) → Contains (w.starts p.id item) start → IsSureStart cycle p.id w.lines w.repeat item start
+  pub in_time : (tau : ℤ) → (i h : ℤ) × Contains (w.starts p.id item) (turned (length cycle) i) × IsOwned (repeated cycle) p.id item h i
+      × (tau ≤ℤ h) × EndsBelow (repeated cycle) p.id w.repeat item i (tau +ℤ pos (limit w))
+
+-- Receivers surely clear, the item is blank, no start is named for it, and after each tuning slot a header of the page comes in time.
+pub record IsLeftOut (cycle : List (List ℕ)) (p : Page) (w : Certificate) (item : Item) : Type 0 where
+  pub clearing : w.class ≡ Clearing
+  pub blank : IsBlank p item
+  pub no_line : w.starts p.id item ≡ []
+  pub in_time : (tau : ℤ) → (i : ℤ) × (tau ≤ℤ i) × (i <ℤ (tau +ℤ pos (limit w))) × (heads_page p.id (packet_of (repeated cycle i)) ≡ true)
+
+pub record Accepts (cycle : List (List ℕ)) (pages : List Page) (w : Certificate) : Type 0 where
+  pub clean : (n : ℕ) → n < length cycle → is_clean (slice_index_or cycle n []) ≡ true
+  pub steady : (n : ℕ) (p : Page) → slice_get pages n ≡ Some p → Steady (repeated cycle) pages p
+  pub covered : (n : ℕ) (p : Page) → slice_get pages n ≡ Some p → (item : Item) → needed p item ≡ true → IsCovered cycle p w item ⊎ IsLeftOut cycle p w item

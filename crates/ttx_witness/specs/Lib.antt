@@ -1,0 +1,11 @@
+pub mod Transmissions
+pub mod Repeating
+pub mod Confirming
+pub mod Searching
+pub mod Tracks
+pub mod Coverage
+pub mod Reasons
+pub mod Sent
+pub mod Collected
+pub mod Laws
+pub mod CycleLaws

@@ -1,0 +1,54 @@
+-- What is kept of the transmissions of one item while a period is read.
+--
+--   ended                   the runs that have ended once some transmissions are read
+--   IsRecent                what is held of a list of transmissions
+--   IsRound                 the same after some of the transmissions that follow the period
+--   IsWithin, IsTurn        the numbers of a transmission are small; the first of a list goes to its end, a period later
+--   IsTrack, IsSearch       a track, and a search for starts, after a list of transmissions
+use Rattle.std.specs.Prelude.{◌≡◌, ℕ, suc, ◌-◌, pos, ◌+ℤ◌, ◌≤ℤ◌, List, [], ◌∷◌, ◌++◌, map, take, Option, Some, None}
+use Rattle.circular_buffer.specs.Buffer.{keep_last, buffer}
+use Rattle.ttx_witness.specs.Transmissions.{Transmission, Run, run_of, windows, later, further}
+use Rattle.ttx_witness.specs.Confirming.{after_runs, not_begun}
+use Rattle.ttx_witness.specs.Searching.{sure_starts, spread_of}
+use Rattle.ttx_witness.specs.declared.recent.Recent.{Recent}
+use Rattle.ttx_witness.specs.declared.track.Track.{Track}
+use Rattle.ttx_witness.specs.declared.search.Search.{Search}
+
+abbrev pub ended : ℕ → List Transmission → List Run
+ended k ts = map run_of (windows (suc k) ts)
+
+-- the last k + 1 transmissions and the first k
+pub record IsRecent (k : ℕ) (ts : List Transmission) (recent : Recent) : Type 0 where
+  pub window : recent.window ≡ buffer (keep_last (suc k) ts) (suc k)
+  pub firsts : recent.firsts.items ≡ take k ts
+
+abbrev pub listed : Option Run → List Run
+listed None = []
+listed (Some r) = r ∷ []
+
+-- from a cycle's length before the period to the bound
+pub record IsWithin (bound : ℕ) (t : Transmission) : Type 0 where
+  pub slot_low : pos 0 ≤ℤ (t.slot +ℤ pos 65536)
+  pub slot_high : t.slot ≤ℤ pos bound
+  pub owner_low : pos 0 ≤ℤ (t.owner +ℤ pos 65536)
+  pub owner_high : t.owner ≤ℤ pos bound
+
+abbrev pub IsTurn : ℕ → List Transmission → Transmission → List Transmission → Type 0
+IsTurn n [] result new = ⊥
+IsTurn n (t ∷ ts) result new = (result ≡ later n t) × (new ≡ ts ++ later n t ∷ [])
+
+-- after i of the k transmissions that follow the period's ts; rs are the runs that have ended
+pub record IsRound (k n i : ℕ) (ts : List Transmission) (rs : List Run) (recent : Recent) : Type 0 where
+  pub more : List Transmission
+  pub window : recent.window ≡ buffer (keep_last (suc k) (ts ++ more)) (suc k)
+  pub runs : rs ≡ ended k (ts ++ more)
+  pub rest : more ++ further n (k - i) recent.firsts.items ≡ further n k (take k ts)
+
+pub record IsTrack (k limit : ℕ) (starts : List ℕ) (ts : List Transmission) (track : Track) : Type 0 where
+  pub recent : IsRecent k ts track.recent
+  pub progress : track.progress ≡ after_runs limit starts not_begun (ended k ts)
+
+pub record IsSearch (k : ℕ) (ts : List Transmission) (search : Search) : Type 0 where
+  pub recent : IsRecent k ts search.recent
+  pub starts : search.starts.items ≡ sure_starts (ended k ts)
+  pub spread : search.spread ≡ spread_of None (ended k ts)

@@ -1,0 +1,88 @@
+//! The transmissions of all items of all pages in a period.
+
+ghost use Rattle.std.specs.Prelude.{◌≡◌, ◌<◌, ℕ, OnOk, ◌++◌, ◌∷◌, [], length, if◌then◌else◌, ◌==◌, ◌&&◌, ◌+ℤ◌, pos, not, int_lt, true};
+ghost use Rattle.ttx_page.specs.declared.item.Item.{Item};
+ghost use Rattle.ttx_witness.specs.Sent.{sent_under};
+ghost use Rattle.ttx_witness.specs.Collected.{held, IsItem, place, item_number, seen_by, is_page};
+
+use crate::owners::Owner;
+use crate::search::NoMemory;
+use crate::transmissions::Transmission;
+
+// Adds a transmission at the end of the list in this place.
+fn add(lists: &mut Vec<Vec<Transmission>>, at: usize, t: Transmission) -> Result<(), NoMemory>
+    requires { at < length lists.old.items }
+    ensures count { length lists.new.items ≡ length lists.old.items }
+    ensures added { OnOk result ((n : ℕ) → held lists.new.items n ≡ (if n == at then held lists.old.items n ++ t ∷ [] else held lists.old.items n)) }
+{
+    if lists[at].push(t).is_err() {
+        return Err(NoMemory);
+    }
+    Ok(())
+}
+
+// Whether no receiver may miss the transmission in slot j under its owner.
+fn is_sure(owner: Owner, j: i32, lines: u8) -> bool
+    ensures { result ≡ (int_lt (owner.slot +ℤ pos lines) j && not owner.tainted) }
+{
+    i64::from(owner.slot) + i64::from(lines) < i64::from(j) && !owner.tainted
+}
+
+// The transmission in slot j under its owner.
+fn sent_under(owner: Owner, j: i32, lines: u8) -> Transmission
+    ensures { result ≡ record { slot = j; owner = owner.slot; sure = int_lt (owner.slot +ℤ pos lines) j && not owner.tainted } }
+{
+    Transmission {
+        slot: j,
+        owner: owner.slot,
+        sure: is_sure(owner, j, lines),
+    }
+}
+
+// Adds the transmission in slot j to the list of its item, where its owner is a page's header.
+fn add_under(
+    lists: &mut Vec<Vec<Transmission>>,
+    owner: Option<Owner>,
+    number: usize,
+    j: i32,
+    lines: u8,
+) -> Result<(), NoMemory>
+    requires { number < 26 }
+    ensures count { length lists.new.items ≡ length lists.old.items }
+    ensures added { OnOk result ((i : ℕ) (item : Item) → IsItem item → place i item < length lists.old.items → held lists.new.items (place i item) ≡ held lists.old.items (place i item) ++ (if item_number item == number then sent_under lines j (seen_by i owner) else [])) }
+{
+    let Some(owner) = owner else {
+        return Ok(());
+    };
+    let Some(page) = owner.page else {
+        return Ok(());
+    };
+    let at = 26 * page as usize + number;
+    if at >= lists.len() {
+        return Ok(());
+    }
+    add(lists, at, sent_under(owner, j, lines))
+}
+
+// Adds a header to the list of its page, where it is a page's.
+fn add_head(lists: &mut Vec<Vec<Transmission>>, page: Option<u32>, j: i32) -> Result<(), NoMemory>
+    ensures count { length lists.new.items ≡ length lists.old.items }
+    ensures added { OnOk result ((i : ℕ) (item : Item) → IsItem item → place i item < length lists.old.items → held lists.new.items (place i item) ≡ held lists.old.items (place i item) ++ (if (item_number item == 0) && is_page i page then record { slot = j; owner = j; sure = true } ∷ [] else [])) }
+{
+    let Some(page) = page else {
+        return Ok(());
+    };
+    let at = 26 * page as usize;
+    if at >= lists.len() {
+        return Ok(());
+    }
+    add(
+        lists,
+        at,
+        Transmission {
+            slot: j,
+            owner: j,
+            sure: true,
+        },
+    )
+}

@@ -1,0 +1,79 @@
+//! Named starts of an item, confirmed by the runs of a period in their order.
+
+ghost use Rattle.std.specs.Prelude.{◌≡◌, ◌≤◌, ◌+ℤ◌, ◌^◌, ◌≤ℤ◌, pos, int_lt, length};
+ghost use Rattle.ttx_witness.specs.Confirming.{is_next, late_after, confirmed};
+
+use crate::transmissions::Run;
+
+/// How far the named starts of an item are confirmed: how many, the owner of the latest, the end of the
+/// first one's run, and the least whose next one comes too late.
+#[derive(Clone, Copy, PartialEq, Eq, Debug)]
+pub struct Progress {
+    pub next: usize,
+    pub previous: i32,
+    pub first_end: i32,
+    pub late: Option<u32>,
+}
+
+// Whether the run confirms the named start whose turn it is.
+fn is_next(starts: &[u32], next: usize, run: Run) -> bool
+    ensures { result ≡ is_next starts.now next run }
+{
+    next < starts.len() && i64::from(starts[next]) == i64::from(run.start) && run.sure
+}
+
+// Whether a run ends more than the limit after the slot.
+fn is_past(slot: i32, limit: u32, end: i32) -> bool
+    ensures { result ≡ int_lt (slot +ℤ pos limit) end }
+{
+    i64::from(slot) + i64::from(limit) < i64::from(end)
+}
+
+/// The least named start so far whose next run ends more than the limit after its owner.
+pub fn late_after(limit: u32, starts: &[u32], progress: Progress, end: i32) -> Option<u32>
+    requires { progress.next ≤ length starts.now }
+    ensures { result ≡ late_after limit starts.now progress end }
+{
+    if progress.next == 0 || progress.late.is_some() {
+        return progress.late;
+    }
+    if is_past(progress.previous, limit, end) {
+        Some(starts[progress.next - 1])
+    } else {
+        progress.late
+    }
+}
+
+/// Confirms the next named start, where the run is all sure and begins there.
+#[tactic(auto, unfolding(crate::specs::Confirming::confirmed))]
+pub fn confirm(progress: Progress, run: Run, starts: &[u32], limit: u32) -> Progress
+    ensures { result ≡ confirmed limit starts.now progress run }
+{
+    if !is_next(starts, progress.next, run) {
+        return progress;
+    }
+    let first_end = if progress.next == 0 {
+        run.end
+    } else {
+        progress.first_end
+    };
+    let late = late_after(limit, starts, progress, run.end);
+    Progress {
+        next: progress.next + 1,
+        previous: run.owner,
+        first_end,
+        late,
+    }
+}
+
+/// The least named start that the next one follows too late, where the last one is followed by the first
+/// a period later.
+pub fn late_at_end(progress: Progress, period: u32, starts: &[u32], limit: u32) -> Option<u32>
+    requires next { progress.next ≤ length starts.now }
+    requires end { progress.first_end ≤ℤ pos (2 ^ 30) }
+    requires end_low { pos 0 ≤ℤ progress.first_end }
+    requires short { period ≤ 65536 }
+    ensures { result ≡ late_after limit starts.now progress (progress.first_end +ℤ pos period) }
+{
+    late_after(limit, starts, progress, progress.first_end + period as i32)
+}
