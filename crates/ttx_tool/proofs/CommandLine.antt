@@ -1,0 +1,82 @@
+-- The program's command line is one whose matches and faults are known exactly, and words without a fault name a command.
+use Rattle.std.proofs.Common.{◌≡◌, ◌≢◌, List, [], ◌∷◌, length, codes, inl, inr, true, false, refl, sym, subst, Bool, ◌&&◌, not, is_some, Some, option_map, arith}
+use Rattle.std.specs.List.{list_any}
+use Rattle.clap.specs.Words.{App, Shape, Text, built, is_simple, is_simple_and_free, kind_of, subcommand_of, fault_of}
+use Rattle.clap.specs.Walk.{Names, Held, walk, walk_from, settled, finished, nothing_held}
+use Rattle.clap.specs.Faults.{level_fault, walk_fault, settle_fault, defaults_fault, check_fault, entered_fault}
+use Rattle.clap.specs.Takes.{is_given}
+use Rattle.clap.specs.Facts.{explicit_source}
+use Rattle.clap.specs.Simple.{argument_words, entered, names_of}
+use Rattle.clap.specs.Kinds.{Kinds, HasKind, IsAmong, or_else, check_kinds}
+use Rattle.clap.specs.declared.error.Error.{Error}
+use Rattle.clap.specs.declared.error.kind.ErrorKind.TheVariants.{OutOfMemory}
+use Rattle.ttx_tool.specs.Grammar.{ttx_app, inspect_app}
+use Rattle.ttx_tool.specs.Orders.{inspect_order, order_at, order_of, IsRefusalOf, IsFaultOf}
+use Rattle.ttx_tool.specs.declared.orders.WordsFault.{WordsFault}
+use Rattle.ttx_tool.specs.declared.orders.WordsFault.TheVariants.{Refused, Page, Twice, NoMemory}
+
+pub ttx_is_simple : is_simple ttx_app ≡ true
+unfolding ttx_app inspect_app
+ttx_is_simple = refl
+
+pub ttx_is_free : is_simple_and_free ttx_app ≡ true
+unfolding ttx_app inspect_app
+ttx_is_free = refl
+
+-- an error that isn't of memory has one of the kinds
+pub among_kinds : (kinds : Kinds) (e : Error) → (kind_of e ≡ OutOfMemory → ⊥) → HasKind kinds e → IsAmong (kind_of e) kinds
+among_kinds kinds e other h = elim h [ inl m ↦ absurd (other m) | inr a ↦ a ]
+
+-- such an error as a refusal of words
+pub refusal : (fault : WordsFault) (e : Error) (kinds : Kinds) → IsFaultOf fault e → HasKind kinds e → IsRefusalOf fault kinds
+refusal (Refused error) e kinds f h = subst (λ (x : Error). IsAmong (kind_of x) kinds) (sym f.0) (among_kinds kinds e f.1 h)
+refusal Page e kinds f h = f
+refusal Twice e kinds f h = f
+refusal NoMemory e kinds f h = tt
+
+-- what no words and some words ask for
+pub order_of-none : (words : List Text) → length words ≡ 0 → order_of words ≡ Some (inspect_order (codes "-"))
+unfolding order_of
+order_of-none [] h = refl
+order_of-none (word ∷ words) h = absurd (omega (arith, h))
+
+pub order_of-some : (words : List Text) → length words ≢ 0 → order_of words ≡ option_map (λ p. order_at p.0 p.1) (subcommand_of ttx_app words)
+unfolding order_of
+order_of-some [] h = absurd (h refl)
+order_of-some (word ∷ words) h = refl
+
+-- ---- words without a fault name a command
+
+no_fault : (a b : Kinds) → or_else a b ≡ [] → (a ≡ []) × (b ≡ [])
+no_fault [] b h = (refl, h)
+no_fault (k ∷ ks) b h = cc
+
+needs_command : (wants_help wants_argument has need : Bool) → need ≡ true → check_kinds wants_help (not has && need) wants_argument ≡ [] → has ≡ true
+needs_command wants_help wants_argument true need n h = refl
+needs_command true wants_argument false true n h = cc
+needs_command false wants_argument false true n h = cc
+needs_command wants_help wants_argument false false n h = cc
+
+-- a level that needs a command and has no fault has one
+level_has : (s : Shape) (names : Names) (h : Held) (words : List Text) (has : Bool) (below : Kinds) → s.subcommand_required ≡ true → level_fault s names h words has below ≡ [] → has ≡ true
+level_has s names h words has below n fault =
+    let end = (walk s.rules names h words).held in
+    let one = (no_fault (walk_fault s names (walk_from h) words) (or_else below (or_else (settle_fault s.rules s.args_override_self end) (or_else (defaults_fault (settled s.rules end).rows s.rules) (check_fault s (finished s.rules end) has)))) fault).1 in
+    let two = (no_fault below (or_else (settle_fault s.rules s.args_override_self end) (or_else (defaults_fault (settled s.rules end).rows s.rules) (check_fault s (finished s.rules end) has))) one).1 in
+    let three = (no_fault (settle_fault s.rules s.args_override_self end) (or_else (defaults_fault (settled s.rules end).rows s.rules) (check_fault s (finished s.rules end) has)) two).1 in
+    let four = (no_fault (defaults_fault (settled s.rules end).rows s.rules) (check_fault s (finished s.rules end) has) three).1 in
+    needs_command (not has && (s.arg_required_else_help && not (list_any (λ r. explicit_source r.source) (finished s.rules end))))
+    (not (s.subcommand_negates_reqs && has) && list_any (λ a. a.required && not (is_given a.id (finished s.rules end))) s.rules) has s.subcommand_required n four
+
+app_has : (a : App) (ws : List Text) → (built a).top.subcommand_required ≡ true → fault_of a ws ≡ [] → is_some (subcommand_of a ws) ≡ true
+app_has a ws n fault =
+    let words = argument_words a ws in
+    let stop = (walk (built a).top.rules (names_of (built a)) nothing_held words).stopped in
+    level_has (built a).top (names_of (built a)) nothing_held words (is_some (entered (built a) stop)) (entered_fault (built a) stop) n fault
+
+needs : (built ttx_app).top.subcommand_required ≡ true
+unfolding ttx_app inspect_app
+needs = refl
+
+pub has_command : (ws : List Text) → fault_of ttx_app ws ≡ [] → is_some (subcommand_of ttx_app ws) ≡ true
+has_command ws h = app_has ttx_app ws needs h

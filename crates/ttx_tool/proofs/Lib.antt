@@ -1,0 +1,3 @@
+pub mod ReadHeaders
+mod FieldLines
+mod CommandLine

@@ -1,0 +1,41 @@
+-- How ids, links, dates and times are written (profile).
+--
+--   hex_digit, hex_byte        one and two hexadecimal digits, A to F for 10 to 15
+--   id_text                    the id of a page or of a target, as 100/3F7F
+--   link_text, links_text      links, each after a space, and - where a link leads nowhere
+--   two_digits, date_text, time_text    a date in five decimal digits, a time in six
+use Rattle.std.specs.Prelude.{ℕ, ◌+◌, ◌/◌, ◌%◌, List, [], ◌∷◌, ◌++◌, codes, nat_lt, Option, Some, None, if◌then◌else◌}
+use Rattle.std.specs.Fmt.{decimal}
+use Rattle.ttx_header.specs.Ids.{Id}
+
+-- the digit of a number below 16
+abbrev pub hex_digit : ℕ → ℕ
+hex_digit n = if nat_lt n 10 then 48 + n else 55 + n
+
+-- the digits of a byte, the high one first
+abbrev pub hex_byte : ℕ → List ℕ
+hex_byte b = hex_digit (b / 16) ∷ hex_digit (b % 16) ∷ []
+
+-- magazine and two digits, a stroke, and the four digits of the subcode
+abbrev pub id_text : Id → List ℕ
+id_text id = decimal id.mag ++ hex_byte id.page ++ 47 ∷ hex_byte (id.sub / 256) ++ hex_byte (id.sub % 256)
+
+abbrev pub link_text : Option Id → List ℕ
+link_text None = codes " -"
+link_text (Some id) = 32 ∷ id_text id
+
+abbrev pub links_text : List (Option Id) → List ℕ
+links_text [] = []
+links_text (link ∷ links) = link_text link ++ links_text links
+
+-- the last two decimal digits of a number
+abbrev pub two_digits : ℕ → List ℕ
+two_digits n = hex_digit (n / 10 % 10) ∷ hex_digit (n % 10) ∷ []
+
+-- a Modified Julian Date below 100,000
+abbrev pub date_text : ℕ → List ℕ
+date_text mjd = hex_digit (mjd / 10000 % 10) ∷ two_digits (mjd / 100) ++ two_digits mjd
+
+-- hours, minutes and seconds
+abbrev pub time_text : ℕ → List ℕ
+time_text utc = two_digits (utc / 10000) ++ two_digits (utc / 100) ++ two_digits utc

@@ -1,0 +1,95 @@
+//! Texts of ids, links, dates and times.
+
+ghost use Rattle.std.specs.Prelude.{◌≡◌, ◌<◌, ◌/◌, ◌%◌, ◌++◌, OnOk, string_bytes};
+ghost use Rattle.ttx_header.specs.Ids.{id_at};
+ghost use Rattle.ttx_tool.specs.Texts.{hex_digit, hex_byte, id_text, link_text, links_text, two_digits, date_text, time_text};
+
+use std::alloc::AllocError;
+use ttx_links::Target;
+
+// The digit of a number below 16.
+fn digit(number: u8) -> char
+    requires { number < 16 }
+    ensures { result ≡ hex_digit number }
+{
+    if number < 10 {
+        char::from(b'0' + number)
+    } else {
+        char::from(b'A' - 10 + number)
+    }
+}
+
+// Adds two hexadecimal digits.
+fn push_byte(text: &mut String, byte: u8) -> Result<(), AllocError>
+    ensures { OnOk result (string_bytes text.new ≡ string_bytes text.old ++ hex_byte byte) }
+{
+    text.push(digit(byte / 16))?;
+    text.push(digit(byte % 16))
+}
+
+// Adds the four digits of a subcode.
+fn push_subcode(text: &mut String, sub: u16) -> Result<(), AllocError>
+    ensures { OnOk result (string_bytes text.new ≡ string_bytes text.old ++ hex_byte (sub / 256) ++ hex_byte (sub % 256)) }
+{
+    push_byte(text, (sub / 256) as u8)?;
+    push_byte(text, (sub % 256) as u8)
+}
+
+/// Adds the id of a page or of a target: magazine and two digits, a stroke, and the four digits of the subcode.
+pub(crate) fn push_id(text: &mut String, mag: u8, page: u8, sub: u16) -> Result<(), AllocError>
+    ensures { OnOk result (string_bytes text.new ≡ string_bytes text.old ++ id_text (id_at mag page sub)) }
+{
+    write!(text, "{mag}")?;
+    push_byte(text, page)?;
+    text.push('/')?;
+    push_subcode(text, sub)
+}
+
+// Adds a space and where a link leads.
+fn push_link(text: &mut String, link: &Option<Target>) -> Result<(), AllocError>
+    ensures { OnOk result (string_bytes text.new ≡ string_bytes text.old ++ link_text link.now) }
+{
+    match link {
+        Some(target) => {
+            text.push(' ')?;
+            push_id(text, target.mag(), target.page(), target.sub())
+        }
+        None => text.push_str(" -"),
+    }
+}
+
+/// Adds links, each after a space.
+pub(crate) fn push_links(text: &mut String, links: &[Option<Target>]) -> Result<(), AllocError>
+    ensures { OnOk result (string_bytes text.new ≡ string_bytes text.old ++ links_text links.now) }
+{
+    for link in links {
+        push_link(text, link)?;
+    }
+    Ok(())
+}
+
+// Adds two decimal digits, the last two of the number.
+fn push_pair(text: &mut String, number: u32) -> Result<(), AllocError>
+    ensures { OnOk result (string_bytes text.new ≡ string_bytes text.old ++ two_digits number) }
+{
+    text.push(digit((number / 10 % 10) as u8))?;
+    text.push(digit((number % 10) as u8))
+}
+
+/// Adds a Modified Julian Date in five digits.
+pub(crate) fn push_date(text: &mut String, mjd: u32) -> Result<(), AllocError>
+    ensures { OnOk result (string_bytes text.new ≡ string_bytes text.old ++ date_text mjd) }
+{
+    text.push(digit((mjd / 10_000 % 10) as u8))?;
+    push_pair(text, mjd / 100)?;
+    push_pair(text, mjd)
+}
+
+/// Adds a time of day in six digits.
+pub(crate) fn push_time(text: &mut String, utc: u32) -> Result<(), AllocError>
+    ensures { OnOk result (string_bytes text.new ≡ string_bytes text.old ++ time_text utc) }
+{
+    push_pair(text, utc / 10_000)?;
+    push_pair(text, utc / 100)?;
+    push_pair(text, utc)
+}
