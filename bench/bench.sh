@@ -1,0 +1,40 @@
+#!/bin/sh
+# Times the program beside plain tools on the same files in the same run, and prints a table.
+#
+# usage: bench.sh PROGRAM
+#
+# The files are made in a folder of their own, which is removed at the end. A time is the least of five runs, in milliseconds.
+set -u
+[ -x "$1" ] || { echo "no program at $1" >&2; exit 1; }
+program=$(realpath "$1")
+here=$(cd "$(dirname "$0")" && pwd)
+work=$(mktemp -d)
+trap 'rm -rf "$work"' EXIT
+python3 "$here/inputs.py" "$work"
+cd "$work" || exit 1
+
+# the least time of five runs of a command, in microseconds
+least() {
+    best=
+    for _ in 1 2 3 4 5; do
+        start=$(date +%s%N)
+        "$@" > /dev/null 2>&1
+        end=$(date +%s%N)
+        took=$(((end - start) / 1000))
+        if [ -z "$best" ] || [ "$took" -lt "$best" ]; then best=$took; fi
+    done
+    echo "$best"
+}
+
+tenths() { echo "$(($1 / 1000)).$(($1 / 100 % 10))"; }
+
+printf '%-10s %14s %14s %14s\n' slots 'inspect, ms' 'od, ms' 'sha256sum, ms'
+for slots in 8192 16384 32768 65536; do
+    inspect=$(least "$program" inspect "$slots.t42")
+    dump=$(least od -An -tx1 -v "$slots.t42")
+    hash=$(least sha256sum "$slots.t42")
+    printf '%-10s %14s %14s %14s\n' "$slots" "$(tenths "$inspect")" "$(tenths "$dump")" "$(tenths "$hash")"
+    [ "$slots" = 8192 ] && first=$inspect
+    last=$inspect
+done
+echo "inspect: time at 65,536 slots over time at 8,192: $((last * 10 / first / 10)).$((last * 10 / first % 10)) (goal: at most 9)"

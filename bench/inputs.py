@@ -1,0 +1,113 @@
+#!/usr/bin/env python3
+"""Makes the inputs of the benchmark: services and packet files of rising size.
+
+usage: inputs.py FOLDER
+
+It writes nothing outside FOLDER. Packet files are written here byte by byte, since a planned cycle is at most half as
+long as the longest packet file.
+"""
+import sys
+from pathlib import Path
+
+WORDS = bytes.fromhex("1502495e6473382fd0c78c9ba1b6fdea")
+EMPTY = bytes(42)
+
+
+def odd(code):
+    """The byte of a character, with odd parity."""
+    return code if bin(code).count("1") % 2 else code + 128
+
+
+def address(mag, number):
+    return bytes([WORDS[mag % 8 + 8 * (number % 2)], WORDS[number // 2]])
+
+
+def header(mag, page, sub, c11, text):
+    digits = [page % 16, page // 16, sub % 16, sub // 16 % 8, sub // 256 % 16, sub // 4096, 0, c11]
+    words = bytes(WORDS[digit] for digit in digits)
+    return address(mag, 0) + words + bytes(odd(ord(c)) for c in text[:24].ljust(24)) + bytes([0x20] * 8)
+
+
+def row(mag, number, text):
+    return address(mag, number) + bytes(odd(ord(c)) for c in text[:40].ljust(40))
+
+
+def links(mag):
+    none = bytes(WORDS[n] for n in (15, 15, 15, 7, 15, 3))
+    return address(mag, 27) + bytes([WORDS[0]]) + none * 6 + bytes([WORDS[7], 0, 0])
+
+
+def page_ids(count):
+    """Page ids in authored order: eight magazines, pages 00 to FE, then further subcodes."""
+    made = 0
+    for sub in range(0, 0x80):
+        for page in range(0x00, 0xFF):
+            for mag in range(1, 9):
+                if made == count:
+                    return
+                yield mag, page, sub
+                made += 1
+
+
+def body(number):
+    return [f"PAGE {number} ROW {r} OF A SERVICE" for r in range(1, 24)]
+
+
+def cycle(slots, pages, lines):
+    """A serial cycle of this many slots that sends the pages in turn, as often as they fit whole."""
+    out = []
+    blocks = []
+    for number, (mag, page, sub) in enumerate(page_ids(pages)):
+        block = [header(mag, page, sub, 1, f"PAGE {number}")] + [EMPTY] * lines
+        block += [row(mag, r, text) for r, text in enumerate(body(number), 1)] + [links(mag)]
+        blocks.append(block)
+    at = 0
+    while len(out) + len(blocks[at % pages]) <= slots:
+        out += blocks[at % pages]
+        at += 1
+    out += [EMPTY] * (slots - len(out))
+    assert at >= pages, "not every page fits"
+    return b"".join(out)
+
+
+def service(pages, lines):
+    out = [f"lines = {lines}", "serial = true", ""]
+    for number, (mag, page, sub) in enumerate(page_ids(pages)):
+        out += ["[[page]]", f'number = "{mag}{page:02X}"', f'sub = "{sub:04X}"', f'head = "PAGE {number}"', "[page.rows]"]
+        out += [f'{r} = "{text}"' for r, text in enumerate(body(number), 1)]
+        out.append("")
+    return "\n".join(out) + "\n"
+
+
+def full_service(pages, lines):
+    """Pages of which each row is forty characters long."""
+    out = [f"lines = {lines}", "serial = true", ""]
+    for mag, page, sub in page_ids(pages):
+        out += ["[[page]]", f'number = "{mag}{page:02X}"', f'sub = "{sub:04X}"', "[page.rows]"]
+        out += [f'{r} = "{"ABCDEFGHIJKLMNOPQRSTUVWXYZ 0123456789 AB"[:40]}"' for r in range(1, 24)]
+        out.append("")
+    return "\n".join(out) + "\n"
+
+
+def main():
+    folder = Path(sys.argv[1])
+    folder.mkdir(parents=True, exist_ok=True)
+    for slots, pages in ((8192, 250), (16384, 500), (32768, 1000), (65536, 2000)):
+        (folder / f"{slots}.t42").write_bytes(cycle(slots, pages, 1))
+        (folder / f"{slots}.toml").write_text(service(pages, 1))
+    (folder / "full.toml").write_text(full_service(2000, 1))
+    subpages = "".join(f'[[page]]\nnumber = "100"\nsub = "{sub:04X}"\n' for sub in subcodes(1213))
+    (folder / "subpages.toml").write_text("lines = 2\nserial = true\n" + subpages)
+
+
+def subcodes(count):
+    made = 0
+    for sub in range(0x3F7F):
+        if sub & ~0x3F7F == 0:
+            if made == count:
+                return
+            yield sub
+            made += 1
+
+
+main()

@@ -1,0 +1,120 @@
+#!/usr/bin/env python3
+"""Makes the files of tests/data, by an encoder that shares nothing with the program.
+
+usage: make_data.py FOLDER
+
+The words are those of EN 300 706, 8.2; a character has odd parity (8.1).
+"""
+import sys
+from pathlib import Path
+
+WORDS = bytes.fromhex("1502495e6473382fd0c78c9ba1b6fdea")
+EMPTY = bytes(42)
+SPACES = bytes([0x20] * 40)
+
+
+def packet(mag, number, rest):
+    slot = bytes([WORDS[mag % 8 + 8 * (number % 2)], WORDS[number // 2]]) + rest
+    assert len(slot) == 42
+    return slot
+
+
+def header(mag, page, sub=0, c4_10=0, c11_14=1, text=SPACES[:32]):
+    low = c4_10 & 1
+    s = [sub % 16, sub // 16 % 8 + 8 * low, sub // 256 % 16, sub // 4096 + 4 * (c4_10 >> 1 & 3)]
+    numbers = [page % 16, page // 16, *s, c4_10 >> 3, c11_14]
+    return packet(mag, 0, bytes(WORDS[n] for n in numbers) + text)
+
+
+def row(mag, number, text=SPACES):
+    return packet(mag, number, text)
+
+
+def links(mag, first=None, control=7):
+    """A packet X/27/0 whose first link is the six numbers given, or none."""
+    none = (15, 15, 15, 7, 15, 3)
+    numbers = [0, *(first or none), *none * 5, control]
+    return packet(mag, 27, bytes(WORDS[n] for n in numbers) + bytes(2))
+
+
+def time_filling(mag, c11=1):
+    return header(mag, 0xFF, 0x3F7F, 0, c11)
+
+
+def base():
+    """28 slots: page 100, its 23 blank rows, no links, and the time-filling header of magazine 1."""
+    return [header(1, 0), EMPTY, EMPTY, *[row(1, r) for r in range(1, 24)], links(1), time_filling(1)]
+
+
+def with_slot(slots, at, slot):
+    return [*slots[:at], slot, *slots[at + 1 :]]
+
+
+def with_byte(slots, at, byte, value):
+    slot = bytearray(slots[at])
+    slot[byte] = value
+    return with_slot(slots, at, bytes(slot))
+
+
+def each_kind():
+    """A slot of each kind, and slots with wrong bits."""
+    info = bytes.fromhex("15ea151515eaeaea5e123485057111234156" "00000000" "5445d354") + SPACES[:16]
+    link = links(1, (5, 0, 15, 15, 15, 7), 7)
+    slots = [header(1, 0), EMPTY, row(1, 1), bytes([0x16] * 42), bytes(41) + bytes([1]), bytes([0xFF] * 42), link]
+    slots += [links(1, (5, 0, 15, 15, 15, 7), 15)]
+    slots += [with_byte([link], 0, at, value)[0] for at, value in [(2, 0x02), (2, 0x16), (3, 0x16)]]
+    slots += [info]
+    slots += [with_byte([info], 0, at, value)[0] for at, value in [(2, 0x49), (13, 0x70), (22, 0x55), (3, 0x16)]]
+    return slots
+
+
+def certificate(deadline, repeat=1, rows=range(1, 24), more=None):
+    lines = ["ttx certificate 1", "lines 2", f"repeat {repeat}", f"deadline {deadline}", "100/0000 head 0"]
+    starts = {r: str(r + 2) for r in rows} | (more or {})
+    lines += [f"100/0000 row {r} {starts[r]}" for r in sorted(starts)]
+    return "\n".join([*lines, "100/0000 links 26"]) + "\n"
+
+
+def main():
+    folder = Path(sys.argv[1])
+    folder.mkdir(parents=True, exist_ok=True)
+    near_row = with_slot(with_slot(base(), 2, row(1, 1)), 3, EMPTY)
+    files = {
+        "nothing": [],
+        "base.t42": base(),
+        "base-header.t42": base()[:1],
+        "each-kind.t42": each_kind(),
+        "time-filling.t42": [time_filling(1)],
+        "empty-slot.t42": [EMPTY],
+        "row-near-header.t42": near_row,
+        "erased.t42": with_byte(base(), 0, 5, 0xD0),
+        "linked.t42": with_slot(base(), 26, links(1, (5, 0, 15, 15, 15, 7))),
+        "no-header.t42": with_slot(base(), 0, EMPTY),
+        "turned.t42": [*base()[10:], *base()[:10]],
+        "other-magazine.t42": with_slot(base(), 1, header(2, 0, 0, 0, 0)),
+        "other-magazine-serial.t42": with_slot(base(), 1, header(2, 0, 0, 0, 1)),
+        "bad-slot.t42": with_byte(base(), 4, 0, 0x03),
+    }
+    for name, slots in files.items():
+        (folder / name).write_bytes(b"".join(slots))
+    (folder / "83-bytes").write_bytes(b"".join(base())[:83])
+    texts = {
+        "base.toml": 'lines = 2\nserial = true\n[[page]]\nnumber = "100"\n',
+        "no-pages.toml": "lines = 2\nserial = true\n",
+        "often-3.toml": 'lines = 2\nserial = true\n[[page]]\nnumber = "100"\noften = 3\n',
+        "base.cert": certificate(27),
+        "base-26.cert": certificate(26),
+        "base-repeat-2.cert": certificate(41, 2),
+        "no-row-1.cert": certificate(27, rows=range(2, 24)),
+        "row-1-near.cert": certificate(27, rows=range(2, 24), more={1: "2"}),
+        "clearing.cert": "ttx certificate 2\nclass clearing\nlines 2\nrepeat 1\ndeadline 2\n100/0000 head 0\n",
+    }
+    for name, text in texts.items():
+        (folder / name).write_text(text)
+    subpages = [sub for sub in range(0x3F7F) if sub & ~0x3F7F == 0][:1214]
+    pages = [f'[[page]]\nnumber = "100"\nsub = "{sub:04X}"\n' for sub in subpages]
+    (folder / "1214-subpages.toml").write_text("lines = 2\nserial = true\n" + "".join(pages))
+    (folder / "1213-subpages.toml").write_text("lines = 2\nserial = true\n" + "".join(pages[:1213]))
+
+
+main()
