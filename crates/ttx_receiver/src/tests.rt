@@ -75,3 +75,34 @@ fn a_script_is_asked_at_each_choice(rt: HostRuntime) {
     let mut never = Scripted::new(page_100(), 2, former(false), &[]);
     assert_eq!(rt; first_of_row_1(&mut never), 0x20);
 }
+
+// An A, sent as C1, is received as C0: it has even parity, and what is held stays.
+#[test]
+fn a_character_with_a_wrong_bit_is_not_stored(rt: HostRuntime) {
+    let mut right = row_1();
+    right[2] = 0xc1;
+    let mut wrong = row_1();
+    wrong[2] = 0xc0;
+    let mut eager = Eager::new(page_100(), 2, former(false));
+    eager.step(Some(&header()));
+    eager.step(Some(&right));
+    assert_eq!(rt; eager.memory().rows()[1][0], 0x41);
+    eager.step(Some(&wrong));
+    assert_eq!(rt; eager.memory().rows()[1][0], 0x41);
+}
+
+// Clocks that change with each header, of right and wrong parity.
+#[test]
+fn a_wild_clock_leaves_the_head(rt: HostRuntime) {
+    let mut careful = Careful::new(page_100(), 2, former(false));
+    for clock in 0..=255 {
+        let mut slot = header();
+        slot[10] = 0xc1;
+        slot[33] = 0xc2;
+        slot[34..].fill(clock);
+        careful.step(Some(&slot));
+        let row = careful.memory().rows()[0];
+        assert_eq!(rt; row[8], 0x41);
+        assert_eq!(rt; row[31], 0x42);
+    }
+}
