@@ -9,3 +9,14 @@ pub mod Sums
 pub mod Tracking
 pub mod Used
 pub mod Waiting
+pub mod Owners
+pub mod InQueues
+pub mod Behind
+pub mod Owned
+pub mod Lists
+pub mod Placed
+pub mod Readable
+pub mod AllRead
+pub mod OwnRows
+pub mod Placing
+pub mod Planned

@@ -3,6 +3,7 @@ pub mod Carries
 pub mod Contents
 pub mod Counting
 pub mod Cursors
+pub mod Laws
 pub mod Packets
 pub mod Ranges
 pub mod Seen

@@ -7,12 +7,15 @@ mod contents;
 mod cursors;
 mod cycle;
 mod faults;
+pub mod laws;
 mod packet;
 mod parallel;
 mod planning;
 mod rounds;
 mod serial;
 mod slots;
+#[cfg(test)]
+mod tests;
 
 pub use faults::PlanFault;
 pub use planning::{plan, plan_for};

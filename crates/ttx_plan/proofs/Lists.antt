@@ -1,0 +1,37 @@
+-- What holds of each element of a list.
+use Rattle.std.proofs.Common.{◌≡◌, ℕ, zero, suc, Bool, true, false, cond, List, [], ◌∷◌, ◌++◌, map, replicate, Some, None, refl, sym, subst, inl, inr}
+use Rattle.std.specs.Prelude.{slice_get, flat_map, filter}
+use Rattle.std.specs.List.{AllByRecursion}
+use Rattle.std.proofs.lemmas.Bool.{cond-true, cond-false, cases_Bool}
+
+pub all_append : {A : Type 0} (P : A → Type 0) (xs ys : List A) → AllByRecursion P xs → AllByRecursion P ys → AllByRecursion P (xs ++ ys)
+all_append P [] ys a b = b
+all_append P (x ∷ xs) ys a b = (a.0, all_append P xs ys a.1 b)
+
+pub all_map : {A B : Type 0} (P : B → Type 0) (f : A → B) (xs : List A) → AllByRecursion (λ x. P (f x)) xs → AllByRecursion P (map f xs)
+all_map P f [] a = tt
+all_map P f (x ∷ xs) a = (a.0, all_map P f xs a.1)
+
+pub all_replicate : {A : Type 0} (P : A → Type 0) (n : ℕ) (x : A) → P x → AllByRecursion P (replicate n x)
+all_replicate P zero x p = tt
+all_replicate P (suc n) x p = (p, all_replicate P n x p)
+
+pub all_if : {A : Type 0} (P : A → Type 0) (b : Bool) (x : A) → (b ≡ true → P x) → AllByRecursion P (cond b (x ∷ []) [])
+all_if P true x p = (p refl, tt)
+all_if P false x p = tt
+
+pub all_filter : {A : Type 0} (P : A → Type 0) (test : A → Bool) (xs : List A) → AllByRecursion P xs → AllByRecursion P (filter test xs)
+all_filter P test [] a = tt
+all_filter P test (x ∷ xs) a = elim (cases_Bool (test x)) as (λ _. AllByRecursion P (cond (test x) (x ∷ filter test xs) (filter test xs))) [
+  | inl y ↦ subst (AllByRecursion P) (sym (cond-true (test x) _ _ y)) (a.0, all_filter P test xs a.1)
+  | inr y ↦ subst (AllByRecursion P) (sym (cond-false (test x) _ _ y)) (all_filter P test xs a.1)
+]
+
+pub all_flat_map : {A B : Type 0} (P : B → Type 0) (Q : A → Type 0) (f : A → List B) → ((x : A) → Q x → AllByRecursion P (f x)) → (xs : List A) → AllByRecursion Q xs → AllByRecursion P (flat_map f xs)
+all_flat_map P Q f each [] a = tt
+all_flat_map P Q f each (x ∷ xs) a = all_append P (f x) (flat_map f xs) (each x a.0) (all_flat_map P Q f each xs a.1)
+
+pub all_get : {A : Type 0} (P : A → Type 0) (xs : List A) (k : ℕ) (x : A) → AllByRecursion P xs → slice_get xs k ≡ Some x → P x
+all_get P [] k x a e = let f : None ≡ Some x = e in cc
+all_get P (y ∷ xs) zero x a e = let f : Some y ≡ Some x = e in let g : y ≡ x = cc in subst P g a.0
+all_get P (y ∷ xs) (suc k) x a e = all_get P xs k x a.1 e
