@@ -9,7 +9,7 @@ use Rattle.ttx_witness.specs.Sent.{sent_in}
 use Rattle.ttx_witness.specs.CycleLaws.{CoverageIsDecided, FirstsAreFound, FurtherStartsCover, SureStartsAreFound, LeastLimitIsFound}
 use Rattle.ttx_witness.proofs.Covered as C
 use Rattle.ttx_witness.proofs.Late as L
-use Rattle.ttx_witness.proofs.Found as F
+use Rattle.ttx_witness.proofs.SureStarts as F
 use Rattle.ttx_witness.proofs.Streams.{law, sent_told, covered_to, covered_from, sure_run_to, sure_run_from}
 
 pub coverage_is_decided : CoverageIsDecided

@@ -8,7 +8,7 @@ use Rattle.ttx_witness.proofs.Basics.{if_ind, no_both}
 abbrev Lists : Type 0
 Lists = List (Vec Transmission Global)
 
-held_is : (vs : Lists) (n : ℕ) (d : Vec Transmission Global) → n < length vs → held vs n ≡ (get_or vs n d).items
+pub held_is : (vs : Lists) (n : ℕ) (d : Vec Transmission Global) → n < length vs → held vs n ≡ (get_or vs n d).items
 held_is [] n d lt = absurd (omega arith)
 held_is (x ∷ vs) zero d lt = refl
 held_is (x ∷ vs) (suc n) d lt = held_is vs n d (omega arith)

@@ -13,7 +13,7 @@ pub mod Cursor
 pub mod Least
 pub mod Decides
 pub mod Covered
-pub mod Found
+pub mod SureStarts
 pub mod Late
 pub mod Periods
 pub mod Owning
@@ -22,3 +22,26 @@ pub mod Cycles
 pub mod OneByOne
 pub mod Held
 pub mod Noting
+pub mod NoFault
+mod EntryOrder
+mod CertificateRules
+pub mod Judging
+pub mod HeaderGaps
+pub mod HeaderLimits
+pub mod ByKind
+pub mod Looking
+pub mod Telling
+pub mod Indexing
+pub mod Entering
+pub mod Adding
+pub mod Whole
+pub mod SentOnes
+mod TextParts
+pub mod LineShapes
+mod ReadEntries
+pub mod Listed
+pub mod Straying
+pub mod AcceptedTexts
+mod WrittenTexts
+pub mod DueItems
+pub mod Finds

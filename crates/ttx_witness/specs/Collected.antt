@@ -2,20 +2,27 @@
 --
 --   taint, seen_by          an owner after a header of another magazine; an owner as one of the pages sees it
 --   Finds                   a look-up that tells the place of an id among the ids of pages
+--   ids_of                  the ids of pages
 --   AreOwners               the owners are right for each page
 --   IsItem, place           the items of a page, and where the transmissions of an item of a page are kept
---   held, AreCollected      the list in a place; the lists are the transmissions of all items
+--   held, AreCollected      the list in a place; the lists are the transmissions of all items in the first slots of a period
 use Rattle.std.specs.Prelude.{◌≡◌, ℕ, ◌+◌, ◌-◌, ◌*◌, ◌<◌, ◌≤◌, Bool, false, ◌||◌, ◌==◌, List, [], slice_get, get_or, map, length, nat_eq, Option, Some, None, Vec}
 use Rattle.std.specs.Global.{Global}
 use Rattle.ttx_header.specs.Ids.{Id, IsId, same_id}
-use Rattle.ttx_page.specs.Streams.{Stream}
+use Rattle.ttx_page.specs.Streams.{repeated}
+use Rattle.ttx_page.specs.declared.page.Page.{Page as PageValue}
+use Rattle.ttx_page.specs.Views.{page_of}
 use Rattle.ttx_page.specs.declared.item.Item.{Item}
 use Rattle.ttx_page.specs.declared.item.Item.TheVariants.{Head as TheHead, Row as TheRow, Links as TheLinks}
 use Rattle.ttx_witness.specs.Transmissions.{Transmission}
-use Rattle.ttx_witness.specs.Sent.{PageOwner, owner_scan, sent_scan}
+use Rattle.ttx_witness.specs.Sent.{PageOwner, owner_scan, sent_scan, entry_of}
 use Rattle.std.specs.HashMap.{get}
 use Rattle.ttx_witness.specs.declared.owners.Owner.{Owner}
 use Rattle.ttx_witness.specs.declared.page_index.PageIndex.{PageIndex}
+
+-- the ids of pages
+abbrev pub ids_of : List PageValue → List Id
+ids_of pages = map (λ p. (page_of p).id) pages
 
 abbrev pub taint : Bool → Option Owner → Option Owner
 taint ends None = None
@@ -38,9 +45,9 @@ Finds ids id answer = (i : ℕ) (own : Id) → slice_get ids i ≡ Some own → 
 abbrev pub owner_for : List (Option Owner) → ℕ → Id → Option PageOwner
 owner_for owners i id = seen_by i (get_or owners (id.mag - 1) None)
 
--- after j slots, from these owners on
-abbrev pub AreOwners : List Id → Stream → List (Option Owner) → ℕ → List (Option Owner) → Type 0
-AreOwners ids s entry j owners = (i : ℕ) (id : Id) → slice_get ids i ≡ Some id → IsId id → owner_for owners i id ≡ owner_scan id s (owner_for entry i id) j
+-- after j slots of the period
+abbrev pub AreOwners : List Id → List (List ℕ) → ℕ → List (Option Owner) → Type 0
+AreOwners ids cycle j owners = (i : ℕ) (id : Id) → slice_get ids i ≡ Some id → IsId id → owner_for owners i id ≡ owner_scan id (repeated cycle) (entry_of cycle id) j
 
 -- a page is never the owner's in another magazine than its own
 abbrev pub IsForeign : ℕ → Option Owner → Type 0
@@ -67,10 +74,11 @@ place i item = 26 * i + item_number item
 abbrev pub held : List (Vec Transmission Global) → ℕ → List Transmission
 held lists n = get_or (map (λ v. v.items) lists) n []
 
--- the lists of all items of all pages are the transmissions of j slots
-pub record AreCollected (ids : List Id) (lines : ℕ) (s : Stream) (entry : List (Option Owner)) (j : ℕ) (lists : List (Vec Transmission Global)) : Type 0 where
+-- the transmissions of all items of all pages in the first j slots of the period
+pub record AreCollected (ids : List Id) (cycle : List (List ℕ)) (lines j : ℕ) (lists : List (Vec Transmission Global)) : Type 0 where
   pub count : length lists ≡ 26 * length ids
-  pub each : (i : ℕ) (id : Id) (item : Item) → slice_get ids i ≡ Some id → IsId id → IsItem item → held lists (place i item) ≡ sent_scan id lines item s (owner_for entry i id) j
+  pub each : (i : ℕ) (id : Id) (item : Item) → slice_get ids i ≡ Some id → IsId id → IsItem item →
+      held lists (place i item) ≡ sent_scan id lines item (repeated cycle) (entry_of cycle id) j
 
 -- an id as one number
 abbrev pub key_of : Id → ℕ

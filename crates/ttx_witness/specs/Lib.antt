@@ -9,3 +9,17 @@ pub mod Sent
 pub mod Collected
 pub mod Laws
 pub mod CycleLaws
+pub mod JudgingLaws
+pub mod Faults
+pub mod Entries
+pub mod EntryViews
+pub mod Certificates
+pub mod CertificateLaws
+pub mod CertificateTexts
+pub mod Comparing
+pub mod OtherSubpages
+pub mod AllSent
+pub mod CertificateReading
+pub mod WrittenEntries
+pub mod ReadingAnswers
+pub mod Finding

@@ -1,13 +1,19 @@
 //! The transmissions of all items of all pages in a period.
 
-ghost use Rattle.std.specs.Prelude.{◌≡◌, ◌<◌, ℕ, OnOk, ◌++◌, ◌∷◌, [], length, if◌then◌else◌, ◌==◌, ◌&&◌, ◌+ℤ◌, pos, not, int_lt, true};
+ghost use Rattle.std.specs.Prelude.{◌≡◌, ◌<◌, ℕ, OnOk, List, slice_get, Some, ◌++◌, ◌∷◌, [], length, if◌then◌else◌, ◌==◌, ◌&&◌, ◌+ℤ◌, pos, not, int_lt, true};
+ghost use Rattle.ttx_header.specs.Ids.{Id, IsId};
+ghost use Rattle.ttx_packet.specs.Slots.{IsSlot};
+ghost use Rattle.ttx_page.specs.Packets.{packet_of};
 ghost use Rattle.ttx_page.specs.declared.item.Item.{Item};
-ghost use Rattle.ttx_witness.specs.Sent.{sent_under};
-ghost use Rattle.ttx_witness.specs.Collected.{held, IsItem, place, item_number, seen_by, is_page};
+ghost use Rattle.ttx_witness.specs.Sent.{sent_under, sent_at};
+ghost use Rattle.ttx_witness.specs.Collected.{held, IsItem, IsIndex, AreApart, place, item_number, seen_by, owner_for, is_page};
 
 use crate::owners::Owner;
+use crate::page_index::{PageIndex, find};
 use crate::search::NoMemory;
 use crate::transmissions::Transmission;
+use ttx_header::read_header;
+use ttx_packet::{Slot, slot_of};
 
 // Adds a transmission at the end of the list in this place.
 fn add(lists: &mut Vec<Vec<Transmission>>, at: usize, t: Transmission) -> Result<(), NoMemory>
@@ -85,4 +91,36 @@ fn add_head(lists: &mut Vec<Vec<Transmission>>, page: Option<u32>, j: i32) -> Re
             sure: true,
         },
     )
+}
+
+/// Adds what a slot sends to the lists of the pages' items, under the owners before it.
+pub fn add_slot(
+    lists: &mut Vec<Vec<Transmission>>,
+    owners: &[Option<Owner>; 8],
+    index: &PageIndex,
+    slot: &[u8; 42],
+    j: i32,
+    lines: u8,
+) -> Result<(), NoMemory>
+    requires { IsSlot slot.now }
+    ensures count { length lists.new.items ≡ length lists.old.items }
+    ensures added { OnOk result ((ids : List Id) → IsIndex ids index.now → AreApart ids owners.now → (i : ℕ) (id : Id) (item : Item) → slice_get ids i ≡ Some id → IsId id → IsItem item → place i item < length lists.old.items → held lists.new.items (place i item) ≡ held lists.old.items (place i item) ++ sent_at id lines item j (packet_of slot.now) (owner_for owners.now i id)) }
+{
+    ttx_header::laws::headers_have_fields();
+    ttx_header::laws::headers_are_headers();
+    match slot_of(slot) {
+        Slot::Header(_, _) => match read_header(slot) {
+            Some(header) => add_head(lists, find(index, header.id()), j),
+            None => Ok(()),
+        },
+        Slot::Row(at, _) => add_under(
+            lists,
+            owners[usize::from(at.mag) - 1],
+            usize::from(at.number),
+            j,
+            lines,
+        ),
+        Slot::Links(at, _) => add_under(lists, owners[usize::from(at.mag) - 1], 25, j, lines),
+        _ => Ok(()),
+    }
 }

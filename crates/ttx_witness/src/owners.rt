@@ -4,10 +4,12 @@ ghost use Rattle.std.specs.Prelude.{◌≡◌, ◌<◌, ℕ, List, slice_get, ge
 ghost use Rattle.ttx_header.specs.Ids.{Id, IsId};
 ghost use Rattle.ttx_packet.specs.Slots.{IsSlot};
 ghost use Rattle.ttx_page.specs.Packets.{packet_of};
+ghost use Rattle.ttx_cycle.specs.Cycles.{slots_of};
 ghost use Rattle.ttx_witness.specs.Sent.{owner_after};
-ghost use Rattle.ttx_witness.specs.Collected.{taint, IsIndex, AreApart, owner_for};
+ghost use Rattle.ttx_witness.specs.Collected.{taint, IsIndex, AreOwners, AreApart, owner_for};
 
 use crate::page_index::{PageIndex, find};
+use ttx_cycle::Cycle;
 use ttx_header::read_header;
 
 /// The latest header of a magazine: its slot, which of the pages it is of, and whether a header of another
@@ -76,4 +78,18 @@ pub fn note_owner(owners: &mut [Option<Owner>; 8], index: &PageIndex, slot: &[u8
             header.control().is_serial(),
         );
     }
+}
+
+/// The owners before slot 0: those at the end of the period, a period earlier.
+pub fn entry_owners(index: &PageIndex, cycle: &Cycle) -> [Option<Owner>; 8]
+    ensures owners { (ids : List Id) → IsIndex ids index.now → AreOwners ids (slots_of cycle.now) 0 result }
+    ensures apart { (ids : List Id) → IsIndex ids index.now → AreApart ids result }
+{
+    let slots = cycle.slots();
+    let period = slots.len() as i32;
+    let mut owners = [None; 8];
+    for j in 0..slots.len() {
+        note_owner(&mut owners, index, &slots[j], j as i32 - period);
+    }
+    owners
 }

@@ -1,5 +1,5 @@
 use Rattle.ttx_witness.specs.Laws.{OwnedIn, SureIn}
-use Rattle.ttx_witness.proofs.Found as L
+use Rattle.ttx_witness.proofs.SureStarts as L
 use Rattle.ttx_witness.proofs.laws.search_is_least.Goals as goal
 
 pub returns : goal.returns

@@ -1,0 +1,136 @@
+//! The entries of certificates.
+
+ghost use Rattle.std.specs.Prelude.{◌≡◌, true, nat_lt};
+ghost use Rattle.std.specs.List.{list_all};
+ghost use Rattle.ttx_header.specs.Ids.{IsId};
+ghost use Rattle.ttx_witness.specs.Collected.{item_number};
+ghost use Rattle.ttx_witness.specs.Entries.{IsEntry, entry_at, is_above, is_page_id, is_item, are_starts, rises, place_of};
+
+use ttx_header::PageId;
+use ttx_page::Item;
+
+/// The starts that are named for an item of a page. At least one start, each below 65,536, strictly rising; the page number
+/// isn't FF and the subcode isn't 3F7F.
+#[derive(Drop)]
+pub struct Entry {
+    page: PageId,
+    item: Item,
+    starts: Vec<u32>,
+    ghost kept: { IsEntry (entry_at page item starts.items) },
+}
+
+/// Whether a number is above the one before it.
+pub(crate) fn is_above(low: Option<u32>, number: u32) -> bool
+    ensures { result ≡ is_above low number }
+{
+    match low {
+        Some(low) => low < number,
+        None => true,
+    }
+}
+
+// Whether the id is one of a page: no page FF, and no subcode 3F7F.
+fn is_page_id(page: PageId) -> bool
+    ensures value { result ≡ is_page_id page }
+    ensures ranges { IsId page }
+{
+    let _mag = page.mag();
+    page.page() != 0xff && page.sub() != 0x3f7f
+}
+
+// The place of an item in its page.
+fn item_number(item: &Item) -> u8
+    ensures value { result ≡ item_number item.now }
+    ensures is { is_item item.now ≡ true }
+{
+    match item {
+        Item::Head => 0,
+        Item::Row(row) => row.number(),
+        Item::Links => 25,
+    }
+}
+
+// Whether each number is above the one before it.
+fn rises(numbers: &[u32]) -> bool
+    ensures { result ≡ rises numbers.now }
+{
+    let mut low = None;
+    for number in numbers {
+        if !is_above(low, *number) {
+            return false;
+        }
+        low = Some(*number);
+    }
+    true
+}
+
+/// Whether each number is below 65,536.
+pub(crate) fn are_slots(starts: &[u32]) -> bool
+    ensures { result ≡ list_all (λ start. nat_lt start 65536) starts.now }
+{
+    starts.iter().all(|start| *start < 65_536)
+}
+
+// Whether there is a start, each is below 65,536, and they rise.
+fn are_starts(starts: &[u32]) -> bool
+    ensures { result ≡ are_starts starts.now }
+{
+    !starts.is_empty() && are_slots(starts) && rises(starts)
+}
+
+/// The place of an item of a page in the order of entries.
+pub(crate) fn place(page: PageId, item: Item) -> u32
+    ensures value { result ≡ place_of page item }
+    ensures id { IsId page }
+    ensures item { is_item item ≡ true }
+{
+    let _mag = page.mag();
+    let key = (u32::from(page.mag()) * 256 + u32::from(page.page())) * 16384;
+    (key + u32::from(page.sub())) * 26 + u32::from(item_number(&item))
+}
+
+impl Entry {
+    ghost use Rattle.std.specs.Prelude.{IsSome, IfSome, ◌↔◌};
+    ghost use Rattle.ttx_witness.specs.EntryViews.{entry_of};
+
+    /// The entry of these fields. None where one of the type's rules fails.
+    pub fn new(page: PageId, item: Item, starts: Vec<u32>) -> Option<Entry>
+        ensures some { IsSome result ↔ IsEntry (entry_at page item starts.items) }
+        ensures fields { IfSome result (λ e. entry_of e ≡ entry_at page item starts.items) }
+    {
+        let _number = item_number(&item);
+        if is_page_id(page) && are_starts(starts.as_slice()) {
+            Some(Entry { page, item, starts })
+        } else {
+            None
+        }
+    }
+
+    /// The id of the page.
+    pub fn page(&self) -> PageId
+        ensures { result ≡ (entry_of self.now).page }
+    {
+        self.page
+    }
+
+    /// The item of the page.
+    pub fn item(&self) -> Item
+        ensures { result ≡ (entry_of self.now).item }
+    {
+        self.item
+    }
+
+    /// The place of the entry in the order of entries.
+    pub(crate) fn place(&self) -> u32
+        ensures { result ≡ place_of (entry_of self.now).page (entry_of self.now).item }
+    {
+        place(self.page, self.item)
+    }
+
+    /// The starts that are named, in slots from 0.
+    pub fn starts(&self) -> &[u32]
+        ensures { result.now ≡ (entry_of self.now).starts }
+    {
+        self.starts.as_slice()
+    }
+}

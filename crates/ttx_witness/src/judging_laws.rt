@@ -1,0 +1,20 @@
+//! Laws of how items are judged by the lists of their transmissions.
+
+ghost use Rattle.ttx_witness.specs.JudgingLaws.{TransmissionsAreListed, ItemsAreJudged, HeadersAreJudged};
+
+/// The list of a period's transmissions has each of them, in their order.
+pub fn transmissions_are_listed()
+    ensures { TransmissionsAreListed }
+{}
+
+/// One pass over a period tells the first bad start of an item, or else the first late one.
+pub fn items_are_judged()
+    ensures { ItemsAreJudged }
+{}
+
+/// The list of a page's headers tells whether each is followed by the next in time.
+pub fn headers_are_judged()
+    ensures { HeadersAreJudged }
+{
+    ttx_page::laws::each_slot_turns();
+}

@@ -1,0 +1,15 @@
+//! The transmissions of one period of a cycle.
+
+ghost use Rattle.std.specs.Prelude.{ℕ};
+ghost use Rattle.std.specs.List.{All};
+ghost use Rattle.ttx_witness.specs.Tracks.{IsWithin};
+ghost use Rattle.ttx_witness.specs.Collected.{held};
+
+use crate::transmissions::Transmission;
+
+/// The transmissions of each item of some pages in one period of a cycle.
+#[derive(Drop)]
+pub struct Collected {
+    pub(crate) lists: Vec<Vec<Transmission>>,
+    ghost within: { (n : ℕ) → All (IsWithin 65536) (held lists.items n) },
+}
