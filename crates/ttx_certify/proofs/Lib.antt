@@ -1,0 +1,9 @@
+mod Seeing
+mod Runs
+mod Found
+mod OneByOne
+mod Accepting
+mod Headings
+mod PageByPage
+mod Services
+mod ThreeInputs

@@ -1,0 +1,278 @@
+//! What is certified is seen: worked cycles, received from each tuning slot by each kind of receiver, out of bad memories and
+//! with errors within the error rule.
+
+ghost use Rattle.std.specs.Prelude.{◌≤◌};
+
+use crate::{Verdict, certify};
+use std::alloc::{AllocError, Global};
+use std::test::Fail;
+use ttx_cycle::Cycle;
+use ttx_header::{Control, PageId};
+use ttx_links::Links;
+use ttx_packet::{Slot, address, slot_of};
+use ttx_page::{Page, PageMemory, Selection};
+use ttx_receiver::{Careful, Eager, Receiver, Scripted};
+use ttx_render::{render, same_but_clock};
+use ttx_witness::read_certificate;
+
+// Some first bytes, and then the same byte to the end.
+fn slot(front: &[u8], last: u8) -> [u8; 42] {
+    let mut bytes = [last; 42];
+    for (byte, first) in bytes.iter_mut().zip(front) {
+        *byte = *first;
+    }
+    bytes
+}
+
+const HEADER: [u8; 10] = [0x02, 0x15, 0x15, 0x15, 0x15, 0x15, 0x15, 0x15, 0x15, 0x02];
+
+const FILLING: [u8; 10] = [0x02, 0x15, 0xea, 0xea, 0xea, 0x2f, 0xea, 0x5e, 0x15, 0x02];
+
+// X/27/0 of magazine 1 without links.
+fn links() -> [u8; 42] {
+    let mut bytes = [0; 42];
+    for at in 0..42usize {
+        bytes[at] = match at {
+            0 => 0xc7,
+            1 => 0xb6,
+            2 => 0x15,
+            39 => 0x2f,
+            40 | 41 => 0,
+            _ => match at % 6 {
+                0 => 0x2f,
+                2 => 0x5e,
+                _ => 0xea,
+            },
+        };
+    }
+    bytes
+}
+
+// A page of blank rows: its header, two empty slots, rows 1 to 23, X/27/0, a time-filling header.
+pub(crate) fn base(alloc: Global) -> Result<Vec<[u8; 42]>, AllocError> {
+    let mut slots = Vec::new(alloc);
+    slots.push(slot(&HEADER, 0x20))?;
+    slots.push([0; 42])?;
+    slots.push([0; 42])?;
+    for row in 1..24 {
+        slots.push(slot(&address(1, row), 0x20))?;
+    }
+    slots.push(links())?;
+    slots.push(slot(&FILLING, 0x20))?;
+    Ok(slots)
+}
+
+// Puts another slot in the place of one.
+fn put(slots: &mut [[u8; 42]], at: usize, bytes: [u8; 42]) {
+    if let Some(slot) = slots.get_mut(at) {
+        *slot = bytes;
+    }
+}
+
+// Page 100 with C11; its row 5 begins with a character.
+fn page(first_of_row_5: u8) -> Option<Page> {
+    let mut rows = [[0x20; 40]; 24];
+    rows[4][0] = first_of_row_5;
+    let id = PageId::new(1, 0, 0)?;
+    let links = Links::new([None; 6], false, [0, 0]);
+    Page::new(id, Control::C11, [0x20; 24], rows, links)
+}
+
+// The starts of each item of the page, in a cycle that is turned by some slots; row 6 may be left out.
+pub(crate) fn certificate(
+    alloc: Global,
+    repeat: u8,
+    deadline: u8,
+    turn: u8,
+    has_row_6: bool,
+) -> Result<String, AllocError>
+    requires { turn ≤ 28 }
+{
+    let head = (28 - turn) % 28;
+    let mut text = format!(in alloc;
+        "ttx certificate 1\nlines 2\nrepeat {repeat}\ndeadline {deadline}\n100/0000 head {head}\n"
+    )?;
+    for row in 1..24u8 {
+        if row != 6 || has_row_6 {
+            let start = (row + 30 - turn) % 28;
+            writeln!(text, "100/0000 row {row} {start}")?;
+        }
+    }
+    let last = (54 - turn) % 28;
+    writeln!(text, "100/0000 links {last}")?;
+    Ok(text)
+}
+
+// Whether a byte of a slot is text, of which one in so many successive transmissions is received right.
+fn is_text(slot: &[u8; 42], at: usize) -> bool {
+    match slot_of(slot) {
+        Slot::Header(_, _) => at >= 10 && at < 34,
+        Slot::Row(_, _) => at >= 2,
+        _ => false,
+    }
+}
+
+// One wrong bit in each byte, but for text where it is to be right.
+fn with_errors(sent: &[u8; 42], text_is_right: bool) -> [u8; 42] {
+    let mut bytes = *sent;
+    if *sent == [0; 42] {
+        return bytes;
+    }
+    for at in 0..42usize {
+        if !text_is_right || !is_text(sent, at) {
+            bytes[at] = bytes[at] ^ 1u8 << (at % 8);
+        }
+    }
+    bytes
+}
+
+// What is received of slot `at` of the stream. Where one of two transmissions is right, it is that of every other period.
+fn received(cycle: &Cycle, at: u32, repeat: u8) -> [u8; 42] {
+    let slots = cycle.slots();
+    let place = at as usize;
+    with_errors(
+        &slots[place % slots.len()],
+        repeat == 1 || place / slots.len() % 2 == 0,
+    )
+}
+
+// Whether the receiver shows the page after so many slots, and after each of the next 28.
+fn is_seen<R: Receiver>(
+    receiver: &mut R,
+    page: &Page,
+    cycle: &Cycle,
+    tuning: u16,
+    slots: u16,
+    repeat: u8,
+) -> bool {
+    let wanted = render(&PageMemory::of(page));
+    let begin = u32::from(tuning);
+    for i in 0..u32::from(slots) {
+        receiver.step(Some(&received(cycle, begin + i, repeat)));
+    }
+    let deadline = begin + u32::from(slots);
+    let mut is_shown = same_but_clock(&render(receiver.memory()), &wanted);
+    for i in 0..28u32 {
+        receiver.step(Some(&received(cycle, deadline + i, repeat)));
+        is_shown = is_shown && same_but_clock(&render(receiver.memory()), &wanted);
+    }
+    is_shown
+}
+
+// A memory full of 7F.
+fn former(storing: bool, age: u8, fresh: bool) -> PageMemory {
+    let rows = [[0x7f; 40]; 25];
+    let memory = PageMemory::new(rows, Control::C7, [None; 6], true, storing, age, fresh);
+    memory.unwrap_or(PageMemory::blank())
+}
+
+fn any_subpage() -> Selection {
+    Selection::AnySub(1, 0)
+}
+
+// Whether each kind of receiver shows the page, tuned at this slot.
+fn are_served(page: &Page, cycle: &Cycle, tuning: u16, slots: u16, repeat: u8) -> bool {
+    let mut eager = Eager::new(any_subpage(), 2, former(true, 0, false));
+    let mut careful = Careful::new(Selection::Exact(page.id()), 2, former(true, 2, true));
+    let mut scripted = Scripted::new(
+        any_subpage(),
+        2,
+        former(false, 64, true),
+        &[false, true, true, false, true],
+    );
+    is_seen(&mut eager, page, cycle, tuning, slots, repeat)
+        && is_seen(&mut careful, page, cycle, tuning, slots, repeat)
+        && is_seen(&mut scripted, page, cycle, tuning, slots, repeat)
+}
+
+// Whether the cycle is certified, and the page seen from each tuning slot of a period.
+fn is_right(
+    alloc: Global,
+    slots: Vec<[u8; 42]>,
+    page: Option<Page>,
+    text: &str,
+    deadline: u16,
+    repeat: u8,
+) -> bool {
+    let (Some(page), Some(cycle)) = (page, Cycle::of(slots)) else {
+        return false;
+    };
+    let Ok(certificate) = read_certificate(alloc, text.as_bytes()) else {
+        return false;
+    };
+    let pages = std::slice::from_ref(&page);
+    if !matches!(
+        certify(alloc, &cycle, pages, &certificate),
+        Ok(Verdict::Yes)
+    ) {
+        return false;
+    }
+    (0..28u16).all(|tuning| are_served(&page, &cycle, tuning, deadline, repeat))
+}
+
+#[test]
+fn each_item_once(rt: HostRuntime) -> Result<(), Fail> {
+    let text = certificate(rt.alloc(), 1, 27, 0, true)?;
+    assert!(rt;
+        is_right(
+            rt.alloc(),
+            base(rt.alloc())?,
+            page(0x20),
+            text.as_str(),
+            54,
+            1
+        )
+    );
+    Ok(())
+}
+
+#[test]
+fn one_of_two_is_right(rt: HostRuntime) -> Result<(), Fail> {
+    let text = certificate(rt.alloc(), 2, 41, 0, true)?;
+    assert!(rt;
+        is_right(
+            rt.alloc(),
+            base(rt.alloc())?,
+            page(0x20),
+            text.as_str(),
+            82,
+            2
+        )
+    );
+    Ok(())
+}
+
+// In parallel transmission a header of another magazine doesn't end the page.
+#[test]
+fn a_parallel_header_between(rt: HostRuntime) -> Result<(), Fail> {
+    let mut slots = base(rt.alloc())?;
+    let header = [0x49, 0x15, 0x15, 0x15, 0x15, 0x15, 0x15, 0x15, 0x15, 0x15];
+    put(&mut slots, 1, slot(&header, 0x20));
+    let text = certificate(rt.alloc(), 1, 27, 0, true)?;
+    assert!(rt; is_right(rt.alloc(), slots, page(0x20), text.as_str(), 54, 1));
+    Ok(())
+}
+
+// Row 5 is in double height, so that row 6 isn't needed and isn't sent.
+#[test]
+fn a_hidden_row_is_left_out(rt: HostRuntime) -> Result<(), Fail> {
+    let mut slots = base(rt.alloc())?;
+    let mut row_5 = slot(&address(1, 5), 0x20);
+    row_5[2] = 0x0d;
+    put(&mut slots, 7, row_5);
+    put(&mut slots, 8, [0; 42]);
+    let text = certificate(rt.alloc(), 1, 27, 0, false)?;
+    assert!(rt; is_right(rt.alloc(), slots, page(0x0d), text.as_str(), 54, 1));
+    Ok(())
+}
+
+#[test]
+fn a_cycle_that_begins_within_the_page(rt: HostRuntime) -> Result<(), Fail> {
+    let mut slots = base(rt.alloc())?;
+    if slots.len() >= 10 {
+        slots.rotate_left(10);
+    }
+    let text = certificate(rt.alloc(), 1, 27, 10, true)?;
+    assert!(rt; is_right(rt.alloc(), slots, page(0x20), text.as_str(), 54, 1));
+    Ok(())
+}

@@ -1,0 +1,10 @@
+//! What the certifier says.
+
+use ttx_witness::Reason;
+
+/// Whether a cycle is accepted with a certificate, and if not, the first reason.
+#[derive(Clone, Copy, PartialEq, Eq, Debug)]
+pub enum Verdict {
+    Yes,
+    No(Reason),
+}
