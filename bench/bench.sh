@@ -38,3 +38,33 @@ for slots in 8192 16384 32768 65536; do
     last=$inspect
 done
 echo "inspect: time at 65,536 slots over time at 8,192: $((last * 10 / first / 10)).$((last * 10 / first % 10)) (goal: at most 9)"
+
+echo
+printf '%-34s %10s %14s\n' 'plan' 'ms' 'sha256sum, ms'
+for service in inhibited subpages; do
+    plan=$(least "$program" plan "$service.toml" "$service.planned")
+    hash=$(least sha256sum "$service.toml" "$service.planned")
+    count=$(($(wc -c < "$service.planned") / 42))
+    pages=$(grep -c 'number =' "$service.toml")
+    printf '%-34s %10s %14s\n' "$pages pages, $count slots" "$(tenths "$plan")" "$(tenths "$hash")"
+done
+
+echo
+printf '%-34s %10s %12s %14s\n' 'find and certify, --repeat 8' 'find, ms' 'certify, ms' 'sha256sum, ms'
+for slots in 8192 65536; do
+    cycle=inhibited-$slots.t42
+    find=$(least "$program" find "$cycle" inhibited.toml "$slots.cert" --repeat 8)
+    certify=$(least "$program" certify "$cycle" inhibited.toml "$slots.cert")
+    hash=$(least sha256sum "$cycle")
+    printf '%-34s %10s %12s %14s\n' "2,000 pages, $slots slots" "$(tenths "$find")" "$(tenths "$certify")" "$(tenths "$hash")"
+    "$program" certify "$cycle" inhibited.toml "$slots.cert"
+    [ "$slots" = 8192 ] && first_find=$find && first_certify=$certify
+done
+echo "time at 65,536 slots over time at 8,192: find $((find * 10 / first_find / 10)).$((find * 10 / first_find % 10)), certify $((certify * 10 / first_certify / 10)).$((certify * 10 / first_certify % 10))"
+
+echo
+printf '%-34s %10s %14s\n' 'receive' 'ms' 'sha256sum, ms'
+receive=$(least "$program" receive 65536.t42 100 --slots 1000000)
+hash=$(least sha256sum 42-mb)
+printf '%-34s %10s %14s\n' '1,000,000 slots; 42,000,000 bytes' "$(tenths "$receive")" "$(tenths "$hash")"
+echo "receive: time over that of sha256sum: $((receive * 100 / hash)) percent (goal: at most 20)"

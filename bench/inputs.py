@@ -22,8 +22,8 @@ def address(mag, number):
     return bytes([WORDS[mag % 8 + 8 * (number % 2)], WORDS[number // 2]])
 
 
-def header(mag, page, sub, c11, text):
-    digits = [page % 16, page // 16, sub % 16, sub // 16 % 8, sub // 256 % 16, sub // 4096, 0, c11]
+def header(mag, page, sub, c7_10, c11, text):
+    digits = [page % 16, page // 16, sub % 16, sub // 16 % 8, sub // 256 % 16, sub // 4096, c7_10, c11]
     words = bytes(WORDS[digit] for digit in digits)
     return address(mag, 0) + words + bytes(odd(ord(c)) for c in text[:24].ljust(24)) + bytes([0x20] * 8)
 
@@ -53,14 +53,14 @@ def body(number):
     return [f"PAGE {number} ROW {r} OF A SERVICE" for r in range(1, 24)]
 
 
-def cycle(slots, pages, lines):
+def cycle(slots, pages, lines, inhibit=False):
     """A serial cycle of this many slots that sends the pages in turn, as often as they fit whole."""
     out = []
     blocks = []
     for number, (mag, page, sub) in enumerate(page_ids(pages)):
-        block = [header(mag, page, sub, 1, f"PAGE {number}")] + [EMPTY] * lines
-        block += [row(mag, r, text) for r, text in enumerate(body(number), 1)] + [links(mag)]
-        blocks.append(block)
+        block = [header(mag, page, sub, 8 if inhibit else 0, 1, f"PAGE {number}")] + [EMPTY] * lines
+        block += [] if inhibit else [row(mag, r, text) for r, text in enumerate(body(number), 1)]
+        blocks.append([*block, links(mag)])
     at = 0
     while len(out) + len(blocks[at % pages]) <= slots:
         out += blocks[at % pages]
@@ -70,10 +70,13 @@ def cycle(slots, pages, lines):
     return b"".join(out)
 
 
-def service(pages, lines):
+def service(pages, lines, inhibit=False):
+    """A service of pages of 23 rows; where display is inhibited, no row is sent."""
     out = [f"lines = {lines}", "serial = true", ""]
     for number, (mag, page, sub) in enumerate(page_ids(pages)):
-        out += ["[[page]]", f'number = "{mag}{page:02X}"', f'sub = "{sub:04X}"', f'head = "PAGE {number}"', "[page.rows]"]
+        out += ["[[page]]", f'number = "{mag}{page:02X}"', f'sub = "{sub:04X}"', f'head = "PAGE {number}"']
+        out += ["inhibit = true"] if inhibit else []
+        out += ["[page.rows]"]
         out += [f'{r} = "{text}"' for r, text in enumerate(body(number), 1)]
         out.append("")
     return "\n".join(out) + "\n"
@@ -95,6 +98,10 @@ def main():
     for slots, pages in ((8192, 250), (16384, 500), (32768, 1000), (65536, 2000)):
         (folder / f"{slots}.t42").write_bytes(cycle(slots, pages, 1))
         (folder / f"{slots}.toml").write_text(service(pages, 1))
+    for slots in (8192, 65536):
+        (folder / f"inhibited-{slots}.t42").write_bytes(cycle(slots, 2000, 1, True))
+    (folder / "inhibited.toml").write_text(service(2000, 1, True))
+    (folder / "42-mb").write_bytes(bytes(42_000_000))
     (folder / "full.toml").write_text(full_service(2000, 1))
     subpages = "".join(f'[[page]]\nnumber = "100"\nsub = "{sub:04X}"\n' for sub in subcodes(1213))
     (folder / "subpages.toml").write_text("lines = 2\nserial = true\n" + subpages)

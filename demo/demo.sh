@@ -8,10 +8,11 @@ program=$(realpath "$1")
 here=$(cd "$(dirname "$0")/.." && pwd)
 work=$(mktemp -d)
 trap 'rm -rf "$work"' EXIT
-cp "$here/tests/data/base.t42" "$work/page-100.t42"
-cp "$here/tests/data/83-bytes" "$work/cut-short.t42"
+cp "$here/examples/broadcast.toml" "$here/tests/data/often-3.toml" "$work"
+cp "$here/tests/data/bad-slot.t42" "$here/tests/data/83-bytes" "$work"
 cd "$work" || exit 1
 
+# a command, and all that it writes
 run() {
     echo "\$ ttx $*"
     "$program" "$@" 2>&1
@@ -20,10 +21,45 @@ run() {
     echo
 }
 
-echo "A cycle of 28 slots: the header of page 100, two empty slots, 23 rows, links, and a time-filling header."
-run inspect page-100.t42
-echo "The same file with one wrong bit in the address of its fifth slot: it is read, and the line says that it was corrected."
-printf '\003' | dd of=page-100.t42 bs=1 seek=168 conv=notrunc 2> /dev/null
-run inspect page-100.t42
-echo "A file that ends inside a slot is refused."
-run inspect cut-short.t42
+# a plain tool, and all that it writes
+show() {
+    echo "\$ $*"
+    "$@"
+}
+
+# a command, and the front of the first lines that it writes
+front() {
+    lines=$1
+    shift
+    echo "\$ ttx $* | head -n $lines | cut -c 1-77"
+    "$program" "$@" 2>&1 | head -n "$lines" | cut -c 1-77
+    echo
+}
+
+echo "A service of seven pages becomes the cycle of packets that carries it."
+run plan broadcast.toml broadcast.t42
+echo "Its first slots: packet 8/30, the page header of the index, an empty field, and the first rows."
+front 20 inspect broadcast.t42
+echo "A certificate that names sure transmissions of each row of each page, and the least number of fields in which all are seen."
+run find broadcast.t42 broadcast.toml broadcast.cert
+show head -n 10 broadcast.cert
+echo
+echo "The verdict on cycle, service and certificate: whoever tunes to a page, at whatever slot, sees it in so many fields."
+run certify broadcast.t42 broadcast.toml broadcast.cert
+echo "What a receiver shows that was set to the weather at slot 40: a word for each cell of its first rows."
+front 8 receive broadcast.t42 130 --lines 12 --start 40
+echo "The same cycle with row 1 of the weather moved from slot 162 next to its header, where a receiver may miss it."
+show cp broadcast.t42 broken.t42
+show dd if=broadcast.t42 of=broken.t42 bs=42 skip=162 seek=150 count=1 conv=notrunc status=none
+show dd if=/dev/zero of=broken.t42 bs=42 seek=162 count=1 conv=notrunc status=none
+echo
+run certify broken.t42 broadcast.toml broadcast.cert
+echo "Nor is there another certificate: nothing is written to it."
+run find broken.t42 broadcast.toml none.cert
+echo "The same of a receiver that misses each packet that it may, set to the second page of the news."
+front 8 receive broadcast.t42 110/0002 --lines 12 --kind careful
+echo "A wrong bit in the address of the fifth slot: it is read, and the line says that it was corrected."
+front 5 inspect bad-slot.t42
+echo "What can't be read is refused, with its place."
+run inspect 83-bytes
+run plan often-3.toml refused.t42

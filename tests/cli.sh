@@ -6,6 +6,7 @@
 # A case is a folder with any of these:
 #   args      the words after the program's name, one a line
 #   data      names of files of tests/data that lie where the program runs, one a line
+#   padded    lines 'NAME FROM SIZE': where the program runs, NAME holds FROM of tests/data and then # up to SIZE bytes
 #   stdin     standard input, a name of tests/data or - for nothing (no such file: nothing)
 #   stdout    what it must print (no such file: nothing)
 #   stderr    what it must print to standard error (no such file: nothing; a file of one line '*': anything)
@@ -33,6 +34,11 @@ for case in "$here"/cases/*/; do
     mkdir -p "$place/in"
     if [ -f "$case/data" ]; then
         while read -r file; do cp "$here/data/$file" "$place/in/"; done < "$case/data"
+    fi
+    if [ -f "$case/padded" ]; then
+        while read -r file from size; do
+            { cat "$here/data/$from"; head -c "$size" /dev/zero | tr '\0' '#'; } | head -c "$size" > "$place/in/$file"
+        done < "$case/padded"
     fi
     input=/dev/null
     if [ -f "$case/stdin" ]; then

@@ -65,20 +65,83 @@ def each_kind():
     slots += [with_byte([link], 0, at, value)[0] for at, value in [(2, 0x02), (2, 0x16), (3, 0x16)]]
     slots += [info]
     slots += [with_byte([info], 0, at, value)[0] for at, value in [(2, 0x49), (13, 0x70), (22, 0x55), (3, 0x16)]]
-    return slots
+    slots += [with_byte([info], 0, at, value)[0] for at, value in [(2, 0x16), (13, 0xB1)]]
+    slots += with_byte(with_byte([info], 0, 3, 0x16), 0, 22, 0x55)
+    slots += [with_byte([header(1, 0)], 0, 5, value)[0] for value in [0xD0, 0xD1]]
+    return [*slots, time_filling(1), header(8, 0xEF, 0x3F7F, 127, 15)]
 
 
-def certificate(deadline, repeat=1, rows=range(1, 24), more=None):
-    lines = ["ttx certificate 1", "lines 2", f"repeat {repeat}", f"deadline {deadline}", "100/0000 head 0"]
-    starts = {r: str(r + 2) for r in rows} | (more or {})
-    lines += [f"100/0000 row {r} {starts[r]}" for r in sorted(starts)]
-    return "\n".join([*lines, "100/0000 links 26"]) + "\n"
+TEST_INFO = """[info]
+initial = "100"
+network = "1234"
+halves = 2
+mjd = 46000
+utc = 123045
+text = "TEST"
+"""
+
+# packet 8/30 of these fields, from its worked example
+INFO = bytes.fromhex("15ea151515eaeaea5e12348505711123415600000000" "5445d354") + SPACES[:16]
+
+
+def suppressed(mag, c11):
+    """A page's block without rows: the header with C7 and C10, and no links."""
+    return header(mag, 0, 0, 1 << 3 | 1 << 6, c11), links(mag)
+
+
+def block(mag):
+    """The block of a blank page for fields of two slots."""
+    return [header(mag, 0), EMPTY, EMPTY, *[row(mag, r) for r in range(1, 24)], links(mag)]
+
+
+def planned():
+    """Planned cycles, laid out by hand."""
+    one, one_links = suppressed(1, 1)
+    first, first_links = suppressed(1, 0)
+    second, second_links = suppressed(2, 0)
+    return {
+        "planned-info.t42": [INFO, *base(), EMPTY],
+        "planned-twice.t42": [*block(1), *block(2), *block(1), time_filling(1), time_filling(2), EMPTY],
+        "planned-suppressed.t42": [one, EMPTY, EMPTY, one_links, time_filling(1), EMPTY],
+        "planned-parallel.t42": [
+            first, second, EMPTY, first_links, second_links, time_filling(1, 0), time_filling(2, 0), EMPTY,
+        ],
+        "planned-clearing.t42": [header(1, 0), EMPTY, EMPTY, time_filling(1)],
+    }
+
+
+def services():
+    """The services of these cycles."""
+    page = '[[page]]\nnumber = "{}"\n'
+    quiet = page + "suppress = true\ninhibit = true\n"
+    serial = "lines = 2\nserial = true\n"
+    return {
+        "planned-info.toml": serial + TEST_INFO + page.format(100),
+        "planned-twice.toml": serial + page.format(100) + "often = 2\n" + page.format(200),
+        "planned-suppressed.toml": serial + quiet.format(100),
+        "planned-parallel.toml": "lines = 2\nserial = false\n" + quiet.format(100) + quiet.format(200),
+        "no-serial.toml": "lines = 2\n",
+        "kind-of-page.toml": serial + "page = 1\n",
+    }
+
+
+def certificate(deadline, repeat=1, rows=range(1, 24), more=None, at=(0,)):
+    """A certificate of blank pages whose headers are sent at these slots, a field before their rows."""
+
+    def starts(place):
+        return " ".join(str(slot + place) for slot in at)
+
+    lines = ["ttx certificate 1", "lines 2", f"repeat {repeat}", f"deadline {deadline}", f"100/0000 head {starts(0)}"]
+    named = {r: starts(r + 2) for r in rows} | (more or {})
+    lines += [f"100/0000 row {r} {named[r]}" for r in sorted(named)]
+    return "\n".join([*lines, f"100/0000 links {starts(26)}"]) + "\n"
 
 
 def main():
     folder = Path(sys.argv[1])
     folder.mkdir(parents=True, exist_ok=True)
     near_row = with_slot(with_slot(base(), 2, row(1, 1)), 3, EMPTY)
+    near_again = [*base(), *near_row]
     files = {
         "nothing": [],
         "base.t42": base(),
@@ -87,6 +150,7 @@ def main():
         "time-filling.t42": [time_filling(1)],
         "empty-slot.t42": [EMPTY],
         "row-near-header.t42": near_row,
+        "row-near-second-header.t42": near_again,
         "erased.t42": with_byte(base(), 0, 5, 0xD0),
         "linked.t42": with_slot(base(), 26, links(1, (5, 0, 15, 15, 15, 7))),
         "no-header.t42": with_slot(base(), 0, EMPTY),
@@ -94,7 +158,9 @@ def main():
         "other-magazine.t42": with_slot(base(), 1, header(2, 0, 0, 0, 0)),
         "other-magazine-serial.t42": with_slot(base(), 1, header(2, 0, 0, 0, 1)),
         "bad-slot.t42": with_byte(base(), 4, 0, 0x03),
-    }
+        "near-text.t42": with_slot(near_row, 2, row(1, 1, b"\xc1" + SPACES[1:])),
+        "bad-parity.t42": [*base()[:3], row(1, 1, b"\xc1" + SPACES[1:]), row(1, 1, b"\xc0" + SPACES[1:])],
+    } | planned()
     for name, slots in files.items():
         (folder / name).write_bytes(b"".join(slots))
     (folder / "83-bytes").write_bytes(b"".join(base())[:83])
@@ -107,8 +173,15 @@ def main():
         "base-repeat-2.cert": certificate(41, 2),
         "no-row-1.cert": certificate(27, rows=range(2, 24)),
         "row-1-near.cert": certificate(27, rows=range(2, 24), more={1: "2"}),
+        "late-start.cert": certificate(27, rows=range(2, 24), more={1: "4"}),
+        "starts-fall.cert": certificate(27, rows=range(2, 24), more={1: "5 3"}),
+        "start-65536.cert": certificate(27, rows=range(2, 24), more={1: "65536"}),
+        "row-1-once.cert": certificate(30, more={1: "3"}, at=(0, 28)),
+        "planned-info.cert": certificate(28, at=(1,)),
+        "found-without-pages.cert": "ttx certificate 1\nlines 2\nrepeat 1\ndeadline 1\n",
+        "no-entries.cert": "ttx certificate 1\nlines 2\nrepeat 1\ndeadline 27\n",
         "clearing.cert": "ttx certificate 2\nclass clearing\nlines 2\nrepeat 1\ndeadline 2\n100/0000 head 0\n",
-    }
+    } | services()
     for name, text in texts.items():
         (folder / name).write_text(text)
     subpages = [sub for sub in range(0x3F7F) if sub & ~0x3F7F == 0][:1214]

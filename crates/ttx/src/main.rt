@@ -2,9 +2,9 @@
 #![tactic(auto)]
 
 mod devices;
+mod running;
 
-use devices::{Input, open_input};
-use std::io::BufReader;
+use running::run_order;
 use std::process::ExitCode;
 use std::{env, io};
 use ttx_cycle::Counted;
@@ -30,21 +30,11 @@ fn status_of(rt: &HostRuntime, outcome: Result<u8, ToolFault>) -> u8 {
     }
 }
 
-fn inspect(rt: &HostRuntime, input: Input) -> Result<u8, ToolFault> {
-    let buffered = BufReader::new(rt.alloc(), input).map_err(|_| ToolFault::NoMemory)?;
-    let mut reader = Counted::new(buffered);
-    let mut writer = Counted::new(io::writer(rt));
-    commands::inspect(rt.alloc(), &mut reader, &mut writer)?;
-    Ok(0)
-}
-
-// Opens the inputs in the order of the words, and then runs the command.
-fn execute(rt: &HostRuntime, order: Order<'_>) -> u8 {
-    match order {
-        Order::Inspect { file } => match open_input(rt, file) {
-            Ok(input) => status_of(rt, inspect(rt, input)),
-            Err(_) => file_fault(rt),
-        },
+// Runs an order, and answers the status of the program.
+fn execute(rt: &HostRuntime, order: &Order<'_>) -> u8 {
+    match run_order(rt, order) {
+        Ok(outcome) => status_of(rt, outcome),
+        Err(_) => file_fault(rt),
     }
 }
 
@@ -71,7 +61,7 @@ fn run(rt: &HostRuntime) -> io::Result<u8> {
         texts.push(arg.as_str())?;
     }
     match words(rt.alloc(), texts.as_slice()) {
-        Ok(order) => Ok(execute(rt, order)),
+        Ok(order) => Ok(execute(rt, &order)),
         Err(fault) => Ok(refuse(rt, &fault)),
     }
 }

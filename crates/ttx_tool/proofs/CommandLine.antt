@@ -1,5 +1,5 @@
 -- The program's command line is one whose matches and faults are known exactly, and words without a fault name a command.
-use Rattle.std.proofs.Common.{◌≡◌, ◌≢◌, List, [], ◌∷◌, length, codes, inl, inr, true, false, refl, sym, subst, Bool, ◌&&◌, not, is_some, Some, option_map, arith}
+use Rattle.std.proofs.Common.{◌≡◌, ◌≢◌, ◌∙◌, ap, Result, Ok, Err, List, [], ◌∷◌, length, codes, inl, inr, true, false, refl, sym, subst, Bool, ◌&&◌, not, is_some, Some, option_map, arith}
 use Rattle.std.specs.List.{list_any}
 use Rattle.clap.specs.Words.{App, Shape, Text, built, is_simple, is_simple_and_free, kind_of, subcommand_of, fault_of}
 use Rattle.clap.specs.Walk.{Names, Held, walk, walk_from, settled, finished, nothing_held}
@@ -10,18 +10,19 @@ use Rattle.clap.specs.Simple.{argument_words, entered, names_of}
 use Rattle.clap.specs.Kinds.{Kinds, HasKind, IsAmong, or_else, check_kinds}
 use Rattle.clap.specs.declared.error.Error.{Error}
 use Rattle.clap.specs.declared.error.kind.ErrorKind.TheVariants.{OutOfMemory}
-use Rattle.ttx_tool.specs.Grammar.{ttx_app, inspect_app}
-use Rattle.ttx_tool.specs.Orders.{inspect_order, order_at, order_of, IsRefusalOf, IsFaultOf}
+use Rattle.ttx_tool.specs.Grammar.{NameList, ttx_app, making_app, inspect_app, plan_app, unlimited_app, find_app, certify_app, untuned_app, timed_app, receive_app}
+use Rattle.ttx_tool.specs.Orders.{OrderView, Unfit, inspect_order, order_view, order_at, Asks, Refuses, IsOrderOf, IsRefusalOf, IsFaultOf, AnswersBy}
+use Rattle.ttx_tool.specs.declared.orders.Order.{Order}
 use Rattle.ttx_tool.specs.declared.orders.WordsFault.{WordsFault}
 use Rattle.ttx_tool.specs.declared.orders.WordsFault.TheVariants.{Refused, Page, Twice, NoMemory}
 
-pub ttx_is_simple : is_simple ttx_app ≡ true
-unfolding ttx_app inspect_app
-ttx_is_simple = refl
+pub ttx_is_simple : (kinds classes : NameList) → is_simple (ttx_app kinds classes) ≡ true
+unfolding ttx_app making_app inspect_app plan_app unlimited_app find_app certify_app untuned_app timed_app receive_app
+ttx_is_simple kinds classes = refl
 
-pub ttx_is_free : is_simple_and_free ttx_app ≡ true
-unfolding ttx_app inspect_app
-ttx_is_free = refl
+pub ttx_is_free : (kinds classes : NameList) → is_simple_and_free (ttx_app kinds classes) ≡ true
+unfolding ttx_app making_app inspect_app plan_app unlimited_app find_app certify_app untuned_app timed_app receive_app
+ttx_is_free kinds classes = refl
 
 -- an error that isn't of memory has one of the kinds
 pub among_kinds : (kinds : Kinds) (e : Error) → (kind_of e ≡ OutOfMemory → ⊥) → HasKind kinds e → IsAmong (kind_of e) kinds
@@ -34,16 +35,37 @@ refusal Page e kinds f h = f
 refusal Twice e kinds f h = f
 refusal NoMemory e kinds f h = tt
 
--- what no words and some words ask for
-pub order_of-none : (words : List Text) → length words ≡ 0 → order_of words ≡ Some (inspect_order (codes "-"))
-unfolding order_of
-order_of-none [] h = refl
-order_of-none (word ∷ words) h = absurd (omega (arith, h))
+-- no words ask for `inspect -`
+pub no_words : (app : App) (words : List Text) → length words ≡ 0 → Asks app words (Ok (inspect_order (codes "-")))
+unfolding Asks
+no_words app [] h = refl
+no_words app (word ∷ words) h = absurd (omega (arith, h))
 
-pub order_of-some : (words : List Text) → length words ≢ 0 → order_of words ≡ option_map (λ p. order_at p.0 p.1) (subcommand_of ttx_app words)
-unfolding order_of
-order_of-some [] h = absurd (h refl)
-order_of-some (word ∷ words) h = refl
+-- what some words ask for, and that they are refused
+asked : (app : App) (words : List Text) (answer : Result OrderView Unfit) → length words ≢ 0 → fault_of app words ≡ []
+    → option_map (λ p. order_at p.0 p.1) (subcommand_of app words) ≡ Some answer → Asks app words answer
+unfolding Asks
+asked app [] answer some fault is = absurd (some refl)
+asked app (word ∷ words) answer some fault is = (fault, is)
+
+refuses : (app : App) (words : List Text) (error : Error) → length words ≢ 0 → IsAmong (kind_of error) (fault_of app words) → Refuses app words error
+unfolding Refuses
+refuses app [] error some h = absurd (some refl)
+refuses app (word ∷ words) error some h = h
+
+pub answered : (app : App) (words : List Text) (answer : Result OrderView Unfit) (result : Result Order WordsFault) → length words ≢ 0 → fault_of app words ≡ []
+    → option_map (λ p. order_at p.0 p.1) (subcommand_of app words) ≡ Some answer → IsOrderOf result answer → AnswersBy app words result
+answered app words answer (Ok order) some fault is of = asked app words (Ok (order_view order)) some fault (is ∙ ap Some of)
+answered app words answer (Err Page) some fault is of = asked app words _ some fault (is ∙ ap Some of)
+answered app words answer (Err Twice) some fault is of = asked app words _ some fault (is ∙ ap Some of)
+answered app words answer (Err (Refused error)) some fault is of = absurd of
+answered app words answer (Err NoMemory) some fault is of = absurd of
+
+pub refused : (app : App) (words : List Text) (fault : WordsFault) → length words ≢ 0 → IsRefusalOf fault (fault_of app words) → AnswersBy app words (Err fault)
+refused app words (Refused error) some h = refuses app words error some h
+refused app words Page some h = absurd h
+refused app words Twice some h = absurd h
+refused app words NoMemory some h = tt
 
 -- ---- words without a fault name a command
 
@@ -74,9 +96,9 @@ app_has a ws n fault =
     let stop = (walk (built a).top.rules (names_of (built a)) nothing_held words).stopped in
     level_has (built a).top (names_of (built a)) nothing_held words (is_some (entered (built a) stop)) (entered_fault (built a) stop) n fault
 
-needs : (built ttx_app).top.subcommand_required ≡ true
-unfolding ttx_app inspect_app
-needs = refl
+needs : (kinds classes : NameList) → (built (ttx_app kinds classes)).top.subcommand_required ≡ true
+unfolding ttx_app making_app inspect_app plan_app unlimited_app find_app certify_app untuned_app timed_app receive_app
+needs kinds classes = refl
 
-pub has_command : (ws : List Text) → fault_of ttx_app ws ≡ [] → is_some (subcommand_of ttx_app ws) ≡ true
-has_command ws h = app_has ttx_app ws needs h
+pub has_command : (kinds classes : NameList) (ws : List Text) → fault_of (ttx_app kinds classes) ws ≡ [] → is_some (subcommand_of (ttx_app kinds classes) ws) ≡ true
+has_command kinds classes ws h = app_has (ttx_app kinds classes) ws (needs kinds classes) h

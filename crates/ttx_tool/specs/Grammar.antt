@@ -1,17 +1,77 @@
 -- The command line as `clap` reads it: what is taken, and the faults of what isn't.
 --
---   operand_rule            an operand that has to be there
---   inspect_app             a command with its arguments
---   bare_app, ttx_app       the program alone, and with its commands
-use Rattle.std.specs.Prelude.{[], codes, true}
+--   NameList, Lists          names as `clap` holds them, wherever they lie in memory
+--   kind_names, class_names  the names that `--kind` and `--class` take
+--   operand_rule             an operand that has to be there
+--   number_rule, name_rule   an option with a number in a range, and one with a name of a list
+--   inspect_app, plan_app, find_app, certify_app, receive_app      a command with its arguments
+--   bare_app, ttx_app        the program alone, and with its commands
+use Rattle.std.specs.Prelude.{◌≡◌, ℕ, List, [], ◌∷◌, codes, map, true, Some}
+use Rattle.std.specs.Borrow.{Bor}
 use Rattle.clap.specs.Words.{App, Shape, Rule, Text, new_app, new_rule, with_rule, with_subcommand}
+use Rattle.clap.specs.declared.builder.value_parser.ValueParser.TheVariants as parser
+
+abbrev pub NameList : Type 0
+NameList = Bor (List (Bor Text))
+
+abbrev pub Lists : NameList → List Text → Type 0
+Lists names texts = map (λ name. name.now) names.now ≡ texts
+
+abbrev pub kind_names : List Text
+kind_names = codes "eager" ∷ codes "careful" ∷ codes "cleared" ∷ []
+
+abbrev pub class_names : List Text
+class_names = codes "any" ∷ codes "clearing" ∷ []
 
 abbrev pub operand_rule : Text → Rule
 operand_rule id = record (new_rule id) { required = true; value_names = 1 }
 
+-- a number from low to high
+abbrev pub number_rule : Text → ℕ → ℕ → Rule
+number_rule id low high = record (new_rule id) { long = Some id; value_names = 1; parser = Some (parser.Unsigned low high) }
+
+abbrev pub name_rule : Text → NameList → Rule
+name_rule id names = record (new_rule id) { long = Some id; value_names = 1; parser = Some (parser.Names names) }
+
 -- inspect FILE
 unfoldable pub inspect_app : App
 inspect_app = with_rule (new_app (codes "inspect")) (operand_rule (codes "file"))
+
+-- plan SERVICE OUT [--class any|clearing]
+unfoldable pub plan_app : NameList → App
+plan_app classes =
+    with_rule (with_rule (with_rule (new_app (codes "plan")) (operand_rule (codes "service"))) (operand_rule (codes "out")))
+    (name_rule (codes "class") classes)
+
+-- find CYCLE SERVICE OUT
+unfoldable pub unlimited_app : App
+unlimited_app =
+    with_rule (with_rule (with_rule (new_app (codes "find")) (operand_rule (codes "cycle"))) (operand_rule (codes "service")))
+    (operand_rule (codes "out"))
+
+-- with [--repeat K] [--class any|clearing]
+unfoldable pub find_app : NameList → App
+find_app classes = with_rule (with_rule unlimited_app (number_rule (codes "repeat") 1 8)) (name_rule (codes "class") classes)
+
+-- certify CYCLE SERVICE CERT
+unfoldable pub certify_app : App
+certify_app =
+    with_rule (with_rule (with_rule (new_app (codes "certify")) (operand_rule (codes "cycle"))) (operand_rule (codes "service")))
+    (operand_rule (codes "certificate"))
+
+-- receive CYCLE PAGE
+unfoldable pub untuned_app : App
+untuned_app = with_rule (with_rule (new_app (codes "receive")) (operand_rule (codes "cycle"))) (operand_rule (codes "page"))
+
+-- with [--lines L] [--start S] [--slots N]
+unfoldable pub timed_app : App
+timed_app =
+    with_rule (with_rule (with_rule untuned_app (number_rule (codes "lines") 1 32)) (number_rule (codes "start") 0 65535))
+    (number_rule (codes "slots") 0 1000000)
+
+-- with [--kind eager|careful|cleared]
+unfoldable pub receive_app : NameList → App
+receive_app kinds = with_rule timed_app (name_rule (codes "kind") kinds)
 
 abbrev pub bare : Shape → Shape
 bare s = record s { no_binary_name = true; subcommand_required = true; disable_help_subcommand = true }
@@ -20,5 +80,9 @@ bare s = record s { no_binary_name = true; subcommand_required = true; disable_h
 abbrev pub bare_app : App
 bare_app = record { top = bare (new_app (codes "ttx")).top; subs = [] }
 
-unfoldable pub ttx_app : App
-ttx_app = with_subcommand bare_app inspect_app.top
+-- with the commands that make files
+unfoldable pub making_app : NameList → App
+making_app classes = with_subcommand (with_subcommand (with_subcommand bare_app inspect_app.top) (plan_app classes).top) (find_app classes).top
+
+unfoldable pub ttx_app : NameList → NameList → App
+ttx_app kinds classes = with_subcommand (with_subcommand (making_app classes) certify_app.top) (receive_app kinds).top

@@ -25,6 +25,7 @@ Inspects bytes old new (Err (Write written)) =
     (slots : List (List ℕ)) × IsFile slots bytes × (written < length (lines_from 0 slots)) × Appends old new (take written (lines_from 0 slots))
 Inspects bytes old new (Err (Cycle fault)) = Judged bytes (Err fault) × Keeps old new
 Inspects bytes old new (Err NoMemory) = Keeps old new
+Inspects bytes old new (Err _) = ⊥
 
 -- the faults counted by the reader and by the writer, before and after
 abbrev pub CountsInspect : {U : Type 0} → Result U ToolFault → ℕ → ℕ → ℕ → ℕ → Type 0
@@ -36,3 +37,4 @@ CountsInspect (Err (Cycle cycle.TooLong)) read_old read_new write_old write_new 
 CountsInspect (Err (Cycle cycle.NoMemory)) read_old read_new write_old write_new = ⊤
 CountsInspect (Err (Write written)) read_old read_new write_old write_new = HasRisen write_old write_new
 CountsInspect (Err NoMemory) read_old read_new write_old write_new = ⊤
+CountsInspect (Err _) read_old read_new write_old write_new = ⊥

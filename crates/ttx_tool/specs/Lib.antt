@@ -1,6 +1,11 @@
 pub mod Texts
 pub mod Lines
 pub mod Inspecting
+pub mod ViewLines
+pub mod Receiving
+pub mod Planning
+pub mod FindingFiles
 pub mod Reports
 pub mod Grammar
 pub mod Orders
+pub mod PageNames

@@ -1,6 +1,7 @@
 -- What is said of a fault, and the status of the program after it.
 --
---   fault_line, status_of    the line of a fault, and its status
+--   source_text, service_text, certificate_text        what is said of a service definition, and of a certificate
+--   fault_text, fault_line, status_of        the line of a fault, and its status
 --   Reports, ReportsWords    what a report wrote at each answer
 --   CountsReport             a write fault is answered only where it was counted
 use Rattle.std.specs.Prelude.{◌≡◌, ℕ, ◌<◌, List, [], ◌∷◌, ◌++◌, length, take, Option, Result, Ok, Err, codes}
@@ -8,10 +9,43 @@ use Rattle.std.specs.Fmt.{decimal}
 use Rattle.std.specs.Io.KnownBytes.{Appends, Keeps}
 use Rattle.ttx_cycle.specs.Counts.{HasRisen}
 use Rattle.ttx_cycle.specs.declared.faults.CycleFault.TheVariants as cycle
+use Rattle.ttx_plan.specs.declared.faults.PlanFault.TheVariants as plan
+use Rattle.ttx_source.specs.Faults.{fault_of}
+use Rattle.ttx_source.specs.Values.{Fault, not_toml, missing, wrong_kind, wrong_page_number, wrong_subcode, duplicate, too_long, wrong_character, wrong_often, out_of_range, no_memory}
+use Rattle.ttx_witness.specs.declared.certificate_faults.CertFault.{CertFault}
+use Rattle.ttx_witness.specs.declared.certificate_faults.CertFault.TheVariants as cert
+use Rattle.ttx_tool.specs.declared.faults.TextFile.TheVariants as text
 use Rattle.ttx_tool.specs.declared.orders.WordsFault.{WordsFault}
 use Rattle.ttx_tool.specs.declared.orders.WordsFault.TheVariants as words
 use Rattle.ttx_tool.specs.declared.faults.ToolFault.{ToolFault}
-use Rattle.ttx_tool.specs.declared.faults.ToolFault.TheVariants.{Cycle, Write, NoMemory}
+use Rattle.ttx_tool.specs.declared.faults.ToolFault.TheVariants.{Cycle, Service, Certificate, Read, TooLong, Write, NoMemory, Plan}
+
+-- the number and the name of a fault of a service definition, and its key where it names one
+abbrev pub source_text : Fault → List ℕ
+source_text not_toml = codes "1 not-toml"
+source_text (missing key) = codes "2 missing " ++ key
+source_text (wrong_kind key) = codes "3 kind " ++ key
+source_text wrong_page_number = codes "4 page-number"
+source_text wrong_subcode = codes "5 subcode"
+source_text duplicate = codes "6 duplicate"
+source_text too_long = codes "7 row-too-long"
+source_text wrong_character = codes "8 character"
+source_text wrong_often = codes "9 often"
+source_text (out_of_range key) = codes "10 range " ++ key
+source_text no_memory = codes "11 no-memory"
+
+-- a refused service definition, with the page that the fault is in; want of memory is no refusal
+abbrev pub service_text : Fault → ℕ → List ℕ
+service_text no_memory page = codes "fault: memory"
+service_text fault page = codes "refused: service " ++ source_text fault ++ codes " page " ++ decimal page
+
+-- a refused certificate, with the line that the fault is in
+abbrev pub certificate_text : CertFault → List ℕ
+certificate_text cert.Title = codes "refused: certificate 1 title"
+certificate_text (cert.Line line) = codes "refused: certificate 2 line line " ++ decimal line
+certificate_text (cert.Order line) = codes "refused: certificate 3 order line " ++ decimal line
+certificate_text (cert.Range line) = codes "refused: certificate 4 range line " ++ decimal line
+certificate_text cert.NoMemory = codes "fault: memory"
 
 -- what a refusal or a fault is called
 abbrev pub fault_text : ToolFault → List ℕ
@@ -20,11 +54,23 @@ fault_text (Cycle (cycle.Truncated rest)) = codes "refused: cycle 2 truncated " 
 fault_text (Cycle cycle.Empty) = codes "refused: cycle 3 empty"
 fault_text (Cycle cycle.TooLong) = codes "refused: cycle 4 too-long"
 fault_text (Cycle cycle.NoMemory) = codes "fault: memory"
+fault_text (Service error) = service_text (fault_of error.fault) error.page
+fault_text (Certificate fault) = certificate_text fault
+fault_text (Read which) = codes "fault: read"
+fault_text (TooLong text.Service) = codes "refused: service too-long"
+fault_text (TooLong text.Certificate) = codes "refused: certificate too-long"
 fault_text (Write written) = codes "fault: write"
 fault_text NoMemory = codes "fault: memory"
+fault_text (Plan plan.NoPages) = codes "refused: plan 1 no-pages"
+fault_text (Plan plan.TooLong) = codes "refused: plan 2 too-long"
+fault_text (Plan plan.NoMemory) = codes "fault: memory"
 
 abbrev pub fault_line : ToolFault → List ℕ
 fault_line fault = fault_text fault ++ 10 ∷ []
+
+abbrev pub service_status : Fault → ℕ
+service_status no_memory = 3
+service_status fault = 2
 
 -- 2 for a refusal, 3 for a fault
 abbrev pub status_of : ToolFault → ℕ
@@ -33,15 +79,26 @@ status_of (Cycle (cycle.Truncated rest)) = 2
 status_of (Cycle cycle.Empty) = 2
 status_of (Cycle cycle.TooLong) = 2
 status_of (Cycle cycle.NoMemory) = 3
+status_of (Service error) = service_status (fault_of error.fault)
+status_of (Certificate cert.Title) = 2
+status_of (Certificate (cert.Line line)) = 2
+status_of (Certificate (cert.Order line)) = 2
+status_of (Certificate (cert.Range line)) = 2
+status_of (Certificate cert.NoMemory) = 3
+status_of (Read which) = 3
+status_of (TooLong which) = 2
 status_of (Write written) = 3
 status_of NoMemory = 3
+status_of (Plan plan.NoPages) = 2
+status_of (Plan plan.TooLong) = 2
+status_of (Plan plan.NoMemory) = 3
 
 -- the line went out, or its first `written` bytes, or nothing
 abbrev pub Reports : List ℕ → ℕ → Option (List ℕ) → Option (List ℕ) → Result ℕ ToolFault → Type 0
 Reports line status old new (Ok s) = (s ≡ status) × Appends old new line
 Reports line status old new (Err (Write written)) = (written < length line) × Appends old new (take written line)
-Reports line status old new (Err (Cycle fault)) = ⊥
 Reports line status old new (Err NoMemory) = Keeps old new
+Reports line status old new (Err _) = ⊥
 
 -- Of what `clap` refuses its own text is written, whatever it is.
 abbrev pub ReportsWords : WordsFault → Option (List ℕ) → Option (List ℕ) → Result ℕ ToolFault → Type 0
@@ -54,5 +111,4 @@ ReportsWords words.NoMemory old new result = Reports (fault_line NoMemory) 3 old
 abbrev pub CountsReport : {T : Type 0} → Result T ToolFault → ℕ → ℕ → Type 0
 CountsReport (Ok _) old new = new ≡ old
 CountsReport (Err (Write written)) old new = HasRisen old new
-CountsReport (Err (Cycle fault)) old new = new ≡ old
-CountsReport (Err NoMemory) old new = new ≡ old
+CountsReport (Err _) old new = new ≡ old

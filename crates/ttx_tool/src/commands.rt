@@ -1,7 +1,13 @@
 //! The commands, over readers and writers, and the reports of what goes wrong.
 
+mod finding;
 mod inspecting;
+mod planning;
+mod receiving;
 mod reporting;
 
+pub use finding::find;
 pub use inspecting::inspect;
+pub use planning::plan;
+pub use receiving::receive;
 pub use reporting::{report, report_words};

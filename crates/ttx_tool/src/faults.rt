@@ -4,19 +4,48 @@ ghost use Rattle.std.specs.Prelude.{◌≡◌};
 
 use thiserror::Error;
 use ttx_cycle::{CycleFault, WriteFault};
+use ttx_plan::PlanFault;
+use ttx_source::SourceError;
+use ttx_witness::CertFault;
 
-/// Why a command fails. The numbers of faults: 1 `Cycle`, 6 `Write`, 7 `NoMemory`.
+/// The texts that commands read beside a cycle.
+#[derive(Clone, Copy, Debug, PartialEq, Eq)]
+pub enum TextFile {
+    /// 2. A service definition.
+    Service,
+    /// 3. A certificate.
+    Certificate,
+}
+
+/// Why a command fails. The numbers of faults: 1 `Cycle`, 2 `Service`, 3 `Certificate`, 4 `Read`, 5 `TooLong`, 6 `Write`,
+/// 7 `NoMemory`, 8 `Plan`.
 #[derive(Clone, Copy, Debug, PartialEq, Eq, Error)]
 pub enum ToolFault {
     /// 1. The packet file isn't read.
     #[error("{0}")]
     Cycle(CycleFault),
-    /// 6. A write failed. The first `written` bytes of the text went out, and no more.
+    /// 2. The text isn't a service definition.
+    #[error("{0}")]
+    Service(SourceError),
+    /// 3. The text isn't a certificate.
+    #[error("{0}")]
+    Certificate(CertFault),
+    /// 4. A read of a text failed.
+    #[error("a text isn't read")]
+    Read { which: TextFile },
+    /// 5. A text is longer than 4,194,304 bytes.
+    #[error("a text is longer than 4194304 bytes")]
+    TooLong { which: TextFile },
+    /// 6. A write failed. The first `written` bytes of all that a command writes went out, and no more; where it writes a
+    /// file, the file's bytes come before those of the output.
     #[error("a write failed after {written} bytes")]
     Write { written: usize },
     /// 7. A growth of the command's own was refused.
     #[error("out of memory")]
     NoMemory,
+    /// 8. There is no plan.
+    #[error("{0}")]
+    Plan(PlanFault),
 }
 
 impl ToolFault {

@@ -6,11 +6,14 @@ pub mod faults;
 mod grammar;
 mod lines;
 pub mod orders;
+mod page_names;
 mod parsing;
+mod stepping;
 #[cfg(test)]
 mod tests;
 mod texts;
+mod views;
 
-pub use faults::ToolFault;
-pub use orders::{Order, WordsFault};
+pub use faults::{TextFile, ToolFault};
+pub use orders::{Order, ReceiverKind, Tuning, WordsFault};
 pub use parsing::words;

@@ -1,12 +1,61 @@
 //! What words ask for, and why they are refused.
 
 use thiserror::Error;
+use ttx_page::{Class, Selection};
+
+/// How a receiver takes its choices, and whether it surely clears.
+#[derive(Clone, Copy, PartialEq, Eq, Debug)]
+pub enum ReceiverKind {
+    Eager,
+    Careful,
+    Cleared,
+}
+
+/// What `receive` is told beside the cycle.
+#[derive(Clone, Copy, Debug)]
+pub struct Tuning {
+    pub selection: Selection,
+    /// Lines of a field, 1 to 32.
+    pub lines: u8,
+    /// The slot to begin at, modulo the cycle's length.
+    pub start: u16,
+    /// How many slots are received, up to 1,000,000.
+    pub slots: u32,
+    pub kind: ReceiverKind,
+}
 
 /// A command with its values.
 #[derive(Clone, Copy, Debug)]
 pub enum Order<'a> {
     /// Show the slots of a packet file.
-    Inspect { file: &'a str },
+    Inspect {
+        file: &'a str,
+    },
+    /// Lay a service out in a cycle.
+    Plan {
+        service: &'a str,
+        out: &'a str,
+        class: Class,
+    },
+    /// Find a certificate of a cycle.
+    Find {
+        cycle: &'a str,
+        service: &'a str,
+        out: &'a str,
+        repeat: u8,
+        class: Class,
+    },
+    /// Judge a cycle by a certificate.
+    Certify {
+        cycle: &'a str,
+        service: &'a str,
+        certificate: &'a str,
+    },
+    /// Show what a receiver holds of a page.
+    Receive {
+        cycle: &'a str,
+        tuning: Tuning,
+    },
 }
 
 /// Why words are refused.

@@ -1,14 +1,67 @@
 //! Reports of faults: their lines and their statuses.
 
-ghost use Rattle.std.specs.Prelude.{◌≡◌, IfOk, string_bytes};
+ghost use Rattle.std.specs.Prelude.{◌≡◌, [], ◌∷◌, ◌++◌, IfOk, codes, string_bytes};
+ghost use Rattle.std.specs.Fmt.{decimal};
 ghost use Rattle.ttx_cycle.specs.Counters.{inner_of, faults_of};
-ghost use Rattle.ttx_tool.specs.Reports.{fault_line, status_of, Reports, ReportsWords, CountsReport};
+ghost use Rattle.ttx_source.specs.Faults.{fault_of};
+ghost use Rattle.ttx_tool.specs.Reports.{service_text, service_status, certificate_text, fault_line, status_of, Reports, ReportsWords, CountsReport};
 
-use crate::faults::ToolFault;
+use crate::faults::{TextFile, ToolFault};
 use crate::orders::WordsFault;
 use std::alloc::{AllocError, Global};
 use std::io::Write;
 use ttx_cycle::{Counted, CycleFault, write_bytes};
+use ttx_plan::PlanFault;
+use ttx_source::{SourceError, SourceFault};
+use ttx_witness::CertFault;
+
+// The line of a refused service definition whose fault names a key.
+fn keyed_line(alloc: Global, name: &str, key: &str, page: usize) -> Result<String, AllocError>
+    ensures { IfOk result (λ line. string_bytes line ≡ codes "refused: service " ++ (name.now ++ 32 ∷ key.now) ++ codes " page " ++ decimal page ++ 10 ∷ []) }
+{
+    format!(in alloc; "refused: service {name} {key} page {page}\n")
+}
+
+// The line of a refused service definition.
+fn service_line(alloc: Global, error: &SourceError) -> Result<String, AllocError>
+    ensures { IfOk result (λ line. string_bytes line ≡ service_text (fault_of error.now.fault) error.now.page ++ 10 ∷ []) }
+{
+    let page = error.page;
+    match error.fault {
+        SourceFault::NotToml => format!(in alloc; "refused: service 1 not-toml page {page}\n"),
+        SourceFault::Missing { key } => keyed_line(alloc, "2 missing", key, page),
+        SourceFault::Kind { key } => keyed_line(alloc, "3 kind", key, page),
+        SourceFault::PageNumber => format!(in alloc;
+            "refused: service 4 page-number page {page}\n"
+        ),
+        SourceFault::Subcode => format!(in alloc; "refused: service 5 subcode page {page}\n"),
+        SourceFault::Duplicate => format!(in alloc; "refused: service 6 duplicate page {page}\n"),
+        SourceFault::RowTooLong => format!(in alloc;
+            "refused: service 7 row-too-long page {page}\n"
+        ),
+        SourceFault::Character => format!(in alloc; "refused: service 8 character page {page}\n"),
+        SourceFault::Often => format!(in alloc; "refused: service 9 often page {page}\n"),
+        SourceFault::Range { key } => keyed_line(alloc, "10 range", key, page),
+        SourceFault::NoMemory => String::from_str(alloc, "fault: memory\n"),
+    }
+}
+
+// The line of a refused certificate.
+fn certificate_line(alloc: Global, fault: &CertFault) -> Result<String, AllocError>
+    ensures { IfOk result (λ line. string_bytes line ≡ certificate_text fault.now ++ 10 ∷ []) }
+{
+    match fault {
+        CertFault::Title => String::from_str(alloc, "refused: certificate 1 title\n"),
+        CertFault::Line { line } => format!(in alloc; "refused: certificate 2 line line {line}\n"),
+        CertFault::Order { line } => format!(in alloc;
+            "refused: certificate 3 order line {line}\n"
+        ),
+        CertFault::Range { line } => format!(in alloc;
+            "refused: certificate 4 range line {line}\n"
+        ),
+        CertFault::NoMemory => String::from_str(alloc, "fault: memory\n"),
+    }
+}
 
 // The line of a fault.
 fn line_of(alloc: Global, fault: &ToolFault) -> Result<String, AllocError>
@@ -24,8 +77,36 @@ fn line_of(alloc: Global, fault: &ToolFault) -> Result<String, AllocError>
             String::from_str(alloc, "refused: cycle 4 too-long\n")
         }
         ToolFault::Cycle(CycleFault::NoMemory) => String::from_str(alloc, "fault: memory\n"),
+        ToolFault::Service(error) => service_line(alloc, error),
+        ToolFault::Certificate(fault) => certificate_line(alloc, fault),
+        ToolFault::Read { which: _ } => String::from_str(alloc, "fault: read\n"),
+        ToolFault::TooLong {
+            which: TextFile::Service,
+        } => { String::from_str(alloc, "refused: service too-long\n") }
+        ToolFault::TooLong {
+            which: TextFile::Certificate,
+        } => { String::from_str(alloc, "refused: certificate too-long\n") }
         ToolFault::Write { written: _ } => String::from_str(alloc, "fault: write\n"),
         ToolFault::NoMemory => String::from_str(alloc, "fault: memory\n"),
+        ToolFault::Plan(PlanFault::NoPages) => String::from_str(
+            alloc,
+            "refused: plan 1 no-pages\n",
+        ),
+        ToolFault::Plan(PlanFault::TooLong) => String::from_str(
+            alloc,
+            "refused: plan 2 too-long\n",
+        ),
+        ToolFault::Plan(PlanFault::NoMemory) => String::from_str(alloc, "fault: memory\n"),
+    }
+}
+
+// The status of the program after a fault of a service definition.
+fn service_status(fault: &SourceFault) -> u8
+    ensures { result ≡ service_status (fault_of fault.now) }
+{
+    match fault {
+        SourceFault::NoMemory => 3,
+        _ => 2,
     }
 }
 
@@ -34,9 +115,15 @@ fn status(fault: &ToolFault) -> u8
     ensures { result ≡ status_of fault.now }
 {
     match fault {
-        ToolFault::Cycle(CycleFault::Truncated { .. } | CycleFault::Empty | CycleFault::TooLong) =>
-            2,
-        _ => 3,
+        ToolFault::Cycle(CycleFault::Read | CycleFault::NoMemory) => 3,
+        ToolFault::Cycle(_) => 2,
+        ToolFault::Service(error) => service_status(&error.fault),
+        ToolFault::Certificate(CertFault::NoMemory) => 3,
+        ToolFault::Certificate(_) => 2,
+        ToolFault::TooLong { which: _ } => 2,
+        ToolFault::Plan(PlanFault::NoMemory) => 3,
+        ToolFault::Plan(_) => 2,
+        ToolFault::Read { .. } | ToolFault::Write { .. } | ToolFault::NoMemory => 3,
     }
 }
 

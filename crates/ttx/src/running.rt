@@ -1,0 +1,193 @@
+//! Runs an order: opens what it names, and gives it to its command.
+
+use crate::devices::{Input, open_input};
+use std::fs::File;
+use std::io;
+use std::io::BufReader;
+use ttx_certify::faults::TextFile as CertifiedText;
+use ttx_certify::{FilesFault, Verdict, certify_files};
+use ttx_cycle::Counted;
+use ttx_page::{Class, PageMemory};
+use ttx_receiver::{Careful, Cleared, Eager, Receiver};
+use ttx_tool::{Order, ReceiverKind, TextFile, ToolFault, Tuning, commands};
+
+// A buffered reader of an input.
+fn buffered(rt: &HostRuntime, input: Input) -> Result<Counted<BufReader<Input>>, ToolFault> {
+    match BufReader::new(rt.alloc(), input) {
+        Ok(reader) => Ok(Counted::new(reader)),
+        Err(_) => Err(ToolFault::NoMemory),
+    }
+}
+
+fn inspect(rt: &HostRuntime, input: Input) -> Result<u8, ToolFault> {
+    let mut reader = buffered(rt, input)?;
+    let mut writer = Counted::new(io::writer(rt));
+    commands::inspect(rt.alloc(), &mut reader, &mut writer)?;
+    Ok(0)
+}
+
+fn plan(rt: &HostRuntime, input: Input, class: Class, out: File) -> Result<u8, ToolFault> {
+    let mut reader = buffered(rt, input)?;
+    let mut file = Counted::new(out);
+    let mut writer = Counted::new(io::writer(rt));
+    commands::plan(rt.alloc(), &mut reader, class, &mut file, &mut writer)
+}
+
+fn receive_by<X: Receiver + Drop>(
+    rt: &HostRuntime,
+    input: Input,
+    mut receiver: X,
+    tuning: &Tuning,
+) -> Result<u8, ToolFault> {
+    let mut reader = buffered(rt, input)?;
+    let mut writer = Counted::new(io::writer(rt));
+    commands::receive(
+        rt.alloc(),
+        &mut reader,
+        &mut receiver,
+        tuning.start,
+        tuning.slots,
+        &mut writer,
+    )
+}
+
+// A receiver of the kind that is asked for, with nothing received before.
+fn receive(rt: &HostRuntime, input: Input, tuning: &Tuning) -> Result<u8, ToolFault> {
+    let (selection, lines, blank) = (tuning.selection, tuning.lines, PageMemory::blank());
+    match tuning.kind {
+        ReceiverKind::Eager => receive_by(rt, input, Eager::new(selection, lines, blank), tuning),
+        ReceiverKind::Careful => receive_by(
+            rt,
+            input,
+            Careful::new(selection, lines, blank),
+            tuning,
+        ),
+        ReceiverKind::Cleared => receive_by(
+            rt,
+            input,
+            Cleared::new(selection, lines, blank),
+            tuning,
+        ),
+    }
+}
+
+// The text beside a cycle, by the tool's name of it.
+fn text_file(which: CertifiedText) -> TextFile {
+    match which {
+        CertifiedText::Service => TextFile::Service,
+        CertifiedText::Certificate => TextFile::Certificate,
+    }
+}
+
+// The tool's fault of the same name.
+fn tool_fault(fault: FilesFault) -> ToolFault {
+    match fault {
+        FilesFault::Cycle(fault) => ToolFault::Cycle(fault),
+        FilesFault::Service(error) => ToolFault::Service(error),
+        FilesFault::Certificate(fault) => ToolFault::Certificate(fault),
+        FilesFault::Read { which } => ToolFault::Read {
+            which: text_file(which),
+        },
+        FilesFault::TooLong { which } => ToolFault::TooLong {
+            which: text_file(which),
+        },
+        FilesFault::Write { written } => ToolFault::Write { written },
+        FilesFault::NoMemory => ToolFault::NoMemory,
+    }
+}
+
+// Judges a cycle by a certificate: status 0 where the verdict is Yes, else 1.
+fn certify(
+    rt: &HostRuntime,
+    cycle: Input,
+    service: Input,
+    certificate: Input,
+) -> Result<u8, ToolFault> {
+    let mut cycle = buffered(rt, cycle)?;
+    let mut service = buffered(rt, service)?;
+    let mut certificate = buffered(rt, certificate)?;
+    let mut writer = Counted::new(io::writer(rt));
+    match certify_files(
+        rt.alloc(),
+        &mut cycle,
+        &mut service,
+        &mut certificate,
+        &mut writer,
+    ) {
+        Ok(Verdict::Yes) => Ok(0),
+        Ok(Verdict::No(_)) => Ok(1),
+        Err(fault) => Err(tool_fault(fault)),
+    }
+}
+
+// Finds the certificate of a cycle: status 0 where there is a deadline, else 1.
+fn find(
+    rt: &HostRuntime,
+    cycle: Input,
+    service: Input,
+    repeat: u8,
+    class: Class,
+    out: File,
+) -> Result<u8, ToolFault> {
+    let mut cycle = buffered(rt, cycle)?;
+    let mut service = buffered(rt, service)?;
+    let mut file = Counted::new(out);
+    let mut writer = Counted::new(io::writer(rt));
+    // The words have it in this range.
+    let repeat = repeat.clamp(1, 8);
+    commands::find(
+        rt.alloc(),
+        &mut cycle,
+        &mut service,
+        repeat,
+        class,
+        &mut file,
+        &mut writer,
+    )
+}
+
+/// Opens the inputs in the order of the words, makes the output file anew, and runs the command. An error is that of a file
+/// that can't be opened.
+pub fn run_order(rt: &HostRuntime, order: &Order<'_>) -> io::Result<Result<u8, ToolFault>> {
+    match order {
+        Order::Inspect { file } => {
+            let input = open_input(rt, file)?;
+            Ok(inspect(rt, input))
+        }
+        Order::Plan {
+            service,
+            out,
+            class,
+        } => {
+            let input = open_input(rt, service)?;
+            let file = File::create(rt, out)?;
+            Ok(plan(rt, input, *class, file))
+        }
+        Order::Find {
+            cycle,
+            service,
+            out,
+            repeat,
+            class,
+        } => {
+            let cycle = open_input(rt, cycle)?;
+            let service = open_input(rt, service)?;
+            let file = File::create(rt, out)?;
+            Ok(find(rt, cycle, service, *repeat, *class, file))
+        }
+        Order::Receive { cycle, tuning } => {
+            let input = open_input(rt, cycle)?;
+            Ok(receive(rt, input, tuning))
+        }
+        Order::Certify {
+            cycle,
+            service,
+            certificate,
+        } => {
+            let cycle = open_input(rt, cycle)?;
+            let service = open_input(rt, service)?;
+            let certificate = open_input(rt, certificate)?;
+            Ok(certify(rt, cycle, service, certificate))
+        }
+    }
+}

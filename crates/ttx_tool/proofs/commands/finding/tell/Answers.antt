@@ -1,0 +1,33 @@
+use Rattle.std.proofs.Common.{None, sym, subst, string_bytes}
+use Rattle.std.proofs.lemmas.Result.{IfOk-weaker}
+use Rattle.ttx_certify.specs.CertifyingFiles.{pages_of}
+use Rattle.ttx_cycle.specs.Cycles.{slots_of}
+use Rattle.ttx_witness.specs.Certificates.{fields_of, certificate_of}
+use Rattle.ttx_witness.specs.Finding.{IsFoundFor}
+use Rattle.ttx_tool.specs.FindingFiles.{Tells}
+use Rattle.ttx_tool.proofs.FoundNothing.{says_no}
+use Rattle.ttx_tool.proofs.commands.finding.tell.Goals as goal
+
+pub returns-in-Some-clause-told : goal.returns-in-Some-clause-told
+returns-in-Some-clause-told c =
+    let w = fields_of c.in-Ok.found.certificate in
+    IfOk-weaker c.tell_deadline.result _ _ (λ t h. record {
+      w = w;
+      deadline = c.in-Ok.found.deadline;
+      found = c.in-Ok.ensures.found;
+      told = subst (λ d. Tells (slots_of c.args.cycle.now) c.args.service.now w d t.file.items (string_bytes t.line) t.status) (sym c.in-Some.is) h;
+    }) c.tell_deadline.ensures.told
+
+pub returns-clause-told : goal.returns-clause-told
+returns-clause-told c =
+    let w = fields_of c.in-Ok.found.certificate in
+    let slots = slots_of c.args.cycle.now in
+    let service = c.args.service.now in
+    let is = (c.certificates_keep_their_rules.ensures c.in-Ok.found.certificate).1 in
+    let found = subst (λ d. IsFoundFor slots (pages_of service) c.args.repeat service.lines c.args.class (certificate_of c.in-Ok.found.certificate) d) c.in-None.is c.in-Ok.ensures.found in
+    IfOk-weaker c.tell_verdict.result _ _ (λ t h. record {
+      w = w;
+      deadline = None;
+      found = found;
+      told = says_no slots service c.args.repeat c.args.class w is found t.file.items (string_bytes t.line) t.status h;
+    }) c.tell_verdict.ensures.told

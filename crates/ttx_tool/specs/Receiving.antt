@@ -1,0 +1,47 @@
+-- What `receive` writes for the bytes of a packet file.
+--
+--   Tuning                  what a receiver is set to: its class, the slots in a field, and its selection
+--   Hears                   what it makes of some slots of a cycle that is sent again and again
+--   Receives                what was written at each answer
+use Rattle.std.specs.Prelude.{◌≡◌, ℕ, ◌<◌, pos, List, length, take, Option, Result, Ok, Err}
+use Rattle.std.specs.Io.KnownBytes.{Appends, Keeps}
+use Rattle.ttx_cycle.specs.Reading.{Judged}
+use Rattle.ttx_page.specs.Laws.{sent_from}
+use Rattle.ttx_page.specs.Memories.{Memory}
+use Rattle.ttx_page.specs.Receivers.{Run}
+use Rattle.ttx_page.specs.Streams.{repeated}
+use Rattle.ttx_page.specs.declared.class.Class.{Class}
+use Rattle.ttx_page.specs.declared.selection.Selection.{Selection}
+use Rattle.ttx_render.specs.View.{view_of}
+use Rattle.ttx_tool.specs.Inspecting.{IsFile}
+use Rattle.ttx_tool.specs.ViewLines.{view_lines}
+use Rattle.ttx_tool.specs.declared.faults.ToolFault.{ToolFault}
+use Rattle.ttx_tool.specs.declared.faults.ToolFault.TheVariants.{Cycle, Write, NoMemory}
+
+pub record Tuning : Type 0 where
+  pub class : Class
+  pub lines : ℕ
+  pub selection : Selection
+
+abbrev pub tuning_at : Class → ℕ → Selection → Tuning
+tuning_at class lines selection = record { class = class; lines = lines; selection = selection }
+
+-- The memory may become the new one over `count` slots of the cycle from slot `start` on, which counts round the cycle.
+abbrev pub Hears : Tuning → List (List ℕ) → ℕ → ℕ → Memory → Memory → Type 0
+Hears t slots start count old new = Run t.class t.lines t.selection old (sent_from (repeated slots) (pos start) count) new
+
+-- the slots of a packet file, over which the memory became the new one
+pub record IsHeard (t : Tuning) (start count : ℕ) (bytes : List ℕ) (old new : Memory) : Type 0 where
+  pub slots : List (List ℕ)
+  pub file : IsFile slots bytes
+  pub run : Hears t slots start count old new
+
+-- Ok: the lines of the memory's View went out. A write fault: the first `written` bytes of them. Else nothing, and the file is refused as it is judged.
+abbrev pub Receives : Tuning → ℕ → ℕ → List ℕ → Memory → Memory → Option (List ℕ) → Option (List ℕ) → Result ℕ ToolFault → Type 0
+Receives t start count bytes held new before after (Ok status) =
+    (status ≡ 0) × IsHeard t start count bytes held new × Appends before after (view_lines (view_of new))
+Receives t start count bytes held new before after (Err (Write written)) =
+    IsHeard t start count bytes held new × (written < length (view_lines (view_of new))) × Appends before after (take written (view_lines (view_of new)))
+Receives t start count bytes held new before after (Err (Cycle fault)) = Judged bytes (Err fault) × (new ≡ held) × Keeps before after
+Receives t start count bytes held new before after (Err NoMemory) = Keeps before after
+Receives t start count bytes held new before after (Err _) = ⊥

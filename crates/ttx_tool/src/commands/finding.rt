@@ -1,0 +1,213 @@
+//! `find`: the certificate of a cycle for the pages of a service.
+
+ghost use Rattle.std.specs.Prelude.{◌≡◌, ◌≤◌, IfSome, IfOk, IfErr, string_bytes};
+ghost use Rattle.ttx_certify.specs.CertifyingFiles.{pages_of};
+ghost use Rattle.ttx_certify.specs.Verdicts.{IsVerdict};
+ghost use Rattle.ttx_cycle.specs.Counters.{inner_of, faults_of};
+ghost use Rattle.ttx_cycle.specs.Cycles.{slots_of};
+ghost use Rattle.ttx_witness.specs.Certificates.{fields_of, certificate_of};
+ghost use Rattle.ttx_witness.specs.Finding.{IsFoundFor};
+ghost use Rattle.ttx_tool.specs.FindingFiles.{found_line, TellsDeadline, TellsVerdict, IsTold, FindsText, Finds, CountsInputs, CountsFind};
+ghost use Rattle.ttx_tool.specs.Planning.{WritesBoth, CountsBoth};
+
+use super::planning::read_definition;
+use crate::faults::ToolFault;
+use std::alloc::{AllocError, Global};
+use std::io::{Read, Write};
+use ttx_certify::{Verdict, certify, verdict_line};
+use ttx_cycle::{Counted, Cycle, read_cycle, write_bytes};
+use ttx_page::Class;
+use ttx_source::Service;
+use ttx_witness::{Certificate, Found, find_for, write_certificate};
+
+// What goes out: the bytes of the certificate's file, the line, and the status.
+#[derive(Drop)]
+struct Told {
+    file: Vec<u8>,
+    line: String,
+    status: u8,
+}
+
+// What is found for the pages of a service.
+fn find_service(
+    alloc: Global,
+    cycle: &Cycle,
+    service: &Service,
+    repeat: u8,
+    class: Class,
+) -> Result<Found, ToolFault>
+    requires some { 1 ≤ repeat }
+    requires few { repeat ≤ 8 }
+    ensures found { IfOk result (λ found. IsFoundFor (slots_of cycle.now) (pages_of service.now) repeat service.now.lines class (certificate_of found.certificate) found.deadline) }
+    ensures memory { IfErr result (λ fault. fault ≡ ToolFault.NoMemory) }
+{
+    match find_for(
+        alloc,
+        cycle,
+        service.pages(),
+        repeat,
+        service.lines(),
+        class,
+    ) {
+        Ok(found) => Ok(found),
+        Err(_) => Err(ToolFault::NoMemory),
+    }
+}
+
+// The verdict on the pages of a service.
+fn certify_service(
+    alloc: Global,
+    cycle: &Cycle,
+    service: &Service,
+    certificate: &Certificate,
+) -> Result<Verdict, ToolFault>
+    ensures verdict { IfOk result (IsVerdict (slots_of cycle.now) (pages_of service.now) (certificate_of certificate.now)) }
+    ensures memory { IfErr result (λ fault. fault ≡ ToolFault.NoMemory) }
+{
+    match certify(alloc, cycle, service.pages(), certificate) {
+        Ok(verdict) => Ok(verdict),
+        Err(_) => Err(ToolFault::NoMemory),
+    }
+}
+
+// The line of a deadline.
+fn found_line(alloc: Global, deadline: u32) -> Result<String, AllocError>
+    ensures { IfOk result (λ line. string_bytes line ≡ found_line deadline) }
+{
+    format!(in alloc; "found deadline {deadline}\n")
+}
+
+// What goes out where there is a deadline.
+fn tell_deadline(alloc: Global, certificate: &Certificate, deadline: u32) -> Result<Told, ToolFault>
+    ensures told { IfOk result (λ told. TellsDeadline (fields_of certificate.now) deadline told.file.items (string_bytes told.line) told.status) }
+    ensures memory { IfErr result (λ fault. fault ≡ ToolFault.NoMemory) }
+{
+    let Ok(file) = write_certificate(alloc, certificate) else {
+        return Err(ToolFault::NoMemory);
+    };
+    let Ok(line) = found_line(alloc, deadline) else {
+        return Err(ToolFault::NoMemory);
+    };
+    Ok(Told {
+        file,
+        line,
+        status: 0,
+    })
+}
+
+// What goes out where there is none: the verdict is told, whatever it is.
+fn tell_verdict(
+    alloc: Global,
+    cycle: &Cycle,
+    service: &Service,
+    certificate: &Certificate,
+) -> Result<Told, ToolFault>
+    ensures told { IfOk result (λ told. TellsVerdict (slots_of cycle.now) service.now (fields_of certificate.now) told.file.items (string_bytes told.line) told.status) }
+    ensures memory { IfErr result (λ fault. fault ≡ ToolFault.NoMemory) }
+{
+    let Ok(verdict) = certify_service(alloc, cycle, service, certificate) else {
+        return Err(ToolFault::NoMemory);
+    };
+    let Ok(line) = verdict_line(alloc, certificate, service.pages().len(), verdict) else {
+        return Err(ToolFault::NoMemory);
+    };
+    Ok(Told {
+        file: Vec::new(alloc),
+        line,
+        status: 1,
+    })
+}
+
+// What is found for the pages of a service, and what goes out.
+fn tell(
+    alloc: Global,
+    cycle: &Cycle,
+    service: &Service,
+    repeat: u8,
+    class: Class,
+) -> Result<Told, ToolFault>
+    requires some { 1 ≤ repeat }
+    requires few { repeat ≤ 8 }
+    ensures told { IfOk result (λ told. IsTold (slots_of cycle.now) service.now repeat class told.file.items (string_bytes told.line) told.status) }
+    ensures memory { IfErr result (λ fault. fault ≡ ToolFault.NoMemory) }
+{
+    ttx_witness::certificate_laws::certificates_keep_their_rules();
+    let Ok(found) = find_service(alloc, cycle, service, repeat, class) else {
+        return Err(ToolFault::NoMemory);
+    };
+    match found.deadline {
+        Some(deadline) => tell_deadline(alloc, &found.certificate, deadline),
+        None => tell_verdict(alloc, cycle, service, &found.certificate),
+    }
+}
+
+// The same for a packet file and the text of a service.
+fn find_text<A: Read, B: Read>(
+    alloc: Global,
+    cycle: &mut Counted<A>,
+    service: &mut Counted<B>,
+    repeat: u8,
+    class: Class,
+) -> Result<Told, ToolFault>
+    requires some { 1 ≤ repeat }
+    requires few { repeat ≤ 8 }
+    ensures bytes { IfSome (A.remaining (inner_of cycle.old)) (λ a. IfSome (B.remaining (inner_of service.old)) (λ b. FindsText a b repeat class result)) }
+    ensures faults { CountsInputs result (faults_of cycle.old) (faults_of cycle.new) (faults_of service.old) (faults_of service.new) }
+{
+    let cycle = match read_cycle(alloc, cycle) {
+        Ok(cycle) => cycle,
+        Err(fault) => return Err(ToolFault::Cycle(fault)),
+    };
+    let service = match read_definition(alloc, service) {
+        Ok(service) => service,
+        Err(fault) => return Err(fault),
+    };
+    match tell(alloc, &cycle, &service, repeat, class) {
+        Ok(told) => Ok(told),
+        Err(_) => Err(ToolFault::NoMemory),
+    }
+}
+
+// Writes the bytes of a file, and then the line. At a fault the first `written` bytes of both went out.
+fn write_told<O: Write, W: Write>(
+    file: &mut Counted<O>,
+    bytes: &[u8],
+    writer: &mut Counted<W>,
+    line: &[u8],
+) -> Result<(), ToolFault>
+    ensures bytes { WritesBoth bytes.now line.now (O.contents (inner_of file.old)) (O.contents (inner_of file.new)) (W.contents (inner_of writer.old)) (W.contents (inner_of writer.new)) result }
+    ensures faults { CountsBoth result (faults_of file.old) (faults_of file.new) (faults_of writer.old) (faults_of writer.new) }
+{
+    write_bytes(file, bytes).map_err(ToolFault::from_write)?;
+    write_bytes(writer, line).map_err(|fault| ToolFault::Write {
+        written: bytes.len() + fault.written,
+    })
+}
+
+/// Reads a packet file and the text of a service, and finds the certificate of the cycle for the pages of the service and
+/// receivers of the class; `repeat` is 1 to 8. Where there is a deadline, writes the text of the certificate to the file and
+/// the deadline to the other writer: the status is 0. Where there is none, writes nothing to the file, and to the other writer
+/// the verdict on the certificate, which is a No: the status is 1.
+///
+/// Nothing is written before all is found. At `Write` exactly the first `written` bytes of both went out, the file's before the
+/// line's.
+pub fn find<A: Read, B: Read, O: Write, W: Write>(
+    alloc: Global,
+    cycle: &mut Counted<A>,
+    service: &mut Counted<B>,
+    repeat: u8,
+    class: Class,
+    file: &mut Counted<O>,
+    writer: &mut Counted<W>,
+) -> Result<u8, ToolFault>
+    requires some { 1 ≤ repeat }
+    requires few { repeat ≤ 8 }
+    ensures bytes { IfSome (A.remaining (inner_of cycle.old)) (λ a. IfSome (B.remaining (inner_of service.old)) (λ b. Finds a b repeat class
+        (O.contents (inner_of file.old)) (O.contents (inner_of file.new)) (W.contents (inner_of writer.old)) (W.contents (inner_of writer.new)) result)) }
+    ensures faults { CountsFind result (faults_of cycle.old) (faults_of cycle.new) (faults_of service.old) (faults_of service.new)
+        (faults_of file.old) (faults_of file.new) (faults_of writer.old) (faults_of writer.new) }
+{
+    let told = find_text(alloc, cycle, service, repeat, class)?;
+    write_told(file, told.file.as_slice(), writer, told.line.as_bytes())?;
+    Ok(told.status)
+}

@@ -1,0 +1,41 @@
+//! `receive`: what a receiver holds after some slots of a cycle.
+
+ghost use Rattle.std.specs.Prelude.{IfSome};
+ghost use Rattle.ttx_cycle.specs.Counters.{inner_of, faults_of};
+ghost use Rattle.ttx_tool.specs.Inspecting.{CountsInspect};
+ghost use Rattle.ttx_tool.specs.Receiving.{tuning_at, Receives};
+
+use crate::faults::ToolFault;
+use crate::stepping::step_over;
+use crate::views::view_lines;
+use std::alloc::Global;
+use std::io::{Read, Write};
+use ttx_cycle::{Counted, read_cycle, write_bytes};
+use ttx_receiver::Receiver;
+use ttx_render::render;
+
+/// Reads a packet file, gives the receiver `count` slots of it from slot `start` on (both counted round the cycle), and writes
+/// the View of what it then holds.
+///
+/// Nothing is written before the whole file is read. At `Write` exactly the first `written` bytes of the text went out. The
+/// status is 0.
+pub fn receive<R: Read, X: Receiver, W: Write>(
+    alloc: Global,
+    reader: &mut Counted<R>,
+    receiver: &mut X,
+    start: u16,
+    count: u32,
+    writer: &mut Counted<W>,
+) -> Result<u8, ToolFault>
+    ensures bytes { IfSome (R.remaining (inner_of reader.old))
+        (λ bytes. Receives (tuning_at (X.kind receiver.old) (X.field receiver.old) (X.tuned receiver.old)) start count bytes
+        (X.held receiver.old) (X.held receiver.new) (W.contents (inner_of writer.old)) (W.contents (inner_of writer.new)) result) }
+    ensures faults { CountsInspect result (faults_of reader.old) (faults_of reader.new) (faults_of writer.old) (faults_of writer.new) }
+{
+    let cycle = read_cycle(alloc, reader).map_err(ToolFault::Cycle)?;
+    step_over(receiver, cycle.slots(), usize::from(start), count);
+    let view = render(receiver.memory());
+    let text = view_lines(alloc, &view).map_err(|_| ToolFault::NoMemory)?;
+    write_bytes(writer, text.as_bytes()).map_err(ToolFault::from_write)?;
+    Ok(0)
+}
