@@ -5,7 +5,7 @@ lines() { find "$@" 2>/dev/null -type f | xargs cat 2>/dev/null | wc -l; }
 printf '| crate | source | tests | specs | proofs | must-fail edits |\n|---|---|---|---|---|---|\n'
 for crate in $(sed -n 's/^\([a-z_]*\):.*/\1/p' crates.txt); do
     folder=crates/$crate
-    tests=$(find "$folder/src" -name 'tests*.rt' | xargs cat 2>/dev/null | wc -l)
+    tests=$(find "$folder/src" -name '*tests.rt' | xargs cat 2>/dev/null | wc -l)
     all=$(lines "$folder/src" -name '*.rt')
     specs=$(lines "$folder/specs" -name '*.antt')
     proofs=$(lines "$folder/proofs" -name '*.antt')
