@@ -5,8 +5,6 @@ ghost use Rattle.std.specs.Prelude.{◌≡◌, ◌<◌, ◌≤◌, ◌==◌, pos
 ghost use Rattle.ttx_charset.specs.Glyphs.{glyph, places};
 
 pub mod laws;
-#[cfg(test)]
-mod tests;
 
 // The characters of each option at the places of a national set.
 #[rattlefmt::skip]

@@ -6,8 +6,6 @@ mod lanes;
 pub mod laws;
 mod parity;
 mod plain;
-#[cfg(test)]
-mod tests;
 
 pub use hamming::{ham, is_word, unham};
 pub use parity::{all_odd, odd, odd_of, strip};

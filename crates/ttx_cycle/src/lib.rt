@@ -9,8 +9,6 @@ pub mod faulty;
 mod filling;
 mod reading;
 mod slot_reader;
-#[cfg(test)]
-mod tests;
 mod texts;
 mod writing;
 

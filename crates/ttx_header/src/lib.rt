@@ -7,8 +7,6 @@ pub mod ids;
 pub mod laws;
 pub mod parts;
 mod reading;
-#[cfg(test)]
-mod tests;
 mod writing;
 
 pub use control::Control;

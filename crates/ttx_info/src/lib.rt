@@ -5,8 +5,6 @@ pub mod faults;
 pub mod fields;
 pub mod laws;
 mod reading;
-#[cfg(test)]
-mod tests;
 mod writing;
 
 pub use faults::InfoFault;

@@ -5,8 +5,6 @@ pub mod laws;
 mod reading;
 pub mod sets;
 pub mod targets;
-#[cfg(test)]
-mod tests;
 mod writing;
 
 pub use reading::{read_link, read_links};

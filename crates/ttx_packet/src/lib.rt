@@ -4,8 +4,6 @@
 pub mod laws;
 pub mod place;
 pub mod slots;
-#[cfg(test)]
-mod tests;
 mod writing;
 
 pub use slots::{Slot, clean, slot_of};

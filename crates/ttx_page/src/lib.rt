@@ -9,8 +9,6 @@ pub mod memory;
 pub mod page;
 pub mod selection;
 mod shown;
-#[cfg(test)]
-mod tests;
 
 pub use class::Class;
 pub use item::{Item, RowNumber};

@@ -14,8 +14,6 @@ mod planning;
 mod rounds;
 mod serial;
 mod slots;
-#[cfg(test)]
-mod tests;
 
 pub use faults::PlanFault;
 pub use planning::{plan, plan_for};

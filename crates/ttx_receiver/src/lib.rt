@@ -8,8 +8,6 @@ pub mod laws;
 pub mod receiver;
 mod scripted;
 mod steps;
-#[cfg(test)]
-mod tests;
 
 pub use careful::Careful;
 pub use cleared::Cleared;

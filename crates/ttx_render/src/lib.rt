@@ -10,8 +10,6 @@ mod held;
 pub mod laws;
 mod rows;
 mod spacing;
-#[cfg(test)]
-mod tests;
 mod touch;
 mod view;
 mod words;

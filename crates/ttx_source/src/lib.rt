@@ -9,8 +9,6 @@ mod page_table;
 mod reading;
 mod rows;
 pub mod services;
-#[cfg(test)]
-mod tests;
 mod texts;
 mod values;
 

@@ -9,8 +9,6 @@ pub mod orders;
 mod page_names;
 mod parsing;
 mod stepping;
-#[cfg(test)]
-mod tests;
 mod texts;
 mod views;
 

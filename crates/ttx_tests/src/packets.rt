@@ -1,6 +1,6 @@
 //! Slots by their bytes.
 
-use crate::{Slot, address, clean, slot_of};
+use ttx_packet::{Slot, address, clean, slot_of};
 
 // The kind that a line of the inspector shows, with the magazine and the number.
 fn shown(slot: &[u8; 42]) -> (&'static str, u8, u8) {

@@ -1,6 +1,6 @@
 //! A packet 8/30 format 1 by its bytes.
 
-use crate::{Info, InfoFault, read_info, write_info};
+use ttx_info::{Info, InfoFault, read_info, write_info};
 use ttx_links::Target;
 
 // Initial page 100/3F7F, network 12 34, two half hours, MJD 46000, UTC 12:30:45, and TEST.

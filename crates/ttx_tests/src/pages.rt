@@ -1,8 +1,8 @@
 //! Pages, selections and memories by their worked examples.
 
-use super::*;
 use ttx_header::{Control, PageId};
 use ttx_links::Links;
+use ttx_page::{Class, Item, Page, PageMemory, RowNumber, Selection, is_blank, needed};
 
 fn spaces() -> [u8; 40] {
     [b' '; 40]

@@ -1,11 +1,11 @@
 //! What the commands do on devices that fail, what is reported, and what words ask for. What `inspect` writes for packets of each
 //! kind is shown by the cases of the built program.
 
-use crate::{ToolFault, WordsFault, commands, words};
 use std::alloc::{AllocError, Global};
 use std::test::Fail;
 use ttx_cycle::faulty::{Failure, FaultyReader, FaultyWriter};
 use ttx_cycle::{Counted, CycleFault};
+use ttx_tool::{ToolFault, WordsFault, commands, words};
 
 // What `inspect` of one empty slot answers on devices that fail.
 fn inspected(

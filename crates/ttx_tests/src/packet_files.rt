@@ -1,10 +1,10 @@
 //! Packet files read and written in pieces, with faults in the middle.
 
-use crate::faulty::{Failure, FaultyReader, FaultyWriter};
-use crate::{Counted, Cycle, CycleFault, SlotReader, WriteFault, read_cycle, write_cycle};
 use std::alloc::{AllocError, Global};
 use std::io::Write;
 use std::test::Fail;
+use ttx_cycle::faulty::{Failure, FaultyReader, FaultyWriter};
+use ttx_cycle::{Counted, Cycle, CycleFault, SlotReader, WriteFault, read_cycle, write_cycle};
 use ttx_packet::address;
 
 // Adds a slot: its first bytes, and then the same byte to its end.

@@ -1,11 +1,11 @@
 //! Service definitions that are accepted, and the faults of those that aren't.
 
-use crate::{SourceError, SourceFault, read_service};
 use std::alloc::{AllocError, Global};
 use std::test::Fail;
 use ttx_info::Info;
 use ttx_links::{Links, Target};
 use ttx_page::Page;
+use ttx_source::{SourceError, SourceFault, read_service};
 
 // Texts outside pages.
 static SERVICES: [(&str, SourceFault); 7] = [

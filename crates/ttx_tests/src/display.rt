@@ -1,9 +1,11 @@
+//! Rows and pages on the display, by worked examples.
+
 ghost use Rattle.std.specs.Prelude.{◌<◌, ◌≤◌, length};
 
-use super::*;
 use std::process::Abort;
 use ttx_header::Control;
 use ttx_page::PageMemory;
+use ttx_render::{Cache, Glyph, View, cell_word, render, same_but_clock};
 
 // A row of these codes, then spaces.
 fn row_of(codes: &[u8]) -> [u8; 40]

@@ -1,6 +1,6 @@
 //! A packet X/27/0 by its bytes.
 
-use crate::{Links, Target, read_links, write_links};
+use ttx_links::{Links, Target, read_links, write_links};
 
 // The link 205/3F7F and five times none, in magazine 1.
 const SENT: [u8; 42] = [

@@ -1,10 +1,10 @@
 //! Certifying files: on devices that fail in the middle, and the longest cycle.
 
-use crate::faults::TextFile;
-use crate::seen_tests::{base, certificate};
-use crate::{FilesFault, Verdict, certify_files};
+use crate::seen::{base, certificate};
 use std::alloc::{AllocError, Global};
 use std::test::Fail;
+use ttx_certify::faults::TextFile;
+use ttx_certify::{FilesFault, Verdict, certify_files};
 use ttx_cycle::Counted;
 use ttx_cycle::faulty::{Failure, FaultyReader, FaultyWriter};
 use ttx_header::time_fill;

@@ -3,9 +3,9 @@
 
 ghost use Rattle.std.specs.Prelude.{◌≤◌};
 
-use crate::{Verdict, certify};
 use std::alloc::{AllocError, Global};
 use std::test::Fail;
+use ttx_certify::{Verdict, certify};
 use ttx_cycle::Cycle;
 use ttx_header::{Control, PageId};
 use ttx_links::Links;

@@ -1,6 +1,6 @@
 //! Each kind of receiver over the slots of a page that is sent with its row 1 in the next slot, in fields of two slots.
 
-use super::*;
+use ttx_certify::receive;
 use ttx_header::{Control, PageId};
 use ttx_page::{PageMemory, Selection};
 use ttx_receiver::{Careful, Cleared, Eager, Receiver, Scripted};

@@ -1,8 +1,8 @@
 //! Receivers over the slots of a page whose row 1 stands two slots after its header, in fields of two slots.
 
-use crate::{Careful, Cleared, Eager, Receiver, Scripted};
 use ttx_header::{Control, PageId};
 use ttx_page::{PageMemory, Selection};
+use ttx_receiver::{Careful, Cleared, Eager, Receiver, Scripted};
 
 fn header() -> [u8; 42] {
     let mut slot = [0x20; 42];

@@ -1,6 +1,6 @@
 //! Page headers by their bytes.
 
-use crate::{Control, Header, PageId, read_header, time_fill, write_header};
+use ttx_header::{Control, Header, PageId, read_header, time_fill, write_header};
 
 // A header of spaces.
 fn header(mag: u8, page: u8, sub: u16, control: u16) -> Option<Header> {

@@ -1,6 +1,8 @@
+//! National characters, by the tables of the standard.
+
 ghost use Rattle.std.specs.Prelude.{◌<◌};
 
-use super::*;
+use ttx_charset::glyph;
 
 // The characters at the places that the national sets replace.
 #[rattlefmt::skip]

@@ -1,6 +1,6 @@
 //! Bytes of the standard's tables, and a sent text.
 
-use crate::{all_odd, ham, is_word, odd, odd_of, strip, unham};
+use ttx_code::{all_odd, ham, is_word, odd, odd_of, strip, unham};
 
 // The code word of each number (EN 300 706, 8.2).
 const WORDS: [u8; 16] = [

@@ -2,13 +2,13 @@
 
 ghost use Rattle.std.specs.Prelude.{◌≤◌};
 
-use crate::{PlanFault, plan, plan_for};
 use std::alloc::{AllocError, Global};
 use std::test::Fail;
 use ttx_cycle::Cycle;
 use ttx_header::read_header;
 use ttx_packet::{Slot, address, slot_of};
 use ttx_page::Class;
+use ttx_plan::{PlanFault, plan, plan_for};
 use ttx_source::read_service;
 
 // What a slot holds.

@@ -1,0 +1,38 @@
+//! The tests of all crates: worked examples, vectors from outside, devices that fail and growths that are refused. They stand here
+//! and not in their crates, since a crate with tests is proved twice.
+#![tactic(auto)]
+
+#[cfg(test)]
+mod certificates;
+#[cfg(test)]
+mod certified_files;
+#[cfg(test)]
+mod characters;
+#[cfg(test)]
+mod codes;
+#[cfg(test)]
+mod commands;
+#[cfg(test)]
+mod display;
+#[cfg(test)]
+mod headers;
+#[cfg(test)]
+mod packet_files;
+#[cfg(test)]
+mod packets;
+#[cfg(test)]
+mod page_links;
+#[cfg(test)]
+mod pages;
+#[cfg(test)]
+mod plans;
+#[cfg(test)]
+mod receivers;
+#[cfg(test)]
+mod receptions;
+#[cfg(test)]
+mod seen;
+#[cfg(test)]
+mod service_packets;
+#[cfg(test)]
+mod services;
