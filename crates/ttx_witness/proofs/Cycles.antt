@@ -1,10 +1,9 @@
 -- The laws of certificates over cycles, from those of transmissions that repeat.
-use Rattle.std.proofs.Common.{◌≡◌, ◌↔◌, ℕ, suc, ◌*◌, ◌≤◌, ℤ, pos, ◌+ℤ◌, List, length, Some, None, Contains, sym, ap, ◌∙◌, subst}
+use Rattle.std.proofs.Common.{◌≡◌, suc, ◌*◌, pos, ◌+ℤ◌, length, sym, ap, ◌∙◌, subst}
 use Rattle.ttx_page.specs.Streams as S
 use Rattle.ttx_page.specs.Streams.{repeated, IsOwned, IsSure}
-use Rattle.ttx_witness.specs.Searching.{width}
 use Rattle.ttx_witness.specs.Repeating as R
-use Rattle.ttx_witness.specs.Coverage.{limit, IsCovered}
+use Rattle.ttx_witness.specs.Coverage.{limit}
 use Rattle.ttx_witness.specs.Sent.{sent_in}
 use Rattle.ttx_witness.specs.CycleLaws.{CoverageIsDecided, FirstsAreFound, FurtherStartsCover, SureStartsAreFound, LeastLimitIsFound}
 use Rattle.ttx_witness.proofs.Covered as C

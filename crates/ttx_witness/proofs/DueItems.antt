@@ -1,9 +1,11 @@
 -- The items of pages in their places, and what is known of entries and limits after one more.
-use Rattle.std.proofs.Common.{◌≡◌, ◌⊎◌, ℕ, zero, ◌+◌, ◌<◌, true, false, List, [], ◌∷◌, ◌++◌, map, length, get_or, slice_get, Option, Some, None, refl, sym, ap, ◌∙◌, subst, inl, inr, arith}
-use Rattle.std.specs.List.{All, AllByRecursion, Contains}
+use Rattle.std.proofs.Common.{◌≡◌, ◌≢◌, ◌⊎◌, ℕ, zero, suc, ◌+◌, ◌<◌, true, false, eqb-true, List, [], ◌∷◌, ◌++◌, map, length, get_or, slice_get, Option, Some, None, refl, sym, ap, ◌∙◌, subst, inl, inr, arith}
+use Rattle.std.specs.List.{All, AllByRecursion, AllPairs, Contains}
 use Rattle.std.proofs.lemmas.List.Elements.{Contains-append_left, Contains-append_right}
 use Rattle.std.specs.Option.{option_map}
-use Rattle.std.proofs.lemmas.Option.{slice_get-map, slice_get_read}
+use Rattle.std.proofs.lemmas.List.Quantifiers.{all_pairs_push}
+use Rattle.std.proofs.lemmas.Option.{slice_get-map, slice_get_read, slice_get_within, get_or_from_slice_get}
+use Rattle.ttx_header.specs.Ids.{same_id}
 use Rattle.std.proofs.lemmas.Bool.{cases_lt}
 use Rattle.ttx_page.specs.declared.page.Page.{Page as PageValue}
 use Rattle.ttx_page.specs.Views.{page_of}
@@ -11,11 +13,33 @@ use Rattle.ttx_page.specs.Pages.{Page, needed}
 use Rattle.ttx_page.specs.declared.item.Item.{Item}
 use Rattle.ttx_page.specs.declared.item.Item.TheVariants.{Head as TheHead, Row as TheRow, Links as TheLinks}
 use Rattle.ttx_page.specs.declared.class.Class.{Class}
-use Rattle.ttx_witness.specs.Collected.{IsItem, item_number, place}
-use Rattle.ttx_witness.specs.Finding.{starts_for, limit_for, Fits, wider, IsDone, IsTold, HasEntry, AreNamed, AddsEntry}
+use Rattle.ttx_witness.specs.Collected.{IsItem, ids_of, item_number, place}
+use Rattle.ttx_witness.specs.Finding.{starts_for, limit_for, Fits, wider, IsDone, IsTold, HasEntry, same_place, AreNamed, AddsEntry}
 use Rattle.ttx_witness.specs.declared.entries.Entry.{Entry}
-use Rattle.ttx_witness.proofs.Basics.{no_both}
+use Rattle.ttx_witness.proofs.Basics.{no_both, and_left, and_right, cases_bool}
+use Rattle.ttx_witness.proofs.EntryOrder.{same_entry}
+use Rattle.ttx_witness.proofs.Indexing.{same_one}
 use Rattle.ttx_witness.proofs.Whole.{all_by_place, all_by_recursion}
+
+abbrev pub AreApart : List Page → Type 0
+AreApart pages = (i j : ℕ) (p q : Page) → slice_get pages i ≡ Some p → slice_get pages j ≡ Some q → p.id ≡ q.id → i ≡ j
+
+-- the pages of a list whose ids are distinct
+pub pages_apart : (pages : List PageValue) → AllPairs (λ a b. a ≢ b) (ids_of pages) → AreApart (map page_of pages)
+pages_apart pages distinct i j p q e f same = elim (cases_lt i j) as (λ _. i ≡ j) [
+  | inl low ↦ absurd (differ i j p q low e f same)
+  | inr le ↦ elim (cases_lt j i) as (λ _. i ≡ j) [ inl high ↦ absurd (differ j i q p high f e (sym same)) | inr ge ↦ (let g : i ≡ j = omega arith in g) ]
+]
+  where
+    id_in : (pages : List PageValue) (i : ℕ) (p : Page) → slice_get (map page_of pages) i ≡ Some p → slice_get (ids_of pages) i ≡ Some p.id
+    id_in [] i p e = let h : None ≡ Some p = e in cc
+    id_in (q ∷ pages) zero p e = let h : page_of q ≡ p = cc in ap (λ x. Some x.id) h
+    id_in (q ∷ pages) (suc i) p e = id_in pages i p e
+
+    differ : (i j : ℕ) (p q : Page) → i < j → slice_get (map page_of pages) i ≡ Some p → slice_get (map page_of pages) j ≡ Some q → p.id ≡ q.id → ⊥
+    differ i j p q lt e f same =
+        let a = id_in pages i p e in let b = id_in pages j q f in
+        distinct i j p.id lt (slice_get_within (ids_of pages) j q.id b) (get_or_from_slice_get (ids_of pages) i p.id p.id a ∙ same ∙ sym (get_or_from_slice_get (ids_of pages) j q.id p.id b))
 
 pub number_low : (item : Item) → IsItem item → item_number item < 26
 number_low TheHead is = omega arith
@@ -80,12 +104,26 @@ module _ (pages : List Page) (class : Class) (m j : ℕ) (q : Page) (given : Ite
   ]
 
   module _ (cycle : List (List ℕ)) (lines repeat : ℕ) where
+    -- no earlier entry stands in the place of one of this item
+    new_place : AreApart pages → (e n : Entry) → IsTold cycle pages class lines repeat m e → n.page ≡ q.id → n.item ≡ given → same_place e n ≡ false
+    new_place apart e n t page item = elim (cases_bool (same_place e n)) as (λ _. same_place e n ≡ false) [
+      | inl same ↦
+          let one = same_entry n.page n.item n.kept.id n.kept.item e (eqb-true _ _ same) in
+          let id : t.p.id ≡ q.id = sym t.page ∙ same_one e.page n.page (and_left _ _ one) ∙ page in
+          let index : t.index ≡ j = apart t.index j t.p q t.done.at at id in
+          let number : item_number e.item ≡ item_number given = eqb-true _ _ (and_right (same_id e.page n.page) _ one) ∙ ap item_number item in
+          let before = t.done.before in
+          absurd (omega arith)
+      | inr other ↦ other
+    ]
+
     told_more : (e : Entry) → IsTold cycle pages class lines repeat m e → IsTold cycle pages class lines repeat (m + 1) e
     told_more e t = record { index = t.index; p = t.p; done = done_more t.index t.p e.item t.done; page = t.page; starts = t.starts }
 
     pub nothing_named : (entries : List Entry) (least : Option ℕ) → needed q given ≡ false → AreNamed cycle pages class lines repeat m entries least → AreNamed cycle pages class lines repeat (m + 1) entries least
     nothing_named entries least not_seen a = record {
       told = all_more (IsTold cycle pages class lines repeat m) (IsTold cycle pages class lines repeat (m + 1)) told_more entries a.told;
+      apart = a.apart;
       kept = λ i p item d. elim (done_cases i p item d) as (λ _. (starts_for cycle class lines repeat p item ≡ []) ⊎ HasEntry entries p.id item)
           [ inl b ↦ a.kept i p item b | inr l ↦ absurd (not_last i p item d l) ];
       least_to = λ limit f i p item d. elim (done_cases i p item d) as (λ _. Fits (limit_for cycle class lines repeat p item) limit)
@@ -96,10 +134,11 @@ module _ (pages : List Page) (class : Class) (m j : ℕ) (q : Page) (given : Ite
         not_last : (i : ℕ) (p : Page) (item : Item) → IsDone pages (m + 1) i p item → IsLast i p item → ⊥
         not_last i p item d l = no_both (needed q given) (subst (λ x. needed q x ≡ true) l.of_item (subst (λ x. needed x item ≡ true) l.of_page d.seen)) not_seen
 
-    pub one_named : (old new : List Entry) (least limit_here : Option ℕ) → needed q given ≡ true → AddsEntry old new q.id given (starts_for cycle class lines repeat q given) →
+    pub one_named : AreApart pages → (old new : List Entry) (least limit_here : Option ℕ) → needed q given ≡ true → AddsEntry old new q.id given (starts_for cycle class lines repeat q given) →
         limit_here ≡ limit_for cycle class lines repeat q given → AreNamed cycle pages class lines repeat m old least → AreNamed cycle pages class lines repeat (m + 1) new (wider least limit_here)
-    one_named old new least limit_here seen adds e a = record {
+    one_named distinct old new least limit_here seen adds e a = record {
       told = told_now adds;
+      apart = apart_now adds;
       kept = λ i p item d. elim (done_cases i p item d) as (λ _. (starts_for cycle class lines repeat p item ≡ []) ⊎ HasEntry new p.id item)
           [ inl b ↦ kept_before adds p item (a.kept i p item b) | inr l ↦ subst (λ x. (starts_for cycle class lines repeat p x ≡ []) ⊎ HasEntry new p.id x) (sym l.of_item) (subst (λ x. (starts_for cycle class lines repeat x given ≡ []) ⊎ HasEntry new x.id given) (sym l.of_page) (kept_now adds)) ];
       least_to = λ limit f i p item d. elim (done_cases i p item d) as (λ _. Fits (limit_for cycle class lines repeat p item) limit) [
@@ -118,6 +157,11 @@ module _ (pages : List Page) (class : Class) (m j : ℕ) (q : Page) (given : Ite
         told_now (inr n) = subst (All (IsTold cycle pages class lines repeat (m + 1))) (sym n.1)
             (all_push (IsTold cycle pages class lines repeat (m + 1)) old n.0 (all_more (IsTold cycle pages class lines repeat m) (IsTold cycle pages class lines repeat (m + 1)) told_more old a.told)
             (record { index = j; p = q; done = subst (IsDone pages (m + 1) j q) (sym n.3) done_here; page = n.2; starts = n.4 ∙ ap (starts_for cycle class lines repeat q) (sym n.3) }))
+
+        apart_now : AddsEntry old new q.id given (starts_for cycle class lines repeat q given) → AllPairs (λ x y. same_place x y ≡ false) new
+        apart_now (inl n) = subst (AllPairs (λ x y. same_place x y ≡ false)) (sym n.1) a.apart
+        apart_now (inr n) = subst (AllPairs (λ x y. same_place x y ≡ false)) (sym n.1)
+            (all_pairs_push (λ x y. same_place x y ≡ false) old n.0 a.apart (λ k d lt. new_place distinct (get_or old k d) n.0 (a.told k d lt) n.2 n.3))
 
         kept_before : AddsEntry old new q.id given (starts_for cycle class lines repeat q given) → (p : Page) (item : Item) → (starts_for cycle class lines repeat p item ≡ []) ⊎ HasEntry old p.id item →
             (starts_for cycle class lines repeat p item ≡ []) ⊎ HasEntry new p.id item

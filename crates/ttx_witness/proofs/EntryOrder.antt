@@ -77,7 +77,7 @@ module _ (page : Id) (item : Item) (id : IsId page) (is : is_item item ≡ true)
   abbrev is_for : Entry → Bool
   is_for e = same_id e.page page && same_item e.item item
 
-  same_entry : (e : Entry) → place_in e ≡ place_of page item → is_for e ≡ true
+  pub same_entry : (e : Entry) → place_in e ≡ place_of page item → is_for e ≡ true
   same_entry e same =
       let parts = same_parts e.page page (item_number e.item) (item_number item) e.kept.id id (item_below e.item e.kept.item) (item_below item is) same in
       and_both _ _ (and_both _ _ (and_both _ _ (eq-eqb _ _ parts.mag) (eq-eqb _ _ parts.page)) (eq-eqb _ _ parts.sub)) (eq-eqb _ _ parts.item)

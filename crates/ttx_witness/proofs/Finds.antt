@@ -1,13 +1,16 @@
 -- The certificate that names every start of a sure run, and its least deadline.
-use Rattle.std.proofs.Common.{◌≡◌, ◌≢◌, ◌⊎◌, ◌↔◌, ℕ, zero, suc, ◌+◌, ◌-◌, ◌*◌, ◌<◌, ◌≤◌, ℤ, Bool, true, false, not, ◌&&◌, if◌then◌else◌, List, [], ◌∷◌, map, length, get_or, slice_get, slice_index_or, Option, Some, None, unwrap_or, refl, sym, ap, ◌∙◌, subst, inl, inr, arith, eqb-true, eq-eqb}
-use Rattle.std.specs.List.{AllByRecursion, AllPairs, Contains}
-use Rattle.std.proofs.lemmas.Option.{slice_get_within, get_or_from_slice_get, slice_get_cases}
+use Rattle.std.proofs.Common.{◌≡◌, ◌⊎◌, ◌↔◌, ℕ, zero, suc, ◌+◌, ◌-◌, ◌*◌, ◌<◌, ◌≤◌, ℤ, Bool, true, false, not, ◌&&◌, ◌==◌, if◌then◌else◌, List, [], ◌∷◌, map, length, get_or, slice_get, slice_index_or, Option, Some, None, unwrap_or, refl, sym, ap, ◌∙◌, subst, inl, inr, arith, eqb-true, eq-eqb}
+use Rattle.std.specs.List.{All, AllByRecursion, AllPairs, Contains}
+use Rattle.std.proofs.lemmas.Option.{slice_get_within, slice_get_cases}
 use Rattle.std.proofs.lemmas.List.{length-map}
 use Rattle.std.proofs.lemmas.Bool.{cases_lt, leb-true}
 use Rattle.std.specs.Prelude.{nat_le, is_some, is_none, IsTrue, MatchOption}
 use Rattle.ttx_header.specs.Control.{c10}
 use Rattle.ttx_packet.specs.Slots.{is_clean}
-use Rattle.std.specs.List.Sorted.{IsPermutation}
+use Rattle.std.specs.List.Sorted.{IsPermutation, IsNonDecreasingBy}
+use Rattle.std.proofs.lemmas.Bool.Decides.{nat_tests}
+use Rattle.std.proofs.lemmas.Map.Keys.{IsDistinct-IsPermutation, IsDistinct-from_apart, apart_from_distinct}
+use Rattle.ttx_witness.proofs.EntryOrder.{place_in}
 use Rattle.std.proofs.lemmas.List.Sorted.{All-permutation, Contains-permutation}
 use Rattle.ttx_header.specs.Ids.{Id, same_id}
 use Rattle.ttx_page.specs.declared.page.Page.{Page as PageValue}
@@ -21,18 +24,18 @@ use Rattle.ttx_page.specs.declared.item.Item.{Item}
 use Rattle.ttx_page.specs.declared.item.Item.TheVariants.{Head as TheHead, Row as TheRow, Links as TheLinks}
 use Rattle.ttx_page.specs.declared.class.Class.{Class}
 use Rattle.ttx_page.specs.declared.class.Class.TheVariants.{Any, Clearing}
-use Rattle.ttx_witness.specs.Collected.{IsItem, item_number, ids_of}
-use Rattle.ttx_witness.specs.Entries.{same_item, starts_in, fields_at, certificate_at}
+use Rattle.ttx_witness.specs.Collected.{IsItem, item_number}
+use Rattle.ttx_witness.specs.Entries.{are_numbers, is_above, rises, rises_above, places, same_item, starts_in, fields_at, certificate_at}
 use Rattle.ttx_witness.specs.EntryViews.{entries_of}
 use Rattle.ttx_witness.specs.declared.entries.Entry.{Entry}
 use Rattle.ttx_witness.specs.Searching.{Spread}
 use Rattle.ttx_witness.specs.Coverage.{Certificate, limit, IsSureStart, IsCovered, IsLeftOut, Accepts}
 use Rattle.ttx_witness.specs.CycleLaws.{SureStartsAreFound, LeastLimitIsFound}
-use Rattle.ttx_witness.specs.Finding.{is_due, starts_of, spread_at, starts_for, limit_for, Fits, limit_of, least_limit, IsDone, IsTold, HasEntry, AreNamed, IsSentUnchanged, IsLeastField, IsDeadline, CanBeAccepted, IsLeastDeadline, IsFoundFor}
+use Rattle.ttx_witness.specs.Finding.{is_due, starts_of, spread_at, starts_for, limit_for, Fits, limit_of, least_limit, IsDone, IsTold, HasEntry, same_place, AreNamed, IsSentUnchanged, IsLeastField, IsDeadline, CanBeAccepted, IsLeastDeadline, IsFoundFor}
 use Rattle.ttx_witness.proofs.Basics.{no_both, and_left, and_right, and_both, cases_bool}
 use Rattle.ttx_witness.proofs.Indexing.{same_one, same_self}
 use Rattle.ttx_witness.proofs.Whole.{all_by_recursion, place_below}
-use Rattle.ttx_witness.proofs.DueItems.{item_one, all_more}
+use Rattle.ttx_witness.proofs.DueItems.{AreApart, item_one, all_more}
 use Rattle.ttx_witness.proofs.HeaderLimits.{Next, next_covered, next_fits}
 
 pub if_true : {A : Type 0} (b : Bool) (x y : A) → b ≡ true → (if b then x else y) ≡ x
@@ -113,26 +116,6 @@ run_some : (repeat : ℕ) (item : Item) → 1 ≤ repeat → run_length repeat i
 run_some repeat TheHead some = omega arith
 run_some repeat (TheRow r) some = omega arith
 run_some repeat TheLinks some = refl
-
-abbrev AreApart : List Page → Type 0
-AreApart pages = (i j : ℕ) (p q : Page) → slice_get pages i ≡ Some p → slice_get pages j ≡ Some q → p.id ≡ q.id → i ≡ j
-
--- the pages of a list whose ids are distinct
-pub pages_apart : (pages : List PageValue) → AllPairs (λ a b. a ≢ b) (ids_of pages) → AreApart (map page_of pages)
-pages_apart pages distinct i j p q e f same = elim (cases_lt i j) as (λ _. i ≡ j) [
-  | inl low ↦ absurd (differ i j p q low e f same)
-  | inr le ↦ elim (cases_lt j i) as (λ _. i ≡ j) [ inl high ↦ absurd (differ j i q p high f e (sym same)) | inr ge ↦ (let g : i ≡ j = omega arith in g) ]
-]
-  where
-    id_in : (pages : List PageValue) (i : ℕ) (p : Page) → slice_get (map page_of pages) i ≡ Some p → slice_get (ids_of pages) i ≡ Some p.id
-    id_in [] i p e = let h : None ≡ Some p = e in cc
-    id_in (q ∷ pages) zero p e = let h : page_of q ≡ p = cc in ap (λ x. Some x.id) h
-    id_in (q ∷ pages) (suc i) p e = id_in pages i p e
-
-    differ : (i j : ℕ) (p q : Page) → i < j → slice_get (map page_of pages) i ≡ Some p → slice_get (map page_of pages) j ≡ Some q → p.id ≡ q.id → ⊥
-    differ i j p q lt e f same =
-        let a = id_in pages i p e in let b = id_in pages j q f in
-        distinct i j p.id lt (slice_get_within (ids_of pages) j q.id b) (get_or_from_slice_get (ids_of pages) i p.id p.id a ∙ same ∙ sym (get_or_from_slice_get (ids_of pages) j q.id p.id b))
 
 module _ (cycle : List (List ℕ)) (some : 1 ≤ length cycle) (pages : List Page) (apart : AreApart pages) (class : Class) (lines repeat : ℕ) (repeats : 1 ≤ repeat) (es : List Entry) (least : Option ℕ)
     (named : AreNamed cycle pages class lines repeat (26 * length pages) es least) where
@@ -295,9 +278,16 @@ pub deadline_sent : (cycle : List (List ℕ)) (pages : List Page) (lines slots :
 deadline_sent cycle pages lines slots None u h = λ d a b v f. h d a b f
 deadline_sent cycle pages lines slots (Some d) u h = (u, h.0, h.1, h.2, h.3)
 
+-- the numbers of what is found are in their ranges
+pub numbers_found : (cycle : List (List ℕ)) (pages : List Page) (lines repeat : ℕ) (least deadline : Option ℕ) → 1 ≤ lines → lines ≤ 32 → 1 ≤ repeat → repeat ≤ 8 →
+    IsDeadline cycle pages lines least deadline → are_numbers lines repeat (unwrap_or deadline 1000000) ≡ true
+numbers_found cycle pages lines repeat least None a b c d h = grind (arith, nat_tests)
+numbers_found cycle pages lines repeat least (Some n) a b c d h = let low = h.1 in let high = h.2 in grind (arith, nat_tests)
+
 pub none_named : (cycle : List (List ℕ)) (pages : List Page) (class : Class) (lines repeat : ℕ) → AreNamed cycle pages class lines repeat 0 [] (Some 0)
 none_named cycle pages class lines repeat = record {
   told = λ k d lt. absurd (omega arith);
+  apart = λ x y d lt in_range. absurd (omega arith);
   kept = λ i p item d. absurd (let b = d.before in omega arith);
   least_to = λ limit f i p item d. absurd (let b = d.before in omega arith);
   least_from = λ limit f. omega arith;
@@ -307,10 +297,48 @@ pub none_from : {A : Type 0} (o : Option A) → is_some o ≡ false → o ≡ No
 none_from None e = refl
 none_from (Some a) e = cc
 
+abbrev AreAlone : List Entry → Type 0
+AreAlone es = AllPairs (λ a b. same_place a b ≡ false) es
+
+same_place_flips : (a b : Entry) → same_place a b ≡ same_place b a
+same_place_flips a b = equal_flips (place_in a) (place_in b)
+  where
+    equal_flips : (m n : ℕ) → (m == n) ≡ (n == m)
+    equal_flips m n = grind (arith, nat_tests)
+
+abbrev Lower : Option ℕ → List Entry → Type 0
+Lower None es = Unit {0}
+Lower (Some low) es = All (λ e. low < place_in e) es
+
+-- entries of distinct items stay so when they change places
+pub pairs_sorted : (xs ys : List Entry) → IsPermutation xs ys → AreAlone xs → AreAlone ys
+pairs_sorted xs ys perm alone =
+    let d = IsDistinct-IsPermutation same_place same_place_flips xs ys perm (IsDistinct-from_apart same_place xs alone) in
+    λ i j e lt in_range. apart_from_distinct same_place ys i j e d lt in_range
+
+rises_apart : (low : Option ℕ) (es : List Entry) → Lower low es → IsNonDecreasingBy place_in es → AreAlone es → rises_above low (places (entries_of es)) ≡ true
+rises_apart low [] l up alone = refl
+rises_apart low (e ∷ es) l up alone = and_both _ _ (first low l)
+    (rises_apart (Some (place_in e)) es
+    (λ k d lt. let le = up zero (suc k) d (omega arith) (omega arith) in let other = alone zero (suc k) d (omega arith) (omega arith) in above (place_in e) (place_in (get_or es k d)) le other)
+    (λ i j d le in_range. up (suc i) (suc j) d (omega arith) (omega arith)) (λ i j d lt in_range. alone (suc i) (suc j) d (omega arith) (omega arith)))
+  where
+    first : (low : Option ℕ) → Lower low (e ∷ es) → is_above low (place_in e) ≡ true
+    first None l = refl
+    first (Some low) l = let lt : low < place_in e = l zero e (omega arith) in grind (arith, nat_tests)
+
+    above : (m n : ℕ) → m ≤ n → (m == n) ≡ false → m < n
+    above m n le other = grind (arith, nat_tests)
+
+-- entries of distinct items that are sorted rise strictly
+pub places_rise : (es : List Entry) → IsNonDecreasingBy place_in es → AllPairs (λ a b. same_place a b ≡ false) es → rises (places (entries_of es)) ≡ true
+places_rise es up alone = rises_apart None es tt up alone
+
 pub named_sorted : (cycle : List (List ℕ)) (pages : List Page) (class : Class) (lines repeat m : ℕ) (xs ys : List Entry) (least : Option ℕ) → IsPermutation xs ys →
     AreNamed cycle pages class lines repeat m xs least → AreNamed cycle pages class lines repeat m ys least
 named_sorted cycle pages class lines repeat m xs ys least perm a = record {
   told = All-permutation (IsTold cycle pages class lines repeat m) xs ys perm a.told;
+  apart = pairs_sorted xs ys perm a.apart;
   kept = λ i p item d. elim (a.kept i p item d) as (λ _. (starts_for cycle class lines repeat p item ≡ []) ⊎ HasEntry ys p.id item) [
     | inl e ↦ inl e
     | inr h ↦ inr (record { entry = h.entry; among = Contains-permutation xs ys h.entry perm h.among; of_page = h.of_page; of_item = h.of_item })

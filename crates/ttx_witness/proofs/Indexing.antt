@@ -1,8 +1,13 @@
 -- An index of pages, made one by one.
-use Rattle.std.proofs.Common.{◌≡◌, ◌≢◌, ℕ, zero, suc, ◌+◌, ◌<◌, true, false, ◌==◌, ◌&&◌, if◌then◌else◌, List, [], ◌∷◌, length, get_or, slice_get, Option, Some, None, refl, sym, ap, ◌∙◌, subst, inl, inr, arith, eqb-true, eq-eqb}
-use Rattle.std.specs.List.{AllPairs}
+use Rattle.std.proofs.Common.{◌≡◌, ◌≢◌, ℕ, zero, suc, ◌+◌, ◌<◌, ◌^◌, Bool, true, false, ◌==◌, ◌&&◌, ◌||◌, if◌then◌else◌, List, [], ◌∷◌, map, length, get_or, slice_get, Option, Some, None, refl, sym, ap, ◌∙◌, subst, inl, inr, arith, eqb-true, eq-eqb}
+use Rattle.std.specs.List.{AllPairs, list_any}
 use Rattle.std.specs.Option.{option_map}
-use Rattle.std.proofs.lemmas.Option.{slice_get_within, get_or_from_slice_get, slice_get-map, slice_get_read}
+use Rattle.std.proofs.lemmas.Option.{slice_get_within, slice_get_cases, get_or_from_slice_get, slice_get-map, slice_get_read}
+use Rattle.std.proofs.lemmas.List.{length-map, get_or-map}
+use Rattle.std.proofs.lemmas.Map.Made.{IsDistinct-from_AllPairs}
+use Rattle.std.proofs.lemmas.Map.Steps.{length-le_from_distinct_below}
+use Rattle.std.proofs.lemmas.Bool.Decides.{Decides-eqb}
+use Rattle.std.proofs.Math.Dec.{eqb}
 use Rattle.std.proofs.lemmas.Bool.{cases_lt}
 use Rattle.ttx_header.specs.Ids.{Id, IsId, same_id}
 use Rattle.ttx_page.specs.declared.page.Page.{Page as PageValue}
@@ -27,6 +32,26 @@ same_one a b e =
 pub same_self : (a : Id) → same_id a a ≡ true
 same_self a = and_both _ _ (and_both _ _ (eq-eqb a.mag a.mag refl) (eq-eqb a.page a.page refl)) (eq-eqb a.sub a.sub refl)
 
+key_below : (id : Id) → IsId id → key_of id < 37748736
+key_below id is = let m = is.mag_to in let p = is.page in let s = is.sub.top in omega arith
+
+keys_below : (ids : List Id) → ((i : ℕ) (id : Id) → slice_get ids i ≡ Some id → IsId id) → (q : ℕ) → list_any (eqb q) (map key_of ids) ≡ true → q < 37748736
+keys_below [] are q e = absurd (let h : false ≡ true = e in cc)
+keys_below (id ∷ ids) are q e = elim (cases_bool (eqb q (key_of id))) as (λ _. q < 37748736) [
+  | inl h ↦ subst (λ x. x < 37748736) (sym (eqb-true q (key_of id) h)) (key_below id (are zero id refl))
+  | inr h ↦ keys_below ids (λ i. are (suc i)) q (or_right (eqb q (key_of id)) _ h e)
+]
+  where
+    or_right : (a b : Bool) → a ≡ false → (a || b) ≡ true → b ≡ true
+    or_right true b f e = cc
+    or_right false b f e = e
+
+slice_get_here : (ids : List Id) (i : ℕ) → i < length ids → (id : Id) × (slice_get ids i ≡ Some id)
+slice_get_here ids i lt = elim (slice_get_cases ids i).1 as (λ _. (id : Id) × (slice_get ids i ≡ Some id)) [
+  | inl w ↦ (w.0, w.2)
+  | inr past ↦ absurd (let p = past.0 in omega arith)
+]
+
 -- after the first n pages
 pub record IsIndexed (ids : List Id) (n : ℕ) (at : ℕ → Option ℕ) : Type 0 where
   pub known : (i : ℕ) (own : Id) → i < n → slice_get ids i ≡ Some own → at (key_of own) ≡ Some i
@@ -40,6 +65,22 @@ module _ (ids : List Id) (are : (i : ℕ) (id : Id) → slice_get ids i ≡ Some
   places_differ i j a b lt e f same =
       let p = get_or_from_slice_get ids i a a e in let q = get_or_from_slice_get ids j b a f in
       distinct i j a lt (slice_get_within ids j b f) (p ∙ same ∙ sym q)
+
+  keys_apart : AllPairs (λ a b. a ≢ b) (map key_of ids)
+  keys_apart i j d lt in_range same =
+      let l = length-map ids key_of in
+      let a = slice_get_here ids i (omega arith) in
+      let b = slice_get_here ids j (omega arith) in
+      let p = get_or-map key_of ids i a.0 d (omega arith) ∙ ap key_of (get_or_from_slice_get ids i a.0 a.0 a.1) in
+      let q = get_or-map key_of ids j b.0 d (omega arith) ∙ ap key_of (get_or_from_slice_get ids j b.0 b.0 b.1) in
+      places_differ i j a.0 b.0 lt a.1 b.1 (key_one a.0 b.0 (are i a.0 a.1) (are j b.0 b.1) (sym p ∙ same ∙ q))
+
+  -- distinct ids are as many as there are keys at most
+  pub few_ids : length ids < 2 ^ 32
+  few_ids =
+      let l = length-map ids key_of in
+      let n = length-le_from_distinct_below (map key_of ids) 37748736 (IsDistinct-from_AllPairs Decides-eqb (map key_of ids) keys_apart) (keys_below ids are) in
+      omega arith
 
   pub one_indexed : (n : ℕ) (own : Id) (at new : ℕ → Option ℕ) → slice_get ids n ≡ Some own →
       ((q : ℕ) → new q ≡ (if key_of own == q then Some n else at q)) → IsIndexed ids n at → IsIndexed ids (n + 1) new

@@ -44,4 +44,5 @@ pub mod Straying
 pub mod AcceptedTexts
 mod WrittenTexts
 pub mod DueItems
+pub mod FoundStarts
 pub mod Finds

@@ -1,12 +1,12 @@
 -- The subcodes of the pages of a number, page by page.
-use Rattle.std.proofs.Common.{◌≡◌, ◌⊎◌, ◌↔◌, ℕ, zero, suc, ◌+◌, ◌-◌, ◌*◌, ◌<◌, ◌≤◌, Bool, true, false, not, ◌&&◌, ◌==◌, if◌then◌else◌, List, length, get_or, slice_get, replicate, Option, Some, None, refl, sym, ap, ◌∙◌, subst, inl, inr, arith, eqb-true, eq-eqb}
+use Rattle.std.proofs.Common.{◌≡◌, ◌⊎◌, ℕ, ◌+◌, ◌&&◌, ◌==◌, if◌then◌else◌, List, get_or, slice_get, replicate, Some, sym, ap, ◌∙◌, subst, inl, inr, arith, eqb-true, eq-eqb}
 use Rattle.std.proofs.lemmas.Bool.{cases_lt}
 use Rattle.std.proofs.lemmas.List.{get_or-replicate, get_or_past, length-replicate}
 use Rattle.ttx_page.specs.Pages.{Page}
 use Rattle.ttx_witness.specs.OtherSubpages.{with_subcode, place, IsListed, AreSubcodes, AreAllSubcodes}
 use Rattle.ttx_witness.specs.declared.subcodes.Subcodes.{Subcodes}
 use Rattle.ttx_witness.specs.declared.subcodes.Subcodes.TheVariants.{Unlisted, One, Several}
-use Rattle.ttx_witness.proofs.Basics.{if_ind, no_both, cases_bool, and_left, and_right, and_both}
+use Rattle.ttx_witness.proofs.Basics.{if_ind, no_both, and_left, and_right, and_both}
 use Rattle.ttx_witness.proofs.Telling.{placed}
 
 module _ (pages : List Page) (i mag number : ℕ) where

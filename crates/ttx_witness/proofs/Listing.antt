@@ -1,6 +1,6 @@
 -- A list of all transmissions between two slots of a stream.
 use Rattle.std.proofs.Common.{◌≡◌, ℕ, zero, suc, ℤ, pos, ◌+ℤ◌, ◌-ℤ◌, ◌<ℤ◌, ◌≤ℤ◌, List, [], ◌∷◌, ◌++◌, map, take, length, refl, sym, subst, inl, inr, arith}
-use Rattle.std.specs.List.{AllByRecursion}
+use Rattle.std.specs.List.{All, AllByRecursion, AllPairs}
 use Rattle.std.proofs.lemmas.List.{length-take-le}
 use Rattle.std.proofs.lemmas.Int.{ints}
 use Rattle.std.proofs.lemmas.Bool.{cases_lt}
@@ -106,3 +106,21 @@ module _ (P : ℤ → Type 0) (Is : Transmission → Type 0) (is_p : (t : Transm
       (let e : (t.slot +ℤ pos 1) +ℤ pos n ≡ (t.slot +ℤ pos n) +ℤ pos 1 = omega (arith, ints) in
           subst (λ z. Lists slot_of P Is z (high +ℤ pos n) (map (later n) ts)) e (lists_later (t.slot +ℤ pos 1) high ts l.4)),
     )
+
+-- where the members of a list lie
+module _ {A : Type 0} (at : A → ℤ) (P : ℤ → Type 0) (Is : A → Type 0) where
+  pub lists_low : (low high : ℤ) (ts : List A) → Lists at P Is low high ts → All (λ t. low ≤ℤ at t) ts
+  lists_low low high [] l k d lt = absurd (omega arith)
+  lists_low low high (t ∷ ts) l zero d lt = l.1
+  lists_low low high (t ∷ ts) l (suc k) d lt = let a = l.1 in let i = lists_low ((at t) +ℤ pos 1) high ts l.4 k d (omega arith) in omega (arith, ints)
+
+  pub lists_high : (low high : ℤ) (ts : List A) → Lists at P Is low high ts → All (λ t. at t <ℤ high) ts
+  lists_high low high [] l k d lt = absurd (omega arith)
+  lists_high low high (t ∷ ts) l zero d lt = l.2
+  lists_high low high (t ∷ ts) l (suc k) d lt = lists_high ((at t) +ℤ pos 1) high ts l.4 k d (omega arith)
+
+  pub lists_rise : (low high : ℤ) (ts : List A) → Lists at P Is low high ts → AllPairs (λ t u. at t <ℤ at u) ts
+  lists_rise low high [] l i j d lt in_range = absurd (omega arith)
+  lists_rise low high (t ∷ ts) l i zero d lt in_range = absurd (omega arith)
+  lists_rise low high (t ∷ ts) l zero (suc j) d lt in_range = let i = lists_low ((at t) +ℤ pos 1) high ts l.4 j d (omega arith) in omega (arith, ints)
+  lists_rise low high (t ∷ ts) l (suc i) (suc j) d lt in_range = lists_rise ((at t) +ℤ pos 1) high ts l.4 i j d (omega arith) (omega arith)

@@ -1,14 +1,12 @@
 -- What one slot makes of the owners of the magazines, and of the lists of transmissions.
-use Rattle.std.proofs.Common.{◌≡◌, ◌⊎◌, ℕ, zero, suc, ◌+◌, ◌-◌, ◌*◌, ◌<◌, ◌≤◌, ℤ, pos, Bool, true, false, not, ◌&&◌, ◌||◌, ◌==◌, if◌then◌else◌, List, [], ◌∷◌, ◌++◌, get_or, slice_get, Option, Some, None, refl, sym, ap, ◌∙◌, subst, inl, inr, arith, eqb-true, eq-eqb}
-use Rattle.std.proofs.lemmas.List.{append-nil}
+use Rattle.std.proofs.Common.{◌≡◌, ℕ, ◌-◌, ◌<◌, ◌≤◌, ℤ, Bool, true, false, not, ◌&&◌, ◌||◌, ◌==◌, if◌then◌else◌, List, get_or, slice_get, Option, Some, None, refl, sym, ap, ◌∙◌, subst, inl, inr, arith, eqb-true, eq-eqb}
 use Rattle.ttx_packet.specs.Slots.{Kind, IsEmpty, IsUnreadable, IsHeader, IsRow, IsLinks, IsInfo, IsOther, kind_of}
 use Rattle.ttx_header.specs.Control.{c11}
 use Rattle.ttx_header.specs.Headers.{id_of, control_of}
 use Rattle.ttx_header.specs.Ids.{Id, IsId, same_id}
-use Rattle.ttx_page.specs.Packets.{Packet, Header, packet_of, packet_of_kind}
-use Rattle.ttx_page.specs.Streams.{heads, heads_page, ends_serial}
+use Rattle.ttx_page.specs.Packets.{packet_of, packet_of_kind}
 use Rattle.ttx_witness.specs.Sent.{PageOwner, tainted_by, owner_after}
-use Rattle.ttx_witness.specs.Collected.{taint, is_page, seen_by, Finds, owner_for, IsForeign, AreApart}
+use Rattle.ttx_witness.specs.Collected.{taint, seen_by, Finds, owner_for, IsForeign, AreApart}
 use Rattle.ttx_witness.specs.declared.owners.Owner.{Owner}
 use Rattle.ttx_witness.proofs.Basics.{if_ind, no_both, and_left, cases_bool}
 

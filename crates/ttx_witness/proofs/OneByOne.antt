@@ -1,11 +1,10 @@
 -- The transmissions of a period, taken one by one.
-use Rattle.std.proofs.Common.{◌≡◌, ℕ, zero, suc, ◌+◌, ◌-◌, ◌<◌, List, [], ◌∷◌, ◌++◌, length, get_or, take, Option, Some, None, refl, sym, ap, ◌∙◌, arith}
+use Rattle.std.proofs.Common.{◌≡◌, ℕ, suc, ◌+◌, ◌<◌, List, [], ◌∷◌, ◌++◌, length, get_or, take, None, sym, ap, ◌∙◌, arith}
 use Rattle.std.proofs.Math.Seq.{take-suc}
-use Rattle.ttx_witness.specs.Transmissions.{Transmission, windows}
+use Rattle.ttx_witness.specs.Transmissions.{windows}
 use Rattle.ttx_witness.specs.Confirming.{after_runs, not_begun}
 use Rattle.ttx_witness.specs.Searching.{spread_of, sure_runs}
 use Rattle.ttx_witness.specs.Tracks.{IsRecent, IsSearch, IsTrack}
-use Rattle.ttx_witness.specs.declared.recent.Recent.{Recent}
 use Rattle.ttx_witness.specs.declared.search.Search.{Search}
 use Rattle.ttx_witness.specs.declared.track.Track.{Track}
 

@@ -1,12 +1,11 @@
 -- A stream that repeats after n slots: its owners and sure transmissions do too.
-use Rattle.std.proofs.Common.{◌≡◌, ◌⊎◌, ◌↔◌, ℕ, zero, suc, ◌+◌, ◌-◌, ◌*◌, ◌<◌, ◌≤◌, ℤ, pos, negsuc, ◌+ℤ◌, ◌-ℤ◌, ◌<ℤ◌, ◌≤ℤ◌, Bool, true, false, not, ◌&&◌, List, [], ◌∷◌, length, refl, sym, ap, ◌∙◌, subst, inl, inr, arith}
-use Rattle.std.specs.List.{AllByRecursion}
+use Rattle.std.proofs.Common.{◌≡◌, ◌↔◌, ℕ, ◌≤◌, ℤ, pos, ◌+ℤ◌, ◌-ℤ◌, ◌<ℤ◌, ◌≤ℤ◌, false, sym, ap, ◌∙◌, subst, inl, inr, arith}
 use Rattle.std.proofs.lemmas.Int.{ints}
 use Rattle.ttx_header.specs.Ids.{Id}
 use Rattle.ttx_page.specs.Packets.{packet_of}
 use Rattle.ttx_page.specs.declared.item.Item.{Item}
 use Rattle.ttx_page.specs.declared.item.Item.TheVariants.{Head as TheHead, Row as TheRow, Links as TheLinks}
-use Rattle.ttx_page.specs.Streams.{Stream, heads, heads_page, ends_serial, carries, IsLatestHeader, IsOwned, IsTransmission, IsSure, IsSureTransmission, AreSuccessive}
+use Rattle.ttx_page.specs.Streams.{Stream, heads, heads_page, ends_serial, carries, IsLatestHeader, IsOwned, IsSure}
 use Rattle.ttx_witness.specs.Repeating.{Repeats}
 use Rattle.ttx_witness.proofs.Basics.{no_both, cases_ltz}
 

@@ -1,5 +1,5 @@
 -- The first of a period's transmissions that differs.
-use Rattle.std.proofs.Common.{◌≡◌, ◌⊎◌, ◌↔◌, Bool, true, false, not, ◌==◌, IsTrue, ℕ, zero, suc, ◌+◌, ◌<◌, ◌≤◌, ℤ, pos, negsuc, ◌+ℤ◌, ◌<ℤ◌, ◌≤ℤ◌, nat_abs, unsigned_abs, List, [], ◌∷◌, ◌++◌, length, take, drop, get_or, slice_index_or, refl, sym, ap, ◌∙◌, subst, inl, inr, arith, eqb-true}
+use Rattle.std.proofs.Common.{◌≡◌, ◌↔◌, Bool, not, ◌==◌, IsTrue, ℕ, suc, ◌<◌, ◌≤◌, ℤ, pos, negsuc, ◌+ℤ◌, ◌<ℤ◌, ◌≤ℤ◌, unsigned_abs, List, [], ◌∷◌, ◌++◌, length, take, drop, get_or, refl, sym, ◌∙◌, subst, inl, inr, arith, eqb-true}
 use Rattle.std.specs.List.{AllByRecursion}
 use Rattle.std.proofs.lemmas.Int.{ints}
 use Rattle.std.proofs.Math.Seq.{split_at}
@@ -10,7 +10,7 @@ use Rattle.ttx_page.specs.Steady.{HasHeader}
 use Rattle.ttx_header.specs.Ids.{Id}
 use Rattle.ttx_page.specs.Streams.{Stream, repeated, IsOwned, IsSure, IsTransmission}
 use Rattle.ttx_witness.specs.Transmissions.{Transmission}
-use Rattle.ttx_witness.specs.Repeating.{AreSent, Tells, IsSent}
+use Rattle.ttx_witness.specs.Repeating.{AreSent, IsSent}
 use Rattle.ttx_witness.specs.Sent.{sent_in}
 use Rattle.ttx_witness.specs.declared.checks.Check.{Check}
 use Rattle.ttx_witness.specs.Comparing.{item_of, IsWrong, IsWrongIn, WrongAt}

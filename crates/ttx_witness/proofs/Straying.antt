@@ -1,20 +1,19 @@
 -- Headers with another subcode than the one of their number are those of other subpages of pages that are alone.
-use Rattle.std.proofs.Common.{◌≡◌, ◌⊎◌, ◌↔◌, ℕ, zero, suc, ◌+◌, ◌<◌, ◌≤◌, ℤ, pos, ◌+ℤ◌, ◌-ℤ◌, Bool, true, false, not, ◌&&◌, ◌==◌, if◌then◌else◌, List, length, get_or, slice_get, replicate, Option, Some, None, refl, sym, ap, ◌∙◌, subst, inl, inr, arith, eqb-true, eq-eqb}
+use Rattle.std.proofs.Common.{◌≡◌, ◌↔◌, ℕ, ◌+◌, ◌<◌, ◌≤◌, ℤ, pos, ◌+ℤ◌, ◌-ℤ◌, Bool, true, false, ◌&&◌, ◌==◌, List, length, get_or, slice_get, replicate, Option, Some, None, refl, sym, ap, ◌∙◌, subst, inl, inr, arith, eqb-true, eq-eqb}
 use Rattle.std.proofs.lemmas.Bool.{cases_lt}
 use Rattle.std.proofs.lemmas.List.{get_or-replicate, get_or_past, length-replicate}
 use Rattle.std.proofs.lemmas.Option.{slice_get_within}
-use Rattle.ttx_header.specs.Ids.{Id, IsId, same_id}
+use Rattle.ttx_header.specs.Ids.{Id, same_id}
 use Rattle.ttx_page.specs.Packets.{Packet, Empty, Unreadable, Header, Row, Links, Info, Other, packet_of}
 use Rattle.ttx_page.specs.Pages.{Page, IsAlone, is_other_subpage}
 use Rattle.ttx_page.specs.declared.selection.Selection.TheVariants.{AnySub}
 use Rattle.ttx_page.specs.Streams.{Stream, repeated, heads_page, heads_matched}
 use Rattle.ttx_page.specs.Steady.{OtherSubpageAt}
-use Rattle.ttx_witness.specs.Faults.{Never, TellsFirst}
-use Rattle.ttx_witness.specs.OtherSubpages.{place, IsListed, AreSubcodes, AreAllSubcodes, is_other, is_stray, IsStrayAt, first_of, TellsBelow}
+use Rattle.ttx_witness.specs.Faults.{TellsFirst}
+use Rattle.ttx_witness.specs.OtherSubpages.{place, IsListed, AreSubcodes, is_other, is_stray, IsStrayAt, first_of, TellsBelow}
 use Rattle.ttx_witness.specs.declared.subcodes.Subcodes.{Subcodes}
 use Rattle.ttx_witness.specs.declared.subcodes.Subcodes.TheVariants.{Unlisted, One, Several}
 use Rattle.ttx_witness.proofs.Basics.{if_ind, no_both, cases_bool, and_left, and_right, and_both, not_true, not_false}
-use Rattle.ttx_witness.proofs.Telling.{tells_same}
 use Rattle.ttx_witness.proofs.Looking.{nowhere, one_more}
 use Rattle.ttx_witness.proofs.Streams.{period_of}
 use Rattle.std.proofs.lemmas.Int.{ints}

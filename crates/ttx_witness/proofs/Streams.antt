@@ -1,5 +1,5 @@
 -- The transmissions of an item of a page in a cycle that is sent again and again.
-use Rattle.std.proofs.Common.{◌≡◌, ◌↔◌, ℕ, suc, ◌+◌, ◌*◌, ◌<◌, ◌≤◌, ℤ, pos, ◌+ℤ◌, ◌-ℤ◌, ◌<ℤ◌, ◌≤ℤ◌, List, [], ◌∷◌, length, slice_index_or, None, refl, sym, ap, ◌∙◌, subst, arith}
+use Rattle.std.proofs.Common.{◌≡◌, ℕ, ◌≤◌, ℤ, pos, ◌+ℤ◌, ◌≤ℤ◌, List, [], ◌∷◌, length, slice_index_or, refl, sym, ap, ◌∙◌, subst, arith}
 use Rattle.std.specs.List.{Contains, AllByRecursion}
 use Rattle.std.proofs.lemmas.Int.{ints}
 use Rattle.ttx_header.specs.Ids.{Id}
@@ -7,13 +7,14 @@ use Rattle.ttx_page.specs.Pages.{Page}
 use Rattle.ttx_page.specs.declared.item.Item.{Item}
 use Rattle.ttx_page.specs.Streams as S
 use Rattle.ttx_page.specs.Streams.{Stream, repeated, IsOwned, IsTransmission, IsSure, IsSureTransmission, AreSuccessive, run_length}
-use Rattle.ttx_witness.specs.Transmissions.{Transmission}
-use Rattle.ttx_witness.specs.Tracks.{IsWithin}
+use Rattle.ttx_witness.specs.Transmissions.{Transmission, slot_of}
+use Rattle.ttx_witness.specs.Tracks.{AreInOrder, IsWithin}
 use Rattle.ttx_witness.specs.Repeating as R
 use Rattle.ttx_witness.specs.Repeating.{Repeats, Successive, IsSent, IsSureSent, AreSent, Covers}
 use Rattle.ttx_witness.specs.Coverage.{Certificate, limit, IsCovered}
-use Rattle.ttx_witness.specs.Sent.{sent_in, entry_of, sent_scan}
+use Rattle.ttx_witness.specs.Sent.{sent_in, entry_of}
 use Rattle.ttx_witness.proofs.Covered.{turned_once}
+use Rattle.ttx_witness.proofs.Listing.{lists_low, lists_high, lists_rise}
 use Rattle.ttx_witness.proofs.Periods.{repeats}
 use Rattle.ttx_witness.proofs.Owning as O
 
@@ -94,6 +95,15 @@ module _ (cycle : List (List ℕ)) (some : 1 ≤ length cycle) (page : Id) (line
         record { slot_low = omega (arith, ints); slot_high = omega (arith, ints); owner_low = omega (arith, ints); owner_high = omega (arith, ints) },
         told_within few (t.slot +ℤ pos 1) (omega (arith, ints)) ts l.4,
       )
+
+  -- and that come slot by slot
+  pub told_in_order : length cycle ≤ 65536 → (ts : List Transmission) →
+      AreSent (IsOwned (repeated cycle) page item) (IsSure (repeated cycle) lines page.mag item) (pos 0) (pos (length cycle)) ts → AreInOrder ts
+  told_in_order few ts l = record {
+    low = λ k d lt. lists_low slot_of _ _ (pos 0) (pos (length cycle)) ts l k d lt;
+    high = λ k d lt. let h = lists_high slot_of _ _ (pos 0) (pos (length cycle)) ts l k d lt in omega (arith, ints);
+    rising = lists_rise slot_of _ _ (pos 0) (pos (length cycle)) ts l;
+  }
 
 -- a cycle's coverage is that of its transmissions
 module _ (cycle : List (List ℕ)) (p : Page) (w : Certificate) (item : Item) (k : ℕ) (len : run_length w.repeat item ≡ k) where

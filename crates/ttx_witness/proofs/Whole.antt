@@ -1,5 +1,5 @@
 -- The lists of all items of all pages, before the first slot and after the last.
-use Rattle.std.proofs.Common.{◌≡◌, ℕ, zero, suc, ◌+◌, ◌*◌, ◌/◌, ◌%◌, ◌<◌, ℤ, pos, List, [], ◌∷◌, ◌++◌, map, length, get_or, slice_get, Vec, Global, Option, Some, None, refl, sym, ap, ◌∙◌, subst, inl, inr, arith, mod-lt}
+use Rattle.std.proofs.Common.{◌≡◌, ℕ, zero, suc, ◌+◌, ◌*◌, ◌/◌, ◌%◌, ◌<◌, ◌≤◌, ℤ, pos, List, [], ◌∷◌, ◌++◌, map, length, get_or, slice_get, Vec, Global, Option, Some, None, refl, sym, ap, ◌∙◌, subst, inl, inr, arith, mod-lt}
 use Rattle.std.specs.List.{All, AllByRecursion}
 use Rattle.std.proofs.lemmas.List.{length-map}
 use Rattle.std.proofs.lemmas.Int.{ints}
@@ -16,14 +16,14 @@ use Rattle.ttx_page.specs.declared.page.Page.{Page as PageValue}
 use Rattle.ttx_page.specs.declared.item.Item.{Item}
 use Rattle.ttx_page.specs.declared.item.Item.TheVariants.{Head as TheHead, Row as TheRow, Links as TheLinks}
 use Rattle.ttx_witness.specs.Transmissions.{Transmission}
-use Rattle.ttx_witness.specs.Tracks.{IsWithin}
+use Rattle.ttx_witness.specs.Tracks.{AreInOrder, IsWithin}
 use Rattle.ttx_witness.specs.Sent.{PageOwner, owner_after, owner_scan, sent_at, sent_scan, sent_in}
 use Rattle.ttx_witness.specs.Collected.{held, place, item_number, IsItem, ids_of, AreCollected}
 use Rattle.ttx_witness.specs.AllSent.{AreAllSent}
 use Rattle.ttx_witness.specs.declared.period.Collected.{Collected}
 use Rattle.ttx_witness.proofs.Entering.{slot_here}
 use Rattle.ttx_witness.proofs.Held.{held_is}
-use Rattle.ttx_witness.proofs.Streams.{sent_told, told_within}
+use Rattle.ttx_witness.proofs.Streams.{sent_told, told_within, told_in_order}
 
 abbrev Lists : Type 0
 Lists = List (Vec Transmission Global)
@@ -72,24 +72,43 @@ item_for r lt = elim (cases_lt 0 r) as (λ _. (item : Item) × IsItem item × (i
       [ inl below ↦ (TheRow r, (omega arith, omega arith), refl) | inr last ↦ (TheLinks, tt, (let e : 25 ≡ r = omega arith in e)) ]
 ]
 
+pub all_by_place : {A : Type 0} (P : A → Type 0) (xs : List A) → AllByRecursion P xs → All P xs
+all_by_place P [] h k d lt = absurd (omega arith)
+all_by_place P (x ∷ xs) h zero d lt = h.0
+all_by_place P (x ∷ xs) h (suc k) d lt = all_by_place P xs h.1 k d (omega arith)
+
+pub none_in_order : AreInOrder []
+none_in_order = record { low = λ k d lt. absurd (omega arith); high = λ k d lt. absurd (omega arith); rising = λ i j d lt in_range. absurd (omega arith) }
+
 module _ (ids : List Id) (are : (i : ℕ) (id : Id) → slice_get ids i ≡ Some id → IsId id) (cycle : List (List ℕ)) (is : IsCycle cycle) (lines : ℕ) where
-  -- the numbers of all that is kept are small
-  pub all_within : (lists : Lists) → AreCollected ids cycle lines (length cycle) lists → (n : ℕ) → AllByRecursion (IsWithin 65536) (held lists n)
-  all_within lists a n = elim (cases_lt n (length lists)) as (λ _. AllByRecursion (IsWithin 65536) (held lists n)) [
+  -- what holds of the transmissions of each item holds of each list that is kept
+  all_kept : (Keeps : List Transmission → Type 0) → Keeps [] → ((id : Id) (item : Item) → Keeps (sent_in cycle id lines item)) → (lists : Lists) → AreCollected ids cycle lines (length cycle) lists →
+      (n : ℕ) → Keeps (held lists n)
+  all_kept Keeps none each lists a n = elim (cases_lt n (length lists)) as (λ _. Keeps (held lists n)) [
     | inl below ↦
         let count = a.count in
-        elim (slice_get_cases ids (n / 26)).1 as (λ _. AllByRecursion (IsWithin 65536) (held lists n)) [
+        elim (slice_get_cases ids (n / 26)).1 as (λ _. Keeps (held lists n)) [
           | inl w ↦
               let r = item_for (n % 26) (mod-lt n (omega arith)) in
               let place_is : place (n / 26) r.0 ≡ n = let e = r.2 in omega arith in
-              let some = is.some in
               let list_is : held lists n ≡ sent_in cycle w.0 lines r.0 = ap (held lists) (sym place_is) ∙ a.each (n / 26) w.0 r.0 w.2 (are (n / 26) w.0 w.2) r.1 in
-              subst (AllByRecursion (IsWithin 65536)) (sym list_is)
-              (told_within cycle (omega arith) w.0 lines r.0 is.most (pos 0) (omega (arith, ints)) (sent_in cycle w.0 lines r.0) (sent_told cycle (omega arith) w.0 lines r.0))
+              subst Keeps (sym list_is) (each w.0 r.0)
           | inr past ↦ let p = past.0 in absurd (omega arith)
         ]
-    | inr above ↦ subst (AllByRecursion (IsWithin 65536)) (sym (get_or-eq_default (map (λ v. v.items) lists) [] (let l = length-map lists (λ v. v.items) in omega arith))) tt
+    | inr above ↦ subst Keeps (sym (get_or-eq_default (map (λ v. v.items) lists) [] (let l = length-map lists (λ v. v.items) in omega arith))) none
   ]
+
+  some : 1 ≤ length cycle
+  some = let s = is.some in omega arith
+
+  -- the numbers of all that is kept are small
+  pub all_within : (lists : Lists) → AreCollected ids cycle lines (length cycle) lists → (n : ℕ) → All (IsWithin 65536) (held lists n)
+  all_within lists a n = all_by_place (IsWithin 65536) (held lists n) (all_kept (AllByRecursion (IsWithin 65536)) tt
+      (λ id item. told_within cycle some id lines item is.most (pos 0) (omega (arith, ints)) (sent_in cycle id lines item) (sent_told cycle some id lines item)) lists a n)
+
+  -- and their slots rise
+  pub all_in_order : (lists : Lists) → AreCollected ids cycle lines (length cycle) lists → (n : ℕ) → AreInOrder (held lists n)
+  all_in_order = all_kept AreInOrder none_in_order (λ id item. told_in_order cycle some id lines item is.most (sent_in cycle id lines item) (sent_told cycle some id lines item))
 
 -- as kept for pages
 pub all_sent : (pages : List PageValue) → ((i : ℕ) (id : Id) → slice_get (ids_of pages) i ≡ Some id → IsId id) → (cycle : List (List ℕ)) (lines : ℕ) (c : Collected) →
@@ -103,11 +122,6 @@ all_sent pages are cycle lines c a = record {
     id_of_page [] i p e = let h : None ≡ Some p = e in cc
     id_of_page (q ∷ pages) zero p e = let h : page_of q ≡ p = cc in ap (λ x. Some x.id) h
     id_of_page (q ∷ pages) (suc i) p e = id_of_page pages i p e
-
-pub all_by_place : {A : Type 0} (P : A → Type 0) (xs : List A) → AllByRecursion P xs → All P xs
-all_by_place P [] h k d lt = absurd (omega arith)
-all_by_place P (x ∷ xs) h zero d lt = h.0
-all_by_place P (x ∷ xs) h (suc k) d lt = all_by_place P xs h.1 k d (omega arith)
 
 pub all_by_recursion : {A : Type 0} (P : A → Type 0) (xs : List A) → All P xs → AllByRecursion P xs
 all_by_recursion P [] h = tt

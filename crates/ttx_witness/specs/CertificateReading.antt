@@ -14,7 +14,7 @@ use Rattle.ttx_page.specs.declared.item.Item.{Item}
 use Rattle.ttx_page.specs.declared.item.Item.TheVariants.{Head as TheHead, Row as TheRow, Links as TheLinks}
 use Rattle.ttx_page.specs.declared.class.Class.{Class}
 use Rattle.ttx_page.specs.declared.class.Class.TheVariants.{Any, Clearing}
-use Rattle.ttx_witness.specs.Entries.{EntryFields, entry_at, CertificateFields, fields_at, is_above, are_starts, is_item, is_page_id, place_of}
+use Rattle.ttx_witness.specs.Entries.{EntryFields, entry_at, CertificateFields, fields_at, is_above, are_slots, are_starts, is_item, is_page_id, place_of}
 use Rattle.ttx_witness.specs.declared.certificate_faults.CertFault.{CertFault}
 use Rattle.ttx_witness.specs.declared.certificate_faults.CertFault.TheVariants.{Title, Line, Order, Range}
 
@@ -108,7 +108,7 @@ is_id id = is_between 1 8 id.mag && nat_lt id.sub 16384 && (id.sub / 128 % 2 == 
 
 -- a page's id, row 1 to 24, starts below 65,536
 abbrev pub is_in_range : EntryFields → Bool
-is_in_range e = is_id e.page && is_page_id e.page && is_item e.item && list_all (λ start. nat_lt start 65536) e.starts
+is_in_range e = is_id e.page && is_page_id e.page && is_item e.item && are_slots e.starts
 
 -- starts that rise, and a place after that of the entry before
 abbrev pub is_in_order : Option ℕ → EntryFields → Bool

@@ -6,7 +6,7 @@
 --   IsCovered               an item is seen in time from every tuning slot, by its named starts
 --   IsLeftOut               a blank item that isn't sent: each header of the page is followed in time by the next
 --   Accepts                 no slot is bad, each page is steady, and each item that a viewer sees is covered or left out
-use Rattle.std.specs.Prelude.{◌≡◌, ◌⊎◌, ◌↔◌, ℕ, ◌+◌, ◌*◌, ◌<◌, ◌≤◌, ℤ, pos, ◌+ℤ◌, ◌<ℤ◌, ◌≤ℤ◌, true, false, if◌then◌else◌, nat_lt, List, [], length, slice_get, slice_index_or, Contains, Some}
+use Rattle.std.specs.Prelude.{◌≡◌, ◌⊎◌, ℕ, ◌*◌, ◌<◌, ◌≤◌, ℤ, pos, ◌+ℤ◌, ◌<ℤ◌, ◌≤ℤ◌, true, List, [], length, slice_get, slice_index_or, Contains, Some}
 use Rattle.ttx_packet.specs.Slots.{is_clean}
 use Rattle.ttx_header.specs.Ids.{Id}
 use Rattle.ttx_page.specs.Packets.{packet_of}

@@ -5,7 +5,7 @@
 --   FurtherStartsCover      a further start that has a sure run leaves covered what was covered
 --   SureStartsAreFound      a search finds exactly the starts of sure runs
 --   LeastLimitIsFound       and the least limit in which any named starts cover the item
-use Rattle.std.specs.Prelude.{◌≡◌, ◌↔◌, ℕ, suc, ◌+◌, ◌<◌, ◌≤◌, ℤ, pos, ◌+ℤ◌, List, length, Contains, Option, Some, None}
+use Rattle.std.specs.Prelude.{◌≡◌, ◌↔◌, ℕ, suc, ◌<◌, ◌≤◌, pos, ◌+ℤ◌, List, length, Contains, Option, Some, None}
 use Rattle.ttx_header.specs.Ids.{Id}
 use Rattle.ttx_page.specs.Pages.{Page}
 use Rattle.ttx_page.specs.declared.item.Item.{Item}

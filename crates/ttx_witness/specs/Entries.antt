@@ -2,7 +2,7 @@
 --
 --   EntryFields, CertificateFields      the starts that are named for an item of a page; a certificate with its entries
 --   rises                   each number of a list is above the one before it
---   is_item, is_page_id, are_starts     the rows, ids and starts that an entry takes
+--   is_item, is_page_id, are_slots, are_starts      the rows, ids and starts that an entry takes
 --   IsEntry                 the rules of an entry
 --   place_of                the place of an item of a page in the order of entries
 --   are_numbers, IsCertificateFields        the ranges of a certificate's numbers; all its rules
@@ -62,9 +62,13 @@ is_item TheLinks = true
 abbrev pub is_page_id : Id → Bool
 is_page_id id = not (id.page == 255) && not (id.sub == 16255)
 
+-- each number is below 65,536
+abbrev pub are_slots : List ℕ → Bool
+are_slots numbers = list_all (λ number. nat_lt number 65536) numbers
+
 -- one start at least, each below 65,536, rising
 abbrev pub are_starts : List ℕ → Bool
-are_starts starts = not (is_empty starts) && list_all (λ start. nat_lt start 65536) starts && rises starts
+are_starts starts = not (is_empty starts) && are_slots starts && rises starts
 
 pub record IsEntry (e : EntryFields) : Type 0 where
   pub id : IsId e.page

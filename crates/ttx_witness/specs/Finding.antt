@@ -4,11 +4,11 @@
 --   starts_of, spread_at    the starts of the sure runs of an item, and what is kept of these runs
 --   Fits, least_limit       a limit in slots is enough; the least one in which sure runs of an item follow one another, None where there is none
 --   starts_for, limit_for   what is named for an item that a viewer sees, and its least limit: that of the page's headers where it isn't due
---   IsDone, AreNamed        the items that have been looked at; what is known of entries and limits after them
+--   IsDone, same_place, AreNamed            the items that have been looked at; what is known of entries and limits after them
 --   CanBeAccepted           some certificate of these numbers and this deadline is accepted
 --   IsFoundFor              the certificate that is found, and the least deadline
-use Rattle.std.specs.Prelude.{◌≡◌, ◌⊎◌, ◌↔◌, ℕ, ◌-◌, ◌*◌, ◌<◌, ◌≤◌, max, Bool, true, not, ◌&&◌, if◌then◌else◌, List, [], ◌∷◌, ◌++◌, length, slice_get, slice_index_or, Contains, Option, Some, None}
-use Rattle.std.specs.List.{All}
+use Rattle.std.specs.Prelude.{◌≡◌, ◌⊎◌, ◌↔◌, ℕ, ◌-◌, ◌*◌, ◌<◌, ◌≤◌, max, Bool, true, false, not, ◌&&◌, ◌==◌, if◌then◌else◌, List, [], ◌∷◌, ◌++◌, length, slice_get, slice_index_or, Contains, Option, Some, None}
+use Rattle.std.specs.List.{All, AllPairs}
 use Rattle.ttx_header.specs.Ids.{Id}
 use Rattle.ttx_page.specs.Pages.{Page, needed, is_blank}
 use Rattle.ttx_page.specs.declared.item.Item.{Item}
@@ -22,6 +22,7 @@ use Rattle.ttx_witness.specs.Searching.{Spread, width}
 use Rattle.ttx_witness.specs.Coverage.{Certificate, IsCertificate, IsSureStart, Accepts}
 use Rattle.ttx_witness.specs.CycleLaws.{found_starts, found_spread}
 use Rattle.ttx_witness.specs.Collected.{IsItem, place}
+use Rattle.ttx_witness.specs.Entries.{place_of}
 use Rattle.ttx_witness.specs.declared.entries.Entry.{Entry}
 
 abbrev pub is_due : Class → Page → Item → Bool
@@ -80,9 +81,14 @@ pub record HasEntry (entries : List Entry) (page : Id) (item : Item) : Type 0 wh
   pub of_page : entry.page ≡ page
   pub of_item : entry.item ≡ item
 
+-- whether two entries are of the same item of the same page
+abbrev pub same_place : Entry → Entry → Bool
+same_place a b = place_of a.page a.item == place_of b.page b.item
+
 -- after the first m items
 pub record AreNamed (cycle : List (List ℕ)) (pages : List Page) (class : Class) (lines repeat m : ℕ) (entries : List Entry) (least : Option ℕ) : Type 0 where
   pub told : All (IsTold cycle pages class lines repeat m) entries
+  pub apart : AllPairs (λ a b. same_place a b ≡ false) entries
   pub kept : (i : ℕ) (p : Page) (item : Item) → IsDone pages m i p item → (starts_for cycle class lines repeat p item ≡ []) ⊎ HasEntry entries p.id item
   pub least_to : (limit : ℕ) → Fits least limit → (i : ℕ) (p : Page) (item : Item) → IsDone pages m i p item → Fits (limit_for cycle class lines repeat p item) limit
   pub least_from : (limit : ℕ) → ((i : ℕ) (p : Page) (item : Item) → IsDone pages m i p item → Fits (limit_for cycle class lines repeat p item) limit) → Fits least limit

@@ -6,8 +6,8 @@
 --   is_stray, IsStrayAt     a header of a number whose one subcode is another
 --   first_of, TellsBelow    the first slot of something so far
 --   AreStrays, AreOtherSubpages     the first slots of each number, and those of each page
-use Rattle.std.specs.Prelude.{◌≡◌, ℕ, ◌+◌, ◌-◌, ◌*◌, ◌<◌, ◌≤◌, ℤ, pos, Bool, true, false, not, ◌&&◌, ◌==◌, if◌then◌else◌, List, length, get_or, slice_get, Option, Some, None}
-use Rattle.ttx_header.specs.Ids.{Id, IsId}
+use Rattle.std.specs.Prelude.{◌≡◌, ℕ, ◌+◌, ◌-◌, ◌*◌, ◌<◌, ◌≤◌, ℤ, pos, Bool, true, false, not, ◌&&◌, ◌==◌, if◌then◌else◌, List, get_or, slice_get, Option, Some, None}
+use Rattle.ttx_header.specs.Ids.{IsId}
 use Rattle.ttx_page.specs.Packets.{Packet, Header, packet_of}
 use Rattle.ttx_page.specs.Pages.{Page}
 use Rattle.ttx_page.specs.Streams.{Stream, repeated}

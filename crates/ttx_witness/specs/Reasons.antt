@@ -6,7 +6,7 @@
 --   WitnessBadAt            a named start that has no sure run (9)
 --   LateAt                  the run of the next named start ends too late (10)
 --   LateBlankAt             the next header comes too late, for a blank item that isn't sent (12)
-use Rattle.std.specs.Prelude.{◌≡◌, ℕ, ◌+◌, ◌<◌, ℤ, pos, ◌+ℤ◌, ◌<ℤ◌, ◌≤ℤ◌, true, false, List, [], length, slice_index_or, Contains}
+use Rattle.std.specs.Prelude.{◌≡◌, ℕ, ◌<◌, ℤ, pos, ◌+ℤ◌, ◌<ℤ◌, ◌≤ℤ◌, true, false, List, [], length, slice_index_or, Contains}
 use Rattle.ttx_packet.specs.Slots.{is_clean}
 use Rattle.ttx_page.specs.Packets.{packet_of}
 use Rattle.ttx_page.specs.Pages.{Page, IsBlank, needed}

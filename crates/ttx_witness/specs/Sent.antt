@@ -5,9 +5,9 @@
 --   owner_moved             the same owner, some slots later
 --   sent_at, sent_scan      the transmission in one slot, where it holds one, and those of a number of slots
 --   sent_in                 those of one period of a cycle
-use Rattle.std.specs.Prelude.{◌≡◌, ℕ, zero, suc, ◌+◌, ℤ, pos, ◌+ℤ◌, ◌-ℤ◌, Bool, true, false, not, ◌&&◌, ◌||◌, if◌then◌else◌, int_lt, List, [], ◌∷◌, ◌++◌, length, Option, Some, None}
-use Rattle.ttx_header.specs.Ids.{Id, same_id}
-use Rattle.ttx_page.specs.Packets.{Packet, Header, packet_of}
+use Rattle.std.specs.Prelude.{ℕ, zero, suc, ℤ, pos, ◌+ℤ◌, ◌-ℤ◌, Bool, true, false, not, ◌&&◌, ◌||◌, if◌then◌else◌, int_lt, List, [], ◌∷◌, ◌++◌, length, Option, Some, None}
+use Rattle.ttx_header.specs.Ids.{Id}
+use Rattle.ttx_page.specs.Packets.{Packet, packet_of}
 use Rattle.ttx_page.specs.declared.item.Item.{Item}
 use Rattle.ttx_page.specs.declared.item.Item.TheVariants.{Head as TheHead, Row as TheRow, Links as TheLinks}
 use Rattle.ttx_page.specs.Streams.{Stream, repeated, heads, heads_page, ends_serial, carries}

@@ -4,8 +4,10 @@
 --   IsRecent                what is held of a list of transmissions
 --   IsRound                 the same after some of the transmissions that follow the period
 --   IsWithin, IsTurn        the numbers of a transmission are small; the first of a list goes to its end, a period later
+--   AreInOrder              transmissions slot by slot, in slots from 0 to below 65,536
 --   IsTrack, IsSearch       a track, and a search for starts, after a list of transmissions
-use Rattle.std.specs.Prelude.{◌≡◌, ℕ, suc, ◌-◌, pos, ◌+ℤ◌, ◌≤ℤ◌, List, [], ◌∷◌, ◌++◌, map, take, Option, Some, None}
+use Rattle.std.specs.Prelude.{◌≡◌, ℕ, suc, ◌-◌, pos, ◌+ℤ◌, ◌<ℤ◌, ◌≤ℤ◌, List, [], ◌∷◌, ◌++◌, map, take, Option, Some, None}
+use Rattle.std.specs.List.{All, AllPairs}
 use Rattle.circular_buffer.specs.Buffer.{keep_last, buffer}
 use Rattle.ttx_witness.specs.Transmissions.{Transmission, Run, run_of, windows, later, further}
 use Rattle.ttx_witness.specs.Confirming.{after_runs, not_begun}
@@ -32,6 +34,12 @@ pub record IsWithin (bound : ℕ) (t : Transmission) : Type 0 where
   pub slot_high : t.slot ≤ℤ pos bound
   pub owner_low : pos 0 ≤ℤ (t.owner +ℤ pos 65536)
   pub owner_high : t.owner ≤ℤ pos bound
+
+-- slots rise, from 0 to below 65,536
+pub record AreInOrder (ts : List Transmission) : Type 0 where
+  pub low : All (λ t. pos 0 ≤ℤ t.slot) ts
+  pub high : All (λ t. t.slot <ℤ pos 65536) ts
+  pub rising : AllPairs (λ t u. t.slot <ℤ u.slot) ts
 
 abbrev pub IsTurn : ℕ → List Transmission → Transmission → List Transmission → Type 0
 IsTurn n [] result new = ⊥

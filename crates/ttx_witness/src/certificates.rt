@@ -54,6 +54,27 @@ impl Certificate {
     ghost use Rattle.ttx_witness.specs.Entries.{fields_at, starts_in};
     ghost use Rattle.ttx_witness.specs.Certificates.{fields_of};
 
+    /// The certificate of these fields, which keep the type's rules.
+    pub(crate) fn of(
+        lines: u8,
+        repeat: u8,
+        deadline: u32,
+        entries: Vec<Entry>,
+        class: Class,
+    ) -> Certificate
+        requires numbers { are_numbers lines repeat deadline ≡ true }
+        requires rising { rises (places (entries_of entries.items)) ≡ true }
+        ensures { fields_of result ≡ fields_at lines repeat deadline (entries_of entries.items) class }
+    {
+        Certificate {
+            lines,
+            repeat,
+            deadline,
+            entries,
+            class,
+        }
+    }
+
     /// The certificate of these fields. None where one of the type's rules fails.
     pub fn new(
         lines: u8,
@@ -66,13 +87,7 @@ impl Certificate {
         ensures fields { IfSome result (λ w. fields_of w ≡ fields_at lines repeat deadline (entries_of entries.items) class) }
     {
         if are_numbers(lines, repeat, deadline) && are_in_order(entries.as_slice()) {
-            Some(Certificate {
-                lines,
-                repeat,
-                deadline,
-                entries,
-                class,
-            })
+            Some(Certificate::of(lines, repeat, deadline, entries, class))
         } else {
             None
         }

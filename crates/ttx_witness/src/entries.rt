@@ -1,10 +1,9 @@
 //! The entries of certificates.
 
-ghost use Rattle.std.specs.Prelude.{◌≡◌, true, nat_lt};
-ghost use Rattle.std.specs.List.{list_all};
+ghost use Rattle.std.specs.Prelude.{◌≡◌, true};
 ghost use Rattle.ttx_header.specs.Ids.{IsId};
 ghost use Rattle.ttx_witness.specs.Collected.{item_number};
-ghost use Rattle.ttx_witness.specs.Entries.{IsEntry, entry_at, is_above, is_page_id, is_item, are_starts, rises, place_of};
+ghost use Rattle.ttx_witness.specs.Entries.{IsEntry, entry_at, is_above, is_page_id, is_item, are_slots, are_starts, rises, place_of};
 
 use ttx_header::PageId;
 use ttx_page::Item;
@@ -66,7 +65,7 @@ fn rises(numbers: &[u32]) -> bool
 
 /// Whether each number is below 65,536.
 pub(crate) fn are_slots(starts: &[u32]) -> bool
-    ensures { result ≡ list_all (λ start. nat_lt start 65536) starts.now }
+    ensures { result ≡ are_slots starts.now }
 {
     starts.iter().all(|start| *start < 65_536)
 }
@@ -93,6 +92,17 @@ impl Entry {
     ghost use Rattle.std.specs.Prelude.{IsSome, IfSome, ◌↔◌};
     ghost use Rattle.ttx_witness.specs.EntryViews.{entry_of};
 
+    /// The entry of these fields, which keep the type's rules.
+    pub(crate) fn of(page: PageId, item: Item, starts: Vec<u32>) -> Entry
+        requires page { is_page_id page ≡ true }
+        requires starts { are_starts starts.items ≡ true }
+        ensures { entry_of result ≡ entry_at page item starts.items }
+    {
+        let _mag = page.mag();
+        let _number = item_number(&item);
+        Entry { page, item, starts }
+    }
+
     /// The entry of these fields. None where one of the type's rules fails.
     pub fn new(page: PageId, item: Item, starts: Vec<u32>) -> Option<Entry>
         ensures some { IsSome result ↔ IsEntry (entry_at page item starts.items) }
@@ -100,7 +110,7 @@ impl Entry {
     {
         let _number = item_number(&item);
         if is_page_id(page) && are_starts(starts.as_slice()) {
-            Some(Entry { page, item, starts })
+            Some(Entry::of(page, item, starts))
         } else {
             None
         }

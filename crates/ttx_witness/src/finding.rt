@@ -1,6 +1,6 @@
 //! Finding certificates.
 
-ghost use Rattle.std.specs.Prelude.{◌≡◌, ◌≢◌, [], ◌≤◌, ◌<◌, ◌*◌, ◌↔◌, ℕ, IfOk, IsTrue, MatchOption, List, slice_get, map, length, Some, true};
+ghost use Rattle.std.specs.Prelude.{◌≡◌, ◌≢◌, [], ◌≤◌, ◌<◌, ◌*◌, ◌↔◌, ℕ, IfOk, IsTrue, MatchOption, List, slice_get, map, length, Some, true, false};
 ghost use Rattle.std.specs.List.{AllPairs};
 ghost use Rattle.std.specs.List.Sorted.{IsPermutation};
 ghost use Rattle.ttx_page.specs.Pages as definitions;
@@ -13,8 +13,10 @@ ghost use Rattle.ttx_cycle.specs.Cycles.{slots_of};
 ghost use Rattle.ttx_witness.specs.Collected.{ids_of};
 ghost use Rattle.ttx_witness.specs.AllSent.{AreAllSent};
 ghost use Rattle.ttx_witness.specs.OtherSubpages.{AreOtherSubpages};
+ghost use Rattle.ttx_witness.specs.Entries.{places, rises};
+ghost use Rattle.ttx_witness.specs.EntryViews.{entries_of};
 ghost use Rattle.ttx_witness.specs.Certificates.{certificate_of};
-ghost use Rattle.ttx_witness.specs.Finding.{AreNamed, IsLeastField, IsDeadline, IsSentUnchanged, IsFoundFor};
+ghost use Rattle.ttx_witness.specs.Finding.{same_place, AreNamed, IsLeastField, IsDeadline, IsSentUnchanged, IsFoundFor};
 
 use crate::bad_slots::bad_slot;
 use crate::certificates::Certificate;
@@ -98,6 +100,7 @@ fn name_pages(
     requires some { 1 ≤ repeat }
     requires few { repeat ≤ 8 }
     requires none { entries.old.items ≡ [] }
+    requires distinct { AllPairs (λ a b. a ≢ b) (ids_of pages.now) }
     ensures { IfOk result (λ least. (lines : ℕ) → AreAllSent (slots_of cycle.now) (map page_of pages.now) lines collected.now → AreNamed (slots_of cycle.now) (map page_of pages.now) class lines repeat (26 * length pages.now) entries.new.items least) }
 {
     let mut least = Some(0);
@@ -109,9 +112,11 @@ fn name_pages(
     Ok(least)
 }
 
-// The entries in the order of certificates.
+// The entries in the order of certificates, which is strict where no two entries are of one item.
 fn sort_entries(entries: &mut Vec<Entry>)
-    ensures { IsPermutation entries.old.items entries.new.items }
+    requires apart { AllPairs (λ a b. same_place a b ≡ false) entries.old.items }
+    ensures same { IsPermutation entries.old.items entries.new.items }
+    ensures rising { rises (places (entries_of entries.new.items)) ≡ true }
 {
     entries.sort_unstable_by_key(|entry| entry.place());
 }
@@ -159,16 +164,13 @@ pub fn find_for(
     let mut entries = Vec::new(alloc);
     let least = name_pages(alloc, cycle, pages, &collected, class, repeat, &mut entries)?;
     sort_entries(&mut entries);
-    // A certificate takes sorted entries of distinct items; that it refuses none of them isn't proved.
     let unchanged = is_sent_unchanged(cycle, pages, &collected, &others);
     let deadline = deadline_of(unchanged, lines, least);
-    match Certificate::new(lines, repeat, deadline.unwrap_or(1_000_000), entries, class) {
-        Some(certificate) => Ok(Found {
-            certificate,
-            deadline,
-        }),
-        None => Err(NoMemory),
-    }
+    let fields = deadline.unwrap_or(1_000_000);
+    Ok(Found {
+        certificate: Certificate::of(lines, repeat, fields, entries, class),
+        deadline,
+    })
 }
 
 /// The certificate that `find_for` finds for receivers of any class. `repeat` is 1 to 8, `lines` to a field 1 to 32.

@@ -63,9 +63,7 @@ pub fn collect(
     ensures { IfOk result (λ c. AreAllSent (slots_of cycle.now) (map page_of pages.now) lines c) }
 {
     ttx_page::laws::pages_keep_their_rules();
-    let Ok(count) = u32::try_from(pages.len()) else {
-        return Err(NoMemory);
-    };
+    let count = pages.len() as u32;
     let index = index_of(alloc, pages, count)?;
     let lists = collect_lists(alloc, cycle, &index, 26 * count as usize, lines)?;
     Ok(Collected { lists })
@@ -87,7 +85,7 @@ impl Collected {
     ghost use Rattle.std.specs.Prelude.{◌≡◌, ℕ, List, slice_get, Some};
     ghost use Rattle.std.specs.List.{AllByRecursion};
     ghost use Rattle.ttx_page.specs.Pages.{Page as PageFields};
-    ghost use Rattle.ttx_witness.specs.Tracks.{IsWithin};
+    ghost use Rattle.ttx_witness.specs.Tracks.{AreInOrder, IsWithin};
     ghost use Rattle.ttx_witness.specs.Sent.{sent_in};
     ghost use Rattle.ttx_witness.specs.AllSent.{AreAllSent};
 
@@ -95,6 +93,7 @@ impl Collected {
     pub fn sent(&self, index: usize, item: Item) -> &[Transmission]
         ensures listed { (cycle : List (List ℕ)) (pages : List PageFields) (lines : ℕ) (p : PageFields) → AreAllSent cycle pages lines self.now → slice_get pages index ≡ Some p → result.now ≡ sent_in cycle p.id lines item }
         ensures within { AllByRecursion (IsWithin 65536) result.now }
+        ensures in_order { AreInOrder result.now }
     {
         let number = number_of(item);
         if index >= self.lists.len() / 26 {

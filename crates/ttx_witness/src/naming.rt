@@ -1,13 +1,15 @@
 //! The starts of sure runs, named for the items of pages.
 
-ghost use Rattle.std.specs.Prelude.{◌≡◌, ◌-ℤ◌, ◌≤◌, ◌<◌, ◌+◌, ◌*◌, ℕ, IfOk, OnOk, List, slice_get, map, length, Some, true};
+ghost use Rattle.std.specs.Prelude.{◌≡◌, ◌≢◌, ◌-ℤ◌, ◌≤◌, ◌<◌, ◌+◌, ◌*◌, ℕ, IfOk, OnOk, List, slice_get, map, length, Some, true};
+ghost use Rattle.std.specs.List.{AllPairs};
 ghost use Rattle.ttx_page.specs.Pages as definitions;
 ghost use Rattle.ttx_page.specs.Views.{page_of};
 ghost use Rattle.ttx_page.specs.Streams.{run_length};
 ghost use Rattle.ttx_page.specs.declared.item.Item.TheVariants.{Head as TheHead};
 ghost use Rattle.ttx_cycle.specs.Cycles.{slots_of};
-ghost use Rattle.ttx_witness.specs.Collected.{IsItem, item_number};
+ghost use Rattle.ttx_witness.specs.Collected.{IsItem, item_number, ids_of};
 ghost use Rattle.ttx_witness.specs.AllSent.{AreAllSent};
+ghost use Rattle.ttx_witness.specs.Entries.{are_slots, is_page_id, rises};
 ghost use Rattle.ttx_witness.specs.Searching.{above_zero, width};
 ghost use Rattle.ttx_witness.specs.Finding.{is_due, starts_of, spread_at, limit_of, least_limit, starts_for, limit_for, wider, AddsEntry, AreNamed};
 
@@ -91,23 +93,22 @@ fn wider(a: Option<u64>, b: Option<u64>) -> Option<u64>
     }
 }
 
-// Adds an entry for the item, where there is a start. An entry takes the starts of sure runs, which rise and lie in the
-// cycle; that it refuses none of them isn't proved.
+// Adds an entry for the item, where there is a start.
 fn add_entry(
     entries: &mut Vec<Entry>,
     page: PageId,
     item: Item,
     starts: Vec<u32>,
 ) -> Result<(), NoMemory>
+    requires page { is_page_id page ≡ true }
+    requires slots { are_slots starts.items ≡ true }
+    requires rising { rises starts.items ≡ true }
     ensures { OnOk result (AddsEntry entries.old.items entries.new.items page item starts.items) }
 {
     if starts.is_empty() {
         return Ok(());
     }
-    let Some(entry) = Entry::new(page, item, starts) else {
-        return Err(NoMemory);
-    };
-    if entries.push(entry).is_err() {
+    if entries.push(Entry::of(page, item, starts)).is_err() {
         return Err(NoMemory);
     }
     Ok(())
@@ -126,6 +127,8 @@ fn search_for(
     requires few { repeat ≤ 8 }
     ensures starts { IfOk result (λ s. (pages : List definitions.Page) (lines : ℕ) (p : definitions.Page) → AreAllSent (slots_of cycle.now) pages lines collected.now → slice_get pages index ≡ Some p → s.starts.items ≡ starts_of (slots_of cycle.now) lines repeat p.id item.now) }
     ensures spread { IfOk result (λ s. (pages : List definitions.Page) (lines : ℕ) (p : definitions.Page) → AreAllSent (slots_of cycle.now) pages lines collected.now → slice_get pages index ≡ Some p → s.spread ≡ spread_at (slots_of cycle.now) lines repeat p.id item.now) }
+    ensures slots { IfOk result (λ s. are_slots s.starts.items ≡ true) }
+    ensures rising { IfOk result (λ s. rises s.starts.items ≡ true) }
 {
     let period = cycle.slots().len() as u32;
     search_item(
@@ -149,6 +152,7 @@ fn name_item(
 ) -> Result<Option<u64>, NoMemory>
     requires some { 1 ≤ repeat }
     requires few { repeat ≤ 8 }
+    requires page { is_page_id page ≡ true }
     ensures entries { OnOk result ((pages : List definitions.Page) (lines : ℕ) (p : definitions.Page) → AreAllSent (slots_of cycle.now) pages lines collected.now → slice_get pages index ≡ Some p → AddsEntry entries.old.items entries.new.items page item.now (starts_of (slots_of cycle.now) lines repeat p.id item.now)) }
     ensures least { IfOk result (λ least. (pages : List definitions.Page) (lines : ℕ) (p : definitions.Page) → AreAllSent (slots_of cycle.now) pages lines collected.now → slice_get pages index ≡ Some p → least ≡ least_limit (slots_of cycle.now) lines repeat p.id item.now) }
 {
@@ -199,6 +203,7 @@ fn name_seen(
     ensures entries { OnOk result ((pages : List definitions.Page) (lines : ℕ) → AreAllSent (slots_of cycle.now) pages lines collected.now → slice_get pages index ≡ Some (page_of page.now) → AddsEntry entries.old.items entries.new.items (page_of page.now).id item.now (starts_for (slots_of cycle.now) class lines repeat (page_of page.now) item.now)) }
     ensures least { IfOk result (λ least. (pages : List definitions.Page) (lines : ℕ) → AreAllSent (slots_of cycle.now) pages lines collected.now → slice_get pages index ≡ Some (page_of page.now) → least ≡ limit_for (slots_of cycle.now) class lines repeat (page_of page.now) item.now) }
 {
+    ttx_page::laws::pages_keep_their_rules();
     if !is_due(class, page, item) {
         return header_limit(alloc, cycle, collected, index);
     }
@@ -229,6 +234,7 @@ pub(crate) fn name_page(
     requires some { 1 ≤ repeat }
     requires few { repeat ≤ 8 }
     requires within { index < length pages.now }
+    requires distinct { AllPairs (λ a b. a ≢ b) (ids_of pages.now) }
     ensures { IfOk result (λ new_least. (lines : ℕ) → AreAllSent (slots_of cycle.now) (map page_of pages.now) lines collected.now → AreNamed (slots_of cycle.now) (map page_of pages.now) class lines repeat (26 * index) entries.old.items least → AreNamed (slots_of cycle.now) (map page_of pages.now) class lines repeat (26 * (index + 1)) entries.new.items new_least) }
 {
     let page = &pages[index];

@@ -2,7 +2,7 @@
 
 ghost use Rattle.std.specs.Prelude.{ℕ};
 ghost use Rattle.std.specs.List.{All};
-ghost use Rattle.ttx_witness.specs.Tracks.{IsWithin};
+ghost use Rattle.ttx_witness.specs.Tracks.{AreInOrder, IsWithin};
 ghost use Rattle.ttx_witness.specs.Collected.{held};
 
 use crate::transmissions::Transmission;
@@ -12,4 +12,5 @@ use crate::transmissions::Transmission;
 pub struct Collected {
     pub(crate) lists: Vec<Vec<Transmission>>,
     ghost within: { (n : ℕ) → All (IsWithin 65536) (held lists.items n) },
+    ghost in_order: { (n : ℕ) → AreInOrder (held lists.items n) },
 }

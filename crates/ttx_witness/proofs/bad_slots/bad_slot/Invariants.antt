@@ -1,5 +1,4 @@
-use Rattle.std.proofs.Common.{◌≡◌, ℕ, ◌<◌, ◌≤◌, length}
-use Rattle.ttx_cycle.specs.Cycles.{slots_of}
+use Rattle.std.proofs.Common.{ℕ, ◌<◌}
 use Rattle.ttx_witness.specs.Reasons.{BadSlotAt}
 use Rattle.ttx_witness.proofs.bad_slots.bad_slot.Given as goal
 

@@ -1,4 +1,4 @@
-use Rattle.std.proofs.Common.{rules, ◌≡◌, ◌++◌, ◌∷◌, [], ◌∙◌, ap, sym}
+use Rattle.std.proofs.Common.{rules, ◌∷◌, []}
 use Rattle.ttx_witness.proofs.Held.{held_set}
 use Rattle.ttx_witness.proofs.collecting.add.Goals as goal
 

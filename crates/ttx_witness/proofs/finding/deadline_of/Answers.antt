@@ -1,4 +1,4 @@
-use Rattle.std.proofs.Common.{rules, ◌≡◌, true, sym, subst}
+use Rattle.std.proofs.Common.{rules, sym, subst}
 use Rattle.ttx_witness.specs.Finding.{IsDeadline}
 use Rattle.ttx_witness.proofs.Finds.{deadline_sent}
 use Rattle.ttx_witness.proofs.finding.deadline_of.Goals as goal

@@ -1,4 +1,4 @@
-use Rattle.std.proofs.Common.{rules, ◌≡◌, ◌<◌, ◌∙◌, true, false, map, length, refl, sym, arith}
+use Rattle.std.proofs.Common.{rules, ◌≡◌, true, false, map, refl, arith}
 use Rattle.ttx_cycle.specs.Cycles.{slots_of}
 use Rattle.ttx_page.specs.Views.{page_of}
 use Rattle.std.proofs.lemmas.Option.{slice_get_within}

@@ -1,5 +1,4 @@
-use Rattle.std.proofs.Common.{◌≡◌, ◌-◌, take, length, None, pos, refl, subst, ap, sym, arith, ◌≤◌}
-use Rattle.ttx_witness.specs.Transmissions.{runs}
+use Rattle.std.proofs.Common.{◌-◌, take, None, pos, refl, subst, arith}
 use Rattle.ttx_witness.specs.Tracks.{IsTrack}
 use Rattle.ttx_witness.proofs.OneByOne.{take_more, track_begins}
 use Rattle.ttx_witness.proofs.Steps.{take_whole}

@@ -1,6 +1,4 @@
-use Rattle.std.proofs.Common.{◌≡◌, ◌-◌, take, length, None, refl, subst, ap, sym, arith, ◌≤◌}
-use Rattle.ttx_witness.specs.Searching.{IsFound}
-use Rattle.ttx_witness.specs.Transmissions.{runs}
+use Rattle.std.proofs.Common.{◌-◌, take, None, refl, subst, arith}
 use Rattle.ttx_witness.specs.Tracks.{IsSearch}
 use Rattle.ttx_witness.proofs.OneByOne.{take_more, search_begins}
 use Rattle.ttx_witness.proofs.Steps.{take_whole}

@@ -3,6 +3,6 @@ use Rattle.ttx_witness.proofs.naming.add_entry.Goals as goal
 
 pub returns : goal.returns
 returns c =
-    let f = c.in-Some.ensures.fields in
-    let pushed : c.push.new.self.items ≡ c.args.entries.now.items ++ c.in-Some.entry ∷ [] = search rules in
-    inr (c.in-Some.entry, pushed, ap (λ e. e.page) f, ap (λ e. e.item) f, ap (λ e. e.starts) f)
+    let f = c.of.ensures in
+    let pushed : c.push.new.self.items ≡ c.args.entries.now.items ++ c.of.result ∷ [] = search rules in
+    inr (c.of.result, pushed, ap (λ e. e.page) f, ap (λ e. e.item) f, ap (λ e. e.starts) f)

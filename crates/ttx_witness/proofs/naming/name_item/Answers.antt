@@ -1,4 +1,4 @@
-use Rattle.std.proofs.Common.{◌≡◌, ◌∙◌, ap, sym, subst}
+use Rattle.std.proofs.Common.{subst}
 use Rattle.ttx_witness.specs.Finding.{AddsEntry}
 use Rattle.ttx_witness.proofs.naming.name_item.Goals as goal
 

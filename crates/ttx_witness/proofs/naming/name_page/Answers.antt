@@ -3,7 +3,7 @@ use Rattle.ttx_cycle.specs.Cycles.{slots_of}
 use Rattle.ttx_page.specs.Views.{page_of}
 use Rattle.ttx_witness.specs.Collected.{place}
 use Rattle.ttx_witness.specs.Finding.{AreNamed}
-use Rattle.ttx_witness.proofs.DueItems.{nothing_named, one_named, page_read}
+use Rattle.ttx_witness.proofs.DueItems.{nothing_named, one_named, page_read, pages_apart}
 use Rattle.ttx_witness.proofs.naming.name_page.Goals as goal
 use Rattle.ttx_witness.proofs.naming.name_page.Goals.{then-needed+in_ok-limit, else-needed}
 
@@ -26,7 +26,7 @@ loop-number-preserved c = record {
             let new = w.name_seen.new.entries.items in
             subst (λ es. AreNamed cycle pages c.args.class lines c.args.repeat (m + 1) es.items c.if-needed.least) (sym w.entries-is)
             (subst (λ l. AreNamed cycle pages c.args.class lines c.args.repeat (m + 1) new l) (sym (w.least-is ∙ w.wider-least.ensures))
-            (one_named pages c.args.class m c.args.index q item at c.item_of-item.ensures.item here cycle lines c.args.repeat old new c.loop-number.least w.in_ok-limit.limit
+            (one_named pages c.args.class m c.args.index q item at c.item_of-item.ensures.item here cycle lines c.args.repeat (pages_apart c.args.pages.now c.requires.distinct) old new c.loop-number.least w.in_ok-limit.limit
             (sym c.needed.ensures ∙ w.if-needed.true)
             (w.in_ok-limit.ensures.entries pages lines sent at) (w.in_ok-limit.ensures.least pages lines sent at) a))
         | else-needed w ↦

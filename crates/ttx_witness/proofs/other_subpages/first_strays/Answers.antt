@@ -1,8 +1,8 @@
-use Rattle.std.proofs.Common.{◌≡◌, ◌∙◌, ◌+◌, ◌≤◌, ℕ, None, Option, true, pos, length, get_or, refl, sym, ap, subst, arith}
+use Rattle.std.proofs.Common.{◌≡◌, ◌∙◌, ◌+◌, ℕ, None, Option, length, get_or, sym, ap, subst, arith}
 use Rattle.std.proofs.lemmas.List.{length-replicate}
 use Rattle.ttx_page.specs.Packets.{packet_of}
 use Rattle.ttx_page.specs.Streams.{repeated}
-use Rattle.ttx_witness.specs.OtherSubpages.{place, is_stray, first_of, IsStrayAt, TellsBelow, AreStrays}
+use Rattle.ttx_witness.specs.OtherSubpages.{place, is_stray, IsStrayAt, TellsBelow, AreStrays}
 use Rattle.ttx_witness.proofs.Looking.{slot_is}
 use Rattle.ttx_witness.proofs.Straying.{first_more, first_none, first_all}
 use Rattle.ttx_witness.proofs.other_subpages.first_strays.Goals as goal

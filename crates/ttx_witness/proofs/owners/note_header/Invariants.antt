@@ -1,4 +1,4 @@
-use Rattle.std.proofs.Common.{◌≡◌, ℕ, ◌≤◌, ◌<◌, List, length, get_or, Option, Some, None, if◌then◌else◌, ◌==◌}
+use Rattle.std.proofs.Common.{◌≡◌, ℕ, ◌≤◌, ◌<◌, length, get_or, Some, None, if◌then◌else◌, ◌==◌}
 use Rattle.ttx_witness.specs.Collected.{taint}
 use Rattle.ttx_witness.proofs.owners.note_header.Given as goal
 

@@ -1,4 +1,4 @@
-use Rattle.std.proofs.Common.{◌≡◌, ℕ, ℤ, w32, false, ◌-◌, ◌<◌, ◌==◌, Bool, if◌then◌else◌, List, get_or, Option, Some, None, refl, sym, ap, ◌∙◌}
+use Rattle.std.proofs.Common.{◌≡◌, ℕ, w32, false, ◌-◌, ◌<◌, ◌==◌, Bool, if◌then◌else◌, List, get_or, Option, Some, None, refl, ap, ◌∙◌}
 use Rattle.std.proofs.lemmas.Int.{to_z-of_z}
 use Rattle.ttx_header.specs.Control.{c11}
 use Rattle.ttx_packet.specs.Slots.{kind_of}

@@ -1,4 +1,4 @@
-use Rattle.std.proofs.Common.{◌≡◌, take, length, subst, sym, arith, true}
+use Rattle.std.proofs.Common.{take, subst, sym, arith}
 use Rattle.std.specs.List.{AllByRecursion}
 use Rattle.ttx_cycle.specs.Cycles.{slots_of, slots_of-IsCycle}
 use Rattle.ttx_page.specs.Views.{page_of}

@@ -1,4 +1,3 @@
-use Rattle.std.proofs.Common.{◌≡◌}
 use Rattle.ttx_page.specs.Streams.{repeated}
 use Rattle.ttx_page.specs.Steady.{HasHeader}
 use Rattle.ttx_witness.proofs.SentOnes.{by_length, headers_sent}

@@ -1,11 +1,10 @@
-use Rattle.std.proofs.Common.{◌≡◌, ◌∙◌, None, List, map, length, get_or, sym, ap, subst}
+use Rattle.std.proofs.Common.{◌≡◌, None, List, map, length, get_or, sym, subst}
 use Rattle.std.proofs.lemmas.Option.{slice_get_within}
 use Rattle.std.proofs.lemmas.List.{length-map}
 use Rattle.ttx_cycle.specs.Cycles.{slots_of}
 use Rattle.ttx_page.specs.Streams.{repeated}
 use Rattle.ttx_page.specs.Steady.{OtherSubpageAt}
 use Rattle.ttx_page.specs.Views.{page_of}
-use Rattle.ttx_witness.specs.Faults.{TellsFirst}
 use Rattle.ttx_witness.specs.declared.subcodes.Subcodes.{Subcodes}
 use Rattle.ttx_witness.specs.declared.subcodes.Subcodes.TheVariants.{Unlisted}
 use Rattle.ttx_witness.specs.OtherSubpages.{place, AreSubcodes, AreAllSubcodes, IsStrayAt}
