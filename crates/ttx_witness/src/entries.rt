@@ -2,9 +2,9 @@
 
 ghost use Rattle.std.specs.Prelude.{◌≡◌, true};
 ghost use Rattle.ttx_header.specs.Ids.{IsId};
-ghost use Rattle.ttx_witness.specs.Collected.{item_number};
 ghost use Rattle.ttx_witness.specs.Entries.{IsEntry, entry_at, is_above, is_page_id, is_item, are_slots, are_starts, rises, place_of};
 
+use crate::page_items::item_number;
 use ttx_header::PageId;
 use ttx_page::Item;
 
@@ -35,18 +35,6 @@ fn is_page_id(page: PageId) -> bool
 {
     let _mag = page.mag();
     page.page() != 0xff && page.sub() != 0x3f7f
-}
-
-// The place of an item in its page.
-fn item_number(item: &Item) -> u8
-    ensures value { result ≡ item_number item.now }
-    ensures is { is_item item.now ≡ true }
-{
-    match item {
-        Item::Head => 0,
-        Item::Row(row) => row.number(),
-        Item::Links => 25,
-    }
 }
 
 // Whether each number is above the one before it.

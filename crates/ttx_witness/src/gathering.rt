@@ -5,12 +5,13 @@ ghost use Rattle.std.specs.List.{AllPairs};
 ghost use Rattle.ttx_header.specs.Ids.{Id};
 ghost use Rattle.ttx_page.specs.Views.{page_of};
 ghost use Rattle.ttx_cycle.specs.Cycles.{slots_of};
-ghost use Rattle.ttx_witness.specs.Collected.{held, ids_of, item_number, IsItem, IsIndex, AreCollected};
+ghost use Rattle.ttx_witness.specs.Collected.{held, ids_of, IsIndex, AreCollected};
 ghost use Rattle.ttx_witness.specs.AllSent.{AreAllSent};
 
 use crate::collecting::add_slot;
 use crate::owners::{entry_owners, note_owner};
 use crate::page_index::{PageIndex, index_of};
+use crate::page_items::item_number;
 use crate::period::Collected;
 use crate::search::NoMemory;
 use crate::transmissions::Transmission;
@@ -69,18 +70,6 @@ pub fn collect(
     Ok(Collected { lists })
 }
 
-// The place of an item among the lists of its page.
-fn number_of(item: Item) -> usize
-    ensures number { result ≡ item_number item }
-    ensures item { IsItem item }
-{
-    match item {
-        Item::Head => 0,
-        Item::Row(row) => usize::from(row.number()),
-        Item::Links => 25,
-    }
-}
-
 impl Collected {
     ghost use Rattle.std.specs.Prelude.{◌≡◌, ℕ, List, slice_get, Some};
     ghost use Rattle.std.specs.List.{AllByRecursion};
@@ -95,7 +84,7 @@ impl Collected {
         ensures within { AllByRecursion (IsWithin 65536) result.now }
         ensures in_order { AreInOrder result.now }
     {
-        let number = number_of(item);
+        let number = usize::from(item_number(&item));
         if index >= self.lists.len() / 26 {
             return &[];
         }

@@ -23,6 +23,7 @@ pub mod owners;
 mod packets;
 mod page_faults;
 pub mod page_index;
+pub mod page_items;
 pub mod period;
 mod reading;
 pub mod reason;

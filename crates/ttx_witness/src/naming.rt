@@ -4,10 +4,9 @@ ghost use Rattle.std.specs.Prelude.{◌≡◌, ◌≢◌, ◌-ℤ◌, ◌≤◌,
 ghost use Rattle.std.specs.List.{AllPairs};
 ghost use Rattle.ttx_page.specs.Pages as definitions;
 ghost use Rattle.ttx_page.specs.Views.{page_of};
-ghost use Rattle.ttx_page.specs.Streams.{run_length};
 ghost use Rattle.ttx_page.specs.declared.item.Item.TheVariants.{Head as TheHead};
 ghost use Rattle.ttx_cycle.specs.Cycles.{slots_of};
-ghost use Rattle.ttx_witness.specs.Collected.{IsItem, item_number, ids_of};
+ghost use Rattle.ttx_witness.specs.Collected.{ids_of};
 ghost use Rattle.ttx_witness.specs.AllSent.{AreAllSent};
 ghost use Rattle.ttx_witness.specs.Entries.{are_slots, is_page_id, rises};
 ghost use Rattle.ttx_witness.specs.Searching.{above_zero, width};
@@ -15,38 +14,13 @@ ghost use Rattle.ttx_witness.specs.Finding.{is_due, starts_of, spread_at, limit_
 
 use crate::entries::Entry;
 use crate::items::search_item;
+use crate::page_items::{item_of, run_length};
 use crate::period::Collected;
 use crate::search::{NoMemory, Search, Spread};
 use std::alloc::Global;
 use ttx_cycle::Cycle;
 use ttx_header::PageId;
-use ttx_page::{Class, Item, Page, RowNumber, is_blank, needed};
-
-// How many transmissions a run of the item has.
-fn run_length(repeat: u8, item: Item) -> usize
-    ensures { result ≡ run_length repeat item }
-{
-    match item {
-        Item::Head => usize::from(repeat),
-        Item::Row(_) => usize::from(repeat),
-        Item::Links => 1,
-    }
-}
-
-// The item of this number in its page.
-fn item_of(number: u8) -> Item
-    requires { number < 26 }
-    ensures number { item_number result ≡ number }
-    ensures item { IsItem result }
-{
-    if number == 0 {
-        return Item::Head;
-    }
-    match RowNumber::new(number) {
-        Some(row) => Item::Row(row),
-        None => Item::Links,
-    }
-}
+use ttx_page::{Class, Item, Page, is_blank, needed};
 
 // Whether starts are named for the item of the page.
 fn is_due(class: Class, page: &Page, item: &Item) -> bool
@@ -134,7 +108,7 @@ fn search_for(
     search_item(
         alloc,
         collected.sent(index, *item),
-        run_length(repeat, *item),
+        run_length(repeat, item),
         period,
     )
 }
