@@ -1,6 +1,7 @@
 //! Writing certificates.
 
 ghost use Rattle.std.specs.Prelude.{◌≡◌, ◌<◌, ◌/◌, ◌%◌, ◌∷◌, ◌++◌, [], OnOk, IfOk, string_bytes};
+ghost use Rattle.ttx_header.specs.Ids.{id_at};
 ghost use Rattle.ttx_witness.specs.CertificateTexts.{hex_digit, hex_byte, id_text, item_text, starts_text, entry_text, entries_text, class_text, head_text, certificate_text};
 ghost use Rattle.ttx_witness.specs.EntryViews.{entry_of, entries_of};
 ghost use Rattle.ttx_witness.specs.Certificates.{fields_of};
@@ -12,8 +13,8 @@ use std::alloc::{AllocError, Global};
 use ttx_header::PageId;
 use ttx_page::{Class, Item};
 
-// The digit of a number below 16.
-fn digit(number: u8) -> char
+/// The digit of a number below 16.
+pub fn digit(number: u8) -> char
     requires { number < 16 }
     ensures { result ≡ hex_digit number }
 {
@@ -24,8 +25,8 @@ fn digit(number: u8) -> char
     }
 }
 
-// Adds two hexadecimal digits.
-fn push_byte(text: &mut String, byte: u8) -> Result<(), AllocError>
+/// Adds two hexadecimal digits.
+pub fn push_byte(text: &mut String, byte: u8) -> Result<(), AllocError>
     ensures { OnOk result (string_bytes text.new ≡ string_bytes text.old ++ hex_byte byte) }
 {
     text.push(digit(byte / 16))?;
@@ -40,14 +41,23 @@ fn push_subcode(text: &mut String, sub: u16) -> Result<(), AllocError>
     push_byte(text, (sub % 256) as u8)
 }
 
+/// Adds an id by its numbers, of a page or of a link's target: magazine and two digits, a stroke, and the four digits of
+/// the subcode.
+pub fn push_numbers(text: &mut String, mag: u8, page: u8, sub: u16) -> Result<(), AllocError>
+    requires { mag < 10 }
+    ensures { OnOk result (string_bytes text.new ≡ string_bytes text.old ++ id_text (id_at mag page sub)) }
+{
+    text.push(digit(mag))?;
+    push_byte(text, page)?;
+    text.push('/')?;
+    push_subcode(text, sub)
+}
+
 /// Adds the id of a page.
 pub fn push_id(text: &mut String, id: PageId) -> Result<(), AllocError>
     ensures { OnOk result (string_bytes text.new ≡ string_bytes text.old ++ id_text id) }
 {
-    text.push(digit(id.mag()))?;
-    push_byte(text, id.page())?;
-    text.push('/')?;
-    push_subcode(text, id.sub())
+    push_numbers(text, id.mag(), id.page(), id.sub())
 }
 
 /// Adds an item, after a space.
