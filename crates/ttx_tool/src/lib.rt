@@ -4,6 +4,7 @@
 pub mod commands;
 pub mod faults;
 mod grammar;
+mod help;
 mod lines;
 pub mod orders;
 mod page_names;

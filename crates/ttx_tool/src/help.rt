@@ -1,0 +1,130 @@
+//! The texts of help: what a command reads and writes, what its words are, and its statuses.
+
+/// What the program is.
+pub(crate) const TTX: &str =
+    "Inserter, decoder and carousel certifier: the transmission side of Level 1 teletext (ETSI EN 300 706)";
+
+/// What holds for each command.
+pub(crate) const TTX_MORE: &str = "No words at all are: ttx inspect -
+
+An input named - is standard input; only one may be. Inputs are opened in the order of the words, then
+OUT is made anew: it stays empty where something is refused later, and is left alone where the words are
+refused or an input can't be opened. OUT is always the name of a file.
+
+Statuses:
+  0  done
+  1  a No: its reason is on standard output
+  2  error: .. (the words) or refused: .. (a word or an input) on standard error; also after help
+  3  fault: file (one can't be opened or made), fault: read, fault: write, fault: memory on standard error";
+
+pub(crate) const INSPECT: &str = "Writes a line for each slot of a packet file to standard output";
+
+pub(crate) const INSPECT_MORE: &str =
+    "Reads FILE to its end, then writes a line for each slot S, counted from 0:
+  S empty       42 zero bytes
+  S unreadable  the packet's address, or what else says what it is, can't be read
+  S M/P KIND    magazine 1 to 8, packet 0 to 31, and header, row, links, info or other
+
+A header goes on with its id MPP/SSSS and the control bits that are set, C4 to C14. Links go on with six
+links (MPP/SSSS, or - for none) and row24 where row 24 is shown, or with unreadable. Info goes on with five
+digits of the Modified Julian Date and six of UTC, or with fault N. A line ends in corrected where a receiver
+would have to correct a byte that says what the packet is.
+
+Statuses:
+  0  done
+  2  error: .. (the words), refused: cycle 2 truncated REST, refused: cycle 3 empty, refused: cycle 4 too-long
+  3  fault: file, fault: read, fault: write, fault: memory";
+
+pub(crate) const PLAN: &str = "Lays a service out in a cycle of slots, and writes it to OUT";
+
+pub(crate) const PLAN_MORE: &str =
+    "Reads SERVICE to its end. Writes the cycle to OUT, and then to standard output: planned N slots
+With --class clearing rows and links that are blank aren't sent.
+
+Statuses:
+  0  done
+  2  error: .. (the words), refused: service NUMBER NAME [KEY] page N, refused: service too-long,
+     refused: plan 1 no-pages, refused: plan 2 too-long
+  3  fault: file, fault: read, fault: write, fault: memory";
+
+pub(crate) const FIND: &str =
+    "Finds the certificate of least deadline for a cycle and its service, and writes it to OUT";
+
+pub(crate) const FIND_MORE: &str =
+    "Reads CYCLE and SERVICE, in this order, to their ends. Writes the certificate to OUT, and then to standard
+output: found deadline D
+Where there is no certificate OUT stays empty, and the first reason goes to standard output: no NUMBER NAME ..
+
+Statuses:
+  0  found
+  1  there is no certificate
+  2  error: .. (the words), refused: twice, refused: cycle NUMBER NAME [REST],
+     refused: service NUMBER NAME [KEY] page N, refused: service too-long
+  3  fault: file, fault: read, fault: write, fault: memory";
+
+pub(crate) const CERTIFY: &str =
+    "Judges a cycle and its service by a certificate, and writes the verdict to standard output";
+
+pub(crate) const CERTIFY_MORE: &str =
+    "Reads CYCLE, SERVICE and CERT, in this order, to their ends. The verdict is one of
+  yes lines L repeat K deadline D pages N    with class clearing at its end for a certificate of that class
+  no NUMBER NAME ..                          the first true reason, with its page, item, and slot or start
+
+Statuses:
+  0  yes
+  1  no
+  2  error: .. (the words), refused: twice, refused: cycle NUMBER NAME [REST],
+     refused: service NUMBER NAME [KEY] page N, refused: service too-long,
+     refused: certificate NUMBER NAME [line N], refused: certificate too-long
+  3  fault: file, fault: read, fault: write, fault: memory";
+
+pub(crate) const RECEIVE: &str =
+    "Receives a page of a cycle, and writes what is then displayed to standard output";
+
+pub(crate) const RECEIVE_MORE: &str =
+    "Reads CYCLE to its end. A receiver that is set to PAGE and has received nothing yet is given N slots, from slot
+S on and round the cycle. Writes 25 lines, row 0 to row 24, each with a word of eight hexadecimal digits for each
+of 40 cells; then links and six links (MPP/SSSS, or - for none). From its lowest bit a word has 21 bits for the
+character or mosaic, 3 for its colour, 3 for the background, then flash, concealed, picture, and 2 for double height.
+
+A receiver may miss a packet up to L slots after its page's header, stop at a serial header of another magazine,
+and erase the page when it is set to it: eager does none of this, careful all, cleared surely erases.
+
+Statuses:
+  0  done
+  2  error: .. (the words), refused: page,
+     refused: cycle 2 truncated REST, refused: cycle 3 empty, refused: cycle 4 too-long
+  3  fault: file, fault: read, fault: write, fault: memory";
+
+pub(crate) const CYCLE_OPERAND: &str =
+    "Packet file: 1 to 65536 slots of 42 bytes; - is standard input";
+
+pub(crate) const SERVICE_OPERAND: &str =
+    "Service definition: a TOML text of at most 4194304 bytes; - is standard input";
+
+pub(crate) const CERTIFICATE_OPERAND: &str =
+    "Certificate: a text of at most 4194304 bytes; - is standard input";
+
+pub(crate) const PLANNED_OPERAND: &str = "Packet file to write, 42 bytes a slot; made anew";
+
+pub(crate) const FOUND_OPERAND: &str =
+    "Certificate to write, a text; made anew, and left empty where there is none";
+
+pub(crate) const PAGE_OPERAND: &str =
+    "Page: MPP for any subpage or MPP/SSSS for one; M 1 to 8, digits 0 to 9 and A to F, PP not FF, SSSS inside 3F7F and not 3F7F";
+
+pub(crate) const CLASS_OPTION: &str =
+    "Receivers to serve: any, or those that surely clear a page when they are set to it [default: any]";
+
+pub(crate) const REPEAT_OPTION: &str =
+    "Of K successive transmissions of a character at least one is received right, 1 to 8 [default: 1]";
+
+pub(crate) const LINES_OPTION: &str = "Lines of a field that carry teletext, 1 to 32 [default: 16]";
+
+pub(crate) const START_OPTION: &str = "Slot to begin at, 0 to 65535, round the cycle [default: 0]";
+
+pub(crate) const SLOTS_OPTION: &str =
+    "How many slots to receive, 0 to 1000000; 0 shows a blank page [default: 5000]";
+
+pub(crate) const KIND_OPTION: &str =
+    "Receiver: how it takes the choices that it has, below [default: eager]";
