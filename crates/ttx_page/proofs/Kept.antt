@@ -1,11 +1,10 @@
 -- What keeps rows and memories in their ranges.
-use Rattle.std.proofs.Common.{◌≡◌, ◌≢◌, ◌⊎◌, ℕ, zero, suc, ◌-◌, ◌%◌, ◌<◌, ◌≤◌, Bool, true, false, if◌then◌else◌, List, [], ◌∷◌, ◌++◌, length, get_or, take, drop, set, replicate, refl, ap, ◌∙◌, subst, inl, inr, arith, lit<, length-set, length-append, get_or-set_same, get_or-set_other}
-use Rattle.std.proofs.lemmas.Bool.{cases_eq}
+use Rattle.std.proofs.Common.{◌≡◌, ℕ, zero, suc, ◌-◌, ◌%◌, ◌<◌, ◌≤◌, Bool, true, false, if◌then◌else◌, List, [], ◌∷◌, ◌++◌, length, get_or, take, drop, set, replicate, refl, ap, ◌∙◌, subst, arith, lit<, length-append}
 use Rattle.std.specs.Simd.Lanes.{zip2}
 use Rattle.ttx_code.specs.Words.{stored, is_odd, ones}
 use Rattle.ttx_page.specs.Pages.{Page, IsPage, IsRow, blank_row}
-use Rattle.ttx_page.specs.Memories.{Memory, IsMemory, memory_row, memory_of_page}
-use Rattle.ttx_page.specs.Receivers.{stored_row, with_row}
+use Rattle.ttx_page.specs.Memories.{IsMemory, memory_row, memory_of_page}
+use Rattle.ttx_page.specs.Receivers.{stored_row}
 
 pub length-stored_row : (row bytes : List ℕ) → length (stored_row row bytes) ≡ length row
 length-stored_row [] bytes = refl
@@ -57,20 +56,6 @@ pub rows-blank : (n r : ℕ) → r < n → IsRow (get_or (replicate n blank_row)
 rows-blank zero r h = absurd (omega arith)
 rows-blank (suc n) zero h = IsRow-spaces
 rows-blank (suc n) (suc r) h = rows-blank n r (omega arith)
-
-pub IsMemory-with_row : (m : Memory) (r : ℕ) (row : List ℕ) → r < 25 → IsRow row → IsMemory m → IsMemory (with_row m r row)
-IsMemory-with_row m r row h is k = record {
-  row_count = length-set m.rows r row ∙ k.row_count;
-  rows = λ q lt. at q lt (cases_eq q r);
-  control = k.control;
-  at_most = k.at_most;
-}
-  where
-    at : (q : ℕ) → q < 25 → (q ≡ r) ⊎ (q ≢ r) → IsRow (get_or (set m.rows r row) q [])
-    at q lt (inl e) =
-        let inside : q < length m.rows = let n = k.row_count in omega arith in
-        subst (λ x. IsRow (get_or (set m.rows x row) q [])) e (rw (get_or-set_same m.rows q row [] inside) is)
-    at q lt (inr ne) = rw (get_or-set_other m.rows r q row [] ne) (k.rows q lt)
 
 -- row 0 between spaces
 pub IsRow-top : (head : List ℕ) → length head ≡ 24 → ((c : ℕ) → get_or head c 0 < 128) → IsRow (replicate 8 32 ++ head ++ replicate 8 32)

@@ -26,10 +26,6 @@ turned_often n (suc c) x =
     let e : x +ℤ pos (n * suc c) ≡ (x +ℤ pos (n * c)) +ℤ pos n = omega (arith, ints, z) in
     ap (turned n) e ∙ turned_once n (x +ℤ pos (n * c)) ∙ turned_often n c x
 
-turned_lt : (n : ℕ) (x : ℤ) → 0 < n → turned n x < n
-turned_lt n (pos a) h = mod-lt a h
-turned_lt n (negsuc a) h = omega arith
-
 pub each_slot_turns : EachSlotTurns
 each_slot_turns n (pos a) h = record {
   inside = mod-lt a h;
