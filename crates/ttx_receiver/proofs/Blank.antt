@@ -1,23 +1,20 @@
 -- Receivers that surely clear: what is blank needn't be sent.
-use Rattle.std.proofs.Common.{◌≡◌, ◌≢◌, ◌⊎◌, ℕ, zero, suc, ◌+◌, ◌-◌, ◌*◌, ◌%◌, ◌<◌, ◌≤◌, min, Bool, true, false, not, ◌&&◌, ◌||◌, ◌==◌, if◌then◌else◌, List, [], ◌∷◌, ◌++◌, Option, Some, None, length, get_or, set, take, drop, replicate, refl, sym, ap, ◌∙◌, subst, inl, inr, arith, nat_le, get_or-set_other}
+use Rattle.std.proofs.Common.{◌≡◌, ◌≢◌, ◌⊎◌, ℕ, zero, suc, ◌+◌, ◌<◌, ◌≤◌, Bool, true, false, not, ◌&&◌, ◌||◌, ◌==◌, List, [], Some, None, length, get_or, refl, sym, ap, ◌∙◌, subst, inl, inr, arith, get_or-set_other}
 use Rattle.std.proofs.lemmas.Bool.{cases_lt}
-use Rattle.std.proofs.lemmas.List.{get_or-replicate}
-use Rattle.ttx_page.specs.Packets.{Packet, Empty, Unreadable, Header, Row, Links, Info, Other, packet_of}
-use Rattle.ttx_links.specs.Sets.{LinkSet, no_links}
-use Rattle.ttx_page.specs.Pages.{Page, IsPage, selected_mag, needed, page_row, matches, blank_row, IsBlank}
+use Rattle.ttx_page.specs.Packets.{Packet, Empty, Unreadable, Header, Row, Links, Info, Other}
+use Rattle.ttx_links.specs.Sets.{no_links}
+use Rattle.ttx_page.specs.Pages.{Page, IsPage, selected_mag, needed, page_row, matches, blank_row}
 use Rattle.ttx_page.specs.declared.selection.Selection.{Selection}
-use Rattle.ttx_page.specs.declared.item.Item.{Item}
-use Rattle.ttx_page.specs.declared.item.Item.TheVariants.{Head as TheHead, Row as TheRow, Links as TheLinks}
-use Rattle.ttx_page.specs.declared.class.Class.{Class}
-use Rattle.ttx_page.specs.declared.class.Class.TheVariants.{Any, Clearing}
+use Rattle.ttx_page.specs.declared.item.Item.TheVariants.{Row as TheRow}
+use Rattle.ttx_page.specs.declared.class.Class.TheVariants.{Clearing}
 use Rattle.ttx_header.specs.Control.{c4, c11}
 use Rattle.ttx_page.specs.Memories.{Memory, char_at}
-use Rattle.ttx_page.specs.Receivers.{older, after, Step, Run, erased, begun, with_storing, with_row, with_links, erases, misses, stored_row}
-use Rattle.ttx_page.specs.Streams.{heads, heads_matched, ends_serial, carries}
-use Rattle.ttx_receiver.proofs.Choices.{no_both, cases_bool, if_ind, and_left, and_right}
-use Rattle.ttx_receiver.proofs.OneStep.{Shape, IsHeadOf, IsRowOf, AreLinksOf, shape_after, after_begin, erased_row}
+use Rattle.ttx_page.specs.Receivers.{older, after, Run, erased, begun, with_storing, with_row, with_links, erases, misses, stored_row}
+use Rattle.ttx_page.specs.Streams.{heads_matched}
+use Rattle.ttx_receiver.proofs.Choices.{no_both, cases_bool, if_ind}
+use Rattle.ttx_receiver.proofs.OneStep.{Shape, shape_after, erased_row}
 use Rattle.ttx_receiver.proofs.Keeps.{keep_row, keep_links}
-use Rattle.ttx_receiver.proofs.Runs.{packet_at, run_keeps, IsOwnedAt, ReceivesPage, IsTuned, tuned_begin, tuned_next}
+use Rattle.ttx_receiver.proofs.Runs.{packet_at, run_keeps, ReceivesPage, IsTuned, tuned_begin, tuned_next}
 use Rattle.ttx_receiver.proofs.Items.{needed_row}
 
 or_true : (a b : Bool) → b ≡ true → (a || b) ≡ true

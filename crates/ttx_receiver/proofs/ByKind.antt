@@ -1,9 +1,9 @@
 -- The packet in a slot by the slot's kind, the text of a header, and packets of other magazines.
-use Rattle.std.proofs.Common.{◌≡◌, ◌∙◌, ℕ, zero, suc, ◌+◌, ◌-◌, ◌≤◌, ◌<◌, ◌==◌, ◌&&◌, Bool, true, false, not, if◌then◌else◌, List, [], ◌∷◌, ◌++◌, Option, length, take, drop, slice_range, refl, ap, sym, subst, inl, inr, arith, eqb-true, take_all, length-drop}
+use Rattle.std.proofs.Common.{◌≡◌, ◌∙◌, ℕ, ◌-◌, ◌==◌, ◌&&◌, Bool, false, not, if◌then◌else◌, List, ◌++◌, Option, length, drop, slice_range, refl, ap, sym, subst, inl, inr, arith, eqb-true, take_all, length-drop}
 use Rattle.std.proofs.lemmas.List.Folds.{drop_split}
 use Rattle.ttx_links.specs.Sets.{LinkSet}
 use Rattle.ttx_packet.specs.Slots.{Kind, kind_of}
-use Rattle.ttx_page.specs.Packets.{Packet, Row, Links, packet_of, packet_of_kind}
+use Rattle.ttx_page.specs.Packets.{Row, Links, packet_of, packet_of_kind}
 use Rattle.ttx_page.specs.Pages.{selected_mag}
 use Rattle.ttx_page.specs.declared.class.Class.{Class}
 use Rattle.ttx_page.specs.declared.selection.Selection.{Selection}

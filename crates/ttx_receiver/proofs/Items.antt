@@ -1,23 +1,18 @@
 -- Each needed item stays, once it was taken.
-use Rattle.std.proofs.Common.{◌≡◌, ◌≢◌, ◌⊎◌, ℕ, zero, suc, ◌+◌, ◌-◌, ◌*◌, ◌%◌, ◌<◌, ◌≤◌, min, Bool, true, false, not, ◌&&◌, ◌||◌, ◌==◌, List, [], ◌∷◌, ◌++◌, Option, Some, None, length, get_or, replicate, refl, sym, ap, ◌∙◌, subst, inl, inr, arith, leb-true, nat_le, nat_lt}
+use Rattle.std.proofs.Common.{◌≡◌, ℕ, suc, ◌+◌, ◌<◌, ◌≤◌, Bool, true, false, List, length, get_or, sym, subst, inl, inr, arith, leb-true}
 use Rattle.std.proofs.lemmas.Bool.{cases_lt}
-use Rattle.std.proofs.lemmas.List.{get_or-replicate}
-use Rattle.ttx_page.specs.Packets.{Packet, Empty, Unreadable, Header, Row, Links, Info, Other, packet_of}
-use Rattle.ttx_links.specs.Sets.{LinkSet, no_links}
-use Rattle.ttx_page.specs.Pages.{Page, IsPage, selected_mag, needed, page_row, matches, blank_row}
+use Rattle.ttx_page.specs.Packets.{Packet}
+use Rattle.ttx_page.specs.Pages.{Page, IsPage, selected_mag, needed, page_row}
 use Rattle.ttx_page.specs.declared.selection.Selection.{Selection}
-use Rattle.ttx_page.specs.declared.item.Item.{Item}
-use Rattle.ttx_page.specs.declared.item.Item.TheVariants.{Head as TheHead, Row as TheRow, Links as TheLinks}
+use Rattle.ttx_page.specs.declared.item.Item.TheVariants.{Row as TheRow, Links as TheLinks}
 use Rattle.ttx_page.specs.declared.class.Class.{Class}
-use Rattle.ttx_page.specs.declared.class.Class.TheVariants.{Any, Clearing}
-use Rattle.ttx_header.specs.Control.{c4, c11}
 use Rattle.ttx_page.specs.Memories.{Memory, char_at}
-use Rattle.ttx_page.specs.Receivers.{older, after, Step, Run, erased, begun, with_storing, with_row, with_links, erases, misses, stored_row}
+use Rattle.ttx_page.specs.Receivers.{older, after, Run}
 use Rattle.ttx_page.specs.Streams.{heads, heads_matched, ends_serial, carries}
-use Rattle.ttx_receiver.proofs.Choices.{no_both, cases_bool, if_ind, and_left, and_right}
-use Rattle.ttx_receiver.proofs.OneStep.{Shape, IsHeadOf, IsRowOf, AreLinksOf, matched_heads, shape_after, after_storing, after_ready, after_begin, after_settled, erased_row}
+use Rattle.ttx_receiver.proofs.Choices.{and_left, and_right}
+use Rattle.ttx_receiver.proofs.OneStep.{Shape}
 use Rattle.ttx_receiver.proofs.Keeps.{HeadRightAt, RowRightAt, keep_row, keep_head, keep_links, take_row, take_links, take_head}
-use Rattle.ttx_receiver.proofs.Runs.{packet_at, run_keeps, IsOwnedAt, ReceivesPage, IsTuned, IsStoring, tuned_begin, tuned_next, storing_next, lasting}
+use Rattle.ttx_receiver.proofs.Runs.{packet_at, run_keeps, ReceivesPage, IsTuned, IsStoring, tuned_begin, tuned_next, storing_next, lasting}
 
 -- a transmission under the header at place h that no receiver misses
 pub record IsSureAt (sel : Selection) (g : ℕ → Packet) (lines : ℕ) (h j : ℕ) : Type 0 where

@@ -1,24 +1,18 @@
 -- What a receiver takes from a slot, and what it keeps.
-use Rattle.std.proofs.Common.{◌≡◌, ◌≢◌, ◌⊎◌, ℕ, zero, suc, ◌+◌, ◌-◌, ◌*◌, ◌%◌, ◌<◌, ◌≤◌, min, Bool, true, false, not, ◌&&◌, ◌||◌, ◌==◌, if◌then◌else◌, List, [], ◌∷◌, ◌++◌, Option, Some, None, length, get_or, take, drop, set, replicate, refl, sym, ap, ◌∙◌, subst, inl, inr, arith, eqb, eqb-true, eq-eqb, nat_le, leb-false, length-set, get_or-set_same, get_or-set_other, length-append, length-take-le, length-drop, get_or-drop, get_or-append-add}
-use Rattle.std.proofs.lemmas.Bool.{cases_lt}
-use Rattle.std.proofs.lemmas.List.{get_or-replicate}
+use Rattle.std.proofs.Common.{◌≡◌, ◌≢◌, ℕ, ◌+◌, ◌-◌, ◌%◌, ◌<◌, ◌≤◌, Bool, true, false, not, ◌&&◌, ◌==◌, List, [], ◌++◌, Some, None, length, get_or, take, drop, set, refl, sym, ap, ◌∙◌, subst, inl, inr, arith, eqb-true, eq-eqb, nat_le, get_or-set_same, get_or-set_other, length-take-le, length-drop, get_or-drop, get_or-append-add}
 use Rattle.ttx_code.specs.Words.{is_odd}
-use Rattle.ttx_header.specs.Ids.{Id, same_id}
-use Rattle.ttx_links.specs.Sets.{LinkSet, no_links}
-use Rattle.ttx_page.specs.Packets.{Packet, Empty, Unreadable, Header, Row, Links, Info, Other, packet_of}
-use Rattle.ttx_page.specs.Pages.{Page, selected_mag, matches, needed, page_row, blank_row}
+use Rattle.ttx_page.specs.Packets.{Packet, Empty, Unreadable, Header, Row, Links, Info, Other}
+use Rattle.ttx_page.specs.Pages.{Page, selected_mag, matches, page_row}
 use Rattle.ttx_page.specs.declared.selection.Selection.{Selection}
-use Rattle.ttx_page.specs.declared.selection.Selection.TheVariants.{Exact, AnySub}
-use Rattle.ttx_page.specs.declared.item.Item.{Item}
-use Rattle.ttx_page.specs.declared.item.Item.TheVariants.{Head as TheHead, Row as TheRow, Links as TheLinks}
+use Rattle.ttx_page.specs.declared.item.Item.TheVariants.{Row as TheRow, Links as TheLinks}
 use Rattle.ttx_page.specs.declared.class.Class.{Class}
 use Rattle.ttx_page.specs.declared.class.Class.TheVariants.{Any, Clearing}
 use Rattle.ttx_header.specs.Control.{c4, c11}
 use Rattle.ttx_page.specs.Memories.{Memory, char_at}
-use Rattle.ttx_page.specs.Receivers.{stored_row, with_row, with_storing, older, erased, begun, with_links, erases, misses, after, Step, Run}
-use Rattle.ttx_page.specs.Streams.{heads, heads_page, heads_matched, ends_serial, carries}
-use Rattle.ttx_receiver.proofs.Choices.{if_ind, and_left, and_right, and_both, not_true, not_false, no_both, cases_bool, eq_sym, or_false, gt_not_le, length-stored_row, IsTaken, stored_row_at, stored_row_good}
-use Rattle.ttx_receiver.proofs.OneStep.{Shape, GoodText, IsHeadOf, IsRowOf, AreLinksOf, erased_first, erased_row, shape_erased}
+use Rattle.ttx_page.specs.Receivers.{stored_row, with_row, with_storing, erased, begun, with_links, erases, misses, after}
+use Rattle.ttx_page.specs.Streams.{heads_matched, carries}
+use Rattle.ttx_receiver.proofs.Choices.{if_ind, and_left, and_right, and_both, not_false, no_both, cases_bool, or_false, gt_not_le, stored_row_at, stored_row_good}
+use Rattle.ttx_receiver.proofs.OneStep.{Shape, GoodText, IsHeadOf, IsRowOf, AreLinksOf, erased_first, shape_erased}
 
 erases_not : (class : Class) (choice : Bool) (m : Memory) (control : ℕ) → c4 control ≡ false → m.fresh ≡ false → erases class choice m control ≡ false
 erases_not Any choice m control k f = or_false (c4 control) (m.fresh && choice) k (subst (λ b. (b && choice) ≡ false) (sym f) refl)

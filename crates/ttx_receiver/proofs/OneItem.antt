@@ -1,32 +1,28 @@
 -- The laws of the headline.
-use Rattle.std.proofs.Common.{◌≡◌, ◌≢◌, ◌⊎◌, ℕ, zero, suc, ◌+◌, ◌-◌, ◌*◌, ◌%◌, ◌<◌, ◌≤◌, ℤ, pos, ◌+ℤ◌, ◌<ℤ◌, ◌≤ℤ◌, Bool, true, false, not, ◌&&◌, ◌||◌, ◌==◌, List, [], ◌∷◌, Option, Some, None, length, get_or, refl, sym, ap, ◌∙◌, subst, inl, inr, arith, eqb-true, eq-eqb, ext_get_or}
+use Rattle.std.proofs.Common.{◌≡◌, ℕ, ◌+◌, ◌<◌, ◌≤◌, ℤ, pos, ◌+ℤ◌, ◌<ℤ◌, ◌≤ℤ◌, true, false, List, [], ◌∷◌, length, get_or, refl, sym, ap, ◌∙◌, subst, inl, inr, arith, ext_get_or}
 use Rattle.std.specs.List.{AllByRecursion}
 use Rattle.std.proofs.lemmas.Int.{ints}
 use Rattle.ttx_header.specs.Ids.{Id}
-use Rattle.ttx_links.specs.Sets.{LinkSet}
-use Rattle.ttx_page.specs.Packets.{Packet, packet_of}
+use Rattle.ttx_page.specs.Packets.{packet_of}
 use Rattle.ttx_page.specs.Pages.{Page, IsPage, selected_mag, matches, needed, page_row, IsBlank}
 use Rattle.ttx_page.specs.declared.selection.Selection.{Selection}
 use Rattle.ttx_page.specs.declared.item.Item.{Item}
 use Rattle.ttx_page.specs.declared.item.Item.TheVariants.{Head as TheHead, Row as TheRow, Links as TheLinks}
 use Rattle.ttx_page.specs.declared.class.Class.{Class}
 use Rattle.ttx_page.specs.declared.class.Class.TheVariants.{Any, Clearing}
-use Rattle.ttx_page.specs.Memories.{Memory, IsMemory, IsFormer, char_at, Holds, Shows}
+use Rattle.ttx_page.specs.Memories.{Memory, IsFormer, char_at, Holds}
 use Rattle.ttx_page.specs.Receivers.{Run, older}
-use Rattle.ttx_page.specs.Streams.{Stream, heads, heads_page, heads_matched, ends_serial, carries, IsLatestHeader, IsOwned, IsTransmission, IsSure, IsSureTransmission, AreSuccessive, IsRun, IsSent, run_length}
-use Rattle.ttx_packet.specs.Slots.{IsSlot}
-use Rattle.ttx_packet.specs.Receptions.{MayBeReceivedAs}
-use Rattle.ttx_page.specs.Receptions.{IsRight, OneIs, Received, IsTextByte}
-use Rattle.ttx_page.specs.Steady.{IsTrueTo, IsChecked}
-use Rattle.ttx_receiver.specs.Laws.{IsSteadyFrom, IsBrought, RunHoldsItsItem, RunsShowThePage, HasHeaderBetween}
+use Rattle.ttx_page.specs.Streams.{Stream, heads, heads_page, heads_matched, ends_serial, carries, IsLatestHeader, IsOwned, IsSure, IsSureTransmission, AreSuccessive, IsSent}
+use Rattle.ttx_page.specs.Receptions.{IsRight, OneIs, Received}
+use Rattle.ttx_receiver.specs.Laws.{IsSteadyFrom, RunHoldsItsItem, HasHeaderBetween}
 use Rattle.ttx_receiver.proofs.Choices.{no_both}
 use Rattle.ttx_receiver.proofs.OneStep.{Shape, shape_after}
-use Rattle.ttx_receiver.proofs.Runs.{packet_at, run_keeps, ReceivesPage}
+use Rattle.ttx_receiver.proofs.Runs.{packet_at, run_keeps}
 use Rattle.ttx_receiver.proofs.Items.{IsSureAt, needed_row, row_held, links_held, head_held}
 use Rattle.ttx_receiver.proofs.Blank.{blank_row_held, blank_links_held}
 use Rattle.ttx_receiver.proofs.Received.{LawsBelow, same_heads, same_matched, same_ends, same_links, head_received_at, row_received_at}
-use Rattle.ttx_receiver.proofs.Tuned.{receives_page, page_matched, same_mag, page_heads}
-use Rattle.ttx_receiver.proofs.Places.{offset, not_before, offset_lt, lt_offset, offset_same, late_offset, before_end, le_lt, lt_le, le_le, le_self, cases_ltz}
+use Rattle.ttx_receiver.proofs.Tuned.{receives_page, page_matched, same_mag}
+use Rattle.ttx_receiver.proofs.Places.{offset, not_before, offset_lt, lt_offset, offset_same, late_offset, before_end, lt_le, le_le, le_self, cases_ltz}
 
 lt_is_le : (a b : ℤ) → a <ℤ b → a ≤ℤ b
 lt_is_le a b h = omega (arith, ints)
@@ -252,9 +248,3 @@ run_holds_its_item laws s p sel Clearing lines repeat begin end page few fits st
 run_holds_its_item laws s p sel Any lines repeat begin end page few fits steady item need (inr b) former m received is_former permitted run long = cc
 run_holds_its_item laws s p sel Clearing lines repeat begin end page few fits steady item need (inr b) former m received is_former permitted run long =
     blank_held laws s p page sel fits begin end steady lines repeat received permitted long item need b.1 b.2 former m (shape_of Clearing former is_former) is_former.1 run
-
-pub runs_show_the_page : LawsBelow → RunsShowThePage
-runs_show_the_page laws s p sel class lines repeat begin end page few fits steady brought former m received is_former permitted run long =
-    let each = λ (item : Item) (need : needed p item ≡ true).
-    run_holds_its_item laws s p sel class lines repeat begin end page few fits steady item need (brought item need) former m received is_former permitted run long in
-    record { control = (each TheLinks refl).0; items = λ item need. (each item need).1 }

@@ -1,36 +1,23 @@
 -- A receiver over the packets of a page.
-use Rattle.std.proofs.Common.{◌≡◌, ◌⊎◌, ℕ, zero, suc, ◌+◌, ◌-◌, ◌*◌, ◌%◌, ◌<◌, ◌≤◌, min, Bool, true, false, not, ◌&&◌, ◌||◌, ◌==◌, ◌≢◌, if◌then◌else◌, List, [], ◌∷◌, ◌++◌, Option, Some, None, length, get_or, take, drop, set, replicate, refl, sym, ap, ◌∙◌, subst, inl, inr, arith, eqb, eqb-true, eq-eqb, nat_le, leb-false, length-set, get_or-set_same, get_or-set_other, length-append, length-take-le, length-drop, get_or-drop, get_or-append-add}
+use Rattle.std.proofs.Common.{◌≡◌, ◌⊎◌, ℕ, zero, suc, ◌%◌, ◌<◌, Bool, true, false, not, ◌&&◌, ◌==◌, ◌≢◌, List, [], ◌∷◌, ◌++◌, Some, None, length, get_or, take, drop, set, replicate, refl, sym, ap, ◌∙◌, subst, inl, inr, arith, eqb-true, eq-eqb, length-set, get_or-set_same, get_or-set_other, length-append, length-take-le, length-drop}
 use Rattle.std.proofs.lemmas.Bool.{cases_lt}
 use Rattle.std.proofs.lemmas.List.{get_or-replicate}
 use Rattle.ttx_code.specs.Words.{is_odd}
-use Rattle.ttx_header.specs.Ids.{Id, same_id}
-use Rattle.ttx_links.specs.Sets.{LinkSet, no_links}
-use Rattle.ttx_page.specs.Packets.{Packet, Empty, Unreadable, Header, Row, Links, Info, Other, packet_of}
-use Rattle.ttx_page.specs.Pages.{Page, selected_mag, matches, needed, page_row, blank_row}
+use Rattle.ttx_header.specs.Ids.{Id}
+use Rattle.ttx_page.specs.Packets.{Packet, Empty, Unreadable, Header, Row, Links, Info, Other}
+use Rattle.ttx_page.specs.Pages.{Page, selected_mag, matches, page_row, blank_row}
 use Rattle.ttx_page.specs.declared.selection.Selection.{Selection}
 use Rattle.ttx_page.specs.declared.selection.Selection.TheVariants.{Exact, AnySub}
-use Rattle.ttx_page.specs.declared.item.Item.{Item}
-use Rattle.ttx_page.specs.declared.item.Item.TheVariants.{Head as TheHead, Row as TheRow, Links as TheLinks}
 use Rattle.ttx_page.specs.declared.class.Class.{Class}
-use Rattle.ttx_page.specs.declared.class.Class.TheVariants.{Any, Clearing}
-use Rattle.ttx_header.specs.Control.{c4, c11}
-use Rattle.ttx_page.specs.Memories.{Memory, char_at}
-use Rattle.ttx_page.specs.Receivers.{stored_row, with_row, with_storing, older, erased, begun, with_links, erases, misses, after, Step, Run}
-use Rattle.ttx_page.specs.Streams.{heads, heads_page, heads_matched, ends_serial, carries}
-use Rattle.ttx_receiver.proofs.Choices.{if_ind, and_left, and_right, and_both, not_true, not_false, no_both, cases_bool, eq_sym, length-stored_row, IsTaken, stored_row_at, stored_row_good}
+use Rattle.ttx_header.specs.Control.{c11}
+use Rattle.ttx_page.specs.Memories.{Memory}
+use Rattle.ttx_page.specs.Receivers.{stored_row, with_row, with_storing, erased, begun, with_links, erases, misses, after}
+use Rattle.ttx_page.specs.Streams.{heads, heads_matched, ends_serial}
+use Rattle.ttx_receiver.proofs.Choices.{if_ind, and_left, and_both, not_false, no_both, cases_bool, eq_sym, length-stored_row}
 
 matches_mag : (sel : Selection) (id : Id) → matches sel id ≡ true → (id.mag == selected_mag sel) ≡ true
 matches_mag (Exact own) id h = eq_sym own.mag id.mag (and_left _ _ (and_left _ _ h))
 matches_mag (AnySub mag page) id h = eq_sym mag id.mag (and_left _ _ h)
-
-pub matched_heads : (sel : Selection) (pkt : Packet) → heads_matched sel pkt ≡ true → heads (selected_mag sel) pkt ≡ true
-matched_heads sel (Header id control text) h = matches_mag sel id h
-matched_heads sel Empty h = h
-matched_heads sel Unreadable h = h
-matched_heads sel (Row mag number text) h = h
-matched_heads sel (Links mag content) h = h
-matched_heads sel Info h = h
-matched_heads sel Other h = h
 
 -- a byte of odd parity has the right character
 abbrev pub GoodText : List ℕ → ℕ → List ℕ → Type 0

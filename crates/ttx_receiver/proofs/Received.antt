@@ -1,26 +1,23 @@
 -- What a receiver is given of the packets of a page, where each byte has at most one wrong bit.
-use Rattle.std.proofs.Common.{◌≡◌, ◌≢◌, ◌⊎◌, ℕ, zero, suc, ◌+◌, ◌-◌, ◌*◌, ◌/◌, ◌%◌, ◌<◌, ◌≤◌, ◌^◌, Bool, true, false, not, ◌&&◌, ◌||◌, ◌==◌, List, [], ◌∷◌, Option, Some, None, length, get_or, take, drop, map, refl, sym, ap, ◌∙◌, subst, inl, inr, arith, nat_le, leb-true, eqb-true, eq-eqb, length-take-le, length-drop, get_or-drop, get_or-take}
+use Rattle.std.proofs.Common.{◌≡◌, ◌⊎◌, ℕ, ◌+◌, ◌%◌, ◌<◌, ◌≤◌, Bool, true, false, ◌&&◌, ◌==◌, List, [], Option, Some, None, length, get_or, take, drop, map, refl, sym, ap, ◌∙◌, subst, inl, inr, arith, nat_le, leb-true, eqb-true, length-drop, get_or-drop, get_or-take}
 use Rattle.std.proofs.lemmas.List.{get_or-map}
 use Rattle.std.proofs.lemmas.Bool.Decides.{nat_tests}
-use Rattle.std.specs.List.{list_all}
 use Rattle.ttx_code.specs.Words.{reading, ones, Near, is_odd, odd_byte}
 use Rattle.ttx_code.specs.Laws.{OddBytesUnderOneWrongBit, OddBytesHoldTheirCodes}
-use Rattle.ttx_packet.specs.Slots.{IsSlot, Kind, IsEmpty, IsUnreadable, IsHeader, IsRow, IsLinks, IsInfo, IsOther, is_empty, are_readable, links_kind, packet_kind, addressed_kind, kind_of, is_clean}
+use Rattle.ttx_packet.specs.Slots.{IsSlot, Kind, IsEmpty, IsUnreadable, IsHeader, IsRow, IsLinks, IsInfo, IsOther, is_empty, links_kind, packet_kind, addressed_kind, kind_of, is_clean}
 use Rattle.ttx_packet.specs.Receptions.{IsFree, MayBeReceivedAs}
 use Rattle.ttx_packet.specs.Laws.{KindIsKept}
-use Rattle.ttx_header.specs.Ids.{Id}
 use Rattle.ttx_header.specs.Headers.{id_of, control_of}
 use Rattle.ttx_header.specs.Laws.{HeaderIsKept}
 use Rattle.ttx_links.specs.Laws.{LinksAreKept}
-use Rattle.ttx_links.specs.Sets.{LinkSet, links_of, is_exact}
+use Rattle.ttx_links.specs.Sets.{links_of, is_exact}
 use Rattle.ttx_page.specs.Packets.{Packet, Empty, Unreadable, Header, Row, Links, Info, Other, packet_of, packet_of_kind}
-use Rattle.ttx_page.specs.Pages.{Page, IsPage, selected_mag, matches, page_row, needed}
+use Rattle.ttx_page.specs.Pages.{Page, IsPage, page_row}
 use Rattle.ttx_page.specs.declared.selection.Selection.{Selection}
-use Rattle.ttx_page.specs.declared.item.Item.{Item}
-use Rattle.ttx_page.specs.declared.item.Item.TheVariants.{Head as TheHead, Row as TheRow, Links as TheLinks}
-use Rattle.ttx_page.specs.Streams.{heads, heads_page, heads_matched, ends_serial, carries}
+use Rattle.ttx_page.specs.declared.item.Item.TheVariants.{Row as TheRow, Links as TheLinks}
+use Rattle.ttx_page.specs.Streams.{heads, heads_matched, ends_serial, carries}
 use Rattle.ttx_page.specs.Steady.{HeadIsRight, RowIsRight, LinksAreRight}
-use Rattle.ttx_receiver.proofs.Choices.{if_ind, and_left, and_right, and_both, no_both, cases_bool, list_all_at}
+use Rattle.ttx_receiver.proofs.Choices.{if_ind, no_both, cases_bool, list_all_at}
 use Rattle.ttx_receiver.proofs.OneStep.{GoodText, IsHeadOf, IsRowOf, AreLinksOf}
 use Rattle.ttx_receiver.proofs.Keeps.{IsRightAt, HeadRightAt, RowRightAt}
 

@@ -1,20 +1,15 @@
 -- Runs of a receiver over the packets that it is given.
-use Rattle.std.proofs.Common.{◌≡◌, ◌≢◌, ◌⊎◌, ℕ, zero, suc, ◌+◌, ◌-◌, ◌*◌, ◌%◌, ◌<◌, ◌≤◌, min, Bool, true, false, not, ◌&&◌, ◌||◌, ◌==◌, List, [], ◌∷◌, ◌++◌, Option, Some, None, length, get_or, refl, sym, ap, ◌∙◌, subst, inl, inr, arith}
+use Rattle.std.proofs.Common.{◌≡◌, ℕ, suc, ◌+◌, ◌-◌, ◌<◌, ◌≤◌, min, Bool, true, false, List, [], ◌∷◌, length, get_or, sym, ◌∙◌, subst, inl, inr, arith}
 use Rattle.std.proofs.lemmas.Bool.{cases_lt}
 use Rattle.ttx_page.specs.Packets.{Packet, packet_of}
-use Rattle.ttx_page.specs.Pages.{Page, IsPage, selected_mag, needed, page_row}
+use Rattle.ttx_page.specs.Pages.{Page, selected_mag, needed}
 use Rattle.ttx_page.specs.declared.selection.Selection.{Selection}
-use Rattle.ttx_page.specs.declared.item.Item.{Item}
-use Rattle.ttx_page.specs.declared.item.Item.TheVariants.{Head as TheHead, Row as TheRow, Links as TheLinks}
+use Rattle.ttx_page.specs.declared.item.Item.TheVariants.{Row as TheRow, Links as TheLinks}
 use Rattle.ttx_page.specs.declared.class.Class.{Class}
-use Rattle.ttx_page.specs.declared.class.Class.TheVariants.{Any, Clearing}
-use Rattle.ttx_header.specs.Control.{c4}
-use Rattle.ttx_page.specs.Memories.{Memory, char_at}
-use Rattle.ttx_page.specs.Receivers.{older, after, Step, Run}
+use Rattle.ttx_page.specs.Memories.{Memory}
+use Rattle.ttx_page.specs.Receivers.{older, after, Run}
 use Rattle.ttx_page.specs.Streams.{heads, heads_matched, ends_serial, carries}
-use Rattle.ttx_receiver.proofs.Choices.{no_both, cases_bool}
-use Rattle.ttx_receiver.proofs.OneStep.{Shape, IsHeadOf, IsRowOf, AreLinksOf, matched_heads, shape_after, after_storing, after_ready, after_begin, after_settled}
-use Rattle.ttx_receiver.proofs.Keeps.{HeadRightAt, RowRightAt, keep_row, keep_head, keep_links, take_row, take_links, take_head}
+use Rattle.ttx_receiver.proofs.OneStep.{Shape, IsHeadOf, IsRowOf, AreLinksOf, shape_after, after_storing, after_ready, after_begin, after_settled}
 
 -- what is received at a place of the list
 abbrev pub packet_at : List (List ℕ) → ℕ → Packet

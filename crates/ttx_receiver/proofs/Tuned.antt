@@ -1,30 +1,20 @@
 -- A receiver tuned to a stream is given its packets.
-use Rattle.std.proofs.Common.{◌≡◌, ◌≢◌, ◌⊎◌, ℕ, zero, suc, ◌+◌, ◌-◌, ◌*◌, ◌%◌, ◌<◌, ◌≤◌, ℤ, pos, ◌+ℤ◌, ◌<ℤ◌, ◌≤ℤ◌, Bool, true, false, not, ◌&&◌, ◌||◌, ◌==◌, List, [], ◌∷◌, Option, Some, None, length, get_or, refl, sym, ap, ◌∙◌, subst, inl, inr, arith, eqb-true, eq-eqb}
-use Rattle.std.specs.List.{AllByRecursion}
-use Rattle.std.proofs.lemmas.Bool.Decides.{nat_tests}
+use Rattle.std.proofs.Common.{◌≡◌, ℕ, ◌<◌, ℤ, pos, ◌+ℤ◌, ◌<ℤ◌, ◌≤ℤ◌, true, false, ◌&&◌, ◌==◌, List, [], length, get_or, refl, sym, ap, ◌∙◌, subst, inl, inr, arith, eqb-true, eq-eqb}
 use Rattle.std.proofs.lemmas.Int.{ints}
 use Rattle.ttx_header.specs.Ids.{Id, same_id}
-use Rattle.ttx_links.specs.Sets.{LinkSet}
 use Rattle.ttx_page.specs.Packets.{Packet, Empty, Unreadable, Header, Row, Links, Info, Other, packet_of}
-use Rattle.ttx_packet.specs.Slots.{is_clean, IsSlot}
-use Rattle.ttx_page.specs.Pages.{Page, IsPage, selected_mag, matches, needed, page_row}
+use Rattle.ttx_page.specs.Pages.{Page, IsPage, selected_mag, matches}
 use Rattle.ttx_page.specs.declared.selection.Selection.{Selection}
 use Rattle.ttx_page.specs.declared.selection.Selection.TheVariants.{Exact, AnySub}
-use Rattle.ttx_page.specs.declared.item.Item.{Item}
 use Rattle.ttx_page.specs.declared.item.Item.TheVariants.{Head as TheHead, Row as TheRow, Links as TheLinks}
-use Rattle.ttx_page.specs.declared.class.Class.{Class}
-use Rattle.ttx_page.specs.Streams.{Stream, heads, heads_page, heads_matched, ends_serial, carries, IsLatestHeader, IsOwned, IsTransmission, IsSure, IsSureTransmission, AreSuccessive, IsRun, IsSent}
-use Rattle.ttx_packet.specs.Receptions.{MayBeReceivedAs}
-use Rattle.ttx_page.specs.Receptions.{IsRight, OneIs, Received, IsTextByte}
-use Rattle.ttx_page.specs.Steady.{HeadIsRight, RowIsRight, LinksAreRight, IsTrueTo, IsChecked}
+use Rattle.ttx_page.specs.Streams.{Stream, heads, heads_page, heads_matched, carries, IsLatestHeader}
+use Rattle.ttx_page.specs.Receptions.{Received}
 use Rattle.ttx_receiver.specs.Laws.{IsSteadyFrom}
-use Rattle.ttx_receiver.proofs.Choices.{and_left, and_right, and_both, no_both, cases_bool}
-use Rattle.ttx_receiver.proofs.OneStep.{Shape, IsHeadOf, IsRowOf, AreLinksOf}
-use Rattle.ttx_receiver.proofs.Keeps.{HeadRightAt, RowRightAt}
+use Rattle.ttx_receiver.proofs.Choices.{and_left, and_right, and_both, cases_bool}
 use Rattle.ttx_receiver.proofs.Runs.{packet_at, IsOwnedAt, ReceivesPage}
-use Rattle.ttx_receiver.proofs.Items.{IsSureAt, needed_row}
-use Rattle.ttx_receiver.proofs.Received.{LawsBelow, of_slot, IsOfSlot, same_heads, same_matched, same_ends, same_links, row_was_sent, received_head, received_row, received_links, head_received_at, row_received_at}
-use Rattle.ttx_receiver.proofs.Places.{offset, not_before, offset_lt, lt_offset, offset_same, late_offset, before_end, le_lt, lt_le, le_le, le_self, cases_ltz}
+use Rattle.ttx_receiver.proofs.Items.{needed_row}
+use Rattle.ttx_receiver.proofs.Received.{LawsBelow, of_slot, IsOfSlot, same_heads, same_matched, same_links, row_was_sent, received_head, received_row, received_links}
+use Rattle.ttx_receiver.proofs.Places.{offset, not_before, offset_lt, lt_offset, le_le}
 
 -- the page's headers are of its magazine, and the selection matches them
 pub page_heads : (id : Id) (pkt : Packet) → heads_page id pkt ≡ true → heads id.mag pkt ≡ true

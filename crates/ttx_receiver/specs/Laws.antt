@@ -1,9 +1,8 @@
--- The laws of receiving: what is sent between two slots of a stream is held from the second on.
+-- The law of receiving: what is sent between two slots of a stream is held from the second on.
 --
 --   IsSteadyFrom            from a slot on, a receiver of the page is sent nothing but the page
 --   HasHeaderBetween, IsBrought    a header of the page, or an item of it, comes between two slots
 --   RunHoldsItsItem         an item that comes is held, by every receiver, after every reception within the error rule
---   RunsShowThePage         a page of which each needed item comes is held
 use Rattle.std.specs.Prelude.{◌≡◌, ◌⊎◌, ℕ, ◌≤◌, ℤ, pos, ◌+ℤ◌, ◌<ℤ◌, ◌≤ℤ◌, true, List, length}
 use Rattle.ttx_packet.specs.Slots.{IsSlot, is_clean}
 use Rattle.ttx_page.specs.Packets.{packet_of}
@@ -12,7 +11,7 @@ use Rattle.ttx_page.specs.declared.selection.Selection.{Selection}
 use Rattle.ttx_page.specs.declared.item.Item.{Item}
 use Rattle.ttx_page.specs.declared.class.Class.{Class}
 use Rattle.ttx_page.specs.declared.class.Class.TheVariants.{Clearing}
-use Rattle.ttx_page.specs.Memories.{Memory, IsFormer, Holds, Shows}
+use Rattle.ttx_page.specs.Memories.{Memory, IsFormer, Holds}
 use Rattle.ttx_page.specs.Receivers.{Run}
 use Rattle.ttx_page.specs.Streams.{Stream, IsOwned, IsSent, heads_page, heads_matched}
 use Rattle.ttx_page.specs.Receptions.{Received}
@@ -46,12 +45,3 @@ RunHoldsItsItem =
     (item : Item) → needed p item ≡ true → IsBrought s p class lines repeat item begin end →
     (former m : Memory) (received : List (List ℕ)) → IsFormer class former → Received s p.id repeat begin received →
     Run class lines sel former received m → end ≤ℤ (begin +ℤ pos (length received)) → (m.control ≡ p.control) × Holds p m item
-
--- Where each needed item comes between two slots, the memory has all that a viewer sees of the page from the second on.
-abbrev pub RunsShowThePage : Type 0
-RunsShowThePage =
-    (s : Stream) (p : Page) (sel : Selection) (class : Class) (lines repeat : ℕ) (begin end : ℤ) →
-    IsPage p → lines ≤ 32 → matches sel p.id ≡ true → IsSteadyFrom s p sel begin →
-    ((item : Item) → needed p item ≡ true → IsBrought s p class lines repeat item begin end) →
-    (former m : Memory) (received : List (List ℕ)) → IsFormer class former → Received s p.id repeat begin received →
-    Run class lines sel former received m → end ≤ℤ (begin +ℤ pos (length received)) → Shows p m

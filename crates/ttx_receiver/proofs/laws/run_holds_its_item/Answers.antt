@@ -1,4 +1,3 @@
-use Rattle.ttx_receiver.proofs.Received.{LawsBelow}
 use Rattle.ttx_receiver.proofs.OneItem.{run_holds_its_item}
 use Rattle.ttx_receiver.proofs.laws.run_holds_its_item.Goals as goal
 

@@ -1,4 +1,4 @@
-use Rattle.std.proofs.Common.{◌≡◌, ◌∙◌, sym, ap, drop}
+use Rattle.std.proofs.Common.{◌∙◌, sym, ap, drop}
 use Rattle.ttx_packet.specs.Slots.{IsEmpty, IsUnreadable, IsHeader, IsRow, IsLinks, IsInfo, IsOther}
 use Rattle.ttx_header.specs.Headers.{id_of, control_of}
 use Rattle.ttx_page.specs.Packets.{Header}

@@ -1,4 +1,4 @@
-use Rattle.std.proofs.Common.{◌≡◌, ◌∙◌, ◌++◌, sym, ap, arith}
+use Rattle.std.proofs.Common.{◌∙◌, ◌++◌, ap}
 use Rattle.ttx_header.specs.Headers.{id_of, control_of}
 use Rattle.ttx_page.specs.Packets.{Header}
 use Rattle.ttx_page.specs.Receivers.{after}
