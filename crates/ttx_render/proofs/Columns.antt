@@ -2,7 +2,6 @@
 use Rattle.std.proofs.Common.{◌≡◌, ℕ, zero, suc, ◌+◌, Bool, true, false, if◌then◌else◌, List, [], ◌∷◌, ◌++◌, ◌<◌, length, refl, ap, get_or, arith, sym, ◌∙◌, add-one}
 use Rattle.std.proofs.lemmas.List.FromFn.{map-range_with_len_more, get_or-map-range_with_len, length-map-range_with_len}
 use Rattle.ttx_render.specs.declared.cells.Cell.{Cell}
-use Rattle.ttx_render.specs.declared.colour.Colour.TheVariants.{Black, White}
 use Rattle.ttx_render.specs.declared.cells.Glyph.{Glyph}
 use Rattle.ttx_render.specs.declared.cells.Glyph.TheVariants.{Char}
 use Rattle.ttx_render.specs.Attributes.{value_at, value_after, spacing_at, attributes_at}
@@ -16,9 +15,6 @@ pub value_from-at : {A : Type 0} (acts : Effect A) (before : A) → value_from a
 value_from-at Leaves before = refl
 value_from-at (SetAt value) before = refl
 value_from-at (SetAfter value) before = refl
-
-pub attributes_left-zero : (tall : Bool) (row : List ℕ) → attributes_left tall row 0 ≡ record { fore = White; back = Black; flash = false; boxed = false; double = false; concealed = false; mosaic = false; separated = false; hold = false }
-attributes_left-zero tall row = refl
 
 pub attributes_in-left : (tall : Bool) (row : List ℕ) (c : ℕ) → attributes_in (spacing_at tall row c) (attributes_left tall row c) ≡ attributes_at tall row c
 attributes_in-left tall row c = refl
