@@ -167,7 +167,7 @@ fn numbers(alloc: Global, text: &[u8], line: usize, class: Class) -> Result<Cert
     let (repeat, rest) = number_line(rest, line + 1, b"repeat", 8)?;
     let (deadline, rest) = number_line(rest, line + 2, b"deadline", 1_000_000)?;
     let entries = entries(alloc, rest, line + 3)?;
-    Ok(Certificate::new(lines as u8, repeat as u8, deadline, entries, class).unwrap())
+    Ok(Certificate::of(lines as u8, repeat as u8, deadline, entries, class))
 }
 
 // The lines after the first one of version 2: the class, the numbers and the entries.
