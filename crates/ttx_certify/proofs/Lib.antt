@@ -5,5 +5,5 @@ mod OneByOne
 mod Accepting
 mod Headings
 mod PageByPage
-mod Services
+mod AuthoredIds
 mod ThreeInputs

@@ -7,11 +7,13 @@
 --   ReadsService, ReadsWitness      what is answered for the bytes of the two texts
 --   Certifies               the verdict on three inputs, and its line
 --   IsRefused, CertifiesFiles       why inputs are refused; what was written at each answer
+--   ReadsInputs, IsJudged, JudgesFiles      the same, step by step: what is read, the verdict on it with its line, both
 --   WritesLine              what was written of a line
---   CountsRead, CountsWritten, CountsFiles          a fault of a device is answered only where one was counted
-use Rattle.std.specs.Prelude.{◌≡◌, ◌⊎◌, ℕ, ◌<◌, ◌≤◌, List, length, map, take, ⊤, Option, Result, Ok, Err}
+--   CountsRead, CountsReads, CountsWritten, CountsFiles     a fault of a device is answered only where one was counted
+use Rattle.std.specs.Prelude.{◌≡◌, ◌⊎◌, ℕ, ◌<◌, ◌≤◌, List, length, map, take, string_bytes, ⊤, Option, Result, Ok, Err}
 use Rattle.std.specs.Io.KnownBytes.{Appends, Keeps}
 use Rattle.ttx_cycle.specs.Counts.{HasRisen}
+use Rattle.ttx_cycle.specs.Cycles.{slots_of}
 use Rattle.ttx_cycle.specs.Files.{IsCycle, file_of}
 use Rattle.ttx_cycle.specs.Reading.{Judged}
 use Rattle.ttx_page.specs.Pages.{Page}
@@ -19,6 +21,7 @@ use Rattle.ttx_source.specs.Faults.{fault_of}
 use Rattle.ttx_source.specs.Services.{ServiceFields, read_bytes}
 use Rattle.ttx_source.specs.declared.faults.SourceFault.TheVariants as source
 use Rattle.ttx_witness.specs.CertificateReading.{read_text}
+use Rattle.ttx_witness.specs.Certificates.{fields_of}
 use Rattle.ttx_witness.specs.Entries.{CertificateFields, certificate_at}
 use Rattle.ttx_witness.specs.declared.certificate_faults.CertFault.TheVariants as witness
 use Rattle.ttx_certify.specs.Verdicts.{IsVerdict, Means}
@@ -26,6 +29,8 @@ use Rattle.ttx_certify.specs.VerdictLines.{verdict_line}
 use Rattle.ttx_certify.specs.declared.faults.FilesFault.{FilesFault}
 use Rattle.ttx_certify.specs.declared.faults.FilesFault.TheVariants.{Cycle, Service, Certificate, Read, TooLong, Write, NoMemory}
 use Rattle.ttx_certify.specs.declared.faults.TextFile.{TextFile}
+use Rattle.ttx_certify.specs.declared.files.Inputs.{Inputs}
+use Rattle.ttx_certify.specs.declared.files.Told.{Told}
 use Rattle.ttx_certify.specs.declared.faults.TextFile.TheVariants as text
 use Rattle.ttx_cycle.specs.declared.faults.CycleFault.TheVariants as cycle
 use Rattle.ttx_certify.specs.declared.verdict.Verdict.{Verdict}
@@ -105,12 +110,35 @@ CertifiesFiles a b c old new (Err (Write written)) =
     (line : List ℕ) × (verdict : Verdict) × Certifies a b c verdict line × (written < length line) × Appends old new (take written line)
 CertifiesFiles a b c old new (Err fault) = IsRefused a b c fault × Keeps old new
 
+-- the three inputs, once they are read
+abbrev pub ReadsInputs : List ℕ → List ℕ → List ℕ → Result Inputs FilesFault → Type 0
+ReadsInputs a b c (Ok inputs) = IsPacketFile a (slots_of inputs.cycle) × IsService b inputs.service × IsWitness c (fields_of inputs.certificate)
+ReadsInputs a b c (Err fault) = IsRefused a b c fault
+
+-- the verdict on a cycle, the pages of a service and a certificate, and its line
+pub record IsJudged (slots : List (List ℕ)) (service : ServiceFields) (w : CertificateFields) (verdict : Verdict) (line : List ℕ) : Type 0 where
+  pub exact : IsVerdict slots (pages_of service) (certificate_at w) verdict
+  pub seen : Means slots (pages_of service) (certificate_at w) verdict
+  pub line_is : line ≡ verdict_line w (length service.pages) verdict
+
+abbrev pub JudgesFiles : List ℕ → List ℕ → List ℕ → Result Told FilesFault → Type 0
+JudgesFiles a b c (Ok judged) = Certifies a b c judged.verdict (string_bytes judged.line)
+JudgesFiles a b c (Err fault) = IsRefused a b c fault
+
 -- the faults counted by the reader of a text, before and after
 abbrev pub CountsRead : {T : Type 0} → TextFile → Result T FilesFault → ℕ → ℕ → Type 0
 CountsRead which (Err (Read text)) old new = (text ≡ which) × HasRisen old new
 CountsRead which (Err (Cycle fault)) old new = ⊥
 CountsRead which (Err (Write written)) old new = ⊥
 CountsRead which result old new = new ≡ old
+
+-- those counted by the readers of the cycle, the service and the certificate
+abbrev pub CountsReads : {T : Type 0} → Result T FilesFault → ℕ → ℕ → ℕ → ℕ → ℕ → ℕ → Type 0
+CountsReads (Err (Cycle cycle.Read)) cycle_old cycle_new service_old service_new old new = HasRisen cycle_old cycle_new
+CountsReads (Err (Read text.Service)) cycle_old cycle_new service_old service_new old new = HasRisen service_old service_new
+CountsReads (Err (Read text.Certificate)) cycle_old cycle_new service_old service_new old new = HasRisen old new
+CountsReads (Err (Write written)) cycle_old cycle_new service_old service_new old new = ⊥
+CountsReads result cycle_old cycle_new service_old service_new old new = ⊤
 
 -- all the bytes of a line went out, or exactly the first `written`
 abbrev pub WritesLine : {T : Type 0} → List ℕ → Option (List ℕ) → Option (List ℕ) → Result T FilesFault → Type 0
@@ -122,7 +150,7 @@ abbrev pub CountsWritten : {T : Type 0} → Result T FilesFault → ℕ → ℕ 
 CountsWritten (Ok _) old new = new ≡ old
 CountsWritten (Err _) old new = HasRisen old new
 
--- the faults counted by the readers of the cycle, the service and the certificate, and by the writer
+-- and those counted by the writer
 abbrev pub CountsFiles : {T : Type 0} → Result T FilesFault → ℕ → ℕ → ℕ → ℕ → ℕ → ℕ → ℕ → ℕ → Type 0
 CountsFiles (Err (Cycle cycle.Read)) cycle_old cycle_new service_old service_new old new write_old write_new = HasRisen cycle_old cycle_new
 CountsFiles (Err (Read text.Service)) cycle_old cycle_new service_old service_new old new write_old write_new = HasRisen service_old service_new

@@ -3,23 +3,37 @@
 ghost use Rattle.std.specs.Prelude.{◌≡◌, IfSome, IfOk, IfErr, string_bytes};
 ghost use Rattle.ttx_cycle.specs.Counters.{inner_of, faults_of};
 ghost use Rattle.ttx_cycle.specs.Cycles.{slots_of};
-ghost use Rattle.ttx_witness.specs.Certificates.{fields_of, certificate_of};
-ghost use Rattle.ttx_certify.specs.CertifyingFiles.{ReadsService, ReadsWitness, CountsRead, CertifiesFiles, WritesLine, CountsWritten, CountsFiles, pages_of, seen_by};
+ghost use Rattle.ttx_witness.specs.Certificates.{fields_of};
+ghost use Rattle.ttx_certify.specs.CertifyingFiles.{ReadsService, ReadsWitness, CountsRead, ReadsInputs, CountsReads, IsJudged, JudgesFiles, CertifiesFiles, WritesLine, CountsWritten, CountsFiles, seen_by};
 ghost use Rattle.ttx_certify.specs.VerdictLines.{verdict_line};
-ghost use Rattle.ttx_certify.specs.Verdicts.{IsVerdict, Means};
 
-use crate::certifying::certify;
 use crate::faults::{FilesFault, TextFile};
+use crate::services::certify_service;
 use crate::verdict::Verdict;
 use crate::verdict_lines::verdict_line;
 use std::alloc::Global;
 use std::io::{Read, Write};
 use ttx_cycle::{Counted, Cycle, TextFault, read_cycle, read_text, write_bytes};
 use ttx_source::{Service, read_service};
-use ttx_witness::{Certificate, NoMemory, read_certificate};
+use ttx_witness::{Certificate, read_certificate};
 
 // The most bytes of a text.
 const MOST_BYTES: usize = 4_194_304;
+
+// What is read.
+#[derive(Drop)]
+struct Inputs {
+    cycle: Cycle,
+    service: Service,
+    certificate: Certificate,
+}
+
+// The verdict on what is read, and its line.
+#[derive(Drop)]
+struct Told {
+    verdict: Verdict,
+    line: String,
+}
 
 // Reads the text of a service.
 fn read_definition<R: Read>(alloc: Global, reader: &mut Counted<R>) -> Result<Service, FilesFault>
@@ -57,19 +71,6 @@ fn read_witness<R: Read>(alloc: Global, reader: &mut Counted<R>) -> Result<Certi
     }
 }
 
-// The verdict on the pages of a service.
-fn certify_service(
-    alloc: Global,
-    cycle: &Cycle,
-    service: &Service,
-    certificate: &Certificate,
-) -> Result<Verdict, NoMemory>
-    ensures exact { IfOk result (IsVerdict (slots_of cycle.now) (pages_of service.now) (certificate_of certificate.now)) }
-    ensures seen { IfOk result (Means (slots_of cycle.now) (pages_of service.now) (certificate_of certificate.now)) }
-{
-    certify(alloc, cycle, service.pages(), certificate)
-}
-
 fn line_of(
     alloc: Global,
     certificate: &Certificate,
@@ -98,6 +99,71 @@ fn write_line<W: Write>(writer: &mut Counted<W>, line: &[u8]) -> Result<(), File
     }
 }
 
+// Reads the three inputs, in this order.
+fn read_inputs<A: Read, B: Read, C: Read>(
+    alloc: Global,
+    cycle: &mut Counted<A>,
+    service: &mut Counted<B>,
+    certificate: &mut Counted<C>,
+) -> Result<Inputs, FilesFault>
+    ensures bytes { IfSome (A.remaining (inner_of cycle.old)) (λ a. IfSome (B.remaining (inner_of service.old)) (λ b. IfSome (C.remaining (inner_of certificate.old))
+        (λ c. ReadsInputs a b c result))) }
+    ensures faults { CountsReads result (faults_of cycle.old) (faults_of cycle.new) (faults_of service.old) (faults_of service.new) (faults_of certificate.old) (faults_of certificate.new) }
+{
+    let cycle = match read_cycle(alloc, cycle) {
+        Ok(cycle) => cycle,
+        Err(fault) => return Err(FilesFault::Cycle(fault)),
+    };
+    let service = match read_definition(alloc, service) {
+        Ok(service) => service,
+        Err(fault) => return Err(fault),
+    };
+    match read_witness(alloc, certificate) {
+        Ok(certificate) => Ok(Inputs {
+            cycle,
+            service,
+            certificate,
+        }),
+        Err(fault) => Err(fault),
+    }
+}
+
+// The verdict on what was read, and its line.
+fn judge(alloc: Global, inputs: &Inputs) -> Result<Told, FilesFault>
+    ensures judged { IfOk result (λ judged. IsJudged (slots_of inputs.now.cycle) inputs.now.service (fields_of inputs.now.certificate) judged.verdict (string_bytes judged.line)) }
+    ensures memory { IfErr result (λ fault. fault ≡ FilesFault.NoMemory) }
+{
+    let (service, certificate) = (&inputs.service, &inputs.certificate);
+    let Ok(verdict) = certify_service(alloc, &inputs.cycle, service, certificate) else {
+        return Err(FilesFault::NoMemory);
+    };
+    match line_of(alloc, certificate, service.pages().len(), &verdict) {
+        Ok(line) => Ok(Told { verdict, line }),
+        Err(_) => Err(FilesFault::NoMemory),
+    }
+}
+
+// Reads the three inputs and judges them.
+fn judge_files<A: Read, B: Read, C: Read>(
+    alloc: Global,
+    cycle: &mut Counted<A>,
+    service: &mut Counted<B>,
+    certificate: &mut Counted<C>,
+) -> Result<Told, FilesFault>
+    ensures bytes { IfSome (A.remaining (inner_of cycle.old)) (λ a. IfSome (B.remaining (inner_of service.old)) (λ b. IfSome (C.remaining (inner_of certificate.old))
+        (λ c. JudgesFiles a b c result))) }
+    ensures faults { CountsReads result (faults_of cycle.old) (faults_of cycle.new) (faults_of service.old) (faults_of service.new) (faults_of certificate.old) (faults_of certificate.new) }
+{
+    let inputs = match read_inputs(alloc, cycle, service, certificate) {
+        Ok(inputs) => inputs,
+        Err(fault) => return Err(fault),
+    };
+    match judge(alloc, &inputs) {
+        Ok(judged) => Ok(judged),
+        Err(_) => Err(FilesFault::NoMemory),
+    }
+}
+
 /// Reads a packet file, the text of a service and that of a certificate, in this order, certifies the pages of the service and
 /// writes the line of the verdict. Where the verdict is Yes each page is seen, as `certify` says.
 ///
@@ -113,26 +179,12 @@ pub fn certify_files<A: Read, B: Read, C: Read, W: Write>(
         (λ c. CertifiesFiles a b c (W.contents (inner_of writer.old)) (W.contents (inner_of writer.new)) result))) }
     ensures faults { CountsFiles result (faults_of cycle.old) (faults_of cycle.new) (faults_of service.old) (faults_of service.new) (faults_of certificate.old) (faults_of certificate.new) (faults_of writer.old) (faults_of writer.new) }
 {
-    let cycle = match read_cycle(alloc, cycle) {
-        Ok(cycle) => cycle,
-        Err(fault) => return Err(FilesFault::Cycle(fault)),
-    };
-    let service = match read_definition(alloc, service) {
-        Ok(service) => service,
+    let judged = match judge_files(alloc, cycle, service, certificate) {
+        Ok(judged) => judged,
         Err(fault) => return Err(fault),
     };
-    let certificate = match read_witness(alloc, certificate) {
-        Ok(certificate) => certificate,
-        Err(fault) => return Err(fault),
-    };
-    let Ok(verdict) = certify_service(alloc, &cycle, &service, &certificate) else {
-        return Err(FilesFault::NoMemory);
-    };
-    let Ok(line) = line_of(alloc, &certificate, service.pages().len(), &verdict) else {
-        return Err(FilesFault::NoMemory);
-    };
-    match write_line(writer, line.as_bytes()) {
-        Ok(()) => Ok(verdict),
+    match write_line(writer, judged.line.as_bytes()) {
+        Ok(()) => Ok(judged.verdict),
         Err(fault) => Err(fault),
     }
 }

@@ -9,6 +9,7 @@ mod headers;
 pub mod laws;
 mod page_findings;
 mod receiving;
+mod services;
 pub mod verdict;
 mod verdict_lines;
 
@@ -16,5 +17,6 @@ pub use certifying::certify;
 pub use faults::FilesFault;
 pub use files::certify_files;
 pub use receiving::receive;
+pub use services::{certify_service, find_service};
 pub use verdict::Verdict;
 pub use verdict_lines::verdict_line;
