@@ -4,7 +4,6 @@ ghost use Rattle.std.specs.Prelude.{◌≡◌, ◌<◌, ◌≤◌, ◌+ℤ◌, �
 ghost use Rattle.ttx_cycle.specs.Cycles.{slots_of};
 ghost use Rattle.ttx_page.specs.declared.class.Class.TheVariants.{Clearing};
 ghost use Rattle.ttx_page.specs.Pages as definitions;
-ghost use Rattle.ttx_page.specs.Streams as stream;
 ghost use Rattle.ttx_page.specs.Views.{page_of};
 ghost use Rattle.ttx_witness.specs.Confirming.{late_after};
 ghost use Rattle.ttx_witness.specs.Certificates.{certificate_of};
@@ -21,6 +20,7 @@ use ttx_cycle::Cycle;
 use ttx_page::{Class, Item, Page, is_blank, needed};
 use ttx_witness::confirming::Progress;
 use ttx_witness::items::judge_item;
+use ttx_witness::page_items::run_length;
 use ttx_witness::transmissions::Transmission;
 use ttx_witness::{Certificate, NoMemory};
 
@@ -45,16 +45,6 @@ fn found(item: Item, doubt: Doubt, at: u32) -> Finding
     ensures { result ≡ record { item = item; doubt = doubt; at = at } }
 {
     Finding { item, doubt, at }
-}
-
-// How many transmissions a run of the item has.
-fn run_length(repeat: u8, item: &Item) -> usize
-    ensures { result ≡ stream.run_length repeat item.now }
-{
-    match item {
-        Item::Links => 1,
-        _ => usize::from(repeat),
-    }
 }
 
 /// The deadline in slots.

@@ -7,7 +7,6 @@ ghost use Rattle.ttx_page.specs.Streams.{repeated};
 ghost use Rattle.ttx_page.specs.Steady.{HasHeader};
 ghost use Rattle.ttx_page.specs.Views.{page_of};
 ghost use Rattle.ttx_witness.specs.Certificates.{certificate_of};
-ghost use Rattle.ttx_witness.specs.Collected.{item_number, IsItem};
 ghost use Rattle.ttx_witness.specs.Faults.{IsWitnessFault};
 ghost use Rattle.ttx_witness.specs.JudgingLaws.{IsHeaderAnswer};
 ghost use Rattle.ttx_certify.specs.Findings as told;
@@ -18,7 +17,8 @@ use crate::headers::late_header;
 use std::alloc::Global;
 use ttx_cycle::Cycle;
 use ttx_header::PageId;
-use ttx_page::{Class, Item, Page, RowNumber};
+use ttx_page::{Class, Item, Page};
+use ttx_witness::page_items::item_of;
 use ttx_witness::{Certificate, Collected, NoMemory, Reason};
 
 // The number of the reason.
@@ -47,19 +47,6 @@ fn first_of(earlier: Option<Finding>, next: Option<Finding>) -> Option<Finding>
         Some(found)
     } else {
         Some(before)
-    }
-}
-
-// The item of this number in its page.
-fn item_at(number: u8) -> Item
-    requires { number < 26 }
-    ensures number { item_number result ≡ number }
-    ensures item { IsItem result }
-{
-    match number {
-        0 => Item::Head,
-        25 => Item::Links,
-        _ => Item::Row(RowNumber::new(number).unwrap()),
     }
 }
 
@@ -101,8 +88,8 @@ fn find_at(
     requires late { (certificate_of certificate.now).class ≡ Clearing → IsHeaderAnswer (slots_of cycle.now) (page_of page.now) (certificate_of certificate.now) late }
     ensures { IfOk result (λ found. IsFoundAt (slots_of cycle.now) (page_of page.now) (certificate_of certificate.now) number found) }
 {
-    let sent = collected.sent(index, item_at(number));
-    find_item(alloc, cycle, page, certificate, item_at(number), sent, late)
+    let sent = collected.sent(index, item_of(number));
+    find_item(alloc, cycle, page, certificate, item_of(number), sent, late)
 }
 
 // The first of what is found of the items of a page.

@@ -10,4 +10,4 @@ pub find_item-requires-clause-sent : goal.find_item-requires-clause-sent
 find_item-requires-clause-sent c =
     c.sent-sent.ensures.listed (slots_of c.args.cycle.now) c.requires.sent.pages (certificate_of c.args.certificate.now).lines (page_of c.args.page.now) c.requires.sent.sent c.requires.sent.here
     ∙ ap (sent_in (slots_of c.args.cycle.now) (page_of c.args.page.now).id (certificate_of c.args.certificate.now).lines)
-    (one_item c.item_at.result c.item_at-2.result c.item_at.ensures.item c.item_at-2.ensures.item (c.item_at.ensures.number ∙ sym c.item_at-2.ensures.number))
+    (one_item c.item_of.result c.item_of-2.result c.item_of.ensures.item c.item_of-2.ensures.item (c.item_of.ensures.number ∙ sym c.item_of-2.ensures.number))
