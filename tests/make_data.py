@@ -125,6 +125,16 @@ def services():
     }
 
 
+def edits_of_base():
+    """The worked cycle, edited."""
+    hidden = with_slot(with_slot(base(), 7, row(1, 5, b"\x0d" + SPACES[1:])), 8, EMPTY)
+    return {
+        "other-subpage.t42": with_slot(base(), 27, header(1, 0, 1)),
+        "row-6-hidden.t42": hidden,
+        "suppressed-clearing.t42": [header(1, 0, 0, 1 << 3), EMPTY, EMPTY, time_filling(1)],
+    }
+
+
 def certificate(deadline, repeat=1, rows=range(1, 24), more=None, at=(0,)):
     """A certificate of blank pages whose headers are sent at these slots, a field before their rows."""
 
@@ -135,6 +145,46 @@ def certificate(deadline, repeat=1, rows=range(1, 24), more=None, at=(0,)):
     named = {r: starts(r + 2) for r in rows} | (more or {})
     lines += [f"100/0000 row {r} {named[r]}" for r in sorted(named)]
     return "\n".join([*lines, f"100/0000 links {starts(26)}"]) + "\n"
+
+
+def turned_certificate(deadline):
+    """The certificate of the worked cycle turned by ten slots."""
+    lines = ["ttx certificate 1", "lines 2", "repeat 1", f"deadline {deadline}", "100/0000 head 18"]
+    lines += [f"100/0000 row {r} {r + 20 if r < 8 else r - 8}" for r in range(1, 24)]
+    return "\n".join([*lines, "100/0000 links 16"]) + "\n"
+
+
+def clearing_certificate(deadline, repeat=1, entries="100/0000 head 0\n"):
+    """A certificate for receivers that surely clear."""
+    return f"ttx certificate 2\nclass clearing\nlines 2\nrepeat {repeat}\ndeadline {deadline}\n{entries}"
+
+
+def certifying_texts():
+    """Certificates and services of further verdicts and refusals."""
+    head = "ttx certificate 1\nlines 2\n"
+    page = 'lines = 2\nserial = true\n[[page]]\nnumber = "100"\n'
+    return {
+        "base-repeat-2-40.cert": certificate(40, 2),
+        "no-row-6.cert": certificate(27, rows=[r for r in range(1, 24) if r != 6]),
+        "row-1-past-the-end.cert": certificate(27, more={1: "3 65535"}),
+        "turned.cert": turned_certificate(27),
+        "turned-26.cert": turned_certificate(26),
+        "head-alone.cert": head + "repeat 1\ndeadline 2\n100/0000 head 0\n",
+        "deadline-1000001.cert": head + "repeat 1\ndeadline 1000001\n",
+        "deadline-of-8-digits.cert": head + "repeat 1\ndeadline 10000000\n",
+        "deadline-01.cert": head + "repeat 1\ndeadline 01\n",
+        "repeat-9.cert": head + "repeat 9\n",
+        "class-any.cert": "ttx certificate 2\nclass any\nlines 2\nrepeat 1\ndeadline 2\n100/0000 head 0\n",
+        "clearing-1.cert": clearing_certificate(1),
+        "clearing-repeat-2.cert": clearing_certificate(4, 2),
+        "clearing-base.cert": clearing_certificate(14),
+        "clearing-no-entries.cert": clearing_certificate(2, entries=""),
+        "clearing-no-entries-1.cert": clearing_certificate(1, entries=""),
+        "two-subpages.toml": page + '[[page]]\nnumber = "100"\nsub = "0001"\n',
+        "row-6-hidden.toml": page + 'rows = {"5" = "\\u000D"}\n',
+        "option-1.toml": page + "option = 1\n",
+        "suppressed.toml": page + "suppress = true\n",
+    }
 
 
 def main():
@@ -160,7 +210,7 @@ def main():
         "bad-slot.t42": with_byte(base(), 4, 0, 0x03),
         "near-text.t42": with_slot(near_row, 2, row(1, 1, b"\xc1" + SPACES[1:])),
         "bad-parity.t42": [*base()[:3], row(1, 1, b"\xc1" + SPACES[1:]), row(1, 1, b"\xc0" + SPACES[1:])],
-    } | planned()
+    } | planned() | edits_of_base()
     for name, slots in files.items():
         (folder / name).write_bytes(b"".join(slots))
     (folder / "83-bytes").write_bytes(b"".join(base())[:83])
@@ -181,7 +231,7 @@ def main():
         "found-without-pages.cert": "ttx certificate 1\nlines 2\nrepeat 1\ndeadline 1\n",
         "no-entries.cert": "ttx certificate 1\nlines 2\nrepeat 1\ndeadline 27\n",
         "clearing.cert": "ttx certificate 2\nclass clearing\nlines 2\nrepeat 1\ndeadline 2\n100/0000 head 0\n",
-    } | services()
+    } | services() | certifying_texts()
     for name, text in texts.items():
         (folder / name).write_text(text)
     subpages = [sub for sub in range(0x3F7F) if sub & ~0x3F7F == 0][:1214]
