@@ -2,10 +2,11 @@
 -- name in `laws`.
 --
 --   HeaderIsKept            wrong bits leave the id and the control bits of a clean header as they are
---   HeadersHaveFields       what a slot of the kind header says is in range
+--   HasFields, HeadersHaveFields            what a slot of the kind header says is in range
 --   HeadersAreHeaders       a readable packet 0 has the kind header
 --   SaidHeadersAreRead      the header that 42 bytes say is the one that is read
---   WrittenHeadersAreRead   what is written is read again as the same header
+--   IsWritten, WrittenHeadersAreRead        what is written is read again as the same header
+--   AreNumbers              numbers of four bits
 --   WordsAreKept, ReadBytesAreReadable, ReadNumbersAreNumbers, WrittenWordsAreRead          the same for any part of a packet
 use Rattle.std.specs.Prelude.{◌≡◌, ℕ, ◌+◌, ◌<◌, ◌≤◌, List, [], ◌∷◌, ◌++◌, true, length, map, slice_index, slice_range}
 use Rattle.ttx_code.specs.Words.{reading, hamming_word, Near}

@@ -1,5 +1,5 @@
 -- Links one by one.
-use Rattle.std.proofs.Common.{ℕ, zero, suc, ◌<◌, List, [], ◌∷◌, Option, length, get_or, arith}
+use Rattle.std.proofs.Common.{ℕ, suc, ◌<◌, List, [], ◌∷◌, Option, length, get_or, arith}
 use Rattle.ttx_header.specs.Ids.{Id}
 use Rattle.ttx_links.specs.Sets.{IsLink, AreLinks}
 
