@@ -1,16 +1,13 @@
 #!/bin/sh
-# Times the program beside plain tools on the same files in the same run, and prints a table.
+# Times the program beside plain tools on the same files in the same run, and prints tables. Where pkg-config finds libzvbi
+# (zvbi-0.2), its teletext decoder is given the same packets.
 #
 # usage: bench.sh PROGRAM
 #
 # The files are made in a folder of their own, which is removed at the end. A time is the least of five runs, in milliseconds.
 set -u
-[ -x "$1" ] || { echo "no program at $1" >&2; exit 1; }
-program=$(realpath "$1")
-here=$(cd "$(dirname "$0")" && pwd)
-work=$(mktemp -d)
-trap 'rm -rf "$work"' EXIT
-python3 "$here/inputs.py" "$work"
+. "$(dirname "$0")/../tests/workplace.sh"
+python3 "$top/bench/inputs.py" "$work"
 cd "$work" || exit 1
 
 # the least time of five runs of a command, in microseconds
@@ -28,12 +25,22 @@ least() {
 
 tenths() { echo "$(($1 / 1000)).$(($1 / 100 % 10))"; }
 
-printf '%-10s %14s %14s %14s\n' slots 'inspect, ms' 'od, ms' 'sha256sum, ms'
+# the time that libzvbi's decoder takes for so many slots of a cycle, in milliseconds
+decoded() { if [ -x vbi ]; then tenths "$(least ./vbi "$1" "$2")"; else echo -; fi; }
+
+if flags=$(pkg-config --cflags --libs zvbi-0.2 2> /dev/null); then
+    cc -O2 -o vbi "$top/bench/vbi.c" $flags || exit 1
+else
+    echo "vbi_decode isn't timed: pkg-config finds no zvbi-0.2 (libzvbi-dev)"
+fi
+
+printf '%-10s %14s %14s %14s %14s\n' slots 'inspect, ms' 'od, ms' 'sha256sum, ms' 'vbi_decode, ms'
 for slots in 8192 16384 32768 65536; do
     inspect=$(least "$program" inspect "$slots.t42")
     dump=$(least od -An -tx1 -v "$slots.t42")
     hash=$(least sha256sum "$slots.t42")
-    printf '%-10s %14s %14s %14s\n' "$slots" "$(tenths "$inspect")" "$(tenths "$dump")" "$(tenths "$hash")"
+    printf '%-10s %14s %14s %14s %14s\n' "$slots" "$(tenths "$inspect")" "$(tenths "$dump")" "$(tenths "$hash")" \
+        "$(decoded "$slots.t42" "$slots")"
     [ "$slots" = 8192 ] && first=$inspect
     last=$inspect
 done
@@ -63,8 +70,9 @@ done
 echo "time at 65,536 slots over time at 8,192: find $((find * 10 / first_find / 10)).$((find * 10 / first_find % 10)), certify $((certify * 10 / first_certify / 10)).$((certify * 10 / first_certify % 10))"
 
 echo
-printf '%-34s %10s %14s\n' 'receive' 'ms' 'sha256sum, ms'
+printf '%-34s %10s %14s %14s\n' 'receive' 'ms' 'sha256sum, ms' 'vbi_decode, ms'
 receive=$(least "$program" receive 65536.t42 100 --slots 1000000)
 hash=$(least sha256sum 42-mb)
-printf '%-34s %10s %14s\n' '1,000,000 slots; 42,000,000 bytes' "$(tenths "$receive")" "$(tenths "$hash")"
+printf '%-34s %10s %14s %14s\n' '1,000,000 slots; 42,000,000 bytes' "$(tenths "$receive")" "$(tenths "$hash")" \
+    "$(decoded 65536.t42 1000000)"
 echo "receive: time over that of sha256sum: $((receive * 100 / hash)) percent (goal: at most 20)"

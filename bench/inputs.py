@@ -70,24 +70,13 @@ def cycle(slots, pages, lines, inhibit=False):
     return b"".join(out)
 
 
-def service(pages, lines, inhibit=False):
-    """A service of pages of 23 rows; where display is inhibited, no row is sent."""
+def inhibited_service(pages, lines):
+    """A service of pages of 23 rows whose display is inhibited, so that no row is sent."""
     out = [f"lines = {lines}", "serial = true", ""]
     for number, (mag, page, sub) in enumerate(page_ids(pages)):
         out += ["[[page]]", f'number = "{mag}{page:02X}"', f'sub = "{sub:04X}"', f'head = "PAGE {number}"']
-        out += ["inhibit = true"] if inhibit else []
-        out += ["[page.rows]"]
+        out += ["inhibit = true", "[page.rows]"]
         out += [f'{r} = "{text}"' for r, text in enumerate(body(number), 1)]
-        out.append("")
-    return "\n".join(out) + "\n"
-
-
-def full_service(pages, lines):
-    """Pages of which each row is forty characters long."""
-    out = [f"lines = {lines}", "serial = true", ""]
-    for mag, page, sub in page_ids(pages):
-        out += ["[[page]]", f'number = "{mag}{page:02X}"', f'sub = "{sub:04X}"', "[page.rows]"]
-        out += [f'{r} = "{"ABCDEFGHIJKLMNOPQRSTUVWXYZ 0123456789 AB"[:40]}"' for r in range(1, 24)]
         out.append("")
     return "\n".join(out) + "\n"
 
@@ -97,12 +86,10 @@ def main():
     folder.mkdir(parents=True, exist_ok=True)
     for slots, pages in ((8192, 250), (16384, 500), (32768, 1000), (65536, 2000)):
         (folder / f"{slots}.t42").write_bytes(cycle(slots, pages, 1))
-        (folder / f"{slots}.toml").write_text(service(pages, 1))
     for slots in (8192, 65536):
         (folder / f"inhibited-{slots}.t42").write_bytes(cycle(slots, 2000, 1, True))
-    (folder / "inhibited.toml").write_text(service(2000, 1, True))
+    (folder / "inhibited.toml").write_text(inhibited_service(2000, 1))
     (folder / "42-mb").write_bytes(bytes(42_000_000))
-    (folder / "full.toml").write_text(full_service(2000, 1))
     subpages = "".join(f'[[page]]\nnumber = "100"\nsub = "{sub:04X}"\n' for sub in subcodes(1213))
     (folder / "subpages.toml").write_text("lines = 2\nserial = true\n" + subpages)
 

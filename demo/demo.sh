@@ -3,13 +3,9 @@
 #
 # usage: demo.sh PROGRAM
 set -u
-[ -x "$1" ] || { echo "no program at $1" >&2; exit 1; }
-program=$(realpath "$1")
-here=$(cd "$(dirname "$0")/.." && pwd)
-work=$(mktemp -d)
-trap 'rm -rf "$work"' EXIT
-cp "$here/examples/broadcast.toml" "$here/tests/data/often-3.toml" "$work"
-cp "$here/tests/data/bad-slot.t42" "$here/tests/data/83-bytes" "$work"
+. "$(dirname "$0")/../tests/workplace.sh"
+cp "$top/examples/broadcast.toml" "$top/tests/data/often-3.toml" "$work"
+cp "$top/tests/data/bad-slot.t42" "$top/tests/data/83-bytes" "$work"
 cd "$work" || exit 1
 
 # a command, and all that it writes

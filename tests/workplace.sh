@@ -1,0 +1,7 @@
+# For scripts that are given a program as their first word: finds the program and the repository's top, and makes a folder
+# of the script's own, which is removed at the end.
+[ -x "$1" ] || { echo "no program at $1" >&2; exit 1; }
+program=$(realpath "$1")
+top=$(cd "$(dirname "$0")/.." && pwd)
+work=$(mktemp -d)
+trap 'rm -rf "$work"' EXIT
