@@ -7,24 +7,44 @@
 #   args      the words after the program's name, one a line
 #   data      names of files of tests/data that lie where the program runs, one a line
 #   padded    lines 'NAME FROM SIZE': where the program runs, NAME holds FROM of tests/data and then # up to SIZE bytes
+#   repeated  lines 'NAME FROM SIZE': the same, with FROM again and again up to SIZE bytes
 #   stdin     standard input, a name of tests/data or - for nothing (no such file: nothing)
 #   stdout    what it must print (no such file: nothing)
 #   stderr    what it must print to standard error (no such file: nothing; a file of one line '*': anything)
 #   status    the exit status (no such file: 0)
 #   out       pairs 'NAME WANTED': afterwards the file NAME must hold the bytes of WANTED of tests/data
-#   to        a device that takes standard output, as /dev/full (stdout isn't compared then)
+#   absent    names of files that mustn't be there afterwards, one a line
+#   to        a device that takes standard output, as /dev/full, or closed-pipe (stdout isn't compared then)
+#   errors-to the same of standard error, but for closed-pipe
 set -u
-[ -x "$1" ] || { echo "no program at $1" >&2; exit 1; }
-program=$(realpath "$1")
-here=$(cd "$(dirname "$0")" && pwd)
-work=$(mktemp -d)
-trap 'rm -rf "$work"' EXIT
+. "$(dirname "$0")/workplace.sh"
+here=$top/tests
 count=0
 failed=0
 
 fail() {
     echo "FAILED $name: $1"
     failed=$((failed + 1))
+}
+
+# NAME holds FROM again and again, up to SIZE bytes
+repeat() {
+    cat "$2" > "$1"
+    while [ "$(wc -c < "$1")" -lt "$3" ]; do
+        cat "$1" "$1" > "$1.more"
+        mv "$1.more" "$1"
+    done
+    truncate -s "$3" "$1"
+}
+
+# standard output of a case: to a file or a device, or to a pipe that nobody reads
+open_output() {
+    if [ "$1" = closed-pipe ]; then
+        mkfifo "$place/pipe"
+        exec 4<> "$place/pipe" 3> "$place/pipe" 4>&-
+    else
+        exec 3> "$1"
+    fi
 }
 
 for case in "$here"/cases/*/; do
@@ -40,6 +60,9 @@ for case in "$here"/cases/*/; do
             { cat "$here/data/$from"; head -c "$size" /dev/zero | tr '\0' '#'; } | head -c "$size" > "$place/in/$file"
         done < "$case/padded"
     fi
+    if [ -f "$case/repeated" ]; then
+        while read -r file from size; do repeat "$place/in/$file" "$here/data/$from" "$size"; done < "$case/repeated"
+    fi
     input=/dev/null
     if [ -f "$case/stdin" ]; then
         read -r file < "$case/stdin"
@@ -47,17 +70,21 @@ for case in "$here"/cases/*/; do
     fi
     output=$place/stdout
     [ -f "$case/to" ] && read -r output < "$case/to"
+    errors=$place/stderr
+    [ -f "$case/errors-to" ] && read -r errors < "$case/errors-to"
     set --
     if [ -f "$case/args" ]; then
         while IFS= read -r word; do set -- "$@" "$word"; done < "$case/args"
     fi
-    (cd "$place/in" && timeout 120 "$program" "$@" < "$input" > "$output" 2> "$place/stderr")
+    open_output "$output"
+    (cd "$place/in" && timeout 120 "$program" "$@" < "$input" >&3 3>&- 2> "$errors")
     status=$?
+    exec 3>&-
     wanted=0
     [ -f "$case/status" ] && read -r wanted < "$case/status"
     [ "$status" = "$wanted" ] || fail "status $status, not $wanted"
     for stream in stdout stderr; do
-        [ "$stream" = stdout ] && [ -f "$case/to" ] && continue
+        [ -f "$place/$stream" ] || continue
         expected=/dev/null
         [ -f "$case/$stream" ] && expected=$case/$stream
         [ "$(head -c 2 "$expected")" = "*" ] && continue
@@ -68,12 +95,15 @@ for case in "$here"/cases/*/; do
             cmp -s "$place/in/$file" "$here/data/$wanted" || fail "$file isn't $wanted"
         done < "$case/out"
     fi
+    if [ -f "$case/absent" ]; then
+        while read -r file; do [ ! -e "$place/in/$file" ] || fail "there is a file $file"; done < "$case/absent"
+    fi
 done
 
 name=demo
 count=$((count + 1))
-sh "$here/../demo/demo.sh" "$program" > "$work/demo" 2>&1
-cmp -s "$here/../demo/expected" "$work/demo" || fail "it prints something else than demo/expected"
+sh "$top/demo/demo.sh" "$program" > "$work/demo" 2>&1
+cmp -s "$top/demo/expected" "$work/demo" || fail "it prints something else than demo/expected"
 
 echo "cli: $count cases, $failed failed"
 [ "$count" -gt 0 ] && [ "$failed" = 0 ]

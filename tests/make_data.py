@@ -135,6 +135,23 @@ def edits_of_base():
     }
 
 
+def refused_services():
+    """A service for each fault that a value of a page or of the service can have."""
+    serial = "lines = 2\nserial = true\n"
+    page = serial + '[[page]]\nnumber = "100"\n'
+    return {
+        "no-number.toml": serial + "[[page]]\n",
+        "kind-of-lines.toml": 'lines = "2"\n',
+        "page-1ff.toml": serial + '[[page]]\nnumber = "1FF"\n',
+        "subcode-0080.toml": page + 'sub = "0080"\n',
+        "page-again.toml": page + '[[page]]\nnumber = "100"\n',
+        "row-of-41.toml": page + 'rows = { "1" = "' + "A" * 41 + '" }\n',
+        "accent.toml": page + 'rows = { "1" = "\u00e9" }\n',
+        "lines-33.toml": "lines = 33\n",
+        "row-25.toml": page + 'rows = { "25" = "" }\n',
+    }
+
+
 def certificate(deadline, repeat=1, rows=range(1, 24), more=None, at=(0,)):
     """A certificate of blank pages whose headers are sent at these slots, a field before their rows."""
 
@@ -231,7 +248,7 @@ def main():
         "found-without-pages.cert": "ttx certificate 1\nlines 2\nrepeat 1\ndeadline 1\n",
         "no-entries.cert": "ttx certificate 1\nlines 2\nrepeat 1\ndeadline 27\n",
         "clearing.cert": "ttx certificate 2\nclass clearing\nlines 2\nrepeat 1\ndeadline 2\n100/0000 head 0\n",
-    } | services() | certifying_texts()
+    } | services() | refused_services() | certifying_texts()
     for name, text in texts.items():
         (folder / name).write_text(text)
     subpages = [sub for sub in range(0x3F7F) if sub & ~0x3F7F == 0][:1214]
