@@ -13,6 +13,9 @@ use ttx_tool::{Order, ToolFault, WordsFault, commands, words};
 // The status of a fault, also where standard error takes no line.
 const FAULT: u8 = 3;
 
+// The status of refused words.
+const REFUSED: u8 = 2;
+
 // Says that a file can't be opened, and answers the status.
 fn file_fault(rt: &HostRuntime) -> u8 {
     let _ = rt.eprintln("fault: file");
@@ -39,19 +42,32 @@ fn execute(rt: &HostRuntime, order: &Order<'_>) -> u8 {
 }
 
 // Says why words are refused: help on standard output, all else on standard error.
-fn refuse(rt: &HostRuntime, fault: &WordsFault) -> u8 {
+fn refuse(rt: &HostRuntime, fault: &WordsFault) -> Result<u8, ToolFault> {
     let shows_help = match fault {
         WordsFault::Refused(error) => !error.use_stderr(),
         _ => false,
     };
-    let reported = if shows_help {
+    if shows_help {
         let mut output = Counted::new(io::writer(rt));
         commands::report_words(rt.alloc(), fault, &mut output)
     } else {
         let mut errors = Counted::new(rt.stderr());
         commands::report_words(rt.alloc(), fault, &mut errors)
-    };
-    reported.unwrap_or(FAULT)
+    }
+}
+
+// Says why the words can't be had, and answers the status: they aren't all UTF-8, or memory is wanting.
+fn words_fault(rt: &HostRuntime, error: &io::Error) -> u8 {
+    match error.kind() {
+        io::ErrorKind::InvalidData => {
+            let _ = rt.eprintln("error: invalid UTF-8 was detected in one or more arguments");
+            REFUSED
+        }
+        _ => {
+            let _ = rt.eprintln("fault: memory");
+            FAULT
+        }
+    }
 }
 
 fn run(rt: &HostRuntime) -> io::Result<u8> {
@@ -62,16 +78,13 @@ fn run(rt: &HostRuntime) -> io::Result<u8> {
     }
     match words(rt.alloc(), texts.as_slice()) {
         Ok(order) => Ok(execute(rt, &order)),
-        Err(fault) => Ok(refuse(rt, &fault)),
+        Err(fault) => Ok(status_of(rt, refuse(rt, &fault))),
     }
 }
 
 fn main(rt: HostRuntime) -> ExitCode {
     match run(&rt) {
         Ok(status) => ExitCode::from(status),
-        Err(_) => {
-            let _ = rt.eprintln("fault: memory");
-            ExitCode::from(FAULT)
-        }
+        Err(error) => ExitCode::from(words_fault(&rt, &error)),
     }
 }

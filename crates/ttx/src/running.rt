@@ -146,48 +146,68 @@ fn find(
     )
 }
 
+// Opens the service, makes the cycle's file anew, and plans.
+fn open_plan(
+    rt: &HostRuntime,
+    service: &str,
+    out: &str,
+    class: Class,
+) -> io::Result<Result<u8, ToolFault>> {
+    let service = open_input(rt, service)?;
+    let file = File::create(rt, out)?;
+    Ok(plan(rt, service, class, file))
+}
+
+// Opens the cycle and the service, makes the certificate's file anew, and finds.
+fn open_find(
+    rt: &HostRuntime,
+    cycle: &str,
+    service: &str,
+    repeat: u8,
+    class: Class,
+    out: &str,
+) -> io::Result<Result<u8, ToolFault>> {
+    let cycle = open_input(rt, cycle)?;
+    let service = open_input(rt, service)?;
+    let file = File::create(rt, out)?;
+    Ok(find(rt, cycle, service, repeat, class, file))
+}
+
+// Opens the cycle, the service and the certificate, and certifies.
+fn open_certify(
+    rt: &HostRuntime,
+    cycle: &str,
+    service: &str,
+    certificate: &str,
+) -> io::Result<Result<u8, ToolFault>> {
+    let cycle = open_input(rt, cycle)?;
+    let service = open_input(rt, service)?;
+    let certificate = open_input(rt, certificate)?;
+    Ok(certify(rt, cycle, service, certificate))
+}
+
 /// Opens the inputs in the order of the words, makes the output file anew, and runs the command. An error is that of a file
 /// that can't be opened.
 pub fn run_order(rt: &HostRuntime, order: &Order<'_>) -> io::Result<Result<u8, ToolFault>> {
     match order {
-        Order::Inspect { file } => {
-            let input = open_input(rt, file)?;
-            Ok(inspect(rt, input))
-        }
+        Order::Inspect { file } => Ok(inspect(rt, open_input(rt, file)?)),
         Order::Plan {
             service,
             out,
             class,
-        } => {
-            let input = open_input(rt, service)?;
-            let file = File::create(rt, out)?;
-            Ok(plan(rt, input, *class, file))
-        }
+        } => open_plan(rt, service, out, *class),
         Order::Find {
             cycle,
             service,
             out,
             repeat,
             class,
-        } => {
-            let cycle = open_input(rt, cycle)?;
-            let service = open_input(rt, service)?;
-            let file = File::create(rt, out)?;
-            Ok(find(rt, cycle, service, *repeat, *class, file))
-        }
-        Order::Receive { cycle, tuning } => {
-            let input = open_input(rt, cycle)?;
-            Ok(receive(rt, input, tuning))
-        }
+        } => open_find(rt, cycle, service, *repeat, *class, out),
+        Order::Receive { cycle, tuning } => Ok(receive(rt, open_input(rt, cycle)?, tuning)),
         Order::Certify {
             cycle,
             service,
             certificate,
-        } => {
-            let cycle = open_input(rt, cycle)?;
-            let service = open_input(rt, service)?;
-            let certificate = open_input(rt, certificate)?;
-            Ok(certify(rt, cycle, service, certificate))
-        }
+        } => open_certify(rt, cycle, service, certificate),
     }
 }
