@@ -104,7 +104,7 @@ impl<'a> FaultyWriter<'a> {
 }
 
 impl Write for FaultyWriter<'_> {
-    ghost use Rattle.std.specs.Prelude.{Some, take};
+    ghost use Rattle.std.specs.Prelude.{◌≡◌, Some, take, is_ok, true};
     ghost use Rattle.std.specs.Io.{WritesAtMost};
     ghost use Rattle.std.specs.Io.KnownBytes.{WriteAppends, Keeps};
     ghost use Rattle.ttx_cycle.specs.Faulty.{sink_of, Takes};
@@ -134,6 +134,8 @@ impl Write for FaultyWriter<'_> {
 
     fn flush(&mut self) -> io::Result<()>
         ensures bytes { Keeps (Some (sink_of self.old).taken) (Some (sink_of self.new).taken) }
+        ensures sink { sink_of self.new ≡ sink_of self.old }
+        ensures answer { is_ok result ≡ true }
     {
         Ok(())
     }

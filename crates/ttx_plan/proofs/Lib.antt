@@ -20,3 +20,4 @@ pub mod AllRead
 pub mod OwnRows
 pub mod Placing
 pub mod Planned
+pub mod Onward

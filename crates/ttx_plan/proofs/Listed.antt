@@ -7,18 +7,32 @@ use Rattle.std.proofs.lemmas.List.{map-append, length-map}
 use Rattle.std.proofs.lemmas.List.Sums.{sum_by-cons, sum_by-append}
 use Rattle.ttx_page.specs.declared.class.Class.{Class}
 use Rattle.ttx_page.specs.declared.page.Page.{Page as PageValue}
+use Rattle.ttx_page.specs.Pages.{Page}
 use Rattle.ttx_page.specs.Views.{page_of}
 use Rattle.ttx_source.specs.Keys.{is_often}
 use Rattle.ttx_source.specs.Services.{Authored, authored_at, IsAuthored}
 use Rattle.ttx_plan.specs.Blocks.{Block, has_pages, used_to}
 use Rattle.ttx_plan.specs.Carries.{block_at, blocks_of}
 use Rattle.ttx_plan.specs.Ranges.{IsOften}
-use Rattle.ttx_plan.specs.Seen.{used_by}
+use Rattle.ttx_plan.specs.Seen.{seen, used_by}
+use Rattle.ttx_plan.specs.declared.block.PageBlock.{PageBlock}
 use Rattle.ttx_plan.proofs.Often.{AreOften}
 
 either : (a b : Bool) → (a || b) ≡ true → (a ≡ true) ⊎ (b ≡ true)
 either true b e = inl refl
 either false b e = inr e
+
+once : IsOften 1
+once = record { some = omega arith; most = omega arith; divides = refl }
+
+twice : IsOften 2
+twice = record { some = omega arith; most = omega arith; divides = refl }
+
+four_times : IsOften 4
+four_times = record { some = omega arith; most = omega arith; divides = refl }
+
+eight_times : IsOften 8
+eight_times = record { some = omega arith; most = omega arith; divides = refl }
 
 often_one : (n m : ℕ) → IsOften m → eqb n m ≡ true → IsOften n
 often_one n m o e = subst IsOften (sym (eqb-true n m e)) o
@@ -27,12 +41,12 @@ pub often_ranges : (n : ℕ) → is_often n ≡ true → IsOften n
 often_ranges n e = elim (either ((eqb n 1 || eqb n 2) || eqb n 4) (eqb n 8) e) as (λ _. IsOften n) [
   | inl a ↦ elim (either (eqb n 1 || eqb n 2) (eqb n 4) a) as (λ _. IsOften n) [
     | inl b ↦ elim (either (eqb n 1) (eqb n 2) b) as (λ _. IsOften n) [
-      | inl x ↦ often_one n 1 (record { some = omega arith; most = omega arith; divides = refl }) x
-      | inr x ↦ often_one n 2 (record { some = omega arith; most = omega arith; divides = refl }) x
+      | inl x ↦ often_one n 1 once x
+      | inr x ↦ often_one n 2 twice x
     ]
-    | inr x ↦ often_one n 4 (record { some = omega arith; most = omega arith; divides = refl }) x
+    | inr x ↦ often_one n 4 four_times x
   ]
-  | inr x ↦ often_one n 8 (record { some = omega arith; most = omega arith; divides = refl }) x
+  | inr x ↦ often_one n 8 eight_times x
 ]
 
 pub get_there : {A : Type 0} (xs : List A) (i : ℕ) (x d : A) → i < length xs → x ≡ get_or xs i d → slice_get xs i ≡ Some x
@@ -40,23 +54,27 @@ get_there [] i x d lt e = absurd (omega arith)
 get_there (y ∷ xs) zero x d lt e = ap Some (sym e)
 get_there (y ∷ xs) (suc i) x d lt e = get_there xs i x d (omega arith) e
 
--- the page at an index
-pub page_at_index : (values : List PageValue) (pages : List Authored) (i often : ℕ) (value : PageValue) → map page_of values ≡ map (λ p. p.page) pages → slice_get values i ≡ Some value →
-    option_map (λ p. p.often) (slice_get pages i) ≡ Some often → slice_get pages i ≡ Some (authored_at (page_of value) often)
-page_at_index [] pages i often value same v o = let e : None ≡ Some value = v in cc
-page_at_index (x ∷ values) [] i often value same v o = let e : None ≡ Some often = o in cc
-page_at_index (x ∷ values) (p ∷ pages) zero often value same v o =
+-- the page at an index, of values that a function shows as pages
+at_index : {A : Type 0} (view : A → Page) (values : List A) (pages : List Authored) (i often : ℕ) (value : A) → map view values ≡ map (λ p. p.page) pages → slice_get values i ≡ Some value →
+    option_map (λ p. p.often) (slice_get pages i) ≡ Some often → slice_get pages i ≡ Some (authored_at (view value) often)
+at_index view [] pages i often value same v o = let e : None ≡ Some value = v in cc
+at_index view (x ∷ values) [] i often value same v o = let e : None ≡ Some often = o in cc
+at_index view (x ∷ values) (p ∷ pages) zero often value same v o =
     let first : Some x ≡ Some value = v in
     let times : Some p.often ≡ Some often = o in
     let is : x ≡ value = cc in
     let so_often : p.often ≡ often = cc in
-    let e : page_of x ∷ map page_of values ≡ p.page ∷ map (λ p. p.page) pages = same in
-    let page : page_of x ≡ p.page = cc in
-    ap (λ q. Some (authored_at q p.often)) (sym page) ∙ ap (λ q. Some (authored_at (page_of q) p.often)) is ∙ ap (λ n. Some (authored_at (page_of value) n)) so_often
-page_at_index (x ∷ values) (p ∷ pages) (suc i) often value same v o =
-    let e : page_of x ∷ map page_of values ≡ p.page ∷ map (λ p. p.page) pages = same in
-    let rest : map page_of values ≡ map (λ p. p.page) pages = cc in
-    page_at_index values pages i often value rest v o
+    let e : view x ∷ map view values ≡ p.page ∷ map (λ p. p.page) pages = same in
+    let page : view x ≡ p.page = cc in
+    ap (λ q. Some (authored_at q p.often)) (sym page) ∙ ap (λ q. Some (authored_at (view q) p.often)) is ∙ ap (λ n. Some (authored_at (view value) n)) so_often
+at_index view (x ∷ values) (p ∷ pages) (suc i) often value same v o =
+    let e : view x ∷ map view values ≡ p.page ∷ map (λ p. p.page) pages = same in
+    let rest : map view values ≡ map (λ p. p.page) pages = cc in
+    at_index view values pages i often value rest v o
+
+pub page_at_index : (values : List PageValue) (pages : List Authored) (i often : ℕ) (value : PageValue) → map page_of values ≡ map (λ p. p.page) pages → slice_get values i ≡ Some value →
+    option_map (λ p. p.often) (slice_get pages i) ≡ Some often → slice_get pages i ≡ Some (authored_at (page_of value) often)
+page_at_index = at_index page_of
 
 there : {A : Type 0} (xs : List A) (i : ℕ) (x d : A) → slice_get xs i ≡ Some x → (i < length xs) × (get_or xs i d ≡ x)
 there [] i x d e = let f : None ≡ Some x = e in cc
@@ -113,6 +131,12 @@ used_same class values pages (suc n) same =
 
 pub same_lengths : (values : List PageValue) (pages : List Authored) → map page_of values ≡ map (λ p. p.page) pages → length values ≡ length pages
 same_lengths values pages e = sym (length-map values page_of) ∙ ap length e ∙ length-map pages (λ p. p.page)
+
+-- a service with pages has blocks
+pub some_blocks : (class : Class) (pages : List Authored) (blocks : List PageBlock) → map seen blocks ≡ blocks_of class pages → (pages ≡ [] → ⊥) → 0 < length blocks
+some_blocks class [] blocks e some = absurd (some refl)
+some_blocks class (p ∷ pages) [] e some = let f : [] ≡ block_at class p ∷ blocks_of class pages = e in cc
+some_blocks class (p ∷ pages) (b ∷ blocks) e some = omega arith
 
 -- a product of two small numbers
 pub product_most : (n m : ℕ) → n ≤ 8 → m ≤ 26 → n * m ≤ 208

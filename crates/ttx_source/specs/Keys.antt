@@ -54,6 +54,14 @@ mjd table = integer_at (codes "mjd") 0 99999 table
 abbrev pub utc : Members → Result ℕ Fault
 utc table = integer_at (codes "utc") 0 999999 table
 
+-- the local offset, the date and the time
+unfoldable pub clock_of : Members → Result ((ℕ × Bool) × (ℕ × ℕ)) Fault
+clock_of table = do
+  offset ← halves table
+  date ← mjd table
+  time ← utc table
+  Ok (offset, (date, time))
+
 -- the status display
 abbrev pub text : Members → Result (List ℕ) Fault
 text table = with_default (codes "text") as_str [] table >>= characters 20
@@ -64,11 +72,9 @@ info_of table = do
   number ← designation table
   page ← initial table
   code ← network table
-  offset ← halves table
-  date ← mjd table
-  time ← utc table
+  clock ← clock_of table
   status ← text table
-  Ok (info_at number page code offset.0 offset.1 date time status)
+  Ok (info_at number page code clock.0.0 clock.0.1 clock.1.0 clock.1.1 status)
 
 -- the packet 8/30 of a service, which may have none
 abbrev pub info_in : Option Data → Result (Option InfoFields) Fault
@@ -103,23 +109,29 @@ national number = 256 * (number / 4) + 512 * (number / 2 % 2) + 1024 * (number %
 abbrev pub flag : List ℕ → Members → Result Bool Fault
 flag key table = with_default key as_bool false table
 
--- the control bits C5 to C10 of a page
-unfoldable pub flags_of : Members → Result ℕ Fault
-flags_of table = do
+-- the control bits C5 to C7 of a page
+unfoldable pub lower_flags_of : Members → Result ℕ Fault
+lower_flags_of table = do
   newsflash ← flag (codes "newsflash") table
   subtitle ← flag (codes "subtitle") table
   suppress ← flag (codes "suppress") table
+  Ok (bit_at 2 newsflash + bit_at 4 subtitle + bit_at 8 suppress)
+
+-- the control bits C8 to C10 of a page
+unfoldable pub upper_flags_of : Members → Result ℕ Fault
+upper_flags_of table = do
   update ← flag (codes "update") table
   interrupted ← flag (codes "interrupted") table
   inhibit ← flag (codes "inhibit") table
-  Ok (bit_at 2 newsflash + bit_at 4 subtitle + bit_at 8 suppress + bit_at 16 update + bit_at 32 interrupted + bit_at 64 inhibit)
+  Ok (bit_at 16 update + bit_at 32 interrupted + bit_at 64 inhibit)
 
 -- all control bits of a page, with C11 as the service has it
 unfoldable pub control_of : Bool → Members → Result ℕ Fault
 control_of is_serial table = do
   number ← option table
-  flags ← flags_of table
-  Ok (flags + bit_at 128 is_serial + national number)
+  lower ← lower_flags_of table
+  upper ← upper_flags_of table
+  Ok (lower + upper + bit_at 128 is_serial + national number)
 
 -- row 0 from column 8 to 31
 abbrev pub head : Members → Result (List ℕ) Fault

@@ -38,24 +38,35 @@ fn national(option: u32) -> u16
         + bit_at(Control::C14, option % 2 == 1)
 }
 
-// The control bits C5 to C10 of a page.
-#[tactic(auto, unfolding(crate::specs::Keys::flags_of))]
-fn flags(page: &Table) -> Result<u16, SourceFault>
-    ensures value { outcome (λ n. n) result ≡ rule.flags_of (table_view page.now) }
+// The control bits C5 to C7 of a page.
+#[tactic(auto, unfolding(crate::specs::Keys::lower_flags_of))]
+fn lower_flags(page: &Table) -> Result<u16, SourceFault>
+    ensures value { outcome (λ n. n) result ≡ rule.lower_flags_of (table_view page.now) }
     ensures place { IfOk result (λ n. n % 2 ≡ 0) }
-    ensures most { IfOk result (λ n. n ≤ 126) }
+    ensures most { IfOk result (λ n. n ≤ 14) }
 {
     let newsflash = flag(page, "newsflash")?;
     let subtitle = flag(page, "subtitle")?;
     let suppress = flag(page, "suppress")?;
+    Ok(
+        bit_at(Control::C5, newsflash)
+            + bit_at(Control::C6, subtitle)
+            + bit_at(Control::C7, suppress),
+    )
+}
+
+// The control bits C8 to C10 of a page.
+#[tactic(auto, unfolding(crate::specs::Keys::upper_flags_of))]
+fn upper_flags(page: &Table) -> Result<u16, SourceFault>
+    ensures value { outcome (λ n. n) result ≡ rule.upper_flags_of (table_view page.now) }
+    ensures place { IfOk result (λ n. n % 16 ≡ 0) }
+    ensures most { IfOk result (λ n. n ≤ 112) }
+{
     let update = flag(page, "update")?;
     let interrupted = flag(page, "interrupted")?;
     let inhibit = flag(page, "inhibit")?;
     Ok(
-        bit_at(Control::C5, newsflash)
-            + bit_at(Control::C6, subtitle)
-            + bit_at(Control::C7, suppress)
-            + bit_at(Control::C8, update)
+        bit_at(Control::C8, update)
             + bit_at(Control::C9, interrupted)
             + bit_at(Control::C10, inhibit),
     )
@@ -68,6 +79,6 @@ pub fn control(page: &Table, serial: bool) -> Result<Control, SourceFault>
     ensures ranges { IfOk result (λ c. IsControl c.0 × (c4 c.0 ≡ false) × (c11 c.0 ≡ serial)) }
 {
     let option = option(page)?;
-    let flags = flags(page)?;
+    let flags = lower_flags(page)? + upper_flags(page)?;
     Ok(Control(flags + bit_at(Control::C11, serial) + national(option)))
 }

@@ -48,6 +48,20 @@ fn halves(info: &Table) -> Result<(u8, bool), SourceFault>
     }
 }
 
+// The local offset as `halves` has it, and the date and the time.
+#[tactic(auto, unfolding(crate::specs::Keys::clock_of))]
+fn clock(info: &Table) -> Result<((u8, bool), (u32, u32)), SourceFault>
+    ensures value { outcome (λ c. c) result ≡ rule.clock_of (table_view info.now) }
+    ensures offset { IfOk result (λ c. c.0.0 < 32) }
+    ensures date { IfOk result (λ c. c.1.0 ≤ 99999) }
+    ensures time { IfOk result (λ c. c.1.1 ≤ 999999) }
+{
+    let offset = halves(info)?;
+    let mjd = integer(info, "mjd", 0, 99_999)?;
+    let utc = integer(info, "utc", 0, 999_999)?;
+    Ok((offset, (mjd, utc)))
+}
+
 fn status(info: &Table) -> Result<[u8; 20], SourceFault>
     ensures value { outcome (λ t. t) result ≡ rule.text (table_view info.now) }
     ensures codes { IfOk result (λ t. (c : ℕ) → slice_index t c < 128) }
@@ -66,9 +80,7 @@ fn info_of(table: &Table) -> Result<Info, SourceFault>
         Err(fault) => return Err(fault),
     };
     let network = network(table)?;
-    let (halves, west) = halves(table)?;
-    let mjd = integer(table, "mjd", 0, 99_999)?;
-    let utc = integer(table, "utc", 0, 999_999)?;
+    let ((halves, west), (mjd, utc)) = clock(table)?;
     let text = status(table)?;
     let info = Info::new(designation, initial, network, halves, west, mjd, utc, text);
     Ok(info.unwrap())

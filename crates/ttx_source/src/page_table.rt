@@ -43,11 +43,12 @@ fn often(page: &Table) -> Result<u8, SourceFault>
     ensures value { outcome (λ n. n) result ≡ rule.often (table_view page.now) }
     ensures range { IfOk result (λ n. rule.is_often n ≡ true) }
 {
-    let number = integer_or(page, "often", 1)?;
-    if number == 1 || number == 2 || number == 4 || number == 8 {
-        Ok(number as u8)
-    } else {
-        Err(SourceFault::Often)
+    match integer_or(page, "often", 1)? {
+        1 => Ok(1),
+        2 => Ok(2),
+        4 => Ok(4),
+        8 => Ok(8),
+        _ => Err(SourceFault::Often),
     }
 }
 

@@ -5,9 +5,10 @@ use Rattle.std.proofs.lemmas.Bool.{cond-true, cond-false}
 use Rattle.ttx_plan.specs.declared.packet.Packet.{Packet}
 use Rattle.ttx_plan.specs.Blocks.{packets_of, sent_blocks, has_pages, time_filling_packet}
 use Rattle.ttx_plan.specs.Seen.{seen}
+use Rattle.ttx_plan.proofs.Onward.{own_more, other_more}
 use Rattle.ttx_plan.proofs.Used.{any_seen}
 use Rattle.ttx_plan.proofs.rounds.queue_packets.Goals as goal
-use Rattle.ttx_plan.proofs.rounds.queue_packets.Goals.{then-has_pages+in_ok-push, else-has_pages}
+use Rattle.ttx_plan.proofs.rounds.queue_packets.Goals.{then-has_pages+in_ok-push, else-has_pages, then-block-queue+in_ok-push_block, else-block-queue}
 
 pub returns : goal.returns
 returns c =
@@ -24,3 +25,13 @@ returns c =
           ap (λ x. x.items) w.packets-is ∙ sent ∙ sym (append-nil of_blocks)
           ∙ ap (λ x. of_blocks ++ x) (sym (cond-false (has_pages (map seen c.args.blocks.now) c.args.queue) (time_filling_packet false c.args.queue ∷ []) [] (sym (any_seen _ c.args.blocks.now) ∙ sym c.has_pages.ensures ∙ w.if-has_pages.false)))
     ]
+
+pub loop-block-preserved : goal.loop-block-preserved
+loop-block-preserved c = elim c.if-block-queue.branch [
+  | then-block-queue+in_ok-push_block w ↦
+      ap (λ x. x.items) w.packets-is ∙ w.in_ok-push_block.ensures ∙ ap (λ x. x ++ packets_of (seen c.block-item.result.now)) c.loop-block.invariant
+      ∙ own_more c.args.queue c.args.sent.now c.loop-block.block-index c.block-item.result c.loop-block-test.true c.block-item.is w.if-block-queue.true
+  | else-block-queue w ↦
+      ap (λ x. x.items) w.packets-is ∙ c.loop-block.invariant
+      ∙ other_more c.args.queue c.args.sent.now c.loop-block.block-index c.block-item.result c.loop-block-test.true c.block-item.is w.if-block-queue.false
+]

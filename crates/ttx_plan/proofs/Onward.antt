@@ -1,0 +1,58 @@
+-- Lists that grow by what is sent of one element more.
+use Rattle.std.proofs.Common.{◌≡◌, ℕ, ◌+◌, ◌<◌, ◌≤◌, List, [], ◌∷◌, ◌++◌, Bor, cond, eqb, map, length, take, get_or, replicate, sym, ap, ◌∙◌, subst, append_assoc, append-nil, take_all}
+use Rattle.std.specs.Prelude.{flat_map}
+use Rattle.std.proofs.lemmas.Bool.{cond-true, cond-false, eq-eqb, ne_eqb}
+use Rattle.std.proofs.lemmas.Grind.{flat_map-append}
+use Rattle.std.proofs.lemmas.List.{map-append, take_more, replicate_more}
+use Rattle.ttx_plan.specs.declared.block.PageBlock.{PageBlock}
+use Rattle.ttx_plan.specs.declared.packet.Packet.{Packet}
+use Rattle.ttx_plan.specs.Blocks.{Block, packets_of}
+use Rattle.ttx_plan.specs.Seen.{seen}
+
+-- ---- a first element, the same some times, and then the others
+
+pub same_more : {B : Type 0} (list : List B) (first again : B) (n : ℕ) → (list ++ first ∷ replicate n again) ++ again ∷ [] ≡ list ++ first ∷ replicate (n + 1) again
+same_more list first again n = append_assoc list (first ∷ replicate n again) (again ∷ []) ∙ ap (λ x. list ++ first ∷ x) (replicate_more n again)
+
+pub others_begin : {B : Type 0} (list : List B) (first again : B) (n m : ℕ) → n ≡ m → list ++ first ∷ replicate n again ≡ list ++ first ∷ (replicate m again ++ [])
+others_begin list first again n m e = ap (λ k. list ++ first ∷ replicate k again) e ∙ ap (λ x. list ++ first ∷ x) (sym (append-nil (replicate m again)))
+
+pub others_more : {A B : Type 0} (list : List B) (first : B) (between : List B) (sent : A → B) (xs ys : List A) (i : ℕ) (d : A) → ys ≡ xs → i < length ys →
+    (list ++ first ∷ (between ++ map sent (take i xs))) ++ sent (get_or ys i d) ∷ [] ≡ list ++ first ∷ (between ++ map sent (take (i + 1) xs))
+others_more list first between sent xs ys i d same here =
+    ap (λ zs. (list ++ first ∷ (between ++ map sent (take i xs))) ++ sent (get_or zs i d) ∷ []) same
+    ∙ append_assoc list (first ∷ (between ++ map sent (take i xs))) (sent (get_or xs i d) ∷ [])
+    ∙ ap (λ z. list ++ first ∷ z) (append_assoc between (map sent (take i xs)) (sent (get_or xs i d) ∷ []))
+    ∙ ap (λ z. list ++ first ∷ (between ++ z)) (sym (map-append sent (take i xs) (get_or xs i d ∷ [])))
+    ∙ ap (λ z. list ++ first ∷ (between ++ map sent z)) (sym (take_more xs i d (subst (λ zs. i < length zs) same here)))
+
+pub others_end : {A B : Type 0} (list : List B) (first : B) (between : List B) (sent : A → B) (xs ys : List A) (i : ℕ) → ys ≡ xs → length ys ≤ i →
+    list ++ first ∷ (between ++ map sent (take i xs)) ≡ list ++ first ∷ (between ++ map sent xs)
+others_end list first between sent xs ys i same past = ap (λ z. list ++ first ∷ (between ++ map sent z)) (take_all i xs (subst (λ zs. length zs ≤ i) same past))
+
+-- ---- the packets of a queue, block by block
+
+abbrev pub of_queue : ℕ → Block → List Packet
+of_queue queue b = cond (eqb b.queue queue) (packets_of b) []
+
+more : (queue : ℕ) (sent : List (Bor PageBlock)) (i : ℕ) (b : Bor PageBlock) → i < length sent → b ≡ get_or sent i b →
+    flat_map (of_queue queue) (map (λ b. seen b.now) (take i sent)) ++ of_queue queue (seen b.now) ≡ flat_map (of_queue queue) (map (λ b. seen b.now) (take (i + 1) sent))
+more queue sent i b here is =
+    ap (λ x. flat_map (of_queue queue) (map (λ b. seen b.now) (take i sent)) ++ x) (sym (append-nil (of_queue queue (seen b.now))))
+    ∙ sym (flat_map-append (of_queue queue) (map (λ b. seen b.now) (take i sent)) (seen b.now ∷ []))
+    ∙ ap (flat_map (of_queue queue)) (sym (map-append (λ b. seen b.now) (take i sent) (b ∷ [])))
+    ∙ ap (λ x. flat_map (of_queue queue) (map (λ b. seen b.now) (take i sent ++ x ∷ []))) is
+    ∙ ap (λ x. flat_map (of_queue queue) (map (λ b. seen b.now) x)) (sym (take_more sent i b here))
+
+pub own_more : (queue : ℕ) (sent : List (Bor PageBlock)) (i : ℕ) (b : Bor PageBlock) → i < length sent → b ≡ get_or sent i b → b.now.queue ≡ queue →
+    flat_map (of_queue queue) (map (λ b. seen b.now) (take i sent)) ++ packets_of (seen b.now) ≡ flat_map (of_queue queue) (map (λ b. seen b.now) (take (i + 1) sent))
+own_more queue sent i b here is own =
+    ap (λ x. flat_map (of_queue queue) (map (λ b. seen b.now) (take i sent)) ++ x) (sym (cond-true (eqb b.now.queue queue) (packets_of (seen b.now)) [] (eq-eqb b.now.queue queue own)))
+    ∙ more queue sent i b here is
+
+pub other_more : (queue : ℕ) (sent : List (Bor PageBlock)) (i : ℕ) (b : Bor PageBlock) → i < length sent → b ≡ get_or sent i b → (b.now.queue ≡ queue → ⊥) →
+    flat_map (of_queue queue) (map (λ b. seen b.now) (take i sent)) ≡ flat_map (of_queue queue) (map (λ b. seen b.now) (take (i + 1) sent))
+other_more queue sent i b here is other =
+    sym (append-nil (flat_map (of_queue queue) (map (λ b. seen b.now) (take i sent))))
+    ∙ ap (λ x. flat_map (of_queue queue) (map (λ b. seen b.now) (take i sent)) ++ x) (sym (cond-false (eqb b.now.queue queue) (packets_of (seen b.now)) [] (ne_eqb b.now.queue queue other)))
+    ∙ more queue sent i b here is
