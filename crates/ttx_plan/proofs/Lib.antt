@@ -21,3 +21,4 @@ pub mod OwnRows
 pub mod Placing
 pub mod Planned
 pub mod Onward
+pub mod Answered
