@@ -8,7 +8,7 @@
 use Rattle.std.specs.Prelude.{◌≡◌, ◌≢◌, ℕ, ◌+◌, ◌≤◌, ◌++◌, List, [], ◌∷◌, codes, length, map, Bool, true, ◌&&◌, Option, Some, None, Result, Ok, Err, if◌then◌else◌, nat_lt, is_some}
 use Rattle.std.specs.List.{list_any, All, AllPairs}
 use Rattle.std.specs.Str.{is_utf8}
-use Rattle.toml.specs.Data.{Data, Items, no_items, item, Members, get_member, as_str, as_array, as_table}
+use Rattle.toml.specs.Data.{Data, Items, no_items, item, Members, as_str, as_array, as_table}
 use Rattle.toml.specs.Parse.{parse_document}
 use Rattle.ttx_header.specs.Ids.{Id, id_at, same_id}
 use Rattle.ttx_header.specs.Control.{c11}

@@ -10,7 +10,7 @@ use Rattle.std.specs.Prelude.{ℕ, ℤ, pos, negsuc, ◌+◌, ◌-◌, ◌*◌, 
 use Rattle.std.specs.List.{list_all}
 use Rattle.std.specs.Str.{chars}
 use Rattle.ttx_header.specs.Ids.{Id, id_at}
-use Rattle.toml.specs.Data.{Data, Members, get_member, as_integer, as_bool, as_str}
+use Rattle.toml.specs.Data.{Data, Members, get_member, as_integer}
 
 -- why a service definition is refused
 pub data Fault : Type 0 where

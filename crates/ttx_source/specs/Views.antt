@@ -6,7 +6,7 @@ use Rattle.std.specs.Map.{keys_of}
 use Rattle.ttx_header.specs.Ids.{Id}
 use Rattle.ttx_page.specs.declared.page.Page.{Page}
 use Rattle.ttx_page.specs.Views.{page_of}
-use Rattle.ttx_source.specs.Services.{Authored, authored_at, ServiceFields, service_at, IsService}
+use Rattle.ttx_source.specs.Services.{Authored, authored_at, ServiceFields, IsService}
 
 abbrev pub pages_of : List Page → List (Id × ℕ) → List Authored
 pages_of [] entries = []

@@ -1,4 +1,4 @@
-use Rattle.std.proofs.Common.{◌≡◌, ◌∙◌, ◌+◌, ◌-◌, ◌<◌, ◌≤◌, ◌++◌, length, drop, take, replicate, None, Ok, sym, ap, arith, rules}
+use Rattle.std.proofs.Common.{◌∙◌, ◌<◌, ◌≤◌, length, Ok, sym, ap, arith, rules}
 use Rattle.toml.specs.View.{view}
 use Rattle.ttx_source.specs.Keys.{link_of}
 use Rattle.ttx_source.proofs.LinkArray.{links_more, links_fault, links_end, six_is, six_fault, front_set, free_after, is_filled}

@@ -1,4 +1,4 @@
-use Rattle.std.proofs.Common.{◌≡◌, ◌∙◌, ◌<◌, ap, sym, subst, length, option_map}
+use Rattle.std.proofs.Common.{◌∙◌, ◌<◌, ap, sym, subst, length, option_map}
 use Rattle.std.specs.Map.Iter.{deref_pair}
 use Rattle.ttx_source.proofs.PageList.{same_length, pages_of-length, pages_of-often}
 use Rattle.ttx_source.proofs.services.Service.often.Goals as goal
