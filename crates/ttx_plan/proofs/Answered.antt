@@ -1,5 +1,5 @@
 -- What the two faults say of each answer of a plan.
-use Rattle.std.proofs.Common.{◌≡◌, ℕ, ◌<◌, ◌≤◌, false, true, List, [], ◌∷◌, Result, Ok, Err, length, eqb, ap, sym, ◌∙◌, arith}
+use Rattle.std.proofs.Common.{◌≡◌, ℕ, ◌<◌, ◌≤◌, false, true, List, [], ◌∷◌, Result, Ok, Err, length, eqb, ap, sym, arith}
 use Rattle.std.specs.Prelude.{◌↔◌}
 use Rattle.std.proofs.lemmas.Bool.{eqb-true}
 use Rattle.ttx_cycle.specs.declared.cycles.Cycle.{Cycle}
