@@ -100,6 +100,11 @@ for case in "$here"/cases/*/; do
     fi
 done
 
+name=data
+count=$((count + 1))
+python3 "$here/make_data.py" "$work/data"
+diff -r "$work/data" "$here/data" > /dev/null || fail "tests/data isn't what make_data.py makes"
+
 name=demo
 count=$((count + 1))
 sh "$top/demo/demo.sh" "$program" > "$work/demo" 2>&1
