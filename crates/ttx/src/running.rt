@@ -4,12 +4,11 @@ use crate::devices::{Input, open_input};
 use std::fs::File;
 use std::io;
 use std::io::BufReader;
-use ttx_certify::faults::TextFile as CertifiedText;
 use ttx_certify::{FilesFault, Verdict, certify_files};
 use ttx_cycle::Counted;
 use ttx_page::{Class, PageMemory};
 use ttx_receiver::{Careful, Cleared, Eager, Receiver};
-use ttx_tool::{Order, ReceiverKind, TextFile, ToolFault, Tuning, commands};
+use ttx_tool::{Order, ReceiverKind, ToolFault, Tuning, commands};
 
 // A buffered reader of an input.
 fn buffered(rt: &HostRuntime, input: Input) -> Result<Counted<BufReader<Input>>, ToolFault> {
@@ -71,26 +70,14 @@ fn receive(rt: &HostRuntime, input: Input, tuning: &Tuning) -> Result<u8, ToolFa
     }
 }
 
-// The text beside a cycle, by the tool's name of it.
-fn text_file(which: CertifiedText) -> TextFile {
-    match which {
-        CertifiedText::Service => TextFile::Service,
-        CertifiedText::Certificate => TextFile::Certificate,
-    }
-}
-
 // The tool's fault of the same name.
 fn tool_fault(fault: FilesFault) -> ToolFault {
     match fault {
         FilesFault::Cycle(fault) => ToolFault::Cycle(fault),
         FilesFault::Service(error) => ToolFault::Service(error),
         FilesFault::Certificate(fault) => ToolFault::Certificate(fault),
-        FilesFault::Read { which } => ToolFault::Read {
-            which: text_file(which),
-        },
-        FilesFault::TooLong { which } => ToolFault::TooLong {
-            which: text_file(which),
-        },
+        FilesFault::Read { which } => ToolFault::Read { which },
+        FilesFault::TooLong { which } => ToolFault::TooLong { which },
         FilesFault::Write { written } => ToolFault::Write { written },
         FilesFault::NoMemory => ToolFault::NoMemory,
     }

@@ -3,6 +3,5 @@ mod FieldLines
 mod CommandLine
 mod Heard
 mod Numerals
-mod AuthoredIds
 mod FoundNothing
 mod TwoInputs

@@ -10,7 +10,7 @@
 use Rattle.std.specs.Prelude.{◌≡◌, ℕ, List, [], ◌∷◌, ◌++◌, length, codes, string_bytes, ⊤, Option, Some, None, Result, Ok, Err}
 use Rattle.std.specs.Fmt.{decimal}
 use Rattle.std.specs.Io.KnownBytes.{Keeps}
-use Rattle.ttx_certify.specs.CertifyingFiles.{pages_of}
+use Rattle.ttx_certify.specs.CertifyingFiles.{IsPacketFile, IsService, pages_of}
 use Rattle.ttx_certify.specs.VerdictLines.{verdict_line}
 use Rattle.ttx_certify.specs.Verdicts.{IsVerdict}
 use Rattle.ttx_certify.specs.declared.verdict.Verdict.{Verdict}
@@ -20,8 +20,7 @@ use Rattle.ttx_cycle.specs.Reading.{Judged}
 use Rattle.ttx_cycle.specs.declared.faults.CycleFault.TheVariants as cycle
 use Rattle.ttx_page.specs.declared.class.Class.{Class}
 use Rattle.ttx_source.specs.Services.{ServiceFields}
-use Rattle.ttx_tool.specs.Inspecting.{IsFile}
-use Rattle.ttx_tool.specs.Planning.{IsText, IsNoText, WritesBoth, CountsBoth}
+use Rattle.ttx_tool.specs.Planning.{IsNoText, WritesBoth, CountsBoth}
 use Rattle.ttx_tool.specs.declared.commands.finding.Told.{Told}
 use Rattle.ttx_tool.specs.declared.faults.ToolFault.{ToolFault}
 use Rattle.ttx_tool.specs.declared.faults.ToolFault.TheVariants.{Cycle, Read, Write, NoMemory}
@@ -65,15 +64,15 @@ pub record IsTold (slots : List (List ℕ)) (service : ServiceFields) (repeat : 
 pub record IsFinding (a b : List ℕ) (repeat : ℕ) (class : Class) (file line : List ℕ) (status : ℕ) : Type 0 where
   pub slots : List (List ℕ)
   pub service : ServiceFields
-  pub cycle_is : IsFile slots a
-  pub service_is : IsText b service
+  pub cycle_is : IsPacketFile a slots
+  pub service_is : IsService b service
   pub told : IsTold slots service repeat class file line status
 
 -- why nothing is found: of these bytes there is no cycle, or there is and the text is that of no service
 abbrev pub IsNoFinding : List ℕ → List ℕ → ToolFault → Type 0
 IsNoFinding a b (Cycle fault) = Judged a (Err fault)
 IsNoFinding a b NoMemory = ⊤
-IsNoFinding a b fault = (slots : List (List ℕ)) × IsFile slots a × IsNoText b fault
+IsNoFinding a b fault = (slots : List (List ℕ)) × IsPacketFile a slots × IsNoText b fault
 
 abbrev pub FindsText : List ℕ → List ℕ → ℕ → Class → Result Told ToolFault → Type 0
 FindsText a b repeat class (Ok told) = IsFinding a b repeat class told.file.items (string_bytes told.line) told.status

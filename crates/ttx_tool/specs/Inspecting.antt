@@ -1,28 +1,22 @@
 -- What `inspect` writes for the bytes of a packet file.
 --
---   IsFile           the slots of these bytes
 --   Inspects         what was written at each answer
 --   CountsInspect    faults of devices are answered only where they were counted
 use Rattle.std.specs.Prelude.{◌≡◌, ℕ, ◌<◌, List, length, take, ⊤, Option, Result, Ok, Err}
 use Rattle.std.specs.Io.KnownBytes.{Appends, Keeps}
+use Rattle.ttx_certify.specs.CertifyingFiles.{IsPacketFile}
 use Rattle.ttx_cycle.specs.Counts.{HasRisen}
-use Rattle.ttx_cycle.specs.Files.{IsCycle, file_of}
 use Rattle.ttx_cycle.specs.Reading.{Judged}
 use Rattle.ttx_cycle.specs.declared.faults.CycleFault.TheVariants as cycle
 use Rattle.ttx_tool.specs.Lines.{lines_from}
 use Rattle.ttx_tool.specs.declared.faults.ToolFault.{ToolFault}
 use Rattle.ttx_tool.specs.declared.faults.ToolFault.TheVariants.{Cycle, Write, NoMemory}
 
--- the bytes are the packet file of these slots
-pub record IsFile (slots : List (List ℕ)) (bytes : List ℕ) : Type 0 where
-  pub is_cycle : IsCycle slots
-  pub same : bytes ≡ file_of slots
-
 -- Ok: the lines of the slots went out. A write fault: the first `written` bytes of them. Else nothing, and the file is refused as it is judged.
 abbrev pub Inspects : {U : Type 0} → List ℕ → Option (List ℕ) → Option (List ℕ) → Result U ToolFault → Type 0
-Inspects bytes old new (Ok _) = (slots : List (List ℕ)) × IsFile slots bytes × Appends old new (lines_from 0 slots)
+Inspects bytes old new (Ok _) = (slots : List (List ℕ)) × IsPacketFile bytes slots × Appends old new (lines_from 0 slots)
 Inspects bytes old new (Err (Write written)) =
-    (slots : List (List ℕ)) × IsFile slots bytes × (written < length (lines_from 0 slots)) × Appends old new (take written (lines_from 0 slots))
+    (slots : List (List ℕ)) × IsPacketFile bytes slots × (written < length (lines_from 0 slots)) × Appends old new (take written (lines_from 0 slots))
 Inspects bytes old new (Err (Cycle fault)) = Judged bytes (Err fault) × Keeps old new
 Inspects bytes old new (Err NoMemory) = Keeps old new
 Inspects bytes old new (Err _) = ⊥

@@ -1,7 +1,6 @@
 -- What `plan` writes for the text of a service.
 --
---   most_bytes              the most bytes of a text
---   IsText, IsNoText, Defines       the text of a service
+--   IsNoText, Defines       why a text is that of no service; what is answered for a text
 --   IsPlan, HasNoPlan, IsNoPlan, PlansText      the slots that carry the service of a text
 --   planned_line            the line that says how many slots there are
 --   WritesBoth, Plans       what was written to the packet file and to the output, at each answer
@@ -9,6 +8,7 @@
 use Rattle.std.specs.Prelude.{◌≡◌, ◌⊎◌, ℕ, ◌-◌, ◌<◌, ◌≤◌, List, [], ◌∷◌, ◌++◌, length, take, codes, ⊤, Option, Result, Ok, Err}
 use Rattle.std.specs.Fmt.{decimal}
 use Rattle.std.specs.Io.KnownBytes.{Appends, Keeps}
+use Rattle.ttx_certify.specs.CertifyingFiles.{IsService, most_bytes}
 use Rattle.ttx_cycle.specs.Counts.{HasRisen}
 use Rattle.ttx_cycle.specs.Cycles.{slots_of}
 use Rattle.ttx_cycle.specs.Files.{file_of}
@@ -21,17 +21,9 @@ use Rattle.ttx_plan.specs.declared.faults.PlanFault.TheVariants as plan
 use Rattle.ttx_source.specs.Faults.{fault_of}
 use Rattle.ttx_source.specs.Services.{ServiceFields, read_bytes}
 use Rattle.ttx_source.specs.declared.faults.SourceFault.TheVariants as source
-use Rattle.ttx_tool.specs.declared.faults.TextFile.TheVariants as text
+use Rattle.ttx_certify.specs.declared.faults.TextFile.TheVariants as text
 use Rattle.ttx_tool.specs.declared.faults.ToolFault.{ToolFault}
 use Rattle.ttx_tool.specs.declared.faults.ToolFault.TheVariants.{Cycle, Service, Read, TooLong, Write, NoMemory, Plan}
-
-abbrev pub most_bytes : ℕ
-most_bytes = 4194304
-
--- a text that isn't too long, and the service that it says
-pub record IsText (bytes : List ℕ) (service : ServiceFields) : Type 0 where
-  pub most : length bytes ≤ most_bytes
-  pub says : read_bytes bytes ≡ Ok service
 
 -- why a text is that of no service
 abbrev pub IsNoText : List ℕ → ToolFault → Type 0
@@ -44,13 +36,13 @@ IsNoText bytes NoMemory = ⊤
 IsNoText bytes _ = ⊥
 
 abbrev pub Defines : List ℕ → Result ServiceFields ToolFault → Type 0
-Defines bytes (Ok service) = IsText bytes service
+Defines bytes (Ok service) = IsService bytes service
 Defines bytes (Err fault) = IsNoText bytes fault
 
 -- the slots carry the service of the text to receivers of the class
 pub record IsPlan (bytes : List ℕ) (class : Class) (slots : List (List ℕ)) : Type 0 where
   pub service : ServiceFields
-  pub text : IsText bytes service
+  pub text : IsService bytes service
   pub carries : Carries class service slots
 
 abbrev pub planned_line : ℕ → List ℕ
@@ -64,7 +56,7 @@ HasNoPlan class service plan.NoMemory = ⊤
 
 -- why a text has no plan: its service has none, or it is that of no service
 abbrev pub IsNoPlan : List ℕ → Class → ToolFault → Type 0
-IsNoPlan bytes class (Plan fault) = (service : ServiceFields) × IsText bytes service × HasNoPlan class service fault
+IsNoPlan bytes class (Plan fault) = (service : ServiceFields) × IsService bytes service × HasNoPlan class service fault
 IsNoPlan bytes class fault = IsNoText bytes fault
 
 abbrev pub PlansText : List ℕ → Class → Result CycleValue ToolFault → Type 0

@@ -5,6 +5,7 @@
 --   Receives                what was written at each answer
 use Rattle.std.specs.Prelude.{◌≡◌, ℕ, ◌<◌, pos, List, length, take, Option, Result, Ok, Err}
 use Rattle.std.specs.Io.KnownBytes.{Appends, Keeps}
+use Rattle.ttx_certify.specs.CertifyingFiles.{IsPacketFile}
 use Rattle.ttx_cycle.specs.Reading.{Judged}
 use Rattle.ttx_page.specs.Laws.{sent_from}
 use Rattle.ttx_page.specs.Memories.{Memory}
@@ -13,7 +14,6 @@ use Rattle.ttx_page.specs.Streams.{repeated}
 use Rattle.ttx_page.specs.declared.class.Class.{Class}
 use Rattle.ttx_page.specs.declared.selection.Selection.{Selection}
 use Rattle.ttx_render.specs.View.{view_of}
-use Rattle.ttx_tool.specs.Inspecting.{IsFile}
 use Rattle.ttx_tool.specs.ViewLines.{view_lines}
 use Rattle.ttx_tool.specs.declared.faults.ToolFault.{ToolFault}
 use Rattle.ttx_tool.specs.declared.faults.ToolFault.TheVariants.{Cycle, Write, NoMemory}
@@ -33,7 +33,7 @@ Hears t slots start count old new = Run t.class t.lines t.selection old (sent_fr
 -- the slots of a packet file, over which the memory became the new one
 pub record IsHeard (t : Tuning) (start count : ℕ) (bytes : List ℕ) (old new : Memory) : Type 0 where
   pub slots : List (List ℕ)
-  pub file : IsFile slots bytes
+  pub file : IsPacketFile bytes slots
   pub run : Hears t slots start count old new
 
 -- Ok: the lines of the memory's View went out. A write fault: the first `written` bytes of them. Else nothing, and the file is refused as it is judged.

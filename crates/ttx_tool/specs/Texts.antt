@@ -1,20 +1,12 @@
 -- How ids, links, dates and times are written (profile).
 --
---   hex_digit, hex_byte        one and two hexadecimal digits, A to F for 10 to 15
 --   id_text                    the id of a page or of a target, as 100/3F7F
 --   link_text, links_text      links, each after a space, and - where a link leads nowhere
 --   two_digits, date_text, time_text    a date in five decimal digits, a time in six
-use Rattle.std.specs.Prelude.{ℕ, ◌+◌, ◌/◌, ◌%◌, List, [], ◌∷◌, ◌++◌, codes, nat_lt, Option, Some, None, if◌then◌else◌}
+use Rattle.std.specs.Prelude.{ℕ, ◌/◌, ◌%◌, List, [], ◌∷◌, ◌++◌, codes, Option, Some, None}
 use Rattle.std.specs.Fmt.{decimal}
 use Rattle.ttx_header.specs.Ids.{Id}
-
--- the digit of a number below 16
-abbrev pub hex_digit : ℕ → ℕ
-hex_digit n = if nat_lt n 10 then 48 + n else 55 + n
-
--- the digits of a byte, the high one first
-abbrev pub hex_byte : ℕ → List ℕ
-hex_byte b = hex_digit (b / 16) ∷ hex_digit (b % 16) ∷ []
+use Rattle.ttx_witness.specs.CertificateTexts.{hex_digit, hex_byte}
 
 -- magazine and two digits, a stroke, and the four digits of the subcode
 abbrev pub id_text : Id → List ℕ

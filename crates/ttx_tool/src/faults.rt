@@ -3,19 +3,11 @@
 ghost use Rattle.std.specs.Prelude.{◌≡◌};
 
 use thiserror::Error;
+use ttx_certify::faults::TextFile;
 use ttx_cycle::{CycleFault, WriteFault};
 use ttx_plan::PlanFault;
 use ttx_source::SourceError;
 use ttx_witness::CertFault;
-
-/// The texts that commands read beside a cycle.
-#[derive(Clone, Copy, Debug, PartialEq, Eq)]
-pub enum TextFile {
-    /// 2. A service definition.
-    Service,
-    /// 3. A certificate.
-    Certificate,
-}
 
 /// Why a command fails. The numbers of faults: 1 `Cycle`, 2 `Service`, 3 `Certificate`, 4 `Read`, 5 `TooLong`, 6 `Write`,
 /// 7 `NoMemory`, 8 `Plan`.

@@ -13,6 +13,7 @@ mod stepping;
 mod texts;
 mod views;
 
-pub use faults::{TextFile, ToolFault};
+pub use faults::ToolFault;
 pub use orders::{Order, ReceiverKind, Tuning, WordsFault};
 pub use parsing::words;
+pub use ttx_certify::faults::TextFile;

@@ -2,7 +2,8 @@
 
 ghost use Rattle.std.specs.Prelude.{◌≡◌, ◌<◌, ◌/◌, ◌%◌, ◌++◌, OnOk, string_bytes};
 ghost use Rattle.ttx_header.specs.Ids.{id_at};
-ghost use Rattle.ttx_tool.specs.Texts.{hex_digit, hex_byte, id_text, link_text, links_text, two_digits, date_text, time_text};
+ghost use Rattle.ttx_witness.specs.CertificateTexts.{hex_digit, hex_byte};
+ghost use Rattle.ttx_tool.specs.Texts.{id_text, link_text, links_text, two_digits, date_text, time_text};
 
 use std::alloc::AllocError;
 use ttx_links::Target;

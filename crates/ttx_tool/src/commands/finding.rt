@@ -1,12 +1,9 @@
 //! `find`: the certificate of a cycle for the pages of a service.
 
 ghost use Rattle.std.specs.Prelude.{◌≡◌, ◌≤◌, IfSome, IfOk, IfErr, string_bytes};
-ghost use Rattle.ttx_certify.specs.CertifyingFiles.{pages_of};
-ghost use Rattle.ttx_certify.specs.Verdicts.{IsVerdict};
 ghost use Rattle.ttx_cycle.specs.Counters.{inner_of, faults_of};
 ghost use Rattle.ttx_cycle.specs.Cycles.{slots_of};
-ghost use Rattle.ttx_witness.specs.Certificates.{fields_of, certificate_of};
-ghost use Rattle.ttx_witness.specs.Finding.{IsFoundFor};
+ghost use Rattle.ttx_witness.specs.Certificates.{fields_of};
 ghost use Rattle.ttx_tool.specs.FindingFiles.{found_line, TellsDeadline, TellsVerdict, IsTold, FindsText, Finds, CountsInputs, CountsFind};
 ghost use Rattle.ttx_tool.specs.Planning.{WritesBoth, CountsBoth};
 
@@ -14,11 +11,11 @@ use super::planning::read_definition;
 use crate::faults::ToolFault;
 use std::alloc::{AllocError, Global};
 use std::io::{Read, Write};
-use ttx_certify::{Verdict, certify, verdict_line};
+use ttx_certify::{certify_service, find_service, verdict_line};
 use ttx_cycle::{Counted, Cycle, read_cycle, write_bytes};
 use ttx_page::Class;
 use ttx_source::Service;
-use ttx_witness::{Certificate, Found, find_for, write_certificate};
+use ttx_witness::{Certificate, write_certificate};
 
 // What goes out: the bytes of the certificate's file, the line, and the status.
 #[derive(Drop)]
@@ -26,48 +23,6 @@ struct Told {
     file: Vec<u8>,
     line: String,
     status: u8,
-}
-
-// What is found for the pages of a service.
-fn find_service(
-    alloc: Global,
-    cycle: &Cycle,
-    service: &Service,
-    repeat: u8,
-    class: Class,
-) -> Result<Found, ToolFault>
-    requires some { 1 ≤ repeat }
-    requires few { repeat ≤ 8 }
-    ensures found { IfOk result (λ found. IsFoundFor (slots_of cycle.now) (pages_of service.now) repeat service.now.lines class (certificate_of found.certificate) found.deadline) }
-    ensures memory { IfErr result (λ fault. fault ≡ ToolFault.NoMemory) }
-{
-    match find_for(
-        alloc,
-        cycle,
-        service.pages(),
-        repeat,
-        service.lines(),
-        class,
-    ) {
-        Ok(found) => Ok(found),
-        Err(_) => Err(ToolFault::NoMemory),
-    }
-}
-
-// The verdict on the pages of a service.
-fn certify_service(
-    alloc: Global,
-    cycle: &Cycle,
-    service: &Service,
-    certificate: &Certificate,
-) -> Result<Verdict, ToolFault>
-    ensures verdict { IfOk result (IsVerdict (slots_of cycle.now) (pages_of service.now) (certificate_of certificate.now)) }
-    ensures memory { IfErr result (λ fault. fault ≡ ToolFault.NoMemory) }
-{
-    match certify(alloc, cycle, service.pages(), certificate) {
-        Ok(verdict) => Ok(verdict),
-        Err(_) => Err(ToolFault::NoMemory),
-    }
 }
 
 // The line of a deadline.

@@ -6,9 +6,10 @@ ghost use Rattle.ttx_cycle.specs.Cycles.{slots_of};
 ghost use Rattle.ttx_cycle.specs.Files.{file_of};
 ghost use Rattle.ttx_tool.specs.Planning.{Defines, PlansText, CountsDefinition, planned_line, WritesBoth, CountsBoth, Plans, CountsPlan};
 
-use crate::faults::{TextFile, ToolFault};
+use crate::faults::ToolFault;
 use std::alloc::{AllocError, Global};
 use std::io::{Read, Write};
+use ttx_certify::faults::TextFile;
 use ttx_cycle::{Counted, Cycle, TextFault, read_text, write_bytes, write_cycle};
 use ttx_page::Class;
 use ttx_plan::plan_for;

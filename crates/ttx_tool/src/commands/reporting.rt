@@ -6,10 +6,11 @@ ghost use Rattle.ttx_cycle.specs.Counters.{inner_of, faults_of};
 ghost use Rattle.ttx_source.specs.Faults.{fault_of};
 ghost use Rattle.ttx_tool.specs.Reports.{service_text, service_status, certificate_text, fault_line, status_of, Reports, ReportsWords, CountsReport};
 
-use crate::faults::{TextFile, ToolFault};
+use crate::faults::ToolFault;
 use crate::orders::WordsFault;
 use std::alloc::{AllocError, Global};
 use std::io::Write;
+use ttx_certify::faults::TextFile;
 use ttx_cycle::{Counted, CycleFault, write_bytes};
 use ttx_plan::PlanFault;
 use ttx_source::{SourceError, SourceFault};
