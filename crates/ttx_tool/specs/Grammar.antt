@@ -6,9 +6,12 @@
 --   number_rule, name_rule   an option with a number in a range, and one with a name of a list
 --   inspect_app, plan_app, find_app, certify_app, receive_app      a command with its arguments
 --   bare_app, ttx_app        the program alone, and with its commands
-use Rattle.std.specs.Prelude.{◌≡◌, ℕ, List, [], ◌∷◌, codes, map, true, Some}
+--   Builds                   what is built of a command, where memory doesn't run out
+use Rattle.std.specs.Prelude.{◌≡◌, ℕ, List, [], ◌∷◌, codes, map, true, false, Some, Result, IfOk}
 use Rattle.std.specs.Borrow.{Bor}
-use Rattle.clap.specs.Words.{App, Shape, Rule, Text, new_app, new_rule, with_rule, with_subcommand}
+use Rattle.clap.specs.Words.{App, Shape, Rule, Text, app_of, new_app, new_rule, with_rule, with_subcommand}
+use Rattle.clap.specs.declared.builder.command.Command.{Command}
+use Rattle.clap.specs.declared.builder.command.Command.TheViews.{out-Command}
 use Rattle.clap.specs.declared.builder.value_parser.ValueParser.TheVariants as parser
 
 abbrev pub NameList : Type 0
@@ -43,15 +46,11 @@ plan_app classes =
     with_rule (with_rule (with_rule (new_app (codes "plan")) (operand_rule (codes "service"))) (operand_rule (codes "out")))
     (name_rule (codes "class") classes)
 
--- find CYCLE SERVICE OUT
-unfoldable pub unlimited_app : App
-unlimited_app =
-    with_rule (with_rule (with_rule (new_app (codes "find")) (operand_rule (codes "cycle"))) (operand_rule (codes "service")))
-    (operand_rule (codes "out"))
-
--- with [--repeat K] [--class any|clearing]
+-- find CYCLE SERVICE OUT [--repeat K] [--class any|clearing]
 unfoldable pub find_app : NameList → App
-find_app classes = with_rule (with_rule unlimited_app (number_rule (codes "repeat") 1 8)) (name_rule (codes "class") classes)
+find_app classes =
+    with_rule (with_rule (with_rule (with_rule (with_rule (new_app (codes "find")) (operand_rule (codes "cycle"))) (operand_rule (codes "service")))
+    (operand_rule (codes "out"))) (number_rule (codes "repeat") 1 8)) (name_rule (codes "class") classes)
 
 -- certify CYCLE SERVICE CERT
 unfoldable pub certify_app : App
@@ -59,19 +58,11 @@ certify_app =
     with_rule (with_rule (with_rule (new_app (codes "certify")) (operand_rule (codes "cycle"))) (operand_rule (codes "service")))
     (operand_rule (codes "certificate"))
 
--- receive CYCLE PAGE
-unfoldable pub untuned_app : App
-untuned_app = with_rule (with_rule (new_app (codes "receive")) (operand_rule (codes "cycle"))) (operand_rule (codes "page"))
-
--- with [--lines L] [--start S] [--slots N]
-unfoldable pub timed_app : App
-timed_app =
-    with_rule (with_rule (with_rule untuned_app (number_rule (codes "lines") 1 32)) (number_rule (codes "start") 0 65535))
-    (number_rule (codes "slots") 0 1000000)
-
--- with [--kind eager|careful|cleared]
+-- receive CYCLE PAGE [--lines L] [--start S] [--slots N] [--kind eager|careful|cleared]
 unfoldable pub receive_app : NameList → App
-receive_app kinds = with_rule timed_app (name_rule (codes "kind") kinds)
+receive_app kinds =
+    with_rule (with_rule (with_rule (with_rule (with_rule (with_rule (new_app (codes "receive")) (operand_rule (codes "cycle"))) (operand_rule (codes "page")))
+    (number_rule (codes "lines") 1 32)) (number_rule (codes "start") 0 65535)) (number_rule (codes "slots") 0 1000000)) (name_rule (codes "kind") kinds)
 
 abbrev pub bare : Shape → Shape
 bare s = record s { no_binary_name = true; subcommand_required = true; disable_help_subcommand = true }
@@ -80,9 +71,10 @@ bare s = record s { no_binary_name = true; subcommand_required = true; disable_h
 abbrev pub bare_app : App
 bare_app = record { top = bare (new_app (codes "ttx")).top; subs = [] }
 
--- with the commands that make files
-unfoldable pub making_app : NameList → App
-making_app classes = with_subcommand (with_subcommand (with_subcommand bare_app inspect_app.top) (plan_app classes).top) (find_app classes).top
-
 unfoldable pub ttx_app : NameList → NameList → App
-ttx_app kinds classes = with_subcommand (with_subcommand (making_app classes) certify_app.top) (receive_app kinds).top
+ttx_app kinds classes =
+    with_subcommand (with_subcommand (with_subcommand (with_subcommand (with_subcommand bare_app inspect_app.top) (plan_app classes).top)
+    (find_app classes).top) certify_app.top) (receive_app kinds).top
+
+abbrev pub Builds : {E : Type 0} → Result Command E → App → Type 0
+Builds result app = IfOk result (λ c. (app_of c ≡ app) × ((out-Command c).has_globals ≡ false))

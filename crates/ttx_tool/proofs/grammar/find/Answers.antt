@@ -1,11 +1,13 @@
-use Rattle.std.proofs.Common.{◌∙◌, ap₂}
-use Rattle.std.proofs.lemmas.Result.{IfOk-weaker}
-use Rattle.clap.specs.Words.{with_rule}
+use Rattle.std.proofs.Common.{rules}
 use Rattle.ttx_tool.specs.Grammar.{find_app}
 use Rattle.ttx_tool.proofs.grammar.find.Goals as goal
 
-pub returns-clause-app : goal.returns-clause-app
+pub returns : goal.returns
 unfolding find_app
-returns-clause-app c =
-    let repeating = c.in_ok-find.ensures.app ∙ ap₂ with_rule c.in_ok-unlimited.ensures.app c.repeat.ensures.rule in
-    IfOk-weaker c.with_arg-2.result _ _ (λ x h. h ∙ ap₂ with_rule repeating c.class.ensures.rule) c.with_arg-2.ensures.app
+returns c =
+    let named = c.command-find.ensures _ (search rules) in
+    let cycle = c.with_operand-find.ensures _ _ (search rules) named in
+    let service = c.with_operand-find-2.ensures _ _ (search rules) cycle in
+    let to = c.with_operand-find-3.ensures _ _ (search rules) service in
+    let repeat = c.with_number-find.ensures _ _ (search rules) to in
+    c.with_class.ensures _ repeat

@@ -1,0 +1,11 @@
+use Rattle.std.proofs.Common.{rules}
+use Rattle.ttx_tool.specs.Grammar.{certify_app}
+use Rattle.ttx_tool.proofs.grammar.certify.Goals as goal
+
+pub returns : goal.returns
+unfolding certify_app
+returns c =
+    let named = c.command-certify.ensures _ (search rules) in
+    let cycle = c.with_operand-certify.ensures _ _ (search rules) named in
+    let service = c.with_operand-certify-2.ensures _ _ (search rules) cycle in
+    c.with_operand.ensures _ _ (search rules) service
