@@ -16,7 +16,7 @@ use ttx_links::{Links, Target, read_links};
 use ttx_page::{Item, Page, RowNumber};
 
 /// What is compared in the transmissions of an item.
-#[derive(Clone, Copy, PartialEq, Eq, Debug)]
+#[derive(Clone, Copy)]
 pub enum Check {
     /// The erase bit (C4) of the page's headers.
     EraseBit,

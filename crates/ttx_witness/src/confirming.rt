@@ -7,7 +7,7 @@ use crate::transmissions::Run;
 
 /// How far the named starts of an item are confirmed: how many, the owner of the latest, the end of the
 /// first one's run, and the least whose next one comes too late.
-#[derive(Clone, Copy, PartialEq, Eq, Debug)]
+#[derive(Clone, Copy)]
 pub struct Progress {
     pub next: usize,
     pub previous: i32,

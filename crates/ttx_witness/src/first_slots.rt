@@ -9,7 +9,7 @@ use ttx_header::PageId;
 
 /// Whether a page has a header, and for each of the other reasons that speak of a page and a cycle alone the first
 /// slot of which it is true.
-#[derive(Clone, Copy, PartialEq, Eq, Debug)]
+#[derive(Clone, Copy)]
 pub struct FirstSlots {
     pub has_header: bool,
     pub other_subpage: Option<u32>,

@@ -14,7 +14,7 @@ use ttx_header::read_header;
 
 /// The latest header of a magazine: its slot, which of the pages it is of, and whether a header of another
 /// magazine has ended the page since then.
-#[derive(Clone, Copy, PartialEq, Eq, Debug)]
+#[derive(Clone, Copy)]
 pub struct Owner {
     pub slot: i32,
     pub page: Option<u32>,

@@ -15,7 +15,7 @@ pub struct NoMemory;
 
 /// What is kept of the sure runs: the end of the first, the owner of the last, and the greatest distance in
 /// slots from an owner to the end of the next run.
-#[derive(Clone, Copy, PartialEq, Eq, Debug)]
+#[derive(Clone, Copy)]
 pub struct Spread {
     pub first_end: i32,
     pub previous: i32,

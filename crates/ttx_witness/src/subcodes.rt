@@ -14,7 +14,7 @@ use ttx_page::Page;
 pub const NUMBERS: usize = 2048;
 
 /// The subcodes of the listed pages of a number.
-#[derive(Clone, Copy, PartialEq, Eq, Debug)]
+#[derive(Clone, Copy)]
 pub enum Subcodes {
     Unlisted,
     One(u16),

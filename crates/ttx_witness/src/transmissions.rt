@@ -7,7 +7,7 @@ ghost use Rattle.ttx_witness.specs.Transmissions.{run_between, run_of};
 use circular_buffer::HeapCircularBuffer;
 
 /// A transmission: its slot, its owner's slot, and whether no receiver may miss it.
-#[derive(Clone, Copy, PartialEq, Eq, Debug, Default)]
+#[derive(Clone, Copy, Default)]
 pub struct Transmission {
     pub slot: i32,
     pub owner: i32,
@@ -15,7 +15,7 @@ pub struct Transmission {
 }
 
 /// A run: its first slot, that one's owner, its last slot, and whether all of it is sure.
-#[derive(Clone, Copy, PartialEq, Eq, Debug)]
+#[derive(Clone, Copy)]
 pub struct Run {
     pub start: i32,
     pub owner: i32,

@@ -3,7 +3,7 @@
 ghost use Rattle.std.specs.Prelude.{◌≡◌, ◌==◌, ◌+◌, ◌*◌, true, ◌<◌, ◌≤◌, [], ◌∷◌, length, option_map, IfSome, MatchOption};
 ghost use Rattle.std.specs.List.{position};
 ghost use Rattle.ttx_header.specs.Ids.{id_at};
-ghost use Rattle.ttx_witness.specs.CertificateReading.{parts_at, are_digits, is_number, number_of, value_after, is_hex, hex_value, is_id_word, id_of};
+ghost use Rattle.ttx_witness.specs.CertificateReading.{parts_at, is_between, are_digits, is_number, number_of, value_after, is_hex, hex_value, is_id_word, id_of};
 
 // The place of the first separator.
 fn position_of(text: &[u8], separator: u8) -> Option<usize>
@@ -23,11 +23,18 @@ pub(crate) fn cut(text: &[u8], separator: u8) -> Option<(&[u8], &[u8])>
     }
 }
 
+// Whether the byte is a decimal digit.
+fn is_digit(byte: u8) -> bool
+    ensures { result ≡ is_between 48 57 byte }
+{
+    b'0' <= byte && byte <= b'9'
+}
+
 // Whether each byte is a decimal digit.
 fn are_digits(word: &[u8]) -> bool
     ensures { result ≡ are_digits word.now }
 {
-    word.iter().all(|byte| b'0' <= *byte && *byte <= b'9')
+    word.iter().all(|byte| is_digit(*byte))
 }
 
 // Whether the word is 1 to 7 digits without a leading zero.
