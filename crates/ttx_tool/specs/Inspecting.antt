@@ -2,7 +2,7 @@
 --
 --   Inspects         what was written at each answer
 --   CountsInspect    faults of devices are answered only where they were counted
-use Rattle.std.specs.Prelude.{◌≡◌, ℕ, ◌<◌, List, length, take, ⊤, Option, Result, Ok, Err}
+use Rattle.std.specs.Prelude.{ℕ, ◌<◌, List, length, take, ⊤, Option, Result, Ok, Err}
 use Rattle.std.specs.Io.KnownBytes.{Appends, Keeps}
 use Rattle.ttx_certify.specs.CertifyingFiles.{IsPacketFile}
 use Rattle.ttx_cycle.specs.Counts.{HasRisen}

@@ -15,7 +15,8 @@ use Rattle.ttx_links.specs.Sets.{LinkSet, links_of}
 use Rattle.ttx_info.specs.Infos.{InfoFields, info_of}
 use Rattle.ttx_info.specs.declared.faults.InfoFault.{InfoFault}
 use Rattle.ttx_info.specs.declared.faults.InfoFault.TheVariants.{Designation, Hamming, Digit, Parity}
-use Rattle.ttx_tool.specs.Texts.{id_text, links_text, date_text, time_text}
+use Rattle.ttx_witness.specs.CertificateTexts.{id_text}
+use Rattle.ttx_tool.specs.Texts.{links_text, date_text, time_text}
 
 -- magazine, packet number and kind
 abbrev pub packet_text : ℕ → ℕ → List ℕ → List ℕ

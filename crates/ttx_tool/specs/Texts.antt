@@ -1,16 +1,10 @@
--- How ids, links, dates and times are written (profile).
+-- How links, dates and times are written (profile).
 --
---   id_text                    the id of a page or of a target, as 100/3F7F
 --   link_text, links_text      links, each after a space, and - where a link leads nowhere
 --   two_digits, date_text, time_text    a date in five decimal digits, a time in six
 use Rattle.std.specs.Prelude.{ℕ, ◌/◌, ◌%◌, List, [], ◌∷◌, ◌++◌, codes, Option, Some, None}
-use Rattle.std.specs.Fmt.{decimal}
 use Rattle.ttx_header.specs.Ids.{Id}
-use Rattle.ttx_witness.specs.CertificateTexts.{hex_digit, hex_byte}
-
--- magazine and two digits, a stroke, and the four digits of the subcode
-abbrev pub id_text : Id → List ℕ
-id_text id = decimal id.mag ++ hex_byte id.page ++ 47 ∷ hex_byte (id.sub / 256) ++ hex_byte (id.sub % 256)
+use Rattle.ttx_witness.specs.CertificateTexts.{hex_digit, id_text}
 
 abbrev pub link_text : Option Id → List ℕ
 link_text None = codes " -"

@@ -9,7 +9,7 @@ ghost use Rattle.ttx_info.specs.Infos.{info_of};
 ghost use Rattle.ttx_tool.specs.Texts.{date_text, time_text};
 ghost use Rattle.ttx_tool.specs.Lines.{packet_text, set_names, header_text, link_fields_text, number_of_fault, info_text, corrected_text, line_of, lines_from};
 
-use crate::texts::{push_date, push_id, push_links, push_time};
+use crate::texts::{push_date, push_links, push_time};
 use bitflags::{Flag, Flags};
 use std::alloc::{AllocError, Global};
 use ttx_header::{Control, Header, read_header};
@@ -17,6 +17,7 @@ use ttx_info::{Info, InfoFault, read_info};
 use ttx_links::{Links, read_links};
 use ttx_packet::place::Address;
 use ttx_packet::{Slot, clean, slot_of};
+use ttx_witness::writing::push_id;
 
 // Adds the names of the set flags, each after a space.
 fn push_flags(
@@ -46,9 +47,8 @@ fn push_control(text: &mut String, control: Control) -> Result<(), AllocError>
 fn push_header(text: &mut String, header: &Header) -> Result<(), AllocError>
     ensures { OnOk result (string_bytes text.new ≡ string_bytes text.old ++ header_text header.now.id header.now.control) }
 {
-    let id = header.id();
     text.push(' ')?;
-    push_id(text, id.mag(), id.page(), id.sub())?;
+    push_id(text, header.id())?;
     push_control(text, header.control())
 }
 

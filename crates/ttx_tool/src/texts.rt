@@ -1,50 +1,11 @@
-//! Texts of ids, links, dates and times.
+//! Texts of links, dates and times.
 
-ghost use Rattle.std.specs.Prelude.{◌≡◌, ◌<◌, ◌/◌, ◌%◌, ◌++◌, OnOk, string_bytes};
-ghost use Rattle.ttx_header.specs.Ids.{id_at};
-ghost use Rattle.ttx_witness.specs.CertificateTexts.{hex_digit, hex_byte};
-ghost use Rattle.ttx_tool.specs.Texts.{id_text, link_text, links_text, two_digits, date_text, time_text};
+ghost use Rattle.std.specs.Prelude.{◌≡◌, ◌++◌, OnOk, string_bytes};
+ghost use Rattle.ttx_tool.specs.Texts.{link_text, links_text, two_digits, date_text, time_text};
 
 use std::alloc::AllocError;
 use ttx_links::Target;
-
-// The digit of a number below 16.
-fn digit(number: u8) -> char
-    requires { number < 16 }
-    ensures { result ≡ hex_digit number }
-{
-    if number < 10 {
-        char::from(b'0' + number)
-    } else {
-        char::from(b'A' - 10 + number)
-    }
-}
-
-// Adds two hexadecimal digits.
-fn push_byte(text: &mut String, byte: u8) -> Result<(), AllocError>
-    ensures { OnOk result (string_bytes text.new ≡ string_bytes text.old ++ hex_byte byte) }
-{
-    text.push(digit(byte / 16))?;
-    text.push(digit(byte % 16))
-}
-
-// Adds the four digits of a subcode.
-fn push_subcode(text: &mut String, sub: u16) -> Result<(), AllocError>
-    ensures { OnOk result (string_bytes text.new ≡ string_bytes text.old ++ hex_byte (sub / 256) ++ hex_byte (sub % 256)) }
-{
-    push_byte(text, (sub / 256) as u8)?;
-    push_byte(text, (sub % 256) as u8)
-}
-
-/// Adds the id of a page or of a target: magazine and two digits, a stroke, and the four digits of the subcode.
-pub(crate) fn push_id(text: &mut String, mag: u8, page: u8, sub: u16) -> Result<(), AllocError>
-    ensures { OnOk result (string_bytes text.new ≡ string_bytes text.old ++ id_text (id_at mag page sub)) }
-{
-    write!(text, "{mag}")?;
-    push_byte(text, page)?;
-    text.push('/')?;
-    push_subcode(text, sub)
-}
+use ttx_witness::writing::{digit, push_numbers};
 
 // Adds a space and where a link leads.
 fn push_link(text: &mut String, link: &Option<Target>) -> Result<(), AllocError>
@@ -53,7 +14,7 @@ fn push_link(text: &mut String, link: &Option<Target>) -> Result<(), AllocError>
     match link {
         Some(target) => {
             text.push(' ')?;
-            push_id(text, target.mag(), target.page(), target.sub())
+            push_numbers(text, target.mag(), target.page(), target.sub())
         }
         None => text.push_str(" -"),
     }
