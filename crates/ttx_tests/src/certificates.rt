@@ -1,23 +1,13 @@
 //! Texts of certificates by worked examples.
 
+use crate::base::CERTIFICATE;
 use std::alloc::Global;
 use ttx_header::PageId;
 use ttx_page::{Class, Item, RowNumber};
 use ttx_witness::{CertFault, Certificate, read_certificate, write_certificate};
 
-static BASE: &[u8] =
-    b"ttx certificate 1\nlines 2\nrepeat 1\ndeadline 27\n100/0000 head 0\n100/0000 row 1 3\n100/0000 row 2 4\n100/0000 row 3 5\n100/0000 row 4 6\n100/0000 row 5 7\n100/0000 row 6 8\n100/0000 row 7 9\n100/0000 row 8 10\n100/0000 row 9 11\n100/0000 row 10 12\n100/0000 row 11 13\n100/0000 row 12 14\n100/0000 row 13 15\n100/0000 row 14 16\n100/0000 row 15 17\n100/0000 row 16 18\n100/0000 row 17 19\n100/0000 row 18 20\n100/0000 row 19 21\n100/0000 row 20 22\n100/0000 row 21 23\n100/0000 row 22 24\n100/0000 row 23 25\n100/0000 links 26\n";
-
 static CLEARING: &[u8] =
     b"ttx certificate 2\nclass clearing\nlines 2\nrepeat 1\ndeadline 2\n100/0000 head 0\n";
-
-fn base() -> &'static [u8] {
-    BASE
-}
-
-fn clearing() -> &'static [u8] {
-    CLEARING
-}
 
 // What is written of the certificate that the text is.
 fn written_back(alloc: Global, text: &[u8]) -> Option<Vec<u8>> {
@@ -36,8 +26,8 @@ fn is_written_back(alloc: Global, text: &[u8]) -> bool {
 
 #[test]
 fn texts_are_written_back(rt: HostRuntime) {
-    assert!(rt; is_written_back(rt.alloc(), base()));
-    assert!(rt; is_written_back(rt.alloc(), clearing()));
+    assert!(rt; is_written_back(rt.alloc(), CERTIFICATE));
+    assert!(rt; is_written_back(rt.alloc(), CLEARING));
 }
 
 fn numbers(certificate: &Certificate) -> (u8, u8, u32, Class) {
@@ -59,11 +49,11 @@ fn numbers_of(alloc: Global, text: &[u8]) -> Option<(u8, u8, u32, Class)> {
 #[test]
 fn numbers_are_read(rt: HostRuntime) {
     assert_eq!(rt;
-        numbers_of(rt.alloc(), base()),
+        numbers_of(rt.alloc(), CERTIFICATE),
         Some((2, 1, 27, Class::Any))
     );
     assert_eq!(rt;
-        numbers_of(rt.alloc(), clearing()),
+        numbers_of(rt.alloc(), CLEARING),
         Some((2, 1, 2, Class::Clearing))
     );
 }
@@ -85,7 +75,7 @@ fn starts_of(alloc: Global, text: &[u8]) -> Option<(Option<u32>, Option<u32>)> {
 
 #[test]
 fn starts_are_found(rt: HostRuntime) {
-    assert_eq!(rt; starts_of(rt.alloc(), base()), Some((Some(25), None)));
+    assert_eq!(rt; starts_of(rt.alloc(), CERTIFICATE), Some((Some(25), None)));
 }
 
 fn fault(alloc: Global, text: &[u8]) -> Option<CertFault> {
@@ -102,7 +92,7 @@ fn fault_without_last_byte(alloc: Global, text: &[u8]) -> Option<CertFault> {
 #[test]
 fn lines_are_ended(rt: HostRuntime) {
     assert_eq!(rt;
-        fault_without_last_byte(rt.alloc(), base()),
+        fault_without_last_byte(rt.alloc(), CERTIFICATE),
         Some(CertFault::Line { line: 29 })
     );
     assert_eq!(rt; fault(rt.alloc(), b""), Some(CertFault::Title));

@@ -1,6 +1,6 @@
-//! Certifying files: on devices that fail in the middle, and the longest cycle.
+//! Certifying files: edits of the worked cycle, devices that fail in the middle, and the longest cycle.
 
-use crate::seen::{base, certificate};
+use crate::base::{self, CERTIFICATE, SERVICE};
 use std::alloc::{AllocError, Global};
 use std::test::Fail;
 use ttx_certify::faults::TextFile;
@@ -9,7 +9,32 @@ use ttx_cycle::Counted;
 use ttx_cycle::faulty::{Failure, FaultyReader, FaultyWriter};
 use ttx_header::time_fill;
 
-static SERVICE: &[u8] = b"lines = 2\nserial = true\n[[page]]\nnumber = \"100\"\n";
+const YES: &str = "yes lines 2 repeat 1 deadline 27 pages 1\n";
+
+// Edits of the worked cycle: a slot, the place from which these bytes stand in it, and the line of the verdict.
+#[rattlefmt::skip]
+static EDITS: [(usize, usize, &[u8], &str); 14] = [
+    (4, 0, &[0x03], "no 1 bad-slot 4\n"),
+    (1, 0, &[0xff; 42], "no 1 bad-slot 1\n"),
+    (26, 2, &[0x14], "no 1 bad-slot 26\n"),
+    (0, 0, &[0; 42], "no 2 no-header 100/0000\n"),
+    // the header 100/0001
+    (27, 0, &[0x02, 0x15, 0x15, 0x15, 0x02, 0x15, 0x15, 0x15, 0x15, 0x02], "no 3 other-subpage 100/0000 27\n"),
+    (0, 5, &[0xd0], "no 4 erased 100/0000 0\n"),
+    (7, 2, &[0xc1], "no 6 row-differs 100/0000 7\n"),
+    // the link 205/3F7F
+    (26, 3, &[0x73, 0x15, 0xea, 0xea, 0xea, 0x2f], "no 7 links-differ 100/0000 26\n"),
+    // the header 200/0000, with C11 and without
+    (1, 0, &[0x49, 0x15, 0x15, 0x15, 0x15, 0x15, 0x15, 0x15, 0x15, 0x02], "no 9 witness-bad 100/0000 row 1 3\n"),
+    (1, 0, &[0x49, 0x15, 0x15, 0x15, 0x15, 0x15, 0x15, 0x15, 0x15, 0x15], YES),
+    (27, 0, &[0x49, 0x15, 0x15, 0x15, 0x15, 0x15, 0x15, 0x15, 0x15, 0x02], YES),
+    // no C11
+    (27, 9, &[0x15], YES),
+    // packet 26
+    (1, 0, &[0x02, 0xb6, 0xff, 0x16, 0x00, 0x9d], YES),
+    // nothing
+    (0, 0, &[], YES),
+];
 
 static NO_PAGES: &[u8] = b"lines = 1\nserial = true\n";
 
@@ -38,15 +63,27 @@ fn answer(
     (verdict, writer.get_ref().taken().len())
 }
 
-// The packet file of a page of blank rows, and its certificate.
-fn files(alloc: Global) -> Result<(Vec<[u8; 42]>, String), AllocError> {
-    Ok((base(alloc)?, certificate(alloc, 1, 27, 0, true)?))
+// Whether the cycle of these slots, with the worked service and certificate, is answered by this line.
+fn is_answered(alloc: Global, slots: &[[u8; 42]], line: &str) -> bool {
+    let files = (slots.as_flattened(), SERVICE, CERTIFICATE);
+    let mut room = [0; 100];
+    let (_, written) = answer(alloc, files, None, None, &mut room);
+    room.get(..written) == Some(line.as_bytes())
+}
+
+#[test]
+fn edits_of_the_worked_cycle(rt: HostRuntime) -> Result<(), Fail> {
+    for (slot, from, bytes, line) in &EDITS {
+        let slots = base::edited(rt.alloc(), *slot, *from, bytes)?;
+        assert!(rt; is_answered(rt.alloc(), slots.as_slice(), line), "{line}");
+    }
+    Ok(())
 }
 
 #[test]
 fn a_write_that_fails(rt: HostRuntime) -> Result<(), Fail> {
-    let (slots, text) = files(rt.alloc())?;
-    let all = (slots.as_slice().as_flattened(), SERVICE, text.as_bytes());
+    let slots = base::slots(rt.alloc())?;
+    let all = (slots.as_slice().as_flattened(), SERVICE, CERTIFICATE);
     let mut room = [0; 100];
     let failure = Some(Failure::Error { at: 2 });
     let (verdict, written) = answer(rt.alloc(), all, None, failure, &mut room);
@@ -58,8 +95,8 @@ fn a_write_that_fails(rt: HostRuntime) -> Result<(), Fail> {
 
 #[test]
 fn a_read_that_fails(rt: HostRuntime) -> Result<(), Fail> {
-    let (slots, text) = files(rt.alloc())?;
-    let all = (slots.as_slice().as_flattened(), SERVICE, text.as_bytes());
+    let slots = base::slots(rt.alloc())?;
+    let all = (slots.as_slice().as_flattened(), SERVICE, CERTIFICATE);
     let mut room = [0; 100];
     let (verdict, written) = answer(rt.alloc(), all, Some(1), None, &mut room);
     let which = TextFile::Service;

@@ -1,20 +1,12 @@
 //! Page headers by their bytes.
 
+use crate::base::{HEADER, TIME_FILLING, beginning};
 use ttx_header::{Control, Header, PageId, read_header, time_fill, write_header};
 
 // A header of spaces.
 fn header(mag: u8, page: u8, sub: u16, control: u16) -> Option<Header> {
     let id = PageId::new(mag, page, sub)?;
     Header::new(id, Control(control), [0x20; 24], [0x20; 8])
-}
-
-// Ten bytes, and 32 spaces.
-fn sent(words: [u8; 10]) -> [u8; 42] {
-    let mut bytes = [0x20u8; 42];
-    for (place, word) in bytes.iter_mut().zip(&words) {
-        *place = *word;
-    }
-    bytes
 }
 
 #[test]
@@ -44,17 +36,19 @@ fn control_bits_by_name(rt: HostRuntime) {
 
 #[test]
 fn header_of_a_page(rt: HostRuntime) {
-    let base = [0x02, 0x15, 0x15, 0x15, 0x15, 0x15, 0x15, 0x15, 0x15, 0x02];
-    assert_eq!(rt; read_header(&sent(base)), header(1, 0, 0, 0x80));
+    assert_eq!(rt; read_header(&beginning(&HEADER)), header(1, 0, 0, 0x80));
     let erased = [0x02, 0x15, 0x15, 0x15, 0x15, 0xd0, 0x15, 0x15, 0x15, 0x02];
-    assert_eq!(rt; read_header(&sent(erased)), header(1, 0, 0, 0x81));
+    assert_eq!(rt; read_header(&beginning(&erased)), header(1, 0, 0, 0x81));
     let one_wrong_bit = [0x02, 0x15, 0x15, 0x15, 0x15, 0xd1, 0x15, 0x15, 0x15, 0x02];
-    assert_eq!(rt; read_header(&sent(one_wrong_bit)), header(1, 0, 0, 0x81));
+    assert_eq!(rt;
+        read_header(&beginning(&one_wrong_bit)),
+        header(1, 0, 0, 0x81)
+    );
 }
 
 #[test]
 fn all_fields_of_a_header(rt: HostRuntime) {
-    let bytes = sent([0x15, 0x15, 0xea, 0xfd, 0xea, 0xea, 0xea, 0xea, 0xea, 0xea]);
+    let bytes = beginning(&[0x15, 0x15, 0xea, 0xfd, 0xea, 0xea, 0xea, 0xea, 0xea, 0xea]);
     assert_eq!(rt; read_header(&bytes), header(8, 0xef, 0x3f7f, 0x7ff));
     match header(8, 0xef, 0x3f7f, 0x7ff) {
         Some(header) => assert_eq!(rt; write_header(&header), bytes),
@@ -65,15 +59,14 @@ fn all_fields_of_a_header(rt: HostRuntime) {
 #[test]
 fn no_header(rt: HostRuntime) {
     let unreadable = [0x02, 0x15, 0x15, 0x15, 0x15, 0x15, 0x15, 0x15, 0x15, 0x16];
-    assert_eq!(rt; read_header(&sent(unreadable)), None);
+    assert_eq!(rt; read_header(&beginning(&unreadable)), None);
     let row = [0xc7, 0x15, 0x15, 0x15, 0x15, 0x15, 0x15, 0x15, 0x15, 0x15];
-    assert_eq!(rt; read_header(&sent(row)), None);
+    assert_eq!(rt; read_header(&beginning(&row)), None);
 }
 
 #[test]
 fn time_filling_header(rt: HostRuntime) {
-    let serial = [0x02, 0x15, 0xea, 0xea, 0xea, 0x2f, 0xea, 0x5e, 0x15, 0x02];
-    assert_eq!(rt; time_fill(1, true), sent(serial));
+    assert_eq!(rt; time_fill(1, true), beginning(&TIME_FILLING));
     let parallel = [0x15, 0x15, 0xea, 0xea, 0xea, 0x2f, 0xea, 0x5e, 0x15, 0x15];
-    assert_eq!(rt; time_fill(8, false), sent(parallel));
+    assert_eq!(rt; time_fill(8, false), beginning(&parallel));
 }

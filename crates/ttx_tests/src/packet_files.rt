@@ -1,40 +1,11 @@
 //! Packet files read and written in pieces, with faults in the middle.
 
+use crate::base;
 use std::alloc::{AllocError, Global};
 use std::io::Write;
 use std::test::Fail;
 use ttx_cycle::faulty::{Failure, FaultyReader, FaultyWriter};
 use ttx_cycle::{Counted, Cycle, CycleFault, SlotReader, WriteFault, read_cycle, write_cycle};
-use ttx_packet::address;
-
-// Adds a slot: its first bytes, and then the same byte to its end.
-fn push_slot(bytes: &mut Vec<u8>, front: &[u8], last: u8) -> Result<(), AllocError> {
-    bytes.extend_from_slice(front)?;
-    for _ in front.len()..42 {
-        bytes.push(last)?;
-    }
-    Ok(())
-}
-
-// A cycle of 28 slots: a header, two empty slots, 23 blank rows, X/27/0 without links, a time-filling header.
-fn base(alloc: Global) -> Result<Vec<u8>, AllocError> {
-    let mut bytes = Vec::new(alloc);
-    let header = [0x02, 0x15, 0x15, 0x15, 0x15, 0x15, 0x15, 0x15, 0x15, 0x02];
-    push_slot(&mut bytes, &header, 0x20)?;
-    push_slot(&mut bytes, &[], 0)?;
-    push_slot(&mut bytes, &[], 0)?;
-    for row in 1..24 {
-        push_slot(&mut bytes, &address(1, row), 0x20)?;
-    }
-    bytes.extend_from_slice(&[0xc7, 0xb6, 0x15])?;
-    for _ in 0..6 {
-        bytes.extend_from_slice(&[0xea, 0xea, 0xea, 0x2f, 0xea, 0x5e])?;
-    }
-    bytes.extend_from_slice(&[0x2f, 0, 0])?;
-    let time_filling = [0x02, 0x15, 0xea, 0xea, 0xea, 0x2f, 0xea, 0x5e, 0x15, 0x02];
-    push_slot(&mut bytes, &time_filling, 0x20)?;
-    Ok(bytes)
-}
 
 // What is read of these bytes, given in pieces.
 fn read_in_pieces(alloc: Global, bytes: &[u8], piece: usize) -> Result<Cycle, CycleFault> {
@@ -54,13 +25,14 @@ fn is_judged(alloc: Global, bytes: &[u8], piece: usize) -> bool {
 
 #[test]
 fn each_prefix_in_pieces(rt: HostRuntime) -> Result<(), Fail> {
-    let bytes = base(rt.alloc())?;
+    let slots = base::slots(rt.alloc())?;
+    let bytes = slots.as_slice().as_flattened();
     assert_eq!(rt; bytes.len(), 1176);
     for piece in 1..44 {
         for end in 0..bytes.len() {
             assert!(rt; is_judged(rt.alloc(), &bytes[..end], piece));
         }
-        assert!(rt; is_judged(rt.alloc(), bytes.as_slice(), piece));
+        assert!(rt; is_judged(rt.alloc(), bytes, piece));
     }
     Ok(())
 }
@@ -95,8 +67,8 @@ fn longest_file(rt: HostRuntime) -> Result<(), Fail> {
 #[test]
 fn slots_one_by_one(rt: HostRuntime) -> Result<(), Fail> {
     let mut bytes = Vec::new(rt.alloc());
-    push_slot(&mut bytes, &[], 1)?;
-    push_slot(&mut bytes, &[], 2)?;
+    bytes.extend_from_slice(&[1; 42])?;
+    bytes.extend_from_slice(&[2; 42])?;
     bytes.push(3)?;
     let mut reader = Counted::new(FaultyReader::new(bytes.as_slice(), 42, Some(3)));
     let mut slots = SlotReader::new();
@@ -140,9 +112,8 @@ fn write_in_pieces(
 
 #[test]
 fn writes_in_pieces(rt: HostRuntime) -> Result<(), Fail> {
-    let bytes = base(rt.alloc())?;
-    let Ok(cycle) = read_in_pieces(rt.alloc(), bytes.as_slice(), 42) else {
-        panic!(rt; "the cycle isn't read");
+    let Some(cycle) = Cycle::of(base::slots(rt.alloc())?) else {
+        panic!(rt; "there is no cycle");
     };
     let whole = write_in_pieces(rt.alloc(), &cycle, None)?;
     assert_eq!(rt; whole, Some((236, Ok(()))));

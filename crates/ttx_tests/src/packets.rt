@@ -1,5 +1,6 @@
 //! Slots by their bytes.
 
+use crate::base::{HEADER, beginning};
 use ttx_packet::{Slot, address, clean, slot_of};
 
 // The kind that a line of the inspector shows, with the magazine and the number.
@@ -13,15 +14,6 @@ fn shown(slot: &[u8; 42]) -> (&'static str, u8, u8) {
         Slot::Info(at, _) => ("info", at.mag, at.number),
         Slot::Other(at) => ("other", at.mag, at.number),
     }
-}
-
-// A slot of spaces that begins with these bytes.
-fn beginning(first: &[u8]) -> [u8; 42] {
-    let mut slot = [0x20u8; 42];
-    for (place, byte) in slot.iter_mut().zip(first) {
-        *place = *byte;
-    }
-    slot
 }
 
 #[test]
@@ -42,10 +34,7 @@ fn kinds_of_slots(rt: HostRuntime) {
     assert_eq!(rt; shown(&beginning(&[0xc7, 0x15])), ("row", 1, 1));
     assert_eq!(rt; shown(&beginning(&[0x15, 0xea])), ("info", 8, 30));
     assert_eq!(rt; shown(&beginning(&[0x02, 0xea])), ("other", 1, 30));
-    assert_eq!(rt;
-        shown(&beginning(&[0x02, 0x15, 0x15, 0x15, 0x15, 0x15, 0x15, 0x15, 0x15, 0x02])),
-        ("header", 1, 0)
-    );
+    assert_eq!(rt; shown(&beginning(&HEADER)), ("header", 1, 0));
     assert_eq!(rt;
         shown(&beginning(&[0x02, 0x15, 0x15, 0x15, 0x15, 0x15, 0x15, 0x15, 0x15, 0x16])),
         ("unreadable", 0, 0)
@@ -76,10 +65,7 @@ fn clean_slots(rt: HostRuntime) {
     assert_eq!(rt; clean(&beginning(&[0xc7, 0x15, 0x16])), true);
     assert_eq!(rt; clean(&beginning(&[0x02, 0xb6, 0x16])), true);
     assert_eq!(rt; clean(&beginning(&[0xc7, 0xb6, 0x02])), true);
-    assert_eq!(rt;
-        clean(&beginning(&[0x02, 0x15, 0x15, 0x15, 0x15, 0x15, 0x15, 0x15, 0x15, 0x02])),
-        true
-    );
+    assert_eq!(rt; clean(&beginning(&HEADER)), true);
 }
 
 #[test]

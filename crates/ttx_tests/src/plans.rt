@@ -2,11 +2,12 @@
 
 ghost use Rattle.std.specs.Prelude.{◌≤◌};
 
+use crate::base;
 use std::alloc::{AllocError, Global};
 use std::test::Fail;
 use ttx_cycle::Cycle;
 use ttx_header::read_header;
-use ttx_packet::{Slot, address, slot_of};
+use ttx_packet::{Slot, slot_of};
 use ttx_page::Class;
 use ttx_plan::{PlanFault, plan, plan_for};
 use ttx_source::read_service;
@@ -70,45 +71,15 @@ fn length_of(alloc: Global, text: &str) -> Option<Result<usize, PlanFault>> {
     Some(plan(alloc, &service).map(|cycle| cycle.slots().len()))
 }
 
-// Adds a slot: its first bytes, and then the same byte to its end.
-fn push_slot(bytes: &mut Vec<u8>, front: &[u8], last: u8) -> Result<(), AllocError> {
-    bytes.extend_from_slice(front)?;
-    for _ in front.len()..42 {
-        bytes.push(last)?;
-    }
-    Ok(())
-}
-
-// A cycle of 28 slots: a header, two empty slots, 23 blank rows, X/27/0 without links, a time-filling header.
-fn base(alloc: Global) -> Result<Vec<u8>, AllocError> {
-    let mut bytes = Vec::new(alloc);
-    let header = [0x02, 0x15, 0x15, 0x15, 0x15, 0x15, 0x15, 0x15, 0x15, 0x02];
-    push_slot(&mut bytes, &header, 0x20)?;
-    push_slot(&mut bytes, &[], 0)?;
-    push_slot(&mut bytes, &[], 0)?;
-    for row in 1..24 {
-        push_slot(&mut bytes, &address(1, row), 0x20)?;
-    }
-    bytes.extend_from_slice(&[0xc7, 0xb6, 0x15])?;
-    for _ in 0..6 {
-        bytes.extend_from_slice(&[0xea, 0xea, 0xea, 0x2f, 0xea, 0x5e])?;
-    }
-    bytes.extend_from_slice(&[0x2f, 0, 0])?;
-    let time_filling = [0x02, 0x15, 0xea, 0xea, 0xea, 0x2f, 0xea, 0x5e, 0x15, 0x02];
-    push_slot(&mut bytes, &time_filling, 0x20)?;
-    Ok(bytes)
-}
-
 #[test]
 fn one_page_byte_for_byte(rt: HostRuntime) -> Result<(), Fail> {
-    let text = b"lines = 2\nserial = true\n[[page]]\nnumber = \"100\"\n";
-    let Ok(service) = read_service(rt.alloc(), text) else {
+    let Ok(service) = read_service(rt.alloc(), base::SERVICE) else {
         panic!(rt; "the service is refused");
     };
     let Ok(cycle) = plan(rt.alloc(), &service) else {
         panic!(rt; "there is no plan");
     };
-    assert!(rt; cycle.slots().as_flattened() == base(rt.alloc())?.as_slice());
+    assert!(rt; cycle.slots() == base::slots(rt.alloc())?.as_slice());
     Ok(())
 }
 

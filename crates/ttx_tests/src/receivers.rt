@@ -1,35 +1,14 @@
 //! Receivers over the slots of a page whose row 1 stands two slots after its header, in fields of two slots.
 
-use ttx_header::{Control, PageId};
-use ttx_page::{PageMemory, Selection};
+use crate::base::{HEADER, beginning, holding_an_x, page_100};
 use ttx_receiver::{Careful, Cleared, Eager, Receiver, Scripted};
 
 fn header() -> [u8; 42] {
-    let mut slot = [0x20; 42];
-    let words = [0x02, 0x15, 0x15, 0x15, 0x15, 0x15, 0x15, 0x15, 0x15, 0x02];
-    slot[..10].copy_from_slice(&words);
-    slot
+    beginning(&HEADER)
 }
 
 fn row_1() -> [u8; 42] {
-    let mut slot = [0x20; 42];
-    slot[..2].copy_from_slice(&[0xc7, 0x15]);
-    slot
-}
-
-fn page_100() -> Selection {
-    match PageId::new(1, 0, 0) {
-        Some(id) => Selection::Exact(id),
-        None => Selection::AnySub(1, 0),
-    }
-}
-
-// A memory of spaces, but for an X at the begin of row 1.
-fn former(fresh: bool) -> PageMemory {
-    let mut rows = [[0x20; 40]; 25];
-    rows[1][0] = 0x58;
-    let memory = PageMemory::new(rows, Control(0), [None; 6], false, false, 64, fresh);
-    memory.unwrap_or(PageMemory::blank())
+    beginning(&[0xc7, 0x15])
 }
 
 // What stands at the begin of row 1 after two periods.
@@ -47,20 +26,20 @@ fn first_of_row_1<R: Receiver>(receiver: &mut R) -> u8 {
 
 #[test]
 fn a_row_within_a_field_may_be_missed(rt: HostRuntime) {
-    let mut eager = Eager::new(page_100(), 2, former(false));
+    let mut eager = Eager::new(page_100(), 2, holding_an_x(false));
     assert_eq!(rt; first_of_row_1(&mut eager), 0x20);
-    let mut careful = Careful::new(page_100(), 2, former(false));
+    let mut careful = Careful::new(page_100(), 2, holding_an_x(false));
     assert_eq!(rt; first_of_row_1(&mut careful), 0x58);
-    let mut in_time = Careful::new(page_100(), 1, former(false));
+    let mut in_time = Careful::new(page_100(), 1, holding_an_x(false));
     assert_eq!(rt; first_of_row_1(&mut in_time), 0x20);
 }
 
 #[test]
 fn a_receiver_that_clears_begins_anew(rt: HostRuntime) {
-    let mut cleared = Cleared::new(page_100(), 2, former(true));
+    let mut cleared = Cleared::new(page_100(), 2, holding_an_x(true));
     cleared.step(Some(&header()));
     assert_eq!(rt; cleared.memory().rows()[1][0], 0x20);
-    let mut settled = Cleared::new(page_100(), 2, former(false));
+    let mut settled = Cleared::new(page_100(), 2, holding_an_x(false));
     settled.step(Some(&header()));
     assert_eq!(rt; settled.memory().rows()[1][0], 0x58);
 }
@@ -68,11 +47,11 @@ fn a_receiver_that_clears_begins_anew(rt: HostRuntime) {
 // The slots with a choice are those of row 1, two slots after the header in each period.
 #[test]
 fn a_script_is_asked_at_each_choice(rt: HostRuntime) {
-    let mut once = Scripted::new(page_100(), 2, former(false), &[true]);
+    let mut once = Scripted::new(page_100(), 2, holding_an_x(false), &[true]);
     assert_eq!(rt; first_of_row_1(&mut once), 0x20);
-    let mut twice = Scripted::new(page_100(), 2, former(false), &[true, true]);
+    let mut twice = Scripted::new(page_100(), 2, holding_an_x(false), &[true, true]);
     assert_eq!(rt; first_of_row_1(&mut twice), 0x58);
-    let mut never = Scripted::new(page_100(), 2, former(false), &[]);
+    let mut never = Scripted::new(page_100(), 2, holding_an_x(false), &[]);
     assert_eq!(rt; first_of_row_1(&mut never), 0x20);
 }
 
@@ -83,7 +62,7 @@ fn a_character_with_a_wrong_bit_is_not_stored(rt: HostRuntime) {
     right[2] = 0xc1;
     let mut wrong = row_1();
     wrong[2] = 0xc0;
-    let mut eager = Eager::new(page_100(), 2, former(false));
+    let mut eager = Eager::new(page_100(), 2, holding_an_x(false));
     eager.step(Some(&header()));
     eager.step(Some(&right));
     assert_eq!(rt; eager.memory().rows()[1][0], 0x41);
@@ -94,7 +73,7 @@ fn a_character_with_a_wrong_bit_is_not_stored(rt: HostRuntime) {
 // Clocks that change with each header, of right and wrong parity.
 #[test]
 fn a_wild_clock_leaves_the_head(rt: HostRuntime) {
-    let mut careful = Careful::new(page_100(), 2, former(false));
+    let mut careful = Careful::new(page_100(), 2, holding_an_x(false));
     for clock in 0..=255 {
         let mut slot = header();
         slot[10] = 0xc1;

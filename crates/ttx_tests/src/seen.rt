@@ -3,71 +3,18 @@
 
 ghost use Rattle.std.specs.Prelude.{◌≤◌};
 
+use crate::base::{self, beginning};
 use std::alloc::{AllocError, Global};
 use std::test::Fail;
 use ttx_certify::{Verdict, certify};
 use ttx_cycle::Cycle;
 use ttx_header::{Control, PageId};
 use ttx_links::Links;
-use ttx_packet::{Slot, address, slot_of};
+use ttx_packet::{Slot, slot_of};
 use ttx_page::{Page, PageMemory, Selection};
 use ttx_receiver::{Careful, Eager, Receiver, Scripted};
 use ttx_render::{render, same_but_clock};
 use ttx_witness::read_certificate;
-
-// Some first bytes, and then the same byte to the end.
-fn slot(front: &[u8], last: u8) -> [u8; 42] {
-    let mut bytes = [last; 42];
-    for (byte, first) in bytes.iter_mut().zip(front) {
-        *byte = *first;
-    }
-    bytes
-}
-
-const HEADER: [u8; 10] = [0x02, 0x15, 0x15, 0x15, 0x15, 0x15, 0x15, 0x15, 0x15, 0x02];
-
-const FILLING: [u8; 10] = [0x02, 0x15, 0xea, 0xea, 0xea, 0x2f, 0xea, 0x5e, 0x15, 0x02];
-
-// X/27/0 of magazine 1 without links.
-fn links() -> [u8; 42] {
-    let mut bytes = [0; 42];
-    for at in 0..42usize {
-        bytes[at] = match at {
-            0 => 0xc7,
-            1 => 0xb6,
-            2 => 0x15,
-            39 => 0x2f,
-            40 | 41 => 0,
-            _ => match at % 6 {
-                0 => 0x2f,
-                2 => 0x5e,
-                _ => 0xea,
-            },
-        };
-    }
-    bytes
-}
-
-// A page of blank rows: its header, two empty slots, rows 1 to 23, X/27/0, a time-filling header.
-pub(crate) fn base(alloc: Global) -> Result<Vec<[u8; 42]>, AllocError> {
-    let mut slots = Vec::new(alloc);
-    slots.push(slot(&HEADER, 0x20))?;
-    slots.push([0; 42])?;
-    slots.push([0; 42])?;
-    for row in 1..24 {
-        slots.push(slot(&address(1, row), 0x20))?;
-    }
-    slots.push(links())?;
-    slots.push(slot(&FILLING, 0x20))?;
-    Ok(slots)
-}
-
-// Puts another slot in the place of one.
-fn put(slots: &mut [[u8; 42]], at: usize, bytes: [u8; 42]) {
-    if let Some(slot) = slots.get_mut(at) {
-        *slot = bytes;
-    }
-}
 
 // Page 100 with C11; its row 5 begins with a character.
 fn page(first_of_row_5: u8) -> Option<Page> {
@@ -79,7 +26,7 @@ fn page(first_of_row_5: u8) -> Option<Page> {
 }
 
 // The starts of each item of the page, in a cycle that is turned by some slots; row 6 may be left out.
-pub(crate) fn certificate(
+fn certificate(
     alloc: Global,
     repeat: u8,
     deadline: u8,
@@ -216,7 +163,7 @@ fn each_item_once(rt: HostRuntime) -> Result<(), Fail> {
     assert!(rt;
         is_right(
             rt.alloc(),
-            base(rt.alloc())?,
+            base::slots(rt.alloc())?,
             page(0x20),
             text.as_str(),
             54,
@@ -232,7 +179,7 @@ fn one_of_two_is_right(rt: HostRuntime) -> Result<(), Fail> {
     assert!(rt;
         is_right(
             rt.alloc(),
-            base(rt.alloc())?,
+            base::slots(rt.alloc())?,
             page(0x20),
             text.as_str(),
             82,
@@ -245,9 +192,8 @@ fn one_of_two_is_right(rt: HostRuntime) -> Result<(), Fail> {
 // In parallel transmission a header of another magazine doesn't end the page.
 #[test]
 fn a_parallel_header_between(rt: HostRuntime) -> Result<(), Fail> {
-    let mut slots = base(rt.alloc())?;
-    let header = [0x49, 0x15, 0x15, 0x15, 0x15, 0x15, 0x15, 0x15, 0x15, 0x15];
-    put(&mut slots, 1, slot(&header, 0x20));
+    let header = beginning(&[0x49, 0x15, 0x15, 0x15, 0x15, 0x15, 0x15, 0x15, 0x15, 0x15]);
+    let slots = base::edited(rt.alloc(), 1, 0, &header)?;
     let text = certificate(rt.alloc(), 1, 27, 0, true)?;
     assert!(rt; is_right(rt.alloc(), slots, page(0x20), text.as_str(), 54, 1));
     Ok(())
@@ -256,11 +202,10 @@ fn a_parallel_header_between(rt: HostRuntime) -> Result<(), Fail> {
 // Row 5 is in double height, so that row 6 isn't needed and isn't sent.
 #[test]
 fn a_hidden_row_is_left_out(rt: HostRuntime) -> Result<(), Fail> {
-    let mut slots = base(rt.alloc())?;
-    let mut row_5 = slot(&address(1, 5), 0x20);
-    row_5[2] = 0x0d;
-    put(&mut slots, 7, row_5);
-    put(&mut slots, 8, [0; 42]);
+    let mut slots = base::edited(rt.alloc(), 7, 2, &[0x0d])?;
+    if let Some(row_6) = slots.get_mut(8) {
+        *row_6 = [0; 42];
+    }
     let text = certificate(rt.alloc(), 1, 27, 0, false)?;
     assert!(rt; is_right(rt.alloc(), slots, page(0x0d), text.as_str(), 54, 1));
     Ok(())
@@ -268,7 +213,7 @@ fn a_hidden_row_is_left_out(rt: HostRuntime) -> Result<(), Fail> {
 
 #[test]
 fn a_cycle_that_begins_within_the_page(rt: HostRuntime) -> Result<(), Fail> {
-    let mut slots = base(rt.alloc())?;
+    let mut slots = base::slots(rt.alloc())?;
     if slots.len() >= 10 {
         slots.rotate_left(10);
     }
