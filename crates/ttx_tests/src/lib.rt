@@ -1,5 +1,5 @@
-//! The tests of all crates: worked examples, vectors from outside, devices that fail and growths that are refused. They stand here
-//! and not in their crates, since a crate with tests is proved twice.
+//! The tests of all crates: worked examples, vectors from outside, and devices that fail. They stand here and not in their
+//! crates, since a crate with tests is proved twice.
 #![tactic(auto)]
 
 #[cfg(test)]
