@@ -5,11 +5,15 @@
 
 BUILT = crates/ttx/out/ttx
 
+# so many crates are proved at a time, each in 1 to 4 GB
+JOBS = 4
+
 .PHONY: all ttx test demo bench
 
 all: ttx
 
 ttx:
+	rt all check --jobs $(JOBS)
 	cd crates/ttx && rt run < stdin > /dev/null
 	cp $(BUILT) ttx
 

@@ -1,11 +1,10 @@
 //! What is found of the starts that are named for one item.
 
-ghost use Rattle.std.specs.Prelude.{◌≡◌, ◌<◌, ◌≤◌, ◌+ℤ◌, ◌↔◌, IsTrue, pos, int_lt, true, IfOk, ℕ, List, [], length};
+ghost use Rattle.std.specs.Prelude.{◌≡◌, ◌<◌, ◌↔◌, IsTrue, true, IfOk, ℕ, List, [], length};
 ghost use Rattle.ttx_cycle.specs.Cycles.{slots_of};
 ghost use Rattle.ttx_page.specs.declared.class.Class.TheVariants.{Clearing};
 ghost use Rattle.ttx_page.specs.Pages as definitions;
 ghost use Rattle.ttx_page.specs.Views.{page_of};
-ghost use Rattle.ttx_witness.specs.Confirming.{late_after};
 ghost use Rattle.ttx_witness.specs.Certificates.{certificate_of};
 ghost use Rattle.ttx_witness.specs.Coverage as coverage;
 ghost use Rattle.ttx_witness.specs.Sent.{sent_in};
@@ -18,14 +17,10 @@ ghost use Rattle.ttx_witness.specs.Entries.{is_empty};
 use std::alloc::Global;
 use ttx_cycle::Cycle;
 use ttx_page::{Class, Item, Page, is_blank, needed};
-use ttx_witness::confirming::Progress;
-use ttx_witness::items::judge_item;
-use ttx_witness::page_items::run_length;
-use ttx_witness::transmissions::Transmission;
-use ttx_witness::{Certificate, NoMemory};
+use ttx_witness::{Certificate, NoMemory, Transmission, judge_item, late_at_end, run_length};
 
 /// The reasons that speak of named starts, in the order in which they are told.
-#[derive(Clone, Copy, PartialEq, Eq, Debug)]
+#[derive(Clone, Copy)]
 pub enum Doubt {
     NoWitness,
     WitnessBad,
@@ -34,7 +29,7 @@ pub enum Doubt {
 }
 
 /// A reason that is true of an item, and the start or header that it names; 0 where it names none.
-#[derive(Clone, Copy, PartialEq, Eq, Debug)]
+#[derive(Clone, Copy)]
 pub struct Finding {
     pub item: Item,
     pub doubt: Doubt,
@@ -53,35 +48,6 @@ pub fn limit(certificate: &Certificate) -> u32
 {
     ttx_witness::certificate_laws::certificates_keep_their_rules();
     certificate.deadline() * u32::from(certificate.lines())
-}
-
-/// So many slots later.
-pub fn later(slot: i32, count: u32) -> i64
-    ensures { result ≡ slot +ℤ pos count }
-{
-    i64::from(slot) + i64::from(count)
-}
-
-// Whether the first run of the next period ends more than the limit after the slot.
-fn is_past(slot: i32, limit: u32, first_end: i32, period: u32) -> bool
-    ensures { result ≡ int_lt (slot +ℤ pos limit) (first_end +ℤ pos period) }
-{
-    later(slot, limit) < later(first_end, period)
-}
-
-// The least named start that the next one follows too late, where after the last one the first comes a period later.
-fn late_start(progress: Progress, period: u32, starts: &[u32], limit: u32) -> Option<u32>
-    requires { progress.next ≤ length starts.now }
-    ensures { result ≡ late_after limit starts.now progress (progress.first_end +ℤ pos period) }
-{
-    if progress.next == 0 || progress.late.is_some() {
-        return progress.late;
-    }
-    if is_past(progress.previous, limit, progress.first_end, period) {
-        Some(starts[progress.next - 1])
-    } else {
-        progress.late
-    }
 }
 
 // What one pass over the item's transmissions tells of its named starts.
@@ -109,7 +75,7 @@ fn judged(
     if progress.next < starts.len() {
         return Ok(Some(found(item, Doubt::WitnessBad, starts[progress.next])));
     }
-    match late_start(progress, period, starts, limit) {
+    match late_at_end(progress, period, starts, limit) {
         Some(at) => Ok(Some(found(item, Doubt::Late, at))),
         None => Ok(None),
     }

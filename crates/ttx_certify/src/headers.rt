@@ -4,8 +4,14 @@ ghost use Rattle.std.specs.Prelude.{◌≡◌, ◌+◌, ◌<◌, ◌+ℤ◌, pos
 ghost use Rattle.ttx_witness.specs.JudgingLaws.{first_again, late_header};
 ghost use Rattle.ttx_certify.specs.Headers.{slot_or};
 
-use crate::findings::later;
-use ttx_witness::transmissions::Transmission;
+use ttx_witness::Transmission;
+
+// So many slots later.
+fn later(slot: i32, count: u32) -> i64
+    ensures { result ≡ slot +ℤ pos count }
+{
+    i64::from(slot) + i64::from(count)
+}
 
 // The slot of the header after the i-th; after the last one comes the first, a period later.
 fn next_slot(heads: &[Transmission], i: usize, period: u32) -> i64

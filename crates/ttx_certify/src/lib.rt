@@ -2,19 +2,19 @@
 #![tactic(auto)]
 
 mod certifying;
-pub mod faults;
+mod faults;
 mod files;
-pub mod findings;
+mod findings;
 mod headers;
 pub mod laws;
 mod page_findings;
 mod receiving;
 mod services;
-pub mod verdict;
+mod verdict;
 mod verdict_lines;
 
 pub use certifying::certify;
-pub use faults::FilesFault;
+pub use faults::{FilesFault, TextFile};
 pub use files::certify_files;
 pub use receiving::receive;
 pub use services::{certify_service, find_service};

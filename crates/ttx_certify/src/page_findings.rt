@@ -18,8 +18,7 @@ use std::alloc::Global;
 use ttx_cycle::Cycle;
 use ttx_header::PageId;
 use ttx_page::{Class, Item, Page};
-use ttx_witness::page_items::item_of;
-use ttx_witness::{Certificate, Collected, NoMemory, Reason};
+use ttx_witness::{Certificate, Collected, NoMemory, Reason, item_of};
 
 // The number of the reason.
 fn order(doubt: Doubt) -> u8

@@ -8,8 +8,7 @@ use crate::verdict::Verdict;
 use std::alloc::{AllocError, Global};
 use ttx_header::PageId;
 use ttx_page::{Class, Item};
-use ttx_witness::writing::{push_id, push_item};
-use ttx_witness::{Certificate, NoMemory, Reason};
+use ttx_witness::{Certificate, NoMemory, Reason, push_id, push_item};
 
 fn push_page(text: &mut String, name: &str, page: PageId) -> Result<(), AllocError>
     ensures { OnOk result (string_bytes text.new ≡ string_bytes text.old ++ page_words name.now page) }

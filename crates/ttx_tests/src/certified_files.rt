@@ -3,8 +3,7 @@
 use crate::base::{self, CERTIFICATE, SERVICE};
 use std::alloc::{AllocError, Global};
 use std::test::Fail;
-use ttx_certify::faults::TextFile;
-use ttx_certify::{FilesFault, Verdict, certify_files};
+use ttx_certify::{FilesFault, TextFile, Verdict, certify_files};
 use ttx_cycle::Counted;
 use ttx_cycle::faulty::{Failure, FaultyReader, FaultyWriter};
 use ttx_header::time_fill;

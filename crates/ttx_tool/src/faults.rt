@@ -3,7 +3,7 @@
 ghost use Rattle.std.specs.Prelude.{◌≡◌};
 
 use thiserror::Error;
-use ttx_certify::faults::TextFile;
+use ttx_certify::TextFile;
 use ttx_cycle::{CycleFault, WriteFault};
 use ttx_plan::PlanFault;
 use ttx_source::SourceError;

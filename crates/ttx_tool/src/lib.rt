@@ -16,4 +16,4 @@ mod views;
 pub use faults::ToolFault;
 pub use orders::{Order, ReceiverKind, Tuning, WordsFault};
 pub use parsing::words;
-pub use ttx_certify::faults::TextFile;
+pub use ttx_certify::TextFile;

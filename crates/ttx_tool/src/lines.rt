@@ -17,7 +17,7 @@ use ttx_info::{Info, InfoFault, read_info};
 use ttx_links::{Links, read_links};
 use ttx_packet::place::Address;
 use ttx_packet::{Slot, clean, slot_of};
-use ttx_witness::writing::push_id;
+use ttx_witness::push_id;
 
 // Adds the names of the set flags, each after a space.
 fn push_flags(

@@ -5,7 +5,7 @@ ghost use Rattle.ttx_tool.specs.Texts.{link_text, links_text, two_digits, date_t
 
 use std::alloc::AllocError;
 use ttx_links::Target;
-use ttx_witness::writing::{digit, push_numbers};
+use ttx_witness::{digit, push_numbers};
 
 // Adds a space and where a link leads.
 fn push_link(text: &mut String, link: &Option<Target>) -> Result<(), AllocError>

@@ -1,6 +1,6 @@
 //! Named starts of an item, confirmed by the runs of a period in their order.
 
-ghost use Rattle.std.specs.Prelude.{◌≡◌, ◌≤◌, ◌+ℤ◌, ◌^◌, ◌≤ℤ◌, pos, int_lt, length};
+ghost use Rattle.std.specs.Prelude.{◌≡◌, ◌≤◌, ◌+ℤ◌, pos, int_lt, length};
 ghost use Rattle.ttx_witness.specs.Confirming.{is_next, late_after, confirmed};
 
 use crate::transmissions::Run;
@@ -23,14 +23,14 @@ fn is_next(starts: &[u32], next: usize, run: Run) -> bool
 }
 
 // Whether a run ends more than the limit after the slot.
-fn is_past(slot: i32, limit: u32, end: i32) -> bool
+fn is_past(slot: i32, limit: u32, end: i64) -> bool
     ensures { result ≡ int_lt (slot +ℤ pos limit) end }
 {
-    i64::from(slot) + i64::from(limit) < i64::from(end)
+    i64::from(slot) + i64::from(limit) < end
 }
 
-/// The least named start so far whose next run ends more than the limit after its owner.
-pub fn late_after(limit: u32, starts: &[u32], progress: Progress, end: i32) -> Option<u32>
+// The least named start so far whose next run, which ends at `end`, ends more than the limit after its owner.
+fn late_after(limit: u32, starts: &[u32], progress: Progress, end: i64) -> Option<u32>
     requires { progress.next ≤ length starts.now }
     ensures { result ≡ late_after limit starts.now progress end }
 {
@@ -57,7 +57,7 @@ pub fn confirm(progress: Progress, run: Run, starts: &[u32], limit: u32) -> Prog
     } else {
         progress.first_end
     };
-    let late = late_after(limit, starts, progress, run.end);
+    let late = late_after(limit, starts, progress, i64::from(run.end));
     Progress {
         next: progress.next + 1,
         previous: run.owner,
@@ -66,14 +66,12 @@ pub fn confirm(progress: Progress, run: Run, starts: &[u32], limit: u32) -> Prog
     }
 }
 
-/// The least named start that the next one follows too late, where the last one is followed by the first
-/// a period later.
+/// The least named start that the next one follows more than the limit later, where the last one is followed by the
+/// first a period later; all in slots.
 pub fn late_at_end(progress: Progress, period: u32, starts: &[u32], limit: u32) -> Option<u32>
-    requires next { progress.next ≤ length starts.now }
-    requires end { progress.first_end ≤ℤ pos (2 ^ 30) }
-    requires end_low { pos 0 ≤ℤ progress.first_end }
-    requires short { period ≤ 65536 }
+    requires { progress.next ≤ length starts.now }
     ensures { result ≡ late_after limit starts.now progress (progress.first_end +ℤ pos period) }
 {
-    late_after(limit, starts, progress, progress.first_end + period as i32)
+    let end = i64::from(progress.first_end) + i64::from(period);
+    late_after(limit, starts, progress, end)
 }

@@ -9,7 +9,7 @@ ghost use Rattle.ttx_tool.specs.Planning.{Defines, PlansText, CountsDefinition, 
 use crate::faults::ToolFault;
 use std::alloc::{AllocError, Global};
 use std::io::{Read, Write};
-use ttx_certify::faults::TextFile;
+use ttx_certify::TextFile;
 use ttx_cycle::{Counted, Cycle, TextFault, read_text, write_bytes, write_cycle};
 use ttx_page::Class;
 use ttx_plan::plan_for;

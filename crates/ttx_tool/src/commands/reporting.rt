@@ -10,7 +10,7 @@ use crate::faults::ToolFault;
 use crate::orders::WordsFault;
 use std::alloc::{AllocError, Global};
 use std::io::Write;
-use ttx_certify::faults::TextFile;
+use ttx_certify::TextFile;
 use ttx_cycle::{Counted, CycleFault, write_bytes};
 use ttx_plan::PlanFault;
 use ttx_source::{SourceError, SourceFault};
