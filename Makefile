@@ -20,6 +20,7 @@ ttx:
 test:
 	rt ci
 	sh tests/cli.sh $(BUILT)
+	sh tests/memory.sh $(BUILT)
 
 demo: ttx
 	sh demo/demo.sh ./ttx

@@ -14,7 +14,8 @@
 #   status    the exit status (no such file: 0)
 #   out       pairs 'NAME WANTED': afterwards the file NAME must hold the bytes of WANTED of tests/data
 #   absent    names of files that mustn't be there afterwards, one a line
-#   to        a device that takes standard output, as /dev/full, or closed-pipe (stdout isn't compared then)
+#   to        a device that takes standard output, as /dev/full, or closed-pipe, or closed for none at all (stdout isn't
+#             compared then)
 #   errors-to the same of standard error, but for closed-pipe
 set -u
 . "$(dirname "$0")/workplace.sh"
@@ -37,14 +38,24 @@ repeat() {
     truncate -s "$3" "$1"
 }
 
-# standard output of a case: to a file or a device, or to a pipe that nobody reads
+# standard output of a case: to a file or a device, or to a pipe that nobody reads, or closed
 open_output() {
-    if [ "$1" = closed-pipe ]; then
+    case $1 in
+    closed) ;;
+    closed-pipe)
         mkfifo "$place/pipe"
         exec 4<> "$place/pipe" 3> "$place/pipe" 4>&-
-    else
-        exec 3> "$1"
-    fi
+        ;;
+    *) exec 3> "$1" ;;
+    esac
+}
+
+# the program with these words, its streams those of the case
+run() {
+    cd "$place/in" || exit 1
+    if [ "$output" = closed ]; then exec >&-; else exec >&3 3>&-; fi
+    if [ "$errors" = closed ]; then exec 2>&-; else exec 2> "$errors"; fi
+    exec timeout 120 "$program" "$@" < "$input"
 }
 
 for case in "$here"/cases/*/; do
@@ -77,7 +88,7 @@ for case in "$here"/cases/*/; do
         while IFS= read -r word; do set -- "$@" "$word"; done < "$case/args"
     fi
     open_output "$output"
-    (cd "$place/in" && timeout 120 "$program" "$@" < "$input" >&3 3>&- 2> "$errors")
+    (run "$@")
     status=$?
     exec 3>&-
     wanted=0

@@ -4,6 +4,7 @@
 mod devices;
 mod running;
 
+use devices::hold_streams;
 use running::run_order;
 use std::process::ExitCode;
 use std::{env, io};
@@ -83,6 +84,7 @@ fn run(rt: &HostRuntime) -> io::Result<u8> {
 }
 
 fn main(rt: HostRuntime) -> ExitCode {
+    let _streams = hold_streams(&rt);
     match run(&rt) {
         Ok(status) => ExitCode::from(status),
         Err(error) => ExitCode::from(words_fault(&rt, &error)),

@@ -1,0 +1,62 @@
+#!/bin/sh
+# Runs the built program in less and less memory (address space, in KiB), over a cycle of 65,520 slots and a service of seven
+# pages. Each command either does what it does with enough memory, or ends with `fault: memory`, status 3, and OUT empty or
+# not made; and each does both somewhere.
+#
+# usage: memory.sh PROGRAM
+set -u
+. "$(dirname "$0")/workplace.sh"
+cd "$work" || exit 1
+cp "$top/examples/broadcast.toml" "$top/tests/data/base.toml" .
+base=$top/tests/data/base.t42
+for _ in $(seq $((65536 * 42 / $(wc -c < "$base")))); do cat "$base"; done > long.t42
+"$program" find long.t42 base.toml long.cert > /dev/null || exit 1
+runs=0
+failed=0
+
+fail() {
+    echo "FAILED memory: $command, $room KiB: $1"
+    failed=$((failed + 1))
+}
+
+# What a command did in its room: status 127 is that of a program that can't even be loaded.
+judge() {
+    case $status in
+    0)
+        finished=$((finished + 1))
+        cmp -s wanted.stdout stdout && [ ! -s stderr ] && cmp -s wanted.out out || fail "it does something else"
+        ;;
+    3)
+        refused=$((refused + 1))
+        [ ! -s stdout ] && [ "$(cat stderr)" = "fault: memory" ] && [ ! -s out ] || fail "status 3, and $(head -c 300 stderr)"
+        ;;
+    127) ;;
+    *) fail "status $status" ;;
+    esac
+}
+
+for command in "plan broadcast.toml out" "find long.t42 base.toml out" "certify long.t42 base.toml long.cert" \
+    "receive long.t42 100 --slots 20000"; do
+    finished=0
+    refused=0
+    rm -f out
+    : > wanted.out
+    # the words of a command stand one by one
+    # shellcheck disable=SC2086
+    "$program" $command > wanted.stdout || exit 1
+    [ -f out ] && mv out wanted.out
+    for room in $(seq 2000 100 12000); do
+        : > out
+        # shellcheck disable=SC2086
+        (ulimit -v "$room" && exec "$program" $command) > stdout 2> stderr
+        status=$?
+        runs=$((runs + 1))
+        judge
+    done
+    room=12000
+    [ "$finished" -gt 0 ] || fail "it never has enough memory"
+    [ "$refused" -gt 0 ] || fail "it is never refused memory"
+done
+
+echo "memory: $runs runs, $failed failed"
+[ "$failed" = 0 ]
