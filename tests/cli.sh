@@ -21,12 +21,6 @@ set -u
 . "$(dirname "$0")/workplace.sh"
 here=$top/tests
 count=0
-failed=0
-
-fail() {
-    echo "FAILED $name: $1"
-    failed=$((failed + 1))
-}
 
 # NAME holds FROM again and again, up to SIZE bytes
 repeat() {

@@ -12,12 +12,6 @@ base=$top/tests/data/base.t42
 for _ in $(seq $((65536 * 42 / $(wc -c < "$base")))); do cat "$base"; done > long.t42
 "$program" find long.t42 base.toml long.cert > /dev/null || exit 1
 runs=0
-failed=0
-
-fail() {
-    echo "FAILED memory: $command, $room KiB: $1"
-    failed=$((failed + 1))
-}
 
 # What a command did in its room: status 127 is that of a program that can't even be loaded.
 judge() {
@@ -46,6 +40,7 @@ for command in "plan broadcast.toml out" "find long.t42 base.toml out" "certify 
     "$program" $command > wanted.stdout || exit 1
     [ -f out ] && mv out wanted.out
     for room in $(seq 2000 100 12000); do
+        name="$command, $room KiB"
         : > out
         # shellcheck disable=SC2086
         (ulimit -v "$room" && exec "$program" $command) > stdout 2> stderr
@@ -53,7 +48,7 @@ for command in "plan broadcast.toml out" "find long.t42 base.toml out" "certify 
         runs=$((runs + 1))
         judge
     done
-    room=12000
+    name=$command
     [ "$finished" -gt 0 ] || fail "it never has enough memory"
     [ "$refused" -gt 0 ] || fail "it is never refused memory"
 done

@@ -4,7 +4,7 @@ use crate::devices::{Input, open_input};
 use std::fs::File;
 use std::io;
 use std::io::BufReader;
-use ttx_certify::{FilesFault, Verdict, certify_files};
+use ttx_certify::{Verdict, certify_files};
 use ttx_cycle::Counted;
 use ttx_page::{Class, PageMemory};
 use ttx_receiver::{Careful, Cleared, Eager, Receiver};
@@ -70,19 +70,6 @@ fn receive(rt: &HostRuntime, input: Input, tuning: &Tuning) -> Result<u8, ToolFa
     }
 }
 
-// The tool's fault of the same name.
-fn tool_fault(fault: FilesFault) -> ToolFault {
-    match fault {
-        FilesFault::Cycle(fault) => ToolFault::Cycle(fault),
-        FilesFault::Service(error) => ToolFault::Service(error),
-        FilesFault::Certificate(fault) => ToolFault::Certificate(fault),
-        FilesFault::Read { which } => ToolFault::Read { which },
-        FilesFault::TooLong { which } => ToolFault::TooLong { which },
-        FilesFault::Write { written } => ToolFault::Write { written },
-        FilesFault::NoMemory => ToolFault::NoMemory,
-    }
-}
-
 // Judges a cycle by a certificate: status 0 where the verdict is Yes, else 1.
 fn certify(
     rt: &HostRuntime,
@@ -103,7 +90,7 @@ fn certify(
     ) {
         Ok(Verdict::Yes) => Ok(0),
         Ok(Verdict::No(_)) => Ok(1),
-        Err(fault) => Err(tool_fault(fault)),
+        Err(fault) => Err(ToolFault::from_files(fault)),
     }
 }
 

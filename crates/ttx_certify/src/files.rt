@@ -35,8 +35,11 @@ struct Told {
     line: String,
 }
 
-// Reads the text of a service.
-fn read_definition<R: Read>(alloc: Global, reader: &mut Counted<R>) -> Result<Service, FilesFault>
+/// Reads the text of a service definition, of at most 4,194,304 bytes. Its faults are `Service`, `Read`, `TooLong` and `NoMemory`.
+pub fn read_definition<R: Read>(
+    alloc: Global,
+    reader: &mut Counted<R>,
+) -> Result<Service, FilesFault>
     ensures bytes { IfSome (R.remaining (inner_of reader.old)) (λ bytes. ReadsService bytes result) }
     ensures faults { CountsRead TextFile.Service result (faults_of reader.old) (faults_of reader.new) }
 {

@@ -15,7 +15,7 @@ mod verdict_lines;
 
 pub use certifying::certify;
 pub use faults::{FilesFault, TextFile};
-pub use files::certify_files;
+pub use files::{certify_files, read_definition};
 pub use receiving::receive;
 pub use services::{certify_service, find_service};
 pub use verdict::Verdict;

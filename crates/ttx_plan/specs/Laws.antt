@@ -1,4 +1,4 @@
--- Laws of planned cycles, which the layers above may use. Each is proved by the function of its name in `laws`.
+-- Laws of planned cycles, which the layers above may use: the clauses of `laws::planned_cycles_keep_their_rules`.
 --
 --   IsSaid                  the fields of packet 8/30 are in their ranges
 --   PlannedIsClean          one wrong bit in each byte makes no other packet of a slot

@@ -1,4 +1,4 @@
-//! Texts of characters, and of hexadecimal digits.
+//! Texts of characters, page numbers, subcodes and links.
 
 ghost use Rattle.std.specs.Prelude.{◌≡◌, ◌≢◌, ◌≤◌, ◌<◌, ◌+◌, ◌-◌, ◌++◌, length, replicate, nat_lt, slice_index, ℕ, IfSome, IfOk};
 ghost use Rattle.std.specs.List.{list_all};
@@ -7,6 +7,7 @@ ghost use Rattle.ttx_header.specs.Ids.{IsSubcode};
 ghost use Rattle.ttx_source.specs.Values as rule;
 ghost use Rattle.ttx_source.specs.Faults.{outcome};
 
+use crate::digits::{first_number, four_digits, two_digits};
 use crate::faults::SourceFault;
 use ttx_links::Target;
 
@@ -49,55 +50,6 @@ pub fn characters<const N: usize>(text: &str) -> Result<[u8; N], SourceFault>
         return Err(SourceFault::Character);
     }
     Ok(padded::<N>(text.as_bytes()))
-}
-
-// The value of a digit, 0 to 9 and A to F.
-#[tactic(auto, unfolding(crate::specs::Values::digit))]
-fn digit(code: u8) -> Option<u8>
-    ensures value { result ≡ rule.digit code }
-    ensures small { IfSome result (λ n. n < 16) }
-{
-    match code {
-        b'0'..=b'9' => Some(code - b'0'),
-        b'A'..=b'F' => Some(code - b'A' + 10),
-        _ => None,
-    }
-}
-
-// The number of the two digits from a place on.
-#[tactic(auto, unfolding(crate::specs::Values::two_digits))]
-fn two_digits(text: &[u8], at: usize) -> Option<u8>
-    requires { at + 2 ≤ length text.now }
-    ensures { result ≡ rule.two_digits text.now at }
-{
-    let high = digit(text[at])?;
-    let low = digit(text[at + 1])?;
-    Some(16 * high + low)
-}
-
-// The number of the four digits from a place on.
-#[tactic(auto, unfolding(crate::specs::Values::four_digits))]
-fn four_digits(text: &[u8], at: usize) -> Option<u16>
-    requires { at + 4 ≤ length text.now }
-    ensures { result ≡ rule.four_digits text.now at }
-{
-    let high = two_digits(text, at)?;
-    let low = two_digits(text, at + 2)?;
-    Some(256 * high as u16 + low as u16)
-}
-
-// The magazine and the page number in the first three characters.
-#[tactic(auto, unfolding(crate::specs::Values::first_number))]
-fn first_number(text: &[u8]) -> Option<(u8, u8)>
-    requires { 3 ≤ length text.now }
-    ensures value { result ≡ rule.first_number text.now }
-    ensures ranges { IfSome result (λ n. (1 ≤ n.0) × (n.0 ≤ 8) × (n.1 ≢ 255)) }
-{
-    let page = two_digits(text, 1)?;
-    if text[0] < b'1' || text[0] > b'8' || page == 0xFF {
-        return None;
-    }
-    Some((text[0] - b'0', page))
 }
 
 /// The magazine and the page number that `MPP` names.

@@ -1,3 +1,4 @@
+pub mod FilesFaults
 pub mod Texts
 pub mod Lines
 pub mod Inspecting

@@ -1,9 +1,10 @@
 //! Why a command fails.
 
 ghost use Rattle.std.specs.Prelude.{◌≡◌};
+ghost use Rattle.ttx_tool.specs.FilesFaults.{tool_fault};
 
 use thiserror::Error;
-use ttx_certify::TextFile;
+use ttx_certify::{FilesFault, TextFile};
 use ttx_cycle::{CycleFault, WriteFault};
 use ttx_plan::PlanFault;
 use ttx_source::SourceError;
@@ -41,6 +42,21 @@ pub enum ToolFault {
 }
 
 impl ToolFault {
+    /// The certifier's fault of the same name.
+    pub fn from_files(fault: FilesFault) -> ToolFault
+        ensures { result ≡ tool_fault fault }
+    {
+        match fault {
+            FilesFault::Cycle(fault) => ToolFault::Cycle(fault),
+            FilesFault::Service(error) => ToolFault::Service(error),
+            FilesFault::Certificate(fault) => ToolFault::Certificate(fault),
+            FilesFault::Read { which } => ToolFault::Read { which },
+            FilesFault::TooLong { which } => ToolFault::TooLong { which },
+            FilesFault::Write { written } => ToolFault::Write { written },
+            FilesFault::NoMemory => ToolFault::NoMemory,
+        }
+    }
+
     // The same fault of a command that wrote nothing else.
     pub(crate) fn from_write(fault: WriteFault) -> ToolFault
         ensures { result ≡ ToolFault.Write fault.written }

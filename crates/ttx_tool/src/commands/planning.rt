@@ -9,14 +9,10 @@ ghost use Rattle.ttx_tool.specs.Planning.{Defines, PlansText, CountsDefinition, 
 use crate::faults::ToolFault;
 use std::alloc::{AllocError, Global};
 use std::io::{Read, Write};
-use ttx_certify::TextFile;
-use ttx_cycle::{Counted, Cycle, TextFault, read_text, write_bytes, write_cycle};
+use ttx_cycle::{Counted, Cycle, write_bytes, write_cycle};
 use ttx_page::Class;
 use ttx_plan::plan_for;
-use ttx_source::{Service, read_service};
-
-// The most bytes of a text.
-const MOST_BYTES: usize = 4_194_304;
+use ttx_source::Service;
 
 // Reads the text of a service.
 pub(super) fn read_definition<R: Read>(
@@ -26,16 +22,9 @@ pub(super) fn read_definition<R: Read>(
     ensures bytes { IfSome (R.remaining (inner_of reader.old)) (λ bytes. Defines bytes result) }
     ensures faults { CountsDefinition result (faults_of reader.old) (faults_of reader.new) }
 {
-    let which = TextFile::Service;
-    let text = match read_text(alloc, reader, MOST_BYTES) {
-        Ok(text) => text,
-        Err(TextFault::Read) => return Err(ToolFault::Read { which }),
-        Err(TextFault::TooLong) => return Err(ToolFault::TooLong { which }),
-        Err(TextFault::NoMemory) => return Err(ToolFault::NoMemory),
-    };
-    match read_service(alloc, text.as_slice()) {
+    match ttx_certify::read_definition(alloc, reader) {
         Ok(service) => Ok(service),
-        Err(error) => Err(ToolFault::Service(error)),
+        Err(fault) => Err(ToolFault::from_files(fault)),
     }
 }
 

@@ -1,4 +1,3 @@
-use Rattle.std.proofs.Common.{rules}
 use Rattle.ttx_tool.specs.Grammar.{ttx_app}
 use Rattle.ttx_tool.proofs.grammar.ttx.Goals as goal
 
