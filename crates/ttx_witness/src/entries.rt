@@ -33,6 +33,7 @@ fn is_page_id(page: PageId) -> bool
     ensures value { result ≡ is_page_id page }
     ensures ranges { IsId page }
 {
+    // This call tells the ranges of the id.
     let _mag = page.mag();
     page.page() != 0xff && page.sub() != 0x3f7f
 }
@@ -71,8 +72,8 @@ pub(crate) fn place(page: PageId, item: Item) -> u32
     ensures id { IsId page }
     ensures item { is_item item ≡ true }
 {
-    let _mag = page.mag();
-    let key = (u32::from(page.mag()) * 256 + u32::from(page.page())) * 16384;
+    let mag = page.mag();
+    let key = (u32::from(mag) * 256 + u32::from(page.page())) * 16384;
     (key + u32::from(page.sub())) * 26 + u32::from(item_number(&item))
 }
 
@@ -86,6 +87,7 @@ impl Entry {
         requires starts { are_starts starts.items ≡ true }
         ensures { entry_of result ≡ entry_at page item starts.items }
     {
+        // These calls tell the ranges of the id and of the item.
         let _mag = page.mag();
         let _number = item_number(&item);
         Entry { page, item, starts }
@@ -96,6 +98,7 @@ impl Entry {
         ensures some { IsSome result ↔ IsEntry (entry_at page item starts.items) }
         ensures fields { IfSome result (λ e. entry_of e ≡ entry_at page item starts.items) }
     {
+        // This call tells the range of the item.
         let _number = item_number(&item);
         if is_page_id(page) && are_starts(starts.as_slice()) {
             Some(Entry::of(page, item, starts))

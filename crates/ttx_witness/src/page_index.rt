@@ -22,8 +22,8 @@ pub struct PageIndex {
 fn key(id: PageId) -> u32
     ensures { result ≡ key_of id }
 {
-    let _mag = id.mag();
-    (u32::from(id.mag()) * 256 + u32::from(id.page())) * 16384 + u32::from(id.sub())
+    let mag = id.mag();
+    (u32::from(mag) * 256 + u32::from(id.page())) * 16384 + u32::from(id.sub())
 }
 
 /// The place of the page with this id.
