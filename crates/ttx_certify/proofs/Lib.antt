@@ -1,5 +1,4 @@
 mod Seeing
-mod Runs
 mod Found
 mod OneByOne
 mod Accepting

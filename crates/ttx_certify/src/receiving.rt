@@ -12,6 +12,7 @@ pub fn receive<R: Receiver>(receiver: &mut R, slots: &[[u8; 42]])
     ensures lines { R.field receiver.new ≡ R.field receiver.old }
     ensures class { R.kind receiver.new ≡ R.kind receiver.old }
 {
+    ttx_page::laws::runs_go_on();
     for slot in slots {
         receiver.step(Some(slot));
     }

@@ -2,3 +2,4 @@ pub mod Choices
 pub mod Cases
 pub mod Receptions
 pub mod Addresses
+pub mod Numbered

@@ -4,6 +4,7 @@
 --   EachSlotMayBeReceivedAsSent     no wrong bit is permitted
 --   EmptySlotsAreEmpty              the kind of 42 zero bytes
 --   AddressIsReadBack               the kind of a packet that begins with a written address
+--   RowsAreNumbered                 the number of a row
 use Rattle.std.specs.Prelude.{◌≡◌, ◌⊎◌, ◌↔◌, ℕ, ◌<◌, ◌≤◌, List, ◌++◌, true, false}
 use Rattle.ttx_packet.specs.Slots.{IsSlot, IsEmpty, IsRow, kind_of, packet_kind, is_empty, is_clean, are_words, address_bytes, read_number}
 use Rattle.ttx_packet.specs.Receptions.{MayBeReceivedAs}
@@ -30,3 +31,7 @@ pub record IsReadBack (mag number : ℕ) (rest : List ℕ) : Type 0 where
 
 abbrev pub AddressIsReadBack : Type 0
 AddressIsReadBack = (mag number : ℕ) (rest : List ℕ) → 1 ≤ mag → mag ≤ 8 → number < 32 → IsReadBack mag number rest
+
+-- the number of a row is 1 to 24
+abbrev pub RowsAreNumbered : Type 0
+RowsAreNumbered = (slot : List ℕ) (mag number : ℕ) → kind_of slot ≡ IsRow mag number → (1 ≤ number) × (number ≤ 24)

@@ -1,6 +1,6 @@
 //! Laws of slots. A call costs nothing and gives the caller's proof the law.
 
-ghost use Rattle.ttx_packet.specs.Laws.{KindIsKept, EachSlotMayBeReceivedAsSent, EmptySlotsAreEmpty, AddressIsReadBack};
+ghost use Rattle.ttx_packet.specs.Laws.{KindIsKept, EachSlotMayBeReceivedAsSent, EmptySlotsAreEmpty, AddressIsReadBack, RowsAreNumbered};
 
 /// One wrong bit in each byte leaves the kind, the magazine and the number of a clean slot, with one exception: row 2
 /// of magazine 1 may be received as 42 zero bytes, and then no character of it is received.
@@ -30,3 +30,8 @@ pub fn address_is_read_back()
     ttx_code::laws::words_are_read();
     ttx_code::laws::words_are_words();
 }
+
+/// The number of a row is 1 to 24.
+pub fn rows_are_numbered()
+    ensures { RowsAreNumbered }
+{}

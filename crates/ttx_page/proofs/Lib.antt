@@ -6,6 +6,7 @@ pub mod Places
 pub mod Blank
 pub mod Choices
 pub mod Exact
+pub mod GoingOn
 pub mod Moved
 pub mod OwnContents
 pub mod Owners

@@ -2,7 +2,7 @@
 --
 --   PagesKeepTheirRules, PagesHaveSixLinks, MemoriesKeepTheirRules          the values of the program are in their ranges
 --   BlankIsFormer, PageIsShown, ErasedHoldsBlank, BlankIsTested             what a blank memory, a page's own memory and a cleared one are
---   EachListRuns, ScriptedRuns, ChoicesAreChoices   receivers have a run over each list; where a choice matters
+--   EachListRuns, RunsGoOn, ScriptedRuns, ChoicesAreChoices         receivers have a run over each list; where a choice matters
 --   ExactIsReceived         reception without errors is within the error rule
 --   IsSameOn, Turn, CyclesRepeat, EachSlotTurns, JoinedIsOldThenNew         a cycle's stream has its period
 --   Moves, StreamsMove      what is the same some slots on: owners, transmissions and runs
@@ -10,7 +10,7 @@
 --   RunsAreUnique, RunsRise         runs from a slot
 --   NoHeaderIsNone          reason 2 is true where there is no header of the page
 --   SteadySendsItsOwn       no reason is true exactly where the page's own contents are sent
-use Rattle.std.specs.Prelude.{◌≡◌, ◌↔◌, ℕ, zero, suc, ◌<◌, ◌≤◌, ℤ, pos, ◌+ℤ◌, ◌-ℤ◌, ◌<ℤ◌, ◌≤ℤ◌, Bool, true, false, List, [], ◌∷◌, length}
+use Rattle.std.specs.Prelude.{◌≡◌, ◌↔◌, ℕ, zero, suc, ◌<◌, ◌≤◌, ℤ, pos, ◌+ℤ◌, ◌-ℤ◌, ◌<ℤ◌, ◌≤ℤ◌, Bool, true, false, List, [], ◌∷◌, ◌++◌, length}
 use Rattle.std.specs.List.{AllByRecursion}
 use Rattle.ttx_packet.specs.Slots.{IsSlot}
 use Rattle.ttx_header.specs.Ids.{Id}
@@ -19,7 +19,7 @@ use Rattle.ttx_page.specs.declared.memory.PageMemory.{PageMemory}
 use Rattle.ttx_page.specs.Packets.{Packet}
 use Rattle.ttx_page.specs.Pages.{Page, IsPage, Selection, Class, Item, needed, IsBlank, is_blank}
 use Rattle.ttx_page.specs.Memories.{Memory, IsMemory, IsFormer, blank_memory, memory_of_page, Holds, Shows}
-use Rattle.ttx_page.specs.Receivers.{after, erased, Run, has_choice, scripted}
+use Rattle.ttx_page.specs.Receivers.{after, erased, Step, Run, has_choice, scripted}
 use Rattle.ttx_page.specs.Streams.{Stream, turned, repeated, joined, IsLatestHeader, IsOwned, IsTransmission, IsSure, IsRun, EndsBelow, HasSureRun, IsSent}
 use Rattle.ttx_page.specs.Receptions.{Received}
 use Rattle.ttx_page.specs.Steady.{HasHeader, HasNoHeader, Steady, SendsItsOwn}
@@ -54,6 +54,11 @@ BlankIsTested = (p : Page) (item : Item) → IsPage p → length p.links.six ≡
 -- a receiver has a run over each list
 abbrev pub EachListRuns : Type 0
 EachListRuns = (class : Class) (lines : ℕ) (sel : Selection) (m : Memory) (received : List (List ℕ)) → (new : Memory) × Run class lines sel m received new
+
+-- a run goes on by one slot, by a step under the same settings
+abbrev pub RunsGoOn : Type 0
+RunsGoOn = (class class' : Class) (lines lines' : ℕ) (sel sel' : Selection) (m mid new : Memory) (received : List (List ℕ)) (slot : List ℕ) →
+    class' ≡ class → lines' ≡ lines → sel' ≡ sel → Run class lines sel m received mid → Step class' lines' sel' mid slot new → Run class lines sel m (received ++ slot ∷ []) new
 
 -- what a script makes is a run
 abbrev pub ScriptedRuns : Type 0

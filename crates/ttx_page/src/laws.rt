@@ -1,7 +1,7 @@
 //! Laws of pages, receivers and streams.
 
 ghost use Rattle.ttx_page.specs.Examples.{Examples};
-ghost use Rattle.ttx_page.specs.Laws.{PagesKeepTheirRules, PagesHaveSixLinks, MemoriesKeepTheirRules, BlankIsFormer, PageIsShown, ErasedHoldsBlank, BlankIsTested, EachListRuns, ScriptedRuns, ChoicesAreChoices, ExactIsReceived, CyclesRepeat, EachSlotTurns, JoinedIsOldThenNew, StreamsMove, OwnersAreUnique, OwnersComeFirst, OwnersAreNear, OwnersDontFall, RunsAreUnique, RunsRise, NoHeaderIsNone, SteadySendsItsOwn};
+ghost use Rattle.ttx_page.specs.Laws.{PagesKeepTheirRules, PagesHaveSixLinks, MemoriesKeepTheirRules, BlankIsFormer, PageIsShown, ErasedHoldsBlank, BlankIsTested, EachListRuns, RunsGoOn, ScriptedRuns, ChoicesAreChoices, ExactIsReceived, CyclesRepeat, EachSlotTurns, JoinedIsOldThenNew, StreamsMove, OwnersAreUnique, OwnersComeFirst, OwnersAreNear, OwnersDontFall, RunsAreUnique, RunsRise, NoHeaderIsNone, SteadySendsItsOwn};
 
 /// Each page of the program is in the ranges of its fields.
 pub fn pages_keep_their_rules()
@@ -41,6 +41,11 @@ pub fn blank_is_tested()
 /// A receiver has a run over each list of slots.
 pub fn each_list_runs()
     ensures { EachListRuns }
+{}
+
+/// A run goes on by one slot.
+pub fn runs_go_on()
+    ensures { RunsGoOn }
 {}
 
 /// What a receiver makes that takes its choices from a script is a run.

@@ -1,12 +1,11 @@
 -- What a receiver is given of the packets of a page, where each byte has at most one wrong bit.
-use Rattle.std.proofs.Common.{◌≡◌, ◌⊎◌, ℕ, ◌+◌, ◌%◌, ◌<◌, ◌≤◌, Bool, true, false, ◌&&◌, ◌==◌, List, [], Option, Some, None, length, get_or, take, drop, map, refl, sym, ap, ◌∙◌, subst, inl, inr, arith, nat_le, leb-true, eqb-true, length-drop, get_or-drop, get_or-take}
+use Rattle.std.proofs.Common.{◌≡◌, ◌⊎◌, ℕ, ◌+◌, ◌%◌, ◌<◌, ◌≤◌, Bool, true, false, ◌==◌, List, [], None, length, get_or, take, drop, map, refl, sym, ap, ◌∙◌, subst, inl, inr, arith, eqb-true, length-drop, get_or-drop, get_or-take}
 use Rattle.std.proofs.lemmas.List.{get_or-map}
-use Rattle.std.proofs.lemmas.Bool.Decides.{nat_tests}
-use Rattle.ttx_code.specs.Words.{reading, ones, Near, is_odd, odd_byte}
+use Rattle.ttx_code.specs.Words.{ones, Near, is_odd, odd_byte}
 use Rattle.ttx_code.specs.Laws.{OddBytesUnderOneWrongBit, OddBytesHoldTheirCodes}
-use Rattle.ttx_packet.specs.Slots.{IsSlot, Kind, IsEmpty, IsUnreadable, IsHeader, IsRow, IsLinks, IsInfo, IsOther, is_empty, links_kind, packet_kind, addressed_kind, kind_of, is_clean}
+use Rattle.ttx_packet.specs.Slots.{IsSlot, Kind, IsEmpty, IsUnreadable, IsHeader, IsRow, IsLinks, IsInfo, IsOther, is_empty, kind_of, is_clean}
 use Rattle.ttx_packet.specs.Receptions.{IsFree, MayBeReceivedAs}
-use Rattle.ttx_packet.specs.Laws.{KindIsKept}
+use Rattle.ttx_packet.specs.Laws.{KindIsKept, RowsAreNumbered}
 use Rattle.ttx_header.specs.Headers.{id_of, control_of}
 use Rattle.ttx_header.specs.Laws.{HeaderIsKept}
 use Rattle.ttx_links.specs.Laws.{LinksAreKept}
@@ -24,6 +23,7 @@ use Rattle.ttx_receiver.proofs.Keeps.{IsRightAt, HeadRightAt, RowRightAt}
 -- the laws of the crates below
 pub record LawsBelow : Type 0 where
   pub kind : KindIsKept
+  pub numbered : RowsAreNumbered
   pub header : HeaderIsKept
   pub links : LinksAreKept
   pub odd : OddBytesUnderOneWrongBit
@@ -99,54 +99,17 @@ IsOfSlot slot Unreadable = Unit {0}
 IsOfSlot slot Info = Unit {0}
 IsOfSlot slot Other = Unit {0}
 
--- the number of a row is 1 to 24
-abbrev IsNumbered : Kind → Type 0
-IsNumbered (IsRow mag number) = (1 ≤ number) × (number ≤ 24)
-IsNumbered (IsHeader mag) = Unit {0}
-IsNumbered (IsLinks mag) = Unit {0}
-IsNumbered IsEmpty = Unit {0}
-IsNumbered IsUnreadable = Unit {0}
-IsNumbered IsInfo = Unit {0}
-IsNumbered (IsOther mag number) = Unit {0}
+of_kind : RowsAreNumbered → (slot : List ℕ) (k : Kind) → kind_of slot ≡ k → IsOfSlot slot (packet_of_kind slot k)
+of_kind numbered slot IsEmpty e = tt
+of_kind numbered slot IsUnreadable e = tt
+of_kind numbered slot (IsHeader mag) e = refl
+of_kind numbered slot (IsRow mag number) e = (refl, (numbered slot mag number e).0)
+of_kind numbered slot (IsLinks mag) e = refl
+of_kind numbered slot IsInfo e = tt
+of_kind numbered slot (IsOther mag number) e = tt
 
-numbered_links : (mag : ℕ) (d : Option ℕ) → IsNumbered (links_kind mag d)
-numbered_links mag None = tt
-numbered_links mag (Some d) = if_ind IsNumbered (d == 0) (IsLinks mag) (IsOther mag 27) (λ _. tt) (λ _. tt)
-
-numbered_packet : (slot : List ℕ) (mag number : ℕ) → IsNumbered (packet_kind slot mag number)
-unfolding packet_kind
-numbered_packet slot mag number =
-    if_ind IsNumbered (number == 0) _ _ (λ _. if_ind IsNumbered _ (IsHeader mag) IsUnreadable (λ _. tt) (λ _. tt))
-    (λ n. if_ind IsNumbered (nat_le number 24) _ _ (λ l. (positive n, leb-true number 24 l))
-    (λ _. if_ind IsNumbered (number == 27) _ _ (λ _. numbered_links mag (reading (get_or slot 2 0)))
-    (λ _. if_ind IsNumbered ((number == 30) && (mag == 8)) IsInfo (IsOther mag number) (λ _. tt) (λ _. tt))))
-  where
-    positive : (number == 0) ≡ false → 1 ≤ number
-    positive e = grind (arith, nat_tests)
-
-numbered_address : (slot : List ℕ) (low high : Option ℕ) → IsNumbered (addressed_kind slot low high)
-numbered_address slot None high = tt
-numbered_address slot (Some low) None = tt
-numbered_address slot (Some low) (Some high) = numbered_packet slot _ _
-
-numbered_slot : (slot : List ℕ) → IsNumbered (kind_of slot)
-unfolding kind_of
-numbered_slot slot = if_ind IsNumbered (is_empty slot) IsEmpty _ (λ _. tt) (λ _. numbered_address slot (reading (get_or slot 0 0)) (reading (get_or slot 1 0)))
-
-of_kind : (slot : List ℕ) (k : Kind) → IsNumbered k → IsOfSlot slot (packet_of_kind slot k)
-of_kind slot IsEmpty n = tt
-of_kind slot IsUnreadable n = tt
-of_kind slot (IsHeader mag) n = refl
-of_kind slot (IsRow mag number) n = (refl, n.0)
-of_kind slot (IsLinks mag) n = refl
-of_kind slot IsInfo n = tt
-of_kind slot (IsOther mag number) n = tt
-
-pub row_number : (slot : List ℕ) (mag number : ℕ) → kind_of slot ≡ IsRow mag number → number ≤ 24
-row_number slot mag number e = let n = subst IsNumbered e (numbered_slot slot) in n.1
-
-pub of_slot : (slot : List ℕ) → IsOfSlot slot (packet_of slot)
-of_slot slot = subst (IsOfSlot slot) (sym (packet_is slot)) (of_kind slot (kind_of slot) (numbered_slot slot))
+pub of_slot : LawsBelow → (slot : List ℕ) → IsOfSlot slot (packet_of slot)
+of_slot laws slot = subst (IsOfSlot slot) (sym (packet_is slot)) (of_kind laws.numbered slot (kind_of slot) refl)
 
 pub packet_empty : (slot : List ℕ) → is_empty slot ≡ true → packet_of slot ≡ Empty
 unfolding kind_of
@@ -341,7 +304,7 @@ module _ (laws : LawsBelow) (sent received : List ℕ) (s : IsSlot sent) (clean 
   -- what is received of a header of the page
   pub received_head : (p : Page) → IsPage p → HeadIsRight p (packet_of sent) → IsHeadOf p (packet_of received)
   received_head p page right = elim (received_as laws sent received s clean h) as (λ _. IsHeadOf p (packet_of received)) [
-    | inl e ↦ go (packet_of sent) (packet_of received) e (of_slot sent) (of_slot received) right (λ x f. f)
+    | inl e ↦ go (packet_of sent) (packet_of received) e (of_slot laws sent) (of_slot laws received) right (λ x f. f)
     | inr l ↦ subst (IsHeadOf p) (sym l.silent) tt
   ]
     where
@@ -369,7 +332,7 @@ module _ (laws : LawsBelow) (sent received : List ℕ) (s : IsSlot sent) (clean 
   -- what is received of a row of the page
   pub received_row : (p : Page) → IsPage p → (r : ℕ) → 1 ≤ r → r ≤ 24 → RowIsRight p r (packet_of sent) → IsRowOf p r (packet_of received)
   received_row p page r low high right = elim (received_as laws sent received s clean h) as (λ _. IsRowOf p r (packet_of received)) [
-    | inl e ↦ go (packet_of sent) (packet_of received) e (of_slot sent) (of_slot received) right (λ x f. f)
+    | inl e ↦ go (packet_of sent) (packet_of received) e (of_slot laws sent) (of_slot laws received) right (λ x f. f)
     | inr l ↦ subst (IsRowOf p r) (sym l.silent) tt
   ]
     where
@@ -393,7 +356,7 @@ module _ (laws : LawsBelow) (sent received : List ℕ) (s : IsSlot sent) (clean 
   -- what is received of the links of the page
   pub received_links : (p : Page) → LinksAreRight p sent (packet_of sent) → AreLinksOf p (packet_of received)
   received_links p right = elim (received_as laws sent received s clean h) as (λ _. AreLinksOf p (packet_of received)) [
-    | inl e ↦ go (packet_of sent) (packet_of received) e (of_slot sent) (of_slot received) right (λ x f. f)
+    | inl e ↦ go (packet_of sent) (packet_of received) e (of_slot laws sent) (of_slot laws received) right (λ x f. f)
     | inr l ↦ subst (AreLinksOf p) (sym l.silent) tt
   ]
     where
@@ -422,7 +385,7 @@ module _ (laws : LawsBelow) (sent received : List ℕ) (s : IsSlot sent) (clean 
   -- a character of a header that is received as sent
   pub head_received_at : (p : Page) → IsPage p → HeadIsRight p (packet_of sent) → (c : ℕ) → c < 24 → get_or received (10 + c) 0 ≡ get_or sent (10 + c) 0 → HeadRightAt p c (packet_of received)
   head_received_at p page right c lt same = elim (received_as laws sent received s clean h) as (λ _. HeadRightAt p c (packet_of received)) [
-    | inl e ↦ go (packet_of sent) (packet_of received) e (of_slot sent) (of_slot received) right
+    | inl e ↦ go (packet_of sent) (packet_of received) e (of_slot laws sent) (of_slot laws received) right
     | inr l ↦ absurd (no_head (packet_of sent) l.row right)
   ]
     where
@@ -457,10 +420,10 @@ module _ (laws : LawsBelow) (sent received : List ℕ) (s : IsSlot sent) (clean 
   row_received_at p page r low high right c lt same =
       elim (received_as laws sent received s clean h) as (λ _. RowRightAt p r c (packet_of received) × ((mag : ℕ) → carries mag (TheRow r) (packet_of sent) ≡ true → carries mag (TheRow r) (packet_of received) ≡ true)) [
         | inl e ↦ (
-          go (packet_of sent) (packet_of received) e (of_slot sent) (of_slot received) right,
+          go (packet_of sent) (packet_of received) e (of_slot laws sent) (of_slot laws received) right,
           (λ mag k. sym (row_outline mag r (packet_of received)) ∙ ap (carries mag (TheRow r)) e ∙ row_outline mag r (packet_of sent) ∙ k),
         )
-        | inr l ↦ absurd (lost (packet_of sent) (of_slot sent) right l.zeros)
+        | inr l ↦ absurd (lost (packet_of sent) (of_slot laws sent) right l.zeros)
       ]
     where
       go : (S R : Packet) → outline R ≡ outline S → IsOfSlot sent S → IsOfSlot received R → RowIsRight p r S → RowRightAt p r c R

@@ -50,8 +50,8 @@ pub same_mag : (sel : Selection) (id : Id) → matches sel id ≡ true → id.ma
 same_mag (Exact own) id h = sym (eqb-true own.mag id.mag (and_left _ _ (and_left _ _ h)))
 same_mag (AnySub mag page) id h = sym (eqb-true mag id.mag (and_left _ _ h))
 
-no_row_zero : (mag : ℕ) (slot : List ℕ) → carries mag (TheRow 0) (packet_of slot) ≡ false
-no_row_zero mag slot = go (packet_of slot) (of_slot slot)
+no_row_zero : LawsBelow → (mag : ℕ) (slot : List ℕ) → carries mag (TheRow 0) (packet_of slot) ≡ false
+no_row_zero laws mag slot = go (packet_of slot) (of_slot laws slot)
   where
     go : (pkt : Packet) → IsOfSlot slot pkt → carries mag (TheRow 0) pkt ≡ false
     go (Row m number text) o = elim (cases_bool ((m == mag) && (number == 0))) as (λ _. ((m == mag) && (number == 0)) ≡ false)
@@ -121,5 +121,5 @@ module _ (laws : LawsBelow) (s : Stream) (p : Page) (page : IsPage p) (sel : Sel
         let c'' = sym (same_links laws (sent t) (got t) (steady.slots _ (not_before begin t)) (steady.clean _ (not_before begin t)) (permitted.each t lt) p.id.mag) ∙ c' in
         received_links laws (sent t) (got t) (steady.slots _ (not_before begin t)) (steady.clean _ (not_before begin t)) (permitted.each t lt) p
         (steady.items TheLinks tt (place o.place) (place t) (not_before begin o.place) (latest_sent t lt o, mine, c''));
-    no_row_0 = λ t lt. no_row_zero (selected_mag sel) (got t);
+    no_row_0 = λ t lt. no_row_zero laws (selected_mag sel) (got t);
   }

@@ -134,6 +134,7 @@ pub(crate) fn take_slot(
 )
     ensures { memory_of memory.new ≡ after class lines selection.now choice (memory_of memory.old) (packet_of slot.now) }
 {
+    ttx_packet::laws::rows_are_numbered();
     ttx_header::laws::headers_have_fields();
     match slot_of(slot) {
         Slot::Header(_, bytes) => {
@@ -197,6 +198,7 @@ pub(crate) fn chooses(
 ) -> bool
     ensures { result ≡ has_choice Any lines selection.now (memory_of memory.now) (packet_of slot.now) }
 {
+    ttx_packet::laws::rows_are_numbered();
     ttx_header::laws::headers_have_fields();
     match slot_of(slot) {
         Slot::Header(_, bytes) => chooses_at_header(memory, lines, selection, bytes),

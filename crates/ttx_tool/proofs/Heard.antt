@@ -1,8 +1,8 @@
 -- A receiver over the slots of a cycle, slot by slot.
-use Rattle.std.proofs.Common.{◌≡◌, ℕ, zero, suc, ◌+◌, ◌*◌, ◌/◌, ◌%◌, ◌<◌, pos, List, [], ◌∷◌, ◌++◌, length, get_or, refl, sym, ap, ◌∙◌, subst, arith}
+use Rattle.std.proofs.Common.{◌≡◌, ℕ, zero, suc, ◌+◌, ◌*◌, ◌/◌, ◌%◌, ◌<◌, pos, List, [], ◌∷◌, ◌++◌, length, get_or, sym, ap, ◌∙◌, subst, arith}
 use Rattle.std.proofs.lemmas.Nat.{div-add-mod', mod-mul-add}
 use Rattle.std.proofs.Math.Nat.{add-mod_right}
-use Rattle.ttx_page.specs.Laws.{sent_from}
+use Rattle.ttx_page.specs.Laws.{RunsGoOn, sent_from}
 use Rattle.ttx_page.specs.Memories.{Memory}
 use Rattle.ttx_page.specs.Receivers.{Step, Run}
 use Rattle.ttx_page.specs.Streams.{Stream, repeated}
@@ -17,28 +17,17 @@ sent_more s a (suc n) =
     let later : a + 1 + n ≡ a + suc n = omega arith in
     ap (λ rest. s (pos a) ∷ rest) (sent_more s (a + 1) n ∙ ap (λ i. sent_from s (pos (a + 1)) n ++ s (pos i) ∷ []) later)
 
--- a run, and one slot more
-run_more : {class : Class} {lines : ℕ} {sel : Selection} {mid new : Memory} {slot : List ℕ} (m : Memory) (heard : List (List ℕ)) →
-    Run class lines sel m heard mid → Step class lines sel mid slot new → Run class lines sel m (heard ++ slot ∷ []) new
-run_more {class} {lines} {sel} {mid} {new} {slot} m [] r s = (new, subst (λ x. Step class lines sel x slot new) r s, refl)
-run_more m (first ∷ heard) r s = (r.0, r.1, run_more r.0 heard r.2 s)
-
--- a step under equal settings
-same_step : {class class' : Class} {lines lines' : ℕ} {sel sel' : Selection} {m new : Memory} {slot : List ℕ} → class' ≡ class → lines' ≡ lines → sel' ≡ sel →
-    Step class' lines' sel' m slot new → Step class lines sel m slot new
-same_step {class} {class'} {lines} {lines'} {sel} {sel'} {m} {new} {slot} a b c s =
-    subst (λ k. Step k lines sel m slot new) a (subst (λ k. Step class' k sel m slot new) b (subst (λ k. Step class' lines' k m slot new) c s))
-
 -- the receiver hears the slot where the cycle stands
-pub hears_more : {class class' : Class} {lines lines' : ℕ} {sel sel' : Selection} {mid new : Memory} (old : Memory) (slots : List (List ℕ)) (start count at : ℕ) →
+pub hears_more : RunsGoOn → {class class' : Class} {lines lines' : ℕ} {sel sel' : Selection} {mid new : Memory} (old : Memory) (slots : List (List ℕ)) (start count at : ℕ) →
     class' ≡ class → lines' ≡ lines → sel' ≡ sel → at ≡ (start + count) % length slots →
     Hears (tuning_at class lines sel) slots start count old mid → Step class' lines' sel' mid (get_or slots at []) new →
     Hears (tuning_at class lines sel) slots start (count + 1) old new
-hears_more {class} {class'} {lines} {lines'} {sel} {sel'} {mid} {new} old slots start count at a b c place run step =
-    let heard = subst (λ i. Step class lines sel mid (get_or slots i []) new) place (same_step a b c step) in
+hears_more law {class} {class'} {lines} {lines'} {sel} {sel'} {mid} {new} old slots start count at a b c place run step =
+    let heard = subst (λ i. Step class' lines' sel' mid (get_or slots i []) new) place step in
     let next : count + 1 ≡ suc count = omega arith in
     let more = ap (sent_from (repeated slots) (pos start)) next ∙ sent_more (repeated slots) start count in
-    subst (λ list. Run class lines sel old list new) (sym more) (run_more old (sent_from (repeated slots) (pos start) count) run heard)
+    subst (λ list. Run class lines sel old list new) (sym more)
+    (law class class' lines lines' sel sel' old mid new (sent_from (repeated slots) (pos start) count) (get_or slots ((start + count) % length slots) []) a b c run heard)
 
 -- the next place, inside the cycle and at its end
 pub next_inside : (a n at : ℕ) → at ≡ a % n → at + 1 < n → at + 1 ≡ (a + 1) % n

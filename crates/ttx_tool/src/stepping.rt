@@ -10,6 +10,7 @@ pub(crate) fn step_over<X: Receiver>(receiver: &mut X, slots: &[[u8; 42]], start
     requires { 0 < length slots.now }
     ensures { Hears (tuning_at (X.kind receiver.old) (X.field receiver.old) (X.tuned receiver.old)) slots.now start count (X.held receiver.old) (X.held receiver.new) }
 {
+    ttx_page::laws::runs_go_on();
     let mut at = start % slots.len();
     for _ in 0..count {
         receiver.step(Some(&slots[at]));

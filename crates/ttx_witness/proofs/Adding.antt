@@ -1,11 +1,7 @@
 -- What one slot adds to the lists of transmissions.
 use Rattle.std.proofs.Common.{◌≡◌, ℕ, ◌-◌, ◌≤◌, ℤ, Bool, true, false, ◌&&◌, ◌==◌, if◌then◌else◌, Bor, List, [], ◌∷◌, ◌++◌, get_or, slice_get, Option, Some, None, Result, Ok, Err, OnOk, refl, sym, ap, ◌∙◌, subst, inl, inr, arith, eqb-true, eq-eqb}
 use Rattle.std.proofs.lemmas.List.{append-nil}
-use Rattle.std.proofs.lemmas.Bool.Decides.{nat_tests}
-use Rattle.std.proofs.lemmas.Bool.{leb-true}
-use Rattle.std.specs.Prelude.{nat_le}
-use Rattle.ttx_code.specs.Words.{reading}
-use Rattle.ttx_packet.specs.Slots.{Kind, IsEmpty, IsUnreadable, IsHeader, IsRow, IsLinks, IsInfo, IsOther, is_empty, packet_kind, links_kind, addressed_kind, kind_of}
+use Rattle.ttx_packet.specs.Slots.{Kind, IsEmpty, IsUnreadable, IsHeader, IsRow, IsLinks, IsInfo, IsOther, kind_of}
 use Rattle.ttx_packet.specs.Lent.{ShowsAs}
 use Rattle.ttx_packet.specs.declared.place.Address.{Address}
 use Rattle.ttx_packet.specs.declared.slots.Slot.{Slot}
@@ -42,43 +38,6 @@ foreign : (lines i : ℕ) (j : ℤ) (o : Option Owner) → IsForeign i o → sen
 foreign lines i j None f = refl
 foreign lines i j (Some o) f = if_false (is_page i o.page) _ _ f
 
--- the number of a row is 1 to 24
-abbrev IsNumbered : Kind → Type 0
-IsNumbered (IsRow mag number) = (1 ≤ number) × (number ≤ 24)
-IsNumbered (IsHeader mag) = Unit {0}
-IsNumbered (IsLinks mag) = Unit {0}
-IsNumbered IsEmpty = Unit {0}
-IsNumbered IsUnreadable = Unit {0}
-IsNumbered IsInfo = Unit {0}
-IsNumbered (IsOther mag number) = Unit {0}
-
-numbered_links : (mag : ℕ) (d : Option ℕ) → IsNumbered (links_kind mag d)
-numbered_links mag None = tt
-numbered_links mag (Some d) = if_ind IsNumbered (d == 0) (IsLinks mag) (IsOther mag 27) (λ _. tt) (λ _. tt)
-
-numbered_packet : (slot : List ℕ) (mag number : ℕ) → IsNumbered (packet_kind slot mag number)
-unfolding packet_kind
-numbered_packet slot mag number =
-    if_ind IsNumbered (number == 0) _ _ (λ _. if_ind IsNumbered _ (IsHeader mag) IsUnreadable (λ _. tt) (λ _. tt))
-    (λ n. if_ind IsNumbered (nat_le number 24) _ _ (λ l. (positive n, leb-true number 24 l))
-    (λ _. if_ind IsNumbered (number == 27) _ _ (λ _. numbered_links mag (reading (get_or slot 2 0)))
-    (λ _. if_ind IsNumbered ((number == 30) && (mag == 8)) IsInfo (IsOther mag number) (λ _. tt) (λ _. tt))))
-  where
-    positive : (number == 0) ≡ false → 1 ≤ number
-    positive e = grind (arith, nat_tests)
-
-numbered_address : (slot : List ℕ) (low high : Option ℕ) → IsNumbered (addressed_kind slot low high)
-numbered_address slot None high = tt
-numbered_address slot (Some low) None = tt
-numbered_address slot (Some low) (Some high) = numbered_packet slot _ _
-
-numbered_slot : (slot : List ℕ) → IsNumbered (kind_of slot)
-unfolding kind_of
-numbered_slot slot = if_ind IsNumbered (is_empty slot) IsEmpty _ (λ _. tt) (λ _. numbered_address slot (reading (get_or slot 0 0)) (reading (get_or slot 1 0)))
-
-pub row_number : (slot : List ℕ) (mag number : ℕ) → kind_of slot ≡ IsRow mag number → (1 ≤ number) × (number ≤ 24)
-row_number slot mag number e = subst IsNumbered e (numbered_slot slot)
-
 module _ (ids : List Id) (lines : ℕ) (j : ℤ) (owners : List (Option Owner)) (apart : AreApart ids owners) (mag : ℕ) (from : 1 ≤ mag) (to : mag ≤ 8) (i : ℕ) (id : Id) (at : slice_get ids i ≡ Some id) where
   -- under the owner of its magazine
   under : sent_under lines j (seen_by i (get_or owners (mag - 1) None)) ≡ (if mag == id.mag then sent_under lines j (owner_for owners i id) else [])
@@ -111,10 +70,9 @@ module _ (ids : List Id) (lines : ℕ) (j : ℤ) (owners : List (Option Owner)) 
   links_sent content TheLinks is = under
   links_sent content (TheRow r) is = if_false (r == 25) _ _ (not_equal r 25 (λ e. let h = is.1 in omega arith))
 
-  pub row_slot_sent : (slot : List ℕ) (number : ℕ) → kind_of slot ≡ IsRow mag number → (m n : ℕ) (k : ℤ) → m ≡ mag → n ≡ number → k ≡ j → (item : Item) → IsItem item →
+  pub row_slot_sent : (slot : List ℕ) (number : ℕ) → (1 ≤ number) × (number ≤ 24) → kind_of slot ≡ IsRow mag number → (m n : ℕ) (k : ℤ) → m ≡ mag → n ≡ number → k ≡ j → (item : Item) → IsItem item →
       (if item_number item == n then sent_under lines k (seen_by i (get_or owners (m - 1) None)) else []) ≡ sent_at id lines item j (packet_of slot) (owner_for owners i id)
-  row_slot_sent slot number kind m n k em en ek item is =
-      let h = row_number slot mag number kind in
+  row_slot_sent slot number h kind m n k em en ek item is =
       ap (λ x. if item_number item == x then sent_under lines k (seen_by i (get_or owners (m - 1) None)) else []) en
       ∙ ap (λ x. if item_number item == number then sent_under lines x (seen_by i (get_or owners (m - 1) None)) else []) ek
       ∙ ap (λ x. if item_number item == number then sent_under lines j (seen_by i (get_or owners (x - 1) None)) else []) em

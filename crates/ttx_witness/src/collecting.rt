@@ -106,6 +106,7 @@ pub fn add_slot(
     ensures count { length lists.new.items ≡ length lists.old.items }
     ensures added { OnOk result ((ids : List Id) → IsIndex ids index.now → AreApart ids owners.now → (i : ℕ) (id : Id) (item : Item) → slice_get ids i ≡ Some id → IsId id → IsItem item → place i item < length lists.old.items → held lists.new.items (place i item) ≡ held lists.old.items (place i item) ++ sent_at id lines item j (packet_of slot.now) (owner_for owners.now i id)) }
 {
+    ttx_packet::laws::rows_are_numbered();
     ttx_header::laws::headers_have_fields();
     ttx_header::laws::headers_are_headers();
     match slot_of(slot) {

@@ -1,15 +1,13 @@
 use Rattle.std.proofs.Common.{◌<◌, ◌∙◌, [], length, take, arith}
 use Rattle.std.proofs.lemmas.List.{take_more}
-use Rattle.ttx_certify.proofs.Runs.{run_more, same_step}
 use Rattle.ttx_certify.proofs.receiving.receive.Goals as goal
 
 pub loop-slot-preserved : goal.loop-slot-preserved
 loop-slot-preserved g c =
     let i = c.loop-slot.invariant in
     let inside : c.loop-slot.slot-index < length c.args.slots.now = omega arith in
-    let step = same_step i.class i.lines i.selection c.step.ensures.step in
     record {
-      run = rw (take_more c.args.slots.now c.loop-slot.slot-index [] inside) (run_more (g.R.Receiver.held c.args.receiver.now) (take c.loop-slot.slot-index c.args.slots.now) i.run step);
+      run = rw (take_more c.args.slots.now c.loop-slot.slot-index [] inside) (c.runs_go_on.ensures _ _ _ _ _ _ (g.R.Receiver.held c.args.receiver.now) _ _ (take c.loop-slot.slot-index c.args.slots.now) _ i.class i.lines i.selection i.run c.step.ensures.step);
       class = c.step.ensures.class ∙ i.class;
       selection = c.step.ensures.selection ∙ i.selection;
       lines = c.step.ensures.lines ∙ i.lines;

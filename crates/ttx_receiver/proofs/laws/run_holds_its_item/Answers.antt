@@ -5,6 +5,7 @@ pub returns : goal.returns
 returns c =
     run_holds_its_item (record {
       kind = c.kind_is_kept.ensures;
+      numbered = c.rows_are_numbered.ensures;
       header = c.header_is_kept.ensures;
       links = c.links_are_kept.ensures;
       odd = c.odd_bytes_under_one_wrong_bit.ensures;

@@ -2,16 +2,17 @@ use Rattle.std.proofs.Common.{◌++◌, w32, refl, ap, ◌∙◌, arith}
 use Rattle.std.proofs.lemmas.Int.{to_z-of_z}
 use Rattle.ttx_packet.specs.Slots.{kind_of}
 use Rattle.ttx_witness.specs.Collected.{held, place, owner_for}
-use Rattle.ttx_witness.proofs.Adding.{on_ok, row_number, row_slot_sent, links_slot_sent, head_slot_sent, silent, quiet}
+use Rattle.ttx_witness.proofs.Adding.{on_ok, row_slot_sent, links_slot_sent, head_slot_sent, silent, quiet}
 use Rattle.ttx_witness.proofs.collecting.add_slot.Goals as goal
 
 pub add_under-requires : goal.add_under-requires
-add_under-requires c = let n = row_number c.args.slot.now c.in-Row.at.mag c.in-Row.at.number c.in-Row.ensures.0 in let e = c.from-in-Row.ensures in omega arith
+add_under-requires c = let n = c.rows_are_numbered.ensures c.args.slot.now c.in-Row.at.mag c.in-Row.at.number c.in-Row.ensures.0 in let e = c.from-in-Row.ensures in omega arith
 
 pub returns-in-Row-clause-added : goal.returns-in-Row-clause-added
 returns-in-Row-clause-added c = on_ok c.add_under.result (λ added ids index apart i id item at is item_is lt.
     added i item item_is lt ∙ ap (λ x. held c.args.lists.now.items (place i item) ++ x)
-    (row_slot_sent ids c.args.lines c.args.j c.args.owners.now apart c.in-Row.at.mag c.in-Row.at.mag_from c.in-Row.at.mag_to i id at c.args.slot.now c.in-Row.at.number c.in-Row.ensures.0
+    (row_slot_sent ids c.args.lines c.args.j c.args.owners.now apart c.in-Row.at.mag c.in-Row.at.mag_from c.in-Row.at.mag_to i id at c.args.slot.now c.in-Row.at.number
+    (c.rows_are_numbered.ensures c.args.slot.now c.in-Row.at.mag c.in-Row.at.number c.in-Row.ensures.0) c.in-Row.ensures.0
     _ _ _ c.from.ensures c.from-in-Row.ensures (to_z-of_z w32 c.args.j c.ranges.j) item item_is)) c.add_under.ensures.added
 
 pub returns-in-Links-clause-added : goal.returns-in-Links-clause-added
