@@ -4,6 +4,7 @@ pub mod Memories
 pub mod Receivers
 pub mod Streams
 pub mod Receptions
+pub mod Followers
 pub mod Steady
 pub mod Views
 pub mod Laws
