@@ -56,8 +56,8 @@ pub fn read_definition<R: Read>(
     }
 }
 
-// Reads the text of a certificate.
-fn read_witness<R: Read>(alloc: Global, reader: &mut Counted<R>) -> Result<Certificate, FilesFault>
+/// Reads the text of a certificate, of at most 4,194,304 bytes. Its faults are `Certificate`, `Read`, `TooLong` and `NoMemory`.
+pub fn read_witness<R: Read>(alloc: Global, reader: &mut Counted<R>) -> Result<Certificate, FilesFault>
     ensures bytes { IfSome (R.remaining (inner_of reader.old)) (λ bytes. ReadsWitness bytes (seen_by fields_of result)) }
     ensures faults { CountsRead TextFile.Certificate result (faults_of reader.old) (faults_of reader.new) }
 {
@@ -89,8 +89,8 @@ fn line_of(
     }
 }
 
-// Writes the line of a verdict.
-fn write_line<W: Write>(writer: &mut Counted<W>, line: &[u8]) -> Result<(), FilesFault>
+/// Writes the line of a verdict. At `Write` exactly its first `written` bytes went out.
+pub fn write_line<W: Write>(writer: &mut Counted<W>, line: &[u8]) -> Result<(), FilesFault>
     ensures bytes { WritesLine line.now (W.contents (inner_of writer.old)) (W.contents (inner_of writer.new)) result }
     ensures faults { CountsWritten result (faults_of writer.old) (faults_of writer.new) }
 {

@@ -45,8 +45,8 @@ fn push_start(
     write!(text, " {start}")
 }
 
-// Adds a reason: its number, its name and what it names.
-fn push_reason(text: &mut String, reason: Reason) -> Result<(), AllocError>
+/// Adds a reason: its number, its name and what it names.
+pub fn push_reason(text: &mut String, reason: Reason) -> Result<(), AllocError>
     ensures { OnOk result (string_bytes text.new ≡ string_bytes text.old ++ reason_text reason) }
 {
     match reason {

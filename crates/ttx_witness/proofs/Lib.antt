@@ -34,6 +34,7 @@ pub mod Telling
 pub mod Indexing
 pub mod Entering
 pub mod Adding
+pub mod After
 pub mod Whole
 pub mod SentOnes
 mod TextParts

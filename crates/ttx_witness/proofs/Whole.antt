@@ -2,7 +2,6 @@
 use Rattle.std.proofs.Common.{◌≡◌, ℕ, zero, suc, ◌+◌, ◌*◌, ◌/◌, ◌%◌, ◌<◌, ◌≤◌, ℤ, pos, List, [], ◌∷◌, ◌++◌, map, length, get_or, slice_get, Vec, Global, Option, Some, None, refl, sym, ap, ◌∙◌, subst, inl, inr, arith, mod-lt}
 use Rattle.std.specs.List.{All, AllByRecursion}
 use Rattle.std.proofs.lemmas.List.{length-map}
-use Rattle.std.proofs.lemmas.Int.{ints}
 use Rattle.std.proofs.lemmas.Option.{slice_get_cases}
 use Rattle.std.proofs.lemmas.Bool.{cases_lt}
 use Rattle.std.proofs.Math.ListN.{get_or-eq_default}
@@ -17,13 +16,13 @@ use Rattle.ttx_page.specs.declared.item.Item.{Item}
 use Rattle.ttx_page.specs.declared.item.Item.TheVariants.{Head as TheHead, Row as TheRow, Links as TheLinks}
 use Rattle.ttx_witness.specs.Transmissions.{Transmission}
 use Rattle.ttx_witness.specs.Tracks.{AreInOrder, IsWithin}
-use Rattle.ttx_witness.specs.Sent.{PageOwner, owner_after, owner_scan, sent_at, sent_scan, sent_in}
+use Rattle.ttx_witness.specs.Sent.{PageOwner, owner_after, owner_scan, sent_at, sent_scan, sent_after}
 use Rattle.ttx_witness.specs.Collected.{held, place, item_number, IsItem, ids_of, AreCollected}
-use Rattle.ttx_witness.specs.AllSent.{AreAllSent}
+use Rattle.ttx_witness.specs.AllSent.{AreSentAfter}
 use Rattle.ttx_witness.specs.declared.period.Collected.{Collected}
 use Rattle.ttx_witness.proofs.Entering.{slot_here}
 use Rattle.ttx_witness.proofs.Held.{held_is}
-use Rattle.ttx_witness.proofs.Streams.{sent_told, told_within, told_in_order}
+use Rattle.ttx_witness.proofs.After.{after_within, after_in_order}
 
 abbrev Lists : Type 0
 Lists = List (Vec Transmission Global)
@@ -80,9 +79,9 @@ all_by_place P (x ∷ xs) h (suc k) d lt = all_by_place P xs h.1 k d (omega arit
 pub none_in_order : AreInOrder []
 none_in_order = record { low = λ k d lt. absurd (omega arith); high = λ k d lt. absurd (omega arith); rising = λ i j d lt in_range. absurd (omega arith) }
 
-module _ (ids : List Id) (are : (i : ℕ) (id : Id) → slice_get ids i ≡ Some id → IsId id) (cycle : List (List ℕ)) (is : IsCycle cycle) (lines : ℕ) where
+module _ (ids : List Id) (are : (i : ℕ) (id : Id) → slice_get ids i ≡ Some id → IsId id) (before : List (List ℕ)) (before_is : IsCycle before) (cycle : List (List ℕ)) (is : IsCycle cycle) (lines : ℕ) where
   -- what holds of the transmissions of each item holds of each list that is kept
-  all_kept : (Keeps : List Transmission → Type 0) → Keeps [] → ((id : Id) (item : Item) → Keeps (sent_in cycle id lines item)) → (lists : Lists) → AreCollected ids cycle lines (length cycle) lists →
+  all_kept : (Keeps : List Transmission → Type 0) → Keeps [] → ((id : Id) (item : Item) → Keeps (sent_after before cycle id lines item)) → (lists : Lists) → AreCollected ids before cycle lines (length cycle) lists →
       (n : ℕ) → Keeps (held lists n)
   all_kept Keeps none each lists a n = elim (cases_lt n (length lists)) as (λ _. Keeps (held lists n)) [
     | inl below ↦
@@ -91,29 +90,29 @@ module _ (ids : List Id) (are : (i : ℕ) (id : Id) → slice_get ids i ≡ Some
           | inl w ↦
               let r = item_for (n % 26) (mod-lt n (omega arith)) in
               let place_is : place (n / 26) r.0 ≡ n = let e = r.2 in omega arith in
-              let list_is : held lists n ≡ sent_in cycle w.0 lines r.0 = ap (held lists) (sym place_is) ∙ a.each (n / 26) w.0 r.0 w.2 (are (n / 26) w.0 w.2) r.1 in
+              let list_is : held lists n ≡ sent_after before cycle w.0 lines r.0 = ap (held lists) (sym place_is) ∙ a.each (n / 26) w.0 r.0 w.2 (are (n / 26) w.0 w.2) r.1 in
               subst Keeps (sym list_is) (each w.0 r.0)
           | inr past ↦ let p = past.0 in absurd (omega arith)
         ]
     | inr above ↦ subst Keeps (sym (get_or-eq_default (map (λ v. v.items) lists) [] (let l = length-map lists (λ v. v.items) in omega arith))) none
   ]
 
-  some : 1 ≤ length cycle
-  some = let s = is.some in omega arith
+  some : 1 ≤ length before
+  some = let s = before_is.some in omega arith
 
   -- the numbers of all that is kept are small
-  pub all_within : (lists : Lists) → AreCollected ids cycle lines (length cycle) lists → (n : ℕ) → All (IsWithin 65536) (held lists n)
+  pub all_within : (lists : Lists) → AreCollected ids before cycle lines (length cycle) lists → (n : ℕ) → All (IsWithin 65536) (held lists n)
   all_within lists a n = all_by_place (IsWithin 65536) (held lists n) (all_kept (AllByRecursion (IsWithin 65536)) tt
-      (λ id item. told_within cycle some id lines item is.most (pos 0) (omega (arith, ints)) (sent_in cycle id lines item) (sent_told cycle some id lines item)) lists a n)
+      (λ id item. after_within before cycle before_is.most is.most id lines item) lists a n)
 
   -- and their slots rise
-  pub all_in_order : (lists : Lists) → AreCollected ids cycle lines (length cycle) lists → (n : ℕ) → AreInOrder (held lists n)
-  all_in_order = all_kept AreInOrder none_in_order (λ id item. told_in_order cycle some id lines item is.most (sent_in cycle id lines item) (sent_told cycle some id lines item))
+  pub all_in_order : (lists : Lists) → AreCollected ids before cycle lines (length cycle) lists → (n : ℕ) → AreInOrder (held lists n)
+  all_in_order = all_kept AreInOrder none_in_order (λ id item. after_in_order before cycle some is.most id lines item)
 
 -- as kept for pages
-pub all_sent : (pages : List PageValue) → ((i : ℕ) (id : Id) → slice_get (ids_of pages) i ≡ Some id → IsId id) → (cycle : List (List ℕ)) (lines : ℕ) (c : Collected) →
-    AreCollected (ids_of pages) cycle lines (length cycle) c.lists.items → AreAllSent cycle (map page_of pages) lines c
-all_sent pages are cycle lines c a = record {
+pub all_sent : (pages : List PageValue) → ((i : ℕ) (id : Id) → slice_get (ids_of pages) i ≡ Some id → IsId id) → (before cycle : List (List ℕ)) (lines : ℕ) (c : Collected) →
+    AreCollected (ids_of pages) before cycle lines (length cycle) c.lists.items → AreSentAfter before cycle (map page_of pages) lines c
+all_sent pages are before cycle lines c a = record {
   count = let l = length-map pages (λ p. (page_of p).id) in let m = length-map pages page_of in let n = a.count in omega arith;
   each = λ i p item at is. let e : slice_get (ids_of pages) i ≡ Some p.id = id_of_page pages i p at in a.each i p.id item e (are i p.id e) is;
 }

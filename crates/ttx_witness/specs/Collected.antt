@@ -45,9 +45,9 @@ Finds ids id answer = (i : ℕ) (own : Id) → slice_get ids i ≡ Some own → 
 abbrev pub owner_for : List (Option Owner) → ℕ → Id → Option PageOwner
 owner_for owners i id = seen_by i (get_or owners (id.mag - 1) None)
 
--- after j slots of the period
-abbrev pub AreOwners : List Id → List (List ℕ) → ℕ → List (Option Owner) → Type 0
-AreOwners ids cycle j owners = (i : ℕ) (id : Id) → slice_get ids i ≡ Some id → IsId id → owner_for owners i id ≡ owner_scan id (repeated cycle) (entry_of cycle id) j
+-- after j slots of the period of a cycle that comes after another one
+abbrev pub AreOwners : List Id → List (List ℕ) → List (List ℕ) → ℕ → List (Option Owner) → Type 0
+AreOwners ids before cycle j owners = (i : ℕ) (id : Id) → slice_get ids i ≡ Some id → IsId id → owner_for owners i id ≡ owner_scan id (repeated cycle) (entry_of before id) j
 
 -- a page is never the owner's in another magazine than its own
 abbrev pub IsForeign : ℕ → Option Owner → Type 0
@@ -75,10 +75,10 @@ abbrev pub held : List (Vec Transmission Global) → ℕ → List Transmission
 held lists n = get_or (map (λ v. v.items) lists) n []
 
 -- the transmissions of all items of all pages in the first j slots of the period
-pub record AreCollected (ids : List Id) (cycle : List (List ℕ)) (lines j : ℕ) (lists : List (Vec Transmission Global)) : Type 0 where
+pub record AreCollected (ids : List Id) (before cycle : List (List ℕ)) (lines j : ℕ) (lists : List (Vec Transmission Global)) : Type 0 where
   pub count : length lists ≡ 26 * length ids
   pub each : (i : ℕ) (id : Id) (item : Item) → slice_get ids i ≡ Some id → IsId id → IsItem item →
-      held lists (place i item) ≡ sent_scan id lines item (repeated cycle) (entry_of cycle id) j
+      held lists (place i item) ≡ sent_scan id lines item (repeated cycle) (entry_of before id) j
 
 -- an id as one number
 abbrev pub key_of : Id → ℕ

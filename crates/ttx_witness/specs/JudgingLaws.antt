@@ -1,6 +1,7 @@
 -- The laws of how an item of a page is judged by the list of its transmissions in a period.
 --
 --   TransmissionsAreListed  the list of a period's transmissions: each of them, in their order, with small numbers
+--   FirstPeriodIsListed     the list of those in a cycle's first period after another one
 --   IsFirstOf               the first number of which something is true
 --   IsLateAnswer            the first late start, or none where the item is covered
 --   ItemsAreJudged          what one pass over the list tells of the named starts: the first bad one, or else the first late one
@@ -14,13 +15,13 @@ use Rattle.ttx_page.specs.Pages.{Page, IsBlank, needed}
 use Rattle.ttx_page.specs.declared.item.Item.{Item}
 use Rattle.ttx_page.specs.declared.item.Item.TheVariants.{Head as TheHead}
 use Rattle.ttx_page.specs.declared.class.Class.TheVariants.{Clearing}
-use Rattle.ttx_page.specs.Streams.{repeated, run_length, heads_page, IsOwned, IsSure}
+use Rattle.ttx_page.specs.Streams.{repeated, joined, run_length, heads_page, IsOwned, IsSure}
 use Rattle.ttx_page.specs.Steady.{HasHeader}
 use Rattle.ttx_witness.specs.Transmissions.{Transmission}
 use Rattle.ttx_witness.specs.Confirming.{Rising, late_after}
 use Rattle.ttx_witness.specs.Repeating.{AreSent}
 use Rattle.ttx_witness.specs.Tracks.{IsWithin}
-use Rattle.ttx_witness.specs.Sent.{sent_in}
+use Rattle.ttx_witness.specs.Sent.{sent_in, sent_after}
 use Rattle.ttx_witness.specs.Coverage.{Certificate, limit, IsCovered}
 use Rattle.ttx_witness.specs.CycleLaws.{progress_of}
 use Rattle.ttx_witness.specs.Reasons.{WitnessBadAt, LateAt, LateBlankAt}
@@ -29,6 +30,10 @@ abbrev pub TransmissionsAreListed : Type 0
 TransmissionsAreListed = (cycle : List (List ℕ)) → 1 ≤ length cycle → length cycle ≤ 65536 → (page : Id) (lines : ℕ) (item : Item) →
     AreSent (IsOwned (repeated cycle) page item) (IsSure (repeated cycle) lines page.mag item) (pos 0) (pos (length cycle)) (sent_in cycle page lines item)
     × AllByRecursion (IsWithin 65536) (sent_in cycle page lines item)
+
+abbrev pub FirstPeriodIsListed : Type 0
+FirstPeriodIsListed = (before cycle : List (List ℕ)) → 1 ≤ length before → (page : Id) (lines : ℕ) (item : Item) →
+    AreSent (IsOwned (joined before cycle) page item) (IsSure (joined before cycle) lines page.mag item) (pos 0) (pos (length cycle)) (sent_after before cycle page lines item)
 
 -- P is true of n, and of no smaller number
 abbrev pub IsFirstOf : (ℕ → Type 0) → ℕ → Type 0

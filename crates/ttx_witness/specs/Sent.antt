@@ -4,7 +4,7 @@
 --   owner_after, owner_scan the owner after one slot, and after a number of slots
 --   owner_moved             the same owner, some slots later
 --   sent_at, sent_scan      the transmission in one slot, where it holds one, and those of a number of slots
---   sent_in                 those of one period of a cycle
+--   sent_after, sent_in     those of the first period of a cycle after another one; those of one period of a cycle
 use Rattle.std.specs.Prelude.{ℕ, zero, suc, ℤ, pos, ◌+ℤ◌, ◌-ℤ◌, Bool, true, false, not, ◌&&◌, ◌||◌, if◌then◌else◌, int_lt, List, [], ◌∷◌, ◌++◌, length, Option, Some, None}
 use Rattle.ttx_header.specs.Ids.{Id}
 use Rattle.ttx_page.specs.Packets.{Packet, packet_of}
@@ -52,5 +52,9 @@ sent_scan page lines item s entry (suc n) = sent_scan page lines item s entry n 
 abbrev pub entry_of : List (List ℕ) → Id → Option PageOwner
 entry_of cycle page = owner_moved (pos 0 -ℤ pos (length cycle)) (owner_scan page (repeated cycle) None (length cycle))
 
+-- before slot 0 another cycle was sent, or the same one
+abbrev pub sent_after : List (List ℕ) → List (List ℕ) → Id → ℕ → Item → List Transmission
+sent_after before cycle page lines item = sent_scan page lines item (repeated cycle) (entry_of before page) (length cycle)
+
 abbrev pub sent_in : List (List ℕ) → Id → ℕ → Item → List Transmission
-sent_in cycle page lines item = sent_scan page lines item (repeated cycle) (entry_of cycle page) (length cycle)
+sent_in cycle page lines item = sent_after cycle cycle page lines item

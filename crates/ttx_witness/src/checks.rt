@@ -134,8 +134,8 @@ fn same_six(a: &[Option<Target>; 6], b: &[Option<Target>; 6]) -> bool
     true
 }
 
-// Whether the links are the same; the bytes of the page CRC aren't compared.
-fn same_links(a: &Links, b: &Links) -> bool
+/// Whether the links are the same; the bytes of the page CRC aren't compared.
+pub fn same_links(a: &Links, b: &Links) -> bool
     ensures { IsTrue result ↔ (a.now.set ≡ b.now.set) }
 {
     same_six(a.six(), b.six()) && a.show24() == b.show24()

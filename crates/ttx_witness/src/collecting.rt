@@ -9,7 +9,7 @@ ghost use Rattle.ttx_witness.specs.Sent.{sent_under, sent_at};
 ghost use Rattle.ttx_witness.specs.Collected.{held, IsItem, IsIndex, AreApart, place, item_number, seen_by, owner_for, is_page};
 
 use crate::owners::Owner;
-use crate::page_index::{PageIndex, find};
+use crate::page_index::{PageIndex, place_of};
 use crate::search::NoMemory;
 use crate::transmissions::Transmission;
 use ttx_header::read_header;
@@ -111,7 +111,7 @@ pub fn add_slot(
     ttx_header::laws::headers_are_headers();
     match slot_of(slot) {
         Slot::Header(_, _) => match read_header(slot) {
-            Some(header) => add_head(lists, find(index, header.id()), j),
+            Some(header) => add_head(lists, place_of(index, header.id()), j),
             None => Ok(()),
         },
         Slot::Row(at, _) => add_under(

@@ -1,10 +1,15 @@
 //! Laws of how items are judged by the lists of their transmissions.
 
-ghost use Rattle.ttx_witness.specs.JudgingLaws.{TransmissionsAreListed, ItemsAreJudged, HeadersAreJudged};
+ghost use Rattle.ttx_witness.specs.JudgingLaws.{TransmissionsAreListed, FirstPeriodIsListed, ItemsAreJudged, HeadersAreJudged};
 
 /// The list of a period's transmissions has each of them, in their order.
 pub fn transmissions_are_listed()
     ensures { TransmissionsAreListed }
+{}
+
+/// The list of the transmissions in a cycle's first period after another cycle has each of them, in their order.
+pub fn first_period_is_listed()
+    ensures { FirstPeriodIsListed }
 {}
 
 /// One pass over a period tells the first bad start of an item, or else the first late one.

@@ -8,7 +8,7 @@ ghost use Rattle.ttx_cycle.specs.Cycles.{slots_of};
 ghost use Rattle.ttx_witness.specs.Sent.{owner_after};
 ghost use Rattle.ttx_witness.specs.Collected.{taint, IsIndex, AreOwners, AreApart, owner_for};
 
-use crate::page_index::{PageIndex, find};
+use crate::page_index::{PageIndex, place_of};
 use ttx_cycle::Cycle;
 use ttx_header::read_header;
 
@@ -70,7 +70,7 @@ pub fn note_owner(owners: &mut [Option<Owner>; 8], index: &PageIndex, slot: &[u8
     ttx_header::laws::headers_are_headers();
     if let Some(header) = read_header(slot) {
         let id = header.id();
-        let page = find(index, id);
+        let page = place_of(index, id);
         note_header(
             owners,
             usize::from(id.mag()) - 1,
@@ -80,9 +80,9 @@ pub fn note_owner(owners: &mut [Option<Owner>; 8], index: &PageIndex, slot: &[u8
     }
 }
 
-/// The owners before slot 0: those at the end of the period, a period earlier.
+/// The owners before slot 0: those at the end of the cycle's period, a period earlier.
 pub fn entry_owners(index: &PageIndex, cycle: &Cycle) -> [Option<Owner>; 8]
-    ensures owners { (ids : List Id) → IsIndex ids index.now → AreOwners ids (slots_of cycle.now) 0 result }
+    ensures owners { (ids : List Id) (next : List (List ℕ)) → IsIndex ids index.now → AreOwners ids (slots_of cycle.now) next 0 result }
     ensures apart { (ids : List Id) → IsIndex ids index.now → AreApart ids result }
 {
     let slots = cycle.slots();

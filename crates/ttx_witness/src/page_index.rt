@@ -1,6 +1,6 @@
 //! The places of pages in a list, by their ids.
 
-ghost use Rattle.std.specs.Prelude.{◌≡◌, ◌≢◌, ℕ, List, length, OnOk, IfOk, Some, if◌then◌else◌, ◌==◌, nat_eq};
+ghost use Rattle.std.specs.Prelude.{◌≡◌, ◌≢◌, ℕ, List, OnOk, IfOk, Some, if◌then◌else◌, ◌==◌, nat_eq};
 ghost use Rattle.std.specs.List.{AllPairs};
 ghost use Rattle.std.specs.HashMap.{get};
 ghost use Rattle.ttx_header.specs.Ids.{Id};
@@ -27,7 +27,7 @@ fn key(id: PageId) -> u32
 }
 
 /// The place of the page with this id.
-pub fn find(index: &PageIndex, id: PageId) -> Option<u32>
+pub fn place_of(index: &PageIndex, id: PageId) -> Option<u32>
     ensures { (ids : List Id) → IsIndex ids index.now → Finds ids id result }
 {
     index.by_key.get(&key(id)).copied()
@@ -44,12 +44,12 @@ fn insert(by_key: &mut HashMap<u32, u32>, key: u32, place: u32) -> Result<(), No
 }
 
 /// The index of all these pages, whose ids are distinct.
-pub fn index_of(alloc: Global, pages: &[Page], count: u32) -> Result<PageIndex, NoMemory>
-    requires count { count ≡ length pages.now }
+pub fn index_of(alloc: Global, pages: &[Page]) -> Result<PageIndex, NoMemory>
     requires distinct { AllPairs (λ a b. a ≢ b) (ids_of pages.now) }
     ensures { IfOk result (λ index. IsIndex (ids_of pages.now) index) }
 {
     ttx_page::laws::pages_keep_their_rules();
+    let count = pages.len() as u32;
     let mut by_key = HashMap::new(alloc);
     for i in 0..count {
         insert(&mut by_key, key(pages[i as usize].id()), i)?;

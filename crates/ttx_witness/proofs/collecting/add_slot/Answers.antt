@@ -24,8 +24,8 @@ returns-in-Links-clause-added c = on_ok c.add_under-in-Links.result (λ added id
 pub returns-in-Some-clause-added : goal.returns-in-Some-clause-added
 returns-in-Some-clause-added c = on_ok c.add_head.result (λ added ids index apart i id item at is item_is lt.
     added i item item_is lt ∙ ap (λ x. held c.args.lists.now.items (place i item) ++ x)
-    (head_slot_sent ids c.args.lines c.args.j (owner_for c.args.owners.now i id) c.args.slot.now _ c.id.result c.find.result c.in-Header.ensures.0 (c.id.ensures.value ∙ ap (λ x. x.id) c.in-Some.ensures.1)
-    (c.find.ensures ids index) _ (to_z-of_z w32 c.args.j c.ranges.j) i id at item item_is)) c.add_head.ensures.added
+    (head_slot_sent ids c.args.lines c.args.j (owner_for c.args.owners.now i id) c.args.slot.now _ c.id.result c.place_of.result c.in-Header.ensures.0 (c.id.ensures.value ∙ ap (λ x. x.id) c.in-Some.ensures.1)
+    (c.place_of.ensures ids index) _ (to_z-of_z w32 c.args.j c.ranges.j) i id at item item_is)) c.add_head.ensures.added
 
 pub returns-in-None-clause-added : goal.returns-in-None-clause-added
 returns-in-None-clause-added c = absurd (c.in-None.ensures (c.headers_have_fields.ensures c.args.slot.now _ c.requires c.in-Header.ensures.0).header)

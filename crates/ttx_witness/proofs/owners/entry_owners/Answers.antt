@@ -23,7 +23,7 @@ loop-j-preserved c =
 
 pub returns-clause-owners : goal.returns-clause-owners
 unfolding owner_scan
-returns-clause-owners c = λ ids index i id at is.
+returns-clause-owners c = λ ids next index i id at is.
     let e = c.slots-slots.ensures.slots in
     let n : c.loop-j.j ≡ length c.slots-slots.result.now = omega (arith, c.loop-j-test.false) in
     c.loop-j.invariant.owners ids index i id at is

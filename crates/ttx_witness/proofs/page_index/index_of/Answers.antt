@@ -3,8 +3,15 @@ use Rattle.std.specs.HashMap.{get}
 use Rattle.std.proofs.lemmas.List.{length-map}
 use Rattle.ttx_page.specs.Views.{page_of}
 use Rattle.ttx_witness.specs.Collected.{ids_of, key_of}
-use Rattle.ttx_witness.proofs.Indexing.{IsIndexed, one_indexed, all_indexed, ids_are, id_at}
+use Rattle.ttx_witness.proofs.Indexing.{IsIndexed, one_indexed, all_indexed, few_ids, ids_are, id_at}
 use Rattle.ttx_witness.proofs.page_index.index_of.Goals as goal
+
+pub overflow_cast-count : goal.overflow_cast-count
+overflow_cast-count c =
+    let ids = ids_of c.args.pages.now in
+    let l = length-map c.args.pages.now (λ p. (page_of p).id) in
+    let few = few_ids ids (ids_are c.pages_keep_their_rules.ensures c.args.pages.now) c.requires.distinct in
+    omega arith
 
 pub loop-i-preserved : goal.loop-i-preserved
 loop-i-preserved c =

@@ -5,7 +5,7 @@ use Rattle.ttx_page.specs.Views.{page_of}
 use Rattle.ttx_witness.specs.Collected.{ids_of}
 use Rattle.ttx_witness.proofs.Indexing.{few_ids, ids_are}
 use Rattle.ttx_witness.proofs.Whole.{all_in_order, all_sent, all_within}
-use Rattle.ttx_witness.proofs.gathering.collect.Goals as goal
+use Rattle.ttx_witness.proofs.gathering.collect_after.Goals as goal
 
 pub overflow_cast-count : goal.overflow_cast-count
 overflow_cast-count c =
@@ -21,12 +21,12 @@ invariant_of-result c =
     let count : 26 * length c.args.pages.now ≡ 26 * length ids = let l = length-map c.args.pages.now (λ p. (page_of p).id) in omega arith in
     let lists = c.in_ok-lists.ensures ids c.in_ok-index.ensures count in
     record {
-      within = all_within ids are (slots_of c.args.cycle.now) (slots_of-IsCycle c.args.cycle.now) c.args.lines c.in_ok-lists.lists.items lists;
-      in_order = all_in_order ids are (slots_of c.args.cycle.now) (slots_of-IsCycle c.args.cycle.now) c.args.lines c.in_ok-lists.lists.items lists;
+      within = all_within ids are (slots_of c.args.before.now) (slots_of-IsCycle c.args.before.now) (slots_of c.args.cycle.now) (slots_of-IsCycle c.args.cycle.now) c.args.lines c.in_ok-lists.lists.items lists;
+      in_order = all_in_order ids are (slots_of c.args.before.now) (slots_of-IsCycle c.args.before.now) (slots_of c.args.cycle.now) (slots_of-IsCycle c.args.cycle.now) c.args.lines c.in_ok-lists.lists.items lists;
     }
 
 pub returns : goal.returns
 returns c =
     let ids = ids_of c.args.pages.now in
     let count : 26 * length c.args.pages.now ≡ 26 * length ids = let l = length-map c.args.pages.now (λ p. (page_of p).id) in omega arith in
-    all_sent c.args.pages.now (ids_are c.pages_keep_their_rules.ensures c.args.pages.now) (slots_of c.args.cycle.now) c.args.lines _ (c.in_ok-lists.ensures ids c.in_ok-index.ensures count)
+    all_sent c.args.pages.now (ids_are c.pages_keep_their_rules.ensures c.args.pages.now) (slots_of c.args.before.now) (slots_of c.args.cycle.now) c.args.lines _ (c.in_ok-lists.ensures ids c.in_ok-index.ensures count)
