@@ -14,7 +14,7 @@ use Rattle.ttx_page.specs.Streams.{heads_matched, carries}
 use Rattle.ttx_receiver.proofs.Choices.{if_ind, and_left, and_right, and_both, not_false, no_both, cases_bool, or_false, gt_not_le, stored_row_at, stored_row_good}
 use Rattle.ttx_receiver.proofs.OneStep.{Shape, GoodText, IsHeadOf, IsRowOf, AreLinksOf, erased_first, shape_erased}
 
-erases_not : (class : Class) (choice : Bool) (m : Memory) (control : ℕ) → c4 control ≡ false → m.fresh ≡ false → erases class choice m control ≡ false
+pub erases_not : (class : Class) (choice : Bool) (m : Memory) (control : ℕ) → c4 control ≡ false → m.fresh ≡ false → erases class choice m control ≡ false
 erases_not Any choice m control k f = or_false (c4 control) (m.fresh && choice) k (subst (λ b. (b && choice) ≡ false) (sym f) refl)
 erases_not Clearing choice m control k f = or_false (c4 control) m.fresh k f
 
@@ -24,7 +24,7 @@ kept_char old text chars c n w h good was = elim (stored_row_at old text c (omeg
     [ inl e ↦ e ∙ was | inr t ↦ t.is ∙ good c h t.good ]
 
 -- column 8 + c of row 0
-head_char : (row text : List ℕ) (c : ℕ) → length row ≡ 40 → get_or (take 8 row ++ stored_row (drop 8 row) text) (8 + c) 0 ≡ get_or (stored_row (drop 8 row) text) c 0
+pub head_char : (row text : List ℕ) (c : ℕ) → length row ≡ 40 → get_or (take 8 row ++ stored_row (drop 8 row) text) (8 + c) 0 ≡ get_or (stored_row (drop 8 row) text) c 0
 head_char row text c w =
     let k : length (take 8 row) ≡ 8 = length-take-le 8 row (omega arith) in
     ap (λ n. get_or (take 8 row ++ stored_row (drop 8 row) text) (n + c) 0) (sym k) ∙ get_or-append-add (take 8 row) (stored_row (drop 8 row) text) c 0

@@ -10,3 +10,10 @@ mod Tuned
 mod OneItem
 mod ByKind
 mod Permitted
+mod StarvedBytes
+mod StarvedSteps
+mod StarvedUnder
+mod StarvedReceived
+mod StarvedFormer
+mod StarvedStays
+mod StarvedScript

@@ -1,2 +1,3 @@
+pub mod Starving
 pub mod Laws
 pub mod Tuning

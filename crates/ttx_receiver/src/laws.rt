@@ -1,6 +1,7 @@
 //! Laws of receivers. A call costs nothing and gives the caller's proof the law.
 
 ghost use Rattle.ttx_receiver.specs.Laws.{RunHoldsItsItem};
+ghost use Rattle.ttx_receiver.specs.Starving.{StarvedStaysWrong, StarvedIsScripted};
 
 /// An item that comes between two slots is held from the second on.
 pub fn run_holds_its_item()
@@ -12,4 +13,25 @@ pub fn run_holds_its_item()
     ttx_links::laws::links_are_kept();
     ttx_code::laws::odd_bytes_under_one_wrong_bit();
     ttx_code::laws::odd_bytes_hold_their_codes();
+}
+
+/// Where no all-sure run of an item comes, a receiver that takes all its choices never gets it right.
+pub fn starved_stays_wrong()
+    ensures { StarvedStaysWrong }
+{
+    ttx_packet::laws::kind_is_kept();
+    ttx_packet::laws::rows_are_numbered();
+    ttx_header::laws::header_is_kept();
+    ttx_links::laws::links_are_kept();
+    ttx_code::laws::odd_bytes_under_one_wrong_bit();
+    ttx_code::laws::odd_bytes_hold_their_codes();
+    ttx_page::laws::page_is_shown();
+    ttx_page::laws::runs_go_on();
+}
+
+/// What such a receiver is given and chooses, as hits and as a script.
+pub fn starved_is_scripted()
+    ensures { StarvedIsScripted }
+{
+    ttx_page::laws::choices_are_choices();
 }

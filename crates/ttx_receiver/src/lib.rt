@@ -7,6 +7,7 @@ mod eager;
 pub mod laws;
 pub mod receiver;
 mod scripted;
+pub mod starving;
 mod steps;
 
 pub use careful::Careful;

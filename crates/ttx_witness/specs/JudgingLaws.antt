@@ -7,8 +7,10 @@
 --   ItemsAreJudged          what one pass over the list tells of the named starts: the first bad one, or else the first late one
 --   late_header             the first header that the next one follows too late
 --   IsHeaderAnswer, HeadersAreJudged        what this tells of blank items that aren't sent
-use Rattle.std.specs.Prelude.{◌≡◌, ℕ, suc, ◌<◌, ◌≤◌, ℤ, pos, ◌+ℤ◌, ◌<ℤ◌, ◌≤ℤ◌, true, if◌then◌else◌, int_lt, unsigned_abs, List, [], ◌∷◌, length, slice_index_or, Option, Some, None}
-use Rattle.std.specs.List.{AllByRecursion}
+use Rattle.std.specs.Prelude.{◌≡◌, ℕ, suc, ◌<◌, ◌≤◌, ℤ, pos, ◌+ℤ◌, ◌<ℤ◌, ◌≤ℤ◌, true, if◌then◌else◌, int_lt, unsigned_abs, List, [], ◌∷◌, length, slice_index_or, Option, Some, None, ◌≢◌, ◌^◌}
+use Rattle.std.specs.List.{AllByRecursion, AllPairs}
+use Rattle.ttx_page.specs.declared.page.Page.{Page as PageValue}
+use Rattle.ttx_witness.specs.Collected.{ids_of}
 use Rattle.ttx_header.specs.Ids.{Id}
 use Rattle.ttx_page.specs.Packets.{packet_of}
 use Rattle.ttx_page.specs.Pages.{Page, IsBlank, needed}
@@ -75,3 +77,7 @@ IsHeaderAnswer cycle p w (Some header) =
 abbrev pub HeadersAreJudged : Type 0
 HeadersAreJudged = (cycle : List (List ℕ)) → 1 ≤ length cycle → (p : Page) (w : Certificate) → HasHeader (repeated cycle) p.id →
     IsHeaderAnswer cycle p w (late_header (limit w) (length cycle) (sent_in cycle p.id w.lines TheHead))
+
+-- pages whose ids are distinct are fewer than 2^32
+abbrev pub PagesAreFew : Type 0
+PagesAreFew = (pages : List PageValue) → AllPairs (λ a b. a ≢ b) (ids_of pages) → length pages < 2 ^ 32

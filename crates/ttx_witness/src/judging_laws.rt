@@ -1,6 +1,6 @@
 //! Laws of how items are judged by the lists of their transmissions.
 
-ghost use Rattle.ttx_witness.specs.JudgingLaws.{TransmissionsAreListed, FirstPeriodIsListed, ItemsAreJudged, HeadersAreJudged};
+ghost use Rattle.ttx_witness.specs.JudgingLaws.{TransmissionsAreListed, FirstPeriodIsListed, ItemsAreJudged, HeadersAreJudged, PagesAreFew};
 
 /// The list of a period's transmissions has each of them, in their order.
 pub fn transmissions_are_listed()
@@ -22,4 +22,11 @@ pub fn headers_are_judged()
     ensures { HeadersAreJudged }
 {
     ttx_page::laws::each_slot_turns();
+}
+
+/// Pages whose ids are distinct are fewer than 2^32.
+pub fn pages_are_few()
+    ensures { PagesAreFew }
+{
+    ttx_page::laws::pages_keep_their_rules();
 }

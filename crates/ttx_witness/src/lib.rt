@@ -48,7 +48,7 @@ pub use finding::{Found, find, find_for};
 pub use gathering::{collect, collect_after};
 pub use items::judge_item;
 pub use other_subpages::OtherSubpages;
-pub use packets::{header_in, heads_page, row_in, sends};
+pub use packets::{header_in, heads_page, mine_after, row_in, sends};
 pub use page_faults::page_fault;
 pub use page_index::{PageIndex, index_of, place_of};
 pub use page_items::{item_of, run_length};
