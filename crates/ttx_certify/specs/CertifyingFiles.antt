@@ -2,7 +2,6 @@
 --
 --   most_bytes              the most bytes of a text
 --   IsPacketFile, IsService, IsWitness      what the three inputs are
---   pages_of                the pages of a service
 --   seen_by                 an answer, with its value as a plain record
 --   ReadsService, ReadsWitness      what is answered for the bytes of the two texts
 --   Certifies               the verdict on three inputs, and its line
@@ -16,9 +15,8 @@ use Rattle.ttx_cycle.specs.Counts.{HasRisen}
 use Rattle.ttx_cycle.specs.Cycles.{slots_of}
 use Rattle.ttx_cycle.specs.Files.{IsCycle, file_of}
 use Rattle.ttx_cycle.specs.Reading.{Judged}
-use Rattle.ttx_page.specs.Pages.{Page}
 use Rattle.ttx_source.specs.Faults.{fault_of}
-use Rattle.ttx_source.specs.Services.{ServiceFields, read_bytes}
+use Rattle.ttx_source.specs.Services.{ServiceFields, pages_of, read_bytes}
 use Rattle.ttx_source.specs.declared.faults.SourceFault.TheVariants as source
 use Rattle.ttx_witness.specs.CertificateReading.{read_text}
 use Rattle.ttx_witness.specs.Certificates.{fields_of}
@@ -52,9 +50,6 @@ pub record IsService (bytes : List ℕ) (service : ServiceFields) : Type 0 where
 pub record IsWitness (bytes : List ℕ) (w : CertificateFields) : Type 0 where
   pub most : length bytes ≤ most_bytes
   pub says : read_text bytes ≡ Ok w
-
-abbrev pub pages_of : ServiceFields → List Page
-pages_of service = map (λ p. p.page) service.pages
 
 abbrev pub ReadsService : List ℕ → Result ServiceFields FilesFault → Type 0
 ReadsService bytes (Ok service) = IsService bytes service

@@ -17,8 +17,17 @@ pub mod Lists
 pub mod Placed
 pub mod Readable
 pub mod AllRead
+pub mod UnderHeaders
 pub mod OwnRows
 pub mod Placing
 pub mod Planned
 pub mod Onward
 pub mod Answered
+pub mod HeldBlocks
+pub mod SendingOrder
+pub mod PlannedSlots
+pub mod OwnLinks
+pub mod SentItems
+pub mod SteadyPages
+pub mod PlannedAcceptance
+pub mod PageLinks

@@ -24,7 +24,7 @@ pub record ArePlaced (lines : ℕ) (cycle : List (List ℕ)) : Type 0 where
 cases_ltz : (a b : ℤ) → (a <ℤ b) ⊎ (b ≤ℤ a)
 cases_ltz a b = by_lt_z a b (λ h. inl h) (λ h. inr h)
 
-one_latest : (s : Stream) (mag : ℕ) (g h j : ℤ) → IsLatestHeader s mag g j → IsLatestHeader s mag h j → g ≡ h
+pub one_latest : (s : Stream) (mag : ℕ) (g h j : ℤ) → IsLatestHeader s mag g j → IsLatestHeader s mag h j → g ≡ h
 one_latest s mag g h j a b = elim (cases_ltz g h) as (λ _. g ≡ h) [
   | inl lt ↦ absurd (apart (sym b.is_header ∙ a.none_between h lt b.earlier))
   | inr ge ↦ elim (cases_ltz h g) as (λ _. g ≡ h) [
@@ -37,7 +37,7 @@ one_latest s mag g h j a b = elim (cases_ltz g h) as (λ _. g ≡ h) [
     apart e = cc
 
 -- the place of i, where place j of the period stands at pos j + by
-between : (by i : ℤ) (place j : ℕ) → (pos place +ℤ by) <ℤ i → i <ℤ (pos j +ℤ by) → (k : ℕ) × (i ≡ pos k +ℤ by) × (place < k) × (k < j)
+pub between : (by i : ℤ) (place j : ℕ) → (pos place +ℤ by) <ℤ i → i <ℤ (pos j +ℤ by) → (k : ℕ) × (i ≡ pos k +ℤ by) × (place < k) × (k < j)
 between by i place j low high = (nat_abs (i -ℤ by), omega (arith, ints), omega (arith, ints), omega (arith, ints))
 
 sure_here : EachSlotTurns → (lines : ℕ) (cycle : List (List ℕ)) (mag : ℕ) (h j : ℤ) → 0 < length cycle → IsPlaced lines cycle mag (turned (length cycle) j) → IsLatestHeader (repeated cycle) mag h j →

@@ -1,23 +1,19 @@
 -- Each slot of a planned cycle is clean, each header a page's own, and each transmission is sure.
-use Rattle.std.proofs.Common.{◌≡◌, ℕ, ◌<◌, Bool, true, false, ◌&&◌, List, [], length, get_or, Option, refl, sym, ap, ◌∙◌}
-use Rattle.std.proofs.lemmas.Bool.{eq-eqb}
+use Rattle.std.proofs.Common.{◌≡◌, ℕ, ◌<◌, Bool, true, false, List, [], length, get_or, Option, sym, ap, ◌∙◌}
 use Rattle.std.specs.Prelude.{All, option_map}
 use Rattle.ttx_info.specs.Infos.{InfoFields, info_bytes}
 use Rattle.ttx_packet.specs.Slots.{is_clean}
 use Rattle.ttx_header.specs.Ids.{Id}
-use Rattle.ttx_page.specs.Packets.{Header, Row, packet_of}
-use Rattle.ttx_page.specs.declared.item.Item.TheVariants.{Row as TheRow}
+use Rattle.ttx_page.specs.Packets.{Header, packet_of}
 use Rattle.ttx_page.specs.Streams.{carries}
 use Rattle.ttx_page.specs.declared.class.Class.{Class}
 use Rattle.ttx_source.specs.Services.{Authored, IsAuthored}
 use Rattle.ttx_plan.specs.Carries.{CarriesBlocks, blocks_of}
-use Rattle.ttx_plan.specs.Laws.{IsSaid, IsHeadOf, IsOwnRow, PlannedHeadersAreOwn, PlannedRowsAreOwn, PlannedIsClean, PlannedIsSure}
+use Rattle.ttx_plan.specs.Laws.{IsSaid, IsHeadOf, PlannedHeadersAreOwn, PlannedIsClean, PlannedIsSure}
 use Rattle.ttx_plan.specs.Serial.{serial_slots}
 use Rattle.ttx_plan.proofs.AllRead.{serial_read, parallel_read, read_at, read_there}
 use Rattle.ttx_plan.proofs.Placed.{ArePlaced, all_sure}
-use Rattle.ttx_plan.proofs.Placing.{places, serial_at, serial_quiet, serial_placed, parallel_at, parallel_owner, parallel_placed}
-use Rattle.ttx_plan.proofs.Owners.{slot_at}
-use Rattle.ttx_plan.proofs.OwnRows.{own_row}
+use Rattle.ttx_plan.proofs.Placing.{serial_at, serial_placed, parallel_at, parallel_placed}
 use Rattle.ttx_plan.proofs.Readable.{LawsBelow}
 
 placed : LawsBelow → (serial : Bool) (lines : ℕ) (info : Option InfoFields) (class : Class) (pages : List Authored) (cycle : List (List ℕ)) → IsSaid info → All (IsAuthored serial) pages →
@@ -58,34 +54,3 @@ own laws false lines info class pages cycle said a carries n lt id control text 
 pub planned_headers_are_own : LawsBelow → PlannedHeadersAreOwn
 planned_headers_are_own laws class service cycle is_service said carries n lt id control text e =
     own laws service.serial service.lines service.info class service.pages cycle said is_service.pages carries n lt id control text e
-
-row_carried : (slot : List ℕ) (mag number : ℕ) (text : List ℕ) → packet_of slot ≡ Row mag number text → carries mag (TheRow number) (packet_of slot) ≡ true
-row_carried slot mag number text e = ap (carries mag (TheRow number)) e ∙ both _ _ (eq-eqb mag mag refl) (eq-eqb number number refl)
-  where
-    both : (a b : Bool) → a ≡ true → b ≡ true → (a && b) ≡ true
-    both true b e f = f
-    both false b e f = e
-
-rows_own : LawsBelow → (serial : Bool) (lines : ℕ) (info : Option InfoFields) (class : Class) (pages : List Authored) (cycle : List (List ℕ)) → IsSaid info → All (IsAuthored serial) pages →
-    CarriesBlocks serial lines (option_map info_bytes info) (blocks_of class pages) cycle → (n : ℕ) → n < length cycle →
-    (mag number : ℕ) (text : List ℕ) → packet_of (get_or cycle n []) ≡ Row mag number text → IsOwnRow pages cycle lines n mag number text
-rows_own laws true lines info class pages cycle said a known n lt mag number text e =
-    let sent = option_map info_bytes info in
-    let blocks = blocks_of class pages in
-    let reads = read_there laws pages true (serial_slots lines sent blocks) (serial_read laws lines info class pages said a) in
-    let l = (reads n).late_is mag (TheRow number) (ap (λ x. carries mag (TheRow number) (packet_of x)) (sym (serial_at lines sent blocks cycle known n lt)) ∙ row_carried (get_or cycle n []) mag number text e) in
-    let q = serial_quiet lines sent blocks n l.queue l.packet l.slot_is l.late in
-    own_row laws true lines class pages a cycle (places lines sent blocks) (serial_at lines sent blocks cycle known) reads n l.queue l.packet lt l.slot_is
-    (record { place = q.place; header = q.header; late = q.late; header_at = q.header_at; none_between = λ i low high. q.none_between i low high l.queue; own = q.own })
-    mag number text l.mag_is e
-rows_own laws false lines info class pages cycle said a known n lt mag number text e =
-    let sent = option_map info_bytes info in
-    let blocks = blocks_of class pages in
-    let reads = read_at laws pages false known.before (parallel_read laws lines info class pages said a known.before known.turns) in
-    let l = (reads n).late_is mag (TheRow number) (ap (λ x. carries mag (TheRow number) (packet_of x)) (sym (parallel_at lines sent blocks cycle known n lt)) ∙ row_carried (get_or cycle n []) mag number text e) in
-    own_row laws false lines class pages a cycle (slot_at known.before) (parallel_at lines sent blocks cycle known) reads n l.queue l.packet lt l.slot_is
-    (parallel_owner lines sent blocks cycle known n l.queue l.packet l.slot_is l.late) mag number text l.mag_is e
-
-pub planned_rows_are_own : LawsBelow → PlannedRowsAreOwn
-planned_rows_are_own laws class service cycle is_service said known n lt mag number text e =
-    rows_own laws service.serial service.lines service.info class service.pages cycle said is_service.pages known n lt mag number text e

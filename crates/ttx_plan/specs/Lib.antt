@@ -1,3 +1,4 @@
+pub mod Acceptance
 pub mod Blocks
 pub mod Carries
 pub mod Contents

@@ -1,6 +1,7 @@
 //! The scheduler: it lays the packets of a service out in a cycle, in magazine serial or parallel transmission.
 #![tactic(auto)]
 
+pub mod acceptance;
 mod block;
 mod bounds;
 mod contents;
@@ -11,6 +12,7 @@ pub mod laws;
 mod packet;
 mod parallel;
 mod planning;
+mod ranges;
 mod rounds;
 mod serial;
 mod slots;

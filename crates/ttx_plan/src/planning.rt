@@ -4,6 +4,7 @@ ghost use Rattle.std.specs.Prelude.{◌≡◌, ◌≢◌, ◌↔◌, ◌<◌, �
 ghost use Rattle.ttx_cycle.specs.Cycles.{slots_of};
 ghost use Rattle.ttx_info.specs.Infos.{info_bytes};
 ghost use Rattle.ttx_page.specs.declared.class.Class.TheVariants.{Any};
+ghost use Rattle.ttx_plan.specs.Acceptance.{IsAcceptedForEach, IsPlanned};
 ghost use Rattle.ttx_plan.specs.Blocks.{length_bound};
 ghost use Rattle.ttx_plan.specs.Carries.{Carries, blocks_of};
 ghost use Rattle.ttx_plan.specs.Seen.{seen};
@@ -12,6 +13,7 @@ use crate::block::PageBlock;
 use crate::bounds::length_bound;
 use crate::cycle::cycle_slots;
 use crate::faults::PlanFault;
+use crate::ranges::is_planned;
 use std::alloc::{AllocError, Global};
 use ttx_cycle::Cycle;
 use ttx_info::write_info;
@@ -49,13 +51,15 @@ pub fn info_packet(service: &Service) -> Option<[u8; 42]>
 fn cycle_of(alloc: Global, class: Class, service: &Service) -> Result<Cycle, AllocError>
     requires some { service.now.pages ≢ [] }
     requires few { length_bound service.now.lines (blocks_of class service.now.pages) ≤ 65536 }
-    ensures { IfOk result (λ cycle. Carries class service.now (slots_of cycle)) }
+    ensures { IfOk result (λ cycle. IsPlanned class service.now (slots_of cycle)) }
 {
     let blocks = blocks_of(alloc, class, service)?;
     let lines = usize::from(service.lines());
     let info = info_packet(service);
     let slots = cycle_slots(alloc, service.serial(), lines, info, &blocks)?;
-    Ok(Cycle::of(slots).unwrap())
+    let cycle = Cycle::of(slots).unwrap();
+    is_planned(class, service, &cycle);
+    Ok(cycle)
 }
 
 /// The cycle that carries a service to receivers of a class: to those that surely clear a page no blank row and no empty
@@ -63,9 +67,12 @@ fn cycle_of(alloc: Global, class: Class, service: &Service) -> Result<Cycle, All
 /// field) and time-filling headers, and two fields more, are above 65,536. Both are told before any memory is taken.
 pub fn plan_for(alloc: Global, service: &Service, class: Class) -> Result<Cycle, PlanFault>
     ensures carries { IfOk result (λ cycle. Carries class service.now (slots_of cycle)) }
+    ensures planned { IfOk result (λ cycle. IsPlanned class service.now (slots_of cycle)) }
+    ensures accepted { IfOk result (λ cycle. IsAcceptedForEach class service.now (slots_of cycle)) }
     ensures no_pages { (result ≡ Err PlanFault.NoPages) ↔ (service.now.pages ≡ []) }
     ensures too_long { (result ≡ Err PlanFault.TooLong) ↔ (65536 < length_bound service.now.lines (blocks_of class service.now.pages)) }
 {
+    crate::acceptance::planned_cycles_are_accepted();
     if service.pages().is_empty() {
         return Err(PlanFault::NoPages);
     }
@@ -81,6 +88,8 @@ pub fn plan_for(alloc: Global, service: &Service, class: Class) -> Result<Cycle,
 /// The cycle that carries a service to receivers of any class: `plan_for` with `Class::Any`.
 pub fn plan(alloc: Global, service: &Service) -> Result<Cycle, PlanFault>
     ensures carries { IfOk result (λ cycle. Carries Any service.now (slots_of cycle)) }
+    ensures planned { IfOk result (λ cycle. IsPlanned Any service.now (slots_of cycle)) }
+    ensures accepted { IfOk result (λ cycle. IsAcceptedForEach Any service.now (slots_of cycle)) }
     ensures no_pages { (result ≡ Err PlanFault.NoPages) ↔ (service.now.pages ≡ []) }
     ensures too_long { (result ≡ Err PlanFault.TooLong) ↔ (65536 < length_bound service.now.lines (blocks_of Any service.now.pages)) }
 {

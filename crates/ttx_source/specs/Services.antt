@@ -1,6 +1,7 @@
 -- The service that a TOML text is, or its first fault: the keys in the order in which they are looked at (profile).
 --
 --   Authored, ServiceFields         a page with how often it is sent; a service, as contracts see it
+--   pages_of                        its pages alone
 --   IsService                       the ranges of a service
 --   id_of, authored_of              a page from its table
 --   settings_of, after              a service without its pages, and with the pages of some tables added
@@ -38,6 +39,9 @@ service_at lines serial info pages = record { lines = lines; serial = serial; in
 -- the service, and one page more at its end
 abbrev pub with_page : ServiceFields → Authored → ServiceFields
 with_page service page = service_at service.lines service.serial service.info (service.pages ++ page ∷ [])
+
+abbrev pub pages_of : ServiceFields → List Page
+pages_of service = map (λ p. p.page) service.pages
 
 abbrev pub ids_of : List Authored → List Id
 ids_of pages = map (λ p. p.page.id) pages

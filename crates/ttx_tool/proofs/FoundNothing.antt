@@ -1,10 +1,9 @@
 -- Where no deadline is found, the verdict on the certificate is a No.
 use Rattle.std.proofs.Common.{◌≡◌, ℕ, List, [], None, refl}
-use Rattle.ttx_certify.specs.CertifyingFiles.{pages_of}
 use Rattle.ttx_certify.specs.declared.verdict.Verdict.{Verdict}
 use Rattle.ttx_certify.specs.declared.verdict.Verdict.TheVariants.{Yes, No}
 use Rattle.ttx_page.specs.declared.class.Class.{Class}
-use Rattle.ttx_source.specs.Services.{ServiceFields}
+use Rattle.ttx_source.specs.Services.{ServiceFields, pages_of}
 use Rattle.ttx_tool.specs.FindingFiles.{IsVerdictLine, TellsNo, TellsVerdict}
 use Rattle.ttx_witness.specs.Coverage.{IsCertificate}
 use Rattle.ttx_witness.specs.Entries.{CertificateFields, certificate_at}

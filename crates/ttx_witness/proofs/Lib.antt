@@ -47,3 +47,4 @@ mod WrittenTexts
 pub mod DueItems
 pub mod FoundStarts
 pub mod Finds
+pub mod SureItems

@@ -23,3 +23,4 @@ pub mod CertificateReading
 pub mod WrittenEntries
 pub mod ReadingAnswers
 pub mod Finding
+pub mod SureItems

@@ -32,6 +32,7 @@ mod search;
 mod sent_faults;
 mod shapes;
 mod subcodes;
+pub mod sure_items;
 mod track;
 mod transmissions;
 mod words;

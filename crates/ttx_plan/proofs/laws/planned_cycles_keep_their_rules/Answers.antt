@@ -1,4 +1,5 @@
-use Rattle.ttx_plan.proofs.Planned.{planned_is_clean, planned_headers_are_own, planned_rows_are_own, planned_is_sure}
+use Rattle.ttx_plan.proofs.Planned.{planned_is_clean, planned_headers_are_own, planned_is_sure}
+use Rattle.ttx_plan.proofs.OwnRows.{planned_rows_are_own}
 use Rattle.ttx_plan.proofs.Readable.{LawsBelow}
 use Rattle.ttx_plan.proofs.laws.planned_cycles_keep_their_rules.Goals as goal
 

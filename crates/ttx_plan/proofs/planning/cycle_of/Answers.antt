@@ -14,9 +14,9 @@ cycle_slots-requires c =
       few = rw (lines, blocks) c.requires.few;
     }
 
-pub returns : goal.returns
-returns c =
+pub is_planned-requires : goal.is_planned-requires
+is_planned-requires c =
     let blocks : map seen c.deref.result.now ≡ blocks_of c.args.class c.args.service.now.pages = ap (map seen) c.deref.ensures.value ∙ c.in_ok-blocks.ensures in
     let lines : c.from-lines.result ≡ c.args.service.now.lines = c.from-lines.ensures ∙ c.lines.ensures.value in
-    let slots = rw c.unwrap.ensures at c.of.ensures.slots in
+    let slots = rw c.unwrap-cycle.ensures at c.of.ensures.slots in
     rw (slots, ← c.serial.ensures, ← lines, ← c.info_packet-info.ensures, ← blocks) c.in_ok-slots.ensures.carries

@@ -1,7 +1,7 @@
 use Rattle.std.proofs.Common.{None, sym, subst, string_bytes}
 use Rattle.std.proofs.lemmas.Result.{IfOk-weaker}
-use Rattle.ttx_certify.specs.CertifyingFiles.{pages_of}
 use Rattle.ttx_cycle.specs.Cycles.{slots_of}
+use Rattle.ttx_source.specs.Services.{pages_of}
 use Rattle.ttx_witness.specs.Certificates.{fields_of, certificate_of}
 use Rattle.ttx_witness.specs.Finding.{IsFoundFor}
 use Rattle.ttx_tool.specs.FindingFiles.{Tells}

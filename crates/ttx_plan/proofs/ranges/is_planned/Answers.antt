@@ -1,0 +1,13 @@
+use Rattle.ttx_cycle.specs.Cycles.{slots_of-IsCycle}
+use Rattle.ttx_plan.proofs.PageLinks.{linked_from}
+use Rattle.ttx_plan.proofs.ranges.is_planned.Goals as goal
+
+pub returns : goal.returns
+returns c = record {
+  service_is = c.pages.ensures.ranges;
+  said = c.is_said.ensures;
+  linked = linked_from c.pages.result.now c.args.service.now.pages c.pages.ensures.value c.have_links.ensures;
+  carries = c.requires;
+  some = (slots_of-IsCycle c.args.cycle.now).some;
+  few = (slots_of-IsCycle c.args.cycle.now).most;
+}
