@@ -1,0 +1,115 @@
+//! Sends a cycle, field by field.
+
+ghost use Rattle.std.specs.Prelude.{◌≡◌, ℕ, ◌+◌, ◌*◌, ◌/◌, ◌≤◌, ◌<◌, pos, ◌++◌, ◌^◌, length, take, MatchResult};
+ghost use Rattle.ttx_cycle.specs.Counters.{inner_of, faults_of};
+ghost use Rattle.ttx_cycle.specs.Counts.{HasRisen};
+ghost use Rattle.ttx_cycle.specs.Cycles.{slots_of};
+ghost use Rattle.ttx_cycle.specs.Files.{file_of, IsCycle};
+ghost use Rattle.ttx_cycle.specs.Writing.{Writes};
+ghost use Rattle.ttx_page.specs.Laws.{sent_from};
+ghost use Rattle.ttx_send.specs.Airing.{at_moment, sending_of, sent_slots};
+
+use crate::moments::Moment;
+use crate::stamps::{Stamp, stamp_of};
+use crate::timing::stamped;
+use std::io::Write;
+use ttx_cycle::{Counted, Cycle, WriteFault, write_bytes};
+
+// The most slots that go out in one piece.
+const ROOM: usize = 128;
+
+fn room() -> [u8; 5376]
+    ensures { length result ≡ 5376 }
+{
+    [0; 5376]
+}
+
+// Writes a slot, from byte `at` on. The bytes before it stay.
+#[tactic(auto, using(std::proofs::lemmas::Slice::overwrites))]
+fn put_slot(bytes: &mut [u8; 5376], at: usize, slot: &[u8; 42])
+    requires { at + 42 ≤ 5376 }
+    ensures { take (at + 42) bytes.new ≡ take at bytes.old ++ slot.now }
+{
+    bytes[at..at + 42].copy_from_slice(slot);
+}
+
+// Whole fields of one second that go out in one piece.
+#[derive(Clone, Copy)]
+struct Piece {
+    fields: u32,
+    slots: usize,
+}
+
+// The next piece, at a field that isn't the last one's end.
+fn next_piece(field: u32, fields: u32, lines: usize) -> Piece
+    requires before { field < fields }
+    requires some { 0 < lines }
+    requires most { lines ≤ 32 }
+    ensures some { 0 < result.fields }
+    ensures inside { field + result.fields ≤ fields }
+    ensures second { (n : ℕ) → n < result.fields → (field + n) / 50 ≡ field / 50 }
+    ensures slots { result.slots ≡ result.fields * lines }
+    ensures fits { result.slots ≤ 128 }
+{
+    let left = (50 - field % 50).min(fields - field);
+    let fields = left.min((ROOM / lines) as u32);
+    Piece {
+        fields,
+        slots: fields as usize * lines,
+    }
+}
+
+// The bytes of so many slots of the repeated cycle from slot `first` on, at one moment.
+fn piece_bytes(slots: &[[u8; 42]], first: usize, count: usize, stamp: &Stamp) -> [u8; 5376]
+    requires cycle { IsCycle slots.now }
+    requires fits { count ≤ 128 }
+    requires first { first < 2 ^ 63 }
+    ensures long { length result ≡ 5376 }
+    ensures bytes { take (42 * count) result ≡ file_of (sent_from (at_moment slots.now stamp.now.moment) (pos first) count) }
+{
+    let mut bytes = room();
+    for at in 0..count {
+        let slot = stamped(&slots[(first + at) % slots.len()], stamp);
+        put_slot(&mut bytes, 42 * at, &slot);
+    }
+    bytes
+}
+
+/// Sends the cycle for so many fields of 1 to 32 lines, from its field `phase` on, which is sent at the moment `start`.
+///
+/// Each field goes out as one piece, several fields where lines are few. At a fault exactly the first `written` bytes
+/// went out. Takes no memory.
+pub fn send<W: Write>(
+    cycle: &Cycle,
+    start: &Moment,
+    lines: u8,
+    phase: u32,
+    fields: u32,
+    writer: &mut Counted<W>,
+) -> Result<(), WriteFault>
+    requires some { 1 ≤ lines }
+    requires most { lines ≤ 32 }
+    ensures bytes { Writes (file_of (sent_slots (sending_of (slots_of cycle.now) lines phase start.now) fields))
+        (W.contents (inner_of writer.old)) (W.contents (inner_of writer.new)) result }
+    ensures faults { MatchResult result (λ _. faults_of writer.new ≡ faults_of writer.old) (λ _. HasRisen (faults_of writer.old) (faults_of writer.new)) }
+{
+    let slots = cycle.slots();
+    let lines = usize::from(lines);
+    let mut first = phase as usize * lines;
+    let mut sent = 0;
+    let mut field = 0;
+    while field < fields {
+        let piece = next_piece(field, fields, lines);
+        let stamp = stamp_of(start.later(field));
+        let bytes = piece_bytes(slots, first, piece.slots, &stamp);
+        if let Err(fault) = write_bytes(writer, &bytes[..42 * piece.slots]) {
+            return Err(WriteFault {
+                written: sent + fault.written,
+            });
+        }
+        first += piece.slots;
+        sent += 42 * piece.slots;
+        field += piece.fields;
+    }
+    Ok(())
+}
