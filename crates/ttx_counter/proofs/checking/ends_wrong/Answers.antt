@@ -1,0 +1,18 @@
+use Rattle.std.proofs.Common.{◌≡◌, ◌∙◌, ap, ◌↔◌, true, subst}
+use Rattle.ttx_page.specs.Streams.{repeated}
+use Rattle.ttx_page.specs.Views.{page_of, memory_of}
+use Rattle.ttx_cycle.specs.Cycles.{slots_of}
+use Rattle.ttx_certify.specs.Seen.{HasView}
+use Rattle.ttx_receiver.specs.Tuning.{script_at, tuned_at}
+use Rattle.ttx_counter.specs.Counters.{run_of, selection_for}
+use Rattle.ttx_counter.proofs.Reception.{judged}
+use Rattle.ttx_counter.proofs.checking.ends_wrong.Goals as goal
+
+pub returns : goal.returns
+returns c =
+    let k = c.args.counter.now in
+    let p = page_of c.args.page.now in
+    judged (repeated (slots_of c.args.cycle.now)) c.args.keys.now p (run_of k) c.is_wrong.result c.new-receiver.result c.hear.new.receiver c.hear.ensures
+    (c.new-receiver.ensures ∙ ap (λ sel. script_at (tuned_at sel k.lines (memory_of k.former)) c.deref.result.now) (c.selection_for-selection.ensures ∙ ap (selection_for k.any_sub) c.id.ensures)
+    ∙ ap (script_at (tuned_at (selection_for k.any_sub p.id) k.lines (memory_of k.former))) c.deref.ensures.value)
+    (subst (λ m. (c.is_wrong.result ≡ true) ↔ (HasView p m → ⊥)) c.memory.ensures c.is_wrong.ensures)

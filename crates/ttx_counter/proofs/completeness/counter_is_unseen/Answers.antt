@@ -1,0 +1,5 @@
+use Rattle.ttx_counter.proofs.Unseen.{counter_is_unseen}
+use Rattle.ttx_counter.proofs.completeness.counter_is_unseen.Goals as goal
+
+pub returns : goal.returns
+returns c = counter_is_unseen

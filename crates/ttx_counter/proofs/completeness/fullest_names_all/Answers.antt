@@ -1,0 +1,5 @@
+use Rattle.ttx_counter.proofs.Fullest.{fullest_names_all}
+use Rattle.ttx_counter.proofs.completeness.fullest_names_all.Goals as goal
+
+pub returns : goal.returns
+returns c = fullest_names_all c.sure_starts_are_found.ensures

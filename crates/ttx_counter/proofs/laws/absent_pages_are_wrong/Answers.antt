@@ -1,0 +1,5 @@
+use Rattle.ttx_counter.proofs.Plainly.{absent}
+use Rattle.ttx_counter.proofs.laws.absent_pages_are_wrong.Goals as goal
+
+pub returns : goal.returns
+returns c = absent

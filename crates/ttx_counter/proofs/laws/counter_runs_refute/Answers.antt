@@ -1,0 +1,5 @@
+use Rattle.ttx_counter.proofs.Refuting.{refute}
+use Rattle.ttx_counter.proofs.laws.counter_runs_refute.Goals as goal
+
+pub returns : goal.returns
+returns c = refute c.scripted_runs.ensures

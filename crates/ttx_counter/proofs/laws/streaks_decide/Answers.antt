@@ -1,0 +1,5 @@
+use Rattle.ttx_counter.proofs.Streaking.{streaks_decide}
+use Rattle.ttx_counter.proofs.laws.streaks_decide.Goals as goal
+
+pub returns : goal.returns
+returns c = streaks_decide

@@ -1,0 +1,35 @@
+-- What is checked of a counter-run, part by part.
+--
+--   IsInRange               the numbers, the selection and the hits, but for bytes that are hit twice
+--   IsJudged                the receiver's View is wrong, or it isn't
+--   IsRefuting              what is received is within the rules, and the View is wrong
+use Rattle.std.specs.Prelude.{◌≡◌, ◌↔◌, ℕ, ◌*◌, ◌<◌, ◌≤◌, pos, ◌+ℤ◌, Bool, true, List, [], length, slice_index_or, All}
+use Rattle.ttx_page.specs.Pages.{Page, Fits}
+use Rattle.ttx_page.specs.declared.class.Class.TheVariants.{Any}
+use Rattle.ttx_page.specs.Receivers.{scripted}
+use Rattle.ttx_page.specs.Streams.{Stream, repeated}
+use Rattle.std.specs.List.{AllPairs}
+use Rattle.ttx_page.specs.Receptions.{Received}
+use Rattle.ttx_certify.specs.Seen.{HasView}
+use Rattle.ttx_counter.specs.Counters.{CounterRun, AreNumbers, IsHit, IsHitList, selection_for}
+use Rattle.ttx_counter.specs.Hearing.{IsHitBy}
+
+pub record IsInRange (cycle : List (List ℕ)) (pages : List Page) (p : Page) (c : CounterRun) : Type 0 where
+  pub fits : Fits pages p (selection_for c.any_sub p.id)
+  pub numbers : AreNumbers c.lines c.repeat c.deadline
+  pub lasts : c.deadline * c.lines ≤ c.slots
+  pub each : All (IsHit (repeated cycle) c.start c.slots) c.hits
+
+pub record IsJudged (s : Stream) (keys : List ℕ) (p : Page) (c : CounterRun) (wrong : Bool) : Type 0 where
+  pub received : List (List ℕ)
+  pub count : length received ≡ c.slots
+  pub each : (i : ℕ) → i < c.slots → IsHitBy keys i (s (pos c.start +ℤ pos i)) (slice_index_or received i [])
+  pub told : (wrong ≡ true) ↔ (HasView p (scripted Any c.lines (selection_for c.any_sub p.id) c.choices c.former received) → ⊥)
+
+-- the hits keep every rule, and the receiver's View is wrong after them
+pub record IsRefuting (cycle : List (List ℕ)) (p : Page) (c : CounterRun) : Type 0 where
+  pub once : AllPairs (λ a b. a.index ≡ b.index → a.byte ≡ b.byte → ⊥) c.hits
+  pub received : List (List ℕ)
+  pub with_hits : IsHitList (repeated cycle) c.start c.slots c.hits received
+  pub permitted : Received (repeated cycle) p.id c.repeat (pos c.start) received
+  pub wrong : HasView p (scripted Any c.lines (selection_for c.any_sub p.id) c.choices c.former received) → ⊥

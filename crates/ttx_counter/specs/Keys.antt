@@ -1,0 +1,65 @@
+-- Hits as numbers, in the order of their slots and bytes.
+--
+--   key_of                  a hit as one number: the slot, the byte, the bit
+--   slot_in, byte_in, bit_in, place_in      the parts of such a number; slot and byte together
+--   key_at                  the number at a place of a list
+--   AreApart                no byte is hit twice
+--   AreKeys                 the sorted numbers of hits
+--   AreSlotKeys             the numbers of one slot: those from one place to below another
+--   AreFlipped              a slot with those bits flipped
+--   is_hit                  whether a byte of a slot is hit
+use Rattle.std.specs.Prelude.{◌≡◌, ℕ, ◌+◌, ◌*◌, ◌/◌, ◌%◌, ◌<◌, ◌≤◌, Bool, ◌==◌, List, length, map, slice_index, IsPermutation}
+use Rattle.std.specs.List.{list_any}
+use Rattle.std.specs.List.Sorted.{IsNonDecreasing}
+use Rattle.ttx_counter.specs.Counters.{Hit, flipped}
+
+abbrev pub key_of : Hit → ℕ
+key_of h = h.index * 65536 + h.byte * 256 + h.bit
+
+abbrev pub slot_in : ℕ → ℕ
+slot_in key = key / 65536
+
+abbrev pub byte_in : ℕ → ℕ
+byte_in key = key / 256 % 256
+
+abbrev pub bit_in : ℕ → ℕ
+bit_in key = key % 256
+
+abbrev pub place_in : ℕ → ℕ
+place_in key = key / 256
+
+abbrev pub key_at : List ℕ → ℕ → ℕ
+key_at keys i = slice_index keys i
+
+-- of any two the places differ
+abbrev pub AreApart : List ℕ → Type 0
+AreApart keys = (i j : ℕ) → i < j → j < length keys → place_in (key_at keys i) ≡ place_in (key_at keys j) → ⊥
+
+-- bits of bytes of a slot
+pub record IsKey (key : ℕ) : Type 0 where
+  pub byte : byte_in key < 42
+  pub some : 1 ≤ bit_in key
+  pub bit : bit_in key ≤ 8
+
+pub record AreKeys (hits : List Hit) (keys : List ℕ) : Type 0 where
+  pub same : IsPermutation (map key_of hits) keys
+  pub sorted : IsNonDecreasing keys
+  pub apart : AreApart keys
+  pub each : (i : ℕ) → i < length keys → IsKey (key_at keys i)
+
+-- those from place `from` to below `to` are the slot's; and so is none after them
+pub record AreSlotKeys (keys : List ℕ) (n from to : ℕ) : Type 0 where
+  pub up : from ≤ to
+  pub within : to ≤ length keys
+  pub own : (i : ℕ) → from ≤ i → i < to → slot_in (key_at keys i) ≡ n
+  pub ended : to < length keys → slot_in (key_at keys to) ≡ n → ⊥
+
+-- the bits in these places are flipped
+pub record AreFlipped (keys : List ℕ) (from to : ℕ) (sent received : List ℕ) : Type 0 where
+  pub size : length received ≡ length sent
+  pub hit : (i : ℕ) → from ≤ i → i < to → slice_index received (byte_in (key_at keys i)) ≡ flipped (bit_in (key_at keys i)) (slice_index sent (byte_in (key_at keys i)))
+  pub other : (x : ℕ) → ((i : ℕ) → from ≤ i → i < to → byte_in (key_at keys i) ≡ x → ⊥) → slice_index received x ≡ slice_index sent x
+
+-- whether byte x of slot n is hit
+unfoldable pub is_hit : List ℕ → ℕ → ℕ → Bool
+is_hit keys x n = list_any (λ key. place_in key == n * 256 + x) keys

@@ -1,0 +1,105 @@
+-- What is told of a cycle, pages and a certificate by counter-runs, or by none.
+--
+--   TellsStart              the slot from which on a receiver is starved of an item; none where all its sure runs cover it
+--   TellsNeeded             the same of an item that a viewer sees
+--   IsAfterOwner            a slot of the period that follows the owner of the transmission in a slot
+--   IsCounterTo             a counter-run with the numbers of a certificate
+--   ArePrepared             what is kept of a cycle and its pages
+--   is_absent               the fault of a page without a header
+--   TellsCovered            a page each of whose items is covered by all its sure runs; or a counter-run
+--   IsSentWell, TellsPage   a page that is sent, and where it is steady covered by some certificate of these numbers; or a counter-run
+--   TellsPlainly            a counter-run, or a page of which no plain run ends wrong
+--   TellsPages, TellsAllPlainly     the same of all pages
+--   IsUnrefuted, TellsCounter       the same of all pages; or a counter-run
+use Rattle.std.specs.Prelude.{◌≡◌, ◌⊎◌, ◌↔◌, ℕ, pos, ◌+ℤ◌, true, false, Bool, List, slice_get, Contains, Option, Some, None}
+use Rattle.ttx_page.specs.Pages.{Page, needed}
+use Rattle.ttx_page.specs.declared.item.Item.{Item}
+use Rattle.ttx_page.specs.Streams.{repeated, turned}
+use Rattle.ttx_page.specs.Steady.{HasHeader, Steady}
+use Rattle.ttx_witness.specs.declared.transmissions.Transmission.{Transmission}
+use Rattle.ttx_witness.specs.AllSent.{AreAllSent}
+use Rattle.ttx_witness.specs.Collected.{IsItem}
+use Rattle.ttx_witness.specs.Coverage.{Certificate, limit, IsSureStart, IsCovered}
+use Rattle.ttx_witness.specs.declared.period.Collected.{Collected}
+use Rattle.ttx_witness.specs.declared.reason.Reason.{Reason}
+use Rattle.ttx_witness.specs.declared.reason.Reason.TheVariants.{BadSlot, NoHeader, OtherSubpage, Erased, HeadDiffers, RowDiffers, LinksDiffer, NoWitness, WitnessBad, Late, Unsteady, LateBlank}
+use Rattle.ttx_counter.specs.Counters.{CounterRun, IsCounterRun}
+use Rattle.ttx_counter.specs.Sources.{IsPlainlyRight}
+use Rattle.ttx_counter.specs.Starving.{fullest, IsCoveredByOne}
+use Rattle.ttx_counter.specs.Completeness.{IsClean, StarvesFrom}
+
+abbrev pub TellsStart : List (List ℕ) → Page → Certificate → Item → Option ℕ → Type 0
+TellsStart cycle p w item None = IsCovered cycle p (fullest cycle w) item
+TellsStart cycle p w item (Some start) = StarvesFrom cycle p w item start
+
+abbrev pub TellsNeeded : List (List ℕ) → Page → Certificate → Item → Option ℕ → Type 0
+TellsNeeded cycle p w item None = needed p item ≡ true → IsCovered cycle p (fullest cycle w) item
+TellsNeeded cycle p w item (Some start) = (needed p item ≡ true) × StarvesFrom cycle p w item start
+
+-- a transmission in slot `at`, and the slot after its owner taken into the period; or no transmission is there
+abbrev pub IsAfterOwner : List Transmission → ℕ → ℕ → ℕ → Type 0
+IsAfterOwner sent period at start =
+    ((t : Transmission) × Contains sent t × (t.slot ≡ pos at) × (start ≡ turned period (t.owner +ℤ pos 1)))
+    ⊎ ((t : Transmission) → Contains sent t → t.slot ≡ pos at → ⊥)
+
+-- what is kept of a cycle and its pages: the transmissions of their items, and the starts of the sure runs of all items that a viewer sees
+pub record ArePrepared (cycle : List (List ℕ)) (pages : List Page) (w found : Certificate) (collected : Collected) : Type 0 where
+  pub sent : AreAllSent cycle pages w.lines collected
+  pub named : (n : ℕ) (p : Page) → slice_get pages n ≡ Some p → (item : Item) → IsItem item →
+      (start : ℕ) → Contains (found.starts p.id item) start ↔ ((needed p item ≡ true) × IsSureStart cycle p.id w.lines w.repeat item start)
+
+-- the fault is that the page has no header
+abbrev pub is_absent : Option Reason → Bool
+is_absent None = false
+is_absent (Some (BadSlot slot)) = false
+is_absent (Some (NoHeader page)) = true
+is_absent (Some (OtherSubpage page slot)) = false
+is_absent (Some (Erased page slot)) = false
+is_absent (Some (HeadDiffers page slot)) = false
+is_absent (Some (RowDiffers page slot)) = false
+is_absent (Some (LinksDiffer page slot)) = false
+is_absent (Some (NoWitness page item)) = false
+is_absent (Some (WitnessBad page item start)) = false
+is_absent (Some (Late page item start)) = false
+is_absent (Some Unsteady) = false
+is_absent (Some (LateBlank page item header)) = false
+
+pub record IsCounterTo (cycle : List (List ℕ)) (pages : List Page) (w : Certificate) (c : CounterRun) : Type 0 where
+  pub is : IsCounterRun cycle pages c
+  pub lines : c.lines ≡ w.lines
+  pub repeat : c.repeat ≡ w.repeat
+  pub deadline : c.deadline ≡ w.deadline
+
+-- the page has a header; and of a clean cycle, where it is steady, some certificate of these numbers covers it
+pub record IsSentWell (cycle : List (List ℕ)) (pages : List Page) (p : Page) (w : Certificate) : Type 0 where
+  pub header : HasHeader (repeated cycle) p.id
+  pub covered : IsClean cycle → Steady (repeated cycle) pages p → IsCoveredByOne cycle p w
+
+abbrev pub TellsPage : {C : Type 0} → (C → CounterRun) → List (List ℕ) → List Page → Page → Certificate → Option C → Type 0
+TellsPage run cycle pages p w None = IsSentWell cycle pages p w
+TellsPage run cycle pages p w (Some c) = IsCounterTo cycle pages w (run c)
+
+abbrev pub TellsCovered : {C : Type 0} → (C → CounterRun) → List (List ℕ) → List Page → Page → Certificate → Option C → Type 0
+TellsCovered run cycle pages p w None = (item : Item) → needed p item ≡ true → IsCovered cycle p (fullest cycle w) item
+TellsCovered run cycle pages p w (Some c) = IsCounterTo cycle pages w (run c)
+
+abbrev pub TellsPages : {C : Type 0} → (C → CounterRun) → List (List ℕ) → List Page → Certificate → Option C → Type 0
+TellsPages run cycle pages w None = (n : ℕ) (p : Page) → slice_get pages n ≡ Some p → IsSentWell cycle pages p w
+TellsPages run cycle pages w (Some c) = IsCounterTo cycle pages w (run c)
+
+abbrev pub TellsPlainly : {C : Type 0} → (C → CounterRun) → List (List ℕ) → List Page → ℕ → Bool → Certificate → Option C → Type 0
+TellsPlainly run cycle pages index any_sub w None = IsPlainlyRight cycle pages index any_sub w.lines (limit w)
+TellsPlainly run cycle pages index any_sub w (Some c) = IsCounterTo cycle pages w (run c)
+
+abbrev pub TellsAllPlainly : {C : Type 0} → (C → CounterRun) → List (List ℕ) → List Page → Certificate → Option C → Type 0
+TellsAllPlainly run cycle pages w None = (n : ℕ) (any_sub : Bool) → IsPlainlyRight cycle pages n any_sub w.lines (limit w)
+TellsAllPlainly run cycle pages w (Some c) = IsCounterTo cycle pages w (run c)
+
+-- no page without a header; of a clean cycle no steady page that no certificate of these numbers covers; no plain run that ends wrong
+pub record IsUnrefuted (cycle : List (List ℕ)) (pages : List Page) (w : Certificate) : Type 0 where
+  pub sent : (n : ℕ) (p : Page) → slice_get pages n ≡ Some p → IsSentWell cycle pages p w
+  pub plain : (n : ℕ) (any_sub : Bool) → IsPlainlyRight cycle pages n any_sub w.lines (limit w)
+
+abbrev pub TellsCounter : {C : Type 0} → (C → CounterRun) → List (List ℕ) → List Page → Certificate → Option C → Type 0
+TellsCounter run cycle pages w None = IsUnrefuted cycle pages w
+TellsCounter run cycle pages w (Some c) = IsCounterTo cycle pages w (run c)

@@ -1,0 +1,61 @@
+-- Two sources of counter-runs, neither of which needs hits or choices.
+--
+--   plain_from              the memory of a receiver that takes no choice, over slots of a stream
+--   plain_counter           a counter-run from slot 0 on without hits and choices
+--   PlainRunsAreCounterRuns where such a run ends in a wrong View
+--   AbsentPagesAreWrong     where the page has no header, a receiver that isn't storing keeps wrong links
+--   IsPlainlyRight          no plain run ends wrong
+--   IsWrongAfter, TellsWrong        the View is wrong after n slots; the first such number
+--   PeriodsRepeat           a period that gives the memory back gives it back ever after
+use Rattle.std.specs.Prelude.{◌≡◌, ◌≢◌, ℕ, zero, suc, ◌+◌, ◌*◌, ◌≤◌, ◌<◌, ℤ, pos, ◌+ℤ◌, Bool, false, List, [], length, slice_get, Option, Some, None}
+use Rattle.ttx_cycle.specs.Files.{IsCycle}
+use Rattle.ttx_page.specs.Packets.{packet_of}
+use Rattle.ttx_page.specs.Pages.{Page, Fits}
+use Rattle.ttx_page.specs.declared.selection.Selection.{Selection}
+use Rattle.ttx_page.specs.declared.selection.Selection.TheVariants.{Exact}
+use Rattle.ttx_page.specs.declared.class.Class.TheVariants.{Any}
+use Rattle.ttx_page.specs.Memories.{Memory, IsMemory, memory_of_page}
+use Rattle.ttx_page.specs.Receivers.{after, older}
+use Rattle.ttx_page.specs.Streams.{Stream, repeated, heads_page}
+use Rattle.ttx_certify.specs.Seen.{HasView}
+use Rattle.ttx_counter.specs.Counters.{CounterRun, AreNumbers, IsCounterRun, selection_for}
+
+unfoldable pub plain_from : ℕ → Selection → Memory → Stream → ℤ → ℕ → Memory
+plain_from lines sel m s tau zero = m
+plain_from lines sel m s tau (suc n) = plain_from lines sel (after Any lines sel false (older m) (packet_of (s tau))) s (tau +ℤ pos 1) n
+
+abbrev pub plain_counter : ℕ → Bool → Memory → ℕ → ℕ → ℕ → ℕ → CounterRun
+plain_counter index any_sub former lines repeat deadline n =
+    record { page = index; any_sub = any_sub; start = 0; slots = n; former = former; choices = []; hits = []; lines = lines; repeat = repeat; deadline = deadline }
+
+abbrev pub PlainRunsAreCounterRuns : Type 0
+PlainRunsAreCounterRuns =
+    (cycle : List (List ℕ)) (pages : List Page) (p : Page) (index : ℕ) (any_sub : Bool) (former : Memory) (lines repeat deadline n : ℕ) → IsCycle cycle →
+    slice_get pages index ≡ Some p → Fits pages p (selection_for any_sub p.id) → IsMemory former → AreNumbers lines repeat deadline → deadline * lines ≤ n →
+    (HasView p (plain_from lines (selection_for any_sub p.id) former (repeated cycle) (pos 0) n) → ⊥) →
+    IsCounterRun cycle pages (plain_counter index any_sub former lines repeat deadline n)
+
+abbrev pub AbsentPagesAreWrong : Type 0
+AbsentPagesAreWrong =
+    (s : Stream) (p : Page) (former : Memory) (lines n : ℕ) → ((j : ℤ) → heads_page p.id (packet_of (s j)) ≡ false) → former.storing ≡ false → former.links.six ≢ p.links.six →
+    (tau : ℤ) → HasView p (plain_from lines (Exact p.id) former s tau n) → ⊥
+
+-- q periods of a cycle after one that gave the memory back
+abbrev pub PeriodsRepeat : Type 0
+PeriodsRepeat =
+    (cycle : List (List ℕ)) (lines : ℕ) (sel : Selection) (m : Memory) (q : ℕ) → 0 < length cycle → plain_from lines sel m (repeated cycle) (pos 0) (length cycle) ≡ m →
+    plain_from lines sel m (repeated cycle) (pos 0) (q * length cycle) ≡ m
+
+-- the first number of slots from low to high after which the View is wrong, if one is
+abbrev pub IsWrongAfter : List (List ℕ) → Page → ℕ → Selection → Memory → ℕ → Type 0
+IsWrongAfter cycle p lines sel former n = HasView p (plain_from lines sel former (repeated cycle) (pos 0) n) → ⊥
+
+abbrev pub TellsWrong : List (List ℕ) → Page → ℕ → Selection → Memory → ℕ → ℕ → Option ℕ → Type 0
+TellsWrong cycle p lines sel former low high None = (n : ℕ) → low ≤ n → n ≤ high → IsWrongAfter cycle p lines sel former n → ⊥
+TellsWrong cycle p lines sel former low high (Some n) = (low ≤ n) × (n ≤ high) × IsWrongAfter cycle p lines sel former n
+
+-- by this selection, where it fits, no plain run from the page's own memory ends wrong
+abbrev pub IsPlainlyRight : List (List ℕ) → List Page → ℕ → Bool → ℕ → ℕ → Type 0
+IsPlainlyRight cycle pages index any_sub lines low =
+    (p : Page) → slice_get pages index ≡ Some p → Fits pages p (selection_for any_sub p.id) → (n : ℕ) → low ≤ n → n ≤ low + 2 * length cycle →
+    IsWrongAfter cycle p lines (selection_for any_sub p.id) (memory_of_page p) n → ⊥

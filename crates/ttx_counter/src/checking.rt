@@ -1,0 +1,181 @@
+//! Checking a counter-run.
+
+ghost use Rattle.std.specs.Prelude.{◌≡◌, ℕ, ◌*◌, ◌<◌, ◌≤◌, ◌↔◌, IsTrue, IfOk, true, Some, length, map, slice_get, All, IsPermutation};
+ghost use Rattle.std.specs.List.Sorted.{IsNonDecreasing};
+ghost use Rattle.ttx_packet.specs.Slots.{is_empty};
+ghost use Rattle.ttx_page.specs.Pages as definitions;
+ghost use Rattle.ttx_page.specs.Streams.{repeated};
+ghost use Rattle.ttx_page.specs.Views.{page_of, memory_of};
+ghost use Rattle.ttx_certify.specs.Seen.{HasView};
+ghost use Rattle.ttx_cycle.specs.Cycles.{slots_of};
+ghost use Rattle.ttx_counter.specs.Counters.{run_of, selection_for, AreNumbers, IsHit, IsCounterRun};
+ghost use Rattle.ttx_counter.specs.Keys.{key_at, key_of, AreApart, IsKey};
+ghost use Rattle.ttx_counter.specs.Checking.{IsInRange, IsJudged, IsRefuting};
+
+use crate::counter::{Counter, Hit};
+use crate::hearing::hear;
+use crate::keys::{are_apart, sorted_keys};
+use crate::listening::place;
+use crate::rule::keeps_rule;
+use std::alloc::Global;
+use ttx_cycle::Cycle;
+use ttx_header::PageId;
+use ttx_page::{Page, PageMemory, Selection};
+use ttx_receiver::{Receiver, Scripted};
+use ttx_render::{render, same_but_clock};
+use ttx_witness::NoMemory;
+
+/// What the receiver is set to.
+pub fn selection_for(any_sub: bool, id: PageId) -> Selection
+    ensures { result ≡ selection_for any_sub id }
+{
+    if any_sub {
+        Selection::AnySub(id.mag(), id.page())
+    } else {
+        Selection::Exact(id)
+    }
+}
+
+// Whether the numbers are those of a certificate.
+fn are_numbers(lines: u8, repeat: u8, deadline: u32) -> bool
+    ensures { IsTrue result ↔ AreNumbers lines repeat deadline }
+{
+    1 <= lines
+        && lines <= 32
+        && 1 <= repeat
+        && repeat <= 8
+        && 1 <= deadline
+        && deadline <= 1_000_000
+}
+
+// Whether so many slots are the deadline or more.
+fn lasts(lines: u8, deadline: u32, slots: u32) -> bool
+    ensures { IsTrue result ↔ (deadline * lines ≤ slots) }
+{
+    u64::from(deadline) * u64::from(lines) <= u64::from(slots)
+}
+
+fn is_empty(slot: &[u8; 42]) -> bool
+    ensures { result ≡ is_empty slot.now }
+{
+    slot.iter().all(|b| *b == 0)
+}
+
+// Whether a hit is one of a bit of a slot of the run that isn't empty.
+fn is_hit(cycle: &Cycle, start: u32, count: u32, hit: Hit) -> bool
+    ensures { IsTrue result ↔ IsHit (repeated (slots_of cycle.now)) start count hit }
+{
+    let slots = cycle.slots();
+    hit.index < count
+        && hit.byte < 42
+        && 1 <= hit.bit
+        && hit.bit <= 8
+        && !is_empty(&slots[place(start, hit.index, slots.len())])
+}
+
+// Whether each hit is such.
+fn are_hits(cycle: &Cycle, start: u32, count: u32, hits: &[Hit]) -> bool
+    ensures { IsTrue result ↔ All (IsHit (repeated (slots_of cycle.now)) start count) hits.now }
+{
+    for hit in hits {
+        if !is_hit(cycle, start, count, *hit) {
+            return false;
+        }
+    }
+    true
+}
+
+// Whether the numbers, the selection and the hits are in their ranges.
+fn is_in_range(cycle: &Cycle, pages: &[Page], index: usize, counter: &Counter) -> bool
+    requires { index < length pages.now }
+    ensures { (p : definitions.Page) → slice_get (map page_of pages.now) index ≡ Some p → IsTrue result ↔ IsInRange (slots_of cycle.now) (map page_of pages.now) p (run_of counter.now) }
+{
+    let selection = selection_for(counter.any_sub, pages[index].id());
+    selection.fits(pages, index)
+        && are_numbers(counter.lines, counter.repeat, counter.deadline)
+        && lasts(counter.lines, counter.deadline, counter.slots)
+        && are_hits(cycle, counter.start, counter.slots, &counter.hits)
+}
+
+/// Whether the memory's View isn't the page's.
+pub fn is_wrong(page: &Page, memory: &PageMemory) -> bool
+    ensures { IsTrue result ↔ (HasView (page_of page.now) (memory_of memory.now) → ⊥) }
+{
+    !same_but_clock(&render(memory), &render(&PageMemory::of(page)))
+}
+
+// Whether the receiver's View is wrong after the run.
+fn ends_wrong(cycle: &Cycle, page: &Page, counter: &Counter, keys: &[u64]) -> bool
+    requires sorted { IsNonDecreasing keys.now }
+    requires apart { AreApart keys.now }
+    requires keys { (i : ℕ) → i < length keys.now → IsKey (key_at keys.now i) }
+    ensures { IsJudged (repeated (slots_of cycle.now)) keys.now (page_of page.now) (run_of counter.now) result }
+{
+    let selection = selection_for(counter.any_sub, page.id());
+    let mut receiver = Scripted::new(selection, counter.lines, counter.former, &counter.choices);
+    hear(&mut receiver, cycle, counter.start, counter.slots, keys);
+    is_wrong(page, receiver.memory())
+}
+
+// Whether the hits of these keys keep every rule and the receiver's View is wrong after them.
+fn check_keys(
+    alloc: Global,
+    cycle: &Cycle,
+    page: &Page,
+    counter: &Counter,
+    keys: &[u64],
+) -> Result<bool, NoMemory>
+    requires all { All (IsHit (repeated (slots_of cycle.now)) (run_of counter.now).start (run_of counter.now).slots) (run_of counter.now).hits }
+    requires some { 1 ≤ (run_of counter.now).repeat }
+    requires same { IsPermutation (map key_of (run_of counter.now).hits) keys.now }
+    requires sorted { IsNonDecreasing keys.now }
+    ensures { IfOk result (λ b. IsTrue b ↔ IsRefuting (slots_of cycle.now) (page_of page.now) (run_of counter.now)) }
+{
+    ttx_code::laws::each_byte_is_near_itself();
+    ttx_page::laws::each_slot_turns();
+    if !are_apart(keys) {
+        return Ok(false);
+    }
+    let (start, slots) = (counter.start, counter.slots);
+    let keeps = keeps_rule(alloc, cycle, page.id(), start, slots, keys, counter.repeat)?;
+    if !keeps {
+        return Ok(false);
+    }
+    Ok(ends_wrong(cycle, page, counter, keys))
+}
+
+// Whether the hits keep every rule and the receiver's View is wrong after them.
+fn check_hits(
+    alloc: Global,
+    cycle: &Cycle,
+    page: &Page,
+    counter: &Counter,
+) -> Result<bool, NoMemory>
+    requires all { All (IsHit (repeated (slots_of cycle.now)) (run_of counter.now).start (run_of counter.now).slots) (run_of counter.now).hits }
+    requires some { 1 ≤ (run_of counter.now).repeat }
+    ensures { IfOk result (λ b. IsTrue b ↔ IsRefuting (slots_of cycle.now) (page_of page.now) (run_of counter.now)) }
+{
+    let keys = sorted_keys(alloc, &counter.hits)?;
+    check_keys(alloc, cycle, page, counter, &keys)
+}
+
+/// Whether the counter-run keeps every rule, lasts to its deadline or longer, and ends in a wrong View. Time linear in its slots and,
+/// but for the sort, its hits; memory for a copy of the hits.
+pub fn check_counter(
+    alloc: Global,
+    cycle: &Cycle,
+    pages: &[Page],
+    counter: &Counter,
+) -> Result<bool, NoMemory>
+    ensures { IfOk result (λ b. IsTrue b ↔ IsCounterRun (slots_of cycle.now) (map page_of pages.now) (run_of counter.now)) }
+{
+    ttx_page::laws::memories_keep_their_rules();
+    let index = counter.page as usize;
+    if index >= pages.len() {
+        return Ok(false);
+    }
+    if !is_in_range(cycle, pages, index, counter) {
+        return Ok(false);
+    }
+    check_hits(alloc, cycle, &pages[index], counter)
+}

@@ -1,0 +1,109 @@
+//! Laws of completeness, for receivers of class Any. A call costs nothing and gives the caller's proof the law.
+
+ghost use Rattle.ttx_counter.specs.Completeness.{CoveredOrStarved, StartsAreJudged, StarvedIsUnseen, StarvedHasCounter, StarvesInPeriod, StarvingIsCounterRun, CounterIsUnseen, FullestNamesAll, SeenIsCovered, SeenExactlyWhereAccepted, FoundIsLeastSeen};
+
+/// An item is covered by its sure runs, or from some tuning slot on none of them comes in time.
+pub fn covered_or_starved()
+    ensures { CoveredOrStarved }
+{
+    ttx_page::laws::each_slot_turns();
+    ttx_page::laws::streams_move();
+    ttx_page::laws::cycles_repeat();
+    ttx_page::laws::owners_are_unique();
+    ttx_page::laws::owners_dont_fall();
+    ttx_page::laws::runs_rise();
+    ttx_witness::cycle_laws::coverage_is_decided();
+    ttx_witness::cycle_laws::firsts_are_found();
+}
+
+/// One pass over a period tells from what slot on an item is starved whose sure starts are all named.
+pub fn starts_are_judged()
+    ensures { StartsAreJudged }
+{
+    ttx_page::laws::each_slot_turns();
+    ttx_page::laws::streams_move();
+    ttx_page::laws::cycles_repeat();
+    ttx_page::laws::owners_are_unique();
+    ttx_page::laws::owners_dont_fall();
+    ttx_page::laws::runs_rise();
+    ttx_witness::cycle_laws::coverage_is_decided();
+    ttx_witness::cycle_laws::firsts_are_found();
+}
+
+/// A receiver that is starved of an item hasn't the page's View.
+pub fn starved_is_unseen()
+    ensures { StarvedIsUnseen }
+{
+    ttx_page::laws::page_is_shown();
+    ttx_render::laws::wrong_letter_is_seen();
+}
+
+/// A steady page of a clean cycle, one of whose items doesn't come in time, has a counter-run.
+pub fn starved_has_counter()
+    ensures { StarvedHasCounter }
+{
+    ttx_page::laws::each_slot_turns();
+    ttx_page::laws::steady_sends_its_own();
+    ttx_receiver::laws::starved_stays_wrong();
+    starved_is_unseen();
+}
+
+/// Where no sure run comes in time from some tuning slot on, none does from some slot of the first period on.
+pub fn starves_in_period()
+    ensures { StarvesInPeriod }
+{
+    ttx_page::laws::each_slot_turns();
+    ttx_page::laws::streams_move();
+}
+
+/// The run of a starved receiver is a counter-run.
+pub fn starving_is_counter_run()
+    ensures { StarvingIsCounterRun }
+{
+    ttx_page::laws::each_slot_turns();
+    ttx_page::laws::steady_sends_its_own();
+    ttx_receiver::laws::starved_stays_wrong();
+    ttx_receiver::laws::starved_is_scripted();
+    starved_is_unseen();
+}
+
+/// A counter-run refutes that a page is seen.
+pub fn counter_is_unseen()
+    ensures { CounterIsUnseen }
+{}
+
+/// The certificate that names the starts of all sure runs.
+pub fn fullest_names_all()
+    ensures { FullestNamesAll }
+{
+    ttx_witness::cycle_laws::sure_starts_are_found();
+}
+
+/// A steady page of a clean cycle that is seen is covered by some certificate of these numbers.
+pub fn seen_is_covered()
+    ensures { SeenIsCovered }
+{
+    covered_or_starved();
+    starved_has_counter();
+    counter_is_unseen();
+    fullest_names_all();
+}
+
+/// Where all is sent unchanged, all pages are seen exactly where some certificate of these numbers is accepted.
+pub fn seen_exactly_where_accepted()
+    ensures { SeenExactlyWhereAccepted }
+{
+    covered_or_starved();
+    starved_has_counter();
+    counter_is_unseen();
+    fullest_names_all();
+    ttx_certify::laws::accepted_is_seen();
+}
+
+/// The deadline that is found is the least for which all pages are seen.
+pub fn found_is_least_seen()
+    ensures { FoundIsLeastSeen }
+{
+    seen_exactly_where_accepted();
+    ttx_certify::laws::accepted_is_seen();
+}

@@ -1,0 +1,105 @@
+//! Hits as numbers, in the order of their slots and bytes.
+
+ghost use Rattle.std.specs.Prelude.{◌≡◌, ℕ, ◌<◌, ◌≤◌, ◌↔◌, IsTrue, IfOk, length, map, IsPermutation};
+ghost use Rattle.std.specs.List.Sorted.{IsNonDecreasing};
+ghost use Rattle.ttx_counter.specs.Counters.{flipped};
+ghost use Rattle.ttx_counter.specs.Keys.{key_of, key_at, byte_in, bit_in, place_in, slot_in, AreApart, IsKey, AreSlotKeys, AreFlipped};
+
+use crate::counter::Hit;
+use std::alloc::Global;
+use ttx_witness::NoMemory;
+
+// A hit as one number.
+fn key_of(hit: Hit) -> u64
+    ensures { result ≡ key_of hit }
+{
+    u64::from(hit.index) * 65536 + u64::from(hit.byte) * 256 + u64::from(hit.bit)
+}
+
+// The numbers of the hits, in their order.
+fn keys_of(alloc: Global, hits: &[Hit]) -> Result<Vec<u64>, NoMemory>
+    ensures { IfOk result (λ keys. keys.items ≡ map key_of hits.now) }
+{
+    let mut keys = Vec::new(alloc);
+    for hit in hits {
+        if keys.push(key_of(*hit)).is_err() {
+            return Err(NoMemory);
+        }
+    }
+    Ok(keys)
+}
+
+/// The numbers of the hits, sorted.
+pub fn sorted_keys(alloc: Global, hits: &[Hit]) -> Result<Vec<u64>, NoMemory>
+    ensures same { IfOk result (λ keys. IsPermutation (map key_of hits.now) keys.items) }
+    ensures sorted { IfOk result (λ keys. IsNonDecreasing keys.items) }
+{
+    let mut keys = keys_of(alloc, hits)?;
+    keys.sort_unstable();
+    Ok(keys)
+}
+
+/// Whether no byte of a slot is hit twice.
+pub fn are_apart(keys: &[u64]) -> bool
+    requires { IsNonDecreasing keys.now }
+    ensures { IsTrue result ↔ AreApart keys.now }
+{
+    for i in 1..keys.len() {
+        if keys[i - 1] / 256 == keys[i] / 256 {
+            return false;
+        }
+    }
+    true
+}
+
+/// The byte of a hit.
+pub fn byte_in(key: u64) -> usize
+    ensures { result ≡ byte_in key }
+{
+    (key / 256 % 256) as usize
+}
+
+/// The place after the keys of slot n, which begin at `from`.
+pub fn end_of(keys: &[u64], from: usize, n: u32) -> usize
+    requires { from ≤ length keys.now }
+    ensures { AreSlotKeys keys.now n from result }
+{
+    for i in from..keys.len() {
+        if keys[i] / 65536 != u64::from(n) {
+            return i;
+        }
+    }
+    keys.len()
+}
+
+// A byte with one bit wrong.
+fn flipped(byte: u8, bit: u8) -> u8
+    requires some { 1 ≤ bit }
+    requires few { bit ≤ 8 }
+    ensures { result ≡ flipped bit byte }
+{
+    byte ^ (1u8 << (bit - 1))
+}
+
+// The bit of a hit.
+fn bit_in(key: u64) -> u8
+    ensures { result ≡ bit_in key }
+{
+    (key % 256) as u8
+}
+
+/// The slot with the bits flipped of the keys from one place to below another.
+pub fn hit_slot(slot: &[u8; 42], keys: &[u64], from: usize, to: usize) -> [u8; 42]
+    requires up { from ≤ to }
+    requires within { to ≤ length keys.now }
+    requires keys { (i : ℕ) → i < length keys.now → IsKey (key_at keys.now i) }
+    requires apart { (i j : ℕ) → from ≤ i → i < j → j < to → byte_in (key_at keys.now i) ≡ byte_in (key_at keys.now j) → ⊥ }
+    ensures { AreFlipped keys.now from to slot.now result }
+{
+    let mut received = *slot;
+    for i in from..to {
+        let x = byte_in(keys[i]);
+        received[x] = flipped(received[x], bit_in(keys[i]));
+    }
+    received
+}

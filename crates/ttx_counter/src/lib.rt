@@ -1,0 +1,22 @@
+//! Counter-runs: receptions within every rule that end in a wrong view, and so refute that a page is seen.
+#![tactic(auto)]
+
+mod checking;
+pub mod completeness;
+mod counter;
+mod former;
+mod hearing;
+mod keys;
+pub mod laws;
+mod listening;
+mod plain;
+mod plain_refuting;
+mod refutation;
+mod rule;
+mod starting;
+mod starving;
+mod streaks;
+
+pub use checking::check_counter;
+pub use counter::{Counter, Hit};
+pub use refutation::refute;

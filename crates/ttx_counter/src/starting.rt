@@ -1,0 +1,108 @@
+//! The slot from which on a receiver is starved of an item.
+
+ghost use Rattle.std.specs.Prelude.{◌≡◌, ◌≤◌, ◌<◌, ◌↔◌, ◌+ℤ◌, ◌≤ℤ◌, pos, ℕ, IfOk, MatchOption, length, Contains};
+ghost use Rattle.std.specs.List.{AllByRecursion};
+ghost use Rattle.ttx_cycle.specs.Cycles.{slots_of};
+ghost use Rattle.ttx_page.specs.Streams.{turned};
+ghost use Rattle.ttx_page.specs.Views.{page_of};
+ghost use Rattle.ttx_witness.specs.Certificates.{certificate_of};
+ghost use Rattle.ttx_witness.specs.Confirming.{Rising};
+ghost use Rattle.ttx_witness.specs.Coverage as coverage;
+ghost use Rattle.ttx_witness.specs.Coverage.{IsSureStart};
+ghost use Rattle.ttx_witness.specs.Sent.{sent_in};
+ghost use Rattle.ttx_witness.specs.Tracks.{IsWithin};
+ghost use Rattle.ttx_witness.specs.declared.transmissions.Transmission as transmissions;
+ghost use Rattle.ttx_counter.specs.Refutations.{IsAfterOwner, TellsStart};
+
+use std::alloc::Global;
+use ttx_cycle::Cycle;
+use ttx_page::{Item, Page};
+use ttx_witness::{Certificate, NoMemory, Transmission, judge_item, late_at_end, run_length};
+
+/// The deadline in slots.
+pub fn limit(certificate: &Certificate) -> u32
+    ensures value { result ≡ coverage.limit (certificate_of certificate.now) }
+    ensures few { result ≤ 32000000 }
+{
+    ttx_witness::certificate_laws::certificates_keep_their_rules();
+    certificate.deadline() * u32::from(certificate.lines())
+}
+
+// The transmission in a slot.
+fn in_slot(sent: &[Transmission], slot: u32) -> Option<Transmission>
+    ensures { MatchOption result ((t : transmissions.Transmission) → Contains sent.now t → t.slot ≡ pos slot → ⊥) (λ t. Contains sent.now t × (t.slot ≡ pos slot)) }
+{
+    for i in 0..sent.len() {
+        if i64::from(sent[i].slot) == i64::from(slot) {
+            return Some(sent[i]);
+        }
+    }
+    None
+}
+
+// The slot of the period in which a slot of the stream stands.
+fn turned(slot: i32, period: u32) -> u32
+    requires { 0 < period }
+    ensures { result ≡ turned period slot }
+{
+    if slot >= 0 {
+        slot.unsigned_abs() % period
+    } else {
+        period - 1 - (slot.unsigned_abs() - 1) % period
+    }
+}
+
+// The slot of the period after the owner of a transmission.
+fn slot_after(t: Transmission, period: u32) -> u32
+    requires some { 0 < period }
+    requires small { t.owner ≤ℤ pos 65536 }
+    ensures { result ≡ turned period (t.owner +ℤ pos 1) }
+{
+    turned(t.owner + 1, period)
+}
+
+// The slot of the period after the owner of the transmission in a slot.
+fn after_owner(sent: &[Transmission], slot: u32, period: u32) -> u32
+    requires some { 0 < period }
+    requires within { AllByRecursion (IsWithin 65536) sent.now }
+    ensures { IsAfterOwner sent.now period slot result }
+{
+    match in_slot(sent, slot) {
+        Some(t) => slot_after(t, period),
+        None => 0,
+    }
+}
+
+/// The slot of the period from which on no sure run of the item comes in time, where there is one; `starts` are all its sure starts.
+pub fn starving_start(
+    alloc: Global,
+    cycle: &Cycle,
+    page: &Page,
+    certificate: &Certificate,
+    starts: &[u32],
+    item: &Item,
+    sent: &[Transmission],
+) -> Result<Option<u32>, NoMemory>
+    requires rising { Rising starts.now }
+    requires named { (start : ℕ) → Contains starts.now start ↔ IsSureStart (slots_of cycle.now) (page_of page.now).id (certificate_of certificate.now).lines (certificate_of certificate.now).repeat item.now start }
+    requires sent { sent.now ≡ sent_in (slots_of cycle.now) (page_of page.now).id (certificate_of certificate.now).lines item.now }
+    requires within { AllByRecursion (IsWithin 65536) sent.now }
+    ensures { IfOk result (TellsStart (slots_of cycle.now) (page_of page.now) (certificate_of certificate.now) item.now) }
+{
+    crate::completeness::starts_are_judged();
+    crate::completeness::fullest_names_all();
+    ttx_witness::certificate_laws::certificates_keep_their_rules();
+    ttx_witness::cycle_laws::further_starts_cover();
+    ttx_witness::judging_laws::transmissions_are_listed();
+    if starts.is_empty() {
+        return Ok(Some(0));
+    }
+    let period = cycle.slots().len() as u32;
+    let limit = limit(certificate);
+    let repeat = run_length(certificate.repeat(), item);
+    let progress = judge_item(alloc, sent, starts, repeat, limit, period)?;
+    match late_at_end(progress, period, starts, limit) {
+        Some(at) => Ok(Some(after_owner(sent, at, period))),
+        None => Ok(None),
+    }
+}

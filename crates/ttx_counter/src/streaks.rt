@@ -1,0 +1,160 @@
+//! How often in a row each text byte of a page has been received wrong.
+
+ghost use Rattle.std.specs.Prelude.{◌≡◌, ℕ, ◌+◌, ◌<◌, ◌≤◌, ◌^◌, Bool, true, false, IsTrue, MatchOption, ⊤, List, length, slice_index, slice_index_or, IfOk};
+ghost use Rattle.ttx_counter.specs.Keys.{key_at, byte_in, IsKey};
+ghost use Rattle.ttx_counter.specs.Cells.{is_text, running, streak_of, AreCounted, IsOver, Tells, AreStreaks, Noted};
+
+use crate::keys::byte_in;
+use std::alloc::Global;
+use ttx_witness::NoMemory;
+
+/// The streak of a byte: the slots up to the latest transmission in which it was wrong, and in how many in a row.
+#[derive(Clone, Copy)]
+pub struct Streak {
+    pub last: u32,
+    pub count: u32,
+}
+
+/// The streaks of the 42 bytes of 25 rows, and the slots up to the latest transmission of each row.
+#[derive(Drop)]
+pub struct Streaks {
+    pub latest: Vec<u32>,
+    pub cells: Vec<Streak>,
+}
+
+// Whether the byte is one of the row's text.
+fn is_text(row: usize, x: usize) -> bool
+    ensures { result ≡ is_text row x }
+{
+    if row == 0 {
+        10 <= x && x < 34
+    } else {
+        2 <= x && x < 42
+    }
+}
+
+// The streak of a byte.
+fn running(latest: u32, cell: Streak) -> u32
+    ensures { result ≡ running latest cell }
+{
+    if cell.last == latest { cell.count } else { 0 }
+}
+
+// Counts the wrong bytes of one transmission of a row. False where a streak has reached `repeat`.
+fn count_hits(
+    cells: &mut Vec<Streak>,
+    row: usize,
+    latest: u32,
+    now: u32,
+    keys: &[u64],
+    from: usize,
+    to: usize,
+    repeat: u8,
+) -> bool
+    requires row { row < 25 }
+    requires places { length cells.old.items ≡ 1050 }
+    requires some { 1 ≤ repeat }
+    requires up { from ≤ to }
+    requires within { to ≤ length keys.now }
+    requires keys { (i : ℕ) → i < length keys.now → IsKey (key_at keys.now i) }
+    requires apart { (i j : ℕ) → from ≤ i → i < j → j < to → byte_in (key_at keys.now i) ≡ byte_in (key_at keys.now j) → ⊥ }
+    ensures places { length cells.new.items ≡ 1050 }
+    ensures counted { result ≡ true → AreCounted row latest now repeat keys.now from to cells.old.items cells.new.items }
+    ensures over { result ≡ false → IsOver row latest repeat keys.now from to cells.old.items }
+{
+    for i in from..to {
+        let x = byte_in(keys[i]);
+        if is_text(row, x) {
+            let at = 42 * row + x;
+            let count = running(latest, cells[at]);
+            if count >= u32::from(repeat) - 1 {
+                return false;
+            }
+            cells[at] = Streak {
+                last: now,
+                count: count + 1,
+            };
+        }
+    }
+    true
+}
+
+/// Notes slot n: the row that it sends, if any, and its wrong bytes. False where a streak has reached `repeat`.
+pub fn note(
+    streaks: &mut Streaks,
+    row: Option<u8>,
+    n: u32,
+    keys: &[u64],
+    from: usize,
+    to: usize,
+    repeat: u8,
+) -> bool
+    requires row { MatchOption row ⊤ (λ r. r < 25) }
+    requires rows { length streaks.old.latest.items ≡ 25 }
+    requires places { length streaks.old.cells.items ≡ 1050 }
+    requires small { n + 1 < 2 ^ 32 }
+    requires some { 1 ≤ repeat }
+    requires up { from ≤ to }
+    requires within { to ≤ length keys.now }
+    requires keys { (i : ℕ) → i < length keys.now → IsKey (key_at keys.now i) }
+    requires apart { (i j : ℕ) → from ≤ i → i < j → j < to → byte_in (key_at keys.now i) ≡ byte_in (key_at keys.now j) → ⊥ }
+    ensures rows { length streaks.new.latest.items ≡ 25 }
+    ensures places { length streaks.new.cells.items ≡ 1050 }
+    ensures noted { (sent wrong : ℕ → ℕ → Bool) → AreStreaks sent wrong repeat n streaks.old.latest.items streaks.old.cells.items → Tells sent wrong row keys.now from to n → Noted result sent wrong repeat (n + 1) streaks.new.latest.items streaks.new.cells.items }
+{
+    let Some(row) = row else {
+        return true;
+    };
+    let row = usize::from(row);
+    let latest = streaks.latest[row];
+    streaks.latest[row] = n + 1;
+    count_hits(
+        &mut streaks.cells,
+        row,
+        latest,
+        n + 1,
+        keys,
+        from,
+        to,
+        repeat,
+    )
+}
+
+// So many zeros.
+fn zeros(alloc: Global, count: usize) -> Result<Vec<u32>, NoMemory>
+    ensures count { IfOk result (λ v. length v.items ≡ count) }
+    ensures zero { IfOk result (λ v. (i : ℕ) → slice_index v.items i ≡ 0) }
+{
+    let mut zeros = Vec::new(alloc);
+    for _i in 0..count {
+        if zeros.push(0).is_err() {
+            return Err(NoMemory);
+        }
+    }
+    Ok(zeros)
+}
+
+// So many bytes that were never wrong.
+fn empty_cells(alloc: Global, count: usize) -> Result<Vec<Streak>, NoMemory>
+    ensures count { IfOk result (λ v. length v.items ≡ count) }
+    ensures none { IfOk result (λ v. (i : ℕ) → slice_index_or v.items i (streak_of 0 0) ≡ streak_of 0 0) }
+{
+    let mut cells = Vec::new(alloc);
+    for _i in 0..count {
+        if cells.push(Streak { last: 0, count: 0 }).is_err() {
+            return Err(NoMemory);
+        }
+    }
+    Ok(cells)
+}
+
+/// The streaks before the first slot.
+pub fn no_streaks(alloc: Global) -> Result<Streaks, NoMemory>
+    ensures rows { IfOk result (λ s. length s.latest.items ≡ 25) }
+    ensures places { IfOk result (λ s. length s.cells.items ≡ 1050) }
+    ensures none { IfOk result (λ s. (sent wrong : ℕ → ℕ → Bool) (k : ℕ) → 1 ≤ k → AreStreaks sent wrong k 0 s.latest.items s.cells.items) }
+{
+    let latest = zeros(alloc, 25)?;
+    let cells = empty_cells(alloc, 1050)?;
+    Ok(Streaks { latest, cells })
+}
