@@ -77,7 +77,7 @@ item_needed p (TheRow r) n =
     (leb-true 1 r (and_left (nat_le 1 r) (nat_le r 24) range), leb-true r 24 (and_right (nat_le 1 r) (nat_le r 24) range))
 item_needed p TheLinks n = tt
 
-due_needed : (class : Class) (p : Page) (item : Item) → is_due class p item ≡ true → needed p item ≡ true
+pub due_needed : (class : Class) (p : Page) (item : Item) → is_due class p item ≡ true → needed p item ≡ true
 due_needed Any p item e = e
 due_needed Clearing p item e = and_left (needed p item) (not (is_blank p item)) e
 
@@ -85,7 +85,7 @@ not_is : (b : Bool) → not b ≡ true → b ≡ false
 not_is true e = cc
 not_is false e = refl
 
-due_not_blank : (class : Class) (p : Page) (item : Item) → class ≡ Clearing → is_due class p item ≡ true → is_blank p item ≡ false
+pub due_not_blank : (class : Class) (p : Page) (item : Item) → class ≡ Clearing → is_due class p item ≡ true → is_blank p item ≡ false
 due_not_blank class p item clearing due = not_is (is_blank p item) (and_right (needed p item) (not (is_blank p item)) (subst (λ c. is_due c p item ≡ true) clearing due))
 
 blank_if : (a b : Bool) → a ≡ true → (a && not b) ≡ false → b ≡ true
@@ -94,12 +94,12 @@ blank_if true false n e = cc
 blank_if false b n e = cc
 
 -- an item that a viewer sees isn't due only where receivers clear and it is blank
-not_due_is : (class : Class) (p : Page) (item : Item) → needed p item ≡ true → is_due class p item ≡ false → (class ≡ Clearing) × (is_blank p item ≡ true)
+pub not_due_is : (class : Class) (p : Page) (item : Item) → needed p item ≡ true → is_due class p item ≡ false → (class ≡ Clearing) × (is_blank p item ≡ true)
 not_due_is Any p item n e = absurd (no_both (needed p item) n e)
 not_due_is Clearing p item n e = (refl, blank_if (needed p item) (is_blank p item) n e)
 
 -- the test of blank items is right for the pages of a list
-abbrev AreTested : List Page → Type 0
+abbrev pub AreTested : List Page → Type 0
 AreTested pages = (n : ℕ) (p : Page) → slice_get pages n ≡ Some p → (item : Item) → needed p item ≡ true → is_blank p item ≡ true ↔ IsBlank p item
 
 pub pages_tested : PagesKeepTheirRules → PagesHaveSixLinks → BlankIsTested → (pages : List PageValue) → AreTested (map page_of pages)
@@ -112,7 +112,7 @@ pages_tested keep six tested pages n p at item seen = go pages n at
         tested p item (subst IsPage h (keep q)) (subst (λ x. length x.links.six ≡ 6) h (six q)) seen
     go (q ∷ qs) (suc n) e = go qs n e
 
-run_some : (repeat : ℕ) (item : Item) → 1 ≤ repeat → run_length repeat item ≡ suc (run_length repeat item - 1)
+pub run_some : (repeat : ℕ) (item : Item) → 1 ≤ repeat → run_length repeat item ≡ suc (run_length repeat item - 1)
 run_some repeat TheHead some = omega arith
 run_some repeat (TheRow r) some = omega arith
 run_some repeat TheLinks some = refl

@@ -49,7 +49,7 @@ module _ (turn : EachSlotTurns) (found : SureStartsAreFound) (law : LeastLimitIs
   single : (i : ℤ) → Head i → IsRun (repeated cycle) p.id 1 TheHead i []
   single i h = record { count = refl; successive = record { owner = i; owned = (refl, h) } }
 
-  named_head : (i : ℤ) → Head i → Contains (found_starts cycle p.id lines TheHead 0) (turned (length cycle) i)
+  pub named_head : (i : ℤ) → Head i → Contains (found_starts cycle p.id lines TheHead 0) (turned (length cycle) i)
   named_head i h =
       let j = pos (turned (length cycle) i) in
       let here : Head (pos (turned (length cycle) i)) = subst (λ x. heads_page p.id (packet_of x) ≡ true) (sym (turned_back turn cycle some i)) h in

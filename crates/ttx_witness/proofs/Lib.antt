@@ -48,3 +48,8 @@ pub mod DueItems
 pub mod FoundStarts
 pub mod Finds
 pub mod SureItems
+pub mod OwnLimits
+pub mod Waiting
+pub mod Greatest
+pub mod CutOff
+pub mod Widths

@@ -24,3 +24,6 @@ pub mod WrittenEntries
 pub mod ReadingAnswers
 pub mod Finding
 pub mod SureItems
+pub mod Waits
+pub mod OwnLimits
+pub mod WaitLaws

@@ -103,6 +103,7 @@ fn search_for(
     ensures spread { IfOk result (λ s. (pages : List definitions.Page) (lines : ℕ) (p : definitions.Page) → AreAllSent (slots_of cycle.now) pages lines collected.now → slice_get pages index ≡ Some p → s.spread ≡ spread_at (slots_of cycle.now) lines repeat p.id item.now) }
     ensures slots { IfOk result (λ s. are_slots s.starts.items ≡ true) }
     ensures rising { IfOk result (λ s. rises s.starts.items ≡ true) }
+    ensures small { IfOk result (λ s. (limit : ℕ) → limit_of (length (slots_of cycle.now)) s.spread ≡ Some limit → limit ≤ 655360) }
 {
     let period = cycle.slots().len() as u32;
     search_item(
@@ -140,6 +141,29 @@ fn name_item(
     Ok(limit_of(period, spread))
 }
 
+// The least limit in which the sure runs of an item follow one another.
+fn item_limit(
+    alloc: Global,
+    cycle: &Cycle,
+    collected: &Collected,
+    index: usize,
+    item: &Item,
+    repeat: u8,
+) -> Result<Option<u64>, NoMemory>
+    requires some { 1 ≤ repeat }
+    requires few { repeat ≤ 8 }
+    ensures least { IfOk result (λ least. (pages : List definitions.Page) (lines : ℕ) (p : definitions.Page) → AreAllSent (slots_of cycle.now) pages lines collected.now → slice_get pages index ≡ Some p → least ≡ least_limit (slots_of cycle.now) lines repeat p.id item.now) }
+    ensures small { IfOk result (λ least. (limit : ℕ) → least ≡ Some limit → limit ≤ 655360) }
+{
+    let period = cycle.slots().len() as u32;
+    let Search {
+        recent: _,
+        starts: _,
+        spread,
+    } = search_for(alloc, cycle, collected, index, item, repeat)?;
+    Ok(limit_of(period, spread))
+}
+
 // The least limit in which the headers of the page follow one another.
 fn header_limit(
     alloc: Global,
@@ -147,16 +171,34 @@ fn header_limit(
     collected: &Collected,
     index: usize,
 ) -> Result<Option<u64>, NoMemory>
-    ensures { IfOk result (λ least. (pages : List definitions.Page) (lines : ℕ) (p : definitions.Page) → AreAllSent (slots_of cycle.now) pages lines collected.now → slice_get pages index ≡ Some p → least ≡ least_limit (slots_of cycle.now) lines 1 p.id TheHead) }
+    ensures least { IfOk result (λ least. (pages : List definitions.Page) (lines : ℕ) (p : definitions.Page) → AreAllSent (slots_of cycle.now) pages lines collected.now → slice_get pages index ≡ Some p → least ≡ least_limit (slots_of cycle.now) lines 1 p.id TheHead) }
+    ensures small { IfOk result (λ least. (limit : ℕ) → least ≡ Some limit → limit ≤ 655360) }
 {
-    let period = cycle.slots().len() as u32;
     let head = Item::Head;
-    let Search {
-        recent: _,
-        starts: _,
-        spread,
-    } = search_for(alloc, cycle, collected, index, &head, 1)?;
-    Ok(limit_of(period, spread))
+    item_limit(alloc, cycle, collected, index, &head, 1)
+}
+
+/// The least limit of an item that a viewer sees. A receiver that has the item already needs the next header of the page alone.
+pub(crate) fn limit_seen(
+    alloc: Global,
+    cycle: &Cycle,
+    collected: &Collected,
+    page: &Page,
+    index: usize,
+    item: &Item,
+    class: Class,
+    repeat: u8,
+) -> Result<Option<u64>, NoMemory>
+    requires some { 1 ≤ repeat }
+    requires few { repeat ≤ 8 }
+    ensures least { IfOk result (λ least. (pages : List definitions.Page) (lines : ℕ) → AreAllSent (slots_of cycle.now) pages lines collected.now → slice_get pages index ≡ Some (page_of page.now) → least ≡ limit_for (slots_of cycle.now) class lines repeat (page_of page.now) item.now) }
+    ensures small { IfOk result (λ least. (limit : ℕ) → least ≡ Some limit → limit ≤ 655360) }
+{
+    if is_due(class, page, item) {
+        item_limit(alloc, cycle, collected, index, item, repeat)
+    } else {
+        header_limit(alloc, cycle, collected, index)
+    }
 }
 
 // Names the starts of an item that a viewer sees, where it is due: its least limit. A receiver that has the item already

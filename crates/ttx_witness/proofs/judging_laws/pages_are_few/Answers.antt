@@ -1,4 +1,4 @@
-use Rattle.std.proofs.Common.{length, arith}
+use Rattle.std.proofs.Common.{arith}
 use Rattle.std.proofs.lemmas.List.{length-map}
 use Rattle.ttx_page.specs.Views.{page_of}
 use Rattle.ttx_witness.specs.Collected.{ids_of}

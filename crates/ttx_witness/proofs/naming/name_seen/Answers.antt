@@ -13,7 +13,7 @@ returns-then-not-is_due-clause-least c =
     let p = page_of c.args.page.now in
     let due : is_due c.args.class (page_of c.args.page.now) c.args.item.now ≡ false = search rules in
     IfOk-weaker c.header_limit.result _ _ (λ least tells pages lines sent at.
-    tells pages lines p sent at ∙ sym (if_false (is_due c.args.class p c.args.item.now) (least_limit cycle lines c.args.repeat p.id c.args.item.now) (least_limit cycle lines 1 p.id TheHead) due)) c.header_limit.ensures
+    tells pages lines p sent at ∙ sym (if_false (is_due c.args.class p c.args.item.now) (least_limit cycle lines c.args.repeat p.id c.args.item.now) (least_limit cycle lines 1 p.id TheHead) due)) c.header_limit.ensures.least
 
 pub returns-clause-entries : goal.returns-clause-entries
 returns-clause-entries c =

@@ -1,0 +1,20 @@
+//! Laws of how long viewers wait.
+
+ghost use Rattle.ttx_witness.specs.WaitLaws.{DeadlineIsGreatest, LossesAreTold};
+
+/// Where no slot is bad, the deadline of the certificate that is found is the greatest of the pages' deadlines.
+pub fn deadline_is_greatest()
+    ensures { DeadlineIsGreatest }
+{
+    ttx_page::laws::each_slot_turns();
+    ttx_page::laws::pages_keep_their_rules();
+    ttx_page::laws::pages_have_six_links();
+    ttx_page::laws::blank_is_tested();
+    crate::cycle_laws::sure_starts_are_found();
+    crate::cycle_laws::least_limit_is_found();
+}
+
+/// What is counted as too near its header, or as cut off, is so in the stream.
+pub fn losses_are_told()
+    ensures { LossesAreTold }
+{}
