@@ -3,3 +3,4 @@ pub mod Cases
 pub mod Receptions
 pub mod Addresses
 pub mod Numbered
+pub mod Free

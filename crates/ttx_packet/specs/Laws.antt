@@ -2,11 +2,12 @@
 --
 --   KindIsKept                      wrong bits leave the kind of a clean slot as it is
 --   EachSlotMayBeReceivedAsSent     no wrong bit is permitted
+--   ClocksAreFree, InfosAreFree     the bytes that may be received as anything, by their numbers
 --   EmptySlotsAreEmpty              the kind of 42 zero bytes
 --   AddressIsReadBack               the kind of a packet that begins with a written address
 --   RowsAreNumbered                 the number of a row
-use Rattle.std.specs.Prelude.{◌≡◌, ◌⊎◌, ◌↔◌, ℕ, ◌<◌, ◌≤◌, List, ◌++◌, true, false}
-use Rattle.ttx_packet.specs.Slots.{IsSlot, IsEmpty, IsRow, kind_of, packet_kind, is_empty, is_clean, are_words, address_bytes, read_number}
+use Rattle.std.specs.Prelude.{◌≡◌, ◌⊎◌, ◌↔◌, ℕ, ◌<◌, ◌≤◌, List, ◌++◌, true, false, slice_index}
+use Rattle.ttx_packet.specs.Slots.{IsSlot, IsEmpty, IsHeader, IsRow, IsInfo, kind_of, packet_kind, is_empty, is_clean, are_words, address_bytes, read_number}
 use Rattle.ttx_packet.specs.Receptions.{MayBeReceivedAs}
 
 -- what is received of a clean slot that isn't empty has its kind, magazine and number; or row 2 of magazine 1 is received as 42 zero bytes
@@ -18,6 +19,16 @@ KindIsKept =
 -- a slot may be received as it was sent
 abbrev pub EachSlotMayBeReceivedAsSent : Type 0
 EachSlotMayBeReceivedAsSent = (slot : List ℕ) → IsSlot slot → MayBeReceivedAs slot slot
+
+-- a page header may be received with anything in its clock, bytes 34 to 41
+abbrev pub ClocksAreFree : Type 0
+ClocksAreFree = (sent received : List ℕ) (mag : ℕ) → kind_of sent ≡ IsHeader mag → IsSlot received →
+    ((x : ℕ) → x < 34 → slice_index received x ≡ slice_index sent x) → MayBeReceivedAs sent received
+
+-- and packet 8/30 with anything behind its address, in bytes 2 to 41
+abbrev pub InfosAreFree : Type 0
+InfosAreFree = (sent received : List ℕ) → kind_of sent ≡ IsInfo → IsSlot received →
+    ((x : ℕ) → x < 2 → slice_index received x ≡ slice_index sent x) → MayBeReceivedAs sent received
 
 -- 42 zero bytes have the kind of an empty slot, and nothing else has
 abbrev pub EmptySlotsAreEmpty : Type 0

@@ -1,6 +1,6 @@
 //! Laws of slots. A call costs nothing and gives the caller's proof the law.
 
-ghost use Rattle.ttx_packet.specs.Laws.{KindIsKept, EachSlotMayBeReceivedAsSent, EmptySlotsAreEmpty, AddressIsReadBack, RowsAreNumbered};
+ghost use Rattle.ttx_packet.specs.Laws.{KindIsKept, EachSlotMayBeReceivedAsSent, ClocksAreFree, InfosAreFree, EmptySlotsAreEmpty, AddressIsReadBack, RowsAreNumbered};
 
 /// One wrong bit in each byte leaves the kind, the magazine and the number of a clean slot, with one exception: row 2
 /// of magazine 1 may be received as 42 zero bytes, and then no character of it is received.
@@ -14,6 +14,14 @@ pub fn kind_is_kept()
 /// A slot may be received as it was sent.
 pub fn each_slot_may_be_received_as_sent()
     ensures { EachSlotMayBeReceivedAsSent }
+{
+    ttx_code::laws::each_byte_is_near_itself();
+}
+
+/// A page header may be received with anything in its clock, bytes 34 to 41, and packet 8/30 with anything behind its address.
+pub fn free_bytes_are_anything()
+    ensures clocks { ClocksAreFree }
+    ensures infos { InfosAreFree }
 {
     ttx_code::laws::each_byte_is_near_itself();
 }

@@ -10,7 +10,7 @@ use Rattle.ttx_page.specs.Receptions.{IsRight, OneIs}
 use Rattle.ttx_page.specs.Laws.{sent_from, ExactIsReceived}
 use Rattle.ttx_page.proofs.Places.{offset, offset_lt}
 
-near_self : (a : ℕ) → Near a a
+pub near_self : (a : ℕ) → Near a a
 unfolding distance ones
 near_self a = subst (λ x. ones x ≤ 1) (sym (xor_self a)) (omega arith)
 

@@ -11,11 +11,11 @@ use Rattle.ttx_page.proofs.Decisions.{and_left, and_right, not_true}
 use Rattle.ttx_page.proofs.Places.{cases_ltz}
 
 -- none of the n slots before j passes the test
-unfoldable none_back : (ℤ → Bool) → ℕ → ℤ → Bool
+unfoldable pub none_back : (ℤ → Bool) → ℕ → ℤ → Bool
 none_back test zero j = true
 none_back test (suc n) j = not (test (j -ℤ pos 1)) && none_back test n (j -ℤ pos 1)
 
-none_back_is : (test : ℤ → Bool) (n : ℕ) (j : ℤ) → none_back test n j ≡ true → (i : ℤ) → (j -ℤ pos n) ≤ℤ i → i <ℤ j → test i ≡ false
+pub none_back_is : (test : ℤ → Bool) (n : ℕ) (j : ℤ) → none_back test n j ≡ true → (i : ℤ) → (j -ℤ pos n) ≤ℤ i → i <ℤ j → test i ≡ false
 unfolding none_back
 none_back_is test zero j e i low high = absurd (omega (arith, ints))
 none_back_is test (suc n) j e i low high = elim (cases_ltz i (j -ℤ pos 1)) as (λ _. test i ≡ false) [

@@ -13,3 +13,5 @@ pub mod Owners
 pub mod Runs
 pub mod Turns
 pub mod Examples
+pub mod WrongText
+pub mod Outside

@@ -9,3 +9,4 @@ pub mod Steady
 pub mod Views
 pub mod Laws
 pub mod Examples
+pub mod ErrorRule

@@ -1,5 +1,6 @@
 //! Laws of pages, receivers and streams.
 
+ghost use Rattle.ttx_page.specs.ErrorRule.{AreOutside, MemoriesAreFormer, WrongTextIsReceived};
 ghost use Rattle.ttx_page.specs.Examples.{Examples};
 ghost use Rattle.ttx_page.specs.Laws.{PagesKeepTheirRules, PagesHaveSixLinks, MemoriesKeepTheirRules, BlankIsFormer, PageIsShown, ErasedHoldsBlank, BlankIsTested, EachListRuns, RunsGoOn, ScriptedRuns, ChoicesAreChoices, ExactIsReceived, CyclesRepeat, EachSlotTurns, JoinedIsOldThenNew, StreamsMove, OwnersAreUnique, OwnersComeFirst, OwnersAreNear, OwnersDontFall, RunsAreUnique, RunsRise, NoHeaderIsNone, SteadySendsItsOwn};
 
@@ -21,6 +22,11 @@ pub fn memories_keep_their_rules()
 /// A blank memory is a former memory of both classes of receivers.
 pub fn blank_is_former()
     ensures { BlankIsFormer }
+{}
+
+/// Each memory of the program is a former memory of receivers of class any, and each fresh one of those that surely clear.
+pub fn memories_are_former()
+    ensures { MemoriesAreFormer }
 {}
 
 /// The memory of a page received whole shows it.
@@ -61,6 +67,19 @@ pub fn choices_are_choices()
 /// Reception without errors is within the error rule.
 pub fn exact_is_received()
     ensures { ExactIsReceived }
+{}
+
+/// Wrong bits that the error rule permits, with their numbers: anything in clocks and behind the addresses of packets 8/30, one wrong
+/// bit in each other byte that isn't text, and wrong text in fewer slots than the repeat count.
+pub fn wrong_text_is_received()
+    ensures { WrongTextIsReceived }
+{
+    ttx_packet::laws::empty_slots_are_empty();
+}
+
+/// Two wrong bits in a byte, and wrong text in both of two sendings, are outside of the error rule.
+pub fn examples_are_outside()
+    ensures { AreOutside }
 {}
 
 /// The stream of a cycle has the length of the cycle as its period.

@@ -1,0 +1,5 @@
+use Rattle.ttx_page.proofs.Outside.{examples_are_outside}
+use Rattle.ttx_page.proofs.laws.examples_are_outside.Goals as goal
+
+pub returns : goal.returns
+returns c = examples_are_outside

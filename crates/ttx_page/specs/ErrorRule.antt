@@ -1,0 +1,60 @@
+-- What is within the error rule, with its bytes and bits written out, and what isn't.
+--
+--   AreSame, AreNear        bytes that are received as they were sent; with at most one wrong bit each
+--   HasRightText            a slot whose text is received as it was sent
+--   HasWrongText            one that may have a wrong bit in each byte
+--   WrongTextIsReceived     of k sendings fewer than k with wrong text, and other wrong bits everywhere, are within the rule
+--   MemoriesAreFormer       the former memories
+--   spoilt_base, AreOutside examples outside of the rule: both sendings wrong at repeat 2; two wrong bits in a byte
+use Rattle.std.specs.Prelude.{◌≡◌, ◌⊎◌, ℕ, ◌<◌, ◌≤◌, ℤ, pos, ◌+ℤ◌, true, false, List, [], ◌∷◌, ◌++◌, length, slice_index, slice_index_or, slice_set, Contains}
+use Rattle.ttx_code.specs.Words.{distance}
+use Rattle.ttx_packet.specs.Slots.{IsSlot, Kind, IsEmpty, IsHeader, IsRow, IsInfo, kind_of, is_empty}
+use Rattle.ttx_packet.specs.Receptions.{MayBeReceivedAs}
+use Rattle.ttx_header.specs.Ids.{Id}
+use Rattle.ttx_page.specs.declared.memory.PageMemory.{PageMemory}
+use Rattle.ttx_page.specs.declared.class.Class.TheVariants.{Any, Clearing}
+use Rattle.ttx_page.specs.Memories.{IsFormer}
+use Rattle.ttx_page.specs.Views.{memory_of}
+use Rattle.ttx_page.specs.Streams.{Stream, repeated}
+use Rattle.ttx_page.specs.Receptions.{Received}
+use Rattle.ttx_page.specs.Examples.{id_100, base, row_slot}
+
+-- the bytes from first on and before end
+abbrev pub AreSame : ℕ → ℕ → List ℕ → List ℕ → Type 0
+AreSame first end sent received = (x : ℕ) → first ≤ x → x < end → slice_index received x ≡ slice_index sent x
+
+abbrev pub AreNear : ℕ → ℕ → List ℕ → List ℕ → Type 0
+AreNear first end sent received = (x : ℕ) → first ≤ x → x < end → distance (slice_index sent x) (slice_index received x) ≤ 1
+
+-- The text of headers and rows is right. Else each byte has at most one wrong bit; a clock, bytes 34 to 41 of a header, and what follows
+-- the address of a packet 8/30 may be anything.
+abbrev pub HasRightText : Kind → List ℕ → List ℕ → Type 0
+HasRightText IsEmpty sent received = received ≡ sent
+HasRightText (IsHeader mag) sent received = AreNear 0 10 sent received × AreSame 10 34 sent received
+HasRightText (IsRow mag number) sent received = AreNear 0 2 sent received × AreSame 2 42 sent received
+HasRightText IsInfo sent received = AreNear 0 2 sent received
+HasRightText _ sent received = AreNear 0 42 sent received
+
+-- any byte of a slot that isn't empty has at most one wrong bit
+abbrev pub HasWrongText : List ℕ → List ℕ → Type 0
+HasWrongText sent received = (is_empty sent ≡ false) × AreNear 0 42 sent received
+
+-- Each slot is received with its text right, but for those of a list, of which there are fewer than the repeat count.
+abbrev pub WrongTextIsReceived : Type 0
+WrongTextIsReceived =
+    (s : Stream) (page : Id) (repeat : ℕ) (tau : ℤ) (received : List (List ℕ)) (wrong : List ℕ) → length wrong < repeat →
+    ((n : ℕ) → n < length received → let sent = s (tau +ℤ pos n) in let slot = slice_index_or received n [] in
+    IsSlot slot × (HasRightText (kind_of sent) sent slot ⊎ (Contains wrong n × HasWrongText sent slot))) →
+    Received s page repeat tau received
+
+-- Each memory of the program is a former memory of receivers of class any, and each fresh one of those that surely clear.
+abbrev pub MemoriesAreFormer : Type 0
+MemoriesAreFormer = (m : PageMemory) → IsFormer Any (memory_of m) × ((memory_of m).fresh ≡ true → IsFormer Clearing (memory_of m))
+
+-- base with a byte of row 1 received wrong, by one bit
+abbrev pub spoilt_base : List (List ℕ)
+spoilt_base = slice_set base 3 (slice_set (row_slot 1) 2 0x21)
+
+pub record AreOutside : Type 0 where
+  pub both_wrong : Received (repeated base) id_100 2 (pos 0) (spoilt_base ++ spoilt_base) → ⊥
+  pub two_bits : MayBeReceivedAs (row_slot 1) (slice_set (row_slot 1) 2 0x23) → ⊥
