@@ -6,3 +6,5 @@ mod Headings
 mod PageByPage
 mod AuthoredIds
 mod ThreeInputs
+mod Shown
+mod OneVerdict

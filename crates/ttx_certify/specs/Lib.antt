@@ -5,3 +5,4 @@ pub mod Verdicts
 pub mod VerdictLines
 pub mod CertifyingFiles
 pub mod Laws
+pub mod VerdictLaws

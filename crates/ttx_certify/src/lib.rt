@@ -11,6 +11,7 @@ mod page_findings;
 mod receiving;
 mod services;
 mod verdict;
+pub mod verdict_laws;
 mod verdict_lines;
 
 pub use certifying::certify;

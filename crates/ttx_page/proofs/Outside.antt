@@ -1,15 +1,14 @@
 -- The examples outside of the error rule.
-use Rattle.std.proofs.Common.{◌≡◌, ◌⊎◌, ℕ, ◌≤◌, ℤ, pos, ◌+ℤ◌, ◌<ℤ◌, Bool, true, false, List, [], ◌∷◌, ◌++◌, length, get_or, slice_index, refl, sym, subst, inl, inr, arith}
+use Rattle.std.proofs.Common.{◌≡◌, ◌⊎◌, ℕ, ℤ, pos, ◌<ℤ◌, false, [], ◌∷◌, ◌++◌, get_or, slice_index, refl, subst, inl, inr, arith}
 use Rattle.std.proofs.lemmas.Int.{ints}
 use Rattle.ttx_code.specs.Words.{Near, reading, distance, ones, hamming_word}
 use Rattle.ttx_packet.specs.Slots.{kind_of, packet_kind}
-use Rattle.ttx_packet.specs.Receptions.{IsFree, MayBeReceivedAs}
 use Rattle.ttx_links.specs.Sets.{links_of}
 use Rattle.ttx_page.specs.Packets.{packet_of}
 use Rattle.ttx_page.specs.Pages.{TheRow}
 use Rattle.ttx_page.specs.Streams.{repeated, heads, carries, IsTransmission, AreSuccessive}
-use Rattle.ttx_page.specs.Receptions.{Received, IsRight, OneIs}
-use Rattle.ttx_page.specs.Examples.{id_100, base, row_slot}
+use Rattle.ttx_page.specs.Receptions.{IsRight}
+use Rattle.ttx_page.specs.Examples.{id_100, base}
 use Rattle.ttx_page.specs.ErrorRule.{spoilt_base, AreOutside}
 use Rattle.ttx_page.proofs.Examples.{none_back, none_back_is}
 

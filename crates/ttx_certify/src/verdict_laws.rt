@@ -1,0 +1,21 @@
+//! Laws of verdicts. A call costs nothing and gives the caller's proof the law.
+
+ghost use Rattle.ttx_certify.specs.VerdictLaws.{CertifiedIsShown, VerdictsAreOne};
+
+/// After exactly D times L slots a receiver has the View of each page that is certified with D fields of L slots, from whatever slot
+/// and memory it began.
+pub fn certified_is_shown()
+    ensures { CertifiedIsShown }
+{
+    crate::laws::accepted_is_seen();
+    ttx_page::laws::memories_are_former();
+}
+
+/// Of a cycle, pages and a certificate one verdict is right.
+pub fn verdicts_are_one()
+    ensures { VerdictsAreOne }
+{
+    ttx_witness::cycle_laws::coverage_is_decided();
+    ttx_witness::fault_laws::steady_has_no_fault();
+    ttx_witness::judging_laws::items_are_judged();
+}
