@@ -1,1 +1,2 @@
 mod PutParts
+mod JudgedOnce

@@ -7,3 +7,4 @@ pub mod SlotReaders
 pub mod Writing
 pub mod Faulty
 pub mod Bounded
+pub mod ReadingLaws

@@ -7,6 +7,7 @@ pub mod cycles;
 pub mod faults;
 pub mod faulty;
 mod filling;
+pub mod laws;
 mod reading;
 mod slot_reader;
 mod texts;

@@ -53,3 +53,4 @@ pub mod Waiting
 pub mod Greatest
 pub mod CutOff
 pub mod Widths
+mod Unserved

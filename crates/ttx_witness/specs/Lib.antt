@@ -27,3 +27,4 @@ pub mod SureItems
 pub mod Waits
 pub mod OwnLimits
 pub mod WaitLaws
+pub mod LateLaws

@@ -16,6 +16,7 @@ mod first_slots;
 mod gathering;
 mod items;
 pub mod judging_laws;
+pub mod late_laws;
 pub mod laws;
 mod naming;
 mod other_subpages;
