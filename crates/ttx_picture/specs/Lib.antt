@@ -1,0 +1,9 @@
+pub mod Shown
+pub mod Links
+pub mod Text
+pub mod Ansi
+pub mod Escapes
+pub mod Svg
+pub mod Html
+pub mod Forms
+pub mod Laws

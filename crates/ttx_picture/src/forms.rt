@@ -1,0 +1,42 @@
+//! The forms of a View.
+
+ghost use Rattle.std.specs.Prelude.{◌≡◌, ◌++◌, OnOk, string_bytes};
+ghost use Rattle.ttx_picture.specs.Forms.{picture_of};
+
+use crate::ansi::push_ansi;
+use crate::html::push_html;
+use crate::svg::push_svg;
+use crate::text::push_text;
+use std::alloc::AllocError;
+use ttx_render::View;
+
+/// A form in which a View is written.
+#[derive(Clone, Copy, PartialEq, Eq, Debug)]
+pub enum Form {
+    /// Lines of characters.
+    Text,
+    /// Lines of characters, with a terminal's codes for colours and flashing.
+    Ansi,
+    /// A picture.
+    Svg,
+    /// A page of HTML with the picture, its links and its text.
+    Html,
+}
+
+/// Adds a View in a form, concealed characters only where they are revealed. The error is want of memory.
+#[tactic(auto, unfolding(crate::specs::Forms::picture_of))]
+pub fn push_picture(
+    text: &mut String,
+    form: Form,
+    reveal: bool,
+    view: &View,
+) -> Result<(), AllocError>
+    ensures { OnOk result (string_bytes text.new ≡ string_bytes text.old ++ picture_of form reveal view.now) }
+{
+    match form {
+        Form::Text => push_text(text, reveal, view),
+        Form::Ansi => push_ansi(text, reveal, view),
+        Form::Svg => push_svg(text, reveal, view),
+        Form::Html => push_html(text, reveal, view),
+    }
+}

@@ -1,0 +1,182 @@
+//! A View as a page of HTML.
+
+ghost use Rattle.std.specs.Prelude.{◌≡◌, ◌++◌, [], None, OnOk, codes, string_bytes};
+ghost use Rattle.ttx_picture.specs.Svg.{style};
+ghost use Rattle.ttx_picture.specs.Html.{key_class, key_start, key_title, key_end, key_html, keys_html, html_start, page_style, key_style, head_end, head_html, picture_html, nav_html, text_html, html_of, link_at};
+
+use crate::links::push_target;
+use crate::svg::{push_body, push_style, push_svg_start};
+use crate::text::push_rows;
+use std::alloc::AllocError;
+use ttx_links::Target;
+use ttx_render::View;
+
+fn push_key_class(text: &mut String, colour: u8) -> Result<(), AllocError>
+    ensures { OnOk result (string_bytes text.new ≡ string_bytes text.old ++ key_class colour) }
+{
+    write!(text, " class=\"k c{colour}")
+}
+
+fn push_no_key(text: &mut String, colour: u8) -> Result<(), AllocError>
+    ensures { OnOk result (string_bytes text.new ≡ string_bytes text.old ++ key_html [] colour None) }
+{
+    text.push_str("<span")?;
+    push_key_class(text, colour)?;
+    text.push_str("\">-</span>")
+}
+
+#[tactic(auto, unfolding(crate::specs::Html::key_start))]
+fn push_key_start(text: &mut String, colour: u8, target: &Target) -> Result<(), AllocError>
+    ensures { OnOk result (string_bytes text.new ≡ string_bytes text.old ++ key_start colour target.now) }
+{
+    text.push_str("<a")?;
+    push_key_class(text, colour)?;
+    text.push_str("\" href=\"#")?;
+    push_target(text, target)
+}
+
+#[tactic(auto, unfolding(crate::specs::Html::key_title))]
+fn push_key_title(text: &mut String, name: &str, target: &Target) -> Result<(), AllocError>
+    ensures { OnOk result (string_bytes text.new ≡ string_bytes text.old ++ key_title name.now target.now) }
+{
+    text.push_str("\" title=\"")?;
+    text.push_str(name)?;
+    text.push_str(": page ")?;
+    push_target(text, target)
+}
+
+#[tactic(auto, unfolding(crate::specs::Html::key_end))]
+fn push_key_end(text: &mut String, target: &Target) -> Result<(), AllocError>
+    ensures { OnOk result (string_bytes text.new ≡ string_bytes text.old ++ key_end target.now) }
+{
+    text.push_str("\">")?;
+    push_target(text, target)?;
+    text.push_str("</a>")
+}
+
+// Adds a link under the name and in the colour of its key.
+fn push_key(
+    text: &mut String,
+    name: &str,
+    colour: u8,
+    link: &Option<Target>,
+) -> Result<(), AllocError>
+    ensures { OnOk result (string_bytes text.new ≡ string_bytes text.old ++ key_html name.now colour link.now) }
+{
+    match link {
+        None => push_no_key(text, colour),
+        Some(target) => {
+            push_key_start(text, colour, target)?;
+            push_key_title(text, name, target)?;
+            push_key_end(text, target)
+        }
+    }
+}
+
+fn push_three_keys(text: &mut String, view: &View) -> Result<(), AllocError>
+    ensures { OnOk result (string_bytes text.new ≡ string_bytes text.old ++ key_html (codes "Red") 1 (link_at view.now 0) ++ key_html (codes "Green") 2 (link_at view.now 1) ++ key_html (codes "Yellow") 3 (link_at view.now 2)) }
+{
+    push_key(text, "Red", 1, &view.links[0])?;
+    push_key(text, "Green", 2, &view.links[1])?;
+    push_key(text, "Yellow", 3, &view.links[2])
+}
+
+fn push_keys(text: &mut String, view: &View) -> Result<(), AllocError>
+    ensures { OnOk result (string_bytes text.new ≡ string_bytes text.old ++ keys_html view.now) }
+{
+    push_three_keys(text, view)?;
+    push_key(text, "Cyan", 6, &view.links[3])?;
+    push_key(text, "Next", 7, &view.links[4])?;
+    push_key(text, "Index", 7, &view.links[5])
+}
+
+#[tactic(auto, unfolding(crate::specs::Html::html_start))]
+fn push_html_start(text: &mut String) -> Result<(), AllocError>
+    ensures { OnOk result (string_bytes text.new ≡ string_bytes text.old ++ html_start) }
+{
+    text.push_str(
+        "<!DOCTYPE html>\n<html lang=\"en\"><head><meta charset=\"utf-8\"/><meta name=\"viewport\" content=\"width=device-width\"/><title>Teletext page</title><style>",
+    )
+}
+
+#[tactic(auto, unfolding(crate::specs::Html::page_style))]
+fn push_page_style(text: &mut String) -> Result<(), AllocError>
+    ensures { OnOk result (string_bytes text.new ≡ string_bytes text.old ++ page_style) }
+{
+    text.push_str(
+        "body{margin:0;background:#222;color:#ddd;font:16px sans-serif}main{max-width:800px;margin:auto}.t{display:block;width:100%;height:auto;aspect-ratio:4/3}",
+    )
+}
+
+#[tactic(auto, unfolding(crate::specs::Html::key_style))]
+fn push_key_style(text: &mut String) -> Result<(), AllocError>
+    ensures { OnOk result (string_bytes text.new ≡ string_bytes text.old ++ key_style) }
+{
+    text.push_str(
+        "nav{display:flex;background:#000}.k{flex:1;padding:.7em 0;text-align:center;text-decoration:none}.k:focus,a.k:hover{outline:2px solid}details{padding:.7em}",
+    )
+}
+
+fn push_styles(text: &mut String) -> Result<(), AllocError>
+    ensures { OnOk result (string_bytes text.new ≡ string_bytes text.old ++ html_start ++ style ++ page_style) }
+{
+    push_html_start(text)?;
+    push_style(text)?;
+    push_page_style(text)
+}
+
+#[tactic(auto, unfolding(crate::specs::Html::head_end))]
+fn push_head_end(text: &mut String) -> Result<(), AllocError>
+    ensures { OnOk result (string_bytes text.new ≡ string_bytes text.old ++ head_end) }
+{
+    text.push_str("</style></head><body><main>")
+}
+
+fn push_head(text: &mut String) -> Result<(), AllocError>
+    ensures { OnOk result (string_bytes text.new ≡ string_bytes text.old ++ head_html) }
+{
+    push_styles(text)?;
+    push_key_style(text)?;
+    push_head_end(text)
+}
+
+fn push_picture(text: &mut String, reveal: bool, view: &View) -> Result<(), AllocError>
+    ensures { OnOk result (string_bytes text.new ≡ string_bytes text.old ++ picture_html reveal view.now) }
+{
+    push_svg_start(text)?;
+    push_body(text, reveal, view)?;
+    text.push_str("</svg>")
+}
+
+fn push_nav(text: &mut String, view: &View) -> Result<(), AllocError>
+    ensures { OnOk result (string_bytes text.new ≡ string_bytes text.old ++ nav_html view.now) }
+{
+    text.push_str("<nav>")?;
+    push_keys(text, view)?;
+    text.push_str("</nav>")
+}
+
+fn push_plain(text: &mut String, reveal: bool, view: &View) -> Result<(), AllocError>
+    ensures { OnOk result (string_bytes text.new ≡ string_bytes text.old ++ text_html reveal view.now) }
+{
+    text.push_str("<details><summary>Text</summary><pre>")?;
+    push_rows(text, true, reveal, &view.cells)?;
+    text.push_str("</pre></details>")
+}
+
+fn push_page(text: &mut String, reveal: bool, view: &View) -> Result<(), AllocError>
+    ensures { OnOk result (string_bytes text.new ≡ string_bytes text.old ++ head_html ++ picture_html reveal view.now ++ nav_html view.now) }
+{
+    push_head(text)?;
+    push_picture(text, reveal, view)?;
+    push_nav(text, view)
+}
+
+/// Adds a View as a page of HTML, concealed characters only where they are revealed.
+pub(crate) fn push_html(text: &mut String, reveal: bool, view: &View) -> Result<(), AllocError>
+    ensures { OnOk result (string_bytes text.new ≡ string_bytes text.old ++ html_of reveal view.now) }
+{
+    push_page(text, reveal, view)?;
+    push_plain(text, reveal, view)?;
+    text.push_str("</main></body></html>\n")
+}

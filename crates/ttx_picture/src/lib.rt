@@ -1,0 +1,14 @@
+//! Pictures of Views: text, codes of a terminal, SVG and HTML.
+#![tactic(auto)]
+
+mod ansi;
+mod escapes;
+mod forms;
+mod html;
+pub mod laws;
+mod links;
+mod shown;
+mod svg;
+mod text;
+
+pub use forms::{Form, push_picture};

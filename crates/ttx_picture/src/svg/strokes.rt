@@ -1,0 +1,194 @@
+//! The paths of backgrounds and mosaics.
+
+ghost use Rattle.std.specs.Prelude.{◌≡◌, ◌<◌, ◌≤◌, ◌++◌, OnOk, string_bytes};
+ghost use Rattle.ttx_picture.specs.Svg.{left_block, right_block, has_block, block, half_of, layer_text, height_text, lowered, lifted, path_start, path_end, stroke, after, is_down, drawn};
+ghost use Rattle.ttx_picture.specs.Shown.{shown as seen};
+
+use crate::shown::shown;
+use crate::svg::pens::{Layer, Pen, ground, ink, is_drawn, is_pen, push_pen};
+use std::alloc::AllocError;
+use ttx_render::{Cell, Glyph};
+
+fn left_block(layer: Layer) -> u8
+    ensures value { result ≡ left_block layer }
+    ensures some { 0 < result }
+    ensures most { result ≤ 16 }
+{
+    match layer {
+        Layer::Middle => 4,
+        Layer::Bottom => 16,
+        _ => 1,
+    }
+}
+
+fn has_block(blocks: u8, value: u8) -> bool
+    requires { 0 < value }
+    ensures { result ≡ has_block blocks value }
+{
+    blocks / value % 2 == 1
+}
+
+// The pen of a block of a cell.
+fn block(reveal: bool, tall: bool, value: u8, cell: &Cell) -> Option<Pen>
+    requires { 0 < value }
+    ensures { result ≡ block cell.now tall value (seen reveal cell.now) }
+{
+    match shown(reveal, cell) {
+        Glyph::Char(_) => None,
+        Glyph::Mosaic { blocks, separated } => {
+            if is_drawn(tall, cell.part) && has_block(blocks, value) {
+                Some(ink(cell, separated))
+            } else {
+                None
+            }
+        }
+    }
+}
+
+// The pen of a half of a cell.
+fn half_of(reveal: bool, tall: bool, layer: Layer, value: u8, cell: &Cell) -> Option<Pen>
+    requires { 0 < value }
+    ensures { result ≡ half_of reveal tall layer value cell.now }
+{
+    match layer {
+        Layer::Ground => ground(cell),
+        _ => block(reveal, tall, value, cell),
+    }
+}
+
+fn layer_text(layer: Layer) -> &'static str
+    ensures { result.now ≡ layer_text layer }
+{
+    match layer {
+        Layer::Ground => "g ",
+        _ => "",
+    }
+}
+
+fn height_text(layer: Layer) -> &'static str
+    ensures { result.now ≡ height_text layer }
+{
+    match layer {
+        Layer::Top => " 4H",
+        Layer::Bottom => " 20H",
+        _ => " 12H",
+    }
+}
+
+fn push_lowered(text: &mut String, layer: Layer, x: usize) -> Result<(), AllocError>
+    ensures { OnOk result (string_bytes text.new ≡ string_bytes text.old ++ lowered layer x) }
+{
+    write!(text, "M{x}")?;
+    text.push_str(height_text(layer))
+}
+
+fn push_lifted(text: &mut String, down: bool, x: usize) -> Result<(), AllocError>
+    ensures { OnOk result (string_bytes text.new ≡ string_bytes text.old ++ lifted down x) }
+{
+    if down { write!(text, "{x}") } else { Ok(()) }
+}
+
+fn push_path_start(text: &mut String, layer: Layer, pen: Pen) -> Result<(), AllocError>
+    ensures { OnOk result (string_bytes text.new ≡ string_bytes text.old ++ path_start layer pen) }
+{
+    text.push_str("<path class=\"")?;
+    text.push_str(layer_text(layer))?;
+    push_pen(text, pen)?;
+    text.push_str("\" d=\"")
+}
+
+fn push_path_end(text: &mut String, current: Option<Pen>) -> Result<(), AllocError>
+    ensures { OnOk result (string_bytes text.new ≡ string_bytes text.old ++ path_end current) }
+{
+    match current {
+        None => Ok(()),
+        Some(_) => text.push_str("\"/>"),
+    }
+}
+
+// Begins a path of another pen.
+fn push_other(
+    text: &mut String,
+    layer: Layer,
+    current: Option<Pen>,
+    down: bool,
+    x: usize,
+    pen: Pen,
+) -> Result<(), AllocError>
+    ensures { OnOk result (string_bytes text.new ≡ string_bytes text.old ++ lifted down x ++ path_end current ++ path_start layer pen ++ lowered layer x) }
+{
+    push_lifted(text, down, x)?;
+    push_path_end(text, current)?;
+    push_path_start(text, layer, pen)?;
+    push_lowered(text, layer, x)
+}
+
+// Adds what a half needs where this pen is current, and down or not.
+fn push_stroke(
+    text: &mut String,
+    layer: Layer,
+    current: Option<Pen>,
+    down: bool,
+    x: usize,
+    half: Option<Pen>,
+) -> Result<(), AllocError>
+    ensures { OnOk result (string_bytes text.new ≡ string_bytes text.old ++ stroke layer current down x half) }
+{
+    match half {
+        None => push_lifted(text, down, x),
+        Some(pen) => {
+            if !is_pen(current, pen) {
+                push_other(text, layer, current, down, x, pen)
+            } else if down {
+                Ok(())
+            } else {
+                push_lowered(text, layer, x)
+            }
+        }
+    }
+}
+
+fn after(current: Option<Pen>, half: Option<Pen>) -> Option<Pen>
+    ensures { result ≡ after current half }
+{
+    match half {
+        None => current,
+        Some(pen) => Some(pen),
+    }
+}
+
+fn is_down(half: Option<Pen>) -> bool
+    ensures { result ≡ is_down half }
+{
+    match half {
+        None => false,
+        Some(_) => true,
+    }
+}
+
+/// Adds the paths of a layer of a row.
+pub fn push_drawn(
+    text: &mut String,
+    reveal: bool,
+    tall: bool,
+    layer: Layer,
+    cells: &[Cell; 40],
+) -> Result<(), AllocError>
+    ensures { OnOk result (string_bytes text.new ≡ string_bytes text.old ++ drawn reveal tall layer cells.now) }
+{
+    let mut current = None;
+    let mut down = false;
+    let mut x = 0;
+    for cell in cells {
+        let left = half_of(reveal, tall, layer, left_block(layer), cell);
+        let right = half_of(reveal, tall, layer, 2 * left_block(layer), cell);
+        push_stroke(text, layer, current, down, x, left)?;
+        current = after(current, left);
+        push_stroke(text, layer, current, is_down(left), x + 10, right)?;
+        current = after(current, right);
+        down = is_down(right);
+        x += 20;
+    }
+    push_lifted(text, down, x)?;
+    push_path_end(text, current)
+}
