@@ -110,6 +110,10 @@ count=$((count + 1))
 python3 "$here/make_data.py" "$work/data"
 diff -r "$work/data" "$here/data" > /dev/null || fail "tests/data isn't what make_data.py makes"
 
+name=markup
+count=$((count + 1))
+python3 "$here/markup.py" "$here"/cases/*svg*/stdout "$here"/cases/*html*/stdout || fail "a picture isn't XML"
+
 name=demo
 count=$((count + 1))
 sh "$top/demo/demo.sh" "$program" > "$work/demo" 2>&1

@@ -46,6 +46,38 @@ def base():
     return [header(1, 0), EMPTY, EMPTY, *[row(1, r) for r in range(1, 24)], links(1), time_filling(1)]
 
 
+def odd(codes):
+    """Characters as they are sent, with odd parity (8.1)."""
+    return bytes(c | (0x80 if bin(c).count("1") % 2 == 0 else 0) for c in codes)
+
+
+def text_row(mag, number, codes):
+    return row(mag, number, odd(codes.ljust(40)))
+
+
+def attributes():
+    """Page 200 has each spacing attribute, and characters that markup reserves; page 201 is a newsflash with a box."""
+    rows = {
+        1: b"\x04\x1d\x07\x0dTall <b>&\x22'</b> \x11\x0d\x7f5j",
+        3: b"\x01Red\x02Green\x03Yellow\x04Blue\x05Mag\x06Cy\x07White",
+        4: b"\x08\x01flash\x09steady \x03\x18concealed\x07 shown",
+        5: b"\x11 !\x22#$%&'()*+,-./0123456789:;<=>?",
+        6: b"\x12`abcdefghijklmnopqrstuvwxyz{|}~\x7f",
+        7: b"\x13\x1a !\x22#$%&'()*+,-./0123456789:;<=>?",
+        8: b"\x16\x1a`abcdefghijklmnopqrstuvwxyz{|}~\x7f",
+        9: b"\x11\x0d\x7f5j!(0`\x1a\x7f5j!(0`\x0c\x7f5j\x07\x0dA[Hg",
+        11: b"\x11\x1e\x7f\x12\x13\x14\x1f\x12\x1a\x14\x1c\x19 held",
+        12: b"\x03\x1d\x04Blue on yellow\x01\x1dRed \x1cblack",
+        17: b"[\x5c]^_`{|}~#$@\x7f <tag attr=\x22x\x22>&amp;</tag>",
+        20: b"\x0d\x08\x06\x18Hidden tall\x07 tall",
+        24: b"\x01Red \x02Green \x03Yellow \x06Cyan",
+    }
+    box = b"\x0d\x0b\x0b\x03Newsflash \x08<now>\x0a\x0a outside"
+    head = odd(b"Attributes <&>".ljust(32))
+    first = [header(2, 0, 0, 0, 1, head), EMPTY, EMPTY, *[text_row(2, n, text) for n, text in rows.items()], links(2, (1, 0, 15, 15, 15, 7), 15)]
+    return [*first, header(2, 1, 0, 2, 1, head), EMPTY, EMPTY, text_row(2, 20, box), time_filling(2)]
+
+
 def with_slot(slots, at, slot):
     return [*slots[:at], slot, *slots[at + 1 :]]
 
@@ -213,6 +245,7 @@ def main():
         "nothing": [],
         "base.t42": base(),
         "base-header.t42": base()[:1],
+        "attributes.t42": attributes(),
         "each-kind.t42": each_kind(),
         "time-filling.t42": [time_filling(1)],
         "empty-slot.t42": [EMPTY],

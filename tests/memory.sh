@@ -30,7 +30,7 @@ judge() {
 }
 
 for command in "inspect long.t42" "plan broadcast.toml out" "find long.t42 base.toml out" "certify long.t42 base.toml long.cert" \
-    "receive long.t42 100 --slots 20000"; do
+    "receive long.t42 100 --slots 20000" "show long.t42 100 --slots 20000"; do
     finished=0
     refused=0
     rm -f out

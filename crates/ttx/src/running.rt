@@ -8,7 +8,7 @@ use ttx_certify::{Verdict, certify_files};
 use ttx_cycle::Counted;
 use ttx_page::{Class, PageMemory};
 use ttx_receiver::{Careful, Cleared, Eager, Receiver};
-use ttx_tool::{Order, ReceiverKind, ToolFault, Tuning, commands};
+use ttx_tool::{Look, Order, ReceiverKind, ToolFault, Tuning, commands};
 
 // A buffered reader of an input.
 fn buffered(rt: &HostRuntime, input: Input) -> Result<Counted<BufReader<Input>>, ToolFault> {
@@ -32,40 +32,65 @@ fn plan(rt: &HostRuntime, input: Input, class: Class, out: File) -> Result<u8, T
     commands::plan(rt.alloc(), &mut reader, class, &mut file, &mut writer)
 }
 
+// Receives a page: shows it as it is asked for, or writes what is held word by word.
 fn receive_by<X: Receiver + Drop>(
     rt: &HostRuntime,
     input: Input,
     mut receiver: X,
     tuning: &Tuning,
+    look: Option<&Look<'_>>,
 ) -> Result<u8, ToolFault> {
     let mut reader = buffered(rt, input)?;
     let mut writer = Counted::new(io::writer(rt));
-    commands::receive(
-        rt.alloc(),
-        &mut reader,
-        &mut receiver,
-        tuning.start,
-        tuning.slots,
-        &mut writer,
-    )
+    match look {
+        Some(look) => commands::show(
+            rt.alloc(),
+            &mut reader,
+            &mut receiver,
+            tuning,
+            look,
+            &mut writer,
+        ),
+        None => commands::receive(
+            rt.alloc(),
+            &mut reader,
+            &mut receiver,
+            tuning.start,
+            tuning.slots,
+            &mut writer,
+        ),
+    }
 }
 
 // A receiver of the kind that is asked for, with nothing received before.
-fn receive(rt: &HostRuntime, input: Input, tuning: &Tuning) -> Result<u8, ToolFault> {
+fn receive(
+    rt: &HostRuntime,
+    input: Input,
+    tuning: &Tuning,
+    look: Option<&Look<'_>>,
+) -> Result<u8, ToolFault> {
     let (selection, lines, blank) = (tuning.selection, tuning.lines, PageMemory::blank());
     match tuning.kind {
-        ReceiverKind::Eager => receive_by(rt, input, Eager::new(selection, lines, blank), tuning),
+        ReceiverKind::Eager => receive_by(
+            rt,
+            input,
+            Eager::new(selection, lines, blank),
+            tuning,
+            look,
+        ),
         ReceiverKind::Careful => receive_by(
             rt,
             input,
             Careful::new(selection, lines, blank),
             tuning,
+            look,
         ),
         ReceiverKind::Cleared => receive_by(
             rt,
             input,
             Cleared::new(selection, lines, blank),
             tuning,
+            look,
         ),
     }
 }
@@ -177,7 +202,12 @@ pub fn run_order(rt: &HostRuntime, order: &Order<'_>) -> io::Result<Result<u8, T
             repeat,
             class,
         } => open_find(rt, cycle, service, *repeat, *class, out),
-        Order::Receive { cycle, tuning } => Ok(receive(rt, open_input(rt, cycle)?, tuning)),
+        Order::Receive { cycle, tuning } => Ok(receive(rt, open_input(rt, cycle)?, tuning, None)),
+        Order::Show {
+            cycle,
+            tuning,
+            look,
+        } => Ok(receive(rt, open_input(rt, cycle)?, tuning, Some(look))),
         Order::Certify {
             cycle,
             service,

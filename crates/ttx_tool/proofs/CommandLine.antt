@@ -10,19 +10,19 @@ use Rattle.clap.specs.Simple.{argument_words, entered, names_of}
 use Rattle.clap.specs.Kinds.{Kinds, HasKind, IsAmong, or_else, check_kinds}
 use Rattle.clap.specs.declared.error.Error.{Error}
 use Rattle.clap.specs.declared.error.kind.ErrorKind.TheVariants.{OutOfMemory}
-use Rattle.ttx_tool.specs.Grammar.{NameList, ttx_app, inspect_app, plan_app, find_app, certify_app, receive_app}
+use Rattle.ttx_tool.specs.Grammar.{NameList, ttx_app, inspect_app, plan_app, find_app, certify_app, receive_app, show_app}
 use Rattle.ttx_tool.specs.Orders.{OrderView, Unfit, inspect_order, order_view, order_at, Asks, Refuses, IsOrderOf, IsRefusalOf, IsFaultOf, AnswersBy}
 use Rattle.ttx_tool.specs.declared.orders.Order.{Order}
 use Rattle.ttx_tool.specs.declared.orders.WordsFault.{WordsFault}
 use Rattle.ttx_tool.specs.declared.orders.WordsFault.TheVariants.{Refused, Page, Twice, NoMemory}
 
-pub ttx_is_simple : (kinds classes : NameList) → is_simple (ttx_app kinds classes) ≡ true
-unfolding ttx_app inspect_app plan_app find_app certify_app receive_app
-ttx_is_simple kinds classes = refl
+pub ttx_is_simple : (kinds classes forms : NameList) → is_simple (ttx_app kinds classes forms) ≡ true
+unfolding ttx_app inspect_app plan_app find_app certify_app receive_app show_app
+ttx_is_simple kinds classes forms = refl
 
-pub ttx_is_free : (kinds classes : NameList) → is_simple_and_free (ttx_app kinds classes) ≡ true
-unfolding ttx_app inspect_app plan_app find_app certify_app receive_app
-ttx_is_free kinds classes = refl
+pub ttx_is_free : (kinds classes forms : NameList) → is_simple_and_free (ttx_app kinds classes forms) ≡ true
+unfolding ttx_app inspect_app plan_app find_app certify_app receive_app show_app
+ttx_is_free kinds classes forms = refl
 
 -- an error that isn't of memory has one of the kinds
 pub among_kinds : (kinds : Kinds) (e : Error) → (kind_of e ≡ OutOfMemory → ⊥) → HasKind kinds e → IsAmong (kind_of e) kinds
@@ -96,9 +96,10 @@ app_has a ws n fault =
     let stop = (walk (built a).top.rules (names_of (built a)) nothing_held words).stopped in
     level_has (built a).top (names_of (built a)) nothing_held words (is_some (entered (built a) stop)) (entered_fault (built a) stop) n fault
 
-needs : (kinds classes : NameList) → (built (ttx_app kinds classes)).top.subcommand_required ≡ true
-unfolding ttx_app inspect_app plan_app find_app certify_app receive_app
-needs kinds classes = refl
+needs : (kinds classes forms : NameList) → (built (ttx_app kinds classes forms)).top.subcommand_required ≡ true
+unfolding ttx_app inspect_app plan_app find_app certify_app receive_app show_app
+needs kinds classes forms = refl
 
-pub has_command : (kinds classes : NameList) (ws : List Text) → fault_of (ttx_app kinds classes) ws ≡ [] → is_some (subcommand_of (ttx_app kinds classes) ws) ≡ true
-has_command kinds classes ws h = app_has (ttx_app kinds classes) ws (needs kinds classes) h
+pub has_command : (kinds classes forms : NameList) (ws : List Text) → fault_of (ttx_app kinds classes forms) ws ≡ []
+    → is_some (subcommand_of (ttx_app kinds classes forms) ws) ≡ true
+has_command kinds classes forms ws h = app_has (ttx_app kinds classes forms) ws (needs kinds classes forms) h

@@ -5,3 +5,4 @@ mod Heard
 mod Numerals
 mod FoundNothing
 mod TwoInputs
+mod FreshUntilHeader

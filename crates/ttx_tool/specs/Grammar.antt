@@ -1,15 +1,17 @@
 -- The command line as `clap` reads it: what is taken, and the faults of what isn't.
 --
 --   NameList, Lists          names as `clap` holds them, wherever they lie in memory
---   kind_names, class_names  the names that `--kind` and `--class` take
+--   kind_names, class_names, form_names     the names that `--kind`, `--class` and `--as` take
 --   operand_rule             an operand that has to be there
 --   number_rule, name_rule   an option with a number in a range, and one with a name of a list
---   inspect_app, plan_app, find_app, certify_app, receive_app      a command with its arguments
+--   flag_rule                an option without a value
+--   inspect_app, plan_app, find_app, certify_app, receive_app, show_app      a command with its arguments
 --   bare_app, ttx_app        the program alone, and with its commands
 --   Builds                   what is built of a command, where memory doesn't run out
 use Rattle.std.specs.Prelude.{◌≡◌, ℕ, List, [], ◌∷◌, codes, map, true, false, Some, Result, IfOk}
 use Rattle.std.specs.Borrow.{Bor}
 use Rattle.clap.specs.Words.{App, Shape, Rule, Text, app_of, new_app, new_rule, with_rule, with_subcommand}
+use Rattle.clap.specs.declared.builder.action.ArgAction.TheVariants.{SetTrue}
 use Rattle.clap.specs.declared.builder.command.Command.{Command}
 use Rattle.clap.specs.declared.builder.command.Command.TheViews.{out-Command}
 use Rattle.clap.specs.declared.builder.value_parser.ValueParser.TheVariants as parser
@@ -26,6 +28,9 @@ kind_names = codes "eager" ∷ codes "careful" ∷ codes "cleared" ∷ []
 abbrev pub class_names : List Text
 class_names = codes "any" ∷ codes "clearing" ∷ []
 
+abbrev pub form_names : List Text
+form_names = codes "text" ∷ codes "ansi" ∷ codes "svg" ∷ codes "html" ∷ []
+
 abbrev pub operand_rule : Text → Rule
 operand_rule id = record (new_rule id) { required = true; value_names = 1 }
 
@@ -35,6 +40,9 @@ number_rule id low high = record (new_rule id) { long = Some id; value_names = 1
 
 abbrev pub name_rule : Text → NameList → Rule
 name_rule id names = record (new_rule id) { long = Some id; value_names = 1; parser = Some (parser.Names names) }
+
+abbrev pub flag_rule : Text → Rule
+flag_rule id = record (new_rule id) { long = Some id; action = Some SetTrue }
 
 -- inspect FILE
 unfoldable pub inspect_app : App
@@ -58,11 +66,23 @@ certify_app =
     with_rule (with_rule (with_rule (new_app (codes "certify")) (operand_rule (codes "cycle"))) (operand_rule (codes "service")))
     (operand_rule (codes "certificate"))
 
--- receive CYCLE PAGE [--lines L] [--start S] [--slots N] [--kind eager|careful|cleared]
-unfoldable pub receive_app : NameList → App
-receive_app kinds =
-    with_rule (with_rule (with_rule (with_rule (with_rule (with_rule (new_app (codes "receive")) (operand_rule (codes "cycle"))) (operand_rule (codes "page")))
+-- CYCLE PAGE [--lines L] [--start S] [--slots N] [--kind eager|careful|cleared]
+abbrev pub with_tuning : NameList → App → App
+with_tuning kinds app =
+    with_rule (with_rule (with_rule (with_rule (with_rule (with_rule app (operand_rule (codes "cycle"))) (operand_rule (codes "page")))
     (number_rule (codes "lines") 1 32)) (number_rule (codes "start") 0 65535)) (number_rule (codes "slots") 0 1000000)) (name_rule (codes "kind") kinds)
+
+-- receive, with these
+unfoldable pub receive_app : NameList → App
+receive_app kinds = with_tuning kinds (new_app (codes "receive"))
+
+-- [--as text|ansi|svg|html] [--reveal]
+abbrev pub with_look : NameList → App → App
+with_look forms app = with_rule (with_rule app (name_rule (codes "as") forms)) (flag_rule (codes "reveal"))
+
+-- show CYCLE PAGE [--lines L] [--start S] [--slots N] [--kind eager|careful|cleared] [--as text|ansi|svg|html] [--reveal]
+unfoldable pub show_app : NameList → NameList → App
+show_app kinds forms = with_look forms (with_tuning kinds (new_app (codes "show")))
 
 abbrev pub bare : Shape → Shape
 bare s = record s { no_binary_name = true; subcommand_required = true; disable_help_subcommand = true }
@@ -71,10 +91,11 @@ bare s = record s { no_binary_name = true; subcommand_required = true; disable_h
 abbrev pub bare_app : App
 bare_app = record { top = bare (new_app (codes "ttx")).top; subs = [] }
 
-unfoldable pub ttx_app : NameList → NameList → App
-ttx_app kinds classes =
-    with_subcommand (with_subcommand (with_subcommand (with_subcommand (with_subcommand bare_app inspect_app.top) (plan_app classes).top)
-    (find_app classes).top) certify_app.top) (receive_app kinds).top
+unfoldable pub ttx_app : NameList → NameList → NameList → App
+ttx_app kinds classes forms =
+    with_subcommand (with_subcommand (with_subcommand (with_subcommand (with_subcommand (with_subcommand bare_app inspect_app.top) (plan_app classes).top)
+    (find_app classes).top) certify_app.top) (receive_app kinds).top)
+    (show_app kinds forms).top
 
 abbrev pub Builds : {E : Type 0} → Result Command E → App → Type 0
 Builds result app = IfOk result (λ c. (app_of c ≡ app) × ((out-Command c).has_globals ≡ false))

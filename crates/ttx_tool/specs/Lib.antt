@@ -4,6 +4,7 @@ pub mod Lines
 pub mod Inspecting
 pub mod ViewLines
 pub mod Receiving
+pub mod Showing
 pub mod Planning
 pub mod FindingFiles
 pub mod Reports

@@ -1,8 +1,10 @@
 -- What words ask for.
 --
+--   LookView, look_view      how a page is shown
 --   OrderView, order_view    an order, its texts as bytes
 --   text_at, number_at       the text and the number that a parse gives an argument
---   kind_named, class_named  a kind of receiver and a class by its name
+--   kind_named, class_named, form_named     a kind of receiver, a class and a form by its name
+--   is_set                   whether an option without a value is given
 --   inputs, is_twice         the texts that name inputs; more than one of them is standard input
 --   once, order_at           the order of a command with its values, or why there is none
 --   Asks                     what the program is asked for by words
@@ -19,15 +21,27 @@ use Rattle.clap.specs.declared.error.kind.ErrorKind.TheVariants.{OutOfMemory}
 use Rattle.ttx_page.specs.declared.class.Class.{Class}
 use Rattle.ttx_page.specs.declared.class.Class.TheVariants.{Any, Clearing}
 use Rattle.ttx_page.specs.declared.selection.Selection.{Selection}
-use Rattle.ttx_tool.specs.Grammar.{NameList, Lists, kind_names, class_names, ttx_app}
+use Rattle.ttx_tool.specs.Grammar.{NameList, Lists, kind_names, class_names, form_names, ttx_app}
 use Rattle.ttx_tool.specs.PageNames.{selection_of}
+use Rattle.ttx_picture.specs.declared.forms.Form.{Form}
+use Rattle.ttx_picture.specs.declared.forms.Form.TheVariants as form
+use Rattle.ttx_tool.specs.declared.orders.Look.{Look}
 use Rattle.ttx_tool.specs.declared.orders.Order.{Order}
-use Rattle.ttx_tool.specs.declared.orders.Order.TheVariants.{Inspect, Plan, Find, Certify, Receive}
+use Rattle.ttx_tool.specs.declared.orders.Order.TheVariants.{Inspect, Plan, Find, Certify, Receive, Show}
 use Rattle.ttx_tool.specs.declared.orders.ReceiverKind.{ReceiverKind}
 use Rattle.ttx_tool.specs.declared.orders.ReceiverKind.TheVariants.{Eager, Careful, Cleared}
 use Rattle.ttx_tool.specs.declared.orders.Tuning.{Tuning}
 use Rattle.ttx_tool.specs.declared.orders.WordsFault.{WordsFault}
 use Rattle.ttx_tool.specs.declared.orders.WordsFault.TheVariants.{Refused, Page, Twice, NoMemory}
+
+-- how a page is shown, its name as bytes
+pub record LookView : Type 0 where
+  pub page : Text
+  pub form : Form
+  pub reveal : Bool
+
+abbrev pub look_view : Look → LookView
+look_view look = record { page = look.page.now; form = look.form; reveal = look.reveal }
 
 -- an order, its texts as bytes
 pub data OrderView : Type 0 where
@@ -36,6 +50,7 @@ pub data OrderView : Type 0 where
   find_order : (cycle service out : Text) → (repeat : ℕ) → (class : Class) → OrderView
   certify_order : (cycle service certificate : Text) → OrderView
   receive_order : (cycle : Text) → (tuning : Tuning) → OrderView
+  show_order : (cycle : Text) → (tuning : Tuning) → (look : LookView) → OrderView
 
 abbrev pub order_view : Order → OrderView
 order_view (Inspect file) = inspect_order file.now
@@ -43,6 +58,7 @@ order_view (Plan service out class) = plan_order service.now out.now class
 order_view (Find cycle service out repeat class) = find_order cycle.now service.now out.now repeat class
 order_view (Certify cycle service certificate) = certify_order cycle.now service.now certificate.now
 order_view (Receive cycle tuning) = receive_order cycle.now tuning
+order_view (Show cycle tuning look) = show_order cycle.now tuning (look_view look)
 
 -- the text that an argument was given; a parse gives one to each operand
 abbrev pub text_at : Text → List Row → Text
@@ -78,6 +94,18 @@ kind_named name =
 abbrev pub class_named : Text → Class
 class_named name = if bytes_eq name (codes "clearing") then Clearing else Any
 
+-- a terminal's codes unless it is another
+abbrev pub form_named : Text → Form
+form_named name =
+    if bytes_eq name (codes "text") then form.Text
+    else if bytes_eq name (codes "svg") then form.Svg
+    else if bytes_eq name (codes "html") then form.Html
+    else form.Ansi
+
+-- A parse gives `true` to an option without a value where it is there, and else `false`.
+abbrev pub is_set : Text → List Row → Bool
+is_set id rows = bytes_eq (text_at id rows) (codes "true")
+
 -- why words that `clap` takes ask for nothing
 pub data Unfit : Type 0 where
   no_page : Unfit
@@ -96,6 +124,13 @@ abbrev pub receive_by : Option Selection → List Row → Result OrderView Unfit
 receive_by None rows = Err no_page
 receive_by (Some selection) rows = Ok (receive_order (text_at (codes "cycle") rows) (tuning_at selection rows))
 
+abbrev pub look_at : List Row → LookView
+look_at rows = record { page = text_at (codes "page") rows; form = form_named (text_at (codes "as") rows); reveal = is_set (codes "reveal") rows }
+
+abbrev pub show_by : Option Selection → List Row → Result OrderView Unfit
+show_by None rows = Err no_page
+show_by (Some selection) rows = Ok (show_order (text_at (codes "cycle") rows) (tuning_at selection rows) (look_at rows))
+
 abbrev pub inspect_at : List Row → OrderView
 inspect_at rows = inspect_order (text_at (codes "file") rows)
 
@@ -113,6 +148,9 @@ certify_at rows = certify_order (text_at (codes "cycle") rows) (text_at (codes "
 abbrev pub receive_at : List Row → Result OrderView Unfit
 receive_at rows = receive_by (selection_of (text_at (codes "page") rows)) rows
 
+abbrev pub show_at : List Row → Result OrderView Unfit
+show_at rows = show_by (selection_of (text_at (codes "page") rows)) rows
+
 -- the texts that name inputs
 abbrev pub inputs : OrderView → List Text
 inputs (inspect_order file) = file ∷ []
@@ -120,6 +158,7 @@ inputs (plan_order service out class) = service ∷ []
 inputs (find_order cycle service out repeat class) = cycle ∷ service ∷ []
 inputs (certify_order cycle service certificate) = cycle ∷ service ∷ certificate ∷ []
 inputs (receive_order cycle tuning) = cycle ∷ []
+inputs (show_order cycle tuning look) = cycle ∷ []
 
 -- more than one of them is standard input
 abbrev pub is_twice : OrderView → Bool
@@ -136,6 +175,7 @@ order_at name rows =
     else if bytes_eq name (codes "find") then once (find_at rows)
     else if bytes_eq name (codes "certify") then once (certify_at rows)
     else if bytes_eq name (codes "receive") then receive_at rows
+    else if bytes_eq name (codes "show") then show_at rows
     else Ok (inspect_at rows)
 
 -- no words at all ask for `inspect -`, and words that `clap` takes for their command with its values
@@ -157,10 +197,11 @@ AnswersBy app words (Err Page) = Asks app words (Err no_page)
 AnswersBy app words (Err Twice) = Asks app words (Err named_twice)
 AnswersBy app words (Err NoMemory) = ⊤
 
--- The same with the names that `--kind` and `--class` take.
+-- The same with the names that `--kind`, `--class` and `--as` take.
 abbrev pub Answers : List Text → Result Order WordsFault → Type 0
 Answers words result =
-    (kinds classes : NameList) × Lists kinds kind_names × Lists classes class_names × AnswersBy (ttx_app kinds classes) words result
+    (kinds classes forms : NameList) × Lists kinds kind_names × Lists classes class_names × Lists forms form_names
+    × AnswersBy (ttx_app kinds classes forms) words result
 
 -- an order, or the fault of words that ask for nothing
 abbrev pub IsOrderOf : Result Order WordsFault → Result OrderView Unfit → Type 0

@@ -5,9 +5,11 @@ mod inspecting;
 mod planning;
 mod receiving;
 mod reporting;
+mod showing;
 
 pub use finding::find;
 pub use inspecting::inspect;
 pub use planning::plan;
 pub use receiving::receive;
 pub use reporting::{report, report_words};
+pub use showing::show;

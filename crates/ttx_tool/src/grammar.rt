@@ -3,11 +3,11 @@
 ghost use Rattle.std.specs.Prelude.{◌≡◌, false, codes};
 ghost use Rattle.clap.specs.Words.{App, Text, rule_of, with_rule, with_subcommand, new_app};
 ghost use Rattle.ttx_tool.specs.Grammar as rule;
-ghost use Rattle.ttx_tool.specs.Grammar.{Lists, Builds, operand_rule, number_rule, name_rule, inspect_app, plan_app, find_app, certify_app, receive_app, bare_app, ttx_app};
+ghost use Rattle.ttx_tool.specs.Grammar.{Lists, Builds, operand_rule, number_rule, name_rule, flag_rule, with_tuning, with_look, inspect_app, plan_app, find_app, certify_app, receive_app, show_app, bare_app, ttx_app};
 
 use crate::help;
 use clap::builder::ValueParser;
-use clap::{Arg, Command};
+use clap::{Arg, ArgAction, Command};
 use std::alloc::{AllocError, Global};
 
 // A command that is being put together. Each function below passes want of memory on.
@@ -75,6 +75,17 @@ fn choice<'a>(
         .value_parser(names)
 }
 
+// An option without a value.
+fn with_flag<'a>(alloc: Global, command: Building<'a>, id: &'a str, help: &'a str) -> Building<'a>
+    ensures { (app : App) (text : Text) → id.entry.now ≡ text → Builds command.entry app → Builds result (with_rule app (flag_rule text)) }
+{
+    let flag = Arg::new(alloc, id)
+        .long(id)
+        .help(help)
+        .action(ArgAction::SetTrue);
+    with_arg(command, flag)
+}
+
 fn with_command<'a>(command: Building<'a>, below: Building<'a>) -> Building<'a>
     ensures { (app sub : App) → Builds command.entry app → Builds below.entry sub → Builds result (with_subcommand app sub.top) }
 {
@@ -105,6 +116,14 @@ fn with_kind<'a>(alloc: Global, command: Building<'a>, kinds: &'a [&'a str]) -> 
 {
     let kind = choice(alloc, "kind", "KIND", help::KIND_OPTION, kinds);
     with_arg(command, kind)
+}
+
+// `--as text|ansi|svg|html`
+fn with_form<'a>(alloc: Global, command: Building<'a>, forms: &'a [&'a str]) -> Building<'a>
+    ensures { (app : App) → Builds command.entry app → Builds result (with_rule app (name_rule (codes "as") forms.entry)) }
+{
+    let form = choice(alloc, "as", "FORM", help::FORM_OPTION, forms);
+    with_arg(command, form)
 }
 
 // `inspect FILE`
@@ -153,25 +172,49 @@ fn certify<'a>(alloc: Global) -> Building<'a>
     )
 }
 
-// `receive CYCLE PAGE [--lines L] [--start S] [--slots N] [--kind eager|careful|cleared]`
-fn receive<'a>(alloc: Global, kinds: &'a [&'a str]) -> Building<'a>
-    ensures { Builds result (receive_app kinds.entry) }
+// `CYCLE PAGE [--lines L] [--start S] [--slots N] [--kind eager|careful|cleared]`
+fn with_tuning<'a>(alloc: Global, command: Building<'a>, kinds: &'a [&'a str]) -> Building<'a>
+    ensures { (app : App) → Builds command.entry app → Builds result (with_tuning kinds.entry app) }
 {
-    let receive = command(alloc, "receive", help::RECEIVE, help::RECEIVE_MORE);
-    let receive = with_operand(alloc, receive, "cycle", "CYCLE", help::CYCLE_OPERAND);
-    let receive = with_operand(alloc, receive, "page", "PAGE", help::PAGE_OPERAND);
-    let receive = with_number(alloc, receive, "lines", "L", help::LINES_OPTION, 1, 32);
-    let receive = with_number(alloc, receive, "start", "S", help::START_OPTION, 0, 65_535);
-    let receive = with_number(
+    let command = with_operand(alloc, command, "cycle", "CYCLE", help::CYCLE_OPERAND);
+    let command = with_operand(alloc, command, "page", "PAGE", help::PAGE_OPERAND);
+    let command = with_number(alloc, command, "lines", "L", help::LINES_OPTION, 1, 32);
+    let command = with_number(alloc, command, "start", "S", help::START_OPTION, 0, 65_535);
+    let command = with_number(
         alloc,
-        receive,
+        command,
         "slots",
         "N",
         help::SLOTS_OPTION,
         0,
         1_000_000,
     );
-    with_kind(alloc, receive, kinds)
+    with_kind(alloc, command, kinds)
+}
+
+// `receive`, with these.
+fn receive<'a>(alloc: Global, kinds: &'a [&'a str]) -> Building<'a>
+    ensures { Builds result (receive_app kinds.entry) }
+{
+    let receive = command(alloc, "receive", help::RECEIVE, help::RECEIVE_MORE);
+    with_tuning(alloc, receive, kinds)
+}
+
+// `[--as text|ansi|svg|html] [--reveal]`
+fn with_look<'a>(alloc: Global, command: Building<'a>, forms: &'a [&'a str]) -> Building<'a>
+    ensures { (app : App) → Builds command.entry app → Builds result (with_look forms.entry app) }
+{
+    let command = with_form(alloc, command, forms);
+    with_flag(alloc, command, "reveal", help::REVEAL_OPTION)
+}
+
+// `show`, with all of these.
+fn show<'a>(alloc: Global, kinds: &'a [&'a str], forms: &'a [&'a str]) -> Building<'a>
+    ensures { Builds result (show_app kinds.entry forms.entry) }
+{
+    let show = command(alloc, "show", help::SHOW, help::SHOW_MORE);
+    let show = with_tuning(alloc, show, kinds);
+    with_look(alloc, show, forms)
 }
 
 // `ttx` alone, which is given the words after its name.
@@ -201,13 +244,26 @@ pub(crate) fn class_names<'a>() -> &'a [&'a str]
     &["any", "clearing"]
 }
 
-/// `ttx` with its commands, and the names that `--kind` and `--class` take.
-pub(crate) fn ttx<'a>(alloc: Global, kinds: &'a [&'a str], classes: &'a [&'a str]) -> Building<'a>
-    ensures { Builds result (ttx_app kinds.entry classes.entry) }
+/// The names that `--as` takes.
+pub(crate) fn form_names<'a>() -> &'a [&'a str]
+    ensures { Lists result rule.form_names }
+{
+    &["text", "ansi", "svg", "html"]
+}
+
+/// `ttx` with its commands, and the names that `--kind`, `--class` and `--as` take.
+pub(crate) fn ttx<'a>(
+    alloc: Global,
+    kinds: &'a [&'a str],
+    classes: &'a [&'a str],
+    forms: &'a [&'a str],
+) -> Building<'a>
+    ensures { Builds result (ttx_app kinds.entry classes.entry forms.entry) }
 {
     let ttx = with_command(bare(alloc), inspect(alloc));
     let ttx = with_command(ttx, plan(alloc, classes));
     let ttx = with_command(ttx, find(alloc, classes));
     let ttx = with_command(ttx, certify(alloc));
-    with_command(ttx, receive(alloc, kinds))
+    let ttx = with_command(ttx, receive(alloc, kinds));
+    with_command(ttx, show(alloc, kinds, forms))
 }

@@ -96,6 +96,29 @@ Statuses:
      refused: cycle 2 truncated REST, refused: cycle 3 empty, refused: cycle 4 too-long
   3  fault: file, fault: read, fault: write, fault: memory";
 
+pub(crate) const SHOW: &str =
+    "Receives a page of a cycle, and writes it to standard output as it is then displayed";
+
+pub(crate) const SHOW_MORE: &str =
+    "Reads CYCLE to its end. A receiver that is set to PAGE and has received nothing yet is given N slots, from slot
+S on and round the cycle. Then the page is written as FORM says:
+  text  25 lines of characters, and a line with the six links (MPP, MPP/SSSS, or - for none)
+  ansi  the same, with a terminal's codes for colours and flashing
+  svg   a picture of 40 by 25 cells
+  html  a page with the picture, its links, and its text
+In text and ansi contiguous mosaics are sextants, separated ones Braille patterns, and double height takes two lines.
+Concealed characters are spaces without --reveal. Where no header of the page came: no page PAGE
+
+A receiver may miss a packet up to L slots after its page's header, stop at a serial header of another magazine,
+and erase the page when it is set to it: eager does none of this, careful all, cleared surely erases.
+
+Statuses:
+  0  done
+  1  no header of the page came
+  2  error: .. (the words), refused: page,
+     refused: cycle 2 truncated REST, refused: cycle 3 empty, refused: cycle 4 too-long
+  3  fault: file, fault: read, fault: write, fault: memory";
+
 pub(crate) const CYCLE_OPERAND: &str =
     "Packet file: 1 to 65536 slots of 42 bytes; - is standard input";
 
@@ -128,3 +151,7 @@ pub(crate) const SLOTS_OPTION: &str =
 
 pub(crate) const KIND_OPTION: &str =
     "Receiver: how it takes the choices that it has, below [default: eager]";
+
+pub(crate) const FORM_OPTION: &str = "How the page is written, below [default: ansi]";
+
+pub(crate) const REVEAL_OPTION: &str = "Show concealed characters";

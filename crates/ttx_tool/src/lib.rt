@@ -14,6 +14,6 @@ mod texts;
 mod views;
 
 pub use faults::ToolFault;
-pub use orders::{Order, ReceiverKind, Tuning, WordsFault};
+pub use orders::{Look, Order, ReceiverKind, Tuning, WordsFault};
 pub use parsing::words;
 pub use ttx_certify::TextFile;

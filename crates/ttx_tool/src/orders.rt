@@ -2,6 +2,7 @@
 
 use thiserror::Error;
 use ttx_page::{Class, Selection};
+use ttx_picture::Form;
 
 /// How a receiver takes its choices, and whether it surely clears.
 #[derive(Clone, Copy, PartialEq, Eq, Debug)]
@@ -22,6 +23,16 @@ pub struct Tuning {
     /// How many slots are received, up to 1,000,000.
     pub slots: u32,
     pub kind: ReceiverKind,
+}
+
+/// How a page is shown.
+#[derive(Clone, Copy, Debug)]
+pub struct Look<'a> {
+    /// The name by which it is asked for.
+    pub page: &'a str,
+    pub form: Form,
+    /// Whether concealed characters are shown.
+    pub reveal: bool,
 }
 
 /// A command with its values.
@@ -55,6 +66,12 @@ pub enum Order<'a> {
     Receive {
         cycle: &'a str,
         tuning: Tuning,
+    },
+    /// Show a page as a receiver shows it.
+    Show {
+        cycle: &'a str,
+        tuning: Tuning,
+        look: Look<'a>,
     },
 }
 

@@ -5,15 +5,16 @@ ghost use Rattle.std.specs.Str.{bytes_eq};
 ghost use Rattle.clap.specs.Words.{rows_of, first_of, found_of, subcommand_rows_of, subcommand_of, fault_of};
 ghost use Rattle.ttx_tool.specs.Grammar.{ttx_app};
 ghost use Rattle.ttx_tool.specs.Orders as rule;
-ghost use Rattle.ttx_tool.specs.Orders.{OrderView, Unfit, order_view, text_at, kind_named, class_named, tuning_at, inspect_at, plan_at, find_at, certify_at, receive_at, once, order_at, IsOrderOf, AnswersBy, Answers, IsFaultOf, IsRefusalOf};
+ghost use Rattle.ttx_tool.specs.Orders.{OrderView, Unfit, order_view, look_view, text_at, kind_named, class_named, form_named, is_set, tuning_at, look_at, show_at, inspect_at, plan_at, find_at, certify_at, receive_at, once, order_at, IsOrderOf, AnswersBy, Answers, IsFaultOf, IsRefusalOf};
 
-use crate::grammar::{class_names, kind_names, ttx};
-use crate::orders::{Order, ReceiverKind, Tuning, WordsFault};
+use crate::grammar::{class_names, form_names, kind_names, ttx};
+use crate::orders::{Look, Order, ReceiverKind, Tuning, WordsFault};
 use crate::page_names::selection;
 use clap::ArgMatches;
 use clap::error::ErrorKind;
 use std::alloc::Global;
 use ttx_page::{Class, Selection};
+use ttx_picture::Form;
 
 // The text that an argument was given.
 fn given<'a>(values: &ArgMatches<'a>, id: &str) -> Option<&'a str>
@@ -83,6 +84,38 @@ fn class_of(values: &ArgMatches<'_>) -> Class
     }
 }
 
+fn form_of(values: &ArgMatches<'_>) -> Form
+    ensures { result ≡ form_named (text_at (codes "as") (rows_of (found_of values.now))) }
+{
+    let name = text_of(values, "as");
+    if name == "text" {
+        Form::Text
+    } else if name == "svg" {
+        Form::Svg
+    } else if name == "html" {
+        Form::Html
+    } else {
+        Form::Ansi
+    }
+}
+
+fn is_set(values: &ArgMatches<'_>, id: &str) -> bool
+    ensures { result ≡ is_set id.now (rows_of (found_of values.now)) }
+{
+    text_of(values, id) == "true"
+}
+
+// How a page is asked for.
+fn look_of<'a>(values: &ArgMatches<'a>) -> Look<'a>
+    ensures { look_view result ≡ look_at (rows_of (found_of values.now)) }
+{
+    Look {
+        page: text_of(values, "page"),
+        form: form_of(values),
+        reveal: is_set(values, "reveal"),
+    }
+}
+
 // What `receive` is told of a receiver that is set to this page.
 fn tuning_of(values: &ArgMatches<'_>, selection: Selection) -> Tuning
     ensures { result ≡ tuning_at selection (rows_of (found_of values.now)) }
@@ -104,6 +137,19 @@ fn receive_of<'a>(values: &ArgMatches<'a>) -> Result<Order<'a>, WordsFault>
         Some(selection) => Ok(Order::Receive {
             cycle: text_of(values, "cycle"),
             tuning: tuning_of(values, selection),
+        }),
+    }
+}
+
+fn show_of<'a>(values: &ArgMatches<'a>) -> Result<Order<'a>, WordsFault>
+    ensures { IsOrderOf result (show_at (rows_of (found_of values.now))) }
+{
+    match selection(text_of(values, "page")) {
+        None => Err(WordsFault::Page),
+        Some(selection) => Ok(Order::Show {
+            cycle: text_of(values, "cycle"),
+            tuning: tuning_of(values, selection),
+            look: look_of(values),
         }),
     }
 }
@@ -203,6 +249,8 @@ fn order_of<'a>(name: &str, values: &ArgMatches<'a>) -> Result<Order<'a>, WordsF
         certify_of(values)
     } else if name == "receive" {
         receive_of(values)
+    } else if name == "show" {
+        show_of(values)
     } else {
         Ok(inspect_of(values))
     }
@@ -227,18 +275,19 @@ fn fault(error: clap::Error) -> WordsFault
     }
 }
 
-// What `clap` makes of the words, with the names that `--kind` and `--class` take.
+// What `clap` makes of the words, with the names that `--kind`, `--class` and `--as` take.
 fn parsed<'a>(
     alloc: Global,
     kinds: &'a [&'a str],
     classes: &'a [&'a str],
+    forms: &'a [&'a str],
     words: &'a [&'a str],
 ) -> Result<ArgMatches<'a>, WordsFault>
-    ensures rows { IfOk result (λ m. subcommand_rows_of m ≡ subcommand_of (ttx_app kinds.entry classes.entry) (map (λ w. w.now) words.entry.now)) }
-    ensures no_fault { IfOk result (λ _. fault_of (ttx_app kinds.entry classes.entry) (map (λ w. w.now) words.entry.now) ≡ []) }
-    ensures refused { IfErr result (λ e. IsRefusalOf e (fault_of (ttx_app kinds.entry classes.entry) (map (λ w. w.now) words.entry.now))) }
+    ensures rows { IfOk result (λ m. subcommand_rows_of m ≡ subcommand_of (ttx_app kinds.entry classes.entry forms.entry) (map (λ w. w.now) words.entry.now)) }
+    ensures no_fault { IfOk result (λ _. fault_of (ttx_app kinds.entry classes.entry forms.entry) (map (λ w. w.now) words.entry.now) ≡ []) }
+    ensures refused { IfErr result (λ e. IsRefusalOf e (fault_of (ttx_app kinds.entry classes.entry forms.entry) (map (λ w. w.now) words.entry.now))) }
 {
-    let command = match ttx(alloc, kinds, classes) {
+    let command = match ttx(alloc, kinds, classes, forms) {
         Ok(command) => command,
         Err(_) => return Err(WordsFault::NoMemory),
     };
@@ -248,19 +297,20 @@ fn parsed<'a>(
     }
 }
 
-// What words ask for, with the names that `--kind` and `--class` take.
+// What words ask for, with the names that `--kind`, `--class` and `--as` take.
 fn asked<'a>(
     alloc: Global,
     kinds: &'a [&'a str],
     classes: &'a [&'a str],
+    forms: &'a [&'a str],
     words: &'a [&'a str],
 ) -> Result<Order<'a>, WordsFault>
-    ensures { AnswersBy (ttx_app kinds.entry classes.entry) (map (λ w. w.now) words.entry.now) result }
+    ensures { AnswersBy (ttx_app kinds.entry classes.entry forms.entry) (map (λ w. w.now) words.entry.now) result }
 {
     if words.is_empty() {
         return Ok(Order::Inspect { file: "-" });
     }
-    match parsed(alloc, kinds, classes, words) {
+    match parsed(alloc, kinds, classes, forms, words) {
         Ok(matches) => chosen(&matches),
         Err(fault) => Err(fault),
     }
@@ -270,5 +320,5 @@ fn asked<'a>(
 pub fn words<'a>(alloc: Global, words: &'a [&'a str]) -> Result<Order<'a>, WordsFault>
     ensures { Answers (map (λ w. w.now) words.entry.now) result }
 {
-    asked(alloc, kind_names(), class_names(), words)
+    asked(alloc, kind_names(), class_names(), form_names(), words)
 }

@@ -8,4 +8,5 @@ returns c =
     let planning = c.with_command-ttx-2.ensures _ _ inspecting c.plan.ensures in
     let finding = c.with_command-ttx-3.ensures _ _ planning c.find.ensures in
     let certifying = c.with_command-ttx-4.ensures _ _ finding c.certify.ensures in
-    c.with_command.ensures _ _ certifying c.receive.ensures
+    let receiving = c.with_command-ttx-5.ensures _ _ certifying c.receive.ensures in
+    c.with_command.ensures _ _ receiving c.show.ensures

@@ -8,7 +8,7 @@ pub returns-then-is_empty : goal.returns-then-is_empty
 returns-then-is_empty c = no_words _ _ (grind (arith, length-map))
 
 pub chosen-requires : goal.chosen-requires
-chosen-requires c = ap is_some c.in-Ok.ensures.rows ∙ has_command c.args.kinds c.args.classes _ c.in-Ok.ensures.no_fault
+chosen-requires c = ap is_some c.in-Ok.ensures.rows ∙ has_command c.args.kinds c.args.classes c.args.forms _ c.in-Ok.ensures.no_fault
 
 pub returns-in-Ok : goal.returns-in-Ok
 returns-in-Ok c =
