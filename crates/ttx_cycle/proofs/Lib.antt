@@ -1,2 +1,3 @@
 mod PutParts
 mod JudgedOnce
+mod GivenSlots

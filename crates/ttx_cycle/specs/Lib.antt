@@ -8,3 +8,4 @@ pub mod Writing
 pub mod Faulty
 pub mod Bounded
 pub mod ReadingLaws
+pub mod SlotLaws
