@@ -34,6 +34,17 @@ pub mod Telling
 pub mod Indexing
 pub mod Entering
 pub mod Adding
+mod Holding
+mod Placing
+mod Noted
+mod Nothing
+mod Growing
+mod Entered
+mod Stepping
+mod Returning
+mod FirstFacts
+mod LateHeaders
+mod Closing
 pub mod After
 pub mod Whole
 pub mod SentOnes

@@ -7,6 +7,11 @@ pub mod Coverage
 pub mod Reasons
 pub mod Sent
 pub mod Collected
+pub mod Sending
+pub mod Facts
+pub mod Following
+pub mod Moving
+pub mod Passing
 pub mod Laws
 pub mod CycleLaws
 pub mod JudgingLaws

@@ -16,8 +16,8 @@ use arrayvec::ArrayVec;
 use circular_buffer::HeapCircularBuffer;
 use std::alloc::Global;
 
-// Room for a run of so many transmissions, none taken yet.
-fn nothing_sent(alloc: Global, repeat: usize) -> Result<Recent, NoMemory>
+/// Room for a run of so many transmissions, none taken yet.
+pub fn nothing_sent(alloc: Global, repeat: usize) -> Result<Recent, NoMemory>
     requires some { 1 ≤ repeat }
     ensures { IfOk result (λ r. IsRecent (repeat - 1) [] r) }
 {

@@ -21,8 +21,8 @@ pub struct OtherSubpages {
     first: Vec<Option<u32>>,
 }
 
-// Slot j, where it is one and none was before.
-fn first_of(first: Option<u32>, is: bool, j: u32) -> Option<u32>
+/// Slot j, where it is one and none was before.
+pub fn first_of(first: Option<u32>, is: bool, j: u32) -> Option<u32>
     ensures { result ≡ first_of first is j }
 {
     match first {
@@ -31,8 +31,8 @@ fn first_of(first: Option<u32>, is: bool, j: u32) -> Option<u32>
     }
 }
 
-// Notes a slot, where it is a header.
-fn note_slot(first: &mut Vec<Option<u32>>, subcodes: &[Subcodes], slot: &[u8; 42], j: u32)
+/// Notes a slot, where it is a header.
+pub fn note_slot(first: &mut Vec<Option<u32>>, subcodes: &[Subcodes], slot: &[u8; 42], j: u32)
     requires slot { IsSlot slot.now }
     requires first { length first.old.items ≡ 2048 }
     requires subcodes { length subcodes.now ≡ 2048 }
@@ -48,8 +48,8 @@ fn note_slot(first: &mut Vec<Option<u32>>, subcodes: &[Subcodes], slot: &[u8; 42
     first[at] = first_of(first[at], is_other(subcodes[at], id.sub()), j);
 }
 
-// A table in which no header is told.
-fn none_told(alloc: Global) -> Result<Vec<Option<u32>>, NoMemory>
+/// A table in which no header is told.
+pub fn none_told(alloc: Global) -> Result<Vec<Option<u32>>, NoMemory>
     ensures { IfOk result (λ first. first.items ≡ replicate 2048 None) }
 {
     let mut first = Vec::new(alloc);

@@ -1,0 +1,35 @@
+use Rattle.std.proofs.Common.{◌-◌, [], length, map, refl, sym, ap, subst, arith}
+use Rattle.std.proofs.lemmas.List.{length-map}
+use Rattle.std.proofs.lemmas.Option.{slice_get_within}
+use Rattle.ttx_page.specs.Views.{page_of}
+use Rattle.ttx_page.specs.Streams.{repeated}
+use Rattle.ttx_witness.specs.Certificates.{certificate_of}
+use Rattle.ttx_witness.specs.Collected.{ids_of, seen_by, IsForeign}
+use Rattle.ttx_witness.specs.OtherSubpages.{place, IsStrayAt}
+use Rattle.ttx_witness.specs.Sent.{owner_scan, sent_scan}
+use Rattle.ttx_witness.proofs.Entering.{none_at}
+use Rattle.ttx_witness.proofs.Straying.{first_none}
+use Rattle.ttx_witness.proofs.Nothing.{nothing_noted}
+use Rattle.ttx_witness.proofs.passing.Pass.new.Goals as goal
+
+pub returns-clause-stands : goal.returns-clause-stands
+unfolding owner_scan sent_scan
+returns-clause-stands c =
+    let pages = c.args.pages.now in
+    record {
+      ready = record { index = c.in_ok-index.ensures; subcodes = c.in_ok-subcodes.ensures.subcodes };
+      few = omega arith;
+      count = refl;
+      owners = record {
+        each = λ i id at is. ap (seen_by i) (none_at (id.mag - 1));
+        apart = λ m i id lt at d. subst (IsForeign i) (sym (none_at m)) tt;
+      };
+      nothing = record {
+        followed = c.in_ok-followed.ensures;
+        facts = λ i p at.
+            let lt = slice_get_within (map page_of pages) i p at in
+            let l = length-map pages page_of in
+            nothing_noted (certificate_of c.args.certificate.now) p (repeated []) c.in_ok-facts.facts.items (length pages) i c.in_ok-facts.ensures (omega arith);
+        strays = λ mag number low high small. first_none (IsStrayAt c.in_ok-subcodes.subcodes.items (repeated []) mag number) c.in_ok-first.first.items c.in_ok-first.ensures (place mag number);
+      };
+    }
