@@ -20,6 +20,7 @@ ttx:
 test:
 	rt ci
 	sh tests/cli.sh $(BUILT)
+	python3 tests/large.py $(BUILT)
 	sh tests/memory.sh $(BUILT)
 
 demo: ttx

@@ -290,4 +290,5 @@ def main():
     (folder / "1213-subpages.toml").write_text("lines = 2\nserial = true\n" + "".join(pages[:1213]))
 
 
-main()
+if __name__ == "__main__":
+    main()

@@ -11,6 +11,7 @@ cp "$top/examples/broadcast.toml" "$top/tests/data/base.toml" .
 base=$top/tests/data/base.t42
 for _ in $(seq $((65536 * 42 / $(wc -c < "$base")))); do cat "$base"; done > long.t42
 "$program" find long.t42 base.toml long.cert > /dev/null || exit 1
+"$program" find long.t42 base.toml clearing.cert --class clearing > /dev/null || exit 1
 runs=0
 
 # What a command did in its room: status 127 is that of a program that can't even be loaded.
@@ -29,8 +30,9 @@ judge() {
     esac
 }
 
-for command in "inspect long.t42" "plan broadcast.toml out" "find long.t42 base.toml out" "certify long.t42 base.toml long.cert" \
-    "receive long.t42 100 --slots 20000" "show long.t42 100 --slots 20000"; do
+for command in "inspect long.t42" "plan broadcast.toml out" "plan broadcast.toml out --class clearing" \
+    "find long.t42 base.toml out" "find long.t42 base.toml out --class clearing" "certify long.t42 base.toml long.cert" \
+    "certify long.t42 base.toml clearing.cert" "receive long.t42 100 --slots 20000" "show long.t42 100 --slots 20000"; do
     finished=0
     refused=0
     rm -f out
