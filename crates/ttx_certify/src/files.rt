@@ -20,12 +20,12 @@ use ttx_witness::{Certificate, read_certificate};
 // The most bytes of a text.
 const MOST_BYTES: usize = 4_194_304;
 
-// What is read.
+/// What is read of a packet file, the text of a service and that of a certificate.
 #[derive(Drop)]
-struct Inputs {
-    cycle: Cycle,
-    service: Service,
-    certificate: Certificate,
+pub struct Inputs {
+    pub cycle: Cycle,
+    pub service: Service,
+    pub certificate: Certificate,
 }
 
 // The verdict on what is read, and its line.
@@ -57,7 +57,10 @@ pub fn read_definition<R: Read>(
 }
 
 /// Reads the text of a certificate, of at most 4,194,304 bytes. Its faults are `Certificate`, `Read`, `TooLong` and `NoMemory`.
-pub fn read_witness<R: Read>(alloc: Global, reader: &mut Counted<R>) -> Result<Certificate, FilesFault>
+pub fn read_witness<R: Read>(
+    alloc: Global,
+    reader: &mut Counted<R>,
+) -> Result<Certificate, FilesFault>
     ensures bytes { IfSome (R.remaining (inner_of reader.old)) (λ bytes. ReadsWitness bytes (seen_by fields_of result)) }
     ensures faults { CountsRead TextFile.Certificate result (faults_of reader.old) (faults_of reader.new) }
 {
@@ -102,8 +105,8 @@ pub fn write_line<W: Write>(writer: &mut Counted<W>, line: &[u8]) -> Result<(), 
     }
 }
 
-// Reads the three inputs, in this order.
-fn read_inputs<A: Read, B: Read, C: Read>(
+/// Reads a packet file, the text of a service and that of a certificate, in this order. Each text has at most 4,194,304 bytes.
+pub fn read_inputs<A: Read, B: Read, C: Read>(
     alloc: Global,
     cycle: &mut Counted<A>,
     service: &mut Counted<B>,

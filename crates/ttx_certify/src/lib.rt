@@ -16,8 +16,8 @@ mod verdict_lines;
 
 pub use certifying::certify;
 pub use faults::{FilesFault, TextFile};
-pub use files::{certify_files, read_definition, read_witness, write_line};
+pub use files::{Inputs, certify_files, read_definition, read_inputs, read_witness, write_line};
 pub use receiving::receive;
 pub use services::{certify_service, find_service};
 pub use verdict::Verdict;
-pub use verdict_lines::{push_reason, verdict_line};
+pub use verdict_lines::{push_reason, push_yes, verdict_line};

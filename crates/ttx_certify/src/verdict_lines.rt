@@ -78,7 +78,12 @@ fn push_class(text: &mut String, class: Class) -> Result<(), AllocError>
     }
 }
 
-fn push_yes(text: &mut String, certificate: &Certificate, pages: usize) -> Result<(), AllocError>
+/// Adds the words of a Yes on so many pages, without an end of line.
+pub fn push_yes(
+    text: &mut String,
+    certificate: &Certificate,
+    pages: usize,
+) -> Result<(), AllocError>
     ensures { OnOk result (string_bytes text.new ≡ string_bytes text.old ++ yes_text (fields_of certificate.now) pages) }
 {
     let lines = certificate.lines();

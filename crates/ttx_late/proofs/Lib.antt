@@ -1,0 +1,13 @@
+mod Choices
+mod Kept
+mod Steps
+mod Gathering
+mod Showing
+mod Sent
+mod Shown
+mod Accepted
+mod FollowersOfCycles
+mod GreatestGap
+mod NeverFollowed
+mod LateVerdicts
+mod LateFiles

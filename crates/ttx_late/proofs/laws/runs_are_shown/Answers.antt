@@ -1,0 +1,5 @@
+use Rattle.ttx_late.proofs.Shown as L
+use Rattle.ttx_late.proofs.laws.runs_are_shown.Goals as goal
+
+pub returns : goal.returns
+returns c = L.runs_are_shown c.runs_are_seen.ensures c.contents_decide.ensures c.kind_is_kept.ensures c.header_is_kept.ensures

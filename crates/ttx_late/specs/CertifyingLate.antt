@@ -1,0 +1,38 @@
+-- What is answered and written where a packet file, a service definition and a certificate are certified for receivers that show late.
+--
+--   CertifiesLate           the verdict on three inputs, and its line
+--   CertifiesFilesLate      what was written at each answer
+--   IsJudgedLate            the verdict on what is read, with its line
+use Rattle.std.specs.Prelude.{◌≡◌, ℕ, ◌<◌, List, length, take, Option, Result, Ok, Err}
+use Rattle.std.specs.Io.KnownBytes.{Appends, Keeps}
+use Rattle.ttx_source.specs.Services.{ServiceFields, pages_of}
+use Rattle.ttx_witness.specs.Entries.{CertificateFields, certificate_at}
+use Rattle.ttx_certify.specs.CertifyingFiles.{IsPacketFile, IsService, IsWitness, IsRefused}
+use Rattle.ttx_certify.specs.declared.faults.FilesFault.{FilesFault}
+use Rattle.ttx_certify.specs.declared.faults.FilesFault.TheVariants.{Write}
+use Rattle.ttx_late.specs.LateVerdicts.{IsLateVerdict, MeansLate}
+use Rattle.ttx_late.specs.LateVerdictLines.{late_verdict_line}
+use Rattle.ttx_late.specs.declared.verdict.LateVerdict.{LateVerdict}
+
+-- the verdict on a cycle, the pages of a service and a certificate, and its line
+pub record IsJudgedLate (slots : List (List ℕ)) (service : ServiceFields) (w : CertificateFields) (verdict : LateVerdict) (line : List ℕ) : Type 0 where
+  pub exact : IsLateVerdict slots (pages_of service) (certificate_at w) verdict
+  pub seen : MeansLate slots (pages_of service) (certificate_at w) verdict
+  pub line_is : line ≡ late_verdict_line w (length service.pages) verdict
+
+-- the three inputs are a packet file, a service and a certificate, and this is the verdict on them
+pub record CertifiesLate (a b c : List ℕ) (verdict : LateVerdict) (line : List ℕ) : Type 0 where
+  pub slots : List (List ℕ)
+  pub service : ServiceFields
+  pub w : CertificateFields
+  pub cycle_is : IsPacketFile a slots
+  pub service_is : IsService b service
+  pub certificate_is : IsWitness c w
+  pub judged : IsJudgedLate slots service w verdict line
+
+-- Ok: the line of the verdict went out. A write fault: its first `written` bytes. Else nothing, and why the inputs are refused.
+abbrev pub CertifiesFilesLate : List ℕ → List ℕ → List ℕ → Option (List ℕ) → Option (List ℕ) → Result LateVerdict FilesFault → Type 0
+CertifiesFilesLate a b c old new (Ok verdict) = (line : List ℕ) × CertifiesLate a b c verdict line × Appends old new line
+CertifiesFilesLate a b c old new (Err (Write written)) =
+    (line : List ℕ) × (verdict : LateVerdict) × CertifiesLate a b c verdict line × (written < length line) × Appends old new (take written line)
+CertifiesFilesLate a b c old new (Err fault) = IsRefused a b c fault × Keeps old new

@@ -1,0 +1,55 @@
+//! Certifying for receivers that show pages late.
+
+ghost use Rattle.std.specs.Prelude.{map, IfOk};
+ghost use Rattle.ttx_cycle.specs.Cycles.{slots_of};
+ghost use Rattle.ttx_page.specs.Views.{page_of};
+ghost use Rattle.ttx_witness.specs.Certificates.{certificate_of};
+ghost use Rattle.ttx_source.specs.Services.{pages_of};
+ghost use Rattle.ttx_late.specs.LateVerdicts.{IsFollowedVerdict, IsLateVerdict, MeansLate};
+
+use crate::followers::{first_unshown, greatest_gap};
+use crate::verdict::LateVerdict;
+use std::alloc::Global;
+use ttx_certify::{Verdict, certify_service};
+use ttx_cycle::Cycle;
+use ttx_page::Page;
+use ttx_source::Service;
+use ttx_witness::{Certificate, NoMemory};
+
+// The verdict on a cycle that is accepted.
+fn followed_verdict(cycle: &Cycle, pages: &[Page]) -> LateVerdict
+    ensures { IsFollowedVerdict (slots_of cycle.now) (map page_of pages.now) result }
+{
+    match first_unshown(cycle, pages) {
+        Some(unshown) => LateVerdict::NeverShown {
+            page: pages[unshown.page].id(),
+            slot: unshown.slot,
+        },
+        None => LateVerdict::Yes {
+            gap: greatest_gap(cycle, pages),
+        },
+    }
+}
+
+/// The verdict of `certify` on the pages of a service; and where it is Yes, whether each page is followed by another page number, with
+/// the greatest gap, or else the first header that isn't. Where this says Yes, each page is seen on two kinds of receivers, by whoever
+/// tunes to it, at whatever slot and with whatever memory, under each reception within the error rule, the header clock aside: by every
+/// permitted receiver from the deadline on, and by every one that gathers pages so and shows them late from `gap` slots later on.
+pub fn certify_late(
+    alloc: Global,
+    cycle: &Cycle,
+    service: &Service,
+    certificate: &Certificate,
+) -> Result<LateVerdict, NoMemory>
+    ensures exact { IfOk result (IsLateVerdict (slots_of cycle.now) (pages_of service.now) (certificate_of certificate.now)) }
+    ensures seen { IfOk result (MeansLate (slots_of cycle.now) (pages_of service.now) (certificate_of certificate.now)) }
+{
+    crate::laws::accepted_is_shown();
+    ttx_page::laws::pages_keep_their_rules();
+    ttx_witness::certificate_laws::certificates_keep_their_rules();
+    let pages = service.pages();
+    match certify_service(alloc, cycle, service, certificate)? {
+        Verdict::Yes => Ok(followed_verdict(cycle, pages)),
+        Verdict::No(reason) => Ok(LateVerdict::No(reason)),
+    }
+}

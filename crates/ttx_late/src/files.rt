@@ -1,0 +1,85 @@
+//! Certifying files for receivers that show pages late: a packet file, a service definition and a certificate.
+
+ghost use Rattle.std.specs.Prelude.{◌≡◌, IfSome, IfOk, IfErr, string_bytes};
+ghost use Rattle.ttx_cycle.specs.Counters.{inner_of, faults_of};
+ghost use Rattle.ttx_cycle.specs.Cycles.{slots_of};
+ghost use Rattle.ttx_witness.specs.Certificates.{fields_of};
+ghost use Rattle.ttx_certify.specs.CertifyingFiles.{CountsFiles};
+ghost use Rattle.ttx_late.specs.CertifyingLate.{IsJudgedLate, CertifiesFilesLate};
+ghost use Rattle.ttx_late.specs.LateVerdictLines.{late_verdict_line};
+
+use crate::certifying::certify_late;
+use crate::verdict::LateVerdict;
+use crate::verdict_lines::late_verdict_line;
+use std::alloc::Global;
+use std::io::{Read, Write};
+use ttx_certify::{FilesFault, Inputs, read_inputs, write_line};
+use ttx_cycle::Counted;
+use ttx_witness::Certificate;
+
+// The verdict on what is read, and its line.
+#[derive(Drop)]
+struct Told {
+    verdict: LateVerdict,
+    line: String,
+}
+
+fn line_of(
+    alloc: Global,
+    certificate: &Certificate,
+    pages: usize,
+    verdict: &LateVerdict,
+) -> Result<String, FilesFault>
+    ensures line { IfOk result (λ line. string_bytes line ≡ late_verdict_line (fields_of certificate.now) pages verdict.now) }
+    ensures memory { IfErr result (λ fault. fault ≡ FilesFault.NoMemory) }
+{
+    match late_verdict_line(alloc, certificate, pages, *verdict) {
+        Ok(line) => Ok(line),
+        Err(_) => Err(FilesFault::NoMemory),
+    }
+}
+
+// The verdict on what was read, and its line.
+fn judge(alloc: Global, inputs: &Inputs) -> Result<Told, FilesFault>
+    ensures judged { IfOk result (λ told. IsJudgedLate (slots_of inputs.now.cycle) inputs.now.service (fields_of inputs.now.certificate) told.verdict (string_bytes told.line)) }
+    ensures memory { IfErr result (λ fault. fault ≡ FilesFault.NoMemory) }
+{
+    let (service, certificate) = (&inputs.service, &inputs.certificate);
+    let Ok(verdict) = certify_late(alloc, &inputs.cycle, service, certificate) else {
+        return Err(FilesFault::NoMemory);
+    };
+    match line_of(alloc, certificate, service.pages().len(), &verdict) {
+        Ok(line) => Ok(Told { verdict, line }),
+        Err(_) => Err(FilesFault::NoMemory),
+    }
+}
+
+/// Reads a packet file, the text of a service and that of a certificate, in this order, certifies the pages of the service for receivers
+/// that show pages late too, and writes the line of the verdict. Where the verdict is Yes each page is seen on both kinds of receivers,
+/// as `certify_late` says.
+///
+/// Nothing is written before all is judged. At `Write` exactly the first `written` bytes of the line went out.
+pub fn certify_files_late<A: Read, B: Read, C: Read, W: Write>(
+    alloc: Global,
+    cycle: &mut Counted<A>,
+    service: &mut Counted<B>,
+    certificate: &mut Counted<C>,
+    writer: &mut Counted<W>,
+) -> Result<LateVerdict, FilesFault>
+    ensures bytes { IfSome (A.remaining (inner_of cycle.old)) (λ a. IfSome (B.remaining (inner_of service.old)) (λ b. IfSome (C.remaining (inner_of certificate.old))
+        (λ c. CertifiesFilesLate a b c (W.contents (inner_of writer.old)) (W.contents (inner_of writer.new)) result))) }
+    ensures faults { CountsFiles result (faults_of cycle.old) (faults_of cycle.new) (faults_of service.old) (faults_of service.new) (faults_of certificate.old) (faults_of certificate.new) (faults_of writer.old) (faults_of writer.new) }
+{
+    let inputs = match read_inputs(alloc, cycle, service, certificate) {
+        Ok(inputs) => inputs,
+        Err(fault) => return Err(fault),
+    };
+    let told = match judge(alloc, &inputs) {
+        Ok(told) => told,
+        Err(_) => return Err(FilesFault::NoMemory),
+    };
+    match write_line(writer, told.line.as_bytes()) {
+        Ok(()) => Ok(told.verdict),
+        Err(fault) => Err(fault),
+    }
+}

@@ -1,0 +1,193 @@
+//! Deciding whether the pages of a cycle are followed by other page numbers, and how soon.
+
+ghost use Rattle.std.specs.Prelude.{◌≡◌, ◌↔◌, ◌<◌, ◌≤◌, ℕ, pos, IsTrue, All, MatchOption, Some, length, map, slice_get, slice_index_or, [], true};
+ghost use Rattle.ttx_packet.specs.Slots.{IsSlot};
+ghost use Rattle.ttx_page.specs.Packets.{packet_of};
+ghost use Rattle.ttx_page.specs.Streams.{repeated, heads, heads_page};
+ghost use Rattle.ttx_page.specs.Views.{page_of};
+ghost use Rattle.ttx_page.specs.Pages as definitions;
+ghost use Rattle.ttx_cycle.specs.Cycles.{slots_of};
+ghost use Rattle.ttx_page.specs.Followers.{heads_another, IsFollowed, IsFollowedByAnother};
+ghost use Rattle.ttx_late.specs.Followed.{HoldsId, HoldsNoId, AllAreFollowed, IsFollowedIn, IsGap, IsGreatestGap, IsWidened, TellsUnfollowed, IsFirstUnshown};
+
+use crate::Unshown;
+use ttx_cycle::Cycle;
+use ttx_header::{PageId, read_header};
+use ttx_page::Page;
+
+// The id that a page header names.
+fn id_in(slot: &[u8; 42]) -> Option<PageId>
+    requires { IsSlot slot.now }
+    ensures { MatchOption result (HoldsNoId (packet_of slot.now)) (λ id. HoldsId id (packet_of slot.now)) }
+{
+    ttx_header::laws::headers_have_fields();
+    ttx_header::laws::headers_are_headers();
+    match read_header(slot) {
+        Some(header) => Some(header.id()),
+        None => None,
+    }
+}
+
+// Whether the slot is a header of the magazine.
+fn heads(mag: u8, slot: &[u8; 42]) -> bool
+    requires { IsSlot slot.now }
+    ensures { result ≡ heads mag (packet_of slot.now) }
+{
+    match id_in(slot) {
+        Some(id) => id.mag() == mag,
+        None => false,
+    }
+}
+
+// Whether the slot is a header of the page's magazine with another page number.
+fn heads_another(page: PageId, slot: &[u8; 42]) -> bool
+    requires { IsSlot slot.now }
+    ensures { result ≡ heads_another page (packet_of slot.now) }
+{
+    match id_in(slot) {
+        Some(id) => id.mag() == page.mag() && id.page() != page.page(),
+        None => false,
+    }
+}
+
+// How many slots after the page's header at a slot the next one of its magazine stands, if this has another page number. The slots that are
+// read for one header of a magazine aren't read for the next one.
+fn follower(slots: &[[u8; 42]], at: usize, page: PageId) -> Option<usize>
+    requires at { at < length slots.now }
+    requires most { length slots.now ≤ 65536 }
+    requires slots { All IsSlot slots.now }
+    requires here { heads_page page (packet_of (slice_index_or slots.now at [])) ≡ true }
+    ensures { MatchOption result (IsFollowed (repeated slots.now) page (pos at) → ⊥) (λ distance. IsFollowedIn (repeated slots.now) page at distance) }
+{
+    for step in 0..slots.len() {
+        let slot = &slots[(at + 1 + step) % slots.len()];
+        if heads(page.mag(), slot) {
+            if heads_another(page, slot) {
+                return Some(step + 1);
+            }
+            return None;
+        }
+    }
+    None
+}
+
+// The page whose header stands at the slot, if it isn't followed by another page number.
+fn unfollowed_at(slots: &[[u8; 42]], at: usize) -> Option<PageId>
+    requires at { at < length slots.now }
+    requires most { length slots.now ≤ 65536 }
+    requires slots { All IsSlot slots.now }
+    ensures { TellsUnfollowed (repeated slots.now) at result }
+{
+    match id_in(&slots[at]) {
+        Some(page) => match follower(slots, at, page) {
+            Some(_) => None,
+            None => Some(page),
+        },
+        None => None,
+    }
+}
+
+// Whether the slot is a header of the page.
+fn heads_page(page: PageId, slot: &[u8; 42]) -> bool
+    requires { IsSlot slot.now }
+    ensures { result ≡ heads_page page (packet_of slot.now) }
+{
+    match id_in(slot) {
+        Some(id) => page == id,
+        None => false,
+    }
+}
+
+/// The most slots from a header of the page to the next header of its magazine; `None` where one of these has the page's own number.
+/// Receivers that show a page late show it so many slots after the deadline.
+pub fn gap_after(cycle: &Cycle, page: PageId) -> Option<usize>
+    ensures { MatchOption result (IsFollowedByAnother (repeated (slots_of cycle.now)) page → ⊥) (IsGap (repeated (slots_of cycle.now)) page) }
+{
+    ttx_page::laws::each_slot_turns();
+    ttx_page::laws::streams_move();
+    let slots = cycle.slots();
+    let mut gap = 0;
+    for at in 0..slots.len() {
+        if heads_page(page, &slots[at]) {
+            match follower(slots, at, page) {
+                Some(distance) => {
+                    if distance > gap {
+                        gap = distance;
+                    }
+                }
+                None => return None,
+            }
+        }
+    }
+    Some(gap)
+}
+
+// The place of the first page with this id.
+fn place_of(pages: &[Page], id: PageId) -> Option<usize>
+    ensures { MatchOption result ((n : ℕ) (p : definitions.Page) → slice_get (map page_of pages.now) n ≡ Some p → p.id ≡ id → ⊥)
+        (λ n. (p : definitions.Page) × (slice_get (map page_of pages.now) n ≡ Some p) × (p.id ≡ id)) }
+{
+    for index in 0..pages.len() {
+        if pages[index].id() == id {
+            return Some(index);
+        }
+    }
+    None
+}
+
+/// The first slot at which a header of one of the pages isn't followed by another page number; `None` where all of them always are. It
+/// reads each slot at most ten times, and looks a page up only for a header that isn't followed.
+pub fn first_unshown(cycle: &Cycle, pages: &[Page]) -> Option<Unshown>
+    ensures { MatchOption result (AllAreFollowed (slots_of cycle.now) (map page_of pages.now)) (IsFirstUnshown (slots_of cycle.now) (map page_of pages.now)) }
+{
+    ttx_page::laws::each_slot_turns();
+    ttx_page::laws::streams_move();
+    let slots = cycle.slots();
+    for at in 0..slots.len() {
+        if let Some(id) = unfollowed_at(slots, at) {
+            if let Some(page) = place_of(pages, id) {
+                return Some(Unshown { page, slot: at });
+            }
+        }
+    }
+    None
+}
+
+// The gap, or the slots from the header at the slot to the one that follows it, where these are more and the header is of a listed page.
+fn widened(slots: &[[u8; 42]], pages: &[Page], at: usize, gap: usize) -> usize
+    requires at { at < length slots.now }
+    requires most { length slots.now ≤ 65536 }
+    requires slots { All IsSlot slots.now }
+    ensures { IsWidened (repeated slots.now) (map page_of pages.now) at gap result }
+{
+    match id_in(&slots[at]) {
+        Some(id) => match follower(slots, at, id) {
+            Some(distance) => {
+                if distance <= gap {
+                    return gap;
+                }
+                match place_of(pages, id) {
+                    Some(_) => distance,
+                    None => gap,
+                }
+            }
+            None => gap,
+        },
+        None => gap,
+    }
+}
+
+/// The most slots from a header of one of the pages to the next header of its magazine, where each of them has another page number.
+pub fn greatest_gap(cycle: &Cycle, pages: &[Page]) -> usize
+    requires { AllAreFollowed (slots_of cycle.now) (map page_of pages.now) }
+    ensures { IsGreatestGap (slots_of cycle.now) (map page_of pages.now) result }
+{
+    ttx_page::laws::each_slot_turns();
+    ttx_page::laws::streams_move();
+    let slots = cycle.slots();
+    let mut gap = 0;
+    for at in 0..slots.len() {
+        gap = widened(slots, pages, at, gap);
+    }
+    gap
+}

@@ -1,0 +1,44 @@
+//! The laws of receivers that show a page late. A call costs nothing and gives the caller's proof the law.
+
+ghost use Rattle.ttx_late.specs.Laws.{RunsAreShown, FollowedIsWithin, AcceptedIsShown, NeverFollowedIsUnshown, EachListRunsLate};
+
+/// In any stream: where each needed item comes between two slots, the page is shown soon after the second.
+pub fn runs_are_shown()
+    ensures { RunsAreShown }
+{
+    ttx_certify::laws::runs_are_seen();
+    ttx_render::laws::contents_decide();
+    ttx_packet::laws::kind_is_kept();
+    ttx_header::laws::header_is_kept();
+}
+
+/// In a cycle's stream the next header of the magazine comes within the cycle's length.
+pub fn followed_is_within()
+    ensures { FollowedIsWithin }
+{
+    ttx_page::laws::cycles_repeat();
+}
+
+/// Each page of an accepted cycle that is followed by another page number is shown by the deadline and the slots up to the next header.
+pub fn accepted_is_shown()
+    ensures { AcceptedIsShown }
+{
+    runs_are_shown();
+    ttx_page::laws::each_slot_turns();
+    ttx_page::laws::streams_move();
+    ttx_page::laws::runs_are_unique();
+    ttx_page::laws::steady_sends_its_own();
+}
+
+/// A page that is never followed by another page number is never shown by some receiver.
+pub fn never_followed_is_unshown()
+    ensures { NeverFollowedIsUnshown }
+{
+    ttx_packet::laws::kind_is_kept();
+    ttx_header::laws::header_is_kept();
+}
+
+/// Each receiver that shows a page late makes something of each list of slots.
+pub fn each_list_runs_late()
+    ensures { EachListRunsLate }
+{}

@@ -1,0 +1,18 @@
+//! Receivers that show a page late, as most software decoders do: what a cycle has to send so that they show it, and the certifier's
+//! answer for them.
+#![tactic(auto)]
+
+mod certifying;
+mod files;
+mod followers;
+pub mod laws;
+mod unshown;
+mod verdict;
+mod verdict_lines;
+
+pub use certifying::certify_late;
+pub use files::certify_files_late;
+pub use followers::{first_unshown, gap_after, greatest_gap};
+pub use unshown::Unshown;
+pub use verdict::LateVerdict;
+pub use verdict_lines::late_verdict_line;
