@@ -3,6 +3,7 @@ use Rattle.std.proofs.Common.{◌≡◌, ℕ, ◌==◌, ◌&&◌, Bool, true, fa
 use Rattle.std.specs.Prelude.{unwrap_or}
 use Rattle.ttx_code.specs.Words.{reading}
 use Rattle.ttx_packet.specs.Slots.{Kind, IsEmpty, IsUnreadable, IsHeader, IsRow, IsLinks, IsInfo, IsOther, is_empty, are_readable, magazine, packet_number, links_kind, packet_kind, addressed_kind, kind_of, read_number}
+use Rattle.ttx_header.proofs.Slices.{some_of}
 
 if_ind : {A : Type 0} (P : A → Type 0) (b : Bool) (x y : A) → (b ≡ true → P x) → (b ≡ false → P y) → P (if b then x else y)
 if_ind P true x y f g = f refl
@@ -65,10 +66,6 @@ header_case s mag =
     (λ some. by_address s mag some (reading (slice_index s 0)) (reading (slice_index s 1)) refl refl)
 
 -- ---- the kind of a packet 0
-
-pub some_of : (o : Option ℕ) → is_some o ≡ true → o ≡ Some (unwrap_or o 0)
-some_of None e = cc
-some_of (Some n) e = refl
 
 pub kind_of_header : (s : List ℕ) → is_empty s ≡ false → is_some (reading (slice_index s 0)) ≡ true → is_some (reading (slice_index s 1)) ≡ true → (read_number s == 0) ≡ true →
     are_readable (slice_range s 2 10) ≡ true → kind_of s ≡ IsHeader (magazine (unwrap_or (reading (slice_index s 0)) 0))

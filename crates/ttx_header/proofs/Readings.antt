@@ -9,10 +9,10 @@ use Rattle.ttx_packet.specs.Slots.{IsHeader, is_empty, is_clean, are_readable, a
 use Rattle.ttx_packet.specs.Laws.{AddressIsReadBack, IsReadBack}
 use Rattle.ttx_header.specs.Ids.{id_at}
 use Rattle.ttx_header.specs.Fields.{HeaderFields, IsHeaderFields}
-use Rattle.ttx_header.specs.Headers.{ReadsFrom, number, numbers_of, header_bytes, id_of, control_of, is_header}
-use Rattle.ttx_header.specs.Laws.{HeaderIsKept, HeadersHaveFields, HeadersAreHeaders, SaidHeadersAreRead, WrittenHeadersAreRead, WordsAreKept, AreNumbers, WrittenWordsAreRead}
-use Rattle.ttx_header.proofs.Slices.{passes_at, passes_in, read_bytes_are_readable}
-use Rattle.ttx_header.proofs.PacketZero.{HeaderCase, header_case, kind_of_header, some_of}
+use Rattle.ttx_header.specs.Headers.{ReadsFrom, number, numbers_of, header_bytes, id_of, control_of, fields_of, is_header}
+use Rattle.ttx_header.specs.Laws.{HeaderIsKept, HeadersHaveFields, HeadersAreHeaders, SaidHeadersAreRead, ReadHeadersAreSaid, WrittenHeadersAreRead, WordsAreKept, ReadableBytesHaveNumbers, AreNumbers, WrittenWordsAreRead}
+use Rattle.ttx_header.proofs.Slices.{length_range, some_of, passes_at, passes_in, read_bytes_are_readable}
+use Rattle.ttx_header.proofs.PacketZero.{HeaderCase, header_case, kind_of_header}
 
 -- ---- a received header
 
@@ -179,6 +179,62 @@ pub said_headers_are_read : SaidHeadersAreRead
 said_headers_are_read h s is slot says =
     let fields = said h s is (omega (arith, slot.size)) says.numbers in
     (fields.header, λ i. record { id = fields.id i; control = fields.control i; text = says.text i; clock = says.clock i })
+
+-- ---- a header that is read
+
+magazine_again : (low : ℕ) → low < 8 → magazine low % 8 ≡ low
+magazine_again low l =
+    elim (cases_Bool (low % 8 == 0)) as (λ t. magazine low % 8 ≡ low) [
+      | inl z ↦ let zero : low % 8 ≡ 0 = eqb-true _ 0 z in rw z (omega (arith, zero, l))
+      | inr z ↦ rw z (omega (arith, l))
+    ]
+
+module _ (numbers : ReadableBytesHaveNumbers) (kinds : HeadersAreHeaders) (ranges : HeadersHaveFields) where
+  pub read_headers_are_said : ReadHeadersAreSaid
+  read_headers_are_said s is header =
+      let parts = and_parts (are_readable (slice_range s 0 10)) (read_number s == 0) header in
+      let number_zero : read_number s ≡ 0 = eqb-true (read_number s) 0 parts.1 in
+      let range = ranges s (id_of s).mag is (kinds s is header) in
+      let at = λ (k : ℕ) (l : k < 10). numbers s 0 10 is (omega arith) parts.0 k (omega arith) l in
+      let (r0, l0) = at 0 (omega arith) in
+      let (r1, l1) = at 1 (omega arith) in
+      let (r2, l2) = at 2 (omega arith) in
+      let (r3, l3) = at 3 (omega arith) in
+      let (r4, l4) = at 4 (omega arith) in
+      let (r5, l5) = at 5 (omega arith) in
+      let (r6, l6) = at 6 (omega arith) in
+      let (r7, l7) = at 7 (omega arith) in
+      let (r8, l8) = at 8 (omega arith) in
+      let (r9, l9) = at 9 (omega arith) in
+      let h = fields_of s in
+      let e0 : number s 0 ≡ h.id.mag % 8 = sym (magazine_again (number s 0) (omega (arith, number_zero))) in
+      let e1 : number s 1 ≡ 0 = omega (arith, number_zero) in
+      let e2 : number s 2 ≡ h.id.page % 16 = omega (arith, l2) in
+      let e3 : number s 3 ≡ h.id.page / 16 = omega (arith, l2) in
+      let e4 : number s 4 ≡ h.id.sub % 16 = omega (arith, l4) in
+      let e5 : number s 5 ≡ h.id.sub / 16 % 8 + 8 * (h.control % 2) = omega (arith, l4, l5) in
+      let e6 : number s 6 ≡ h.id.sub / 256 % 16 = omega (arith, l4, l6) in
+      let e7 : number s 7 ≡ h.id.sub / 4096 + 4 * (h.control / 2 % 4) = omega (arith, l4, l5, l6, l7) in
+      let e8 : number s 8 ≡ h.control / 8 % 16 = omega (arith, l5, l7, l8) in
+      let e9 : number s 9 ≡ h.control / 128 = omega (arith, l5, l7, l8) in
+      let reads : ReadsFrom 0 s (numbers_of h) = (
+        r0 ∙ ap Some e0,
+        (
+          r1 ∙ ap Some e1,
+          (
+            r2 ∙ ap Some e2,
+            (r3 ∙ ap Some e3, (r4 ∙ ap Some e4, (r5 ∙ ap Some e5, (r6 ∙ ap Some e6, (r7 ∙ ap Some e7, (r8 ∙ ap Some e8, (r9 ∙ ap Some e9, tt))))))),
+          ),
+        ),
+      ) in (
+        record {
+          id = range.id;
+          control = range.control;
+          text = length_range s 10 34 (omega (arith, is.size)) (omega arith);
+          clock = length_range s 34 42 (omega (arith, is.size)) (omega arith);
+        },
+        record { numbers = reads; text = refl; clock = refl },
+      )
 
 -- ---- a header that is written
 

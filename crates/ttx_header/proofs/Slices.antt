@@ -1,15 +1,15 @@
 -- Parts of a packet, byte by byte.
-use Rattle.std.proofs.Common.{◌≡◌, ℕ, zero, suc, ◌+◌, ◌-◌, ◌<◌, ◌≤◌, Bool, true, false, ◌&&◌, List, [], ◌∷◌, ◌++◌, Some, is_some, length, get_or, drop, map, refl, ap, subst, ◌∙◌, arith, slice_index, slice_range}
+use Rattle.std.proofs.Common.{◌≡◌, ℕ, zero, suc, ◌+◌, ◌-◌, ◌<◌, ◌≤◌, Bool, true, false, ◌&&◌, List, [], ◌∷◌, ◌++◌, Option, Some, None, is_some, length, get_or, drop, map, refl, ap, subst, ◌∙◌, arith, slice_index, slice_range}
 use Rattle.std.specs.List.{list_all}
 use Rattle.std.specs.Prelude.{unwrap_or}
 use Rattle.std.proofs.lemmas.Bool.{and_parts}
 use Rattle.std.proofs.lemmas.List.{get_or-take, get_or-drop, length-take-le, length-drop}
 use Rattle.std.proofs.lemmas.List.Sums.{list_all-from_AllPass}
 use Rattle.ttx_code.specs.Words.{reading, hamming_word, is_word}
-use Rattle.ttx_code.specs.Laws.{WordsAreReadUnderOneWrongBit, WordsAreRead, WordsAreWords}
+use Rattle.ttx_code.specs.Laws.{ReadingsAreNumbers, WordsAreReadUnderOneWrongBit, WordsAreRead, WordsAreWords}
 use Rattle.ttx_packet.specs.Slots.{are_words}
 use Rattle.ttx_header.specs.Headers.{ReadsFrom}
-use Rattle.ttx_header.specs.Laws.{WordsAreKept, AreNumbers, ReadBytesAreReadable, ReadNumbersAreNumbers, WrittenWordsAreRead}
+use Rattle.ttx_header.specs.Laws.{WordsAreKept, AreNumbers, ReadBytesAreReadable, ReadableBytesHaveNumbers, ReadNumbersAreNumbers, WrittenWordsAreRead}
 
 pub at_range : (s : List ℕ) (a b k : ℕ) (d : ℕ) → k < b - a → get_or (slice_range s a b) k d ≡ get_or s (a + k) d
 at_range s a b k d l = get_or-take (b - a) (drop a s) k d l ∙ get_or-drop a s k d
@@ -59,6 +59,18 @@ read_bytes_are_readable s k ns l r =
 
 pub read_numbers_are_numbers : ReadNumbersAreNumbers
 read_numbers_are_numbers s k ns r i l = ap (λ o. unwrap_or o 0) (reads_at s k ns r i l)
+
+-- ---- readable bytes
+
+pub some_of : (o : Option ℕ) → is_some o ≡ true → o ≡ Some (unwrap_or o 0)
+some_of None e = cc
+some_of (Some n) e = refl
+
+module _ (small : ReadingsAreNumbers) where
+  pub readable_bytes_have_numbers : ReadableBytesHaveNumbers
+  readable_bytes_have_numbers s from to is l readable x low high =
+      let read = some_of (reading (slice_index s x)) (passes_in (λ b. is_some (reading b)) s from to x (omega (arith, is.size)) readable low high) in
+      (read, small (slice_index s x) _ (is.bytes x) read)
 
 -- ---- written words
 

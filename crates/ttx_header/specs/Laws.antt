@@ -5,10 +5,11 @@
 --   HasFields, HeadersHaveFields            what a slot of the kind header says is in range
 --   HeadersAreHeaders       a readable packet 0 has the kind header
 --   SaidHeadersAreRead      the header that 42 bytes say is the one that is read
+--   ReadHeadersAreSaid      the header that is read is one that the 42 bytes say
 --   IsWritten, WrittenHeadersAreRead        what is written is read again as the same header
 --   AreNumbers              numbers of four bits
---   WordsAreKept, ReadBytesAreReadable, ReadNumbersAreNumbers, WrittenWordsAreRead          the same for any part of a packet
-use Rattle.std.specs.Prelude.{◌≡◌, ℕ, ◌+◌, ◌<◌, ◌≤◌, List, [], ◌∷◌, ◌++◌, true, length, map, slice_index, slice_range}
+--   WordsAreKept, ReadBytesAreReadable, ReadableBytesHaveNumbers, ReadNumbersAreNumbers, WrittenWordsAreRead    the same for any part of a packet
+use Rattle.std.specs.Prelude.{◌≡◌, ℕ, ◌+◌, ◌<◌, ◌≤◌, List, [], ◌∷◌, ◌++◌, Some, true, length, map, slice_index, slice_range}
 use Rattle.ttx_code.specs.Words.{reading, hamming_word, Near}
 use Rattle.ttx_packet.specs.Slots.{IsSlot, IsHeader, kind_of, is_clean, are_readable, are_words}
 use Rattle.ttx_header.specs.Control.{IsControl}
@@ -41,6 +42,10 @@ HeadersAreHeaders = (s : List ℕ) → IsSlot s → is_header s ≡ true → kin
 abbrev pub SaidHeadersAreRead : Type 0
 SaidHeadersAreRead = (h : HeaderFields) (s : List ℕ) → IsHeaderFields h → IsSlot s → Says h s → (is_header s ≡ true) × (fields_of s ≡ h)
 
+-- a readable packet 0 says the header that is read of it, and its fields are in range
+abbrev pub ReadHeadersAreSaid : Type 0
+ReadHeadersAreSaid = (s : List ℕ) → IsSlot s → is_header s ≡ true → IsHeaderFields (fields_of s) × Says (fields_of s) s
+
 -- what is written of a header is clean, has the kind header, says the header and is read as the same header
 pub record IsWritten (h : HeaderFields) : Type 0 where
   pub kind : kind_of (header_bytes h) ≡ IsHeader h.id.mag
@@ -68,6 +73,12 @@ AreNumbers (n ∷ ns) = (n < 16) × AreNumbers ns
 abbrev pub ReadBytesAreReadable : Type 0
 ReadBytesAreReadable =
     (s : List ℕ) (k : ℕ) (ns : List ℕ) → k + length ns ≤ length s → ReadsFrom k s ns → are_readable (slice_range s k (k + length ns)) ≡ true
+
+-- readable bytes read as numbers of four bits
+abbrev pub ReadableBytesHaveNumbers : Type 0
+ReadableBytesHaveNumbers =
+    (s : List ℕ) (from to : ℕ) → IsSlot s → to ≤ 42 → are_readable (slice_range s from to) ≡ true →
+    (x : ℕ) → from ≤ x → x < to → (reading (slice_index s x) ≡ Some (number s x)) × (number s x < 16)
 
 -- bytes that read as numbers have these numbers
 abbrev pub ReadNumbersAreNumbers : Type 0

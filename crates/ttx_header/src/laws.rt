@@ -1,6 +1,6 @@
 //! Laws of page headers and of Hamming bytes in packets. A call costs nothing and gives the caller's proof the law.
 
-ghost use Rattle.ttx_header.specs.Laws.{HeaderIsKept, HeadersHaveFields, HeadersAreHeaders, SaidHeadersAreRead, WrittenHeadersAreRead, WordsAreKept, ReadBytesAreReadable, ReadNumbersAreNumbers, WrittenWordsAreRead};
+ghost use Rattle.ttx_header.specs.Laws.{HeaderIsKept, HeadersHaveFields, HeadersAreHeaders, SaidHeadersAreRead, ReadHeadersAreSaid, WrittenHeadersAreRead, WordsAreKept, ReadBytesAreReadable, ReadableBytesHaveNumbers, ReadNumbersAreNumbers, WrittenWordsAreRead};
 
 /// Bytes of which each is a code word, with at most one wrong bit in each, read as they were sent.
 pub fn words_are_kept()
@@ -13,6 +13,13 @@ pub fn words_are_kept()
 pub fn read_bytes_are_readable()
     ensures { ReadBytesAreReadable }
 {}
+
+/// Readable bytes read as numbers of four bits.
+pub fn readable_bytes_have_numbers()
+    ensures { ReadableBytesHaveNumbers }
+{
+    ttx_code::laws::readings_are_numbers();
+}
 
 /// Bytes that read as numbers have these numbers.
 pub fn read_numbers_are_numbers()
@@ -50,6 +57,15 @@ pub fn headers_are_headers()
 pub fn said_headers_are_read()
     ensures { SaidHeadersAreRead }
 {}
+
+/// A readable packet 0 says the header that is read of it.
+pub fn read_headers_are_said()
+    ensures { ReadHeadersAreSaid }
+{
+    readable_bytes_have_numbers();
+    headers_are_headers();
+    headers_have_fields();
+}
 
 /// What is written of a header is clean, has the kind header, says the header and is read as the same header.
 pub fn written_headers_are_read()

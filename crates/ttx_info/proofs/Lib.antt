@@ -1,3 +1,4 @@
 pub mod Digits
 pub mod Said
 pub mod Written
+pub mod Readable

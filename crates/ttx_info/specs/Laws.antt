@@ -1,6 +1,7 @@
 -- Laws of packet 8/30 format 1, which the layers above may use. Each is proved by the function of its name in `laws`.
 --
 --   SaidInfosAreRead        the fields that 42 bytes say are the ones that are read
+--   ReadInfosAreSaid        the fields that are read are ones that the 42 bytes say
 --   WrittenInfosAreRead     what is written is read again as the same fields
 use Rattle.std.specs.Prelude.{◌≡◌, ℕ, List, Ok, true}
 use Rattle.ttx_packet.specs.Slots.{IsSlot, IsInfo, kind_of, is_clean}
@@ -10,6 +11,10 @@ use Rattle.ttx_info.specs.Infos.{InfoFields, IsInfoFields, Says, info_of, info_b
 -- 42 bytes that say fields are read as these fields
 abbrev pub SaidInfosAreRead : Type 0
 SaidInfosAreRead = (f : InfoFields) (s : List ℕ) → IsInfoFields f → IsLink f.initial → IsSlot s → Says f s → info_of s ≡ Ok f
+
+-- 42 bytes that are read as fields say these fields, which are in range
+abbrev pub ReadInfosAreSaid : Type 0
+ReadInfosAreSaid = (f : InfoFields) (s : List ℕ) → IsSlot s → info_of s ≡ Ok f → IsInfoFields f × IsLink f.initial × Says f s
 
 -- what is written of fields is clean, has the kind info, says the fields and is read as the same fields
 pub record IsWritten (f : InfoFields) : Type 0 where

@@ -1,7 +1,7 @@
 //! Laws of packet 8/30 format 1. A call costs nothing and gives the caller's proof the law.
 
 ghost use Rattle.ttx_links.specs.Sets.{IsLink};
-ghost use Rattle.ttx_info.specs.Laws.{SaidInfosAreRead, WrittenInfosAreRead};
+ghost use Rattle.ttx_info.specs.Laws.{SaidInfosAreRead, ReadInfosAreSaid, WrittenInfosAreRead};
 
 use crate::fields::Info;
 
@@ -18,6 +18,13 @@ pub fn said_infos_are_read()
 {
     ttx_code::laws::odd_bytes_hold_their_codes();
     ttx_links::laws::said_link_is_read();
+}
+
+/// 42 bytes that are read as fields say these fields.
+pub fn read_infos_are_said()
+    ensures { ReadInfosAreSaid }
+{
+    ttx_links::laws::read_link_is_said();
 }
 
 /// What is written of fields is clean, has the kind info, says the fields and is read as the same fields.

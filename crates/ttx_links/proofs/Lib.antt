@@ -3,3 +3,4 @@ pub mod Magazines
 pub mod Receptions
 pub mod Said
 pub mod Written
+pub mod Readable

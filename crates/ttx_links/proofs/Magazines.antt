@@ -31,3 +31,28 @@ magazine_back mag from to =
   where
     positive : (mag % 8 % 8 == 0) ≡ false → 1 ≤ mag % 8 % 8
     positive z = grind (arith, nat_tests)
+
+pub magazine_again : (low : ℕ) → low < 8 → magazine low % 8 ≡ low
+magazine_again low l =
+    elim (cases_Bool (low % 8 == 0)) as (λ _. magazine low % 8 ≡ low) [
+      | inl z ↦ let zero : low % 8 ≡ 0 = eqb-true _ 0 z in rw z (omega (arith, zero, l))
+      | inr z ↦ rw z (omega (arith, l))
+    ]
+
+-- a magazine is 1 to 8
+pub magazine_from : (low : ℕ) → 1 ≤ magazine low
+magazine_from low =
+    elim (cases_Bool (low % 8 == 0)) as (λ _. 1 ≤ magazine low) [
+      | inl z ↦ rw z (omega arith)
+      | inr z ↦ rw z (let some : 1 ≤ low % 8 = positive z in some)
+    ]
+  where
+    positive : (low % 8 == 0) ≡ false → 1 ≤ low % 8
+    positive z = grind (arith, nat_tests)
+
+pub magazine_to : (low : ℕ) → magazine low ≤ 8
+magazine_to low =
+    elim (cases_Bool (low % 8 == 0)) as (λ _. magazine low ≤ 8) [
+      | inl z ↦ rw z (omega arith)
+      | inr z ↦ rw z (omega arith)
+    ]

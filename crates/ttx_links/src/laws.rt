@@ -1,7 +1,7 @@
 //! Laws of packets X/27/0. A call costs nothing and gives the caller's proof the law.
 
 ghost use Rattle.ttx_links.specs.Sets.{IsLink, AreLinks};
-ghost use Rattle.ttx_links.specs.Laws.{LinksAreKept, SaidLinkIsRead, WrittenLinkIsSaid, SaidLinksAreRead, WrittenLinksAreRead};
+ghost use Rattle.ttx_links.specs.Laws.{LinksAreKept, SaidLinkIsRead, ReadLinkIsSaid, WrittenLinkIsSaid, SaidLinksAreRead, ReadLinksAreSaid, WrittenLinksAreRead};
 
 use crate::sets::Links;
 use crate::targets::Target;
@@ -41,6 +41,13 @@ pub fn said_link_is_read()
     ttx_header::laws::read_bytes_are_readable();
 }
 
+/// Six readable bytes say the link that is read of them.
+pub fn read_link_is_said()
+    ensures { ReadLinkIsSaid }
+{
+    ttx_header::laws::readable_bytes_have_numbers();
+}
+
 /// The bytes that are written for a link, wherever they stand, say the link.
 pub fn written_link_is_said()
     ensures { WrittenLinkIsSaid }
@@ -54,6 +61,13 @@ pub fn said_links_are_read()
 {
     ttx_header::laws::read_numbers_are_numbers();
     ttx_header::laws::read_bytes_are_readable();
+}
+
+/// A packet whose bytes 3 to 39 are readable says what is read of it.
+pub fn read_links_are_said()
+    ensures { ReadLinksAreSaid }
+{
+    ttx_header::laws::readable_bytes_have_numbers();
 }
 
 /// What is written of a packet is clean and exact, has the kind links, says the packet and is read as the same packet.
