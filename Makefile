@@ -22,6 +22,7 @@ test:
 	sh tests/cli.sh $(BUILT)
 	python3 tests/large.py $(BUILT)
 	sh tests/memory.sh $(BUILT)
+	python3 tests/refused_calls.py $(BUILT)
 
 demo: ttx
 	sh demo/demo.sh ./ttx

@@ -1,0 +1,157 @@
+#!/usr/bin/env python3
+"""Runs the built program while one of its calls of the C library is refused: each growth in turn, and each read and each write, in
+pieces of some bytes. Then it ends with `fault: memory`, `fault: read` or `fault: write`, and with no byte written but the first ones
+of what it was to write; or it does what it does otherwise.
+
+usage: refused_calls.py PROGRAM
+
+The calls are refused by refusing.c, which is built with the clang of the kit that `rt` belongs to and loaded before the program.
+"""
+import os
+import shutil
+import subprocess
+import sys
+import tempfile
+from pathlib import Path
+
+
+TOP = Path(__file__).resolve().parent.parent
+PIECES = (1, 7, 41, 42, 43)
+
+# words, and whether their growths alone are refused
+COMMANDS = [
+    ("inspect small.t42", False),
+    ("plan small.toml out", False),
+    ("plan small.toml out --class clearing", False),
+    ("find small.t42 small.toml out", False),
+    ("find small.t42 small.toml out --class clearing", False),
+    ("certify small.t42 small.toml small.cert", False),
+    ("certify small.t42 small.toml early.cert", False),
+    ("certify small.t42 small.toml clearing.cert", False),
+    ("receive small.t42 100 --slots 12", False),
+    ("show small.t42 100 --slots 12", False),
+    ("plan broadcast.toml out", True),
+    ("plan broadcast.toml out --class clearing", True),
+    ("find base.t42 base.toml out", True),
+    ("find base.t42 base.toml out --repeat 8 --class clearing", True),
+    ("find near.t42 base.toml out", True),
+    ("certify base.t42 base.toml base.cert", True),
+    ("certify base.t42 base.toml clearing-base.cert", True),
+    ("certify near.t42 base.toml base.cert", True),
+    ("plan often-3.toml out", True),
+    ("find cut.t42 base.toml out", True),
+    ("certify missing base.toml base.cert", True),
+    ("find base.t42", True),
+    ("--help", True),
+]
+
+
+def make_inputs(folder):
+    """Small inputs, and the worked ones."""
+    data = folder / "data"
+    subprocess.run([sys.executable, TOP / "tests/make_data.py", data], check=True)
+    taken = {
+        "small.t42": "planned-suppressed.t42", "small.toml": "planned-suppressed.toml", "near.t42": "row-near-header.t42",
+        "cut.t42": "83-bytes", "clearing-base.cert": "clearing-base.cert",
+    }
+    for name, source in taken.items():
+        shutil.copy(data / source, folder / name)
+    for name in ("base.t42", "base.toml", "base.cert", "often-3.toml"):
+        shutil.copy(data / name, folder)
+    shutil.copy(TOP / "examples/broadcast.toml", folder)
+    head = "lines 2\nrepeat 1\ndeadline"
+    (folder / "small.cert").write_text(f"ttx certificate 1\n{head} 5\n100/0000 links 3\n")
+    (folder / "early.cert").write_text(f"ttx certificate 1\n{head} 4\n100/0000 links 3\n")
+    (folder / "clearing.cert").write_text(f"ttx certificate 2\nclass clearing\n{head} 3\n")
+
+
+class Runs:
+    """Runs of one command, with what it does when nothing is refused."""
+
+    def __init__(self, program, folder, words):
+        self.folder, self.words, self.made = folder, words, 0
+        self.command = [program, *words.split()]
+        self.failures = []
+
+    def run(self, **calls):
+        """Status, standard output, standard error and OUT."""
+        out = self.folder / "out"
+        out.unlink(missing_ok=True)
+        told = [self.folder / "stdout", self.folder / "stderr"]
+        environment = {"LD_PRELOAD": str(self.folder / "refusing.so")} | {name: str(value) for name, value in calls.items()}
+        with told[0].open("wb") as stdout, told[1].open("wb") as stderr:
+            done = subprocess.run(self.command, cwd=self.folder, env=environment, stdin=subprocess.DEVNULL, stdout=stdout, stderr=stderr, timeout=60)
+        self.made += 1
+        return done.returncode, told[0].read_bytes(), told[1].read_bytes(), out.read_bytes() if out.exists() else b""
+
+    def counted(self, **calls):
+        """The same, and how many growths, reads and writes there were."""
+        counts = self.folder / "counts"
+        answer = self.run(COUNTS=counts, **calls)
+        return answer, [int(count) for count in counts.read_text().split()]
+
+    def expect(self, is_right, answer, call):
+        if not is_right:
+            self.failures.append(f"{self.words}, {call}: status {answer[0]}, {answer[1][:80]!r}, {answer[2][:80]!r}, OUT of {len(answer[3])} bytes")
+
+    def refuse_growths(self):
+        ample, (growths, _, _) = self.counted()
+        for n in range(1, growths + 2):
+            answer = self.run(REFUSE_GROWTH=n)
+            want = (3, b"", b"fault: memory\n", b"")
+            self.expect(answer == ample or (answer == want and n <= growths), answer, f"growth {n} of {growths}")
+        return growths
+
+    def fail_reads(self, ample, piece):
+        answer, (_, reads, _) = self.counted(PIECE=piece)
+        self.expect(answer == ample, answer, f"pieces of {piece}")
+        for n in range(1, reads + 1):
+            answer = self.run(PIECE=piece, FAIL_READ=n)
+            self.expect(answer == (3, b"", b"fault: read\n", b""), answer, f"pieces of {piece}, read {n} of {reads}")
+        return reads
+
+    def fail_writes(self, ample, piece):
+        _, stdout, _, out = ample
+        sizes = [min(piece, len(text) - at) for text in (out, stdout) for at in range(0, len(text), piece)]
+        answer, (_, _, writes) = self.counted(PIECE=piece)
+        self.expect(writes == len(sizes), answer, f"pieces of {piece}, {writes} writes and not {len(sizes)}")
+        for n in range(1, writes + 1):
+            answer = self.run(PIECE=piece, FAIL_WRITE=n)
+            written = sum(sizes[: n - 1])
+            want = (3, stdout[: max(written - len(out), 0)], b"fault: write\n", out[:written])
+            self.expect(answer == want, answer, f"pieces of {piece}, write {n} of {writes}")
+        return writes
+
+
+def build(folder):
+    kit = Path(os.path.realpath(shutil.which("rt"))).parent.parent
+    words = [kit / "toolchain/bin/clang", "-O1", "-shared", "-fPIC", "-nostdlib", "-o", folder / "refusing.so", TOP / "tests/refusing.c"]
+    subprocess.run(words, check=True)
+
+
+def main():
+    program = str(Path(sys.argv[1]).resolve())
+    failures, made = [], 0
+    with tempfile.TemporaryDirectory() as name:
+        folder = Path(name)
+        build(folder)
+        make_inputs(folder)
+        print(f"{'refused, one at a time':<58} {'growths':>8} {'reads':>8} {'writes':>8}")
+        for words, growths_alone in COMMANDS:
+            runs = Runs(program, folder, words)
+            growths = runs.refuse_growths()
+            ample = runs.run()
+            pieces = () if growths_alone else PIECES
+            reads = sum(runs.fail_reads(ample, piece) for piece in pieces)
+            writes = sum(runs.fail_writes(ample, piece) for piece in pieces)
+            print(f"{words:<58} {growths:>8} {reads:>8} {writes:>8}", flush=True)
+            failures += runs.failures
+            made += runs.made
+    for failure in failures[:20]:
+        print(f"FAILED {failure}")
+    print(f"refused calls: {made} runs, {len(failures)} failed")
+    return bool(failures)
+
+
+if __name__ == "__main__":
+    sys.exit(main())
