@@ -6,3 +6,5 @@ mod Numerals
 mod FoundNothing
 mod TwoInputs
 mod FreshUntilHeader
+pub mod SameInputs
+pub mod PlannedFiles

@@ -25,7 +25,7 @@ use Rattle.ttx_tool.specs.declared.commands.finding.Told.{Told}
 use Rattle.ttx_tool.specs.declared.faults.ToolFault.{ToolFault}
 use Rattle.ttx_tool.specs.declared.faults.ToolFault.TheVariants.{Cycle, Read, Write, NoMemory}
 use Rattle.ttx_witness.specs.CertificateTexts.{certificate_text}
-use Rattle.ttx_witness.specs.Entries.{CertificateFields, certificate_at}
+use Rattle.ttx_witness.specs.Entries.{CertificateFields, IsCertificateFields, certificate_at}
 use Rattle.ttx_witness.specs.Finding.{IsFoundFor}
 use Rattle.ttx_witness.specs.declared.reason.Reason.{Reason}
 
@@ -56,6 +56,7 @@ Tells slots service w None file line status = TellsNo slots service w file line 
 -- the certificate that is found of a cycle and a service, and what goes out
 pub record IsTold (slots : List (List ℕ)) (service : ServiceFields) (repeat : ℕ) (class : Class) (file line : List ℕ) (status : ℕ) : Type 0 where
   pub w : CertificateFields
+  pub fields : IsCertificateFields w
   pub deadline : Option ℕ
   pub found : IsFoundFor slots (pages_of service) repeat service.lines class (certificate_at w) deadline
   pub told : Tells slots service w deadline file line status

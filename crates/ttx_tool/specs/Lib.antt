@@ -11,3 +11,4 @@ pub mod Reports
 pub mod Grammar
 pub mod Orders
 pub mod PageNames
+pub mod PlannedFiles

@@ -11,9 +11,10 @@ use Rattle.std.specs.Io.KnownBytes.{Appends, Keeps}
 use Rattle.ttx_certify.specs.CertifyingFiles.{IsService, most_bytes}
 use Rattle.ttx_cycle.specs.Counts.{HasRisen}
 use Rattle.ttx_cycle.specs.Cycles.{slots_of}
-use Rattle.ttx_cycle.specs.Files.{file_of}
+use Rattle.ttx_cycle.specs.Files.{IsCycle, file_of}
 use Rattle.ttx_cycle.specs.declared.cycles.Cycle.{Cycle as CycleValue}
 use Rattle.ttx_page.specs.declared.class.Class.{Class}
+use Rattle.ttx_plan.specs.Acceptance.{IsPlanned}
 use Rattle.ttx_plan.specs.Blocks.{length_bound}
 use Rattle.ttx_plan.specs.Carries.{Carries, blocks_of}
 use Rattle.ttx_plan.specs.declared.faults.PlanFault.{PlanFault}
@@ -39,11 +40,13 @@ abbrev pub Defines : List ℕ → Result ServiceFields ToolFault → Type 0
 Defines bytes (Ok service) = IsService bytes service
 Defines bytes (Err fault) = IsNoText bytes fault
 
--- the slots carry the service of the text to receivers of the class
+-- the slots carry the service of the text to receivers of the class, as a planned cycle
 pub record IsPlan (bytes : List ℕ) (class : Class) (slots : List (List ℕ)) : Type 0 where
   pub service : ServiceFields
   pub text : IsService bytes service
   pub carries : Carries class service slots
+  pub planned : IsPlanned class service slots
+  pub is_cycle : IsCycle slots
 
 abbrev pub planned_line : ℕ → List ℕ
 planned_line count = codes "planned " ++ decimal count ++ codes " slots" ++ 10 ∷ []

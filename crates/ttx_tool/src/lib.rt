@@ -5,6 +5,7 @@ pub mod commands;
 pub mod faults;
 mod grammar;
 mod help;
+pub mod laws;
 mod lines;
 pub mod orders;
 mod page_names;

@@ -5,6 +5,7 @@ ghost use Rattle.ttx_cycle.specs.Counters.{inner_of, faults_of};
 ghost use Rattle.ttx_cycle.specs.Cycles.{slots_of};
 ghost use Rattle.ttx_witness.specs.Certificates.{fields_of};
 ghost use Rattle.ttx_tool.specs.FindingFiles.{found_line, TellsDeadline, TellsVerdict, IsTold, FindsText, Finds, CountsInputs, CountsFind};
+ghost use Rattle.ttx_tool.specs.PlannedFiles.{FindsDeadline, MakesCertified};
 ghost use Rattle.ttx_tool.specs.Planning.{WritesBoth, CountsBoth};
 
 use super::planning::read_definition;
@@ -139,14 +140,8 @@ fn write_told<O: Write, W: Write>(
     })
 }
 
-/// Reads a packet file and the text of a service, and finds the certificate of the cycle for the pages of the service and
-/// receivers of the class; `repeat` is 1 to 8. Where there is a deadline, writes the text of the certificate to the file and
-/// the deadline to the other writer: the status is 0. Where there is none, writes nothing to the file, and to the other writer
-/// the verdict on the certificate, which is a No: the status is 1.
-///
-/// Nothing is written before all is found. At `Write` exactly the first `written` bytes of both went out, the file's before the
-/// line's.
-pub fn find<A: Read, B: Read, O: Write, W: Write>(
+// What `find` does, but for what follows of plans and verdicts.
+fn find_and_write<A: Read, B: Read, O: Write, W: Write>(
     alloc: Global,
     cycle: &mut Counted<A>,
     service: &mut Counted<B>,
@@ -165,4 +160,38 @@ pub fn find<A: Read, B: Read, O: Write, W: Write>(
     let told = find_text(alloc, cycle, service, repeat, class)?;
     write_told(file, told.file.as_slice(), writer, told.line.as_bytes())?;
     Ok(told.status)
+}
+
+/// Reads a packet file and the text of a service, and finds the certificate of the cycle for the pages of the service and
+/// receivers of the class; `repeat` is 1 to 8. Where there is a deadline, writes the text of the certificate to the file and
+/// the deadline to the other writer: the status is 0. Where there is none, writes nothing to the file, and to the other writer
+/// the verdict on the certificate, which is a No: the status is 1.
+///
+/// In a packet file that `plan` writes for the same text and class a deadline is found. To what is written to an empty file,
+/// where the status is 0, `certify` says yes.
+///
+/// Nothing is written before all is found. At `Write` exactly the first `written` bytes of both went out, the file's before the
+/// line's.
+pub fn find<A: Read, B: Read, O: Write, W: Write>(
+    alloc: Global,
+    cycle: &mut Counted<A>,
+    service: &mut Counted<B>,
+    repeat: u8,
+    class: Class,
+    file: &mut Counted<O>,
+    writer: &mut Counted<W>,
+) -> Result<u8, ToolFault>
+    requires some { 1 ≤ repeat }
+    requires few { repeat ≤ 8 }
+    ensures bytes { IfSome (A.remaining (inner_of cycle.old)) (λ a. IfSome (B.remaining (inner_of service.old)) (λ b. Finds a b repeat class
+        (O.contents (inner_of file.old)) (O.contents (inner_of file.new)) (W.contents (inner_of writer.old)) (W.contents (inner_of writer.new)) result)) }
+    ensures planned { IfSome (A.remaining (inner_of cycle.old)) (λ a. IfSome (B.remaining (inner_of service.old)) (λ b. FindsDeadline a b class result)) }
+    ensures certified { IfSome (A.remaining (inner_of cycle.old)) (λ a. IfSome (B.remaining (inner_of service.old)) (λ b. MakesCertified a b
+        (O.contents (inner_of file.old)) (O.contents (inner_of file.new)) result)) }
+    ensures faults { CountsFind result (faults_of cycle.old) (faults_of cycle.new) (faults_of service.old) (faults_of service.new)
+        (faults_of file.old) (faults_of file.new) (faults_of writer.old) (faults_of writer.new) }
+{
+    crate::laws::planned_is_found();
+    crate::laws::found_is_certified();
+    find_and_write(alloc, cycle, service, repeat, class, file, writer)
 }

@@ -13,6 +13,7 @@ returns-in-Some-clause-told c =
     let w = fields_of c.in-Ok.found.certificate in
     IfOk-weaker c.tell_deadline.result _ _ (λ t h. record {
       w = w;
+      fields = (c.certificates_keep_their_rules.ensures c.in-Ok.found.certificate).0;
       deadline = c.in-Ok.found.deadline;
       found = c.in-Ok.ensures;
       told = subst (λ d. Tells (slots_of c.args.cycle.now) c.args.service.now w d t.file.items (string_bytes t.line) t.status) (sym c.in-Some.is) h;
@@ -27,6 +28,7 @@ returns-clause-told c =
     let found = subst (λ d. IsFoundFor slots (pages_of service) c.args.repeat service.lines c.args.class (certificate_of c.in-Ok.found.certificate) d) c.in-None.is c.in-Ok.ensures in
     IfOk-weaker c.tell_verdict.result _ _ (λ t h. record {
       w = w;
+      fields = (c.certificates_keep_their_rules.ensures c.in-Ok.found.certificate).0;
       deadline = None;
       found = found;
       told = says_no slots service c.args.repeat c.args.class w is found t.file.items (string_bytes t.line) t.status h;

@@ -1,0 +1,44 @@
+-- What `find` finds in a packet file that `plan` writes, and what `certify` says to a certificate that `find` writes.
+--
+--   IsPlanFile              a packet file that is written for the text of a service
+--   IsCertified             `certify` says yes to these three inputs
+--   PlannedIsFound          in a packet file of a plan a deadline is found
+--   FoundIsCertified        a certificate that is found is certified
+--   FindsDeadline, MakesCertified           both of what `find` answers and writes
+use Rattle.std.specs.Prelude.{◌≡◌, ℕ, ◌≤◌, List, [], ⊤, Option, Some, Result, Ok, Err}
+use Rattle.ttx_certify.specs.CertifyingFiles.{Certifies}
+use Rattle.ttx_certify.specs.declared.verdict.Verdict.{Verdict}
+use Rattle.ttx_certify.specs.declared.verdict.Verdict.TheVariants.{Yes}
+use Rattle.ttx_cycle.specs.Files.{file_of}
+use Rattle.ttx_page.specs.declared.class.Class.{Class}
+use Rattle.ttx_tool.specs.FindingFiles.{IsFinding}
+use Rattle.ttx_tool.specs.Planning.{IsPlan}
+use Rattle.ttx_tool.specs.declared.faults.ToolFault.{ToolFault}
+
+-- a packet file that `plan` writes for the text of a service and receivers of the class
+pub record IsPlanFile (a b : List ℕ) (class : Class) : Type 0 where
+  pub slots : List (List ℕ)
+  pub plan : IsPlan b class slots
+  pub file : a ≡ file_of slots
+
+-- whatever verdict is right for a packet file, the text of a service and that of a certificate: it is Yes
+abbrev pub IsCertified : List ℕ → List ℕ → List ℕ → Type 0
+IsCertified a b c = (verdict : Verdict) (line : List ℕ) → Certifies a b c verdict line → verdict ≡ Yes
+
+-- in a packet file of a plan `find` finds a deadline, for the class of the plan and each repeat count
+abbrev pub PlannedIsFound : Type 0
+PlannedIsFound = (a b : List ℕ) (class : Class) → IsPlanFile a b class → (repeat : ℕ) → 1 ≤ repeat → repeat ≤ 8 →
+    (file line : List ℕ) (status : ℕ) → IsFinding a b repeat class file line status → status ≡ 0
+
+-- where `find` finds a deadline, `certify` says yes to the certificate
+abbrev pub FoundIsCertified : Type 0
+FoundIsCertified = (a b : List ℕ) (class : Class) (repeat : ℕ) (file line : List ℕ) → IsFinding a b repeat class file line 0 → IsCertified a b file
+
+-- the status is 0 where the packet file is one of a plan
+abbrev pub FindsDeadline : List ℕ → List ℕ → Class → Result ℕ ToolFault → Type 0
+FindsDeadline a b class (Ok status) = IsPlanFile a b class → status ≡ 0
+FindsDeadline a b class (Err fault) = ⊤
+
+-- where the status is 0, what was written to an empty file is certified
+abbrev pub MakesCertified : List ℕ → List ℕ → Option (List ℕ) → Option (List ℕ) → Result ℕ ToolFault → Type 0
+MakesCertified a b old new result = (file : List ℕ) → old ≡ Some [] → new ≡ Some file → result ≡ Ok 0 → IsCertified a b file

@@ -1,0 +1,18 @@
+//! Laws of commands that follow one another. A call costs nothing and gives the caller's proof the law.
+
+ghost use Rattle.ttx_tool.specs.PlannedFiles.{FoundIsCertified, PlannedIsFound};
+
+/// In a packet file that `plan` writes for the text of a service, `find` finds a deadline for the class of the plan and each
+/// repeat count.
+pub fn planned_is_found()
+    ensures { PlannedIsFound }
+{
+    ttx_plan::acceptance::planned_cycles_are_accepted();
+}
+
+/// To a certificate that `find` finds with a deadline, `certify` says yes.
+pub fn found_is_certified()
+    ensures { FoundIsCertified }
+{
+    ttx_witness::certificate_laws::written_texts_are_read();
+}
