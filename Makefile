@@ -23,6 +23,7 @@ test:
 	python3 tests/large.py $(BUILT)
 	sh tests/memory.sh $(BUILT)
 	python3 tests/refused_calls.py $(BUILT)
+	python3 tests/planned.py $(BUILT)
 
 demo: ttx
 	sh demo/demo.sh ./ttx

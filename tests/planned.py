@@ -1,0 +1,102 @@
+#!/usr/bin/env python3
+"""Runs the built program on services of one to eight magazines: what `plan` writes has a least deadline, and no smaller one.
+
+usage: planned.py PROGRAM
+
+The services are serial and parallel, with and without packet 8/30, of lines and pages drawn with a fixed seed: pages are sent
+1, 2, 4 or 8 times a cycle, and some have subpages, blank rows, rows in double height, boxes, links, or a suppressed header.
+For both classes of receivers and repeat counts 1, 2 and 8: `find` on the plan ends with a deadline D, `certify` says yes to
+what it found, and no to the same with D - 1, where that is at least 1.
+"""
+import itertools
+import os
+import random
+import subprocess
+import sys
+import tempfile
+
+INFO = '[info]\ninitial = "100"\nnetwork = "12F4"\nmjd = 46000\nutc = 123045\ntext = "Our TV"\n'
+ROWS = ["a row", "\\u0001red \\u0012mosaic", "\\u000DTall", "", "\\u000B\\u000Bboxed\\u000A\\u000A", "x" * 40]
+
+
+def page(draw, number, sub):
+    """The table of a page."""
+    lines = ["[[page]]", f'number = "{number}"', f'sub = "{sub}"', f"often = {draw.choice([1, 2, 4, 8])}"]
+    lines.append(f'head = "page {number}"')
+    for key in ["suppress", "subtitle", "inhibit", "row24"]:
+        if draw.random() < 0.15:
+            lines.append(f"{key} = true")
+    if draw.random() < 0.5:
+        lines.append('links = ["100", "", "2A0/0001"]')
+    lines.append("[page.rows]")
+    for row in sorted(draw.sample(range(1, 25), draw.randint(0, 5))):
+        lines.append(f'{row} = "{draw.choice(ROWS)}"')
+    return "\n".join(lines) + "\n"
+
+
+def service(draw, magazines, serial, info):
+    """The text of a service whose pages lie in so many magazines."""
+    text = f"lines = {draw.choice([1, 2, 3, 8, 12, 16, 32])}\nserial = {'true' if serial else 'false'}\n"
+    text += INFO if info else ""
+    for magazine in sorted(draw.sample(range(1, 9), magazines)):
+        for tens in range(draw.randint(1, 2)):
+            for sub in range(1, draw.choice([1, 1, 3]) + 1):
+                text += page(draw, f"{magazine}{tens}{magazine}", f"000{sub}")
+    return text
+
+
+def run(program, *words):
+    done = subprocess.run([program, *words], capture_output=True, text=True, timeout=60, check=False)
+    return done.returncode, done.stdout
+
+
+def wrong(program, kind, repeat):
+    """What is wrong with what is found for a planned cycle, or None."""
+    status, line = run(program, "find", "cycle", "service", "cert", "--repeat", str(repeat), "--class", kind)
+    if status != 0 or not line.startswith("found deadline "):
+        return f"find: {status} {line}"
+    deadline = int(line.split()[2])
+    status, line = run(program, "certify", "cycle", "service", "cert")
+    if status != 0 or not line.startswith("yes ") or f" deadline {deadline} " not in line:
+        return f"certify: {status} {line}"
+    if deadline == 1:
+        return None
+    with open("cert", encoding="ascii") as file:
+        text = file.read()
+    with open("less", "w", encoding="ascii") as file:
+        file.write(text.replace(f"\ndeadline {deadline}\n", f"\ndeadline {deadline - 1}\n", 1))
+    status, line = run(program, "certify", "cycle", "service", "less")
+    return None if status == 1 and line.startswith("no ") else f"certify with a field less: {status} {line}"
+
+
+def failures(program, name, kind):
+    """Plans the service for a class, and looks at what is found for each repeat count."""
+    status, line = run(program, "plan", "service", "cycle", "--class", kind)
+    if status != 0 or not line.startswith("planned "):
+        return [f"{name}, class {kind}: plan: {status} {line}"]
+    found = [(repeat, wrong(program, kind, repeat)) for repeat in [1, 2, 8]]
+    return [f"{name}, class {kind}, repeat {repeat}: {what}" for repeat, what in found if what]
+
+
+def main():
+    program = os.path.realpath(sys.argv[1])
+    draw = random.Random(1)
+    cases, told = 0, []
+    with tempfile.TemporaryDirectory() as place:
+        os.chdir(place)
+        for magazines, serial, info, number in itertools.product(range(1, 9), [True, False], [True, False], [1, 2]):
+            with open("service", "w", encoding="ascii") as file:
+                file.write(service(draw, magazines, serial, info))
+            way = "serial" if serial else "parallel"
+            name = f"{magazines} magazines, {way}, {'with' if info else 'without'} 8/30, service {number}"
+            for kind in ["any", "clearing"]:
+                cases += 3
+                told += failures(program, name, kind)
+        os.chdir("/")
+    for line in told:
+        print(f"FAILED {line.strip()}")
+    print(f"planned: {cases} cases, {len(told)} failed")
+    return 1 if told else 0
+
+
+sys.exit(main())
