@@ -93,6 +93,12 @@ module _ (cycle : List (List ℕ)) (p : Page) (w : Certificate) (item : Item) wh
         subst (λ x. IsJudged x bound period m) (sym e)
         (subst (λ x. IsJudged named x period m) (sym f) (subst (λ x. IsJudged named (limit w) x m) (sym g) (subst (IsJudged named (limit w) (length cycle)) (sym q) judged)))
 
+pub judged_so : (y : List (List ℕ)) (p : Page) (w : Certificate) (item : Item) → ItemsAreJudged → 1 ≤ length y → IsCertificate w → needed p item ≡ true → 0 < length (w.starts p.id item) →
+    (starts : List ℕ) (period : ℕ) (m : Progress) → starts ≡ w.starts p.id item → period ≡ length y → m ≡ progress_of y p w item (run_length w.repeat item - 1) → IsJudged y p w item starts (limit w) period m
+judged_so y p w item laws some is need any starts period m e f g =
+    subst (λ ss. IsJudged y p w item ss (limit w) period m) (sym e) (subst (λ n. IsJudged y p w item (w.starts p.id item) (limit w) n m) (sym f)
+    (judged_as y p w item laws some is need any (w.starts p.id item) (limit w) (length y) (run_length w.repeat item) _ m refl refl refl refl refl g))
+
 abbrev pub found_header : Item → Option ℕ → Option Finding
 found_header item None = None
 found_header item (Some at) = Some (finding_at item LateBlank at)

@@ -2,7 +2,7 @@ mod Seeing
 mod Found
 mod OneByOne
 mod Accepting
-mod Headings
+mod Walked
 mod PageByPage
 mod AuthoredIds
 mod ThreeInputs

@@ -1,5 +1,5 @@
 -- Faults page by page.
-use Rattle.std.proofs.Common.{◌≡◌, ℕ, zero, suc, ◌+◌, ◌<◌, ◌≤◌, List, [], ◌∷◌, length, map, get_or, slice_get, Option, Some, None, Result, Ok, Err, IfOk, refl, ap, ◌∙◌, subst, inl, inr, arith}
+use Rattle.std.proofs.Common.{◌≡◌, ℕ, zero, suc, ◌+◌, ◌<◌, ◌≤◌, List, [], ◌∷◌, length, map, get_or, slice_get, Option, Some, None, refl, ap, ◌∙◌, subst, inl, inr, arith}
 use Rattle.std.specs.Option.{option_map}
 use Rattle.std.proofs.lemmas.Bool.{cases_lt}
 use Rattle.std.proofs.lemmas.Option.{slice_get_within, slice_get-map, slice_get_read}
@@ -23,27 +23,15 @@ here_is [] i lt = absurd (omega arith)
 here_is (x ∷ xs) zero lt = (x, refl)
 here_is (x ∷ xs) (suc i) lt = here_is xs i (omega arith)
 
-pub ok_map : {A E : Type 0} (P Q : A → Type 0) (r : Result A E) → ((a : A) → P a → Q a) → IfOk r P → IfOk r Q
-ok_map P Q (Ok a) f h = f a h
-ok_map P Q (Err e) f h = h
+-- one place of a list has one page
+pub same_page : {o : Option Page} (p q : Page) → o ≡ Some p → o ≡ Some q → p ≡ q
+same_page p q e f = cc
 
 module _ (cycle : List (List ℕ)) (pages : List Page) (w : Certificate) where
   -- a steady page has the faults of its named starts
   pub fault_from : (p : Page) → Steady (repeated cycle) pages p → (o : Option Reason) → IsWitnessFault cycle p w o → IsFault cycle pages p w o
   fault_from p steady None f = (steady, f)
   fault_from p steady (Some r) f = inr (steady, f)
-
-  pub fault_here : (index : ℕ) (q : Page) → slice_get pages index ≡ Some q → Steady (repeated cycle) pages q → (o : Option Reason) → IsWitnessFault cycle q w o →
-      (p : Page) → slice_get pages index ≡ Some p → IsFault cycle pages p w o
-  fault_here index q at steady o f p here =
-      let same : q ≡ p = cc in
-      subst (λ x. IsFault cycle pages x w o) same (fault_from q steady o f)
-
-  pub fault_told : (index : ℕ) (q : Page) → slice_get pages index ≡ Some q → (reason : Reason) → IsPageFault cycle pages q (Some reason) →
-      (p : Page) → slice_get pages index ≡ Some p → IsFault cycle pages p w (Some reason)
-  fault_told index q at reason f p here =
-      let same : q ≡ p = cc in
-      subst (λ x. IsFault cycle pages x w (Some reason)) same (inl f)
 
   abbrev Earlier : ℕ → Type 0
   Earlier index = (n : ℕ) (p : Page) → n < index → slice_get pages n ≡ Some p → IsFault cycle pages p w None

@@ -6,15 +6,13 @@
 --   IsLeast, IsFound        the first reason that is true of an item
 --   IsLeastOf, IsFoundIn    the first reason that is true of the first items of a page
 --   chosen                  the one of two findings that is told first
---   HasSent, IsFoundAt      what is kept of a page's transmissions; what is found of the item of a number
+--   IsFoundAt               what is found of the item of a number
 --   reason_of               a finding as a reason
-use Rattle.std.specs.Prelude.{◌≡◌, ◌⊎◌, ℕ, ◌<◌, nat_lt, true, if◌then◌else◌, List, Option, Some, None, slice_get}
+use Rattle.std.specs.Prelude.{◌≡◌, ◌⊎◌, ℕ, ◌<◌, nat_lt, true, if◌then◌else◌, List, Option, Some, None}
 use Rattle.ttx_header.specs.Ids.{Id}
 use Rattle.ttx_page.specs.Pages.{Page, needed}
 use Rattle.ttx_page.specs.declared.item.Item.{Item}
 use Rattle.ttx_witness.specs.Collected.{item_number, IsItem}
-use Rattle.ttx_witness.specs.AllSent.{AreAllSent}
-use Rattle.ttx_witness.specs.declared.period.Collected.{Collected}
 use Rattle.ttx_witness.specs.Coverage.{Certificate, IsCovered, IsLeftOut}
 use Rattle.ttx_witness.specs.Reasons.{HasNoWitness, WitnessBadAt, LateAt, LateBlankAt}
 use Rattle.ttx_witness.specs.declared.reason.Reason.{Reason}
@@ -67,12 +65,6 @@ abbrev pub chosen : Option Finding → Option Finding → Option Finding
 chosen earlier None = earlier
 chosen None (Some f) = Some f
 chosen (Some e) (Some f) = if nat_lt (order f.doubt) (order e.doubt) then Some f else Some e
-
--- what is kept has the transmissions of the page, which stands at the index of a list of pages
-pub record HasSent (cycle : List (List ℕ)) (lines : ℕ) (p : Page) (index : ℕ) (c : Collected) : Type 0 where
-  pub pages : List Page
-  pub sent : AreAllSent cycle pages lines c
-  pub here : slice_get pages index ≡ Some p
 
 pub record IsFoundAt (cycle : List (List ℕ)) (p : Page) (w : Certificate) (number : ℕ) (f : Option Finding) : Type 0 where
   pub item : Item

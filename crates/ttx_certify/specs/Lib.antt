@@ -1,7 +1,7 @@
 pub mod Seen
 pub mod Findings
-pub mod Headers
 pub mod Verdicts
+pub mod Walking
 pub mod VerdictLines
 pub mod CertifyingFiles
 pub mod Laws

@@ -1,77 +1,43 @@
-//! Whether a cycle is accepted with a certificate.
+//! Whether a cycle is accepted with a certificate: a walk that is given its slots twice.
 
-ghost use Rattle.std.specs.Prelude.{◌≡◌, ◌≢◌, ◌<◌, ℕ, IfOk, MatchOption, Some, None, length, map, slice_get};
+ghost use Rattle.std.specs.Prelude.{◌≡◌, ◌≢◌, IfOk, [], map};
 ghost use Rattle.std.specs.List.{AllPairs};
 ghost use Rattle.ttx_cycle.specs.Cycles.{slots_of};
-ghost use Rattle.ttx_page.specs.Pages as definitions;
 ghost use Rattle.ttx_page.specs.Views.{page_of};
-ghost use Rattle.ttx_witness.specs.AllSent.{AreAllSent};
 ghost use Rattle.ttx_witness.specs.Certificates.{certificate_of};
 ghost use Rattle.ttx_witness.specs.Collected.{ids_of};
-ghost use Rattle.ttx_witness.specs.Faults.{IsFault};
-ghost use Rattle.ttx_witness.specs.OtherSubpages.{AreOtherSubpages};
-ghost use Rattle.ttx_certify.specs.Verdicts.{IsFirstFault, IsVerdict, Means};
+ghost use Rattle.ttx_certify.specs.Verdicts.{IsVerdict, Means};
+ghost use Rattle.ttx_certify.specs.Walking.{Starts, Stands, walk_pages, walk_certificate, second_pages, second_certificate};
 
-use crate::page_findings::witness_fault;
 use crate::verdict::Verdict;
+use crate::walking::{Second, Walk};
 use std::alloc::Global;
 use ttx_cycle::Cycle;
 use ttx_page::Page;
-use ttx_witness::{
-    Certificate, Collected, NoMemory, OtherSubpages, Reason, bad_slot, collect, fault_of,
-};
+use ttx_witness::{Certificate, NoMemory};
 
-// The first fault of the page at the index.
-fn fault_at(
-    alloc: Global,
-    cycle: &Cycle,
-    pages: &[Page],
-    index: usize,
-    certificate: &Certificate,
-    collected: &Collected,
-    others: &OtherSubpages,
-) -> Result<Option<Reason>, NoMemory>
-    requires index { index < length pages.now }
-    requires sent { AreAllSent (slots_of cycle.now) (map page_of pages.now) (certificate_of certificate.now).lines collected.now }
-    requires others { AreOtherSubpages (slots_of cycle.now) (map page_of pages.now) others.now }
-    ensures { IfOk result (λ reason. (p : definitions.Page) → slice_get (map page_of pages.now) index ≡ Some p → IsFault (slots_of cycle.now) (map page_of pages.now) p (certificate_of certificate.now) reason) }
+// The first pass over a cycle.
+fn first_pass(walk: &mut Walk, cycle: &Cycle)
+    ensures stands { Starts walk.old [] → Starts walk.new (slots_of cycle.now) }
+    ensures pages { walk_pages walk.new ≡ walk_pages walk.old }
+    ensures certificate { walk_certificate walk.new ≡ walk_certificate walk.old }
 {
-    let page = &pages[index];
-    let other_subpage = others.first(page.id());
-    if let Some(reason) = fault_of(cycle, page, collected, index, other_subpage) {
-        return Ok(Some(reason));
+    let slots = cycle.slots();
+    for i in 0..slots.len() {
+        let _ = walk.first(&slots[i]);
     }
-    witness_fault(alloc, cycle, page, certificate, collected, index)
 }
 
-// The first fault of the first page that has one.
-fn first_fault(
-    alloc: Global,
-    cycle: &Cycle,
-    pages: &[Page],
-    certificate: &Certificate,
-    collected: &Collected,
-    others: &OtherSubpages,
-) -> Result<Option<Reason>, NoMemory>
-    requires sent { AreAllSent (slots_of cycle.now) (map page_of pages.now) (certificate_of certificate.now).lines collected.now }
-    requires others { AreOtherSubpages (slots_of cycle.now) (map page_of pages.now) others.now }
-    ensures { IfOk result (λ fault. MatchOption fault ((n : ℕ) (p : definitions.Page) → slice_get (map page_of pages.now) n ≡ Some p → IsFault (slots_of cycle.now) (map page_of pages.now) p (certificate_of certificate.now) None)
-        (λ reason. IsFirstFault (slots_of cycle.now) (map page_of pages.now) (certificate_of certificate.now) reason)) }
+// The second pass over a cycle.
+fn second_pass(second: &mut Second, cycle: &Cycle)
+    ensures stands { Stands second.old (slots_of cycle.now) [] → Stands second.new (slots_of cycle.now) (slots_of cycle.now) }
+    ensures pages { second_pages second.new ≡ second_pages second.old }
+    ensures certificate { second_certificate second.new ≡ second_certificate second.old }
 {
-    for index in 0..pages.len() {
-        if let Some(reason) = fault_at(
-            alloc,
-            cycle,
-            pages,
-            index,
-            certificate,
-            collected,
-            others,
-        )? {
-            return Ok(Some(reason));
-        }
+    let slots = cycle.slots();
+    for i in 0..slots.len() {
+        second.second(&slots[i]);
     }
-    Ok(None)
 }
 
 /// Whether the cycle is accepted with the certificate for each of the pages, whose ids are distinct; if not, the first reason:
@@ -91,16 +57,9 @@ pub fn certify(
     crate::laws::accepted_is_seen();
     ttx_page::laws::pages_keep_their_rules();
     ttx_witness::certificate_laws::certificates_keep_their_rules();
-    ttx_witness::cycle_laws::coverage_is_decided();
-    ttx_witness::fault_laws::steady_has_no_fault();
-    ttx_witness::judging_laws::items_are_judged();
-    if let Some(slot) = bad_slot(cycle) {
-        return Ok(Verdict::No(Reason::BadSlot { slot }));
-    }
-    let collected = collect(alloc, cycle, pages, certificate.lines())?;
-    let others = OtherSubpages::of(alloc, cycle, pages)?;
-    match first_fault(alloc, cycle, pages, certificate, &collected, &others)? {
-        Some(reason) => Ok(Verdict::No(reason)),
-        None => Ok(Verdict::Yes),
-    }
+    let mut walk = Walk::new(alloc, pages, certificate)?;
+    first_pass(&mut walk, cycle);
+    let mut second = walk.begin_second();
+    second_pass(&mut second, cycle);
+    Ok(second.finish())
 }

@@ -1,23 +1,19 @@
 //! What is found of the starts that are named for one item.
 
-ghost use Rattle.std.specs.Prelude.{◌≡◌, ◌<◌, ◌↔◌, IsTrue, true, IfOk, ℕ, List, [], length};
-ghost use Rattle.ttx_cycle.specs.Cycles.{slots_of};
+ghost use Rattle.std.specs.Prelude.{◌≡◌, ◌≤◌, ◌<◌, ◌-◌, ◌↔◌, IsTrue, true, ℕ, List, [], length};
 ghost use Rattle.ttx_page.specs.declared.class.Class.TheVariants.{Clearing};
 ghost use Rattle.ttx_page.specs.Pages as definitions;
+ghost use Rattle.ttx_page.specs.Streams.{run_length};
 ghost use Rattle.ttx_page.specs.Views.{page_of};
 ghost use Rattle.ttx_witness.specs.Certificates.{certificate_of};
-ghost use Rattle.ttx_witness.specs.Coverage as coverage;
-ghost use Rattle.ttx_witness.specs.Sent.{sent_in};
-ghost use Rattle.ttx_witness.specs.Tracks.{IsWithin};
-ghost use Rattle.ttx_witness.specs.JudgingLaws.{IsHeaderAnswer};
-ghost use Rattle.std.specs.List.{AllByRecursion};
-ghost use Rattle.ttx_certify.specs.Findings.{IsFound};
+ghost use Rattle.ttx_witness.specs.CycleLaws.{progress_of};
 ghost use Rattle.ttx_witness.specs.Entries.{is_empty};
+ghost use Rattle.ttx_witness.specs.Following.{IsProgress};
+ghost use Rattle.ttx_witness.specs.JudgingLaws.{IsHeaderAnswer};
+ghost use Rattle.ttx_certify.specs.Findings.{IsFound};
 
-use std::alloc::Global;
-use ttx_cycle::Cycle;
 use ttx_page::{Class, Item, Page, is_blank, needed};
-use ttx_witness::{Certificate, NoMemory, Transmission, judge_item, late_at_end, run_length};
+use ttx_witness::{Certificate, Progress, late_at_end, limit};
 
 /// The reasons that speak of named starts, in the order in which they are told.
 #[derive(Clone, Copy)]
@@ -42,42 +38,32 @@ fn found(item: Item, doubt: Doubt, at: u32) -> Finding
     Finding { item, doubt, at }
 }
 
-/// The deadline in slots.
-pub fn limit(certificate: &Certificate) -> u32
-    ensures { result ≡ coverage.limit (certificate_of certificate.now) }
-{
-    ttx_witness::certificate_laws::certificates_keep_their_rules();
-    certificate.deadline() * u32::from(certificate.lines())
-}
-
-// What one pass over the item's transmissions tells of its named starts.
+// What one pass over the item's transmissions in a list of `period` slots tells of its named starts.
 fn judged(
-    alloc: Global,
-    cycle: &Cycle,
     page: &Page,
     certificate: &Certificate,
-    item: Item,
-    sent: &[Transmission],
-) -> Result<Option<Finding>, NoMemory>
-    requires needed { definitions.needed (page_of page.now) item ≡ true }
-    requires named { 0 < length ((certificate_of certificate.now).starts (page_of page.now).id item) }
-    requires sent { sent.now ≡ sent_in (slots_of cycle.now) (page_of page.now).id (certificate_of certificate.now).lines item }
-    requires within { AllByRecursion (IsWithin 65536) sent.now }
-    ensures { IfOk result (λ found. IsFound (slots_of cycle.now) (page_of page.now) (certificate_of certificate.now) item found) }
+    item: &Item,
+    progress: Progress,
+    period: u32,
+) -> Option<Finding>
+    requires needed { definitions.needed (page_of page.now) item.now ≡ true }
+    requires named { 0 < length ((certificate_of certificate.now).starts (page_of page.now).id item.now) }
+    ensures { (y : List (List ℕ)) → 1 ≤ length y → period ≡ length y → progress ≡ progress_of y (page_of page.now) (certificate_of certificate.now) item.now (run_length (certificate_of certificate.now).repeat item.now - 1) →
+        IsFound y (page_of page.now) (certificate_of certificate.now) item.now result }
 {
     ttx_witness::certificate_laws::certificates_keep_their_rules();
     ttx_witness::judging_laws::items_are_judged();
-    let starts = certificate.starts(page.id(), item);
-    let period = cycle.slots().len() as u32;
-    let repeat = run_length(certificate.repeat(), &item);
-    let limit = limit(certificate);
-    let progress = judge_item(alloc, sent, starts, repeat, limit, period)?;
-    if progress.next < starts.len() {
-        return Ok(Some(found(item, Doubt::WitnessBad, starts[progress.next])));
+    let starts = certificate.starts(page.id(), *item);
+    let next = progress.next;
+    if next < starts.len() {
+        return Some(found(*item, Doubt::WitnessBad, starts[next]));
     }
-    match late_at_end(progress, period, starts, limit) {
-        Some(at) => Ok(Some(found(item, Doubt::Late, at))),
-        None => Ok(None),
+    if next > starts.len() {
+        return None;
+    }
+    match late_at_end(progress, period, starts, limit(certificate)) {
+        Some(at) => Some(found(*item, Doubt::Late, at)),
+        None => None,
     }
 }
 
@@ -122,26 +108,28 @@ fn is_unnamed(page: &Page, certificate: &Certificate, item: &Item) -> bool
     certificate.starts(page.id(), *item).is_empty()
 }
 
-/// What is found of an item; `late` is the first late header of the page.
+/// What is found of an item; `late` is the first late header of the page, and `progress` how far the starts named for the item
+/// are confirmed by a list of `period` slots.
 pub fn find_item(
-    alloc: Global,
-    cycle: &Cycle,
     page: &Page,
     certificate: &Certificate,
-    item: Item,
-    sent: &[Transmission],
+    item: &Item,
+    progress: Option<Progress>,
+    period: u32,
     late: Option<u32>,
-) -> Result<Option<Finding>, NoMemory>
-    requires sent { sent.now ≡ sent_in (slots_of cycle.now) (page_of page.now).id (certificate_of certificate.now).lines item }
-    requires within { AllByRecursion (IsWithin 65536) sent.now }
-    requires late { (certificate_of certificate.now).class ≡ Clearing → IsHeaderAnswer (slots_of cycle.now) (page_of page.now) (certificate_of certificate.now) late }
-    ensures { IfOk result (λ found. IsFound (slots_of cycle.now) (page_of page.now) (certificate_of certificate.now) item found) }
+) -> Option<Finding>
+    ensures { (y : List (List ℕ)) → 1 ≤ length y → period ≡ length y → IsProgress y (page_of page.now) (certificate_of certificate.now) item.now progress →
+        ((certificate_of certificate.now).class ≡ Clearing → IsHeaderAnswer y (page_of page.now) (certificate_of certificate.now) late) →
+        IsFound y (page_of page.now) (certificate_of certificate.now) item.now result }
 {
-    if !is_needed(page, &item) {
-        return Ok(None);
+    if !is_needed(page, item) {
+        return None;
     }
-    if is_unnamed(page, certificate, &item) {
-        return Ok(unnamed(page, certificate, item, late));
+    if is_unnamed(page, certificate, item) {
+        return unnamed(page, certificate, *item, late);
     }
-    judged(alloc, cycle, page, certificate, item, sent)
+    let Some(progress) = progress else {
+        return None;
+    };
+    judged(page, certificate, item, progress, period)
 }

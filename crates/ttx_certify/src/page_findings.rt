@@ -1,24 +1,20 @@
 //! The first reason that speaks of named starts and is true of a page.
 
-ghost use Rattle.std.specs.Prelude.{◌≡◌, ◌<◌, IfOk, Some, None};
-ghost use Rattle.ttx_cycle.specs.Cycles.{slots_of};
+ghost use Rattle.std.specs.Prelude.{◌≡◌, ◌<◌, ℕ, List, Some, None, length, slice_get};
 ghost use Rattle.ttx_page.specs.declared.class.Class.TheVariants.{Clearing};
-ghost use Rattle.ttx_page.specs.Streams.{repeated};
+ghost use Rattle.ttx_page.specs.Pages as definitions;
 ghost use Rattle.ttx_page.specs.Steady.{HasHeader};
-ghost use Rattle.ttx_page.specs.Views.{page_of};
-ghost use Rattle.ttx_witness.specs.Certificates.{certificate_of};
+ghost use Rattle.ttx_page.specs.Streams.{repeated};
 ghost use Rattle.ttx_witness.specs.Faults.{IsWitnessFault};
 ghost use Rattle.ttx_witness.specs.JudgingLaws.{IsHeaderAnswer};
+ghost use Rattle.ttx_witness.specs.Passing.{IsEnded, ended_pages, ended_certificate};
 ghost use Rattle.ttx_certify.specs.Findings as told;
-ghost use Rattle.ttx_certify.specs.Findings.{chosen, HasSent, IsFoundAt, IsFoundIn};
+ghost use Rattle.ttx_certify.specs.Findings.{chosen, IsFoundAt, IsFoundIn};
 
-use crate::findings::{Doubt, Finding, find_item, limit};
-use crate::headers::late_header;
-use std::alloc::Global;
-use ttx_cycle::Cycle;
+use crate::findings::{Doubt, Finding, find_item};
 use ttx_header::PageId;
-use ttx_page::{Class, Item, Page};
-use ttx_witness::{Certificate, Collected, NoMemory, Reason, item_of};
+use ttx_page::Class;
+use ttx_witness::{EndedPass, Reason, item_of};
 
 // The number of the reason.
 fn order(doubt: Doubt) -> u8
@@ -49,77 +45,41 @@ fn first_of(earlier: Option<Finding>, next: Option<Finding>) -> Option<Finding>
     }
 }
 
-// The first header of the page that the next one follows too late, where receivers surely clear.
-fn late_for(
-    cycle: &Cycle,
-    page: &Page,
-    certificate: &Certificate,
-    collected: &Collected,
-    index: usize,
-) -> Option<u32>
-    requires sent { HasSent (slots_of cycle.now) (certificate_of certificate.now).lines (page_of page.now) index collected.now }
-    requires header { HasHeader (repeated (slots_of cycle.now)) (page_of page.now).id }
-    ensures { (certificate_of certificate.now).class ≡ Clearing → IsHeaderAnswer (slots_of cycle.now) (page_of page.now) (certificate_of certificate.now) result }
+// The first header of the page at the index that the next one follows too late, where receivers surely clear.
+fn late_for(ended: &EndedPass, index: usize) -> Option<u32>
+    ensures { (y : List (List ℕ)) (p : definitions.Page) → IsEnded ended.now y → slice_get (ended_pages ended.now) index ≡ Some p → HasHeader (repeated y) p.id → (ended_certificate ended.now).class ≡ Clearing →
+        IsHeaderAnswer y p (ended_certificate ended.now) result }
 {
-    ttx_witness::judging_laws::headers_are_judged();
-    match certificate.class() {
+    match ended.certificate.class() {
         Class::Any => None,
-        Class::Clearing => {
-            let heads = collected.sent(index, Item::Head);
-            late_header(heads, cycle.slots().len() as u32, limit(certificate))
-        }
+        Class::Clearing => ended.late_header(index),
     }
 }
 
-// What is found of the item of this number.
-fn find_at(
-    alloc: Global,
-    cycle: &Cycle,
-    page: &Page,
-    certificate: &Certificate,
-    collected: &Collected,
-    index: usize,
-    number: u8,
-    late: Option<u32>,
-) -> Result<Option<Finding>, NoMemory>
+// What is found of the item of this number of the page at the index.
+fn find_at(ended: &EndedPass, index: usize, number: u8, late: Option<u32>) -> Option<Finding>
+    requires index { index < length ended.now.pages.now }
     requires number { number < 26 }
-    requires sent { HasSent (slots_of cycle.now) (certificate_of certificate.now).lines (page_of page.now) index collected.now }
-    requires late { (certificate_of certificate.now).class ≡ Clearing → IsHeaderAnswer (slots_of cycle.now) (page_of page.now) (certificate_of certificate.now) late }
-    ensures { IfOk result (λ found. IsFoundAt (slots_of cycle.now) (page_of page.now) (certificate_of certificate.now) number found) }
+    ensures { (y : List (List ℕ)) (p : definitions.Page) → IsEnded ended.now y → slice_get (ended_pages ended.now) index ≡ Some p →
+        ((ended_certificate ended.now).class ≡ Clearing → IsHeaderAnswer y p (ended_certificate ended.now) late) → IsFoundAt y p (ended_certificate ended.now) number result }
 {
-    let sent = collected.sent(index, item_of(number));
-    find_item(alloc, cycle, page, certificate, item_of(number), sent, late)
+    let item = item_of(number);
+    let progress = ended.progress(index, number);
+    let page = &ended.pages[index];
+    find_item(page, ended.certificate, &item, progress, ended.period, late)
 }
 
-// The first of what is found of the items of a page.
-fn first_finding(
-    alloc: Global,
-    cycle: &Cycle,
-    page: &Page,
-    certificate: &Certificate,
-    collected: &Collected,
-    index: usize,
-) -> Result<Option<Finding>, NoMemory>
-    requires sent { HasSent (slots_of cycle.now) (certificate_of certificate.now).lines (page_of page.now) index collected.now }
-    requires header { HasHeader (repeated (slots_of cycle.now)) (page_of page.now).id }
-    ensures { IfOk result (λ found. IsFoundIn (slots_of cycle.now) (page_of page.now) (certificate_of certificate.now) 26 found) }
+// The first of what is found of the items of the page at the index.
+fn first_finding(ended: &EndedPass, index: usize, late: Option<u32>) -> Option<Finding>
+    requires { index < length ended.now.pages.now }
+    ensures { (y : List (List ℕ)) (p : definitions.Page) → IsEnded ended.now y → slice_get (ended_pages ended.now) index ≡ Some p →
+        ((ended_certificate ended.now).class ≡ Clearing → IsHeaderAnswer y p (ended_certificate ended.now) late) → IsFoundIn y p (ended_certificate ended.now) 26 result }
 {
-    let late = late_for(cycle, page, certificate, collected, index);
     let mut best = None;
     for number in 0..26u8 {
-        let found = find_at(
-            alloc,
-            cycle,
-            page,
-            certificate,
-            collected,
-            index,
-            number,
-            late,
-        )?;
-        best = first_of(best, found);
+        best = first_of(best, find_at(ended, index, number, late));
     }
-    Ok(best)
+    best
 }
 
 // A finding as a reason.
@@ -147,22 +107,15 @@ fn reason_of(page: PageId, finding: Finding) -> Reason
     }
 }
 
-/// The first of the reasons that speak of named starts, of a page that has a header; the page stands at `index` of the pages
-/// whose transmissions are collected.
-pub fn witness_fault(
-    alloc: Global,
-    cycle: &Cycle,
-    page: &Page,
-    certificate: &Certificate,
-    collected: &Collected,
-    index: usize,
-) -> Result<Option<Reason>, NoMemory>
-    requires sent { HasSent (slots_of cycle.now) (certificate_of certificate.now).lines (page_of page.now) index collected.now }
-    requires header { HasHeader (repeated (slots_of cycle.now)) (page_of page.now).id }
-    ensures { IfOk result (λ reason. IsWitnessFault (slots_of cycle.now) (page_of page.now) (certificate_of certificate.now) reason) }
+/// The first of the reasons that speak of named starts, of the page at the index, which has a header.
+pub fn witness_fault(ended: &EndedPass, index: usize) -> Option<Reason>
+    requires { index < length ended.now.pages.now }
+    ensures { (y : List (List ℕ)) (p : definitions.Page) → IsEnded ended.now y → slice_get (ended_pages ended.now) index ≡ Some p → HasHeader (repeated y) p.id →
+        IsWitnessFault y p (ended_certificate ended.now) result }
 {
-    match first_finding(alloc, cycle, page, certificate, collected, index)? {
-        Some(finding) => Ok(Some(reason_of(page.id(), finding))),
-        None => Ok(None),
+    let late = late_for(ended, index);
+    match first_finding(ended, index, late) {
+        Some(finding) => Some(reason_of(ended.pages[index].id(), finding)),
+        None => None,
     }
 }

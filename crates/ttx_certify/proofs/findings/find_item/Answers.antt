@@ -1,5 +1,4 @@
-use Rattle.ttx_cycle.specs.Cycles.{slots_of}
 use Rattle.ttx_certify.proofs.findings.find_item.Goals as goal
 
 pub returns-then-is_unnamed : goal.returns-then-is_unnamed
-returns-then-is_unnamed c = c.unnamed.ensures (slots_of c.args.cycle.now) c.requires.late
+returns-then-is_unnamed c = λ y some period is answer. c.unnamed.ensures y answer

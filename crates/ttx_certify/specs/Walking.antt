@@ -1,0 +1,39 @@
+-- For which two lists of slots a walk stands, and what it says of them.
+--
+--   walk_pages, walk_certificate, second_pages, second_certificate    the pages and the certificate of a walk, in each of its passes
+--   Starts                  a walk after a first list
+--   Stands                  a walk after a first and a second list
+--   IsWalkVerdict           what a walk over two lists says
+use Rattle.std.specs.Prelude.{◌≡◌, ℕ, List, []}
+use Rattle.ttx_page.specs.Pages.{Page}
+use Rattle.ttx_witness.specs.Coverage.{Certificate}
+use Rattle.ttx_witness.specs.Passing.{IsFirstPass, IsSecondPass, pages_of, certificate, pages_in, certificate_in}
+use Rattle.ttx_witness.specs.declared.reason.Reason.TheVariants.{Unsteady}
+use Rattle.ttx_certify.specs.Verdicts.{IsVerdict}
+use Rattle.ttx_certify.specs.declared.verdict.Verdict.{Verdict}
+use Rattle.ttx_certify.specs.declared.verdict.Verdict.TheVariants.{No}
+use Rattle.ttx_certify.specs.declared.walking.Walk.{Walk}
+use Rattle.ttx_certify.specs.declared.walking.Second.{Second}
+
+abbrev pub walk_pages : Walk → List Page
+walk_pages walk = pages_of walk.pass
+
+abbrev pub walk_certificate : Walk → Certificate
+walk_certificate walk = certificate walk.pass
+
+abbrev pub second_pages : Second → List Page
+second_pages second = pages_in second.pass
+
+abbrev pub second_certificate : Second → Certificate
+second_certificate second = certificate_in second.pass
+
+abbrev pub Starts : Walk → List (List ℕ) → Type 0
+Starts walk x = IsFirstPass walk.pass x
+
+abbrev pub Stands : Second → List (List ℕ) → List (List ℕ) → Type 0
+Stands second x y = IsSecondPass second.pass x y
+
+-- Unsteady only where the lists differ or the second is empty; all else is the verdict of the second list.
+abbrev pub IsWalkVerdict : List (List ℕ) → List (List ℕ) → List Page → Certificate → Verdict → Type 0
+IsWalkVerdict x y pages w (No Unsteady) = x ≡ y → y ≡ []
+IsWalkVerdict x y pages w verdict = IsVerdict y pages w verdict

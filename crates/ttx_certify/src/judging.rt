@@ -1,0 +1,54 @@
+//! The verdict on a list of slots that two passes have seen.
+
+ghost use Rattle.std.specs.Prelude.{◌≡◌, ◌<◌, ℕ, List, Some, None, MatchOption, length, slice_get};
+ghost use Rattle.ttx_page.specs.Pages as definitions;
+ghost use Rattle.ttx_witness.specs.Faults.{IsFault};
+ghost use Rattle.ttx_witness.specs.Passing.{IsEnded, ended_pages, ended_certificate};
+ghost use Rattle.ttx_certify.specs.Verdicts.{IsFirstFault, IsVerdict};
+
+use crate::page_findings::witness_fault;
+use crate::verdict::Verdict;
+use ttx_witness::{EndedPass, Reason};
+
+// The first fault of the page at the index.
+fn fault_at(ended: &EndedPass, index: usize) -> Option<Reason>
+    requires { index < length ended.now.pages.now }
+    ensures { (y : List (List ℕ)) (p : definitions.Page) → IsEnded ended.now y → slice_get (ended_pages ended.now) index ≡ Some p → IsFault y (ended_pages ended.now) p (ended_certificate ended.now) result }
+{
+    if let Some(reason) = ended.page_fault(index) {
+        return Some(reason);
+    }
+    witness_fault(ended, index)
+}
+
+// The first fault of the first page that has one.
+fn first_fault(ended: &EndedPass) -> Option<Reason>
+    ensures { (y : List (List ℕ)) → IsEnded ended.now y →
+        MatchOption result ((n : ℕ) (p : definitions.Page) → slice_get (ended_pages ended.now) n ≡ Some p → IsFault y (ended_pages ended.now) p (ended_certificate ended.now) None)
+        (λ reason. IsFirstFault y (ended_pages ended.now) (ended_certificate ended.now) reason) }
+{
+    for index in 0..ended.pages.len() {
+        if let Some(reason) = fault_at(ended, index) {
+            return Some(reason);
+        }
+    }
+    None
+}
+
+/// The verdict on a list that ended as it began: a slot that isn't clean before all else, then page by page as they are listed,
+/// the least number, and the least slot or item and start.
+pub fn judge(ended: &EndedPass) -> Verdict
+    ensures { (y : List (List ℕ)) → IsEnded ended.now y → IsVerdict y (ended_pages ended.now) (ended_certificate ended.now) result }
+{
+    ttx_witness::certificate_laws::certificates_keep_their_rules();
+    ttx_witness::cycle_laws::coverage_is_decided();
+    ttx_witness::fault_laws::steady_has_no_fault();
+    ttx_witness::judging_laws::items_are_judged();
+    if let Some(slot) = ended.bad {
+        return Verdict::No(Reason::BadSlot { slot });
+    }
+    match first_fault(ended) {
+        Some(reason) => Verdict::No(reason),
+        None => Verdict::Yes,
+    }
+}

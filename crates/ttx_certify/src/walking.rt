@@ -1,0 +1,100 @@
+//! The streaming walk: whether a cycle is accepted, slot by slot in two passes, with no slot kept. The first pass is believed in
+//! nothing: where the second doesn't bear it out, the verdict is `Unsteady`.
+
+use crate::judging::judge;
+use crate::verdict::Verdict;
+use std::alloc::Global;
+use ttx_page::Page;
+use ttx_witness::{Certificate, NoMemory, Pass, Reason, SecondPass, WalkFault};
+
+/// A walk in its first pass.
+#[derive(Drop)]
+pub struct Walk<'a> {
+    pass: Pass<'a>,
+}
+
+/// A walk in its second pass.
+#[derive(Drop)]
+pub struct Second<'a> {
+    pass: SecondPass<'a>,
+}
+
+impl<'a> Walk<'a> {
+    ghost use Rattle.std.specs.Prelude.{◌≡◌, ◌≢◌, ◌++◌, ◌∷◌, [], ℕ, List, IfOk, MatchResult, length, map};
+    ghost use Rattle.std.specs.List.{AllPairs};
+    ghost use Rattle.ttx_packet.specs.Slots.{IsSlot};
+    ghost use Rattle.ttx_page.specs.Views.{page_of};
+    ghost use Rattle.ttx_witness.specs.Certificates.{certificate_of};
+    ghost use Rattle.ttx_witness.specs.Collected.{ids_of};
+    ghost use Rattle.ttx_certify.specs.Walking.{Starts, Stands, walk_pages, walk_certificate, second_pages, second_certificate};
+
+    /// A walk over the pages, whose ids are distinct, with the certificate. All its growths are made here; what is kept is by
+    /// page, item and named start.
+    pub fn new(
+        alloc: Global,
+        pages: &'a [Page],
+        certificate: &'a Certificate,
+    ) -> Result<Walk<'a>, NoMemory>
+        requires distinct { AllPairs (λ a b. a ≢ b) (ids_of pages.now) }
+        ensures stands { IfOk result (λ walk. Starts walk []) }
+        ensures pages { IfOk result (λ walk. walk_pages walk ≡ map page_of pages.entry.now) }
+        ensures certificate { IfOk result (λ walk. walk_certificate walk ≡ certificate_of certificate.entry.now) }
+    {
+        let pass = Pass::new(alloc, pages, certificate)?;
+        Ok(Walk { pass })
+    }
+
+    /// The next slot of the first list, of at most 65,536: after `TooLong` the walk is as it was. Takes no memory.
+    pub fn first(&mut self, slot: &[u8; 42]) -> Result<(), WalkFault>
+        requires { IsSlot slot.now }
+        ensures stands { (x : List (List ℕ)) → Starts self.old x → MatchResult result (λ u. Starts self.new (x ++ slot.now ∷ [])) (λ f. (self.new ≡ self.old) × (length x ≡ 65536)) }
+        ensures pages { walk_pages self.new ≡ walk_pages self.old }
+        ensures certificate { walk_certificate self.new ≡ walk_certificate self.old }
+    {
+        self.pass.first(slot)
+    }
+
+    /// Before the second list. Takes no memory.
+    pub fn begin_second(self) -> Second<'a>
+        ensures stands { (x : List (List ℕ)) → Starts self.entry x → Stands result x [] }
+        ensures pages { second_pages result ≡ walk_pages self.entry }
+        ensures certificate { second_certificate result ≡ walk_certificate self.entry }
+    {
+        Second {
+            pass: self.pass.begin_second(),
+        }
+    }
+}
+
+impl<'a> Second<'a> {
+    ghost use Rattle.std.specs.Prelude.{◌≡◌, ◌++◌, ◌∷◌, [], ℕ, List};
+    ghost use Rattle.ttx_packet.specs.Slots.{IsSlot};
+    ghost use Rattle.ttx_certify.specs.Verdicts.{Means};
+    ghost use Rattle.ttx_certify.specs.Walking.{Stands, IsWalkVerdict, second_pages, second_certificate};
+
+    /// The next slot of the second list, of any length. Takes no memory.
+    pub fn second(&mut self, slot: &[u8; 42])
+        requires { IsSlot slot.now }
+        ensures stands { (x y : List (List ℕ)) → Stands self.old x y → Stands self.new x (y ++ slot.now ∷ []) }
+        ensures pages { second_pages self.new ≡ second_pages self.old }
+        ensures certificate { second_certificate self.new ≡ second_certificate self.old }
+    {
+        self.pass.second(slot);
+    }
+
+    /// The verdict on the second list: `Unsteady` where it is empty, too long, or leaves other owners than it began with, and
+    /// else exactly that of the second list. Where both lists are one, and not empty, it is that of `certify`; where it is Yes,
+    /// each page of the second list is seen. Takes no memory.
+    pub fn finish(self) -> Verdict
+        ensures verdict { (x y : List (List ℕ)) → Stands self.entry x y → IsWalkVerdict x y (second_pages self.entry) (second_certificate self.entry) result }
+        ensures seen { (x y : List (List ℕ)) → Stands self.entry x y → Means y (second_pages self.entry) (second_certificate self.entry) result }
+    {
+        crate::laws::accepted_is_seen();
+        ttx_page::laws::pages_keep_their_rules();
+        ttx_witness::certificate_laws::certificates_keep_their_rules();
+        match self.pass.end() {
+            Some(ended) => judge(&ended),
+            None => Verdict::No(Reason::Unsteady),
+        }
+    }
+}
