@@ -1,0 +1,78 @@
+//! The laws of splices. A call costs nothing and gives the caller's proof the law.
+
+ghost use Rattle.ttx_proof.specs.Joining.{JoinedAreListed};
+ghost use Rattle.ttx_proof.specs.Meaning.{VerdictsMean, SpliceVerdictsAreOne};
+ghost use Rattle.ttx_proof.specs.Seams.{SeamsAreLeft};
+ghost use Rattle.ttx_proof.specs.Laws.{StepsKeepMemories, BridgedIsSeen, WalksDecide};
+
+/// What a slot makes of a memory is a memory.
+pub fn steps_keep_memories()
+    ensures { StepsKeepMemories }
+{
+    ttx_header::laws::headers_have_fields();
+}
+
+/// A splice of accepted cycles whose common pages have no seam and are bridged is seen.
+pub fn bridged_is_seen()
+    ensures { BridgedIsSeen }
+{
+    steps_keep_memories();
+    ttx_certify::laws::runs_are_seen();
+    ttx_page::laws::each_slot_turns();
+    ttx_page::laws::streams_move();
+    ttx_page::laws::runs_are_unique();
+    ttx_page::laws::steady_sends_its_own();
+    ttx_page::laws::owners_are_unique();
+    ttx_page::laws::owners_come_first();
+    ttx_page::laws::owners_dont_fall();
+}
+
+/// One walk over the joined stream decides whether an item of a common page is bridged.
+pub fn walks_decide()
+    ensures { WalksDecide }
+{
+    ttx_page::laws::each_slot_turns();
+    ttx_page::laws::streams_move();
+    ttx_page::laws::cycles_repeat();
+    ttx_page::laws::runs_are_unique();
+    ttx_page::laws::steady_sends_its_own();
+    ttx_page::laws::owners_are_unique();
+    ttx_page::laws::owners_come_first();
+    ttx_page::laws::owners_dont_fall();
+    ttx_page::laws::owners_are_near();
+}
+
+/// The transmissions of one period on either side tell those of the part of the joined stream that a walk reads.
+pub fn joined_are_listed()
+    ensures { JoinedAreListed }
+{
+    ttx_page::laws::each_slot_turns();
+    ttx_page::laws::streams_move();
+    ttx_page::laws::cycles_repeat();
+    ttx_page::laws::runs_are_unique();
+    ttx_page::laws::steady_sends_its_own();
+    ttx_page::laws::owners_are_unique();
+    ttx_page::laws::owners_come_first();
+    ttx_page::laws::owners_dont_fall();
+    ttx_page::laws::owners_are_near();
+}
+
+/// A Yes says that the joined stream is seen, and where there is a reason, there is no Yes.
+pub fn verdicts_mean()
+    ensures { VerdictsMean }
+{
+    bridged_is_seen();
+}
+
+/// Where a page has a seam: under its own last header in the old cycle, before the new one's first of the magazine.
+pub fn seams_are_left()
+    ensures { SeamsAreLeft }
+{}
+
+/// Two verdicts that are right of the same splice are equal.
+pub fn verdicts_are_one()
+    ensures { SpliceVerdictsAreOne }
+{
+    verdicts_mean();
+    ttx_certify::verdict_laws::verdicts_are_one();
+}

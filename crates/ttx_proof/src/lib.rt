@@ -1,0 +1,21 @@
+//! Splices: an old cycle that gives way to a new one, and what each receiver sees of it.
+#![tactic(auto)]
+
+mod bridging;
+mod common;
+mod files;
+mod following;
+mod joining;
+mod lates;
+pub mod laws;
+mod lines;
+mod seaming;
+mod seams;
+mod splicing;
+mod starts;
+mod verdict;
+
+pub use files::splice_files;
+pub use lines::splice_line;
+pub use splicing::splice;
+pub use verdict::{SpliceReason, SpliceVerdict};
