@@ -8,3 +8,4 @@ mod TwoInputs
 mod FreshUntilHeader
 pub mod SameInputs
 pub mod PlannedFiles
+mod TooLong

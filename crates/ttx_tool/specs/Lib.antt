@@ -12,3 +12,4 @@ pub mod Grammar
 pub mod Orders
 pub mod PageNames
 pub mod PlannedFiles
+pub mod PlanningLaws

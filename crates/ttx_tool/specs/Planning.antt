@@ -40,10 +40,11 @@ abbrev pub Defines : List ℕ → Result ServiceFields ToolFault → Type 0
 Defines bytes (Ok service) = IsService bytes service
 Defines bytes (Err fault) = IsNoText bytes fault
 
--- the slots carry the service of the text to receivers of the class, as a planned cycle
+-- the slots carry the service of the text, which isn't too long, to receivers of the class, as a planned cycle
 pub record IsPlan (bytes : List ℕ) (class : Class) (slots : List (List ℕ)) : Type 0 where
   pub service : ServiceFields
   pub text : IsService bytes service
+  pub few : length_bound service.lines (blocks_of class service.pages) ≤ 65536
   pub carries : Carries class service slots
   pub planned : IsPlanned class service slots
   pub is_cycle : IsCycle slots

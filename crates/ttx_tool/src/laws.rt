@@ -1,6 +1,7 @@
-//! Laws of commands that follow one another. A call costs nothing and gives the caller's proof the law.
+//! Laws of what the commands answer, also where they follow one another. A call costs nothing and gives the caller's proof the law.
 
 ghost use Rattle.ttx_tool.specs.PlannedFiles.{FoundIsCertified, PlannedIsFound};
+ghost use Rattle.ttx_tool.specs.PlanningLaws.{PlannedIsNotTooLong};
 
 /// In a packet file that `plan` writes for the text of a service, `find` finds a deadline for the class of the plan and each
 /// repeat count.
@@ -16,3 +17,8 @@ pub fn found_is_certified()
 {
     ttx_witness::certificate_laws::written_texts_are_read();
 }
+
+/// No text of a service both has a plan and is refused as too long.
+pub fn planned_is_not_too_long()
+    ensures { PlannedIsNotTooLong }
+{}
