@@ -17,6 +17,13 @@ run() {
     echo
 }
 
+# a page, with a terminal's colours where there is a terminal
+look() {
+    echo "\$ ttx $*"
+    if [ -t 1 ]; then "$program" "$@" --as ansi; else "$program" "$@" --as text; fi
+    echo
+}
+
 # a plain tool, and all that it writes
 show() {
     echo "\$ $*"
@@ -32,7 +39,7 @@ front() {
     echo
 }
 
-echo "A service of seven pages becomes the cycle of packets that carries it."
+echo "A service of 25 pages becomes the cycle of packets that carries it."
 run plan broadcast.toml broadcast.t42
 echo "Its first slots: packet 8/30, the page header of the index, an empty field, and the first rows."
 front 20 inspect broadcast.t42
@@ -42,12 +49,15 @@ show head -n 10 broadcast.cert
 echo
 echo "The verdict on cycle, service and certificate: whoever tunes to a page, at whatever slot, sees it in so many fields."
 run certify broadcast.t42 broadcast.toml broadcast.cert
-echo "What a receiver shows that was set to the weather at slot 40: a word for each cell of its first rows."
+echo "What a receiver shows that was set to the index at slot 40, and to the weather."
+look show broadcast.t42 100 --lines 12 --start 40
+look show broadcast.t42 130 --lines 12 --start 40
+echo "The weather for programs: a word for each cell of its first rows."
 front 8 receive broadcast.t42 130 --lines 12 --start 40
-echo "The same cycle with row 1 of the weather moved from slot 162 next to its header, where a receiver may miss it."
+echo "The same cycle with row 1 of the weather moved from slot 458 next to its header, where a receiver may miss it."
 show cp broadcast.t42 broken.t42
-show dd if=broadcast.t42 of=broken.t42 bs=42 skip=162 seek=150 count=1 conv=notrunc status=none
-show dd if=/dev/zero of=broken.t42 bs=42 seek=162 count=1 conv=notrunc status=none
+show dd if=broadcast.t42 of=broken.t42 bs=42 skip=458 seek=446 count=1 conv=notrunc status=none
+show dd if=/dev/zero of=broken.t42 bs=42 seek=458 count=1 conv=notrunc status=none
 echo
 run certify broken.t42 broadcast.toml broadcast.cert
 echo "Nor is there another certificate: nothing is written to it."

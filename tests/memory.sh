@@ -1,5 +1,5 @@
 #!/bin/sh
-# Runs the built program in less and less memory (address space, in KiB), over a cycle of 65,520 slots and a service of seven
+# Runs the built program in less and less memory (address space, in KiB), over a cycle of 65,520 slots and a service of 25
 # pages. Each command either does what it does with enough memory, or ends with `fault: memory`, status 3, and OUT empty or
 # not made; and each does both somewhere.
 #
