@@ -6,6 +6,7 @@ use std::io;
 use std::io::BufReader;
 use ttx_certify::{Verdict, certify_files};
 use ttx_cycle::Counted;
+use ttx_late::{LateVerdict, certify_files_late};
 use ttx_page::{Class, PageMemory};
 use ttx_receiver::{Careful, Cleared, Eager, Receiver};
 use ttx_tool::{Look, Order, ReceiverKind, ToolFault, Tuning, commands};
@@ -119,6 +120,30 @@ fn certify(
     }
 }
 
+// The same where receivers may show pages late.
+fn certify_late(
+    rt: &HostRuntime,
+    cycle: Input,
+    service: Input,
+    certificate: Input,
+) -> Result<u8, ToolFault> {
+    let mut cycle = buffered(rt, cycle)?;
+    let mut service = buffered(rt, service)?;
+    let mut certificate = buffered(rt, certificate)?;
+    let mut writer = Counted::new(io::writer(rt));
+    match certify_files_late(
+        rt.alloc(),
+        &mut cycle,
+        &mut service,
+        &mut certificate,
+        &mut writer,
+    ) {
+        Ok(LateVerdict::Yes { .. }) => Ok(0),
+        Ok(_) => Ok(1),
+        Err(fault) => Err(ToolFault::from_files(fault)),
+    }
+}
+
 // Finds the certificate of a cycle: status 0 where there is a deadline, else 1.
 fn find(
     rt: &HostRuntime,
@@ -178,11 +203,16 @@ fn open_certify(
     cycle: &str,
     service: &str,
     certificate: &str,
+    late: bool,
 ) -> io::Result<Result<u8, ToolFault>> {
     let cycle = open_input(rt, cycle)?;
     let service = open_input(rt, service)?;
     let certificate = open_input(rt, certificate)?;
-    Ok(certify(rt, cycle, service, certificate))
+    if late {
+        Ok(certify_late(rt, cycle, service, certificate))
+    } else {
+        Ok(certify(rt, cycle, service, certificate))
+    }
 }
 
 /// Opens the inputs in the order of the words, makes the output file anew, and runs the command. An error is that of a file
@@ -212,6 +242,7 @@ pub fn run_order(rt: &HostRuntime, order: &Order<'_>) -> io::Result<Result<u8, T
             cycle,
             service,
             certificate,
-        } => open_certify(rt, cycle, service, certificate),
+            late,
+        } => open_certify(rt, cycle, service, certificate, *late),
     }
 }

@@ -156,20 +156,21 @@ fn find<'a>(alloc: Global, classes: &'a [&'a str]) -> Building<'a>
     with_class(alloc, find, classes)
 }
 
-// `certify CYCLE SERVICE CERT`
+// `certify CYCLE SERVICE CERT [--late]`
 fn certify<'a>(alloc: Global) -> Building<'a>
     ensures { Builds result certify_app }
 {
     let certify = command(alloc, "certify", help::CERTIFY, help::CERTIFY_MORE);
     let certify = with_operand(alloc, certify, "cycle", "CYCLE", help::CYCLE_OPERAND);
     let certify = with_operand(alloc, certify, "service", "SERVICE", help::SERVICE_OPERAND);
-    with_operand(
+    let certify = with_operand(
         alloc,
         certify,
         "certificate",
         "CERT",
         help::CERTIFICATE_OPERAND,
-    )
+    );
+    with_flag(alloc, certify, "late", help::LATE_OPTION)
 }
 
 // `CYCLE PAGE [--lines L] [--start S] [--slots N] [--kind eager|careful|cleared]`

@@ -69,6 +69,10 @@ pub(crate) const CERTIFY_MORE: &str =
     "Reads CYCLE, SERVICE and CERT, in this order, to their ends. The verdict is one of
   yes lines L repeat K deadline D pages N    with class clearing at its end for a certificate of that class
   no NUMBER NAME ..                          the first true reason, with its page, item, and slot or start
+With --late a yes ends with late G: a receiver that shows a page only where the next header of its magazine, with
+another page number, has ended it shows the page G slots after the deadline. Where a header is followed by one of
+the page's own number instead, the verdict is
+  no 13 never-shown PAGE SLOT                the first such header, if there is no other reason
 
 Statuses:
   0  yes
@@ -77,6 +81,8 @@ Statuses:
      refused: service NUMBER NAME [KEY] page N, refused: service too-long,
      refused: certificate NUMBER NAME [line N], refused: certificate too-long
   3  fault: file, fault: read, fault: write, fault: memory";
+
+pub(crate) const LATE_OPTION: &str = "Judge for receivers that may show a page late, too";
 
 pub(crate) const RECEIVE: &str =
     "Receives a page of a cycle, and writes what is then displayed to standard output";

@@ -61,6 +61,8 @@ pub enum Order<'a> {
         cycle: &'a str,
         service: &'a str,
         certificate: &'a str,
+        /// For receivers that may show pages late, too.
+        late: bool,
     },
     /// Show what a receiver holds of a page.
     Receive {

@@ -221,6 +221,7 @@ fn certified<'a>(values: &ArgMatches<'a>) -> Order<'a>
         cycle: text_of(values, "cycle"),
         service: text_of(values, "service"),
         certificate: text_of(values, "certificate"),
+        late: is_set(values, "late"),
     }
 }
 

@@ -8,4 +8,5 @@ returns c =
     let named = c.command-certify.ensures _ (search rules) in
     let cycle = c.with_operand-certify.ensures _ _ (search rules) named in
     let service = c.with_operand-certify-2.ensures _ _ (search rules) cycle in
-    c.with_operand.ensures _ _ (search rules) service
+    let certificate = c.with_operand-certify-3.ensures _ _ (search rules) service in
+    c.with_flag.ensures _ _ (search rules) certificate

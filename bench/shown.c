@@ -1,0 +1,70 @@
+/* Gives packets of a file to a new teletext decoder of libzvbi, 24 slots a frame, and prints what it then shows of some pages.
+ *
+ * usage: shown FILE START COUNT MPP/SSSS..
+ *
+ * COUNT slots are taken from slot START on, round the file. A slot of 42 zero bytes is a line without teletext. For each page
+ * the output has rows 1 to 24, a line each, or one line `-` where the decoder has stored no such page. */
+#include <libzvbi.h>
+#include <stdio.h>
+#include <stdlib.h>
+#include <string.h>
+
+enum { PACKET = 42, LINES = 24, LONGEST = 65536 };
+
+static unsigned char packets[LONGEST][PACKET];
+
+/* The lines of the frame that begins at a slot; answers how many of them hold a packet. */
+static int fill_frame(vbi_sliced *frame, size_t first, size_t end, size_t length) {
+    static const unsigned char empty[PACKET];
+    int filled = 0;
+    for (size_t slot = first; slot < end; slot++) {
+        const unsigned char *packet = packets[slot % length];
+        if (memcmp(packet, empty, PACKET) == 0) continue;
+        frame[filled].id = VBI_SLICED_TELETEXT_B;
+        frame[filled].line = 7 + slot - first;
+        memcpy(frame[filled].data, packet, PACKET);
+        filled++;
+    }
+    return filled;
+}
+
+static void ignore(vbi_event *event, void *data) {
+    (void)event;
+    (void)data;
+}
+
+static void print_page(vbi_decoder *decoder, const char *word) {
+    unsigned number, sub;
+    vbi_page page;
+    if (sscanf(word, "%3x/%4x", &number, &sub) != 2) exit(1);
+    if (!vbi_fetch_vt_page(decoder, &page, number, sub, VBI_WST_LEVEL_1, 25, FALSE)) {
+        puts("-");
+        return;
+    }
+    for (int row = 1; row < 25; row++) {
+        for (int column = 0; column < 40; column++) {
+            unsigned code = page.text[row * page.columns + column].unicode;
+            putchar(code >= 32 && code < 127 ? (int)code : '?');
+        }
+        putchar('\n');
+    }
+    vbi_unref_page(&page);
+}
+
+int main(int count, char **words) {
+    FILE *file = count > 3 ? fopen(words[1], "rb") : NULL;
+    size_t length = file ? fread(packets, PACKET, LONGEST, file) : 0;
+    vbi_decoder *decoder = vbi_decoder_new();
+    if (length == 0 || !decoder) return 1;
+    vbi_event_handler_add(decoder, VBI_EVENT_TTX_PAGE, ignore, NULL);
+    size_t start = strtoul(words[2], NULL, 10), end = start + strtoul(words[3], NULL, 10);
+    double time = 0;
+    for (size_t first = start; first < end; first += LINES) {
+        vbi_sliced frame[LINES];
+        vbi_decode(decoder, frame, fill_frame(frame, first, first + LINES < end ? first + LINES : end, length), time);
+        time += 1 / 25.0;
+    }
+    for (int word = 4; word < count; word++) print_page(decoder, words[word]);
+    vbi_decoder_delete(decoder);
+    return 0;
+}
