@@ -2,13 +2,14 @@
 # make test     the gate: every proof from nothing, every test, and the program over real files
 # make demo     the main job on a shipped example
 # make bench    times the program beside plain tools; writes nothing into the repository
+# make compare  compares what certify --late says with what libzvbi's decoder shows, where there is one
 
 BUILT = crates/ttx/out/ttx
 
 # so many crates are proved at a time, each in 1 to 4 GB
 JOBS = 4
 
-.PHONY: all ttx test demo bench
+.PHONY: all ttx test demo bench compare
 
 all: ttx
 
@@ -30,3 +31,6 @@ demo: ttx
 
 bench: ttx
 	sh bench/bench.sh ./ttx
+
+compare: ttx
+	python3 bench/late.py ./ttx

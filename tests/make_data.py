@@ -46,6 +46,11 @@ def base():
     return [header(1, 0), EMPTY, EMPTY, *[row(1, r) for r in range(1, 24)], links(1), time_filling(1)]
 
 
+def two_subpages(between):
+    """Two blank subpages of page 100, each with these slots behind it."""
+    return [slot for sub in (0, 1) for slot in [header(1, 0, sub), *base()[1:27], *between]]
+
+
 def odd(codes):
     """Characters as they are sent, with odd parity (8.1)."""
     return bytes(c | (0x80 if bin(c).count("1") % 2 == 0 else 0) for c in codes)
@@ -196,6 +201,12 @@ def certificate(deadline, repeat=1, rows=range(1, 24), more=None, at=(0,)):
     return "\n".join([*lines, f"100/0000 links {starts(26)}"]) + "\n"
 
 
+def subpages_certificate(deadline, second):
+    """That of two blank subpages, of which the second begins at this slot."""
+    entries = certificate(deadline, at=(second,)).split("\n", 4)[4].replace("/0000 ", "/0001 ")
+    return certificate(deadline) + entries
+
+
 def turned_certificate(deadline):
     """The certificate of the worked cycle turned by ten slots."""
     lines = ["ttx certificate 1", "lines 2", "repeat 1", f"deadline {deadline}", "100/0000 head 18"]
@@ -257,6 +268,10 @@ def main():
         "turned.t42": [*base()[10:], *base()[:10]],
         "other-magazine.t42": with_slot(base(), 1, header(2, 0, 0, 0, 0)),
         "other-magazine-serial.t42": with_slot(base(), 1, header(2, 0, 0, 0, 1)),
+        "alone.t42": with_slot(base(), 27, EMPTY),
+        "alone-in-its-magazine.t42": with_slot(base(), 27, header(2, 0)),
+        "subpages.t42": two_subpages([]),
+        "subpages-apart.t42": two_subpages([time_filling(1)]),
         "bad-slot.t42": with_byte(base(), 4, 0, 0x03),
         "near-text.t42": with_slot(near_row, 2, row(1, 1, b"\xc1" + SPACES[1:])),
         "bad-parity.t42": [*base()[:3], row(1, 1, b"\xc1" + SPACES[1:]), row(1, 1, b"\xc0" + SPACES[1:])],
@@ -270,6 +285,8 @@ def main():
         "often-3.toml": 'lines = 2\nserial = true\n[[page]]\nnumber = "100"\noften = 3\n',
         "base.cert": certificate(27),
         "base-26.cert": certificate(26),
+        "subpages.cert": subpages_certificate(41, 27),
+        "subpages-apart.cert": subpages_certificate(42, 28),
         "base-repeat-2.cert": certificate(41, 2),
         "no-row-1.cert": certificate(27, rows=range(2, 24)),
         "row-1-near.cert": certificate(27, rows=range(2, 24), more={1: "2"}),

@@ -32,7 +32,7 @@ judge() {
 
 for command in "inspect long.t42" "plan broadcast.toml out" "plan broadcast.toml out --class clearing" \
     "find long.t42 base.toml out" "find long.t42 base.toml out --class clearing" "certify long.t42 base.toml long.cert" \
-    "certify long.t42 base.toml clearing.cert" "receive long.t42 100 --slots 20000" "show long.t42 100 --slots 20000"; do
+    "certify long.t42 base.toml clearing.cert" "certify long.t42 base.toml long.cert --late" "receive long.t42 100 --slots 20000" "show long.t42 100 --slots 20000"; do
     finished=0
     refused=0
     rm -f out

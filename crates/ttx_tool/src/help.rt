@@ -69,10 +69,10 @@ pub(crate) const CERTIFY_MORE: &str =
     "Reads CYCLE, SERVICE and CERT, in this order, to their ends. The verdict is one of
   yes lines L repeat K deadline D pages N    with class clearing at its end for a certificate of that class
   no NUMBER NAME ..                          the first true reason, with its page, item, and slot or start
-With --late a yes ends with late G: a receiver that shows a page only where the next header of its magazine, with
-another page number, has ended it shows the page G slots after the deadline. Where a header is followed by one of
-the page's own number instead, the verdict is
-  no 13 never-shown PAGE SLOT                the first such header, if there is no other reason
+With --late receivers may show a page only where another page number ends it. A yes then has late G at its end:
+they show each page G slots after the deadline. Where the next header in the magazine of a page's header has its own
+number, the verdict is, if there is no other reason,
+  no 13 never-shown PAGE SLOT                the first such header
 
 Statuses:
   0  yes
