@@ -3,6 +3,9 @@ mod Found
 mod OneByOne
 mod Accepting
 mod Walked
+mod Fed
+mod OneFile
+mod TwoFiles
 mod PageByPage
 mod AuthoredIds
 mod ThreeInputs

@@ -28,11 +28,11 @@ pub struct Inputs {
     pub certificate: Certificate,
 }
 
-// The verdict on what is read, and its line.
+/// The verdict on what is read, and its line.
 #[derive(Drop)]
-struct Told {
-    verdict: Verdict,
-    line: String,
+pub struct Told {
+    pub verdict: Verdict,
+    pub line: String,
 }
 
 /// Reads the text of a service definition, of at most 4,194,304 bytes. Its faults are `Service`, `Read`, `TooLong` and `NoMemory`.
@@ -77,7 +77,8 @@ pub fn read_witness<R: Read>(
     }
 }
 
-fn line_of(
+/// The line of a verdict on so many pages.
+pub fn line_of(
     alloc: Global,
     certificate: &Certificate,
     pages: usize,

@@ -1,5 +1,6 @@
-//! The laws of the headline. A call costs nothing and gives the caller's proof the law.
+//! The laws of the headline, and what passes over one file say. A call costs nothing and gives the caller's proof the law.
 
+ghost use Rattle.ttx_certify.specs.CertifyingPasses.{PassesAreFiles};
 ghost use Rattle.ttx_certify.specs.Laws.{RunsAreSeen, AcceptedIsSeen, EachTuningRuns};
 
 /// In any stream: where each item that a viewer needs comes between two slots, the page is seen from the second on.
@@ -29,3 +30,8 @@ pub fn each_tuning_runs()
     ttx_page::laws::each_list_runs();
     ttx_page::laws::exact_is_received();
 }
+
+/// Where both packet files are one, the verdict and its line are those that `certify_files` promises of it.
+pub fn passes_are_files()
+    ensures { PassesAreFiles }
+{}

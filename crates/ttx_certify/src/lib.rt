@@ -3,11 +3,13 @@
 
 mod certifying;
 mod faults;
+mod feeding;
 mod files;
 mod findings;
 mod judging;
 pub mod laws;
 mod page_findings;
+mod passes;
 mod receiving;
 mod services;
 mod verdict;
@@ -18,6 +20,7 @@ mod walking;
 pub use certifying::certify;
 pub use faults::{FilesFault, TextFile};
 pub use files::{Inputs, certify_files, read_definition, read_inputs, read_witness, write_line};
+pub use passes::certify_passes;
 pub use receiving::receive;
 pub use services::{certify_service, find_service};
 pub use ttx_witness::WalkFault;

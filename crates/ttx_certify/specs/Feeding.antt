@@ -1,0 +1,50 @@
+-- Slots that are given one by one, and what a walk over two packet files answers.
+--
+--   Gave            the slots that a slot reader gave so far, of which P is true
+--   Walks           the whole packet file was given, and P is true of its slots; or why it isn't one
+--   IsRefusedCycle  why the first of two packet files that isn't one isn't
+--   WalkedFiles     the verdict of a walk over two packet files
+--   WalksTwice      what is answered for two files: the verdict of a walk over two packet files
+--   CountsTwice     a read fault is answered only where one was counted
+use Rattle.std.specs.Prelude.{◌⊎◌, ℕ, List, Option, Result, Ok, Err, ⊤}
+use Rattle.ttx_cycle.specs.Counts.{HasRisen}
+use Rattle.ttx_cycle.specs.Reading.{Judged}
+use Rattle.ttx_cycle.specs.SlotLaws.{IsGiven}
+use Rattle.ttx_cycle.specs.declared.faults.CycleFault.{CycleFault}
+use Rattle.ttx_cycle.specs.declared.faults.CycleFault.TheVariants.{Read}
+use Rattle.ttx_page.specs.Pages.{Page}
+use Rattle.ttx_witness.specs.Coverage.{Certificate}
+use Rattle.ttx_certify.specs.CertifyingFiles.{IsPacketFile}
+use Rattle.ttx_certify.specs.Verdicts.{Means}
+use Rattle.ttx_certify.specs.declared.verdict.Verdict.{Verdict}
+use Rattle.ttx_certify.specs.Walking.{IsWalkVerdict}
+
+pub record Gave (P : List (List ℕ) → Type 0) (given : ℕ) (old new : Option (List ℕ)) : Type 0 where
+  pub slots : List (List ℕ)
+  pub given_are : IsGiven given old new slots
+  pub is : P slots
+
+abbrev pub Walks : {T : Type 0} → (List (List ℕ) → Type 0) → List ℕ → Result T CycleFault → Type 0
+Walks P bytes (Ok _) = (slots : List (List ℕ)) × IsPacketFile bytes slots × P slots
+Walks P bytes (Err fault) = Judged bytes (Err fault)
+
+-- the first of two packet files isn't one, or it is one and the second isn't
+abbrev pub IsRefusedCycle : List ℕ → List ℕ → CycleFault → Type 0
+IsRefusedCycle a b fault = Judged a (Err fault) ⊎ ((x : List (List ℕ)) × IsPacketFile a x × Judged b (Err fault))
+
+-- the verdict over two packet files
+pub record WalkedFiles (a b : List ℕ) (pages : List Page) (w : Certificate) (verdict : Verdict) : Type 0 where
+  pub first : List (List ℕ)
+  pub second : List (List ℕ)
+  pub first_is : IsPacketFile a first
+  pub second_is : IsPacketFile b second
+  pub exact : IsWalkVerdict first second pages w verdict
+  pub seen : Means second pages w verdict
+
+abbrev pub WalksTwice : List ℕ → List ℕ → List Page → Certificate → Result Verdict CycleFault → Type 0
+WalksTwice a b pages w (Ok verdict) = WalkedFiles a b pages w verdict
+WalksTwice a b pages w (Err fault) = IsRefusedCycle a b fault
+
+abbrev pub CountsTwice : {T : Type 0} → Result T CycleFault → ℕ → ℕ → ℕ → ℕ → Type 0
+CountsTwice (Err Read) first_old first_new old new = HasRisen first_old first_new ⊎ HasRisen old new
+CountsTwice result first_old first_new old new = ⊤
