@@ -4,6 +4,7 @@
 mod checking;
 pub mod completeness;
 mod counter;
+mod counter_writing;
 mod former;
 mod hearing;
 mod keys;
@@ -19,4 +20,5 @@ mod streaks;
 
 pub use checking::check_counter;
 pub use counter::{Counter, Hit};
+pub use counter_writing::write_counter;
 pub use refutation::refute;
