@@ -7,9 +7,10 @@
 --   Certifies               the verdict on three inputs, and its line
 --   IsRefused, CertifiesFiles       why inputs are refused; what was written at each answer
 --   ReadsInputs, IsJudged, JudgesFiles      the same, step by step: what is read, the verdict on it with its line, both
+--   IsUntouched, is_write   at each fault but that of a write what could be written to is as it was, whatever readers tell
 --   WritesLine              what was written of a line
 --   CountsRead, CountsReads, CountsWritten, CountsFiles     a fault of a device is answered only where one was counted
-use Rattle.std.specs.Prelude.{◌≡◌, ◌⊎◌, ℕ, ◌<◌, ◌≤◌, List, length, map, take, string_bytes, ⊤, Option, Result, Ok, Err}
+use Rattle.std.specs.Prelude.{◌≡◌, ◌⊎◌, ℕ, ◌<◌, ◌≤◌, Bool, true, false, List, length, map, take, string_bytes, ⊤, Option, Result, Ok, Err}
 use Rattle.std.specs.Io.KnownBytes.{Appends, Keeps}
 use Rattle.ttx_cycle.specs.Counts.{HasRisen}
 use Rattle.ttx_cycle.specs.Cycles.{slots_of}
@@ -92,7 +93,8 @@ IsRefused a b c (Cycle fault) = Judged a (Err fault)
 IsRefused a b c (Service error) = (slots : List (List ℕ)) × IsPacketFile a slots × ReadsService b (Err (Service error))
 IsRefused a b c (Certificate fault) =
     (slots : List (List ℕ)) × (service : ServiceFields) × IsPacketFile a slots × IsService b service × ReadsWitness c (Err (Certificate fault))
-IsRefused a b c (Read which) = ⊤
+IsRefused a b c (Read text.Service) = (slots : List (List ℕ)) × IsPacketFile a slots
+IsRefused a b c (Read text.Certificate) = (slots : List (List ℕ)) × (service : ServiceFields) × IsPacketFile a slots × IsService b service
 IsRefused a b c (TooLong text.Service) = (slots : List (List ℕ)) × IsPacketFile a slots × (most_bytes < length b)
 IsRefused a b c (TooLong text.Certificate) = (slots : List (List ℕ)) × (service : ServiceFields) × IsPacketFile a slots × IsService b service × (most_bytes < length c)
 IsRefused a b c (Write written) = ⊥
@@ -104,6 +106,15 @@ CertifiesFiles a b c old new (Ok verdict) = (line : List ℕ) × Certifies a b c
 CertifiesFiles a b c old new (Err (Write written)) =
     (line : List ℕ) × (verdict : Verdict) × Certifies a b c verdict line × (written < length line) × Appends old new (take written line)
 CertifiesFiles a b c old new (Err fault) = IsRefused a b c fault × Keeps old new
+
+-- Ok and the faults of writes say nothing; at each other fault a writer is as it was.
+abbrev pub IsUntouched : {T F W : Type 0} → (F → Bool) → Result T F → W → W → Type 0
+IsUntouched is_write (Ok answer) old new = ⊤
+IsUntouched is_write (Err fault) old new = is_write fault ≡ false → new ≡ old
+
+abbrev pub is_write : FilesFault → Bool
+is_write (Write written) = true
+is_write _ = false
 
 -- the three inputs, once they are read
 abbrev pub ReadsInputs : List ℕ → List ℕ → List ℕ → Result Inputs FilesFault → Type 0

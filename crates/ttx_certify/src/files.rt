@@ -4,7 +4,7 @@ ghost use Rattle.std.specs.Prelude.{◌≡◌, IfSome, IfOk, IfErr, string_bytes
 ghost use Rattle.ttx_cycle.specs.Counters.{inner_of, faults_of};
 ghost use Rattle.ttx_cycle.specs.Cycles.{slots_of};
 ghost use Rattle.ttx_witness.specs.Certificates.{fields_of};
-ghost use Rattle.ttx_certify.specs.CertifyingFiles.{ReadsService, ReadsWitness, CountsRead, ReadsInputs, CountsReads, IsJudged, JudgesFiles, CertifiesFiles, WritesLine, CountsWritten, CountsFiles, seen_by};
+ghost use Rattle.ttx_certify.specs.CertifyingFiles.{ReadsService, ReadsWitness, CountsRead, ReadsInputs, CountsReads, IsJudged, JudgesFiles, CertifiesFiles, IsUntouched, is_write, WritesLine, CountsWritten, CountsFiles, seen_by};
 ghost use Rattle.ttx_certify.specs.VerdictLines.{verdict_line};
 
 use crate::faults::{FilesFault, TextFile};
@@ -174,7 +174,8 @@ fn judge_files<A: Read, B: Read, C: Read>(
 /// Reads a packet file, the text of a service and that of a certificate, in this order, certifies the pages of the service and
 /// writes the line of the verdict. Where the verdict is Yes each page is seen, as `certify` says.
 ///
-/// Nothing is written before all is judged. At `Write` exactly the first `written` bytes of the line went out.
+/// Nothing is written before all is judged. At `Write` exactly the first `written` bytes of the line went out; at each other
+/// fault the writer is as it was, whatever the readers tell.
 pub fn certify_files<A: Read, B: Read, C: Read, W: Write>(
     alloc: Global,
     cycle: &mut Counted<A>,
@@ -185,6 +186,7 @@ pub fn certify_files<A: Read, B: Read, C: Read, W: Write>(
     ensures bytes { IfSome (A.remaining (inner_of cycle.old)) (λ a. IfSome (B.remaining (inner_of service.old)) (λ b. IfSome (C.remaining (inner_of certificate.old))
         (λ c. CertifiesFiles a b c (W.contents (inner_of writer.old)) (W.contents (inner_of writer.new)) result))) }
     ensures faults { CountsFiles result (faults_of cycle.old) (faults_of cycle.new) (faults_of service.old) (faults_of service.new) (faults_of certificate.old) (faults_of certificate.new) (faults_of writer.old) (faults_of writer.new) }
+    ensures untouched { IsUntouched is_write result writer.old writer.new }
 {
     let judged = match judge_files(alloc, cycle, service, certificate) {
         Ok(judged) => judged,

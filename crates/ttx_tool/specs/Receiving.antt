@@ -36,12 +36,13 @@ pub record IsHeard (t : Tuning) (start count : ℕ) (bytes : List ℕ) (old new 
   pub file : IsPacketFile bytes slots
   pub run : Hears t slots start count old new
 
--- Ok: the lines of the memory's View went out. A write fault: the first `written` bytes of them. Else nothing, and the file is refused as it is judged.
-abbrev pub Receives : Tuning → ℕ → ℕ → List ℕ → Memory → Memory → Option (List ℕ) → Option (List ℕ) → Result ℕ ToolFault → Type 0
-Receives t start count bytes held new before after (Ok status) =
-    (status ≡ 0) × IsHeard t start count bytes held new × Appends before after (view_lines (view_of new))
-Receives t start count bytes held new before after (Err (Write written)) =
-    IsHeard t start count bytes held new × (written < length (view_lines (view_of new))) × Appends before after (take written (view_lines (view_of new)))
-Receives t start count bytes held new before after (Err (Cycle fault)) = Judged bytes (Err fault) × (new ≡ held) × Keeps before after
-Receives t start count bytes held new before after (Err NoMemory) = Keeps before after
-Receives t start count bytes held new before after (Err _) = ⊥
+-- Ok: the lines of the View of the memory that the receiver then holds went out. A write fault: the first `written` bytes of them. Else nothing, and
+-- the file is refused as it is judged.
+abbrev pub Receives : Tuning → ℕ → ℕ → List ℕ → Memory → Option (List ℕ) → Option (List ℕ) → Result ℕ ToolFault → Type 0
+Receives t start count bytes held before after (Ok status) =
+    (status ≡ 0) × ((new : Memory) × IsHeard t start count bytes held new × Appends before after (view_lines (view_of new)))
+Receives t start count bytes held before after (Err (Write written)) =
+    (new : Memory) × IsHeard t start count bytes held new × (written < length (view_lines (view_of new))) × Appends before after (take written (view_lines (view_of new)))
+Receives t start count bytes held before after (Err (Cycle fault)) = Judged bytes (Err fault) × Keeps before after
+Receives t start count bytes held before after (Err NoMemory) = Keeps before after
+Receives t start count bytes held before after (Err _) = ⊥

@@ -4,6 +4,8 @@ ghost use Rattle.std.specs.Prelude.{◌≡◌, ◌≤◌, IfSome, IfOk, IfErr, s
 ghost use Rattle.ttx_cycle.specs.Counters.{inner_of, faults_of};
 ghost use Rattle.ttx_cycle.specs.Cycles.{slots_of};
 ghost use Rattle.ttx_witness.specs.Certificates.{fields_of};
+ghost use Rattle.ttx_certify.specs.CertifyingFiles.{IsUntouched};
+ghost use Rattle.ttx_tool.specs.FilesFaults.{is_write};
 ghost use Rattle.ttx_tool.specs.FindingFiles.{found_line, TellsDeadline, TellsVerdict, IsTold, FindsText, Finds, CountsInputs, CountsFind};
 ghost use Rattle.ttx_tool.specs.PlannedFiles.{FindsDeadline, MakesCertified};
 ghost use Rattle.ttx_tool.specs.Planning.{WritesBoth, CountsBoth};
@@ -156,6 +158,7 @@ fn find_and_write<A: Read, B: Read, O: Write, W: Write>(
         (O.contents (inner_of file.old)) (O.contents (inner_of file.new)) (W.contents (inner_of writer.old)) (W.contents (inner_of writer.new)) result)) }
     ensures faults { CountsFind result (faults_of cycle.old) (faults_of cycle.new) (faults_of service.old) (faults_of service.new)
         (faults_of file.old) (faults_of file.new) (faults_of writer.old) (faults_of writer.new) }
+    ensures untouched { IsUntouched is_write result file.old file.new × IsUntouched is_write result writer.old writer.new }
 {
     let told = find_text(alloc, cycle, service, repeat, class)?;
     write_told(file, told.file.as_slice(), writer, told.line.as_bytes())?;
@@ -171,7 +174,7 @@ fn find_and_write<A: Read, B: Read, O: Write, W: Write>(
 /// where the status is 0, `certify` says yes.
 ///
 /// Nothing is written before all is found. At `Write` exactly the first `written` bytes of both went out, the file's before the
-/// line's.
+/// line's; at each other fault both writers are as they were.
 pub fn find<A: Read, B: Read, O: Write, W: Write>(
     alloc: Global,
     cycle: &mut Counted<A>,
@@ -190,6 +193,7 @@ pub fn find<A: Read, B: Read, O: Write, W: Write>(
         (O.contents (inner_of file.old)) (O.contents (inner_of file.new)) result)) }
     ensures faults { CountsFind result (faults_of cycle.old) (faults_of cycle.new) (faults_of service.old) (faults_of service.new)
         (faults_of file.old) (faults_of file.new) (faults_of writer.old) (faults_of writer.new) }
+    ensures untouched { IsUntouched is_write result file.old file.new × IsUntouched is_write result writer.old writer.new }
 {
     crate::laws::planned_is_found();
     crate::laws::found_is_certified();

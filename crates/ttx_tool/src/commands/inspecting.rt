@@ -2,6 +2,8 @@
 
 ghost use Rattle.std.specs.Prelude.{IfSome};
 ghost use Rattle.ttx_cycle.specs.Counters.{inner_of, calls_of, faults_of};
+ghost use Rattle.ttx_certify.specs.CertifyingFiles.{IsUntouched};
+ghost use Rattle.ttx_tool.specs.FilesFaults.{is_write};
 ghost use Rattle.ttx_tool.specs.Inspecting.{Inspects, CountsInspect};
 
 use crate::faults::ToolFault;
@@ -12,7 +14,8 @@ use ttx_cycle::{Counted, read_cycle, write_bytes};
 
 /// Reads a packet file and writes a line for each of its slots.
 ///
-/// Nothing is written before the whole file is read. At `Write` exactly the first `written` bytes of the text went out.
+/// Nothing is written before the whole file is read. At `Write` exactly the first `written` bytes of the text went out; at each
+/// other fault the writer is as it was.
 pub fn inspect<R: Read, W: Write>(
     alloc: Global,
     reader: &mut Counted<R>,
@@ -21,6 +24,7 @@ pub fn inspect<R: Read, W: Write>(
     ensures bytes { IfSome (R.remaining (inner_of reader.old))
         (λ bytes. Inspects bytes (W.contents (inner_of writer.old)) (W.contents (inner_of writer.new)) result) }
     ensures faults { CountsInspect result (faults_of reader.old) (faults_of reader.new) (faults_of writer.old) (faults_of writer.new) }
+    ensures untouched { IsUntouched is_write result writer.old writer.new }
 {
     let cycle = read_cycle(alloc, reader).map_err(ToolFault::Cycle)?;
     let text = lines(alloc, cycle.slots()).map_err(|_| ToolFault::NoMemory)?;

@@ -4,6 +4,8 @@ ghost use Rattle.std.specs.Prelude.{◌≡◌, IfSome, IfOk, string_bytes};
 ghost use Rattle.ttx_cycle.specs.Counters.{inner_of, faults_of};
 ghost use Rattle.ttx_cycle.specs.Cycles.{slots_of};
 ghost use Rattle.ttx_cycle.specs.Files.{file_of};
+ghost use Rattle.ttx_certify.specs.CertifyingFiles.{IsUntouched};
+ghost use Rattle.ttx_tool.specs.FilesFaults.{is_write};
 ghost use Rattle.ttx_tool.specs.Planning.{Defines, PlansText, CountsDefinition, planned_line, WritesBoth, CountsBoth, Plans, CountsPlan};
 
 use crate::faults::ToolFault;
@@ -74,7 +76,7 @@ fn write_both<O: Write, W: Write>(
 /// number of its slots to the other writer.
 ///
 /// Nothing is written before the whole plan is made. At `Write` exactly the first `written` bytes of both went out, the
-/// file's before the line's. The status is 0.
+/// file's before the line's; at each other fault both writers are as they were. The status is 0.
 pub fn plan<R: Read, O: Write, W: Write>(
     alloc: Global,
     reader: &mut Counted<R>,
@@ -85,6 +87,7 @@ pub fn plan<R: Read, O: Write, W: Write>(
     ensures bytes { IfSome (R.remaining (inner_of reader.old)) (λ bytes. Plans bytes class
         (O.contents (inner_of file.old)) (O.contents (inner_of file.new)) (W.contents (inner_of writer.old)) (W.contents (inner_of writer.new)) result) }
     ensures faults { CountsPlan result (faults_of reader.old) (faults_of reader.new) (faults_of file.old) (faults_of file.new) (faults_of writer.old) (faults_of writer.new) }
+    ensures untouched { IsUntouched is_write result file.old file.new × IsUntouched is_write result writer.old writer.new }
 {
     let cycle = plan_text(alloc, reader, class)?;
     let line = planned_line(alloc, cycle.slots().len()).map_err(|_| ToolFault::NoMemory)?;

@@ -2,6 +2,8 @@
 
 ghost use Rattle.std.specs.Prelude.{IfSome};
 ghost use Rattle.ttx_cycle.specs.Counters.{inner_of, faults_of};
+ghost use Rattle.ttx_certify.specs.CertifyingFiles.{IsUntouched};
+ghost use Rattle.ttx_tool.specs.FilesFaults.{is_write};
 ghost use Rattle.ttx_tool.specs.Inspecting.{CountsInspect};
 ghost use Rattle.ttx_tool.specs.Receiving.{tuning_at, Receives};
 
@@ -17,23 +19,25 @@ use ttx_render::render;
 /// Reads a packet file, gives the receiver `count` slots of it from slot `start` on (both counted round the cycle), and writes
 /// the View of what it then holds.
 ///
-/// Nothing is written before the whole file is read. At `Write` exactly the first `written` bytes of the text went out. The
-/// status is 0.
-pub fn receive<R: Read, X: Receiver, W: Write>(
+/// Nothing is written before the whole file is read. At `Write` exactly the first `written` bytes of the text went out; at each
+/// other fault the writer is as it was. The status is 0.
+pub fn receive<R: Read, X: Receiver + Drop, W: Write>(
     alloc: Global,
     reader: &mut Counted<R>,
-    receiver: &mut X,
+    receiver: X,
     start: u16,
     count: u32,
     writer: &mut Counted<W>,
 ) -> Result<u8, ToolFault>
     ensures bytes { IfSome (R.remaining (inner_of reader.old))
-        (λ bytes. Receives (tuning_at (X.kind receiver.old) (X.field receiver.old) (X.tuned receiver.old)) start count bytes
-        (X.held receiver.old) (X.held receiver.new) (W.contents (inner_of writer.old)) (W.contents (inner_of writer.new)) result) }
+        (λ bytes. Receives (tuning_at (X.kind receiver) (X.field receiver) (X.tuned receiver)) start count bytes
+        (X.held receiver) (W.contents (inner_of writer.old)) (W.contents (inner_of writer.new)) result) }
     ensures faults { CountsInspect result (faults_of reader.old) (faults_of reader.new) (faults_of writer.old) (faults_of writer.new) }
+    ensures untouched { IsUntouched is_write result writer.old writer.new }
 {
+    let mut receiver = receiver;
     let cycle = read_cycle(alloc, reader).map_err(ToolFault::Cycle)?;
-    step_over(receiver, cycle.slots(), usize::from(start), count);
+    step_over(&mut receiver, cycle.slots(), usize::from(start), count);
     let view = render(receiver.memory());
     let text = view_lines(alloc, &view).map_err(|_| ToolFault::NoMemory)?;
     write_bytes(writer, text.as_bytes()).map_err(ToolFault::from_write)?;
