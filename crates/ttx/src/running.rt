@@ -37,7 +37,7 @@ fn plan(rt: &HostRuntime, input: Input, class: Class, out: File) -> Result<u8, T
 fn receive_by<X: Receiver + Drop>(
     rt: &HostRuntime,
     input: Input,
-    receiver: X,
+    mut receiver: X,
     tuning: &Tuning,
     look: Option<&Look<'_>>,
 ) -> Result<u8, ToolFault> {
@@ -47,7 +47,7 @@ fn receive_by<X: Receiver + Drop>(
         Some(look) => commands::show(
             rt.alloc(),
             &mut reader,
-            receiver,
+            &mut receiver,
             tuning,
             look,
             &mut writer,
