@@ -247,6 +247,31 @@ def certifying_texts():
     }
 
 
+PREVIEW = """lines = 2
+serial = true
+[[page]]
+number = "100"
+head = "Head <1>"
+links = ["101/0002", "101", "", "", "", "100"]
+row24 = true
+[page.rows]
+1 = "\\u000DTall & wide"
+3 = "\\u0003\\u0018hidden\\u0007seen"
+4 = "\\u0011\\u007F5j\\u001A\\u007F5j"
+24 = "\\u0001Red"
+[[page]]
+number = "101"
+sub = "0001"
+[page.rows]
+1 = "The first"
+[[page]]
+number = "101"
+sub = "0002"
+[page.rows]
+1 = "The second"
+"""
+
+
 def main():
     folder = Path(sys.argv[1])
     folder.mkdir(parents=True, exist_ok=True)
@@ -281,6 +306,7 @@ def main():
     (folder / "83-bytes").write_bytes(b"".join(base())[:83])
     texts = {
         "base.toml": 'lines = 2\nserial = true\n[[page]]\nnumber = "100"\n',
+        "preview.toml": PREVIEW,
         "no-pages.toml": "lines = 2\nserial = true\n",
         "often-3.toml": 'lines = 2\nserial = true\n[[page]]\nnumber = "100"\noften = 3\n',
         "base.cert": certificate(27),

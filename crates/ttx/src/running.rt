@@ -7,7 +7,7 @@ use std::io::BufReader;
 use ttx_certify::{Verdict, certify_files};
 use ttx_cycle::Counted;
 use ttx_late::{LateVerdict, certify_files_late};
-use ttx_page::{Class, PageMemory};
+use ttx_page::{Class, PageMemory, Selection};
 use ttx_receiver::{Careful, Cleared, Eager, Receiver};
 use ttx_tool::{Look, Order, ReceiverKind, ToolFault, Tuning, commands};
 
@@ -170,6 +170,18 @@ fn find(
     )
 }
 
+// Shows a page of a service before it is sent.
+fn preview(
+    rt: &HostRuntime,
+    input: Input,
+    selection: &Selection,
+    look: &Look<'_>,
+) -> Result<u8, ToolFault> {
+    let mut reader = buffered(rt, input)?;
+    let mut writer = Counted::new(io::writer(rt));
+    commands::preview(rt.alloc(), &mut reader, selection, look, &mut writer)
+}
+
 // Opens the service, makes the cycle's file anew, and plans.
 fn open_plan(
     rt: &HostRuntime,
@@ -238,6 +250,11 @@ pub fn run_order(rt: &HostRuntime, order: &Order<'_>) -> io::Result<Result<u8, T
             tuning,
             look,
         } => Ok(receive(rt, open_input(rt, cycle)?, tuning, Some(look))),
+        Order::Preview {
+            service,
+            selection,
+            look,
+        } => Ok(preview(rt, open_input(rt, service)?, selection, look)),
         Order::Certify {
             cycle,
             service,

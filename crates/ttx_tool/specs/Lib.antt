@@ -6,6 +6,7 @@ pub mod ViewLines
 pub mod Receiving
 pub mod Showing
 pub mod Planning
+pub mod Previewing
 pub mod FindingFiles
 pub mod Reports
 pub mod Grammar

@@ -27,7 +27,7 @@ use Rattle.ttx_picture.specs.declared.forms.Form.{Form}
 use Rattle.ttx_picture.specs.declared.forms.Form.TheVariants as form
 use Rattle.ttx_tool.specs.declared.orders.Look.{Look}
 use Rattle.ttx_tool.specs.declared.orders.Order.{Order}
-use Rattle.ttx_tool.specs.declared.orders.Order.TheVariants.{Inspect, Plan, Find, Certify, Receive, Show}
+use Rattle.ttx_tool.specs.declared.orders.Order.TheVariants.{Inspect, Plan, Find, Certify, Receive, Show, Preview}
 use Rattle.ttx_tool.specs.declared.orders.ReceiverKind.{ReceiverKind}
 use Rattle.ttx_tool.specs.declared.orders.ReceiverKind.TheVariants.{Eager, Careful, Cleared}
 use Rattle.ttx_tool.specs.declared.orders.Tuning.{Tuning}
@@ -51,6 +51,7 @@ pub data OrderView : Type 0 where
   certify_order : (cycle service certificate : Text) → (late : Bool) → OrderView
   receive_order : (cycle : Text) → (tuning : Tuning) → OrderView
   show_order : (cycle : Text) → (tuning : Tuning) → (look : LookView) → OrderView
+  preview_order : (service : Text) → (selection : Selection) → (look : LookView) → OrderView
 
 abbrev pub order_view : Order → OrderView
 order_view (Inspect file) = inspect_order file.now
@@ -59,6 +60,7 @@ order_view (Find cycle service out repeat class) = find_order cycle.now service.
 order_view (Certify cycle service certificate late) = certify_order cycle.now service.now certificate.now late
 order_view (Receive cycle tuning) = receive_order cycle.now tuning
 order_view (Show cycle tuning look) = show_order cycle.now tuning (look_view look)
+order_view (Preview service selection look) = preview_order service.now selection (look_view look)
 
 -- the text that an argument was given; a parse gives one to each operand
 abbrev pub text_at : Text → List Row → Text
@@ -131,6 +133,10 @@ abbrev pub show_by : Option Selection → List Row → Result OrderView Unfit
 show_by None rows = Err no_page
 show_by (Some selection) rows = Ok (show_order (text_at (codes "cycle") rows) (tuning_at selection rows) (look_at rows))
 
+abbrev pub preview_by : Option Selection → List Row → Result OrderView Unfit
+preview_by None rows = Err no_page
+preview_by (Some selection) rows = Ok (preview_order (text_at (codes "service") rows) selection (look_at rows))
+
 abbrev pub inspect_at : List Row → OrderView
 inspect_at rows = inspect_order (text_at (codes "file") rows)
 
@@ -152,6 +158,9 @@ receive_at rows = receive_by (selection_of (text_at (codes "page") rows)) rows
 abbrev pub show_at : List Row → Result OrderView Unfit
 show_at rows = show_by (selection_of (text_at (codes "page") rows)) rows
 
+abbrev pub preview_at : List Row → Result OrderView Unfit
+preview_at rows = preview_by (selection_of (text_at (codes "page") rows)) rows
+
 -- the texts that name inputs
 abbrev pub inputs : OrderView → List Text
 inputs (inspect_order file) = file ∷ []
@@ -160,6 +169,7 @@ inputs (find_order cycle service out repeat class) = cycle ∷ service ∷ []
 inputs (certify_order cycle service certificate late) = cycle ∷ service ∷ certificate ∷ []
 inputs (receive_order cycle tuning) = cycle ∷ []
 inputs (show_order cycle tuning look) = cycle ∷ []
+inputs (preview_order service selection look) = service ∷ []
 
 -- more than one of them is standard input
 abbrev pub is_twice : OrderView → Bool
@@ -177,6 +187,7 @@ order_at name rows =
     else if bytes_eq name (codes "certify") then once (certify_at rows)
     else if bytes_eq name (codes "receive") then receive_at rows
     else if bytes_eq name (codes "show") then show_at rows
+    else if bytes_eq name (codes "preview") then preview_at rows
     else Ok (inspect_at rows)
 
 -- no words at all ask for `inspect -`, and words that `clap` takes for their command with its values

@@ -3,6 +3,7 @@
 mod finding;
 mod inspecting;
 mod planning;
+mod previewing;
 mod receiving;
 mod reporting;
 mod showing;
@@ -10,6 +11,7 @@ mod showing;
 pub use finding::find;
 pub use inspecting::inspect;
 pub use planning::plan;
+pub use previewing::preview;
 pub use receiving::receive;
 pub use reporting::{report, report_words};
 pub use showing::show;

@@ -3,7 +3,7 @@
 ghost use Rattle.std.specs.Prelude.{◌≡◌, false, codes};
 ghost use Rattle.clap.specs.Words.{App, Text, rule_of, with_rule, with_subcommand, new_app};
 ghost use Rattle.ttx_tool.specs.Grammar as rule;
-ghost use Rattle.ttx_tool.specs.Grammar.{Lists, Builds, operand_rule, number_rule, name_rule, flag_rule, with_tuning, with_look, inspect_app, plan_app, find_app, certify_app, receive_app, show_app, bare_app, ttx_app};
+ghost use Rattle.ttx_tool.specs.Grammar.{Lists, Builds, operand_rule, number_rule, name_rule, flag_rule, with_tuning, with_look, inspect_app, plan_app, find_app, certify_app, receive_app, show_app, preview_app, bare_app, ttx_app};
 
 use crate::help;
 use clap::builder::ValueParser;
@@ -218,6 +218,16 @@ fn show<'a>(alloc: Global, kinds: &'a [&'a str], forms: &'a [&'a str]) -> Buildi
     with_look(alloc, show, forms)
 }
 
+// `preview SERVICE PAGE [--as text|ansi|svg|html] [--reveal]`
+fn preview<'a>(alloc: Global, forms: &'a [&'a str]) -> Building<'a>
+    ensures { Builds result (preview_app forms.entry) }
+{
+    let preview = command(alloc, "preview", help::PREVIEW, help::PREVIEW_MORE);
+    let preview = with_operand(alloc, preview, "service", "SERVICE", help::SERVICE_OPERAND);
+    let preview = with_operand(alloc, preview, "page", "PAGE", help::PAGE_OPERAND);
+    with_look(alloc, preview, forms)
+}
+
 // `ttx` alone, which is given the words after its name.
 fn bare<'a>(alloc: Global) -> Building<'a>
     ensures { Builds result bare_app }
@@ -266,5 +276,6 @@ pub(crate) fn ttx<'a>(
     let ttx = with_command(ttx, find(alloc, classes));
     let ttx = with_command(ttx, certify(alloc));
     let ttx = with_command(ttx, receive(alloc, kinds));
-    with_command(ttx, show(alloc, kinds, forms))
+    let ttx = with_command(ttx, show(alloc, kinds, forms));
+    with_command(ttx, preview(alloc, forms))
 }

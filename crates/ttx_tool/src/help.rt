@@ -125,6 +125,25 @@ Statuses:
      refused: cycle 2 truncated REST, refused: cycle 3 empty, refused: cycle 4 too-long
   3  fault: file, fault: read, fault: write, fault: memory";
 
+pub(crate) const PREVIEW: &str =
+    "Writes a page of a service to standard output as it is displayed once it is received whole";
+
+pub(crate) const PREVIEW_MORE: &str =
+    "Reads SERVICE to its end. Then the first page that PAGE names is written as FORM says:
+  text  25 lines of characters, and a line with the six links (MPP, MPP/SSSS, or - for none)
+  ansi  the same, with a terminal's codes for colours and flashing
+  svg   a picture of 40 by 25 cells
+  html  a page with the picture, its links, and its text
+The header clock and columns 0 to 7 of row 0 are spaces. Concealed characters are spaces without --reveal.
+Where the service has no such page: no page PAGE
+
+Statuses:
+  0  done
+  1  the service has no such page
+  2  error: .. (the words), refused: page,
+     refused: service NUMBER NAME [KEY] page N, refused: service too-long
+  3  fault: file, fault: read, fault: write, fault: memory";
+
 pub(crate) const CYCLE_OPERAND: &str =
     "Packet file: 1 to 65536 slots of 42 bytes; - is standard input";
 

@@ -75,6 +75,12 @@ pub enum Order<'a> {
         tuning: Tuning,
         look: Look<'a>,
     },
+    /// Show a page of a service before it is sent.
+    Preview {
+        service: &'a str,
+        selection: Selection,
+        look: Look<'a>,
+    },
 }
 
 /// Why words are refused.

@@ -5,7 +5,7 @@ ghost use Rattle.std.specs.Str.{bytes_eq};
 ghost use Rattle.clap.specs.Words.{rows_of, first_of, found_of, subcommand_rows_of, subcommand_of, fault_of};
 ghost use Rattle.ttx_tool.specs.Grammar.{ttx_app};
 ghost use Rattle.ttx_tool.specs.Orders as rule;
-ghost use Rattle.ttx_tool.specs.Orders.{OrderView, Unfit, order_view, look_view, text_at, kind_named, class_named, form_named, is_set, tuning_at, look_at, show_at, inspect_at, plan_at, find_at, certify_at, receive_at, once, order_at, IsOrderOf, AnswersBy, Answers, IsFaultOf, IsRefusalOf};
+ghost use Rattle.ttx_tool.specs.Orders.{OrderView, Unfit, order_view, look_view, text_at, kind_named, class_named, form_named, is_set, tuning_at, look_at, show_at, preview_at, inspect_at, plan_at, find_at, certify_at, receive_at, once, order_at, IsOrderOf, AnswersBy, Answers, IsFaultOf, IsRefusalOf};
 
 use crate::grammar::{class_names, form_names, kind_names, ttx};
 use crate::orders::{Look, Order, ReceiverKind, Tuning, WordsFault};
@@ -154,6 +154,19 @@ fn show_of<'a>(values: &ArgMatches<'a>) -> Result<Order<'a>, WordsFault>
     }
 }
 
+fn preview_of<'a>(values: &ArgMatches<'a>) -> Result<Order<'a>, WordsFault>
+    ensures { IsOrderOf result (preview_at (rows_of (found_of values.now))) }
+{
+    match selection(text_of(values, "page")) {
+        None => Err(WordsFault::Page),
+        Some(selection) => Ok(Order::Preview {
+            service: text_of(values, "service"),
+            selection,
+            look: look_of(values),
+        }),
+    }
+}
+
 fn plan_of<'a>(values: &ArgMatches<'a>) -> Order<'a>
     ensures { order_view result ≡ plan_at (rows_of (found_of values.now)) }
 {
@@ -252,6 +265,8 @@ fn order_of<'a>(name: &str, values: &ArgMatches<'a>) -> Result<Order<'a>, WordsF
         receive_of(values)
     } else if name == "show" {
         show_of(values)
+    } else if name == "preview" {
+        preview_of(values)
     } else {
         Ok(inspect_of(values))
     }

@@ -9,4 +9,5 @@ returns c =
     let finding = c.with_command-ttx-3.ensures _ _ planning c.find.ensures in
     let certifying = c.with_command-ttx-4.ensures _ _ finding c.certify.ensures in
     let receiving = c.with_command-ttx-5.ensures _ _ certifying c.receive.ensures in
-    c.with_command.ensures _ _ receiving c.show.ensures
+    let showing = c.with_command-ttx-6.ensures _ _ receiving c.show.ensures in
+    c.with_command.ensures _ _ showing c.preview.ensures
