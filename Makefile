@@ -25,6 +25,7 @@ test:
 	sh tests/memory.sh $(BUILT)
 	python3 tests/refused_calls.py $(BUILT)
 	python3 tests/planned.py $(BUILT)
+	python3 tests/spliced.py $(BUILT)
 
 demo: ttx
 	sh demo/demo.sh ./ttx

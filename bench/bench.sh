@@ -76,6 +76,24 @@ echo "time at 65,536 slots beyond that, over that of sha256sum: find $(beyond "$
 echo "time at 65,536 slots over time at 8,192: find $((find * 10 / first_find / 10)).$((find * 10 / first_find % 10)), certify $((certify * 10 / first_certify / 10)).$((certify * 10 / first_certify % 10)) (goal: at most 9)"
 
 echo
+printf '%-34s %10s %12s %18s\n' 'splice' 'splice, ms' 'certify, ms' 'splice of certify'
+"$program" find 65536.t42 sent.toml sent.cert > found
+cp 65536.cert inhibited.cert
+for service in inhibited sent; do
+    case $service in sent) cycle=65536.t42 ;; *) cycle=inhibited-65536.t42 ;; esac
+    files="$service.toml $service.toml $service.cert $service.cert"
+    # the names of files stand one by one
+    # shellcheck disable=SC2086
+    splice=$(least "$program" splice "$cycle" "$cycle" $files)
+    certify=$(least "$program" certify "$cycle" "$service.toml" "$service.cert")
+    printf '%-34s %10s %12s %18s\n' "2,000 common pages, 65536 slots" "$(tenths "$splice")" "$(tenths "$certify")" \
+        "$((splice * 10 / certify / 10)).$((splice * 10 / certify % 10))"
+    # shellcheck disable=SC2086
+    "$program" splice "$cycle" "$cycle" $files
+done
+echo "splice: time over that of certify (goal: at most 4)"
+
+echo
 printf '%-34s %10s %14s %14s\n' 'receive' 'ms' 'sha256sum, ms' 'vbi_decode, ms'
 receive=$(least "$program" receive 65536.t42 100 --slots 1000000)
 hash=$(least sha256sum 42-mb)

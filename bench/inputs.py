@@ -70,12 +70,13 @@ def cycle(slots, pages, lines, inhibit=False):
     return b"".join(out)
 
 
-def inhibited_service(pages, lines):
-    """A service of pages of 23 rows whose display is inhibited, so that no row is sent."""
+def service(pages, lines, inhibit):
+    """A service of pages of 23 rows; where their display is inhibited no row is sent."""
     out = [f"lines = {lines}", "serial = true", ""]
     for number, (mag, page, sub) in enumerate(page_ids(pages)):
         out += ["[[page]]", f'number = "{mag}{page:02X}"', f'sub = "{sub:04X}"', f'head = "PAGE {number}"']
-        out += ["inhibit = true", "[page.rows]"]
+        out += ["inhibit = true"] if inhibit else []
+        out += ["[page.rows]"]
         out += [f'{r} = "{text}"' for r, text in enumerate(body(number), 1)]
         out.append("")
     return "\n".join(out) + "\n"
@@ -88,7 +89,8 @@ def main():
         (folder / f"{slots}.t42").write_bytes(cycle(slots, pages, 1))
     for slots in (8192, 65536):
         (folder / f"inhibited-{slots}.t42").write_bytes(cycle(slots, 2000, 1, True))
-    (folder / "inhibited.toml").write_text(inhibited_service(2000, 1))
+    (folder / "inhibited.toml").write_text(service(2000, 1, True))
+    (folder / "sent.toml").write_text(service(2000, 1, False))
     (folder / "42-mb").write_bytes(bytes(42_000_000))
     subpages = "".join(f'[[page]]\nnumber = "100"\nsub = "{sub:04X}"\n' for sub in subcodes(1213))
     (folder / "subpages.toml").write_text("lines = 2\nserial = true\n" + subpages)

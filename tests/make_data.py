@@ -214,6 +214,39 @@ def turned_certificate(deadline):
     return "\n".join([*lines, "100/0000 links 16"]) + "\n"
 
 
+def two_pages():
+    """Pages 100, blank, and 101, whose row 8 is A, as a plan sends them; turned so that this row is slot 0."""
+    rows = [row(1, r, b"\xc1" + SPACES[1:] if r == 8 else SPACES) for r in range(1, 24)]
+    second = [header(1, 1), EMPTY, EMPTY, *rows, links(1)]
+    slots = [*block(1), *second, time_filling(1), EMPTY]
+    return [*slots[37:], *slots[:37]]
+
+
+def two_pages_certificate(deadline):
+    """The certificate of these two pages."""
+    lines = ["ttx certificate 1", "lines 2", "repeat 1", f"deadline {deadline}"]
+    for page, at in (("100", 19), ("101", 46)):
+        lines += [f"{page}/0000 head {at}"]
+        lines += [f"{page}/0000 row {r} {(at + 2 + r) % 56}" for r in range(1, 24)]
+        lines += [f"{page}/0000 links {(at + 26) % 56}"]
+    return "\n".join(lines) + "\n"
+
+
+def splicing_texts():
+    """Certificates and a service for changes of cycles."""
+    page = '[[page]]\nnumber = "{}"\n'
+    return {
+        "base-28.cert": certificate(28),
+        "base-35.cert": certificate(35),
+        "base-36.cert": certificate(36),
+        "turned-35.cert": turned_certificate(35),
+        "turned-36.cert": turned_certificate(36),
+        "turned-41.cert": turned_certificate(41),
+        "two-pages.toml": "lines = 2\nserial = true\n" + page.format(100) + page.format(101) + 'rows = {"8" = "A"}\n',
+        "two-pages.cert": two_pages_certificate(41),
+    }
+
+
 def clearing_certificate(deadline, repeat=1, entries="100/0000 head 0\n"):
     """A certificate for receivers that surely clear."""
     return f"ttx certificate 2\nclass clearing\nlines 2\nrepeat {repeat}\ndeadline {deadline}\n{entries}"
@@ -291,6 +324,7 @@ def main():
         "linked.t42": with_slot(base(), 26, links(1, (5, 0, 15, 15, 15, 7))),
         "no-header.t42": with_slot(base(), 0, EMPTY),
         "turned.t42": [*base()[10:], *base()[:10]],
+        "two-pages.t42": two_pages(),
         "other-magazine.t42": with_slot(base(), 1, header(2, 0, 0, 0, 0)),
         "other-magazine-serial.t42": with_slot(base(), 1, header(2, 0, 0, 0, 1)),
         "alone.t42": with_slot(base(), 27, EMPTY),
@@ -324,7 +358,7 @@ def main():
         "found-without-pages.cert": "ttx certificate 1\nlines 2\nrepeat 1\ndeadline 1\n",
         "no-entries.cert": "ttx certificate 1\nlines 2\nrepeat 1\ndeadline 27\n",
         "clearing.cert": "ttx certificate 2\nclass clearing\nlines 2\nrepeat 1\ndeadline 2\n100/0000 head 0\n",
-    } | services() | refused_services() | certifying_texts()
+    } | services() | refused_services() | certifying_texts() | splicing_texts()
     for name, text in texts.items():
         (folder / name).write_text(text)
     subpages = [sub for sub in range(0x3F7F) if sub & ~0x3F7F == 0][:1214]

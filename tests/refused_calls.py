@@ -30,6 +30,7 @@ COMMANDS = [
     ("certify small.t42 small.toml clearing.cert", False),
     ("receive small.t42 100 --slots 12", False),
     ("show small.t42 100 --slots 12", False),
+    ("splice small.t42 small.t42 small.toml small.toml small.cert small.cert", False),
     ("plan broadcast.toml out", True),
     ("plan broadcast.toml out --class clearing", True),
     ("find base.t42 base.toml out", True),
@@ -38,6 +39,7 @@ COMMANDS = [
     ("certify base.t42 base.toml base.cert", True),
     ("certify base.t42 base.toml clearing-base.cert", True),
     ("certify near.t42 base.toml base.cert", True),
+    ("splice base.t42 turned.t42 base.toml base.toml base.cert turned.cert", True),
     ("plan often-3.toml out", True),
     ("find cut.t42 base.toml out", True),
     ("certify missing base.toml base.cert", True),
@@ -53,6 +55,7 @@ def make_inputs(folder):
     taken = {
         "small.t42": "planned-suppressed.t42", "small.toml": "planned-suppressed.toml", "near.t42": "row-near-header.t42",
         "cut.t42": "83-bytes", "clearing-base.cert": "clearing-base.cert",
+        "turned.t42": "turned.t42", "turned.cert": "turned.cert",
     }
     for name, source in taken.items():
         shutil.copy(data / source, folder / name)

@@ -8,6 +8,7 @@ use ttx_certify::{Verdict, certify_files};
 use ttx_cycle::Counted;
 use ttx_late::{LateVerdict, certify_files_late};
 use ttx_page::{Class, PageMemory, Selection};
+use ttx_proof::{SpliceVerdict, splice_files};
 use ttx_receiver::{Careful, Cleared, Eager, Receiver};
 use ttx_tool::{Look, Order, ReceiverKind, ToolFault, Tuning, commands};
 
@@ -227,6 +228,46 @@ fn open_certify(
     }
 }
 
+// The inputs of a splice.
+#[derive(Drop)]
+struct SpliceInputs {
+    cycles: (Input, Input),
+    services: (Input, Input),
+    certificates: (Input, Input),
+}
+
+// Judges the change from an old cycle to a new one: status 0 where the verdict is Yes, else 1.
+fn splice(rt: &HostRuntime, inputs: SpliceInputs) -> Result<u8, ToolFault> {
+    let mut old = buffered(rt, inputs.cycles.0)?;
+    let mut new = buffered(rt, inputs.cycles.1)?;
+    let mut old_service = buffered(rt, inputs.services.0)?;
+    let mut new_service = buffered(rt, inputs.services.1)?;
+    let mut old_certificate = buffered(rt, inputs.certificates.0)?;
+    let mut new_certificate = buffered(rt, inputs.certificates.1)?;
+    let mut writer = Counted::new(io::writer(rt));
+    match splice_files(
+        rt.alloc(),
+        &mut old,
+        &mut new,
+        &mut old_service,
+        &mut new_service,
+        &mut old_certificate,
+        &mut new_certificate,
+        &mut writer,
+    ) {
+        Ok(SpliceVerdict::Yes) => Ok(0),
+        Ok(SpliceVerdict::No(_)) => Ok(1),
+        Err(fault) => Err(ToolFault::from_files(fault)),
+    }
+}
+
+// Opens two inputs.
+fn open_two(rt: &HostRuntime, old: &str, new: &str) -> io::Result<(Input, Input)> {
+    let old = open_input(rt, old)?;
+    let new = open_input(rt, new)?;
+    Ok((old, new))
+}
+
 /// Opens the inputs in the order of the words, makes the output file anew, and runs the command. An error is that of a file
 /// that can't be opened.
 pub fn run_order(rt: &HostRuntime, order: &Order<'_>) -> io::Result<Result<u8, ToolFault>> {
@@ -261,5 +302,25 @@ pub fn run_order(rt: &HostRuntime, order: &Order<'_>) -> io::Result<Result<u8, T
             certificate,
             late,
         } => open_certify(rt, cycle, service, certificate, *late),
+        Order::Splice {
+            old,
+            new,
+            old_service,
+            new_service,
+            old_certificate,
+            new_certificate,
+        } => {
+            let cycles = open_two(rt, old, new)?;
+            let services = open_two(rt, old_service, new_service)?;
+            let certificates = open_two(rt, old_certificate, new_certificate)?;
+            Ok(splice(
+                rt,
+                SpliceInputs {
+                    cycles,
+                    services,
+                    certificates,
+                },
+            ))
+        }
     }
 }

@@ -5,7 +5,7 @@
 --   operand_rule             an operand that has to be there
 --   number_rule, name_rule   an option with a number in a range, and one with a name of a list
 --   flag_rule                an option without a value
---   inspect_app, plan_app, find_app, certify_app, receive_app, show_app, preview_app      a command with its arguments
+--   inspect_app, plan_app, find_app, certify_app, receive_app, show_app, preview_app, splice_app      a command with its arguments
 --   bare_app, ttx_app        the program alone, and with its commands
 --   Builds                   what is built of a command, where memory doesn't run out
 use Rattle.std.specs.Prelude.{◌≡◌, ℕ, List, [], ◌∷◌, codes, map, true, false, Some, Result, IfOk}
@@ -89,6 +89,12 @@ unfoldable pub preview_app : NameList → App
 preview_app forms =
     with_look forms (with_rule (with_rule (new_app (codes "preview")) (operand_rule (codes "service"))) (operand_rule (codes "page")))
 
+-- splice OLD NEW OLDSERVICE NEWSERVICE OLDCERT NEWCERT
+unfoldable pub splice_app : App
+splice_app =
+    with_rule (with_rule (with_rule (with_rule (with_rule (with_rule (new_app (codes "splice")) (operand_rule (codes "old"))) (operand_rule (codes "new")))
+    (operand_rule (codes "old_service"))) (operand_rule (codes "new_service"))) (operand_rule (codes "old_certificate"))) (operand_rule (codes "new_certificate"))
+
 abbrev pub bare : Shape → Shape
 bare s = record s { no_binary_name = true; subcommand_required = true; disable_help_subcommand = true }
 
@@ -98,9 +104,10 @@ bare_app = record { top = bare (new_app (codes "ttx")).top; subs = [] }
 
 unfoldable pub ttx_app : NameList → NameList → NameList → App
 ttx_app kinds classes forms =
-    with_subcommand (with_subcommand (with_subcommand (with_subcommand (with_subcommand (with_subcommand (with_subcommand bare_app inspect_app.top) (plan_app classes).top)
+    with_subcommand (with_subcommand (with_subcommand (with_subcommand (with_subcommand (with_subcommand (with_subcommand (with_subcommand bare_app inspect_app.top) (plan_app classes).top)
     (find_app classes).top) certify_app.top) (receive_app kinds).top)
-    (show_app kinds forms).top) (preview_app forms).top
+    (show_app kinds forms).top) (preview_app forms).top)
+    splice_app.top
 
 abbrev pub Builds : {E : Type 0} → Result Command E → App → Type 0
 Builds result app = IfOk result (λ c. (app_of c ≡ app) × ((out-Command c).has_globals ≡ false))

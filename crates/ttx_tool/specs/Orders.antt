@@ -27,7 +27,7 @@ use Rattle.ttx_picture.specs.declared.forms.Form.{Form}
 use Rattle.ttx_picture.specs.declared.forms.Form.TheVariants as form
 use Rattle.ttx_tool.specs.declared.orders.Look.{Look}
 use Rattle.ttx_tool.specs.declared.orders.Order.{Order}
-use Rattle.ttx_tool.specs.declared.orders.Order.TheVariants.{Inspect, Plan, Find, Certify, Receive, Show, Preview}
+use Rattle.ttx_tool.specs.declared.orders.Order.TheVariants.{Inspect, Plan, Find, Certify, Receive, Show, Preview, Splice}
 use Rattle.ttx_tool.specs.declared.orders.ReceiverKind.{ReceiverKind}
 use Rattle.ttx_tool.specs.declared.orders.ReceiverKind.TheVariants.{Eager, Careful, Cleared}
 use Rattle.ttx_tool.specs.declared.orders.Tuning.{Tuning}
@@ -52,6 +52,7 @@ pub data OrderView : Type 0 where
   receive_order : (cycle : Text) → (tuning : Tuning) → OrderView
   show_order : (cycle : Text) → (tuning : Tuning) → (look : LookView) → OrderView
   preview_order : (service : Text) → (selection : Selection) → (look : LookView) → OrderView
+  splice_order : (old new old_service new_service old_certificate new_certificate : Text) → OrderView
 
 abbrev pub order_view : Order → OrderView
 order_view (Inspect file) = inspect_order file.now
@@ -61,6 +62,8 @@ order_view (Certify cycle service certificate late) = certify_order cycle.now se
 order_view (Receive cycle tuning) = receive_order cycle.now tuning
 order_view (Show cycle tuning look) = show_order cycle.now tuning (look_view look)
 order_view (Preview service selection look) = preview_order service.now selection (look_view look)
+order_view (Splice old new old_service new_service old_certificate new_certificate) =
+    splice_order old.now new.now old_service.now new_service.now old_certificate.now new_certificate.now
 
 -- the text that an argument was given; a parse gives one to each operand
 abbrev pub text_at : Text → List Row → Text
@@ -161,6 +164,11 @@ show_at rows = show_by (selection_of (text_at (codes "page") rows)) rows
 abbrev pub preview_at : List Row → Result OrderView Unfit
 preview_at rows = preview_by (selection_of (text_at (codes "page") rows)) rows
 
+abbrev pub splice_at : List Row → OrderView
+splice_at rows =
+    splice_order (text_at (codes "old") rows) (text_at (codes "new") rows) (text_at (codes "old_service") rows) (text_at (codes "new_service") rows)
+    (text_at (codes "old_certificate") rows) (text_at (codes "new_certificate") rows)
+
 -- the texts that name inputs
 abbrev pub inputs : OrderView → List Text
 inputs (inspect_order file) = file ∷ []
@@ -170,6 +178,8 @@ inputs (certify_order cycle service certificate late) = cycle ∷ service ∷ ce
 inputs (receive_order cycle tuning) = cycle ∷ []
 inputs (show_order cycle tuning look) = cycle ∷ []
 inputs (preview_order service selection look) = service ∷ []
+inputs (splice_order old new old_service new_service old_certificate new_certificate) =
+    old ∷ new ∷ old_service ∷ new_service ∷ old_certificate ∷ new_certificate ∷ []
 
 -- more than one of them is standard input
 abbrev pub is_twice : OrderView → Bool
@@ -188,6 +198,7 @@ order_at name rows =
     else if bytes_eq name (codes "receive") then receive_at rows
     else if bytes_eq name (codes "show") then show_at rows
     else if bytes_eq name (codes "preview") then preview_at rows
+    else if bytes_eq name (codes "splice") then once (splice_at rows)
     else Ok (inspect_at rows)
 
 -- no words at all ask for `inspect -`, and words that `clap` takes for their command with its values

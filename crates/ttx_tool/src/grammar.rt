@@ -3,7 +3,7 @@
 ghost use Rattle.std.specs.Prelude.{◌≡◌, false, codes};
 ghost use Rattle.clap.specs.Words.{App, Text, rule_of, with_rule, with_subcommand, new_app};
 ghost use Rattle.ttx_tool.specs.Grammar as rule;
-ghost use Rattle.ttx_tool.specs.Grammar.{Lists, Builds, operand_rule, number_rule, name_rule, flag_rule, with_tuning, with_look, inspect_app, plan_app, find_app, certify_app, receive_app, show_app, preview_app, bare_app, ttx_app};
+ghost use Rattle.ttx_tool.specs.Grammar.{Lists, Builds, operand_rule, number_rule, name_rule, flag_rule, with_tuning, with_look, inspect_app, plan_app, find_app, certify_app, receive_app, show_app, preview_app, splice_app, bare_app, ttx_app};
 
 use crate::help;
 use clap::builder::ValueParser;
@@ -228,6 +228,43 @@ fn preview<'a>(alloc: Global, forms: &'a [&'a str]) -> Building<'a>
     with_look(alloc, preview, forms)
 }
 
+// `splice OLD NEW OLDSERVICE NEWSERVICE OLDCERT NEWCERT`
+fn splice<'a>(alloc: Global) -> Building<'a>
+    ensures { Builds result splice_app }
+{
+    let splice = command(alloc, "splice", help::SPLICE, help::SPLICE_MORE);
+    let splice = with_operand(alloc, splice, "old", "OLD", help::OLD_OPERAND);
+    let splice = with_operand(alloc, splice, "new", "NEW", help::NEW_OPERAND);
+    let splice = with_operand(
+        alloc,
+        splice,
+        "old_service",
+        "OLDSERVICE",
+        help::OLD_SERVICE_OPERAND,
+    );
+    let splice = with_operand(
+        alloc,
+        splice,
+        "new_service",
+        "NEWSERVICE",
+        help::NEW_SERVICE_OPERAND,
+    );
+    let splice = with_operand(
+        alloc,
+        splice,
+        "old_certificate",
+        "OLDCERT",
+        help::OLD_CERTIFICATE_OPERAND,
+    );
+    with_operand(
+        alloc,
+        splice,
+        "new_certificate",
+        "NEWCERT",
+        help::NEW_CERTIFICATE_OPERAND,
+    )
+}
+
 // `ttx` alone, which is given the words after its name.
 fn bare<'a>(alloc: Global) -> Building<'a>
     ensures { Builds result bare_app }
@@ -277,5 +314,6 @@ pub(crate) fn ttx<'a>(
     let ttx = with_command(ttx, certify(alloc));
     let ttx = with_command(ttx, receive(alloc, kinds));
     let ttx = with_command(ttx, show(alloc, kinds, forms));
-    with_command(ttx, preview(alloc, forms))
+    let ttx = with_command(ttx, preview(alloc, forms));
+    with_command(ttx, splice(alloc))
 }

@@ -144,6 +144,28 @@ Statuses:
      refused: service NUMBER NAME [KEY] page N, refused: service too-long
   3  fault: file, fault: read, fault: write, fault: memory";
 
+pub(crate) const SPLICE: &str =
+    "Judges the change from an old cycle to a new one, and writes the verdict to standard output";
+
+pub(crate) const SPLICE_MORE: &str =
+    "OLD is sent again and again, then at the end of a period NEW is, from its slot 0 on. Reads OLD, NEW, OLDSERVICE,
+NEWSERVICE, OLDCERT and NEWCERT, in this order, to their ends. The verdict is one of
+  yes                        each page that both services have alike is seen right from D fields after tuning, through
+                             the change and ever after; each other new page from D fields after tuning or the change
+  no 1 old NUMBER NAME ..    OLD isn't accepted: the reason that certify has
+  no 2 new NUMBER NAME ..    NEW isn't accepted
+  no 3 numbers               lines, repeat or deadline of the certificates differ, or one is of class clearing
+  no 4 seam PAGE SLOT        slot SLOT of NEW would still be stored in PAGE, and differs from it
+  no 5 seam-late PAGE ITEM   through the change ITEM of PAGE doesn't come in time
+
+Statuses:
+  0  yes
+  1  no
+  2  error: .. (the words), refused: twice, refused: cycle NUMBER NAME [REST],
+     refused: service NUMBER NAME [KEY] page N, refused: service too-long,
+     refused: certificate NUMBER NAME [line N], refused: certificate too-long
+  3  fault: file, fault: read, fault: write, fault: memory";
+
 pub(crate) const CYCLE_OPERAND: &str =
     "Packet file: 1 to 65536 slots of 42 bytes; - is standard input";
 
@@ -152,6 +174,24 @@ pub(crate) const SERVICE_OPERAND: &str =
 
 pub(crate) const CERTIFICATE_OPERAND: &str =
     "Certificate: a text of at most 4194304 bytes; - is standard input";
+
+pub(crate) const OLD_OPERAND: &str =
+    "Packet file that is sent before the change: 1 to 65536 slots of 42 bytes; - is standard input";
+
+pub(crate) const NEW_OPERAND: &str =
+    "Packet file that is sent after the change: 1 to 65536 slots of 42 bytes; - is standard input";
+
+pub(crate) const OLD_SERVICE_OPERAND: &str =
+    "Service definition of OLD: a TOML text of at most 4194304 bytes; - is standard input";
+
+pub(crate) const NEW_SERVICE_OPERAND: &str =
+    "Service definition of NEW: a TOML text of at most 4194304 bytes; - is standard input";
+
+pub(crate) const OLD_CERTIFICATE_OPERAND: &str =
+    "Certificate of OLD: a text of at most 4194304 bytes; - is standard input";
+
+pub(crate) const NEW_CERTIFICATE_OPERAND: &str =
+    "Certificate of NEW: a text of at most 4194304 bytes; - is standard input";
 
 pub(crate) const PLANNED_OPERAND: &str = "Packet file to write, 42 bytes a slot; made anew";
 

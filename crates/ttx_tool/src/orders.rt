@@ -81,6 +81,15 @@ pub enum Order<'a> {
         selection: Selection,
         look: Look<'a>,
     },
+    /// Judge the change from an old cycle to a new one.
+    Splice {
+        old: &'a str,
+        new: &'a str,
+        old_service: &'a str,
+        new_service: &'a str,
+        old_certificate: &'a str,
+        new_certificate: &'a str,
+    },
 }
 
 /// Why words are refused.

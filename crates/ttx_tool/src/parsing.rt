@@ -5,7 +5,7 @@ ghost use Rattle.std.specs.Str.{bytes_eq};
 ghost use Rattle.clap.specs.Words.{rows_of, first_of, found_of, subcommand_rows_of, subcommand_of, fault_of};
 ghost use Rattle.ttx_tool.specs.Grammar.{ttx_app};
 ghost use Rattle.ttx_tool.specs.Orders as rule;
-ghost use Rattle.ttx_tool.specs.Orders.{OrderView, Unfit, order_view, look_view, text_at, kind_named, class_named, form_named, is_set, tuning_at, look_at, show_at, preview_at, inspect_at, plan_at, find_at, certify_at, receive_at, once, order_at, IsOrderOf, AnswersBy, Answers, IsFaultOf, IsRefusalOf};
+ghost use Rattle.ttx_tool.specs.Orders.{OrderView, Unfit, order_view, look_view, text_at, kind_named, class_named, form_named, is_set, tuning_at, look_at, show_at, preview_at, inspect_at, plan_at, find_at, certify_at, receive_at, splice_at, once, order_at, IsOrderOf, AnswersBy, Answers, IsFaultOf, IsRefusalOf};
 
 use crate::grammar::{class_names, form_names, kind_names, ttx};
 use crate::orders::{Look, Order, ReceiverKind, Tuning, WordsFault};
@@ -250,6 +250,43 @@ fn certify_of<'a>(values: &ArgMatches<'a>) -> Result<Order<'a>, WordsFault>
     Ok(certified(values))
 }
 
+// Whether more than one of them is true.
+fn are_many(standard: &[bool]) -> bool
+    ensures { result ≡ nat_lt 1 (count_by (λ b. b) standard.now) }
+{
+    standard.iter().filter(|b| **b).count() > 1
+}
+
+fn spliced<'a>(values: &ArgMatches<'a>) -> Order<'a>
+    ensures { order_view result ≡ splice_at (rows_of (found_of values.now)) }
+{
+    Order::Splice {
+        old: text_of(values, "old"),
+        new: text_of(values, "new"),
+        old_service: text_of(values, "old_service"),
+        new_service: text_of(values, "new_service"),
+        old_certificate: text_of(values, "old_certificate"),
+        new_certificate: text_of(values, "new_certificate"),
+    }
+}
+
+fn splice_of<'a>(values: &ArgMatches<'a>) -> Result<Order<'a>, WordsFault>
+    ensures { IsOrderOf result (once (splice_at (rows_of (found_of values.now)))) }
+{
+    let standard = [
+        is_standard(text_of(values, "old")),
+        is_standard(text_of(values, "new")),
+        is_standard(text_of(values, "old_service")),
+        is_standard(text_of(values, "new_service")),
+        is_standard(text_of(values, "old_certificate")),
+        is_standard(text_of(values, "new_certificate")),
+    ];
+    if are_many(&standard) {
+        return Err(WordsFault::Twice);
+    }
+    Ok(spliced(values))
+}
+
 // The order of a command with its values.
 #[tactic(auto, unfolding(crate::specs::Orders::order_at))]
 fn order_of<'a>(name: &str, values: &ArgMatches<'a>) -> Result<Order<'a>, WordsFault>
@@ -267,6 +304,8 @@ fn order_of<'a>(name: &str, values: &ArgMatches<'a>) -> Result<Order<'a>, WordsF
         show_of(values)
     } else if name == "preview" {
         preview_of(values)
+    } else if name == "splice" {
+        splice_of(values)
     } else {
         Ok(inspect_of(values))
     }

@@ -10,4 +10,5 @@ returns c =
     let certifying = c.with_command-ttx-4.ensures _ _ finding c.certify.ensures in
     let receiving = c.with_command-ttx-5.ensures _ _ certifying c.receive.ensures in
     let showing = c.with_command-ttx-6.ensures _ _ receiving c.show.ensures in
-    c.with_command.ensures _ _ showing c.preview.ensures
+    let previewing = c.with_command-ttx-7.ensures _ _ showing c.preview.ensures in
+    c.with_command.ensures _ _ previewing c.splice.ensures

@@ -1,0 +1,124 @@
+#!/usr/bin/env python3
+"""What is spliced is seen: pairs of cycles that the program accepts as a splice are joined, and received around the change from every
+slot of a period on either side, by each kind of receiver that the program has, out of a memory full of another page, and with errors
+within the error rule. At the deadline and later the page is displayed as from its own cycle, the header clock aside.
+
+usage: spliced.py PROGRAM
+"""
+import os
+import subprocess
+import sys
+import tempfile
+from pathlib import Path
+
+TOP = Path(__file__).resolve().parent.parent
+WORDS = bytes.fromhex("1502495e6473382fd0c78c9ba1b6fdea")
+EMPTY = bytes(42)
+LINES = 2
+KINDS = ("eager", "careful", "cleared")
+
+# old and new cycle with the slots by which each is turned, repeat, deadline
+PAIRS = [
+    ("base", 0, "base", 0, 1, 27), ("base", 0, "base", 10, 1, 36), ("base", 10, "base", 0, 1, 54), ("base", 5, "base", 5, 1, 27),
+    ("base", 0, "base", 27, 1, 54), ("base", 27, "base", 1, 1, 54), ("base", 13, "base", 20, 1, 54), ("base", 0, "base", 0, 2, 41),
+    ("base", 10, "base", 3, 2, 82), ("base", 0, "two-pages", 0, 1, 68),
+]
+
+
+def slots_of(name, turn):
+    """The slots of a file of tests/data, turned."""
+    data = (TOP / "tests/data" / f"{name}.t42").read_bytes()
+    slots = [data[at : at + 42] for at in range(0, len(data), 42)]
+    return slots[turn:] + slots[:turn]
+
+
+def is_text(slot, at):
+    """Whether the byte is text, of which one in so many successive transmissions is received right."""
+    number = WORDS.index(slot[0]) // 8 + 2 * WORDS.index(slot[1])
+    return 10 <= at < 34 if number == 0 else number < 25 and at >= 2
+
+
+def with_errors(slot, text_is_right):
+    """One wrong bit in each byte, but for text where it is to be right."""
+    if slot == EMPTY:
+        return slot
+    wrong = (byte ^ 1 << at % 8 for at, byte in enumerate(slot))
+    return bytes(slot[at] if text_is_right and is_text(slot, at) else byte for at, byte in enumerate(wrong))
+
+
+def full_page(page):
+    """A page of 7F in all places, whose transmission goes on."""
+    address = lambda number: bytes([WORDS[1 + 8 * (number % 2)], WORDS[number // 2]])
+    head = address(0) + bytes(WORDS[n] for n in (page % 16, page // 16, 0, 0, 0, 0, 8, 15))
+    link = bytes(WORDS[n] for n in (0, 0, 15, 7, 15, 3))
+    links = address(27) + bytes([WORDS[0]]) + link * 6 + bytes([WORDS[15], 0, 0])
+    rows = [address(number) + bytes([0x7F] * 40) for number in range(1, 25)]
+    return [head + bytes([0x7F] * 32), EMPTY, EMPTY, *rows, links]
+
+
+class Spliced:
+    """A pair that is accepted, and what is received of it."""
+
+    def __init__(self, program, folder, pair):
+        self.program, self.folder = program, folder
+        old, old_turn, new, new_turn, self.repeat, self.deadline = pair
+        self.old, self.new = slots_of(old, old_turn), slots_of(new, new_turn)
+        self.names = old, new
+        words = []
+        for side, slots, name in (("old", self.old, old), ("new", self.new, new)):
+            (folder / f"{side}.t42").write_bytes(b"".join(slots))
+            service = TOP / "tests/data" / f"{name}.toml"
+            self.run("find", f"{side}.t42", service, f"{side}.cert", "--repeat", str(self.repeat))
+            text = (folder / f"{side}.cert").read_text().split("\n")
+            text[3] = f"deadline {self.deadline}"
+            (folder / f"{side}.cert").write_text("\n".join(text))
+            words.append(service)
+        self.verdict = self.run("splice", "old.t42", "new.t42", *words, "old.cert", "new.cert")
+
+    def run(self, *words):
+        return subprocess.run([self.program, *words], cwd=self.folder, capture_output=True, text=True, check=False).stdout
+
+    def sent(self, at):
+        """The slot of the joined stream; of two transmissions of a text byte every other one is right."""
+        side = self.new if at >= 0 else self.old
+        return with_errors(side[at % len(side)], self.repeat == 1 or at // len(side) % 2 == 0)
+
+    def view(self, name, page, slots, kind):
+        """What is displayed after so many slots, without the receiver's own columns and the clock."""
+        lines = self.run("receive", name, page, "--lines", str(LINES), "--slots", str(slots), "--kind", kind).split("\n")
+        first = lines[0].split(" ")
+        return [first[:2] + first[10:34], *lines[1:]]
+
+    def misses(self, page, wanted, tuning, begin):
+        """How often the page isn't displayed, at the deadline after slot `begin` and later."""
+        former = full_page(int(page[1:], 16))
+        last = begin + self.deadline * LINES + 17
+        (self.folder / "joined.t42").write_bytes(b"".join([*former, *(self.sent(at) for at in range(tuning, last))]))
+        ends = (last - 17 - tuning, last - tuning)
+        return sum(self.view("joined.t42", page, len(former) + n, kind) != wanted for kind in KINDS for n in ends)
+
+    def all_misses(self):
+        tunings = range(-len(self.old), len(self.new))
+        wanted = self.view("new.t42", "100", 5000, "eager")
+        missed = sum(self.misses("100", wanted, tuning, tuning) for tuning in tunings)
+        if self.names[1] == "two-pages":
+            wanted = self.view("new.t42", "101", 5000, "eager")
+            missed += sum(self.misses("101", wanted, tuning, max(tuning, 0)) for tuning in tunings)
+        return missed
+
+
+def main():
+    program = os.path.abspath(sys.argv[1])
+    failed = 0
+    for pair in PAIRS:
+        with tempfile.TemporaryDirectory() as folder:
+            spliced = Spliced(program, Path(folder), pair)
+            missed = spliced.all_misses()
+        if spliced.verdict != "yes\n" or missed:
+            failed += 1
+            print(f"{pair}: {spliced.verdict.strip()}, {missed} times not displayed")
+    print(f"spliced: {len(PAIRS)} pairs, {failed} failed")
+    sys.exit(failed != 0)
+
+
+main()
