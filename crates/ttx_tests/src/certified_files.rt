@@ -3,16 +3,18 @@
 use crate::base::{self, CERTIFICATE, SERVICE};
 use std::alloc::{AllocError, Global};
 use std::test::Fail;
-use ttx_certify::{FilesFault, TextFile, Verdict, certify_files};
-use ttx_cycle::Counted;
+use ttx_certify::{FilesFault, TextFile, Verdict, certify_files, verdict_line};
 use ttx_cycle::faulty::{Failure, FaultyReader, FaultyWriter};
+use ttx_cycle::{Counted, Cycle};
 use ttx_header::time_fill;
+use ttx_source::read_service;
+use ttx_witness::{page_fault, read_certificate};
 
 const YES: &str = "yes lines 2 repeat 1 deadline 27 pages 1\n";
 
 // Edits of the worked cycle: a slot, the place from which these bytes stand in it, and the line of the verdict.
 #[rattlefmt::skip]
-static EDITS: [(usize, usize, &[u8], &str); 14] = [
+static EDITS: [(usize, usize, &[u8], &str); 15] = [
     (4, 0, &[0x03], "no 1 bad-slot 4\n"),
     (1, 0, &[0xff; 42], "no 1 bad-slot 1\n"),
     (26, 2, &[0x14], "no 1 bad-slot 26\n"),
@@ -20,6 +22,7 @@ static EDITS: [(usize, usize, &[u8], &str); 14] = [
     // the header 100/0001
     (27, 0, &[0x02, 0x15, 0x15, 0x15, 0x02, 0x15, 0x15, 0x15, 0x15, 0x02], "no 3 other-subpage 100/0000 27\n"),
     (0, 5, &[0xd0], "no 4 erased 100/0000 0\n"),
+    (0, 33, &[0xc1], "no 5 head-differs 100/0000 0\n"),
     (7, 2, &[0xc1], "no 6 row-differs 100/0000 7\n"),
     // the link 205/3F7F
     (26, 3, &[0x73, 0x15, 0xea, 0xea, 0xea, 0x2f], "no 7 links-differ 100/0000 26\n"),
@@ -75,6 +78,40 @@ fn edits_of_the_worked_cycle(rt: HostRuntime) -> Result<(), Fail> {
     for (slot, from, bytes, line) in &EDITS {
         let slots = base::edited(rt.alloc(), *slot, *from, bytes)?;
         assert!(rt; is_answered(rt.alloc(), slots.as_slice(), line), "{line}");
+    }
+    Ok(())
+}
+
+// Whether `page_fault` tells the page's fault as this line does, where the line tells of one of its reasons, and else none.
+fn is_told(alloc: Global, slots: Vec<[u8; 42]>, line: &str) -> bool {
+    let (Some(cycle), Ok(service), Ok(certificate)) = (
+        Cycle::of(slots),
+        read_service(alloc, SERVICE),
+        read_certificate(alloc, CERTIFICATE),
+    ) else {
+        return false;
+    };
+    let pages = service.pages();
+    if pages.is_empty() {
+        return false;
+    }
+    match page_fault(&cycle, pages, 0) {
+        None => !matches!(line.as_bytes().get(3), Some(b'2'..=b'7')),
+        Some(reason) => match verdict_line(alloc, &certificate, 1, Verdict::No(reason)) {
+            Ok(told) => told.as_str() == line,
+            Err(_) => false,
+        },
+    }
+}
+
+// A bad slot is no fault of a page.
+#[test]
+fn page_faults_of_the_same_edits(rt: HostRuntime) -> Result<(), Fail> {
+    for (slot, from, bytes, line) in &EDITS {
+        if !line.starts_with("no 1 ") {
+            let slots = base::edited(rt.alloc(), *slot, *from, bytes)?;
+            assert!(rt; is_told(rt.alloc(), slots, line), "{line}");
+        }
     }
     Ok(())
 }

@@ -2,7 +2,7 @@
 
 use crate::base;
 use std::alloc::{AllocError, Global};
-use std::io::Write;
+use std::io::{BufWriter, Write};
 use std::test::Fail;
 use ttx_cycle::faulty::{Failure, FaultyReader, FaultyWriter};
 use ttx_cycle::{Counted, Cycle, CycleFault, SlotReader, WriteFault, read_cycle, write_cycle};
@@ -134,6 +134,23 @@ fn a_full_slice_takes_nothing(rt: HostRuntime) {
     assert_eq!(rt; writer.calls(), 3);
     assert_eq!(rt; writer.faults(), 1);
     assert_eq!(rt; writer.into_inner().taken(), b"abc".as_slice());
+}
+
+// A buffer above the slice keeps what is written until it is flushed.
+#[test]
+fn flush_reaches_the_inner_writer(rt: HostRuntime) -> Result<(), Fail> {
+    let mut room = [0; 3];
+    let slice = FaultyWriter::new(&mut room, 9, None);
+    let Ok(buffer) = BufWriter::new(rt.alloc(), slice) else {
+        panic!(rt; "there is no buffer");
+    };
+    let mut writer = Counted::new(buffer);
+    assert_eq!(rt; writer.write(b"abc").ok(), Some(3));
+    assert_eq!(rt; writer.get_ref().get_ref().taken(), b"".as_slice());
+    assert!(rt; writer.flush().is_ok());
+    assert_eq!(rt; writer.get_ref().get_ref().taken(), b"abc".as_slice());
+    assert_eq!(rt; writer.calls(), 1);
+    Ok(())
 }
 
 #[test]

@@ -59,8 +59,9 @@ fn is_text(slot: &[u8; 42], at: usize) -> bool {
     }
 }
 
-// One wrong bit in each byte, but for text where it is to be right.
-fn with_errors(sent: &[u8; 42], text_is_right: bool) -> [u8; 42] {
+// One wrong bit in each byte, but for text where it is to be right; the same byte all over a clock and behind the address of a
+// packet 8/30.
+fn with_errors(sent: &[u8; 42], text_is_right: bool, wild: u8) -> [u8; 42] {
     let mut bytes = *sent;
     if *sent == [0; 42] {
         return bytes;
@@ -70,16 +71,23 @@ fn with_errors(sent: &[u8; 42], text_is_right: bool) -> [u8; 42] {
             bytes[at] = bytes[at] ^ 1u8 << (at % 8);
         }
     }
+    match slot_of(sent) {
+        Slot::Header(_, _) => bytes[34..].fill(wild),
+        Slot::Info(_, _) => bytes[2..].fill(wild),
+        _ => {}
+    }
     bytes
 }
 
-// What is received of slot `at` of the stream. Where one of two transmissions is right, it is that of every other period.
+// What is received of slot `at` of the stream. Where one of two transmissions is right, it is that of every other period. Clocks and
+// packets 8/30 are other bytes each time, of right and of wrong parity.
 fn received(cycle: &Cycle, at: u32, repeat: u8) -> [u8; 42] {
     let slots = cycle.slots();
     let place = at as usize;
     with_errors(
         &slots[place % slots.len()],
         repeat == 1 || place / slots.len() % 2 == 0,
+        (at % 251) as u8,
     )
 }
 
@@ -117,14 +125,26 @@ fn any_subpage() -> Selection {
     Selection::AnySub(1, 0)
 }
 
-// Whether each kind of receiver shows the page, tuned at this slot.
+// Whether each kind of receiver shows the page, tuned at this slot, out of memories that store and that don't.
 fn are_served(page: &Page, cycle: &Cycle, tuning: u16, slots: u16, repeat: u8) -> bool {
-    let mut eager = Eager::new(any_subpage(), 2, former(true, 0, false));
-    let mut careful = Careful::new(Selection::Exact(page.id()), 2, former(true, 2, true));
+    are_served_from(false, page, cycle, tuning, slots, repeat)
+        && are_served_from(true, page, cycle, tuning, slots, repeat)
+}
+
+fn are_served_from(
+    storing: bool,
+    page: &Page,
+    cycle: &Cycle,
+    tuning: u16,
+    slots: u16,
+    repeat: u8,
+) -> bool {
+    let mut eager = Eager::new(any_subpage(), 2, former(storing, 0, false));
+    let mut careful = Careful::new(Selection::Exact(page.id()), 2, former(storing, 2, true));
     let mut scripted = Scripted::new(
         any_subpage(),
         2,
-        former(false, 64, true),
+        former(storing, 64, true),
         &[false, true, true, false, true],
     );
     is_seen(&mut eager, page, cycle, tuning, slots, repeat)
@@ -194,6 +214,15 @@ fn one_of_two_is_right(rt: HostRuntime) -> Result<(), Fail> {
 fn a_parallel_header_between(rt: HostRuntime) -> Result<(), Fail> {
     let header = beginning(&[0x49, 0x15, 0x15, 0x15, 0x15, 0x15, 0x15, 0x15, 0x15, 0x15]);
     let slots = base::edited(rt.alloc(), 1, 0, &header)?;
+    let text = certificate(rt.alloc(), 1, 27, 0, true)?;
+    assert!(rt; is_right(rt.alloc(), slots, page(0x20), text.as_str(), 54, 1));
+    Ok(())
+}
+
+// A packet 8/30 right after the page header.
+#[test]
+fn an_info_packet_between(rt: HostRuntime) -> Result<(), Fail> {
+    let slots = base::edited(rt.alloc(), 1, 0, &beginning(&[0x15, 0xea, 0x15]))?;
     let text = certificate(rt.alloc(), 1, 27, 0, true)?;
     assert!(rt; is_right(rt.alloc(), slots, page(0x20), text.as_str(), 54, 1));
     Ok(())
