@@ -95,6 +95,16 @@ for case in "$here"/cases/*/; do
         [ "$(head -c 2 "$expected")" = "*" ] && continue
         cmp -s "$expected" "$place/$stream" || fail "$stream: $(head -c 300 "$place/$stream")"
     done
+    # what certify says of a cycle it says of two equal readings of it
+    if [ "${1:-}" = certify ] && [ "$wanted" -lt 2 ] && [ ! -f "$case/stdin" ] && [ ! -f "$case/to" ]; then
+        count=$((count + 1))
+        open_output "$place/twice"
+        (run "$@" --twice)
+        status=$?
+        exec 3>&-
+        [ "$status" = "$wanted" ] || fail "status $status with --twice, not $wanted"
+        cmp -s "$case/stdout" "$place/twice" || fail "with --twice: $(head -c 300 "$place/twice")"
+    fi
     if [ -f "$case/out" ]; then
         while read -r file wanted; do
             cmp -s "$place/in/$file" "$here/data/$wanted" || fail "$file isn't $wanted"

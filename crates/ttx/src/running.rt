@@ -4,7 +4,7 @@ use crate::devices::{Input, open_input};
 use std::fs::File;
 use std::io;
 use std::io::BufReader;
-use ttx_certify::{Verdict, certify_files};
+use ttx_certify::{FilesFault, Verdict, certify_files, certify_passes};
 use ttx_cycle::Counted;
 use ttx_late::{LateVerdict, certify_files_late};
 use ttx_page::{Class, PageMemory, Selection};
@@ -97,6 +97,15 @@ fn receive(
     }
 }
 
+// The status of a verdict, or why there is none.
+fn status_of(verdict: Result<Verdict, FilesFault>) -> Result<u8, ToolFault> {
+    match verdict {
+        Ok(Verdict::Yes) => Ok(0),
+        Ok(Verdict::No(_)) => Ok(1),
+        Err(fault) => Err(ToolFault::from_files(fault)),
+    }
+}
+
 // Judges a cycle by a certificate: status 0 where the verdict is Yes, else 1.
 fn certify(
     rt: &HostRuntime,
@@ -108,17 +117,36 @@ fn certify(
     let mut service = buffered(rt, service)?;
     let mut certificate = buffered(rt, certificate)?;
     let mut writer = Counted::new(io::writer(rt));
-    match certify_files(
+    status_of(certify_files(
         rt.alloc(),
         &mut cycle,
         &mut service,
         &mut certificate,
         &mut writer,
-    ) {
-        Ok(Verdict::Yes) => Ok(0),
-        Ok(Verdict::No(_)) => Ok(1),
-        Err(fault) => Err(ToolFault::from_files(fault)),
-    }
+    ))
+}
+
+// The same for a cycle that is read twice.
+fn certify_twice(
+    rt: &HostRuntime,
+    first: Input,
+    second: Input,
+    service: Input,
+    certificate: Input,
+) -> Result<u8, ToolFault> {
+    let mut first = buffered(rt, first)?;
+    let mut second = buffered(rt, second)?;
+    let mut service = buffered(rt, service)?;
+    let mut certificate = buffered(rt, certificate)?;
+    let mut writer = Counted::new(io::writer(rt));
+    status_of(certify_passes(
+        rt.alloc(),
+        &mut first,
+        &mut second,
+        &mut service,
+        &mut certificate,
+        &mut writer,
+    ))
 }
 
 // The same where receivers may show pages late.
@@ -268,6 +296,20 @@ fn open_two(rt: &HostRuntime, old: &str, new: &str) -> io::Result<(Input, Input)
     Ok((old, new))
 }
 
+// The same with the cycle opened twice.
+fn open_certify_twice(
+    rt: &HostRuntime,
+    cycle: &str,
+    service: &str,
+    certificate: &str,
+) -> io::Result<Result<u8, ToolFault>> {
+    let first = open_input(rt, cycle)?;
+    let second = open_input(rt, cycle)?;
+    let service = open_input(rt, service)?;
+    let certificate = open_input(rt, certificate)?;
+    Ok(certify_twice(rt, first, second, service, certificate))
+}
+
 /// Opens the inputs in the order of the words, makes the output file anew, and runs the command. An error is that of a file
 /// that can't be opened.
 pub fn run_order(rt: &HostRuntime, order: &Order<'_>) -> io::Result<Result<u8, ToolFault>> {
@@ -301,7 +343,14 @@ pub fn run_order(rt: &HostRuntime, order: &Order<'_>) -> io::Result<Result<u8, T
             service,
             certificate,
             late,
-        } => open_certify(rt, cycle, service, certificate, *late),
+            twice,
+        } => {
+            if *twice && !*late {
+                open_certify_twice(rt, cycle, service, certificate)
+            } else {
+                open_certify(rt, cycle, service, certificate, *late)
+            }
+        }
         Order::Splice {
             old,
             new,

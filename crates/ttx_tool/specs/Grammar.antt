@@ -60,11 +60,11 @@ find_app classes =
     with_rule (with_rule (with_rule (with_rule (with_rule (new_app (codes "find")) (operand_rule (codes "cycle"))) (operand_rule (codes "service")))
     (operand_rule (codes "out"))) (number_rule (codes "repeat") 1 8)) (name_rule (codes "class") classes)
 
--- certify CYCLE SERVICE CERT [--late]
+-- certify CYCLE SERVICE CERT [--late] [--twice]
 unfoldable pub certify_app : App
 certify_app =
-    with_rule (with_rule (with_rule (with_rule (new_app (codes "certify")) (operand_rule (codes "cycle"))) (operand_rule (codes "service")))
-    (operand_rule (codes "certificate"))) (flag_rule (codes "late"))
+    with_rule (with_rule (with_rule (with_rule (with_rule (new_app (codes "certify")) (operand_rule (codes "cycle"))) (operand_rule (codes "service")))
+    (operand_rule (codes "certificate"))) (flag_rule (codes "late"))) (flag_rule (codes "twice"))
 
 -- CYCLE PAGE [--lines L] [--start S] [--slots N] [--kind eager|careful|cleared]
 abbrev pub with_tuning : NameList → App → App

@@ -48,7 +48,7 @@ pub data OrderView : Type 0 where
   inspect_order : (file : Text) → OrderView
   plan_order : (service out : Text) → (class : Class) → OrderView
   find_order : (cycle service out : Text) → (repeat : ℕ) → (class : Class) → OrderView
-  certify_order : (cycle service certificate : Text) → (late : Bool) → OrderView
+  certify_order : (cycle service certificate : Text) → (late twice : Bool) → OrderView
   receive_order : (cycle : Text) → (tuning : Tuning) → OrderView
   show_order : (cycle : Text) → (tuning : Tuning) → (look : LookView) → OrderView
   preview_order : (service : Text) → (selection : Selection) → (look : LookView) → OrderView
@@ -58,7 +58,7 @@ abbrev pub order_view : Order → OrderView
 order_view (Inspect file) = inspect_order file.now
 order_view (Plan service out class) = plan_order service.now out.now class
 order_view (Find cycle service out repeat class) = find_order cycle.now service.now out.now repeat class
-order_view (Certify cycle service certificate late) = certify_order cycle.now service.now certificate.now late
+order_view (Certify cycle service certificate late twice) = certify_order cycle.now service.now certificate.now late twice
 order_view (Receive cycle tuning) = receive_order cycle.now tuning
 order_view (Show cycle tuning look) = show_order cycle.now tuning (look_view look)
 order_view (Preview service selection look) = preview_order service.now selection (look_view look)
@@ -153,7 +153,8 @@ find_at rows =
 
 abbrev pub certify_at : List Row → OrderView
 certify_at rows =
-    certify_order (text_at (codes "cycle") rows) (text_at (codes "service") rows) (text_at (codes "certificate") rows) (is_set (codes "late") rows)
+    certify_order (text_at (codes "cycle") rows) (text_at (codes "service") rows) (text_at (codes "certificate") rows)
+    (is_set (codes "late") rows) (is_set (codes "twice") rows)
 
 abbrev pub receive_at : List Row → Result OrderView Unfit
 receive_at rows = receive_by (selection_of (text_at (codes "page") rows)) rows
@@ -174,7 +175,7 @@ abbrev pub inputs : OrderView → List Text
 inputs (inspect_order file) = file ∷ []
 inputs (plan_order service out class) = service ∷ []
 inputs (find_order cycle service out repeat class) = cycle ∷ service ∷ []
-inputs (certify_order cycle service certificate late) = cycle ∷ service ∷ certificate ∷ []
+inputs (certify_order cycle service certificate late twice) = cycle ∷ service ∷ certificate ∷ (if twice then cycle ∷ [] else [])
 inputs (receive_order cycle tuning) = cycle ∷ []
 inputs (show_order cycle tuning look) = cycle ∷ []
 inputs (preview_order service selection look) = service ∷ []

@@ -156,7 +156,7 @@ fn find<'a>(alloc: Global, classes: &'a [&'a str]) -> Building<'a>
     with_class(alloc, find, classes)
 }
 
-// `certify CYCLE SERVICE CERT [--late]`
+// `certify CYCLE SERVICE CERT [--late] [--twice]`
 fn certify<'a>(alloc: Global) -> Building<'a>
     ensures { Builds result certify_app }
 {
@@ -170,7 +170,8 @@ fn certify<'a>(alloc: Global) -> Building<'a>
         "CERT",
         help::CERTIFICATE_OPERAND,
     );
-    with_flag(alloc, certify, "late", help::LATE_OPTION)
+    let certify = with_flag(alloc, certify, "late", help::LATE_OPTION);
+    with_flag(alloc, certify, "twice", help::TWICE_OPTION)
 }
 
 // `CYCLE PAGE [--lines L] [--start S] [--slots N] [--kind eager|careful|cleared]`

@@ -66,7 +66,8 @@ pub(crate) const CERTIFY: &str =
     "Judges a cycle and its service by a certificate, and writes the verdict to standard output";
 
 pub(crate) const CERTIFY_MORE: &str =
-    "Reads CYCLE, SERVICE and CERT, in this order, to their ends. The verdict is one of
+    "Reads CYCLE, SERVICE and CERT, in this order, to their ends; with --twice SERVICE, CERT, CYCLE and CYCLE again, and
+memory doesn't grow with the cycle. CYCLE can't be - then. The verdict is one of
   yes lines L repeat K deadline D pages N    with class clearing at its end for a certificate of that class
   no NUMBER NAME ..                          the first true reason, with its page, item, and slot or start
 With --late receivers may show a page only where another page number ends it. A yes then has late G at its end:
@@ -220,3 +221,6 @@ pub(crate) const KIND_OPTION: &str =
 pub(crate) const FORM_OPTION: &str = "How the page is written, below [default: ansi]";
 
 pub(crate) const REVEAL_OPTION: &str = "Show concealed characters";
+
+pub(crate) const TWICE_OPTION: &str =
+    "Read CYCLE twice, slot by slot, and keep none of it; with --late it is kept";

@@ -63,6 +63,8 @@ pub enum Order<'a> {
         certificate: &'a str,
         /// For receivers that may show pages late, too.
         late: bool,
+        /// Whether the cycle is read twice, slot by slot; not with `late`.
+        twice: bool,
     },
     /// Show what a receiver holds of a page.
     Receive {

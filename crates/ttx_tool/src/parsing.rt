@@ -1,6 +1,6 @@
 //! From the words after the program's name to an order.
 
-ghost use Rattle.std.specs.Prelude.{◌≡◌, ◌≤◌, [], ◌∷◌, true, nat_lt, count_by, IfOk, IfErr, Some, Err, Result, is_some, length, map, option_map, option_and_then, codes};
+ghost use Rattle.std.specs.Prelude.{◌≡◌, ◌≤◌, [], ◌∷◌, true, if◌then◌else◌, nat_lt, count_by, IfOk, IfErr, Some, Err, Result, is_some, length, map, option_map, option_and_then, codes};
 ghost use Rattle.std.specs.Str.{bytes_eq};
 ghost use Rattle.clap.specs.Words.{rows_of, first_of, found_of, subcommand_rows_of, subcommand_of, fault_of};
 ghost use Rattle.ttx_tool.specs.Grammar.{ttx_app};
@@ -198,10 +198,11 @@ fn are_both(first: bool, second: bool) -> bool
     first && second
 }
 
-fn has_two(first: bool, second: bool, third: bool) -> bool
-    ensures { result ≡ nat_lt 1 (count_by (λ b. b) (first ∷ second ∷ third ∷ [])) }
+// The same where the first counts again.
+fn has_two(first: bool, second: bool, third: bool, again: bool) -> bool
+    ensures { result ≡ nat_lt 1 (count_by (λ b. b) (first ∷ second ∷ third ∷ (if again then first ∷ [] else []))) }
 {
-    (first && second) || (first && third) || (second && third)
+    (first && (second || third || again)) || (second && third)
 }
 
 fn found<'a>(values: &ArgMatches<'a>) -> Order<'a>
@@ -235,6 +236,7 @@ fn certified<'a>(values: &ArgMatches<'a>) -> Order<'a>
         service: text_of(values, "service"),
         certificate: text_of(values, "certificate"),
         late: is_set(values, "late"),
+        twice: is_set(values, "twice"),
     }
 }
 
@@ -244,7 +246,7 @@ fn certify_of<'a>(values: &ArgMatches<'a>) -> Result<Order<'a>, WordsFault>
     let cycle = is_standard(text_of(values, "cycle"));
     let service = is_standard(text_of(values, "service"));
     let certificate = is_standard(text_of(values, "certificate"));
-    if has_two(cycle, service, certificate) {
+    if has_two(cycle, service, certificate, is_set(values, "twice")) {
         return Err(WordsFault::Twice);
     }
     Ok(certified(values))

@@ -9,4 +9,5 @@ returns c =
     let cycle = c.with_operand-certify.ensures _ _ (search rules) named in
     let service = c.with_operand-certify-2.ensures _ _ (search rules) cycle in
     let certificate = c.with_operand-certify-3.ensures _ _ (search rules) service in
-    c.with_flag.ensures _ _ (search rules) certificate
+    let late = c.with_flag-certify.ensures _ _ (search rules) certificate in
+    c.with_flag.ensures _ _ (search rules) late
