@@ -305,6 +305,18 @@ sub = "0002"
 """
 
 
+def counter(start, slots, deadline, changed, choices=()):
+    """The text of a counter-run of page 100: the page's memory, but for an A in the first column of a row."""
+    rows = ["65" + " 32" * 39 if number == changed else "32" + " 32" * 39 for number in range(25)]
+    bits = [f" {bit}" for bit in choices]
+    head = [
+        "ttx counter 1", "lines 2", "repeat 1", f"deadline {deadline}", "page 0", "any-subpage 0", f"start {start}", f"slots {slots}",
+        "control 128", "storing 0", "age 64", "fresh 0", "row-24 0", "links" + " 0" * 18,
+    ]
+    lines = [*head, *[f"row {row}" for row in rows], f"choices {len(bits)}" + "".join(bits), "hits 0"]
+    return "".join(f"{line}\n" for line in lines)
+
+
 def main():
     folder = Path(sys.argv[1])
     folder.mkdir(parents=True, exist_ok=True)
@@ -331,6 +343,7 @@ def main():
         "alone-in-its-magazine.t42": with_slot(base(), 27, header(2, 0)),
         "subpages.t42": two_subpages([]),
         "subpages-apart.t42": two_subpages([time_filling(1)]),
+        "row-5-wrong.t42": with_byte(base(), 7, 2, 0xC1),
         "bad-slot.t42": with_byte(base(), 4, 0, 0x03),
         "near-text.t42": with_slot(near_row, 2, row(1, 1, b"\xc1" + SPACES[1:])),
         "bad-parity.t42": [*base()[:3], row(1, 1, b"\xc1" + SPACES[1:]), row(1, 1, b"\xc0" + SPACES[1:])],
@@ -357,6 +370,8 @@ def main():
         "planned-info.cert": certificate(28, at=(1,)),
         "found-without-pages.cert": "ttx certificate 1\nlines 2\nrepeat 1\ndeadline 1\n",
         "no-entries.cert": "ttx certificate 1\nlines 2\nrepeat 1\ndeadline 27\n",
+        "base-26.counter": counter(1, 52, 26, 23),
+        "row-1-near.counter": counter(0, 54, 27, 1, (1, 1)),
         "clearing.cert": "ttx certificate 2\nclass clearing\nlines 2\nrepeat 1\ndeadline 2\n100/0000 head 0\n",
     } | services() | refused_services() | certifying_texts() | splicing_texts()
     for name, text in texts.items():

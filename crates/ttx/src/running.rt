@@ -3,7 +3,7 @@
 use crate::devices::{Input, open_input};
 use std::fs::File;
 use std::io;
-use std::io::BufReader;
+use std::io::{BufReader, Write};
 use ttx_certify::{FilesFault, Verdict, certify_files, certify_passes};
 use ttx_cycle::Counted;
 use ttx_late::{LateVerdict, certify_files_late};
@@ -238,6 +238,51 @@ fn open_find(
     Ok(find(rt, cycle, service, repeat, class, file))
 }
 
+// Looks for a viewer whom a cycle fails: status 1 where there is one, else 0.
+fn refute<O: Write + Drop>(
+    rt: &HostRuntime,
+    inputs: [Input; 3],
+    save: bool,
+    out: O,
+) -> Result<u8, ToolFault> {
+    let [cycle, service, certificate] = inputs;
+    let mut cycle = buffered(rt, cycle)?;
+    let mut service = buffered(rt, service)?;
+    let mut certificate = buffered(rt, certificate)?;
+    let mut file = Counted::new(out);
+    let mut writer = Counted::new(io::writer(rt));
+    commands::refute(
+        rt.alloc(),
+        &mut cycle,
+        &mut service,
+        &mut certificate,
+        save,
+        &mut file,
+        &mut writer,
+    )
+}
+
+// Opens the cycle, the service and the certificate, makes the counter-run's file anew where it is named, and refutes.
+fn open_refute(
+    rt: &HostRuntime,
+    cycle: &str,
+    service: &str,
+    certificate: &str,
+    save: Option<&str>,
+) -> io::Result<Result<u8, ToolFault>> {
+    let cycle = open_input(rt, cycle)?;
+    let service = open_input(rt, service)?;
+    let certificate = open_input(rt, certificate)?;
+    let inputs = [cycle, service, certificate];
+    match save {
+        Some(out) => {
+            let file = File::create(rt, out)?;
+            Ok(refute(rt, inputs, true, file))
+        }
+        None => Ok(refute(rt, inputs, false, io::sink())),
+    }
+}
+
 // Opens the cycle, the service and the certificate, and certifies.
 fn open_certify(
     rt: &HostRuntime,
@@ -338,6 +383,12 @@ pub fn run_order(rt: &HostRuntime, order: &Order<'_>) -> io::Result<Result<u8, T
             selection,
             look,
         } => Ok(preview(rt, open_input(rt, service)?, selection, look)),
+        Order::Refute {
+            cycle,
+            service,
+            certificate,
+            save,
+        } => open_refute(rt, cycle, service, certificate, *save),
         Order::Certify {
             cycle,
             service,

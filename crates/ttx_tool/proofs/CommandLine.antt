@@ -10,18 +10,18 @@ use Rattle.clap.specs.Simple.{argument_words, entered, names_of}
 use Rattle.clap.specs.Kinds.{Kinds, HasKind, IsAmong, or_else, check_kinds}
 use Rattle.clap.specs.declared.error.Error.{Error}
 use Rattle.clap.specs.declared.error.kind.ErrorKind.TheVariants.{OutOfMemory}
-use Rattle.ttx_tool.specs.Grammar.{NameList, ttx_app, inspect_app, plan_app, find_app, certify_app, receive_app, show_app, preview_app, splice_app}
+use Rattle.ttx_tool.specs.Grammar.{NameList, ttx_app, inspect_app, plan_app, find_app, certify_app, refute_app, receive_app, show_app, preview_app, splice_app}
 use Rattle.ttx_tool.specs.Orders.{OrderView, Unfit, inspect_order, order_view, order_at, Asks, Refuses, IsOrderOf, IsRefusalOf, IsFaultOf, AnswersBy}
 use Rattle.ttx_tool.specs.declared.orders.Order.{Order}
 use Rattle.ttx_tool.specs.declared.orders.WordsFault.{WordsFault}
 use Rattle.ttx_tool.specs.declared.orders.WordsFault.TheVariants.{Refused, Page, Twice, NoMemory}
 
 pub ttx_is_simple : (kinds classes forms : NameList) → is_simple (ttx_app kinds classes forms) ≡ true
-unfolding ttx_app inspect_app plan_app find_app certify_app receive_app show_app preview_app splice_app
+unfolding ttx_app inspect_app plan_app find_app certify_app refute_app receive_app show_app preview_app splice_app
 ttx_is_simple kinds classes forms = refl
 
 pub ttx_is_free : (kinds classes forms : NameList) → is_simple_and_free (ttx_app kinds classes forms) ≡ true
-unfolding ttx_app inspect_app plan_app find_app certify_app receive_app show_app preview_app splice_app
+unfolding ttx_app inspect_app plan_app find_app certify_app refute_app receive_app show_app preview_app splice_app
 ttx_is_free kinds classes forms = refl
 
 -- an error that isn't of memory has one of the kinds
@@ -97,7 +97,7 @@ app_has a ws n fault =
     level_has (built a).top (names_of (built a)) nothing_held words (is_some (entered (built a) stop)) (entered_fault (built a) stop) n fault
 
 needs : (kinds classes forms : NameList) → (built (ttx_app kinds classes forms)).top.subcommand_required ≡ true
-unfolding ttx_app inspect_app plan_app find_app certify_app receive_app show_app preview_app splice_app
+unfolding ttx_app inspect_app plan_app find_app certify_app refute_app receive_app show_app preview_app splice_app
 needs kinds classes forms = refl
 
 pub has_command : (kinds classes forms : NameList) (ws : List Text) → fault_of (ttx_app kinds classes forms) ws ≡ []

@@ -9,3 +9,4 @@ mod FreshUntilHeader
 pub mod SameInputs
 pub mod PlannedFiles
 mod TooLong
+mod ThreeInputs

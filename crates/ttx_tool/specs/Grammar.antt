@@ -4,8 +4,8 @@
 --   kind_names, class_names, form_names     the names that `--kind`, `--class` and `--as` take
 --   operand_rule             an operand that has to be there
 --   number_rule, name_rule   an option with a number in a range, and one with a name of a list
---   flag_rule                an option without a value
---   inspect_app, plan_app, find_app, certify_app, receive_app, show_app, preview_app, splice_app      a command with its arguments
+--   flag_rule, text_rule     an option without a value, and one with any text
+--   inspect_app, plan_app, find_app, certify_app, refute_app, receive_app, show_app, preview_app, splice_app      a command with its arguments
 --   bare_app, ttx_app        the program alone, and with its commands
 --   Builds                   what is built of a command, where memory doesn't run out
 use Rattle.std.specs.Prelude.{◌≡◌, ℕ, List, [], ◌∷◌, codes, map, true, false, Some, Result, IfOk}
@@ -41,6 +41,9 @@ number_rule id low high = record (new_rule id) { long = Some id; value_names = 1
 abbrev pub name_rule : Text → NameList → Rule
 name_rule id names = record (new_rule id) { long = Some id; value_names = 1; parser = Some (parser.Names names) }
 
+abbrev pub text_rule : Text → Rule
+text_rule id = record (new_rule id) { long = Some id; value_names = 1 }
+
 abbrev pub flag_rule : Text → Rule
 flag_rule id = record (new_rule id) { long = Some id; action = Some SetTrue }
 
@@ -65,6 +68,12 @@ unfoldable pub certify_app : App
 certify_app =
     with_rule (with_rule (with_rule (with_rule (with_rule (new_app (codes "certify")) (operand_rule (codes "cycle"))) (operand_rule (codes "service")))
     (operand_rule (codes "certificate"))) (flag_rule (codes "late"))) (flag_rule (codes "twice"))
+
+-- refute CYCLE SERVICE CERT [--save OUT]
+unfoldable pub refute_app : App
+refute_app =
+    with_rule (with_rule (with_rule (with_rule (new_app (codes "refute")) (operand_rule (codes "cycle"))) (operand_rule (codes "service")))
+    (operand_rule (codes "certificate"))) (text_rule (codes "save"))
 
 -- CYCLE PAGE [--lines L] [--start S] [--slots N] [--kind eager|careful|cleared]
 abbrev pub with_tuning : NameList → App → App
@@ -104,10 +113,9 @@ bare_app = record { top = bare (new_app (codes "ttx")).top; subs = [] }
 
 unfoldable pub ttx_app : NameList → NameList → NameList → App
 ttx_app kinds classes forms =
-    with_subcommand (with_subcommand (with_subcommand (with_subcommand (with_subcommand (with_subcommand (with_subcommand (with_subcommand bare_app inspect_app.top) (plan_app classes).top)
-    (find_app classes).top) certify_app.top) (receive_app kinds).top)
-    (show_app kinds forms).top) (preview_app forms).top)
-    splice_app.top
+    with_subcommand (with_subcommand (with_subcommand (with_subcommand (with_subcommand (with_subcommand (with_subcommand (with_subcommand (with_subcommand bare_app
+    inspect_app.top) (plan_app classes).top) (find_app classes).top) certify_app.top) refute_app.top) (receive_app kinds).top) (show_app kinds forms).top)
+    (preview_app forms).top) splice_app.top
 
 abbrev pub Builds : {E : Type 0} → Result Command E → App → Type 0
 Builds result app = IfOk result (λ c. (app_of c ≡ app) × ((out-Command c).has_globals ≡ false))

@@ -8,6 +8,7 @@ pub mod Showing
 pub mod Planning
 pub mod Previewing
 pub mod FindingFiles
+pub mod RefutingFiles
 pub mod Reports
 pub mod Grammar
 pub mod Orders

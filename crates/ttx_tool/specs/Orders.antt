@@ -27,7 +27,7 @@ use Rattle.ttx_picture.specs.declared.forms.Form.{Form}
 use Rattle.ttx_picture.specs.declared.forms.Form.TheVariants as form
 use Rattle.ttx_tool.specs.declared.orders.Look.{Look}
 use Rattle.ttx_tool.specs.declared.orders.Order.{Order}
-use Rattle.ttx_tool.specs.declared.orders.Order.TheVariants.{Inspect, Plan, Find, Certify, Receive, Show, Preview, Splice}
+use Rattle.ttx_tool.specs.declared.orders.Order.TheVariants.{Inspect, Plan, Find, Certify, Refute, Receive, Show, Preview, Splice}
 use Rattle.ttx_tool.specs.declared.orders.ReceiverKind.{ReceiverKind}
 use Rattle.ttx_tool.specs.declared.orders.ReceiverKind.TheVariants.{Eager, Careful, Cleared}
 use Rattle.ttx_tool.specs.declared.orders.Tuning.{Tuning}
@@ -49,6 +49,7 @@ pub data OrderView : Type 0 where
   plan_order : (service out : Text) → (class : Class) → OrderView
   find_order : (cycle service out : Text) → (repeat : ℕ) → (class : Class) → OrderView
   certify_order : (cycle service certificate : Text) → (late twice : Bool) → OrderView
+  refute_order : (cycle service certificate : Text) → (save : Option Text) → OrderView
   receive_order : (cycle : Text) → (tuning : Tuning) → OrderView
   show_order : (cycle : Text) → (tuning : Tuning) → (look : LookView) → OrderView
   preview_order : (service : Text) → (selection : Selection) → (look : LookView) → OrderView
@@ -59,6 +60,7 @@ order_view (Inspect file) = inspect_order file.now
 order_view (Plan service out class) = plan_order service.now out.now class
 order_view (Find cycle service out repeat class) = find_order cycle.now service.now out.now repeat class
 order_view (Certify cycle service certificate late twice) = certify_order cycle.now service.now certificate.now late twice
+order_view (Refute cycle service certificate save) = refute_order cycle.now service.now certificate.now (option_map (λ s. s.now) save)
 order_view (Receive cycle tuning) = receive_order cycle.now tuning
 order_view (Show cycle tuning look) = show_order cycle.now tuning (look_view look)
 order_view (Preview service selection look) = preview_order service.now selection (look_view look)
@@ -156,6 +158,10 @@ certify_at rows =
     certify_order (text_at (codes "cycle") rows) (text_at (codes "service") rows) (text_at (codes "certificate") rows)
     (is_set (codes "late") rows) (is_set (codes "twice") rows)
 
+abbrev pub refute_at : List Row → OrderView
+refute_at rows =
+    refute_order (text_at (codes "cycle") rows) (text_at (codes "service") rows) (text_at (codes "certificate") rows) (first_of (codes "save") rows)
+
 abbrev pub receive_at : List Row → Result OrderView Unfit
 receive_at rows = receive_by (selection_of (text_at (codes "page") rows)) rows
 
@@ -176,6 +182,7 @@ inputs (inspect_order file) = file ∷ []
 inputs (plan_order service out class) = service ∷ []
 inputs (find_order cycle service out repeat class) = cycle ∷ service ∷ []
 inputs (certify_order cycle service certificate late twice) = cycle ∷ service ∷ certificate ∷ (if twice then cycle ∷ [] else [])
+inputs (refute_order cycle service certificate save) = cycle ∷ service ∷ certificate ∷ []
 inputs (receive_order cycle tuning) = cycle ∷ []
 inputs (show_order cycle tuning look) = cycle ∷ []
 inputs (preview_order service selection look) = service ∷ []
@@ -196,6 +203,7 @@ order_at name rows =
     if bytes_eq name (codes "plan") then Ok (plan_at rows)
     else if bytes_eq name (codes "find") then once (find_at rows)
     else if bytes_eq name (codes "certify") then once (certify_at rows)
+    else if bytes_eq name (codes "refute") then once (refute_at rows)
     else if bytes_eq name (codes "receive") then receive_at rows
     else if bytes_eq name (codes "show") then show_at rows
     else if bytes_eq name (codes "preview") then preview_at rows

@@ -18,7 +18,7 @@ use Rattle.ttx_certify.specs.declared.faults.TextFile.TheVariants as text
 use Rattle.ttx_tool.specs.declared.orders.WordsFault.{WordsFault}
 use Rattle.ttx_tool.specs.declared.orders.WordsFault.TheVariants as words
 use Rattle.ttx_tool.specs.declared.faults.ToolFault.{ToolFault}
-use Rattle.ttx_tool.specs.declared.faults.ToolFault.TheVariants.{Cycle, Service, Certificate, Read, TooLong, Write, NoMemory, Plan}
+use Rattle.ttx_tool.specs.declared.faults.ToolFault.TheVariants.{Cycle, Service, Certificate, Read, TooLong, Write, NoMemory, Plan, Class}
 
 -- the number and the name of a fault of a service definition, and its key where it names one
 abbrev pub source_text : Fault → List ℕ
@@ -64,6 +64,7 @@ fault_text NoMemory = codes "fault: memory"
 fault_text (Plan plan.NoPages) = codes "refused: plan 1 no-pages"
 fault_text (Plan plan.TooLong) = codes "refused: plan 2 too-long"
 fault_text (Plan plan.NoMemory) = codes "fault: memory"
+fault_text Class = codes "refused: class"
 
 abbrev pub fault_line : ToolFault → List ℕ
 fault_line fault = fault_text fault ++ 10 ∷ []
@@ -92,6 +93,7 @@ status_of NoMemory = 3
 status_of (Plan plan.NoPages) = 2
 status_of (Plan plan.TooLong) = 2
 status_of (Plan plan.NoMemory) = 3
+status_of Class = 2
 
 -- the line went out, or its first `written` bytes, or nothing
 abbrev pub Reports : List ℕ → ℕ → Option (List ℕ) → Option (List ℕ) → Result ℕ ToolFault → Type 0

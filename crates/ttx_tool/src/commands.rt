@@ -5,6 +5,7 @@ mod inspecting;
 mod planning;
 mod previewing;
 mod receiving;
+mod refuting;
 mod reporting;
 mod showing;
 
@@ -13,5 +14,6 @@ pub use inspecting::inspect;
 pub use planning::plan;
 pub use previewing::preview;
 pub use receiving::receive;
+pub use refuting::refute;
 pub use reporting::{report, report_words};
 pub use showing::show;

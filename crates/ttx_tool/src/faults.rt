@@ -11,7 +11,7 @@ use ttx_source::SourceError;
 use ttx_witness::CertFault;
 
 /// Why a command fails. The numbers of faults: 1 `Cycle`, 2 `Service`, 3 `Certificate`, 4 `Read`, 5 `TooLong`, 6 `Write`,
-/// 7 `NoMemory`, 8 `Plan`.
+/// 7 `NoMemory`, 8 `Plan`, 9 `Class`.
 #[derive(Clone, Copy, Debug, PartialEq, Eq, Error)]
 pub enum ToolFault {
     /// 1. The packet file isn't read.
@@ -39,6 +39,9 @@ pub enum ToolFault {
     /// 8. There is no plan.
     #[error("{0}")]
     Plan(PlanFault),
+    /// 9. The certificate is for receivers that surely clear, to which there are no counter-runs.
+    #[error("the certificate isn't for receivers of any class")]
+    Class,
 }
 
 impl ToolFault {

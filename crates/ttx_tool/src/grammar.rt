@@ -3,7 +3,7 @@
 ghost use Rattle.std.specs.Prelude.{◌≡◌, false, codes};
 ghost use Rattle.clap.specs.Words.{App, Text, rule_of, with_rule, with_subcommand, new_app};
 ghost use Rattle.ttx_tool.specs.Grammar as rule;
-ghost use Rattle.ttx_tool.specs.Grammar.{Lists, Builds, operand_rule, number_rule, name_rule, flag_rule, with_tuning, with_look, inspect_app, plan_app, find_app, certify_app, receive_app, show_app, preview_app, splice_app, bare_app, ttx_app};
+ghost use Rattle.ttx_tool.specs.Grammar.{Lists, Builds, operand_rule, number_rule, name_rule, flag_rule, text_rule, with_tuning, with_look, inspect_app, plan_app, find_app, certify_app, refute_app, receive_app, show_app, preview_app, splice_app, bare_app, ttx_app};
 
 use crate::help;
 use clap::builder::ValueParser;
@@ -174,6 +174,37 @@ fn certify<'a>(alloc: Global) -> Building<'a>
     with_flag(alloc, certify, "twice", help::TWICE_OPTION)
 }
 
+// An option with any text.
+fn with_text<'a>(
+    alloc: Global,
+    command: Building<'a>,
+    id: &'a str,
+    name: &'a str,
+    help: &'a str,
+) -> Building<'a>
+    ensures { (app : App) (text : Text) → id.entry.now ≡ text → Builds command.entry app → Builds result (with_rule app (text_rule text)) }
+{
+    let option = Arg::new(alloc, id).long(id).value_name(name).help(help);
+    with_arg(command, option)
+}
+
+// `refute CYCLE SERVICE CERT [--save OUT]`
+fn refute<'a>(alloc: Global) -> Building<'a>
+    ensures { Builds result refute_app }
+{
+    let refute = command(alloc, "refute", help::REFUTE, help::REFUTE_MORE);
+    let refute = with_operand(alloc, refute, "cycle", "CYCLE", help::CYCLE_OPERAND);
+    let refute = with_operand(alloc, refute, "service", "SERVICE", help::SERVICE_OPERAND);
+    let refute = with_operand(
+        alloc,
+        refute,
+        "certificate",
+        "CERT",
+        help::CERTIFICATE_OPERAND,
+    );
+    with_text(alloc, refute, "save", "OUT", help::SAVE_OPTION)
+}
+
 // `CYCLE PAGE [--lines L] [--start S] [--slots N] [--kind eager|careful|cleared]`
 fn with_tuning<'a>(alloc: Global, command: Building<'a>, kinds: &'a [&'a str]) -> Building<'a>
     ensures { (app : App) → Builds command.entry app → Builds result (with_tuning kinds.entry app) }
@@ -313,6 +344,7 @@ pub(crate) fn ttx<'a>(
     let ttx = with_command(ttx, plan(alloc, classes));
     let ttx = with_command(ttx, find(alloc, classes));
     let ttx = with_command(ttx, certify(alloc));
+    let ttx = with_command(ttx, refute(alloc));
     let ttx = with_command(ttx, receive(alloc, kinds));
     let ttx = with_command(ttx, show(alloc, kinds, forms));
     let ttx = with_command(ttx, preview(alloc, forms));

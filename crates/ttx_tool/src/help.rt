@@ -85,6 +85,28 @@ Statuses:
 
 pub(crate) const LATE_OPTION: &str = "Judge for receivers that may show a page late, too";
 
+pub(crate) const REFUTE: &str =
+    "Looks for a viewer whom a cycle fails: a counter-run to all certificates with the numbers of this one";
+
+pub(crate) const REFUTE_MORE: &str =
+    "Reads CYCLE, SERVICE and CERT, in this order, to their ends. CERT is for receivers of any class, and only its lines,
+repeat and deadline count. Writes one of
+  none
+  counter PAGE start S slots N hits H choices C
+the latter where a receiver that is set to PAGE and given N slots, from slot S on and round the cycle, then shows
+something else, with H wrong bits within the error rule and C choices taken or not: so no certificate with these
+numbers is accepted. Where all pages are sent unchanged in clean slots, none says that some such certificate is
+accepted. With --save OUT the counter-run goes to OUT, and nothing where there is none.
+
+Statuses:
+  0  none
+  1  a counter-run
+  2  error: .. (the words), refused: twice, refused: cycle NUMBER NAME [REST],
+     refused: service NUMBER NAME [KEY] page N, refused: service too-long,
+     refused: certificate NUMBER NAME [line N], refused: certificate too-long,
+     refused: class (the certificate is for receivers that surely clear)
+  3  fault: file, fault: read, fault: write, fault: memory";
+
 pub(crate) const RECEIVE: &str =
     "Receives a page of a cycle, and writes what is then displayed to standard output";
 
@@ -224,3 +246,5 @@ pub(crate) const REVEAL_OPTION: &str = "Show concealed characters";
 
 pub(crate) const TWICE_OPTION: &str =
     "Read CYCLE twice, slot by slot, and keep none of it; with --late it is kept";
+
+pub(crate) const SAVE_OPTION: &str = "Counter-run to write, a text; made anew, and left empty where there is none";

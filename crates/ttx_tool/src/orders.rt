@@ -66,6 +66,14 @@ pub enum Order<'a> {
         /// Whether the cycle is read twice, slot by slot; not with `late`.
         twice: bool,
     },
+    /// Look for a viewer whom a cycle fails.
+    Refute {
+        cycle: &'a str,
+        service: &'a str,
+        certificate: &'a str,
+        /// The file that the counter-run goes to.
+        save: Option<&'a str>,
+    },
     /// Show what a receiver holds of a page.
     Receive {
         cycle: &'a str,

@@ -5,7 +5,7 @@ ghost use Rattle.std.specs.Str.{bytes_eq};
 ghost use Rattle.clap.specs.Words.{rows_of, first_of, found_of, subcommand_rows_of, subcommand_of, fault_of};
 ghost use Rattle.ttx_tool.specs.Grammar.{ttx_app};
 ghost use Rattle.ttx_tool.specs.Orders as rule;
-ghost use Rattle.ttx_tool.specs.Orders.{OrderView, Unfit, order_view, look_view, text_at, kind_named, class_named, form_named, is_set, tuning_at, look_at, show_at, preview_at, inspect_at, plan_at, find_at, certify_at, receive_at, splice_at, once, order_at, IsOrderOf, AnswersBy, Answers, IsFaultOf, IsRefusalOf};
+ghost use Rattle.ttx_tool.specs.Orders.{OrderView, Unfit, order_view, look_view, text_at, kind_named, class_named, form_named, is_set, tuning_at, look_at, show_at, preview_at, inspect_at, plan_at, find_at, certify_at, refute_at, receive_at, splice_at, once, order_at, IsOrderOf, AnswersBy, Answers, IsFaultOf, IsRefusalOf};
 
 use crate::grammar::{class_names, form_names, kind_names, ttx};
 use crate::orders::{Look, Order, ReceiverKind, Tuning, WordsFault};
@@ -252,6 +252,31 @@ fn certify_of<'a>(values: &ArgMatches<'a>) -> Result<Order<'a>, WordsFault>
     Ok(certified(values))
 }
 
+fn refuted<'a>(values: &ArgMatches<'a>) -> Order<'a>
+    ensures { order_view result ≡ refute_at (rows_of (found_of values.now)) }
+{
+    Order::Refute {
+        cycle: text_of(values, "cycle"),
+        service: text_of(values, "service"),
+        certificate: text_of(values, "certificate"),
+        save: given(values, "save"),
+    }
+}
+
+fn refute_of<'a>(values: &ArgMatches<'a>) -> Result<Order<'a>, WordsFault>
+    ensures { IsOrderOf result (once (refute_at (rows_of (found_of values.now)))) }
+{
+    let standard = [
+        is_standard(text_of(values, "cycle")),
+        is_standard(text_of(values, "service")),
+        is_standard(text_of(values, "certificate")),
+    ];
+    if are_many(&standard) {
+        return Err(WordsFault::Twice);
+    }
+    Ok(refuted(values))
+}
+
 // Whether more than one of them is true.
 fn are_many(standard: &[bool]) -> bool
     ensures { result ≡ nat_lt 1 (count_by (λ b. b) standard.now) }
@@ -300,6 +325,8 @@ fn order_of<'a>(name: &str, values: &ArgMatches<'a>) -> Result<Order<'a>, WordsF
         find_of(values)
     } else if name == "certify" {
         certify_of(values)
+    } else if name == "refute" {
+        refute_of(values)
     } else if name == "receive" {
         receive_of(values)
     } else if name == "show" {

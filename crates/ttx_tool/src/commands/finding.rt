@@ -127,7 +127,7 @@ fn find_text<A: Read, B: Read>(
 }
 
 // Writes the bytes of a file, and then the line. At a fault the first `written` bytes of both went out.
-fn write_told<O: Write, W: Write>(
+pub(super) fn write_told<O: Write, W: Write>(
     file: &mut Counted<O>,
     bytes: &[u8],
     writer: &mut Counted<W>,

@@ -98,6 +98,7 @@ fn line_of(alloc: Global, fault: &ToolFault) -> Result<String, AllocError>
             "refused: plan 2 too-long\n",
         ),
         ToolFault::Plan(PlanFault::NoMemory) => String::from_str(alloc, "fault: memory\n"),
+        ToolFault::Class => String::from_str(alloc, "refused: class\n"),
     }
 }
 
@@ -123,7 +124,7 @@ fn status(fault: &ToolFault) -> u8
         ToolFault::Certificate(_) => 2,
         ToolFault::TooLong { which: _ } => 2,
         ToolFault::Plan(PlanFault::NoMemory) => 3,
-        ToolFault::Plan(_) => 2,
+        ToolFault::Plan(_) | ToolFault::Class => 2,
         ToolFault::Read { .. } | ToolFault::Write { .. } | ToolFault::NoMemory => 3,
     }
 }

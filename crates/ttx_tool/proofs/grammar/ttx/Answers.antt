@@ -8,7 +8,8 @@ returns c =
     let planning = c.with_command-ttx-2.ensures _ _ inspecting c.plan.ensures in
     let finding = c.with_command-ttx-3.ensures _ _ planning c.find.ensures in
     let certifying = c.with_command-ttx-4.ensures _ _ finding c.certify.ensures in
-    let receiving = c.with_command-ttx-5.ensures _ _ certifying c.receive.ensures in
-    let showing = c.with_command-ttx-6.ensures _ _ receiving c.show.ensures in
-    let previewing = c.with_command-ttx-7.ensures _ _ showing c.preview.ensures in
+    let refuting = c.with_command-ttx-5.ensures _ _ certifying c.refute.ensures in
+    let receiving = c.with_command-ttx-6.ensures _ _ refuting c.receive.ensures in
+    let showing = c.with_command-ttx-7.ensures _ _ receiving c.show.ensures in
+    let previewing = c.with_command-ttx-8.ensures _ _ showing c.preview.ensures in
     c.with_command.ensures _ _ previewing c.splice.ensures

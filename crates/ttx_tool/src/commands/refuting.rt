@@ -1,0 +1,206 @@
+//! `refute`: a viewer whom a cycle fails, by the numbers of a certificate.
+
+ghost use Rattle.std.specs.Prelude.{◌≡◌, ◌<◌, ◌∷◌, ◌++◌, [], Some, IfSome, IfOk, IfErr, codes, length, map, slice_get, string_bytes};
+ghost use Rattle.ttx_counter.specs.Counters.{run_of};
+ghost use Rattle.ttx_cycle.specs.Counters.{inner_of, faults_of};
+ghost use Rattle.ttx_cycle.specs.Cycles.{slots_of};
+ghost use Rattle.ttx_witness.specs.Certificates.{fields_of};
+ghost use Rattle.ttx_page.specs.Pages as definitions;
+ghost use Rattle.ttx_page.specs.declared.class.Class.TheVariants.{Any};
+ghost use Rattle.ttx_page.specs.Views.{page_of};
+ghost use Rattle.ttx_tool.specs.RefutingFiles.{counter_line, saved, IsRefutation, IsClassFault, RefutesText, Refutes, CountsThree, CountsRefute};
+
+use super::finding::write_told;
+use crate::faults::ToolFault;
+use std::alloc::{AllocError, Global};
+use std::io::{Read, Write};
+use ttx_certify::{Inputs, read_inputs};
+use ttx_counter::{Counter, refute as counter_to, write_counter};
+use ttx_cycle::{Counted, Cycle};
+use ttx_header::PageId;
+use ttx_page::{Class, Page};
+use ttx_source::Service;
+use ttx_witness::{Certificate, push_id};
+
+// What goes out: the bytes of the counter-run's file, the line, and the status.
+#[derive(Drop)]
+struct Told {
+    file: Vec<u8>,
+    line: String,
+    status: u8,
+}
+
+// The line of a counter-run.
+fn counter_line(alloc: Global, id: PageId, counter: &Counter) -> Result<String, AllocError>
+    ensures { IfOk result (λ line. string_bytes line ≡ counter_line id (run_of counter.now)) }
+{
+    let (start, slots) = (counter.start, counter.slots);
+    let (hits, choices) = (counter.hits.len(), counter.choices.len());
+    let mut line = String::new(alloc);
+    line.push_str("counter ")?;
+    push_id(&mut line, id)?;
+    write!(line, " start {start} slots {slots}")?;
+    write!(line, " hits {hits} choices {choices}\n")?;
+    Ok(line)
+}
+
+// The text of a counter-run, where it is asked for.
+fn saved(alloc: Global, counter: &Counter, save: bool) -> Result<Vec<u8>, ToolFault>
+    ensures text { IfOk result (λ file. file.items ≡ saved save (run_of counter.now)) }
+    ensures memory { IfErr result (λ fault. fault ≡ ToolFault.NoMemory) }
+{
+    if !save {
+        return Ok(Vec::new(alloc));
+    }
+    match write_counter(alloc, counter) {
+        Ok(text) => Ok(text),
+        Err(_) => Err(ToolFault::NoMemory),
+    }
+}
+
+// The id of the page in a place of the list.
+fn id_at(pages: &[Page], index: u32) -> PageId
+    requires { index < length pages.now }
+    ensures { (p : definitions.Page) → slice_get (map page_of pages.now) index ≡ Some p → result ≡ p.id }
+{
+    pages[index as usize].id()
+}
+
+// What goes out of a counter-run.
+fn tell_counter(
+    alloc: Global,
+    pages: &[Page],
+    counter: &Counter,
+    save: bool,
+) -> Result<Told, ToolFault>
+    requires { counter.now.page < length pages.now }
+    ensures line { IfOk result (λ told. (p : definitions.Page) → slice_get (map page_of pages.now) counter.now.page ≡ Some p → string_bytes told.line ≡ counter_line p.id (run_of counter.now)) }
+    ensures file { IfOk result (λ told. told.file.items ≡ saved save (run_of counter.now)) }
+    ensures status { IfOk result (λ told. told.status ≡ 1) }
+    ensures memory { IfErr result (λ fault. fault ≡ ToolFault.NoMemory) }
+{
+    let Ok(line) = counter_line(alloc, id_at(pages, counter.page), counter) else {
+        return Err(ToolFault::NoMemory);
+    };
+    match saved(alloc, counter, save) {
+        Ok(file) => Ok(Told {
+            file,
+            line,
+            status: 1,
+        }),
+        Err(_) => Err(ToolFault::NoMemory),
+    }
+}
+
+// What goes out where there is none.
+fn tell_none(alloc: Global) -> Result<Told, ToolFault>
+    ensures line { IfOk result (λ told. string_bytes told.line ≡ codes "none" ++ 10 ∷ []) }
+    ensures file { IfOk result (λ told. told.file.items ≡ []) }
+    ensures status { IfOk result (λ told. told.status ≡ 0) }
+    ensures memory { IfErr result (λ fault. fault ≡ ToolFault.NoMemory) }
+{
+    match String::from_str(alloc, "none\n") {
+        Ok(line) => Ok(Told {
+            file: Vec::new(alloc),
+            line,
+            status: 0,
+        }),
+        Err(_) => Err(ToolFault::NoMemory),
+    }
+}
+
+// What is found of a cycle, the pages of a service and a certificate for receivers of any class, and what goes out.
+fn tell_any(
+    alloc: Global,
+    cycle: &Cycle,
+    service: &Service,
+    certificate: &Certificate,
+    save: bool,
+) -> Result<Told, ToolFault>
+    requires { (fields_of certificate.now).class ≡ Any }
+    ensures told { IfOk result (λ told. IsRefutation (slots_of cycle.now) service.now (fields_of certificate.now) save told.file.items (string_bytes told.line) told.status) }
+    ensures memory { IfErr result (λ fault. fault ≡ ToolFault.NoMemory) }
+{
+    let pages = service.pages();
+    let Ok(counter) = counter_to(alloc, cycle, pages, certificate) else {
+        return Err(ToolFault::NoMemory);
+    };
+    match counter {
+        Some(counter) => tell_counter(alloc, pages, &counter, save),
+        None => tell_none(alloc),
+    }
+}
+
+// The same of a certificate of any class.
+fn tell(
+    alloc: Global,
+    cycle: &Cycle,
+    service: &Service,
+    certificate: &Certificate,
+    save: bool,
+) -> Result<Told, ToolFault>
+    ensures told { IfOk result (λ told. IsRefutation (slots_of cycle.now) service.now (fields_of certificate.now) save told.file.items (string_bytes told.line) told.status) }
+    ensures fault { IfErr result (IsClassFault (fields_of certificate.now).class) }
+{
+    match certificate.class() {
+        Class::Any => match tell_any(alloc, cycle, service, certificate, save) {
+            Ok(told) => Ok(told),
+            Err(_) => Err(ToolFault::NoMemory),
+        },
+        Class::Clearing => Err(ToolFault::Class),
+    }
+}
+
+// The same of a packet file and the two texts.
+fn refute_text<A: Read, B: Read, C: Read>(
+    alloc: Global,
+    cycle: &mut Counted<A>,
+    service: &mut Counted<B>,
+    certificate: &mut Counted<C>,
+    save: bool,
+) -> Result<Told, ToolFault>
+    ensures bytes { IfSome (A.remaining (inner_of cycle.old)) (λ a. IfSome (B.remaining (inner_of service.old)) (λ b. IfSome (C.remaining (inner_of certificate.old))
+        (λ c. RefutesText a b c save result))) }
+    ensures faults { CountsThree result (faults_of cycle.old) (faults_of cycle.new) (faults_of service.old) (faults_of service.new) (faults_of certificate.old) (faults_of certificate.new) }
+{
+    let inputs = match read_inputs(alloc, cycle, service, certificate) {
+        Ok(inputs) => inputs,
+        Err(fault) => return Err(ToolFault::from_files(fault)),
+    };
+    match tell(
+        alloc,
+        &inputs.cycle,
+        &inputs.service,
+        &inputs.certificate,
+        save,
+    ) {
+        Ok(told) => Ok(told),
+        Err(fault) => Err(fault),
+    }
+}
+
+/// Reads a packet file, the text of a service and that of a certificate, in this order, and looks for a counter-run to the
+/// certificates of class any with the numbers of this one. Where there is one, writes its text to the file if it is to be
+/// saved, and its line to the other writer: the status is 1. Where there is none, writes nothing to the file, and that there is
+/// none to the other writer: the status is 0. Of a certificate of class clearing the answer is `Class`.
+///
+/// Nothing is written before all is found. At `Write` exactly the first `written` bytes of both went out, the file's before the
+/// line's.
+pub fn refute<A: Read, B: Read, C: Read, O: Write, W: Write>(
+    alloc: Global,
+    cycle: &mut Counted<A>,
+    service: &mut Counted<B>,
+    certificate: &mut Counted<C>,
+    save: bool,
+    file: &mut Counted<O>,
+    writer: &mut Counted<W>,
+) -> Result<u8, ToolFault>
+    ensures bytes { IfSome (A.remaining (inner_of cycle.old)) (λ a. IfSome (B.remaining (inner_of service.old)) (λ b. IfSome (C.remaining (inner_of certificate.old)) (λ c. Refutes a b c save
+        (O.contents (inner_of file.old)) (O.contents (inner_of file.new)) (W.contents (inner_of writer.old)) (W.contents (inner_of writer.new)) result))) }
+    ensures faults { CountsRefute result (faults_of cycle.old) (faults_of cycle.new) (faults_of service.old) (faults_of service.new) (faults_of certificate.old) (faults_of certificate.new)
+        (faults_of file.old) (faults_of file.new) (faults_of writer.old) (faults_of writer.new) }
+{
+    let told = refute_text(alloc, cycle, service, certificate, save)?;
+    write_told(file, told.file.as_slice(), writer, told.line.as_bytes())?;
+    Ok(told.status)
+}

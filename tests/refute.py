@@ -1,0 +1,343 @@
+#!/usr/bin/env python3
+"""Runs find and refute of the built program over small generated cycles, and judges what they say by a plain receiver of its own.
+
+usage: refute.py PROGRAM [CASES]
+
+With the deadline of find there is no counter-run, with one field less there is one. Where find finds nothing and each slot is clean
+and each page sent unchanged, there is one. Each counter-run is replayed: its wrong bits keep the error rule, and what is then shown
+isn't the page. Pages hold letters and spaces alone, so that what is shown is what is held.
+"""
+import random
+import subprocess
+import sys
+import tempfile
+from pathlib import Path
+
+sys.dont_write_bytecode = True
+from make_data import EMPTY, WORDS, header, links, row, time_filling  # noqa: E402
+
+SPACES = [32] * 40
+
+
+def odd(codes):
+    return bytes(c if bin(c).count("1") % 2 else c | 0x80 for c in codes)
+
+
+def number_in(byte):
+    return next((n for n, word in enumerate(WORDS) if bin(byte ^ word).count("1") <= 1), None)
+
+
+def numbers_in(some):
+    numbers = [number_in(byte) for byte in some]
+    return None if None in numbers else numbers
+
+
+def packet_in(slot):
+    """What a slot says: its kind, its magazine, and what goes with the kind."""
+    address = numbers_in(slot[:2])
+    if not any(slot) or address is None:
+        return "nothing", 0, None
+    mag, number = address[0] % 8 or 8, address[0] // 8 + 2 * address[1]
+    if number == 0:
+        n = numbers_in(slot[2:10])
+        if n is None:
+            return "nothing", 0, None
+        sub = n[2] + 16 * (n[3] % 8) + 256 * n[4] + 4096 * (n[5] % 4)
+        control = n[3] // 8 + 2 * (n[5] // 4) + 8 * n[6] + 128 * n[7]
+        return "header", mag, ((mag, n[0] + 16 * n[1], sub), control)
+    if number <= 24:
+        return "row", mag, number
+    if number == 27 and number_in(slot[2]) == 0:
+        return "links", mag, six_in(mag, numbers_in(slot[3:40]))
+    return "nothing", 0, None
+
+
+def six_in(mag, n):
+    if n is None:
+        return None
+    six = []
+    for at in range(0, 36, 6):
+        units, tens, s1, s2, s3, s4 = n[at : at + 6]
+        sub = s1 + 16 * (s2 % 8) + 256 * s3 + 4096 * (s4 % 4)
+        target = (mag % 8 ^ (s2 // 8 + 2 * (s4 // 4))) or 8
+        six.append(None if (units + 16 * tens, sub) == (255, 0x3F7F) else (target, units + 16 * tens, sub))
+    return six, n[36] // 8
+
+
+def store(held, received):
+    return [c & 0x7F if bin(c).count("1") % 2 else old for old, c in zip(held, received)]
+
+
+class Receiver:
+    """Set to one page's id, its choices those of a script."""
+
+    def __init__(self, counter, page):
+        self.id, self.lines, self.script = page["id"], counter["lines"][0], list(counter["choices"][1:])
+        self.rows, self.control = [list(r) for r in counter["rows"]], counter["control"][0]
+        self.six = [tuple(counter["links"][i : i + 3]) for i in range(0, 18, 3)]
+        self.six = [None if link == (0, 0, 0) else link for link in self.six]
+        self.row_24, self.storing = counter["row-24"][0], counter["storing"][0]
+        self.age, self.fresh, self.any = counter["age"][0], counter["fresh"][0], counter["any-subpage"][0]
+
+    def choose(self):
+        return self.script.pop(0) if self.script else 0
+
+    def matches(self, page):
+        return page[:2] == self.id[:2] if self.any else page == self.id
+
+    def hear(self, slot):
+        self.age = min(64, self.age + 1)
+        kind, mag, more = packet_in(slot)
+        if kind == "header" and self.matches(more[0]):
+            self.begin(more[1], slot)
+        elif kind == "header":
+            if mag == self.id[0] or (more[1] >> 7 & 1 and self.storing and self.choose()):
+                self.storing = 0
+        elif kind != "nothing" and mag == self.id[0] and self.storing and not (self.age <= self.lines and self.choose()):
+            if kind == "row":
+                self.rows[more] = store(self.rows[more], slot[2:])
+            elif more is not None:
+                self.six, self.row_24 = more
+
+    def begin(self, control, slot):
+        if control & 1 or (self.fresh and self.choose()):
+            self.rows[1:], self.six, self.row_24 = [list(SPACES) for _ in range(24)], [None] * 6, 0
+        self.rows[0] = self.rows[0][:8] + store(self.rows[0][8:], slot[10:])
+        self.control, self.storing, self.age, self.fresh = control, 1, 0, 0
+
+
+def shown(rows, control, six, row_24):
+    """What is displayed where there are letters and spaces alone, in the columns that are compared."""
+    first = SPACES[:24] if control >> 3 & 1 else rows[0][8:32]
+    middle = [SPACES if control >> 6 & 1 or (n == 24 and not row_24) else rows[n] for n in range(1, 25)]
+    return first, middle, six
+
+
+def read_counter(text):
+    counter = {"rows": []}
+    for line in text.splitlines():
+        word, *numbers = line.split()
+        if word == "ttx":
+            continue
+        numbers = [int(n) for n in numbers]
+        if word == "row":
+            counter["rows"].append(numbers)
+        else:
+            counter[word] = numbers
+    return counter
+
+
+def owners(cycle, mag):
+    """For each slot the id of the latest header of the magazine before it, round the cycle."""
+    latest, told = None, []
+    for slot in cycle * 2:
+        told.append(latest)
+        kind, own, more = packet_in(slot)
+        if kind == "header" and own == mag:
+            latest = more[0]
+    return told[len(cycle) :]
+
+
+def wrong_of(counter, cycle, page):
+    """Why it is no counter-run, or nothing."""
+    lines, repeat, deadline = (counter[word][0] for word in ("lines", "repeat", "deadline"))
+    start, slots, places = counter["start"][0], counter["slots"][0], counter["hits"][1:]
+    hits = [tuple(places[i : i + 3]) for i in range(0, len(places), 3)]
+    if slots < lines * deadline or len(hits) != counter["hits"][0] or len(counter["choices"]) != 1 + counter["choices"][0]:
+        return "its numbers"
+    received = [bytearray(cycle[(start + i) % len(cycle)]) for i in range(slots)]
+    if len({hit[:2] for hit in hits}) != len(hits) or any(not any(received[slot]) for slot, _, _ in hits):
+        return "its wrong bits"
+    own, streaks = owners(cycle, page["id"][0]), {}
+    wrong = {hit[:2] for hit in hits}
+    for i in range(slots):
+        kind, mag, more = packet_in(cycle[(start + i) % len(cycle)])
+        if kind == "header" and more[0] == page["id"]:
+            item, some = 0, range(10, 34)
+        elif kind == "row" and mag == page["id"][0] and own[(start + i) % len(cycle)] == page["id"]:
+            item, some = more, range(2, 42)
+        else:
+            continue
+        for byte in some:
+            streaks[item, byte] = streaks.get((item, byte), 0) + 1 if (i, byte) in wrong else 0
+            if streaks[item, byte] == repeat:
+                return "the error rule"
+    for slot, byte, bit in hits:
+        received[slot][byte] ^= 1 << (bit - 1)
+    receiver = Receiver(counter, page)
+    for slot in received:
+        receiver.hear(bytes(slot))
+    rows = [[*SPACES[:8], *page["head"], *SPACES[:8]], *page["rows"]]
+    held = shown(receiver.rows, receiver.control, receiver.six, receiver.row_24)
+    return "nothing is wrong at its end" if held == shown(rows, page["control"], [None] * 6, 0) else None
+
+
+def is_clean(slot):
+    if not any(slot):
+        return True
+    if slot[0] not in WORDS or slot[1] not in WORDS:
+        return False
+    number = WORDS.index(slot[0]) // 8 + 2 * WORDS.index(slot[1])
+    return all(b in WORDS for b in (slot[2:10] if number == 0 else slot[2:3] if number == 27 else b""))
+
+
+def is_unchanged(cycle, pages):
+    """Whether each slot is clean and each page is sent unchanged."""
+    if not all(is_clean(slot) for slot in cycle):
+        return False
+    for page in pages:
+        own, headers, alone = owners(cycle, page["id"][0]), 0, sum(p["id"][:2] == page["id"][:2] for p in pages) == 1
+        for at, slot in enumerate(cycle):
+            kind, mag, more = packet_in(slot)
+            if kind == "header" and more[0] == page["id"]:
+                headers += 1
+                if more[1] != page["control"] or slot[10:34] != odd(page["head"]):
+                    return False
+            elif kind == "header" and alone and more[0][:2] == page["id"][:2]:
+                return False
+            elif mag == page["id"][0] and own[at] == page["id"]:
+                if kind == "row" and more < 24 and not page["control"] >> 6 & 1 and slot[2:] != odd(page["rows"][more - 1]):
+                    return False
+                if kind == "links" and more != ([None] * 6, 0):
+                    return False
+        if not headers:
+            return False
+    return True
+
+
+def some_text(rng, size):
+    return [rng.choice([32, 32, 65, 66, 90]) for _ in range(size)]
+
+
+def made(rng):
+    """A service's text, its pages, and a cycle that sends them more or less well."""
+    lines, serial = rng.choice([1, 1, 2, 3]), rng.random() < 0.5
+    text, pages = f"lines = {lines}\nserial = {str(serial).lower()}\n", []
+    for mag in rng.choice([(1,), (1,), (1, 2), (1, 1)]):
+        number, quiet = 16 * len(pages), rng.random() < 0.8
+        head = some_text(rng, 24)
+        rows = [list(SPACES) for _ in range(24)]
+        text += f'[[page]]\nnumber = "{mag}{number:02X}"\n' + ("inhibit = true\n" if quiet else "")
+        text += f'head = "{"".join(map(chr, head))}"\n'
+        if not quiet:
+            rows[0] = some_text(rng, 40)
+            text += f'rows = {{ "1" = "{"".join(map(chr, rows[0]))}" }}\n'
+        control = (64 if quiet else 0) + (128 if serial else 0)
+        pages.append({"id": (mag, number, 0), "control": control, "head": head, "rows": rows})
+    blocks = [page for page in pages for _ in range(rng.choice([1, 1, 1, 2]))]
+    rng.shuffle(blocks)
+    cycle = []
+    for page in blocks:
+        cycle += block(rng, lines, serial, page)
+    mags = {page["id"][0] for page in pages}
+    cycle += [time_filling(mag, int(serial)) for mag in sorted(mags)] if rng.random() < 0.8 else []
+    for _ in range(rng.choice([0, 0, 0, 0, 1, 1, 2])):
+        cycle = spoiled(rng, cycle)
+    cycle += [EMPTY] * rng.choice([0, 0, 1, 3])
+    turn = rng.randrange(len(cycle))
+    return text, pages, cycle[turn:] + cycle[:turn], lines
+
+
+def block(rng, lines, serial, page):
+    mag, number, _ = page["id"]
+    quiet = page["control"] >> 6 & 1
+    first = header(mag, number, 0, quiet << 6, int(serial), odd(page["head"]) + odd(SPACES[:8]))
+    rest = [links(mag)] + ([] if quiet else [row(mag, n, odd(page["rows"][n - 1])) for n in range(1, 24)])
+    rng.shuffle(rest)
+    gap = rng.choice([lines, lines, lines, max(0, lines - 1), 0])
+    for _ in range(rng.choice([0, 0, 1])):
+        rest.insert(rng.randrange(len(rest) + 1), EMPTY)
+    return [first, *[EMPTY] * gap, *rest]
+
+
+def spoiled(rng, cycle):
+    """The cycle with something done to it that a head-end may do."""
+    cycle, at = list(cycle), rng.randrange(len(cycle))
+    what = rng.randrange(6)
+    if what == 0:
+        cycle[at] = EMPTY
+    elif what == 1:
+        slot = bytearray(cycle[at])
+        slot[rng.randrange(42)] ^= 1 << rng.randrange(8)
+        cycle[at] = bytes(slot)
+    elif what == 2:
+        cycle.insert(at, cycle[rng.randrange(len(cycle))])
+    elif what == 3:
+        cycle.insert(at, time_filling(3, rng.randrange(2)))
+    elif what == 4 and any(cycle[at]):
+        cycle[at] = cycle[at][:2] + odd(some_text(rng, 40)) if packet_in(cycle[at])[0] == "row" else cycle[at]
+    else:
+        cycle.insert(at, EMPTY)
+    return cycle
+
+
+def run(program, *words):
+    done = subprocess.run([program, *words], capture_output=True, text=True, timeout=60)
+    return done.returncode, done.stdout.strip(), done.stderr.strip()
+
+
+def certificate(lines, repeat, deadline):
+    return f"ttx certificate 1\nlines {lines}\nrepeat {repeat}\ndeadline {deadline}\n"
+
+
+def refuted(program, folder, case, repeat, deadline):
+    """What refute says with these numbers; a counter-run is replayed."""
+    _, pages, cycle, lines = case
+    (folder / "numbers.cert").write_text(certificate(lines, repeat, deadline))
+    names = [str(folder / name) for name in ("cycle.t42", "service.toml", "numbers.cert")]
+    status, line, errors = run(program, "refute", *names, "--save", str(folder / "counter"))
+    if (status, line, errors) == (0, "none", ""):
+        return None, None
+    text = (folder / "counter").read_text()
+    counter = read_counter(text)
+    if status != 1 or errors or [counter[word][0] for word in ("lines", "repeat", "deadline")] != [lines, repeat, deadline]:
+        return text, f"refute says {status} {line!r} {errors!r}"
+    why = wrong_of(counter, cycle, pages[counter["page"][0]])
+    return text, why and f"no counter-run: {why}"
+
+
+def judged(program, folder, case, repeat):
+    """What fails of a case, and of what kind it is."""
+    text, pages, cycle, lines = case
+    (folder / "cycle.t42").write_bytes(b"".join(cycle))
+    (folder / "service.toml").write_text(text)
+    names = [str(folder / name) for name in ("cycle.t42", "service.toml", "found.cert")]
+    status, line, errors = run(program, "find", *names, "--repeat", str(repeat))
+    if errors:
+        return f"find says {errors!r}", ""
+    unchanged = is_unchanged(cycle, pages)
+    deadline = int(line.split()[-1]) if status == 0 else 30
+    given, why = refuted(program, folder, case, repeat, deadline)
+    if why or (status == 0 and given) or (status == 1 and unchanged and not given):
+        return why or f"{line!r}, and refute gives {'one' if given else 'none'}", ""
+    if status == 1:
+        return None, "none found, a counter-run" if given else "none found, none"
+    if not unchanged:
+        return "a deadline for what isn't sent unchanged", ""
+    if deadline > 1:
+        given, why = refuted(program, folder, case, repeat, deadline - 1)
+        if why or not given:
+            return why or f"{line!r}, and none with a field less", ""
+    return None, "found"
+
+
+def main():
+    program, cases = sys.argv[1], int(sys.argv[2]) if len(sys.argv) > 2 else 300
+    kinds, failed = {}, 0
+    with tempfile.TemporaryDirectory() as name:
+        folder = Path(name)
+        for seed in range(cases):
+            rng = random.Random(seed)
+            case, repeat = made(rng), rng.choice([1, 1, 2, 3])
+            why, kind = judged(program, folder, case, repeat)
+            kinds[kind] = kinds.get(kind, 0) + 1
+            if why:
+                failed += 1
+                print(f"FAILED case {seed}, repeat {repeat}: {why}")
+    print(f"refute: {cases} cases, {failed} failed;", ", ".join(f"{count} {kind}" for kind, count in sorted(kinds.items())))
+    wanted = {"found", "none found, a counter-run"}
+    return 1 if failed or not wanted <= kinds.keys() else 0
+
+
+if __name__ == "__main__":
+    sys.exit(main())
