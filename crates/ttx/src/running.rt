@@ -241,11 +241,12 @@ fn open_find(
 // Looks for a viewer whom a cycle fails: status 1 where there is one, else 0.
 fn refute<O: Write + Drop>(
     rt: &HostRuntime,
-    inputs: [Input; 3],
+    cycle: Input,
+    service: Input,
+    certificate: Input,
     save: bool,
     out: O,
 ) -> Result<u8, ToolFault> {
-    let [cycle, service, certificate] = inputs;
     let mut cycle = buffered(rt, cycle)?;
     let mut service = buffered(rt, service)?;
     let mut certificate = buffered(rt, certificate)?;
@@ -273,13 +274,19 @@ fn open_refute(
     let cycle = open_input(rt, cycle)?;
     let service = open_input(rt, service)?;
     let certificate = open_input(rt, certificate)?;
-    let inputs = [cycle, service, certificate];
     match save {
         Some(out) => {
             let file = File::create(rt, out)?;
-            Ok(refute(rt, inputs, true, file))
+            Ok(refute(rt, cycle, service, certificate, true, file))
         }
-        None => Ok(refute(rt, inputs, false, io::sink())),
+        None => Ok(refute(
+            rt,
+            cycle,
+            service,
+            certificate,
+            false,
+            io::sink(),
+        )),
     }
 }
 

@@ -247,4 +247,5 @@ pub(crate) const REVEAL_OPTION: &str = "Show concealed characters";
 pub(crate) const TWICE_OPTION: &str =
     "Read CYCLE twice, slot by slot, and keep none of it; with --late it is kept";
 
-pub(crate) const SAVE_OPTION: &str = "Counter-run to write, a text; made anew, and left empty where there is none";
+pub(crate) const SAVE_OPTION: &str =
+    "Counter-run to write, a text; made anew, and left empty where there is none";
