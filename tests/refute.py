@@ -198,7 +198,7 @@ def is_unchanged(cycle, pages):
             elif mag == page["id"][0] and own[at] == page["id"]:
                 if kind == "row" and more < 24 and not page["control"] >> 6 & 1 and slot[2:] != odd(page["rows"][more - 1]):
                     return False
-                if kind == "links" and more != ([None] * 6, 0):
+                if kind == "links" and (more != ([None] * 6, 0) or any(b not in WORDS for b in slot[3:40])):
                     return False
         if not headers:
             return False
