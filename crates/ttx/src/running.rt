@@ -4,7 +4,7 @@ use crate::devices::{Input, open_input};
 use std::fs::File;
 use std::io;
 use std::io::{BufReader, Write};
-use ttx_certify::{FilesFault, Verdict, certify_files, certify_passes};
+use ttx_certify::{Verdict, certify_files, certify_passes};
 use ttx_cycle::Counted;
 use ttx_late::{LateVerdict, certify_files_late};
 use ttx_page::{Class, PageMemory, Selection};
@@ -97,15 +97,6 @@ fn receive(
     }
 }
 
-// The status of a verdict, or why there is none.
-fn status_of(verdict: Result<Verdict, FilesFault>) -> Result<u8, ToolFault> {
-    match verdict {
-        Ok(Verdict::Yes) => Ok(0),
-        Ok(Verdict::No(_)) => Ok(1),
-        Err(fault) => Err(ToolFault::from_files(fault)),
-    }
-}
-
 // Judges a cycle by a certificate: status 0 where the verdict is Yes, else 1.
 fn certify(
     rt: &HostRuntime,
@@ -117,13 +108,17 @@ fn certify(
     let mut service = buffered(rt, service)?;
     let mut certificate = buffered(rt, certificate)?;
     let mut writer = Counted::new(io::writer(rt));
-    status_of(certify_files(
+    match certify_files(
         rt.alloc(),
         &mut cycle,
         &mut service,
         &mut certificate,
         &mut writer,
-    ))
+    ) {
+        Ok(Verdict::Yes) => Ok(0),
+        Ok(Verdict::No(_)) => Ok(1),
+        Err(fault) => Err(ToolFault::from_files(fault)),
+    }
 }
 
 // The same for a cycle that is read twice.
@@ -139,14 +134,18 @@ fn certify_twice(
     let mut service = buffered(rt, service)?;
     let mut certificate = buffered(rt, certificate)?;
     let mut writer = Counted::new(io::writer(rt));
-    status_of(certify_passes(
+    match certify_passes(
         rt.alloc(),
         &mut first,
         &mut second,
         &mut service,
         &mut certificate,
         &mut writer,
-    ))
+    ) {
+        Ok(Verdict::Yes) => Ok(0),
+        Ok(Verdict::No(_)) => Ok(1),
+        Err(fault) => Err(ToolFault::from_files(fault)),
+    }
 }
 
 // The same where receivers may show pages late.
@@ -279,14 +278,7 @@ fn open_refute(
             let file = File::create(rt, out)?;
             Ok(refute(rt, cycle, service, certificate, true, file))
         }
-        None => Ok(refute(
-            rt,
-            cycle,
-            service,
-            certificate,
-            false,
-            io::sink(),
-        )),
+        None => Ok(refute(rt, cycle, service, certificate, false, io::sink())),
     }
 }
 
