@@ -91,11 +91,15 @@ class Spliced:
 
     def misses(self, page, wanted, tuning, begin):
         """How often the page isn't displayed, at the deadline after slot `begin` and later."""
-        former = full_page(int(page[1:], 16))
         last = begin + self.deadline * LINES + 17
-        (self.folder / "joined.t42").write_bytes(b"".join([*former, *(self.sent(at) for at in range(tuning, last))]))
         ends = (last - 17 - tuning, last - tuning)
-        return sum(self.view("joined.t42", page, len(former) + n, kind) != wanted for kind in KINDS for n in ends)
+        full = full_page(int(page[1:], 16))
+        missed = 0
+        # rows are stored when it is tuned, or not until a header of the page comes
+        for former in (full, [*full, *full_page(0xFE)[:1]]):
+            (self.folder / "joined.t42").write_bytes(b"".join([*former, *(self.sent(at) for at in range(tuning, last))]))
+            missed += sum(self.view("joined.t42", page, len(former) + n, kind) != wanted for kind in KINDS for n in ends)
+        return missed
 
     def all_misses(self):
         tunings = range(-len(self.old), len(self.new))
