@@ -15,3 +15,4 @@ pub mod Turns
 pub mod Examples
 pub mod WrongText
 pub mod Outside
+mod Targets

@@ -1,6 +1,6 @@
 -- Laws of pages, receivers and streams, which the layers above may use. Each is proved by the function of its name in `laws`.
 --
---   PagesKeepTheirRules, PagesHaveSixLinks, MemoriesKeepTheirRules          the values of the program are in their ranges
+--   PagesKeepTheirRules, PagesHaveSixLinks, PagesHaveLinks, MemoriesKeepTheirRules          the values of the program are in their ranges
 --   BlankIsFormer, PageIsShown, ErasedHoldsBlank, BlankIsTested             what a blank memory, a page's own memory and a cleared one are
 --   EachListRuns, RunsGoOn, ScriptedRuns, ChoicesAreChoices         receivers have a run over each list; where a choice matters
 --   ExactIsReceived         reception without errors is within the error rule
@@ -17,6 +17,7 @@ use Rattle.ttx_header.specs.Ids.{Id}
 use Rattle.ttx_page.specs.declared.page.Page.{Page as PageValue}
 use Rattle.ttx_page.specs.declared.memory.PageMemory.{PageMemory}
 use Rattle.ttx_page.specs.Packets.{Packet}
+use Rattle.ttx_page.specs.PageLinks.{HasLinks}
 use Rattle.ttx_page.specs.Pages.{Page, IsPage, Selection, Class, Item, needed, IsBlank, is_blank}
 use Rattle.ttx_page.specs.Memories.{Memory, IsMemory, IsFormer, blank_memory, memory_of_page, Holds, Shows}
 use Rattle.ttx_page.specs.Receivers.{after, erased, Step, Run, has_choice, scripted}
@@ -31,6 +32,9 @@ PagesKeepTheirRules = (p : PageValue) → IsPage (page_of p)
 
 abbrev pub PagesHaveSixLinks : Type 0
 PagesHaveSixLinks = (p : PageValue) → length (page_of p).links.six ≡ 6
+
+abbrev pub PagesHaveLinks : Type 0
+PagesHaveLinks = (p : PageValue) → HasLinks (page_of p)
 
 abbrev pub MemoriesKeepTheirRules : Type 0
 MemoriesKeepTheirRules = (m : PageMemory) → IsMemory (memory_of m)

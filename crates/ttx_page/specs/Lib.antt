@@ -10,3 +10,4 @@ pub mod Views
 pub mod Laws
 pub mod Examples
 pub mod ErrorRule
+pub mod PageLinks

@@ -2,7 +2,7 @@
 
 ghost use Rattle.ttx_page.specs.ErrorRule.{AreOutside, MemoriesAreFormer, WrongTextIsReceived};
 ghost use Rattle.ttx_page.specs.Examples.{Examples};
-ghost use Rattle.ttx_page.specs.Laws.{PagesKeepTheirRules, PagesHaveSixLinks, MemoriesKeepTheirRules, BlankIsFormer, PageIsShown, ErasedHoldsBlank, BlankIsTested, EachListRuns, RunsGoOn, ScriptedRuns, ChoicesAreChoices, ExactIsReceived, CyclesRepeat, EachSlotTurns, JoinedIsOldThenNew, StreamsMove, OwnersAreUnique, OwnersComeFirst, OwnersAreNear, OwnersDontFall, RunsAreUnique, RunsRise, NoHeaderIsNone, SteadySendsItsOwn};
+ghost use Rattle.ttx_page.specs.Laws.{PagesKeepTheirRules, PagesHaveSixLinks, PagesHaveLinks, MemoriesKeepTheirRules, BlankIsFormer, PageIsShown, ErasedHoldsBlank, BlankIsTested, EachListRuns, RunsGoOn, ScriptedRuns, ChoicesAreChoices, ExactIsReceived, CyclesRepeat, EachSlotTurns, JoinedIsOldThenNew, StreamsMove, OwnersAreUnique, OwnersComeFirst, OwnersAreNear, OwnersDontFall, RunsAreUnique, RunsRise, NoHeaderIsNone, SteadySendsItsOwn};
 
 /// Each page of the program is in the ranges of its fields.
 pub fn pages_keep_their_rules()
@@ -12,6 +12,11 @@ pub fn pages_keep_their_rules()
 /// Each page of the program has six links, of which some may lead nowhere.
 pub fn pages_have_six_links()
     ensures { PagesHaveSixLinks }
+{}
+
+/// Each page of the program has six links, which lead to targets, and two bytes of check word.
+pub fn pages_have_links()
+    ensures { PagesHaveLinks }
 {}
 
 /// Each memory of the program is in the ranges of its fields.

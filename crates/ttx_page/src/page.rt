@@ -1,8 +1,9 @@
 //! Pages as authored.
 
-ghost use Rattle.std.specs.Prelude.{◌≡◌, ◌≢◌, ◌↔◌, false, length, IsTrue, IsSome, IfSome};
+ghost use Rattle.std.specs.Prelude.{◌≡◌, ◌≢◌, ◌↔◌, false, IsTrue, IsSome, IfSome};
 ghost use Rattle.ttx_header.specs.Control.{IsControl, c4};
 ghost use Rattle.ttx_header.specs.Ids.{IsId};
+ghost use Rattle.ttx_page.specs.PageLinks.{HasLinks};
 ghost use Rattle.ttx_page.specs.Pages.{IsPage, page_at};
 
 use crate::codes::{are_rows, is_head};
@@ -19,7 +20,7 @@ pub struct Page {
     rows: [[u8; 40]; 24],
     links: Links,
     ghost kept: { IsPage (page_at id control.0 head rows links.set links.crc) },
-    ghost six: { length links.set.six ≡ 6 },
+    ghost linked: { HasLinks (page_at id control.0 head rows links.set links.crc) },
 }
 
 // Whether the id is a page's: no page FF, and no subcode 3F7F.
@@ -53,6 +54,7 @@ impl Page {
         ensures fields { IfSome result (λ p. page_of p ≡ page_at id control.0 head rows links.set links.crc) }
     {
         let _six = links.six();
+        ttx_links::laws::links_lead_to_targets(&links);
         if is_page_id(id) && is_page_control(control) && is_head(&head) && are_rows(&rows) {
             Some(Page {
                 id,

@@ -10,9 +10,11 @@ use Rattle.ttx_page.specs.declared.class.Class.{Class}
 use Rattle.ttx_page.specs.declared.item.Item.TheVariants.{Row as TheRow, Links as TheLinks}
 use Rattle.ttx_page.specs.Packets as P
 use Rattle.ttx_page.specs.Packets.{packet_of}
+use Rattle.ttx_page.specs.PageLinks.{HasLinks}
 use Rattle.ttx_page.specs.Pages.{Page, IsPage, page_row}
 use Rattle.ttx_page.specs.Streams as S
-use Rattle.ttx_plan.specs.Acceptance.{HasLinks, PlannedLinksAreOwn}
+use Rattle.ttx_plan.specs.Acceptance.{PlannedLinksAreOwn}
+use Rattle.ttx_plan.proofs.PageLinks.{are_links}
 use Rattle.ttx_plan.specs.Contents.{row_of, links_of, is_sent_to, rows_to, rest_of}
 use Rattle.ttx_plan.proofs.Lists.{all_append, all_if, all_get}
 use Rattle.ttx_plan.proofs.Readable.{LawsBelow, packet_from}
@@ -20,7 +22,7 @@ use Rattle.ttx_plan.proofs.UnderHeaders.{under, row_is, authored_at}
 
 pub links_are : WrittenLinksAreRead → (p : Page) → IsPage p → HasLinks p → (packet_of (links_of p) ≡ P.Links p.id.mag (Some p.links)) × (is_exact (links_of p) ≡ true)
 links_are written p is l =
-    let w = written p.id.mag (links_at p.links.six p.links.show24 p.crc) is.id.mag_from is.id.mag_to (record { six = l.six; crc = l.crc }) l.targets in
+    let w = written p.id.mag (links_at p.links.six p.links.show24 p.crc) is.id.mag_from is.id.mag_to (record { six = l.six; crc = l.crc }) (are_links p.links.six l.targets) in
     (packet_from (links_of p) (IsLinks p.id.mag) w.kind ∙ ap (λ x. P.Links p.id.mag x) w.set, w.exact)
 
 -- a packet that is read as X/27/0 has the page's links

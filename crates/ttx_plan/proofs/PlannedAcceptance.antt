@@ -6,9 +6,10 @@ use Rattle.ttx_page.specs.declared.class.Class.{Class}
 use Rattle.ttx_page.specs.declared.class.Class.TheVariants.{Any, Clearing}
 use Rattle.ttx_page.specs.declared.item.Item.{Item}
 use Rattle.ttx_page.specs.Laws.{BlankIsTested, SteadySendsItsOwn}
+use Rattle.ttx_page.specs.PageLinks.{HasLinks}
 use Rattle.ttx_page.specs.Pages.{Page, IsPage, IsBlank, needed, is_blank}
 use Rattle.ttx_source.specs.Services.{ServiceFields, pages_of}
-use Rattle.ttx_plan.specs.Acceptance.{HasLinks, IsPlanned, IsTransmitted, PlannedIsAccepted, IsFound, PlannedIsFound}
+use Rattle.ttx_plan.specs.Acceptance.{IsPlanned, IsTransmitted, PlannedIsAccepted, IsFound, PlannedIsFound}
 use Rattle.ttx_plan.specs.Contents.{is_sent_to}
 use Rattle.ttx_witness.specs.Finding.{CanBeAccepted, IsLeastDeadline}
 use Rattle.ttx_witness.specs.SureItems.{HasSureStart, AllSureHaveStarts, SureItemsAreAccepted}

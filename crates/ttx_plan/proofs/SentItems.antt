@@ -14,12 +14,13 @@ use Rattle.ttx_page.specs.declared.item.Item.{Item}
 use Rattle.ttx_page.specs.declared.item.Item.TheVariants.{Head as TheHead, Row as TheRow, Links as TheLinks}
 use Rattle.ttx_page.specs.Packets as P
 use Rattle.ttx_page.specs.Packets.{Packet, packet_of}
+use Rattle.ttx_page.specs.PageLinks.{HasLinks}
 use Rattle.ttx_page.specs.Pages.{Page, needed, is_hidden, page_row}
 use Rattle.ttx_page.specs.Steady.{HasHeader}
 use Rattle.ttx_page.specs.Streams.{repeated, heads, heads_page, carries, IsLatestHeader, IsTransmission}
 use Rattle.ttx_source.specs.Services.{Authored, IsAuthored}
 use Rattle.ttx_plan.specs.declared.packet.Slot.TheVariants.{Empty, Sent}
-use Rattle.ttx_plan.specs.Acceptance.{HasLinks, IsTransmitted, PlannedItemsAreSent}
+use Rattle.ttx_plan.specs.Acceptance.{IsTransmitted, PlannedItemsAreSent}
 use Rattle.ttx_plan.specs.Blocks.{sent_blocks}
 use Rattle.ttx_plan.specs.Carries.{block_at, blocks_of}
 use Rattle.ttx_plan.specs.Contents.{row_of, links_of, is_sent_to}

@@ -1,16 +1,16 @@
 -- Laws of planned cycles that lead to an accepted certificate.
 --
---   HasLinks, AreLinked     a page has six links, each to a target, and two bytes of check word
---   IsPlanned               a cycle that carries a service in its ranges
+--   AreLinked, IsPlanned    pages whose links lead to targets; a cycle that carries a service in its ranges
 --   IsOwnLinks, PlannedLinksAreOwn      each X/27/0 stands under the header of its own page
 --   PlannedItemsAreSent     each page has a header, and what is sent of it to receivers of the class is transmitted
 --   PlannedIsSteady         each page is sent unchanged
 --   IsAcceptedForEach, PlannedIsAccepted    for each repeat count some certificate is accepted
 --   PlannedIsFound          and the search for the least deadline finds one
 use Rattle.std.specs.Prelude.{◌≡◌, ℕ, ◌+◌, ◌<◌, ◌≤◌, ℤ, true, false, List, [], length, slice_get, slice_index_or, Option, Some}
-use Rattle.ttx_links.specs.Sets.{LinkSet, AreLinks, is_exact}
+use Rattle.ttx_links.specs.Sets.{LinkSet, is_exact}
 use Rattle.ttx_page.specs.declared.class.Class.{Class}
 use Rattle.ttx_page.specs.declared.item.Item.{Item}
+use Rattle.ttx_page.specs.PageLinks.{HasLinks}
 use Rattle.ttx_page.specs.Pages.{Page}
 use Rattle.ttx_page.specs.Packets.{Links, packet_of}
 use Rattle.ttx_page.specs.Steady.{HasHeader, Steady}
@@ -22,11 +22,7 @@ use Rattle.ttx_source.specs.Services.{Authored, ServiceFields, pages_of, IsServi
 use Rattle.ttx_witness.specs.Coverage.{Certificate, Accepts}
 use Rattle.ttx_witness.specs.Finding.{CanBeAccepted, IsFoundFor}
 
-pub record HasLinks (p : Page) : Type 0 where
-  pub six : length p.links.six ≡ 6
-  pub crc : length p.crc ≡ 2
-  pub targets : AreLinks p.links.six
-
+-- each page has six links, which lead to targets
 abbrev pub AreLinked : List Authored → Type 0
 AreLinked pages = (i : ℕ) (authored : Authored) → slice_get pages i ≡ Some authored → HasLinks authored.page
 

@@ -4,9 +4,9 @@ use Rattle.ttx_plan.proofs.ranges.is_planned.Goals as goal
 
 pub returns : goal.returns
 returns c = record {
-  service_is = c.pages.ensures.ranges;
+  service_is = c.pages-pages.ensures.ranges;
   said = c.is_said.ensures;
-  linked = linked_from c.pages.result.now c.args.service.now.pages c.pages.ensures.value c.have_links.ensures;
+  linked = linked_from c.pages-pages.result.now c.args.service.now.pages c.pages_have_links.ensures c.pages-pages.ensures.value;
   carries = c.requires;
   some = (slots_of-IsCycle c.args.cycle.now).some;
   few = (slots_of-IsCycle c.args.cycle.now).most;

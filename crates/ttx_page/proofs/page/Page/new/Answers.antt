@@ -1,5 +1,6 @@
 use Rattle.std.proofs.Common.{◌≡◌, true, false, rules}
 use Rattle.ttx_page.proofs.Rules.{PassesAsPage, IsPage_from_passes, passes_from_IsPage}
+use Rattle.ttx_page.proofs.Targets.{each_target}
 use Rattle.ttx_page.proofs.page.Page.new.Goals as goal
 use Rattle.ttx_page.proofs.page.Page.new.Goals.{else-is_page_id-via-then-is_page_id+then-is_page_control+then-is_head+else-are_rows, else-is_page_id-via-then-is_page_id+then-is_page_control+else-is_head, else-is_page_id-via-then-is_page_id+else-is_page_control, else-is_page_id-via-else-is_page_id}
 
@@ -12,7 +13,7 @@ invariant_of-result c = record {
         head = c.is_head.ensures.codes.0 (search rules);
         rows = c.are_rows.ensures.rows.0 (search rules);
       });
-  six = c.six-six.ensures.ranges.six;
+  linked = record { six = c.six-six.ensures.ranges.six; crc = c.six-six.ensures.ranges.crc; targets = each_target _ c.links_lead_to_targets.ensures };
 }
 
 pub returns-else-is_page_id-clause-some : goal.returns-else-is_page_id-clause-some

@@ -1,0 +1,4 @@
+use Rattle.ttx_page.proofs.laws.pages_have_links.Goals as goal
+
+pub returns : goal.returns
+returns c = λ p. p.linked
