@@ -14,11 +14,7 @@ pub(crate) const YES: &str = "yes lines 2 repeat 1 deadline 27 pages 1\n";
 
 // Edits of the worked cycle: a slot, the place from which these bytes stand in it, and the line of the verdict.
 #[rattlefmt::skip]
-<<<<<<< Updated upstream
-static EDITS: [(usize, usize, &[u8], &str); 15] = [
-=======
-pub(crate) static EDITS: [(usize, usize, &[u8], &str); 14] = [
->>>>>>> Stashed changes
+pub(crate) static EDITS: [(usize, usize, &[u8], &str); 15] = [
     (4, 0, &[0x03], "no 1 bad-slot 4\n"),
     (1, 0, &[0xff; 42], "no 1 bad-slot 1\n"),
     (26, 2, &[0x14], "no 1 bad-slot 26\n"),

@@ -69,7 +69,10 @@ fn edits_in_the_second_pass(rt: HostRuntime) -> Result<(), Fail> {
         let second = base::edited(rt.alloc(), *slot, *from, bytes)?;
         let is_owned = *slot != 27 || bytes.first() != Some(&0x49);
         let line = if is_owned { *line } else { UNSTEADY };
-        assert!(rt; is_answered(rt.alloc(), first.as_slice(), second.as_slice(), line), "{line}");
+        assert!(rt;
+            is_answered(rt.alloc(), first.as_slice(), second.as_slice(), line),
+            "{line}"
+        );
     }
     Ok(())
 }
