@@ -23,14 +23,27 @@ fn file_fault(rt: &HostRuntime) -> u8 {
     FAULT
 }
 
+// Says that memory is wanting, with no growth, and answers the status.
+fn memory_fault(rt: &HostRuntime) -> u8 {
+    let _ = rt.eprintln("fault: memory");
+    FAULT
+}
+
 // Reports a fault of a command, and answers the status.
+fn report(rt: &HostRuntime, fault: &ToolFault) -> u8 {
+    let mut errors = Counted::new(rt.stderr());
+    match commands::report(rt.alloc(), fault, &mut errors) {
+        Ok(status) => status,
+        Err(ToolFault::NoMemory) => memory_fault(rt),
+        Err(_) => FAULT,
+    }
+}
+
+// The status of what a command answers, whose fault is reported.
 fn status_of(rt: &HostRuntime, outcome: Result<u8, ToolFault>) -> u8 {
     match outcome {
         Ok(status) => status,
-        Err(fault) => {
-            let mut errors = Counted::new(rt.stderr());
-            commands::report(rt.alloc(), &fault, &mut errors).unwrap_or(FAULT)
-        }
+        Err(fault) => report(rt, &fault),
     }
 }
 
@@ -64,10 +77,7 @@ fn words_fault(rt: &HostRuntime, error: &io::Error) -> u8 {
             let _ = rt.eprintln("error: invalid UTF-8 was detected in one or more arguments");
             REFUSED
         }
-        _ => {
-            let _ = rt.eprintln("fault: memory");
-            FAULT
-        }
+        _ => memory_fault(rt),
     }
 }
 
