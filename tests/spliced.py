@@ -1,15 +1,20 @@
 #!/usr/bin/env python3
 """What is spliced is seen: pairs of cycles that the program accepts as a splice are joined, and received around the change from every
 slot of a period on either side, by each kind of receiver that the program has, out of a memory full of another page, and with errors
-within the error rule. At the deadline and later the page is displayed as from its own cycle, the header clock aside.
+within the error rule; and by plain receivers that take their choices from scripts, out of memories of any kind. At the deadline and
+later the page is displayed as from its own cycle, the header clock aside.
 
 usage: spliced.py PROGRAM
 """
 import os
+import random
 import subprocess
 import sys
 import tempfile
 from pathlib import Path
+
+sys.dont_write_bytecode = True
+from plain_receiver import Receiver, shown  # noqa: E402
 
 TOP = Path(__file__).resolve().parent.parent
 WORDS = bytes.fromhex("1502495e6473382fd0c78c9ba1b6fdea")
@@ -54,6 +59,21 @@ def full_page(page):
     links = address(27) + bytes([WORDS[0]]) + link * 6 + bytes([WORDS[15], 0, 0])
     rows = [address(number) + bytes([0x7F] * 40) for number in range(1, 25)]
     return [head + bytes([0x7F] * 32), EMPTY, EMPTY, *rows, links]
+
+
+def scripted(rng, page):
+    """A receiver set to the page, its former memory and its choices by chance."""
+    links = [rng.choice([(0, 0, 0), (1, rng.randrange(255), 0)]) for _ in range(6)]
+    former = {
+        "lines": [LINES], "rows": [[rng.choice((32, 65, 90)) for _ in range(40)] for _ in range(25)], "control": [rng.randrange(1024) << 1],
+        "links": [n for link in links for n in link], "row-24": [rng.randrange(2)], "storing": [rng.randrange(2)], "age": [rng.randrange(65)],
+        "fresh": [rng.randrange(2)], "any-subpage": [0], "choices": [0, *(rng.randrange(2) for _ in range(400))],
+    }
+    return Receiver(former, {"id": (1, int(page[1:], 16), 0)})
+
+
+def displayed(receiver):
+    return shown(receiver.rows, receiver.control, receiver.six, receiver.row_24)
 
 
 class Spliced:
@@ -101,13 +121,26 @@ class Spliced:
             missed += sum(self.view("joined.t42", page, len(former) + n, kind) != wanted for kind in KINDS for n in ends)
         return missed
 
+    def scripted_misses(self, page, tuning, begin):
+        """The same of three receivers with scripts, after each slot from the deadline on."""
+        own = scripted(random.Random(0), page)
+        for at in range(3 * len(self.new)):
+            own.hear(self.new[at % len(self.new)])
+        rng = random.Random(f"{page} {tuning} {begin}")
+        end, missed = begin + self.deadline * LINES, 0
+        for receiver in (scripted(rng, page) for _ in range(3)):
+            for at in range(tuning, end + 17):
+                receiver.hear(self.sent(at))
+                missed += at + 1 >= end and displayed(receiver) != displayed(own)
+        return missed
+
     def all_misses(self):
-        tunings = range(-len(self.old), len(self.new))
-        wanted = self.view("new.t42", "100", 5000, "eager")
-        missed = sum(self.misses("100", wanted, tuning, tuning) for tuning in tunings)
-        if self.names[1] == "two-pages":
-            wanted = self.view("new.t42", "101", 5000, "eager")
-            missed += sum(self.misses("101", wanted, tuning, max(tuning, 0)) for tuning in tunings)
+        missed = 0
+        for page in ("100", "101") if self.names[1] == "two-pages" else ("100",):
+            wanted = self.view("new.t42", page, 5000, "eager")
+            for tuning in range(-len(self.old), len(self.new)):
+                begin = tuning if page == "100" else max(tuning, 0)
+                missed += self.misses(page, wanted, tuning, begin) + self.scripted_misses(page, tuning, begin)
         return missed
 
 
