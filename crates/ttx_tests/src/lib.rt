@@ -38,5 +38,3 @@ mod seen;
 mod service_packets;
 #[cfg(test)]
 mod services;
-#[cfg(test)]
-mod walks;
