@@ -1,0 +1,46 @@
+-- The lines of `pages`.
+--
+--   quoted, quoted_text     characters as they stand between quotation marks
+--   control_text, counts_text, head_text    the parts of a line: control bits, how often is sent what, the characters of a header
+--   page_line               the line of a page
+use Rattle.std.specs.Prelude.{ℕ, Bool, ◌||◌, ◌==◌, ◌%◌, List, [], ◌∷◌, ◌++◌, codes, nat_lt, if◌then◌else◌}
+use Rattle.std.specs.Fmt.{decimal}
+use Rattle.std.specs.Int.RustNames.{bit_and}
+use Rattle.ttx_code.specs.Words.{is_odd}
+use Rattle.ttx_header.specs.Control.{control_table}
+use Rattle.ttx_header.specs.Ids.{Id}
+use Rattle.ttx_witness.specs.CertificateTexts.{hex_byte, id_text}
+
+-- a character as itself; behind a backslash where it would end the text, and by its number where it is none that is seen
+abbrev pub character : ℕ → List ℕ
+character c =
+    if (c == 34) || (c == 92) then 92 ∷ c ∷ []
+    else if nat_lt c 32 || (c == 127) then codes "\\x" ++ hex_byte c
+    else c ∷ []
+
+-- a byte of even parity is no character
+unfoldable pub quoted : ℕ → List ℕ
+quoted b = if is_odd b then character (b % 128) else codes "\\?"
+
+abbrev pub quoted_text : List ℕ → List ℕ
+quoted_text [] = []
+quoted_text (b ∷ bytes) = quoted b ++ quoted_text bytes
+
+-- the names of the control bits that are set, each after a space
+abbrev pub set_names : ℕ → List (List ℕ × ℕ) → List ℕ
+set_names control [] = []
+set_names control (row ∷ rest) = (if bit_and control row.1 == row.1 then 32 ∷ row.0 else []) ++ set_names control rest
+
+-- the names of all control bits that are set, C4 first
+unfoldable pub control_text : ℕ → List ℕ
+control_text control = set_names control control_table
+
+unfoldable pub counts_text : ℕ → ℕ → ℕ → List ℕ
+counts_text times rows links = codes " sent " ++ decimal times ++ codes " rows " ++ decimal rows ++ (if links == 0 then [] else codes " links")
+
+unfoldable pub head_text : List ℕ → List ℕ
+head_text bytes = codes " \"" ++ quoted_text bytes ++ codes "\"\n"
+
+-- a page that is sent so many times, with so many rows and packets X/27/0, and the control bits and characters of a header of it
+unfoldable pub page_line : Id → ℕ → ℕ → ℕ → ℕ → List ℕ → List ℕ
+page_line id times rows links control text = id_text id ++ counts_text times rows links ++ control_text control ++ head_text text

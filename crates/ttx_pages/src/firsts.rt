@@ -1,0 +1,61 @@
+//! The first header of each page.
+
+ghost use Rattle.std.specs.Prelude.{◌≡◌, ℕ, IfOk, OnOk, map};
+ghost use Rattle.std.specs.List.{find};
+ghost use Rattle.std.specs.Ordering.{nat_cmp};
+ghost use Rattle.std.specs.BTreeMap as tree;
+ghost use Rattle.std.specs.Option.{option_or};
+ghost use Rattle.ttx_pages.specs.Firsts.{header_of, ArePages};
+ghost use Rattle.ttx_pages.specs.Keys.{heads, page_headers};
+
+use crate::keys::key_of;
+use std::alloc::{AllocError, Global};
+use std::collections::BTreeMap;
+use ttx_header::read_header;
+
+// Keeps a header, unless one of its page is kept already.
+fn keep_first(firsts: &mut BTreeMap<u32, [u8; 42]>, slot: &[u8; 42]) -> Result<(), AllocError>
+    ensures first { OnOk result ((q : ℕ) → tree.get nat_cmp firsts.new q ≡ option_or (tree.get nat_cmp firsts.old q) (header_of q slot.now)) }
+    ensures pages { OnOk result (ArePages firsts.old → ArePages firsts.new) }
+{
+    let Some(header) = read_header(slot) else {
+        return Ok(());
+    };
+    let key = key_of(header.id());
+    if !firsts.contains_key(&key) {
+        firsts.insert(key, *slot)?;
+    }
+    Ok(())
+}
+
+// The first header of each page that has one, by the number of the page.
+fn first_headers(alloc: Global, slots: &[[u8; 42]]) -> Result<BTreeMap<u32, [u8; 42]>, AllocError>
+    ensures first { IfOk result (λ firsts. (q : ℕ) → tree.get nat_cmp firsts q ≡ find (heads q) slots.now) }
+    ensures pages { IfOk result ArePages }
+{
+    let mut firsts: BTreeMap<u32, [u8; 42]> = BTreeMap::new(alloc);
+    for slot in slots {
+        keep_first(&mut firsts, slot)?;
+    }
+    Ok(firsts)
+}
+
+// The headers of a map, by rising numbers.
+fn headers_of(alloc: Global, firsts: &BTreeMap<u32, [u8; 42]>) -> Result<Vec<[u8; 42]>, AllocError>
+    ensures values { IfOk result (λ headers. headers.items ≡ map (λ e. e.1) firsts.now.entries) }
+    ensures ordered { tree.IsOrdered nat_cmp firsts.now }
+{
+    let mut headers = Vec::new(alloc);
+    for (_, header) in firsts {
+        headers.push(*header)?;
+    }
+    Ok(headers)
+}
+
+/// The first header of each page that has one, by rising numbers of pages.
+pub fn page_headers(alloc: Global, slots: &[[u8; 42]]) -> Result<Vec<[u8; 42]>, AllocError>
+    ensures { IfOk result (λ headers. headers.items ≡ page_headers slots.now) }
+{
+    let firsts = first_headers(alloc, slots)?;
+    headers_of(alloc, &firsts)
+}

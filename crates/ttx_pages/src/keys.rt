@@ -1,0 +1,122 @@
+//! Pages by number, and the pages under which packets are sent.
+
+ghost use Rattle.std.specs.Prelude.{◌≡◌, ◌<◌, ◌-◌, IfOk, IfSome, fold, replicate};
+ghost use Rattle.ttx_packet.specs.Slots.{kind_of};
+ghost use Rattle.ttx_pages.specs.Keys.{key_of, opened, opens, page_at, owners, keys_sent};
+ghost use Rattle.ttx_pages.specs.Places.{place_in, place_of};
+
+use std::alloc::{AllocError, Global};
+use ttx_header::{PageId, read_header};
+use ttx_packet::{Slot, slot_of};
+
+/// The packets of a page.
+#[derive(Clone, Copy, PartialEq, Eq, Debug)]
+pub enum Part {
+    /// Its page headers.
+    Head,
+    /// Its rows 1 to 24.
+    Row,
+    /// Its packets X/27/0.
+    Links,
+}
+
+/// A page as one number: these rise by magazine, page number and subcode.
+pub fn key_of(id: PageId) -> u32
+    ensures value { result ≡ key_of id }
+    ensures range { result < 37748736 }
+{
+    (u32::from(id.mag()) * 256 + u32::from(id.page())) * 16384 + u32::from(id.sub())
+}
+
+/// Notes which page a header opens in its magazine.
+pub fn open_page(current: &mut [u32; 8], slot: &[u8; 42])
+    ensures { current.new ≡ opened current.old slot.now }
+{
+    if let Some(header) = read_header(slot) {
+        let id = header.id();
+        current[usize::from(id.mag()) - 1] = key_of(id);
+    }
+}
+
+fn no_pages() -> [u32; 8]
+    ensures { result ≡ replicate 8 0 }
+{
+    [0; 8]
+}
+
+// The page that each magazine has open after the slots.
+fn open_pages(slots: &[[u8; 42]]) -> [u32; 8]
+    ensures { result ≡ opens slots.now }
+{
+    let mut current = no_pages();
+    for slot in slots {
+        open_page(&mut current, slot);
+    }
+    current
+}
+
+// The magazine, counted from 0, of a packet of this part.
+fn place_in(part: Part, slot: &[u8; 42]) -> Option<usize>
+    ensures value { result ≡ place_in part (kind_of slot.now) }
+    ensures range { IfSome result (λ place. place < 8) }
+{
+    let at = match (part, slot_of(slot)) {
+        (Part::Head, Slot::Header(at, _)) => at,
+        (Part::Row, Slot::Row(at, _)) => at,
+        (Part::Links, Slot::Links(at, _)) => at,
+        _ => return None,
+    };
+    Some(usize::from(at.mag) - 1)
+}
+
+/// The pages of a cycle's packets of this part, in their order.
+pub fn keys_sent(alloc: Global, part: Part, slots: &[[u8; 42]]) -> Result<Vec<u32>, AllocError>
+    ensures { IfOk result (λ keys. keys.items ≡ keys_sent part slots.now) }
+{
+    let mut current = open_pages(slots);
+    let mut keys = Vec::new(alloc);
+    for slot in slots {
+        open_page(&mut current, slot);
+        if let Some(place) = place_in(part, slot) {
+            keys.push(current[place])?;
+        }
+    }
+    Ok(keys)
+}
+
+// The magazine, counted from 0, of a packet that belongs to a page.
+fn place_of(slot: &[u8; 42]) -> Option<usize>
+    ensures value { result ≡ place_of (kind_of slot.now) }
+    ensures range { IfSome result (λ place. place < 8) }
+{
+    let at = match slot_of(slot) {
+        Slot::Header(at, _) => at,
+        Slot::Row(at, _) => at,
+        Slot::Links(at, _) => at,
+        _ => return None,
+    };
+    Some(usize::from(at.mag) - 1)
+}
+
+// The page that the slot's magazine has open.
+fn page_at(current: &[u32; 8], slot: &[u8; 42]) -> u32
+    ensures { result ≡ page_at current.now (place_of (kind_of slot.now)) }
+{
+    match place_of(slot) {
+        Some(place) => current[place],
+        None => 0,
+    }
+}
+
+/// The page that each slot of a cycle belongs to, by its number; 0 where it belongs to none.
+pub fn owners(alloc: Global, slots: &[[u8; 42]]) -> Result<Vec<u32>, AllocError>
+    ensures { IfOk result (λ pages. pages.items ≡ owners slots.now) }
+{
+    let mut current = open_pages(slots);
+    let mut pages = Vec::new(alloc);
+    for slot in slots {
+        open_page(&mut current, slot);
+        pages.push(page_at(&current, slot))?;
+    }
+    Ok(pages)
+}

@@ -1,0 +1,18 @@
+//! The pages of a cycle: which headers it has, and what is sent under them.
+#![tactic(auto)]
+
+pub mod faults;
+mod firsts;
+pub mod keys;
+pub mod laws;
+mod lines;
+mod listing;
+mod paging;
+mod rest;
+mod tallies;
+
+pub use faults::PagesFault;
+pub use firsts::page_headers;
+pub use keys::Part;
+pub use listing::pages_text;
+pub use paging::pages;

@@ -1,0 +1,119 @@
+//! The line of a page.
+
+ghost use Rattle.std.specs.Prelude.{◌≡◌, ◌<◌, ◌++◌, ◌∷◌, [], OnOk, codes, map, string_bytes};
+ghost use Rattle.ttx_pages.specs.Lines.{character, quoted, quoted_text, set_names, control_text, counts_text, head_text, page_line};
+ghost use Rattle.ttx_witness.specs.CertificateTexts.{hex_byte};
+
+use bitflags::{Flag, Flags};
+use std::alloc::AllocError;
+use ttx_code::odd_of;
+use ttx_header::{Control, Header};
+use ttx_witness::{digit, push_id};
+
+// Adds two hexadecimal digits.
+fn push_byte(text: &mut String, byte: u8) -> Result<(), AllocError>
+    ensures { OnOk result (string_bytes text.new ≡ string_bytes text.old ++ hex_byte byte) }
+{
+    text.push(digit(byte / 16))?;
+    text.push(digit(byte % 16))
+}
+
+// Adds a character as it stands between quotation marks.
+fn push_character(text: &mut String, code: u8) -> Result<(), AllocError>
+    requires { code < 128 }
+    ensures { OnOk result (string_bytes text.new ≡ string_bytes text.old ++ character code) }
+{
+    match code {
+        b'"' | b'\\' => {
+            text.push('\\')?;
+            text.push(char::from(code))
+        }
+        0..=31 | 127 => {
+            text.push_str("\\x")?;
+            push_byte(text, code)
+        }
+        _ => text.push(char::from(code)),
+    }
+}
+
+// Adds the character of a byte, if it is one.
+#[tactic(auto, unfolding(crate::specs::Lines::quoted))]
+fn push_quoted(text: &mut String, byte: u8) -> Result<(), AllocError>
+    ensures { OnOk result (string_bytes text.new ≡ string_bytes text.old ++ quoted byte) }
+{
+    match odd_of(byte) {
+        Some(code) => push_character(text, code),
+        None => text.push_str("\\?"),
+    }
+}
+
+fn push_characters(text: &mut String, bytes: &[u8]) -> Result<(), AllocError>
+    ensures { OnOk result (string_bytes text.new ≡ string_bytes text.old ++ quoted_text bytes.now) }
+{
+    for byte in bytes {
+        push_quoted(text, *byte)?;
+    }
+    Ok(())
+}
+
+// Adds the names of the set flags, each after a space.
+fn push_flags(
+    text: &mut String,
+    control: Control,
+    flags: &[Flag<Control>],
+) -> Result<(), AllocError>
+    ensures { OnOk result (string_bytes text.new ≡ string_bytes text.old ++ set_names control.0 (map (λ f. (f.name.now, f.value.0)) flags.now)) }
+{
+    for flag in flags {
+        if control.contains(flag.value) {
+            text.push(' ')?;
+            text.push_str(flag.name)?;
+        }
+    }
+    Ok(())
+}
+
+// Adds the names of the set control bits, C4 first.
+#[tactic(auto, unfolding(crate::specs::Lines::control_text))]
+fn push_control(text: &mut String, control: Control) -> Result<(), AllocError>
+    ensures { OnOk result (string_bytes text.new ≡ string_bytes text.old ++ control_text control.0) }
+{
+    push_flags(text, control, Control::flags())
+}
+
+#[tactic(auto, unfolding(crate::specs::Lines::counts_text))]
+fn push_counts(text: &mut String, times: usize, rows: usize, links: usize) -> Result<(), AllocError>
+    ensures { OnOk result (string_bytes text.new ≡ string_bytes text.old ++ counts_text times rows links) }
+{
+    write!(text, " sent {times} rows {rows}")?;
+    if links != 0 {
+        text.push_str(" links")?;
+    }
+    Ok(())
+}
+
+#[tactic(auto, unfolding(crate::specs::Lines::head_text))]
+fn push_text(text: &mut String, bytes: &[u8]) -> Result<(), AllocError>
+    ensures { OnOk result (string_bytes text.new ≡ string_bytes text.old ++ head_text bytes.now) }
+{
+    text.push_str(" \"")?;
+    push_characters(text, bytes)?;
+    text.push_str("\"\n")
+}
+
+/// Adds the line of a page that has so many headers, rows and packets X/27/0.
+#[tactic(auto, unfolding(crate::specs::Lines::page_line))]
+pub(crate) fn push_page_line(
+    text: &mut String,
+    header: &Header,
+    times: usize,
+    rows: usize,
+    links: usize,
+) -> Result<(), AllocError>
+    ensures { OnOk result (string_bytes text.new ≡ string_bytes text.old ++ page_line header.now.id times rows links header.now.control header.now.text) }
+{
+    push_id(text, header.id())?;
+    push_counts(text, times, rows, links)?;
+    push_control(text, header.control())?;
+    push_text(text, header.text())
+}

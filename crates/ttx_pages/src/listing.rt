@@ -1,0 +1,108 @@
+//! The lines of all pages.
+
+ghost use Rattle.std.specs.Prelude.{◌≡◌, ◌++◌, ℕ, List, IfOk, OnOk, string_bytes};
+ghost use Rattle.std.specs.List.{flat_map};
+ghost use Rattle.ttx_pages.specs.Listing.{listed, strays_text, rest_line, pages_text};
+ghost use Rattle.ttx_pages.specs.Counting.{Counts, counted_line};
+
+use crate::firsts::page_headers;
+use crate::keys::{Part, key_of, keys_sent};
+use crate::lines::push_page_line;
+use crate::rest::{push_others, push_slots};
+use crate::tallies::{count_of, tally};
+use std::alloc::{AllocError, Global};
+use std::collections::BTreeMap;
+use ttx_header::read_header;
+
+// How many packets of each part each page has.
+#[derive(Drop)]
+struct Sent {
+    heads: BTreeMap<u32, usize>,
+    rows: BTreeMap<u32, usize>,
+    links: BTreeMap<u32, usize>,
+}
+
+// How many packets of the part each page has.
+fn counts_of(
+    alloc: Global,
+    part: Part,
+    slots: &[[u8; 42]],
+) -> Result<BTreeMap<u32, usize>, AllocError>
+    ensures { IfOk result (λ counts. Counts part slots.now counts) }
+{
+    let keys = keys_sent(alloc, part, slots)?;
+    tally(alloc, keys.as_slice())
+}
+
+fn all_counts(alloc: Global, slots: &[[u8; 42]]) -> Result<Sent, AllocError>
+    ensures { IfOk result (λ all. Counts Part.Head slots.now all.heads × Counts Part.Row slots.now all.rows × Counts Part.Links slots.now all.links) }
+{
+    Ok(Sent {
+        heads: counts_of(alloc, Part::Head, slots)?,
+        rows: counts_of(alloc, Part::Row, slots)?,
+        links: counts_of(alloc, Part::Links, slots)?,
+    })
+}
+
+// Adds the line of the page that a header names.
+#[tactic(auto, unfolding(crate::specs::Counting::counted_line))]
+fn push_header_line(text: &mut String, all: &Sent, slot: &[u8; 42]) -> Result<(), AllocError>
+    ensures { OnOk result (string_bytes text.new ≡ string_bytes text.old ++ counted_line all.now slot.now) }
+{
+    let Some(header) = read_header(slot) else {
+        return Ok(());
+    };
+    let key = key_of(header.id());
+    let times = count_of(&all.heads, key);
+    let rows = count_of(&all.rows, key);
+    let links = count_of(&all.links, key);
+    push_page_line(text, &header, times, rows, links)
+}
+
+// Adds the lines of the pages that these headers name.
+fn push_lines(text: &mut String, all: &Sent, headers: &[[u8; 42]]) -> Result<(), AllocError>
+    ensures { OnOk result (string_bytes text.new ≡ string_bytes text.old ++ flat_map (counted_line all.now) headers.now) }
+{
+    for header in headers {
+        push_header_line(text, all, header)?;
+    }
+    Ok(())
+}
+
+// Adds the lines of the pages that have a header, rising.
+fn push_listed(
+    alloc: Global,
+    text: &mut String,
+    all: &Sent,
+    slots: &[[u8; 42]],
+) -> Result<(), AllocError>
+    requires heads { Counts Part.Head slots.now all.now.heads }
+    requires rows { Counts Part.Row slots.now all.now.rows }
+    requires links { Counts Part.Links slots.now all.now.links }
+    ensures { OnOk result (string_bytes text.new ≡ string_bytes text.old ++ listed slots.now) }
+{
+    let headers = page_headers(alloc, slots)?;
+    push_lines(text, all, headers.as_slice())
+}
+
+#[tactic(auto, unfolding(crate::specs::Listing::strays_text))]
+fn push_strays(text: &mut String, all: &Sent) -> Result<(), AllocError>
+    ensures { OnOk result ((slots : List (List ℕ)) → Counts Part.Row slots all.now.rows → Counts Part.Links slots all.now.links → string_bytes text.new ≡ string_bytes text.old ++ strays_text slots) }
+{
+    let rows = count_of(&all.rows, 0);
+    let links = count_of(&all.links, 0);
+    write!(text, "rest rows {rows} links {links}")
+}
+
+/// The lines of the pages of a cycle, rising, and the line of what belongs to no page. The error is want of memory.
+pub fn pages_text(alloc: Global, slots: &[[u8; 42]]) -> Result<String, AllocError>
+    ensures { IfOk result (λ text. string_bytes text ≡ pages_text slots.now) }
+{
+    let all = all_counts(alloc, slots)?;
+    let mut text = String::new(alloc);
+    push_listed(alloc, &mut text, &all, slots)?;
+    push_strays(&mut text, &all)?;
+    push_others(&mut text, slots)?;
+    push_slots(&mut text, slots)?;
+    Ok(text)
+}

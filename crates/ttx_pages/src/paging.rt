@@ -1,0 +1,31 @@
+//! `pages`: the pages of a packet file.
+
+ghost use Rattle.std.specs.Prelude.{IfSome};
+ghost use Rattle.ttx_cycle.specs.Counters.{inner_of, faults_of};
+ghost use Rattle.ttx_pages.specs.Listing.{pages_text};
+ghost use Rattle.ttx_pages.specs.Paging.{Writes, CountsPages, IsUntouched};
+
+use crate::faults::PagesFault;
+use crate::listing::pages_text;
+use std::alloc::Global;
+use std::io::{Read, Write};
+use ttx_cycle::{Counted, read_cycle, write_bytes};
+
+/// Reads a packet file and writes a line for each page that has a header in it, rising, and a line of what belongs to no page.
+///
+/// Nothing is written before the whole file is read. At `Write` exactly the first `written` bytes of the text went out; at each
+/// other fault the writer is as it was.
+pub fn pages<R: Read, W: Write>(
+    alloc: Global,
+    reader: &mut Counted<R>,
+    writer: &mut Counted<W>,
+) -> Result<(), PagesFault>
+    ensures bytes { IfSome (R.remaining (inner_of reader.old))
+        (λ bytes. Writes pages_text bytes (W.contents (inner_of writer.old)) (W.contents (inner_of writer.new)) result) }
+    ensures faults { CountsPages result (faults_of reader.old) (faults_of reader.new) (faults_of writer.old) (faults_of writer.new) }
+    ensures untouched { IsUntouched result writer.old writer.new }
+{
+    let cycle = read_cycle(alloc, reader).map_err(PagesFault::Cycle)?;
+    let text = pages_text(alloc, cycle.slots()).map_err(|_| PagesFault::NoMemory)?;
+    write_bytes(writer, text.as_bytes()).map_err(PagesFault::from_write)
+}
