@@ -7,7 +7,6 @@ ghost use Rattle.ttx_page.specs.Streams.{run_length};
 ghost use Rattle.ttx_page.specs.Views.{page_of};
 ghost use Rattle.ttx_witness.specs.Certificates.{certificate_of};
 ghost use Rattle.ttx_witness.specs.CycleLaws.{progress_of};
-ghost use Rattle.ttx_witness.specs.Entries.{is_empty};
 ghost use Rattle.ttx_witness.specs.Following.{IsProgress};
 ghost use Rattle.ttx_witness.specs.JudgingLaws.{IsHeaderAnswer};
 ghost use Rattle.ttx_certify.specs.Findings.{IsFound};
@@ -43,17 +42,18 @@ fn judged(
     page: &Page,
     certificate: &Certificate,
     item: &Item,
+    starts: &[u32],
     progress: Progress,
     period: u32,
 ) -> Option<Finding>
     requires needed { definitions.needed (page_of page.now) item.now ≡ true }
-    requires named { 0 < length ((certificate_of certificate.now).starts (page_of page.now).id item.now) }
+    requires starts { starts.now ≡ (certificate_of certificate.now).starts (page_of page.now).id item.now }
+    requires named { 0 < length starts.now }
     ensures { (y : List (List ℕ)) → 1 ≤ length y → period ≡ length y → progress ≡ progress_of y (page_of page.now) (certificate_of certificate.now) item.now (run_length (certificate_of certificate.now).repeat item.now - 1) →
         IsFound y (page_of page.now) (certificate_of certificate.now) item.now result }
 {
     ttx_witness::certificate_laws::certificates_keep_their_rules();
     ttx_witness::judging_laws::items_are_judged();
-    let starts = certificate.starts(page.id(), *item);
     let next = progress.next;
     if next < starts.len() {
         return Some(found(*item, Doubt::WitnessBad, starts[next]));
@@ -101,11 +101,11 @@ fn is_needed(page: &Page, item: &Item) -> bool
     needed(page, *item)
 }
 
-// Whether no start is named for the item.
-fn is_unnamed(page: &Page, certificate: &Certificate, item: &Item) -> bool
-    ensures { result ≡ is_empty ((certificate_of certificate.now).starts (page_of page.now).id item.now) }
+// The starts that are named for the item.
+fn named_starts<'a>(page: &Page, certificate: &'a Certificate, item: &Item) -> &'a [u32]
+    ensures { result.now ≡ (certificate_of certificate.now).starts (page_of page.now).id item.now }
 {
-    certificate.starts(page.id(), *item).is_empty()
+    certificate.starts(page.id(), *item)
 }
 
 /// What is found of an item; `late` is the first late header of the page, and `progress` how far the starts named for the item
@@ -125,11 +125,12 @@ pub fn find_item(
     if !is_needed(page, item) {
         return None;
     }
-    if is_unnamed(page, certificate, item) {
+    let starts = named_starts(page, certificate, item);
+    if starts.is_empty() {
         return unnamed(page, certificate, *item, late);
     }
     let Some(progress) = progress else {
         return None;
     };
-    judged(page, certificate, item, progress, period)
+    judged(page, certificate, item, starts, progress, period)
 }

@@ -10,9 +10,9 @@ use Rattle.ttx_witness.specs.Confirming.{after_runs, not_begun}
 use Rattle.ttx_witness.specs.Coverage.{Certificate, IsCertificate, limit}
 use Rattle.ttx_witness.specs.CycleLaws.{progress_of}
 use Rattle.ttx_witness.specs.Sent.{sent_in}
-use Rattle.ttx_witness.specs.Tracks.{IsTrack, IsWithin}
+use Rattle.ttx_witness.specs.Tracks.{IsWithin}
 use Rattle.ttx_witness.specs.declared.following.Followed.{Followed}
-use Rattle.ttx_witness.specs.Following.{Held, progress_in, Ended, EndedPlace}
+use Rattle.ttx_witness.specs.Following.{IsKept, Held, progress_kept, progress_in, Ended, EndedPlace}
 use Rattle.ttx_header.specs.Ids.{Id}
 use Rattle.ttx_page.specs.Streams.{repeated}
 use Rattle.ttx_witness.specs.Sent.{owner_scan, owner_moved, entry_of}
@@ -29,14 +29,14 @@ some_run repeat (TheRow r) h = h
 some_run repeat TheLinks h = omega arith
 
 pub ended_progress : (y : List (List ℕ)) → length y ≤ 65536 → (p : Page) (w : Certificate) → IsCertificate w → (item : Item) (lim period : ℕ) → lim ≡ limit w → period ≡ length y → All (IsWithin 65536) (sent_in y p.id w.lines item) →
-    (old new : Followed) → Follows w p.id item (sent_in y p.id w.lines item) old → Ended lim period old new → new.track.progress ≡ progress_of y p w item (run_length w.repeat item - 1)
+    (old new : Followed) → Follows w p.id item (sent_in y p.id w.lines item) old → Ended lim period old new → progress_kept new.kept ≡ progress_of y p w item (run_length w.repeat item - 1)
 ended_progress y few p w is item lim period e f small old new h t =
     let ts = sent_in y p.id w.lines item in
     let k = run_length w.repeat item - 1 in
     let one = some_run w.repeat item is.some_repeats in
     let len : run_length w.repeat item ≡ suc k = omega arith in
     t.progress k ts (short_run w is item k len) (omega arith) small
-    (subst (λ l. IsTrack k l old.starts.now ts old.track) (sym e) (subst (λ ss. IsTrack k (limit w) ss ts old.track) (sym h.starts) (h.track k len)))
+    (subst (λ l. IsKept k l old.starts.now ts old.kept) (sym e) (subst (λ ss. IsKept k (limit w) ss ts old.kept) (sym h.starts) (h.kept k len)))
     ∙ ap (λ l. after_runs l old.starts.now not_begun (runs period k ts)) e
     ∙ ap (λ ss. after_runs (limit w) ss not_begun (runs period k ts)) h.starts
     ∙ ap (λ n. after_runs (limit w) (w.starts p.id item) not_begun (runs n k ts)) f
@@ -45,7 +45,7 @@ ended_progress y few p w is item lim period e f small old new h t =
 pub ended_place : (y : List (List ℕ)) → length y ≤ 65536 → (p : Page) (w : Certificate) → IsCertificate w → (item : Item) (lim period : ℕ) → lim ≡ limit w → period ≡ length y → All (IsWithin 65536) (sent_in y p.id w.lines item) →
     (old new : Held) → FollowsPlace w p item (sent_in y p.id w.lines item) old → EndedPlace lim period old new → IsProgress y p w item (progress_in new)
 ended_place y few p w is item lim period e f small None None h t = h
-ended_place y few p w is item lim period e f small (Some old) (Some new) h t = ended_progress y few p w is item lim period e f small old.value new.value h t
+ended_place y few p w is item lim period e f small (Some old) (Some new) h t = ended_progress y few p w is item lim period e f small old new h t
 ended_place y few p w is item lim period e f small None (Some new) h t = absurd t
 ended_place y few p w is item lim period e f small (Some old) None h t = absurd t
 

@@ -3,8 +3,7 @@ use Rattle.std.proofs.Common.{◌≡◌, ◌⊎◌, ℕ, zero, suc, ◌+◌, ◌
 use Rattle.std.proofs.lemmas.List.{append-nil}
 use Rattle.std.proofs.lemmas.Bool.{cases_lt}
 use Rattle.ttx_witness.specs.declared.transmissions.Transmission.{Transmission}
-use Rattle.ttx_witness.specs.Tracks.{IsTrack}
-use Rattle.ttx_witness.specs.Following.{Held, Holds, TookPlace}
+use Rattle.ttx_witness.specs.Following.{IsKept, Held, Holds, TookPlace}
 
 pub set_here : {A : Type 0} (xs : List A) (at : ℕ) (v : A) → at < length xs → slice_get (set xs at v) at ≡ Some v
 set_here [] at v lt = absurd (omega arith)
@@ -23,7 +22,7 @@ holds_more xs n P Q f h = record { value = h.value; here = h.here; is = f h.valu
 
 pub took_none : (limit : ℕ) (x : Held) → TookPlace limit x [] x
 took_none limit None = tt
-took_none limit (Some x) = record { starts = refl; track = λ k ts lt i. subst (λ us. IsTrack k limit x.value.starts.now us x.value.track) (sym (append-nil ts)) i }
+took_none limit (Some x) = record { starts = refl; kept = λ k ts lt i. subst (λ us. IsKept k limit x.starts.now us x.kept) (sym (append-nil ts)) i }
 
 cases_bool : (b : Bool) → (b ≡ true) ⊎ (b ≡ false)
 cases_bool true = inl refl

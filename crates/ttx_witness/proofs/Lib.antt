@@ -48,6 +48,7 @@ mod Closing
 pub mod After
 pub mod Whole
 pub mod SentOnes
+pub mod SingleRuns
 mod TextParts
 pub mod LineShapes
 mod ReadEntries

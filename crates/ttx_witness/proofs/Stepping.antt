@@ -25,7 +25,7 @@ use Rattle.ttx_witness.specs.declared.facts.Facts.{Facts}
 use Rattle.ttx_witness.specs.declared.facts.Heads.{Heads}
 use Rattle.ttx_witness.specs.declared.sending.Sent.{Sent}
 use Rattle.ttx_witness.specs.Sending.{sent_of, is_sent}
-use Rattle.ttx_witness.specs.Following.{Held, Took, TookPlace}
+use Rattle.ttx_witness.specs.Following.{IsKept, Held, Took, TookPlace}
 use Rattle.ttx_witness.specs.Facts.{IsNoted, RowWrong, Noted, heads_after}
 use Rattle.ttx_witness.specs.Facts.{FirstBelow, SendsWrong, SendsWrongRow, heads_of, AreFacts}
 use Rattle.ttx_witness.specs.Following.{Follows, FollowsPlace}
@@ -106,19 +106,19 @@ module _ (w : Certificate) (is : IsCertificate w) (p : Page) (i : ℕ) (sent : O
       Follows w p.id item (sent_scan p.id w.lines item (repeated more) entry (length more)) new
   follows_more item it lim e old new f t = record {
     starts = t.starts ∙ f.starts;
-    track = λ n len. subst (λ us. IsTrack n (limit w) (w.starts p.id item) us new.track) (grown item it)
-        (subst (λ ss. IsTrack n (limit w) ss (sent_scan p.id w.lines item (repeated y) entry (length y) ++ sent_of i item sent) new.track) f.starts
-        (subst (λ l. IsTrack n l old.starts.now (sent_scan p.id w.lines item (repeated y) entry (length y) ++ sent_of i item sent) new.track) e
-        (t.track n (sent_scan p.id w.lines item (repeated y) entry (length y)) (short_run w is item n len)
-        (subst (λ l. IsTrack n l old.starts.now (sent_scan p.id w.lines item (repeated y) entry (length y)) old.track) (sym e)
-        (subst (λ ss. IsTrack n (limit w) ss (sent_scan p.id w.lines item (repeated y) entry (length y)) old.track) (sym f.starts) (f.track n len))))));
+    kept = λ n len. subst (λ us. IsKept n (limit w) (w.starts p.id item) us new.kept) (grown item it)
+        (subst (λ ss. IsKept n (limit w) ss (sent_scan p.id w.lines item (repeated y) entry (length y) ++ sent_of i item sent) new.kept) f.starts
+        (subst (λ l. IsKept n l old.starts.now (sent_scan p.id w.lines item (repeated y) entry (length y) ++ sent_of i item sent) new.kept) e
+        (t.kept n (sent_scan p.id w.lines item (repeated y) entry (length y)) (short_run w is item n len)
+        (subst (λ l. IsKept n l old.starts.now (sent_scan p.id w.lines item (repeated y) entry (length y)) old.kept) (sym e)
+        (subst (λ ss. IsKept n (limit w) ss (sent_scan p.id w.lines item (repeated y) entry (length y)) old.kept) (sym f.starts) (f.kept n len))))));
   }
 
   -- and of a place
   pub place_more : (item : Item) → IsItem item → (lim : ℕ) → lim ≡ limit w → (old new : Held) → FollowsPlace w p item (sent_scan p.id w.lines item (repeated y) entry (length y)) old → TookPlace lim old (sent_of i item sent) new →
       FollowsPlace w p item (sent_scan p.id w.lines item (repeated more) entry (length more)) new
   place_more item it lim e None None f t = f
-  place_more item it lim e (Some old) (Some new) f t = follows_more item it lim e old.value new.value f t
+  place_more item it lim e (Some old) (Some new) f t = follows_more item it lim e old new f t
   place_more item it lim e None (Some new) f t = absurd t
   place_more item it lim e (Some old) None f t = absurd t
 

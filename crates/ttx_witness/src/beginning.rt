@@ -1,19 +1,18 @@
 //! A pass before its first slot: all growths.
 
-ghost use Rattle.std.specs.Prelude.{◌≡◌, ◌<◌, ◌≢◌, ◌&&◌, not, ℕ, IfOk, None, Some, [], length, map, slice_get, replicate};
+ghost use Rattle.std.specs.Prelude.{◌≡◌, ◌<◌, ◌≤◌, ◌≢◌, ◌-◌, if◌then◌else◌, ℕ, List, IfOk, None, Some, [], length, map, slice_get, replicate};
 ghost use Rattle.std.specs.List.{AllPairs};
 ghost use Rattle.ttx_page.specs.Pages as definitions;
 ghost use Rattle.ttx_page.specs.Views.{page_of};
 ghost use Rattle.ttx_page.specs.declared.item.Item.{Item as ItemValue};
 ghost use Rattle.ttx_witness.specs.Certificates.{certificate_of};
-ghost use Rattle.ttx_witness.specs.Entries.{is_empty};
 ghost use Rattle.ttx_witness.specs.Collected.{ids_of, IsItem, item_number, place};
-ghost use Rattle.ttx_witness.specs.Following.{Held, Holds, Follows, FollowsPlace};
+ghost use Rattle.ttx_witness.specs.Following.{Held, Holds, IsKept, FollowsPlace};
 
 use crate::certificates::Certificate;
 use crate::confirming::Progress;
 use crate::facts::Facts;
-use crate::following::Followed;
+use crate::following::{Followed, Kept};
 use crate::items::nothing_sent;
 use crate::other_subpages::none_told;
 use crate::page_index::index_of;
@@ -24,39 +23,38 @@ use crate::strays::Strays;
 use crate::subcodes::subcodes_of;
 use crate::track::Track;
 use std::alloc::Global;
-use ttx_header::PageId;
 use ttx_page::{Item, Page, needed};
 
-// The item of this number, of which nothing is taken yet.
-fn followed<'a>(
-    alloc: Global,
-    page: PageId,
-    number: u8,
-    certificate: &'a Certificate,
-) -> Result<Followed<'a>, NoMemory>
-    requires { number < 26 }
-    ensures { IfOk result (λ f. (item : ItemValue) → IsItem item → item_number item ≡ number → Follows (certificate_of certificate.entry.now) page item [] f) }
+// Nothing kept yet of an item whose runs have so many transmissions.
+fn nothing_kept(alloc: Global, repeat: usize) -> Result<Kept, NoMemory>
+    requires some { 1 ≤ repeat }
+    ensures { IfOk result (λ kept. (limit : ℕ) (starts : List ℕ) → IsKept (repeat - 1) limit starts [] kept) }
 {
-    crate::certificate_laws::certificates_keep_their_rules();
-    let item = item_of(number);
-    let recent = nothing_sent(alloc, run_length(certificate.repeat(), &item))?;
     let progress = Progress {
         next: 0,
         previous: 0,
         first_end: 0,
         late: None,
     };
-    Ok(Followed {
-        track: Track { recent, progress },
-        starts: certificate.starts(page, item_of(number)),
-    })
+    if repeat == 1 {
+        return Ok(Kept::Single(progress));
+    }
+    let recent = nothing_sent(alloc, repeat)?;
+    match Box::new(alloc, Track { recent, progress }) {
+        Ok(track) => Ok(Kept::Several(track)),
+        Err(_) => Err(NoMemory),
+    }
 }
 
-// Whether a viewer needs the item and a start is named for it.
-fn is_followed(page: &Page, certificate: &Certificate, item: &Item) -> bool
-    ensures { result ≡ (definitions.needed (page_of page.now) item.now && not (is_empty ((certificate_of certificate.now).starts (page_of page.now).id item.now))) }
+// The starts that are named for the item, where a viewer needs it, and else none.
+fn needed_starts<'a>(page: &Page, certificate: &'a Certificate, item: &Item) -> &'a [u32]
+    ensures { result.now ≡ (if definitions.needed (page_of page.now) item.now then (certificate_of certificate.now).starts (page_of page.now).id item.now else []) }
 {
-    needed(page, *item) && !certificate.starts(page.id(), *item).is_empty()
+    if needed(page, *item) {
+        certificate.starts(page.id(), *item)
+    } else {
+        &[]
+    }
 }
 
 // The place of an item: it is followed where it is needed and some start is named for it.
@@ -65,19 +63,18 @@ fn place_of<'a>(
     page: &Page,
     number: u8,
     certificate: &'a Certificate,
-) -> Result<Option<Box<Followed<'a>>>, NoMemory>
+) -> Result<Option<Followed<'a>>, NoMemory>
     requires { number < 26 }
     ensures { IfOk result (λ o. (item : ItemValue) → IsItem item → item_number item ≡ number → FollowsPlace (certificate_of certificate.entry.now) (page_of page.entry.now) item [] o) }
 {
+    crate::certificate_laws::certificates_keep_their_rules();
     let item = item_of(number);
-    if !is_followed(page, certificate, &item) {
+    let starts = needed_starts(page, certificate, &item);
+    if starts.is_empty() {
         return Ok(None);
     }
-    let followed = followed(alloc, page.id(), number, certificate)?;
-    match Box::new(alloc, followed) {
-        Ok(followed) => Ok(Some(followed)),
-        Err(_) => Err(NoMemory),
-    }
+    let kept = nothing_kept(alloc, run_length(certificate.repeat(), &item))?;
+    Ok(Some(Followed { kept, starts }))
 }
 
 // No facts yet of so many pages.
@@ -102,7 +99,7 @@ fn all_followed<'a>(
     alloc: Global,
     pages: &[Page],
     certificate: &'a Certificate,
-) -> Result<Vec<Option<Box<Followed<'a>>>>, NoMemory>
+) -> Result<Vec<Option<Followed<'a>>>, NoMemory>
     ensures { IfOk result (λ all. (i : ℕ) (p : definitions.Page) (item : ItemValue) → slice_get (map page_of pages.now) i ≡ Some p → IsItem item → Holds Held all.items (place i item) (FollowsPlace (certificate_of certificate.entry.now) p item [])) }
 {
     let room = pages.len().saturating_mul(26);

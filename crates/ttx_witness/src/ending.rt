@@ -2,13 +2,13 @@
 
 ghost use Rattle.std.specs.Prelude.{◌≡◌, ◌<◌, ℕ, Option, Some, None, is_some, get_or, slice_get};
 ghost use Rattle.ttx_witness.specs.OtherSubpages as tables;
-ghost use Rattle.ttx_witness.specs.Following.{Held, progress_in};
+ghost use Rattle.ttx_witness.specs.Following.{Held, progress_kept, progress_in};
 
 use crate::certificates::Certificate;
 use crate::confirming::Progress;
 use crate::facts::{Facts, late_of};
 use crate::first_slots::{FirstSlots, least_fault};
-use crate::following::Followed;
+use crate::following::{Followed, Kept};
 use crate::limits::limit;
 use crate::reason::Reason;
 use crate::strays::Strays;
@@ -24,7 +24,7 @@ pub struct EndedPass<'a> {
     pub period: u32,
     pub bad: Option<u32>,
     pub(crate) strays: Strays,
-    pub(crate) followed: Vec<Option<Box<Followed<'a>>>>,
+    pub(crate) followed: Vec<Option<Followed<'a>>>,
     pub(crate) facts: Vec<Facts>,
 }
 
@@ -42,12 +42,22 @@ fn facts_at(all: &[Facts], index: usize) -> Option<Facts>
     all.get(index).copied()
 }
 
+// How far the named starts are confirmed.
+fn progress_of(kept: &Kept) -> Progress
+    ensures { result ≡ progress_kept kept.now }
+{
+    match kept {
+        Kept::Single(progress) => *progress,
+        Kept::Several(track) => track.progress,
+    }
+}
+
 // How far the named starts in this place are confirmed.
-fn progress_at(all: &[Option<Box<Followed>>], at: usize) -> Option<Progress>
+fn progress_at(all: &[Option<Followed>], at: usize) -> Option<Progress>
     ensures { (x : Held) → slice_get all.now at ≡ Some x → result ≡ progress_in x }
 {
     match all.get(at) {
-        Some(Some(followed)) => Some(followed.track.progress),
+        Some(Some(followed)) => Some(progress_of(&followed.kept)),
         _ => None,
     }
 }

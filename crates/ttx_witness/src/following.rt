@@ -1,45 +1,80 @@
 //! The transmissions of all items of all pages, each held against the starts that are named for it.
 
-ghost use Rattle.std.specs.Prelude.{◌≡◌, ◌↔◌, IsTrue, ◌<◌, ℕ, IfSome, length, slice_get, Some, if◌then◌else◌, ◌==◌, ◌∷◌, []};
+ghost use Rattle.std.specs.Prelude.{◌≡◌, ◌↔◌, IsTrue, ◌<◌, ◌≤◌, ◌++◌, ℕ, List, IfSome, length, slice_get, Some, if◌then◌else◌, ◌==◌, ◌∷◌, []};
 ghost use Rattle.ttx_page.specs.declared.item.Item.{Item};
 ghost use Rattle.ttx_witness.specs.Collected.{IsItem, place};
 ghost use Rattle.ttx_witness.specs.Sending.{sent_of};
 ghost use Rattle.std.specs.List.{All};
-ghost use Rattle.ttx_witness.specs.Tracks.{IsWithin};
+ghost use Rattle.ttx_witness.specs.Tracks.{IsTrack, IsWithin};
+ghost use Rattle.ttx_witness.specs.Confirming.{after_runs, not_begun};
 ghost use Rattle.ttx_witness.specs.Following.{Held, Holds, Took, TookPlace, Ended, EndedPlace};
+ghost use Rattle.ttx_witness.specs.Transmissions.{run_of, runs};
 
+use crate::confirming::{Progress, confirm};
 use crate::sending::Sent;
 use crate::track::{self, Track};
-use crate::transmissions::Transmission;
+use crate::transmissions::{Run, Transmission};
+
+/// What is kept of the transmissions of an item: of runs of one transmission only how far its named starts are confirmed, and
+/// of longer ones a track.
+#[derive(Drop)]
+pub enum Kept {
+    Single(Progress),
+    Several(Box<Track>),
+}
 
 /// The transmissions of an item against its named starts.
 #[derive(Drop)]
 pub struct Followed<'a> {
-    pub track: Track,
+    pub kept: Kept,
     pub starts: &'a [u32],
+}
+
+// The run of one transmission.
+fn single_run(t: Transmission) -> Run
+    ensures { result ≡ run_of (t ∷ []) }
+{
+    Run {
+        start: t.slot,
+        owner: t.owner,
+        end: t.slot,
+        sure: t.sure,
+    }
+}
+
+// Takes the next transmission into a track.
+fn take_further(track: &mut Track, t: Transmission, starts: &[u32], limit: u32)
+    ensures { (k : ℕ) (ts : List Transmission) → k < 8 → IsTrack k limit starts.now ts track.old → IsTrack k limit starts.now (ts ++ t ∷ []) track.new }
+{
+    if track.recent.window.capacity() <= 8 {
+        track::note(track, t, starts, limit);
+    }
 }
 
 // Takes the next transmission of an item.
 fn take(followed: &mut Followed, t: Transmission, limit: u32)
     ensures { Took limit followed.old (t ∷ []) followed.new }
 {
-    if followed.track.recent.window.capacity() <= 8 {
-        track::note(&mut followed.track, t, followed.starts, limit);
+    match &mut followed.kept {
+        Kept::Single(progress) => {
+            *progress = confirm(*progress, single_run(t), followed.starts, limit);
+        }
+        Kept::Several(track) => take_further(&mut *track, t, followed.starts, limit),
     }
 }
 
 // Takes the next transmission, where the item is followed.
-fn take_place(place: &mut Option<Box<Followed>>, t: Transmission, limit: u32)
+fn take_place(place: &mut Option<Followed>, t: Transmission, limit: u32)
     ensures { TookPlace limit place.old (t ∷ []) place.new }
 {
     match place {
-        Some(followed) => take(&mut *followed, t, limit),
+        Some(followed) => take(followed, t, limit),
         None => {}
     }
 }
 
 // Takes a transmission of the item in this place.
-fn take_at(all: &mut Vec<Option<Box<Followed>>>, at: usize, t: Transmission, limit: u32)
+fn take_at(all: &mut Vec<Option<Followed>>, at: usize, t: Transmission, limit: u32)
     requires { at < length all.old.items }
     ensures count { length all.new.items ≡ length all.old.items }
     ensures taken { (n : ℕ) (x : Held) → slice_get all.old.items n ≡ Some x → Holds Held all.new.items n (TookPlace limit x (if n == at then t ∷ [] else [])) }
@@ -48,7 +83,7 @@ fn take_at(all: &mut Vec<Option<Box<Followed>>>, at: usize, t: Transmission, lim
 }
 
 /// Takes what a slot sends.
-pub fn take_sent(all: &mut Vec<Option<Box<Followed>>>, sent: Option<Sent>, limit: u32)
+pub fn take_sent(all: &mut Vec<Option<Followed>>, sent: Option<Sent>, limit: u32)
     requires { IfSome sent (λ s. s.number < 26) }
     ensures count { length all.new.items ≡ length all.old.items }
     ensures taken { (i : ℕ) (item : Item) (x : Held) → IsItem item → slice_get all.old.items (place i item) ≡ Some x → Holds Held all.new.items (place i item) (TookPlace limit x (sent_of i item sent)) }
@@ -81,30 +116,41 @@ fn are_small(ts: &[Transmission]) -> bool
     true
 }
 
-// Takes the transmissions that follow the period, round the cycle.
+// Takes the transmissions that follow the period into a track, round the cycle.
+fn finish_track(track: &mut Track, period: u32, starts: &[u32], limit: u32)
+    ensures { (k : ℕ) (ts : List Transmission) → k < 8 → period ≤ 65536 → All (IsWithin 65536) ts → IsTrack k limit starts.now ts track.old →
+        track.new.progress ≡ after_runs limit starts.now not_begun (runs period k ts) }
+{
+    let capacity = track.recent.window.capacity();
+    let firsts = track.recent.firsts.len();
+    let is_short = 1 <= capacity && capacity <= 8 && firsts <= 7 && period <= 65536;
+    if is_short && are_small(track.recent.firsts.as_slice()) {
+        track::finish(track, period, starts, limit);
+    }
+}
+
+// Takes the transmissions that follow the period. A run of one transmission ends within it.
 fn finish(followed: &mut Followed, period: u32, limit: u32)
     ensures { Ended limit period followed.old followed.new }
 {
-    let capacity = followed.track.recent.window.capacity();
-    let firsts = followed.track.recent.firsts.len();
-    let is_short = 1 <= capacity && capacity <= 8 && firsts <= 7 && period <= 65536;
-    if is_short && are_small(followed.track.recent.firsts.as_slice()) {
-        track::finish(&mut followed.track, period, followed.starts, limit);
+    match &mut followed.kept {
+        Kept::Single(_) => {}
+        Kept::Several(track) => finish_track(&mut *track, period, followed.starts, limit),
     }
 }
 
 // Takes the transmissions that follow the period, where the item is followed.
-fn finish_place(place: &mut Option<Box<Followed>>, period: u32, limit: u32)
+fn finish_place(place: &mut Option<Followed>, period: u32, limit: u32)
     ensures { EndedPlace limit period place.old place.new }
 {
     match place {
-        Some(followed) => finish(&mut *followed, period, limit),
+        Some(followed) => finish(followed, period, limit),
         None => {}
     }
 }
 
 /// Takes the transmissions that follow the period of each item.
-pub fn finish_all(all: &mut Vec<Option<Box<Followed>>>, period: u32, limit: u32)
+pub fn finish_all(all: &mut Vec<Option<Followed>>, period: u32, limit: u32)
     ensures { (n : ℕ) (x : Held) → slice_get all.old.items n ≡ Some x → Holds Held all.new.items n (EndedPlace limit period x) }
 {
     for i in 0..all.len() {

@@ -39,7 +39,7 @@ pub struct Pass<'a> {
     pub(crate) certificate: &'a Certificate,
     pub(crate) index: PageIndex,
     pub(crate) strays: Strays,
-    pub(crate) followed: Vec<Option<Box<Followed<'a>>>>,
+    pub(crate) followed: Vec<Option<Followed<'a>>>,
     pub(crate) facts: Vec<Facts>,
     pub(crate) owners: [Option<Owner>; 8],
     pub(crate) count: u32,
