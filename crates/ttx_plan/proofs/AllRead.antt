@@ -16,26 +16,29 @@ use Rattle.ttx_source.specs.Services.{Authored, IsAuthored}
 use Rattle.ttx_plan.specs.declared.packet.Packet.{Packet}
 use Rattle.ttx_plan.specs.declared.packet.Slot.{Slot}
 use Rattle.ttx_plan.specs.declared.packet.Slot.TheVariants.{Empty, Info, Sent}
-use Rattle.ttx_plan.specs.Blocks.{Block, header_packet, rest_packet, packets_of, round_of, rounds_to, sent_blocks, has_pages, used_to, used_queues, time_filling_packet, queue_packets}
-use Rattle.ttx_plan.specs.Carries.{magazines_for, block_at, blocks_of}
+use Rattle.ttx_plan.specs.Blocks.{Block, header_packet, rest_packet, page_packets, filler_of, packets_of, has_pages, used_to, used_queues, time_filling_packet, queue_packets}
+use Rattle.ttx_plan.specs.Carries.{magazines_for, block_at, blocks_of, sent_of}
 use Rattle.ttx_plan.specs.Contents.{header_of, row_of, links_of, is_sent_to, rows_to}
 use Rattle.ttx_plan.specs.Laws.{IsSaid}
-use Rattle.ttx_plan.specs.Serial.{serial_block, serial_list, info_if, with_info, serial_slots}
+use Rattle.ttx_plan.specs.Serial.{serial_page, serial_block, serial_list, info_if, with_info, serial_slots}
 use Rattle.ttx_plan.specs.Turns.{KeepsTurns, sent_by, next_slot, chosen, sending, is_ready, next_of, turn_from, order, is_due, or_info, slot_after, missing, Magazines}
 use Rattle.std.specs.List.{find}
 use Rattle.ttx_plan.proofs.InQueues.{queue_at_is}
-use Rattle.ttx_plan.proofs.Lists.{all_append, all_map, all_replicate, all_if, all_filter, all_flat_map, all_get}
+use Rattle.ttx_plan.proofs.Lists.{all_append, all_map, all_replicate, all_if, all_flat_map, all_get}
 use Rattle.ttx_plan.proofs.Owners.{slot_at}
+use Rattle.ttx_plan.proofs.SentBlocks.{order_all}
 use Rattle.ttx_plan.proofs.Readable.{LawsBelow, Reads, empty_slot, info_slot, header_slot, row_slot, links_slot}
 use Rattle.ttx_plan.proofs.Tracking.{IsFrom, turn_from_queues}
 
 -- the packets of a block are read as what they are
 pub record IsReadable (pages : List Authored) (serial : Bool) (block : Block) : Type 0 where
+  pub below : block.queue < 8
   pub header : Reads pages serial (Sent block.queue (header_packet block.header))
   pub rest : AllByRecursion (λ bytes. Reads pages serial (Sent block.queue (rest_packet bytes))) block.rest
 
 page_block : LawsBelow → (pages : List Authored) (serial : Bool) (class : Class) (index : ℕ) (authored : Authored) → slice_get pages index ≡ Some authored → IsAuthored serial authored → IsReadable pages serial (block_at class authored)
 page_block laws pages serial class index authored listed a = record {
+  below = omega (arith, a.page.id.mag_from, a.page.id.mag_to);
   header = header_slot laws pages serial (p.id.mag - 1) (header_packet (header_of p)) (fields_at p.id p.control (map odd_byte p.head) (replicate 8 32)) fields refl refl mag_is a.c11
       (λ text e. inr (record { index = index; authored = authored; listed = listed; id_is = refl; control_is = refl; text_is = e }));
   rest = all_append R (rows_to class p 24) (cond (is_sent_to class p TheLinks) (links_of p ∷ []) []) (rows 24 (omega arith))
@@ -72,13 +75,9 @@ page_blocks laws pages serial class (p ∷ some) at listed a =
       page_blocks laws pages serial class some (suc at) (λ k q e. let next : suc at + k ≡ at + suc k = omega arith in ap (slice_get pages) next ∙ listed (suc k) q e) (λ k d lt. a (suc k) d (omega arith)),
     )
 
-pub rounds_all : (P : Block → Type 0) (blocks : List Block) (n : ℕ) → AllByRecursion P blocks → AllByRecursion P (rounds_to blocks n)
-rounds_all P blocks zero a = tt
-rounds_all P blocks (suc n) a = all_append P (rounds_to blocks n) (round_of blocks n) (rounds_all P blocks n a) (all_filter P _ blocks a)
-
 -- the blocks that are sent
-pub sent_read : LawsBelow → (serial : Bool) (class : Class) (pages : List Authored) → All (IsAuthored serial) pages → AllByRecursion (IsReadable pages serial) (sent_blocks (blocks_of class pages))
-sent_read laws serial class pages a = rounds_all (IsReadable pages serial) (blocks_of class pages) 8 (page_blocks laws pages serial class pages 0 (λ k p e. let z : 0 + k ≡ k = omega arith in ap (slice_get pages) z ∙ e) a)
+pub sent_read : LawsBelow → (serial late : Bool) (class : Class) (pages : List Authored) → All (IsAuthored serial) pages → AllByRecursion (IsReadable pages serial) (sent_of late class pages)
+sent_read laws serial late class pages a = order_all (IsReadable pages serial) (λ filler b r. record { below = r.below; header = r.header; rest = r.rest }) late (blocks_of class pages) (page_blocks laws pages serial class pages 0 (λ k p e. let z : 0 + k ≡ k = omega arith in ap (slice_get pages) z ∙ e) a)
 
 filling_slot : LawsBelow → (pages : List Authored) (serial : Bool) (queue : ℕ) → queue < 8 → Reads pages serial (Sent queue (time_filling_packet serial queue))
 filling_slot laws pages true queue lt = header_slot laws pages true queue (time_filling_packet true queue) (time_filling (suc queue) true)
@@ -90,13 +89,19 @@ used_below : (blocks : List Block) (n : ℕ) → n ≤ 8 → AllByRecursion (λ 
 used_below blocks zero le = tt
 used_below blocks (suc n) le = all_append (λ queue. queue < 8) (used_to blocks n) (cond (has_pages blocks n) (n ∷ []) []) (used_below blocks n (omega arith)) (all_if (λ queue. queue < 8) (has_pages blocks n) n (λ _. omega arith))
 
+-- the time-filling header before a block
+filler_read : LawsBelow → (pages : List Authored) (serial : Bool) (queue : ℕ) → queue < 8 → (filler : Bool) → AllByRecursion (λ packet. Reads pages serial (Sent queue packet)) (cond filler (time_filling_packet serial queue ∷ []) [])
+filler_read laws pages serial queue lt filler = all_if (λ packet. Reads pages serial (Sent queue packet)) filler (time_filling_packet serial queue) (λ _. filling_slot laws pages serial queue lt)
+
 -- serial transmission
 block_read : LawsBelow → (pages : List Authored) (lines : ℕ) (block : Block) → IsReadable pages true block → AllByRecursion (Reads pages true) (serial_block lines block)
-block_read laws pages lines block b = (
-  b.header,
-  all_append (Reads pages true) (replicate lines Empty) (map (λ bytes. Sent block.queue (rest_packet bytes)) block.rest)
-      (all_replicate (Reads pages true) lines Empty (empty_slot laws pages true)) (all_map (Reads pages true) (λ bytes. Sent block.queue (rest_packet bytes)) block.rest b.rest),
-)
+block_read laws pages lines block b =
+    all_append (Reads pages true) (map (Sent block.queue) (filler_of true block)) (serial_page lines block)
+    (all_map (Reads pages true) (Sent block.queue) (filler_of true block) (filler_read laws pages true block.queue b.below block.filler)) (
+      b.header,
+      all_append (Reads pages true) (replicate lines Empty) (map (λ bytes. Sent block.queue (rest_packet bytes)) block.rest)
+          (all_replicate (Reads pages true) lines Empty (empty_slot laws pages true)) (all_map (Reads pages true) (λ bytes. Sent block.queue (rest_packet bytes)) block.rest b.rest),
+    )
 
 fillings_read : LawsBelow → (pages : List Authored) (queues : List ℕ) → AllByRecursion (λ queue. queue < 8) queues → AllByRecursion (Reads pages true) (map (λ queue. Sent queue (time_filling_packet true queue)) queues)
 fillings_read laws pages [] a = tt
@@ -120,12 +125,12 @@ with_info_read pages lines info i at (slot ∷ rest) a =
     due (Some bytes) true i = (i bytes refl, tt)
     due (Some bytes) false i = tt
 
-pub serial_read : LawsBelow → (lines : ℕ) (info : Option InfoFields) (class : Class) (pages : List Authored) → IsSaid info → All (IsAuthored true) pages →
-    AllByRecursion (Reads pages true) (serial_slots lines (option_map info_bytes info) (blocks_of class pages))
-serial_read laws lines info class pages said a =
-    let blocks = blocks_of class pages in
-    let list : AllByRecursion (Reads pages true) (serial_list lines blocks) = all_append (Reads pages true) (flat_map (serial_block lines) (sent_blocks blocks)) (map (λ queue. Sent queue (time_filling_packet true queue)) (used_queues blocks))
-    (all_flat_map (Reads pages true) (IsReadable pages true) (serial_block lines) (block_read laws pages lines) (sent_blocks blocks) (sent_read laws true class pages a))
+pub serial_read : LawsBelow → (lines : ℕ) (info : Option InfoFields) (late : Bool) (class : Class) (pages : List Authored) → IsSaid info → All (IsAuthored true) pages →
+    AllByRecursion (Reads pages true) (serial_slots lines (option_map info_bytes info) (sent_of late class pages))
+serial_read laws lines info late class pages said a =
+    let blocks = sent_of late class pages in
+    let list : AllByRecursion (Reads pages true) (serial_list lines blocks) = all_append (Reads pages true) (flat_map (serial_block lines) blocks) (map (λ queue. Sent queue (time_filling_packet true queue)) (used_queues blocks))
+    (all_flat_map (Reads pages true) (IsReadable pages true) (serial_block lines) (block_read laws pages lines) blocks (sent_read laws true late class pages a))
     (fillings_read laws pages (used_queues blocks) (used_below blocks 8 (omega arith))) in
     let laid = with_info lines (option_map info_bytes info) 0 (serial_list lines blocks) in
     all_append (Reads pages true) laid (replicate (missing lines (length laid)) Empty)
@@ -133,19 +138,20 @@ serial_read laws lines info class pages said a =
     (all_replicate (Reads pages true) (missing lines (length laid)) Empty (empty_slot laws pages true))
 
 -- parallel transmission
-in_queue_read : (pages : List Authored) (queue : ℕ) (block : Block) → IsReadable pages false block → AllByRecursion (λ packet. Reads pages false (Sent queue packet)) (cond (eqb block.queue queue) (packets_of block) [])
-in_queue_read pages queue block b = elim (cases_Bool (eqb block.queue queue)) as (λ _. AllByRecursion (λ packet. Reads pages false (Sent queue packet)) (cond (eqb block.queue queue) (packets_of block) [])) [
-  | inl y ↦ subst (AllByRecursion (λ packet. Reads pages false (Sent queue packet))) (sym (cond-true (eqb block.queue queue) (packets_of block) [] y))
-      (subst (λ q. AllByRecursion (λ packet. Reads pages false (Sent q packet)) (packets_of block)) (eqb-true block.queue queue y)
-      (b.header, all_map (λ packet. Reads pages false (Sent block.queue packet)) rest_packet block.rest b.rest))
-  | inr y ↦ subst (AllByRecursion (λ packet. Reads pages false (Sent queue packet))) (sym (cond-false (eqb block.queue queue) (packets_of block) [] y)) tt
+in_queue_read : LawsBelow → (pages : List Authored) (queue : ℕ) (block : Block) → IsReadable pages false block → AllByRecursion (λ packet. Reads pages false (Sent queue packet)) (cond (eqb block.queue queue) (packets_of false block) [])
+in_queue_read laws pages queue block b = elim (cases_Bool (eqb block.queue queue)) as (λ _. AllByRecursion (λ packet. Reads pages false (Sent queue packet)) (cond (eqb block.queue queue) (packets_of false block) [])) [
+  | inl y ↦ subst (AllByRecursion (λ packet. Reads pages false (Sent queue packet))) (sym (cond-true (eqb block.queue queue) (packets_of false block) [] y))
+      (subst (λ q. AllByRecursion (λ packet. Reads pages false (Sent q packet)) (packets_of false block)) (eqb-true block.queue queue y)
+      (all_append (λ packet. Reads pages false (Sent block.queue packet)) (filler_of false block) (page_packets block) (filler_read laws pages false block.queue b.below block.filler)
+      (b.header, all_map (λ packet. Reads pages false (Sent block.queue packet)) rest_packet block.rest b.rest)))
+  | inr y ↦ subst (AllByRecursion (λ packet. Reads pages false (Sent queue packet))) (sym (cond-false (eqb block.queue queue) (packets_of false block) [] y)) tt
 ]
 
-queue_read : LawsBelow → (class : Class) (pages : List Authored) → All (IsAuthored false) pages → (queue : ℕ) → queue < 8 → AllByRecursion (λ packet. Reads pages false (Sent queue packet)) (queue_packets (blocks_of class pages) queue)
-queue_read laws class pages a queue lt =
-    let blocks = blocks_of class pages in
-    all_append (λ packet. Reads pages false (Sent queue packet)) (flat_map (λ block. cond (eqb block.queue queue) (packets_of block) []) (sent_blocks blocks)) (cond (has_pages blocks queue) (time_filling_packet false queue ∷ []) [])
-    (all_flat_map (λ packet. Reads pages false (Sent queue packet)) (IsReadable pages false) (λ block. cond (eqb block.queue queue) (packets_of block) []) (in_queue_read pages queue) (sent_blocks blocks) (sent_read laws false class pages a))
+queue_read : LawsBelow → (late : Bool) (class : Class) (pages : List Authored) → All (IsAuthored false) pages → (queue : ℕ) → queue < 8 → AllByRecursion (λ packet. Reads pages false (Sent queue packet)) (queue_packets false (sent_of late class pages) queue)
+queue_read laws late class pages a queue lt =
+    let blocks = sent_of late class pages in
+    all_append (λ packet. Reads pages false (Sent queue packet)) (flat_map (λ block. cond (eqb block.queue queue) (packets_of false block) []) blocks) (cond (has_pages blocks queue) (time_filling_packet false queue ∷ []) [])
+    (all_flat_map (λ packet. Reads pages false (Sent queue packet)) (IsReadable pages false) (λ block. cond (eqb block.queue queue) (packets_of false block) []) (in_queue_read laws pages queue) blocks (sent_read laws false late class pages a))
     (all_if (λ packet. Reads pages false (Sent queue packet)) (has_pages blocks queue) (time_filling_packet false queue) (λ _. filling_slot laws pages false queue lt))
 
 -- packet 8/30 is what the magazines have
@@ -165,19 +171,19 @@ info_from mags before bytes e = at_info mags.info (is_due mags.lines (length bef
     at_info (Some b) false e = absurd (at (find (is_ready mags before) (order (turn_from before))) e)
     at_info (Some b) true e = let f : Info bytes ≡ Info b = e in let g : b ≡ bytes = cc in ap Some g
 
-pub parallel_read : LawsBelow → (lines : ℕ) (info : Option InfoFields) (class : Class) (pages : List Authored) → IsSaid info → All (IsAuthored false) pages →
-    (before : List Slot) → KeepsTurns (magazines_for lines (option_map info_bytes info) (blocks_of class pages)) before → AllByRecursion (Reads pages false) before
-parallel_read laws lines info class pages said a [] t = tt
-parallel_read laws lines info class pages said a (slot ∷ before) t = (one slot t.0, parallel_read laws lines info class pages said a before t.1)
+pub parallel_read : LawsBelow → (lines : ℕ) (info : Option InfoFields) (late : Bool) (class : Class) (pages : List Authored) → IsSaid info → All (IsAuthored false) pages →
+    (before : List Slot) → KeepsTurns (magazines_for lines (option_map info_bytes info) (sent_of late class pages)) before → AllByRecursion (Reads pages false) before
+parallel_read laws lines info late class pages said a [] t = tt
+parallel_read laws lines info late class pages said a (slot ∷ before) t = (one slot t.0, parallel_read laws lines info late class pages said a before t.1)
   where
-    one : (x : Slot) → x ≡ slot_after (magazines_for lines (option_map info_bytes info) (blocks_of class pages)) before → Reads pages false x
+    one : (x : Slot) → x ≡ slot_after (magazines_for lines (option_map info_bytes info) (sent_of late class pages)) before → Reads pages false x
     one Empty e = empty_slot laws pages false
-    one (Info bytes) e = info_read laws pages false info said bytes (info_from (magazines_for lines (option_map info_bytes info) (blocks_of class pages)) before bytes e)
+    one (Info bytes) e = info_read laws pages false info said bytes (info_from (magazines_for lines (option_map info_bytes info) (sent_of late class pages)) before bytes e)
     one (Sent queue packet) e =
-        let mags = magazines_for lines (option_map info_bytes info) (blocks_of class pages) in
+        let mags = magazines_for lines (option_map info_bytes info) (sent_of late class pages) in
         let from : IsFrom mags before (Sent queue packet) = subst (IsFrom mags before) (sym e) (turn_from_queues mags before) in
-        let next : slice_get (queue_packets (blocks_of class pages) queue) (sent_by queue before) ≡ Some packet = subst (λ x. slice_get x (sent_by queue before) ≡ Some packet) (queue_at_is (blocks_of class pages) queue from.0) from.1 in
-        all_get (λ p. Reads pages false (Sent queue p)) (queue_packets (blocks_of class pages) queue) (sent_by queue before) packet (queue_read laws class pages a queue from.0) next
+        let next : slice_get (queue_packets false (sent_of late class pages) queue) (sent_by queue before) ≡ Some packet = subst (λ x. slice_get x (sent_by queue before) ≡ Some packet) (queue_at_is (sent_of late class pages) queue from.0) from.1 in
+        all_get (λ p. Reads pages false (Sent queue p)) (queue_packets false (sent_of late class pages) queue) (sent_by queue before) packet (queue_read laws late class pages a queue from.0) next
 
 -- the slot at each place
 pub read_at : LawsBelow → (pages : List Authored) (serial : Bool) (before : List Slot) → AllByRecursion (Reads pages serial) before → (i : ℕ) → Reads pages serial (slot_at before i)

@@ -1,5 +1,5 @@
 -- What the two faults say of each answer of a plan.
-use Rattle.std.proofs.Common.{◌≡◌, ℕ, ◌<◌, ◌≤◌, false, true, List, [], ◌∷◌, Result, Ok, Err, length, eqb, ap, sym, arith}
+use Rattle.std.proofs.Common.{◌≡◌, ℕ, ◌<◌, ◌≤◌, Bool, false, true, List, [], ◌∷◌, Result, Ok, Err, length, eqb, ap, sym, arith}
 use Rattle.std.specs.Prelude.{◌↔◌}
 use Rattle.std.proofs.lemmas.Bool.{eqb-true}
 use Rattle.ttx_cycle.specs.declared.cycles.Cycle.{Cycle}
@@ -7,7 +7,7 @@ use Rattle.ttx_page.specs.declared.class.Class.{Class}
 use Rattle.ttx_plan.specs.declared.faults.PlanFault.{PlanFault}
 use Rattle.ttx_plan.specs.declared.faults.PlanFault.TheVariants.{NoPages, TooLong, NoMemory}
 use Rattle.ttx_plan.specs.Blocks.{length_bound}
-use Rattle.ttx_plan.specs.Carries.{blocks_of}
+use Rattle.ttx_plan.specs.Carries.{sent_of}
 use Rattle.ttx_source.specs.Services.{Authored}
 
 abbrev pub Answer : Type 0
@@ -46,6 +46,6 @@ some_alike [] [] same e none = let f : false ≡ true = e in cc
 some_alike (v ∷ values) [] same e none = omega (arith, same)
 
 -- without pages the bound is two fields
-pub bound_of_none : (class : Class) (lines : ℕ) (pages : List Authored) → lines ≤ 32 → pages ≡ [] → 65536 < length_bound lines (blocks_of class pages) → ⊥
-bound_of_none class lines [] few none long = omega arith
-bound_of_none class lines (p ∷ pages) few none long = cc
+pub bound_of_none : (late : Bool) (class : Class) (lines : ℕ) (pages : List Authored) → lines ≤ 32 → pages ≡ [] → 65536 < length_bound lines (sent_of late class pages) → ⊥
+bound_of_none late class lines [] few none long = omega arith
+bound_of_none late class lines (p ∷ pages) few none long = cc

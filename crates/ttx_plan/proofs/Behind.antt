@@ -1,14 +1,14 @@
 -- In a serial cycle each row and X/27/0 stands more than a field behind its own header, with no other header between.
-use Rattle.std.proofs.Common.{◌≡◌, ℕ, zero, suc, ◌+◌, ◌<◌, ◌≤◌, Bool, true, false, List, [], ◌∷◌, ◌++◌, map, length, replicate, Option, Some, None, refl, sym, ap, ◌∙◌, subst, arith, append_assoc}
+use Rattle.std.proofs.Common.{◌≡◌, ℕ, zero, suc, ◌+◌, ◌<◌, ◌≤◌, Bool, true, false, cond, List, [], ◌∷◌, ◌++◌, map, length, replicate, Option, Some, None, refl, sym, ap, ◌∙◌, subst, arith, append_assoc}
 use Rattle.std.specs.Prelude.{slice_get, flat_map}
 use Rattle.std.specs.Bool.{MatchBool}
 use Rattle.ttx_plan.specs.declared.packet.Packet.{Packet}
 use Rattle.ttx_plan.specs.declared.packet.Slot.{Slot}
 use Rattle.ttx_plan.specs.declared.packet.Slot.TheVariants.{Empty, Info, Sent}
-use Rattle.ttx_plan.specs.Blocks.{Block, rest_packet, sent_blocks, used_queues, time_filling_packet}
+use Rattle.ttx_plan.specs.Blocks.{Block, rest_packet, filler_of, used_queues, time_filling_packet}
 use Rattle.ttx_plan.specs.Packets.{is_row_or_links}
 use Rattle.ttx_plan.specs.Turns.{is_due}
-use Rattle.ttx_plan.specs.Serial.{serial_block, serial_list, info_if, with_info}
+use Rattle.ttx_plan.specs.Serial.{serial_page, serial_block, serial_list, info_if, with_info}
 use Rattle.ttx_plan.proofs.InQueues.{IsOf, head_of}
 
 -- a late packet after the header h of magazine m, which stands `age` slots before
@@ -87,11 +87,20 @@ rows_follow lines blocks block index listed (x ∷ rows) at item age lt slots f 
   rows_follow lines blocks block index listed rows (suc at) (λ k y g. let e : suc at + k ≡ at + suc k = omega arith in ap (slice_get block.rest) e ∙ item (suc k) y g) (suc age) (omega arith) slots f,
 )
 
-block_follows : (lines : ℕ) (blocks : List Block) (block : Block) (index : ℕ) → slice_get blocks index ≡ Some block → (slots : List Slot) → AnyFollows lines blocks slots → AnyFollows lines blocks (serial_block lines block ++ slots)
-block_follows lines blocks block index listed slots f mag header age =
+page_follows : (lines : ℕ) (blocks : List Block) (block : Block) (index : ℕ) → slice_get blocks index ≡ Some block → (slots : List Slot) → AnyFollows lines blocks slots → AnyFollows lines blocks (serial_page lines block ++ slots)
+page_follows lines blocks block index listed slots f mag header age =
     subst (Follows lines blocks block.queue (Some (head_of block)) 1) (sym (append_assoc (replicate lines Empty) (map (λ bytes. Sent block.queue (rest_packet bytes)) block.rest) slots))
     (gaps_follow lines blocks block.queue (Some (head_of block)) 1 lines (map (λ bytes. Sent block.queue (rest_packet bytes)) block.rest ++ slots)
     (rows_follow lines blocks block index listed block.rest 0 (λ k x g. let e : 0 + k ≡ k = omega arith in ap (slice_get block.rest) e ∙ g) (1 + lines) (omega arith) slots f))
+
+filler_follows : (lines : ℕ) (blocks : List Block) (queue : ℕ) (b : Bool) (slots : List Slot) → AnyFollows lines blocks slots → AnyFollows lines blocks (map (Sent queue) (cond b (time_filling_packet true queue ∷ []) []) ++ slots)
+filler_follows lines blocks queue true slots f mag header age = f queue (Some (time_filling_packet true queue)) 1
+filler_follows lines blocks queue false slots f mag header age = f mag header age
+
+block_follows : (lines : ℕ) (blocks : List Block) (block : Block) (index : ℕ) → slice_get blocks index ≡ Some block → (slots : List Slot) → AnyFollows lines blocks slots → AnyFollows lines blocks (serial_block lines block ++ slots)
+block_follows lines blocks block index listed slots f mag header age =
+    subst (Follows lines blocks mag header age) (sym (append_assoc (map (Sent block.queue) (filler_of true block)) (serial_page lines block) slots))
+    (filler_follows lines blocks block.queue block.filler (serial_page lines block ++ slots) (page_follows lines blocks block index listed slots f) mag header age)
 
 blocks_follow : (lines : ℕ) (blocks some : List Block) (at : ℕ) → ((k : ℕ) (p : Block) → slice_get some k ≡ Some p → slice_get blocks (at + k) ≡ Some p) → (slots : List Slot) → AnyFollows lines blocks slots → AnyFollows lines blocks (flat_map (serial_block lines) some ++ slots)
 blocks_follow lines blocks [] at item slots f = f
@@ -104,8 +113,8 @@ fillers_follow : (lines : ℕ) (blocks : List Block) (queues : List ℕ) → Any
 fillers_follow lines blocks [] mag header age = tt
 fillers_follow lines blocks (m ∷ queues) mag header age = fillers_follow lines blocks queues m (Some (time_filling_packet true m)) 1
 
-pub serial_follows : (lines : ℕ) (blocks : List Block) → AnyFollows lines (sent_blocks blocks) (serial_list lines blocks)
-serial_follows lines blocks = blocks_follow lines (sent_blocks blocks) (sent_blocks blocks) 0 (λ k p g. let e : 0 + k ≡ k = omega arith in ap (slice_get (sent_blocks blocks)) e ∙ g) (map (λ m. Sent m (time_filling_packet true m)) (used_queues blocks)) (fillers_follow lines (sent_blocks blocks) (used_queues blocks))
+pub serial_follows : (lines : ℕ) (blocks : List Block) → AnyFollows lines blocks (serial_list lines blocks)
+serial_follows lines blocks = blocks_follow lines blocks blocks 0 (λ k p g. let e : 0 + k ≡ k = omega arith in ap (slice_get blocks) e ∙ g) (map (λ m. Sent m (time_filling_packet true m)) (used_queues blocks)) (fillers_follow lines blocks (used_queues blocks))
 
-pub laid_follows : (lines : ℕ) (info : Option (List ℕ)) (blocks : List Block) → Follows lines (sent_blocks blocks) 0 None 0 (with_info lines info 0 (serial_list lines blocks))
-laid_follows lines info blocks = informed_follows lines (sent_blocks blocks) 0 None 0 info lines 0 (serial_list lines blocks) (serial_follows lines blocks 0 None 0)
+pub laid_follows : (lines : ℕ) (info : Option (List ℕ)) (blocks : List Block) → Follows lines blocks 0 None 0 (with_info lines info 0 (serial_list lines blocks))
+laid_follows lines info blocks = informed_follows lines blocks 0 None 0 info lines 0 (serial_list lines blocks) (serial_follows lines blocks 0 None 0)

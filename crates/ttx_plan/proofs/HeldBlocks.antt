@@ -5,8 +5,8 @@ use Rattle.std.specs.List.{AllByRecursion}
 use Rattle.std.proofs.lemmas.List.{get_or_at, get_or-append-add, map-append}
 use Rattle.ttx_plan.specs.declared.packet.Slot.{Slot}
 use Rattle.ttx_plan.specs.declared.packet.Slot.TheVariants.{Empty, Sent}
-use Rattle.ttx_plan.specs.Blocks.{Block, rest_packet, sent_blocks, used_queues, time_filling_packet}
-use Rattle.ttx_plan.specs.Serial.{serial_block, serial_list, info_if, with_info, serial_slots}
+use Rattle.ttx_plan.specs.Blocks.{Block, rest_packet, filler_of, used_queues, time_filling_packet}
+use Rattle.ttx_plan.specs.Serial.{serial_page, serial_block, serial_list, info_if, with_info, serial_slots}
 use Rattle.ttx_plan.specs.Turns.{is_due, missing}
 use Rattle.ttx_plan.proofs.InQueues.{head_of}
 use Rattle.ttx_plan.proofs.Laid.{with_info_append}
@@ -124,8 +124,8 @@ rows_quiet : (block : Block) (rows : List (List ℕ)) → AllByRecursion (λ slo
 rows_quiet block [] = tt
 rows_quiet block (bytes ∷ rows) = (and_false (eqb block.queue block.queue), rows_quiet block rows)
 
-block_holds : (lines : ℕ) (block : Block) (bytes : List ℕ) → Splits bytes block.rest → Holds block bytes (serial_block lines block)
-block_holds lines block bytes s = record {
+page_holds : (lines : ℕ) (block : Block) (bytes : List ℕ) → Splits bytes block.rest → Holds block bytes (serial_page lines block)
+page_holds lines block bytes s = record {
   before = [];
   between = replicate lines Empty ++ map (rest_slot block) s.before;
   after = map (rest_slot block) s.after;
@@ -145,29 +145,32 @@ stands_in f [] k x e = let g : None ≡ Some x = e in cc
 stands_in f (y ∷ xs) zero x e = let g : Some y ≡ Some x = e in let h : y ≡ x = cc in record { before = []; after = flat_map f xs; is = ap (λ z. f z ++ flat_map f xs) h }
 stands_in f (y ∷ xs) (suc k) x e = let s = stands_in f xs k x e in record { before = f y ++ s.before; after = s.after; is = ap (λ z. f y ++ z) s.is ∙ sym (append_assoc (f y) s.before (f x ++ s.after)) }
 
-serial_stands : (lines : ℕ) (blocks : List Block) (k : ℕ) (block : Block) → slice_get (sent_blocks blocks) k ≡ Some block → Stands (serial_block lines block) (serial_list lines blocks)
+serial_stands : (lines : ℕ) (blocks : List Block) (k : ℕ) (block : Block) → slice_get blocks k ≡ Some block → Stands (serial_page lines block) (serial_list lines blocks)
 serial_stands lines blocks k block e =
-    let s = stands_in (serial_block lines) (sent_blocks blocks) k block e in
+    let s = stands_in (serial_block lines) blocks k block e in
     let fillings = map (λ queue. Sent queue (time_filling_packet true queue)) (used_queues blocks) in
+    let filler = map (Sent block.queue) (filler_of true block) in
+    let page = serial_page lines block in
     record {
-      before = s.before;
+      before = s.before ++ filler;
       after = s.after ++ fillings;
-      is = ap (λ z. z ++ fillings) s.is ∙ append_assoc s.before (serial_block lines block ++ s.after) fillings ∙ ap (λ z. s.before ++ z) (append_assoc (serial_block lines block) s.after fillings);
+      is = ap (λ z. z ++ fillings) (s.is ∙ ap (λ z. s.before ++ z) (append_assoc filler page s.after) ∙ sym (append_assoc s.before filler (page ++ s.after)))
+          ∙ append_assoc (s.before ++ filler) (page ++ s.after) fillings ∙ ap (λ z. (s.before ++ filler) ++ z) (append_assoc page s.after fillings);
     }
 
-pub serial_head : (lines : ℕ) (info : Option (List ℕ)) (blocks : List Block) (k : ℕ) (block : Block) → slice_get (sent_blocks blocks) k ≡ Some block → HoldsHead block (serial_slots lines info blocks)
+pub serial_head : (lines : ℕ) (info : Option (List ℕ)) (blocks : List Block) (k : ℕ) (block : Block) → slice_get blocks k ≡ Some block → HoldsHead block (serial_slots lines info blocks)
 serial_head lines info blocks k block e =
     let s = serial_stands lines blocks k block e in
     let laid = with_info lines info 0 (serial_list lines blocks) in
     head_more block [] laid (replicate (missing lines (length laid)) Empty)
-    (head_informed lines info block (serial_list lines blocks) 0 (subst (HoldsHead block) (sym s.is) (head_more block s.before (serial_block lines block) s.after (record { before = []; after = _; is = refl }))))
+    (head_informed lines info block (serial_list lines blocks) 0 (subst (HoldsHead block) (sym s.is) (head_more block s.before (serial_page lines block) s.after (record { before = []; after = _; is = refl }))))
 
-pub serial_holds : (lines : ℕ) (info : Option (List ℕ)) (blocks : List Block) (k : ℕ) (block : Block) → slice_get (sent_blocks blocks) k ≡ Some block → (bytes : List ℕ) → Splits bytes block.rest → Holds block bytes (serial_slots lines info blocks)
+pub serial_holds : (lines : ℕ) (info : Option (List ℕ)) (blocks : List Block) (k : ℕ) (block : Block) → slice_get blocks k ≡ Some block → (bytes : List ℕ) → Splits bytes block.rest → Holds block bytes (serial_slots lines info blocks)
 serial_holds lines info blocks k block e bytes split =
     let s = serial_stands lines blocks k block e in
     let laid = with_info lines info 0 (serial_list lines blocks) in
     holds_more block bytes [] laid (replicate (missing lines (length laid)) Empty)
-    (holds_informed lines info block bytes (serial_list lines blocks) 0 (subst (Holds block bytes) (sym s.is) (holds_more block bytes s.before (serial_block lines block) s.after (block_holds lines block bytes split))))
+    (holds_informed lines info block bytes (serial_list lines blocks) 0 (subst (Holds block bytes) (sym s.is) (holds_more block bytes s.before (serial_page lines block) s.after (page_holds lines block bytes split))))
 
 -- ---- places
 

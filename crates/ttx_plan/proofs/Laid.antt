@@ -1,7 +1,11 @@
 -- Slots laid one after another.
-use Rattle.std.proofs.Common.{◌≡◌, ℕ, ◌+◌, ◌*◌, ◌≤◌, Bool, true, false, List, [], ◌∷◌, ◌++◌, map, length, Option, Some, None, refl, sym, ap, ◌∙◌, subst, arith, append_assoc, length-append}
+use Rattle.std.proofs.Common.{◌≡◌, ℕ, ◌+◌, ◌*◌, ◌≤◌, Bool, true, false, cond, Result, Ok, Err, List, [], ◌∷◌, ◌++◌, map, length, Option, Some, None, refl, sym, ap, ◌∙◌, subst, arith, append_assoc, length-append}
 use Rattle.std.proofs.lemmas.List.{map-append, length-map}
+use Rattle.std.specs.Prelude.{IfOk}
+use Rattle.std.proofs.lemmas.Bool.{cond-true, cond-false}
 use Rattle.ttx_plan.specs.declared.packet.Slot.{Slot}
+use Rattle.ttx_plan.specs.declared.packet.Slot.TheVariants.{Sent}
+use Rattle.ttx_plan.specs.Blocks.{time_filling_packet}
 use Rattle.ttx_plan.specs.Packets.{bytes_of}
 use Rattle.ttx_plan.specs.Turns.{is_due}
 use Rattle.ttx_plan.specs.Serial.{info_if, with_info, IsLaid}
@@ -60,3 +64,17 @@ with_info_least lines info at (slot ∷ rest) =
 
 pub laid_least : (lines : ℕ) (info : Option (List ℕ)) (list : List Slot) (slots : List (List ℕ)) → IsLaid lines info list slots → length list ≤ length slots
 laid_least lines info list slots l = omega (arith, ap length l.slots_are, length-map (with_info lines info 0 list) bytes_of, with_info_least lines info 0 list)
+
+-- ---- a block's page, behind a time-filling header or not
+
+pub if_ok : {A E : Type 0} {P Q : A → Type 0} (result : Result A E) → ((x : A) → P x → Q x) → IfOk result P → IfOk result Q
+if_ok (Ok x) f p = f x p
+if_ok (Err e) f p = tt
+
+pub led_list : (list : List Slot) (queue : ℕ) (filler : Bool) (page : List Slot) → filler ≡ true →
+    (list ++ Sent queue (time_filling_packet true queue) ∷ []) ++ page ≡ list ++ (map (Sent queue) (cond filler (time_filling_packet true queue ∷ []) []) ++ page)
+led_list list queue filler page e =
+    append_assoc list (Sent queue (time_filling_packet true queue) ∷ []) page ∙ ap (λ ps. list ++ (map (Sent queue) ps ++ page)) (sym (cond-true filler (time_filling_packet true queue ∷ []) [] e))
+
+pub unled_list : (list : List Slot) (queue : ℕ) (filler : Bool) (page : List Slot) → filler ≡ false → list ++ page ≡ list ++ (map (Sent queue) (cond filler (time_filling_packet true queue ∷ []) []) ++ page)
+unled_list list queue filler page e = ap (λ ps. list ++ (map (Sent queue) ps ++ page)) (sym (cond-false filler (time_filling_packet true queue ∷ []) [] e))

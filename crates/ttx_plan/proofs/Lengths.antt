@@ -1,18 +1,18 @@
 -- The queues hold what the bound on the length counts, and the slots of a serial cycle are within it.
 use Rattle.std.proofs.Common.{◌≡◌, ℕ, zero, suc, ◌+◌, ◌*◌, ◌<◌, ◌≤◌, Bool, true, false, cond, List, [], ◌∷◌, ◌++◌, map, length, replicate, Option, refl, sym, ap, ◌∙◌, subst, arith, inl, inr, eqb, length-append, get_or}
-use Rattle.std.specs.Prelude.{flat_map, sum_by, filter}
+use Rattle.std.specs.Prelude.{flat_map, sum_by}
 use Rattle.std.proofs.lemmas.List.{map-append, length-map, length-replicate}
 use Rattle.std.proofs.lemmas.List.Sums.{sum_by-cons}
-use Rattle.std.proofs.lemmas.Bool.{cond-true, cond-false, cond_both, cases_eq, eq-eqb, ne_eqb, or_left}
+use Rattle.std.proofs.lemmas.Bool.{cond-true, cond-false, cases_eq, eq-eqb, ne_eqb, or_left}
 use Rattle.ttx_plan.specs.declared.packet.Packet.{Packet}
 use Rattle.ttx_plan.specs.declared.packet.Slot.{Slot}
 use Rattle.ttx_plan.specs.declared.packet.Slot.TheVariants.{Empty, Sent}
-use Rattle.ttx_plan.specs.declared.block.PageBlock.{PageBlock}
-use Rattle.ttx_plan.specs.Blocks.{Block, rest_packet, packets_of, round_of, rounds_to, sent_blocks, has_pages, used_to, used_queues, time_filling_packet, queue_packets, queues_to, packets_in}
+use Rattle.ttx_plan.specs.declared.rounds.SentBlock.{SentBlock}
+use Rattle.ttx_plan.specs.Blocks.{Block, rest_packet, filler_of, page_packets, packets_of, has_pages, used_to, used_queues, time_filling_packet, queue_packets, queues_to, packets_in}
 use Rattle.ttx_plan.specs.Counting.{sum_to, slots_for}
 use Rattle.ttx_plan.specs.Packets.{bytes_of}
-use Rattle.ttx_plan.specs.Seen.{seen}
-use Rattle.ttx_plan.specs.Serial.{serial_block, serial_list, with_info, IsLaid, filled}
+use Rattle.ttx_plan.specs.Seen.{seen_sent}
+use Rattle.ttx_plan.specs.Serial.{serial_page, serial_block, serial_list, with_info, IsLaid, filled}
 use Rattle.ttx_plan.specs.Turns.{missing}
 use Rattle.ttx_plan.proofs.Sums.{sum_same, sum_less}
 use Rattle.ttx_plan.proofs.Laid.{laid_length, laid_least}
@@ -23,21 +23,9 @@ abbrev pub AreQueued : List Block → Type 0
 AreQueued [] = Unit {0}
 AreQueued (b ∷ blocks) = (b.queue < 8) × AreQueued blocks
 
-pub queued_seen : (blocks : List PageBlock) → AreQueued (map seen blocks)
-queued_seen [] = tt
-queued_seen (b ∷ blocks) = (b.queue_to, queued_seen blocks)
-
-queued_append : (xs ys : List Block) → AreQueued xs → AreQueued ys → AreQueued (xs ++ ys)
-queued_append [] ys a b = b
-queued_append (x ∷ xs) ys a b = (a.0, queued_append xs ys a.1 b)
-
-queued_filter : (p : Block → Bool) (xs : List Block) → AreQueued xs → AreQueued (filter p xs)
-queued_filter p [] a = tt
-queued_filter p (x ∷ xs) a = cond_both (p x) (x ∷ filter p xs) (filter p xs) AreQueued (λ _. (a.0, queued_filter p xs a.1)) (λ _. queued_filter p xs a.1)
-
-queued_rounds : (blocks : List Block) (n : ℕ) → AreQueued blocks → AreQueued (rounds_to blocks n)
-queued_rounds blocks zero a = tt
-queued_rounds blocks (suc n) a = queued_append (rounds_to blocks n) (round_of blocks n) (queued_rounds blocks n a) (queued_filter _ blocks a)
+pub queued_sent : (sent : List SentBlock) → AreQueued (map seen_sent sent)
+queued_sent [] = tt
+queued_sent (b ∷ sent) = (b.block.now.queue_to, queued_sent sent)
 
 -- ---- what the queues hold
 
@@ -69,21 +57,35 @@ sum_at f (suc n) m lt = elim (cases_eq m n) as (λ _. f m ≤ sum_to n f + f n) 
 
 -- a block's packets in this queue
 abbrev pub in_queue : ℕ → Block → List Packet
-in_queue queue block = cond (eqb block.queue queue) (packets_of block) []
+in_queue queue block = cond (eqb block.queue queue) (packets_of false block) []
 
-blocks_slots : (lines : ℕ) (blocks : List Block) → AreQueued blocks → sum_to 8 (λ m. slots_for lines (flat_map (in_queue m) blocks)) ≡ sum_by (λ b. length b.rest + 1) blocks + length blocks * lines
+-- the packets of a block, and its time-filling header
+abbrev pub size_of : Block → ℕ
+size_of block = cond block.filler 1 0 + (length block.rest + 1)
+
+own_slots : (lines : ℕ) (block : Block) → slots_for lines (packets_of false block) ≡ size_of block + lines
+own_slots lines block =
+    slots_for-append lines (filler_of false block) (page_packets block)
+    ∙ ap (λ n. n + slots_for lines (page_packets block)) (one block.filler)
+    ∙ ap (λ n. cond block.filler 1 0 + (suc lines + n)) (slots_for-rest lines block.rest) ∙ omega arith
+  where
+    one : (b : Bool) → slots_for lines (cond b (time_filling_packet false block.queue ∷ []) []) ≡ cond b 1 0
+    one true = refl
+    one false = refl
+
+blocks_slots : (lines : ℕ) (blocks : List Block) → AreQueued blocks → sum_to 8 (λ m. slots_for lines (flat_map (in_queue m) blocks)) ≡ sum_by size_of blocks + length blocks * lines
 blocks_slots lines [] a = sum_zero 8 ∙ omega arith
 blocks_slots lines (block ∷ blocks) a =
-    let h : sum_to 8 (λ m. slots_for lines (flat_map (in_queue m) blocks)) ≡ sum_by (λ b. length b.rest + 1) blocks + length blocks * lines = blocks_slots lines blocks a.1 in
-    let k : sum_to 8 (λ m. slots_for lines (in_queue m block ++ flat_map (in_queue m) blocks)) ≡ (suc lines + length block.rest) + sum_to 8 (λ m. slots_for lines (flat_map (in_queue m) blocks)) =
-    sum_less (λ m. slots_for lines (in_queue m block ++ flat_map (in_queue m) blocks)) (λ m. slots_for lines (flat_map (in_queue m) blocks)) (suc lines + length block.rest) 8 block.queue a.0
+    let h : sum_to 8 (λ m. slots_for lines (flat_map (in_queue m) blocks)) ≡ sum_by size_of blocks + length blocks * lines = blocks_slots lines blocks a.1 in
+    let k : sum_to 8 (λ m. slots_for lines (in_queue m block ++ flat_map (in_queue m) blocks)) ≡ (size_of block + lines) + sum_to 8 (λ m. slots_for lines (flat_map (in_queue m) blocks)) =
+    sum_less (λ m. slots_for lines (in_queue m block ++ flat_map (in_queue m) blocks)) (λ m. slots_for lines (flat_map (in_queue m) blocks)) (size_of block + lines) 8 block.queue a.0
     (slots_for-append lines (in_queue block.queue block) (flat_map (in_queue block.queue) blocks) ∙ ap (λ n. n + slots_for lines (flat_map (in_queue block.queue) blocks)) (own block))
-    (λ m ne. ap (λ x. slots_for lines (x ++ flat_map (in_queue m) blocks)) (cond-false (eqb block.queue m) (packets_of block) [] (ne_eqb block.queue m (λ e. ne (sym e))))) in
+    (λ m ne. ap (λ x. slots_for lines (x ++ flat_map (in_queue m) blocks)) (cond-false (eqb block.queue m) (packets_of false block) [] (ne_eqb block.queue m (λ e. ne (sym e))))) in
     let z : suc (length blocks) * lines ≡ lines + length blocks * lines = omega arith in
-    k ∙ omega (arith, h, z, sum_by-cons (λ (b : Block). length b.rest + 1) block blocks)
+    k ∙ omega (arith, h, z, sum_by-cons size_of block blocks)
   where
-    own : (b : Block) → slots_for lines (in_queue b.queue b) ≡ suc lines + length b.rest
-    own b = ap (slots_for lines) (cond-true (eqb b.queue b.queue) (packets_of b) [] (eq-eqb b.queue b.queue refl)) ∙ ap (λ n. suc lines + n) (slots_for-rest lines b.rest)
+    own : (b : Block) → slots_for lines (in_queue b.queue b) ≡ size_of b + lines
+    own b = ap (slots_for lines) (cond-true (eqb b.queue b.queue) (packets_of false b) [] (eq-eqb b.queue b.queue refl)) ∙ own_slots lines b
 
 fillings_slots : (lines : ℕ) (blocks : List Block) (n : ℕ) → sum_to n (λ m. slots_for lines (cond (has_pages blocks m) (time_filling_packet false m ∷ []) [])) ≡ length (used_to blocks n)
 fillings_slots lines blocks zero = refl
@@ -96,26 +98,26 @@ fillings_slots lines blocks (suc n) =
     one true = refl
     one false = refl
 
-pub queues_slots : (lines : ℕ) (blocks : List Block) → AreQueued blocks → sum_to 8 (λ m. slots_for lines (queue_packets blocks m)) ≡ packets_in blocks + length (sent_blocks blocks) * lines + length (used_queues blocks)
+pub queues_slots : (lines : ℕ) (blocks : List Block) → AreQueued blocks → sum_to 8 (λ m. slots_for lines (queue_packets false blocks m)) ≡ packets_in blocks + length blocks * lines + length (used_queues blocks)
 queues_slots lines blocks a =
-    sum_same (λ m. slots_for lines (queue_packets blocks m)) (λ m. slots_for lines (flat_map (in_queue m) (sent_blocks blocks)) + slots_for lines (cond (has_pages blocks m) (time_filling_packet false m ∷ []) [])) 8
-    (λ m lt. slots_for-append lines (flat_map (in_queue m) (sent_blocks blocks)) (cond (has_pages blocks m) (time_filling_packet false m ∷ []) []))
-    ∙ sum_add (λ m. slots_for lines (flat_map (in_queue m) (sent_blocks blocks))) (λ m. slots_for lines (cond (has_pages blocks m) (time_filling_packet false m ∷ []) [])) 8
-    ∙ ap (λ n. n + sum_to 8 (λ m. slots_for lines (cond (has_pages blocks m) (time_filling_packet false m ∷ []) []))) (blocks_slots lines (sent_blocks blocks) (queued_rounds blocks 8 a))
-    ∙ ap (λ n. sum_by (λ b. length b.rest + 1) (sent_blocks blocks) + length (sent_blocks blocks) * lines + n) (fillings_slots lines blocks 8)
+    sum_same (λ m. slots_for lines (queue_packets false blocks m)) (λ m. slots_for lines (flat_map (in_queue m) blocks) + slots_for lines (cond (has_pages blocks m) (time_filling_packet false m ∷ []) [])) 8
+    (λ m lt. slots_for-append lines (flat_map (in_queue m) blocks) (cond (has_pages blocks m) (time_filling_packet false m ∷ []) []))
+    ∙ sum_add (λ m. slots_for lines (flat_map (in_queue m) blocks)) (λ m. slots_for lines (cond (has_pages blocks m) (time_filling_packet false m ∷ []) [])) 8
+    ∙ ap (λ n. n + sum_to 8 (λ m. slots_for lines (cond (has_pages blocks m) (time_filling_packet false m ∷ []) []))) (blocks_slots lines blocks a)
+    ∙ ap (λ n. sum_by size_of blocks + length blocks * lines + n) (fillings_slots lines blocks 8)
 
-pub queues_some : (blocks : List Block) → AreQueued blocks → 0 < length blocks → 0 < sum_to 8 (λ m. length (queue_packets blocks m))
+pub queues_some : (blocks : List Block) → AreQueued blocks → 0 < length blocks → 0 < sum_to 8 (λ m. length (queue_packets false blocks m))
 queues_some [] a h = absurd (omega arith)
 queues_some (block ∷ blocks) a h =
     let own : has_pages (block ∷ blocks) block.queue ≡ true = or_left (eqb block.queue block.queue) (has_pages blocks block.queue) (eq-eqb block.queue block.queue refl) in
     let one : length (cond (has_pages (block ∷ blocks) block.queue) (time_filling_packet false block.queue ∷ []) []) ≡ 1 = ap length (cond-true (has_pages (block ∷ blocks) block.queue) (time_filling_packet false block.queue ∷ []) [] own) in
-    let most : length (queue_packets (block ∷ blocks) block.queue) ≤ sum_to 8 (λ m. length (queue_packets (block ∷ blocks) m)) = sum_at (λ m. length (queue_packets (block ∷ blocks) m)) 8 block.queue a.0 in
-    let size = length-append (flat_map (in_queue block.queue) (sent_blocks (block ∷ blocks))) (cond (has_pages (block ∷ blocks) block.queue) (time_filling_packet false block.queue ∷ []) []) in
+    let most : length (queue_packets false (block ∷ blocks) block.queue) ≤ sum_to 8 (λ m. length (queue_packets false (block ∷ blocks) m)) = sum_at (λ m. length (queue_packets false (block ∷ blocks) m)) 8 block.queue a.0 in
+    let size = length-append (flat_map (in_queue block.queue) (block ∷ blocks)) (cond (has_pages (block ∷ blocks) block.queue) (time_filling_packet false block.queue ∷ []) []) in
     omega (arith, one, most, size)
 
 -- the same over queues as lists
-pub over_queues : (f : List Packet → ℕ) (blocks : List Block) (lists : List (List Packet)) → lists ≡ queues_to blocks 8 → sum_to 8 (λ m. f (get_or lists m [])) ≡ sum_to 8 (λ m. f (queue_packets blocks m))
-over_queues f blocks lists e = subst (λ x. sum_to 8 (λ m. f (get_or x m [])) ≡ sum_to 8 (λ m. f (queue_packets blocks m))) (sym e) refl
+pub over_queues : (f : List Packet → ℕ) (blocks : List Block) (lists : List (List Packet)) → lists ≡ queues_to blocks 8 → sum_to 8 (λ m. f (get_or lists m [])) ≡ sum_to 8 (λ m. f (queue_packets false blocks m))
+over_queues f blocks lists e = subst (λ x. sum_to 8 (λ m. f (get_or x m [])) ≡ sum_to 8 (λ m. f (queue_packets false blocks m))) (sym e) refl
 
 -- ---- serial transmission
 
@@ -133,28 +135,36 @@ serial_filled lines info list slots new l e =
     ∙ ap (λ x. map bytes_of (with_info lines info 0 list) ++ x) (sym (empties (missing lines (length (with_info lines info 0 list)))))
     ∙ sym (map-append bytes_of (with_info lines info 0 list) (replicate (missing lines (length (with_info lines info 0 list))) Empty))
 
-block_length : (lines : ℕ) (block : Block) → length (serial_block lines block) ≡ suc lines + length block.rest
-block_length lines block =
+page_length : (lines : ℕ) (block : Block) → length (serial_page lines block) ≡ suc lines + length block.rest
+page_length lines block =
     omega (arith, length-append (replicate lines Empty) (map (λ bytes. Sent block.queue (rest_packet bytes)) block.rest), length-replicate lines Empty, length-map block.rest (λ bytes. Sent block.queue (rest_packet bytes)))
 
-blocks_length : (lines : ℕ) (blocks : List Block) → length (flat_map (serial_block lines) blocks) ≡ sum_by (λ b. length b.rest + 1) blocks + length blocks * lines
+block_length : (lines : ℕ) (block : Block) → length (serial_block lines block) ≡ size_of block + lines
+block_length lines block =
+    omega (arith, length-append (map (Sent block.queue) (filler_of true block)) (serial_page lines block), length-map (filler_of true block) (Sent block.queue), one block.filler, page_length lines block)
+  where
+    one : (b : Bool) → length (cond b (time_filling_packet true block.queue ∷ []) []) ≡ cond b 1 0
+    one true = refl
+    one false = refl
+
+blocks_length : (lines : ℕ) (blocks : List Block) → length (flat_map (serial_block lines) blocks) ≡ sum_by size_of blocks + length blocks * lines
 blocks_length lines [] = omega arith
 blocks_length lines (block ∷ blocks) =
-    let h : length (flat_map (serial_block lines) blocks) ≡ sum_by (λ b. length b.rest + 1) blocks + length blocks * lines = blocks_length lines blocks in
+    let h : length (flat_map (serial_block lines) blocks) ≡ sum_by size_of blocks + length blocks * lines = blocks_length lines blocks in
     let z : suc (length blocks) * lines ≡ lines + length blocks * lines = omega arith in
-    omega (arith, h, z, sum_by-cons (λ (b : Block). length b.rest + 1) block blocks, block_length lines block, length-append (serial_block lines block) (flat_map (serial_block lines) blocks))
+    omega (arith, h, z, sum_by-cons size_of block blocks, block_length lines block, length-append (serial_block lines block) (flat_map (serial_block lines) blocks))
 
-serial_length : (lines : ℕ) (blocks : List Block) → length (serial_list lines blocks) ≡ packets_in blocks + length (sent_blocks blocks) * lines + length (used_queues blocks)
+serial_length : (lines : ℕ) (blocks : List Block) → length (serial_list lines blocks) ≡ packets_in blocks + length blocks * lines + length (used_queues blocks)
 serial_length lines blocks =
-    omega (arith, length-append (flat_map (serial_block lines) (sent_blocks blocks)) (map (λ queue. Sent queue (time_filling_packet true queue)) (used_queues blocks)), blocks_length lines (sent_blocks blocks), length-map (used_queues blocks) (λ queue. Sent queue (time_filling_packet true queue)))
+    omega (arith, length-append (flat_map (serial_block lines) blocks) (map (λ queue. Sent queue (time_filling_packet true queue)) (used_queues blocks)), blocks_length lines blocks, length-map (used_queues blocks) (λ queue. Sent queue (time_filling_packet true queue)))
 
 pub filled_most : (lines : ℕ) (info : Option (List ℕ)) (blocks : List Block) (slots new : List (List ℕ)) → 1 ≤ lines → IsLaid lines info (serial_list lines blocks) slots →
     new ≡ slots ++ replicate (missing lines (length slots)) (replicate 42 0) →
-    2 * (packets_in blocks + length (sent_blocks blocks) * lines + length (used_queues blocks)) + 2 * lines ≤ 65536 → length new ≤ 65536
+    2 * (packets_in blocks + length blocks * lines + length (used_queues blocks)) + 2 * lines ≤ 65536 → length new ≤ 65536
 filled_most lines info blocks slots new some l e few =
     let size : length new ≡ length slots + missing lines (length slots) = ap length e ∙ length-append slots (replicate (missing lines (length slots)) (replicate 42 0)) ∙ ap (λ n. length slots + n) (length-replicate (missing lines (length slots)) (replicate 42 0)) in
     let rest : missing lines (length slots) ≤ lines = omega arith in
-    let q : length (serial_list lines blocks) ≡ packets_in blocks + length (sent_blocks blocks) * lines + length (used_queues blocks) = serial_length lines blocks in
+    let q : length (serial_list lines blocks) ≡ packets_in blocks + length blocks * lines + length (used_queues blocks) = serial_length lines blocks in
     let two : length slots ≤ 2 * length (serial_list lines blocks) = laid_length lines info (serial_list lines blocks) slots l in
     bound (length new) (length slots) (missing lines (length slots)) (length (serial_list lines blocks)) lines size rest two (subst (λ n. 2 * n + 2 * lines ≤ 65536) (sym q) few)
   where

@@ -1,4 +1,8 @@
 pub mod Bound
+pub mod SentBlocks
+pub mod PassedBlocks
+pub mod Alternating
+pub mod NextHeaders
 pub mod Laid
 pub mod Lengths
 pub mod Orders
@@ -30,4 +34,5 @@ pub mod OwnLinks
 pub mod SentItems
 pub mod SteadyPages
 pub mod PlannedAcceptance
+pub mod PlannedFollowers
 pub mod PageLinks

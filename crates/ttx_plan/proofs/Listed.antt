@@ -14,8 +14,7 @@ use Rattle.ttx_source.specs.Services.{Authored, authored_at, IsAuthored}
 use Rattle.ttx_plan.specs.Blocks.{Block, has_pages, used_to}
 use Rattle.ttx_plan.specs.Carries.{block_at, blocks_of}
 use Rattle.ttx_plan.specs.Ranges.{IsOften}
-use Rattle.ttx_plan.specs.Seen.{seen, used_by}
-use Rattle.ttx_plan.specs.declared.block.PageBlock.{PageBlock}
+use Rattle.ttx_plan.specs.Seen.{used_by}
 use Rattle.ttx_plan.proofs.Often.{AreOften}
 
 either : (a b : Bool) → (a || b) ≡ true → (a ≡ true) ⊎ (b ≡ true)
@@ -87,6 +86,15 @@ often_at serial pages i page a e =
     let one : IsAuthored serial page = subst (IsAuthored serial) r.1 (a i page r.0) in
     often_ranges page.often one.often
 
+pub often_there : (serial : Bool) (pages : List Authored) (i often : ℕ) → All (IsAuthored serial) pages → option_map (λ p. p.often) (slice_get pages i) ≡ Some often → IsOften often
+often_there serial [] i often a e = let f : None ≡ Some often = e in cc
+often_there serial (p ∷ pages) zero often a e =
+    let f : Some p.often ≡ Some often = e in
+    let g : p.often ≡ often = cc in
+    let first : IsAuthored serial p = a 0 p (omega arith) in
+    subst IsOften g (often_ranges p.often first.often)
+often_there serial (p ∷ pages) (suc i) often a e = often_there serial pages i often (λ k d lt. a (suc k) d (omega arith)) e
+
 pub blocks_often : (class : Class) (serial : Bool) (pages : List Authored) → All (IsAuthored serial) pages → AreOften (blocks_of class pages)
 blocks_often class serial [] a = tt
 blocks_often class serial (p ∷ pages) a =
@@ -131,12 +139,6 @@ used_same class values pages (suc n) same =
 
 pub same_lengths : (values : List PageValue) (pages : List Authored) → map page_of values ≡ map (λ p. p.page) pages → length values ≡ length pages
 same_lengths values pages e = sym (length-map values page_of) ∙ ap length e ∙ length-map pages (λ p. p.page)
-
--- a service with pages has blocks
-pub some_blocks : (class : Class) (pages : List Authored) (blocks : List PageBlock) → map seen blocks ≡ blocks_of class pages → (pages ≡ [] → ⊥) → 0 < length blocks
-some_blocks class [] blocks e some = absurd (some refl)
-some_blocks class (p ∷ pages) [] e some = let f : [] ≡ block_at class p ∷ blocks_of class pages = e in cc
-some_blocks class (p ∷ pages) (b ∷ blocks) e some = omega arith
 
 -- a product of two small numbers
 pub product_most : (n m : ℕ) → n ≤ 8 → m ≤ 26 → n * m ≤ 208

@@ -2,7 +2,7 @@
 use Rattle.std.proofs.Common.{◌≡◌, ℕ, zero, suc, ◌+◌, ◌*◌, ◌/◌, ◌%◌, Bool, true, false, cond, List, [], ◌∷◌, length, refl, sym, ap, ◌∙◌, arith, eqb}
 use Rattle.std.specs.Prelude.{sum_by, filter}
 use Rattle.std.proofs.lemmas.List.Sums.{sum_by-cons, sum_by-append}
-use Rattle.ttx_plan.specs.Blocks.{Block, round_of, rounds_to, sent_blocks}
+use Rattle.ttx_plan.specs.Blocks.{Block, round_of, rounds_to}
 use Rattle.ttx_plan.specs.Ranges.{IsOften}
 
 -- w for each of the first n rounds in which the block is sent
@@ -60,7 +60,7 @@ abbrev pub AreOften : List Block → Type 0
 AreOften [] = Unit {0}
 AreOften (b ∷ blocks) = IsOften b.often × AreOften blocks
 
-pub sum_sent : (f : Block → ℕ) (blocks : List Block) → AreOften blocks → sum_by f (sent_blocks blocks) ≡ sum_by (λ b. b.often * f b) blocks
+pub sum_sent : (f : Block → ℕ) (blocks : List Block) → AreOften blocks → sum_by f (rounds_to blocks 8) ≡ sum_by (λ b. b.often * f b) blocks
 sum_sent f blocks a = sum_rounds f blocks 8 ∙ each blocks a
   where
     each : (bs : List Block) → AreOften bs → sum_by (λ b. in_rounds b.often 8 (f b)) bs ≡ sum_by (λ b. b.often * f b) bs
@@ -75,7 +75,7 @@ length_sum : (blocks : List Block) → length blocks ≡ sum_by (λ b. 1) blocks
 length_sum [] = refl
 length_sum (b ∷ blocks) = let h : length blocks ≡ sum_by (λ b. 1) blocks = length_sum blocks in omega (arith, h, sum_by-cons (λ (b : Block). 1) b blocks)
 
-pub count_sent : (blocks : List Block) → AreOften blocks → length (sent_blocks blocks) ≡ sum_by (λ b. b.often) blocks
+pub count_sent : (blocks : List Block) → AreOften blocks → length (rounds_to blocks 8) ≡ sum_by (λ b. b.often) blocks
 count_sent blocks a =
-    length_sum (sent_blocks blocks) ∙ sum_sent (λ b. 1) blocks a
+    length_sum (rounds_to blocks 8) ∙ sum_sent (λ b. 1) blocks a
     ∙ sum_same (λ b. b.often * 1) (λ b. b.often) blocks (λ b. omega arith)

@@ -1,13 +1,13 @@
 -- Lists that grow by what is sent of one element more.
-use Rattle.std.proofs.Common.{◌≡◌, ℕ, ◌+◌, ◌<◌, ◌≤◌, List, [], ◌∷◌, ◌++◌, Bor, cond, eqb, map, length, take, get_or, replicate, sym, ap, ◌∙◌, subst, append_assoc, append-nil, take_all}
+use Rattle.std.proofs.Common.{◌≡◌, ℕ, ◌+◌, ◌<◌, ◌≤◌, List, [], ◌∷◌, ◌++◌, false, cond, eqb, map, length, take, get_or, replicate, sym, ap, ◌∙◌, subst, append_assoc, append-nil, take_all}
 use Rattle.std.specs.Prelude.{flat_map}
 use Rattle.std.proofs.lemmas.Bool.{cond-true, cond-false, eq-eqb, ne_eqb}
 use Rattle.std.proofs.lemmas.Grind.{flat_map-append}
 use Rattle.std.proofs.lemmas.List.{map-append, take_more, replicate_more}
-use Rattle.ttx_plan.specs.declared.block.PageBlock.{PageBlock}
+use Rattle.ttx_plan.specs.declared.rounds.SentBlock.{SentBlock}
 use Rattle.ttx_plan.specs.declared.packet.Packet.{Packet}
 use Rattle.ttx_plan.specs.Blocks.{Block, packets_of}
-use Rattle.ttx_plan.specs.Seen.{seen}
+use Rattle.ttx_plan.specs.Seen.{seen_sent}
 
 -- ---- a first element, the same some times, and then the others
 
@@ -33,26 +33,26 @@ others_end list first between sent xs ys i same past = ap (λ z. list ++ first �
 -- ---- the packets of a queue, block by block
 
 abbrev pub of_queue : ℕ → Block → List Packet
-of_queue queue b = cond (eqb b.queue queue) (packets_of b) []
+of_queue queue b = cond (eqb b.queue queue) (packets_of false b) []
 
-more : (queue : ℕ) (sent : List (Bor PageBlock)) (i : ℕ) (b : Bor PageBlock) → i < length sent → b ≡ get_or sent i b →
-    flat_map (of_queue queue) (map (λ b. seen b.now) (take i sent)) ++ of_queue queue (seen b.now) ≡ flat_map (of_queue queue) (map (λ b. seen b.now) (take (i + 1) sent))
+more : (queue : ℕ) (sent : List SentBlock) (i : ℕ) (b : SentBlock) → i < length sent → b ≡ get_or sent i b →
+    flat_map (of_queue queue) (map seen_sent (take i sent)) ++ of_queue queue (seen_sent b) ≡ flat_map (of_queue queue) (map seen_sent (take (i + 1) sent))
 more queue sent i b here is =
-    ap (λ x. flat_map (of_queue queue) (map (λ b. seen b.now) (take i sent)) ++ x) (sym (append-nil (of_queue queue (seen b.now))))
-    ∙ sym (flat_map-append (of_queue queue) (map (λ b. seen b.now) (take i sent)) (seen b.now ∷ []))
-    ∙ ap (flat_map (of_queue queue)) (sym (map-append (λ b. seen b.now) (take i sent) (b ∷ [])))
-    ∙ ap (λ x. flat_map (of_queue queue) (map (λ b. seen b.now) (take i sent ++ x ∷ []))) is
-    ∙ ap (λ x. flat_map (of_queue queue) (map (λ b. seen b.now) x)) (sym (take_more sent i b here))
+    ap (λ x. flat_map (of_queue queue) (map seen_sent (take i sent)) ++ x) (sym (append-nil (of_queue queue (seen_sent b))))
+    ∙ sym (flat_map-append (of_queue queue) (map seen_sent (take i sent)) (seen_sent b ∷ []))
+    ∙ ap (flat_map (of_queue queue)) (sym (map-append seen_sent (take i sent) (b ∷ [])))
+    ∙ ap (λ x. flat_map (of_queue queue) (map seen_sent (take i sent ++ x ∷ []))) is
+    ∙ ap (λ x. flat_map (of_queue queue) (map seen_sent x)) (sym (take_more sent i b here))
 
-pub own_more : (queue : ℕ) (sent : List (Bor PageBlock)) (i : ℕ) (b : Bor PageBlock) → i < length sent → b ≡ get_or sent i b → b.now.queue ≡ queue →
-    flat_map (of_queue queue) (map (λ b. seen b.now) (take i sent)) ++ packets_of (seen b.now) ≡ flat_map (of_queue queue) (map (λ b. seen b.now) (take (i + 1) sent))
+pub own_more : (queue : ℕ) (sent : List SentBlock) (i : ℕ) (b : SentBlock) → i < length sent → b ≡ get_or sent i b → b.block.now.queue ≡ queue →
+    flat_map (of_queue queue) (map seen_sent (take i sent)) ++ packets_of false (seen_sent b) ≡ flat_map (of_queue queue) (map seen_sent (take (i + 1) sent))
 own_more queue sent i b here is own =
-    ap (λ x. flat_map (of_queue queue) (map (λ b. seen b.now) (take i sent)) ++ x) (sym (cond-true (eqb b.now.queue queue) (packets_of (seen b.now)) [] (eq-eqb b.now.queue queue own)))
+    ap (λ x. flat_map (of_queue queue) (map seen_sent (take i sent)) ++ x) (sym (cond-true (eqb b.block.now.queue queue) (packets_of false (seen_sent b)) [] (eq-eqb b.block.now.queue queue own)))
     ∙ more queue sent i b here is
 
-pub other_more : (queue : ℕ) (sent : List (Bor PageBlock)) (i : ℕ) (b : Bor PageBlock) → i < length sent → b ≡ get_or sent i b → (b.now.queue ≡ queue → ⊥) →
-    flat_map (of_queue queue) (map (λ b. seen b.now) (take i sent)) ≡ flat_map (of_queue queue) (map (λ b. seen b.now) (take (i + 1) sent))
+pub other_more : (queue : ℕ) (sent : List SentBlock) (i : ℕ) (b : SentBlock) → i < length sent → b ≡ get_or sent i b → (b.block.now.queue ≡ queue → ⊥) →
+    flat_map (of_queue queue) (map seen_sent (take i sent)) ≡ flat_map (of_queue queue) (map seen_sent (take (i + 1) sent))
 other_more queue sent i b here is other =
-    sym (append-nil (flat_map (of_queue queue) (map (λ b. seen b.now) (take i sent))))
-    ∙ ap (λ x. flat_map (of_queue queue) (map (λ b. seen b.now) (take i sent)) ++ x) (sym (cond-false (eqb b.now.queue queue) (packets_of (seen b.now)) [] (ne_eqb b.now.queue queue other)))
+    sym (append-nil (flat_map (of_queue queue) (map seen_sent (take i sent))))
+    ∙ ap (λ x. flat_map (of_queue queue) (map seen_sent (take i sent)) ++ x) (sym (cond-false (eqb b.block.now.queue queue) (packets_of false (seen_sent b)) [] (ne_eqb b.block.now.queue queue other)))
     ∙ more queue sent i b here is

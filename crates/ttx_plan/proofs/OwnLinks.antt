@@ -46,8 +46,8 @@ rest_says laws written p is l class =
         (all_if (SaysLinks p) (is_sent_to class p (TheRow (suc n))) (row_of p (suc n)) (λ _ mag content e. absurd (no_row (map odd_byte (page_row p (suc n))) (suc n) mag content (sym (row_is laws p is (suc n) (omega arith) le) ∙ e))))
 
 pub planned_links_are_own : LawsBelow → WrittenLinksAreRead → PlannedLinksAreOwn
-planned_links_are_own laws written class service cycle c n lt mag content e =
-    let u = under laws service.serial service.lines service.info class service.pages cycle c.said c.service_is.pages c.carries n lt mag TheLinks (ap (S.carries mag TheLinks) e ∙ eq-eqb mag mag refl) in
+planned_links_are_own laws written late class service cycle c n lt mag content e =
+    let u = under laws service.serial service.lines service.info late class service.pages cycle c.said c.service_is.pages c.carries n lt mag TheLinks (ap (S.carries mag TheLinks) e ∙ eq-eqb mag mag refl) in
     let a = authored_at service.serial service.pages c.service_is.pages u.index u.authored u.listed in
     let says = all_get (SaysLinks u.authored.page) (rest_of class u.authored.page) u.item (get_or cycle n []) (rest_says laws written u.authored.page a.page (c.linked u.index u.authored u.listed) class) u.item_is in
     let own = says mag content e in

@@ -63,8 +63,8 @@ row_carried slot mag number text e = ap (S.carries mag (TheRow number)) e ∙ bo
     both false b e f = e
 
 pub planned_rows_are_own : LawsBelow → PlannedRowsAreOwn
-planned_rows_are_own laws class service cycle is_service said known n lt mag number text e =
-    let u = under laws service.serial service.lines service.info class service.pages cycle said is_service.pages known n lt mag (TheRow number) (row_carried (get_or cycle n []) mag number text e) in
+planned_rows_are_own laws late class service cycle is_service said known n lt mag number text e =
+    let u = under laws service.serial service.lines service.info late class service.pages cycle said is_service.pages known n lt mag (TheRow number) (row_carried (get_or cycle n []) mag number text e) in
     let a = authored_at service.serial service.pages is_service.pages u.index u.authored u.listed in
     let says : SaysRow u.authored.page (get_or cycle n []) = all_get (SaysRow u.authored.page) (rest_of class u.authored.page) u.item (get_or cycle n []) (rest_says laws u.authored.page a.page class) u.item_is in
     let own = says mag number text e in

@@ -5,7 +5,7 @@ use Rattle.std.proofs.lemmas.Bool.{cases_eq, cond-true, cond-false, eq-eqb, ne_e
 use Rattle.ttx_plan.specs.declared.packet.Packet.{Packet}
 use Rattle.ttx_plan.specs.declared.packet.Slot.{Slot}
 use Rattle.ttx_plan.specs.declared.packet.Slot.TheVariants.{Empty, Info, Sent}
-use Rattle.ttx_plan.specs.Blocks.{Block, sent_blocks}
+use Rattle.ttx_plan.specs.Blocks.{Block}
 use Rattle.ttx_plan.specs.Packets.{is_row_or_links}
 use Rattle.ttx_plan.specs.Turns.{KeepsTurns}
 use Rattle.ttx_plan.specs.Carries.{magazines_for}
@@ -103,11 +103,11 @@ quiet_owner lines blocks at mag header age j (slot ∷ rest) is f s (suc k) m pa
 -- serial: each row and X/27/0 of the laid list
 pub serial_owned : (lines : ℕ) (info : Option (List ℕ)) (blocks : List Block) (j m : ℕ) (packet : Packet) →
     get_or (with_info lines info 0 (serial_list lines blocks)) j Empty ≡ Sent m packet → is_row_or_links packet.kind ≡ true →
-    HasQuietOwner lines (sent_blocks blocks) (λ i. get_or (with_info lines info 0 (serial_list lines blocks)) i Empty) m packet j
+    HasQuietOwner lines blocks (λ i. get_or (with_info lines info 0 (serial_list lines blocks)) i Empty) m packet j
 serial_owned lines info blocks j m packet e late =
     let z : 0 + j ≡ j = omega arith in
-    subst (HasQuietOwner lines (sent_blocks blocks) (λ i. get_or (with_info lines info 0 (serial_list lines blocks)) i Empty) m packet) z
-    (quiet_owner lines (sent_blocks blocks) (λ i. get_or (with_info lines info 0 (serial_list lines blocks)) i Empty) 0 None 0 0 (with_info lines info 0 (serial_list lines blocks))
+    subst (HasQuietOwner lines blocks (λ i. get_or (with_info lines info 0 (serial_list lines blocks)) i Empty) m packet) z
+    (quiet_owner lines blocks (λ i. get_or (with_info lines info 0 (serial_list lines blocks)) i Empty) 0 None 0 0 (with_info lines info 0 (serial_list lines blocks))
     (λ k. let y : 0 + k ≡ k = omega arith in ap (λ x. get_or (with_info lines info 0 (serial_list lines blocks)) x Empty) y)
     (laid_follows lines info blocks) (λ h q. let c : None ≡ Some h = q in cc) j m packet e late)
 
@@ -125,18 +125,18 @@ same_places lines blocks f g mag packet j e o =
 
 -- parallel: each row and X/27/0 by the rule of turns
 pub parallel_owned : (lines : ℕ) (info : Option (List ℕ)) (blocks : List Block) (before : List Slot) → KeepsTurns (magazines_for lines info blocks) before → (j m : ℕ) (packet : Packet) → j < length before →
-    slot_at before j ≡ Sent m packet → is_row_or_links packet.kind ≡ true → HasOwner lines (sent_blocks blocks) (slot_at before) m packet j
+    slot_at before j ≡ Sent m packet → is_row_or_links packet.kind ≡ true → HasOwner lines blocks (slot_at before) m packet j
 parallel_owned lines info blocks [] t j m packet lt e late = absurd (omega arith)
-parallel_owned lines info blocks (slot ∷ before) t j m packet lt e late = elim (cases_eq j (length before)) as (λ _. HasOwner lines (sent_blocks blocks) (slot_at (slot ∷ before)) m packet j) [
+parallel_owned lines info blocks (slot ∷ before) t j m packet lt e late = elim (cases_eq j (length before)) as (λ _. HasOwner lines blocks (slot_at (slot ∷ before)) m packet j) [
   | inl q ↦
       let is : slot ≡ Sent m packet = sym (cond-true (eqb j (length before)) slot (slot_at before j) (eq-eqb j (length before) q)) ∙ e in
-      subst (HasOwner lines (sent_blocks blocks) (slot_at (slot ∷ before)) m packet) (sym q)
-      (same_places lines (sent_blocks blocks) (slot_at before) (slot_at (slot ∷ before)) m packet (length before) (λ i small. older i small)
+      subst (HasOwner lines blocks (slot_at (slot ∷ before)) m packet) (sym q)
+      (same_places lines blocks (slot_at before) (slot_at (slot ∷ before)) m packet (length before) (λ i small. older i small)
       (owner_of_turn lines info blocks before m packet t.1 (sym is ∙ t.0) late))
   | inr ne ↦
       let small : j < length before = strict ne in
       let was : slot_at before j ≡ Sent m packet = sym (older j small) ∙ e in
-      same_places lines (sent_blocks blocks) (slot_at before) (slot_at (slot ∷ before)) m packet j (λ i below. older i (omega arith)) (parallel_owned lines info blocks before t.1 j m packet small was late)
+      same_places lines blocks (slot_at before) (slot_at (slot ∷ before)) m packet j (λ i below. older i (omega arith)) (parallel_owned lines info blocks before t.1 j m packet small was late)
 ]
   where
     strict : (j ≡ length before → ⊥) → j < length before

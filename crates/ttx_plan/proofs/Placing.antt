@@ -8,7 +8,7 @@ use Rattle.ttx_page.specs.Streams as S
 use Rattle.ttx_plan.specs.declared.packet.Packet.{Packet}
 use Rattle.ttx_plan.specs.declared.packet.Slot.{Slot}
 use Rattle.ttx_plan.specs.declared.packet.Slot.TheVariants.{Empty, Info, Sent}
-use Rattle.ttx_plan.specs.Blocks.{Block, sent_blocks}
+use Rattle.ttx_plan.specs.Blocks.{Block}
 use Rattle.ttx_plan.specs.Carries.{magazines_for}
 use Rattle.ttx_plan.specs.Packets.{is_row_or_links, bytes_of, sent_bytes}
 use Rattle.ttx_plan.specs.Serial.{serial_list, with_info, serial_slots}
@@ -66,13 +66,13 @@ follows_empty lines blocks mag header age (Sent m packet ∷ rest) n f = by (is_
 abbrev pub places : ℕ → Option (List ℕ) → List Block → ℕ → Slot
 places lines info blocks i = get_or (serial_slots lines info blocks) i Empty
 
-pub serial_quiet : (lines : ℕ) (info : Option (List ℕ)) (blocks : List Block) (j m : ℕ) (packet : Packet) → places lines info blocks j ≡ Sent m packet → is_row_or_links packet.kind ≡ true → HasQuietOwner lines (sent_blocks blocks) (places lines info blocks) m packet j
+pub serial_quiet : (lines : ℕ) (info : Option (List ℕ)) (blocks : List Block) (j m : ℕ) (packet : Packet) → places lines info blocks j ≡ Sent m packet → is_row_or_links packet.kind ≡ true → HasQuietOwner lines blocks (places lines info blocks) m packet j
 serial_quiet lines info blocks j m packet e late =
     let z : 0 + j ≡ j = omega arith in
-    subst (HasQuietOwner lines (sent_blocks blocks) (places lines info blocks) m packet) z
-    (quiet_owner lines (sent_blocks blocks) (places lines info blocks) 0 None 0 0 (serial_slots lines info blocks)
+    subst (HasQuietOwner lines blocks (places lines info blocks) m packet) z
+    (quiet_owner lines blocks (places lines info blocks) 0 None 0 0 (serial_slots lines info blocks)
     (λ k. let y : 0 + k ≡ k = omega arith in ap (places lines info blocks) y)
-    (follows_empty lines (sent_blocks blocks) 0 None 0 (with_info lines info 0 (serial_list lines blocks)) (missing lines (length (with_info lines info 0 (serial_list lines blocks)))) (laid_follows lines info blocks))
+    (follows_empty lines blocks 0 None 0 (with_info lines info 0 (serial_list lines blocks)) (missing lines (length (with_info lines info 0 (serial_list lines blocks)))) (laid_follows lines info blocks))
     (λ h q. let c : None ≡ Some h = q in cc) j m packet e late)
 
 -- the slots of serial cycles
@@ -82,7 +82,7 @@ serial_at lines info blocks cycle is i lt =
 
 pub serial_placed : (pages : List Authored) (lines : ℕ) (info : Option (List ℕ)) (blocks : List Block) (cycle : List (List ℕ)) → cycle ≡ map bytes_of (serial_slots lines info blocks) → 0 < length cycle → ((i : ℕ) → Reads pages true (places lines info blocks i)) → ArePlaced lines cycle
 serial_placed pages lines info blocks cycle is some reads =
-    placed_by pages lines true (sent_blocks blocks) cycle (places lines info blocks) some
+    placed_by pages lines true blocks cycle (places lines info blocks) some
     (serial_at lines info blocks cycle is)
     reads
     (λ j m packet lt e late. let q = serial_quiet lines info blocks j m packet e late in (
@@ -133,8 +133,8 @@ pub parallel_at : (lines : ℕ) (info : Option (List ℕ)) (blocks : List Block)
 parallel_at lines info blocks cycle p i lt = ap (λ x. get_or x i []) p.cycle_is ∙ sent_all p.before i (missing lines (length p.before)) (omega (arith, ap length p.cycle_is))
 
 -- the owners in parallel cycles
-pub parallel_owner : (lines : ℕ) (info : Option (List ℕ)) (blocks : List Block) (cycle : List (List ℕ)) (p : IsParallel (magazines_for lines info blocks) cycle) (j m : ℕ) (packet : Packet) → slot_at p.before j ≡ Sent m packet → is_row_or_links packet.kind ≡ true → HasOwner lines (sent_blocks blocks) (slot_at p.before) m packet j
-parallel_owner lines info blocks cycle p j m packet e late = elim (cases_lt j (length p.before)) as (λ _. HasOwner lines (sent_blocks blocks) (slot_at p.before) m packet j) [
+pub parallel_owner : (lines : ℕ) (info : Option (List ℕ)) (blocks : List Block) (cycle : List (List ℕ)) (p : IsParallel (magazines_for lines info blocks) cycle) (j m : ℕ) (packet : Packet) → slot_at p.before j ≡ Sent m packet → is_row_or_links packet.kind ≡ true → HasOwner lines blocks (slot_at p.before) m packet j
+parallel_owner lines info blocks cycle p j m packet e late = elim (cases_lt j (length p.before)) as (λ _. HasOwner lines blocks (slot_at p.before) m packet j) [
   | inl lt ↦ parallel_owned lines info blocks p.before p.turns j m packet lt e late
   | inr ge ↦ let c : Empty ≡ Sent m packet = sym (beyond p.before j ge) ∙ e in absurd (apart m packet c)
 ]
@@ -145,7 +145,7 @@ parallel_owner lines info blocks cycle p j m packet e late = elim (cases_lt j (l
 -- in parallel cycles no header ends pages
 pub parallel_placed : (pages : List Authored) (lines : ℕ) (info : Option (List ℕ)) (blocks : List Block) (cycle : List (List ℕ)) (p : IsParallel (magazines_for lines info blocks) cycle) → 0 < length cycle → ((i : ℕ) → Reads pages false (slot_at p.before i)) → ArePlaced lines cycle
 parallel_placed pages lines info blocks cycle p some reads =
-    placed_by pages lines false (sent_blocks blocks) cycle (slot_at p.before) some
+    placed_by pages lines false blocks cycle (slot_at p.before) some
     (parallel_at lines info blocks cycle p)
     reads
     (λ j m packet lt e late. (parallel_owner lines info blocks cycle p j m packet e late, λ i low high mag. (reads i).parallel refl mag))

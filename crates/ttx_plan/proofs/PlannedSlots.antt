@@ -1,10 +1,9 @@
 -- The slots of a planned cycle, serial or parallel: each is read as what it is, and they hold each packet of each page.
-use Rattle.std.proofs.Common.{◌≡◌, ℕ, zero, suc, ◌/◌, ◌%◌, ◌<◌, ◌≤◌, Bool, true, false, cond, eqb, List, [], ◌∷◌, ◌++◌, map, length, replicate, get_or, Option, Some, None, refl, sym, ap, ◌∙◌, subst, inl, inr, arith, append_assoc}
-use Rattle.std.specs.Prelude.{All, slice_get, filter, option_map}
+use Rattle.std.proofs.Common.{◌≡◌, ℕ, zero, suc, ◌<◌, ◌≤◌, Bool, true, false, cond, List, [], ◌∷◌, ◌++◌, map, length, replicate, get_or, Option, Some, None, refl, sym, ap, ◌∙◌, subst, inl, inr, arith, append_assoc}
+use Rattle.std.specs.Prelude.{All, slice_get, option_map}
 use Rattle.std.specs.List.{AllByRecursion}
-use Rattle.std.proofs.Math.Nat.{zero-mod}
-use Rattle.std.proofs.lemmas.Bool.{cond-true, cond-false, cases_Bool, cases_lt, eq-eqb}
-use Rattle.std.proofs.lemmas.List.{map-append}
+use Rattle.std.proofs.lemmas.Bool.{cond-true, cases_lt}
+use Rattle.std.proofs.lemmas.List.{map-append, length-map}
 use Rattle.ttx_info.specs.Infos.{InfoFields, info_bytes}
 use Rattle.ttx_page.specs.declared.class.Class.{Class}
 use Rattle.ttx_page.specs.declared.item.Item.TheVariants.{Row as TheRow, Links as TheLinks}
@@ -12,25 +11,31 @@ use Rattle.ttx_page.specs.Pages.{Page}
 use Rattle.ttx_source.specs.Services.{Authored, IsAuthored}
 use Rattle.ttx_plan.specs.declared.packet.Slot.{Slot}
 use Rattle.ttx_plan.specs.declared.packet.Slot.TheVariants.{Empty}
-use Rattle.ttx_plan.specs.Blocks.{Block, round_of, rounds_to, sent_blocks}
-use Rattle.ttx_plan.specs.Carries.{CarriesBlocks, block_at, blocks_of}
+use Rattle.ttx_plan.specs.Blocks.{Block, led, round_of, rounds_to, queue_packets}
+use Rattle.ttx_plan.specs.Carries.{CarriesBlocks, block_at, blocks_of, sent_of}
 use Rattle.ttx_plan.specs.Contents.{row_of, links_of, is_sent_to, rows_to, rest_of}
 use Rattle.ttx_plan.specs.Laws.{IsSaid}
 use Rattle.ttx_plan.specs.Packets.{bytes_of}
+use Rattle.ttx_plan.specs.Seen.{seen_sent}
+use Rattle.ttx_plan.specs.declared.rounds.SentBlock.{SentBlock}
 use Rattle.ttx_plan.specs.Serial.{serial_slots}
 use Rattle.ttx_plan.specs.Turns.{missing}
-use Rattle.ttx_plan.proofs.AllRead.{serial_read, parallel_read, read_there, rounds_all}
+use Rattle.ttx_plan.proofs.AllRead.{serial_read, parallel_read, read_there}
 use Rattle.ttx_plan.proofs.HeldBlocks.{HoldsHead, Holds, Splits, serial_head, serial_holds}
 use Rattle.ttx_plan.proofs.Lists.{all_append, all_replicate, all_get}
 use Rattle.ttx_plan.proofs.Readable.{LawsBelow, Reads, empty_slot}
-use Rattle.ttx_plan.proofs.SendingOrder.{timed, timed_bytes, timed_all, parallel_head, parallel_holds}
+use Rattle.ttx_plan.proofs.NextHeaders.{queue_filled, serial_queue}
+use Rattle.ttx_plan.proofs.Sums.{get_within}
+use Rattle.ttx_plan.proofs.SentBlocks.{order_all, led_get, first_round}
+use Rattle.ttx_plan.proofs.SendingOrder.{timed, timed_bytes, timed_all, of_queue, all_of_queue, parallel_head, parallel_holds}
 
-pub record IsLaidOut (pages : List Authored) (serial : Bool) (class : Class) (cycle : List (List ℕ)) : Type 0 where
+pub record IsLaidOut (pages : List Authored) (serial late : Bool) (class : Class) (cycle : List (List ℕ)) : Type 0 where
   pub slots : List Slot
   pub cycle_is : cycle ≡ map bytes_of slots
   pub reads : (i : ℕ) → Reads pages serial (get_or slots i Empty)
-  pub head : (k : ℕ) (block : Block) → slice_get (sent_blocks (blocks_of class pages)) k ≡ Some block → HoldsHead block slots
-  pub holds : (k : ℕ) (block : Block) → slice_get (sent_blocks (blocks_of class pages)) k ≡ Some block → (bytes : List ℕ) → Splits bytes block.rest → Holds block bytes slots
+  pub in_queue : (queue : ℕ) → queue < 8 → of_queue queue slots ≡ queue_packets serial (sent_of late class pages) queue
+  pub head : (i : ℕ) (authored : Authored) → slice_get pages i ≡ Some authored → HoldsHead (block_at class authored) slots
+  pub holds : (i : ℕ) (authored : Authored) → slice_get pages i ≡ Some authored → (bytes : List ℕ) → Splits bytes (rest_of class authored.page) → Holds (block_at class authored) bytes slots
 
 -- ---- blocks of pages
 
@@ -42,38 +47,9 @@ queues_below class serial (p ∷ pages) a =
     let high = first.page.id.mag_to in
     (omega arith, queues_below class serial pages (λ k d lt. a (suc k) d (omega arith)))
 
-queue_below : (class : Class) (serial : Bool) (pages : List Authored) → All (IsAuthored serial) pages → (k : ℕ) (block : Block) → slice_get (sent_blocks (blocks_of class pages)) k ≡ Some block → block.queue < 8
-queue_below class serial pages a k block e =
-    all_get (λ b. b.queue < 8) (sent_blocks (blocks_of class pages)) k block (rounds_all (λ b. b.queue < 8) (blocks_of class pages) 8 (queues_below class serial pages a)) e
-
--- ---- the cycle
-
-pub laid_out : LawsBelow → (serial : Bool) (lines : ℕ) (info : Option InfoFields) (class : Class) (pages : List Authored) (cycle : List (List ℕ)) → IsSaid info → All (IsAuthored serial) pages →
-    CarriesBlocks serial lines (option_map info_bytes info) (blocks_of class pages) cycle → IsLaidOut pages serial class cycle
-laid_out laws true lines info class pages cycle said a carries = record {
-  slots = serial_slots lines (option_map info_bytes info) (blocks_of class pages);
-  cycle_is = carries;
-  reads = read_there laws pages true (serial_slots lines (option_map info_bytes info) (blocks_of class pages)) (serial_read laws lines info class pages said a);
-  head = serial_head lines (option_map info_bytes info) (blocks_of class pages);
-  holds = serial_holds lines (option_map info_bytes info) (blocks_of class pages);
-}
-laid_out laws false lines info class pages cycle said a carries =
-    let sent = option_map info_bytes info in
-    let blocks = blocks_of class pages in
-    let n = missing lines (length carries.before) in
-    record {
-      slots = timed carries.before ++ replicate n Empty;
-      cycle_is = carries.cycle_is ∙ ap (λ z. z ++ replicate n (replicate 42 0)) (timed_bytes carries.before) ∙ ap (λ z. map bytes_of (timed carries.before) ++ z) (empties n) ∙ sym (map-append bytes_of (timed carries.before) (replicate n Empty));
-      reads = read_there laws pages false (timed carries.before ++ replicate n Empty)
-          (all_append (Reads pages false) (timed carries.before) (replicate n Empty) (timed_all (Reads pages false) carries.before (parallel_read laws lines info class pages said a carries.before carries.turns))
-          (all_replicate (Reads pages false) n Empty (empty_slot laws pages false)));
-      head = λ k block e. parallel_head lines sent blocks cycle carries k block e (queue_below class false pages a k block e) n;
-      holds = λ k block e bytes split. parallel_holds lines sent blocks cycle carries k block e (queue_below class false pages a k block e) bytes split n;
-    }
-  where
-    empties : (n : ℕ) → replicate n (bytes_of Empty) ≡ map bytes_of (replicate n Empty)
-    empties zero = refl
-    empties (suc n) = ap (λ z. bytes_of Empty ∷ z) (empties n)
+queue_below : (late : Bool) (class : Class) (serial : Bool) (pages : List Authored) → All (IsAuthored serial) pages → (k : ℕ) (block : Block) → slice_get (sent_of late class pages) k ≡ Some block → block.queue < 8
+queue_below late class serial pages a k block e =
+    all_get (λ b. b.queue < 8) (sent_of late class pages) k block (order_all (λ b. b.queue < 8) (λ filler b lt. lt) late (blocks_of class pages) (queues_below class serial pages a)) e
 
 -- ---- each page has a block among those that are sent
 
@@ -87,29 +63,70 @@ get_left [] ys k x e = let g : None ≡ Some x = e in cc
 get_left (y ∷ xs) ys zero x e = e
 get_left (y ∷ xs) ys (suc k) x e = get_left xs ys k x e
 
-get_filter : {A : Type 0} (test : A → Bool) (xs : List A) (k : ℕ) (x : A) → slice_get xs k ≡ Some x → test x ≡ true → (j : ℕ) × (slice_get (filter test xs) j ≡ Some x)
-get_filter test [] k x e t = let g : None ≡ Some x = e in cc
-get_filter test (y ∷ xs) zero x e t =
-    let g : Some y ≡ Some x = e in
-    let h : y ≡ x = cc in
-    (0, ap (λ z. slice_get z 0) (cond-true (test y) (y ∷ filter test xs) (filter test xs) (ap test h ∙ t)) ∙ e)
-get_filter test (y ∷ xs) (suc k) x e t =
-    let r = get_filter test xs k x e t in
-    elim (cases_Bool (test y)) as (λ _. (j : ℕ) × (slice_get (cond (test y) (y ∷ filter test xs) (filter test xs)) j ≡ Some x)) [
-      | inl b ↦ (suc r.0, ap (λ z. slice_get z (suc r.0)) (cond-true (test y) (y ∷ filter test xs) (filter test xs) b) ∙ r.1)
-      | inr b ↦ (r.0, ap (λ z. slice_get z r.0) (cond-false (test y) (y ∷ filter test xs) (filter test xs) b) ∙ r.1)
-    ]
-
-in_rounds : (blocks : List Block) (n k : ℕ) (block : Block) → slice_get (round_of blocks 0) k ≡ Some block → slice_get (rounds_to blocks (suc n)) k ≡ Some block
-in_rounds blocks zero k block e = e
+in_rounds : (blocks : List Block) (n k : ℕ) (block : Block) → slice_get blocks k ≡ Some block → slice_get (rounds_to blocks (suc n)) k ≡ Some block
+in_rounds blocks zero k block e = ap (λ z. slice_get z k) (first_round blocks) ∙ e
 in_rounds blocks (suc n) k block e = get_left (rounds_to blocks (suc n)) (round_of blocks (suc n)) k block (in_rounds blocks n k block e)
 
-pub sent_block : (class : Class) (pages : List Authored) (i : ℕ) (authored : Authored) → slice_get pages i ≡ Some authored → (k : ℕ) × (slice_get (sent_blocks (blocks_of class pages)) k ≡ Some (block_at class authored))
-sent_block class pages i authored e =
+pub sent_block : (late : Bool) (class : Class) (pages : List Authored) (i : ℕ) (authored : Authored) → slice_get pages i ≡ Some authored → (filler : Bool) × (slice_get (sent_of late class pages) i ≡ Some (led filler (block_at class authored)))
+sent_block late class pages i authored e =
     let blocks = blocks_of class pages in
-    let block = block_at class authored in
-    let r = get_filter (λ b. eqb (0 % (8 / b.often)) 0) blocks i block (get_map (block_at class) pages i authored e) (eq-eqb (0 % (8 / authored.often)) 0 (zero-mod (8 / authored.often))) in
-    (r.0, in_rounds blocks 7 r.0 block r.1)
+    led_get late [] (rounds_to blocks 8) i (block_at class authored) (in_rounds blocks 7 i (block_at class authored) (get_map (block_at class) pages i authored e))
+
+-- a service with pages has a block that is sent
+pub some_sent : (late : Bool) (class : Class) (pages : List Authored) (sent : List SentBlock) → map seen_sent sent ≡ sent_of late class pages → (pages ≡ [] → ⊥) → 0 < length sent
+some_sent late class [] sent e some = absurd (some refl)
+some_sent late class (p ∷ pages) sent e some =
+    let one = get_within (sent_of late class (p ∷ pages)) 0 _ (sent_block late class (p ∷ pages) 0 p refl).1 in
+    omega (arith, one, ap length e, length-map sent seen_sent)
+
+-- ---- the cycle
+
+-- a time-filling header before the block doesn't change what it holds
+unled_head : (filler : Bool) (block : Block) (slots : List Slot) → HoldsHead (led filler block) slots → HoldsHead block slots
+unled_head filler block slots h = record { before = h.before; after = h.after; is = h.is }
+
+unled : (filler : Bool) (block : Block) (bytes : List ℕ) (slots : List Slot) → Holds (led filler block) bytes slots → Holds block bytes slots
+unled filler block bytes slots h = record { before = h.before; between = h.between; after = h.after; is = h.is; quiet = h.quiet }
+
+pub laid_out : LawsBelow → (serial : Bool) (lines : ℕ) (info : Option InfoFields) (late : Bool) (class : Class) (pages : List Authored) (cycle : List (List ℕ)) → IsSaid info → All (IsAuthored serial) pages →
+    CarriesBlocks serial lines (option_map info_bytes info) (sent_of late class pages) cycle → IsLaidOut pages serial late class cycle
+laid_out laws true lines info late class pages cycle said a carries =
+    let sent = option_map info_bytes info in
+    let blocks = sent_of late class pages in
+    let slots = serial_slots lines sent blocks in
+    record {
+      slots = serial_slots lines sent blocks;
+      cycle_is = carries;
+      in_queue = λ queue lt. serial_queue queue lt lines sent blocks;
+      reads = read_there laws pages true slots (serial_read laws lines info late class pages said a);
+      head = λ i authored e. let k = sent_block late class pages i authored e in unled_head k.0 (block_at class authored) slots (serial_head lines sent blocks i (led k.0 (block_at class authored)) k.1);
+      holds = λ i authored e bytes split. let k = sent_block late class pages i authored e in unled k.0 (block_at class authored) bytes slots (serial_holds lines sent blocks i (led k.0 (block_at class authored)) k.1 bytes split);
+    }
+laid_out laws false lines info late class pages cycle said a carries =
+    let sent = option_map info_bytes info in
+    let blocks = sent_of late class pages in
+    let n = missing lines (length carries.before) in
+    let slots = timed carries.before ++ replicate n Empty in
+    record {
+      slots = timed carries.before ++ replicate n Empty;
+      cycle_is = carries.cycle_is ∙ ap (λ z. z ++ replicate n (replicate 42 0)) (timed_bytes carries.before) ∙ ap (λ z. map bytes_of (timed carries.before) ++ z) (empties n) ∙ sym (map-append bytes_of (timed carries.before) (replicate n Empty));
+      in_queue = λ queue lt. queue_filled queue n (timed carries.before) ∙ all_of_queue lines sent blocks cycle carries queue lt;
+      reads = read_there laws pages false (timed carries.before ++ replicate n Empty)
+          (all_append (Reads pages false) (timed carries.before) (replicate n Empty) (timed_all (Reads pages false) carries.before (parallel_read laws lines info late class pages said a carries.before carries.turns))
+          (all_replicate (Reads pages false) n Empty (empty_slot laws pages false)));
+      head = λ i authored e.
+          let k = sent_block late class pages i authored e in
+          let block = led k.0 (block_at class authored) in
+          unled_head k.0 (block_at class authored) slots (parallel_head lines sent blocks cycle carries i block k.1 (queue_below late class false pages a i block k.1) n);
+      holds = λ i authored e bytes split.
+          let k = sent_block late class pages i authored e in
+          let block = led k.0 (block_at class authored) in
+          unled k.0 (block_at class authored) bytes slots (parallel_holds lines sent blocks cycle carries i block k.1 (queue_below late class false pages a i block k.1) bytes split n);
+    }
+  where
+    empties : (n : ℕ) → replicate n (bytes_of Empty) ≡ map bytes_of (replicate n Empty)
+    empties zero = refl
+    empties (suc n) = ap (λ z. bytes_of Empty ∷ z) (empties n)
 
 -- ---- the packets of a page
 

@@ -8,7 +8,7 @@ use Rattle.std.proofs.lemmas.List.{map-append}
 use Rattle.ttx_plan.specs.declared.packet.Packet.{Packet}
 use Rattle.ttx_plan.specs.declared.packet.Slot.{Slot}
 use Rattle.ttx_plan.specs.declared.packet.Slot.TheVariants.{Empty, Info, Sent}
-use Rattle.ttx_plan.specs.Blocks.{Block, packets_of, rest_packet, sent_blocks, has_pages, time_filling_packet, queue_packets}
+use Rattle.ttx_plan.specs.Blocks.{Block, page_packets, filler_of, packets_of, rest_packet, has_pages, time_filling_packet, queue_packets}
 use Rattle.ttx_plan.specs.Carries.{magazines_for}
 use Rattle.ttx_plan.specs.Packets.{is_row_or_links, bytes_of, sent_bytes}
 use Rattle.ttx_plan.specs.Turns.{queue_of, IsParallel}
@@ -122,36 +122,39 @@ all_rest : (rows : List (List ℕ)) → AllByRecursion (λ p. is_row_or_links p.
 all_rest [] = tt
 all_rest (bytes ∷ rows) = (refl, all_rest rows)
 
-queue_stands : (blocks : List Block) (k : ℕ) (block : Block) → slice_get (sent_blocks blocks) k ≡ Some block → Stands (packets_of block) (queue_packets blocks block.queue)
+queue_stands : (blocks : List Block) (k : ℕ) (block : Block) → slice_get blocks k ≡ Some block → Stands (page_packets block) (queue_packets false blocks block.queue)
 queue_stands blocks k block e =
     let queue = block.queue in
-    let s = stands_in (in_queue queue) (sent_blocks blocks) k block e in
+    let s = stands_in (in_queue queue) blocks k block e in
     let filling = cond (has_pages blocks queue) (time_filling_packet false queue ∷ []) [] in
-    let own : in_queue queue block ≡ packets_of block = cond-true (eqb queue queue) (packets_of block) [] (eq-eqb queue queue refl) in
+    let own : in_queue queue block ≡ packets_of false block = cond-true (eqb queue queue) (packets_of false block) [] (eq-eqb queue queue refl) in
+    let filler = filler_of false block in
+    let page = page_packets block in
     record {
-      before = s.before;
+      before = s.before ++ filler;
       after = s.after ++ filling;
-      is = ap (λ z. z ++ filling) (s.is ∙ ap (λ z. s.before ++ (z ++ s.after)) own) ∙ append_assoc s.before (packets_of block ++ s.after) filling ∙ ap (λ z. s.before ++ z) (append_assoc (packets_of block) s.after filling);
+      is = ap (λ z. z ++ filling) (s.is ∙ ap (λ z. s.before ++ (z ++ s.after)) own ∙ ap (λ z. s.before ++ z) (append_assoc filler page s.after) ∙ sym (append_assoc s.before filler (page ++ s.after)))
+          ∙ append_assoc (s.before ++ filler) (page ++ s.after) filling ∙ ap (λ z. (s.before ++ filler) ++ z) (append_assoc page s.after filling);
     }
 
 module _ (lines : ℕ) (info : Option (List ℕ)) (blocks : List Block) (cycle : List (List ℕ)) (p : IsParallel (magazines_for lines info blocks) cycle) where
-  all_of_queue : (queue : ℕ) → queue < 8 → of_queue queue (timed p.before) ≡ queue_packets blocks queue
+  pub all_of_queue : (queue : ℕ) → queue < 8 → of_queue queue (timed p.before) ≡ queue_packets false blocks queue
   all_of_queue queue lt =
       let q = queue_at_is blocks queue lt in
       sym (packets_timed queue p.before) ∙ in_order (magazines_for lines info blocks) p.before p.turns queue
       ∙ ap (λ n. take n (queue_of (magazines_for lines info blocks) queue)) (p.all_sent queue lt) ∙ take-length (queue_of (magazines_for lines info blocks) queue) ∙ q
 
-  split_head : (k : ℕ) (block : Block) → slice_get (sent_blocks blocks) k ≡ Some block → block.queue < 8 → (xs ys : List Packet) × SplitsSlots block.queue xs (head_of block) (map rest_packet block.rest ++ ys) (timed p.before)
+  split_head : (k : ℕ) (block : Block) → slice_get blocks k ≡ Some block → block.queue < 8 → (xs ys : List Packet) × SplitsSlots block.queue xs (head_of block) (map rest_packet block.rest ++ ys) (timed p.before)
   split_head k block e lt =
       let s = queue_stands blocks k block e in
       (s.before, s.after, split_slots block.queue (timed p.before) s.before (head_of block) (map rest_packet block.rest ++ s.after) (all_of_queue block.queue lt ∙ s.is))
 
-  pub parallel_head : (k : ℕ) (block : Block) → slice_get (sent_blocks blocks) k ≡ Some block → block.queue < 8 → (n : ℕ) → HoldsHead block (timed p.before ++ replicate n Empty)
+  pub parallel_head : (k : ℕ) (block : Block) → slice_get blocks k ≡ Some block → block.queue < 8 → (n : ℕ) → HoldsHead block (timed p.before ++ replicate n Empty)
   parallel_head k block e lt n =
       let s = (split_head k block e lt).2 in
       head_more block [] (timed p.before) (replicate n Empty) (record { before = s.before; after = s.after; is = s.is })
 
-  pub parallel_holds : (k : ℕ) (block : Block) → slice_get (sent_blocks blocks) k ≡ Some block → block.queue < 8 → (bytes : List ℕ) → Splits bytes block.rest → (n : ℕ) → Holds block bytes (timed p.before ++ replicate n Empty)
+  pub parallel_holds : (k : ℕ) (block : Block) → slice_get blocks k ≡ Some block → block.queue < 8 → (bytes : List ℕ) → Splits bytes block.rest → (n : ℕ) → Holds block bytes (timed p.before ++ replicate n Empty)
   parallel_holds k block e lt bytes split n =
       let r = split_head k block e lt in
       let s = r.2 in

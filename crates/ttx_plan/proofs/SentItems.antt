@@ -21,13 +21,12 @@ use Rattle.ttx_page.specs.Streams.{repeated, heads, heads_page, carries, IsLates
 use Rattle.ttx_source.specs.Services.{Authored, IsAuthored}
 use Rattle.ttx_plan.specs.declared.packet.Slot.TheVariants.{Empty, Sent}
 use Rattle.ttx_plan.specs.Acceptance.{IsTransmitted, PlannedItemsAreSent}
-use Rattle.ttx_plan.specs.Blocks.{sent_blocks}
-use Rattle.ttx_plan.specs.Carries.{block_at, blocks_of}
+use Rattle.ttx_plan.specs.Carries.{block_at}
 use Rattle.ttx_plan.specs.Contents.{row_of, links_of, is_sent_to}
 use Rattle.ttx_plan.specs.Packets.{bytes_of}
 use Rattle.ttx_plan.proofs.HeldBlocks.{HoldsHead, HasPlace, has_place}
 use Rattle.ttx_plan.proofs.InQueues.{head_of}
-use Rattle.ttx_plan.proofs.PlannedSlots.{IsLaidOut, laid_out, sent_block, row_in_rest, links_in_rest}
+use Rattle.ttx_plan.proofs.PlannedSlots.{IsLaidOut, laid_out, row_in_rest, links_in_rest}
 use Rattle.ttx_plan.proofs.OwnLinks.{links_are}
 use Rattle.ttx_plan.proofs.UnderHeaders.{head_says, row_is, authored_at}
 use Rattle.ttx_plan.proofs.Readable.{LawsBelow}
@@ -72,7 +71,7 @@ row_numbers p r e =
     let two : (leb 1 r ≡ true) × (leb r 24 ≡ true) = first_two (leb 1 r) (leb r 24) (not (c10 p.control)) (cond (eqb r 24) p.links.show24 (not (is_hidden (page_row p) r))) e in
     (leb-true 1 r two.0, leb-true r 24 two.1)
 
-module _ (laws : LawsBelow) (pages : List Authored) (serial : Bool) (class : Class) (cycle : List (List ℕ)) (l : IsLaidOut pages serial class cycle) where
+module _ (laws : LawsBelow) (pages : List Authored) (serial late : Bool) (class : Class) (cycle : List (List ℕ)) (l : IsLaidOut pages serial late class cycle) where
   size : length cycle ≡ length l.slots
   size = ap length l.cycle_is ∙ length-map l.slots bytes_of
 
@@ -137,23 +136,22 @@ module _ (laws : LawsBelow) (pages : List Authored) (serial : Bool) (class : Cla
 
     pub transmitted : WrittenLinksAreRead → HasLinks authored.page → (i : ℕ) → slice_get pages i ≡ Some authored → IsTransmitted class cycle authored.page
     transmitted written linked i listed =
-        let k = sent_block class pages i authored listed in
-        let header = has_header (l.head k.0 (block_at class authored) k.1) in
-        record { header = header; items = λ item e. items header k.0 k.1 item e }
+        let header = has_header (l.head i authored listed) in
+        record { header = header; items = λ item e. items header i listed item e }
       where
-        items : HasHeader (repeated cycle) authored.page.id → (k : ℕ) → slice_get (sent_blocks (blocks_of class pages)) k ≡ Some (block_at class authored) → (item : Item) → is_sent_to class authored.page item ≡ true → (j : ℤ) × IsTransmission (repeated cycle) authored.page.id item j
+        items : HasHeader (repeated cycle) authored.page.id → (k : ℕ) → slice_get pages k ≡ Some authored → (item : Item) → is_sent_to class authored.page item ≡ true → (j : ℤ) × IsTransmission (repeated cycle) authored.page.id item j
         items header k e TheHead sent = (header.slot, record { owner = header.slot; owned = (refl, header.is_header) })
         items header k e (TheRow r) sent =
             let numbers = row_numbers authored.page r (sent_needed class authored.page (TheRow r) sent) in
-            let h = has_place (block_at class authored) (row_of authored.page r) l.slots (l.holds k (block_at class authored) e (row_of authored.page r) (row_in_rest class authored.page r numbers.0 numbers.1 sent)) in
+            let h = has_place (block_at class authored) (row_of authored.page r) l.slots (l.holds k authored e (row_of authored.page r) (row_in_rest class authored.page r numbers.0 numbers.1 sent)) in
             (pos h.slot, row_sent r h numbers.0 numbers.1)
         items header k e TheLinks sent =
-            let h = has_place (block_at class authored) (links_of authored.page) l.slots (l.holds k (block_at class authored) e (links_of authored.page) (links_in_rest class authored.page sent)) in
+            let h = has_place (block_at class authored) (links_of authored.page) l.slots (l.holds k authored e (links_of authored.page) (links_in_rest class authored.page sent)) in
             (pos h.slot, links_sent written linked h)
 
 pub planned_items_are_sent : LawsBelow → WrittenLinksAreRead → PlannedItemsAreSent
-planned_items_are_sent laws written class service cycle c n p e =
+planned_items_are_sent laws written late class service cycle c n p e =
     let there = page_there service.pages n p e in
-    let l = laid_out laws service.serial service.lines service.info class service.pages cycle c.said c.service_is.pages c.carries in
+    let l = laid_out laws service.serial service.lines service.info late class service.pages cycle c.said c.service_is.pages c.carries in
     let a = authored_at service.serial service.pages c.service_is.pages n there.0 there.1 in
-    subst (IsTransmitted class cycle) there.2 (transmitted laws service.pages service.serial class cycle l there.0 a written (c.linked n there.0 there.1) n there.1)
+    subst (IsTransmitted class cycle) there.2 (transmitted laws service.pages service.serial late class cycle l there.0 a written (c.linked n there.0 there.1) n there.1)

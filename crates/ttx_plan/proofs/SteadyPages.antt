@@ -90,7 +90,7 @@ latest_here turns cycle mag j some t header lt is none =
     at : (k : ℕ) → k < length cycle → repeated cycle (pos k +ℤ t.by) ≡ get_or cycle k []
     at k lt = ap (λ x. get_or cycle x []) (t.same (pos k) ∙ mod-eq_of_lt lt)
 
-module _ (laws : LawsBelow) (written : WrittenLinksAreRead) (class : Class) (service : ServiceFields) (cycle : List (List ℕ)) (c : IsPlanned class service cycle)
+module _ (laws : LawsBelow) (written : WrittenLinksAreRead) (late : Bool) (class : Class) (service : ServiceFields) (cycle : List (List ℕ)) (c : IsPlanned late class service cycle)
     (n : ℕ) (own : Authored) (listed : slice_get service.pages n ≡ Some own) where
   is_page : IsPage own.page
   is_page = (authored_at service.serial service.pages c.service_is.pages n own listed).page
@@ -144,7 +144,7 @@ module _ (laws : LawsBelow) (written : WrittenLinksAreRead) (class : Class) (ser
       by : (x : Packet) → packet_of (repeated cycle j) ≡ x → heads_matched (AnySub own.page.id.mag own.page.id.page) x ≡ true → heads_page own.page.id x ≡ true
       by P.Empty e m = m
       by P.Unreadable e m = m
-      by (P.Header id control text) e m = sub_own alone id control text (planned_headers_are_own laws class service cycle c.service_is c.said c.carries (turned (length cycle) j) (inside j) id control text e) m
+      by (P.Header id control text) e m = sub_own alone id control text (planned_headers_are_own laws late class service cycle c.service_is c.said c.carries (turned (length cycle) j) (inside j) id control text e) m
       by (P.Row mag number text) e m = m
       by (P.Links mag content) e m = m
       by P.Info e m = m
@@ -159,7 +159,7 @@ module _ (laws : LawsBelow) (written : WrittenLinksAreRead) (class : Class) (ser
   true_head : (j : ℤ) (x : Packet) → packet_of (repeated cycle j) ≡ x → heads_page own.page.id x ≡ true → HeadIsRight own.page x
   true_head j P.Empty e h = cc
   true_head j P.Unreadable e h = cc
-  true_head j (P.Header id control text) e h = head_own id control text (planned_headers_are_own laws class service cycle c.service_is c.said c.carries (turned (length cycle) j) (inside j) id control text e) h
+  true_head j (P.Header id control text) e h = head_own id control text (planned_headers_are_own laws late class service cycle c.service_is c.said c.carries (turned (length cycle) j) (inside j) id control text e) h
   true_head j (P.Row mag number text) e h = cc
   true_head j (P.Links mag content) e h = cc
   true_head j P.Info e h = cc
@@ -173,7 +173,7 @@ module _ (laws : LawsBelow) (written : WrittenLinksAreRead) (class : Class) (ser
       let two = and_parts (eqb mag own.page.id.mag) (eqb number r) k in
       let mags : mag ≡ own.page.id.mag = eqb-true mag own.page.id.mag two.0 in
       let numbers : number ≡ r = eqb-true number r two.1 in
-      let u = planned_rows_are_own laws class service cycle c.service_is c.said c.carries (turned (length cycle) j) (inside j) mag number text e in
+      let u = planned_rows_are_own laws late class service cycle c.service_is c.said c.carries (turned (length cycle) j) (inside j) mag number text e in
       let same : u.authored ≡ own = under_own h j latest is u.header (omega (arith, u.later)) u.index u.authored u.listed u.is_header (sym mags ∙ u.mag_is) (λ i low high. ap (λ m. heads m (packet_of (get_or cycle i []))) (sym mags) ∙ u.none_between i low high) in
       u.text_is ∙ ap (λ a. map odd_byte (page_row a.page number)) same ∙ ap (λ k. map odd_byte (page_row own.page k)) numbers
   true_row r h j latest is (P.Links mag content) e k = cc
@@ -187,7 +187,7 @@ module _ (laws : LawsBelow) (written : WrittenLinksAreRead) (class : Class) (ser
   true_links h j latest is (P.Row mag number text) e k = cc
   true_links h j latest is (P.Links mag content) e k =
       let mags : mag ≡ own.page.id.mag = eqb-true mag own.page.id.mag k in
-      let u = planned_links_are_own laws written class service cycle c (turned (length cycle) j) (inside j) mag content e in
+      let u = planned_links_are_own laws written late class service cycle c (turned (length cycle) j) (inside j) mag content e in
       let same : u.authored ≡ own = under_own h j latest is u.header (omega (arith, u.later)) u.index u.authored u.listed u.is_header (sym mags ∙ u.mag_is) (λ i low high. ap (λ m. heads m (packet_of (get_or cycle i []))) (sym mags) ∙ u.none_between i low high) in
       (u.exact, u.content_is ∙ ap (λ a. Some a.page.links) same)
   true_links h j latest is P.Info e k = cc
@@ -200,10 +200,10 @@ module _ (laws : LawsBelow) (written : WrittenLinksAreRead) (class : Class) (ser
 
   pub steady_page : SteadySendsItsOwn → Steady (repeated cycle) (pages_of service) own.page
   steady_page law =
-      let sent = planned_items_are_sent laws written class service cycle c n own.page (get_map (λ a. a.page) service.pages n own listed) in
+      let sent = planned_items_are_sent laws written late class service cycle c n own.page (get_map (λ a. a.page) service.pages n own listed) in
       (law (repeated cycle) (pages_of service) own.page is_page).1 (record { header = sent.header; only_subpage = only_subpage; items = all_true })
 
 pub planned_is_steady : LawsBelow → WrittenLinksAreRead → SteadySendsItsOwn → PlannedIsSteady
-planned_is_steady laws written law class service cycle c n p e =
+planned_is_steady laws written law late class service cycle c n p e =
     let there = page_there service.pages n p e in
-    subst (Steady (repeated cycle) (pages_of service)) there.2 (steady_page laws written class service cycle c n there.0 there.1 law)
+    subst (Steady (repeated cycle) (pages_of service)) there.2 (steady_page laws written late class service cycle c n there.0 there.1 law)

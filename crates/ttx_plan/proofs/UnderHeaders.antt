@@ -20,18 +20,19 @@ use Rattle.ttx_source.specs.Services.{Authored, IsAuthored}
 use Rattle.ttx_plan.specs.declared.packet.Packet.{Packet}
 use Rattle.ttx_plan.specs.declared.packet.Slot.{Slot}
 use Rattle.ttx_plan.specs.declared.packet.Slot.TheVariants.{Sent}
-use Rattle.ttx_plan.specs.Blocks.{Block, sent_blocks}
-use Rattle.ttx_plan.specs.Carries.{CarriesBlocks, block_at, blocks_of}
+use Rattle.ttx_plan.specs.Blocks.{Block, led}
+use Rattle.ttx_plan.specs.Carries.{CarriesBlocks, block_at, blocks_of, sent_of}
 use Rattle.ttx_plan.specs.Contents.{row_of, rest_of}
 use Rattle.ttx_plan.specs.Laws.{IsSaid}
 use Rattle.ttx_plan.specs.Packets.{bytes_of}
 use Rattle.ttx_plan.specs.Serial.{serial_slots}
-use Rattle.ttx_plan.proofs.AllRead.{serial_read, parallel_read, read_at, read_there, rounds_all}
+use Rattle.ttx_plan.proofs.AllRead.{serial_read, parallel_read, read_at, read_there}
 use Rattle.ttx_plan.proofs.InQueues.{HasOwner}
 use Rattle.ttx_plan.proofs.Lists.{all_get}
 use Rattle.ttx_plan.proofs.Owners.{slot_at}
 use Rattle.ttx_plan.proofs.Placing.{places, serial_at, serial_quiet, parallel_at, parallel_owner}
 use Rattle.ttx_plan.proofs.Readable.{LawsBelow, Reads, packet_from, row_kind}
+use Rattle.ttx_plan.proofs.SentBlocks.{order_all}
 
 same : (id : Id) → same_id id id ≡ true
 same id = both _ _ (both _ _ (eq-eqb id.mag id.mag refl) (eq-eqb id.page id.page refl)) (eq-eqb id.sub id.sub refl)
@@ -58,20 +59,21 @@ pub record IsUnder (pages : List Authored) (class : Class) (cycle : List (List �
   pub is_header : S.heads_page authored.page.id (packet_of (get_or cycle header [])) ≡ true
   pub none_between : (i : ℕ) → header < i → i < n → S.heads mag (packet_of (get_or cycle i [])) ≡ false
 
--- the block is that of a page of the list
+-- the block is that of a page of the list, behind a time-filling header or not
 record IsBlockOf (pages : List Authored) (serial : Bool) (class : Class) (block : Block) : Type 0 where
   pub index : ℕ
   pub authored : Authored
   pub listed : slice_get pages index ≡ Some authored
   pub kept : IsAuthored serial authored
-  pub is : block ≡ block_at class authored
+  pub filler : Bool
+  pub is : block ≡ led filler (block_at class authored)
 
 are_blocks : (pages : List Authored) (serial : Bool) (class : Class) (some : List Authored) (at : ℕ) → ((k : ℕ) (p : Authored) → slice_get some k ≡ Some p → slice_get pages (at + k) ≡ Some p) → All (IsAuthored serial) some →
     AllByRecursion (IsBlockOf pages serial class) (blocks_of class some)
 are_blocks pages serial class [] at listed a = tt
 are_blocks pages serial class (p ∷ some) at listed a =
     let here : at + 0 ≡ at = omega arith in (
-      record { index = at; authored = p; listed = ap (slice_get pages) (sym here) ∙ listed 0 p refl; kept = a 0 p (omega arith); is = refl },
+      record { index = at; authored = p; listed = ap (slice_get pages) (sym here) ∙ listed 0 p refl; kept = a 0 p (omega arith); filler = false; is = refl },
       are_blocks pages serial class some (suc at) (λ k q e. let next : suc at + k ≡ at + suc k = omega arith in ap (slice_get pages) next ∙ listed (suc k) q e) (λ k d lt. a (suc k) d (omega arith)),
     )
 
@@ -80,14 +82,15 @@ head_says laws serial authored a class =
     header_says laws (fields_at authored.page.id authored.page.control (map odd_byte authored.page.head) (replicate 8 32))
     (record { id = a.page.id; control = a.page.control; text = length-map authored.page.head odd_byte ∙ a.page.head_length; clock = refl })
 
-under_at : LawsBelow → (serial : Bool) (lines : ℕ) (class : Class) (pages : List Authored) → All (IsAuthored serial) pages → (cycle : List (List ℕ)) (at : ℕ → Slot) →
+under_at : LawsBelow → (serial : Bool) (lines : ℕ) (late : Bool) (class : Class) (pages : List Authored) → All (IsAuthored serial) pages → (cycle : List (List ℕ)) (at : ℕ → Slot) →
     ((i : ℕ) → i < length cycle → get_or cycle i [] ≡ bytes_of (at i)) → ((i : ℕ) → Reads pages serial (at i)) → (n queue : ℕ) (packet : Packet) → n < length cycle → at n ≡ Sent queue packet →
-    HasOwner lines (sent_blocks (blocks_of class pages)) at queue packet n → (mag : ℕ) → mag ≡ suc queue → IsUnder pages class cycle lines n mag
-under_at laws serial lines class pages a cycle at bytes reads n queue packet lt here o mag mag_is =
+    HasOwner lines (sent_of late class pages) at queue packet n → (mag : ℕ) → mag ≡ suc queue → IsUnder pages class cycle lines n mag
+under_at laws serial lines late class pages a cycle at bytes reads n queue packet lt here o mag mag_is =
     let z : (k : ℕ) → 0 + k ≡ k = λ k. omega arith in
-    let all : AllByRecursion (IsBlockOf pages serial class) (sent_blocks (blocks_of class pages)) =
-    rounds_all (IsBlockOf pages serial class) (blocks_of class pages) 8 (are_blocks pages serial class pages 0 (λ k p q. ap (slice_get pages) (z k) ∙ q) a) in
-    let b : IsBlockOf pages serial class o.own.block = all_get (IsBlockOf pages serial class) (sent_blocks (blocks_of class pages)) o.own.index o.own.block all o.own.listed in
+    let all : AllByRecursion (IsBlockOf pages serial class) (sent_of late class pages) =
+    order_all (IsBlockOf pages serial class) (λ filler x q. record { index = q.index; authored = q.authored; listed = q.listed; kept = q.kept; filler = filler; is = ap (led filler) q.is })
+    late (blocks_of class pages) (are_blocks pages serial class pages 0 (λ k p q. ap (slice_get pages) (z k) ∙ q) a) in
+    let b : IsBlockOf pages serial class o.own.block = all_get (IsBlockOf pages serial class) (sent_of late class pages) o.own.index o.own.block all o.own.listed in
     let before : o.place < length cycle = omega (arith, o.late) in
     let low = b.kept.page.id.mag_from in
     let queue_is : b.authored.page.id.mag - 1 ≡ queue = sym (ap (λ x. x.queue) b.is) ∙ o.own.in_mag in
@@ -104,23 +107,23 @@ under_at laws serial lines class pages a cycle at bytes reads n queue packet lt 
       none_between = λ i low high. ap (λ m. S.heads m (packet_of (get_or cycle i []))) mag_is ∙ ap (λ x. S.heads (suc queue) (packet_of x)) (bytes i (omega arith)) ∙ (reads i).heads_is queue ∙ o.none_between i low high;
     }
 
-pub under : LawsBelow → (serial : Bool) (lines : ℕ) (info : Option InfoFields) (class : Class) (pages : List Authored) (cycle : List (List ℕ)) → IsSaid info → All (IsAuthored serial) pages →
-    CarriesBlocks serial lines (option_map info_bytes info) (blocks_of class pages) cycle → (n : ℕ) → n < length cycle →
+pub under : LawsBelow → (serial : Bool) (lines : ℕ) (info : Option InfoFields) (late : Bool) (class : Class) (pages : List Authored) (cycle : List (List ℕ)) → IsSaid info → All (IsAuthored serial) pages →
+    CarriesBlocks serial lines (option_map info_bytes info) (sent_of late class pages) cycle → (n : ℕ) → n < length cycle →
     (mag : ℕ) (item : Item) → S.carries mag item (packet_of (get_or cycle n [])) ≡ true → IsUnder pages class cycle lines n mag
-under laws true lines info class pages cycle said a known n lt mag item c =
+under laws true lines info late class pages cycle said a known n lt mag item c =
     let sent = option_map info_bytes info in
-    let blocks = blocks_of class pages in
-    let reads = read_there laws pages true (serial_slots lines sent blocks) (serial_read laws lines info class pages said a) in
+    let blocks = sent_of late class pages in
+    let reads = read_there laws pages true (serial_slots lines sent blocks) (serial_read laws lines info late class pages said a) in
     let l = (reads n).late_is mag item (ap (λ x. S.carries mag item (packet_of x)) (sym (serial_at lines sent blocks cycle known n lt)) ∙ c) in
     let q = serial_quiet lines sent blocks n l.queue l.packet l.slot_is l.late in
-    under_at laws true lines class pages a cycle (places lines sent blocks) (serial_at lines sent blocks cycle known) reads n l.queue l.packet lt l.slot_is
+    under_at laws true lines late class pages a cycle (places lines sent blocks) (serial_at lines sent blocks cycle known) reads n l.queue l.packet lt l.slot_is
     (record { place = q.place; header = q.header; late = q.late; header_at = q.header_at; none_between = λ i low high. q.none_between i low high l.queue; own = q.own }) mag l.mag_is
-under laws false lines info class pages cycle said a known n lt mag item c =
+under laws false lines info late class pages cycle said a known n lt mag item c =
     let sent = option_map info_bytes info in
-    let blocks = blocks_of class pages in
-    let reads = read_at laws pages false known.before (parallel_read laws lines info class pages said a known.before known.turns) in
+    let blocks = sent_of late class pages in
+    let reads = read_at laws pages false known.before (parallel_read laws lines info late class pages said a known.before known.turns) in
     let l = (reads n).late_is mag item (ap (λ x. S.carries mag item (packet_of x)) (sym (parallel_at lines sent blocks cycle known n lt)) ∙ c) in
-    under_at laws false lines class pages a cycle (slot_at known.before) (parallel_at lines sent blocks cycle known) reads n l.queue l.packet lt l.slot_is
+    under_at laws false lines late class pages a cycle (slot_at known.before) (parallel_at lines sent blocks cycle known) reads n l.queue l.packet lt l.slot_is
     (parallel_owner lines sent blocks cycle known n l.queue l.packet l.slot_is l.late) mag l.mag_is
 
 -- ---- the packets of a page

@@ -4,13 +4,13 @@ use Rattle.std.specs.List.{list_any}
 use Rattle.std.proofs.lemmas.List.{map-append}
 use Rattle.ttx_plan.specs.declared.packet.Slot.{Slot}
 use Rattle.ttx_plan.specs.declared.packet.Slot.TheVariants.{Sent}
-use Rattle.ttx_plan.specs.declared.block.PageBlock.{PageBlock}
+use Rattle.ttx_plan.specs.declared.rounds.SentBlock.{SentBlock}
 use Rattle.ttx_plan.specs.Blocks.{Block, has_pages, used_to, time_filling_packet}
-use Rattle.ttx_plan.specs.Seen.{seen}
+use Rattle.ttx_plan.specs.Seen.{seen_sent}
 
-pub any_seen : (queue : ℕ) (blocks : List PageBlock) → list_any (λ b. eqb b.queue queue) blocks ≡ has_pages (map seen blocks) queue
+pub any_seen : (queue : ℕ) (sent : List SentBlock) → list_any (λ b. eqb b.block.now.queue queue) sent ≡ has_pages (map seen_sent sent) queue
 any_seen queue [] = refl
-any_seen queue (b ∷ blocks) = ap (λ x. eqb b.queue queue || x) (any_seen queue blocks)
+any_seen queue (b ∷ sent) = ap (λ x. eqb b.block.now.queue queue || x) (any_seen queue sent)
 
 pub used_more : (front : List Slot) (blocks : List Block) (queue : ℕ) (b : Bool) → has_pages blocks queue ≡ b →
     (front ++ map (λ n. Sent n (time_filling_packet true n)) (used_to blocks queue)) ++ cond b (Sent queue (time_filling_packet true queue) ∷ []) [] ≡ front ++ map (λ n. Sent n (time_filling_packet true n)) (used_to blocks (queue + 1))

@@ -6,7 +6,7 @@
 --   PlannedIsSteady         each page is sent unchanged
 --   IsAcceptedForEach, PlannedIsAccepted    for each repeat count some certificate is accepted
 --   PlannedIsFound          and the search for the least deadline finds one
-use Rattle.std.specs.Prelude.{◌≡◌, ℕ, ◌+◌, ◌<◌, ◌≤◌, ℤ, true, false, List, [], length, slice_get, slice_index_or, Option, Some}
+use Rattle.std.specs.Prelude.{◌≡◌, ℕ, ◌+◌, ◌<◌, ◌≤◌, ℤ, Bool, true, false, List, [], length, slice_get, slice_index_or, Option, Some}
 use Rattle.ttx_links.specs.Sets.{LinkSet, is_exact}
 use Rattle.ttx_page.specs.declared.class.Class.{Class}
 use Rattle.ttx_page.specs.declared.item.Item.{Item}
@@ -27,11 +27,11 @@ abbrev pub AreLinked : List Authored → Type 0
 AreLinked pages = (i : ℕ) (authored : Authored) → slice_get pages i ≡ Some authored → HasLinks authored.page
 
 -- 1 to 65,536 slots that carry a service in its ranges
-pub record IsPlanned (class : Class) (service : ServiceFields) (cycle : List (List ℕ)) : Type 0 where
+pub record IsPlanned (late : Bool) (class : Class) (service : ServiceFields) (cycle : List (List ℕ)) : Type 0 where
   pub service_is : IsService service
   pub said : IsSaid service.info
   pub linked : AreLinked service.pages
-  pub carries : Carries class service cycle
+  pub carries : Carries late class service cycle
   pub some : 1 ≤ length cycle
   pub few : length cycle ≤ 65536
 
@@ -51,7 +51,7 @@ pub record IsOwnLinks (pages : List Authored) (cycle : List (List ℕ)) (lines n
 
 -- so it is with each X/27/0 in a planned cycle
 abbrev pub PlannedLinksAreOwn : Type 0
-PlannedLinksAreOwn = (class : Class) (service : ServiceFields) (cycle : List (List ℕ)) → IsPlanned class service cycle →
+PlannedLinksAreOwn = (late : Bool) (class : Class) (service : ServiceFields) (cycle : List (List ℕ)) → IsPlanned late class service cycle →
     (n : ℕ) → n < length cycle → (mag : ℕ) (content : Option LinkSet) → packet_of (slice_index_or cycle n []) ≡ Links mag content →
     IsOwnLinks service.pages cycle service.lines n mag content
 
@@ -61,11 +61,11 @@ pub record IsTransmitted (class : Class) (cycle : List (List ℕ)) (p : Page) : 
   pub items : (item : Item) → is_sent_to class p item ≡ true → (j : ℤ) × IsTransmission (repeated cycle) p.id item j
 
 abbrev pub PlannedItemsAreSent : Type 0
-PlannedItemsAreSent = (class : Class) (service : ServiceFields) (cycle : List (List ℕ)) → IsPlanned class service cycle →
+PlannedItemsAreSent = (late : Bool) (class : Class) (service : ServiceFields) (cycle : List (List ℕ)) → IsPlanned late class service cycle →
     (n : ℕ) (p : Page) → slice_get (pages_of service) n ≡ Some p → IsTransmitted class cycle p
 
 abbrev pub PlannedIsSteady : Type 0
-PlannedIsSteady = (class : Class) (service : ServiceFields) (cycle : List (List ℕ)) → IsPlanned class service cycle →
+PlannedIsSteady = (late : Bool) (class : Class) (service : ServiceFields) (cycle : List (List ℕ)) → IsPlanned late class service cycle →
     (n : ℕ) (p : Page) → slice_get (pages_of service) n ≡ Some p → Steady (repeated cycle) (pages_of service) p
 
 -- for receivers of the class, the service's lines and each repeat count some certificate is accepted
@@ -73,7 +73,7 @@ abbrev pub IsAcceptedForEach : Class → ServiceFields → List (List ℕ) → T
 IsAcceptedForEach class service cycle = (repeat : ℕ) → 1 ≤ repeat → repeat ≤ 8 → CanBeAccepted cycle (pages_of service) class service.lines repeat 1000000
 
 abbrev pub PlannedIsAccepted : Type 0
-PlannedIsAccepted = (class : Class) (service : ServiceFields) (cycle : List (List ℕ)) → IsPlanned class service cycle → IsAcceptedForEach class service cycle
+PlannedIsAccepted = (late : Bool) (class : Class) (service : ServiceFields) (cycle : List (List ℕ)) → IsPlanned late class service cycle → IsAcceptedForEach class service cycle
 
 -- the certificate that is found is accepted, and none with a smaller deadline is
 pub record IsFound (cycle : List (List ℕ)) (pages : List Page) (w : Certificate) (answer : Option ℕ) : Type 0 where
@@ -84,6 +84,6 @@ pub record IsFound (cycle : List (List ℕ)) (pages : List Page) (w : Certificat
   pub least : (e : ℕ) → CanBeAccepted cycle pages w.class w.lines w.repeat e → deadline ≤ e
 
 abbrev pub PlannedIsFound : Type 0
-PlannedIsFound = (class : Class) (service : ServiceFields) (cycle : List (List ℕ)) → IsPlanned class service cycle →
+PlannedIsFound = (late : Bool) (class : Class) (service : ServiceFields) (cycle : List (List ℕ)) → IsPlanned late class service cycle →
     (repeat : ℕ) → 1 ≤ repeat → repeat ≤ 8 → (w : Certificate) (deadline : Option ℕ) →
     IsFoundFor cycle (pages_of service) repeat service.lines class w deadline → IsFound cycle (pages_of service) w deadline

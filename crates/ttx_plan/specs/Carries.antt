@@ -2,13 +2,13 @@
 --
 --   magazines_for           what the magazines send in parallel transmission
 --   CarriesBlocks           a cycle of blocks, in serial or in parallel transmission
---   blocks_of               the blocks of a service's pages, for receivers of a class
+--   blocks_of, sent_of      the blocks of a service's pages, for receivers of a class, and as they are sent
 --   Carries                 a cycle that carries a service
 use Rattle.std.specs.Prelude.{◌≡◌, ℕ, Bool, true, false, List, map, Option, option_map}
 use Rattle.ttx_info.specs.Infos.{info_bytes}
 use Rattle.ttx_page.specs.declared.class.Class.{Class}
 use Rattle.ttx_source.specs.Services.{Authored, ServiceFields}
-use Rattle.ttx_plan.specs.Blocks.{Block, queues_to}
+use Rattle.ttx_plan.specs.Blocks.{Block, sent_blocks, queues_to}
 use Rattle.ttx_plan.specs.Contents.{block_of}
 use Rattle.ttx_plan.specs.Packets.{bytes_of}
 use Rattle.ttx_plan.specs.Serial.{serial_slots}
@@ -16,12 +16,12 @@ use Rattle.ttx_plan.specs.Turns.{Magazines, IsParallel}
 
 -- the queues of the eight magazines
 abbrev pub magazines_for : ℕ → Option (List ℕ) → List Block → Magazines
-magazines_for lines info blocks = record { lines = lines; info = info; queues = queues_to blocks 8 }
+magazines_for lines info sent = record { lines = lines; info = info; queues = queues_to sent 8 }
 
 -- serial: the cycle is the one list; parallel: it keeps the rule of turns
 abbrev pub CarriesBlocks : Bool → ℕ → Option (List ℕ) → List Block → List (List ℕ) → Type 0
-CarriesBlocks true lines info blocks cycle = cycle ≡ map bytes_of (serial_slots lines info blocks)
-CarriesBlocks false lines info blocks cycle = IsParallel (magazines_for lines info blocks) cycle
+CarriesBlocks true lines info sent cycle = cycle ≡ map bytes_of (serial_slots lines info sent)
+CarriesBlocks false lines info sent cycle = IsParallel (magazines_for lines info sent) cycle
 
 -- a page's block
 abbrev pub block_at : Class → Authored → Block
@@ -31,7 +31,11 @@ block_at class authored = block_of class authored.page authored.often
 abbrev pub blocks_of : Class → List Authored → List Block
 blocks_of class pages = map (block_at class) pages
 
--- the cycle carries the service to receivers of the class
-abbrev pub Carries : Class → ServiceFields → List (List ℕ) → Type 0
-Carries class service cycle =
-    CarriesBlocks service.serial service.lines (option_map info_bytes service.info) (blocks_of class service.pages) cycle
+-- the same in the order of sending
+abbrev pub sent_of : Bool → Class → List Authored → List Block
+sent_of late class pages = sent_blocks late (blocks_of class pages)
+
+-- the cycle carries the service to receivers of the class; late: also to those that show a page late
+abbrev pub Carries : Bool → Class → ServiceFields → List (List ℕ) → Type 0
+Carries late class service cycle =
+    CarriesBlocks service.serial service.lines (option_map info_bytes service.info) (sent_of late class service.pages) cycle

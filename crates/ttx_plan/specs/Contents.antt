@@ -4,7 +4,7 @@
 --   is_sent_to              the items that are sent to a class of receivers
 --   rows_to, rest_of        rows and X/27/0 of a block
 --   block_of                the block
-use Rattle.std.specs.Prelude.{ℕ, zero, suc, ◌-◌, Bool, not, ◌&&◌, if◌then◌else◌, List, [], ◌∷◌, ◌++◌, map, replicate}
+use Rattle.std.specs.Prelude.{ℕ, zero, suc, ◌-◌, Bool, false, not, ◌&&◌, if◌then◌else◌, List, [], ◌∷◌, ◌++◌, map, replicate}
 use Rattle.ttx_code.specs.Words.{odd_byte}
 use Rattle.ttx_packet.specs.Slots.{address_bytes}
 use Rattle.ttx_header.specs.Fields.{fields_at}
@@ -45,4 +45,4 @@ rest_of class p = rows_to class p 24 ++ (if is_sent_to class p TheLinks then lin
 
 -- the block of a page that is sent so often; magazine 1 has queue 0
 abbrev pub block_of : Class → Page → ℕ → Block
-block_of class p often = record { queue = p.id.mag - 1; often = often; header = header_of p; rest = rest_of class p }
+block_of class p often = record { queue = p.id.mag - 1; often = often; page = p.id.page; filler = false; header = header_of p; rest = rest_of class p }

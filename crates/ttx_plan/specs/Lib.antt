@@ -4,6 +4,7 @@ pub mod Carries
 pub mod Contents
 pub mod Counting
 pub mod Cursors
+pub mod Following
 pub mod Laws
 pub mod Packets
 pub mod Ranges

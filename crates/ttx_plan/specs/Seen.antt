@@ -1,17 +1,27 @@
 -- The program's blocks as the definitions see them.
 --
---   seen                    a block
+--   seen, seen_sent         a block, and a block as it is sent
+--   fillers_in              how many blocks go behind a time-filling header
 --   used_by                 the queues that have pages
-use Rattle.std.specs.Prelude.{ℕ, zero, suc, ◌-◌, List, [], ◌∷◌, ◌++◌, ◌==◌, if◌then◌else◌}
+use Rattle.std.specs.Prelude.{ℕ, zero, suc, ◌-◌, false, List, [], ◌∷◌, ◌++◌, ◌==◌, if◌then◌else◌, sum_by}
 use Rattle.std.specs.List.{list_any}
 use Rattle.ttx_page.specs.declared.page.Page.{Page}
 use Rattle.ttx_page.specs.Views.{page_of}
 use Rattle.ttx_plan.specs.declared.block.PageBlock.{PageBlock}
-use Rattle.ttx_plan.specs.Blocks.{Block}
+use Rattle.ttx_plan.specs.declared.rounds.SentBlock.{SentBlock}
+use Rattle.ttx_plan.specs.Blocks.{Block, led}
 
 -- a block
 abbrev pub seen : PageBlock → Block
-seen block = record { queue = block.queue; often = block.often; header = block.header; rest = block.rest.items }
+seen block = record { queue = block.queue; often = block.often; page = block.page; filler = false; header = block.header; rest = block.rest.items }
+
+-- a block as it is sent
+abbrev pub seen_sent : SentBlock → Block
+seen_sent sent = led sent.filler (seen sent.block.now)
+
+-- how many blocks go behind a time-filling header
+abbrev pub fillers_in : List Block → ℕ
+fillers_in sent = sum_by (λ block. if block.filler then 1 else 0) sent
 
 -- those of the first n queues that have one of these pages
 abbrev pub used_by : List Page → ℕ → List ℕ

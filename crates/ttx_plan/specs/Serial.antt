@@ -1,23 +1,27 @@
 -- Serial transmission (profile).
 --
---   serial_block, serial_list           what is sent, packet 8/30 aside
+--   serial_page, serial_block, serial_list          what is sent, packet 8/30 aside
 --   info_if, with_info      packet 8/30 put in
 --   filled, serial_slots    the whole cycle
 use Rattle.std.specs.Prelude.{◌≡◌, ℕ, ◌+◌, true, Bool, if◌then◌else◌, List, [], ◌∷◌, ◌++◌, map, length, flat_map, replicate, Option, Some, None}
 use Rattle.ttx_plan.specs.declared.packet.Slot.{Slot}
 use Rattle.ttx_plan.specs.declared.packet.Slot.TheVariants.{Empty, Info, Sent}
-use Rattle.ttx_plan.specs.Blocks.{Block, header_packet, rest_packet, sent_blocks, used_queues, time_filling_packet}
+use Rattle.ttx_plan.specs.Blocks.{Block, header_packet, rest_packet, filler_of, used_queues, time_filling_packet}
 use Rattle.ttx_plan.specs.Packets.{bytes_of}
 use Rattle.ttx_plan.specs.Turns.{is_due, missing}
 
--- a block: its page header, an empty field, its rows and X/27/0
-abbrev pub serial_block : ℕ → Block → List Slot
-serial_block lines block =
+-- a block's page: its page header, an empty field, its rows and X/27/0
+abbrev pub serial_page : ℕ → Block → List Slot
+serial_page lines block =
     Sent block.queue (header_packet block.header) ∷ (replicate lines Empty ++ map (λ bytes. Sent block.queue (rest_packet bytes)) block.rest)
+
+-- the same behind its time-filling header, if it has one
+abbrev pub serial_block : ℕ → Block → List Slot
+serial_block lines block = map (Sent block.queue) (filler_of true block) ++ serial_page lines block
 
 -- the blocks, and one time-filling header of each magazine that has pages
 abbrev pub serial_list : ℕ → List Block → List Slot
-serial_list lines blocks = flat_map (serial_block lines) (sent_blocks blocks) ++ map (λ queue. Sent queue (time_filling_packet true queue)) (used_queues blocks)
+serial_list lines sent = flat_map (serial_block lines) sent ++ map (λ queue. Sent queue (time_filling_packet true queue)) (used_queues sent)
 
 -- packet 8/30, where there is one and it is due
 abbrev pub info_if : Option (List ℕ) → Bool → List Slot
@@ -41,4 +45,4 @@ filled lines slots = slots ++ replicate (missing lines (length slots)) Empty
 
 -- the cycle of these blocks
 abbrev pub serial_slots : ℕ → Option (List ℕ) → List Block → List Slot
-serial_slots lines info blocks = filled lines (with_info lines info 0 (serial_list lines blocks))
+serial_slots lines info sent = filled lines (with_info lines info 0 (serial_list lines sent))

@@ -16,6 +16,8 @@ pub struct PageBlock {
     pub queue: usize,
     /// In how many of the eight rounds the block is sent.
     pub often: usize,
+    /// The page number in its page header.
+    pub page: u8,
     /// The page header.
     pub header: [u8; 42],
     /// The rows that are sent, rising, and X/27/0.
@@ -70,6 +72,7 @@ impl PageBlock {
         Ok(PageBlock {
             queue: usize::from(page.id().mag()) - 1,
             often: usize::from(often),
+            page: page.id().page(),
             header: header_packet(page),
             rest: rest_packets(alloc, class, page)?,
         })

@@ -1,14 +1,17 @@
 //! What the length of a cycle is judged by, before anything is laid out.
 
-ghost use Rattle.std.specs.Prelude.{◌≡◌, ◌-◌, ◌<◌, ◌≤◌, ◌==◌, length};
+ghost use Rattle.std.specs.Prelude.{◌≡◌, ◌-◌, ◌<◌, ◌≤◌, ◌*◌, ◌==◌, length, option_map, slice_get, Some};
 ghost use Rattle.std.specs.List.{list_any};
 ghost use Rattle.ttx_page.specs.Views.{page_of};
 ghost use Rattle.ttx_plan.specs.Blocks.{length_bound};
-ghost use Rattle.ttx_plan.specs.Carries.{blocks_of};
-ghost use Rattle.ttx_plan.specs.Seen.{used_by};
+ghost use Rattle.ttx_plan.specs.Carries.{sent_of};
+ghost use Rattle.ttx_plan.specs.Ranges.{IsOften};
+ghost use Rattle.ttx_plan.specs.Seen.{fillers_in, used_by};
 
+use crate::asked::Receivers;
 use crate::block::block_length;
-use ttx_page::{Class, Page};
+use crate::fillers::Fillers;
+use ttx_page::Page;
 use ttx_source::Service;
 
 // Whether a page belongs to the queue.
@@ -35,19 +38,51 @@ fn count_used(pages: &[Page]) -> usize
     count
 }
 
+// How often the page at an index is sent.
+fn times(service: &Service, index: usize) -> usize
+    requires { index < length service.now.pages }
+    ensures value { option_map (λ p. p.often) (slice_get service.now.pages index) ≡ Some result }
+    ensures is { IsOften result }
+{
+    let _pages = service.pages();
+    usize::from(service.often(index))
+}
+
+// How many blocks go behind a time-filling header.
+fn count_fillers(receivers: Receivers, service: &Service) -> usize
+    ensures count { result ≡ fillers_in (sent_of receivers.late receivers.class service.now.pages) }
+    ensures few { result ≤ 8 * 2000 }
+{
+    let pages = service.pages();
+    let mut count = 0;
+    let mut fillers = Fillers::new(receivers.late);
+    for round in 0..8 {
+        for index in 0..pages.len() {
+            let id = pages[index].id();
+            if round % (8 / times(service, index)) == 0 {
+                if fillers.pass(usize::from(id.mag()) - 1, id.page()) {
+                    count += 1;
+                }
+            }
+        }
+    }
+    count
+}
+
 /// Twice the slots of all packets, with a field for each block and a time-filling header for each magazine, and two fields
 /// more. No memory is taken.
-pub fn length_bound(class: Class, service: &Service) -> usize
-    ensures { result ≡ length_bound service.now.lines (blocks_of class service.now.pages) }
+pub fn length_bound(receivers: Receivers, service: &Service) -> usize
+    ensures { result ≡ length_bound service.now.lines (sent_of receivers.late receivers.class service.now.pages) }
 {
     let pages = service.pages();
     let lines = usize::from(service.lines());
     let mut blocks = 0;
     let mut packets = 0;
     for index in 0..pages.len() {
-        let often = usize::from(service.often(index));
+        let often = times(service, index);
         blocks += often;
-        packets += often * block_length(class, &pages[index]);
+        packets += often * block_length(receivers.class, &pages[index]);
     }
+    packets += count_fillers(receivers, service);
     2 * (packets + blocks * lines + count_used(pages)) + 2 * lines
 }

@@ -3,11 +3,10 @@
 ghost use Rattle.std.specs.Prelude.{◌≡◌, ◌<◌, ◌≤◌, map, length, IfOk, vec_len};
 ghost use Rattle.ttx_plan.specs.Blocks.{length_bound};
 ghost use Rattle.ttx_plan.specs.Carries.{CarriesBlocks};
-ghost use Rattle.ttx_plan.specs.Seen.{seen};
+ghost use Rattle.ttx_plan.specs.Seen.{seen_sent};
 
-use crate::block::PageBlock;
 use crate::parallel::parallel_slots;
-use crate::rounds::{queues, sent_blocks};
+use crate::rounds::{SentBlock, queues};
 use crate::serial::serial_slots;
 use crate::slots::fill;
 use std::alloc::{AllocError, Global};
@@ -18,22 +17,21 @@ pub fn cycle_slots(
     serial: bool,
     lines: usize,
     info: Option<[u8; 42]>,
-    blocks: &[PageBlock],
+    sent: &[SentBlock],
 ) -> Result<Vec<[u8; 42]>, AllocError>
     requires lines { (1 ≤ lines) × (lines ≤ 32) }
-    requires some { 0 < length blocks.now }
-    requires few { length_bound lines (map seen blocks.now) ≤ 65536 }
-    ensures carries { IfOk result (λ slots. CarriesBlocks serial lines info (map seen blocks.now) slots.items) }
+    requires some { 0 < length sent.now }
+    requires few { length_bound lines (map seen_sent sent.now) ≤ 65536 }
+    ensures carries { IfOk result (λ slots. CarriesBlocks serial lines info (map seen_sent sent.now) slots.items) }
     ensures some { IfOk result (λ slots. 0 < vec_len slots) }
     ensures most { IfOk result (λ slots. vec_len slots ≤ 65536) }
 {
-    let sent = sent_blocks(alloc, blocks)?;
     if serial {
-        let mut slots = serial_slots(alloc, blocks, &sent, lines, info)?;
+        let mut slots = serial_slots(alloc, sent, lines, info)?;
         fill(&mut slots, lines)?;
         Ok(slots)
     } else {
-        let queues = queues(alloc, blocks, &sent)?;
+        let queues = queues(alloc, sent)?;
         parallel_slots(alloc, &queues, lines, info)
     }
 }

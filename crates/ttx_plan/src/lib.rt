@@ -2,12 +2,15 @@
 #![tactic(auto)]
 
 pub mod acceptance;
+mod asked;
 mod block;
 mod bounds;
 mod contents;
 mod cursors;
 mod cycle;
 mod faults;
+mod fillers;
+pub mod following;
 pub mod laws;
 mod packet;
 mod parallel;
@@ -17,5 +20,6 @@ mod rounds;
 mod serial;
 mod slots;
 
+pub use asked::Receivers;
 pub use faults::PlanFault;
-pub use planning::{plan, plan_for};
+pub use planning::{plan, plan_for, plan_with};

@@ -1,19 +1,23 @@
 //! The cycle that carries a service.
 
-ghost use Rattle.std.specs.Prelude.{◌≡◌, ◌≢◌, ◌↔◌, ◌<◌, ◌≤◌, [], IfOk, map, option_map};
+ghost use Rattle.std.specs.Prelude.{◌≡◌, ◌≢◌, ◌↔◌, ◌<◌, ◌≤◌, false, true, [], IfOk, map, option_map};
 ghost use Rattle.ttx_cycle.specs.Cycles.{slots_of};
 ghost use Rattle.ttx_info.specs.Infos.{info_bytes};
 ghost use Rattle.ttx_page.specs.declared.class.Class.TheVariants.{Any};
 ghost use Rattle.ttx_plan.specs.Acceptance.{IsAcceptedForEach, IsPlanned};
 ghost use Rattle.ttx_plan.specs.Blocks.{length_bound};
-ghost use Rattle.ttx_plan.specs.Carries.{Carries, blocks_of};
+ghost use Rattle.ttx_plan.specs.Carries.{Carries, blocks_of, sent_of};
+ghost use Rattle.ttx_plan.specs.Following.{AreFollowed};
 ghost use Rattle.ttx_plan.specs.Seen.{seen};
+ghost use Rattle.ttx_source.specs.Services.{pages_of};
 
+use crate::asked::Receivers;
 use crate::block::PageBlock;
 use crate::bounds::length_bound;
 use crate::cycle::cycle_slots;
 use crate::faults::PlanFault;
 use crate::ranges::is_planned;
+use crate::rounds::sent_blocks;
 use std::alloc::{AllocError, Global};
 use ttx_cycle::Cycle;
 use ttx_info::write_info;
@@ -48,50 +52,65 @@ pub fn info_packet(service: &Service) -> Option<[u8; 42]>
 }
 
 // The cycle that carries a service of at least one page.
-fn cycle_of(alloc: Global, class: Class, service: &Service) -> Result<Cycle, AllocError>
+fn cycle_of(alloc: Global, receivers: Receivers, service: &Service) -> Result<Cycle, AllocError>
     requires some { service.now.pages ≢ [] }
-    requires few { length_bound service.now.lines (blocks_of class service.now.pages) ≤ 65536 }
-    ensures { IfOk result (λ cycle. IsPlanned class service.now (slots_of cycle)) }
+    requires few { length_bound service.now.lines (sent_of receivers.late receivers.class service.now.pages) ≤ 65536 }
+    ensures { IfOk result (λ cycle. IsPlanned receivers.late receivers.class service.now (slots_of cycle)) }
 {
-    let blocks = blocks_of(alloc, class, service)?;
+    let blocks = blocks_of(alloc, receivers.class, service)?;
+    let sent = sent_blocks(alloc, receivers.late, &blocks)?;
     let lines = usize::from(service.lines());
     let info = info_packet(service);
-    let slots = cycle_slots(alloc, service.serial(), lines, info, &blocks)?;
+    let slots = cycle_slots(alloc, service.serial(), lines, info, &sent)?;
     let cycle = Cycle::of(slots).unwrap();
-    is_planned(class, service, &cycle);
+    is_planned(receivers, service, &cycle);
     Ok(cycle)
 }
 
-/// The cycle that carries a service to receivers of a class: to those that surely clear a page no blank row and no empty
-/// X/27/0 is sent. `NoPages` where the service has no pages. `TooLong` where twice the slots of all blocks (each with an empty
-/// field) and time-filling headers, and two fields more, are above 65,536. Both are told before any memory is taken.
-pub fn plan_for(alloc: Global, service: &Service, class: Class) -> Result<Cycle, PlanFault>
-    ensures carries { IfOk result (λ cycle. Carries class service.now (slots_of cycle)) }
-    ensures planned { IfOk result (λ cycle. IsPlanned class service.now (slots_of cycle)) }
-    ensures accepted { IfOk result (λ cycle. IsAcceptedForEach class service.now (slots_of cycle)) }
+/// The cycle that carries a service to these receivers: to those that surely clear a page no blank row and no empty X/27/0 is
+/// sent; and where pages are shown late, a time-filling header stands between two headers of a magazine that have one page number.
+/// `NoPages` where the service has no pages. `TooLong` where twice the slots of all blocks (each with an empty field) and
+/// time-filling headers, and two fields more, are above 65,536. Both are told before any memory is taken.
+pub fn plan_with(alloc: Global, service: &Service, receivers: Receivers) -> Result<Cycle, PlanFault>
+    ensures carries { IfOk result (λ cycle. Carries receivers.late receivers.class service.now (slots_of cycle)) }
+    ensures planned { IfOk result (λ cycle. IsPlanned receivers.late receivers.class service.now (slots_of cycle)) }
+    ensures accepted { IfOk result (λ cycle. IsAcceptedForEach receivers.class service.now (slots_of cycle)) }
+    ensures followed { IfOk result (λ cycle. receivers.late ≡ true → AreFollowed (slots_of cycle) (pages_of service.now)) }
     ensures no_pages { (result ≡ Err PlanFault.NoPages) ↔ (service.now.pages ≡ []) }
-    ensures too_long { (result ≡ Err PlanFault.TooLong) ↔ (65536 < length_bound service.now.lines (blocks_of class service.now.pages)) }
+    ensures too_long { (result ≡ Err PlanFault.TooLong) ↔ (65536 < length_bound service.now.lines (sent_of receivers.late receivers.class service.now.pages)) }
 {
     crate::acceptance::planned_cycles_are_accepted();
+    crate::following::late_cycles_are_followed();
     if service.pages().is_empty() {
         return Err(PlanFault::NoPages);
     }
-    if length_bound(class, service) > Cycle::MOST {
+    if length_bound(receivers, service) > Cycle::MOST {
         return Err(PlanFault::TooLong);
     }
-    match cycle_of(alloc, class, service) {
+    match cycle_of(alloc, receivers, service) {
         Ok(cycle) => Ok(cycle),
         Err(_) => Err(PlanFault::NoMemory),
     }
 }
 
+/// The cycle that carries a service to receivers of a class: `plan_with`, and pages aren't shown late.
+pub fn plan_for(alloc: Global, service: &Service, class: Class) -> Result<Cycle, PlanFault>
+    ensures carries { IfOk result (λ cycle. Carries false class service.now (slots_of cycle)) }
+    ensures planned { IfOk result (λ cycle. IsPlanned false class service.now (slots_of cycle)) }
+    ensures accepted { IfOk result (λ cycle. IsAcceptedForEach class service.now (slots_of cycle)) }
+    ensures no_pages { (result ≡ Err PlanFault.NoPages) ↔ (service.now.pages ≡ []) }
+    ensures too_long { (result ≡ Err PlanFault.TooLong) ↔ (65536 < length_bound service.now.lines (sent_of false class service.now.pages)) }
+{
+    plan_with(alloc, service, Receivers { class, late: false })
+}
+
 /// The cycle that carries a service to receivers of any class: `plan_for` with `Class::Any`.
 pub fn plan(alloc: Global, service: &Service) -> Result<Cycle, PlanFault>
-    ensures carries { IfOk result (λ cycle. Carries Any service.now (slots_of cycle)) }
-    ensures planned { IfOk result (λ cycle. IsPlanned Any service.now (slots_of cycle)) }
+    ensures carries { IfOk result (λ cycle. Carries false Any service.now (slots_of cycle)) }
+    ensures planned { IfOk result (λ cycle. IsPlanned false Any service.now (slots_of cycle)) }
     ensures accepted { IfOk result (λ cycle. IsAcceptedForEach Any service.now (slots_of cycle)) }
     ensures no_pages { (result ≡ Err PlanFault.NoPages) ↔ (service.now.pages ≡ []) }
-    ensures too_long { (result ≡ Err PlanFault.TooLong) ↔ (65536 < length_bound service.now.lines (blocks_of Any service.now.pages)) }
+    ensures too_long { (result ≡ Err PlanFault.TooLong) ↔ (65536 < length_bound service.now.lines (sent_of false Any service.now.pages)) }
 {
     plan_for(alloc, service, Class::Any)
 }

@@ -5,8 +5,8 @@ ghost use Rattle.ttx_plan.specs.Acceptance.{IsPlanned};
 ghost use Rattle.ttx_plan.specs.Carries.{Carries};
 ghost use Rattle.ttx_plan.specs.Laws.{IsSaid};
 
+use crate::asked::Receivers;
 use ttx_cycle::Cycle;
-use ttx_page::Class;
 use ttx_source::Service;
 
 // Packet 8/30 is in its ranges.
@@ -20,9 +20,9 @@ fn is_said(service: &Service)
 }
 
 /// A cycle that carries a service is a planned one.
-pub fn is_planned(class: Class, service: &Service, cycle: &Cycle)
-    requires { Carries class service.now (slots_of cycle.now) }
-    ensures { IsPlanned class service.now (slots_of cycle.now) }
+pub fn is_planned(receivers: Receivers, service: &Service, cycle: &Cycle)
+    requires { Carries receivers.late receivers.class service.now (slots_of cycle.now) }
+    ensures { IsPlanned receivers.late receivers.class service.now (slots_of cycle.now) }
 {
     ttx_page::laws::pages_have_links();
     let _pages = service.pages();

@@ -1,28 +1,41 @@
 //! The order of blocks, and the magazine queues that they make.
 
-ghost use Rattle.std.specs.Prelude.{◌≡◌, ◌++◌, ◌<◌, ◌==◌, map, IfOk};
+ghost use Rattle.std.specs.Prelude.{◌≡◌, ◌++◌, ◌<◌, ◌==◌, false, map, IfOk};
 ghost use Rattle.std.specs.List.{list_any};
-ghost use Rattle.ttx_plan.specs.Blocks.{packets_of, queue_packets, queues_to, sent_blocks, time_filling_packet};
+ghost use Rattle.ttx_plan.specs.Blocks.{page_packets, packets_of, queue_packets, queues_to, sent_blocks, time_filling_packet};
 ghost use Rattle.ttx_plan.specs.Cursors.{lists_of};
-ghost use Rattle.ttx_plan.specs.Seen.{seen};
+ghost use Rattle.ttx_plan.specs.Seen.{seen, seen_sent};
 
 use crate::block::PageBlock;
+use crate::fillers::Fillers;
 use crate::packet::{Kind, Packet};
 use std::alloc::{AllocError, Global};
 use ttx_header::time_fill;
 
-/// The blocks in the order of sending, over eight rounds.
+/// A block as it is sent.
+#[derive(Clone, Copy)]
+pub struct SentBlock<'a> {
+    /// Whether a time-filling header of the magazine goes before it.
+    pub filler: bool,
+    pub block: &'a PageBlock,
+}
+
+/// The blocks in the order of sending, over eight rounds. For receivers that show a page late a time-filling header goes before
+/// each block whose page number its magazine's latest header has.
 pub fn sent_blocks<'a>(
     alloc: Global,
+    late: bool,
     blocks: &'a [PageBlock],
-) -> Result<Vec<&'a PageBlock>, AllocError>
-    ensures { IfOk result (λ sent. map (λ b. seen b.now) sent.items ≡ sent_blocks (map seen blocks.now)) }
+) -> Result<Vec<SentBlock<'a>>, AllocError>
+    ensures { IfOk result (λ sent. map seen_sent sent.items ≡ sent_blocks late (map seen blocks.now)) }
 {
     let mut sent = Vec::new(alloc);
+    let mut fillers = Fillers::new(late);
     for round in 0..8 {
         for block in blocks {
             if round % (8 / block.often) == 0 {
-                sent.push(block)?;
+                let filler = fillers.pass(block.queue, block.page);
+                sent.push(SentBlock { filler, block })?;
             }
         }
     }
@@ -30,10 +43,10 @@ pub fn sent_blocks<'a>(
 }
 
 /// Whether the queue's magazine has pages.
-pub fn has_pages(blocks: &[PageBlock], queue: usize) -> bool
-    ensures { result ≡ list_any (λ b. b.queue == queue) blocks.now }
+pub fn has_pages(sent: &[SentBlock], queue: usize) -> bool
+    ensures { result ≡ list_any (λ b. b.block.now.queue == queue) sent.now }
 {
-    blocks.iter().any(|block| block.queue == queue)
+    sent.iter().any(|block| block.block.queue == queue)
 }
 
 /// The time-filling header of a queue's magazine.
@@ -47,9 +60,9 @@ pub fn time_filling(queue: usize, serial: bool) -> Packet
     }
 }
 
-// Puts the packets of a block behind the others.
-fn push_block(packets: &mut Vec<Packet>, block: &PageBlock) -> Result<(), AllocError>
-    ensures { IfOk result (λ _. packets.new.items ≡ packets.old.items ++ packets_of (seen block.now)) }
+// Puts the packets of a block's page behind the others.
+fn push_page(packets: &mut Vec<Packet>, block: &PageBlock) -> Result<(), AllocError>
+    ensures { IfOk result (λ _. packets.new.items ≡ packets.old.items ++ page_packets (seen block.now)) }
 {
     packets.push(Packet {
         kind: Kind::PageHeader,
@@ -64,41 +77,40 @@ fn push_block(packets: &mut Vec<Packet>, block: &PageBlock) -> Result<(), AllocE
     Ok(())
 }
 
+// Puts the packets of a block behind the others.
+fn push_block(packets: &mut Vec<Packet>, sent: &SentBlock) -> Result<(), AllocError>
+    ensures { IfOk result (λ _. packets.new.items ≡ packets.old.items ++ packets_of false (seen_sent sent.now)) }
+{
+    if sent.filler {
+        packets.push(time_filling(sent.block.queue, false))?;
+    }
+    push_page(packets, sent.block)
+}
+
 // A magazine's packets.
-fn queue_packets(
-    alloc: Global,
-    blocks: &[PageBlock],
-    sent: &[&PageBlock],
-    queue: usize,
-) -> Result<Vec<Packet>, AllocError>
+fn queue_packets(alloc: Global, sent: &[SentBlock], queue: usize) -> Result<Vec<Packet>, AllocError>
     requires queue { queue < 8 }
-    requires sent { map (λ b. seen b.now) sent.now ≡ sent_blocks (map seen blocks.now) }
-    ensures { IfOk result (λ packets. packets.items ≡ queue_packets (map seen blocks.now) queue) }
+    ensures { IfOk result (λ packets. packets.items ≡ queue_packets false (map seen_sent sent.now) queue) }
 {
     let mut packets = Vec::new(alloc);
     for block in sent {
-        if block.queue == queue {
+        if block.block.queue == queue {
             push_block(&mut packets, block)?;
         }
     }
-    if has_pages(blocks, queue) {
+    if has_pages(sent, queue) {
         packets.push(time_filling(queue, false))?;
     }
     Ok(packets)
 }
 
 /// The packets of the eight magazines.
-pub fn queues(
-    alloc: Global,
-    blocks: &[PageBlock],
-    sent: &[&PageBlock],
-) -> Result<Vec<Vec<Packet>>, AllocError>
-    requires { map (λ b. seen b.now) sent.now ≡ sent_blocks (map seen blocks.now) }
-    ensures { IfOk result (λ queues. lists_of queues.items ≡ queues_to (map seen blocks.now) 8) }
+pub fn queues(alloc: Global, sent: &[SentBlock]) -> Result<Vec<Vec<Packet>>, AllocError>
+    ensures { IfOk result (λ queues. lists_of queues.items ≡ queues_to (map seen_sent sent.now) 8) }
 {
     let mut queues = Vec::new(alloc);
     for queue in 0..8 {
-        queues.push(queue_packets(alloc, blocks, sent, queue)?)?;
+        queues.push(queue_packets(alloc, sent, queue)?)?;
     }
     Ok(queues)
 }

@@ -2,15 +2,14 @@
 
 ghost use Rattle.std.specs.Prelude.{◌≡◌, ◌∷◌, [], ◌++◌, ◌≤◌, List, map, length, IfOk};
 ghost use Rattle.ttx_plan.specs.declared.packet.Slot.{Slot};
-ghost use Rattle.ttx_plan.specs.Blocks.{sent_blocks};
 ghost use Rattle.ttx_plan.specs.Packets.{bytes_of};
-ghost use Rattle.ttx_plan.specs.Seen.{seen};
-ghost use Rattle.ttx_plan.specs.Serial.{info_if, serial_block, serial_list, IsLaid};
+ghost use Rattle.ttx_plan.specs.Seen.{seen, seen_sent};
+ghost use Rattle.ttx_plan.specs.Serial.{info_if, serial_block, serial_list, serial_page, IsLaid};
 ghost use Rattle.ttx_plan.specs.Turns.{is_due};
 
 use crate::block::PageBlock;
 use crate::packet::{Kind, Packet, Slot};
-use crate::rounds::{has_pages, time_filling};
+use crate::rounds::{SentBlock, has_pages, time_filling};
 use std::alloc::{AllocError, Global};
 
 // Puts packet 8/30 behind the others where it is due.
@@ -45,15 +44,15 @@ fn put(
     Ok(())
 }
 
-// Puts a block behind the others: its page header, an empty field, its rows and X/27/0.
-fn put_block(
+// Puts a block's page behind the others: its page header, an empty field, its rows and X/27/0.
+fn put_page(
     slots: &mut Vec<[u8; 42]>,
     lines: usize,
     info: Option<[u8; 42]>,
     block: &PageBlock,
 ) -> Result<(), AllocError>
     requires { (1 ≤ lines) × (lines ≤ 32) }
-    ensures { IfOk result (λ _. (list : List Slot) → IsLaid lines info list slots.old.items → IsLaid lines info (list ++ serial_block lines (seen block.now)) slots.new.items) }
+    ensures { IfOk result (λ _. (list : List Slot) → IsLaid lines info list slots.old.items → IsLaid lines info (list ++ serial_page lines (seen block.now)) slots.new.items) }
 {
     let header = Packet {
         kind: Kind::PageHeader,
@@ -73,24 +72,44 @@ fn put_block(
     Ok(())
 }
 
+// Puts a block behind the others, after its time-filling header if it has one.
+fn put_block(
+    slots: &mut Vec<[u8; 42]>,
+    lines: usize,
+    info: Option<[u8; 42]>,
+    sent: &SentBlock,
+) -> Result<(), AllocError>
+    requires { (1 ≤ lines) × (lines ≤ 32) }
+    ensures { IfOk result (λ _. (list : List Slot) → IsLaid lines info list slots.old.items → IsLaid lines info (list ++ serial_block lines (seen_sent sent.now)) slots.new.items) }
+{
+    let queue = sent.block.queue;
+    if sent.filler {
+        put(
+            slots,
+            lines,
+            info,
+            Slot::Sent(queue, time_filling(queue, true)),
+        )?;
+    }
+    put_page(slots, lines, info, sent.block)
+}
+
 /// The slots up to the last time-filling header.
 pub fn serial_slots(
     alloc: Global,
-    blocks: &[PageBlock],
-    sent: &[&PageBlock],
+    sent: &[SentBlock],
     lines: usize,
     info: Option<[u8; 42]>,
 ) -> Result<Vec<[u8; 42]>, AllocError>
     requires lines { (1 ≤ lines) × (lines ≤ 32) }
-    requires sent { map (λ b. seen b.now) sent.now ≡ sent_blocks (map seen blocks.now) }
-    ensures { IfOk result (λ slots. IsLaid lines info (serial_list lines (map seen blocks.now)) slots.items) }
+    ensures { IfOk result (λ slots. IsLaid lines info (serial_list lines (map seen_sent sent.now)) slots.items) }
 {
     let mut slots = Vec::new(alloc);
     for block in sent {
         put_block(&mut slots, lines, info, block)?;
     }
     for queue in 0..8 {
-        if has_pages(blocks, queue) {
+        if has_pages(sent, queue) {
             put(
                 &mut slots,
                 lines,

@@ -1,16 +1,21 @@
 -- What is found in a packet file of a plan, and what is certified of what is found.
-use Rattle.std.proofs.Common.{◌≡◌, ◌∙◌, ℕ, ◌≤◌, List, [], Option, Some, None, Result, Ok, Err, refl, sym, ap, subst}
+use Rattle.std.proofs.Common.{◌≡◌, ◌∙◌, ℕ, pos, ◌≤◌, List, [], Option, Some, None, Result, Ok, Err, refl, sym, ap, subst}
 use Rattle.std.specs.Prelude.{IfSome}
 use Rattle.std.specs.Io.KnownBytes.{Appends}
+use Rattle.ttx_certify.specs.CertifyingFiles.{IsPacketFile, IsService, IsWitness}
 use Rattle.ttx_certify.specs.Verdicts.{IsVerdict}
 use Rattle.ttx_certify.specs.declared.verdict.Verdict.{Verdict}
 use Rattle.ttx_certify.specs.declared.verdict.Verdict.TheVariants.{Yes, No}
+use Rattle.ttx_late.specs.LateVerdicts.{IsLateVerdict}
+use Rattle.ttx_late.specs.declared.verdict.LateVerdict.{LateVerdict}
+use Rattle.ttx_late.specs.declared.verdict.LateVerdict.TheVariants as late
 use Rattle.ttx_page.specs.declared.class.Class.{Class}
 use Rattle.ttx_plan.specs.Acceptance.{IsPlanned, IsFound, PlannedIsFound}
+use Rattle.ttx_plan.specs.Following.{AreFollowed, PlannedIsFollowed}
 use Rattle.ttx_source.specs.Services.{ServiceFields, pages_of, read_bytes}
 use Rattle.ttx_tool.specs.FindingFiles.{Tells, IsFinding, Finds}
 use Rattle.ttx_tool.specs.PlannedFiles as T
-use Rattle.ttx_tool.specs.PlannedFiles.{IsCertified, FoundIsCertified, FindsDeadline, MakesCertified}
+use Rattle.ttx_tool.specs.PlannedFiles.{IsCertified, FoundIsCertified, SaysYes, LateIsCertified, FindsDeadline, MakesCertified}
 use Rattle.ttx_tool.specs.declared.faults.ToolFault.{ToolFault}
 use Rattle.ttx_tool.proofs.SameInputs.{same_slots, same_ok}
 use Rattle.ttx_witness.specs.CertificateLaws.{WrittenTextsAreRead}
@@ -27,12 +32,12 @@ deadline_told slots service w None deadline file line status e t = cc
 deadline_told slots service w (Some d) deadline file line status e t = t.2
 
 pub planned_is_found : PlannedIsFound → T.PlannedIsFound
-planned_is_found law a b class p repeat one eight file line status f =
+planned_is_found law a b late class p repeat one eight file line status f =
     let slots : p.slots ≡ f.slots = same_slots p.slots f.slots p.plan.is_cycle.each f.cycle_is.is_cycle.each (sym p.file ∙ f.cycle_is.same) in
     let service : p.plan.service ≡ f.service = same_ok (read_bytes b) p.plan.service f.service p.plan.text.says f.service_is.says in
-    let planned : IsPlanned class f.service f.slots = subst (λ x. IsPlanned class x f.slots) service (subst (IsPlanned class p.plan.service) slots p.plan.planned) in
+    let planned : IsPlanned late class f.service f.slots = subst (λ x. IsPlanned late class x f.slots) service (subst (IsPlanned late class p.plan.service) slots p.plan.planned) in
     let t = f.told in
-    let found = law class f.service f.slots planned repeat one eight (certificate_at t.w) t.deadline t.found in
+    let found = law late class f.service f.slots planned repeat one eight (certificate_at t.w) t.deadline t.found in
     deadline_told f.slots f.service t.w t.deadline found.deadline file line status found.is t.told
 
 -- ---- what is found is accepted, and its text is that of one certificate
@@ -51,25 +56,48 @@ is_yes : (slots : List (List ℕ)) (service : ServiceFields) (w : CertificateFie
 is_yes slots service w Yes a v = refl
 is_yes slots service w (No reason) a v = absurd (v.1 a)
 
+-- so it is with the inputs that `certify` reads
+accepted_there : WrittenTextsAreRead → (a b : List ℕ) (class : Class) (repeat : ℕ) (file line : List ℕ) → IsFinding a b repeat class file line 0 → (slots : List (List ℕ)) (service : ServiceFields) (w : CertificateFields) →
+    IsPacketFile a slots → IsService b service → IsWitness file w → Accepts slots (pages_of service) (certificate_at w)
+accepted_there law a b class repeat file line f slots service w cycle_is service_is certificate_is =
+    let t = f.told in
+    let same_cycle : f.slots ≡ slots = same_slots f.slots slots f.cycle_is.is_cycle.each cycle_is.is_cycle.each (sym f.cycle_is.same ∙ cycle_is.same) in
+    let same_service : f.service ≡ service = same_ok (read_bytes b) f.service service f.service_is.says service_is.says in
+    let read = ap read_text (text_of f.slots f.service t.w t.deadline file line t.told) ∙ law t.w t.fields in
+    let same_text : t.w ≡ w = same_ok (read_text file) t.w w read certificate_is.says in
+    let accepted = accepted_of f.slots f.service repeat class t.w t.deadline file line t.found t.told in
+    subst (λ x. Accepts slots (pages_of service) (certificate_at x)) same_text
+    (subst (λ x. Accepts slots (pages_of x) (certificate_at t.w)) same_service
+    (subst (λ x. Accepts x (pages_of f.service) (certificate_at t.w)) same_cycle accepted))
+
 pub found_is_certified : WrittenTextsAreRead → FoundIsCertified
 found_is_certified law a b class repeat file line f verdict told c =
-    let t = f.told in
-    let slots : f.slots ≡ c.slots = same_slots f.slots c.slots f.cycle_is.is_cycle.each c.cycle_is.is_cycle.each (sym f.cycle_is.same ∙ c.cycle_is.same) in
-    let service : f.service ≡ c.service = same_ok (read_bytes b) f.service c.service f.service_is.says c.service_is.says in
-    let read = ap read_text (text_of f.slots f.service t.w t.deadline file line t.told) ∙ law t.w t.fields in
-    let w : t.w ≡ c.w = same_ok (read_text file) t.w c.w read c.certificate_is.says in
-    let accepted = accepted_of f.slots f.service repeat class t.w t.deadline file line t.found t.told in
-    is_yes c.slots c.service c.w verdict
-    (subst (λ x. Accepts c.slots (pages_of c.service) (certificate_at x)) w
-    (subst (λ x. Accepts c.slots (pages_of x) (certificate_at t.w)) service
-    (subst (λ x. Accepts x (pages_of f.service) (certificate_at t.w)) slots accepted)))
-    c.exact
+    is_yes c.slots c.service c.w verdict (accepted_there law a b class repeat file line f c.slots c.service c.w c.cycle_is c.service_is c.certificate_is) c.exact
+
+-- ---- for receivers that show a page late
+
+says_yes : (slots : List (List ℕ)) (service : ServiceFields) (w : CertificateFields) (verdict : LateVerdict) → Accepts slots (pages_of service) (certificate_at w) → AreFollowed slots (pages_of service) →
+    IsLateVerdict slots (pages_of service) (certificate_at w) verdict → SaysYes verdict
+says_yes slots service w (late.Yes gap) a f v = tt
+says_yes slots service w (late.No reason) a f v = absurd (v.1 a)
+says_yes slots service w (late.NeverShown page slot) a f v =
+    let first = v.1.first in
+    absurd (first.here.1 (f v.1.index first.page first.listed (pos slot) first.here.0))
+
+pub late_is_certified : WrittenTextsAreRead → PlannedIsFollowed → LateIsCertified
+late_is_certified law followed a b class p asked repeat file line f verdict said c =
+    let slots : p.slots ≡ c.slots = same_slots p.slots c.slots p.plan.is_cycle.each c.cycle_is.is_cycle.each (sym p.file ∙ c.cycle_is.same) in
+    let service : p.plan.service ≡ c.service = same_ok (read_bytes b) p.plan.service c.service p.plan.text.says c.service_is.says in
+    says_yes c.slots c.service c.w verdict
+    (accepted_there law a b asked repeat file line f c.slots c.service c.w c.cycle_is c.service_is c.certificate_is)
+    (subst (λ x. AreFollowed c.slots (pages_of x)) service (subst (λ x. AreFollowed x (pages_of p.plan.service)) slots (followed class p.plan.service p.slots p.plan.planned)))
+    c.judged.exact
 
 -- ---- what `find` answers and writes
 
 module _ (repeat : ℕ) (class : Class) (file_old file_new old new : Option (List ℕ)) where
   finds_deadline : T.PlannedIsFound → 1 ≤ repeat → repeat ≤ 8 → (a b : List ℕ) (result : Result ℕ ToolFault) → Finds a b repeat class file_old file_new old new result → FindsDeadline a b class result
-  finds_deadline law one eight a b (Ok status) f = λ p. law a b class p repeat one eight f.0 f.1 status f.2
+  finds_deadline law one eight a b (Ok status) f = λ late p. law a b late class p repeat one eight f.0 f.1 status f.2
   finds_deadline law one eight a b (Err fault) f = tt
 
   written : (bytes file : List ℕ) → Appends (Some []) (Some file) bytes → bytes ≡ file

@@ -2,7 +2,7 @@
 use Rattle.std.proofs.Common.{◌≡◌, ℕ, ◌<◌, List, Ok, sym, ◌∙◌, subst, arith}
 use Rattle.ttx_page.specs.declared.class.Class.{Class}
 use Rattle.ttx_plan.specs.Blocks.{length_bound}
-use Rattle.ttx_plan.specs.Carries.{blocks_of}
+use Rattle.ttx_plan.specs.Carries.{sent_of}
 use Rattle.ttx_plan.specs.declared.faults.PlanFault.TheVariants as plan
 use Rattle.ttx_source.specs.Services.{ServiceFields, read_bytes}
 use Rattle.ttx_tool.specs.Planning.{IsPlan, IsNoPlan}
@@ -10,9 +10,9 @@ use Rattle.ttx_tool.specs.PlanningLaws.{PlannedIsNotTooLong}
 use Rattle.ttx_tool.specs.declared.faults.ToolFault.TheVariants.{Plan}
 
 pub planned_is_not_too_long : PlannedIsNotTooLong
-planned_is_not_too_long bytes class slots planned refused =
+planned_is_not_too_long bytes late class slots planned refused =
     let both : Ok refused.0 ≡ Ok planned.service = sym refused.1.says ∙ planned.text.says in
     let same : refused.0 ≡ planned.service = cc in
-    let long : 65536 < length_bound planned.service.lines (blocks_of class planned.service.pages) = subst (λ (s : ServiceFields). 65536 < length_bound s.lines (blocks_of class s.pages)) same refused.2 in
+    let long : 65536 < length_bound planned.service.lines (sent_of late class planned.service.pages) = subst (λ (s : ServiceFields). 65536 < length_bound s.lines (sent_of late class s.pages)) same refused.2 in
     let few = planned.few in
     omega arith

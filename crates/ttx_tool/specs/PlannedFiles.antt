@@ -4,21 +4,25 @@
 --   IsCertified             `certify` says yes to these three inputs
 --   PlannedIsFound          in a packet file of a plan a deadline is found
 --   FoundIsCertified        a certificate that is found is certified
+--   SaysYes, LateIsCertified            and in a packet file of a plan for receivers that show late, `certify --late` says yes to it
 --   FindsDeadline, MakesCertified           both of what `find` answers and writes
-use Rattle.std.specs.Prelude.{◌≡◌, ℕ, ◌≤◌, List, [], ⊤, Option, Some, Result, Ok, Err}
+use Rattle.std.specs.Prelude.{◌≡◌, ℕ, ◌≤◌, Bool, true, List, [], ⊤, Option, Some, Result, Ok, Err}
 use Rattle.ttx_certify.specs.CertifyingFiles.{Certifies}
 use Rattle.ttx_certify.specs.declared.verdict.Verdict.{Verdict}
 use Rattle.ttx_certify.specs.declared.verdict.Verdict.TheVariants.{Yes}
 use Rattle.ttx_cycle.specs.Files.{file_of}
+use Rattle.ttx_late.specs.CertifyingLate.{CertifiesLate}
+use Rattle.ttx_late.specs.declared.verdict.LateVerdict.{LateVerdict}
+use Rattle.ttx_late.specs.declared.verdict.LateVerdict.TheVariants as late
 use Rattle.ttx_page.specs.declared.class.Class.{Class}
 use Rattle.ttx_tool.specs.FindingFiles.{IsFinding}
 use Rattle.ttx_tool.specs.Planning.{IsPlan}
 use Rattle.ttx_tool.specs.declared.faults.ToolFault.{ToolFault}
 
 -- a packet file that `plan` writes for the text of a service and receivers of the class
-pub record IsPlanFile (a b : List ℕ) (class : Class) : Type 0 where
+pub record IsPlanFile (a b : List ℕ) (late : Bool) (class : Class) : Type 0 where
   pub slots : List (List ℕ)
-  pub plan : IsPlan b class slots
+  pub plan : IsPlan b late class slots
   pub file : a ≡ file_of slots
 
 -- whatever verdict is right for a packet file, the text of a service and that of a certificate: it is Yes
@@ -27,16 +31,25 @@ IsCertified a b c = (verdict : Verdict) (line : List ℕ) → Certifies a b c ve
 
 -- in a packet file of a plan `find` finds a deadline, for the class of the plan and each repeat count
 abbrev pub PlannedIsFound : Type 0
-PlannedIsFound = (a b : List ℕ) (class : Class) → IsPlanFile a b class → (repeat : ℕ) → 1 ≤ repeat → repeat ≤ 8 →
+PlannedIsFound = (a b : List ℕ) (late : Bool) (class : Class) → IsPlanFile a b late class → (repeat : ℕ) → 1 ≤ repeat → repeat ≤ 8 →
     (file line : List ℕ) (status : ℕ) → IsFinding a b repeat class file line status → status ≡ 0
 
 -- where `find` finds a deadline, `certify` says yes to the certificate
 abbrev pub FoundIsCertified : Type 0
 FoundIsCertified = (a b : List ℕ) (class : Class) (repeat : ℕ) (file line : List ℕ) → IsFinding a b repeat class file line 0 → IsCertified a b file
 
+abbrev pub SaysYes : LateVerdict → Type 0
+SaysYes (late.Yes gap) = ⊤
+SaysYes _ = ⊥
+
+-- where `find` finds a deadline in a packet file that is planned for receivers that show late, `certify --late` says yes to the certificate
+abbrev pub LateIsCertified : Type 0
+LateIsCertified = (a b : List ℕ) (class : Class) → IsPlanFile a b true class → (asked : Class) (repeat : ℕ) (file line : List ℕ) → IsFinding a b repeat asked file line 0 →
+    (verdict : LateVerdict) (said : List ℕ) → CertifiesLate a b file verdict said → SaysYes verdict
+
 -- the status is 0 where the packet file is one of a plan
 abbrev pub FindsDeadline : List ℕ → List ℕ → Class → Result ℕ ToolFault → Type 0
-FindsDeadline a b class (Ok status) = IsPlanFile a b class → status ≡ 0
+FindsDeadline a b class (Ok status) = (late : Bool) → IsPlanFile a b late class → status ≡ 0
 FindsDeadline a b class (Err fault) = ⊤
 
 -- where the status is 0, what was written to an empty file is certified

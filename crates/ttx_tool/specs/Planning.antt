@@ -5,7 +5,7 @@
 --   planned_line            the line that says how many slots there are
 --   WritesBoth, Plans       what was written to the packet file and to the output, at each answer
 --   CountsDefinition, CountsBoth, CountsPlan    faults of devices are answered only where they were counted
-use Rattle.std.specs.Prelude.{◌≡◌, ◌⊎◌, ℕ, ◌-◌, ◌<◌, ◌≤◌, List, [], ◌∷◌, ◌++◌, length, take, codes, ⊤, Option, Result, Ok, Err}
+use Rattle.std.specs.Prelude.{◌≡◌, ◌⊎◌, ℕ, ◌-◌, ◌<◌, ◌≤◌, Bool, List, [], ◌∷◌, ◌++◌, length, take, codes, ⊤, Option, Result, Ok, Err}
 use Rattle.std.specs.Fmt.{decimal}
 use Rattle.std.specs.Io.KnownBytes.{Appends, Keeps}
 use Rattle.ttx_certify.specs.CertifyingFiles.{IsService, most_bytes}
@@ -16,7 +16,7 @@ use Rattle.ttx_cycle.specs.declared.cycles.Cycle.{Cycle as CycleValue}
 use Rattle.ttx_page.specs.declared.class.Class.{Class}
 use Rattle.ttx_plan.specs.Acceptance.{IsPlanned}
 use Rattle.ttx_plan.specs.Blocks.{length_bound}
-use Rattle.ttx_plan.specs.Carries.{Carries, blocks_of}
+use Rattle.ttx_plan.specs.Carries.{Carries, sent_of}
 use Rattle.ttx_plan.specs.declared.faults.PlanFault.{PlanFault}
 use Rattle.ttx_plan.specs.declared.faults.PlanFault.TheVariants as plan
 use Rattle.ttx_source.specs.Faults.{fault_of}
@@ -40,32 +40,33 @@ abbrev pub Defines : List ℕ → Result ServiceFields ToolFault → Type 0
 Defines bytes (Ok service) = IsService bytes service
 Defines bytes (Err fault) = IsNoText bytes fault
 
--- the slots carry the service of the text, which isn't too long, to receivers of the class, as a planned cycle
-pub record IsPlan (bytes : List ℕ) (class : Class) (slots : List (List ℕ)) : Type 0 where
+-- The slots carry the service of the text, which isn't too long, to receivers of the class, as a planned cycle; late: also to those that
+-- show a page late.
+pub record IsPlan (bytes : List ℕ) (late : Bool) (class : Class) (slots : List (List ℕ)) : Type 0 where
   pub service : ServiceFields
   pub text : IsService bytes service
-  pub few : length_bound service.lines (blocks_of class service.pages) ≤ 65536
-  pub carries : Carries class service slots
-  pub planned : IsPlanned class service slots
+  pub few : length_bound service.lines (sent_of late class service.pages) ≤ 65536
+  pub carries : Carries late class service slots
+  pub planned : IsPlanned late class service slots
   pub is_cycle : IsCycle slots
 
 abbrev pub planned_line : ℕ → List ℕ
 planned_line count = codes "planned " ++ decimal count ++ codes " slots" ++ 10 ∷ []
 
 -- why a service has no plan
-abbrev pub HasNoPlan : Class → ServiceFields → PlanFault → Type 0
-HasNoPlan class service plan.NoPages = service.pages ≡ []
-HasNoPlan class service plan.TooLong = 65536 < length_bound service.lines (blocks_of class service.pages)
-HasNoPlan class service plan.NoMemory = ⊤
+abbrev pub HasNoPlan : Bool → Class → ServiceFields → PlanFault → Type 0
+HasNoPlan late class service plan.NoPages = service.pages ≡ []
+HasNoPlan late class service plan.TooLong = 65536 < length_bound service.lines (sent_of late class service.pages)
+HasNoPlan late class service plan.NoMemory = ⊤
 
 -- why a text has no plan: its service has none, or it is that of no service
-abbrev pub IsNoPlan : List ℕ → Class → ToolFault → Type 0
-IsNoPlan bytes class (Plan fault) = (service : ServiceFields) × IsService bytes service × HasNoPlan class service fault
-IsNoPlan bytes class fault = IsNoText bytes fault
+abbrev pub IsNoPlan : List ℕ → Bool → Class → ToolFault → Type 0
+IsNoPlan bytes late class (Plan fault) = (service : ServiceFields) × IsService bytes service × HasNoPlan late class service fault
+IsNoPlan bytes late class fault = IsNoText bytes fault
 
-abbrev pub PlansText : List ℕ → Class → Result CycleValue ToolFault → Type 0
-PlansText bytes class (Ok cycle) = IsPlan bytes class (slots_of cycle)
-PlansText bytes class (Err fault) = IsNoPlan bytes class fault
+abbrev pub PlansText : List ℕ → Bool → Class → Result CycleValue ToolFault → Type 0
+PlansText bytes late class (Ok cycle) = IsPlan bytes late class (slots_of cycle)
+PlansText bytes late class (Err fault) = IsNoPlan bytes late class fault
 
 -- Ok: the bytes of a file went out, and those of a line. A write fault: the first `written` bytes of both, the file's before the line's.
 abbrev pub WritesBoth : {U : Type 0} → List ℕ → List ℕ → Option (List ℕ) → Option (List ℕ) → Option (List ℕ) → Option (List ℕ) → Result U ToolFault → Type 0
@@ -75,13 +76,13 @@ WritesBoth bytes line file_old file_new old new (Err (Write written)) =
 WritesBoth bytes line file_old file_new old new (Err _) = ⊥
 
 -- Ok: the packet file of a plan and the line. A write fault: the first `written` bytes of both. Else nothing, and why there is no plan.
-abbrev pub Plans : List ℕ → Class → Option (List ℕ) → Option (List ℕ) → Option (List ℕ) → Option (List ℕ) → Result ℕ ToolFault → Type 0
-Plans bytes class file_old file_new old new (Ok status) =
+abbrev pub Plans : List ℕ → Bool → Class → Option (List ℕ) → Option (List ℕ) → Option (List ℕ) → Option (List ℕ) → Result ℕ ToolFault → Type 0
+Plans bytes late class file_old file_new old new (Ok status) =
     (status ≡ 0)
-    × ((slots : List (List ℕ)) × IsPlan bytes class slots × WritesBoth (file_of slots) (planned_line (length slots)) file_old file_new old new (Ok status))
-Plans bytes class file_old file_new old new (Err (Write written)) =
-    (slots : List (List ℕ)) × IsPlan bytes class slots × WritesBoth {U = ℕ} (file_of slots) (planned_line (length slots)) file_old file_new old new (Err (Write written))
-Plans bytes class file_old file_new old new (Err fault) = IsNoPlan bytes class fault × Keeps file_old file_new × Keeps old new
+    × ((slots : List (List ℕ)) × IsPlan bytes late class slots × WritesBoth (file_of slots) (planned_line (length slots)) file_old file_new old new (Ok status))
+Plans bytes late class file_old file_new old new (Err (Write written)) =
+    (slots : List (List ℕ)) × IsPlan bytes late class slots × WritesBoth {U = ℕ} (file_of slots) (planned_line (length slots)) file_old file_new old new (Err (Write written))
+Plans bytes late class file_old file_new old new (Err fault) = IsNoPlan bytes late class fault × Keeps file_old file_new × Keeps old new
 
 -- the faults counted by the reader, before and after
 abbrev pub CountsDefinition : {T : Type 0} → Result T ToolFault → ℕ → ℕ → Type 0

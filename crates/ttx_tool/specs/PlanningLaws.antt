@@ -1,11 +1,12 @@
 -- Laws of what `plan` answers.
 --
 --   PlannedIsNotTooLong     the text of a service that has a plan isn't refused as too long
-use Rattle.std.specs.Prelude.{ℕ, List}
+use Rattle.std.specs.Prelude.{ℕ, Bool, List}
 use Rattle.ttx_page.specs.declared.class.Class.{Class}
 use Rattle.ttx_plan.specs.declared.faults.PlanFault.TheVariants as plan
 use Rattle.ttx_tool.specs.Planning.{IsPlan, IsNoPlan}
 use Rattle.ttx_tool.specs.declared.faults.ToolFault.TheVariants.{Plan}
 
 abbrev pub PlannedIsNotTooLong : Type 0
-PlannedIsNotTooLong = (bytes : List ℕ) (class : Class) (slots : List (List ℕ)) → IsPlan bytes class slots → IsNoPlan bytes class (Plan plan.TooLong) → ⊥
+PlannedIsNotTooLong =
+    (bytes : List ℕ) (late : Bool) (class : Class) (slots : List (List ℕ)) → IsPlan bytes late class slots → IsNoPlan bytes late class (Plan plan.TooLong) → ⊥

@@ -1,6 +1,6 @@
 //! Laws of what the commands answer, also where they follow one another. A call costs nothing and gives the caller's proof the law.
 
-ghost use Rattle.ttx_tool.specs.PlannedFiles.{FoundIsCertified, PlannedIsFound};
+ghost use Rattle.ttx_tool.specs.PlannedFiles.{FoundIsCertified, LateIsCertified, PlannedIsFound};
 ghost use Rattle.ttx_tool.specs.PlanningLaws.{PlannedIsNotTooLong};
 
 /// In a packet file that `plan` writes for the text of a service, `find` finds a deadline for the class of the plan and each
@@ -15,6 +15,14 @@ pub fn planned_is_found()
 pub fn found_is_certified()
     ensures { FoundIsCertified }
 {
+    ttx_witness::certificate_laws::written_texts_are_read();
+}
+
+/// Where the packet file is one of a plan for receivers that show a page late, `certify --late` says yes to it, too.
+pub fn late_is_certified()
+    ensures { LateIsCertified }
+{
+    ttx_plan::following::late_cycles_are_followed();
     ttx_witness::certificate_laws::written_texts_are_read();
 }
 

@@ -1,6 +1,6 @@
 //! `plan`: the cycle that carries a service.
 
-ghost use Rattle.std.specs.Prelude.{◌≡◌, IfSome, IfOk, string_bytes};
+ghost use Rattle.std.specs.Prelude.{◌≡◌, false, IfSome, IfOk, string_bytes};
 ghost use Rattle.ttx_cycle.specs.Counters.{inner_of, faults_of};
 ghost use Rattle.ttx_cycle.specs.Cycles.{slots_of};
 ghost use Rattle.ttx_cycle.specs.Files.{file_of};
@@ -36,7 +36,7 @@ fn plan_text<R: Read>(
     reader: &mut Counted<R>,
     class: Class,
 ) -> Result<Cycle, ToolFault>
-    ensures bytes { IfSome (R.remaining (inner_of reader.old)) (λ bytes. PlansText bytes class result) }
+    ensures bytes { IfSome (R.remaining (inner_of reader.old)) (λ bytes. PlansText bytes false class result) }
     ensures faults { CountsDefinition result (faults_of reader.old) (faults_of reader.new) }
 {
     let service = match read_definition(alloc, reader) {
@@ -84,7 +84,7 @@ pub fn plan<R: Read, O: Write, W: Write>(
     file: &mut Counted<O>,
     writer: &mut Counted<W>,
 ) -> Result<u8, ToolFault>
-    ensures bytes { IfSome (R.remaining (inner_of reader.old)) (λ bytes. Plans bytes class
+    ensures bytes { IfSome (R.remaining (inner_of reader.old)) (λ bytes. Plans bytes false class
         (O.contents (inner_of file.old)) (O.contents (inner_of file.new)) (W.contents (inner_of writer.old)) (W.contents (inner_of writer.new)) result) }
     ensures faults { CountsPlan result (faults_of reader.old) (faults_of reader.new) (faults_of file.old) (faults_of file.new) (faults_of writer.old) (faults_of writer.new) }
     ensures untouched { IsUntouched is_write result file.old file.new × IsUntouched is_write result writer.old writer.new }

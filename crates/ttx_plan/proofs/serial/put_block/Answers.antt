@@ -1,31 +1,26 @@
-use Rattle.std.proofs.Common.{[], replicate, arith}
-use Rattle.ttx_plan.specs.declared.packet.Slot.TheVariants.{Empty, Sent}
-use Rattle.ttx_plan.specs.Blocks.{header_packet, rest_packet}
-use Rattle.ttx_plan.proofs.Laid.{laid_same}
-use Rattle.ttx_plan.proofs.Onward.{same_more, others_begin, others_more, others_end}
+use Rattle.std.proofs.Common.{◌++◌, ◌∷◌, [], true, sym, subst}
+use Rattle.ttx_plan.specs.declared.packet.Slot.TheVariants.{Sent}
+use Rattle.ttx_plan.specs.Blocks.{time_filling_packet}
+use Rattle.ttx_plan.specs.Seen.{seen}
+use Rattle.ttx_plan.specs.Serial.{IsLaid, serial_page}
+use Rattle.ttx_plan.proofs.Laid.{laid_same, if_ok, led_list, unled_list}
 use Rattle.ttx_plan.proofs.serial.put_block.Goals as goal
-
-pub loop-init : goal.loop-init
-loop-init c = c.in_ok-put.ensures
-
-pub loop-preserved : goal.loop-preserved
-loop-preserved c = λ list laid.
-    laid_same c.args.lines c.args.info _ _ c.put-in-loop.new.slots.items
-    (same_more list _ _ c.loop.counter) (c.in_ok-put-2.ensures _ (c.loop.invariant list laid))
-
-pub loop-bytes-init : goal.loop-bytes-init
-loop-bytes-init c = λ list laid.
-    laid_same c.args.lines c.args.info _ _ c.loop.slots.items
-    (others_begin list _ _ c.loop.counter c.args.lines (omega arith)) (c.loop.invariant list laid)
-
-pub loop-bytes-preserved : goal.loop-bytes-preserved
-loop-bytes-preserved c = λ list laid.
-    laid_same c.args.lines c.args.info _ _ c.put-in-loop-bytes.new.slots.items
-    (others_more list (Sent c.args.block.now.queue (header_packet c.args.block.now.header)) (replicate c.args.lines Empty) (λ bytes. Sent c.args.block.now.queue (rest_packet bytes)) c.args.block.now.rest.items c.deref-bytes-items.result.now c.loop-bytes.bytes-index [] c.deref-bytes-items.ensures.value c.loop-bytes-test.true)
-    (c.in_ok-put-3.ensures _ (c.loop-bytes.invariant list laid))
+use Rattle.ttx_plan.proofs.serial.put_block.Goals.{then-sent+in_ok-put, else-sent}
 
 pub returns : goal.returns
-returns c = λ list laid.
-    laid_same c.args.lines c.args.info _ _ c.loop-bytes.slots.items
-    (others_end list (Sent c.args.block.now.queue (header_packet c.args.block.now.header)) (replicate c.args.lines Empty) (λ bytes. Sent c.args.block.now.queue (rest_packet bytes)) c.args.block.now.rest.items c.deref-bytes-items.result.now c.loop-bytes.bytes-index c.deref-bytes-items.ensures.value c.loop-bytes-test.false)
-    (c.loop-bytes.invariant list laid)
+returns c =
+    let queue = c.args.sent.now.block.now.queue in
+    let page = serial_page c.args.lines (seen c.args.sent.now.block.now) in
+    elim c.if-sent.branch [
+      | then-sent+in_ok-put w ↦ if_ok c.put_page.result (λ x h list laid.
+          let filler : IsLaid c.args.lines c.args.info (list ++ Sent c.args.sent.now.block.now.queue (time_filling_packet true c.args.sent.now.block.now.queue) ∷ []) c.if-sent.slots.items =
+          subst (λ z. IsLaid c.args.lines c.args.info (list ++ Sent c.args.sent.now.block.now.queue (time_filling_packet true c.args.sent.now.block.now.queue) ∷ []) z.items) (sym w.slots-is)
+          (subst (λ p. IsLaid c.args.lines c.args.info (list ++ Sent c.args.sent.now.block.now.queue p ∷ []) w.put.new.slots.items) w.time_filling.ensures (w.in_ok-put.ensures list laid)) in
+          laid_same c.args.lines c.args.info _ _ c.put_page.new.slots.items
+          (led_list list queue c.args.sent.now.filler page w.if-sent.true)
+          (h (list ++ Sent queue (time_filling_packet true queue) ∷ []) filler)) c.put_page.ensures
+      | else-sent w ↦ if_ok c.put_page.result (λ x h list laid.
+          laid_same c.args.lines c.args.info _ _ c.put_page.new.slots.items
+          (unled_list list queue c.args.sent.now.filler page w.if-sent.false)
+          (h list (subst (λ z. IsLaid c.args.lines c.args.info list z.items) (sym w.slots-is) laid))) c.put_page.ensures
+    ]

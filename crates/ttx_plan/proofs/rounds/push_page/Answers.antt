@@ -1,7 +1,7 @@
 use Rattle.std.proofs.Common.{◌∙◌, ◌++◌, ◌∷◌, [], get_or, ap}
 use Rattle.ttx_plan.specs.Blocks.{header_packet, rest_packet}
 use Rattle.ttx_plan.proofs.Onward.{others_more, others_end}
-use Rattle.ttx_plan.proofs.rounds.push_block.Goals as goal
+use Rattle.ttx_plan.proofs.rounds.push_page.Goals as goal
 
 pub loop-bytes-init : goal.loop-bytes-init
 loop-bytes-init c = c.in_ok-push.ensures.items

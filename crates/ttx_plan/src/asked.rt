@@ -1,0 +1,12 @@
+//! For which receivers a cycle is planned.
+
+use ttx_page::Class;
+
+/// The receivers that a cycle is planned for.
+#[derive(Clone, Copy)]
+pub struct Receivers {
+    /// What surely clears a page on them.
+    pub class: Class,
+    /// Also those that show a page late: when the next header of its magazine has another page number.
+    pub late: bool,
+}
