@@ -1,5 +1,5 @@
 -- What a track comes to, once it has taken what follows the period.
-use Rattle.std.proofs.Common.{◌≡◌, ℕ, suc, ◌-◌, ◌≤◌, pos, ◌-ℤ◌, List, [], ◌∷◌, length, Option, Some, None, refl, sym, ap, ◌∙◌, subst, inl, inr, arith}
+use Rattle.std.proofs.Common.{◌≡◌, ℕ, suc, ◌-◌, ◌≤◌, pos, ◌-ℤ◌, List, [], ◌∷◌, length, Option, Some, None, refl, sym, ap, ◌∙◌, subst, arith}
 use Rattle.std.specs.List.{All}
 use Rattle.ttx_page.specs.Pages.{Page}
 use Rattle.ttx_page.specs.Streams.{run_length}
@@ -18,7 +18,6 @@ use Rattle.ttx_page.specs.Streams.{repeated}
 use Rattle.ttx_witness.specs.Sent.{owner_scan, owner_moved, entry_of}
 use Rattle.ttx_witness.specs.Collected.{owner_for}
 use Rattle.ttx_witness.specs.declared.owners.Owner.{Owner}
-use Rattle.ttx_cycle.specs.Files.{IsCycle}
 use Rattle.ttx_witness.proofs.Returning.{steady_entry, own_entry}
 use Rattle.ttx_witness.specs.Following.{Follows, FollowsPlace, IsProgress}
 use Rattle.ttx_witness.proofs.Stepping.{short_run}

@@ -17,7 +17,6 @@ use Rattle.ttx_witness.specs.Coverage.{Certificate, IsCertificate, limit}
 use Rattle.ttx_witness.specs.Sent.{PageOwner, owner_scan, sent_under, sent_at, sent_scan}
 use Rattle.ttx_witness.specs.Collected.{IsItem, ids_of, item_number}
 use Rattle.ttx_witness.specs.Comparing.{is_mine, item_of, sends, IsWrong}
-use Rattle.ttx_witness.specs.Tracks.{IsTrack}
 use Rattle.ttx_witness.specs.OtherSubpages.{first_of}
 use Rattle.ttx_witness.proofs.Basics.{and_left, and_right}
 use Rattle.ttx_witness.specs.declared.following.Followed.{Followed}

@@ -1,5 +1,5 @@
 use Rattle.std.proofs.Common.{◌-◌, [], sym, ap, subst}
-use Rattle.ttx_witness.specs.Tracks.{IsTrack, IsRecent}
+use Rattle.ttx_witness.specs.Tracks.{IsRecent}
 use Rattle.ttx_witness.proofs.OneByOne.{track_begins}
 use Rattle.ttx_witness.proofs.SingleRuns.{single_begins}
 use Rattle.ttx_witness.proofs.beginning.nothing_kept.Goals as goal

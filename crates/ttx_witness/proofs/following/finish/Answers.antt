@@ -1,4 +1,4 @@
-use Rattle.std.proofs.Common.{◌≡◌, ◌∙◌, ap, refl, subst}
+use Rattle.std.proofs.Common.{◌∙◌, ap, refl, subst}
 use Rattle.ttx_witness.specs.Following.{IsKept, progress_kept}
 use Rattle.ttx_witness.proofs.SingleRuns.{ended_single}
 use Rattle.ttx_witness.proofs.following.finish.Goals as goal

@@ -1,6 +1,5 @@
-use Rattle.std.proofs.Common.{◌++◌, ◌∷◌, [], refl, subst}
+use Rattle.std.proofs.Common.{refl, subst}
 use Rattle.ttx_witness.specs.Following.{IsKept}
-use Rattle.ttx_witness.specs.declared.following.Kept.TheVariants.{Single}
 use Rattle.ttx_witness.proofs.SingleRuns.{took_single}
 use Rattle.ttx_witness.proofs.following.take.Goals as goal
 
