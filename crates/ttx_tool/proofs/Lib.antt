@@ -1,8 +1,6 @@
 pub mod ReadHeaders
 mod FieldLines
-mod CommandLine
 mod Heard
-mod Numerals
 mod FoundNothing
 mod TwoInputs
 mod FreshUntilHeader

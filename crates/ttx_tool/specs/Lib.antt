@@ -10,8 +10,5 @@ pub mod Previewing
 pub mod FindingFiles
 pub mod RefutingFiles
 pub mod Reports
-pub mod Grammar
-pub mod Orders
-pub mod PageNames
 pub mod PlannedFiles
 pub mod PlanningLaws

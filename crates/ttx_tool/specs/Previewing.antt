@@ -20,7 +20,7 @@ use Rattle.ttx_tool.specs.Showing.{no_page_line}
 use Rattle.ttx_tool.specs.declared.faults.ToolFault.{ToolFault}
 use Rattle.ttx_tool.specs.declared.faults.ToolFault.TheVariants.{Read, Write}
 use Rattle.ttx_tool.specs.declared.commands.previewing.Told.{Told}
-use Rattle.ttx_tool.specs.declared.orders.Look.{Look}
+use Rattle.ttx_arguments.specs.declared.orders.Look.{Look}
 
 abbrev pub first_match : Selection → List Page → Option Page
 first_match sel [] = None

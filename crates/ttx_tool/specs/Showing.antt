@@ -20,7 +20,7 @@ use Rattle.ttx_render.specs.View.{view_of}
 use Rattle.ttx_tool.specs.Receiving.{Tuning, Hears}
 use Rattle.ttx_tool.specs.declared.faults.ToolFault.{ToolFault}
 use Rattle.ttx_tool.specs.declared.faults.ToolFault.TheVariants.{Cycle, Write, NoMemory}
-use Rattle.ttx_tool.specs.declared.orders.Look.{Look}
+use Rattle.ttx_arguments.specs.declared.orders.Look.{Look}
 
 -- one of the slots is a header that the selection matches
 abbrev pub has_header : Selection → List (List ℕ) → Bool

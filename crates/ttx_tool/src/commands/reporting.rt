@@ -7,9 +7,9 @@ ghost use Rattle.ttx_source.specs.Faults.{fault_of};
 ghost use Rattle.ttx_tool.specs.Reports.{service_text, service_status, certificate_text, fault_line, status_of, Reports, ReportsWords, CountsReport};
 
 use crate::faults::ToolFault;
-use crate::orders::WordsFault;
 use std::alloc::{AllocError, Global};
 use std::io::Write;
+use ttx_arguments::WordsFault;
 use ttx_certify::TextFile;
 use ttx_cycle::{Counted, CycleFault, write_bytes};
 use ttx_plan::PlanFault;

@@ -13,10 +13,10 @@ ghost use Rattle.ttx_tool.specs.Receiving.{tuning_at, Hears};
 ghost use Rattle.ttx_tool.specs.Showing.{stays_fresh, no_page_line, shown_text, shown_status, Shows};
 
 use crate::faults::ToolFault;
-use crate::orders::{Look, Tuning};
 use crate::stepping::step_over;
 use std::alloc::{AllocError, Global};
 use std::io::{Read, Write};
+use ttx_arguments::{Look, Tuning};
 use ttx_cycle::{Counted, read_cycle, write_bytes};
 use ttx_page::PageMemory;
 use ttx_picture::push_picture;

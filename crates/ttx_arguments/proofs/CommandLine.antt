@@ -1,0 +1,105 @@
+-- The program's command line is one whose matches and faults are known exactly, and words without a fault name a command.
+use Rattle.std.proofs.Common.{◌≡◌, ◌≢◌, ◌∙◌, ap, Result, Ok, Err, List, [], ◌∷◌, length, codes, inl, inr, true, false, refl, sym, subst, Bool, ◌&&◌, not, is_some, Some, option_map, arith}
+use Rattle.std.specs.List.{list_any}
+use Rattle.clap.specs.Words.{App, Shape, Text, built, is_simple, is_simple_and_free, kind_of, subcommand_of, fault_of}
+use Rattle.clap.specs.Walk.{Names, Held, walk, walk_from, settled, finished, nothing_held}
+use Rattle.clap.specs.Faults.{level_fault, walk_fault, settle_fault, defaults_fault, check_fault, entered_fault}
+use Rattle.clap.specs.Takes.{is_given}
+use Rattle.clap.specs.Facts.{explicit_source}
+use Rattle.clap.specs.Simple.{argument_words, entered, names_of}
+use Rattle.clap.specs.Kinds.{Kinds, HasKind, IsAmong, or_else, check_kinds}
+use Rattle.clap.specs.declared.error.Error.{Error}
+use Rattle.clap.specs.declared.error.kind.ErrorKind.TheVariants.{OutOfMemory}
+use Rattle.ttx_arguments.specs.Grammar.{NameList, ttx_app}
+use Rattle.ttx_arguments.specs.Orders.{OrderView, Unfit, inspect_order, order_view, order_at, Asks, Refuses, IsOrderOf, IsRefusalOf, IsFaultOf, AnswersBy}
+use Rattle.ttx_arguments.specs.declared.orders.Order.{Order}
+use Rattle.ttx_arguments.specs.declared.orders.WordsFault.{WordsFault}
+use Rattle.ttx_arguments.specs.declared.orders.WordsFault.TheVariants.{Refused, Page, Twice, NoMemory}
+
+pub ttx_is_simple : (kinds classes forms : NameList) → is_simple (ttx_app kinds classes forms) ≡ true
+unfolding ttx_app
+ttx_is_simple kinds classes forms = refl
+
+pub ttx_is_free : (kinds classes forms : NameList) → is_simple_and_free (ttx_app kinds classes forms) ≡ true
+unfolding ttx_app
+ttx_is_free kinds classes forms = refl
+
+-- an error that isn't of memory has one of the kinds
+pub among_kinds : (kinds : Kinds) (e : Error) → (kind_of e ≡ OutOfMemory → ⊥) → HasKind kinds e → IsAmong (kind_of e) kinds
+among_kinds kinds e other h = elim h [ inl m ↦ absurd (other m) | inr a ↦ a ]
+
+-- such an error as a refusal of words
+pub refusal : (fault : WordsFault) (e : Error) (kinds : Kinds) → IsFaultOf fault e → HasKind kinds e → IsRefusalOf fault kinds
+refusal (Refused error) e kinds f h = subst (λ (x : Error). IsAmong (kind_of x) kinds) (sym f.0) (among_kinds kinds e f.1 h)
+refusal Page e kinds f h = f
+refusal Twice e kinds f h = f
+refusal NoMemory e kinds f h = tt
+
+-- no words ask for `inspect -`
+pub no_words : (app : App) (words : List Text) → length words ≡ 0 → Asks app words (Ok (inspect_order (codes "-")))
+unfolding Asks
+no_words app [] h = refl
+no_words app (word ∷ words) h = absurd (omega (arith, h))
+
+-- what some words ask for, and that they are refused
+asked : (app : App) (words : List Text) (answer : Result OrderView Unfit) → length words ≢ 0 → fault_of app words ≡ []
+    → option_map (λ p. order_at p.0 p.1) (subcommand_of app words) ≡ Some answer → Asks app words answer
+unfolding Asks
+asked app [] answer some fault is = absurd (some refl)
+asked app (word ∷ words) answer some fault is = (fault, is)
+
+refuses : (app : App) (words : List Text) (error : Error) → length words ≢ 0 → IsAmong (kind_of error) (fault_of app words) → Refuses app words error
+unfolding Refuses
+refuses app [] error some h = absurd (some refl)
+refuses app (word ∷ words) error some h = h
+
+pub answered : (app : App) (words : List Text) (answer : Result OrderView Unfit) (result : Result Order WordsFault) → length words ≢ 0 → fault_of app words ≡ []
+    → option_map (λ p. order_at p.0 p.1) (subcommand_of app words) ≡ Some answer → IsOrderOf result answer → AnswersBy app words result
+answered app words answer (Ok order) some fault is of = asked app words (Ok (order_view order)) some fault (is ∙ ap Some of)
+answered app words answer (Err Page) some fault is of = asked app words _ some fault (is ∙ ap Some of)
+answered app words answer (Err Twice) some fault is of = asked app words _ some fault (is ∙ ap Some of)
+answered app words answer (Err (Refused error)) some fault is of = absurd of
+answered app words answer (Err NoMemory) some fault is of = absurd of
+
+pub refused : (app : App) (words : List Text) (fault : WordsFault) → length words ≢ 0 → IsRefusalOf fault (fault_of app words) → AnswersBy app words (Err fault)
+refused app words (Refused error) some h = refuses app words error some h
+refused app words Page some h = absurd h
+refused app words Twice some h = absurd h
+refused app words NoMemory some h = tt
+
+-- ---- words without a fault name a command
+
+no_fault : (a b : Kinds) → or_else a b ≡ [] → (a ≡ []) × (b ≡ [])
+no_fault [] b h = (refl, h)
+no_fault (k ∷ ks) b h = cc
+
+needs_command : (wants_help wants_argument has need : Bool) → need ≡ true → check_kinds wants_help (not has && need) wants_argument ≡ [] → has ≡ true
+needs_command wants_help wants_argument true need n h = refl
+needs_command true wants_argument false true n h = cc
+needs_command false wants_argument false true n h = cc
+needs_command wants_help wants_argument false false n h = cc
+
+-- a level that needs a command and has no fault has one
+level_has : (s : Shape) (names : Names) (h : Held) (words : List Text) (has : Bool) (below : Kinds) → s.subcommand_required ≡ true → level_fault s names h words has below ≡ [] → has ≡ true
+level_has s names h words has below n fault =
+    let end = (walk s.rules names h words).held in
+    let one = (no_fault (walk_fault s names (walk_from h) words) (or_else below (or_else (settle_fault s.rules s.args_override_self end) (or_else (defaults_fault (settled s.rules end).rows s.rules) (check_fault s (finished s.rules end) has)))) fault).1 in
+    let two = (no_fault below (or_else (settle_fault s.rules s.args_override_self end) (or_else (defaults_fault (settled s.rules end).rows s.rules) (check_fault s (finished s.rules end) has))) one).1 in
+    let three = (no_fault (settle_fault s.rules s.args_override_self end) (or_else (defaults_fault (settled s.rules end).rows s.rules) (check_fault s (finished s.rules end) has)) two).1 in
+    let four = (no_fault (defaults_fault (settled s.rules end).rows s.rules) (check_fault s (finished s.rules end) has) three).1 in
+    needs_command (not has && (s.arg_required_else_help && not (list_any (λ r. explicit_source r.source) (finished s.rules end))))
+    (not (s.subcommand_negates_reqs && has) && list_any (λ a. a.required && not (is_given a.id (finished s.rules end))) s.rules) has s.subcommand_required n four
+
+app_has : (a : App) (ws : List Text) → (built a).top.subcommand_required ≡ true → fault_of a ws ≡ [] → is_some (subcommand_of a ws) ≡ true
+app_has a ws n fault =
+    let words = argument_words a ws in
+    let stop = (walk (built a).top.rules (names_of (built a)) nothing_held words).stopped in
+    level_has (built a).top (names_of (built a)) nothing_held words (is_some (entered (built a) stop)) (entered_fault (built a) stop) n fault
+
+needs : (kinds classes forms : NameList) → (built (ttx_app kinds classes forms)).top.subcommand_required ≡ true
+unfolding ttx_app
+needs kinds classes forms = refl
+
+pub has_command : (kinds classes forms : NameList) (ws : List Text) → fault_of (ttx_app kinds classes forms) ws ≡ []
+    → is_some (subcommand_of (ttx_app kinds classes forms) ws) ≡ true
+has_command kinds classes forms ws h = app_has (ttx_app kinds classes forms) ws (needs kinds classes forms) h

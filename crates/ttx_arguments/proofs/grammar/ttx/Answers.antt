@@ -1,0 +1,15 @@
+use Rattle.ttx_arguments.specs.Grammar.{ttx_app}
+use Rattle.ttx_arguments.proofs.grammar.ttx.Goals as goal
+
+pub returns : goal.returns
+unfolding ttx_app
+returns c =
+    let inspecting = c.with_command-ttx.ensures _ _ c.bare.ensures c.inspect.ensures in
+    let planning = c.with_command-ttx-2.ensures _ _ inspecting c.plan.ensures in
+    let finding = c.with_command-ttx-3.ensures _ _ planning c.find.ensures in
+    let certifying = c.with_command-ttx-4.ensures _ _ finding c.certify.ensures in
+    let refuting = c.with_command-ttx-5.ensures _ _ certifying c.refute.ensures in
+    let receiving = c.with_command-ttx-6.ensures _ _ refuting c.receive.ensures in
+    let showing = c.with_command-ttx-7.ensures _ _ receiving c.show.ensures in
+    let previewing = c.with_command-ttx-8.ensures _ _ showing c.preview.ensures in
+    c.with_command.ensures _ _ previewing c.splice.ensures

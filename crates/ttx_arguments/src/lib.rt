@@ -1,0 +1,11 @@
+//! The words after the name of the program `ttx`: what they ask for, and why they are refused.
+#![tactic(auto)]
+
+mod grammar;
+mod help;
+pub mod orders;
+mod page_names;
+mod parsing;
+
+pub use orders::{Look, Order, ReceiverKind, Tuning, WordsFault};
+pub use parsing::words;

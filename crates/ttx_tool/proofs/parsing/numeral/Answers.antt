@@ -1,6 +1,0 @@
-use Rattle.std.proofs.Common.{rules}
-use Rattle.ttx_tool.proofs.Numerals.{number_read}
-use Rattle.ttx_tool.proofs.parsing.numeral.Goals as goal
-
-pub returns : goal.returns
-returns c = search (rules, number_read)
