@@ -43,7 +43,7 @@ none_later true = refl
 none_later false = refl
 
 -- a script without choices
-unscripted : (lines : ℕ) (sel : Selection) (m : Memory) (s : Stream) (tau : ℤ) (n : ℕ) → scripted Any lines sel [] m (sent_from s tau n) ≡ plain_from lines sel m s tau n
+pub unscripted : (lines : ℕ) (sel : Selection) (m : Memory) (s : Stream) (tau : ℤ) (n : ℕ) → scripted Any lines sel [] m (sent_from s tau n) ≡ plain_from lines sel m s tau n
 unfolding plain_from
 unscripted lines sel m s tau zero = refl
 unscripted lines sel m s tau (suc n) =

@@ -30,7 +30,7 @@ and_both false b h k = h
 pub exact_matches : (id : Id) → matches (Exact id) id ≡ true
 exact_matches id = let e = λ (n : ℕ). eq-eqb n n refl in and_both _ _ (and_both _ _ (e id.mag) (e id.page)) (e id.sub)
 
-exactly : (id : Id) (packet : Packet) → heads_matched (Exact id) packet ≡ true → heads_page id packet ≡ true
+pub exactly : (id : Id) (packet : Packet) → heads_matched (Exact id) packet ≡ true → heads_page id packet ≡ true
 exactly id (Header i control text) h = h
 exactly id (Row m n t) h = h
 exactly id (Links m content) h = h

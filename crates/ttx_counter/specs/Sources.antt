@@ -4,19 +4,22 @@
 --   plain_counter           a counter-run from slot 0 on without hits and choices
 --   PlainRunsAreCounterRuns where such a run ends in a wrong View
 --   AbsentPagesAreWrong     where the page has no header, a receiver that isn't storing keeps wrong links
+--   SteadyPagesStay         of a page that is sent unchanged none ends wrong
 --   IsPlainlyRight          no plain run ends wrong
+--   is_of, takes            whether a receiver takes something from a packet that it may show
 --   IsWrongAfter, TellsWrong        the View is wrong after n slots; the first such number
 --   PeriodsRepeat           a period that gives the memory back gives it back ever after
-use Rattle.std.specs.Prelude.{◌≡◌, ◌≢◌, ℕ, zero, suc, ◌+◌, ◌*◌, ◌≤◌, ◌<◌, ℤ, pos, ◌+ℤ◌, Bool, false, List, [], length, slice_get, Option, Some, None}
+use Rattle.std.specs.Prelude.{◌≡◌, ◌≢◌, ℕ, zero, suc, ◌+◌, ◌*◌, ◌≤◌, ◌<◌, ℤ, pos, ◌+ℤ◌, Bool, false, ◌&&◌, ◌||◌, ◌==◌, List, [], length, slice_get, Option, Some, None}
 use Rattle.ttx_cycle.specs.Files.{IsCycle}
-use Rattle.ttx_page.specs.Packets.{packet_of}
-use Rattle.ttx_page.specs.Pages.{Page, Fits}
+use Rattle.ttx_page.specs.Packets.{Packet, Row, Links, packet_of}
+use Rattle.ttx_page.specs.Pages.{Page, IsPage, Fits, selected_mag}
 use Rattle.ttx_page.specs.declared.selection.Selection.{Selection}
 use Rattle.ttx_page.specs.declared.selection.Selection.TheVariants.{Exact}
 use Rattle.ttx_page.specs.declared.class.Class.TheVariants.{Any}
 use Rattle.ttx_page.specs.Memories.{Memory, IsMemory, memory_of_page}
 use Rattle.ttx_page.specs.Receivers.{after, older}
-use Rattle.ttx_page.specs.Streams.{Stream, repeated, heads_page}
+use Rattle.ttx_page.specs.Streams.{Stream, repeated, heads_page, heads_matched}
+use Rattle.ttx_page.specs.Steady.{Steady}
 use Rattle.ttx_certify.specs.Seen.{HasView}
 use Rattle.ttx_counter.specs.Counters.{CounterRun, AreNumbers, IsCounterRun, selection_for}
 
@@ -40,11 +43,27 @@ AbsentPagesAreWrong =
     (s : Stream) (p : Page) (former : Memory) (lines n : ℕ) → ((j : ℤ) → heads_page p.id (packet_of (s j)) ≡ false) → former.storing ≡ false → former.links.six ≢ p.links.six →
     (tau : ℤ) → HasView p (plain_from lines (Exact p.id) former s tau n) → ⊥
 
+-- a page that is sent unchanged stays in the View of a receiver that holds it at first
+abbrev pub SteadyPagesStay : Type 0
+SteadyPagesStay =
+    (s : Stream) (pages : List Page) (p : Page) (sel : Selection) (lines n : ℕ) (tau : ℤ) → IsPage p → IsMemory (memory_of_page p) → Fits pages p sel → Steady s pages p →
+    HasView p (plain_from lines sel (memory_of_page p) s tau n)
+
 -- q periods of a cycle after one that gave the memory back
 abbrev pub PeriodsRepeat : Type 0
 PeriodsRepeat =
     (cycle : List (List ℕ)) (lines : ℕ) (sel : Selection) (m : Memory) (q : ℕ) → 0 < length cycle → plain_from lines sel m (repeated cycle) (pos 0) (length cycle) ≡ m →
     plain_from lines sel m (repeated cycle) (pos 0) (q * length cycle) ≡ m
+
+-- a row or an X/27/0 of the magazine
+abbrev pub is_of : ℕ → Packet → Bool
+is_of mag (Row m number text) = m == mag
+is_of mag (Links m content) = m == mag
+is_of mag _ = false
+
+-- a header that the selection matches; or, of a page that is being stored, a row or an X/27/0 of its magazine
+abbrev pub takes : Selection → Memory → Packet → Bool
+takes sel m packet = heads_matched sel packet || (is_of (selected_mag sel) packet && m.storing)
 
 -- the first number of slots from low to high after which the View is wrong, if one is
 abbrev pub IsWrongAfter : List (List ℕ) → Page → ℕ → Selection → Memory → ℕ → Type 0

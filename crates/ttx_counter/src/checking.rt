@@ -7,6 +7,8 @@ ghost use Rattle.ttx_page.specs.Pages as definitions;
 ghost use Rattle.ttx_page.specs.Streams.{repeated};
 ghost use Rattle.ttx_page.specs.Views.{page_of, memory_of};
 ghost use Rattle.ttx_certify.specs.Seen.{HasView};
+ghost use Rattle.ttx_render.specs.Comparison.{SameButClock};
+ghost use Rattle.ttx_render.specs.View.{view_of};
 ghost use Rattle.ttx_cycle.specs.Cycles.{slots_of};
 ghost use Rattle.ttx_counter.specs.Counters.{run_of, selection_for, AreNumbers, IsHit, IsCounterRun};
 ghost use Rattle.ttx_counter.specs.Keys.{key_at, key_of, AreApart, IsKey};
@@ -22,7 +24,7 @@ use ttx_cycle::Cycle;
 use ttx_header::PageId;
 use ttx_page::{Page, PageMemory, Selection};
 use ttx_receiver::{Receiver, Scripted};
-use ttx_render::{render, same_but_clock};
+use ttx_render::{View, render, same_but_clock};
 use ttx_witness::NoMemory;
 
 /// What the receiver is set to.
@@ -97,11 +99,18 @@ fn is_in_range(cycle: &Cycle, pages: &[Page], index: usize, counter: &Counter) -
         && are_hits(cycle, counter.start, counter.slots, &counter.hits)
 }
 
-/// Whether the memory's View isn't the page's.
-pub fn is_wrong(page: &Page, memory: &PageMemory) -> bool
+/// Whether the memory's View isn't this one, the header clock aside.
+pub fn is_unlike(own: &View, memory: &PageMemory) -> bool
+    ensures { IsTrue result ↔ (SameButClock (view_of (memory_of memory.now)) own.now → ⊥) }
+{
+    !same_but_clock(&render(memory), own)
+}
+
+// Whether the memory's View isn't the page's.
+fn is_wrong(page: &Page, memory: &PageMemory) -> bool
     ensures { IsTrue result ↔ (HasView (page_of page.now) (memory_of memory.now) → ⊥) }
 {
-    !same_but_clock(&render(memory), &render(&PageMemory::of(page)))
+    is_unlike(&render(&PageMemory::of(page)), memory)
 }
 
 // Whether the receiver's View is wrong after the run.

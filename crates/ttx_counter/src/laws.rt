@@ -1,7 +1,7 @@
 //! The laws of counter-runs. A call costs nothing and gives the caller's proof the law.
 
 ghost use Rattle.ttx_counter.specs.Laws.{CounterRunsRefute, RefutedIsNotAccepted};
-ghost use Rattle.ttx_counter.specs.Sources.{PlainRunsAreCounterRuns, AbsentPagesAreWrong, PeriodsRepeat};
+ghost use Rattle.ttx_counter.specs.Sources.{PlainRunsAreCounterRuns, AbsentPagesAreWrong, SteadyPagesStay, PeriodsRepeat};
 ghost use Rattle.ttx_counter.specs.Streaks.{StreaksDecide};
 
 /// A counter-run refutes that its page is seen.
@@ -36,6 +36,17 @@ pub fn plain_runs_are_counter_runs()
 pub fn absent_pages_are_wrong()
     ensures { AbsentPagesAreWrong }
 {}
+
+/// A page that is sent unchanged stays in the View of a receiver that holds it at first, takes no choice and hears no error.
+pub fn steady_pages_stay()
+    ensures { SteadyPagesStay }
+{
+    ttx_page::laws::page_is_shown();
+    ttx_page::laws::scripted_runs();
+    ttx_page::laws::steady_sends_its_own();
+    ttx_receiver::laws::shown_stays_shown();
+    ttx_render::laws::showing_is_seeing();
+}
 
 /// A period that gives the memory back gives it back however often it is repeated.
 pub fn periods_repeat()

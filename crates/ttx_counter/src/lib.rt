@@ -2,6 +2,7 @@
 #![tactic(auto)]
 
 mod checking;
+mod claim;
 pub mod completeness;
 mod counter;
 mod counter_writing;

@@ -1,19 +1,26 @@
 //! Plain runs: a receiver that takes no choice, from slot 0 on and without hits.
 
-ghost use Rattle.std.specs.Prelude.{◌≡◌, ℕ, ◌+◌, ◌-◌, ◌*◌, ◌<◌, ◌≤◌, ◌^◌, pos, IsTrue, ◌↔◌, MatchOption, length};
-ghost use Rattle.ttx_page.specs.Streams.{repeated};
+ghost use Rattle.std.specs.Prelude.{◌≡◌, ℕ, ◌+◌, ◌-◌, ◌*◌, ◌<◌, ◌≤◌, ◌^◌, ◌==◌, ◌&&◌, pos, true, IsTrue, ◌↔◌, MatchOption, length};
+ghost use Rattle.ttx_header.specs.Headers.{is_header, id_of};
+ghost use Rattle.ttx_page.specs.Packets.{packet_of};
+ghost use Rattle.ttx_page.specs.Pages as definitions;
+ghost use Rattle.ttx_page.specs.Pages.{matches, selected_mag};
+ghost use Rattle.ttx_page.specs.Streams.{repeated, heads_matched};
 ghost use Rattle.ttx_page.specs.Views.{page_of, memory_of};
 ghost use Rattle.ttx_page.specs.Memories.{Memory, memory_of_page};
 ghost use Rattle.ttx_cycle.specs.Cycles.{slots_of};
-ghost use Rattle.ttx_certify.specs.Seen.{HasView};
-ghost use Rattle.ttx_counter.specs.Sources.{plain_from, TellsWrong};
+ghost use Rattle.ttx_render.specs.View.{view_of};
+ghost use Rattle.ttx_counter.specs.Sources.{plain_from, is_of, takes, TellsWrong};
 
-use crate::checking::is_wrong;
+use crate::checking::is_unlike;
 use crate::listening::place;
 use ttx_cycle::Cycle;
+use ttx_header::read_header;
 use ttx_links::Target;
+use ttx_packet::slots::{Slot, slot_of};
 use ttx_page::{Page, PageMemory, Selection};
 use ttx_receiver::{Eager, Receiver};
+use ttx_render::{View, render};
 
 fn same_link(a: Option<Target>, b: Option<Target>) -> bool
     ensures { IsTrue result ↔ (a ≡ b) }
@@ -92,17 +99,83 @@ fn settle(receiver: &mut Eager, cycle: &Cycle, periods: u32, period: u32)
     }
 }
 
-// The first number of slots from `low` to `high` after which the receiver's View is wrong.
-fn first_wrong(receiver: &mut Eager, cycle: &Cycle, page: &Page, low: u32, high: u32) -> Option<u32>
-    requires { high < 2 ^ 32 - 1 }
-    ensures { (former : Memory) → receiver.old.memory ≡ plain_from receiver.old.lines receiver.old.selection former (repeated (slots_of cycle.now)) (pos 0) low → TellsWrong (slots_of cycle.now) (page_of page.now) receiver.old.lines receiver.old.selection former low high result }
+// The magazine that a receiver listens to.
+fn magazine_of(selection: &Selection) -> u8
+    ensures { result ≡ selected_mag selection.now }
 {
+    match selection {
+        Selection::Exact(id) => id.mag(),
+        Selection::AnySub(mag, _) => *mag,
+    }
+}
+
+fn is_matched(selection: &Selection, bytes: &[u8; 42]) -> bool
+    requires { is_header bytes.now ≡ true }
+    ensures { result ≡ matches selection.now (id_of bytes.now) }
+{
+    match read_header(bytes) {
+        Some(header) => selection.matches(header.id()),
+        None => false,
+    }
+}
+
+// Whether a slot is a header that the selection matches.
+fn begins(selection: &Selection, slot: &[u8; 42]) -> bool
+    ensures { result ≡ heads_matched selection.now (packet_of slot.now) }
+{
+    ttx_header::laws::headers_have_fields();
+    match slot_of(slot) {
+        Slot::Header(_, bytes) => is_matched(selection, bytes),
+        Slot::Row(_, _) => false,
+        Slot::Links(_, _) => false,
+        Slot::Empty => false,
+        Slot::Unreadable => false,
+        Slot::Info(_, _) => false,
+        Slot::Other(_) => false,
+    }
+}
+
+// Whether a slot is a row or an X/27/0 of the magazine.
+fn is_of(mag: u8, slot: &[u8; 42]) -> bool
+    ensures { result ≡ is_of mag (packet_of slot.now) }
+{
+    match slot_of(slot) {
+        Slot::Header(_, _) => false,
+        Slot::Row(at, _) => at.mag == mag,
+        Slot::Links(at, _) => at.mag == mag,
+        Slot::Empty => false,
+        Slot::Unreadable => false,
+        Slot::Info(_, _) => false,
+        Slot::Other(_) => false,
+    }
+}
+
+// Whether the receiver takes something from a slot that it may show.
+fn takes(memory: &PageMemory, selection: &Selection, slot: &[u8; 42]) -> bool
+    ensures { result ≡ takes selection.now (memory_of memory.now) (packet_of slot.now) }
+{
+    begins(selection, slot) || is_of(magazine_of(selection), slot) && memory.storing()
+}
+
+// The first number of slots from `low` to `high` after which the receiver's View isn't this one. Views are compared only after slots
+// that the receiver takes.
+fn first_wrong(receiver: &mut Eager, cycle: &Cycle, own: &View, low: u32, high: u32) -> Option<u32>
+    requires { high < 2 ^ 32 - 1 }
+    ensures { (p : definitions.Page) (former : Memory) → own.now ≡ view_of (memory_of_page p) → receiver.old.memory ≡ plain_from receiver.old.lines receiver.old.selection former (repeated (slots_of cycle.now)) (pos 0) low → TellsWrong (slots_of cycle.now) p receiver.old.lines receiver.old.selection former low high result }
+{
+    ttx_render::laws::contents_decide();
     let slots = cycle.slots();
+    let mut wrong = is_unlike(own, receiver.memory());
     for n in low..high + 1 {
-        if is_wrong(page, receiver.memory()) {
+        if wrong {
             return Some(n);
         }
-        receiver.step(Some(&slots[place(n, 0, slots.len())]));
+        let slot = &slots[place(n, 0, slots.len())];
+        let taken = takes(receiver.memory(), &receiver.selection(), slot);
+        receiver.step(Some(slot));
+        if taken {
+            wrong = is_unlike(own, receiver.memory());
+        }
     }
     None
 }
@@ -120,14 +193,11 @@ pub fn plain_run(
     ensures { TellsWrong (slots_of cycle.now) (page_of page.now) lines selection (memory_of_page (page_of page.now)) low (low + 2 * length (slots_of cycle.now)) result }
 {
     let period = cycle.slots().len() as u32;
-    let mut receiver = Eager::new(selection, lines, PageMemory::of(page));
+    let own = PageMemory::of(page);
+    let mut receiver = Eager::new(selection, lines, own);
     let periods = low / period;
     settle(&mut receiver, cycle, periods, period);
-    advance(
-        &mut receiver,
-        cycle,
-        periods * period,
-        low - periods * period,
-    );
-    first_wrong(&mut receiver, cycle, page, low, low + 2 * period)
+    let begin = periods * period;
+    advance(&mut receiver, cycle, begin, low - begin);
+    first_wrong(&mut receiver, cycle, &render(&own), low, low + 2 * period)
 }

@@ -1,6 +1,9 @@
 //! Counter-runs of one page by plain runs.
 
-ghost use Rattle.std.specs.Prelude.{◌≡◌, ◌<◌, length, map};
+ghost use Rattle.std.specs.Prelude.{◌≡◌, ◌<◌, IsTrue, Some, length, map, slice_get};
+ghost use Rattle.ttx_page.specs.Pages as definitions;
+ghost use Rattle.ttx_page.specs.Steady.{Steady};
+ghost use Rattle.ttx_page.specs.Streams.{repeated};
 ghost use Rattle.ttx_page.specs.Views.{page_of, memory_of};
 ghost use Rattle.ttx_cycle.specs.Cycles.{slots_of};
 ghost use Rattle.ttx_witness.specs.Certificates.{certificate_of};
@@ -9,12 +12,12 @@ ghost use Rattle.ttx_counter.specs.Refutations.{TellsPlainly};
 ghost use Rattle.ttx_counter.specs.Sources.{plain_counter};
 
 use crate::checking::selection_for;
+use crate::claim::{Claim, page_at};
 use crate::counter::Counter;
 use crate::plain::plain_run;
 use crate::starting::limit;
 use std::alloc::Global;
-use ttx_cycle::Cycle;
-use ttx_page::{Page, PageMemory};
+use ttx_page::PageMemory;
 use ttx_witness::Certificate;
 
 /// A counter-run from slot 0 on without hits and choices, with the numbers of the certificate.
@@ -42,29 +45,36 @@ pub fn plain_counter(
     }
 }
 
-/// A counter-run of the page at the index by this selection, where a plain run from the page's own memory ends wrong.
+/// A counter-run of the page at the index by this selection, where a plain run from the page's own memory ends wrong. A page that is
+/// sent unchanged has none, and isn't run.
 pub fn refute_plainly(
     alloc: Global,
-    cycle: &Cycle,
-    pages: &[Page],
+    claim: &Claim<'_>,
     index: u32,
     any_sub: bool,
-    certificate: &Certificate,
+    steady: bool,
 ) -> Option<Counter>
-    requires { index < length pages.now }
-    ensures { TellsPlainly run_of (slots_of cycle.now) (map page_of pages.now) index any_sub (certificate_of certificate.now) result }
+    requires index { index < length claim.now.pages.now }
+    requires steady { IsTrue steady → (p : definitions.Page) → slice_get (map page_of claim.now.pages.now) index ≡ Some p → Steady (repeated (slots_of claim.now.cycle.now)) (map page_of claim.now.pages.now) p }
+    ensures { TellsPlainly run_of (slots_of claim.now.cycle.now) (map page_of claim.now.pages.now) index any_sub (certificate_of claim.now.certificate.now) result }
 {
     crate::laws::plain_runs_are_counter_runs();
+    crate::laws::steady_pages_stay();
+    ttx_page::laws::pages_keep_their_rules();
     ttx_page::laws::memories_keep_their_rules();
     ttx_witness::certificate_laws::certificates_keep_their_rules();
-    let page = &pages[index as usize];
+    let page = page_at(claim.pages, index);
+    let certificate = claim.certificate;
     let selection = selection_for(any_sub, page.id());
-    if !selection.fits(pages, index as usize) {
+    let former = PageMemory::of(page);
+    if steady {
+        return None;
+    }
+    if !selection.fits(claim.pages, index as usize) {
         return None;
     }
     let low = limit(certificate);
-    let former = PageMemory::of(page);
-    match plain_run(cycle, page, selection, certificate.lines(), low) {
+    match plain_run(claim.cycle, page, selection, certificate.lines(), low) {
         Some(slots) => Some(plain_counter(alloc, index, any_sub, former, certificate, slots)),
         None => None,
     }

@@ -11,6 +11,7 @@ ghost use Rattle.ttx_page.specs.Views.{page_of};
 ghost use Rattle.ttx_page.specs.declared.class.Class.TheVariants.{Any};
 ghost use Rattle.ttx_page.specs.declared.item.Item.TheVariants as items;
 ghost use Rattle.ttx_receiver.specs.Starving.{wrong_memory};
+ghost use Rattle.ttx_witness.specs.AllSent.{AreAllSent};
 ghost use Rattle.ttx_witness.specs.Certificates.{certificate_of};
 ghost use Rattle.ttx_witness.specs.Collected.{ids_of, IsItem};
 ghost use Rattle.ttx_witness.specs.Coverage as coverage;
@@ -21,6 +22,7 @@ ghost use Rattle.ttx_counter.specs.Counters.{run_of};
 ghost use Rattle.ttx_counter.specs.Refutations.{is_absent, IsCounterTo, ArePrepared, TellsNeeded, TellsCovered, TellsPage, TellsPages, TellsAllPlainly, TellsPlainly, TellsCounter};
 ghost use Rattle.ttx_counter.specs.Sources.{plain_counter};
 
+use crate::claim::{Claim, Prepared, page_at};
 use crate::counter::Counter;
 use crate::former::wrong_memory_of;
 use crate::plain_refuting::{plain_counter, refute_plainly};
@@ -30,8 +32,7 @@ use std::alloc::Global;
 use ttx_cycle::Cycle;
 use ttx_page::{Item, Page, needed};
 use ttx_witness::{
-    Certificate, Collected, NoMemory, OtherSubpages, Reason, bad_slot, collect, fault_of, find,
-    item_of,
+    Certificate, NoMemory, OtherSubpages, Reason, bad_slot, collect, fault_of, find, item_of,
 };
 
 // Whether the fault is that the page has no header.
@@ -54,86 +55,78 @@ fn absent_counter(alloc: Global, page: &Page, index: u32, certificate: &Certific
 // The slot from which on a receiver is starved of the item, where a viewer sees it and there is one.
 fn start_for(
     alloc: Global,
-    cycle: &Cycle,
-    pages: &[Page],
+    claim: &Claim<'_>,
+    prepared: &Prepared<'_>,
     index: u32,
-    certificate: &Certificate,
-    found: &Certificate,
-    collected: &Collected,
     item: &Item,
 ) -> Result<Option<u32>, NoMemory>
-    requires index { index < length pages.now }
-    requires prepared { ArePrepared (slots_of cycle.now) (map page_of pages.now) (certificate_of certificate.now) (certificate_of found.now) collected.now }
+    requires index { index < length claim.now.pages.now }
+    requires prepared { ArePrepared (slots_of claim.now.cycle.now) (map page_of claim.now.pages.now) (certificate_of claim.now.certificate.now) (certificate_of prepared.now.found.now) prepared.now.collected.now }
     requires item { IsItem item.now }
-    ensures { IfOk result (λ start. (p : definitions.Page) → slice_get (map page_of pages.now) index ≡ Some p → TellsNeeded (slots_of cycle.now) p (certificate_of certificate.now) item.now start) }
+    ensures { IfOk result (λ start. (p : definitions.Page) → slice_get (map page_of claim.now.pages.now) index ≡ Some p → TellsNeeded (slots_of claim.now.cycle.now) p (certificate_of claim.now.certificate.now) item.now start) }
 {
     ttx_witness::certificate_laws::certificates_keep_their_rules();
-    let page = &pages[index as usize];
+    let page = page_at(claim.pages, index);
     if !needed(page, *item) {
         return Ok(None);
     }
-    let starts = found.starts(page.id(), *item);
-    let sent = collected.sent(index as usize, *item);
+    let starts = prepared.found.starts(page.id(), *item);
+    let sent = prepared.collected.sent(index as usize, *item);
+    let (cycle, certificate) = (claim.cycle, claim.certificate);
     starving_start(alloc, cycle, page, certificate, starts, item, sent)
 }
 
 // The counter-run of the page that is starved of the item from a slot on.
 fn starved_counter(
     alloc: Global,
-    cycle: &Cycle,
-    pages: &[Page],
+    claim: &Claim<'_>,
     index: u32,
-    certificate: &Certificate,
     item: &Item,
     start: u32,
 ) -> Result<Counter, NoMemory>
-    requires index { index < length pages.now }
-    requires clean { IsClean (slots_of cycle.now) }
-    requires steady { (p : definitions.Page) → slice_get (map page_of pages.now) index ≡ Some p → Steady (repeated (slots_of cycle.now)) (map page_of pages.now) p }
-    requires starved { (p : definitions.Page) → slice_get (map page_of pages.now) index ≡ Some p → TellsNeeded (slots_of cycle.now) p (certificate_of certificate.now) item.now (Some start) }
-    ensures { IfOk result (λ c. IsCounterTo (slots_of cycle.now) (map page_of pages.now) (certificate_of certificate.now) (run_of c)) }
+    requires index { index < length claim.now.pages.now }
+    requires clean { IsClean (slots_of claim.now.cycle.now) }
+    requires steady { (p : definitions.Page) → slice_get (map page_of claim.now.pages.now) index ≡ Some p → Steady (repeated (slots_of claim.now.cycle.now)) (map page_of claim.now.pages.now) p }
+    requires starved { (p : definitions.Page) → slice_get (map page_of claim.now.pages.now) index ≡ Some p → TellsNeeded (slots_of claim.now.cycle.now) p (certificate_of claim.now.certificate.now) item.now (Some start) }
+    ensures { IfOk result (λ c. IsCounterTo (slots_of claim.now.cycle.now) (map page_of claim.now.pages.now) (certificate_of claim.now.certificate.now) (run_of c)) }
 {
     crate::completeness::starving_is_counter_run();
     ttx_page::laws::pages_keep_their_rules();
     ttx_witness::certificate_laws::certificates_keep_their_rules();
-    let page = &pages[index as usize];
-    let (lines, repeat) = (certificate.lines(), certificate.repeat());
-    let deadline = certificate.deadline();
+    let page = page_at(claim.pages, index);
+    let (lines, repeat) = (claim.certificate.lines(), claim.certificate.repeat());
+    let deadline = claim.certificate.deadline();
     counter_for(
-        alloc, cycle, index, page, item, start, lines, repeat, deadline,
+        alloc,
+        claim.cycle,
+        index,
+        page,
+        item,
+        start,
+        lines,
+        repeat,
+        deadline,
     )
 }
 
 // A counter-run of a steady page of a clean cycle, by the first item that doesn't come in time.
 fn starve_page(
     alloc: Global,
-    cycle: &Cycle,
-    pages: &[Page],
+    claim: &Claim<'_>,
+    prepared: &Prepared<'_>,
     index: u32,
-    certificate: &Certificate,
-    found: &Certificate,
-    collected: &Collected,
 ) -> Result<Option<Counter>, NoMemory>
-    requires index { index < length pages.now }
-    requires prepared { ArePrepared (slots_of cycle.now) (map page_of pages.now) (certificate_of certificate.now) (certificate_of found.now) collected.now }
-    requires clean { IsClean (slots_of cycle.now) }
-    requires steady { (p : definitions.Page) → slice_get (map page_of pages.now) index ≡ Some p → Steady (repeated (slots_of cycle.now)) (map page_of pages.now) p }
-    ensures { IfOk result (λ c. (p : definitions.Page) → slice_get (map page_of pages.now) index ≡ Some p → TellsCovered run_of (slots_of cycle.now) (map page_of pages.now) p (certificate_of certificate.now) c) }
+    requires index { index < length claim.now.pages.now }
+    requires prepared { ArePrepared (slots_of claim.now.cycle.now) (map page_of claim.now.pages.now) (certificate_of claim.now.certificate.now) (certificate_of prepared.now.found.now) prepared.now.collected.now }
+    requires clean { IsClean (slots_of claim.now.cycle.now) }
+    requires steady { (p : definitions.Page) → slice_get (map page_of claim.now.pages.now) index ≡ Some p → Steady (repeated (slots_of claim.now.cycle.now)) (map page_of claim.now.pages.now) p }
+    ensures { IfOk result (λ c. (p : definitions.Page) → slice_get (map page_of claim.now.pages.now) index ≡ Some p → TellsCovered run_of (slots_of claim.now.cycle.now) (map page_of claim.now.pages.now) p (certificate_of claim.now.certificate.now) c) }
 {
     for number in 0..26u8 {
         let item = item_of(number);
-        let start = start_for(
-            alloc,
-            cycle,
-            pages,
-            index,
-            certificate,
-            found,
-            collected,
-            &item,
-        )?;
+        let start = start_for(alloc, claim, prepared, index, &item)?;
         if let Some(start) = start {
-            let counter = starved_counter(alloc, cycle, pages, index, certificate, &item, start)?;
+            let counter = starved_counter(alloc, claim, index, &item, start)?;
             return Ok(Some(counter));
         }
     }
@@ -143,66 +136,54 @@ fn starve_page(
 // A counter-run of a page without a header, or of a steady page of a clean cycle that no certificate of these numbers covers.
 fn refute_page(
     alloc: Global,
-    cycle: &Cycle,
-    pages: &[Page],
+    claim: &Claim<'_>,
+    prepared: &Prepared<'_>,
     index: u32,
-    certificate: &Certificate,
-    found: &Certificate,
-    collected: &Collected,
-    others: &OtherSubpages,
-    clean: bool,
 ) -> Result<Option<Counter>, NoMemory>
-    requires index { index < length pages.now }
-    requires prepared { ArePrepared (slots_of cycle.now) (map page_of pages.now) (certificate_of certificate.now) (certificate_of found.now) collected.now }
-    requires others { AreOtherSubpages (slots_of cycle.now) (map page_of pages.now) others.now }
-    requires clean { IsTrue clean ↔ IsClean (slots_of cycle.now) }
-    ensures { IfOk result (λ c. (p : definitions.Page) → slice_get (map page_of pages.now) index ≡ Some p → TellsPage run_of (slots_of cycle.now) (map page_of pages.now) p (certificate_of certificate.now) c) }
+    requires index { index < length claim.now.pages.now }
+    requires prepared { ArePrepared (slots_of claim.now.cycle.now) (map page_of claim.now.pages.now) (certificate_of claim.now.certificate.now) (certificate_of prepared.now.found.now) prepared.now.collected.now }
+    requires others { AreOtherSubpages (slots_of claim.now.cycle.now) (map page_of claim.now.pages.now) prepared.now.others.now }
+    requires clean { IsTrue prepared.now.clean ↔ IsClean (slots_of claim.now.cycle.now) }
+    ensures { IfOk result (λ c. (p : definitions.Page) → slice_get (map page_of claim.now.pages.now) index ≡ Some p → TellsPage run_of (slots_of claim.now.cycle.now) (map page_of claim.now.pages.now) p (certificate_of claim.now.certificate.now) c) }
 {
     crate::completeness::fullest_names_all();
     crate::laws::absent_pages_are_wrong();
     crate::laws::plain_runs_are_counter_runs();
     ttx_witness::certificate_laws::certificates_keep_their_rules();
     ttx_witness::fault_laws::steady_has_no_fault();
-    let page = &pages[index as usize];
-    let other_subpage = others.first(page.id());
-    let fault = fault_of(cycle, page, collected, index as usize, other_subpage);
+    let page = page_at(claim.pages, index);
+    let other_subpage = prepared.others.first(page.id());
+    let fault = fault_of(
+        claim.cycle,
+        page,
+        prepared.collected,
+        index as usize,
+        other_subpage,
+    );
     if is_absent(fault) {
-        return Ok(Some(absent_counter(alloc, page, index, certificate)));
+        return Ok(Some(absent_counter(alloc, page, index, claim.certificate)));
     }
+    let clean = prepared.clean;
     if !clean || fault.is_some() {
         return Ok(None);
     }
-    starve_page(alloc, cycle, pages, index, certificate, found, collected)
+    starve_page(alloc, claim, prepared, index)
 }
 
 // The same of the first page that has one.
 fn refute_pages(
     alloc: Global,
-    cycle: &Cycle,
-    pages: &[Page],
-    certificate: &Certificate,
-    found: &Certificate,
-    collected: &Collected,
-    others: &OtherSubpages,
+    claim: &Claim<'_>,
+    prepared: &Prepared<'_>,
 ) -> Result<Option<Counter>, NoMemory>
-    requires few { length pages.now < 2 ^ 32 }
-    requires prepared { ArePrepared (slots_of cycle.now) (map page_of pages.now) (certificate_of certificate.now) (certificate_of found.now) collected.now }
-    requires others { AreOtherSubpages (slots_of cycle.now) (map page_of pages.now) others.now }
-    ensures { IfOk result (TellsPages run_of (slots_of cycle.now) (map page_of pages.now) (certificate_of certificate.now)) }
+    requires few { length claim.now.pages.now < 2 ^ 32 }
+    requires prepared { ArePrepared (slots_of claim.now.cycle.now) (map page_of claim.now.pages.now) (certificate_of claim.now.certificate.now) (certificate_of prepared.now.found.now) prepared.now.collected.now }
+    requires others { AreOtherSubpages (slots_of claim.now.cycle.now) (map page_of claim.now.pages.now) prepared.now.others.now }
+    requires clean { IsTrue prepared.now.clean ↔ IsClean (slots_of claim.now.cycle.now) }
+    ensures { IfOk result (TellsPages run_of (slots_of claim.now.cycle.now) (map page_of claim.now.pages.now) (certificate_of claim.now.certificate.now)) }
 {
-    let clean = bad_slot(cycle).is_none();
-    for index in 0..pages.len() as u32 {
-        let counter = refute_page(
-            alloc,
-            cycle,
-            pages,
-            index,
-            certificate,
-            found,
-            collected,
-            others,
-            clean,
-        )?;
+    for index in 0..claim.pages.len() as u32 {
+        let counter = refute_page(alloc, claim, prepared, index)?;
         if counter.is_some() {
             return Ok(counter);
         }
@@ -210,22 +191,40 @@ fn refute_pages(
     Ok(None)
 }
 
-// A counter-run of the first page of which a plain run ends wrong, by its own id or by its number.
-fn refute_all_plainly(
-    alloc: Global,
-    cycle: &Cycle,
-    pages: &[Page],
-    certificate: &Certificate,
-) -> Option<Counter>
-    requires few { length pages.now < 2 ^ 32 }
-    ensures { TellsAllPlainly run_of (slots_of cycle.now) (map page_of pages.now) (certificate_of certificate.now) result }
+// Whether the cycle sends the page at the index unchanged.
+fn is_steady(claim: &Claim<'_>, prepared: &Prepared<'_>, index: u32) -> bool
+    requires index { index < length claim.now.pages.now }
+    requires sent { AreAllSent (slots_of claim.now.cycle.now) (map page_of claim.now.pages.now) (certificate_of claim.now.certificate.now).lines prepared.now.collected.now }
+    requires others { AreOtherSubpages (slots_of claim.now.cycle.now) (map page_of claim.now.pages.now) prepared.now.others.now }
+    ensures { (p : definitions.Page) → slice_get (map page_of claim.now.pages.now) index ≡ Some p → IsTrue result ↔ Steady (repeated (slots_of claim.now.cycle.now)) (map page_of claim.now.pages.now) p }
 {
-    for index in 0..pages.len() as u32 {
-        let exactly = refute_plainly(alloc, cycle, pages, index, false, certificate);
+    ttx_witness::fault_laws::steady_has_no_fault();
+    let page = page_at(claim.pages, index);
+    let other_subpage = prepared.others.first(page.id());
+    let fault = fault_of(
+        claim.cycle,
+        page,
+        prepared.collected,
+        index as usize,
+        other_subpage,
+    );
+    fault.is_none()
+}
+
+// A counter-run of the first page of which a plain run ends wrong, by its own id or by its number.
+fn refute_all_plainly(alloc: Global, claim: &Claim<'_>, prepared: &Prepared<'_>) -> Option<Counter>
+    requires few { length claim.now.pages.now < 2 ^ 32 }
+    requires sent { AreAllSent (slots_of claim.now.cycle.now) (map page_of claim.now.pages.now) (certificate_of claim.now.certificate.now).lines prepared.now.collected.now }
+    requires others { AreOtherSubpages (slots_of claim.now.cycle.now) (map page_of claim.now.pages.now) prepared.now.others.now }
+    ensures { TellsAllPlainly run_of (slots_of claim.now.cycle.now) (map page_of claim.now.pages.now) (certificate_of claim.now.certificate.now) result }
+{
+    for index in 0..claim.pages.len() as u32 {
+        let steady = is_steady(claim, prepared, index);
+        let exactly = refute_plainly(alloc, claim, index, false, steady);
         if exactly.is_some() {
             return exactly;
         }
-        let by_number = refute_plainly(alloc, cycle, pages, index, true, certificate);
+        let by_number = refute_plainly(alloc, claim, index, true, steady);
         if by_number.is_some() {
             return by_number;
         }
@@ -258,10 +257,20 @@ pub fn refute(
     let collected = collect(alloc, cycle, pages, lines)?;
     let others = OtherSubpages::of(alloc, cycle, pages)?;
     let found = find(alloc, cycle, pages, repeat, lines)?;
-    let named = &found.certificate;
-    let counter = refute_pages(alloc, cycle, pages, certificate, named, &collected, &others)?;
+    let claim = Claim {
+        cycle,
+        pages,
+        certificate,
+    };
+    let prepared = Prepared {
+        found: &found.certificate,
+        collected: &collected,
+        others: &others,
+        clean: bad_slot(cycle).is_none(),
+    };
+    let counter = refute_pages(alloc, &claim, &prepared)?;
     if counter.is_some() {
         return Ok(counter);
     }
-    Ok(refute_all_plainly(alloc, cycle, pages, certificate))
+    Ok(refute_all_plainly(alloc, &claim, &prepared))
 }

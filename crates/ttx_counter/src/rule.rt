@@ -15,7 +15,8 @@ use ttx_cycle::Cycle;
 use ttx_header::PageId;
 use ttx_witness::{NoMemory, mine_after};
 
-/// Whether the hits keep the rule in a run of `count` slots from `start` on. One pass over the slots, with a fixed number of counters.
+/// Whether the hits keep the rule in a run of `count` slots from `start` on. One pass over the slots, with a fixed number of counters;
+/// none where there are no hits.
 pub fn keeps_rule(
     alloc: Global,
     cycle: &Cycle,
@@ -33,6 +34,9 @@ pub fn keeps_rule(
 {
     ttx_packet::laws::rows_are_numbered();
     crate::laws::streaks_decide();
+    if keys.is_empty() {
+        return Ok(true);
+    }
     let slots = cycle.slots();
     let mut mine = is_owned(cycle, page, start);
     let mut streaks = no_streaks(alloc)?;

@@ -17,3 +17,4 @@ mod StarvedReceived
 mod StarvedFormer
 mod StarvedStays
 mod StarvedScript
+mod StayingShown

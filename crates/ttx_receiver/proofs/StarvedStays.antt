@@ -72,17 +72,17 @@ head_odd slot Info o p h = absurd h
 head_odd slot Other o p h = absurd h
 
 -- an item's characters one by one, and its links
-abbrev HoldsEach : Page → Memory → Item → Type 0
+abbrev pub HoldsEach : Page → Memory → Item → Type 0
 HoldsEach p m TheHead = (c : ℕ) → c < 24 → char_at m 0 (8 + c) ≡ get_or p.head c 0
 HoldsEach p m (TheRow r) = (c : ℕ) → c < 40 → char_at m r c ≡ get_or (page_row p r) c 0
 HoldsEach p m TheLinks = m.links ≡ p.links
 
-each_from : (p : Page) (m : Memory) (item : Item) → Holds p m item → HoldsEach p m item
+pub each_from : (p : Page) (m : Memory) (item : Item) → Holds p m item → HoldsEach p m item
 each_from p m TheHead h = h
 each_from p m (TheRow r) h = λ c lt. ap (λ x. get_or x c 0) h
 each_from p m TheLinks h = h
 
-each_to : (p : Page) → IsPage p → (m : Memory) → Shape m → (item : Item) → needed p item ≡ true → HoldsEach p m item → Holds p m item
+pub each_to : (p : Page) → IsPage p → (m : Memory) → Shape m → (item : Item) → needed p item ≡ true → HoldsEach p m item → Holds p m item
 each_to p page m shape TheHead need h = h
 each_to p page m shape (TheRow r) need h =
     let range = needed_row p r need in

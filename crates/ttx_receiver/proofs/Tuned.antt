@@ -50,7 +50,7 @@ pub same_mag : (sel : Selection) (id : Id) → matches sel id ≡ true → id.ma
 same_mag (Exact own) id h = sym (eqb-true own.mag id.mag (and_left _ _ (and_left _ _ h)))
 same_mag (AnySub mag page) id h = sym (eqb-true mag id.mag (and_left _ _ h))
 
-no_row_zero : LawsBelow → (mag : ℕ) (slot : List ℕ) → carries mag (TheRow 0) (packet_of slot) ≡ false
+pub no_row_zero : LawsBelow → (mag : ℕ) (slot : List ℕ) → carries mag (TheRow 0) (packet_of slot) ≡ false
 no_row_zero laws mag slot = go (packet_of slot) (of_slot laws slot)
   where
     go : (pkt : Packet) → IsOfSlot slot pkt → carries mag (TheRow 0) pkt ≡ false

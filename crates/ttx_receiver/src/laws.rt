@@ -2,6 +2,7 @@
 
 ghost use Rattle.ttx_receiver.specs.Laws.{RunHoldsItsItem};
 ghost use Rattle.ttx_receiver.specs.Starving.{StarvedStaysWrong, StarvedIsScripted};
+ghost use Rattle.ttx_receiver.specs.Staying.{ShownStaysShown};
 
 /// An item that comes between two slots is held from the second on.
 pub fn run_holds_its_item()
@@ -34,4 +35,16 @@ pub fn starved_is_scripted()
     ensures { StarvedIsScripted }
 {
     ttx_page::laws::choices_are_choices();
+}
+
+/// A receiver that shows a page goes on showing it where nothing else is sent of it.
+pub fn shown_stays_shown()
+    ensures { ShownStaysShown }
+{
+    ttx_packet::laws::kind_is_kept();
+    ttx_packet::laws::rows_are_numbered();
+    ttx_header::laws::header_is_kept();
+    ttx_links::laws::links_are_kept();
+    ttx_code::laws::odd_bytes_under_one_wrong_bit();
+    ttx_code::laws::odd_bytes_hold_their_codes();
 }

@@ -1,34 +1,53 @@
-use Rattle.std.proofs.Common.{◌≡◌, ◌∙◌, ◌+◌, ◌%◌, pos, length, inl, inr, ap, subst, arith}
+use Rattle.std.proofs.Common.{◌≡◌, ◌↔◌, ◌∙◌, ℕ, ◌+◌, ◌%◌, ◌<◌, ◌≤◌, pos, true, false, [], length, get_or, inl, inr, ap, sym, subst, arith}
 use Rattle.std.proofs.lemmas.Bool.{cases_lt}
+use Rattle.ttx_page.specs.Memories.{Memory, memory_of_page}
 use Rattle.ttx_page.specs.Streams.{repeated}
-use Rattle.ttx_page.specs.Views.{page_of}
+use Rattle.ttx_page.specs.Views.{memory_of}
 use Rattle.ttx_certify.specs.Seen.{HasView}
-use Rattle.ttx_receiver.specs.Tuning.{tuned_at}
-use Rattle.ttx_counter.specs.Sources.{IsWrongAfter}
+use Rattle.ttx_receiver.specs.Tuning.{Tuned, tuned_at}
+use Rattle.ttx_render.specs.Comparison.{SameButClock}
+use Rattle.ttx_render.specs.View.{view_of}
+use Rattle.ttx_counter.specs.Sources.{IsWrongAfter, takes}
+use Rattle.ttx_page.specs.Packets.{packet_of}
 use Rattle.ttx_counter.proofs.Streaking.{no_both}
 use Rattle.ttx_counter.proofs.Sending.{slot_at}
 use Rattle.ttx_counter.proofs.Plainly.{plain_step}
+use Rattle.ttx_counter.proofs.Taking.{unseen}
+use Rattle.ttx_counter.proofs.plain.first_wrong.Goals.{then-taken, else-taken}
 use Rattle.ttx_counter.proofs.plain.first_wrong.Goals as goal
 
 pub loop-n-preserved : goal.loop-n-preserved
 loop-n-preserved c =
     let x = c.slots-slots.result.now in
     let old = c.args.receiver.now in
+    let own = c.args.own.now in
     let i = c.loop-n.invariant in
-    let p = page_of c.args.page.now in
     let turn : c.place.result ≡ (0 + c.loop-n.n) % length x = c.place.ensures.value ∙ ap (λ z. z % length x) (omega arith) in
     record {
       selection = c.step.ensures.selection ∙ i.selection;
       lines = c.step.ensures.lines ∙ i.lines;
-      memory = λ former start.
-          let w = i.memory former start in (
+      wrong = elim c.if-taken.branch as (λ _. (c.if-taken.wrong ≡ true) ↔ (SameButClock (view_of c.step.new.self.memory) own → ⊥)) [
+        | then-taken w ↦
+            subst (λ b. (b ≡ true) ↔ (SameButClock (view_of c.step.new.self.memory) own → ⊥)) (sym w.wrong-is)
+            (subst (λ m. (w.is_unlike-wrong-then-taken.result ≡ true) ↔ (SameButClock (view_of m) own → ⊥)) w.memory-then-taken.ensures w.is_unlike-wrong-then-taken.ensures)
+        | else-taken w ↦
+            let m = c.loop-n.receiver.memory in
+            let packet = packet_of (get_or x c.place.result []) in
+            let left : takes c.loop-n.receiver.selection m packet ≡ false =
+            sym (c.takes-taken.ensures ∙ ap (λ z. takes c.selection.result z packet) c.memory-in-loop-n.ensures ∙ ap (λ z. takes z m packet) c.selection.ensures) ∙ w.if-taken.false in
+            let same = unseen c.contents_decide.ensures c.loop-n.receiver.lines c.loop-n.receiver.selection m c.step.new.self.memory packet left (ap (λ (r : Tuned). r.memory) c.step.ensures.value) in
+            subst (λ b. (b ≡ true) ↔ (SameButClock (view_of c.step.new.self.memory) own → ⊥)) (sym w.wrong-is)
+            (subst (λ v. (c.loop-n.wrong ≡ true) ↔ (SameButClock v own → ⊥)) (sym same) i.wrong)
+      ];
+      memory = λ p former own_is start.
+          let w = i.memory p former own_is start in (
             plain_step (tuned_at old.selection old.lines former) c.loop-n.receiver c.step.new.self (repeated x) (pos 0) c.loop-n.n _ (slot_at x 0 c.loop-n.n c.place.result turn) w.0 i.selection i.lines c.step.ensures.value,
             (λ k low high wrong. elim (cases_lt k c.loop-n.n) as (λ _. ⊥) [
               | inl lt ↦ w.1 k low lt wrong
               | inr ge ↦
                   let e : k ≡ c.loop-n.n = omega arith in
                   let wrong' = subst (λ z. IsWrongAfter x p old.lines old.selection former z) e wrong in
-                  no_both _ (c.is_wrong.ensures.1 (λ v. wrong' (subst (HasView p) (c.memory.ensures ∙ w.0) v))) c.if-is_wrong.false
+                  no_both _ (i.wrong.1 (λ v. wrong' (subst (HasView p) w.0 (subst (λ o. SameButClock (view_of c.loop-n.receiver.memory) o) own_is v)))) c.if-wrong.false
             ]),
           );
     }

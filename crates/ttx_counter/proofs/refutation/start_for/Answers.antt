@@ -4,33 +4,32 @@ use Rattle.ttx_page.specs.Views.{page_of}
 use Rattle.ttx_witness.specs.Certificates.{certificate_of}
 use Rattle.ttx_counter.specs.Refutations.{TellsStart}
 use Rattle.ttx_counter.proofs.Answering.{ok_map, named_for, needed_told}
-use Rattle.ttx_counter.proofs.Deciding.{page_here}
 use Rattle.ttx_counter.proofs.refutation.start_for.Goals as goal
 
 pub starving_start-requires-clause-named : goal.starving_start-requires-clause-named
 starving_start-requires-clause-named c =
-    let cycle = slots_of c.args.cycle.now in
-    let pages = map page_of c.args.pages.now in
-    let w = certificate_of c.args.certificate.now in
-    let p = page_of c.index-pages-index.result in
-    let here = page_here c.args.pages.now c.args.index c.index-pages-index.result c.requires.index c.index-pages-index.is in
-    named_for cycle pages w (certificate_of c.args.found.now) c.args.collected.now c.requires.prepared c.args.index p here c.args.item.now c.requires.item (sym c.needed.ensures ∙ c.if-not-needed.false) c.starts-starts.result.now
-    (c.starts-starts.ensures ∙ ap (λ x. (certificate_of c.args.found.now).starts x c.args.item.now) c.id.ensures)
+    let cycle = slots_of c.args.claim.now.cycle.now in
+    let pages = map page_of c.args.claim.now.pages.now in
+    let w = certificate_of c.args.claim.now.certificate.now in
+    let p = page_of c.page_at-page.result.now in
+    let here = c.page_at-page.ensures in
+    named_for cycle pages w (certificate_of c.args.prepared.now.found.now) c.args.prepared.now.collected.now c.requires.prepared c.args.index p here c.args.item.now c.requires.item (sym c.needed.ensures ∙ c.if-not-needed.false) c.starts-starts.result.now
+    (c.starts-starts.ensures ∙ ap (λ x. (certificate_of c.args.prepared.now.found.now).starts x c.args.item.now) c.id.ensures)
 
 pub starving_start-requires-clause-sent : goal.starving_start-requires-clause-sent
 starving_start-requires-clause-sent c =
-    let cycle = slots_of c.args.cycle.now in
-    let pages = map page_of c.args.pages.now in
-    let w = certificate_of c.args.certificate.now in
-    let p = page_of c.index-pages-index.result in
-    let here = page_here c.args.pages.now c.args.index c.index-pages-index.result c.requires.index c.index-pages-index.is in
+    let cycle = slots_of c.args.claim.now.cycle.now in
+    let pages = map page_of c.args.claim.now.pages.now in
+    let w = certificate_of c.args.claim.now.certificate.now in
+    let p = page_of c.page_at-page.result.now in
+    let here = c.page_at-page.ensures in
     c.sent-sent.ensures.listed cycle pages w.lines p c.requires.prepared.sent here
 
 pub returns : goal.returns
 returns c =
-    let cycle = slots_of c.args.cycle.now in
-    let pages = map page_of c.args.pages.now in
-    let w = certificate_of c.args.certificate.now in
-    let p = page_of c.index-pages-index.result in
-    let here = page_here c.args.pages.now c.args.index c.index-pages-index.result c.requires.index c.index-pages-index.is in
+    let cycle = slots_of c.args.claim.now.cycle.now in
+    let pages = map page_of c.args.claim.now.pages.now in
+    let w = certificate_of c.args.claim.now.certificate.now in
+    let p = page_of c.page_at-page.result.now in
+    let here = c.page_at-page.ensures in
     ok_map (TellsStart cycle p w c.args.item.now) _ c.starving_start.result (λ o t. needed_told cycle pages w c.args.index p here c.args.item.now (sym c.needed.ensures ∙ c.if-not-needed.false) o t) c.starving_start.ensures

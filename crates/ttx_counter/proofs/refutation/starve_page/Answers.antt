@@ -7,7 +7,7 @@ use Rattle.ttx_counter.proofs.refutation.starve_page.Goals as goal
 
 pub loop-number-preserved : goal.loop-number-preserved
 loop-number-preserved c =
-    let cycle = slots_of c.args.cycle.now in
-    let pages = map page_of c.args.pages.now in
-    let w = certificate_of c.args.certificate.now in
+    let cycle = slots_of c.args.claim.now.cycle.now in
+    let pages = map page_of c.args.claim.now.pages.now in
+    let w = certificate_of c.args.claim.now.certificate.now in
     covered_more cycle pages w c.args.index c.loop-number.number c.loop-number.invariant c.item_of-item.result c.item_of-item.ensures.item c.item_of-item.ensures.number c.in_ok-start.start c.in_default.is c.in_ok-start.ensures

@@ -5,18 +5,17 @@ use Rattle.ttx_witness.specs.Certificates.{certificate_of}
 use Rattle.ttx_counter.specs.Counters.{run_of}
 use Rattle.ttx_counter.specs.StarvingRuns.{starving_run}
 use Rattle.ttx_counter.proofs.Answering.{ok_map, starved_to}
-use Rattle.ttx_counter.proofs.Deciding.{page_here}
 use Rattle.ttx_counter.proofs.refutation.starved_counter.Goals as goal
 
 pub returns : goal.returns
 returns c =
-    let cycle = slots_of c.args.cycle.now in
-    let pages = map page_of c.args.pages.now in
-    let w = certificate_of c.args.certificate.now in
-    let p = page_of c.index-pages-index.result in
-    let here = page_here c.args.pages.now c.args.index c.index-pages-index.result c.requires.index c.index-pages-index.is in
+    let cycle = slots_of c.args.claim.now.cycle.now in
+    let pages = map page_of c.args.claim.now.pages.now in
+    let w = certificate_of c.args.claim.now.certificate.now in
+    let p = page_of c.page_at-page.result.now in
+    let here = c.page_at-page.ensures in
     ok_map (λ k. run_of k ≡ starving_run cycle c.args.index p c.args.item.now c.args.start c.lines-lines.result c.repeat-repeat.result c.deadline-deadline.result) _ c.counter_for.result
-    (λ k made. starved_to cycle pages w c.starving_is_counter_run.ensures p c.args.index here (slots_of-IsCycle c.args.cycle.now) (c.pages_keep_their_rules.ensures c.index-pages-index.result)
-    (c.certificates_keep_their_rules.ensures c.args.certificate.now).1 c.requires.clean (c.requires.steady p here) c.args.item.now c.args.start (c.requires.starved p here)
+    (λ k made. starved_to cycle pages w c.starving_is_counter_run.ensures p c.args.index here (slots_of-IsCycle c.args.claim.now.cycle.now) (c.pages_keep_their_rules.ensures c.page_at-page.result.now)
+    (c.certificates_keep_their_rules.ensures c.args.claim.now.certificate.now).1 c.requires.clean (c.requires.steady p here) c.args.item.now c.args.start (c.requires.starved p here)
     c.lines-lines.result c.repeat-repeat.result c.deadline-deadline.result c.lines-lines.ensures c.repeat-repeat.ensures c.deadline-deadline.ensures (run_of k) made)
     c.counter_for.ensures

@@ -1,4 +1,4 @@
-use Rattle.std.proofs.Common.{◌≡◌, ◌↔◌, ◌+◌, pos, true, refl, sym, subst, arith}
+use Rattle.std.proofs.Common.{◌≡◌, ◌↔◌, ◌+◌, pos, true, length, refl, sym, ap, subst, arith}
 use Rattle.ttx_page.specs.Streams.{repeated}
 use Rattle.ttx_counter.specs.Keys.{is_hit}
 use Rattle.ttx_counter.specs.Listening.{HasOwner}
@@ -7,6 +7,9 @@ use Rattle.ttx_counter.specs.Rule.{sent_from, KeepsRule}
 use Rattle.ttx_counter.proofs.Streaking.{no_both}
 use Rattle.ttx_counter.proofs.Sending.{slot_at, mine_more, mine_begins}
 use Rattle.ttx_counter.proofs.Cursors.{cursor_begins, cursor_next}
+use Rattle.ttx_cycle.specs.Cycles.{slots_of}
+use Rattle.ttx_counter.proofs.Beginning.{none_of}
+use Rattle.ttx_counter.proofs.Unhit.{kept}
 use Rattle.ttx_counter.proofs.Ruling.{tells, row_is, keeps, breaks}
 use Rattle.ttx_counter.proofs.rule.keeps_rule.Goals as goal
 use Rattle.ttx_counter.proofs.rule.keeps_rule.Goals.{After-note}
@@ -64,3 +67,10 @@ returns c =
           (keeps c.rows_are_numbered.ensures c.streaks_decide.ensures (repeated x) c.args.page c.args.start c.args.count c.args.repeat c.requires.some c.args.keys.now c.is_owned-mine.result owned c.loop-i.streaks.latest.items c.loop-i.streaks.cells.items streaks)),
       (λ rule. refl),
     )
+
+pub returns-then-is_empty : goal.returns-then-is_empty
+returns-then-is_empty c = (
+  (λ _. kept (repeated (slots_of c.args.cycle.now)) c.args.page c.args.start c.args.count c.args.repeat c.args.keys.now c.requires.some
+      (ap length (none_of c.args.keys.now c.is_empty.result c.is_empty.ensures c.if-is_empty.true))),
+  (λ _. refl),
+)

@@ -1,0 +1,13 @@
+use Rattle.ttx_receiver.proofs.StayingShown.{shown_stays_shown}
+use Rattle.ttx_receiver.proofs.laws.shown_stays_shown.Goals as goal
+
+pub returns : goal.returns
+returns c =
+    shown_stays_shown (record {
+      kind = c.kind_is_kept.ensures;
+      numbered = c.rows_are_numbered.ensures;
+      header = c.header_is_kept.ensures;
+      links = c.links_are_kept.ensures;
+      odd = c.odd_bytes_under_one_wrong_bit.ensures;
+      codes = c.odd_bytes_hold_their_codes.ensures;
+    })
