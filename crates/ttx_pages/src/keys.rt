@@ -1,6 +1,6 @@
 //! Pages by number, and the pages under which packets are sent.
 
-ghost use Rattle.std.specs.Prelude.{◌≡◌, ◌<◌, ◌-◌, IfOk, IfSome, fold, replicate};
+ghost use Rattle.std.specs.Prelude.{◌≡◌, ◌<◌, ◌-◌, IfOk, IfSome, length, fold, replicate};
 ghost use Rattle.ttx_packet.specs.Slots.{kind_of};
 ghost use Rattle.ttx_pages.specs.Keys.{key_of, opened, opens, page_at, owners, keys_sent};
 ghost use Rattle.ttx_pages.specs.Places.{place_in, place_of};
@@ -110,7 +110,8 @@ fn page_at(current: &[u32; 8], slot: &[u8; 42]) -> u32
 
 /// The page that each slot of a cycle belongs to, by its number; 0 where it belongs to none.
 pub fn owners(alloc: Global, slots: &[[u8; 42]]) -> Result<Vec<u32>, AllocError>
-    ensures { IfOk result (λ pages. pages.items ≡ owners slots.now) }
+    ensures pages { IfOk result (λ pages. pages.items ≡ owners slots.now) }
+    ensures size { IfOk result (λ pages. length pages.items ≡ length slots.now) }
 {
     let mut current = open_pages(slots);
     let mut pages = Vec::new(alloc);

@@ -2,7 +2,7 @@
 
 ghost use Rattle.std.specs.Prelude.{◌≡◌, ◌++◌, [], None, OnOk, codes, string_bytes};
 ghost use Rattle.ttx_picture.specs.Svg.{style};
-ghost use Rattle.ttx_picture.specs.Html.{key_class, key_start, key_title, key_end, key_html, keys_html, html_start, page_style, key_style, head_end, head_html, picture_html, nav_html, text_html, html_of, link_at};
+ghost use Rattle.ttx_picture.specs.Html.{key_class, key_start, key_title, key_end, key_html, keys_html, html_start, page_style, key_style, head_end, head_html, picture_html, nav_html, text_html, sheet, figure_html, html_of, link_at};
 
 use crate::links::push_target;
 use crate::svg::{push_body, push_style, push_svg_start};
@@ -179,4 +179,24 @@ pub(crate) fn push_html(text: &mut String, reveal: bool, view: &View) -> Result<
     push_page(text, reveal, view)?;
     push_plain(text, reveal, view)?;
     text.push_str("</main></body></html>\n")
+}
+
+/// Adds the style sheet of pages that have figures.
+#[tactic(auto, unfolding(crate::specs::Html::sheet))]
+pub fn push_sheet(text: &mut String) -> Result<(), AllocError>
+    ensures { OnOk result (string_bytes text.new ≡ string_bytes text.old ++ sheet) }
+{
+    push_style(text)?;
+    push_page_style(text)?;
+    push_key_style(text)
+}
+
+/// Adds the picture of a View, its links and its text, concealed characters only where they are revealed.
+#[tactic(auto, unfolding(crate::specs::Html::figure_html))]
+pub fn push_figure(text: &mut String, reveal: bool, view: &View) -> Result<(), AllocError>
+    ensures { OnOk result (string_bytes text.new ≡ string_bytes text.old ++ figure_html reveal view.now) }
+{
+    push_picture(text, reveal, view)?;
+    push_nav(text, view)?;
+    push_plain(text, reveal, view)
 }

@@ -12,3 +12,4 @@ mod svg;
 mod text;
 
 pub use forms::{Form, push_picture};
+pub use html::{push_figure, push_sheet};

@@ -1,0 +1,32 @@
+//! `book`: the pages of a packet file as one HTML file.
+
+ghost use Rattle.std.specs.Prelude.{IfSome};
+ghost use Rattle.ttx_book.specs.Books.{book_text};
+ghost use Rattle.ttx_cycle.specs.Counters.{inner_of, faults_of};
+ghost use Rattle.ttx_pages.specs.Paging.{Writes, CountsPages, IsUntouched};
+
+use crate::books::book_text;
+use std::alloc::Global;
+use std::io::{Read, Write};
+use ttx_cycle::{Counted, read_cycle, write_bytes};
+use ttx_pages::PagesFault;
+
+/// Reads a packet file and writes all its pages as one HTML file: an index, and each page as a receiver shows it that takes
+/// no choice and heard all packets of the page twice.
+///
+/// Nothing is written before the whole file is read. At `Write` exactly the first `written` bytes of the text went out; at each
+/// other fault the writer is as it was.
+pub fn book<R: Read, W: Write>(
+    alloc: Global,
+    reader: &mut Counted<R>,
+    writer: &mut Counted<W>,
+) -> Result<(), PagesFault>
+    ensures bytes { IfSome (R.remaining (inner_of reader.old))
+        (λ bytes. Writes book_text bytes (W.contents (inner_of writer.old)) (W.contents (inner_of writer.new)) result) }
+    ensures faults { CountsPages result (faults_of reader.old) (faults_of reader.new) (faults_of writer.old) (faults_of writer.new) }
+    ensures untouched { IsUntouched result writer.old writer.new }
+{
+    let cycle = read_cycle(alloc, reader).map_err(PagesFault::Cycle)?;
+    let text = book_text(alloc, cycle.slots()).map_err(|_| PagesFault::NoMemory)?;
+    write_bytes(writer, text.as_bytes()).map_err(PagesFault::from_write)
+}

@@ -1,0 +1,70 @@
+//! What is shown of each page of a cycle.
+
+ghost use Rattle.std.specs.Prelude.{◌≡◌, IfOk, filter_map, length};
+ghost use Rattle.ttx_book.specs.Hearing.{heard, hears, page_memory, leaf_id};
+ghost use Rattle.ttx_render.specs.View.{view_of};
+
+use std::alloc::{AllocError, Global};
+use ttx_header::{PageId, read_header};
+use ttx_page::{PageMemory, Selection};
+use ttx_pages::keys::key_of;
+use ttx_receiver::{Eager, Receiver};
+use ttx_render::{View, render};
+
+// Gives a receiver a slot, if this is of its page.
+fn hear_slot(receiver: &mut Eager, slot: &[u8; 42], page: u32, key: u32)
+    ensures { receiver.new ≡ heard key receiver.old slot.now page }
+{
+    if page == key {
+        receiver.step(Some(slot));
+    }
+}
+
+// Gives a receiver the packets of its page.
+fn hear(receiver: &mut Eager, slots: &[[u8; 42]], pages: &[u32], key: u32)
+    requires { length pages.now ≡ length slots.now }
+    ensures { receiver.new ≡ hears key receiver.old slots.now pages.now }
+{
+    for (at, slot) in slots.iter().enumerate() {
+        hear_slot(receiver, slot, pages[at], key);
+    }
+}
+
+/// What is shown of a page, by the pages of all slots.
+#[tactic(auto, unfolding(crate::specs::Hearing::page_memory))]
+pub(crate) fn page_view(slots: &[[u8; 42]], pages: &[u32], id: PageId) -> View
+    requires { length pages.now ≡ length slots.now }
+    ensures { result ≡ view_of (page_memory slots.now pages.now id) }
+{
+    let key = key_of(id);
+    let mut receiver = Eager::new(Selection::Exact(id), 1, PageMemory::blank());
+    hear(&mut receiver, slots, pages, key);
+    hear(&mut receiver, slots, pages, key);
+    render(receiver.memory())
+}
+
+// The page of a header, unless it is time-filling.
+fn leaf_id(slot: &[u8; 42]) -> Option<PageId>
+    ensures { result ≡ leaf_id slot.now }
+{
+    let header = read_header(slot)?;
+    let id = header.id();
+    if id.page() == 255 && id.sub() == 16255 {
+        None
+    } else {
+        Some(id)
+    }
+}
+
+/// The pages that these headers name.
+pub(crate) fn leaf_ids(alloc: Global, headers: &[[u8; 42]]) -> Result<Vec<PageId>, AllocError>
+    ensures { IfOk result (λ ids. ids.items ≡ filter_map leaf_id headers.now) }
+{
+    let mut ids = Vec::new(alloc);
+    for header in headers {
+        if let Some(id) = leaf_id(header) {
+            ids.push(id)?;
+        }
+    }
+    Ok(ids)
+}

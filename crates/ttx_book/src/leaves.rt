@@ -1,0 +1,135 @@
+//! The pages of a book, and its index.
+
+ghost use Rattle.std.specs.Prelude.{◌≡◌, ◌++◌, OnOk, length, string_bytes};
+ghost use Rattle.ttx_book.specs.Books.{name_of, index_entry, index_html, number_of, anchor, section_tag, heading, leaf_end, leaf_html, leaves_html};
+ghost use Rattle.ttx_witness.specs.CertificateTexts.{hex_byte};
+
+use crate::hearing::page_view;
+use std::alloc::AllocError;
+use ttx_header::PageId;
+use ttx_picture::push_figure;
+use ttx_witness::{digit, push_id};
+
+#[tactic(auto, unfolding(crate::specs::Books::name_of))]
+fn push_name(text: &mut String, id: PageId) -> Result<(), AllocError>
+    ensures { OnOk result (string_bytes text.new ≡ string_bytes text.old ++ name_of id) }
+{
+    push_id(text, id)
+}
+
+#[tactic(auto, unfolding(crate::specs::Books::index_entry))]
+fn push_index_entry(text: &mut String, id: PageId) -> Result<(), AllocError>
+    ensures { OnOk result (string_bytes text.new ≡ string_bytes text.old ++ index_entry id) }
+{
+    text.push_str("<a href=\"#")?;
+    push_name(text, id)?;
+    text.push_str("\">")?;
+    push_name(text, id)?;
+    text.push_str("</a>")
+}
+
+/// Adds links to the pages.
+pub(crate) fn push_index(text: &mut String, ids: &[PageId]) -> Result<(), AllocError>
+    ensures { OnOk result (string_bytes text.new ≡ string_bytes text.old ++ index_html ids.now) }
+{
+    for id in ids {
+        push_index_entry(text, *id)?;
+    }
+    Ok(())
+}
+
+// Magazine and page number.
+fn number_of(id: PageId) -> u32
+    ensures { result ≡ number_of id }
+{
+    u32::from(id.mag()) * 256 + u32::from(id.page())
+}
+
+fn push_byte(text: &mut String, byte: u8) -> Result<(), AllocError>
+    ensures { OnOk result (string_bytes text.new ≡ string_bytes text.old ++ hex_byte byte) }
+{
+    text.push(digit(byte / 16))?;
+    text.push(digit(byte % 16))
+}
+
+// Adds the number of a page as an id, unless the page before had it.
+#[tactic(auto, unfolding(crate::specs::Books::anchor))]
+fn push_anchor(text: &mut String, former: u32, id: PageId) -> Result<(), AllocError>
+    ensures { OnOk result (string_bytes text.new ≡ string_bytes text.old ++ anchor former id) }
+{
+    if former == number_of(id) {
+        return Ok(());
+    }
+    text.push_str("<a id=\"")?;
+    text.push(digit(id.mag()))?;
+    push_byte(text, id.page())?;
+    text.push_str("\"></a>")
+}
+
+#[tactic(auto, unfolding(crate::specs::Books::section_tag))]
+fn push_section_tag(text: &mut String) -> Result<(), AllocError>
+    ensures { OnOk result (string_bytes text.new ≡ string_bytes text.old ++ section_tag) }
+{
+    text.push_str("<section id=\"")
+}
+
+#[tactic(auto, unfolding(crate::specs::Books::heading))]
+fn push_heading(text: &mut String, id: PageId) -> Result<(), AllocError>
+    ensures { OnOk result (string_bytes text.new ≡ string_bytes text.old ++ heading id) }
+{
+    text.push_str("\"><h2>")?;
+    push_name(text, id)?;
+    text.push_str("</h2>")
+}
+
+#[tactic(auto, unfolding(crate::specs::Books::leaf_end))]
+fn push_leaf_end(text: &mut String) -> Result<(), AllocError>
+    ensures { OnOk result (string_bytes text.new ≡ string_bytes text.old ++ leaf_end) }
+{
+    text.push_str("</section>")
+}
+
+// Begins a page, after one of this number.
+fn push_leaf_start(text: &mut String, former: u32, id: PageId) -> Result<(), AllocError>
+    ensures { OnOk result (string_bytes text.new ≡ string_bytes text.old ++ (anchor former id ++ section_tag ++ name_of id ++ heading id)) }
+{
+    push_anchor(text, former, id)?;
+    push_section_tag(text)?;
+    push_name(text, id)?;
+    push_heading(text, id)
+}
+
+// Adds a page, after one of this number.
+#[tactic(auto, unfolding(crate::specs::Books::leaf_html))]
+fn push_leaf(
+    text: &mut String,
+    slots: &[[u8; 42]],
+    pages: &[u32],
+    former: u32,
+    id: PageId,
+) -> Result<(), AllocError>
+    requires { length pages.now ≡ length slots.now }
+    ensures { OnOk result (string_bytes text.new ≡ string_bytes text.old ++ leaf_html slots.now pages.now former id) }
+{
+    push_leaf_start(text, former, id)?;
+    push_figure(text, false, &page_view(slots, pages, id))?;
+    push_leaf_end(text)
+}
+
+/// Adds pages, by the pages of all slots.
+pub(crate) fn push_leaves(
+    text: &mut String,
+    slots: &[[u8; 42]],
+    pages: &[u32],
+    ids: &[PageId],
+) -> Result<(), AllocError>
+    requires { length pages.now ≡ length slots.now }
+    ensures { OnOk result (string_bytes text.new ≡ string_bytes text.old ++ leaves_html slots.now pages.now 0 ids.now) }
+{
+    let mut former = 0;
+    for id in ids {
+        push_leaf(text, slots, pages, former, *id)?;
+        former = number_of(*id);
+    }
+    Ok(())
+}
