@@ -1,0 +1,218 @@
+-- The numbers in the text of a counter-run are those that were written.
+use Rattle.std.proofs.Common.{◌≡◌, ℕ, zero, suc, ◌+◌, ◌-◌, ◌*◌, ◌/◌, ◌%◌, ◌^◌, ◌<◌, ◌≤◌, Bool, true, false, List, [], ◌∷◌, ◌++◌, length, codes, Option, Some, None, if◌then◌else◌, refl, sym, ap, ◌∙◌, arith, append_assoc, append-nil}
+use Rattle.std.specs.Fmt.{decimal}
+use Rattle.std.proofs.lemmas.Bool.Decides.{nat_tests}
+use Rattle.std.proofs.lemmas.Fmt.{decimal_by_steps}
+use Rattle.ttx_header.specs.Ids.{Id}
+use Rattle.ttx_page.specs.Memories.{Memory}
+use Rattle.ttx_counter.specs.Counters.{Hit, CounterRun}
+use Rattle.ttx_counter.specs.CounterTexts.{numbers_text, line_text, bit, bits, link_numbers, links_numbers, hits_numbers, rows_text, state_text, links_text, memory_text, choices_text, hits_text, title, head_text, tuning_text, counter_text}
+use Rattle.ttx_counter.specs.CounterReading.{is_digit, at_most, digit_after, closed, numbers_after, numbers_in}
+
+pub if_true : {A : Type 0} (b : Bool) (x y : A) → b ≡ true → (if b then x else y) ≡ x
+if_true true x y h = refl
+if_true false x y h = cc
+
+-- each below 2^32
+abbrev pub AreSmall : List ℕ → Type 0
+AreSmall [] = Unit {0}
+AreSmall (n ∷ ns) = (n < 2 ^ 32) × AreSmall ns
+
+-- one more digit
+a_digit : (d : ℕ) → d < 10 → is_digit (48 + d) ≡ true
+a_digit d small = grind (arith, nat_tests)
+
+step : (begun : Option ℕ) (d : ℕ) (rest : List ℕ) → d < 10 → numbers_after begun ((48 + d) ∷ rest) ≡ numbers_after (Some (digit_after begun (48 + d))) rest
+unfolding numbers_after
+step begun d rest small = if_true (is_digit (48 + d)) (numbers_after (Some (digit_after begun (48 + d))) rest) (closed begun (numbers_after None rest)) (a_digit d small)
+
+first_digit : (m : ℕ) → m < 10 → (48 + m) - 48 ≡ at_most 4294967295 m
+first_digit m small = omega arith
+
+next_digit : (m : ℕ) → at_most 4294967295 (10 * at_most 4294967295 (m / 10) + ((48 + m % 10) - 48)) ≡ at_most 4294967295 m
+next_digit m = omega arith
+
+last_small : (m : ℕ) → m % 10 < 10
+last_small m = omega arith
+
+-- the digits of a number
+digits : (n : ℕ) → n < 2 ^ 64 → (rest : List ℕ) → numbers_after None (decimal n ++ rest) ≡ numbers_after (Some (at_most 4294967295 n)) rest
+digits n small = decimal_by_steps (λ m ds. (rest : List ℕ) → numbers_after None (ds ++ rest) ≡ numbers_after (Some (at_most 4294967295 m)) rest)
+    (λ m l rest. step None m rest l ∙ ap (λ v. numbers_after (Some v) rest) (first_digit m l))
+    (λ m ds l h rest.
+    ap (numbers_after None) (append_assoc ds ((48 + m % 10) ∷ []) rest) ∙ h ((48 + m % 10) ∷ rest)
+    ∙ step (Some (at_most 4294967295 (m / 10))) (m % 10) rest (last_small m) ∙ ap (λ v. numbers_after (Some v) rest) (next_digit m))
+    n small
+
+over : (n b : ℕ) (rest : List ℕ) → is_digit b ≡ false → numbers_after (Some n) (b ∷ rest) ≡ n ∷ numbers_in (b ∷ rest)
+unfolding numbers_after
+over n b rest h = rw h refl
+
+-- a number that a space or the end of the line follows
+ended : (n b : ℕ) (rest : List ℕ) → n < 2 ^ 32 → is_digit b ≡ false → numbers_in (decimal n ++ (b ∷ rest)) ≡ n ∷ numbers_in (b ∷ rest)
+ended n b rest small h =
+    let same : at_most 4294967295 n ≡ n = omega arith in
+    digits n (omega arith) (b ∷ rest) ∙ ap (λ v. numbers_after (Some v) (b ∷ rest)) same ∙ over n b rest h
+
+numbers : (ns rest : List ℕ) → AreSmall ns → numbers_in (numbers_text ns ++ (10 ∷ rest)) ≡ ns ++ numbers_in rest
+unfolding numbers_after
+numbers [] rest small = refl
+numbers (n ∷ []) rest small = ap numbers_in (append_assoc (decimal n) [] (10 ∷ rest)) ∙ ended n 10 rest small.0 refl
+numbers (n ∷ m ∷ ns) rest small =
+    ap numbers_in (append_assoc (decimal n) (numbers_text (m ∷ ns)) (10 ∷ rest)) ∙ ended n 32 ((decimal m ++ numbers_text ns) ++ (10 ∷ rest)) small.0 refl
+    ∙ ap (λ xs. n ∷ xs) (numbers (m ∷ ns) rest small.1)
+
+-- a word without digits says nothing
+abbrev IsPlain : List ℕ → Type 0
+IsPlain key = (rest : List ℕ) → numbers_in (key ++ rest) ≡ numbers_in rest
+
+line : (key ns rest : List ℕ) → IsPlain key → AreSmall ns → numbers_in (line_text key ns ++ rest) ≡ ns ++ numbers_in rest
+line key ns rest plain small =
+    ap numbers_in (append_assoc (key ++ numbers_text ns) (10 ∷ []) rest ∙ append_assoc key (numbers_text ns) (10 ∷ rest)) ∙ plain (numbers_text ns ++ (10 ∷ rest)) ∙ numbers ns rest small
+
+four : (a b c d rest : List ℕ) → a ++ b ++ c ++ d ++ rest ≡ a ++ (b ++ (c ++ (d ++ rest)))
+four a b c d rest = append_assoc (a ++ b ++ c) d rest ∙ append_assoc (a ++ b) c (d ++ rest) ∙ append_assoc a b (c ++ (d ++ rest))
+
+head : (c : CounterRun) (rest : List ℕ) → c.lines < 256 → c.repeat < 256 → c.deadline < 2 ^ 32 → numbers_in (head_text c ++ rest) ≡ 1 ∷ c.lines ∷ c.repeat ∷ c.deadline ∷ numbers_in rest
+unfolding head_text numbers_after
+head c rest l r d =
+    ap numbers_in (four title (line_text (codes "lines") (c.lines ∷ [])) (line_text (codes "repeat") (c.repeat ∷ [])) (line_text (codes "deadline") (c.deadline ∷ [])) rest)
+    ∙ ap (λ xs. 1 ∷ xs)
+    (line (codes "lines") (c.lines ∷ []) (line_text (codes "repeat") (c.repeat ∷ []) ++ (line_text (codes "deadline") (c.deadline ∷ []) ++ rest)) (λ t. refl) (omega arith, tt)
+    ∙ ap (λ xs. c.lines ∷ xs)
+    (line (codes "repeat") (c.repeat ∷ []) (line_text (codes "deadline") (c.deadline ∷ []) ++ rest) (λ t. refl) (omega arith, tt)
+    ∙ ap (λ xs. c.repeat ∷ xs) (line (codes "deadline") (c.deadline ∷ []) rest (λ t. refl) (d, tt))))
+
+bit_small : (b : Bool) → bit b < 2 ^ 32
+bit_small true = omega arith
+bit_small false = omega arith
+
+tuning : (c : CounterRun) (rest : List ℕ) → c.page < 2 ^ 32 → c.start < 2 ^ 32 → c.slots < 2 ^ 32 → numbers_in (tuning_text c ++ rest) ≡ c.page ∷ bit c.any_sub ∷ c.start ∷ c.slots ∷ numbers_in rest
+unfolding tuning_text numbers_after
+tuning c rest p s n =
+    let la = line_text (codes "page") (c.page ∷ []) in
+    let lb = line_text (codes "any-subpage") (bit c.any_sub ∷ []) in
+    let lc = line_text (codes "start") (c.start ∷ []) in
+    let ld = line_text (codes "slots") (c.slots ∷ []) in
+    ap numbers_in (four la lb lc ld rest)
+    ∙ line (codes "page") (c.page ∷ []) (lb ++ (lc ++ (ld ++ rest))) (λ t. refl) (p, tt)
+    ∙ ap (λ xs. c.page ∷ xs)
+    (line (codes "any-subpage") (bit c.any_sub ∷ []) (lc ++ (ld ++ rest)) (λ t. refl) (bit_small c.any_sub, tt)
+    ∙ ap (λ xs. bit c.any_sub ∷ xs)
+    (line (codes "start") (c.start ∷ []) (ld ++ rest) (λ t. refl) (s, tt) ∙ ap (λ xs. c.start ∷ xs) (line (codes "slots") (c.slots ∷ []) rest (λ t. refl) (n, tt))))
+
+state : (m : Memory) (rest : List ℕ) → m.control < 2048 → m.age ≤ 64 → numbers_in (state_text m ++ rest) ≡ m.control ∷ bit m.storing ∷ m.age ∷ bit m.fresh ∷ numbers_in rest
+unfolding state_text numbers_after
+state m rest c a =
+    let la = line_text (codes "control") (m.control ∷ []) in
+    let lb = line_text (codes "storing") (bit m.storing ∷ []) in
+    let lc = line_text (codes "age") (m.age ∷ []) in
+    let ld = line_text (codes "fresh") (bit m.fresh ∷ []) in
+    ap numbers_in (four la lb lc ld rest)
+    ∙ line (codes "control") (m.control ∷ []) (lb ++ (lc ++ (ld ++ rest))) (λ t. refl) (omega arith, tt)
+    ∙ ap (λ xs. m.control ∷ xs)
+    (line (codes "storing") (bit m.storing ∷ []) (lc ++ (ld ++ rest)) (λ t. refl) (bit_small m.storing, tt)
+    ∙ ap (λ xs. bit m.storing ∷ xs)
+    (line (codes "age") (m.age ∷ []) (ld ++ rest) (λ t. refl) (omega arith, tt) ∙ ap (λ xs. m.age ∷ xs) (line (codes "fresh") (bit m.fresh ∷ []) rest (λ t. refl) (bit_small m.fresh, tt))))
+
+-- the word `row-24` holds a number
+row_24 : (m : Memory) (rest : List ℕ) → numbers_in (line_text (codes "row-24") (bit m.links.show24 ∷ []) ++ rest) ≡ 24 ∷ bit m.links.show24 ∷ numbers_in rest
+unfolding numbers_after
+row_24 m rest =
+    ap numbers_in (append_assoc (codes "row-24" ++ numbers_text (bit m.links.show24 ∷ [])) (10 ∷ []) rest ∙ append_assoc (codes "row-24") (numbers_text (bit m.links.show24 ∷ [])) (10 ∷ rest))
+    ∙ ap (λ xs. 24 ∷ xs) (numbers (bit m.links.show24 ∷ []) rest (bit_small m.links.show24, tt))
+
+links : (m : Memory) (rest : List ℕ) → AreSmall (links_numbers m.links.six) → numbers_in (links_text m ++ rest) ≡ 24 ∷ bit m.links.show24 ∷ (links_numbers m.links.six ++ numbers_in rest)
+unfolding links_text numbers_after
+links m rest small =
+    ap numbers_in (append_assoc (line_text (codes "row-24") (bit m.links.show24 ∷ [])) (line_text (codes "links") (links_numbers m.links.six)) rest)
+    ∙ row_24 m (line_text (codes "links") (links_numbers m.links.six) ++ rest)
+    ∙ ap (λ xs. 24 ∷ bit m.links.show24 ∷ xs) (line (codes "links") (links_numbers m.links.six) rest (λ t. refl) small)
+
+-- rows one after another
+abbrev pub joined : List (List ℕ) → List ℕ
+joined [] = []
+joined (row ∷ rows) = row ++ joined rows
+
+abbrev pub EachSmall : List (List ℕ) → Type 0
+EachSmall [] = Unit {0}
+EachSmall (row ∷ rows) = AreSmall row × EachSmall rows
+
+row_plain : IsPlain (codes "row")
+unfolding numbers_after
+row_plain t = refl
+
+choices_plain : IsPlain (codes "choices")
+unfolding numbers_after
+choices_plain t = refl
+
+hits_plain : IsPlain (codes "hits")
+unfolding numbers_after
+hits_plain t = refl
+
+rows : (rs : List (List ℕ)) (rest : List ℕ) → EachSmall rs → numbers_in (rows_text rs ++ rest) ≡ joined rs ++ numbers_in rest
+rows [] rest small = refl
+rows (row ∷ rs) rest small =
+    ap numbers_in (append_assoc (line_text (codes "row") row) (rows_text rs) rest) ∙ line (codes "row") row (rows_text rs ++ rest) row_plain small.0 ∙ ap (λ xs. row ++ xs) (rows rs rest small.1)
+    ∙ sym (append_assoc row (joined rs) (numbers_in rest))
+
+bits_small : (cs : List Bool) → AreSmall (bits cs)
+bits_small [] = tt
+bits_small (b ∷ cs) = (bit_small b, bits_small cs)
+
+choices : (cs : List Bool) (rest : List ℕ) → length cs < 2 ^ 32 → numbers_in (choices_text cs ++ rest) ≡ length cs ∷ (bits cs ++ numbers_in rest)
+choices cs rest few = line (codes "choices") (length cs ∷ bits cs) rest choices_plain (few, bits_small cs)
+
+hits : (hs : List Hit) (rest : List ℕ) → length hs < 2 ^ 32 → AreSmall (hits_numbers hs) → numbers_in (hits_text hs ++ rest) ≡ length hs ∷ (hits_numbers hs ++ numbers_in rest)
+hits hs rest few small = line (codes "hits") (length hs ∷ hits_numbers hs) rest hits_plain (few, small)
+
+-- what the numbers of a counter-run's text are
+abbrev pub numbers_of : CounterRun → List ℕ
+numbers_of c =
+    1 ∷ c.lines ∷ c.repeat ∷ c.deadline ∷ c.page ∷ bit c.any_sub ∷ c.start ∷ c.slots ∷ c.former.control ∷ bit c.former.storing ∷ c.former.age ∷ bit c.former.fresh ∷ 24 ∷ bit c.former.links.show24
+    ∷ (links_numbers c.former.links.six ++ (joined c.former.rows ++ (length c.choices ∷ (bits c.choices ++ (length c.hits ∷ (hits_numbers c.hits ++ []))))))
+
+pub record AreAllSmall (c : CounterRun) : Type 0 where
+  pub lines : c.lines < 256
+  pub repeat : c.repeat < 256
+  pub deadline : c.deadline < 2 ^ 32
+  pub page : c.page < 2 ^ 32
+  pub start : c.start < 2 ^ 32
+  pub slots : c.slots < 2 ^ 32
+  pub control : c.former.control < 2048
+  pub age : c.former.age ≤ 64
+  pub links : AreSmall (links_numbers c.former.links.six)
+  pub rows : EachSmall c.former.rows
+  pub choices : length c.choices < 2 ^ 32
+  pub hits : length c.hits < 2 ^ 32
+  pub places : AreSmall (hits_numbers c.hits)
+
+nothing : numbers_in [] ≡ []
+unfolding numbers_after
+nothing = refl
+
+pub whole : (c : CounterRun) → AreAllSmall c → numbers_in (counter_text c) ≡ numbers_of c
+whole c is =
+    ap numbers_in (four (head_text c) (tuning_text c) (memory_text c.former) (choices_text c.choices) (hits_text c.hits))
+    ∙ head c _ is.lines is.repeat is.deadline
+    ∙ ap (λ xs. 1 ∷ c.lines ∷ c.repeat ∷ c.deadline ∷ xs) (tuning c _ is.page is.start is.slots)
+    ∙ ap (λ xs. 1 ∷ c.lines ∷ c.repeat ∷ c.deadline ∷ c.page ∷ bit c.any_sub ∷ c.start ∷ c.slots ∷ xs) (memory ∙ ap before behind)
+  where
+    tail : List ℕ
+    tail = choices_text c.choices ++ hits_text c.hits
+
+    before : List ℕ → List ℕ
+    before xs = c.former.control ∷ bit c.former.storing ∷ c.former.age ∷ bit c.former.fresh ∷ 24 ∷ bit c.former.links.show24 ∷ (links_numbers c.former.links.six ++ (joined c.former.rows ++ xs))
+
+    memory : numbers_in (memory_text c.former ++ tail) ≡ before (numbers_in tail)
+    memory =
+        ap numbers_in (append_assoc (state_text c.former ++ links_text c.former) (rows_text c.former.rows) tail ∙ append_assoc (state_text c.former) (links_text c.former) (rows_text c.former.rows ++ tail))
+        ∙ state c.former _ is.control is.age
+        ∙ ap (λ xs. c.former.control ∷ bit c.former.storing ∷ c.former.age ∷ bit c.former.fresh ∷ xs)
+        (links c.former _ is.links ∙ ap (λ xs. 24 ∷ bit c.former.links.show24 ∷ (links_numbers c.former.links.six ++ xs)) (rows c.former.rows tail is.rows))
+
+    hits_only : numbers_in (hits_text c.hits) ≡ length c.hits ∷ (hits_numbers c.hits ++ [])
+    hits_only = sym (ap numbers_in (append-nil (hits_text c.hits))) ∙ hits c.hits [] is.hits is.places ∙ ap (λ xs. length c.hits ∷ (hits_numbers c.hits ++ xs)) nothing
+
+    behind : numbers_in tail ≡ length c.choices ∷ (bits c.choices ++ (length c.hits ∷ (hits_numbers c.hits ++ [])))
+    behind = choices c.choices (hits_text c.hits) is.choices ∙ ap (λ xs. length c.choices ∷ (bits c.choices ++ xs)) hits_only

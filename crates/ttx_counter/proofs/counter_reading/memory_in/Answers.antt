@@ -1,0 +1,11 @@
+use Rattle.std.proofs.Common.{◌≡◌, true, false}
+use Rattle.ttx_counter.proofs.ReadParts.{memory_fits}
+use Rattle.ttx_counter.proofs.counter_reading.memory_in.Goals as goal
+
+differ : false ≡ true → ⊥
+differ e = cc
+
+pub returns-in-None : goal.returns-in-None
+returns-in-None c =
+    absurd (differ (c.in-None.ensures.some.1 (memory_fits c.rows_in-rows.result c.after_first.result.now c.control_of-control.result.0 c.small-age.result c.number_at.result _ _ _
+    c.rows_in-rows.ensures c.control_of-control.ensures c.small-age.ensures.small)))

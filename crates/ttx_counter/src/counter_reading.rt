@@ -1,0 +1,273 @@
+//! Reading counter-runs.
+
+ghost use Rattle.std.specs.Prelude.{◌≡◌, ◌<◌, ◌≤◌, ◌∷◌, [], ◌++◌, ◌+◌, ◌-◌, ◌^◌, ◌==◌, if◌then◌else◌, true, length, map, take, slice_index, IfOk, OnOk};
+ghost use Rattle.ttx_header.specs.Ids.{id_at};
+ghost use Rattle.ttx_page.specs.Memories.{memory_at};
+ghost use Rattle.ttx_page.specs.Views.{memory_of};
+ghost use Rattle.ttx_counter.specs.Counters.{run_of};
+ghost use Rattle.ttx_counter.specs.CounterReading.{at_most, characters_in, rows_in, is_target, link_of, links_in, is_one, hit_of, hits_in, memory_in, choices_in, hits_after, counter_in, line_of, fault_of, read_text};
+ghost use Rattle.ttx_counter.specs.CounterReading as rule;
+ghost use Rattle.ttx_counter.specs.ReadingAnswers.{outcome, IsUnlessMemory};
+
+use crate::counter::{Counter, Hit};
+use crate::counter_faults::CounterFault;
+use crate::counter_writing::write_counter;
+use crate::numbers::{after_first, first_of, is_one, number_at, numbers_in};
+use std::alloc::Global;
+use ttx_header::Control;
+use ttx_links::Target;
+use ttx_page::PageMemory;
+use ttx_witness::NoMemory;
+
+// A number, or the largest of its place.
+fn small(number: u32, most: u8) -> u8
+    ensures value { result ≡ at_most most number }
+    ensures small { result ≤ most }
+{
+    if number < u32::from(most) {
+        number as u8
+    } else {
+        most
+    }
+}
+
+// 40 characters.
+fn row_in(numbers: &[u32]) -> [u8; 40]
+    ensures { result ≡ characters_in 40 numbers.now }
+{
+    let mut row = [0; 40];
+    for c in 0..40 {
+        row[c] = small(number_at(numbers, c), 127);
+    }
+    row
+}
+
+// 25 rows.
+fn rows_in(numbers: &[u32]) -> [[u8; 40]; 25]
+    ensures { result ≡ rows_in 25 numbers.now }
+{
+    let mut rows = [[0; 40]; 25];
+    for r in 0..25 {
+        rows[r] = row_in(after_first(numbers, 40 * r));
+    }
+    rows
+}
+
+// Whether these are the numbers of a link.
+fn is_target(mag: u32, page: u32, sub: u32) -> bool
+    ensures { result ≡ is_target mag page sub }
+{
+    1 <= mag
+        && mag <= 8
+        && page < 256
+        && sub < 16384
+        && sub / 128 % 2 == 0
+        && !(page == 255 && sub == 16255)
+}
+
+fn link_of(mag: u32, page: u32, sub: u32) -> Option<Target>
+    ensures { result ≡ link_of mag page sub }
+{
+    if is_target(mag, page, sub) {
+        Target::new(mag as u8, page as u8, sub as u16)
+    } else {
+        None
+    }
+}
+
+// The link that three numbers say.
+fn first_link(numbers: &[u32]) -> Option<Target>
+    ensures { result ≡ link_of (slice_index numbers.now 0) (slice_index numbers.now 1) (slice_index numbers.now 2) }
+{
+    link_of(
+        number_at(numbers, 0),
+        number_at(numbers, 1),
+        number_at(numbers, 2),
+    )
+}
+
+// Six links.
+#[tactic(auto, unfolding(crate::specs::CounterReading::links_in))]
+fn links_in(numbers: &[u32]) -> [Option<Target>; 6]
+    ensures { result ≡ links_in 6 numbers.now }
+{
+    let second = after_first(numbers, 3);
+    let third = after_first(second, 3);
+    let fourth = after_first(third, 3);
+    let fifth = after_first(fourth, 3);
+    [
+        first_link(numbers),
+        first_link(second),
+        first_link(third),
+        first_link(fourth),
+        first_link(fifth),
+        first_link(after_first(fifth, 3)),
+    ]
+}
+
+// Control bits, or all of them where the number has more.
+fn control_of(number: u32) -> Control
+    ensures { result.0 ≡ at_most 2047 number }
+{
+    if number < 2047 {
+        Control(number as u16)
+    } else {
+        Control(2047)
+    }
+}
+
+// The memory that the numbers of a text say.
+fn memory_in(numbers: &[u32]) -> PageMemory
+    ensures { memory_of result ≡ memory_in numbers.now }
+{
+    let links = after_first(numbers, 14);
+    let rows = rows_in(after_first(links, 18));
+    let control = control_of(number_at(numbers, 8));
+    let storing = is_one(number_at(numbers, 9));
+    let age = small(number_at(numbers, 10), 64);
+    let fresh = is_one(number_at(numbers, 11));
+    let show24 = is_one(number_at(numbers, 13));
+    match PageMemory::new(rows, control, links_in(links), show24, storing, age, fresh) {
+        Some(memory) => memory,
+        None => PageMemory::blank(),
+    }
+}
+
+// A bit for each number.
+fn bits_of(alloc: Global, numbers: &[u32]) -> Result<Vec<bool>, NoMemory>
+    ensures { IfOk result (λ v. v.items ≡ map is_one numbers.now) }
+{
+    let mut bits = Vec::new(alloc);
+    for number in numbers {
+        if bits.push(is_one(*number)).is_err() {
+            return Err(NoMemory);
+        }
+    }
+    Ok(bits)
+}
+
+fn hit_of(numbers: &[u32]) -> Hit
+    ensures { result ≡ hit_of (slice_index numbers.now 0) (slice_index numbers.now 1) (slice_index numbers.now 2) }
+{
+    Hit {
+        index: number_at(numbers, 0),
+        byte: small(number_at(numbers, 1), 255),
+        bit: small(number_at(numbers, 2), 255),
+    }
+}
+
+// Adds a hit.
+fn push_hit(hits: &mut Vec<Hit>, hit: Hit) -> Result<(), NoMemory>
+    ensures { OnOk result (hits.new.items ≡ hits.old.items ++ hit ∷ []) }
+{
+    if hits.push(hit).is_err() {
+        return Err(NoMemory);
+    }
+    Ok(())
+}
+
+// So many hits, or as many as there are.
+fn hits_in(alloc: Global, numbers: &[u32], count: u32) -> Result<Vec<Hit>, NoMemory>
+    ensures { IfOk result (λ v. v.items ≡ hits_in count numbers.now) }
+{
+    let mut hits = Vec::new(alloc);
+    for i in 0..count {
+        let rest = after_first(numbers, 3 * i as usize);
+        if rest.len() < 3 {
+            return Ok(hits);
+        }
+        push_hit(&mut hits, hit_of(rest))?;
+    }
+    Ok(hits)
+}
+
+// The counter-run that the numbers of a text say.
+fn counter_in(alloc: Global, numbers: &[u32]) -> Result<Counter, NoMemory>
+    ensures { IfOk result (λ c. run_of c ≡ counter_in numbers.now) }
+{
+    let behind = after_first(after_first(after_first(numbers, 14), 18), 1000);
+    let count = number_at(behind, 0);
+    let after_count = after_first(behind, 1);
+    let choices = bits_of(alloc, first_of(after_count, count as usize))?;
+    let rest = after_first(after_count, count as usize);
+    let hits = hits_in(alloc, after_first(rest, 1), number_at(rest, 0))?;
+    Ok(Counter {
+        page: number_at(numbers, 4),
+        any_sub: is_one(number_at(numbers, 5)),
+        start: number_at(numbers, 6),
+        slots: number_at(numbers, 7),
+        former: memory_in(numbers),
+        choices,
+        hits,
+        lines: small(number_at(numbers, 1), 255),
+        repeat: small(number_at(numbers, 2), 255),
+        deadline: number_at(numbers, 3),
+    })
+}
+
+// The number of the line after a byte.
+fn line_after(line: usize, byte: u8) -> usize
+    requires { line < 2 ^ 64 - 1 }
+    ensures value { result ≡ (if byte == 10 then line + 1 else line) }
+    ensures next { result ≤ line + 1 }
+{
+    if byte == b'\n' { line + 1 } else { line }
+}
+
+// The line, counted from 1, in which two texts first differ.
+#[tactic(auto, using(crate::proofs::ReadParts::line_ended, crate::proofs::ReadParts::line_differs, crate::proofs::ReadParts::line_same, crate::proofs::ReadParts::line_done))]
+fn line_of(text: &[u8], own: &[u8]) -> usize
+    ensures { result ≡ line_of 1 text.now own.now }
+{
+    let mut line = 1;
+    for i in 0..text.len() {
+        if i >= own.len() {
+            return line;
+        }
+        if text[i] != own[i] {
+            return line;
+        }
+        line = line_after(line, text[i]);
+    }
+    line
+}
+
+fn fault_of(line: usize) -> CounterFault
+    ensures { result ≡ fault_of line }
+{
+    if line == 1 {
+        CounterFault::Title
+    } else {
+        CounterFault::Line { line }
+    }
+}
+
+// The counter-run of the text, where it is that one's.
+fn judged(alloc: Global, bytes: &[u8], counter: Counter) -> Result<Counter, CounterFault>
+    ensures { IsUnlessMemory result (outcome run_of result ≡ rule.judged bytes.now (run_of counter)) }
+{
+    match write_counter(alloc, &counter) {
+        Ok(text) => {
+            if text.as_slice() == bytes {
+                Ok(counter)
+            } else {
+                Err(fault_of(line_of(bytes, text.as_slice())))
+            }
+        }
+        Err(_) => Err(CounterFault::NoMemory),
+    }
+}
+
+/// The counter-run that a text is. Else the first line that is another than in the text of the counter-run that its numbers say.
+/// Memory for the numbers, and for that text.
+pub fn read_counter(alloc: Global, bytes: &[u8]) -> Result<Counter, CounterFault>
+    ensures { IsUnlessMemory result (outcome run_of result ≡ read_text bytes.now) }
+{
+    let Ok(numbers) = numbers_in(alloc, bytes) else {
+        return Err(CounterFault::NoMemory);
+    };
+    match counter_in(alloc, &numbers) {
+        Ok(counter) => judged(alloc, bytes, counter),
+        Err(_) => Err(CounterFault::NoMemory),
+    }
+}
