@@ -1,0 +1,34 @@
+use Rattle.std.proofs.Common.{◌≡◌, ◌<◌, map, length, sym, ap, ◌∙◌, subst, arith}
+use Rattle.std.proofs.lemmas.List.{length-map}
+use Rattle.std.proofs.lemmas.Option.{slice_get_within}
+use Rattle.ttx_page.specs.Views.{page_of, memory_of}
+use Rattle.ttx_cycle.specs.Cycles.{slots_of, slots_of-IsCycle}
+use Rattle.std.specs.Prelude.{IsPermutation}
+use Rattle.ttx_counter.specs.Counters.{run_of, IsCounterRun}
+use Rattle.ttx_counter.specs.Keys.{key_of}
+use Rattle.ttx_counter.proofs.Streaking.{no_both}
+use Rattle.ttx_counter.proofs.Replayed.{apart, each, replayed}
+use Rattle.ttx_counter.proofs.replaying.replay.Goals as goal
+
+pub returns-then-not-is : goal.returns-then-not-is
+returns-then-not-is c = λ is. no_both _ (c.in_ok-is.ensures.1 is) c.if-not-is.true
+
+pub page_at-page-requires : goal.page_at-page-requires
+page_at-page-requires c =
+    let is = c.in_ok-is.ensures.0 c.if-not-is.false in
+    let l = length-map c.args.pages.now page_of in
+    let lt = slice_get_within (map page_of c.args.pages.now) c.args.counter.now.page is.page is.here in
+    omega arith
+
+pub memory_after-requires-clause-apart : goal.memory_after-requires-clause-apart
+memory_after-requires-clause-apart c =
+    apart (slots_of c.args.cycle.now) (map page_of c.args.pages.now) (run_of c.args.counter.now) c.deref-2.result.now (c.in_ok-is.ensures.0 c.if-not-is.false) (subst (λ ks. IsPermutation (map key_of c.args.counter.now.hits.items) ks) (sym c.deref-2.ensures.value) (subst (λ hs. IsPermutation (map key_of hs) c.in_ok-keys.keys.items) c.deref.ensures.value c.in_ok-keys.ensures.same))
+
+pub memory_after-requires-clause-keys : goal.memory_after-requires-clause-keys
+memory_after-requires-clause-keys c =
+    each (slots_of c.args.cycle.now) (map page_of c.args.pages.now) (run_of c.args.counter.now) c.deref-2.result.now (c.in_ok-is.ensures.0 c.if-not-is.false) (subst (λ ks. IsPermutation (map key_of c.args.counter.now.hits.items) ks) (sym c.deref-2.ensures.value) (subst (λ hs. IsPermutation (map key_of hs) c.in_ok-keys.keys.items) c.deref.ensures.value c.in_ok-keys.ensures.same))
+
+pub returns : goal.returns
+returns c =
+    replayed (slots_of c.args.cycle.now) (map page_of c.args.pages.now) (run_of c.args.counter.now) c.deref-2.result.now (c.in_ok-is.ensures.0 c.if-not-is.false) (subst (λ ks. IsPermutation (map key_of c.args.counter.now.hits.items) ks) (sym c.deref-2.ensures.value) (subst (λ hs. IsPermutation (map key_of hs) c.in_ok-keys.keys.items) c.deref.ensures.value c.in_ok-keys.ensures.same))
+    c.each_slot_turns.ensures (slots_of-IsCycle c.args.cycle.now) (page_of c.page_at-page.result.now) (memory_of c.memory_after.result) c.page_at-page.ensures c.memory_after.ensures
