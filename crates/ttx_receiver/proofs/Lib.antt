@@ -18,3 +18,4 @@ mod StarvedFormer
 mod StarvedStays
 mod StarvedScript
 mod StayingShown
+mod FollowedRows

@@ -2,3 +2,4 @@ pub mod Starving
 pub mod Laws
 pub mod Tuning
 pub mod Staying
+pub mod Touching

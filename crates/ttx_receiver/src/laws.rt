@@ -3,6 +3,7 @@
 ghost use Rattle.ttx_receiver.specs.Laws.{RunHoldsItsItem};
 ghost use Rattle.ttx_receiver.specs.Starving.{StarvedStaysWrong, StarvedIsScripted};
 ghost use Rattle.ttx_receiver.specs.Staying.{ShownStaysShown};
+ghost use Rattle.ttx_receiver.specs.Touching.{StepTouches};
 
 /// An item that comes between two slots is held from the second on.
 pub fn run_holds_its_item()
@@ -48,3 +49,8 @@ pub fn shown_stays_shown()
     ttx_code::laws::odd_bytes_under_one_wrong_bit();
     ttx_code::laws::odd_bytes_hold_their_codes();
 }
+
+/// A permitted step changes no more of what is shown than its packet may touch.
+pub fn step_touches()
+    ensures { StepTouches }
+{}

@@ -9,9 +9,12 @@ pub mod receiver;
 mod scripted;
 pub mod starving;
 mod steps;
+pub mod touching;
+mod watched;
 
 pub use careful::Careful;
 pub use cleared::Cleared;
 pub use eager::Eager;
 pub use receiver::Receiver;
 pub use scripted::Scripted;
+pub use watched::Watched;

@@ -25,7 +25,8 @@ fn is_bound_next(memory: &PageMemory, lines: u8) -> bool
     memory.storing() && memory.age() >= lines
 }
 
-fn is_matched(selection: &Selection, bytes: &[u8; 42]) -> bool
+/// Whether the selection matches a page header.
+pub(crate) fn is_matched(selection: &Selection, bytes: &[u8; 42]) -> bool
     requires { is_header bytes.now ≡ true }
     ensures { result ≡ matches selection.now (id_of bytes.now) }
 {

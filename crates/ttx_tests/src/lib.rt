@@ -38,3 +38,5 @@ mod seen;
 mod service_packets;
 #[cfg(test)]
 mod services;
+#[cfg(test)]
+mod watched;
