@@ -32,7 +32,8 @@ judge() {
 
 for command in "inspect long.t42" "plan broadcast.toml out" "plan broadcast.toml out --class clearing" \
     "find long.t42 base.toml out" "find long.t42 base.toml out --class clearing" "certify long.t42 base.toml long.cert" \
-    "certify long.t42 base.toml clearing.cert" "certify long.t42 base.toml long.cert --late" "receive long.t42 100 --slots 20000" "show long.t42 100 --slots 20000"; do
+    "certify long.t42 base.toml clearing.cert" "certify long.t42 base.toml long.cert --late" "receive long.t42 100 --slots 20000" "show long.t42 100 --slots 20000" \
+    "splice long.t42 long.t42 base.toml base.toml long.cert long.cert"; do
     finished=0
     refused=0
     rm -f out
@@ -41,7 +42,7 @@ for command in "inspect long.t42" "plan broadcast.toml out" "plan broadcast.toml
     # shellcheck disable=SC2086
     "$program" $command > wanted.stdout || exit 1
     [ -f out ] && mv out wanted.out
-    for room in $(seq 2000 100 12000); do
+    for room in $(seq 2000 125 14500); do
         name="$command, $room KiB"
         : > out
         # shellcheck disable=SC2086
