@@ -10,11 +10,11 @@ use ttx_header::time_fill;
 use ttx_source::read_service;
 use ttx_witness::{page_fault, read_certificate};
 
-const YES: &str = "yes lines 2 repeat 1 deadline 27 pages 1\n";
+pub(crate) const YES: &str = "yes lines 2 repeat 1 deadline 27 pages 1\n";
 
 // Edits of the worked cycle: a slot, the place from which these bytes stand in it, and the line of the verdict.
 #[rattlefmt::skip]
-static EDITS: [(usize, usize, &[u8], &str); 15] = [
+pub(crate) static EDITS: [(usize, usize, &[u8], &str); 15] = [
     (4, 0, &[0x03], "no 1 bad-slot 4\n"),
     (1, 0, &[0xff; 42], "no 1 bad-slot 1\n"),
     (26, 2, &[0x14], "no 1 bad-slot 26\n"),
@@ -38,9 +38,9 @@ static EDITS: [(usize, usize, &[u8], &str); 15] = [
     (0, 0, &[], YES),
 ];
 
-static NO_PAGES: &[u8] = b"lines = 1\nserial = true\n";
+pub(crate) static NO_PAGES: &[u8] = b"lines = 1\nserial = true\n";
 
-static NO_ENTRIES: &[u8] = b"ttx certificate 1\nlines 1\nrepeat 1\ndeadline 1\n";
+pub(crate) static NO_ENTRIES: &[u8] = b"ttx certificate 1\nlines 1\nrepeat 1\ndeadline 1\n";
 
 // What is answered for these files and how many bytes went out, where the reader of the service fails at one call and the
 // writer, which takes seven bytes a call, at another.

@@ -39,4 +39,6 @@ mod service_packets;
 #[cfg(test)]
 mod services;
 #[cfg(test)]
+mod walks;
+#[cfg(test)]
 mod watched;
