@@ -94,6 +94,17 @@ done
 echo "splice: time over that of certify (goal: at most 4)"
 
 echo
+printf '%-34s %10s %12s\n' 'refute' 'refute, ms' 'certify, ms'
+for service in inhibited sent; do
+    case $service in sent) cycle=65536.t42 ;; *) cycle=inhibited-65536.t42 ;; esac
+    refute=$(least "$program" refute "$cycle" "$service.toml" "$service.cert")
+    certify=$(least "$program" certify "$cycle" "$service.toml" "$service.cert")
+    printf '%-34s %10s %12s\n' "2,000 pages, 65536 slots" "$(tenths "$refute")" "$(tenths "$certify")"
+    "$program" refute "$cycle" "$service.toml" "$service.cert"
+done
+echo "refute: goal at most 2000 ms"
+
+echo
 printf '%-34s %10s %14s %14s\n' 'receive' 'ms' 'sha256sum, ms' 'vbi_decode, ms'
 receive=$(least "$program" receive 65536.t42 100 --slots 1000000)
 hash=$(least sha256sum 42-mb)
