@@ -14,7 +14,7 @@ use Rattle.ttx_arguments.specs.Grammar.{NameList, ttx_app}
 use Rattle.ttx_arguments.specs.Orders.{OrderView, Unfit, inspect_order, order_view, order_at, Asks, Refuses, IsOrderOf, IsRefusalOf, IsFaultOf, AnswersBy}
 use Rattle.ttx_arguments.specs.declared.orders.Order.{Order}
 use Rattle.ttx_arguments.specs.declared.orders.WordsFault.{WordsFault}
-use Rattle.ttx_arguments.specs.declared.orders.WordsFault.TheVariants.{Refused, Page, Twice, NoMemory}
+use Rattle.ttx_arguments.specs.declared.orders.WordsFault.TheVariants.{Refused, Page, Time, Twice, NoMemory}
 
 pub ttx_is_simple : (kinds classes forms : NameList) → is_simple (ttx_app kinds classes forms) ≡ true
 unfolding ttx_app
@@ -32,6 +32,7 @@ among_kinds kinds e other h = elim h [ inl m ↦ absurd (other m) | inr a ↦ a 
 pub refusal : (fault : WordsFault) (e : Error) (kinds : Kinds) → IsFaultOf fault e → HasKind kinds e → IsRefusalOf fault kinds
 refusal (Refused error) e kinds f h = subst (λ (x : Error). IsAmong (kind_of x) kinds) (sym f.0) (among_kinds kinds e f.1 h)
 refusal Page e kinds f h = f
+refusal Time e kinds f h = f
 refusal Twice e kinds f h = f
 refusal NoMemory e kinds f h = tt
 
@@ -57,6 +58,7 @@ pub answered : (app : App) (words : List Text) (answer : Result OrderView Unfit)
     → option_map (λ p. order_at p.0 p.1) (subcommand_of app words) ≡ Some answer → IsOrderOf result answer → AnswersBy app words result
 answered app words answer (Ok order) some fault is of = asked app words (Ok (order_view order)) some fault (is ∙ ap Some of)
 answered app words answer (Err Page) some fault is of = asked app words _ some fault (is ∙ ap Some of)
+answered app words answer (Err Time) some fault is of = asked app words _ some fault (is ∙ ap Some of)
 answered app words answer (Err Twice) some fault is of = asked app words _ some fault (is ∙ ap Some of)
 answered app words answer (Err (Refused error)) some fault is of = absurd of
 answered app words answer (Err NoMemory) some fault is of = absurd of
@@ -64,6 +66,7 @@ answered app words answer (Err NoMemory) some fault is of = absurd of
 pub refused : (app : App) (words : List Text) (fault : WordsFault) → length words ≢ 0 → IsRefusalOf fault (fault_of app words) → AnswersBy app words (Err fault)
 refused app words (Refused error) some h = refuses app words error some h
 refused app words Page some h = absurd h
+refused app words Time some h = absurd h
 refused app words Twice some h = absurd h
 refused app words NoMemory some h = tt
 

@@ -5,7 +5,9 @@
 --   operand_rule             an operand that has to be there
 --   number_rule, name_rule   an option with a number in a range, and one with a name of a list
 --   flag_rule, text_rule     an option without a value, and one with any text
---   inspect_app, plan_app, find_app, certify_app, refute_app, receive_app, show_app, preview_app, splice_app      a command with its arguments
+--   needed_rule, needed_number_rule         an option that has to be there, with any text, and with a number in a range
+--   inspect_app, plan_app, find_app, certify_app, refute_app, receive_app, show_app, preview_app, splice_app, wait_app, send_app, version_app
+--                            a command with its arguments
 --   bare_app, ttx_app        the program alone, and with its commands
 --   Builds                   what is built of a command, where memory doesn't run out
 use Rattle.std.specs.Prelude.{◌≡◌, ℕ, List, [], ◌∷◌, codes, map, true, false, Some, Result, IfOk}
@@ -43,6 +45,12 @@ name_rule id names = record (new_rule id) { long = Some id; value_names = 1; par
 
 abbrev pub text_rule : Text → Rule
 text_rule id = record (new_rule id) { long = Some id; value_names = 1 }
+
+abbrev pub needed_rule : Text → Rule
+needed_rule id = record (new_rule id) { long = Some id; value_names = 1; required = true }
+
+abbrev pub needed_number_rule : Text → ℕ → ℕ → Rule
+needed_number_rule id low high = record (new_rule id) { long = Some id; value_names = 1; required = true; parser = Some (parser.Unsigned low high) }
 
 abbrev pub flag_rule : Text → Rule
 flag_rule id = record (new_rule id) { long = Some id; action = Some SetTrue }
@@ -104,6 +112,23 @@ splice_app =
     with_rule (with_rule (with_rule (with_rule (with_rule (with_rule (new_app (codes "splice")) (operand_rule (codes "old"))) (operand_rule (codes "new")))
     (operand_rule (codes "old_service"))) (operand_rule (codes "new_service"))) (operand_rule (codes "old_certificate"))) (operand_rule (codes "new_certificate"))
 
+-- wait CYCLE SERVICE [--repeat K] [--class any|clearing]
+abbrev pub wait_app : NameList → App
+wait_app classes =
+    with_rule (with_rule (with_rule (with_rule (new_app (codes "wait")) (operand_rule (codes "cycle"))) (operand_rule (codes "service")))
+    (number_rule (codes "repeat") 1 8)) (name_rule (codes "class") classes)
+
+-- send CYCLE --at MJD/HHMMSS --fields N [--lines L] [--phase F] [--offset HALVES]
+abbrev pub send_app : App
+send_app =
+    with_rule (with_rule (with_rule (with_rule (with_rule (with_rule (new_app (codes "send")) (operand_rule (codes "cycle"))) (needed_rule (codes "at")))
+    (needed_number_rule (codes "fields") 0 4294967295)) (number_rule (codes "lines") 1 32)) (number_rule (codes "phase") 0 4294967295))
+    (number_rule (codes "offset") 0 47)
+
+-- version
+abbrev pub version_app : App
+version_app = new_app (codes "version")
+
 abbrev pub bare : Shape → Shape
 bare s = record s { no_binary_name = true; subcommand_required = true; disable_help_subcommand = true }
 
@@ -113,9 +138,10 @@ bare_app = record { top = bare (new_app (codes "ttx")).top; subs = [] }
 
 unfoldable pub ttx_app : NameList → NameList → NameList → App
 ttx_app kinds classes forms =
-    with_subcommand (with_subcommand (with_subcommand (with_subcommand (with_subcommand (with_subcommand (with_subcommand (with_subcommand (with_subcommand bare_app
-    inspect_app.top) (plan_app classes).top) (find_app classes).top) certify_app.top) refute_app.top) (receive_app kinds).top) (show_app kinds forms).top)
-    (preview_app forms).top) splice_app.top
+    with_subcommand (with_subcommand (with_subcommand (with_subcommand (with_subcommand (with_subcommand (with_subcommand (with_subcommand (with_subcommand
+    (with_subcommand (with_subcommand (with_subcommand bare_app inspect_app.top) (plan_app classes).top) (find_app classes).top) certify_app.top)
+    refute_app.top) (receive_app kinds).top) (show_app kinds forms).top) (preview_app forms).top) splice_app.top) (wait_app classes).top) send_app.top)
+    version_app.top
 
 abbrev pub Builds : {E : Type 0} → Result Command E → App → Type 0
 Builds result app = IfOk result (λ c. (app_of c ≡ app) × ((out-Command c).has_globals ≡ false))

@@ -1,3 +1,4 @@
 pub mod Grammar
 pub mod Orders
 pub mod PageNames
+pub mod Moments

@@ -10,7 +10,7 @@
 --   Asks                     what the program is asked for by words
 --   Refuses, Answers         what is answered for words
 --   IsFaultOf                an error of `clap` by its own name
-use Rattle.std.specs.Prelude.{◌≡◌, ◌≢◌, ℕ, Bool, ◌&&◌, List, [], ◌∷◌, ⊤, Option, Some, None, option_map, option_and_then, Result, Ok, Err, codes, unwrap_or, length, count_by, nat_lt, nat_le, if◌then◌else◌}
+use Rattle.std.specs.Prelude.{◌≡◌, ◌≢◌, ℕ, ◌*◌, Bool, ◌&&◌, List, [], ◌∷◌, ⊤, Option, Some, None, option_map, option_and_then, Result, Ok, Err, codes, unwrap_or, length, count_by, nat_lt, nat_le, if◌then◌else◌}
 use Rattle.std.specs.List.{list_all}
 use Rattle.std.specs.Str.{bytes_eq}
 use Rattle.std.specs.Str.Parse.{digits_value, without_leading_plus}
@@ -23,16 +23,18 @@ use Rattle.ttx_page.specs.declared.class.Class.TheVariants.{Any, Clearing}
 use Rattle.ttx_page.specs.declared.selection.Selection.{Selection}
 use Rattle.ttx_arguments.specs.Grammar.{NameList, Lists, kind_names, class_names, form_names, ttx_app}
 use Rattle.ttx_arguments.specs.PageNames.{selection_of}
+use Rattle.ttx_arguments.specs.Moments.{moment_of}
 use Rattle.ttx_picture.specs.declared.forms.Form.{Form}
 use Rattle.ttx_picture.specs.declared.forms.Form.TheVariants as form
 use Rattle.ttx_arguments.specs.declared.orders.Look.{Look}
 use Rattle.ttx_arguments.specs.declared.orders.Order.{Order}
-use Rattle.ttx_arguments.specs.declared.orders.Order.TheVariants.{Inspect, Plan, Find, Certify, Refute, Receive, Show, Preview, Splice}
+use Rattle.ttx_arguments.specs.declared.orders.Order.TheVariants.{Inspect, Plan, Find, Certify, Refute, Receive, Show, Preview, Splice, Wait, Send, Version}
 use Rattle.ttx_arguments.specs.declared.orders.ReceiverKind.{ReceiverKind}
 use Rattle.ttx_arguments.specs.declared.orders.ReceiverKind.TheVariants.{Eager, Careful, Cleared}
+use Rattle.ttx_arguments.specs.declared.orders.Sending.{Sending}
 use Rattle.ttx_arguments.specs.declared.orders.Tuning.{Tuning}
 use Rattle.ttx_arguments.specs.declared.orders.WordsFault.{WordsFault}
-use Rattle.ttx_arguments.specs.declared.orders.WordsFault.TheVariants.{Refused, Page, Twice, NoMemory}
+use Rattle.ttx_arguments.specs.declared.orders.WordsFault.TheVariants.{Refused, Page, Time, Twice, NoMemory}
 
 -- how a page is shown, its name as bytes
 pub record LookView : Type 0 where
@@ -54,6 +56,9 @@ pub data OrderView : Type 0 where
   show_order : (cycle : Text) → (tuning : Tuning) → (look : LookView) → OrderView
   preview_order : (service : Text) → (selection : Selection) → (look : LookView) → OrderView
   splice_order : (old new old_service new_service old_certificate new_certificate : Text) → OrderView
+  wait_order : (cycle service : Text) → (repeat : ℕ) → (class : Class) → OrderView
+  send_order : (cycle : Text) → (sending : Sending) → OrderView
+  version_order : OrderView
 
 abbrev pub order_view : Order → OrderView
 order_view (Inspect file) = inspect_order file.now
@@ -66,6 +71,9 @@ order_view (Show cycle tuning look) = show_order cycle.now tuning (look_view loo
 order_view (Preview service selection look) = preview_order service.now selection (look_view look)
 order_view (Splice old new old_service new_service old_certificate new_certificate) =
     splice_order old.now new.now old_service.now new_service.now old_certificate.now new_certificate.now
+order_view (Wait cycle service repeat class) = wait_order cycle.now service.now repeat class
+order_view (Send cycle sending) = send_order cycle.now sending
+order_view Version = version_order
 
 -- the text that an argument was given; a parse gives one to each operand
 abbrev pub text_at : Text → List Row → Text
@@ -116,6 +124,7 @@ is_set id rows = bytes_eq (text_at id rows) (codes "true")
 -- why words that `clap` takes ask for nothing
 pub data Unfit : Type 0 where
   no_page : Unfit
+  no_time : Unfit
   named_twice : Unfit
 
 abbrev pub tuning_at : Selection → List Row → Tuning
@@ -176,6 +185,29 @@ splice_at rows =
     splice_order (text_at (codes "old") rows) (text_at (codes "new") rows) (text_at (codes "old_service") rows) (text_at (codes "new_service") rows)
     (text_at (codes "old_certificate") rows) (text_at (codes "new_certificate") rows)
 
+abbrev pub wait_at : List Row → OrderView
+wait_at rows =
+    wait_order (text_at (codes "cycle") rows) (text_at (codes "service") rows) (number_at (codes "repeat") 1 8 1 rows)
+    (class_named (text_at (codes "class") rows))
+
+-- an offset counts half hours
+abbrev pub sending_at : ℕ × ℕ → List Row → Sending
+sending_at moment rows = record {
+  mjd = moment.0;
+  second = moment.1;
+  ahead = 1800 * number_at (codes "offset") 0 47 0 rows;
+  lines = number_at (codes "lines") 1 32 16 rows;
+  phase = number_at (codes "phase") 0 4294967295 0 rows;
+  fields = number_at (codes "fields") 0 4294967295 0 rows;
+}
+
+abbrev pub send_by : Option (ℕ × ℕ) → List Row → Result OrderView Unfit
+send_by None rows = Err no_time
+send_by (Some moment) rows = Ok (send_order (text_at (codes "cycle") rows) (sending_at moment rows))
+
+abbrev pub send_at : List Row → Result OrderView Unfit
+send_at rows = send_by (moment_of (text_at (codes "at") rows)) rows
+
 -- the texts that name inputs
 abbrev pub inputs : OrderView → List Text
 inputs (inspect_order file) = file ∷ []
@@ -188,6 +220,9 @@ inputs (show_order cycle tuning look) = cycle ∷ []
 inputs (preview_order service selection look) = service ∷ []
 inputs (splice_order old new old_service new_service old_certificate new_certificate) =
     old ∷ new ∷ old_service ∷ new_service ∷ old_certificate ∷ new_certificate ∷ []
+inputs (wait_order cycle service repeat class) = cycle ∷ service ∷ []
+inputs (send_order cycle sending) = cycle ∷ []
+inputs version_order = []
 
 -- more than one of them is standard input
 abbrev pub is_twice : OrderView → Bool
@@ -208,6 +243,9 @@ order_at name rows =
     else if bytes_eq name (codes "show") then show_at rows
     else if bytes_eq name (codes "preview") then preview_at rows
     else if bytes_eq name (codes "splice") then once (splice_at rows)
+    else if bytes_eq name (codes "wait") then once (wait_at rows)
+    else if bytes_eq name (codes "send") then send_at rows
+    else if bytes_eq name (codes "version") then Ok version_order
     else Ok (inspect_at rows)
 
 -- no words at all ask for `inspect -`, and words that `clap` takes for their command with its values
@@ -226,6 +264,7 @@ abbrev pub AnswersBy : App → List Text → Result Order WordsFault → Type 0
 AnswersBy app words (Ok order) = Asks app words (Ok (order_view order))
 AnswersBy app words (Err (Refused error)) = Refuses app words error
 AnswersBy app words (Err Page) = Asks app words (Err no_page)
+AnswersBy app words (Err Time) = Asks app words (Err no_time)
 AnswersBy app words (Err Twice) = Asks app words (Err named_twice)
 AnswersBy app words (Err NoMemory) = ⊤
 
@@ -239,6 +278,7 @@ Answers words result =
 abbrev pub IsOrderOf : Result Order WordsFault → Result OrderView Unfit → Type 0
 IsOrderOf (Ok order) answer = answer ≡ Ok (order_view order)
 IsOrderOf (Err Page) answer = answer ≡ Err no_page
+IsOrderOf (Err Time) answer = answer ≡ Err no_time
 IsOrderOf (Err (Refused error)) answer = ⊥
 IsOrderOf (Err Twice) answer = answer ≡ Err named_twice
 IsOrderOf (Err NoMemory) answer = ⊥
@@ -247,6 +287,7 @@ IsOrderOf (Err NoMemory) answer = ⊥
 abbrev pub IsRefusalOf : WordsFault → Kinds → Type 0
 IsRefusalOf (Refused error) kinds = IsAmong (kind_of error) kinds
 IsRefusalOf Page kinds = ⊥
+IsRefusalOf Time kinds = ⊥
 IsRefusalOf Twice kinds = ⊥
 IsRefusalOf NoMemory kinds = ⊤
 
@@ -254,5 +295,6 @@ IsRefusalOf NoMemory kinds = ⊤
 abbrev pub IsFaultOf : WordsFault → Error → Type 0
 IsFaultOf (Refused error) e = (error ≡ e) × (kind_of e ≢ OutOfMemory)
 IsFaultOf Page e = ⊥
+IsFaultOf Time e = ⊥
 IsFaultOf Twice e = ⊥
 IsFaultOf NoMemory e = kind_of e ≡ OutOfMemory

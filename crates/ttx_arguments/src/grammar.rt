@@ -3,7 +3,7 @@
 ghost use Rattle.std.specs.Prelude.{◌≡◌, false, codes};
 ghost use Rattle.clap.specs.Words.{App, Text, rule_of, with_rule, with_subcommand, new_app};
 ghost use Rattle.ttx_arguments.specs.Grammar as rule;
-ghost use Rattle.ttx_arguments.specs.Grammar.{Lists, Builds, operand_rule, number_rule, name_rule, flag_rule, text_rule, with_tuning, with_look, inspect_app, plan_app, find_app, certify_app, refute_app, receive_app, show_app, preview_app, splice_app, bare_app, ttx_app};
+ghost use Rattle.ttx_arguments.specs.Grammar.{Lists, Builds, operand_rule, number_rule, name_rule, flag_rule, text_rule, needed_rule, needed_number_rule, with_tuning, with_look, inspect_app, plan_app, find_app, certify_app, refute_app, receive_app, show_app, preview_app, splice_app, wait_app, send_app, version_app, bare_app, ttx_app};
 
 use crate::help;
 use clap::builder::ValueParser;
@@ -297,6 +297,78 @@ fn splice<'a>(alloc: Global) -> Building<'a>
     )
 }
 
+// `wait CYCLE SERVICE [--repeat K] [--class any|clearing]`
+fn wait<'a>(alloc: Global, classes: &'a [&'a str]) -> Building<'a>
+    ensures { Builds result (wait_app classes.entry) }
+{
+    let wait = command(alloc, "wait", help::WAIT, help::WAIT_MORE);
+    let wait = with_operand(alloc, wait, "cycle", "CYCLE", help::CYCLE_OPERAND);
+    let wait = with_operand(alloc, wait, "service", "SERVICE", help::SERVICE_OPERAND);
+    let wait = with_number(alloc, wait, "repeat", "K", help::REPEAT_OPTION, 1, 8);
+    with_class(alloc, wait, classes)
+}
+
+// An option with any text that has to be there.
+fn needed<'a>(alloc: Global, id: &'a str, name: &'a str, help: &'a str) -> Arg<'a>
+    ensures rule { rule_of result ≡ needed_rule id.entry.now }
+    ensures local { result.global ≡ false }
+{
+    Arg::new(alloc, id)
+        .long(id)
+        .value_name(name)
+        .help(help)
+        .required(true)
+}
+
+// `--at MJD/HHMMSS`
+fn with_moment<'a>(alloc: Global, command: Building<'a>) -> Building<'a>
+    ensures { (app : App) → Builds command.entry app → Builds result (with_rule app (needed_rule (codes "at"))) }
+{
+    let at = needed(alloc, "at", "MJD/HHMMSS", help::AT_OPTION);
+    with_arg(command, at)
+}
+
+// `--fields N`
+fn with_fields<'a>(alloc: Global, command: Building<'a>) -> Building<'a>
+    ensures { (app : App) → Builds command.entry app → Builds result (with_rule app (needed_number_rule (codes "fields") 0 4294967295)) }
+{
+    let fields = Arg::new(alloc, "fields")
+        .long("fields")
+        .value_name("N")
+        .help(help::FIELDS_OPTION)
+        .required(true)
+        .value_parser(ValueParser::unsigned(0, 4_294_967_295));
+    with_arg(command, fields)
+}
+
+// `send CYCLE --at MJD/HHMMSS --fields N [--lines L] [--phase F] [--offset HALVES]`
+fn send<'a>(alloc: Global) -> Building<'a>
+    ensures { Builds result send_app }
+{
+    let send = command(alloc, "send", help::SEND, help::SEND_MORE);
+    let send = with_operand(alloc, send, "cycle", "CYCLE", help::CYCLE_OPERAND);
+    let send = with_moment(alloc, send);
+    let send = with_fields(alloc, send);
+    let send = with_number(alloc, send, "lines", "L", help::LINES_OPTION, 1, 32);
+    let send = with_number(
+        alloc,
+        send,
+        "phase",
+        "F",
+        help::PHASE_OPTION,
+        0,
+        4_294_967_295,
+    );
+    with_number(alloc, send, "offset", "HALVES", help::OFFSET_OPTION, 0, 47)
+}
+
+// `version`
+fn version<'a>(alloc: Global) -> Building<'a>
+    ensures { Builds result version_app }
+{
+    command(alloc, "version", help::VERSION, help::VERSION_MORE)
+}
+
 // `ttx` alone, which is given the words after its name.
 fn bare<'a>(alloc: Global) -> Building<'a>
     ensures { Builds result bare_app }
@@ -348,5 +420,8 @@ pub(crate) fn ttx<'a>(
     let ttx = with_command(ttx, receive(alloc, kinds));
     let ttx = with_command(ttx, show(alloc, kinds, forms));
     let ttx = with_command(ttx, preview(alloc, forms));
-    with_command(ttx, splice(alloc))
+    let ttx = with_command(ttx, splice(alloc));
+    let ttx = with_command(ttx, wait(alloc, classes));
+    let ttx = with_command(ttx, send(alloc));
+    with_command(ttx, version(alloc))
 }

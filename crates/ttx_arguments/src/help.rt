@@ -189,6 +189,57 @@ Statuses:
      refused: certificate NUMBER NAME [line N], refused: certificate too-long
   3  fault: file, fault: read, fault: write, fault: memory";
 
+pub(crate) const WAIT: &str =
+    "Tells how long viewers of each page of a service wait at the most, and what they wait for";
+
+pub(crate) const WAIT_MORE: &str =
+    "Reads CYCLE and SERVICE, in this order, to their ends. Writes a line for each page, in the order of SERVICE, one of
+  PAGE F fields S s ITEM               the page alone is certified with a deadline of F fields, and no less: the first
+                                       item that needs so many is ITEM; S is F in seconds, 50 fields each
+  PAGE never ITEM sent N near A cut B  no deadline is enough: of the N packets of ITEM in a period A come up to L slots
+                                       after their header, and B later but cut off by another magazine
+  PAGE never REASON [SLOT]             the page isn't sent unchanged: no-header, other-subpage, erased, head-differs,
+                                       row-differs or links-differ, at the first such slot
+and then one of
+  all F fields S s                     the deadline for all pages
+  all never                            a page has none
+  all never bad-slot SLOT              the first slot that isn't clean: nothing is certified
+
+Statuses:
+  0  there is a deadline for all pages
+  1  there is none
+  2  error: .. (the words), refused: twice, refused: cycle NUMBER NAME [REST],
+     refused: service NUMBER NAME [KEY] page N, refused: service too-long
+  3  fault: file, fault: read, fault: write, fault: memory";
+
+pub(crate) const SEND: &str = "Sends a cycle again and again, with the time, to standard output";
+
+pub(crate) const SEND_MORE: &str =
+    "Reads CYCLE to its end. Writes N fields of L slots of 42 bytes each: the cycle again and again, from its field F on.
+The first field is sent at MJD/HHMMSS, and each second has 50 fields. Each page header shows the clock, and each packet
+8/30 format 1 has date and time in UTC; all else goes out as it is in CYCLE, also the offset in packets 8/30.
+An empty slot goes out as 42 zero bytes, for which a sender sends nothing.
+
+What certify says yes to is seen from what is sent, too. A certificate counts fields of its own lines: L has to be the
+number of lines in it.
+
+Statuses:
+  0  done
+  2  error: .. (the words), refused: time,
+     refused: cycle 2 truncated REST, refused: cycle 3 empty, refused: cycle 4 too-long
+  3  fault: file, fault: read, fault: write (also where the reader of a pipe has gone), fault: memory";
+
+pub(crate) const VERSION: &str =
+    "Writes the version of the program, and the kit and the logic by which it is proved";
+
+pub(crate) const VERSION_MORE: &str =
+    "Writes three lines to standard output: ttx, kit and logic, each with its name.
+
+Statuses:
+  0  done
+  2  error: .. (the words)
+  3  fault: write";
+
 pub(crate) const CYCLE_OPERAND: &str =
     "Packet file: 1 to 65536 slots of 42 bytes; - is standard input";
 
@@ -249,3 +300,14 @@ pub(crate) const TWICE_OPTION: &str =
 
 pub(crate) const SAVE_OPTION: &str =
     "Counter-run to write, a text; made anew, and left empty where there is none";
+
+pub(crate) const AT_OPTION: &str =
+    "When the first field is sent, in UTC: five digits of the Modified Julian Date, and six of the time";
+
+pub(crate) const FIELDS_OPTION: &str = "How many fields to send, 0 to 4294967295";
+
+pub(crate) const PHASE_OPTION: &str =
+    "Field of the repeated cycle to begin at, 0 to 4294967295 [default: 0]";
+
+pub(crate) const OFFSET_OPTION: &str =
+    "Half hours that the clock in page headers is ahead of UTC, 0 to 47; one behind by H is 48 - H ahead [default: 0]";

@@ -3,9 +3,10 @@
 
 mod grammar;
 mod help;
+mod moments;
 pub mod orders;
 mod page_names;
 mod parsing;
 
-pub use orders::{Look, Order, ReceiverKind, Tuning, WordsFault};
+pub use orders::{Look, Order, ReceiverKind, Sending, Tuning, WordsFault};
 pub use parsing::words;

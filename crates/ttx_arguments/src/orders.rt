@@ -35,6 +35,23 @@ pub struct Look<'a> {
     pub reveal: bool,
 }
 
+/// What `send` is told beside the cycle.
+#[derive(Clone, Copy, Debug)]
+pub struct Sending {
+    /// The Modified Julian Date of the first field.
+    pub mjd: u32,
+    /// The second of its day in UTC, below 86,400.
+    pub second: u32,
+    /// By how many seconds the clock in page headers is ahead of UTC, below 86,400.
+    pub ahead: u32,
+    /// Lines of a field, 1 to 32.
+    pub lines: u8,
+    /// The field of the repeated cycle to begin at.
+    pub phase: u32,
+    /// How many fields are sent.
+    pub fields: u32,
+}
+
 /// A command with its values.
 #[derive(Clone, Copy, Debug)]
 pub enum Order<'a> {
@@ -100,6 +117,20 @@ pub enum Order<'a> {
         old_certificate: &'a str,
         new_certificate: &'a str,
     },
+    /// Tell how long viewers of each page of a service wait.
+    Wait {
+        cycle: &'a str,
+        service: &'a str,
+        repeat: u8,
+        class: Class,
+    },
+    /// Send a cycle again and again, with the time.
+    Send {
+        cycle: &'a str,
+        sending: Sending,
+    },
+    /// Say which program this is.
+    Version,
 }
 
 /// Why words are refused.
@@ -117,4 +148,7 @@ pub enum WordsFault {
     /// 4. A growth was refused.
     #[error("out of memory")]
     NoMemory,
+    /// 5. A moment isn't `MJD/HHMMSS`.
+    #[error("no moment has this name")]
+    Time,
 }

@@ -5,10 +5,11 @@ ghost use Rattle.std.specs.Str.{bytes_eq};
 ghost use Rattle.clap.specs.Words.{rows_of, first_of, found_of, subcommand_rows_of, subcommand_of, fault_of};
 ghost use Rattle.ttx_arguments.specs.Grammar.{ttx_app};
 ghost use Rattle.ttx_arguments.specs.Orders as rule;
-ghost use Rattle.ttx_arguments.specs.Orders.{OrderView, Unfit, order_view, look_view, text_at, kind_named, class_named, form_named, is_set, tuning_at, look_at, show_at, preview_at, inspect_at, plan_at, find_at, certify_at, refute_at, receive_at, splice_at, once, order_at, IsOrderOf, AnswersBy, Answers, IsFaultOf, IsRefusalOf};
+ghost use Rattle.ttx_arguments.specs.Orders.{OrderView, Unfit, order_view, look_view, text_at, kind_named, class_named, form_named, is_set, tuning_at, look_at, show_at, preview_at, inspect_at, plan_at, find_at, certify_at, refute_at, receive_at, splice_at, wait_at, sending_at, send_at, once, order_at, IsOrderOf, AnswersBy, Answers, IsFaultOf, IsRefusalOf};
 
 use crate::grammar::{class_names, form_names, kind_names, ttx};
-use crate::orders::{Look, Order, ReceiverKind, Tuning, WordsFault};
+use crate::moments::moment;
+use crate::orders::{Look, Order, ReceiverKind, Sending, Tuning, WordsFault};
 use crate::page_names::selection;
 use clap::ArgMatches;
 use clap::error::ErrorKind;
@@ -314,6 +315,54 @@ fn splice_of<'a>(values: &ArgMatches<'a>) -> Result<Order<'a>, WordsFault>
     Ok(spliced(values))
 }
 
+fn waited<'a>(values: &ArgMatches<'a>) -> Order<'a>
+    ensures { order_view result ≡ wait_at (rows_of (found_of values.now)) }
+{
+    Order::Wait {
+        cycle: text_of(values, "cycle"),
+        service: text_of(values, "service"),
+        repeat: within(given_number(values, "repeat"), 1, 8, 1) as u8,
+        class: class_of(values),
+    }
+}
+
+fn wait_of<'a>(values: &ArgMatches<'a>) -> Result<Order<'a>, WordsFault>
+    ensures { IsOrderOf result (once (wait_at (rows_of (found_of values.now)))) }
+{
+    let cycle = is_standard(text_of(values, "cycle"));
+    let service = is_standard(text_of(values, "service"));
+    if are_both(cycle, service) {
+        return Err(WordsFault::Twice);
+    }
+    Ok(waited(values))
+}
+
+// What `send` is told of a sending that starts at this moment.
+fn sending_of(values: &ArgMatches<'_>, moment: (u32, u32)) -> Sending
+    ensures { result ≡ sending_at moment (rows_of (found_of values.now)) }
+{
+    Sending {
+        mjd: moment.0,
+        second: moment.1,
+        ahead: 1800 * within(given_number(values, "offset"), 0, 47, 0),
+        lines: within(given_number(values, "lines"), 1, 32, 16) as u8,
+        phase: within(given_number(values, "phase"), 0, u32::MAX, 0),
+        fields: within(given_number(values, "fields"), 0, u32::MAX, 0),
+    }
+}
+
+fn send_of<'a>(values: &ArgMatches<'a>) -> Result<Order<'a>, WordsFault>
+    ensures { IsOrderOf result (send_at (rows_of (found_of values.now))) }
+{
+    match moment(text_of(values, "at")) {
+        None => Err(WordsFault::Time),
+        Some(moment) => Ok(Order::Send {
+            cycle: text_of(values, "cycle"),
+            sending: sending_of(values, moment),
+        }),
+    }
+}
+
 // The order of a command with its values.
 #[tactic(auto, unfolding(crate::specs::Orders::order_at))]
 fn order_of<'a>(name: &str, values: &ArgMatches<'a>) -> Result<Order<'a>, WordsFault>
@@ -335,6 +384,12 @@ fn order_of<'a>(name: &str, values: &ArgMatches<'a>) -> Result<Order<'a>, WordsF
         preview_of(values)
     } else if name == "splice" {
         splice_of(values)
+    } else if name == "wait" {
+        wait_of(values)
+    } else if name == "send" {
+        send_of(values)
+    } else if name == "version" {
+        Ok(Order::Version)
     } else {
         Ok(inspect_of(values))
     }

@@ -12,4 +12,7 @@ returns c =
     let receiving = c.with_command-ttx-6.ensures _ _ refuting c.receive.ensures in
     let showing = c.with_command-ttx-7.ensures _ _ receiving c.show.ensures in
     let previewing = c.with_command-ttx-8.ensures _ _ showing c.preview.ensures in
-    c.with_command.ensures _ _ previewing c.splice.ensures
+    let splicing = c.with_command-ttx-9.ensures _ _ previewing c.splice.ensures in
+    let waiting = c.with_command-ttx-10.ensures _ _ splicing c.wait.ensures in
+    let sending = c.with_command-ttx-11.ensures _ _ waiting c.send.ensures in
+    c.with_command.ensures _ _ sending c.version.ensures
