@@ -111,3 +111,13 @@ hash=$(least sha256sum 42-mb)
 printf '%-34s %10s %14s %14s\n' '1,000,000 slots; 42,000,000 bytes' "$(tenths "$receive")" "$(tenths "$hash")" \
     "$(decoded 65536.t42 1000000)"
 echo "receive: time over that of sha256sum: $((receive * 100 / hash)) percent (goal: at most 20)"
+
+echo
+printf '%-34s %10s %26s\n' 'send' 'ms' 'millions of slots a second'
+for lines in 32 16 12 1; do
+    fields=$((4000000 / lines))
+    send=$(least "$program" send 65536.t42 --at 61000/120000 --fields "$fields" --lines "$lines")
+    count=$((fields * lines))
+    printf '%-34s %10s %26s\n' "$count slots, $lines to a field" "$(tenths "$send")" "$((count / send))"
+done
+echo "send: goal at least 20 millions a second"

@@ -129,5 +129,15 @@ count=$((count + 1))
 sh "$top/demo/demo.sh" "$program" > "$work/demo" 2>&1
 cmp -s "$top/demo/expected" "$work/demo" || fail "it prints something else than demo/expected"
 
+name=recipes
+count=$((count + 1))
+sh "$here/recipes.sh" "$program" > "$work/recipes" 2>&1 || fail "$(tail -n 3 "$work/recipes")"
+
+name=kit
+count=$((count + 1))
+if command -v rt > /dev/null; then
+    [ "$("$program" version | tail -n 2 | sed 's/^kit //' | tr '\n' ' ')" = "$(rt version | head -n 1) " ] || fail "it is proved by another kit"
+fi
+
 echo "cli: $count cases, $failed failed"
 [ "$count" -gt 0 ] && [ "$failed" = 0 ]

@@ -8,8 +8,9 @@ use devices::hold_streams;
 use running::run_order;
 use std::process::ExitCode;
 use std::{env, io};
+use ttx_arguments::{Order, WordsFault, words};
 use ttx_cycle::Counted;
-use ttx_tool::{Order, ToolFault, WordsFault, commands, words};
+use ttx_tool::{ToolFault, commands};
 
 // The status of a fault, also where standard error takes no line.
 const FAULT: u8 = 3;

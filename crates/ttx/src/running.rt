@@ -1,16 +1,18 @@
 //! Runs an order: opens what it names, and gives it to its command.
 
-use crate::devices::{Input, open_input};
+use crate::devices::{Input, create_out, open_input};
 use std::fs::File;
 use std::io;
 use std::io::{BufReader, Write};
+use ttx_arguments::{Look, Order, ReceiverKind, Sending, Tuning, WordsFault};
 use ttx_certify::{Verdict, certify_files, certify_passes};
 use ttx_cycle::Counted;
 use ttx_late::{LateVerdict, certify_files_late};
 use ttx_page::{Class, PageMemory, Selection};
 use ttx_proof::{SpliceVerdict, splice_files};
 use ttx_receiver::{Careful, Cleared, Eager, Receiver};
-use ttx_tool::{Look, Order, ReceiverKind, ToolFault, Tuning, commands};
+use ttx_send::Moment;
+use ttx_tool::{ToolFault, commands};
 
 // A buffered reader of an input.
 fn buffered(rt: &HostRuntime, input: Input) -> Result<Counted<BufReader<Input>>, ToolFault> {
@@ -38,21 +40,14 @@ fn plan(rt: &HostRuntime, input: Input, class: Class, out: File) -> Result<u8, T
 fn receive_by<X: Receiver + Drop>(
     rt: &HostRuntime,
     input: Input,
-    mut receiver: X,
+    receiver: X,
     tuning: &Tuning,
     look: Option<&Look<'_>>,
 ) -> Result<u8, ToolFault> {
     let mut reader = buffered(rt, input)?;
     let mut writer = Counted::new(io::writer(rt));
     match look {
-        Some(look) => commands::show(
-            rt.alloc(),
-            &mut reader,
-            &mut receiver,
-            tuning,
-            look,
-            &mut writer,
-        ),
+        Some(look) => commands::show(rt.alloc(), &mut reader, receiver, tuning, look, &mut writer),
         None => commands::receive(
             rt.alloc(),
             &mut reader,
@@ -210,6 +205,57 @@ fn preview(
     commands::preview(rt.alloc(), &mut reader, selection, look, &mut writer)
 }
 
+// Tells how long viewers of each page of a service wait: status 0 where there is a deadline for all, else 1.
+fn wait(
+    rt: &HostRuntime,
+    cycle: Input,
+    service: Input,
+    repeat: u8,
+    class: Class,
+) -> Result<u8, ToolFault> {
+    let mut cycle = buffered(rt, cycle)?;
+    let mut service = buffered(rt, service)?;
+    let mut writer = Counted::new(io::writer(rt));
+    // The words have it in this range.
+    let repeat = repeat.clamp(1, 8);
+    commands::wait(
+        rt.alloc(),
+        &mut cycle,
+        &mut service,
+        repeat,
+        class,
+        &mut writer,
+    )
+}
+
+// Sends a cycle, from the moment on that the words name.
+fn send(rt: &HostRuntime, input: Input, sending: &Sending) -> Result<u8, ToolFault> {
+    let Some(start) = Moment::new(sending.mjd, sending.second, sending.ahead) else {
+        let mut errors = Counted::new(rt.stderr());
+        return commands::report_words(rt.alloc(), &WordsFault::Time, &mut errors);
+    };
+    let mut reader = buffered(rt, input)?;
+    let mut writer = Counted::new(io::writer(rt));
+    // The words have it in this range.
+    let lines = sending.lines.clamp(1, 32);
+    commands::send(
+        rt.alloc(),
+        &mut reader,
+        &start,
+        lines,
+        sending.phase,
+        sending.fields,
+        &mut writer,
+    )?;
+    Ok(0)
+}
+
+fn version(rt: &HostRuntime) -> Result<u8, ToolFault> {
+    let mut writer = Counted::new(io::writer(rt));
+    commands::version(&mut writer)?;
+    Ok(0)
+}
+
 // Opens the service, makes the cycle's file anew, and plans.
 fn open_plan(
     rt: &HostRuntime,
@@ -218,8 +264,10 @@ fn open_plan(
     class: Class,
 ) -> io::Result<Result<u8, ToolFault>> {
     let service = open_input(rt, service)?;
-    let file = File::create(rt, out)?;
-    Ok(plan(rt, service, class, file))
+    match create_out(rt, &[&service], out)? {
+        Some(file) => Ok(plan(rt, service, class, file)),
+        None => Ok(Err(ToolFault::Same)),
+    }
 }
 
 // Opens the cycle and the service, makes the certificate's file anew, and finds.
@@ -233,8 +281,10 @@ fn open_find(
 ) -> io::Result<Result<u8, ToolFault>> {
     let cycle = open_input(rt, cycle)?;
     let service = open_input(rt, service)?;
-    let file = File::create(rt, out)?;
-    Ok(find(rt, cycle, service, repeat, class, file))
+    match create_out(rt, &[&cycle, &service], out)? {
+        Some(file) => Ok(find(rt, cycle, service, repeat, class, file)),
+        None => Ok(Err(ToolFault::Same)),
+    }
 }
 
 // Looks for a viewer whom a cycle fails: status 1 where there is one, else 0.
@@ -273,12 +323,12 @@ fn open_refute(
     let cycle = open_input(rt, cycle)?;
     let service = open_input(rt, service)?;
     let certificate = open_input(rt, certificate)?;
-    match save {
-        Some(out) => {
-            let file = File::create(rt, out)?;
-            Ok(refute(rt, cycle, service, certificate, true, file))
-        }
-        None => Ok(refute(rt, cycle, service, certificate, false, io::sink())),
+    let Some(out) = save else {
+        return Ok(refute(rt, cycle, service, certificate, false, io::sink()));
+    };
+    match create_out(rt, &[&cycle, &service, &certificate], out)? {
+        Some(file) => Ok(refute(rt, cycle, service, certificate, true, file)),
+        None => Ok(Err(ToolFault::Same)),
     }
 }
 
@@ -354,11 +404,101 @@ fn open_certify_twice(
     Ok(certify_twice(rt, first, second, service, certificate))
 }
 
-/// Opens the inputs in the order of the words, makes the output file anew, and runs the command. An error is that of a file
-/// that can't be opened.
-pub fn run_order(rt: &HostRuntime, order: &Order<'_>) -> io::Result<Result<u8, ToolFault>> {
+// Opens the cycle and the service, and tells how long viewers wait.
+fn open_wait(
+    rt: &HostRuntime,
+    cycle: &str,
+    service: &str,
+    repeat: u8,
+    class: Class,
+) -> io::Result<Result<u8, ToolFault>> {
+    let cycle = open_input(rt, cycle)?;
+    let service = open_input(rt, service)?;
+    Ok(wait(rt, cycle, service, repeat, class))
+}
+
+// Opens the inputs of a splice in the order of the words: cycles, services, certificates.
+fn open_splice(
+    rt: &HostRuntime,
+    cycles: (&str, &str),
+    services: (&str, &str),
+    certificates: (&str, &str),
+) -> io::Result<Result<u8, ToolFault>> {
+    let cycles = open_two(rt, cycles.0, cycles.1)?;
+    let services = open_two(rt, services.0, services.1)?;
+    let certificates = open_two(rt, certificates.0, certificates.1)?;
+    let inputs = SpliceInputs {
+        cycles,
+        services,
+        certificates,
+    };
+    Ok(splice(rt, inputs))
+}
+
+// Runs an order that judges a cycle by certificates, and that of `version`.
+fn run_judging(rt: &HostRuntime, order: &Order<'_>) -> io::Result<Result<u8, ToolFault>> {
+    match order {
+        Order::Certify {
+            cycle,
+            service,
+            certificate,
+            late: false,
+            twice: true,
+        } => open_certify_twice(rt, cycle, service, certificate),
+        Order::Certify {
+            cycle,
+            service,
+            certificate,
+            late,
+            twice: _,
+        } => open_certify(rt, cycle, service, certificate, *late),
+        Order::Splice {
+            old,
+            new,
+            old_service,
+            new_service,
+            old_certificate,
+            new_certificate,
+        } => open_splice(
+            rt,
+            (old, new),
+            (old_service, new_service),
+            (old_certificate, new_certificate),
+        ),
+        _ => Ok(version(rt)),
+    }
+}
+
+// Runs an order that reads a cycle or a service, and makes no file.
+fn run_reading(rt: &HostRuntime, order: &Order<'_>) -> io::Result<Result<u8, ToolFault>> {
     match order {
         Order::Inspect { file } => Ok(inspect(rt, open_input(rt, file)?)),
+        Order::Receive { cycle, tuning } => Ok(receive(rt, open_input(rt, cycle)?, tuning, None)),
+        Order::Show {
+            cycle,
+            tuning,
+            look,
+        } => Ok(receive(rt, open_input(rt, cycle)?, tuning, Some(look))),
+        Order::Preview {
+            service,
+            selection,
+            look,
+        } => Ok(preview(rt, open_input(rt, service)?, selection, look)),
+        Order::Wait {
+            cycle,
+            service,
+            repeat,
+            class,
+        } => open_wait(rt, cycle, service, *repeat, *class),
+        Order::Send { cycle, sending } => Ok(send(rt, open_input(rt, cycle)?, sending)),
+        _ => run_judging(rt, order),
+    }
+}
+
+/// Opens the inputs in the order of the words, makes the output file anew where it is none of them, and runs the command. An
+/// error is that of a file that can't be opened.
+pub fn run_order(rt: &HostRuntime, order: &Order<'_>) -> io::Result<Result<u8, ToolFault>> {
+    match order {
         Order::Plan {
             service,
             out,
@@ -371,55 +511,12 @@ pub fn run_order(rt: &HostRuntime, order: &Order<'_>) -> io::Result<Result<u8, T
             repeat,
             class,
         } => open_find(rt, cycle, service, *repeat, *class, out),
-        Order::Receive { cycle, tuning } => Ok(receive(rt, open_input(rt, cycle)?, tuning, None)),
-        Order::Show {
-            cycle,
-            tuning,
-            look,
-        } => Ok(receive(rt, open_input(rt, cycle)?, tuning, Some(look))),
-        Order::Preview {
-            service,
-            selection,
-            look,
-        } => Ok(preview(rt, open_input(rt, service)?, selection, look)),
         Order::Refute {
             cycle,
             service,
             certificate,
             save,
         } => open_refute(rt, cycle, service, certificate, *save),
-        Order::Certify {
-            cycle,
-            service,
-            certificate,
-            late,
-            twice,
-        } => {
-            if *twice && !*late {
-                open_certify_twice(rt, cycle, service, certificate)
-            } else {
-                open_certify(rt, cycle, service, certificate, *late)
-            }
-        }
-        Order::Splice {
-            old,
-            new,
-            old_service,
-            new_service,
-            old_certificate,
-            new_certificate,
-        } => {
-            let cycles = open_two(rt, old, new)?;
-            let services = open_two(rt, old_service, new_service)?;
-            let certificates = open_two(rt, old_certificate, new_certificate)?;
-            Ok(splice(
-                rt,
-                SpliceInputs {
-                    cycles,
-                    services,
-                    certificates,
-                },
-            ))
-        }
+        _ => run_reading(rt, order),
     }
 }

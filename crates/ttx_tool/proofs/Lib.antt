@@ -8,3 +8,5 @@ pub mod SameInputs
 pub mod PlannedFiles
 mod TooLong
 mod ThreeInputs
+mod ServiceIds
+mod WaitInputs

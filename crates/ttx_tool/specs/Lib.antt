@@ -12,3 +12,6 @@ pub mod RefutingFiles
 pub mod Reports
 pub mod PlannedFiles
 pub mod PlanningLaws
+pub mod WaitingFiles
+pub mod SendingFiles
+pub mod Versions

@@ -18,7 +18,7 @@ use Rattle.ttx_certify.specs.declared.faults.TextFile.TheVariants as text
 use Rattle.ttx_arguments.specs.declared.orders.WordsFault.{WordsFault}
 use Rattle.ttx_arguments.specs.declared.orders.WordsFault.TheVariants as words
 use Rattle.ttx_tool.specs.declared.faults.ToolFault.{ToolFault}
-use Rattle.ttx_tool.specs.declared.faults.ToolFault.TheVariants.{Cycle, Service, Certificate, Read, TooLong, Write, NoMemory, Plan, Class}
+use Rattle.ttx_tool.specs.declared.faults.ToolFault.TheVariants.{Cycle, Service, Certificate, Read, TooLong, Write, NoMemory, Plan, Class, Same}
 
 -- the number and the name of a fault of a service definition, and its key where it names one
 abbrev pub source_text : Fault → List ℕ
@@ -65,6 +65,7 @@ fault_text (Plan plan.NoPages) = codes "refused: plan 1 no-pages"
 fault_text (Plan plan.TooLong) = codes "refused: plan 2 too-long"
 fault_text (Plan plan.NoMemory) = codes "fault: memory"
 fault_text Class = codes "refused: class"
+fault_text Same = codes "refused: same"
 
 abbrev pub fault_line : ToolFault → List ℕ
 fault_line fault = fault_text fault ++ 10 ∷ []
@@ -94,6 +95,7 @@ status_of (Plan plan.NoPages) = 2
 status_of (Plan plan.TooLong) = 2
 status_of (Plan plan.NoMemory) = 3
 status_of Class = 2
+status_of Same = 2
 
 -- the line went out, or its first `written` bytes, or nothing
 abbrev pub Reports : List ℕ → ℕ → Option (List ℕ) → Option (List ℕ) → Result ℕ ToolFault → Type 0
@@ -106,6 +108,7 @@ Reports line status old new (Err _) = ⊥
 abbrev pub ReportsWords : WordsFault → Option (List ℕ) → Option (List ℕ) → Result ℕ ToolFault → Type 0
 ReportsWords (words.Refused error) old new result = (text : List ℕ) × Reports text 2 old new result
 ReportsWords words.Page old new result = Reports (codes "refused: page" ++ 10 ∷ []) 2 old new result
+ReportsWords words.Time old new result = Reports (codes "refused: time" ++ 10 ∷ []) 2 old new result
 ReportsWords words.Twice old new result = Reports (codes "refused: twice" ++ 10 ∷ []) 2 old new result
 ReportsWords words.NoMemory old new result = Reports (fault_line NoMemory) 3 old new result
 

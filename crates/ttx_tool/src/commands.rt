@@ -7,7 +7,10 @@ mod previewing;
 mod receiving;
 mod refuting;
 mod reporting;
+mod sending;
 mod showing;
+mod versions;
+mod waiting;
 
 pub use finding::find;
 pub use inspecting::inspect;
@@ -16,4 +19,7 @@ pub use previewing::preview;
 pub use receiving::receive;
 pub use refuting::refute;
 pub use reporting::{report, report_words};
+pub use sending::send;
 pub use showing::show;
+pub use versions::version;
+pub use waiting::wait;

@@ -11,7 +11,7 @@ use ttx_source::SourceError;
 use ttx_witness::CertFault;
 
 /// Why a command fails. The numbers of faults: 1 `Cycle`, 2 `Service`, 3 `Certificate`, 4 `Read`, 5 `TooLong`, 6 `Write`,
-/// 7 `NoMemory`, 8 `Plan`, 9 `Class`.
+/// 7 `NoMemory`, 8 `Plan`, 9 `Class`, 10 `Same`.
 #[derive(Clone, Copy, Debug, PartialEq, Eq, Error)]
 pub enum ToolFault {
     /// 1. The packet file isn't read.
@@ -42,6 +42,9 @@ pub enum ToolFault {
     /// 9. The certificate is for receivers that surely clear, to which there are no counter-runs.
     #[error("the certificate isn't for receivers of any class")]
     Class,
+    /// 10. The file to write is one of the inputs.
+    #[error("the file to write is an input")]
+    Same,
 }
 
 impl ToolFault {

@@ -99,6 +99,7 @@ fn line_of(alloc: Global, fault: &ToolFault) -> Result<String, AllocError>
         ),
         ToolFault::Plan(PlanFault::NoMemory) => String::from_str(alloc, "fault: memory\n"),
         ToolFault::Class => String::from_str(alloc, "refused: class\n"),
+        ToolFault::Same => String::from_str(alloc, "refused: same\n"),
     }
 }
 
@@ -124,7 +125,7 @@ fn status(fault: &ToolFault) -> u8
         ToolFault::Certificate(_) => 2,
         ToolFault::TooLong { which: _ } => 2,
         ToolFault::Plan(PlanFault::NoMemory) => 3,
-        ToolFault::Plan(_) | ToolFault::Class => 2,
+        ToolFault::Plan(_) | ToolFault::Class | ToolFault::Same => 2,
         ToolFault::Read { .. } | ToolFault::Write { .. } | ToolFault::NoMemory => 3,
     }
 }
@@ -167,6 +168,7 @@ pub fn report_words<W: Write>(
             refuse(text.as_str(), writer)
         }
         WordsFault::Page => refuse("refused: page\n", writer),
+        WordsFault::Time => refuse("refused: time\n", writer),
         WordsFault::Twice => refuse("refused: twice\n", writer),
         WordsFault::NoMemory => report(alloc, &ToolFault::NoMemory, writer),
     }

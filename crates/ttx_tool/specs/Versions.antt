@@ -1,0 +1,18 @@
+-- What `version` writes.
+--
+--   version_text            the version of the program, and the kit and the logic by which it is proved
+--   Tells                   what was written of a text at each answer
+use Rattle.std.specs.Prelude.{ℕ, ◌<◌, List, [], ◌∷◌, ◌++◌, length, take, codes, Option, Result, Ok, Err}
+use Rattle.std.specs.Io.KnownBytes.{Appends}
+use Rattle.ttx_tool.specs.declared.faults.ToolFault.{ToolFault}
+use Rattle.ttx_tool.specs.declared.faults.ToolFault.TheVariants.{Write}
+
+-- three lines
+abbrev pub version_text : List ℕ
+version_text = codes "ttx 1.0.0" ++ 10 ∷ codes "kit rattle-kit-13b" ++ 10 ∷ codes "logic dac8208d650f15bf" ++ 10 ∷ []
+
+-- the text went out, or its first `written` bytes
+abbrev pub Tells : {U : Type 0} → List ℕ → Option (List ℕ) → Option (List ℕ) → Result U ToolFault → Type 0
+Tells text old new (Ok _) = Appends old new text
+Tells text old new (Err (Write written)) = (written < length text) × Appends old new (take written text)
+Tells text old new (Err _) = ⊥

@@ -1,0 +1,117 @@
+//! `wait`: how long viewers of each page of a service wait.
+
+ghost use Rattle.std.specs.Prelude.{◌≡◌, ◌≤◌, IfSome, IfOk, IfErr, string_bytes};
+ghost use Rattle.ttx_cycle.specs.Counters.{inner_of, faults_of};
+ghost use Rattle.ttx_cycle.specs.Cycles.{slots_of};
+ghost use Rattle.ttx_certify.specs.CertifyingFiles.{IsUntouched};
+ghost use Rattle.ttx_tool.specs.FilesFaults.{is_write};
+ghost use Rattle.ttx_tool.specs.FindingFiles.{CountsInputs};
+ghost use Rattle.ttx_tool.specs.WaitingFiles.{wait_status, IsWaitOf, WaitsText, Waits, CountsWait};
+
+use super::planning::read_definition;
+use crate::faults::ToolFault;
+use std::alloc::Global;
+use std::io::{Read, Write};
+use ttx_cycle::{Counted, Cycle, read_cycle, write_bytes};
+use ttx_page::Class;
+use ttx_source::Service;
+use ttx_wait::report;
+
+// The lines, and the status.
+#[derive(Drop)]
+struct Told {
+    text: String,
+    status: u8,
+}
+
+fn wait_status(deadline: Option<u32>) -> u8
+    ensures { result ≡ wait_status deadline }
+{
+    match deadline {
+        Some(_) => 0,
+        None => 1,
+    }
+}
+
+// What is told of a cycle and a service.
+fn tell(
+    alloc: Global,
+    cycle: &Cycle,
+    service: &Service,
+    repeat: u8,
+    class: Class,
+) -> Result<Told, ToolFault>
+    requires some { 1 ≤ repeat }
+    requires few { repeat ≤ 8 }
+    ensures told { IfOk result (λ told. IsWaitOf (slots_of cycle.now) service.now repeat class (string_bytes told.text) told.status) }
+    ensures memory { IfErr result (λ fault. fault ≡ ToolFault.NoMemory) }
+{
+    let Ok(report) = report(
+        alloc,
+        cycle,
+        service.pages(),
+        class,
+        repeat,
+        service.lines(),
+    ) else {
+        return Err(ToolFault::NoMemory);
+    };
+    let status = wait_status(report.deadline);
+    Ok(Told {
+        text: report.text,
+        status,
+    })
+}
+
+// The same for a packet file and the text of a service.
+fn wait_text<A: Read, B: Read>(
+    alloc: Global,
+    cycle: &mut Counted<A>,
+    service: &mut Counted<B>,
+    repeat: u8,
+    class: Class,
+) -> Result<Told, ToolFault>
+    requires some { 1 ≤ repeat }
+    requires few { repeat ≤ 8 }
+    ensures bytes { IfSome (A.remaining (inner_of cycle.old)) (λ a. IfSome (B.remaining (inner_of service.old)) (λ b. WaitsText a b repeat class result)) }
+    ensures faults { CountsInputs result (faults_of cycle.old) (faults_of cycle.new) (faults_of service.old) (faults_of service.new) }
+{
+    let cycle = match read_cycle(alloc, cycle) {
+        Ok(cycle) => cycle,
+        Err(fault) => return Err(ToolFault::Cycle(fault)),
+    };
+    let service = match read_definition(alloc, service) {
+        Ok(service) => service,
+        Err(fault) => return Err(fault),
+    };
+    match tell(alloc, &cycle, &service, repeat, class) {
+        Ok(told) => Ok(told),
+        Err(_) => Err(ToolFault::NoMemory),
+    }
+}
+
+/// Reads a packet file and the text of a service, and writes how long viewers of each page of the service wait, and what they
+/// wait for, to receivers of the class; `repeat` is 1 to 8. The status is 0 where there is a deadline for all pages, else 1.
+///
+/// Nothing is written before all is told. At `Write` exactly the first `written` bytes of the lines went out; at each other
+/// fault the writer is as it was.
+pub fn wait<A: Read, B: Read, W: Write>(
+    alloc: Global,
+    cycle: &mut Counted<A>,
+    service: &mut Counted<B>,
+    repeat: u8,
+    class: Class,
+    writer: &mut Counted<W>,
+) -> Result<u8, ToolFault>
+    requires some { 1 ≤ repeat }
+    requires few { repeat ≤ 8 }
+    ensures bytes { IfSome (A.remaining (inner_of cycle.old)) (λ a. IfSome (B.remaining (inner_of service.old)) (λ b. Waits a b repeat class
+        (W.contents (inner_of writer.old)) (W.contents (inner_of writer.new)) result)) }
+    ensures faults { CountsWait result (faults_of cycle.old) (faults_of cycle.new) (faults_of service.old) (faults_of service.new)
+        (faults_of writer.old) (faults_of writer.new) }
+    ensures untouched { IsUntouched is_write result writer.old writer.new }
+{
+    let told = wait_text(alloc, cycle, service, repeat, class)?;
+    write_bytes(writer, told.text.as_bytes()).map_err(ToolFault::from_write)?;
+    Ok(told.status)
+}

@@ -1,0 +1,73 @@
+#!/bin/sh
+# Runs each block of docs/RECIPES.md over the shipped example, as it stands there.
+#
+# usage: recipes.sh PROGRAM
+set -u
+. "$(dirname "$0")/workplace.sh"
+mkdir "$work/bin" "$work/blocks" "$work/news"
+ln -s "$program" "$work/bin/ttx"
+# a sender that counts what it is given
+printf '#!/bin/sh\nwc -c\n' > "$work/bin/sender"
+chmod +x "$work/bin/sender"
+PATH=$work/bin:$PATH
+awk -v folder="$work/blocks" '
+    /^```/ { if (open) { open = 0; close(file) } else { open = 1; file = folder "/" ++count } next }
+    open { print > file }' "$top/docs/RECIPES.md"
+cp "$top/examples/broadcast.toml" "$work/news/news.toml"
+cd "$work/news" || exit 1
+count=0
+
+# a block of the document, and what it has to print
+expect() {
+    name="recipe $1"
+    count=$((count + 1))
+    sh "$work/blocks/$1" > "$work/printed" 2>&1 || fail "status $?"
+    [ "$(cat "$work/printed")" = "$2" ] || fail "it prints $(head -c 300 "$work/printed")"
+}
+
+name="recipe 1"
+count=$((count + 1))
+make -s -f "$work/blocks/1" > /dev/null || fail "make fails"
+cut -d ' ' -f 1 news.yes | grep -qx yes || fail "no verdict"
+# a service that is refused leaves what there is
+cp news.t42 kept
+echo 'serial' >> news.toml
+make -s -f "$work/blocks/1" > /dev/null 2>&1 && fail "make goes on"
+cmp -s news.t42 kept || fail "news.t42 is touched"
+cp "$top/examples/broadcast.toml" news.toml
+touch news.t42 news.cert
+
+expect 2 $((500 * 12 * 42))
+expect 3 ""
+name="empty slots"
+count=$((count + 1))
+python3 - <<'P' || fail "empty slots are left out or put in"
+data, cycle = open("second.raw", "rb").read(), open("news.t42", "rb").read()
+slots = [cycle[i % len(cycle):i % len(cycle) + 42] for i in range(0, len(data), 42)]
+sent = [data[i:i + 42] for i in range(0, len(data), 42)]
+assert [any(s) for s in slots] == [any(s) for s in sent]
+P
+name="recipe 4"
+count=$((count + 1))
+sh "$work/blocks/4" > "$work/printed" 2>&1 || fail "status $?"
+[ "$(grep -cE '^all [0-9]+ fields [0-9]+\.[0-9]{2} s$' "$work/printed")" = 2 ] || fail "$(cat "$work/printed")"
+# what wait tells for all pages, find finds
+for way in serial parallel; do
+    deadline=$("$program" find $way.t42 $way.toml $way.cert)
+    grep -q "^all ${deadline#found deadline } fields " "$work/printed" || fail "$way: $deadline"
+done
+name="recipe 5"
+count=$((count + 1))
+sh "$work/blocks/5" > "$work/printed" 2>&1 || fail "status $?"
+tail -n 1 "$work/printed" | grep -q '^yes .* class clearing$' || fail "$(cat "$work/printed")"
+expect 6 "$(cat news.yes)
+every page is seen"
+head -c 42 /dev/zero > news.t42
+name="recipe 6"
+count=$((count + 1))
+sh "$work/blocks/6" 2> /dev/null | grep -qx "a page isn't seen: the reason stands above" || fail "a No isn't told"
+rm news.t42
+sh "$work/blocks/6" 2> /dev/null | grep -qx "nothing was judged" || fail "a fault isn't told"
+
+echo "recipes: $count runs, $failed failed"
+[ "$failed" = 0 ]

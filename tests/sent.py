@@ -1,0 +1,99 @@
+#!/usr/bin/env python3
+"""Runs `send` over cycles of random slots, and compares what goes out with what a plain sender of its own makes of them, byte for
+byte: damaged page headers, packets 8/30 of all designations, phases up to 2^32 - 1, midnight, and the last date of five digits.
+
+usage: sent.py PROGRAM [COUNT]
+"""
+import random
+import subprocess
+import sys
+import tempfile
+from pathlib import Path
+
+# Hamming 8/4 (EN 300 706, 8.2)
+WORDS = [0x15, 0x02, 0x49, 0x5E, 0x64, 0x73, 0x38, 0x2F, 0xD0, 0xC7, 0x8C, 0x9B, 0xA1, 0xB6, 0xFD, 0xEA]
+
+
+def number(byte):
+    """The number that a byte reads as, with at most one wrong bit."""
+    for n, word in enumerate(WORDS):
+        if bin(word ^ byte).count("1") <= 1:
+            return n
+    return None
+
+
+def odd(code):
+    return code if bin(code).count("1") % 2 else code | 0x80
+
+
+def digits(value, count):
+    """Decimal digits, each plus one, two to a byte (EN 300 706, 9.8.1)."""
+    text = [int(c) + 1 for c in str(value).zfill(count)]
+    if count % 2:
+        text = [0] + text
+    return [16 * a + b for a, b in zip(text[::2], text[1::2])]
+
+
+def timed(slot, mjd, second, ahead):
+    """The slot as it is sent at a moment."""
+    low, high = number(slot[0]), number(slot[1])
+    if not any(slot) or low is None or high is None:
+        return slot
+    magazine, packet = low % 8, low // 8 + 2 * high
+    local = (second + ahead) % 86400
+    if packet == 0 and all(number(byte) is not None for byte in slot[2:10]):
+        clock = f"{local // 3600:02}:{local // 60 % 60:02}:{local % 60:02}"
+        return slot[:34] + bytes(odd(ord(c)) for c in clock)
+    designation = number(slot[2])
+    if magazine == 0 and packet == 30 and designation is not None and designation < 2:
+        utc = second // 3600 * 10000 + second // 60 % 60 * 100 + second % 60
+        date = digits(mjd, 5)
+        date[0] += slot[12] // 16 * 16
+        return slot[:12] + bytes(date + digits(utc, 6)) + slot[18:]
+    return slot
+
+
+def random_slot(chance):
+    """A header, a packet 8/30, any other packet or none, with a wrong bit here and there."""
+    kind = chance.randrange(4)
+    if kind == 0:
+        return bytes(42)
+    slot = bytearray(chance.randrange(256) for _ in range(42))
+    if kind < 3:
+        packet = 0 if kind == 1 else 30
+        magazine = chance.randrange(8) if kind == 1 else 0
+        slot[0], slot[1] = WORDS[magazine + 8 * (packet % 2)], WORDS[packet // 2]
+        slot[2:10] = bytes(chance.choice(WORDS) for _ in range(8))
+    if chance.randrange(3) == 0:
+        slot[chance.randrange(10)] ^= 1 << chance.randrange(8)
+    return bytes(slot)
+
+
+def main():
+    program = str(Path(sys.argv[1]).resolve())
+    count = int(sys.argv[2]) if len(sys.argv) > 2 else 60
+    chance = random.Random(20)
+    with tempfile.TemporaryDirectory() as folder:
+        cycle_file = Path(folder) / "cycle.t42"
+        for run in range(count):
+            cycle = [random_slot(chance) for _ in range(chance.randrange(1, 80))]
+            cycle_file.write_bytes(b"".join(cycle))
+            mjd, second = chance.choice([0, 60000, 99999]), chance.choice([0, 45296, 86398, 86399])
+            lines, fields = chance.randrange(1, 33), chance.choice([0, 1, 49, 50, 51, 149])
+            phase, halves = chance.choice([0, 7, 2**32 - 1]), chance.randrange(48)
+            at = f"{mjd:05}/{second // 3600:02}{second // 60 % 60:02}{second % 60:02}"
+            words = ["--at", at, "--fields", str(fields), "--lines", str(lines), "--phase", str(phase), "--offset", str(halves)]
+            made = subprocess.run([program, "send", str(cycle_file)] + words, capture_output=True, check=True).stdout
+            wanted = bytearray()
+            for field in range(fields):
+                now = second + field // 50
+                day = (mjd + now // 86400) % 100000
+                for line in range(lines):
+                    slot = cycle[((phase + field) * lines + line) % len(cycle)]
+                    wanted += timed(slot, day, now % 86400, 1800 * halves)
+            if made != bytes(wanted):
+                sys.exit(f"sent: run {run}, {' '.join(words)}: something else is sent")
+    print(f"sent: {count} sendings, 0 failed")
+
+
+main()
