@@ -69,5 +69,16 @@ sh "$work/blocks/6" 2> /dev/null | grep -qx "a page isn't seen: the reason stand
 rm news.t42
 sh "$work/blocks/6" 2> /dev/null | grep -qx "nothing was judged" || fail "a fault isn't told"
 
+# an input by another name, or as standard input, is left alone
+cp "$top/tests/data/base.toml" same.toml
+ln same.toml linked.toml
+ln -s same.toml named.toml
+for out in same.toml linked.toml named.toml; do
+    name="plan - $out"
+    count=$((count + 1))
+    [ "$("$program" plan - $out < same.toml 2>&1)" = "refused: same" ] || fail "it isn't refused"
+    cmp -s same.toml "$top/tests/data/base.toml" || fail "the input is touched"
+done
+
 echo "recipes: $count runs, $failed failed"
 [ "$failed" = 0 ]

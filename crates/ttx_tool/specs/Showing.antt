@@ -47,13 +47,13 @@ pub record IsShown (t : Tuning) (start count : ℕ) (bytes : List ℕ) (old new 
   pub run : Hears t slots start count old new
   pub fresh : new.fresh ≡ stays_fresh t.selection old (sent_from (repeated slots) (pos start) count)
 
--- Ok: the View of the memory that the receiver then holds went out, or that no header of the page came. A write fault: the first
--- `written` bytes of that. Else nothing, and the file is refused as it is judged.
-abbrev pub Shows : Tuning → ℕ → ℕ → Look → List ℕ → Memory → Option (List ℕ) → Option (List ℕ) → Result ℕ ToolFault → Type 0
-Shows t start count look bytes held before after (Ok status) =
-    (new : Memory) × (status ≡ shown_status new) × IsShown t start count bytes held new × Appends before after (shown_text look new)
-Shows t start count look bytes held before after (Err (Write written)) =
-    (new : Memory) × IsShown t start count bytes held new × (written < length (shown_text look new)) × Appends before after (take written (shown_text look new))
-Shows t start count look bytes held before after (Err (Cycle fault)) = Judged bytes (Err fault) × Keeps before after
-Shows t start count look bytes held before after (Err NoMemory) = Keeps before after
-Shows t start count look bytes held before after (Err _) = ⊥
+-- Ok: the View of the memory went out, or that no header of the page came. A write fault: the first `written` bytes of that. Else
+-- nothing, and the file is refused as it is judged.
+abbrev pub Shows : Tuning → ℕ → ℕ → Look → List ℕ → Memory → Memory → Option (List ℕ) → Option (List ℕ) → Result ℕ ToolFault → Type 0
+Shows t start count look bytes held new before after (Ok status) =
+    (status ≡ shown_status new) × IsShown t start count bytes held new × Appends before after (shown_text look new)
+Shows t start count look bytes held new before after (Err (Write written)) =
+    IsShown t start count bytes held new × (written < length (shown_text look new)) × Appends before after (take written (shown_text look new))
+Shows t start count look bytes held new before after (Err (Cycle fault)) = Judged bytes (Err fault) × (new ≡ held) × Keeps before after
+Shows t start count look bytes held new before after (Err NoMemory) = Keeps before after
+Shows t start count look bytes held new before after (Err _) = ⊥

@@ -71,24 +71,23 @@ fn shown_status(memory: &PageMemory) -> u8
 ///
 /// Nothing is written before the whole file is read. At `Write` exactly the first `written` bytes of the text went out; at each
 /// other fault the writer is as it was.
-pub fn show<R: Read, X: Receiver + Drop, W: Write>(
+pub fn show<R: Read, X: Receiver, W: Write>(
     alloc: Global,
     reader: &mut Counted<R>,
-    receiver: X,
+    receiver: &mut X,
     tuning: &Tuning,
     look: &Look<'_>,
     writer: &mut Counted<W>,
 ) -> Result<u8, ToolFault>
     ensures bytes { IfSome (R.remaining (inner_of reader.old))
-        (λ bytes. Shows (tuning_at (X.kind receiver) (X.field receiver) (X.tuned receiver)) tuning.now.start tuning.now.slots look.now bytes
-        (X.held receiver) (W.contents (inner_of writer.old)) (W.contents (inner_of writer.new)) result) }
+        (λ bytes. Shows (tuning_at (X.kind receiver.old) (X.field receiver.old) (X.tuned receiver.old)) tuning.now.start tuning.now.slots look.now bytes
+        (X.held receiver.old) (X.held receiver.new) (W.contents (inner_of writer.old)) (W.contents (inner_of writer.new)) result) }
     ensures faults { CountsInspect result (faults_of reader.old) (faults_of reader.new) (faults_of writer.old) (faults_of writer.new) }
     ensures untouched { IsUntouched is_write result writer.old writer.new }
 {
-    let mut receiver = receiver;
     let cycle = read_cycle(alloc, reader).map_err(ToolFault::Cycle)?;
     hear(
-        &mut receiver,
+        receiver,
         cycle.slots(),
         usize::from(tuning.start),
         tuning.slots,
