@@ -40,21 +40,14 @@ fn plan(rt: &HostRuntime, input: Input, class: Class, out: File) -> Result<u8, T
 fn receive_by<X: Receiver + Drop>(
     rt: &HostRuntime,
     input: Input,
-    mut receiver: X,
+    receiver: X,
     tuning: &Tuning,
     look: Option<&Look<'_>>,
 ) -> Result<u8, ToolFault> {
     let mut reader = buffered(rt, input)?;
     let mut writer = Counted::new(io::writer(rt));
     match look {
-        Some(look) => commands::show(
-            rt.alloc(),
-            &mut reader,
-            &mut receiver,
-            tuning,
-            look,
-            &mut writer,
-        ),
+        Some(look) => commands::show(rt.alloc(), &mut reader, receiver, tuning, look, &mut writer),
         None => commands::receive(
             rt.alloc(),
             &mut reader,

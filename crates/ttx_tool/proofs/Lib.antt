@@ -10,3 +10,4 @@ mod TooLong
 mod ThreeInputs
 mod ServiceIds
 mod WaitInputs
+mod ShownMemory

@@ -4,7 +4,7 @@
 --   no_page_line            the line where none came
 --   shown_text, shown_status        what is shown of a memory, and the status
 --   IsShown                 the slots of a packet file, over which the memory became the new one
---   Shows                   what was written at each answer
+--   ShowsAfter, Shows       what was written at each answer, of the memory that the receiver then holds, and of some such memory
 use Rattle.std.specs.Prelude.{◌≡◌, ℕ, ◌<◌, pos, Bool, not, ◌&&◌, if◌then◌else◌, List, [], ◌∷◌, ◌++◌, length, take, codes, Option, Result, Ok, Err}
 use Rattle.std.specs.Io.KnownBytes.{Appends, Keeps}
 use Rattle.std.specs.List.{list_any}
@@ -49,11 +49,15 @@ pub record IsShown (t : Tuning) (start count : ℕ) (bytes : List ℕ) (old new 
 
 -- Ok: the View of the memory went out, or that no header of the page came. A write fault: the first `written` bytes of that. Else
 -- nothing, and the file is refused as it is judged.
-abbrev pub Shows : Tuning → ℕ → ℕ → Look → List ℕ → Memory → Memory → Option (List ℕ) → Option (List ℕ) → Result ℕ ToolFault → Type 0
-Shows t start count look bytes held new before after (Ok status) =
+abbrev pub ShowsAfter : Tuning → ℕ → ℕ → Look → List ℕ → Memory → Memory → Option (List ℕ) → Option (List ℕ) → Result ℕ ToolFault → Type 0
+ShowsAfter t start count look bytes held new before after (Ok status) =
     (status ≡ shown_status new) × IsShown t start count bytes held new × Appends before after (shown_text look new)
-Shows t start count look bytes held new before after (Err (Write written)) =
+ShowsAfter t start count look bytes held new before after (Err (Write written)) =
     IsShown t start count bytes held new × (written < length (shown_text look new)) × Appends before after (take written (shown_text look new))
-Shows t start count look bytes held new before after (Err (Cycle fault)) = Judged bytes (Err fault) × (new ≡ held) × Keeps before after
-Shows t start count look bytes held new before after (Err NoMemory) = Keeps before after
-Shows t start count look bytes held new before after (Err _) = ⊥
+ShowsAfter t start count look bytes held new before after (Err (Cycle fault)) = Judged bytes (Err fault) × (new ≡ held) × Keeps before after
+ShowsAfter t start count look bytes held new before after (Err NoMemory) = Keeps before after
+ShowsAfter t start count look bytes held new before after (Err _) = ⊥
+
+-- the receiver goes with the call, so its new memory is some memory
+abbrev pub Shows : Tuning → ℕ → ℕ → Look → List ℕ → Memory → Option (List ℕ) → Option (List ℕ) → Result ℕ ToolFault → Type 0
+Shows t start count look bytes held before after result = (new : Memory) × ShowsAfter t start count look bytes held new before after result

@@ -10,7 +10,7 @@ ghost use Rattle.ttx_certify.specs.CertifyingFiles.{IsUntouched};
 ghost use Rattle.ttx_tool.specs.FilesFaults.{is_write};
 ghost use Rattle.ttx_tool.specs.Inspecting.{CountsInspect};
 ghost use Rattle.ttx_tool.specs.Receiving.{tuning_at, Hears};
-ghost use Rattle.ttx_tool.specs.Showing.{stays_fresh, no_page_line, shown_text, shown_status, Shows};
+ghost use Rattle.ttx_tool.specs.Showing.{stays_fresh, no_page_line, shown_text, shown_status, ShowsAfter, Shows};
 
 use crate::faults::ToolFault;
 use crate::stepping::step_over;
@@ -65,13 +65,8 @@ fn shown_status(memory: &PageMemory) -> u8
     if memory.fresh() { 1 } else { 0 }
 }
 
-/// Reads a packet file, gives the receiver the slots that the tuning says, counted round the cycle, and writes the View of what
-/// it then holds, as it is asked for: the status is 0. Where no header of the page came, writes a line that says so: the status
-/// is 1.
-///
-/// Nothing is written before the whole file is read. At `Write` exactly the first `written` bytes of the text went out; at each
-/// other fault the writer is as it was.
-pub fn show<R: Read, X: Receiver, W: Write>(
+// What `show` does, with the receiver that is lent.
+fn show_by<R: Read, X: Receiver, W: Write>(
     alloc: Global,
     reader: &mut Counted<R>,
     receiver: &mut X,
@@ -80,7 +75,7 @@ pub fn show<R: Read, X: Receiver, W: Write>(
     writer: &mut Counted<W>,
 ) -> Result<u8, ToolFault>
     ensures bytes { IfSome (R.remaining (inner_of reader.old))
-        (λ bytes. Shows (tuning_at (X.kind receiver.old) (X.field receiver.old) (X.tuned receiver.old)) tuning.now.start tuning.now.slots look.now bytes
+        (λ bytes. ShowsAfter (tuning_at (X.kind receiver.old) (X.field receiver.old) (X.tuned receiver.old)) tuning.now.start tuning.now.slots look.now bytes
         (X.held receiver.old) (X.held receiver.new) (W.contents (inner_of writer.old)) (W.contents (inner_of writer.new)) result) }
     ensures faults { CountsInspect result (faults_of reader.old) (faults_of reader.new) (faults_of writer.old) (faults_of writer.new) }
     ensures untouched { IsUntouched is_write result writer.old writer.new }
@@ -96,4 +91,28 @@ pub fn show<R: Read, X: Receiver, W: Write>(
     let text = shown_text(alloc, look, memory).map_err(|_| ToolFault::NoMemory)?;
     write_bytes(writer, text.as_bytes()).map_err(ToolFault::from_write)?;
     Ok(shown_status(memory))
+}
+
+/// Reads a packet file, gives the receiver the slots that the tuning says, counted round the cycle, and writes the View of what
+/// it then holds, as it is asked for: the status is 0. Where no header of the page came, writes a line that says so: the status
+/// is 1.
+///
+/// Nothing is written before the whole file is read. At `Write` exactly the first `written` bytes of the text went out; at each
+/// other fault the writer is as it was.
+pub fn show<R: Read, X: Receiver + Drop, W: Write>(
+    alloc: Global,
+    reader: &mut Counted<R>,
+    receiver: X,
+    tuning: &Tuning,
+    look: &Look<'_>,
+    writer: &mut Counted<W>,
+) -> Result<u8, ToolFault>
+    ensures bytes { IfSome (R.remaining (inner_of reader.old))
+        (λ bytes. Shows (tuning_at (X.kind receiver) (X.field receiver) (X.tuned receiver)) tuning.now.start tuning.now.slots look.now bytes
+        (X.held receiver) (W.contents (inner_of writer.old)) (W.contents (inner_of writer.new)) result) }
+    ensures faults { CountsInspect result (faults_of reader.old) (faults_of reader.new) (faults_of writer.old) (faults_of writer.new) }
+    ensures untouched { IsUntouched is_write result writer.old writer.new }
+{
+    let mut receiver = receiver;
+    show_by(alloc, reader, &mut receiver, tuning, look, writer)
 }
