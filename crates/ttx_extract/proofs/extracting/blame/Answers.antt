@@ -1,0 +1,25 @@
+use Rattle.std.proofs.Common.{◌≡◌, ℕ, Some, map, slice_get, subst, sym}
+use Rattle.ttx_cycle.specs.Cycles.{slots_of}
+use Rattle.ttx_page.specs.Pages.{Page}
+use Rattle.ttx_page.specs.Steady.{Steady}
+use Rattle.ttx_page.specs.Streams.{repeated}
+use Rattle.ttx_page.specs.Views.{page_of}
+use Rattle.ttx_witness.specs.AllSent.{AreAllSent}
+use Rattle.ttx_witness.specs.OtherSubpages.{AreOtherSubpages}
+use Rattle.ttx_extract.proofs.extracting.blame.Goals as goal
+
+pub returns-in-Some : goal.returns-in-Some
+returns-in-Some c = λ lines sent others.
+    let slots = slots_of c.args.cycle.now in
+    let same = sym c.pages.ensures.value in
+    let all_sent = subst (λ ps. AreAllSent slots ps lines c.args.sent.now.collected) same sent in
+    let told = c.in-Some.ensures lines all_sent (subst (λ ps. AreOtherSubpages slots ps c.args.sent.now.others) same others) in
+    c.why.ensures (map page_of c.pages.result.now) lines told.0 all_sent told.1 told.2 told.3
+
+pub returns-in-None : goal.returns-in-None
+returns-in-None c = λ lines sent others.
+    let slots = slots_of c.args.cycle.now in
+    let same = sym c.pages.ensures.value in
+    let all_sent = subst (λ ps. AreAllSent slots ps lines c.args.sent.now.collected) same sent in
+    subst (λ ps. (n : ℕ) (p : Page) → slice_get ps n ≡ Some p → Steady (repeated slots) ps p) c.pages.ensures.value
+    (c.in-None.ensures lines all_sent (subst (λ ps. AreOtherSubpages slots ps c.args.sent.now.others) same others))

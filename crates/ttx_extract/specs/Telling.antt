@@ -1,0 +1,20 @@
+-- What the parts of `extract` tell.
+--
+--   TellsInfo               the first packet 8/30 and its slot
+--   MinusZero               the slot of one with an offset that no text says
+--   OkTrue                  the answer is yes
+use Rattle.std.specs.Prelude.{◌≡◌, ℕ, List, [], Bool, true, slice_index_or, Option, Some, None, Result, Ok, Err}
+use Rattle.ttx_extract.specs.Extracts.{info_in, first_info}
+use Rattle.ttx_extract.specs.declared.infos.FoundInfo.{FoundInfo}
+
+abbrev pub TellsInfo : List (List ℕ) → Option FoundInfo → Type 0
+TellsInfo slots None = first_info slots ≡ None
+TellsInfo slots (Some found) = (first_info slots ≡ Some found.info) × (info_in (slice_index_or slots found.slot []) ≡ Some found.info)
+
+abbrev pub MinusZero : Option FoundInfo → ℕ → Type 0
+MinusZero None slot = ⊥
+MinusZero (Some found) slot = (slot ≡ found.slot) × (found.info.halves ≡ 0) × (found.info.west ≡ true)
+
+abbrev pub OkTrue : {E : Type 0} → Result Bool E → Type 0
+OkTrue (Ok b) = b ≡ true
+OkTrue (Err e) = ⊥

@@ -1,0 +1,168 @@
+//! Two slots that send different contents of an item.
+
+ghost use Rattle.std.specs.Prelude.{◌≡◌, ℕ, ◌<◌, List, [], IsTrue, IfSome, Some, pos, length, slice_get, unsigned_abs};
+ghost use Rattle.ttx_cycle.specs.Cycles.{slots_of};
+ghost use Rattle.ttx_packet.specs.Slots.{IsSlot};
+ghost use Rattle.ttx_header.specs.Ids.{Id};
+ghost use Rattle.ttx_page.specs.Packets.{packet_of, Row};
+ghost use Rattle.ttx_page.specs.declared.item.Item.{Item as ItemIs};
+ghost use Rattle.ttx_page.specs.Pages as definitions;
+ghost use Rattle.ttx_page.specs.Streams.{repeated, IsTransmission};
+ghost use Rattle.ttx_witness.specs.AllSent.{AreAllSent};
+ghost use Rattle.ttx_witness.specs.Faults.{IsPageFault};
+ghost use Rattle.ttx_witness.specs.Sent.{sent_in};
+ghost use Rattle.ttx_extract.specs.Extracts.{Differs, Blames};
+
+use crate::faults::ExtractFault;
+use ttx_cycle::Cycle;
+use ttx_header::PageId;
+use ttx_links::read_links;
+use ttx_packet::{Slot, slot_of};
+use ttx_page::{Item, RowNumber};
+use ttx_witness::{Collected, Reason, Transmission, header_in, row_in, same_links};
+
+// Whether two slots are headers with other control bits or characters.
+fn heads_differ(a: &[u8; 42], b: &[u8; 42]) -> bool
+    requires a { IsSlot a.now }
+    requires b { IsSlot b.now }
+    ensures { IsTrue result → Differs (packet_of a.now) (packet_of b.now) }
+{
+    match (header_in(a), header_in(b)) {
+        (Some(a), Some(b)) => a.control().0 != b.control().0 || a.text() != b.text(),
+        _ => false,
+    }
+}
+
+// Whether two slots are rows with other characters.
+fn rows_differ(a: &[u8; 42], b: &[u8; 42]) -> bool
+    ensures { IsTrue result → Differs (packet_of a.now) (packet_of b.now) }
+{
+    match (row_in(a), row_in(b)) {
+        (Some(_), Some(_)) => a[2..] != b[2..],
+        _ => false,
+    }
+}
+
+// Whether two slots are X/27/0 with other links, or one of them can't be read.
+fn links_differ(a: &[u8; 42], b: &[u8; 42]) -> bool
+    ensures { IsTrue result → Differs (packet_of a.now) (packet_of b.now) }
+{
+    let (Slot::Links(at, first), Slot::Links(other, second)) = (slot_of(a), slot_of(b)) else {
+        return false;
+    };
+    match (read_links(at.mag, first), read_links(other.mag, second)) {
+        (Some(a), Some(b)) => !same_links(&a, &b),
+        (None, None) => false,
+        _ => true,
+    }
+}
+
+// Whether two slots send different contents.
+fn differ(a: &[u8; 42], b: &[u8; 42]) -> bool
+    requires a { IsSlot a.now }
+    requires b { IsSlot b.now }
+    ensures { IsTrue result → Differs (packet_of a.now) (packet_of b.now) }
+{
+    heads_differ(a, b) || rows_differ(a, b) || links_differ(a, b)
+}
+
+fn slot_of_first(sent: Transmission) -> u32
+    ensures { result ≡ unsigned_abs sent.slot }
+{
+    sent.slot.unsigned_abs()
+}
+
+// The slot of a list's first transmission, where this slot differs from it.
+fn first_unlike(cycle: &Cycle, sent: &[Transmission], slot: u32) -> Option<u32>
+    ensures { IfSome result (λ first. (page : Id) (lines : ℕ) (item : ItemIs) → sent.now ≡ sent_in (slots_of cycle.now) page lines item →
+        IsTransmission (repeated (slots_of cycle.now)) page item (pos first) × Differs (packet_of (repeated (slots_of cycle.now) (pos first))) (packet_of (repeated (slots_of cycle.now) (pos slot)))) }
+{
+    ttx_witness::judging_laws::transmissions_are_listed();
+    let slots = cycle.slots();
+    if sent.is_empty() {
+        return None;
+    }
+    let place = slot_of_first(sent[0]);
+    if place as usize >= slots.len() {
+        return None;
+    }
+    if slot as usize >= slots.len() {
+        return None;
+    }
+    if differ(&slots[place as usize], &slots[slot as usize]) {
+        Some(place)
+    } else {
+        None
+    }
+}
+
+// The row in a slot of the cycle.
+fn row_at(cycle: &Cycle, slot: u32) -> Option<RowNumber>
+    ensures { IfSome result (λ row. (mag number : ℕ) (text : List ℕ) → packet_of (repeated (slots_of cycle.now) (pos slot)) ≡ Row mag number text → number ≡ row) }
+{
+    let slots = cycle.slots();
+    if slot as usize >= slots.len() {
+        return None;
+    }
+    match row_in(&slots[slot as usize]) {
+        Some(at) => RowNumber::new(at.number),
+        None => None,
+    }
+}
+
+// An item, and a slot that sends it.
+#[derive(Clone, Copy)]
+struct Blamed {
+    item: Item,
+    slot: u32,
+}
+
+// The item that differs, and the slot where it does.
+fn unlike_item(cycle: &Cycle, reason: &Reason) -> Option<Blamed>
+    ensures { IfSome result (λ unlike. (pages : List definitions.Page) (p : definitions.Page) → IsPageFault (slots_of cycle.now) pages p (Some reason.now) → IsTransmission (repeated (slots_of cycle.now)) p.id unlike.item (pos unlike.slot)) }
+{
+    match reason {
+        Reason::HeadDiffers { page: _, slot } => Some(Blamed {
+            item: Item::Head,
+            slot: *slot,
+        }),
+        Reason::RowDiffers { page: _, slot } => match row_at(cycle, *slot) {
+            Some(row) => Some(Blamed {
+                item: Item::Row(row),
+                slot: *slot,
+            }),
+            None => None,
+        },
+        Reason::LinksDiffer { page: _, slot } => Some(Blamed {
+            item: Item::Links,
+            slot: *slot,
+        }),
+        _ => None,
+    }
+}
+
+/// Why a page of a list isn't sent unchanged: two slots, where what one of them sends differs from the item's first transmission, and
+/// else the reason.
+pub fn why(
+    cycle: &Cycle,
+    page: PageId,
+    collected: &Collected,
+    index: usize,
+    reason: Reason,
+) -> ExtractFault
+    ensures { (pages : List definitions.Page) (lines : ℕ) (p : definitions.Page) → AreAllSent (slots_of cycle.now) pages lines collected.now → slice_get pages index ≡ Some p → page ≡ p.id →
+        IsPageFault (slots_of cycle.now) pages p (Some reason) → Blames (slots_of cycle.now) result }
+{
+    let Some(blamed) = unlike_item(cycle, &reason) else {
+        return ExtractFault::Reason(reason);
+    };
+    match first_unlike(cycle, collected.sent(index, blamed.item), blamed.slot) {
+        Some(first) => ExtractFault::Conflict {
+            page,
+            item: blamed.item,
+            first,
+            second: blamed.slot,
+        },
+        None => ExtractFault::Reason(reason),
+    }
+}

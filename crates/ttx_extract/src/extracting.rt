@@ -1,0 +1,187 @@
+//! The service text of a cycle.
+
+ghost use Rattle.std.specs.Prelude.{◌≡◌, ◌≤◌, ℕ, IsTrue, IfSome, IfOk, IfErr, MatchOption, MatchResult, length, option_map, string_bytes};
+ghost use Rattle.ttx_certify.specs.CertifyingFiles.{most_bytes};
+ghost use Rattle.ttx_cycle.specs.Cycles.{slots_of};
+ghost use Rattle.ttx_source.specs.Services.{ids_of, pages_of};
+ghost use Rattle.ttx_witness.specs.AllSent.{AreAllSent};
+ghost use Rattle.ttx_witness.specs.OtherSubpages.{AreOtherSubpages};
+ghost use Rattle.ttx_extract.specs.Extracts.{AnswersFault, AreListed, AreSteady, Blames, Extracts, IsExtract, first_info};
+ghost use Rattle.ttx_extract.specs.Telling.{MinusZero, OkTrue};
+
+use crate::checking::{are_listed, are_often, first_reason};
+use crate::conflicts::why;
+use crate::faults::ExtractFault;
+use crate::gathering::gather;
+use crate::infos::{FoundInfo, first_info, same_info};
+use crate::service_texts::service_text;
+use std::alloc::Global;
+use ttx_cycle::Cycle;
+use ttx_info::Info;
+use ttx_source::{Service, read_service};
+use ttx_witness::{Collected, NoMemory, OtherSubpages, collect, index_of};
+
+// The most bytes of a text.
+const MOST_BYTES: usize = 4_194_304;
+
+/// A text, and the service that it says.
+#[derive(Drop)]
+pub struct Extracted {
+    pub text: String,
+    pub service: Service,
+}
+
+// The slot of a packet 8/30 whose local offset is minus zero, which no text says.
+fn minus_zero(found: &Option<FoundInfo>) -> Option<u32>
+    ensures { IfSome result (MinusZero found.now) }
+{
+    match found {
+        Some(found) => {
+            if found.info.halves() == 0 && found.info.west() {
+                u32::try_from(found.slot).ok()
+            } else {
+                None
+            }
+        }
+        None => None,
+    }
+}
+
+fn info_of(found: Option<FoundInfo>) -> Option<Info> {
+    match found {
+        Some(found) => Some(found.info),
+        None => None,
+    }
+}
+
+// Whether a service has the packet 8/30.
+fn has_info(service: &Service, found: &Option<FoundInfo>) -> bool
+    ensures { IsTrue result → service.now.info ≡ option_map (λ f. f.info) found.now }
+{
+    match (service.info(), found) {
+        (Some(a), Some(b)) => same_info(a, &b.info),
+        (None, None) => true,
+        _ => false,
+    }
+}
+
+// Whether the service has these lines and the packet 8/30.
+fn has_head(cycle: &Cycle, service: &Service, lines: u8) -> bool
+    ensures { IsTrue result → (service.now.lines ≡ lines) × (service.now.info ≡ first_info (slots_of cycle.now)) }
+{
+    if service.lines() != lines {
+        return false;
+    }
+    has_info(service, &first_info(cycle))
+}
+
+// Whether the service has all pages of the cycle.
+fn has_pages(alloc: Global, cycle: &Cycle, service: &Service) -> Result<bool, NoMemory>
+    ensures { OkTrue result → AreListed (ids_of service.now.pages) (slots_of cycle.now) }
+{
+    let pages = service.pages();
+    let index = index_of(alloc, pages)?;
+    Ok(are_listed(cycle, &index, pages.len()))
+}
+
+// What is sent of the pages of a service.
+#[derive(Drop)]
+struct Sent {
+    collected: Collected,
+    others: OtherSubpages,
+}
+
+fn sent_of(alloc: Global, cycle: &Cycle, service: &Service, lines: u8) -> Result<Sent, NoMemory>
+    ensures collected { IfOk result (λ sent. AreAllSent (slots_of cycle.now) (pages_of service.now) lines sent.collected) }
+    ensures others { IfOk result (λ sent. AreOtherSubpages (slots_of cycle.now) (pages_of service.now) sent.others) }
+{
+    let collected = collect(alloc, cycle, service.pages(), lines)?;
+    let others = OtherSubpages::of(alloc, cycle, service.pages())?;
+    Ok(Sent { collected, others })
+}
+
+// Why the pages of a service aren't sent unchanged; none where they are.
+fn blame(cycle: &Cycle, service: &Service, sent: &Sent) -> Option<ExtractFault>
+    ensures { (lines : ℕ) → AreAllSent (slots_of cycle.now) (pages_of service.now) lines sent.now.collected → AreOtherSubpages (slots_of cycle.now) (pages_of service.now) sent.now.others →
+        MatchOption result (AreSteady (slots_of cycle.now) service.now) (λ fault. Blames (slots_of cycle.now) fault) }
+{
+    match first_reason(cycle, service.pages(), &sent.collected, &sent.others) {
+        Some(told) => Some(why(cycle, told.page, &sent.collected, told.index, told.reason)),
+        None => None,
+    }
+}
+
+// Whether the service says what the cycle sends.
+fn check(alloc: Global, cycle: &Cycle, service: &Service, lines: u8) -> Result<(), ExtractFault>
+    ensures { MatchResult result (λ _. IsExtract (slots_of cycle.now) lines service.now) (λ fault. AnswersFault (slots_of cycle.now) fault) }
+{
+    let Ok(sent) = sent_of(alloc, cycle, service, lines) else {
+        return Err(ExtractFault::NoMemory);
+    };
+    if let Some(fault) = blame(cycle, service, &sent) {
+        return Err(fault);
+    }
+    if !has_head(cycle, service, lines) {
+        return Err(ExtractFault::Unsaid);
+    }
+    if !are_often(service, &sent.collected) {
+        return Err(ExtractFault::Unsaid);
+    }
+    match has_pages(alloc, cycle, service) {
+        Ok(true) => Ok(()),
+        Ok(false) => Err(ExtractFault::Unsaid),
+        Err(_) => Err(ExtractFault::NoMemory),
+    }
+}
+
+// The text of a cycle with this packet 8/30.
+fn text_with(
+    alloc: Global,
+    cycle: &Cycle,
+    info: Option<Info>,
+    lines: u8,
+) -> Result<String, NoMemory> {
+    let gathered = gather(alloc, cycle)?;
+    service_text(alloc, cycle, &gathered, info.as_ref(), lines)
+}
+
+// The text of what the cycle sends.
+fn text_of(alloc: Global, cycle: &Cycle, lines: u8) -> Result<String, ExtractFault>
+    ensures most { IfOk result (λ text. length (string_bytes text) ≤ most_bytes) }
+    ensures fault { IfErr result (AnswersFault (slots_of cycle.now)) }
+{
+    let found = first_info(cycle);
+    if let Some(slot) = minus_zero(&found) {
+        return Err(ExtractFault::Info { slot });
+    }
+    match text_with(alloc, cycle, info_of(found), lines) {
+        Ok(text) => {
+            if text.len() <= MOST_BYTES {
+                Ok(text)
+            } else {
+                Err(ExtractFault::TooLong)
+            }
+        }
+        Err(_) => Err(ExtractFault::NoMemory),
+    }
+}
+
+/// The text of a service that says what the cycle sends, with these lines of a field, and the service. Pages stand in the order of
+/// their first headers, with the first transmission of each item; a row that isn't sent is spaces. Before it is answered the text is
+/// read, and the cycle is compared with it as the certifier does.
+pub fn extract(alloc: Global, cycle: &Cycle, lines: u8) -> Result<Extracted, ExtractFault>
+    ensures { Extracts (slots_of cycle.now) lines result }
+{
+    let text = match text_of(alloc, cycle, lines) {
+        Ok(text) => text,
+        Err(fault) => return Err(fault),
+    };
+    let service = match read_service(alloc, text.as_bytes()) {
+        Ok(service) => service,
+        Err(error) => return Err(ExtractFault::Service(error)),
+    };
+    match check(alloc, cycle, &service, lines) {
+        Ok(()) => Ok(Extracted { text, service }),
+        Err(fault) => Err(fault),
+    }
+}

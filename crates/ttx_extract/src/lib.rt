@@ -1,0 +1,18 @@
+//! Service texts from cycles: what a cycle sends, written as an author would write it.
+#![tactic(auto)]
+
+mod checking;
+mod conflicts;
+mod extracting;
+pub mod faults;
+mod found;
+mod gathering;
+mod infos;
+mod page_texts;
+mod refusals;
+mod service_texts;
+mod texts;
+
+pub use extracting::{Extracted, extract};
+pub use faults::ExtractFault;
+pub use refusals::push_refusal;
