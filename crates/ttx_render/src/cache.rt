@@ -1,6 +1,6 @@
 //! A memory that is kept with its View.
 
-ghost use Rattle.std.specs.Prelude.{◌≡◌, ◌<◌};
+ghost use Rattle.std.specs.Prelude.{◌≡◌, ◌<◌, ◌↔◌, IsTrue};
 ghost use Rattle.ttx_page.specs.Memories.{memory_row};
 ghost use Rattle.ttx_page.specs.Receivers.{with_row};
 ghost use Rattle.ttx_page.specs.Views.{memory_of};
@@ -31,6 +31,12 @@ impl Model for Cache {
     ghost invariant = { λ c. c.view ≡ view_of (memory_of c.memory) };
 }
 
+fn same_row(a: &[u8; 40], b: &[u8; 40]) -> bool
+    ensures { IsTrue result ↔ (a.now ≡ b.now) }
+{
+    a == b
+}
+
 impl Cache {
     /// Keeps a copy of a memory.
     pub fn new(memory: &PageMemory) -> Cache
@@ -49,11 +55,15 @@ impl Cache {
         &self.view
     }
 
-    /// Replaces a row of the memory that is kept by this memory's, and renders no other row but those that double height changes.
+    /// Replaces a row of the memory that is kept by this memory's, and renders no other row but those that double height changes;
+    /// none where the rows are the same.
     pub fn touch(&mut self, memory: &PageMemory, row: usize)
         requires { row < 25 }
         ensures { self.new ≡ with_row self.old row (memory_row (memory_of memory.now) row) }
     {
+        if same_row(&self.memory.rows()[row], &memory.rows()[row]) {
+            return;
+        }
         let kept = self.memory.with_row(row, &memory.rows()[row]);
         retouch(&self.memory, &kept, row, &mut self.view.cells);
         self.memory = kept;
