@@ -22,7 +22,7 @@ use Rattle.ttx_source.specs.declared.faults.SourceFault.TheVariants as source
 use Rattle.ttx_witness.specs.CertificateReading.{read_text}
 use Rattle.ttx_witness.specs.Certificates.{fields_of}
 use Rattle.ttx_witness.specs.Entries.{CertificateFields, certificate_at}
-use Rattle.ttx_witness.specs.declared.certificate_faults.CertFault.TheVariants as witness
+use Rattle.ttx_certificate.specs.declared.certificate_faults.CertFault.TheVariants as witness
 use Rattle.ttx_certify.specs.Verdicts.{IsVerdict, Means}
 use Rattle.ttx_certify.specs.VerdictLines.{verdict_line}
 use Rattle.ttx_certify.specs.declared.faults.FilesFault.{FilesFault}

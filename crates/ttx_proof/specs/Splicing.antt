@@ -17,7 +17,7 @@ use Rattle.ttx_page.specs.declared.item.Item.{Item}
 use Rattle.ttx_witness.specs.AllSent.{AreAllSent, AreSentAfter}
 use Rattle.ttx_witness.specs.Certificates.{certificate_of}
 use Rattle.ttx_witness.specs.Coverage as coverage
-use Rattle.ttx_witness.specs.declared.certificates.Certificate.{Certificate}
+use Rattle.ttx_certificate.specs.declared.certificates.Certificate.{Certificate}
 use Rattle.ttx_proof.specs.Splices.{Splice, IsCommon, HasSeam, IsBridged, AreAlike}
 use Rattle.ttx_proof.specs.Laws.{IsSplice, BothAccepted}
 use Rattle.ttx_proof.specs.Verdicts.{NoSeam, IsLate, IsFirstSeam, IsFirstLate, IsFirstSeamReason, IsFirstLateReason}

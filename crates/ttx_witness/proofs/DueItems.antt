@@ -15,7 +15,7 @@ use Rattle.ttx_page.specs.declared.item.Item.TheVariants.{Head as TheHead, Row a
 use Rattle.ttx_page.specs.declared.class.Class.{Class}
 use Rattle.ttx_witness.specs.Collected.{IsItem, ids_of, item_number, place}
 use Rattle.ttx_witness.specs.Finding.{starts_for, limit_for, Fits, wider, IsDone, IsTold, HasEntry, same_place, AreNamed, AddsEntry}
-use Rattle.ttx_witness.specs.declared.entries.Entry.{Entry}
+use Rattle.ttx_certificate.specs.declared.entries.Entry.{Entry}
 use Rattle.ttx_witness.proofs.Basics.{no_both, and_left, and_right, cases_bool}
 use Rattle.ttx_witness.proofs.EntryOrder.{same_entry}
 use Rattle.ttx_witness.proofs.Indexing.{same_one}

@@ -10,7 +10,7 @@ use Rattle.ttx_packet.specs.Slots.{is_clean}
 use Rattle.std.specs.List.Sorted.{IsPermutation, IsNonDecreasingBy}
 use Rattle.std.proofs.lemmas.Bool.Decides.{nat_tests}
 use Rattle.std.proofs.lemmas.Map.Keys.{IsDistinct-IsPermutation, IsDistinct-from_apart, apart_from_distinct}
-use Rattle.ttx_witness.proofs.EntryOrder.{place_in}
+use Rattle.ttx_certificate.specs.EntryViews.{place_in, entries_of}
 use Rattle.std.proofs.lemmas.List.Sorted.{All-permutation, Contains-permutation}
 use Rattle.ttx_header.specs.Ids.{Id, same_id}
 use Rattle.ttx_page.specs.declared.page.Page.{Page as PageValue}
@@ -25,9 +25,8 @@ use Rattle.ttx_page.specs.declared.item.Item.TheVariants.{Head as TheHead, Row a
 use Rattle.ttx_page.specs.declared.class.Class.{Class}
 use Rattle.ttx_page.specs.declared.class.Class.TheVariants.{Any, Clearing}
 use Rattle.ttx_witness.specs.Collected.{IsItem, item_number}
-use Rattle.ttx_witness.specs.Entries.{are_numbers, is_above, rises, rises_above, places, same_item, starts_in, fields_at, certificate_at}
-use Rattle.ttx_witness.specs.EntryViews.{entries_of}
-use Rattle.ttx_witness.specs.declared.entries.Entry.{Entry}
+use Rattle.ttx_certificate.specs.Entries.{are_numbers, is_above, rises, rises_above, places, same_item, starts_in, fields_at, certificate_at}
+use Rattle.ttx_certificate.specs.declared.entries.Entry.{Entry}
 use Rattle.ttx_witness.specs.Searching.{Spread}
 use Rattle.ttx_witness.specs.Coverage.{Certificate, limit, IsSureStart, IsCovered, IsLeftOut, Accepts}
 use Rattle.ttx_witness.specs.CycleLaws.{SureStartsAreFound, LeastLimitIsFound}

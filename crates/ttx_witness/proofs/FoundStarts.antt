@@ -6,7 +6,7 @@ use Rattle.std.proofs.lemmas.Bool.Decides.{nat_tests}
 use Rattle.ttx_witness.specs.Transmissions.{Transmission, Run, start_of, run_of, windows, extended, further, runs}
 use Rattle.ttx_witness.specs.Searching.{sure_runs, sure_starts}
 use Rattle.ttx_witness.specs.Tracks.{AreInOrder}
-use Rattle.ttx_witness.specs.Entries.{are_slots, rises, rises_above}
+use Rattle.ttx_certificate.specs.Entries.{are_slots, rises, rises_above}
 use Rattle.ttx_witness.proofs.Basics.{if_ind, and_both}
 use Rattle.ttx_witness.proofs.Listing.{slots}
 use Rattle.ttx_witness.proofs.Rounds.{length_further, starts_of}

@@ -24,7 +24,6 @@ pub mod Held
 pub mod Noting
 pub mod NoFault
 mod EntryOrder
-mod CertificateRules
 pub mod Judging
 pub mod HeaderGaps
 pub mod HeaderLimits
@@ -49,13 +48,8 @@ pub mod After
 pub mod Whole
 pub mod SentOnes
 pub mod SingleRuns
-mod TextParts
-pub mod LineShapes
-mod ReadEntries
 pub mod Listed
 pub mod Straying
-pub mod AcceptedTexts
-mod WrittenTexts
 pub mod DueItems
 pub mod FoundStarts
 pub mod Finds

@@ -13,7 +13,7 @@ use Rattle.ttx_page.specs.Streams.{repeated}
 use Rattle.ttx_page.specs.declared.page.Page.{Page as PageValue}
 use Rattle.ttx_page.specs.Views.{page_of}
 use Rattle.ttx_page.specs.declared.item.Item.{Item}
-use Rattle.ttx_page.specs.declared.item.Item.TheVariants.{Head as TheHead, Row as TheRow, Links as TheLinks}
+pub use Rattle.ttx_certificate.specs.ItemPlaces.{IsItem, item_number, key_of}
 use Rattle.ttx_witness.specs.Transmissions.{Transmission}
 use Rattle.ttx_witness.specs.Sent.{PageOwner, owner_scan, sent_scan, entry_of}
 use Rattle.std.specs.HashMap.{get}
@@ -57,16 +57,6 @@ IsForeign i (Some o) = is_page i o.page ≡ false
 abbrev pub AreApart : List Id → List (Option Owner) → Type 0
 AreApart ids owners = (m i : ℕ) (id : Id) → m < 8 → slice_get ids i ≡ Some id → (m + 1 ≡ id.mag → ⊥) → IsForeign i (get_or owners m None)
 
-abbrev pub IsItem : Item → Type 0
-IsItem TheHead = Unit {0}
-IsItem (TheRow r) = (1 ≤ r) × (r ≤ 24)
-IsItem TheLinks = Unit {0}
-
-abbrev pub item_number : Item → ℕ
-item_number TheHead = 0
-item_number (TheRow r) = r
-item_number TheLinks = 25
-
 abbrev pub place : ℕ → Item → ℕ
 place i item = 26 * i + item_number item
 
@@ -79,10 +69,6 @@ pub record AreCollected (ids : List Id) (before cycle : List (List ℕ)) (lines 
   pub count : length lists ≡ 26 * length ids
   pub each : (i : ℕ) (id : Id) (item : Item) → slice_get ids i ≡ Some id → IsId id → IsItem item →
       held lists (place i item) ≡ sent_scan id lines item (repeated cycle) (entry_of before id) j
-
--- an id as one number
-abbrev pub key_of : Id → ℕ
-key_of id = (id.mag * 256 + id.page) * 16384 + id.sub
 
 -- the index answers every id
 abbrev pub IsIndex : List Id → PageIndex → Type 0

@@ -8,10 +8,8 @@
 --   Rising                  named starts rise strictly
 use Rattle.std.specs.Prelude.{ℕ, ◌+◌, ◌-◌, ◌<◌, ℤ, pos, ◌+ℤ◌, Bool, ◌&&◌, if◌then◌else◌, List, [], ◌∷◌, length, Option, Some, None, nat_lt, ◌==◌, slice_index_or, is_none, int_lt, int_le}
 use Rattle.ttx_witness.specs.Transmissions.{Run}
+pub use Rattle.ttx_certificate.specs.NamedStarts.{Rising}
 pub use Rattle.ttx_witness.specs.declared.confirming.Progress.{Progress}
-
-abbrev pub Rising : List ℕ → Type 0
-Rising starts = (i j : ℕ) → i < j → j < length starts → slice_index_or starts i 0 < slice_index_or starts j 0
 
 abbrev pub same_slot : ℤ → ℤ → Bool
 same_slot a b = int_le a b && int_le b a

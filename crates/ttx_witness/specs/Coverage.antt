@@ -1,43 +1,20 @@
--- What a certificate is, and when a cycle is accepted with it (profile). Slots are counted from 0, deadlines in fields.
+-- When a cycle is accepted with a certificate (profile). Slots are counted from 0, deadlines in fields.
 --
---   Certificate, IsCertificate      the numbers of a certificate and the starts that it names; their ranges
---   limit                   the deadline in slots
+--   Certificate, IsCertificate, limit       a certificate by the starts that it names; its ranges; the deadline in slots
 --   IsSureStart             a slot of the period from which a sure run of the item begins
 --   IsCovered               an item is seen in time from every tuning slot, by its named starts
 --   IsLeftOut               a blank item that isn't sent: each header of the page is followed in time by the next
 --   Accepts                 no slot is bad, each page is steady, and each item that a viewer sees is covered or left out
-use Rattle.std.specs.Prelude.{◌≡◌, ◌⊎◌, ℕ, ◌*◌, ◌<◌, ◌≤◌, ℤ, pos, ◌+ℤ◌, ◌<ℤ◌, ◌≤ℤ◌, true, List, [], length, slice_get, slice_index_or, Contains, Some}
+use Rattle.std.specs.Prelude.{◌≡◌, ◌⊎◌, ℕ, ◌<◌, ℤ, pos, ◌+ℤ◌, ◌<ℤ◌, ◌≤ℤ◌, true, List, [], length, slice_get, slice_index_or, Contains, Some}
 use Rattle.ttx_packet.specs.Slots.{is_clean}
 use Rattle.ttx_header.specs.Ids.{Id}
 use Rattle.ttx_page.specs.Packets.{packet_of}
 use Rattle.ttx_page.specs.Pages.{Page, IsBlank, needed}
 use Rattle.ttx_page.specs.declared.item.Item.{Item}
-use Rattle.ttx_page.specs.declared.class.Class.{Class}
 use Rattle.ttx_page.specs.declared.class.Class.TheVariants.{Clearing}
 use Rattle.ttx_page.specs.Streams.{repeated, turned, IsOwned, HasSureRun, EndsBelow, heads_page}
 use Rattle.ttx_page.specs.Steady.{Steady}
-use Rattle.ttx_witness.specs.Confirming.{Rising}
-
--- lines to a field, how often an item is sent for one right reception, the deadline in fields, the class of receivers, and the
--- starts that are named for each item of each page
-pub record Certificate : Type 0 where
-  pub lines : ℕ
-  pub repeat : ℕ
-  pub deadline : ℕ
-  pub class : Class
-  pub starts : Id → Item → List ℕ
-
-pub record IsCertificate (w : Certificate) : Type 0 where
-  pub some_lines : 1 ≤ w.lines
-  pub few_lines : w.lines ≤ 32
-  pub some_repeats : 1 ≤ w.repeat
-  pub few_repeats : w.repeat ≤ 8
-  pub some_fields : 1 ≤ w.deadline
-  pub few_fields : w.deadline ≤ 1000000
-  pub rising : (page : Id) (item : Item) → Rising (w.starts page item)
-
-abbrev pub limit : Certificate → ℕ
-limit w = w.deadline * w.lines
+pub use Rattle.ttx_certificate.specs.NamedStarts.{Certificate, IsCertificate, limit}
 
 abbrev pub IsSureStart : List (List ℕ) → Id → ℕ → ℕ → Item → ℕ → Type 0
 IsSureStart cycle page lines repeat item start = (start < length cycle) × HasSureRun (repeated cycle) page lines repeat item (pos start)

@@ -22,8 +22,8 @@ use Rattle.ttx_witness.specs.Searching.{Spread, width}
 use Rattle.ttx_witness.specs.Coverage.{Certificate, IsCertificate, IsSureStart, Accepts}
 use Rattle.ttx_witness.specs.CycleLaws.{found_starts, found_spread}
 use Rattle.ttx_witness.specs.Collected.{IsItem, place}
-use Rattle.ttx_witness.specs.Entries.{place_of}
-use Rattle.ttx_witness.specs.declared.entries.Entry.{Entry}
+use Rattle.ttx_certificate.specs.Entries.{place_of}
+use Rattle.ttx_certificate.specs.declared.entries.Entry.{Entry}
 
 abbrev pub is_due : Class → Page → Item → Bool
 is_due Any p item = needed p item

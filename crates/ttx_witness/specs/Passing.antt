@@ -19,7 +19,7 @@ use Rattle.ttx_page.specs.Views.{page_of}
 use Rattle.ttx_page.specs.Streams.{Stream, repeated}
 use Rattle.ttx_page.specs.declared.item.Item.{Item}
 use Rattle.ttx_cycle.specs.Files.{IsCycle}
-use Rattle.ttx_witness.specs.Certificates.{certificate_of}
+use Rattle.ttx_certificate.specs.Certificates.{certificate_of}
 use Rattle.ttx_witness.specs.Collected.{IsIndex, AreApart, IsItem, ids_of, owner_for, place}
 use Rattle.ttx_witness.specs.Coverage.{Certificate}
 use Rattle.ttx_witness.specs.Facts.{FirstBelow, AreFacts}

@@ -5,11 +5,10 @@ ghost use Rattle.std.specs.List.{AllPairs};
 ghost use Rattle.ttx_page.specs.Pages as definitions;
 ghost use Rattle.ttx_page.specs.Views.{page_of};
 ghost use Rattle.ttx_page.specs.declared.item.Item.{Item as ItemValue};
-ghost use Rattle.ttx_witness.specs.Certificates.{certificate_of};
+ghost use Rattle.ttx_certificate.specs.Certificates.{certificate_of};
 ghost use Rattle.ttx_witness.specs.Collected.{ids_of, IsItem, item_number, place};
 ghost use Rattle.ttx_witness.specs.Following.{Held, Holds, IsKept, FollowsPlace};
 
-use crate::certificates::Certificate;
 use crate::confirming::Progress;
 use crate::facts::Facts;
 use crate::following::{Followed, Kept};
@@ -18,11 +17,11 @@ use crate::other_subpages::none_told;
 use crate::page_index::index_of;
 use crate::page_items::{item_of, run_length};
 use crate::passing::Pass;
-use crate::search::NoMemory;
 use crate::strays::Strays;
 use crate::subcodes::subcodes_of;
 use crate::track::Track;
 use std::alloc::Global;
+use ttx_certificate::{Certificate, NoMemory};
 use ttx_page::{Item, Page, needed};
 
 // Nothing kept yet of an item whose runs have so many transmissions.
@@ -67,7 +66,7 @@ fn place_of<'a>(
     requires { number < 26 }
     ensures { IfOk result (λ o. (item : ItemValue) → IsItem item → item_number item ≡ number → FollowsPlace (certificate_of certificate.entry.now) (page_of page.entry.now) item [] o) }
 {
-    crate::certificate_laws::certificates_keep_their_rules();
+    ttx_certificate::certificate_laws::certificates_keep_their_rules();
     let item = item_of(number);
     let starts = needed_starts(page, certificate, &item);
     if starts.is_empty() {
@@ -123,7 +122,7 @@ impl<'a> Pass<'a> {
     ghost use Rattle.ttx_witness.specs.Collected.{ids_of};
     ghost use Rattle.std.specs.Prelude.{◌≡◌, map};
     ghost use Rattle.ttx_page.specs.Views.{page_of};
-    ghost use Rattle.ttx_witness.specs.Certificates.{certificate_of};
+    ghost use Rattle.ttx_certificate.specs.Certificates.{certificate_of};
     ghost use Rattle.ttx_witness.specs.Passing as passing;
     ghost use Rattle.ttx_witness.specs.Passing.{IsFirstPass, pages_of};
 

@@ -10,8 +10,8 @@ ghost use Rattle.ttx_witness.specs.Collected.{held, IsItem, IsIndex, AreApart, p
 
 use crate::owners::Owner;
 use crate::page_index::{PageIndex, place_of};
-use crate::search::NoMemory;
 use crate::transmissions::Transmission;
+use ttx_certificate::NoMemory;
 use ttx_header::read_header;
 use ttx_packet::{Slot, slot_of};
 

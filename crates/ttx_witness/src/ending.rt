@@ -4,15 +4,14 @@ ghost use Rattle.std.specs.Prelude.{◌≡◌, ◌<◌, ℕ, Option, Some, None,
 ghost use Rattle.ttx_witness.specs.OtherSubpages as tables;
 ghost use Rattle.ttx_witness.specs.Following.{Held, progress_kept, progress_in};
 
-use crate::certificates::Certificate;
 use crate::confirming::Progress;
 use crate::facts::{Facts, late_of};
 use crate::first_slots::{FirstSlots, least_fault};
 use crate::following::{Followed, Kept};
-use crate::limits::limit;
 use crate::reason::Reason;
 use crate::strays::Strays;
 use crate::subcodes::place;
+use ttx_certificate::{Certificate, limit};
 use ttx_header::PageId;
 use ttx_page::Page;
 

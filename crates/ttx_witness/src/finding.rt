@@ -13,21 +13,19 @@ ghost use Rattle.ttx_cycle.specs.Cycles.{slots_of};
 ghost use Rattle.ttx_witness.specs.Collected.{ids_of};
 ghost use Rattle.ttx_witness.specs.AllSent.{AreAllSent};
 ghost use Rattle.ttx_witness.specs.OtherSubpages.{AreOtherSubpages};
-ghost use Rattle.ttx_witness.specs.Entries.{places, rises};
-ghost use Rattle.ttx_witness.specs.EntryViews.{entries_of};
-ghost use Rattle.ttx_witness.specs.Certificates.{certificate_of};
+ghost use Rattle.ttx_certificate.specs.Entries.{places, rises};
+ghost use Rattle.ttx_certificate.specs.EntryViews.{entries_of};
+ghost use Rattle.ttx_certificate.specs.Certificates.{certificate_of};
 ghost use Rattle.ttx_witness.specs.Finding.{same_place, AreNamed, IsLeastField, IsDeadline, IsSentUnchanged, IsFoundFor};
 
 use crate::bad_slots::bad_slot;
-use crate::certificates::Certificate;
-use crate::entries::Entry;
 use crate::gathering::collect;
 use crate::naming::name_page;
 use crate::other_subpages::OtherSubpages;
 use crate::period::Collected;
-use crate::search::NoMemory;
 use crate::sent_faults::fault_of;
 use std::alloc::Global;
+use ttx_certificate::{Certificate, Entry, NoMemory};
 use ttx_cycle::Cycle;
 use ttx_page::{Class, Page};
 

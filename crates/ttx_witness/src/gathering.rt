@@ -11,11 +11,10 @@ ghost use Rattle.ttx_witness.specs.AllSent.{AreAllSent, AreSentAfter};
 use crate::collecting::add_slot;
 use crate::owners::{entry_owners, note_owner};
 use crate::page_index::{PageIndex, index_of};
-use crate::page_items::item_number;
 use crate::period::Collected;
-use crate::search::NoMemory;
 use crate::transmissions::Transmission;
 use std::alloc::Global;
+use ttx_certificate::{NoMemory, item_number};
 use ttx_cycle::Cycle;
 use ttx_page::{Item, Page};
 

@@ -9,12 +9,13 @@ ghost use Rattle.ttx_witness.specs.Tracks.{IsRecent, IsSearch, IsTrack, IsWithin
 
 use crate::confirming::Progress;
 use crate::recent::Recent;
-use crate::search::{self, NoMemory, Search};
+use crate::search::{self, Search};
 use crate::track::{self, Track};
 use crate::transmissions::Transmission;
 use arrayvec::ArrayVec;
 use circular_buffer::HeapCircularBuffer;
 use std::alloc::Global;
+use ttx_certificate::NoMemory;
 
 /// Room for a run of so many transmissions, none taken yet.
 pub fn nothing_sent(alloc: Global, repeat: usize) -> Result<Recent, NoMemory>

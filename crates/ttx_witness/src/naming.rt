@@ -8,16 +8,16 @@ ghost use Rattle.ttx_page.specs.declared.item.Item.TheVariants.{Head as TheHead}
 ghost use Rattle.ttx_cycle.specs.Cycles.{slots_of};
 ghost use Rattle.ttx_witness.specs.Collected.{ids_of};
 ghost use Rattle.ttx_witness.specs.AllSent.{AreAllSent};
-ghost use Rattle.ttx_witness.specs.Entries.{are_slots, is_page_id, rises};
+ghost use Rattle.ttx_certificate.specs.Entries.{are_slots, is_page_id, rises};
 ghost use Rattle.ttx_witness.specs.Searching.{above_zero, width};
 ghost use Rattle.ttx_witness.specs.Finding.{is_due, starts_of, spread_at, limit_of, least_limit, starts_for, limit_for, wider, AddsEntry, AreNamed};
 
-use crate::entries::Entry;
 use crate::items::search_item;
 use crate::page_items::{item_of, run_length};
 use crate::period::Collected;
-use crate::search::{NoMemory, Search, Spread};
+use crate::search::{Search, Spread};
 use std::alloc::Global;
+use ttx_certificate::{Entry, NoMemory};
 use ttx_cycle::Cycle;
 use ttx_header::PageId;
 use ttx_page::{Class, Item, Page, is_blank, needed};

@@ -8,9 +8,9 @@ ghost use Rattle.ttx_page.specs.Views.{page_of};
 ghost use Rattle.ttx_witness.specs.OtherSubpages.{place, first_of, is_stray, AreAllSubcodes, AreStrays, AreOtherSubpages};
 
 use crate::packets::header_in;
-use crate::search::NoMemory;
 use crate::subcodes::{NUMBERS, Subcodes, is_other, place, subcodes_of};
 use std::alloc::Global;
+use ttx_certificate::NoMemory;
 use ttx_cycle::Cycle;
 use ttx_header::PageId;
 use ttx_page::Page;

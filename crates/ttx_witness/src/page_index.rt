@@ -6,9 +6,9 @@ ghost use Rattle.std.specs.HashMap.{get};
 ghost use Rattle.ttx_header.specs.Ids.{Id};
 ghost use Rattle.ttx_witness.specs.Collected.{ids_of, key_of, Finds, IsIndex};
 
-use crate::search::NoMemory;
 use std::alloc::Global;
 use std::collections::HashMap;
+use ttx_certificate::NoMemory;
 use ttx_header::PageId;
 use ttx_page::Page;
 

@@ -18,11 +18,11 @@ use crate::naming::limit_seen;
 use crate::other_subpages::OtherSubpages;
 use crate::page_items::item_of;
 use crate::period::Collected;
-use crate::search::NoMemory;
 use crate::sent_faults::fault_of;
 use crate::transmissions::Transmission;
 use crate::wait::{Losses, PageWait, Wait};
 use std::alloc::Global;
+use ttx_certificate::NoMemory;
 use ttx_cycle::Cycle;
 use ttx_page::{Class, Item, Page, needed};
 

@@ -7,11 +7,9 @@ ghost use Rattle.ttx_packet.specs.Slots.{IsSlot};
 ghost use Rattle.ttx_witness.specs.Passing.{AreReady, AreSeen, AreKept};
 ghost use Rattle.ttx_witness.specs.Sent.{PageOwner};
 
-use crate::certificates::Certificate;
 use crate::ending::EndedPass;
 use crate::facts::{Facts, note_sent};
 use crate::following::{Followed, finish_all, take_sent};
-use crate::limits::limit;
 use crate::moving::all_moved;
 use crate::other_subpages::first_of;
 use crate::owners::{Owner, note_owner};
@@ -20,6 +18,7 @@ use crate::sending::sent_in_slot;
 use crate::steady::are_steady;
 use crate::strays::{Strays, note_stray};
 use thiserror::Error;
+use ttx_certificate::{Certificate, limit};
 use ttx_packet::clean;
 use ttx_page::Page;
 
@@ -67,7 +66,7 @@ fn take_slot(pass: &mut Pass, slot: &[u8; 42])
     ensures certificate { pass.new.certificate.now ≡ pass.old.certificate.now }
 {
     ttx_page::laws::pages_keep_their_rules();
-    crate::certificate_laws::certificates_keep_their_rules();
+    ttx_certificate::certificate_laws::certificates_keep_their_rules();
     let (j, limit, lines) = (
         pass.count,
         limit(pass.certificate),
@@ -148,7 +147,7 @@ impl<'a> SecondPass<'a> {
         ensures certificate { IfSome result (λ ended. ended_certificate ended ≡ certificate_in self.entry) }
     {
         ttx_page::laws::pages_keep_their_rules();
-        crate::certificate_laws::certificates_keep_their_rules();
+        ttx_certificate::certificate_laws::certificates_keep_their_rules();
         crate::judging_laws::transmissions_are_listed();
         let (pages, certificate) = (self.pass.pages, self.pass.certificate);
         let period = self.pass.count;

@@ -8,10 +8,7 @@ ghost use Rattle.ttx_witness.specs.Tracks.{listed, IsSearch, IsWithin};
 
 use crate::recent::{Recent, push, push_further};
 use crate::transmissions::{Run, Transmission};
-
-/// Memory was refused.
-#[derive(Clone, Copy, PartialEq, Eq, Debug)]
-pub struct NoMemory;
+use ttx_certificate::NoMemory;
 
 /// What is kept of the sure runs: the end of the first, the owner of the last, and the greatest distance in
 /// slots from an owner to the end of the next run.

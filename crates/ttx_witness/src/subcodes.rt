@@ -5,8 +5,8 @@ ghost use Rattle.ttx_page.specs.Views.{page_of};
 ghost use Rattle.ttx_witness.specs.OtherSubpages.{place, with_subcode, is_other, AreAllSubcodes};
 ghost use Rattle.ttx_witness.specs.declared.subcodes.Subcodes.TheVariants.{Unlisted};
 
-use crate::search::NoMemory;
 use std::alloc::Global;
+use ttx_certificate::NoMemory;
 use ttx_header::PageId;
 use ttx_page::Page;
 

@@ -3,7 +3,7 @@ use Rattle.std.proofs.lemmas.Bool.{cases_lt}
 use Rattle.std.proofs.lemmas.List.{length-map}
 use Rattle.std.proofs.lemmas.Option.{slice_get_within}
 use Rattle.ttx_page.specs.Views.{page_of}
-use Rattle.ttx_witness.specs.Certificates.{certificate_of}
+use Rattle.ttx_certificate.specs.Certificates.{certificate_of}
 use Rattle.ttx_witness.specs.Collected.{item_number, place}
 use Rattle.ttx_witness.proofs.Telling.{placed, page_here}
 use Rattle.ttx_witness.proofs.Whole.{place_below}

@@ -2,7 +2,7 @@ use Rattle.std.proofs.Common.{◌≡◌, ◌+◌, ◌*◌, ◌<◌, ℕ, [], len
 use Rattle.ttx_page.specs.Pages.{Page}
 use Rattle.ttx_page.specs.Views.{page_of}
 use Rattle.ttx_page.specs.declared.item.Item.{Item}
-use Rattle.ttx_witness.specs.Certificates.{certificate_of}
+use Rattle.ttx_certificate.specs.Certificates.{certificate_of}
 use Rattle.ttx_witness.specs.Collected.{IsItem, place}
 use Rattle.ttx_witness.specs.Following.{Held, Holds}
 use Rattle.ttx_witness.specs.Following.{FollowsPlace}

@@ -2,7 +2,7 @@ use Rattle.std.proofs.Common.{◌≡◌, ◌-◌, ◌≤◌, ℕ, suc, Bool, tru
 use Rattle.ttx_page.specs.Pages.{needed}
 use Rattle.ttx_page.specs.Streams.{run_length}
 use Rattle.ttx_page.specs.Views.{page_of}
-use Rattle.ttx_witness.specs.Certificates.{certificate_of}
+use Rattle.ttx_certificate.specs.Certificates.{certificate_of}
 use Rattle.ttx_witness.specs.Coverage.{limit}
 use Rattle.ttx_witness.specs.Following.{IsKept}
 use Rattle.ttx_witness.proofs.DueItems.{item_one}

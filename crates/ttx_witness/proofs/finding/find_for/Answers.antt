@@ -2,8 +2,8 @@ use Rattle.std.proofs.Common.{◌≡◌, ◌≤◌, ◌*◌, true, map, length, 
 use Rattle.std.proofs.lemmas.List.{length-map}
 use Rattle.ttx_cycle.specs.Cycles.{slots_of, slots_of-IsCycle}
 use Rattle.ttx_page.specs.Views.{page_of}
-use Rattle.ttx_witness.specs.Entries.{are_numbers, fields_at, certificate_at}
-use Rattle.ttx_witness.specs.EntryViews.{entries_of}
+use Rattle.ttx_certificate.specs.Entries.{are_numbers, fields_at, certificate_at}
+use Rattle.ttx_certificate.specs.EntryViews.{entries_of}
 use Rattle.ttx_witness.specs.Finding.{AreNamed, IsFoundFor}
 use Rattle.ttx_witness.proofs.DueItems.{pages_apart}
 use Rattle.ttx_witness.proofs.Finds.{pages_tested, is_found, named_sorted, numbers_found}

@@ -1,6 +1,6 @@
 use Rattle.std.proofs.Common.{rules}
 use Rattle.std.proofs.lemmas.List.Sorted.{IsNonDecreasingBy-from_sort_by_key}
-use Rattle.ttx_witness.proofs.EntryOrder.{place_in}
+use Rattle.ttx_certificate.specs.EntryViews.{place_in}
 use Rattle.ttx_witness.proofs.Finds.{pairs_sorted, places_rise}
 use Rattle.ttx_witness.proofs.finding.sort_entries.Goals as goal
 

@@ -2,7 +2,7 @@ use Rattle.std.proofs.Common.{rules, ◌≡◌, ◌-◌, ◌∙◌, length, None
 use Rattle.std.proofs.lemmas.Result.{IfOk-weaker}
 use Rattle.ttx_witness.specs.Transmissions.{runs}
 use Rattle.ttx_witness.specs.Searching.{spread_of}
-use Rattle.ttx_witness.specs.Entries.{are_slots, rises}
+use Rattle.ttx_certificate.specs.Entries.{are_slots, rises}
 use Rattle.ttx_cycle.specs.Cycles.{slots_of, slots_of-IsCycle}
 use Rattle.ttx_witness.proofs.Widths.{limit_most, run_most}
 use Rattle.ttx_witness.proofs.FoundStarts.{starts_below, starts_rise}

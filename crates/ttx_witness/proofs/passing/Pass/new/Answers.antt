@@ -3,7 +3,7 @@ use Rattle.std.proofs.lemmas.List.{length-map}
 use Rattle.std.proofs.lemmas.Option.{slice_get_within}
 use Rattle.ttx_page.specs.Views.{page_of}
 use Rattle.ttx_page.specs.Streams.{repeated}
-use Rattle.ttx_witness.specs.Certificates.{certificate_of}
+use Rattle.ttx_certificate.specs.Certificates.{certificate_of}
 use Rattle.ttx_witness.specs.Collected.{ids_of, seen_by, IsForeign}
 use Rattle.ttx_witness.specs.OtherSubpages.{place, IsStrayAt}
 use Rattle.ttx_witness.specs.Sent.{owner_scan, sent_scan}

@@ -1,0 +1,8 @@
+pub mod Basics
+mod EntryOrder
+mod CertificateRules
+mod TextParts
+pub mod LineShapes
+mod ReadEntries
+pub mod AcceptedTexts
+mod WrittenTexts

@@ -1,0 +1,10 @@
+pub mod ItemPlaces
+pub mod NamedStarts
+pub mod Entries
+pub mod EntryViews
+pub mod Certificates
+pub mod CertificateTexts
+pub mod CertificateReading
+pub mod CertificateLaws
+pub mod WrittenEntries
+pub mod ReadingAnswers

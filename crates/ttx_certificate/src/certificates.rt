@@ -1,0 +1,142 @@
+//! Certificates.
+
+ghost use Rattle.std.specs.Prelude.{◌≡◌, true};
+ghost use Rattle.ttx_certificate.specs.Entries.{are_numbers, rises, places};
+ghost use Rattle.ttx_certificate.specs.EntryViews.{entries_of};
+
+use crate::entries::{Entry, is_above, place};
+use ttx_header::PageId;
+use ttx_page::{Class, Item};
+
+/// For whom and in what time a cycle is to be received, and the starts that prove it: lines to a field (1 to 32), how often
+/// an item is sent for one right reception (1 to 8), the deadline in fields (1 to 1,000,000), the entries, strictly rising
+/// by magazine, page number, subcode and item (row 0, rows, links), and the class of receivers.
+#[derive(Drop)]
+pub struct Certificate {
+    lines: u8,
+    repeat: u8,
+    deadline: u32,
+    entries: Vec<Entry>,
+    class: Class,
+    ghost numbers: { are_numbers lines repeat deadline ≡ true },
+    ghost rising: { rises (places (entries_of entries.items)) ≡ true },
+}
+
+// Whether the numbers are in their ranges.
+fn are_numbers(lines: u8, repeat: u8, deadline: u32) -> bool
+    ensures { result ≡ are_numbers lines repeat deadline }
+{
+    1 <= lines
+        && lines <= 32
+        && 1 <= repeat
+        && repeat <= 8
+        && 1 <= deadline
+        && deadline <= 1_000_000
+}
+
+// Whether each entry stands after the one before it.
+fn are_in_order(entries: &[Entry]) -> bool
+    ensures { result ≡ rises (places (entries_of entries.now)) }
+{
+    let mut low = None;
+    for entry in entries {
+        let place = entry.place();
+        if !is_above(low, place) {
+            return false;
+        }
+        low = Some(place);
+    }
+    true
+}
+
+impl Certificate {
+    ghost use Rattle.std.specs.Prelude.{is_some, IfSome, ◌&&◌};
+    ghost use Rattle.ttx_certificate.specs.Entries.{fields_at, starts_in};
+    ghost use Rattle.ttx_certificate.specs.Certificates.{fields_of};
+
+    /// The certificate of these fields, which keep the type's rules.
+    pub fn of(
+        lines: u8,
+        repeat: u8,
+        deadline: u32,
+        entries: Vec<Entry>,
+        class: Class,
+    ) -> Certificate
+        requires numbers { are_numbers lines repeat deadline ≡ true }
+        requires rising { rises (places (entries_of entries.items)) ≡ true }
+        ensures { fields_of result ≡ fields_at lines repeat deadline (entries_of entries.items) class }
+    {
+        Certificate {
+            lines,
+            repeat,
+            deadline,
+            entries,
+            class,
+        }
+    }
+
+    /// The certificate of these fields. None where one of the type's rules fails.
+    pub fn new(
+        lines: u8,
+        repeat: u8,
+        deadline: u32,
+        entries: Vec<Entry>,
+        class: Class,
+    ) -> Option<Certificate>
+        ensures some { is_some result ≡ (are_numbers lines repeat deadline && rises (places (entries_of entries.items))) }
+        ensures fields { IfSome result (λ w. fields_of w ≡ fields_at lines repeat deadline (entries_of entries.items) class) }
+    {
+        if are_numbers(lines, repeat, deadline) && are_in_order(entries.as_slice()) {
+            Some(Certificate::of(lines, repeat, deadline, entries, class))
+        } else {
+            None
+        }
+    }
+
+    /// The lines to a field, 1 to 32.
+    pub fn lines(&self) -> u8
+        ensures { result ≡ (fields_of self.now).lines }
+    {
+        self.lines
+    }
+
+    /// How often an item is sent for one right reception, 1 to 8.
+    pub fn repeat(&self) -> u8
+        ensures { result ≡ (fields_of self.now).repeat }
+    {
+        self.repeat
+    }
+
+    /// The deadline in fields, 1 to 1,000,000.
+    pub fn deadline(&self) -> u32
+        ensures { result ≡ (fields_of self.now).deadline }
+    {
+        self.deadline
+    }
+
+    /// The entries in their order.
+    pub fn entries(&self) -> &[Entry]
+        ensures { entries_of result.now ≡ (fields_of self.now).entries }
+    {
+        self.entries.as_slice()
+    }
+
+    /// The class of receivers.
+    pub fn class(&self) -> Class
+        ensures { result ≡ (fields_of self.now).class }
+    {
+        self.class
+    }
+
+    /// The starts that are named for an item of a page; none where there is no entry for it.
+    pub fn starts(&self, page: PageId, item: Item) -> &[u32]
+        ensures { result.now ≡ starts_in (fields_of self.now).entries page item }
+    {
+        let place = place(page, item);
+        let entries = self.entries.as_slice();
+        match entries.binary_search_by_key(&place, |entry| entry.place()) {
+            Ok(index) => entries[index].starts(),
+            Err(_) => &[],
+        }
+    }
+}

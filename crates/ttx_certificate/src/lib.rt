@@ -1,0 +1,24 @@
+//! Certificates: the starts that are named for the items of pages, and their texts.
+#![tactic(auto)]
+
+mod certificate_faults;
+pub mod certificate_laws;
+mod certificates;
+mod entries;
+mod item_numbers;
+mod limits;
+mod no_memory;
+mod reading;
+mod shapes;
+mod words;
+mod writing;
+mod written;
+
+pub use certificate_faults::CertFault;
+pub use certificates::Certificate;
+pub use entries::Entry;
+pub use item_numbers::item_number;
+pub use limits::limit;
+pub use no_memory::NoMemory;
+pub use reading::read_certificate;
+pub use writing::{digit, push_id, push_item, push_numbers, write_certificate};

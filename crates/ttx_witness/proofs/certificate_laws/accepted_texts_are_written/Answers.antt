@@ -1,5 +1,0 @@
-use Rattle.ttx_witness.proofs.AcceptedTexts as L
-use Rattle.ttx_witness.proofs.certificate_laws.accepted_texts_are_written.Goals as goal
-
-pub returns : goal.returns
-returns c = L.accepted_is_written
