@@ -175,7 +175,7 @@ def main():
             for number in range(services):
                 pages = make_pages(rng)
                 lines = write_service(rng, pages, folder / f"{number}.toml")
-                comparison.compare(rng, str(number), pages, lines, options)
+                comparison.compare(random.Random(number), str(number), pages, lines, options)
             comparison.report(" ".join(["plan", *options]))
             wrong += comparison.wrong
     print(f"{wrong} wrong")

@@ -49,6 +49,12 @@ show head -n 10 broadcast.cert
 echo
 echo "The verdict on cycle, service and certificate: whoever tunes to a page, at whatever slot, sees it in so many fields."
 run certify broadcast.t42 broadcast.toml broadcast.cert
+echo "Most software decoders show a page only where another page number ends it in its magazine; not every page of this cycle is."
+run certify broadcast.t42 broadcast.toml broadcast.cert --late
+echo "Planned for them, too: a time-filling header stands between two headers of a magazine that have one page number."
+run plan broadcast.toml late.t42 --late
+run find late.t42 broadcast.toml late.cert
+run certify late.t42 broadcast.toml late.cert --late
 echo "What a receiver shows that was set to the index at slot 40, and to the weather."
 look show broadcast.t42 100 --lines 12 --start 40
 look show broadcast.t42 130 --lines 12 --start 40

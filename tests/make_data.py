@@ -121,9 +121,9 @@ text = "TEST"
 INFO = bytes.fromhex("15ea151515eaeaea5e12348505711123415600000000" "5445d354") + SPACES[:16]
 
 
-def suppressed(mag, c11):
+def suppressed(mag, c11, page=0):
     """A page's block without rows: the header with C7 and C10, and no links."""
-    return header(mag, 0, 0, 1 << 3 | 1 << 6, c11), links(mag)
+    return header(mag, page, 0, 1 << 3 | 1 << 6, c11), links(mag)
 
 
 def block(mag):
@@ -136,12 +136,17 @@ def planned():
     one, one_links = suppressed(1, 1)
     first, first_links = suppressed(1, 0)
     second, second_links = suppressed(2, 0)
+    third, third_links = suppressed(2, 0, 1)
     return {
         "planned-info.t42": [INFO, *base(), EMPTY],
         "planned-twice.t42": [*block(1), *block(2), *block(1), time_filling(1), time_filling(2), EMPTY],
         "planned-suppressed.t42": [one, EMPTY, EMPTY, one_links, time_filling(1), EMPTY],
         "planned-parallel.t42": [
             first, second, EMPTY, first_links, second_links, time_filling(1, 0), time_filling(2, 0), EMPTY,
+        ],
+        "planned-late.t42": [
+            first, second, EMPTY, first_links, second_links, time_filling(1, 0), third, first,
+            EMPTY, third_links, first_links, time_filling(2, 0), time_filling(1, 0), EMPTY,
         ],
         "planned-clearing.t42": [header(1, 0), EMPTY, EMPTY, time_filling(1)],
     }
@@ -156,6 +161,7 @@ def services():
         "planned-info.toml": serial + TEST_INFO + page.format(100),
         "planned-twice.toml": serial + page.format(100) + "often = 2\n" + page.format(200),
         "planned-suppressed.toml": serial + quiet.format(100),
+        "planned-late.toml": "lines = 2\nserial = false\n" + quiet.format(100) + "often = 2\n" + quiet.format(200) + quiet.format(201),
         "planned-parallel.toml": "lines = 2\nserial = false\n" + quiet.format(100) + quiet.format(200),
         "no-serial.toml": "lines = 2\n",
         "kind-of-page.toml": serial + "page = 1\n",

@@ -9,6 +9,7 @@ use ttx_certify::{Verdict, certify_files, certify_passes};
 use ttx_cycle::Counted;
 use ttx_late::{LateVerdict, certify_files_late};
 use ttx_page::{Class, PageMemory, Selection};
+use ttx_plan::Receivers;
 use ttx_proof::{SpliceVerdict, splice_files};
 use ttx_receiver::{Careful, Cleared, Eager, Receiver};
 use ttx_send::Moment;
@@ -29,11 +30,11 @@ fn inspect(rt: &HostRuntime, input: Input) -> Result<u8, ToolFault> {
     Ok(0)
 }
 
-fn plan(rt: &HostRuntime, input: Input, class: Class, out: File) -> Result<u8, ToolFault> {
+fn plan(rt: &HostRuntime, input: Input, receivers: Receivers, out: File) -> Result<u8, ToolFault> {
     let mut reader = buffered(rt, input)?;
     let mut file = Counted::new(out);
     let mut writer = Counted::new(io::writer(rt));
-    commands::plan(rt.alloc(), &mut reader, class, &mut file, &mut writer)
+    commands::plan(rt.alloc(), &mut reader, receivers, &mut file, &mut writer)
 }
 
 // Receives a page: shows it as it is asked for, or writes what is held word by word.
@@ -261,11 +262,11 @@ fn open_plan(
     rt: &HostRuntime,
     service: &str,
     out: &str,
-    class: Class,
+    receivers: Receivers,
 ) -> io::Result<Result<u8, ToolFault>> {
     let service = open_input(rt, service)?;
     match create_out(rt, &[&service], out)? {
-        Some(file) => Ok(plan(rt, service, class, file)),
+        Some(file) => Ok(plan(rt, service, receivers, file)),
         None => Ok(Err(ToolFault::Same)),
     }
 }
@@ -503,7 +504,14 @@ pub fn run_order(rt: &HostRuntime, order: &Order<'_>) -> io::Result<Result<u8, T
             service,
             out,
             class,
-        } => open_plan(rt, service, out, *class),
+            late,
+        } => {
+            let receivers = Receivers {
+                class: *class,
+                late: *late,
+            };
+            open_plan(rt, service, out, receivers)
+        }
         Order::Find {
             cycle,
             service,

@@ -59,11 +59,11 @@ flag_rule id = record (new_rule id) { long = Some id; action = Some SetTrue }
 abbrev pub inspect_app : App
 inspect_app = with_rule (new_app (codes "inspect")) (operand_rule (codes "file"))
 
--- plan SERVICE OUT [--class any|clearing]
+-- plan SERVICE OUT [--class any|clearing] [--late]
 abbrev pub plan_app : NameList → App
 plan_app classes =
-    with_rule (with_rule (with_rule (new_app (codes "plan")) (operand_rule (codes "service"))) (operand_rule (codes "out")))
-    (name_rule (codes "class") classes)
+    with_rule (with_rule (with_rule (with_rule (new_app (codes "plan")) (operand_rule (codes "service"))) (operand_rule (codes "out")))
+    (name_rule (codes "class") classes)) (flag_rule (codes "late"))
 
 -- find CYCLE SERVICE OUT [--repeat K] [--class any|clearing]
 abbrev pub find_app : NameList → App

@@ -48,7 +48,7 @@ look_view look = record { page = look.page.now; form = look.form; reveal = look.
 -- an order, its texts as bytes
 pub data OrderView : Type 0 where
   inspect_order : (file : Text) → OrderView
-  plan_order : (service out : Text) → (class : Class) → OrderView
+  plan_order : (service out : Text) → (class : Class) → (late : Bool) → OrderView
   find_order : (cycle service out : Text) → (repeat : ℕ) → (class : Class) → OrderView
   certify_order : (cycle service certificate : Text) → (late twice : Bool) → OrderView
   refute_order : (cycle service certificate : Text) → (save : Option Text) → OrderView
@@ -62,7 +62,7 @@ pub data OrderView : Type 0 where
 
 abbrev pub order_view : Order → OrderView
 order_view (Inspect file) = inspect_order file.now
-order_view (Plan service out class) = plan_order service.now out.now class
+order_view (Plan service out class late) = plan_order service.now out.now class late
 order_view (Find cycle service out repeat class) = find_order cycle.now service.now out.now repeat class
 order_view (Certify cycle service certificate late twice) = certify_order cycle.now service.now certificate.now late twice
 order_view (Refute cycle service certificate save) = refute_order cycle.now service.now certificate.now (option_map (λ s. s.now) save)
@@ -155,7 +155,8 @@ abbrev pub inspect_at : List Row → OrderView
 inspect_at rows = inspect_order (text_at (codes "file") rows)
 
 abbrev pub plan_at : List Row → OrderView
-plan_at rows = plan_order (text_at (codes "service") rows) (text_at (codes "out") rows) (class_named (text_at (codes "class") rows))
+plan_at rows =
+    plan_order (text_at (codes "service") rows) (text_at (codes "out") rows) (class_named (text_at (codes "class") rows)) (is_set (codes "late") rows)
 
 abbrev pub find_at : List Row → OrderView
 find_at rows =
@@ -211,7 +212,7 @@ send_at rows = send_by (moment_of (text_at (codes "at") rows)) rows
 -- the texts that name inputs
 abbrev pub inputs : OrderView → List Text
 inputs (inspect_order file) = file ∷ []
-inputs (plan_order service out class) = service ∷ []
+inputs (plan_order service out class late) = service ∷ []
 inputs (find_order cycle service out repeat class) = cycle ∷ service ∷ []
 inputs (certify_order cycle service certificate late twice) = cycle ∷ service ∷ certificate ∷ (if twice then cycle ∷ [] else [])
 inputs (refute_order cycle service certificate save) = cycle ∷ service ∷ certificate ∷ []

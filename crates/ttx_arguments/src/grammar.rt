@@ -134,14 +134,15 @@ fn inspect<'a>(alloc: Global) -> Building<'a>
     with_operand(alloc, inspect, "file", "FILE", help::CYCLE_OPERAND)
 }
 
-// `plan SERVICE OUT [--class any|clearing]`
+// `plan SERVICE OUT [--class any|clearing] [--late]`
 fn plan<'a>(alloc: Global, classes: &'a [&'a str]) -> Building<'a>
     ensures { Builds result (plan_app classes.entry) }
 {
     let plan = command(alloc, "plan", help::PLAN, help::PLAN_MORE);
     let plan = with_operand(alloc, plan, "service", "SERVICE", help::SERVICE_OPERAND);
     let plan = with_operand(alloc, plan, "out", "OUT", help::PLANNED_OPERAND);
-    with_class(alloc, plan, classes)
+    let plan = with_class(alloc, plan, classes);
+    with_flag(alloc, plan, "late", help::PLANNED_LATE_OPTION)
 }
 
 // `find CYCLE SERVICE OUT [--repeat K] [--class any|clearing]`

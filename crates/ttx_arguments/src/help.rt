@@ -40,12 +40,16 @@ pub(crate) const PLAN: &str = "Lays a service out in a cycle of slots, and write
 pub(crate) const PLAN_MORE: &str =
     "Reads SERVICE to its end. Writes the cycle to OUT, and then to standard output: planned N slots
 With --class clearing rows and links that are blank aren't sent.
+With --late a time-filling header of the magazine stands between two headers of one page number, and receivers that
+show a page only where another page number ends it show each page: certify --late says yes to what find finds.
 
 Statuses:
   0  done
   2  error: .. (the words), refused: service NUMBER NAME [KEY] page N, refused: service too-long,
      refused: plan 1 no-pages, refused: plan 2 too-long
   3  fault: file, fault: read, fault: write, fault: memory";
+
+pub(crate) const PLANNED_LATE_OPTION: &str = "Plan for receivers that may show a page late, too";
 
 pub(crate) const FIND: &str =
     "Finds the certificate of least deadline for a cycle and its service, and writes it to OUT";

@@ -64,6 +64,8 @@ pub enum Order<'a> {
         service: &'a str,
         out: &'a str,
         class: Class,
+        /// For receivers that may show pages late, too.
+        late: bool,
     },
     /// Find a certificate of a cycle.
     Find {

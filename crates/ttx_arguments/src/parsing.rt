@@ -175,6 +175,7 @@ fn plan_of<'a>(values: &ArgMatches<'a>) -> Order<'a>
         service: text_of(values, "service"),
         out: text_of(values, "out"),
         class: class_of(values),
+        late: is_set(values, "late"),
     }
 }
 

@@ -19,6 +19,8 @@ mod display;
 #[cfg(test)]
 mod headers;
 #[cfg(test)]
+mod late_plans;
+#[cfg(test)]
 mod packet_files;
 #[cfg(test)]
 mod packets;

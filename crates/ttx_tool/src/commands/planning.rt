@@ -1,6 +1,6 @@
 //! `plan`: the cycle that carries a service.
 
-ghost use Rattle.std.specs.Prelude.{◌≡◌, false, IfSome, IfOk, string_bytes};
+ghost use Rattle.std.specs.Prelude.{◌≡◌, IfSome, IfOk, string_bytes};
 ghost use Rattle.ttx_cycle.specs.Counters.{inner_of, faults_of};
 ghost use Rattle.ttx_cycle.specs.Cycles.{slots_of};
 ghost use Rattle.ttx_cycle.specs.Files.{file_of};
@@ -12,8 +12,7 @@ use crate::faults::ToolFault;
 use std::alloc::{AllocError, Global};
 use std::io::{Read, Write};
 use ttx_cycle::{Counted, Cycle, write_bytes, write_cycle};
-use ttx_page::Class;
-use ttx_plan::plan_for;
+use ttx_plan::{Receivers, plan_with};
 use ttx_source::Service;
 
 // Reads the text of a service.
@@ -34,16 +33,16 @@ pub(super) fn read_definition<R: Read>(
 fn plan_text<R: Read>(
     alloc: Global,
     reader: &mut Counted<R>,
-    class: Class,
+    receivers: Receivers,
 ) -> Result<Cycle, ToolFault>
-    ensures bytes { IfSome (R.remaining (inner_of reader.old)) (λ bytes. PlansText bytes false class result) }
+    ensures bytes { IfSome (R.remaining (inner_of reader.old)) (λ bytes. PlansText bytes receivers.late receivers.class result) }
     ensures faults { CountsDefinition result (faults_of reader.old) (faults_of reader.new) }
 {
     let service = match read_definition(alloc, reader) {
         Ok(service) => service,
         Err(fault) => return Err(fault),
     };
-    match plan_for(alloc, &service, class) {
+    match plan_with(alloc, &service, receivers) {
         Ok(cycle) => Ok(cycle),
         Err(fault) => Err(ToolFault::Plan(fault)),
     }
@@ -72,7 +71,7 @@ fn write_both<O: Write, W: Write>(
     })
 }
 
-/// Reads the text of a service, and writes the packet file of a cycle that carries it to receivers of the class; then the
+/// Reads the text of a service, and writes the packet file of a cycle that carries it to these receivers; then the
 /// number of its slots to the other writer.
 ///
 /// Nothing is written before the whole plan is made. At `Write` exactly the first `written` bytes of both went out, the
@@ -80,16 +79,16 @@ fn write_both<O: Write, W: Write>(
 pub fn plan<R: Read, O: Write, W: Write>(
     alloc: Global,
     reader: &mut Counted<R>,
-    class: Class,
+    receivers: Receivers,
     file: &mut Counted<O>,
     writer: &mut Counted<W>,
 ) -> Result<u8, ToolFault>
-    ensures bytes { IfSome (R.remaining (inner_of reader.old)) (λ bytes. Plans bytes false class
+    ensures bytes { IfSome (R.remaining (inner_of reader.old)) (λ bytes. Plans bytes receivers.late receivers.class
         (O.contents (inner_of file.old)) (O.contents (inner_of file.new)) (W.contents (inner_of writer.old)) (W.contents (inner_of writer.new)) result) }
     ensures faults { CountsPlan result (faults_of reader.old) (faults_of reader.new) (faults_of file.old) (faults_of file.new) (faults_of writer.old) (faults_of writer.new) }
     ensures untouched { IsUntouched is_write result file.old file.new × IsUntouched is_write result writer.old writer.new }
 {
-    let cycle = plan_text(alloc, reader, class)?;
+    let cycle = plan_text(alloc, reader, receivers)?;
     let line = planned_line(alloc, cycle.slots().len()).map_err(|_| ToolFault::NoMemory)?;
     write_both(file, &cycle, writer, line.as_bytes())?;
     Ok(0)

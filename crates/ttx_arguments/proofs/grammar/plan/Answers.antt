@@ -6,4 +6,5 @@ returns c =
     let named = c.command-plan.ensures _ (search rules) in
     let from = c.with_operand-plan.ensures _ _ (search rules) named in
     let to = c.with_operand-plan-2.ensures _ _ (search rules) from in
-    c.with_class.ensures _ to
+    let class = c.with_class-plan.ensures _ to in
+    c.with_flag.ensures _ _ (search rules) class
