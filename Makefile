@@ -28,6 +28,7 @@ test:
 	python3 tests/spliced.py $(BUILT)
 	sh tests/turns.sh $(BUILT)
 	python3 tests/sent.py $(BUILT)
+	python3 tests/pages.py $(BUILT)
 	python3 tests/refute.py $(BUILT) 300
 
 demo: ttx

@@ -96,4 +96,5 @@ def main():
     print(f"sent: {count} sendings, 0 failed")
 
 
-main()
+if __name__ == "__main__":
+    main()

@@ -9,6 +9,7 @@ use ttx_certify::{Verdict, certify_files, certify_passes};
 use ttx_cycle::Counted;
 use ttx_late::{LateVerdict, certify_files_late};
 use ttx_page::{Class, PageMemory, Selection};
+use ttx_pages::PagesFault;
 use ttx_plan::Receivers;
 use ttx_proof::{SpliceVerdict, splice_files};
 use ttx_receiver::{Careful, Cleared, Eager, Receiver};
@@ -249,6 +250,40 @@ fn send(rt: &HostRuntime, input: Input, sending: &Sending) -> Result<u8, ToolFau
         &mut writer,
     )?;
     Ok(0)
+}
+
+// The fault of the same name.
+fn from_pages(fault: PagesFault) -> ToolFault {
+    match fault {
+        PagesFault::Cycle(fault) => ToolFault::Cycle(fault),
+        PagesFault::Write { written } => ToolFault::Write { written },
+        PagesFault::NoMemory => ToolFault::NoMemory,
+    }
+}
+
+// Tells which pages a cycle has.
+fn pages(rt: &HostRuntime, input: Input) -> Result<u8, ToolFault> {
+    let mut reader = buffered(rt, input)?;
+    let mut writer = Counted::new(io::writer(rt));
+    ttx_pages::pages(rt.alloc(), &mut reader, &mut writer).map_err(from_pages)?;
+    Ok(0)
+}
+
+// Writes all pages of a cycle to a file.
+fn book(rt: &HostRuntime, input: Input, out: File) -> Result<u8, ToolFault> {
+    let mut reader = buffered(rt, input)?;
+    let mut file = Counted::new(out);
+    ttx_book::book(rt.alloc(), &mut reader, &mut file).map_err(from_pages)?;
+    Ok(0)
+}
+
+// Opens the cycle, makes the book's file anew, and writes the book.
+fn open_book(rt: &HostRuntime, cycle: &str, out: &str) -> io::Result<Result<u8, ToolFault>> {
+    let cycle = open_input(rt, cycle)?;
+    match create_out(rt, &[&cycle], out)? {
+        Some(file) => Ok(book(rt, cycle, file)),
+        None => Ok(Err(ToolFault::Same)),
+    }
 }
 
 fn version(rt: &HostRuntime) -> Result<u8, ToolFault> {
@@ -492,6 +527,7 @@ fn run_reading(rt: &HostRuntime, order: &Order<'_>) -> io::Result<Result<u8, Too
             class,
         } => open_wait(rt, cycle, service, *repeat, *class),
         Order::Send { cycle, sending } => Ok(send(rt, open_input(rt, cycle)?, sending)),
+        Order::Pages { cycle } => Ok(pages(rt, open_input(rt, cycle)?)),
         _ => run_judging(rt, order),
     }
 }
@@ -525,6 +561,7 @@ pub fn run_order(rt: &HostRuntime, order: &Order<'_>) -> io::Result<Result<u8, T
             certificate,
             save,
         } => open_refute(rt, cycle, service, certificate, *save),
+        Order::Book { cycle, out } => open_book(rt, cycle, out),
         _ => run_reading(rt, order),
     }
 }

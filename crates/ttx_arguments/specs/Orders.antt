@@ -28,7 +28,7 @@ use Rattle.ttx_picture.specs.declared.forms.Form.{Form}
 use Rattle.ttx_picture.specs.declared.forms.Form.TheVariants as form
 use Rattle.ttx_arguments.specs.declared.orders.Look.{Look}
 use Rattle.ttx_arguments.specs.declared.orders.Order.{Order}
-use Rattle.ttx_arguments.specs.declared.orders.Order.TheVariants.{Inspect, Plan, Find, Certify, Refute, Receive, Show, Preview, Splice, Wait, Send, Version}
+use Rattle.ttx_arguments.specs.declared.orders.Order.TheVariants.{Inspect, Plan, Find, Certify, Refute, Receive, Show, Preview, Splice, Wait, Send, Pages, Book, Version}
 use Rattle.ttx_arguments.specs.declared.orders.ReceiverKind.{ReceiverKind}
 use Rattle.ttx_arguments.specs.declared.orders.ReceiverKind.TheVariants.{Eager, Careful, Cleared}
 use Rattle.ttx_arguments.specs.declared.orders.Sending.{Sending}
@@ -58,6 +58,8 @@ pub data OrderView : Type 0 where
   splice_order : (old new old_service new_service old_certificate new_certificate : Text) → OrderView
   wait_order : (cycle service : Text) → (repeat : ℕ) → (class : Class) → OrderView
   send_order : (cycle : Text) → (sending : Sending) → OrderView
+  pages_order : (cycle : Text) → OrderView
+  book_order : (cycle out : Text) → OrderView
   version_order : OrderView
 
 abbrev pub order_view : Order → OrderView
@@ -73,6 +75,8 @@ order_view (Splice old new old_service new_service old_certificate new_certifica
     splice_order old.now new.now old_service.now new_service.now old_certificate.now new_certificate.now
 order_view (Wait cycle service repeat class) = wait_order cycle.now service.now repeat class
 order_view (Send cycle sending) = send_order cycle.now sending
+order_view (Pages cycle) = pages_order cycle.now
+order_view (Book cycle out) = book_order cycle.now out.now
 order_view Version = version_order
 
 -- the text that an argument was given; a parse gives one to each operand
@@ -191,6 +195,12 @@ wait_at rows =
     wait_order (text_at (codes "cycle") rows) (text_at (codes "service") rows) (number_at (codes "repeat") 1 8 1 rows)
     (class_named (text_at (codes "class") rows))
 
+abbrev pub pages_at : List Row → OrderView
+pages_at rows = pages_order (text_at (codes "cycle") rows)
+
+abbrev pub book_at : List Row → OrderView
+book_at rows = book_order (text_at (codes "cycle") rows) (text_at (codes "out") rows)
+
 -- an offset counts half hours
 abbrev pub sending_at : ℕ × ℕ → List Row → Sending
 sending_at moment rows = record {
@@ -223,6 +233,8 @@ inputs (splice_order old new old_service new_service old_certificate new_certifi
     old ∷ new ∷ old_service ∷ new_service ∷ old_certificate ∷ new_certificate ∷ []
 inputs (wait_order cycle service repeat class) = cycle ∷ service ∷ []
 inputs (send_order cycle sending) = cycle ∷ []
+inputs (pages_order cycle) = cycle ∷ []
+inputs (book_order cycle out) = cycle ∷ []
 inputs version_order = []
 
 -- more than one of them is standard input
@@ -246,6 +258,8 @@ order_at name rows =
     else if bytes_eq name (codes "splice") then once (splice_at rows)
     else if bytes_eq name (codes "wait") then once (wait_at rows)
     else if bytes_eq name (codes "send") then send_at rows
+    else if bytes_eq name (codes "pages") then Ok (pages_at rows)
+    else if bytes_eq name (codes "book") then Ok (book_at rows)
     else if bytes_eq name (codes "version") then Ok version_order
     else Ok (inspect_at rows)
 

@@ -3,7 +3,7 @@
 ghost use Rattle.std.specs.Prelude.{◌≡◌, false, codes};
 ghost use Rattle.clap.specs.Words.{App, Text, rule_of, with_rule, with_subcommand, new_app};
 ghost use Rattle.ttx_arguments.specs.Grammar as rule;
-ghost use Rattle.ttx_arguments.specs.Grammar.{Lists, Builds, operand_rule, number_rule, name_rule, flag_rule, text_rule, needed_rule, needed_number_rule, with_tuning, with_look, inspect_app, plan_app, find_app, certify_app, refute_app, receive_app, show_app, preview_app, splice_app, wait_app, send_app, version_app, bare_app, ttx_app};
+ghost use Rattle.ttx_arguments.specs.Grammar.{Lists, Builds, operand_rule, number_rule, name_rule, flag_rule, text_rule, needed_rule, needed_number_rule, with_tuning, with_look, inspect_app, plan_app, find_app, certify_app, refute_app, receive_app, show_app, preview_app, splice_app, wait_app, send_app, pages_app, book_app, version_app, bare_app, ttx_app};
 
 use crate::help;
 use clap::builder::ValueParser;
@@ -363,6 +363,23 @@ fn send<'a>(alloc: Global) -> Building<'a>
     with_number(alloc, send, "offset", "HALVES", help::OFFSET_OPTION, 0, 47)
 }
 
+// `pages CYCLE`
+fn pages<'a>(alloc: Global) -> Building<'a>
+    ensures { Builds result pages_app }
+{
+    let pages = command(alloc, "pages", help::PAGES, help::PAGES_MORE);
+    with_operand(alloc, pages, "cycle", "CYCLE", help::CYCLE_OPERAND)
+}
+
+// `book CYCLE OUT`
+fn book<'a>(alloc: Global) -> Building<'a>
+    ensures { Builds result book_app }
+{
+    let book = command(alloc, "book", help::BOOK, help::BOOK_MORE);
+    let book = with_operand(alloc, book, "cycle", "CYCLE", help::CYCLE_OPERAND);
+    with_operand(alloc, book, "out", "OUT", help::BOOK_OPERAND)
+}
+
 // `version`
 fn version<'a>(alloc: Global) -> Building<'a>
     ensures { Builds result version_app }
@@ -424,5 +441,7 @@ pub(crate) fn ttx<'a>(
     let ttx = with_command(ttx, splice(alloc));
     let ttx = with_command(ttx, wait(alloc, classes));
     let ttx = with_command(ttx, send(alloc));
+    let ttx = with_command(ttx, pages(alloc));
+    let ttx = with_command(ttx, book(alloc));
     with_command(ttx, version(alloc))
 }

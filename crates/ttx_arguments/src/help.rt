@@ -233,6 +233,37 @@ Statuses:
      refused: cycle 2 truncated REST, refused: cycle 3 empty, refused: cycle 4 too-long
   3  fault: file, fault: read, fault: write (also where the reader of a pipe has gone), fault: memory";
 
+pub(crate) const PAGES: &str =
+    "Tells which pages a cycle has, and what is sent under their headers";
+
+pub(crate) const PAGES_MORE: &str =
+    "Reads CYCLE to its end, then writes a line for each page that has a header, rising:
+  MPP/SSSS sent N rows R ..    how often its header is sent, and how many rows under it
+It goes on with links where X/27/0 is sent, and with the control bits, C4 to C14, and the quoted characters of its
+first header: a backslash stands before a quotation mark and a backslash, \\xHH is a code that is no character, and
+\\? a byte of even parity. Rows and links belong to the last header of their magazine, round the cycle. The last line is
+  rest rows R links K info I other O empty E unreadable U corrected C
+with the rows and links of magazines without a header, packets 8/30, other packets, empty and unreadable slots, and
+how many packets a receiver would have to correct.
+
+Statuses:
+  0  done
+  2  error: .. (the words), refused: cycle 2 truncated REST, refused: cycle 3 empty, refused: cycle 4 too-long
+  3  fault: file, fault: read, fault: write, fault: memory";
+
+pub(crate) const BOOK: &str = "Writes all pages of a cycle to OUT, as one HTML file";
+
+pub(crate) const BOOK_MORE: &str =
+    "Reads CYCLE to its end. OUT has an index, and each page as a picture with its links and its text; it needs no other file
+and no network. Three typed digits lead to a page, and so do its links. A page is shown as by a receiver that has
+heard the cycle twice and missed nothing; what is concealed stays so. A time-filling header is no page.
+
+Statuses:
+  0  done
+  2  error: .. (the words), refused: same (OUT is CYCLE),
+     refused: cycle 2 truncated REST, refused: cycle 3 empty, refused: cycle 4 too-long
+  3  fault: file, fault: read, fault: write, fault: memory";
+
 pub(crate) const VERSION: &str =
     "Writes the version of the program, and the kit and the logic by which it is proved";
 
@@ -272,6 +303,8 @@ pub(crate) const NEW_CERTIFICATE_OPERAND: &str =
     "Certificate of NEW: a text of at most 4194304 bytes; - is standard input";
 
 pub(crate) const PLANNED_OPERAND: &str = "Packet file to write, 42 bytes a slot; made anew";
+
+pub(crate) const BOOK_OPERAND: &str = "HTML file to write; made anew";
 
 pub(crate) const FOUND_OPERAND: &str =
     "Certificate to write, a text; made anew, and left empty where there is none";

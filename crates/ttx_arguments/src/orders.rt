@@ -131,6 +131,15 @@ pub enum Order<'a> {
         cycle: &'a str,
         sending: Sending,
     },
+    /// Tell which pages a cycle has.
+    Pages {
+        cycle: &'a str,
+    },
+    /// Write all pages of a cycle as one HTML file.
+    Book {
+        cycle: &'a str,
+        out: &'a str,
+    },
     /// Say which program this is.
     Version,
 }

@@ -5,7 +5,7 @@ ghost use Rattle.std.specs.Str.{bytes_eq};
 ghost use Rattle.clap.specs.Words.{rows_of, first_of, found_of, subcommand_rows_of, subcommand_of, fault_of};
 ghost use Rattle.ttx_arguments.specs.Grammar.{ttx_app};
 ghost use Rattle.ttx_arguments.specs.Orders as rule;
-ghost use Rattle.ttx_arguments.specs.Orders.{OrderView, Unfit, order_view, look_view, text_at, kind_named, class_named, form_named, is_set, tuning_at, look_at, show_at, preview_at, inspect_at, plan_at, find_at, certify_at, refute_at, receive_at, splice_at, wait_at, sending_at, send_at, once, order_at, IsOrderOf, AnswersBy, Answers, IsFaultOf, IsRefusalOf};
+ghost use Rattle.ttx_arguments.specs.Orders.{OrderView, Unfit, order_view, look_view, text_at, kind_named, class_named, form_named, is_set, tuning_at, look_at, show_at, preview_at, inspect_at, plan_at, find_at, certify_at, refute_at, receive_at, splice_at, wait_at, sending_at, send_at, pages_at, book_at, once, order_at, IsOrderOf, AnswersBy, Answers, IsFaultOf, IsRefusalOf};
 
 use crate::grammar::{class_names, form_names, kind_names, ttx};
 use crate::moments::moment;
@@ -338,6 +338,23 @@ fn wait_of<'a>(values: &ArgMatches<'a>) -> Result<Order<'a>, WordsFault>
     Ok(waited(values))
 }
 
+fn pages_of<'a>(values: &ArgMatches<'a>) -> Order<'a>
+    ensures { order_view result ≡ pages_at (rows_of (found_of values.now)) }
+{
+    Order::Pages {
+        cycle: text_of(values, "cycle"),
+    }
+}
+
+fn book_of<'a>(values: &ArgMatches<'a>) -> Order<'a>
+    ensures { order_view result ≡ book_at (rows_of (found_of values.now)) }
+{
+    Order::Book {
+        cycle: text_of(values, "cycle"),
+        out: text_of(values, "out"),
+    }
+}
+
 // What `send` is told of a sending that starts at this moment.
 fn sending_of(values: &ArgMatches<'_>, moment: (u32, u32)) -> Sending
     ensures { result ≡ sending_at moment (rows_of (found_of values.now)) }
@@ -389,6 +406,10 @@ fn order_of<'a>(name: &str, values: &ArgMatches<'a>) -> Result<Order<'a>, WordsF
         wait_of(values)
     } else if name == "send" {
         send_of(values)
+    } else if name == "pages" {
+        Ok(pages_of(values))
+    } else if name == "book" {
+        Ok(book_of(values))
     } else if name == "version" {
         Ok(Order::Version)
     } else {

@@ -15,4 +15,6 @@ returns c =
     let splicing = c.with_command-ttx-9.ensures _ _ previewing c.splice.ensures in
     let waiting = c.with_command-ttx-10.ensures _ _ splicing c.wait.ensures in
     let sending = c.with_command-ttx-11.ensures _ _ waiting c.send.ensures in
-    c.with_command.ensures _ _ sending c.version.ensures
+    let paging = c.with_command-ttx-12.ensures _ _ sending c.pages.ensures in
+    let booking = c.with_command-ttx-13.ensures _ _ paging c.book.ensures in
+    c.with_command.ensures _ _ booking c.version.ensures
