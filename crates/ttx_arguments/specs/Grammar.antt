@@ -146,10 +146,10 @@ bare_app = record { top = bare (new_app (codes "ttx")).top; subs = [] }
 
 unfoldable pub ttx_app : NameList → NameList → NameList → App
 ttx_app kinds classes forms =
-    with_subcommand (with_subcommand (with_subcommand (with_subcommand (with_subcommand (with_subcommand (with_subcommand (with_subcommand (with_subcommand
-    (with_subcommand (with_subcommand (with_subcommand (with_subcommand (with_subcommand bare_app inspect_app.top) (plan_app classes).top) (find_app classes).top) certify_app.top)
-    refute_app.top) (receive_app kinds).top) (show_app kinds forms).top) (preview_app forms).top) splice_app.top) (wait_app classes).top) send_app.top)
-    pages_app.top) book_app.top) version_app.top
+    with_subcommand (with_subcommand (with_subcommand (with_subcommand (with_subcommand (with_subcommand (with_subcommand (with_subcommand
+    (with_subcommand (with_subcommand (with_subcommand (with_subcommand (with_subcommand (with_subcommand bare_app inspect_app.top)
+    (plan_app classes).top) (find_app classes).top) certify_app.top) refute_app.top) (receive_app kinds).top) (show_app kinds forms).top)
+    (preview_app forms).top) splice_app.top) (wait_app classes).top) send_app.top) pages_app.top) book_app.top) version_app.top
 
 abbrev pub Builds : {E : Type 0} → Result Command E → App → Type 0
 Builds result app = IfOk result (λ c. (app_of c ≡ app) × ((out-Command c).has_globals ≡ false))
