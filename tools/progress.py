@@ -1,0 +1,96 @@
+#!/usr/bin/env python3
+"""Runs a command of rt over all crates and prints a line a crate: progress.py LOG COMMAND..
+
+What the command prints goes to LOG. Its status is that of the command; where it fails, the last lines of LOG follow.
+How much is left is told by the lines of the crates that are still to come.
+"""
+import pathlib
+import re
+import subprocess
+import sys
+import time
+
+LAST_LINES = 40
+# Each edit reads its crate's kept work once more, as much as so many lines of source and proofs.
+LINES_OF_AN_EDIT = 300
+
+
+def lines_of(folder, endings):
+    return sum(file.read_bytes().count(b"\n") for file in folder.rglob("*") if file.suffix in endings and "out" not in file.parts)
+
+
+def weights(with_edits):
+    """What there is to do by name, in lines: each crate, and its edits where edits are tried."""
+    told = {}
+    for line in open("crates.txt"):
+        name = line.split(":")[0].strip()
+        folder = pathlib.Path("crates", name)
+        told[name] = lines_of(folder, {".rt", ".antt"})
+        if with_edits:
+            told[f"{name} edits"] = LINES_OF_AN_EDIT * len(list(folder.glob("must-fail/*.edit")))
+    return told
+
+
+def span(seconds):
+    minutes, seconds = divmod(round(seconds), 60)
+    return f"{minutes} min {seconds} s" if minutes else f"{seconds} s"
+
+
+def left(elapsed, done, total):
+    if done * 20 < total:
+        return ""
+    minutes = elapsed * (total - done) / done / 60
+    return f"; about {round(minutes)} minutes left" if minutes >= 1.5 else "; about a minute left"
+
+
+class Progress:
+    def __init__(self, weight):
+        self.weight = weight
+        self.done = set()
+        self.crates = sum(" " not in name for name in weight)
+        self.current = None
+        self.start = time.time()
+
+    def note(self, name, what):
+        if name not in self.weight or name in self.done:
+            return
+        self.done.add(name)
+        elapsed = time.time() - self.start
+        count = sum(" " not in it for it in self.done)
+        done = sum(self.weight[it] for it in self.done)
+        rest = left(elapsed, done, sum(self.weight.values()))
+        print(f"[{count}/{self.crates}] {name.split()[0]} {what}, {span(elapsed)}{rest}", flush=True)
+
+    def read(self, line):
+        if begun := re.match(r"== (\w+)$", line):
+            self.current = begun[1]
+        elif line.startswith("logic=proved") and self.current:
+            self.note(self.current, "proved")
+            self.current = None
+        elif tried := re.match(r"rt: (\w+): trying its must-fail edits \((\d+)\)", line):
+            self.note(f"{tried[1]} edits", f"tries {tried[2]} edits")
+
+
+def main():
+    log, *command = sys.argv[1:]
+    progress = Progress(weights("ci" in command))
+    last = ""
+    with open(log, "w", errors="replace") as kept:
+        ran = subprocess.Popen(command, stdout=subprocess.PIPE, stderr=subprocess.STDOUT, text=True, errors="replace")
+        for line in ran.stdout:
+            kept.write(line)
+            kept.flush()
+            progress.read(line.rstrip("\n"))
+            last = line
+    status = ran.wait()
+    if status:
+        text = open(log, errors="replace").read().splitlines()
+        print("\n".join(text[-LAST_LINES:]))
+    else:
+        print(last, end="")
+    print(f"{' '.join(command)}: {'failed' if status else 'done'} after {span(time.time() - progress.start)}; the whole text is in {log}")
+    return status if status >= 0 else 1
+
+
+if __name__ == "__main__":
+    sys.exit(main())
