@@ -1,25 +1,30 @@
-# make          builds the program and leaves it as ./ttx
-# make test     the gate: every proof from nothing, every test, and the program over real files
-# make demo     the main job on a shipped example
-# make bench    times the program beside plain tools; writes nothing into the repository
-# make compare  compares what certify --late says with what libzvbi's decoder shows, where there is one
+# make            builds the program and leaves it as ./ttx
+# make test       the gate: every proof from nothing, every test, and the program over real files
+# make demo       the main job on a shipped example
+# make install    puts program, man page and completions under PREFIX (/usr/local)
+# make dist       dist/ttx-VERSION-x86_64-linux.tar.gz: program, man page and completions, and its checksum
+# make bench      times the program beside plain tools; writes nothing into the repository
+# make compare    compares what certify --late says with what libzvbi's decoder shows, where there is one
 
 BUILT = crates/ttx/out/ttx
+VERSION = 1.0.0
+PACKED = ttx-$(VERSION)-x86_64-linux
+PREFIX = /usr/local
 
 # so many crates are proved at a time, each in 1 to 4 GB
 JOBS = 4
 
-.PHONY: all ttx test demo bench compare
+.PHONY: all ttx test demo bench compare helpers install dist
 
 all: ttx
 
 ttx:
-	rt all check --jobs $(JOBS)
+	python3 tools/progress.py out/make.log rt all check --jobs $(JOBS)
 	cd crates/ttx && rt run < stdin > /dev/null
 	cp $(BUILT) ttx
 
 test:
-	rt ci
+	python3 tools/progress.py out/test.log rt ci
 	sh tests/cli.sh $(BUILT)
 	python3 tests/large.py $(BUILT)
 	sh tests/memory.sh $(BUILT)
@@ -30,6 +35,7 @@ test:
 	python3 tests/sent.py $(BUILT)
 	python3 tests/pages.py $(BUILT)
 	python3 tests/refute.py $(BUILT) 300
+	sh tests/packed.sh $(BUILT)
 
 demo: ttx
 	sh demo/demo.sh ./ttx
@@ -39,3 +45,25 @@ bench: ttx
 
 compare: ttx
 	python3 bench/late.py ./ttx
+
+helpers: ttx
+	python3 tools/helpers.py ./ttx out/helpers
+
+# program, man page and completions under a folder
+define place
+	install -D ttx $(1)/bin/ttx
+	install -D -m 644 out/helpers/ttx.1 $(1)/share/man/man1/ttx.1
+	install -D -m 644 out/helpers/ttx.bash $(1)/share/bash-completion/completions/ttx
+	install -D -m 644 out/helpers/_ttx $(1)/share/zsh/site-functions/_ttx
+	install -D -m 644 out/helpers/ttx.fish $(1)/share/fish/vendor_completions.d/ttx.fish
+endef
+
+install: helpers
+	$(call place,$(DESTDIR)$(PREFIX))
+
+dist: helpers
+	rm -rf dist/$(PACKED)
+	$(call place,dist/$(PACKED))
+	cp README.md LICENSE dist/$(PACKED)
+	tar -C dist --sort=name --owner=0 --group=0 --numeric-owner --mtime=@0 -czf dist/$(PACKED).tar.gz $(PACKED)
+	cd dist && sha256sum $(PACKED).tar.gz > $(PACKED).tar.gz.sha256

@@ -1,7 +1,7 @@
 #!/usr/bin/env python3
 """Runs a command of rt over all crates and prints a line a crate: progress.py LOG COMMAND..
 
-What the command prints goes to LOG. Its status is that of the command; where it fails, the last lines of LOG follow.
+What the command prints goes to LOG. Its status is that of the command; where it fails, the faults and the last lines of LOG follow.
 How much is left is told by the lines of the crates that are still to come.
 """
 import pathlib
@@ -11,6 +11,8 @@ import sys
 import time
 
 LAST_LINES = 40
+MOST_FAULTS = 60
+FAULT = re.compile(r"NOT PROVED|NOT REFUSED|BAD EDIT|\berror\b")
 # Each edit reads its crate's kept work once more, as much as so many lines of source and proofs.
 LINES_OF_AN_EDIT = 300
 
@@ -73,6 +75,7 @@ class Progress:
 
 def main():
     log, *command = sys.argv[1:]
+    pathlib.Path(log).parent.mkdir(parents=True, exist_ok=True)
     progress = Progress(weights("ci" in command))
     last = ""
     with open(log, "w", errors="replace") as kept:
@@ -85,7 +88,8 @@ def main():
     status = ran.wait()
     if status:
         text = open(log, errors="replace").read().splitlines()
-        print("\n".join(text[-LAST_LINES:]))
+        faults = [line for line in text[:-LAST_LINES] if FAULT.search(line)]
+        print("\n".join([*faults[:MOST_FAULTS], *text[-LAST_LINES:]]))
     else:
         print(last, end="")
     print(f"{' '.join(command)}: {'failed' if status else 'done'} after {span(time.time() - progress.start)}; the whole text is in {log}")
