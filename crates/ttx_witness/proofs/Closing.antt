@@ -1,52 +1,36 @@
--- What a track comes to, once it has taken what follows the period.
-use Rattle.std.proofs.Common.{◌≡◌, ℕ, suc, ◌-◌, ◌≤◌, pos, ◌-ℤ◌, List, [], ◌∷◌, length, Option, Some, None, refl, sym, ap, ◌∙◌, subst, arith}
-use Rattle.std.specs.List.{All}
+-- The end of a second list.
+use Rattle.std.proofs.Common.{◌≡◌, ℕ, ◌-◌, ◌≤◌, pos, ◌-ℤ◌, List, [], ◌∷◌, length, Option, refl, sym, ap, ◌∙◌, arith}
 use Rattle.ttx_page.specs.Pages.{Page}
 use Rattle.ttx_page.specs.Streams.{run_length}
 use Rattle.ttx_page.specs.declared.item.Item.{Item}
 use Rattle.ttx_page.specs.declared.item.Item.TheVariants.{Head as TheHead, Row as TheRow, Links as TheLinks}
 use Rattle.ttx_witness.specs.Transmissions.{runs}
 use Rattle.ttx_witness.specs.Confirming.{after_runs, not_begun}
-use Rattle.ttx_witness.specs.Coverage.{Certificate, IsCertificate, limit}
+use Rattle.ttx_witness.specs.declared.confirming.Progress.{Progress}
+use Rattle.ttx_witness.specs.Coverage.{Certificate, limit}
 use Rattle.ttx_witness.specs.CycleLaws.{progress_of}
 use Rattle.ttx_witness.specs.Sent.{sent_in}
-use Rattle.ttx_witness.specs.Tracks.{IsWithin}
-use Rattle.ttx_witness.specs.declared.following.Followed.{Followed}
-use Rattle.ttx_witness.specs.Following.{IsKept, Held, progress_kept, progress_in, Ended, EndedPlace}
 use Rattle.ttx_header.specs.Ids.{Id}
 use Rattle.ttx_page.specs.Streams.{repeated}
 use Rattle.ttx_witness.specs.Sent.{owner_scan, owner_moved, entry_of}
 use Rattle.ttx_witness.specs.Collected.{owner_for}
 use Rattle.ttx_witness.specs.declared.owners.Owner.{Owner}
 use Rattle.ttx_witness.proofs.Returning.{steady_entry, own_entry}
-use Rattle.ttx_witness.specs.Following.{Follows, FollowsPlace, IsProgress}
-use Rattle.ttx_witness.proofs.Stepping.{short_run}
 
-some_run : (repeat : ℕ) (item : Item) → 1 ≤ repeat → 1 ≤ run_length repeat item
+pub some_run : (repeat : ℕ) (item : Item) → 1 ≤ repeat → 1 ≤ run_length repeat item
 some_run repeat TheHead h = h
 some_run repeat (TheRow r) h = h
 some_run repeat TheLinks h = omega arith
 
-pub ended_progress : (y : List (List ℕ)) → length y ≤ 65536 → (p : Page) (w : Certificate) → IsCertificate w → (item : Item) (lim period : ℕ) → lim ≡ limit w → period ≡ length y → All (IsWithin 65536) (sent_in y p.id w.lines item) →
-    (old new : Followed) → Follows w p.id item (sent_in y p.id w.lines item) old → Ended lim period old new → progress_kept new.kept ≡ progress_of y p w item (run_length w.repeat item - 1)
-ended_progress y few p w is item lim period e f small old new h t =
+pub progress_told : (y : List (List ℕ)) (p : Page) (w : Certificate) (item : Item) (starts : List ℕ) (lim period repeat : ℕ) (progress : Progress) →
+    starts ≡ w.starts p.id item → lim ≡ limit w → period ≡ length y → repeat ≡ run_length w.repeat item →
+    progress ≡ after_runs lim starts not_begun (runs period (repeat - 1) (sent_in y p.id w.lines item)) → progress ≡ progress_of y p w item (run_length w.repeat item - 1)
+progress_told y p w item starts lim period repeat progress e f g h told =
     let ts = sent_in y p.id w.lines item in
-    let k = run_length w.repeat item - 1 in
-    let one = some_run w.repeat item is.some_repeats in
-    let len : run_length w.repeat item ≡ suc k = omega arith in
-    t.progress k ts (short_run w is item k len) (omega arith) small
-    (subst (λ l. IsKept k l old.starts.now ts old.kept) (sym e) (subst (λ ss. IsKept k (limit w) ss ts old.kept) (sym h.starts) (h.kept k len)))
-    ∙ ap (λ l. after_runs l old.starts.now not_begun (runs period k ts)) e
-    ∙ ap (λ ss. after_runs (limit w) ss not_begun (runs period k ts)) h.starts
-    ∙ ap (λ n. after_runs (limit w) (w.starts p.id item) not_begun (runs n k ts)) f
-
--- and of a place
-pub ended_place : (y : List (List ℕ)) → length y ≤ 65536 → (p : Page) (w : Certificate) → IsCertificate w → (item : Item) (lim period : ℕ) → lim ≡ limit w → period ≡ length y → All (IsWithin 65536) (sent_in y p.id w.lines item) →
-    (old new : Held) → FollowsPlace w p item (sent_in y p.id w.lines item) old → EndedPlace lim period old new → IsProgress y p w item (progress_in new)
-ended_place y few p w is item lim period e f small None None h t = h
-ended_place y few p w is item lim period e f small (Some old) (Some new) h t = ended_progress y few p w is item lim period e f small old new h t
-ended_place y few p w is item lim period e f small None (Some new) h t = absurd t
-ended_place y few p w is item lim period e f small (Some old) None h t = absurd t
+    told ∙ ap (λ ss. after_runs lim ss not_begun (runs period (repeat - 1) ts)) e
+    ∙ ap (λ l. after_runs l (w.starts p.id item) not_begun (runs period (repeat - 1) ts)) f
+    ∙ ap (λ n. after_runs (limit w) (w.starts p.id item) not_begun (runs n (repeat - 1) ts)) g
+    ∙ ap (λ r. after_runs (limit w) (w.starts p.id item) not_begun (runs (length y) (r - 1) ts)) h
 
 pub empty_is : (y : List (List ℕ)) → length y ≡ 0 → y ≡ []
 empty_is [] e = refl

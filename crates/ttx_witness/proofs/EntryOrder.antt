@@ -1,5 +1,5 @@
 -- Entries in their order: each place has one entry.
-use Rattle.std.proofs.Common.{◌≡◌, ℕ, zero, suc, ◌+◌, ◌*◌, ◌<◌, ◌&&◌, Bool, true, List, [], ◌∷◌, length, get_or, Option, Some, None, nat_lt, arith, eq-eqb}
+use Rattle.std.proofs.Common.{◌≡◌, ℕ, zero, suc, ◌+◌, ◌*◌, ◌<◌, ◌&&◌, true, List, [], ◌∷◌, length, get_or, Option, Some, nat_lt, arith, eq-eqb}
 use Rattle.std.proofs.lemmas.Bool.Decides.{nat_tests}
 use Rattle.ttx_header.specs.Ids.{Id, IsId, same_id}
 use Rattle.ttx_page.specs.declared.item.Item.{Item}

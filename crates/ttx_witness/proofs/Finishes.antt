@@ -4,12 +4,11 @@ use Rattle.std.specs.List.{AllByRecursion}
 use Rattle.std.proofs.lemmas.List.{append-nil, length-take-le, take-append-drop}
 use Rattle.std.proofs.lemmas.Int.{ints}
 use Rattle.std.proofs.lemmas.Bool.{cases_lt}
-use Rattle.circular_buffer.specs.Buffer.{keep_last, buffer}
 use Rattle.ttx_witness.specs.Transmissions.{Transmission, Run, later, further, run_of, runs}
-use Rattle.ttx_witness.specs.Tracks.{ended, listed, IsRecent, IsWithin, IsTurn, IsRound}
+use Rattle.ttx_witness.specs.Tracks.{ended, keep_last, listed, IsRecent, IsWithin, IsTurn, IsRound}
 use Rattle.ttx_witness.specs.declared.recent.Recent.{Recent}
 use Rattle.ttx_witness.proofs.Windows.{further_few}
-use Rattle.ttx_witness.proofs.Steps.{keep_step, take_whole, run_at_end, ended_step}
+use Rattle.ttx_witness.proofs.Steps.{keep_step, few_kept, take_whole, run_at_end, ended_step}
 
 further_none : (n k : ℕ) (ts : List Transmission) → length (take k ts) ≡ 0 → further n k ts ≡ []
 unfolding further
@@ -53,22 +52,27 @@ turn_further n k [] ys t h = absurd h
 turn_further n k (x ∷ xs) ys t h = ap (λ z. z ∷ further n k (xs ++ later n x ∷ [])) (sym h.0) ∙ ap (λ z. t ∷ further n k z) (sym h.1)
 
 module _ (k n i : ℕ) (ts : List Transmission) (rs : List Run) where
-  pub round_step : (old new : Recent) (t : Transmission) (result : Option Run) → i < k → IsRound k n i ts rs old → IsTurn n old.firsts.items t new.firsts.items →
-      new.window ≡ buffer (keep_last old.window.capacity (old.window.items ++ t ∷ [])) old.window.capacity →
-      result ≡ (if length new.window.items == new.window.capacity then Some (run_of new.window.items) else None) →
+  pub round_step : (old new : Recent) (t : Transmission) (result : Option Run) → i < k → IsRound k n i ts rs old → IsTurn n old.firsts.items t new.firsts.items → new.repeat ≡ old.repeat →
+      (1 ≤ old.repeat → length old.window.items ≤ old.repeat → new.window.items ≡ keep_last old.repeat (old.window.items ++ t ∷ [])) →
+      result ≡ (if length new.window.items == old.repeat then Some (run_of new.window.items) else None) →
       IsRound k n (i + 1) ts (rs ++ listed result) new
   unfolding run_at_end
-  round_step old new t result lt r h w e =
+  round_step old new t result lt r h q w e =
       let xs = ts ++ r.more in
       let same : xs ++ t ∷ [] ≡ ts ++ (r.more ++ t ∷ []) = append_assoc ts r.more (t ∷ []) in
-      let win : new.window ≡ buffer (keep_last (suc k) (xs ++ t ∷ [])) (suc k) =
-      w ∙ ap (λ b. buffer (keep_last b.capacity (b.items ++ t ∷ [])) b.capacity) r.window ∙ ap (λ x. buffer x (suc k)) (keep_step (suc k) xs t (omega arith)) in
+      let short : length old.window.items ≤ suc k = few_kept (suc k) xs old.window.items r.window in
+      let some : 1 ≤ old.repeat = let e = r.repeat in omega arith in
+      let few : length old.window.items ≤ old.repeat = let e = r.repeat in omega arith in
+      let win : new.window.items ≡ keep_last (suc k) (xs ++ t ∷ []) =
+      w some few ∙ ap (λ n. keep_last n (old.window.items ++ t ∷ [])) r.repeat ∙ ap (λ x. keep_last (suc k) (x ++ t ∷ [])) r.window ∙ keep_step (suc k) xs t (omega arith) in
       let c : k - i ≡ suc (k - (i + 1)) = omega arith in
       record {
         more = r.more ++ t ∷ [];
-        window = win ∙ ap (λ x. buffer (keep_last (suc k) x) (suc k)) same;
+        repeat = q ∙ r.repeat;
+        window = win ∙ ap (keep_last (suc k)) same;
         runs = ap (λ x. x ++ listed result) r.runs
-            ∙ ap (λ x. ended k xs ++ listed x) (e ∙ ap (λ b. if length b.items == b.capacity then Some (run_of b.items) else None) win)
+            ∙ ap (λ x. ended k xs ++ listed x) (e ∙ ap (λ n. if length new.window.items == n then Some (run_of new.window.items) else None) r.repeat
+            ∙ ap (λ ys. if length ys == suc k then Some (run_of ys) else None) win)
             ∙ sym (ended_step k xs t) ∙ ap (ended k) same;
         rest = append_assoc r.more (t ∷ []) (further n (k - (i + 1)) new.firsts.items)
             ∙ ap (λ x. r.more ++ x) (sym (turn_further n (k - (i + 1)) old.firsts.items new.firsts.items t h))
@@ -86,7 +90,8 @@ module _ (k n i : ℕ) (ts : List Transmission) (rs : List Run) where
 pub round_begins : (k n : ℕ) (ts : List Transmission) (recent : Recent) → IsRecent k ts recent → IsRound k n 0 ts (ended k ts) recent
 round_begins k n ts recent i = record {
   more = [];
-  window = i.window ∙ ap (λ x. buffer (keep_last (suc k) x) (suc k)) (sym (append-nil ts));
+  repeat = i.repeat;
+  window = i.window ∙ ap (keep_last (suc k)) (sym (append-nil ts));
   runs = ap (ended k) (sym (append-nil ts));
   rest = let z : k - 0 ≡ k = omega arith in ap (λ x. further n x recent.firsts.items) z ∙ ap (further n k) i.firsts;
 }

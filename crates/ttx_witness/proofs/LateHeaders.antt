@@ -1,15 +1,8 @@
--- What the headers kept of a list and the places of its items tell, once the list has ended.
-use Rattle.std.proofs.Common.{◌≡◌, ℕ, ◌-◌, ◌<◌, ◌≤◌, ℤ, pos, ◌+ℤ◌, true, false, Bool, int_lt, unsigned_abs, if◌then◌else◌, List, [], ◌∷◌, length, slice_get, Option, Some, None, refl, sym, ap, ◌∙◌, subst}
-use Rattle.ttx_page.specs.Pages.{Page, needed}
-use Rattle.ttx_page.specs.Streams.{run_length}
-use Rattle.ttx_page.specs.declared.item.Item.{Item}
-use Rattle.ttx_witness.specs.Coverage.{Certificate, IsCertificate, limit}
-use Rattle.ttx_witness.specs.CycleLaws.{progress_of}
-use Rattle.ttx_witness.specs.JudgingLaws.{ItemsAreJudged, late_before, late_header}
+-- What the headers kept of a list tell, once the list has ended.
+use Rattle.std.proofs.Common.{◌≡◌, ℕ, ℤ, pos, ◌+ℤ◌, true, false, Bool, int_lt, unsigned_abs, if◌then◌else◌, List, [], ◌∷◌, Option, Some, None, refl, ◌∙◌}
+use Rattle.ttx_witness.specs.JudgingLaws.{late_before, late_header}
 use Rattle.ttx_witness.specs.declared.transmissions.Transmission.{Transmission}
-use Rattle.ttx_witness.specs.declared.confirming.Progress.{Progress}
 use Rattle.ttx_witness.specs.declared.facts.Heads.{Heads}
-use Rattle.ttx_witness.specs.Following.{Held, progress_in, Holds}
 use Rattle.ttx_witness.specs.Facts.{late_of, late_in}
 use Rattle.ttx_witness.specs.Facts.{heads_of}
 
@@ -41,11 +34,6 @@ pub late_told : (lim n : ℕ) (ts : List Transmission) → late_of lim n (heads_
 unfolding heads_of late_header
 late_told lim n [] = refl
 late_told lim n (t ∷ ts) = first_kept lim n ts (record { first = t.slot; last = t.slot; late = None }) ∙ late_from lim (t.slot +ℤ pos n) ts t t.slot
-
--- what is read in a place
-pub progress_is : (P : Option Progress → Type 0) (all s : List Held) (at n : ℕ) (o : Option Progress) → s ≡ all → at ≡ n → ((x : Held) → slice_get s at ≡ Some x → o ≡ progress_in x) →
-    Holds Held all n (λ x. P (progress_in x)) → P o
-progress_is P all s at n o e f read h = subst P (sym (read h.value (ap (λ l. slice_get l at) e ∙ ap (slice_get all) f ∙ h.here))) h.is
 
 pub nowhere : {A : Type 0} (o : Option A) (x : A) → o ≡ None → o ≡ Some x → ⊥
 nowhere None x e f = cc

@@ -35,6 +35,7 @@ pub mod Entering
 pub mod Adding
 mod Holding
 mod Placing
+mod Linking
 mod Noted
 mod Nothing
 mod Growing
@@ -47,7 +48,6 @@ mod Closing
 pub mod After
 pub mod Whole
 pub mod SentOnes
-pub mod SingleRuns
 pub mod Listed
 pub mod Straying
 pub mod DueItems

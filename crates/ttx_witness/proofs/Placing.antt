@@ -1,13 +1,17 @@
--- The places of the items of pages.
-use Rattle.std.proofs.Common.{◌≡◌, ℕ, ◌+◌, ◌*◌, ◌<◌, ◌≤◌, Bool, true, false, ◌&&◌, ◌==◌, if◌then◌else◌, List, [], ◌∷◌, length, slice_get, Some, refl, sym, ◌∙◌, subst, inl, inr, arith, eqb-true, eq-eqb}
-use Rattle.std.proofs.lemmas.Option.{slice_get_within}
+-- What the slots of a period send, by the places of the items of pages.
+use Rattle.std.proofs.Common.{◌≡◌, ℕ, zero, suc, ◌++◌, nat_lt, take, get_or, Option, None, ap, append_assoc, ◌+◌, ◌*◌, ◌<◌, ◌≤◌, Bool, true, false, ◌&&◌, ◌==◌, if◌then◌else◌, List, [], ◌∷◌, length, Some, refl, sym, ◌∙◌, inl, inr, arith, eqb-true, eq-eqb}
 use Rattle.ttx_page.specs.declared.item.Item.{Item}
 use Rattle.ttx_page.specs.declared.item.Item.TheVariants.{Head as TheHead, Row as TheRow, Links as TheLinks}
-use Rattle.ttx_witness.specs.declared.transmissions.Transmission.{Transmission}
 use Rattle.ttx_witness.specs.Collected.{IsItem, item_number, place}
-use Rattle.ttx_witness.proofs.Basics.{cases_bool, no_both}
-use Rattle.ttx_witness.specs.Following.{Held, Holds, TookPlace}
-use Rattle.ttx_witness.proofs.Holding.{took_none}
+use Rattle.ttx_witness.proofs.Basics.{and_right, cases_bool, no_both}
+use Rattle.ttx_witness.proofs.OneByOne.{take_more}
+use Rattle.ttx_witness.proofs.Steps.{take_whole}
+use Rattle.ttx_witness.specs.Placed.{sends_place, told, placed_at, placed, SendsAt, IsNext}
+use Rattle.ttx_witness.specs.Sending.{sent_of}
+use Rattle.ttx_witness.specs.declared.sending.Sent.{Sent}
+use Rattle.std.proofs.lemmas.Bool.{cases_lt}
+use Rattle.std.proofs.lemmas.Bool.Decides.{nat_tests}
+use Rattle.std.proofs.lemmas.List.{append-nil}
 
 pub item_small : (item : Item) → IsItem item → item_number item < 26
 item_small TheHead is = omega arith
@@ -45,29 +49,67 @@ same_place i page number item is lt = bool_same _ _
     first true b h = refl
     first false b h = h
 
-both_ifs : {A : Type 0} (a b : Bool) (x y : A) → (if a && b then x else y) ≡ (if a then (if b then x else y) else y)
-both_ifs true b x y = refl
-both_ifs false b x y = refl
+-- one more slot
+pub placed_more : (n : ℕ) (slots : List (Option Sent)) (sent : Option Sent) → placed n (slots ++ sent ∷ []) ≡ placed n slots ++ placed_at n sent
+unfolding placed
+placed_more n [] sent = append-nil (placed_at n sent)
+placed_more n (s ∷ slots) sent = ap (λ ts. placed_at n s ++ ts) (placed_more n slots sent) ∙ sym (append_assoc (placed_at n s) (placed n slots) (placed_at n sent))
 
-abbrev pub Taken : ℕ → List Held → List Held → ℕ → Transmission → Type 0
-Taken limit old new at t = (n : ℕ) (x : Held) → slice_get old n ≡ Some x → Holds Held new n (TookPlace limit x (if n == at then t ∷ [] else []))
-
-no_place : (xs : List Held) (n at : ℕ) (x : Held) → slice_get xs n ≡ Some x → length xs ≤ at → (n == at) ≡ false
-no_place xs n at x here le = elim (cases_bool (n == at)) as (λ _. (n == at) ≡ false) [
-  | inl e ↦ let q : n ≡ at = eqb-true n at e in let w = slice_get_within xs n x here in absurd (omega arith)
-  | inr e ↦ e
+-- a slot, by page and number
+pub placed_item : (i : ℕ) (item : Item) → IsItem item → (sent : Option Sent) → placed_at (place i item) sent ≡ sent_of i item sent
+placed_item i item is None = refl
+placed_item i item is (Some s) = elim (cases_lt s.number 26) as (λ _. placed_at (place i item) (Some s) ≡ sent_of i item (Some s)) [
+  | inl lt ↦
+      let small : nat_lt s.number 26 ≡ true = grind (arith, nat_tests) in
+      ap (λ b. if b && (place i item == 26 * s.page + s.number) then s.transmission ∷ [] else []) small
+      ∙ ap (λ b. if b then s.transmission ∷ [] else []) (same_place i s.page s.number item is lt)
+  | inr ge ↦
+      let large : nat_lt s.number 26 ≡ false = grind (arith, nat_tests) in
+      let h = item_small item is in
+      let other : (item_number item == s.number) ≡ false = differ (item_number item) s.number (omega arith) in
+      ap (λ b. if b && (place i item == 26 * s.page + s.number) then s.transmission ∷ [] else []) large
+      ∙ ap (λ b. if b && (s.page == i) then s.transmission ∷ [] else []) (sym other)
 ]
+  where
+    differ : (m n : ℕ) → m < n → (m == n) ≡ false
+    differ m n lt = elim (cases_bool (m == n)) as (λ _. (m == n) ≡ false) [ inl e ↦ (let q : m ≡ n = eqb-true m n e in absurd (omega arith)) | inr e ↦ e ]
 
-module _ (limit : ℕ) (old : List Held) (i : ℕ) (item : Item) (is : IsItem item) (x : Held) (here : slice_get old (place i item) ≡ Some x) where
-  pub taken_not : Holds Held old (place i item) (TookPlace limit x [])
-  taken_not = record { value = x; here = here; is = took_none limit x }
+take_none : (n : ℕ) → take {A = Option Sent} n [] ≡ []
+take_none zero = refl
+take_none (suc n) = refl
 
-  -- by page and number
-  pub taken_in : (new : List Held) (page number : ℕ) (t : Transmission) → number < 26 → Taken limit old new (26 * page + number) t →
-      Holds Held new (place i item) (TookPlace limit x (if (item_number item == number) && (page == i) then t ∷ [] else []))
-  taken_in new page number t lt taken = subst (λ b. Holds Held new (place i item) (TookPlace limit x (if b then t ∷ [] else []))) (same_place i page number item is lt) (taken (place i item) x here)
+pub nothing_placed : (n : ℕ) (slots : List (Option Sent)) → placed n (take 0 slots) ≡ []
+unfolding placed
+nothing_placed n [] = refl
+nothing_placed n (s ∷ slots) = refl
 
-  pub taken_past : (page number : ℕ) (t : Transmission) → number < 26 → length old ≤ 26 * page + number →
-      Holds Held old (place i item) (TookPlace limit x (if (item_number item == number) && (page == i) then t ∷ [] else []))
-  taken_past page number t lt le =
-      subst (λ b. Holds Held old (place i item) (TookPlace limit x (if b then t ∷ [] else []))) (sym (no_place old (place i item) (26 * page + number) x here le) ∙ same_place i page number item is lt) taken_not
+not_here : (n : ℕ) (sent : Option Sent) → (sends_place n sent ≡ true → ⊥) → placed_at n sent ≡ []
+not_here n sent never = elim (cases_bool (sends_place n sent)) as (λ _. placed_at n sent ≡ []) [ inl e ↦ absurd (never e) | inr e ↦ ap (λ b. if b then told sent else []) e ]
+
+-- slots that don't send the item
+placed_skip : (n : ℕ) (slots : List (Option Sent)) (from to : ℕ) → from ≤ to → ((j : ℕ) → from ≤ j → j < to → SendsAt slots n j → ⊥) → placed n (take to slots) ≡ placed n (take from slots)
+unfolding placed
+placed_skip n [] from to le never = ap (placed n) (take_none to ∙ sym (take_none from))
+placed_skip n (s ∷ slots) zero zero le never = refl
+placed_skip n (s ∷ slots) (suc from) zero le never = absurd (omega arith)
+placed_skip n (s ∷ slots) zero (suc to) le never =
+    ap (λ ts. ts ++ placed n (take to slots)) (not_here n s (never 0 (omega arith) (omega arith)))
+    ∙ placed_skip n slots zero to (omega arith) (λ j low high. never (suc j) (omega arith) (omega arith))
+placed_skip n (s ∷ slots) (suc from) (suc to) le never = ap (λ ts. placed_at n s ++ ts) (placed_skip n slots from to (omega arith) (λ j low high. never (suc j) (omega arith) (omega arith)))
+
+module _ (n : ℕ) (slots : List (Option Sent)) (from : ℕ) where
+  -- up to the next slot that sends it
+  pub placed_next : (j : ℕ) → IsNext (SendsAt slots n) from (length slots) (Some j) → placed n (take (j + 1) slots) ≡ placed n (take from slots) ++ told (get_or slots j None)
+  placed_next j next =
+      ap (placed n) (sym (take_more slots j None next.1)) ∙ placed_more n (take j slots) (get_or slots j None)
+      ∙ ap (λ ts. ts ++ placed_at n (get_or slots j None)) (placed_skip n slots from j next.0 next.3)
+      ∙ ap (λ b. placed n (take from slots) ++ (if b then told (get_or slots j None) else [])) next.2
+
+  -- or to the end, where there is none
+  pub placed_last : from ≤ length slots → IsNext (SendsAt slots n) from (length slots) None → placed n (take from slots) ≡ placed n slots
+  placed_last le none = sym (placed_skip n slots from (length slots) le none) ∙ ap (placed n) (take_whole (length slots) slots (omega arith))
+
+-- two places of one slot
+pub one_place : (m n : ℕ) (sent : Option Sent) → sends_place m sent ≡ true → sends_place n sent ≡ true → m ≡ n
+one_place m n None e f = cc
+one_place m n (Some s) e f = eqb-true _ _ (and_right (nat_lt s.number 26) _ e) ∙ sym (eqb-true _ _ (and_right (nat_lt s.number 26) _ f))

@@ -11,14 +11,12 @@ use Rattle.ttx_witness.specs.declared.checks.Check.{Check}
 use Rattle.ttx_witness.specs.Faults.{TellsFirst}
 use Rattle.ttx_witness.proofs.Looking.{slot_is, wrong_is, never_wrong, nowhere, sent_down, sent_up}
 use Rattle.ttx_witness.proofs.Streams.{period_of}
-use Rattle.ttx_witness.specs.Collected.{place}
 use Rattle.ttx_witness.specs.declared.checks.Check.TheVariants.{Row as CheckRow}
 use Rattle.ttx_page.specs.declared.item.Item.TheVariants.{Row as TheRow}
 use Rattle.ttx_page.specs.Steady.{RowDiffersAt, RowIsRight}
 use Rattle.ttx_witness.specs.declared.facts.Facts.{Facts}
-use Rattle.ttx_witness.specs.Following.{Held, Holds}
+use Rattle.ttx_witness.specs.Following.{Holds}
 use Rattle.ttx_witness.specs.Facts.{FirstBelow, SendsWrong, SendsWrongRow, AreFacts}
-use Rattle.ttx_witness.specs.Following.{FollowsPlace}
 use Rattle.ttx_witness.specs.Passing.{AreKept, pages_of, certificate}
 use Rattle.ttx_witness.specs.declared.passing.Pass.{Pass}
 
@@ -81,10 +79,15 @@ own_entry y id = elim (scan_forgets id (repeated y) (entry_of y id) (length y)) 
       ap (λ e. owner_moved (pos 0 -ℤ pos (length y)) (owner_scan id (repeated y) e (length y))) none
 ]
 
--- tracks and facts under equal entries
+-- what is kept under equal entries
 pub kept_same : (pass : Pass) (a b : Id → Option PageOwner) (y : List (List ℕ)) → ((i : ℕ) (p : Page) → slice_get (pages_of pass) i ≡ Some p → a p.id ≡ b p.id) → AreKept pass a y → AreKept pass b y
 kept_same pass a b y same k = record {
-  followed = λ i p item at it. subst (λ e. Holds Held pass.followed.items (place i item) (FollowsPlace (certificate pass) p item (sent_scan p.id (certificate pass).lines item (repeated y) e (length y)))) (same i p at) (k.followed i p item at it);
+  sent = record {
+    count = k.sent.count;
+    places = k.sent.places;
+    unlinked = k.sent.unlinked;
+    each = λ i p item at it. k.sent.each i p item at it ∙ ap (λ e. sent_scan p.id (certificate pass).lines item (repeated y) e (length y)) (same i p at);
+  };
   facts = λ i p at. subst (λ e. Holds Facts pass.facts.items i (AreFacts (certificate pass) p (repeated y) e (length y))) (same i p at) (k.facts i p at);
   strays = k.strays;
 }

@@ -1,4 +1,4 @@
--- Tracks and facts after one more slot.
+-- What is kept after one more slot.
 use Rattle.std.proofs.Common.{◌≡◌, ◌↔◌, ℕ, zero, suc, ◌<◌, ℤ, pos, ◌+ℤ◌, int_lt, Bool, true, false, not, ◌&&◌, ◌==◌, if◌then◌else◌, List, [], ◌∷◌, ◌++◌, length, map, slice_get, nat_le, Option, Some, None, refl, sym, ap, ◌∙◌, subst, arith}
 use Rattle.std.proofs.lemmas.Bool.Decides.{nat_tests}
 use Rattle.ttx_header.specs.Ids.{Id}
@@ -15,19 +15,18 @@ use Rattle.ttx_witness.specs.declared.checks.Check.{Check}
 use Rattle.ttx_witness.specs.declared.checks.Check.TheVariants.{EraseBit, Head as CheckHead, Row as CheckRow, Links as CheckLinks}
 use Rattle.ttx_witness.specs.Coverage.{Certificate, IsCertificate, limit}
 use Rattle.ttx_witness.specs.Sent.{PageOwner, owner_scan, sent_under, sent_at, sent_scan}
-use Rattle.ttx_witness.specs.Collected.{IsItem, ids_of, item_number}
+use Rattle.ttx_witness.specs.Collected.{IsItem, ids_of, item_number, place}
 use Rattle.ttx_witness.specs.Comparing.{is_mine, item_of, sends, IsWrong}
 use Rattle.ttx_witness.specs.OtherSubpages.{first_of}
 use Rattle.ttx_witness.proofs.Basics.{and_left, and_right}
-use Rattle.ttx_witness.specs.declared.following.Followed.{Followed}
 use Rattle.ttx_witness.specs.declared.facts.Facts.{Facts}
 use Rattle.ttx_witness.specs.declared.facts.Heads.{Heads}
 use Rattle.ttx_witness.specs.declared.sending.Sent.{Sent}
 use Rattle.ttx_witness.specs.Sending.{sent_of, is_sent}
-use Rattle.ttx_witness.specs.Following.{IsKept, Held, Took, TookPlace}
+use Rattle.ttx_witness.specs.Placed.{placed}
 use Rattle.ttx_witness.specs.Facts.{IsNoted, RowWrong, Noted, heads_after}
 use Rattle.ttx_witness.specs.Facts.{FirstBelow, SendsWrong, SendsWrongRow, heads_of, AreFacts}
-use Rattle.ttx_witness.specs.Following.{Follows, FollowsPlace}
+use Rattle.ttx_witness.proofs.Placing.{placed_more, placed_item}
 use Rattle.ttx_witness.proofs.Growing.{one_longer, here, same_before, owner_before, sent_grown, below_same, below_more}
 
 pub id_of_page : (pages : List PageValue) (i : ℕ) (p : Page) → slice_get (map page_of pages) i ≡ Some p → slice_get (ids_of pages) i ≡ Some p.id
@@ -101,25 +100,12 @@ module _ (w : Certificate) (is : IsCertificate w) (p : Page) (i : ℕ) (sent : O
   grown : (item : Item) → IsItem item → sent_scan p.id w.lines item (repeated y) entry (length y) ++ sent_of i item sent ≡ sent_scan p.id w.lines item (repeated more) entry (length more)
   grown item it = sent_grown y z p.id w.lines item entry owner (sent_of i item sent) k at_end right (told item it)
 
-  pub follows_more : (item : Item) → IsItem item → (lim : ℕ) → lim ≡ limit w → (old new : Followed) → Follows w p.id item (sent_scan p.id w.lines item (repeated y) entry (length y)) old → Took lim old (sent_of i item sent) new →
-      Follows w p.id item (sent_scan p.id w.lines item (repeated more) entry (length more)) new
-  follows_more item it lim e old new f t = record {
-    starts = t.starts ∙ f.starts;
-    kept = λ n len. subst (λ us. IsKept n (limit w) (w.starts p.id item) us new.kept) (grown item it)
-        (subst (λ ss. IsKept n (limit w) ss (sent_scan p.id w.lines item (repeated y) entry (length y) ++ sent_of i item sent) new.kept) f.starts
-        (subst (λ l. IsKept n l old.starts.now (sent_scan p.id w.lines item (repeated y) entry (length y) ++ sent_of i item sent) new.kept) e
-        (t.kept n (sent_scan p.id w.lines item (repeated y) entry (length y)) (short_run w is item n len)
-        (subst (λ l. IsKept n l old.starts.now (sent_scan p.id w.lines item (repeated y) entry (length y)) old.kept) (sym e)
-        (subst (λ ss. IsKept n (limit w) ss (sent_scan p.id w.lines item (repeated y) entry (length y)) old.kept) (sym f.starts) (f.kept n len))))));
-  }
-
-  -- and of a place
-  pub place_more : (item : Item) → IsItem item → (lim : ℕ) → lim ≡ limit w → (old new : Held) → FollowsPlace w p item (sent_scan p.id w.lines item (repeated y) entry (length y)) old → TookPlace lim old (sent_of i item sent) new →
-      FollowsPlace w p item (sent_scan p.id w.lines item (repeated more) entry (length more)) new
-  place_more item it lim e None None f t = f
-  place_more item it lim e (Some old) (Some new) f t = follows_more item it lim e old new f t
-  place_more item it lim e None (Some new) f t = absurd t
-  place_more item it lim e (Some old) None f t = absurd t
+  -- what the slots send, once one more is taken
+  pub listed_more : (item : Item) → IsItem item → (old new : List (Option Sent)) → new ≡ old ++ sent ∷ [] → placed (place i item) old ≡ sent_scan p.id w.lines item (repeated y) entry (length y) →
+      placed (place i item) new ≡ sent_scan p.id w.lines item (repeated more) entry (length more)
+  listed_more item it old new e h =
+      ap (placed (place i item)) e ∙ placed_more (place i item) old sent ∙ ap (λ ts. placed (place i item) old ++ ts) (placed_item i item it sent)
+      ∙ ap (λ ts. ts ++ sent_of i item sent) h ∙ grown item it
 
   -- whether the slot sends an item
   sends_is : (item : Item) → IsItem item → is_sent i item sent ≡ sends p.id item (packet_of (repeated more (pos (length y)))) (is_mine (owner_scan p.id (repeated more) entry (length y)))

@@ -1,13 +1,12 @@
 -- One transmission more, in what is held of them.
-use Rattle.std.proofs.Common.{◌≡◌, ℕ, zero, suc, ◌+◌, ◌-◌, ◌<◌, ◌≤◌, if◌then◌else◌, ◌==◌, nat_lt, List, [], ◌∷◌, ◌++◌, Option, Some, None, map, take, drop, length, refl, sym, ap, ◌∙◌, subst, inl, inr, arith, length-append, slice_get, eqb-true, eq-eqb, unsigned_abs}
+use Rattle.std.proofs.Common.{◌≡◌, ℕ, zero, suc, ◌+◌, ◌-◌, ◌<◌, ◌≤◌, if◌then◌else◌, ◌==◌, nat_lt, List, [], ◌∷◌, ◌++◌, Option, Some, None, map, take, drop, length, refl, sym, ap, ◌∙◌, subst, inl, inr, arith, length-append, slice_get, eqb-true, eq-eqb, remove, unsigned_abs}
 use Rattle.std.proofs.lemmas.List.{map-append, take-append-le, length-take-le, length-drop, drop-append-le, drop-drop}
 use Rattle.std.proofs.lemmas.Bool.{cases_lt}
 use Rattle.std.proofs.lemmas.Bool.Decides.{nat_tests}
-use Rattle.circular_buffer.specs.Buffer.{keep_last, buffer, last_item}
 use Rattle.ttx_witness.specs.Transmissions.{Transmission, Run, run_of, run_between, windows, last_slot, all_sure}
 use Rattle.ttx_witness.specs.Confirming.{Progress, confirmed, after_runs}
 use Rattle.ttx_witness.specs.Searching.{Spread, sure_runs, sure_starts, spread_after, spread_of, IsFound}
-use Rattle.ttx_witness.specs.Tracks.{ended, listed, IsRecent}
+use Rattle.ttx_witness.specs.Tracks.{ended, keep_last, listed, IsRecent}
 use Rattle.ttx_witness.specs.declared.recent.Recent.{Recent}
 use Rattle.ttx_witness.proofs.Basics.{if_ind, no_both}
 use Rattle.ttx_witness.proofs.Windows.{windows_step, windows_none, windows_short}
@@ -19,7 +18,7 @@ last_slot_is : (t : Transmission) (ts : List Transmission) (last : Transmission)
 last_slot_is t [] last e = ap (λ x. x.slot) (some_same e)
 last_slot_is t (u ∷ ts) last e = last_slot_is u ts last e
 
-pub run_of_ends : (ts : List Transmission) (first last : Transmission) → slice_get ts 0 ≡ Some first → last_item ts ≡ Some last → run_between first last (all_sure ts) ≡ run_of ts
+pub run_of_ends : (ts : List Transmission) (first last : Transmission) → slice_get ts 0 ≡ Some first → slice_get ts (length ts - 1) ≡ Some last → run_between first last (all_sure ts) ≡ run_of ts
 run_of_ends [] first last e f = cc
 run_of_ends (t ∷ ts) first last e f =
     let h : t ≡ first = some_same e in
@@ -39,6 +38,24 @@ keep_step {A} k ts t h = elim (cases_lt (length ts) k) as (λ _. keep_last k (ke
       let many : length (ts ++ t ∷ []) - k ≡ d + 1 = omega arith in
       ap (λ m. drop m (drop d ts ++ t ∷ [])) one ∙ ap (drop 1) (sym (drop-append-le d ts (t ∷ []) (omega arith))) ∙ drop-drop 1 d (ts ++ t ∷ []) ∙ ap (λ m. drop m (ts ++ t ∷ [])) (sym many)
 ]
+
+-- one that is full loses its first
+pub full_step : {A : Type 0} (n : ℕ) (xs : List A) (t : A) → 1 ≤ length xs → length xs ≡ n → remove xs 0 ++ t ∷ [] ≡ keep_last n (xs ++ t ∷ [])
+full_step n [] t some e = absurd (omega arith)
+full_step n (x ∷ xs) t some e =
+    let l = length-append (x ∷ xs) (t ∷ []) in
+    let one : length ((x ∷ xs) ++ t ∷ []) - n ≡ 1 = omega arith in
+    ap (λ m. drop m ((x ∷ xs) ++ t ∷ [])) (sym one)
+
+-- and one that isn't, none
+pub room_step : {A : Type 0} (n : ℕ) (xs : List A) (t : A) → length xs < n → xs ++ t ∷ [] ≡ keep_last n (xs ++ t ∷ [])
+room_step n xs t lt =
+    let l = length-append xs (t ∷ []) in
+    let none : length (xs ++ t ∷ []) - n ≡ 0 = omega arith in
+    ap (λ m. drop m (xs ++ t ∷ [])) (sym none)
+
+pub few_kept : {A : Type 0} (n : ℕ) (ts xs : List A) → xs ≡ keep_last n ts → length xs ≤ n
+few_kept n ts xs e = let l : length xs ≡ length ts - (length ts - n) = ap length e ∙ length-drop (length ts - n) ts in omega arith
 
 pub take_whole : {A : Type 0} (k : ℕ) (ts : List A) → length ts ≤ k → take k ts ≡ ts
 take_whole zero [] h = refl
@@ -83,23 +100,27 @@ ended_step k ts t = elim (cases_lt (length ts) k) as (λ _. ended k (ts ++ t ∷
 
 -- what is held after one more, by the equations of the two steps
 module _ (k : ℕ) (ts : List Transmission) (t : Transmission) (old new : Recent) (held : IsRecent k ts old)
-    (w : new.window ≡ buffer (keep_last old.window.capacity (old.window.items ++ t ∷ [])) old.window.capacity) where
-  capacity : old.window.capacity ≡ suc k
-  capacity = ap (λ b. b.capacity) held.window
+    (w : 1 ≤ old.repeat → length old.window.items ≤ old.repeat → new.window.items ≡ keep_last old.repeat (old.window.items ++ t ∷ [])) where
+  pub window_step : new.window.items ≡ keep_last (suc k) (ts ++ t ∷ [])
+  window_step =
+      let short : length old.window.items ≤ suc k = few_kept (suc k) ts old.window.items held.window in
+      let some : 1 ≤ old.repeat = let e = held.repeat in omega arith in
+      let few : length old.window.items ≤ old.repeat = let e = held.repeat in omega arith in
+      w some few ∙ ap (λ n. keep_last n (old.window.items ++ t ∷ [])) held.repeat ∙ ap (λ x. keep_last (suc k) (x ++ t ∷ [])) held.window ∙ keep_step (suc k) ts t (omega arith)
 
-  pub window_step : new.window ≡ buffer (keep_last (suc k) (ts ++ t ∷ [])) (suc k)
-  window_step = w ∙ ap (λ b. buffer (keep_last b.capacity (b.items ++ t ∷ [])) b.capacity) held.window ∙ ap (λ x. buffer x (suc k)) (keep_step (suc k) ts t (omega arith))
-
-  pub recent_step : new.firsts.items ≡ (if nat_lt (length old.firsts.items + 1) old.window.capacity then old.firsts.items ++ t ∷ [] else old.firsts.items) → IsRecent k (ts ++ t ∷ []) new
-  recent_step f = record {
+  pub recent_step : new.repeat ≡ old.repeat → new.firsts.items ≡ (if nat_lt (length old.firsts.items + 1) old.repeat then old.firsts.items ++ t ∷ [] else old.firsts.items) → IsRecent k (ts ++ t ∷ []) new
+  recent_step r f = record {
+    repeat = r ∙ held.repeat;
     window = window_step;
-    firsts = f ∙ ap (λ x. if nat_lt (length x + 1) old.window.capacity then x ++ t ∷ [] else x) held.firsts
-        ∙ ap (λ c. if nat_lt (length (take k ts) + 1) c then take k ts ++ t ∷ [] else take k ts) capacity ∙ sym (take_step k ts t);
+    firsts = f ∙ ap (λ x. if nat_lt (length x + 1) old.repeat then x ++ t ∷ [] else x) held.firsts
+        ∙ ap (λ c. if nat_lt (length (take k ts) + 1) c then take k ts ++ t ∷ [] else take k ts) held.repeat ∙ sym (take_step k ts t);
   }
 
-  pub run_step : (result : Option Run) → result ≡ (if length new.window.items == new.window.capacity then Some (run_of new.window.items) else None) → ended k (ts ++ t ∷ []) ≡ ended k ts ++ listed result
+  pub run_step : (result : Option Run) → result ≡ (if length new.window.items == old.repeat then Some (run_of new.window.items) else None) → ended k (ts ++ t ∷ []) ≡ ended k ts ++ listed result
   unfolding run_at_end
-  run_step result e = ended_step k ts t ∙ ap (λ x. ended k ts ++ listed x) (sym (e ∙ ap (λ b. if length b.items == b.capacity then Some (run_of b.items) else None) window_step))
+  run_step result e = ended_step k ts t ∙ ap (λ x. ended k ts ++ listed x)
+      (sym (e ∙ ap (λ n. if length new.window.items == n then Some (run_of new.window.items) else None) held.repeat
+      ∙ ap (λ xs. if length xs == suc k then Some (run_of xs) else None) window_step))
 
 pub after_more : (limit : ℕ) (starts : List ℕ) (m : Progress) (rs qs : List Run) → after_runs limit starts m (rs ++ qs) ≡ after_runs limit starts (after_runs limit starts m rs) qs
 unfolding after_runs

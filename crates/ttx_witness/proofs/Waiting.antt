@@ -4,7 +4,7 @@ use Rattle.std.specs.List.{Contains}
 use Rattle.std.proofs.lemmas.Bool.{cases_lt}
 use Rattle.std.proofs.lemmas.List.{length-map, length-append}
 use Rattle.std.proofs.lemmas.Option.{slice_get_within}
-use Rattle.circular_buffer.proofs.Places.{slice_get-append_left, slice_get-last}
+use Rattle.ttx_witness.proofs.Holding.{before_here, last_here}
 use Rattle.ttx_page.specs.Views.{page_of}
 use Rattle.ttx_page.specs.declared.page.Page.{Page as PageValue}
 use Rattle.ttx_witness.specs.declared.wait.PageWait.{PageWait}
@@ -284,14 +284,14 @@ pub one_told : (cycle : List (List ℕ)) (pages : List PageValue) (class : Class
 one_told cycle pages class repeat lines m told answer p at page wait h = record {
   count = let l = length-append told (answer ∷ []) in let k = h.count in omega arith;
   each = λ index q lt there. elim (cases_lt index m) as (λ _. IsTold cycle (map page_of pages) class repeat lines index q (told ++ answer ∷ [])) [
-    | inl low ↦ let t = h.each index q low there in record { answer = t.answer; at = slice_get-append_left told (answer ∷ []) index (let k = h.count in omega arith) ∙ t.at; page = t.page; wait = t.wait }
+    | inl low ↦ let t = h.each index q low there in record { answer = t.answer; at = before_here told (answer ∷ []) index (let k = h.count in omega arith) ∙ t.at; page = t.page; wait = t.wait }
     | inr high ↦
         let same : index ≡ m = omega arith in
         let here : slice_get (map page_of pages) m ≡ Some q = subst (λ i. slice_get (map page_of pages) i ≡ Some q) same there in
         let one : p ≡ q = cc in
         record {
           answer = answer;
-          at = slice_get-last told answer index (let k = h.count in omega arith);
+          at = ap (slice_get (told ++ answer ∷ [])) (let k = h.count in let e : index ≡ length told = omega arith in e) ∙ last_here told answer;
           page = page ∙ ap (λ x. x.id) one;
           wait = subst (λ x. IsWait cycle (map page_of pages) x class repeat lines answer.wait) one wait;
         }

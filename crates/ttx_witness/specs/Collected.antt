@@ -6,7 +6,7 @@
 --   AreOwners               the owners are right for each page
 --   IsItem, place           the items of a page, and where the transmissions of an item of a page are kept
 --   held, AreCollected      the list in a place; the lists are the transmissions of all items in the first slots of a period
-use Rattle.std.specs.Prelude.{◌≡◌, ℕ, ◌+◌, ◌-◌, ◌*◌, ◌<◌, ◌≤◌, Bool, false, ◌||◌, ◌==◌, List, [], slice_get, get_or, map, length, nat_eq, Option, Some, None, Vec}
+use Rattle.std.specs.Prelude.{◌≡◌, ℕ, ◌+◌, ◌-◌, ◌*◌, ◌<◌, Bool, false, ◌||◌, ◌==◌, List, [], slice_get, get_or, map, length, nat_eq, Option, Some, None, Vec}
 use Rattle.std.specs.Global.{Global}
 use Rattle.ttx_header.specs.Ids.{Id, IsId, same_id}
 use Rattle.ttx_page.specs.Streams.{repeated}

@@ -6,7 +6,7 @@
 --   confirmed, after_runs   the progress after one run, and after a list of runs
 --   confirmed_runs          the runs that confirm a start
 --   Rising                  named starts rise strictly
-use Rattle.std.specs.Prelude.{ℕ, ◌+◌, ◌-◌, ◌<◌, ℤ, pos, ◌+ℤ◌, Bool, ◌&&◌, if◌then◌else◌, List, [], ◌∷◌, length, Option, Some, None, nat_lt, ◌==◌, slice_index_or, is_none, int_lt, int_le}
+use Rattle.std.specs.Prelude.{ℕ, ◌+◌, ◌-◌, ℤ, pos, ◌+ℤ◌, Bool, ◌&&◌, if◌then◌else◌, List, [], ◌∷◌, length, Option, Some, None, nat_lt, ◌==◌, slice_index_or, is_none, int_lt, int_le}
 use Rattle.ttx_witness.specs.Transmissions.{Run}
 pub use Rattle.ttx_certificate.specs.NamedStarts.{Rising}
 pub use Rattle.ttx_witness.specs.declared.confirming.Progress.{Progress}

@@ -9,6 +9,7 @@ pub mod Sent
 pub mod Collected
 pub mod Sending
 pub mod Facts
+pub mod Placed
 pub mod Following
 pub mod Moving
 pub mod Passing

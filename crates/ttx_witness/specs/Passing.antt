@@ -5,30 +5,32 @@
 --   ended_pages, ended_certificate  and of one that has ended
 --   AreReady                what a pass keeps of its pages alone
 --   AreSeen                 the owners after a list, as the pages see them
---   AreFollowed, AreNoted, AreTold, AreKept     tracks, facts and headers of other subpages after a list, with the owners before it
+--   AreListed, AreNoted, AreTold, AreKept       what the slots send, facts and headers of other subpages after a list, with the owners before it
 --   IsFirstPass             a pass that was given a first list
 --   IsPassed, IsSecondPass  a second pass that was given a second list, after a first one
 --   IsEnded                 a second pass that has ended as it began
 --   EndsAs                  what the end of a second pass answers
-use Rattle.std.specs.Prelude.{◌≡◌, ◌↔◌, ℕ, ◌<◌, ◌≤◌, ◌∷◌, false, List, [], length, map, get_or, slice_get, slice_index_or, Option, Some, None, IsTrue}
+use Rattle.std.specs.Prelude.{◌≡◌, ◌↔◌, ℕ, ◌*◌, ◌<◌, ◌≤◌, false, List, [], length, map, get_or, slice_get, slice_index_or, Option, Some, None, IsTrue}
 use Rattle.std.specs.List.{All}
 use Rattle.ttx_packet.specs.Slots.{IsSlot, is_clean}
 use Rattle.ttx_header.specs.Ids.{Id, IsId}
 use Rattle.ttx_page.specs.Pages.{Page}
 use Rattle.ttx_page.specs.Views.{page_of}
-use Rattle.ttx_page.specs.Streams.{Stream, repeated}
+use Rattle.ttx_page.specs.Streams.{repeated}
 use Rattle.ttx_page.specs.declared.item.Item.{Item}
 use Rattle.ttx_cycle.specs.Files.{IsCycle}
 use Rattle.ttx_certificate.specs.Certificates.{certificate_of}
 use Rattle.ttx_witness.specs.Collected.{IsIndex, AreApart, IsItem, ids_of, owner_for, place}
 use Rattle.ttx_witness.specs.Coverage.{Certificate}
 use Rattle.ttx_witness.specs.Facts.{FirstBelow, AreFacts}
-use Rattle.ttx_witness.specs.Following.{Held, progress_in, Holds, FollowsPlace, IsProgress}
+use Rattle.ttx_witness.specs.Following.{Holds}
+use Rattle.ttx_witness.specs.Placed.{placed, IsLinked}
 use Rattle.ttx_witness.specs.OtherSubpages as table
 use Rattle.ttx_witness.specs.OtherSubpages.{AreAllSubcodes, IsStrayAt, TellsBelow}
-use Rattle.ttx_witness.specs.Sent.{PageOwner, owner_scan, sent_scan, entry_of}
+use Rattle.ttx_witness.specs.Sent.{PageOwner, owner_scan, sent_scan, sent_in, entry_of}
 use Rattle.ttx_witness.specs.declared.owners.Owner.{Owner}
 use Rattle.ttx_witness.specs.declared.facts.Facts.{Facts}
+use Rattle.ttx_witness.specs.declared.sent_slots.SentSlots.{SentSlots}
 use Rattle.ttx_witness.specs.declared.strays.Strays.{Strays}
 use Rattle.ttx_witness.specs.declared.passing.Pass.{Pass}
 use Rattle.ttx_witness.specs.declared.passing.SecondPass.{SecondPass}
@@ -64,6 +66,14 @@ pub record AreSeen (pass : Pass) (entry : Id → Option PageOwner) (y : List (Li
   pub each : (i : ℕ) (id : Id) → slice_get (ids pass) i ≡ Some id → IsId id → owner_for owners i id ≡ owner_scan id (repeated y) (entry id) (length y)
   pub apart : AreApart (ids pass) owners
 
+-- what the slots send of each item of each page; they aren't linked yet
+pub record AreListed (pages : List Page) (w : Certificate) (entry : Id → Option PageOwner) (y : List (List ℕ)) (sent : SentSlots) : Type 0 where
+  pub count : length sent.slots.items ≡ length y
+  pub places : length sent.firsts.items ≡ 26 * length pages
+  pub unlinked : (n : ℕ) → get_or sent.firsts.items n None ≡ None
+  pub each : (i : ℕ) (p : Page) (item : Item) → slice_get pages i ≡ Some p → IsItem item →
+      placed (place i item) sent.slots.items ≡ sent_scan p.id w.lines item (repeated y) (entry p.id) (length y)
+
 -- the facts of each page
 abbrev pub AreNoted : List Page → Certificate → (Id → Option PageOwner) → List (List ℕ) → List Facts → Type 0
 AreNoted pages w entry y all = (i : ℕ) (p : Page) → slice_get pages i ≡ Some p → Holds Facts all i (AreFacts w p (repeated y) (entry p.id) (length y))
@@ -74,8 +84,7 @@ AreTold y strays = (mag number : ℕ) → 1 ≤ mag → mag ≤ 8 → number < 2
     TellsBelow (IsStrayAt strays.subcodes.items (repeated y) mag number) (length y) (get_or strays.first.items (table.place mag number) None)
 
 pub record AreKept (pass : Pass) (entry : Id → Option PageOwner) (y : List (List ℕ)) : Type 0 where
-  pub followed : (i : ℕ) (p : Page) (item : Item) → slice_get (pages_of pass) i ≡ Some p → IsItem item →
-      Holds Held pass.followed.items (place i item) (FollowsPlace (certificate pass) p item (sent_scan p.id (certificate pass).lines item (repeated y) (entry p.id) (length y)))
+  pub sent : AreListed (pages_of pass) (certificate pass) entry y pass.sent
   pub facts : AreNoted (pages_of pass) (certificate pass) entry y pass.facts.items
   pub strays : AreTold y pass.strays
 
@@ -87,7 +96,7 @@ pub record IsFirstPass (pass : Pass) (x : List (List ℕ)) : Type 0 where
   pub owners : AreSeen pass (λ id. None) x pass.owners
   pub nothing : AreKept pass (λ id. None) []
 
--- Of the second it keeps tracks and facts, as if the owners before it were those at the end of the first, and its own at its end.
+-- Of the second it keeps what its slots send and facts, as if the owners before it were those at the end of the first, and its own at its end.
 pub record IsPassed (second : SecondPass) (x y : List (List ℕ)) : Type 0 where
   pub count : second.pass.count ≡ length y
   pub owners : AreSeen second.pass (entry_of x) y second.pass.owners
@@ -102,14 +111,16 @@ pub record IsSecondPass (second : SecondPass) (x y : List (List ℕ)) : Type 0 w
   pub over : IsTrue second.over ↔ (65536 < length y)
   pub passed : length y ≤ 65536 → IsPassed second x y
 
--- The owners before the second list were its own, and each track has taken what follows the period.
+-- The owners before the second list were its own, and the slots of each item are linked.
 pub record IsEnded (ended : EndedPass) (y : List (List ℕ)) : Type 0 where
   pub cycle : IsCycle y
   pub bad : FirstBelow (λ j. is_clean (slice_index_or y j []) ≡ false) (length y) ended.bad
   pub subcodes : AreAllSubcodes (ended_pages ended) (length ended.pages.now) ended.strays.subcodes.items
   pub period : ended.period ≡ length y
-  pub progress : (i : ℕ) (p : Page) (item : Item) → slice_get (ended_pages ended) i ≡ Some p → IsItem item →
-      Holds Held ended.followed.items (place i item) (λ o. IsProgress y p (ended_certificate ended) item (progress_in o))
+  pub places : length ended.sent.firsts.items ≡ 26 * length (ended_pages ended)
+  pub linked : IsLinked ended.sent.slots.items ended.sent.firsts.items ended.sent.nexts.items 0
+  pub sent : (i : ℕ) (p : Page) (item : Item) → slice_get (ended_pages ended) i ≡ Some p → IsItem item →
+      placed (place i item) ended.sent.slots.items ≡ sent_in y p.id (ended_certificate ended).lines item
   pub facts : AreNoted (ended_pages ended) (ended_certificate ended) (entry_of y) y ended.facts.items
   pub strays : AreTold y ended.strays
 

@@ -1,14 +1,14 @@
 -- What is kept of the transmissions of one item while a period is read.
 --
+--   keep_last               the last of a list, so many at most
 --   ended                   the runs that have ended once some transmissions are read
 --   IsRecent                what is held of a list of transmissions
 --   IsRound                 the same after some of the transmissions that follow the period
 --   IsWithin, IsTurn        the numbers of a transmission are small; the first of a list goes to its end, a period later
 --   AreInOrder              transmissions slot by slot, in slots from 0 to below 65,536
 --   IsTrack, IsSearch       a track, and a search for starts, after a list of transmissions
-use Rattle.std.specs.Prelude.{◌≡◌, ℕ, suc, ◌-◌, pos, ◌+ℤ◌, ◌<ℤ◌, ◌≤ℤ◌, List, [], ◌∷◌, ◌++◌, map, take, Option, Some, None}
+use Rattle.std.specs.Prelude.{◌≡◌, ℕ, suc, ◌-◌, pos, ◌+ℤ◌, ◌<ℤ◌, ◌≤ℤ◌, List, [], ◌∷◌, ◌++◌, length, map, take, drop, Option, Some, None}
 use Rattle.std.specs.List.{All, AllPairs}
-use Rattle.circular_buffer.specs.Buffer.{keep_last, buffer}
 use Rattle.ttx_witness.specs.Transmissions.{Transmission, Run, run_of, windows, later, further}
 use Rattle.ttx_witness.specs.Confirming.{after_runs, not_begun}
 use Rattle.ttx_witness.specs.Searching.{sure_starts, spread_of}
@@ -16,12 +16,16 @@ use Rattle.ttx_witness.specs.declared.recent.Recent.{Recent}
 use Rattle.ttx_witness.specs.declared.track.Track.{Track}
 use Rattle.ttx_witness.specs.declared.search.Search.{Search}
 
+abbrev pub keep_last : {A : Type 0} → ℕ → List A → List A
+keep_last n ts = drop (length ts - n) ts
+
 abbrev pub ended : ℕ → List Transmission → List Run
 ended k ts = map run_of (windows (suc k) ts)
 
 -- the last k + 1 transmissions and the first k
 pub record IsRecent (k : ℕ) (ts : List Transmission) (recent : Recent) : Type 0 where
-  pub window : recent.window ≡ buffer (keep_last (suc k) ts) (suc k)
+  pub repeat : recent.repeat ≡ suc k
+  pub window : recent.window.items ≡ keep_last (suc k) ts
   pub firsts : recent.firsts.items ≡ take k ts
 
 abbrev pub listed : Option Run → List Run
@@ -48,7 +52,8 @@ IsTurn n (t ∷ ts) result new = (result ≡ later n t) × (new ≡ ts ++ later 
 -- after i of the k transmissions that follow the period's ts; rs are the runs that have ended
 pub record IsRound (k n i : ℕ) (ts : List Transmission) (rs : List Run) (recent : Recent) : Type 0 where
   pub more : List Transmission
-  pub window : recent.window ≡ buffer (keep_last (suc k) (ts ++ more)) (suc k)
+  pub repeat : recent.repeat ≡ suc k
+  pub window : recent.window.items ≡ keep_last (suc k) (ts ++ more)
   pub runs : rs ≡ ended k (ts ++ more)
   pub rest : more ++ further n (k - i) recent.firsts.items ≡ further n k (take k ts)
 

@@ -1,19 +1,24 @@
 //! What the second pass tells of the pages, once it has ended.
 
-ghost use Rattle.std.specs.Prelude.{◌≡◌, ◌<◌, ℕ, Option, Some, None, is_some, get_or, slice_get};
+ghost use Rattle.std.specs.Prelude.{◌≡◌, [], Option, None, if◌then◌else◌, is_some, get_or, slice_get};
+ghost use Rattle.ttx_certificate.specs.Certificates.{certificate_of};
+ghost use Rattle.ttx_page.specs.Pages as definitions;
+ghost use Rattle.ttx_page.specs.Views.{page_of};
 ghost use Rattle.ttx_witness.specs.OtherSubpages as tables;
-ghost use Rattle.ttx_witness.specs.Following.{Held, progress_kept, progress_in};
 
 use crate::confirming::Progress;
 use crate::facts::{Facts, late_of};
 use crate::first_slots::{FirstSlots, least_fault};
-use crate::following::{Followed, Kept};
+use crate::following::{finish, take_all};
+use crate::items::nothing_confirmed;
+use crate::page_items::{item_of, run_length};
 use crate::reason::Reason;
+use crate::sent_slots::SentSlots;
 use crate::strays::Strays;
 use crate::subcodes::place;
 use ttx_certificate::{Certificate, limit};
 use ttx_header::PageId;
-use ttx_page::Page;
+use ttx_page::{Item, Page, needed};
 
 /// What a cycle of `period` slots sends of the pages, with a certificate; `bad` is its first slot that isn't clean.
 #[derive(Drop)]
@@ -23,7 +28,7 @@ pub struct EndedPass<'a> {
     pub period: u32,
     pub bad: Option<u32>,
     pub(crate) strays: Strays,
-    pub(crate) followed: Vec<Option<Followed<'a>>>,
+    pub(crate) sent: SentSlots,
     pub(crate) facts: Vec<Facts>,
 }
 
@@ -41,23 +46,14 @@ fn facts_at(all: &[Facts], index: usize) -> Option<Facts>
     all.get(index).copied()
 }
 
-// How far the named starts are confirmed.
-fn progress_of(kept: &Kept) -> Progress
-    ensures { result ≡ progress_kept kept.now }
+// The starts that are named for the item, where a viewer needs it, and else none.
+fn needed_starts<'a>(page: &Page, certificate: &'a Certificate, item: &Item) -> &'a [u32]
+    ensures { result.now ≡ (if definitions.needed (page_of page.now) item.now then (certificate_of certificate.now).starts (page_of page.now).id item.now else []) }
 {
-    match kept {
-        Kept::Single(progress) => *progress,
-        Kept::Several(track) => track.progress,
-    }
-}
-
-// How far the named starts in this place are confirmed.
-fn progress_at(all: &[Option<Followed>], at: usize) -> Option<Progress>
-    ensures { (x : Held) → slice_get all.now at ≡ Some x → result ≡ progress_in x }
-{
-    match all.get(at) {
-        Some(Some(followed)) => Some(progress_of(&followed.kept)),
-        _ => None,
+    if needed(page, *item) {
+        certificate.starts(page.id(), *item)
+    } else {
+        &[]
     }
 }
 
@@ -121,9 +117,21 @@ impl<'a> EndedPass<'a> {
         ensures { (y : List (List ℕ)) (p : definitions.Page) (item : Item) → IsEnded self.now y → slice_get (ended_pages self.now) index ≡ Some p → IsItem item → item_number item ≡ number →
             IsProgress y p (ended_certificate self.now) item result }
     {
-        if index >= self.followed.len() / 26 {
+        ttx_certificate::certificate_laws::certificates_keep_their_rules();
+        crate::judging_laws::transmissions_are_listed();
+        if index >= self.sent.firsts.len() / 26 {
             return None;
         }
-        progress_at(self.followed.as_slice(), 26 * index + usize::from(number))
+        let item = item_of(number);
+        let starts = needed_starts(&self.pages[index], self.certificate, &item);
+        if starts.is_empty() {
+            return None;
+        }
+        let place = 26 * index + usize::from(number);
+        let limit = limit(self.certificate);
+        let mut track = nothing_confirmed(run_length(self.certificate.repeat(), &item));
+        take_all(&mut track, &self.sent, place, starts, limit);
+        finish(&mut track, self.period, starts, limit);
+        Some(track.progress)
     }
 }

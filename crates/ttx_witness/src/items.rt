@@ -1,6 +1,6 @@
 //! The transmissions of one item in a period, searched for starts or held against named ones.
 
-ghost use Rattle.std.specs.Prelude.{◌≡◌, ◌≤◌, ◌-◌, [], IfOk};
+ghost use Rattle.std.specs.Prelude.{◌≡◌, ◌≤◌, ◌-◌, ℕ, List, [], IfOk};
 ghost use Rattle.std.specs.List.{AllByRecursion};
 ghost use Rattle.ttx_witness.specs.Transmissions.{runs};
 ghost use Rattle.ttx_witness.specs.Confirming.{after_runs, not_begun};
@@ -13,21 +13,37 @@ use crate::search::{self, Search};
 use crate::track::{self, Track};
 use crate::transmissions::Transmission;
 use arrayvec::ArrayVec;
-use circular_buffer::HeapCircularBuffer;
 use std::alloc::Global;
 use ttx_certificate::NoMemory;
 
-/// Room for a run of so many transmissions, none taken yet.
-pub fn nothing_sent(alloc: Global, repeat: usize) -> Result<Recent, NoMemory>
+/// Nothing taken yet of an item whose runs have so many transmissions.
+fn nothing_sent(repeat: usize) -> Recent
     requires some { 1 ≤ repeat }
-    ensures { IfOk result (λ r. IsRecent (repeat - 1) [] r) }
+    ensures { IsRecent (repeat - 1) [] result }
 {
-    match HeapCircularBuffer::with_capacity(alloc, repeat) {
-        Ok(window) => Ok(Recent {
-            window,
-            firsts: ArrayVec::new(),
-        }),
-        Err(_) => Err(NoMemory),
+    Recent {
+        repeat,
+        window: ArrayVec::new(),
+        firsts: ArrayVec::new(),
+    }
+}
+
+/// A track of such an item.
+pub fn nothing_confirmed(repeat: usize) -> Track
+    requires some { 1 ≤ repeat }
+    ensures track { (limit : ℕ) (starts : List ℕ) → IsTrack (repeat - 1) limit starts [] result }
+    ensures repeat { result.recent.repeat ≡ repeat }
+    ensures firsts { result.recent.firsts.items ≡ [] }
+{
+    let progress = Progress {
+        next: 0,
+        previous: 0,
+        first_end: 0,
+        late: None,
+    };
+    Track {
+        recent: nothing_sent(repeat),
+        progress,
     }
 }
 
@@ -44,9 +60,8 @@ pub fn search_item(
     requires short { period ≤ 65536 }
     ensures { IfOk result (λ s. IsFound (runs period (repeat - 1) sent.now) s.starts.items s.spread) }
 {
-    let recent = nothing_sent(alloc, repeat)?;
     let mut search = Search {
-        recent,
+        recent: nothing_sent(repeat),
         starts: Vec::new(alloc),
         spread: None,
     };
@@ -57,9 +72,9 @@ pub fn search_item(
     Ok(search)
 }
 
-/// How far the named starts are confirmed by the transmissions of a period.
+/// How far the named starts are confirmed by the transmissions of a period. No memory is taken.
 pub fn judge_item(
-    alloc: Global,
+    _alloc: Global,
     sent: &[Transmission],
     starts: &[u32],
     repeat: usize,
@@ -72,14 +87,7 @@ pub fn judge_item(
     requires short { period ≤ 65536 }
     ensures { IfOk result (λ p. p ≡ after_runs limit starts.now not_begun (runs period (repeat - 1) sent.now)) }
 {
-    let recent = nothing_sent(alloc, repeat)?;
-    let progress = Progress {
-        next: 0,
-        previous: 0,
-        first_end: 0,
-        late: None,
-    };
-    let mut track = Track { recent, progress };
+    let mut track = nothing_confirmed(repeat);
     for i in 0..sent.len() {
         track::note(&mut track, sent[i], starts, limit);
     }

@@ -34,6 +34,7 @@ mod recent;
 mod search;
 mod sending;
 mod sent_faults;
+mod sent_slots;
 mod steady;
 mod strays;
 mod subcodes;

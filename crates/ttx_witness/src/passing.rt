@@ -9,12 +9,12 @@ ghost use Rattle.ttx_witness.specs.Sent.{PageOwner};
 
 use crate::ending::EndedPass;
 use crate::facts::{Facts, note_sent};
-use crate::following::{Followed, finish_all, take_sent};
 use crate::moving::all_moved;
 use crate::other_subpages::first_of;
 use crate::owners::{Owner, note_owner};
 use crate::page_index::PageIndex;
 use crate::sending::sent_in_slot;
+use crate::sent_slots::SentSlots;
 use crate::steady::are_steady;
 use crate::strays::{Strays, note_stray};
 use thiserror::Error;
@@ -38,7 +38,7 @@ pub struct Pass<'a> {
     pub(crate) certificate: &'a Certificate,
     pub(crate) index: PageIndex,
     pub(crate) strays: Strays,
-    pub(crate) followed: Vec<Option<Followed<'a>>>,
+    pub(crate) sent: SentSlots,
     pub(crate) facts: Vec<Facts>,
     pub(crate) owners: [Option<Owner>; 8],
     pub(crate) count: u32,
@@ -54,7 +54,7 @@ pub struct SecondPass<'a> {
     pub(crate) over: bool,
 }
 
-// Takes one more slot into tracks and facts, and notes it in the owners.
+// Takes one more slot: what it sends, facts, and the owners after it.
 fn take_slot(pass: &mut Pass, slot: &[u8; 42])
     requires slot { IsSlot slot.now }
     requires few { pass.old.count < 65536 }
@@ -73,7 +73,7 @@ fn take_slot(pass: &mut Pass, slot: &[u8; 42])
         pass.certificate.lines(),
     );
     let sent = sent_in_slot(&pass.owners, &pass.index, slot, j as i32, lines);
-    take_sent(&mut pass.followed, sent, limit);
+    pass.sent.note(sent);
     note_sent(&mut pass.facts, pass.pages, sent, slot, j, limit);
     note_stray(&mut pass.strays, slot, j);
     note_owner(&mut pass.owners, &pass.index, slot, j as i32);
@@ -147,8 +147,6 @@ impl<'a> SecondPass<'a> {
         ensures certificate { IfSome result (λ ended. ended_certificate ended ≡ certificate_in self.entry) }
     {
         ttx_page::laws::pages_keep_their_rules();
-        ttx_certificate::certificate_laws::certificates_keep_their_rules();
-        crate::judging_laws::transmissions_are_listed();
         let (pages, certificate) = (self.pass.pages, self.pass.certificate);
         let period = self.pass.count;
         let is_steady = are_steady(pages, &self.entry, &self.pass.owners, period);
@@ -157,15 +155,14 @@ impl<'a> SecondPass<'a> {
         }
         let bad = self.bad;
         let mut pass = self.pass;
-        let limit = limit(certificate);
-        finish_all(&mut pass.followed, period, limit);
+        pass.sent.link();
         Some(EndedPass {
             pages,
             certificate,
             period,
             bad,
             strays: pass.strays,
-            followed: pass.followed,
+            sent: pass.sent,
             facts: pass.facts,
         })
     }

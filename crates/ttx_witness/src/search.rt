@@ -89,7 +89,7 @@ fn keep_start(
 
 /// Takes the next transmission of the period.
 pub fn note(search: &mut Search, t: Transmission) -> Result<(), NoMemory>
-    requires room { search.old.recent.window.capacity ≤ 8 }
+    requires room { search.old.recent.repeat ≤ 8 }
     ensures { OnOk result ((k : ℕ) (ts : List Transmission) → IsSearch k ts search.old → IsSearch k (ts ++ t ∷ []) search.new) }
 {
     let run = push(&mut search.recent, t);
@@ -99,8 +99,8 @@ pub fn note(search: &mut Search, t: Transmission) -> Result<(), NoMemory>
 
 /// Takes the transmissions that follow the period, round the cycle.
 pub fn finish(search: &mut Search, period: u32) -> Result<(), NoMemory>
-    requires some { 1 ≤ search.old.recent.window.capacity }
-    requires room { search.old.recent.window.capacity ≤ 8 }
+    requires some { 1 ≤ search.old.recent.repeat }
+    requires room { search.old.recent.repeat ≤ 8 }
     requires firsts { length search.old.recent.firsts.items ≤ 7 }
     requires small { AllByRecursion (IsWithin 65536) search.old.recent.firsts.items }
     requires short { period ≤ 65536 }
@@ -109,7 +109,7 @@ pub fn finish(search: &mut Search, period: u32) -> Result<(), NoMemory>
     if search.recent.firsts.is_empty() {
         return Ok(());
     }
-    let count = search.recent.window.capacity() - 1;
+    let count = search.recent.repeat - 1;
     for i in 0..count {
         let run = push_further(&mut search.recent, period);
         search.spread = keep_start(&mut search.starts, search.spread, run)?;

@@ -30,7 +30,7 @@ fn progress_after(progress: Progress, run: Option<Run>, starts: &[u32], limit: u
 
 /// Takes the next transmission of the period.
 pub fn note(track: &mut Track, t: Transmission, starts: &[u32], limit: u32)
-    requires room { track.old.recent.window.capacity ≤ 8 }
+    requires room { track.old.recent.repeat ≤ 8 }
     ensures { (k : ℕ) (ts : List Transmission) → IsTrack k limit starts.now ts track.old → IsTrack k limit starts.now (ts ++ t ∷ []) track.new }
 {
     let run = push(&mut track.recent, t);
@@ -39,8 +39,8 @@ pub fn note(track: &mut Track, t: Transmission, starts: &[u32], limit: u32)
 
 /// Takes the transmissions that follow the period, round the cycle.
 pub fn finish(track: &mut Track, period: u32, starts: &[u32], limit: u32)
-    requires some { 1 ≤ track.old.recent.window.capacity }
-    requires room { track.old.recent.window.capacity ≤ 8 }
+    requires some { 1 ≤ track.old.recent.repeat }
+    requires room { track.old.recent.repeat ≤ 8 }
     requires firsts { length track.old.recent.firsts.items ≤ 7 }
     requires small { AllByRecursion (IsWithin 65536) track.old.recent.firsts.items }
     requires short { period ≤ 65536 }
@@ -49,7 +49,7 @@ pub fn finish(track: &mut Track, period: u32, starts: &[u32], limit: u32)
     if track.recent.firsts.is_empty() {
         return;
     }
-    let count = track.recent.window.capacity() - 1;
+    let count = track.recent.repeat - 1;
     for i in 0..count {
         let run = push_further(&mut track.recent, period);
         track.progress = progress_after(track.progress, run, starts, limit);

@@ -4,8 +4,6 @@ ghost use Rattle.std.specs.Prelude.{◌≡◌};
 ghost use Rattle.std.specs.List.{list_all};
 ghost use Rattle.ttx_witness.specs.Transmissions.{run_between, run_of};
 
-use circular_buffer::HeapCircularBuffer;
-
 /// A transmission: its slot, its owner's slot, and whether no receiver may miss it.
 #[derive(Clone, Copy, Default)]
 pub struct Transmission {
@@ -30,14 +28,6 @@ fn each_sure(transmissions: &[Transmission]) -> bool
     transmissions.iter().all(|t| t.sure)
 }
 
-// Whether each transmission in the window is sure.
-fn all_sure(window: &HeapCircularBuffer<Transmission>) -> bool
-    ensures { result ≡ list_all (λ t. t.sure) window.now.items }
-{
-    let (front, back) = window.as_slices();
-    each_sure(front) && each_sure(back)
-}
-
 // The run from one transmission to another.
 fn run_from(first: Transmission, last: Transmission, sure: bool) -> Run
     ensures { result ≡ run_between first last sure }
@@ -50,12 +40,12 @@ fn run_from(first: Transmission, last: Transmission, sure: bool) -> Run
     }
 }
 
-/// The run of the transmissions in a window.
-pub fn run_in(window: &HeapCircularBuffer<Transmission>) -> Run
-    ensures { result ≡ run_of window.now.items }
+/// The run of successive transmissions.
+pub fn run_in(transmissions: &[Transmission]) -> Run
+    ensures { result ≡ run_of transmissions.now }
 {
-    let sure = all_sure(window);
-    let (Some(first), Some(last)) = (window.front(), window.back()) else {
+    let sure = each_sure(transmissions);
+    let (Some(first), Some(last)) = (transmissions.first(), transmissions.last()) else {
         return Run {
             start: 0,
             owner: 0,

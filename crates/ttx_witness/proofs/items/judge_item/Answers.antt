@@ -1,13 +1,11 @@
-use Rattle.std.proofs.Common.{◌-◌, take, None, pos, refl, subst, arith}
+use Rattle.std.proofs.Common.{◌-◌, take, subst, arith}
 use Rattle.ttx_witness.specs.Tracks.{IsTrack}
-use Rattle.ttx_witness.proofs.OneByOne.{take_more, track_begins}
+use Rattle.ttx_witness.proofs.OneByOne.{take_more}
 use Rattle.ttx_witness.proofs.Steps.{take_whole}
 use Rattle.ttx_witness.proofs.items.judge_item.Goals as goal
 
 pub loop-i-init : goal.loop-i-init
-loop-i-init c = record {
-  held = track_begins (c.args.repeat - 1) c.args.limit c.args.starts.now (record { recent = c.in_ok-recent.recent; progress = record { next = 0; previous = pos 0; first_end = pos 0; late = None } }) c.in_ok-recent.ensures refl;
-}
+loop-i-init c = record { held = c.nothing_confirmed-track.ensures.track c.args.limit c.args.starts.now }
 
 pub loop-i-preserved : goal.loop-i-preserved
 loop-i-preserved c = record {

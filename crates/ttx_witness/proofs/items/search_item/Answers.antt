@@ -5,7 +5,7 @@ use Rattle.ttx_witness.proofs.Steps.{take_whole}
 use Rattle.ttx_witness.proofs.items.search_item.Goals as goal
 
 pub loop-i-init : goal.loop-i-init
-loop-i-init c = record { held = search_begins (c.args.repeat - 1) (record { recent = c.in_ok-recent.recent; starts = c.new.result; spread = None }) c.in_ok-recent.ensures c.new.ensures.items refl }
+loop-i-init c = record { held = search_begins (c.args.repeat - 1) (record { recent = c.nothing_sent.result; starts = c.new.result; spread = None }) c.nothing_sent.ensures c.new.ensures.items refl }
 
 pub loop-i-preserved : goal.loop-i-preserved
 loop-i-preserved c = record {

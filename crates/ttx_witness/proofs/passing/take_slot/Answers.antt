@@ -1,4 +1,4 @@
-use Rattle.std.proofs.Common.{rules, ◌≡◌, ◌++◌, ◌∷◌, [], length, get_or, None, sym, subst}
+use Rattle.std.proofs.Common.{rules, ◌≡◌, ◌+◌, ◌<◌, ◌++◌, ◌∷◌, [], length, get_or, None, sym, ap, ◌∙◌, subst, arith, length-append}
 use Rattle.ttx_page.specs.Streams.{repeated}
 use Rattle.ttx_witness.specs.Coverage.{Certificate, IsCertificate}
 use Rattle.ttx_witness.specs.Collected.{owner_for}
@@ -6,7 +6,7 @@ use Rattle.ttx_witness.specs.OtherSubpages.{place, AreAllSubcodes, IsStrayAt, Te
 use Rattle.ttx_witness.proofs.Indexing.{ids_are}
 use Rattle.ttx_witness.specs.Passing.{ids, pages_of, certificate}
 use Rattle.ttx_witness.proofs.Growing.{owner_grown, strays_more}
-use Rattle.ttx_witness.proofs.Stepping.{id_of_page, place_more, facts_more}
+use Rattle.ttx_witness.proofs.Stepping.{id_of_page, listed_more, facts_more}
 use Rattle.ttx_witness.proofs.passing.take_slot.Goals as goal
 
 pub returns-clause-ready : goal.returns-clause-ready
@@ -20,24 +20,25 @@ returns-clause-taken c = λ entry y ready count seen kept.
     let z = c.args.slot.now in
     let w : Certificate = certificate pass in
     let is : IsCertificate w = (c.certificates_keep_their_rules.ensures pass.certificate.now).1 in
-    let end : pass.count ≡ length y = count in (
+    let end : pass.count ≡ length y = count in
+    let room : length pass.sent.slots.items < 65536 = (let k = kept.sent.count in let f = c.requires.few in omega arith) in
+    let grows = c.note.ensures.slots room in (
       record {
         each = λ i id at is_id. owner_grown y z id (entry id) (owner_for pass.owners i id) (owner_for c.note_owner.new.owners i id) _ (search (rules, end)) (seen.each i id at is_id)
             (c.note_owner.ensures.after (ids pass) ready.index i id at is_id);
         apart = c.note_owner.ensures.apart (ids pass) ready.index seen.apart;
       },
       record {
-        followed = λ i p item at it.
-            let h = kept.followed i p item at it in
-            let t = c.take_sent.ensures.taken i item h.value it h.here in
-            let at_id = id_of_page pass.pages.now i p at in
-            record {
-              value = t.value;
-              here = t.here;
-              is = place_more w is p i c.sent_in_slot-sent.result y z (entry p.id) (owner_for pass.owners i p.id) _ (search (rules, end)) (seen.each i p.id at_id (ids_are c.pages_keep_their_rules.ensures pass.pages.now i p.id at_id))
-                  c.lines-lines.result c.lines-lines.ensures (λ item it. c.sent_in_slot-sent.ensures.sent (ids pass) ready.index seen.apart i p.id item at_id it)
-                  item it c.limit-limit.result c.limit-limit.ensures h.value t.value h.is t.is;
-            };
+        sent = record {
+          count = ap length grows ∙ length-append pass.sent.slots.items (c.sent_in_slot-sent.result ∷ []) ∙ ap (λ n. n + 1) kept.sent.count ∙ sym (length-append y (z ∷ []));
+          places = ap (λ v. length v.items) c.note.ensures.firsts ∙ kept.sent.places;
+          unlinked = λ n. ap (λ v. get_or v.items n None) c.note.ensures.firsts ∙ kept.sent.unlinked n;
+          each = λ i p item at it.
+              let at_id = id_of_page pass.pages.now i p at in
+              listed_more w is p i c.sent_in_slot-sent.result y z (entry p.id) (owner_for pass.owners i p.id) _ (search (rules, end)) (seen.each i p.id at_id (ids_are c.pages_keep_their_rules.ensures pass.pages.now i p.id at_id))
+              c.lines-lines.result c.lines-lines.ensures (λ item it. c.sent_in_slot-sent.ensures.sent (ids pass) ready.index seen.apart i p.id item at_id it)
+              item it pass.sent.slots.items c.note.new.self.slots.items grows (kept.sent.each i p item at it);
+        };
         facts = λ i p at.
             let h = kept.facts i p at in
             let t = c.note_sent.ensures.noted i p h.value at h.here in

@@ -11,4 +11,4 @@ returns-clause-within c = λ bound w.
 
 pub returns-clause-round : goal.returns-clause-round
 returns-clause-round c = λ k i ts rs lt r.
-    round_step k c.args.period i ts rs c.args.recent.now (record { window = c.take_next.new.window; firsts = c.turn-t.new.firsts }) c.turn-t.result c.take_next.result lt r c.turn-t.ensures c.take_next.ensures.kept c.take_next.ensures.run
+    round_step k c.args.period i ts rs c.args.recent.now (record { repeat = c.args.recent.now.repeat; window = c.take_next.new.window; firsts = c.turn-t.new.firsts }) c.turn-t.result c.take_next.result lt r c.turn-t.ensures refl c.take_next.ensures.kept c.take_next.ensures.run

@@ -1,4 +1,4 @@
-use Rattle.std.proofs.Common.{ℕ, ◌+◌, ◌*◌, ◌≤◌, List, length}
+use Rattle.std.proofs.Common.{◌≡◌, ℕ, ◌+◌, ◌*◌, ◌≤◌, List, length}
 use Rattle.std.specs.List.{AllByRecursion}
 use Rattle.ttx_witness.specs.Transmissions.{Transmission, Run}
 use Rattle.ttx_witness.specs.Searching.{IsFound}
@@ -7,6 +7,7 @@ use Rattle.ttx_witness.proofs.search.finish.Given as goal
 
 abbrev pub invariant-loop-i : goal.invariant-loop-i
 invariant-loop-i l = record {
+  repeat : l.search.recent.repeat ≡ l.initial.search.recent.repeat;
   some : 1 ≤ length l.search.recent.firsts.items;
   firsts : length l.search.recent.firsts.items ≤ 7;
   small : AllByRecursion (IsWithin ((l.i + 1) * 65536)) l.search.recent.firsts.items;

@@ -7,6 +7,7 @@ use Rattle.ttx_witness.proofs.track.finish.Given as goal
 
 abbrev pub invariant-loop-i : goal.invariant-loop-i
 invariant-loop-i l = record {
+  repeat : l.track.recent.repeat ≡ l.initial.track.recent.repeat;
   some : 1 ≤ length l.track.recent.firsts.items;
   firsts : length l.track.recent.firsts.items ≤ 7;
   small : AllByRecursion (IsWithin ((l.i + 1) * 65536)) l.track.recent.firsts.items;

@@ -6,5 +6,5 @@ use Rattle.ttx_witness.proofs.transmissions.run_in.Goals as goal
 pub returns : goal.returns
 returns c =
     let h = c.in-Some-Some in
-    c.run_from.ensures ∙ ap (run_between h.first.now h.last.now) c.all_sure-sure.ensures
-    ∙ run_of_ends c.args.window.now.items h.first.now h.last.now (sym h.ensures) (sym h.ensures')
+    c.run_from.ensures ∙ ap (run_between h.first.now h.last.now) c.each_sure-sure.ensures
+    ∙ run_of_ends c.args.transmissions.now h.first.now h.last.now (sym h.ensures.value) (sym h.ensures'.value)

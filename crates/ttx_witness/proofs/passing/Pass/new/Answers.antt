@@ -1,10 +1,11 @@
-use Rattle.std.proofs.Common.{◌-◌, [], length, map, refl, sym, ap, subst, arith}
+use Rattle.std.proofs.Common.{◌-◌, ◌*◌, ◌∙◌, [], length, map, refl, sym, ap, subst, arith}
 use Rattle.std.proofs.lemmas.List.{length-map}
 use Rattle.std.proofs.lemmas.Option.{slice_get_within}
 use Rattle.ttx_page.specs.Views.{page_of}
 use Rattle.ttx_page.specs.Streams.{repeated}
 use Rattle.ttx_certificate.specs.Certificates.{certificate_of}
-use Rattle.ttx_witness.specs.Collected.{ids_of, seen_by, IsForeign}
+use Rattle.ttx_witness.specs.Collected.{seen_by, IsForeign, place as item_place}
+use Rattle.ttx_witness.specs.Placed.{placed}
 use Rattle.ttx_witness.specs.OtherSubpages.{place, IsStrayAt}
 use Rattle.ttx_witness.specs.Sent.{owner_scan, sent_scan}
 use Rattle.ttx_witness.proofs.Entering.{none_at}
@@ -13,7 +14,7 @@ use Rattle.ttx_witness.proofs.Nothing.{nothing_noted}
 use Rattle.ttx_witness.proofs.passing.Pass.new.Goals as goal
 
 pub returns-clause-stands : goal.returns-clause-stands
-unfolding owner_scan sent_scan
+unfolding owner_scan sent_scan placed
 returns-clause-stands c =
     let pages = c.args.pages.now in
     record {
@@ -25,7 +26,12 @@ returns-clause-stands c =
         apart = λ m i id lt at d. subst (IsForeign i) (sym (none_at m)) tt;
       };
       nothing = record {
-        followed = c.in_ok-followed.ensures;
+        sent = record {
+          count = ap length c.in_ok-sent.ensures.slots;
+          places = c.in_ok-sent.ensures.places ∙ ap (λ n. 26 * n) (sym (length-map pages page_of));
+          unlinked = c.in_ok-sent.ensures.unlinked;
+          each = λ i p item at it. ap (placed (item_place i item)) c.in_ok-sent.ensures.slots;
+        };
         facts = λ i p at.
             let lt = slice_get_within (map page_of pages) i p at in
             let l = length-map pages page_of in

@@ -1,14 +1,12 @@
-use Rattle.std.proofs.Common.{◌≡◌, ◌≤◌, [], length, ap, inl, inr, arith}
+use Rattle.std.proofs.Common.{◌≡◌, ◌≤◌, [], length, ap, ◌∙◌, inl, inr, arith}
 use Rattle.std.proofs.lemmas.Bool.{cases_lt}
 use Rattle.ttx_witness.specs.Collected.{place}
-use Rattle.ttx_witness.specs.Passing.{certificate}
-use Rattle.ttx_witness.specs.Sent.{entry_of, sent_in}
-use Rattle.ttx_witness.specs.Tracks.{IsWithin}
-use Rattle.ttx_witness.proofs.Closing.{empty_is, again, own, ended_place}
+use Rattle.ttx_witness.specs.Placed.{placed}
+use Rattle.ttx_witness.specs.Sent.{entry_of}
+use Rattle.ttx_witness.proofs.Closing.{empty_is, again, own}
 use Rattle.ttx_witness.proofs.Indexing.{ids_are}
 use Rattle.ttx_witness.proofs.Returning.{kept_same}
 use Rattle.ttx_witness.proofs.Stepping.{id_of_page}
-use Rattle.ttx_witness.proofs.Whole.{all_by_place}
 use Rattle.ttx_witness.proofs.passing.SecondPass.end.Goals as goal
 use Rattle.ttx_witness.proofs.passing.SecondPass.end.Goals.{then-self-via-then-self, then-self-via-else-self+then-period-eq0, then-self-via-else-self+else-period-eq0+then-not-is_steady}
 
@@ -32,8 +30,6 @@ returns-then-self-clause-ended c = λ x y st e.
 pub returns-clause-ended : goal.returns-clause-ended
 returns-clause-ended c = λ x y st.
     let pass = c.args.self.pass in
-    let w = certificate pass in
-    let is = (c.certificates_keep_their_rules.ensures pass.certificate.now).1 in
     let short : length y ≤ 65536 = elim (cases_lt 65536 (length y)) as (λ _. length y ≤ 65536) [ inl long ↦ (let o = st.over.1 long in let f = c.if-self.false in absurd cc) | inr le ↦ le ] in
     let v = st.passed short in
     let some : 1 ≤ length y = (let k = v.count in let n = c.if-period-eq0.false in omega arith) in
@@ -47,14 +43,9 @@ returns-clause-ended c = λ x y st.
       bad = v.bad;
       subcodes = st.ready.subcodes;
       period = v.count;
-      progress = λ i p item at it.
-          let h = kept.followed i p item at it in
-          let t = c.finish_all.ensures (place i item) h.value h.here in
-          record {
-            value = t.value;
-            here = t.here;
-            is = ended_place y short p w is item c.limit-limit.result pass.count c.limit-limit.ensures v.count (all_by_place (IsWithin 65536) (sent_in y p.id w.lines item) (c.transmissions_are_listed.ensures y some short p.id w.lines item).1) h.value t.value h.is t.is;
-          };
+      places = c.link.ensures.places ∙ kept.sent.places;
+      linked = c.link.ensures.linked kept.sent.unlinked;
+      sent = λ i p item at it. ap (λ v. placed (place i item) v.items) c.link.ensures.slots ∙ kept.sent.each i p item at it;
       facts = kept.facts;
       strays = kept.strays;
     }
