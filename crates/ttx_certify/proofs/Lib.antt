@@ -11,3 +11,6 @@ mod AuthoredIds
 mod ThreeInputs
 mod Shown
 mod OneVerdict
+pub mod Decisions
+mod SomeFault
+mod SomeVerdict

@@ -22,7 +22,7 @@ and_right true b h = h
 and_right false b h = cc
 
 -- what a viewer sees is an item of the page
-needed_item : (p : Page) (item : Item) → needed p item ≡ true → IsItem item
+pub needed_item : (p : Page) (item : Item) → needed p item ≡ true → IsItem item
 needed_item p TheHead h = tt
 needed_item p (TheRow r) h =
     let a = and_left _ _ (and_left _ _ (and_left _ _ h)) in

@@ -18,7 +18,7 @@ use Rattle.ttx_certify.specs.Verdicts.{IsFirstFault}
 pub page_at : (pages : List PageValue) (i : ℕ) (p : PageValue) → i < length pages → p ≡ get_or pages i p → slice_get (map page_of pages) i ≡ Some (page_of p)
 page_at pages i p lt e = slice_get-map page_of pages i ∙ ap (option_map page_of) (slice_get_read pages (length pages) i p refl lt e)
 
-here_is : (xs : List Page) (i : ℕ) → i < length xs → (p : Page) × (slice_get xs i ≡ Some p)
+pub here_is : (xs : List Page) (i : ℕ) → i < length xs → (p : Page) × (slice_get xs i ≡ Some p)
 here_is [] i lt = absurd (omega arith)
 here_is (x ∷ xs) zero lt = (x, refl)
 here_is (x ∷ xs) (suc i) lt = here_is xs i (omega arith)

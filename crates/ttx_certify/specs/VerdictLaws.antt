@@ -2,6 +2,7 @@
 --
 --   CertifiedIsShown        what a Yes is worth, with its numbers written out
 --   VerdictsAreOne          of a cycle, pages and a certificate one verdict is right
+--   SomeVerdictIsRight      and there is one
 use Rattle.std.specs.Prelude.{◌≡◌, ℕ, ◌*◌, ◌<◌, ℤ, true, List, length, slice_get, Some}
 use Rattle.ttx_page.specs.Pages.{Page, Fits}
 use Rattle.ttx_page.specs.declared.selection.Selection.{Selection}
@@ -35,3 +36,8 @@ CertifiedIsShown =
 abbrev pub VerdictsAreOne : Type 0
 VerdictsAreOne = (cycle : List (List ℕ)) (pages : List Page) (w : Certificate) → 0 < length cycle → IsCertificate w → (a b : Verdict) →
     IsVerdict cycle pages w a → IsVerdict cycle pages w b → a ≡ b
+
+-- each cycle, pages and certificate have a right verdict
+abbrev pub SomeVerdictIsRight : Type 0
+SomeVerdictIsRight = (cycle : List (List ℕ)) (pages : List Page) (w : Certificate) → IsCycle cycle → IsCertificate w →
+    (verdict : Verdict) × IsVerdict cycle pages w verdict

@@ -1,6 +1,6 @@
 //! Laws of verdicts. A call costs nothing and gives the caller's proof the law.
 
-ghost use Rattle.ttx_certify.specs.VerdictLaws.{CertifiedIsShown, VerdictsAreOne};
+ghost use Rattle.ttx_certify.specs.VerdictLaws.{CertifiedIsShown, VerdictsAreOne, SomeVerdictIsRight};
 
 /// After exactly D times L slots a receiver has the View of each page that is certified with D fields of L slots, from whatever slot
 /// and memory it began.
@@ -18,4 +18,17 @@ pub fn verdicts_are_one()
     ttx_witness::cycle_laws::coverage_is_decided();
     ttx_witness::fault_laws::steady_has_no_fault();
     ttx_witness::judging_laws::items_are_judged();
+}
+
+/// Of each cycle, pages and certificate some verdict is right, whatever memory there is to find it.
+pub fn some_verdict_is_right()
+    ensures { SomeVerdictIsRight }
+{
+    ttx_witness::cycle_laws::coverage_is_decided();
+    ttx_witness::fault_laws::steady_has_no_fault();
+    ttx_witness::judging_laws::items_are_judged();
+    ttx_witness::judging_laws::headers_are_judged();
+    ttx_witness::judging_laws::transmissions_are_listed();
+    ttx_page::laws::each_slot_turns();
+    ttx_page::laws::streams_move();
 }
