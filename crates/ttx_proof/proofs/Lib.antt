@@ -22,3 +22,4 @@ pub mod Judging
 pub mod AuthoredIds
 pub mod SixFiles
 mod OneVerdict
+mod SomeVerdict

@@ -3,7 +3,7 @@ use Rattle.std.proofs.Common.{◌≡◌, ℕ, ◌+◌, ◌<◌, ◌≤◌, ℤ, 
 use Rattle.std.proofs.lemmas.Int.{ints}
 use Rattle.std.proofs.lemmas.Bool.{cases_lt, cases_eq}
 use Rattle.ttx_page.specs.Packets.{Packet, Empty, Unreadable, Header, Row, Links, Info, Other, packet_of}
-use Rattle.ttx_page.specs.Pages.{Page, needed}
+use Rattle.ttx_page.specs.Pages.{Page}
 use Rattle.ttx_page.specs.declared.item.Item.{Item}
 use Rattle.ttx_page.specs.declared.item.Item.TheVariants.{Head as TheHead, Row as TheRow, Links as TheLinks}
 use Rattle.ttx_page.specs.Streams.{repeated, turned, heads, carries}
@@ -13,7 +13,7 @@ use Rattle.ttx_witness.specs.Comparing.{HoldsNoRow}
 use Rattle.ttx_proof.proofs.Windows.{and_right}
 use Rattle.ttx_proof.proofs.Backward.{no_both}
 
-no_head : (mag : ℕ) (packet : Packet) → carries mag TheHead packet ≡ true → ⊥
+pub no_head : (mag : ℕ) (packet : Packet) → carries mag TheHead packet ≡ true → ⊥
 no_head mag (Header id control text) e = cc
 no_head mag (Row m n text) e = cc
 no_head mag (Links m content) e = cc

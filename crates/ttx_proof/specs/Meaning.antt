@@ -2,6 +2,7 @@
 --
 --   VerdictsMean            Yes: the joined stream is seen; No: not Yes, whatever the reason
 --   SpliceVerdictsAreOne    of a splice one verdict is right
+--   SomeSpliceVerdictIsRight        and there is one
 use Rattle.std.specs.Prelude.{◌≡◌}
 use Rattle.ttx_proof.specs.Splices.{Splice, JoinedSeen}
 use Rattle.ttx_proof.specs.Laws.{IsSplice}
@@ -17,3 +18,7 @@ VerdictsMean = (c : Splice) → IsSplice c →
 -- two verdicts that are right of the same splice are equal
 abbrev pub SpliceVerdictsAreOne : Type 0
 SpliceVerdictsAreOne = (c : Splice) → IsSplice c → (v w : SpliceVerdict) → IsSpliceVerdict c v → IsSpliceVerdict c w → v ≡ w
+
+-- each splice has a right verdict
+abbrev pub SomeSpliceVerdictIsRight : Type 0
+SomeSpliceVerdictIsRight = (c : Splice) → IsSplice c → (verdict : SpliceVerdict) × IsSpliceVerdict c verdict

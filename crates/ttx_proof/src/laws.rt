@@ -1,7 +1,7 @@
 //! The laws of splices. A call costs nothing and gives the caller's proof the law.
 
 ghost use Rattle.ttx_proof.specs.Joining.{JoinedAreListed};
-ghost use Rattle.ttx_proof.specs.Meaning.{VerdictsMean, SpliceVerdictsAreOne};
+ghost use Rattle.ttx_proof.specs.Meaning.{VerdictsMean, SpliceVerdictsAreOne, SomeSpliceVerdictIsRight};
 ghost use Rattle.ttx_proof.specs.Seams.{SeamsAreLeft};
 ghost use Rattle.ttx_proof.specs.Laws.{StepsKeepMemories, BridgedIsSeen, WalksDecide};
 
@@ -75,4 +75,17 @@ pub fn verdicts_are_one()
 {
     verdicts_mean();
     ttx_certify::verdict_laws::verdicts_are_one();
+}
+
+/// Of each splice some verdict is right, whatever memory there is to find it.
+pub fn some_verdict_is_right()
+    ensures { SomeSpliceVerdictIsRight }
+{
+    seams_are_left();
+    walks_decide();
+    joined_are_listed();
+    ttx_certify::verdict_laws::some_verdict_is_right();
+    ttx_witness::judging_laws::transmissions_are_listed();
+    ttx_witness::judging_laws::first_period_is_listed();
+    ttx_page::laws::each_slot_turns();
 }
