@@ -18,7 +18,7 @@ use Rattle.ttx_counter.specs.Counters.{CounterRun, IsHit, selection_for, IsCount
 use Rattle.ttx_counter.specs.Keys.{key_of, key_at, slot_in, IsKey, AreApart}
 use Rattle.ttx_counter.specs.Rule.{KeepsRule}
 use Rattle.ttx_counter.specs.Hearing.{IsHitBy}
-use Rattle.ttx_counter.specs.Checking.{IsInRange, IsJudged, IsRefuting}
+use Rattle.ttx_counter.specs.Checking.{IsInRange, IsJudged, IsJudgedWithin, IsRefuting}
 use Rattle.ttx_counter.proofs.Bridging.{at_hit, from_key, slot_of_key, keys_are, apart_to, apart_back, hits_to, hits_back}
 use Rattle.ttx_counter.proofs.Exactly as E
 
@@ -44,11 +44,11 @@ module _ (itself : EachByteIsNearItself) (turns : EachSlotTurns) (cycle : List (
   heard : (r : IsRefuting cycle p c) → (i : ℕ) → i < c.slots → IsHitBy keys i (repeated cycle (pos c.start +ℤ pos i)) (get_or r.received i [])
   heard r i lt = hits_to (repeated cycle) c.start c.slots c.hits keys all same i _ _ (r.with_hits.each i lt)
 
-  pub refuting_keeps : IsRefuting cycle p c → KeepsRule (repeated cycle) p.id c.start c.slots c.repeat keys
+  refuting_keeps : IsRefuting cycle p c → KeepsRule (repeated cycle) p.id c.start c.slots c.repeat keys
   refuting_keeps r = E.keeps (repeated cycle) (slots_are turns cycle is) p.id c.start c.slots c.repeat keys each r.received r.with_hits.count (heard r) r.permitted
 
   -- where they hold, the judgment decides
-  pub decided : (wrong : Bool) → AreApart keys → KeepsRule (repeated cycle) p.id c.start c.slots c.repeat keys → IsJudged (repeated cycle) keys p c wrong → (wrong ≡ true) ↔ IsRefuting cycle p c
+  decided : (wrong : Bool) → AreApart keys → KeepsRule (repeated cycle) p.id c.start c.slots c.repeat keys → IsJudged (repeated cycle) keys p c wrong → (wrong ≡ true) ↔ IsRefuting cycle p c
   decided wrong apart rule j = (
     (λ w. record {
       once = apart_back (repeated cycle) c.start c.slots c.hits keys all same apart;
@@ -59,6 +59,13 @@ module _ (itself : EachByteIsNearItself) (turns : EachSlotTurns) (cycle : List (
     }),
     (λ r. j.told.1 (λ v. r.wrong (subst (λ rs. HasView p (scripted Any c.lines (selection_for c.any_sub p.id) c.choices c.former rs))
         (E.only_list (repeated cycle) (slots_are turns cycle is) p.id c.start c.slots c.repeat keys each j.received r.received j.count r.with_hits.count j.each (heard r)) v))),
+  )
+
+  -- and where one of them doesn't, nothing is refuted
+  pub decided_within : (wrong : Bool) → AreApart keys → IsJudgedWithin (repeated cycle) keys p c wrong → (wrong ≡ true) ↔ IsRefuting cycle p c
+  decided_within wrong apart j = (
+    (λ w. let rule = j.keeps w in (decided wrong apart rule (j.judged rule)).0 w),
+    (λ r. let rule = refuting_keeps r in (decided wrong apart rule (j.judged rule)).1 r),
   )
 
 -- the whole

@@ -12,13 +12,13 @@ ghost use Rattle.ttx_render.specs.View.{view_of};
 ghost use Rattle.ttx_cycle.specs.Cycles.{slots_of};
 ghost use Rattle.ttx_counter.specs.Counters.{run_of, selection_for, AreNumbers, IsHit, IsCounterRun};
 ghost use Rattle.ttx_counter.specs.Keys.{key_at, key_of, AreApart, IsKey};
-ghost use Rattle.ttx_counter.specs.Checking.{IsInRange, IsJudged, IsRefuting};
+ghost use Rattle.ttx_counter.specs.Checking.{IsInRange, IsJudgedWithin, IsRefuting};
 
 use crate::counter::{Counter, Hit};
-use crate::hearing::hear;
+use crate::hearing::Run;
 use crate::keys::{are_apart, sorted_keys};
 use crate::listening::place;
-use crate::rule::keeps_rule;
+use crate::rule::hear_within_rule;
 use std::alloc::Global;
 use ttx_cycle::Cycle;
 use ttx_header::PageId;
@@ -113,17 +113,30 @@ fn is_wrong(page: &Page, memory: &PageMemory) -> bool
     is_unlike(&render(&PageMemory::of(page)), memory)
 }
 
-// Whether the receiver's View is wrong after the run.
-fn ends_wrong(cycle: &Cycle, page: &Page, counter: &Counter, keys: &[u64]) -> bool
+// Whether the hits keep the rule and the receiver's View is wrong after the run.
+fn ends_wrong(
+    alloc: Global,
+    cycle: &Cycle,
+    page: &Page,
+    counter: &Counter,
+    keys: &[u64],
+) -> Result<bool, NoMemory>
+    requires some { 1 ≤ (run_of counter.now).repeat }
     requires sorted { IsNonDecreasing keys.now }
     requires apart { AreApart keys.now }
     requires keys { (i : ℕ) → i < length keys.now → IsKey (key_at keys.now i) }
-    ensures { IsJudged (repeated (slots_of cycle.now)) keys.now (page_of page.now) (run_of counter.now) result }
+    ensures { IfOk result (IsJudgedWithin (repeated (slots_of cycle.now)) keys.now (page_of page.now) (run_of counter.now)) }
 {
+    let run = Run {
+        cycle,
+        start: counter.start,
+        count: counter.slots,
+        keys,
+    };
     let selection = selection_for(counter.any_sub, page.id());
     let mut receiver = Scripted::new(selection, counter.lines, counter.former, &counter.choices);
-    hear(&mut receiver, cycle, counter.start, counter.slots, keys);
-    is_wrong(page, receiver.memory())
+    let keeps = hear_within_rule(alloc, &mut receiver, &run, page.id(), counter.repeat)?;
+    Ok(keeps && is_wrong(page, receiver.memory()))
 }
 
 // Whether the hits of these keys keep every rule and the receiver's View is wrong after them.
@@ -145,12 +158,7 @@ fn check_keys(
     if !are_apart(keys) {
         return Ok(false);
     }
-    let (start, slots) = (counter.start, counter.slots);
-    let keeps = keeps_rule(alloc, cycle, page.id(), start, slots, keys, counter.repeat)?;
-    if !keeps {
-        return Ok(false);
-    }
-    Ok(ends_wrong(cycle, page, counter, keys))
+    ends_wrong(alloc, cycle, page, counter, keys)
 }
 
 // Whether the hits keep every rule and the receiver's View is wrong after them.
@@ -168,8 +176,8 @@ fn check_hits(
     check_keys(alloc, cycle, page, counter, &keys)
 }
 
-/// Whether the counter-run keeps every rule, lasts to its deadline or longer, and ends in a wrong View. Time linear in its slots and,
-/// but for the sort, its hits; memory for a copy of the hits.
+/// Whether the counter-run keeps every rule, lasts to its deadline or longer, and ends in a wrong View. One pass over its slots, and time
+/// linear in its hits but for their sort; memory for a copy of the hits.
 pub fn check_counter(
     alloc: Global,
     cycle: &Cycle,

@@ -12,18 +12,28 @@ use crate::listening::place;
 use ttx_cycle::Cycle;
 use ttx_receiver::{Receiver, Scripted};
 
-/// Gives the receiver `count` slots of the cycle from `start` on, with the bits of the keys flipped.
-pub fn hear(receiver: &mut Scripted<'_>, cycle: &Cycle, start: u32, count: u32, keys: &[u64])
-    requires sorted { IsNonDecreasing keys.now }
-    requires apart { AreApart keys.now }
-    requires keys { (i : ℕ) → i < length keys.now → IsKey (key_at keys.now i) }
-    ensures { IsHeard (repeated (slots_of cycle.now)) start count keys.now receiver.old receiver.new }
+/// What is received in a run: `count` slots of the cycle from `start` on, with the bits of the keys flipped.
+#[derive(Clone, Copy)]
+pub struct Run<'a> {
+    pub cycle: &'a Cycle,
+    pub start: u32,
+    pub count: u32,
+    pub keys: &'a [u64],
+}
+
+/// Gives the receiver what is received in a run.
+pub fn hear(receiver: &mut Scripted<'_>, run: &Run<'_>)
+    requires sorted { IsNonDecreasing run.now.keys.now }
+    requires apart { AreApart run.now.keys.now }
+    requires keys { (i : ℕ) → i < length run.now.keys.now → IsKey (key_at run.now.keys.now i) }
+    ensures { IsHeard (repeated (slots_of run.now.cycle.now)) run.now.start run.now.count run.now.keys.now receiver.old receiver.new }
 {
-    let slots = cycle.slots();
+    let slots = run.cycle.slots();
+    let keys = run.keys;
     let mut from = 0;
-    for i in 0..count {
+    for i in 0..run.count {
         let to = end_of(keys, from, i);
-        let slot = hit_slot(&slots[place(start, i, slots.len())], keys, from, to);
+        let slot = hit_slot(&slots[place(run.start, i, slots.len())], keys, from, to);
         receiver.step(Some(&slot));
         from = to;
     }

@@ -12,7 +12,7 @@ ghost use Rattle.ttx_counter.specs.Replaying.{IsLeft, TellsReplayed};
 use crate::checking::{check_counter, selection_for};
 use crate::claim::page_at;
 use crate::counter::Counter;
-use crate::hearing::hear;
+use crate::hearing::{Run, hear};
 use crate::keys::sorted_keys;
 use std::alloc::Global;
 use ttx_cycle::Cycle;
@@ -29,7 +29,15 @@ fn memory_after(cycle: &Cycle, page: &Page, counter: &Counter, keys: &[u64]) -> 
 {
     let selection = selection_for(counter.any_sub, page.id());
     let mut receiver = Scripted::new(selection, counter.lines, counter.former, &counter.choices);
-    hear(&mut receiver, cycle, counter.start, counter.slots, keys);
+    hear(
+        &mut receiver,
+        &Run {
+            cycle,
+            start: counter.start,
+            count: counter.slots,
+            keys,
+        },
+    );
     *receiver.memory()
 }
 

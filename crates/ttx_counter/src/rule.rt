@@ -4,50 +4,54 @@ ghost use Rattle.std.specs.Prelude.{◌≡◌, ℕ, ◌<◌, ◌≤◌, ◌↔�
 ghost use Rattle.std.specs.List.Sorted.{IsNonDecreasing};
 ghost use Rattle.ttx_page.specs.Streams.{repeated};
 ghost use Rattle.ttx_cycle.specs.Cycles.{slots_of};
+ghost use Rattle.ttx_counter.specs.Hearing.{IsHeard};
 ghost use Rattle.ttx_counter.specs.Keys.{key_at, AreApart, IsKey};
 ghost use Rattle.ttx_counter.specs.Rule.{KeepsRule};
 
-use crate::keys::end_of;
+use crate::hearing::{Run, hear};
+use crate::keys::{end_of, hit_slot};
 use crate::listening::{is_owned, place, row_sent};
 use crate::streaks::{no_streaks, note};
 use std::alloc::Global;
-use ttx_cycle::Cycle;
 use ttx_header::PageId;
+use ttx_receiver::{Receiver, Scripted};
 use ttx_witness::{NoMemory, mine_after};
 
-/// Whether the hits keep the rule in a run of `count` slots from `start` on. One pass over the slots, with a fixed number of counters;
-/// none where there are no hits.
-pub fn keeps_rule(
+/// Gives the receiver what is received in a run, as long as the hits keep the rule for the page; whether they do so to the end. One pass
+/// over the slots of the run, with a fixed number of counters; none where there are no hits.
+pub fn hear_within_rule(
     alloc: Global,
-    cycle: &Cycle,
+    receiver: &mut Scripted<'_>,
+    run: &Run<'_>,
     page: PageId,
-    start: u32,
-    count: u32,
-    keys: &[u64],
     repeat: u8,
 ) -> Result<bool, NoMemory>
     requires some { 1 ≤ repeat }
-    requires sorted { IsNonDecreasing keys.now }
-    requires apart { AreApart keys.now }
-    requires keys { (i : ℕ) → i < length keys.now → IsKey (key_at keys.now i) }
-    ensures { IfOk result (λ b. IsTrue b ↔ KeepsRule (repeated (slots_of cycle.now)) page start count repeat keys.now) }
+    requires sorted { IsNonDecreasing run.now.keys.now }
+    requires apart { AreApart run.now.keys.now }
+    requires keys { (i : ℕ) → i < length run.now.keys.now → IsKey (key_at run.now.keys.now i) }
+    ensures kept { IfOk result (λ b. IsTrue b ↔ KeepsRule (repeated (slots_of run.now.cycle.now)) page run.now.start run.now.count repeat run.now.keys.now) }
+    ensures heard { IfOk result (λ b. IsTrue b → IsHeard (repeated (slots_of run.now.cycle.now)) run.now.start run.now.count run.now.keys.now receiver.old receiver.new) }
 {
     ttx_packet::laws::rows_are_numbered();
     crate::laws::streaks_decide();
+    let keys = run.keys;
     if keys.is_empty() {
+        hear(receiver, run);
         return Ok(true);
     }
-    let slots = cycle.slots();
-    let mut mine = is_owned(cycle, page, start);
+    let slots = run.cycle.slots();
+    let mut mine = is_owned(run.cycle, page, run.start);
     let mut streaks = no_streaks(alloc)?;
     let mut from = 0;
-    for i in 0..count {
-        let slot = &slots[place(start, i, slots.len())];
+    for i in 0..run.count {
+        let slot = &slots[place(run.start, i, slots.len())];
         let to = end_of(keys, from, i);
         let row = row_sent(page, slot, mine);
         if !note(&mut streaks, row, i, keys, from, to, repeat) {
             return Ok(false);
         }
+        receiver.step(Some(&hit_slot(slot, keys, from, to)));
         mine = mine_after(page, slot, mine);
         from = to;
     }

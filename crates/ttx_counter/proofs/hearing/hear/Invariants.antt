@@ -6,5 +6,5 @@ use Rattle.ttx_counter.proofs.hearing.hear.Given as goal
 abbrev pub invariant-loop-i : goal.invariant-loop-i
 invariant-loop-i l = record {
   cursor : IsCursor l.keys l.i l.from;
-  heard : IsHeard (repeated l.slots) l.start l.i l.keys l.initial.receiver l.receiver;
+  heard : IsHeard (repeated l.slots) l.run.start l.i l.keys l.initial.receiver l.receiver;
 }
