@@ -20,7 +20,7 @@ ghost use Rattle.ttx_witness.specs.OtherSubpages.{AreOtherSubpages};
 ghost use Rattle.ttx_counter.specs.Completeness.{IsClean};
 ghost use Rattle.ttx_counter.specs.Counters.{run_of};
 ghost use Rattle.ttx_counter.specs.Refutations.{is_absent, IsCounterTo, ArePrepared, TellsNeeded, TellsCovered, TellsPage, TellsPages, TellsAllPlainly, TellsPlainly, TellsCounter};
-ghost use Rattle.ttx_counter.specs.Sources.{plain_counter};
+ghost use Rattle.ttx_counter.specs.Sources.{plain_counter, IsPlainlyRight};
 
 use crate::claim::{Claim, Prepared, page_at};
 use crate::counter::Counter;
@@ -211,6 +211,28 @@ fn is_steady(claim: &Claim<'_>, prepared: &Prepared<'_>, index: u32) -> bool
     fault.is_none()
 }
 
+// A counter-run of the page by its number, where there is none by its own id. Where the cycle has no other subpage of it, a receiver
+// makes the same of both, and isn't run again.
+fn refute_by_number(
+    alloc: Global,
+    claim: &Claim<'_>,
+    prepared: &Prepared<'_>,
+    index: u32,
+    steady: bool,
+) -> Option<Counter>
+    requires index { index < length claim.now.pages.now }
+    requires others { AreOtherSubpages (slots_of claim.now.cycle.now) (map page_of claim.now.pages.now) prepared.now.others.now }
+    requires steady { IsTrue steady → (p : definitions.Page) → slice_get (map page_of claim.now.pages.now) index ≡ Some p → Steady (repeated (slots_of claim.now.cycle.now)) (map page_of claim.now.pages.now) p }
+    requires exactly { IsPlainlyRight (slots_of claim.now.cycle.now) (map page_of claim.now.pages.now) index false (certificate_of claim.now.certificate.now).lines (coverage.limit (certificate_of claim.now.certificate.now)) }
+    ensures { TellsPlainly run_of (slots_of claim.now.cycle.now) (map page_of claim.now.pages.now) index true (certificate_of claim.now.certificate.now) result }
+{
+    let page = page_at(claim.pages, index);
+    match prepared.others.first(page.id()) {
+        Some(_) => refute_plainly(alloc, claim, index, true, steady),
+        None => None,
+    }
+}
+
 // A counter-run of the first page of which a plain run ends wrong, by its own id or by its number.
 fn refute_all_plainly(alloc: Global, claim: &Claim<'_>, prepared: &Prepared<'_>) -> Option<Counter>
     requires few { length claim.now.pages.now < 2 ^ 32 }
@@ -224,7 +246,7 @@ fn refute_all_plainly(alloc: Global, claim: &Claim<'_>, prepared: &Prepared<'_>)
         if exactly.is_some() {
             return exactly;
         }
-        let by_number = refute_plainly(alloc, claim, index, true, steady);
+        let by_number = refute_by_number(alloc, claim, prepared, index, steady);
         if by_number.is_some() {
             return by_number;
         }

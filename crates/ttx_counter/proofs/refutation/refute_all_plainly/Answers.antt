@@ -7,8 +7,8 @@ use Rattle.ttx_counter.proofs.refutation.refute_all_plainly.Goals as goal
 pub refute_plainly-exactly-requires-clause-steady : goal.refute_plainly-exactly-requires-clause-steady
 refute_plainly-exactly-requires-clause-steady c = λ steady p here. (c.is_steady-steady.ensures p here).0 steady
 
-pub refute_plainly-by_number-requires-clause-steady : goal.refute_plainly-by_number-requires-clause-steady
-refute_plainly-by_number-requires-clause-steady c = λ steady p here. (c.is_steady-steady.ensures p here).0 steady
+pub refute_by_number-by_number-requires-clause-steady : goal.refute_by_number-by_number-requires-clause-steady
+refute_by_number-by_number-requires-clause-steady c = λ steady p here. (c.is_steady-steady.ensures p here).0 steady
 
 pub returns : goal.returns
 returns c = λ n any_sub p here.
