@@ -15,6 +15,8 @@ mod codes;
 #[cfg(test)]
 mod commands;
 #[cfg(test)]
+mod counters;
+#[cfg(test)]
 mod display;
 #[cfg(test)]
 mod headers;
@@ -40,6 +42,8 @@ mod seen;
 mod service_packets;
 #[cfg(test)]
 mod services;
+#[cfg(test)]
+mod splices;
 #[cfg(test)]
 mod walks;
 #[cfg(test)]

@@ -17,7 +17,7 @@ use ttx_render::{render, same_but_clock};
 use ttx_witness::read_certificate;
 
 // Page 100 with C11; its row 5 begins with a character.
-fn page(first_of_row_5: u8) -> Option<Page> {
+pub(crate) fn page(first_of_row_5: u8) -> Option<Page> {
     let mut rows = [[0x20; 40]; 24];
     rows[4][0] = first_of_row_5;
     let id = PageId::new(1, 0, 0)?;
@@ -26,7 +26,7 @@ fn page(first_of_row_5: u8) -> Option<Page> {
 }
 
 // The starts of each item of the page, in a cycle that is turned by some slots; row 6 may be left out.
-fn certificate(
+pub(crate) fn certificate(
     alloc: Global,
     repeat: u8,
     deadline: u8,
@@ -61,7 +61,7 @@ fn is_text(slot: &[u8; 42], at: usize) -> bool {
 
 // One wrong bit in each byte, but for text where it is to be right; the same byte all over a clock and behind the address of a
 // packet 8/30.
-fn with_errors(sent: &[u8; 42], text_is_right: bool, wild: u8) -> [u8; 42] {
+pub(crate) fn with_errors(sent: &[u8; 42], text_is_right: bool, wild: u8) -> [u8; 42] {
     let mut bytes = *sent;
     if *sent == [0; 42] {
         return bytes;
@@ -115,7 +115,7 @@ fn is_seen<R: Receiver>(
 }
 
 // A memory full of 7F.
-fn former(storing: bool, age: u8, fresh: bool) -> PageMemory {
+pub(crate) fn former(storing: bool, age: u8, fresh: bool) -> PageMemory {
     let rows = [[0x7f; 40]; 25];
     let memory = PageMemory::new(rows, Control::C7, [None; 6], true, storing, age, fresh);
     memory.unwrap_or(PageMemory::blank())
