@@ -6,6 +6,7 @@ ghost use Rattle.ttx_picture.specs.Html.{sheet};
 
 use crate::hearing::leaf_ids;
 use crate::leaves::{push_index, push_leaves};
+use crate::placing::{Index, index_of};
 use std::alloc::{AllocError, Global};
 use ttx_header::PageId;
 use ttx_pages::keys::owners;
@@ -76,7 +77,7 @@ fn push_head(text: &mut String, ids: &[PageId]) -> Result<(), AllocError>
 fn push_book(
     text: &mut String,
     slots: &[[u8; 42]],
-    pages: &[u32],
+    pages: &Index,
     ids: &[PageId],
 ) -> Result<(), AllocError>
     requires { length pages.now ≡ length slots.now }
@@ -93,10 +94,10 @@ fn push_book(
 pub fn book_text(alloc: Global, slots: &[[u8; 42]]) -> Result<String, AllocError>
     ensures { IfOk result (λ text. string_bytes text ≡ book_text slots.now) }
 {
-    let pages = owners(alloc, slots)?;
+    let pages = index_of(alloc, owners(alloc, slots)?)?;
     let headers = page_headers(alloc, slots)?;
     let ids = leaf_ids(alloc, headers.as_slice())?;
     let mut text = String::new(alloc);
-    push_book(&mut text, slots, pages.as_slice(), ids.as_slice())?;
+    push_book(&mut text, slots, &pages, ids.as_slice())?;
     Ok(text)
 }

@@ -1,9 +1,10 @@
 //! What is shown of each page of a cycle.
 
 ghost use Rattle.std.specs.Prelude.{◌≡◌, IfOk, filter_map, length};
-ghost use Rattle.ttx_book.specs.Hearing.{heard, hears, page_memory, leaf_id};
+ghost use Rattle.ttx_book.specs.Hearing.{hears, page_memory, leaf_id};
 ghost use Rattle.ttx_render.specs.View.{view_of};
 
+use crate::placing::Index;
 use std::alloc::{AllocError, Global};
 use ttx_header::{PageId, read_header};
 use ttx_page::{PageMemory, Selection};
@@ -11,28 +12,21 @@ use ttx_pages::keys::key_of;
 use ttx_receiver::{Eager, Receiver};
 use ttx_render::{View, render};
 
-// Gives a receiver a slot, if this is of its page.
-fn hear_slot(receiver: &mut Eager, slot: &[u8; 42], page: u32, key: u32)
-    ensures { receiver.new ≡ heard key receiver.old slot.now page }
-{
-    if page == key {
-        receiver.step(Some(slot));
-    }
-}
-
 // Gives a receiver the packets of its page.
-fn hear(receiver: &mut Eager, slots: &[[u8; 42]], pages: &[u32], key: u32)
+fn hear(receiver: &mut Eager, slots: &[[u8; 42]], pages: &Index, key: u32)
     requires { length pages.now ≡ length slots.now }
     ensures { receiver.new ≡ hears key receiver.old slots.now pages.now }
 {
-    for (at, slot) in slots.iter().enumerate() {
-        hear_slot(receiver, slot, pages[at], key);
+    let mut at = pages.first(key);
+    while at < slots.len() {
+        receiver.step(Some(&slots[at]));
+        at = pages.after(at);
     }
 }
 
 /// What is shown of a page, by the pages of all slots.
 #[tactic(auto, unfolding(crate::specs::Hearing::page_memory))]
-pub(crate) fn page_view(slots: &[[u8; 42]], pages: &[u32], id: PageId) -> View
+pub(crate) fn page_view(slots: &[[u8; 42]], pages: &Index, id: PageId) -> View
     requires { length pages.now ≡ length slots.now }
     ensures { result ≡ view_of (page_memory slots.now pages.now id) }
 {

@@ -5,6 +5,7 @@ ghost use Rattle.ttx_book.specs.Books.{name_of, index_entry, index_html, number_
 ghost use Rattle.ttx_witness.specs.CertificateTexts.{hex_byte};
 
 use crate::hearing::page_view;
+use crate::placing::Index;
 use std::alloc::AllocError;
 use ttx_header::PageId;
 use ttx_picture::push_figure;
@@ -104,7 +105,7 @@ fn push_leaf_start(text: &mut String, former: u32, id: PageId) -> Result<(), All
 fn push_leaf(
     text: &mut String,
     slots: &[[u8; 42]],
-    pages: &[u32],
+    pages: &Index,
     former: u32,
     id: PageId,
 ) -> Result<(), AllocError>
@@ -120,7 +121,7 @@ fn push_leaf(
 pub(crate) fn push_leaves(
     text: &mut String,
     slots: &[[u8; 42]],
-    pages: &[u32],
+    pages: &Index,
     ids: &[PageId],
 ) -> Result<(), AllocError>
     requires { length pages.now ≡ length slots.now }

@@ -5,6 +5,7 @@ mod binding;
 mod books;
 mod hearing;
 mod leaves;
+mod placing;
 
 pub use binding::book;
 pub use books::book_text;
