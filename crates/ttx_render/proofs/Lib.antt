@@ -11,3 +11,4 @@ pub mod WrongLetter
 pub mod InForce
 pub mod HeldMosaics
 pub mod TouchedRows
+pub mod Printed

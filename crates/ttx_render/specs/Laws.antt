@@ -6,12 +6,16 @@
 --   IsLetter, IsOwn         the letters A and B; cells that show their own code
 --   LetterIsShown, LetterIsSeen         such a letter shows where it stands, and nowhere else
 --   item_of, ShowsBut, WrongLetterIsSeen        so one wrong letter in a needed item is seen
-use Rattle.std.specs.Prelude.{◌≡◌, ◌≢◌, ◌<◌, ◌⊎◌, ◌↔◌, ℕ, zero, suc, Bool, true, false, List, length}
-use Rattle.ttx_page.specs.Memories.{Memory, Holds, Shows, memory_of_page, char_at}
+--   is_control, ArePrinted, ViewsArePrinted     no cell of a View shows a control character
+use Rattle.std.specs.Prelude.{◌≡◌, ◌≢◌, ◌<◌, ◌⊎◌, ◌↔◌, ℕ, zero, suc, Bool, true, false, ◌&&◌, ◌||◌, nat_lt, nat_le, List, length}
+use Rattle.std.specs.List.{AllByRecursion}
+use Rattle.ttx_page.specs.Memories.{Memory, IsMemory, Holds, Shows, memory_of_page, char_at}
 use Rattle.ttx_page.specs.Pages.{Page, needed}
 use Rattle.ttx_page.specs.declared.item.Item.{Item}
 use Rattle.ttx_page.specs.declared.item.Item.TheVariants.{Head as TheHead, Row as TheRow}
-use Rattle.ttx_render.specs.declared.cells.Glyph.TheVariants.{Char}
+use Rattle.ttx_render.specs.declared.cells.Cell.{Cell}
+use Rattle.ttx_render.specs.declared.cells.Glyph.{Glyph}
+use Rattle.ttx_render.specs.declared.cells.Glyph.TheVariants.{Char, Mosaic}
 use Rattle.ttx_render.specs.Attributes.{IsEachInForce}
 use Rattle.ttx_render.specs.Mosaics.{IsHeldFromLatest}
 use Rattle.ttx_render.specs.View.{view_of, is_shown, is_below}
@@ -71,3 +75,18 @@ WrongLetterIsSeen =
     (p : Page) (m : Memory) (number c letter : ℕ) → IsLetter letter → IsCompared number c → needed p (item_of number) ≡ true →
     ShowsBut p m (item_of number) → char_at m number c ≡ letter → char_at (memory_of_page p) number c < 128 →
     char_at (memory_of_page p) number c ≢ letter → ¬ SameButClock (view_of m) (view_of (memory_of_page p))
+
+-- the control characters of Unicode: 00 to 1F, and 7F to 9F
+abbrev pub is_control : ℕ → Bool
+is_control code = nat_lt code 0x20 || (nat_le 0x7f code && nat_le code 0x9f)
+
+abbrev pub IsPrinted : Glyph → Type 0
+IsPrinted (Char code) = is_control code ≡ false
+IsPrinted (Mosaic blocks separated) = Unit {0}
+
+-- rows of cells that show none
+abbrev pub ArePrinted : List (List Cell) → Type 0
+ArePrinted rows = AllByRecursion (λ cells. AllByRecursion (λ (cell : Cell). IsPrinted cell.glyph) cells) rows
+
+abbrev pub ViewsArePrinted : Type 0
+ViewsArePrinted = (m : Memory) → IsMemory m → ArePrinted (view_of m).cells

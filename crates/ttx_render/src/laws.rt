@@ -1,6 +1,6 @@
 //! Laws of the display.
 
-ghost use Rattle.ttx_render.specs.Laws.{AttributesAreInForce, HeldIsFromLatest, ContentsDecide, ShowingIsSeeing, LetterIsShown, LetterIsSeen, WrongLetterIsSeen};
+ghost use Rattle.ttx_render.specs.Laws.{AttributesAreInForce, HeldIsFromLatest, ContentsDecide, ShowingIsSeeing, LetterIsShown, LetterIsSeen, WrongLetterIsSeen, ViewsArePrinted};
 
 use ttx_charset::laws::letters_stand_alone;
 
@@ -44,3 +44,8 @@ pub fn wrong_letter_is_seen()
 {
     letters_stand_alone();
 }
+
+/// No cell of a View shows a control character.
+pub fn views_are_printed()
+    ensures { ViewsArePrinted }
+{}
