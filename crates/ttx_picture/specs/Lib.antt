@@ -6,4 +6,5 @@ pub mod Escapes
 pub mod Svg
 pub mod Html
 pub mod Forms
+pub mod Tags
 pub mod Laws
