@@ -3,6 +3,7 @@
 --   AreAlikeBut             memories that show the same, but perhaps in some rows
 --   touch_of, LeavesOthers          what a packet may change, and that all else stays
 --   StepTouches             a permitted step changes no more than its packet may
+--   IdleStepsTouchNothing   and nothing where the receiver isn't storing after it
 --   IsRowBelow              a row that there is, if a row
 --   with_touch, IsBehind    what was touched since; a memory that shows the same as another, but for that
 use Rattle.std.specs.Prelude.{◌≡◌, ℕ, ◌+◌, ◌<◌, ◌≤◌, ◌⊎◌, min, max, Bool, true, false, ◌&&◌, ◌==◌, if◌then◌else◌, List, length}
@@ -40,6 +41,11 @@ abbrev pub StepTouches : Type 0
 StepTouches =
     (class : Class) (lines : ℕ) (sel : Selection) (m : Memory) (received : List ℕ) (new : Memory) →
     Step class lines sel m received new → LeavesOthers (touch_of sel m.storing (packet_of received)) m new
+
+abbrev pub IdleStepsTouchNothing : Type 0
+IdleStepsTouchNothing =
+    (class : Class) (lines : ℕ) (sel : Selection) (m : Memory) (received : List ℕ) (new : Memory) →
+    Step class lines sel m received new → new.storing ≡ false → LeavesOthers Nothing m new
 
 -- a row below a number, if a row
 abbrev pub IsRowBelow : ℕ → Touch → Type 0

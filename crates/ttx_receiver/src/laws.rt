@@ -3,7 +3,7 @@
 ghost use Rattle.ttx_receiver.specs.Laws.{RunHoldsItsItem};
 ghost use Rattle.ttx_receiver.specs.Starving.{StarvedStaysWrong, StarvedIsScripted};
 ghost use Rattle.ttx_receiver.specs.Staying.{ShownStaysShown};
-ghost use Rattle.ttx_receiver.specs.Touching.{StepTouches};
+ghost use Rattle.ttx_receiver.specs.Touching.{StepTouches, IdleStepsTouchNothing};
 
 /// An item that comes between two slots is held from the second on.
 pub fn run_holds_its_item()
@@ -53,4 +53,9 @@ pub fn shown_stays_shown()
 /// A permitted step changes no more of what is shown than its packet may touch.
 pub fn step_touches()
     ensures { StepTouches }
+{}
+
+/// A permitted step after which the receiver isn't storing changes nothing of what is shown.
+pub fn idle_steps_touch_nothing()
+    ensures { IdleStepsTouchNothing }
 {}

@@ -8,7 +8,7 @@ ghost use Rattle.ttx_render.specs.View.{view_of};
 ghost use Rattle.ttx_receiver.specs.Touching.{AreAlikeBut, IsBehind};
 ghost use Rattle.ttx_receiver.specs.contracts.watched.Watched.{the_row};
 
-use crate::laws::step_touches;
+use crate::laws::{idle_steps_touch_nothing, step_touches};
 use crate::receiver::Receiver;
 use crate::steps::EMPTY;
 use crate::touching::{Touched, UNTOUCHED, touch_of};
@@ -16,7 +16,8 @@ use std::marker::Model;
 use ttx_page::{Class, PageMemory, Selection};
 use ttx_render::{Cache, View};
 
-/// A receiver with the View of what it holds. A step notes what its packet may change, and `view` renders that alone.
+/// A receiver with the View of what it holds. A step notes what its packet may change, and `view` renders that alone. Where the
+/// receiver isn't storing after it a step has changed nothing, and its packet isn't read once more.
 #[derive(Drop)]
 pub struct Watched<R: Receiver> {
     receiver: R,
@@ -110,9 +111,13 @@ impl<R: Receiver> Receiver for Watched<R> {
 
     fn step(&mut self, slot: Option<&[u8; 42]>) {
         step_touches();
+        idle_steps_touch_nothing();
+        let bytes = bytes_of(slot);
         let storing = self.receiver.memory().storing();
-        let touch = touch_of(&self.receiver.selection(), storing, bytes_of(slot));
         self.receiver.step(slot);
-        self.touched.add(touch);
+        if self.receiver.memory().storing() {
+            let touch = touch_of(&self.receiver.selection(), storing, bytes);
+            self.touched.add(touch);
+        }
     }
 }

@@ -1,0 +1,43 @@
+use Rattle.std.proofs.Common.{◌≡◌, ℕ, Bool, true, false, not, ◌&&◌, ◌==◌, Option, Some, None, refl, sym, subst}
+use Rattle.ttx_header.specs.Control.{c11}
+use Rattle.ttx_links.specs.Sets.{LinkSet}
+use Rattle.ttx_page.specs.Memories.{Memory}
+use Rattle.ttx_page.specs.Packets.{Packet, Header, Row, Links, packet_of}
+use Rattle.ttx_page.specs.Pages.{matches, selected_mag}
+use Rattle.ttx_page.specs.Receivers.{older, misses, with_links, after}
+use Rattle.ttx_page.specs.declared.class.Class.{Class}
+use Rattle.ttx_page.specs.declared.selection.Selection.{Selection}
+use Rattle.ttx_receiver.specs.Touching.{AreAlikeBut}
+use Rattle.ttx_receiver.proofs.Choices.{if_ind, and_left, and_right, no_both}
+use Rattle.ttx_receiver.proofs.laws.idle_steps_touch_nothing.Goals as goal
+
+module _ (class : Class) (lines : ℕ) (sel : Selection) (choice : Bool) (m : Memory) where
+  -- what is shown stays where storing is over
+  IsIdle : Memory → Type 0
+  IsIdle new = new.storing ≡ false → AreAlikeBut 0 0 m new
+
+  links_idle : (content : Option LinkSet) → m.storing ≡ true → IsIdle (with_links (older m) content)
+  unfolding IsIdle
+  links_idle None s e = absurd (no_both m.storing s e)
+  links_idle (Some content) s e = absurd (no_both m.storing s e)
+
+  packet_idle : (packet : Packet) → IsIdle (after class lines sel choice (older m) packet)
+  unfolding IsIdle
+  packet_idle (Header id control text) =
+      if_ind IsIdle (matches sel id) _ _ (λ t e. absurd (no_both true refl e))
+      (λ t. if_ind IsIdle (id.mag == selected_mag sel) _ _ (λ u e. record { control = refl; links = refl; count = refl; rows = λ k out. refl })
+      (λ u. if_ind IsIdle (c11 control && choice) _ _ (λ v e. record { control = refl; links = refl; count = refl; rows = λ k out. refl })
+      (λ v e. record { control = refl; links = refl; count = refl; rows = λ k out. refl })))
+  packet_idle (Row mag number text) =
+      if_ind IsIdle ((mag == selected_mag sel) && m.storing && not (misses lines choice (older m))) _ _
+      (λ t e. absurd (no_both m.storing (and_right (mag == selected_mag sel) m.storing (and_left _ _ t)) e))
+      (λ t e. record { control = refl; links = refl; count = refl; rows = λ k out. refl })
+  packet_idle (Links mag content) =
+      if_ind IsIdle ((mag == selected_mag sel) && m.storing && not (misses lines choice (older m))) _ _
+      (λ t. links_idle content (and_right (mag == selected_mag sel) m.storing (and_left _ _ t)))
+      (λ t e. record { control = refl; links = refl; count = refl; rows = λ k out. refl })
+  packet_idle _ = λ e. record { control = refl; links = refl; count = refl; rows = λ k out. refl }
+
+pub returns : goal.returns
+unfolding IsIdle
+returns c = λ class lines sel m received new step. subst (IsIdle class lines sel step.choice m) (sym step.is) (packet_idle class lines sel step.choice m (packet_of received))
