@@ -13,8 +13,7 @@ use crate::views::view_lines;
 use std::alloc::Global;
 use std::io::{Read, Write};
 use ttx_cycle::{Counted, read_cycle, write_bytes};
-use ttx_receiver::Receiver;
-use ttx_render::render;
+use ttx_receiver::{Receiver, Watched};
 
 /// Reads a packet file, gives the receiver `count` slots of it from slot `start` on (both counted round the cycle), and writes
 /// the View of what it then holds.
@@ -35,11 +34,10 @@ pub fn receive<R: Read, X: Receiver + Drop, W: Write>(
     ensures faults { CountsInspect result (faults_of reader.old) (faults_of reader.new) (faults_of writer.old) (faults_of writer.new) }
     ensures untouched { IsUntouched is_write result writer.old writer.new }
 {
-    let mut receiver = receiver;
+    let mut receiver = Watched::new(receiver);
     let cycle = read_cycle(alloc, reader).map_err(ToolFault::Cycle)?;
     step_over(&mut receiver, cycle.slots(), usize::from(start), count);
-    let view = render(receiver.memory());
-    let text = view_lines(alloc, &view).map_err(|_| ToolFault::NoMemory)?;
+    let text = view_lines(alloc, receiver.view()).map_err(|_| ToolFault::NoMemory)?;
     write_bytes(writer, text.as_bytes()).map_err(ToolFault::from_write)?;
     Ok(0)
 }
