@@ -28,7 +28,7 @@ use Rattle.ttx_picture.specs.declared.forms.Form.{Form}
 use Rattle.ttx_picture.specs.declared.forms.Form.TheVariants as form
 use Rattle.ttx_arguments.specs.declared.orders.Look.{Look}
 use Rattle.ttx_arguments.specs.declared.orders.Order.{Order}
-use Rattle.ttx_arguments.specs.declared.orders.Order.TheVariants.{Inspect, Plan, Find, Certify, Refute, Receive, Show, Preview, Splice, Wait, Send, Pages, Book, Version}
+use Rattle.ttx_arguments.specs.declared.orders.Order.TheVariants.{Inspect, Plan, Find, Certify, Refute, Replay, Receive, Show, Preview, Splice, Wait, Send, Pages, Book, Extract, Version}
 use Rattle.ttx_arguments.specs.declared.orders.ReceiverKind.{ReceiverKind}
 use Rattle.ttx_arguments.specs.declared.orders.ReceiverKind.TheVariants.{Eager, Careful, Cleared}
 use Rattle.ttx_arguments.specs.declared.orders.Sending.{Sending}
@@ -52,6 +52,7 @@ pub data OrderView : Type 0 where
   find_order : (cycle service out : Text) → (repeat : ℕ) → (class : Class) → OrderView
   certify_order : (cycle service certificate : Text) → (late twice : Bool) → OrderView
   refute_order : (cycle service certificate : Text) → (save : Option Text) → OrderView
+  replay_order : (cycle service counter : Text) → OrderView
   receive_order : (cycle : Text) → (tuning : Tuning) → OrderView
   show_order : (cycle : Text) → (tuning : Tuning) → (look : LookView) → OrderView
   preview_order : (service : Text) → (selection : Selection) → (look : LookView) → OrderView
@@ -60,6 +61,7 @@ pub data OrderView : Type 0 where
   send_order : (cycle : Text) → (sending : Sending) → OrderView
   pages_order : (cycle : Text) → OrderView
   book_order : (cycle out : Text) → OrderView
+  extract_order : (cycle out : Text) → (lines : ℕ) → OrderView
   version_order : OrderView
 
 abbrev pub order_view : Order → OrderView
@@ -68,6 +70,7 @@ order_view (Plan service out class late) = plan_order service.now out.now class 
 order_view (Find cycle service out repeat class) = find_order cycle.now service.now out.now repeat class
 order_view (Certify cycle service certificate late twice) = certify_order cycle.now service.now certificate.now late twice
 order_view (Refute cycle service certificate save) = refute_order cycle.now service.now certificate.now (option_map (λ s. s.now) save)
+order_view (Replay cycle service counter) = replay_order cycle.now service.now counter.now
 order_view (Receive cycle tuning) = receive_order cycle.now tuning
 order_view (Show cycle tuning look) = show_order cycle.now tuning (look_view look)
 order_view (Preview service selection look) = preview_order service.now selection (look_view look)
@@ -77,6 +80,7 @@ order_view (Wait cycle service repeat class) = wait_order cycle.now service.now 
 order_view (Send cycle sending) = send_order cycle.now sending
 order_view (Pages cycle) = pages_order cycle.now
 order_view (Book cycle out) = book_order cycle.now out.now
+order_view (Extract cycle out lines) = extract_order cycle.now out.now lines
 order_view Version = version_order
 
 -- the text that an argument was given; a parse gives one to each operand
@@ -176,6 +180,9 @@ abbrev pub refute_at : List Row → OrderView
 refute_at rows =
     refute_order (text_at (codes "cycle") rows) (text_at (codes "service") rows) (text_at (codes "certificate") rows) (first_of (codes "save") rows)
 
+abbrev pub replay_at : List Row → OrderView
+replay_at rows = replay_order (text_at (codes "cycle") rows) (text_at (codes "service") rows) (text_at (codes "counter") rows)
+
 abbrev pub receive_at : List Row → Result OrderView Unfit
 receive_at rows = receive_by (selection_of (text_at (codes "page") rows)) rows
 
@@ -200,6 +207,9 @@ pages_at rows = pages_order (text_at (codes "cycle") rows)
 
 abbrev pub book_at : List Row → OrderView
 book_at rows = book_order (text_at (codes "cycle") rows) (text_at (codes "out") rows)
+
+abbrev pub extract_at : List Row → OrderView
+extract_at rows = extract_order (text_at (codes "cycle") rows) (text_at (codes "out") rows) (number_at (codes "lines") 1 32 16 rows)
 
 -- an offset counts half hours
 abbrev pub sending_at : ℕ × ℕ → List Row → Sending
@@ -226,6 +236,7 @@ inputs (plan_order service out class late) = service ∷ []
 inputs (find_order cycle service out repeat class) = cycle ∷ service ∷ []
 inputs (certify_order cycle service certificate late twice) = cycle ∷ service ∷ certificate ∷ (if twice then cycle ∷ [] else [])
 inputs (refute_order cycle service certificate save) = cycle ∷ service ∷ certificate ∷ []
+inputs (replay_order cycle service counter) = cycle ∷ service ∷ counter ∷ []
 inputs (receive_order cycle tuning) = cycle ∷ []
 inputs (show_order cycle tuning look) = cycle ∷ []
 inputs (preview_order service selection look) = service ∷ []
@@ -235,6 +246,7 @@ inputs (wait_order cycle service repeat class) = cycle ∷ service ∷ []
 inputs (send_order cycle sending) = cycle ∷ []
 inputs (pages_order cycle) = cycle ∷ []
 inputs (book_order cycle out) = cycle ∷ []
+inputs (extract_order cycle out lines) = cycle ∷ []
 inputs version_order = []
 
 -- more than one of them is standard input
@@ -252,6 +264,7 @@ order_at name rows =
     else if bytes_eq name (codes "find") then once (find_at rows)
     else if bytes_eq name (codes "certify") then once (certify_at rows)
     else if bytes_eq name (codes "refute") then once (refute_at rows)
+    else if bytes_eq name (codes "replay") then once (replay_at rows)
     else if bytes_eq name (codes "receive") then receive_at rows
     else if bytes_eq name (codes "show") then show_at rows
     else if bytes_eq name (codes "preview") then preview_at rows
@@ -260,6 +273,7 @@ order_at name rows =
     else if bytes_eq name (codes "send") then send_at rows
     else if bytes_eq name (codes "pages") then Ok (pages_at rows)
     else if bytes_eq name (codes "book") then Ok (book_at rows)
+    else if bytes_eq name (codes "extract") then Ok (extract_at rows)
     else if bytes_eq name (codes "version") then Ok version_order
     else Ok (inspect_at rows)
 

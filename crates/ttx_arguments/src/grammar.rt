@@ -3,7 +3,7 @@
 ghost use Rattle.std.specs.Prelude.{◌≡◌, false, codes};
 ghost use Rattle.clap.specs.Words.{App, Text, rule_of, with_rule, with_subcommand, new_app};
 ghost use Rattle.ttx_arguments.specs.Grammar as rule;
-ghost use Rattle.ttx_arguments.specs.Grammar.{Lists, Builds, operand_rule, number_rule, name_rule, flag_rule, text_rule, needed_rule, needed_number_rule, with_tuning, with_look, inspect_app, plan_app, find_app, certify_app, refute_app, receive_app, show_app, preview_app, splice_app, wait_app, send_app, pages_app, book_app, version_app, bare_app, ttx_app};
+ghost use Rattle.ttx_arguments.specs.Grammar.{Lists, Builds, operand_rule, number_rule, name_rule, flag_rule, text_rule, needed_rule, needed_number_rule, with_tuning, with_look, inspect_app, plan_app, find_app, certify_app, refute_app, replay_app, receive_app, show_app, preview_app, splice_app, wait_app, send_app, pages_app, book_app, extract_app, version_app, bare_app, ttx_app};
 
 use crate::help;
 use clap::builder::ValueParser;
@@ -206,6 +206,16 @@ fn refute<'a>(alloc: Global) -> Building<'a>
     with_text(alloc, refute, "save", "OUT", help::SAVE_OPTION)
 }
 
+// `replay CYCLE SERVICE COUNTER`
+fn replay<'a>(alloc: Global) -> Building<'a>
+    ensures { Builds result replay_app }
+{
+    let replay = command(alloc, "replay", help::REPLAY, help::REPLAY_MORE);
+    let replay = with_operand(alloc, replay, "cycle", "CYCLE", help::CYCLE_OPERAND);
+    let replay = with_operand(alloc, replay, "service", "SERVICE", help::SERVICE_OPERAND);
+    with_operand(alloc, replay, "counter", "COUNTER", help::COUNTER_OPERAND)
+}
+
 // `CYCLE PAGE [--lines L] [--start S] [--slots N] [--kind eager|careful|cleared]`
 fn with_tuning<'a>(alloc: Global, command: Building<'a>, kinds: &'a [&'a str]) -> Building<'a>
     ensures { (app : App) → Builds command.entry app → Builds result (with_tuning kinds.entry app) }
@@ -380,6 +390,29 @@ fn book<'a>(alloc: Global) -> Building<'a>
     with_operand(alloc, book, "out", "OUT", help::BOOK_OPERAND)
 }
 
+// `--lines L`, which has to be there
+fn with_lines<'a>(alloc: Global, command: Building<'a>) -> Building<'a>
+    ensures { (app : App) → Builds command.entry app → Builds result (with_rule app (needed_number_rule (codes "lines") 1 32)) }
+{
+    let lines = Arg::new(alloc, "lines")
+        .long("lines")
+        .value_name("L")
+        .help(help::NEEDED_LINES_OPTION)
+        .required(true)
+        .value_parser(ValueParser::unsigned(1, 32));
+    with_arg(command, lines)
+}
+
+// `extract CYCLE OUT --lines L`
+fn extract<'a>(alloc: Global) -> Building<'a>
+    ensures { Builds result extract_app }
+{
+    let extract = command(alloc, "extract", help::EXTRACT, help::EXTRACT_MORE);
+    let extract = with_operand(alloc, extract, "cycle", "CYCLE", help::CYCLE_OPERAND);
+    let extract = with_operand(alloc, extract, "out", "OUT", help::EXTRACTED_OPERAND);
+    with_lines(alloc, extract)
+}
+
 // `version`
 fn version<'a>(alloc: Global) -> Building<'a>
     ensures { Builds result version_app }
@@ -435,6 +468,7 @@ pub(crate) fn ttx<'a>(
     let ttx = with_command(ttx, find(alloc, classes));
     let ttx = with_command(ttx, certify(alloc));
     let ttx = with_command(ttx, refute(alloc));
+    let ttx = with_command(ttx, replay(alloc));
     let ttx = with_command(ttx, receive(alloc, kinds));
     let ttx = with_command(ttx, show(alloc, kinds, forms));
     let ttx = with_command(ttx, preview(alloc, forms));
@@ -443,5 +477,6 @@ pub(crate) fn ttx<'a>(
     let ttx = with_command(ttx, send(alloc));
     let ttx = with_command(ttx, pages(alloc));
     let ttx = with_command(ttx, book(alloc));
+    let ttx = with_command(ttx, extract(alloc));
     with_command(ttx, version(alloc))
 }

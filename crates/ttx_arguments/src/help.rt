@@ -111,6 +111,27 @@ Statuses:
      refused: class (the certificate is for receivers that surely clear)
   3  fault: file, fault: read, fault: write, fault: memory";
 
+pub(crate) const REPLAY: &str =
+    "Replays a counter-run that refute saved, and writes what its viewer sees beside the page";
+
+pub(crate) const REPLAY_MORE: &str =
+    "Reads CYCLE, SERVICE and COUNTER, in this order, to their ends. Where COUNTER is a counter-run of CYCLE and SERVICE, writes
+the line of refute
+  counter PAGE start S slots N hits H choices C
+and then for each row that is shown otherwise than the page's, columns 0 to 7 and 32 to 39 of row 0 aside, two lines
+  shown row R ..   what the receiver shows at the end: a word for each of 40 cells, as receive writes them
+  page row R ..    the page's own
+and the same of links, where they differ: shown links .. and page links ..
+Else writes: not a counter-run
+
+Statuses:
+  0  a counter-run
+  1  none
+  2  error: .. (the words), refused: twice, refused: cycle NUMBER NAME [REST],
+     refused: service NUMBER NAME [KEY] page N, refused: service too-long,
+     refused: counter NUMBER NAME [line N], refused: counter too-long
+  3  fault: file, fault: read, fault: write, fault: memory";
+
 pub(crate) const RECEIVE: &str =
     "Receives a page of a cycle, and writes what is then displayed to standard output";
 
@@ -264,6 +285,27 @@ Statuses:
      refused: cycle 2 truncated REST, refused: cycle 3 empty, refused: cycle 4 too-long
   3  fault: file, fault: read, fault: write, fault: memory";
 
+pub(crate) const EXTRACT: &str =
+    "Makes the service definition that a cycle sends, and writes it to OUT";
+
+pub(crate) const EXTRACT_MORE: &str =
+    "Reads CYCLE to its end. Writes the service to OUT, and then to standard output: extracted N pages
+Its pages are those that have a header, but time-filling ones, in the order of their first headers, each with what its
+first transmissions send; often is how many headers it has, down to 1, 2, 4 or 8, serial is C11, and a packet 8/30 is the
+first one. What isn't sent is blank. The text is read again and compared with CYCLE before anything is written: none of
+certify's reasons 2 to 7 is true of any of its pages on CYCLE. No packet says how many lines a field has: L does.
+
+Statuses:
+  0  done
+  2  error: .. (the words), refused: same (OUT is CYCLE),
+     refused: cycle 2 truncated REST, refused: cycle 3 empty, refused: cycle 4 too-long,
+     refused: conflict PAGE ITEM SLOT SLOT (two slots send an item with different contents),
+     refused: reason NUMBER NAME .. (certify's reason, as 4 erased PAGE SLOT: no service has a page with C4),
+     refused: info SLOT (a packet 8/30 with an offset of minus zero),
+     refused: service NUMBER NAME [KEY] page N (what is sent is no service: N counts its pages in their order),
+     refused: service too-long, refused: unsaid (it is no service for another reason)
+  3  fault: file, fault: read, fault: write, fault: memory";
+
 pub(crate) const VERSION: &str =
     "Writes the version of the program, and the kit and the logic by which it is proved";
 
@@ -283,6 +325,9 @@ pub(crate) const SERVICE_OPERAND: &str =
 
 pub(crate) const CERTIFICATE_OPERAND: &str =
     "Certificate: a text of at most 4194304 bytes; - is standard input";
+
+pub(crate) const COUNTER_OPERAND: &str =
+    "Counter-run: a text of at most 4194304 bytes; - is standard input";
 
 pub(crate) const OLD_OPERAND: &str =
     "Packet file that is sent before the change: 1 to 65536 slots of 42 bytes; - is standard input";
@@ -306,6 +351,8 @@ pub(crate) const PLANNED_OPERAND: &str = "Packet file to write, 42 bytes a slot;
 
 pub(crate) const BOOK_OPERAND: &str = "HTML file to write; made anew";
 
+pub(crate) const EXTRACTED_OPERAND: &str = "Service definition to write, a TOML text; made anew";
+
 pub(crate) const FOUND_OPERAND: &str =
     "Certificate to write, a text; made anew, and left empty where there is none";
 
@@ -319,6 +366,8 @@ pub(crate) const REPEAT_OPTION: &str =
     "Of K successive transmissions of a character at least one is received right, 1 to 8 [default: 1]";
 
 pub(crate) const LINES_OPTION: &str = "Lines of a field that carry teletext, 1 to 32 [default: 16]";
+
+pub(crate) const NEEDED_LINES_OPTION: &str = "Lines of a field that carry teletext, 1 to 32";
 
 pub(crate) const START_OPTION: &str = "Slot to begin at, 0 to 65535, round the cycle [default: 0]";
 

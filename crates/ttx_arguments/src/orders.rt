@@ -93,6 +93,12 @@ pub enum Order<'a> {
         /// The file that the counter-run goes to.
         save: Option<&'a str>,
     },
+    /// Show what is shown after a counter-run.
+    Replay {
+        cycle: &'a str,
+        service: &'a str,
+        counter: &'a str,
+    },
     /// Show what a receiver holds of a page.
     Receive {
         cycle: &'a str,
@@ -139,6 +145,13 @@ pub enum Order<'a> {
     Book {
         cycle: &'a str,
         out: &'a str,
+    },
+    /// Write the service definition that a cycle sends.
+    Extract {
+        cycle: &'a str,
+        out: &'a str,
+        /// Lines of a field, 1 to 32.
+        lines: u8,
     },
     /// Say which program this is.
     Version,

@@ -5,7 +5,7 @@ ghost use Rattle.std.specs.Str.{bytes_eq};
 ghost use Rattle.clap.specs.Words.{rows_of, first_of, found_of, subcommand_rows_of, subcommand_of, fault_of};
 ghost use Rattle.ttx_arguments.specs.Grammar.{ttx_app};
 ghost use Rattle.ttx_arguments.specs.Orders as rule;
-ghost use Rattle.ttx_arguments.specs.Orders.{OrderView, Unfit, order_view, look_view, text_at, kind_named, class_named, form_named, is_set, tuning_at, look_at, show_at, preview_at, inspect_at, plan_at, find_at, certify_at, refute_at, receive_at, splice_at, wait_at, sending_at, send_at, pages_at, book_at, once, order_at, IsOrderOf, AnswersBy, Answers, IsFaultOf, IsRefusalOf};
+ghost use Rattle.ttx_arguments.specs.Orders.{OrderView, Unfit, order_view, look_view, text_at, kind_named, class_named, form_named, is_set, tuning_at, look_at, show_at, preview_at, inspect_at, plan_at, find_at, certify_at, refute_at, replay_at, receive_at, splice_at, wait_at, sending_at, send_at, pages_at, book_at, extract_at, once, order_at, IsOrderOf, AnswersBy, Answers, IsFaultOf, IsRefusalOf};
 
 use crate::grammar::{class_names, form_names, kind_names, ttx};
 use crate::moments::moment;
@@ -279,6 +279,30 @@ fn refute_of<'a>(values: &ArgMatches<'a>) -> Result<Order<'a>, WordsFault>
     Ok(refuted(values))
 }
 
+fn replayed<'a>(values: &ArgMatches<'a>) -> Order<'a>
+    ensures { order_view result ≡ replay_at (rows_of (found_of values.now)) }
+{
+    Order::Replay {
+        cycle: text_of(values, "cycle"),
+        service: text_of(values, "service"),
+        counter: text_of(values, "counter"),
+    }
+}
+
+fn replay_of<'a>(values: &ArgMatches<'a>) -> Result<Order<'a>, WordsFault>
+    ensures { IsOrderOf result (once (replay_at (rows_of (found_of values.now)))) }
+{
+    let standard = [
+        is_standard(text_of(values, "cycle")),
+        is_standard(text_of(values, "service")),
+        is_standard(text_of(values, "counter")),
+    ];
+    if are_many(&standard) {
+        return Err(WordsFault::Twice);
+    }
+    Ok(replayed(values))
+}
+
 // Whether more than one of them is true.
 fn are_many(standard: &[bool]) -> bool
     ensures { result ≡ nat_lt 1 (count_by (λ b. b) standard.now) }
@@ -355,6 +379,16 @@ fn book_of<'a>(values: &ArgMatches<'a>) -> Order<'a>
     }
 }
 
+fn extract_of<'a>(values: &ArgMatches<'a>) -> Order<'a>
+    ensures { order_view result ≡ extract_at (rows_of (found_of values.now)) }
+{
+    Order::Extract {
+        cycle: text_of(values, "cycle"),
+        out: text_of(values, "out"),
+        lines: within(given_number(values, "lines"), 1, 32, 16) as u8,
+    }
+}
+
 // What `send` is told of a sending that starts at this moment.
 fn sending_of(values: &ArgMatches<'_>, moment: (u32, u32)) -> Sending
     ensures { result ≡ sending_at moment (rows_of (found_of values.now)) }
@@ -394,6 +428,8 @@ fn order_of<'a>(name: &str, values: &ArgMatches<'a>) -> Result<Order<'a>, WordsF
         certify_of(values)
     } else if name == "refute" {
         refute_of(values)
+    } else if name == "replay" {
+        replay_of(values)
     } else if name == "receive" {
         receive_of(values)
     } else if name == "show" {
@@ -410,6 +446,8 @@ fn order_of<'a>(name: &str, values: &ArgMatches<'a>) -> Result<Order<'a>, WordsF
         Ok(pages_of(values))
     } else if name == "book" {
         Ok(book_of(values))
+    } else if name == "extract" {
+        Ok(extract_of(values))
     } else if name == "version" {
         Ok(Order::Version)
     } else {
