@@ -1,5 +1,5 @@
 -- A memory is fresh exactly until a header comes that the selection matches.
-use Rattle.std.proofs.Common.{◌≡◌, ◌∙◌, ℕ, Bool, true, false, not, ◌&&◌, ◌||◌, ◌==◌, if◌then◌else◌, List, [], ◌∷◌, Option, Some, None, refl, sym, ap}
+use Rattle.std.proofs.Common.{◌≡◌, ◌∙◌, ℕ, Bool, true, false, not, ◌&&◌, ◌||◌, ◌==◌, if◌then◌else◌, List, [], ◌∷◌, Option, Some, None, refl, ap}
 use Rattle.ttx_header.specs.Control.{c11}
 use Rattle.ttx_links.specs.Sets.{LinkSet}
 use Rattle.ttx_page.specs.Memories.{Memory, memory_row}

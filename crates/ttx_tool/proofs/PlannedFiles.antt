@@ -10,7 +10,7 @@ use Rattle.ttx_late.specs.LateVerdicts.{IsLateVerdict}
 use Rattle.ttx_late.specs.declared.verdict.LateVerdict.{LateVerdict}
 use Rattle.ttx_late.specs.declared.verdict.LateVerdict.TheVariants as late
 use Rattle.ttx_page.specs.declared.class.Class.{Class}
-use Rattle.ttx_plan.specs.Acceptance.{IsPlanned, IsFound, PlannedIsFound}
+use Rattle.ttx_plan.specs.Acceptance.{IsPlanned, PlannedIsFound}
 use Rattle.ttx_plan.specs.Following.{AreFollowed, PlannedIsFollowed}
 use Rattle.ttx_source.specs.Services.{ServiceFields, pages_of, read_bytes}
 use Rattle.ttx_tool.specs.FindingFiles.{Tells, IsFinding, Finds}

@@ -1,13 +1,9 @@
 -- What has a plan isn't too long.
-use Rattle.std.proofs.Common.{◌≡◌, ℕ, ◌<◌, List, Ok, sym, ◌∙◌, subst, arith}
-use Rattle.ttx_page.specs.declared.class.Class.{Class}
+use Rattle.std.proofs.Common.{◌≡◌, ◌<◌, Ok, sym, ◌∙◌, subst, arith}
 use Rattle.ttx_plan.specs.Blocks.{length_bound}
 use Rattle.ttx_plan.specs.Carries.{sent_of}
-use Rattle.ttx_plan.specs.declared.faults.PlanFault.TheVariants as plan
-use Rattle.ttx_source.specs.Services.{ServiceFields, read_bytes}
-use Rattle.ttx_tool.specs.Planning.{IsPlan, IsNoPlan}
+use Rattle.ttx_source.specs.Services.{ServiceFields}
 use Rattle.ttx_tool.specs.PlanningLaws.{PlannedIsNotTooLong}
-use Rattle.ttx_tool.specs.declared.faults.ToolFault.TheVariants.{Plan}
 
 pub planned_is_not_too_long : PlannedIsNotTooLong
 planned_is_not_too_long bytes late class slots planned refused =
