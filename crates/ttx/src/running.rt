@@ -14,7 +14,7 @@ use ttx_plan::Receivers;
 use ttx_proof::{SpliceVerdict, splice_files};
 use ttx_receiver::{Careful, Cleared, Eager, Receiver};
 use ttx_send::Moment;
-use ttx_tool::{ToolFault, commands};
+use ttx_tool::{ExtractionFault, ToolFault, commands};
 
 // A buffered reader of an input.
 fn buffered(rt: &HostRuntime, input: Input) -> Result<Counted<BufReader<Input>>, ToolFault> {
@@ -286,6 +286,35 @@ fn open_book(rt: &HostRuntime, cycle: &str, out: &str) -> io::Result<Result<u8, 
     }
 }
 
+// Writes the service that a cycle sends to a file.
+fn extract(rt: &HostRuntime, input: Input, lines: u8, out: File) -> Result<u8, ToolFault> {
+    let mut reader = buffered(rt, input)?;
+    let mut file = Counted::new(out);
+    let mut writer = Counted::new(io::writer(rt));
+    match commands::extract(rt.alloc(), &mut reader, lines, &mut file, &mut writer) {
+        Ok(status) => Ok(status),
+        Err(ExtractionFault::Tool(fault)) => Err(fault),
+        Err(ExtractionFault::Refused(fault)) => {
+            let mut errors = Counted::new(rt.stderr());
+            commands::report_extraction(rt.alloc(), &fault, &mut errors)
+        }
+    }
+}
+
+// Opens the cycle, makes the service's file anew, and extracts.
+fn open_extract(
+    rt: &HostRuntime,
+    cycle: &str,
+    out: &str,
+    lines: u8,
+) -> io::Result<Result<u8, ToolFault>> {
+    let cycle = open_input(rt, cycle)?;
+    match create_out(rt, &[&cycle], out)? {
+        Some(file) => Ok(extract(rt, cycle, lines, file)),
+        None => Ok(Err(ToolFault::Same)),
+    }
+}
+
 fn version(rt: &HostRuntime) -> Result<u8, ToolFault> {
     let mut writer = Counted::new(io::writer(rt));
     commands::version(&mut writer)?;
@@ -366,6 +395,34 @@ fn open_refute(
         Some(file) => Ok(refute(rt, cycle, service, certificate, true, file)),
         None => Ok(Err(ToolFault::Same)),
     }
+}
+
+// Replays a counter-run: status 0 where it is one, else 1.
+fn replay(rt: &HostRuntime, cycle: Input, service: Input, counter: Input) -> Result<u8, ToolFault> {
+    let mut cycle = buffered(rt, cycle)?;
+    let mut service = buffered(rt, service)?;
+    let mut counter = buffered(rt, counter)?;
+    let mut writer = Counted::new(io::writer(rt));
+    commands::replay(
+        rt.alloc(),
+        &mut cycle,
+        &mut service,
+        &mut counter,
+        &mut writer,
+    )
+}
+
+// Opens the cycle, the service and the counter-run, and replays.
+fn open_replay(
+    rt: &HostRuntime,
+    cycle: &str,
+    service: &str,
+    counter: &str,
+) -> io::Result<Result<u8, ToolFault>> {
+    let cycle = open_input(rt, cycle)?;
+    let service = open_input(rt, service)?;
+    let counter = open_input(rt, counter)?;
+    Ok(replay(rt, cycle, service, counter))
 }
 
 // Opens the cycle, the service and the certificate, and certifies.
@@ -501,6 +558,11 @@ fn run_judging(rt: &HostRuntime, order: &Order<'_>) -> io::Result<Result<u8, Too
             (old_service, new_service),
             (old_certificate, new_certificate),
         ),
+        Order::Replay {
+            cycle,
+            service,
+            counter,
+        } => open_replay(rt, cycle, service, counter),
         _ => Ok(version(rt)),
     }
 }
@@ -562,6 +624,7 @@ pub fn run_order(rt: &HostRuntime, order: &Order<'_>) -> io::Result<Result<u8, T
             save,
         } => open_refute(rt, cycle, service, certificate, *save),
         Order::Book { cycle, out } => open_book(rt, cycle, out),
+        Order::Extract { cycle, out, lines } => open_extract(rt, cycle, out, *lines),
         _ => run_reading(rt, order),
     }
 }

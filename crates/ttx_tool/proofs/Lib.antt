@@ -10,4 +10,6 @@ mod TooLong
 mod ThreeInputs
 mod ServiceIds
 mod WaitInputs
+mod ExtractInputs
+mod ReplayInputs
 mod ShownMemory

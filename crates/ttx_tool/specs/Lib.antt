@@ -7,8 +7,11 @@ pub mod Receiving
 pub mod Showing
 pub mod Planning
 pub mod Previewing
+pub mod ExtractingFiles
 pub mod FindingFiles
 pub mod RefutingFiles
+pub mod UnlikeViews
+pub mod ReplayingFiles
 pub mod Reports
 pub mod PlannedFiles
 pub mod PlanningLaws

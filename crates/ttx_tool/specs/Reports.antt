@@ -1,6 +1,8 @@
 -- What is said of a fault, and the status of the program after it.
 --
 --   source_text, service_text, certificate_text        what is said of a service definition, and of a certificate
+--   extract_text, extract_status            what is said of a cycle of which no service text is made, and the status
+--   run_text, run_status   what is said of the text of a counter-run, and the status
 --   fault_text, fault_line, status_of        the line of a fault, and its status
 --   Reports, ReportsWords    what a report wrote at each answer
 --   CountsReport             a write fault is answered only where it was counted
@@ -9,6 +11,10 @@ use Rattle.std.specs.Fmt.{decimal}
 use Rattle.std.specs.Io.KnownBytes.{Appends, Keeps}
 use Rattle.ttx_cycle.specs.Counts.{HasRisen}
 use Rattle.ttx_cycle.specs.declared.faults.CycleFault.TheVariants as cycle
+use Rattle.ttx_counter.specs.declared.counter_faults.CounterFault.TheVariants as counter
+use Rattle.ttx_extract.specs.Refusals.{refusal_text}
+use Rattle.ttx_extract.specs.declared.faults.ExtractFault.{ExtractFault}
+use Rattle.ttx_extract.specs.declared.faults.ExtractFault.TheVariants as extract
 use Rattle.ttx_plan.specs.declared.faults.PlanFault.TheVariants as plan
 use Rattle.ttx_source.specs.Faults.{fault_of}
 use Rattle.ttx_source.specs.Values.{Fault, not_toml, missing, wrong_kind, wrong_page_number, wrong_subcode, duplicate, too_long, wrong_character, wrong_often, out_of_range, no_memory}
@@ -18,7 +24,9 @@ use Rattle.ttx_certify.specs.declared.faults.TextFile.TheVariants as text
 use Rattle.ttx_arguments.specs.declared.orders.WordsFault.{WordsFault}
 use Rattle.ttx_arguments.specs.declared.orders.WordsFault.TheVariants as words
 use Rattle.ttx_tool.specs.declared.faults.ToolFault.{ToolFault}
-use Rattle.ttx_tool.specs.declared.faults.ToolFault.TheVariants.{Cycle, Service, Certificate, Read, TooLong, Write, NoMemory, Plan, Class, Same}
+use Rattle.ttx_tool.specs.declared.faults.ToolFault.TheVariants.{Cycle, Service, Certificate, Read, TooLong, Write, NoMemory, Plan, Class, Same, Counter}
+use Rattle.ttx_tool.specs.declared.faults.CounterFileFault.{CounterFileFault}
+use Rattle.ttx_tool.specs.declared.faults.CounterFileFault.TheVariants as run
 
 -- the number and the name of a fault of a service definition, and its key where it names one
 abbrev pub source_text : Fault → List ℕ
@@ -47,6 +55,21 @@ certificate_text (cert.Order line) = codes "refused: certificate 3 order line " 
 certificate_text (cert.Range line) = codes "refused: certificate 4 range line " ++ decimal line
 certificate_text cert.NoMemory = codes "fault: memory"
 
+-- a cycle of which no service text is made; the fault of the text itself is that of a service definition
+abbrev pub extract_text : ExtractFault → List ℕ
+extract_text (extract.Service error) = service_text (fault_of error.fault) error.page
+extract_text extract.TooLong = codes "refused: service too-long"
+extract_text extract.NoMemory = codes "fault: memory"
+extract_text fault = codes "refused: " ++ refusal_text fault
+
+-- a refused counter-run, with the line that the fault is in
+abbrev pub run_text : CounterFileFault → List ℕ
+run_text run.Read = codes "fault: read"
+run_text run.TooLong = codes "refused: counter too-long"
+run_text (run.Text counter.Title) = codes "refused: counter 1 title"
+run_text (run.Text (counter.Line line)) = codes "refused: counter 2 line line " ++ decimal line
+run_text (run.Text counter.NoMemory) = codes "fault: memory"
+
 -- what a refusal or a fault is called
 abbrev pub fault_text : ToolFault → List ℕ
 fault_text (Cycle cycle.Read) = codes "fault: read"
@@ -66,6 +89,7 @@ fault_text (Plan plan.TooLong) = codes "refused: plan 2 too-long"
 fault_text (Plan plan.NoMemory) = codes "fault: memory"
 fault_text Class = codes "refused: class"
 fault_text Same = codes "refused: same"
+fault_text (Counter fault) = run_text fault
 
 abbrev pub fault_line : ToolFault → List ℕ
 fault_line fault = fault_text fault ++ 10 ∷ []
@@ -73,6 +97,18 @@ fault_line fault = fault_text fault ++ 10 ∷ []
 abbrev pub service_status : Fault → ℕ
 service_status no_memory = 3
 service_status fault = 2
+
+abbrev pub extract_status : ExtractFault → ℕ
+extract_status (extract.Service error) = service_status (fault_of error.fault)
+extract_status extract.NoMemory = 3
+extract_status fault = 2
+
+abbrev pub run_status : CounterFileFault → ℕ
+run_status run.Read = 3
+run_status run.TooLong = 2
+run_status (run.Text counter.Title) = 2
+run_status (run.Text (counter.Line line)) = 2
+run_status (run.Text counter.NoMemory) = 3
 
 -- 2 for a refusal, 3 for a fault
 abbrev pub status_of : ToolFault → ℕ
@@ -96,6 +132,7 @@ status_of (Plan plan.TooLong) = 2
 status_of (Plan plan.NoMemory) = 3
 status_of Class = 2
 status_of Same = 2
+status_of (Counter fault) = run_status fault
 
 -- the line went out, or its first `written` bytes, or nothing
 abbrev pub Reports : List ℕ → ℕ → Option (List ℕ) → Option (List ℕ) → Result ℕ ToolFault → Type 0

@@ -5,13 +5,26 @@ ghost use Rattle.ttx_tool.specs.FilesFaults.{tool_fault};
 
 use thiserror::Error;
 use ttx_certify::{FilesFault, TextFile};
+use ttx_counter::CounterFault;
 use ttx_cycle::{CycleFault, WriteFault};
+use ttx_extract::ExtractFault;
 use ttx_plan::PlanFault;
 use ttx_source::SourceError;
 use ttx_witness::CertFault;
 
+/// Why the text of a counter-run isn't read.
+#[derive(Clone, Copy, Debug, PartialEq, Eq)]
+pub enum CounterFileFault {
+    /// A read failed.
+    Read,
+    /// The text is longer than 4,194,304 bytes.
+    TooLong,
+    /// The text isn't that of a counter-run.
+    Text(CounterFault),
+}
+
 /// Why a command fails. The numbers of faults: 1 `Cycle`, 2 `Service`, 3 `Certificate`, 4 `Read`, 5 `TooLong`, 6 `Write`,
-/// 7 `NoMemory`, 8 `Plan`, 9 `Class`, 10 `Same`.
+/// 7 `NoMemory`, 8 `Plan`, 9 `Class`, 10 `Same`, 11 `Counter`.
 #[derive(Clone, Copy, Debug, PartialEq, Eq, Error)]
 pub enum ToolFault {
     /// 1. The packet file isn't read.
@@ -45,6 +58,20 @@ pub enum ToolFault {
     /// 10. The file to write is one of the inputs.
     #[error("the file to write is an input")]
     Same,
+    /// 11. The text of a counter-run isn't read.
+    #[error("the text of a counter-run isn't read")]
+    Counter(CounterFileFault),
+}
+
+/// Why `extract` writes nothing. The refusals of a cycle stand apart from all other faults.
+#[derive(Clone, Copy, Debug, PartialEq, Eq, Error)]
+pub enum ExtractionFault {
+    /// The cycle isn't read, a write failed, or a growth was refused.
+    #[error("{0}")]
+    Tool(ToolFault),
+    /// The cycle has no service text.
+    #[error("{0}")]
+    Refused(ExtractFault),
 }
 
 impl ToolFault {

@@ -7,8 +7,9 @@ pub mod laws;
 mod lines;
 mod stepping;
 mod texts;
+mod unlike_views;
 mod views;
 
-pub use faults::ToolFault;
+pub use faults::{CounterFileFault, ExtractionFault, ToolFault};
 pub use ttx_arguments::{Look, Order, ReceiverKind, Tuning, WordsFault, words};
 pub use ttx_certify::TextFile;

@@ -38,8 +38,8 @@ fn push_word(text: &mut String, word: u32) -> Result<(), AllocError>
     push_low_byte(text, (word % 256) as u8)
 }
 
-// Adds cells as words, each after a space.
-fn push_cells(text: &mut String, cells: &[Cell]) -> Result<(), AllocError>
+/// Adds cells as words, each after a space.
+pub(crate) fn push_cells(text: &mut String, cells: &[Cell]) -> Result<(), AllocError>
     ensures { OnOk result (string_bytes text.new ≡ string_bytes text.old ++ cells_text cells.now) }
 {
     for cell in cells {
@@ -49,8 +49,12 @@ fn push_cells(text: &mut String, cells: &[Cell]) -> Result<(), AllocError>
     Ok(())
 }
 
-// Adds the line of a row.
-fn push_row(text: &mut String, number: usize, cells: &[Cell; 40]) -> Result<(), AllocError>
+/// Adds the line of a row.
+pub(crate) fn push_row(
+    text: &mut String,
+    number: usize,
+    cells: &[Cell; 40],
+) -> Result<(), AllocError>
     ensures { OnOk result (string_bytes text.new ≡ string_bytes text.old ++ row_line number cells.now) }
 {
     write!(text, "row {number}")?;

@@ -31,7 +31,11 @@ struct Told {
 }
 
 // The line of a counter-run.
-fn counter_line(alloc: Global, id: PageId, counter: &Counter) -> Result<String, AllocError>
+pub(super) fn counter_line(
+    alloc: Global,
+    id: PageId,
+    counter: &Counter,
+) -> Result<String, AllocError>
     ensures { IfOk result (λ line. string_bytes line ≡ counter_line id (run_of counter.now)) }
 {
     let (start, slots) = (counter.start, counter.slots);

@@ -3,15 +3,18 @@
 ghost use Rattle.std.specs.Prelude.{◌≡◌, [], ◌∷◌, ◌++◌, IfOk, codes, string_bytes};
 ghost use Rattle.std.specs.Fmt.{decimal};
 ghost use Rattle.ttx_cycle.specs.Counters.{inner_of, faults_of};
+ghost use Rattle.ttx_extract.specs.Refusals.{refusal_text};
 ghost use Rattle.ttx_source.specs.Faults.{fault_of};
-ghost use Rattle.ttx_tool.specs.Reports.{service_text, service_status, certificate_text, fault_line, status_of, Reports, ReportsWords, CountsReport};
+ghost use Rattle.ttx_tool.specs.Reports.{service_text, service_status, certificate_text, extract_text, extract_status, run_text, run_status, fault_line, status_of, Reports, ReportsWords, CountsReport};
 
-use crate::faults::ToolFault;
+use crate::faults::{CounterFileFault, ToolFault};
 use std::alloc::{AllocError, Global};
 use std::io::Write;
 use ttx_arguments::WordsFault;
 use ttx_certify::TextFile;
+use ttx_counter::CounterFault;
 use ttx_cycle::{Counted, CycleFault, write_bytes};
+use ttx_extract::{ExtractFault, push_refusal};
 use ttx_plan::PlanFault;
 use ttx_source::{SourceError, SourceFault};
 use ttx_witness::CertFault;
@@ -64,6 +67,50 @@ fn certificate_line(alloc: Global, fault: &CertFault) -> Result<String, AllocErr
     }
 }
 
+// The line of what is said of a cycle.
+fn refusal_line(alloc: Global, fault: &ExtractFault) -> Result<String, AllocError>
+    ensures { IfOk result (λ line. string_bytes line ≡ codes "refused: " ++ refusal_text fault.now ++ 10 ∷ []) }
+{
+    let mut line = String::from_str(alloc, "refused: ")?;
+    push_refusal(&mut line, fault)?;
+    line.push('\n')?;
+    Ok(line)
+}
+
+// The line of a cycle of which no service text is made.
+fn extract_line(alloc: Global, fault: &ExtractFault) -> Result<String, AllocError>
+    ensures { IfOk result (λ line. string_bytes line ≡ extract_text fault.now ++ 10 ∷ []) }
+{
+    match fault {
+        ExtractFault::Service(error) => service_line(alloc, error),
+        ExtractFault::TooLong => String::from_str(alloc, "refused: service too-long\n"),
+        ExtractFault::NoMemory => String::from_str(alloc, "fault: memory\n"),
+        ExtractFault::Conflict { .. }
+        | ExtractFault::Reason(_)
+        | ExtractFault::Info { slot: _ }
+        | ExtractFault::Unsaid => refusal_line(alloc, fault),
+    }
+}
+
+// The line of a counter-run's text that isn't read.
+fn run_line(alloc: Global, fault: &CounterFileFault) -> Result<String, AllocError>
+    ensures { IfOk result (λ line. string_bytes line ≡ run_text fault.now ++ 10 ∷ []) }
+{
+    match fault {
+        CounterFileFault::Read => String::from_str(alloc, "fault: read\n"),
+        CounterFileFault::TooLong => String::from_str(alloc, "refused: counter too-long\n"),
+        CounterFileFault::Text(CounterFault::Title) => {
+            String::from_str(alloc, "refused: counter 1 title\n")
+        }
+        CounterFileFault::Text(CounterFault::Line { line }) => format!(in alloc;
+            "refused: counter 2 line line {line}\n"
+        ),
+        CounterFileFault::Text(CounterFault::NoMemory) => {
+            String::from_str(alloc, "fault: memory\n")
+        }
+    }
+}
+
 // The line of a fault.
 fn line_of(alloc: Global, fault: &ToolFault) -> Result<String, AllocError>
     ensures { IfOk result (λ line. string_bytes line ≡ fault_line fault.now) }
@@ -100,6 +147,7 @@ fn line_of(alloc: Global, fault: &ToolFault) -> Result<String, AllocError>
         ToolFault::Plan(PlanFault::NoMemory) => String::from_str(alloc, "fault: memory\n"),
         ToolFault::Class => String::from_str(alloc, "refused: class\n"),
         ToolFault::Same => String::from_str(alloc, "refused: same\n"),
+        ToolFault::Counter(fault) => run_line(alloc, fault),
     }
 }
 
@@ -110,6 +158,27 @@ fn service_status(fault: &SourceFault) -> u8
     match fault {
         SourceFault::NoMemory => 3,
         _ => 2,
+    }
+}
+
+// The status of the program where no service text is made of a cycle.
+fn extract_status(fault: &ExtractFault) -> u8
+    ensures { result ≡ extract_status fault.now }
+{
+    match fault {
+        ExtractFault::Service(error) => service_status(&error.fault),
+        ExtractFault::NoMemory => 3,
+        _ => 2,
+    }
+}
+
+// The status of the program where a counter-run's text isn't read.
+fn run_status(fault: &CounterFileFault) -> u8
+    ensures { result ≡ run_status fault.now }
+{
+    match fault {
+        CounterFileFault::Read | CounterFileFault::Text(CounterFault::NoMemory) => 3,
+        CounterFileFault::TooLong | CounterFileFault::Text(_) => 2,
     }
 }
 
@@ -126,6 +195,7 @@ fn status(fault: &ToolFault) -> u8
         ToolFault::TooLong { which: _ } => 2,
         ToolFault::Plan(PlanFault::NoMemory) => 3,
         ToolFault::Plan(_) | ToolFault::Class | ToolFault::Same => 2,
+        ToolFault::Counter(fault) => run_status(fault),
         ToolFault::Read { .. } | ToolFault::Write { .. } | ToolFault::NoMemory => 3,
     }
 }
@@ -142,6 +212,20 @@ pub fn report<W: Write>(
     let line = line_of(alloc, fault).map_err(|_| ToolFault::NoMemory)?;
     write_bytes(writer, line.as_bytes()).map_err(ToolFault::from_write)?;
     Ok(status(fault))
+}
+
+/// Writes the line that says why no service text is made of a cycle and answers the status of the program.
+pub fn report_extraction<W: Write>(
+    alloc: Global,
+    fault: &ExtractFault,
+    writer: &mut Counted<W>,
+) -> Result<u8, ToolFault>
+    ensures line { Reports (extract_text fault.now ++ 10 ∷ []) (extract_status fault.now) (W.contents (inner_of writer.old)) (W.contents (inner_of writer.new)) result }
+    ensures faults { CountsReport result (faults_of writer.old) (faults_of writer.new) }
+{
+    let line = extract_line(alloc, fault).map_err(|_| ToolFault::NoMemory)?;
+    write_bytes(writer, line.as_bytes()).map_err(ToolFault::from_write)?;
+    Ok(extract_status(fault))
 }
 
 // Writes a text that is the whole report, and answers the status of a refusal.

@@ -1,0 +1,30 @@
+-- What is told of a counter-run once the three inputs are read.
+use Rattle.std.proofs.Common.{◌≡◌, ℕ, List, Option, Some, None, Result, Ok, Err, IfOk}
+use Rattle.std.specs.Prelude.{IfSome}
+use Rattle.ttx_certify.specs.CertifyingFiles.{IsService}
+use Rattle.ttx_counter.specs.Counters.{CounterRun}
+use Rattle.ttx_cycle.specs.Files.{IsCycle, file_of}
+use Rattle.ttx_source.specs.Services.{ServiceFields, pages_of}
+use Rattle.ttx_tool.specs.ReplayingFiles.{IsCounterText, IsReplay, IsReplaying}
+
+-- two facts of an answer
+pub both_of : {A E : Type 0} (P Q T : A → Type 0) (r : Result A E) → ((a : A) → P a → Q a → T a) → IfOk r P → IfOk r Q → IfOk r T
+both_of P Q T (Ok a) f p q = f a p q
+both_of P Q T (Err e) f p q = tt
+
+module _ (slots : List (List ℕ)) (service : ServiceFields) (run : CounterRun) (is_cycle : IsCycle slots) (text : List ℕ) (status : ℕ)
+    (told : IsReplay slots (pages_of service) run text status) where
+  pub replaying_of : (a b c : Option (List ℕ)) → IfSome a (λ x. x ≡ file_of slots) → IfSome b (λ y. IsService y service) → IfSome c (λ z. IsCounterText z run) →
+      IfSome a (λ x. IfSome b (λ y. IfSome c (λ z. IsReplaying x y z text status)))
+  replaying_of (Some a) (Some b) (Some c) p q r = record {
+    slots = slots;
+    service = service;
+    run = run;
+    cycle_is = record { is_cycle = is_cycle; same = p };
+    service_is = q;
+    counter_is = r;
+    told = told;
+  }
+  replaying_of (Some a) (Some b) None p q r = tt
+  replaying_of (Some a) None c p q r = tt
+  replaying_of None b c p q r = tt

@@ -1,0 +1,185 @@
+//! `replay`: what a viewer sees after a counter-run.
+
+ghost use Rattle.std.specs.Prelude.{◌≡◌, ◌<◌, Some, IfSome, IfOk, IfErr, length, map, slice_get, string_bytes};
+ghost use Rattle.ttx_certify.specs.CertifyingFiles.{IsUntouched};
+ghost use Rattle.ttx_counter.specs.Counters.{run_of};
+ghost use Rattle.ttx_cycle.specs.Counters.{inner_of, faults_of};
+ghost use Rattle.ttx_cycle.specs.Cycles.{slots_of};
+ghost use Rattle.ttx_page.specs.Pages as definitions;
+ghost use Rattle.ttx_page.specs.Views.{page_of, memory_of};
+ghost use Rattle.ttx_source.specs.Services.{pages_of};
+ghost use Rattle.ttx_tool.specs.FilesFaults.{is_write};
+ghost use Rattle.ttx_tool.specs.Planning.{Defines};
+ghost use Rattle.ttx_tool.specs.ReplayingFiles.{replay_text, none_text, IsReplay, ReadsCounter, ReplaysText, Replays, CountsService, CountsCounter, CountsInputs, CountsReplay};
+
+use super::refuting::counter_line;
+use crate::faults::{CounterFileFault, ToolFault};
+use crate::unlike_views::push_unlike_lines;
+use std::alloc::{AllocError, Global};
+use std::io::{Read, Write};
+use ttx_counter::{Counter, read_counter, replay as replay_counter};
+use ttx_cycle::{Counted, Cycle, TextFault, read_cycle, read_text, write_bytes};
+use ttx_page::{Page, PageMemory};
+use ttx_render::render;
+use ttx_source::Service;
+
+// The most bytes of a text.
+const MOST_BYTES: usize = 4_194_304;
+
+// What goes out, and the status.
+#[derive(Drop)]
+struct Told {
+    text: String,
+    status: u8,
+}
+
+// Reads the text of a service. None of its faults is one of a counter-run's text.
+fn read_service<R: Read>(alloc: Global, reader: &mut Counted<R>) -> Result<Service, ToolFault>
+    ensures bytes { IfSome (R.remaining (inner_of reader.old)) (λ bytes. Defines bytes result) }
+    ensures faults { CountsService result (faults_of reader.old) (faults_of reader.new) }
+{
+    match ttx_certify::read_definition(alloc, reader) {
+        Ok(service) => Ok(service),
+        Err(fault) => Err(ToolFault::from_files(fault)),
+    }
+}
+
+// Reads the text of a counter-run.
+fn read_run<R: Read>(alloc: Global, reader: &mut Counted<R>) -> Result<Counter, ToolFault>
+    ensures bytes { IfSome (R.remaining (inner_of reader.old)) (λ bytes. ReadsCounter bytes result) }
+    ensures faults { CountsCounter result (faults_of reader.old) (faults_of reader.new) }
+{
+    let text = match read_text(alloc, reader, MOST_BYTES) {
+        Ok(text) => text,
+        Err(TextFault::Read) => return Err(ToolFault::Counter(CounterFileFault::Read)),
+        Err(TextFault::TooLong) => return Err(ToolFault::Counter(CounterFileFault::TooLong)),
+        Err(TextFault::NoMemory) => return Err(ToolFault::NoMemory),
+    };
+    match read_counter(alloc, text.as_slice()) {
+        Ok(counter) => Ok(counter),
+        Err(fault) => Err(ToolFault::Counter(CounterFileFault::Text(fault))),
+    }
+}
+
+// What goes out of a counter-run of a page whose receiver holds this after it.
+fn replay_text(
+    alloc: Global,
+    page: &Page,
+    counter: &Counter,
+    memory: &PageMemory,
+) -> Result<String, AllocError>
+    ensures { IfOk result (λ text. string_bytes text ≡ replay_text (page_of page.now) (run_of counter.now) (memory_of memory.now)) }
+{
+    let mut text = counter_line(alloc, page.id(), counter)?;
+    push_unlike_lines(
+        alloc,
+        &mut text,
+        &render(memory),
+        &render(&PageMemory::of(page)),
+    )?;
+    Ok(text)
+}
+
+// The same with the status, for the counter-run's page of a list.
+fn tell_shown(
+    alloc: Global,
+    pages: &[Page],
+    counter: &Counter,
+    memory: &PageMemory,
+) -> Result<Told, ToolFault>
+    requires { counter.now.page < length pages.now }
+    ensures text { IfOk result (λ told. (p : definitions.Page) → slice_get (map page_of pages.now) counter.now.page ≡ Some p →
+        string_bytes told.text ≡ replay_text p (run_of counter.now) (memory_of memory.now)) }
+    ensures status { IfOk result (λ told. told.status ≡ 0) }
+    ensures memory { IfErr result (λ fault. fault ≡ ToolFault.NoMemory) }
+{
+    match replay_text(alloc, &pages[counter.page as usize], counter, memory) {
+        Ok(text) => Ok(Told { text, status: 0 }),
+        Err(_) => Err(ToolFault::NoMemory),
+    }
+}
+
+// What goes out where there is no counter-run.
+fn tell_none(alloc: Global) -> Result<Told, ToolFault>
+    ensures text { IfOk result (λ told. string_bytes told.text ≡ none_text) }
+    ensures status { IfOk result (λ told. told.status ≡ 1) }
+    ensures memory { IfErr result (λ fault. fault ≡ ToolFault.NoMemory) }
+{
+    match String::from_str(alloc, "not a counter-run\n") {
+        Ok(text) => Ok(Told { text, status: 1 }),
+        Err(_) => Err(ToolFault::NoMemory),
+    }
+}
+
+// What goes out for a cycle, the pages of a service and what may be a counter-run.
+fn tell(
+    alloc: Global,
+    cycle: &Cycle,
+    service: &Service,
+    counter: &Counter,
+) -> Result<Told, ToolFault>
+    ensures told { IfOk result (λ told. IsReplay (slots_of cycle.now) (pages_of service.now) (run_of counter.now) (string_bytes told.text) told.status) }
+    ensures memory { IfErr result (λ fault. fault ≡ ToolFault.NoMemory) }
+{
+    let pages = service.pages();
+    let Ok(held) = replay_counter(alloc, cycle, pages, counter) else {
+        return Err(ToolFault::NoMemory);
+    };
+    match held {
+        Some(memory) => tell_shown(alloc, pages, counter, &memory),
+        None => tell_none(alloc),
+    }
+}
+
+// The same of a packet file and the two texts.
+fn replay_files<A: Read, B: Read, C: Read>(
+    alloc: Global,
+    cycle: &mut Counted<A>,
+    service: &mut Counted<B>,
+    counter: &mut Counted<C>,
+) -> Result<Told, ToolFault>
+    ensures bytes { IfSome (A.remaining (inner_of cycle.old)) (λ a. IfSome (B.remaining (inner_of service.old)) (λ b. IfSome (C.remaining (inner_of counter.old))
+        (λ c. ReplaysText a b c result))) }
+    ensures faults { CountsInputs result (faults_of cycle.old) (faults_of cycle.new) (faults_of service.old) (faults_of service.new) (faults_of counter.old) (faults_of counter.new) }
+{
+    let cycle = match read_cycle(alloc, cycle) {
+        Ok(cycle) => cycle,
+        Err(fault) => return Err(ToolFault::Cycle(fault)),
+    };
+    let service = match read_service(alloc, service) {
+        Ok(service) => service,
+        Err(fault) => return Err(fault),
+    };
+    let counter = match read_run(alloc, counter) {
+        Ok(counter) => counter,
+        Err(fault) => return Err(fault),
+    };
+    match tell(alloc, &cycle, &service, &counter) {
+        Ok(told) => Ok(told),
+        Err(_) => Err(ToolFault::NoMemory),
+    }
+}
+
+/// Reads a packet file, the text of a service and that of a counter-run, in this order, and writes the line of the counter-run, and
+/// each row and the links that its receiver shows otherwise than the page: the status is 0. Where it is no counter-run of the cycle
+/// and the service, writes a line that says so: the status is 1.
+///
+/// Nothing is written before all is replayed. At `Write` exactly the first `written` bytes of the lines went out; at each other
+/// fault the writer is as it was.
+pub fn replay<A: Read, B: Read, C: Read, W: Write>(
+    alloc: Global,
+    cycle: &mut Counted<A>,
+    service: &mut Counted<B>,
+    counter: &mut Counted<C>,
+    writer: &mut Counted<W>,
+) -> Result<u8, ToolFault>
+    ensures bytes { IfSome (A.remaining (inner_of cycle.old)) (λ a. IfSome (B.remaining (inner_of service.old)) (λ b. IfSome (C.remaining (inner_of counter.old)) (λ c. Replays a b c
+        (W.contents (inner_of writer.old)) (W.contents (inner_of writer.new)) result))) }
+    ensures faults { CountsReplay result (faults_of cycle.old) (faults_of cycle.new) (faults_of service.old) (faults_of service.new) (faults_of counter.old) (faults_of counter.new)
+        (faults_of writer.old) (faults_of writer.new) }
+    ensures untouched { IsUntouched is_write result writer.old writer.new }
+{
+    let told = replay_files(alloc, cycle, service, counter)?;
+    write_bytes(writer, told.text.as_bytes()).map_err(ToolFault::from_write)?;
+    Ok(told.status)
+}
