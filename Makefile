@@ -36,6 +36,7 @@ test:
 	python3 tests/pages.py $(BUILT)
 	python3 tests/refute.py $(BUILT) 300
 	sh tests/packed.sh $(BUILT)
+	python3 tests/extracted.py $(BUILT)
 
 demo: ttx
 	sh demo/demo.sh ./ttx

@@ -60,27 +60,29 @@ def text_row(mag, number, codes):
     return row(mag, number, odd(codes.ljust(40)))
 
 
+ATTRIBUTES = {
+    1: b"\x04\x1d\x07\x0dTall <b>&\x22'</b> \x11\x0d\x7f5j",
+    3: b"\x01Red\x02Green\x03Yellow\x04Blue\x05Mag\x06Cy\x07White",
+    4: b"\x08\x01flash\x09steady \x03\x18concealed\x07 shown",
+    5: b"\x11 !\x22#$%&'()*+,-./0123456789:;<=>?",
+    6: b"\x12`abcdefghijklmnopqrstuvwxyz{|}~\x7f",
+    7: b"\x13\x1a !\x22#$%&'()*+,-./0123456789:;<=>?",
+    8: b"\x16\x1a`abcdefghijklmnopqrstuvwxyz{|}~\x7f",
+    9: b"\x11\x0d\x7f5j!(0`\x1a\x7f5j!(0`\x0c\x7f5j\x07\x0dA[Hg",
+    11: b"\x11\x1e\x7f\x12\x13\x14\x1f\x12\x1a\x14\x1c\x19 held",
+    12: b"\x03\x1d\x04Blue on yellow\x01\x1dRed \x1cblack",
+    17: b"[\x5c]^_`{|}~#$@\x7f <tag attr=\x22x\x22>&amp;</tag>",
+    20: b"\x0d\x08\x06\x18Hidden tall\x07 tall",
+    24: b"\x01Red \x02Green \x03Yellow \x06Cyan",
+}
+BOX = b"\x0d\x0b\x0b\x03Newsflash \x08<now>\x0a\x0a outside"
+
+
 def attributes():
     """Page 200 has each spacing attribute, and characters that markup reserves; page 201 is a newsflash with a box."""
-    rows = {
-        1: b"\x04\x1d\x07\x0dTall <b>&\x22'</b> \x11\x0d\x7f5j",
-        3: b"\x01Red\x02Green\x03Yellow\x04Blue\x05Mag\x06Cy\x07White",
-        4: b"\x08\x01flash\x09steady \x03\x18concealed\x07 shown",
-        5: b"\x11 !\x22#$%&'()*+,-./0123456789:;<=>?",
-        6: b"\x12`abcdefghijklmnopqrstuvwxyz{|}~\x7f",
-        7: b"\x13\x1a !\x22#$%&'()*+,-./0123456789:;<=>?",
-        8: b"\x16\x1a`abcdefghijklmnopqrstuvwxyz{|}~\x7f",
-        9: b"\x11\x0d\x7f5j!(0`\x1a\x7f5j!(0`\x0c\x7f5j\x07\x0dA[Hg",
-        11: b"\x11\x1e\x7f\x12\x13\x14\x1f\x12\x1a\x14\x1c\x19 held",
-        12: b"\x03\x1d\x04Blue on yellow\x01\x1dRed \x1cblack",
-        17: b"[\x5c]^_`{|}~#$@\x7f <tag attr=\x22x\x22>&amp;</tag>",
-        20: b"\x0d\x08\x06\x18Hidden tall\x07 tall",
-        24: b"\x01Red \x02Green \x03Yellow \x06Cyan",
-    }
-    box = b"\x0d\x0b\x0b\x03Newsflash \x08<now>\x0a\x0a outside"
     head = odd(b"Attributes <&>".ljust(32))
-    first = [header(2, 0, 0, 0, 1, head), EMPTY, EMPTY, *[text_row(2, n, text) for n, text in rows.items()], links(2, (1, 0, 15, 15, 15, 7), 15)]
-    return [*first, header(2, 1, 0, 2, 1, head), EMPTY, EMPTY, text_row(2, 20, box), time_filling(2)]
+    first = [header(2, 0, 0, 0, 1, head), EMPTY, EMPTY, *[text_row(2, n, text) for n, text in ATTRIBUTES.items()], links(2, (1, 0, 15, 15, 15, 7), 15)]
+    return [*first, header(2, 1, 0, 2, 1, head), EMPTY, EMPTY, text_row(2, 20, BOX), time_filling(2)]
 
 
 def with_slot(slots, at, slot):
@@ -311,13 +313,52 @@ sub = "0002"
 """
 
 
-def counter(start, slots, deadline, changed, choices=()):
-    """The text of a counter-run of page 100: the page's memory, but for an A in the first column of a row."""
+def quoted(codes):
+    """Codes as a text of TOML."""
+    named = {0x22: '\\"', 0x5C: "\\\\"}
+    return '"' + "".join(named.get(c, chr(c) if 0x20 <= c < 0x7F else f"\\u00{c:02X}") for c in codes) + '"'
+
+
+def extracted(number, keys="", rows=None):
+    """A page as `extract` writes it."""
+    lines = [f"{n} = {quoted(text)}\n" for n, text in (rows or {}).items()]
+    return f'\n[[page]]\nnumber = "{number}"\n{keys}\n[page.rows]\n' + "".join(lines)
+
+
+def extracted_texts():
+    """What `extract` writes of cycles."""
+    serial, parallel = "lines = 2\nserial = true\n", "lines = 2\nserial = false\n"
+    quiet, head = "suppress = true\ninhibit = true\n", 'head = "Attributes <&>"\n'
+    info = TEST_INFO.replace("[info]\n", "\n[info]\ndesignation = 0\n")
+    links_of_page = 'links = ["101", "", "", "", "", ""]\nrow24 = true\n'
+    attributed = [extracted(200, head + links_of_page, ATTRIBUTES), extracted(201, "newsflash = true\n" + head, {20: BOX})]
+    return {
+        "extracted-base.toml": serial + extracted(100),
+        "extracted-attributes.toml": "lines = 3\nserial = true\n" + "".join(attributed),
+        "extracted-info.toml": serial + info + extracted(100),
+        "extracted-parallel.toml": parallel + extracted(100, quiet) + extracted(200, quiet),
+        "extracted-twice.toml": serial + extracted(100, "often = 2\n") + extracted(200),
+        "extracted-subpages.toml": serial + extracted(100) + extracted(100, 'sub = "0001"\n'),
+        "extracted-no-pages.toml": "lines = 32\nserial = true\n",
+    }
+
+
+def unlike():
+    """Cycles that no service says."""
+    return {
+        "row-5-unlike.t42": [*base(), *with_byte(base(), 7, 2, 0xC1)],
+        "even-parity.t42": with_byte(base(), 5, 41, 0xA0),
+        "minus-zero.t42": with_byte([EMPTY, INFO, *base()], 1, 11, 0xC1),
+    }
+
+
+def counter(start, slots, deadline, changed=None, choices=(), six=" 0" * 18):
+    """The text of a counter-run of page 100: the page's memory, but for an A in the first column of a row, and links."""
     rows = ["65" + " 32" * 39 if number == changed else "32" + " 32" * 39 for number in range(25)]
     bits = [f" {bit}" for bit in choices]
     head = [
         "ttx counter 1", "lines 2", "repeat 1", f"deadline {deadline}", "page 0", "any-subpage 0", f"start {start}", f"slots {slots}",
-        "control 128", "storing 0", "age 64", "fresh 0", "row-24 0", "links" + " 0" * 18,
+        "control 128", "storing 0", "age 64", "fresh 0", "row-24 0", "links" + six,
     ]
     lines = [*head, *[f"row {row}" for row in rows], f"choices {len(bits)}" + "".join(bits), "hits 0"]
     return "".join(f"{line}\n" for line in lines)
@@ -353,7 +394,7 @@ def main():
         "bad-slot.t42": with_byte(base(), 4, 0, 0x03),
         "near-text.t42": with_slot(near_row, 2, row(1, 1, b"\xc1" + SPACES[1:])),
         "bad-parity.t42": [*base()[:3], row(1, 1, b"\xc1" + SPACES[1:]), row(1, 1, b"\xc0" + SPACES[1:])],
-    } | planned() | edits_of_base()
+    } | planned() | edits_of_base() | unlike()
     for name, slots in files.items():
         (folder / name).write_bytes(b"".join(slots))
     (folder / "83-bytes").write_bytes(b"".join(base())[:83])
@@ -378,8 +419,11 @@ def main():
         "no-entries.cert": "ttx certificate 1\nlines 2\nrepeat 1\ndeadline 27\n",
         "base-26.counter": counter(1, 52, 26, 23),
         "row-1-near.counter": counter(0, 54, 27, 1, (1, 1)),
+        "no-header.counter": counter(0, 54, 27, six=" 1 1 16255" + " 0" * 15),
+        "slots-052.counter": counter(1, 52, 26, 23).replace("slots 52", "slots 052"),
+        "slots-51.counter": counter(1, 51, 26, 23),
         "clearing.cert": "ttx certificate 2\nclass clearing\nlines 2\nrepeat 1\ndeadline 2\n100/0000 head 0\n",
-    } | services() | refused_services() | certifying_texts() | splicing_texts()
+    } | services() | refused_services() | certifying_texts() | splicing_texts() | extracted_texts()
     for name, text in texts.items():
         (folder / name).write_text(text)
     subpages = [sub for sub in range(0x3F7F) if sub & ~0x3F7F == 0][:1214]

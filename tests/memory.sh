@@ -12,6 +12,7 @@ base=$top/tests/data/base.t42
 for _ in $(seq $((65536 * 42 / $(wc -c < "$base")))); do cat "$base"; done > long.t42
 "$program" find long.t42 base.toml long.cert > /dev/null || exit 1
 "$program" find long.t42 base.toml clearing.cert --class clearing > /dev/null || exit 1
+cp "$top/tests/data/base-26.counter" long.counter
 runs=0
 
 # What a command did in its room: status 127 is that of a program that can't even be loaded.
@@ -34,7 +35,7 @@ for command in "inspect long.t42" "plan broadcast.toml out" "plan broadcast.toml
     "find long.t42 base.toml out" "find long.t42 base.toml out --class clearing" "certify long.t42 base.toml long.cert" \
     "certify long.t42 base.toml clearing.cert" "certify long.t42 base.toml long.cert --late" "receive long.t42 100 --slots 20000" "show long.t42 100 --slots 20000" \
     "splice long.t42 long.t42 base.toml base.toml long.cert long.cert" \
-    "wait long.t42 base.toml" "send long.t42 --at 61000/000000 --fields 100 --lines 12" "pages long.t42" "book long.t42 out"; do
+    "wait long.t42 base.toml" "send long.t42 --at 61000/000000 --fields 100 --lines 12" "replay long.t42 base.toml long.counter" "pages long.t42" "book long.t42 out" "extract long.t42 out --lines 12"; do
     finished=0
     refused=0
     rm -f out

@@ -62,6 +62,15 @@ sh "$work/blocks/5" > "$work/printed" 2>&1 || fail "status $?"
 tail -n 1 "$work/printed" | grep -q '^yes .* class clearing$' || fail "$(cat "$work/printed")"
 expect 6 "$(cat news.yes)
 every page is seen"
+cp news.t42 received.t42
+for recipe in 7 8; do
+    name="recipe $recipe"
+    count=$((count + 1))
+    sh "$work/blocks/$recipe" > "$work/printed-$recipe" 2>&1 || fail "status $?"
+    tail -n 1 "$work/printed-$recipe" | grep -q '^yes lines 12 .* pages 25$' || fail "$(cat "$work/printed-$recipe")"
+done
+# the deadline of the carousel is the same for the service that it was planned for
+[ "$(sed -n 2p "$work/printed-8")" = "$("$program" find news.t42 news.toml heard.cert)" ] || fail "$(cat "$work/printed-8")"
 head -c 42 /dev/zero > news.t42
 name="recipe 6"
 count=$((count + 1))

@@ -14,6 +14,8 @@ import sys
 import tempfile
 from pathlib import Path
 
+sys.dont_write_bytecode = True
+from make_data import counter  # noqa: E402
 
 TOP = Path(__file__).resolve().parent.parent
 PIECES = (1, 7, 41, 42, 43)
@@ -32,6 +34,9 @@ COMMANDS = [
     ("certify small.t42 small.toml small.cert --twice", False),
     ("refute small.t42 small.toml early.cert", False),
     ("refute small.t42 small.toml early.cert --save out", False),
+    ("replay small.t42 small.toml early.counter", False),
+    ("replay base.t42 base.toml base-26.counter", True),
+    ("replay turned.t42 base.toml base-26.counter", True),
     ("preview small.toml 100", False),
     ("receive small.t42 100 --slots 12", False),
     ("show small.t42 100 --slots 12", False),
@@ -39,6 +44,7 @@ COMMANDS = [
     ("wait small.t42 small.toml --repeat 8 --class clearing", False),
     ("send small.t42 --at 61000/235959 --fields 3 --lines 2 --phase 1", False),
     ("pages small.t42", False),
+    ("extract small.t42 out --lines 2", False),
     ("version", False),
     ("splice small.t42 small.t42 small.toml small.toml small.cert small.cert", False),
     ("plan broadcast.toml out", True),
@@ -55,6 +61,8 @@ COMMANDS = [
     ("wait near.t42 base.toml", True),
     ("pages base.t42", True),
     ("book small.t42 out", True),
+    ("extract base.t42 out --lines 2", True),
+    ("extract unlike.t42 out --lines 2", True),
     ("certify missing base.toml base.cert", True),
     ("find base.t42", True),
     ("--help", True),
@@ -67,17 +75,18 @@ def make_inputs(folder):
     subprocess.run([sys.executable, TOP / "tests/make_data.py", data], check=True)
     taken = {
         "small.t42": "planned-suppressed.t42", "small.toml": "planned-suppressed.toml", "near.t42": "row-near-header.t42",
-        "cut.t42": "83-bytes", "clearing-base.cert": "clearing-base.cert",
+        "cut.t42": "83-bytes", "unlike.t42": "row-5-unlike.t42", "clearing-base.cert": "clearing-base.cert",
         "turned.t42": "turned.t42", "turned.cert": "turned.cert",
     }
     for name, source in taken.items():
         shutil.copy(data / source, folder / name)
-    for name in ("base.t42", "base.toml", "base.cert", "often-3.toml"):
+    for name in ("base.t42", "base.toml", "base.cert", "often-3.toml", "base-26.counter"):
         shutil.copy(data / name, folder)
     shutil.copy(TOP / "examples/broadcast.toml", folder)
     head = "lines 2\nrepeat 1\ndeadline"
     (folder / "small.cert").write_text(f"ttx certificate 1\n{head} 5\n100/0000 links 3\n")
     (folder / "early.cert").write_text(f"ttx certificate 1\n{head} 4\n100/0000 links 3\n")
+    (folder / "early.counter").write_text(counter(1, 8, 4, six=" 1 1 16255" + " 0" * 15))
     (folder / "clearing.cert").write_text(f"ttx certificate 2\nclass clearing\n{head} 3\n")
 
 

@@ -5,9 +5,10 @@ usage: refute.py PROGRAM [CASES]
 
 With the deadline of find there is no counter-run, with one field less there is one. Where find finds nothing and each slot is clean
 and each page sent unchanged, there is one. Each counter-run is replayed: its wrong bits keep the error rule, and what is then shown
-isn't the page. Pages hold letters and spaces alone, so that what is shown is what is held.
+isn't the page; and so says replay, row by row. Pages hold letters and spaces alone, so that what is shown is what is held.
 """
 import random
+import re
 import subprocess
 import sys
 import tempfile
@@ -71,14 +72,57 @@ def wrong_of(counter, cycle, page):
             streaks[item, byte] = streaks.get((item, byte), 0) + 1 if (i, byte) in wrong else 0
             if streaks[item, byte] == repeat:
                 return "the error rule"
+    held, own = both_shown(counter, received, hits, page)
+    return "nothing is wrong at its end" if held == own else None
+
+
+def both_shown(counter, received, hits, page):
+    """What is shown at the end of a counter-run, and what the page shows."""
+    received = [bytearray(slot) for slot in received]
     for slot, byte, bit in hits:
         received[slot][byte] ^= 1 << (bit - 1)
     receiver = Receiver(counter, page)
     for slot in received:
         receiver.hear(bytes(slot))
     rows = [[*SPACES[:8], *page["head"], *SPACES[:8]], *page["rows"]]
-    held = shown(receiver.rows, receiver.control, receiver.six, receiver.row_24)
-    return "nothing is wrong at its end" if held == shown(rows, page["control"], [None] * 6, 0) else None
+    return shown(receiver.rows, receiver.control, receiver.six, receiver.row_24), shown(rows, page["control"], [None] * 6, 0)
+
+
+def link_name(link):
+    return f"{link[0]}{link[1]:02X}/{link[2]:04X}" if link else "-"
+
+
+def unlike(held, own):
+    """What a replay has to tell: the rows and links that differ, with what is compared of them."""
+    told = []
+    for number, both in enumerate(zip([held[0], *held[1]], [own[0], *own[1]])):
+        if both[0] != both[1]:
+            words = [[f"{c | 7 << 21:08x}" for c in row] for row in both]
+            told += [(f"shown row {number}", words[0]), (f"page row {number}", words[1])]
+    if held[2] != own[2]:
+        told += [(f"{who} links", [link_name(link) for link in links]) for who, links in (("shown", held[2]), ("page", own[2]))]
+    return told
+
+
+def replayed(line):
+    """A line of a replay: what it is of, and what is compared of it."""
+    words = line.split()
+    if words[1] == "links":
+        return " ".join(words[:2]), words[2:]
+    return " ".join(words[:3]), words[11:35] if words[2] == "0" else words[3:]
+
+
+def replay_fails(program, names, line, counter, cycle, page):
+    """What is wrong with what replay says of a counter-run, or nothing."""
+    start, slots, places = counter["start"][0], counter["slots"][0], counter["hits"][1:]
+    hits = [tuple(places[i : i + 3]) for i in range(0, len(places), 3)]
+    received = [cycle[(start + i) % len(cycle)] for i in range(slots)]
+    status, text, errors = run(program, "replay", *names)
+    lines = text.splitlines()
+    if (status, errors, lines[:1]) != (0, "", [line]):
+        return f"replay says {status} {text[:80]!r} {errors!r}"
+    wanted = unlike(*both_shown(counter, received, hits, page))
+    return None if [replayed(told) for told in lines[1:]] == wanted else f"replay says {text[:200]!r}"
 
 
 def is_clean(slot):
@@ -201,8 +245,19 @@ def refuted(program, folder, case, repeat, deadline):
     counter = read_counter(text)
     if status != 1 or errors or [counter[word][0] for word in ("lines", "repeat", "deadline")] != [lines, repeat, deadline]:
         return text, f"refute says {status} {line!r} {errors!r}"
-    why = wrong_of(counter, cycle, pages[counter["page"][0]])
-    return text, why and f"no counter-run: {why}"
+    page = pages[counter["page"][0]]
+    why = wrong_of(counter, cycle, page)
+    if why:
+        return text, f"no counter-run: {why}"
+    why = replay_fails(program, [*names[:2], str(folder / "counter")], line, counter, cycle, page)
+    return text, why or short_is_one(program, names, folder, text, lines * deadline)
+
+
+def short_is_one(program, names, folder, text, least):
+    """What is wrong with what replay says of the same run with a slot too few, or nothing."""
+    (folder / "short").write_text(re.sub("(?m)^slots .*$", f"slots {least - 1}", text))
+    told = run(program, "replay", *names[:2], str(folder / "short"))
+    return None if told == (1, "not a counter-run", "") else f"replay of too few slots says {told}"
 
 
 def judged(program, folder, case, repeat):
