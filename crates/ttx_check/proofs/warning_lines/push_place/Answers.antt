@@ -1,0 +1,13 @@
+use Rattle.std.proofs.Common.{◌≡◌, ◌∙◌, ◌++◌, codes, string_bytes, append_assoc, subst, ap}
+use Rattle.std.specs.Prelude.{OnOk}
+use Rattle.ttx_certificate.specs.CertificateTexts.{id_text}
+use Rattle.ttx_check.specs.WarningLines.{page_text}
+use Rattle.ttx_check.proofs.warning_lines.push_place.Goals as goal
+
+pub returns : goal.returns
+unfolding page_text
+returns c =
+    let old = string_bytes c.args.text.now in
+    let id = id_text c.args.page in
+    let whole = ap (λ t. t ++ id) c.in_ok-push_str.ensures.bytes ∙ append_assoc old (codes "page ") id in
+    subst (λ t. OnOk c.push_id.result (string_bytes c.push_id.new.text ≡ t)) whole c.push_id.ensures

@@ -1,0 +1,45 @@
+-- What `check` writes for the text of a service.
+--
+--   check_fault             the fault of the same name
+--   most_bytes              the most bytes of a text
+--   Told                    the report on a text that isn't too long
+--   Checks                  what was written at each answer
+--   CountsCheck             faults of devices are answered only where they were counted
+use Rattle.std.specs.Prelude.{◌≡◌, ℕ, ◌<◌, ◌≤◌, List, length, take, ⊤, Option, Result, Ok, Err}
+use Rattle.std.specs.Io.KnownBytes.{Appends, Keeps}
+use Rattle.ttx_cycle.specs.Counts.{HasRisen}
+use Rattle.ttx_cycle.specs.declared.faults.TextFault.{TextFault}
+use Rattle.ttx_cycle.specs.declared.faults.TextFault.TheVariants as text
+use Rattle.ttx_check.specs.Reports.{IsReport}
+use Rattle.ttx_check.specs.declared.faults.CheckFault.{CheckFault}
+use Rattle.ttx_check.specs.declared.faults.CheckFault.TheVariants.{Read, TooLong, Write, NoMemory}
+
+-- a fault of reading a text
+abbrev pub check_fault : TextFault → CheckFault
+check_fault text.Read = Read
+check_fault text.TooLong = TooLong
+check_fault text.NoMemory = NoMemory
+
+abbrev pub most_bytes : ℕ
+most_bytes = 4194304
+
+pub record Told (bytes text : List ℕ) (status : ℕ) : Type 0 where
+  pub most : length bytes ≤ most_bytes
+  pub report : IsReport bytes text status
+
+-- Ok: the report went out. A write fault: its first `written` bytes. Else nothing.
+abbrev pub Checks : List ℕ → Option (List ℕ) → Option (List ℕ) → Result ℕ CheckFault → Type 0
+Checks bytes old new (Ok status) = (text : List ℕ) × Told bytes text status × Appends old new text
+Checks bytes old new (Err (Write written)) =
+    (text : List ℕ) × (status : ℕ) × Told bytes text status × (written < length text) × Appends old new (take written text)
+Checks bytes old new (Err TooLong) = (most_bytes < length bytes) × Keeps old new
+Checks bytes old new (Err Read) = Keeps old new
+Checks bytes old new (Err NoMemory) = Keeps old new
+
+-- the faults counted by the reader and by the writer, before and after
+abbrev pub CountsCheck : {T : Type 0} → Result T CheckFault → ℕ → ℕ → ℕ → ℕ → Type 0
+CountsCheck (Err Read) read_old read_new write_old write_new = HasRisen read_old read_new
+CountsCheck (Err (Write written)) read_old read_new write_old write_new = HasRisen write_old write_new
+CountsCheck (Err TooLong) read_old read_new write_old write_new = ⊤
+CountsCheck (Err NoMemory) read_old read_new write_old write_new = ⊤
+CountsCheck (Ok answer) read_old read_new write_old write_new = ⊤

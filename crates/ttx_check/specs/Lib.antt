@@ -1,0 +1,9 @@
+pub mod Entries
+pub mod Queues
+pub mod Counting
+pub mod PageWarnings
+pub mod Warnings
+pub mod WarningLines
+pub mod UnknownKeys
+pub mod Reports
+pub mod Checking

@@ -1,0 +1,91 @@
+-- The warnings on a page, in their order.
+--
+--   leads_to, is_dead, link_warnings        links to no page of the service
+--   has_stray, is_stray_tab, is_stray_break codes that do nothing where they stand
+--   row_warnings, rows_to   the warnings on rows 1 to 24
+--   has_box, lacks_box      two start box codes; a page that shows boxed text alone, and has none
+--   order_warnings          on a page that comes directly behind another
+--   page_warnings, pages_from       those on a page, and on all pages
+use Rattle.std.specs.Prelude.{ℕ, zero, suc, ◌+◌, Bool, true, false, not, ◌&&◌, ◌||◌, ◌==◌, if◌then◌else◌, List, [], ◌∷◌, ◌++◌, Option, Some, None}
+use Rattle.std.specs.List.{list_any}
+use Rattle.ttx_header.specs.Control.{c5, c6}
+use Rattle.ttx_header.specs.Ids.{Id}
+use Rattle.ttx_page.specs.declared.item.Item.TheVariants.{Row as TheRow}
+use Rattle.ttx_page.specs.Pages.{Page, page_row, is_hidden, is_blank}
+use Rattle.ttx_check.specs.declared.entries.Entry.{Entry}
+use Rattle.ttx_check.specs.declared.warning.Warning.{Warning}
+use Rattle.ttx_check.specs.declared.warning.Warning.TheVariants.{DeadLink, HiddenRow, UnshownRow, StrayTab, StrayBreak, NoBox, BehindSubpage, BehindItself}
+
+-- a link leads to a page of its number and subcode; 3F7F hexadecimal is any subcode
+abbrev pub leads_to : Id → Entry → Bool
+leads_to target e = (target.mag == e.id.mag) && (target.page == e.id.page) && ((target.sub == 16255) || (target.sub == e.id.sub))
+
+-- a link that leads to no page
+abbrev pub is_dead : List Entry → Option Id → Bool
+is_dead entries None = false
+is_dead entries (Some target) = not (list_any (leads_to target) entries)
+
+-- the dead ones of the links of a page, the first of which has this number
+abbrev pub link_warnings : List Entry → Id → ℕ → List (Option Id) → List Warning
+link_warnings entries id n [] = []
+link_warnings entries id n (link ∷ links) = (if is_dead entries link then DeadLink id n ∷ [] else []) ++ link_warnings entries id (n + 1) links
+
+-- the code stands in the row, with none that gives it something to end before it
+abbrev pub has_stray : ℕ → ℕ → List ℕ → Bool
+has_stray code opener [] = false
+has_stray code opener (c ∷ row) = (c == code) || (not (c == opener) && has_stray code opener row)
+
+-- 09, steady, before any 08, flash: each row begins steady (12.2)
+abbrev pub is_stray_tab : List ℕ → Bool
+is_stray_tab row = has_stray 9 8 row
+
+-- 0A, end box, before any 0B, start box: each row begins outside boxes (12.2)
+abbrev pub is_stray_break : List ℕ → Bool
+is_stray_break row = has_stray 10 11 row
+
+-- a row that isn't blank, below one in double height
+abbrev pub is_lost : Page → ℕ → Bool
+is_lost p number = is_hidden (page_row p) number && not (is_blank p (TheRow number))
+
+-- row 24, not blank, on a page whose links don't ask for it
+abbrev pub is_unshown : Page → ℕ → Bool
+is_unshown p number = (number == 24) && not p.links.show24 && not (is_blank p (TheRow number))
+
+abbrev pub only_if : Bool → Warning → List Warning
+only_if holds warning = if holds then warning ∷ [] else []
+
+unfoldable pub row_warnings : Page → ℕ → List Warning
+row_warnings p number =
+    only_if (is_lost p number) (HiddenRow p.id number) ++ only_if (is_unshown p number) (UnshownRow p.id)
+    ++ only_if (is_stray_tab (page_row p number)) (StrayTab p.id number) ++ only_if (is_stray_break (page_row p number)) (StrayBreak p.id number)
+
+-- those on rows 1 to n
+unfoldable pub rows_to : Page → ℕ → List Warning
+rows_to p zero = []
+rows_to p (suc n) = rows_to p n ++ row_warnings p (suc n)
+
+-- two start box codes, 0B, next to each other, as box codes count; the flag: one stands before (12.2)
+abbrev pub has_box_after : Bool → List ℕ → Bool
+has_box_after started [] = false
+has_box_after started (c ∷ row) = (started && (c == 11)) || has_box_after (c == 11) row
+
+abbrev pub has_box : List ℕ → Bool
+has_box row = has_box_after false row
+
+-- a newsflash or subtitle page, of which nothing is shown
+abbrev pub lacks_box : Page → Bool
+lacks_box p = (c5 p.control || c6 p.control) && not (has_box p.head || list_any has_box p.rows)
+
+abbrev pub order_warnings : ℕ → ℕ → Id → List Warning
+order_warnings subpages copies id = only_if (not (subpages == 0)) (BehindSubpage id) ++ only_if (not (copies == 0)) (BehindItself id copies)
+
+-- Those on the page at this place of the service. Two functions say how often a page is sent directly behind another subpage, and
+-- directly behind itself.
+abbrev pub page_warnings : List Entry → (ℕ → ℕ) → (ℕ → ℕ) → ℕ → Page → List Warning
+page_warnings entries subpages copies place p =
+    link_warnings entries p.id 1 p.links.six ++ rows_to p 24 ++ only_if (lacks_box p) (NoBox p.id) ++ order_warnings (subpages place) (copies place) p.id
+
+abbrev pub pages_from : List Entry → (ℕ → ℕ) → (ℕ → ℕ) → ℕ → List Page → List Warning
+pages_from entries subpages copies place [] = []
+pages_from entries subpages copies place (p ∷ pages) =
+    page_warnings entries subpages copies place p ++ pages_from entries subpages copies (place + 1) pages

@@ -1,0 +1,91 @@
+-- The keys of a service text that mean nothing (profile).
+--
+--   service_keys, info_keys, page_keys      the keys that mean something, in the order of docs/SERVICE.md
+--   edits, meant            how far a key is from a name, and the name that it is near
+--   shown, key_line         a key as it is shown; its line
+--   unknown_lines           those of a table
+--   key_lines               those of a text, whose pages are given
+use Rattle.std.specs.Prelude.{ℕ, Bool, ◌&&◌, nat_le, nat_lt, nat_eq, if◌then◌else◌, List, [], ◌∷◌, ◌++◌, codes, length, map, find, Option, Some, None}
+use Rattle.std.specs.List.{list_any}
+use Rattle.std.specs.Str.{bytes_eq, chars}
+use Rattle.strsim.specs.Edits.{levenshtein_row}
+use Rattle.toml.specs.Data.{Data, Items, no_items, item, Members, no_members, member, get_member, as_array, as_table}
+use Rattle.ttx_page.specs.Pages.{Page}
+use Rattle.ttx_check.specs.WarningLines.{page_text}
+
+unfoldable pub service_keys : List (List ℕ)
+service_keys = codes "lines" ∷ codes "serial" ∷ codes "info" ∷ codes "page" ∷ []
+
+unfoldable pub info_keys : List (List ℕ)
+info_keys =
+    codes "designation" ∷ codes "initial" ∷ codes "network" ∷ codes "halves" ∷ codes "mjd" ∷ codes "utc" ∷ codes "text" ∷ []
+
+unfoldable pub page_keys : List (List ℕ)
+page_keys =
+    codes "number" ∷ codes "sub" ∷ codes "often" ∷ codes "option" ∷ codes "newsflash" ∷ codes "subtitle" ∷ codes "suppress" ∷ codes "update"
+    ∷ codes "interrupted" ∷ codes "inhibit" ∷ codes "head" ∷ codes "rows" ∷ codes "links" ∷ codes "row24" ∷ codes "crc" ∷ []
+
+abbrev pub is_among : List (List ℕ) → List ℕ → Bool
+is_among names key = list_any (λ name. bytes_eq name key) names
+
+-- characters put in, left out or changed
+abbrev pub edits : List ℕ → List ℕ → ℕ
+edits a b = levenshtein_row nat_eq (chars a) (chars b) (length (chars b))
+
+abbrev pub is_near : ℕ → List ℕ → List ℕ → Bool
+is_near most key name = nat_le (edits key name) most
+
+abbrev pub or_else : {A : Type 0} → Option A → Option A → Option A
+or_else None b = b
+or_else (Some a) b = Some a
+
+-- the first name that is one edit away, else the first that is two away; none for a key of more than 16 bytes
+unfoldable pub meant : List (List ℕ) → List ℕ → Option (List ℕ)
+meant names key = if nat_lt 16 (length key) then None else or_else (find (is_near 1 key) names) (find (is_near 2 key) names)
+
+-- a byte of a key: a question mark where it isn't a visible character of ASCII
+abbrev pub shown : ℕ → ℕ
+shown code = if nat_le 33 code && nat_le code 126 then code else 63
+
+abbrev pub meant_text : Option (List ℕ) → List ℕ
+meant_text None = []
+meant_text (Some name) = codes ": is it " ++ name ++ codes "?"
+
+-- the line of a key that isn't among these names
+unfoldable pub key_line : List ℕ → List (List ℕ) → List ℕ → List ℕ
+key_line place names key = codes "warning " ++ place ++ codes ": no key " ++ map shown key ++ meant_text (meant names key) ++ 10 ∷ []
+
+unfoldable pub key_text : List ℕ → List (List ℕ) → List ℕ → List ℕ
+key_text place names key = if is_among names key then [] else key_line place names key
+
+-- the lines of a table at a place, which takes keys of these names; keys rise by their bytes
+abbrev pub unknown_lines : List ℕ → List (List ℕ) → Members → List ℕ
+unknown_lines place names no_members = []
+unknown_lines place names (member key value table) = key_text place names key ++ unknown_lines place names table
+
+abbrev pub table_lines : List ℕ → List (List ℕ) → Option Members → List ℕ
+table_lines place names None = []
+table_lines place names (Some table) = unknown_lines place names table
+
+abbrev pub value_lines : List ℕ → List (List ℕ) → Option Data → List ℕ
+value_lines place names None = []
+value_lines place names (Some value) = table_lines place names (as_table value)
+
+-- the lines of the tables of pages
+abbrev pub items_lines : Items → List Page → List ℕ
+items_lines no_items pages = []
+items_lines (item value values) [] = []
+items_lines (item value values) (p ∷ pages) = table_lines (page_text p.id) page_keys (as_table value) ++ items_lines values pages
+
+abbrev pub array_lines : Option Items → List Page → List ℕ
+array_lines None pages = []
+array_lines (Some values) pages = items_lines values pages
+
+abbrev pub page_lines : Option Data → List Page → List ℕ
+page_lines None pages = []
+page_lines (Some value) pages = array_lines (as_array value) pages
+
+abbrev pub key_lines : Members → List Page → List ℕ
+key_lines table pages =
+    unknown_lines (codes "service") service_keys table ++ value_lines (codes "info") info_keys (get_member (codes "info") table)
+    ++ page_lines (get_member (codes "page") table) pages

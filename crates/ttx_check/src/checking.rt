@@ -1,0 +1,33 @@
+//! `check`: what is wrong, or likely wrong, in the text of a service.
+
+ghost use Rattle.std.specs.Prelude.{◌≡◌, IfSome, IfOk, string_bytes};
+ghost use Rattle.ttx_cycle.specs.Counters.{inner_of, faults_of};
+ghost use Rattle.ttx_check.specs.Checking.{Checks, CountsCheck};
+
+use crate::faults::CheckFault;
+use crate::reports::report;
+use std::alloc::Global;
+use std::io::{Read, Write};
+use ttx_cycle::{Counted, read_text, write_bytes};
+
+// The most bytes of a text.
+const MOST_BYTES: usize = 4_194_304;
+
+/// Reads the text of a service, of at most 4,194,304 bytes, and writes the report on it: the status is 2 where the text is
+/// refused, else 0.
+///
+/// Nothing is written before the text is read. At `Write` exactly the first `written` bytes went out.
+pub fn check<R: Read, W: Write>(
+    alloc: Global,
+    reader: &mut Counted<R>,
+    writer: &mut Counted<W>,
+) -> Result<u8, CheckFault>
+    ensures bytes { IfSome (R.remaining (inner_of reader.old))
+        (λ bytes. Checks bytes (W.contents (inner_of writer.old)) (W.contents (inner_of writer.new)) result) }
+    ensures faults { CountsCheck result (faults_of reader.old) (faults_of reader.new) (faults_of writer.old) (faults_of writer.new) }
+{
+    let text = read_text(alloc, reader, MOST_BYTES).map_err(CheckFault::from_text)?;
+    let report = report(alloc, text.as_slice()).map_err(|_| CheckFault::NoMemory)?;
+    write_bytes(writer, report.text.as_bytes()).map_err(CheckFault::from_write)?;
+    Ok(report.status)
+}

@@ -1,0 +1,28 @@
+//! Checks of service texts for their authors: where a text is refused, and what in a service is likely a mistake.
+#![tactic(auto)]
+
+mod checking;
+mod entries;
+pub mod faults;
+mod finding;
+mod links;
+mod page_warnings;
+mod positions;
+mod queues;
+mod refusals;
+mod reports;
+mod rows;
+mod service_warnings;
+mod spots;
+mod tallies;
+mod tokens;
+mod traffic;
+mod unknown_keys;
+pub mod warning;
+mod warning_lines;
+
+pub use checking::check;
+pub use faults::CheckFault;
+pub use reports::{Checked, report};
+pub use service_warnings::warnings;
+pub use warning::Warning;

@@ -1,0 +1,103 @@
+//! The warnings on pages.
+
+ghost use Rattle.std.specs.Prelude.{◌≡◌, ◌++◌, ◌||◌, OnOk, map};
+ghost use Rattle.std.specs.List.{list_any};
+ghost use Rattle.ttx_page.specs.Views.{page_of};
+ghost use Rattle.ttx_check.specs.Counting.{times_in};
+ghost use Rattle.ttx_check.specs.PageWarnings.{has_box, lacks_box, order_warnings, page_warnings, pages_from};
+
+use crate::entries::Entry;
+use crate::links::push_links;
+use crate::rows::{push_if, push_rows};
+use crate::tallies::count_of;
+use crate::warning::Warning;
+use std::alloc::AllocError;
+use std::collections::BTreeMap;
+use ttx_page::Page;
+
+// The code that starts a box where it stands twice.
+const START_BOX: u8 = 0x0b;
+
+/// How often the page at each place of a service is sent directly behind another subpage of its number, and behind itself.
+#[derive(Drop)]
+pub struct Order {
+    pub subpages: BTreeMap<usize, usize>,
+    pub copies: BTreeMap<usize, usize>,
+}
+
+// Whether a box starts among these characters.
+fn has_box(row: &[u8]) -> bool
+    ensures { result ≡ has_box row.now }
+{
+    let mut started = false;
+    for code in row {
+        if started && *code == START_BOX {
+            return true;
+        }
+        started = *code == START_BOX;
+    }
+    false
+}
+
+// Whether a box starts in one of the rows.
+fn have_box(rows: &[[u8; 40]]) -> bool
+    ensures { result ≡ list_any has_box rows.now }
+{
+    rows.iter().any(|row| has_box(row))
+}
+
+// Whether a newsflash or subtitle page has no box.
+fn lacks_box(page: &Page) -> bool
+    ensures { result ≡ lacks_box (page_of page.now) }
+{
+    let control = page.control();
+    (control.is_newsflash() || control.is_subtitle())
+        && !(has_box(page.head()) || have_box(page.rows()))
+}
+
+// Adds the warnings on the pages before the page at the place.
+fn push_order(
+    found: &mut Vec<Warning>,
+    order: &Order,
+    place: usize,
+    page: &Page,
+) -> Result<(), AllocError>
+    ensures { OnOk result (found.new.items ≡ found.old.items ++ order_warnings (times_in order.now.subpages place) (times_in order.now.copies place) (page_of page.now).id) }
+{
+    let id = page.id();
+    let subpages = count_of(&order.subpages, place);
+    let times = count_of(&order.copies, place);
+    push_if(found, subpages != 0, Warning::BehindSubpage { page: id })?;
+    push_if(found, times != 0, Warning::BehindItself { page: id, times })
+}
+
+// Adds the warnings on the page at the place.
+fn push_page(
+    found: &mut Vec<Warning>,
+    entries: &[Entry],
+    order: &Order,
+    place: usize,
+    page: &Page,
+) -> Result<(), AllocError>
+    ensures { OnOk result (found.new.items ≡ found.old.items ++ page_warnings entries.now (times_in order.now.subpages) (times_in order.now.copies) place (page_of page.now)) }
+{
+    push_links(found, entries, page.id(), page.links().six())?;
+    push_rows(found, page)?;
+    push_if(found, lacks_box(page), Warning::NoBox { page: page.id() })?;
+    push_order(found, order, place, page)
+}
+
+/// Adds the warnings on the pages of a service.
+pub fn push_pages(
+    found: &mut Vec<Warning>,
+    entries: &[Entry],
+    order: &Order,
+    pages: &[Page],
+) -> Result<(), AllocError>
+    ensures { OnOk result (found.new.items ≡ found.old.items ++ pages_from entries.now (times_in order.now.subpages) (times_in order.now.copies) 0 (map page_of pages.now)) }
+{
+    for (place, page) in pages.iter().enumerate() {
+        push_page(found, entries, order, place, page)?;
+    }
+    Ok(())
+}

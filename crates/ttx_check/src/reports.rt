@@ -1,0 +1,75 @@
+//! The report on a service text.
+
+ghost use Rattle.std.specs.Prelude.{◌≡◌, ◌++◌, IfOk, IfErr, length, string_bytes, map};
+ghost use Rattle.toml.specs.View.{table_view};
+ghost use Rattle.ttx_check.specs.Reports as rule;
+
+use crate::refusals::error_line;
+use crate::service_warnings::warnings;
+use crate::unknown_keys::push_keys;
+use crate::warning_lines::push_warnings;
+use std::alloc::{AllocError, Global};
+use toml::Table;
+use ttx_source::{Service, SourceError, SourceFault, read_service};
+
+/// What is said of a text, and whether it is refused.
+#[derive(Drop)]
+pub struct Checked {
+    pub text: String,
+    /// 0, or 2 where the text is refused.
+    pub status: u8,
+}
+
+// The lines, or that there is nothing to say.
+fn said(alloc: Global, count: usize, lines: String) -> Result<String, AllocError>
+    ensures { IfOk result (λ text. string_bytes text ≡ rule.said count (string_bytes lines)) }
+{
+    if lines.is_empty() {
+        format!(in alloc; "ok pages {count}\n")
+    } else {
+        Ok(lines)
+    }
+}
+
+// The report on a service and its table.
+fn service_report(alloc: Global, table: &Table, service: &Service) -> Result<String, AllocError>
+    ensures { IfOk result (λ text. string_bytes text ≡ rule.report (table_view table.now) service.now) }
+{
+    let mut lines = String::new(alloc);
+    push_keys(alloc, &mut lines, table, service.pages())?;
+    let found = warnings(alloc, service)?;
+    push_warnings(&mut lines, &found)?;
+    said(alloc, service.pages().len(), lines)
+}
+
+// The report on a text that is read. It is read a second time for its keys, so that only memory can be wanting.
+fn read_report(alloc: Global, bytes: &[u8], service: &Service) -> Result<Checked, AllocError>
+    ensures { IfOk result (λ report. rule.IsRead bytes.now service.now (string_bytes report.text) × (report.status ≡ 0)) }
+{
+    match toml::table_from_slice(alloc, bytes) {
+        Ok(table) => Ok(Checked {
+            text: service_report(alloc, &table, service)?,
+            status: 0,
+        }),
+        Err(_) => Err(AllocError),
+    }
+}
+
+/// What is said of a text: a line where it is refused, else the warnings. The error is want of memory.
+pub fn report(alloc: Global, bytes: &[u8]) -> Result<Checked, AllocError>
+    ensures { IfOk result (λ report. rule.IsReport bytes.now (string_bytes report.text) report.status) }
+{
+    match read_service(alloc, bytes) {
+        Ok(service) => read_report(alloc, bytes, &service),
+        Err(
+            SourceError {
+                fault: SourceFault::NoMemory,
+                page: _,
+            },
+        ) => Err(AllocError),
+        Err(error) => Ok(Checked {
+            text: error_line(alloc, bytes, &error)?,
+            status: 2,
+        }),
+    }
+}

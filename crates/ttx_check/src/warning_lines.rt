@@ -1,0 +1,130 @@
+//! The lines of warnings.
+
+ghost use Rattle.std.specs.Prelude.{◌≡◌, ◌++◌, ◌∷◌, [], OnOk, codes, string_bytes};
+ghost use Rattle.std.specs.Fmt.{decimal};
+ghost use Rattle.ttx_check.specs.WarningLines.{page_text, row_text, magazine_text, warning_text, warning_line, warning_lines};
+
+use crate::warning::Warning;
+use std::alloc::AllocError;
+use ttx_certificate::push_id;
+use ttx_header::PageId;
+
+// Adds the place of a page.
+pub(crate) fn push_place(text: &mut String, page: PageId) -> Result<(), AllocError>
+    ensures { OnOk result (string_bytes text.new ≡ string_bytes text.old ++ page_text page) }
+{
+    text.push_str("page ")?;
+    push_id(text, page)
+}
+
+// Adds the place of a row, and what is said of it.
+#[tactic(auto, unfolding(crate::specs::WarningLines::row_text))]
+fn push_row(text: &mut String, page: PageId, row: u8, says: &str) -> Result<(), AllocError>
+    ensures { OnOk result (string_bytes text.new ≡ string_bytes text.old ++ row_text page row ++ says.now) }
+{
+    push_place(text, page)?;
+    write!(text, " row {row}")?;
+    text.push_str(says)
+}
+
+// Adds the place of a page, and what is said of it.
+fn push_page(text: &mut String, page: PageId, says: &str) -> Result<(), AllocError>
+    ensures { OnOk result (string_bytes text.new ≡ string_bytes text.old ++ page_text page ++ says.now) }
+{
+    push_place(text, page)?;
+    text.push_str(says)
+}
+
+fn push_link(text: &mut String, page: PageId, link: usize) -> Result<(), AllocError>
+    ensures { OnOk result (string_bytes text.new ≡ string_bytes text.old ++ page_text page ++ codes " link " ++ decimal link ++ codes ": the service has no such page") }
+{
+    push_place(text, page)?;
+    write!(text, " link {link}: the service has no such page")
+}
+
+fn push_itself(text: &mut String, page: PageId, times: usize) -> Result<(), AllocError>
+    ensures { OnOk result (string_bytes text.new ≡ string_bytes text.old ++ page_text page ++ codes ": often doesn't help: it is sent directly behind itself, times " ++ decimal times) }
+{
+    push_place(text, page)?;
+    write!(
+        text,
+        ": often doesn't help: it is sent directly behind itself, times {times}"
+    )
+}
+
+// Adds the place of a magazine, and what is said of it.
+#[tactic(auto, unfolding(crate::specs::WarningLines::magazine_text))]
+fn push_magazine(text: &mut String, mag: u8, says: &str) -> Result<(), AllocError>
+    ensures { OnOk result (string_bytes text.new ≡ string_bytes text.old ++ magazine_text mag ++ says.now) }
+{
+    write!(text, "magazine {mag}")?;
+    text.push_str(says)
+}
+
+// Adds what is said of a warning.
+fn push_text(text: &mut String, warning: Warning) -> Result<(), AllocError>
+    ensures { OnOk result (string_bytes text.new ≡ string_bytes text.old ++ warning_text warning) }
+{
+    match warning {
+        Warning::DeadInitial => text.push_str("info initial: the service has no such page"),
+        Warning::DeadLink { page, link } => push_link(text, page, link),
+        Warning::HiddenRow { page, row } => push_row(
+            text,
+            page,
+            row,
+            ": double height in the row above hides it",
+        ),
+        Warning::UnshownRow { page } => push_page(
+            text,
+            page,
+            " row 24: it is shown only with row24 = true",
+        ),
+        Warning::StrayTab { page, row } => push_row(
+            text,
+            page,
+            row,
+            ": code 09 does nothing before a flash: is it a tab?",
+        ),
+        Warning::StrayBreak { page, row } => push_row(
+            text,
+            page,
+            row,
+            ": code 0A does nothing before a box: is it a line break?",
+        ),
+        Warning::NoBox { page } => push_page(
+            text,
+            page,
+            ": a newsflash or subtitle without a box shows nothing",
+        ),
+        Warning::BehindSubpage { page } => push_page(
+            text,
+            page,
+            ": sent directly behind another subpage, which receivers that show late then miss, but for plan --late",
+        ),
+        Warning::BehindItself { page, times } => push_itself(text, page, times),
+        Warning::MostTraffic { mag } => push_magazine(
+            text,
+            mag,
+            ": it has more than half of all packets: serial = false would shorten the wait",
+        ),
+    }
+}
+
+// Adds the line of a warning.
+fn push_line(text: &mut String, warning: Warning) -> Result<(), AllocError>
+    ensures { OnOk result (string_bytes text.new ≡ string_bytes text.old ++ warning_line warning) }
+{
+    text.push_str("warning ")?;
+    push_text(text, warning)?;
+    text.push('\n')
+}
+
+/// Adds the lines of warnings.
+pub fn push_warnings(text: &mut String, warnings: &[Warning]) -> Result<(), AllocError>
+    ensures { OnOk result (string_bytes text.new ≡ string_bytes text.old ++ warning_lines warnings.now) }
+{
+    for warning in warnings {
+        push_line(text, *warning)?;
+    }
+    Ok(())
+}
