@@ -6,7 +6,7 @@
 --   number_rule, name_rule   an option with a number in a range, and one with a name of a list
 --   flag_rule, text_rule     an option without a value, and one with any text
 --   needed_rule, needed_number_rule         an option that has to be there, with any text, and with a number in a range
---   inspect_app, plan_app, find_app, certify_app, refute_app, replay_app, receive_app, show_app, preview_app, splice_app, wait_app, send_app, pages_app, book_app, extract_app, version_app
+--   inspect_app, plan_app, find_app, certify_app, refute_app, replay_app, receive_app, show_app, preview_app, splice_app, wait_app, send_app, pages_app, book_app, extract_app, check_app, version_app
 --                            a command with its arguments
 --   bare_app, ttx_app        the program alone, and with its commands
 --   Builds                   what is built of a command, where memory doesn't run out
@@ -144,6 +144,10 @@ extract_app =
     with_rule (with_rule (with_rule (new_app (codes "extract")) (operand_rule (codes "cycle"))) (operand_rule (codes "out")))
     (needed_number_rule (codes "lines") 1 32)
 
+-- check SERVICE
+abbrev pub check_app : App
+check_app = with_rule (new_app (codes "check")) (operand_rule (codes "service"))
+
 -- version
 abbrev pub version_app : App
 version_app = new_app (codes "version")
@@ -157,10 +161,10 @@ bare_app = record { top = bare (new_app (codes "ttx")).top; subs = [] }
 
 unfoldable pub ttx_app : NameList → NameList → NameList → App
 ttx_app kinds classes forms =
-    with_subcommand (with_subcommand (with_subcommand (with_subcommand (with_subcommand (with_subcommand (with_subcommand (with_subcommand
+    with_subcommand (with_subcommand (with_subcommand (with_subcommand (with_subcommand (with_subcommand (with_subcommand (with_subcommand (with_subcommand
     (with_subcommand (with_subcommand (with_subcommand (with_subcommand (with_subcommand (with_subcommand (with_subcommand (with_subcommand bare_app inspect_app.top)
     (plan_app classes).top) (find_app classes).top) certify_app.top) refute_app.top) replay_app.top) (receive_app kinds).top) (show_app kinds forms).top)
-    (preview_app forms).top) splice_app.top) (wait_app classes).top) send_app.top) pages_app.top) book_app.top) extract_app.top)
+    (preview_app forms).top) splice_app.top) (wait_app classes).top) send_app.top) pages_app.top) book_app.top) extract_app.top) check_app.top)
     version_app.top
 
 abbrev pub Builds : {E : Type 0} → Result Command E → App → Type 0

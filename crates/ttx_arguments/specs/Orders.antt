@@ -28,7 +28,7 @@ use Rattle.ttx_picture.specs.declared.forms.Form.{Form}
 use Rattle.ttx_picture.specs.declared.forms.Form.TheVariants as form
 use Rattle.ttx_arguments.specs.declared.orders.Look.{Look}
 use Rattle.ttx_arguments.specs.declared.orders.Order.{Order}
-use Rattle.ttx_arguments.specs.declared.orders.Order.TheVariants.{Inspect, Plan, Find, Certify, Refute, Replay, Receive, Show, Preview, Splice, Wait, Send, Pages, Book, Extract, Version}
+use Rattle.ttx_arguments.specs.declared.orders.Order.TheVariants.{Inspect, Plan, Find, Certify, Refute, Replay, Receive, Show, Preview, Splice, Wait, Send, Pages, Book, Extract, Check, Version}
 use Rattle.ttx_arguments.specs.declared.orders.ReceiverKind.{ReceiverKind}
 use Rattle.ttx_arguments.specs.declared.orders.ReceiverKind.TheVariants.{Eager, Careful, Cleared}
 use Rattle.ttx_arguments.specs.declared.orders.Sending.{Sending}
@@ -62,6 +62,7 @@ pub data OrderView : Type 0 where
   pages_order : (cycle : Text) → OrderView
   book_order : (cycle out : Text) → OrderView
   extract_order : (cycle out : Text) → (lines : ℕ) → OrderView
+  check_order : (service : Text) → OrderView
   version_order : OrderView
 
 abbrev pub order_view : Order → OrderView
@@ -81,6 +82,7 @@ order_view (Send cycle sending) = send_order cycle.now sending
 order_view (Pages cycle) = pages_order cycle.now
 order_view (Book cycle out) = book_order cycle.now out.now
 order_view (Extract cycle out lines) = extract_order cycle.now out.now lines
+order_view (Check service) = check_order service.now
 order_view Version = version_order
 
 -- the text that an argument was given; a parse gives one to each operand
@@ -211,6 +213,9 @@ book_at rows = book_order (text_at (codes "cycle") rows) (text_at (codes "out") 
 abbrev pub extract_at : List Row → OrderView
 extract_at rows = extract_order (text_at (codes "cycle") rows) (text_at (codes "out") rows) (number_at (codes "lines") 1 32 16 rows)
 
+abbrev pub check_at : List Row → OrderView
+check_at rows = check_order (text_at (codes "service") rows)
+
 -- an offset counts half hours
 abbrev pub sending_at : ℕ × ℕ → List Row → Sending
 sending_at moment rows = record {
@@ -247,6 +252,7 @@ inputs (send_order cycle sending) = cycle ∷ []
 inputs (pages_order cycle) = cycle ∷ []
 inputs (book_order cycle out) = cycle ∷ []
 inputs (extract_order cycle out lines) = cycle ∷ []
+inputs (check_order service) = service ∷ []
 inputs version_order = []
 
 -- more than one of them is standard input
@@ -274,6 +280,7 @@ order_at name rows =
     else if bytes_eq name (codes "pages") then Ok (pages_at rows)
     else if bytes_eq name (codes "book") then Ok (book_at rows)
     else if bytes_eq name (codes "extract") then Ok (extract_at rows)
+    else if bytes_eq name (codes "check") then Ok (check_at rows)
     else if bytes_eq name (codes "version") then Ok version_order
     else Ok (inspect_at rows)
 

@@ -3,7 +3,7 @@
 ghost use Rattle.std.specs.Prelude.{◌≡◌, false, codes};
 ghost use Rattle.clap.specs.Words.{App, Text, rule_of, with_rule, with_subcommand, new_app};
 ghost use Rattle.ttx_arguments.specs.Grammar as rule;
-ghost use Rattle.ttx_arguments.specs.Grammar.{Lists, Builds, operand_rule, number_rule, name_rule, flag_rule, text_rule, needed_rule, needed_number_rule, with_tuning, with_look, inspect_app, plan_app, find_app, certify_app, refute_app, replay_app, receive_app, show_app, preview_app, splice_app, wait_app, send_app, pages_app, book_app, extract_app, version_app, bare_app, ttx_app};
+ghost use Rattle.ttx_arguments.specs.Grammar.{Lists, Builds, operand_rule, number_rule, name_rule, flag_rule, text_rule, needed_rule, needed_number_rule, with_tuning, with_look, inspect_app, plan_app, find_app, certify_app, refute_app, replay_app, receive_app, show_app, preview_app, splice_app, wait_app, send_app, pages_app, book_app, extract_app, check_app, version_app, bare_app, ttx_app};
 
 use crate::help;
 use clap::builder::ValueParser;
@@ -413,6 +413,14 @@ fn extract<'a>(alloc: Global) -> Building<'a>
     with_lines(alloc, extract)
 }
 
+// `check SERVICE`
+fn check<'a>(alloc: Global) -> Building<'a>
+    ensures { Builds result check_app }
+{
+    let check = command(alloc, "check", help::CHECK, help::CHECK_MORE);
+    with_operand(alloc, check, "service", "SERVICE", help::SERVICE_OPERAND)
+}
+
 // `version`
 fn version<'a>(alloc: Global) -> Building<'a>
     ensures { Builds result version_app }
@@ -478,5 +486,6 @@ pub(crate) fn ttx<'a>(
     let ttx = with_command(ttx, pages(alloc));
     let ttx = with_command(ttx, book(alloc));
     let ttx = with_command(ttx, extract(alloc));
+    let ttx = with_command(ttx, check(alloc));
     with_command(ttx, version(alloc))
 }

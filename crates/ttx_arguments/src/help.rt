@@ -306,6 +306,23 @@ Statuses:
      refused: service too-long, refused: unsaid (it is no service for another reason)
   3  fault: file, fault: read, fault: write, fault: memory";
 
+pub(crate) const CHECK: &str =
+    "Tells its author what is wrong, or likely wrong, in the text of a service";
+
+pub(crate) const CHECK_MORE: &str =
+    "Reads SERVICE to its end. Where the text is refused, writes one line to standard output: where the mistake is, and what:
+  line L column C PLACE: WORDS
+Else a line for each thing that is likely a mistake, or one that says that there is none:
+  warning PLACE: WORDS         keys that mean nothing first, then page after page, then the magazines
+  ok pages N
+PLACE is service, info, page MPP/SSSS with what is meant of it (the page's number in order, where it has no id), or
+magazine M.
+
+Statuses:
+  0  the text is read
+  2  the text is refused; also error: .. (the words) and refused: service too-long on standard error
+  3  fault: file, fault: read, fault: write, fault: memory";
+
 pub(crate) const VERSION: &str =
     "Writes the version of the program, and the kit and the logic by which it is proved";
 

@@ -153,6 +153,10 @@ pub enum Order<'a> {
         /// Lines of a field, 1 to 32.
         lines: u8,
     },
+    /// Tell what is wrong, or likely wrong, in the text of a service.
+    Check {
+        service: &'a str,
+    },
     /// Say which program this is.
     Version,
 }

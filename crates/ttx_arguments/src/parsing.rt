@@ -5,7 +5,7 @@ ghost use Rattle.std.specs.Str.{bytes_eq};
 ghost use Rattle.clap.specs.Words.{rows_of, first_of, found_of, subcommand_rows_of, subcommand_of, fault_of};
 ghost use Rattle.ttx_arguments.specs.Grammar.{ttx_app};
 ghost use Rattle.ttx_arguments.specs.Orders as rule;
-ghost use Rattle.ttx_arguments.specs.Orders.{OrderView, Unfit, order_view, look_view, text_at, kind_named, class_named, form_named, is_set, tuning_at, look_at, show_at, preview_at, inspect_at, plan_at, find_at, certify_at, refute_at, replay_at, receive_at, splice_at, wait_at, sending_at, send_at, pages_at, book_at, extract_at, once, order_at, IsOrderOf, AnswersBy, Answers, IsFaultOf, IsRefusalOf};
+ghost use Rattle.ttx_arguments.specs.Orders.{OrderView, Unfit, order_view, look_view, text_at, kind_named, class_named, form_named, is_set, tuning_at, look_at, show_at, preview_at, inspect_at, plan_at, find_at, certify_at, refute_at, replay_at, receive_at, splice_at, wait_at, sending_at, send_at, pages_at, book_at, extract_at, check_at, once, order_at, IsOrderOf, AnswersBy, Answers, IsFaultOf, IsRefusalOf};
 
 use crate::grammar::{class_names, form_names, kind_names, ttx};
 use crate::moments::moment;
@@ -389,6 +389,14 @@ fn extract_of<'a>(values: &ArgMatches<'a>) -> Order<'a>
     }
 }
 
+fn check_of<'a>(values: &ArgMatches<'a>) -> Order<'a>
+    ensures { order_view result ≡ check_at (rows_of (found_of values.now)) }
+{
+    Order::Check {
+        service: text_of(values, "service"),
+    }
+}
+
 // What `send` is told of a sending that starts at this moment.
 fn sending_of(values: &ArgMatches<'_>, moment: (u32, u32)) -> Sending
     ensures { result ≡ sending_at moment (rows_of (found_of values.now)) }
@@ -448,6 +456,8 @@ fn order_of<'a>(name: &str, values: &ArgMatches<'a>) -> Result<Order<'a>, WordsF
         Ok(book_of(values))
     } else if name == "extract" {
         Ok(extract_of(values))
+    } else if name == "check" {
+        Ok(check_of(values))
     } else if name == "version" {
         Ok(Order::Version)
     } else {

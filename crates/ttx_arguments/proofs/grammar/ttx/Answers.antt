@@ -19,4 +19,5 @@ returns c =
     let paging = c.with_command-ttx-13.ensures _ _ sending c.pages.ensures in
     let booking = c.with_command-ttx-14.ensures _ _ paging c.book.ensures in
     let extracting = c.with_command-ttx-15.ensures _ _ booking c.extract.ensures in
-    c.with_command.ensures _ _ extracting c.version.ensures
+    let checking = c.with_command-ttx-16.ensures _ _ extracting c.check.ensures in
+    c.with_command.ensures _ _ checking c.version.ensures
