@@ -56,6 +56,8 @@ pub mod Finds
 pub mod SureItems
 pub mod OwnLimits
 pub mod Waiting
+mod ItemByItem
+mod GreatestItem
 pub mod Greatest
 pub mod CutOff
 pub mod Widths

@@ -24,7 +24,7 @@ use Rattle.ttx_witness.specs.Coverage.{Certificate, limit, IsSureStart, IsCovere
 use Rattle.ttx_witness.specs.CycleLaws.{found_starts, SureStartsAreFound, LeastLimitIsFound}
 use Rattle.ttx_witness.specs.Faults.{IsPageFault, SteadyHasNoFault}
 use Rattle.ttx_witness.specs.Finding.{is_due, starts_of, starts_for, spread_at, limit_of, least_limit, limit_for, Fits}
-use Rattle.ttx_witness.specs.Waits.{IsFor, Shows, CanShow, CanAccept, Needs, HasNoSureStart, IsWait, IsTold, AreWaits}
+use Rattle.ttx_witness.specs.Waits.{IsFor, IsLeast, Shows, CanShow, CanAccept, Needs, HasNoSureStart, IsWait, IsTold, AreWaits}
 use Rattle.ttx_witness.specs.OwnLimits.{IsOwn, IsBelow, IsFirstLongest, IsLongest, IsByLimits}
 use Rattle.ttx_witness.specs.declared.reason.Reason.{Reason}
 use Rattle.ttx_witness.specs.declared.wait.Losses.{Losses}
@@ -186,6 +186,18 @@ module _ (turn : EachSlotTurns) (found : SureStartsAreFound) (law : LeastLimitIs
 
       own_least : (item : Item) (d : ℕ) → IsOwn cycle p class repeat lines item d → (e : ℕ) → CanShow cycle p class repeat lines item e → d ≤ e
       own_least item d own e c = own.least.3 e (subst (λ x. 1 ≤ x) c.is.same_deadline c.is.is.some_fields) (subst (λ o. Fits o (e * lines)) own.is (can_fits item e c))
+
+      pub item_least : (item : Item) → needed p item ≡ true → (d : ℕ) → IsOwn cycle p class repeat lines item d → IsLeast (CanShow cycle p class repeat lines item) (Some d)
+      item_least item seen d own = (own_shows item seen d own, own_least item d own)
+
+      pub item_never : (item : Item) → limit_for cycle class lines repeat p item ≡ None → IsLeast (CanShow cycle p class repeat lines item) None
+      item_never item e = λ d c. subst (λ o. Fits o (d * lines)) e (can_fits item d c)
+
+      -- an item that is due and has no sure start has no limit
+      pub no_start_never : (item : Item) → HasNoSureStart cycle p class repeat lines item → IsLeast (CanShow cycle p class repeat lines item) None
+      no_start_never item n =
+          let none = nothing_in (starts_of cycle lines repeat p.id item) (λ start c. n.none start ((found cycle some p.id lines repeat item (run_length repeat item - 1) (run_some repeat item repeats) start).0 c)) in
+          item_never item (if_true (is_due class p item) (least_limit cycle lines repeat p.id item) (least_limit cycle lines 1 p.id TheHead) n.due ∙ ap (limit_of (length cycle)) (no_spread _ none))
 
       module _ (pages : List Page) (steady : Steady (repeated cycle) pages p) where
         wait_fields : (d : ℕ) (item : Item) → IsLongest cycle p class repeat lines 26 d item → IsWait cycle pages p class repeat lines (Fields d item)

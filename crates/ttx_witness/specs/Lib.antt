@@ -33,4 +33,5 @@ pub mod SureItems
 pub mod Waits
 pub mod OwnLimits
 pub mod WaitLaws
+pub mod ItemWaits
 pub mod LateLaws

@@ -43,6 +43,7 @@ mod track;
 mod transmissions;
 mod wait;
 pub mod wait_laws;
+mod waits_by_item;
 
 pub use bad_slots::bad_slot;
 pub use checks::{Check, is_wrong, same_links};
@@ -66,4 +67,5 @@ pub use ttx_certificate::{
     CertFault, Certificate, Entry, NoMemory, certificate_laws, digit, limit, push_id, push_item,
     push_numbers, read_certificate, write_certificate,
 };
-pub use wait::{Losses, PageWait, Wait};
+pub use wait::{ItemWait, Losses, OwnWait, PageWait, Wait};
+pub use waits_by_item::item_waits;

@@ -59,8 +59,8 @@ fn cut_ones(sent: &[Transmission], lines: u8) -> usize
     count
 }
 
-// What becomes of the transmissions of the item.
-fn losses_of(sent: &[Transmission], lines: u8) -> Losses
+/// What becomes of the transmissions of the item.
+pub(crate) fn losses_of(sent: &[Transmission], lines: u8) -> Losses
     ensures { (cycle : List (List ℕ)) (p : definitions.Page) (item : Item) → sent.now ≡ sent_in cycle p.id lines item → AreLosses cycle p.id lines item result }
 {
     Losses {
@@ -70,8 +70,8 @@ fn losses_of(sent: &[Transmission], lines: u8) -> Losses
     }
 }
 
-// The least number of fields that has so many slots.
-fn fields_for(slots: u64, lines: u8) -> u32
+/// The least number of fields that has so many slots.
+pub(crate) fn fields_for(slots: u64, lines: u8) -> u32
     requires some { 1 ≤ lines }
     requires small { slots ≤ 655360 }
     ensures { IsLeastField slots lines (Some result) }

@@ -30,3 +30,19 @@ pub struct PageWait {
     pub page: PageId,
     pub wait: Wait,
 }
+
+/// How long a viewer of an item of a page waits at the most.
+#[derive(Clone, Copy, PartialEq, Eq, Debug)]
+pub enum OwnWait {
+    /// The least deadline in fields.
+    Least { fields: u32 },
+    /// The item has no sure run, and what becomes of its transmissions.
+    Never { losses: Losses },
+}
+
+/// An item of a page, and how long its viewer waits.
+#[derive(Clone, Copy, PartialEq, Eq, Debug)]
+pub struct ItemWait {
+    pub item: Item,
+    pub wait: OwnWait,
+}
