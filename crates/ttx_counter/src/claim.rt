@@ -7,12 +7,14 @@ use ttx_cycle::Cycle;
 use ttx_page::Page;
 use ttx_witness::{Certificate, Collected, OtherSubpages};
 
-/// The claim that the pages are seen in the cycle by the deadline of the certificate, with its lines and repeat count.
+/// The claim that the pages are seen in the cycle by the deadline of the certificate, with its lines and repeat count; and the magazine of
+/// each slot of the cycle.
 #[derive(Drop)]
 pub struct Claim<'a> {
     pub cycle: &'a Cycle,
     pub pages: &'a [Page],
     pub certificate: &'a Certificate,
+    pub magazines: &'a [u8],
 }
 
 /// What is kept of a claim: the starts of all sure runs of what viewers see, the transmissions of the pages' items, and the headers of

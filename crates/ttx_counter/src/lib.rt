@@ -13,6 +13,7 @@ mod hearing;
 mod keys;
 pub mod laws;
 mod listening;
+mod magazines;
 mod numbers;
 mod plain;
 mod plain_refuting;

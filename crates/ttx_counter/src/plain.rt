@@ -1,20 +1,21 @@
 //! Plain runs: a receiver that takes no choice, from slot 0 on and without hits.
 
-ghost use Rattle.std.specs.Prelude.{◌≡◌, ℕ, ◌+◌, ◌-◌, ◌*◌, ◌<◌, ◌≤◌, ◌^◌, ◌==◌, ◌&&◌, pos, true, IsTrue, ◌↔◌, MatchOption, length};
+ghost use Rattle.std.specs.Prelude.{◌≡◌, ℕ, ◌+◌, ◌-◌, ◌*◌, ◌<◌, ◌≤◌, ◌^◌, ◌==◌, ◌&&◌, pos, true, IsTrue, ◌↔◌, MatchOption, [], map, length, slice_index_or};
 ghost use Rattle.ttx_header.specs.Headers.{is_header, id_of};
 ghost use Rattle.ttx_page.specs.Packets.{packet_of};
 ghost use Rattle.ttx_page.specs.Pages as definitions;
-ghost use Rattle.ttx_page.specs.Pages.{matches, selected_mag};
+ghost use Rattle.ttx_page.specs.Pages.{matches};
 ghost use Rattle.ttx_page.specs.Streams.{repeated, heads_matched};
 ghost use Rattle.ttx_page.specs.Views.{page_of, memory_of};
 ghost use Rattle.ttx_page.specs.Memories.{Memory, memory_of_page};
 ghost use Rattle.ttx_cycle.specs.Cycles.{slots_of};
 ghost use Rattle.ttx_render.specs.View.{view_of};
+ghost use Rattle.ttx_counter.specs.Magazines.{magazine_of};
 ghost use Rattle.ttx_counter.specs.Sources.{plain_from, is_of, takes, TellsWrong};
 
 use crate::checking::is_unlike;
 use crate::listening::place;
-use ttx_cycle::Cycle;
+use crate::magazines::{Sorted, hear_at, magazine_at, selected};
 use ttx_header::read_header;
 use ttx_links::Target;
 use ttx_packet::slots::{Slot, slot_of};
@@ -70,42 +71,34 @@ fn are_same(a: &PageMemory, b: &PageMemory) -> bool
 }
 
 // Gives the receiver `count` slots of the cycle from slot `begin` on.
-fn advance(receiver: &mut Eager, cycle: &Cycle, begin: u32, count: u32)
-    ensures memory { receiver.new.memory ≡ plain_from receiver.old.lines receiver.old.selection receiver.old.memory (repeated (slots_of cycle.now)) (pos begin) count }
+fn advance(receiver: &mut Eager, sorted: &Sorted<'_>, begin: u32, count: u32)
+    requires magazines { sorted.now.magazines.now ≡ map magazine_of (slots_of sorted.now.cycle.now) }
+    ensures memory { receiver.new.memory ≡ plain_from receiver.old.lines receiver.old.selection receiver.old.memory (repeated (slots_of sorted.now.cycle.now)) (pos begin) count }
     ensures selection { receiver.new.selection ≡ receiver.old.selection }
     ensures lines { receiver.new.lines ≡ receiver.old.lines }
 {
-    let slots = cycle.slots();
+    let period = sorted.cycle.slots().len();
     for i in 0..count {
-        receiver.step(Some(&slots[place(begin, i, slots.len())]));
+        hear_at(receiver, sorted, place(begin, i, period));
     }
 }
 
 // Gives the receiver so many periods of the cycle; it stops early where a period gives the memory back.
-fn settle(receiver: &mut Eager, cycle: &Cycle, periods: u32, period: u32)
-    requires period { period ≡ length (slots_of cycle.now) }
+fn settle(receiver: &mut Eager, sorted: &Sorted<'_>, periods: u32, period: u32)
+    requires magazines { sorted.now.magazines.now ≡ map magazine_of (slots_of sorted.now.cycle.now) }
+    requires period { period ≡ length (slots_of sorted.now.cycle.now) }
     requires small { periods * period < 2 ^ 32 }
-    ensures memory { receiver.new.memory ≡ plain_from receiver.old.lines receiver.old.selection receiver.old.memory (repeated (slots_of cycle.now)) (pos 0) (periods * period) }
+    ensures memory { receiver.new.memory ≡ plain_from receiver.old.lines receiver.old.selection receiver.old.memory (repeated (slots_of sorted.now.cycle.now)) (pos 0) (periods * period) }
     ensures selection { receiver.new.selection ≡ receiver.old.selection }
     ensures lines { receiver.new.lines ≡ receiver.old.lines }
 {
     ttx_page::laws::cycles_repeat();
     for i in 0..periods {
         let before = *receiver.memory();
-        advance(receiver, cycle, i * period, period);
+        advance(receiver, sorted, i * period, period);
         if are_same(receiver.memory(), &before) {
             return;
         }
-    }
-}
-
-// The magazine that a receiver listens to.
-fn magazine_of(selection: &Selection) -> u8
-    ensures { result ≡ selected_mag selection.now }
-{
-    match selection {
-        Selection::Exact(id) => id.mag(),
-        Selection::AnySub(mag, _) => *mag,
     }
 }
 
@@ -150,29 +143,44 @@ fn is_of(mag: u8, slot: &[u8; 42]) -> bool
     }
 }
 
-// Whether the receiver takes something from a slot that it may show.
-fn takes(memory: &PageMemory, selection: &Selection, slot: &[u8; 42]) -> bool
-    ensures { result ≡ takes selection.now (memory_of memory.now) (packet_of slot.now) }
+// Whether the receiver takes something from the slot in a place that it may show.
+fn takes(memory: &PageMemory, selection: &Selection, sorted: &Sorted<'_>, at: usize) -> bool
+    requires magazines { sorted.now.magazines.now ≡ map magazine_of (slots_of sorted.now.cycle.now) }
+    requires at { at < length (slots_of sorted.now.cycle.now) }
+    ensures { result ≡ takes selection.now (memory_of memory.now) (packet_of (slice_index_or (slots_of sorted.now.cycle.now) at [])) }
 {
-    begins(selection, slot) || is_of(magazine_of(selection), slot) && memory.storing()
+    let mag = selected(selection);
+    if magazine_at(sorted, at) != mag {
+        return false;
+    }
+    let slot = &sorted.cycle.slots()[at];
+    begins(selection, slot) || is_of(mag, slot) && memory.storing()
 }
 
-// The first number of slots from `low` to `high` after which the receiver's View isn't this one. Views are compared only after slots
-// that the receiver takes.
-fn first_wrong(receiver: &mut Eager, cycle: &Cycle, own: &View, low: u32, high: u32) -> Option<u32>
-    requires { high < 2 ^ 32 - 1 }
-    ensures { (p : definitions.Page) (former : Memory) → own.now ≡ view_of (memory_of_page p) → receiver.old.memory ≡ plain_from receiver.old.lines receiver.old.selection former (repeated (slots_of cycle.now)) (pos 0) low → TellsWrong (slots_of cycle.now) p receiver.old.lines receiver.old.selection former low high result }
+// The first number of slots, `low` or up to `more` above it, after which the receiver's View isn't this one. Views are compared only
+// after slots that the receiver takes.
+fn first_wrong(
+    receiver: &mut Eager,
+    sorted: &Sorted<'_>,
+    own: &View,
+    low: u32,
+    more: u32,
+) -> Option<u32>
+    requires magazines { sorted.now.magazines.now ≡ map magazine_of (slots_of sorted.now.cycle.now) }
+    requires small { low + more < 2 ^ 32 - 1 }
+    ensures { (p : definitions.Page) (former : Memory) → own.now ≡ view_of (memory_of_page p) → receiver.old.memory ≡ plain_from receiver.old.lines receiver.old.selection former (repeated (slots_of sorted.now.cycle.now)) (pos 0) low → TellsWrong (slots_of sorted.now.cycle.now) p receiver.old.lines receiver.old.selection former low (low + more) result }
 {
     ttx_render::laws::contents_decide();
-    let slots = cycle.slots();
+    let period = sorted.cycle.slots().len();
+    let high = low + more;
     let mut wrong = is_unlike(own, receiver.memory());
     for n in low..high + 1 {
         if wrong {
             return Some(n);
         }
-        let slot = &slots[place(n, 0, slots.len())];
-        let taken = takes(receiver.memory(), &receiver.selection(), slot);
-        receiver.step(Some(slot));
+        let at = place(n, 0, period);
+        let taken = takes(receiver.memory(), &receiver.selection(), sorted, at);
+        hear_at(receiver, sorted, at);
         if taken {
             wrong = is_unlike(own, receiver.memory());
         }
@@ -183,21 +191,22 @@ fn first_wrong(receiver: &mut Eager, cycle: &Cycle, own: &View, low: u32, high: 
 /// The first number of slots, `low` or up to two periods more, after which a receiver has not the View of a page that it holds at
 /// first, if it takes no choice. It jumps over periods that give its memory back.
 pub fn plain_run(
-    cycle: &Cycle,
+    sorted: &Sorted<'_>,
     page: &Page,
     selection: Selection,
     lines: u8,
     low: u32,
 ) -> Option<u32>
-    requires { low ≤ 32000000 }
-    ensures { TellsWrong (slots_of cycle.now) (page_of page.now) lines selection (memory_of_page (page_of page.now)) low (low + 2 * length (slots_of cycle.now)) result }
+    requires magazines { sorted.now.magazines.now ≡ map magazine_of (slots_of sorted.now.cycle.now) }
+    requires few { low ≤ 32000000 }
+    ensures { TellsWrong (slots_of sorted.now.cycle.now) (page_of page.now) lines selection (memory_of_page (page_of page.now)) low (low + 2 * length (slots_of sorted.now.cycle.now)) result }
 {
-    let period = cycle.slots().len() as u32;
+    let period = sorted.cycle.slots().len() as u32;
     let own = PageMemory::of(page);
     let mut receiver = Eager::new(selection, lines, own);
     let periods = low / period;
-    settle(&mut receiver, cycle, periods, period);
+    settle(&mut receiver, sorted, periods, period);
     let begin = periods * period;
-    advance(&mut receiver, cycle, begin, low - begin);
-    first_wrong(&mut receiver, cycle, &render(&own), low, low + 2 * period)
+    advance(&mut receiver, sorted, begin, low - begin);
+    first_wrong(&mut receiver, sorted, &render(&own), low, 2 * period)
 }

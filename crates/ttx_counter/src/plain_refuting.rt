@@ -8,12 +8,14 @@ ghost use Rattle.ttx_page.specs.Views.{page_of, memory_of};
 ghost use Rattle.ttx_cycle.specs.Cycles.{slots_of};
 ghost use Rattle.ttx_witness.specs.Certificates.{certificate_of};
 ghost use Rattle.ttx_counter.specs.Counters.{run_of};
+ghost use Rattle.ttx_counter.specs.Magazines.{magazine_of};
 ghost use Rattle.ttx_counter.specs.Refutations.{TellsPlainly};
 ghost use Rattle.ttx_counter.specs.Sources.{plain_counter};
 
 use crate::checking::selection_for;
 use crate::claim::{Claim, page_at};
 use crate::counter::Counter;
+use crate::magazines::Sorted;
 use crate::plain::plain_run;
 use crate::starting::limit;
 use std::alloc::Global;
@@ -55,6 +57,7 @@ pub fn refute_plainly(
     steady: bool,
 ) -> Option<Counter>
     requires index { index < length claim.now.pages.now }
+    requires magazines { claim.now.magazines.now ≡ map magazine_of (slots_of claim.now.cycle.now) }
     requires steady { IsTrue steady → (p : definitions.Page) → slice_get (map page_of claim.now.pages.now) index ≡ Some p → Steady (repeated (slots_of claim.now.cycle.now)) (map page_of claim.now.pages.now) p }
     ensures { TellsPlainly run_of (slots_of claim.now.cycle.now) (map page_of claim.now.pages.now) index any_sub (certificate_of claim.now.certificate.now) result }
 {
@@ -74,7 +77,11 @@ pub fn refute_plainly(
         return None;
     }
     let low = limit(certificate);
-    match plain_run(claim.cycle, page, selection, certificate.lines(), low) {
+    let sorted = Sorted {
+        cycle: claim.cycle,
+        magazines: claim.magazines,
+    };
+    match plain_run(&sorted, page, selection, certificate.lines(), low) {
         Some(slots) => Some(plain_counter(alloc, index, any_sub, former, certificate, slots)),
         None => None,
     }

@@ -19,12 +19,14 @@ ghost use Rattle.ttx_witness.specs.Finding.{CanBeAccepted, IsSentUnchanged};
 ghost use Rattle.ttx_witness.specs.OtherSubpages.{AreOtherSubpages};
 ghost use Rattle.ttx_counter.specs.Completeness.{IsClean};
 ghost use Rattle.ttx_counter.specs.Counters.{run_of};
+ghost use Rattle.ttx_counter.specs.Magazines.{magazine_of};
 ghost use Rattle.ttx_counter.specs.Refutations.{is_absent, IsCounterTo, ArePrepared, TellsNeeded, TellsCovered, TellsPage, TellsPages, TellsAllPlainly, TellsPlainly, TellsCounter};
 ghost use Rattle.ttx_counter.specs.Sources.{plain_counter, IsPlainlyRight};
 
 use crate::claim::{Claim, Prepared, page_at};
 use crate::counter::Counter;
 use crate::former::wrong_memory_of;
+use crate::magazines::magazines_of;
 use crate::plain_refuting::{plain_counter, refute_plainly};
 use crate::starting::{limit, starving_start};
 use crate::starving::counter_for;
@@ -223,6 +225,7 @@ fn refute_by_number(
     requires index { index < length claim.now.pages.now }
     requires others { AreOtherSubpages (slots_of claim.now.cycle.now) (map page_of claim.now.pages.now) prepared.now.others.now }
     requires steady { IsTrue steady → (p : definitions.Page) → slice_get (map page_of claim.now.pages.now) index ≡ Some p → Steady (repeated (slots_of claim.now.cycle.now)) (map page_of claim.now.pages.now) p }
+    requires magazines { claim.now.magazines.now ≡ map magazine_of (slots_of claim.now.cycle.now) }
     requires exactly { IsPlainlyRight (slots_of claim.now.cycle.now) (map page_of claim.now.pages.now) index false (certificate_of claim.now.certificate.now).lines (coverage.limit (certificate_of claim.now.certificate.now)) }
     ensures { TellsPlainly run_of (slots_of claim.now.cycle.now) (map page_of claim.now.pages.now) index true (certificate_of claim.now.certificate.now) result }
 {
@@ -238,6 +241,7 @@ fn refute_all_plainly(alloc: Global, claim: &Claim<'_>, prepared: &Prepared<'_>)
     requires few { length claim.now.pages.now < 2 ^ 32 }
     requires sent { AreAllSent (slots_of claim.now.cycle.now) (map page_of claim.now.pages.now) (certificate_of claim.now.certificate.now).lines prepared.now.collected.now }
     requires others { AreOtherSubpages (slots_of claim.now.cycle.now) (map page_of claim.now.pages.now) prepared.now.others.now }
+    requires magazines { claim.now.magazines.now ≡ map magazine_of (slots_of claim.now.cycle.now) }
     ensures { TellsAllPlainly run_of (slots_of claim.now.cycle.now) (map page_of claim.now.pages.now) (certificate_of claim.now.certificate.now) result }
 {
     for index in 0..claim.pages.len() as u32 {
@@ -279,10 +283,12 @@ pub fn refute(
     let collected = collect(alloc, cycle, pages, lines)?;
     let others = OtherSubpages::of(alloc, cycle, pages)?;
     let found = find(alloc, cycle, pages, repeat, lines)?;
+    let magazines = magazines_of(alloc, cycle)?;
     let claim = Claim {
         cycle,
         pages,
         certificate,
+        magazines: &magazines,
     };
     let prepared = Prepared {
         found: &found.certificate,

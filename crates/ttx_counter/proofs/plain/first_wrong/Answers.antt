@@ -1,5 +1,6 @@
 use Rattle.std.proofs.Common.{◌≡◌, ◌↔◌, ◌∙◌, ℕ, ◌+◌, ◌%◌, ◌<◌, ◌≤◌, pos, true, false, [], length, get_or, inl, inr, ap, sym, subst, arith}
 use Rattle.std.proofs.lemmas.Bool.{cases_lt}
+use Rattle.ttx_cycle.specs.Cycles.{slots_of}
 use Rattle.ttx_page.specs.Memories.{Memory, memory_of_page}
 use Rattle.ttx_page.specs.Streams.{repeated}
 use Rattle.ttx_page.specs.Views.{memory_of}
@@ -16,32 +17,38 @@ use Rattle.ttx_counter.proofs.Taking.{unseen}
 use Rattle.ttx_counter.proofs.plain.first_wrong.Goals.{then-taken, else-taken}
 use Rattle.ttx_counter.proofs.plain.first_wrong.Goals as goal
 
+pub takes-taken-requires-clause-at : goal.takes-taken-requires-clause-at
+takes-taken-requires-clause-at c = subst (λ s. c.place-at.result < length s) c.slots-period.ensures.slots c.place-at.ensures.inside
+
+pub hear_at-requires-clause-at : goal.hear_at-requires-clause-at
+hear_at-requires-clause-at c = subst (λ s. c.place-at.result < length s) c.slots-period.ensures.slots c.place-at.ensures.inside
+
 pub loop-n-preserved : goal.loop-n-preserved
 loop-n-preserved c =
-    let x = c.slots-slots.result.now in
+    let x = slots_of c.args.sorted.now.cycle.now in
     let old = c.args.receiver.now in
     let own = c.args.own.now in
     let i = c.loop-n.invariant in
-    let turn : c.place.result ≡ (0 + c.loop-n.n) % length x = c.place.ensures.value ∙ ap (λ z. z % length x) (omega arith) in
+    let turn : c.place-at.result ≡ (0 + c.loop-n.n) % length x = c.place-at.ensures.value ∙ ap (λ z. z % length c.slots-period.result.now) (omega arith) ∙ ap (λ s. (0 + c.loop-n.n) % length s) c.slots-period.ensures.slots in
     record {
-      selection = c.step.ensures.selection ∙ i.selection;
-      lines = c.step.ensures.lines ∙ i.lines;
-      wrong = elim c.if-taken.branch as (λ _. (c.if-taken.wrong ≡ true) ↔ (SameButClock (view_of c.step.new.self.memory) own → ⊥)) [
+      selection = c.hear_at.ensures.selection ∙ i.selection;
+      lines = c.hear_at.ensures.lines ∙ i.lines;
+      wrong = elim c.if-taken.branch as (λ _. (c.if-taken.wrong ≡ true) ↔ (SameButClock (view_of c.hear_at.new.receiver.memory) own → ⊥)) [
         | then-taken w ↦
-            subst (λ b. (b ≡ true) ↔ (SameButClock (view_of c.step.new.self.memory) own → ⊥)) (sym w.wrong-is)
+            subst (λ b. (b ≡ true) ↔ (SameButClock (view_of c.hear_at.new.receiver.memory) own → ⊥)) (sym w.wrong-is)
             (subst (λ m. (w.is_unlike-wrong-then-taken.result ≡ true) ↔ (SameButClock (view_of m) own → ⊥)) w.memory-then-taken.ensures w.is_unlike-wrong-then-taken.ensures)
         | else-taken w ↦
             let m = c.loop-n.receiver.memory in
-            let packet = packet_of (get_or x c.place.result []) in
+            let packet = packet_of (get_or x c.place-at.result []) in
             let left : takes c.loop-n.receiver.selection m packet ≡ false =
             sym (c.takes-taken.ensures ∙ ap (λ z. takes c.selection.result z packet) c.memory-in-loop-n.ensures ∙ ap (λ z. takes z m packet) c.selection.ensures) ∙ w.if-taken.false in
-            let same = unseen c.contents_decide.ensures c.loop-n.receiver.lines c.loop-n.receiver.selection m c.step.new.self.memory packet left (ap (λ (r : Tuned). r.memory) c.step.ensures.value) in
-            subst (λ b. (b ≡ true) ↔ (SameButClock (view_of c.step.new.self.memory) own → ⊥)) (sym w.wrong-is)
+            let same = unseen c.contents_decide.ensures c.loop-n.receiver.lines c.loop-n.receiver.selection m c.hear_at.new.receiver.memory packet left (ap (λ (r : Tuned). r.memory) c.hear_at.ensures.value) in
+            subst (λ b. (b ≡ true) ↔ (SameButClock (view_of c.hear_at.new.receiver.memory) own → ⊥)) (sym w.wrong-is)
             (subst (λ v. (c.loop-n.wrong ≡ true) ↔ (SameButClock v own → ⊥)) (sym same) i.wrong)
       ];
       memory = λ p former own_is start.
           let w = i.memory p former own_is start in (
-            plain_step (tuned_at old.selection old.lines former) c.loop-n.receiver c.step.new.self (repeated x) (pos 0) c.loop-n.n _ (slot_at x 0 c.loop-n.n c.place.result turn) w.0 i.selection i.lines c.step.ensures.value,
+            plain_step (tuned_at old.selection old.lines former) c.loop-n.receiver c.hear_at.new.receiver (repeated x) (pos 0) c.loop-n.n _ (slot_at x 0 c.loop-n.n c.place-at.result turn) w.0 i.selection i.lines c.hear_at.ensures.value,
             (λ k low high wrong. elim (cases_lt k c.loop-n.n) as (λ _. ⊥) [
               | inl lt ↦ w.1 k low lt wrong
               | inr ge ↦

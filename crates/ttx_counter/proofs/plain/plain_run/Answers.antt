@@ -14,7 +14,7 @@ whole_rest a n some = omega arith
 
 pub returns : goal.returns
 returns c =
-    let cycle = slots_of c.args.cycle.now in
+    let cycle = slots_of c.args.sorted.now.cycle.now in
     let p = page_of c.args.page.now in
     let low = c.args.low in
     let result = c.first_wrong.result in

@@ -1,0 +1,74 @@
+-- A slot that doesn't concern a receiver's magazine is to it as an empty one.
+use Rattle.std.proofs.Common.{◌≡◌, ℕ, Bool, true, false, ◌&&◌, if◌then◌else◌, not, ◌==◌, List, replicate, refl, sym, ap, ◌∙◌, ne_eqb}
+use Rattle.ttx_header.specs.Control.{c11}
+use Rattle.ttx_packet.specs.Slots.{kind_of, IsEmpty}
+use Rattle.ttx_packet.specs.Laws.{EmptySlotsAreEmpty}
+use Rattle.ttx_page.specs.Packets.{Packet, Empty, Unreadable, Header, Row, Links, Info, Other, packet_of}
+use Rattle.ttx_page.specs.Pages.{matches, selected_mag}
+use Rattle.ttx_page.specs.declared.selection.Selection.{Selection}
+use Rattle.ttx_page.specs.declared.selection.Selection.TheVariants.{Exact, AnySub}
+use Rattle.ttx_page.specs.declared.class.Class.TheVariants.{Any}
+use Rattle.ttx_page.specs.Memories.{Memory}
+use Rattle.ttx_page.specs.Receivers.{after, with_storing, begun, erased, erases, misses}
+use Rattle.ttx_page.specs.Streams.{heads_matched}
+use Rattle.ttx_counter.specs.Magazines.{magazine_in}
+use Rattle.ttx_counter.specs.Sources.{is_of, takes}
+use Rattle.ttx_counter.proofs.Taking.{packet_from}
+
+-- a header of another magazine isn't matched
+unmatched : (sel : Selection) (packet : Packet) → (magazine_in packet ≡ selected_mag sel → ⊥) → heads_matched sel packet ≡ false
+unmatched (Exact page) (Header id control text) ne = let e : (page.mag == id.mag) ≡ false = ne_eqb page.mag id.mag (λ e. ne (sym e)) in ap (λ b. b && (page.page == id.page) && (page.sub == id.sub)) e
+unmatched (AnySub mag page) (Header id control text) ne = let e : (mag == id.mag) ≡ false = ne_eqb mag id.mag (λ e. ne (sym e)) in ap (λ b. b && (page == id.page)) e
+unmatched sel Empty ne = refl
+unmatched sel Unreadable ne = refl
+unmatched sel (Row mag number text) ne = refl
+unmatched sel (Links mag content) ne = refl
+unmatched sel Info ne = refl
+unmatched sel Other ne = refl
+
+not_of : (sel : Selection) (packet : Packet) → (magazine_in packet ≡ selected_mag sel → ⊥) → is_of (selected_mag sel) packet ≡ false
+not_of sel (Row mag number text) ne = ne_eqb mag (selected_mag sel) ne
+not_of sel (Links mag content) ne = ne_eqb mag (selected_mag sel) ne
+not_of sel (Header id control text) ne = refl
+not_of sel Empty ne = refl
+not_of sel Unreadable ne = refl
+not_of sel Info ne = refl
+not_of sel Other ne = refl
+
+-- nothing is taken of it
+pub not_taken : (sel : Selection) (m : Memory) (packet : Packet) → (magazine_in packet ≡ selected_mag sel → ⊥) → takes sel m packet ≡ false
+not_taken sel m packet ne = rw (unmatched sel packet ne) (rw (not_of sel packet ne) refl)
+
+stays : (lines : ℕ) (sel : Selection) (m : Memory) (packet : Packet) → (magazine_in packet ≡ selected_mag sel → ⊥) → after Any lines sel false m packet ≡ m
+stays lines sel m (Header id control text) ne =
+    ap (λ b. if b then begun (if erases Any false m control then erased m else m) control text
+    else (if id.mag == selected_mag sel then with_storing m false else (if c11 control && false then with_storing m false else m))) (unmatched sel (Header id control text) ne)
+    ∙ ap (λ b. if b then with_storing m false else (if c11 control && false then with_storing m false else m)) (ne_eqb id.mag (selected_mag sel) ne)
+    ∙ no_end (c11 control)
+  where
+    no_end : (b : Bool) → (if b && false then with_storing m false else m) ≡ m
+    no_end true = refl
+    no_end false = refl
+stays lines sel m (Row mag number text) ne = passed (mag == selected_mag sel) m.storing _ (ne_eqb mag (selected_mag sel) ne)
+  where
+    passed : (a b : Bool) (x : Memory) → a ≡ false → (if a && b && not (misses lines false m) then x else m) ≡ m
+    passed true b x e = cc
+    passed false b x e = refl
+stays lines sel m (Links mag content) ne = passed (mag == selected_mag sel) m.storing _ (ne_eqb mag (selected_mag sel) ne)
+  where
+    passed : (a b : Bool) (x : Memory) → a ≡ false → (if a && b && not (misses lines false m) then x else m) ≡ m
+    passed true b x e = cc
+    passed false b x e = refl
+stays lines sel m Empty ne = refl
+stays lines sel m Unreadable ne = refl
+stays lines sel m Info ne = refl
+stays lines sel m Other ne = refl
+
+-- 42 zero bytes
+empty_is : packet_of (replicate 42 0) ≡ Empty
+unfolding packet_of kind_of
+empty_is = refl
+
+pub as_empty : (lines : ℕ) (sel : Selection) (m : Memory) (packet : Packet) → (magazine_in packet ≡ selected_mag sel → ⊥) →
+    after Any lines sel false m (packet_of (replicate 42 0)) ≡ after Any lines sel false m packet
+as_empty lines sel m packet ne = ap (after Any lines sel false m) empty_is ∙ sym (stays lines sel m packet ne)
