@@ -30,6 +30,13 @@ show() {
     "$@"
 }
 
+# leaves a file for a browser where there is a terminal, and says where
+keep() {
+    if [ -t 1 ]; then
+        kept=$(mktemp -d) && cp "$1" "$kept" && echo "It stays as $kept/$1."
+    fi
+}
+
 # a command, and the front of the first lines that it writes
 front() {
     lines=$1
@@ -60,6 +67,11 @@ look show broadcast.t42 100 --lines 12 --start 40
 look show broadcast.t42 130 --lines 12 --start 40
 echo "The weather for programs: a word for each cell of its first rows."
 front 8 receive broadcast.t42 130 --lines 12 --start 40
+echo "All pages as one HTML file for a browser, with an index: three typed digits lead to a page."
+run book broadcast.t42 broadcast.html
+show ls broadcast.html
+keep broadcast.html
+echo
 echo "The same cycle with row 1 of the weather moved from slot 458 next to its header, where a receiver may miss it."
 show cp broadcast.t42 broken.t42
 show dd if=broadcast.t42 of=broken.t42 bs=42 skip=458 seek=446 count=1 conv=notrunc status=none

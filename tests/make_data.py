@@ -8,6 +8,9 @@ The words are those of EN 300 706, 8.2; a character has odd parity (8.1).
 import sys
 from pathlib import Path
 
+sys.dont_write_bytecode = True
+from book_page import book  # noqa: E402
+
 WORDS = bytes.fromhex("1502495e6473382fd0c78c9ba1b6fdea")
 EMPTY = bytes(42)
 SPACES = bytes([0x20] * 40)
@@ -76,6 +79,26 @@ ATTRIBUTES = {
     24: b"\x01Red \x02Green \x03Yellow \x06Cyan",
 }
 BOX = b"\x0d\x0b\x0b\x03Newsflash \x08<now>\x0a\x0a outside"
+
+
+BOOK_TOPS = (b"        Cafe & Bar 100".ljust(40), b"        Cafe & Bar 101".ljust(40))
+BOOK_ROWS = {1: b"\x04\x1d\x07Fish & <chips>\x01\x1d\x07\"hot\"\x04\x1d", 2: b"plain \x01red\x07white  red\x02no", 24: b"\x02below"}
+BOOK_MORE = {3: b"it's second", 23: b"\x06end"}
+
+
+def book_cycle():
+    """Pages 100 and 101: rows with colours, a link from the first to the second, and a subpage of this that is sent first."""
+    out = [header(1, 0, text=odd(BOOK_TOPS[0][8:])), EMPTY, *[text_row(1, n, codes) for n, codes in BOOK_ROWS.items()]]
+    out += [links(1, (1, 0, 15, 7, 15, 3), 15), time_filling(1)]
+    for sub in (2, 1):
+        out += [header(1, 1, sub, text=odd(BOOK_TOPS[1][8:])), EMPTY, *[text_row(1, n, codes) for n, codes in BOOK_MORE.items()]]
+    return out
+
+
+def book_of_cycle():
+    first = {0: BOOK_TOPS[0]} | BOOK_ROWS
+    more = {0: BOOK_TOPS[1]} | BOOK_MORE
+    return book([("100", "0000", first, {0: "101"}), ("101", "0001", more, {}), ("101", "0002", more, {})])
 
 
 def attributes():
@@ -392,6 +415,7 @@ def main():
         "subpages-apart.t42": two_subpages([time_filling(1)]),
         "row-5-wrong.t42": with_byte(base(), 7, 2, 0xC1),
         "bad-slot.t42": with_byte(base(), 4, 0, 0x03),
+        "book.t42": book_cycle(),
         "near-text.t42": with_slot(near_row, 2, row(1, 1, b"\xc1" + SPACES[1:])),
         "bad-parity.t42": [*base()[:3], row(1, 1, b"\xc1" + SPACES[1:]), row(1, 1, b"\xc0" + SPACES[1:])],
     } | planned() | edits_of_base() | unlike()
@@ -401,6 +425,7 @@ def main():
     texts = {
         "base.toml": 'lines = 2\nserial = true\n[[page]]\nnumber = "100"\n',
         "preview.toml": PREVIEW,
+        "book.html": book_of_cycle(),
         "no-pages.toml": "lines = 2\nserial = true\n",
         "often-3.toml": 'lines = 2\nserial = true\n[[page]]\nnumber = "100"\noften = 3\n',
         "base.cert": certificate(27),
