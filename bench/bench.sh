@@ -113,6 +113,13 @@ printf '%-34s %10s %14s %14s\n' '1,000,000 slots; 42,000,000 bytes' "$(tenths "$
 echo "receive: time over that of sha256sum: $((receive * 100 / hash)) percent (goal: at most 20)"
 
 echo
+printf '%-34s %10s %14s\n' 'book' 'ms' 'sha256sum, ms'
+book=$(least "$program" book 65536.t42 book.html)
+hash=$(least sha256sum book.html)
+printf '%-34s %10s %14s\n' "2,000 pages, $(wc -c < book.html) bytes" "$(tenths "$book")" "$(tenths "$hash")"
+echo "book: goal at most 1000 ms"
+
+echo
 printf '%-34s %10s %26s\n' 'send' 'ms' 'millions of slots a second'
 for lines in 32 16 12 1; do
     fields=$((4000000 / lines))
