@@ -5,7 +5,8 @@ use std::fs::File;
 use std::io;
 use std::io::{BufReader, Write};
 use ttx_arguments::{Look, Order, ReceiverKind, Sending, Tuning, WordsFault};
-use ttx_certify::{Verdict, certify_files, certify_passes};
+use ttx_certify::{TextFile, Verdict, certify_files, certify_passes};
+use ttx_check::CheckFault;
 use ttx_cycle::Counted;
 use ttx_late::{LateVerdict, certify_files_late};
 use ttx_page::{Class, PageMemory, Selection};
@@ -275,6 +276,24 @@ fn book(rt: &HostRuntime, input: Input, out: File) -> Result<u8, ToolFault> {
     let mut file = Counted::new(out);
     ttx_book::book(rt.alloc(), &mut reader, &mut file).map_err(from_pages)?;
     Ok(0)
+}
+
+// The fault of the same name.
+fn from_check(fault: CheckFault) -> ToolFault {
+    let which = TextFile::Service;
+    match fault {
+        CheckFault::Read => ToolFault::Read { which },
+        CheckFault::TooLong => ToolFault::TooLong { which },
+        CheckFault::Write { written } => ToolFault::Write { written },
+        CheckFault::NoMemory => ToolFault::NoMemory,
+    }
+}
+
+// Tells what is wrong, or likely wrong, in the text of a service.
+fn check(rt: &HostRuntime, input: Input) -> Result<u8, ToolFault> {
+    let mut reader = buffered(rt, input)?;
+    let mut writer = Counted::new(io::writer(rt));
+    ttx_check::check(rt.alloc(), &mut reader, &mut writer).map_err(from_check)
 }
 
 // Opens the cycle, makes the book's file anew, and writes the book.
@@ -590,6 +609,7 @@ fn run_reading(rt: &HostRuntime, order: &Order<'_>) -> io::Result<Result<u8, Too
         } => open_wait(rt, cycle, service, *repeat, *class),
         Order::Send { cycle, sending } => Ok(send(rt, open_input(rt, cycle)?, sending)),
         Order::Pages { cycle } => Ok(pages(rt, open_input(rt, cycle)?)),
+        Order::Check { service } => Ok(check(rt, open_input(rt, service)?)),
         _ => run_judging(rt, order),
     }
 }
