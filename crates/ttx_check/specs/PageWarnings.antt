@@ -83,7 +83,8 @@ order_warnings subpages copies id = only_if (not (subpages == 0)) (BehindSubpage
 -- directly behind itself.
 abbrev pub page_warnings : List Entry → (ℕ → ℕ) → (ℕ → ℕ) → ℕ → Page → List Warning
 page_warnings entries subpages copies place p =
-    link_warnings entries p.id 1 p.links.six ++ rows_to p 24 ++ only_if (lacks_box p) (NoBox p.id) ++ order_warnings (subpages place) (copies place) p.id
+    link_warnings entries p.id 1 p.links.six ++ rows_to p 24 ++ only_if (lacks_box p) (NoBox p.id)
+    ++ order_warnings (subpages place) (copies place) p.id
 
 abbrev pub pages_from : List Entry → (ℕ → ℕ) → (ℕ → ℕ) → ℕ → List Page → List Warning
 pages_from entries subpages copies place [] = []

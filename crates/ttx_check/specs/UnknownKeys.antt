@@ -1,7 +1,7 @@
 -- The keys of a service text that mean nothing (profile).
 --
 --   service_keys, info_keys, page_keys      the keys that mean something, in the order of docs/SERVICE.md
---   edits, meant            how far a key is from a name, and the name that it is near
+--   edits, far_name, meant  how far a key is from a name, and the name that it is near
 --   shown, key_line         a key as it is shown; its line
 --   unknown_lines           those of a table
 --   key_lines               those of a text, whose pages are given
@@ -39,9 +39,13 @@ abbrev pub or_else : {A : Type 0} → Option A → Option A → Option A
 or_else None b = b
 or_else (Some a) b = Some a
 
--- the first name that is one edit away, else the first that is two away; none for a key of more than 16 bytes
+-- for a key of five bytes or more the first name that is two edits away
+abbrev pub far_name : List (List ℕ) → List ℕ → Option (List ℕ)
+far_name names key = if nat_lt (length key) 5 then None else find (is_near 2 key) names
+
+-- the first name that is one edit away, else that; none for a key of more than 16 bytes
 unfoldable pub meant : List (List ℕ) → List ℕ → Option (List ℕ)
-meant names key = if nat_lt 16 (length key) then None else or_else (find (is_near 1 key) names) (find (is_near 2 key) names)
+meant names key = if nat_lt 16 (length key) then None else or_else (find (is_near 1 key) names) (far_name names key)
 
 -- a byte of a key: a question mark where it isn't a visible character of ASCII
 abbrev pub shown : ℕ → ℕ

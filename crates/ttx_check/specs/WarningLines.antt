@@ -1,6 +1,7 @@
 -- The lines of warnings (profile): each begins with `warning` and its place, and ends with 0A.
 --
 --   page_text, row_text, magazine_text      the place of a page, of a row, of a magazine
+--   link_text, itself_text  what is said of a link, and of a page behind itself
 --   warning_text            what is said after `warning`
 --   warning_line, warning_lines     the line of a warning, and those of some
 use Rattle.std.specs.Prelude.{ℕ, List, [], ◌∷◌, ◌++◌, codes}
@@ -8,7 +9,8 @@ use Rattle.std.specs.Fmt.{decimal}
 use Rattle.ttx_header.specs.Ids.{Id}
 use Rattle.ttx_certificate.specs.CertificateTexts.{id_text}
 use Rattle.ttx_check.specs.declared.warning.Warning.{Warning}
-use Rattle.ttx_check.specs.declared.warning.Warning.TheVariants.{DeadInitial, DeadLink, HiddenRow, UnshownRow, StrayTab, StrayBreak, NoBox, BehindSubpage, BehindItself, MostTraffic}
+use Rattle.ttx_check.specs.declared.warning.Warning.TheVariants.{DeadInitial, DeadLink, HiddenRow, UnshownRow, StrayTab, StrayBreak, NoBox}
+use Rattle.ttx_check.specs.declared.warning.Warning.TheVariants.{BehindSubpage, BehindItself, MostTraffic}
 
 unfoldable pub page_text : Id → List ℕ
 page_text id = codes "page " ++ id_text id
@@ -16,12 +18,19 @@ page_text id = codes "page " ++ id_text id
 unfoldable pub row_text : Id → ℕ → List ℕ
 row_text id number = page_text id ++ codes " row " ++ decimal number
 
+unfoldable pub link_text : Id → ℕ → List ℕ
+link_text page link = page_text page ++ codes " link " ++ decimal link ++ codes ": the service has no such page"
+
+unfoldable pub itself_text : Id → ℕ → List ℕ
+itself_text page times =
+    page_text page ++ codes ": often doesn't help: it is sent directly behind itself " ++ decimal times ++ codes " times"
+
 unfoldable pub magazine_text : ℕ → List ℕ
 magazine_text mag = codes "magazine " ++ decimal mag
 
 abbrev pub warning_text : Warning → List ℕ
 warning_text DeadInitial = codes "info initial: the service has no such page"
-warning_text (DeadLink page link) = page_text page ++ codes " link " ++ decimal link ++ codes ": the service has no such page"
+warning_text (DeadLink page link) = link_text page link
 warning_text (HiddenRow page row) = row_text page row ++ codes ": double height in the row above hides it"
 warning_text (UnshownRow page) = page_text page ++ codes " row 24: it is shown only with row24 = true"
 warning_text (StrayTab page row) = row_text page row ++ codes ": code 09 does nothing before a flash: is it a tab?"
@@ -29,8 +38,7 @@ warning_text (StrayBreak page row) = row_text page row ++ codes ": code 0A does 
 warning_text (NoBox page) = page_text page ++ codes ": a newsflash or subtitle without a box shows nothing"
 warning_text (BehindSubpage page) =
     page_text page ++ codes ": sent directly behind another subpage, which receivers that show late then miss, but for plan --late"
-warning_text (BehindItself page times) =
-    page_text page ++ codes ": often doesn't help: it is sent directly behind itself, times " ++ decimal times
+warning_text (BehindItself page times) = itself_text page times
 warning_text (MostTraffic mag) =
     magazine_text mag ++ codes ": it has more than half of all packets: serial = false would shorten the wait"
 

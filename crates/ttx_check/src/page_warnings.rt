@@ -62,7 +62,8 @@ fn push_order(
     place: usize,
     page: &Page,
 ) -> Result<(), AllocError>
-    ensures { OnOk result (found.new.items ≡ found.old.items ++ order_warnings (times_in order.now.subpages place) (times_in order.now.copies place) (page_of page.now).id) }
+    ensures { OnOk result (found.new.items
+        ≡ found.old.items ++ order_warnings (times_in order.now.subpages place) (times_in order.now.copies place) (page_of page.now).id) }
 {
     let id = page.id();
     let subpages = count_of(&order.subpages, place);
@@ -79,7 +80,8 @@ fn push_page(
     place: usize,
     page: &Page,
 ) -> Result<(), AllocError>
-    ensures { OnOk result (found.new.items ≡ found.old.items ++ page_warnings entries.now (times_in order.now.subpages) (times_in order.now.copies) place (page_of page.now)) }
+    ensures { OnOk result (found.new.items
+        ≡ found.old.items ++ page_warnings entries.now (times_in order.now.subpages) (times_in order.now.copies) place (page_of page.now)) }
 {
     push_links(found, entries, page.id(), page.links().six())?;
     push_rows(found, page)?;
@@ -94,7 +96,8 @@ pub fn push_pages(
     order: &Order,
     pages: &[Page],
 ) -> Result<(), AllocError>
-    ensures { OnOk result (found.new.items ≡ found.old.items ++ pages_from entries.now (times_in order.now.subpages) (times_in order.now.copies) 0 (map page_of pages.now)) }
+    ensures { OnOk result (found.new.items
+        ≡ found.old.items ++ pages_from entries.now (times_in order.now.subpages) (times_in order.now.copies) 0 (map page_of pages.now)) }
 {
     for (place, page) in pages.iter().enumerate() {
         push_page(found, entries, order, place, page)?;

@@ -51,7 +51,8 @@ fn push_all(
     entries: &[Entry],
     order: &Order,
 ) -> Result<(), AllocError>
-    ensures { OnOk result (found.new.items ≡ found.old.items ++ rule.warnings_by service.now entries.now (times_in order.now.subpages) (times_in order.now.copies)) }
+    ensures { OnOk result (found.new.items
+        ≡ found.old.items ++ rule.warnings_by service.now entries.now (times_in order.now.subpages) (times_in order.now.copies)) }
 {
     push_initial(found, entries, service)?;
     push_pages(found, entries, order, service.pages())?;

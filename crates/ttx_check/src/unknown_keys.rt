@@ -93,6 +93,7 @@ fn meant<'a>(alloc: Global, key: &str, names: &[&'a str]) -> Result<Option<&'a s
     }
     match first_near(alloc, 1, key, names)? {
         Some(name) => Ok(Some(name)),
+        None if key.len() < 5 => Ok(None),
         None => first_near(alloc, 2, key, names),
     }
 }
@@ -177,7 +178,8 @@ fn push_unknown(
     names: &[&str],
     table: &Table,
 ) -> Result<(), AllocError>
-    ensures { OnOk result (string_bytes text.new ≡ string_bytes text.old ++ rule.unknown_lines place.now (map (λ n. n.now) names.now) (table_view table.now)) }
+    ensures { OnOk result (string_bytes text.new
+        ≡ string_bytes text.old ++ rule.unknown_lines place.now (map (λ n. n.now) names.now) (table_view table.now)) }
 {
     for (key, _value) in table.iter() {
         push_key(alloc, text, place, names, key.as_str())?;
@@ -193,7 +195,8 @@ fn push_value(
     names: &[&str],
     value: &Value,
 ) -> Result<(), AllocError>
-    ensures { OnOk result (string_bytes text.new ≡ string_bytes text.old ++ rule.table_lines place.now (map (λ n. n.now) names.now) (as_table (view value.now))) }
+    ensures { OnOk result (string_bytes text.new
+        ≡ string_bytes text.old ++ rule.table_lines place.now (map (λ n. n.now) names.now) (as_table (view value.now))) }
 {
     match value.as_table() {
         Some(table) => push_unknown(alloc, text, place, names, table),
@@ -233,7 +236,8 @@ fn push_page_keys(
     page: &Page,
     value: &Value,
 ) -> Result<(), AllocError>
-    ensures { OnOk result (string_bytes text.new ≡ string_bytes text.old ++ rule.table_lines (page_text (page_of page.now).id) rule.page_keys (as_table (view value.now))) }
+    ensures { OnOk result (string_bytes text.new
+        ≡ string_bytes text.old ++ rule.table_lines (page_text (page_of page.now).id) rule.page_keys (as_table (view value.now))) }
 {
     let mut place = String::new(alloc);
     push_place(&mut place, page.id())?;
@@ -265,7 +269,8 @@ fn push_pages(
     value: Option<&Value>,
     pages: &[Page],
 ) -> Result<(), AllocError>
-    ensures { OnOk result (string_bytes text.new ≡ string_bytes text.old ++ rule.page_lines (option_map (λ v. view v.now) value.entry) (map page_of pages.now)) }
+    ensures { OnOk result (string_bytes text.new
+        ≡ string_bytes text.old ++ rule.page_lines (option_map (λ v. view v.now) value.entry) (map page_of pages.now)) }
 {
     let Some(value) = value else {
         return Ok(());
@@ -278,7 +283,8 @@ fn push_pages(
 
 // Adds those of `info`.
 fn push_info(alloc: Global, text: &mut String, value: Option<&Value>) -> Result<(), AllocError>
-    ensures { OnOk result (string_bytes text.new ≡ string_bytes text.old ++ rule.value_lines (codes "info") rule.info_keys (option_map (λ v. view v.now) value.entry)) }
+    ensures { OnOk result (string_bytes text.new
+        ≡ string_bytes text.old ++ rule.value_lines (codes "info") rule.info_keys (option_map (λ v. view v.now) value.entry)) }
 {
     match value {
         Some(value) => push_value(alloc, text, "info", info_names(), value),

@@ -2,7 +2,7 @@
 
 ghost use Rattle.std.specs.Prelude.{◌≡◌, ◌++◌, ◌∷◌, [], OnOk, codes, string_bytes};
 ghost use Rattle.std.specs.Fmt.{decimal};
-ghost use Rattle.ttx_check.specs.WarningLines.{page_text, row_text, magazine_text, warning_text, warning_line, warning_lines};
+ghost use Rattle.ttx_check.specs.WarningLines.{page_text, row_text, link_text, itself_text, magazine_text, warning_text, warning_line, warning_lines};
 
 use crate::warning::Warning;
 use std::alloc::AllocError;
@@ -35,21 +35,21 @@ fn push_page(text: &mut String, page: PageId, says: &str) -> Result<(), AllocErr
     text.push_str(says)
 }
 
+#[tactic(auto, unfolding(crate::specs::WarningLines::link_text))]
 fn push_link(text: &mut String, page: PageId, link: usize) -> Result<(), AllocError>
-    ensures { OnOk result (string_bytes text.new ≡ string_bytes text.old ++ page_text page ++ codes " link " ++ decimal link ++ codes ": the service has no such page") }
+    ensures { OnOk result (string_bytes text.new ≡ string_bytes text.old ++ link_text page link) }
 {
     push_place(text, page)?;
     write!(text, " link {link}: the service has no such page")
 }
 
+#[tactic(auto, unfolding(crate::specs::WarningLines::itself_text))]
 fn push_itself(text: &mut String, page: PageId, times: usize) -> Result<(), AllocError>
-    ensures { OnOk result (string_bytes text.new ≡ string_bytes text.old ++ page_text page ++ codes ": often doesn't help: it is sent directly behind itself, times " ++ decimal times) }
+    ensures { OnOk result (string_bytes text.new ≡ string_bytes text.old ++ itself_text page times) }
 {
     push_place(text, page)?;
-    write!(
-        text,
-        ": often doesn't help: it is sent directly behind itself, times {times}"
-    )
+    text.push_str(": often doesn't help: it is sent directly behind itself ")?;
+    write!(text, "{times} times")
 }
 
 // Adds the place of a magazine, and what is said of it.
