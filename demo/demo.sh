@@ -1,5 +1,5 @@
 #!/bin/sh
-# Shows the commands on shipped files. Each command stands before its output.
+# Tells the story of a service from its text to the air on shipped files. Each command stands before its output.
 #
 # usage: demo.sh PROGRAM
 set -u
@@ -46,7 +46,18 @@ front() {
     echo
 }
 
-echo "A service of 25 pages becomes the cycle of packets that carries it."
+# a command, and the end of what it writes
+back() {
+    lines=$1
+    shift
+    echo "\$ ttx $* | tail -n $lines"
+    "$program" "$@" 2>&1 | tail -n "$lines"
+    echo
+}
+
+echo "A page of a service, as its author sees it before anything is sent."
+look preview broadcast.toml 130
+echo "The service of 25 pages becomes the cycle of packets that carries it."
 run plan broadcast.toml broadcast.t42
 echo "Its first slots: packet 8/30, the page header of the index, an empty field, and the first rows."
 front 20 inspect broadcast.t42
@@ -54,6 +65,8 @@ echo "A certificate that names sure transmissions of each row of each page, and 
 run find broadcast.t42 broadcast.toml broadcast.cert
 show head -n 10 broadcast.cert
 echo
+echo "The same in seconds, page by page, with what takes so long: the last pages, and all."
+back 4 wait broadcast.t42 broadcast.toml
 echo "The verdict on cycle, service and certificate: whoever tunes to a page, at whatever slot, sees it in so many fields."
 run certify broadcast.t42 broadcast.toml broadcast.cert
 echo "Most software decoders show a page only where another page number ends it in its magazine; not every page of this cycle is."
@@ -62,28 +75,35 @@ echo "Planned for them, too: a time-filling header stands between two headers of
 run plan broadcast.toml late.t42 --late
 run find late.t42 broadcast.toml late.cert
 run certify late.t42 broadcast.toml late.cert --late
-echo "What a receiver shows that was set to the index at slot 40, and to the weather."
-look show broadcast.t42 100 --lines 12 --start 40
-look show broadcast.t42 130 --lines 12 --start 40
-echo "The weather for programs: a word for each cell of its first rows."
-front 8 receive broadcast.t42 130 --lines 12 --start 40
+echo "What a receiver shows that was set to the forecast at slot 40; and its first rows for programs, a word for each cell."
+look show broadcast.t42 131 --lines 12 --start 40
+front 3 receive broadcast.t42 131 --lines 12 --start 40
+echo "Now the cycle is broken: row 1 of the forecast is moved from slot 495 next to its header, where a receiver may miss it."
+show cp broadcast.t42 broken.t42
+show dd if=broadcast.t42 of=broken.t42 bs=42 skip=495 seek=483 count=1 conv=notrunc status=none
+show dd if=/dev/zero of=broken.t42 bs=42 seek=495 count=1 conv=notrunc status=none
+echo
+run certify broken.t42 broadcast.toml broadcast.cert
+echo "Nor is there another certificate: nothing is written to it."
+run find broken.t42 broadcast.toml none.cert
+echo "That is no fine point of the rules. There is a viewer whom the cycle fails, however long the wait:"
+run refute broken.t42 broadcast.toml broadcast.cert --save viewer
+echo "That receiver misses row 1 each time, and shows what it held before. The row as it is seen, and as the page has it:"
+front 5 replay broken.t42 broadcast.toml viewer
+echo "Tomorrow's forecast. The carousel is changed at a period's end; is each page that stays seen right through the change?"
+echo "\$ sed 's/0001Storm /0003Sunny /' broadcast.toml > tomorrow.toml"
+sed 's/0001Storm /0003Sunny /' broadcast.toml > tomorrow.toml
+run plan tomorrow.toml tomorrow.t42
+run find tomorrow.t42 tomorrow.toml tomorrow.cert
+run splice broadcast.t42 tomorrow.t42 broadcast.toml tomorrow.toml broadcast.cert tomorrow.cert
 echo "All pages as one HTML file for a browser, with an index: three typed digits lead to a page."
 run book broadcast.t42 broadcast.html
 show ls broadcast.html
 keep broadcast.html
 echo
-echo "The same cycle with row 1 of the weather moved from slot 458 next to its header, where a receiver may miss it."
-show cp broadcast.t42 broken.t42
-show dd if=broadcast.t42 of=broken.t42 bs=42 skip=458 seek=446 count=1 conv=notrunc status=none
-show dd if=/dev/zero of=broken.t42 bs=42 seek=458 count=1 conv=notrunc status=none
-echo
-run certify broken.t42 broadcast.toml broadcast.cert
-echo "Nor is there another certificate: nothing is written to it."
-run find broken.t42 broadcast.toml none.cert
-echo "The same of a receiver that misses each packet that it may, set to the second page of the news."
-front 8 receive broadcast.t42 110/0002 --lines 12 --kind careful
 echo "A wrong bit in the address of the fifth slot: it is read, and the line says that it was corrected."
 front 5 inspect bad-slot.t42
-echo "What can't be read is refused, with its place."
+echo "What can't be read is refused, with its place; and an author is told where the mistake is."
 run inspect 83-bytes
 run plan often-3.toml refused.t42
+run check often-3.toml
