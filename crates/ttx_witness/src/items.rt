@@ -16,7 +16,7 @@ use arrayvec::ArrayVec;
 use std::alloc::Global;
 use ttx_certificate::NoMemory;
 
-/// Nothing taken yet of an item whose runs have so many transmissions.
+// Nothing taken yet of an item whose runs have so many transmissions.
 fn nothing_sent(repeat: usize) -> Recent
     requires some { 1 ≤ repeat }
     ensures { IsRecent (repeat - 1) [] result }
@@ -28,12 +28,10 @@ fn nothing_sent(repeat: usize) -> Recent
     }
 }
 
-/// A track of such an item.
+/// A track of an item whose runs have so many transmissions, none taken yet.
 pub fn nothing_confirmed(repeat: usize) -> Track
     requires some { 1 ≤ repeat }
-    ensures track { (limit : ℕ) (starts : List ℕ) → IsTrack (repeat - 1) limit starts [] result }
-    ensures repeat { result.recent.repeat ≡ repeat }
-    ensures firsts { result.recent.firsts.items ≡ [] }
+    ensures { (limit : ℕ) (starts : List ℕ) → IsTrack (repeat - 1) limit starts [] result }
 {
     let progress = Progress {
         next: 0,

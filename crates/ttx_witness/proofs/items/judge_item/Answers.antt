@@ -5,7 +5,7 @@ use Rattle.ttx_witness.proofs.Steps.{take_whole}
 use Rattle.ttx_witness.proofs.items.judge_item.Goals as goal
 
 pub loop-i-init : goal.loop-i-init
-loop-i-init c = record { held = c.nothing_confirmed-track.ensures.track c.args.limit c.args.starts.now }
+loop-i-init c = record { held = c.nothing_confirmed-track.ensures c.args.limit c.args.starts.now }
 
 pub loop-i-preserved : goal.loop-i-preserved
 loop-i-preserved c = record {

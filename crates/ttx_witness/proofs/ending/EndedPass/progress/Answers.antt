@@ -73,4 +73,4 @@ returns c = λ y p item ended at it number.
     progress_told y p w item starts c.limit-limit.result self.period repeat c.finish.new.track.progress named c.limit-limit.ensures ended.period length_is
     (c.finish.ensures (repeat - 1) ts short few (all_by_place (IsWithin 65536) ts (c.transmissions_are_listed.ensures y some ended.cycle.most p.id w.lines item).1)
     (subst (λ us. IsTrack (repeat - 1) c.limit-limit.result starts us c.take_all.new.track) sent
-    (c.take_all.ensures (repeat - 1) short ended.linked within (c.nothing_confirmed-track.ensures.track c.limit-limit.result starts))))
+    (c.take_all.ensures (repeat - 1) short ended.linked within (c.nothing_confirmed-track.ensures c.limit-limit.result starts))))
