@@ -64,11 +64,7 @@ fn items_of(all: &[Vec<ItemWait>], index: usize) -> &[ItemWait]
 }
 
 // Adds the line of each page with those of its items.
-fn push_both(
-    text: &mut String,
-    told: &[PageWait],
-    all: &[Vec<ItemWait>],
-) -> Result<(), AllocError>
+fn push_both(text: &mut String, told: &[PageWait], all: &[Vec<ItemWait>]) -> Result<(), AllocError>
     ensures { OnOk result (string_bytes text.new ≡ string_bytes text.old ++ both_lines told.now (map (λ told. told.items) all.now)) }
 {
     for index in 0..told.len() {

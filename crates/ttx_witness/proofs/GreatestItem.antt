@@ -1,5 +1,5 @@
 -- The deadline of a page is the greatest of its items'.
-use Rattle.std.proofs.Common.{◌≡◌, ◌≢◌, ◌↔◌, ℕ, zero, suc, ◌+◌, ◌<◌, ◌≤◌, true, List, [], ◌∷◌, ◌++◌, if◌then◌else◌, length, map, slice_get, Some, None, refl, sym, ap, ◌∙◌, subst, inl, inr, arith}
+use Rattle.std.proofs.Common.{◌≡◌, ◌↔◌, ℕ, zero, suc, ◌<◌, ◌≤◌, true, List, [], ◌∷◌, ◌++◌, if◌then◌else◌, length, map, slice_get, Some, None, refl, sym, ap, ◌∙◌, subst, inl, inr, arith}
 use Rattle.std.specs.List.{AllByRecursion}
 use Rattle.std.proofs.lemmas.Bool.{cases_lt}
 use Rattle.std.proofs.lemmas.Option.{slice_get_within}
@@ -9,8 +9,8 @@ use Rattle.ttx_page.specs.declared.item.Item.{Item}
 use Rattle.ttx_page.specs.declared.class.Class.{Class}
 use Rattle.ttx_witness.specs.Collected.{IsItem, item_number}
 use Rattle.ttx_witness.specs.CycleLaws.{SureStartsAreFound, LeastLimitIsFound}
-use Rattle.ttx_witness.specs.ItemWaits.{item_at, seen_below, least_of, IsItemWait, AreItemsTold, IsToldOf, IsUpTo, IsGreatest}
-use Rattle.ttx_witness.specs.Waits.{IsLeast, CanShow, CanAccept, HasNoSureStart, fields_of, IsWait}
+use Rattle.ttx_witness.specs.ItemWaits.{item_at, seen_below, least_of, IsItemWait, AreItemsTold, IsUpTo, IsGreatest}
+use Rattle.ttx_witness.specs.Waits.{IsLeast, CanShow, CanAccept, fields_of, IsWait}
 use Rattle.ttx_witness.specs.declared.reason.Reason.{Reason}
 use Rattle.ttx_witness.specs.declared.wait.ItemWait.{ItemWait}
 use Rattle.ttx_witness.specs.declared.wait.OwnWait.{OwnWait}

@@ -109,9 +109,7 @@ pub fn item_waits(
     let mut all = Vec::new(alloc);
     for index in 0..pages.len() {
         let page = &pages[index];
-        let told = items_told(
-            alloc, cycle, page, index, &collected, class, repeat, lines,
-        )?;
+        let told = items_told(alloc, cycle, page, index, &collected, class, repeat, lines)?;
         if all.push(told).is_err() {
             return Err(NoMemory);
         }
