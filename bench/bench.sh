@@ -95,14 +95,17 @@ echo "splice: time over that of certify (goal: at most 4)"
 
 echo
 printf '%-34s %10s %12s\n' 'refute' 'refute, ms' 'certify, ms'
-for service in inhibited sent; do
-    case $service in sent) cycle=65536.t42 ;; *) cycle=inhibited-65536.t42 ;; esac
+# none of the pages is sent unchanged, and each is shown: so each is run, at the longest deadline
+cp sent.toml corrected.toml
+sed 's/^deadline .*/deadline 1000000/' sent.cert > corrected.cert
+for service in inhibited sent corrected; do
+    case $service in sent) cycle=65536.t42 ;; corrected) cycle=corrected.t42 ;; *) cycle=inhibited-65536.t42 ;; esac
     refute=$(least "$program" refute "$cycle" "$service.toml" "$service.cert")
     certify=$(least "$program" certify "$cycle" "$service.toml" "$service.cert")
-    printf '%-34s %10s %12s\n' "2,000 pages, 65536 slots" "$(tenths "$refute")" "$(tenths "$certify")"
+    printf '%-34s %10s %12s\n' "2,000 pages, 65536 slots $service" "$(tenths "$refute")" "$(tenths "$certify")"
     "$program" refute "$cycle" "$service.toml" "$service.cert"
 done
-echo "refute: goal at most 2000 ms"
+echo "refute: goal at most 2000 ms where the pages are sent unchanged"
 
 echo
 printf '%-34s %10s %14s %14s\n' 'receive' 'ms' 'sha256sum, ms' 'vbi_decode, ms'

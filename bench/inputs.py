@@ -37,6 +37,16 @@ def links(mag):
     return address(mag, 27) + bytes([WORDS[0]]) + none * 6 + bytes([WORDS[7], 0, 0])
 
 
+def corrected(slots):
+    """The same slots with one wrong bit in each X/27/0: its page is shown all the same, but isn't sent unchanged."""
+    out = bytearray(slots)
+    packets = {address(mag, 27) for mag in range(1, 9)}
+    for at in range(0, len(out), 42):
+        if bytes(out[at : at + 2]) in packets:
+            out[at + 3] ^= 1
+    return bytes(out)
+
+
 def page_ids(count):
     """Page ids in authored order: eight magazines, pages 00 to FE, then further subcodes."""
     made = 0
@@ -87,6 +97,7 @@ def main():
     folder.mkdir(parents=True, exist_ok=True)
     for slots, pages in ((8192, 250), (16384, 500), (32768, 1000), (65536, 2000)):
         (folder / f"{slots}.t42").write_bytes(cycle(slots, pages, 1))
+    (folder / "corrected.t42").write_bytes(corrected((folder / "65536.t42").read_bytes()))
     for slots in (8192, 65536):
         (folder / f"inhibited-{slots}.t42").write_bytes(cycle(slots, 2000, 1, True))
     (folder / "inhibited.toml").write_text(service(2000, 1, True))
