@@ -16,8 +16,8 @@ use std::marker::Model;
 use ttx_page::{Class, PageMemory, Selection};
 use ttx_render::{Cache, View};
 
-/// A receiver with the View of what it holds. A step notes what its packet may change, and `view` renders that alone. Where the
-/// receiver isn't storing after it a step has changed nothing, and its packet isn't read once more.
+/// A receiver with the View of what it holds. A step notes what its packet may change, and `view` renders that alone. A packet is
+/// read for it only where the receiver is storing after the step, since else nothing has changed, and not everything is noted yet.
 #[derive(Drop)]
 pub struct Watched<R: Receiver> {
     receiver: R,
@@ -115,7 +115,7 @@ impl<R: Receiver> Receiver for Watched<R> {
         let bytes = bytes_of(slot);
         let storing = self.receiver.memory().storing();
         self.receiver.step(slot);
-        if self.receiver.memory().storing() {
+        if self.receiver.memory().storing() && !self.touched.everything {
             let touch = touch_of(&self.receiver.selection(), storing, bytes);
             self.touched.add(touch);
         }
