@@ -6,7 +6,7 @@
 --   has_box, lacks_box      two start box codes; a page that shows boxed text alone, and has none
 --   order_warnings          on a page that comes directly behind another
 --   page_warnings, pages_from       those on a page, and on all pages
-use Rattle.std.specs.Prelude.{ℕ, zero, suc, ◌+◌, Bool, true, false, not, ◌&&◌, ◌||◌, ◌==◌, if◌then◌else◌, List, [], ◌∷◌, ◌++◌, Option, Some, None}
+use Rattle.std.specs.Prelude.{ℕ, zero, suc, ◌+◌, Bool, false, not, ◌&&◌, ◌||◌, ◌==◌, if◌then◌else◌, List, [], ◌∷◌, ◌++◌, Option, Some, None}
 use Rattle.std.specs.List.{list_any}
 use Rattle.ttx_header.specs.Control.{c5, c6}
 use Rattle.ttx_header.specs.Ids.{Id}

@@ -3,7 +3,7 @@
 --   said, report            what is said of a text that is read: its lines, or that there is nothing to say
 --   fault_words, error_line, IsErrorLine    what is said of one that is refused, and where the mistake is, which is only tested
 --   IsRead, IsReport        the report on a text, and its status
-use Rattle.std.specs.Prelude.{◌≡◌, ℕ, List, [], ◌∷◌, ◌++◌, codes, length, Option, Some, Result, Ok, Err}
+use Rattle.std.specs.Prelude.{◌≡◌, ℕ, List, [], ◌∷◌, ◌++◌, codes, length, Some, Result, Ok, Err}
 use Rattle.std.specs.Fmt.{decimal}
 use Rattle.toml.specs.Data.{Members}
 use Rattle.toml.specs.Parse.{parse_document}
