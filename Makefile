@@ -34,6 +34,7 @@ test:
 	sh tests/turns.sh $(BUILT)
 	python3 tests/sent.py $(BUILT)
 	python3 tests/pages.py $(BUILT)
+	python3 tests/checked.py $(BUILT)
 	python3 tests/refute.py $(BUILT) 300
 	sh tests/packed.sh $(BUILT)
 	python3 tests/extracted.py $(BUILT)

@@ -220,6 +220,27 @@ def refused_services():
     }
 
 
+def checked_services():
+    """Services with mistakes for their author: a row of 47 characters, a quotation that isn't ended, keys that mean nothing, and a
+    service for each warning."""
+    head = "lines = 2\nserial = false\n"
+    page = '[[page]]\nnumber = "{}"\n'
+    long = head + "\n# the pages\n\n" + page.format(100) + "\n[page.rows]\n"
+    long += '"1"   = "SHORT"\n"2"   = "ROWS"\n"3"   = "FIRST"\n\n"4"   = "' + "A" * 47 + '"\n'
+    rows = '"4" = "\\u000DTALL"\n"5" = "lost"\n"6" = "a\\tb"\n"7" = """\na\nb"""\n"8" = "\\u0008a\\tb"\n"24" = "keys"\n'
+    info = '[info]\nnetwork = "0000"\nmjd = 1\nutc = 1\ninitial = "300"\n'
+    warned = head + info + page.format(100) + 'links = ["100", "", "101", "100/0002", "100/3F7F"]\n[page.rows]\n' + rows
+    warned += page.format(100) + 'sub = "0001"\nsubtitle = true\n' + page.format(200) + "often = 8\n" + page.format(201)
+    return {
+        "check-row-of-47.toml": long,
+        "check-quotation.toml": head + page.format(100) + 'head = "NEWS\n',
+        "check-misspelt.toml": "liens = 3\n" + head + info + 'netwrk = "0000"\n' + page.format(100) + "ofen = 2\ncolour = 7\n\"a\\u000Ab\" = 1\n",
+        "check-warnings.toml": warned,
+        "check-serial.toml": "lines = 2\nserial = true\n" + page.format(100) + page.format(101) + page.format(200),
+        "check-inline.toml": 'page = [{number = "100", rows = {3 = "A"}}, # two pages\n  {number = "101", links = [\n    "100", "1/0"]}]\n' + head,
+    }
+
+
 def certificate(deadline, repeat=1, rows=range(1, 24), more=None, at=(0,)):
     """A certificate of blank pages whose headers are sent at these slots, a field before their rows."""
 
@@ -448,7 +469,7 @@ def main():
         "slots-052.counter": counter(1, 52, 26, 23).replace("slots 52", "slots 052"),
         "slots-51.counter": counter(1, 51, 26, 23),
         "clearing.cert": "ttx certificate 2\nclass clearing\nlines 2\nrepeat 1\ndeadline 2\n100/0000 head 0\n",
-    } | services() | refused_services() | certifying_texts() | splicing_texts() | extracted_texts()
+    } | services() | refused_services() | checked_services() | certifying_texts() | splicing_texts() | extracted_texts()
     for name, text in texts.items():
         (folder / name).write_text(text)
     subpages = [sub for sub in range(0x3F7F) if sub & ~0x3F7F == 0][:1214]

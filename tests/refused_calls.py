@@ -45,6 +45,7 @@ COMMANDS = [
     ("send small.t42 --at 61000/235959 --fields 3 --lines 2 --phase 1", False),
     ("pages small.t42", False),
     ("extract small.t42 out --lines 2", False),
+    ("check small.toml", False),
     ("version", False),
     ("splice small.t42 small.t42 small.toml small.toml small.cert small.cert", False),
     ("plan broadcast.toml out", True),
@@ -63,6 +64,8 @@ COMMANDS = [
     ("book small.t42 out", True),
     ("extract base.t42 out --lines 2", True),
     ("extract unlike.t42 out --lines 2", True),
+    ("check check-misspelt.toml", True),
+    ("check check-row-of-47.toml", True),
     ("certify missing base.toml base.cert", True),
     ("find base.t42", True),
     ("--help", True),
@@ -80,7 +83,7 @@ def make_inputs(folder):
     }
     for name, source in taken.items():
         shutil.copy(data / source, folder / name)
-    for name in ("base.t42", "base.toml", "base.cert", "often-3.toml", "base-26.counter"):
+    for name in ("base.t42", "base.toml", "base.cert", "often-3.toml", "base-26.counter", "check-misspelt.toml", "check-row-of-47.toml"):
         shutil.copy(data / name, folder)
     shutil.copy(TOP / "examples/broadcast.toml", folder)
     head = "lines 2\nrepeat 1\ndeadline"

@@ -1,0 +1,326 @@
+#!/usr/bin/env python3
+"""Runs `check` over random service texts. The warnings are those of a plain reader of its own, which knows what it wrote; of a text with
+one mistake the line names the place at which it was written.
+
+usage: checked.py PROGRAM [COUNT]
+"""
+import random
+import subprocess
+import sys
+from collections import Counter
+
+TAKES = {
+    "service": "lines serial info page".split(),
+    "info": "designation initial network halves mjd utc text".split(),
+    "page": "number sub often option newsflash subtitle suppress update interrupted inhibit head rows links row24 crc".split(),
+}
+FIRST = {"number": "100", "sub": "0000", "often": 1, "newsflash": False, "subtitle": False, "inhibit": False, "head": "", "rows": {}, "links": [], "row24": False}
+CODES = "AB \t\n\b\v\v\r"
+
+
+def value_text(value):
+    if isinstance(value, bool):
+        return str(value).lower()
+    if isinstance(value, str):
+        return '"' + "".join(c if " " <= c and c not in '"\\' else f"\\u{ord(c):04X}" for c in value) + '"'
+    if isinstance(value, list):
+        return "[" + ", ".join(map(value_text, value)) + "]"
+    return str(value)
+
+
+class Text:
+    """A text that is written, and where its values stand."""
+
+    def __init__(self):
+        self.text, self.places = "", {}
+
+    def add(self, more):
+        self.text += more
+
+    def value(self, path, value, inline):
+        self.places[path] = len(self.text)
+        if isinstance(value, dict):
+            self.add("{")
+            for at, (key, inner) in enumerate(value.items()):
+                self.add((", " if at else " ") + key + " = ")
+                self.value((*path, key), inner, inline)
+            self.add(" }")
+        elif isinstance(value, list):
+            self.add("[")
+            for at, inner in enumerate(value):
+                self.add((", " if at else "") + ("\n  # a remark, ] = \"\n  " if inline and random.random() < 0.2 else ""))
+                self.value((*path, at + 1), inner, inline)
+            self.add("]")
+        else:
+            self.add(value_text(value))
+
+    def table(self, path, table, below):
+        for key, value in table.items():
+            if isinstance(value, dict) and value and random.random() < below:
+                for inner, text in value.items():
+                    self.add(f"{key} . {inner} = ")
+                    self.value((*path, key, inner), text, True)
+                    self.add("\n")
+                continue
+            self.add(f"{key}{random.choice(['=', ' = '])}")
+            self.value((*path, key), value, True)
+            self.add(random.choice(["\n", " # 'a' remark\n", "\n\n"]))
+
+    def line(self, path, label, words):
+        before = self.text[:self.places[path]]
+        return f"line {before.count(chr(10)) + 1} column {len(before) - before.rfind(chr(10))} {label}: {words}\n"
+
+
+def written(service, inline):
+    text = Text()
+    text.add(random.choice(["", "# [[page]]\n", "\n"]))
+    top = {key: value for key, value in service.items() if key not in ("page", "info")}
+    text.table((), top, 0)
+    if inline and "page" in service:
+        text.add("page = ")
+        text.value(("page",), service["page"], True)
+        text.add("\n")
+    if "info" in service:
+        text.places[("info",)] = len(text.text)
+        text.add("[info]\n")
+        text.table(("info",), service["info"], 0)
+    for at, page in enumerate(() if inline else service.get("page", ())):
+        text.places[("page", at + 1)] = len(text.text)
+        text.add("[[page]]\n")
+        apart = isinstance(page.get("rows"), dict) and random.random() < 0.4
+        text.table(("page", at + 1), {key: value for key, value in page.items() if not (apart and key == "rows")}, 0.5)
+        if apart:
+            text.places[("page", at + 1, "rows")] = len(text.text)
+            text.add("[page.rows]\n")
+            text.table(("page", at + 1, "rows"), page["rows"], 0)
+    return text
+
+
+def random_page(number, sub):
+    page = {"number": number} | ({"sub": sub} if sub != "0000" or random.random() < 0.3 else {})
+    if random.random() < 0.4:
+        page["often"] = random.choice([1, 2, 4, 8])
+    for key in ("newsflash", "subtitle", "inhibit", "row24"):
+        if random.random() < 0.2:
+            page[key] = random.random() < 0.7
+    if random.random() < 0.6:
+        rows = sorted(random.sample(range(1, 25), random.randrange(1, 6)))
+        page["rows"] = {str(row): "".join(random.choices(CODES, k=random.randrange(12))) for row in rows}
+    if random.random() < 0.4:
+        links = ["", "100", "101/0001", "200", "7AB/0001", "100/3F7F"]
+        page["links"] = random.choices(links, k=random.randrange(7))
+    if random.random() < 0.2:
+        page["head"] = "".join(random.choices("A\v", k=6))
+    items = list(page.items())
+    random.shuffle(items)
+    return dict(items)
+
+
+def random_service():
+    service = {"lines": random.randrange(1, 33), "serial": random.random() < 0.5}
+    if random.random() < 0.4:
+        service["info"] = {"network": "0000", "mjd": 1, "utc": 1} | ({"initial": random.choice(["", "100", "200", "300/0001"])} if random.random() < 0.7 else {})
+    ids = random.sample([(number, sub) for number in ("100", "101", "200", "2AB") for sub in ("0000", "0001", "0002")], random.randrange(7))
+    if ids or random.random() < 0.5:
+        service["page"] = [random_page(*one) for one in ids]
+    return service
+
+
+def distance(a, b):
+    best = {(0, n): n for n in range(len(b) + 1)} | {(n, 0): n for n in range(len(a) + 1)}
+    for x in range(1, len(a) + 1):
+        for y in range(1, len(b) + 1):
+            best[x, y] = min(best[x - 1, y] + 1, best[x, y - 1] + 1, best[x - 1, y - 1] + (a[x - 1] != b[y - 1]))
+    return best[len(a), len(b)]
+
+
+def key_lines(place, kind, table):
+    for key in sorted(set(table) - set(TAKES[kind])):
+        near = [name for most in (1, 2) for name in TAKES[kind] if len(key) <= 16 and distance(key, name) <= most]
+        yield f"warning {place}: no key {key}" + (f": is it {near[0]}?" if near else "") + "\n"
+
+
+def identity(page):
+    return page["number"] + "/" + page.get("sub", "0000")
+
+
+def filled(page):
+    """Rows 1 to 24 by their numbers, and which of them double height hides."""
+    rows = {number: page.get("rows", {}).get(str(number), "").ljust(40) for number in range(1, 25)}
+    hidden = set()
+    for number in range(1, 23):
+        if number not in hidden and "\r" in rows[number]:
+            hidden.add(number + 1)
+    return rows, hidden
+
+
+def packets(page):
+    _rows, hidden = filled(page)
+    shown = 0 if page.get("inhibit") else 23 - len(hidden) + bool(page.get("row24"))
+    return page.get("often", 1) * (2 + shown)
+
+
+def is_there(link, pages):
+    number, _, sub = link.partition("/")
+    return any(page["number"] == number and (sub in ("", "3F7F") or identity(page) == link) for page in pages)
+
+
+def behind(pages, serial):
+    """How often each page comes directly behind another subpage of its number in its magazine, and behind itself."""
+    order = [page for turn in range(8) for page in pages if turn % (8 // page.get("often", 1)) == 0]
+    subpages, copies = Counter(), Counter()
+    for magazine in "12345678":
+        queue = [page for page in order if page["number"][0] == magazine]
+        for first, second in zip(queue, queue[1:]):
+            if first["number"] == second["number"] and first is not second:
+                subpages[identity(second)] += 1
+            if first is second and not serial:
+                copies[identity(second)] += 1
+    if serial:
+        copies = Counter(identity(second) for first, second in zip(order, order[1:]) if first is second)
+    return subpages, copies
+
+
+def row_lines(place, page):
+    rows, hidden = filled(page)
+    for number, row in rows.items():
+        if number in hidden and row.strip(" "):
+            yield f"warning {place} row {number}: double height in the row above hides it\n"
+        if number == 24 and row.strip(" ") and not page.get("row24"):
+            yield f"warning {place} row 24: it is shown only with row24 = true\n"
+        if "\t" in row.split("\b")[0]:
+            yield f"warning {place} row {number}: code 09 does nothing before a flash: is it a tab?\n"
+        if "\n" in row.split("\v")[0]:
+            yield f"warning {place} row {number}: code 0A does nothing before a box: is it a line break?\n"
+
+
+def page_lines(page, pages, subpages, copies):
+    name = identity(page)
+    place = f"page {name}"
+    for number, link in enumerate(page.get("links", [])):
+        if link and not is_there(link, pages):
+            yield f"warning {place} link {number + 1}: the service has no such page\n"
+    yield from row_lines(place, page)
+    boxed = any("\v\v" in text for text in [page.get("head", ""), *page.get("rows", {}).values()])
+    if (page.get("newsflash") or page.get("subtitle")) and not boxed:
+        yield f"warning {place}: a newsflash or subtitle without a box shows nothing\n"
+    if subpages[name]:
+        yield f"warning {place}: sent directly behind another subpage, which receivers that show late then miss, but for plan --late\n"
+    if copies[name]:
+        yield f"warning {place}: often doesn't help: it is sent directly behind itself, times {copies[name]}\n"
+
+
+def lines(service):
+    pages = service.get("page", [])
+    yield from key_lines("service", "service", service)
+    yield from key_lines("info", "info", service.get("info", {}))
+    for page in pages:
+        yield from key_lines(f"page {identity(page)}", "page", page)
+    initial = service.get("info", {}).get("initial", "")
+    if initial and not is_there(initial, pages):
+        yield "warning info initial: the service has no such page\n"
+    subpages, copies = behind(pages, service["serial"])
+    for page in pages:
+        yield from page_lines(page, pages, subpages, copies)
+    if service["serial"]:
+        total = sum(map(packets, pages))
+        for magazine in "12345678":
+            own = sum(packets(page) for page in pages if page["number"][0] == magazine)
+            if total < 2 * own and own < total:
+                yield f"warning magazine {magazine}: it has more than half of all packets: serial = false would shorten the wait\n"
+
+
+def report(service):
+    return "".join(lines(service)) or f"ok pages {len(service.get('page', []))}\n"
+
+
+def misspelt(service):
+    """A key more that means nothing."""
+    where, kind = random.choice([(service, "service")] + [(page, "page") for page in service.get("page", [])] + ([(service["info"], "info")] if "info" in service else []))
+    key = list(random.choice(TAKES[kind]))
+    for _edit in range(random.randrange(1, 4)):
+        key[random.randrange(len(key)):][:1] = []
+        key.insert(random.randrange(len(key) + 1), random.choice("aeiorstn"))
+    if "".join(key) not in TAKES[kind]:
+        where["".join(key)] = random.choice([1, "a", False])
+
+
+def mistake(service):
+    """One mistake: the path to it, what its line calls it, and what it says."""
+    pages = service["page"]
+    at = random.randrange(len(pages))
+    page = pages[at]
+    name = f"page {identity(page)}"
+    long = random.choice(["A", "é"]) * random.randrange(41, 60)
+    kind = random.randrange(12)
+    row = str(random.randrange(1, 25))
+    path = ("page", at + 1)
+    if kind == 0:
+        page["rows"] = {row: long}
+        return (*path, "rows", row), f"{name} row {row}", f"the text is too long: {len(long)} characters, 40 fit"
+    if kind == 1:
+        page["rows"] = {row: "Aé"}
+        return (*path, "rows", row), f"{name} row {row}", "a character can't be sent"
+    if kind == 2:
+        page["often"] = 3
+        return (*path, "often"), f"{name} often", "often takes 1, 2, 4 or 8"
+    if kind == 3:
+        page["number"] = random.choice(["1FF", "900", "10", "10a"])
+        return (*path, "number"), f"page {at + 1} number", "this names no page"
+    if kind == 4:
+        page["sub"] = random.choice(["0080", "4000", "3F7F", "1"])
+        return (*path, "sub"), f"page {at + 1} sub", "this is no subcode"
+    if kind == 5:
+        pages.append({"links": [], "number": page["number"], "sub": page.get("sub", "0000")})
+        return ("page", len(pages), "number"), f"{name} number", "an earlier page has this number and subcode"
+    if kind == 6:
+        page["links"] = ["100", "", random.choice(["1FF", "100-0000", "1000"])]
+        return (*path, "links", 3), f"{name} link 3", "this names no page"
+    if kind == 7:
+        page["links"] = ["100/0080"]
+        return (*path, "links", 1), f"{name} link 1", "this is no subcode"
+    if kind == 8:
+        page["rows"] = {"25": ""}
+        return (*path, "rows", "25"), f"{name} row 25", "rows is out of range: it takes a table of texts of at most 40 characters at keys from \"1\" to \"24\""
+    if kind == 9:
+        del page["number"]
+        return path, f"page {at + 1}", "number is missing: it takes a text: a page number as \"100\""
+    if kind == 10:
+        service["lines"] = random.choice([33, 0, -1])
+        return ("lines",), "lines", "lines is out of range: it takes an integer from 1 to 32"
+    page["head"] = 1
+    return (*path, "head"), f"{name} head", "head takes another kind of value: it takes a text of at most 24 characters"
+
+
+def check(program, text):
+    done = subprocess.run([program, "check", "-"], input=text.encode(), capture_output=True, timeout=60, check=False)
+    return done.returncode, done.stdout.decode(), done.stderr.decode()
+
+
+def main():
+    program, count = sys.argv[1], int(sys.argv[2]) if len(sys.argv) > 2 else 300
+    random.seed(1)
+    failed = 0
+    told = Counter()
+    for _run in range(count):
+        service = random_service()
+        if random.random() < 0.4:
+            misspelt(service)
+        wanted = report(service)
+        text = written(service, random.random() < 0.3)
+        runs = [(text.text, (0, wanted, ""))]
+        if service.get("page"):
+            path, label, words = mistake(service)
+            text = written(service, random.random() < 0.3)
+            runs.append((text.text, (2, text.line(path, label, words), "")))
+        for given, want in runs:
+            told.update(" ".join(line.split()[0:1] + line.split(": ", 1)[-1].split()[:3]) for line in want[1].splitlines())
+            if check(program, given) != want:
+                failed += 1
+                print(f"{given}\nwanted {want}\ntold {check(program, given)}", file=sys.stderr)
+    print(f"checked: {count} services, {failed} failed, {len(told)} kinds of lines")
+    sys.exit(failed != 0)
+
+
+if __name__ == "__main__":
+    main()
