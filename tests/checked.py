@@ -136,7 +136,7 @@ def distance(a, b):
 
 def key_lines(place, kind, table):
     for key in sorted(set(table) - set(TAKES[kind])):
-        near = [name for most in (1, 2) for name in TAKES[kind] if len(key) <= 16 and distance(key, name) <= most]
+        near = [name for most in (1, 2)[:1 + (len(key) >= 5)] for name in TAKES[kind] if len(key) <= 16 and distance(key, name) <= most]
         yield f"warning {place}: no key {key}" + (f": is it {near[0]}?" if near else "") + "\n"
 
 
@@ -207,7 +207,7 @@ def page_lines(page, pages, subpages, copies):
     if subpages[name]:
         yield f"warning {place}: sent directly behind another subpage, which receivers that show late then miss, but for plan --late\n"
     if copies[name]:
-        yield f"warning {place}: often doesn't help: it is sent directly behind itself, times {copies[name]}\n"
+        yield f"warning {place}: often doesn't help: it is sent directly behind itself {copies[name]} times\n"
 
 
 def lines(service):
