@@ -30,6 +30,7 @@ test:
 	sh tests/memory.sh $(BUILT)
 	python3 tests/refused_calls.py $(BUILT)
 	python3 tests/planned.py $(BUILT)
+	python3 tests/waits.py $(BUILT)
 	python3 tests/spliced.py $(BUILT)
 	sh tests/turns.sh $(BUILT)
 	python3 tests/sent.py $(BUILT)

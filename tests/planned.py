@@ -6,11 +6,13 @@ usage: planned.py PROGRAM
 The services are serial and parallel, with and without packet 8/30, of lines and pages drawn with a fixed seed: pages are sent
 1, 2, 4 or 8 times a cycle, and some have subpages, blank rows, rows in double height, boxes, links, or a suppressed header.
 For both classes of receivers and repeat counts 1, 2 and 8: `find` on the plan ends with a deadline D, `certify` says yes to
-what it found, and no to the same with D - 1, where that is at least 1.
+what it found, and no to the same with D - 1, where that is at least 1; and of the items of each page that `wait --items` tells,
+the first that needs the most is the page's.
 """
 import itertools
 import os
 import random
+import re
 import subprocess
 import sys
 import tempfile
@@ -50,6 +52,31 @@ def run(program, *words):
     return done.returncode, done.stdout
 
 
+def wait_lines(program, *words):
+    """What `wait` tells of each page: its fields and item; and with `--items` the fields of its items, in their order."""
+    status, text = run(program, "wait", "cycle", "service", *words, "--items")
+    assert status == 0, text
+    pages, items = {}, {}
+    for line in text.splitlines()[:-1]:
+        page, told = line.split(" ", 1)
+        if told[0].isdigit():
+            fields, _, _, _, item = told.split(" ", 4)
+            pages[page] = (int(fields), item)
+        else:
+            item, fields = re.fullmatch(r"(head|row \d+|links) (\d+) fields [\d.]+ s", told).groups()
+            items.setdefault(page, []).append((int(fields), item))
+    return pages, items
+
+
+def wrong_items(program, kind, repeat):
+    """A page whose fields and item aren't those of the first of its items that need the most, or None."""
+    pages, items = wait_lines(program, "--repeat", str(repeat), "--class", kind)
+    for page, told in pages.items():
+        if told != max(items[page], key=lambda one: one[0]):
+            return f"wait --items: {page} {told} {items[page]}"
+    return None
+
+
 def wrong(program, kind, repeat):
     """What is wrong with what is found for a planned cycle, or None."""
     status, line = run(program, "find", "cycle", "service", "cert", "--repeat", str(repeat), "--class", kind)
@@ -59,8 +86,9 @@ def wrong(program, kind, repeat):
     status, line = run(program, "certify", "cycle", "service", "cert")
     if status != 0 or not line.startswith("yes ") or f" deadline {deadline} " not in line:
         return f"certify: {status} {line}"
-    if deadline == 1:
-        return None
+    what = wrong_items(program, kind, repeat)
+    if what or deadline == 1:
+        return what
     with open("cert", encoding="ascii") as file:
         text = file.read()
     with open("less", "w", encoding="ascii") as file:

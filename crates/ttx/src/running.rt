@@ -16,6 +16,7 @@ use ttx_proof::{SpliceVerdict, splice_files};
 use ttx_receiver::{Careful, Cleared, Eager, Receiver};
 use ttx_send::Moment;
 use ttx_tool::{ExtractionFault, ToolFault, commands};
+use ttx_wait::Detail;
 
 // A buffered reader of an input.
 fn buffered(rt: &HostRuntime, input: Input) -> Result<Counted<BufReader<Input>>, ToolFault> {
@@ -215,18 +216,25 @@ fn wait(
     service: Input,
     repeat: u8,
     class: Class,
+    items: bool,
 ) -> Result<u8, ToolFault> {
     let mut cycle = buffered(rt, cycle)?;
     let mut service = buffered(rt, service)?;
     let mut writer = Counted::new(io::writer(rt));
     // The words have it in this range.
     let repeat = repeat.clamp(1, 8);
+    let detail = if items {
+        Detail::Items
+    } else {
+        Detail::Pages
+    };
     commands::wait(
         rt.alloc(),
         &mut cycle,
         &mut service,
         repeat,
         class,
+        detail,
         &mut writer,
     )
 }
@@ -523,10 +531,11 @@ fn open_wait(
     service: &str,
     repeat: u8,
     class: Class,
+    items: bool,
 ) -> io::Result<Result<u8, ToolFault>> {
     let cycle = open_input(rt, cycle)?;
     let service = open_input(rt, service)?;
-    Ok(wait(rt, cycle, service, repeat, class))
+    Ok(wait(rt, cycle, service, repeat, class, items))
 }
 
 // Opens the inputs of a splice in the order of the words: cycles, services, certificates.
@@ -606,7 +615,8 @@ fn run_reading(rt: &HostRuntime, order: &Order<'_>) -> io::Result<Result<u8, Too
             service,
             repeat,
             class,
-        } => open_wait(rt, cycle, service, *repeat, *class),
+            items,
+        } => open_wait(rt, cycle, service, *repeat, *class, *items),
         Order::Send { cycle, sending } => Ok(send(rt, open_input(rt, cycle)?, sending)),
         Order::Pages { cycle } => Ok(pages(rt, open_input(rt, cycle)?)),
         Order::Check { service } => Ok(check(rt, open_input(rt, service)?)),

@@ -117,11 +117,11 @@ splice_app =
     with_rule (with_rule (with_rule (with_rule (with_rule (with_rule (new_app (codes "splice")) (operand_rule (codes "old"))) (operand_rule (codes "new")))
     (operand_rule (codes "old_service"))) (operand_rule (codes "new_service"))) (operand_rule (codes "old_certificate"))) (operand_rule (codes "new_certificate"))
 
--- wait CYCLE SERVICE [--repeat K] [--class any|clearing]
+-- wait CYCLE SERVICE [--repeat K] [--class any|clearing] [--items]
 abbrev pub wait_app : NameList → App
 wait_app classes =
-    with_rule (with_rule (with_rule (with_rule (new_app (codes "wait")) (operand_rule (codes "cycle"))) (operand_rule (codes "service")))
-    (number_rule (codes "repeat") 1 8)) (name_rule (codes "class") classes)
+    with_rule (with_rule (with_rule (with_rule (with_rule (new_app (codes "wait")) (operand_rule (codes "cycle"))) (operand_rule (codes "service")))
+    (number_rule (codes "repeat") 1 8)) (name_rule (codes "class") classes)) (flag_rule (codes "items"))
 
 -- send CYCLE --at MJD/HHMMSS --fields N [--lines L] [--phase F] [--offset HALVES]
 abbrev pub send_app : App

@@ -57,7 +57,7 @@ pub data OrderView : Type 0 where
   show_order : (cycle : Text) → (tuning : Tuning) → (look : LookView) → OrderView
   preview_order : (service : Text) → (selection : Selection) → (look : LookView) → OrderView
   splice_order : (old new old_service new_service old_certificate new_certificate : Text) → OrderView
-  wait_order : (cycle service : Text) → (repeat : ℕ) → (class : Class) → OrderView
+  wait_order : (cycle service : Text) → (repeat : ℕ) → (class : Class) → (items : Bool) → OrderView
   send_order : (cycle : Text) → (sending : Sending) → OrderView
   pages_order : (cycle : Text) → OrderView
   book_order : (cycle out : Text) → OrderView
@@ -77,7 +77,7 @@ order_view (Show cycle tuning look) = show_order cycle.now tuning (look_view loo
 order_view (Preview service selection look) = preview_order service.now selection (look_view look)
 order_view (Splice old new old_service new_service old_certificate new_certificate) =
     splice_order old.now new.now old_service.now new_service.now old_certificate.now new_certificate.now
-order_view (Wait cycle service repeat class) = wait_order cycle.now service.now repeat class
+order_view (Wait cycle service repeat class items) = wait_order cycle.now service.now repeat class items
 order_view (Send cycle sending) = send_order cycle.now sending
 order_view (Pages cycle) = pages_order cycle.now
 order_view (Book cycle out) = book_order cycle.now out.now
@@ -202,7 +202,7 @@ splice_at rows =
 abbrev pub wait_at : List Row → OrderView
 wait_at rows =
     wait_order (text_at (codes "cycle") rows) (text_at (codes "service") rows) (number_at (codes "repeat") 1 8 1 rows)
-    (class_named (text_at (codes "class") rows))
+    (class_named (text_at (codes "class") rows)) (is_set (codes "items") rows)
 
 abbrev pub pages_at : List Row → OrderView
 pages_at rows = pages_order (text_at (codes "cycle") rows)
@@ -247,7 +247,7 @@ inputs (show_order cycle tuning look) = cycle ∷ []
 inputs (preview_order service selection look) = service ∷ []
 inputs (splice_order old new old_service new_service old_certificate new_certificate) =
     old ∷ new ∷ old_service ∷ new_service ∷ old_certificate ∷ new_certificate ∷ []
-inputs (wait_order cycle service repeat class) = cycle ∷ service ∷ []
+inputs (wait_order cycle service repeat class items) = cycle ∷ service ∷ []
 inputs (send_order cycle sending) = cycle ∷ []
 inputs (pages_order cycle) = cycle ∷ []
 inputs (book_order cycle out) = cycle ∷ []

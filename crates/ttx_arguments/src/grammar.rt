@@ -308,7 +308,7 @@ fn splice<'a>(alloc: Global) -> Building<'a>
     )
 }
 
-// `wait CYCLE SERVICE [--repeat K] [--class any|clearing]`
+// `wait CYCLE SERVICE [--repeat K] [--class any|clearing] [--items]`
 fn wait<'a>(alloc: Global, classes: &'a [&'a str]) -> Building<'a>
     ensures { Builds result (wait_app classes.entry) }
 {
@@ -316,7 +316,8 @@ fn wait<'a>(alloc: Global, classes: &'a [&'a str]) -> Building<'a>
     let wait = with_operand(alloc, wait, "cycle", "CYCLE", help::CYCLE_OPERAND);
     let wait = with_operand(alloc, wait, "service", "SERVICE", help::SERVICE_OPERAND);
     let wait = with_number(alloc, wait, "repeat", "K", help::REPEAT_OPTION, 1, 8);
-    with_class(alloc, wait, classes)
+    let wait = with_class(alloc, wait, classes);
+    with_flag(alloc, wait, "items", help::ITEMS_OPTION)
 }
 
 // An option with any text that has to be there.

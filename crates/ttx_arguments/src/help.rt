@@ -225,6 +225,9 @@ pub(crate) const WAIT_MORE: &str =
                                        after their header, and B later but cut off by another magazine
   PAGE never REASON [SLOT]             the page isn't sent unchanged: no-header, other-subpage, erased, head-differs,
                                        row-differs or links-differ, at the first such slot
+With --items a line for each item that a viewer sees follows that of its page, where the page is sent unchanged, one of
+  PAGE ITEM F fields S s               the item alone is certified with a deadline of F fields, and no less
+  PAGE ITEM never sent N near A cut B  no deadline is enough for it
 and then one of
   all F fields S s                     the deadline for all pages
   all never                            a page has none
@@ -236,6 +239,8 @@ Statuses:
   2  error: .. (the words), refused: twice, refused: cycle NUMBER NAME [REST],
      refused: service NUMBER NAME [KEY] page N, refused: service too-long
   3  fault: file, fault: read, fault: write, fault: memory";
+
+pub(crate) const ITEMS_OPTION: &str = "Tell of each item of each page, too";
 
 pub(crate) const SEND: &str = "Sends a cycle again and again, with the time, to standard output";
 

@@ -131,6 +131,8 @@ pub enum Order<'a> {
         service: &'a str,
         repeat: u8,
         class: Class,
+        /// Whether each item of a page has a line, too.
+        items: bool,
     },
     /// Send a cycle again and again, with the time.
     Send {

@@ -348,6 +348,7 @@ fn waited<'a>(values: &ArgMatches<'a>) -> Order<'a>
         service: text_of(values, "service"),
         repeat: within(given_number(values, "repeat"), 1, 8, 1) as u8,
         class: class_of(values),
+        items: is_set(values, "items"),
     }
 }
 

@@ -16,36 +16,37 @@ use Rattle.ttx_tool.specs.FindingFiles.{IsNoFinding}
 use Rattle.ttx_tool.specs.declared.commands.waiting.Told.{Told}
 use Rattle.ttx_tool.specs.declared.faults.ToolFault.{ToolFault}
 use Rattle.ttx_tool.specs.declared.faults.ToolFault.TheVariants.{Cycle, Read, Write}
-use Rattle.ttx_wait.specs.Reports.{IsReport}
+use Rattle.ttx_wait.specs.Reports.{IsReportWith}
+use Rattle.ttx_wait.specs.declared.reports.Detail.{Detail}
 
 abbrev pub wait_status : Option ℕ → ℕ
 wait_status None = 1
 wait_status (Some deadline) = 0
 
 -- the lines of a report on the slots and the pages of the service, and the status of its deadline
-pub record IsWaitOf (slots : List (List ℕ)) (service : ServiceFields) (repeat : ℕ) (class : Class) (text : List ℕ) (status : ℕ) : Type 0 where
+pub record IsWaitOf (slots : List (List ℕ)) (service : ServiceFields) (repeat : ℕ) (class : Class) (detail : Detail) (text : List ℕ) (status : ℕ) : Type 0 where
   pub deadline : Option ℕ
-  pub report : IsReport slots (pages_of service) class repeat service.lines text deadline
+  pub report : IsReportWith detail slots (pages_of service) class repeat service.lines text deadline
   pub status_is : status ≡ wait_status deadline
 
 -- the same of a packet file and the text of a service
-pub record IsWaiting (a b : List ℕ) (repeat : ℕ) (class : Class) (text : List ℕ) (status : ℕ) : Type 0 where
+pub record IsWaiting (a b : List ℕ) (repeat : ℕ) (class : Class) (detail : Detail) (text : List ℕ) (status : ℕ) : Type 0 where
   pub slots : List (List ℕ)
   pub service : ServiceFields
   pub cycle_is : IsPacketFile a slots
   pub service_is : IsService b service
-  pub told : IsWaitOf slots service repeat class text status
+  pub told : IsWaitOf slots service repeat class detail text status
 
-abbrev pub WaitsText : List ℕ → List ℕ → ℕ → Class → Result Told ToolFault → Type 0
-WaitsText a b repeat class (Ok told) = IsWaiting a b repeat class (string_bytes told.text) told.status
-WaitsText a b repeat class (Err fault) = IsNoFinding a b fault
+abbrev pub WaitsText : List ℕ → List ℕ → ℕ → Class → Detail → Result Told ToolFault → Type 0
+WaitsText a b repeat class detail (Ok told) = IsWaiting a b repeat class detail (string_bytes told.text) told.status
+WaitsText a b repeat class detail (Err fault) = IsNoFinding a b fault
 
 -- Ok: the lines went out. A write fault: their first `written` bytes. Else nothing, and why there is no cycle or no service.
-abbrev pub Waits : List ℕ → List ℕ → ℕ → Class → Option (List ℕ) → Option (List ℕ) → Result ℕ ToolFault → Type 0
-Waits a b repeat class old new (Ok status) = (text : List ℕ) × IsWaiting a b repeat class text status × Appends old new text
-Waits a b repeat class old new (Err (Write written)) =
-    (text : List ℕ) × (status : ℕ) × IsWaiting a b repeat class text status × (written < length text) × Appends old new (take written text)
-Waits a b repeat class old new (Err fault) = IsNoFinding a b fault × Keeps old new
+abbrev pub Waits : List ℕ → List ℕ → ℕ → Class → Detail → Option (List ℕ) → Option (List ℕ) → Result ℕ ToolFault → Type 0
+Waits a b repeat class detail old new (Ok status) = (text : List ℕ) × IsWaiting a b repeat class detail text status × Appends old new text
+Waits a b repeat class detail old new (Err (Write written)) =
+    (text : List ℕ) × (status : ℕ) × IsWaiting a b repeat class detail text status × (written < length text) × Appends old new (take written text)
+Waits a b repeat class detail old new (Err fault) = IsNoFinding a b fault × Keeps old new
 
 -- the faults counted by the readers of the cycle and of the service, and by the writer
 abbrev pub CountsWait : {T : Type 0} → Result T ToolFault → ℕ → ℕ → ℕ → ℕ → ℕ → ℕ → Type 0

@@ -15,7 +15,7 @@ use std::io::{Read, Write};
 use ttx_cycle::{Counted, Cycle, read_cycle, write_bytes};
 use ttx_page::Class;
 use ttx_source::Service;
-use ttx_wait::report;
+use ttx_wait::{Detail, report_with};
 
 // The lines, and the status.
 #[derive(Drop)]
@@ -40,19 +40,21 @@ fn tell(
     service: &Service,
     repeat: u8,
     class: Class,
+    detail: Detail,
 ) -> Result<Told, ToolFault>
     requires some { 1 ≤ repeat }
     requires few { repeat ≤ 8 }
-    ensures told { IfOk result (λ told. IsWaitOf (slots_of cycle.now) service.now repeat class (string_bytes told.text) told.status) }
+    ensures told { IfOk result (λ told. IsWaitOf (slots_of cycle.now) service.now repeat class detail (string_bytes told.text) told.status) }
     ensures memory { IfErr result (λ fault. fault ≡ ToolFault.NoMemory) }
 {
-    let Ok(report) = report(
+    let Ok(report) = report_with(
         alloc,
         cycle,
         service.pages(),
         class,
         repeat,
         service.lines(),
+        detail,
     ) else {
         return Err(ToolFault::NoMemory);
     };
@@ -70,10 +72,11 @@ fn wait_text<A: Read, B: Read>(
     service: &mut Counted<B>,
     repeat: u8,
     class: Class,
+    detail: Detail,
 ) -> Result<Told, ToolFault>
     requires some { 1 ≤ repeat }
     requires few { repeat ≤ 8 }
-    ensures bytes { IfSome (A.remaining (inner_of cycle.old)) (λ a. IfSome (B.remaining (inner_of service.old)) (λ b. WaitsText a b repeat class result)) }
+    ensures bytes { IfSome (A.remaining (inner_of cycle.old)) (λ a. IfSome (B.remaining (inner_of service.old)) (λ b. WaitsText a b repeat class detail result)) }
     ensures faults { CountsInputs result (faults_of cycle.old) (faults_of cycle.new) (faults_of service.old) (faults_of service.new) }
 {
     let cycle = match read_cycle(alloc, cycle) {
@@ -84,14 +87,14 @@ fn wait_text<A: Read, B: Read>(
         Ok(service) => service,
         Err(fault) => return Err(fault),
     };
-    match tell(alloc, &cycle, &service, repeat, class) {
+    match tell(alloc, &cycle, &service, repeat, class, detail) {
         Ok(told) => Ok(told),
         Err(_) => Err(ToolFault::NoMemory),
     }
 }
 
 /// Reads a packet file and the text of a service, and writes how long viewers of each page of the service wait, and what they
-/// wait for, to receivers of the class; `repeat` is 1 to 8. The status is 0 where there is a deadline for all pages, else 1.
+/// wait for, to receivers of the class, in the lines that `detail` asks for; `repeat` is 1 to 8. The status is 0 where there is a deadline for all pages, else 1.
 ///
 /// Nothing is written before all is told. At `Write` exactly the first `written` bytes of the lines went out; at each other
 /// fault the writer is as it was.
@@ -101,17 +104,18 @@ pub fn wait<A: Read, B: Read, W: Write>(
     service: &mut Counted<B>,
     repeat: u8,
     class: Class,
+    detail: Detail,
     writer: &mut Counted<W>,
 ) -> Result<u8, ToolFault>
     requires some { 1 ≤ repeat }
     requires few { repeat ≤ 8 }
-    ensures bytes { IfSome (A.remaining (inner_of cycle.old)) (λ a. IfSome (B.remaining (inner_of service.old)) (λ b. Waits a b repeat class
+    ensures bytes { IfSome (A.remaining (inner_of cycle.old)) (λ a. IfSome (B.remaining (inner_of service.old)) (λ b. Waits a b repeat class detail
         (W.contents (inner_of writer.old)) (W.contents (inner_of writer.new)) result)) }
     ensures faults { CountsWait result (faults_of cycle.old) (faults_of cycle.new) (faults_of service.old) (faults_of service.new)
         (faults_of writer.old) (faults_of writer.new) }
     ensures untouched { IsUntouched is_write result writer.old writer.new }
 {
-    let told = wait_text(alloc, cycle, service, repeat, class)?;
+    let told = wait_text(alloc, cycle, service, repeat, class, detail)?;
     write_bytes(writer, told.text.as_bytes()).map_err(ToolFault::from_write)?;
     Ok(told.status)
 }

@@ -7,4 +7,5 @@ returns c =
     let cycle = c.with_operand-wait.ensures _ _ (search rules) named in
     let service = c.with_operand-wait-2.ensures _ _ (search rules) cycle in
     let repeat = c.with_number-wait.ensures _ _ (search rules) service in
-    c.with_class.ensures _ repeat
+    let class = c.with_class-wait.ensures _ repeat in
+    c.with_flag.ensures _ _ (search rules) class
