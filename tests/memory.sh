@@ -1,6 +1,6 @@
 #!/bin/sh
-# Runs the built program in less and less memory (address space, in KiB), over a cycle of 65,520 slots and a service of 25
-# pages. Each command either does what it does with enough memory, or ends with `fault: memory`, status 3, and OUT empty or
+# Runs the built program in less and less memory (for data, in KiB: all that is allocated, but not the stack), over a cycle of
+# 65,520 slots and a service of 25 pages. Each command either does what it does with enough memory, or ends with `fault: memory`, status 3, and OUT empty or
 # not made; and each does both somewhere.
 #
 # usage: memory.sh PROGRAM
@@ -44,11 +44,11 @@ for command in "inspect long.t42" "plan broadcast.toml out" "plan broadcast.toml
     # shellcheck disable=SC2086
     "$program" $command > wanted.stdout || exit 1
     [ -f out ] && mv out wanted.out
-    for room in $(seq 2000 125 14500); do
+    for room in $(seq 100 125 12600); do
         name="$command, $room KiB"
         : > out
         # shellcheck disable=SC2086
-        (ulimit -v "$room" && exec "$program" $command) > stdout 2> stderr
+        (ulimit -d "$room" && exec "$program" $command) > stdout 2> stderr
         status=$?
         runs=$((runs + 1))
         judge

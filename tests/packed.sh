@@ -18,7 +18,7 @@ fi
 offered() {
     bash -c 'source "$1"; shift; COMP_WORDS=("$@"); COMP_CWORD=$(($# - 1)); compopt() { :; }; _ttx; echo "${COMPREPLY[@]}"' bash "$work/ttx.bash" "$@"
 }
-[ "$(offered ttx re)" = "refute receive" ] || fail "bash: ttx re: $(offered ttx re)"
+[ "$(offered ttx re)" = "refute replay receive" ] || fail "bash: ttx re: $(offered ttx re)"
 [ "$(offered ttx receive x --ki)" = "--kind" ] || fail "bash: --ki: $(offered ttx receive x --ki)"
 [ "$(offered ttx show x 100 --as s)" = "svg" ] || fail "bash: --as s: $(offered ttx show x 100 --as s)"
 
