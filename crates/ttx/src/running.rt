@@ -223,11 +223,7 @@ fn wait(
     let mut writer = Counted::new(io::writer(rt));
     // The words have it in this range.
     let repeat = repeat.clamp(1, 8);
-    let detail = if items {
-        Detail::Items
-    } else {
-        Detail::Pages
-    };
+    let detail = if items { Detail::Items } else { Detail::Pages };
     commands::wait(
         rt.alloc(),
         &mut cycle,
