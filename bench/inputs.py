@@ -63,13 +63,17 @@ def body(number):
     return [f"PAGE {number} ROW {r} OF A SERVICE" for r in range(1, 24)]
 
 
-def cycle(slots, pages, lines, inhibit=False):
+def blank(_):
+    return [""] * 23
+
+
+def cycle(slots, pages, lines, inhibit=False, text_of=body):
     """A serial cycle of this many slots that sends the pages in turn, as often as they fit whole."""
     out = []
     blocks = []
     for number, (mag, page, sub) in enumerate(page_ids(pages)):
         block = [header(mag, page, sub, 8 if inhibit else 0, 1, f"PAGE {number}")] + [EMPTY] * lines
-        block += [] if inhibit else [row(mag, r, text) for r, text in enumerate(body(number), 1)]
+        block += [] if inhibit else [row(mag, r, text) for r, text in enumerate(text_of(number), 1)]
         blocks.append([*block, links(mag)])
     at = 0
     while len(out) + len(blocks[at % pages]) <= slots:
@@ -80,19 +84,21 @@ def cycle(slots, pages, lines, inhibit=False):
     return b"".join(out)
 
 
-def service(pages, lines, inhibit):
+def service(pages, lines, inhibit, text_of=body):
     """A service of pages of 23 rows; where their display is inhibited no row is sent."""
     out = [f"lines = {lines}", "serial = true", ""]
     for number, (mag, page, sub) in enumerate(page_ids(pages)):
         out += ["[[page]]", f'number = "{mag}{page:02X}"', f'sub = "{sub:04X}"', f'head = "PAGE {number}"']
         out += ["inhibit = true"] if inhibit else []
         out += ["[page.rows]"]
-        out += [f'{r} = "{text}"' for r, text in enumerate(body(number), 1)]
+        out += [f'{r} = "{text}"' for r, text in enumerate(text_of(number), 1) if text]
         out.append("")
     return "\n".join(out) + "\n"
 
 
 def main():
+    if len(sys.argv) != 2 or sys.argv[1].startswith("-"):
+        sys.exit(__doc__)
     folder = Path(sys.argv[1])
     folder.mkdir(parents=True, exist_ok=True)
     for slots, pages in ((8192, 250), (16384, 500), (32768, 1000), (65536, 2000)):
@@ -102,6 +108,12 @@ def main():
         (folder / f"inhibited-{slots}.t42").write_bytes(cycle(slots, 2000, 1, True))
     (folder / "inhibited.toml").write_text(service(2000, 1, True))
     (folder / "sent.toml").write_text(service(2000, 1, False))
+    # blank rows are sent, so nearly each item has a start of its own, and there is little text to read
+    (folder / "blank-65536.t42").write_bytes(cycle(65536, 2000, 1, text_of=blank))
+    (folder / "blank.toml").write_text(service(2000, 1, False, blank))
+    # one page, whose header comes each 28 slots
+    (folder / "one-page.t42").write_bytes(cycle(28, 1, 3))
+    (folder / "one-page.toml").write_text(service(1, 1, False))
     (folder / "42-mb").write_bytes(bytes(42_000_000))
     subpages = "".join(f'[[page]]\nnumber = "100"\nsub = "{sub:04X}"\n' for sub in subcodes(1213))
     (folder / "subpages.toml").write_text("lines = 2\nserial = true\n" + subpages)

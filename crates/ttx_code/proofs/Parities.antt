@@ -9,6 +9,7 @@ use lib.Lanes.{zip2}
 use lib.Count.{ones_in, ones as count_ones}
 use Rattle.ttx_code.specs.Words.{ones, distance, IsOdd, is_odd, odd_byte}
 use Rattle.ttx_code.specs.Laws.{OddBytesUnderOneWrongBit, OddBytesHoldTheirCodes}
+use Rattle.ttx_code.specs.declared.parity.TheConstants.{ODD_BYTES}
 use Rattle.ttx_code.proofs.Numbers.{implied}
 
 -- the library counts ones as the definition does
@@ -18,6 +19,10 @@ ones_agree = refl
 
 pub ones_at : (b : ℕ) → b < 256 → count_ones b ≡ ones b
 ones_at b l = eqb-true _ _ (agree_below_at (λ b. eqb (count_ones b) (ones b)) (λ _. true) 256 b ones_agree l)
+
+pub odd_byte_at : (n : ℕ) → n < 128 → get_or ODD_BYTES n 0 ≡ odd_byte n
+unfolding ones
+odd_byte_at n l = eqb-true _ _ (agree_below_at (λ n. eqb (get_or ODD_BYTES n 0) (odd_byte n)) (λ _. true) 128 n refl l)
 
 abbrev pub odd_or_same : ℕ → ℕ → Bool
 odd_or_same a b = not (leb (distance a b) 1 && is_odd a && is_odd b) || eqb b a

@@ -6,12 +6,25 @@ ghost use Rattle.ttx_code.specs.Words.{IsOdd, odd_byte, stored};
 
 use crate::{lanes, plain};
 
+// The byte that sends each character.
+#[rattlefmt::skip]
+static ODD_BYTES: [u8; 128] = [
+    128,   1,   2, 131,   4, 133, 134,   7,   8, 137, 138,  11, 140,  13,  14, 143,
+     16, 145, 146,  19, 148,  21,  22, 151, 152,  25,  26, 155,  28, 157, 158,  31,
+     32, 161, 162,  35, 164,  37,  38, 167, 168,  41,  42, 171,  44, 173, 174,  47,
+    176,  49,  50, 179,  52, 181, 182,  55,  56, 185, 186,  59, 188,  61,  62, 191,
+     64, 193, 194,  67, 196,  69,  70, 199, 200,  73,  74, 203,  76, 205, 206,  79,
+    208,  81,  82, 211,  84, 213, 214,  87,  88, 217, 218,  91, 220,  93,  94, 223,
+    224,  97,  98, 227, 100, 229, 230, 103, 104, 233, 234, 107, 236, 109, 110, 239,
+    112, 241, 242, 115, 244, 117, 118, 247, 248, 121, 122, 251, 124, 253, 254, 127,
+];
+
 /// The byte that sends a character below 128: the character in bits 1 to 7, and bit 8 makes the parity odd.
 pub fn odd(c: u8) -> u8
     requires { c < 128 }
     ensures { result ≡ odd_byte c }
 {
-    if c.count_ones() % 2 == 1 { c } else { c + 128 }
+    ODD_BYTES[usize::from(c)]
 }
 
 /// The character that the byte sends; `None` where its parity is even.

@@ -1,3 +1,4 @@
+pub mod Chunks
 mod PutParts
 mod JudgedOnce
 mod GivenSlots

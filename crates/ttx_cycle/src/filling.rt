@@ -32,6 +32,30 @@ pub(crate) fn fill<R: Read>(
     Ok(at)
 }
 
+// Reads until the block is full or the reader ends, and says how many bytes came.
+pub(crate) fn fill_block<R: Read>(
+    reader: &mut Counted<R>,
+    block: &mut [u8],
+) -> Result<usize, CycleFault>
+    ensures count { IfOk result (λ n. n ≤ length block.old) }
+    ensures size { length block.new ≡ length block.old }
+    ensures bytes { IfOk result (λ n. Consumes (R.remaining (inner_of reader.old)) (R.remaining (inner_of reader.new)) (take n block.new)) }
+    ensures end { IfOk result (λ n. n < length block.old → IsAtEnd (R.remaining (inner_of reader.new))) }
+    ensures calls { calls_of reader.new ≤ calls_of reader.old + length block.old }
+    ensures faults { CountsRead result (faults_of reader.old) (faults_of reader.new) }
+    ensures read { OnErr result (result ≡ Err CycleFault.Read) }
+{
+    let mut at = 0;
+    while at < block.len() {
+        match reader.read(&mut block[at..]) {
+            Ok(0) => return Ok(at),
+            Ok(count) => at += count,
+            Err(_) => return Err(CycleFault::Read),
+        }
+    }
+    Ok(at)
+}
+
 // Whether no byte is left. Where one is left it is read and dropped.
 pub(crate) fn is_at_end<R: Read>(reader: &mut Counted<R>) -> Result<bool, CycleFault>
     ensures end { result ≡ Ok true → IsAtEnd (R.remaining (inner_of reader.old)) }

@@ -1,15 +1,59 @@
 //! Reads packet files.
 
-ghost use Rattle.std.specs.Prelude.{◌+◌, ◌≤◌, IfSome};
+ghost use Rattle.std.specs.Prelude.{◌≡◌, ◌+◌, ◌*◌, ◌/◌, ◌≤◌, ◌++◌, length, take, drop, vec_len, OnOk, IfSome, ℕ};
+ghost use Rattle.ttx_cycle.specs.Files.{file_of};
 ghost use Rattle.ttx_cycle.specs.Counters.{inner_of, calls_of, faults_of};
 ghost use Rattle.ttx_cycle.specs.Reading.{Judged, CountsRead};
 
 use crate::counted::Counted;
 use crate::cycles::Cycle;
 use crate::faults::CycleFault;
-use crate::slot_reader::SlotReader;
-use std::alloc::Global;
+use crate::filling::fill_block;
+use std::alloc::{AllocError, Global};
 use std::io::Read;
+
+// Room for the 32 slots that are read at once.
+fn block_of_zeros() -> [u8; 1344]
+    ensures { length result ≡ 1344 }
+{
+    [0; 1344]
+}
+
+// The slot at the front of some bytes.
+fn first_slot(bytes: &[u8]) -> &[u8; 42]
+    requires { 42 ≤ length bytes.now }
+    ensures { result.now ≡ take 42 bytes.now }
+{
+    bytes.first_chunk::<42>().unwrap()
+}
+
+// Slot i of some bytes.
+fn slot_at(bytes: &[u8], i: usize) -> &[u8; 42]
+    requires { 42 * i + 42 ≤ length bytes.now }
+    ensures { result.now ≡ take 42 (drop (42 * i) bytes.now) }
+{
+    first_slot(&bytes[42 * i..])
+}
+
+// Adds the whole slots in some bytes.
+fn add_slots(slots: &mut Vec<[u8; 42]>, bytes: &[u8]) -> Result<(), AllocError>
+    ensures count { OnOk result (vec_len slots.new ≡ vec_len slots.old + length bytes.now / 42) }
+    ensures bytes { OnOk result (file_of slots.new.items ++ drop (42 * (length bytes.now / 42)) bytes.now ≡ file_of slots.old.items ++ bytes.now) }
+{
+    for i in 0..bytes.len() / 42 {
+        slots.push(*slot_at(bytes, i))?;
+    }
+    Ok(())
+}
+
+// The cycle of all the slots of a file.
+fn cycle_of(slots: Vec<[u8; 42]>) -> Result<Cycle, CycleFault>
+    requires { vec_len slots ≤ 65536 }
+    ensures bytes { Judged (file_of slots.items) result }
+    ensures faults { (n : ℕ) → CountsRead result n n }
+{
+    Cycle::of(slots).ok_or(CycleFault::Empty)
+}
 
 /// Reads a packet file to its end.
 ///
@@ -21,10 +65,21 @@ pub fn read_cycle<R: Read>(alloc: Global, reader: &mut Counted<R>) -> Result<Cyc
     ensures calls { calls_of reader.new ≤ calls_of reader.old + 2752514 }
 {
     let mut slots = Vec::new(alloc);
-    let mut slot = [0; 42];
-    let mut slot_reader = SlotReader::new();
-    while slot_reader.next(reader, &mut slot)? {
-        slots.push(slot).map_err(|_| CycleFault::NoMemory)?;
+    let mut block = block_of_zeros();
+    for i in 0..2048usize {
+        let count = fill_block(reader, &mut block)?;
+        add_slots(&mut slots, &block[..count]).map_err(|_| CycleFault::NoMemory)?;
+        if count < 1344 {
+            if count % 42 > 0 {
+                return Err(CycleFault::Truncated { rest: count % 42 });
+            }
+            return Cycle::of(slots).ok_or(CycleFault::Empty);
+        }
     }
-    Cycle::of(slots).ok_or(CycleFault::Empty)
+    let mut more = [0; 1];
+    if fill_block(reader, &mut more)? == 0 {
+        cycle_of(slots)
+    } else {
+        Err(CycleFault::TooLong)
+    }
 }

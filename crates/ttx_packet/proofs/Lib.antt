@@ -1,3 +1,4 @@
+pub mod Unions
 pub mod Choices
 pub mod Cases
 pub mod Receptions

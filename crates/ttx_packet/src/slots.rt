@@ -33,11 +33,15 @@ fn text_of(bytes: &[u8; 42]) -> &[u8; 40]
     bytes.last_chunk::<40>().unwrap()
 }
 
-// Whether all bytes are zero.
+// Whether all bytes are zero: no bit is set in their union.
 fn is_zero(bytes: &[u8]) -> bool
     ensures { result ≡ is_empty bytes.now }
 {
-    bytes.iter().all(|b| *b == 0)
+    let mut union = 0;
+    for i in 0..bytes.len() {
+        union |= bytes[i];
+    }
+    union == 0
 }
 
 // Whether each byte is readable.

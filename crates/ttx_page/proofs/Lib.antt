@@ -1,3 +1,5 @@
+mod Unions
+mod Heights
 pub mod Rules
 pub mod Kept
 pub mod PageLists

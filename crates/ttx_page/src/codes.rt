@@ -3,16 +3,15 @@
 ghost use Rattle.std.specs.Prelude.{◌≡◌, ℕ, ◌<◌, ◌↔◌, IsTrue, length, slice_index, slice_index_or, []};
 ghost use Rattle.ttx_page.specs.Pages.{IsRow};
 
-/// Whether each character is below 128.
+/// Whether each character is below 128: bit 7 isn't set in their union.
 fn are_codes(row: &[u8]) -> bool
     ensures { IsTrue result ↔ ((c : ℕ) → slice_index row.now c < 128) }
 {
-    for code in row {
-        if *code >= 128 {
-            return false;
-        }
+    let mut union = 0;
+    for i in 0..row.len() {
+        union |= row[i];
     }
-    true
+    union < 128
 }
 
 /// Whether each of the 24 characters of row 0 is below 128.

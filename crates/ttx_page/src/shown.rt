@@ -27,9 +27,12 @@ fn is_hidden(page: &Page, number: u8) -> bool
     requires to { number ≤ 24 }
     ensures { result ≡ is_hidden (page_row (page_of page.now)) number }
 {
+    // Of rows in double height that stand one below another every second one is hidden, so the row above decides first.
     let mut hidden = false;
-    for above in 1..number {
-        hidden = above <= 22 && !hidden && has_double_height(page, above);
+    let mut at = number;
+    while 1 < at && at <= 23 && has_double_height(page, at - 1) {
+        at -= 1;
+        hidden = !hidden;
     }
     hidden
 }

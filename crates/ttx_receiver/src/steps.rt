@@ -1,14 +1,18 @@
 //! What one slot does to a memory, by the receiver's choice.
 
-ghost use Rattle.std.specs.Prelude.{◌≡◌, ◌≤◌, ◌++◌, drop, true, ◌==◌, ◌&&◌, nat_le};
+ghost use Rattle.std.specs.Prelude.{◌≡◌, ◌≤◌, ◌++◌, ℕ, Bool, IsTrue, drop, true, ◌==◌, ◌&&◌, nat_le};
 ghost use Rattle.ttx_header.specs.Headers.{is_header, id_of, control_of};
 ghost use Rattle.ttx_links.specs.Sets.{links_of};
+ghost use Rattle.ttx_packet.specs.Slots.{magazine};
 ghost use Rattle.ttx_page.specs.Packets.{packet_of, Header as HeaderPacket, Row as RowPacket, Links as LinksPacket};
 ghost use Rattle.ttx_page.specs.Pages.{selected_mag};
 ghost use Rattle.ttx_page.specs.Receivers.{after, erases, has_choice, misses};
 ghost use Rattle.ttx_page.specs.Views.{memory_of};
+ghost use Rattle.ttx_page.specs.Memories.{Memory};
+ghost use Rattle.ttx_page.specs.declared.class.Class.{Class as ClassValue};
 ghost use Rattle.ttx_page.specs.declared.class.Class.TheVariants.{Any};
 
+use ttx_code::unham;
 use ttx_header::{Header, read_header};
 use ttx_links::read_links;
 use ttx_packet::slots::{Slot, slot_of};
@@ -123,8 +127,29 @@ fn take_header_bytes(
     }
 }
 
-/// One slot, the memory's age grown already: what it does by the receiver's choice.
-pub(crate) fn take_slot(
+// The magazine in the number of byte 0.
+fn magazine_in(low: u8) -> u8
+    ensures { result ≡ magazine low }
+{
+    if low % 8 == 0 { 8 } else { low % 8 }
+}
+
+// Whether the address alone says that the slot changes no memory: the packet is of another magazine, and no page header.
+fn is_elsewhere(slot: &[u8; 42], selection: &Selection) -> bool
+    ensures { IsTrue result → (class : ClassValue) (lines : ℕ) (choice : Bool) (m : Memory) → m ≡ after class lines selection.now choice m (packet_of slot.now) }
+{
+    let Some(low) = unham(slot[0]) else {
+        return false;
+    };
+    let Some(high) = unham(slot[1]) else {
+        return false;
+    };
+    magazine_in(low) != magazine_of(selection) && low / 8 + 2 * high != 0
+}
+
+// One slot, whatever its magazine.
+#[inline(never)]
+fn take_any(
     memory: &mut PageMemory,
     class: Class,
     lines: u8,
@@ -154,6 +179,23 @@ pub(crate) fn take_slot(
         Slot::Unreadable => {}
         Slot::Info(_, _) => {}
         Slot::Other(_) => {}
+    }
+}
+
+/// One slot, the memory's age grown already: what it does by the receiver's choice. Most slots are of other magazines.
+#[inline(always)]
+pub(crate) fn take_slot(
+    memory: &mut PageMemory,
+    class: Class,
+    lines: u8,
+    selection: &Selection,
+    choice: bool,
+    slot: &[u8; 42],
+)
+    ensures { memory_of memory.new ≡ after class lines selection.now choice (memory_of memory.old) (packet_of slot.now) }
+{
+    if !is_elsewhere(slot, selection) {
+        take_any(memory, class, lines, selection, choice, slot);
     }
 }
 

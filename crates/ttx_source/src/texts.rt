@@ -1,11 +1,11 @@
 //! Texts of characters, page numbers, subcodes and links.
 
-ghost use Rattle.std.specs.Prelude.{◌≡◌, ◌≢◌, ◌≤◌, ◌<◌, ◌+◌, ◌-◌, ◌++◌, length, replicate, nat_lt, slice_index, ℕ, IfSome, IfOk};
+ghost use Rattle.std.specs.Prelude.{◌≡◌, ◌≢◌, ◌≤◌, ◌<◌, ◌+◌, ◌-◌, ◌++◌, length, replicate, nat_lt, slice_index, ℕ, Err, IfSome, IfOk};
 ghost use Rattle.std.specs.List.{list_all};
 ghost use Rattle.std.specs.Str.{chars};
 ghost use Rattle.ttx_header.specs.Ids.{IsSubcode};
 ghost use Rattle.ttx_source.specs.Values as rule;
-ghost use Rattle.ttx_source.specs.Faults.{outcome};
+ghost use Rattle.ttx_source.specs.Faults.{outcome, fault_of};
 
 use crate::digits::{first_number, four_digits, two_digits};
 use crate::faults::SourceFault;
@@ -21,11 +21,27 @@ fn char_count(text: &str) -> usize
     text.chars().count()
 }
 
-// Whether each byte is a code below 128.
-fn is_plain(text: &str) -> bool
-    ensures { result ≡ list_all (λ b. nat_lt b 128) text.now }
+// Whether each byte is a code below 128: bit 7 isn't set in their union.
+fn is_plain(bytes: &[u8]) -> bool
+    ensures { result ≡ list_all (λ b. nat_lt b 128) bytes.now }
 {
-    text.as_bytes().iter().all(|b| *b < 128)
+    let mut union = 0;
+    for i in 0..bytes.len() {
+        union |= bytes[i];
+    }
+    union < 128
+}
+
+// The fault of a text of more bytes than characters may be.
+fn long_fault(text: &str, most: usize) -> SourceFault
+    requires { most < length text.now }
+    ensures { Err (fault_of result) ≡ rule.characters most text.now }
+{
+    if char_count(text) > most {
+        SourceFault::RowTooLong
+    } else {
+        SourceFault::Character
+    }
 }
 
 // The bytes, with spaces at the end.
@@ -43,13 +59,16 @@ pub fn characters<const N: usize>(text: &str) -> Result<[u8; N], SourceFault>
     ensures value { outcome (λ r. r) result ≡ rule.characters N text.now }
     ensures codes { IfOk result (λ row. (c : ℕ) → slice_index row c < 128) }
 {
-    if char_count(text) > N {
-        return Err(SourceFault::RowTooLong);
+    let bytes = text.as_bytes();
+    if bytes.len() > N {
+        return Err(long_fault(text, N));
     }
-    if !is_plain(text) {
-        return Err(SourceFault::Character);
+    let codes = padded::<N>(bytes);
+    if is_plain(&codes) {
+        Ok(codes)
+    } else {
+        Err(SourceFault::Character)
     }
-    Ok(padded::<N>(text.as_bytes()))
 }
 
 /// The magazine and the page number that `MPP` names.

@@ -9,7 +9,7 @@ ghost use Rattle.ttx_info.specs.Infos.{info_of};
 ghost use Rattle.ttx_tool.specs.Texts.{date_text, time_text};
 ghost use Rattle.ttx_tool.specs.Lines.{packet_text, set_names, header_text, link_fields_text, number_of_fault, info_text, corrected_text, line_of, lines_from};
 
-use crate::texts::{push_date, push_links, push_time};
+use crate::texts::{push_date, push_decimal, push_links, push_time};
 use bitflags::{Flag, Flags};
 use std::alloc::{AllocError, Global};
 use ttx_header::{Control, Header, read_header};
@@ -105,9 +105,13 @@ fn push_info(text: &mut String, info: &Result<Info, InfoFault>) -> Result<(), Al
 fn push_packet(text: &mut String, slot: usize, at: Address, kind: &str) -> Result<(), AllocError>
     ensures { OnOk result (string_bytes text.new ≡ string_bytes text.old ++ decimal slot ++ 32 ∷ packet_text at.mag at.number kind.now) }
 {
-    let mag = at.mag;
-    let number = at.number;
-    write!(text, "{slot} {mag}/{number} {kind}")
+    push_decimal(text, slot)?;
+    text.push(' ')?;
+    push_decimal(text, usize::from(at.mag))?;
+    text.push('/')?;
+    push_decimal(text, usize::from(at.number))?;
+    text.push(' ')?;
+    text.push_str(kind)
 }
 
 // Ends the line of a packet.

@@ -1,23 +1,25 @@
-use Rattle.std.proofs.Common.{◌∙◌, sym, arith}
-use Rattle.std.proofs.lemmas.Grind.{common_steps}
-use Rattle.std.proofs.lemmas.Bool.Decides.{nat_tests}
-use Rattle.ttx_source.proofs.Plain.{plain_length}
+use Rattle.std.proofs.Common.{◌∙◌, ◌≡◌, ◌≤◌, ◌-◌, ◌++◌, true, false, length, nat_lt, replicate, Ok, refl, ap, sym, arith}
+use Rattle.std.specs.List.{list_all}
 use Rattle.ttx_source.specs.Values.{characters}
+use Rattle.ttx_source.proofs.Plain.{few_bytes, plain_padded}
 use Rattle.ttx_source.proofs.texts.characters.Goals as goal
 
-pub returns-then-char_count : goal.returns-then-char_count
+pub returns-then-is_plain-clause-value : goal.returns-then-is_plain-clause-value
 unfolding characters
-returns-then-char_count g c = grind (arith, common_steps, nat_tests)
+returns-then-is_plain-clause-value g c =
+    let t = c.args.text.now in
+    let few : length t ≤ g.row.N = omega (arith, c.if-bytes.false, ap length c.as_bytes-bytes.ensures.value) in
+    let codes = c.padded-codes.ensures ∙ ap (λ b. b ++ replicate (g.row.N - length b) 32) c.as_bytes-bytes.ensures.value in
+    let plain : list_all (λ b. nat_lt b 128) t ≡ true =
+    sym (plain_padded t (g.row.N - length t)) ∙ ap (list_all (λ b. nat_lt b 128)) (sym codes) ∙ sym c.is_plain.ensures ∙ c.if-is_plain.true in
+    rw (few_bytes t g.row.N few, plain) (ap Ok codes)
 
-pub returns-then-not-is_plain : goal.returns-then-not-is_plain
+pub returns-else-is_plain-clause-value : goal.returns-else-is_plain-clause-value
 unfolding characters
-returns-then-not-is_plain g c = grind (arith, common_steps, nat_tests)
-
-pub padded-requires : goal.padded-requires
-padded-requires g c =
-    let same = plain_length c.args.text.now (sym c.is_plain.ensures ∙ c.if-not-is_plain.false) in
-    grind (arith, common_steps, same, c.as_bytes.ensures.value)
-
-pub returns : goal.returns
-unfolding characters
-returns g c = grind (arith, common_steps, nat_tests, c.as_bytes.ensures.value)
+returns-else-is_plain-clause-value g c =
+    let t = c.args.text.now in
+    let few : length t ≤ g.row.N = omega (arith, c.if-bytes.false, ap length c.as_bytes-bytes.ensures.value) in
+    let codes = c.padded-codes.ensures ∙ ap (λ b. b ++ replicate (g.row.N - length b) 32) c.as_bytes-bytes.ensures.value in
+    let plain : list_all (λ b. nat_lt b 128) t ≡ false =
+    sym (plain_padded t (g.row.N - length t)) ∙ ap (list_all (λ b. nat_lt b 128)) (sym codes) ∙ sym c.is_plain.ensures ∙ c.if-is_plain.false in
+    rw (few_bytes t g.row.N few, plain) refl

@@ -6,7 +6,7 @@ use Rattle.ttx_page.specs.Packets.{Header, Row, Links}
 use Rattle.ttx_page.specs.Receivers.{after}
 use Rattle.ttx_page.specs.Views.{memory_of}
 use Rattle.ttx_receiver.proofs.ByKind.{packet_from, other_row, other_links}
-use Rattle.ttx_receiver.proofs.steps.take_slot.Goals as goal
+use Rattle.ttx_receiver.proofs.steps.take_any.Goals as goal
 
 pub take_row-requires : goal.take_row-requires
 take_row-requires c = (c.rows_are_numbered.ensures c.args.slot.now c.in-Row.at.mag c.in-Row.at.number c.in-Row.ensures.0).1
