@@ -6,6 +6,7 @@
 #
 # The files are made in a folder of their own, which is removed at the end. A time is the least of five runs, in milliseconds.
 set -u
+case ${1:--} in -*) sed -n '2,/^[^#]/s/^# \{0,1\}//p' "$0" >&2; exit 2 ;; esac
 . "$(dirname "$0")/../tests/workplace.sh"
 python3 "$top/bench/inputs.py" "$work"
 cd "$work" || exit 1
@@ -75,10 +76,29 @@ echo "2,000 pages, one empty slot: find $(tenths "$service") ms"
 echo "time at 65,536 slots beyond that, over that of sha256sum: find $(beyond "$find"), certify $(beyond "$certify") (goal: at most 3)"
 echo "time at 65,536 slots over time at 8,192: find $((find * 10 / first_find / 10)).$((find * 10 / first_find % 10)), certify $((certify * 10 / first_certify / 10)).$((certify * 10 / first_certify % 10)) (goal: at most 9)"
 
-echo
-printf '%-34s %10s %12s %18s\n' 'splice' 'splice, ms' 'certify, ms' 'splice of certify'
 "$program" find 65536.t42 sent.toml sent.cert > found
 cp 65536.cert inhibited.cert
+for repeat in 1 8; do
+    "$program" find blank-65536.t42 blank.toml "blank-$repeat.cert" --repeat "$repeat" > found
+done
+
+echo
+printf '%-42s %12s %14s %12s\n' 'certify and certify --twice' 'certify, ms' '--twice, ms' 'wait, ms'
+while read -r cycle service certificate repeat what; do
+    certify=$(least "$program" certify "$cycle" "$service" "$certificate")
+    twice=$(least "$program" certify "$cycle" "$service" "$certificate" --twice)
+    wait=$(least "$program" wait "$cycle" "$service" --repeat "$repeat")
+    printf '%-42s %12s %14s %12s\n' "$what, repeat $repeat" "$(tenths "$certify")" "$(tenths "$twice")" "$(tenths "$wait")"
+    "$program" certify "$cycle" "$service" "$certificate" --twice
+done <<END
+65536.t42 sent.toml sent.cert 1 2,000 pages, 65536 slots
+inhibited-65536.t42 inhibited.toml inhibited.cert 8 2,000 pages, 65536 slots
+blank-65536.t42 blank.toml blank-1.cert 1 50,000 named starts
+blank-65536.t42 blank.toml blank-8.cert 8 50,000 named starts
+END
+
+echo
+printf '%-34s %10s %12s %18s\n' 'splice' 'splice, ms' 'certify, ms' 'splice of certify'
 for service in inhibited sent; do
     case $service in sent) cycle=65536.t42 ;; *) cycle=inhibited-65536.t42 ;; esac
     files="$service.toml $service.toml $service.cert $service.cert"
@@ -114,6 +134,13 @@ hash=$(least sha256sum 42-mb)
 printf '%-34s %10s %14s %14s\n' '1,000,000 slots; 42,000,000 bytes' "$(tenths "$receive")" "$(tenths "$hash")" \
     "$(decoded 65536.t42 1000000)"
 echo "receive: time over that of sha256sum: $((receive * 100 / hash)) percent (goal: at most 20)"
+
+echo
+printf '%-34s %10s\n' 'show' 'ms'
+for form in text ansi svg html; do
+    show=$(least "$program" show 65536.t42 100 --slots 1000000 --as "$form")
+    printf '%-34s %10s\n' "1,000,000 slots, as $form" "$(tenths "$show")"
+done
 
 echo
 printf '%-34s %10s %14s\n' 'book' 'ms' 'sha256sum, ms'
