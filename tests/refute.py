@@ -210,9 +210,11 @@ def spoiled(rng, cycle):
     if what == 0:
         cycle[at] = EMPTY
     elif what == 1:
-        slot = bytearray(cycle[at])
-        slot[rng.randrange(42)] ^= 1 << rng.randrange(8)
-        cycle[at] = bytes(slot)
+        slot, place = bytearray(cycle[at]), rng.randrange(42)
+        slot[place] ^= 1 << rng.randrange(8)
+        # one wrong bit in an empty slot, or a second one in a byte of text, would make a character that may be no letter
+        text = {"header": 10, "row": 2}.get(packet_in(bytes(slot))[0], 42)
+        cycle[at] = cycle[at] if place >= text and bin(slot[place]).count("1") % 2 else bytes(slot)
     elif what == 2:
         cycle.insert(at, cycle[rng.randrange(len(cycle))])
     elif what == 3:
