@@ -4,6 +4,7 @@
 # make install    puts program, man page and completions under PREFIX (/usr/local)
 # make dist       dist/ttx-VERSION-x86_64-linux.tar.gz: program, man page and completions, and its checksum
 # make bench      times the program beside plain tools; writes nothing into the repository
+# make edits      tries each wrong body of the must-fail edits by itself; the gate tries those of one file together
 # make compare    compares what certify --late says with what libzvbi's decoder shows, where there is one
 
 BUILT = crates/ttx/out/ttx
@@ -14,7 +15,7 @@ PREFIX = /usr/local
 # so many crates are proved at a time, each in 1 to 4 GB
 JOBS = 4
 
-.PHONY: all ttx test demo bench compare helpers install dist
+.PHONY: all ttx test demo bench edits compare helpers install dist
 
 all: ttx
 
@@ -45,6 +46,9 @@ demo: ttx
 
 bench: ttx
 	sh bench/bench.sh ./ttx
+
+edits:
+	python3 tools/edits.py
 
 compare: ttx
 	python3 bench/late.py ./ttx

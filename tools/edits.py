@@ -1,0 +1,59 @@
+#!/usr/bin/env python3
+"""Tries each wrong body of the must-fail edits by itself: edits.py [CRATE..], in the repository's top folder.
+
+An edit of the gate may hold several wrong bodies, parted by a blank line; the gate wants such an edit refused as a whole. Here
+each of them is an edit of its own. While a crate's edits are tried they stand in its folder in place of its own, which come back
+at the end.
+"""
+import contextlib
+import pathlib
+import shutil
+import subprocess
+import sys
+import tempfile
+
+
+def bodies(text):
+    """The wrong bodies of an edit, each with the file it is of."""
+    file, told = "", []
+    for part in text.strip("\n").split("\n\n"):
+        lines = part.split("\n")
+        if not lines[0].startswith("file: "):
+            lines.insert(0, file)
+        file = next(line for line in reversed(lines) if line.startswith("file: "))
+        told.append("\n".join(lines) + "\n")
+    return told
+
+
+@contextlib.contextmanager
+def each_alone(folder):
+    """The folder with an edit for each wrong body; afterwards as it was."""
+    with tempfile.TemporaryDirectory() as room:
+        kept = pathlib.Path(room, "must-fail")
+        shutil.copytree(folder, kept)
+        try:
+            for edit in folder.glob("*.edit"):
+                told = bodies(edit.read_text())
+                if len(told) > 1:
+                    edit.unlink()
+                    for number, body in enumerate(told, 1):
+                        (folder / f"{edit.stem}-{number}.edit").write_text(body)
+            yield
+        finally:
+            shutil.rmtree(folder)
+            shutil.copytree(kept, folder)
+
+
+def main():
+    names = sys.argv[1:] or sorted(line.split(":")[0].strip() for line in open("crates.txt"))
+    failed = 0
+    for name in names:
+        folder = pathlib.Path("crates", name, "must-fail")
+        if folder.is_dir():
+            with each_alone(folder):
+                failed += subprocess.run(["rt", "must-fail", name], check=False).returncode != 0
+    return 1 if failed else 0
+
+
+if __name__ == "__main__":
+    sys.exit(main())
