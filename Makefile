@@ -2,7 +2,7 @@
 # make test       the gate: every proof from nothing, every test, and the program over real files
 # make demo       the main job on a shipped example
 # make install    puts program, man page and completions under PREFIX (/usr/local)
-# make dist       dist/ttx-VERSION-x86_64-linux.tar.gz: program, man page and completions, and its checksum
+# make dist       dist/ttx-VERSION-x86_64-linux.tar.gz: program, man page, completions and documents, and its checksum
 # make bench      times the program beside plain tools; writes nothing into the repository
 # make edits      tries each wrong body of the must-fail edits by itself; the gate tries those of one file together
 # make compare    compares what certify --late says with what libzvbi's decoder shows, where there is one
@@ -40,6 +40,7 @@ test:
 	python3 tests/refute.py $(BUILT) 300
 	sh tests/packed.sh $(BUILT)
 	python3 tests/extracted.py $(BUILT)
+	python3 tests/documents.py $(BUILT)
 
 demo: ttx
 	sh demo/demo.sh ./ttx
@@ -71,6 +72,6 @@ install: helpers
 dist: helpers
 	rm -rf dist/$(PACKED)
 	$(call place,dist/$(PACKED))
-	cp README.md LICENSE dist/$(PACKED)
+	cp -r README.md LICENSE docs examples dist/$(PACKED)
 	tar -C dist --sort=name --owner=0 --group=0 --numeric-owner --mtime=@0 -czf dist/$(PACKED).tar.gz $(PACKED)
 	cd dist && sha256sum $(PACKED).tar.gz > $(PACKED).tar.gz.sha256
