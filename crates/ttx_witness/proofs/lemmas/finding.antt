@@ -1,0 +1,4 @@
+pub mod EntryOrder
+pub mod DueItems
+pub mod LeastDeadline
+pub mod HeaderLimits

@@ -1,0 +1,5 @@
+pub mod ItemLimits
+pub mod PageDeadline
+pub mod ItemByItem
+pub mod GreatestItem
+pub mod GreatestPage

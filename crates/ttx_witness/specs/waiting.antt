@@ -1,0 +1,3 @@
+pub mod PageWaits
+pub mod ItemLimits
+pub mod ItemWaits
