@@ -2,3 +2,4 @@ pub mod EntryOrder
 pub mod DueItems
 pub mod LeastDeadline
 pub mod HeaderLimits
+pub mod Surveys

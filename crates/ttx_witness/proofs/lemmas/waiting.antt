@@ -3,3 +3,4 @@ pub mod PageDeadline
 pub mod ItemByItem
 pub mod GreatestItem
 pub mod GreatestPage
+pub mod SurveyedWaits

@@ -1,28 +1,23 @@
 //! Finding certificates.
 
-ghost use Rattle.std.specs.Prelude.{◌≡◌, ◌≢◌, [], ◌≤◌, ◌<◌, ◌*◌, ◌↔◌, ℕ, IfOk, IsTrue, MatchOption, List, slice_get, map, length, Some, true, false};
+ghost use Rattle.std.specs.Prelude.{◌≡◌, ◌≢◌, [], ◌≤◌, ◌<◌, ◌*◌, ◌↔◌, ℕ, IfOk, IsTrue, MatchOption, List, map, length, Some, true, false};
 ghost use Rattle.std.specs.List.{AllPairs};
 ghost use Rattle.std.specs.List.Sorted.{IsPermutation};
 ghost use Rattle.ttx_page.specs.Pages as definitions;
 ghost use Rattle.ttx_page.specs.Views.{page_of};
-ghost use Rattle.ttx_page.specs.Streams.{repeated};
-ghost use Rattle.ttx_page.specs.Steady.{Steady};
 ghost use Rattle.ttx_page.specs.declared.class.Class.TheVariants.{Any};
-ghost use Rattle.ttx_packet.specs.Slots.{is_clean};
 ghost use Rattle.ttx_cycle.specs.Cycles.{slots_of};
-ghost use Rattle.ttx_witness.specs.sent.Collected.{ids_of};
-ghost use Rattle.ttx_witness.specs.sent.AllSent.{AreAllSent};
-ghost use Rattle.ttx_witness.specs.faults.OtherSubpages.{AreOtherSubpages};
 ghost use Rattle.ttx_certificate.specs.Entries.{places, rises};
 ghost use Rattle.ttx_certificate.specs.EntryViews.{entries_of};
 ghost use Rattle.ttx_certificate.specs.Certificates.{certificate_of};
-ghost use Rattle.ttx_witness.specs.finding.Finding.{same_place, AreNamed, IsLeastField, IsDeadline, IsSentUnchanged, IsFoundFor};
+ghost use Rattle.ttx_witness.specs.sent.Collected.{ids_of};
+ghost use Rattle.ttx_witness.specs.finding.Finding.{same_place, IsLeastField, IsDeadline, IsSentUnchanged, IsFoundFor};
+ghost use Rattle.ttx_witness.specs.finding.Surveys.{slots_in, pages_in, page_in, AreNamedIn, AreOthersIn, IsSteadyIn};
 
 use crate::faults::bad_slots::bad_slot;
-use crate::faults::collected_faults::fault_of;
 use crate::faults::other_subpages::OtherSubpages;
 use crate::finding::naming::name_page;
-use crate::sent::collected::Collected;
+use crate::finding::survey::{Survey, SurveyedPage, surveyed_at};
 use crate::sent::collecting::collect;
 use std::alloc::Global;
 use ttx_certificate::{Certificate, Entry, NoMemory};
@@ -50,35 +45,23 @@ fn least_field(slots: u64, lines: u8) -> Option<u32>
     }
 }
 
-// Whether the page at the index is sent unchanged.
-fn is_steady(
-    cycle: &Cycle,
-    page: &Page,
-    index: usize,
-    collected: &Collected,
-    others: &OtherSubpages,
-) -> bool
-    ensures { (pages : List definitions.Page) (lines : ℕ) → AreAllSent (slots_of cycle.now) pages lines collected.now → AreOtherSubpages (slots_of cycle.now) pages others.now → slice_get pages index ≡ Some (page_of page.now) → IsTrue result ↔ Steady (repeated (slots_of cycle.now)) pages (page_of page.now) }
+// Whether the page is sent unchanged.
+fn is_steady(surveyed: &SurveyedPage, others: &OtherSubpages) -> bool
+    ensures { AreOthersIn surveyed.now.survey.now others.now → IsTrue result ↔ IsSteadyIn surveyed.now.survey.now (page_in surveyed.now) }
 {
     crate::laws::fault_laws::steady_has_no_fault();
-    let other_subpage = others.first(page.id());
-    fault_of(cycle, page, collected, index, other_subpage).is_none()
+    surveyed.fault(others).is_none()
 }
 
 // Whether no slot is bad and each page is sent unchanged.
-fn is_sent_unchanged(
-    cycle: &Cycle,
-    pages: &[Page],
-    collected: &Collected,
-    others: &OtherSubpages,
-) -> bool
-    ensures { (lines : ℕ) → AreAllSent (slots_of cycle.now) (map page_of pages.now) lines collected.now → AreOtherSubpages (slots_of cycle.now) (map page_of pages.now) others.now → IsTrue result ↔ IsSentUnchanged (slots_of cycle.now) (map page_of pages.now) }
+fn is_sent_unchanged(survey: &Survey, others: &OtherSubpages) -> bool
+    ensures { AreOthersIn survey.now others.now → IsTrue result ↔ IsSentUnchanged (slots_in survey.now) (pages_in survey.now) }
 {
-    if bad_slot(cycle).is_some() {
+    if bad_slot(survey.cycle).is_some() {
         return false;
     }
-    for index in 0..pages.len() {
-        if !is_steady(cycle, &pages[index], index, collected, others) {
+    for index in 0..survey.pages.len() {
+        if !is_steady(&surveyed_at(&*survey, index), others) {
             return false;
         }
     }
@@ -88,24 +71,15 @@ fn is_sent_unchanged(
 // The entries of all pages, and the least limit in slots that is enough for all of them.
 fn name_pages(
     alloc: Global,
-    cycle: &Cycle,
-    pages: &[Page],
-    collected: &Collected,
-    class: Class,
-    repeat: u8,
+    survey: &Survey,
     entries: &mut Vec<Entry>,
 ) -> Result<Option<u64>, NoMemory>
-    requires some { 1 ≤ repeat }
-    requires few { repeat ≤ 8 }
     requires none { entries.old.items ≡ [] }
-    requires distinct { AllPairs (λ a b. a ≢ b) (ids_of pages.now) }
-    ensures { IfOk result (λ least. (lines : ℕ) → AreAllSent (slots_of cycle.now) (map page_of pages.now) lines collected.now → AreNamed (slots_of cycle.now) (map page_of pages.now) class lines repeat (26 * length pages.now) entries.new.items least) }
+    ensures { IfOk result (λ least. AreNamedIn survey.now (26 * length survey.now.pages.now) entries.new.items least) }
 {
     let mut least = Some(0);
-    for index in 0..pages.len() {
-        least = name_page(
-            alloc, cycle, pages, collected, index, class, repeat, entries, least,
-        )?;
+    for index in 0..survey.pages.len() {
+        least = name_page(alloc, &surveyed_at(&*survey, index), entries, least)?;
     }
     Ok(least)
 }
@@ -159,10 +133,18 @@ pub fn find_for(
     crate::laws::cycle_laws::least_limit_is_found();
     let collected = collect(alloc, cycle, pages, lines)?;
     let others = OtherSubpages::of(alloc, cycle, pages)?;
+    let survey = Survey {
+        cycle,
+        pages,
+        class,
+        repeat,
+        lines,
+        collected,
+    };
     let mut entries = Vec::new(alloc);
-    let least = name_pages(alloc, cycle, pages, &collected, class, repeat, &mut entries)?;
+    let least = name_pages(alloc, &survey, &mut entries)?;
     sort_entries(&mut entries);
-    let unchanged = is_sent_unchanged(cycle, pages, &collected, &others);
+    let unchanged = is_sent_unchanged(&survey, &others);
     let deadline = deadline_of(unchanged, lines, least);
     let fields = deadline.unwrap_or(1_000_000);
     Ok(Found {

@@ -1,24 +1,19 @@
 //! The starts of sure runs, named for the items of pages.
 
-ghost use Rattle.std.specs.Prelude.{◌≡◌, ◌≢◌, ◌-ℤ◌, ◌≤◌, ◌<◌, ◌+◌, ◌*◌, ℕ, IfOk, OnOk, List, slice_get, map, length, Some, true};
-ghost use Rattle.std.specs.List.{AllPairs};
-ghost use Rattle.ttx_page.specs.Pages as definitions;
+ghost use Rattle.std.specs.Prelude.{◌≡◌, ◌-ℤ◌, ◌≤◌, ◌<◌, ◌+◌, ◌*◌, ℕ, IfOk, OnOk, length, Some, true};
 ghost use Rattle.ttx_page.specs.Views.{page_of};
 ghost use Rattle.ttx_page.specs.declared.item.Item.TheVariants.{Head as TheHead};
-ghost use Rattle.ttx_cycle.specs.Cycles.{slots_of};
-ghost use Rattle.ttx_witness.specs.sent.Collected.{ids_of};
-ghost use Rattle.ttx_witness.specs.sent.AllSent.{AreAllSent};
 ghost use Rattle.ttx_certificate.specs.Entries.{are_slots, is_page_id, rises};
 ghost use Rattle.ttx_witness.specs.runs.SureStarts.{above_zero, width};
-ghost use Rattle.ttx_witness.specs.finding.Finding.{is_due, starts_of, spread_at, limit_of, least_limit, starts_for, limit_for, wider, AddsEntry, AreNamed};
+ghost use Rattle.ttx_witness.specs.finding.Finding.{is_due, limit_of, wider, AddsEntry};
+ghost use Rattle.ttx_witness.specs.finding.Surveys.{slots_in, page_in, starts_in, spread_in, least_in, named_in, limit_in, AreNamedIn};
 
+use crate::finding::survey::SurveyedPage;
 use crate::runs::one_item::search_item;
 use crate::runs::sure_starts::{Search, Spread};
-use crate::sent::collected::Collected;
 use crate::sent::page_items::{item_of, run_length};
 use std::alloc::Global;
 use ttx_certificate::{Entry, NoMemory};
-use ttx_cycle::Cycle;
 use ttx_header::PageId;
 use ttx_page::{Class, Item, Page, is_blank, needed};
 
@@ -91,24 +86,23 @@ fn add_entry(
 // The starts of the sure runs of an item, and what is kept of these runs.
 fn search_for(
     alloc: Global,
-    cycle: &Cycle,
-    collected: &Collected,
-    index: usize,
+    surveyed: &SurveyedPage,
     item: &Item,
     repeat: u8,
 ) -> Result<Search, NoMemory>
     requires some { 1 ≤ repeat }
     requires few { repeat ≤ 8 }
-    ensures starts { IfOk result (λ s. (pages : List definitions.Page) (lines : ℕ) (p : definitions.Page) → AreAllSent (slots_of cycle.now) pages lines collected.now → slice_get pages index ≡ Some p → s.starts.items ≡ starts_of (slots_of cycle.now) lines repeat p.id item.now) }
-    ensures spread { IfOk result (λ s. (pages : List definitions.Page) (lines : ℕ) (p : definitions.Page) → AreAllSent (slots_of cycle.now) pages lines collected.now → slice_get pages index ≡ Some p → s.spread ≡ spread_at (slots_of cycle.now) lines repeat p.id item.now) }
+    ensures starts { IfOk result (λ s. s.starts.items ≡ starts_in surveyed.now repeat item.now) }
+    ensures spread { IfOk result (λ s. s.spread ≡ spread_in surveyed.now repeat item.now) }
     ensures slots { IfOk result (λ s. are_slots s.starts.items ≡ true) }
     ensures rising { IfOk result (λ s. rises s.starts.items ≡ true) }
-    ensures small { IfOk result (λ s. (limit : ℕ) → limit_of (length (slots_of cycle.now)) s.spread ≡ Some limit → limit ≤ 655360) }
+    ensures small { IfOk result (λ s. (limit : ℕ) → limit_of (length (slots_in surveyed.now.survey.now)) s.spread ≡ Some limit → limit ≤ 655360) }
 {
-    let period = cycle.slots().len() as u32;
+    let survey = surveyed.survey;
+    let period = survey.cycle.slots().len() as u32;
     search_item(
         alloc,
-        collected.sent(index, *item),
+        survey.collected.sent(surveyed.index, *item),
         run_length(repeat, item),
         period,
     )
@@ -117,87 +111,67 @@ fn search_for(
 // Names the starts of an item's sure runs: the least limit in which they follow one another.
 fn name_item(
     alloc: Global,
-    cycle: &Cycle,
-    collected: &Collected,
+    surveyed: &SurveyedPage,
     entries: &mut Vec<Entry>,
-    page: PageId,
-    index: usize,
     item: &Item,
-    repeat: u8,
 ) -> Result<Option<u64>, NoMemory>
-    requires some { 1 ≤ repeat }
-    requires few { repeat ≤ 8 }
-    requires page { is_page_id page ≡ true }
-    ensures entries { OnOk result ((pages : List definitions.Page) (lines : ℕ) (p : definitions.Page) → AreAllSent (slots_of cycle.now) pages lines collected.now → slice_get pages index ≡ Some p → AddsEntry entries.old.items entries.new.items page item.now (starts_of (slots_of cycle.now) lines repeat p.id item.now)) }
-    ensures least { IfOk result (λ least. (pages : List definitions.Page) (lines : ℕ) (p : definitions.Page) → AreAllSent (slots_of cycle.now) pages lines collected.now → slice_get pages index ≡ Some p → least ≡ least_limit (slots_of cycle.now) lines repeat p.id item.now) }
+    ensures entries { OnOk result (AddsEntry entries.old.items entries.new.items (page_in surveyed.now).id item.now (starts_in surveyed.now surveyed.now.survey.now.repeat item.now)) }
+    ensures least { IfOk result (λ least. least ≡ least_in surveyed.now surveyed.now.survey.now.repeat item.now) }
 {
-    let period = cycle.slots().len() as u32;
+    ttx_page::laws::pages_keep_their_rules();
+    let period = surveyed.survey.cycle.slots().len() as u32;
     let Search {
         recent: _,
         starts,
         spread,
-    } = search_for(alloc, cycle, collected, index, item, repeat)?;
-    add_entry(entries, page, *item, starts)?;
+    } = search_for(alloc, surveyed, item, surveyed.survey.repeat)?;
+    add_entry(entries, surveyed.page.id(), *item, starts)?;
     Ok(limit_of(period, spread))
 }
 
 // The least limit in which the sure runs of an item follow one another.
 fn item_limit(
     alloc: Global,
-    cycle: &Cycle,
-    collected: &Collected,
-    index: usize,
+    surveyed: &SurveyedPage,
     item: &Item,
     repeat: u8,
 ) -> Result<Option<u64>, NoMemory>
     requires some { 1 ≤ repeat }
     requires few { repeat ≤ 8 }
-    ensures least { IfOk result (λ least. (pages : List definitions.Page) (lines : ℕ) (p : definitions.Page) → AreAllSent (slots_of cycle.now) pages lines collected.now → slice_get pages index ≡ Some p → least ≡ least_limit (slots_of cycle.now) lines repeat p.id item.now) }
+    ensures least { IfOk result (λ least. least ≡ least_in surveyed.now repeat item.now) }
     ensures small { IfOk result (λ least. (limit : ℕ) → least ≡ Some limit → limit ≤ 655360) }
 {
-    let period = cycle.slots().len() as u32;
+    let period = surveyed.survey.cycle.slots().len() as u32;
     let Search {
         recent: _,
         starts: _,
         spread,
-    } = search_for(alloc, cycle, collected, index, item, repeat)?;
+    } = search_for(alloc, surveyed, item, repeat)?;
     Ok(limit_of(period, spread))
 }
 
 // The least limit in which the headers of the page follow one another.
-fn header_limit(
-    alloc: Global,
-    cycle: &Cycle,
-    collected: &Collected,
-    index: usize,
-) -> Result<Option<u64>, NoMemory>
-    ensures least { IfOk result (λ least. (pages : List definitions.Page) (lines : ℕ) (p : definitions.Page) → AreAllSent (slots_of cycle.now) pages lines collected.now → slice_get pages index ≡ Some p → least ≡ least_limit (slots_of cycle.now) lines 1 p.id TheHead) }
+fn header_limit(alloc: Global, surveyed: &SurveyedPage) -> Result<Option<u64>, NoMemory>
+    ensures least { IfOk result (λ least. least ≡ least_in surveyed.now 1 TheHead) }
     ensures small { IfOk result (λ least. (limit : ℕ) → least ≡ Some limit → limit ≤ 655360) }
 {
     let head = Item::Head;
-    item_limit(alloc, cycle, collected, index, &head, 1)
+    item_limit(alloc, surveyed, &head, 1)
 }
 
 /// The least limit of an item that a viewer sees. A receiver that has the item already needs the next header of the page alone.
 pub(crate) fn limit_seen(
     alloc: Global,
-    cycle: &Cycle,
-    collected: &Collected,
-    page: &Page,
-    index: usize,
+    surveyed: &SurveyedPage,
     item: &Item,
-    class: Class,
-    repeat: u8,
 ) -> Result<Option<u64>, NoMemory>
-    requires some { 1 ≤ repeat }
-    requires few { repeat ≤ 8 }
-    ensures least { IfOk result (λ least. (pages : List definitions.Page) (lines : ℕ) → AreAllSent (slots_of cycle.now) pages lines collected.now → slice_get pages index ≡ Some (page_of page.now) → least ≡ limit_for (slots_of cycle.now) class lines repeat (page_of page.now) item.now) }
+    ensures least { IfOk result (λ least. least ≡ limit_in surveyed.now item.now) }
     ensures small { IfOk result (λ least. (limit : ℕ) → least ≡ Some limit → limit ≤ 655360) }
 {
-    if is_due(class, page, item) {
-        item_limit(alloc, cycle, collected, index, item, repeat)
+    if is_due(surveyed.survey.class, surveyed.page, item) {
+        item_limit(alloc, surveyed, item, surveyed.survey.repeat)
     } else {
-        header_limit(alloc, cycle, collected, index)
+        header_limit(alloc, surveyed)
     }
 }
 
@@ -205,62 +179,33 @@ pub(crate) fn limit_seen(
 // needs the next header of the page alone.
 fn name_seen(
     alloc: Global,
-    cycle: &Cycle,
-    collected: &Collected,
+    surveyed: &SurveyedPage,
     entries: &mut Vec<Entry>,
-    page: &Page,
-    index: usize,
     item: &Item,
-    class: Class,
-    repeat: u8,
 ) -> Result<Option<u64>, NoMemory>
-    requires some { 1 ≤ repeat }
-    requires few { repeat ≤ 8 }
-    ensures entries { OnOk result ((pages : List definitions.Page) (lines : ℕ) → AreAllSent (slots_of cycle.now) pages lines collected.now → slice_get pages index ≡ Some (page_of page.now) → AddsEntry entries.old.items entries.new.items (page_of page.now).id item.now (starts_for (slots_of cycle.now) class lines repeat (page_of page.now) item.now)) }
-    ensures least { IfOk result (λ least. (pages : List definitions.Page) (lines : ℕ) → AreAllSent (slots_of cycle.now) pages lines collected.now → slice_get pages index ≡ Some (page_of page.now) → least ≡ limit_for (slots_of cycle.now) class lines repeat (page_of page.now) item.now) }
+    ensures entries { OnOk result (AddsEntry entries.old.items entries.new.items (page_in surveyed.now).id item.now (named_in surveyed.now item.now)) }
+    ensures least { IfOk result (λ least. least ≡ limit_in surveyed.now item.now) }
 {
-    ttx_page::laws::pages_keep_their_rules();
-    if !is_due(class, page, item) {
-        return header_limit(alloc, cycle, collected, index);
+    if !is_due(surveyed.survey.class, surveyed.page, item) {
+        return header_limit(alloc, surveyed);
     }
-    name_item(
-        alloc,
-        cycle,
-        collected,
-        entries,
-        page.id(),
-        index,
-        item,
-        repeat,
-    )
+    name_item(alloc, surveyed, entries, item)
 }
 
 /// Names the starts of the items of one page; `least` is the least limit that is enough for the pages before it.
 pub(crate) fn name_page(
     alloc: Global,
-    cycle: &Cycle,
-    pages: &[Page],
-    collected: &Collected,
-    index: usize,
-    class: Class,
-    repeat: u8,
+    surveyed: &SurveyedPage,
     entries: &mut Vec<Entry>,
     least: Option<u64>,
 ) -> Result<Option<u64>, NoMemory>
-    requires some { 1 ≤ repeat }
-    requires few { repeat ≤ 8 }
-    requires within { index < length pages.now }
-    requires distinct { AllPairs (λ a b. a ≢ b) (ids_of pages.now) }
-    ensures { IfOk result (λ new_least. (lines : ℕ) → AreAllSent (slots_of cycle.now) (map page_of pages.now) lines collected.now → AreNamed (slots_of cycle.now) (map page_of pages.now) class lines repeat (26 * index) entries.old.items least → AreNamed (slots_of cycle.now) (map page_of pages.now) class lines repeat (26 * (index + 1)) entries.new.items new_least) }
+    ensures { IfOk result (λ new_least. AreNamedIn surveyed.now.survey.now (26 * surveyed.now.index) entries.old.items least → AreNamedIn surveyed.now.survey.now (26 * (surveyed.now.index + 1)) entries.new.items new_least) }
 {
-    let page = &pages[index];
     let mut least = least;
     for number in 0..26u8 {
         let item = item_of(number);
-        if needed(page, item) {
-            let limit = name_seen(
-                alloc, cycle, collected, entries, page, index, &item, class, repeat,
-            )?;
+        if needed(surveyed.page, item) {
+            let limit = name_seen(alloc, surveyed, entries, &item)?;
             least = wider(least, limit);
         }
     }

@@ -1,16 +1,17 @@
 //! How long a viewer of each item of each page of a list waits at the most.
 
-ghost use Rattle.std.specs.Prelude.{◌≡◌, ◌≢◌, ◌≤◌, IfOk, List, slice_get, map, Some, true};
+ghost use Rattle.std.specs.Prelude.{◌≡◌, ◌≢◌, ◌≤◌, IfOk, map, true};
 ghost use Rattle.std.specs.List.{AllPairs};
 ghost use Rattle.ttx_page.specs.Pages as definitions;
 ghost use Rattle.ttx_page.specs.Views.{page_of};
 ghost use Rattle.ttx_cycle.specs.Cycles.{slots_of};
-ghost use Rattle.ttx_witness.specs.sent.AllSent.{AreAllSent};
 ghost use Rattle.ttx_witness.specs.sent.Collected.{ids_of};
-ghost use Rattle.ttx_witness.specs.waiting.ItemWaits.{IsItemWait, AreItemsTold, AreItemWaits};
+ghost use Rattle.ttx_witness.specs.finding.Surveys.{page_in};
+ghost use Rattle.ttx_witness.specs.waiting.ItemWaits.{AreItemWaits};
+ghost use Rattle.ttx_witness.specs.waiting.SurveyedWaits.{IsItemWaitIn, AreItemsToldIn, AreItemWaitsIn};
 
 use crate::finding::naming::limit_seen;
-use crate::sent::collected::Collected;
+use crate::finding::survey::{Survey, SurveyedPage, surveyed_at};
 use crate::sent::collecting::collect;
 use crate::sent::page_items::item_of;
 use crate::waiting::page_waits::{fields_for, losses_of};
@@ -20,24 +21,10 @@ use ttx_certificate::NoMemory;
 use ttx_cycle::Cycle;
 use ttx_page::{Class, Item, Page, needed};
 
-// How long a viewer of the item of the page at the index waits.
-fn item_wait(
-    alloc: Global,
-    cycle: &Cycle,
-    page: &Page,
-    index: usize,
-    collected: &Collected,
-    item: &Item,
-    class: Class,
-    repeat: u8,
-    lines: u8,
-) -> Result<OwnWait, NoMemory>
-    requires some_repeats { 1 ≤ repeat }
-    requires few_repeats { repeat ≤ 8 }
-    requires some_lines { 1 ≤ lines }
-    requires few_lines { lines ≤ 32 }
-    requires seen { definitions.needed (page_of page.now) item.now ≡ true }
-    ensures { IfOk result (λ wait. (pages : List definitions.Page) → AreAllSent (slots_of cycle.now) pages lines collected.now → slice_get pages index ≡ Some (page_of page.now) → IsItemWait (slots_of cycle.now) (page_of page.now) class repeat lines item.now wait) }
+// How long a viewer of the item of the page waits.
+fn item_wait(alloc: Global, surveyed: &SurveyedPage, item: &Item) -> Result<OwnWait, NoMemory>
+    requires seen { definitions.needed (page_in surveyed.now) item.now ≡ true }
+    ensures { IfOk result (λ wait. IsItemWaitIn surveyed.now item.now wait) }
 {
     ttx_page::laws::pages_keep_their_rules();
     ttx_page::laws::pages_have_six_links();
@@ -45,46 +32,46 @@ fn item_wait(
     ttx_page::laws::each_slot_turns();
     crate::laws::cycle_laws::sure_starts_are_found();
     crate::laws::cycle_laws::least_limit_is_found();
-    match limit_seen(alloc, cycle, collected, page, index, item, class, repeat)? {
+    let survey = surveyed.survey;
+    match limit_seen(alloc, surveyed, item)? {
         Some(slots) => Ok(OwnWait::Least {
-            fields: fields_for(slots, lines),
+            fields: fields_for(slots, survey.lines),
         }),
         None => Ok(OwnWait::Never {
-            losses: losses_of(collected.sent(index, *item), lines),
+            losses: losses_of(survey.collected.sent(surveyed.index, *item), survey.lines),
         }),
     }
 }
 
-// How long a viewer of each item of the page at the index waits, in the order of the items.
-fn items_told(
-    alloc: Global,
-    cycle: &Cycle,
-    page: &Page,
-    index: usize,
-    collected: &Collected,
-    class: Class,
-    repeat: u8,
-    lines: u8,
-) -> Result<Vec<ItemWait>, NoMemory>
-    requires some_repeats { 1 ≤ repeat }
-    requires few_repeats { repeat ≤ 8 }
-    requires some_lines { 1 ≤ lines }
-    requires few_lines { lines ≤ 32 }
-    ensures { IfOk result (λ told. (pages : List definitions.Page) → AreAllSent (slots_of cycle.now) pages lines collected.now → slice_get pages index ≡ Some (page_of page.now) → AreItemsTold (slots_of cycle.now) (page_of page.now) class repeat lines 26 told.items) }
+// How long a viewer of each item of the page waits, in the order of the items.
+fn items_told(alloc: Global, surveyed: &SurveyedPage) -> Result<Vec<ItemWait>, NoMemory>
+    ensures { IfOk result (λ told. AreItemsToldIn surveyed.now 26 told.items) }
 {
     let mut told = Vec::new(alloc);
     for number in 0..26u8 {
         let item = item_of(number);
-        if needed(page, item) {
-            let wait = item_wait(
-                alloc, cycle, page, index, collected, &item, class, repeat, lines,
-            )?;
+        if needed(surveyed.page, item) {
+            let wait = item_wait(alloc, surveyed, &item)?;
             if told.push(ItemWait { item, wait }).is_err() {
                 return Err(NoMemory);
             }
         }
     }
     Ok(told)
+}
+
+// How long a viewer of each item of each page of the survey waits.
+fn item_waits_in(alloc: Global, survey: &Survey) -> Result<Vec<Vec<ItemWait>>, NoMemory>
+    ensures { IfOk result (λ all. AreItemWaitsIn survey.now (map (λ told. told.items) all.items)) }
+{
+    let mut all = Vec::new(alloc);
+    for index in 0..survey.pages.len() {
+        let told = items_told(alloc, &surveyed_at(&*survey, index))?;
+        if all.push(told).is_err() {
+            return Err(NoMemory);
+        }
+    }
+    Ok(all)
 }
 
 /// How long a viewer of each item of each page of the list waits, page by page and item by item in their order: the least
@@ -106,13 +93,13 @@ pub fn item_waits(
     ensures { IfOk result (λ all. AreItemWaits (slots_of cycle.now) (map page_of pages.now) class repeat lines (map (λ told. told.items) all.items)) }
 {
     let collected = collect(alloc, cycle, pages, lines)?;
-    let mut all = Vec::new(alloc);
-    for index in 0..pages.len() {
-        let page = &pages[index];
-        let told = items_told(alloc, cycle, page, index, &collected, class, repeat, lines)?;
-        if all.push(told).is_err() {
-            return Err(NoMemory);
-        }
-    }
-    Ok(all)
+    let survey = Survey {
+        cycle,
+        pages,
+        class,
+        repeat,
+        lines,
+        collected,
+    };
+    item_waits_in(alloc, &survey)
 }

@@ -1,23 +1,21 @@
 //! How long a viewer of each page of a list waits at the most.
 
-ghost use Rattle.std.specs.Prelude.{◌≡◌, ◌≢◌, ◌≤◌, ◌<◌, ◌*◌, ℕ, IfOk, List, slice_get, map, length, filter, Some, true, int_lt, ◌+ℤ◌, pos};
+ghost use Rattle.std.specs.Prelude.{◌≡◌, ◌≢◌, ◌≤◌, ◌<◌, ◌*◌, ℕ, IfOk, List, map, length, filter, Some, int_lt, ◌+ℤ◌, pos};
 ghost use Rattle.std.specs.List.{AllPairs};
 ghost use Rattle.ttx_page.specs.Pages as definitions;
 ghost use Rattle.ttx_page.specs.Views.{page_of};
 ghost use Rattle.ttx_cycle.specs.Cycles.{slots_of};
-ghost use Rattle.ttx_witness.specs.sent.Collected.{ids_of, IsItem};
-ghost use Rattle.ttx_witness.specs.sent.AllSent.{AreAllSent};
-ghost use Rattle.ttx_witness.specs.faults.OtherSubpages.{AreOtherSubpages};
+ghost use Rattle.ttx_witness.specs.sent.Collected.{ids_of};
 ghost use Rattle.ttx_witness.specs.sent.ItemTransmissions.{sent_in};
-ghost use Rattle.ttx_witness.specs.finding.Finding.{limit_for, IsLeastField};
-ghost use Rattle.ttx_witness.specs.waiting.PageWaits.{is_near, is_cut, AreLosses, IsWait, AreWaits};
-ghost use Rattle.ttx_witness.specs.waiting.ItemLimits.{IsByLimits};
+ghost use Rattle.ttx_witness.specs.finding.Finding.{IsLeastField};
+ghost use Rattle.ttx_witness.specs.finding.Surveys.{AreOthersIn};
+ghost use Rattle.ttx_witness.specs.waiting.PageWaits.{is_near, is_cut, AreLosses, AreWaits};
+ghost use Rattle.ttx_witness.specs.waiting.SurveyedWaits.{IsByLimitsIn, IsWaitIn, AreWaitsIn};
 
-use crate::faults::collected_faults::fault_of;
 use crate::faults::other_subpages::OtherSubpages;
 use crate::finding::naming::limit_seen;
+use crate::finding::survey::{Survey, SurveyedPage, surveyed_at};
 use crate::runs::transmissions::Transmission;
-use crate::sent::collected::Collected;
 use crate::sent::collecting::collect;
 use crate::sent::page_items::item_of;
 use crate::waiting::wait::{Losses, PageWait, Wait};
@@ -80,32 +78,20 @@ pub(crate) fn fields_for(slots: u64, lines: u8) -> u32
 }
 
 // The first item of the page that needs the most fields, or that has no sure run.
-fn longest_item(
-    alloc: Global,
-    cycle: &Cycle,
-    page: &Page,
-    index: usize,
-    collected: &Collected,
-    class: Class,
-    repeat: u8,
-    lines: u8,
-) -> Result<Wait, NoMemory>
-    requires some { 1 ≤ repeat }
-    requires few { repeat ≤ 8 }
-    requires some_lines { 1 ≤ lines }
-    ensures { IfOk result (λ wait. (pages : List definitions.Page) → AreAllSent (slots_of cycle.now) pages lines collected.now → slice_get pages index ≡ Some (page_of page.now) → IsByLimits (slots_of cycle.now) (page_of page.now) class repeat lines wait) }
+fn longest_item(alloc: Global, surveyed: &SurveyedPage) -> Result<Wait, NoMemory>
+    ensures { IfOk result (λ wait. IsByLimitsIn surveyed.now wait) }
 {
+    let survey = surveyed.survey;
     let mut fields = 0;
     let mut longest = Item::Links;
     for number in 0..26u8 {
         let item = item_of(number);
-        if needed(page, item) {
-            let limit = limit_seen(alloc, cycle, collected, page, index, &item, class, repeat)?;
-            let Some(slots) = limit else {
-                let losses = losses_of(collected.sent(index, item), lines);
+        if needed(surveyed.page, item) {
+            let Some(slots) = limit_seen(alloc, surveyed, &item)? else {
+                let losses = losses_of(survey.collected.sent(surveyed.index, item), survey.lines);
                 return Ok(Wait::Unsure { item, losses });
             };
-            let own = fields_for(slots, lines);
+            let own = fields_for(slots, survey.lines);
             if own > fields {
                 fields = own;
                 longest = item;
@@ -118,23 +104,13 @@ fn longest_item(
     })
 }
 
-// How long a viewer of the page at the index waits.
+// How long a viewer of the page waits.
 fn page_wait(
     alloc: Global,
-    cycle: &Cycle,
-    page: &Page,
-    index: usize,
-    collected: &Collected,
+    surveyed: &SurveyedPage,
     others: &OtherSubpages,
-    class: Class,
-    repeat: u8,
-    lines: u8,
 ) -> Result<Wait, NoMemory>
-    requires some_repeats { 1 ≤ repeat }
-    requires few_repeats { repeat ≤ 8 }
-    requires some_lines { 1 ≤ lines }
-    requires few_lines { lines ≤ 32 }
-    ensures { IfOk result (λ wait. (pages : List definitions.Page) → AreAllSent (slots_of cycle.now) pages lines collected.now → AreOtherSubpages (slots_of cycle.now) pages others.now → slice_get pages index ≡ Some (page_of page.now) → IsWait (slots_of cycle.now) pages (page_of page.now) class repeat lines wait) }
+    ensures { IfOk result (λ wait. AreOthersIn surveyed.now.survey.now others.now → IsWaitIn surveyed.now wait) }
 {
     ttx_page::laws::pages_keep_their_rules();
     ttx_page::laws::pages_have_six_links();
@@ -143,11 +119,30 @@ fn page_wait(
     crate::laws::cycle_laws::sure_starts_are_found();
     crate::laws::cycle_laws::least_limit_is_found();
     crate::laws::fault_laws::steady_has_no_fault();
-    let other_subpage = others.first(page.id());
-    match fault_of(cycle, page, collected, index, other_subpage) {
+    match surveyed.fault(others) {
         Some(reason) => Ok(Wait::Faulty { reason }),
-        None => longest_item(alloc, cycle, page, index, collected, class, repeat, lines),
+        None => longest_item(alloc, surveyed),
     }
+}
+
+// How long a viewer of each page of the survey waits.
+fn waits_in(
+    alloc: Global,
+    survey: &Survey,
+    others: &OtherSubpages,
+) -> Result<Vec<PageWait>, NoMemory>
+    ensures { IfOk result (λ waits. AreOthersIn survey.now others.now → AreWaitsIn survey.now waits.items) }
+{
+    let mut waits = Vec::new(alloc);
+    for index in 0..survey.pages.len() {
+        let surveyed = surveyed_at(&*survey, index);
+        let wait = page_wait(alloc, &surveyed, others)?;
+        let page = surveyed.page.id();
+        if waits.push(PageWait { page, wait }).is_err() {
+            return Err(NoMemory);
+        }
+    }
+    Ok(waits)
 }
 
 /// How long a viewer of each page of the list waits, page by page in its order: the least deadline in fields with which the
@@ -170,19 +165,13 @@ pub fn waits(
 {
     let collected = collect(alloc, cycle, pages, lines)?;
     let others = OtherSubpages::of(alloc, cycle, pages)?;
-    let mut waits = Vec::new(alloc);
-    for index in 0..pages.len() {
-        let page = &pages[index];
-        let wait = page_wait(
-            alloc, cycle, page, index, &collected, &others, class, repeat, lines,
-        )?;
-        let told = PageWait {
-            page: page.id(),
-            wait,
-        };
-        if waits.push(told).is_err() {
-            return Err(NoMemory);
-        }
-    }
-    Ok(waits)
+    let survey = Survey {
+        cycle,
+        pages,
+        class,
+        repeat,
+        lines,
+        collected,
+    };
+    waits_in(alloc, &survey, &others)
 }

@@ -1,13 +1,5 @@
-use Rattle.std.proofs.Common.{◌≡◌, List, slice_get, Some}
-use Rattle.ttx_cycle.specs.Cycles.{slots_of}
-use Rattle.ttx_page.specs.Pages.{Page}
-use Rattle.ttx_page.specs.Views.{page_of}
-use Rattle.ttx_witness.specs.sent.AllSent.{AreAllSent}
-use Rattle.ttx_witness.specs.waiting.ItemLimits.{IsLongest}
+use Rattle.ttx_witness.specs.waiting.SurveyedWaits.{IsLongestIn}
 use Rattle.ttx_witness.proofs.waiting.page_waits.longest_item.Given as goal
 
 abbrev pub invariant-loop-number : goal.invariant-loop-number
-invariant-loop-number l = record {
-  longest : (pages : List Page) → AreAllSent (slots_of l.cycle) pages l.lines l.collected → slice_get pages l.index ≡ Some (page_of l.page) →
-      IsLongest (slots_of l.cycle) (page_of l.page) l.class l.repeat l.lines l.number l.fields l.longest;
-}
+invariant-loop-number l = record { longest : IsLongestIn l.surveyed l.number l.fields l.longest }
