@@ -2,7 +2,6 @@
 
 pub mod collected;
 pub mod collecting;
-pub mod item_lists;
 pub mod one_slot;
 pub mod owners;
 pub mod packets;

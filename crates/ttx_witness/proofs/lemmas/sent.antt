@@ -4,8 +4,9 @@ pub mod CycleTransmissions
 pub mod FirstPeriod
 pub mod PageIndexes
 pub mod EntryOwners
-pub mod AddedBySlot
+pub mod OneSlot
 pub mod OwnersAfterSlot
 pub mod AllLists
 pub mod ListsInPlaces
 pub mod PacketKinds
+pub mod ItemPlaces

@@ -3,7 +3,8 @@
 ghost use Rattle.std.specs.Prelude.{◌≡◌, ◌↔◌, IsTrue, ◌<◌, ◌≤◌, ◌++◌, ◌∷◌, [], ℕ, List, length};
 ghost use Rattle.std.specs.List.{All};
 ghost use Rattle.ttx_witness.specs.runs.Confirming.{after_runs, not_begun};
-ghost use Rattle.ttx_witness.specs.passes.SentSlots.{IsLinked, placed, told};
+ghost use Rattle.ttx_witness.specs.passes.SentSlots.{IsLinked, placed};
+ghost use Rattle.ttx_witness.specs.sent.OneSlot.{told};
 ghost use Rattle.ttx_witness.specs.runs.Tracks.{IsTrack, IsWithin};
 ghost use Rattle.ttx_witness.specs.runs.Transmissions.{runs};
 

@@ -2,9 +2,8 @@
 
 ghost use Rattle.std.specs.Prelude.{◌≡◌, ◌≤◌, ◌<◌, true, false, ℕ, None, List, length, get_or, replicate, IfOk, MatchOption};
 ghost use Rattle.std.specs.Vec.{vec_capacity};
-ghost use Rattle.ttx_witness.specs.passes.SentSlots.{sends_place};
 
-use crate::sent::one_slot::Sent;
+use crate::sent::one_slot::{Sent, place_in};
 use std::alloc::Global;
 use ttx_certificate::NoMemory;
 
@@ -27,19 +26,6 @@ fn nothing(alloc: Global, count: usize) -> Result<Vec<Option<u16>>, NoMemory>
     match vec![in alloc; None; count] {
         Ok(list) => Ok(list),
         Err(_) => Err(NoMemory),
-    }
-}
-
-// The place of the item that a slot sends, where there are so many places.
-fn place_in(sent: Option<Sent>, places: usize) -> Option<usize>
-    ensures { MatchOption result ((place : ℕ) → place < places → sends_place place sent ≡ false) (λ place. (place < places) × (sends_place place sent ≡ true)) }
-{
-    let sent = sent?;
-    let place = 26 * sent.page as usize + usize::from(sent.number);
-    if sent.number < 26 && place < places {
-        Some(place)
-    } else {
-        None
     }
 }
 
@@ -95,7 +81,10 @@ impl SentSlots {
         ensures places { length self.new.firsts.items ≡ length self.old.firsts.items }
         ensures linked { IsLinked self.old.slots.items self.old.firsts.items self.old.nexts.items (at + 1) → IsLinked self.new.slots.items self.new.firsts.items self.new.nexts.items at }
     {
-        let Some(place) = place_in(self.slots[at], self.firsts.len()) else {
+        let Some(sent) = self.slots[at] else {
+            return;
+        };
+        let Some(place) = place_in(sent, self.firsts.len()) else {
             return;
         };
         self.nexts[at] = self.firsts[place];

@@ -1,16 +1,17 @@
 //! Collecting the transmissions of all items of all pages in one period of a cycle.
 
-ghost use Rattle.std.specs.Prelude.{◌≡◌, ◌≢◌, ◌≤◌, ◌*◌, ℕ, IfOk, List, [], length, map};
+ghost use Rattle.std.specs.Prelude.{◌≡◌, ◌≢◌, ◌<◌, ◌*◌, ℕ, IfOk, OnOk, List, [], ◌++◌, length, map};
 ghost use Rattle.std.specs.List.{AllPairs};
 ghost use Rattle.ttx_header.specs.Ids.{Id};
 ghost use Rattle.ttx_page.specs.Views.{page_of};
 ghost use Rattle.ttx_cycle.specs.Cycles.{slots_of};
 ghost use Rattle.ttx_witness.specs.sent.Collected.{held, ids_of, IsIndex, AreCollected};
 ghost use Rattle.ttx_witness.specs.sent.AllSent.{AreAllSent, AreSentAfter};
+ghost use Rattle.ttx_witness.specs.sent.OneSlot.{placed_at};
 
 use crate::runs::transmissions::Transmission;
 use crate::sent::collected::Collected;
-use crate::sent::item_lists::add_slot;
+use crate::sent::one_slot::{Sent, place_in, sent_in_slot};
 use crate::sent::owners::{entry_owners, note_owner};
 use crate::sent::page_index::{PageIndex, index_of};
 use std::alloc::Global;
@@ -32,25 +33,44 @@ fn empty_lists(alloc: Global, count: usize) -> Result<Vec<Vec<Transmission>>, No
     Ok(lists)
 }
 
-// The transmissions of the items of the pages in the index.
-fn collect_lists(
-    alloc: Global,
+// Adds what a slot sends to the list of its item.
+fn add_sent(lists: &mut Vec<Vec<Transmission>>, sent: Option<Sent>) -> Result<(), NoMemory>
+    ensures count { length lists.new.items ≡ length lists.old.items }
+    ensures added { OnOk result ((n : ℕ) → n < length lists.old.items → held lists.new.items n ≡ held lists.old.items n ++ placed_at n sent) }
+{
+    let Some(sent) = sent else {
+        return Ok(());
+    };
+    let Some(place) = place_in(sent, lists.len()) else {
+        return Ok(());
+    };
+    if lists[place].push(sent.transmission).is_err() {
+        return Err(NoMemory);
+    }
+    Ok(())
+}
+
+// Fills the empty lists of the items of the pages in the index with their transmissions.
+fn fill_lists(
+    lists: &mut Vec<Vec<Transmission>>,
     before: &Cycle,
     cycle: &Cycle,
     index: &PageIndex,
-    count: usize,
     lines: u8,
-) -> Result<Vec<Vec<Transmission>>, NoMemory>
-    ensures { IfOk result (λ lists. (ids : List Id) → IsIndex ids index.now → count ≡ 26 * length ids → AreCollected ids (slots_of before.now) (slots_of cycle.now) lines (length (slots_of cycle.now)) lists.items) }
+) -> Result<(), NoMemory>
+    requires empty { (n : ℕ) → held lists.old.items n ≡ [] }
+    ensures { OnOk result ((ids : List Id) → IsIndex ids index.now → length lists.old.items ≡ 26 * length ids → AreCollected ids (slots_of before.now) (slots_of cycle.now) lines (length (slots_of cycle.now)) lists.new.items) }
 {
     let slots = cycle.slots();
-    let mut lists = empty_lists(alloc, count)?;
     let mut owners = entry_owners(index, before);
     for j in 0..slots.len() {
-        add_slot(&mut lists, &owners, index, &slots[j], j as i32, lines)?;
+        add_sent(
+            lists,
+            sent_in_slot(&owners, index, &slots[j], j as i32, lines),
+        )?;
         note_owner(&mut owners, index, &slots[j], j as i32);
     }
-    Ok(lists)
+    Ok(())
 }
 
 /// The transmissions of each item of the pages, whose ids are distinct, in the cycle's first period after another cycle.
@@ -67,7 +87,8 @@ pub fn collect_after(
     ttx_page::laws::pages_keep_their_rules();
     let count = pages.len() as u32;
     let index = index_of(alloc, pages)?;
-    let lists = collect_lists(alloc, before, cycle, &index, 26 * count as usize, lines)?;
+    let mut lists = empty_lists(alloc, 26 * count as usize)?;
+    fill_lists(&mut lists, before, cycle, &index, lines)?;
     Ok(Collected { lists })
 }
 

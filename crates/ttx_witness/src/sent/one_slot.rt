@@ -1,13 +1,13 @@
 //! What a slot sends of the items of pages.
 
-ghost use Rattle.std.specs.Prelude.{◌≡◌, ◌<◌, ℕ, List, IfSome, slice_get, Some, if◌then◌else◌, ◌==◌, ◌&&◌, ◌∷◌, [], ◌+ℤ◌, pos, not, int_lt, true};
+ghost use Rattle.std.specs.Prelude.{◌≡◌, ◌<◌, ℕ, List, IfSome, MatchOption, slice_get, Some, false, if◌then◌else◌, ◌==◌, ◌&&◌, ◌∷◌, [], ◌+ℤ◌, pos, not, int_lt, true};
 ghost use Rattle.ttx_header.specs.Ids.{Id, IsId};
 ghost use Rattle.ttx_packet.specs.Slots.{IsSlot};
 ghost use Rattle.ttx_page.specs.Packets.{packet_of};
 ghost use Rattle.ttx_page.specs.declared.item.Item.{Item};
 ghost use Rattle.ttx_witness.specs.sent.ItemTransmissions.{sent_under, sent_at};
 ghost use Rattle.ttx_witness.specs.sent.Collected.{IsItem, IsIndex, AreApart, item_number, seen_by, owner_for, is_page};
-ghost use Rattle.ttx_witness.specs.sent.OneSlot.{sent_of};
+ghost use Rattle.ttx_witness.specs.sent.OneSlot.{sent_of, sends_place};
 
 use crate::runs::transmissions::Transmission;
 use crate::sent::owners::Owner;
@@ -89,5 +89,17 @@ pub fn sent_in_slot(
         Slot::Row(at, _) => sent_under(owners[usize::from(at.mag) - 1], at.number, j, lines),
         Slot::Links(at, _) => sent_under(owners[usize::from(at.mag) - 1], 25, j, lines),
         _ => None,
+    }
+}
+
+/// The place of the item that is sent, where there are so many places.
+pub fn place_in(sent: Sent, places: usize) -> Option<usize>
+    ensures { MatchOption result ((place : ℕ) → place < places → sends_place place (Some sent) ≡ false) (λ place. (place < places) × (sends_place place (Some sent) ≡ true)) }
+{
+    let place = 26 * sent.page as usize + usize::from(sent.number);
+    if sent.number < 26 && place < places {
+        Some(place)
+    } else {
+        None
     }
 }

@@ -26,7 +26,8 @@ use Rattle.ttx_witness.specs.sent.OneSlot.{sent_of, is_sent}
 use Rattle.ttx_witness.specs.passes.SentSlots.{placed}
 use Rattle.ttx_witness.specs.passes.PageFacts.{IsNoted, RowWrong, Noted, heads_after}
 use Rattle.ttx_witness.specs.passes.PageFacts.{FirstBelow, SendsWrong, SendsWrongRow, heads_of, AreFacts}
-use Rattle.ttx_witness.proofs.lemmas.passes.SentPlaces.{placed_more, placed_item}
+use Rattle.ttx_witness.proofs.lemmas.passes.SentPlaces.{placed_more}
+use Rattle.ttx_witness.proofs.lemmas.sent.ItemPlaces.{placed_item}
 use Rattle.ttx_witness.proofs.lemmas.passes.GrowingLists.{one_longer, here, same_before, owner_before, sent_grown, below_same, below_more}
 
 pub id_of_page : (pages : List PageValue) (i : ℕ) (p : Page) → slice_get (map page_of pages) i ≡ Some p → slice_get (ids_of pages) i ≡ Some p.id

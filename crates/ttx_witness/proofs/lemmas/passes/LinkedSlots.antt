@@ -2,10 +2,11 @@
 use Rattle.std.proofs.Common.{◌≡◌, ℕ, ◌+◌, ◌<◌, ◌≤◌, false, ◌==◌, List, length, set, get_or, get_or-set_same, get_or-set_other, Option, Some, None, sym, subst, inl, inr, arith, eqb-true, eq-eqb}
 use Rattle.std.proofs.lemmas.Bool.{cases_lt}
 use Rattle.std.proofs.lemmas.List.{length-set}
-use Rattle.ttx_witness.specs.passes.SentSlots.{sends_place, SendsAt, IsNext, IsLinked}
+use Rattle.ttx_witness.specs.passes.SentSlots.{SendsAt, IsNext, IsLinked}
+use Rattle.ttx_witness.specs.sent.OneSlot.{sends_place}
 use Rattle.ttx_witness.specs.declared.sent.one_slot.Sent.{Sent}
 use Rattle.ttx_witness.proofs.lemmas.Choices.{cases_bool, no_both}
-use Rattle.ttx_witness.proofs.lemmas.passes.SentPlaces.{one_place}
+use Rattle.ttx_witness.proofs.lemmas.sent.ItemPlaces.{one_place}
 
 -- one slot earlier, which isn't such
 next_before : (P : ℕ → Type 0) (m n : ℕ) (o : Option ℕ) → (P m → ⊥) → IsNext P (m + 1) n o → IsNext P m n o

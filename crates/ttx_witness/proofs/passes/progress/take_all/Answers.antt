@@ -1,5 +1,6 @@
 use Rattle.std.proofs.Common.{◌≡◌, ◌+◌, ◌≤◌, ◌++◌, None, get_or, length, take, sym, ap, ◌∙◌, subst, arith}
-use Rattle.ttx_witness.specs.passes.SentSlots.{SendsAt, IsNext, placed, told}
+use Rattle.ttx_witness.specs.passes.SentSlots.{SendsAt, IsNext, placed}
+use Rattle.ttx_witness.specs.sent.OneSlot.{told}
 use Rattle.ttx_witness.specs.runs.Tracks.{IsTrack}
 use Rattle.ttx_witness.proofs.lemmas.passes.SentPlaces.{nothing_placed, placed_next, placed_last}
 use Rattle.ttx_witness.proofs.lemmas.runs.OneMore.{take_whole}

@@ -2,7 +2,7 @@ use Rattle.std.proofs.Common.{[], w32, refl, ap, ◌∙◌, arith}
 use Rattle.std.proofs.lemmas.Int.{to_z-of_z}
 use Rattle.ttx_packet.specs.Slots.{kind_of}
 use Rattle.ttx_witness.specs.sent.Collected.{owner_for}
-use Rattle.ttx_witness.proofs.lemmas.sent.AddedBySlot.{row_slot_sent, links_slot_sent, head_slot_sent, silent, quiet}
+use Rattle.ttx_witness.proofs.lemmas.sent.OneSlot.{row_slot_sent, links_slot_sent, head_slot_sent, silent, quiet}
 use Rattle.ttx_witness.proofs.sent.one_slot.sent_in_slot.Goals as goal
 
 pub sent_under-requires : goal.sent_under-requires
