@@ -3,6 +3,7 @@
 pub mod beginning;
 pub mod earlier_owners;
 pub mod ending;
+pub mod numbered_slot;
 pub mod other_headers;
 pub mod page_facts;
 pub mod passing;

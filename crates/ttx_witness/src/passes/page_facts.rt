@@ -13,6 +13,7 @@ ghost use Rattle.ttx_witness.specs.passes.PageFacts.{IsNoted, RowWrong, Noted, n
 
 use crate::faults::comparing::{Check, is_wrong};
 use crate::faults::other_subpages::first_of;
+use crate::passes::numbered_slot::NumberedSlot;
 use crate::sent::one_slot::Sent;
 use ttx_page::{Item, Page, RowNumber, needed};
 
@@ -69,19 +70,17 @@ fn heads_after(heads: Option<Heads>, j: i32, limit: u32, sent: bool) -> Option<H
     }
 }
 
-// The first slot that differs from the page, where `sent` says whether slot j sends the item.
+// The first slot that differs from the page, where `sent` says whether the slot sends the item.
 fn noted(
     first: Option<u32>,
     page: &Page,
     check: &Check,
-    slot: &[u8; 42],
-    j: u32,
+    slot: &NumberedSlot,
     sent: bool,
 ) -> Option<u32>
-    requires { IsSlot slot.now }
-    ensures { IsNoted ((sent ≡ true) × IsWrong (page_of page.now) check.now slot.now) j first result }
+    ensures { IsNoted ((sent ≡ true) × IsWrong (page_of page.now) check.now slot.now.bytes.now) slot.now.at first result }
 {
-    first_of(first, sent && is_wrong(page, check, slot), j)
+    first_of(first, sent && is_wrong(page, check, slot.bytes), slot.at)
 }
 
 // Whether the slot sends another row in the place of the one of this number, where a viewer sees it.
@@ -95,19 +94,17 @@ fn is_row_wrong(page: &Page, number: u8, slot: &[u8; 42]) -> bool
     }
 }
 
-// The facts after slot j, which sends the page's item of this number.
-fn facts_after(facts: Facts, page: &Page, number: u8, slot: &[u8; 42], j: u32, limit: u32) -> Facts
-    requires slot { IsSlot slot.now }
-    requires small { j < 65536 }
-    ensures { Noted limit (page_of page.now) (λ item. item_number item == number) slot.now j facts result }
+// The facts after a slot, which sends the page's item of this number.
+fn facts_after(facts: Facts, page: &Page, number: u8, slot: &NumberedSlot, limit: u32) -> Facts
+    ensures { Noted limit (page_of page.now) (λ item. item_number item == number) slot.now.bytes.now slot.now.at facts result }
 {
     let (is_head, is_links) = (0 == number, 25 == number);
     Facts {
-        heads: heads_after(facts.heads, j as i32, limit, is_head),
-        erased: noted(facts.erased, page, &Check::EraseBit, slot, j, is_head),
-        head: noted(facts.head, page, &Check::Head, slot, j, is_head),
-        row: first_of(facts.row, is_row_wrong(page, number, slot), j),
-        links: noted(facts.links, page, &Check::Links, slot, j, is_links),
+        heads: heads_after(facts.heads, slot.at as i32, limit, is_head),
+        erased: noted(facts.erased, page, &Check::EraseBit, slot, is_head),
+        head: noted(facts.head, page, &Check::Head, slot, is_head),
+        row: first_of(facts.row, is_row_wrong(page, number, slot.bytes), slot.at),
+        links: noted(facts.links, page, &Check::Links, slot, is_links),
     }
 }
 
@@ -116,21 +113,18 @@ pub fn note_sent(
     all: &mut Vec<Facts>,
     pages: &[Page],
     sent: Option<Sent>,
-    slot: &[u8; 42],
-    j: u32,
+    slot: &NumberedSlot,
     limit: u32,
 )
-    requires slot { IsSlot slot.now }
-    requires small { j < 65536 }
     ensures count { length all.new.items ≡ length all.old.items }
-    ensures noted { (i : ℕ) (p : definitions.Page) (x : FactsValue) → slice_get (map page_of pages.now) i ≡ Some p → slice_get all.old.items i ≡ Some x → Holds FactsValue all.new.items i (Noted limit p (λ item. is_sent i item sent) slot.now j x) }
+    ensures noted { (i : ℕ) (p : definitions.Page) (x : FactsValue) → slice_get (map page_of pages.now) i ≡ Some p → slice_get all.old.items i ≡ Some x → Holds FactsValue all.new.items i (Noted limit p (λ item. is_sent i item sent) slot.now.bytes.now slot.now.at x) }
 {
     let Some(s) = sent else {
         return;
     };
     let at = s.page as usize;
     if at < all.len() && at < pages.len() {
-        all[at] = facts_after(all[at], &pages[at], s.number, slot, j, limit);
+        all[at] = facts_after(all[at], &pages[at], s.number, slot, limit);
     }
 }
 

@@ -10,6 +10,7 @@ ghost use Rattle.ttx_witness.specs.sent.ItemTransmissions.{PageOwner};
 use crate::faults::other_subpages::first_of;
 use crate::passes::earlier_owners::all_moved;
 use crate::passes::ending::EndedPass;
+use crate::passes::numbered_slot::NumberedSlot;
 use crate::passes::other_headers::{Strays, note_stray};
 use crate::passes::page_facts::{Facts, note_sent};
 use crate::passes::returning_owners::are_steady;
@@ -74,7 +75,8 @@ fn take_slot(pass: &mut Pass, slot: &[u8; 42])
     );
     let sent = sent_in_slot(&pass.owners, &pass.index, slot, j as i32, lines);
     pass.sent.note(sent);
-    note_sent(&mut pass.facts, pass.pages, sent, slot, j, limit);
+    let numbered = NumberedSlot { bytes: slot, at: j };
+    note_sent(&mut pass.facts, pass.pages, sent, &numbered, limit);
     note_stray(&mut pass.strays, slot, j);
     note_owner(&mut pass.owners, &pass.index, slot, j as i32);
     pass.count += 1;
