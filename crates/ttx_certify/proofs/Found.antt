@@ -6,15 +6,15 @@ use Rattle.ttx_page.specs.declared.class.Class.TheVariants.{Clearing}
 use Rattle.ttx_page.specs.declared.item.Item.{Item}
 use Rattle.ttx_page.specs.declared.item.Item.TheVariants.{Head as TheHead, Row as TheRow, Links as TheLinks}
 use Rattle.ttx_page.specs.Streams.{run_length}
-use Rattle.ttx_witness.specs.declared.transmissions.Transmission.{Transmission}
-use Rattle.ttx_witness.specs.declared.confirming.Progress.{Progress}
-use Rattle.ttx_witness.specs.Transmissions.{runs}
-use Rattle.ttx_witness.specs.Confirming.{late_after, after_runs, not_begun}
-use Rattle.ttx_witness.specs.Sent.{sent_in}
+use Rattle.ttx_witness.specs.declared.runs.transmissions.Transmission.{Transmission}
+use Rattle.ttx_witness.specs.declared.runs.confirming.Progress.{Progress}
+use Rattle.ttx_witness.specs.runs.Transmissions.{runs}
+use Rattle.ttx_witness.specs.runs.Confirming.{late_after, after_runs, not_begun}
+use Rattle.ttx_witness.specs.sent.ItemTransmissions.{sent_in}
 use Rattle.ttx_witness.specs.Coverage.{Certificate, IsCertificate, limit}
-use Rattle.ttx_witness.specs.CycleLaws.{progress_of}
-use Rattle.ttx_witness.specs.Reasons.{WitnessBadAt}
-use Rattle.ttx_witness.specs.JudgingLaws.{ItemsAreJudged, IsFirstOf, IsLateAnswer, IsHeaderAnswer}
+use Rattle.ttx_witness.specs.laws.CycleLaws.{progress_of}
+use Rattle.ttx_witness.specs.faults.Reasons.{WitnessBadAt}
+use Rattle.ttx_witness.specs.laws.JudgingLaws.{ItemsAreJudged, IsFirstOf, IsLateAnswer, IsHeaderAnswer}
 use Rattle.ttx_certify.specs.declared.findings.Doubt.{Doubt}
 use Rattle.ttx_certify.specs.declared.findings.Doubt.TheVariants.{NoWitness, WitnessBad, Late, LateBlank}
 use Rattle.ttx_certify.specs.declared.findings.Finding.{Finding}

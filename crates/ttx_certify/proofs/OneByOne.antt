@@ -5,9 +5,9 @@ use Rattle.std.proofs.lemmas.Bool.Decides.{nat_tests}
 use Rattle.ttx_page.specs.Pages.{Page, needed}
 use Rattle.ttx_page.specs.declared.item.Item.{Item}
 use Rattle.ttx_page.specs.declared.item.Item.TheVariants.{Head as TheHead, Row as TheRow, Links as TheLinks}
-use Rattle.ttx_witness.specs.Collected.{item_number, IsItem}
+use Rattle.ttx_witness.specs.sent.Collected.{item_number, IsItem}
 use Rattle.ttx_witness.specs.Coverage.{Certificate}
-use Rattle.ttx_witness.specs.Faults.{IsWitnessFault}
+use Rattle.ttx_witness.specs.faults.Faults.{IsWitnessFault}
 use Rattle.ttx_certify.specs.declared.findings.Doubt.{Doubt}
 use Rattle.ttx_certify.specs.declared.findings.Doubt.TheVariants.{NoWitness, WitnessBad, Late, LateBlank}
 use Rattle.ttx_certify.specs.declared.findings.Finding.{Finding}

@@ -12,11 +12,11 @@ use Rattle.std.specs.Prelude.{◌≡◌, ◌⊎◌, ℕ, ◌<◌, nat_lt, true, 
 use Rattle.ttx_header.specs.Ids.{Id}
 use Rattle.ttx_page.specs.Pages.{Page, needed}
 use Rattle.ttx_page.specs.declared.item.Item.{Item}
-use Rattle.ttx_witness.specs.Collected.{item_number, IsItem}
+use Rattle.ttx_witness.specs.sent.Collected.{item_number, IsItem}
 use Rattle.ttx_witness.specs.Coverage.{Certificate, IsCovered, IsLeftOut}
-use Rattle.ttx_witness.specs.Reasons.{HasNoWitness, WitnessBadAt, LateAt, LateBlankAt}
-use Rattle.ttx_witness.specs.declared.reason.Reason.{Reason}
-use Rattle.ttx_witness.specs.declared.reason.Reason.TheVariants as R
+use Rattle.ttx_witness.specs.faults.Reasons.{HasNoWitness, WitnessBadAt, LateAt, LateBlankAt}
+use Rattle.ttx_witness.specs.declared.faults.reason.Reason.{Reason}
+use Rattle.ttx_witness.specs.declared.faults.reason.Reason.TheVariants as R
 use Rattle.ttx_certify.specs.declared.findings.Doubt.{Doubt}
 use Rattle.ttx_certify.specs.declared.findings.Doubt.TheVariants.{NoWitness, WitnessBad, Late, LateBlank}
 use Rattle.ttx_certify.specs.declared.findings.Finding.{Finding}

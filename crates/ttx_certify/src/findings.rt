@@ -6,9 +6,9 @@ ghost use Rattle.ttx_page.specs.Pages as definitions;
 ghost use Rattle.ttx_page.specs.Streams.{run_length};
 ghost use Rattle.ttx_page.specs.Views.{page_of};
 ghost use Rattle.ttx_witness.specs.Certificates.{certificate_of};
-ghost use Rattle.ttx_witness.specs.CycleLaws.{progress_of};
-ghost use Rattle.ttx_witness.specs.Following.{IsProgress};
-ghost use Rattle.ttx_witness.specs.JudgingLaws.{IsHeaderAnswer};
+ghost use Rattle.ttx_witness.specs.laws.CycleLaws.{progress_of};
+ghost use Rattle.ttx_witness.specs.passes.ItemProgress.{IsProgress};
+ghost use Rattle.ttx_witness.specs.laws.JudgingLaws.{IsHeaderAnswer};
 ghost use Rattle.ttx_certify.specs.Findings.{IsFound};
 
 use ttx_page::{Class, Item, Page, is_blank, needed};

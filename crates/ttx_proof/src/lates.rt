@@ -5,7 +5,7 @@ ghost use Rattle.std.specs.List.{AllPairs};
 ghost use Rattle.ttx_cycle.specs.Cycles.{slots_of};
 ghost use Rattle.ttx_page.specs.Views.{page_of};
 ghost use Rattle.ttx_witness.specs.Certificates.{certificate_of};
-ghost use Rattle.ttx_witness.specs.Collected.{ids_of, IsIndex};
+ghost use Rattle.ttx_witness.specs.sent.Collected.{ids_of, IsIndex};
 ghost use Rattle.ttx_witness.specs.Coverage as coverage;
 ghost use Rattle.ttx_proof.specs.Splices.{Splice};
 ghost use Rattle.ttx_proof.specs.Splicing.{splice_of, HasOnly, AreKnown, AreSentOn, StandsAt, TellsBridged, TellsLate, TellsLateOf, TellsLates};

@@ -1,33 +1,14 @@
-//! Laws of transmissions that repeat: they speak of slots, owners and certainty alone.
+//! The laws: public calls with empty bodies. A call costs nothing and gives the caller's proof the law.
 
-ghost use Rattle.ttx_witness.specs.Laws.{RunsAreTheStreams, NeighboursDecide, PassDecides, PassFindsTheFirst, SearchIsLeast, MoreStartsCover};
+pub mod cycle_laws;
+pub mod fault_laws;
+pub mod judging_laws;
+pub mod late_laws;
+pub mod run_laws;
+pub mod sure_items;
+pub mod wait_laws;
 
-/// The windows of a period's transmissions, taken round the cycle, are the runs of the stream.
-pub fn runs_are_the_streams()
-    ensures { RunsAreTheStreams }
-{}
-
-/// Every tuning slot is served exactly where neighbouring named runs follow one another in time.
-pub fn neighbours_decide()
-    ensures { NeighboursDecide }
-{}
-
-/// One pass over a period decides whether named starts cover an item.
-pub fn pass_decides()
-    ensures { PassDecides }
-{}
-
-/// A further start that has a sure run leaves covered what was covered.
-pub fn more_starts_cover()
-    ensures { MoreStartsCover }
-{}
-
-/// The start that a pass calls bad, and the one that it calls late, are the first such.
-pub fn pass_finds_the_first()
-    ensures { PassFindsTheFirst }
-{}
-
-/// A search finds all starts of sure runs, and the least limit in which any starts cover the item.
-pub fn search_is_least()
-    ensures { SearchIsLeast }
-{}
+pub use run_laws::{
+    more_starts_cover, neighbours_decide, pass_decides, pass_finds_the_first, runs_are_the_streams,
+    search_is_least,
+};

@@ -1,71 +1,48 @@
-//! Certificates: the starts that are named for the items of pages, and what they must meet.
+//! When a cycle is accepted with a certificate, why it isn't, and the certificate with the least deadline.
+//!
+//! The way of the data: slots come in (of a whole cycle, or one by one in two passes); `sent` makes of them the transmissions of
+//! each item of each page in one period; `runs` makes runs of these, and holds them against named starts or finds all starts
+//! of sure runs; starts with a deadline (`finding`), waits (`waiting`) or what is wrong (`faults`, `passes`) go out.
+//!
+//! - `runs`: transmissions of one item as numbers alone, the runs that they make, and which of them confirm a named start.
+//! - `sent`: what the slots of a period send, under which header, item by item of all pages.
+//! - `faults`: why a cycle isn't accepted; slots that aren't clean, and what differs from a page.
+//! - `passes`: the same where slots pass one by one, twice, and none is kept.
+//! - `finding`: the starts that are named, and the least deadline.
+//! - `waiting`: the least deadline of each page and of each item.
+//! - `laws`: what the others find of one period is so of the stream, without end. Each law is a public call with an empty body.
 #![tactic(auto)]
 
-mod bad_slots;
-mod beginning;
-mod checks;
-mod collecting;
-mod confirming;
-pub mod cycle_laws;
-mod ending;
-mod facts;
-pub mod fault_laws;
+mod faults;
 mod finding;
-mod first_slots;
-mod following;
-mod gathering;
-mod items;
-pub mod judging_laws;
-pub mod late_laws;
 pub mod laws;
-mod moving;
-mod naming;
-mod other_subpages;
-mod owners;
-mod packets;
-mod page_faults;
-mod page_index;
-mod page_items;
-mod page_waits;
-mod passing;
-mod period;
-mod reason;
-mod recent;
-mod search;
-mod sending;
-mod sent_faults;
-mod sent_slots;
-mod steady;
-mod strays;
-mod subcodes;
-pub mod sure_items;
-mod track;
-mod transmissions;
-mod wait;
-pub mod wait_laws;
-mod waits_by_item;
+mod passes;
+mod runs;
+mod sent;
+mod waiting;
 
-pub use bad_slots::bad_slot;
-pub use checks::{Check, is_wrong, same_links};
-pub use confirming::{Progress, late_at_end};
-pub use ending::EndedPass;
-pub use finding::{Found, find, find_for};
-pub use gathering::{collect, collect_after};
-pub use items::judge_item;
-pub use other_subpages::OtherSubpages;
-pub use packets::{header_in, heads_page, mine_after, row_in, sends};
-pub use page_faults::page_fault;
-pub use page_index::{PageIndex, index_of, place_of};
-pub use page_items::{item_of, run_length};
-pub use page_waits::waits;
-pub use passing::{Pass, SecondPass, WalkFault};
-pub use period::Collected;
-pub use reason::Reason;
-pub use sent_faults::fault_of;
-pub use transmissions::Transmission;
+pub use faults::bad_slots::bad_slot;
+pub use faults::collected_faults::fault_of;
+pub use faults::comparing::{Check, is_wrong, same_links};
+pub use faults::other_subpages::OtherSubpages;
+pub use faults::page_faults::page_fault;
+pub use faults::reason::Reason;
+pub use finding::certificates::{Found, find, find_for};
+pub use laws::{cycle_laws, fault_laws, judging_laws, late_laws, sure_items, wait_laws};
+pub use passes::ending::EndedPass;
+pub use passes::passing::{Pass, SecondPass, WalkFault};
+pub use runs::confirming::{Progress, late_at_end};
+pub use runs::one_item::judge_item;
+pub use runs::transmissions::Transmission;
+pub use sent::collected::Collected;
+pub use sent::collecting::{collect, collect_after};
+pub use sent::packets::{header_in, heads_page, mine_after, row_in, sends};
+pub use sent::page_index::{PageIndex, index_of, place_of};
+pub use sent::page_items::{item_of, run_length};
 pub use ttx_certificate::{
     CertFault, Certificate, Entry, NoMemory, certificate_laws, digit, limit, push_id, push_item,
     push_numbers, read_certificate, write_certificate,
 };
-pub use wait::{ItemWait, Losses, OwnWait, PageWait, Wait};
-pub use waits_by_item::item_waits;
+pub use waiting::item_waits::item_waits;
+pub use waiting::page_waits::waits;
+pub use waiting::wait::{ItemWait, Losses, OwnWait, PageWait, Wait};

@@ -1,7 +1,7 @@
 use Rattle.std.proofs.Common.{◌≡◌, ◌<◌, pos, ◌+ℤ◌, length, sym, ap, ◌∙◌, subst, arith}
 use Rattle.ttx_page.specs.Views.{page_of}
 use Rattle.ttx_witness.specs.Certificates.{certificate_of}
-use Rattle.ttx_witness.specs.Confirming.{late_after}
+use Rattle.ttx_witness.specs.runs.Confirming.{late_after}
 use Rattle.ttx_certify.specs.Findings.{IsFound, IsLeast}
 use Rattle.ttx_certify.proofs.Found.{found_late, judged_so}
 use Rattle.ttx_certify.proofs.findings.judged.Goals as goal

@@ -1,8 +1,8 @@
 use Rattle.std.proofs.Common.{◌≡◌, ◌≤◌, Some, get_or, length, slice_get, sym, ap, ◌∙◌, subst, arith}
 use Rattle.ttx_page.specs.Views.{page_of}
-use Rattle.ttx_witness.specs.Following.{IsProgress}
-use Rattle.ttx_witness.specs.JudgingLaws.{IsHeaderAnswer}
-use Rattle.ttx_witness.specs.Passing.{ended_pages, ended_certificate}
+use Rattle.ttx_witness.specs.passes.ItemProgress.{IsProgress}
+use Rattle.ttx_witness.specs.laws.JudgingLaws.{IsHeaderAnswer}
+use Rattle.ttx_witness.specs.passes.Passing.{ended_pages, ended_certificate}
 use Rattle.ttx_certify.specs.Findings.{IsFoundAt}
 use Rattle.ttx_certify.proofs.PageByPage.{page_at, same_page}
 use Rattle.ttx_certify.proofs.page_findings.find_at.Goals as goal

@@ -1,5 +1,5 @@
 use Rattle.std.proofs.Common.{◌+◌, sym, subst}
-use Rattle.ttx_witness.specs.Passing.{ended_certificate}
+use Rattle.ttx_witness.specs.passes.Passing.{ended_certificate}
 use Rattle.ttx_certify.specs.Findings.{IsFoundIn}
 use Rattle.ttx_certify.proofs.OneByOne.{found_more}
 use Rattle.ttx_certify.proofs.page_findings.first_finding.Goals as goal

@@ -1,8 +1,8 @@
 use Rattle.std.proofs.Common.{◌≡◌, ℕ, List, slice_get, Some}
 use Rattle.ttx_page.specs.Pages.{Page}
 use Rattle.ttx_page.specs.declared.class.Class.TheVariants.{Clearing}
-use Rattle.ttx_witness.specs.JudgingLaws.{IsHeaderAnswer}
-use Rattle.ttx_witness.specs.Passing.{IsEnded, ended_pages, ended_certificate}
+use Rattle.ttx_witness.specs.laws.JudgingLaws.{IsHeaderAnswer}
+use Rattle.ttx_witness.specs.passes.Passing.{IsEnded, ended_pages, ended_certificate}
 use Rattle.ttx_certify.specs.Findings.{IsFoundIn}
 use Rattle.ttx_certify.proofs.page_findings.first_finding.Given as goal
 

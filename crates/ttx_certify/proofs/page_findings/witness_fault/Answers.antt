@@ -1,7 +1,7 @@
 use Rattle.std.proofs.Common.{◌≡◌, Some, slice_get, sym, ap, ◌∙◌, subst}
 use Rattle.ttx_page.specs.Views.{page_of}
-use Rattle.ttx_witness.specs.Faults.{IsWitnessFault}
-use Rattle.ttx_witness.specs.Passing.{ended_certificate}
+use Rattle.ttx_witness.specs.faults.Faults.{IsWitnessFault}
+use Rattle.ttx_witness.specs.passes.Passing.{ended_certificate}
 use Rattle.ttx_certify.specs.Findings.{IsFoundIn, reason_of}
 use Rattle.ttx_certify.proofs.OneByOne.{no_fault, fault_found}
 use Rattle.ttx_certify.proofs.PageByPage.{page_at, same_page}

@@ -1,6 +1,0 @@
-use Rattle.std.proofs.Common.{ℕ, ◌<◌}
-use Rattle.ttx_witness.specs.Reasons.{BadSlotAt}
-use Rattle.ttx_witness.proofs.bad_slots.bad_slot.Given as goal
-
-abbrev pub invariant-loop-j : goal.invariant-loop-j
-invariant-loop-j l = record { none : (i : ℕ) → i < l.j → BadSlotAt l.slots i → ⊥ }

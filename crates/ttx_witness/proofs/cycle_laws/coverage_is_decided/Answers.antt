@@ -1,5 +1,0 @@
-use Rattle.ttx_witness.proofs.Cycles as L
-use Rattle.ttx_witness.proofs.cycle_laws.coverage_is_decided.Goals as goal
-
-pub returns : goal.returns
-returns c = L.coverage_is_decided

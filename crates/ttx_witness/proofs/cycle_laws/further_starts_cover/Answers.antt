@@ -1,5 +1,0 @@
-use Rattle.ttx_witness.proofs.Cycles as L
-use Rattle.ttx_witness.proofs.cycle_laws.further_starts_cover.Goals as goal
-
-pub returns : goal.returns
-returns c = L.further_starts_cover

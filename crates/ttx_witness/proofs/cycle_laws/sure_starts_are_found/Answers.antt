@@ -1,5 +1,0 @@
-use Rattle.ttx_witness.proofs.Cycles as L
-use Rattle.ttx_witness.proofs.cycle_laws.sure_starts_are_found.Goals as goal
-
-pub returns : goal.returns
-returns c = L.sure_starts_are_found

@@ -1,5 +1,0 @@
-use Rattle.ttx_witness.proofs.NoFault as L
-use Rattle.ttx_witness.proofs.fault_laws.steady_has_no_fault.Goals as goal
-
-pub returns : goal.returns
-returns c = L.steady_has_no_fault

@@ -1,5 +1,0 @@
-use Rattle.ttx_witness.proofs.HeaderGaps as L
-use Rattle.ttx_witness.proofs.judging_laws.headers_are_judged.Goals as goal
-
-pub returns : goal.returns
-returns c = L.headers_are_judged c.each_slot_turns.ensures

@@ -1,5 +1,0 @@
-use Rattle.ttx_witness.proofs.Judging as L
-use Rattle.ttx_witness.proofs.judging_laws.transmissions_are_listed.Goals as goal
-
-pub returns : goal.returns
-returns c = L.transmissions_are_listed

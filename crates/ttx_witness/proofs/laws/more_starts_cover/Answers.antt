@@ -1,6 +1,0 @@
-use Rattle.ttx_witness.specs.Laws.{OwnedIn, SureIn}
-use Rattle.ttx_witness.proofs.Covered as L
-use Rattle.ttx_witness.proofs.laws.more_starts_cover.Goals as goal
-
-pub returns : goal.returns
-returns c = λ n k limit s starts more further sure covers. L.more_cover (OwnedIn s) (SureIn s) n k limit starts more further sure covers

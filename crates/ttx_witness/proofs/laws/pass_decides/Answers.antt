@@ -1,6 +1,0 @@
-use Rattle.ttx_witness.specs.Laws.{OwnedIn, SureIn}
-use Rattle.ttx_witness.proofs.Covered as L
-use Rattle.ttx_witness.proofs.laws.pass_decides.Goals as goal
-
-pub returns : goal.returns
-returns c = λ n k limit s law starts rising ts told. L.decides (OwnedIn s) (SureIn s) n k limit law starts rising ts told

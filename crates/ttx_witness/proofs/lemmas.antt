@@ -1,0 +1,9 @@
+pub mod Choices
+pub mod ChangedPlaces
+pub mod runs
+pub mod sent
+pub mod faults
+pub mod passes
+pub mod finding
+pub mod waiting
+pub mod laws

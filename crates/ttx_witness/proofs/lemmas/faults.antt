@@ -1,0 +1,6 @@
+pub mod NoFault
+pub mod FirstSlots
+pub mod OverOnePeriod
+pub mod FirstWrongSent
+pub mod PageSubcodes
+pub mod OtherSubpages

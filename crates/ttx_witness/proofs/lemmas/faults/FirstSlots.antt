@@ -1,0 +1,119 @@
+-- First slots of single reasons.
+use Rattle.std.proofs.Common.{◌≡◌, ◌⊎◌, ◌↔◌, ℕ, zero, suc, ◌+◌, ◌<◌, ◌≤◌, ℤ, pos, true, false, not, ◌&&◌, ◌==◌, if◌then◌else◌, nat_le, List, length, map, get_or, slice_get, option_map, Option, Some, None, refl, sym, ap, ◌∙◌, subst, inl, inr, arith}
+use Rattle.std.proofs.lemmas.Bool.{cases_lt}
+use Rattle.std.proofs.lemmas.Bool.Decides.{nat_tests}
+use Rattle.std.proofs.lemmas.Option.{slice_get-map, slice_get-get_or}
+use Rattle.ttx_page.specs.declared.page.Page.{Page as PageValue}
+use Rattle.ttx_page.specs.Views.{page_of}
+use Rattle.ttx_page.specs.Packets.{packet_of}
+use Rattle.ttx_header.specs.Control.{c10}
+use Rattle.ttx_page.specs.Pages.{Page, needed, page_row, is_hidden, IsAlone}
+use Rattle.ttx_page.specs.declared.item.Item.TheVariants.{Row as TheRow}
+use Rattle.ttx_page.specs.Streams.{Stream, heads_page}
+use Rattle.ttx_page.specs.Steady.{HasHeader, HasNoHeader, OtherSubpageAt, ErasedAt, HeadDiffersAt, RowDiffersAt, LinksDifferAt}
+use Rattle.ttx_witness.specs.faults.Comparing.{WrongAt, RowWrongAt, OtherHeaderAt}
+use Rattle.ttx_witness.specs.declared.faults.comparing.Check.TheVariants.{EraseBit, Head as CheckHead, Row as CheckRow, Links as CheckLinks}
+use Rattle.ttx_witness.specs.faults.Faults.{IsFirstAt, TellsFirst, earlier}
+use Rattle.ttx_witness.proofs.lemmas.Choices.{if_ind, cases_bool, and_left, and_right}
+
+-- the same for what is as true
+pub tells_same : (cycle : List (List ℕ)) (P Q : ℤ → Type 0) → ((j : ℤ) → P j ↔ Q j) → (o : Option ℕ) → TellsFirst cycle P o → TellsFirst cycle Q o
+tells_same cycle P Q same None f = λ j q. f j ((same j).1 q)
+tells_same cycle P Q same (Some slot) f = record { within = f.within; here = (same (pos slot)).0 f.here; none_before = λ i lt q. f.none_before i lt ((same (pos i)).1 q) }
+
+pub tells_none : (cycle : List (List ℕ)) (P : ℤ → Type 0) → ((j : ℤ) → P j → ⊥) → TellsFirst cycle P None
+tells_none cycle P none = none
+
+-- of two
+module _ (cycle : List (List ℕ)) (P Q R : ℤ → Type 0) (left : (j : ℤ) → P j → R j) (right : (j : ℤ) → Q j → R j) (either : (j : ℤ) → R j → P j ⊎ Q j) where
+  pub earlier_is : (a b : Option ℕ) → TellsFirst cycle P a → TellsFirst cycle Q b → TellsFirst cycle R (earlier a b)
+  earlier_is None None f g = λ j r. elim (either j r) as (λ _. ⊥) [ inl p ↦ f j p | inr q ↦ g j q ]
+  earlier_is None (Some b) f g = record {
+    within = g.within;
+    here = right (pos b) g.here;
+    none_before = λ i lt r. elim (either (pos i) r) as (λ _. ⊥) [ inl p ↦ f (pos i) p | inr q ↦ g.none_before i lt q ];
+  }
+  earlier_is (Some a) None f g = record {
+    within = f.within;
+    here = left (pos a) f.here;
+    none_before = λ i lt r. elim (either (pos i) r) as (λ _. ⊥) [ inl p ↦ f.none_before i lt p | inr q ↦ g (pos i) q ];
+  }
+  earlier_is (Some a) (Some b) f g = if_ind (λ x. IsFirstAt cycle R x) (nat_le a b) a b
+      (λ e. record {
+        within = f.within;
+        here = left (pos a) f.here;
+        none_before = λ i lt r. elim (either (pos i) r) as (λ _. ⊥) [ inl p ↦ f.none_before i lt p | inr q ↦ g.none_before i (grind (arith, nat_tests)) q ];
+      })
+      (λ e. record {
+        within = g.within;
+        here = right (pos b) g.here;
+        none_before = λ i lt r. elim (either (pos i) r) as (λ _. ⊥) [ inl p ↦ f.none_before i (grind (arith, nat_tests)) p | inr q ↦ g.none_before i lt q ];
+      })
+
+module _ (s : Stream) (p : Page) where
+  pub erased_is : (j : ℤ) → WrongAt s p EraseBit j ↔ ErasedAt s p j
+  erased_is j = ((λ w. record { header = w.sent.owned.1; erases = w.wrong }), (λ e. record { sent = record { owner = j; owned = (refl, e.header) }; wrong = e.erases }))
+
+  pub head_is : (j : ℤ) → WrongAt s p CheckHead j ↔ HeadDiffersAt s p j
+  head_is j = ((λ w. record { header = w.sent.owned.1; differs = w.wrong }), (λ e. record { sent = record { owner = j; owned = (refl, e.header) }; wrong = e.differs }))
+
+  pub links_are : (j : ℤ) → WrongAt s p CheckLinks j ↔ LinksDifferAt s p j
+  links_are j = ((λ w. record { sent = w.sent; differs = w.wrong }), (λ e. record { sent = e.sent; wrong = e.differs }))
+
+  -- a row below n differs
+  pub record RowsWrongAt (n : ℕ) (j : ℤ) : Type 0 where
+    pub row : ℕ
+    pub below : row < n
+    pub wrong : RowWrongAt s p row j
+
+  pub rows_none : (j : ℤ) → RowsWrongAt 1 j → ⊥
+  rows_none j w = needed_above w.row (omega (arith, w.below)) w.wrong.needed
+    where
+      needed_above : (r : ℕ) → r < 1 → needed p (TheRow r) ≡ true → ⊥
+      needed_above zero lt e = cc
+      needed_above (suc r) lt e = absurd (omega arith)
+
+  pub rows_left : (n : ℕ) (j : ℤ) → RowsWrongAt n j → RowsWrongAt (n + 1) j
+  rows_left n j w = record { row = w.row; below = omega (arith, w.below); wrong = w.wrong }
+
+  pub rows_right : (n : ℕ) (j : ℤ) → RowWrongAt s p n j → RowsWrongAt (n + 1) j
+  rows_right n j w = record { row = n; below = omega arith; wrong = w }
+
+  pub rows_either : (n : ℕ) (j : ℤ) → RowsWrongAt (n + 1) j → RowsWrongAt n j ⊎ RowWrongAt s p n j
+  rows_either n j w = elim (cases_lt w.row n) as (λ _. RowsWrongAt n j ⊎ RowWrongAt s p n j) [
+    | inl lt ↦ inl (record { row = w.row; below = lt; wrong = w.wrong })
+    | inr ge ↦ let e : w.row ≡ n = omega (arith, w.below) in inr (subst (λ r. RowWrongAt s p r j) e w.wrong)
+  ]
+
+  pub rows_are : (n : ℕ) → 25 ≤ n → (j : ℤ) → RowsWrongAt n j ↔ RowDiffersAt s p j
+  rows_are n all j = (
+    (λ w. record { row = w.row; needed = w.wrong.needed; sent = w.wrong.wrong.sent; differs = w.wrong.wrong.wrong }),
+    (λ d. record { row = d.row; below = let k = few d.row d.needed in omega arith; wrong = record { needed = d.needed; wrong = record { sent = d.sent; wrong = d.differs } } }),
+  )
+    where
+      few : (r : ℕ) → needed p (TheRow r) ≡ true → r ≤ 24
+      few r e =
+          let a : (nat_le 1 r && nat_le r 24) ≡ true = and_left _ (not (c10 p.control)) (and_left _ (if r == 24 then p.links.show24 else not (is_hidden (page_row p) r)) e) in
+          let b : nat_le r 24 ≡ true = and_right (nat_le 1 r) (nat_le r 24) a in grind (arith, nat_tests)
+
+-- no header
+pub no_header_is : (s : Stream) (p : Page) → (HasHeader s p.id → ⊥) → HasNoHeader s p
+no_header_is s p none j = elim (cases_bool (heads_page p.id (packet_of (s j)))) as (λ _. heads_page p.id (packet_of (s j)) ≡ false)
+    [ inl e ↦ absurd (none (record { slot = j; is_header = e })) | inr e ↦ e ]
+
+-- another subpage, where the page is alone
+pub other_subpage_is : (s : Stream) (pages : List Page) (p : Page) → IsAlone pages p → (j : ℤ) → OtherHeaderAt s p.id j ↔ OtherSubpageAt s pages p j
+other_subpage_is s pages p alone j = ((λ h. record { alone = alone; number = h.number; other = h.other }), (λ h. record { number = h.number; other = h.other }))
+
+-- the page in a place of the list
+pub placed : {A : Type 0} (o : Option A) (p q : A) → o ≡ Some p → o ≡ Some q → p ≡ q
+placed None p q e f = cc
+placed (Some a) p q e f = cc
+
+pub page_here : (pages : List PageValue) (i : ℕ) (q : PageValue) → i < length pages → q ≡ get_or pages i q → slice_get (map page_of pages) i ≡ Some (page_of q)
+page_here pages i q lt e = slice_get-map page_of pages i ∙ ap (option_map page_of) (slice_get-get_or pages i q lt) ∙ ap (λ x. Some (page_of x)) (sym e)
+
+-- a row that a viewer sees
+pub row_wrong : (s : Stream) (p : Page) (row number : ℕ) → row ≡ number → needed p (TheRow row) ≡ true → (j : ℤ) → WrongAt s p (CheckRow row) j ↔ RowWrongAt s p number j
+row_wrong s p row number e sees j =
+    subst (λ r. WrongAt s p (CheckRow row) j ↔ RowWrongAt s p r j) e ((λ w. record { needed = sees; wrong = w }), (λ w. w.wrong))

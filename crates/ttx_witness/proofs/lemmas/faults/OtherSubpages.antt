@@ -1,0 +1,140 @@
+-- Headers with another subcode than the one of their number are those of other subpages of pages that are alone.
+use Rattle.std.proofs.Common.{◌≡◌, ◌↔◌, ℕ, ◌+◌, ◌<◌, ◌≤◌, ℤ, pos, ◌+ℤ◌, ◌-ℤ◌, Bool, true, false, ◌&&◌, ◌==◌, List, length, get_or, slice_get, replicate, Option, Some, None, refl, sym, ap, ◌∙◌, subst, inl, inr, arith, eqb-true, eq-eqb}
+use Rattle.std.proofs.lemmas.Bool.{cases_lt}
+use Rattle.std.proofs.lemmas.List.{get_or-replicate, get_or_past, length-replicate}
+use Rattle.std.proofs.lemmas.Option.{slice_get_within}
+use Rattle.ttx_header.specs.Ids.{Id, same_id}
+use Rattle.ttx_page.specs.Packets.{Packet, Empty, Unreadable, Header, Row, Links, Info, Other, packet_of}
+use Rattle.ttx_page.specs.Pages.{Page, IsAlone, is_other_subpage}
+use Rattle.ttx_page.specs.declared.selection.Selection.TheVariants.{AnySub}
+use Rattle.ttx_page.specs.Streams.{Stream, repeated, heads_page, heads_matched}
+use Rattle.ttx_page.specs.Steady.{OtherSubpageAt}
+use Rattle.ttx_witness.specs.faults.Faults.{TellsFirst}
+use Rattle.ttx_witness.specs.faults.OtherSubpages.{place, IsListed, AreSubcodes, is_other, is_stray, IsStrayAt, first_of, TellsBelow}
+use Rattle.ttx_witness.specs.declared.faults.subcodes.Subcodes.{Subcodes}
+use Rattle.ttx_witness.specs.declared.faults.subcodes.Subcodes.TheVariants.{Unlisted, One, Several}
+use Rattle.ttx_witness.proofs.lemmas.Choices.{if_ind, no_both, cases_bool, and_left, and_right, and_both, not_true, not_false}
+use Rattle.ttx_witness.proofs.lemmas.faults.OverOnePeriod.{nowhere, one_more}
+use Rattle.ttx_witness.proofs.lemmas.sent.CycleTransmissions.{period_of}
+use Rattle.std.proofs.lemmas.Int.{ints}
+
+-- a header whose subcode isn't the page's
+unlike : (p : Page) (id : Id) → (p.id.mag == id.mag) && (p.id.page == id.page) ≡ true → same_id p.id id ≡ false → (p.id.sub == id.sub) ≡ false
+unlike p id a b = elim (cases_bool (p.id.sub == id.sub)) as (λ _. (p.id.sub == id.sub) ≡ false) [ inl e ↦ absurd (no_both _ (and_both _ _ a e) b) | inr e ↦ e ]
+
+differs : (p : Page) (id : Id) → (p.id.sub == id.sub) ≡ false → same_id p.id id ≡ false
+differs p id a = elim (cases_bool (same_id p.id id)) as (λ _. same_id p.id id ≡ false) [ inl e ↦ absurd (no_both _ (and_right ((p.id.mag == id.mag) && (p.id.page == id.page)) _ e) a) | inr e ↦ e ]
+
+module _ (pages : List Page) (p : Page) (n : ℕ) (at : slice_get pages n ≡ Some p) (inside : n < length pages) where
+  listed : IsListed pages (length pages) p.id.mag p.id.page p
+  listed = record { index = n; below = inside; here = at; in_magazine = refl; numbered = refl }
+
+  abbrev Stray : Subcodes → Packet → Type 0
+  Stray t (Header id control text) = ((p.id.mag == id.mag) && (p.id.page == id.page) && is_other t id.sub) ≡ true
+  Stray t packet = ⊥
+
+  record OtherPage (packet : Packet) : Type 0 where
+    alone : IsAlone pages p
+    number : heads_matched (AnySub p.id.mag p.id.page) packet ≡ true
+    other : heads_page p.id packet ≡ false
+
+  -- pages of the number with one subcode
+  alone_of : (sub : ℕ) → ((q : Page) → IsListed pages (length pages) p.id.mag p.id.page q → q.id.sub ≡ sub) → IsAlone pages p
+  alone_of sub all m q here = elim (cases_bool (is_other_subpage p q)) as (λ _. is_other_subpage p q ≡ false) [
+    | inl e ↦
+        let a = and_left ((q.id.mag == p.id.mag) && (q.id.page == p.id.page)) _ e in
+        let l : IsListed pages (length pages) p.id.mag p.id.page q = record {
+          index = m;
+          below = slice_get_within pages m q here;
+          here = here;
+          in_magazine = eqb-true _ _ (and_left _ _ a);
+          numbered = eqb-true _ _ (and_right (q.id.mag == p.id.mag) _ a);
+        } in
+        absurd (no_both _ (eq-eqb q.id.sub p.id.sub (all q l ∙ sym (all p listed))) (not_true _ (and_right ((q.id.mag == p.id.mag) && (q.id.page == p.id.page)) _ e)))
+    | inr e ↦ e
+  ]
+
+  -- which are alone have one subcode
+  same_sub : IsAlone pages p → (q : Page) → IsListed pages (length pages) p.id.mag p.id.page q → q.id.sub ≡ p.id.sub
+  same_sub alone q l = elim (cases_bool (q.id.sub == p.id.sub)) as (λ _. q.id.sub ≡ p.id.sub) [
+    | inl e ↦ eqb-true _ _ e
+    | inr e ↦ absurd (no_both _ (and_both _ _ (and_both _ _ (eq-eqb _ _ l.in_magazine) (eq-eqb _ _ l.numbered)) (not_false _ e)) (alone l.index q l.here))
+  ]
+
+  stray_to : (t : Subcodes) → AreSubcodes pages (length pages) p.id.mag p.id.page t → (packet : Packet) → Stray t packet → OtherPage packet
+  stray_to Unlisted a (Header id control text) h = absurd (a p listed)
+  stray_to (One sub) a (Header id control text) h =
+      let m = and_left ((p.id.mag == id.mag) && (p.id.page == id.page)) _ h in
+      let d : (sub == id.sub) ≡ false = not_true _ (and_right ((p.id.mag == id.mag) && (p.id.page == id.page)) _ h) in
+      record { alone = alone_of sub a.1; number = m; other = differs p id (ap (λ x. x == id.sub) (a.1 p listed) ∙ d) }
+  stray_to Several a (Header id control text) h = absurd (no_both _ (and_right ((p.id.mag == id.mag) && (p.id.page == id.page)) _ h) refl)
+  stray_to t a Empty h = absurd h
+  stray_to t a Unreadable h = absurd h
+  stray_to t a (Row m r text) h = absurd h
+  stray_to t a (Links m content) h = absurd h
+  stray_to t a Info h = absurd h
+  stray_to t a Other h = absurd h
+
+  stray_from : (t : Subcodes) → AreSubcodes pages (length pages) p.id.mag p.id.page t → (packet : Packet) → OtherPage packet → Stray t packet
+  stray_from Unlisted a (Header id control text) o = absurd (a p listed)
+  stray_from (One sub) a (Header id control text) o = and_both _ _ o.number (not_false _ (ap (λ x. x == id.sub) (sym (a.1 p listed)) ∙ unlike p id o.number o.other))
+  stray_from Several a (Header id control text) o = absurd (a.4 (same_sub o.alone a.0 a.2 ∙ sym (same_sub o.alone a.1 a.3)))
+  stray_from t a Empty o = no_both _ o.number refl
+  stray_from t a Unreadable o = no_both _ o.number refl
+  stray_from t a (Row m r text) o = no_both _ o.number refl
+  stray_from t a (Links m content) o = no_both _ o.number refl
+  stray_from t a Info o = no_both _ o.number refl
+  stray_from t a Other o = no_both _ o.number refl
+
+  module _ (table : List Subcodes) where
+    to_stray : (packet : Packet) → is_stray table p.id.mag p.id.page packet ≡ true → Stray (get_or table (place p.id.mag p.id.page) Unlisted) packet
+    to_stray (Header id control text) h = h
+    to_stray Empty h = no_both _ h refl
+    to_stray Unreadable h = no_both _ h refl
+    to_stray (Row m r text) h = no_both _ h refl
+    to_stray (Links m content) h = no_both _ h refl
+    to_stray Info h = no_both _ h refl
+    to_stray Other h = no_both _ h refl
+
+    from_stray : (packet : Packet) → Stray (get_or table (place p.id.mag p.id.page) Unlisted) packet → is_stray table p.id.mag p.id.page packet ≡ true
+    from_stray (Header id control text) h = h
+    from_stray Empty h = absurd h
+    from_stray Unreadable h = absurd h
+    from_stray (Row m r text) h = absurd h
+    from_stray (Links m content) h = absurd h
+    from_stray Info h = absurd h
+    from_stray Other h = absurd h
+
+    pub stray_is : (s : Stream) → AreSubcodes pages (length pages) p.id.mag p.id.page (get_or table (place p.id.mag p.id.page) Unlisted) → (j : ℤ) → IsStrayAt table s p.id.mag p.id.page j ↔ OtherSubpageAt s pages p j
+    stray_is s a j = (
+      (λ h. let o = stray_to (get_or table (place p.id.mag p.id.page) Unlisted) a (packet_of (s j)) (to_stray (packet_of (s j)) h) in record { alone = o.alone; number = o.number; other = o.other }),
+      (λ o. from_stray (packet_of (s j)) (stray_from (get_or table (place p.id.mag p.id.page) Unlisted) a (packet_of (s j)) (record { alone = o.alone; number = o.number; other = o.other }))),
+    )
+
+-- the first slots, slot by slot
+pub first_more : (P : ℤ → Type 0) (j : ℕ) (is : Bool) → ((is ≡ true) ↔ P (pos j)) → (o : Option ℕ) → TellsBelow P j o → TellsBelow P (j + 1) (first_of o is j)
+first_more P j is e None t = if_ind (TellsBelow P (j + 1)) is (Some j) None
+    (λ yes. (omega arith, e.0 yes, t))
+    (λ n. one_more (λ i. P (pos i)) j t (λ p. no_both _ (e.1 p) n))
+first_more P j is e (Some i) t = (let l = t.0 in omega arith, t.1, t.2)
+
+pub first_none : (P : ℤ → Type 0) (first : List (Option ℕ)) → first ≡ replicate 2048 None → (k : ℕ) → TellsBelow P 0 (get_or first k None)
+first_none P first e k =
+    let at : get_or first k None ≡ None = ap (λ t. get_or t k None) e ∙ untold in
+    subst (TellsBelow P 0) (sym at) (λ i lt p. absurd (omega arith))
+  where
+    untold : get_or {A = Option ℕ} (replicate 2048 None) k None ≡ None
+    untold = elim (cases_lt k 2048) as (λ _. get_or {A = Option ℕ} (replicate 2048 None) k None ≡ None) [
+      | inl lt ↦ get_or-replicate {A = Option ℕ} 2048 k None None lt
+      | inr ge ↦ get_or_past {X = Option ℕ} (replicate 2048 None) k None (omega (arith, length-replicate {A = Option ℕ} 2048 None))
+    ]
+
+pub first_all : (cycle : List (List ℕ)) → 1 ≤ length cycle → (table : List Subcodes) (mag number : ℕ) (o : Option ℕ) →
+    TellsBelow (IsStrayAt table (repeated cycle) mag number) (length cycle) o → TellsFirst cycle (IsStrayAt table (repeated cycle) mag number) o
+first_all cycle some table mag number None t = nowhere cycle some (IsStrayAt table (repeated cycle) mag number)
+    (λ i. subst (λ x. is_stray table mag number (packet_of x) ≡ true) (period_of cycle i))
+    (λ i. subst (λ x. is_stray table mag number (packet_of x) ≡ true) (back i)) t
+  where
+    back : (i : ℤ) → repeated cycle (i -ℤ pos (length cycle)) ≡ repeated cycle i
+    back i = let e : (i -ℤ pos (length cycle)) +ℤ pos (length cycle) ≡ i = omega (arith, ints) in sym (period_of cycle (i -ℤ pos (length cycle))) ∙ ap (repeated cycle) e
+first_all cycle some table mag number (Some j) t = record { within = t.0; here = t.1; none_before = t.2 }

@@ -1,0 +1,5 @@
+pub mod EntryOrder
+pub mod DueItems
+pub mod LeastDeadline
+pub mod HeaderLimits
+pub mod Surveys

@@ -1,0 +1,30 @@
+-- A pass before its first slot.
+use Rattle.std.proofs.Common.{◌≡◌, ℕ, ◌<◌, List, slice_get, replicate, Some, None, refl, ap, ◌∙◌, arith}
+use Rattle.std.proofs.lemmas.List.{get_or-replicate, length-replicate}
+use Rattle.std.proofs.lemmas.Option.{slice_get-get_or}
+use Rattle.ttx_page.specs.Pages.{Page}
+use Rattle.ttx_page.specs.Streams.{Stream}
+use Rattle.ttx_witness.specs.Coverage.{Certificate}
+use Rattle.ttx_witness.specs.sent.ItemTransmissions.{sent_scan}
+use Rattle.ttx_witness.specs.declared.passes.page_facts.Facts.{Facts}
+use Rattle.ttx_witness.specs.passes.ItemProgress.{Holds}
+use Rattle.ttx_witness.specs.passes.PageFacts.{AreFacts, heads_of}
+
+abbrev pub none_noted : Facts
+none_noted = record { heads = None; erased = None; head = None; row = None; links = None }
+
+pub nothing_noted : (w : Certificate) (p : Page) (s : Stream) (all : List Facts) (count n : ℕ) → all ≡ replicate count none_noted → n < count → Holds Facts all n (AreFacts w p s None 0)
+unfolding sent_scan heads_of
+nothing_noted w p s all count n e lt = record {
+  value = none_noted;
+  here = ap (λ l. slice_get l n) e
+      ∙ slice_get-get_or (replicate count none_noted) n none_noted (let l = length-replicate {A = Facts} count none_noted in omega arith)
+      ∙ ap Some (get_or-replicate {A = Facts} count n none_noted none_noted lt);
+  is = record {
+    heads = refl;
+    erased = λ j lt. absurd (omega arith);
+    head = λ j lt. absurd (omega arith);
+    row = λ j lt. absurd (omega arith);
+    links = λ j lt. absurd (omega arith);
+  };
+}

@@ -1,0 +1,49 @@
+-- The end of a second list.
+use Rattle.std.proofs.Common.{◌≡◌, ℕ, ◌-◌, ◌≤◌, pos, ◌-ℤ◌, List, [], ◌∷◌, length, Option, refl, sym, ap, ◌∙◌, arith}
+use Rattle.ttx_page.specs.Pages.{Page}
+use Rattle.ttx_page.specs.Streams.{run_length}
+use Rattle.ttx_page.specs.declared.item.Item.{Item}
+use Rattle.ttx_page.specs.declared.item.Item.TheVariants.{Head as TheHead, Row as TheRow, Links as TheLinks}
+use Rattle.ttx_witness.specs.runs.Transmissions.{runs}
+use Rattle.ttx_witness.specs.runs.Confirming.{after_runs, not_begun}
+use Rattle.ttx_witness.specs.declared.runs.confirming.Progress.{Progress}
+use Rattle.ttx_witness.specs.Coverage.{Certificate, limit}
+use Rattle.ttx_witness.specs.laws.CycleLaws.{progress_of}
+use Rattle.ttx_witness.specs.sent.ItemTransmissions.{sent_in}
+use Rattle.ttx_header.specs.Ids.{Id}
+use Rattle.ttx_page.specs.Streams.{repeated}
+use Rattle.ttx_witness.specs.sent.ItemTransmissions.{owner_scan, owner_moved, entry_of}
+use Rattle.ttx_witness.specs.sent.Collected.{owner_for}
+use Rattle.ttx_witness.specs.declared.sent.owners.Owner.{Owner}
+use Rattle.ttx_witness.proofs.lemmas.passes.ReturningOwners.{steady_entry, own_entry}
+
+pub some_run : (repeat : ℕ) (item : Item) → 1 ≤ repeat → 1 ≤ run_length repeat item
+some_run repeat TheHead h = h
+some_run repeat (TheRow r) h = h
+some_run repeat TheLinks h = omega arith
+
+pub progress_told : (y : List (List ℕ)) (p : Page) (w : Certificate) (item : Item) (starts : List ℕ) (lim period repeat : ℕ) (progress : Progress) →
+    starts ≡ w.starts p.id item → lim ≡ limit w → period ≡ length y → repeat ≡ run_length w.repeat item →
+    progress ≡ after_runs lim starts not_begun (runs period (repeat - 1) (sent_in y p.id w.lines item)) → progress ≡ progress_of y p w item (run_length w.repeat item - 1)
+progress_told y p w item starts lim period repeat progress e f g h told =
+    let ts = sent_in y p.id w.lines item in
+    told ∙ ap (λ ss. after_runs lim ss not_begun (runs period (repeat - 1) ts)) e
+    ∙ ap (λ l. after_runs l (w.starts p.id item) not_begun (runs period (repeat - 1) ts)) f
+    ∙ ap (λ n. after_runs (limit w) (w.starts p.id item) not_begun (runs n (repeat - 1) ts)) g
+    ∙ ap (λ r. after_runs (limit w) (w.starts p.id item) not_begun (runs (length y) (r - 1) ts)) h
+
+pub empty_is : (y : List (List ℕ)) → length y ≡ 0 → y ≡ []
+empty_is [] e = refl
+empty_is (z ∷ y) e = absurd (omega arith)
+
+-- the owners before a list that is the first one again
+module _ (entry owners : List (Option Owner)) (x y : List (List ℕ)) (i : ℕ) (id : Id) (seen : owner_for owners i id ≡ owner_scan id (repeated y) (entry_of x id) (length y)) (begun : owner_for entry i id ≡ entry_of x id) (count : ℕ) (is : count ≡ length y) where
+  pub again : x ≡ y → owner_moved (pos 0 -ℤ pos count) (owner_for owners i id) ≡ owner_for entry i id
+  again e =
+      ap (λ n. owner_moved (pos 0 -ℤ pos n) (owner_for owners i id)) is ∙ ap (owner_moved (pos 0 -ℤ pos (length y))) seen
+      ∙ ap (λ z. owner_moved (pos 0 -ℤ pos (length y)) (owner_scan id (repeated y) (entry_of z id) (length y))) e
+      ∙ own_entry y id ∙ ap (λ z. entry_of z id) (sym e) ∙ sym begun
+
+  pub own : 1 ≤ length y → owner_moved (pos 0 -ℤ pos count) (owner_for owners i id) ≡ owner_for entry i id → entry_of x id ≡ entry_of y id
+  own some steady = steady_entry y some id (entry_of x id)
+      (sym (ap (owner_moved (pos 0 -ℤ pos (length y))) seen) ∙ sym (ap (λ n. owner_moved (pos 0 -ℤ pos n) (owner_for owners i id)) is) ∙ steady ∙ begun)

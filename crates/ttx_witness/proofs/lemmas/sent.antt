@@ -1,0 +1,12 @@
+pub mod Periods
+pub mod StreamOwners
+pub mod CycleTransmissions
+pub mod FirstPeriod
+pub mod PageIndexes
+pub mod EntryOwners
+pub mod OneSlot
+pub mod OwnersAfterSlot
+pub mod AllLists
+pub mod ListsInPlaces
+pub mod PacketKinds
+pub mod ItemPlaces

@@ -1,9 +1,0 @@
-use Rattle.ttx_page.specs.Streams.{repeated}
-use Rattle.ttx_page.specs.Views.{page_of}
-use Rattle.ttx_cycle.specs.Cycles.{slots_of}
-use Rattle.ttx_witness.specs.Faults.{TellsFirst}
-use Rattle.ttx_witness.proofs.Telling.{RowsWrongAt}
-use Rattle.ttx_witness.proofs.page_faults.first_wrong_row.Given as goal
-
-abbrev pub invariant-loop-number : goal.invariant-loop-number
-invariant-loop-number l = record { first : TellsFirst (slots_of l.cycle) (RowsWrongAt (repeated (slots_of l.cycle)) (page_of l.page) l.number) l.first }

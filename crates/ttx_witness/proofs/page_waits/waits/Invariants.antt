@@ -1,6 +1,0 @@
-use Rattle.ttx_cycle.specs.Cycles.{slots_of}
-use Rattle.ttx_witness.proofs.Waiting.{AreTold}
-use Rattle.ttx_witness.proofs.page_waits.waits.Given as goal
-
-abbrev pub invariant-loop-index : goal.invariant-loop-index
-invariant-loop-index l = record { told : AreTold (slots_of l.cycle) l.pages l.class l.repeat l.lines l.index l.waits.items }

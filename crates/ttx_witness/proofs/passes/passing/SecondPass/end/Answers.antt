@@ -1,0 +1,51 @@
+use Rattle.std.proofs.Common.{◌≡◌, ◌≤◌, [], length, ap, ◌∙◌, inl, inr, arith}
+use Rattle.std.proofs.lemmas.Bool.{cases_lt}
+use Rattle.ttx_witness.specs.sent.Collected.{place}
+use Rattle.ttx_witness.specs.passes.SentSlots.{placed}
+use Rattle.ttx_witness.specs.sent.ItemTransmissions.{entry_of}
+use Rattle.ttx_witness.proofs.lemmas.passes.EndOfList.{empty_is, again, own}
+use Rattle.ttx_witness.proofs.lemmas.sent.PageIndexes.{ids_are}
+use Rattle.ttx_witness.proofs.lemmas.passes.ReturningOwners.{kept_same}
+use Rattle.ttx_witness.proofs.lemmas.passes.AfterOneSlot.{id_of_page}
+use Rattle.ttx_witness.proofs.passes.passing.SecondPass.end.Goals as goal
+use Rattle.ttx_witness.proofs.passes.passing.SecondPass.end.Goals.{then-self-via-then-self, then-self-via-else-self+then-period-eq0, then-self-via-else-self+else-period-eq0+then-not-is_steady}
+
+pub returns-then-self-clause-ended : goal.returns-then-self-clause-ended
+returns-then-self-clause-ended c = λ x y st e.
+    let pass = c.args.self.pass in
+    let l : length x ≡ length y = ap length e in
+    let short : length y ≤ 65536 = (let f = st.few in omega arith) in
+    let v = st.passed short in
+    elim c.then-self.branch as (λ _. y ≡ []) [
+      | then-self-via-then-self w ↦ (let o = st.over.0 w.if-self.true in absurd (omega arith))
+      | then-self-via-else-self+then-period-eq0 w ↦ empty_is y (let k = v.count in let n = w.if-period-eq0.true in omega arith)
+      | then-self-via-else-self+else-period-eq0+then-not-is_steady w ↦
+          let yes = c.are_steady-is_steady.ensures.1 (λ i id at.
+          let is = ids_are c.pages_keep_their_rules.ensures pass.pages.now i id at in
+          again c.args.self.entry pass.owners x y i id (v.owners.each i id at is) (st.entry i id at is) pass.count v.count e) in
+          let no_way = w.if-not-is_steady.true in
+          absurd cc
+    ]
+
+pub returns-clause-ended : goal.returns-clause-ended
+returns-clause-ended c = λ x y st.
+    let pass = c.args.self.pass in
+    let short : length y ≤ 65536 = elim (cases_lt 65536 (length y)) as (λ _. length y ≤ 65536) [ inl long ↦ (let o = st.over.1 long in let f = c.if-self.false in absurd cc) | inr le ↦ le ] in
+    let v = st.passed short in
+    let some : 1 ≤ length y = (let k = v.count in let n = c.if-period-eq0.false in omega arith) in
+    let steady = c.are_steady-is_steady.ensures.0 c.if-not-is_steady.false in
+    let kept = kept_same pass (entry_of x) (entry_of y) y (λ i p at.
+    let at_id = id_of_page pass.pages.now i p at in
+    let is = ids_are c.pages_keep_their_rules.ensures pass.pages.now i p.id at_id in
+    own c.args.self.entry pass.owners x y i p.id (v.owners.each i p.id at_id is) (st.entry i p.id at_id is) pass.count v.count some (steady i p.id at_id)) v.kept in
+    record {
+      cycle = record { some = omega arith; most = short; each = v.slots };
+      bad = v.bad;
+      subcodes = st.ready.subcodes;
+      period = v.count;
+      places = c.link.ensures.places ∙ kept.sent.places;
+      linked = c.link.ensures.linked kept.sent.unlinked;
+      sent = λ i p item at it. ap (λ v. placed (place i item) v.items) c.link.ensures.slots ∙ kept.sent.each i p item at it;
+      facts = kept.facts;
+      strays = kept.strays;
+    }

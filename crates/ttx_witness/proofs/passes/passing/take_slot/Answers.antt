@@ -1,0 +1,57 @@
+use Rattle.std.proofs.Common.{rules, ◌≡◌, ◌+◌, ◌<◌, ◌++◌, ◌∷◌, [], length, get_or, None, sym, ap, ◌∙◌, subst, arith, length-append}
+use Rattle.ttx_page.specs.Streams.{repeated}
+use Rattle.ttx_witness.specs.Coverage.{Certificate, IsCertificate}
+use Rattle.ttx_witness.specs.sent.Collected.{owner_for}
+use Rattle.ttx_witness.specs.faults.OtherSubpages.{place, AreAllSubcodes, IsStrayAt, TellsBelow}
+use Rattle.ttx_witness.proofs.lemmas.sent.PageIndexes.{ids_are}
+use Rattle.ttx_witness.specs.passes.Passing.{ids, pages_of, certificate}
+use Rattle.ttx_witness.proofs.lemmas.passes.GrowingLists.{owner_grown, strays_more}
+use Rattle.ttx_witness.proofs.lemmas.passes.AfterOneSlot.{id_of_page, listed_more, facts_more}
+use Rattle.ttx_witness.proofs.passes.passing.take_slot.Goals as goal
+
+pub returns-clause-ready : goal.returns-clause-ready
+returns-clause-ready c = λ ready.
+    let pass = c.args.pass.now in
+    record { index = ready.index; subcodes = subst (λ v. AreAllSubcodes (pages_of pass) (length pass.pages.now) v.items) (sym c.note_stray.ensures.subcodes) ready.subcodes }
+
+pub returns-clause-taken : goal.returns-clause-taken
+returns-clause-taken c = λ entry y ready count seen kept.
+    let pass = c.args.pass.now in
+    let z = c.args.slot.now in
+    let w : Certificate = certificate pass in
+    let is : IsCertificate w = (c.certificates_keep_their_rules.ensures pass.certificate.now).1 in
+    let end : pass.count ≡ length y = count in
+    let room : length pass.sent.slots.items < 65536 = (let k = kept.sent.count in let f = c.requires.few in omega arith) in
+    let grows = c.note.ensures.slots room in (
+      record {
+        each = λ i id at is_id. owner_grown y z id (entry id) (owner_for pass.owners i id) (owner_for c.note_owner.new.owners i id) _ (search (rules, end)) (seen.each i id at is_id)
+            (c.note_owner.ensures.after (ids pass) ready.index i id at is_id);
+        apart = c.note_owner.ensures.apart (ids pass) ready.index seen.apart;
+      },
+      record {
+        sent = record {
+          count = ap length grows ∙ length-append pass.sent.slots.items (c.sent_in_slot-sent.result ∷ []) ∙ ap (λ n. n + 1) kept.sent.count ∙ sym (length-append y (z ∷ []));
+          places = ap (λ v. length v.items) c.note.ensures.firsts ∙ kept.sent.places;
+          unlinked = λ n. ap (λ v. get_or v.items n None) c.note.ensures.firsts ∙ kept.sent.unlinked n;
+          each = λ i p item at it.
+              let at_id = id_of_page pass.pages.now i p at in
+              listed_more w is p i c.sent_in_slot-sent.result y z (entry p.id) (owner_for pass.owners i p.id) _ (search (rules, end)) (seen.each i p.id at_id (ids_are c.pages_keep_their_rules.ensures pass.pages.now i p.id at_id))
+              c.lines-lines.result c.lines-lines.ensures (λ item it. c.sent_in_slot-sent.ensures.sent (ids pass) ready.index seen.apart i p.id item at_id it)
+              item it pass.sent.slots.items c.note.new.self.slots.items grows (kept.sent.each i p item at it);
+        };
+        facts = λ i p at.
+            let h = kept.facts i p at in
+            let t = c.note_sent.ensures.noted i p h.value at h.here in
+            let at_id = id_of_page pass.pages.now i p at in
+            record {
+              value = t.value;
+              here = t.here;
+              is = facts_more w is p i c.sent_in_slot-sent.result y z (entry p.id) (owner_for pass.owners i p.id) _ (search (rules, end)) (seen.each i p.id at_id (ids_are c.pages_keep_their_rules.ensures pass.pages.now i p.id at_id))
+                  c.lines-lines.result c.lines-lines.ensures (λ item it. c.sent_in_slot-sent.ensures.sent (ids pass) ready.index seen.apart i p.id item at_id it)
+                  c.limit-limit.result c.limit-limit.ensures pass.count end h.value t.value h.is t.is;
+            };
+        strays = λ mag number low high small.
+            subst (λ v. TellsBelow (IsStrayAt v.items (repeated (y ++ z ∷ [])) mag number) (length (y ++ z ∷ [])) (get_or c.note_stray.new.strays.first.items (place mag number) None)) (sym c.note_stray.ensures.subcodes)
+            (strays_more pass.strays.subcodes.items mag number y z _ _ pass.count end (c.note_stray.ensures.noted mag number low high small) (kept.strays mag number low high small));
+      },
+    )

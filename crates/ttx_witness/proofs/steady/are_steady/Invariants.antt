@@ -1,8 +1,0 @@
-use Rattle.std.proofs.Common.{◌≡◌, ℕ, ◌<◌, pos, ◌-ℤ◌, slice_get, Some}
-use Rattle.ttx_header.specs.Ids.{Id}
-use Rattle.ttx_witness.specs.Sent.{owner_moved}
-use Rattle.ttx_witness.specs.Collected.{owner_for, ids_of}
-use Rattle.ttx_witness.proofs.steady.are_steady.Given as goal
-
-abbrev pub invariant-loop-i : goal.invariant-loop-i
-invariant-loop-i l = record { same : (i : ℕ) (id : Id) → i < l.i → slice_get (ids_of l.pages) i ≡ Some id → owner_moved (pos 0 -ℤ pos l.by) (owner_for l.exit i id) ≡ owner_for l.entry i id }

@@ -1,5 +1,0 @@
-use Rattle.ttx_witness.proofs.SureItems as L
-use Rattle.ttx_witness.proofs.sure_items.all_sure_have_starts.Goals as goal
-
-pub returns : goal.returns
-returns c = L.all_sure_have_starts c.each_slot_turns.ensures c.streams_move.ensures

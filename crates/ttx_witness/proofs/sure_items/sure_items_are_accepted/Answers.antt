@@ -1,5 +1,0 @@
-use Rattle.ttx_witness.proofs.SureItems as L
-use Rattle.ttx_witness.proofs.sure_items.sure_items_are_accepted.Goals as goal
-
-pub returns : goal.returns
-returns c = L.sure_items_are_accepted c.each_slot_turns.ensures c.streams_move.ensures c.owners_are_near.ensures

@@ -1,5 +1,0 @@
-use Rattle.ttx_witness.proofs.CutOff as L
-use Rattle.ttx_witness.proofs.wait_laws.losses_are_told.Goals as goal
-
-pub returns : goal.returns
-returns c = L.losses_are_told

@@ -1,8 +1,0 @@
-use Rattle.std.proofs.Common.{map, take}
-use Rattle.ttx_cycle.specs.Cycles.{slots_of}
-use Rattle.ttx_page.specs.Views.{page_of}
-use Rattle.ttx_witness.specs.ItemWaits.{AreItemWaits}
-use Rattle.ttx_witness.proofs.waits_by_item.item_waits.Given as goal
-
-abbrev pub invariant-loop-index : goal.invariant-loop-index
-invariant-loop-index l = record { told : AreItemWaits (slots_of l.cycle) (take l.index (map page_of l.pages)) l.class l.repeat l.lines (map (λ told. told.items) l.all.items) }

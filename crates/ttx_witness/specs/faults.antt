@@ -1,0 +1,4 @@
+pub mod Comparing
+pub mod Faults
+pub mod OtherSubpages
+pub mod Reasons

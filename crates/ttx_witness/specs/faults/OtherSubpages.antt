@@ -1,0 +1,74 @@
+-- Headers of other subpages of the pages of a list, found for all pages at once in tables by page number.
+--
+--   Subcodes, with_subcode  the subcodes of the pages of a number: none, one, or several
+--   place                   the place of a magazine and two digits in a table of all
+--   IsListed, AreSubcodes, AreAllSubcodes   a page of the first of a list; what they have of a number; of each number
+--   is_stray, IsStrayAt     a header of a number whose one subcode is another
+--   first_of, TellsBelow    the first slot of something so far
+--   AreStrays, AreOtherSubpages     the first slots of each number, and those of each page
+use Rattle.std.specs.Prelude.{◌≡◌, ℕ, ◌+◌, ◌-◌, ◌*◌, ◌<◌, ◌≤◌, ℤ, pos, Bool, true, false, not, ◌&&◌, ◌==◌, if◌then◌else◌, List, get_or, slice_get, Option, Some, None}
+use Rattle.ttx_header.specs.Ids.{IsId}
+use Rattle.ttx_page.specs.Packets.{Packet, Header, packet_of}
+use Rattle.ttx_page.specs.Pages.{Page}
+use Rattle.ttx_page.specs.Streams.{Stream, repeated}
+use Rattle.ttx_page.specs.Steady.{OtherSubpageAt}
+use Rattle.ttx_witness.specs.faults.Faults.{TellsFirst}
+use Rattle.ttx_witness.specs.declared.faults.subcodes.Subcodes.{Subcodes}
+use Rattle.ttx_witness.specs.declared.faults.subcodes.Subcodes.TheVariants.{Unlisted, One, Several}
+use Rattle.ttx_witness.specs.declared.faults.other_subpages.OtherSubpages.{OtherSubpages}
+
+abbrev pub with_subcode : Subcodes → ℕ → Subcodes
+with_subcode Unlisted sub = One sub
+with_subcode (One own) sub = if own == sub then One own else Several
+with_subcode Several sub = Several
+
+abbrev pub place : ℕ → ℕ → ℕ
+place mag page = 256 * (mag - 1) + page
+
+-- a page of this number among the first i of the list
+pub record IsListed (pages : List Page) (i mag number : ℕ) (q : Page) : Type 0 where
+  pub index : ℕ
+  pub below : index < i
+  pub here : slice_get pages index ≡ Some q
+  pub in_magazine : q.id.mag ≡ mag
+  pub numbered : q.id.page ≡ number
+
+-- the subcodes of the first i pages that have this number
+abbrev pub AreSubcodes : List Page → ℕ → ℕ → ℕ → Subcodes → Type 0
+AreSubcodes pages i mag number Unlisted = (q : Page) → IsListed pages i mag number q → ⊥
+AreSubcodes pages i mag number (One sub) = ((q : Page) × IsListed pages i mag number q) × ((q : Page) → IsListed pages i mag number q → q.id.sub ≡ sub)
+AreSubcodes pages i mag number Several = (q r : Page) × IsListed pages i mag number q × IsListed pages i mag number r × (q.id.sub ≡ r.id.sub → ⊥)
+
+abbrev pub AreAllSubcodes : List Page → ℕ → List Subcodes → Type 0
+AreAllSubcodes pages i table = (mag number : ℕ) → 1 ≤ mag → mag ≤ 8 → number < 256 → AreSubcodes pages i mag number (get_or table (place mag number) Unlisted)
+
+-- another subcode than the one of the number
+abbrev pub is_other : Subcodes → ℕ → Bool
+is_other Unlisted sub = false
+is_other (One own) sub = not (own == sub)
+is_other Several sub = false
+
+abbrev pub is_stray : List Subcodes → ℕ → ℕ → Packet → Bool
+is_stray table mag number (Header id control text) = (mag == id.mag) && (number == id.page) && is_other (get_or table (place mag number) Unlisted) id.sub
+is_stray table mag number packet = false
+
+abbrev pub IsStrayAt : List Subcodes → Stream → ℕ → ℕ → ℤ → Type 0
+IsStrayAt table s mag number j = is_stray table mag number (packet_of (s j)) ≡ true
+
+-- slot j, where it is one and none was before
+abbrev pub first_of : Option ℕ → Bool → ℕ → Option ℕ
+first_of None is j = if is then Some j else None
+first_of (Some i) is j = Some i
+
+-- the first of the slots below n
+abbrev pub TellsBelow : (ℤ → Type 0) → ℕ → Option ℕ → Type 0
+TellsBelow P n None = (i : ℕ) → i < n → P (pos i) → ⊥
+TellsBelow P n (Some j) = (j < n) × P (pos j) × ((i : ℕ) → i < j → P (pos i) → ⊥)
+
+abbrev pub AreStrays : List (List ℕ) → List Subcodes → List (Option ℕ) → Type 0
+AreStrays cycle table first = (mag number : ℕ) → 1 ≤ mag → mag ≤ 8 → number < 256 → TellsFirst cycle (IsStrayAt table (repeated cycle) mag number) (get_or first (place mag number) None)
+
+-- for each page of the list, the first header of another subpage where the page is the only one of its number
+abbrev pub AreOtherSubpages : List (List ℕ) → List Page → OtherSubpages → Type 0
+AreOtherSubpages cycle pages others = (n : ℕ) (p : Page) → slice_get pages n ≡ Some p → IsId p.id →
+    TellsFirst cycle (OtherSubpageAt (repeated cycle) pages p) (get_or others.first.items (place p.id.mag p.id.page) None)

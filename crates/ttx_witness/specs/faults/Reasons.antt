@@ -1,0 +1,51 @@
+-- The reasons why a cycle isn't accepted that speak of single slots and of the starts of items. The reasons 2 to 7 stand beside the
+-- pages that a stream sends unchanged.
+--
+--   BadSlotAt               a slot that one wrong bit in each byte can turn into another packet (reason 1)
+--   HasNoWitness            no start is named for an item that a viewer sees (8)
+--   WitnessBadAt            a named start that has no sure run (9)
+--   LateAt                  the run of the next named start ends too late (10)
+--   LateBlankAt             the next header comes too late, for a blank item that isn't sent (12)
+use Rattle.std.specs.Prelude.{◌≡◌, ℕ, ◌<◌, ℤ, pos, ◌+ℤ◌, ◌<ℤ◌, ◌≤ℤ◌, true, false, List, [], length, slice_index_or, Contains}
+use Rattle.ttx_packet.specs.Slots.{is_clean}
+use Rattle.ttx_page.specs.Packets.{packet_of}
+use Rattle.ttx_page.specs.Pages.{Page, IsBlank, needed}
+use Rattle.ttx_page.specs.declared.item.Item.{Item}
+use Rattle.ttx_page.specs.declared.class.Class.TheVariants.{Clearing}
+use Rattle.ttx_page.specs.Streams.{repeated, IsOwned, EndsBelow, heads_page}
+use Rattle.ttx_witness.specs.runs.Repeating.{next_start}
+use Rattle.ttx_witness.specs.Coverage.{Certificate, limit, IsSureStart}
+
+pub record BadSlotAt (cycle : List (List ℕ)) (slot : ℕ) : Type 0 where
+  pub within : slot < length cycle
+  pub bad : is_clean (slice_index_or cycle slot []) ≡ false
+
+-- no start is named, and the item isn't one that a receiver which surely clears has already
+pub record HasNoWitness (p : Page) (w : Certificate) (item : Item) : Type 0 where
+  pub needed : needed p item ≡ true
+  pub none : w.starts p.id item ≡ []
+  pub sent : w.class ≡ Clearing → IsBlank p item → ⊥
+
+pub record WitnessBadAt (cycle : List (List ℕ)) (p : Page) (w : Certificate) (item : Item) (start : ℕ) : Type 0 where
+  pub needed : needed p item ≡ true
+  pub named : Contains (w.starts p.id item) start
+  pub bad : IsSureStart cycle p.id w.lines w.repeat item start → ⊥
+
+-- The start is the i-th that is named; the run of the next one, round the cycle, ends more than the deadline after its owner.
+pub record LateAt (cycle : List (List ℕ)) (p : Page) (w : Certificate) (item : Item) (start : ℕ) : Type 0 where
+  pub needed : needed p item ≡ true
+  pub index : ℕ
+  pub within : index < length (w.starts p.id item)
+  pub is : start ≡ slice_index_or (w.starts p.id item) index 0
+  pub owner : ℤ
+  pub owned : IsOwned (repeated cycle) p.id item owner (pos start)
+  pub late : EndsBelow (repeated cycle) p.id w.repeat item (next_start (length cycle) (w.starts p.id item) index) ((owner +ℤ pos (limit w)) +ℤ pos 1) → ⊥
+
+pub record LateBlankAt (cycle : List (List ℕ)) (p : Page) (w : Certificate) (item : Item) (header : ℕ) : Type 0 where
+  pub needed : needed p item ≡ true
+  pub clearing : w.class ≡ Clearing
+  pub blank : IsBlank p item
+  pub none : w.starts p.id item ≡ []
+  pub within : header < length cycle
+  pub is_header : heads_page p.id (packet_of (repeated cycle (pos header))) ≡ true
+  pub late : (i : ℤ) → pos header <ℤ i → i ≤ℤ (pos header +ℤ pos (limit w)) → heads_page p.id (packet_of (repeated cycle i)) ≡ false

@@ -1,0 +1,34 @@
+-- A cycle is accepted where each item has a sure run: the laws for those that lay out cycles.
+--
+--   HasSureStart            a sure run of the item begins in a slot of the period
+--   AllSureHaveStarts       an item that is sent, and never so that a receiver may miss it, has one
+--   IsLongEnough            so many fields are nine periods
+--   SureItemsAreAccepted    where all is sent unchanged and each item has one, some certificate is accepted
+use Rattle.std.specs.Prelude.{◌≡◌, ◌⊎◌, ℕ, ◌*◌, ◌≤◌, ℤ, true, List, length, slice_get, Some}
+use Rattle.ttx_header.specs.Ids.{Id}
+use Rattle.ttx_page.specs.Pages.{Page, needed, IsBlank}
+use Rattle.ttx_page.specs.declared.item.Item.{Item}
+use Rattle.ttx_page.specs.declared.class.Class.{Class}
+use Rattle.ttx_page.specs.declared.class.Class.TheVariants.{Clearing}
+use Rattle.ttx_page.specs.Streams.{repeated, IsOwned, IsSure}
+use Rattle.ttx_witness.specs.Coverage.{IsSureStart}
+use Rattle.ttx_witness.specs.finding.Finding.{IsSentUnchanged, CanBeAccepted}
+
+abbrev pub HasSureStart : List (List ℕ) → Id → ℕ → ℕ → Item → Type 0
+HasSureStart cycle page lines repeat item = (start : ℕ) × IsSureStart cycle page lines repeat item start
+
+abbrev pub AllSureHaveStarts : Type 0
+AllSureHaveStarts = (cycle : List (List ℕ)) → 1 ≤ length cycle → (page : Id) (lines repeat : ℕ) (item : Item) → 1 ≤ repeat →
+    (h j : ℤ) → IsOwned (repeated cycle) page item h j → ((h j : ℤ) → IsOwned (repeated cycle) page item h j → IsSure (repeated cycle) lines page.mag item h j) →
+    HasSureStart cycle page lines repeat item
+
+-- one sure run of eight transmissions at most ends within nine periods after each slot
+abbrev pub IsLongEnough : List (List ℕ) → ℕ → ℕ → Type 0
+IsLongEnough cycle lines deadline = 9 * length cycle ≤ deadline * lines
+
+-- each item that a viewer sees has a sure run, or receivers surely clear and it is blank
+abbrev pub SureItemsAreAccepted : Type 0
+SureItemsAreAccepted = (cycle : List (List ℕ)) (pages : List Page) (class : Class) (lines repeat deadline : ℕ) → 1 ≤ length cycle → length cycle ≤ 65536 →
+    1 ≤ lines → lines ≤ 32 → 1 ≤ repeat → repeat ≤ 8 → 1 ≤ deadline → deadline ≤ 1000000 → IsLongEnough cycle lines deadline → IsSentUnchanged cycle pages →
+    ((n : ℕ) (p : Page) → slice_get pages n ≡ Some p → (item : Item) → needed p item ≡ true → HasSureStart cycle p.id lines repeat item ⊎ ((class ≡ Clearing) × IsBlank p item)) →
+    CanBeAccepted cycle pages class lines repeat deadline

@@ -1,0 +1,24 @@
+-- The starts that are named for an item, once a period has passed.
+--
+--   Holds                   a place of a list holds something of which P is true
+--   IsIdle                  an item that isn't needed, or for which no start is named
+--   IsProgress              what the named starts of an item come to, which isn't known where it is idle
+use Rattle.std.specs.Prelude.{◌≡◌, ℕ, ◌-◌, ◌<◌, true, List, length, slice_get, Option, Some, None}
+use Rattle.ttx_page.specs.Pages.{Page, needed}
+use Rattle.ttx_page.specs.Streams.{run_length}
+use Rattle.ttx_page.specs.declared.item.Item.{Item}
+use Rattle.ttx_witness.specs.Coverage.{Certificate}
+use Rattle.ttx_witness.specs.laws.CycleLaws.{progress_of}
+use Rattle.ttx_witness.specs.declared.runs.confirming.Progress.{Progress}
+
+pub record Holds (A : Type 0) (xs : List A) (n : ℕ) (P : A → Type 0) : Type 0 where
+  pub value : A
+  pub here : slice_get xs n ≡ Some value
+  pub is : P value
+
+abbrev pub IsIdle : Certificate → Page → Item → Type 0
+IsIdle w p item = needed p item ≡ true → 0 < length (w.starts p.id item) → ⊥
+
+abbrev pub IsProgress : List (List ℕ) → Page → Certificate → Item → Option Progress → Type 0
+IsProgress y p w item None = IsIdle w p item
+IsProgress y p w item (Some progress) = progress ≡ progress_of y p w item (run_length w.repeat item - 1)

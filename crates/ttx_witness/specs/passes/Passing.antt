@@ -1,0 +1,130 @@
+-- What two passes keep of the two lists of slots that they were given. Slots are counted from 0.
+--
+--   ids, pages_of, certificate      the pages and the certificate of a pass
+--   pages_in, certificate_in        of a second pass
+--   ended_pages, ended_certificate  and of one that has ended
+--   AreReady                what a pass keeps of its pages alone
+--   AreSeen                 the owners after a list, as the pages see them
+--   AreListed, AreNoted, AreTold, AreKept       what the slots send, facts and headers of other subpages after a list, with the owners before it
+--   IsFirstPass             a pass that was given a first list
+--   IsPassed, IsSecondPass  a second pass that was given a second list, after a first one
+--   IsEnded                 a second pass that has ended as it began
+--   EndsAs                  what the end of a second pass answers
+use Rattle.std.specs.Prelude.{◌≡◌, ◌↔◌, ℕ, ◌*◌, ◌<◌, ◌≤◌, false, List, [], length, map, get_or, slice_get, slice_index_or, Option, Some, None, IsTrue}
+use Rattle.std.specs.List.{All}
+use Rattle.ttx_packet.specs.Slots.{IsSlot, is_clean}
+use Rattle.ttx_header.specs.Ids.{Id, IsId}
+use Rattle.ttx_page.specs.Pages.{Page}
+use Rattle.ttx_page.specs.Views.{page_of}
+use Rattle.ttx_page.specs.Streams.{repeated}
+use Rattle.ttx_page.specs.declared.item.Item.{Item}
+use Rattle.ttx_cycle.specs.Files.{IsCycle}
+use Rattle.ttx_certificate.specs.Certificates.{certificate_of}
+use Rattle.ttx_witness.specs.sent.Collected.{IsIndex, AreApart, IsItem, ids_of, owner_for, place}
+use Rattle.ttx_witness.specs.Coverage.{Certificate}
+use Rattle.ttx_witness.specs.passes.PageFacts.{FirstBelow, AreFacts}
+use Rattle.ttx_witness.specs.passes.ItemProgress.{Holds}
+use Rattle.ttx_witness.specs.passes.SentSlots.{placed, IsLinked}
+use Rattle.ttx_witness.specs.faults.OtherSubpages as table
+use Rattle.ttx_witness.specs.faults.OtherSubpages.{AreAllSubcodes, IsStrayAt, TellsBelow}
+use Rattle.ttx_witness.specs.sent.ItemTransmissions.{PageOwner, owner_scan, sent_scan, sent_in, entry_of}
+use Rattle.ttx_witness.specs.declared.sent.owners.Owner.{Owner}
+use Rattle.ttx_witness.specs.declared.passes.page_facts.Facts.{Facts}
+use Rattle.ttx_witness.specs.declared.passes.sent_slots.SentSlots.{SentSlots}
+use Rattle.ttx_witness.specs.declared.passes.other_headers.Strays.{Strays}
+use Rattle.ttx_witness.specs.declared.passes.passing.Pass.{Pass}
+use Rattle.ttx_witness.specs.declared.passes.passing.SecondPass.{SecondPass}
+use Rattle.ttx_witness.specs.declared.passes.ending.EndedPass.{EndedPass}
+
+abbrev pub pages_of : Pass → List Page
+pages_of pass = map page_of pass.pages.now
+
+abbrev pub ids : Pass → List Id
+ids pass = ids_of pass.pages.now
+
+abbrev pub certificate : Pass → Certificate
+certificate pass = certificate_of pass.certificate.now
+
+abbrev pub pages_in : SecondPass → List Page
+pages_in second = pages_of second.pass
+
+abbrev pub certificate_in : SecondPass → Certificate
+certificate_in second = certificate second.pass
+
+abbrev pub ended_pages : EndedPass → List Page
+ended_pages ended = map page_of ended.pages.now
+
+abbrev pub ended_certificate : EndedPass → Certificate
+ended_certificate ended = certificate_of ended.certificate.now
+
+pub record AreReady (pass : Pass) : Type 0 where
+  pub index : IsIndex (ids pass) pass.index
+  pub subcodes : AreAllSubcodes (pages_of pass) (length pass.pages.now) pass.strays.subcodes.items
+
+-- the owners after the list y, where those before it are the entry's
+pub record AreSeen (pass : Pass) (entry : Id → Option PageOwner) (y : List (List ℕ)) (owners : List (Option Owner)) : Type 0 where
+  pub each : (i : ℕ) (id : Id) → slice_get (ids pass) i ≡ Some id → IsId id → owner_for owners i id ≡ owner_scan id (repeated y) (entry id) (length y)
+  pub apart : AreApart (ids pass) owners
+
+-- what the slots send of each item of each page; they aren't linked yet
+pub record AreListed (pages : List Page) (w : Certificate) (entry : Id → Option PageOwner) (y : List (List ℕ)) (sent : SentSlots) : Type 0 where
+  pub count : length sent.slots.items ≡ length y
+  pub places : length sent.firsts.items ≡ 26 * length pages
+  pub unlinked : (n : ℕ) → get_or sent.firsts.items n None ≡ None
+  pub each : (i : ℕ) (p : Page) (item : Item) → slice_get pages i ≡ Some p → IsItem item →
+      placed (place i item) sent.slots.items ≡ sent_scan p.id w.lines item (repeated y) (entry p.id) (length y)
+
+-- the facts of each page
+abbrev pub AreNoted : List Page → Certificate → (Id → Option PageOwner) → List (List ℕ) → List Facts → Type 0
+AreNoted pages w entry y all = (i : ℕ) (p : Page) → slice_get pages i ≡ Some p → Holds Facts all i (AreFacts w p (repeated y) (entry p.id) (length y))
+
+-- the first header of another subpage, of each page number
+abbrev pub AreTold : List (List ℕ) → Strays → Type 0
+AreTold y strays = (mag number : ℕ) → 1 ≤ mag → mag ≤ 8 → number < 256 →
+    TellsBelow (IsStrayAt strays.subcodes.items (repeated y) mag number) (length y) (get_or strays.first.items (table.place mag number) None)
+
+pub record AreKept (pass : Pass) (entry : Id → Option PageOwner) (y : List (List ℕ)) : Type 0 where
+  pub sent : AreListed (pages_of pass) (certificate pass) entry y pass.sent
+  pub facts : AreNoted (pages_of pass) (certificate pass) entry y pass.facts.items
+  pub strays : AreTold y pass.strays
+
+-- Of the first list a pass keeps how long it is, and the owners at its end.
+pub record IsFirstPass (pass : Pass) (x : List (List ℕ)) : Type 0 where
+  pub ready : AreReady pass
+  pub few : length x ≤ 65536
+  pub count : pass.count ≡ length x
+  pub owners : AreSeen pass (λ id. None) x pass.owners
+  pub nothing : AreKept pass (λ id. None) []
+
+-- Of the second it keeps what its slots send and facts, as if the owners before it were those at the end of the first, and its own at its end.
+pub record IsPassed (second : SecondPass) (x y : List (List ℕ)) : Type 0 where
+  pub count : second.pass.count ≡ length y
+  pub owners : AreSeen second.pass (entry_of x) y second.pass.owners
+  pub kept : AreKept second.pass (entry_of x) y
+  pub slots : All IsSlot y
+  pub bad : FirstBelow (λ j. is_clean (slice_index_or y j []) ≡ false) (length y) second.bad
+
+pub record IsSecondPass (second : SecondPass) (x y : List (List ℕ)) : Type 0 where
+  pub ready : AreReady second.pass
+  pub few : length x ≤ 65536
+  pub entry : (i : ℕ) (id : Id) → slice_get (ids second.pass) i ≡ Some id → IsId id → owner_for second.entry i id ≡ entry_of x id
+  pub over : IsTrue second.over ↔ (65536 < length y)
+  pub passed : length y ≤ 65536 → IsPassed second x y
+
+-- The owners before the second list were its own, and the slots of each item are linked.
+pub record IsEnded (ended : EndedPass) (y : List (List ℕ)) : Type 0 where
+  pub cycle : IsCycle y
+  pub bad : FirstBelow (λ j. is_clean (slice_index_or y j []) ≡ false) (length y) ended.bad
+  pub subcodes : AreAllSubcodes (ended_pages ended) (length ended.pages.now) ended.strays.subcodes.items
+  pub period : ended.period ≡ length y
+  pub places : length ended.sent.firsts.items ≡ 26 * length (ended_pages ended)
+  pub linked : IsLinked ended.sent.slots.items ended.sent.firsts.items ended.sent.nexts.items 0
+  pub sent : (i : ℕ) (p : Page) (item : Item) → slice_get (ended_pages ended) i ≡ Some p → IsItem item →
+      placed (place i item) ended.sent.slots.items ≡ sent_in y p.id (ended_certificate ended).lines item
+  pub facts : AreNoted (ended_pages ended) (ended_certificate ended) (entry_of y) y ended.facts.items
+  pub strays : AreTold y ended.strays
+
+-- None only where the lists differ or the second is empty
+abbrev pub EndsAs : List (List ℕ) → List (List ℕ) → Option EndedPass → Type 0
+EndsAs x y None = x ≡ y → y ≡ []
+EndsAs x y (Some ended) = IsEnded ended y

@@ -1,0 +1,5 @@
+pub mod Transmissions
+pub mod Repeating
+pub mod Confirming
+pub mod SureStarts
+pub mod Tracks

@@ -1,0 +1,140 @@
+-- The transmissions of one item in a stream that repeats every n slots, and when named starts cover it.
+-- The stream is given by two relations between a header's slot h and a slot j: j is a transmission under the
+-- header at h (Owned h j), and no receiver may miss it (Sure h j).
+--
+--   Lists                   a list of all that has a property, from one slot to below another
+--   Successive              slots that rise, with none of the property between two of them
+--   IsSent, IsSureSent      a slot is a transmission, or a sure one
+--   Repeats                 what is asked of the two relations
+--   IsRun, HasSureRun, EndsBelow    the run of k transmissions from a slot
+--   IsRunOf, IsNamedRun     numbers that tell of a run of the stream, and of one from a named slot
+--   turned, IsNamed         slots of a period, and named starts round the cycle
+--   Covers                  the named starts cover the item from every tuning slot
+--   IsBad, IsLate, IsFirst  a named start without a sure run; one that the next follows too late; the first such
+--   FollowInTime            each run ends within the limit after the owner of the one before it
+use Rattle.std.specs.Prelude.{◌≡◌, ◌↔◌, ℕ, ◌+◌, ◌-◌, ◌%◌, ◌<◌, ◌≤◌, ℤ, pos, negsuc, ◌+ℤ◌, ◌-ℤ◌, ◌<ℤ◌, ◌≤ℤ◌, true, List, [], ◌∷◌, length, Contains, if◌then◌else◌, nat_lt, slice_index_or, Option, Some, None}
+use Rattle.std.specs.List.{AllByRecursion}
+use Rattle.ttx_witness.specs.runs.Transmissions.{Transmission, Run, slot_of}
+
+-- ts are all that has the property P, from slot low to below slot high, each as Is tells
+abbrev pub Lists : {A : Type 0} → (A → ℤ) → (ℤ → Type 0) → (A → Type 0) → ℤ → ℤ → List A → Type 0
+Lists at P Is low high [] = (x : ℤ) → low ≤ℤ x → x <ℤ high → P x → ⊥
+Lists at P Is low high (t ∷ ts) =
+    Is t
+    × (low ≤ℤ (at t))
+    × ((at t) <ℤ high)
+    × ((x : ℤ) → low ≤ℤ x → x <ℤ (at t) → P x → ⊥)
+    × Lists at P Is ((at t) +ℤ pos 1) high ts
+
+abbrev pub Successive : (ℤ → Type 0) → List ℤ → Type 0
+Successive P [] = Unit {0}
+Successive P (i ∷ []) = P i
+Successive P (i ∷ j ∷ rest) = P i × (i <ℤ j) × ((x : ℤ) → i <ℤ x → x <ℤ j → P x → ⊥) × Successive P (j ∷ rest)
+
+-- one owner a slot, not after it, at most a period before it, and not falling; and all is the same a period later
+pub record Repeats (n : ℕ) (Owned Sure : ℤ → ℤ → Type 0) : Type 0 where
+  pub some : 1 ≤ n
+  pub one_owner : (h k j : ℤ) → Owned h j → Owned k j → h ≡ k
+  pub before : (h j : ℤ) → Owned h j → h ≤ℤ j
+  pub near : (h j : ℤ) → Owned h j → j ≤ℤ (h +ℤ pos n)
+  pub order : (h k i j : ℤ) → i ≤ℤ j → Owned h i → Owned k j → h ≤ℤ k
+  pub owned_later : (h j : ℤ) → Owned h j → Owned (h +ℤ pos n) (j +ℤ pos n)
+  pub owned_earlier : (h j : ℤ) → Owned h j → Owned (h -ℤ pos n) (j -ℤ pos n)
+  pub sure_later : (h j : ℤ) → Sure h j → Sure (h +ℤ pos n) (j +ℤ pos n)
+  pub sure_earlier : (h j : ℤ) → Sure h j → Sure (h -ℤ pos n) (j -ℤ pos n)
+
+pub record IsSent (Owned : ℤ → ℤ → Type 0) (j : ℤ) : Type 0 where
+  pub owner : ℤ
+  pub owned : Owned owner j
+
+pub record IsSureSent (Owned Sure : ℤ → ℤ → Type 0) (j : ℤ) : Type 0 where
+  pub owner : ℤ
+  pub owned : Owned owner j
+  pub sure : Sure owner j
+
+-- the transmission t is one of the stream
+pub record Tells (Owned Sure : ℤ → ℤ → Type 0) (t : Transmission) : Type 0 where
+  pub owned : Owned t.owner t.slot
+  pub sure : (t.sure ≡ true) ↔ Sure t.owner t.slot
+
+-- ts are the stream's transmissions from slot low to below slot high
+abbrev pub AreSent : (ℤ → ℤ → Type 0) → (ℤ → ℤ → Type 0) → ℤ → ℤ → List Transmission → Type 0
+AreSent Owned Sure low high ts = Lists slot_of (IsSent Owned) (Tells Owned Sure) low high ts
+
+-- the run from slot first: k successive transmissions
+pub record IsRun (Owned : ℤ → ℤ → Type 0) (k : ℕ) (first : ℤ) (rest : List ℤ) : Type 0 where
+  pub count : length (first ∷ rest) ≡ k
+  pub successive : Successive (IsSent Owned) (first ∷ rest)
+
+-- the run from slot first is all sure
+pub record HasSureRun (Owned Sure : ℤ → ℤ → Type 0) (k : ℕ) (first : ℤ) : Type 0 where
+  pub rest : List ℤ
+  pub run : IsRun Owned k first rest
+  pub all_sure : AllByRecursion (IsSureSent Owned Sure) (first ∷ rest)
+
+-- the run from slot first ends below slot end
+pub record EndsBelow (Owned : ℤ → ℤ → Type 0) (k : ℕ) (first end : ℤ) : Type 0 where
+  pub rest : List ℤ
+  pub run : IsRun Owned k first rest
+  pub ends : AllByRecursion (λ j. j <ℤ end) (first ∷ rest)
+
+-- r tells of the stream's run from its start
+pub record IsRunOf (Owned Sure : ℤ → ℤ → Type 0) (k : ℕ) (r : Run) : Type 0 where
+  pub owned : Owned r.owner r.start
+  pub sure : (r.sure ≡ true) ↔ HasSureRun Owned Sure k r.start
+  pub ends : (e : ℤ) → (r.end <ℤ e) ↔ EndsBelow Owned k r.start e
+
+-- the slot of the period of n slots that stands at i: i modulo n
+abbrev pub turned : ℕ → ℤ → ℕ
+turned n (pos i) = i % n
+turned n (negsuc i) = n - 1 - i % n
+
+-- a named start, or a slot some periods away from one
+abbrev pub IsNamed : ℕ → List ℕ → ℤ → Type 0
+IsNamed n starts i = Contains starts (turned n i)
+
+-- r tells of a run of the stream from a named slot
+pub record IsNamedRun (Owned Sure : ℤ → ℤ → Type 0) (Named : ℤ → Type 0) (k : ℕ) (r : Run) : Type 0 where
+  pub named : Named r.start
+  pub run : IsRunOf Owned Sure k r
+
+-- some named run has its first owner at tau or later, and ends within the limit
+pub record IsInTime (Owned : ℤ → ℤ → Type 0) (Named : ℤ → Type 0) (k limit : ℕ) (tau : ℤ) : Type 0 where
+  pub start : ℤ
+  pub owner : ℤ
+  pub named : Named start
+  pub owned : Owned owner start
+  pub not_before : tau ≤ℤ owner
+  pub ends : EndsBelow Owned k start (tau +ℤ pos limit)
+
+-- a start is named, each named run is all sure, and from every tuning slot one of them is in time
+pub record Covers (Owned Sure : ℤ → ℤ → Type 0) (n k limit : ℕ) (starts : List ℕ) : Type 0 where
+  pub named : (start : ℕ) × Contains starts start
+  pub sure : (start : ℕ) → Contains starts start → (start < n) × HasSureRun Owned Sure k (pos start)
+  pub in_time : (tau : ℤ) → IsInTime Owned (IsNamed n starts) k limit tau
+
+-- each run ends within the limit after the owner of the one before it
+abbrev pub FollowInTime : ℕ → Run → List Run → Type 0
+FollowInTime limit r [] = Unit {0}
+FollowInTime limit r (next ∷ rest) = (next.end ≤ℤ (r.owner +ℤ pos limit)) × FollowInTime limit next rest
+
+-- where the next named start stands after the i-th: after the last one the first, a period later
+abbrev pub next_start : ℕ → List ℕ → ℕ → ℤ
+next_start n starts i = if nat_lt (i + 1) (length starts) then pos (slice_index_or starts (i + 1) 0) else pos (slice_index_or starts 0 0) +ℤ pos n
+
+-- the next named run doesn't end within the limit after the owner of the i-th
+pub record IsLate (Owned : ℤ → ℤ → Type 0) (n k limit : ℕ) (starts : List ℕ) (i : ℕ) : Type 0 where
+  pub within : i < length starts
+  pub owner : ℤ
+  pub owned : Owned owner (pos (slice_index_or starts i 0))
+  pub late : EndsBelow Owned k (next_start n starts i) ((owner +ℤ pos limit) +ℤ pos 1) → ⊥
+
+-- a named start that lies outside the period or has no sure run
+pub record IsBad (Owned Sure : ℤ → ℤ → Type 0) (n k : ℕ) (starts : List ℕ) (i : ℕ) : Type 0 where
+  pub within : i < length starts
+  pub bad : (slice_index_or starts i 0 < n) × HasSureRun Owned Sure k (pos (slice_index_or starts i 0)) → ⊥
+
+-- the first start of which P is true, if one is
+abbrev pub IsFirst : (ℕ → Type 0) → List ℕ → Option ℕ → Type 0
+IsFirst P starts None = (i : ℕ) → P i → ⊥
+IsFirst P starts (Some s) = (i : ℕ) × (s ≡ slice_index_or starts i 0) × P i × ((j : ℕ) → j < i → P j → ⊥)

@@ -1,0 +1,67 @@
+-- What is kept of the transmissions of one item while a period is read.
+--
+--   keep_last               the last of a list, so many at most
+--   ended                   the runs that have ended once some transmissions are read
+--   IsRecent                what is held of a list of transmissions
+--   IsRound                 the same after some of the transmissions that follow the period
+--   IsWithin, IsTurn        the numbers of a transmission are small; the first of a list goes to its end, a period later
+--   AreInOrder              transmissions slot by slot, in slots from 0 to below 65,536
+--   IsTrack, IsSearch       a track, and a search for starts, after a list of transmissions
+use Rattle.std.specs.Prelude.{◌≡◌, ℕ, suc, ◌-◌, pos, ◌+ℤ◌, ◌<ℤ◌, ◌≤ℤ◌, List, [], ◌∷◌, ◌++◌, length, map, take, drop, Option, Some, None}
+use Rattle.std.specs.List.{All, AllPairs}
+use Rattle.ttx_witness.specs.runs.Transmissions.{Transmission, Run, run_of, windows, later, further}
+use Rattle.ttx_witness.specs.runs.Confirming.{after_runs, not_begun}
+use Rattle.ttx_witness.specs.runs.SureStarts.{sure_starts, spread_of}
+use Rattle.ttx_witness.specs.declared.runs.window.Recent.{Recent}
+use Rattle.ttx_witness.specs.declared.runs.named_starts.Track.{Track}
+use Rattle.ttx_witness.specs.declared.runs.sure_starts.Search.{Search}
+
+abbrev pub keep_last : {A : Type 0} → ℕ → List A → List A
+keep_last n ts = drop (length ts - n) ts
+
+abbrev pub ended : ℕ → List Transmission → List Run
+ended k ts = map run_of (windows (suc k) ts)
+
+-- the last k + 1 transmissions and the first k
+pub record IsRecent (k : ℕ) (ts : List Transmission) (recent : Recent) : Type 0 where
+  pub repeat : recent.repeat ≡ suc k
+  pub window : recent.window.items ≡ keep_last (suc k) ts
+  pub firsts : recent.firsts.items ≡ take k ts
+
+abbrev pub listed : Option Run → List Run
+listed None = []
+listed (Some r) = r ∷ []
+
+-- from a cycle's length before the period to the bound
+pub record IsWithin (bound : ℕ) (t : Transmission) : Type 0 where
+  pub slot_low : pos 0 ≤ℤ (t.slot +ℤ pos 65536)
+  pub slot_high : t.slot ≤ℤ pos bound
+  pub owner_low : pos 0 ≤ℤ (t.owner +ℤ pos 65536)
+  pub owner_high : t.owner ≤ℤ pos bound
+
+-- slots rise, from 0 to below 65,536
+pub record AreInOrder (ts : List Transmission) : Type 0 where
+  pub low : All (λ t. pos 0 ≤ℤ t.slot) ts
+  pub high : All (λ t. t.slot <ℤ pos 65536) ts
+  pub rising : AllPairs (λ t u. t.slot <ℤ u.slot) ts
+
+abbrev pub IsTurn : ℕ → List Transmission → Transmission → List Transmission → Type 0
+IsTurn n [] result new = ⊥
+IsTurn n (t ∷ ts) result new = (result ≡ later n t) × (new ≡ ts ++ later n t ∷ [])
+
+-- after i of the k transmissions that follow the period's ts; rs are the runs that have ended
+pub record IsRound (k n i : ℕ) (ts : List Transmission) (rs : List Run) (recent : Recent) : Type 0 where
+  pub more : List Transmission
+  pub repeat : recent.repeat ≡ suc k
+  pub window : recent.window.items ≡ keep_last (suc k) (ts ++ more)
+  pub runs : rs ≡ ended k (ts ++ more)
+  pub rest : more ++ further n (k - i) recent.firsts.items ≡ further n k (take k ts)
+
+pub record IsTrack (k limit : ℕ) (starts : List ℕ) (ts : List Transmission) (track : Track) : Type 0 where
+  pub recent : IsRecent k ts track.recent
+  pub progress : track.progress ≡ after_runs limit starts not_begun (ended k ts)
+
+pub record IsSearch (k : ℕ) (ts : List Transmission) (search : Search) : Type 0 where
+  pub recent : IsRecent k ts search.recent
+  pub starts : search.starts.items ≡ sure_starts (ended k ts)
+  pub spread : search.spread ≡ spread_of None (ended k ts)

@@ -1,0 +1,4 @@
+pub mod ItemTransmissions
+pub mod Collected
+pub mod AllSent
+pub mod OneSlot

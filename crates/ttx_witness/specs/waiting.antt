@@ -1,0 +1,4 @@
+pub mod PageWaits
+pub mod ItemLimits
+pub mod ItemWaits
+pub mod SurveyedWaits

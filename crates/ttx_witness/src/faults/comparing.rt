@@ -1,0 +1,168 @@
+//! What of a page is compared with the slots that send it.
+
+ghost use Rattle.std.specs.Prelude.{◌≡◌, ◌<◌, ◌≤◌, ◌/◌, ◌↔◌, ℕ, IsTrue, true, drop, map, slice_index};
+ghost use Rattle.ttx_code.specs.Words.{odd_byte};
+ghost use Rattle.ttx_links.specs.Sets.{LinkSet, is_exact};
+ghost use Rattle.ttx_packet.specs.Slots.{IsSlot, are_words};
+ghost use Rattle.ttx_page.specs.Packets.{packet_of};
+ghost use Rattle.ttx_page.specs.Steady.{erases_page, IsLikeHead, RowIsRight, LinksAreRight};
+ghost use Rattle.ttx_page.specs.Views.{page_of};
+ghost use Rattle.ttx_witness.specs.faults.Comparing.{item_of, IsWrong};
+
+use crate::sent::packets::{header_in, links_in, row_in};
+use ttx_code::{is_word, odd};
+use ttx_header::Control;
+use ttx_links::{Links, Target, read_links};
+use ttx_page::{Item, Page, RowNumber};
+
+/// What is compared in the transmissions of an item.
+#[derive(Clone, Copy)]
+pub enum Check {
+    /// The erase bit (C4) of the page's headers.
+    EraseBit,
+    /// The other control bits and the characters of the page's headers.
+    Head,
+    /// The characters of a row.
+    Row(RowNumber),
+    /// The links, of which no byte may need correction.
+    Links,
+}
+
+impl Check {
+    /// The item whose transmissions show it.
+    pub fn item(&self) -> Item
+        ensures { result ≡ item_of self.now }
+    {
+        match self {
+            Check::EraseBit => Item::Head,
+            Check::Head => Item::Head,
+            Check::Row(row) => Item::Row(*row),
+            Check::Links => Item::Links,
+        }
+    }
+}
+
+// Whether the bytes are those that send the characters.
+fn are_sent(bytes: &[u8], characters: &[u8]) -> bool
+    requires { (c : ℕ) → slice_index characters.now c < 128 }
+    ensures { IsTrue result ↔ (bytes.now ≡ map odd_byte characters.now) }
+{
+    if bytes.len() != characters.len() {
+        return false;
+    }
+    for i in 0..bytes.len() {
+        if bytes[i] != odd(characters[i]) {
+            return false;
+        }
+    }
+    true
+}
+
+// Whether the slot is a header with the erase bit.
+fn erases(slot: &[u8; 42]) -> bool
+    requires { IsSlot slot.now }
+    ensures { IsTrue result ↔ (erases_page (packet_of slot.now) ≡ true) }
+{
+    match header_in(slot) {
+        Some(header) => header.control().erases_page(),
+        None => false,
+    }
+}
+
+// Whether the control bits but C4 are equal.
+fn same_bits(a: Control, b: Control) -> bool
+    ensures { IsTrue result ↔ (a.0 / 2 ≡ b.0 / 2) }
+{
+    a.0 / 2 == b.0 / 2
+}
+
+// Whether the slot is a header with the page's control bits but C4, and its characters.
+fn is_like_head(page: &Page, slot: &[u8; 42]) -> bool
+    requires { IsSlot slot.now }
+    ensures { IsTrue result ↔ IsLikeHead (page_of page.now) (packet_of slot.now) }
+{
+    ttx_page::laws::pages_keep_their_rules();
+    match header_in(slot) {
+        Some(header) => {
+            same_bits(header.control(), page.control()) && are_sent(header.text(), page.head())
+        }
+        None => false,
+    }
+}
+
+// The 40 bytes after the address.
+fn text_in(slot: &[u8; 42]) -> &[u8; 40]
+    ensures { result.now ≡ drop 2 slot.now }
+{
+    slot.last_chunk::<40>().unwrap()
+}
+
+// Whether the slot is a row with the characters of the page's row 1 to 24.
+fn is_row_right(page: &Page, row: RowNumber, slot: &[u8; 42]) -> bool
+    ensures { IsTrue result ↔ RowIsRight (page_of page.now) row (packet_of slot.now) }
+{
+    ttx_page::laws::pages_keep_their_rules();
+    match row_in(slot) {
+        Some(_) => are_sent(text_in(slot), &page.rows()[usize::from(row.number()) - 1]),
+        None => false,
+    }
+}
+
+// Whether bytes 3 to 39 are code words.
+fn is_exact(slot: &[u8; 42]) -> bool
+    ensures { result ≡ is_exact slot.now }
+{
+    slot[3..40].iter().all(|b| is_word(*b))
+}
+
+// Whether two links are the same.
+fn same_link(a: Option<Target>, b: Option<Target>) -> bool
+    ensures { IsTrue result ↔ (a ≡ b) }
+{
+    a == b
+}
+
+// Whether six links are the same.
+fn same_six(a: &[Option<Target>; 6], b: &[Option<Target>; 6]) -> bool
+    ensures { IsTrue result ↔ (a.now ≡ b.now) }
+{
+    for i in 0..6usize {
+        if !same_link(a[i], b[i]) {
+            return false;
+        }
+    }
+    true
+}
+
+/// Whether the links are the same; the bytes of the page CRC aren't compared.
+pub fn same_links(a: &Links, b: &Links) -> bool
+    ensures { IsTrue result ↔ (a.now.set ≡ b.now.set) }
+{
+    same_six(a.six(), b.six()) && a.show24() == b.show24()
+}
+
+// Whether the slot is an X/27/0 with the page's links, of which no byte needs correction.
+fn are_links_right(page: &Page, slot: &[u8; 42]) -> bool
+    ensures { IsTrue result ↔ LinksAreRight (page_of page.now) slot.now (packet_of slot.now) }
+{
+    let Some(at) = links_in(slot) else {
+        return false;
+    };
+    let Some(links) = read_links(at.mag, slot) else {
+        return false;
+    };
+    is_exact(slot) && same_links(&links, page.links())
+}
+
+/// Whether what the slot sends differs from the page.
+pub fn is_wrong(page: &Page, check: &Check, slot: &[u8; 42]) -> bool
+    requires { IsSlot slot.now }
+    ensures { IsTrue result ↔ IsWrong (page_of page.now) check.now slot.now }
+{
+    match check {
+        Check::EraseBit => erases(slot),
+        Check::Head => !is_like_head(page, slot),
+        Check::Row(row) => !is_row_right(page, *row, slot),
+        Check::Links => !are_links_right(page, slot),
+    }
+}

@@ -1,0 +1,56 @@
+//! The first slot of each reason, and the reason that comes first.
+
+ghost use Rattle.std.specs.Prelude.{◌≡◌, ℕ, List};
+ghost use Rattle.ttx_page.specs.Pages as definitions;
+ghost use Rattle.ttx_witness.specs.faults.Faults.{AreFirst, IsPageFault, earlier};
+
+use crate::faults::reason::Reason;
+use ttx_header::PageId;
+
+/// Whether a page has a header, and for each of the other reasons that speak of a page and a cycle alone the first
+/// slot of which it is true.
+#[derive(Clone, Copy)]
+pub struct FirstSlots {
+    pub has_header: bool,
+    pub other_subpage: Option<u32>,
+    pub erased: Option<u32>,
+    pub head: Option<u32>,
+    pub row: Option<u32>,
+    pub links: Option<u32>,
+}
+
+/// The earlier of two slots, where there are any.
+pub fn earlier(a: Option<u32>, b: Option<u32>) -> Option<u32>
+    ensures { result ≡ earlier a b }
+{
+    match (a, b) {
+        (Some(a), Some(b)) => Some(if a <= b { a } else { b }),
+        (Some(a), None) => Some(a),
+        (None, b) => b,
+    }
+}
+
+/// The page's first fault in the order of the reasons.
+pub fn least_fault(page: PageId, first: FirstSlots) -> Option<Reason>
+    ensures { (cycle : List (List ℕ)) (pages : List definitions.Page) (p : definitions.Page) → page ≡ p.id → AreFirst cycle pages p first → IsPageFault cycle pages p result }
+{
+    if !first.has_header {
+        return Some(Reason::NoHeader { page });
+    }
+    if let Some(slot) = first.other_subpage {
+        return Some(Reason::OtherSubpage { page, slot });
+    }
+    if let Some(slot) = first.erased {
+        return Some(Reason::Erased { page, slot });
+    }
+    if let Some(slot) = first.head {
+        return Some(Reason::HeadDiffers { page, slot });
+    }
+    if let Some(slot) = first.row {
+        return Some(Reason::RowDiffers { page, slot });
+    }
+    if let Some(slot) = first.links {
+        return Some(Reason::LinksDiffer { page, slot });
+    }
+    None
+}

@@ -1,0 +1,111 @@
+//! Headers of other subpages, for all pages at once.
+
+ghost use Rattle.std.specs.Prelude.{◌≡◌, ◌<◌, ◌≤◌, ℕ, IfOk, None, get_or, is_none, ◌&&◌, length, map, replicate};
+ghost use Rattle.ttx_cycle.specs.Cycles.{slots_of};
+ghost use Rattle.ttx_packet.specs.Slots.{IsSlot};
+ghost use Rattle.ttx_page.specs.Packets.{packet_of};
+ghost use Rattle.ttx_page.specs.Views.{page_of};
+ghost use Rattle.ttx_witness.specs.faults.OtherSubpages.{place, first_of, is_stray, AreAllSubcodes, AreStrays, AreOtherSubpages};
+
+use crate::faults::subcodes::{NUMBERS, Subcodes, is_other, place, subcodes_of};
+use crate::sent::packets::header_in;
+use std::alloc::Global;
+use ttx_certificate::NoMemory;
+use ttx_cycle::Cycle;
+use ttx_header::PageId;
+use ttx_page::Page;
+
+/// For each page number the first header with another subcode, where the listed pages of the number have one.
+#[derive(Drop)]
+pub struct OtherSubpages {
+    first: Vec<Option<u32>>,
+}
+
+/// Slot j, where it is one and none was before.
+pub fn first_of(first: Option<u32>, is: bool, j: u32) -> Option<u32>
+    ensures { result ≡ first_of first is j }
+{
+    match first {
+        Some(i) => Some(i),
+        None => { if is { Some(j) } else { None } }
+    }
+}
+
+/// Notes a slot, where it is a header.
+pub fn note_slot(first: &mut Vec<Option<u32>>, subcodes: &[Subcodes], slot: &[u8; 42], j: u32)
+    requires slot { IsSlot slot.now }
+    requires first { length first.old.items ≡ 2048 }
+    requires subcodes { length subcodes.now ≡ 2048 }
+    ensures size { length first.new.items ≡ 2048 }
+    ensures noted { (mag number : ℕ) → 1 ≤ mag → mag ≤ 8 → number < 256 →
+        get_or first.new.items (place mag number) None ≡ first_of (get_or first.old.items (place mag number) None) (is_stray subcodes.now mag number (packet_of slot.now)) j }
+{
+    let Some(header) = header_in(slot) else {
+        return;
+    };
+    let id = header.id();
+    let at = place(id);
+    first[at] = first_of(first[at], is_other(subcodes[at], id.sub()), j);
+}
+
+/// A table in which no header is told.
+pub fn none_told(alloc: Global) -> Result<Vec<Option<u32>>, NoMemory>
+    ensures { IfOk result (λ first. first.items ≡ replicate 2048 None) }
+{
+    let mut first = Vec::new(alloc);
+    for i in 0..NUMBERS {
+        if first.push(None).is_err() {
+            return Err(NoMemory);
+        }
+    }
+    Ok(first)
+}
+
+// The first header of each number with another subcode than its one.
+fn first_strays(
+    alloc: Global,
+    cycle: &Cycle,
+    subcodes: &[Subcodes],
+) -> Result<Vec<Option<u32>>, NoMemory>
+    requires { length subcodes.now ≡ 2048 }
+    ensures size { IfOk result (λ first. length first.items ≡ 2048) }
+    ensures first { IfOk result (λ first. AreStrays (slots_of cycle.now) subcodes.now first.items) }
+{
+    let slots = cycle.slots();
+    let mut first = none_told(alloc)?;
+    for j in 0..slots.len() {
+        note_slot(&mut first, subcodes, &slots[j], j as u32);
+    }
+    Ok(first)
+}
+
+impl OtherSubpages {
+    ghost use Rattle.std.specs.Prelude.{◌≡◌, ◌≤◌, ℕ, IfOk, Some, List, length, map, slice_get};
+    ghost use Rattle.ttx_cycle.specs.Cycles.{slots_of};
+    ghost use Rattle.ttx_page.specs.Pages as definitions;
+    ghost use Rattle.ttx_page.specs.Streams.{repeated};
+    ghost use Rattle.ttx_page.specs.Steady.{OtherSubpageAt};
+    ghost use Rattle.ttx_page.specs.Views.{page_of};
+    ghost use Rattle.ttx_witness.specs.faults.Faults.{TellsFirst};
+    ghost use Rattle.ttx_witness.specs.faults.OtherSubpages.{AreOtherSubpages};
+
+    /// The headers of other subpages of the pages, in time linear in the slots and the pages.
+    pub fn of(alloc: Global, cycle: &Cycle, pages: &[Page]) -> Result<OtherSubpages, NoMemory>
+        ensures { IfOk result (λ others. AreOtherSubpages (slots_of cycle.now) (map page_of pages.now) others) }
+    {
+        let subcodes = subcodes_of(alloc, pages)?;
+        let first = first_strays(alloc, cycle, &subcodes)?;
+        Ok(OtherSubpages { first })
+    }
+
+    /// The first header of another subpage of this page of the list, where it is the only one of its number.
+    pub fn first(&self, page: PageId) -> Option<u32>
+        ensures { (cycle : List (List ℕ)) (pages : List definitions.Page) (n : ℕ) (p : definitions.Page) → AreOtherSubpages cycle pages self.now → slice_get pages n ≡ Some p → page ≡ p.id →
+            TellsFirst cycle (OtherSubpageAt (repeated cycle) pages p) result }
+    {
+        match self.first.get(place(page)) {
+            Some(first) => *first,
+            None => None,
+        }
+    }
+}

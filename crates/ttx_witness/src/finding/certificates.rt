@@ -1,0 +1,172 @@
+//! Finding certificates.
+
+ghost use Rattle.std.specs.Prelude.{◌≡◌, ◌≢◌, [], ◌≤◌, ◌<◌, ◌*◌, ◌↔◌, ℕ, IfOk, IsTrue, MatchOption, List, map, length, Some, true, false};
+ghost use Rattle.std.specs.List.{AllPairs};
+ghost use Rattle.std.specs.List.Sorted.{IsPermutation};
+ghost use Rattle.ttx_page.specs.Pages as definitions;
+ghost use Rattle.ttx_page.specs.Views.{page_of};
+ghost use Rattle.ttx_page.specs.declared.class.Class.TheVariants.{Any};
+ghost use Rattle.ttx_cycle.specs.Cycles.{slots_of};
+ghost use Rattle.ttx_certificate.specs.Entries.{places, rises};
+ghost use Rattle.ttx_certificate.specs.EntryViews.{entries_of};
+ghost use Rattle.ttx_certificate.specs.Certificates.{certificate_of};
+ghost use Rattle.ttx_witness.specs.sent.Collected.{ids_of};
+ghost use Rattle.ttx_witness.specs.finding.Finding.{same_place, IsLeastField, IsDeadline, IsSentUnchanged, IsFoundFor};
+ghost use Rattle.ttx_witness.specs.finding.Surveys.{slots_in, pages_in, page_in, AreNamedIn, AreOthersIn, IsSteadyIn};
+
+use crate::faults::bad_slots::bad_slot;
+use crate::faults::other_subpages::OtherSubpages;
+use crate::finding::naming::name_page;
+use crate::finding::certificates::survey::{Survey, SurveyedPage, surveyed_at};
+use crate::sent::collecting::collect;
+use std::alloc::Global;
+use ttx_certificate::{Certificate, Entry, NoMemory};
+use ttx_cycle::Cycle;
+use ttx_page::{Class, Page};
+
+/// A certificate that names each start of a sure run, and its deadline in fields: the least with which a cycle is
+/// accepted. Where there is no such deadline the certificate has the largest one, 1,000,000.
+#[derive(Drop)]
+pub struct Found {
+    pub certificate: Certificate,
+    pub deadline: Option<u32>,
+}
+
+// The least number of fields from 1 to 1,000,000 that has so many slots.
+fn least_field(slots: u64, lines: u8) -> Option<u32>
+    requires some { 1 ≤ lines }
+    ensures { IsLeastField slots lines result }
+{
+    let fields = slots.div_ceil(u64::from(lines)).max(1);
+    if fields <= 1_000_000 {
+        Some(fields as u32)
+    } else {
+        None
+    }
+}
+
+// Whether the page is sent unchanged.
+fn is_steady(surveyed: &SurveyedPage, others: &OtherSubpages) -> bool
+    ensures { AreOthersIn surveyed.now.survey.now others.now → IsTrue result ↔ IsSteadyIn surveyed.now.survey.now (page_in surveyed.now) }
+{
+    crate::laws::fault_laws::steady_has_no_fault();
+    surveyed.fault(others).is_none()
+}
+
+// Whether no slot is bad and each page is sent unchanged.
+fn is_sent_unchanged(survey: &Survey, others: &OtherSubpages) -> bool
+    ensures { AreOthersIn survey.now others.now → IsTrue result ↔ IsSentUnchanged (slots_in survey.now) (pages_in survey.now) }
+{
+    if bad_slot(survey.cycle).is_some() {
+        return false;
+    }
+    for index in 0..survey.pages.len() {
+        if !is_steady(&surveyed_at(&*survey, index), others) {
+            return false;
+        }
+    }
+    true
+}
+
+// The entries of all pages, and the least limit in slots that is enough for all of them.
+fn name_pages(
+    alloc: Global,
+    survey: &Survey,
+    entries: &mut Vec<Entry>,
+) -> Result<Option<u64>, NoMemory>
+    requires none { entries.old.items ≡ [] }
+    ensures { IfOk result (λ least. AreNamedIn survey.now (26 * length survey.now.pages.now) entries.new.items least) }
+{
+    let mut least = Some(0);
+    for index in 0..survey.pages.len() {
+        least = name_page(alloc, &surveyed_at(&*survey, index), entries, least)?;
+    }
+    Ok(least)
+}
+
+// The entries in the order of certificates, which is strict where no two entries are of one item.
+fn sort_entries(entries: &mut Vec<Entry>)
+    requires apart { AllPairs (λ a b. same_place a b ≡ false) entries.old.items }
+    ensures same { IsPermutation entries.old.items entries.new.items }
+    ensures rising { rises (places (entries_of entries.new.items)) ≡ true }
+{
+    entries.sort_unstable_by_key(|entry| entry.place());
+}
+
+// The deadline, where all is sent unchanged and there is a limit that is enough.
+fn deadline_of(unchanged: bool, lines: u8, least: Option<u64>) -> Option<u32>
+    requires some { 1 ≤ lines }
+    ensures { (cycle : List (List ℕ)) (pages : List definitions.Page) → IsTrue unchanged ↔ IsSentUnchanged cycle pages → IsDeadline cycle pages lines least result }
+{
+    if !unchanged {
+        return None;
+    }
+    match least {
+        Some(slots) => least_field(slots, lines),
+        None => None,
+    }
+}
+
+/// The certificate that names each start of a sure run of each item that a viewer sees and that a receiver of the class
+/// hasn't already, and the least deadline in fields with which the cycle is accepted. `repeat` is 1 to 8, `lines` to a
+/// field 1 to 32.
+pub fn find_for(
+    alloc: Global,
+    cycle: &Cycle,
+    pages: &[Page],
+    repeat: u8,
+    lines: u8,
+    class: Class,
+) -> Result<Found, NoMemory>
+    requires some_repeats { 1 ≤ repeat }
+    requires few_repeats { repeat ≤ 8 }
+    requires some_lines { 1 ≤ lines }
+    requires few_lines { lines ≤ 32 }
+    requires distinct { AllPairs (λ a b. a ≢ b) (ids_of pages.now) }
+    ensures { IfOk result (λ found. IsFoundFor (slots_of cycle.now) (map page_of pages.now) repeat lines class (certificate_of found.certificate) found.deadline) }
+{
+    ttx_page::laws::pages_keep_their_rules();
+    ttx_page::laws::pages_have_six_links();
+    ttx_page::laws::blank_is_tested();
+    ttx_page::laws::each_slot_turns();
+    crate::laws::cycle_laws::sure_starts_are_found();
+    crate::laws::cycle_laws::least_limit_is_found();
+    let collected = collect(alloc, cycle, pages, lines)?;
+    let others = OtherSubpages::of(alloc, cycle, pages)?;
+    let survey = Survey {
+        cycle,
+        pages,
+        class,
+        repeat,
+        lines,
+        collected,
+    };
+    let mut entries = Vec::new(alloc);
+    let least = name_pages(alloc, &survey, &mut entries)?;
+    sort_entries(&mut entries);
+    let unchanged = is_sent_unchanged(&survey, &others);
+    let deadline = deadline_of(unchanged, lines, least);
+    let fields = deadline.unwrap_or(1_000_000);
+    Ok(Found {
+        certificate: Certificate::of(lines, repeat, fields, entries, class),
+        deadline,
+    })
+}
+
+/// The certificate that `find_for` finds for receivers of any class. `repeat` is 1 to 8, `lines` to a field 1 to 32.
+pub fn find(
+    alloc: Global,
+    cycle: &Cycle,
+    pages: &[Page],
+    repeat: u8,
+    lines: u8,
+) -> Result<Found, NoMemory>
+    requires some_repeats { 1 ≤ repeat }
+    requires few_repeats { repeat ≤ 8 }
+    requires some_lines { 1 ≤ lines }
+    requires few_lines { lines ≤ 32 }
+    requires distinct { AllPairs (λ a b. a ≢ b) (ids_of pages.now) }
+    ensures { IfOk result (λ found. IsFoundFor (slots_of cycle.now) (map page_of pages.now) repeat lines Any (certificate_of found.certificate) found.deadline) }
+{
+    find_for(alloc, cycle, pages, repeat, lines, Class::Any)
+}

@@ -1,0 +1,75 @@
+//! What is shared by all that look for starts and deadlines.
+
+ghost use Rattle.std.specs.Prelude.{◌≡◌, ◌≢◌, ◌≤◌, ◌<◌, Some, length, map, slice_get};
+ghost use Rattle.std.specs.List.{AllPairs};
+ghost use Rattle.ttx_cycle.specs.Cycles.{slots_of};
+ghost use Rattle.ttx_page.specs.Views.{page_of};
+ghost use Rattle.ttx_witness.specs.sent.AllSent.{AreAllSent};
+ghost use Rattle.ttx_witness.specs.sent.Collected.{ids_of};
+
+use crate::faults::collected_faults::fault_of;
+use crate::faults::other_subpages::OtherSubpages;
+use crate::faults::reason::Reason;
+use crate::sent::collected::Collected;
+use ttx_cycle::Cycle;
+use ttx_page::{Class, Page};
+
+/// A cycle and the pages of a list with all that the cycle sends of them, and the numbers of the certificates that are looked
+/// for.
+#[derive(Drop)]
+pub struct Survey<'a> {
+    pub cycle: &'a Cycle,
+    pub pages: &'a [Page],
+    pub class: Class,
+    pub repeat: u8,
+    pub lines: u8,
+    pub collected: Collected,
+    ghost some_repeats: { 1 ≤ repeat },
+    ghost few_repeats: { repeat ≤ 8 },
+    ghost some_lines: { 1 ≤ lines },
+    ghost few_lines: { lines ≤ 32 },
+    ghost distinct: { AllPairs (λ a b. a ≢ b) (ids_of pages.now) },
+    ghost sent: { AreAllSent (slots_of cycle.now) (map page_of pages.now) lines collected },
+}
+
+/// One page of a survey, and its place among the pages.
+#[derive(Clone, Copy)]
+pub struct SurveyedPage<'a> {
+    pub survey: &'a Survey<'a>,
+    pub page: &'a Page,
+    pub index: usize,
+    ghost at: { slice_get (map page_of survey.now.pages.now) index ≡ Some (page_of page.now) },
+}
+
+/// The page at the index.
+pub fn surveyed_at<'a>(survey: &'a Survey<'a>, index: usize) -> SurveyedPage<'a>
+    requires { index < length survey.now.pages.now }
+    ensures survey { result.survey.now ≡ survey.now }
+    ensures index { result.index ≡ index }
+{
+    let page = &survey.pages[index];
+    SurveyedPage {
+        survey,
+        page,
+        index,
+    }
+}
+
+impl<'a> SurveyedPage<'a> {
+    ghost use Rattle.ttx_witness.specs.finding.Surveys.{page_in, AreOthersIn, IsFaultIn};
+
+    /// The first of the reasons why the page isn't sent unchanged.
+    pub fn fault(&self, others: &OtherSubpages) -> Option<Reason>
+        ensures { AreOthersIn self.now.survey.now others.now → IsFaultIn self.now.survey.now (page_in self.now) result }
+    {
+        let survey = self.survey;
+        let other_subpage = others.first(self.page.id());
+        fault_of(
+            survey.cycle,
+            self.page,
+            &survey.collected,
+            self.index,
+            other_subpage,
+        )
+    }
+}

@@ -1,0 +1,22 @@
+//! Laws of late starts and late headers. A call costs nothing and gives the caller's proof the law.
+
+ghost use Rattle.ttx_witness.specs.laws.LateLaws.{LateBlankIsUnserved, LateIsUnserved};
+
+/// Where each named start of an item is sure, some start is late exactly where some tuning slot is served by none of their runs.
+pub fn late_is_unserved()
+    ensures { LateIsUnserved }
+{
+    crate::laws::judging_laws::items_are_judged();
+    ttx_page::laws::owners_are_unique();
+    ttx_page::laws::owners_dont_fall();
+    ttx_page::laws::runs_rise();
+    ttx_page::laws::cycles_repeat();
+    ttx_page::laws::streams_move();
+}
+
+/// For receivers that surely clear: some header is late exactly where after some tuning slot no header of the page comes in time.
+pub fn late_blank_is_unserved()
+    ensures { LateBlankIsUnserved }
+{
+    crate::laws::judging_laws::headers_are_judged();
+}

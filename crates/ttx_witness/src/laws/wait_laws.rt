@@ -1,0 +1,34 @@
+//! Laws of how long viewers wait.
+
+ghost use Rattle.ttx_witness.specs.waiting.ItemWaits.{PageIsGreatest};
+ghost use Rattle.ttx_witness.specs.laws.WaitLaws.{DeadlineIsGreatest, LossesAreTold};
+
+/// Where no slot is bad, the deadline of the certificate that is found is the greatest of the pages' deadlines.
+pub fn deadline_is_greatest()
+    ensures { DeadlineIsGreatest }
+{
+    ttx_page::laws::each_slot_turns();
+    ttx_page::laws::pages_keep_their_rules();
+    ttx_page::laws::pages_have_six_links();
+    ttx_page::laws::blank_is_tested();
+    crate::laws::cycle_laws::sure_starts_are_found();
+    crate::laws::cycle_laws::least_limit_is_found();
+}
+
+/// The deadline of a page that is sent unchanged is the greatest of its items', and it has none exactly where one of them has
+/// none.
+pub fn page_is_greatest()
+    ensures { PageIsGreatest }
+{
+    ttx_page::laws::each_slot_turns();
+    ttx_page::laws::pages_keep_their_rules();
+    ttx_page::laws::pages_have_six_links();
+    ttx_page::laws::blank_is_tested();
+    crate::laws::cycle_laws::sure_starts_are_found();
+    crate::laws::cycle_laws::least_limit_is_found();
+}
+
+/// What is counted as too near its header, or as cut off, is so in the stream.
+pub fn losses_are_told()
+    ensures { LossesAreTold }
+{}

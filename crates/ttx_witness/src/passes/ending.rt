@@ -1,0 +1,137 @@
+//! What the second pass tells of the pages, once it has ended.
+
+ghost use Rattle.std.specs.Prelude.{◌≡◌, [], Option, None, if◌then◌else◌, is_some, get_or, slice_get};
+ghost use Rattle.ttx_certificate.specs.Certificates.{certificate_of};
+ghost use Rattle.ttx_page.specs.Pages as definitions;
+ghost use Rattle.ttx_page.specs.Views.{page_of};
+ghost use Rattle.ttx_witness.specs.faults.OtherSubpages as tables;
+
+use crate::faults::first_slots::{FirstSlots, least_fault};
+use crate::faults::reason::Reason;
+use crate::faults::subcodes::place;
+use crate::passes::other_headers::Strays;
+use crate::passes::page_facts::{Facts, late_of};
+use crate::passes::progress::{finish, take_all};
+use crate::passes::sent_slots::SentSlots;
+use crate::runs::confirming::Progress;
+use crate::runs::one_item::nothing_confirmed;
+use crate::sent::page_items::{item_of, run_length};
+use ttx_certificate::{Certificate, limit};
+use ttx_header::PageId;
+use ttx_page::{Item, Page, needed};
+
+/// What a cycle of `period` slots sends of the pages, with a certificate; `bad` is its first slot that isn't clean.
+#[derive(Drop)]
+pub struct EndedPass<'a> {
+    pub pages: &'a [Page],
+    pub certificate: &'a Certificate,
+    pub period: u32,
+    pub bad: Option<u32>,
+    pub(crate) strays: Strays,
+    pub(crate) sent: SentSlots,
+    pub(crate) facts: Vec<Facts>,
+}
+
+// The first header of the page's number with another subcode than the one of the number.
+fn first_stray(strays: &Strays, page: PageId) -> Option<u32>
+    ensures { result ≡ get_or strays.now.first.items (tables.place page.mag page.page) None }
+{
+    strays.first[place(page)]
+}
+
+// The facts of the page at the index.
+fn facts_at(all: &[Facts], index: usize) -> Option<Facts>
+    ensures { result ≡ slice_get all.now index }
+{
+    all.get(index).copied()
+}
+
+// The starts that are named for the item, where a viewer needs it, and else none.
+fn needed_starts<'a>(page: &Page, certificate: &'a Certificate, item: &Item) -> &'a [u32]
+    ensures { result.now ≡ (if definitions.needed (page_of page.now) item.now then (certificate_of certificate.now).starts (page_of page.now).id item.now else []) }
+{
+    if needed(page, *item) {
+        certificate.starts(page.id(), *item)
+    } else {
+        &[]
+    }
+}
+
+// The first slots of the single reasons.
+fn first_slots(facts: Facts, other_subpage: Option<u32>) -> FirstSlots
+    ensures { result ≡ record { has_header = is_some facts.heads; other_subpage = other_subpage; erased = facts.erased; head = facts.head; row = facts.row; links = facts.links } }
+{
+    FirstSlots {
+        has_header: facts.heads.is_some(),
+        other_subpage,
+        erased: facts.erased,
+        head: facts.head,
+        row: facts.row,
+        links: facts.links,
+    }
+}
+
+impl<'a> EndedPass<'a> {
+    ghost use Rattle.std.specs.Prelude.{◌≡◌, ◌<◌, ℕ, List, Some, length, slice_get};
+    ghost use Rattle.ttx_page.specs.Pages as definitions;
+    ghost use Rattle.ttx_page.specs.Steady.{HasHeader};
+    ghost use Rattle.ttx_page.specs.Streams.{repeated};
+    ghost use Rattle.ttx_page.specs.declared.item.Item.{Item};
+    ghost use Rattle.ttx_witness.specs.sent.Collected.{IsItem, item_number};
+    ghost use Rattle.ttx_witness.specs.faults.Faults.{IsPageFault};
+    ghost use Rattle.ttx_witness.specs.passes.ItemProgress.{IsProgress};
+    ghost use Rattle.ttx_witness.specs.laws.JudgingLaws.{IsHeaderAnswer};
+    ghost use Rattle.ttx_witness.specs.passes.Passing.{IsEnded, ended_pages, ended_certificate};
+
+    /// The first of the reasons why the page at the index isn't sent unchanged.
+    pub fn page_fault(&self, index: usize) -> Option<Reason>
+        requires { index < length self.now.pages.now }
+        ensures { (y : List (List ℕ)) (p : definitions.Page) → IsEnded self.now y → slice_get (ended_pages self.now) index ≡ Some p → IsPageFault y (ended_pages self.now) p result }
+    {
+        ttx_page::laws::pages_keep_their_rules();
+        let Some(facts) = facts_at(self.facts.as_slice(), index) else {
+            return None;
+        };
+        let page = self.pages[index].id();
+        let first = first_slots(facts, first_stray(&self.strays, page));
+        least_fault(page, first)
+    }
+
+    /// The first header of the page at the index that the next one follows too late.
+    pub fn late_header(&self, index: usize) -> Option<u32>
+        ensures { (y : List (List ℕ)) (p : definitions.Page) → IsEnded self.now y → slice_get (ended_pages self.now) index ≡ Some p → HasHeader (repeated y) p.id →
+            IsHeaderAnswer y p (ended_certificate self.now) result }
+    {
+        crate::laws::judging_laws::headers_are_judged();
+        let Some(facts) = facts_at(self.facts.as_slice(), index) else {
+            return None;
+        };
+        late_of(facts.heads, self.period, limit(self.certificate))
+    }
+
+    /// How far the starts that are named for the item of this number of the page at the index are confirmed. None only where
+    /// none is named or a viewer doesn't need the item.
+    pub fn progress(&self, index: usize, number: u8) -> Option<Progress>
+        requires index { index < length self.now.pages.now }
+        requires number { number < 26 }
+        ensures { (y : List (List ℕ)) (p : definitions.Page) (item : Item) → IsEnded self.now y → slice_get (ended_pages self.now) index ≡ Some p → IsItem item → item_number item ≡ number →
+            IsProgress y p (ended_certificate self.now) item result }
+    {
+        ttx_certificate::certificate_laws::certificates_keep_their_rules();
+        crate::laws::judging_laws::transmissions_are_listed();
+        if index >= self.sent.firsts.len() / 26 {
+            return None;
+        }
+        let item = item_of(number);
+        let starts = needed_starts(&self.pages[index], self.certificate, &item);
+        if starts.is_empty() {
+            return None;
+        }
+        let place = 26 * index + usize::from(number);
+        let limit = limit(self.certificate);
+        let mut track = nothing_confirmed(run_length(self.certificate.repeat(), &item));
+        take_all(&mut track, &self.sent, place, starts, limit);
+        finish(&mut track, self.period, starts, limit);
+        Some(track.progress)
+    }
+}

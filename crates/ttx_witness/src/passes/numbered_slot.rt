@@ -1,0 +1,13 @@
+//! A slot of a list, and its number.
+
+ghost use Rattle.std.specs.Prelude.{◌<◌};
+ghost use Rattle.ttx_packet.specs.Slots.{IsSlot};
+
+/// One of the first 65,536 slots of a list, and its number from 0.
+#[derive(Clone, Copy)]
+pub struct NumberedSlot<'a> {
+    pub bytes: &'a [u8; 42],
+    pub at: u32,
+    ghost is_slot: { IsSlot bytes.now },
+    ghost small: { at < 65536 },
+}

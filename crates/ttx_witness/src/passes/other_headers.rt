@@ -1,0 +1,28 @@
+//! Headers of other subpages, noted while slots pass.
+
+ghost use Rattle.std.specs.Prelude.{◌≡◌, ◌≤◌, ◌<◌, ℕ, None, get_or, length};
+ghost use Rattle.ttx_packet.specs.Slots.{IsSlot};
+ghost use Rattle.ttx_page.specs.Packets.{packet_of};
+ghost use Rattle.ttx_witness.specs.faults.OtherSubpages.{place, first_of, is_stray};
+
+use crate::faults::other_subpages::note_slot;
+use crate::faults::subcodes::Subcodes;
+
+/// The subcodes of the pages of each number, and the first header of each number with another one.
+#[derive(Drop)]
+pub struct Strays {
+    pub subcodes: Vec<Subcodes>,
+    pub first: Vec<Option<u32>>,
+    ghost subcodes_size: { length subcodes.items ≡ 2048 },
+    ghost first_size: { length first.items ≡ 2048 },
+}
+
+/// Notes slot j, where it is a header.
+pub fn note_stray(strays: &mut Strays, slot: &[u8; 42], j: u32)
+    requires slot { IsSlot slot.now }
+    ensures subcodes { strays.new.subcodes ≡ strays.old.subcodes }
+    ensures noted { (mag number : ℕ) → 1 ≤ mag → mag ≤ 8 → number < 256 →
+        get_or strays.new.first.items (place mag number) None ≡ first_of (get_or strays.old.first.items (place mag number) None) (is_stray strays.old.subcodes.items mag number (packet_of slot.now)) j }
+{
+    note_slot(&mut strays.first, &strays.subcodes, slot, j);
+}

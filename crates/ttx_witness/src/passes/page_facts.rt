@@ -1,0 +1,144 @@
+//! The reasons that speak of single slots of a page, noted while slots pass.
+
+ghost use Rattle.std.specs.Prelude.{◌≡◌, ◌↔◌, ◌<◌, ℕ, IsTrue, length, map, slice_get, Some, ◌==◌, true};
+ghost use Rattle.ttx_packet.specs.Slots.{IsSlot};
+ghost use Rattle.ttx_page.specs.Pages as definitions;
+ghost use Rattle.ttx_page.specs.Views.{page_of};
+ghost use Rattle.ttx_witness.specs.sent.Collected.{item_number};
+ghost use Rattle.ttx_witness.specs.faults.Comparing.{IsWrong};
+ghost use Rattle.ttx_witness.specs.declared.passes.page_facts.Facts.{Facts as FactsValue};
+ghost use Rattle.ttx_witness.specs.sent.OneSlot.{is_sent};
+ghost use Rattle.ttx_witness.specs.passes.ItemProgress.{Holds};
+ghost use Rattle.ttx_witness.specs.passes.PageFacts.{IsNoted, RowWrong, Noted, next_head, heads_after, late_of};
+
+use crate::faults::comparing::{Check, is_wrong};
+use crate::faults::other_subpages::first_of;
+use crate::passes::numbered_slot::NumberedSlot;
+use crate::sent::one_slot::Sent;
+use ttx_page::{Item, Page, RowNumber, needed};
+
+/// The first and the last header of a page, and the first that the next one followed too late.
+#[derive(Clone, Copy)]
+pub struct Heads {
+    pub first: i32,
+    pub last: i32,
+    pub late: Option<u32>,
+}
+
+/// The headers of a page, and the first slot of each reason that speaks of what the page's slots carry.
+#[derive(Clone, Copy)]
+pub struct Facts {
+    pub heads: Option<Heads>,
+    pub erased: Option<u32>,
+    pub head: Option<u32>,
+    pub row: Option<u32>,
+    pub links: Option<u32>,
+}
+
+// The headers after one in slot j.
+fn next_head(heads: Option<Heads>, j: i32, limit: u32) -> Heads
+    ensures { result ≡ next_head limit j heads }
+{
+    let Some(h) = heads else {
+        return Heads {
+            first: j,
+            last: j,
+            late: None,
+        };
+    };
+    let is_late = i64::from(h.last) + i64::from(limit) < i64::from(j);
+    let late = if h.late.is_none() && is_late {
+        Some(h.last.unsigned_abs())
+    } else {
+        h.late
+    };
+    Heads {
+        first: h.first,
+        last: j,
+        late,
+    }
+}
+
+// The headers after slot j.
+fn heads_after(heads: Option<Heads>, j: i32, limit: u32, sent: bool) -> Option<Heads>
+    ensures { result ≡ heads_after limit j sent heads }
+{
+    if sent {
+        Some(next_head(heads, j, limit))
+    } else {
+        heads
+    }
+}
+
+// The first slot that differs from the page, where `sent` says whether the slot sends the item.
+fn noted(
+    first: Option<u32>,
+    page: &Page,
+    check: &Check,
+    slot: &NumberedSlot,
+    sent: bool,
+) -> Option<u32>
+    ensures { IsNoted ((sent ≡ true) × IsWrong (page_of page.now) check.now slot.now.bytes.now) slot.now.at first result }
+{
+    first_of(first, sent && is_wrong(page, check, slot.bytes), slot.at)
+}
+
+// Whether the slot sends another row in the place of the one of this number, where a viewer sees it.
+fn is_row_wrong(page: &Page, number: u8, slot: &[u8; 42]) -> bool
+    requires { IsSlot slot.now }
+    ensures { IsTrue result ↔ RowWrong (page_of page.now) (λ item. item_number item == number) slot.now }
+{
+    match RowNumber::new(number) {
+        Some(row) => needed(page, Item::Row(row)) && is_wrong(page, &Check::Row(row), slot),
+        None => false,
+    }
+}
+
+// The facts after a slot, which sends the page's item of this number.
+fn facts_after(facts: Facts, page: &Page, number: u8, slot: &NumberedSlot, limit: u32) -> Facts
+    ensures { Noted limit (page_of page.now) (λ item. item_number item == number) slot.now.bytes.now slot.now.at facts result }
+{
+    let (is_head, is_links) = (0 == number, 25 == number);
+    Facts {
+        heads: heads_after(facts.heads, slot.at as i32, limit, is_head),
+        erased: noted(facts.erased, page, &Check::EraseBit, slot, is_head),
+        head: noted(facts.head, page, &Check::Head, slot, is_head),
+        row: first_of(facts.row, is_row_wrong(page, number, slot.bytes), slot.at),
+        links: noted(facts.links, page, &Check::Links, slot, is_links),
+    }
+}
+
+/// Notes what a slot sends.
+pub fn note_sent(
+    all: &mut Vec<Facts>,
+    pages: &[Page],
+    sent: Option<Sent>,
+    slot: &NumberedSlot,
+    limit: u32,
+)
+    ensures count { length all.new.items ≡ length all.old.items }
+    ensures noted { (i : ℕ) (p : definitions.Page) (x : FactsValue) → slice_get (map page_of pages.now) i ≡ Some p → slice_get all.old.items i ≡ Some x → Holds FactsValue all.new.items i (Noted limit p (λ item. is_sent i item sent) slot.now.bytes.now slot.now.at x) }
+{
+    let Some(s) = sent else {
+        return;
+    };
+    let at = s.page as usize;
+    if at < all.len() && at < pages.len() {
+        all[at] = facts_after(all[at], &pages[at], s.number, slot, limit);
+    }
+}
+
+/// The first header that the next one follows too late, where after the last one the first comes again, a period later.
+pub fn late_of(heads: Option<Heads>, period: u32, limit: u32) -> Option<u32>
+    ensures { result ≡ late_of limit period heads }
+{
+    let h = heads?;
+    if h.late.is_some() {
+        return h.late;
+    }
+    if i64::from(h.last) + i64::from(limit) < i64::from(h.first) + i64::from(period) {
+        Some(h.last.unsigned_abs())
+    } else {
+        None
+    }
+}

@@ -1,0 +1,171 @@
+//! Two passes over the slots of a cycle, of which none is kept. The first tells which headers stand before slot 0, the second
+//! what the cycle sends of the pages.
+
+ghost use Rattle.std.specs.Prelude.{◌≡◌, ◌<◌, ◌+◌, ◌++◌, ◌∷◌, [], Option, List, ℕ, length};
+ghost use Rattle.ttx_header.specs.Ids.{Id};
+ghost use Rattle.ttx_packet.specs.Slots.{IsSlot};
+ghost use Rattle.ttx_witness.specs.passes.Passing.{AreReady, AreSeen, AreKept};
+ghost use Rattle.ttx_witness.specs.sent.ItemTransmissions.{PageOwner};
+
+use crate::faults::other_subpages::first_of;
+use crate::passes::earlier_owners::all_moved;
+use crate::passes::ending::EndedPass;
+use crate::passes::numbered_slot::NumberedSlot;
+use crate::passes::other_headers::{Strays, note_stray};
+use crate::passes::page_facts::{Facts, note_sent};
+use crate::passes::returning_owners::are_steady;
+use crate::passes::sent_slots::SentSlots;
+use crate::sent::one_slot::sent_in_slot;
+use crate::sent::owners::{Owner, note_owner};
+use crate::sent::page_index::PageIndex;
+use thiserror::Error;
+use ttx_certificate::{Certificate, limit};
+use ttx_packet::clean;
+use ttx_page::Page;
+
+/// Why a slot isn't taken.
+#[derive(Clone, Copy, PartialEq, Eq, Debug, Error)]
+pub enum WalkFault {
+    /// 1. A first list has 65,536 slots at most.
+    #[error("more than 65536 slots")]
+    TooLong,
+}
+
+/// What is kept of the pages with a certificate while slots pass; in the first pass the owners of the magazines and a count
+/// are all that changes.
+#[derive(Drop)]
+pub struct Pass<'a> {
+    pub(crate) pages: &'a [Page],
+    pub(crate) certificate: &'a Certificate,
+    pub(crate) index: PageIndex,
+    pub(crate) strays: Strays,
+    pub(crate) sent: SentSlots,
+    pub(crate) facts: Vec<Facts>,
+    pub(crate) owners: [Option<Owner>; 8],
+    pub(crate) count: u32,
+}
+
+/// The second pass: besides, the owners before its slot 0, the first slot that isn't clean, and whether it was given more than
+/// 65,536 slots.
+#[derive(Drop)]
+pub struct SecondPass<'a> {
+    pub(crate) pass: Pass<'a>,
+    pub(crate) entry: [Option<Owner>; 8],
+    pub(crate) bad: Option<u32>,
+    pub(crate) over: bool,
+}
+
+// Takes one more slot: what it sends, facts, and the owners after it.
+fn take_slot(pass: &mut Pass, slot: &[u8; 42])
+    requires slot { IsSlot slot.now }
+    requires few { pass.old.count < 65536 }
+    ensures taken { (entry : Id → Option PageOwner) (y : List (List ℕ)) → AreReady pass.old → pass.old.count ≡ length y → AreSeen pass.old entry y pass.old.owners → AreKept pass.old entry y →
+        AreSeen pass.new entry (y ++ slot.now ∷ []) pass.new.owners × AreKept pass.new entry (y ++ slot.now ∷ []) }
+    ensures ready { AreReady pass.old → AreReady pass.new }
+    ensures count { pass.new.count ≡ pass.old.count + 1 }
+    ensures pages { pass.new.pages.now ≡ pass.old.pages.now }
+    ensures certificate { pass.new.certificate.now ≡ pass.old.certificate.now }
+{
+    ttx_page::laws::pages_keep_their_rules();
+    ttx_certificate::certificate_laws::certificates_keep_their_rules();
+    let (j, limit, lines) = (
+        pass.count,
+        limit(pass.certificate),
+        pass.certificate.lines(),
+    );
+    let sent = sent_in_slot(&pass.owners, &pass.index, slot, j as i32, lines);
+    pass.sent.note(sent);
+    let numbered = NumberedSlot { bytes: slot, at: j };
+    note_sent(&mut pass.facts, pass.pages, sent, &numbered, limit);
+    note_stray(&mut pass.strays, slot, j);
+    note_owner(&mut pass.owners, &pass.index, slot, j as i32);
+    pass.count += 1;
+}
+
+impl<'a> Pass<'a> {
+    ghost use Rattle.std.specs.Prelude.{◌≡◌, ◌++◌, ◌∷◌, [], ℕ, List, MatchResult, length};
+    ghost use Rattle.ttx_packet.specs.Slots.{IsSlot};
+    ghost use Rattle.ttx_witness.specs.passes.Passing.{IsFirstPass, IsSecondPass, pages_of, pages_in, certificate, certificate_in};
+
+    /// The next slot of the first list. After `TooLong` the pass is as it was.
+    pub fn first(&mut self, slot: &[u8; 42]) -> Result<(), WalkFault>
+        requires { IsSlot slot.now }
+        ensures stands { (x : List (List ℕ)) → IsFirstPass self.old x → MatchResult result (λ u. IsFirstPass self.new (x ++ slot.now ∷ [])) (λ f. (self.new ≡ self.old) × (length x ≡ 65536)) }
+        ensures pages { pages_of self.new ≡ pages_of self.old }
+        ensures certificate { certificate self.new ≡ certificate self.old }
+    {
+        if self.count >= 65536 {
+            return Err(WalkFault::TooLong);
+        }
+        note_owner(&mut self.owners, &self.index, slot, self.count as i32);
+        self.count += 1;
+        Ok(())
+    }
+
+    /// Before the second list: the owners are those at the end of the first, as many slots earlier as it has.
+    pub fn begin_second(self) -> SecondPass<'a>
+        ensures stands { (x : List (List ℕ)) → IsFirstPass self.entry x → IsSecondPass result x [] }
+        ensures pages { pages_in result ≡ pages_of self.entry }
+        ensures certificate { certificate_in result ≡ certificate self.entry }
+    {
+        let entry = all_moved(&self.owners, self.count);
+        let mut pass = self;
+        pass.owners = entry;
+        pass.count = 0;
+        SecondPass {
+            pass,
+            entry,
+            bad: None,
+            over: false,
+        }
+    }
+}
+
+impl<'a> SecondPass<'a> {
+    ghost use Rattle.std.specs.Prelude.{◌≡◌, ◌++◌, ◌∷◌, [], ℕ, List, IfSome};
+    ghost use Rattle.ttx_packet.specs.Slots.{IsSlot};
+    ghost use Rattle.ttx_witness.specs.passes.Passing.{IsSecondPass, EndsAs, pages_in, certificate_in, ended_pages, ended_certificate};
+
+    /// The next slot of the second list.
+    pub fn second(&mut self, slot: &[u8; 42])
+        requires { IsSlot slot.now }
+        ensures stands { (x y : List (List ℕ)) → IsSecondPass self.old x y → IsSecondPass self.new x (y ++ slot.now ∷ []) }
+        ensures pages { pages_in self.new ≡ pages_in self.old }
+        ensures certificate { certificate_in self.new ≡ certificate_in self.old }
+    {
+        if self.pass.count >= 65536 {
+            self.over = true;
+            return;
+        }
+        self.bad = first_of(self.bad, !clean(slot), self.pass.count);
+        take_slot(&mut self.pass, slot);
+    }
+
+    /// What the second list sends of the pages, where it leaves the owners that it began with. None where it doesn't, is empty
+    /// or has more than 65,536 slots.
+    pub fn end(self) -> Option<EndedPass<'a>>
+        ensures ended { (x y : List (List ℕ)) → IsSecondPass self.entry x y → EndsAs x y result }
+        ensures pages { IfSome result (λ ended. ended_pages ended ≡ pages_in self.entry) }
+        ensures certificate { IfSome result (λ ended. ended_certificate ended ≡ certificate_in self.entry) }
+    {
+        ttx_page::laws::pages_keep_their_rules();
+        let (pages, certificate) = (self.pass.pages, self.pass.certificate);
+        let period = self.pass.count;
+        let is_steady = are_steady(pages, &self.entry, &self.pass.owners, period);
+        if self.over || period == 0 || !is_steady {
+            return None;
+        }
+        let bad = self.bad;
+        let mut pass = self.pass;
+        pass.sent.link();
+        Some(EndedPass {
+            pages,
+            certificate,
+            period,
+            bad,
+            strays: pass.strays,
+            sent: pass.sent,
+            facts: pass.facts,
+        })
+    }
+}

@@ -1,0 +1,94 @@
+//! The transmissions of one item in a period, searched for starts or held against named ones.
+
+ghost use Rattle.std.specs.Prelude.{◌≡◌, ◌≤◌, ◌-◌, ℕ, List, [], IfOk};
+ghost use Rattle.std.specs.List.{AllByRecursion};
+ghost use Rattle.ttx_witness.specs.runs.Transmissions.{runs};
+ghost use Rattle.ttx_witness.specs.runs.Confirming.{after_runs, not_begun};
+ghost use Rattle.ttx_witness.specs.runs.SureStarts.{IsFound};
+ghost use Rattle.ttx_witness.specs.runs.Tracks.{IsRecent, IsSearch, IsTrack, IsWithin};
+
+use crate::runs::confirming::Progress;
+use crate::runs::named_starts::{self, Track};
+use crate::runs::sure_starts::{self, Search};
+use crate::runs::transmissions::Transmission;
+use crate::runs::window::Recent;
+use arrayvec::ArrayVec;
+use std::alloc::Global;
+use ttx_certificate::NoMemory;
+
+// Nothing taken yet of an item whose runs have so many transmissions.
+fn nothing_sent(repeat: usize) -> Recent
+    requires some { 1 ≤ repeat }
+    ensures { IsRecent (repeat - 1) [] result }
+{
+    Recent {
+        repeat,
+        window: ArrayVec::new(),
+        firsts: ArrayVec::new(),
+    }
+}
+
+/// A track of an item whose runs have so many transmissions, none taken yet.
+pub fn nothing_confirmed(repeat: usize) -> Track
+    requires some { 1 ≤ repeat }
+    ensures { (limit : ℕ) (starts : List ℕ) → IsTrack (repeat - 1) limit starts [] result }
+{
+    let progress = Progress {
+        next: 0,
+        previous: 0,
+        first_end: 0,
+        late: None,
+    };
+    Track {
+        recent: nothing_sent(repeat),
+        progress,
+    }
+}
+
+/// The starts of all sure runs among the transmissions of a period, and what is kept of these runs.
+pub fn search_item(
+    alloc: Global,
+    sent: &[Transmission],
+    repeat: usize,
+    period: u32,
+) -> Result<Search, NoMemory>
+    requires some { 1 ≤ repeat }
+    requires few { repeat ≤ 8 }
+    requires small { AllByRecursion (IsWithin 65536) sent.now }
+    requires short { period ≤ 65536 }
+    ensures { IfOk result (λ s. IsFound (runs period (repeat - 1) sent.now) s.starts.items s.spread) }
+{
+    let mut search = Search {
+        recent: nothing_sent(repeat),
+        starts: Vec::new(alloc),
+        spread: None,
+    };
+    for i in 0..sent.len() {
+        sure_starts::note(&mut search, sent[i])?;
+    }
+    sure_starts::finish(&mut search, period)?;
+    Ok(search)
+}
+
+/// How far the named starts are confirmed by the transmissions of a period. No memory is taken.
+pub fn judge_item(
+    _alloc: Global,
+    sent: &[Transmission],
+    starts: &[u32],
+    repeat: usize,
+    limit: u32,
+    period: u32,
+) -> Result<Progress, NoMemory>
+    requires some { 1 ≤ repeat }
+    requires few { repeat ≤ 8 }
+    requires small { AllByRecursion (IsWithin 65536) sent.now }
+    requires short { period ≤ 65536 }
+    ensures { IfOk result (λ p. p ≡ after_runs limit starts.now not_begun (runs period (repeat - 1) sent.now)) }
+{
+    let mut track = nothing_confirmed(repeat);
+    for i in 0..sent.len() {
+        named_starts::note(&mut track, sent[i], starts, limit);
+    }
+    named_starts::finish(&mut track, period, starts, limit);
+    Ok(track.progress)
+}

@@ -1,0 +1,118 @@
+//! The starts of all sure runs of one item, and how far apart they are.
+
+ghost use Rattle.std.specs.Prelude.{◌≡◌, ◌≤◌, ℕ, List, [], ◌∷◌, ◌++◌, length, IfOk, OnOk, ◌-ℤ◌, Some, None};
+ghost use Rattle.std.specs.List.{AllByRecursion};
+ghost use Rattle.ttx_witness.specs.runs.Transmissions.{Transmission, runs};
+ghost use Rattle.ttx_witness.specs.runs.SureStarts.{above_zero, widened, spread_after, sure_starts, spread_of, IsFound};
+ghost use Rattle.ttx_witness.specs.runs.Tracks.{listed, IsSearch, IsWithin};
+
+use crate::runs::transmissions::{Run, Transmission};
+use crate::runs::window::{Recent, push, push_further};
+use ttx_certificate::NoMemory;
+
+/// What is kept of the sure runs: the end of the first, the owner of the last, and the greatest distance in
+/// slots from an owner to the end of the next run.
+#[derive(Clone, Copy)]
+pub struct Spread {
+    pub first_end: i32,
+    pub previous: i32,
+    pub widest: u32,
+}
+
+/// What is held of the transmissions of an item, the starts of its sure runs, and what is kept of these.
+#[derive(Drop)]
+pub struct Search {
+    pub recent: Recent,
+    pub starts: Vec<u32>,
+    pub spread: Option<Spread>,
+}
+
+// The slots from an owner to the end of a run, none where the run ends before it.
+fn distance(owner: i32, end: i32) -> u32
+    ensures { result ≡ above_zero (end -ℤ owner) }
+{
+    if end < owner { 0 } else { end.abs_diff(owner) }
+}
+
+// The spread with one more sure run.
+fn widened(spread: Option<Spread>, run: Run) -> Spread
+    ensures { result ≡ widened spread run }
+{
+    match spread {
+        None => Spread {
+            first_end: run.end,
+            previous: run.owner,
+            widest: 0,
+        },
+        Some(s) => Spread {
+            first_end: s.first_end,
+            previous: run.owner,
+            widest: s.widest.max(distance(s.previous, run.end)),
+        },
+    }
+}
+
+// Keeps the start of a run, where it is all sure.
+#[tactic(auto, unfolding(crate::specs::runs::SureStarts::sure_runs, crate::specs::runs::SureStarts::spread_of))]
+fn keep_sure(
+    starts: &mut Vec<u32>,
+    spread: Option<Spread>,
+    run: Run,
+) -> Result<Option<Spread>, NoMemory>
+    ensures starts { OnOk result (starts.new.items ≡ starts.old.items ++ sure_starts (run ∷ [])) }
+    ensures spread { IfOk result (λ s. s ≡ spread_of spread (run ∷ [])) }
+{
+    if !run.sure {
+        return Ok(spread);
+    }
+    if starts.push(run.start.unsigned_abs()).is_err() {
+        return Err(NoMemory);
+    }
+    Ok(Some(widened(spread, run)))
+}
+
+// Keeps the start of the run that has ended, where there is one.
+#[tactic(auto, unfolding(crate::specs::runs::SureStarts::sure_runs, crate::specs::runs::SureStarts::spread_of))]
+fn keep_start(
+    starts: &mut Vec<u32>,
+    spread: Option<Spread>,
+    run: Option<Run>,
+) -> Result<Option<Spread>, NoMemory>
+    ensures starts { OnOk result (starts.new.items ≡ starts.old.items ++ sure_starts (listed run)) }
+    ensures spread { IfOk result (λ s. s ≡ spread_of spread (listed run)) }
+{
+    match run {
+        Some(run) => keep_sure(starts, spread, run),
+        None => Ok(spread),
+    }
+}
+
+/// Takes the next transmission of the period.
+pub fn note(search: &mut Search, t: Transmission) -> Result<(), NoMemory>
+    requires room { search.old.recent.repeat ≤ 8 }
+    ensures { OnOk result ((k : ℕ) (ts : List Transmission) → IsSearch k ts search.old → IsSearch k (ts ++ t ∷ []) search.new) }
+{
+    let run = push(&mut search.recent, t);
+    search.spread = keep_start(&mut search.starts, search.spread, run)?;
+    Ok(())
+}
+
+/// Takes the transmissions that follow the period, round the cycle.
+pub fn finish(search: &mut Search, period: u32) -> Result<(), NoMemory>
+    requires some { 1 ≤ search.old.recent.repeat }
+    requires room { search.old.recent.repeat ≤ 8 }
+    requires firsts { length search.old.recent.firsts.items ≤ 7 }
+    requires small { AllByRecursion (IsWithin 65536) search.old.recent.firsts.items }
+    requires short { period ≤ 65536 }
+    ensures { OnOk result ((k : ℕ) (ts : List Transmission) → IsSearch k ts search.old → IsFound (runs period k ts) search.new.starts.items search.new.spread) }
+{
+    if search.recent.firsts.is_empty() {
+        return Ok(());
+    }
+    let count = search.recent.repeat - 1;
+    for i in 0..count {
+        let run = push_further(&mut search.recent, period);
+        search.spread = keep_start(&mut search.starts, search.spread, run)?;
+    }
+    Ok(())
+}

@@ -1,0 +1,16 @@
+//! The transmissions of one period of a cycle.
+
+ghost use Rattle.std.specs.Prelude.{ℕ};
+ghost use Rattle.std.specs.List.{All};
+ghost use Rattle.ttx_witness.specs.runs.Tracks.{AreInOrder, IsWithin};
+ghost use Rattle.ttx_witness.specs.sent.Collected.{held};
+
+use crate::runs::transmissions::Transmission;
+
+/// The transmissions of each item of some pages in one period of a cycle.
+#[derive(Drop)]
+pub struct Collected {
+    pub(crate) lists: Vec<Vec<Transmission>>,
+    ghost within: { (n : ℕ) → All (IsWithin 65536) (held lists.items n) },
+    ghost in_order: { (n : ℕ) → AreInOrder (held lists.items n) },
+}

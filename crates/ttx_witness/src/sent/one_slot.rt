@@ -1,0 +1,105 @@
+//! What a slot sends of the items of pages.
+
+ghost use Rattle.std.specs.Prelude.{◌≡◌, ◌<◌, ℕ, List, IfSome, MatchOption, slice_get, Some, false, if◌then◌else◌, ◌==◌, ◌&&◌, ◌∷◌, [], ◌+ℤ◌, pos, not, int_lt, true};
+ghost use Rattle.ttx_header.specs.Ids.{Id, IsId};
+ghost use Rattle.ttx_packet.specs.Slots.{IsSlot};
+ghost use Rattle.ttx_page.specs.Packets.{packet_of};
+ghost use Rattle.ttx_page.specs.declared.item.Item.{Item};
+ghost use Rattle.ttx_witness.specs.sent.ItemTransmissions.{sent_under, sent_at};
+ghost use Rattle.ttx_witness.specs.sent.Collected.{IsItem, IsIndex, AreApart, item_number, seen_by, owner_for, is_page};
+ghost use Rattle.ttx_witness.specs.sent.OneSlot.{sent_of, sends_place};
+
+use crate::runs::transmissions::Transmission;
+use crate::sent::owners::Owner;
+use crate::sent::page_index::{PageIndex, place_of};
+use ttx_header::read_header;
+use ttx_packet::{Slot, slot_of};
+
+/// A transmission of an item: the place of its page in the list of pages, and the item's number.
+#[derive(Clone, Copy)]
+pub struct Sent {
+    pub page: u32,
+    pub number: u8,
+    pub transmission: Transmission,
+}
+
+// The transmission in slot j under its owner.
+fn transmission_under(owner: Owner, j: i32, lines: u8) -> Transmission
+    ensures { result ≡ record { slot = j; owner = owner.slot; sure = int_lt (owner.slot +ℤ pos lines) j && not owner.tainted } }
+{
+    Transmission {
+        slot: j,
+        owner: owner.slot,
+        sure: i64::from(owner.slot) + i64::from(lines) < i64::from(j) && !owner.tainted,
+    }
+}
+
+// What slot j sends of the item of this number, where its owner is a page's header.
+fn sent_under(owner: Option<Owner>, number: u8, j: i32, lines: u8) -> Option<Sent>
+    requires { number < 26 }
+    ensures number { IfSome result (λ s. s.number < 26) }
+    ensures sent { (i : ℕ) (item : Item) → sent_of i item result ≡ (if item_number item == number then sent_under lines j (seen_by i owner) else []) }
+{
+    let owner = owner?;
+    let page = owner.page?;
+    Some(Sent {
+        page,
+        number,
+        transmission: transmission_under(owner, j, lines),
+    })
+}
+
+// What a header in slot j sends, where it is a page's.
+fn sent_head(page: Option<u32>, j: i32) -> Option<Sent>
+    ensures number { IfSome result (λ s. s.number < 26) }
+    ensures sent { (i : ℕ) (item : Item) → sent_of i item result ≡ (if (item_number item == 0) && is_page i page then record { slot = j; owner = j; sure = true } ∷ [] else []) }
+{
+    let page = page?;
+    Some(Sent {
+        page,
+        number: 0,
+        transmission: Transmission {
+            slot: j,
+            owner: j,
+            sure: true,
+        },
+    })
+}
+
+/// What slot j sends of the pages' items, under the owners before it.
+pub fn sent_in_slot(
+    owners: &[Option<Owner>; 8],
+    index: &PageIndex,
+    slot: &[u8; 42],
+    j: i32,
+    lines: u8,
+) -> Option<Sent>
+    requires { IsSlot slot.now }
+    ensures number { IfSome result (λ s. s.number < 26) }
+    ensures sent { (ids : List Id) → IsIndex ids index.now → AreApart ids owners.now → (i : ℕ) (id : Id) (item : Item) → slice_get ids i ≡ Some id → IsItem item → sent_of i item result ≡ sent_at id lines item j (packet_of slot.now) (owner_for owners.now i id) }
+{
+    ttx_packet::laws::rows_are_numbered();
+    ttx_header::laws::headers_have_fields();
+    ttx_header::laws::headers_are_headers();
+    match slot_of(slot) {
+        Slot::Header(_, _) => match read_header(slot) {
+            Some(header) => sent_head(place_of(index, header.id()), j),
+            None => None,
+        },
+        Slot::Row(at, _) => sent_under(owners[usize::from(at.mag) - 1], at.number, j, lines),
+        Slot::Links(at, _) => sent_under(owners[usize::from(at.mag) - 1], 25, j, lines),
+        _ => None,
+    }
+}
+
+/// The place of the item that is sent, where there are so many places.
+pub fn place_in(sent: Sent, places: usize) -> Option<usize>
+    ensures { MatchOption result ((place : ℕ) → place < places → sends_place place (Some sent) ≡ false) (λ place. (place < places) × (sends_place place (Some sent) ≡ true)) }
+{
+    let place = 26 * sent.page as usize + usize::from(sent.number);
+    if sent.number < 26 && place < places {
+        Some(place)
+    } else {
+        None
+    }
+}

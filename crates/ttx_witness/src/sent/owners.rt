@@ -1,0 +1,95 @@
+//! The owners of the eight magazines.
+
+ghost use Rattle.std.specs.Prelude.{◌≡◌, ◌<◌, ℕ, List, slice_get, get_or, false, None, Some, if◌then◌else◌, ◌==◌};
+ghost use Rattle.ttx_header.specs.Ids.{Id, IsId};
+ghost use Rattle.ttx_packet.specs.Slots.{IsSlot};
+ghost use Rattle.ttx_page.specs.Packets.{packet_of};
+ghost use Rattle.ttx_cycle.specs.Cycles.{slots_of};
+ghost use Rattle.ttx_witness.specs.sent.ItemTransmissions.{owner_after};
+ghost use Rattle.ttx_witness.specs.sent.Collected.{taint, IsIndex, AreOwners, AreApart, owner_for};
+
+use crate::sent::page_index::{PageIndex, place_of};
+use ttx_cycle::Cycle;
+use ttx_header::read_header;
+
+/// The latest header of a magazine: its slot, which of the pages it is of, and whether a header of another
+/// magazine has ended the page since then.
+#[derive(Clone, Copy)]
+pub struct Owner {
+    pub slot: i32,
+    pub page: Option<u32>,
+    pub tainted: bool,
+}
+
+// The owner once its header has come.
+fn owner_at(slot: i32, page: Option<u32>) -> Owner
+    ensures { result ≡ record { slot = slot; page = page; tainted = false } }
+{
+    Owner {
+        slot,
+        page,
+        tainted: false,
+    }
+}
+
+// The owner after a header of another magazine.
+fn taint(owner: Option<Owner>, ends: bool) -> Option<Owner>
+    ensures { result ≡ taint ends owner }
+{
+    match owner {
+        None => None,
+        Some(o) => Some(Owner {
+            slot: o.slot,
+            page: o.page,
+            tainted: o.tainted || ends,
+        }),
+    }
+}
+
+/// Notes a header: it is its magazine's owner, and it may end the pages of the other magazines.
+pub fn note_header(owners: &mut [Option<Owner>; 8], mag: usize, header: Owner, ends: bool)
+    requires { mag < 8 }
+    ensures { (m : ℕ) → m < 8 → get_or owners.new m None ≡ (if m == mag then Some header else taint ends (get_or owners.old m None)) }
+{
+    for m in 0..8usize {
+        owners[m] = if m == mag {
+            Some(header)
+        } else {
+            taint(owners[m], ends)
+        };
+    }
+}
+
+/// Notes what a slot says of the owners, where it is a page header.
+pub fn note_owner(owners: &mut [Option<Owner>; 8], index: &PageIndex, slot: &[u8; 42], j: i32)
+    requires { IsSlot slot.now }
+    ensures after { (ids : List Id) → IsIndex ids index.now → (i : ℕ) (id : Id) → slice_get ids i ≡ Some id → IsId id → owner_for owners.new i id ≡ owner_after id j (packet_of slot.now) (owner_for owners.old i id) }
+    ensures apart { (ids : List Id) → IsIndex ids index.now → AreApart ids owners.old → AreApart ids owners.new }
+{
+    ttx_header::laws::headers_have_fields();
+    ttx_header::laws::headers_are_headers();
+    if let Some(header) = read_header(slot) {
+        let id = header.id();
+        let page = place_of(index, id);
+        note_header(
+            owners,
+            usize::from(id.mag()) - 1,
+            owner_at(j, page),
+            header.control().is_serial(),
+        );
+    }
+}
+
+/// The owners before slot 0: those at the end of the cycle's period, a period earlier.
+pub fn entry_owners(index: &PageIndex, cycle: &Cycle) -> [Option<Owner>; 8]
+    ensures owners { (ids : List Id) (next : List (List ℕ)) → IsIndex ids index.now → AreOwners ids (slots_of cycle.now) next 0 result }
+    ensures apart { (ids : List Id) → IsIndex ids index.now → AreApart ids result }
+{
+    let slots = cycle.slots();
+    let period = slots.len() as i32;
+    let mut owners = [None; 8];
+    for j in 0..slots.len() {
+        note_owner(&mut owners, index, &slots[j], j as i32 - period);
+    }
+    owners
+}

@@ -1,0 +1,128 @@
+//! The packets in slots: headers, rows and links.
+
+ghost use Rattle.std.specs.Prelude.{◌≡◌, MatchOption};
+ghost use Rattle.ttx_packet.specs.Slots.{IsSlot};
+ghost use Rattle.ttx_page.specs.Packets.{packet_of};
+ghost use Rattle.ttx_page.specs.Streams.{heads_page, carries};
+ghost use Rattle.ttx_page.specs.declared.item.Item.TheVariants.{Row as TheRow, Links as TheLinks};
+ghost use Rattle.ttx_witness.specs.faults.Comparing.{HoldsHeader, HoldsNoHeader, HoldsRow, HoldsNoRow, HoldsLinks, HoldsNoLinks, mine_after, sends, is_other_subpage};
+
+use ttx_header::{Header, PageId, read_header};
+use ttx_packet::place::Address;
+use ttx_packet::{Slot, slot_of};
+use ttx_page::{Item, RowNumber};
+
+/// The page header in a slot.
+pub fn header_in(slot: &[u8; 42]) -> Option<Header>
+    requires { IsSlot slot.now }
+    ensures { MatchOption result (HoldsNoHeader (packet_of slot.now)) (λ h. HoldsHeader h (packet_of slot.now)) }
+{
+    ttx_header::laws::headers_have_fields();
+    ttx_header::laws::headers_are_headers();
+    read_header(slot)
+}
+
+/// The address of the row in a slot.
+pub fn row_in(slot: &[u8; 42]) -> Option<Address>
+    ensures { MatchOption result (HoldsNoRow (packet_of slot.now)) (λ at. HoldsRow at slot.now) }
+{
+    match slot_of(slot) {
+        Slot::Row(at, _) => Some(at),
+        Slot::Empty => None,
+        Slot::Unreadable => None,
+        Slot::Header(_, _) => None,
+        Slot::Links(_, _) => None,
+        Slot::Info(_, _) => None,
+        Slot::Other(_) => None,
+    }
+}
+
+/// The address of the X/27/0 in a slot.
+pub fn links_in(slot: &[u8; 42]) -> Option<Address>
+    ensures { MatchOption result (HoldsNoLinks (packet_of slot.now)) (λ at. HoldsLinks at slot.now) }
+{
+    match slot_of(slot) {
+        Slot::Links(at, _) => Some(at),
+        Slot::Empty => None,
+        Slot::Unreadable => None,
+        Slot::Header(_, _) => None,
+        Slot::Row(_, _) => None,
+        Slot::Info(_, _) => None,
+        Slot::Other(_) => None,
+    }
+}
+
+/// Whether the slot is a header of the page.
+pub fn heads_page(page: PageId, slot: &[u8; 42]) -> bool
+    requires { IsSlot slot.now }
+    ensures { result ≡ heads_page page (packet_of slot.now) }
+{
+    match header_in(slot) {
+        Some(header) => page == header.id(),
+        None => false,
+    }
+}
+
+/// Whether the slot is a header of the page's number with another subcode.
+pub fn is_other_subpage(page: PageId, slot: &[u8; 42]) -> bool
+    requires { IsSlot slot.now }
+    ensures { result ≡ is_other_subpage page (packet_of slot.now) }
+{
+    match header_in(slot) {
+        Some(header) => {
+            let id = header.id();
+            page.mag() == id.mag() && page.page() == id.page() && page != id
+        }
+        None => false,
+    }
+}
+
+/// Whether the latest header of the page's magazine is the page's, once the slot has come.
+pub fn mine_after(page: PageId, slot: &[u8; 42], mine: bool) -> bool
+    requires { IsSlot slot.now }
+    ensures { result ≡ mine_after page (packet_of slot.now) mine }
+{
+    match header_in(slot) {
+        Some(header) => {
+            if header.id().mag() == page.mag() {
+                page == header.id()
+            } else {
+                mine
+            }
+        }
+        None => mine,
+    }
+}
+
+// Whether the slot is the row of the magazine.
+fn carries_row(mag: u8, row: RowNumber, slot: &[u8; 42]) -> bool
+    ensures { result ≡ carries mag (TheRow row) (packet_of slot.now) }
+{
+    match row_in(slot) {
+        Some(at) => at.mag == mag && at.number == row.number(),
+        None => false,
+    }
+}
+
+// Whether the slot is an X/27/0 of the magazine.
+fn carries_links(mag: u8, slot: &[u8; 42]) -> bool
+    ensures { result ≡ carries mag TheLinks (packet_of slot.now) }
+{
+    match links_in(slot) {
+        Some(at) => at.mag == mag,
+        None => false,
+    }
+}
+
+/// Whether the slot is a transmission of the item, where `mine` says whether the latest header of the page's magazine is
+/// the page's.
+pub fn sends(page: PageId, item: Item, slot: &[u8; 42], mine: bool) -> bool
+    requires { IsSlot slot.now }
+    ensures { result ≡ sends page item (packet_of slot.now) mine }
+{
+    match item {
+        Item::Head => heads_page(page, slot),
+        Item::Row(row) => carries_row(page.mag(), row, slot) && mine,
+        Item::Links => carries_links(page.mag(), slot) && mine,
+    }
+}
