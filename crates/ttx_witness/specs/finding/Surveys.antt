@@ -21,8 +21,8 @@ use Rattle.ttx_witness.specs.faults.OtherSubpages.{AreOtherSubpages}
 use Rattle.ttx_witness.specs.declared.faults.other_subpages.OtherSubpages.{OtherSubpages}
 use Rattle.ttx_witness.specs.declared.faults.reason.Reason.{Reason}
 use Rattle.ttx_witness.specs.finding.Finding.{starts_of, spread_at, least_limit, starts_for, limit_for, AreNamed}
-use Rattle.ttx_witness.specs.declared.finding.certificates.survey.Survey.{Survey}
-use Rattle.ttx_witness.specs.declared.finding.certificates.survey.SurveyedPage.{SurveyedPage}
+use Rattle.ttx_witness.specs.declared.finding.survey.Survey.{Survey}
+use Rattle.ttx_witness.specs.declared.finding.survey.SurveyedPage.{SurveyedPage}
 
 abbrev pub slots_in : Survey → List (List ℕ)
 slots_in s = slots_of s.cycle.now

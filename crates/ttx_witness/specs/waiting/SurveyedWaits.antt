@@ -10,8 +10,8 @@ use Rattle.ttx_witness.specs.finding.Surveys.{slots_in, pages_in, page_in}
 use Rattle.ttx_witness.specs.waiting.PageWaits.{IsWait, AreWaits}
 use Rattle.ttx_witness.specs.waiting.ItemLimits.{IsLongest, IsByLimits}
 use Rattle.ttx_witness.specs.waiting.ItemWaits.{IsItemWait, AreItemsTold, AreItemWaits}
-use Rattle.ttx_witness.specs.declared.finding.certificates.survey.Survey.{Survey}
-use Rattle.ttx_witness.specs.declared.finding.certificates.survey.SurveyedPage.{SurveyedPage}
+use Rattle.ttx_witness.specs.declared.finding.survey.Survey.{Survey}
+use Rattle.ttx_witness.specs.declared.finding.survey.SurveyedPage.{SurveyedPage}
 use Rattle.ttx_witness.specs.declared.waiting.wait.ItemWait.{ItemWait}
 use Rattle.ttx_witness.specs.declared.waiting.wait.OwnWait.{OwnWait}
 use Rattle.ttx_witness.specs.declared.waiting.wait.PageWait.{PageWait}

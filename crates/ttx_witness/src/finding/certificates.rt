@@ -17,7 +17,7 @@ ghost use Rattle.ttx_witness.specs.finding.Surveys.{slots_in, pages_in, page_in,
 use crate::faults::bad_slots::bad_slot;
 use crate::faults::other_subpages::OtherSubpages;
 use crate::finding::naming::name_page;
-use crate::finding::certificates::survey::{Survey, SurveyedPage, surveyed_at};
+use crate::finding::survey::{Survey, SurveyedPage, surveyed_at};
 use crate::sent::collecting::collect;
 use std::alloc::Global;
 use ttx_certificate::{Certificate, Entry, NoMemory};

@@ -8,7 +8,7 @@ ghost use Rattle.ttx_witness.specs.runs.SureStarts.{above_zero, width};
 ghost use Rattle.ttx_witness.specs.finding.Finding.{is_due, limit_of, wider, AddsEntry};
 ghost use Rattle.ttx_witness.specs.finding.Surveys.{slots_in, page_in, starts_in, spread_in, least_in, named_in, limit_in, AreNamedIn};
 
-use crate::finding::certificates::survey::SurveyedPage;
+use crate::finding::survey::SurveyedPage;
 use crate::runs::one_item::search_item;
 use crate::runs::sure_starts::{Search, Spread};
 use crate::sent::page_items::{item_of, run_length};

@@ -11,7 +11,7 @@ ghost use Rattle.ttx_witness.specs.waiting.ItemWaits.{AreItemWaits};
 ghost use Rattle.ttx_witness.specs.waiting.SurveyedWaits.{IsItemWaitIn, AreItemsToldIn, AreItemWaitsIn};
 
 use crate::finding::naming::limit_seen;
-use crate::finding::certificates::survey::{Survey, SurveyedPage, surveyed_at};
+use crate::finding::survey::{Survey, SurveyedPage, surveyed_at};
 use crate::sent::collecting::collect;
 use crate::sent::page_items::item_of;
 use crate::waiting::page_waits::{fields_for, losses_of};

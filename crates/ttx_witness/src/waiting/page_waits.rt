@@ -14,7 +14,7 @@ ghost use Rattle.ttx_witness.specs.waiting.SurveyedWaits.{IsByLimitsIn, IsWaitIn
 
 use crate::faults::other_subpages::OtherSubpages;
 use crate::finding::naming::limit_seen;
-use crate::finding::certificates::survey::{Survey, SurveyedPage, surveyed_at};
+use crate::finding::survey::{Survey, SurveyedPage, surveyed_at};
 use crate::runs::transmissions::Transmission;
 use crate::sent::collecting::collect;
 use crate::sent::page_items::item_of;

@@ -6,8 +6,8 @@ use Rattle.ttx_witness.specs.waiting.PageWaits.{IsWait}
 use Rattle.ttx_witness.specs.waiting.ItemWaits.{AreItemsTold}
 use Rattle.ttx_witness.specs.waiting.SurveyedWaits.{IsWaitIn, AreItemsToldIn}
 use Rattle.ttx_witness.specs.declared.faults.other_subpages.OtherSubpages.{OtherSubpages}
-use Rattle.ttx_witness.specs.declared.finding.certificates.survey.Survey.{Survey}
-use Rattle.ttx_witness.specs.declared.finding.certificates.survey.SurveyedPage.{SurveyedPage}
+use Rattle.ttx_witness.specs.declared.finding.survey.Survey.{Survey}
+use Rattle.ttx_witness.specs.declared.finding.survey.SurveyedPage.{SurveyedPage}
 use Rattle.ttx_witness.specs.declared.waiting.wait.ItemWait.{ItemWait}
 use Rattle.ttx_witness.specs.declared.waiting.wait.Wait.{Wait}
 use Rattle.ttx_witness.proofs.lemmas.finding.Surveys.{surveyed_here}

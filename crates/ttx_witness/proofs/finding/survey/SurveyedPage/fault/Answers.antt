@@ -1,5 +1,5 @@
 use Rattle.ttx_witness.specs.finding.Surveys.{slots_in, pages_in, page_in}
-use Rattle.ttx_witness.proofs.finding.certificates.survey.SurveyedPage.fault.Goals as goal
+use Rattle.ttx_witness.proofs.finding.survey.SurveyedPage.fault.Goals as goal
 
 pub returns : goal.returns
 returns c = λ others.
