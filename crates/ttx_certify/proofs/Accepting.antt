@@ -14,7 +14,7 @@ use Rattle.ttx_witness.specs.Reasons.{BadSlotAt, HasNoWitness, WitnessBadAt, Lat
 use Rattle.ttx_witness.specs.declared.reason.Reason.{Reason}
 use Rattle.ttx_witness.specs.declared.reason.Reason.TheVariants.{BadSlot, NoHeader, OtherSubpage, Erased, HeadDiffers, RowDiffers, LinksDiffer, NoWitness, WitnessBad, Late, Unsteady, LateBlank}
 use Rattle.ttx_certify.specs.Verdicts.{IsClean, IsFirstFault, IsRefusal}
-use Rattle.ttx_certify.proofs.Found.{some_run}
+use Rattle.ttx_certify.proofs.OneItem.{some_run}
 
 -- what decides coverage
 pub record CoverLaws : Type 0 where

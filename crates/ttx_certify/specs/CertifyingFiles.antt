@@ -10,7 +10,7 @@
 --   IsUntouched, is_write   at each fault but that of a write what could be written to is as it was, whatever readers tell
 --   WritesLine              what was written of a line
 --   CountsRead, CountsReads, CountsWritten, CountsFiles     a fault of a device is answered only where one was counted
-use Rattle.std.specs.Prelude.{◌≡◌, ◌⊎◌, ℕ, ◌<◌, ◌≤◌, Bool, true, false, List, length, map, take, string_bytes, ⊤, Option, Result, Ok, Err}
+use Rattle.std.specs.Prelude.{◌≡◌, ◌⊎◌, ℕ, ◌<◌, ◌≤◌, Bool, true, false, List, length, take, string_bytes, ⊤, Option, Result, Ok, Err}
 use Rattle.std.specs.Io.KnownBytes.{Appends, Keeps}
 use Rattle.ttx_cycle.specs.Counts.{HasRisen}
 use Rattle.ttx_cycle.specs.Cycles.{slots_of}

@@ -1,5 +1,5 @@
 pub mod Seen
-pub mod Findings
+pub mod ItemReasons
 pub mod Verdicts
 pub mod Walking
 pub mod VerdictLines

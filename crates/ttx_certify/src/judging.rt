@@ -6,7 +6,7 @@ ghost use Rattle.ttx_witness.specs.Faults.{IsFault};
 ghost use Rattle.ttx_witness.specs.Passing.{IsEnded, ended_pages, ended_certificate};
 ghost use Rattle.ttx_certify.specs.Verdicts.{IsFirstFault, IsVerdict};
 
-use crate::page_findings::witness_fault;
+use crate::page_reasons::witness_fault;
 use crate::verdict::Verdict;
 use ttx_witness::{EndedPass, Reason};
 
