@@ -12,7 +12,7 @@ use Rattle.ttx_witness.specs.Faults.{IsWitnessFault}
 use Rattle.ttx_witness.specs.Reasons.{HasNoWitness, WitnessBadAt, LateAt, LateBlankAt}
 use Rattle.ttx_witness.specs.declared.reason.Reason.{Reason}
 use Rattle.ttx_witness.specs.declared.reason.Reason.TheVariants.{NoWitness, WitnessBad, Late, LateBlank}
-use Rattle.ttx_certify.specs.ItemReasons.{number_of, start_in, IsTrueOf, IsFine, IsFirstReason, IsItemReason, IsFirstBelow, IsReasonBelow, IsReasonAt, told_first}
+use Rattle.ttx_certify.specs.ItemReasons.{reason_number, start_in, IsTrueOf, IsFine, IsFirstReason, IsItemReason, IsFirstBelow, IsReasonBelow, IsReasonAt, told_first}
 use Rattle.ttx_certify.proofs.OneItem.{of_four, true_needed}
 
 and_left : (a b : Bool) → (a && b) ≡ true → a ≡ true
@@ -81,7 +81,7 @@ module _ (cycle : List (List ℕ)) (p : Page) (w : Certificate) where
     fine_more a f = λ item lt. elim (before_or item lt) as (λ _. Fine item)
         [ inl less ↦ a item less | inr same ↦ not_fine item (λ need. subst Fine (same need) f) ]
 
-    keep_more : (e : Reason) → IsFirstBelow cycle p w n e → ((other : Reason) → T own other → number_of other < number_of e → ⊥) → IsFirstBelow cycle p w (n + 1) e
+    keep_more : (e : Reason) → IsFirstBelow cycle p w n e → ((other : Reason) → T own other → reason_number other < reason_number e → ⊥) → IsFirstBelow cycle p w (n + 1) e
     keep_more e a none = record {
       item = a.item;
       within = let l = a.within in omega arith;
@@ -93,7 +93,7 @@ module _ (cycle : List (List ℕ)) (p : Page) (w : Certificate) where
       ];
     }
 
-    take_new : (f : Reason) → IsFirstReason cycle p w own f → ((item : Item) (other : Reason) → T item other → item_number item < n → number_of other ≤ number_of f → ⊥) →
+    take_new : (f : Reason) → IsFirstReason cycle p w own f → ((item : Item) (other : Reason) → T item other → item_number item < n → reason_number other ≤ reason_number f → ⊥) →
         IsFirstBelow cycle p w (n + 1) f
     take_new f a none = record {
       item = own;
@@ -110,14 +110,14 @@ module _ (cycle : List (List ℕ)) (p : Page) (w : Certificate) where
     choose None None a f = fine_more a f
     choose (Some e) None a f = keep_more e a (λ other t less. f.none other t)
     choose None (Some f) a b = take_new f b (λ item other t lt le. (a item lt).none other t)
-    choose (Some e) (Some f) a b = pick (nat_lt (number_of f) (number_of e)) refl
+    choose (Some e) (Some f) a b = pick (nat_lt (reason_number f) (reason_number e)) refl
       where
-        pick : (c : Bool) → nat_lt (number_of f) (number_of e) ≡ c → IsReasonBelow cycle p w (n + 1) (if c then Some f else Some e)
+        pick : (c : Bool) → nat_lt (reason_number f) (reason_number e) ≡ c → IsReasonBelow cycle p w (n + 1) (if c then Some f else Some e)
         pick true q =
-            let less : number_of f < number_of e = grind (arith, nat_tests) in
+            let less : reason_number f < reason_number e = grind (arith, nat_tests) in
             take_new f b (λ item other t lt le. a.no_number item other t lt (omega arith))
         pick false q =
-            let ge : number_of e ≤ number_of f = grind (arith, nat_tests) in
+            let ge : reason_number e ≤ reason_number f = grind (arith, nat_tests) in
             keep_more e a (λ other t low. b.no_number other t (omega arith))
 
   pub reason_more : (n : ℕ) (earlier next : Option Reason) → IsReasonBelow cycle p w n earlier → IsReasonAt cycle p w n next → IsReasonBelow cycle p w (n + 1) (told_first earlier next)
@@ -127,7 +127,7 @@ module _ (cycle : List (List ℕ)) (p : Page) (w : Certificate) where
   no_reason = λ item lt. absurd (omega arith)
 
   -- no reason of a smaller number is true of any item
-  none_less : (reason : Reason) → IsFirstBelow cycle p w 26 reason → (item : Item) (other : Reason) → T item other → number_of other < number_of reason → ⊥
+  none_less : (reason : Reason) → IsFirstBelow cycle p w 26 reason → (item : Item) (other : Reason) → T item other → reason_number other < reason_number reason → ⊥
   none_less reason a item other t lt = a.no_number item other t (item_within item (needed_item p item (need_of item other t))) lt
 
   first_fault : (reason : Reason) → IsFirstBelow cycle p w 26 reason → IsWitnessFault cycle p w (Some reason)
@@ -138,13 +138,13 @@ module _ (cycle : List (List ℕ)) (p : Page) (w : Certificate) where
         e,
         record {
           here = subst (HasNoWitness p w) (sym f) h;
-          none_before = λ other lt k. a.no_item other (NoWitness p.id other) (refl, refl, k) (subst (λ x. item_number other < item_number x) f lt) (ap number_of q);
+          none_before = λ other lt k. a.no_item other (NoWitness p.id other) (refl, refl, k) (subst (λ x. item_number other < item_number x) f lt) (ap reason_number q);
         },
       )
 
       bad : (page : Id) (of : Item) (start : ℕ) → page ≡ p.id → of ≡ a.item → WitnessBadAt cycle p w a.item start → WitnessBad page of start ≡ reason →
           IsWitnessFault cycle p w (Some (WitnessBad page of start))
-      bad page of start e f h q = let number : 9 ≡ number_of reason = ap number_of q in let at : start ≡ start_in reason = ap start_in q in (
+      bad page of start e f h q = let number : 9 ≡ reason_number reason = ap reason_number q in let at : start ≡ start_in reason = ap start_in q in (
         e,
         (λ item k. none_less reason a item (NoWitness p.id item) (refl, refl, k) (omega arith)),
         record {
@@ -155,7 +155,7 @@ module _ (cycle : List (List ℕ)) (p : Page) (w : Certificate) where
       )
 
       late : (page : Id) (of : Item) (start : ℕ) → page ≡ p.id → of ≡ a.item → LateAt cycle p w a.item start → Late page of start ≡ reason → IsWitnessFault cycle p w (Some (Late page of start))
-      late page of start e f h q = let number : 10 ≡ number_of reason = ap number_of q in let at : start ≡ start_in reason = ap start_in q in (
+      late page of start e f h q = let number : 10 ≡ reason_number reason = ap reason_number q in let at : start ≡ start_in reason = ap start_in q in (
         e,
         (λ item k. none_less reason a item (NoWitness p.id item) (refl, refl, k) (omega arith)),
         (λ item other k. none_less reason a item (WitnessBad p.id item other) (refl, refl, k) (omega arith)),
@@ -168,7 +168,7 @@ module _ (cycle : List (List ℕ)) (p : Page) (w : Certificate) where
 
       blank : (page : Id) (of : Item) (header : ℕ) → page ≡ p.id → of ≡ a.item → LateBlankAt cycle p w a.item header → LateBlank page of header ≡ reason →
           IsWitnessFault cycle p w (Some (LateBlank page of header))
-      blank page of header e f h q = let number : 12 ≡ number_of reason = ap number_of q in let at : header ≡ start_in reason = ap start_in q in (
+      blank page of header e f h q = let number : 12 ≡ reason_number reason = ap reason_number q in let at : header ≡ start_in reason = ap start_in q in (
         e,
         (λ item k. none_less reason a item (NoWitness p.id item) (refl, refl, k) (omega arith)),
         (λ item other k. none_less reason a item (WitnessBad p.id item other) (refl, refl, k) (omega arith)),

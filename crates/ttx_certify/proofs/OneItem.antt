@@ -15,7 +15,7 @@ use Rattle.ttx_witness.specs.Coverage.{Certificate, IsCertificate, limit}
 use Rattle.ttx_witness.specs.CycleLaws.{progress_of}
 use Rattle.ttx_witness.specs.Reasons.{HasNoWitness, WitnessBadAt, LateAt, LateBlankAt}
 use Rattle.ttx_witness.specs.JudgingLaws.{ItemsAreJudged, IsFirstOf, IsLateAnswer, IsHeaderAnswer}
-use Rattle.ttx_certify.specs.ItemReasons.{number_of, start_in, IsTrueOf, IsFine, IsFirstReason, IsItemReason}
+use Rattle.ttx_certify.specs.ItemReasons.{reason_number, start_in, IsTrueOf, IsFine, IsFirstReason, IsItemReason}
 
 abbrev pub late_reason : Id → Item → Option ℕ → Option Reason
 late_reason page item None = None
@@ -72,9 +72,9 @@ module _ (cycle : List (List ℕ)) (p : Page) (w : Certificate) (item : Item) wh
   bad_first : 0 < length named → (at : ℕ) → IsFirstOf (WitnessBadAt cycle p w item) at → IsFirstReason cycle p w item (WitnessBad p.id item at)
   bad_first any at f = record {
     here = (refl, refl, f.0);
-    no_start = of_four (λ r. number_of r ≡ 9 → start_in r < at → ⊥)
+    no_start = of_four (λ r. reason_number r ≡ 9 → start_in r < at → ⊥)
         (λ page of i j h e lt. omega arith) (λ page of start i j h e lt. f.1 start lt h) (λ page of start i j h e lt. omega arith) (λ page of header i j h e lt. omega arith);
-    no_number = of_four (λ r. number_of r < 9 → ⊥)
+    no_number = of_four (λ r. reason_number r < 9 → ⊥)
         (λ page of i j h lt. not_empty named any h.none) (λ page of start i j h lt. omega arith) (λ page of start i j h lt. omega arith) (λ page of header i j h lt. omega arith);
   }
 
@@ -86,9 +86,9 @@ module _ (cycle : List (List ℕ)) (p : Page) (w : Certificate) (item : Item) wh
   }
   late_first any good (Some at) a = record {
     here = (refl, refl, a.0);
-    no_start = of_four (λ r. number_of r ≡ 10 → start_in r < at → ⊥)
+    no_start = of_four (λ r. reason_number r ≡ 10 → start_in r < at → ⊥)
         (λ page of i j h e lt. omega arith) (λ page of start i j h e lt. omega arith) (λ page of start i j h e lt. a.1 start lt h) (λ page of header i j h e lt. omega arith);
-    no_number = of_four (λ r. number_of r < 10 → ⊥)
+    no_number = of_four (λ r. reason_number r < 10 → ⊥)
         (λ page of i j h lt. not_empty named any h.none) (λ page of start i j h lt. good start h) (λ page of start i j h lt. omega arith) (λ page of header i j h lt. omega arith);
   }
 
@@ -119,7 +119,7 @@ module _ (cycle : List (List ℕ)) (p : Page) (w : Certificate) (item : Item) (n
   unnamed_first sent = record {
     here = (refl, refl, record { needed = need; none = empty; sent = sent });
     no_start = λ other t e lt. omega arith;
-    no_number = of_four cycle p w item (λ r. number_of r < 8 → ⊥)
+    no_number = of_four cycle p w item (λ r. reason_number r < 8 → ⊥)
         (λ page of i j h lt. omega arith) (λ page of start i j h lt. omega arith) (λ page of start i j h lt. omega arith) (λ page of header i j h lt. omega arith);
   }
 
@@ -133,9 +133,9 @@ module _ (cycle : List (List ℕ)) (p : Page) (w : Certificate) (item : Item) (n
       let f = a item need clearing blank empty in
       record {
         here = (refl, refl, f.0);
-        no_start = of_four cycle p w item (λ r. number_of r ≡ 12 → start_in r < at → ⊥)
+        no_start = of_four cycle p w item (λ r. reason_number r ≡ 12 → start_in r < at → ⊥)
             (λ page of i j h e lt. omega arith) (λ page of start i j h e lt. omega arith) (λ page of start i j h e lt. omega arith) (λ page of header i j h e lt. f.1 header lt h);
-        no_number = of_four cycle p w item (λ r. number_of r < 12 → ⊥)
+        no_number = of_four cycle p w item (λ r. reason_number r < 12 → ⊥)
             (λ page of i j h lt. h.sent clearing blank) (λ page of start i j h lt. no_start start h.named) (λ page of start i j h lt. no_index h.index h.within) (λ page of header i j h lt. omega arith);
       }
 

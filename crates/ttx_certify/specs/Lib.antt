@@ -4,6 +4,7 @@ pub mod Verdicts
 pub mod Walking
 pub mod VerdictLines
 pub mod CertifyingFiles
+pub mod FileSteps
 pub mod Feeding
 pub mod CertifyingPasses
 pub mod Laws

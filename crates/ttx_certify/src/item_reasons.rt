@@ -19,11 +19,11 @@ impl<'a> JudgedPage<'a> {
     ghost use Rattle.ttx_page.specs.declared.class.Class.TheVariants.{Clearing};
     ghost use Rattle.ttx_page.specs.Pages as definitions;
     ghost use Rattle.ttx_witness.specs.Following.{IsProgress};
-    ghost use Rattle.ttx_certify.specs.ItemReasons.{IsItemReason, IsReady, page_in, certificate_in};
+    ghost use Rattle.ttx_certify.specs.ItemReasons.{IsItemReason, IsReady, judged_page, judged_certificate};
 
     // Whether a receiver has the item once it has cleared the page.
     fn is_cleared(&self, item: &Item) -> bool
-        ensures { IsTrue result ↔ (((certificate_in self.now).class ≡ Clearing) × (definitions.is_blank (page_in self.now) item.now ≡ true)) }
+        ensures { IsTrue result ↔ (((judged_certificate self.now).class ≡ Clearing) × (definitions.is_blank (judged_page self.now) item.now ≡ true)) }
     {
         match self.certificate.class() {
             Class::Any => false,
@@ -33,9 +33,9 @@ impl<'a> JudgedPage<'a> {
 
     // The reason that is true of an item for which no start is named.
     fn unnamed(&self, item: &Item) -> Option<Reason>
-        requires needed { definitions.needed (page_in self.now) item.now ≡ true }
-        requires none { (certificate_in self.now).starts (page_in self.now).id item.now ≡ [] }
-        ensures { (y : List (List ℕ)) → IsReady self.now y → IsItemReason y (page_in self.now) (certificate_in self.now) item.now result }
+        requires needed { definitions.needed (judged_page self.now) item.now ≡ true }
+        requires none { (judged_certificate self.now).starts (judged_page self.now).id item.now ≡ [] }
+        ensures { (y : List (List ℕ)) → IsReady self.now y → IsItemReason y (judged_page self.now) (judged_certificate self.now) item.now result }
     {
         ttx_page::laws::pages_keep_their_rules();
         ttx_page::laws::pages_have_six_links();
@@ -56,11 +56,12 @@ impl<'a> JudgedPage<'a> {
 
     // The first reason that is true of an item for which some starts are named; `progress` is how far the list confirms them.
     fn named(&self, item: &Item, starts: &[u32], progress: Progress) -> Option<Reason>
-        requires needed { definitions.needed (page_in self.now) item.now ≡ true }
-        requires starts { starts.now ≡ (certificate_in self.now).starts (page_in self.now).id item.now }
+        requires needed { definitions.needed (judged_page self.now) item.now ≡ true }
+        requires starts { starts.now ≡ (judged_certificate self.now).starts (judged_page self.now).id item.now }
         requires some { 0 < length starts.now }
-        ensures { (y : List (List ℕ)) → IsReady self.now y → IsProgress y (page_in self.now) (certificate_in self.now) item.now (Some progress) →
-            IsItemReason y (page_in self.now) (certificate_in self.now) item.now result }
+        ensures { (y : List (List ℕ)) → IsReady self.now y →
+            IsProgress y (judged_page self.now) (judged_certificate self.now) item.now (Some progress) →
+            IsItemReason y (judged_page self.now) (judged_certificate self.now) item.now result }
     {
         ttx_witness::certificate_laws::certificates_keep_their_rules();
         ttx_witness::judging_laws::items_are_judged();
@@ -89,8 +90,8 @@ impl<'a> JudgedPage<'a> {
 
     /// The first reason that is true of the item; `progress` is how far the list confirms the starts that are named for it.
     pub fn item_reason(&self, item: &Item, progress: Option<Progress>) -> Option<Reason>
-        ensures { (y : List (List ℕ)) → IsReady self.now y → IsProgress y (page_in self.now) (certificate_in self.now) item.now progress →
-            IsItemReason y (page_in self.now) (certificate_in self.now) item.now result }
+        ensures { (y : List (List ℕ)) → IsReady self.now y → IsProgress y (judged_page self.now) (judged_certificate self.now) item.now progress →
+            IsItemReason y (judged_page self.now) (judged_certificate self.now) item.now result }
     {
         if !needed(self.page, *item) {
             return None;

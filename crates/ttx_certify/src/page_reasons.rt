@@ -8,7 +8,7 @@ ghost use Rattle.ttx_page.specs.Streams.{repeated};
 ghost use Rattle.ttx_witness.specs.Faults.{IsWitnessFault};
 ghost use Rattle.ttx_witness.specs.JudgingLaws.{IsHeaderAnswer};
 ghost use Rattle.ttx_witness.specs.Passing.{IsEnded, ended_pages, ended_certificate};
-ghost use Rattle.ttx_certify.specs.ItemReasons.{number_of, told_first, page_in, certificate_in, IsReasonAt, IsReasonBelow, IsReadyAt};
+ghost use Rattle.ttx_certify.specs.ItemReasons.{reason_number, told_first, judged_page, judged_certificate, IsReasonAt, IsReasonBelow, IsReadyAt};
 
 use crate::item_reasons::JudgedPage;
 use ttx_page::Class;
@@ -16,7 +16,7 @@ use ttx_witness::{EndedPass, Reason, item_of};
 
 // The number of a reason.
 fn number(reason: &Reason) -> u8
-    ensures { result ≡ number_of reason.now }
+    ensures { result ≡ reason_number reason.now }
 {
     match *reason {
         Reason::BadSlot { .. } => 1,
@@ -66,7 +66,8 @@ fn late_header(ended: &EndedPass, index: usize) -> Option<u32>
 fn reason_at(ended: &EndedPass, index: usize, judged: &JudgedPage, number: u8) -> Option<Reason>
     requires index { index < length ended.now.pages.now }
     requires number { number < 26 }
-    ensures { (y : List (List ℕ)) → IsReadyAt ended.now index judged.now y → IsReasonAt y (page_in judged.now) (certificate_in judged.now) number result }
+    ensures { (y : List (List ℕ)) → IsReadyAt ended.now index judged.now y →
+        IsReasonAt y (judged_page judged.now) (judged_certificate judged.now) number result }
 {
     let item = item_of(number);
     let progress = ended.progress(index, number);
@@ -76,7 +77,8 @@ fn reason_at(ended: &EndedPass, index: usize, judged: &JudgedPage, number: u8) -
 // The first reason that is true of the items of the page at the index.
 fn first_reason(ended: &EndedPass, index: usize, judged: &JudgedPage) -> Option<Reason>
     requires { index < length ended.now.pages.now }
-    ensures { (y : List (List ℕ)) → IsReadyAt ended.now index judged.now y → IsReasonBelow y (page_in judged.now) (certificate_in judged.now) 26 result }
+    ensures { (y : List (List ℕ)) → IsReadyAt ended.now index judged.now y →
+        IsReasonBelow y (judged_page judged.now) (judged_certificate judged.now) 26 result }
 {
     let mut first = None;
     for number in 0..26u8 {

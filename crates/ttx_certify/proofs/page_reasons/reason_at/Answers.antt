@@ -1,12 +1,12 @@
 use Rattle.std.proofs.Common.{sym, subst}
 use Rattle.ttx_witness.specs.Following.{IsProgress}
-use Rattle.ttx_certify.specs.ItemReasons.{page_in}
+use Rattle.ttx_certify.specs.ItemReasons.{judged_page}
 use Rattle.ttx_certify.proofs.page_reasons.reason_at.Goals as goal
 
 pub returns : goal.returns
 returns c = λ y at.
     let item = c.item_of-item.result in
-    let p = page_in c.args.judged.now in
+    let p = judged_page c.args.judged.now in
     let is = c.item_of-item.ensures in
     record {
       item = item;
