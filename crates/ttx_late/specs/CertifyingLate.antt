@@ -15,7 +15,8 @@ use Rattle.ttx_late.specs.LateVerdictLines.{late_verdict_line}
 use Rattle.ttx_late.specs.declared.verdict.LateVerdict.{LateVerdict}
 
 -- the verdict on a cycle, the pages of a service and a certificate, and its line
-pub record IsJudgedLate (slots : List (List ℕ)) (service : ServiceFields) (w : CertificateFields) (verdict : LateVerdict) (line : List ℕ) : Type 0 where
+pub record IsJudgedLate (slots : List (List ℕ)) (service : ServiceFields) (w : CertificateFields) (verdict : LateVerdict) (line : List ℕ)
+    : Type 0 where
   pub exact : IsLateVerdict slots (pages_of service) (certificate_at w) verdict
   pub seen : MeansLate slots (pages_of service) (certificate_at w) verdict
   pub line_is : line ≡ late_verdict_line w (length service.pages) verdict

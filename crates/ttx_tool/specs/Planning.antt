@@ -16,7 +16,7 @@ use Rattle.ttx_cycle.specs.declared.cycles.Cycle.{Cycle as CycleValue}
 use Rattle.ttx_page.specs.declared.class.Class.{Class}
 use Rattle.ttx_plan.specs.Acceptance.{IsPlanned}
 use Rattle.ttx_plan.specs.Blocks.{length_bound}
-use Rattle.ttx_plan.specs.Carries.{Carries, sent_of}
+use Rattle.ttx_plan.specs.Carries.{Carries, blocks_sent}
 use Rattle.ttx_plan.specs.declared.faults.PlanFault.{PlanFault}
 use Rattle.ttx_plan.specs.declared.faults.PlanFault.TheVariants as plan
 use Rattle.ttx_source.specs.Faults.{fault_of}
@@ -45,7 +45,7 @@ Defines bytes (Err fault) = IsNoText bytes fault
 pub record IsPlan (bytes : List ℕ) (late : Bool) (class : Class) (slots : List (List ℕ)) : Type 0 where
   pub service : ServiceFields
   pub text : IsServiceText bytes service
-  pub few : length_bound service.lines (sent_of late class service.pages) ≤ 65536
+  pub few : length_bound service.lines (blocks_sent late class service.pages) ≤ 65536
   pub carries : Carries late class service slots
   pub planned : IsPlanned late class service slots
   pub is_cycle : IsCycle slots
@@ -56,7 +56,7 @@ planned_line count = codes "planned " ++ decimal count ++ codes " slots" ++ 10 �
 -- why a service has no plan
 abbrev pub HasNoPlan : Bool → Class → ServiceFields → PlanFault → Type 0
 HasNoPlan late class service plan.NoPages = service.pages ≡ []
-HasNoPlan late class service plan.TooLong = 65536 < length_bound service.lines (sent_of late class service.pages)
+HasNoPlan late class service plan.TooLong = 65536 < length_bound service.lines (blocks_sent late class service.pages)
 HasNoPlan late class service plan.NoMemory = ⊤
 
 -- why a text has no plan: its service has none, or it is that of no service

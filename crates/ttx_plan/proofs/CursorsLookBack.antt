@@ -12,9 +12,9 @@ use Rattle.ttx_plan.specs.declared.packet.Slot.{Slot}
 use Rattle.ttx_plan.specs.declared.packet.Slot.TheVariants.{Empty, Info, Sent}
 use Rattle.ttx_plan.specs.declared.cursors.Cursors.{Cursors}
 use Rattle.ttx_plan.specs.Packets.{has_header, is_page_header, is_row_or_links}
-use Rattle.ttx_plan.specs.Turns.{Magazines, sent_by, turn_from, order, next_of, may_go, is_ready, sending, chosen, next_slot, is_due, or_info, slot_after}
-use Rattle.ttx_plan.specs.Cursors.{queue_at, offered, is_free, picked, sends, after, magazines_of}
-use Rattle.ttx_plan.proofs.Waiting.{until, recent_until}
+use Rattle.ttx_plan.specs.Turns.{Magazines, sent_by, turn_from, order, next_of, may_go, is_ready, sending, chosen, next_slot, is_info_due, or_info, slot_after}
+use Rattle.ttx_plan.specs.Cursors.{queue_at, offered, is_free, picked, slot_by_cursors, cursors_after, magazines_of}
+use Rattle.ttx_plan.proofs.WaitingMagazines.{until, recent_until}
 use Rattle.ttx_plan.proofs.Orders.{order_same, found_ready}
 
 pub record Tracks (lines : ℕ) (cursors : Cursors) (before : List Slot) : Type 0 where
@@ -45,9 +45,9 @@ free_is_ready lines info queues cursors before t m lt =
 
 -- the slot that the cursors say is the one that the rule says
 pub sends_turn : (lines : ℕ) (info : Option (List ℕ)) (queues : List (Vec Packet Global)) (cursors : Cursors) (before : List Slot) → Tracks lines cursors before →
-    or_info info (is_due lines (length before)) (sends queues cursors (length before)) ≡ slot_after (magazines_of lines info queues) before
+    or_info info (is_info_due lines (length before)) (slot_by_cursors queues cursors (length before)) ≡ slot_after (magazines_of lines info queues) before
 sends_turn lines info queues cursors before t =
-    ap (or_info info (is_due lines (length before))) (
+    ap (or_info info (is_info_due lines (length before))) (
     ap (λ o. picked queues cursors (find (is_free queues cursors (length before)) (order o))) t.from
     ∙ ap (picked queues cursors) (order_same _ _ (turn_from before) (free_is_ready lines info queues cursors before t))
     ∙ pick (find (is_ready (magazines_of lines info queues) before) (order (turn_from before))) refl)
@@ -123,7 +123,7 @@ cond_size true xs i y e = length-set xs i y ∙ e
 cond_size false xs i y e = e
 
 pub tracks_more : (lines : ℕ) (mags : Magazines) (cursors : Cursors) (before : List Slot) (slot : Slot) → Tracks lines cursors before → IsFrom mags before slot →
-    Tracks lines (after cursors lines (length before) slot) (slot ∷ before)
+    Tracks lines (cursors_after cursors lines (length before) slot) (slot ∷ before)
 tracks_more lines mags cursors before Empty t h = idle lines cursors before Empty t (λ m. refl) (λ m. refl) refl
 tracks_more lines mags cursors before (Info bytes) t h = idle lines cursors before (Info bytes) t (λ m. refl) (λ m. refl) refl
 tracks_more lines mags cursors before (Sent queue packet) t h =
@@ -139,7 +139,7 @@ tracks_more lines mags cursors before (Sent queue packet) t h =
 
 -- what the rule of turns gives
 pub turn_from_queues : (mags : Magazines) (before : List Slot) → IsFrom mags before (slot_after mags before)
-turn_from_queues mags before = by_info mags.info (is_due mags.lines (length before))
+turn_from_queues mags before = by_info mags.info (is_info_due mags.lines (length before))
   where
     by_next : (m : ℕ) (o : Option Packet) → m < 8 → next_of mags m before ≡ o → IsFrom mags before (sending m o)
     by_next m None lt e = tt

@@ -7,11 +7,11 @@ use Rattle.ttx_plan.specs.declared.packet.Packet.{Packet}
 use Rattle.ttx_plan.specs.declared.packet.Slot.{Slot}
 use Rattle.ttx_plan.specs.declared.packet.Slot.TheVariants.{Empty, Info, Sent}
 use Rattle.ttx_plan.specs.declared.cursors.Cursors.{Cursors}
-use Rattle.ttx_plan.specs.Packets.{sent_bytes, bytes_of, is_sent}
-use Rattle.ttx_plan.specs.Turns.{Magazines, queue_of, sent_by, slot_after, KeepsTurns, ends_sent, is_due, or_info, missing, IsParallel}
-use Rattle.ttx_plan.specs.Cursors.{sends, after, magazines_of}
+use Rattle.ttx_plan.specs.Packets.{sent_bytes, bytes_of, holds_packet}
+use Rattle.ttx_plan.specs.Turns.{Magazines, queue_of, sent_by, slot_after, KeepsTurns, ends_sent, is_info_due, or_info, missing, IsParallel}
+use Rattle.ttx_plan.specs.Cursors.{slot_by_cursors, cursors_after, magazines_of}
 use Rattle.ttx_plan.specs.Counting.{sum_to, slots_for}
-use Rattle.ttx_plan.proofs.Tracking.{Tracks, IsFrom, turn_from_queues, sends_turn, tracks_none, tracks_more}
+use Rattle.ttx_plan.proofs.CursorsLookBack.{Tracks, IsFrom, turn_from_queues, sends_turn, tracks_none, tracks_more}
 use Rattle.ttx_plan.proofs.Sums.{sum_none}
 use Rattle.ttx_plan.proofs.Bound.{left_of, total, sent_bytes_length, few_infos, all_slots, room, left_less, left_work, total_falls, sent_most, others, infos, ends_info}
 
@@ -66,32 +66,32 @@ has_room mags cursors slots left lines s some line few =
 
 pub more : (lines : ℕ) (info : Option (List ℕ)) (queues : List (Vec Packet Global)) (old new : Cursors) (slots : List (List ℕ)) (at left after_left : ℕ) (slot : Slot) →
     State (magazines_of lines info queues) old slots left → at ≡ length slots → 0 < left →
-    slot ≡ or_info info (is_due lines at) (sends queues old at) → new ≡ after old lines at slot → cond (is_sent slot) (left - 1) left ≡ after_left →
+    slot ≡ or_info info (is_info_due lines at) (slot_by_cursors queues old at) → new ≡ cursors_after old lines at slot → cond (holds_packet slot) (left - 1) left ≡ after_left →
     State (magazines_of lines info queues) new (slots ++ bytes_of slot ∷ []) after_left
 more lines info queues old new slots at left after_left slot s here some is_slot is_new is_left =
     let mags = magazines_of lines info queues in
     let place : at ≡ length s.before = here ∙ at_length (magazines_of lines info queues) old slots left s in
     let turned : slot ≡ slot_after (magazines_of lines info queues) s.before =
-    is_slot ∙ ap (λ x. or_info info (is_due lines x) (sends queues old x)) place ∙ sends_turn lines info queues old s.before s.tracks in
+    is_slot ∙ ap (λ x. or_info info (is_info_due lines x) (slot_by_cursors queues old x)) place ∙ sends_turn lines info queues old s.before s.tracks in
     let from : IsFrom (magazines_of lines info queues) s.before slot = subst (IsFrom (magazines_of lines info queues) s.before) (sym turned) (turn_from_queues (magazines_of lines info queues) s.before) in
     let any : 0 < left_of (magazines_of lines info queues) s.before = omega (arith, s.left_is) in
     let falls : total (magazines_of lines info queues) (slot ∷ s.before) ≤ total (magazines_of lines info queues) s.before = total_falls (magazines_of lines info queues) s.before slot s.tracks.from_most turned any in
     record {
       before = slot ∷ s.before;
       turns = (turned, s.turns);
-      tracks = subst (λ x. Tracks lines x (slot ∷ s.before)) (sym (is_new ∙ ap (λ x. after old lines x slot) place)) (tracks_more lines (magazines_of lines info queues) old s.before slot s.tracks from);
+      tracks = subst (λ x. Tracks lines x (slot ∷ s.before)) (sym (is_new ∙ ap (λ x. cursors_after old lines x slot) place)) (tracks_more lines (magazines_of lines info queues) old s.before slot s.tracks from);
       slots_are = ap (λ x. x ++ bytes_of slot ∷ []) s.slots_are;
       left_is = left_now slot from is_left;
       small = omega (arith, falls, s.small);
       ends = λ z. ends_now slot is_left z;
     }
   where
-    left_now : (x : Slot) → IsFrom (magazines_of lines info queues) s.before x → cond (is_sent x) (left - 1) left ≡ after_left → after_left ≡ left_of (magazines_of lines info queues) (x ∷ s.before)
+    left_now : (x : Slot) → IsFrom (magazines_of lines info queues) s.before x → cond (holds_packet x) (left - 1) left ≡ after_left → after_left ≡ left_of (magazines_of lines info queues) (x ∷ s.before)
     left_now Empty f e = sym e ∙ s.left_is
     left_now (Info bytes) f e = sym e ∙ s.left_is
     left_now (Sent queue packet) f e = let l : left_of (magazines_of lines info queues) s.before ≡ 1 + left_of (magazines_of lines info queues) (Sent queue packet ∷ s.before) = left_less (magazines_of lines info queues) s.before queue packet f in omega (arith, s.left_is)
 
-    ends_now : (x : Slot) → cond (is_sent x) (left - 1) left ≡ after_left → after_left ≡ 0 → ends_sent (x ∷ s.before) ≡ true
+    ends_now : (x : Slot) → cond (holds_packet x) (left - 1) left ≡ after_left → after_left ≡ 0 → ends_sent (x ∷ s.before) ≡ true
     ends_now Empty e z = absurd (omega arith)
     ends_now (Info bytes) e z = absurd (omega arith)
     ends_now (Sent queue packet) e z = refl

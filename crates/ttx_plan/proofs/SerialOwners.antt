@@ -7,7 +7,7 @@ use Rattle.ttx_plan.specs.declared.packet.Slot.{Slot}
 use Rattle.ttx_plan.specs.declared.packet.Slot.TheVariants.{Empty, Info, Sent}
 use Rattle.ttx_plan.specs.Blocks.{Block, rest_packet, filler_of, used_queues, time_filling_packet}
 use Rattle.ttx_plan.specs.Packets.{is_row_or_links}
-use Rattle.ttx_plan.specs.Turns.{is_due}
+use Rattle.ttx_plan.specs.Turns.{is_info_due}
 use Rattle.ttx_plan.specs.Serial.{serial_page, serial_block, serial_list, info_if, with_info}
 use Rattle.ttx_plan.proofs.InQueues.{IsOf, head_of}
 
@@ -46,21 +46,21 @@ info_behind lines blocks mag header age (Some bytes) false slots f = f
 informed_follows : (lines : ℕ) (blocks : List Block) (mag : ℕ) (header : Option Packet) (age : ℕ) (info : Option (List ℕ)) (every at : ℕ) (slots : List Slot) → Follows lines blocks mag header age slots → Follows lines blocks mag header age (with_info every info at slots)
 informed_follows lines blocks mag header age info every at [] f = tt
 informed_follows lines blocks mag header age info every at (slot ∷ rest) f =
-    info_behind lines blocks mag header age info (is_due every at) (slot ∷ with_info every info (at + length (info_if info (is_due every at)) + 1) rest)
-    (first slot f (λ m h a g. informed_follows lines blocks m h a info every (at + length (info_if info (is_due every at)) + 1) rest g))
+    info_behind lines blocks mag header age info (is_info_due every at) (slot ∷ with_info every info (at + length (info_if info (is_info_due every at)) + 1) rest)
+    (first slot f (λ m h a g. informed_follows lines blocks m h a info every (at + length (info_if info (is_info_due every at)) + 1) rest g))
   where
     next : List Slot
-    next = with_info every info (at + length (info_if info (is_due every at)) + 1) rest
+    next = with_info every info (at + length (info_if info (is_info_due every at)) + 1) rest
 
     first : (s : Slot) → Follows lines blocks mag header age (s ∷ rest) →
-        ((m : ℕ) (h : Option Packet) (a : ℕ) → Follows lines blocks m h a rest → Follows lines blocks m h a (with_info every info (at + length (info_if info (is_due every at)) + 1) rest)) →
-        Follows lines blocks mag header age (s ∷ with_info every info (at + length (info_if info (is_due every at)) + 1) rest)
+        ((m : ℕ) (h : Option Packet) (a : ℕ) → Follows lines blocks m h a rest → Follows lines blocks m h a (with_info every info (at + length (info_if info (is_info_due every at)) + 1) rest)) →
+        Follows lines blocks mag header age (s ∷ with_info every info (at + length (info_if info (is_info_due every at)) + 1) rest)
     first Empty f again = again mag header (suc age) f
     first (Info bytes) f again = again mag header (suc age) f
     first (Sent m packet) f again = by (is_row_or_links packet.kind) f
       where
         by : (b : Bool) → MatchBool b (IsBehind lines blocks mag header age m packet × Follows lines blocks mag header (suc age) rest) (Follows lines blocks m (Some packet) 1 rest) →
-            MatchBool b (IsBehind lines blocks mag header age m packet × Follows lines blocks mag header (suc age) (with_info every info (at + length (info_if info (is_due every at)) + 1) rest)) (Follows lines blocks m (Some packet) 1 (with_info every info (at + length (info_if info (is_due every at)) + 1) rest))
+            MatchBool b (IsBehind lines blocks mag header age m packet × Follows lines blocks mag header (suc age) (with_info every info (at + length (info_if info (is_info_due every at)) + 1) rest)) (Follows lines blocks m (Some packet) 1 (with_info every info (at + length (info_if info (is_info_due every at)) + 1) rest))
         by true f = (f.0, again mag header (suc age) f.1)
         by false f = again m (Some packet) 1 f
 

@@ -17,8 +17,8 @@ use Rattle.ttx_page.specs.Streams.{Stream, heads, heads_page, heads_matched}
 use Rattle.ttx_page.specs.Receptions.{Received, IsRight, OneIs}
 use Rattle.ttx_late.specs.LateReceivers.{selected_number}
 use Rattle.ttx_page.specs.Followers.{heads_another, IsFollowedWithin}
-use Rattle.ttx_late.proofs.Choices.{and_left, and_right, and_false_right, not_true, no_both}
-use Rattle.ttx_late.proofs.Kept.{SameTests, same_tests}
+use Rattle.ttx_late.proofs.Tests.{and_left, and_right, and_false_right, not_true, no_both}
+use Rattle.ttx_late.proofs.KeptSlots.{SameTests, same_tests}
 use Rattle.ttx_late.proofs.Gathering.{IsAnother, Ends, AllEnd}
 
 pub cases_ltz : (a b : ℤ) → (a <ℤ b) ⊎ (b ≤ℤ a)

@@ -12,7 +12,7 @@ use Rattle.ttx_plan.specs.Carries.{magazines_for}
 use Rattle.ttx_plan.specs.Serial.{serial_list, with_info}
 use Rattle.ttx_plan.proofs.Owners.{heads, slot_at}
 use Rattle.ttx_plan.proofs.InQueues.{IsOf, HasOwner, owner_of_turn}
-use Rattle.ttx_plan.proofs.Behind.{IsBehind, Follows, laid_follows}
+use Rattle.ttx_plan.proofs.SerialOwners.{IsBehind, Follows, laid_follows}
 
 -- the owner, with no header of any magazine between
 pub record HasQuietOwner (lines : ℕ) (blocks : List Block) (at : ℕ → Slot) (mag : ℕ) (packet : Packet) (j : ℕ) : Type 0 where

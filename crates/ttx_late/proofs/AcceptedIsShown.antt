@@ -22,9 +22,9 @@ use Rattle.ttx_late.specs.LateReceivers.{LateMemory, must_show, LateRun}
 use Rattle.ttx_page.specs.Followers.{IsFollowedWithin}
 use Rattle.ttx_late.specs.Laws.{RunsAreShown, FollowedIsWithin, AcceptedIsShown, EachListRunsLate}
 use Rattle.ttx_late.specs.SeenLate.{SeenLate}
-use Rattle.ttx_late.proofs.Choices.{no_both, cases_bool}
-use Rattle.ttx_late.proofs.Sent.{cases_ltz}
-use Rattle.ttx_late.proofs.Shown.{page_heads}
+use Rattle.ttx_late.proofs.Tests.{no_both, cases_bool}
+use Rattle.ttx_late.proofs.FollowedReceptions.{cases_ltz}
+use Rattle.ttx_late.proofs.RunsAreShown.{page_heads}
 
 -- the laws of streams that are cited
 pub record StreamLaws : Type 0 where

@@ -15,7 +15,7 @@ use Rattle.ttx_plan.specs.Blocks.{Block, has_pages, used_to}
 use Rattle.ttx_plan.specs.Carries.{block_at, blocks_of}
 use Rattle.ttx_plan.specs.Ranges.{IsOften}
 use Rattle.ttx_plan.specs.Seen.{used_by}
-use Rattle.ttx_plan.proofs.Often.{AreOften}
+use Rattle.ttx_plan.proofs.RepeatedBlocks.{AreOften}
 
 either : (a b : Bool) → (a || b) ≡ true → (a ≡ true) ⊎ (b ≡ true)
 either true b e = inl refl

@@ -13,12 +13,12 @@ use Rattle.ttx_plan.specs.Carries.{magazines_for}
 use Rattle.ttx_plan.specs.Packets.{is_row_or_links, bytes_of, sent_bytes}
 use Rattle.ttx_plan.specs.Serial.{serial_list, with_info, serial_slots}
 use Rattle.ttx_plan.specs.Turns.{missing, IsParallel}
-use Rattle.ttx_plan.proofs.Behind.{Follows, IsBehind, laid_follows}
+use Rattle.ttx_plan.proofs.SerialOwners.{Follows, IsBehind, laid_follows}
 use Rattle.ttx_plan.proofs.Bound.{sent_bytes_length}
 use Rattle.ttx_plan.proofs.InQueues.{HasOwner, IsOf}
-use Rattle.ttx_plan.proofs.Owned.{HasQuietOwner, quiet_owner, parallel_owned}
+use Rattle.ttx_plan.proofs.OwnersByPlace.{HasQuietOwner, quiet_owner, parallel_owned}
 use Rattle.ttx_plan.proofs.Owners.{heads, slot_at}
-use Rattle.ttx_plan.proofs.Placed.{IsPlaced, ArePlaced}
+use Rattle.ttx_plan.proofs.SurePlaces.{IsPlaced, ArePlaced}
 use Rattle.ttx_plan.proofs.Readable.{Reads}
 use Rattle.ttx_source.specs.Services.{Authored}
 

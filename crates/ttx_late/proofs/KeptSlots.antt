@@ -10,7 +10,7 @@ use Rattle.ttx_page.specs.Packets.{Packet, Empty, Unreadable, Header, Row, Links
 use Rattle.ttx_page.specs.declared.selection.Selection.{Selection}
 use Rattle.ttx_page.specs.Streams.{heads, heads_matched}
 use Rattle.ttx_late.specs.LateReceivers.{heads_number}
-use Rattle.ttx_late.proofs.Choices.{if_ind, no_both, cases_bool}
+use Rattle.ttx_late.proofs.Tests.{if_ind, no_both, cases_bool}
 
 -- the header in a packet: all else is one
 abbrev pub outline : Packet → Packet
