@@ -11,8 +11,8 @@ use Rattle.ttx_page.specs.declared.class.Class.TheVariants.{Any, Clearing}
 use Rattle.ttx_page.specs.declared.item.Item.{Item}
 use Rattle.ttx_page.specs.declared.item.Item.TheVariants.{Head as TheHead, Row as TheRow, Links as TheLinks}
 use Rattle.ttx_page.specs.Steady.{IsLikeHead, HeadIsRight, RowIsRight, LinksAreRight}
-use Rattle.ttx_witness.specs.Collected.{item_number, IsItem}
-use Rattle.ttx_witness.specs.Facts.{FirstBelow}
+use Rattle.ttx_witness.specs.sent.Collected.{item_number, IsItem}
+use Rattle.ttx_witness.specs.passes.PageFacts.{FirstBelow}
 
 abbrev pub Decided : Type 0 → Type 0
 Decided P = P ⊎ (P → ⊥)

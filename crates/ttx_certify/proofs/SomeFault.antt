@@ -11,15 +11,15 @@ use Rattle.ttx_page.specs.Streams.{Stream, repeated, turned, heads_page, heads_m
 use Rattle.ttx_page.specs.Steady.{HasHeader, HasNoHeader, OtherSubpageAt, ErasedAt, HeadDiffersAt, RowDiffersAt, LinksDifferAt, RowIsRight, IsLikeHead, LinksAreRight, erases_page}
 use Rattle.ttx_page.specs.Laws.{EachSlotTurns, StreamsMove, IsSameOn}
 use Rattle.ttx_cycle.specs.Files.{IsCycle}
-use Rattle.ttx_witness.specs.Transmissions.{slot_of}
-use Rattle.ttx_witness.specs.declared.transmissions.Transmission.{Transmission}
-use Rattle.ttx_witness.specs.Repeating.{Lists, IsSent, Tells}
-use Rattle.ttx_witness.specs.Facts.{FirstBelow}
-use Rattle.ttx_witness.specs.Faults.{TellsFirst, IsPageFault}
-use Rattle.ttx_witness.specs.JudgingLaws.{TransmissionsAreListed}
-use Rattle.ttx_witness.specs.Sent.{sent_in}
-use Rattle.ttx_witness.specs.declared.reason.Reason.{Reason}
-use Rattle.ttx_witness.specs.declared.reason.Reason.TheVariants.{NoHeader, OtherSubpage, Erased, HeadDiffers, RowDiffers, LinksDiffer}
+use Rattle.ttx_witness.specs.runs.Transmissions.{slot_of}
+use Rattle.ttx_witness.specs.declared.runs.transmissions.Transmission.{Transmission}
+use Rattle.ttx_witness.specs.runs.Repeating.{Lists, IsSent, Tells}
+use Rattle.ttx_witness.specs.passes.PageFacts.{FirstBelow}
+use Rattle.ttx_witness.specs.faults.Faults.{TellsFirst, IsPageFault}
+use Rattle.ttx_witness.specs.laws.JudgingLaws.{TransmissionsAreListed}
+use Rattle.ttx_witness.specs.sent.ItemTransmissions.{sent_in}
+use Rattle.ttx_witness.specs.declared.faults.reason.Reason.{Reason}
+use Rattle.ttx_witness.specs.declared.faults.reason.Reason.TheVariants.{NoHeader, OtherSubpage, Erased, HeadDiffers, RowDiffers, LinksDiffer}
 use Rattle.ttx_certify.proofs.Decisions.{Decided, both, refuted, alike, same_bool, like_head, row_right, links_right, alone, least_below, any_below}
 use Rattle.ttx_certify.proofs.ItemByItem.{needed_item}
 

@@ -3,7 +3,7 @@
 ghost use Rattle.std.specs.Prelude.{◌≡◌, ◌<◌, ◌↔◌, IsTrue, true, negsuc, length};
 ghost use Rattle.ttx_page.specs.Pages.{needed};
 ghost use Rattle.ttx_page.specs.Views.{page_of};
-ghost use Rattle.ttx_witness.specs.Comparing.{item_of, sends, IsWrong};
+ghost use Rattle.ttx_witness.specs.faults.Comparing.{item_of, sends, IsWrong};
 ghost use Rattle.ttx_cycle.specs.Cycles.{slots_of};
 ghost use Rattle.ttx_packet.specs.Slots.{IsSlot};
 ghost use Rattle.ttx_page.specs.Packets.{packet_of};
