@@ -14,7 +14,7 @@ use Rattle.ttx_witness.specs.faults.Reasons.{BadSlotAt, HasNoWitness, WitnessBad
 use Rattle.ttx_witness.specs.declared.faults.reason.Reason.{Reason}
 use Rattle.ttx_witness.specs.declared.faults.reason.Reason.TheVariants.{BadSlot, NoHeader, OtherSubpage, Erased, HeadDiffers, RowDiffers, LinksDiffer, NoWitness, WitnessBad, Late, Unsteady, LateBlank}
 use Rattle.ttx_certify.specs.Verdicts.{IsClean, IsFirstFault, IsRefusal}
-use Rattle.ttx_certify.proofs.Found.{some_run}
+use Rattle.ttx_certify.proofs.OneItem.{some_run}
 
 -- what decides coverage
 pub record CoverLaws : Type 0 where

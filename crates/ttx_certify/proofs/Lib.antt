@@ -1,6 +1,6 @@
 mod Seeing
-mod Found
-mod OneByOne
+mod OneItem
+mod ItemByItem
 mod Accepting
 mod Walked
 mod Fed

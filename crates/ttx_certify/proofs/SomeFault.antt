@@ -21,7 +21,7 @@ use Rattle.ttx_witness.specs.sent.ItemTransmissions.{sent_in}
 use Rattle.ttx_witness.specs.declared.faults.reason.Reason.{Reason}
 use Rattle.ttx_witness.specs.declared.faults.reason.Reason.TheVariants.{NoHeader, OtherSubpage, Erased, HeadDiffers, RowDiffers, LinksDiffer}
 use Rattle.ttx_certify.proofs.Decisions.{Decided, both, refuted, alike, same_bool, like_head, row_right, links_right, alone, least_below, any_below}
-use Rattle.ttx_certify.proofs.OneByOne.{needed_item}
+use Rattle.ttx_certify.proofs.ItemByItem.{needed_item}
 
 cases_ltz : (a b : ℤ) → (a <ℤ b) ⊎ (b ≤ℤ a)
 cases_ltz a b = by_lt_z a b (λ h. inl h) (λ h. inr h)

@@ -18,18 +18,16 @@ use Rattle.ttx_witness.specs.laws.JudgingLaws.{HeadersAreJudged, late_header}
 use Rattle.ttx_witness.specs.faults.Reasons.{BadSlotAt}
 use Rattle.ttx_witness.specs.sent.ItemTransmissions.{sent_in}
 use Rattle.ttx_witness.specs.declared.faults.reason.Reason.{Reason}
-use Rattle.ttx_witness.specs.declared.faults.reason.Reason.TheVariants.{BadSlot}
-use Rattle.ttx_certify.specs.Findings.{IsFound, IsFoundIn, chosen, reason_of}
+use Rattle.ttx_witness.specs.declared.faults.reason.Reason.TheVariants.{BadSlot, NoWitness, WitnessBad}
+use Rattle.ttx_certify.specs.ItemReasons.{IsItemReason, IsReasonBelow, told_first}
 use Rattle.ttx_certify.specs.Verdicts.{IsClean, IsFirstFault, IsVerdict}
 use Rattle.ttx_certify.specs.VerdictLaws.{SomeVerdictIsRight}
-use Rattle.ttx_certify.specs.declared.findings.Doubt.TheVariants.{NoWitness, WitnessBad}
-use Rattle.ttx_certify.specs.declared.findings.Finding.{Finding}
 use Rattle.ttx_certify.specs.declared.verdict.Verdict.{Verdict}
 use Rattle.ttx_certify.specs.declared.verdict.Verdict.TheVariants.{Yes, No}
 use Rattle.ttx_certify.proofs.Accepting.{CoverLaws, refused_not, bad_slot_not, refusal, clean_if, accepted}
 use Rattle.ttx_certify.proofs.Decisions.{item_with, both, same_bool, same_class, blank, least_below}
-use Rattle.ttx_certify.proofs.Found.{finding_at, found_late, found_header, judged_so, unnamed_found, blank_found, not_needed_found}
-use Rattle.ttx_certify.proofs.OneByOne.{found_more, none_found, no_fault, fault_found}
+use Rattle.ttx_certify.proofs.OneItem.{late_reason, blank_reason, judged_so, unnamed_first, blank_first, unseen_fine}
+use Rattle.ttx_certify.proofs.ItemByItem.{reason_more, no_reason, witness_fault}
 use Rattle.ttx_certify.proofs.PageByPage.{fault_from, one_more, none_at_all, here_is}
 use Rattle.ttx_certify.proofs.SomeFault.{FaultLaws, some_page_fault}
 
@@ -43,61 +41,57 @@ module _ (laws : SomeLaws) (cycle : List (List ℕ)) (is : IsCycle cycle) (w : C
   some = let s = is.some in omega arith
 
   module _ (p : Page) (header : HasHeader (repeated cycle) p.id) where
-    abbrev SomeFinding : Item → Type 0
-    SomeFinding item = (found : Option Finding) × IsFound cycle p w item found
+    abbrev SomeReason : Item → Type 0
+    SomeReason item = (reason : Option Reason) × IsItemReason cycle p w item reason
 
     -- an item for which no start is named
-    unnamed : (item : Item) → needed p item ≡ true → w.starts p.id item ≡ [] → SomeFinding item
-    unnamed item need none = elim (both (same_class w.class Clearing) (blank p item)) as (λ _. SomeFinding item) [
+    unnamed : (item : Item) → needed p item ≡ true → w.starts p.id item ≡ [] → SomeReason item
+    unnamed item need none = elim (both (same_class w.class Clearing) (blank p item)) as (λ _. SomeReason item) [
       | inl e ↦
           let late = late_header (limit w) (length cycle) (sent_in cycle p.id w.lines TheHead) in
-          (found_header item late, blank_found cycle p w item need none e.0 e.1 late (laws.headers cycle some p w header))
-      | inr ne ↦ (Some (finding_at item NoWitness 0), unnamed_found cycle p w item need none (λ clearing is_blank. ne (clearing, is_blank)))
+          (blank_reason p.id item late, blank_first cycle p w item need none e.0 e.1 late (laws.headers cycle some p w header))
+      | inr ne ↦ (Some (NoWitness p.id item), unnamed_first cycle p w item need none (λ clearing is_blank. ne (clearing, is_blank)))
     ]
 
     -- an item for which some are
-    judged : (item : Item) → needed p item ≡ true → 0 < length (w.starts p.id item) → SomeFinding item
+    judged : (item : Item) → needed p item ≡ true → 0 < length (w.starts p.id item) → SomeReason item
     judged item need any =
         let starts = w.starts p.id item in
         let m = progress_of cycle p w item (run_length w.repeat item - 1) in
         let told = judged_so cycle p w item laws.cover.judged some numbers need any starts (length cycle) m refl refl refl in
-        elim (cases_lt m.next (length starts)) as (λ _. SomeFinding item) [
-          | inl less ↦ (Some (finding_at item WitnessBad (slice_index_or starts m.next 0)), told.bad less)
-          | inr all ↦ (found_late item (late_after (limit w) starts m (m.first_end +ℤ pos (length cycle))), told.late (let next = told.next in omega arith))
+        elim (cases_lt m.next (length starts)) as (λ _. SomeReason item) [
+          | inl less ↦ (Some (WitnessBad p.id item (slice_index_or starts m.next 0)), told.bad less)
+          | inr all ↦ (late_reason p.id item (late_after (limit w) starts m (m.first_end +ℤ pos (length cycle))), told.late (let next = told.next in omega arith))
         ]
 
-    some_finding : (item : Item) → SomeFinding item
-    some_finding item = elim (same_bool (needed p item) true) as (λ _. SomeFinding item) [
+    some_reason : (item : Item) → SomeReason item
+    some_reason item = elim (same_bool (needed p item) true) as (λ _. SomeReason item) [
       | inl need ↦ named need (w.starts p.id item) refl
-      | inr unseen ↦ (None, not_needed_found cycle p w item (is_false _ unseen))
+      | inr unseen ↦ (None, unseen_fine cycle p w item (is_false _ unseen))
     ]
       where
         is_false : (b : Bool) → (b ≡ true → ⊥) → b ≡ false
         is_false false h = refl
         is_false true h = absurd (h refl)
 
-        named : needed p item ≡ true → (starts : List ℕ) → w.starts p.id item ≡ starts → SomeFinding item
+        named : needed p item ≡ true → (starts : List ℕ) → w.starts p.id item ≡ starts → SomeReason item
         named need [] e = unnamed item need e
         named need (x ∷ xs) e = judged item need (let l : length (w.starts p.id item) ≡ suc (length xs) = ap length e in omega arith)
 
-    found_below : (count : ℕ) → count ≤ 26 → (found : Option Finding) × IsFoundIn cycle p w count found
-    found_below zero le = (None, none_found cycle p w)
-    found_below (suc count) le =
-        let before = found_below count (omega arith) in
+    reason_below : (count : ℕ) → count ≤ 26 → (reason : Option Reason) × IsReasonBelow cycle p w count reason
+    reason_below zero le = (None, no_reason cycle p w)
+    reason_below (suc count) le =
+        let before = reason_below count (omega arith) in
         let item = item_with count (omega arith) in
-        let here = some_finding item.0 in
+        let here = some_reason item.0 in
         let e : count + 1 ≡ suc count = omega arith in (
-          chosen before.0 here.0,
-          subst (λ n. IsFoundIn cycle p w n (chosen before.0 here.0)) e
-              (found_more cycle p w count before.0 here.0 before.1 (record { item = item.0; is = item.1; place = item.2; found = here.1 })),
+          told_first before.0 here.0,
+          subst (λ n. IsReasonBelow cycle p w n (told_first before.0 here.0)) e
+              (reason_more cycle p w count before.0 here.0 before.1 (record { item = item.0; is = item.1; place = item.2; first = here.1 })),
         )
 
     some_witness_fault : (reason : Option Reason) × IsWitnessFault cycle p w reason
-    some_witness_fault = let r = found_below 26 (omega arith) in told r.0 r.1
-      where
-        told : (found : Option Finding) → IsFoundIn cycle p w 26 found → (reason : Option Reason) × IsWitnessFault cycle p w reason
-        told None f = (None, no_fault cycle p w f)
-        told (Some found) f = (Some (reason_of p.id found), fault_found cycle p w found f)
+    some_witness_fault = let r = reason_below 26 (omega arith) in (r.0, witness_fault cycle p w r.0 r.1)
 
   module _ (pages : List Page) where
     some_fault : (p : Page) → (reason : Option Reason) × IsFault cycle pages p w reason

@@ -6,7 +6,8 @@ use Rattle.ttx_cycle.specs.Cycles.{slots_of}
 use Rattle.ttx_cycle.specs.Files.{IsCycle, file_of}
 use Rattle.ttx_cycle.specs.declared.faults.CycleFault.TheVariants as cycle
 use Rattle.ttx_witness.specs.Certificates.{fields_of}
-use Rattle.ttx_certify.specs.CertifyingFiles.{IsService, IsWitness, ReadsInputs, IsJudged, JudgesFiles, IsRefused, Certifies, CertifiesFiles, WritesLine, CountsReads, CountsFiles}
+use Rattle.ttx_certify.specs.CertifyingFiles.{IsServiceText, IsCertificateText, IsRefused, Certifies, CertifiesFiles, CountsFiles}
+use Rattle.ttx_certify.specs.FileSteps.{ReadsInputs, IsJudged, JudgesFiles, WritesLine, CountsReads}
 use Rattle.ttx_certify.specs.declared.faults.FilesFault.{FilesFault}
 use Rattle.ttx_certify.specs.declared.faults.FilesFault.TheVariants.{Cycle, Service, Certificate, Read, TooLong, Write, NoMemory}
 use Rattle.ttx_certify.specs.declared.faults.TextFile.TheVariants as text
@@ -31,9 +32,9 @@ lifted P Q (Some a) None c f h = tt
 lifted P Q None b c f h = tt
 
 pub all_read : (inputs : Inputs) → IsCycle (slots_of inputs.cycle) → (a b c : Option (List ℕ)) → IfSome a (λ x. x ≡ file_of (slots_of inputs.cycle)) →
-    IfSome b (λ y. IsService y inputs.service) → IfSome c (λ z. IsWitness z (fields_of inputs.certificate)) → IfSome a (λ x. IfSome b (λ y. IfSome c (λ z. ReadsInputs x y z (Ok inputs))))
+    IfSome b (λ y. IsServiceText y inputs.service) → IfSome c (λ z. IsCertificateText z (fields_of inputs.certificate)) → IfSome a (λ x. IfSome b (λ y. IfSome c (λ z. ReadsInputs x y z (Ok inputs))))
 all_read inputs is a b c p q r =
-    together (λ x. x ≡ file_of (slots_of inputs.cycle)) (λ y. IsService y inputs.service) (λ z. IsWitness z (fields_of inputs.certificate)) (λ x y z. ReadsInputs x y z (Ok inputs)) a b c p q r
+    together (λ x. x ≡ file_of (slots_of inputs.cycle)) (λ y. IsServiceText y inputs.service) (λ z. IsCertificateText z (fields_of inputs.certificate)) (λ x y z. ReadsInputs x y z (Ok inputs)) a b c p q r
     (λ x y z i j k. (record { is_cycle = is; same = i }, j, k))
 
 pub all_judged : (inputs : Inputs) (judged : Told) → IsJudged (slots_of inputs.cycle) inputs.service (fields_of inputs.certificate) judged.verdict (string_bytes judged.line) →

@@ -14,7 +14,8 @@ use Rattle.ttx_cycle.specs.declared.faults.CycleFault.TheVariants as cycle
 use Rattle.ttx_source.specs.Services.{ServiceFields, pages_of}
 use Rattle.ttx_witness.specs.Certificates.{fields_of}
 use Rattle.ttx_witness.specs.Entries.{CertificateFields, certificate_at}
-use Rattle.ttx_certify.specs.CertifyingFiles.{most_bytes, IsService, IsWitness, ReadsService, ReadsWitness, Certifies}
+use Rattle.ttx_certify.specs.CertifyingFiles.{most_bytes, IsServiceText, IsCertificateText, Certifies}
+use Rattle.ttx_certify.specs.FileSteps.{ReadsService, ReadsWitness}
 use Rattle.ttx_certify.specs.VerdictLines.{verdict_line}
 use Rattle.ttx_certify.specs.declared.faults.FilesFault.{FilesFault}
 use Rattle.ttx_certify.specs.declared.faults.FilesFault.TheVariants.{Cycle, Service, Certificate, Read, TooLong, Write, NoMemory}
@@ -28,16 +29,16 @@ use Rattle.ttx_certify.specs.declared.passes.Texts.{Texts}
 abbrev pub IsRefusedText : List ℕ → List ℕ → FilesFault → Type 0
 IsRefusedText c d (Cycle fault) = ⊥
 IsRefusedText c d (Service error) = ReadsService c (Err (Service error))
-IsRefusedText c d (Certificate fault) = (service : ServiceFields) × IsService c service × ReadsWitness d (Err (Certificate fault))
+IsRefusedText c d (Certificate fault) = (service : ServiceFields) × IsServiceText c service × ReadsWitness d (Err (Certificate fault))
 IsRefusedText c d (Read which) = ⊤
 IsRefusedText c d (TooLong text.Service) = most_bytes < length c
-IsRefusedText c d (TooLong text.Certificate) = (service : ServiceFields) × IsService c service × (most_bytes < length d)
+IsRefusedText c d (TooLong text.Certificate) = (service : ServiceFields) × IsServiceText c service × (most_bytes < length d)
 IsRefusedText c d (Write written) = ⊥
 IsRefusedText c d NoMemory = ⊤
 
 -- the two texts, once they are read
 abbrev pub ReadsTexts : List ℕ → List ℕ → Result Texts FilesFault → Type 0
-ReadsTexts c d (Ok texts) = IsService c texts.service × IsWitness d (fields_of texts.certificate)
+ReadsTexts c d (Ok texts) = IsServiceText c texts.service × IsCertificateText d (fields_of texts.certificate)
 ReadsTexts c d (Err fault) = IsRefusedText c d fault
 
 abbrev pub WalksFiles : List ℕ → List ℕ → ServiceFields → CertificateFields → Result Verdict FilesFault → Type 0
@@ -50,14 +51,15 @@ WalksFiles a b service w (Err _) = ⊥
 pub record CertifiesTwice (a b c d : List ℕ) (verdict : Verdict) (line : List ℕ) : Type 0 where
   pub service : ServiceFields
   pub w : CertificateFields
-  pub service_is : IsService c service
-  pub certificate_is : IsWitness d w
+  pub service_is : IsServiceText c service
+  pub certificate_is : IsCertificateText d w
   pub walked : WalkedFiles a b (pages_of service) (certificate_at w) verdict
   pub line_is : line ≡ verdict_line w (length service.pages) verdict
 
 -- why the inputs are refused: a text, or, where both texts are as they should be, a packet file
 abbrev pub IsRefusedTwice : List ℕ → List ℕ → List ℕ → List ℕ → FilesFault → Type 0
-IsRefusedTwice a b c d (Cycle fault) = (service : ServiceFields) × (w : CertificateFields) × IsService c service × IsWitness d w × IsRefusedCycle a b fault
+IsRefusedTwice a b c d (Cycle fault) = (service : ServiceFields) × (w : CertificateFields) × IsServiceText c service × IsCertificateText d w
+    × IsRefusedCycle a b fault
 IsRefusedTwice a b c d fault = IsRefusedText c d fault
 
 abbrev pub JudgesPasses : List ℕ → List ℕ → List ℕ → List ℕ → Result Told FilesFault → Type 0

@@ -1,9 +1,10 @@
 pub mod Seen
-pub mod Findings
+pub mod ItemReasons
 pub mod Verdicts
 pub mod Walking
 pub mod VerdictLines
 pub mod CertifyingFiles
+pub mod FileSteps
 pub mod Feeding
 pub mod CertifyingPasses
 pub mod Laws

@@ -23,8 +23,15 @@ HasView p m = SameButClock (view_of m) (view_of (memory_of_page p))
 -- By each selection that fits the page, from each tuning slot and each former memory, after each reception within the error rule that
 -- lasts to the deadline or longer, and by whatever run of a permitted receiver: the receiver has the page's View.
 pub record Seen (cycle : List (List ℕ)) (pages : List Page) (p : Page) (w : Certificate) : Type 0 where
-  pub shown : (sel : Selection) → Fits pages p sel → (tau : ℤ) (former m : Memory) (received : List (List ℕ)) → IsFormer w.class former →
-      Received (repeated cycle) p.id w.repeat tau received → limit w ≤ length received → Run w.class w.lines sel former received m → HasView p m
+  pub shown :
+      (sel : Selection) →
+      Fits pages p sel →
+      (tau : ℤ) (former m : Memory) (received : List (List ℕ)) →
+      IsFormer w.class former →
+      Received (repeated cycle) p.id w.repeat tau received →
+      limit w ≤ length received →
+      Run w.class w.lines sel former received m →
+      HasView p m
 
 -- n slots from slot tau on are received within the error rule, and a receiver runs over them
 pub record SomeRun (s : Stream) (page : Id) (class : Class) (lines repeat : ℕ) (sel : Selection) (former : Memory) (tau : ℤ) (n : ℕ) : Type 0 where

@@ -12,7 +12,8 @@ use Rattle.ttx_page.specs.declared.class.Class.TheVariants.{Any, Clearing}
 use Rattle.ttx_witness.specs.CertificateTexts.{id_text, item_text}
 use Rattle.ttx_witness.specs.Entries.{CertificateFields}
 use Rattle.ttx_witness.specs.declared.faults.reason.Reason.{Reason}
-use Rattle.ttx_witness.specs.declared.faults.reason.Reason.TheVariants.{BadSlot, NoHeader, OtherSubpage, Erased, HeadDiffers, RowDiffers, LinksDiffer, NoWitness, WitnessBad, Late, Unsteady, LateBlank}
+use Rattle.ttx_witness.specs.declared.faults.reason.Reason.TheVariants.{BadSlot, NoHeader, OtherSubpage, Erased, HeadDiffers, RowDiffers, LinksDiffer}
+use Rattle.ttx_witness.specs.declared.faults.reason.Reason.TheVariants.{NoWitness, WitnessBad, Late, Unsteady, LateBlank}
 use Rattle.ttx_certify.specs.declared.verdict.Verdict.{Verdict}
 use Rattle.ttx_certify.specs.declared.verdict.Verdict.TheVariants.{Yes, No}
 
@@ -48,7 +49,8 @@ class_words Clearing = codes " class clearing"
 
 abbrev pub yes_text : CertificateFields → ℕ → List ℕ
 yes_text w pages =
-    codes "yes lines " ++ decimal w.lines ++ codes " repeat " ++ decimal w.repeat ++ codes " deadline " ++ decimal w.deadline ++ codes " pages " ++ decimal pages
+    codes "yes lines " ++ decimal w.lines ++ codes " repeat " ++ decimal w.repeat ++ codes " deadline " ++ decimal w.deadline ++ codes " pages "
+    ++ decimal pages
     ++ class_words w.class
 
 abbrev pub verdict_text : CertificateFields → ℕ → Verdict → List ℕ

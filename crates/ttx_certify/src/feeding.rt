@@ -29,7 +29,8 @@ fn feed_first<R: Read>(walk: &mut Walk, reader: &mut Counted<R>) -> Result<(), C
 
 // Gives a walk the slots of its second list.
 fn feed_second<R: Read>(second: &mut Second, reader: &mut Counted<R>) -> Result<(), CycleFault>
-    ensures walked { IfSome (R.remaining (inner_of reader.old)) (λ bytes. Walks (λ y. (x : List (List ℕ)) → Stands second.old x [] → Stands second.new x y) bytes result) }
+    ensures walked { IfSome (R.remaining (inner_of reader.old)) (λ bytes. Walks (λ y. (x : List (List ℕ)) → Stands second.old x [] →
+        Stands second.new x y) bytes result) }
     ensures pages { second_pages second.new ≡ second_pages second.old }
     ensures certificate { second_certificate second.new ≡ second_certificate second.old }
     ensures faults { CountsRead result (faults_of reader.old) (faults_of reader.new) }
@@ -51,7 +52,8 @@ pub fn walk_twice<A: Read, B: Read>(
     first: &mut Counted<A>,
     second: &mut Counted<B>,
 ) -> Result<Verdict, CycleFault>
-    ensures walked { Starts walk.entry [] → IfSome (A.remaining (inner_of first.old)) (λ a. IfSome (B.remaining (inner_of second.old)) (λ b. WalksTwice a b (walk_pages walk.entry) (walk_certificate walk.entry) result)) }
+    ensures walked { Starts walk.entry [] → IfSome (A.remaining (inner_of first.old)) (λ a.
+        IfSome (B.remaining (inner_of second.old)) (λ b. WalksTwice a b (walk_pages walk.entry) (walk_certificate walk.entry) result)) }
     ensures faults { CountsTwice result (faults_of first.old) (faults_of first.new) (faults_of second.old) (faults_of second.new) }
 {
     let mut walk = walk;

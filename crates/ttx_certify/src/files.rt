@@ -4,7 +4,9 @@ ghost use Rattle.std.specs.Prelude.{◌≡◌, IfSome, IfOk, IfErr, string_bytes
 ghost use Rattle.ttx_cycle.specs.Counters.{inner_of, faults_of};
 ghost use Rattle.ttx_cycle.specs.Cycles.{slots_of};
 ghost use Rattle.ttx_witness.specs.Certificates.{fields_of};
-ghost use Rattle.ttx_certify.specs.CertifyingFiles.{ReadsService, ReadsWitness, CountsRead, ReadsInputs, CountsReads, IsJudged, JudgesFiles, CertifiesFiles, IsUntouched, is_write, WritesLine, CountsWritten, CountsFiles, seen_by};
+ghost use Rattle.ttx_certify.specs.CertifyingFiles.{CertifiesFiles, IsUntouched, is_write, CountsFiles};
+ghost use Rattle.ttx_certify.specs.FileSteps.{ReadsService, ReadsWitness, CountsTextRead, ReadsInputs, CountsReads, IsJudged, JudgesFiles};
+ghost use Rattle.ttx_certify.specs.FileSteps.{WritesLine, CountsWritten, viewed_by};
 ghost use Rattle.ttx_certify.specs.VerdictLines.{verdict_line};
 
 use crate::faults::{FilesFault, TextFile};
@@ -41,7 +43,7 @@ pub fn read_definition<R: Read>(
     reader: &mut Counted<R>,
 ) -> Result<Service, FilesFault>
     ensures bytes { IfSome (R.remaining (inner_of reader.old)) (λ bytes. ReadsService bytes result) }
-    ensures faults { CountsRead TextFile.Service result (faults_of reader.old) (faults_of reader.new) }
+    ensures faults { CountsTextRead TextFile.Service result (faults_of reader.old) (faults_of reader.new) }
 {
     let which = TextFile::Service;
     let text = match read_text(alloc, reader, MOST_BYTES) {
@@ -61,8 +63,8 @@ pub fn read_witness<R: Read>(
     alloc: Global,
     reader: &mut Counted<R>,
 ) -> Result<Certificate, FilesFault>
-    ensures bytes { IfSome (R.remaining (inner_of reader.old)) (λ bytes. ReadsWitness bytes (seen_by fields_of result)) }
-    ensures faults { CountsRead TextFile.Certificate result (faults_of reader.old) (faults_of reader.new) }
+    ensures bytes { IfSome (R.remaining (inner_of reader.old)) (λ bytes. ReadsWitness bytes (viewed_by fields_of result)) }
+    ensures faults { CountsTextRead TextFile.Certificate result (faults_of reader.old) (faults_of reader.new) }
 {
     let which = TextFile::Certificate;
     let text = match read_text(alloc, reader, MOST_BYTES) {
@@ -113,9 +115,11 @@ pub fn read_inputs<A: Read, B: Read, C: Read>(
     service: &mut Counted<B>,
     certificate: &mut Counted<C>,
 ) -> Result<Inputs, FilesFault>
-    ensures bytes { IfSome (A.remaining (inner_of cycle.old)) (λ a. IfSome (B.remaining (inner_of service.old)) (λ b. IfSome (C.remaining (inner_of certificate.old))
-        (λ c. ReadsInputs a b c result))) }
-    ensures faults { CountsReads result (faults_of cycle.old) (faults_of cycle.new) (faults_of service.old) (faults_of service.new) (faults_of certificate.old) (faults_of certificate.new) }
+    ensures bytes { IfSome (A.remaining (inner_of cycle.old)) (λ a.
+        IfSome (B.remaining (inner_of service.old)) (λ b.
+        IfSome (C.remaining (inner_of certificate.old)) (λ c. ReadsInputs a b c result))) }
+    ensures faults { CountsReads result (faults_of cycle.old) (faults_of cycle.new) (faults_of service.old) (faults_of service.new)
+        (faults_of certificate.old) (faults_of certificate.new) }
 {
     let cycle = match read_cycle(alloc, cycle) {
         Ok(cycle) => cycle,
@@ -137,7 +141,8 @@ pub fn read_inputs<A: Read, B: Read, C: Read>(
 
 // The verdict on what was read, and its line.
 fn judge(alloc: Global, inputs: &Inputs) -> Result<Told, FilesFault>
-    ensures judged { IfOk result (λ judged. IsJudged (slots_of inputs.now.cycle) inputs.now.service (fields_of inputs.now.certificate) judged.verdict (string_bytes judged.line)) }
+    ensures judged { IfOk result (λ judged. IsJudged (slots_of inputs.now.cycle) inputs.now.service (fields_of inputs.now.certificate)
+        judged.verdict (string_bytes judged.line)) }
     ensures memory { IfErr result (λ fault. fault ≡ FilesFault.NoMemory) }
 {
     let (service, certificate) = (&inputs.service, &inputs.certificate);
@@ -157,9 +162,11 @@ fn judge_files<A: Read, B: Read, C: Read>(
     service: &mut Counted<B>,
     certificate: &mut Counted<C>,
 ) -> Result<Told, FilesFault>
-    ensures bytes { IfSome (A.remaining (inner_of cycle.old)) (λ a. IfSome (B.remaining (inner_of service.old)) (λ b. IfSome (C.remaining (inner_of certificate.old))
-        (λ c. JudgesFiles a b c result))) }
-    ensures faults { CountsReads result (faults_of cycle.old) (faults_of cycle.new) (faults_of service.old) (faults_of service.new) (faults_of certificate.old) (faults_of certificate.new) }
+    ensures bytes { IfSome (A.remaining (inner_of cycle.old)) (λ a.
+        IfSome (B.remaining (inner_of service.old)) (λ b.
+        IfSome (C.remaining (inner_of certificate.old)) (λ c. JudgesFiles a b c result))) }
+    ensures faults { CountsReads result (faults_of cycle.old) (faults_of cycle.new) (faults_of service.old) (faults_of service.new)
+        (faults_of certificate.old) (faults_of certificate.new) }
 {
     let inputs = match read_inputs(alloc, cycle, service, certificate) {
         Ok(inputs) => inputs,
@@ -183,9 +190,11 @@ pub fn certify_files<A: Read, B: Read, C: Read, W: Write>(
     certificate: &mut Counted<C>,
     writer: &mut Counted<W>,
 ) -> Result<Verdict, FilesFault>
-    ensures bytes { IfSome (A.remaining (inner_of cycle.old)) (λ a. IfSome (B.remaining (inner_of service.old)) (λ b. IfSome (C.remaining (inner_of certificate.old))
-        (λ c. CertifiesFiles a b c (W.contents (inner_of writer.old)) (W.contents (inner_of writer.new)) result))) }
-    ensures faults { CountsFiles result (faults_of cycle.old) (faults_of cycle.new) (faults_of service.old) (faults_of service.new) (faults_of certificate.old) (faults_of certificate.new) (faults_of writer.old) (faults_of writer.new) }
+    ensures bytes { IfSome (A.remaining (inner_of cycle.old)) (λ a.
+        IfSome (B.remaining (inner_of service.old)) (λ b.
+        IfSome (C.remaining (inner_of certificate.old)) (λ c. CertifiesFiles a b c (W.contents (inner_of writer.old)) (W.contents (inner_of writer.new)) result))) }
+    ensures faults { CountsFiles result (faults_of cycle.old) (faults_of cycle.new) (faults_of service.old) (faults_of service.new)
+        (faults_of certificate.old) (faults_of certificate.new) (faults_of writer.old) (faults_of writer.new) }
     ensures untouched { IsUntouched is_write result writer.old writer.new }
 {
     let judged = match judge_files(alloc, cycle, service, certificate) {

@@ -6,14 +6,15 @@ ghost use Rattle.ttx_witness.specs.faults.Faults.{IsFault};
 ghost use Rattle.ttx_witness.specs.passes.Passing.{IsEnded, ended_pages, ended_certificate};
 ghost use Rattle.ttx_certify.specs.Verdicts.{IsFirstFault, IsVerdict};
 
-use crate::page_findings::witness_fault;
+use crate::page_reasons::witness_fault;
 use crate::verdict::Verdict;
 use ttx_witness::{EndedPass, Reason};
 
 // The first fault of the page at the index.
 fn fault_at(ended: &EndedPass, index: usize) -> Option<Reason>
     requires { index < length ended.now.pages.now }
-    ensures { (y : List (List ℕ)) (p : definitions.Page) → IsEnded ended.now y → slice_get (ended_pages ended.now) index ≡ Some p → IsFault y (ended_pages ended.now) p (ended_certificate ended.now) result }
+    ensures { (y : List (List ℕ)) (p : definitions.Page) → IsEnded ended.now y → slice_get (ended_pages ended.now) index ≡ Some p →
+        IsFault y (ended_pages ended.now) p (ended_certificate ended.now) result }
 {
     if let Some(reason) = ended.page_fault(index) {
         return Some(reason);
@@ -24,7 +25,8 @@ fn fault_at(ended: &EndedPass, index: usize) -> Option<Reason>
 // The first fault of the first page that has one.
 fn first_fault(ended: &EndedPass) -> Option<Reason>
     ensures { (y : List (List ℕ)) → IsEnded ended.now y →
-        MatchOption result ((n : ℕ) (p : definitions.Page) → slice_get (ended_pages ended.now) n ≡ Some p → IsFault y (ended_pages ended.now) p (ended_certificate ended.now) None)
+        MatchOption result ((n : ℕ) (p : definitions.Page) → slice_get (ended_pages ended.now) n ≡ Some p →
+        IsFault y (ended_pages ended.now) p (ended_certificate ended.now) None)
         (λ reason. IsFirstFault y (ended_pages ended.now) (ended_certificate ended.now) reason) }
 {
     for index in 0..ended.pages.len() {

@@ -3,7 +3,8 @@
 ghost use Rattle.std.specs.Prelude.{◌≡◌, IfSome};
 ghost use Rattle.ttx_cycle.specs.Counters.{inner_of, faults_of};
 ghost use Rattle.ttx_witness.specs.Certificates.{fields_of};
-ghost use Rattle.ttx_certify.specs.CertifyingPasses.{ReadsTexts, WalksFiles, JudgesPasses, CertifiesPasses, CountsTexts, CountsCycles, CountsFour, CountsPasses};
+ghost use Rattle.ttx_certify.specs.CertifyingPasses.{ReadsTexts, WalksFiles, JudgesPasses, CertifiesPasses, CountsTexts, CountsCycles, CountsFour};
+ghost use Rattle.ttx_certify.specs.CertifyingPasses.{CountsPasses};
 
 use crate::faults::FilesFault;
 use crate::feeding::walk_twice;
@@ -52,7 +53,8 @@ fn walk_files<A: Read, B: Read>(
     first: &mut Counted<A>,
     second: &mut Counted<B>,
 ) -> Result<Verdict, FilesFault>
-    ensures bytes { IfSome (A.remaining (inner_of first.old)) (λ a. IfSome (B.remaining (inner_of second.old)) (λ b. WalksFiles a b texts.now.service (fields_of texts.now.certificate) result)) }
+    ensures bytes { IfSome (A.remaining (inner_of first.old)) (λ a.
+        IfSome (B.remaining (inner_of second.old)) (λ b. WalksFiles a b texts.now.service (fields_of texts.now.certificate) result)) }
     ensures faults { CountsCycles result (faults_of first.old) (faults_of first.new) (faults_of second.old) (faults_of second.new) }
 {
     let walk = match Walk::new(alloc, texts.service.pages(), &texts.certificate) {
@@ -73,9 +75,12 @@ fn judge_passes<A: Read, B: Read, C: Read, D: Read>(
     service: &mut Counted<C>,
     certificate: &mut Counted<D>,
 ) -> Result<Told, FilesFault>
-    ensures bytes { IfSome (A.remaining (inner_of first.old)) (λ a. IfSome (B.remaining (inner_of second.old)) (λ b. IfSome (C.remaining (inner_of service.old)) (λ c. IfSome (D.remaining (inner_of certificate.old))
-        (λ d. JudgesPasses a b c d result)))) }
-    ensures faults { CountsFour result (faults_of first.old) (faults_of first.new) (faults_of second.old) (faults_of second.new) (faults_of service.old) (faults_of service.new) (faults_of certificate.old) (faults_of certificate.new) }
+    ensures bytes { IfSome (A.remaining (inner_of first.old)) (λ a.
+        IfSome (B.remaining (inner_of second.old)) (λ b.
+        IfSome (C.remaining (inner_of service.old)) (λ c.
+        IfSome (D.remaining (inner_of certificate.old)) (λ d. JudgesPasses a b c d result)))) }
+    ensures faults { CountsFour result (faults_of first.old) (faults_of first.new) (faults_of second.old) (faults_of second.new)
+        (faults_of service.old) (faults_of service.new) (faults_of certificate.old) (faults_of certificate.new) }
 {
     let texts = match read_texts(alloc, service, certificate) {
         Ok(texts) => texts,
@@ -106,9 +111,13 @@ pub fn certify_passes<A: Read, B: Read, C: Read, D: Read, W: Write>(
     certificate: &mut Counted<D>,
     writer: &mut Counted<W>,
 ) -> Result<Verdict, FilesFault>
-    ensures bytes { IfSome (A.remaining (inner_of first.old)) (λ a. IfSome (B.remaining (inner_of second.old)) (λ b. IfSome (C.remaining (inner_of service.old)) (λ c. IfSome (D.remaining (inner_of certificate.old))
-        (λ d. CertifiesPasses a b c d (W.contents (inner_of writer.old)) (W.contents (inner_of writer.new)) result)))) }
-    ensures faults { CountsPasses result (faults_of first.old) (faults_of first.new) (faults_of second.old) (faults_of second.new) (faults_of service.old) (faults_of service.new) (faults_of certificate.old) (faults_of certificate.new) (faults_of writer.old) (faults_of writer.new) }
+    ensures bytes { IfSome (A.remaining (inner_of first.old)) (λ a.
+        IfSome (B.remaining (inner_of second.old)) (λ b.
+        IfSome (C.remaining (inner_of service.old)) (λ c.
+        IfSome (D.remaining (inner_of certificate.old)) (λ d. CertifiesPasses a b c d (W.contents (inner_of writer.old)) (W.contents (inner_of writer.new)) result)))) }
+    ensures faults { CountsPasses result (faults_of first.old) (faults_of first.new) (faults_of second.old) (faults_of second.new)
+        (faults_of service.old) (faults_of service.new) (faults_of certificate.old) (faults_of certificate.new) (faults_of writer.old)
+        (faults_of writer.new) }
 {
     let told = match judge_passes(alloc, first, second, service, certificate) {
         Ok(told) => told,

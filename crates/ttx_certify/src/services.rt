@@ -38,7 +38,8 @@ pub fn find_service(
 ) -> Result<Found, NoMemory>
     requires some { 1 ≤ repeat }
     requires few { repeat ≤ 8 }
-    ensures { IfOk result (λ found. IsFoundFor (slots_of cycle.now) (pages_of service.now) repeat service.now.lines class (certificate_of found.certificate) found.deadline) }
+    ensures { IfOk result (λ found. IsFoundFor (slots_of cycle.now) (pages_of service.now) repeat service.now.lines class
+        (certificate_of found.certificate) found.deadline) }
 {
     find_for(
         alloc,

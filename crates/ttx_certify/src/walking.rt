@@ -47,7 +47,8 @@ impl<'a> Walk<'a> {
     /// The next slot of the first list, of at most 65,536: after `TooLong` the walk is as it was. Takes no memory.
     pub fn first(&mut self, slot: &[u8; 42]) -> Result<(), WalkFault>
         requires { IsSlot slot.now }
-        ensures stands { (x : List (List ℕ)) → Starts self.old x → MatchResult result (λ u. Starts self.new (x ++ slot.now ∷ [])) (λ f. (self.new ≡ self.old) × (length x ≡ 65536)) }
+        ensures stands { (x : List (List ℕ)) → Starts self.old x →
+            MatchResult result (λ u. Starts self.new (x ++ slot.now ∷ [])) (λ f. (self.new ≡ self.old) × (length x ≡ 65536)) }
         ensures pages { walk_pages self.new ≡ walk_pages self.old }
         ensures certificate { walk_certificate self.new ≡ walk_certificate self.old }
     {
@@ -86,7 +87,8 @@ impl<'a> Second<'a> {
     /// else exactly that of the second list. Where both lists are one, and not empty, it is that of `certify`; where it is Yes,
     /// each page of the second list is seen. Takes no memory.
     pub fn finish(self) -> Verdict
-        ensures verdict { (x y : List (List ℕ)) → Stands self.entry x y → IsWalkVerdict x y (second_pages self.entry) (second_certificate self.entry) result }
+        ensures verdict { (x y : List (List ℕ)) → Stands self.entry x y →
+            IsWalkVerdict x y (second_pages self.entry) (second_certificate self.entry) result }
         ensures seen { (x y : List (List ℕ)) → Stands self.entry x y → Means y (second_pages self.entry) (second_certificate self.entry) result }
     {
         crate::laws::accepted_is_seen();

@@ -18,9 +18,9 @@ use Rattle.ttx_page.specs.Streams.{turned, repeated, heads, heads_page, IsLatest
 use Rattle.ttx_page.specs.Laws.{EachSlotTurns, StreamsMove}
 use Rattle.ttx_page.specs.Followers.{heads_another, IsFollowed, IsFollowedByAnother, IsFollowedWithin}
 use Rattle.ttx_late.specs.Followed.{IsFollowedIn, IsGap, HoldsId, HoldsNoId, IsFollowedAt, TellsUnfollowed, AllAreFollowed}
-use Rattle.ttx_late.proofs.Choices.{and_left, and_right, and_both, no_both}
-use Rattle.ttx_late.proofs.Sent.{cases_ltz}
-use Rattle.ttx_late.proofs.Shown.{page_heads}
+use Rattle.ttx_late.proofs.Tests.{and_left, and_right, and_both, no_both}
+use Rattle.ttx_late.proofs.FollowedReceptions.{cases_ltz}
+use Rattle.ttx_late.proofs.RunsAreShown.{page_heads}
 
 packet_is : (slot : List ℕ) (k : Kind) → kind_of slot ≡ k → packet_of slot ≡ packet_of_kind slot k
 unfolding packet_of

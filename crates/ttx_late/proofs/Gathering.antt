@@ -9,7 +9,7 @@ use Rattle.ttx_page.specs.Memories.{Memory, IsFormer}
 use Rattle.ttx_page.specs.Receivers.{older, Step, Run}
 use Rattle.ttx_page.specs.Streams.{heads, heads_matched}
 use Rattle.ttx_late.specs.LateReceivers.{LateMemory, heads_number, may_forget, TakesIn, LateRun}
-use Rattle.ttx_late.proofs.Choices.{and_left, and_right, and_both, eq_sym, no_both, cases_bool}
+use Rattle.ttx_late.proofs.Tests.{and_left, and_right, and_both, eq_sym, no_both, cases_bool}
 use Rattle.ttx_late.proofs.Steps.{after_storing}
 
 -- a header of the magazine with another number

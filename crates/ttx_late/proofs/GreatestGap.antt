@@ -9,7 +9,7 @@ use Rattle.ttx_page.specs.Streams.{repeated, heads_page}
 use Rattle.ttx_page.specs.Laws.{EachSlotTurns, StreamsMove}
 use Rattle.ttx_page.specs.Followers.{IsFollowed}
 use Rattle.ttx_late.specs.Followed.{HoldsId, HoldsNoId, HeadsAt, IsFollowedIn, AllAreFollowed, AreFollowedWithin, IsGreatestGap, IsWidened}
-use Rattle.ttx_late.proofs.Choices.{no_both}
+use Rattle.ttx_late.proofs.Tests.{no_both}
 use Rattle.ttx_late.proofs.FollowersOfCycles.{slot_here, its_page, own_page, no_page, near_within}
 
 module _ (cycle : List (List ℕ)) (pages : List Page) where

@@ -5,7 +5,8 @@ use Rattle.std.specs.Io.KnownBytes.{Appends, Keeps}
 use Rattle.ttx_cycle.specs.Cycles.{slots_of}
 use Rattle.ttx_cycle.specs.declared.faults.CycleFault.TheVariants as cycle
 use Rattle.ttx_witness.specs.Certificates.{fields_of}
-use Rattle.ttx_certify.specs.CertifyingFiles.{ReadsInputs, IsRefused, WritesLine, CountsReads, CountsFiles}
+use Rattle.ttx_certify.specs.CertifyingFiles.{IsRefused, CountsFiles}
+use Rattle.ttx_certify.specs.FileSteps.{ReadsInputs, WritesLine, CountsReads}
 use Rattle.ttx_certify.specs.declared.faults.FilesFault.{FilesFault}
 use Rattle.ttx_certify.specs.declared.faults.FilesFault.TheVariants.{Cycle, Service, Certificate, Read, TooLong, Write, NoMemory}
 use Rattle.ttx_certify.specs.declared.faults.TextFile.TheVariants as text

@@ -1,11 +1,11 @@
-mod Choices
-mod Kept
+mod Tests
+mod KeptSlots
 mod Steps
 mod Gathering
 mod Showing
-mod Sent
-mod Shown
-mod Accepted
+mod FollowedReceptions
+mod RunsAreShown
+mod AcceptedIsShown
 mod FollowersOfCycles
 mod GreatestGap
 mod NeverFollowed

@@ -14,11 +14,11 @@ use Rattle.ttx_page.specs.Streams.{Stream, heads, heads_page, heads_matched}
 use Rattle.ttx_late.specs.LateReceivers.{LateMemory, selected_number, heads_number, must_show, LateRun}
 use Rattle.ttx_page.specs.Followers.{heads_another, IsNeverFollowed}
 use Rattle.ttx_late.specs.Laws.{NeverFollowedIsUnshown}
-use Rattle.ttx_late.proofs.Choices.{and_both, and_false_left, and_false_right, not_false, no_both, cases_bool}
+use Rattle.ttx_late.proofs.Tests.{and_both, and_false_left, and_false_right, not_false, no_both, cases_bool}
 use Rattle.ttx_late.proofs.Steps.{after_quiet}
 use Rattle.ttx_late.proofs.Gathering.{number_heads, matched_number, step_storing}
-use Rattle.ttx_late.proofs.Sent.{cases_ltz, mag_is, number_is, AreOf, of_received}
-use Rattle.ttx_late.proofs.Shown.{page_heads}
+use Rattle.ttx_late.proofs.FollowedReceptions.{cases_ltz, mag_is, number_is, AreOf, of_received}
+use Rattle.ttx_late.proofs.RunsAreShown.{page_heads}
 
 -- the next header of the magazine, if it is received at all, has the selection's own number
 abbrev Stays : Selection → List (List ℕ) → Type 0

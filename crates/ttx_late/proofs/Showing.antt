@@ -10,7 +10,7 @@ use Rattle.ttx_page.specs.Streams.{heads_matched}
 use Rattle.ttx_render.specs.Laws.{ContentsDecide}
 use Rattle.ttx_certify.specs.Seen.{HasView}
 use Rattle.ttx_late.specs.LateReceivers.{LateMemory, heads_number, may_forget, must_show, MayShow, LateStep, LateRun}
-use Rattle.ttx_late.proofs.Choices.{and_both, and_false_left, and_false_right, not_false, no_both, cases_bool}
+use Rattle.ttx_late.proofs.Tests.{and_both, and_false_left, and_false_right, not_false, no_both, cases_bool}
 use Rattle.ttx_late.proofs.Steps.{Same, same_self, same_then, same_older, after_matched, after_stopped}
 use Rattle.ttx_late.proofs.Gathering.{Ends, AllEnd, matched_number, no_number, step_storing, kept_base}
 

@@ -7,7 +7,7 @@ use Rattle.std.specs.Prelude.{◌≡◌, ℕ, ◌<◌, List, length, take, Optio
 use Rattle.std.specs.Io.KnownBytes.{Appends, Keeps}
 use Rattle.ttx_source.specs.Services.{ServiceFields, pages_of}
 use Rattle.ttx_witness.specs.Entries.{CertificateFields, certificate_at}
-use Rattle.ttx_certify.specs.CertifyingFiles.{IsPacketFile, IsService, IsWitness, IsRefused}
+use Rattle.ttx_certify.specs.CertifyingFiles.{IsPacketFile, IsServiceText, IsCertificateText, IsRefused}
 use Rattle.ttx_certify.specs.declared.faults.FilesFault.{FilesFault}
 use Rattle.ttx_certify.specs.declared.faults.FilesFault.TheVariants.{Write}
 use Rattle.ttx_late.specs.LateVerdicts.{IsLateVerdict, MeansLate}
@@ -15,7 +15,8 @@ use Rattle.ttx_late.specs.LateVerdictLines.{late_verdict_line}
 use Rattle.ttx_late.specs.declared.verdict.LateVerdict.{LateVerdict}
 
 -- the verdict on a cycle, the pages of a service and a certificate, and its line
-pub record IsJudgedLate (slots : List (List ℕ)) (service : ServiceFields) (w : CertificateFields) (verdict : LateVerdict) (line : List ℕ) : Type 0 where
+pub record IsJudgedLate (slots : List (List ℕ)) (service : ServiceFields) (w : CertificateFields) (verdict : LateVerdict) (line : List ℕ)
+    : Type 0 where
   pub exact : IsLateVerdict slots (pages_of service) (certificate_at w) verdict
   pub seen : MeansLate slots (pages_of service) (certificate_at w) verdict
   pub line_is : line ≡ late_verdict_line w (length service.pages) verdict
@@ -26,8 +27,8 @@ pub record CertifiesLate (a b c : List ℕ) (verdict : LateVerdict) (line : List
   pub service : ServiceFields
   pub w : CertificateFields
   pub cycle_is : IsPacketFile a slots
-  pub service_is : IsService b service
-  pub certificate_is : IsWitness c w
+  pub service_is : IsServiceText b service
+  pub certificate_is : IsCertificateText c w
   pub judged : IsJudgedLate slots service w verdict line
 
 -- Ok: the line of the verdict went out. A write fault: its first `written` bytes. Else nothing, and why the inputs are refused.

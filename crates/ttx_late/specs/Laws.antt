@@ -38,7 +38,8 @@ RunsAreShown =
 
 abbrev pub FollowedIsWithin : Type 0
 FollowedIsWithin =
-    (cycle : List (List ℕ)) (page : Id) → 0 < length cycle → IsFollowedByAnother (repeated cycle) page → IsFollowedWithin (repeated cycle) page (length cycle)
+    (cycle : List (List ℕ)) (page : Id) → 0 < length cycle → IsFollowedByAnother (repeated cycle) page →
+    IsFollowedWithin (repeated cycle) page (length cycle)
 
 -- What is accepted, and followed, is shown late: the second sentence of the headline.
 abbrev pub AcceptedIsShown : Type 0
@@ -60,4 +61,5 @@ NeverFollowedIsUnshown =
 
 abbrev pub EachListRunsLate : Type 0
 EachListRunsLate =
-    (class : Class) (lines : ℕ) (sel : Selection) (d : LateMemory) (received : List (List ℕ)) → (new : LateMemory) × LateRun class lines sel d received new
+    (class : Class) (lines : ℕ) (sel : Selection) (d : LateMemory) (received : List (List ℕ)) →
+    (new : LateMemory) × LateRun class lines sel d received new

@@ -15,4 +15,5 @@ use Rattle.ttx_late.specs.LateReceivers.{LateMemory, LateRun}
 -- error rule that lasts to the deadline and `gap` slots more, and by whatever run: what the receiver shows has the page's View.
 pub record SeenLate (cycle : List (List ℕ)) (pages : List Page) (p : Page) (w : Certificate) (gap : ℕ) : Type 0 where
   pub shown : (sel : Selection) → Fits pages p sel → (tau : ℤ) (former d : LateMemory) (received : List (List ℕ)) → IsFormer w.class former.gathered →
-      Received (repeated cycle) p.id w.repeat tau received → limit w + gap ≤ length received → LateRun w.class w.lines sel former received d → HasView p d.shown
+      Received (repeated cycle) p.id w.repeat tau received → limit w + gap ≤ length received → LateRun w.class w.lines sel former received d →
+      HasView p d.shown

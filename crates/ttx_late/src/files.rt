@@ -41,7 +41,8 @@ fn line_of(
 
 // The verdict on what was read, and its line.
 fn judge(alloc: Global, inputs: &Inputs) -> Result<Told, FilesFault>
-    ensures judged { IfOk result (λ told. IsJudgedLate (slots_of inputs.now.cycle) inputs.now.service (fields_of inputs.now.certificate) told.verdict (string_bytes told.line)) }
+    ensures judged { IfOk result (λ told. IsJudgedLate (slots_of inputs.now.cycle) inputs.now.service (fields_of inputs.now.certificate)
+        told.verdict (string_bytes told.line)) }
     ensures memory { IfErr result (λ fault. fault ≡ FilesFault.NoMemory) }
 {
     let (service, certificate) = (&inputs.service, &inputs.certificate);
@@ -66,9 +67,11 @@ pub fn certify_files_late<A: Read, B: Read, C: Read, W: Write>(
     certificate: &mut Counted<C>,
     writer: &mut Counted<W>,
 ) -> Result<LateVerdict, FilesFault>
-    ensures bytes { IfSome (A.remaining (inner_of cycle.old)) (λ a. IfSome (B.remaining (inner_of service.old)) (λ b. IfSome (C.remaining (inner_of certificate.old))
-        (λ c. CertifiesFilesLate a b c (W.contents (inner_of writer.old)) (W.contents (inner_of writer.new)) result))) }
-    ensures faults { CountsFiles result (faults_of cycle.old) (faults_of cycle.new) (faults_of service.old) (faults_of service.new) (faults_of certificate.old) (faults_of certificate.new) (faults_of writer.old) (faults_of writer.new) }
+    ensures bytes { IfSome (A.remaining (inner_of cycle.old)) (λ a.
+        IfSome (B.remaining (inner_of service.old)) (λ b.
+        IfSome (C.remaining (inner_of certificate.old)) (λ c. CertifiesFilesLate a b c (W.contents (inner_of writer.old)) (W.contents (inner_of writer.new)) result))) }
+    ensures faults { CountsFiles result (faults_of cycle.old) (faults_of cycle.new) (faults_of service.old) (faults_of service.new)
+        (faults_of certificate.old) (faults_of certificate.new) (faults_of writer.old) (faults_of writer.new) }
 {
     let inputs = match read_inputs(alloc, cycle, service, certificate) {
         Ok(inputs) => inputs,

@@ -8,7 +8,8 @@ ghost use Rattle.ttx_page.specs.Views.{page_of};
 ghost use Rattle.ttx_page.specs.Pages as definitions;
 ghost use Rattle.ttx_cycle.specs.Cycles.{slots_of};
 ghost use Rattle.ttx_page.specs.Followers.{heads_another, IsFollowed, IsFollowedByAnother};
-ghost use Rattle.ttx_late.specs.Followed.{HoldsId, HoldsNoId, AllAreFollowed, IsFollowedIn, IsGap, IsGreatestGap, IsWidened, TellsUnfollowed, IsFirstUnshown};
+ghost use Rattle.ttx_late.specs.Followed.{HoldsId, HoldsNoId, AllAreFollowed, IsFollowedIn, IsGap, IsGreatestGap, IsWidened, TellsUnfollowed};
+ghost use Rattle.ttx_late.specs.Followed.{IsFirstUnshown};
 
 use crate::Unshown;
 use ttx_cycle::Cycle;
@@ -57,7 +58,8 @@ fn follower(slots: &[[u8; 42]], at: usize, page: PageId) -> Option<usize>
     requires most { length slots.now ≤ 65536 }
     requires slots { All IsSlot slots.now }
     requires here { heads_page page (packet_of (slice_index_or slots.now at [])) ≡ true }
-    ensures { MatchOption result (IsFollowed (repeated slots.now) page (pos at) → ⊥) (λ distance. IsFollowedIn (repeated slots.now) page at distance) }
+    ensures { MatchOption result (IsFollowed (repeated slots.now) page (pos at) → ⊥)
+        (λ distance. IsFollowedIn (repeated slots.now) page at distance) }
 {
     for step in 0..slots.len() {
         let slot = &slots[(at + 1 + step) % slots.len()];
@@ -138,7 +140,8 @@ fn place_of(pages: &[Page], id: PageId) -> Option<usize>
 /// The first slot at which a header of one of the pages isn't followed by another page number; `None` where all of them always are. It
 /// reads each slot at most ten times, and looks a page up only for a header that isn't followed.
 pub fn first_unshown(cycle: &Cycle, pages: &[Page]) -> Option<Unshown>
-    ensures { MatchOption result (AllAreFollowed (slots_of cycle.now) (map page_of pages.now)) (IsFirstUnshown (slots_of cycle.now) (map page_of pages.now)) }
+    ensures { MatchOption result (AllAreFollowed (slots_of cycle.now) (map page_of pages.now))
+        (IsFirstUnshown (slots_of cycle.now) (map page_of pages.now)) }
 {
     ttx_page::laws::each_slot_turns();
     ttx_page::laws::streams_move();

@@ -17,18 +17,18 @@ use Rattle.ttx_plan.specs.declared.packet.Packet.{Packet}
 use Rattle.ttx_plan.specs.declared.packet.Slot.{Slot}
 use Rattle.ttx_plan.specs.declared.packet.Slot.TheVariants.{Empty, Info, Sent}
 use Rattle.ttx_plan.specs.Blocks.{Block, header_packet, rest_packet, page_packets, filler_of, packets_of, has_pages, used_to, used_queues, time_filling_packet, queue_packets}
-use Rattle.ttx_plan.specs.Carries.{magazines_for, block_at, blocks_of, sent_of}
-use Rattle.ttx_plan.specs.Contents.{header_of, row_of, links_of, is_sent_to, rows_to}
+use Rattle.ttx_plan.specs.Carries.{magazines_for, block_at, blocks_of, blocks_sent}
+use Rattle.ttx_plan.specs.Contents.{page_header_bytes, page_row_bytes, page_links_bytes, is_sent_to, sent_rows}
 use Rattle.ttx_plan.specs.Laws.{IsSaid}
 use Rattle.ttx_plan.specs.Serial.{serial_page, serial_block, serial_list, info_if, with_info, serial_slots}
-use Rattle.ttx_plan.specs.Turns.{KeepsTurns, sent_by, next_slot, chosen, sending, is_ready, next_of, turn_from, order, is_due, or_info, slot_after, missing, Magazines}
+use Rattle.ttx_plan.specs.Turns.{KeepsTurns, sent_by, next_slot, chosen, sending, is_ready, next_of, turn_from, order, is_info_due, or_info, slot_after, missing, Magazines}
 use Rattle.std.specs.List.{find}
 use Rattle.ttx_plan.proofs.InQueues.{queue_at_is}
 use Rattle.ttx_plan.proofs.Lists.{all_append, all_map, all_replicate, all_if, all_flat_map, all_get}
 use Rattle.ttx_plan.proofs.Owners.{slot_at}
 use Rattle.ttx_plan.proofs.SentBlocks.{order_all}
 use Rattle.ttx_plan.proofs.Readable.{LawsBelow, Reads, empty_slot, info_slot, header_slot, row_slot, links_slot}
-use Rattle.ttx_plan.proofs.Tracking.{IsFrom, turn_from_queues}
+use Rattle.ttx_plan.proofs.CursorsLookBack.{IsFrom, turn_from_queues}
 
 -- the packets of a block are read as what they are
 pub record IsReadable (pages : List Authored) (serial : Bool) (block : Block) : Type 0 where
@@ -39,10 +39,10 @@ pub record IsReadable (pages : List Authored) (serial : Bool) (block : Block) : 
 page_block : LawsBelow → (pages : List Authored) (serial : Bool) (class : Class) (index : ℕ) (authored : Authored) → slice_get pages index ≡ Some authored → IsAuthored serial authored → IsReadable pages serial (block_at class authored)
 page_block laws pages serial class index authored listed a = record {
   below = omega (arith, a.page.id.mag_from, a.page.id.mag_to);
-  header = header_slot laws pages serial (p.id.mag - 1) (header_packet (header_of p)) (fields_at p.id p.control (map odd_byte p.head) (replicate 8 32)) fields refl refl mag_is a.c11
+  header = header_slot laws pages serial (p.id.mag - 1) (header_packet (page_header_bytes p)) (fields_at p.id p.control (map odd_byte p.head) (replicate 8 32)) fields refl refl mag_is a.c11
       (λ text e. inr (record { index = index; authored = authored; listed = listed; id_is = refl; control_is = refl; text_is = e }));
-  rest = all_append R (rows_to class p 24) (cond (is_sent_to class p TheLinks) (links_of p ∷ []) []) (rows 24 (omega arith))
-      (all_if R (is_sent_to class p TheLinks) (links_of p) (λ _. links_slot laws pages serial (p.id.mag - 1) (rest_packet (links_of p)) p.id.mag (links_at p.links.six p.links.show24 p.crc) a.page.id.mag_from a.page.id.mag_to refl refl mag_is));
+  rest = all_append R (sent_rows class p 24) (cond (is_sent_to class p TheLinks) (page_links_bytes p ∷ []) []) (rows 24 (omega arith))
+      (all_if R (is_sent_to class p TheLinks) (page_links_bytes p) (λ _. links_slot laws pages serial (p.id.mag - 1) (rest_packet (page_links_bytes p)) p.id.mag (links_at p.links.six p.links.show24 p.crc) a.page.id.mag_from a.page.id.mag_to refl refl mag_is));
 }
   where
     p : Page
@@ -57,12 +57,12 @@ page_block laws pages serial class index authored listed a = record {
     fields : IsHeaderFields (fields_at authored.page.id authored.page.control (map odd_byte authored.page.head) (replicate 8 32))
     fields = record { id = a.page.id; control = a.page.control; text = length-map authored.page.head odd_byte ∙ a.page.head_length; clock = refl }
 
-    rows : (n : ℕ) → n ≤ 24 → AllByRecursion (λ bytes. Reads pages serial (Sent (authored.page.id.mag - 1) (rest_packet bytes))) (rows_to class authored.page n)
+    rows : (n : ℕ) → n ≤ 24 → AllByRecursion (λ bytes. Reads pages serial (Sent (authored.page.id.mag - 1) (rest_packet bytes))) (sent_rows class authored.page n)
     rows zero le = tt
-    rows (suc n) le = all_append (λ bytes. Reads pages serial (Sent (authored.page.id.mag - 1) (rest_packet bytes))) (rows_to class authored.page n)
-        (cond (is_sent_to class authored.page (TheRow (suc n))) (row_of authored.page (suc n) ∷ []) []) (rows n (omega arith))
-        (all_if (λ bytes. Reads pages serial (Sent (authored.page.id.mag - 1) (rest_packet bytes))) (is_sent_to class authored.page (TheRow (suc n))) (row_of authored.page (suc n))
-        (λ _. row_slot laws pages serial (authored.page.id.mag - 1) (rest_packet (row_of authored.page (suc n))) authored.page.id.mag (suc n) (map odd_byte (page_row authored.page (suc n)))
+    rows (suc n) le = all_append (λ bytes. Reads pages serial (Sent (authored.page.id.mag - 1) (rest_packet bytes))) (sent_rows class authored.page n)
+        (cond (is_sent_to class authored.page (TheRow (suc n))) (page_row_bytes authored.page (suc n) ∷ []) []) (rows n (omega arith))
+        (all_if (λ bytes. Reads pages serial (Sent (authored.page.id.mag - 1) (rest_packet bytes))) (is_sent_to class authored.page (TheRow (suc n))) (page_row_bytes authored.page (suc n))
+        (λ _. row_slot laws pages serial (authored.page.id.mag - 1) (rest_packet (page_row_bytes authored.page (suc n))) authored.page.id.mag (suc n) (map odd_byte (page_row authored.page (suc n)))
         a.page.id.mag_from a.page.id.mag_to (omega arith) le refl refl mag_is))
 
 page_blocks : LawsBelow → (pages : List Authored) (serial : Bool) (class : Class) (some : List Authored) (at : ℕ) → ((k : ℕ) (p : Authored) → slice_get some k ≡ Some p → slice_get pages (at + k) ≡ Some p) → All (IsAuthored serial) some →
@@ -76,7 +76,7 @@ page_blocks laws pages serial class (p ∷ some) at listed a =
     )
 
 -- the blocks that are sent
-pub sent_read : LawsBelow → (serial late : Bool) (class : Class) (pages : List Authored) → All (IsAuthored serial) pages → AllByRecursion (IsReadable pages serial) (sent_of late class pages)
+pub sent_read : LawsBelow → (serial late : Bool) (class : Class) (pages : List Authored) → All (IsAuthored serial) pages → AllByRecursion (IsReadable pages serial) (blocks_sent late class pages)
 sent_read laws serial late class pages a = order_all (IsReadable pages serial) (λ filler b r. record { below = r.below; header = r.header; rest = r.rest }) late (blocks_of class pages) (page_blocks laws pages serial class pages 0 (λ k p e. let z : 0 + k ≡ k = omega arith in ap (slice_get pages) z ∙ e) a)
 
 filling_slot : LawsBelow → (pages : List Authored) (serial : Bool) (queue : ℕ) → queue < 8 → Reads pages serial (Sent queue (time_filling_packet serial queue))
@@ -117,8 +117,8 @@ info_read laws pages serial (Some info) said bytes e =
 with_info_read : (pages : List Authored) (lines : ℕ) (info : Option (List ℕ)) → ((bytes : List ℕ) → info ≡ Some bytes → Reads pages true (Info bytes)) → (at : ℕ) (list : List Slot) → AllByRecursion (Reads pages true) list → AllByRecursion (Reads pages true) (with_info lines info at list)
 with_info_read pages lines info i at [] a = tt
 with_info_read pages lines info i at (slot ∷ rest) a =
-    all_append (Reads pages true) (info_if info (is_due lines at)) (slot ∷ with_info lines info (at + length (info_if info (is_due lines at)) + 1) rest) (due info (is_due lines at) i)
-    (a.0, with_info_read pages lines info i (at + length (info_if info (is_due lines at)) + 1) rest a.1)
+    all_append (Reads pages true) (info_if info (is_info_due lines at)) (slot ∷ with_info lines info (at + length (info_if info (is_info_due lines at)) + 1) rest) (due info (is_info_due lines at) i)
+    (a.0, with_info_read pages lines info i (at + length (info_if info (is_info_due lines at)) + 1) rest a.1)
   where
     due : (o : Option (List ℕ)) (b : Bool) → ((bytes : List ℕ) → o ≡ Some bytes → Reads pages true (Info bytes)) → AllByRecursion (Reads pages true) (info_if o b)
     due None b i = tt
@@ -126,9 +126,9 @@ with_info_read pages lines info i at (slot ∷ rest) a =
     due (Some bytes) false i = tt
 
 pub serial_read : LawsBelow → (lines : ℕ) (info : Option InfoFields) (late : Bool) (class : Class) (pages : List Authored) → IsSaid info → All (IsAuthored true) pages →
-    AllByRecursion (Reads pages true) (serial_slots lines (option_map info_bytes info) (sent_of late class pages))
+    AllByRecursion (Reads pages true) (serial_slots lines (option_map info_bytes info) (blocks_sent late class pages))
 serial_read laws lines info late class pages said a =
-    let blocks = sent_of late class pages in
+    let blocks = blocks_sent late class pages in
     let list : AllByRecursion (Reads pages true) (serial_list lines blocks) = all_append (Reads pages true) (flat_map (serial_block lines) blocks) (map (λ queue. Sent queue (time_filling_packet true queue)) (used_queues blocks))
     (all_flat_map (Reads pages true) (IsReadable pages true) (serial_block lines) (block_read laws pages lines) blocks (sent_read laws true late class pages a))
     (fillings_read laws pages (used_queues blocks) (used_below blocks 8 (omega arith))) in
@@ -147,16 +147,16 @@ in_queue_read laws pages queue block b = elim (cases_Bool (eqb block.queue queue
   | inr y ↦ subst (AllByRecursion (λ packet. Reads pages false (Sent queue packet))) (sym (cond-false (eqb block.queue queue) (packets_of false block) [] y)) tt
 ]
 
-queue_read : LawsBelow → (late : Bool) (class : Class) (pages : List Authored) → All (IsAuthored false) pages → (queue : ℕ) → queue < 8 → AllByRecursion (λ packet. Reads pages false (Sent queue packet)) (queue_packets false (sent_of late class pages) queue)
+queue_read : LawsBelow → (late : Bool) (class : Class) (pages : List Authored) → All (IsAuthored false) pages → (queue : ℕ) → queue < 8 → AllByRecursion (λ packet. Reads pages false (Sent queue packet)) (queue_packets false (blocks_sent late class pages) queue)
 queue_read laws late class pages a queue lt =
-    let blocks = sent_of late class pages in
+    let blocks = blocks_sent late class pages in
     all_append (λ packet. Reads pages false (Sent queue packet)) (flat_map (λ block. cond (eqb block.queue queue) (packets_of false block) []) blocks) (cond (has_pages blocks queue) (time_filling_packet false queue ∷ []) [])
     (all_flat_map (λ packet. Reads pages false (Sent queue packet)) (IsReadable pages false) (λ block. cond (eqb block.queue queue) (packets_of false block) []) (in_queue_read laws pages queue) blocks (sent_read laws false late class pages a))
     (all_if (λ packet. Reads pages false (Sent queue packet)) (has_pages blocks queue) (time_filling_packet false queue) (λ _. filling_slot laws pages false queue lt))
 
 -- packet 8/30 is what the magazines have
 info_from : (mags : Magazines) (before : List Slot) (bytes : List ℕ) → Info bytes ≡ slot_after mags before → mags.info ≡ Some bytes
-info_from mags before bytes e = at_info mags.info (is_due mags.lines (length before)) e
+info_from mags before bytes e = at_info mags.info (is_info_due mags.lines (length before)) e
   where
     at_next : (m : ℕ) (o : Option Packet) → Info bytes ≡ sending m o → ⊥
     at_next m None e = cc
@@ -172,18 +172,18 @@ info_from mags before bytes e = at_info mags.info (is_due mags.lines (length bef
     at_info (Some b) true e = let f : Info bytes ≡ Info b = e in let g : b ≡ bytes = cc in ap Some g
 
 pub parallel_read : LawsBelow → (lines : ℕ) (info : Option InfoFields) (late : Bool) (class : Class) (pages : List Authored) → IsSaid info → All (IsAuthored false) pages →
-    (before : List Slot) → KeepsTurns (magazines_for lines (option_map info_bytes info) (sent_of late class pages)) before → AllByRecursion (Reads pages false) before
+    (before : List Slot) → KeepsTurns (magazines_for lines (option_map info_bytes info) (blocks_sent late class pages)) before → AllByRecursion (Reads pages false) before
 parallel_read laws lines info late class pages said a [] t = tt
 parallel_read laws lines info late class pages said a (slot ∷ before) t = (one slot t.0, parallel_read laws lines info late class pages said a before t.1)
   where
-    one : (x : Slot) → x ≡ slot_after (magazines_for lines (option_map info_bytes info) (sent_of late class pages)) before → Reads pages false x
+    one : (x : Slot) → x ≡ slot_after (magazines_for lines (option_map info_bytes info) (blocks_sent late class pages)) before → Reads pages false x
     one Empty e = empty_slot laws pages false
-    one (Info bytes) e = info_read laws pages false info said bytes (info_from (magazines_for lines (option_map info_bytes info) (sent_of late class pages)) before bytes e)
+    one (Info bytes) e = info_read laws pages false info said bytes (info_from (magazines_for lines (option_map info_bytes info) (blocks_sent late class pages)) before bytes e)
     one (Sent queue packet) e =
-        let mags = magazines_for lines (option_map info_bytes info) (sent_of late class pages) in
+        let mags = magazines_for lines (option_map info_bytes info) (blocks_sent late class pages) in
         let from : IsFrom mags before (Sent queue packet) = subst (IsFrom mags before) (sym e) (turn_from_queues mags before) in
-        let next : slice_get (queue_packets false (sent_of late class pages) queue) (sent_by queue before) ≡ Some packet = subst (λ x. slice_get x (sent_by queue before) ≡ Some packet) (queue_at_is (sent_of late class pages) queue from.0) from.1 in
-        all_get (λ p. Reads pages false (Sent queue p)) (queue_packets false (sent_of late class pages) queue) (sent_by queue before) packet (queue_read laws late class pages a queue from.0) next
+        let next : slice_get (queue_packets false (blocks_sent late class pages) queue) (sent_by queue before) ≡ Some packet = subst (λ x. slice_get x (sent_by queue before) ≡ Some packet) (queue_at_is (blocks_sent late class pages) queue from.0) from.1 in
+        all_get (λ p. Reads pages false (Sent queue p)) (queue_packets false (blocks_sent late class pages) queue) (sent_by queue before) packet (queue_read laws late class pages a queue from.0) next
 
 -- the slot at each place
 pub read_at : LawsBelow → (pages : List Authored) (serial : Bool) (before : List Slot) → AllByRecursion (Reads pages serial) before → (i : ℕ) → Reads pages serial (slot_at before i)

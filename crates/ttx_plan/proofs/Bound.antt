@@ -8,12 +8,12 @@ use Rattle.ttx_plan.specs.declared.packet.Packet.{Packet}
 use Rattle.ttx_plan.specs.declared.packet.Slot.{Slot}
 use Rattle.ttx_plan.specs.declared.packet.Slot.TheVariants.{Empty, Info, Sent}
 use Rattle.ttx_plan.specs.Packets.{has_header, is_page_header, is_row_or_links, sent_bytes, bytes_of}
-use Rattle.ttx_plan.specs.Turns.{Magazines, queue_of, sent_by, turn_from, order, next_of, waits, may_go, is_ready, sending, chosen, next_slot, is_due, or_info, slot_after, KeepsTurns}
+use Rattle.ttx_plan.specs.Turns.{Magazines, queue_of, sent_by, turn_from, order, next_of, waits, may_go, is_ready, sending, chosen, next_slot, is_info_due, or_info, slot_after, KeepsTurns}
 use Rattle.ttx_plan.specs.Counting.{sum_to, slots_for, left_in}
-use Rattle.ttx_plan.proofs.Waiting.{until, recent_until, until_more}
+use Rattle.ttx_plan.proofs.WaitingMagazines.{until, recent_until, until_more}
 use Rattle.ttx_plan.proofs.Orders.{found_ready, none_ready}
 use Rattle.ttx_plan.proofs.Sums.{sum_le, sum_less, sum_some, drop_next, get_left, get_within}
-use Rattle.ttx_plan.proofs.Tracking.{IsFrom, turn_from_queues}
+use Rattle.ttx_plan.proofs.CursorsLookBack.{IsFrom, turn_from_queues}
 
 -- a header that has_header a block of any magazine
 abbrev pub has_any_header : Slot → Bool
@@ -73,7 +73,7 @@ next_no_info mags before b h = at (find (is_ready mags before) (order (turn_from
 
 info_at : (mags : Magazines) (before : List Slot) (bytes : List ℕ) → Info bytes ≡ slot_after mags before → length before % (50 * mags.lines) ≡ 0
 info_at mags before bytes h =
-    eqb-true (length before % (50 * mags.lines)) 0 (info_due mags.info (is_due mags.lines (length before)) (next_slot mags before) bytes (next_no_info mags before) h)
+    eqb-true (length before % (50 * mags.lines)) 0 (info_due mags.info (is_info_due mags.lines (length before)) (next_slot mags before) bytes (next_no_info mags before) h)
 
 not_both : (n every : ℕ) → 50 ≤ every → n % every ≡ 0 → suc n % every ≡ 0 → ⊥
 not_both n every big a b =
@@ -142,7 +142,7 @@ empty_waits : (mags : Magazines) (before : List Slot) → turn_from before ≤ 8
 empty_waits mags before most h some =
     let r = sum_some (λ m. length (left_in mags before m)) 8 some in
     let x = get_left (queue_of mags r.0) (sent_by r.0 before) r.2 in
-    let off : is_ready mags before r.0 ≡ false = none_ready (is_ready mags before) (turn_from before) most (none_found mags.info (is_due mags.lines (length before)) h) r.0 r.1 in
+    let off : is_ready mags before r.0 ≡ false = none_ready (is_ready mags before) (turn_from before) most (none_found mags.info (is_info_due mags.lines (length before)) h) r.0 r.1 in
     let off' : not (waits mags r.0 before x.0) ≡ false = ap (may_go mags r.0 before) (sym x.1) ∙ off in
     let on : waits mags r.0 before x.0 ≡ true = not-false (waits mags r.0 before x.0) off' in
     let recent : list_any (has_header r.0) (take mags.lines before) ≡ true = (and_parts (is_row_or_links x.0.kind) (list_any (has_header r.0) (take mags.lines before)) on).1 in

@@ -7,9 +7,9 @@ use Rattle.ttx_plan.specs.declared.packet.Slot.{Slot}
 use Rattle.ttx_plan.specs.declared.packet.Slot.TheVariants.{Empty, Sent}
 use Rattle.ttx_plan.specs.Blocks.{Block, rest_packet, filler_of, used_queues, time_filling_packet}
 use Rattle.ttx_plan.specs.Serial.{serial_page, serial_block, serial_list, info_if, with_info, serial_slots}
-use Rattle.ttx_plan.specs.Turns.{is_due, missing}
+use Rattle.ttx_plan.specs.Turns.{is_info_due, missing}
 use Rattle.ttx_plan.proofs.InQueues.{head_of}
-use Rattle.ttx_plan.proofs.Laid.{with_info_append}
+use Rattle.ttx_plan.proofs.LaidSlots.{with_info_append}
 use Rattle.ttx_plan.proofs.Lists.{all_append, all_replicate}
 use Rattle.ttx_plan.proofs.Owners.{heads}
 
@@ -64,13 +64,13 @@ holds_more block bytes xs slots ys h = record {
 
 module _ (lines : ℕ) (info : Option (List ℕ)) where
   abbrev due_at : ℕ → List Slot
-  due_at at = info_if info (is_due lines at)
+  due_at at = info_if info (is_info_due lines at)
 
   abbrev past : ℕ → ℕ
   past at = at + length (due_at at) + 1
 
   info_quiet : (queue at : ℕ) → AllByRecursion (λ slot. heads queue slot ≡ false) (due_at at)
-  info_quiet queue at = one info (is_due lines at)
+  info_quiet queue at = one info (is_info_due lines at)
     where
       one : (o : Option (List ℕ)) (due : Bool) → AllByRecursion (λ slot. heads queue slot ≡ false) (info_if o due)
       one None due = tt

@@ -10,7 +10,7 @@ use Rattle.ttx_plan.specs.Blocks.{Block, header_packet, rest_packet, filler_of, 
 use Rattle.ttx_plan.specs.Packets.{is_page_header, is_row_or_links}
 use Rattle.ttx_plan.specs.Turns.{queue_of, sent_by, slot_after, KeepsTurns}
 use Rattle.ttx_plan.specs.Carries.{magazines_for}
-use Rattle.ttx_plan.proofs.Tracking.{IsFrom, turn_from_queues}
+use Rattle.ttx_plan.proofs.CursorsLookBack.{IsFrom, turn_from_queues}
 use Rattle.ttx_plan.proofs.Owners.{last_header, packets_by, in_order, aged, heads, slot_at, IsLatest, owner_is}
 
 abbrev pub head_of : Block → Packet

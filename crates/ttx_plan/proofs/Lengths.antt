@@ -12,10 +12,10 @@ use Rattle.ttx_plan.specs.Blocks.{Block, rest_packet, filler_of, page_packets, p
 use Rattle.ttx_plan.specs.Counting.{sum_to, slots_for}
 use Rattle.ttx_plan.specs.Packets.{bytes_of}
 use Rattle.ttx_plan.specs.Seen.{seen_sent}
-use Rattle.ttx_plan.specs.Serial.{serial_page, serial_block, serial_list, with_info, IsLaid, filled}
+use Rattle.ttx_plan.specs.Serial.{serial_page, serial_block, serial_list, with_info, IsLaid, to_whole_field}
 use Rattle.ttx_plan.specs.Turns.{missing}
 use Rattle.ttx_plan.proofs.Sums.{sum_same, sum_less}
-use Rattle.ttx_plan.proofs.Laid.{laid_length, laid_least}
+use Rattle.ttx_plan.proofs.LaidSlots.{laid_length, laid_least}
 
 -- ---- each block belongs to one of the eight queues
 
@@ -127,7 +127,7 @@ empties (suc n) = ap (λ x. replicate 42 0 ∷ x) (empties n)
 
 -- laid slots, filled
 pub serial_filled : (lines : ℕ) (info : Option (List ℕ)) (list : List Slot) (slots new : List (List ℕ)) → IsLaid lines info list slots → new ≡ slots ++ replicate (missing lines (length slots)) (replicate 42 0) →
-    new ≡ map bytes_of (filled lines (with_info lines info 0 list))
+    new ≡ map bytes_of (to_whole_field lines (with_info lines info 0 list))
 serial_filled lines info list slots new l e =
     let n : length slots ≡ length (with_info lines info 0 list) = ap length l.slots_are ∙ length-map (with_info lines info 0 list) bytes_of in
     e ∙ ap (λ x. x ++ replicate (missing lines (length slots)) (replicate 42 0)) l.slots_are

@@ -10,7 +10,7 @@ use Rattle.ttx_plan.specs.declared.packet.Slot.TheVariants.{Empty, Info, Sent}
 use Rattle.ttx_plan.specs.Blocks.{Block, header_packet, rest_packet, filler_of, page_packets, packets_of, has_pages, used_to, used_queues, time_filling_packet, queue_packets}
 use Rattle.ttx_plan.specs.Packets.{is_row_or_links}
 use Rattle.ttx_plan.specs.Serial.{serial_page, serial_block, serial_list, info_if, with_info, serial_slots}
-use Rattle.ttx_plan.specs.Turns.{is_due, missing}
+use Rattle.ttx_plan.specs.Turns.{is_info_due, missing}
 use Rattle.ttx_plan.proofs.Alternating.{number, Leads, Alternates}
 use Rattle.ttx_plan.proofs.Owners.{heads}
 use Rattle.ttx_plan.proofs.SendingOrder.{of_queue}
@@ -38,9 +38,9 @@ queue_filled queue n slots = queue_append queue slots (replicate n Empty) ∙ ap
 queue_info : (queue lines : ℕ) (info : Option (List ℕ)) (at : ℕ) (slots : List Slot) → of_queue queue (with_info lines info at slots) ≡ of_queue queue slots
 queue_info queue lines info at [] = refl
 queue_info queue lines info at (slot ∷ slots) =
-    let first = info_if info (is_due lines at) in
+    let first = info_if info (is_info_due lines at) in
     queue_append queue first (slot ∷ with_info lines info (at + length first + 1) slots)
-    ∙ ap (λ z. z ++ of_queue queue (slot ∷ with_info lines info (at + length first + 1) slots)) (none info (is_due lines at))
+    ∙ ap (λ z. z ++ of_queue queue (slot ∷ with_info lines info (at + length first + 1) slots)) (none info (is_info_due lines at))
     ∙ queue_append queue (slot ∷ []) (with_info lines info (at + length first + 1) slots)
     ∙ ap (λ z. of_queue queue (slot ∷ []) ++ z) (queue_info queue lines info (at + length first + 1) slots)
     ∙ sym (queue_append queue (slot ∷ []) slots)

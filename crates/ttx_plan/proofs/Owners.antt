@@ -6,10 +6,10 @@ use Rattle.ttx_plan.specs.declared.packet.Packet.{Packet}
 use Rattle.ttx_plan.specs.declared.packet.Slot.{Slot}
 use Rattle.ttx_plan.specs.declared.packet.Slot.TheVariants.{Empty, Info, Sent}
 use Rattle.ttx_plan.specs.Packets.{has_header, is_page_header, is_row_or_links}
-use Rattle.ttx_plan.specs.Turns.{Magazines, queue_of, sent_by, turn_from, order, next_of, waits, may_go, is_ready, sending, chosen, next_slot, is_due, or_info, slot_after, KeepsTurns}
-use Rattle.ttx_plan.proofs.Listed.{take_next}
+use Rattle.ttx_plan.specs.Turns.{Magazines, queue_of, sent_by, turn_from, order, next_of, waits, may_go, is_ready, sending, chosen, next_slot, is_info_due, or_info, slot_after, KeepsTurns}
+use Rattle.ttx_plan.proofs.ServicePages.{take_next}
 use Rattle.ttx_plan.proofs.Orders.{found_ready}
-use Rattle.ttx_plan.proofs.Tracking.{IsFrom, turn_from_queues}
+use Rattle.ttx_plan.proofs.CursorsLookBack.{IsFrom, turn_from_queues}
 
 -- the packets of a magazine in the order of sending
 abbrev pub packets_by : ℕ → List Slot → List Packet
@@ -38,7 +38,7 @@ in_order mags (Sent mag packet ∷ before) t m =
 
 -- a row or X/27/0 is sent only where no block of its magazine was opened in the last field
 pub aged : (mags : Magazines) (before : List Slot) (mag : ℕ) (packet : Packet) → Sent mag packet ≡ slot_after mags before → is_row_or_links packet.kind ≡ true → list_any (has_header mag) (take mags.lines before) ≡ false
-aged mags before mag packet h late = at_info mags.info (is_due mags.lines (length before)) h
+aged mags before mag packet h late = at_info mags.info (is_info_due mags.lines (length before)) h
   where
     at_next : (m : ℕ) (o : Option Packet) → next_of mags m before ≡ o → is_ready mags before m ≡ true → Sent mag packet ≡ sending m o → list_any (has_header mag) (take mags.lines before) ≡ false
     at_next m None e ready s = cc

@@ -9,7 +9,7 @@ use Rattle.ttx_page.specs.Laws.{BlankIsTested, SteadySendsItsOwn}
 use Rattle.ttx_page.specs.PageLinks.{HasLinks}
 use Rattle.ttx_page.specs.Pages.{Page, IsPage, IsBlank, needed, is_blank}
 use Rattle.ttx_source.specs.Services.{ServiceFields, pages_of}
-use Rattle.ttx_plan.specs.Acceptance.{IsPlanned, IsTransmitted, PlannedIsAccepted, IsFound, PlannedIsFound}
+use Rattle.ttx_plan.specs.Acceptance.{IsPlanned, IsTransmitted, PlannedIsAccepted, IsLeastFound, PlannedIsFound}
 use Rattle.ttx_plan.specs.Contents.{is_sent_to}
 use Rattle.ttx_witness.specs.finding.Finding.{CanBeAccepted, IsLeastDeadline}
 use Rattle.ttx_witness.specs.laws.SureItems.{HasSureStart, AllSureHaveStarts, SureItemsAreAccepted}
@@ -63,6 +63,6 @@ module _ (laws : LawsBelow) (written : WrittenLinksAreRead) (own : SteadySendsIt
           (subst (λ x. CanBeAccepted cycle (pages_of service) class x w.repeat 1000000) (sym f.same_lines)
           (subst (λ x. CanBeAccepted cycle (pages_of service) class service.lines x 1000000) (sym f.same_repeat) (planned_is_accepted late class service cycle c repeat one eight)))
 
-      by : (answer : Option ℕ) → IsLeastDeadline cycle (pages_of service) w answer → IsFound cycle (pages_of service) w answer
+      by : (answer : Option ℕ) → IsLeastDeadline cycle (pages_of service) w answer → IsLeastFound cycle (pages_of service) w answer
       by None l = absurd (l.1 1000000 can)
       by (Some d) l = record { deadline = d; is = refl; same = l.0; accepted = l.1; least = l.2 }

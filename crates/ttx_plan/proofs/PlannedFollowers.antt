@@ -20,13 +20,13 @@ use Rattle.ttx_plan.specs.declared.packet.Slot.{Slot}
 use Rattle.ttx_plan.specs.declared.packet.Slot.TheVariants.{Empty, Info, Sent}
 use Rattle.ttx_plan.specs.Acceptance.{IsPlanned}
 use Rattle.ttx_plan.specs.Blocks.{Block, rounds_to, has_pages}
-use Rattle.ttx_plan.specs.Carries.{blocks_of, sent_of}
+use Rattle.ttx_plan.specs.Carries.{blocks_of, blocks_sent}
 use Rattle.ttx_plan.specs.Following.{PlannedIsFollowed}
 use Rattle.ttx_plan.specs.Packets.{is_row_or_links, bytes_of}
 use Rattle.ttx_plan.proofs.Alternating.{number_in, number, Alternates, IsNumbered, header_number, alternates}
 use Rattle.ttx_plan.proofs.NextHeaders.{HasAfter, has_after}
 use Rattle.ttx_plan.proofs.Owners.{heads}
-use Rattle.ttx_plan.proofs.Placed.{between}
+use Rattle.ttx_plan.proofs.SurePlaces.{between}
 use Rattle.ttx_plan.proofs.PlannedSlots.{IsLaidOut, laid_out}
 use Rattle.ttx_plan.proofs.Readable.{LawsBelow}
 use Rattle.ttx_plan.proofs.SendingOrder.{of_queue}
@@ -57,7 +57,7 @@ queue_alternates : LawsBelow → (serial : Bool) (class : Class) (pages : List A
     (queue : ℕ) → queue < 8 → Alternates (of_queue queue l.slots)
 queue_alternates laws serial class pages a cycle l queue lt =
     let blocks = blocks_of class pages in
-    let sent = sent_of true class pages in
+    let sent = blocks_sent true class pages in
     let used : AllByRecursion (λ b. has_pages sent b.queue ≡ true) blocks = have_own sent blocks (λ q e. same_queues true blocks q ∙ e) in
     subst Alternates (sym (l.in_queue queue lt))
     (alternates laws serial sent queue lt [] (rounds_to blocks 8) (rounds_all (IsNumbered sent) blocks 8 (numbered laws serial class pages a sent used)))

@@ -12,8 +12,8 @@ use Rattle.ttx_source.specs.Services.{Authored, IsAuthored}
 use Rattle.ttx_plan.specs.declared.packet.Slot.{Slot}
 use Rattle.ttx_plan.specs.declared.packet.Slot.TheVariants.{Empty}
 use Rattle.ttx_plan.specs.Blocks.{Block, led, round_of, rounds_to, queue_packets}
-use Rattle.ttx_plan.specs.Carries.{CarriesBlocks, block_at, blocks_of, sent_of}
-use Rattle.ttx_plan.specs.Contents.{row_of, links_of, is_sent_to, rows_to, rest_of}
+use Rattle.ttx_plan.specs.Carries.{CarriesBlocks, block_at, blocks_of, blocks_sent}
+use Rattle.ttx_plan.specs.Contents.{page_row_bytes, page_links_bytes, is_sent_to, sent_rows, rest_of}
 use Rattle.ttx_plan.specs.Laws.{IsSaid}
 use Rattle.ttx_plan.specs.Packets.{bytes_of}
 use Rattle.ttx_plan.specs.Seen.{seen_sent}
@@ -33,7 +33,7 @@ pub record IsLaidOut (pages : List Authored) (serial late : Bool) (class : Class
   pub slots : List Slot
   pub cycle_is : cycle ≡ map bytes_of slots
   pub reads : (i : ℕ) → Reads pages serial (get_or slots i Empty)
-  pub in_queue : (queue : ℕ) → queue < 8 → of_queue queue slots ≡ queue_packets serial (sent_of late class pages) queue
+  pub in_queue : (queue : ℕ) → queue < 8 → of_queue queue slots ≡ queue_packets serial (blocks_sent late class pages) queue
   pub head : (i : ℕ) (authored : Authored) → slice_get pages i ≡ Some authored → HoldsHead (block_at class authored) slots
   pub holds : (i : ℕ) (authored : Authored) → slice_get pages i ≡ Some authored → (bytes : List ℕ) → Splits bytes (rest_of class authored.page) → Holds (block_at class authored) bytes slots
 
@@ -47,9 +47,9 @@ queues_below class serial (p ∷ pages) a =
     let high = first.page.id.mag_to in
     (omega arith, queues_below class serial pages (λ k d lt. a (suc k) d (omega arith)))
 
-queue_below : (late : Bool) (class : Class) (serial : Bool) (pages : List Authored) → All (IsAuthored serial) pages → (k : ℕ) (block : Block) → slice_get (sent_of late class pages) k ≡ Some block → block.queue < 8
+queue_below : (late : Bool) (class : Class) (serial : Bool) (pages : List Authored) → All (IsAuthored serial) pages → (k : ℕ) (block : Block) → slice_get (blocks_sent late class pages) k ≡ Some block → block.queue < 8
 queue_below late class serial pages a k block e =
-    all_get (λ b. b.queue < 8) (sent_of late class pages) k block (order_all (λ b. b.queue < 8) (λ filler b lt. lt) late (blocks_of class pages) (queues_below class serial pages a)) e
+    all_get (λ b. b.queue < 8) (blocks_sent late class pages) k block (order_all (λ b. b.queue < 8) (λ filler b lt. lt) late (blocks_of class pages) (queues_below class serial pages a)) e
 
 -- ---- each page has a block among those that are sent
 
@@ -67,16 +67,16 @@ in_rounds : (blocks : List Block) (n k : ℕ) (block : Block) → slice_get bloc
 in_rounds blocks zero k block e = ap (λ z. slice_get z k) (first_round blocks) ∙ e
 in_rounds blocks (suc n) k block e = get_left (rounds_to blocks (suc n)) (round_of blocks (suc n)) k block (in_rounds blocks n k block e)
 
-pub sent_block : (late : Bool) (class : Class) (pages : List Authored) (i : ℕ) (authored : Authored) → slice_get pages i ≡ Some authored → (filler : Bool) × (slice_get (sent_of late class pages) i ≡ Some (led filler (block_at class authored)))
+pub sent_block : (late : Bool) (class : Class) (pages : List Authored) (i : ℕ) (authored : Authored) → slice_get pages i ≡ Some authored → (filler : Bool) × (slice_get (blocks_sent late class pages) i ≡ Some (led filler (block_at class authored)))
 sent_block late class pages i authored e =
     let blocks = blocks_of class pages in
     led_get late [] (rounds_to blocks 8) i (block_at class authored) (in_rounds blocks 7 i (block_at class authored) (get_map (block_at class) pages i authored e))
 
 -- a service with pages has a block that is sent
-pub some_sent : (late : Bool) (class : Class) (pages : List Authored) (sent : List SentBlock) → map seen_sent sent ≡ sent_of late class pages → (pages ≡ [] → ⊥) → 0 < length sent
+pub some_sent : (late : Bool) (class : Class) (pages : List Authored) (sent : List SentBlock) → map seen_sent sent ≡ blocks_sent late class pages → (pages ≡ [] → ⊥) → 0 < length sent
 some_sent late class [] sent e some = absurd (some refl)
 some_sent late class (p ∷ pages) sent e some =
-    let one = get_within (sent_of late class (p ∷ pages)) 0 _ (sent_block late class (p ∷ pages) 0 p refl).1 in
+    let one = get_within (blocks_sent late class (p ∷ pages)) 0 _ (sent_block late class (p ∷ pages) 0 p refl).1 in
     omega (arith, one, ap length e, length-map sent seen_sent)
 
 -- ---- the cycle
@@ -89,10 +89,10 @@ unled : (filler : Bool) (block : Block) (bytes : List ℕ) (slots : List Slot) �
 unled filler block bytes slots h = record { before = h.before; between = h.between; after = h.after; is = h.is; quiet = h.quiet }
 
 pub laid_out : LawsBelow → (serial : Bool) (lines : ℕ) (info : Option InfoFields) (late : Bool) (class : Class) (pages : List Authored) (cycle : List (List ℕ)) → IsSaid info → All (IsAuthored serial) pages →
-    CarriesBlocks serial lines (option_map info_bytes info) (sent_of late class pages) cycle → IsLaidOut pages serial late class cycle
+    CarriesBlocks serial lines (option_map info_bytes info) (blocks_sent late class pages) cycle → IsLaidOut pages serial late class cycle
 laid_out laws true lines info late class pages cycle said a carries =
     let sent = option_map info_bytes info in
-    let blocks = sent_of late class pages in
+    let blocks = blocks_sent late class pages in
     let slots = serial_slots lines sent blocks in
     record {
       slots = serial_slots lines sent blocks;
@@ -104,7 +104,7 @@ laid_out laws true lines info late class pages cycle said a carries =
     }
 laid_out laws false lines info late class pages cycle said a carries =
     let sent = option_map info_bytes info in
-    let blocks = sent_of late class pages in
+    let blocks = blocks_sent late class pages in
     let n = missing lines (length carries.before) in
     let slots = timed carries.before ++ replicate n Empty in
     record {
@@ -139,20 +139,20 @@ splits_right x xs ys s = record { before = xs ++ s.before; after = s.after; is =
 splits_if : {A : Type 0} (b : Bool) (x : A) → b ≡ true → Splits x (cond b (x ∷ []) [])
 splits_if b x e = record { before = []; after = []; is = cond-true b (x ∷ []) [] e }
 
-in_rows : (class : Class) (p : Page) (n r : ℕ) → 1 ≤ r → r ≤ n → is_sent_to class p (TheRow r) ≡ true → Splits (row_of p r) (rows_to class p n)
+in_rows : (class : Class) (p : Page) (n r : ℕ) → 1 ≤ r → r ≤ n → is_sent_to class p (TheRow r) ≡ true → Splits (page_row_bytes p r) (sent_rows class p n)
 in_rows class p zero r from to e = absurd (omega arith)
 in_rows class p (suc n) r from to e =
-    let last = cond (is_sent_to class p (TheRow (suc n))) (row_of p (suc n) ∷ []) [] in
-    elim (cases_lt r (suc n)) as (λ _. Splits (row_of p r) (rows_to class p n ++ last)) [
-      | inl lt ↦ splits_left (row_of p r) (rows_to class p n) last (in_rows class p n r from (omega arith) e)
+    let last = cond (is_sent_to class p (TheRow (suc n))) (page_row_bytes p (suc n) ∷ []) [] in
+    elim (cases_lt r (suc n)) as (λ _. Splits (page_row_bytes p r) (sent_rows class p n ++ last)) [
+      | inl lt ↦ splits_left (page_row_bytes p r) (sent_rows class p n) last (in_rows class p n r from (omega arith) e)
       | inr ge ↦
           let q : r ≡ suc n = omega arith in
-          splits_right (row_of p r) (rows_to class p n) last
-          (subst (λ x. Splits (row_of p x) last) (sym q) (splits_if (is_sent_to class p (TheRow (suc n))) (row_of p (suc n)) (ap (λ x. is_sent_to class p (TheRow x)) (sym q) ∙ e)))
+          splits_right (page_row_bytes p r) (sent_rows class p n) last
+          (subst (λ x. Splits (page_row_bytes p x) last) (sym q) (splits_if (is_sent_to class p (TheRow (suc n))) (page_row_bytes p (suc n)) (ap (λ x. is_sent_to class p (TheRow x)) (sym q) ∙ e)))
     ]
 
-pub row_in_rest : (class : Class) (p : Page) (r : ℕ) → 1 ≤ r → r ≤ 24 → is_sent_to class p (TheRow r) ≡ true → Splits (row_of p r) (rest_of class p)
-row_in_rest class p r from to e = splits_left (row_of p r) (rows_to class p 24) (cond (is_sent_to class p TheLinks) (links_of p ∷ []) []) (in_rows class p 24 r from to e)
+pub row_in_rest : (class : Class) (p : Page) (r : ℕ) → 1 ≤ r → r ≤ 24 → is_sent_to class p (TheRow r) ≡ true → Splits (page_row_bytes p r) (rest_of class p)
+row_in_rest class p r from to e = splits_left (page_row_bytes p r) (sent_rows class p 24) (cond (is_sent_to class p TheLinks) (page_links_bytes p ∷ []) []) (in_rows class p 24 r from to e)
 
-pub links_in_rest : (class : Class) (p : Page) → is_sent_to class p TheLinks ≡ true → Splits (links_of p) (rest_of class p)
-links_in_rest class p e = splits_right (links_of p) (rows_to class p 24) (cond (is_sent_to class p TheLinks) (links_of p ∷ []) []) (splits_if (is_sent_to class p TheLinks) (links_of p) e)
+pub links_in_rest : (class : Class) (p : Page) → is_sent_to class p TheLinks ≡ true → Splits (page_links_bytes p) (rest_of class p)
+links_in_rest class p e = splits_right (page_links_bytes p) (sent_rows class p 24) (cond (is_sent_to class p TheLinks) (page_links_bytes p ∷ []) []) (splits_if (is_sent_to class p TheLinks) (page_links_bytes p) e)

@@ -22,7 +22,7 @@ use Rattle.ttx_source.specs.Services.{Authored, IsAuthored}
 use Rattle.ttx_plan.specs.declared.packet.Slot.TheVariants.{Empty, Sent}
 use Rattle.ttx_plan.specs.Acceptance.{IsTransmitted, PlannedItemsAreSent}
 use Rattle.ttx_plan.specs.Carries.{block_at}
-use Rattle.ttx_plan.specs.Contents.{row_of, links_of, is_sent_to}
+use Rattle.ttx_plan.specs.Contents.{page_row_bytes, page_links_bytes, is_sent_to}
 use Rattle.ttx_plan.specs.Packets.{bytes_of}
 use Rattle.ttx_plan.proofs.HeldBlocks.{HoldsHead, HasPlace, has_place}
 use Rattle.ttx_plan.proofs.InQueues.{head_of}
@@ -112,24 +112,24 @@ module _ (laws : LawsBelow) (pages : List Authored) (serial late : Bool) (class 
     packet_there : (bytes : List ℕ) (h : HasPlace (block_at class authored) bytes l.slots) → repeated cycle (pos h.slot) ≡ bytes
     packet_there bytes h = at h.slot h.within ∙ ap bytes_of h.packet_at
 
-    row_sent : (r : ℕ) (h : HasPlace (block_at class authored) (row_of authored.page r) l.slots) → 1 ≤ r → r ≤ 24 → IsTransmission (repeated cycle) authored.page.id (TheRow r) (pos h.slot)
+    row_sent : (r : ℕ) (h : HasPlace (block_at class authored) (page_row_bytes authored.page r) l.slots) → 1 ≤ r → r ≤ 24 → IsTransmission (repeated cycle) authored.page.id (TheRow r) (pos h.slot)
     row_sent r h from to = record {
       owner = pos h.place;
       owned = (
-        latest (row_of authored.page r) h,
+        latest (page_row_bytes authored.page r) h,
         header_there h.place (omega (arith, h.earlier, h.within)) h.header_at,
-        ap (λ x. carries authored.page.id.mag (TheRow r) (packet_of x)) (packet_there (row_of authored.page r) h) ∙ ap (carries authored.page.id.mag (TheRow r)) (row_is laws authored.page a.page r from to)
+        ap (λ x. carries authored.page.id.mag (TheRow r) (packet_of x)) (packet_there (page_row_bytes authored.page r) h) ∙ ap (carries authored.page.id.mag (TheRow r)) (row_is laws authored.page a.page r from to)
             ∙ row_carried authored.page.id.mag r (map odd_byte (page_row authored.page r)),
       );
     }
 
-    links_sent : WrittenLinksAreRead → HasLinks authored.page → (h : HasPlace (block_at class authored) (links_of authored.page) l.slots) → IsTransmission (repeated cycle) authored.page.id TheLinks (pos h.slot)
+    links_sent : WrittenLinksAreRead → HasLinks authored.page → (h : HasPlace (block_at class authored) (page_links_bytes authored.page) l.slots) → IsTransmission (repeated cycle) authored.page.id TheLinks (pos h.slot)
     links_sent written linked h = record {
       owner = pos h.place;
       owned = (
-        latest (links_of authored.page) h,
+        latest (page_links_bytes authored.page) h,
         header_there h.place (omega (arith, h.earlier, h.within)) h.header_at,
-        ap (λ x. carries authored.page.id.mag TheLinks (packet_of x)) (packet_there (links_of authored.page) h) ∙ ap (carries authored.page.id.mag TheLinks) (links_are written authored.page a.page linked).0
+        ap (λ x. carries authored.page.id.mag TheLinks (packet_of x)) (packet_there (page_links_bytes authored.page) h) ∙ ap (carries authored.page.id.mag TheLinks) (links_are written authored.page a.page linked).0
             ∙ eq-eqb authored.page.id.mag authored.page.id.mag refl,
       );
     }
@@ -143,10 +143,10 @@ module _ (laws : LawsBelow) (pages : List Authored) (serial late : Bool) (class 
         items header k e TheHead sent = (header.slot, record { owner = header.slot; owned = (refl, header.is_header) })
         items header k e (TheRow r) sent =
             let numbers = row_numbers authored.page r (sent_needed class authored.page (TheRow r) sent) in
-            let h = has_place (block_at class authored) (row_of authored.page r) l.slots (l.holds k authored e (row_of authored.page r) (row_in_rest class authored.page r numbers.0 numbers.1 sent)) in
+            let h = has_place (block_at class authored) (page_row_bytes authored.page r) l.slots (l.holds k authored e (page_row_bytes authored.page r) (row_in_rest class authored.page r numbers.0 numbers.1 sent)) in
             (pos h.slot, row_sent r h numbers.0 numbers.1)
         items header k e TheLinks sent =
-            let h = has_place (block_at class authored) (links_of authored.page) l.slots (l.holds k authored e (links_of authored.page) (links_in_rest class authored.page sent)) in
+            let h = has_place (block_at class authored) (page_links_bytes authored.page) l.slots (l.holds k authored e (page_links_bytes authored.page) (links_in_rest class authored.page sent)) in
             (pos h.slot, links_sent written linked h)
 
 pub planned_items_are_sent : LawsBelow → WrittenLinksAreRead → PlannedItemsAreSent

@@ -25,7 +25,7 @@ use Rattle.ttx_plan.proofs.PlannedSlots.{get_map}
 use Rattle.ttx_plan.proofs.OwnLinks.{planned_links_are_own}
 use Rattle.ttx_plan.proofs.OwnRows.{planned_rows_are_own}
 use Rattle.ttx_plan.proofs.UnderHeaders.{authored_at}
-use Rattle.ttx_plan.proofs.Placed.{one_latest, between}
+use Rattle.ttx_plan.proofs.SurePlaces.{one_latest, between}
 use Rattle.ttx_plan.proofs.Planned.{planned_headers_are_own}
 use Rattle.ttx_plan.proofs.Readable.{LawsBelow}
 use Rattle.ttx_plan.proofs.SentItems.{page_there, heads_its, planned_items_are_sent}

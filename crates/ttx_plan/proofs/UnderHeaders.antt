@@ -21,8 +21,8 @@ use Rattle.ttx_plan.specs.declared.packet.Packet.{Packet}
 use Rattle.ttx_plan.specs.declared.packet.Slot.{Slot}
 use Rattle.ttx_plan.specs.declared.packet.Slot.TheVariants.{Sent}
 use Rattle.ttx_plan.specs.Blocks.{Block, led}
-use Rattle.ttx_plan.specs.Carries.{CarriesBlocks, block_at, blocks_of, sent_of}
-use Rattle.ttx_plan.specs.Contents.{row_of, rest_of}
+use Rattle.ttx_plan.specs.Carries.{CarriesBlocks, block_at, blocks_of, blocks_sent}
+use Rattle.ttx_plan.specs.Contents.{page_row_bytes, rest_of}
 use Rattle.ttx_plan.specs.Laws.{IsSaid}
 use Rattle.ttx_plan.specs.Packets.{bytes_of}
 use Rattle.ttx_plan.specs.Serial.{serial_slots}
@@ -30,7 +30,7 @@ use Rattle.ttx_plan.proofs.AllRead.{serial_read, parallel_read, read_at, read_th
 use Rattle.ttx_plan.proofs.InQueues.{HasOwner}
 use Rattle.ttx_plan.proofs.Lists.{all_get}
 use Rattle.ttx_plan.proofs.Owners.{slot_at}
-use Rattle.ttx_plan.proofs.Placing.{places, serial_at, serial_quiet, parallel_at, parallel_owner}
+use Rattle.ttx_plan.proofs.PlacesByKind.{places, serial_at, serial_quiet, parallel_at, parallel_owner}
 use Rattle.ttx_plan.proofs.Readable.{LawsBelow, Reads, packet_from, row_kind}
 use Rattle.ttx_plan.proofs.SentBlocks.{order_all}
 
@@ -84,13 +84,13 @@ head_says laws serial authored a class =
 
 under_at : LawsBelow → (serial : Bool) (lines : ℕ) (late : Bool) (class : Class) (pages : List Authored) → All (IsAuthored serial) pages → (cycle : List (List ℕ)) (at : ℕ → Slot) →
     ((i : ℕ) → i < length cycle → get_or cycle i [] ≡ bytes_of (at i)) → ((i : ℕ) → Reads pages serial (at i)) → (n queue : ℕ) (packet : Packet) → n < length cycle → at n ≡ Sent queue packet →
-    HasOwner lines (sent_of late class pages) at queue packet n → (mag : ℕ) → mag ≡ suc queue → IsUnder pages class cycle lines n mag
+    HasOwner lines (blocks_sent late class pages) at queue packet n → (mag : ℕ) → mag ≡ suc queue → IsUnder pages class cycle lines n mag
 under_at laws serial lines late class pages a cycle at bytes reads n queue packet lt here o mag mag_is =
     let z : (k : ℕ) → 0 + k ≡ k = λ k. omega arith in
-    let all : AllByRecursion (IsBlockOf pages serial class) (sent_of late class pages) =
+    let all : AllByRecursion (IsBlockOf pages serial class) (blocks_sent late class pages) =
     order_all (IsBlockOf pages serial class) (λ filler x q. record { index = q.index; authored = q.authored; listed = q.listed; kept = q.kept; filler = filler; is = ap (led filler) q.is })
     late (blocks_of class pages) (are_blocks pages serial class pages 0 (λ k p q. ap (slice_get pages) (z k) ∙ q) a) in
-    let b : IsBlockOf pages serial class o.own.block = all_get (IsBlockOf pages serial class) (sent_of late class pages) o.own.index o.own.block all o.own.listed in
+    let b : IsBlockOf pages serial class o.own.block = all_get (IsBlockOf pages serial class) (blocks_sent late class pages) o.own.index o.own.block all o.own.listed in
     let before : o.place < length cycle = omega (arith, o.late) in
     let low = b.kept.page.id.mag_from in
     let queue_is : b.authored.page.id.mag - 1 ≡ queue = sym (ap (λ x. x.queue) b.is) ∙ o.own.in_mag in
@@ -108,11 +108,11 @@ under_at laws serial lines late class pages a cycle at bytes reads n queue packe
     }
 
 pub under : LawsBelow → (serial : Bool) (lines : ℕ) (info : Option InfoFields) (late : Bool) (class : Class) (pages : List Authored) (cycle : List (List ℕ)) → IsSaid info → All (IsAuthored serial) pages →
-    CarriesBlocks serial lines (option_map info_bytes info) (sent_of late class pages) cycle → (n : ℕ) → n < length cycle →
+    CarriesBlocks serial lines (option_map info_bytes info) (blocks_sent late class pages) cycle → (n : ℕ) → n < length cycle →
     (mag : ℕ) (item : Item) → S.carries mag item (packet_of (get_or cycle n [])) ≡ true → IsUnder pages class cycle lines n mag
 under laws true lines info late class pages cycle said a known n lt mag item c =
     let sent = option_map info_bytes info in
-    let blocks = sent_of late class pages in
+    let blocks = blocks_sent late class pages in
     let reads = read_there laws pages true (serial_slots lines sent blocks) (serial_read laws lines info late class pages said a) in
     let l = (reads n).late_is mag item (ap (λ x. S.carries mag item (packet_of x)) (sym (serial_at lines sent blocks cycle known n lt)) ∙ c) in
     let q = serial_quiet lines sent blocks n l.queue l.packet l.slot_is l.late in
@@ -120,7 +120,7 @@ under laws true lines info late class pages cycle said a known n lt mag item c =
     (record { place = q.place; header = q.header; late = q.late; header_at = q.header_at; none_between = λ i low high. q.none_between i low high l.queue; own = q.own }) mag l.mag_is
 under laws false lines info late class pages cycle said a known n lt mag item c =
     let sent = option_map info_bytes info in
-    let blocks = sent_of late class pages in
+    let blocks = blocks_sent late class pages in
     let reads = read_at laws pages false known.before (parallel_read laws lines info late class pages said a known.before known.turns) in
     let l = (reads n).late_is mag item (ap (λ x. S.carries mag item (packet_of x)) (sym (parallel_at lines sent blocks cycle known n lt)) ∙ c) in
     under_at laws false lines late class pages a cycle (slot_at known.before) (parallel_at lines sent blocks cycle known) reads n l.queue l.packet lt l.slot_is
@@ -128,10 +128,10 @@ under laws false lines info late class pages cycle said a known n lt mag item c 
 
 -- ---- the packets of a page
 
-pub row_is : LawsBelow → (p : Page) → IsPage p → (r : ℕ) → 1 ≤ r → r ≤ 24 → packet_of (row_of p r) ≡ P.Row p.id.mag r (map odd_byte (page_row p r))
+pub row_is : LawsBelow → (p : Page) → IsPage p → (r : ℕ) → 1 ≤ r → r ≤ 24 → packet_of (page_row_bytes p r) ≡ P.Row p.id.mag r (map odd_byte (page_row p r))
 row_is laws p is r from to =
     let a = laws.address p.id.mag r (map odd_byte (page_row p r)) is.id.mag_from is.id.mag_to (omega (arith, to)) in
-    packet_from (row_of p r) (IsRow p.id.mag r) (a.kind ∙ row_kind (row_of p r) p.id.mag r from to)
+    packet_from (page_row_bytes p r) (IsRow p.id.mag r) (a.kind ∙ row_kind (page_row_bytes p r) p.id.mag r from to)
 
 pub authored_at : (serial : Bool) (pages : List Authored) → All (IsAuthored serial) pages → (i : ℕ) (authored : Authored) → slice_get pages i ≡ Some authored → IsAuthored serial authored
 authored_at serial [] a i authored e = let f : None ≡ Some authored = e in cc

@@ -70,13 +70,15 @@ PlannedIsSteady = (late : Bool) (class : Class) (service : ServiceFields) (cycle
 
 -- for receivers of the class, the service's lines and each repeat count some certificate is accepted
 abbrev pub IsAcceptedForEach : Class → ServiceFields → List (List ℕ) → Type 0
-IsAcceptedForEach class service cycle = (repeat : ℕ) → 1 ≤ repeat → repeat ≤ 8 → CanBeAccepted cycle (pages_of service) class service.lines repeat 1000000
+IsAcceptedForEach class service cycle = (repeat : ℕ) → 1 ≤ repeat → repeat ≤ 8 →
+    CanBeAccepted cycle (pages_of service) class service.lines repeat 1000000
 
 abbrev pub PlannedIsAccepted : Type 0
-PlannedIsAccepted = (late : Bool) (class : Class) (service : ServiceFields) (cycle : List (List ℕ)) → IsPlanned late class service cycle → IsAcceptedForEach class service cycle
+PlannedIsAccepted = (late : Bool) (class : Class) (service : ServiceFields) (cycle : List (List ℕ)) → IsPlanned late class service cycle →
+    IsAcceptedForEach class service cycle
 
 -- the certificate that is found is accepted, and none with a smaller deadline is
-pub record IsFound (cycle : List (List ℕ)) (pages : List Page) (w : Certificate) (answer : Option ℕ) : Type 0 where
+pub record IsLeastFound (cycle : List (List ℕ)) (pages : List Page) (w : Certificate) (answer : Option ℕ) : Type 0 where
   pub deadline : ℕ
   pub is : answer ≡ Some deadline
   pub same : w.deadline ≡ deadline
@@ -86,4 +88,4 @@ pub record IsFound (cycle : List (List ℕ)) (pages : List Page) (w : Certificat
 abbrev pub PlannedIsFound : Type 0
 PlannedIsFound = (late : Bool) (class : Class) (service : ServiceFields) (cycle : List (List ℕ)) → IsPlanned late class service cycle →
     (repeat : ℕ) → 1 ≤ repeat → repeat ≤ 8 → (w : Certificate) (deadline : Option ℕ) →
-    IsFoundFor cycle (pages_of service) repeat service.lines class w deadline → IsFound cycle (pages_of service) w deadline
+    IsFoundFor cycle (pages_of service) repeat service.lines class w deadline → IsLeastFound cycle (pages_of service) w deadline

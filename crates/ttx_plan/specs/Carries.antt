@@ -2,7 +2,7 @@
 --
 --   magazines_for           what the magazines send in parallel transmission
 --   CarriesBlocks           a cycle of blocks, in serial or in parallel transmission
---   blocks_of, sent_of      the blocks of a service's pages, for receivers of a class, and as they are sent
+--   blocks_of, blocks_sent  the blocks of a service's pages, for receivers of a class, and as they are sent
 --   Carries                 a cycle that carries a service
 use Rattle.std.specs.Prelude.{◌≡◌, ℕ, Bool, true, false, List, map, Option, option_map}
 use Rattle.ttx_info.specs.Infos.{info_bytes}
@@ -32,10 +32,10 @@ abbrev pub blocks_of : Class → List Authored → List Block
 blocks_of class pages = map (block_at class) pages
 
 -- the same in the order of sending
-abbrev pub sent_of : Bool → Class → List Authored → List Block
-sent_of late class pages = sent_blocks late (blocks_of class pages)
+abbrev pub blocks_sent : Bool → Class → List Authored → List Block
+blocks_sent late class pages = sent_blocks late (blocks_of class pages)
 
 -- the cycle carries the service to receivers of the class; late: also to those that show a page late
 abbrev pub Carries : Bool → Class → ServiceFields → List (List ℕ) → Type 0
 Carries late class service cycle =
-    CarriesBlocks service.serial service.lines (option_map info_bytes service.info) (sent_of late class service.pages) cycle
+    CarriesBlocks service.serial service.lines (option_map info_bytes service.info) (blocks_sent late class service.pages) cycle

@@ -1,8 +1,8 @@
 -- What the block of a page holds (EN 300 706, 9.3.1 for the page header, 9.3.2 for rows, 9.6.1 for X/27/0; which items: profile).
 --
---   header_of, row_of, links_of         the bytes of a page's packets
+--   page_header_bytes, page_row_bytes, page_links_bytes         the bytes of a page's packets
 --   is_sent_to              the items that are sent to a class of receivers
---   rows_to, rest_of        rows and X/27/0 of a block
+--   sent_rows, rest_of      rows and X/27/0 of a block
 --   block_of                the block
 use Rattle.std.specs.Prelude.{ℕ, zero, suc, ◌-◌, Bool, false, not, ◌&&◌, if◌then◌else◌, List, [], ◌∷◌, ◌++◌, map, replicate}
 use Rattle.ttx_code.specs.Words.{odd_byte}
@@ -18,16 +18,16 @@ use Rattle.ttx_page.specs.Pages.{Page, page_row, is_blank, needed}
 use Rattle.ttx_plan.specs.Blocks.{Block}
 
 -- the page header: id, control bits and the characters of row 0 in odd parity (8.1); the clock is spaces
-abbrev pub header_of : Page → List ℕ
-header_of p = header_bytes (fields_at p.id p.control (map odd_byte p.head) (replicate 8 32))
+abbrev pub page_header_bytes : Page → List ℕ
+page_header_bytes p = header_bytes (fields_at p.id p.control (map odd_byte p.head) (replicate 8 32))
 
 -- a row: its address and its characters in odd parity
-abbrev pub row_of : Page → ℕ → List ℕ
-row_of p number = address_bytes p.id.mag number ++ map odd_byte (page_row p number)
+abbrev pub page_row_bytes : Page → ℕ → List ℕ
+page_row_bytes p number = address_bytes p.id.mag number ++ map odd_byte (page_row p number)
 
 -- X/27/0
-abbrev pub links_of : Page → List ℕ
-links_of p = links_bytes p.id.mag (links_at p.links.six p.links.show24 p.crc)
+abbrev pub page_links_bytes : Page → List ℕ
+page_links_bytes p = links_bytes p.id.mag (links_at p.links.six p.links.show24 p.crc)
 
 -- what a viewer sees, and for receivers that surely clear the page nothing that is blank
 abbrev pub is_sent_to : Class → Page → Item → Bool
@@ -35,14 +35,22 @@ is_sent_to Any p item = needed p item
 is_sent_to Clearing p item = needed p item && not (is_blank p item)
 
 -- those of rows 1 to n that are sent, rising
-abbrev pub rows_to : Class → Page → ℕ → List (List ℕ)
-rows_to class p zero = []
-rows_to class p (suc n) = rows_to class p n ++ (if is_sent_to class p (TheRow (suc n)) then row_of p (suc n) ∷ [] else [])
+abbrev pub sent_rows : Class → Page → ℕ → List (List ℕ)
+sent_rows class p zero = []
+sent_rows class p (suc n) = sent_rows class p n ++ (if is_sent_to class p (TheRow (suc n)) then page_row_bytes p (suc n) ∷ [] else [])
 
 -- the rows, and X/27/0
 abbrev pub rest_of : Class → Page → List (List ℕ)
-rest_of class p = rows_to class p 24 ++ (if is_sent_to class p TheLinks then links_of p ∷ [] else [])
+rest_of class p = sent_rows class p 24 ++ (if is_sent_to class p TheLinks then page_links_bytes p ∷ [] else [])
 
 -- the block of a page that is sent so often; magazine 1 has queue 0
 abbrev pub block_of : Class → Page → ℕ → Block
-block_of class p often = record { queue = p.id.mag - 1; often = often; page = p.id.page; filler = false; header = header_of p; rest = rest_of class p }
+block_of class p often = record {
+  queue = p.id.mag - 1;
+  often = often;
+  page = p.id.page;
+  filler = false;
+  header = page_header_bytes p;
+  rest =
+      rest_of class p;
+}

@@ -15,4 +15,5 @@ abbrev pub AreFollowed : List (List ℕ) → List Page → Type 0
 AreFollowed cycle pages = (n : ℕ) (p : Page) → slice_get pages n ≡ Some p → IsFollowedByAnother (repeated cycle) p.id
 
 abbrev pub PlannedIsFollowed : Type 0
-PlannedIsFollowed = (class : Class) (service : ServiceFields) (cycle : List (List ℕ)) → IsPlanned true class service cycle → AreFollowed cycle (pages_of service)
+PlannedIsFollowed = (class : Class) (service : ServiceFields) (cycle : List (List ℕ)) → IsPlanned true class service cycle →
+    AreFollowed cycle (pages_of service)

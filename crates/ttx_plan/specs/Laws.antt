@@ -27,7 +27,8 @@ IsSaid (Some info) = IsInfoFields info × IsLink info.initial
 -- each slot of a cycle that carries a service is clean
 abbrev pub PlannedIsClean : Type 0
 PlannedIsClean =
-    (late : Bool) (class : Class) (service : ServiceFields) (cycle : List (List ℕ)) → IsService service → IsSaid service.info → Carries late class service cycle →
+    (late : Bool) (class : Class) (service : ServiceFields) (cycle : List (List ℕ)) → IsService service → IsSaid service.info →
+    Carries late class service cycle →
     (n : ℕ) → n < length cycle → is_clean (slice_index_or cycle n []) ≡ true
 
 -- a header of a page of the list, with the page's control bits and characters
@@ -45,7 +46,8 @@ IsHeadOf pages id control text = (is_time_filling id ≡ true) ⊎ IsOwnHeader p
 -- each header in a cycle that carries a service is of one of its pages, or a time-filling one
 abbrev pub PlannedHeadersAreOwn : Type 0
 PlannedHeadersAreOwn =
-    (late : Bool) (class : Class) (service : ServiceFields) (cycle : List (List ℕ)) → IsService service → IsSaid service.info → Carries late class service cycle →
+    (late : Bool) (class : Class) (service : ServiceFields) (cycle : List (List ℕ)) → IsService service → IsSaid service.info →
+    Carries late class service cycle →
     (n : ℕ) → n < length cycle → (id : Id) (control : ℕ) (text : List ℕ) → packet_of (slice_index_or cycle n []) ≡ Header id control text →
     IsHeadOf service.pages id control text
 
@@ -64,7 +66,8 @@ pub record IsOwnRow (pages : List Authored) (cycle : List (List ℕ)) (lines n m
 -- so it is with each row in a cycle that carries a service
 abbrev pub PlannedRowsAreOwn : Type 0
 PlannedRowsAreOwn =
-    (late : Bool) (class : Class) (service : ServiceFields) (cycle : List (List ℕ)) → IsService service → IsSaid service.info → Carries late class service cycle →
+    (late : Bool) (class : Class) (service : ServiceFields) (cycle : List (List ℕ)) → IsService service → IsSaid service.info →
+    Carries late class service cycle →
     (n : ℕ) → n < length cycle → (mag number : ℕ) (text : List ℕ) → packet_of (slice_index_or cycle n []) ≡ Row mag number text →
     IsOwnRow service.pages cycle service.lines n mag number text
 
@@ -72,5 +75,6 @@ PlannedRowsAreOwn =
 -- and no header between ends the page.
 abbrev pub PlannedIsSure : Type 0
 PlannedIsSure =
-    (late : Bool) (class : Class) (service : ServiceFields) (cycle : List (List ℕ)) → IsService service → IsSaid service.info → Carries late class service cycle → 0 < length cycle →
+    (late : Bool) (class : Class) (service : ServiceFields) (cycle : List (List ℕ)) → IsService service → IsSaid service.info →
+    Carries late class service cycle → 0 < length cycle →
     (page : Id) (item : Item) (h j : ℤ) → IsOwned (repeated cycle) page item h j → IsSure (repeated cycle) service.lines page.mag item h j

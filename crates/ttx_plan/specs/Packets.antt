@@ -1,7 +1,7 @@
 -- Packets as the scheduler sees them, and the slots of a cycle. Magazine queues are counted from 0: queue 0 is that of magazine 1.
 --
 --   is_page_header, is_row_or_links     what a packet is
---   is_sent, has_header     a slot of a packet, and one of the page header of a queue's block
+--   holds_packet, has_header     a slot of a packet, and one of the page header of a queue's block
 --   bytes_of, sent_bytes    the bytes of a slot, and of slots
 use Rattle.std.specs.Prelude.{ℕ, Bool, true, false, List, [], ◌∷◌, ◌++◌, ◌==◌, ◌&&◌, replicate}
 use Rattle.ttx_plan.specs.declared.packet.Kind.{Kind}
@@ -22,10 +22,10 @@ is_row_or_links RowOrLinks = true
 is_row_or_links TimeFilling = false
 
 -- the slot holds a packet of a queue
-abbrev pub is_sent : Slot → Bool
-is_sent Empty = false
-is_sent (Info bytes) = false
-is_sent (Sent queue packet) = true
+abbrev pub holds_packet : Slot → Bool
+holds_packet Empty = false
+holds_packet (Info bytes) = false
+holds_packet (Sent queue packet) = true
 
 -- the slot holds the page header of a block of this queue
 abbrev pub has_header : ℕ → Slot → Bool

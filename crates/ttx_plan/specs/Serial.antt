@@ -2,13 +2,13 @@
 --
 --   serial_page, serial_block, serial_list          what is sent, packet 8/30 aside
 --   info_if, with_info      packet 8/30 put in
---   filled, serial_slots    the whole cycle
+--   to_whole_field, serial_slots    the whole cycle
 use Rattle.std.specs.Prelude.{◌≡◌, ℕ, ◌+◌, true, Bool, if◌then◌else◌, List, [], ◌∷◌, ◌++◌, map, length, flat_map, replicate, Option, Some, None}
 use Rattle.ttx_plan.specs.declared.packet.Slot.{Slot}
 use Rattle.ttx_plan.specs.declared.packet.Slot.TheVariants.{Empty, Info, Sent}
 use Rattle.ttx_plan.specs.Blocks.{Block, header_packet, rest_packet, filler_of, used_queues, time_filling_packet}
 use Rattle.ttx_plan.specs.Packets.{bytes_of}
-use Rattle.ttx_plan.specs.Turns.{is_due, missing}
+use Rattle.ttx_plan.specs.Turns.{is_info_due, missing}
 
 -- a block's page: its page header, an empty field, its rows and X/27/0
 abbrev pub serial_page : ℕ → Block → List Slot
@@ -32,7 +32,7 @@ info_if (Some bytes) due = if due then Info bytes ∷ [] else []
 abbrev pub with_info : ℕ → Option (List ℕ) → ℕ → List Slot → List Slot
 with_info lines info at [] = []
 with_info lines info at (slot ∷ rest) =
-    let first = info_if info (is_due lines at) in
+    let first = info_if info (is_info_due lines at) in
     first ++ slot ∷ with_info lines info (at + length first + 1) rest
 
 -- these slots are the list with packet 8/30 put in
@@ -40,9 +40,9 @@ pub record IsLaid (lines : ℕ) (info : Option (List ℕ)) (list : List Slot) (s
   pub slots_are : slots ≡ map bytes_of (with_info lines info 0 list)
 
 -- with empty slots to a whole field
-abbrev pub filled : ℕ → List Slot → List Slot
-filled lines slots = slots ++ replicate (missing lines (length slots)) Empty
+abbrev pub to_whole_field : ℕ → List Slot → List Slot
+to_whole_field lines slots = slots ++ replicate (missing lines (length slots)) Empty
 
 -- the cycle of these blocks
 abbrev pub serial_slots : ℕ → Option (List ℕ) → List Block → List Slot
-serial_slots lines info sent = filled lines (with_info lines info 0 (serial_list lines sent))
+serial_slots lines info sent = to_whole_field lines (with_info lines info 0 (serial_list lines sent))

@@ -6,10 +6,11 @@
 --   waits, is_ready         a row or X/27/0 waits in the field after its page header
 --   turn_from, order        whose turn is looked at first, and after it
 --   next_slot               the slot of the queue whose turn it is
---   is_due, or_info         packet 8/30 at each multiple of 50 fields
+--   is_info_due, or_info    packet 8/30 at each multiple of 50 fields
 --   slot_after, KeepsTurns  the rule at one slot, and at every slot
 --   missing, IsParallel     the whole cycle
-use Rattle.std.specs.Prelude.{◌≡◌, ℕ, zero, suc, ◌+◌, ◌-◌, ◌*◌, ◌%◌, ◌<◌, Bool, true, false, not, ◌&&◌, if◌then◌else◌, List, [], ◌∷◌, ◌++◌, length, ◌==◌, slice_get, slice_index_or, take, replicate, Option, Some, None, find}
+use Rattle.std.specs.Prelude.{◌≡◌, ℕ, zero, suc, ◌+◌, ◌-◌, ◌*◌, ◌%◌, ◌<◌, Bool, true, false, not, ◌&&◌, if◌then◌else◌, List, [], ◌∷◌, ◌++◌, length}
+use Rattle.std.specs.Prelude.{◌==◌, slice_get, slice_index_or, take, replicate, Option, Some, None, find}
 use Rattle.std.specs.List.{list_any}
 use Rattle.ttx_plan.specs.declared.packet.Packet.{Packet}
 use Rattle.ttx_plan.specs.declared.packet.Slot.{Slot}
@@ -80,8 +81,8 @@ abbrev pub next_slot : Magazines → List Slot → Slot
 next_slot mags before = chosen mags before (find (is_ready mags before) (order (turn_from before)))
 
 -- packet 8/30 is due in every fiftieth field, in its first line
-abbrev pub is_due : ℕ → ℕ → Bool
-is_due lines at = at % (50 * lines) == 0
+abbrev pub is_info_due : ℕ → ℕ → Bool
+is_info_due lines at = at % (50 * lines) == 0
 
 -- packet 8/30 where it is due, else this slot
 abbrev pub or_info : Option (List ℕ) → Bool → Slot → Slot
@@ -90,7 +91,7 @@ or_info (Some bytes) due slot = if due then Info bytes else slot
 
 -- what the slot after these holds
 abbrev pub slot_after : Magazines → List Slot → Slot
-slot_after mags before = or_info mags.info (is_due mags.lines (length before)) (next_slot mags before)
+slot_after mags before = or_info mags.info (is_info_due mags.lines (length before)) (next_slot mags before)
 
 -- the rule holds at every slot
 abbrev pub KeepsTurns : Magazines → List Slot → Type 0

@@ -4,7 +4,7 @@ ghost use Rattle.std.specs.Prelude.{◌≡◌, ◌-◌, ◌<◌, ◌≤◌, ◌*
 ghost use Rattle.std.specs.List.{list_any};
 ghost use Rattle.ttx_page.specs.Views.{page_of};
 ghost use Rattle.ttx_plan.specs.Blocks.{length_bound};
-ghost use Rattle.ttx_plan.specs.Carries.{sent_of};
+ghost use Rattle.ttx_plan.specs.Carries.{blocks_sent};
 ghost use Rattle.ttx_plan.specs.Ranges.{IsOften};
 ghost use Rattle.ttx_plan.specs.Seen.{fillers_in, used_by};
 
@@ -50,7 +50,7 @@ fn times(service: &Service, index: usize) -> usize
 
 // How many blocks go behind a time-filling header.
 fn count_fillers(receivers: Receivers, service: &Service) -> usize
-    ensures count { result ≡ fillers_in (sent_of receivers.late receivers.class service.now.pages) }
+    ensures count { result ≡ fillers_in (blocks_sent receivers.late receivers.class service.now.pages) }
     ensures few { result ≤ 8 * 2000 }
 {
     let pages = service.pages();
@@ -72,7 +72,7 @@ fn count_fillers(receivers: Receivers, service: &Service) -> usize
 /// Twice the slots of all packets, with a field for each block and a time-filling header for each magazine, and two fields
 /// more. No memory is taken.
 pub fn length_bound(receivers: Receivers, service: &Service) -> usize
-    ensures { result ≡ length_bound service.now.lines (sent_of receivers.late receivers.class service.now.pages) }
+    ensures { result ≡ length_bound service.now.lines (blocks_sent receivers.late receivers.class service.now.pages) }
 {
     let pages = service.pages();
     let lines = usize::from(service.lines());

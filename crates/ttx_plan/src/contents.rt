@@ -4,7 +4,7 @@ ghost use Rattle.std.specs.Prelude.{◌≡◌, ℕ, ◌<◌, ◌≤◌, map, sli
 ghost use Rattle.ttx_code.specs.Words.{odd_byte};
 ghost use Rattle.ttx_page.specs.declared.item.Item.TheVariants.{Row as TheRow, Links as TheLinks};
 ghost use Rattle.ttx_page.specs.Views.{page_of};
-ghost use Rattle.ttx_plan.specs.Contents.{header_of, is_sent_to, links_of, row_of};
+ghost use Rattle.ttx_plan.specs.Contents.{page_header_bytes, is_sent_to, page_links_bytes, page_row_bytes};
 
 use ttx_code::odd;
 use ttx_header::parts::put;
@@ -27,7 +27,7 @@ fn odd_bytes<const N: usize>(codes: &[u8; N]) -> [u8; N]
 
 /// The page header. Its clock is spaces.
 pub fn header_packet(page: &Page) -> [u8; 42]
-    ensures { result ≡ header_of (page_of page.now) }
+    ensures { result ≡ page_header_bytes (page_of page.now) }
 {
     let text = odd_bytes(page.head());
     let header = Header::new(page.id(), page.control(), text, [b' '; 8]).unwrap();
@@ -38,7 +38,7 @@ pub fn header_packet(page: &Page) -> [u8; 42]
 pub fn row_packet(page: &Page, number: u8) -> [u8; 42]
     requires from { 1 ≤ number }
     requires to { number ≤ 24 }
-    ensures { result ≡ row_of (page_of page.now) number }
+    ensures { result ≡ page_row_bytes (page_of page.now) number }
 {
     let mut bytes = [0; 42];
     put(&mut bytes, 0, &address(page.id().mag(), number));
@@ -52,7 +52,7 @@ pub fn row_packet(page: &Page, number: u8) -> [u8; 42]
 
 /// Packet X/27/0.
 pub fn links_packet(page: &Page) -> [u8; 42]
-    ensures { result ≡ links_of (page_of page.now) }
+    ensures { result ≡ page_links_bytes (page_of page.now) }
 {
     write_links(page.id().mag(), page.links())
 }

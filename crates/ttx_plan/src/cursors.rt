@@ -1,8 +1,8 @@
 //! Whose turn it is in parallel transmission, by one cursor for each magazine queue.
 
 ghost use Rattle.std.specs.Prelude.{◌≡◌, ◌+◌, ◌*◌, ◌<◌, ◌≤◌, ◌^◌, length, find, slice_index, slice_get, replicate, Option, IfSome};
-ghost use Rattle.ttx_plan.specs.Cursors.{after, is_free, moved, queue_at, sends};
-ghost use Rattle.ttx_plan.specs.Turns.{is_due, or_info, order};
+ghost use Rattle.ttx_plan.specs.Cursors.{cursors_after, is_free, cursors_past, queue_at, slot_by_cursors};
+ghost use Rattle.ttx_plan.specs.Turns.{is_info_due, or_info, order};
 
 use crate::packet::{Packet, Slot};
 
@@ -72,7 +72,7 @@ impl Cursors {
         requires lines { lines ≤ 32 }
         requires room { at < 2 ^ 32 }
         ensures packet { slice_get (queue_at queues.now queue) (slice_index self.old.sent queue) ≡ Option.Some result }
-        ensures cursors { self.new ≡ moved self.old queue result lines at }
+        ensures cursors { self.new ≡ cursors_past self.old queue result lines at }
     {
         let packet = queue_of(queues, queue)[self.sent[queue]];
         self.sent[queue] += 1;
@@ -95,8 +95,8 @@ impl Cursors {
         requires from { self.old.from ≤ 8 }
         requires lines { (1 ≤ lines) × (lines ≤ 32) }
         requires room { at < 2 ^ 32 }
-        ensures slot { result ≡ or_info info (is_due lines at) (sends queues.now self.old at) }
-        ensures cursors { self.new ≡ after self.old lines at result }
+        ensures slot { result ≡ or_info info (is_info_due lines at) (slot_by_cursors queues.now self.old at) }
+        ensures cursors { self.new ≡ cursors_after self.old lines at result }
     {
         if let Some(bytes) = info
             && at % (50 * lines) == 0

@@ -1,7 +1,7 @@
 //! Packets as the scheduler sees them, and the slots of a cycle.
 
 ghost use Rattle.std.specs.Prelude.{◌≡◌};
-ghost use Rattle.ttx_plan.specs.Packets.{bytes_of, is_page_header, is_row_or_links, is_sent};
+ghost use Rattle.ttx_plan.specs.Packets.{bytes_of, is_page_header, is_row_or_links, holds_packet};
 
 /// What a packet is to the rule of turns.
 #[derive(Clone, Copy)]
@@ -56,8 +56,8 @@ impl Slot {
         }
     }
 
-    pub fn is_sent(self) -> bool
-        ensures { result ≡ is_sent self }
+    pub fn holds_packet(self) -> bool
+        ensures { result ≡ holds_packet self }
     {
         matches!(self, Slot::Sent(_, _))
     }

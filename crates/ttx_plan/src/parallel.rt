@@ -44,7 +44,7 @@ pub fn parallel_slots(
     while left > 0 {
         let slot = cursors.step(queues, lines, info, slots.len());
         slots.push(slot.bytes())?;
-        if slot.is_sent() {
+        if slot.holds_packet() {
             left -= 1;
         }
     }

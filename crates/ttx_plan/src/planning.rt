@@ -6,7 +6,7 @@ ghost use Rattle.ttx_info.specs.Infos.{info_bytes};
 ghost use Rattle.ttx_page.specs.declared.class.Class.TheVariants.{Any};
 ghost use Rattle.ttx_plan.specs.Acceptance.{IsAcceptedForEach, IsPlanned};
 ghost use Rattle.ttx_plan.specs.Blocks.{length_bound};
-ghost use Rattle.ttx_plan.specs.Carries.{Carries, blocks_of, sent_of};
+ghost use Rattle.ttx_plan.specs.Carries.{Carries, blocks_of, blocks_sent};
 ghost use Rattle.ttx_plan.specs.Following.{AreFollowed};
 ghost use Rattle.ttx_plan.specs.Seen.{seen};
 ghost use Rattle.ttx_source.specs.Services.{pages_of};
@@ -54,7 +54,7 @@ pub fn info_packet(service: &Service) -> Option<[u8; 42]>
 // The cycle that carries a service of at least one page.
 fn cycle_of(alloc: Global, receivers: Receivers, service: &Service) -> Result<Cycle, AllocError>
     requires some { service.now.pages ≢ [] }
-    requires few { length_bound service.now.lines (sent_of receivers.late receivers.class service.now.pages) ≤ 65536 }
+    requires few { length_bound service.now.lines (blocks_sent receivers.late receivers.class service.now.pages) ≤ 65536 }
     ensures { IfOk result (λ cycle. IsPlanned receivers.late receivers.class service.now (slots_of cycle)) }
 {
     let blocks = blocks_of(alloc, receivers.class, service)?;
@@ -77,7 +77,8 @@ pub fn plan_with(alloc: Global, service: &Service, receivers: Receivers) -> Resu
     ensures accepted { IfOk result (λ cycle. IsAcceptedForEach receivers.class service.now (slots_of cycle)) }
     ensures followed { IfOk result (λ cycle. receivers.late ≡ true → AreFollowed (slots_of cycle) (pages_of service.now)) }
     ensures no_pages { (result ≡ Err PlanFault.NoPages) ↔ (service.now.pages ≡ []) }
-    ensures too_long { (result ≡ Err PlanFault.TooLong) ↔ (65536 < length_bound service.now.lines (sent_of receivers.late receivers.class service.now.pages)) }
+    ensures too_long { (result ≡ Err PlanFault.TooLong) ↔ (65536 < length_bound service.now.lines
+        (blocks_sent receivers.late receivers.class service.now.pages)) }
 {
     crate::acceptance::planned_cycles_are_accepted();
     crate::following::late_cycles_are_followed();
@@ -99,7 +100,7 @@ pub fn plan_for(alloc: Global, service: &Service, class: Class) -> Result<Cycle,
     ensures planned { IfOk result (λ cycle. IsPlanned false class service.now (slots_of cycle)) }
     ensures accepted { IfOk result (λ cycle. IsAcceptedForEach class service.now (slots_of cycle)) }
     ensures no_pages { (result ≡ Err PlanFault.NoPages) ↔ (service.now.pages ≡ []) }
-    ensures too_long { (result ≡ Err PlanFault.TooLong) ↔ (65536 < length_bound service.now.lines (sent_of false class service.now.pages)) }
+    ensures too_long { (result ≡ Err PlanFault.TooLong) ↔ (65536 < length_bound service.now.lines (blocks_sent false class service.now.pages)) }
 {
     plan_with(alloc, service, Receivers { class, late: false })
 }
@@ -110,7 +111,7 @@ pub fn plan(alloc: Global, service: &Service) -> Result<Cycle, PlanFault>
     ensures planned { IfOk result (λ cycle. IsPlanned false Any service.now (slots_of cycle)) }
     ensures accepted { IfOk result (λ cycle. IsAcceptedForEach Any service.now (slots_of cycle)) }
     ensures no_pages { (result ≡ Err PlanFault.NoPages) ↔ (service.now.pages ≡ []) }
-    ensures too_long { (result ≡ Err PlanFault.TooLong) ↔ (65536 < length_bound service.now.lines (sent_of false Any service.now.pages)) }
+    ensures too_long { (result ≡ Err PlanFault.TooLong) ↔ (65536 < length_bound service.now.lines (blocks_sent false Any service.now.pages)) }
 {
     plan_for(alloc, service, Class::Any)
 }

@@ -5,7 +5,7 @@ ghost use Rattle.ttx_plan.specs.declared.packet.Slot.{Slot};
 ghost use Rattle.ttx_plan.specs.Packets.{bytes_of};
 ghost use Rattle.ttx_plan.specs.Seen.{seen, seen_sent};
 ghost use Rattle.ttx_plan.specs.Serial.{info_if, serial_block, serial_list, serial_page, IsLaid};
-ghost use Rattle.ttx_plan.specs.Turns.{is_due};
+ghost use Rattle.ttx_plan.specs.Turns.{is_info_due};
 
 use crate::block::PageBlock;
 use crate::packet::{Kind, Packet, Slot};
@@ -19,7 +19,7 @@ fn put_info(
     info: Option<[u8; 42]>,
 ) -> Result<(), AllocError>
     requires { (1 ≤ lines) × (lines ≤ 32) }
-    ensures { IfOk result (λ _. slots.new.items ≡ slots.old.items ++ map bytes_of (info_if info (is_due lines (length slots.old.items)))) }
+    ensures { IfOk result (λ _. slots.new.items ≡ slots.old.items ++ map bytes_of (info_if info (is_info_due lines (length slots.old.items)))) }
 {
     if let Some(bytes) = info
         && slots.len() % (50 * lines) == 0
@@ -52,7 +52,8 @@ fn put_page(
     block: &PageBlock,
 ) -> Result<(), AllocError>
     requires { (1 ≤ lines) × (lines ≤ 32) }
-    ensures { IfOk result (λ _. (list : List Slot) → IsLaid lines info list slots.old.items → IsLaid lines info (list ++ serial_page lines (seen block.now)) slots.new.items) }
+    ensures { IfOk result (λ _. (list : List Slot) → IsLaid lines info list slots.old.items →
+        IsLaid lines info (list ++ serial_page lines (seen block.now)) slots.new.items) }
 {
     let header = Packet {
         kind: Kind::PageHeader,
@@ -80,7 +81,8 @@ fn put_block(
     sent: &SentBlock,
 ) -> Result<(), AllocError>
     requires { (1 ≤ lines) × (lines ≤ 32) }
-    ensures { IfOk result (λ _. (list : List Slot) → IsLaid lines info list slots.old.items → IsLaid lines info (list ++ serial_block lines (seen_sent sent.now)) slots.new.items) }
+    ensures { IfOk result (λ _. (list : List Slot) → IsLaid lines info list slots.old.items →
+        IsLaid lines info (list ++ serial_block lines (seen_sent sent.now)) slots.new.items) }
 {
     let queue = sent.block.queue;
     if sent.filler {

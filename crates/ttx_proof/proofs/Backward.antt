@@ -5,8 +5,8 @@ use Rattle.ttx_header.specs.Ids.{Id}
 use Rattle.ttx_page.specs.Packets.{packet_of}
 use Rattle.ttx_page.specs.Streams.{Stream, repeated, turned, heads, heads_page, IsLatestHeader}
 use Rattle.ttx_page.specs.Laws.{EachSlotTurns}
-use Rattle.ttx_proof.specs.Seams.{IsLeft}
-use Rattle.ttx_proof.proofs.Sides.{cases_ltz}
+use Rattle.ttx_proof.specs.Seams.{IsLeftTo}
+use Rattle.ttx_proof.proofs.StreamsOfSides.{cases_ltz}
 
 pub no_both : (b : Bool) → b ≡ true → b ≡ false → ⊥
 no_both b h k = cc
@@ -50,11 +50,11 @@ module _ (cycle : List (List ℕ)) (mag : ℕ) where
 
 -- the latest header tells to which page a magazine is left
 pub left_by : (cycle : List (List ℕ)) (page : Id) (h : ℤ) → IsLatestHeader (repeated cycle) page.mag h (pos 0) → (answer : Bool) → answer ≡ heads_page page (packet_of (repeated cycle h)) →
-    (answer ≡ true) ↔ IsLeft (repeated cycle) page
+    (answer ≡ true) ↔ IsLeftTo (repeated cycle) page
 left_by cycle page h latest answer e = (
   (λ y. record { owner = h; latest = latest; mine = sym e ∙ y }),
   (λ l. e ∙ subst (λ z. heads_page page (packet_of (repeated cycle z)) ≡ true) (latest_same (repeated cycle) page.mag l.owner h (pos 0) l.latest latest) l.mine),
 )
 
-pub left_to_none : (cycle : List (List ℕ)) (page : Id) → ((h : ℤ) → IsLatestHeader (repeated cycle) page.mag h (pos 0) → ⊥) → (false ≡ true) ↔ IsLeft (repeated cycle) page
+pub left_to_none : (cycle : List (List ℕ)) (page : Id) → ((h : ℤ) → IsLatestHeader (repeated cycle) page.mag h (pos 0) → ⊥) → (false ≡ true) ↔ IsLeftTo (repeated cycle) page
 left_to_none cycle page none = ((λ y. let h : false ≡ true = y in cc), (λ l. absurd (none l.owner l.latest)))

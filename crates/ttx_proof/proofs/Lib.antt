@@ -1,6 +1,6 @@
 mod KeptMemories
 mod Decisions
-mod Sides
+mod StreamsOfSides
 mod Cut
 mod Seeing
 mod Windows

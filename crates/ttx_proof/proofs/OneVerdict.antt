@@ -1,22 +1,19 @@
 -- One verdict on a splice is right.
-use Rattle.std.proofs.Common.{◌≡◌, ℕ, ◌<◌, slice_get, Some, refl, sym, ap, subst, inl, inr, arith}
+use Rattle.std.proofs.Common.{◌≡◌, ℕ, ◌<◌, slice_get, Some, refl, ap, subst, inl, inr, arith}
 use Rattle.std.proofs.lemmas.Bool.{cases_lt}
 use Rattle.ttx_page.specs.Pages.{Page}
 use Rattle.ttx_page.specs.declared.item.Item.{Item}
-use Rattle.ttx_witness.specs.Coverage.{Certificate, IsCertificate}
 use Rattle.ttx_witness.specs.sent.Collected.{item_number}
 use Rattle.ttx_witness.specs.declared.faults.reason.Reason.{Reason}
 use Rattle.ttx_certify.specs.Verdicts.{IsVerdict}
 use Rattle.ttx_certify.specs.VerdictLaws.{VerdictsAreOne}
-use Rattle.ttx_certify.specs.declared.verdict.Verdict.{Verdict}
 use Rattle.ttx_certify.specs.declared.verdict.Verdict.TheVariants as verdict
 use Rattle.ttx_proof.specs.Splices.{Splice, HasSeam}
 use Rattle.ttx_proof.specs.Laws.{IsSplice}
-use Rattle.ttx_proof.specs.Verdicts.{HasLate, IsFirstSeam, IsFirstLate, IsFirstCommon, IsSpliceRefusal, IsSpliceVerdict}
+use Rattle.ttx_proof.specs.Verdicts.{HasLate, IsFirstSeam, IsFirstLate, IsFirstCommon, IsSpliceRefusal}
 use Rattle.ttx_proof.specs.Meaning.{VerdictsMean, SpliceVerdictsAreOne}
 use Rattle.ttx_proof.specs.declared.verdict.SpliceReason.{SpliceReason}
 use Rattle.ttx_proof.specs.declared.verdict.SpliceReason.TheVariants.{Old, New, Numbers, Seam, SeamLate}
-use Rattle.ttx_proof.specs.declared.verdict.SpliceVerdict.{SpliceVerdict}
 use Rattle.ttx_proof.specs.declared.verdict.SpliceVerdict.TheVariants.{Yes, No}
 use Rattle.ttx_proof.proofs.Deciding.{one_item}
 

@@ -8,7 +8,7 @@ use Rattle.ttx_page.specs.declared.item.Item.{Item}
 use Rattle.ttx_page.specs.declared.item.Item.TheVariants.{Head as TheHead, Row as TheRow, Links as TheLinks}
 use Rattle.ttx_page.specs.Streams.{repeated, turned, heads, carries}
 use Rattle.ttx_page.specs.Laws.{EachSlotTurns}
-use Rattle.ttx_proof.specs.Seams.{IsWrongAs, IsWrongSlot, IsOver}
+use Rattle.ttx_proof.specs.Seams.{IsWrongAs, IsWrongSlot, HangsOver}
 use Rattle.ttx_witness.specs.faults.Comparing.{HoldsNoRow}
 use Rattle.ttx_proof.proofs.Windows.{and_right}
 use Rattle.ttx_proof.proofs.Backward.{no_both}
@@ -82,11 +82,11 @@ module _ (cycle : List (List ℕ)) (p : Page) where
   at_is : (m : ℕ) → m < length cycle → repeated cycle (pos m) ≡ get_or cycle m []
   at_is m lt = ap (λ i. get_or cycle i []) (mod-eq_of_lt lt)
 
-  not_earlier : (j i : ℕ) → j < length cycle → RightTo j → i < j → IsOver (repeated cycle) p (pos i) → ⊥
+  not_earlier : (j i : ℕ) → j < length cycle → RightTo j → i < j → HangsOver (repeated cycle) p (pos i) → ⊥
   not_earlier j i lt right below o = right i below (subst (IsWrongSlot p) (at_is i (omega arith)) o.wrong)
 
   -- a header ends it
-  pub ended : (j : ℕ) → j < length cycle → heads p.id.mag (packet_of (get_or cycle j [])) ≡ true → RightTo j → (z : ℤ) → IsOver (repeated cycle) p z → ⊥
+  pub ended : (j : ℕ) → j < length cycle → heads p.id.mag (packet_of (get_or cycle j [])) ≡ true → RightTo j → (z : ℤ) → HangsOver (repeated cycle) p z → ⊥
   ended j lt here right (negsuc m) o = let a = o.not_before in omega (arith, ints)
   ended j lt here right (pos m) o = elim (cases_lt m j) as (λ _. ⊥) [
     | inl below ↦ not_earlier j m lt right below o
@@ -101,7 +101,7 @@ module _ (cycle : List (List ℕ)) (p : Page) where
       above : (m : ℕ) → j ≤ m → (m ≡ j → ⊥) → pos j <ℤ pos m
       above m ge ne = elim (cases_lt j m) as (λ _. pos j <ℤ pos m) [ inl lt ↦ omega (arith, ints) | inr le ↦ absurd (ne (omega arith)) ]
 
-  pub first_is : (j : ℕ) → j < length cycle → NoneTo j → RightTo j → IsWrongSlot p (get_or cycle j []) → IsOver (repeated cycle) p (pos j) × ((i : ℕ) → i < j → IsOver (repeated cycle) p (pos i) → ⊥)
+  pub first_is : (j : ℕ) → j < length cycle → NoneTo j → RightTo j → IsWrongSlot p (get_or cycle j []) → HangsOver (repeated cycle) p (pos j) × ((i : ℕ) → i < j → HangsOver (repeated cycle) p (pos i) → ⊥)
   first_is j lt none right wrong = (
     record {
       not_before = omega (arith, ints);
@@ -115,7 +115,7 @@ module _ (cycle : List (List ℕ)) (p : Page) where
       before (pos i) a b = let le : i < j = omega (arith, ints) in ap (λ x. heads p.id.mag (packet_of x)) (at_is i (omega arith)) ∙ none i le
       before (negsuc i) a b = absurd (omega (arith, ints))
 
-  pub none_over : EachSlotTurns → 0 < length cycle → RightTo (length cycle) → (z : ℤ) → IsOver (repeated cycle) p z → ⊥
+  pub none_over : EachSlotTurns → 0 < length cycle → RightTo (length cycle) → (z : ℤ) → HangsOver (repeated cycle) p z → ⊥
   none_over turn some right z o = right (turned (length cycle) z) (turn (length cycle) z some).inside o.wrong
 
   pub none_more : (j : ℕ) → NoneTo j → heads p.id.mag (packet_of (get_or cycle j [])) ≡ false → NoneTo (j + 1)

@@ -26,6 +26,11 @@ ok_map P Q (Err e) f h = h
 pub page_at : (pages : List PageValue) (i : ℕ) (p : PageValue) → i < length pages → p ≡ get_or pages i p → slice_get (map page_of pages) i ≡ Some (page_of p)
 page_at pages i p lt e = slice_get-map page_of pages i ∙ ap (option_map page_of) (slice_get_read pages (length pages) i p refl lt e)
 
+pub page_there : (pages : List PageValue) (i : ℕ) → i < length pages → (p : Page) × (slice_get (map page_of pages) i ≡ Some p)
+page_there [] i lt = absurd (omega arith)
+page_there (x ∷ xs) zero lt = (page_of x, refl)
+page_there (x ∷ xs) (suc i) lt = page_there xs i (omega arith)
+
 pub are_pages : PagesKeepTheirRules → (pages : List PageValue) → ArePages (map page_of pages)
 are_pages rules [] n p e = cc
 are_pages rules (x ∷ xs) zero p e = let same : page_of x ≡ p = cc in subst IsPage same (rules x)

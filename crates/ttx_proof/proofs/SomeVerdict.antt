@@ -24,11 +24,11 @@ use Rattle.ttx_certify.specs.VerdictLaws.{SomeVerdictIsRight}
 use Rattle.ttx_certify.specs.declared.verdict.Verdict.{Verdict}
 use Rattle.ttx_certify.specs.declared.verdict.Verdict.TheVariants as verdict
 use Rattle.ttx_certify.proofs.Decisions.{item_with, Decided, both, refuted, alike, same_bool, same_option, same_list, same_nat, same_numbers, same_id, same_links, same_class, head_right, row_right, links_right, least_below, any_below}
-use Rattle.ttx_proof.specs.Splices.{Splice, IsCommon, HasSeam, IsBridged, AreAlike}
+use Rattle.ttx_proof.specs.Splices.{Splice, IsCommon, HasSeam, IsBridged, NumbersAgree}
 use Rattle.ttx_proof.specs.Laws.{IsSplice, BothAccepted, WalksDecide}
 use Rattle.ttx_proof.specs.Bridging.{AllFollow, counted, is_named}
 use Rattle.ttx_proof.specs.Joining.{JoinedAreListed, AreGiven, joined_list}
-use Rattle.ttx_proof.specs.Seams.{IsLeft, IsWrongAs, IsWrongSlot, TellsOver, SeamsAreLeft}
+use Rattle.ttx_proof.specs.Seams.{IsLeftTo, IsWrongAs, IsWrongSlot, TellsOver, SeamsAreLeft}
 use Rattle.ttx_proof.specs.Splicing.{AreKnown, AreBridged}
 use Rattle.ttx_proof.specs.Meaning.{SomeSpliceVerdictIsRight}
 use Rattle.ttx_proof.specs.Verdicts.{IsFirstLate, HasLate, IsFirstCommon, NoSeam, TellsSeam, IsSpliceVerdict}
@@ -42,7 +42,7 @@ use Rattle.ttx_proof.proofs.Over.{no_head, ended, first_is, none_over}
 use Rattle.ttx_proof.proofs.Places.{contains_at}
 use Rattle.ttx_proof.proofs.SeamAnswers.{seam_told, no_seam_told}
 use Rattle.ttx_proof.proofs.Seeing.{place_of}
-use Rattle.ttx_proof.proofs.Sides.{cases_ltz}
+use Rattle.ttx_proof.proofs.StreamsOfSides.{cases_ltz}
 
 -- ---- pages and lists of pages
 
@@ -116,10 +116,10 @@ abbrev IsBack : List (List ℕ) → ℕ → ℕ → Type 0
 IsBack cycle mag back = heads mag (packet_of (get_or cycle (length cycle - 1 - back) [])) ≡ true
 
 -- whether the old cycle leaves its magazine to the page
-is_left : EachSlotTurns → (cycle : List (List ℕ)) → 0 < length cycle → (page : Id) → Decided (IsLeft (repeated cycle) page)
+is_left : EachSlotTurns → (cycle : List (List ℕ)) → 0 < length cycle → (page : Id) → Decided (IsLeftTo (repeated cycle) page)
 is_left turn cycle some page = let r = least_below (IsBack cycle page.mag) (length cycle) (λ back lt. same_bool _ true) in told r.0 r.1
   where
-    told : (first : Option ℕ) → FirstBelow (IsBack cycle page.mag) (length cycle) first → Decided (IsLeft (repeated cycle) page)
+    told : (first : Option ℕ) → FirstBelow (IsBack cycle page.mag) (length cycle) first → Decided (IsLeftTo (repeated cycle) page)
     told (Some back) f =
         let latest = latest_at cycle page.mag back f.0 f.1 (λ i lt. is_false _ (f.2 i lt)) in
         let decides = left_by cycle page (negsuc back) latest (heads_page page (packet_of (repeated cycle (negsuc back)))) refl in
@@ -280,7 +280,7 @@ module _ (laws : SpliceLaws) (c : Splice) where
 
   -- ---- verdicts
 
-  are_alike : (v w : Certificate) → Decided (AreAlike v w)
+  are_alike : (v w : Certificate) → Decided (NumbersAgree v w)
   are_alike v w =
       alike (λ e. record { lines = e.0; repeat = e.1.0; deadline = e.1.1.0; old_class = e.1.1.1.0; new_class = e.1.1.1.1 })
       (λ a. (a.lines, (a.repeat, (a.deadline, (a.old_class, a.new_class)))))

@@ -1,9 +1,9 @@
 -- How the seam of a page is found: only where the old cycle leaves its magazine to the page, and before the new cycle's first header of it.
 --
---   IsLeft                  the latest header of the magazine before slot 0 is the page's
+--   IsLeftTo                the latest header of the magazine before slot 0 is the page's
 --   TellsLatest, AreLatest  where the latest header of a magazine stands in the old cycle; of all eight
 --   IsWrongAs, IsWrongSlot  a slot that carries a needed item which isn't the page's
---   IsOver, TellsOver       no header of the magazine has come since then, and the slot is such; the first of them
+--   HangsOver, TellsOver    no header of the magazine has come since then, and the slot is such; the first of them
 --   SeamsAreLeft            the seam of a page is this
 use Rattle.std.specs.Prelude.{◌≡◌, ◌↔◌, ℕ, ◌-◌, ◌<◌, ◌≤◌, List, length, get_or, Option, Some, None, ℤ, pos, negsuc, ◌<ℤ◌, ◌≤ℤ◌, true, false}
 use Rattle.ttx_header.specs.Ids.{Id}
@@ -14,7 +14,7 @@ use Rattle.ttx_page.specs.Streams.{Stream, repeated, heads, heads_page, carries,
 use Rattle.ttx_page.specs.Steady.{IsTrueTo}
 use Rattle.ttx_proof.specs.Splices.{Splice, SeamAt}
 
-pub record IsLeft (old : Stream) (page : Id) : Type 0 where
+pub record IsLeftTo (old : Stream) (page : Id) : Type 0 where
   pub owner : ℤ
   pub latest : IsLatestHeader old page.mag owner (pos 0)
   pub mine : heads_page page (packet_of (old owner)) ≡ true
@@ -34,15 +34,15 @@ IsWrongAs p slot item = (needed p item ≡ true) × (carries p.id.mag item (pack
 abbrev pub IsWrongSlot : Page → List ℕ → Type 0
 IsWrongSlot p slot = (item : Item) × IsWrongAs p slot item
 
-pub record IsOver (new : Stream) (p : Page) (j : ℤ) : Type 0 where
+pub record HangsOver (new : Stream) (p : Page) (j : ℤ) : Type 0 where
   pub not_before : pos 0 ≤ℤ j
   pub no_header : (i : ℤ) → pos 0 ≤ℤ i → i <ℤ j → heads p.id.mag (packet_of (new i)) ≡ false
   pub wrong : IsWrongSlot p (new j)
 
 -- the answer is the first such slot, and None where there is none
 abbrev pub TellsOver : Stream → Page → Option ℕ → Type 0
-TellsOver new p None = (j : ℤ) → IsOver new p j → ⊥
-TellsOver new p (Some slot) = IsOver new p (pos slot) × ((i : ℕ) → i < slot → IsOver new p (pos i) → ⊥)
+TellsOver new p None = (j : ℤ) → HangsOver new p j → ⊥
+TellsOver new p (Some slot) = HangsOver new p (pos slot) × ((i : ℕ) → i < slot → HangsOver new p (pos i) → ⊥)
 
 abbrev pub SeamsAreLeft : Type 0
-SeamsAreLeft = (c : Splice) (p : Page) (j : ℤ) → SeamAt c p j ↔ (IsLeft (repeated c.old) p.id × IsOver (repeated c.new) p j)
+SeamsAreLeft = (c : Splice) (p : Page) (j : ℤ) → SeamAt c p j ↔ (IsLeftTo (repeated c.old) p.id × HangsOver (repeated c.new) p j)

@@ -1,7 +1,7 @@
 -- How the verdict on a splice is found.
 --
 --   splice_of               the splice of two cycles, two lists of pages and two certificates
---   HasOnly                 c is a splice of these cycles and certificates
+--   splice_between          that of two sides
 --   AreKnown                what is known of a splice once the first three reasons are false
 --   TellsPlace, TellsPlaceAt        the place of a page in a list; whether it stands in a place
 --   TellsSeams, TellsLates  the first common page that has a seam, or an item that isn't bridged
@@ -18,28 +18,36 @@ use Rattle.ttx_witness.specs.sent.AllSent.{AreAllSent, AreSentAfter}
 use Rattle.ttx_witness.specs.Certificates.{certificate_of}
 use Rattle.ttx_witness.specs.Coverage as coverage
 use Rattle.ttx_certificate.specs.declared.certificates.Certificate.{Certificate}
-use Rattle.ttx_proof.specs.Splices.{Splice, IsCommon, HasSeam, IsBridged, AreAlike}
+use Rattle.ttx_proof.specs.Splices.{Splice, IsCommon, HasSeam, IsBridged, NumbersAgree}
 use Rattle.ttx_proof.specs.Laws.{IsSplice, BothAccepted}
-use Rattle.ttx_proof.specs.Verdicts.{NoSeam, IsLate, IsFirstSeam, IsFirstLate, IsFirstSeamReason, IsFirstLateReason}
+use Rattle.ttx_proof.specs.Verdicts.{NoSeam, IsUnbridged, IsFirstSeam, IsFirstLate, IsFirstSeamReason, IsFirstLateReason}
 use Rattle.ttx_proof.specs.declared.verdict.SpliceReason.{SpliceReason}
+use Rattle.ttx_proof.specs.declared.lates.CommonPage.{CommonPage}
 use Rattle.ttx_proof.specs.declared.lates.Sent.{Sent}
+use Rattle.ttx_proof.specs.declared.sides.Sides.{Sides}
 
 abbrev pub splice_at : List (List ℕ) → List (List ℕ) → List Page → List Page → coverage.Certificate → coverage.Certificate → Splice
-splice_at old new old_pages new_pages v w = record { old = old; new = new; old_pages = old_pages; new_pages = new_pages; old_certificate = v; new_certificate = w }
+splice_at old new old_pages new_pages v w = record {
+  old = old;
+  new = new;
+  old_pages = old_pages;
+  new_pages = new_pages;
+  old_certificate = v;
+  new_certificate = w;
+}
 
 abbrev pub splice_of : Cycle → Cycle → List PageValue → List PageValue → Certificate → Certificate → Splice
-splice_of old new old_pages new_pages v w = splice_at (slots_of old) (slots_of new) (map page_of old_pages) (map page_of new_pages) (certificate_of v) (certificate_of w)
+splice_of old new old_pages new_pages v w = splice_at (slots_of old) (slots_of new) (map page_of old_pages) (map page_of new_pages)
+    (certificate_of v) (certificate_of w)
 
-pub record HasOnly (c : Splice) (old new : Cycle) (v w : Certificate) : Type 0 where
-  pub old_is : c.old ≡ slots_of old
-  pub new_is : c.new ≡ slots_of new
-  pub old_certificate_is : c.old_certificate ≡ certificate_of v
-  pub new_certificate_is : c.new_certificate ≡ certificate_of w
+abbrev pub splice_between : Sides → Splice
+splice_between sides =
+    splice_of sides.old.cycle.now sides.new.cycle.now sides.old.pages.now sides.new.pages.now sides.old.certificate.now sides.new.certificate.now
 
 pub record AreKnown (c : Splice) : Type 0 where
   pub splice : IsSplice c
   pub accepted : BothAccepted c
-  pub alike : AreAlike c.old_certificate c.new_certificate
+  pub alike : NumbersAgree c.old_certificate c.new_certificate
 
 -- where an equal page stands
 abbrev pub TellsPlace : List Page → Page → Option ℕ → Type 0
@@ -70,13 +78,16 @@ pub record StandsAt (c : Splice) (p : Page) (at index : ℕ) : Type 0 where
   pub old : slice_get c.old_pages at ≡ Some p
   pub new : slice_get c.new_pages index ≡ Some p
 
+abbrev pub StandsIn : Splice → CommonPage → Type 0
+StandsIn c common = StandsAt c (page_of common.page.now) common.old_place common.new_place
+
 -- each item that a viewer sees of the page is bridged
 abbrev pub AreBridged : Splice → Page → Type 0
 AreBridged c p = (item : Item) → needed p item ≡ true → IsBridged c p item
 
 -- an item isn't bridged, though a viewer sees it; or else it is bridged, if a viewer sees it
 abbrev pub TellsBridged : Splice → Page → Item → Bool → Type 0
-TellsBridged c p item true = IsLate c p item
+TellsBridged c p item true = IsUnbridged c p item
 TellsBridged c p item false = needed p item ≡ true → IsBridged c p item
 
 -- the first item of a page that isn't bridged

@@ -3,11 +3,11 @@
 --   ReadsCycle              what is answered for the bytes of a packet file
 --   AreTwo, RefusesTwo      what two files of one kind are; the first is refused, or it is right and the second is refused
 --   ReadsCycles, ReadsServices, ReadsWitnesses      the two files of each kind, in their order
---   RefusesSix, ReadsSix    the first of the six files that is refused; all of them
+--   RefusesSix              the first of the six files that is refused
 --   Splices                 the verdict on the six files, and its line
 --   SplicesFiles            what was written at each answer
---   CountsPackets, CountsCycles, CountsTexts, CountsSix, CountsSplice       a fault of a device is answered only where one was counted
-use Rattle.std.specs.Prelude.{◌≡◌, ◌⊎◌, ℕ, ◌<◌, List, length, take, string_bytes, ⊤, Option, IfSome, Result, Ok, Err}
+--   CountsPackets, CountsTwoCycles, CountsTwoTexts, CountsSix, CountsSplice       a fault of a device is answered only where one was counted
+use Rattle.std.specs.Prelude.{◌≡◌, ◌⊎◌, ℕ, ◌<◌, List, length, take, ⊤, Option, IfSome, Result, Ok, Err}
 use Rattle.std.specs.Io.KnownBytes.{Appends, Keeps}
 use Rattle.ttx_cycle.specs.Counts.{HasRisen}
 use Rattle.ttx_cycle.specs.Cycles.{slots_of}
@@ -15,7 +15,8 @@ use Rattle.ttx_cycle.specs.Reading.{Judged}
 use Rattle.ttx_source.specs.Services.{ServiceFields, pages_of}
 use Rattle.ttx_witness.specs.Certificates.{fields_of}
 use Rattle.ttx_witness.specs.Entries.{CertificateFields, certificate_at}
-use Rattle.ttx_certify.specs.CertifyingFiles.{IsPacketFile, ReadsService, ReadsWitness}
+use Rattle.ttx_certify.specs.CertifyingFiles.{IsPacketFile}
+use Rattle.ttx_certify.specs.FileSteps.{ReadsService, ReadsWitness}
 use Rattle.ttx_certify.specs.declared.faults.FilesFault.{FilesFault}
 use Rattle.ttx_certify.specs.declared.faults.FilesFault.TheVariants.{Cycle, Read, Write, NoMemory}
 use Rattle.ttx_certify.specs.declared.faults.TextFile.{TextFile}
@@ -29,7 +30,6 @@ use Rattle.ttx_proof.specs.declared.files.Cycles.{Cycles}
 use Rattle.ttx_proof.specs.declared.files.Services.{Services}
 use Rattle.ttx_proof.specs.declared.files.Witnesses.{Witnesses}
 use Rattle.ttx_proof.specs.declared.files.Six.{Six}
-use Rattle.ttx_proof.specs.declared.files.Told.{Told}
 use Rattle.ttx_proof.specs.declared.verdict.SpliceVerdict.{SpliceVerdict}
 
 abbrev pub ReadsCycle : List ℕ → Result (List (List ℕ)) FilesFault → Type 0
@@ -41,7 +41,8 @@ abbrev pub AreTwo : {T : Type 0} → (List ℕ → Result T FilesFault → Type 
 AreTwo Reads a b t u = IfSome a (λ x. Reads x (Ok t)) × IfSome b (λ y. Reads y (Ok u))
 
 abbrev pub RefusesTwo : {T : Type 0} → (List ℕ → Result T FilesFault → Type 0) → Option (List ℕ) → Option (List ℕ) → FilesFault → Type 0
-RefusesTwo {T} Reads a b fault = IfSome a (λ x. Reads x (Err fault)) ⊎ (((t : T) × IfSome a (λ x. Reads x (Ok t))) × IfSome b (λ y. Reads y (Err fault)))
+RefusesTwo {T} Reads a b fault = IfSome a (λ x. Reads x (Err fault))
+    ⊎ (((t : T) × IfSome a (λ x. Reads x (Ok t))) × IfSome b (λ y. Reads y (Err fault)))
 
 abbrev pub ReadsCycles : Option (List ℕ) → Option (List ℕ) → Result Cycles FilesFault → Type 0
 ReadsCycles a b (Ok two) = AreTwo ReadsCycle a b (slots_of two.old) (slots_of two.new)
@@ -60,26 +61,20 @@ abbrev pub Right : {T : Type 0} → (List ℕ → Result T FilesFault → Type 0
 Right {T} Reads a b = (t u : T) × AreTwo Reads a b t u
 
 -- packet files first, then services, then certificates
-abbrev pub RefusesSix : Option (List ℕ) → Option (List ℕ) → Option (List ℕ) → Option (List ℕ) → Option (List ℕ) → Option (List ℕ) → FilesFault → Type 0
+abbrev pub RefusesSix : Option (List ℕ) → Option (List ℕ) → Option (List ℕ) → Option (List ℕ) → Option (List ℕ) → Option (List ℕ) →
+    FilesFault → Type 0
 RefusesSix a b c d e f fault =
-    RefusesTwo ReadsCycle a b fault ⊎ (Right ReadsCycle a b × (RefusesTwo ReadsService c d fault ⊎ (Right ReadsService c d × RefusesTwo ReadsWitness e f fault)))
-
-pub record AreSix (a b c d e f : Option (List ℕ)) (six : Six) : Type 0 where
-  pub cycles : AreTwo ReadsCycle a b (slots_of six.cycles.old) (slots_of six.cycles.new)
-  pub services : AreTwo ReadsService c d six.services.old six.services.new
-  pub certificates : AreTwo ReadsWitness e f (fields_of six.witnesses.old) (fields_of six.witnesses.new)
-
-abbrev pub ReadsSix : Option (List ℕ) → Option (List ℕ) → Option (List ℕ) → Option (List ℕ) → Option (List ℕ) → Option (List ℕ) → Result Six FilesFault → Type 0
-ReadsSix a b c d e f (Ok six) = AreSix a b c d e f six
-ReadsSix a b c d e f (Err fault) = RefusesSix a b c d e f fault
+    RefusesTwo ReadsCycle a b fault ⊎ (Right ReadsCycle a b × (RefusesTwo ReadsService c d fault
+    ⊎ (Right ReadsService c d × RefusesTwo ReadsWitness e f fault)))
 
 abbrev pub splice_on : List (List ℕ) → List (List ℕ) → ServiceFields → ServiceFields → CertificateFields → CertificateFields → Splice
 splice_on old new old_service new_service v w = splice_at old new (pages_of old_service) (pages_of new_service) (certificate_at v) (certificate_at w)
 
 abbrev pub splice_in : Six → Splice
-splice_in six = splice_on (slots_of six.cycles.old) (slots_of six.cycles.new) six.services.old six.services.new (fields_of six.witnesses.old) (fields_of six.witnesses.new)
+splice_in six = splice_on (slots_of six.cycles.old) (slots_of six.cycles.new) six.services.old six.services.new (fields_of six.witnesses.old)
+    (fields_of six.witnesses.new)
 
-pub record IsToldOf (c : Splice) (verdict : SpliceVerdict) (line : List ℕ) : Type 0 where
+pub record IsSpliceAnswer (c : Splice) (verdict : SpliceVerdict) (line : List ℕ) : Type 0 where
   pub exact : IsSpliceVerdict c verdict
   pub seen : SpliceMeans c verdict
   pub line_is : line ≡ splice_line verdict
@@ -94,20 +89,17 @@ pub record Splices (a b c d e f : Option (List ℕ)) (verdict : SpliceVerdict) (
   pub cycles : AreTwo ReadsCycle a b old new
   pub services : AreTwo ReadsService c d old_service new_service
   pub certificates : AreTwo ReadsWitness e f v w
-  pub told : IsToldOf (splice_on old new old_service new_service v w) verdict line
+  pub told : IsSpliceAnswer (splice_on old new old_service new_service v w) verdict line
 
 -- want of memory aside, the first file that is refused
-abbrev pub IsSixRefused : Option (List ℕ) → Option (List ℕ) → Option (List ℕ) → Option (List ℕ) → Option (List ℕ) → Option (List ℕ) → FilesFault → Type 0
+abbrev pub IsSixRefused : Option (List ℕ) → Option (List ℕ) → Option (List ℕ) → Option (List ℕ) → Option (List ℕ) → Option (List ℕ) →
+    FilesFault → Type 0
 IsSixRefused a b c d e f NoMemory = ⊤
 IsSixRefused a b c d e f fault = RefusesSix a b c d e f fault
 
--- the verdict on the six files with its line, or why they are refused
-abbrev pub JudgesSix : Option (List ℕ) → Option (List ℕ) → Option (List ℕ) → Option (List ℕ) → Option (List ℕ) → Option (List ℕ) → Result Told FilesFault → Type 0
-JudgesSix a b c d e f (Ok told) = Splices a b c d e f told.verdict (string_bytes told.line)
-JudgesSix a b c d e f (Err fault) = IsSixRefused a b c d e f fault
-
 -- Ok: the line of the verdict went out. A write fault: its first `written` bytes. Else nothing, and why the files are refused.
-abbrev pub SplicesFiles : Option (List ℕ) → Option (List ℕ) → Option (List ℕ) → Option (List ℕ) → Option (List ℕ) → Option (List ℕ) → Option (List ℕ) → Option (List ℕ) → Result SpliceVerdict FilesFault → Type 0
+abbrev pub SplicesFiles : Option (List ℕ) → Option (List ℕ) → Option (List ℕ) → Option (List ℕ) → Option (List ℕ) → Option (List ℕ) →
+    Option (List ℕ) → Option (List ℕ) → Result SpliceVerdict FilesFault → Type 0
 SplicesFiles a b c d e f old new (Ok verdict) = (line : List ℕ) × Splices a b c d e f verdict line × Appends old new line
 SplicesFiles a b c d e f old new (Err (Write written)) =
     (line : List ℕ) × (verdict : SpliceVerdict) × Splices a b c d e f verdict line × (written < length line) × Appends old new (take written line)
@@ -122,16 +114,16 @@ CountsPackets (Cycle cycle.Read) a a' = HasRisen a a'
 CountsPackets (Cycle fault) a a' = ⊤
 CountsPackets fault a a' = ⊥
 
-abbrev pub CountsCycles : FilesFault → ℕ → ℕ → ℕ → ℕ → Type 0
-CountsCycles (Cycle cycle.Read) a a' b b' = EitherRises a a' b b'
-CountsCycles (Cycle fault) a a' b b' = ⊤
-CountsCycles fault a a' b b' = ⊥
+abbrev pub CountsTwoCycles : FilesFault → ℕ → ℕ → ℕ → ℕ → Type 0
+CountsTwoCycles (Cycle cycle.Read) a a' b b' = EitherRises a a' b b'
+CountsTwoCycles (Cycle fault) a a' b b' = ⊤
+CountsTwoCycles fault a a' b b' = ⊥
 
-abbrev pub CountsTexts : TextFile → FilesFault → ℕ → ℕ → ℕ → ℕ → Type 0
-CountsTexts which (Read text) a a' b b' = (text ≡ which) × EitherRises a a' b b'
-CountsTexts which (Cycle fault) a a' b b' = ⊥
-CountsTexts which (Write written) a a' b b' = ⊥
-CountsTexts which fault a a' b b' = ⊤
+abbrev pub CountsTwoTexts : TextFile → FilesFault → ℕ → ℕ → ℕ → ℕ → Type 0
+CountsTwoTexts which (Read text) a a' b b' = (text ≡ which) × EitherRises a a' b b'
+CountsTwoTexts which (Cycle fault) a a' b b' = ⊥
+CountsTwoTexts which (Write written) a a' b b' = ⊥
+CountsTwoTexts which fault a a' b b' = ⊤
 
 -- before and after, of the six readers
 abbrev pub CountsSix : FilesFault → ℕ → ℕ → ℕ → ℕ → ℕ → ℕ → ℕ → ℕ → ℕ → ℕ → ℕ → ℕ → Type 0

@@ -1,23 +1,21 @@
 //! The first common page that has an item that isn't bridged.
 
-ghost use Rattle.std.specs.Prelude.{◌≡◌, ◌≢◌, IfOk, Some, map, slice_get};
-ghost use Rattle.std.specs.List.{AllPairs};
-ghost use Rattle.ttx_cycle.specs.Cycles.{slots_of};
+ghost use Rattle.std.specs.Prelude.{◌≡◌, ◌<◌, IfOk, Some, map, slice_get, length};
+ghost use Rattle.ttx_page.specs.Pages as definitions;
 ghost use Rattle.ttx_page.specs.Views.{page_of};
-ghost use Rattle.ttx_witness.specs.Certificates.{certificate_of};
 ghost use Rattle.ttx_witness.specs.sent.Collected.{ids_of, IsIndex};
-ghost use Rattle.ttx_witness.specs.Coverage as coverage;
-ghost use Rattle.ttx_proof.specs.Splices.{Splice};
-ghost use Rattle.ttx_proof.specs.Splicing.{splice_of, HasOnly, AreKnown, AreSentOn, StandsAt, TellsBridged, TellsLate, TellsLateOf, TellsLates};
+ghost use Rattle.ttx_proof.specs.Splicing.{splice_between, AreKnown, AreSentOn, StandsIn, TellsBridged, TellsLate, TellsLateOf, TellsLates};
 
 use crate::bridging::is_bridged;
 use crate::common::equal_place;
+use crate::joining::ItemSent;
+use crate::sides::Sides;
+use crate::starts::NamedStarts;
 use crate::verdict::SpliceReason;
 use std::alloc::Global;
-use ttx_cycle::Cycle;
 use ttx_page::{Item, Page, needed};
 use ttx_witness::{
-    Certificate, Collected, NoMemory, PageIndex, collect, collect_after, item_of, run_length,
+    Collected, NoMemory, PageIndex, collect, collect_after, item_of, limit, run_length,
 };
 
 /// The transmissions of all items of all pages: of the old cycle, of the first new period, of the new cycle.
@@ -28,131 +26,101 @@ pub struct Sent {
     news: Collected,
 }
 
-// The deadline in slots.
-fn limit(certificate: &Certificate) -> u32
-    ensures { result ≡ coverage.limit (certificate_of certificate.now) }
-{
-    ttx_witness::certificate_laws::certificates_keep_their_rules();
-    certificate.deadline() * u32::from(certificate.lines())
+/// A page that stands in both lists, at a place of the old one and of the new one.
+#[derive(Clone, Copy)]
+pub struct CommonPage<'a> {
+    page: &'a Page,
+    old_place: usize,
+    new_place: usize,
 }
 
 // The transmissions of all items of all pages.
-fn collect_all(
-    alloc: Global,
-    old: &Cycle,
-    new: &Cycle,
-    old_pages: &[Page],
-    new_pages: &[Page],
-    certificate: &Certificate,
-) -> Result<Sent, NoMemory>
-    requires old_distinct { AllPairs (λ a b. a ≢ b) (ids_of old_pages.now) }
-    requires new_distinct { AllPairs (λ a b. a ≢ b) (ids_of new_pages.now) }
-    ensures { IfOk result (λ sent. (c : Splice) → c.old ≡ slots_of old.now → c.new ≡ slots_of new.now → c.old_pages ≡ map page_of old_pages.now → c.new_pages ≡ map page_of new_pages.now → c.new_certificate ≡ certificate_of certificate.now → AreSentOn c sent) }
+fn collect_all(alloc: Global, sides: &Sides) -> Result<Sent, NoMemory>
+    ensures { IfOk result (λ sent. AreSentOn (splice_between sides.now) sent) }
 {
-    let lines = certificate.lines();
-    let olds = collect(alloc, old, old_pages, lines)?;
-    let middle = collect_after(alloc, old, new, new_pages, lines)?;
-    let news = collect(alloc, new, new_pages, lines)?;
+    let (old, new) = (&sides.old, &sides.new);
+    let lines = new.certificate.lines();
+    let olds = collect(alloc, old.cycle, old.pages, lines)?;
+    let middle = collect_after(alloc, old.cycle, new.cycle, new.pages, lines)?;
+    let news = collect(alloc, new.cycle, new.pages, lines)?;
     Ok(Sent { olds, middle, news })
 }
 
 // Whether the item of a common page isn't bridged, though a viewer sees it.
 fn is_late(
     alloc: Global,
-    old: &Cycle,
-    new: &Cycle,
-    page: &Page,
-    old_certificate: &Certificate,
-    new_certificate: &Certificate,
+    sides: &Sides,
     sent: &Sent,
-    at: usize,
-    index: usize,
+    common: &CommonPage,
     item: Item,
 ) -> Result<bool, NoMemory>
-    ensures { IfOk result (λ late. (c : Splice) → HasOnly c old.now new.now old_certificate.now new_certificate.now → AreKnown c → AreSentOn c sent.now → StandsAt c (page_of page.now) at index → TellsBridged c (page_of page.now) item late) }
+    ensures { IfOk result (λ late. AreKnown (splice_between sides.now) → AreSentOn (splice_between sides.now) sent.now →
+        StandsIn (splice_between sides.now) common.now → TellsBridged (splice_between sides.now) (page_of common.now.page.now) item late) }
 {
     ttx_witness::certificate_laws::certificates_keep_their_rules();
     ttx_witness::judging_laws::transmissions_are_listed();
     ttx_witness::judging_laws::first_period_is_listed();
-    if !needed(page, item) {
+    if !needed(common.page, item) {
         return Ok(false);
     }
-    let bridged = is_bridged(
-        alloc,
-        sent.olds.sent(at, item),
-        sent.middle.sent(index, item),
-        sent.news.sent(index, item),
-        old_certificate.starts(page.id(), item),
-        new_certificate.starts(page.id(), item),
-        old.slots().len() as u32,
-        new.slots().len() as u32,
-        run_length(new_certificate.repeat(), &item),
-        limit(new_certificate),
-    )?;
+    let (old, new) = (&sides.old, &sides.new);
+    let sent = ItemSent {
+        olds: sent.olds.sent(common.old_place, item),
+        middle: sent.middle.sent(common.new_place, item),
+        news: sent.news.sent(common.new_place, item),
+    };
+    let starts = NamedStarts {
+        olds: old.certificate.starts(common.page.id(), item),
+        news: new.certificate.starts(common.page.id(), item),
+        old_period: old.cycle.slots().len() as u32,
+        new_period: new.cycle.slots().len() as u32,
+    };
+    let repeat = run_length(new.certificate.repeat(), &item);
+    let bridged = is_bridged(alloc, &sent, &starts, repeat, limit(new.certificate))?;
     Ok(!bridged)
 }
 
 // The first item of a common page that isn't bridged.
 fn late_item(
     alloc: Global,
-    old: &Cycle,
-    new: &Cycle,
-    page: &Page,
-    old_certificate: &Certificate,
-    new_certificate: &Certificate,
+    sides: &Sides,
     sent: &Sent,
-    at: usize,
-    index: usize,
+    common: &CommonPage,
 ) -> Result<Option<Item>, NoMemory>
-    ensures { IfOk result (λ late. (c : Splice) → HasOnly c old.now new.now old_certificate.now new_certificate.now → AreKnown c → AreSentOn c sent.now → StandsAt c (page_of page.now) at index → TellsLate c (page_of page.now) late) }
+    ensures { IfOk result (λ late. AreKnown (splice_between sides.now) → AreSentOn (splice_between sides.now) sent.now →
+        StandsIn (splice_between sides.now) common.now → TellsLate (splice_between sides.now) (page_of common.now.page.now) late) }
 {
     for number in 0..26u8 {
-        if is_late(
-            alloc,
-            old,
-            new,
-            page,
-            old_certificate,
-            new_certificate,
-            sent,
-            at,
-            index,
-            item_of(number),
-        )? {
+        if is_late(alloc, sides, sent, common, item_of(number))? {
             return Ok(Some(item_of(number)));
         }
     }
     Ok(None)
 }
 
-// The same for a page of the new list, where it is common.
+// The same for the page in this place of the new list, where it is common. The index is that of the old pages.
 fn late_of(
     alloc: Global,
-    old: &Cycle,
-    new: &Cycle,
-    old_pages: &[Page],
-    olds: &PageIndex,
-    page: &Page,
-    old_certificate: &Certificate,
-    new_certificate: &Certificate,
+    sides: &Sides,
     sent: &Sent,
-    index: usize,
+    index: &PageIndex,
+    new_place: usize,
 ) -> Result<Option<Item>, NoMemory>
-    requires { IsIndex (ids_of old_pages.now) olds.now }
-    ensures { IfOk result (λ late. (c : Splice) → HasOnly c old.now new.now old_certificate.now new_certificate.now → c.old_pages ≡ map page_of old_pages.now → AreKnown c → AreSentOn c sent.now → slice_get c.new_pages index ≡ Some (page_of page.now) → TellsLateOf c (page_of page.now) late) }
+    requires index { IsIndex (ids_of sides.now.old.pages.now) index.now }
+    requires place { new_place < length sides.now.new.pages.now }
+    ensures { IfOk result (λ late. AreKnown (splice_between sides.now) → AreSentOn (splice_between sides.now) sent.now →
+        (p : definitions.Page) → slice_get (map page_of sides.now.new.pages.now) new_place ≡ Some p → TellsLateOf (splice_between sides.now) p late) }
 {
-    match equal_place(old_pages, olds, page) {
-        Some(at) => late_item(
-            alloc,
-            old,
-            new,
-            page,
-            old_certificate,
-            new_certificate,
-            sent,
-            at,
-            index,
-        ),
+    let page = &sides.new.pages[new_place];
+    match equal_place(sides.old.pages, index, page) {
+        Some(old_place) => {
+            let common = CommonPage {
+                page,
+                old_place,
+                new_place,
+            };
+            late_item(alloc, sides, sent, &common)
+        }
         None => Ok(None),
     }
 }
@@ -160,65 +128,33 @@ fn late_of(
 // The late item of the first common page that has one.
 fn late_among(
     alloc: Global,
-    old: &Cycle,
-    new: &Cycle,
-    old_pages: &[Page],
-    olds: &PageIndex,
-    new_pages: &[Page],
-    old_certificate: &Certificate,
-    new_certificate: &Certificate,
+    sides: &Sides,
     sent: &Sent,
+    index: &PageIndex,
 ) -> Result<Option<SpliceReason>, NoMemory>
-    requires { IsIndex (ids_of old_pages.now) olds.now }
-    ensures { IfOk result (λ late. (c : Splice) → HasOnly c old.now new.now old_certificate.now new_certificate.now → c.old_pages ≡ map page_of old_pages.now → c.new_pages ≡ map page_of new_pages.now → AreKnown c → AreSentOn c sent.now → TellsLates c late) }
+    requires { IsIndex (ids_of sides.now.old.pages.now) index.now }
+    ensures { IfOk result (λ late. AreKnown (splice_between sides.now) → AreSentOn (splice_between sides.now) sent.now →
+        TellsLates (splice_between sides.now) late) }
 {
-    for index in 0..new_pages.len() {
-        let page = &new_pages[index];
-        if let Some(item) = late_of(
-            alloc,
-            old,
-            new,
-            old_pages,
-            olds,
-            page,
-            old_certificate,
-            new_certificate,
-            sent,
-            index,
-        )? {
-            let page = page.id();
+    for new_place in 0..sides.new.pages.len() {
+        if let Some(item) = late_of(alloc, sides, sent, index, new_place)? {
+            let page = sides.new.pages[new_place].id();
             return Ok(Some(SpliceReason::SeamLate { page, item }));
         }
     }
     Ok(None)
 }
 
-/// The first item of the first common page that has an item that isn't bridged, though a viewer sees it.
+/// The first item of the first common page that has an item that isn't bridged, though a viewer sees it. The index is that of the
+/// old pages.
 pub fn find_late(
     alloc: Global,
-    old: &Cycle,
-    new: &Cycle,
-    old_pages: &[Page],
-    new_pages: &[Page],
-    old_certificate: &Certificate,
-    new_certificate: &Certificate,
-    olds: &PageIndex,
+    sides: &Sides,
+    index: &PageIndex,
 ) -> Result<Option<SpliceReason>, NoMemory>
-    requires index { IsIndex (ids_of old_pages.now) olds.now }
-    requires old_distinct { AllPairs (λ a b. a ≢ b) (ids_of old_pages.now) }
-    requires new_distinct { AllPairs (λ a b. a ≢ b) (ids_of new_pages.now) }
-    ensures { IfOk result (λ late. AreKnown (splice_of old.now new.now old_pages.now new_pages.now old_certificate.now new_certificate.now) → TellsLates (splice_of old.now new.now old_pages.now new_pages.now old_certificate.now new_certificate.now) late) }
+    requires { IsIndex (ids_of sides.now.old.pages.now) index.now }
+    ensures { IfOk result (λ late. AreKnown (splice_between sides.now) → TellsLates (splice_between sides.now) late) }
 {
-    let sent = collect_all(alloc, old, new, old_pages, new_pages, new_certificate)?;
-    late_among(
-        alloc,
-        old,
-        new,
-        old_pages,
-        olds,
-        new_pages,
-        old_certificate,
-        new_certificate,
-        &sent,
-    )
+    let sent = collect_all(alloc, sides)?;
+    late_among(alloc, sides, &sent, index)
 }

@@ -11,6 +11,7 @@ pub mod laws;
 mod lines;
 mod seaming;
 mod seams;
+mod sides;
 mod splicing;
 mod starts;
 mod verdict;

@@ -9,7 +9,7 @@ ghost use Rattle.ttx_packet.specs.Slots.{IsSlot};
 ghost use Rattle.ttx_page.specs.Packets.{packet_of};
 ghost use Rattle.ttx_page.specs.Streams.{repeated, heads, heads_page};
 ghost use Rattle.ttx_page.specs.declared.item.Item.TheVariants.{Row as TheRow, Links as TheLinks};
-ghost use Rattle.ttx_proof.specs.Seams.{TellsLatest, AreLatest, IsLeft, IsWrongAs, IsWrongSlot, TellsOver};
+ghost use Rattle.ttx_proof.specs.Seams.{TellsLatest, AreLatest, IsLeftTo, IsWrongAs, IsWrongSlot, TellsOver};
 ghost use Rattle.ttx_proof.specs.Splices.{Splice};
 ghost use Rattle.ttx_proof.specs.Verdicts.{TellsSeam};
 
@@ -67,7 +67,7 @@ fn is_its_header(old: &Cycle, back: usize, page: PageId) -> bool
 // its first header there would still be stored in the page.
 fn is_left(old: &Cycle, latest: &[Option<usize>; 8], page: PageId) -> bool
     requires { AreLatest (slots_of old.now) latest.now }
-    ensures { IsTrue result ↔ IsLeft (repeated (slots_of old.now)) page }
+    ensures { IsTrue result ↔ IsLeftTo (repeated (slots_of old.now)) page }
 {
     match latest[usize::from(page.mag()) - 1] {
         Some(back) => is_its_header(old, back, page),
@@ -78,7 +78,8 @@ fn is_left(old: &Cycle, latest: &[Option<usize>; 8], page: PageId) -> bool
 // Whether the slot carries what is compared, a viewer sees it, and it isn't the page's.
 fn is_wrong_slot(page: &Page, check: &Check, slot: &[u8; 42]) -> bool
     requires slot { IsSlot slot.now }
-    ensures { IsTrue result ↔ ((sends (page_of page.now).id (item_of check.now) (packet_of slot.now) true ≡ true) × (needed (page_of page.now) (item_of check.now) ≡ true) × IsWrong (page_of page.now) check.now slot.now) }
+    ensures { IsTrue result ↔ ((sends (page_of page.now).id (item_of check.now) (packet_of slot.now) true ≡ true)
+        × (needed (page_of page.now) (item_of check.now) ≡ true) × IsWrong (page_of page.now) check.now slot.now) }
 {
     sends(page.id(), check.item(), slot, true)
         && needed(page, check.item())

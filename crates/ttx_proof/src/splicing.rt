@@ -5,12 +5,13 @@ ghost use Rattle.std.specs.List.{AllPairs};
 ghost use Rattle.ttx_page.specs.declared.class.Class.TheVariants.{Any};
 ghost use Rattle.ttx_witness.specs.Certificates.{certificate_of};
 ghost use Rattle.ttx_witness.specs.sent.Collected.{ids_of, IsIndex};
-ghost use Rattle.ttx_proof.specs.Splices.{AreAlike};
-ghost use Rattle.ttx_proof.specs.Splicing.{splice_of, AreKnown};
+ghost use Rattle.ttx_proof.specs.Splices.{NumbersAgree};
+ghost use Rattle.ttx_proof.specs.Splicing.{splice_of, splice_between, AreKnown};
 ghost use Rattle.ttx_proof.specs.Verdicts.{IsSpliceVerdict, SpliceMeans};
 
 use crate::lates::find_late;
 use crate::seaming::find_seam;
+use crate::sides::{Side, Sides};
 use crate::verdict::{SpliceReason, SpliceVerdict};
 use std::alloc::Global;
 use ttx_certify::{Verdict, certify};
@@ -29,8 +30,8 @@ fn is_any(certificate: &Certificate) -> bool
 }
 
 // Whether lines, repeat count and deadline agree, and no receiver is taken to clear pages.
-fn are_alike(old: &Certificate, new: &Certificate) -> bool
-    ensures { IsTrue result ↔ AreAlike (certificate_of old.now) (certificate_of new.now) }
+fn numbers_agree(old: &Certificate, new: &Certificate) -> bool
+    ensures { IsTrue result ↔ NumbersAgree (certificate_of old.now) (certificate_of new.now) }
 {
     old.lines() == new.lines()
         && old.repeat() == new.repeat()
@@ -39,85 +40,48 @@ fn are_alike(old: &Certificate, new: &Certificate) -> bool
         && is_any(new)
 }
 
-// The first seam, or else the first late item, where both cycles are accepted and the certificates alike. The index is that of
-// the old pages.
-fn found_verdict(
-    alloc: Global,
-    old: &Cycle,
-    new: &Cycle,
-    old_pages: &[Page],
-    new_pages: &[Page],
-    old_certificate: &Certificate,
-    new_certificate: &Certificate,
-    index: &PageIndex,
-) -> Result<SpliceVerdict, NoMemory>
-    requires index { IsIndex (ids_of old_pages.now) index.now }
-    requires old_distinct { AllPairs (λ a b. a ≢ b) (ids_of old_pages.now) }
-    requires new_distinct { AllPairs (λ a b. a ≢ b) (ids_of new_pages.now) }
-    ensures { IfOk result (λ verdict. AreKnown (splice_of old.now new.now old_pages.now new_pages.now old_certificate.now new_certificate.now) → IsSpliceVerdict (splice_of old.now new.now old_pages.now new_pages.now old_certificate.now new_certificate.now) verdict) }
+// The first seam, or else the first late item, where both cycles are accepted and the numbers agree. The index is that of the old
+// pages.
+fn found_verdict(alloc: Global, sides: &Sides, index: &PageIndex) -> Result<SpliceVerdict, NoMemory>
+    requires { IsIndex (ids_of sides.now.old.pages.now) index.now }
+    ensures { IfOk result (λ verdict. AreKnown (splice_between sides.now) → IsSpliceVerdict (splice_between sides.now) verdict) }
 {
-    if let Some(reason) = find_seam(old, new, old_pages, new_pages, index) {
+    if let Some(reason) = find_seam(sides, index) {
         return Ok(SpliceVerdict::No(reason));
     }
-    match find_late(
-        alloc,
-        old,
-        new,
-        old_pages,
-        new_pages,
-        old_certificate,
-        new_certificate,
-        index,
-    )? {
+    match find_late(alloc, sides, index)? {
         Some(reason) => Ok(SpliceVerdict::No(reason)),
         None => Ok(SpliceVerdict::Yes),
     }
 }
 
 // The same, once the old pages have an index.
-fn joined_verdict(
-    alloc: Global,
-    old: &Cycle,
-    new: &Cycle,
-    old_pages: &[Page],
-    new_pages: &[Page],
-    old_certificate: &Certificate,
-    new_certificate: &Certificate,
-) -> Result<SpliceVerdict, NoMemory>
-    requires old_distinct { AllPairs (λ a b. a ≢ b) (ids_of old_pages.now) }
-    requires new_distinct { AllPairs (λ a b. a ≢ b) (ids_of new_pages.now) }
-    ensures { IfOk result (λ verdict. AreKnown (splice_of old.now new.now old_pages.now new_pages.now old_certificate.now new_certificate.now) → IsSpliceVerdict (splice_of old.now new.now old_pages.now new_pages.now old_certificate.now new_certificate.now) verdict) }
+fn joined_verdict(alloc: Global, sides: &Sides) -> Result<SpliceVerdict, NoMemory>
+    ensures { IfOk result (λ verdict. AreKnown (splice_between sides.now) → IsSpliceVerdict (splice_between sides.now) verdict) }
 {
-    let index = index_of(alloc, old_pages)?;
-    found_verdict(
-        alloc,
-        old,
-        new,
-        old_pages,
-        new_pages,
-        old_certificate,
-        new_certificate,
-        &index,
-    )
+    let index = index_of(alloc, sides.old.pages)?;
+    found_verdict(alloc, sides, &index)
 }
 
-/// Whether the splice is accepted; the ids in each of the two lists of pages are distinct. The old cycle repeats, then at a period's end the new one does. If
-/// not, the first reason: the old cycle, the new cycle, the numbers of the certificates, the first common page that has a seam, the
-/// first that has an item that isn't bridged; pages as the new list has them, then the least slot or item.
+/// Whether the splice is accepted; the ids in each of the two lists of pages are distinct. The old cycle repeats, then at a period's
+/// end the new one does. If not, the first reason: the old cycle, the new cycle, the numbers of the certificates, the first common
+/// page that has a seam, the first that has an item that isn't bridged; pages as the new list has them, then the least slot or item.
+///
 /// Where it says Yes, the joined stream is seen: each common page by the deadline after tuning, through the change and ever after,
 /// each other new page by the deadline after tuning or after the change, whichever is later.
-pub fn splice(
+pub fn splice<'a>(
     alloc: Global,
-    old: &Cycle,
-    new: &Cycle,
-    old_pages: &[Page],
-    new_pages: &[Page],
-    old_certificate: &Certificate,
-    new_certificate: &Certificate,
+    old: &'a Cycle,
+    new: &'a Cycle,
+    old_pages: &'a [Page],
+    new_pages: &'a [Page],
+    old_certificate: &'a Certificate,
+    new_certificate: &'a Certificate,
 ) -> Result<SpliceVerdict, NoMemory>
     requires old_distinct { AllPairs (λ a b. a ≢ b) (ids_of old_pages.now) }
     requires new_distinct { AllPairs (λ a b. a ≢ b) (ids_of new_pages.now) }
-    ensures exact { IfOk result (IsSpliceVerdict (splice_of old.now new.now old_pages.now new_pages.now old_certificate.now new_certificate.now)) }
+    ensures exact { IfOk result (IsSpliceVerdict
+        (splice_of old.now new.now old_pages.now new_pages.now old_certificate.now new_certificate.now)) }
     ensures seen { IfOk result (SpliceMeans (splice_of old.now new.now old_pages.now new_pages.now old_certificate.now new_certificate.now)) }
 {
     crate::laws::verdicts_mean();
@@ -129,16 +93,18 @@ pub fn splice(
     if let Verdict::No(reason) = certify(alloc, new, new_pages, new_certificate)? {
         return Ok(SpliceVerdict::No(SpliceReason::New(reason)));
     }
-    if !are_alike(old_certificate, new_certificate) {
+    if !numbers_agree(old_certificate, new_certificate) {
         return Ok(SpliceVerdict::No(SpliceReason::Numbers));
     }
-    joined_verdict(
-        alloc,
-        old,
-        new,
-        old_pages,
-        new_pages,
-        old_certificate,
-        new_certificate,
-    )
+    let old = Side {
+        cycle: old,
+        pages: old_pages,
+        certificate: old_certificate,
+    };
+    let new = Side {
+        cycle: new,
+        pages: new_pages,
+        certificate: new_certificate,
+    };
+    joined_verdict(alloc, &Sides { old, new })
 }

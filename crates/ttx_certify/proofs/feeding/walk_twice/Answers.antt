@@ -1,7 +1,7 @@
 use Rattle.std.proofs.Common.{[], ℕ, List, subst, ◌∙◌}
 use Rattle.ttx_cycle.specs.Counters.{inner_of}
 use Rattle.ttx_certify.specs.Verdicts.{Means}
-use Rattle.ttx_certify.specs.Walking.{Starts, Stands, walk_pages, walk_certificate, second_pages, second_certificate}
+use Rattle.ttx_certify.specs.Walking.{Starts, Stands, walk_pages, walk_certificate, second_pages}
 use Rattle.ttx_certify.specs.Walking.{IsWalkVerdict}
 use Rattle.ttx_certify.proofs.TwoFiles.{twice_walked}
 use Rattle.ttx_certify.proofs.feeding.walk_twice.Goals as goal

@@ -1,4 +1,4 @@
-use Rattle.ttx_late.proofs.Accepted as L
+use Rattle.ttx_late.proofs.AcceptedIsShown as L
 use Rattle.ttx_late.proofs.laws.each_list_runs_late.Goals as goal
 
 pub returns : goal.returns

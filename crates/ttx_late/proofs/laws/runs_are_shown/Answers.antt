@@ -1,4 +1,4 @@
-use Rattle.ttx_late.proofs.Shown as L
+use Rattle.ttx_late.proofs.RunsAreShown as L
 use Rattle.ttx_late.proofs.laws.runs_are_shown.Goals as goal
 
 pub returns : goal.returns

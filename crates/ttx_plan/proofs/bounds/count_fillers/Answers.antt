@@ -5,7 +5,7 @@ use Rattle.ttx_plan.specs.Blocks.{rounds_to, round_of, with_fillers}
 use Rattle.ttx_plan.specs.Carries.{block_at, blocks_of}
 use Rattle.ttx_plan.specs.Seen.{fillers_in}
 use Rattle.ttx_plan.proofs.PassedBlocks.{KeepsLatest, count_then, keeps_then, list_else}
-use Rattle.ttx_plan.proofs.Listed.{get_there, page_at_index, blocks_next}
+use Rattle.ttx_plan.proofs.ServicePages.{get_there, page_at_index, blocks_next}
 use Rattle.ttx_plan.proofs.bounds.count_fillers.Goals as goal
 use Rattle.ttx_plan.proofs.bounds.count_fillers.Goals.{then-round-times-eq0+then-pass, then-round-times-eq0+else-pass, else-round-times-eq0}
 

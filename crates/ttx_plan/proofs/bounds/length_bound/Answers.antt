@@ -3,11 +3,11 @@ use Rattle.std.specs.Prelude.{sum_by}
 use Rattle.ttx_page.specs.Views.{page_of}
 use Rattle.ttx_source.specs.Services.{authored_at}
 use Rattle.ttx_plan.specs.Blocks.{Block, packets_in, rounds_to, used_queues}
-use Rattle.ttx_plan.specs.Carries.{blocks_of, sent_of}
+use Rattle.ttx_plan.specs.Carries.{blocks_of, blocks_sent}
 use Rattle.ttx_plan.specs.Ranges.{IsOften}
-use Rattle.ttx_plan.proofs.Listed.{get_there, page_at_index, blocks_often, sum_next, used_same, same_lengths, product_most}
+use Rattle.ttx_plan.proofs.ServicePages.{get_there, page_at_index, blocks_often, sum_next, used_same, same_lengths, product_most}
 use Rattle.ttx_plan.proofs.SentBlocks.{led_length, led_packets, same_used}
-use Rattle.ttx_plan.proofs.Often.{sum_sent, count_sent}
+use Rattle.ttx_plan.proofs.RepeatedBlocks.{sum_sent, count_sent}
 use Rattle.ttx_plan.proofs.bounds.length_bound.Goals as goal
 
 pub loop-index-preserved : goal.loop-index-preserved
@@ -33,7 +33,7 @@ pub returns : goal.returns
 returns c =
     let pages = c.args.service.now.pages in
     let all = blocks_of c.args.receivers.class c.args.service.now.pages in
-    let sent = sent_of c.args.receivers.late c.args.receivers.class c.args.service.now.pages in
+    let sent = blocks_sent c.args.receivers.late c.args.receivers.class c.args.service.now.pages in
     let rounds = rounds_to (blocks_of c.args.receivers.class c.args.service.now.pages) 8 in
     let often = blocks_often c.args.receivers.class c.args.service.now.serial c.args.service.now.pages c.pages-pages.ensures.ranges.pages in
     let size : length c.pages-pages.result.now ≡ length c.args.service.now.pages = same_lengths c.pages-pages.result.now c.args.service.now.pages c.pages-pages.ensures.value in

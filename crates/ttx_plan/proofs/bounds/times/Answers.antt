@@ -1,5 +1,5 @@
 use Rattle.std.proofs.Common.{Some, ap, ◌∙◌, sym}
-use Rattle.ttx_plan.proofs.Listed.{often_there}
+use Rattle.ttx_plan.proofs.ServicePages.{often_there}
 use Rattle.ttx_plan.proofs.bounds.times.Goals as goal
 
 pub returns-clause-is : goal.returns-clause-is

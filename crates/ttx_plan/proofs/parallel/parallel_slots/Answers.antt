@@ -1,8 +1,8 @@
 use Rattle.std.proofs.Common.{◌≡◌, ◌-◌, arith, subst, sym, ◌∙◌, ◌++◌, ◌∷◌, []}
 use Rattle.std.proofs.lemmas.Bool.{cond-true, cond-false}
 use Rattle.ttx_plan.specs.Cursors.{magazines_of}
-use Rattle.ttx_plan.specs.Packets.{is_sent}
-use Rattle.ttx_plan.proofs.State.{State, start, start_left, has_room, more, finish, finish_length, some_slot}
+use Rattle.ttx_plan.specs.Packets.{holds_packet}
+use Rattle.ttx_plan.proofs.SchedulerState.{State, start, start_left, has_room, more, finish, finish_length, some_slot}
 use Rattle.ttx_plan.proofs.parallel.parallel_slots.Goals as goal
 
 pub count_packets-left-requires-clause-few : goal.count_packets-left-requires-clause-few
@@ -18,17 +18,17 @@ step-slot-requires-clause-room c =
     let r = has_room (magazines_of c.args.lines c.args.info c.args.queues.now) c.loop-left.cursors c.loop-left.slots.items c.loop-left.left c.args.lines c.loop-left.invariant c.loop-left-test.true c.requires.lines.0 c.requires.few in
     omega (arith, r, c.loop-left.slots.ok)
 
-pub loop-left-smaller-then-is_sent : goal.loop-left-smaller-then-is_sent
-loop-left-smaller-then-is_sent c =
+pub loop-left-smaller-then-holds_packet : goal.loop-left-smaller-then-holds_packet
+loop-left-smaller-then-holds_packet c =
     let r = has_room (magazines_of c.args.lines c.args.info c.args.queues.now) c.loop-left.cursors c.loop-left.slots.items c.loop-left.left c.args.lines c.loop-left.invariant c.loop-left-test.true c.requires.lines.0 c.requires.few in
     omega (arith, r, c.in_ok-push.ensures.len)
 
-pub loop-left-preserved-then-is_sent : goal.loop-left-preserved-then-is_sent
-loop-left-preserved-then-is_sent c =
+pub loop-left-preserved-then-holds_packet : goal.loop-left-preserved-then-holds_packet
+loop-left-preserved-then-holds_packet c =
     subst (λ x. State (magazines_of c.args.lines c.args.info c.args.queues.now) c.step-slot.new.self x (c.loop-left.left - 1)) (sym c.in_ok-push.ensures.items)
     (subst (λ x. State (magazines_of c.args.lines c.args.info c.args.queues.now) c.step-slot.new.self (c.loop-left.slots.items ++ x ∷ []) (c.loop-left.left - 1)) (sym c.bytes.ensures)
     (more c.args.lines c.args.info c.args.queues.now c.loop-left.cursors c.step-slot.new.self c.loop-left.slots.items c.len.result c.loop-left.left (c.loop-left.left - 1) c.step-slot.result
-    c.loop-left.invariant (omega arith) c.loop-left-test.true c.step-slot.ensures.slot c.step-slot.ensures.cursors (cond-true (is_sent c.step-slot.result) _ _ (sym c.is_sent.ensures ∙ c.if-is_sent.true))))
+    c.loop-left.invariant (omega arith) c.loop-left-test.true c.step-slot.ensures.slot c.step-slot.ensures.cursors (cond-true (holds_packet c.step-slot.result) _ _ (sym c.holds_packet.ensures ∙ c.if-holds_packet.true))))
 
 pub loop-left-smaller : goal.loop-left-smaller
 loop-left-smaller c =
@@ -40,7 +40,7 @@ loop-left-preserved c =
     subst (λ x. State (magazines_of c.args.lines c.args.info c.args.queues.now) c.step-slot.new.self x c.loop-left.left) (sym c.in_ok-push.ensures.items)
     (subst (λ x. State (magazines_of c.args.lines c.args.info c.args.queues.now) c.step-slot.new.self (c.loop-left.slots.items ++ x ∷ []) c.loop-left.left) (sym c.bytes.ensures)
     (more c.args.lines c.args.info c.args.queues.now c.loop-left.cursors c.step-slot.new.self c.loop-left.slots.items c.len.result c.loop-left.left c.loop-left.left c.step-slot.result
-    c.loop-left.invariant (omega arith) c.loop-left-test.true c.step-slot.ensures.slot c.step-slot.ensures.cursors (cond-false (is_sent c.step-slot.result) _ _ (sym c.is_sent.ensures ∙ c.if-is_sent.false))))
+    c.loop-left.invariant (omega arith) c.loop-left-test.true c.step-slot.ensures.slot c.step-slot.ensures.cursors (cond-false (holds_packet c.step-slot.result) _ _ (sym c.holds_packet.ensures ∙ c.if-holds_packet.false))))
 
 pub returns-clause-cycle : goal.returns-clause-cycle
 returns-clause-cycle c =

@@ -1,6 +1,6 @@
 use Rattle.std.proofs.Common.{◌-◌, vec_len}
 use Rattle.ttx_plan.specs.Cursors.{magazines_of}
-use Rattle.ttx_plan.proofs.State.{State}
+use Rattle.ttx_plan.proofs.SchedulerState.{State}
 use Rattle.ttx_plan.proofs.parallel.parallel_slots.Given as goal
 
 abbrev pub invariant-loop-left : goal.invariant-loop-left

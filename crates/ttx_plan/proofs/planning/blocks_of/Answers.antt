@@ -4,7 +4,7 @@ use Rattle.ttx_page.specs.Views.{page_of}
 use Rattle.ttx_source.specs.Services.{authored_at}
 use Rattle.ttx_plan.specs.Carries.{blocks_of}
 use Rattle.ttx_plan.specs.Seen.{seen}
-use Rattle.ttx_plan.proofs.Listed.{get_there, page_at_index, often_at, blocks_next}
+use Rattle.ttx_plan.proofs.ServicePages.{get_there, page_at_index, often_at, blocks_next}
 use Rattle.ttx_plan.proofs.planning.blocks_of.Goals as goal
 
 pub new-requires : goal.new-requires

@@ -1,6 +1,6 @@
 use Rattle.std.proofs.Common.{◌≡◌, ◌∙◌, ap, map}
 use Rattle.ttx_plan.specs.Blocks.{sent_blocks}
-use Rattle.ttx_plan.specs.Carries.{blocks_of, sent_of}
+use Rattle.ttx_plan.specs.Carries.{blocks_of, blocks_sent}
 use Rattle.ttx_plan.specs.Seen.{seen, seen_sent}
 use Rattle.ttx_plan.proofs.PlannedSlots.{some_sent}
 use Rattle.ttx_plan.proofs.planning.cycle_of.Goals as goal
@@ -8,7 +8,7 @@ use Rattle.ttx_plan.proofs.planning.cycle_of.Goals as goal
 pub cycle_slots-requires : goal.cycle_slots-requires
 cycle_slots-requires c =
     let blocks : map seen c.deref.result.now ≡ blocks_of c.args.receivers.class c.args.service.now.pages = ap (map seen) c.deref.ensures.value ∙ c.in_ok-blocks.ensures in
-    let sent : map seen_sent c.deref-2.result.now ≡ sent_of c.args.receivers.late c.args.receivers.class c.args.service.now.pages =
+    let sent : map seen_sent c.deref-2.result.now ≡ blocks_sent c.args.receivers.late c.args.receivers.class c.args.service.now.pages =
     ap (map seen_sent) c.deref-2.ensures.value ∙ c.in_ok-sent.ensures ∙ ap (sent_blocks c.args.receivers.late) blocks in
     let lines : c.from-lines.result ≡ c.args.service.now.lines = c.from-lines.ensures ∙ c.lines.ensures.value in
     record {
@@ -20,7 +20,7 @@ cycle_slots-requires c =
 pub is_planned-requires : goal.is_planned-requires
 is_planned-requires c =
     let blocks : map seen c.deref.result.now ≡ blocks_of c.args.receivers.class c.args.service.now.pages = ap (map seen) c.deref.ensures.value ∙ c.in_ok-blocks.ensures in
-    let sent : map seen_sent c.deref-2.result.now ≡ sent_of c.args.receivers.late c.args.receivers.class c.args.service.now.pages =
+    let sent : map seen_sent c.deref-2.result.now ≡ blocks_sent c.args.receivers.late c.args.receivers.class c.args.service.now.pages =
     ap (map seen_sent) c.deref-2.ensures.value ∙ c.in_ok-sent.ensures ∙ ap (sent_blocks c.args.receivers.late) blocks in
     let lines : c.from-lines.result ≡ c.args.service.now.lines = c.from-lines.ensures ∙ c.lines.ensures.value in
     let slots = rw c.unwrap-cycle.ensures at c.of.ensures.slots in

@@ -3,8 +3,8 @@ use Rattle.ttx_cycle.specs.Cycles.{slots_of}
 use Rattle.ttx_plan.specs.declared.faults.PlanFault.TheVariants.{NoPages, TooLong, NoMemory}
 use Rattle.ttx_plan.specs.Acceptance.{IsPlanned}
 use Rattle.ttx_plan.specs.Blocks.{length_bound}
-use Rattle.ttx_plan.specs.Carries.{sent_of}
-use Rattle.ttx_plan.proofs.Answered.{is_told, is_not_told, ok_is_other, memory_is_not_pages, memory_is_not_long, long_is_not_pages, pages_are_not_long, empty_alike, some_alike, bound_of_none}
+use Rattle.ttx_plan.specs.Carries.{blocks_sent}
+use Rattle.ttx_plan.proofs.PlanFaults.{is_told, is_not_told, ok_is_other, memory_is_not_pages, memory_is_not_long, long_is_not_pages, pages_are_not_long, empty_alike, some_alike, bound_of_none}
 use Rattle.ttx_plan.proofs.planning.plan_with.Goals as goal
 
 pub cycle_of-requires : goal.cycle_of-requires
@@ -15,26 +15,26 @@ cycle_of-requires c = record {
 
 pub returns-in-Err : goal.returns-in-Err
 returns-in-Err c =
-    let few : length_bound c.args.service.now.lines (sent_of c.args.receivers.late c.args.receivers.class c.args.service.now.pages) ≤ 65536 = subst (λ n. n ≤ 65536) c.length_bound.ensures c.if-length_bound-gt-MOST.false in
+    let few : length_bound c.args.service.now.lines (blocks_sent c.args.receivers.late c.args.receivers.class c.args.service.now.pages) ≤ 65536 = subst (λ n. n ≤ 65536) c.length_bound.ensures c.if-length_bound-gt-MOST.false in
     record {
       carries = tt;
       planned = tt;
       accepted = tt;
       followed = tt;
       no_pages = is_not_told (Err NoMemory) (Err NoPages) memory_is_not_pages (some_alike c.pages.result.now c.args.service.now.pages c.pages.ensures.count (sym c.if-is_empty.false ∙ c.is_empty.ensures));
-      too_long = is_not_told (Err NoMemory) (Err TooLong) memory_is_not_long (λ (long : 65536 < length_bound c.args.service.now.lines (sent_of c.args.receivers.late c.args.receivers.class c.args.service.now.pages)). omega (arith, few, long));
+      too_long = is_not_told (Err NoMemory) (Err TooLong) memory_is_not_long (λ (long : 65536 < length_bound c.args.service.now.lines (blocks_sent c.args.receivers.late c.args.receivers.class c.args.service.now.pages)). omega (arith, few, long));
     }
 
 pub returns-in-Ok : goal.returns-in-Ok
 returns-in-Ok c =
-    let few : length_bound c.args.service.now.lines (sent_of c.args.receivers.late c.args.receivers.class c.args.service.now.pages) ≤ 65536 = subst (λ n. n ≤ 65536) c.length_bound.ensures c.if-length_bound-gt-MOST.false in
+    let few : length_bound c.args.service.now.lines (blocks_sent c.args.receivers.late c.args.receivers.class c.args.service.now.pages) ≤ 65536 = subst (λ n. n ≤ 65536) c.length_bound.ensures c.if-length_bound-gt-MOST.false in
     record {
       carries = c.in-Ok.ensures.carries;
       planned = c.in-Ok.ensures;
       accepted = c.planned_cycles_are_accepted.ensures.accepted c.args.receivers.late c.args.receivers.class c.args.service.now (slots_of c.in-Ok.cycle) c.in-Ok.ensures;
       followed = λ late. c.late_cycles_are_followed.ensures c.args.receivers.class c.args.service.now (slots_of c.in-Ok.cycle) (subst (λ b. IsPlanned b c.args.receivers.class c.args.service.now (slots_of c.in-Ok.cycle)) late c.in-Ok.ensures);
       no_pages = is_not_told (Ok c.in-Ok.cycle) (Err NoPages) (ok_is_other c.in-Ok.cycle NoPages) (some_alike c.pages.result.now c.args.service.now.pages c.pages.ensures.count (sym c.if-is_empty.false ∙ c.is_empty.ensures));
-      too_long = is_not_told (Ok c.in-Ok.cycle) (Err TooLong) (ok_is_other c.in-Ok.cycle TooLong) (λ (long : 65536 < length_bound c.args.service.now.lines (sent_of c.args.receivers.late c.args.receivers.class c.args.service.now.pages)). omega (arith, few, long));
+      too_long = is_not_told (Ok c.in-Ok.cycle) (Err TooLong) (ok_is_other c.in-Ok.cycle TooLong) (λ (long : 65536 < length_bound c.args.service.now.lines (blocks_sent c.args.receivers.late c.args.receivers.class c.args.service.now.pages)). omega (arith, few, long));
     }
 
 pub returns-then-is_empty : goal.returns-then-is_empty

@@ -1,6 +1,6 @@
 use Rattle.std.proofs.Common.{◌∙◌, ◌++◌, ◌∷◌, [], get_or, ap}
 use Rattle.ttx_plan.specs.Blocks.{header_packet, rest_packet}
-use Rattle.ttx_plan.proofs.Onward.{others_more, others_end}
+use Rattle.ttx_plan.proofs.GrowingLists.{others_more, others_end}
 use Rattle.ttx_plan.proofs.rounds.push_page.Goals as goal
 
 pub loop-bytes-init : goal.loop-bytes-init

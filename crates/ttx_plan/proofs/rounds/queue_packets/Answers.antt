@@ -5,8 +5,8 @@ use Rattle.std.proofs.lemmas.Bool.{cond-true, cond-false}
 use Rattle.ttx_plan.specs.declared.packet.Packet.{Packet}
 use Rattle.ttx_plan.specs.Blocks.{packets_of, has_pages, time_filling_packet}
 use Rattle.ttx_plan.specs.Seen.{seen_sent}
-use Rattle.ttx_plan.proofs.Onward.{own_more, other_more}
-use Rattle.ttx_plan.proofs.Used.{any_seen}
+use Rattle.ttx_plan.proofs.GrowingLists.{own_more, other_more}
+use Rattle.ttx_plan.proofs.UsedQueues.{any_seen}
 use Rattle.ttx_plan.proofs.rounds.queue_packets.Goals as goal
 use Rattle.ttx_plan.proofs.rounds.queue_packets.Goals.{then-has_pages+in_ok-push, else-has_pages, then-block-queue+in_ok-push_block, else-block-queue}
 

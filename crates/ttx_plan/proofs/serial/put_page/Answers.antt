@@ -1,8 +1,8 @@
 use Rattle.std.proofs.Common.{[], replicate, arith}
 use Rattle.ttx_plan.specs.declared.packet.Slot.TheVariants.{Empty, Sent}
 use Rattle.ttx_plan.specs.Blocks.{header_packet, rest_packet}
-use Rattle.ttx_plan.proofs.Laid.{laid_same}
-use Rattle.ttx_plan.proofs.Onward.{same_more, others_begin, others_more, others_end}
+use Rattle.ttx_plan.proofs.LaidSlots.{laid_same}
+use Rattle.ttx_plan.proofs.GrowingLists.{same_more, others_begin, others_more, others_end}
 use Rattle.ttx_plan.proofs.serial.put_page.Goals as goal
 
 pub loop-init : goal.loop-init

@@ -6,8 +6,8 @@ use Rattle.ttx_plan.specs.declared.packet.Slot.TheVariants.{Sent}
 use Rattle.ttx_plan.specs.Blocks.{used_to, time_filling_packet}
 use Rattle.ttx_plan.specs.Seen.{seen_sent}
 use Rattle.ttx_plan.specs.Serial.{IsLaid, serial_block}
-use Rattle.ttx_plan.proofs.Laid.{laid_same}
-use Rattle.ttx_plan.proofs.Used.{any_seen, used_more}
+use Rattle.ttx_plan.proofs.LaidSlots.{laid_same}
+use Rattle.ttx_plan.proofs.UsedQueues.{any_seen, used_more}
 use Rattle.ttx_plan.proofs.serial.serial_slots.Goals as goal
 use Rattle.ttx_plan.proofs.serial.serial_slots.Goals.{then-has_pages+in_ok-put, else-has_pages}
 

@@ -1,0 +1,101 @@
+-- What a slot is of a page, which no wrong bit changes: whether it is a header of the magazine, of the selection, of the page number.
+use Rattle.std.proofs.Common.{◌≡◌, ℕ, ◌<◌, ◌≤◌, true, List, [], get_or, refl, sym, ap, ◌∙◌, subst, inl, inr, arith}
+use Rattle.ttx_code.specs.Words.{Near}
+use Rattle.ttx_packet.specs.Slots.{IsSlot, Kind, IsEmpty, IsUnreadable, IsHeader, IsRow, IsLinks, IsInfo, IsOther, is_empty, kind_of, is_clean}
+use Rattle.ttx_packet.specs.Receptions.{IsFree, MayBeReceivedAs}
+use Rattle.ttx_packet.specs.Laws.{KindIsKept}
+use Rattle.ttx_header.specs.Headers.{id_of, control_of}
+use Rattle.ttx_header.specs.Laws.{HeaderIsKept}
+use Rattle.ttx_page.specs.Packets.{Packet, Empty, Unreadable, Header, Row, Links, Info, Other, packet_of, packet_of_kind}
+use Rattle.ttx_page.specs.declared.selection.Selection.{Selection}
+use Rattle.ttx_page.specs.Streams.{heads, heads_matched}
+use Rattle.ttx_late.specs.LateReceivers.{heads_number}
+use Rattle.ttx_late.proofs.Tests.{if_ind, no_both, cases_bool}
+
+-- the header in a packet: all else is one
+abbrev pub outline : Packet → Packet
+outline (Header id control text) = Header id control []
+outline (Row mag number text) = Other
+outline (Links mag content) = Other
+outline Empty = Other
+outline Unreadable = Other
+outline Info = Other
+outline Other = Other
+
+packet_is : (slot : List ℕ) → packet_of slot ≡ packet_of_kind slot (kind_of slot)
+unfolding packet_of
+packet_is slot = refl
+
+packet_empty : (slot : List ℕ) → is_empty slot ≡ true → packet_of slot ≡ Empty
+unfolding kind_of
+packet_empty slot e =
+    packet_is slot ∙ ap (packet_of_kind slot) (if_ind (λ k. k ≡ IsEmpty) (is_empty slot) IsEmpty _ (λ _. refl) (λ f. absurd (no_both _ e f)))
+
+-- bytes 0 to 9 of a header are not free
+near_header : (sent received : List ℕ) (mag : ℕ) → kind_of sent ≡ IsHeader mag → MayBeReceivedAs sent received → (x : ℕ) → x < 10 → Near (get_or sent x 0) (get_or received x 0)
+near_header sent received mag e h x lt = elim (h.near x (omega arith)) as (λ _. Near (get_or sent x 0) (get_or received x 0))
+    [ inl f ↦ let k : 34 ≤ x = subst (λ kind. IsFree kind x) e f in absurd (omega arith) | inr near ↦ near ]
+
+-- what is received is a header of the same id and control bits, or it is none, as what was sent
+pub received_as : KindIsKept → HeaderIsKept → (sent received : List ℕ) → IsSlot sent → is_clean sent ≡ true → MayBeReceivedAs sent received →
+    outline (packet_of received) ≡ outline (packet_of sent)
+received_as kind header sent received s clean h = elim (cases_bool (is_empty sent)) as (λ _. outline (packet_of received) ≡ outline (packet_of sent)) [
+  | inl e ↦ ap outline (packet_empty received (h.empty e)) ∙ ap outline (sym (packet_empty sent e))
+  | inr e ↦ elim (kind sent received s clean e h) as (λ _. outline (packet_of received) ≡ outline (packet_of sent)) [
+    | inl same ↦ ap outline (packet_is received) ∙ ap (λ k. outline (packet_of_kind received k)) same ∙ same_outline (kind_of sent) refl ∙ ap outline (sym (packet_is sent))
+    | inr lost ↦ ap outline (packet_empty received lost.1) ∙ ap outline (sym (packet_is sent ∙ ap (packet_of_kind sent) lost.0))
+  ]
+]
+  where
+    same_outline : (k : Kind) → kind_of sent ≡ k → outline (packet_of_kind received k) ≡ outline (packet_of_kind sent k)
+    same_outline (IsHeader mag) e =
+        let kept = header sent received mag s h.slot clean e (near_header sent received mag e h) in
+        ap (λ id. Header id (control_of received) []) kept.0 ∙ ap (λ control. Header (id_of sent) control []) kept.1
+    same_outline IsEmpty e = refl
+    same_outline IsUnreadable e = refl
+    same_outline (IsRow mag number) e = refl
+    same_outline (IsLinks mag) e = refl
+    same_outline IsInfo e = refl
+    same_outline (IsOther mag number) e = refl
+
+matched_outline : (sel : Selection) (pkt : Packet) → heads_matched sel (outline pkt) ≡ heads_matched sel pkt
+matched_outline sel (Header id control text) = refl
+matched_outline sel (Row mag number text) = refl
+matched_outline sel (Links mag content) = refl
+matched_outline sel Empty = refl
+matched_outline sel Unreadable = refl
+matched_outline sel Info = refl
+matched_outline sel Other = refl
+
+heads_outline : (mag : ℕ) (pkt : Packet) → heads mag (outline pkt) ≡ heads mag pkt
+heads_outline mag (Header id control text) = refl
+heads_outline mag (Row m number text) = refl
+heads_outline mag (Links m content) = refl
+heads_outline mag Empty = refl
+heads_outline mag Unreadable = refl
+heads_outline mag Info = refl
+heads_outline mag Other = refl
+
+number_outline : (sel : Selection) (pkt : Packet) → heads_number sel (outline pkt) ≡ heads_number sel pkt
+number_outline sel (Header id control text) = refl
+number_outline sel (Row m number text) = refl
+number_outline sel (Links m content) = refl
+number_outline sel Empty = refl
+number_outline sel Unreadable = refl
+number_outline sel Info = refl
+number_outline sel Other = refl
+
+-- the tests of what is received are those of what was sent
+pub record SameTests (sent received : List ℕ) : Type 0 where
+  pub heads : (mag : ℕ) → heads mag (packet_of received) ≡ heads mag (packet_of sent)
+  pub matched : (sel : Selection) → heads_matched sel (packet_of received) ≡ heads_matched sel (packet_of sent)
+  pub number : (sel : Selection) → heads_number sel (packet_of received) ≡ heads_number sel (packet_of sent)
+
+pub same_tests : KindIsKept → HeaderIsKept → (sent received : List ℕ) → IsSlot sent → is_clean sent ≡ true → MayBeReceivedAs sent received → SameTests sent received
+same_tests kind header sent received s clean h =
+    let e = received_as kind header sent received s clean h in
+    record {
+      heads = λ mag. sym (heads_outline mag (packet_of received)) ∙ ap (heads mag) e ∙ heads_outline mag (packet_of sent);
+      matched = λ sel. sym (matched_outline sel (packet_of received)) ∙ ap (heads_matched sel) e ∙ matched_outline sel (packet_of sent);
+      number = λ sel. sym (number_outline sel (packet_of received)) ∙ ap (heads_number sel) e ∙ number_outline sel (packet_of sent);
+    }

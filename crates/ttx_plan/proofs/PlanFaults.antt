@@ -1,0 +1,51 @@
+-- What the two faults say of each answer of a plan.
+use Rattle.std.proofs.Common.{◌≡◌, ℕ, ◌<◌, ◌≤◌, Bool, false, true, List, [], ◌∷◌, Result, Ok, Err, length, eqb, ap, sym, arith}
+use Rattle.std.specs.Prelude.{◌↔◌}
+use Rattle.std.proofs.lemmas.Bool.{eqb-true}
+use Rattle.ttx_cycle.specs.declared.cycles.Cycle.{Cycle}
+use Rattle.ttx_page.specs.declared.class.Class.{Class}
+use Rattle.ttx_plan.specs.declared.faults.PlanFault.{PlanFault}
+use Rattle.ttx_plan.specs.declared.faults.PlanFault.TheVariants.{NoPages, TooLong, NoMemory}
+use Rattle.ttx_plan.specs.Blocks.{length_bound}
+use Rattle.ttx_plan.specs.Carries.{blocks_sent}
+use Rattle.ttx_source.specs.Services.{Authored}
+
+abbrev pub Answer : Type 0
+Answer = Result Cycle PlanFault
+
+pub is_told : {P : Type 0} (given asked : Answer) → given ≡ asked → P → (given ≡ asked) ↔ P
+is_told given asked same p = (λ _. p, λ _. same)
+
+pub is_not_told : {P : Type 0} (given asked : Answer) → (given ≡ asked → ⊥) → (P → ⊥) → (given ≡ asked) ↔ P
+is_not_told given asked other fails = (λ e. absurd (other e), λ p. absurd (fails p))
+
+pub ok_is_other : (cycle : Cycle) (fault : PlanFault) → ◌≡◌ {A = Answer} (Ok cycle) (Err fault) → ⊥
+ok_is_other cycle fault e = cc
+
+pub memory_is_not_pages : ◌≡◌ {A = Answer} (Err NoMemory) (Err NoPages) → ⊥
+memory_is_not_pages e = cc
+
+pub memory_is_not_long : ◌≡◌ {A = Answer} (Err NoMemory) (Err TooLong) → ⊥
+memory_is_not_long e = cc
+
+pub long_is_not_pages : ◌≡◌ {A = Answer} (Err TooLong) (Err NoPages) → ⊥
+long_is_not_pages e = cc
+
+pub pages_are_not_long : ◌≡◌ {A = Answer} (Err NoPages) (Err TooLong) → ⊥
+pages_are_not_long e = cc
+
+-- the program's list of pages is empty where the service's is
+pub empty_alike : {A : Type 0} (values : List A) (pages : List Authored) → length values ≡ length pages → true ≡ eqb (length values) 0 → pages ≡ []
+empty_alike values [] same e = ap (λ _. []) same
+empty_alike [] (p ∷ pages) same e = absurd (omega (arith, same))
+empty_alike (v ∷ values) (p ∷ pages) same e = absurd (omega (arith, eqb-true (length (v ∷ values)) 0 (sym e)))
+
+pub some_alike : {A : Type 0} (values : List A) (pages : List Authored) → length values ≡ length pages → false ≡ eqb (length values) 0 → pages ≡ [] → ⊥
+some_alike values (p ∷ pages) same e none = cc
+some_alike [] [] same e none = let f : false ≡ true = e in cc
+some_alike (v ∷ values) [] same e none = omega (arith, same)
+
+-- without pages the bound is two fields
+pub bound_of_none : (late : Bool) (class : Class) (lines : ℕ) (pages : List Authored) → lines ≤ 32 → pages ≡ [] → 65536 < length_bound lines (blocks_sent late class pages) → ⊥
+bound_of_none late class lines [] few none long = omega arith
+bound_of_none late class lines (p ∷ pages) few none long = cc

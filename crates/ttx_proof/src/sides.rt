@@ -1,0 +1,25 @@
+//! The two sides of a splice: the old cycle, and the new one that follows it.
+
+ghost use Rattle.std.specs.Prelude.{◌≢◌};
+ghost use Rattle.std.specs.List.{AllPairs};
+ghost use Rattle.ttx_witness.specs.sent.Collected.{ids_of};
+
+use ttx_cycle::Cycle;
+use ttx_page::Page;
+use ttx_witness::Certificate;
+
+/// A cycle with its pages, whose ids are distinct, and its certificate.
+#[derive(Clone, Copy)]
+pub struct Side<'a> {
+    pub cycle: &'a Cycle,
+    pub pages: &'a [Page],
+    pub certificate: &'a Certificate,
+    ghost distinct: { AllPairs (λ a b. a ≢ b) (ids_of pages.now) },
+}
+
+/// An old cycle that gives way to a new one.
+#[derive(Clone, Copy)]
+pub struct Sides<'a> {
+    pub old: Side<'a>,
+    pub new: Side<'a>,
+}
