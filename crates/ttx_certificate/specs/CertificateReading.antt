@@ -6,7 +6,8 @@
 --   item_in, starts_in_words, entry_in      an item, starts, and the line of an entry
 --   is_in_range, is_in_order                the ranges of an entry, and its place after the one before it
 --   read_entries, line_at, number_line, read_numbers, read_version, read_text       the parts of a text, and the text
-use Rattle.std.specs.Prelude.{ℕ, ◌+◌, ◌-◌, ◌*◌, ◌/◌, ◌%◌, Bool, not, ◌&&◌, ◌||◌, ◌==◌, nat_lt, nat_le, List, [], ◌∷◌, codes, length, slice_index, Option, Some, None, option_map, Result, Ok, Err, if◌then◌else◌}
+use Rattle.std.specs.Prelude.{ℕ, ◌+◌, ◌-◌, ◌*◌, ◌/◌, ◌%◌, Bool, not, ◌&&◌, ◌||◌, ◌==◌, nat_lt, nat_le, List, [], ◌∷◌, codes}
+use Rattle.std.specs.Prelude.{length, slice_index, Option, Some, None, option_map, Result, Ok, Err, if◌then◌else◌}
 use Rattle.std.specs.List.{list_all, slice_split}
 use Rattle.std.specs.Str.{bytes_eq}
 use Rattle.ttx_header.specs.Ids.{Id, id_at}
@@ -14,7 +15,8 @@ use Rattle.ttx_page.specs.declared.item.Item.{Item}
 use Rattle.ttx_page.specs.declared.item.Item.TheVariants.{Head as TheHead, Row as TheRow, Links as TheLinks}
 use Rattle.ttx_page.specs.declared.class.Class.{Class}
 use Rattle.ttx_page.specs.declared.class.Class.TheVariants.{Any, Clearing}
-use Rattle.ttx_certificate.specs.Entries.{EntryFields, entry_at, CertificateFields, fields_at, is_above, are_slots, are_starts, is_item, is_page_id, place_of}
+use Rattle.ttx_certificate.specs.Entries.{EntryFields, entry_at, CertificateFields, fields_at, is_above}
+use Rattle.ttx_certificate.specs.Entries.{are_slots, are_starts, is_item, is_page_id, place_of}
 use Rattle.ttx_certificate.specs.declared.certificate_faults.CertFault.{CertFault}
 use Rattle.ttx_certificate.specs.declared.certificate_faults.CertFault.TheVariants.{Title, Line, Order, Range}
 

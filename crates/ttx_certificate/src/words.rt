@@ -3,7 +3,8 @@
 ghost use Rattle.std.specs.Prelude.{◌≡◌, ◌==◌, ◌+◌, ◌*◌, true, ◌<◌, ◌≤◌, [], ◌∷◌, length, option_map, IfSome, MatchOption};
 ghost use Rattle.std.specs.List.{position};
 ghost use Rattle.ttx_header.specs.Ids.{id_at};
-ghost use Rattle.ttx_certificate.specs.CertificateReading.{parts_at, is_between, are_digits, is_number, number_of, value_after, is_hex, hex_value, is_id_word, id_of};
+ghost use Rattle.ttx_certificate.specs.CertificateReading.{parts_at, is_between, are_digits, is_number, number_of};
+ghost use Rattle.ttx_certificate.specs.CertificateReading.{value_after, is_hex, hex_value, is_id_word, id_of};
 
 // The place of the first separator.
 fn position_of(text: &[u8], separator: u8) -> Option<usize>

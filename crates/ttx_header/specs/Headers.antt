@@ -7,7 +7,8 @@
 --   id_of, control_of, fields_of            a header's fields as functions of its bytes
 --   is_header               a readable packet 0
 --   time_filling            a header of page FF, subcode 3F7F
-use Rattle.std.specs.Prelude.{◌≡◌, ℕ, ◌+◌, ◌*◌, ◌/◌, ◌%◌, List, [], ◌∷◌, ◌++◌, Bool, ◌==◌, ◌&&◌, Some, if◌then◌else◌, map, replicate, slice_index, slice_range}
+use Rattle.std.specs.Prelude.{◌≡◌, ℕ, ◌+◌, ◌*◌, ◌/◌, ◌%◌, List, [], ◌∷◌, ◌++◌, Bool, ◌==◌, ◌&&◌}
+use Rattle.std.specs.Prelude.{Some, if◌then◌else◌, map, replicate, slice_index, slice_range}
 use Rattle.ttx_code.specs.Words.{reading, number_of, hamming_word}
 use Rattle.ttx_packet.specs.Slots.{are_readable, magazine, read_number}
 use Rattle.ttx_header.specs.Ids.{Id, id_at}

@@ -6,7 +6,8 @@
 --   fields_of, info_of      what the bytes of a packet say, or why they say nothing
 --   half_byte, offset_byte, date_bytes, time_bytes, info_bytes          the bytes that are written
 --   Says                    the packet that 42 bytes say
-use Rattle.std.specs.Prelude.{◌≡◌, ℕ, ◌+◌, ◌-◌, ◌*◌, ◌/◌, ◌%◌, ◌<◌, List, [], ◌∷◌, ◌++◌, All, Bool, nat_le, nat_lt, not, ◌==◌, ◌&&◌, Option, Some, Result, Ok, Err, if◌then◌else◌, is_some, length, map, slice_index, slice_range}
+use Rattle.std.specs.Prelude.{◌≡◌, ℕ, ◌+◌, ◌-◌, ◌*◌, ◌/◌, ◌%◌, ◌<◌, List, [], ◌∷◌, ◌++◌, All, Bool, nat_le, nat_lt, not, ◌==◌, ◌&&◌}
+use Rattle.std.specs.Prelude.{Option, Some, Result, Ok, Err, if◌then◌else◌, is_some, length, map, slice_index, slice_range}
 use Rattle.std.specs.List.{list_all}
 use Rattle.ttx_code.specs.Words.{reading, hamming_word, is_odd, odd_byte}
 use Rattle.ttx_packet.specs.Slots.{are_readable, address_bytes}

@@ -9,7 +9,8 @@
 --   link_numbers, numbers_for, link_bytes, control_byte, links_bytes        the bytes that are written
 --   SaysLink, Says          the packet that 42 bytes say
 --   is_exact                bytes 3 to 39 are code words
-use Rattle.std.specs.Prelude.{◌≡◌, ℕ, ◌+◌, ◌*◌, ◌/◌, ◌%◌, ◌<◌, List, [], ◌∷◌, ◌++◌, Bool, false, ◌==◌, Option, Some, None, if◌then◌else◌, flat_map, map, length, replicate, slice_index, slice_range, bit_xor}
+use Rattle.std.specs.Prelude.{◌≡◌, ℕ, ◌+◌, ◌*◌, ◌/◌, ◌%◌, ◌<◌, List, [], ◌∷◌, ◌++◌, Bool, false, ◌==◌, Option, Some, None}
+use Rattle.std.specs.Prelude.{if◌then◌else◌, flat_map, map, length, replicate, slice_index, slice_range, bit_xor}
 use Rattle.ttx_code.specs.Words.{reading, hamming_word}
 use Rattle.ttx_packet.specs.Slots.{are_readable, are_words, magazine, address_bytes}
 use Rattle.ttx_header.specs.Ids.{Id, id_at, IsId, is_time_filling}

@@ -21,7 +21,8 @@ use Rattle.ttx_page.specs.PageLinks.{HasLinks}
 use Rattle.ttx_page.specs.Pages.{Page, IsPage, Selection, Class, Item, needed, IsBlank, is_blank}
 use Rattle.ttx_page.specs.Memories.{Memory, IsMemory, IsFormer, blank_memory, memory_of_page, Holds, Shows}
 use Rattle.ttx_page.specs.Receivers.{after, erased, Step, Run, has_choice, scripted}
-use Rattle.ttx_page.specs.Streams.{Stream, turned, repeated, joined, IsLatestHeader, IsOwned, IsTransmission, IsSure, IsRun, EndsBelow, HasSureRun, IsSent}
+use Rattle.ttx_page.specs.Streams.{Stream, turned, repeated, joined, IsLatestHeader, IsOwned, IsTransmission}
+use Rattle.ttx_page.specs.Streams.{IsSure, IsRun, EndsBelow, HasSureRun, IsSent}
 use Rattle.ttx_page.specs.Receptions.{Received}
 use Rattle.ttx_page.specs.Steady.{HasHeader, HasNoHeader, Steady, SendsItsOwn}
 use Rattle.ttx_page.specs.Views.{page_of, memory_of}

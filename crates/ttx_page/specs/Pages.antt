@@ -8,7 +8,8 @@
 --   has_double_height, is_tall, is_hidden           rows below a row in double height
 --   Class                   the classes of receivers
 --   IsBlank, is_blank       what a cleared page holds already
-use Rattle.std.specs.Prelude.{◌≡◌, ◌≢◌, ℕ, zero, suc, ◌-◌, ◌<◌, ◌≤◌, Bool, true, false, not, ◌&&◌, if◌then◌else◌, List, [], Some, is_none, nat_le, ◌==◌, slice_get, slice_index, slice_index_or, replicate, length}
+use Rattle.std.specs.Prelude.{◌≡◌, ◌≢◌, ℕ, zero, suc, ◌-◌, ◌<◌, ◌≤◌, Bool, true, false, not, ◌&&◌, if◌then◌else◌, List}
+use Rattle.std.specs.Prelude.{[], Some, is_none, nat_le, ◌==◌, slice_get, slice_index, slice_index_or, replicate, length}
 use Rattle.std.specs.List.{list_all, list_any}
 use Rattle.ttx_header.specs.Ids.{Id, IsId, same_id}
 use Rattle.ttx_header.specs.Control.{IsControl, c4, c7, c10}
