@@ -56,7 +56,8 @@ hex_value b = if nat_le b 57 then b - 48 else b - 55
 -- a magazine, 1 to 8, two hexadecimal digits, a stroke and four hexadecimal digits
 abbrev pub is_id_word : List ℕ → Bool
 is_id_word word =
-    (length word == 8) && is_between 49 56 (slice_index word 0) && is_hex (slice_index word 1) && is_hex (slice_index word 2) && (slice_index word 3 == 47)
+    (length word == 8) && is_between 49 56 (slice_index word 0) && is_hex (slice_index word 1) && is_hex (slice_index word 2)
+    && (slice_index word 3 == 47)
     && is_hex (slice_index word 4) && is_hex (slice_index word 5) && is_hex (slice_index word 6) && is_hex (slice_index word 7)
 
 abbrev pub hex_pair : List ℕ → ℕ → ℕ
@@ -106,7 +107,7 @@ entry_in (word ∷ words) = with_item (id_of word) words
 
 -- a magazine and a subcode inside their ranges
 abbrev pub is_id : Id → Bool
-is_id id = is_between 1 8 id.mag && nat_lt id.sub 16384 && (id.sub / 128 % 2 == 0)
+is_id id = is_between 1 8 id.mag && nat_lt id.sub 0x4000 && (id.sub / 0x80 % 2 == 0)
 
 -- a page's id, row 1 to 24, starts below 65,536
 abbrev pub is_in_range : EntryFields → Bool

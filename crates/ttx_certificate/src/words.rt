@@ -15,7 +15,8 @@ fn position_of(text: &[u8], separator: u8) -> Option<usize>
 
 /// What stands before the first separator, and what stands after it. None where there is no separator.
 pub(crate) fn cut(text: &[u8], separator: u8) -> Option<(&[u8], &[u8])>
-    ensures parts { MatchOption result (parts_at separator text.now ≡ text.now ∷ []) (λ p. parts_at separator text.now ≡ p.0.now ∷ parts_at separator p.1.now) }
+    ensures parts { MatchOption result (parts_at separator text.now ≡ text.now ∷ [])
+        (λ p. parts_at separator text.now ≡ p.0.now ∷ parts_at separator p.1.now) }
     ensures shorter { IfSome result (λ p. length p.1.now < length text.now) }
 {
     match position_of(text, separator) {

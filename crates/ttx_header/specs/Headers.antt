@@ -60,4 +60,4 @@ is_header s = are_readable (slice_range s 0 10) && (read_number s == 0)
 
 -- the time-filling header of a magazine: page FF, subcode 3F7F, no control bit but C11, and 32 spaces (20) as they are sent
 abbrev pub time_filling : ℕ → Bool → HeaderFields
-time_filling mag serial = fields_at (id_at mag 255 16255) (if serial then 128 else 0) (replicate 24 32) (replicate 8 32)
+time_filling mag serial = fields_at (id_at mag 0xff 0x3f7f) (if serial then 128 else 0) (replicate 24 32) (replicate 8 32)

@@ -1,4 +1,5 @@
--- Packet 8/30 format 1 (EN 300 706, 9.8.1): initial page, network, local offset, date, time, and 20 characters.
+-- Packet 8/30 format 1 (EN 300 706, 9.8.1): initial page, network, local offset, date, time, and 20 characters. Bits are counted
+-- from 1, the lowest.
 --
 --   InfoFields, info_at     the fields, as contracts see an `Info`
 --   IsInfoRange, IsInfoFields       their ranges

@@ -86,7 +86,7 @@ fields_of mag s = record { set = set_of mag s; crc = slice_range s 40 42 }
 
 -- what is written where there is no link; its magazine isn't sent
 abbrev pub no_link : Id
-no_link = id_at 8 255 16255
+no_link = id_at 8 0xff 0x3f7f
 
 -- the numbers of a link's six bytes: units, tens, S1, S2 with M1, S3, S4 with M2 and M3, where m is M1 + 2 M2 + 4 M3
 abbrev pub link_numbers : ℕ → Id → List ℕ

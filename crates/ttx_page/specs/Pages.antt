@@ -45,8 +45,8 @@ pub record IsRow (row : List ℕ) : Type 0 where
 -- 24 characters of row 0 and 24 rows of 40, all below 128; no page FF, no subcode 3F7F, and no erase bit (C4)
 pub record IsPage (p : Page) : Type 0 where
   pub id : IsId p.id
-  pub page : p.id.page ≢ 255
-  pub sub : p.id.sub ≢ 16255
+  pub page : p.id.page ≢ 0xff
+  pub sub : p.id.sub ≢ 0x3f7f
   pub control : IsControl p.control
   pub no_erase : c4 p.control ≡ false
   pub head_length : length p.head ≡ 24

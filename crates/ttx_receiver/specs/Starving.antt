@@ -113,7 +113,7 @@ other_letter c = if c == 0x41 then 0x42 else 0x41
 
 -- none in the place of a link, and a link to page 00 of magazine 1 in the place of none
 abbrev pub other_link : Option Id → Option Id
-other_link None = Some (id_at 1 0 16255)
+other_link None = Some (id_at 1 0 0x3f7f)
 other_link (Some id) = None
 
 abbrev pub other_six : List (Option Id) → List (Option Id)
