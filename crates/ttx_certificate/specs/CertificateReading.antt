@@ -6,7 +6,8 @@
 --   item_in, starts_in_words, entry_in      an item, starts, and the line of an entry
 --   is_in_range, is_in_order                the ranges of an entry, and its place after the one before it
 --   read_entries, line_at, number_line, read_numbers, read_version, read_text       the parts of a text, and the text
-use Rattle.std.specs.Prelude.{ℕ, ◌+◌, ◌-◌, ◌*◌, ◌/◌, ◌%◌, Bool, not, ◌&&◌, ◌||◌, ◌==◌, nat_lt, nat_le, List, [], ◌∷◌, codes, length, slice_index, Option, Some, None, option_map, Result, Ok, Err, if◌then◌else◌}
+use Rattle.std.specs.Prelude.{ℕ, ◌+◌, ◌-◌, ◌*◌, ◌/◌, ◌%◌, Bool, not, ◌&&◌, ◌||◌, ◌==◌, nat_lt, nat_le, List, [], ◌∷◌, codes}
+use Rattle.std.specs.Prelude.{length, slice_index, Option, Some, None, option_map, Result, Ok, Err, if◌then◌else◌}
 use Rattle.std.specs.List.{list_all, slice_split}
 use Rattle.std.specs.Str.{bytes_eq}
 use Rattle.ttx_header.specs.Ids.{Id, id_at}
@@ -14,7 +15,8 @@ use Rattle.ttx_page.specs.declared.item.Item.{Item}
 use Rattle.ttx_page.specs.declared.item.Item.TheVariants.{Head as TheHead, Row as TheRow, Links as TheLinks}
 use Rattle.ttx_page.specs.declared.class.Class.{Class}
 use Rattle.ttx_page.specs.declared.class.Class.TheVariants.{Any, Clearing}
-use Rattle.ttx_certificate.specs.Entries.{EntryFields, entry_at, CertificateFields, fields_at, is_above, are_slots, are_starts, is_item, is_page_id, place_of}
+use Rattle.ttx_certificate.specs.Entries.{EntryFields, entry_at, CertificateFields, fields_at, is_above}
+use Rattle.ttx_certificate.specs.Entries.{are_slots, are_starts, is_item, is_page_id, place_of}
 use Rattle.ttx_certificate.specs.declared.certificate_faults.CertFault.{CertFault}
 use Rattle.ttx_certificate.specs.declared.certificate_faults.CertFault.TheVariants.{Title, Line, Order, Range}
 
@@ -54,7 +56,8 @@ hex_value b = if nat_le b 57 then b - 48 else b - 55
 -- a magazine, 1 to 8, two hexadecimal digits, a stroke and four hexadecimal digits
 abbrev pub is_id_word : List ℕ → Bool
 is_id_word word =
-    (length word == 8) && is_between 49 56 (slice_index word 0) && is_hex (slice_index word 1) && is_hex (slice_index word 2) && (slice_index word 3 == 47)
+    (length word == 8) && is_between 49 56 (slice_index word 0) && is_hex (slice_index word 1) && is_hex (slice_index word 2)
+    && (slice_index word 3 == 47)
     && is_hex (slice_index word 4) && is_hex (slice_index word 5) && is_hex (slice_index word 6) && is_hex (slice_index word 7)
 
 abbrev pub hex_pair : List ℕ → ℕ → ℕ
@@ -104,7 +107,7 @@ entry_in (word ∷ words) = with_item (id_of word) words
 
 -- a magazine and a subcode inside their ranges
 abbrev pub is_id : Id → Bool
-is_id id = is_between 1 8 id.mag && nat_lt id.sub 16384 && (id.sub / 128 % 2 == 0)
+is_id id = is_between 1 8 id.mag && nat_lt id.sub 0x4000 && (id.sub / 0x80 % 2 == 0)
 
 -- a page's id, row 1 to 24, starts below 65,536
 abbrev pub is_in_range : EntryFields → Bool

@@ -55,7 +55,9 @@ abbrev pub number_text : List ℕ → ℕ → List ℕ
 number_text key n = key ++ 32 ∷ decimal n ++ 10 ∷ []
 
 abbrev pub head_text : CertificateFields → List ℕ
-head_text w = class_text w.class ++ number_text (codes "lines") w.lines ++ number_text (codes "repeat") w.repeat ++ number_text (codes "deadline") w.deadline
+head_text w =
+    class_text w.class ++ number_text (codes "lines") w.lines ++ number_text (codes "repeat") w.repeat
+    ++ number_text (codes "deadline") w.deadline
 
 abbrev pub certificate_text : CertificateFields → List ℕ
 certificate_text w = head_text w ++ entries_text w.entries

@@ -60,7 +60,7 @@ is_item TheLinks = true
 
 -- no page FF, no subcode 3F7F
 abbrev pub is_page_id : Id → Bool
-is_page_id id = not (id.page == 255) && not (id.sub == 16255)
+is_page_id id = not (id.page == 0xff) && not (id.sub == 0x3f7f)
 
 -- each number is below 65,536
 abbrev pub are_slots : List ℕ → Bool
@@ -86,7 +86,8 @@ places entries = map (λ e. place_of e.page e.item) entries
 
 -- lines 1 to 32, repeat 1 to 8, deadline 1 to 1,000,000
 abbrev pub are_numbers : ℕ → ℕ → ℕ → Bool
-are_numbers lines repeat deadline = nat_le 1 lines && nat_le lines 32 && nat_le 1 repeat && nat_le repeat 8 && nat_le 1 deadline && nat_le deadline 1000000
+are_numbers lines repeat deadline =
+    nat_le 1 lines && nat_le lines 32 && nat_le 1 repeat && nat_le repeat 8 && nat_le 1 deadline && nat_le deadline 1000000
 
 -- all rules of a certificate
 pub record IsCertificateFields (w : CertificateFields) : Type 0 where

@@ -19,4 +19,4 @@ item_number (TheRow r) = r
 item_number TheLinks = 25
 
 abbrev pub key_of : Id → ℕ
-key_of id = (id.mag * 256 + id.page) * 16384 + id.sub
+key_of id = (id.mag * 0x100 + id.page) * 0x4000 + id.sub

@@ -73,7 +73,7 @@ pub(crate) fn place(page: PageId, item: Item) -> u32
     ensures item { is_item item ≡ true }
 {
     let mag = page.mag();
-    let key = (u32::from(mag) * 256 + u32::from(page.page())) * 16384;
+    let key = (u32::from(mag) * 0x100 + u32::from(page.page())) * 0x4000;
     (key + u32::from(page.sub())) * 26 + u32::from(item_number(&item))
 }
 

@@ -22,7 +22,8 @@ fn next_word(text: &[u8]) -> (&[u8], Option<&[u8]>)
 
 // A row by its number, and what follows it.
 fn row<'a>(rest: Option<&'a [u8]>) -> Option<(WrittenItem, Option<&'a [u8]>)>
-    ensures { option_map (λ p. (item_of p.0, words_after (option_map (λ t. t.now) p.1))) result ≡ row_in (words_after (option_map (λ t. t.now) rest.entry)) }
+    ensures { option_map (λ p. (item_of p.0, words_after (option_map (λ t. t.now) p.1))) result
+        ≡ row_in (words_after (option_map (λ t. t.now) rest.entry)) }
 {
     let (word, rest) = next_word(rest?);
     match number(word) {
@@ -33,7 +34,8 @@ fn row<'a>(rest: Option<&'a [u8]>) -> Option<(WrittenItem, Option<&'a [u8]>)>
 
 // An item, and what follows it.
 fn item<'a>(rest: Option<&'a [u8]>) -> Option<(WrittenItem, Option<&'a [u8]>)>
-    ensures { option_map (λ p. (item_of p.0, words_after (option_map (λ t. t.now) p.1))) result ≡ item_in (words_after (option_map (λ t. t.now) rest.entry)) }
+    ensures { option_map (λ p. (item_of p.0, words_after (option_map (λ t. t.now) p.1))) result
+        ≡ item_in (words_after (option_map (λ t. t.now) rest.entry)) }
 {
     let (word, rest) = next_word(rest?);
     if word == b"head".as_slice() {

@@ -3,7 +3,8 @@
 ghost use Rattle.std.specs.Prelude.{◌≡◌, ◌==◌, ◌+◌, ◌*◌, true, ◌<◌, ◌≤◌, [], ◌∷◌, length, option_map, IfSome, MatchOption};
 ghost use Rattle.std.specs.List.{position};
 ghost use Rattle.ttx_header.specs.Ids.{id_at};
-ghost use Rattle.ttx_certificate.specs.CertificateReading.{parts_at, is_between, are_digits, is_number, number_of, value_after, is_hex, hex_value, is_id_word, id_of};
+ghost use Rattle.ttx_certificate.specs.CertificateReading.{parts_at, is_between, are_digits, is_number, number_of};
+ghost use Rattle.ttx_certificate.specs.CertificateReading.{value_after, is_hex, hex_value, is_id_word, id_of};
 
 // The place of the first separator.
 fn position_of(text: &[u8], separator: u8) -> Option<usize>
@@ -14,7 +15,8 @@ fn position_of(text: &[u8], separator: u8) -> Option<usize>
 
 /// What stands before the first separator, and what stands after it. None where there is no separator.
 pub(crate) fn cut(text: &[u8], separator: u8) -> Option<(&[u8], &[u8])>
-    ensures parts { MatchOption result (parts_at separator text.now ≡ text.now ∷ []) (λ p. parts_at separator text.now ≡ p.0.now ∷ parts_at separator p.1.now) }
+    ensures parts { MatchOption result (parts_at separator text.now ≡ text.now ∷ [])
+        (λ p. parts_at separator text.now ≡ p.0.now ∷ parts_at separator p.1.now) }
     ensures shorter { IfSome result (λ p. length p.1.now < length text.now) }
 {
     match position_of(text, separator) {

@@ -2,7 +2,8 @@
 
 ghost use Rattle.std.specs.Prelude.{◌≡◌, ◌<◌, ◌/◌, ◌%◌, ◌∷◌, ◌++◌, [], OnOk, IfOk, string_bytes};
 ghost use Rattle.ttx_header.specs.Ids.{id_at};
-ghost use Rattle.ttx_certificate.specs.CertificateTexts.{hex_digit, hex_byte, id_text, item_text, starts_text, entry_text, entries_text, class_text, head_text, certificate_text};
+ghost use Rattle.ttx_certificate.specs.CertificateTexts.{hex_digit, hex_byte, id_text, item_text, starts_text, entry_text};
+ghost use Rattle.ttx_certificate.specs.CertificateTexts.{entries_text, class_text, head_text, certificate_text};
 ghost use Rattle.ttx_certificate.specs.EntryViews.{entry_of, entries_of};
 ghost use Rattle.ttx_certificate.specs.Certificates.{fields_of};
 

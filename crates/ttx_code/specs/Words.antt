@@ -32,7 +32,7 @@ IsOdd b = ones b % 2 ≡ 1
 abbrev pub is_odd : ℕ → Bool
 is_odd b = ones b % 2 == 1
 
--- the byte that sends a character below 128: bits 1 to 7 are the character, bit 8 makes the parity odd
+-- the byte that sends a character below 128: bits 0 to 6 are the character, bit 7 makes the parity odd
 abbrev pub odd_byte : ℕ → ℕ
 odd_byte c = if is_odd c then c else c + 128
 
@@ -40,7 +40,7 @@ odd_byte c = if is_odd c then c else c + 128
 abbrev pub stored : ℕ → ℕ → ℕ
 stored b former = if is_odd b then b % 128 else former
 
--- the Hamming 8/4 word of a number below 16 (8.2): bits 1 to 8 are P1 D1 P2 D2 P3 D3 P4 D4
+-- the Hamming 8/4 word of a number below 16 (8.2): bits 0 to 7 are P1 D1 P2 D2 P3 D3 P4 D4
 unfoldable pub hamming_word : ℕ → ℕ
 hamming_word n =
     let d1 : ℕ = bit n 0 in

@@ -1,6 +1,7 @@
 //! Laws of the codes. A call costs nothing and gives the caller's proof the law.
 
-ghost use Rattle.ttx_code.specs.Laws.{OneWrongBitIsCorrected, WordsAreRead, WordsAreBytes, WordsAreWords, WordsHaveNumbers, ReadingsAreNumbers, WordsAreReadUnderOneWrongBit, OddBytesUnderOneWrongBit, OddBytesHoldTheirCodes, EachByteIsNearItself};
+ghost use Rattle.ttx_code.specs.Laws.{OneWrongBitIsCorrected, WordsAreRead, WordsAreBytes, WordsAreWords, WordsHaveNumbers, ReadingsAreNumbers};
+ghost use Rattle.ttx_code.specs.Laws.{WordsAreReadUnderOneWrongBit, OddBytesUnderOneWrongBit, OddBytesHoldTheirCodes, EachByteIsNearItself};
 
 /// A byte at most one bit from the word of a number reads as this number, and as no other.
 pub fn one_wrong_bit_is_corrected()

@@ -1,4 +1,4 @@
-//! Odd parity (EN 300 706, 8.1): a character of seven bits in a byte with an odd number of ones.
+//! Odd parity (EN 300 706, 8.1): a character of seven bits in a byte with an odd number of ones. Bit 0 is the lowest.
 
 ghost use Rattle.std.specs.Prelude.{◌≡◌, ◌<◌, ◌%◌, ◌↔◌, IsTrue, SomeIff, All};
 ghost use Rattle.std.specs.Simd.Lanes.{zip2};
@@ -19,7 +19,7 @@ static ODD_BYTES: [u8; 128] = [
     112, 241, 242, 115, 244, 117, 118, 247, 248, 121, 122, 251, 124, 253, 254, 127,
 ];
 
-/// The byte that sends a character below 128: the character in bits 1 to 7, and bit 8 makes the parity odd.
+/// The byte that sends a character below 128: the character in bits 0 to 6, and bit 7 makes the parity odd.
 pub fn odd(c: u8) -> u8
     requires { c < 128 }
     ensures { result ≡ odd_byte c }

@@ -23,7 +23,8 @@ AreAlike (Err a) (Err b) = a ≡ b
 AreAlike _ _ = ⊥
 
 abbrev pub FilesAreJudgedOnce : Type 0
-FilesAreJudgedOnce = (bytes : List ℕ) (a b : Result Cycle CycleFault) → SpeaksOfBytes a → SpeaksOfBytes b → Judged bytes a → Judged bytes b → AreAlike a b
+FilesAreJudgedOnce = (bytes : List ℕ) (a b : Result Cycle CycleFault) →
+    SpeaksOfBytes a → SpeaksOfBytes b → Judged bytes a → Judged bytes b → AreAlike a b
 
 abbrev pub LongestIsNotTooLong : Type 0
 LongestIsNotTooLong = (bytes : List ℕ) → length bytes ≤ 65536 * 42 → Judged bytes (Err TooLong) → ⊥

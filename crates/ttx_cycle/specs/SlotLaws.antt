@@ -32,5 +32,5 @@ AllAreGiven = (given : ℕ) (old mid new : Option (List ℕ)) (slots : List (Lis
     AnswersNext given mid new slot (Ok false) → IfSome old (λ bytes. IsCycle slots × (bytes ≡ file_of slots))
 
 abbrev pub FaultIsTheFiles : Type 0
-FaultIsTheFiles = (given : ℕ) (old mid new : Option (List ℕ)) (slots : List (List ℕ)) (slot : List ℕ) (fault : CycleFault) → IsGiven given old mid slots →
-    AnswersNext given mid new slot (Err fault) → IfSome old (λ bytes. Judged bytes (Err fault))
+FaultIsTheFiles = (given : ℕ) (old mid new : Option (List ℕ)) (slots : List (List ℕ)) (slot : List ℕ) (fault : CycleFault) →
+    IsGiven given old mid slots → AnswersNext given mid new slot (Err fault) → IfSome old (λ bytes. Judged bytes (Err fault))

@@ -43,7 +43,8 @@ impl SlotReader {
         reader: &mut Counted<R>,
         slot: &mut [u8; 42],
     ) -> Result<bool, CycleFault>
-        ensures answer { is_over self.old ≡ false → AnswersNext (given_of self.old) (R.remaining (inner_of reader.old)) (R.remaining (inner_of reader.new)) slot.new result }
+        ensures answer { is_over self.old ≡ false →
+            AnswersNext (given_of self.old) (R.remaining (inner_of reader.old)) (R.remaining (inner_of reader.new)) slot.new result }
         ensures over { is_over self.old ≡ true → (result ≡ Ok false) × (reader.new ≡ reader.old) }
         ensures goes_on { is_over self.new ≡ not (has_slot result) }
         ensures given { given_of self.new ≡ (if has_slot result then given_of self.old + 1 else given_of self.old) }

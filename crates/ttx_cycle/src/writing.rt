@@ -15,7 +15,8 @@ use std::io::Write;
 /// Writes all the bytes. At a fault exactly its first `written` bytes went out.
 pub fn write_bytes<W: Write>(writer: &mut Counted<W>, bytes: &[u8]) -> Result<(), WriteFault>
     ensures bytes { Writes bytes.now (W.contents (inner_of writer.old)) (W.contents (inner_of writer.new)) result }
-    ensures faults { MatchResult result (λ _. faults_of writer.new ≡ faults_of writer.old) (λ _. HasRisen (faults_of writer.old) (faults_of writer.new)) }
+    ensures faults { MatchResult result (λ _. faults_of writer.new ≡ faults_of writer.old)
+        (λ _. HasRisen (faults_of writer.old) (faults_of writer.new)) }
     ensures calls { calls_of writer.new ≤ calls_of writer.old + length bytes.now }
 {
     let mut written = 0;
@@ -31,7 +32,8 @@ pub fn write_bytes<W: Write>(writer: &mut Counted<W>, bytes: &[u8]) -> Result<()
 /// Writes the packet file of a cycle. At a fault exactly its first `written` bytes went out.
 pub fn write_cycle<W: Write>(writer: &mut Counted<W>, cycle: &Cycle) -> Result<(), WriteFault>
     ensures bytes { Writes (file_of (slots_of cycle.now)) (W.contents (inner_of writer.old)) (W.contents (inner_of writer.new)) result }
-    ensures faults { MatchResult result (λ _. faults_of writer.new ≡ faults_of writer.old) (λ _. HasRisen (faults_of writer.old) (faults_of writer.new)) }
+    ensures faults { MatchResult result (λ _. faults_of writer.new ≡ faults_of writer.old)
+        (λ _. HasRisen (faults_of writer.old) (faults_of writer.new)) }
     ensures calls { calls_of writer.new ≤ calls_of writer.old + length (file_of (slots_of cycle.now)) }
 {
     write_bytes(writer, cycle.slots().as_flattened())

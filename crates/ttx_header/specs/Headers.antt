@@ -7,7 +7,8 @@
 --   id_of, control_of, fields_of            a header's fields as functions of its bytes
 --   is_header               a readable packet 0
 --   time_filling            a header of page FF, subcode 3F7F
-use Rattle.std.specs.Prelude.{◌≡◌, ℕ, ◌+◌, ◌*◌, ◌/◌, ◌%◌, List, [], ◌∷◌, ◌++◌, Bool, ◌==◌, ◌&&◌, Some, if◌then◌else◌, map, replicate, slice_index, slice_range}
+use Rattle.std.specs.Prelude.{◌≡◌, ℕ, ◌+◌, ◌*◌, ◌/◌, ◌%◌, List, [], ◌∷◌, ◌++◌, Bool, ◌==◌, ◌&&◌}
+use Rattle.std.specs.Prelude.{Some, if◌then◌else◌, map, replicate, slice_index, slice_range}
 use Rattle.ttx_code.specs.Words.{reading, number_of, hamming_word}
 use Rattle.ttx_packet.specs.Slots.{are_readable, magazine, read_number}
 use Rattle.ttx_header.specs.Ids.{Id, id_at}
@@ -59,4 +60,4 @@ is_header s = are_readable (slice_range s 0 10) && (read_number s == 0)
 
 -- the time-filling header of a magazine: page FF, subcode 3F7F, no control bit but C11, and 32 spaces (20) as they are sent
 abbrev pub time_filling : ℕ → Bool → HeaderFields
-time_filling mag serial = fields_at (id_at mag 255 16255) (if serial then 128 else 0) (replicate 24 32) (replicate 8 32)
+time_filling mag serial = fields_at (id_at mag 0xff 0x3f7f) (if serial then 128 else 0) (replicate 24 32) (replicate 8 32)

@@ -17,8 +17,8 @@ id_at mag page sub = record { mag = mag; page = page; sub = sub }
 
 -- a subcode has no bit outside 3F7F (9.3.1.2)
 pub record IsSubcode (sub : ℕ) : Type 0 where
-  pub top : sub < 16384
-  pub gap : sub / 128 % 2 ≡ 0
+  pub top : sub < 0x4000
+  pub gap : sub / 0x80 % 2 ≡ 0
 
 -- magazine 1 to 8, two digits, and a subcode
 pub record IsId (id : Id) : Type 0 where
@@ -33,4 +33,4 @@ same_id a b = (a.mag == b.mag) && (a.page == b.page) && (a.sub == b.sub)
 
 -- page FF with subcode 3F7F
 abbrev pub is_time_filling : Id → Bool
-is_time_filling id = (id.page == 255) && (id.sub == 16255)
+is_time_filling id = (id.page == 0xff) && (id.sub == 0x3f7f)

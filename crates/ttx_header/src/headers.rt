@@ -30,7 +30,7 @@ impl Model for Header {
 }
 
 impl Header {
-    /// The header of these fields. None where a control bit above bit 10 is set.
+    /// The header of these fields. None where a control bit above C14 is set.
     pub fn new(id: PageId, control: Control, text: [u8; 24], clock: [u8; 8]) -> Option<Header>
         ensures { SomeIff result (IsControl control.0) (fields_at id control.0 text clock) }
     {

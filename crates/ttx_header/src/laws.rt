@@ -1,6 +1,8 @@
 //! Laws of page headers and of Hamming bytes in packets. A call costs nothing and gives the caller's proof the law.
 
-ghost use Rattle.ttx_header.specs.Laws.{HeaderIsKept, HeadersHaveFields, HeadersAreHeaders, SaidHeadersAreRead, ReadHeadersAreSaid, WrittenHeadersAreRead, WordsAreKept, ReadBytesAreReadable, ReadableBytesHaveNumbers, ReadNumbersAreNumbers, WrittenWordsAreRead};
+ghost use Rattle.ttx_header.specs.Laws.{HeaderIsKept, HeadersHaveFields, HeadersAreHeaders, SaidHeadersAreRead, ReadHeadersAreSaid};
+ghost use Rattle.ttx_header.specs.Laws.{WrittenHeadersAreRead, WordsAreKept, ReadBytesAreReadable, ReadableBytesHaveNumbers};
+ghost use Rattle.ttx_header.specs.Laws.{ReadNumbersAreNumbers, WrittenWordsAreRead};
 
 /// Bytes of which each is a code word, with at most one wrong bit in each, read as they were sent.
 pub fn words_are_kept()

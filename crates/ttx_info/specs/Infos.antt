@@ -1,4 +1,5 @@
--- Packet 8/30 format 1 (EN 300 706, 9.8.1): initial page, network, local offset, date, time, and 20 characters.
+-- Packet 8/30 format 1 (EN 300 706, 9.8.1): initial page, network, local offset, date, time, and 20 characters. Bits are counted
+-- from 1, the lowest.
 --
 --   InfoFields, info_at     the fields, as contracts see an `Info`
 --   IsInfoRange, IsInfoFields       their ranges
@@ -6,7 +7,8 @@
 --   fields_of, info_of      what the bytes of a packet say, or why they say nothing
 --   half_byte, offset_byte, date_bytes, time_bytes, info_bytes          the bytes that are written
 --   Says                    the packet that 42 bytes say
-use Rattle.std.specs.Prelude.{◌≡◌, ℕ, ◌+◌, ◌-◌, ◌*◌, ◌/◌, ◌%◌, ◌<◌, List, [], ◌∷◌, ◌++◌, All, Bool, nat_le, nat_lt, not, ◌==◌, ◌&&◌, Option, Some, Result, Ok, Err, if◌then◌else◌, is_some, length, map, slice_index, slice_range}
+use Rattle.std.specs.Prelude.{◌≡◌, ℕ, ◌+◌, ◌-◌, ◌*◌, ◌/◌, ◌%◌, ◌<◌, List, [], ◌∷◌, ◌++◌, All, Bool, nat_le, nat_lt, not, ◌==◌, ◌&&◌}
+use Rattle.std.specs.Prelude.{Option, Some, Result, Ok, Err, if◌then◌else◌, is_some, length, map, slice_index, slice_range}
 use Rattle.std.specs.List.{list_all}
 use Rattle.ttx_code.specs.Words.{reading, hamming_word, is_odd, odd_byte}
 use Rattle.ttx_packet.specs.Slots.{are_readable, address_bytes}

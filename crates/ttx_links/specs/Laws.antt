@@ -9,7 +9,8 @@ use Rattle.std.specs.Prelude.{◌≡◌, ℕ, ◌+◌, ◌<◌, ◌≤◌, List,
 use Rattle.ttx_code.specs.Words.{Near}
 use Rattle.ttx_packet.specs.Slots.{IsSlot, IsLinks, are_readable, kind_of, is_clean}
 use Rattle.ttx_header.specs.Ids.{Id}
-use Rattle.ttx_links.specs.Sets.{LinkSet, LinksFields, IsLinksFields, IsLink, AreLinks, link_at, link_bytes, SaysLink, Says, links_of, fields_of, is_exact, links_bytes}
+use Rattle.ttx_links.specs.Sets.{LinkSet, LinksFields, IsLinksFields, IsLink, AreLinks, link_at, link_bytes}
+use Rattle.ttx_links.specs.Sets.{SaysLink, Says, links_of, fields_of, is_exact, links_bytes}
 
 -- what is received of a packet X/27/0 whose bytes 3 to 39 are code words, with at most one wrong bit in each, says the same links and show24
 abbrev pub LinksAreKept : Type 0

@@ -9,7 +9,8 @@
 --   link_numbers, numbers_for, link_bytes, control_byte, links_bytes        the bytes that are written
 --   SaysLink, Says          the packet that 42 bytes say
 --   is_exact                bytes 3 to 39 are code words
-use Rattle.std.specs.Prelude.{◌≡◌, ℕ, ◌+◌, ◌*◌, ◌/◌, ◌%◌, ◌<◌, List, [], ◌∷◌, ◌++◌, Bool, false, ◌==◌, Option, Some, None, if◌then◌else◌, flat_map, map, length, replicate, slice_index, slice_range, bit_xor}
+use Rattle.std.specs.Prelude.{◌≡◌, ℕ, ◌+◌, ◌*◌, ◌/◌, ◌%◌, ◌<◌, List, [], ◌∷◌, ◌++◌, Bool, false, ◌==◌, Option, Some, None}
+use Rattle.std.specs.Prelude.{if◌then◌else◌, flat_map, map, length, replicate, slice_index, slice_range, bit_xor}
 use Rattle.ttx_code.specs.Words.{reading, hamming_word}
 use Rattle.ttx_packet.specs.Slots.{are_readable, are_words, magazine, address_bytes}
 use Rattle.ttx_header.specs.Ids.{Id, id_at, IsId, is_time_filling}
@@ -85,7 +86,7 @@ fields_of mag s = record { set = set_of mag s; crc = slice_range s 40 42 }
 
 -- what is written where there is no link; its magazine isn't sent
 abbrev pub no_link : Id
-no_link = id_at 8 255 16255
+no_link = id_at 8 0xff 0x3f7f
 
 -- the numbers of a link's six bytes: units, tens, S1, S2 with M1, S3, S4 with M2 and M3, where m is M1 + 2 M2 + 4 M3
 abbrev pub link_numbers : ℕ → Id → List ℕ

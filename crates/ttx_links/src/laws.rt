@@ -1,7 +1,8 @@
 //! Laws of packets X/27/0. A call costs nothing and gives the caller's proof the law.
 
 ghost use Rattle.ttx_links.specs.Sets.{IsLink, AreLinks};
-ghost use Rattle.ttx_links.specs.Laws.{LinksAreKept, SaidLinkIsRead, ReadLinkIsSaid, WrittenLinkIsSaid, SaidLinksAreRead, ReadLinksAreSaid, WrittenLinksAreRead};
+ghost use Rattle.ttx_links.specs.Laws.{LinksAreKept, SaidLinkIsRead, ReadLinkIsSaid, WrittenLinkIsSaid};
+ghost use Rattle.ttx_links.specs.Laws.{SaidLinksAreRead, ReadLinksAreSaid, WrittenLinksAreRead};
 
 use crate::sets::Links;
 use crate::targets::Target;

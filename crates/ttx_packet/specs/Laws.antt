@@ -7,7 +7,8 @@
 --   AddressIsReadBack               the kind of a packet that begins with a written address
 --   RowsAreNumbered                 the number of a row
 use Rattle.std.specs.Prelude.{◌≡◌, ◌⊎◌, ◌↔◌, ℕ, ◌<◌, ◌≤◌, List, ◌++◌, true, false, slice_index}
-use Rattle.ttx_packet.specs.Slots.{IsSlot, IsEmpty, IsHeader, IsRow, IsInfo, kind_of, packet_kind, is_empty, is_clean, are_words, address_bytes, read_number}
+use Rattle.ttx_packet.specs.Slots.{IsSlot, IsEmpty, IsHeader, IsRow, IsInfo, kind_of, packet_kind}
+use Rattle.ttx_packet.specs.Slots.{is_empty, is_clean, are_words, address_bytes, read_number}
 use Rattle.ttx_packet.specs.Receptions.{MayBeReceivedAs}
 
 -- what is received of a clean slot that isn't empty has its kind, magazine and number; or row 2 of magazine 1 is received as 42 zero bytes

@@ -6,7 +6,8 @@
 --   is_empty, are_readable, are_words   tests of its bytes
 --   magazine, packet_number, read_number, address_bytes   the address: as it is read, and the two bytes that send it
 --   is_clean                    one wrong bit in each byte can't turn the slot into another packet
-use Rattle.std.specs.Prelude.{◌≡◌, ℕ, ◌+◌, ◌*◌, ◌/◌, ◌%◌, ◌<◌, ◌^◌, List, [], ◌∷◌, Bool, nat_le, not, ◌==◌, ◌&&◌, ◌||◌, Option, Some, None, if◌then◌else◌, is_some, length, slice_index, slice_range}
+use Rattle.std.specs.Prelude.{◌≡◌, ℕ, ◌+◌, ◌*◌, ◌/◌, ◌%◌, ◌<◌, ◌^◌, List, [], ◌∷◌, Bool, nat_le, not, ◌==◌, ◌&&◌}
+use Rattle.std.specs.Prelude.{◌||◌, Option, Some, None, if◌then◌else◌, is_some, length, slice_index, slice_range}
 use Rattle.std.specs.List.{list_all}
 use Rattle.ttx_code.specs.Words.{reading, number_of, hamming_word, is_word}
 

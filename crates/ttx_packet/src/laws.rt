@@ -1,6 +1,7 @@
 //! Laws of slots. A call costs nothing and gives the caller's proof the law.
 
-ghost use Rattle.ttx_packet.specs.Laws.{KindIsKept, EachSlotMayBeReceivedAsSent, ClocksAreFree, InfosAreFree, EmptySlotsAreEmpty, AddressIsReadBack, RowsAreNumbered};
+ghost use Rattle.ttx_packet.specs.Laws.{KindIsKept, EachSlotMayBeReceivedAsSent, ClocksAreFree, InfosAreFree};
+ghost use Rattle.ttx_packet.specs.Laws.{EmptySlotsAreEmpty, AddressIsReadBack, RowsAreNumbered};
 
 /// One wrong bit in each byte leaves the kind, the magazine and the number of a clean slot, with one exception: row 2
 /// of magazine 1 may be received as 42 zero bytes, and then no character of it is received.

@@ -6,7 +6,8 @@
 --   WrongTextIsReceived     of k sendings fewer than k with wrong text, and other wrong bits everywhere, are within the rule
 --   MemoriesAreFormer       the former memories
 --   spoilt_base, AreOutside examples outside of the rule: both sendings wrong at repeat 2; two wrong bits in a byte
-use Rattle.std.specs.Prelude.{◌≡◌, ◌⊎◌, ℕ, ◌<◌, ◌≤◌, ℤ, pos, ◌+ℤ◌, true, false, List, [], ◌++◌, length, slice_index, slice_index_or, slice_set, Contains}
+use Rattle.std.specs.Prelude.{◌≡◌, ◌⊎◌, ℕ, ◌<◌, ◌≤◌, ℤ, pos, ◌+ℤ◌, true, false, List, [], ◌++◌}
+use Rattle.std.specs.Prelude.{length, slice_index, slice_index_or, slice_set, Contains}
 use Rattle.ttx_code.specs.Words.{distance}
 use Rattle.ttx_packet.specs.Slots.{IsSlot, Kind, IsEmpty, IsHeader, IsRow, IsInfo, kind_of, is_empty}
 use Rattle.ttx_packet.specs.Receptions.{MayBeReceivedAs}

@@ -33,8 +33,9 @@ none_bytes = 0xea ∷ 0xea ∷ 0xea ∷ 0x2f ∷ 0xea ∷ 0x5e ∷ []
 abbrev pub base : List (List ℕ)
 base =
     header_slot (0x02 ∷ 0x15 ∷ 0x15 ∷ 0x15 ∷ 0x15 ∷ 0x15 ∷ 0x15 ∷ 0x15 ∷ 0x15 ∷ 0x02 ∷ []) ∷ empty_slot ∷ empty_slot
-    ∷ row_slot 1 ∷ row_slot 2 ∷ row_slot 3 ∷ row_slot 4 ∷ row_slot 5 ∷ row_slot 6 ∷ row_slot 7 ∷ row_slot 8 ∷ row_slot 9 ∷ row_slot 10 ∷ row_slot 11 ∷ row_slot 12
-    ∷ row_slot 13 ∷ row_slot 14 ∷ row_slot 15 ∷ row_slot 16 ∷ row_slot 17 ∷ row_slot 18 ∷ row_slot 19 ∷ row_slot 20 ∷ row_slot 21 ∷ row_slot 22 ∷ row_slot 23
+    ∷ row_slot 1 ∷ row_slot 2 ∷ row_slot 3 ∷ row_slot 4 ∷ row_slot 5 ∷ row_slot 6 ∷ row_slot 7 ∷ row_slot 8
+    ∷ row_slot 9 ∷ row_slot 10 ∷ row_slot 11 ∷ row_slot 12 ∷ row_slot 13 ∷ row_slot 14 ∷ row_slot 15 ∷ row_slot 16
+    ∷ row_slot 17 ∷ row_slot 18 ∷ row_slot 19 ∷ row_slot 20 ∷ row_slot 21 ∷ row_slot 22 ∷ row_slot 23
     ∷ ((0xc7 ∷ 0xb6 ∷ 0x15 ∷ []) ++ none_bytes ++ none_bytes ++ none_bytes ++ none_bytes ++ none_bytes ++ none_bytes ++ (0x2f ∷ 0 ∷ 0 ∷ []))
     ∷ header_slot (0x02 ∷ 0x15 ∷ 0xea ∷ 0xea ∷ 0xea ∷ 0x2f ∷ 0xea ∷ 0x5e ∷ 0x15 ∷ 0x02 ∷ []) ∷ []
 

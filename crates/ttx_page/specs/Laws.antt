@@ -21,7 +21,8 @@ use Rattle.ttx_page.specs.PageLinks.{HasLinks}
 use Rattle.ttx_page.specs.Pages.{Page, IsPage, Selection, Class, Item, needed, IsBlank, is_blank}
 use Rattle.ttx_page.specs.Memories.{Memory, IsMemory, IsFormer, blank_memory, memory_of_page, Holds, Shows}
 use Rattle.ttx_page.specs.Receivers.{after, erased, Step, Run, has_choice, scripted}
-use Rattle.ttx_page.specs.Streams.{Stream, turned, repeated, joined, IsLatestHeader, IsOwned, IsTransmission, IsSure, IsRun, EndsBelow, HasSureRun, IsSent}
+use Rattle.ttx_page.specs.Streams.{Stream, turned, repeated, joined, IsLatestHeader, IsOwned, IsTransmission}
+use Rattle.ttx_page.specs.Streams.{IsSure, IsRun, EndsBelow, HasSureRun, IsSent}
 use Rattle.ttx_page.specs.Receptions.{Received}
 use Rattle.ttx_page.specs.Steady.{HasHeader, HasNoHeader, Steady, SendsItsOwn}
 use Rattle.ttx_page.specs.Views.{page_of, memory_of}
@@ -57,12 +58,14 @@ BlankIsTested = (p : Page) (item : Item) → IsPage p → length p.links.six ≡
 
 -- a receiver has a run over each list
 abbrev pub EachListRuns : Type 0
-EachListRuns = (class : Class) (lines : ℕ) (sel : Selection) (m : Memory) (received : List (List ℕ)) → (new : Memory) × Run class lines sel m received new
+EachListRuns = (class : Class) (lines : ℕ) (sel : Selection) (m : Memory) (received : List (List ℕ)) →
+    (new : Memory) × Run class lines sel m received new
 
 -- a run goes on by one slot, by a step under the same settings
 abbrev pub RunsGoOn : Type 0
 RunsGoOn = (class class' : Class) (lines lines' : ℕ) (sel sel' : Selection) (m mid new : Memory) (received : List (List ℕ)) (slot : List ℕ) →
-    class' ≡ class → lines' ≡ lines → sel' ≡ sel → Run class lines sel m received mid → Step class' lines' sel' mid slot new → Run class lines sel m (received ++ slot ∷ []) new
+    class' ≡ class → lines' ≡ lines → sel' ≡ sel → Run class lines sel m received mid → Step class' lines' sel' mid slot new →
+    Run class lines sel m (received ++ slot ∷ []) new
 
 -- what a script makes is a run
 abbrev pub ScriptedRuns : Type 0
@@ -113,9 +116,12 @@ pub record Moves (s : Stream) (d : ℤ) : Type 0 where
   pub owned : (page : Id) (item : Item) (h j : ℤ) → IsOwned s page item h j → IsOwned s page item (h +ℤ d) (j +ℤ d)
   pub sure : (lines mag : ℕ) (item : Item) (h j : ℤ) → IsSure s lines mag item h j → IsSure s lines mag item (h +ℤ d) (j +ℤ d)
   pub transmission : (page : Id) (item : Item) (j : ℤ) → IsTransmission s page item j → IsTransmission s page item (j +ℤ d)
-  pub run : (page : Id) (lines repeat : ℕ) (item : Item) (first : ℤ) → HasSureRun s page lines repeat item first → HasSureRun s page lines repeat item (first +ℤ d)
-  pub ends : (page : Id) (repeat : ℕ) (item : Item) (first end : ℤ) → EndsBelow s page repeat item first end → EndsBelow s page repeat item (first +ℤ d) (end +ℤ d)
-  pub sent : (page : Id) (lines repeat : ℕ) (item : Item) (begin end : ℤ) → IsSent s page lines repeat item begin end → IsSent s page lines repeat item (begin +ℤ d) (end +ℤ d)
+  pub run : (page : Id) (lines repeat : ℕ) (item : Item) (first : ℤ) →
+      HasSureRun s page lines repeat item first → HasSureRun s page lines repeat item (first +ℤ d)
+  pub ends : (page : Id) (repeat : ℕ) (item : Item) (first end : ℤ) →
+      EndsBelow s page repeat item first end → EndsBelow s page repeat item (first +ℤ d) (end +ℤ d)
+  pub sent : (page : Id) (lines repeat : ℕ) (item : Item) (begin end : ℤ) →
+      IsSent s page lines repeat item begin end → IsSent s page lines repeat item (begin +ℤ d) (end +ℤ d)
 
 abbrev pub StreamsMove : Type 0
 StreamsMove = (s : Stream) (d : ℤ) → IsSameOn s d → Moves s d

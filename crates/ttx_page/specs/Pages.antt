@@ -8,7 +8,8 @@
 --   has_double_height, is_tall, is_hidden           rows below a row in double height
 --   Class                   the classes of receivers
 --   IsBlank, is_blank       what a cleared page holds already
-use Rattle.std.specs.Prelude.{◌≡◌, ◌≢◌, ℕ, zero, suc, ◌-◌, ◌<◌, ◌≤◌, Bool, true, false, not, ◌&&◌, if◌then◌else◌, List, [], Some, is_none, nat_le, ◌==◌, slice_get, slice_index, slice_index_or, replicate, length}
+use Rattle.std.specs.Prelude.{◌≡◌, ◌≢◌, ℕ, zero, suc, ◌-◌, ◌<◌, ◌≤◌, Bool, true, false, not, ◌&&◌, if◌then◌else◌, List}
+use Rattle.std.specs.Prelude.{[], Some, is_none, nat_le, ◌==◌, slice_get, slice_index, slice_index_or, replicate, length}
 use Rattle.std.specs.List.{list_all, list_any}
 use Rattle.ttx_header.specs.Ids.{Id, IsId, same_id}
 use Rattle.ttx_header.specs.Control.{IsControl, c4, c7, c10}
@@ -44,8 +45,8 @@ pub record IsRow (row : List ℕ) : Type 0 where
 -- 24 characters of row 0 and 24 rows of 40, all below 128; no page FF, no subcode 3F7F, and no erase bit (C4)
 pub record IsPage (p : Page) : Type 0 where
   pub id : IsId p.id
-  pub page : p.id.page ≢ 255
-  pub sub : p.id.sub ≢ 16255
+  pub page : p.id.page ≢ 0xff
+  pub sub : p.id.sub ≢ 0x3f7f
   pub control : IsControl p.control
   pub no_erase : c4 p.control ≡ false
   pub head_length : length p.head ≡ 24

@@ -8,7 +8,8 @@
 --   Run                     what a list of slots makes of it
 --   has_choice              where a receiver has a choice
 --   scripted                the memory of a receiver that takes its choices from a list
-use Rattle.std.specs.Prelude.{◌≡◌, ℕ, ◌+◌, min, Bool, true, false, not, ◌&&◌, ◌||◌, if◌then◌else◌, List, [], ◌∷◌, ◌++◌, Option, Some, None, nat_le, ◌==◌, slice_set, take, drop, replicate}
+use Rattle.std.specs.Prelude.{◌≡◌, ℕ, ◌+◌, min, Bool, true, false, not, ◌&&◌, ◌||◌, if◌then◌else◌, List, []}
+use Rattle.std.specs.Prelude.{◌∷◌, ◌++◌, Option, Some, None, nat_le, ◌==◌, slice_set, take, drop, replicate}
 use Rattle.ttx_code.specs.Words.{stored}
 use Rattle.ttx_header.specs.Control.{c4, c11}
 use Rattle.ttx_links.specs.Sets.{LinkSet, no_links}

@@ -99,5 +99,6 @@ IsChecked p TheLinks = Unit {0}
 -- what is compared carries the page's own contents.
 pub record SendsItsOwn (s : Stream) (pages : List Page) (p : Page) : Type 0 where
   pub header : HasHeader s p.id
-  pub only_subpage : IsAlone pages p → (j : ℤ) → heads_matched (AnySub p.id.mag p.id.page) (packet_of (s j)) ≡ true → heads_page p.id (packet_of (s j)) ≡ true
+  pub only_subpage : IsAlone pages p → (j : ℤ) →
+      heads_matched (AnySub p.id.mag p.id.page) (packet_of (s j)) ≡ true → heads_page p.id (packet_of (s j)) ≡ true
   pub items : (item : Item) → IsChecked p item → (h j : ℤ) → IsOwned s p.id item h j → IsTrueTo p item (s j)

@@ -9,7 +9,8 @@
 --   IsTransmission, IsSure, IsSureTransmission      an item is sent; no receiver may miss it
 --   AreSuccessive, IsRun    transmissions that follow one another; as many as one of which is received right
 --   EndsBelow, HasSureRun, IsSent           where a run ends, and whether it is sure
-use Rattle.std.specs.Prelude.{◌≡◌, ℕ, ◌-◌, ◌%◌, ℤ, pos, negsuc, ◌+ℤ◌, ◌<ℤ◌, ◌≤ℤ◌, Bool, true, false, not, ◌&&◌, ◌==◌, List, [], ◌∷◌, length, slice_index_or}
+use Rattle.std.specs.Prelude.{◌≡◌, ℕ, ◌-◌, ◌%◌, ℤ, pos, negsuc, ◌+ℤ◌, ◌<ℤ◌, ◌≤ℤ◌, Bool, true}
+use Rattle.std.specs.Prelude.{false, not, ◌&&◌, ◌==◌, List, [], ◌∷◌, length, slice_index_or}
 use Rattle.std.specs.List.{AllByRecursion}
 use Rattle.ttx_header.specs.Ids.{Id, same_id}
 use Rattle.ttx_header.specs.Control.{c11}

@@ -3,7 +3,7 @@
 ghost use Rattle.std.specs.Prelude.{◌≡◌, ℕ, ◌<◌, ◌↔◌, IsTrue, length, slice_index, slice_index_or, []};
 ghost use Rattle.ttx_page.specs.Pages.{IsRow};
 
-/// Whether each character is below 128: bit 7 isn't set in their union.
+/// Whether each character is below 128: bit 7, the highest, isn't set in their union.
 fn are_codes(row: &[u8]) -> bool
     ensures { IsTrue result ↔ ((c : ℕ) → slice_index row.now c < 128) }
 {

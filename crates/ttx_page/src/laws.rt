@@ -2,7 +2,10 @@
 
 ghost use Rattle.ttx_page.specs.ErrorRule.{AreOutside, MemoriesAreFormer, WrongTextIsReceived};
 ghost use Rattle.ttx_page.specs.Examples.{Examples};
-ghost use Rattle.ttx_page.specs.Laws.{PagesKeepTheirRules, PagesHaveSixLinks, PagesHaveLinks, MemoriesKeepTheirRules, BlankIsFormer, PageIsShown, ErasedHoldsBlank, BlankIsTested, EachListRuns, RunsGoOn, ScriptedRuns, ChoicesAreChoices, ExactIsReceived, CyclesRepeat, EachSlotTurns, JoinedIsOldThenNew, StreamsMove, OwnersAreUnique, OwnersComeFirst, OwnersAreNear, OwnersDontFall, RunsAreUnique, RunsRise, NoHeaderIsNone, SteadySendsItsOwn};
+ghost use Rattle.ttx_page.specs.Laws.{PagesKeepTheirRules, PagesHaveSixLinks, PagesHaveLinks, MemoriesKeepTheirRules, BlankIsFormer, PageIsShown};
+ghost use Rattle.ttx_page.specs.Laws.{ErasedHoldsBlank, BlankIsTested, EachListRuns, RunsGoOn, ScriptedRuns, ChoicesAreChoices, ExactIsReceived};
+ghost use Rattle.ttx_page.specs.Laws.{CyclesRepeat, EachSlotTurns, JoinedIsOldThenNew, StreamsMove, OwnersAreUnique, OwnersComeFirst};
+ghost use Rattle.ttx_page.specs.Laws.{OwnersAreNear, OwnersDontFall, RunsAreUnique, RunsRise, NoHeaderIsNone, SteadySendsItsOwn};
 
 /// Each page of the program is in the ranges of its fields.
 pub fn pages_keep_their_rules()

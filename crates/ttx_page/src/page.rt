@@ -25,7 +25,7 @@ pub struct Page {
 
 // Whether the id is a page's: no page FF, and no subcode 3F7F.
 fn is_page_id(id: PageId) -> bool
-    ensures not_filling { IsTrue result ↔ (id.page ≢ 255) × (id.sub ≢ 16255) }
+    ensures not_filling { IsTrue result ↔ (id.page ≢ 0xff) × (id.sub ≢ 0x3f7f) }
     ensures ranges { IsId id }
 {
     let _mag = id.mag();

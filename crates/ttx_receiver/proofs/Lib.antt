@@ -6,10 +6,9 @@ mod Runs
 mod Items
 mod Blank
 mod Places
-mod Tuned
+mod ReceivedPage
 mod OneItem
-mod ByKind
-mod Permitted
+mod OtherMagazines
 mod StarvedBytes
 mod StarvedSteps
 mod StarvedUnder

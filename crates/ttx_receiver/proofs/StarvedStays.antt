@@ -22,7 +22,7 @@ use Rattle.ttx_receiver.proofs.Keeps.{HeadRightAt, RowRightAt, keep_row, keep_he
 use Rattle.ttx_receiver.proofs.Runs.{packet_at, IsTuned, ReceivesPage, tuned_next}
 use Rattle.ttx_receiver.proofs.Items.{needed_row}
 use Rattle.ttx_receiver.proofs.Received.{LawsBelow, IsOfSlot, of_slot, same_matched, row_was_sent, head_received_at, row_received_at}
-use Rattle.ttx_receiver.proofs.Tuned.{receives_page, same_mag}
+use Rattle.ttx_receiver.proofs.ReceivedPage.{receives_page, same_mag}
 use Rattle.ttx_receiver.proofs.Places.{not_before, lt_offset}
 use Rattle.ttx_receiver.proofs.StarvedBytes.{flip_even, flipped_byte, received_as_sent}
 use Rattle.ttx_receiver.proofs.StarvedSteps.{IsFirstEven, wrong_row, wrong_head, wrong_links}

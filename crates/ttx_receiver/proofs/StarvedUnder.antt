@@ -18,7 +18,7 @@ use Rattle.ttx_receiver.specs.Laws.{IsSteadyFrom}
 use Rattle.ttx_receiver.specs.Starving.{spoilt, is_bound, takes, heard, starved_memory, starved_slots}
 use Rattle.ttx_receiver.proofs.Choices.{if_ind, and_left, and_right, not_true, no_both}
 use Rattle.ttx_receiver.proofs.Received.{LawsBelow, same_heads, same_matched, same_ends}
-use Rattle.ttx_receiver.proofs.Tuned.{page_heads, same_mag}
+use Rattle.ttx_receiver.proofs.ReceivedPage.{page_heads, same_mag}
 use Rattle.ttx_receiver.proofs.Places.{offset, not_before, offset_lt, lt_offset}
 use Rattle.ttx_receiver.proofs.StarvedBytes.{spoilt_received, received_as_sent}
 use Rattle.ttx_receiver.proofs.StarvedSteps.{stores_since}

@@ -2,7 +2,7 @@
 use Rattle.std.proofs.Common.{◌≡◌, ℕ, zero, suc, ◌+◌, ◌%◌, ◌<◌, ◌≤◌, ℤ, pos, ◌+ℤ◌, ◌<ℤ◌, ◌≤ℤ◌, Bool, true, false, List, [], length, get_or, take, map, refl, sym, ap, ◌∙◌, subst, arith, get_or-take}
 use Rattle.std.proofs.lemmas.Int.{ints}
 use Rattle.std.proofs.lemmas.List.{get_or-map}
-use Rattle.ttx_code.specs.Words.{is_odd, odd_byte}
+use Rattle.ttx_code.specs.Words.{odd_byte}
 use Rattle.ttx_page.specs.Packets.{Packet, Empty, Unreadable, Header, Row, Links, Info, Other, packet_of}
 use Rattle.ttx_page.specs.Pages.{Page, IsPage, selected_mag, matches, needed, page_row}
 use Rattle.ttx_page.specs.declared.selection.Selection.{Selection}
@@ -21,7 +21,7 @@ use Rattle.ttx_receiver.proofs.Keeps.{keep_row, keep_head, keep_links}
 use Rattle.ttx_receiver.proofs.Runs.{packet_at, run_keeps, IsOwnedAt, ReceivesPage, IsTuned, tuned_next}
 use Rattle.ttx_receiver.proofs.Items.{needed_row}
 use Rattle.ttx_receiver.proofs.Received.{LawsBelow}
-use Rattle.ttx_receiver.proofs.Tuned.{page_heads, same_mag, no_row_zero}
+use Rattle.ttx_receiver.proofs.ReceivedPage.{page_heads, same_mag, no_row_zero}
 use Rattle.ttx_receiver.proofs.Places.{offset, not_before, offset_lt, lt_offset, le_le}
 use Rattle.ttx_receiver.proofs.StarvedStays.{HoldsEach, each_from, each_to}
 

@@ -1,3 +1,4 @@
+pub mod Reading
 pub mod Starving
 pub mod Laws
 pub mod Tuning

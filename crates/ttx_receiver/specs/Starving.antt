@@ -11,7 +11,8 @@
 --   other_letter, other_link, other_links, wrong_memory         the former memory: the page's, but for one character or one link
 --   IsWrong                 that character or that link is wrong
 --   IsStarved, StarvedStaysWrong        where no all-sure run comes, it stays wrong, and all else is the page's
-use Rattle.std.specs.Prelude.{◌≡◌, false, ◌≢◌, ℕ, zero, suc, ◌≤◌, ℤ, pos, ◌+ℤ◌, Bool, true, not, ◌&&◌, ◌==◌, if◌then◌else◌, List, [], ◌∷◌, ◌++◌, Option, Some, None, length, slice_index, slice_index_or, slice_set, nat_le, bit_xor, Contains, ◌<◌}
+use Rattle.std.specs.Prelude.{◌≡◌, ◌≢◌, ◌<◌, ◌≤◌, ℕ, zero, suc, ℤ, pos, ◌+ℤ◌, Bool, true, false, not, ◌&&◌, ◌==◌, if◌then◌else◌, nat_le, bit_xor}
+use Rattle.std.specs.Prelude.{Option, Some, None, List, [], ◌∷◌, ◌++◌, length, slice_index, slice_index_or, slice_set, Contains}
 use Rattle.ttx_packet.specs.Slots.{is_empty}
 use Rattle.ttx_header.specs.Ids.{Id, id_at}
 use Rattle.ttx_links.specs.Sets.{LinkSet}
@@ -65,7 +66,8 @@ careful_after lines sel m slot = after Any lines sel true (older m) (packet_of s
 unfoldable pub starved_memory : ℕ → Selection → Item → Stream → ℤ → Memory → ℕ → Memory
 starved_memory lines sel item s tau former zero = former
 starved_memory lines sel item s tau former (suc n) =
-    careful_after lines sel (starved_memory lines sel item s tau former n) (heard lines sel item (starved_memory lines sel item s tau former n) (s (tau +ℤ pos n)))
+    let m = starved_memory lines sel item s tau former n in
+    careful_after lines sel m (heard lines sel item m (s (tau +ℤ pos n)))
 
 -- and what is received of them
 unfoldable pub starved_slots : ℕ → Selection → Item → Stream → ℤ → Memory → ℕ → List (List ℕ)
@@ -90,7 +92,8 @@ starved_choices lines sel item s tau former (suc n) =
 
 -- The slots received are those of the stream with the first byte of the item wrong in those that are hit, none of which is empty; and
 -- a receiver that takes its choices from the script makes the memory of them.
-pub record IsScripted (lines : ℕ) (sel : Selection) (item : Item) (s : Stream) (tau : ℤ) (former m : Memory) (n : ℕ) (received : List (List ℕ)) (hits : List ℕ) (choices : List Bool) : Type 0 where
+pub record IsScripted (lines : ℕ) (sel : Selection) (item : Item) (s : Stream) (tau : ℤ) (former m : Memory) (n : ℕ)
+    (received : List (List ℕ)) (hits : List ℕ) (choices : List Bool) : Type 0 where
   pub inside : (t : ℕ) → Contains hits t → t < n
   pub some : (t : ℕ) → Contains hits t → is_empty (s (tau +ℤ pos t)) ≡ false
   pub hit : (t : ℕ) → Contains hits t → slice_index_or received t [] ≡ spoilt (s (tau +ℤ pos t)) (first_byte item)
@@ -110,7 +113,7 @@ other_letter c = if c == 0x41 then 0x42 else 0x41
 
 -- none in the place of a link, and a link to page 00 of magazine 1 in the place of none
 abbrev pub other_link : Option Id → Option Id
-other_link None = Some (id_at 1 0 16255)
+other_link None = Some (id_at 1 0 0x3f7f)
 other_link (Some id) = None
 
 abbrev pub other_six : List (Option Id) → List (Option Id)
@@ -136,7 +139,8 @@ IsWrong p m (TheRow r) = char_at m r 0 ≡ other_letter (slice_index (page_row p
 IsWrong p m TheLinks = m.links ≡ other_links p.links
 
 -- What is received of n slots from slot tau on is within the error rule, and the receiver's memory is the page's but for the item.
-pub record IsStarved (s : Stream) (p : Page) (sel : Selection) (lines repeat : ℕ) (item : Item) (tau : ℤ) (n : ℕ) (former m : Memory) (received : List (List ℕ)) : Type 0 where
+pub record IsStarved (s : Stream) (p : Page) (sel : Selection) (lines repeat : ℕ) (item : Item) (tau : ℤ) (n : ℕ)
+    (former m : Memory) (received : List (List ℕ)) : Type 0 where
   pub is_former : IsFormer Any former
   pub size : length received ≡ n
   pub permitted : Received s p.id repeat tau received

@@ -1,15 +1,21 @@
 -- What contracts see of the receivers of the program.
 --
+--   tuned_after             a memory after a packet, by what the receiver is set to and its choice
 --   Tuned, tuned_at         a receiver: what it is set to, the slots in a field, and what it holds
 --   stepped                 a receiver after one slot, where it takes a choice or not
 --   Scripted, scripted_step         a receiver with the choices that are left of its script
 use Rattle.std.specs.Prelude.{ℕ, Bool, List}
-use Rattle.ttx_page.specs.Packets.{packet_of}
+use Rattle.ttx_page.specs.Packets.{Packet, packet_of}
 use Rattle.ttx_page.specs.declared.class.Class.{Class}
 use Rattle.ttx_page.specs.declared.class.Class.TheVariants.{Any}
 use Rattle.ttx_page.specs.declared.selection.Selection.{Selection}
 use Rattle.ttx_page.specs.Memories.{Memory}
 use Rattle.ttx_page.specs.Receivers.{after, older, has_choice, next_choice, later_choices}
+use Rattle.ttx_receiver.specs.declared.tuning.Tuning.{Tuning}
+
+-- what a packet makes of a memory, its age grown already
+abbrev pub tuned_after : Tuning → Bool → Memory → Packet → Memory
+tuned_after t choice m packet = after t.class t.lines t.selection choice m packet
 
 pub record Tuned : Type 0 where
   pub selection : Selection

@@ -1,32 +1,28 @@
 //! A receiver that surely clears the page when it is set to it.
 
 ghost use Rattle.std.specs.Prelude.{◌≡◌, MatchOption, replicate, false};
-ghost use Rattle.ttx_page.specs.Memories.{Memory};
 ghost use Rattle.ttx_page.specs.Receivers.{Step};
 ghost use Rattle.ttx_page.specs.Views.{memory_of};
 ghost use Rattle.ttx_page.specs.declared.class.Class.TheVariants.{Clearing};
 ghost use Rattle.ttx_receiver.specs.Tuning.{tuned_at, stepped};
 
 use crate::receiver::Receiver;
-use crate::steps::{EMPTY, take_slot};
+use crate::tuned::Tuned;
 use std::marker::Model;
 use ttx_page::{Class, PageMemory, Selection};
 
 /// A receiver that erases at the first header of its page, and takes no other choice.
 #[derive(Drop)]
 pub struct Cleared {
-    selection: Selection,
-    lines: u8,
-    memory: PageMemory,
+    tuned: Tuned,
 }
 
 impl Model for Cleared {
-    ghost use Rattle.ttx_page.specs.Views.{memory_of};
-    ghost use Rattle.ttx_receiver.specs.Tuning.{Tuned, tuned_at};
+    ghost use Rattle.ttx_receiver.specs.Tuning.{Tuned as TunedValue};
 
-    ghost Value = { Tuned };
+    ghost Value = { TunedValue };
 
-    ghost view = { λ r. tuned_at r.selection r.lines (memory_of r.memory) };
+    ghost view = { λ r. r.tuned };
 }
 
 impl Cleared {
@@ -35,9 +31,7 @@ impl Cleared {
         ensures { result ≡ tuned_at selection lines (memory_of memory) }
     {
         Cleared {
-            selection,
-            lines,
-            memory,
+            tuned: Tuned::new(selection, lines, memory),
         }
     }
 }
@@ -52,11 +46,11 @@ impl Receiver for Cleared {
     ghost kind = { λ r. Clearing };
 
     fn selection(&self) -> Selection {
-        self.selection
+        self.tuned.selection()
     }
 
     fn lines(&self) -> u8 {
-        self.lines
+        self.tuned.lines()
     }
 
     fn class(&self) -> Class {
@@ -64,29 +58,19 @@ impl Receiver for Cleared {
     }
 
     fn memory(&self) -> &PageMemory {
-        &self.memory
+        self.tuned.memory()
     }
 
     fn step(&mut self, slot: Option<&[u8; 42]>)
-        ensures value { MatchOption slot.entry (self.new ≡ stepped Clearing false self.old (replicate 42 0)) (λ s. self.new ≡ stepped Clearing false self.old s.now) }
-        ensures step { MatchOption slot.entry (Step Clearing self.old.lines self.old.selection self.old.memory (replicate 42 0) self.new.memory)
+        ensures value { MatchOption slot.entry (self.new ≡ stepped Clearing false self.old (replicate 42 0))
+            (λ s. self.new ≡ stepped Clearing false self.old s.now) }
+        ensures step { MatchOption slot.entry
+            (Step Clearing self.old.lines self.old.selection self.old.memory (replicate 42 0) self.new.memory)
             (λ s. Step Clearing self.old.lines self.old.selection self.old.memory s.now self.new.memory) }
         ensures selection { self.new.selection ≡ self.old.selection }
         ensures lines { self.new.lines ≡ self.old.lines }
         ensures class { Clearing ≡ Clearing }
     {
-        self.memory.grow_older();
-        let (memory, selection) = (&mut self.memory, &self.selection);
-        match slot {
-            Some(bytes) => take_slot(memory, Class::Clearing, self.lines, selection, false, bytes),
-            None => take_slot(
-                memory,
-                Class::Clearing,
-                self.lines,
-                selection,
-                false,
-                &EMPTY,
-            ),
-        }
+        self.tuned.step(Class::Clearing, false, slot);
     }
 }

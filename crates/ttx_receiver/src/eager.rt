@@ -1,32 +1,28 @@
 //! A receiver that takes none of its choices.
 
 ghost use Rattle.std.specs.Prelude.{◌≡◌, MatchOption, replicate, false};
-ghost use Rattle.ttx_page.specs.Memories.{Memory};
 ghost use Rattle.ttx_page.specs.Receivers.{Step};
 ghost use Rattle.ttx_page.specs.Views.{memory_of};
 ghost use Rattle.ttx_page.specs.declared.class.Class.TheVariants.{Any};
 ghost use Rattle.ttx_receiver.specs.Tuning.{tuned_at, stepped};
 
 use crate::receiver::Receiver;
-use crate::steps::{EMPTY, take_slot};
+use crate::tuned::Tuned;
 use std::marker::Model;
 use ttx_page::{Class, PageMemory, Selection};
 
 /// A receiver that stores all that it may, never erases by choice, and goes on storing where it may end.
 #[derive(Drop)]
 pub struct Eager {
-    selection: Selection,
-    lines: u8,
-    memory: PageMemory,
+    tuned: Tuned,
 }
 
 impl Model for Eager {
-    ghost use Rattle.ttx_page.specs.Views.{memory_of};
-    ghost use Rattle.ttx_receiver.specs.Tuning.{Tuned, tuned_at};
+    ghost use Rattle.ttx_receiver.specs.Tuning.{Tuned as TunedValue};
 
-    ghost Value = { Tuned };
+    ghost Value = { TunedValue };
 
-    ghost view = { λ r. tuned_at r.selection r.lines (memory_of r.memory) };
+    ghost view = { λ r. r.tuned };
 }
 
 impl Eager {
@@ -35,9 +31,7 @@ impl Eager {
         ensures { result ≡ tuned_at selection lines (memory_of memory) }
     {
         Eager {
-            selection,
-            lines,
-            memory,
+            tuned: Tuned::new(selection, lines, memory),
         }
     }
 }
@@ -52,11 +46,11 @@ impl Receiver for Eager {
     ghost kind = { λ r. Any };
 
     fn selection(&self) -> Selection {
-        self.selection
+        self.tuned.selection()
     }
 
     fn lines(&self) -> u8 {
-        self.lines
+        self.tuned.lines()
     }
 
     fn class(&self) -> Class {
@@ -64,22 +58,19 @@ impl Receiver for Eager {
     }
 
     fn memory(&self) -> &PageMemory {
-        &self.memory
+        self.tuned.memory()
     }
 
     fn step(&mut self, slot: Option<&[u8; 42]>)
-        ensures value { MatchOption slot.entry (self.new ≡ stepped Any false self.old (replicate 42 0)) (λ s. self.new ≡ stepped Any false self.old s.now) }
-        ensures step { MatchOption slot.entry (Step Any self.old.lines self.old.selection self.old.memory (replicate 42 0) self.new.memory)
+        ensures value { MatchOption slot.entry (self.new ≡ stepped Any false self.old (replicate 42 0))
+            (λ s. self.new ≡ stepped Any false self.old s.now) }
+        ensures step { MatchOption slot.entry
+            (Step Any self.old.lines self.old.selection self.old.memory (replicate 42 0) self.new.memory)
             (λ s. Step Any self.old.lines self.old.selection self.old.memory s.now self.new.memory) }
         ensures selection { self.new.selection ≡ self.old.selection }
         ensures lines { self.new.lines ≡ self.old.lines }
         ensures class { Any ≡ Any }
     {
-        self.memory.grow_older();
-        let (memory, selection) = (&mut self.memory, &self.selection);
-        match slot {
-            Some(bytes) => take_slot(memory, Class::Any, self.lines, selection, false, bytes),
-            None => take_slot(memory, Class::Any, self.lines, selection, false, &EMPTY),
-        }
+        self.tuned.step(Class::Any, false, slot);
     }
 }

@@ -5,11 +5,14 @@ mod careful;
 mod cleared;
 mod eager;
 pub mod laws;
+mod packets;
 pub mod receiver;
 mod scripted;
 pub mod starving;
 mod steps;
 pub mod touching;
+mod tuned;
+mod tuning;
 mod watched;
 
 pub use careful::Careful;

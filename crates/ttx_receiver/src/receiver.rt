@@ -38,7 +38,8 @@ pub trait Receiver {
 
     /// Takes one slot. `None` is an empty slot.
     fn step(&mut self, slot: Option<&[u8; 42]>)
-        ensures step { MatchOption slot.entry (Step (kind self.old) (field self.old) (tuned self.old) (held self.old) (replicate 42 0) (held self.new))
+        ensures step { MatchOption slot.entry
+            (Step (kind self.old) (field self.old) (tuned self.old) (held self.old) (replicate 42 0) (held self.new))
             (λ s. Step (kind self.old) (field self.old) (tuned self.old) (held self.old) s.now (held self.new)) }
         ensures selection { tuned self.new ≡ tuned self.old }
         ensures lines { field self.new ≡ field self.old }

@@ -7,7 +7,8 @@ ghost use Rattle.ttx_page.specs.declared.class.Class.TheVariants.{Any};
 ghost use Rattle.ttx_receiver.specs.Tuning.{tuned_at, script_at, script_step};
 
 use crate::receiver::Receiver;
-use crate::steps::{EMPTY, chooses, take_slot};
+use crate::steps::EMPTY;
+use crate::tuned::Tuned;
 use std::marker::Model;
 use ttx_page::{Class, PageMemory, Selection};
 
@@ -15,19 +16,16 @@ use ttx_page::{Class, PageMemory, Selection};
 /// script's end none.
 #[derive(Drop)]
 pub struct Scripted<'a> {
-    selection: Selection,
-    lines: u8,
-    memory: PageMemory,
+    tuned: Tuned,
     choices: &'a [bool],
 }
 
 impl<'a> Model for Scripted<'a> {
-    ghost use Rattle.ttx_page.specs.Views.{memory_of};
-    ghost use Rattle.ttx_receiver.specs.Tuning.{Script, script_at, tuned_at};
+    ghost use Rattle.ttx_receiver.specs.Tuning.{Script, script_at};
 
     ghost Value = { Script };
 
-    ghost view = { λ r. script_at (tuned_at r.selection r.lines (memory_of r.memory)) r.choices.now };
+    ghost view = { λ r. script_at r.tuned r.choices.now };
 }
 
 // The next choice of a script, where there is one to make.
@@ -62,9 +60,7 @@ impl<'a> Scripted<'a> {
         ensures { result ≡ script_at (tuned_at selection lines (memory_of memory)) choices.now }
     {
         Scripted {
-            selection,
-            lines,
-            memory,
+            tuned: Tuned::new(selection, lines, memory),
             choices,
         }
     }
@@ -73,18 +69,11 @@ impl<'a> Scripted<'a> {
     fn take(&mut self, bytes: &[u8; 42])
         ensures { self.new ≡ script_step self.old bytes.now }
     {
-        self.memory.grow_older();
-        let has = chooses(&self.memory, self.lines, &self.selection, bytes);
+        self.tuned.grow_older();
+        let has = self.tuned.chooses(bytes);
         let choice = next_of(self.choices, has);
         self.choices = later_of(self.choices, has);
-        take_slot(
-            &mut self.memory,
-            Class::Any,
-            self.lines,
-            &self.selection,
-            choice,
-            bytes,
-        );
+        self.tuned.take(Class::Any, choice, bytes);
     }
 }
 
@@ -98,11 +87,11 @@ impl<'a> Receiver for Scripted<'a> {
     ghost kind = { λ r. Any };
 
     fn selection(&self) -> Selection {
-        self.selection
+        self.tuned.selection()
     }
 
     fn lines(&self) -> u8 {
-        self.lines
+        self.tuned.lines()
     }
 
     fn class(&self) -> Class {
@@ -110,12 +99,14 @@ impl<'a> Receiver for Scripted<'a> {
     }
 
     fn memory(&self) -> &PageMemory {
-        &self.memory
+        self.tuned.memory()
     }
 
     fn step(&mut self, slot: Option<&[u8; 42]>)
-        ensures value { MatchOption slot.entry (self.new ≡ script_step self.old (replicate 42 0)) (λ s. self.new ≡ script_step self.old s.now) }
-        ensures step { MatchOption slot.entry (Step Any self.old.tuned.lines self.old.tuned.selection self.old.tuned.memory (replicate 42 0) self.new.tuned.memory)
+        ensures value { MatchOption slot.entry (self.new ≡ script_step self.old (replicate 42 0))
+            (λ s. self.new ≡ script_step self.old s.now) }
+        ensures step { MatchOption slot.entry
+            (Step Any self.old.tuned.lines self.old.tuned.selection self.old.tuned.memory (replicate 42 0) self.new.tuned.memory)
             (λ s. Step Any self.old.tuned.lines self.old.tuned.selection self.old.tuned.memory s.now self.new.tuned.memory) }
         ensures selection { self.new.tuned.selection ≡ self.old.tuned.selection }
         ensures lines { self.new.tuned.lines ≡ self.old.tuned.lines }

@@ -12,9 +12,11 @@ ghost use Rattle.ttx_page.specs.declared.class.Class.TheVariants.{Any};
 ghost use Rattle.ttx_page.specs.declared.item.Item.TheVariants.{Row as TheRow};
 ghost use Rattle.ttx_receiver.specs.Starving.{spoilt, is_bound, takes, first_byte, heard, is_hit, careful_after};
 
-use crate::steps::{chooses, magazine_of, take_slot};
+use crate::packets::{Packet, packet_in};
+use crate::steps::{chooses, magazine_of};
+use crate::tuning::Tuning;
 use ttx_header::read_header;
-use ttx_packet::slots::{Slot, slot_of};
+use ttx_packet::place::Address;
 use ttx_page::{Class, Item, PageMemory, Selection};
 
 // Whether a receiver can't miss the next packet.
@@ -40,31 +42,20 @@ pub(crate) fn is_matched(selection: &Selection, bytes: &[u8; 42]) -> bool
 fn takes_head(selection: &Selection, slot: &[u8; 42]) -> bool
     ensures { result ≡ heads_matched selection.now (packet_of slot.now) }
 {
-    ttx_header::laws::headers_have_fields();
-    match slot_of(slot) {
-        Slot::Header(_, bytes) => is_matched(selection, bytes),
-        Slot::Row(_, _) => false,
-        Slot::Links(_, _) => false,
-        Slot::Empty => false,
-        Slot::Unreadable => false,
-        Slot::Info(_, _) => false,
-        Slot::Other(_) => false,
+    match packet_in(slot) {
+        Packet::Header(bytes) => is_matched(selection, bytes),
+        Packet::Row(_, _) => false,
+        Packet::Links(_, _) => false,
+        Packet::Nothing => false,
     }
 }
 
 // Whether it takes a row from a row of a magazine and number.
-fn takes_row_at(
-    memory: &PageMemory,
-    lines: u8,
-    selection: &Selection,
-    row: u8,
-    mag: u8,
-    number: u8,
-) -> bool
+fn takes_row_at(memory: &PageMemory, lines: u8, selection: &Selection, row: u8, at: Address) -> bool
     requires { lines ≤ 32 }
-    ensures { result ≡ (((mag == selected_mag selection.now) && (number == row)) && is_bound lines (older (memory_of memory.now))) }
+    ensures { result ≡ (((at.mag == selected_mag selection.now) && (at.number == row)) && is_bound lines (older (memory_of memory.now))) }
 {
-    mag == magazine_of(selection) && number == row && is_bound_next(memory, lines)
+    at.mag == magazine_of(selection) && at.number == row && is_bound_next(memory, lines)
 }
 
 // Whether it takes a row from the next slot.
@@ -78,14 +69,11 @@ fn takes_row(
     requires { lines ≤ 32 }
     ensures { result ≡ takes lines selection.now (TheRow row) (older (memory_of memory.now)) (packet_of slot.now) }
 {
-    match slot_of(slot) {
-        Slot::Header(_, _) => false,
-        Slot::Row(at, _) => takes_row_at(memory, lines, selection, row, at.mag, at.number),
-        Slot::Links(_, _) => false,
-        Slot::Empty => false,
-        Slot::Unreadable => false,
-        Slot::Info(_, _) => false,
-        Slot::Other(_) => false,
+    match packet_in(slot) {
+        Packet::Header(_) => false,
+        Packet::Row(at, _) => takes_row_at(memory, lines, selection, row, at),
+        Packet::Links(_, _) => false,
+        Packet::Nothing => false,
     }
 }
 
@@ -136,13 +124,20 @@ pub fn starve(
 ) -> (bool, bool)
     requires { lines ≤ 32 }
     ensures hit { result.0 ≡ is_hit lines selection.now item.now (memory_of memory.old) slot.now }
-    ensures choice { result.1 ≡ has_choice Any lines selection.now (older (memory_of memory.old)) (packet_of (heard lines selection.now item.now (memory_of memory.old) slot.now)) }
-    ensures memory { memory_of memory.new ≡ careful_after lines selection.now (memory_of memory.old) (heard lines selection.now item.now (memory_of memory.old) slot.now) }
+    ensures choice { result.1 ≡ has_choice Any lines selection.now (older (memory_of memory.old))
+        (packet_of (heard lines selection.now item.now (memory_of memory.old) slot.now)) }
+    ensures memory { memory_of memory.new ≡ careful_after lines selection.now (memory_of memory.old)
+        (heard lines selection.now item.now (memory_of memory.old) slot.now) }
 {
     let hit = hits(memory, lines, selection, item, slot);
     let received = spoil(slot, hit, usize::from(first_byte_of(item)));
     memory.grow_older();
     let choice = chooses(memory, lines, selection, &received);
-    take_slot(memory, Class::Any, lines, selection, true, &received);
+    let tuning = Tuning {
+        class: Class::Any,
+        lines,
+        selection: *selection,
+    };
+    tuning.take_slot(memory, true, &received);
     (hit, choice)
 }

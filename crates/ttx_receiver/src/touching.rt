@@ -6,9 +6,9 @@ ghost use Rattle.ttx_page.specs.Packets.{packet_of};
 ghost use Rattle.ttx_page.specs.Pages.{matches, selected_mag};
 ghost use Rattle.ttx_receiver.specs.Touching.{touch_of, with_touch, IsRowBelow};
 
+use crate::packets::{Packet, packet_in};
 use crate::starving::is_matched;
 use crate::steps::magazine_of;
-use ttx_packet::slots::{Slot, slot_of};
 use ttx_page::Selection;
 
 /// What a slot may change of what a receiver shows: nothing, a row, or everything.
@@ -61,16 +61,11 @@ pub fn touch_of(selection: &Selection, storing: bool, slot: &[u8; 42]) -> Touch
     ensures value { result ≡ touch_of selection.now storing (packet_of slot.now) }
     ensures row { IsRowBelow 25 result }
 {
-    ttx_packet::laws::rows_are_numbered();
-    ttx_header::laws::headers_have_fields();
-    match slot_of(slot) {
-        Slot::Header(_, bytes) => if_matched(selection, bytes),
-        Slot::Row(at, _) => if_stored(selection, storing, at.mag, Touch::Row(at.number)),
-        Slot::Links(at, _) => if_stored(selection, storing, at.mag, Touch::Everything),
-        Slot::Empty => Touch::Nothing,
-        Slot::Unreadable => Touch::Nothing,
-        Slot::Info(_, _) => Touch::Nothing,
-        Slot::Other(_) => Touch::Nothing,
+    match packet_in(slot) {
+        Packet::Header(bytes) => if_matched(selection, bytes),
+        Packet::Row(at, _) => if_stored(selection, storing, at.mag, Touch::Row(at.number)),
+        Packet::Links(at, _) => if_stored(selection, storing, at.mag, Touch::Everything),
+        Packet::Nothing => Touch::Nothing,
     }
 }
 

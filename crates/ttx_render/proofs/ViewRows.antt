@@ -13,9 +13,9 @@ use Rattle.ttx_render.specs.Mosaics.{same}
 use Rattle.ttx_render.specs.View.{rows_to, view_row, is_below, own_cells, lower, is_tall, codes_of, has_boxes}
 
 module _ (m : Memory) where
-  pub rows_to-one : rows_to m 1 ≡ view_row m 0 ∷ []
+  pub rows_to-none : rows_to m 0 ≡ []
   unfolding rows_to
-  rows_to-one = refl
+  rows_to-none = refl
 
   pub rows_to-more : (n : ℕ) → rows_to m (n + 1) ≡ rows_to m n ++ view_row m n ∷ []
   unfolding rows_to

@@ -12,7 +12,8 @@ use Rattle.ttx_render.specs.declared.colour.Colour.{Colour}
 use Rattle.ttx_render.specs.declared.colour.Colour.TheVariants.{Black, White}
 use Rattle.ttx_render.specs.declared.spacing.Spacing.{Spacing}
 use Rattle.ttx_render.specs.declared.attributes.Attributes.{Attributes}
-use Rattle.ttx_render.specs.Spacing.{Effect, Leaves, SetAt, SetAfter, spacing_of, spacing_in, on_fore, on_back, on_flash, on_boxed, on_double, on_concealed, on_mosaic, on_separated, on_hold}
+use Rattle.ttx_render.specs.Spacing.{Effect, Leaves, SetAt, SetAfter, spacing_of, spacing_in, on_fore, on_back, on_flash}
+use Rattle.ttx_render.specs.Spacing.{on_boxed, on_double, on_concealed, on_mosaic, on_separated, on_hold}
 
 -- the code at column d sets the attribute to this value, and acts at column c already
 abbrev pub ActsAt : {A : Type 0} → (ℕ → Effect A) → ℕ → ℕ → A → Type 0

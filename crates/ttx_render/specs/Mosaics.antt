@@ -1,4 +1,4 @@
--- Mosaics, and the held mosaic that a spacing code shows (EN 300 706, 12.2).
+-- Mosaics, and the held mosaic that a spacing code shows (EN 300 706, 12.2). Bits are counted from 1, the lowest.
 --
 --   has_blocks, mosaic_of           which codes are mosaics, and which mosaic
 --   shows_mosaic                    whether a column shows one

@@ -9,7 +9,9 @@ use Rattle.ttx_render.specs.Colours.{colour_of}
 use Rattle.ttx_render.specs.declared.colour.Colour.{Colour}
 use Rattle.ttx_render.specs.declared.colour.Colour.TheVariants.{Black}
 use Rattle.ttx_render.specs.declared.spacing.Spacing.{Spacing}
-use Rattle.ttx_render.specs.declared.spacing.Spacing.TheVariants.{Nothing, AlphaColour, MosaicColour, Flash, Steady, EndBox, StartBox, NormalHeight, DoubleHeight, Conceal, Contiguous, Separated, BlackBackground, NewBackground, HoldMosaics, ReleaseMosaics}
+use Rattle.ttx_render.specs.declared.spacing.Spacing.TheVariants.{Nothing, AlphaColour, MosaicColour, Flash, Steady, EndBox, StartBox}
+use Rattle.ttx_render.specs.declared.spacing.Spacing.TheVariants.{NormalHeight, DoubleHeight, Conceal, Contiguous, Separated, BlackBackground}
+use Rattle.ttx_render.specs.declared.spacing.Spacing.TheVariants.{NewBackground, HoldMosaics, ReleaseMosaics}
 
 -- what a code sets by itself; 00, 0E, 0F, 10 and 1B set nothing (profile)
 unfoldable pub spacing_of : ℕ → Spacing

@@ -1,8 +1,17 @@
--- Memories that differ in one row, and the rows of their Views.
+-- Memories that differ in rows alone, and the rows of their Views.
+--
+--   AreSetAlike             memories with the same control bits and links
+--   DiffersAt               memories that show the same, but perhaps in one row
+--   IsView                  the cells of a memory's View
 use Rattle.std.specs.Prelude.{◌≡◌, ◌≢◌, ◌<◌, ℕ, List, [], length, slice_index_or}
 use Rattle.ttx_page.specs.Memories.{Memory}
 use Rattle.ttx_render.specs.declared.cells.Cell.{Cell}
 use Rattle.ttx_render.specs.View.{view_row}
+
+-- the same control bits and links: then their Views differ where their rows do
+pub record AreSetAlike (m n : Memory) : Type 0 where
+  pub control : m.control ≡ n.control
+  pub links : m.links ≡ n.links
 
 -- what the View shows of two memories is alike, but perhaps for one row
 pub record DiffersAt (m n : Memory) (row : ℕ) : Type 0 where

@@ -4,8 +4,10 @@ ghost use Rattle.std.specs.Prelude.{◌≡◌, ◌<◌, ◌↔◌, IsTrue};
 ghost use Rattle.ttx_page.specs.Memories.{memory_row};
 ghost use Rattle.ttx_page.specs.Receivers.{with_row};
 ghost use Rattle.ttx_page.specs.Views.{memory_of};
+ghost use Rattle.ttx_render.specs.Touch.{AreSetAlike};
 ghost use Rattle.ttx_render.specs.View.{view_of};
 
+use crate::compare::same_links;
 use crate::touch::retouch;
 use crate::view::{View, render};
 use std::marker::Model;
@@ -35,6 +37,13 @@ fn same_row(a: &[u8; 40], b: &[u8; 40]) -> bool
     ensures { IsTrue result ↔ (a.now ≡ b.now) }
 {
     a == b
+}
+
+// Whether two memories have the same control bits and the same links.
+fn are_set_alike(a: &PageMemory, b: &PageMemory) -> bool
+    ensures { IsTrue result ↔ AreSetAlike (memory_of a.now) (memory_of b.now) }
+{
+    a.control().0 == b.control().0 && a.show24() == b.show24() && same_links(a.links(), b.links())
 }
 
 impl Cache {
@@ -69,10 +78,18 @@ impl Cache {
         self.memory = kept;
     }
 
-    /// Keeps a copy of another memory in place of the one that is kept.
+    /// Keeps a copy of another memory in place of the one that is kept. Where control bits and links stay, no more is rendered
+    /// than the rows that differ.
     pub fn touch_all(&mut self, memory: &PageMemory)
         ensures { self.new ≡ memory_of memory.now }
     {
-        *self = Cache::new(memory);
+        if are_set_alike(&self.memory, memory) {
+            for row in 0..25 {
+                self.touch(memory, row);
+            }
+            self.memory = *memory;
+        } else {
+            *self = Cache::new(memory);
+        }
     }
 }

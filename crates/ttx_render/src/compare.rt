@@ -58,7 +58,8 @@ fn same_cells(a: &[Cell; 40], b: &[Cell; 40], from: usize, to: usize) -> bool
     true
 }
 
-fn same_links(a: &[Option<Target>; 6], b: &[Option<Target>; 6]) -> bool
+/// Whether six links are the same.
+pub(crate) fn same_links(a: &[Option<Target>; 6], b: &[Option<Target>; 6]) -> bool
     ensures { IsTrue result ↔ (a.now ≡ b.now) }
 {
     for i in 0..6 {

@@ -15,7 +15,7 @@ pub struct Held {
     pub double: bool,
 }
 
-/// The mosaic of a code: bits 1 to 5 and 7 are the blocks.
+/// The mosaic of a code: bits 1 to 5 and 7 are the blocks, where bit 1 is the lowest.
 pub fn mosaic_of(code: u8, separated: bool) -> Glyph
     requires { code < 128 }
     ensures { result ≡ mosaic_of code separated }

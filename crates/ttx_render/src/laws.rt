@@ -1,6 +1,7 @@
 //! Laws of the display.
 
-ghost use Rattle.ttx_render.specs.Laws.{AttributesAreInForce, HeldIsFromLatest, ContentsDecide, ShowingIsSeeing, LetterIsShown, LetterIsSeen, WrongLetterIsSeen, ViewsArePrinted};
+ghost use Rattle.ttx_render.specs.Laws.{AttributesAreInForce, HeldIsFromLatest, ContentsDecide, ShowingIsSeeing};
+ghost use Rattle.ttx_render.specs.Laws.{LetterIsShown, LetterIsSeen, WrongLetterIsSeen, ViewsArePrinted};
 
 use ttx_charset::laws::letters_stand_alone;
 

@@ -60,8 +60,8 @@ fn next_code(row: &[u8; 40], c: usize) -> u8
     if c + 1 < 40 { row[c + 1] } else { 0 }
 }
 
-// A row of spaces.
-fn space_cells() -> [Cell; 40]
+/// A row of spaces.
+pub fn space_cells() -> [Cell; 40]
     ensures { result ≡ replicate 40 space_cell }
 {
     let space = Cell {

@@ -7,7 +7,7 @@ ghost use Rattle.ttx_page.specs.Views.{memory_of};
 ghost use Rattle.ttx_render.specs.View.{is_tall, is_shown, codes_of, has_boxes, lower, rows_to, view_of};
 
 use crate::cells::{Cell, Glyph, Part};
-use crate::rows::{Style, row_cells};
+use crate::rows::{Style, row_cells, space_cells};
 use ttx_header::Control;
 use ttx_links::Target;
 use ttx_page::PageMemory;
@@ -122,13 +122,12 @@ pub fn hides_next(codes: &[u8; 40], number: usize) -> bool
     is_tall(number) && has_double_height(codes)
 }
 
-// The rows, each made of its codes or of the row above that hides it. Row 0 hides none.
-fn view_cells(memory: &PageMemory) -> [[Cell; 40]; 25]
-    ensures { result ≡ rows_to (memory_of memory.now) 25 }
+// Makes the rows in place, each of its codes or of the row above that hides it. Row 0 hides none.
+fn fill_rows(memory: &PageMemory, cells: &mut [[Cell; 40]; 25])
+    ensures { cells.new ≡ rows_to (memory_of memory.now) 25 }
 {
     let style = style_of(memory.control());
-    let top = row_cells(&codes_of(memory, 0), false, style);
-    let mut cells = [top; 25];
+    cells[0] = row_cells(&codes_of(memory, 0), false, style);
     let mut hidden = false;
     for number in 1..25 {
         if hidden {
@@ -140,7 +139,6 @@ fn view_cells(memory: &PageMemory) -> [[Cell; 40]; 25]
             hidden = hides_next(&codes, number);
         }
     }
-    cells
 }
 
 fn joined<Rows: Copy>(cells: Rows, links: [Option<Target>; 6]) -> View<Rows>
@@ -156,8 +154,11 @@ fn six_of(links: &[Option<Target>; 6]) -> [Option<Target>; 6]
 }
 
 /// What a viewer sees of a memory, by the display rules of Level 1.
+#[inline(never)]
 pub fn render(memory: &PageMemory) -> View
     ensures { result ≡ view_of (memory_of memory.now) }
 {
-    joined(view_cells(memory), six_of(memory.links()))
+    let mut cells = [space_cells(); 25];
+    fill_rows(memory, &mut cells);
+    joined(cells, six_of(memory.links()))
 }

@@ -5,10 +5,12 @@
 --   placed         a value, seen by a function, or its fault and the page that it is in
 --   IsUnlessMemory     a fact, but where memory ran out
 use Rattle.std.specs.Prelude.{◌≡◌, ◌⊎◌, ℕ, Result, Ok, Err}
-use Rattle.ttx_source.specs.Values.{Fault, not_toml, missing, wrong_kind, wrong_page_number, wrong_subcode, duplicate, too_long, wrong_character, wrong_often, out_of_range, no_memory}
+use Rattle.ttx_source.specs.Values.{Fault, not_toml, missing, wrong_kind, wrong_page_number, wrong_subcode, duplicate}
+use Rattle.ttx_source.specs.Values.{too_long, wrong_character, wrong_often, out_of_range, no_memory}
 use Rattle.ttx_source.specs.declared.faults.SourceError.{SourceError}
 use Rattle.ttx_source.specs.declared.faults.SourceFault.{SourceFault}
-use Rattle.ttx_source.specs.declared.faults.SourceFault.TheVariants.{NotToml, Missing, Kind, PageNumber, Subcode, Duplicate, RowTooLong, Character, Often, Range, NoMemory}
+use Rattle.ttx_source.specs.declared.faults.SourceFault.TheVariants.{NotToml, Missing, Kind, PageNumber, Subcode, Duplicate}
+use Rattle.ttx_source.specs.declared.faults.SourceFault.TheVariants.{RowTooLong, Character, Often, Range, NoMemory}
 
 abbrev pub fault_of : SourceFault → Fault
 fault_of NotToml = not_toml

@@ -5,7 +5,9 @@
 --   control_of                            the keys of a page that set control bits (EN 300 706, 9.3.1.3)
 --   head, rows                            the texts of a page
 --   six_links, crc, links_of              the keys of a page for its packet X/27/0 (EN 300 706, 9.6.1)
-use Rattle.std.specs.Prelude.{ℕ, suc, ℤ, pos, negsuc, ◌+◌, ◌-◌, ◌*◌, ◌/◌, ◌%◌, ◌<◌, ◌++◌, List, [], ◌∷◌, codes, length, replicate, slice_index_or, Bool, true, false, ◌&&◌, ◌||◌, ◌==◌, nat_le, nat_lt, Option, Some, None, Result, Ok, Err, if◌then◌else◌}
+use Rattle.std.specs.Prelude.{ℕ, suc, ℤ, pos, negsuc, ◌+◌, ◌-◌, ◌*◌, ◌/◌, ◌%◌, ◌<◌, ◌++◌, List, [], ◌∷◌, codes, length, replicate}
+use Rattle.std.specs.Prelude.{slice_index_or, Bool, true, false, ◌&&◌, ◌||◌, ◌==◌, nat_le, nat_lt, Option, Some, None, Result, Ok, Err}
+use Rattle.std.specs.Prelude.{if◌then◌else◌}
 use Rattle.std.specs.List.{list_any}
 use Rattle.std.specs.Str.{bytes_eq}
 use Rattle.toml.specs.Data.{Data, Items, no_items, item, Members, no_members, member, get_member, as_integer, as_bool, as_str, as_array, as_table}
@@ -13,7 +15,8 @@ use Rattle.ttx_header.specs.Ids.{Id}
 use Rattle.ttx_links.specs.Sets.{LinksFields, links_at}
 use Rattle.ttx_info.specs.Infos.{InfoFields, info_at}
 use Rattle.ttx_page.specs.Pages.{IsRow}
-use Rattle.ttx_source.specs.Values.{Fault, out_of_range, wrong_often, ◌>>=◌, of_kind, required, with_default, integer_at, integer_at_or, magnitude, characters, link, byte_pair}
+use Rattle.ttx_source.specs.Values.{Fault, out_of_range, wrong_often, ◌>>=◌, of_kind, required, with_default}
+use Rattle.ttx_source.specs.Values.{integer_at, integer_at_or, magnitude, characters, link, byte_pair}
 
 -- the slots in a field
 abbrev pub lines : Members → Result ℕ Fault
@@ -150,8 +153,9 @@ rows_of (key ∷ keys) table = row_of (get_member key table) >>= (λ row. rows_o
 -- 1 to 24, without leading zeros
 unfoldable pub row_keys : List (List ℕ)
 row_keys =
-    codes "1" ∷ codes "2" ∷ codes "3" ∷ codes "4" ∷ codes "5" ∷ codes "6" ∷ codes "7" ∷ codes "8" ∷ codes "9" ∷ codes "10" ∷ codes "11" ∷ codes "12"
-    ∷ codes "13" ∷ codes "14" ∷ codes "15" ∷ codes "16" ∷ codes "17" ∷ codes "18" ∷ codes "19" ∷ codes "20" ∷ codes "21" ∷ codes "22" ∷ codes "23" ∷ codes "24" ∷ []
+    codes "1" ∷ codes "2" ∷ codes "3" ∷ codes "4" ∷ codes "5" ∷ codes "6" ∷ codes "7" ∷ codes "8"
+    ∷ codes "9" ∷ codes "10" ∷ codes "11" ∷ codes "12" ∷ codes "13" ∷ codes "14" ∷ codes "15" ∷ codes "16"
+    ∷ codes "17" ∷ codes "18" ∷ codes "19" ∷ codes "20" ∷ codes "21" ∷ codes "22" ∷ codes "23" ∷ codes "24" ∷ []
 
 abbrev pub is_row_key : List ℕ → Bool
 is_row_key key = list_any (λ name. bytes_eq name key) row_keys

@@ -6,7 +6,8 @@
 --   id_of, authored_of              a page from its table
 --   settings_of, after              a service without its pages, and with the pages of some tables added
 --   service_of, read_bytes          the service that a table is, and that a text is
-use Rattle.std.specs.Prelude.{◌≡◌, ◌≢◌, ℕ, ◌+◌, ◌≤◌, ◌++◌, List, [], ◌∷◌, codes, length, map, Bool, true, ◌&&◌, Option, Some, None, Result, Ok, Err, if◌then◌else◌, nat_lt, is_some}
+use Rattle.std.specs.Prelude.{◌≡◌, ◌≢◌, ℕ, ◌+◌, ◌≤◌, ◌++◌, List, [], ◌∷◌, codes, length, map, Bool, true}
+use Rattle.std.specs.Prelude.{◌&&◌, Option, Some, None, Result, Ok, Err, if◌then◌else◌, nat_lt, is_some}
 use Rattle.std.specs.List.{list_any, All, AllPairs}
 use Rattle.std.specs.Str.{is_utf8}
 use Rattle.toml.specs.Data.{Data, Items, no_items, item, Members, as_str, as_array, as_table}
@@ -15,7 +16,8 @@ use Rattle.ttx_header.specs.Ids.{Id, id_at, same_id}
 use Rattle.ttx_header.specs.Control.{c11}
 use Rattle.ttx_info.specs.Infos.{InfoFields}
 use Rattle.ttx_page.specs.Pages.{Page, page_at, IsPage}
-use Rattle.ttx_source.specs.Values.{Fault, not_toml, out_of_range, wrong_kind, duplicate, ◌>>=◌, of_kind, required, with_default, page_number, subcode}
+use Rattle.ttx_source.specs.Values.{Fault, not_toml, out_of_range, wrong_kind, duplicate, ◌>>=◌}
+use Rattle.ttx_source.specs.Values.{of_kind, required, with_default, page_number, subcode}
 use Rattle.ttx_source.specs.Keys.{lines, serial, info, often, is_often, control_of, head, rows, links_of, count, zeros}
 
 -- a page, and how often it is sent

@@ -6,7 +6,8 @@
 --   characters                a text as the codes of its characters, filled with spaces
 --   digit, two_digits, four_digits    hexadecimal digits, 0 to 9 and A to F
 --   page_number, subcode, link, byte_pair    texts of such digits
-use Rattle.std.specs.Prelude.{ℕ, ℤ, pos, negsuc, ◌+◌, ◌-◌, ◌*◌, ◌/◌, ◌%◌, ◌++◌, List, [], ◌∷◌, length, replicate, slice_index, Bool, false, not, ◌&&◌, ◌==◌, nat_lt, nat_le, Option, Some, None, Result, Ok, Err, if◌then◌else◌}
+use Rattle.std.specs.Prelude.{ℕ, ℤ, pos, negsuc, ◌+◌, ◌-◌, ◌*◌, ◌/◌, ◌%◌, ◌++◌, List, [], ◌∷◌, length, replicate, slice_index}
+use Rattle.std.specs.Prelude.{Bool, false, not, ◌&&◌, ◌==◌, nat_lt, nat_le, Option, Some, None, Result, Ok, Err, if◌then◌else◌}
 use Rattle.std.specs.List.{list_all}
 use Rattle.std.specs.Str.{chars}
 use Rattle.ttx_header.specs.Ids.{Id, id_at}
@@ -103,7 +104,7 @@ four_digits text at = joined 256 (two_digits text at) (two_digits text (at + 2))
 -- the magazine, 1 to 8, and the page number, two digits but not FF, in the first three characters
 abbrev pub numbered : ℕ → Option ℕ → Option (ℕ × ℕ)
 numbered mag None = None
-numbered mag (Some page) = if (nat_le 49 mag && nat_le mag 56) && not (page == 255) then Some (mag - 48, page) else None
+numbered mag (Some page) = if (nat_le 49 mag && nat_le mag 56) && not (page == 0xff) then Some (mag - 48, page) else None
 
 unfoldable pub first_number : List ℕ → Option (ℕ × ℕ)
 first_number text = numbered (slice_index text 0) (two_digits text 1)
@@ -114,11 +115,11 @@ page_number text = if length text == 3 then or_fault wrong_page_number (first_nu
 
 -- inside 3F7F hexadecimal (EN 300 706, 9.3.1.2)
 abbrev pub is_inside_mask : ℕ → Bool
-is_inside_mask sub = nat_lt sub 16384 && (sub / 128 % 2 == 0)
+is_inside_mask sub = nat_lt sub 0x4000 && (sub / 0x80 % 2 == 0)
 
 -- 3F7F hexadecimal, which in a link is any subpage
 abbrev pub any_subcode : ℕ
-any_subcode = 16255
+any_subcode = 0x3f7f
 
 -- SSSS: the subcode of a page
 abbrev pub subcode_of : Option ℕ → Result ℕ Fault

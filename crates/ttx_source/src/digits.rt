@@ -44,7 +44,7 @@ pub fn four_digits(text: &[u8], at: usize) -> Option<u16>
 pub fn first_number(text: &[u8]) -> Option<(u8, u8)>
     requires { 3 ≤ length text.now }
     ensures value { result ≡ rule.first_number text.now }
-    ensures ranges { IfSome result (λ n. (1 ≤ n.0) × (n.0 ≤ 8) × (n.1 ≢ 255)) }
+    ensures ranges { IfSome result (λ n. (1 ≤ n.0) × (n.0 ≤ 8) × (n.1 ≢ 0xff)) }
 {
     let page = two_digits(text, 1)?;
     if text[0] < b'1' || text[0] > b'8' || page == 0xFF {

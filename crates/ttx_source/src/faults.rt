@@ -66,7 +66,8 @@ pub enum SourceFault {
     #[error("`{key}` has a value of another kind: it takes {values}", values = accepted(.key))]
     Kind { key: &'static str },
     /// A page number isn't a magazine from 1 to 8 and two hexadecimal digits other than FF, or a link is of another shape.
-    #[error("`number`, `links` or `initial` names no page: a page is a magazine from 1 to 8 and two hexadecimal digits in capitals, not FF, as in \"100\"; a link may have a subcode too, as in \"100/0001\"")]
+    #[error("`number`, `links` or `initial` names no page: a page is a magazine from 1 to 8 and two hexadecimal digits in capitals, \
+        not FF, as in \"100\"; a link may have a subcode too, as in \"100/0001\"")]
     PageNumber,
     /// A subcode isn't inside 3F7F, or it is a page's and isn't four hexadecimal digits or is 3F7F.
     #[error("`sub` or a link has no subcode: it takes four hexadecimal digits inside 3F7F, as in \"0001\", and a page not 3F7F itself")]

@@ -27,7 +27,7 @@ use ttx_page::Page;
 fn id(page: &Table, service: &Service) -> Result<PageId, SourceFault>
     ensures value { outcome (λ id. id) result ≡ id_of service.now.pages (table_view page.now) }
     ensures new { IfOk result (λ id. has_id service.now.pages id ≡ false) }
-    ensures ranges { IfOk result (λ id. IsId id × (id.page ≢ 255) × (id.sub ≢ 16255)) }
+    ensures ranges { IfOk result (λ id. IsId id × (id.page ≢ 0xff) × (id.sub ≢ 0x3f7f)) }
 {
     let (mag, number) = page_number(text(page, "number")?)?;
     let sub = subcode(text_or(page, "sub", "0000")?)?;

@@ -21,7 +21,7 @@ fn char_count(text: &str) -> usize
     text.chars().count()
 }
 
-// Whether each byte is a code below 128: bit 7 isn't set in their union.
+// Whether each byte is a code below 128: bit 7, the highest, isn't set in their union.
 fn is_plain(bytes: &[u8]) -> bool
     ensures { result ≡ list_all (λ b. nat_lt b 128) bytes.now }
 {
@@ -75,7 +75,7 @@ pub fn characters<const N: usize>(text: &str) -> Result<[u8; N], SourceFault>
 #[tactic(auto, unfolding(crate::specs::Values::page_number))]
 pub fn page_number(text: &str) -> Result<(u8, u8), SourceFault>
     ensures value { outcome (λ n. n) result ≡ rule.page_number text.now }
-    ensures ranges { IfOk result (λ n. (1 ≤ n.0) × (n.0 ≤ 8) × (n.1 ≢ 255)) }
+    ensures ranges { IfOk result (λ n. (1 ≤ n.0) × (n.0 ≤ 8) × (n.1 ≢ 0xff)) }
 {
     let text = text.as_bytes();
     if text.len() != 3 {
@@ -98,7 +98,7 @@ fn is_inside_mask(sub: u16) -> bool
 #[tactic(auto, unfolding(crate::specs::Values::subcode))]
 pub fn subcode(text: &str) -> Result<u16, SourceFault>
     ensures value { outcome (λ n. n) result ≡ rule.subcode text.now }
-    ensures ranges { IfOk result (λ sub. IsSubcode sub × (sub ≢ 16255)) }
+    ensures ranges { IfOk result (λ sub. IsSubcode sub × (sub ≢ 0x3f7f)) }
 {
     let text = text.as_bytes();
     if text.len() != 4 {
@@ -127,7 +127,7 @@ pub fn byte_pair(text: &str, key: &'static str) -> Result<[u8; 2], SourceFault>
 
 // The target of a link, if both parts of its text are numbers.
 fn target(number: Option<(u8, u8)>, sub: Option<u16>) -> Result<Option<Target>, SourceFault>
-    requires { IfSome number (λ n. (1 ≤ n.0) × (n.0 ≤ 8) × (n.1 ≢ 255)) }
+    requires { IfSome number (λ n. (1 ≤ n.0) × (n.0 ≤ 8) × (n.1 ≢ 0xff)) }
     ensures { outcome (λ l. l) result ≡ rule.linked number sub }
 {
     let (Some((mag, page)), Some(sub)) = (number, sub) else {

@@ -54,7 +54,7 @@ pub(super) fn same_links(six: &[Option<Target>; 6]) -> [Option<Target>; 6]
 
 impl PageMemory {
     /// The memory of these fields: rows 0 to 24, control bits, links, whether row 24 is shown, whether it is storing, its age in
-    /// slots, and whether it is fresh. None where a character is above 127, a control bit above bit 10 is set, or the age is above 64.
+    /// slots, and whether it is fresh. None where a character is above 127, a control bit above C14 is set, or the age is above 64.
     pub fn new(
         rows: [[u8; 40]; 25],
         control: Control,

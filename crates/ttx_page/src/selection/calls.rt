@@ -45,7 +45,8 @@ impl Selection {
     /// list has it.
     pub fn fits(&self, pages: &[Page], index: usize) -> bool
         requires { index < length pages.now }
-        ensures { (p : definitions.Page) → slice_get (map page_of pages.now) index ≡ Some p → IsTrue result ↔ Fits (map page_of pages.now) p self.now }
+        ensures { (p : definitions.Page) → slice_get (map page_of pages.now) index ≡ Some p →
+            IsTrue result ↔ Fits (map page_of pages.now) p self.now }
     {
         let page = &pages[index];
         match *self {

@@ -1,5 +1,5 @@
 use Rattle.std.proofs.Common.{◌∙◌, sym}
-use Rattle.ttx_receiver.proofs.ByKind.{other_slot, is_some_number}
+use Rattle.ttx_receiver.proofs.OtherMagazines.{other_slot, is_some_number}
 use Rattle.ttx_receiver.proofs.steps.is_elsewhere.Goals as goal
 
 pub returns-then-magazine_in-magazine_of : goal.returns-then-magazine_in-magazine_of

@@ -1,7 +1,7 @@
 use Rattle.std.proofs.Common.{◌≡◌, length, take}
 use Rattle.ttx_page.specs.Views.{memory_of}
 use Rattle.ttx_render.specs.View.{is_below, rows_to}
-use Rattle.ttx_render.proofs.view.view_cells.Given as goal
+use Rattle.ttx_render.proofs.view.fill_rows.Given as goal
 
 abbrev pub invariant-loop-number : goal.invariant-loop-number
 invariant-loop-number l = record {
