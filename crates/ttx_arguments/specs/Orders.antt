@@ -67,17 +67,16 @@ pub data OrderView : Type 0 where
 
 abbrev pub order_view : Order → OrderView
 order_view (Inspect file) = inspect_order file.now
-order_view (Plan service out class late) = plan_order service.now out.now class late
-order_view (Find cycle service out repeat class) = find_order cycle.now service.now out.now repeat class
-order_view (Certify cycle service certificate late twice) = certify_order cycle.now service.now certificate.now late twice
-order_view (Refute cycle service certificate save) = refute_order cycle.now service.now certificate.now (option_map (λ s. s.now) save)
-order_view (Replay cycle service counter) = replay_order cycle.now service.now counter.now
+order_view (Plan o) = plan_order o.service.now o.out.now o.class o.late
+order_view (Find o) = find_order o.cycle.now o.service.now o.out.now o.repeat o.class
+order_view (Certify o) = certify_order o.cycle.now o.service.now o.certificate.now o.late o.twice
+order_view (Refute o) = refute_order o.cycle.now o.service.now o.certificate.now (option_map (λ s. s.now) o.save)
+order_view (Replay o) = replay_order o.cycle.now o.service.now o.counter.now
 order_view (Receive cycle tuning) = receive_order cycle.now tuning
 order_view (Show cycle tuning look) = show_order cycle.now tuning (look_view look)
 order_view (Preview service selection look) = preview_order service.now selection (look_view look)
-order_view (Splice old new old_service new_service old_certificate new_certificate) =
-    splice_order old.now new.now old_service.now new_service.now old_certificate.now new_certificate.now
-order_view (Wait cycle service repeat class items) = wait_order cycle.now service.now repeat class items
+order_view (Splice o) = splice_order o.old.now o.new.now o.old_service.now o.new_service.now o.old_certificate.now o.new_certificate.now
+order_view (Wait o) = wait_order o.cycle.now o.service.now o.repeat o.class o.items
 order_view (Send cycle sending) = send_order cycle.now sending
 order_view (Pages cycle) = pages_order cycle.now
 order_view (Book cycle out) = book_order cycle.now out.now

@@ -8,5 +8,8 @@ pub mod orders;
 mod page_names;
 mod parsing;
 
-pub use orders::{Look, Order, ReceiverKind, Sending, Tuning, WordsFault};
+pub use orders::{
+    CertifyOrder, FindOrder, Look, Order, PlanOrder, ReceiverKind, RefuteOrder, ReplayOrder,
+    Sending, SpliceOrder, Tuning, WaitOrder, WordsFault,
+};
 pub use parsing::words;

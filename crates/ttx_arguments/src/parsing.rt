@@ -9,7 +9,10 @@ ghost use Rattle.ttx_arguments.specs.Orders.{OrderView, Unfit, order_view, look_
 
 use crate::grammar::{class_names, form_names, kind_names, ttx};
 use crate::moments::moment;
-use crate::orders::{Look, Order, ReceiverKind, Sending, Tuning, WordsFault};
+use crate::orders::{
+    CertifyOrder, FindOrder, Look, Order, PlanOrder, ReceiverKind, RefuteOrder, ReplayOrder,
+    Sending, SpliceOrder, Tuning, WaitOrder, WordsFault,
+};
 use crate::page_names::selection;
 use clap::ArgMatches;
 use clap::error::ErrorKind;
@@ -171,12 +174,12 @@ fn preview_of<'a>(values: &ArgMatches<'a>) -> Result<Order<'a>, WordsFault>
 fn plan_of<'a>(values: &ArgMatches<'a>) -> Order<'a>
     ensures { order_view result ≡ plan_at (rows_of (found_of values.now)) }
 {
-    Order::Plan {
+    Order::Plan(PlanOrder {
         service: text_of(values, "service"),
         out: text_of(values, "out"),
         class: class_of(values),
         late: is_set(values, "late"),
-    }
+    })
 }
 
 fn inspect_of<'a>(values: &ArgMatches<'a>) -> Order<'a>
@@ -210,13 +213,13 @@ fn has_two(first: bool, second: bool, third: bool, again: bool) -> bool
 fn found<'a>(values: &ArgMatches<'a>) -> Order<'a>
     ensures { order_view result ≡ find_at (rows_of (found_of values.now)) }
 {
-    Order::Find {
+    Order::Find(FindOrder {
         cycle: text_of(values, "cycle"),
         service: text_of(values, "service"),
         out: text_of(values, "out"),
         repeat: within(given_number(values, "repeat"), 1, 8, 1) as u8,
         class: class_of(values),
-    }
+    })
 }
 
 fn find_of<'a>(values: &ArgMatches<'a>) -> Result<Order<'a>, WordsFault>
@@ -233,13 +236,13 @@ fn find_of<'a>(values: &ArgMatches<'a>) -> Result<Order<'a>, WordsFault>
 fn certified<'a>(values: &ArgMatches<'a>) -> Order<'a>
     ensures { order_view result ≡ certify_at (rows_of (found_of values.now)) }
 {
-    Order::Certify {
+    Order::Certify(CertifyOrder {
         cycle: text_of(values, "cycle"),
         service: text_of(values, "service"),
         certificate: text_of(values, "certificate"),
         late: is_set(values, "late"),
         twice: is_set(values, "twice"),
-    }
+    })
 }
 
 fn certify_of<'a>(values: &ArgMatches<'a>) -> Result<Order<'a>, WordsFault>
@@ -257,12 +260,12 @@ fn certify_of<'a>(values: &ArgMatches<'a>) -> Result<Order<'a>, WordsFault>
 fn refuted<'a>(values: &ArgMatches<'a>) -> Order<'a>
     ensures { order_view result ≡ refute_at (rows_of (found_of values.now)) }
 {
-    Order::Refute {
+    Order::Refute(RefuteOrder {
         cycle: text_of(values, "cycle"),
         service: text_of(values, "service"),
         certificate: text_of(values, "certificate"),
         save: given(values, "save"),
-    }
+    })
 }
 
 fn refute_of<'a>(values: &ArgMatches<'a>) -> Result<Order<'a>, WordsFault>
@@ -282,11 +285,11 @@ fn refute_of<'a>(values: &ArgMatches<'a>) -> Result<Order<'a>, WordsFault>
 fn replayed<'a>(values: &ArgMatches<'a>) -> Order<'a>
     ensures { order_view result ≡ replay_at (rows_of (found_of values.now)) }
 {
-    Order::Replay {
+    Order::Replay(ReplayOrder {
         cycle: text_of(values, "cycle"),
         service: text_of(values, "service"),
         counter: text_of(values, "counter"),
-    }
+    })
 }
 
 fn replay_of<'a>(values: &ArgMatches<'a>) -> Result<Order<'a>, WordsFault>
@@ -313,14 +316,14 @@ fn are_many(standard: &[bool]) -> bool
 fn spliced<'a>(values: &ArgMatches<'a>) -> Order<'a>
     ensures { order_view result ≡ splice_at (rows_of (found_of values.now)) }
 {
-    Order::Splice {
+    Order::Splice(SpliceOrder {
         old: text_of(values, "old"),
         new: text_of(values, "new"),
         old_service: text_of(values, "old_service"),
         new_service: text_of(values, "new_service"),
         old_certificate: text_of(values, "old_certificate"),
         new_certificate: text_of(values, "new_certificate"),
-    }
+    })
 }
 
 fn splice_of<'a>(values: &ArgMatches<'a>) -> Result<Order<'a>, WordsFault>
@@ -343,13 +346,13 @@ fn splice_of<'a>(values: &ArgMatches<'a>) -> Result<Order<'a>, WordsFault>
 fn waited<'a>(values: &ArgMatches<'a>) -> Order<'a>
     ensures { order_view result ≡ wait_at (rows_of (found_of values.now)) }
 {
-    Order::Wait {
+    Order::Wait(WaitOrder {
         cycle: text_of(values, "cycle"),
         service: text_of(values, "service"),
         repeat: within(given_number(values, "repeat"), 1, 8, 1) as u8,
         class: class_of(values),
         items: is_set(values, "items"),
-    }
+    })
 }
 
 fn wait_of<'a>(values: &ArgMatches<'a>) -> Result<Order<'a>, WordsFault>
