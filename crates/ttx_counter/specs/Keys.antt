@@ -8,9 +8,8 @@
 --   AreOfOtherBytes         no byte is hit twice by those from one place to below another
 --   AreFlipped              a slot with those bits flipped
 --   is_hit                  whether a byte of a slot is hit
-use Rattle.std.specs.Prelude.{◌≡◌, ℕ, ◌+◌, ◌*◌, ◌/◌, ◌%◌, ◌<◌, ◌≤◌, Bool, ◌==◌, List, length, map, slice_index, IsPermutation}
+use Rattle.std.specs.Prelude.{◌≡◌, ℕ, ◌+◌, ◌*◌, ◌/◌, ◌%◌, ◌<◌, ◌≤◌, Bool, ◌==◌, List, length, slice_index}
 use Rattle.std.specs.List.{list_any}
-use Rattle.std.specs.List.Sorted.{IsNonDecreasing}
 use Rattle.ttx_counter.specs.Counters.{Hit, flipped}
 
 abbrev pub key_of : Hit → ℕ

@@ -34,7 +34,7 @@ pub fn hear(receiver: &mut Scripted<'_>, run: &Run<'_>)
     for i in 0..run.count {
         let to = end_of(keys, from, i);
         let hits = SlotKeys { keys, from, to };
-        let slot = hit_slot(&slots[place(run.start, i, slots.len())], hits);
+        let slot = hit_slot(&slots[place(run.start, i, slots.len())], &hits);
         receiver.step(Some(&slot));
         from = to;
     }

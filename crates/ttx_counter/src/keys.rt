@@ -97,12 +97,12 @@ fn bit_in(key: u64) -> u8
 }
 
 /// The slot with the bits of its hits flipped.
-pub fn hit_slot(slot: &[u8; 42], hits: SlotKeys<'_>) -> [u8; 42]
-    requires up { hits.from ≤ hits.to }
-    requires within { hits.to ≤ length hits.keys.now }
-    requires keys { (i : ℕ) → i < length hits.keys.now → IsKey (key_at hits.keys.now i) }
-    requires apart { AreOfOtherBytes hits.keys.now hits.from hits.to }
-    ensures { AreFlipped hits.keys.now hits.from hits.to slot.now result }
+pub fn hit_slot(slot: &[u8; 42], hits: &SlotKeys<'_>) -> [u8; 42]
+    requires up { hits.now.from ≤ hits.now.to }
+    requires within { hits.now.to ≤ length hits.now.keys.now }
+    requires keys { (i : ℕ) → i < length hits.now.keys.now → IsKey (key_at hits.now.keys.now i) }
+    requires apart { AreOfOtherBytes hits.now.keys.now hits.now.from hits.now.to }
+    ensures { AreFlipped hits.now.keys.now hits.now.from hits.now.to slot.now result }
 {
     let keys = hits.keys;
     let mut received = *slot;

@@ -49,10 +49,10 @@ pub fn hear_within_rule(
         let to = end_of(keys, from, i);
         let hits = SlotKeys { keys, from, to };
         let row = row_sent(page, slot, mine);
-        if !note(&mut streaks, row, i, hits, repeat) {
+        if !note(&mut streaks, row, i, &hits, repeat) {
             return Ok(false);
         }
-        receiver.step(Some(&hit_slot(slot, hits)));
+        receiver.step(Some(&hit_slot(slot, &hits)));
         mine = mine_after(page, slot, mine);
         from = to;
     }

@@ -52,19 +52,19 @@ fn running(latest: u32, cell: Streak) -> u32
 fn count_hits(
     cells: &mut Vec<Streak>,
     sent: RowTransmission,
-    hits: SlotKeys<'_>,
+    hits: &SlotKeys<'_>,
     repeat: u8,
 ) -> bool
     requires row { sent.row < 25 }
     requires places { length cells.old.items ≡ 1050 }
     requires some { 1 ≤ repeat }
-    requires up { hits.from ≤ hits.to }
-    requires within { hits.to ≤ length hits.keys.now }
-    requires keys { (i : ℕ) → i < length hits.keys.now → IsKey (key_at hits.keys.now i) }
-    requires apart { AreOfOtherBytes hits.keys.now hits.from hits.to }
+    requires up { hits.now.from ≤ hits.now.to }
+    requires within { hits.now.to ≤ length hits.now.keys.now }
+    requires keys { (i : ℕ) → i < length hits.now.keys.now → IsKey (key_at hits.now.keys.now i) }
+    requires apart { AreOfOtherBytes hits.now.keys.now hits.now.from hits.now.to }
     ensures places { length cells.new.items ≡ 1050 }
-    ensures counted { result ≡ true → AreCounted sent.row sent.latest sent.now repeat hits.keys.now hits.from hits.to cells.old.items cells.new.items }
-    ensures over { result ≡ false → IsOver sent.row sent.latest repeat hits.keys.now hits.from hits.to cells.old.items }
+    ensures counted { result ≡ true → AreCounted sent.row sent.latest sent.now repeat hits.now.keys.now hits.now.from hits.now.to cells.old.items cells.new.items }
+    ensures over { result ≡ false → IsOver sent.row sent.latest repeat hits.now.keys.now hits.now.from hits.now.to cells.old.items }
 {
     let keys = hits.keys;
     for i in hits.from..hits.to {
@@ -85,25 +85,19 @@ fn count_hits(
 }
 
 /// Notes slot n: the row that it sends, if any, and its wrong bytes. False where a streak has reached `repeat`.
-pub fn note(
-    streaks: &mut Streaks,
-    row: Option<u8>,
-    n: u32,
-    hits: SlotKeys<'_>,
-    repeat: u8,
-) -> bool
+pub fn note(streaks: &mut Streaks, row: Option<u8>, n: u32, hits: &SlotKeys<'_>, repeat: u8) -> bool
     requires row { MatchOption row ⊤ (λ r. r < 25) }
     requires rows { length streaks.old.latest.items ≡ 25 }
     requires places { length streaks.old.cells.items ≡ 1050 }
     requires small { n + 1 < 2 ^ 32 }
     requires some { 1 ≤ repeat }
-    requires up { hits.from ≤ hits.to }
-    requires within { hits.to ≤ length hits.keys.now }
-    requires keys { (i : ℕ) → i < length hits.keys.now → IsKey (key_at hits.keys.now i) }
-    requires apart { AreOfOtherBytes hits.keys.now hits.from hits.to }
+    requires up { hits.now.from ≤ hits.now.to }
+    requires within { hits.now.to ≤ length hits.now.keys.now }
+    requires keys { (i : ℕ) → i < length hits.now.keys.now → IsKey (key_at hits.now.keys.now i) }
+    requires apart { AreOfOtherBytes hits.now.keys.now hits.now.from hits.now.to }
     ensures rows { length streaks.new.latest.items ≡ 25 }
     ensures places { length streaks.new.cells.items ≡ 1050 }
-    ensures noted { (sent wrong : ℕ → ℕ → Bool) → AreStreaks sent wrong repeat n streaks.old.latest.items streaks.old.cells.items → Tells sent wrong row hits.keys.now hits.from hits.to n → Noted result sent wrong repeat (n + 1) streaks.new.latest.items streaks.new.cells.items }
+    ensures noted { (sent wrong : ℕ → ℕ → Bool) → AreStreaks sent wrong repeat n streaks.old.latest.items streaks.old.cells.items → Tells sent wrong row hits.now.keys.now hits.now.from hits.now.to n → Noted result sent wrong repeat (n + 1) streaks.new.latest.items streaks.new.cells.items }
 {
     let Some(row) = row else {
         return true;
