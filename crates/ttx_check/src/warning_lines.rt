@@ -2,7 +2,7 @@
 
 ghost use Rattle.std.specs.Prelude.{◌≡◌, ◌++◌, ◌∷◌, [], OnOk, codes, string_bytes};
 ghost use Rattle.std.specs.Fmt.{decimal};
-ghost use Rattle.ttx_check.specs.WarningLines.{page_text, row_text, link_text, itself_text, magazine_text, warning_text, warning_line, warning_lines};
+ghost use Rattle.ttx_check.specs.WarningLines.{page_text, row_text, dead_link_text, itself_text, magazine_text, warning_text, warning_line, warning_lines};
 
 use crate::warning::Warning;
 use std::alloc::AllocError;
@@ -54,9 +54,9 @@ fn push_page(text: &mut String, page: PageId, says: &str) -> Result<(), AllocErr
     text.push_str(says)
 }
 
-#[tactic(auto, unfolding(crate::specs::WarningLines::link_text))]
+#[tactic(auto, unfolding(crate::specs::WarningLines::dead_link_text))]
 fn push_link(text: &mut String, page: PageId, link: usize) -> Result<(), AllocError>
-    ensures { OnOk result (string_bytes text.new ≡ string_bytes text.old ++ link_text page link) }
+    ensures { OnOk result (string_bytes text.new ≡ string_bytes text.old ++ dead_link_text page link) }
 {
     push_place(text, page)?;
     write!(text, " link {link}: the service has no such page")
