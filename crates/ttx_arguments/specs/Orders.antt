@@ -6,7 +6,7 @@
 --   kind_named, class_named, form_named     a kind of receiver, a class and a form by its name
 --   is_set                   whether an option without a value is given
 --   inputs, is_twice         the texts that name inputs; more than one of them is standard input
---   once, order_at           the order of a command with its values, or why there is none
+--   once, command_named, order_by, order_at        the order of a command with its values, or why there is none
 --   Asks                     what the program is asked for by words
 --   Refuses, Answers         what is answered for words
 --   IsFaultOf                an error of `clap` by its own name
@@ -26,6 +26,8 @@ use Rattle.ttx_arguments.specs.PageNames.{selection_of}
 use Rattle.ttx_arguments.specs.Moments.{moment_of}
 use Rattle.ttx_picture.specs.declared.forms.Form.{Form}
 use Rattle.ttx_picture.specs.declared.forms.Form.TheVariants as form
+use Rattle.ttx_arguments.specs.declared.command_names.CommandName.{CommandName}
+use Rattle.ttx_arguments.specs.declared.command_names.CommandName.TheVariants as command
 use Rattle.ttx_arguments.specs.declared.orders.Look.{Look}
 use Rattle.ttx_arguments.specs.declared.orders.Order.{Order}
 use Rattle.ttx_arguments.specs.declared.orders.Order.TheVariants.{Inspect, Plan, Find, Certify, Refute, Replay, Receive, Show, Preview, Splice, Wait, Send, Pages, Book, Extract, Check, Version}
@@ -67,17 +69,16 @@ pub data OrderView : Type 0 where
 
 abbrev pub order_view : Order → OrderView
 order_view (Inspect file) = inspect_order file.now
-order_view (Plan service out class late) = plan_order service.now out.now class late
-order_view (Find cycle service out repeat class) = find_order cycle.now service.now out.now repeat class
-order_view (Certify cycle service certificate late twice) = certify_order cycle.now service.now certificate.now late twice
-order_view (Refute cycle service certificate save) = refute_order cycle.now service.now certificate.now (option_map (λ s. s.now) save)
-order_view (Replay cycle service counter) = replay_order cycle.now service.now counter.now
+order_view (Plan o) = plan_order o.service.now o.out.now o.class o.late
+order_view (Find o) = find_order o.cycle.now o.service.now o.out.now o.repeat o.class
+order_view (Certify o) = certify_order o.cycle.now o.service.now o.certificate.now o.late o.twice
+order_view (Refute o) = refute_order o.cycle.now o.service.now o.certificate.now (option_map (λ s. s.now) o.save)
+order_view (Replay o) = replay_order o.cycle.now o.service.now o.counter.now
 order_view (Receive cycle tuning) = receive_order cycle.now tuning
 order_view (Show cycle tuning look) = show_order cycle.now tuning (look_view look)
 order_view (Preview service selection look) = preview_order service.now selection (look_view look)
-order_view (Splice old new old_service new_service old_certificate new_certificate) =
-    splice_order old.now new.now old_service.now new_service.now old_certificate.now new_certificate.now
-order_view (Wait cycle service repeat class items) = wait_order cycle.now service.now repeat class items
+order_view (Splice o) = splice_order o.old.now o.new.now o.old_service.now o.new_service.now o.old_certificate.now o.new_certificate.now
+order_view (Wait o) = wait_order o.cycle.now o.service.now o.repeat o.class o.items
 order_view (Send cycle sending) = send_order cycle.now sending
 order_view (Pages cycle) = pages_order cycle.now
 order_view (Book cycle out) = book_order cycle.now out.now
@@ -263,26 +264,49 @@ is_twice order = nat_lt 1 (count_by (λ name. bytes_eq name (codes "-")) (inputs
 abbrev pub once : OrderView → Result OrderView Unfit
 once order = if is_twice order then Err named_twice else Ok order
 
--- the order of a command with its values; `clap` takes no other command
+-- the command of a name; `clap` takes no others
+unfoldable pub command_named : Text → CommandName
+command_named name =
+    if bytes_eq name (codes "plan") then command.Plan
+    else if bytes_eq name (codes "find") then command.Find
+    else if bytes_eq name (codes "certify") then command.Certify
+    else if bytes_eq name (codes "refute") then command.Refute
+    else if bytes_eq name (codes "replay") then command.Replay
+    else if bytes_eq name (codes "receive") then command.Receive
+    else if bytes_eq name (codes "show") then command.Show
+    else if bytes_eq name (codes "preview") then command.Preview
+    else if bytes_eq name (codes "splice") then command.Splice
+    else if bytes_eq name (codes "wait") then command.Wait
+    else if bytes_eq name (codes "send") then command.Send
+    else if bytes_eq name (codes "pages") then command.Pages
+    else if bytes_eq name (codes "book") then command.Book
+    else if bytes_eq name (codes "extract") then command.Extract
+    else if bytes_eq name (codes "check") then command.Check
+    else if bytes_eq name (codes "version") then command.Version
+    else command.Inspect
+
+-- the order of a command with its values
+abbrev pub order_by : CommandName → List Row → Result OrderView Unfit
+order_by command.Inspect rows = Ok (inspect_at rows)
+order_by command.Plan rows = Ok (plan_at rows)
+order_by command.Find rows = once (find_at rows)
+order_by command.Certify rows = once (certify_at rows)
+order_by command.Refute rows = once (refute_at rows)
+order_by command.Replay rows = once (replay_at rows)
+order_by command.Receive rows = receive_at rows
+order_by command.Show rows = show_at rows
+order_by command.Preview rows = preview_at rows
+order_by command.Splice rows = once (splice_at rows)
+order_by command.Wait rows = once (wait_at rows)
+order_by command.Send rows = send_at rows
+order_by command.Pages rows = Ok (pages_at rows)
+order_by command.Book rows = Ok (book_at rows)
+order_by command.Extract rows = Ok (extract_at rows)
+order_by command.Check rows = Ok (check_at rows)
+order_by command.Version rows = Ok version_order
+
 unfoldable pub order_at : Text → List Row → Result OrderView Unfit
-order_at name rows =
-    if bytes_eq name (codes "plan") then Ok (plan_at rows)
-    else if bytes_eq name (codes "find") then once (find_at rows)
-    else if bytes_eq name (codes "certify") then once (certify_at rows)
-    else if bytes_eq name (codes "refute") then once (refute_at rows)
-    else if bytes_eq name (codes "replay") then once (replay_at rows)
-    else if bytes_eq name (codes "receive") then receive_at rows
-    else if bytes_eq name (codes "show") then show_at rows
-    else if bytes_eq name (codes "preview") then preview_at rows
-    else if bytes_eq name (codes "splice") then once (splice_at rows)
-    else if bytes_eq name (codes "wait") then once (wait_at rows)
-    else if bytes_eq name (codes "send") then send_at rows
-    else if bytes_eq name (codes "pages") then Ok (pages_at rows)
-    else if bytes_eq name (codes "book") then Ok (book_at rows)
-    else if bytes_eq name (codes "extract") then Ok (extract_at rows)
-    else if bytes_eq name (codes "check") then Ok (check_at rows)
-    else if bytes_eq name (codes "version") then Ok version_order
-    else Ok (inspect_at rows)
+order_at name rows = order_by (command_named name) rows
 
 -- no words at all ask for `inspect -`, and words that `clap` takes for their command with its values
 unfoldable pub Asks : App → List Text → Result OrderView Unfit → Type 0

@@ -52,6 +52,80 @@ pub struct Sending {
     pub fields: u32,
 }
 
+/// What `plan` is asked for.
+#[derive(Clone, Copy, Debug)]
+pub struct PlanOrder<'a> {
+    pub service: &'a str,
+    pub out: &'a str,
+    pub class: Class,
+    /// For receivers that may show pages late, too.
+    pub late: bool,
+}
+
+/// What `find` is asked for.
+#[derive(Clone, Copy, Debug)]
+pub struct FindOrder<'a> {
+    pub cycle: &'a str,
+    pub service: &'a str,
+    pub out: &'a str,
+    /// 1 to 8.
+    pub repeat: u8,
+    pub class: Class,
+}
+
+/// What `certify` is asked for.
+#[derive(Clone, Copy, Debug)]
+pub struct CertifyOrder<'a> {
+    pub cycle: &'a str,
+    pub service: &'a str,
+    pub certificate: &'a str,
+    /// For receivers that may show pages late, too.
+    pub late: bool,
+    /// Whether the cycle is read twice, slot by slot; not with `late`.
+    pub twice: bool,
+}
+
+/// What `refute` is asked for.
+#[derive(Clone, Copy, Debug)]
+pub struct RefuteOrder<'a> {
+    pub cycle: &'a str,
+    pub service: &'a str,
+    pub certificate: &'a str,
+    /// The file that the counter-run goes to.
+    pub save: Option<&'a str>,
+}
+
+/// What `replay` is asked for.
+#[derive(Clone, Copy, Debug)]
+pub struct ReplayOrder<'a> {
+    pub cycle: &'a str,
+    pub service: &'a str,
+    pub counter: &'a str,
+}
+
+/// What `splice` is asked for.
+#[derive(Clone, Copy, Debug)]
+pub struct SpliceOrder<'a> {
+    pub old: &'a str,
+    pub new: &'a str,
+    pub old_service: &'a str,
+    pub new_service: &'a str,
+    pub old_certificate: &'a str,
+    pub new_certificate: &'a str,
+}
+
+/// What `wait` is asked for.
+#[derive(Clone, Copy, Debug)]
+pub struct WaitOrder<'a> {
+    pub cycle: &'a str,
+    pub service: &'a str,
+    /// 1 to 8.
+    pub repeat: u8,
+    pub class: Class,
+    /// Whether each item of a page has a line, too.
+    pub items: bool,
+}
+
 /// A command with its values.
 #[derive(Clone, Copy, Debug)]
 pub enum Order<'a> {
@@ -60,45 +134,15 @@ pub enum Order<'a> {
         file: &'a str,
     },
     /// Lay a service out in a cycle.
-    Plan {
-        service: &'a str,
-        out: &'a str,
-        class: Class,
-        /// For receivers that may show pages late, too.
-        late: bool,
-    },
+    Plan(PlanOrder<'a>),
     /// Find a certificate of a cycle.
-    Find {
-        cycle: &'a str,
-        service: &'a str,
-        out: &'a str,
-        repeat: u8,
-        class: Class,
-    },
+    Find(FindOrder<'a>),
     /// Judge a cycle by a certificate.
-    Certify {
-        cycle: &'a str,
-        service: &'a str,
-        certificate: &'a str,
-        /// For receivers that may show pages late, too.
-        late: bool,
-        /// Whether the cycle is read twice, slot by slot; not with `late`.
-        twice: bool,
-    },
+    Certify(CertifyOrder<'a>),
     /// Look for a viewer whom a cycle fails.
-    Refute {
-        cycle: &'a str,
-        service: &'a str,
-        certificate: &'a str,
-        /// The file that the counter-run goes to.
-        save: Option<&'a str>,
-    },
+    Refute(RefuteOrder<'a>),
     /// Show what is shown after a counter-run.
-    Replay {
-        cycle: &'a str,
-        service: &'a str,
-        counter: &'a str,
-    },
+    Replay(ReplayOrder<'a>),
     /// Show what a receiver holds of a page.
     Receive {
         cycle: &'a str,
@@ -117,23 +161,9 @@ pub enum Order<'a> {
         look: Look<'a>,
     },
     /// Judge the change from an old cycle to a new one.
-    Splice {
-        old: &'a str,
-        new: &'a str,
-        old_service: &'a str,
-        new_service: &'a str,
-        old_certificate: &'a str,
-        new_certificate: &'a str,
-    },
+    Splice(SpliceOrder<'a>),
     /// Tell how long viewers of each page of a service wait.
-    Wait {
-        cycle: &'a str,
-        service: &'a str,
-        repeat: u8,
-        class: Class,
-        /// Whether each item of a page has a line, too.
-        items: bool,
-    },
+    Wait(WaitOrder<'a>),
     /// Send a cycle again and again, with the time.
     Send {
         cycle: &'a str,

@@ -6,7 +6,7 @@ use Rattle.ttx_page.specs.declared.page.Page.{Page as PageValue}
 use Rattle.ttx_page.specs.Pages.{Page}
 use Rattle.ttx_page.specs.Views.{page_of}
 use Rattle.ttx_source.specs.Services.{Authored, authored_at}
-use Rattle.ttx_check.specs.Entries.{entry_of}
+use Rattle.ttx_check.specs.Entries.{queue_entry}
 
 pub get_there : {A : Type 0} (xs : List A) (i : ℕ) (x d : A) → i < length xs → x ≡ get_or xs i d → slice_get xs i ≡ Some x
 get_there [] i x d lt e = absurd (omega arith)
@@ -41,7 +41,7 @@ take_next (y ∷ ys) zero x h = let e : Some y ≡ Some x = h in let g : y ≡ x
 take_next (y ∷ ys) (suc n) x h = ap (λ z. y ∷ z) (take_next ys n x h)
 
 -- one page more
-pub entries_next : (pages : List Authored) (i : ℕ) (page : Authored) → slice_get pages i ≡ Some page → map entry_of (take (i + 1) pages) ≡ map entry_of (take i pages) ++ entry_of page ∷ []
+pub entries_next : (pages : List Authored) (i : ℕ) (page : Authored) → slice_get pages i ≡ Some page → map queue_entry (take (i + 1) pages) ≡ map queue_entry (take i pages) ++ queue_entry page ∷ []
 entries_next pages i page e =
     let n : i + 1 ≡ suc i = omega arith in
-    ap (λ k. map entry_of (take k pages)) n ∙ ap (map entry_of) (take_next pages i page e) ∙ map-append entry_of (take i pages) (page ∷ [])
+    ap (λ k. map queue_entry (take k pages)) n ∙ ap (map queue_entry) (take_next pages i page e) ∙ map-append queue_entry (take i pages) (page ∷ [])

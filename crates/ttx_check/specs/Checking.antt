@@ -10,7 +10,7 @@ use Rattle.std.specs.Io.KnownBytes.{Appends, Keeps}
 use Rattle.ttx_cycle.specs.Counts.{HasRisen}
 use Rattle.ttx_cycle.specs.declared.faults.TextFault.{TextFault}
 use Rattle.ttx_cycle.specs.declared.faults.TextFault.TheVariants as text
-use Rattle.ttx_check.specs.Reports.{IsReport}
+use Rattle.ttx_check.specs.Reports.{IsServiceReport}
 use Rattle.ttx_check.specs.declared.faults.CheckFault.{CheckFault}
 use Rattle.ttx_check.specs.declared.faults.CheckFault.TheVariants.{Read, TooLong, Write, NoMemory}
 
@@ -25,7 +25,7 @@ most_bytes = 4194304
 
 pub record Told (bytes text : List ℕ) (status : ℕ) : Type 0 where
   pub most : length bytes ≤ most_bytes
-  pub report : IsReport bytes text status
+  pub report : IsServiceReport bytes text status
 
 -- Ok: the report went out. A write fault: its first `written` bytes. Else nothing.
 abbrev pub Checks : List ℕ → Option (List ℕ) → Option (List ℕ) → Result ℕ CheckFault → Type 0

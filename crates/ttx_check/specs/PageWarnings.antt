@@ -2,7 +2,7 @@
 --
 --   leads_to, is_dead, link_warnings        links to no page of the service
 --   has_stray, is_stray_tab, is_stray_break codes that do nothing where they stand
---   row_warnings, rows_to   the warnings on rows 1 to 24
+--   row_warnings, row_warnings_to    the warnings on rows 1 to 24
 --   has_box, lacks_box      two start box codes; a page that shows boxed text alone, and has none
 --   order_warnings          on a page that comes directly behind another
 --   page_warnings, pages_from       those on a page, and on all pages
@@ -60,9 +60,9 @@ row_warnings p number =
     ++ only_if (is_stray_tab (page_row p number)) (StrayTab p.id number) ++ only_if (is_stray_break (page_row p number)) (StrayBreak p.id number)
 
 -- those on rows 1 to n
-unfoldable pub rows_to : Page → ℕ → List Warning
-rows_to p zero = []
-rows_to p (suc n) = rows_to p n ++ row_warnings p (suc n)
+unfoldable pub row_warnings_to : Page → ℕ → List Warning
+row_warnings_to p zero = []
+row_warnings_to p (suc n) = row_warnings_to p n ++ row_warnings p (suc n)
 
 -- two start box codes, 0B, next to each other, as box codes count; the flag: one stands before (12.2)
 abbrev pub has_box_after : Bool → List ℕ → Bool
@@ -83,7 +83,7 @@ order_warnings subpages copies id = only_if (not (subpages == 0)) (BehindSubpage
 -- directly behind itself.
 abbrev pub page_warnings : List Entry → (ℕ → ℕ) → (ℕ → ℕ) → ℕ → Page → List Warning
 page_warnings entries subpages copies place p =
-    link_warnings entries p.id 1 p.links.six ++ rows_to p 24 ++ only_if (lacks_box p) (NoBox p.id)
+    link_warnings entries p.id 1 p.links.six ++ row_warnings_to p 24 ++ only_if (lacks_box p) (NoBox p.id)
     ++ order_warnings (subpages place) (copies place) p.id
 
 abbrev pub pages_from : List Entry → (ℕ → ℕ) → (ℕ → ℕ) → ℕ → List Page → List Warning

@@ -1,7 +1,7 @@
 -- The order in which pages are sent, and the pages in it that come directly behind certain others.
 --
---   is_of, is_in_round      the pages of a queue; those that a round has
---   round_from, queue_of    a round of a queue; the queue: eight rounds
+--   is_in_queue, is_in_round    the pages of a queue; those that a round has
+--   round_from, whole_queue    a round of a queue; the queue: eight rounds
 --   filler                  what goes before the first page of a queue
 --   follows, followers      a page behind a subpage of its number, or behind itself; the places of such pages in a queue
 --   behind_subpages, behind_copies    the same in all queues of a service
@@ -13,32 +13,32 @@ use Rattle.ttx_check.specs.declared.queues.Behind.{Behind}
 use Rattle.ttx_check.specs.declared.queues.Behind.TheVariants.{Subpage, Itself}
 
 -- queue 0 has all pages, queue 1 to 8 those of its magazine
-abbrev pub is_of : ℕ → Id → Bool
-is_of queue id = (queue == 0) || (id.mag == queue)
+abbrev pub is_in_queue : ℕ → Id → Bool
+is_in_queue queue id = (queue == 0) || (id.mag == queue)
 
 -- of eight rounds a page that is sent n times has each whose number, counted from 0 and taken n times, is a multiple of 8
 abbrev pub is_in_round : ℕ → ℕ → Bool
 is_in_round round often = round * often % 8 == 0
 
-abbrev pub sent_at : ℕ → Id → Sent
-sent_at place id = record { place = place; id = id }
+abbrev pub page_in_queue : ℕ → Id → Sent
+page_in_queue place id = record { place = place; id = id }
 
-abbrev pub is_sent : ℕ → ℕ → Entry → Bool
-is_sent queue round e = is_of queue e.id && is_in_round round e.often
+abbrev pub is_sent_in_round : ℕ → ℕ → Entry → Bool
+is_sent_in_round queue round e = is_in_queue queue e.id && is_in_round round e.often
 
 -- the pages of a round in authored order, the first at this place
 abbrev pub round_from : ℕ → ℕ → ℕ → List Entry → List Sent
 round_from queue round place [] = []
 round_from queue round place (e ∷ entries) =
-    (if is_sent queue round e then sent_at place e.id ∷ [] else []) ++ round_from queue round (place + 1) entries
+    (if is_sent_in_round queue round e then page_in_queue place e.id ∷ [] else []) ++ round_from queue round (place + 1) entries
 
 -- the first n rounds
-abbrev pub rounds_to : ℕ → List Entry → ℕ → List Sent
-rounds_to queue entries zero = []
-rounds_to queue entries (suc n) = rounds_to queue entries n ++ round_from queue n 0 entries
+abbrev pub first_rounds : ℕ → List Entry → ℕ → List Sent
+first_rounds queue entries zero = []
+first_rounds queue entries (suc n) = first_rounds queue entries n ++ round_from queue n 0 entries
 
-abbrev pub queue_of : ℕ → List Entry → List Sent
-queue_of queue entries = rounds_to queue entries 8
+abbrev pub whole_queue : ℕ → List Entry → List Sent
+whole_queue queue entries = first_rounds queue entries 8
 
 -- a page with another subcode of the same number, or the same page again
 abbrev pub follows : Behind → Id → Id → Bool
@@ -57,7 +57,7 @@ filler = id_at 1 255 16255
 -- the same in the queues of the first n magazines
 abbrev pub followers_to : Behind → List Entry → ℕ → List ℕ
 followers_to kind entries zero = []
-followers_to kind entries (suc n) = followers_to kind entries n ++ followers kind filler (queue_of (suc n) entries)
+followers_to kind entries (suc n) = followers_to kind entries n ++ followers kind filler (whole_queue (suc n) entries)
 
 -- the pages that come directly behind another subpage of their number in their magazine
 abbrev pub behind_subpages : List Entry → List ℕ
@@ -65,4 +65,4 @@ behind_subpages entries = followers_to Subpage entries 8
 
 -- those that come directly behind themselves: among all pages in serial transmission, else in their magazine
 abbrev pub behind_copies : Bool → List Entry → List ℕ
-behind_copies serial entries = if serial then followers Itself filler (queue_of 0 entries) else followers_to Itself entries 8
+behind_copies serial entries = if serial then followers Itself filler (whole_queue 0 entries) else followers_to Itself entries 8

@@ -1,8 +1,8 @@
 -- The report on a service text.
 --
---   said, report            what is said of a text that is read: its lines, or that there is nothing to say
+--   lines_or_count, report    what is said of a text that is read: its lines, or that there is nothing to say
 --   fault_words, error_line, IsErrorLine    what is said of one that is refused, and where the mistake is, which is only tested
---   IsRead, IsReport        the report on a text, and its status
+--   IsRead, IsServiceReport    the report on a text, and its status
 use Rattle.std.specs.Prelude.{◌≡◌, ℕ, List, [], ◌∷◌, ◌++◌, codes, length, Some, Result, Ok, Err}
 use Rattle.std.specs.Fmt.{decimal}
 use Rattle.toml.specs.Data.{Members}
@@ -14,12 +14,12 @@ use Rattle.ttx_check.specs.WarningLines.{warning_lines}
 use Rattle.ttx_check.specs.Warnings.{warnings}
 
 -- lines, or where there are none how many pages there are
-abbrev pub said : ℕ → List ℕ → List ℕ
-said count [] = codes "ok pages " ++ decimal count ++ 10 ∷ []
-said count (c ∷ lines) = c ∷ lines
+abbrev pub lines_or_count : ℕ → List ℕ → List ℕ
+lines_or_count count [] = codes "ok pages " ++ decimal count ++ 10 ∷ []
+lines_or_count count (c ∷ lines) = c ∷ lines
 
 abbrev pub report : Members → ServiceFields → List ℕ
-report table service = said (length service.pages) (key_lines table (pages_of service) ++ warning_lines (warnings service))
+report table service = lines_or_count (length service.pages) (key_lines table (pages_of service) ++ warning_lines (warnings service))
 
 abbrev pub fault_words : Fault → List ℕ
 fault_words not_toml = codes "this isn't TOML"
@@ -54,5 +54,5 @@ abbrev pub IsReportOf : List ℕ → Result ServiceFields (Fault × ℕ) → Lis
 IsReportOf bytes (Ok service) text status = IsRead bytes service text × (status ≡ 0)
 IsReportOf bytes (Err fault) text status = IsErrorLine fault.0 text × (status ≡ 2)
 
-abbrev pub IsReport : List ℕ → List ℕ → ℕ → Type 0
-IsReport bytes text status = IsReportOf bytes (read_bytes bytes) text status
+abbrev pub IsServiceReport : List ℕ → List ℕ → ℕ → Type 0
+IsServiceReport bytes text status = IsReportOf bytes (read_bytes bytes) text status

@@ -1,8 +1,8 @@
 -- The keys of a service text that mean nothing (profile).
 --
 --   service_keys, info_keys, page_keys      the keys that mean something, in the order of docs/SERVICE.md
---   edits, far_name, meant  how far a key is from a name, and the name that it is near
---   shown, key_line         a key as it is shown; its line
+--   edits, far_name, meant    how far a key is from a name, and the name that it is near
+--   visible_code, key_line    a key as it is shown; its line
 --   unknown_lines           those of a table
 --   key_lines               those of a text, whose pages are given
 use Rattle.std.specs.Prelude.{ℕ, Bool, ◌&&◌, nat_le, nat_lt, nat_eq, if◌then◌else◌, List, [], ◌∷◌, ◌++◌, codes, length, map, find, Option, Some, None}
@@ -25,15 +25,15 @@ page_keys =
     codes "number" ∷ codes "sub" ∷ codes "often" ∷ codes "option" ∷ codes "newsflash" ∷ codes "subtitle" ∷ codes "suppress" ∷ codes "update"
     ∷ codes "interrupted" ∷ codes "inhibit" ∷ codes "head" ∷ codes "rows" ∷ codes "links" ∷ codes "row24" ∷ codes "crc" ∷ []
 
-abbrev pub is_among : List (List ℕ) → List ℕ → Bool
-is_among names key = list_any (λ name. bytes_eq name key) names
+abbrev pub is_one_of : List (List ℕ) → List ℕ → Bool
+is_one_of names key = list_any (λ name. bytes_eq name key) names
 
 -- characters put in, left out or changed
 abbrev pub edits : List ℕ → List ℕ → ℕ
 edits a b = levenshtein_row nat_eq (chars a) (chars b) (length (chars b))
 
-abbrev pub is_near : ℕ → List ℕ → List ℕ → Bool
-is_near most key name = nat_le (edits key name) most
+abbrev pub is_near_name : ℕ → List ℕ → List ℕ → Bool
+is_near_name most key name = nat_le (edits key name) most
 
 abbrev pub or_else : {A : Type 0} → Option A → Option A → Option A
 or_else None b = b
@@ -41,15 +41,15 @@ or_else (Some a) b = Some a
 
 -- for a key of five bytes or more the first name that is two edits away
 abbrev pub far_name : List (List ℕ) → List ℕ → Option (List ℕ)
-far_name names key = if nat_lt (length key) 5 then None else find (is_near 2 key) names
+far_name names key = if nat_lt (length key) 5 then None else find (is_near_name 2 key) names
 
 -- the first name that is one edit away, else that; none for a key of more than 16 bytes
 unfoldable pub meant : List (List ℕ) → List ℕ → Option (List ℕ)
-meant names key = if nat_lt 16 (length key) then None else or_else (find (is_near 1 key) names) (far_name names key)
+meant names key = if nat_lt 16 (length key) then None else or_else (find (is_near_name 1 key) names) (far_name names key)
 
 -- a byte of a key: a question mark where it isn't a visible character of ASCII
-abbrev pub shown : ℕ → ℕ
-shown code = if nat_le 33 code && nat_le code 126 then code else 63
+abbrev pub visible_code : ℕ → ℕ
+visible_code code = if nat_le 33 code && nat_le code 126 then code else 63
 
 abbrev pub meant_text : Option (List ℕ) → List ℕ
 meant_text None = []
@@ -57,10 +57,10 @@ meant_text (Some name) = codes ": is it " ++ name ++ codes "?"
 
 -- the line of a key that isn't among these names
 unfoldable pub key_line : List ℕ → List (List ℕ) → List ℕ → List ℕ
-key_line place names key = codes "warning " ++ place ++ codes ": no key " ++ map shown key ++ meant_text (meant names key) ++ 10 ∷ []
+key_line place names key = codes "warning " ++ place ++ codes ": no key " ++ map visible_code key ++ meant_text (meant names key) ++ 10 ∷ []
 
 unfoldable pub key_text : List ℕ → List (List ℕ) → List ℕ → List ℕ
-key_text place names key = if is_among names key then [] else key_line place names key
+key_text place names key = if is_one_of names key then [] else key_line place names key
 
 -- the lines of a table at a place, which takes keys of these names; keys rise by their bytes
 abbrev pub unknown_lines : List ℕ → List (List ℕ) → Members → List ℕ
@@ -85,11 +85,11 @@ abbrev pub array_lines : Option Items → List Page → List ℕ
 array_lines None pages = []
 array_lines (Some values) pages = items_lines values pages
 
-abbrev pub page_lines : Option Data → List Page → List ℕ
-page_lines None pages = []
-page_lines (Some value) pages = array_lines (as_array value) pages
+abbrev pub page_key_lines : Option Data → List Page → List ℕ
+page_key_lines None pages = []
+page_key_lines (Some value) pages = array_lines (as_array value) pages
 
 abbrev pub key_lines : Members → List Page → List ℕ
 key_lines table pages =
     unknown_lines (codes "service") service_keys table ++ value_lines (codes "info") info_keys (get_member (codes "info") table)
-    ++ page_lines (get_member (codes "page") table) pages
+    ++ page_key_lines (get_member (codes "page") table) pages

@@ -1,7 +1,7 @@
 -- The lines of warnings (profile): each begins with `warning` and its place, and ends with 0A.
 --
 --   page_text, row_text, magazine_text      the place of a page, of a row, of a magazine
---   link_text, itself_text  what is said of a link, and of a page behind itself
+--   dead_link_text, itself_text    what is said of a link, and of a page behind itself
 --   warning_text            what is said after `warning`
 --   warning_line, warning_lines     the line of a warning, and those of some
 use Rattle.std.specs.Prelude.{ℕ, List, [], ◌∷◌, ◌++◌, codes}
@@ -18,8 +18,8 @@ page_text id = codes "page " ++ id_text id
 unfoldable pub row_text : Id → ℕ → List ℕ
 row_text id number = page_text id ++ codes " row " ++ decimal number
 
-unfoldable pub link_text : Id → ℕ → List ℕ
-link_text page link = page_text page ++ codes " link " ++ decimal link ++ codes ": the service has no such page"
+unfoldable pub dead_link_text : Id → ℕ → List ℕ
+dead_link_text page link = page_text page ++ codes " link " ++ decimal link ++ codes ": the service has no such page"
 
 unfoldable pub itself_text : Id → ℕ → List ℕ
 itself_text page times =
@@ -30,7 +30,7 @@ magazine_text mag = codes "magazine " ++ decimal mag
 
 abbrev pub warning_text : Warning → List ℕ
 warning_text DeadInitial = codes "info initial: the service has no such page"
-warning_text (DeadLink page link) = link_text page link
+warning_text (DeadLink page link) = dead_link_text page link
 warning_text (HiddenRow page row) = row_text page row ++ codes ": double height in the row above hides it"
 warning_text (UnshownRow page) = page_text page ++ codes " row 24: it is shown only with row24 = true"
 warning_text (StrayTab page row) = row_text page row ++ codes ": code 09 does nothing before a flash: is it a tab?"

@@ -2,13 +2,13 @@
 --
 --   initial_link, initial_warnings          the page of packet 8/30
 --   is_most, serial_warnings        a magazine with more than half of the packets, in serial transmission
---   repeated                how often a page comes directly behind another
+--   times_among             how often a page comes directly behind another
 --   warnings                all of them
 use Rattle.std.specs.Prelude.{ℕ, zero, suc, ◌*◌, Bool, ◌&&◌, ◌==◌, nat_lt, count_by, if◌then◌else◌, List, [], ◌++◌, Option, Some, None}
 use Rattle.ttx_header.specs.Ids.{Id}
 use Rattle.ttx_info.specs.Infos.{InfoFields}
 use Rattle.ttx_source.specs.Services.{ServiceFields, pages_of}
-use Rattle.ttx_check.specs.Entries.{entries_of, traffic, all_traffic}
+use Rattle.ttx_check.specs.Entries.{queue_entries, traffic, all_traffic}
 use Rattle.ttx_check.specs.Queues.{behind_subpages, behind_copies}
 use Rattle.ttx_check.specs.PageWarnings.{is_dead, only_if, pages_from}
 use Rattle.ttx_check.specs.declared.entries.Entry.{Entry}
@@ -35,8 +35,8 @@ abbrev pub serial_warnings : Bool → List Entry → List Warning
 serial_warnings serial entries = if serial then most_to entries 8 else []
 
 -- how often a place is among some
-abbrev pub repeated : List ℕ → ℕ → ℕ
-repeated places place = count_by (λ k. k == place) places
+abbrev pub times_among : List ℕ → ℕ → ℕ
+times_among places place = count_by (λ k. k == place) places
 
 -- all, by how often a page is sent directly behind another subpage, and behind itself
 abbrev pub warnings_by : ServiceFields → List Entry → (ℕ → ℕ) → (ℕ → ℕ) → List Warning
@@ -45,7 +45,7 @@ warnings_by service entries subpages copies =
 
 abbrev pub warnings_of : ServiceFields → List Entry → List Warning
 warnings_of service entries =
-    warnings_by service entries (repeated (behind_subpages entries)) (repeated (behind_copies service.serial entries))
+    warnings_by service entries (times_among (behind_subpages entries)) (times_among (behind_copies service.serial entries))
 
 abbrev pub warnings : ServiceFields → List Warning
-warnings service = warnings_of service (entries_of service)
+warnings service = warnings_of service (queue_entries service)

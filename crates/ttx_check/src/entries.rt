@@ -5,7 +5,7 @@ ghost use Rattle.ttx_page.specs.declared.item.Item.TheVariants.{Row as TheRow};
 ghost use Rattle.ttx_page.specs.Pages.{needed};
 ghost use Rattle.ttx_page.specs.Views.{page_of};
 ghost use Rattle.ttx_source.specs.Services.{authored_at};
-ghost use Rattle.ttx_check.specs.Entries.{shown_rows, packets_of, entry_of, entries_of};
+ghost use Rattle.ttx_check.specs.Entries.{shown_rows, packets_of_page, queue_entry, queue_entries};
 
 use std::alloc::{AllocError, Global};
 use ttx_header::PageId;
@@ -45,7 +45,7 @@ fn shown_rows(page: &Page) -> u32
 
 // The entry of a page that is sent so often.
 fn entry_for(page: &Page, often: u8) -> Entry
-    ensures { result ≡ entry_of (authored_at (page_of page.now) often) }
+    ensures { result ≡ queue_entry (authored_at (page_of page.now) often) }
 {
     Entry {
         id: page.id(),
@@ -56,7 +56,7 @@ fn entry_for(page: &Page, often: u8) -> Entry
 
 /// The pages of a service, in authored order.
 pub fn entries(alloc: Global, service: &Service) -> Result<Vec<Entry>, AllocError>
-    ensures { IfOk result (λ entries. entries.items ≡ entries_of service.now) }
+    ensures { IfOk result (λ entries. entries.items ≡ queue_entries service.now) }
 {
     let pages = service.pages();
     let mut entries = Vec::new(alloc);

@@ -2,7 +2,7 @@
 
 ghost use Rattle.std.specs.Prelude.{◌≡◌, ◌++◌, ◌<◌, ◌≤◌, IfOk, OnOk};
 ghost use Rattle.ttx_header.specs.Ids.{same_id};
-ghost use Rattle.ttx_check.specs.Queues.{is_of, is_in_round, is_sent, round_from, queue_of, follows, followers, filler, followers_to, behind_subpages, behind_copies};
+ghost use Rattle.ttx_check.specs.Queues.{is_in_queue, is_in_round, is_sent_in_round, round_from, whole_queue, follows, followers, filler, followers_to, behind_subpages, behind_copies};
 
 use crate::entries::Entry;
 use std::alloc::{AllocError, Global};
@@ -25,8 +25,8 @@ pub enum Behind {
 }
 
 // Whether a page belongs to a queue: 0 has all pages, 1 to 8 those of a magazine.
-fn is_of(queue: u8, id: PageId) -> bool
-    ensures { result ≡ is_of queue id }
+fn is_in_queue(queue: u8, id: PageId) -> bool
+    ensures { result ≡ is_in_queue queue id }
 {
     queue == 0 || id.mag() == queue
 }
@@ -39,11 +39,11 @@ fn is_in_round(round: u32, often: u8) -> bool
     round * u32::from(often) % 8 == 0
 }
 
-fn is_sent(queue: u8, round: u32, entry: &Entry) -> bool
+fn is_sent_in_round(queue: u8, round: u32, entry: &Entry) -> bool
     requires { round < 8 }
-    ensures { result ≡ is_sent queue round entry.now }
+    ensures { result ≡ is_sent_in_round queue round entry.now }
 {
-    is_of(queue, entry.id) && is_in_round(round, entry.often)
+    is_in_queue(queue, entry.id) && is_in_round(round, entry.often)
 }
 
 // Adds a round of a queue.
@@ -57,7 +57,7 @@ fn push_round(
     ensures { OnOk result (sent.new.items ≡ sent.old.items ++ round_from queue round 0 entries.now) }
 {
     for (place, entry) in entries.iter().enumerate() {
-        if is_sent(queue, round, entry) {
+        if is_sent_in_round(queue, round, entry) {
             sent.push(Sent {
                 place,
                 id: entry.id,
@@ -68,8 +68,8 @@ fn push_round(
 }
 
 // The pages of a queue in the order of sending.
-fn queue_of(alloc: Global, queue: u8, entries: &[Entry]) -> Result<Vec<Sent>, AllocError>
-    ensures { IfOk result (λ sent. sent.items ≡ queue_of queue entries.now) }
+fn whole_queue(alloc: Global, queue: u8, entries: &[Entry]) -> Result<Vec<Sent>, AllocError>
+    ensures { IfOk result (λ sent. sent.items ≡ whole_queue queue entries.now) }
 {
     let mut sent = Vec::new(alloc);
     for round in 0..8 {
@@ -123,9 +123,9 @@ fn push_queue(
     queue: u8,
     entries: &[Entry],
 ) -> Result<(), AllocError>
-    ensures { OnOk result (places.new.items ≡ places.old.items ++ followers kind filler (queue_of queue entries.now)) }
+    ensures { OnOk result (places.new.items ≡ places.old.items ++ followers kind filler (whole_queue queue entries.now)) }
 {
-    let sent = queue_of(alloc, queue, entries)?;
+    let sent = whole_queue(alloc, queue, entries)?;
     push_followers(places, kind, &sent)
 }
 

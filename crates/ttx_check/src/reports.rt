@@ -21,8 +21,8 @@ pub struct Checked {
 }
 
 // The lines, or that there is nothing to say.
-fn said(alloc: Global, count: usize, lines: String) -> Result<String, AllocError>
-    ensures { IfOk result (λ text. string_bytes text ≡ rule.said count (string_bytes lines)) }
+fn lines_or_count(alloc: Global, count: usize, lines: String) -> Result<String, AllocError>
+    ensures { IfOk result (λ text. string_bytes text ≡ rule.lines_or_count count (string_bytes lines)) }
 {
     if lines.is_empty() {
         format!(in alloc; "ok pages {count}\n")
@@ -39,7 +39,7 @@ fn service_report(alloc: Global, table: &Table, service: &Service) -> Result<Str
     push_keys(alloc, &mut lines, table, service.pages())?;
     let found = warnings(alloc, service)?;
     push_warnings(&mut lines, &found)?;
-    said(alloc, service.pages().len(), lines)
+    lines_or_count(alloc, service.pages().len(), lines)
 }
 
 // The report on a text that is read. It is read a second time for its keys, so that only memory can be wanting.
@@ -57,7 +57,7 @@ fn read_report(alloc: Global, bytes: &[u8], service: &Service) -> Result<Checked
 
 /// What is said of a text: a line where it is refused, else the warnings. The error is want of memory.
 pub fn report(alloc: Global, bytes: &[u8]) -> Result<Checked, AllocError>
-    ensures { IfOk result (λ report. rule.IsReport bytes.now (string_bytes report.text) report.status) }
+    ensures { IfOk result (λ report. rule.IsServiceReport bytes.now (string_bytes report.text) report.status) }
 {
     match read_service(alloc, bytes) {
         Ok(service) => read_report(alloc, bytes, &service),

@@ -4,7 +4,7 @@ ghost use Rattle.std.specs.Prelude.{◌≡◌, ◌≤◌, ◌++◌, suc, OnOk};
 ghost use Rattle.ttx_page.specs.declared.item.Item.TheVariants.{Row as TheRow};
 ghost use Rattle.ttx_page.specs.Pages.{has_double_height, is_hidden, is_blank, page_row};
 ghost use Rattle.ttx_page.specs.Views.{page_of};
-ghost use Rattle.ttx_check.specs.PageWarnings.{has_stray, is_stray_tab, is_stray_break, is_lost, is_unshown, only_if, row_warnings, rows_to};
+ghost use Rattle.ttx_check.specs.PageWarnings.{has_stray, is_stray_tab, is_stray_break, is_lost, is_unshown, only_if, row_warnings, row_warnings_to};
 
 use crate::warning::Warning;
 use std::alloc::AllocError;
@@ -125,7 +125,7 @@ fn hides(page: &Page, number: u8, hidden: bool) -> bool
 
 /// Adds the warnings on the rows of a page.
 pub fn push_rows(found: &mut Vec<Warning>, page: &Page) -> Result<(), AllocError>
-    ensures { OnOk result (found.new.items ≡ found.old.items ++ rows_to (page_of page.now) 24) }
+    ensures { OnOk result (found.new.items ≡ found.old.items ++ row_warnings_to (page_of page.now) 24) }
 {
     let mut hidden = false;
     for above in 0..24 {

@@ -33,8 +33,8 @@ fn push_initial(
 
 // How often each page is sent directly behind others.
 fn order_of(alloc: Global, serial: bool, entries: &[Entry]) -> Result<Order, AllocError>
-    ensures subpages { IfOk result (λ order. (q : ℕ) → times_in order.subpages q ≡ rule.repeated (behind_subpages entries.now) q) }
-    ensures copies { IfOk result (λ order. (q : ℕ) → times_in order.copies q ≡ rule.repeated (behind_copies serial entries.now) q) }
+    ensures subpages { IfOk result (λ order. (q : ℕ) → times_in order.subpages q ≡ rule.times_among (behind_subpages entries.now) q) }
+    ensures copies { IfOk result (λ order. (q : ℕ) → times_in order.copies q ≡ rule.times_among (behind_copies serial entries.now) q) }
 {
     let subpages = behind_subpages(alloc, entries)?;
     let copies = behind_copies(alloc, serial, entries)?;

@@ -31,7 +31,7 @@ enum Part<'a> {
     Link(usize),
 }
 
-fn is_among(names: &[&str], key: &str) -> bool {
+fn is_one_of(names: &[&str], key: &str) -> bool {
     names.iter().any(|name| *name == key)
 }
 
@@ -129,7 +129,7 @@ fn bad_row(rows: &Table) -> Option<&'static str> {
 // The first key of rows that isn't the number of one.
 fn bad_row_key(rows: &Table) -> Option<&str> {
     for (key, _value) in rows.iter() {
-        if !is_among(ROWS.as_slice(), key.as_str()) {
+        if !is_one_of(ROWS.as_slice(), key.as_str()) {
             return Some(key.as_str());
         }
     }
@@ -323,7 +323,7 @@ fn service_key(fault: SourceFault) -> &'static str {
 
 // Adds the path to a key outside pages.
 fn push_service_path(path: &mut String, key: &str, fault: SourceFault) -> Result<(), AllocError> {
-    if !is_among(KEYS_OF_SERVICE.as_slice(), key) {
+    if !is_one_of(KEYS_OF_SERVICE.as_slice(), key) {
         path.push_str("/info")?;
     }
     match fault {
@@ -337,7 +337,7 @@ fn service_spot(alloc: Global, table: &Table, fault: SourceFault) -> Result<Spot
     let mut path = String::new(alloc);
     push_service_path(&mut path, key, fault)?;
     let mut name = String::new(alloc);
-    if is_among(KEYS_OF_SERVICE.as_slice(), key) {
+    if is_one_of(KEYS_OF_SERVICE.as_slice(), key) {
         write!(&mut name, " {key}")?;
     } else {
         write!(&mut name, " info {key}")?;

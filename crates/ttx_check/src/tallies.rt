@@ -2,7 +2,7 @@
 
 ghost use Rattle.std.specs.Prelude.{◌≡◌, ℕ, IfOk};
 ghost use Rattle.ttx_check.specs.Counting.{times_in};
-ghost use Rattle.ttx_check.specs.Warnings.{repeated};
+ghost use Rattle.ttx_check.specs.Warnings.{times_among};
 
 use std::alloc::{AllocError, Global};
 use std::collections::BTreeMap;
@@ -10,7 +10,7 @@ use std::collections::BTreeMap;
 /// How often each place stands in the list.
 #[tactic(auto, using(std::proofs::lemmas::Grind::common_steps))]
 pub fn tally(alloc: Global, places: &[usize]) -> Result<BTreeMap<usize, usize>, AllocError>
-    ensures { IfOk result (λ counts. (q : ℕ) → times_in counts q ≡ repeated places.now q) }
+    ensures { IfOk result (λ counts. (q : ℕ) → times_in counts q ≡ times_among places.now q) }
 {
     let mut counts: BTreeMap<usize, usize> = BTreeMap::new(alloc);
     for place in places {

@@ -1,7 +1,7 @@
 //! A magazine with more than half of all packets.
 
 ghost use Rattle.std.specs.Prelude.{◌≡◌, ◌<◌, ◌^◌, ◌++◌, OnOk};
-ghost use Rattle.ttx_check.specs.Entries.{packets_in, traffic, all_traffic};
+ghost use Rattle.ttx_check.specs.Entries.{packets_of_magazine, traffic, all_traffic};
 ghost use Rattle.ttx_check.specs.Warnings.{is_most, most_to, serial_warnings};
 
 use crate::entries::Entry;
@@ -9,8 +9,8 @@ use crate::rows::push_if;
 use crate::warning::Warning;
 use std::alloc::AllocError;
 
-fn packets_in(mag: u8, entry: &Entry) -> u32
-    ensures { result ≡ packets_in mag entry.now }
+fn packets_of_magazine(mag: u8, entry: &Entry) -> u32
+    ensures { result ≡ packets_of_magazine mag entry.now }
 {
     if entry.id.mag() == mag {
         entry.packets
@@ -26,7 +26,7 @@ fn traffic(mag: u8, entries: &[Entry]) -> u128
 {
     let mut sum: u128 = 0;
     for entry in entries {
-        sum += u128::from(packets_in(mag, entry));
+        sum += u128::from(packets_of_magazine(mag, entry));
     }
     sum
 }

@@ -53,15 +53,15 @@ fn is_any(names: &[&str], key: &str) -> bool
 }
 
 // Whether a key is among these names.
-fn is_among(names: &[&str], key: &str) -> bool
-    ensures { result ≡ rule.is_among (map (λ n. n.now) names.now) key.now }
+fn is_one_of(names: &[&str], key: &str) -> bool
+    ensures { result ≡ rule.is_one_of (map (λ n. n.now) names.now) key.now }
 {
     is_any(names, key)
 }
 
 // Whether a key is at most so many edits away from a name.
-fn is_near(alloc: Global, most: usize, key: &str, name: &str) -> Result<bool, AllocError>
-    ensures { IfOk result (λ b. b ≡ rule.is_near most key.now name.now) }
+fn is_near_name(alloc: Global, most: usize, key: &str, name: &str) -> Result<bool, AllocError>
+    ensures { IfOk result (λ b. b ≡ rule.is_near_name most key.now name.now) }
 {
     Ok(levenshtein(alloc, key, name)? <= most)
 }
@@ -73,10 +73,10 @@ fn first_near<'a>(
     key: &str,
     names: &[&'a str],
 ) -> Result<Option<&'a str>, AllocError>
-    ensures { IfOk result (λ name. option_map (λ n. n.now) name ≡ find (rule.is_near most key.now) (map (λ n. n.now) names.now)) }
+    ensures { IfOk result (λ name. option_map (λ n. n.now) name ≡ find (rule.is_near_name most key.now) (map (λ n. n.now) names.now)) }
 {
     for name in names {
-        if is_near(alloc, most, key, *name)? {
+        if is_near_name(alloc, most, key, *name)? {
             return Ok(Some(*name));
         }
     }
@@ -99,8 +99,8 @@ fn meant<'a>(alloc: Global, key: &str, names: &[&'a str]) -> Result<Option<&'a s
 }
 
 // A byte of a key as it is shown.
-fn shown(code: u8) -> char
-    ensures { result ≡ rule.shown code }
+fn visible_code(code: u8) -> char
+    ensures { result ≡ rule.visible_code code }
 {
     if 33 <= code && code <= 126 {
         char::from(code)
@@ -111,10 +111,10 @@ fn shown(code: u8) -> char
 
 // Adds a key as it is shown.
 fn push_shown(text: &mut String, key: &str) -> Result<(), AllocError>
-    ensures { OnOk result (string_bytes text.new ≡ string_bytes text.old ++ map rule.shown key.now) }
+    ensures { OnOk result (string_bytes text.new ≡ string_bytes text.old ++ map rule.visible_code key.now) }
 {
     for code in key.as_bytes() {
-        text.push(shown(*code))?;
+        text.push(visible_code(*code))?;
     }
     Ok(())
 }
@@ -164,7 +164,7 @@ fn push_key(
 ) -> Result<(), AllocError>
     ensures { OnOk result (string_bytes text.new ≡ string_bytes text.old ++ rule.key_text place.now (map (λ n. n.now) names.now) key.now) }
 {
-    if is_among(names, key) {
+    if is_one_of(names, key) {
         return Ok(());
     }
     push_key_line(alloc, text, place, names, key)
@@ -270,7 +270,7 @@ fn push_pages(
     pages: &[Page],
 ) -> Result<(), AllocError>
     ensures { OnOk result (string_bytes text.new
-        ≡ string_bytes text.old ++ rule.page_lines (option_map (λ v. view v.now) value.entry) (map page_of pages.now)) }
+        ≡ string_bytes text.old ++ rule.page_key_lines (option_map (λ v. view v.now) value.entry) (map page_of pages.now)) }
 {
     let Some(value) = value else {
         return Ok(());

@@ -2,12 +2,31 @@
 
 ghost use Rattle.std.specs.Prelude.{◌≡◌, ◌++◌, ◌∷◌, [], OnOk, codes, string_bytes};
 ghost use Rattle.std.specs.Fmt.{decimal};
-ghost use Rattle.ttx_check.specs.WarningLines.{page_text, row_text, link_text, itself_text, magazine_text, warning_text, warning_line, warning_lines};
+ghost use Rattle.ttx_check.specs.WarningLines.{page_text, row_text, dead_link_text, itself_text, magazine_text, warning_text, warning_line, warning_lines};
 
 use crate::warning::Warning;
 use std::alloc::AllocError;
 use ttx_certificate::push_id;
 use ttx_header::PageId;
+
+// What is said of warnings, after their places.
+const DEAD_INITIAL: &str = "info initial: the service has no such page";
+
+const HIDDEN_ROW: &str = ": double height in the row above hides it";
+
+const UNSHOWN_ROW: &str = " row 24: it is shown only with row24 = true";
+
+const STRAY_TAB: &str = ": code 09 does nothing before a flash: is it a tab?";
+
+const STRAY_BREAK: &str = ": code 0A does nothing before a box: is it a line break?";
+
+const NO_BOX: &str = ": a newsflash or subtitle without a box shows nothing";
+
+const BEHIND_SUBPAGE: &str =
+    ": sent directly behind another subpage, which receivers that show late then miss, but for plan --late";
+
+const MOST_TRAFFIC: &str =
+    ": it has more than half of all packets: serial = false would shorten the wait";
 
 // Adds the place of a page.
 pub(crate) fn push_place(text: &mut String, page: PageId) -> Result<(), AllocError>
@@ -35,9 +54,9 @@ fn push_page(text: &mut String, page: PageId, says: &str) -> Result<(), AllocErr
     text.push_str(says)
 }
 
-#[tactic(auto, unfolding(crate::specs::WarningLines::link_text))]
+#[tactic(auto, unfolding(crate::specs::WarningLines::dead_link_text))]
 fn push_link(text: &mut String, page: PageId, link: usize) -> Result<(), AllocError>
-    ensures { OnOk result (string_bytes text.new ≡ string_bytes text.old ++ link_text page link) }
+    ensures { OnOk result (string_bytes text.new ≡ string_bytes text.old ++ dead_link_text page link) }
 {
     push_place(text, page)?;
     write!(text, " link {link}: the service has no such page")
@@ -66,47 +85,16 @@ fn push_text(text: &mut String, warning: Warning) -> Result<(), AllocError>
     ensures { OnOk result (string_bytes text.new ≡ string_bytes text.old ++ warning_text warning) }
 {
     match warning {
-        Warning::DeadInitial => text.push_str("info initial: the service has no such page"),
+        Warning::DeadInitial => text.push_str(DEAD_INITIAL),
         Warning::DeadLink { page, link } => push_link(text, page, link),
-        Warning::HiddenRow { page, row } => push_row(
-            text,
-            page,
-            row,
-            ": double height in the row above hides it",
-        ),
-        Warning::UnshownRow { page } => push_page(
-            text,
-            page,
-            " row 24: it is shown only with row24 = true",
-        ),
-        Warning::StrayTab { page, row } => push_row(
-            text,
-            page,
-            row,
-            ": code 09 does nothing before a flash: is it a tab?",
-        ),
-        Warning::StrayBreak { page, row } => push_row(
-            text,
-            page,
-            row,
-            ": code 0A does nothing before a box: is it a line break?",
-        ),
-        Warning::NoBox { page } => push_page(
-            text,
-            page,
-            ": a newsflash or subtitle without a box shows nothing",
-        ),
-        Warning::BehindSubpage { page } => push_page(
-            text,
-            page,
-            ": sent directly behind another subpage, which receivers that show late then miss, but for plan --late",
-        ),
+        Warning::HiddenRow { page, row } => push_row(text, page, row, HIDDEN_ROW),
+        Warning::UnshownRow { page } => push_page(text, page, UNSHOWN_ROW),
+        Warning::StrayTab { page, row } => push_row(text, page, row, STRAY_TAB),
+        Warning::StrayBreak { page, row } => push_row(text, page, row, STRAY_BREAK),
+        Warning::NoBox { page } => push_page(text, page, NO_BOX),
+        Warning::BehindSubpage { page } => push_page(text, page, BEHIND_SUBPAGE),
         Warning::BehindItself { page, times } => push_itself(text, page, times),
-        Warning::MostTraffic { mag } => push_magazine(
-            text,
-            mag,
-            ": it has more than half of all packets: serial = false would shorten the wait",
-        ),
+        Warning::MostTraffic { mag } => push_magazine(text, mag, MOST_TRAFFIC),
     }
 }
 

@@ -1,10 +1,9 @@
 -- A slot that doesn't concern a receiver's magazine is to it as an empty one.
-use Rattle.std.proofs.Common.{◌≡◌, ℕ, Bool, true, false, ◌&&◌, if◌then◌else◌, not, ◌==◌, List, replicate, refl, sym, ap, ◌∙◌, ne_eqb}
+use Rattle.std.proofs.Common.{◌≡◌, ℕ, Bool, true, false, ◌&&◌, if◌then◌else◌, not, ◌==◌, replicate, refl, sym, ap, ◌∙◌, ne_eqb}
 use Rattle.ttx_header.specs.Control.{c11}
-use Rattle.ttx_packet.specs.Slots.{kind_of, IsEmpty}
-use Rattle.ttx_packet.specs.Laws.{EmptySlotsAreEmpty}
+use Rattle.ttx_packet.specs.Slots.{kind_of}
 use Rattle.ttx_page.specs.Packets.{Packet, Empty, Unreadable, Header, Row, Links, Info, Other, packet_of}
-use Rattle.ttx_page.specs.Pages.{matches, selected_mag}
+use Rattle.ttx_page.specs.Pages.{selected_mag}
 use Rattle.ttx_page.specs.declared.selection.Selection.{Selection}
 use Rattle.ttx_page.specs.declared.selection.Selection.TheVariants.{Exact, AnySub}
 use Rattle.ttx_page.specs.declared.class.Class.TheVariants.{Any}
@@ -13,7 +12,6 @@ use Rattle.ttx_page.specs.Receivers.{after, with_storing, begun, erased, erases,
 use Rattle.ttx_page.specs.Streams.{heads_matched}
 use Rattle.ttx_counter.specs.Magazines.{magazine_in}
 use Rattle.ttx_counter.specs.Sources.{is_of, takes}
-use Rattle.ttx_counter.proofs.Taking.{packet_from}
 
 -- a header of another magazine isn't matched
 unmatched : (sel : Selection) (packet : Packet) → (magazine_in packet ≡ selected_mag sel → ⊥) → heads_matched sel packet ≡ false

@@ -1,20 +1,20 @@
 -- The numbers of a counter-run's text say the counter-run.
-use Rattle.std.proofs.Common.{◌≡◌, ℕ, zero, suc, ◌+◌, ◌-◌, ◌*◌, ◌/◌, ◌%◌, ◌^◌, ◌<◌, ◌≤◌, Bool, true, false, not, ◌&&◌, ◌==◌, nat_le, nat_lt, List, [], ◌∷◌, ◌++◌, length, map, take, drop, get_or, Option, Some, None, Ok, Err, if◌then◌else◌, refl, sym, ap, ◌∙◌, subst, arith, append_assoc, eqb-true, eq-eqb}
+use Rattle.std.proofs.Common.{◌≡◌, ℕ, suc, ◌*◌, ◌/◌, ◌%◌, ◌<◌, Bool, true, false, not, ◌&&◌, ◌==◌, nat_le, nat_lt, List, [], ◌∷◌, ◌++◌, length, map, take, drop, get_or, Option, Some, None, Ok, Err, refl, sym, ap, ◌∙◌, subst, arith, append_assoc}
 use Rattle.std.specs.Prelude.{All, slice_index}
 use Rattle.std.specs.Str.{bytes_eq}
 use Rattle.std.proofs.Math.Seq.{take-append_seam, drop-append_seam}
 use Rattle.std.proofs.lemmas.Bool.Decides.{nat_tests}
 use Rattle.std.proofs.lemmas.List.{length-append}
 use Rattle.std.proofs.lemmas.Slice.Eq.{bytes_eq-Decides}
-use Rattle.ttx_header.specs.Ids.{Id, id_at, IsId, is_time_filling}
+use Rattle.ttx_header.specs.Ids.{Id, id_at}
 use Rattle.ttx_links.specs.Sets.{IsTarget, IsLink, AreLinks}
 use Rattle.ttx_page.specs.Pages.{IsRow}
-use Rattle.ttx_page.specs.Memories.{Memory, IsMemory, memory_at}
+use Rattle.ttx_page.specs.Memories.{Memory, memory_at}
 use Rattle.ttx_counter.specs.Counters.{Hit, CounterRun}
 use Rattle.ttx_counter.specs.CounterTexts.{bit, bits, link_numbers, links_numbers, hits_numbers, counter_text}
-use Rattle.ttx_counter.specs.CounterReading.{at_most, is_one, characters_in, rows_in, is_target, link_of, links_in, hit_of, hits_in, memory_in, choices_in, hits_after, numbers_behind, counter_in, numbers_in, judged, read_text, IsHitFields, IsCounterFields, AcceptedTextsAreWritten, WrittenTextsAreRead}
+use Rattle.ttx_counter.specs.CounterReading.{at_most, is_one, characters_in, rows_in, is_target, link_of, links_in, hit_of, hits_in, memory_in, choices_in, hits_after, numbers_behind, counter_in, numbers_in, judged, IsHitFields, IsCounterFields, AcceptedTextsAreWritten, WrittenTextsAreRead}
 use Rattle.ttx_counter.proofs.Between.{if_ind}
-use Rattle.ttx_counter.proofs.ReadNumbers.{AreSmall, EachSmall, AreAllSmall, joined, numbers_of, whole, if_true}
+use Rattle.ttx_counter.proofs.ReadNumbers.{AreSmall, EachSmall, joined, numbers_of, whole, if_true}
 
 one : (b : Bool) → is_one (bit b) ≡ b
 one true = refl

@@ -1,5 +1,5 @@
 -- The memory after a counter-run.
-use Rattle.std.proofs.Common.{◌≡◌, ℕ, ◌<◌, ◌≤◌, pos, ◌+ℤ◌, List, [], length, get_or, map, Some, Result, Ok, Err, IfOk, sym, ap, ◌∙◌}
+use Rattle.std.proofs.Common.{◌≡◌, ℕ, ◌<◌, pos, ◌+ℤ◌, List, [], length, get_or, map, Some, ap, ◌∙◌}
 use Rattle.std.specs.Prelude.{IsPermutation, slice_get}
 use Rattle.ttx_cycle.specs.Files.{IsCycle}
 use Rattle.ttx_page.specs.Pages.{Page}

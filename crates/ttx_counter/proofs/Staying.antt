@@ -1,5 +1,5 @@
 -- A page that is sent unchanged stays in the View of a receiver that holds it at first.
-use Rattle.std.proofs.Common.{◌≡◌, ℕ, ℤ, Bool, true, false, ◌&&◌, [], refl, sym, ap, subst, eq-eqb}
+use Rattle.std.proofs.Common.{◌≡◌, Bool, true, false, ◌&&◌, [], refl, sym, subst, eq-eqb}
 use Rattle.ttx_page.specs.Packets.{packet_of}
 use Rattle.ttx_page.specs.Pages.{Page, Fits, matches}
 use Rattle.std.specs.Prelude.{List}
@@ -8,7 +8,7 @@ use Rattle.ttx_page.specs.declared.selection.Selection.TheVariants.{Exact, AnySu
 use Rattle.ttx_page.specs.declared.class.Class.TheVariants.{Any}
 use Rattle.ttx_page.specs.Memories.{memory_of_page}
 use Rattle.ttx_page.specs.Receivers.{Run}
-use Rattle.ttx_page.specs.Streams.{Stream, heads_page, heads_matched}
+use Rattle.ttx_page.specs.Streams.{Stream, heads_matched}
 use Rattle.ttx_page.specs.Steady.{SendsItsOwn}
 use Rattle.ttx_page.specs.Laws.{sent_from, PageIsShown, ScriptedRuns, SteadySendsItsOwn}
 use Rattle.ttx_receiver.specs.Staying.{SendsOnly, ShownStaysShown}

@@ -1,12 +1,10 @@
 -- Where no bit is hit, the rule of k is kept.
-use Rattle.std.proofs.Common.{◌≡◌, ℕ, ◌+◌, ◌<◌, ◌≤◌, ℤ, pos, ◌+ℤ◌, ◌-ℤ◌, ◌<ℤ◌, ◌≤ℤ◌, false, List, [], ◌∷◌, length, nat_abs, refl, inl, arith}
-use Rattle.std.specs.List.{AllByRecursion}
+use Rattle.std.proofs.Common.{◌≡◌, ℕ, ◌≤◌, ℤ, pos, ◌-ℤ◌, false, List, [], ◌∷◌, length, nat_abs, refl, inl, arith}
 use Rattle.std.proofs.lemmas.Int.{ints}
 use Rattle.ttx_header.specs.Ids.{Id}
 use Rattle.ttx_page.specs.Streams.{Stream}
-use Rattle.ttx_page.specs.Receptions.{OneIs}
 use Rattle.ttx_counter.specs.Keys.{is_hit}
-use Rattle.ttx_counter.specs.Streaks.{IsInside, IsAmong, IsRightAmong}
+use Rattle.ttx_counter.specs.Streaks.{IsInside, IsRightAmong}
 use Rattle.ttx_counter.specs.Rule.{KeepsRule}
 
 none : (x n : ℕ) → is_hit [] x n ≡ false

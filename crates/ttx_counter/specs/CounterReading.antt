@@ -11,7 +11,7 @@
 use Rattle.std.specs.Prelude.{◌≡◌, ℕ, zero, suc, ◌+◌, ◌-◌, ◌*◌, ◌/◌, ◌%◌, ◌^◌, ◌<◌, min, Bool, not, ◌&&◌, ◌==◌, nat_le, nat_lt, List, [], ◌∷◌, All, map, take, drop, length, slice_index, Option, Some, None, Result, Ok, Err, if◌then◌else◌}
 use Rattle.std.specs.Str.{bytes_eq}
 use Rattle.ttx_header.specs.Ids.{Id, id_at}
-use Rattle.ttx_links.specs.Sets.{IsLink, AreLinks}
+use Rattle.ttx_links.specs.Sets.{AreLinks}
 use Rattle.ttx_page.specs.Memories.{Memory, IsMemory, memory_at}
 use Rattle.ttx_counter.specs.Counters.{Hit, CounterRun}
 use Rattle.ttx_counter.specs.CounterTexts.{counter_text}

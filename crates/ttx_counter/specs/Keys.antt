@@ -4,13 +4,12 @@
 --   slot_in, byte_in, bit_in, place_in      the parts of such a number; slot and byte together
 --   key_at                  the number at a place of a list
 --   AreApart                no byte is hit twice
---   AreKeys                 the sorted numbers of hits
 --   AreSlotKeys             the numbers of one slot: those from one place to below another
+--   AreOfOtherBytes         no byte is hit twice by those from one place to below another
 --   AreFlipped              a slot with those bits flipped
 --   is_hit                  whether a byte of a slot is hit
-use Rattle.std.specs.Prelude.{◌≡◌, ℕ, ◌+◌, ◌*◌, ◌/◌, ◌%◌, ◌<◌, ◌≤◌, Bool, ◌==◌, List, length, map, slice_index, IsPermutation}
+use Rattle.std.specs.Prelude.{◌≡◌, ℕ, ◌+◌, ◌*◌, ◌/◌, ◌%◌, ◌<◌, ◌≤◌, Bool, ◌==◌, List, length, slice_index}
 use Rattle.std.specs.List.{list_any}
-use Rattle.std.specs.List.Sorted.{IsNonDecreasing}
 use Rattle.ttx_counter.specs.Counters.{Hit, flipped}
 
 abbrev pub key_of : Hit → ℕ
@@ -41,18 +40,16 @@ pub record IsKey (key : ℕ) : Type 0 where
   pub some : 1 ≤ bit_in key
   pub bit : bit_in key ≤ 8
 
-pub record AreKeys (hits : List Hit) (keys : List ℕ) : Type 0 where
-  pub same : IsPermutation (map key_of hits) keys
-  pub sorted : IsNonDecreasing keys
-  pub apart : AreApart keys
-  pub each : (i : ℕ) → i < length keys → IsKey (key_at keys i)
-
 -- those from place `from` to below `to` are the slot's; and so is none after them
 pub record AreSlotKeys (keys : List ℕ) (n from to : ℕ) : Type 0 where
   pub up : from ≤ to
   pub within : to ≤ length keys
   pub own : (i : ℕ) → from ≤ i → i < to → slot_in (key_at keys i) ≡ n
   pub ended : to < length keys → slot_in (key_at keys to) ≡ n → ⊥
+
+-- of any two of those from place `from` to below `to` the bytes differ
+abbrev pub AreOfOtherBytes : List ℕ → ℕ → ℕ → Type 0
+AreOfOtherBytes keys from to = (i j : ℕ) → from ≤ i → i < j → j < to → byte_in (key_at keys i) ≡ byte_in (key_at keys j) → ⊥
 
 -- the bits in these places are flipped
 pub record AreFlipped (keys : List ℕ) (from to : ℕ) (sent received : List ℕ) : Type 0 where

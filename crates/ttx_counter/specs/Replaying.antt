@@ -8,7 +8,7 @@ use Rattle.ttx_page.specs.Pages.{Page}
 use Rattle.ttx_page.specs.declared.class.Class.TheVariants.{Any}
 use Rattle.ttx_page.specs.Memories.{Memory}
 use Rattle.ttx_page.specs.Receivers.{scripted}
-use Rattle.ttx_page.specs.Streams.{Stream, repeated}
+use Rattle.ttx_page.specs.Streams.{Stream}
 use Rattle.ttx_counter.specs.Counters.{CounterRun, IsCounterRun, selection_for}
 use Rattle.ttx_counter.specs.Hearing.{IsHitBy}
 

@@ -7,7 +7,7 @@ ghost use Rattle.ttx_cycle.specs.Cycles.{slots_of};
 ghost use Rattle.ttx_counter.specs.Keys.{key_at, AreApart, IsKey};
 ghost use Rattle.ttx_counter.specs.Hearing.{IsHeard};
 
-use crate::keys::{end_of, hit_slot};
+use crate::keys::{SlotKeys, end_of, hit_slot};
 use crate::listening::place;
 use ttx_cycle::Cycle;
 use ttx_receiver::{Receiver, Scripted};
@@ -33,7 +33,8 @@ pub fn hear(receiver: &mut Scripted<'_>, run: &Run<'_>)
     let mut from = 0;
     for i in 0..run.count {
         let to = end_of(keys, from, i);
-        let slot = hit_slot(&slots[place(run.start, i, slots.len())], keys, from, to);
+        let hits = SlotKeys { keys, from, to };
+        let slot = hit_slot(&slots[place(run.start, i, slots.len())], &hits);
         receiver.step(Some(&slot));
         from = to;
     }

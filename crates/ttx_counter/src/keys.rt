@@ -3,11 +3,19 @@
 ghost use Rattle.std.specs.Prelude.{◌≡◌, ℕ, ◌<◌, ◌≤◌, ◌↔◌, IsTrue, IfOk, length, map, IsPermutation};
 ghost use Rattle.std.specs.List.Sorted.{IsNonDecreasing};
 ghost use Rattle.ttx_counter.specs.Counters.{flipped};
-ghost use Rattle.ttx_counter.specs.Keys.{key_of, key_at, byte_in, bit_in, place_in, slot_in, AreApart, IsKey, AreSlotKeys, AreFlipped};
+ghost use Rattle.ttx_counter.specs.Keys.{key_of, key_at, byte_in, bit_in, place_in, slot_in, AreApart, IsKey, AreSlotKeys, AreFlipped, AreOfOtherBytes};
 
 use crate::counter::Hit;
 use std::alloc::Global;
 use ttx_witness::NoMemory;
+
+/// The hits of one slot: the keys from place `from` to below `to`.
+#[derive(Clone, Copy)]
+pub struct SlotKeys<'a> {
+    pub keys: &'a [u64],
+    pub from: usize,
+    pub to: usize,
+}
 
 // A hit as one number.
 fn key_of(hit: Hit) -> u64
@@ -88,16 +96,17 @@ fn bit_in(key: u64) -> u8
     (key % 256) as u8
 }
 
-/// The slot with the bits flipped of the keys from one place to below another.
-pub fn hit_slot(slot: &[u8; 42], keys: &[u64], from: usize, to: usize) -> [u8; 42]
-    requires up { from ≤ to }
-    requires within { to ≤ length keys.now }
-    requires keys { (i : ℕ) → i < length keys.now → IsKey (key_at keys.now i) }
-    requires apart { (i j : ℕ) → from ≤ i → i < j → j < to → byte_in (key_at keys.now i) ≡ byte_in (key_at keys.now j) → ⊥ }
-    ensures { AreFlipped keys.now from to slot.now result }
+/// The slot with the bits of its hits flipped.
+pub fn hit_slot(slot: &[u8; 42], hits: &SlotKeys<'_>) -> [u8; 42]
+    requires up { hits.now.from ≤ hits.now.to }
+    requires within { hits.now.to ≤ length hits.now.keys.now }
+    requires keys { (i : ℕ) → i < length hits.now.keys.now → IsKey (key_at hits.now.keys.now i) }
+    requires apart { AreOfOtherBytes hits.now.keys.now hits.now.from hits.now.to }
+    ensures { AreFlipped hits.now.keys.now hits.now.from hits.now.to slot.now result }
 {
+    let keys = hits.keys;
     let mut received = *slot;
-    for i in from..to {
+    for i in hits.from..hits.to {
         let x = byte_in(keys[i]);
         received[x] = flipped(received[x], bit_in(keys[i]));
     }

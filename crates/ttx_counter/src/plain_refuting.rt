@@ -22,23 +22,27 @@ use std::alloc::Global;
 use ttx_page::PageMemory;
 use ttx_witness::Certificate;
 
-/// A counter-run from slot 0 on without hits and choices, with the numbers of the certificate.
-pub fn plain_counter(
-    alloc: Global,
-    page: u32,
-    any_sub: bool,
-    former: PageMemory,
-    certificate: &Certificate,
-    slots: u32,
-) -> Counter
-    ensures { run_of result ≡ plain_counter page any_sub (memory_of former) (certificate_of certificate.now).lines (certificate_of certificate.now).repeat (certificate_of certificate.now).deadline slots }
+/// A run from slot 0 on without hits and choices: the place of its page in the list, whether any subpage is taken, what the receiver
+/// holds at first, and of how many slots.
+#[derive(Clone, Copy)]
+pub struct PlainRun {
+    pub page: u32,
+    pub any_sub: bool,
+    pub former: PageMemory,
+    pub slots: u32,
+}
+
+/// The counter-run that a plain run is, with the numbers of the certificate.
+pub fn plain_counter(alloc: Global, run: PlainRun, certificate: &Certificate) -> Counter
+    ensures { run_of result ≡ plain_counter run.page run.any_sub (memory_of run.former)
+        (certificate_of certificate.now).lines (certificate_of certificate.now).repeat (certificate_of certificate.now).deadline run.slots }
 {
     Counter {
-        page,
-        any_sub,
+        page: run.page,
+        any_sub: run.any_sub,
         start: 0,
-        slots,
-        former,
+        slots: run.slots,
+        former: run.former,
         choices: Vec::new(alloc),
         hits: Vec::new(alloc),
         lines: certificate.lines(),
@@ -82,7 +86,15 @@ pub fn refute_plainly(
         magazines: claim.magazines,
     };
     match plain_run(&sorted, page, selection, certificate.lines(), low) {
-        Some(slots) => Some(plain_counter(alloc, index, any_sub, former, certificate, slots)),
+        Some(slots) => {
+            let run = PlainRun {
+                page: index,
+                any_sub,
+                former,
+                slots,
+            };
+            Some(plain_counter(alloc, run, certificate))
+        }
         None => None,
     }
 }

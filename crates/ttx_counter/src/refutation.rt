@@ -27,9 +27,9 @@ use crate::claim::{Claim, Prepared, page_at};
 use crate::counter::Counter;
 use crate::former::wrong_memory_of;
 use crate::magazines::magazines_of;
-use crate::plain_refuting::{plain_counter, refute_plainly};
-use crate::starting::{limit, starving_start};
-use crate::starving::counter_for;
+use crate::plain_refuting::{PlainRun, plain_counter, refute_plainly};
+use crate::starting::{SentItem, limit, starving_start};
+use crate::starving::{StarvedPage, counter_for};
 use std::alloc::Global;
 use ttx_cycle::Cycle;
 use ttx_page::{Item, Page, needed};
@@ -50,8 +50,13 @@ fn absent_counter(alloc: Global, page: &Page, index: u32, certificate: &Certific
     ensures former { IsMemory (wrong_memory (page_of page.now) items.Links) }
 {
     ttx_page::laws::memories_keep_their_rules();
-    let former = wrong_memory_of(page, &Item::Links);
-    plain_counter(alloc, index, false, former, certificate, limit(certificate))
+    let run = PlainRun {
+        page: index,
+        any_sub: false,
+        former: wrong_memory_of(page, &Item::Links),
+        slots: limit(certificate),
+    };
+    plain_counter(alloc, run, certificate)
 }
 
 // The slot from which on a receiver is starved of the item, where a viewer sees it and there is one.
@@ -74,8 +79,8 @@ fn start_for(
     }
     let starts = prepared.found.starts(page.id(), *item);
     let sent = prepared.collected.sent(index as usize, *item);
-    let (cycle, certificate) = (claim.cycle, claim.certificate);
-    starving_start(alloc, cycle, page, certificate, starts, item, sent)
+    let sent_item = SentItem { item, starts, sent };
+    starving_start(alloc, claim.cycle, page, claim.certificate, &sent_item)
 }
 
 // The counter-run of the page that is starved of the item from a slot on.
@@ -96,19 +101,13 @@ fn starved_counter(
     ttx_page::laws::pages_keep_their_rules();
     ttx_witness::certificate_laws::certificates_keep_their_rules();
     let page = page_at(claim.pages, index);
-    let (lines, repeat) = (claim.certificate.lines(), claim.certificate.repeat());
-    let deadline = claim.certificate.deadline();
-    counter_for(
-        alloc,
-        claim.cycle,
+    let starved = StarvedPage {
         index,
         page,
         item,
         start,
-        lines,
-        repeat,
-        deadline,
-    )
+    };
+    counter_for(alloc, claim.cycle, &starved, claim.certificate)
 }
 
 // A counter-run of a steady page of a clean cycle, by the first item that doesn't come in time.

@@ -9,7 +9,7 @@ ghost use Rattle.ttx_counter.specs.Keys.{key_at, AreApart, IsKey};
 ghost use Rattle.ttx_counter.specs.Rule.{KeepsRule};
 
 use crate::hearing::{Run, hear};
-use crate::keys::{end_of, hit_slot};
+use crate::keys::{SlotKeys, end_of, hit_slot};
 use crate::listening::{is_owned, place, row_sent};
 use crate::streaks::{no_streaks, note};
 use std::alloc::Global;
@@ -47,11 +47,12 @@ pub fn hear_within_rule(
     for i in 0..run.count {
         let slot = &slots[place(run.start, i, slots.len())];
         let to = end_of(keys, from, i);
+        let hits = SlotKeys { keys, from, to };
         let row = row_sent(page, slot, mine);
-        if !note(&mut streaks, row, i, keys, from, to, repeat) {
+        if !note(&mut streaks, row, i, &hits, repeat) {
             return Ok(false);
         }
-        receiver.step(Some(&hit_slot(slot, keys, from, to)));
+        receiver.step(Some(&hit_slot(slot, &hits)));
         mine = mine_after(page, slot, mine);
         from = to;
     }

@@ -73,27 +73,35 @@ fn after_owner(sent: &[Transmission], slot: u32, period: u32) -> u32
     }
 }
 
-/// The slot of the period from which on no sure run of the item comes in time, where there is one; `starts` are all its sure starts.
+/// An item of a page, with all its sure starts and all its transmissions.
+#[derive(Clone, Copy)]
+pub struct SentItem<'a> {
+    pub item: &'a Item,
+    pub starts: &'a [u32],
+    pub sent: &'a [Transmission],
+}
+
+/// The slot of the period from which on no sure run of the item comes in time, where there is one.
 pub fn starving_start(
     alloc: Global,
     cycle: &Cycle,
     page: &Page,
     certificate: &Certificate,
-    starts: &[u32],
-    item: &Item,
-    sent: &[Transmission],
+    sent_item: &SentItem<'_>,
 ) -> Result<Option<u32>, NoMemory>
-    requires rising { Rising starts.now }
-    requires named { (start : ℕ) → Contains starts.now start ↔ IsSureStart (slots_of cycle.now) (page_of page.now).id (certificate_of certificate.now).lines (certificate_of certificate.now).repeat item.now start }
-    requires sent { sent.now ≡ sent_in (slots_of cycle.now) (page_of page.now).id (certificate_of certificate.now).lines item.now }
-    requires within { AllByRecursion (IsWithin 65536) sent.now }
-    ensures { IfOk result (TellsStart (slots_of cycle.now) (page_of page.now) (certificate_of certificate.now) item.now) }
+    requires rising { Rising sent_item.now.starts.now }
+    requires named { (start : ℕ) → Contains sent_item.now.starts.now start ↔
+        IsSureStart (slots_of cycle.now) (page_of page.now).id (certificate_of certificate.now).lines (certificate_of certificate.now).repeat sent_item.now.item.now start }
+    requires sent { sent_item.now.sent.now ≡ sent_in (slots_of cycle.now) (page_of page.now).id (certificate_of certificate.now).lines sent_item.now.item.now }
+    requires within { AllByRecursion (IsWithin 65536) sent_item.now.sent.now }
+    ensures { IfOk result (TellsStart (slots_of cycle.now) (page_of page.now) (certificate_of certificate.now) sent_item.now.item.now) }
 {
     crate::completeness::starts_are_judged();
     crate::completeness::fullest_names_all();
     ttx_witness::certificate_laws::certificates_keep_their_rules();
     ttx_witness::cycle_laws::further_starts_cover();
     ttx_witness::judging_laws::transmissions_are_listed();
+    let (item, starts, sent) = (sent_item.item, sent_item.starts, sent_item.sent);
     if starts.is_empty() {
         return Ok(Some(0));
     }

@@ -5,17 +5,19 @@ ghost use Rattle.ttx_page.specs.Streams.{repeated};
 ghost use Rattle.ttx_page.specs.Views.{page_of, memory_of};
 ghost use Rattle.ttx_receiver.specs.Starving.{starved_hits, starved_choices};
 ghost use Rattle.ttx_cycle.specs.Cycles.{slots_of};
+ghost use Rattle.ttx_witness.specs.Certificates.{certificate_of};
 ghost use Rattle.ttx_counter.specs.Counters.{run_of};
 ghost use Rattle.ttx_counter.specs.StarvingRuns.{hit_at, starving_run};
 
 use crate::counter::{Counter, Hit};
 use crate::former::wrong_memory_of;
 use crate::listening::place;
+use crate::starting::limit;
 use std::alloc::Global;
 use ttx_cycle::Cycle;
 use ttx_page::{Item, Page, PageMemory, Selection};
 use ttx_receiver::starving::{first_byte_of, starve};
-use ttx_witness::NoMemory;
+use ttx_witness::{Certificate, NoMemory};
 
 /// The choices that are taken, and the bits that are received wrong.
 #[derive(Drop)]
@@ -49,65 +51,83 @@ fn keep_hit(hits: &mut Vec<Hit>, hit: bool, index: u32, byte: u8) -> Result<(), 
     Ok(())
 }
 
-/// The choices and hits of a receiver that is starved of the item over so many slots from slot `start` on.
+/// A receiver that is starved of an item: what it is set to, the lines of a field, the item, and what it holds at first.
+#[derive(Clone, Copy)]
+pub struct StarvedReceiver<'a> {
+    pub selection: Selection,
+    pub lines: u8,
+    pub item: &'a Item,
+    pub former: PageMemory,
+}
+
+/// The choices and hits of a starved receiver over so many slots from slot `start` on.
 pub fn starve_over(
     alloc: Global,
     cycle: &Cycle,
-    selection: &Selection,
-    item: &Item,
-    former: PageMemory,
+    receiver: &StarvedReceiver<'_>,
     start: u32,
-    lines: u8,
     slots: u32,
 ) -> Result<Starved, NoMemory>
-    requires { lines ≤ 32 }
-    ensures hits { IfOk result (λ r. r.hits.items ≡ map (hit_at item.now) (starved_hits lines selection.now item.now (repeated (slots_of cycle.now)) (pos start) (memory_of former) slots)) }
-    ensures choices { IfOk result (λ r. r.choices.items ≡ starved_choices lines selection.now item.now (repeated (slots_of cycle.now)) (pos start) (memory_of former) slots) }
+    requires { receiver.now.lines ≤ 32 }
+    ensures hits { IfOk result (λ r. r.hits.items ≡ map (hit_at receiver.now.item.now) (starved_hits receiver.now.lines receiver.now.selection receiver.now.item.now
+        (repeated (slots_of cycle.now)) (pos start) (memory_of receiver.now.former) slots)) }
+    ensures choices { IfOk result (λ r. r.choices.items ≡ starved_choices receiver.now.lines receiver.now.selection receiver.now.item.now
+        (repeated (slots_of cycle.now)) (pos start) (memory_of receiver.now.former) slots) }
 {
-    let mut memory = former;
+    let mut memory = receiver.former;
     let mut choices = Vec::new(alloc);
     let mut hits = Vec::new(alloc);
     let list = cycle.slots();
+    let item = receiver.item;
     let byte = first_byte_of(item);
     for i in 0..slots {
         let slot = &list[place(start, i, list.len())];
-        let step = starve(&mut memory, lines, selection, item, slot);
+        let step = starve(&mut memory, receiver.lines, &receiver.selection, item, slot);
         keep_hit(&mut hits, step.0, i, byte)?;
         keep_choice(&mut choices, step.1)?;
     }
     Ok(Starved { choices, hits })
 }
 
-/// The counter-run of a page that is starved of the item from slot `start` on.
+/// A page that is starved of an item: its place in the list, the item, and the slot from which on.
+#[derive(Clone, Copy)]
+pub struct StarvedPage<'a> {
+    pub index: u32,
+    pub page: &'a Page,
+    pub item: &'a Item,
+    pub start: u32,
+}
+
+/// The counter-run of a starved page, with the numbers of the certificate.
 pub fn counter_for(
     alloc: Global,
     cycle: &Cycle,
-    index: u32,
-    page: &Page,
-    item: &Item,
-    start: u32,
-    lines: u8,
-    repeat: u8,
-    deadline: u32,
+    starved: &StarvedPage<'_>,
+    certificate: &Certificate,
 ) -> Result<Counter, NoMemory>
-    requires lines { lines ≤ 32 }
-    requires deadline { deadline ≤ 1000000 }
-    ensures { IfOk result (λ c. run_of c ≡ starving_run (slots_of cycle.now) index (page_of page.now) item.now start lines repeat deadline) }
+    ensures { IfOk result (λ c. run_of c ≡ starving_run (slots_of cycle.now) starved.now.index (page_of starved.now.page.now) starved.now.item.now starved.now.start
+        (certificate_of certificate.now).lines (certificate_of certificate.now).repeat (certificate_of certificate.now).deadline) }
 {
-    let selection = Selection::Exact(page.id());
-    let slots = deadline * u32::from(lines);
-    let former = wrong_memory_of(page, item);
-    let starved = starve_over(alloc, cycle, &selection, item, former, start, lines, slots)?;
+    ttx_witness::certificate_laws::certificates_keep_their_rules();
+    let (page, item) = (starved.page, starved.item);
+    let receiver = StarvedReceiver {
+        selection: Selection::Exact(page.id()),
+        lines: certificate.lines(),
+        item,
+        former: wrong_memory_of(page, item),
+    };
+    let slots = limit(certificate);
+    let run = starve_over(alloc, cycle, &receiver, starved.start, slots)?;
     Ok(Counter {
-        page: index,
+        page: starved.index,
         any_sub: false,
-        start,
+        start: starved.start,
         slots,
         former: wrong_memory_of(page, item),
-        choices: starved.choices,
-        hits: starved.hits,
-        lines,
-        repeat,
-        deadline,
+        choices: run.choices,
+        hits: run.hits,
+        lines: certificate.lines(),
+        repeat: certificate.repeat(),
+        deadline: certificate.deadline(),
     })
 }

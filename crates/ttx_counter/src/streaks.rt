@@ -1,10 +1,10 @@
 //! How often in a row each text byte of a page has been received wrong.
 
 ghost use Rattle.std.specs.Prelude.{◌≡◌, ℕ, ◌+◌, ◌<◌, ◌≤◌, ◌^◌, Bool, true, false, IsTrue, MatchOption, ⊤, List, length, slice_index, slice_index_or, IfOk};
-ghost use Rattle.ttx_counter.specs.Keys.{key_at, byte_in, IsKey};
+ghost use Rattle.ttx_counter.specs.Keys.{key_at, byte_in, IsKey, AreOfOtherBytes};
 ghost use Rattle.ttx_counter.specs.Cells.{is_text, running, streak_of, AreCounted, IsOver, Tells, AreStreaks, Noted};
 
-use crate::keys::byte_in;
+use crate::keys::{SlotKeys, byte_in};
 use std::alloc::Global;
 use ttx_witness::NoMemory;
 
@@ -20,6 +20,14 @@ pub struct Streak {
 pub struct Streaks {
     pub latest: Vec<u32>,
     pub cells: Vec<Streak>,
+}
+
+// A transmission of a row: the slots up to the row's latest one before it, and up to itself.
+#[derive(Clone, Copy)]
+struct RowTransmission {
+    row: usize,
+    latest: u32,
+    now: u32,
 }
 
 // Whether the byte is one of the row's text.
@@ -43,35 +51,32 @@ fn running(latest: u32, cell: Streak) -> u32
 // Counts the wrong bytes of one transmission of a row. False where a streak has reached `repeat`.
 fn count_hits(
     cells: &mut Vec<Streak>,
-    row: usize,
-    latest: u32,
-    now: u32,
-    keys: &[u64],
-    from: usize,
-    to: usize,
+    sent: RowTransmission,
+    hits: &SlotKeys<'_>,
     repeat: u8,
 ) -> bool
-    requires row { row < 25 }
+    requires row { sent.row < 25 }
     requires places { length cells.old.items ≡ 1050 }
     requires some { 1 ≤ repeat }
-    requires up { from ≤ to }
-    requires within { to ≤ length keys.now }
-    requires keys { (i : ℕ) → i < length keys.now → IsKey (key_at keys.now i) }
-    requires apart { (i j : ℕ) → from ≤ i → i < j → j < to → byte_in (key_at keys.now i) ≡ byte_in (key_at keys.now j) → ⊥ }
+    requires up { hits.now.from ≤ hits.now.to }
+    requires within { hits.now.to ≤ length hits.now.keys.now }
+    requires keys { (i : ℕ) → i < length hits.now.keys.now → IsKey (key_at hits.now.keys.now i) }
+    requires apart { AreOfOtherBytes hits.now.keys.now hits.now.from hits.now.to }
     ensures places { length cells.new.items ≡ 1050 }
-    ensures counted { result ≡ true → AreCounted row latest now repeat keys.now from to cells.old.items cells.new.items }
-    ensures over { result ≡ false → IsOver row latest repeat keys.now from to cells.old.items }
+    ensures counted { result ≡ true → AreCounted sent.row sent.latest sent.now repeat hits.now.keys.now hits.now.from hits.now.to cells.old.items cells.new.items }
+    ensures over { result ≡ false → IsOver sent.row sent.latest repeat hits.now.keys.now hits.now.from hits.now.to cells.old.items }
 {
-    for i in from..to {
+    let keys = hits.keys;
+    for i in hits.from..hits.to {
         let x = byte_in(keys[i]);
-        if is_text(row, x) {
-            let at = 42 * row + x;
-            let count = running(latest, cells[at]);
+        if is_text(sent.row, x) {
+            let at = 42 * sent.row + x;
+            let count = running(sent.latest, cells[at]);
             if count >= u32::from(repeat) - 1 {
                 return false;
             }
             cells[at] = Streak {
-                last: now,
+                last: sent.now,
                 count: count + 1,
             };
         }
@@ -80,27 +85,19 @@ fn count_hits(
 }
 
 /// Notes slot n: the row that it sends, if any, and its wrong bytes. False where a streak has reached `repeat`.
-pub fn note(
-    streaks: &mut Streaks,
-    row: Option<u8>,
-    n: u32,
-    keys: &[u64],
-    from: usize,
-    to: usize,
-    repeat: u8,
-) -> bool
+pub fn note(streaks: &mut Streaks, row: Option<u8>, n: u32, hits: &SlotKeys<'_>, repeat: u8) -> bool
     requires row { MatchOption row ⊤ (λ r. r < 25) }
     requires rows { length streaks.old.latest.items ≡ 25 }
     requires places { length streaks.old.cells.items ≡ 1050 }
     requires small { n + 1 < 2 ^ 32 }
     requires some { 1 ≤ repeat }
-    requires up { from ≤ to }
-    requires within { to ≤ length keys.now }
-    requires keys { (i : ℕ) → i < length keys.now → IsKey (key_at keys.now i) }
-    requires apart { (i j : ℕ) → from ≤ i → i < j → j < to → byte_in (key_at keys.now i) ≡ byte_in (key_at keys.now j) → ⊥ }
+    requires up { hits.now.from ≤ hits.now.to }
+    requires within { hits.now.to ≤ length hits.now.keys.now }
+    requires keys { (i : ℕ) → i < length hits.now.keys.now → IsKey (key_at hits.now.keys.now i) }
+    requires apart { AreOfOtherBytes hits.now.keys.now hits.now.from hits.now.to }
     ensures rows { length streaks.new.latest.items ≡ 25 }
     ensures places { length streaks.new.cells.items ≡ 1050 }
-    ensures noted { (sent wrong : ℕ → ℕ → Bool) → AreStreaks sent wrong repeat n streaks.old.latest.items streaks.old.cells.items → Tells sent wrong row keys.now from to n → Noted result sent wrong repeat (n + 1) streaks.new.latest.items streaks.new.cells.items }
+    ensures noted { (sent wrong : ℕ → ℕ → Bool) → AreStreaks sent wrong repeat n streaks.old.latest.items streaks.old.cells.items → Tells sent wrong row hits.now.keys.now hits.now.from hits.now.to n → Noted result sent wrong repeat (n + 1) streaks.new.latest.items streaks.new.cells.items }
 {
     let Some(row) = row else {
         return true;
@@ -108,16 +105,12 @@ pub fn note(
     let row = usize::from(row);
     let latest = streaks.latest[row];
     streaks.latest[row] = n + 1;
-    count_hits(
-        &mut streaks.cells,
+    let sent = RowTransmission {
         row,
         latest,
-        n + 1,
-        keys,
-        from,
-        to,
-        repeat,
-    )
+        now: n + 1,
+    };
+    count_hits(&mut streaks.cells, sent, hits, repeat)
 }
 
 // So many zeros.

@@ -4,11 +4,11 @@ use Rattle.std.specs.Option.{option_map}
 use Rattle.std.proofs.Math.Seq.{drop-cons}
 use Rattle.std.proofs.Math.ListN.{drop_of_length-le}
 use Rattle.ttx_info.specs.Infos.{InfoFields}
-use Rattle.ttx_extract.specs.Extracts.{info_in, first_info, or_else}
+use Rattle.ttx_extract.specs.Extracts.{slot_info, first_info, info_or}
 use Rattle.ttx_extract.specs.Telling.{TellsInfo}
 use Rattle.ttx_extract.specs.declared.infos.FoundInfo.{FoundInfo}
 
-first_of : (slot : List ℕ) (slots : List (List ℕ)) → first_info (slot ∷ slots) ≡ or_else (info_in slot) (first_info slots)
+first_of : (slot : List ℕ) (slots : List (List ℕ)) → first_info (slot ∷ slots) ≡ info_or (slot_info slot) (first_info slots)
 unfolding first_info
 first_of slot slots = refl
 
@@ -18,16 +18,16 @@ first_none = refl
 
 module _ (slots : List (List ℕ)) (i : ℕ) (e : first_info slots ≡ first_info (drop i slots)) where
   module _ (lt : i < length slots) where
-    here : first_info slots ≡ or_else (info_in (get_or slots i [])) (first_info (drop (suc i) slots))
+    here : first_info slots ≡ info_or (slot_info (get_or slots i [])) (first_info (drop (suc i) slots))
     here = e ∙ ap first_info (drop-cons slots i [] lt) ∙ first_of (get_or slots i []) (drop (suc i) slots)
 
-    pub found : (fields : InfoFields) → info_in (get_or slots i []) ≡ Some fields → first_info slots ≡ Some fields
-    found fields is = here ∙ ap (λ o. or_else o (first_info (drop (suc i) slots))) is
+    pub found : (fields : InfoFields) → slot_info (get_or slots i []) ≡ Some fields → first_info slots ≡ Some fields
+    found fields is = here ∙ ap (λ o. info_or o (first_info (drop (suc i) slots))) is
 
-    pub none_yet : info_in (get_or slots i []) ≡ None → first_info slots ≡ first_info (drop (i + 1) slots)
+    pub none_yet : slot_info (get_or slots i []) ≡ None → first_info slots ≡ first_info (drop (i + 1) slots)
     none_yet is =
         let one : suc i ≡ i + 1 = omega arith in
-        here ∙ ap (λ o. or_else o (first_info (drop (suc i) slots))) is ∙ ap (λ n. first_info (drop n slots)) one
+        here ∙ ap (λ o. info_or o (first_info (drop (suc i) slots))) is ∙ ap (λ n. first_info (drop n slots)) one
 
   pub none : length slots ≤ i → first_info slots ≡ None
   none past = e ∙ ap first_info (drop_of_length-le slots past) ∙ first_none

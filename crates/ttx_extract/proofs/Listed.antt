@@ -7,7 +7,7 @@ use Rattle.ttx_header.specs.Fields.{HeaderFields}
 use Rattle.ttx_page.specs.Packets.{Packet}
 use Rattle.ttx_witness.specs.sent.Collected.{Finds}
 use Rattle.ttx_witness.specs.faults.Comparing.{HoldsHeader}
-use Rattle.ttx_extract.specs.Extracts.{IsListed}
+use Rattle.ttx_extract.specs.Extracts.{IsOfPages}
 
 and_left : (a b : Bool) → (a && b) ≡ true → a ≡ true
 and_left true b e = refl
@@ -36,8 +36,8 @@ contains ids id place finds lt =
     let same : own.0 ≡ id = same_one own.0 id (sym (finds place own.0 own.1) ∙ eq-eqb place place refl) in
     (place, lt, get_or_from_slice_get ids place own.0 id own.1 ∙ same)
 
-pub listed : (ids : List Id) (header : HeaderFields) (packet : Packet) → HoldsHeader header packet → Contains ids header.id → IsListed ids packet
-listed ids header packet holds has = subst (IsListed ids) (sym holds.is) (inr has)
+pub listed : (ids : List Id) (header : HeaderFields) (packet : Packet) → HoldsHeader header packet → Contains ids header.id → IsOfPages ids packet
+listed ids header packet holds has = subst (IsOfPages ids) (sym holds.is) (inr has)
 
 pub contains_at : {A : Type 0} (xs : List A) (i : ℕ) (x : A) → slice_get xs i ≡ Some x → Contains xs x
 contains_at xs i x at = (i, slice_get_within xs i x at, get_or_from_slice_get xs i x x at)

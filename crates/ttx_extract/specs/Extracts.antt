@@ -1,11 +1,11 @@
 -- What a service says of a cycle (profile), and why a cycle has no service text.
 --
---   IsListed, AreListed     a header is a listed page's, or a time-filling one; each header is
---   info_in, first_info     the packet 8/30 format 1 of a slot; the first of a cycle
---   often_for, IsOften      how often a page is sent that has so many headers
+--   IsOfPages, AreOfPages    a header is a listed page's, or a time-filling one; each header is
+--   slot_info, first_info    the packet 8/30 format 1 of a slot; the first of a cycle
+--   often_for, IsSentOften    how often a page is sent that has so many headers
 --   AreSteady, IsExtract    its pages are sent unchanged; the service says what the cycle sends
 --   Differs, IsConflict     two packets of an item with different contents; two slots that send them
---   HasReason, IsMinusZero  a page of some list has the reason; an offset that no text says
+--   HasReason, IsMinusZero    a page of some list has the reason; an offset that no text says
 --   Blames, AnswersFault    why pages aren't sent unchanged; why there is no text
 --   Extracts                what is answered for a cycle and lines of a field
 use Rattle.std.specs.Prelude.{◌≡◌, ◌⊎◌, ℕ, pos, true, List, [], ◌∷◌, take, length, Contains, slice_get, slice_index_or, string_bytes, ⊤, Option, Some, None, Result, Ok, Err, if◌then◌else◌, nat_le}
@@ -29,27 +29,27 @@ use Rattle.ttx_extract.specs.declared.faults.ExtractFault.{ExtractFault}
 use Rattle.ttx_extract.specs.declared.faults.ExtractFault.TheVariants.{Conflict, Reason, Info}
 
 -- page number FF is time-filling (EN 300 706, 9.3.1)
-abbrev pub IsListed : List Id → Packet → Type 0
-IsListed ids (Header id control text) = (id.page ≡ 255) ⊎ Contains ids id
-IsListed ids packet = ⊤
+abbrev pub IsOfPages : List Id → Packet → Type 0
+IsOfPages ids (Header id control text) = (id.page ≡ 255) ⊎ Contains ids id
+IsOfPages ids packet = ⊤
 
-abbrev pub AreListed : List Id → List (List ℕ) → Type 0
-AreListed ids slots = (n : ℕ) (slot : List ℕ) → slice_get slots n ≡ Some slot → IsListed ids (packet_of slot)
+abbrev pub AreOfPages : List Id → List (List ℕ) → Type 0
+AreOfPages ids slots = (n : ℕ) (slot : List ℕ) → slice_get slots n ≡ Some slot → IsOfPages ids (packet_of slot)
 
-abbrev pub said : Kind → Result InfoFields InfoFault → Option InfoFields
-said IsInfo (Ok fields) = Some fields
-said kind result = None
+abbrev pub read_fields : Kind → Result InfoFields InfoFault → Option InfoFields
+read_fields IsInfo (Ok fields) = Some fields
+read_fields kind result = None
 
-unfoldable pub info_in : List ℕ → Option InfoFields
-info_in slot = said (kind_of slot) (info_of slot)
+unfoldable pub slot_info : List ℕ → Option InfoFields
+slot_info slot = read_fields (kind_of slot) (info_of slot)
 
-abbrev pub or_else : Option InfoFields → Option InfoFields → Option InfoFields
-or_else None b = b
-or_else (Some a) b = Some a
+abbrev pub info_or : Option InfoFields → Option InfoFields → Option InfoFields
+info_or None b = b
+info_or (Some a) b = Some a
 
 unfoldable pub first_info : List (List ℕ) → Option InfoFields
 first_info [] = None
-first_info (slot ∷ slots) = or_else (info_in slot) (first_info slots)
+first_info (slot ∷ slots) = info_or (slot_info slot) (first_info slots)
 
 -- the most of 1, 2, 4 and 8 times that aren't more than the headers
 abbrev pub often_for : ℕ → ℕ
@@ -59,17 +59,17 @@ abbrev pub AreSteady : List (List ℕ) → ServiceFields → Type 0
 AreSteady slots service = (n : ℕ) (p : Page) → slice_get (pages_of service) n ≡ Some p → Steady (repeated slots) (pages_of service) p
 
 -- as often as it has headers in a period
-abbrev pub IsOften : List (List ℕ) → ℕ → Authored → Type 0
-IsOften slots lines a = a.often ≡ often_for (length (sent_in slots a.page.id lines TheHead))
+abbrev pub IsSentOften : List (List ℕ) → ℕ → Authored → Type 0
+IsSentOften slots lines a = a.often ≡ often_for (length (sent_in slots a.page.id lines TheHead))
 
 -- The service has these lines and the cycle's first packet 8/30; its pages are all that headers name; each is sent unchanged, and as
 -- often as it has headers in a period.
 pub record IsExtract (slots : List (List ℕ)) (lines : ℕ) (service : ServiceFields) : Type 0 where
   pub lines_are : service.lines ≡ lines
   pub info : service.info ≡ first_info slots
-  pub listed : AreListed (ids_of service.pages) slots
+  pub listed : AreOfPages (ids_of service.pages) slots
   pub steady : AreSteady slots service
-  pub often : (n : ℕ) (a : Authored) → slice_get service.pages n ≡ Some a → IsOften slots lines a
+  pub often : (n : ℕ) (a : Authored) → slice_get service.pages n ≡ Some a → IsSentOften slots lines a
 
 -- other control bits or characters 8 to 31 of headers, other characters of rows, other links
 abbrev pub Differs : Packet → Packet → Type 0
@@ -92,7 +92,7 @@ pub record HasReason (slots : List (List ℕ)) (reason : WitnessReason) : Type 0
 -- the slot has a packet 8/30 format 1 with a negative offset of no half-hours
 pub record IsMinusZero (slots : List (List ℕ)) (slot : ℕ) : Type 0 where
   pub fields : InfoFields
-  pub here : info_in (slice_index_or slots slot []) ≡ Some fields
+  pub here : slot_info (slice_index_or slots slot []) ≡ Some fields
   pub none : fields.halves ≡ 0
   pub negative : fields.west ≡ true
 

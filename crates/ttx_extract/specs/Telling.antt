@@ -4,12 +4,12 @@
 --   MinusZero               the slot of one with an offset that no text says
 --   OkTrue                  the answer is yes
 use Rattle.std.specs.Prelude.{◌≡◌, ℕ, List, [], Bool, true, slice_index_or, Option, Some, None, Result, Ok, Err}
-use Rattle.ttx_extract.specs.Extracts.{info_in, first_info}
+use Rattle.ttx_extract.specs.Extracts.{slot_info, first_info}
 use Rattle.ttx_extract.specs.declared.infos.FoundInfo.{FoundInfo}
 
 abbrev pub TellsInfo : List (List ℕ) → Option FoundInfo → Type 0
 TellsInfo slots None = first_info slots ≡ None
-TellsInfo slots (Some found) = (first_info slots ≡ Some found.info) × (info_in (slice_index_or slots found.slot []) ≡ Some found.info)
+TellsInfo slots (Some found) = (first_info slots ≡ Some found.info) × (slot_info (slice_index_or slots found.slot []) ≡ Some found.info)
 
 abbrev pub MinusZero : Option FoundInfo → ℕ → Type 0
 MinusZero None slot = ⊥

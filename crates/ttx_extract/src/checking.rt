@@ -14,7 +14,7 @@ ghost use Rattle.ttx_witness.specs.sent.AllSent.{AreAllSent};
 ghost use Rattle.ttx_witness.specs.sent.Collected.{IsIndex};
 ghost use Rattle.ttx_witness.specs.faults.Faults.{IsPageFault};
 ghost use Rattle.ttx_witness.specs.faults.OtherSubpages.{AreOtherSubpages};
-ghost use Rattle.ttx_extract.specs.Extracts.{IsListed, AreListed, IsOften};
+ghost use Rattle.ttx_extract.specs.Extracts.{IsOfPages, AreOfPages, IsSentOften};
 
 use crate::page_texts::often_for;
 use ttx_cycle::Cycle;
@@ -34,7 +34,7 @@ pub struct Told {
 // Whether a header is of one of so many pages in the index, or time-filling.
 fn is_listed(index: &PageIndex, count: usize, slot: &[u8; 42]) -> bool
     requires { IsSlot slot.now }
-    ensures { (ids : List Id) → IsIndex ids index.now → count ≡ length ids → IsTrue result → IsListed ids (packet_of slot.now) }
+    ensures { (ids : List Id) → IsIndex ids index.now → count ≡ length ids → IsTrue result → IsOfPages ids (packet_of slot.now) }
 {
     let Some(header) = header_in(slot) else {
         return true;
@@ -50,7 +50,7 @@ fn is_listed(index: &PageIndex, count: usize, slot: &[u8; 42]) -> bool
 
 /// Whether each header is of one of so many pages in the index, or time-filling.
 pub fn are_listed(cycle: &Cycle, index: &PageIndex, count: usize) -> bool
-    ensures { (ids : List Id) → IsIndex ids index.now → count ≡ length ids → IsTrue result → AreListed ids (slots_of cycle.now) }
+    ensures { (ids : List Id) → IsIndex ids index.now → count ≡ length ids → IsTrue result → AreOfPages ids (slots_of cycle.now) }
 {
     let slots = cycle.slots();
     for slot in 0..slots.len() {
@@ -89,7 +89,7 @@ pub fn first_reason(
 /// Whether each page is sent as often as it has headers in a period.
 pub fn are_often(service: &Service, collected: &Collected) -> bool
     ensures { (cycle : List (List ℕ)) (lines : ℕ) → AreAllSent cycle (map (λ a. a.page) service.now.pages) lines collected.now → IsTrue result →
-        (n : ℕ) (a : Authored) → slice_get service.now.pages n ≡ Some a → IsOften cycle lines a }
+        (n : ℕ) (a : Authored) → slice_get service.now.pages n ≡ Some a → IsSentOften cycle lines a }
 {
     for index in 0..service.pages().len() {
         let headers = collected.sent(index, Item::Head).len();

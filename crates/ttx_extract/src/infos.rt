@@ -2,7 +2,7 @@
 
 ghost use Rattle.std.specs.Prelude.{◌≡◌, IsTrue};
 ghost use Rattle.ttx_cycle.specs.Cycles.{slots_of};
-ghost use Rattle.ttx_extract.specs.Extracts.{info_in};
+ghost use Rattle.ttx_extract.specs.Extracts.{slot_info};
 ghost use Rattle.ttx_extract.specs.Telling.{TellsInfo};
 
 use ttx_cycle::Cycle;
@@ -17,9 +17,9 @@ pub struct FoundInfo {
 }
 
 // The packet 8/30 format 1 of a slot.
-#[tactic(auto, unfolding(crate::specs::Extracts::info_in))]
-fn info_in(bytes: &[u8; 42]) -> Option<Info>
-    ensures { result ≡ info_in bytes.now }
+#[tactic(auto, unfolding(crate::specs::Extracts::slot_info))]
+fn slot_info(bytes: &[u8; 42]) -> Option<Info>
+    ensures { result ≡ slot_info bytes.now }
 {
     match slot_of(bytes) {
         Slot::Info(_, bytes) => match read_info(bytes) {
@@ -41,7 +41,7 @@ pub fn first_info(cycle: &Cycle) -> Option<FoundInfo>
 {
     let slots = cycle.slots();
     for slot in 0..slots.len() {
-        if let Some(info) = info_in(&slots[slot]) {
+        if let Some(info) = slot_info(&slots[slot]) {
             return Some(FoundInfo { info, slot });
         }
     }

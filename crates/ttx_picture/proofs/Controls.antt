@@ -10,7 +10,7 @@ use Rattle.ttx_render.specs.Cells.{space_cell}
 use Rattle.ttx_render.specs.Laws.{ArePrinted}
 use Rattle.ttx_picture.specs.Ansi.{sgr, ink, ground, blink, change, changes, cells_ansi, row_ansi, rows_ansi}
 use Rattle.ttx_picture.specs.Laws.{FormsHaveNoControls}
-use Rattle.ttx_picture.specs.Links.{link_text, links_text}
+use Rattle.ttx_picture.specs.Links.{link_name, link_names}
 use Rattle.ttx_picture.specs.Shown.{char_of, are_blank}
 use Rattle.ttx_picture.specs.Svg.{svg_of}
 use Rattle.ttx_picture.specs.Html.{html_of}
@@ -92,15 +92,15 @@ module _ (p : ℕ → Bool) (admits : Admits p) where
   utf8 : (c : ℕ) → nat_lt c 32 ≡ false → IsAll p (encode_utf8 c)
   utf8 c low = all_of p (utf8_all p c (admits.high c (ltb-false c 32 low)) (λ b h. admits.high b (omega (arith, h))))
 
-  link_all : (link : Option Id) → IsAll p (link_text link)
+  link_all : (link : Option Id) → IsAll p (link_name link)
   link_all None = from_quiet (calm refl)
   link_all (Some id) = with_all p {a = 32 ∷ []} (from_quiet (calm refl)) (from_quiet (id_quiet id))
 
-  links_all : (links : List (Option Id)) → IsAll p (links_text links)
+  links_all : (links : List (Option Id)) → IsAll p (link_names links)
   links_all [] = all_of p refl
   links_all (link ∷ links) = with_all p (link_all link) (links_all links)
 
-  ending_all : {text : List ℕ} (links : List (Option Id)) → IsAll p text → IsAll p (text ++ codes "links" ++ links_text links ++ 10 ∷ [])
+  ending_all : {text : List ℕ} (links : List (Option Id)) → IsAll p text → IsAll p (text ++ codes "links" ++ link_names links ++ 10 ∷ [])
   ending_all links h = with_all p {b = 10 ∷ []} (with_all p (with_all p {b = codes "links"} h (from_quiet (calm refl))) (links_all links)) (from_quiet (calm refl))
 
   module _ (reveal : Bool) where

@@ -11,10 +11,10 @@ use Rattle.ttx_picture.specs.declared.svg.pens.Pen.{Pen}
 use Rattle.ttx_picture.specs.declared.svg.pens.Layer.{Layer}
 use Rattle.ttx_picture.specs.declared.svg.pens.Layer.TheVariants.{Ground, Top, Middle, Bottom}
 use Rattle.ttx_picture.specs.Escapes.{escaped}
-use Rattle.ttx_picture.specs.Html.{key_class, key_start, key_title, key_end, key_html, link_at, keys_html, html_start, page_style, key_style, head_end, head_html, picture_html, nav_html, text_html, html_of}
+use Rattle.ttx_picture.specs.Html.{key_class, key_start, key_title, key_end, key_html, coloured_link, keys_html, html_start, page_style, key_style, head_end, head_html, picture_html, nav_html, text_html, html_of}
 use Rattle.ttx_picture.specs.Laws.{is_markup, TagsAreNested}
 use Rattle.ttx_picture.specs.Shown.{char_of, are_blank}
-use Rattle.ttx_picture.specs.Svg.{is_pen, pen_text, ink, halves, layer_text, height_text, lowered, lifted, path_start, path_end, stroke, after, is_down, strokes, drawn, letter_of, has_no_letters, span_start, span_end, letter_text, span_after, letters, text_start, row_letters, pass, has_upper, group_start, row_ground, row_tall, row_glyphs, grounds_from, glyphs_from, base, body, path_style, gap_style, text_style, ink_style, picture_style, flash_style, style, svg_start, svg_of}
+use Rattle.ttx_picture.specs.Svg.{is_pen, pen_text, ink, cell_halves, layer_text, height_text, lowered, lifted, path_start, path_end, stroke, pen_after, is_down, strokes, drawn, letter_of, has_no_letters, span_start, span_end, letter_text, span_after, letters, text_start, row_letters, pass, has_upper, group_start, row_ground, row_tall, row_glyphs, grounds_from, glyphs_from, black_screen, body, path_style, gap_style, text_style, ink_style, picture_style, flash_style, style, svg_start, svg_of}
 use Rattle.ttx_picture.specs.Tags.{is_ruled, Place, InText, InName, InValue, Reading, reading_at, read, IsNested}
 use Rattle.ttx_picture.specs.Text.{cells_text, rows_text}
 use Rattle.ttx_picture.proofs.Quiet.{quiet, IsQuiet, calm, with_quiet, either_quiet, decimal_quiet, id_quiet, escaped_quiet, char_low, letter_low}
@@ -139,7 +139,7 @@ module _ (w : List (List ℕ)) where
       join (join (join (path_quiet current (lifted_quiet down x)) (ends_path current)) (starts_path layer pen)) (in_value w (lowered_quiet layer x))
 
   one_stroke : (layer : Layer) (current : Option Pen) (down : Bool) (x : ℕ) (half : Option Pen) →
-      Reads (path_at current) (stroke layer current down x half) (path_at (after current half))
+      Reads (path_at current) (stroke layer current down x half) (path_at (pen_after current half))
   one_stroke layer current down x None = path_quiet current (lifted_quiet down x)
   one_stroke layer None down x (Some pen) = new_path layer None down x pen
   one_stroke layer (Some own) down x (Some pen) =
@@ -149,10 +149,10 @@ module _ (w : List (List ℕ)) where
       Reads (path_at current) (strokes layer current down x list) (reading_at InText w)
   all_strokes layer current down x [] = join (path_quiet current (lifted_quiet down x)) (ends_path current)
   all_strokes layer current down x (half ∷ rest) =
-      join (one_stroke layer current down x half) (all_strokes layer (after current half) (is_down half) (x + 10) rest)
+      join (one_stroke layer current down x half) (all_strokes layer (pen_after current half) (is_down half) (x + 10) rest)
 
   all_drawn : (reveal tall : Bool) (layer : Layer) (cells : List Cell) → Reads (reading_at InText w) (drawn reveal tall layer cells) (reading_at InText w)
-  all_drawn reveal tall layer cells = all_strokes layer None false 0 (halves reveal tall layer cells)
+  all_drawn reveal tall layer cells = all_strokes layer None false 0 (cell_halves reveal tall layer cells)
 
 -- ---- letters
 
@@ -249,8 +249,8 @@ module _ (w : List (List ℕ)) where
   all_grounds number [] = nothing _
   all_grounds number (cells ∷ rows) = join (ground_row number cells) (all_grounds (number + 1) rows)
 
-  one_base : Stays w base
-  unfolding base
+  one_base : Stays w black_screen
+  unfolding black_screen
   one_base = reads refl
 
   one_body : (reveal : Bool) (view : Screen) → ArePrinted view.cells → Stays w (body reveal view)
@@ -307,8 +307,8 @@ module _ (w : List (List ℕ)) where
   keys_read : (view : Screen) → Stays w (keys_html view)
   keys_read view =
       join (join (join
-      (join (join (key_read (codes "Red") 1 (link_at view 0) (calm refl)) (key_read (codes "Green") 2 (link_at view 1) (calm refl))) (key_read (codes "Yellow") 3 (link_at view 2) (calm refl)))
-      (key_read (codes "Cyan") 6 (link_at view 3) (calm refl))) (key_read (codes "Next") 7 (link_at view 4) (calm refl))) (key_read (codes "Index") 7 (link_at view 5) (calm refl))
+      (join (join (key_read (codes "Red") 1 (coloured_link view 0) (calm refl)) (key_read (codes "Green") 2 (coloured_link view 1) (calm refl))) (key_read (codes "Yellow") 3 (coloured_link view 2) (calm refl)))
+      (key_read (codes "Cyan") 6 (coloured_link view 3) (calm refl))) (key_read (codes "Next") 7 (coloured_link view 4) (calm refl))) (key_read (codes "Index") 7 (coloured_link view 5) (calm refl))
 
 -- ---- texts
 

@@ -16,8 +16,8 @@ use Rattle.ttx_render.specs.declared.cells.Part.TheVariants.{Single, Upper, Lowe
 use Rattle.ttx_render.specs.Laws.{is_control, IsPrinted}
 use Rattle.ttx_picture.specs.Escapes.{escaped}
 use Rattle.ttx_picture.specs.Laws.{is_markup, is_reserved}
-use Rattle.ttx_picture.specs.Links.{digit, two_digits, sub_text, id_text}
-use Rattle.ttx_picture.specs.Shown.{shown, over, sextant, braille, half, glyph_char, char_of}
+use Rattle.ttx_picture.specs.Links.{digit, two_digits, sub_text, page_name}
+use Rattle.ttx_picture.specs.Shown.{shown_glyph, over, sextant, braille, half, glyph_char, char_of}
 use Rattle.ttx_picture.specs.Svg.{is_drawn, code_of, letter_of}
 use Rattle.ttx_picture.specs.Tags.{is_ruled}
 use Rattle.ttx_picture.proofs.Escaping.{by_if, cases}
@@ -88,7 +88,7 @@ sub_quiet sub = either_quiet (sub == 0x3f7f) (calm refl) (with_quiet {a = 47 ∷
     slash : IsQuiet (47 ∷ two_digits (sub / 256))
     slash = calm (two_quiet (sub / 256)).is
 
-pub id_quiet : (id : Id) → IsQuiet (id_text id)
+pub id_quiet : (id : Id) → IsQuiet (page_name id)
 id_quiet id = with_quiet {a = digit id.mag ∷ two_digits id.page} first (sub_quiet id.sub)
   where
     first : IsQuiet (digit id.mag ∷ two_digits id.page)
@@ -124,7 +124,7 @@ escaped_quiet c low = cases c IsQuiet
 printed_low : (code : ℕ) → is_control code ≡ false → nat_lt code 32 ≡ false
 printed_low code e = (or_parts _ _ e).0
 
-shown_printed : (reveal : Bool) (cell : Cell) → IsPrinted cell.glyph → IsPrinted (shown reveal cell)
+shown_printed : (reveal : Bool) (cell : Cell) → IsPrinted cell.glyph → IsPrinted (shown_glyph reveal cell)
 shown_printed reveal cell h = by_if IsPrinted (cell.picture || (cell.concealed && not reveal)) _ _ (λ _. refl) (λ _. h)
 
 over_low : (bound n : ℕ) → over bound n ≤ 1
@@ -153,11 +153,11 @@ glyph_low part (Mosaic blocks separated) h =
 
 pub char_low : (reveal : Bool) (cell : Cell) → IsPrinted cell.glyph → AtLeast32 (char_of reveal cell)
 unfolding char_of
-char_low reveal cell h = glyph_low cell.part (shown reveal cell) (shown_printed reveal cell h)
+char_low reveal cell h = glyph_low cell.part (shown_glyph reveal cell) (shown_printed reveal cell h)
 
 code_low : (g : Glyph) → IsPrinted g → AtLeast32 (code_of g)
 code_low (Char code) h = printed_low code h
 code_low (Mosaic blocks separated) h = refl
 
 pub letter_low : (reveal tall : Bool) (cell : Cell) → IsPrinted cell.glyph → AtLeast32 (letter_of reveal tall cell)
-letter_low reveal tall cell h = by_if AtLeast32 (is_drawn tall cell.part) _ _ (λ _. code_low (shown reveal cell) (shown_printed reveal cell h)) (λ _. refl)
+letter_low reveal tall cell h = by_if AtLeast32 (is_drawn tall cell.part) _ _ (λ _. code_low (shown_glyph reveal cell) (shown_printed reveal cell h)) (λ _. refl)

@@ -1,7 +1,7 @@
 -- A View as a picture of 40 by 25 cells, each 20 by 24 units.
 --
 --   Pen, class_text         what a stroke or a character is drawn with
---   half_of, halves         what a layer of a row draws: half a cell each, or nothing
+--   half_of, cell_halves    what a layer of a row draws: half a cell each, or nothing
 --   strokes                 the paths of a layer: a stroke as long as the pen stays, a path for each pen
 --   letters, row_letters    the characters of a row, a span for each pen
 --   pass, row_glyphs        single height, and over it double height, drawn twice as high
@@ -18,17 +18,17 @@ use Rattle.ttx_render.specs.View.{Screen}
 use Rattle.ttx_picture.specs.declared.svg.pens.Pen.{Pen}
 use Rattle.ttx_picture.specs.declared.svg.pens.Layer.{Layer}
 use Rattle.ttx_picture.specs.declared.svg.pens.Layer.TheVariants.{Ground, Top, Middle, Bottom}
-use Rattle.ttx_picture.specs.Shown.{shown}
+use Rattle.ttx_picture.specs.Shown.{shown_glyph}
 use Rattle.ttx_picture.specs.Escapes.{escaped}
 
-abbrev pub same : Bool → Bool → Bool
-same true b = b
-same false b = not b
+abbrev pub same_flag : Bool → Bool → Bool
+same_flag true b = b
+same_flag false b = not b
 
 -- whether a path or span is open, and drawn with this pen
 abbrev pub is_pen : Option Pen → Pen → Bool
 is_pen None pen = false
-is_pen (Some current) pen = (current.colour == pen.colour) && same current.flash pen.flash && same current.separated pen.separated
+is_pen (Some current) pen = (current.colour == pen.colour) && same_flag current.flash pen.flash && same_flag current.separated pen.separated
 
 -- The style sheet says what the classes mean.
 abbrev pub pen_text : Pen → List ℕ
@@ -69,13 +69,13 @@ block cell tall value (Mosaic blocks separated) =
 
 abbrev pub half_of : Bool → Bool → Layer → ℕ → Cell → Option Pen
 half_of reveal tall Ground value cell = ground cell
-half_of reveal tall _ value cell = block cell tall value (shown reveal cell)
+half_of reveal tall _ value cell = block cell tall value (shown_glyph reveal cell)
 
 -- two halves a cell
-abbrev pub halves : Bool → Bool → Layer → List Cell → List (Option Pen)
-halves reveal tall layer [] = []
-halves reveal tall layer (cell ∷ cells) =
-    half_of reveal tall layer (left_block layer) cell ∷ half_of reveal tall layer (right_block layer) cell ∷ halves reveal tall layer cells
+abbrev pub cell_halves : Bool → Bool → Layer → List Cell → List (Option Pen)
+cell_halves reveal tall layer [] = []
+cell_halves reveal tall layer (cell ∷ cells) =
+    half_of reveal tall layer (left_block layer) cell ∷ half_of reveal tall layer (right_block layer) cell ∷ cell_halves reveal tall layer cells
 
 -- rows of blocks are 8 units high
 abbrev pub layer_text : Layer → List ℕ
@@ -108,9 +108,9 @@ stroke layer current down x (Some pen) =
     if is_pen current pen then (if down then [] else lowered layer x)
     else lifted down x ++ path_end current ++ path_start layer pen ++ lowered layer x
 
-abbrev pub after : Option Pen → Option Pen → Option Pen
-after current None = current
-after current (Some pen) = Some pen
+abbrev pub pen_after : Option Pen → Option Pen → Option Pen
+pen_after current None = current
+pen_after current (Some pen) = Some pen
 
 abbrev pub is_down : Option Pen → Bool
 is_down None = false
@@ -119,10 +119,10 @@ is_down (Some pen) = true
 -- A half is 10 units wide.
 abbrev pub strokes : Layer → Option Pen → Bool → ℕ → List (Option Pen) → List ℕ
 strokes layer current down x [] = lifted down x ++ path_end current
-strokes layer current down x (half ∷ rest) = stroke layer current down x half ++ strokes layer (after current half) (is_down half) (x + 10) rest
+strokes layer current down x (half ∷ rest) = stroke layer current down x half ++ strokes layer (pen_after current half) (is_down half) (x + 10) rest
 
 abbrev pub drawn : Bool → Bool → Layer → List Cell → List ℕ
-drawn reveal tall layer cells = strokes layer None false 0 (halves reveal tall layer cells)
+drawn reveal tall layer cells = strokes layer None false 0 (cell_halves reveal tall layer cells)
 
 abbrev pub code_of : Glyph → ℕ
 code_of (Char code) = code
@@ -130,7 +130,7 @@ code_of _ = 0x20
 
 -- the character that a cell has in this height, else a space
 abbrev pub letter_of : Bool → Bool → Cell → ℕ
-letter_of reveal tall cell = if is_drawn tall cell.part then code_of (shown reveal cell) else 0x20
+letter_of reveal tall cell = if is_drawn tall cell.part then code_of (shown_glyph reveal cell) else 0x20
 
 abbrev pub has_no_letters : Bool → Bool → List Cell → Bool
 has_no_letters reveal tall [] = true
@@ -203,12 +203,12 @@ glyphs_from reveal number [] = []
 glyphs_from reveal number (cells ∷ rows) = row_glyphs reveal number cells ++ glyphs_from reveal (number + 1) rows
 
 -- black
-unfoldable pub base : List ℕ
-base = codes "<rect width=\"800\" height=\"600\"/>"
+unfoldable pub black_screen : List ℕ
+black_screen = codes "<rect width=\"800\" height=\"600\"/>"
 
 -- all grounds lie below all glyphs, since double height goes down into the next row
 abbrev pub body : Bool → Screen → List ℕ
-body reveal view = base ++ grounds_from 0 view.cells ++ glyphs_from reveal 0 view.cells
+body reveal view = black_screen ++ grounds_from 0 view.cells ++ glyphs_from reveal 0 view.cells
 
 -- strokes as high as a row of blocks; those of grounds as high as a cell
 unfoldable pub path_style : List ℕ

@@ -1,7 +1,7 @@
 //! A View as a picture.
 
 ghost use Rattle.std.specs.Prelude.{◌≡◌, ◌<◌, ◌++◌, OnOk, string_bytes};
-ghost use Rattle.ttx_picture.specs.Svg.{group_start, row_ground, row_tall, row_glyphs, has_upper, is_upper, grounds_from, glyphs_from, pass, base, body, svg_start, svg_of};
+ghost use Rattle.ttx_picture.specs.Svg.{group_start, row_ground, row_tall, row_glyphs, has_upper, is_upper, grounds_from, glyphs_from, pass, black_screen, body, svg_start, svg_of};
 
 mod letters;
 mod pens;
@@ -121,9 +121,9 @@ fn push_glyphs(text: &mut String, reveal: bool, rows: &[[Cell; 40]; 25]) -> Resu
     Ok(())
 }
 
-#[tactic(auto, unfolding(crate::specs::Svg::base))]
+#[tactic(auto, unfolding(crate::specs::Svg::black_screen))]
 fn push_base(text: &mut String) -> Result<(), AllocError>
-    ensures { OnOk result (string_bytes text.new ≡ string_bytes text.old ++ base) }
+    ensures { OnOk result (string_bytes text.new ≡ string_bytes text.old ++ black_screen) }
 {
     text.push_str("<rect width=\"800\" height=\"600\"/>")
 }

@@ -4,7 +4,7 @@ ghost use Rattle.std.specs.Prelude.{◌≡◌, ◌++◌, OnOk, string_bytes, Non
 ghost use Rattle.ttx_picture.specs.Svg.{code_of, letter_of, has_no_letters, span_start, span_end, letter_text, span_after, letters, text_start, row_letters};
 
 use crate::escapes::push_escaped;
-use crate::shown::shown;
+use crate::shown::shown_glyph;
 use crate::svg::pens::{Pen, ink, is_drawn, is_pen, push_pen};
 use std::alloc::AllocError;
 use ttx_render::{Cell, Glyph};
@@ -23,7 +23,7 @@ fn letter_of(reveal: bool, tall: bool, cell: &Cell) -> char
     ensures { result ≡ letter_of reveal tall cell.now }
 {
     if is_drawn(tall, cell.part) {
-        code_of(shown(reveal, cell))
+        code_of(shown_glyph(reveal, cell))
     } else {
         ' '
     }

@@ -1,10 +1,10 @@
 //! The paths of backgrounds and mosaics.
 
 ghost use Rattle.std.specs.Prelude.{◌≡◌, ◌<◌, ◌≤◌, ◌++◌, OnOk, string_bytes};
-ghost use Rattle.ttx_picture.specs.Svg.{left_block, right_block, has_block, block, half_of, layer_text, height_text, lowered, lifted, path_start, path_end, stroke, after, is_down, drawn};
-ghost use Rattle.ttx_picture.specs.Shown.{shown as seen};
+ghost use Rattle.ttx_picture.specs.Svg.{left_block, right_block, has_block, block, half_of, layer_text, height_text, lowered, lifted, path_start, path_end, stroke, pen_after, is_down, drawn};
+ghost use Rattle.ttx_picture.specs.Shown.{shown_glyph as seen};
 
-use crate::shown::shown;
+use crate::shown::shown_glyph;
 use crate::svg::pens::{Layer, Pen, ground, ink, is_drawn, is_pen, push_pen};
 use std::alloc::AllocError;
 use ttx_render::{Cell, Glyph};
@@ -33,7 +33,7 @@ fn block(reveal: bool, tall: bool, value: u8, cell: &Cell) -> Option<Pen>
     requires { 0 < value }
     ensures { result ≡ block cell.now tall value (seen reveal cell.now) }
 {
-    match shown(reveal, cell) {
+    match shown_glyph(reveal, cell) {
         Glyph::Char(_) => None,
         Glyph::Mosaic { blocks, separated } => {
             if is_drawn(tall, cell.part) && has_block(blocks, value) {
@@ -148,8 +148,8 @@ fn push_stroke(
     }
 }
 
-fn after(current: Option<Pen>, half: Option<Pen>) -> Option<Pen>
-    ensures { result ≡ after current half }
+fn pen_after(current: Option<Pen>, half: Option<Pen>) -> Option<Pen>
+    ensures { result ≡ pen_after current half }
 {
     match half {
         None => current,
@@ -183,9 +183,9 @@ pub fn push_drawn(
         let left = half_of(reveal, tall, layer, left_block(layer), cell);
         let right = half_of(reveal, tall, layer, 2 * left_block(layer), cell);
         push_stroke(text, layer, current, down, x, left)?;
-        current = after(current, left);
+        current = pen_after(current, left);
         push_stroke(text, layer, current, is_down(left), x + 10, right)?;
-        current = after(current, right);
+        current = pen_after(current, right);
         down = is_down(right);
         x += 20;
     }

@@ -1,4 +1,4 @@
-use Rattle.std.proofs.Common.{◌≡◌, ◌↔◌, true, refl, subst}
+use Rattle.std.proofs.Common.{◌≡◌, ◌↔◌, true, refl}
 use Rattle.ttx_page.specs.Streams.{repeated}
 use Rattle.ttx_page.specs.Views.{page_of}
 use Rattle.ttx_cycle.specs.Cycles.{slots_of, slots_of-IsCycle}

@@ -1,7 +1,6 @@
-use Rattle.std.proofs.Common.{◌∙◌, sym, ap, drop}
+use Rattle.std.proofs.Common.{◌∙◌, sym, ap}
 use Rattle.ttx_packet.specs.Slots.{IsEmpty, IsUnreadable, IsHeader, IsRow, IsLinks, IsInfo, IsOther}
-use Rattle.ttx_header.specs.Headers.{id_of, control_of}
-use Rattle.ttx_page.specs.Packets.{Header}
+use Rattle.ttx_header.specs.Headers.{id_of}
 use Rattle.ttx_counter.specs.Magazines.{magazine_in}
 use Rattle.ttx_counter.proofs.Taking.{packet_from}
 use Rattle.ttx_counter.proofs.magazines.magazine_of.Goals as goal

@@ -1,9 +1,7 @@
-use Rattle.std.proofs.Common.{◌≡◌, ◌↔◌, ◌∙◌, ℕ, ◌+◌, ◌%◌, ◌<◌, ◌≤◌, pos, true, false, [], length, get_or, inl, inr, ap, sym, subst, arith}
+use Rattle.std.proofs.Common.{◌≡◌, ◌↔◌, ◌∙◌, ◌+◌, ◌%◌, ◌<◌, pos, true, false, [], length, get_or, inl, inr, ap, sym, subst, arith}
 use Rattle.std.proofs.lemmas.Bool.{cases_lt}
 use Rattle.ttx_cycle.specs.Cycles.{slots_of}
-use Rattle.ttx_page.specs.Memories.{Memory, memory_of_page}
 use Rattle.ttx_page.specs.Streams.{repeated}
-use Rattle.ttx_page.specs.Views.{memory_of}
 use Rattle.ttx_certify.specs.Seen.{HasView}
 use Rattle.ttx_receiver.specs.Tuning.{Tuned, tuned_at}
 use Rattle.ttx_render.specs.Comparison.{SameButClock}

@@ -1,7 +1,5 @@
-use Rattle.std.proofs.Common.{◌∙◌, sym, ap, drop}
+use Rattle.std.proofs.Common.{sym, ap}
 use Rattle.ttx_packet.specs.Slots.{IsEmpty, IsUnreadable, IsHeader, IsRow, IsLinks, IsInfo, IsOther}
-use Rattle.ttx_header.specs.Headers.{id_of, control_of}
-use Rattle.ttx_page.specs.Packets.{Header}
 use Rattle.ttx_counter.specs.Sources.{is_of}
 use Rattle.ttx_counter.proofs.Taking.{packet_from}
 use Rattle.ttx_counter.proofs.plain.is_of.Goals as goal

@@ -1,4 +1,4 @@
-use Rattle.std.proofs.Common.{◌≡◌, None, map, subst, sym}
+use Rattle.std.proofs.Common.{map, subst}
 use Rattle.ttx_cycle.specs.Cycles.{slots_of}
 use Rattle.ttx_page.specs.Steady.{OtherSubpageAt}
 use Rattle.ttx_page.specs.Streams.{repeated}

@@ -1,4 +1,4 @@
-use Rattle.std.proofs.Common.{◌≡◌, map}
+use Rattle.std.proofs.Common.{◌≡◌, refl, map}
 use Rattle.ttx_cycle.specs.Cycles.{slots_of, slots_of-IsCycle}
 use Rattle.ttx_page.specs.Views.{page_of}
 use Rattle.ttx_witness.specs.Certificates.{certificate_of}
@@ -14,8 +14,8 @@ returns c =
     let w = certificate_of c.args.claim.now.certificate.now in
     let p = page_of c.page_at-page.result.now in
     let here = c.page_at-page.ensures in
-    ok_map (λ k. run_of k ≡ starving_run cycle c.args.index p c.args.item.now c.args.start c.lines-lines.result c.repeat-repeat.result c.deadline-deadline.result) _ c.counter_for.result
+    ok_map (λ k. run_of k ≡ starving_run cycle c.args.index p c.args.item.now c.args.start w.lines w.repeat w.deadline) _ c.counter_for.result
     (λ k made. starved_to cycle pages w c.starving_is_counter_run.ensures p c.args.index here (slots_of-IsCycle c.args.claim.now.cycle.now) (c.pages_keep_their_rules.ensures c.page_at-page.result.now)
     (c.certificates_keep_their_rules.ensures c.args.claim.now.certificate.now).1 c.requires.clean (c.requires.steady p here) c.args.item.now c.args.start (c.requires.starved p here)
-    c.lines-lines.result c.repeat-repeat.result c.deadline-deadline.result c.lines-lines.ensures c.repeat-repeat.ensures c.deadline-deadline.ensures (run_of k) made)
+    w.lines w.repeat w.deadline refl refl refl (run_of k) made)
     c.counter_for.ensures

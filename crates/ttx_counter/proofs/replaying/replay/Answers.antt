@@ -1,10 +1,10 @@
-use Rattle.std.proofs.Common.{◌≡◌, ◌<◌, map, length, sym, ap, ◌∙◌, subst, arith}
+use Rattle.std.proofs.Common.{map, sym, subst, arith}
 use Rattle.std.proofs.lemmas.List.{length-map}
 use Rattle.std.proofs.lemmas.Option.{slice_get_within}
 use Rattle.ttx_page.specs.Views.{page_of, memory_of}
 use Rattle.ttx_cycle.specs.Cycles.{slots_of, slots_of-IsCycle}
 use Rattle.std.specs.Prelude.{IsPermutation}
-use Rattle.ttx_counter.specs.Counters.{run_of, IsCounterRun}
+use Rattle.ttx_counter.specs.Counters.{run_of}
 use Rattle.ttx_counter.specs.Keys.{key_of}
 use Rattle.ttx_counter.proofs.Streaking.{no_both}
 use Rattle.ttx_counter.proofs.Replayed.{apart, each, replayed}

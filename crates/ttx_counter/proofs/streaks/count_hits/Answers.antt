@@ -8,11 +8,11 @@ use Rattle.ttx_counter.proofs.Noting.{counted_same, counted_set}
 pub loop-i-preserved : goal.loop-i-preserved
 loop-i-preserved c =
     let inv = c.loop-i.invariant in
-    let keys = c.args.keys.now in
+    let keys = c.args.hits.now.keys.now in
     elim c.if-is_text.branch [
       | then-is_text+else-count-from w ↦
           let same = ap (λ v. v.items) w.cells-is in
-          let inside : 42 * c.args.row + c.byte_in-x.result < length c.loop-i.cells.items =
+          let inside : 42 * c.args.sent.row + c.byte_in-x.result < length c.loop-i.cells.items =
           let h = inv.places in let b = (c.requires.keys c.loop-i.i (omega arith)).byte in omega arith in
           record {
             places = ap length same ∙ length-set _ _ _ ∙ inv.places;

@@ -1,6 +1,6 @@
 use Rattle.std.proofs.Common.{◌≡◌, ◌<◌, ◌≤◌, [], length, get_or, Some, None, sym, ap, ◌∙◌, subst, arith}
 use Rattle.ttx_cycle.specs.Cycles.{slots_of}
-use Rattle.ttx_extract.specs.Extracts.{info_in}
+use Rattle.ttx_extract.specs.Extracts.{slot_info}
 use Rattle.ttx_extract.proofs.FirstInfos.{found, none_yet, none}
 use Rattle.ttx_extract.proofs.infos.first_info.Goals as goal
 
@@ -10,7 +10,7 @@ returns-in-Some c =
     let i = c.loop-slot.slot in
     let same = c.slots-slots.ensures.slots in
     let lt : i < length slots = subst (λ s. i < length s) same c.loop-slot-test.true in
-    let is : info_in (get_or slots i []) ≡ Some c.in-Some.info = subst (λ s. info_in (get_or s i []) ≡ Some c.in-Some.info) same (sym c.info_in.ensures ∙ c.in-Some.is) in
+    let is : slot_info (get_or slots i []) ≡ Some c.in-Some.info = subst (λ s. slot_info (get_or s i []) ≡ Some c.in-Some.info) same (sym c.slot_info.ensures ∙ c.in-Some.is) in
     (found slots i c.loop-slot.invariant lt c.in-Some.info is, is)
 
 pub loop-slot-preserved : goal.loop-slot-preserved
@@ -19,7 +19,7 @@ loop-slot-preserved c =
     let i = c.loop-slot.slot in
     let same = c.slots-slots.ensures.slots in
     let lt : i < length slots = subst (λ s. i < length s) same c.loop-slot-test.true in
-    let is : info_in (get_or slots i []) ≡ None = subst (λ s. info_in (get_or s i []) ≡ None) same (sym c.info_in.ensures ∙ c.in_default.is) in
+    let is : slot_info (get_or slots i []) ≡ None = subst (λ s. slot_info (get_or s i []) ≡ None) same (sym c.slot_info.ensures ∙ c.in_default.is) in
     none_yet slots i c.loop-slot.invariant lt is
 
 pub returns : goal.returns
