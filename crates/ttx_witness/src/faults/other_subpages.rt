@@ -38,7 +38,8 @@ pub fn note_slot(first: &mut Vec<Option<u32>>, subcodes: &[Subcodes], slot: &[u8
     requires subcodes { length subcodes.now ≡ 2048 }
     ensures size { length first.new.items ≡ 2048 }
     ensures noted { (mag number : ℕ) → 1 ≤ mag → mag ≤ 8 → number < 256 →
-        get_or first.new.items (place mag number) None ≡ first_of (get_or first.old.items (place mag number) None) (is_stray subcodes.now mag number (packet_of slot.now)) j }
+        get_or first.new.items (place mag number) None
+        ≡ first_of (get_or first.old.items (place mag number) None) (is_stray subcodes.now mag number (packet_of slot.now)) j }
 {
     let Some(header) = header_in(slot) else {
         return;
@@ -100,7 +101,8 @@ impl OtherSubpages {
 
     /// The first header of another subpage of this page of the list, where it is the only one of its number.
     pub fn first(&self, page: PageId) -> Option<u32>
-        ensures { (cycle : List (List ℕ)) (pages : List definitions.Page) (n : ℕ) (p : definitions.Page) → AreOtherSubpages cycle pages self.now → slice_get pages n ≡ Some p → page ≡ p.id →
+        ensures { (cycle : List (List ℕ)) (pages : List definitions.Page) (n : ℕ) (p : definitions.Page) →
+            AreOtherSubpages cycle pages self.now → slice_get pages n ≡ Some p → page ≡ p.id →
             TellsFirst cycle (OtherSubpageAt (repeated cycle) pages p) result }
     {
         match self.first.get(place(page)) {

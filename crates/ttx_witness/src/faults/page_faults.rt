@@ -49,7 +49,8 @@ fn first_other_header(cycle: &Cycle, page: PageId) -> Option<u32>
 // The first header of another subpage, where the page is the only one of its number.
 fn first_other_subpage(cycle: &Cycle, pages: &[Page], index: usize) -> Option<u32>
     requires { index < length pages.now }
-    ensures { (p : definitions.Page) → slice_get (map page_of pages.now) index ≡ Some p → TellsFirst (slots_of cycle.now) (OtherSubpageAt (repeated (slots_of cycle.now)) (map page_of pages.now) p) result }
+    ensures { (p : definitions.Page) → slice_get (map page_of pages.now) index ≡ Some p →
+        TellsFirst (slots_of cycle.now) (OtherSubpageAt (repeated (slots_of cycle.now)) (map page_of pages.now) p) result }
 {
     let id = pages[index].id();
     if Selection::AnySub(id.mag(), id.page()).fits(pages, index) {
@@ -74,7 +75,8 @@ fn is_mine_at_end(cycle: &Cycle, page: PageId) -> bool
 // Whether the slot is a transmission that differs from the page, where `mine` says whether the page owns its magazine.
 fn differs(page: &Page, check: &Check, slot: &[u8; 42], mine: bool) -> bool
     requires { IsSlot slot.now }
-    ensures { IsTrue result ↔ ((sends (page_of page.now).id (item_of check.now) (packet_of slot.now) mine ≡ true) × IsWrong (page_of page.now) check.now slot.now) }
+    ensures { IsTrue result ↔ ((sends (page_of page.now).id (item_of check.now) (packet_of slot.now) mine ≡ true)
+        × IsWrong (page_of page.now) check.now slot.now) }
 {
     sends(page.id(), check.item(), slot, mine) && is_wrong(page, check, slot)
 }
@@ -125,7 +127,8 @@ fn first_wrong_row(cycle: &Cycle, page: &Page, mine: bool) -> Option<u32>
 // The first slot of each reason.
 fn first_slots(cycle: &Cycle, pages: &[Page], index: usize) -> FirstSlots
     requires { index < length pages.now }
-    ensures { (p : definitions.Page) → slice_get (map page_of pages.now) index ≡ Some p → AreFirst (slots_of cycle.now) (map page_of pages.now) p result }
+    ensures { (p : definitions.Page) → slice_get (map page_of pages.now) index ≡ Some p →
+        AreFirst (slots_of cycle.now) (map page_of pages.now) p result }
 {
     let page = &pages[index];
     let mine = is_mine_at_end(cycle, page.id());
@@ -144,7 +147,8 @@ fn first_slots(cycle: &Cycle, pages: &[Page], index: usize) -> FirstSlots
 /// `None` exactly where the page is steady. Takes no memory, and time linear in the slots of the cycle.
 pub fn page_fault(cycle: &Cycle, pages: &[Page], index: usize) -> Option<Reason>
     requires { index < length pages.now }
-    ensures { (p : definitions.Page) → slice_get (map page_of pages.now) index ≡ Some p → IsPageFault (slots_of cycle.now) (map page_of pages.now) p result }
+    ensures { (p : definitions.Page) → slice_get (map page_of pages.now) index ≡ Some p →
+        IsPageFault (slots_of cycle.now) (map page_of pages.now) p result }
 {
     least_fault(pages[index].id(), first_slots(cycle, pages, index))
 }

@@ -96,7 +96,8 @@ fn sort_entries(entries: &mut Vec<Entry>)
 // The deadline, where all is sent unchanged and there is a limit that is enough.
 fn deadline_of(unchanged: bool, lines: u8, least: Option<u64>) -> Option<u32>
     requires some { 1 ≤ lines }
-    ensures { (cycle : List (List ℕ)) (pages : List definitions.Page) → IsTrue unchanged ↔ IsSentUnchanged cycle pages → IsDeadline cycle pages lines least result }
+    ensures { (cycle : List (List ℕ)) (pages : List definitions.Page) → IsTrue unchanged ↔ IsSentUnchanged cycle pages →
+        IsDeadline cycle pages lines least result }
 {
     if !unchanged {
         return None;
@@ -123,7 +124,8 @@ pub fn find_for(
     requires some_lines { 1 ≤ lines }
     requires few_lines { lines ≤ 32 }
     requires distinct { AllPairs (λ a b. a ≢ b) (ids_of pages.now) }
-    ensures { IfOk result (λ found. IsFoundFor (slots_of cycle.now) (map page_of pages.now) repeat lines class (certificate_of found.certificate) found.deadline) }
+    ensures { IfOk result (λ found.
+        IsFoundFor (slots_of cycle.now) (map page_of pages.now) repeat lines class (certificate_of found.certificate) found.deadline) }
 {
     ttx_page::laws::pages_keep_their_rules();
     ttx_page::laws::pages_have_six_links();
@@ -166,7 +168,8 @@ pub fn find(
     requires some_lines { 1 ≤ lines }
     requires few_lines { lines ≤ 32 }
     requires distinct { AllPairs (λ a b. a ≢ b) (ids_of pages.now) }
-    ensures { IfOk result (λ found. IsFoundFor (slots_of cycle.now) (map page_of pages.now) repeat lines Any (certificate_of found.certificate) found.deadline) }
+    ensures { IfOk result (λ found.
+        IsFoundFor (slots_of cycle.now) (map page_of pages.now) repeat lines Any (certificate_of found.certificate) found.deadline) }
 {
     find_for(alloc, cycle, pages, repeat, lines, Class::Any)
 }

@@ -115,7 +115,8 @@ fn name_item(
     entries: &mut Vec<Entry>,
     item: &Item,
 ) -> Result<Option<u64>, NoMemory>
-    ensures entries { OnOk result (AddsEntry entries.old.items entries.new.items (page_in surveyed.now).id item.now (starts_in surveyed.now surveyed.now.survey.now.repeat item.now)) }
+    ensures entries { OnOk result (AddsEntry entries.old.items entries.new.items (page_in surveyed.now).id item.now
+        (starts_in surveyed.now surveyed.now.survey.now.repeat item.now)) }
     ensures least { IfOk result (λ least. least ≡ least_in surveyed.now surveyed.now.survey.now.repeat item.now) }
 {
     ttx_page::laws::pages_keep_their_rules();
@@ -183,7 +184,8 @@ fn name_seen(
     entries: &mut Vec<Entry>,
     item: &Item,
 ) -> Result<Option<u64>, NoMemory>
-    ensures entries { OnOk result (AddsEntry entries.old.items entries.new.items (page_in surveyed.now).id item.now (named_in surveyed.now item.now)) }
+    ensures entries { OnOk result (AddsEntry entries.old.items entries.new.items (page_in surveyed.now).id item.now
+        (named_in surveyed.now item.now)) }
     ensures least { IfOk result (λ least. least ≡ limit_in surveyed.now item.now) }
 {
     if !is_due(surveyed.survey.class, surveyed.page, item) {
@@ -199,7 +201,8 @@ pub(crate) fn name_page(
     entries: &mut Vec<Entry>,
     least: Option<u64>,
 ) -> Result<Option<u64>, NoMemory>
-    ensures { IfOk result (λ new_least. AreNamedIn surveyed.now.survey.now (26 * surveyed.now.index) entries.old.items least → AreNamedIn surveyed.now.survey.now (26 * (surveyed.now.index + 1)) entries.new.items new_least) }
+    ensures { IfOk result (λ new_least. AreNamedIn surveyed.now.survey.now (26 * surveyed.now.index) entries.old.items least →
+        AreNamedIn surveyed.now.survey.now (26 * (surveyed.now.index + 1)) entries.new.items new_least) }
 {
     let mut least = least;
     for number in 0..26u8 {

@@ -117,7 +117,9 @@ pub fn note_sent(
     limit: u32,
 )
     ensures count { length all.new.items ≡ length all.old.items }
-    ensures noted { (i : ℕ) (p : definitions.Page) (x : FactsValue) → slice_get (map page_of pages.now) i ≡ Some p → slice_get all.old.items i ≡ Some x → Holds FactsValue all.new.items i (Noted limit p (λ item. is_sent i item sent) slot.now.bytes.now slot.now.at x) }
+    ensures noted { (i : ℕ) (p : definitions.Page) (x : FactsValue) → slice_get (map page_of pages.now) i ≡ Some p →
+        slice_get all.old.items i ≡ Some x →
+        Holds FactsValue all.new.items i (Noted limit p (λ item. is_sent i item sent) slot.now.bytes.now slot.now.at x) }
 {
     let Some(s) = sent else {
         return;
