@@ -1,6 +1,6 @@
 //! The first slot that isn't clean.
 
-ghost use Rattle.std.specs.Prelude.{ℕ, ◌<◌, ◌≤◌, MatchOption, length};
+ghost use Rattle.std.specs.Prelude.{ℕ, ◌<◌, MatchOption};
 ghost use Rattle.ttx_cycle.specs.Cycles.{slots_of};
 ghost use Rattle.ttx_witness.specs.faults.Reasons.{BadSlotAt};
 

@@ -1,6 +1,6 @@
 //! The first fault of one page, by the transmissions of its items in a period.
 
-ghost use Rattle.std.specs.Prelude.{◌≡◌, ◌≤◌, ◌↔◌, ℕ, IsTrue, Some, List, [], length, slice_get, slice_index_or, unsigned_abs};
+ghost use Rattle.std.specs.Prelude.{◌≡◌, ◌≤◌, ◌↔◌, ℕ, IsTrue, Some, List, length, slice_get, unsigned_abs};
 ghost use Rattle.ttx_cycle.specs.Cycles.{slots_of};
 ghost use Rattle.ttx_header.specs.Ids.{Id};
 ghost use Rattle.ttx_page.specs.Pages as definitions;

@@ -1,9 +1,9 @@
 //! What of a page is compared with the slots that send it.
 
-ghost use Rattle.std.specs.Prelude.{◌≡◌, ◌<◌, ◌≤◌, ◌/◌, ◌↔◌, ℕ, IsTrue, true, drop, map, slice_index};
+ghost use Rattle.std.specs.Prelude.{◌≡◌, ◌<◌, ◌/◌, ◌↔◌, ℕ, IsTrue, true, drop, map, slice_index};
 ghost use Rattle.ttx_code.specs.Words.{odd_byte};
-ghost use Rattle.ttx_links.specs.Sets.{LinkSet, is_exact};
-ghost use Rattle.ttx_packet.specs.Slots.{IsSlot, are_words};
+ghost use Rattle.ttx_links.specs.Sets.{is_exact};
+ghost use Rattle.ttx_packet.specs.Slots.{IsSlot};
 ghost use Rattle.ttx_page.specs.Packets.{packet_of};
 ghost use Rattle.ttx_page.specs.Steady.{erases_page, IsLikeHead, RowIsRight, LinksAreRight};
 ghost use Rattle.ttx_page.specs.Views.{page_of};

@@ -1,11 +1,11 @@
 //! Headers of other subpages, for all pages at once.
 
-ghost use Rattle.std.specs.Prelude.{◌≡◌, ◌<◌, ◌≤◌, ℕ, IfOk, None, get_or, is_none, ◌&&◌, length, map, replicate};
+ghost use Rattle.std.specs.Prelude.{◌≡◌, ◌<◌, ◌≤◌, ℕ, IfOk, None, get_or, length, map, replicate};
 ghost use Rattle.ttx_cycle.specs.Cycles.{slots_of};
 ghost use Rattle.ttx_packet.specs.Slots.{IsSlot};
 ghost use Rattle.ttx_page.specs.Packets.{packet_of};
 ghost use Rattle.ttx_page.specs.Views.{page_of};
-ghost use Rattle.ttx_witness.specs.faults.OtherSubpages.{place, first_of, is_stray, AreAllSubcodes, AreStrays, AreOtherSubpages};
+ghost use Rattle.ttx_witness.specs.faults.OtherSubpages.{place, first_of, is_stray, AreStrays, AreOtherSubpages};
 
 use crate::faults::subcodes::{NUMBERS, Subcodes, is_other, place, subcodes_of};
 use crate::sent::packets::header_in;

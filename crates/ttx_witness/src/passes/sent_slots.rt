@@ -1,6 +1,6 @@
 //! What the slots of a period send of the items of pages, and the slots of each item from the first to the last.
 
-ghost use Rattle.std.specs.Prelude.{◌≡◌, ◌≤◌, ◌<◌, true, false, ℕ, None, List, length, get_or, replicate, IfOk, MatchOption};
+ghost use Rattle.std.specs.Prelude.{◌≡◌, ◌≤◌, ◌<◌, ℕ, None, length, get_or, replicate, IfOk};
 ghost use Rattle.std.specs.Vec.{vec_capacity};
 
 use crate::sent::one_slot::{Sent, place_in};

@@ -3,7 +3,7 @@
 ghost use Rattle.std.specs.Prelude.{◌≡◌, ◌≤◌, ℕ, List, [], ◌∷◌, ◌++◌, length, IfOk, OnOk, ◌-ℤ◌, Some, None};
 ghost use Rattle.std.specs.List.{AllByRecursion};
 ghost use Rattle.ttx_witness.specs.runs.Transmissions.{Transmission, runs};
-ghost use Rattle.ttx_witness.specs.runs.SureStarts.{above_zero, widened, spread_after, sure_starts, spread_of, IsFound};
+ghost use Rattle.ttx_witness.specs.runs.SureStarts.{above_zero, widened, sure_starts, spread_of, IsFound};
 ghost use Rattle.ttx_witness.specs.runs.Tracks.{listed, IsSearch, IsWithin};
 
 use crate::runs::transmissions::{Run, Transmission};

@@ -1,9 +1,9 @@
 //! The transmissions of one item that are held while a period is read.
 
-ghost use Rattle.std.specs.Prelude.{◌≡◌, ◌≤◌, ◌<◌, ◌+◌, ◌*◌, ◌+ℤ◌, ℕ, List, [], ◌∷◌, ◌++◌, length, nat_lt, if◌then◌else◌, pos};
-ghost use Rattle.std.specs.Prelude.{◌==◌, Option, Some, None, ◌↔◌};
+ghost use Rattle.std.specs.Prelude.{◌≡◌, ◌≤◌, ◌<◌, ◌+◌, ◌*◌, ℕ, List, [], ◌∷◌, ◌++◌, length, nat_lt, if◌then◌else◌};
+ghost use Rattle.std.specs.Prelude.{◌==◌, Option, Some, None};
 ghost use Rattle.std.specs.List.{AllByRecursion};
-ghost use Rattle.ttx_witness.specs.runs.Transmissions.{later, run_of, runs};
+ghost use Rattle.ttx_witness.specs.runs.Transmissions.{later, run_of};
 ghost use Rattle.ttx_witness.specs.runs.Tracks.{ended, keep_last, listed, IsRecent, IsRound, IsWithin, IsTurn};
 
 use crate::runs::transmissions::{Run, Transmission, run_in};

@@ -2,7 +2,7 @@
 
 ghost use Rattle.std.specs.Prelude.{◌≡◌, ◌<◌, ℕ, List, IfSome, MatchOption, slice_get, Some, false, if◌then◌else◌, ◌==◌, ◌&&◌};
 ghost use Rattle.std.specs.Prelude.{◌∷◌, [], ◌+ℤ◌, pos, not, int_lt, true};
-ghost use Rattle.ttx_header.specs.Ids.{Id, IsId};
+ghost use Rattle.ttx_header.specs.Ids.{Id};
 ghost use Rattle.ttx_packet.specs.Slots.{IsSlot};
 ghost use Rattle.ttx_page.specs.Packets.{packet_of};
 ghost use Rattle.ttx_page.specs.declared.item.Item.{Item};
