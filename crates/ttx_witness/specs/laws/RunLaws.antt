@@ -9,9 +9,9 @@
 --   MoreStartsCover         a further start that has a sure run leaves covered what was covered
 use Rattle.std.specs.Prelude.{◌≡◌, ◌↔◌, ℕ, suc, ◌<◌, ◌≤◌, ℤ, pos, ◌+ℤ◌, Bool, true, List, [], ◌∷◌, ◌++◌, length, Option, Some, None, Contains}
 use Rattle.std.specs.List.{AllByRecursion}
-use Rattle.ttx_witness.specs.runs.Transmissions.{Transmission, Run, runs, moved, start_of}
+use Rattle.ttx_witness.specs.runs.Transmissions.{Transmission, Run, runs, moved_run, start_of}
 use Rattle.ttx_witness.specs.runs.Confirming.{Rising, late_after, after_runs, not_begun}
-use Rattle.ttx_witness.specs.runs.Repeating.{Repeats, Lists, AreSent, HasSureRun, IsRunOf, IsNamedRun, IsInTime, FollowInTime, Covers, IsBad, IsLate, IsFirst}
+use Rattle.ttx_witness.specs.runs.Repeating.{Repeats, Lists, AreSent, BeginsSureRun, IsRunOf, IsNamedRun, IsInTime, FollowInTime, Covers, IsBad, IsLate, IsFirst}
 use Rattle.ttx_witness.specs.runs.SureStarts.{Spread, sure_starts, spread_of, width}
 
 pub record Sending : Type 0 where
@@ -38,7 +38,7 @@ abbrev pub NeighboursDecide : Type 0
 NeighboursDecide = (n k limit : ℕ) (s : Schedule) → Repeats n (OwnedIn s) (SureIn s) → (named : ℤ → Bool) → ((i : ℤ) → named (i +ℤ pos n) ≡ named i) →
     (first : Run) (rest : List Run) →
     Lists start_of (λ i. named i ≡ true) (IsNamedRun (OwnedIn s) (SureIn s) (λ i. named i ≡ true) k) (pos 0) (pos n) (first ∷ rest) →
-    FollowInTime limit first (rest ++ moved (pos n) first ∷ []) ↔ ((tau : ℤ) → IsInTime (OwnedIn s) (λ i. named i ≡ true) k limit tau)
+    FollowInTime limit first (rest ++ moved_run (pos n) first ∷ []) ↔ ((tau : ℤ) → IsInTime (OwnedIn s) (λ i. named i ≡ true) k limit tau)
 
 -- a start is named, each is confirmed, and none is late
 pub record Passes (n k limit : ℕ) (starts : List ℕ) (ts : List Transmission) : Type 0 where
@@ -52,7 +52,7 @@ PassDecides = (n k limit : ℕ) (s : Schedule) → Repeats n (OwnedIn s) (SureIn
 
 abbrev pub MoreStartsCover : Type 0
 MoreStartsCover = (n k limit : ℕ) (s : Schedule) (starts more : List ℕ) → ((start : ℕ) → Contains starts start → Contains more start) →
-    ((start : ℕ) → Contains more start → (start < n) × HasSureRun (OwnedIn s) (SureIn s) k (pos start)) →
+    ((start : ℕ) → Contains more start → (start < n) × BeginsSureRun (OwnedIn s) (SureIn s) k (pos start)) →
     Covers (OwnedIn s) (SureIn s) n k limit starts → Covers (OwnedIn s) (SureIn s) n k limit more
 
 abbrev pub PassFindsTheFirst : Type 0
@@ -70,5 +70,5 @@ IsLeastLimit Covered n starts (Some s) = ((limit : ℕ) → (width n s ≤ limit
 abbrev pub SearchIsLeast : Type 0
 SearchIsLeast = (n k : ℕ) (s : Schedule) → Repeats n (OwnedIn s) (SureIn s) → (ts : List Transmission) → AreSent (OwnedIn s) (SureIn s) (pos 0) (pos n) ts →
     let found = sure_starts (runs n k ts) in
-    ((start : ℕ) → Contains found start ↔ ((start < n) × HasSureRun (OwnedIn s) (SureIn s) (suc k) (pos start)))
+    ((start : ℕ) → Contains found start ↔ ((start < n) × BeginsSureRun (OwnedIn s) (SureIn s) (suc k) (pos start)))
     × IsLeastLimit (λ limit starts. Covers (OwnedIn s) (SureIn s) n (suc k) limit starts) n found (spread_of None (runs n k ts))

@@ -14,7 +14,7 @@ use Rattle.ttx_page.specs.Pages.{Page, needed}
 use Rattle.ttx_page.specs.Streams.{Stream}
 use Rattle.ttx_page.specs.declared.item.Item.{Item}
 use Rattle.ttx_page.specs.declared.item.Item.TheVariants.{Head as TheHead, Row as TheRow, Links as TheLinks}
-use Rattle.ttx_witness.specs.faults.Comparing.{is_mine, item_of, sends, IsWrong}
+use Rattle.ttx_witness.specs.faults.Comparing.{is_mine, compared_item, sends, IsWrong}
 use Rattle.ttx_witness.specs.Coverage.{Certificate, limit}
 use Rattle.ttx_witness.specs.faults.OtherSubpages.{first_of}
 use Rattle.ttx_witness.specs.sent.ItemTransmissions.{PageOwner, owner_scan, sent_scan}
@@ -56,7 +56,7 @@ FirstBelow P n None = (i : ℕ) → i < n → P i → ⊥
 FirstBelow P n (Some j) = (j < n) × P j × ((i : ℕ) → i < j → P i → ⊥)
 
 pub record SendsWrong (p : Page) (s : Stream) (entry : Option PageOwner) (check : Check) (j : ℕ) : Type 0 where
-  pub sent : sends p.id (item_of check) (packet_of (s (pos j))) (is_mine (owner_scan p.id s entry j)) ≡ true
+  pub sent : sends p.id (compared_item check) (packet_of (s (pos j))) (is_mine (owner_scan p.id s entry j)) ≡ true
   pub wrong : IsWrong p check (s (pos j))
 
 pub record SendsWrongRow (p : Page) (s : Stream) (entry : Option PageOwner) (j : ℕ) : Type 0 where

@@ -49,12 +49,12 @@ sent_scan page lines item s entry zero = []
 sent_scan page lines item s entry (suc n) = sent_scan page lines item s entry n ++ sent_at page lines item (pos n) (packet_of (s (pos n))) (owner_scan page s entry n)
 
 -- the owner before slot 0: that of the period's end, a period earlier
-abbrev pub entry_of : List (List ℕ) → Id → Option PageOwner
-entry_of cycle page = owner_moved (pos 0 -ℤ pos (length cycle)) (owner_scan page (repeated cycle) None (length cycle))
+abbrev pub entry_owner : List (List ℕ) → Id → Option PageOwner
+entry_owner cycle page = owner_moved (pos 0 -ℤ pos (length cycle)) (owner_scan page (repeated cycle) None (length cycle))
 
 -- before slot 0 another cycle was sent, or the same one
 abbrev pub sent_after : List (List ℕ) → List (List ℕ) → Id → ℕ → Item → List Transmission
-sent_after before cycle page lines item = sent_scan page lines item (repeated cycle) (entry_of before page) (length cycle)
+sent_after before cycle page lines item = sent_scan page lines item (repeated cycle) (entry_owner before page) (length cycle)
 
 abbrev pub sent_in : List (List ℕ) → Id → ℕ → Item → List Transmission
 sent_in cycle page lines item = sent_after cycle cycle page lines item

@@ -10,7 +10,7 @@ ghost use Rattle.ttx_page.specs.Steady.{HasHeader, OtherSubpageAt, RowDiffersAt}
 ghost use Rattle.ttx_page.specs.declared.item.Item.TheVariants.{Head as TheHead};
 ghost use Rattle.ttx_witness.specs.sent.AllSent.{AreAllSent};
 ghost use Rattle.ttx_witness.specs.sent.ItemTransmissions.{sent_in};
-ghost use Rattle.ttx_witness.specs.faults.Comparing.{item_of, IsWrongIn, WrongAt, RowWrongAt};
+ghost use Rattle.ttx_witness.specs.faults.Comparing.{compared_item, IsWrongIn, WrongAt, RowWrongAt};
 ghost use Rattle.ttx_witness.specs.faults.Faults.{TellsFirst, AreFirst, IsPageFault};
 
 use crate::faults::comparing::{Check, is_wrong};
@@ -46,7 +46,7 @@ pub fn first_wrong_sent(
     check: &Check,
     sent: &[Transmission],
 ) -> Option<u32>
-    ensures { (lines : ℕ) → sent.now ≡ sent_in (slots_of cycle.now) (page_of page.now).id lines (item_of check.now) →
+    ensures { (lines : ℕ) → sent.now ≡ sent_in (slots_of cycle.now) (page_of page.now).id lines (compared_item check.now) →
         TellsFirst (slots_of cycle.now) (WrongAt (repeated (slots_of cycle.now)) (page_of page.now) check.now) result }
 {
     for i in 0..sent.len() {

@@ -7,7 +7,7 @@ ghost use Rattle.ttx_packet.specs.Slots.{IsSlot};
 ghost use Rattle.ttx_page.specs.Packets.{packet_of};
 ghost use Rattle.ttx_page.specs.Steady.{erases_page, IsLikeHead, RowIsRight, LinksAreRight};
 ghost use Rattle.ttx_page.specs.Views.{page_of};
-ghost use Rattle.ttx_witness.specs.faults.Comparing.{item_of, IsWrong};
+ghost use Rattle.ttx_witness.specs.faults.Comparing.{compared_item, IsWrong};
 
 use crate::sent::packets::{header_in, links_in, row_in};
 use ttx_code::{is_word, odd};
@@ -31,7 +31,7 @@ pub enum Check {
 impl Check {
     /// The item whose transmissions show it.
     pub fn item(&self) -> Item
-        ensures { result ≡ item_of self.now }
+        ensures { result ≡ compared_item self.now }
     {
         match self {
             Check::EraseBit => Item::Head,

@@ -6,10 +6,10 @@ ghost use Rattle.ttx_page.specs.Pages as definitions;
 ghost use Rattle.ttx_page.specs.Views.{page_of};
 ghost use Rattle.ttx_page.specs.Streams.{repeated};
 ghost use Rattle.ttx_page.specs.Steady.{HasHeader, OtherSubpageAt, RowDiffersAt};
-ghost use Rattle.ttx_witness.specs.sent.ItemTransmissions.{owner_scan, entry_of};
+ghost use Rattle.ttx_witness.specs.sent.ItemTransmissions.{owner_scan, entry_owner};
 ghost use Rattle.ttx_packet.specs.Slots.{IsSlot};
 ghost use Rattle.ttx_page.specs.Packets.{packet_of};
-ghost use Rattle.ttx_witness.specs.faults.Comparing.{is_mine, item_of, sends, IsWrong, OtherHeaderAt, WrongAt, RowWrongAt};
+ghost use Rattle.ttx_witness.specs.faults.Comparing.{is_mine, compared_item, sends, IsWrong, OtherHeaderAt, WrongAt, RowWrongAt};
 ghost use Rattle.ttx_witness.specs.faults.Faults.{TellsFirst, AreFirst, IsPageFault};
 
 use crate::faults::comparing::{Check, is_wrong};
@@ -75,7 +75,7 @@ fn is_mine_at_end(cycle: &Cycle, page: PageId) -> bool
 // Whether the slot is a transmission that differs from the page, where `mine` says whether the page owns its magazine.
 fn differs(page: &Page, check: &Check, slot: &[u8; 42], mine: bool) -> bool
     requires { IsSlot slot.now }
-    ensures { IsTrue result ↔ ((sends (page_of page.now).id (item_of check.now) (packet_of slot.now) mine ≡ true)
+    ensures { IsTrue result ↔ ((sends (page_of page.now).id (compared_item check.now) (packet_of slot.now) mine ≡ true)
         × IsWrong (page_of page.now) check.now slot.now) }
 {
     sends(page.id(), check.item(), slot, mine) && is_wrong(page, check, slot)
@@ -83,7 +83,7 @@ fn differs(page: &Page, check: &Check, slot: &[u8; 42], mine: bool) -> bool
 
 // The first transmission that differs from the page; `mine` says whether the page owns its magazine before the period.
 fn first_wrong(cycle: &Cycle, page: &Page, check: &Check, mine: bool) -> Option<u32>
-    requires { mine ≡ is_mine (entry_of (slots_of cycle.now) (page_of page.now).id) }
+    requires { mine ≡ is_mine (entry_owner (slots_of cycle.now) (page_of page.now).id) }
     ensures { TellsFirst (slots_of cycle.now) (WrongAt (repeated (slots_of cycle.now)) (page_of page.now) check.now) result }
 {
     let slots = cycle.slots();
@@ -99,7 +99,7 @@ fn first_wrong(cycle: &Cycle, page: &Page, check: &Check, mine: bool) -> Option<
 
 // The first slot that sends another row in the place of this one, where a viewer sees the row.
 fn first_wrong_in(cycle: &Cycle, page: &Page, number: u8, mine: bool) -> Option<u32>
-    requires { mine ≡ is_mine (entry_of (slots_of cycle.now) (page_of page.now).id) }
+    requires { mine ≡ is_mine (entry_owner (slots_of cycle.now) (page_of page.now).id) }
     ensures { TellsFirst (slots_of cycle.now) (RowWrongAt (repeated (slots_of cycle.now)) (page_of page.now) number) result }
 {
     let Some(row) = RowNumber::new(number) else {
@@ -114,7 +114,7 @@ fn first_wrong_in(cycle: &Cycle, page: &Page, number: u8, mine: bool) -> Option<
 
 // The first slot that sends another row in the place of one that a viewer sees.
 fn first_wrong_row(cycle: &Cycle, page: &Page, mine: bool) -> Option<u32>
-    requires { mine ≡ is_mine (entry_of (slots_of cycle.now) (page_of page.now).id) }
+    requires { mine ≡ is_mine (entry_owner (slots_of cycle.now) (page_of page.now).id) }
     ensures { TellsFirst (slots_of cycle.now) (RowDiffersAt (repeated (slots_of cycle.now)) (page_of page.now)) result }
 {
     let mut first = None;

@@ -12,7 +12,7 @@ ghost use Rattle.ttx_certificate.specs.EntryViews.{entries_of};
 ghost use Rattle.ttx_certificate.specs.Certificates.{certificate_of};
 ghost use Rattle.ttx_witness.specs.sent.Collected.{ids_of};
 ghost use Rattle.ttx_witness.specs.finding.Finding.{same_place, IsLeastField, IsDeadline, IsSentUnchanged, IsFoundFor};
-ghost use Rattle.ttx_witness.specs.finding.Surveys.{slots_in, pages_in, page_in, AreNamedIn, AreOthersIn, IsSteadyIn};
+ghost use Rattle.ttx_witness.specs.finding.Surveys.{survey_slots, survey_pages, surveyed_page, AreNamedIn, AreOthersIn, IsSteadyIn};
 
 use crate::faults::bad_slots::bad_slot;
 use crate::faults::other_subpages::OtherSubpages;
@@ -47,7 +47,7 @@ fn least_field(slots: u64, lines: u8) -> Option<u32>
 
 // Whether the page is sent unchanged.
 fn is_steady(surveyed: &SurveyedPage, others: &OtherSubpages) -> bool
-    ensures { AreOthersIn surveyed.now.survey.now others.now → IsTrue result ↔ IsSteadyIn surveyed.now.survey.now (page_in surveyed.now) }
+    ensures { AreOthersIn surveyed.now.survey.now others.now → IsTrue result ↔ IsSteadyIn surveyed.now.survey.now (surveyed_page surveyed.now) }
 {
     crate::laws::fault_laws::steady_has_no_fault();
     surveyed.fault(others).is_none()
@@ -55,7 +55,7 @@ fn is_steady(surveyed: &SurveyedPage, others: &OtherSubpages) -> bool
 
 // Whether no slot is bad and each page is sent unchanged.
 fn is_sent_unchanged(survey: &Survey, others: &OtherSubpages) -> bool
-    ensures { AreOthersIn survey.now others.now → IsTrue result ↔ IsSentUnchanged (slots_in survey.now) (pages_in survey.now) }
+    ensures { AreOthersIn survey.now others.now → IsTrue result ↔ IsSentUnchanged (survey_slots survey.now) (survey_pages survey.now) }
 {
     if bad_slot(survey.cycle).is_some() {
         return false;
