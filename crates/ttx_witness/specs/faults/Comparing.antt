@@ -7,7 +7,8 @@
 --   is_other_subpage        a header of the page's number with another subcode
 --   Check, compared_item          what is compared, and the item whose transmissions show it
 --   IsWrong, WrongAt, RowWrongAt, OtherHeaderAt, IsWrongIn     a slot that differs from the page
-use Rattle.std.specs.Prelude.{◌≡◌, ℕ, ℤ, pos, ◌<ℤ◌, ◌≤ℤ◌, unsigned_abs, [], length, slice_index_or, Bool, true, false, not, ◌&&◌, if◌then◌else◌, List, Option, Some, None, take, drop}
+use Rattle.std.specs.Prelude.{◌≡◌, ℕ, ℤ, pos, ◌<ℤ◌, ◌≤ℤ◌, unsigned_abs, [], length, slice_index_or, Bool, true, false, not, ◌&&◌}
+use Rattle.std.specs.Prelude.{if◌then◌else◌, List, Option, Some, None, take, drop}
 use Rattle.ttx_packet.specs.declared.place.Address.{Address}
 use Rattle.ttx_header.specs.Ids.{Id}
 use Rattle.ttx_header.specs.Fields.{HeaderFields}

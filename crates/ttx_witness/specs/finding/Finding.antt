@@ -7,7 +7,8 @@
 --   IsDone, same_place, AreNamed            the items that have been looked at; what is known of entries and limits after them
 --   CanBeAccepted           some certificate of these numbers and this deadline is accepted
 --   IsFoundFor              the certificate that is found, and the least deadline
-use Rattle.std.specs.Prelude.{◌≡◌, ◌⊎◌, ◌↔◌, ℕ, ◌-◌, ◌*◌, ◌<◌, ◌≤◌, max, Bool, true, false, not, ◌&&◌, ◌==◌, if◌then◌else◌, List, [], ◌∷◌, ◌++◌, length, slice_get, slice_index_or, Contains, Option, Some, None}
+use Rattle.std.specs.Prelude.{◌≡◌, ◌⊎◌, ◌↔◌, ℕ, ◌-◌, ◌*◌, ◌<◌, ◌≤◌, max, Bool, true, false, not, ◌&&◌, ◌==◌, if◌then◌else◌, List, [], ◌∷◌}
+use Rattle.std.specs.Prelude.{◌++◌, length, slice_get, slice_index_or, Contains, Option, Some, None}
 use Rattle.std.specs.List.{All, AllPairs}
 use Rattle.ttx_header.specs.Ids.{Id}
 use Rattle.ttx_page.specs.Pages.{Page, needed, is_blank}
@@ -51,7 +52,8 @@ starts_for cycle class lines repeat p item = if is_due class p item then starts_
 
 -- an item that isn't due needs the next header of its page alone
 abbrev pub limit_for : List (List ℕ) → Class → ℕ → ℕ → Page → Item → Option ℕ
-limit_for cycle class lines repeat p item = if is_due class p item then least_limit cycle lines repeat p.id item else least_limit cycle lines 1 p.id TheHead
+limit_for cycle class lines repeat p item =
+    if is_due class p item then least_limit cycle lines repeat p.id item else least_limit cycle lines 1 p.id TheHead
 
 -- the least limit that is enough for both
 abbrev pub wider : Option ℕ → Option ℕ → Option ℕ
@@ -86,12 +88,16 @@ abbrev pub same_place : Entry → Entry → Bool
 same_place a b = place_of a.page a.item == place_of b.page b.item
 
 -- after the first m items
-pub record AreNamed (cycle : List (List ℕ)) (pages : List Page) (class : Class) (lines repeat m : ℕ) (entries : List Entry) (least : Option ℕ) : Type 0 where
+pub record AreNamed (cycle : List (List ℕ)) (pages : List Page) (class : Class) (lines repeat m : ℕ)
+    (entries : List Entry) (least : Option ℕ) : Type 0 where
   pub told : All (NamesStarts cycle pages class lines repeat m) entries
   pub apart : AllPairs (λ a b. same_place a b ≡ false) entries
-  pub kept : (i : ℕ) (p : Page) (item : Item) → IsDone pages m i p item → (starts_for cycle class lines repeat p item ≡ []) ⊎ HasEntry entries p.id item
-  pub least_to : (limit : ℕ) → IsEnough least limit → (i : ℕ) (p : Page) (item : Item) → IsDone pages m i p item → IsEnough (limit_for cycle class lines repeat p item) limit
-  pub least_from : (limit : ℕ) → ((i : ℕ) (p : Page) (item : Item) → IsDone pages m i p item → IsEnough (limit_for cycle class lines repeat p item) limit) → IsEnough least limit
+  pub kept : (i : ℕ) (p : Page) (item : Item) → IsDone pages m i p item →
+      (starts_for cycle class lines repeat p item ≡ []) ⊎ HasEntry entries p.id item
+  pub least_to : (limit : ℕ) → IsEnough least limit → (i : ℕ) (p : Page) (item : Item) → IsDone pages m i p item →
+      IsEnough (limit_for cycle class lines repeat p item) limit
+  pub least_from : (limit : ℕ) →
+      ((i : ℕ) (p : Page) (item : Item) → IsDone pages m i p item → IsEnough (limit_for cycle class lines repeat p item) limit) → IsEnough least limit
 
 -- there is no start and nothing is added, or an entry that names them is
 abbrev pub AddsEntry : List Entry → List Entry → Id → Item → List ℕ → Type 0
@@ -130,7 +136,8 @@ IsLeastDeadline cycle pages w None = (w.deadline ≡ 1000000) × ((d : ℕ) → 
 IsLeastDeadline cycle pages w (Some d) =
     (w.deadline ≡ d) × Accepts cycle pages w × ((e : ℕ) → CanBeAccepted cycle pages w.class w.lines w.repeat e → d ≤ e)
 
-pub record IsFoundFor (cycle : List (List ℕ)) (pages : List Page) (repeat lines : ℕ) (class : Class) (w : Certificate) (deadline : Option ℕ) : Type 0 where
+pub record IsFoundFor (cycle : List (List ℕ)) (pages : List Page) (repeat lines : ℕ) (class : Class)
+    (w : Certificate) (deadline : Option ℕ) : Type 0 where
   pub same_lines : w.lines ≡ lines
   pub same_repeat : w.repeat ≡ repeat
   pub same_class : w.class ≡ class

@@ -11,7 +11,8 @@ use Rattle.std.specs.Prelude.{◌≡◌, ◌↔◌, ℕ, suc, ◌<◌, ◌≤◌
 use Rattle.std.specs.List.{AllByRecursion}
 use Rattle.ttx_witness.specs.runs.Transmissions.{Transmission, Run, runs, moved_run, start_of}
 use Rattle.ttx_witness.specs.runs.Confirming.{Rising, late_after, after_runs, not_begun}
-use Rattle.ttx_witness.specs.runs.Repeating.{Repeats, Lists, AreSent, BeginsSureRun, IsRunOf, IsNamedRun, IsInTime, FollowInTime, Covers, IsBad, IsLate, IsFirst}
+use Rattle.ttx_witness.specs.runs.Repeating.{Repeats, Lists, AreSent, BeginsSureRun, IsRunOf, IsNamedRun, IsInTime, FollowInTime, Covers}
+use Rattle.ttx_witness.specs.runs.Repeating.{IsBad, IsLate, IsFirst}
 use Rattle.ttx_witness.specs.runs.SureStarts.{Spread, sure_starts, spread_of, width}
 
 pub record Sending : Type 0 where
@@ -44,7 +45,9 @@ NeighboursDecide = (n k limit : ℕ) (s : Schedule) → Repeats n (OwnedIn s) (S
 pub record Passes (n k limit : ℕ) (starts : List ℕ) (ts : List Transmission) : Type 0 where
   pub some_named : 0 < length starts
   pub all_confirmed : (after_runs limit starts not_begun (runs n k ts)).next ≡ length starts
-  pub none_late : late_after limit starts (after_runs limit starts not_begun (runs n k ts)) ((after_runs limit starts not_begun (runs n k ts)).first_end +ℤ pos n) ≡ None
+  pub none_late :
+      late_after limit starts (after_runs limit starts not_begun (runs n k ts))
+      ((after_runs limit starts not_begun (runs n k ts)).first_end +ℤ pos n) ≡ None
 
 abbrev pub PassDecides : Type 0
 PassDecides = (n k limit : ℕ) (s : Schedule) → Repeats n (OwnedIn s) (SureIn s) → (starts : List ℕ) → Rising starts → (ts : List Transmission) →
@@ -59,16 +62,20 @@ abbrev pub PassFindsTheFirst : Type 0
 PassFindsTheFirst = (n k limit : ℕ) (s : Schedule) → Repeats n (OwnedIn s) (SureIn s) → (starts : List ℕ) → Rising starts → (ts : List Transmission) →
     AreSent (OwnedIn s) (SureIn s) (pos 0) (pos n) ts → let p = after_runs limit starts not_begun (runs n k ts) in
     (p.next ≤ length starts)
-    × (p.next < length starts → IsBad (OwnedIn s) (SureIn s) n (suc k) starts p.next × ((j : ℕ) → j < p.next → IsBad (OwnedIn s) (SureIn s) n (suc k) starts j → ⊥))
-    × (p.next ≡ length starts → 0 < length starts → IsFirst (IsLate (OwnedIn s) n (suc k) limit starts) starts (late_after limit starts p (p.first_end +ℤ pos n)))
+    × (p.next < length starts → IsBad (OwnedIn s) (SureIn s) n (suc k) starts p.next
+    × ((j : ℕ) → j < p.next → IsBad (OwnedIn s) (SureIn s) n (suc k) starts j → ⊥))
+    × (p.next ≡ length starts → 0 < length starts →
+    IsFirst (IsLate (OwnedIn s) n (suc k) limit starts) starts (late_after limit starts p (p.first_end +ℤ pos n)))
 
 -- with no sure run nothing covers the item
 abbrev pub IsLeastLimit : (ℕ → List ℕ → Type 0) → ℕ → List ℕ → Option Spread → Type 0
 IsLeastLimit Covered n starts None = (limit : ℕ) (others : List ℕ) → Covered limit others → ⊥
-IsLeastLimit Covered n starts (Some s) = ((limit : ℕ) → (width n s ≤ limit) ↔ Covered limit starts) × ((limit : ℕ) (others : List ℕ) → Covered limit others → width n s ≤ limit)
+IsLeastLimit Covered n starts (Some s) = ((limit : ℕ) → (width n s ≤ limit) ↔ Covered limit starts)
+    × ((limit : ℕ) (others : List ℕ) → Covered limit others → width n s ≤ limit)
 
 abbrev pub SearchIsLeast : Type 0
-SearchIsLeast = (n k : ℕ) (s : Schedule) → Repeats n (OwnedIn s) (SureIn s) → (ts : List Transmission) → AreSent (OwnedIn s) (SureIn s) (pos 0) (pos n) ts →
+SearchIsLeast = (n k : ℕ) (s : Schedule) → Repeats n (OwnedIn s) (SureIn s) → (ts : List Transmission) →
+    AreSent (OwnedIn s) (SureIn s) (pos 0) (pos n) ts →
     let found = sure_starts (runs n k ts) in
     ((start : ℕ) → Contains found start ↔ ((start < n) × BeginsSureRun (OwnedIn s) (SureIn s) (suc k) (pos start)))
     × IsLeastLimit (λ limit starts. Covers (OwnedIn s) (SureIn s) n (suc k) limit starts) n found (spread_of None (runs n k ts))

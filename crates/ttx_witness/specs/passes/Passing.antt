@@ -76,7 +76,8 @@ pub record AreListed (pages : List Page) (w : Certificate) (entry : Id → Optio
 
 -- the facts of each page
 abbrev pub AreNoted : List Page → Certificate → (Id → Option PageOwner) → List (List ℕ) → List Facts → Type 0
-AreNoted pages w entry y all = (i : ℕ) (p : Page) → slice_get pages i ≡ Some p → HoldsAt Facts all i (AreFacts w p (repeated y) (entry p.id) (length y))
+AreNoted pages w entry y all = (i : ℕ) (p : Page) → slice_get pages i ≡ Some p →
+    HoldsAt Facts all i (AreFacts w p (repeated y) (entry p.id) (length y))
 
 -- the first header of another subpage, of each page number
 abbrev pub AreTold : List (List ℕ) → Strays → Type 0

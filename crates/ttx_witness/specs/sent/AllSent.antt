@@ -11,7 +11,8 @@ use Rattle.ttx_witness.specs.declared.sent.collected.Collected.{Collected}
 
 pub record AreSentAfter (before cycle : List (List ℕ)) (pages : List Page) (lines : ℕ) (c : Collected) : Type 0 where
   pub count : length c.lists.items ≡ 26 * length pages
-  pub each : (i : ℕ) (p : Page) (item : Item) → slice_get pages i ≡ Some p → IsItem item → held c.lists.items (place_of_item i item) ≡ sent_after before cycle p.id lines item
+  pub each : (i : ℕ) (p : Page) (item : Item) → slice_get pages i ≡ Some p → IsItem item →
+      held c.lists.items (place_of_item i item) ≡ sent_after before cycle p.id lines item
 
 abbrev pub AreAllSent : List (List ℕ) → List Page → ℕ → Collected → Type 0
 AreAllSent cycle pages lines c = AreSentAfter cycle cycle pages lines c

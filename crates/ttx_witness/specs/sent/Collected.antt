@@ -6,7 +6,8 @@
 --   AreOwners               the owners are right for each page
 --   IsItem, place_of_item           the items of a page, and where the transmissions of an item of a page are kept
 --   held, AreCollected      the list in a place_of_item; the lists are the transmissions of all items in the first slots of a period
-use Rattle.std.specs.Prelude.{◌≡◌, ℕ, ◌+◌, ◌-◌, ◌*◌, ◌<◌, Bool, false, ◌||◌, ◌==◌, List, [], slice_get, get_or, map, length, nat_eq, Option, Some, None, Vec}
+use Rattle.std.specs.Prelude.{◌≡◌, ℕ, ◌+◌, ◌-◌, ◌*◌, ◌<◌, Bool, false, ◌||◌, ◌==◌, List, [], slice_get, get_or, map, length, nat_eq}
+use Rattle.std.specs.Prelude.{Option, Some, None, Vec}
 use Rattle.std.specs.Global.{Global}
 use Rattle.ttx_header.specs.Ids.{Id, IsId, same_id}
 use Rattle.ttx_page.specs.Streams.{repeated}
@@ -47,7 +48,8 @@ owner_for owners i id = seen_by i (get_or owners (id.mag - 1) None)
 
 -- after j slots of the period of a cycle that comes after another one
 abbrev pub AreOwners : List Id → List (List ℕ) → List (List ℕ) → ℕ → List (Option Owner) → Type 0
-AreOwners ids before cycle j owners = (i : ℕ) (id : Id) → slice_get ids i ≡ Some id → IsId id → owner_for owners i id ≡ owner_scan id (repeated cycle) (entry_owner before id) j
+AreOwners ids before cycle j owners = (i : ℕ) (id : Id) → slice_get ids i ≡ Some id → IsId id →
+    owner_for owners i id ≡ owner_scan id (repeated cycle) (entry_owner before id) j
 
 -- a page is never the owner's in another magazine than its own
 abbrev pub IsForeign : ℕ → Option Owner → Type 0

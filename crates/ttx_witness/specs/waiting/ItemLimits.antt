@@ -25,7 +25,8 @@ pub record IsBelow (cycle : List (List ℕ)) (p : Page) (class : Class) (repeat 
   pub below : deadline < bound
 
 abbrev pub AllBelow : List (List ℕ) → Page → Class → ℕ → ℕ → ℕ → ℕ → Type 0
-AllBelow cycle p class repeat lines m bound = (other : Item) → needed p other ≡ true → item_number other < m → IsBelow cycle p class repeat lines other bound
+AllBelow cycle p class repeat lines m bound = (other : Item) → needed p other ≡ true → item_number other < m →
+    IsBelow cycle p class repeat lines other bound
 
 pub record IsFirstLongest (cycle : List (List ℕ)) (p : Page) (class : Class) (repeat lines m deadline : ℕ) (item : Item) : Type 0 where
   pub seen : needed p item ≡ true
@@ -42,5 +43,6 @@ abbrev pub IsByLimits : List (List ℕ) → Page → Class → ℕ → ℕ → W
 IsByLimits cycle p class repeat lines (Fields deadline item) = IsLongest cycle p class repeat lines 26 deadline item
 IsByLimits cycle p class repeat lines (Faulty reason) = ⊥
 IsByLimits cycle p class repeat lines (Unsure item losses) =
-    (needed p item ≡ true) × (limit_for cycle class lines repeat p item ≡ None) × ((bound : ℕ) × AllBelow cycle p class repeat lines (item_number item) bound)
+    (needed p item ≡ true) × (limit_for cycle class lines repeat p item ≡ None)
+    × ((bound : ℕ) × AllBelow cycle p class repeat lines (item_number item) bound)
     × AreLosses cycle p.id lines item losses

@@ -92,7 +92,8 @@ pub record IsWait (cycle : List (List ℕ)) (pages : List Page) (p : Page) (clas
   pub reason : IsReason cycle pages p class repeat lines wait
 
 -- what is told of the page at the index
-pub record IsPageTold (cycle : List (List ℕ)) (pages : List Page) (class : Class) (repeat lines index : ℕ) (p : Page) (told : List PageWait) : Type 0 where
+pub record IsPageTold (cycle : List (List ℕ)) (pages : List Page) (class : Class) (repeat lines index : ℕ)
+    (p : Page) (told : List PageWait) : Type 0 where
   pub answer : PageWait
   pub at : slice_get told index ≡ Some answer
   pub page : answer.page ≡ p.id
