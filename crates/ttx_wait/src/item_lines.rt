@@ -1,6 +1,6 @@
 //! The lines of how long viewers of the items of pages wait.
 
-ghost use Rattle.std.specs.Prelude.{◌≡◌, ◌+◌, ◌++◌, ◌∷◌, [], get_or, map, OnOk, IfOk, codes, string_bytes};
+ghost use Rattle.std.specs.Prelude.{◌≡◌, ◌+◌, ◌++◌, [], get_or, map, OnOk, IfOk, string_bytes};
 ghost use Rattle.ttx_wait.specs.WaitLines.{own_text, item_line, item_lines, lines_under, both_lines, item_wait_lines};
 
 use crate::deadlines::greatest;

@@ -37,4 +37,5 @@ pub record IsLeftOut (cycle : List (List ℕ)) (p : Page) (w : Certificate) (ite
 pub record Accepts (cycle : List (List ℕ)) (pages : List Page) (w : Certificate) : Type 0 where
   pub clean : (n : ℕ) → n < length cycle → is_clean (slice_index_or cycle n []) ≡ true
   pub steady : (n : ℕ) (p : Page) → slice_get pages n ≡ Some p → Steady (repeated cycle) pages p
-  pub covered : (n : ℕ) (p : Page) → slice_get pages n ≡ Some p → (item : Item) → needed p item ≡ true → IsCovered cycle p w item ⊎ IsLeftOut cycle p w item
+  pub covered : (n : ℕ) (p : Page) → slice_get pages n ≡ Some p → (item : Item) → needed p item ≡ true →
+      IsCovered cycle p w item ⊎ IsLeftOut cycle p w item

@@ -5,9 +5,10 @@
 --   mine_after, sends       whether the page owns its magazine after a slot, and whether a slot sends an item
 --   is_mine                 whether an owner is the page's header
 --   is_other_subpage        a header of the page's number with another subcode
---   Check, item_of          what is compared, and the item whose transmissions show it
+--   Check, compared_item          what is compared, and the item whose transmissions show it
 --   IsWrong, WrongAt, RowWrongAt, OtherHeaderAt, IsWrongIn     a slot that differs from the page
-use Rattle.std.specs.Prelude.{◌≡◌, ℕ, ℤ, pos, ◌<ℤ◌, ◌≤ℤ◌, unsigned_abs, [], length, slice_index_or, Bool, true, false, not, ◌&&◌, if◌then◌else◌, List, Option, Some, None, take, drop}
+use Rattle.std.specs.Prelude.{◌≡◌, ℕ, ℤ, pos, ◌<ℤ◌, ◌≤ℤ◌, unsigned_abs, [], length, slice_index_or, Bool, true, false, not, ◌&&◌}
+use Rattle.std.specs.Prelude.{if◌then◌else◌, List, Option, Some, None, take, drop}
 use Rattle.ttx_packet.specs.declared.place.Address.{Address}
 use Rattle.ttx_header.specs.Ids.{Id}
 use Rattle.ttx_header.specs.Fields.{HeaderFields}
@@ -66,11 +67,11 @@ is_mine (Some owner) = owner.mine
 abbrev pub is_other_subpage : Id → Packet → Bool
 is_other_subpage page packet = heads_matched (AnySub page.mag page.page) packet && not (heads_page page packet)
 
-abbrev pub item_of : Check → Item
-item_of EraseBit = TheHead
-item_of CheckHead = TheHead
-item_of (CheckRow r) = TheRow r
-item_of CheckLinks = TheLinks
+abbrev pub compared_item : Check → Item
+compared_item EraseBit = TheHead
+compared_item CheckHead = TheHead
+compared_item (CheckRow r) = TheRow r
+compared_item CheckLinks = TheLinks
 
 -- what the slot sends of the item differs from the page
 abbrev pub IsWrong : Page → Check → List ℕ → Type 0
@@ -80,7 +81,7 @@ IsWrong p (CheckRow r) slot = RowIsRight p r (packet_of slot) → ⊥
 IsWrong p CheckLinks slot = LinksAreRight p slot (packet_of slot) → ⊥
 
 pub record WrongAt (s : Stream) (p : Page) (check : Check) (j : ℤ) : Type 0 where
-  pub sent : IsTransmission s p.id (item_of check) j
+  pub sent : IsTransmission s p.id (compared_item check) j
   pub wrong : IsWrong p check (s j)
 
 -- a header of the page's number with another subcode

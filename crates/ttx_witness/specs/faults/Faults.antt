@@ -17,7 +17,8 @@ use Rattle.ttx_witness.specs.Coverage.{Certificate, IsCovered, IsLeftOut}
 use Rattle.ttx_witness.specs.faults.Reasons.{HasNoWitness, WitnessBadAt, LateAt, LateBlankAt}
 use Rattle.ttx_witness.specs.declared.faults.first_slots.FirstSlots.{FirstSlots}
 use Rattle.ttx_witness.specs.declared.faults.reason.Reason.{Reason}
-use Rattle.ttx_witness.specs.declared.faults.reason.Reason.TheVariants.{NoHeader, OtherSubpage, Erased, HeadDiffers, RowDiffers, LinksDiffer, NoWitness, WitnessBad, Late, LateBlank}
+use Rattle.ttx_witness.specs.declared.faults.reason.Reason.TheVariants.{NoHeader, OtherSubpage, Erased, HeadDiffers, RowDiffers}
+use Rattle.ttx_witness.specs.declared.faults.reason.Reason.TheVariants.{LinksDiffer, NoWitness, WitnessBad, Late, LateBlank}
 
 abbrev pub Never : (ℤ → Type 0) → Type 0
 Never P = (j : ℤ) → P j → ⊥
@@ -117,7 +118,8 @@ IsWitnessFault cycle p w (Some reason) = ⊥
 -- None where the page is steady and each item is covered or left out
 abbrev pub IsFault : List (List ℕ) → List Page → Page → Certificate → Option Reason → Type 0
 IsFault cycle pages p w None = Steady (repeated cycle) pages p × IsWitnessFault cycle p w None
-IsFault cycle pages p w (Some reason) = IsPageFault cycle pages p (Some reason) ⊎ (Steady (repeated cycle) pages p × IsWitnessFault cycle p w (Some reason))
+IsFault cycle pages p w (Some reason) = IsPageFault cycle pages p (Some reason)
+    ⊎ (Steady (repeated cycle) pages p × IsWitnessFault cycle p w (Some reason))
 
 -- None: a page has no fault exactly where it is steady
 abbrev pub SteadyHasNoFault : Type 0

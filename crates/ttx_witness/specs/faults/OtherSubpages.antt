@@ -6,7 +6,8 @@
 --   is_stray, IsStrayAt     a header of a number whose one subcode is another
 --   first_of, TellsBelow    the first slot of something so far
 --   AreStrays, AreOtherSubpages     the first slots of each number, and those of each page
-use Rattle.std.specs.Prelude.{◌≡◌, ℕ, ◌+◌, ◌-◌, ◌*◌, ◌<◌, ◌≤◌, ℤ, pos, Bool, true, false, not, ◌&&◌, ◌==◌, if◌then◌else◌, List, get_or, slice_get, Option, Some, None}
+use Rattle.std.specs.Prelude.{◌≡◌, ℕ, ◌+◌, ◌-◌, ◌*◌, ◌<◌, ◌≤◌, ℤ, pos, Bool, true, false, not, ◌&&◌, ◌==◌, if◌then◌else◌, List, get_or}
+use Rattle.std.specs.Prelude.{slice_get, Option, Some, None}
 use Rattle.ttx_header.specs.Ids.{IsId}
 use Rattle.ttx_page.specs.Packets.{Packet, Header, packet_of}
 use Rattle.ttx_page.specs.Pages.{Page}
@@ -36,11 +37,13 @@ pub record IsListed (pages : List Page) (i mag number : ℕ) (q : Page) : Type 0
 -- the subcodes of the first i pages that have this number
 abbrev pub AreSubcodes : List Page → ℕ → ℕ → ℕ → Subcodes → Type 0
 AreSubcodes pages i mag number Unlisted = (q : Page) → IsListed pages i mag number q → ⊥
-AreSubcodes pages i mag number (One sub) = ((q : Page) × IsListed pages i mag number q) × ((q : Page) → IsListed pages i mag number q → q.id.sub ≡ sub)
+AreSubcodes pages i mag number (One sub) = ((q : Page) × IsListed pages i mag number q)
+    × ((q : Page) → IsListed pages i mag number q → q.id.sub ≡ sub)
 AreSubcodes pages i mag number Several = (q r : Page) × IsListed pages i mag number q × IsListed pages i mag number r × (q.id.sub ≡ r.id.sub → ⊥)
 
 abbrev pub AreAllSubcodes : List Page → ℕ → List Subcodes → Type 0
-AreAllSubcodes pages i table = (mag number : ℕ) → 1 ≤ mag → mag ≤ 8 → number < 256 → AreSubcodes pages i mag number (get_or table (place mag number) Unlisted)
+AreAllSubcodes pages i table = (mag number : ℕ) → 1 ≤ mag → mag ≤ 8 → number < 256 →
+    AreSubcodes pages i mag number (get_or table (place mag number) Unlisted)
 
 -- another subcode than the one of the number
 abbrev pub is_other : Subcodes → ℕ → Bool
@@ -49,7 +52,8 @@ is_other (One own) sub = not (own == sub)
 is_other Several sub = false
 
 abbrev pub is_stray : List Subcodes → ℕ → ℕ → Packet → Bool
-is_stray table mag number (Header id control text) = (mag == id.mag) && (number == id.page) && is_other (get_or table (place mag number) Unlisted) id.sub
+is_stray table mag number (Header id control text) = (mag == id.mag) && (number == id.page)
+    && is_other (get_or table (place mag number) Unlisted) id.sub
 is_stray table mag number packet = false
 
 abbrev pub IsStrayAt : List Subcodes → Stream → ℕ → ℕ → ℤ → Type 0
@@ -66,7 +70,8 @@ TellsBelow P n None = (i : ℕ) → i < n → P (pos i) → ⊥
 TellsBelow P n (Some j) = (j < n) × P (pos j) × ((i : ℕ) → i < j → P (pos i) → ⊥)
 
 abbrev pub AreStrays : List (List ℕ) → List Subcodes → List (Option ℕ) → Type 0
-AreStrays cycle table first = (mag number : ℕ) → 1 ≤ mag → mag ≤ 8 → number < 256 → TellsFirst cycle (IsStrayAt table (repeated cycle) mag number) (get_or first (place mag number) None)
+AreStrays cycle table first = (mag number : ℕ) → 1 ≤ mag → mag ≤ 8 → number < 256 →
+    TellsFirst cycle (IsStrayAt table (repeated cycle) mag number) (get_or first (place mag number) None)
 
 -- for each page of the list, the first header of another subpage where the page is the only one of its number
 abbrev pub AreOtherSubpages : List (List ℕ) → List Page → OtherSubpages → Type 0

@@ -39,7 +39,8 @@ pub record LateAt (cycle : List (List ℕ)) (p : Page) (w : Certificate) (item :
   pub is : start ≡ slice_index_or (w.starts p.id item) index 0
   pub owner : ℤ
   pub owned : IsOwned (repeated cycle) p.id item owner (pos start)
-  pub late : EndsBelow (repeated cycle) p.id w.repeat item (next_start (length cycle) (w.starts p.id item) index) ((owner +ℤ pos (limit w)) +ℤ pos 1) → ⊥
+  pub late :
+      EndsBelow (repeated cycle) p.id w.repeat item (next_start (length cycle) (w.starts p.id item) index) ((owner +ℤ pos (limit w)) +ℤ pos 1) → ⊥
 
 pub record LateBlankAt (cycle : List (List ℕ)) (p : Page) (w : Certificate) (item : Item) (header : ℕ) : Type 0 where
   pub needed : needed p item ≡ true

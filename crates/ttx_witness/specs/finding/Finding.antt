@@ -2,12 +2,13 @@
 --
 --   is_due                  the items for which starts are named: those that a viewer sees and a receiver of the class hasn't already
 --   starts_of, spread_at    the starts of the sure runs of an item, and what is kept of these runs
---   Fits, least_limit       a limit in slots is enough; the least one in which sure runs of an item follow one another, None where there is none
+--   IsEnough, least_limit       a limit in slots is enough; the least one in which sure runs of an item follow one another, None where there is none
 --   starts_for, limit_for   what is named for an item that a viewer sees, and its least limit: that of the page's headers where it isn't due
 --   IsDone, same_place, AreNamed            the items that have been looked at; what is known of entries and limits after them
 --   CanBeAccepted           some certificate of these numbers and this deadline is accepted
 --   IsFoundFor              the certificate that is found, and the least deadline
-use Rattle.std.specs.Prelude.{◌≡◌, ◌⊎◌, ◌↔◌, ℕ, ◌-◌, ◌*◌, ◌<◌, ◌≤◌, max, Bool, true, false, not, ◌&&◌, ◌==◌, if◌then◌else◌, List, [], ◌∷◌, ◌++◌, length, slice_get, slice_index_or, Contains, Option, Some, None}
+use Rattle.std.specs.Prelude.{◌≡◌, ◌⊎◌, ◌↔◌, ℕ, ◌-◌, ◌*◌, ◌<◌, ◌≤◌, max, Bool, true, false, not, ◌&&◌, ◌==◌, if◌then◌else◌, List, [], ◌∷◌}
+use Rattle.std.specs.Prelude.{◌++◌, length, slice_get, slice_index_or, Contains, Option, Some, None}
 use Rattle.std.specs.List.{All, AllPairs}
 use Rattle.ttx_header.specs.Ids.{Id}
 use Rattle.ttx_page.specs.Pages.{Page, needed, is_blank}
@@ -21,7 +22,7 @@ use Rattle.ttx_page.specs.Steady.{Steady}
 use Rattle.ttx_witness.specs.runs.SureStarts.{Spread, width}
 use Rattle.ttx_witness.specs.Coverage.{Certificate, IsCertificate, IsSureStart, Accepts}
 use Rattle.ttx_witness.specs.laws.CycleLaws.{found_starts, found_spread}
-use Rattle.ttx_witness.specs.sent.Collected.{IsItem, place}
+use Rattle.ttx_witness.specs.sent.Collected.{IsItem, place_of_item}
 use Rattle.ttx_certificate.specs.Entries.{place_of}
 use Rattle.ttx_certificate.specs.declared.entries.Entry.{Entry}
 
@@ -35,9 +36,9 @@ starts_of cycle lines repeat page item = found_starts cycle page lines item (run
 abbrev pub spread_at : List (List ℕ) → ℕ → ℕ → Id → Item → Option Spread
 spread_at cycle lines repeat page item = found_spread cycle page lines item (run_length repeat item - 1)
 
-abbrev pub Fits : Option ℕ → ℕ → Type 0
-Fits None limit = ⊥
-Fits (Some least) limit = least ≤ limit
+abbrev pub IsEnough : Option ℕ → ℕ → Type 0
+IsEnough None limit = ⊥
+IsEnough (Some least) limit = least ≤ limit
 
 abbrev pub limit_of : ℕ → Option Spread → Option ℕ
 limit_of n None = None
@@ -51,7 +52,8 @@ starts_for cycle class lines repeat p item = if is_due class p item then starts_
 
 -- an item that isn't due needs the next header of its page alone
 abbrev pub limit_for : List (List ℕ) → Class → ℕ → ℕ → Page → Item → Option ℕ
-limit_for cycle class lines repeat p item = if is_due class p item then least_limit cycle lines repeat p.id item else least_limit cycle lines 1 p.id TheHead
+limit_for cycle class lines repeat p item =
+    if is_due class p item then least_limit cycle lines repeat p.id item else least_limit cycle lines 1 p.id TheHead
 
 -- the least limit that is enough for both
 abbrev pub wider : Option ℕ → Option ℕ → Option ℕ
@@ -59,15 +61,15 @@ wider None b = None
 wider (Some a) None = None
 wider (Some a) (Some b) = Some (max a b)
 
--- an item of a page that a viewer sees, in its place among the first m
+-- an item of a page that a viewer sees, in its place_of_item among the first m
 pub record IsDone (pages : List Page) (m i : ℕ) (p : Page) (item : Item) : Type 0 where
   pub at : slice_get pages i ≡ Some p
   pub is : IsItem item
   pub seen : needed p item ≡ true
-  pub before : place i item < m
+  pub before : place_of_item i item < m
 
 -- the entry names the starts of an item that has been looked at
-pub record IsTold (cycle : List (List ℕ)) (pages : List Page) (class : Class) (lines repeat m : ℕ) (e : Entry) : Type 0 where
+pub record NamesStarts (cycle : List (List ℕ)) (pages : List Page) (class : Class) (lines repeat m : ℕ) (e : Entry) : Type 0 where
   pub index : ℕ
   pub p : Page
   pub done : IsDone pages m index p e.item
@@ -86,12 +88,16 @@ abbrev pub same_place : Entry → Entry → Bool
 same_place a b = place_of a.page a.item == place_of b.page b.item
 
 -- after the first m items
-pub record AreNamed (cycle : List (List ℕ)) (pages : List Page) (class : Class) (lines repeat m : ℕ) (entries : List Entry) (least : Option ℕ) : Type 0 where
-  pub told : All (IsTold cycle pages class lines repeat m) entries
+pub record AreNamed (cycle : List (List ℕ)) (pages : List Page) (class : Class) (lines repeat m : ℕ)
+    (entries : List Entry) (least : Option ℕ) : Type 0 where
+  pub told : All (NamesStarts cycle pages class lines repeat m) entries
   pub apart : AllPairs (λ a b. same_place a b ≡ false) entries
-  pub kept : (i : ℕ) (p : Page) (item : Item) → IsDone pages m i p item → (starts_for cycle class lines repeat p item ≡ []) ⊎ HasEntry entries p.id item
-  pub least_to : (limit : ℕ) → Fits least limit → (i : ℕ) (p : Page) (item : Item) → IsDone pages m i p item → Fits (limit_for cycle class lines repeat p item) limit
-  pub least_from : (limit : ℕ) → ((i : ℕ) (p : Page) (item : Item) → IsDone pages m i p item → Fits (limit_for cycle class lines repeat p item) limit) → Fits least limit
+  pub kept : (i : ℕ) (p : Page) (item : Item) → IsDone pages m i p item →
+      (starts_for cycle class lines repeat p item ≡ []) ⊎ HasEntry entries p.id item
+  pub least_to : (limit : ℕ) → IsEnough least limit → (i : ℕ) (p : Page) (item : Item) → IsDone pages m i p item →
+      IsEnough (limit_for cycle class lines repeat p item) limit
+  pub least_from : (limit : ℕ) →
+      ((i : ℕ) (p : Page) (item : Item) → IsDone pages m i p item → IsEnough (limit_for cycle class lines repeat p item) limit) → IsEnough least limit
 
 -- there is no start and nothing is added, or an entry that names them is
 abbrev pub AddsEntry : List Entry → List Entry → Id → Item → List ℕ → Type 0
@@ -110,9 +116,9 @@ IsLeastField slots lines (Some d) = (1 ≤ d) × (d ≤ 1000000) × (slots ≤ d
 
 -- the same where all is sent unchanged and the limit is enough
 abbrev pub IsDeadline : List (List ℕ) → List Page → ℕ → Option ℕ → Option ℕ → Type 0
-IsDeadline cycle pages lines least None = (d : ℕ) → 1 ≤ d → d ≤ 1000000 → IsSentUnchanged cycle pages → Fits least (d * lines) → ⊥
+IsDeadline cycle pages lines least None = (d : ℕ) → 1 ≤ d → d ≤ 1000000 → IsSentUnchanged cycle pages → IsEnough least (d * lines) → ⊥
 IsDeadline cycle pages lines least (Some d) =
-    IsSentUnchanged cycle pages × (1 ≤ d) × (d ≤ 1000000) × Fits least (d * lines) × ((e : ℕ) → 1 ≤ e → Fits least (e * lines) → d ≤ e)
+    IsSentUnchanged cycle pages × (1 ≤ d) × (d ≤ 1000000) × IsEnough least (d * lines) × ((e : ℕ) → 1 ≤ e → IsEnough least (e * lines) → d ≤ e)
 
 -- some certificate of this class, lines, repeat count and deadline is accepted
 pub record CanBeAccepted (cycle : List (List ℕ)) (pages : List Page) (class : Class) (lines repeat deadline : ℕ) : Type 0 where
@@ -130,7 +136,8 @@ IsLeastDeadline cycle pages w None = (w.deadline ≡ 1000000) × ((d : ℕ) → 
 IsLeastDeadline cycle pages w (Some d) =
     (w.deadline ≡ d) × Accepts cycle pages w × ((e : ℕ) → CanBeAccepted cycle pages w.class w.lines w.repeat e → d ≤ e)
 
-pub record IsFoundFor (cycle : List (List ℕ)) (pages : List Page) (repeat lines : ℕ) (class : Class) (w : Certificate) (deadline : Option ℕ) : Type 0 where
+pub record IsFoundFor (cycle : List (List ℕ)) (pages : List Page) (repeat lines : ℕ) (class : Class)
+    (w : Certificate) (deadline : Option ℕ) : Type 0 where
   pub same_lines : w.lines ≡ lines
   pub same_repeat : w.repeat ≡ repeat
   pub same_class : w.class ≡ class

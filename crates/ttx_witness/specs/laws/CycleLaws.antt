@@ -19,7 +19,8 @@ use Rattle.ttx_witness.specs.Coverage.{Certificate, limit, IsSureStart, IsCovere
 use Rattle.ttx_witness.specs.sent.ItemTransmissions.{sent_in}
 
 abbrev pub CoverageIsDecided : Type 0
-CoverageIsDecided = (cycle : List (List ℕ)) → 1 ≤ length cycle → (p : Page) (w : Certificate) (item : Item) (k : ℕ) → run_length w.repeat item ≡ suc k →
+CoverageIsDecided = (cycle : List (List ℕ)) → 1 ≤ length cycle → (p : Page) (w : Certificate) (item : Item) (k : ℕ) →
+    run_length w.repeat item ≡ suc k →
     Rising (w.starts p.id item) → Passes (length cycle) k (limit w) (w.starts p.id item) (sent_in cycle p.id w.lines item) ↔ IsCovered cycle p w item
 
 -- the progress of an item's named starts after one pass
@@ -31,12 +32,15 @@ FirstsAreFound = (cycle : List (List ℕ)) → 1 ≤ length cycle → (p : Page)
     Rising (w.starts p.id item) → let starts = w.starts p.id item in let m = progress_of cycle p w item k in
     let Owned = IsOwned (repeated cycle) p.id item in let Sure = IsSure (repeated cycle) w.lines p.id.mag item in
     (m.next ≤ length starts)
-    × (m.next < length starts → IsBad Owned Sure (length cycle) (suc k) starts m.next × ((j : ℕ) → j < m.next → IsBad Owned Sure (length cycle) (suc k) starts j → ⊥))
-    × (m.next ≡ length starts → 0 < length starts → IsFirst (IsLate Owned (length cycle) (suc k) (limit w) starts) starts (late_after (limit w) starts m (m.first_end +ℤ pos (length cycle))))
+    × (m.next < length starts → IsBad Owned Sure (length cycle) (suc k) starts m.next
+    × ((j : ℕ) → j < m.next → IsBad Owned Sure (length cycle) (suc k) starts j → ⊥))
+    × (m.next ≡ length starts → 0 < length starts →
+    IsFirst (IsLate Owned (length cycle) (suc k) (limit w) starts) starts (late_after (limit w) starts m (m.first_end +ℤ pos (length cycle))))
 
 -- two certificates that differ in their starts alone
 abbrev pub FurtherStartsCover : Type 0
-FurtherStartsCover = (cycle : List (List ℕ)) (p : Page) (w v : Certificate) (item : Item) → w.lines ≡ v.lines → w.repeat ≡ v.repeat → w.deadline ≡ v.deadline →
+FurtherStartsCover = (cycle : List (List ℕ)) (p : Page) (w v : Certificate) (item : Item) →
+    w.lines ≡ v.lines → w.repeat ≡ v.repeat → w.deadline ≡ v.deadline →
     ((start : ℕ) → Contains (w.starts p.id item) start → Contains (v.starts p.id item) start) →
     ((start : ℕ) → Contains (v.starts p.id item) start → IsSureStart cycle p.id v.lines v.repeat item start) →
     IsCovered cycle p w item → IsCovered cycle p v item
@@ -49,13 +53,15 @@ abbrev pub found_spread : List (List ℕ) → Id → ℕ → Item → ℕ → Op
 found_spread cycle page lines item k = spread_of None (runs (length cycle) k (sent_in cycle page lines item))
 
 abbrev pub SureStartsAreFound : Type 0
-SureStartsAreFound = (cycle : List (List ℕ)) → 1 ≤ length cycle → (page : Id) (lines repeat : ℕ) (item : Item) (k : ℕ) → run_length repeat item ≡ suc k →
+SureStartsAreFound = (cycle : List (List ℕ)) → 1 ≤ length cycle → (page : Id) (lines repeat : ℕ) (item : Item) (k : ℕ) →
+    run_length repeat item ≡ suc k →
     (start : ℕ) → Contains (found_starts cycle page lines item k) start ↔ IsSureStart cycle page lines repeat item start
 
 -- None: nothing covers the item. Else the starts that are found cover it exactly with a limit of the width at least, and no other
 -- starts do with less.
 abbrev pub LeastLimitIsFound : Type 0
-LeastLimitIsFound = (cycle : List (List ℕ)) → 1 ≤ length cycle → (p : Page) (w : Certificate) (item : Item) (k : ℕ) → run_length w.repeat item ≡ suc k →
+LeastLimitIsFound = (cycle : List (List ℕ)) → 1 ≤ length cycle → (p : Page) (w : Certificate) (item : Item) (k : ℕ) →
+    run_length w.repeat item ≡ suc k →
     (found_spread cycle p.id w.lines item k ≡ None → IsCovered cycle p w item → ⊥)
     × ((s : Spread) → found_spread cycle p.id w.lines item k ≡ Some s →
     (IsCovered cycle p w item → width (length cycle) s ≤ limit w)

@@ -7,7 +7,8 @@
 --   ItemsAreJudged          what one pass over the list tells of the named starts: the first bad one, or else the first late one
 --   late_header             the first header that the next one follows too late
 --   IsHeaderAnswer, HeadersAreJudged        what this tells of blank items that aren't sent
-use Rattle.std.specs.Prelude.{◌≡◌, ℕ, suc, ◌<◌, ◌≤◌, ℤ, pos, ◌+ℤ◌, ◌<ℤ◌, ◌≤ℤ◌, true, if◌then◌else◌, int_lt, unsigned_abs, List, [], ◌∷◌, length, slice_index_or, Option, Some, None, ◌≢◌, ◌^◌}
+use Rattle.std.specs.Prelude.{◌≡◌, ℕ, suc, ◌<◌, ◌≤◌, ℤ, pos, ◌+ℤ◌, ◌<ℤ◌, ◌≤ℤ◌, true, if◌then◌else◌, int_lt, unsigned_abs, List, [], ◌∷◌}
+use Rattle.std.specs.Prelude.{length, slice_index_or, Option, Some, None, ◌≢◌, ◌^◌}
 use Rattle.std.specs.List.{AllByRecursion, AllPairs}
 use Rattle.ttx_page.specs.declared.page.Page.{Page as PageValue}
 use Rattle.ttx_witness.specs.sent.Collected.{ids_of}
@@ -30,12 +31,14 @@ use Rattle.ttx_witness.specs.faults.Reasons.{WitnessBadAt, LateAt, LateBlankAt}
 
 abbrev pub TransmissionsAreListed : Type 0
 TransmissionsAreListed = (cycle : List (List ℕ)) → 1 ≤ length cycle → length cycle ≤ 65536 → (page : Id) (lines : ℕ) (item : Item) →
-    AreSent (IsOwned (repeated cycle) page item) (IsSure (repeated cycle) lines page.mag item) (pos 0) (pos (length cycle)) (sent_in cycle page lines item)
+    AreSent (IsOwned (repeated cycle) page item) (IsSure (repeated cycle) lines page.mag item) (pos 0) (pos (length cycle))
+    (sent_in cycle page lines item)
     × AllByRecursion (IsWithin 65536) (sent_in cycle page lines item)
 
 abbrev pub FirstPeriodIsListed : Type 0
 FirstPeriodIsListed = (before cycle : List (List ℕ)) → 1 ≤ length before → (page : Id) (lines : ℕ) (item : Item) →
-    AreSent (IsOwned (joined before cycle) page item) (IsSure (joined before cycle) lines page.mag item) (pos 0) (pos (length cycle)) (sent_after before cycle page lines item)
+    AreSent (IsOwned (joined before cycle) page item) (IsSure (joined before cycle) lines page.mag item) (pos 0) (pos (length cycle))
+    (sent_after before cycle page lines item)
 
 -- P is true of n, and of no smaller number
 abbrev pub IsFirstOf : (ℕ → Type 0) → ℕ → Type 0
@@ -57,7 +60,8 @@ ItemsAreJudged = (cycle : List (List ℕ)) → 1 ≤ length cycle → (p : Page)
 abbrev pub late_before : ℕ → ℤ → List Transmission → Option ℕ
 late_before limit end [] = None
 late_before limit end (t ∷ []) = if int_lt (t.slot +ℤ pos limit) end then Some (unsigned_abs t.slot) else None
-late_before limit end (t ∷ next ∷ ts) = if int_lt (t.slot +ℤ pos limit) next.slot then Some (unsigned_abs t.slot) else late_before limit end (next ∷ ts)
+late_before limit end (t ∷ next ∷ ts) =
+    if int_lt (t.slot +ℤ pos limit) next.slot then Some (unsigned_abs t.slot) else late_before limit end (next ∷ ts)
 
 -- the first of a list, a period later
 abbrev pub first_again : ℕ → List Transmission → ℤ
@@ -72,7 +76,8 @@ IsHeaderAnswer cycle p w None =
     ((tau : ℤ) → (i : ℤ) × (tau ≤ℤ i) × (i <ℤ (tau +ℤ pos (limit w))) × (heads_page p.id (packet_of (repeated cycle i)) ≡ true))
     × ((item : Item) (header : ℕ) → LateBlankAt cycle p w item header → ⊥)
 IsHeaderAnswer cycle p w (Some header) =
-    (item : Item) → needed p item ≡ true → w.class ≡ Clearing → IsBlank p item → w.starts p.id item ≡ [] → IsFirstOf (LateBlankAt cycle p w item) header
+    (item : Item) → needed p item ≡ true → w.class ≡ Clearing → IsBlank p item → w.starts p.id item ≡ [] →
+    IsFirstOf (LateBlankAt cycle p w item) header
 
 abbrev pub HeadersAreJudged : Type 0
 HeadersAreJudged = (cycle : List (List ℕ)) → 1 ≤ length cycle → (p : Page) (w : Certificate) → HasHeader (repeated cycle) p.id →

@@ -24,7 +24,8 @@ IsServed cycle p w item tau =
 -- where a start of an item that a viewer sees is named, and each named one is sure
 abbrev pub LateIsUnserved : Type 0
 LateIsUnserved =
-    (cycle : List (List ℕ)) → 1 ≤ length cycle → (p : Page) (w : Certificate) (item : Item) → 1 ≤ w.repeat → Rising (w.starts p.id item) → needed p item ≡ true →
+    (cycle : List (List ℕ)) → 1 ≤ length cycle → (p : Page) (w : Certificate) (item : Item) → 1 ≤ w.repeat → Rising (w.starts p.id item) →
+    needed p item ≡ true →
     (start : ℕ) × Contains (w.starts p.id item) start →
     ((start : ℕ) → Contains (w.starts p.id item) start → IsSureStart cycle p.id w.lines w.repeat item start) →
     ((start : ℕ) × LateAt cycle p w item start) ↔ ((tau : ℤ) × (IsServed cycle p w item tau → ⊥))

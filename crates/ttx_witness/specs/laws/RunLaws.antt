@@ -9,9 +9,10 @@
 --   MoreStartsCover         a further start that has a sure run leaves covered what was covered
 use Rattle.std.specs.Prelude.{◌≡◌, ◌↔◌, ℕ, suc, ◌<◌, ◌≤◌, ℤ, pos, ◌+ℤ◌, Bool, true, List, [], ◌∷◌, ◌++◌, length, Option, Some, None, Contains}
 use Rattle.std.specs.List.{AllByRecursion}
-use Rattle.ttx_witness.specs.runs.Transmissions.{Transmission, Run, runs, moved, start_of}
+use Rattle.ttx_witness.specs.runs.Transmissions.{Transmission, Run, runs, moved_run, start_of}
 use Rattle.ttx_witness.specs.runs.Confirming.{Rising, late_after, after_runs, not_begun}
-use Rattle.ttx_witness.specs.runs.Repeating.{Repeats, Lists, AreSent, HasSureRun, IsRunOf, IsNamedRun, IsInTime, FollowInTime, Covers, IsBad, IsLate, IsFirst}
+use Rattle.ttx_witness.specs.runs.Repeating.{Repeats, Lists, AreSent, BeginsSureRun, IsRunOf, IsNamedRun, IsInTime, FollowInTime, Covers}
+use Rattle.ttx_witness.specs.runs.Repeating.{IsBad, IsLate, IsFirst}
 use Rattle.ttx_witness.specs.runs.SureStarts.{Spread, sure_starts, spread_of, width}
 
 pub record Sending : Type 0 where
@@ -38,13 +39,15 @@ abbrev pub NeighboursDecide : Type 0
 NeighboursDecide = (n k limit : ℕ) (s : Schedule) → Repeats n (OwnedIn s) (SureIn s) → (named : ℤ → Bool) → ((i : ℤ) → named (i +ℤ pos n) ≡ named i) →
     (first : Run) (rest : List Run) →
     Lists start_of (λ i. named i ≡ true) (IsNamedRun (OwnedIn s) (SureIn s) (λ i. named i ≡ true) k) (pos 0) (pos n) (first ∷ rest) →
-    FollowInTime limit first (rest ++ moved (pos n) first ∷ []) ↔ ((tau : ℤ) → IsInTime (OwnedIn s) (λ i. named i ≡ true) k limit tau)
+    FollowInTime limit first (rest ++ moved_run (pos n) first ∷ []) ↔ ((tau : ℤ) → IsInTime (OwnedIn s) (λ i. named i ≡ true) k limit tau)
 
 -- a start is named, each is confirmed, and none is late
 pub record Passes (n k limit : ℕ) (starts : List ℕ) (ts : List Transmission) : Type 0 where
   pub some_named : 0 < length starts
   pub all_confirmed : (after_runs limit starts not_begun (runs n k ts)).next ≡ length starts
-  pub none_late : late_after limit starts (after_runs limit starts not_begun (runs n k ts)) ((after_runs limit starts not_begun (runs n k ts)).first_end +ℤ pos n) ≡ None
+  pub none_late :
+      late_after limit starts (after_runs limit starts not_begun (runs n k ts))
+      ((after_runs limit starts not_begun (runs n k ts)).first_end +ℤ pos n) ≡ None
 
 abbrev pub PassDecides : Type 0
 PassDecides = (n k limit : ℕ) (s : Schedule) → Repeats n (OwnedIn s) (SureIn s) → (starts : List ℕ) → Rising starts → (ts : List Transmission) →
@@ -52,23 +55,27 @@ PassDecides = (n k limit : ℕ) (s : Schedule) → Repeats n (OwnedIn s) (SureIn
 
 abbrev pub MoreStartsCover : Type 0
 MoreStartsCover = (n k limit : ℕ) (s : Schedule) (starts more : List ℕ) → ((start : ℕ) → Contains starts start → Contains more start) →
-    ((start : ℕ) → Contains more start → (start < n) × HasSureRun (OwnedIn s) (SureIn s) k (pos start)) →
+    ((start : ℕ) → Contains more start → (start < n) × BeginsSureRun (OwnedIn s) (SureIn s) k (pos start)) →
     Covers (OwnedIn s) (SureIn s) n k limit starts → Covers (OwnedIn s) (SureIn s) n k limit more
 
 abbrev pub PassFindsTheFirst : Type 0
 PassFindsTheFirst = (n k limit : ℕ) (s : Schedule) → Repeats n (OwnedIn s) (SureIn s) → (starts : List ℕ) → Rising starts → (ts : List Transmission) →
     AreSent (OwnedIn s) (SureIn s) (pos 0) (pos n) ts → let p = after_runs limit starts not_begun (runs n k ts) in
     (p.next ≤ length starts)
-    × (p.next < length starts → IsBad (OwnedIn s) (SureIn s) n (suc k) starts p.next × ((j : ℕ) → j < p.next → IsBad (OwnedIn s) (SureIn s) n (suc k) starts j → ⊥))
-    × (p.next ≡ length starts → 0 < length starts → IsFirst (IsLate (OwnedIn s) n (suc k) limit starts) starts (late_after limit starts p (p.first_end +ℤ pos n)))
+    × (p.next < length starts → IsBad (OwnedIn s) (SureIn s) n (suc k) starts p.next
+    × ((j : ℕ) → j < p.next → IsBad (OwnedIn s) (SureIn s) n (suc k) starts j → ⊥))
+    × (p.next ≡ length starts → 0 < length starts →
+    IsFirst (IsLate (OwnedIn s) n (suc k) limit starts) starts (late_after limit starts p (p.first_end +ℤ pos n)))
 
 -- with no sure run nothing covers the item
 abbrev pub IsLeastLimit : (ℕ → List ℕ → Type 0) → ℕ → List ℕ → Option Spread → Type 0
 IsLeastLimit Covered n starts None = (limit : ℕ) (others : List ℕ) → Covered limit others → ⊥
-IsLeastLimit Covered n starts (Some s) = ((limit : ℕ) → (width n s ≤ limit) ↔ Covered limit starts) × ((limit : ℕ) (others : List ℕ) → Covered limit others → width n s ≤ limit)
+IsLeastLimit Covered n starts (Some s) = ((limit : ℕ) → (width n s ≤ limit) ↔ Covered limit starts)
+    × ((limit : ℕ) (others : List ℕ) → Covered limit others → width n s ≤ limit)
 
 abbrev pub SearchIsLeast : Type 0
-SearchIsLeast = (n k : ℕ) (s : Schedule) → Repeats n (OwnedIn s) (SureIn s) → (ts : List Transmission) → AreSent (OwnedIn s) (SureIn s) (pos 0) (pos n) ts →
+SearchIsLeast = (n k : ℕ) (s : Schedule) → Repeats n (OwnedIn s) (SureIn s) → (ts : List Transmission) →
+    AreSent (OwnedIn s) (SureIn s) (pos 0) (pos n) ts →
     let found = sure_starts (runs n k ts) in
-    ((start : ℕ) → Contains found start ↔ ((start < n) × HasSureRun (OwnedIn s) (SureIn s) (suc k) (pos start)))
+    ((start : ℕ) → Contains found start ↔ ((start < n) × BeginsSureRun (OwnedIn s) (SureIn s) (suc k) (pos start)))
     × IsLeastLimit (λ limit starts. Covers (OwnedIn s) (SureIn s) n (suc k) limit starts) n found (spread_of None (runs n k ts))

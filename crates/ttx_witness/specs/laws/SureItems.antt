@@ -19,7 +19,8 @@ HasSureStart cycle page lines repeat item = (start : ℕ) × IsSureStart cycle p
 
 abbrev pub AllSureHaveStarts : Type 0
 AllSureHaveStarts = (cycle : List (List ℕ)) → 1 ≤ length cycle → (page : Id) (lines repeat : ℕ) (item : Item) → 1 ≤ repeat →
-    (h j : ℤ) → IsOwned (repeated cycle) page item h j → ((h j : ℤ) → IsOwned (repeated cycle) page item h j → IsSure (repeated cycle) lines page.mag item h j) →
+    (h j : ℤ) → IsOwned (repeated cycle) page item h j →
+    ((h j : ℤ) → IsOwned (repeated cycle) page item h j → IsSure (repeated cycle) lines page.mag item h j) →
     HasSureStart cycle page lines repeat item
 
 -- one sure run of eight transmissions at most ends within nine periods after each slot
@@ -28,7 +29,9 @@ IsLongEnough cycle lines deadline = 9 * length cycle ≤ deadline * lines
 
 -- each item that a viewer sees has a sure run, or receivers surely clear and it is blank
 abbrev pub SureItemsAreAccepted : Type 0
-SureItemsAreAccepted = (cycle : List (List ℕ)) (pages : List Page) (class : Class) (lines repeat deadline : ℕ) → 1 ≤ length cycle → length cycle ≤ 65536 →
-    1 ≤ lines → lines ≤ 32 → 1 ≤ repeat → repeat ≤ 8 → 1 ≤ deadline → deadline ≤ 1000000 → IsLongEnough cycle lines deadline → IsSentUnchanged cycle pages →
-    ((n : ℕ) (p : Page) → slice_get pages n ≡ Some p → (item : Item) → needed p item ≡ true → HasSureStart cycle p.id lines repeat item ⊎ ((class ≡ Clearing) × IsBlank p item)) →
+SureItemsAreAccepted = (cycle : List (List ℕ)) (pages : List Page) (class : Class) (lines repeat deadline : ℕ) → 1 ≤ length cycle →
+    length cycle ≤ 65536 → 1 ≤ lines → lines ≤ 32 → 1 ≤ repeat → repeat ≤ 8 → 1 ≤ deadline → deadline ≤ 1000000 →
+    IsLongEnough cycle lines deadline → IsSentUnchanged cycle pages →
+    ((n : ℕ) (p : Page) → slice_get pages n ≡ Some p → (item : Item) → needed p item ≡ true →
+    HasSureStart cycle p.id lines repeat item ⊎ ((class ≡ Clearing) × IsBlank p item)) →
     CanBeAccepted cycle pages class lines repeat deadline

@@ -20,15 +20,16 @@ use Rattle.ttx_witness.specs.sent.ItemTransmissions.{sent_in}
 use Rattle.ttx_witness.specs.sent.Collected.{ids_of}
 use Rattle.ttx_witness.specs.Coverage.{Certificate, IsCertificate}
 use Rattle.ttx_witness.specs.finding.Finding.{wider, IsFoundFor}
-use Rattle.ttx_witness.specs.waiting.PageWaits.{is_near, is_cut, fields_of, AreWaits}
+use Rattle.ttx_witness.specs.waiting.PageWaits.{is_near, is_cut, fields_told, AreWaits}
 use Rattle.ttx_witness.specs.declared.waiting.wait.PageWait.{PageWait}
 
 abbrev pub greatest : List PageWait → Option ℕ
 greatest [] = Some 1
-greatest (told ∷ rest) = wider (fields_of told.wait) (greatest rest)
+greatest (told ∷ rest) = wider (fields_told told.wait) (greatest rest)
 
 abbrev pub DeadlineIsGreatest : Type 0
-DeadlineIsGreatest = (cycle : List (List ℕ)) → 1 ≤ length cycle → length cycle ≤ 65536 → (pages : List PageValue) → AllPairs (λ a b. a ≢ b) (ids_of pages) →
+DeadlineIsGreatest = (cycle : List (List ℕ)) → 1 ≤ length cycle → length cycle ≤ 65536 → (pages : List PageValue) →
+    AllPairs (λ a b. a ≢ b) (ids_of pages) →
     (class : Class) (repeat lines : ℕ) → 1 ≤ repeat → repeat ≤ 8 → 1 ≤ lines → lines ≤ 32 →
     (told : List PageWait) → AreWaits cycle (map page_of pages) class repeat lines told →
     (w : Certificate) (deadline : Option ℕ) → IsCertificate w → IsFoundFor cycle (map page_of pages) repeat lines class w deadline →

@@ -1,6 +1,6 @@
 -- The starts that are named for an item, once a period has passed.
 --
---   Holds                   a place of a list holds something of which P is true
+--   HoldsAt                   a place of a list holds something of which P is true
 --   IsIdle                  an item that isn't needed, or for which no start is named
 --   IsProgress              what the named starts of an item come to, which isn't known where it is idle
 use Rattle.std.specs.Prelude.{◌≡◌, ℕ, ◌-◌, ◌<◌, true, List, length, slice_get, Option, Some, None}
@@ -11,7 +11,7 @@ use Rattle.ttx_witness.specs.Coverage.{Certificate}
 use Rattle.ttx_witness.specs.laws.CycleLaws.{progress_of}
 use Rattle.ttx_witness.specs.declared.runs.confirming.Progress.{Progress}
 
-pub record Holds (A : Type 0) (xs : List A) (n : ℕ) (P : A → Type 0) : Type 0 where
+pub record HoldsAt (A : Type 0) (xs : List A) (n : ℕ) (P : A → Type 0) : Type 0 where
   pub value : A
   pub here : slice_get xs n ≡ Some value
   pub is : P value

@@ -8,13 +8,14 @@
 --   SendsWrong, SendsWrongRow       slot j sends of a page what differs from it, under the owners that a scan from the entry gives
 --   AreFacts                the facts of a page after n slots
 --   late_in, late_of        the first header that the next one follows too late, where after the last one the first comes again
-use Rattle.std.specs.Prelude.{◌≡◌, ◌↔◌, ℕ, ◌<◌, ℤ, pos, ◌+ℤ◌, int_lt, unsigned_abs, Bool, true, ◌&&◌, if◌then◌else◌, List, [], ◌∷◌, Option, Some, None, is_none}
+use Rattle.std.specs.Prelude.{◌≡◌, ◌↔◌, ℕ, ◌<◌, ℤ, pos, ◌+ℤ◌, int_lt, unsigned_abs, Bool, true, ◌&&◌, if◌then◌else◌, List, [], ◌∷◌}
+use Rattle.std.specs.Prelude.{Option, Some, None, is_none}
 use Rattle.ttx_page.specs.Packets.{packet_of}
 use Rattle.ttx_page.specs.Pages.{Page, needed}
 use Rattle.ttx_page.specs.Streams.{Stream}
 use Rattle.ttx_page.specs.declared.item.Item.{Item}
 use Rattle.ttx_page.specs.declared.item.Item.TheVariants.{Head as TheHead, Row as TheRow, Links as TheLinks}
-use Rattle.ttx_witness.specs.faults.Comparing.{is_mine, item_of, sends, IsWrong}
+use Rattle.ttx_witness.specs.faults.Comparing.{is_mine, compared_item, sends, IsWrong}
 use Rattle.ttx_witness.specs.Coverage.{Certificate, limit}
 use Rattle.ttx_witness.specs.faults.OtherSubpages.{first_of}
 use Rattle.ttx_witness.specs.sent.ItemTransmissions.{PageOwner, owner_scan, sent_scan}
@@ -39,7 +40,11 @@ pub record RowWrong (p : Page) (sends : Item → Bool) (slot : List ℕ) : Type 
 -- after a header in slot j
 abbrev pub next_head : ℕ → ℤ → Option Heads → Heads
 next_head limit j None = record { first = j; last = j; late = None }
-next_head limit j (Some h) = record { first = h.first; last = j; late = if is_none h.late && int_lt (h.last +ℤ pos limit) j then Some (unsigned_abs h.last) else h.late }
+next_head limit j (Some h) = record {
+  first = h.first;
+  last = j;
+  late = if is_none h.late && int_lt (h.last +ℤ pos limit) j then Some (unsigned_abs h.last) else h.late;
+}
 
 abbrev pub heads_after : ℕ → ℤ → Bool → Option Heads → Option Heads
 heads_after limit j sent heads = if sent then Some (next_head limit j heads) else heads
@@ -56,7 +61,7 @@ FirstBelow P n None = (i : ℕ) → i < n → P i → ⊥
 FirstBelow P n (Some j) = (j < n) × P j × ((i : ℕ) → i < j → P i → ⊥)
 
 pub record SendsWrong (p : Page) (s : Stream) (entry : Option PageOwner) (check : Check) (j : ℕ) : Type 0 where
-  pub sent : sends p.id (item_of check) (packet_of (s (pos j))) (is_mine (owner_scan p.id s entry j)) ≡ true
+  pub sent : sends p.id (compared_item check) (packet_of (s (pos j))) (is_mine (owner_scan p.id s entry j)) ≡ true
   pub wrong : IsWrong p check (s (pos j))
 
 pub record SendsWrongRow (p : Page) (s : Stream) (entry : Option PageOwner) (j : ℕ) : Type 0 where

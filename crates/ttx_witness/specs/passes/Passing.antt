@@ -20,14 +20,14 @@ use Rattle.ttx_page.specs.Streams.{repeated}
 use Rattle.ttx_page.specs.declared.item.Item.{Item}
 use Rattle.ttx_cycle.specs.Files.{IsCycle}
 use Rattle.ttx_certificate.specs.Certificates.{certificate_of}
-use Rattle.ttx_witness.specs.sent.Collected.{IsIndex, AreApart, IsItem, ids_of, owner_for, place}
+use Rattle.ttx_witness.specs.sent.Collected.{IsIndex, AreApart, IsItem, ids_of, owner_for, place_of_item}
 use Rattle.ttx_witness.specs.Coverage.{Certificate}
 use Rattle.ttx_witness.specs.passes.PageFacts.{FirstBelow, AreFacts}
-use Rattle.ttx_witness.specs.passes.ItemProgress.{Holds}
+use Rattle.ttx_witness.specs.passes.ItemProgress.{HoldsAt}
 use Rattle.ttx_witness.specs.passes.SentSlots.{placed, IsLinked}
 use Rattle.ttx_witness.specs.faults.OtherSubpages as table
 use Rattle.ttx_witness.specs.faults.OtherSubpages.{AreAllSubcodes, IsStrayAt, TellsBelow}
-use Rattle.ttx_witness.specs.sent.ItemTransmissions.{PageOwner, owner_scan, sent_scan, sent_in, entry_of}
+use Rattle.ttx_witness.specs.sent.ItemTransmissions.{PageOwner, owner_scan, sent_scan, sent_in, entry_owner}
 use Rattle.ttx_witness.specs.declared.sent.owners.Owner.{Owner}
 use Rattle.ttx_witness.specs.declared.passes.page_facts.Facts.{Facts}
 use Rattle.ttx_witness.specs.declared.passes.sent_slots.SentSlots.{SentSlots}
@@ -72,11 +72,12 @@ pub record AreListed (pages : List Page) (w : Certificate) (entry : Id → Optio
   pub places : length sent.firsts.items ≡ 26 * length pages
   pub unlinked : (n : ℕ) → get_or sent.firsts.items n None ≡ None
   pub each : (i : ℕ) (p : Page) (item : Item) → slice_get pages i ≡ Some p → IsItem item →
-      placed (place i item) sent.slots.items ≡ sent_scan p.id w.lines item (repeated y) (entry p.id) (length y)
+      placed (place_of_item i item) sent.slots.items ≡ sent_scan p.id w.lines item (repeated y) (entry p.id) (length y)
 
 -- the facts of each page
 abbrev pub AreNoted : List Page → Certificate → (Id → Option PageOwner) → List (List ℕ) → List Facts → Type 0
-AreNoted pages w entry y all = (i : ℕ) (p : Page) → slice_get pages i ≡ Some p → Holds Facts all i (AreFacts w p (repeated y) (entry p.id) (length y))
+AreNoted pages w entry y all = (i : ℕ) (p : Page) → slice_get pages i ≡ Some p →
+    HoldsAt Facts all i (AreFacts w p (repeated y) (entry p.id) (length y))
 
 -- the first header of another subpage, of each page number
 abbrev pub AreTold : List (List ℕ) → Strays → Type 0
@@ -99,15 +100,15 @@ pub record IsFirstPass (pass : Pass) (x : List (List ℕ)) : Type 0 where
 -- Of the second it keeps what its slots send and facts, as if the owners before it were those at the end of the first, and its own at its end.
 pub record IsPassed (second : SecondPass) (x y : List (List ℕ)) : Type 0 where
   pub count : second.pass.count ≡ length y
-  pub owners : AreSeen second.pass (entry_of x) y second.pass.owners
-  pub kept : AreKept second.pass (entry_of x) y
+  pub owners : AreSeen second.pass (entry_owner x) y second.pass.owners
+  pub kept : AreKept second.pass (entry_owner x) y
   pub slots : All IsSlot y
   pub bad : FirstBelow (λ j. is_clean (slice_index_or y j []) ≡ false) (length y) second.bad
 
 pub record IsSecondPass (second : SecondPass) (x y : List (List ℕ)) : Type 0 where
   pub ready : AreReady second.pass
   pub few : length x ≤ 65536
-  pub entry : (i : ℕ) (id : Id) → slice_get (ids second.pass) i ≡ Some id → IsId id → owner_for second.entry i id ≡ entry_of x id
+  pub entry : (i : ℕ) (id : Id) → slice_get (ids second.pass) i ≡ Some id → IsId id → owner_for second.entry i id ≡ entry_owner x id
   pub over : IsTrue second.over ↔ (65536 < length y)
   pub passed : length y ≤ 65536 → IsPassed second x y
 
@@ -120,8 +121,8 @@ pub record IsEnded (ended : EndedPass) (y : List (List ℕ)) : Type 0 where
   pub places : length ended.sent.firsts.items ≡ 26 * length (ended_pages ended)
   pub linked : IsLinked ended.sent.slots.items ended.sent.firsts.items ended.sent.nexts.items 0
   pub sent : (i : ℕ) (p : Page) (item : Item) → slice_get (ended_pages ended) i ≡ Some p → IsItem item →
-      placed (place i item) ended.sent.slots.items ≡ sent_in y p.id (ended_certificate ended).lines item
-  pub facts : AreNoted (ended_pages ended) (ended_certificate ended) (entry_of y) y ended.facts.items
+      placed (place_of_item i item) ended.sent.slots.items ≡ sent_in y p.id (ended_certificate ended).lines item
+  pub facts : AreNoted (ended_pages ended) (ended_certificate ended) (entry_owner y) y ended.facts.items
   pub strays : AreTold y ended.strays
 
 -- None only where the lists differ or the second is empty

@@ -21,4 +21,5 @@ IsNext P m n (Some i) = (m ≤ i) × (i < n) × P i × ((j : ℕ) → m ≤ j �
 
 pub record IsLinked (slots : List (Option Sent)) (firsts nexts : List (Option ℕ)) (m : ℕ) : Type 0 where
   pub first : (place : ℕ) → place < length firsts → IsNext (SendsAt slots place) m (length slots) (get_or firsts place None)
-  pub next : (place j : ℕ) → place < length firsts → m ≤ j → j < length slots → SendsAt slots place j → IsNext (SendsAt slots place) (j + 1) (length slots) (get_or nexts j None)
+  pub next : (place j : ℕ) → place < length firsts → m ≤ j → j < length slots → SendsAt slots place j →
+      IsNext (SendsAt slots place) (j + 1) (length slots) (get_or nexts j None)

@@ -6,7 +6,8 @@
 --   confirmed, after_runs   the progress after one run, and after a list of runs
 --   confirmed_runs          the runs that confirm a start
 --   Rising                  named starts rise strictly
-use Rattle.std.specs.Prelude.{ℕ, ◌+◌, ◌-◌, ℤ, pos, ◌+ℤ◌, Bool, ◌&&◌, if◌then◌else◌, List, [], ◌∷◌, length, Option, Some, None, nat_lt, ◌==◌, slice_index_or, is_none, int_lt, int_le}
+use Rattle.std.specs.Prelude.{ℕ, ◌+◌, ◌-◌, ℤ, pos, ◌+ℤ◌, Bool, ◌&&◌, if◌then◌else◌, List, [], ◌∷◌, length, Option, Some, None, nat_lt}
+use Rattle.std.specs.Prelude.{◌==◌, slice_index_or, is_none, int_lt, int_le}
 use Rattle.ttx_witness.specs.runs.Transmissions.{Run}
 pub use Rattle.ttx_certificate.specs.NamedStarts.{Rising}
 pub use Rattle.ttx_witness.specs.declared.runs.confirming.Progress.{Progress}
@@ -27,7 +28,12 @@ late_after limit starts m end =
 unfoldable pub confirmed : ℕ → List ℕ → Progress → Run → Progress
 confirmed limit starts m run =
     if is_next starts m.next run
-    then record { next = m.next + 1; previous = run.owner; first_end = if m.next == 0 then run.end else m.first_end; late = late_after limit starts m run.end }
+    then record {
+      next = m.next + 1;
+      previous = run.owner;
+      first_end = if m.next == 0 then run.end else m.first_end;
+      late = late_after limit starts m run.end;
+    }
     else m
 
 -- no named start is confirmed yet

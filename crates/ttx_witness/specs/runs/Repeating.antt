@@ -4,16 +4,18 @@
 --
 --   Lists                   a list of all that has a property, from one slot to below another
 --   Successive              slots that rise, with none of the property between two of them
---   IsSent, IsSureSent      a slot is a transmission, or a sure one
+--   IsSentAt, IsSureSent      a slot is a transmission, or a sure one
 --   Repeats                 what is asked of the two relations
---   IsRun, HasSureRun, EndsBelow    the run of k transmissions from a slot
+--   IsRunFrom, BeginsSureRun, RunEndsBelow    the run of k transmissions from a slot
 --   IsRunOf, IsNamedRun     numbers that tell of a run of the stream, and of one from a named slot
 --   turned, IsNamed         slots of a period, and named starts round the cycle
 --   Covers                  the named starts cover the item from every tuning slot
 --   IsBad, IsLate, IsFirst  a named start without a sure run; one that the next follows too late; the first such
 --   FollowInTime            each run ends within the limit after the owner of the one before it
-use Rattle.std.specs.Prelude.{◌≡◌, ◌↔◌, ℕ, ◌+◌, ◌-◌, ◌%◌, ◌<◌, ◌≤◌, ℤ, pos, negsuc, ◌+ℤ◌, ◌-ℤ◌, ◌<ℤ◌, ◌≤ℤ◌, true, List, [], ◌∷◌, length, Contains, if◌then◌else◌, nat_lt, slice_index_or, Option, Some, None}
+use Rattle.std.specs.Prelude.{◌≡◌, ◌↔◌, ℕ, ◌+◌, ◌<◌, ◌≤◌, ℤ, pos, ◌+ℤ◌, ◌-ℤ◌, ◌<ℤ◌, ◌≤ℤ◌, true, List, [], ◌∷◌, length}
+use Rattle.std.specs.Prelude.{Contains, if◌then◌else◌, nat_lt, slice_index_or, Option, Some, None}
 use Rattle.std.specs.List.{AllByRecursion}
+pub use Rattle.ttx_page.specs.Streams.{turned}
 use Rattle.ttx_witness.specs.runs.Transmissions.{Transmission, Run, slot_of}
 
 -- ts are all that has the property P, from slot low to below slot high, each as Is tells
@@ -43,7 +45,7 @@ pub record Repeats (n : ℕ) (Owned Sure : ℤ → ℤ → Type 0) : Type 0 wher
   pub sure_later : (h j : ℤ) → Sure h j → Sure (h +ℤ pos n) (j +ℤ pos n)
   pub sure_earlier : (h j : ℤ) → Sure h j → Sure (h -ℤ pos n) (j -ℤ pos n)
 
-pub record IsSent (Owned : ℤ → ℤ → Type 0) (j : ℤ) : Type 0 where
+pub record IsSentAt (Owned : ℤ → ℤ → Type 0) (j : ℤ) : Type 0 where
   pub owner : ℤ
   pub owned : Owned owner j
 
@@ -59,35 +61,30 @@ pub record Tells (Owned Sure : ℤ → ℤ → Type 0) (t : Transmission) : Type
 
 -- ts are the stream's transmissions from slot low to below slot high
 abbrev pub AreSent : (ℤ → ℤ → Type 0) → (ℤ → ℤ → Type 0) → ℤ → ℤ → List Transmission → Type 0
-AreSent Owned Sure low high ts = Lists slot_of (IsSent Owned) (Tells Owned Sure) low high ts
+AreSent Owned Sure low high ts = Lists slot_of (IsSentAt Owned) (Tells Owned Sure) low high ts
 
 -- the run from slot first: k successive transmissions
-pub record IsRun (Owned : ℤ → ℤ → Type 0) (k : ℕ) (first : ℤ) (rest : List ℤ) : Type 0 where
+pub record IsRunFrom (Owned : ℤ → ℤ → Type 0) (k : ℕ) (first : ℤ) (rest : List ℤ) : Type 0 where
   pub count : length (first ∷ rest) ≡ k
-  pub successive : Successive (IsSent Owned) (first ∷ rest)
+  pub successive : Successive (IsSentAt Owned) (first ∷ rest)
 
 -- the run from slot first is all sure
-pub record HasSureRun (Owned Sure : ℤ → ℤ → Type 0) (k : ℕ) (first : ℤ) : Type 0 where
+pub record BeginsSureRun (Owned Sure : ℤ → ℤ → Type 0) (k : ℕ) (first : ℤ) : Type 0 where
   pub rest : List ℤ
-  pub run : IsRun Owned k first rest
+  pub run : IsRunFrom Owned k first rest
   pub all_sure : AllByRecursion (IsSureSent Owned Sure) (first ∷ rest)
 
 -- the run from slot first ends below slot end
-pub record EndsBelow (Owned : ℤ → ℤ → Type 0) (k : ℕ) (first end : ℤ) : Type 0 where
+pub record RunEndsBelow (Owned : ℤ → ℤ → Type 0) (k : ℕ) (first end : ℤ) : Type 0 where
   pub rest : List ℤ
-  pub run : IsRun Owned k first rest
+  pub run : IsRunFrom Owned k first rest
   pub ends : AllByRecursion (λ j. j <ℤ end) (first ∷ rest)
 
 -- r tells of the stream's run from its start
 pub record IsRunOf (Owned Sure : ℤ → ℤ → Type 0) (k : ℕ) (r : Run) : Type 0 where
   pub owned : Owned r.owner r.start
-  pub sure : (r.sure ≡ true) ↔ HasSureRun Owned Sure k r.start
-  pub ends : (e : ℤ) → (r.end <ℤ e) ↔ EndsBelow Owned k r.start e
-
--- the slot of the period of n slots that stands at i: i modulo n
-abbrev pub turned : ℕ → ℤ → ℕ
-turned n (pos i) = i % n
-turned n (negsuc i) = n - 1 - i % n
+  pub sure : (r.sure ≡ true) ↔ BeginsSureRun Owned Sure k r.start
+  pub ends : (e : ℤ) → (r.end <ℤ e) ↔ RunEndsBelow Owned k r.start e
 
 -- a named start, or a slot some periods away from one
 abbrev pub IsNamed : ℕ → List ℕ → ℤ → Type 0
@@ -105,12 +102,12 @@ pub record IsInTime (Owned : ℤ → ℤ → Type 0) (Named : ℤ → Type 0) (k
   pub named : Named start
   pub owned : Owned owner start
   pub not_before : tau ≤ℤ owner
-  pub ends : EndsBelow Owned k start (tau +ℤ pos limit)
+  pub ends : RunEndsBelow Owned k start (tau +ℤ pos limit)
 
 -- a start is named, each named run is all sure, and from every tuning slot one of them is in time
 pub record Covers (Owned Sure : ℤ → ℤ → Type 0) (n k limit : ℕ) (starts : List ℕ) : Type 0 where
   pub named : (start : ℕ) × Contains starts start
-  pub sure : (start : ℕ) → Contains starts start → (start < n) × HasSureRun Owned Sure k (pos start)
+  pub sure : (start : ℕ) → Contains starts start → (start < n) × BeginsSureRun Owned Sure k (pos start)
   pub in_time : (tau : ℤ) → IsInTime Owned (IsNamed n starts) k limit tau
 
 -- each run ends within the limit after the owner of the one before it
@@ -127,12 +124,12 @@ pub record IsLate (Owned : ℤ → ℤ → Type 0) (n k limit : ℕ) (starts : L
   pub within : i < length starts
   pub owner : ℤ
   pub owned : Owned owner (pos (slice_index_or starts i 0))
-  pub late : EndsBelow Owned k (next_start n starts i) ((owner +ℤ pos limit) +ℤ pos 1) → ⊥
+  pub late : RunEndsBelow Owned k (next_start n starts i) ((owner +ℤ pos limit) +ℤ pos 1) → ⊥
 
 -- a named start that lies outside the period or has no sure run
 pub record IsBad (Owned Sure : ℤ → ℤ → Type 0) (n k : ℕ) (starts : List ℕ) (i : ℕ) : Type 0 where
   pub within : i < length starts
-  pub bad : (slice_index_or starts i 0 < n) × HasSureRun Owned Sure k (pos (slice_index_or starts i 0)) → ⊥
+  pub bad : (slice_index_or starts i 0 < n) × BeginsSureRun Owned Sure k (pos (slice_index_or starts i 0)) → ⊥
 
 -- the first start of which P is true, if one is
 abbrev pub IsFirst : (ℕ → Type 0) → List ℕ → Option ℕ → Type 0

@@ -1,12 +1,13 @@
 -- The owners of the eight magazines, and the transmissions of all items of all pages, while the slots of a period are read.
 --
 --   taint, seen_by          an owner after a header of another magazine; an owner as one of the pages sees it
---   Finds                   a look-up that tells the place of an id among the ids of pages
+--   Finds                   a look-up that tells the place_of_item of an id among the ids of pages
 --   ids_of                  the ids of pages
 --   AreOwners               the owners are right for each page
---   IsItem, place           the items of a page, and where the transmissions of an item of a page are kept
---   held, AreCollected      the list in a place; the lists are the transmissions of all items in the first slots of a period
-use Rattle.std.specs.Prelude.{◌≡◌, ℕ, ◌+◌, ◌-◌, ◌*◌, ◌<◌, Bool, false, ◌||◌, ◌==◌, List, [], slice_get, get_or, map, length, nat_eq, Option, Some, None, Vec}
+--   IsItem, place_of_item           the items of a page, and where the transmissions of an item of a page are kept
+--   held, AreCollected      the list in a place_of_item; the lists are the transmissions of all items in the first slots of a period
+use Rattle.std.specs.Prelude.{◌≡◌, ℕ, ◌+◌, ◌-◌, ◌*◌, ◌<◌, Bool, false, ◌||◌, ◌==◌, List, [], slice_get, get_or, map, length, nat_eq}
+use Rattle.std.specs.Prelude.{Option, Some, None, Vec}
 use Rattle.std.specs.Global.{Global}
 use Rattle.ttx_header.specs.Ids.{Id, IsId, same_id}
 use Rattle.ttx_page.specs.Streams.{repeated}
@@ -15,7 +16,7 @@ use Rattle.ttx_page.specs.Views.{page_of}
 use Rattle.ttx_page.specs.declared.item.Item.{Item}
 pub use Rattle.ttx_certificate.specs.ItemPlaces.{IsItem, item_number, key_of}
 use Rattle.ttx_witness.specs.runs.Transmissions.{Transmission}
-use Rattle.ttx_witness.specs.sent.ItemTransmissions.{PageOwner, owner_scan, sent_scan, entry_of}
+use Rattle.ttx_witness.specs.sent.ItemTransmissions.{PageOwner, owner_scan, sent_scan, entry_owner}
 use Rattle.std.specs.HashMap.{get}
 use Rattle.ttx_witness.specs.declared.sent.owners.Owner.{Owner}
 use Rattle.ttx_witness.specs.declared.sent.page_index.PageIndex.{PageIndex}
@@ -37,7 +38,7 @@ abbrev pub seen_by : ℕ → Option Owner → Option PageOwner
 seen_by i None = None
 seen_by i (Some o) = Some (record { slot = o.slot; mine = is_page i o.page; tainted = o.tainted })
 
--- the answer for an id is the place of the page that has it
+-- the answer for an id is the place_of_item of the page that has it
 abbrev pub Finds : List Id → Id → Option ℕ → Type 0
 Finds ids id answer = (i : ℕ) (own : Id) → slice_get ids i ≡ Some own → is_page i answer ≡ same_id own id
 
@@ -47,7 +48,8 @@ owner_for owners i id = seen_by i (get_or owners (id.mag - 1) None)
 
 -- after j slots of the period of a cycle that comes after another one
 abbrev pub AreOwners : List Id → List (List ℕ) → List (List ℕ) → ℕ → List (Option Owner) → Type 0
-AreOwners ids before cycle j owners = (i : ℕ) (id : Id) → slice_get ids i ≡ Some id → IsId id → owner_for owners i id ≡ owner_scan id (repeated cycle) (entry_of before id) j
+AreOwners ids before cycle j owners = (i : ℕ) (id : Id) → slice_get ids i ≡ Some id → IsId id →
+    owner_for owners i id ≡ owner_scan id (repeated cycle) (entry_owner before id) j
 
 -- a page is never the owner's in another magazine than its own
 abbrev pub IsForeign : ℕ → Option Owner → Type 0
@@ -57,10 +59,10 @@ IsForeign i (Some o) = is_page i o.page ≡ false
 abbrev pub AreApart : List Id → List (Option Owner) → Type 0
 AreApart ids owners = (m i : ℕ) (id : Id) → m < 8 → slice_get ids i ≡ Some id → (m + 1 ≡ id.mag → ⊥) → IsForeign i (get_or owners m None)
 
-abbrev pub place : ℕ → Item → ℕ
-place i item = 26 * i + item_number item
+abbrev pub place_of_item : ℕ → Item → ℕ
+place_of_item i item = 26 * i + item_number item
 
--- the list in a place
+-- the list in a place_of_item
 abbrev pub held : List (Vec Transmission Global) → ℕ → List Transmission
 held lists n = get_or (map (λ v. v.items) lists) n []
 
@@ -68,7 +70,7 @@ held lists n = get_or (map (λ v. v.items) lists) n []
 pub record AreCollected (ids : List Id) (before cycle : List (List ℕ)) (lines j : ℕ) (lists : List (Vec Transmission Global)) : Type 0 where
   pub count : length lists ≡ 26 * length ids
   pub each : (i : ℕ) (id : Id) (item : Item) → slice_get ids i ≡ Some id → IsId id → IsItem item →
-      held lists (place i item) ≡ sent_scan id lines item (repeated cycle) (entry_of before id) j
+      held lists (place_of_item i item) ≡ sent_scan id lines item (repeated cycle) (entry_owner before id) j
 
 -- the index answers every id
 abbrev pub IsIndex : List Id → PageIndex → Type 0

@@ -5,7 +5,8 @@
 --   owner_moved             the same owner, some slots later
 --   sent_at, sent_scan      the transmission in one slot, where it holds one, and those of a number of slots
 --   sent_after, sent_in     those of the first period of a cycle after another one; those of one period of a cycle
-use Rattle.std.specs.Prelude.{ℕ, zero, suc, ℤ, pos, ◌+ℤ◌, ◌-ℤ◌, Bool, true, false, not, ◌&&◌, ◌||◌, if◌then◌else◌, int_lt, List, [], ◌∷◌, ◌++◌, length, Option, Some, None}
+use Rattle.std.specs.Prelude.{ℕ, zero, suc, ℤ, pos, ◌+ℤ◌, ◌-ℤ◌, Bool, true, false, not, ◌&&◌, ◌||◌, if◌then◌else◌, int_lt, List, [], ◌∷◌}
+use Rattle.std.specs.Prelude.{◌++◌, length, Option, Some, None}
 use Rattle.ttx_header.specs.Ids.{Id}
 use Rattle.ttx_page.specs.Packets.{Packet, packet_of}
 use Rattle.ttx_page.specs.declared.item.Item.{Item}
@@ -25,7 +26,8 @@ tainted_by ends (Some o) = Some (record { slot = o.slot; mine = o.mine; tainted 
 -- the owner in the page's magazine after the packet in slot j, and whether it is the page's
 abbrev pub owner_after : Id → ℤ → Packet → Option PageOwner → Option PageOwner
 owner_after page j packet o =
-    if heads page.mag packet then Some (record { slot = j; mine = heads_page page packet; tainted = false }) else tainted_by (ends_serial page.mag packet) o
+    if heads page.mag packet then Some (record { slot = j; mine = heads_page page packet; tainted = false })
+    else tainted_by (ends_serial page.mag packet) o
 
 unfoldable pub owner_scan : Id → Stream → Option PageOwner → ℕ → Option PageOwner
 owner_scan page s entry zero = entry
@@ -46,15 +48,16 @@ sent_at page lines TheLinks j packet o = if carries page.mag TheLinks packet the
 
 unfoldable pub sent_scan : Id → ℕ → Item → Stream → Option PageOwner → ℕ → List Transmission
 sent_scan page lines item s entry zero = []
-sent_scan page lines item s entry (suc n) = sent_scan page lines item s entry n ++ sent_at page lines item (pos n) (packet_of (s (pos n))) (owner_scan page s entry n)
+sent_scan page lines item s entry (suc n) =
+    sent_scan page lines item s entry n ++ sent_at page lines item (pos n) (packet_of (s (pos n))) (owner_scan page s entry n)
 
 -- the owner before slot 0: that of the period's end, a period earlier
-abbrev pub entry_of : List (List ℕ) → Id → Option PageOwner
-entry_of cycle page = owner_moved (pos 0 -ℤ pos (length cycle)) (owner_scan page (repeated cycle) None (length cycle))
+abbrev pub entry_owner : List (List ℕ) → Id → Option PageOwner
+entry_owner cycle page = owner_moved (pos 0 -ℤ pos (length cycle)) (owner_scan page (repeated cycle) None (length cycle))
 
 -- before slot 0 another cycle was sent, or the same one
 abbrev pub sent_after : List (List ℕ) → List (List ℕ) → Id → ℕ → Item → List Transmission
-sent_after before cycle page lines item = sent_scan page lines item (repeated cycle) (entry_of before page) (length cycle)
+sent_after before cycle page lines item = sent_scan page lines item (repeated cycle) (entry_owner before page) (length cycle)
 
 abbrev pub sent_in : List (List ℕ) → Id → ℕ → Item → List Transmission
 sent_in cycle page lines item = sent_after cycle cycle page lines item

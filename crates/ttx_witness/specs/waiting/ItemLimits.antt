@@ -1,6 +1,6 @@
 -- What is told of the items of a page by their least limits, while they are looked at in order.
 --
---   IsOwn                   the item's own least deadline
+--   IsOwnDeadline                   the item's own least deadline
 --   IsBelow                 an item whose own least deadline is at most, or below, a number
 --   IsLongest               the greatest of the first m items that a viewer sees, and the first of them that has it
 --   IsByLimits              the answer for all of them
@@ -14,23 +14,24 @@ use Rattle.ttx_witness.specs.waiting.PageWaits.{AreLosses}
 use Rattle.ttx_witness.specs.declared.waiting.wait.Wait.{Wait}
 use Rattle.ttx_witness.specs.declared.waiting.wait.Wait.TheVariants.{Fields, Faulty, Unsure}
 
-pub record IsOwn (cycle : List (List ℕ)) (p : Page) (class : Class) (repeat lines : ℕ) (item : Item) (deadline : ℕ) : Type 0 where
+pub record IsOwnDeadline (cycle : List (List ℕ)) (p : Page) (class : Class) (repeat lines : ℕ) (item : Item) (deadline : ℕ) : Type 0 where
   pub limit : ℕ
   pub is : limit_for cycle class lines repeat p item ≡ Some limit
   pub least : IsLeastField limit lines (Some deadline)
 
 pub record IsBelow (cycle : List (List ℕ)) (p : Page) (class : Class) (repeat lines : ℕ) (item : Item) (bound : ℕ) : Type 0 where
   pub deadline : ℕ
-  pub own : IsOwn cycle p class repeat lines item deadline
+  pub own : IsOwnDeadline cycle p class repeat lines item deadline
   pub below : deadline < bound
 
 abbrev pub AllBelow : List (List ℕ) → Page → Class → ℕ → ℕ → ℕ → ℕ → Type 0
-AllBelow cycle p class repeat lines m bound = (other : Item) → needed p other ≡ true → item_number other < m → IsBelow cycle p class repeat lines other bound
+AllBelow cycle p class repeat lines m bound = (other : Item) → needed p other ≡ true → item_number other < m →
+    IsBelow cycle p class repeat lines other bound
 
 pub record IsFirstLongest (cycle : List (List ℕ)) (p : Page) (class : Class) (repeat lines m deadline : ℕ) (item : Item) : Type 0 where
   pub seen : needed p item ≡ true
   pub before : item_number item < m
-  pub own : IsOwn cycle p class repeat lines item deadline
+  pub own : IsOwnDeadline cycle p class repeat lines item deadline
   pub first : AllBelow cycle p class repeat lines (item_number item) deadline
 
 -- none of the first m items is seen, or one of them is the first that needs most
@@ -42,5 +43,6 @@ abbrev pub IsByLimits : List (List ℕ) → Page → Class → ℕ → ℕ → W
 IsByLimits cycle p class repeat lines (Fields deadline item) = IsLongest cycle p class repeat lines 26 deadline item
 IsByLimits cycle p class repeat lines (Faulty reason) = ⊥
 IsByLimits cycle p class repeat lines (Unsure item losses) =
-    (needed p item ≡ true) × (limit_for cycle class lines repeat p item ≡ None) × ((bound : ℕ) × AllBelow cycle p class repeat lines (item_number item) bound)
+    (needed p item ≡ true) × (limit_for cycle class lines repeat p item ≡ None)
+    × ((bound : ℕ) × AllBelow cycle p class repeat lines (item_number item) bound)
     × AreLosses cycle p.id lines item losses

@@ -15,8 +15,8 @@ use Rattle.ttx_page.specs.declared.page.Page.{Page as PageValue}
 use Rattle.ttx_page.specs.declared.item.Item.{Item}
 use Rattle.ttx_page.specs.declared.item.Item.TheVariants.{Head as TheHead, Row as TheRow, Links as TheLinks}
 use Rattle.ttx_page.specs.declared.class.Class.{Class}
-use Rattle.ttx_witness.specs.passes.ItemProgress.{Holds}
-use Rattle.ttx_witness.specs.waiting.PageWaits.{IsLeast, CanShow, AreLosses, fields_of, IsWait}
+use Rattle.ttx_witness.specs.passes.ItemProgress.{HoldsAt}
+use Rattle.ttx_witness.specs.waiting.PageWaits.{IsLeast, CanShow, AreLosses, fields_told, IsWait}
 use Rattle.ttx_witness.specs.declared.faults.reason.Reason.{Reason}
 use Rattle.ttx_witness.specs.declared.waiting.wait.ItemWait.{ItemWait}
 use Rattle.ttx_witness.specs.declared.waiting.wait.OwnWait.{OwnWait}
@@ -51,7 +51,7 @@ pub record AreItemsTold (cycle : List (List ℕ)) (p : Page) (class : Class) (re
 
 pub record AreItemWaits (cycle : List (List ℕ)) (pages : List Page) (class : Class) (repeat lines : ℕ) (all : List (List ItemWait)) : Type 0 where
   pub count : length all ≡ length pages
-  pub each : (index : ℕ) (p : Page) → slice_get pages index ≡ Some p → Holds (List ItemWait) all index (AreItemsTold cycle p class repeat lines 26)
+  pub each : (index : ℕ) (p : Page) → slice_get pages index ≡ Some p → HoldsAt (List ItemWait) all index (AreItemsTold cycle p class repeat lines 26)
 
 -- one item is told with this deadline, or with none
 pub record IsToldOf (told : List ItemWait) (least : Option ℕ) : Type 0 where
@@ -72,4 +72,4 @@ abbrev pub PageIsGreatest : Type 0
 PageIsGreatest = (cycle : List (List ℕ)) → 1 ≤ length cycle → length cycle ≤ 65536 → (pages : List Page) (page : PageValue) →
     (class : Class) (repeat lines : ℕ) → 1 ≤ repeat → repeat ≤ 8 → 1 ≤ lines → lines ≤ 32 →
     (wait : Wait) → IsWait cycle pages (page_of page) class repeat lines wait → ((reason : Reason) → wait ≡ Faulty reason → ⊥) →
-    (told : List ItemWait) → AreItemsTold cycle (page_of page) class repeat lines 26 told → IsGreatest told (fields_of wait)
+    (told : List ItemWait) → AreItemsTold cycle (page_of page) class repeat lines 26 told → IsGreatest told (fields_told wait)

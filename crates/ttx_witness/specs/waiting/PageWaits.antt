@@ -2,7 +2,7 @@
 -- pages of the list say only whether it is the one page of its number.
 --
 --   IsFor                   a certificate of this class, repeat count, lines and deadline
---   Shows, AcceptsPage      an item is covered or left out; the page is steady, and each item that a viewer sees is shown
+--   ShowsItem, AcceptsPage      an item is covered or left out; the page is steady, and each item that a viewer sees is shown
 --   CanShow, CanAccept      some certificate of these numbers shows the item; some accepts the page
 --   IsLeast                 the least number of which something is true, None where it is true of none
 --   Needs                   an item that a viewer sees, and that no smaller deadline is enough for
@@ -34,18 +34,18 @@ pub record IsFor (class : Class) (repeat lines deadline : ℕ) (w : Certificate)
   pub same_lines : w.lines ≡ lines
   pub same_deadline : w.deadline ≡ deadline
 
-abbrev pub Shows : List (List ℕ) → Page → Certificate → Item → Type 0
-Shows cycle p w item = IsCovered cycle p w item ⊎ IsLeftOut cycle p w item
+abbrev pub ShowsItem : List (List ℕ) → Page → Certificate → Item → Type 0
+ShowsItem cycle p w item = IsCovered cycle p w item ⊎ IsLeftOut cycle p w item
 
 -- what `Accepts` asks of one page
 pub record AcceptsPage (cycle : List (List ℕ)) (pages : List Page) (p : Page) (w : Certificate) : Type 0 where
   pub steady : Steady (repeated cycle) pages p
-  pub shows : (item : Item) → needed p item ≡ true → Shows cycle p w item
+  pub shows : (item : Item) → needed p item ≡ true → ShowsItem cycle p w item
 
 pub record CanShow (cycle : List (List ℕ)) (p : Page) (class : Class) (repeat lines : ℕ) (item : Item) (deadline : ℕ) : Type 0 where
   pub w : Certificate
   pub is : IsFor class repeat lines deadline w
-  pub shows : Shows cycle p w item
+  pub shows : ShowsItem cycle p w item
 
 pub record CanAccept (cycle : List (List ℕ)) (pages : List Page) (p : Page) (class : Class) (repeat lines deadline : ℕ) : Type 0 where
   pub w : Certificate
@@ -76,9 +76,9 @@ pub record AreLosses (cycle : List (List ℕ)) (page : Id) (lines : ℕ) (item :
   pub cut : c.cut ≡ length (filter (is_cut lines) (sent_in cycle page lines item))
 
 -- the least deadline with which the page alone is accepted
-abbrev pub fields_of : Wait → Option ℕ
-fields_of (Fields deadline item) = Some deadline
-fields_of wait = None
+abbrev pub fields_told : Wait → Option ℕ
+fields_told (Fields deadline item) = Some deadline
+fields_told wait = None
 
 abbrev pub IsReason : List (List ℕ) → List Page → Page → Class → ℕ → ℕ → Wait → Type 0
 IsReason cycle pages p class repeat lines (Fields deadline item) = IsFirstItem (Needs cycle p class repeat lines deadline) item
@@ -88,11 +88,12 @@ IsReason cycle pages p class repeat lines (Unsure item losses) =
 
 -- the least deadline, and the item or the reason
 pub record IsWait (cycle : List (List ℕ)) (pages : List Page) (p : Page) (class : Class) (repeat lines : ℕ) (wait : Wait) : Type 0 where
-  pub least : IsLeast (CanAccept cycle pages p class repeat lines) (fields_of wait)
+  pub least : IsLeast (CanAccept cycle pages p class repeat lines) (fields_told wait)
   pub reason : IsReason cycle pages p class repeat lines wait
 
 -- what is told of the page at the index
-pub record IsTold (cycle : List (List ℕ)) (pages : List Page) (class : Class) (repeat lines index : ℕ) (p : Page) (told : List PageWait) : Type 0 where
+pub record IsPageTold (cycle : List (List ℕ)) (pages : List Page) (class : Class) (repeat lines index : ℕ)
+    (p : Page) (told : List PageWait) : Type 0 where
   pub answer : PageWait
   pub at : slice_get told index ≡ Some answer
   pub page : answer.page ≡ p.id
@@ -100,4 +101,4 @@ pub record IsTold (cycle : List (List ℕ)) (pages : List Page) (class : Class) 
 
 pub record AreWaits (cycle : List (List ℕ)) (pages : List Page) (class : Class) (repeat lines : ℕ) (told : List PageWait) : Type 0 where
   pub count : length told ≡ length pages
-  pub each : (index : ℕ) (p : Page) → slice_get pages index ≡ Some p → IsTold cycle pages class repeat lines index p told
+  pub each : (index : ℕ) (p : Page) → slice_get pages index ≡ Some p → IsPageTold cycle pages class repeat lines index p told

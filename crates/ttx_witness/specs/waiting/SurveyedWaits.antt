@@ -6,7 +6,7 @@
 --   AreWaitsIn, AreItemWaitsIn      what is told of all pages of a survey, and of their items
 use Rattle.std.specs.Prelude.{ℕ, List}
 use Rattle.ttx_page.specs.declared.item.Item.{Item}
-use Rattle.ttx_witness.specs.finding.Surveys.{slots_in, pages_in, page_in}
+use Rattle.ttx_witness.specs.finding.Surveys.{survey_slots, survey_pages, surveyed_page}
 use Rattle.ttx_witness.specs.waiting.PageWaits.{IsWait, AreWaits}
 use Rattle.ttx_witness.specs.waiting.ItemLimits.{IsLongest, IsByLimits}
 use Rattle.ttx_witness.specs.waiting.ItemWaits.{IsItemWait, AreItemsTold, AreItemWaits}
@@ -18,22 +18,22 @@ use Rattle.ttx_witness.specs.declared.waiting.wait.PageWait.{PageWait}
 use Rattle.ttx_witness.specs.declared.waiting.wait.Wait.{Wait}
 
 abbrev pub IsLongestIn : SurveyedPage → ℕ → ℕ → Item → Type 0
-IsLongestIn p m deadline item = let v = p.survey.now in IsLongest (slots_in v) (page_in p) v.class v.repeat v.lines m deadline item
+IsLongestIn p m deadline item = let v = p.survey.now in IsLongest (survey_slots v) (surveyed_page p) v.class v.repeat v.lines m deadline item
 
 abbrev pub IsByLimitsIn : SurveyedPage → Wait → Type 0
-IsByLimitsIn p wait = let v = p.survey.now in IsByLimits (slots_in v) (page_in p) v.class v.repeat v.lines wait
+IsByLimitsIn p wait = let v = p.survey.now in IsByLimits (survey_slots v) (surveyed_page p) v.class v.repeat v.lines wait
 
 abbrev pub IsWaitIn : SurveyedPage → Wait → Type 0
-IsWaitIn p wait = let v = p.survey.now in IsWait (slots_in v) (pages_in v) (page_in p) v.class v.repeat v.lines wait
+IsWaitIn p wait = let v = p.survey.now in IsWait (survey_slots v) (survey_pages v) (surveyed_page p) v.class v.repeat v.lines wait
 
 abbrev pub IsItemWaitIn : SurveyedPage → Item → OwnWait → Type 0
-IsItemWaitIn p item wait = let v = p.survey.now in IsItemWait (slots_in v) (page_in p) v.class v.repeat v.lines item wait
+IsItemWaitIn p item wait = let v = p.survey.now in IsItemWait (survey_slots v) (surveyed_page p) v.class v.repeat v.lines item wait
 
 abbrev pub AreItemsToldIn : SurveyedPage → ℕ → List ItemWait → Type 0
-AreItemsToldIn p n told = let v = p.survey.now in AreItemsTold (slots_in v) (page_in p) v.class v.repeat v.lines n told
+AreItemsToldIn p n told = let v = p.survey.now in AreItemsTold (survey_slots v) (surveyed_page p) v.class v.repeat v.lines n told
 
 abbrev pub AreWaitsIn : Survey → List PageWait → Type 0
-AreWaitsIn v told = AreWaits (slots_in v) (pages_in v) v.class v.repeat v.lines told
+AreWaitsIn v told = AreWaits (survey_slots v) (survey_pages v) v.class v.repeat v.lines told
 
 abbrev pub AreItemWaitsIn : Survey → List (List ItemWait) → Type 0
-AreItemWaitsIn v all = AreItemWaits (slots_in v) (pages_in v) v.class v.repeat v.lines all
+AreItemWaitsIn v all = AreItemWaits (survey_slots v) (survey_pages v) v.class v.repeat v.lines all

@@ -1,6 +1,6 @@
 //! The first slot that isn't clean.
 
-ghost use Rattle.std.specs.Prelude.{ℕ, ◌<◌, ◌≤◌, MatchOption, length};
+ghost use Rattle.std.specs.Prelude.{ℕ, ◌<◌, MatchOption};
 ghost use Rattle.ttx_cycle.specs.Cycles.{slots_of};
 ghost use Rattle.ttx_witness.specs.faults.Reasons.{BadSlotAt};
 
@@ -9,7 +9,8 @@ use ttx_packet::clean;
 
 /// The first slot that one wrong bit in each byte can turn into another packet, counted from 0.
 pub fn bad_slot(cycle: &Cycle) -> Option<u32>
-    ensures { MatchOption result ((j : ℕ) → BadSlotAt (slots_of cycle.now) j → ⊥) (λ j. BadSlotAt (slots_of cycle.now) j × ((i : ℕ) → i < j → BadSlotAt (slots_of cycle.now) i → ⊥)) }
+    ensures { MatchOption result ((j : ℕ) → BadSlotAt (slots_of cycle.now) j → ⊥)
+        (λ j. BadSlotAt (slots_of cycle.now) j × ((i : ℕ) → i < j → BadSlotAt (slots_of cycle.now) i → ⊥)) }
 {
     let slots = cycle.slots();
     for j in 0..slots.len() {

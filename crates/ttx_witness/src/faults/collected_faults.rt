@@ -1,6 +1,6 @@
 //! The first fault of one page, by the transmissions of its items in a period.
 
-ghost use Rattle.std.specs.Prelude.{◌≡◌, ◌≤◌, ◌↔◌, ℕ, IsTrue, Some, List, [], length, slice_get, slice_index_or, unsigned_abs};
+ghost use Rattle.std.specs.Prelude.{◌≡◌, ◌≤◌, ◌↔◌, ℕ, IsTrue, Some, List, length, slice_get, unsigned_abs};
 ghost use Rattle.ttx_cycle.specs.Cycles.{slots_of};
 ghost use Rattle.ttx_header.specs.Ids.{Id};
 ghost use Rattle.ttx_page.specs.Pages as definitions;
@@ -10,7 +10,7 @@ ghost use Rattle.ttx_page.specs.Steady.{HasHeader, OtherSubpageAt, RowDiffersAt}
 ghost use Rattle.ttx_page.specs.declared.item.Item.TheVariants.{Head as TheHead};
 ghost use Rattle.ttx_witness.specs.sent.AllSent.{AreAllSent};
 ghost use Rattle.ttx_witness.specs.sent.ItemTransmissions.{sent_in};
-ghost use Rattle.ttx_witness.specs.faults.Comparing.{item_of, IsWrongIn, WrongAt, RowWrongAt};
+ghost use Rattle.ttx_witness.specs.faults.Comparing.{compared_item, IsWrongIn, WrongAt, RowWrongAt};
 ghost use Rattle.ttx_witness.specs.faults.Faults.{TellsFirst, AreFirst, IsPageFault};
 
 use crate::faults::comparing::{Check, is_wrong};
@@ -46,7 +46,8 @@ pub fn first_wrong_sent(
     check: &Check,
     sent: &[Transmission],
 ) -> Option<u32>
-    ensures { (lines : ℕ) → sent.now ≡ sent_in (slots_of cycle.now) (page_of page.now).id lines (item_of check.now) → TellsFirst (slots_of cycle.now) (WrongAt (repeated (slots_of cycle.now)) (page_of page.now) check.now) result }
+    ensures { (lines : ℕ) → sent.now ≡ sent_in (slots_of cycle.now) (page_of page.now).id lines (compared_item check.now) →
+        TellsFirst (slots_of cycle.now) (WrongAt (repeated (slots_of cycle.now)) (page_of page.now) check.now) result }
 {
     for i in 0..sent.len() {
         if is_wrong_in(cycle, page, check, sent[i]) {
@@ -58,7 +59,8 @@ pub fn first_wrong_sent(
 
 // Whether the list of the page's headers has one.
 fn has_header(sent: &[Transmission]) -> bool
-    ensures { (cycle : List (List ℕ)) (page : Id) (lines : ℕ) → 1 ≤ length cycle → sent.now ≡ sent_in cycle page lines TheHead → IsTrue result ↔ HasHeader (repeated cycle) page }
+    ensures { (cycle : List (List ℕ)) (page : Id) (lines : ℕ) → 1 ≤ length cycle → sent.now ≡ sent_in cycle page lines TheHead →
+        IsTrue result ↔ HasHeader (repeated cycle) page }
 {
     !sent.is_empty()
 }
@@ -71,7 +73,8 @@ fn first_wrong_in(
     collected: &Collected,
     index: usize,
 ) -> Option<u32>
-    ensures { (pages : List definitions.Page) (lines : ℕ) → AreAllSent (slots_of cycle.now) pages lines collected.now → slice_get pages index ≡ Some (page_of page.now) →
+    ensures { (pages : List definitions.Page) (lines : ℕ) → AreAllSent (slots_of cycle.now) pages lines collected.now →
+        slice_get pages index ≡ Some (page_of page.now) →
         TellsFirst (slots_of cycle.now) (RowWrongAt (repeated (slots_of cycle.now)) (page_of page.now) number) result }
 {
     let Some(row) = RowNumber::new(number) else {
@@ -86,7 +89,8 @@ fn first_wrong_in(
 
 // The first slot that sends another row in the place of one that a viewer sees.
 fn first_wrong_row(cycle: &Cycle, page: &Page, collected: &Collected, index: usize) -> Option<u32>
-    ensures { (pages : List definitions.Page) (lines : ℕ) → AreAllSent (slots_of cycle.now) pages lines collected.now → slice_get pages index ≡ Some (page_of page.now) →
+    ensures { (pages : List definitions.Page) (lines : ℕ) → AreAllSent (slots_of cycle.now) pages lines collected.now →
+        slice_get pages index ≡ Some (page_of page.now) →
         TellsFirst (slots_of cycle.now) (RowDiffersAt (repeated (slots_of cycle.now)) (page_of page.now)) result }
 {
     let mut first = None;
@@ -104,7 +108,8 @@ fn first_slots(
     index: usize,
     other_subpage: Option<u32>,
 ) -> FirstSlots
-    ensures { (pages : List definitions.Page) (lines : ℕ) → AreAllSent (slots_of cycle.now) pages lines collected.now → slice_get pages index ≡ Some (page_of page.now) →
+    ensures { (pages : List definitions.Page) (lines : ℕ) → AreAllSent (slots_of cycle.now) pages lines collected.now →
+        slice_get pages index ≡ Some (page_of page.now) →
         TellsFirst (slots_of cycle.now) (OtherSubpageAt (repeated (slots_of cycle.now)) pages (page_of page.now)) other_subpage →
         AreFirst (slots_of cycle.now) pages (page_of page.now) result }
 {
@@ -130,7 +135,8 @@ pub fn fault_of(
     index: usize,
     other_subpage: Option<u32>,
 ) -> Option<Reason>
-    ensures { (pages : List definitions.Page) (lines : ℕ) → AreAllSent (slots_of cycle.now) pages lines collected.now → slice_get pages index ≡ Some (page_of page.now) →
+    ensures { (pages : List definitions.Page) (lines : ℕ) → AreAllSent (slots_of cycle.now) pages lines collected.now →
+        slice_get pages index ≡ Some (page_of page.now) →
         TellsFirst (slots_of cycle.now) (OtherSubpageAt (repeated (slots_of cycle.now)) pages (page_of page.now)) other_subpage →
         IsPageFault (slots_of cycle.now) pages (page_of page.now) result }
 {

@@ -1,13 +1,13 @@
 //! What of a page is compared with the slots that send it.
 
-ghost use Rattle.std.specs.Prelude.{◌≡◌, ◌<◌, ◌≤◌, ◌/◌, ◌↔◌, ℕ, IsTrue, true, drop, map, slice_index};
+ghost use Rattle.std.specs.Prelude.{◌≡◌, ◌<◌, ◌/◌, ◌↔◌, ℕ, IsTrue, true, drop, map, slice_index};
 ghost use Rattle.ttx_code.specs.Words.{odd_byte};
-ghost use Rattle.ttx_links.specs.Sets.{LinkSet, is_exact};
-ghost use Rattle.ttx_packet.specs.Slots.{IsSlot, are_words};
+ghost use Rattle.ttx_links.specs.Sets.{is_exact};
+ghost use Rattle.ttx_packet.specs.Slots.{IsSlot};
 ghost use Rattle.ttx_page.specs.Packets.{packet_of};
 ghost use Rattle.ttx_page.specs.Steady.{erases_page, IsLikeHead, RowIsRight, LinksAreRight};
 ghost use Rattle.ttx_page.specs.Views.{page_of};
-ghost use Rattle.ttx_witness.specs.faults.Comparing.{item_of, IsWrong};
+ghost use Rattle.ttx_witness.specs.faults.Comparing.{compared_item, IsWrong};
 
 use crate::sent::packets::{header_in, links_in, row_in};
 use ttx_code::{is_word, odd};
@@ -31,7 +31,7 @@ pub enum Check {
 impl Check {
     /// The item whose transmissions show it.
     pub fn item(&self) -> Item
-        ensures { result ≡ item_of self.now }
+        ensures { result ≡ compared_item self.now }
     {
         match self {
             Check::EraseBit => Item::Head,

@@ -32,7 +32,8 @@ pub fn earlier(a: Option<u32>, b: Option<u32>) -> Option<u32>
 
 /// The page's first fault in the order of the reasons.
 pub fn least_fault(page: PageId, first: FirstSlots) -> Option<Reason>
-    ensures { (cycle : List (List ℕ)) (pages : List definitions.Page) (p : definitions.Page) → page ≡ p.id → AreFirst cycle pages p first → IsPageFault cycle pages p result }
+    ensures { (cycle : List (List ℕ)) (pages : List definitions.Page) (p : definitions.Page) → page ≡ p.id → AreFirst cycle pages p first →
+        IsPageFault cycle pages p result }
 {
     if !first.has_header {
         return Some(Reason::NoHeader { page });

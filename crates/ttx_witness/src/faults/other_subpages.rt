@@ -1,11 +1,11 @@
 //! Headers of other subpages, for all pages at once.
 
-ghost use Rattle.std.specs.Prelude.{◌≡◌, ◌<◌, ◌≤◌, ℕ, IfOk, None, get_or, is_none, ◌&&◌, length, map, replicate};
+ghost use Rattle.std.specs.Prelude.{◌≡◌, ◌<◌, ◌≤◌, ℕ, IfOk, None, get_or, length, map, replicate};
 ghost use Rattle.ttx_cycle.specs.Cycles.{slots_of};
 ghost use Rattle.ttx_packet.specs.Slots.{IsSlot};
 ghost use Rattle.ttx_page.specs.Packets.{packet_of};
 ghost use Rattle.ttx_page.specs.Views.{page_of};
-ghost use Rattle.ttx_witness.specs.faults.OtherSubpages.{place, first_of, is_stray, AreAllSubcodes, AreStrays, AreOtherSubpages};
+ghost use Rattle.ttx_witness.specs.faults.OtherSubpages.{place, first_of, is_stray, AreStrays, AreOtherSubpages};
 
 use crate::faults::subcodes::{NUMBERS, Subcodes, is_other, place, subcodes_of};
 use crate::sent::packets::header_in;
@@ -38,7 +38,8 @@ pub fn note_slot(first: &mut Vec<Option<u32>>, subcodes: &[Subcodes], slot: &[u8
     requires subcodes { length subcodes.now ≡ 2048 }
     ensures size { length first.new.items ≡ 2048 }
     ensures noted { (mag number : ℕ) → 1 ≤ mag → mag ≤ 8 → number < 256 →
-        get_or first.new.items (place mag number) None ≡ first_of (get_or first.old.items (place mag number) None) (is_stray subcodes.now mag number (packet_of slot.now)) j }
+        get_or first.new.items (place mag number) None
+        ≡ first_of (get_or first.old.items (place mag number) None) (is_stray subcodes.now mag number (packet_of slot.now)) j }
 {
     let Some(header) = header_in(slot) else {
         return;
@@ -100,7 +101,8 @@ impl OtherSubpages {
 
     /// The first header of another subpage of this page of the list, where it is the only one of its number.
     pub fn first(&self, page: PageId) -> Option<u32>
-        ensures { (cycle : List (List ℕ)) (pages : List definitions.Page) (n : ℕ) (p : definitions.Page) → AreOtherSubpages cycle pages self.now → slice_get pages n ≡ Some p → page ≡ p.id →
+        ensures { (cycle : List (List ℕ)) (pages : List definitions.Page) (n : ℕ) (p : definitions.Page) →
+            AreOtherSubpages cycle pages self.now → slice_get pages n ≡ Some p → page ≡ p.id →
             TellsFirst cycle (OtherSubpageAt (repeated cycle) pages p) result }
     {
         match self.first.get(place(page)) {

@@ -6,10 +6,10 @@ ghost use Rattle.ttx_page.specs.Pages as definitions;
 ghost use Rattle.ttx_page.specs.Views.{page_of};
 ghost use Rattle.ttx_page.specs.Streams.{repeated};
 ghost use Rattle.ttx_page.specs.Steady.{HasHeader, OtherSubpageAt, RowDiffersAt};
-ghost use Rattle.ttx_witness.specs.sent.ItemTransmissions.{owner_scan, entry_of};
+ghost use Rattle.ttx_witness.specs.sent.ItemTransmissions.{owner_scan, entry_owner};
 ghost use Rattle.ttx_packet.specs.Slots.{IsSlot};
 ghost use Rattle.ttx_page.specs.Packets.{packet_of};
-ghost use Rattle.ttx_witness.specs.faults.Comparing.{is_mine, item_of, sends, IsWrong, OtherHeaderAt, WrongAt, RowWrongAt};
+ghost use Rattle.ttx_witness.specs.faults.Comparing.{is_mine, compared_item, sends, IsWrong, OtherHeaderAt, WrongAt, RowWrongAt};
 ghost use Rattle.ttx_witness.specs.faults.Faults.{TellsFirst, AreFirst, IsPageFault};
 
 use crate::faults::comparing::{Check, is_wrong};
@@ -49,7 +49,8 @@ fn first_other_header(cycle: &Cycle, page: PageId) -> Option<u32>
 // The first header of another subpage, where the page is the only one of its number.
 fn first_other_subpage(cycle: &Cycle, pages: &[Page], index: usize) -> Option<u32>
     requires { index < length pages.now }
-    ensures { (p : definitions.Page) → slice_get (map page_of pages.now) index ≡ Some p → TellsFirst (slots_of cycle.now) (OtherSubpageAt (repeated (slots_of cycle.now)) (map page_of pages.now) p) result }
+    ensures { (p : definitions.Page) → slice_get (map page_of pages.now) index ≡ Some p →
+        TellsFirst (slots_of cycle.now) (OtherSubpageAt (repeated (slots_of cycle.now)) (map page_of pages.now) p) result }
 {
     let id = pages[index].id();
     if Selection::AnySub(id.mag(), id.page()).fits(pages, index) {
@@ -74,14 +75,15 @@ fn is_mine_at_end(cycle: &Cycle, page: PageId) -> bool
 // Whether the slot is a transmission that differs from the page, where `mine` says whether the page owns its magazine.
 fn differs(page: &Page, check: &Check, slot: &[u8; 42], mine: bool) -> bool
     requires { IsSlot slot.now }
-    ensures { IsTrue result ↔ ((sends (page_of page.now).id (item_of check.now) (packet_of slot.now) mine ≡ true) × IsWrong (page_of page.now) check.now slot.now) }
+    ensures { IsTrue result ↔ ((sends (page_of page.now).id (compared_item check.now) (packet_of slot.now) mine ≡ true)
+        × IsWrong (page_of page.now) check.now slot.now) }
 {
     sends(page.id(), check.item(), slot, mine) && is_wrong(page, check, slot)
 }
 
 // The first transmission that differs from the page; `mine` says whether the page owns its magazine before the period.
 fn first_wrong(cycle: &Cycle, page: &Page, check: &Check, mine: bool) -> Option<u32>
-    requires { mine ≡ is_mine (entry_of (slots_of cycle.now) (page_of page.now).id) }
+    requires { mine ≡ is_mine (entry_owner (slots_of cycle.now) (page_of page.now).id) }
     ensures { TellsFirst (slots_of cycle.now) (WrongAt (repeated (slots_of cycle.now)) (page_of page.now) check.now) result }
 {
     let slots = cycle.slots();
@@ -97,7 +99,7 @@ fn first_wrong(cycle: &Cycle, page: &Page, check: &Check, mine: bool) -> Option<
 
 // The first slot that sends another row in the place of this one, where a viewer sees the row.
 fn first_wrong_in(cycle: &Cycle, page: &Page, number: u8, mine: bool) -> Option<u32>
-    requires { mine ≡ is_mine (entry_of (slots_of cycle.now) (page_of page.now).id) }
+    requires { mine ≡ is_mine (entry_owner (slots_of cycle.now) (page_of page.now).id) }
     ensures { TellsFirst (slots_of cycle.now) (RowWrongAt (repeated (slots_of cycle.now)) (page_of page.now) number) result }
 {
     let Some(row) = RowNumber::new(number) else {
@@ -112,7 +114,7 @@ fn first_wrong_in(cycle: &Cycle, page: &Page, number: u8, mine: bool) -> Option<
 
 // The first slot that sends another row in the place of one that a viewer sees.
 fn first_wrong_row(cycle: &Cycle, page: &Page, mine: bool) -> Option<u32>
-    requires { mine ≡ is_mine (entry_of (slots_of cycle.now) (page_of page.now).id) }
+    requires { mine ≡ is_mine (entry_owner (slots_of cycle.now) (page_of page.now).id) }
     ensures { TellsFirst (slots_of cycle.now) (RowDiffersAt (repeated (slots_of cycle.now)) (page_of page.now)) result }
 {
     let mut first = None;
@@ -125,7 +127,8 @@ fn first_wrong_row(cycle: &Cycle, page: &Page, mine: bool) -> Option<u32>
 // The first slot of each reason.
 fn first_slots(cycle: &Cycle, pages: &[Page], index: usize) -> FirstSlots
     requires { index < length pages.now }
-    ensures { (p : definitions.Page) → slice_get (map page_of pages.now) index ≡ Some p → AreFirst (slots_of cycle.now) (map page_of pages.now) p result }
+    ensures { (p : definitions.Page) → slice_get (map page_of pages.now) index ≡ Some p →
+        AreFirst (slots_of cycle.now) (map page_of pages.now) p result }
 {
     let page = &pages[index];
     let mine = is_mine_at_end(cycle, page.id());
@@ -144,7 +147,8 @@ fn first_slots(cycle: &Cycle, pages: &[Page], index: usize) -> FirstSlots
 /// `None` exactly where the page is steady. Takes no memory, and time linear in the slots of the cycle.
 pub fn page_fault(cycle: &Cycle, pages: &[Page], index: usize) -> Option<Reason>
     requires { index < length pages.now }
-    ensures { (p : definitions.Page) → slice_get (map page_of pages.now) index ≡ Some p → IsPageFault (slots_of cycle.now) (map page_of pages.now) p result }
+    ensures { (p : definitions.Page) → slice_get (map page_of pages.now) index ≡ Some p →
+        IsPageFault (slots_of cycle.now) (map page_of pages.now) p result }
 {
     least_fault(pages[index].id(), first_slots(cycle, pages, index))
 }

@@ -63,7 +63,8 @@ fn note_page(table: &mut Vec<Subcodes>, page: PageId)
     ensures size { length table.new.items ≡ 2048 }
     ensures noted { (mag number : ℕ) → 1 ≤ mag → mag ≤ 8 → number < 256 →
         get_or table.new.items (place mag number) Unlisted
-        ≡ (if (mag == page.mag) && (number == page.page) then with_subcode (get_or table.old.items (place mag number) Unlisted) page.sub else get_or table.old.items (place mag number) Unlisted) }
+        ≡ (if (mag == page.mag) && (number == page.page) then with_subcode (get_or table.old.items (place mag number) Unlisted) page.sub
+        else get_or table.old.items (place mag number) Unlisted) }
 {
     let at = place(page);
     table[at] = with_subcode(table[at], page.sub());

@@ -1,6 +1,6 @@
 //! Finding certificates.
 
-ghost use Rattle.std.specs.Prelude.{◌≡◌, ◌≢◌, [], ◌≤◌, ◌<◌, ◌*◌, ◌↔◌, ℕ, IfOk, IsTrue, MatchOption, List, map, length, Some, true, false};
+ghost use Rattle.std.specs.Prelude.{◌≡◌, ◌≢◌, [], ◌≤◌, ◌<◌, ◌*◌, ◌↔◌, ℕ, IfOk, IsTrue, List, map, length, Some, true, false};
 ghost use Rattle.std.specs.List.{AllPairs};
 ghost use Rattle.std.specs.List.Sorted.{IsPermutation};
 ghost use Rattle.ttx_page.specs.Pages as definitions;
@@ -12,7 +12,7 @@ ghost use Rattle.ttx_certificate.specs.EntryViews.{entries_of};
 ghost use Rattle.ttx_certificate.specs.Certificates.{certificate_of};
 ghost use Rattle.ttx_witness.specs.sent.Collected.{ids_of};
 ghost use Rattle.ttx_witness.specs.finding.Finding.{same_place, IsLeastField, IsDeadline, IsSentUnchanged, IsFoundFor};
-ghost use Rattle.ttx_witness.specs.finding.Surveys.{slots_in, pages_in, page_in, AreNamedIn, AreOthersIn, IsSteadyIn};
+ghost use Rattle.ttx_witness.specs.finding.Surveys.{survey_slots, survey_pages, surveyed_page, AreNamedIn, AreOthersIn, IsSteadyIn};
 
 use crate::faults::bad_slots::bad_slot;
 use crate::faults::other_subpages::OtherSubpages;
@@ -47,7 +47,7 @@ fn least_field(slots: u64, lines: u8) -> Option<u32>
 
 // Whether the page is sent unchanged.
 fn is_steady(surveyed: &SurveyedPage, others: &OtherSubpages) -> bool
-    ensures { AreOthersIn surveyed.now.survey.now others.now → IsTrue result ↔ IsSteadyIn surveyed.now.survey.now (page_in surveyed.now) }
+    ensures { AreOthersIn surveyed.now.survey.now others.now → IsTrue result ↔ IsSteadyIn surveyed.now.survey.now (surveyed_page surveyed.now) }
 {
     crate::laws::fault_laws::steady_has_no_fault();
     surveyed.fault(others).is_none()
@@ -55,7 +55,7 @@ fn is_steady(surveyed: &SurveyedPage, others: &OtherSubpages) -> bool
 
 // Whether no slot is bad and each page is sent unchanged.
 fn is_sent_unchanged(survey: &Survey, others: &OtherSubpages) -> bool
-    ensures { AreOthersIn survey.now others.now → IsTrue result ↔ IsSentUnchanged (slots_in survey.now) (pages_in survey.now) }
+    ensures { AreOthersIn survey.now others.now → IsTrue result ↔ IsSentUnchanged (survey_slots survey.now) (survey_pages survey.now) }
 {
     if bad_slot(survey.cycle).is_some() {
         return false;
@@ -96,7 +96,8 @@ fn sort_entries(entries: &mut Vec<Entry>)
 // The deadline, where all is sent unchanged and there is a limit that is enough.
 fn deadline_of(unchanged: bool, lines: u8, least: Option<u64>) -> Option<u32>
     requires some { 1 ≤ lines }
-    ensures { (cycle : List (List ℕ)) (pages : List definitions.Page) → IsTrue unchanged ↔ IsSentUnchanged cycle pages → IsDeadline cycle pages lines least result }
+    ensures { (cycle : List (List ℕ)) (pages : List definitions.Page) → IsTrue unchanged ↔ IsSentUnchanged cycle pages →
+        IsDeadline cycle pages lines least result }
 {
     if !unchanged {
         return None;
@@ -123,7 +124,8 @@ pub fn find_for(
     requires some_lines { 1 ≤ lines }
     requires few_lines { lines ≤ 32 }
     requires distinct { AllPairs (λ a b. a ≢ b) (ids_of pages.now) }
-    ensures { IfOk result (λ found. IsFoundFor (slots_of cycle.now) (map page_of pages.now) repeat lines class (certificate_of found.certificate) found.deadline) }
+    ensures { IfOk result (λ found.
+        IsFoundFor (slots_of cycle.now) (map page_of pages.now) repeat lines class (certificate_of found.certificate) found.deadline) }
 {
     ttx_page::laws::pages_keep_their_rules();
     ttx_page::laws::pages_have_six_links();
@@ -166,7 +168,8 @@ pub fn find(
     requires some_lines { 1 ≤ lines }
     requires few_lines { lines ≤ 32 }
     requires distinct { AllPairs (λ a b. a ≢ b) (ids_of pages.now) }
-    ensures { IfOk result (λ found. IsFoundFor (slots_of cycle.now) (map page_of pages.now) repeat lines Any (certificate_of found.certificate) found.deadline) }
+    ensures { IfOk result (λ found.
+        IsFoundFor (slots_of cycle.now) (map page_of pages.now) repeat lines Any (certificate_of found.certificate) found.deadline) }
 {
     find_for(alloc, cycle, pages, repeat, lines, Class::Any)
 }

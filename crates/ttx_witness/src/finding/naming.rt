@@ -6,7 +6,7 @@ ghost use Rattle.ttx_page.specs.declared.item.Item.TheVariants.{Head as TheHead}
 ghost use Rattle.ttx_certificate.specs.Entries.{are_slots, is_page_id, rises};
 ghost use Rattle.ttx_witness.specs.runs.SureStarts.{above_zero, width};
 ghost use Rattle.ttx_witness.specs.finding.Finding.{is_due, limit_of, wider, AddsEntry};
-ghost use Rattle.ttx_witness.specs.finding.Surveys.{slots_in, page_in, starts_in, spread_in, least_in, named_in, limit_in, AreNamedIn};
+ghost use Rattle.ttx_witness.specs.finding.Surveys.{survey_slots, surveyed_page, surveyed_starts, surveyed_spread, surveyed_least, surveyed_named, surveyed_limit, AreNamedIn};
 
 use crate::finding::survey::SurveyedPage;
 use crate::runs::one_item::search_item;
@@ -92,11 +92,11 @@ fn search_for(
 ) -> Result<Search, NoMemory>
     requires some { 1 ≤ repeat }
     requires few { repeat ≤ 8 }
-    ensures starts { IfOk result (λ s. s.starts.items ≡ starts_in surveyed.now repeat item.now) }
-    ensures spread { IfOk result (λ s. s.spread ≡ spread_in surveyed.now repeat item.now) }
+    ensures starts { IfOk result (λ s. s.starts.items ≡ surveyed_starts surveyed.now repeat item.now) }
+    ensures spread { IfOk result (λ s. s.spread ≡ surveyed_spread surveyed.now repeat item.now) }
     ensures slots { IfOk result (λ s. are_slots s.starts.items ≡ true) }
     ensures rising { IfOk result (λ s. rises s.starts.items ≡ true) }
-    ensures small { IfOk result (λ s. (limit : ℕ) → limit_of (length (slots_in surveyed.now.survey.now)) s.spread ≡ Some limit → limit ≤ 655360) }
+    ensures small { IfOk result (λ s. (limit : ℕ) → limit_of (length (survey_slots surveyed.now.survey.now)) s.spread ≡ Some limit → limit ≤ 655360) }
 {
     let survey = surveyed.survey;
     let period = survey.cycle.slots().len() as u32;
@@ -115,8 +115,9 @@ fn name_item(
     entries: &mut Vec<Entry>,
     item: &Item,
 ) -> Result<Option<u64>, NoMemory>
-    ensures entries { OnOk result (AddsEntry entries.old.items entries.new.items (page_in surveyed.now).id item.now (starts_in surveyed.now surveyed.now.survey.now.repeat item.now)) }
-    ensures least { IfOk result (λ least. least ≡ least_in surveyed.now surveyed.now.survey.now.repeat item.now) }
+    ensures entries { OnOk result (AddsEntry entries.old.items entries.new.items (surveyed_page surveyed.now).id item.now
+        (surveyed_starts surveyed.now surveyed.now.survey.now.repeat item.now)) }
+    ensures least { IfOk result (λ least. least ≡ surveyed_least surveyed.now surveyed.now.survey.now.repeat item.now) }
 {
     ttx_page::laws::pages_keep_their_rules();
     let period = surveyed.survey.cycle.slots().len() as u32;
@@ -138,7 +139,7 @@ fn item_limit(
 ) -> Result<Option<u64>, NoMemory>
     requires some { 1 ≤ repeat }
     requires few { repeat ≤ 8 }
-    ensures least { IfOk result (λ least. least ≡ least_in surveyed.now repeat item.now) }
+    ensures least { IfOk result (λ least. least ≡ surveyed_least surveyed.now repeat item.now) }
     ensures small { IfOk result (λ least. (limit : ℕ) → least ≡ Some limit → limit ≤ 655360) }
 {
     let period = surveyed.survey.cycle.slots().len() as u32;
@@ -152,7 +153,7 @@ fn item_limit(
 
 // The least limit in which the headers of the page follow one another.
 fn header_limit(alloc: Global, surveyed: &SurveyedPage) -> Result<Option<u64>, NoMemory>
-    ensures least { IfOk result (λ least. least ≡ least_in surveyed.now 1 TheHead) }
+    ensures least { IfOk result (λ least. least ≡ surveyed_least surveyed.now 1 TheHead) }
     ensures small { IfOk result (λ least. (limit : ℕ) → least ≡ Some limit → limit ≤ 655360) }
 {
     let head = Item::Head;
@@ -165,7 +166,7 @@ pub(crate) fn limit_seen(
     surveyed: &SurveyedPage,
     item: &Item,
 ) -> Result<Option<u64>, NoMemory>
-    ensures least { IfOk result (λ least. least ≡ limit_in surveyed.now item.now) }
+    ensures least { IfOk result (λ least. least ≡ surveyed_limit surveyed.now item.now) }
     ensures small { IfOk result (λ least. (limit : ℕ) → least ≡ Some limit → limit ≤ 655360) }
 {
     if is_due(surveyed.survey.class, surveyed.page, item) {
@@ -183,8 +184,9 @@ fn name_seen(
     entries: &mut Vec<Entry>,
     item: &Item,
 ) -> Result<Option<u64>, NoMemory>
-    ensures entries { OnOk result (AddsEntry entries.old.items entries.new.items (page_in surveyed.now).id item.now (named_in surveyed.now item.now)) }
-    ensures least { IfOk result (λ least. least ≡ limit_in surveyed.now item.now) }
+    ensures entries { OnOk result (AddsEntry entries.old.items entries.new.items (surveyed_page surveyed.now).id item.now
+        (surveyed_named surveyed.now item.now)) }
+    ensures least { IfOk result (λ least. least ≡ surveyed_limit surveyed.now item.now) }
 {
     if !is_due(surveyed.survey.class, surveyed.page, item) {
         return header_limit(alloc, surveyed);
@@ -199,7 +201,8 @@ pub(crate) fn name_page(
     entries: &mut Vec<Entry>,
     least: Option<u64>,
 ) -> Result<Option<u64>, NoMemory>
-    ensures { IfOk result (λ new_least. AreNamedIn surveyed.now.survey.now (26 * surveyed.now.index) entries.old.items least → AreNamedIn surveyed.now.survey.now (26 * (surveyed.now.index + 1)) entries.new.items new_least) }
+    ensures { IfOk result (λ new_least. AreNamedIn surveyed.now.survey.now (26 * surveyed.now.index) entries.old.items least →
+        AreNamedIn surveyed.now.survey.now (26 * (surveyed.now.index + 1)) entries.new.items new_least) }
 {
     let mut least = least;
     for number in 0..26u8 {

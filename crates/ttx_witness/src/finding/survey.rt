@@ -56,11 +56,11 @@ pub fn surveyed_at<'a>(survey: &'a Survey<'a>, index: usize) -> SurveyedPage<'a>
 }
 
 impl<'a> SurveyedPage<'a> {
-    ghost use Rattle.ttx_witness.specs.finding.Surveys.{page_in, AreOthersIn, IsFaultIn};
+    ghost use Rattle.ttx_witness.specs.finding.Surveys.{surveyed_page, AreOthersIn, IsFaultIn};
 
     /// The first of the reasons why the page isn't sent unchanged.
     pub fn fault(&self, others: &OtherSubpages) -> Option<Reason>
-        ensures { AreOthersIn self.now.survey.now others.now → IsFaultIn self.now.survey.now (page_in self.now) result }
+        ensures { AreOthersIn self.now.survey.now others.now → IsFaultIn self.now.survey.now (surveyed_page self.now) result }
     {
         let survey = self.survey;
         let other_subpage = others.first(self.page.id());

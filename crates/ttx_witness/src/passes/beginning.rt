@@ -1,6 +1,6 @@
 //! A pass before its first slot: all growths.
 
-ghost use Rattle.std.specs.Prelude.{◌≡◌, ◌<◌, ◌≤◌, ◌≢◌, ◌-◌, if◌then◌else◌, ℕ, List, IfOk, None, Some, [], length, map, slice_get, replicate};
+ghost use Rattle.std.specs.Prelude.{◌≡◌, ◌<◌, ◌≢◌, ◌-◌, IfOk, None, [], map, replicate};
 ghost use Rattle.std.specs.List.{AllPairs};
 ghost use Rattle.ttx_page.specs.Views.{page_of};
 ghost use Rattle.ttx_certificate.specs.Certificates.{certificate_of};

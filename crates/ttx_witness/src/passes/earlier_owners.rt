@@ -1,6 +1,6 @@
 //! Owners, some slots earlier.
 
-ghost use Rattle.std.specs.Prelude.{◌≡◌, ◌<◌, ℕ, None, get_or};
+ghost use Rattle.std.specs.Prelude.{◌<◌, ℕ, None, get_or};
 ghost use Rattle.ttx_witness.specs.sent.Collected.{IsForeign};
 ghost use Rattle.ttx_witness.specs.passes.EarlierOwners.{IsMoved};
 

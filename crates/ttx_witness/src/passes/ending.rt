@@ -48,7 +48,8 @@ fn facts_at(all: &[Facts], index: usize) -> Option<Facts>
 
 // The starts that are named for the item, where a viewer needs it, and else none.
 fn needed_starts<'a>(page: &Page, certificate: &'a Certificate, item: &Item) -> &'a [u32]
-    ensures { result.now ≡ (if definitions.needed (page_of page.now) item.now then (certificate_of certificate.now).starts (page_of page.now).id item.now else []) }
+    ensures { result.now ≡ (if definitions.needed (page_of page.now) item.now
+        then (certificate_of certificate.now).starts (page_of page.now).id item.now else []) }
 {
     if needed(page, *item) {
         certificate.starts(page.id(), *item)
@@ -59,7 +60,14 @@ fn needed_starts<'a>(page: &Page, certificate: &'a Certificate, item: &Item) -> 
 
 // The first slots of the single reasons.
 fn first_slots(facts: Facts, other_subpage: Option<u32>) -> FirstSlots
-    ensures { result ≡ record { has_header = is_some facts.heads; other_subpage = other_subpage; erased = facts.erased; head = facts.head; row = facts.row; links = facts.links } }
+    ensures { result ≡ record {
+      has_header = is_some facts.heads;
+      other_subpage = other_subpage;
+      erased = facts.erased;
+      head = facts.head;
+      row = facts.row;
+      links = facts.links;
+    } }
 {
     FirstSlots {
         has_header: facts.heads.is_some(),
@@ -86,7 +94,8 @@ impl<'a> EndedPass<'a> {
     /// The first of the reasons why the page at the index isn't sent unchanged.
     pub fn page_fault(&self, index: usize) -> Option<Reason>
         requires { index < length self.now.pages.now }
-        ensures { (y : List (List ℕ)) (p : definitions.Page) → IsEnded self.now y → slice_get (ended_pages self.now) index ≡ Some p → IsPageFault y (ended_pages self.now) p result }
+        ensures { (y : List (List ℕ)) (p : definitions.Page) → IsEnded self.now y → slice_get (ended_pages self.now) index ≡ Some p →
+            IsPageFault y (ended_pages self.now) p result }
     {
         ttx_page::laws::pages_keep_their_rules();
         let Some(facts) = facts_at(self.facts.as_slice(), index) else {
@@ -99,7 +108,8 @@ impl<'a> EndedPass<'a> {
 
     /// The first header of the page at the index that the next one follows too late.
     pub fn late_header(&self, index: usize) -> Option<u32>
-        ensures { (y : List (List ℕ)) (p : definitions.Page) → IsEnded self.now y → slice_get (ended_pages self.now) index ≡ Some p → HasHeader (repeated y) p.id →
+        ensures { (y : List (List ℕ)) (p : definitions.Page) → IsEnded self.now y → slice_get (ended_pages self.now) index ≡ Some p →
+            HasHeader (repeated y) p.id →
             IsHeaderAnswer y p (ended_certificate self.now) result }
     {
         crate::laws::judging_laws::headers_are_judged();
@@ -114,7 +124,8 @@ impl<'a> EndedPass<'a> {
     pub fn progress(&self, index: usize, number: u8) -> Option<Progress>
         requires index { index < length self.now.pages.now }
         requires number { number < 26 }
-        ensures { (y : List (List ℕ)) (p : definitions.Page) (item : Item) → IsEnded self.now y → slice_get (ended_pages self.now) index ≡ Some p → IsItem item → item_number item ≡ number →
+        ensures { (y : List (List ℕ)) (p : definitions.Page) (item : Item) → IsEnded self.now y →
+            slice_get (ended_pages self.now) index ≡ Some p → IsItem item → item_number item ≡ number →
             IsProgress y p (ended_certificate self.now) item result }
     {
         ttx_certificate::certificate_laws::certificates_keep_their_rules();

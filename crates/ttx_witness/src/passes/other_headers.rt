@@ -22,7 +22,8 @@ pub fn note_stray(strays: &mut Strays, slot: &[u8; 42], j: u32)
     requires slot { IsSlot slot.now }
     ensures subcodes { strays.new.subcodes ≡ strays.old.subcodes }
     ensures noted { (mag number : ℕ) → 1 ≤ mag → mag ≤ 8 → number < 256 →
-        get_or strays.new.first.items (place mag number) None ≡ first_of (get_or strays.old.first.items (place mag number) None) (is_stray strays.old.subcodes.items mag number (packet_of slot.now)) j }
+        get_or strays.new.first.items (place mag number) None
+        ≡ first_of (get_or strays.old.first.items (place mag number) None) (is_stray strays.old.subcodes.items mag number (packet_of slot.now)) j }
 {
     note_slot(&mut strays.first, &strays.subcodes, slot, j);
 }

@@ -8,7 +8,7 @@ ghost use Rattle.ttx_witness.specs.sent.Collected.{item_number};
 ghost use Rattle.ttx_witness.specs.faults.Comparing.{IsWrong};
 ghost use Rattle.ttx_witness.specs.declared.passes.page_facts.Facts.{Facts as FactsValue};
 ghost use Rattle.ttx_witness.specs.sent.OneSlot.{is_sent};
-ghost use Rattle.ttx_witness.specs.passes.ItemProgress.{Holds};
+ghost use Rattle.ttx_witness.specs.passes.ItemProgress.{HoldsAt};
 ghost use Rattle.ttx_witness.specs.passes.PageFacts.{IsNoted, RowWrong, Noted, next_head, heads_after, late_of};
 
 use crate::faults::comparing::{Check, is_wrong};
@@ -117,7 +117,9 @@ pub fn note_sent(
     limit: u32,
 )
     ensures count { length all.new.items ≡ length all.old.items }
-    ensures noted { (i : ℕ) (p : definitions.Page) (x : FactsValue) → slice_get (map page_of pages.now) i ≡ Some p → slice_get all.old.items i ≡ Some x → Holds FactsValue all.new.items i (Noted limit p (λ item. is_sent i item sent) slot.now.bytes.now slot.now.at x) }
+    ensures noted { (i : ℕ) (p : definitions.Page) (x : FactsValue) → slice_get (map page_of pages.now) i ≡ Some p →
+        slice_get all.old.items i ≡ Some x →
+        HoldsAt FactsValue all.new.items i (Noted limit p (λ item. is_sent i item sent) slot.now.bytes.now slot.now.at x) }
 {
     let Some(s) = sent else {
         return;

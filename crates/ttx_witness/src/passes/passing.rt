@@ -59,7 +59,8 @@ pub struct SecondPass<'a> {
 fn take_slot(pass: &mut Pass, slot: &[u8; 42])
     requires slot { IsSlot slot.now }
     requires few { pass.old.count < 65536 }
-    ensures taken { (entry : Id → Option PageOwner) (y : List (List ℕ)) → AreReady pass.old → pass.old.count ≡ length y → AreSeen pass.old entry y pass.old.owners → AreKept pass.old entry y →
+    ensures taken { (entry : Id → Option PageOwner) (y : List (List ℕ)) → AreReady pass.old → pass.old.count ≡ length y →
+        AreSeen pass.old entry y pass.old.owners → AreKept pass.old entry y →
         AreSeen pass.new entry (y ++ slot.now ∷ []) pass.new.owners × AreKept pass.new entry (y ++ slot.now ∷ []) }
     ensures ready { AreReady pass.old → AreReady pass.new }
     ensures count { pass.new.count ≡ pass.old.count + 1 }
@@ -90,7 +91,8 @@ impl<'a> Pass<'a> {
     /// The next slot of the first list. After `TooLong` the pass is as it was.
     pub fn first(&mut self, slot: &[u8; 42]) -> Result<(), WalkFault>
         requires { IsSlot slot.now }
-        ensures stands { (x : List (List ℕ)) → IsFirstPass self.old x → MatchResult result (λ u. IsFirstPass self.new (x ++ slot.now ∷ [])) (λ f. (self.new ≡ self.old) × (length x ≡ 65536)) }
+        ensures stands { (x : List (List ℕ)) → IsFirstPass self.old x →
+            MatchResult result (λ u. IsFirstPass self.new (x ++ slot.now ∷ [])) (λ f. (self.new ≡ self.old) × (length x ≡ 65536)) }
         ensures pages { pages_of self.new ≡ pages_of self.old }
         ensures certificate { certificate self.new ≡ certificate self.old }
     {

@@ -15,7 +15,8 @@ use crate::sent::one_slot::Sent;
 
 // Takes the next transmission.
 fn take(track: &mut Track, t: Transmission, starts: &[u32], limit: u32)
-    ensures { (k : ℕ) (ts : List Transmission) → k < 8 → IsTrack k limit starts.now ts track.old → IsTrack k limit starts.now (ts ++ t ∷ []) track.new }
+    ensures { (k : ℕ) (ts : List Transmission) → k < 8 → IsTrack k limit starts.now ts track.old →
+        IsTrack k limit starts.now (ts ++ t ∷ []) track.new }
 {
     if track.recent.repeat <= 8 {
         named_starts::note(track, t, starts, limit);
@@ -24,7 +25,8 @@ fn take(track: &mut Track, t: Transmission, starts: &[u32], limit: u32)
 
 // Takes the transmission in a slot.
 fn take_sent(track: &mut Track, sent: Option<Sent>, starts: &[u32], limit: u32)
-    ensures { (k : ℕ) (ts : List Transmission) → k < 8 → IsTrack k limit starts.now ts track.old → IsTrack k limit starts.now (ts ++ told sent) track.new }
+    ensures { (k : ℕ) (ts : List Transmission) → k < 8 → IsTrack k limit starts.now ts track.old →
+        IsTrack k limit starts.now (ts ++ told sent) track.new }
 {
     if let Some(sent) = sent {
         take(track, sent.transmission, starts, limit);
@@ -33,7 +35,8 @@ fn take_sent(track: &mut Track, sent: Option<Sent>, starts: &[u32], limit: u32)
 
 /// Takes the transmissions of the item in the place, in their order.
 pub fn take_all(track: &mut Track, sent: &SentSlots, place: usize, starts: &[u32], limit: u32)
-    ensures { (k : ℕ) → k < 8 → IsLinked sent.now.slots.items sent.now.firsts.items sent.now.nexts.items 0 → place < length sent.now.firsts.items → IsTrack k limit starts.now [] track.old →
+    ensures { (k : ℕ) → k < 8 → IsLinked sent.now.slots.items sent.now.firsts.items sent.now.nexts.items 0 →
+        place < length sent.now.firsts.items → IsTrack k limit starts.now [] track.old →
         IsTrack k limit starts.now (placed place sent.now.slots.items) track.new }
 {
     let mut at = sent.first(place);

@@ -40,7 +40,8 @@ pub fn are_steady(
     exit: &[Option<Owner>; 8],
     by: u32,
 ) -> bool
-    ensures { IsTrue result ↔ ((i : ℕ) (id : Id) → slice_get (ids_of pages.now) i ≡ Some id → owner_moved (pos 0 -ℤ pos by) (owner_for exit.now i id) ≡ owner_for entry.now i id) }
+    ensures { IsTrue result ↔ ((i : ℕ) (id : Id) → slice_get (ids_of pages.now) i ≡ Some id →
+        owner_moved (pos 0 -ℤ pos by) (owner_for exit.now i id) ≡ owner_for entry.now i id) }
 {
     for i in 0..pages.len() {
         let mag = usize::from(pages[i].id().mag()) - 1;

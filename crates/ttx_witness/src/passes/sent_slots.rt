@@ -1,6 +1,6 @@
 //! What the slots of a period send of the items of pages, and the slots of each item from the first to the last.
 
-ghost use Rattle.std.specs.Prelude.{◌≡◌, ◌≤◌, ◌<◌, true, false, ℕ, None, List, length, get_or, replicate, IfOk, MatchOption};
+ghost use Rattle.std.specs.Prelude.{◌≡◌, ◌≤◌, ◌<◌, ℕ, None, length, get_or, replicate, IfOk};
 ghost use Rattle.std.specs.Vec.{vec_capacity};
 
 use crate::sent::one_slot::{Sent, place_in};
@@ -79,7 +79,8 @@ impl SentSlots {
         requires { at < length self.old.slots.items }
         ensures slots { self.new.slots ≡ self.old.slots }
         ensures places { length self.new.firsts.items ≡ length self.old.firsts.items }
-        ensures linked { IsLinked self.old.slots.items self.old.firsts.items self.old.nexts.items (at + 1) → IsLinked self.new.slots.items self.new.firsts.items self.new.nexts.items at }
+        ensures linked { IsLinked self.old.slots.items self.old.firsts.items self.old.nexts.items (at + 1) →
+            IsLinked self.new.slots.items self.new.firsts.items self.new.nexts.items at }
     {
         let Some(sent) = self.slots[at] else {
             return;
@@ -95,7 +96,8 @@ impl SentSlots {
     pub fn link(&mut self)
         ensures slots { self.new.slots ≡ self.old.slots }
         ensures places { length self.new.firsts.items ≡ length self.old.firsts.items }
-        ensures linked { ((place : ℕ) → get_or self.old.firsts.items place None ≡ None) → IsLinked self.new.slots.items self.new.firsts.items self.new.nexts.items 0 }
+        ensures linked { ((place : ℕ) → get_or self.old.firsts.items place None ≡ None) →
+            IsLinked self.new.slots.items self.new.firsts.items self.new.nexts.items 0 }
     {
         let count = self.slots.len();
         for i in 0..count {

@@ -44,7 +44,8 @@ pub fn finish(track: &mut Track, period: u32, starts: &[u32], limit: u32)
     requires firsts { length track.old.recent.firsts.items ≤ 7 }
     requires small { AllByRecursion (IsWithin 65536) track.old.recent.firsts.items }
     requires short { period ≤ 65536 }
-    ensures { (k : ℕ) (ts : List Transmission) → IsTrack k limit starts.now ts track.old → track.new.progress ≡ after_runs limit starts.now not_begun (runs period k ts) }
+    ensures { (k : ℕ) (ts : List Transmission) → IsTrack k limit starts.now ts track.old →
+        track.new.progress ≡ after_runs limit starts.now not_begun (runs period k ts) }
 {
     if track.recent.firsts.is_empty() {
         return;

@@ -5,7 +5,7 @@ ghost use Rattle.std.specs.List.{AllByRecursion};
 ghost use Rattle.ttx_witness.specs.runs.Transmissions.{runs};
 ghost use Rattle.ttx_witness.specs.runs.Confirming.{after_runs, not_begun};
 ghost use Rattle.ttx_witness.specs.runs.SureStarts.{IsFound};
-ghost use Rattle.ttx_witness.specs.runs.Tracks.{IsRecent, IsSearch, IsTrack, IsWithin};
+ghost use Rattle.ttx_witness.specs.runs.Tracks.{IsRecent, IsTrack, IsWithin};
 
 use crate::runs::confirming::Progress;
 use crate::runs::named_starts::{self, Track};

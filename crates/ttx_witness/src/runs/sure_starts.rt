@@ -3,7 +3,7 @@
 ghost use Rattle.std.specs.Prelude.{◌≡◌, ◌≤◌, ℕ, List, [], ◌∷◌, ◌++◌, length, IfOk, OnOk, ◌-ℤ◌, Some, None};
 ghost use Rattle.std.specs.List.{AllByRecursion};
 ghost use Rattle.ttx_witness.specs.runs.Transmissions.{Transmission, runs};
-ghost use Rattle.ttx_witness.specs.runs.SureStarts.{above_zero, widened, spread_after, sure_starts, spread_of, IsFound};
+ghost use Rattle.ttx_witness.specs.runs.SureStarts.{above_zero, widened, sure_starts, spread_of, IsFound};
 ghost use Rattle.ttx_witness.specs.runs.Tracks.{listed, IsSearch, IsWithin};
 
 use crate::runs::transmissions::{Run, Transmission};
@@ -104,7 +104,8 @@ pub fn finish(search: &mut Search, period: u32) -> Result<(), NoMemory>
     requires firsts { length search.old.recent.firsts.items ≤ 7 }
     requires small { AllByRecursion (IsWithin 65536) search.old.recent.firsts.items }
     requires short { period ≤ 65536 }
-    ensures { OnOk result ((k : ℕ) (ts : List Transmission) → IsSearch k ts search.old → IsFound (runs period k ts) search.new.starts.items search.new.spread) }
+    ensures { OnOk result ((k : ℕ) (ts : List Transmission) → IsSearch k ts search.old →
+        IsFound (runs period k ts) search.new.starts.items search.new.spread) }
 {
     if search.recent.firsts.is_empty() {
         return Ok(());

@@ -1,8 +1,9 @@
 //! The transmissions of one item that are held while a period is read.
 
-ghost use Rattle.std.specs.Prelude.{◌≡◌, ◌≤◌, ◌<◌, ◌+◌, ◌*◌, ◌+ℤ◌, ℕ, List, [], ◌∷◌, ◌++◌, length, nat_lt, if◌then◌else◌, ◌==◌, pos, Option, Some, None, ◌↔◌};
+ghost use Rattle.std.specs.Prelude.{◌≡◌, ◌≤◌, ◌<◌, ◌+◌, ◌*◌, ℕ, List, [], ◌∷◌, ◌++◌, length, nat_lt, if◌then◌else◌};
+ghost use Rattle.std.specs.Prelude.{◌==◌, Option, Some, None};
 ghost use Rattle.std.specs.List.{AllByRecursion};
-ghost use Rattle.ttx_witness.specs.runs.Transmissions.{later, run_of, runs};
+ghost use Rattle.ttx_witness.specs.runs.Transmissions.{later, run_of};
 ghost use Rattle.ttx_witness.specs.runs.Tracks.{ended, keep_last, listed, IsRecent, IsRound, IsWithin, IsTurn};
 
 use crate::runs::transmissions::{Run, Transmission, run_in};
@@ -96,8 +97,10 @@ pub fn push_further(recent: &mut Recent, period: u32) -> Option<Run>
     requires short { period ≤ 65536 }
     ensures repeat { recent.new.repeat ≡ recent.old.repeat }
     ensures count { length recent.new.firsts.items ≡ length recent.old.firsts.items }
-    ensures within { (bound : ℕ) → AllByRecursion (IsWithin bound) recent.old.firsts.items → AllByRecursion (IsWithin (bound + 65536)) recent.new.firsts.items }
-    ensures round { (k i : ℕ) (ts : List Transmission) (rs : List Run) → i < k → IsRound k period i ts rs recent.old → IsRound k period (i + 1) ts (rs ++ listed result) recent.new }
+    ensures within { (bound : ℕ) → AllByRecursion (IsWithin bound) recent.old.firsts.items →
+        AllByRecursion (IsWithin (bound + 65536)) recent.new.firsts.items }
+    ensures round { (k i : ℕ) (ts : List Transmission) (rs : List Run) → i < k → IsRound k period i ts rs recent.old →
+        IsRound k period (i + 1) ts (rs ++ listed result) recent.new }
 {
     let t = turn(&mut recent.firsts, period);
     take_next(&mut recent.window, recent.repeat, t)

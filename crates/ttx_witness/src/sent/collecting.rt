@@ -59,7 +59,8 @@ fn fill_lists(
     lines: u8,
 ) -> Result<(), NoMemory>
     requires empty { (n : ℕ) → held lists.old.items n ≡ [] }
-    ensures { OnOk result ((ids : List Id) → IsIndex ids index.now → length lists.old.items ≡ 26 * length ids → AreCollected ids (slots_of before.now) (slots_of cycle.now) lines (length (slots_of cycle.now)) lists.new.items) }
+    ensures { OnOk result ((ids : List Id) → IsIndex ids index.now → length lists.old.items ≡ 26 * length ids →
+        AreCollected ids (slots_of before.now) (slots_of cycle.now) lines (length (slots_of cycle.now)) lists.new.items) }
 {
     let slots = cycle.slots();
     let mut owners = entry_owners(index, before);
@@ -115,8 +116,10 @@ impl Collected {
 
     /// The transmissions of an item of the page at the index, slot by slot.
     pub fn sent(&self, index: usize, item: Item) -> &[Transmission]
-        ensures listed { (cycle : List (List ℕ)) (pages : List PageFields) (lines : ℕ) (p : PageFields) → AreAllSent cycle pages lines self.now → slice_get pages index ≡ Some p → result.now ≡ sent_in cycle p.id lines item }
-        ensures after { (before cycle : List (List ℕ)) (pages : List PageFields) (lines : ℕ) (p : PageFields) → AreSentAfter before cycle pages lines self.now → slice_get pages index ≡ Some p → result.now ≡ sent_after before cycle p.id lines item }
+        ensures listed { (cycle : List (List ℕ)) (pages : List PageFields) (lines : ℕ) (p : PageFields) →
+            AreAllSent cycle pages lines self.now → slice_get pages index ≡ Some p → result.now ≡ sent_in cycle p.id lines item }
+        ensures after { (before cycle : List (List ℕ)) (pages : List PageFields) (lines : ℕ) (p : PageFields) →
+            AreSentAfter before cycle pages lines self.now → slice_get pages index ≡ Some p → result.now ≡ sent_after before cycle p.id lines item }
         ensures within { AllByRecursion (IsWithin 65536) result.now }
         ensures in_order { AreInOrder result.now }
     {

@@ -1,7 +1,8 @@
 //! What a slot sends of the items of pages.
 
-ghost use Rattle.std.specs.Prelude.{◌≡◌, ◌<◌, ℕ, List, IfSome, MatchOption, slice_get, Some, false, if◌then◌else◌, ◌==◌, ◌&&◌, ◌∷◌, [], ◌+ℤ◌, pos, not, int_lt, true};
-ghost use Rattle.ttx_header.specs.Ids.{Id, IsId};
+ghost use Rattle.std.specs.Prelude.{◌≡◌, ◌<◌, ℕ, List, IfSome, MatchOption, slice_get, Some, false, if◌then◌else◌, ◌==◌, ◌&&◌};
+ghost use Rattle.std.specs.Prelude.{◌∷◌, [], ◌+ℤ◌, pos, not, int_lt, true};
+ghost use Rattle.ttx_header.specs.Ids.{Id};
 ghost use Rattle.ttx_packet.specs.Slots.{IsSlot};
 ghost use Rattle.ttx_page.specs.Packets.{packet_of};
 ghost use Rattle.ttx_page.specs.declared.item.Item.{Item};
@@ -52,7 +53,8 @@ fn sent_under(owner: Option<Owner>, number: u8, j: i32, lines: u8) -> Option<Sen
 // What a header in slot j sends, where it is a page's.
 fn sent_head(page: Option<u32>, j: i32) -> Option<Sent>
     ensures number { IfSome result (λ s. s.number < 26) }
-    ensures sent { (i : ℕ) (item : Item) → sent_of i item result ≡ (if (item_number item == 0) && is_page i page then record { slot = j; owner = j; sure = true } ∷ [] else []) }
+    ensures sent { (i : ℕ) (item : Item) →
+        sent_of i item result ≡ (if (item_number item == 0) && is_page i page then record { slot = j; owner = j; sure = true } ∷ [] else []) }
 {
     let page = page?;
     Some(Sent {
@@ -76,7 +78,8 @@ pub fn sent_in_slot(
 ) -> Option<Sent>
     requires { IsSlot slot.now }
     ensures number { IfSome result (λ s. s.number < 26) }
-    ensures sent { (ids : List Id) → IsIndex ids index.now → AreApart ids owners.now → (i : ℕ) (id : Id) (item : Item) → slice_get ids i ≡ Some id → IsItem item → sent_of i item result ≡ sent_at id lines item j (packet_of slot.now) (owner_for owners.now i id) }
+    ensures sent { (ids : List Id) → IsIndex ids index.now → AreApart ids owners.now → (i : ℕ) (id : Id) (item : Item) →
+        slice_get ids i ≡ Some id → IsItem item → sent_of i item result ≡ sent_at id lines item j (packet_of slot.now) (owner_for owners.now i id) }
 {
     ttx_packet::laws::rows_are_numbered();
     ttx_header::laws::headers_have_fields();
@@ -94,7 +97,8 @@ pub fn sent_in_slot(
 
 /// The place of the item that is sent, where there are so many places.
 pub fn place_in(sent: Sent, places: usize) -> Option<usize>
-    ensures { MatchOption result ((place : ℕ) → place < places → sends_place place (Some sent) ≡ false) (λ place. (place < places) × (sends_place place (Some sent) ≡ true)) }
+    ensures { MatchOption result ((place : ℕ) → place < places → sends_place place (Some sent) ≡ false)
+        (λ place. (place < places) × (sends_place place (Some sent) ≡ true)) }
 {
     let place = 26 * sent.page as usize + usize::from(sent.number);
     if sent.number < 26 && place < places {

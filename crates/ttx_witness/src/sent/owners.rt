@@ -63,7 +63,8 @@ pub fn note_header(owners: &mut [Option<Owner>; 8], mag: usize, header: Owner, e
 /// Notes what a slot says of the owners, where it is a page header.
 pub fn note_owner(owners: &mut [Option<Owner>; 8], index: &PageIndex, slot: &[u8; 42], j: i32)
     requires { IsSlot slot.now }
-    ensures after { (ids : List Id) → IsIndex ids index.now → (i : ℕ) (id : Id) → slice_get ids i ≡ Some id → IsId id → owner_for owners.new i id ≡ owner_after id j (packet_of slot.now) (owner_for owners.old i id) }
+    ensures after { (ids : List Id) → IsIndex ids index.now → (i : ℕ) (id : Id) → slice_get ids i ≡ Some id → IsId id →
+        owner_for owners.new i id ≡ owner_after id j (packet_of slot.now) (owner_for owners.old i id) }
     ensures apart { (ids : List Id) → IsIndex ids index.now → AreApart ids owners.old → AreApart ids owners.new }
 {
     ttx_header::laws::headers_have_fields();

@@ -5,7 +5,8 @@ ghost use Rattle.ttx_packet.specs.Slots.{IsSlot};
 ghost use Rattle.ttx_page.specs.Packets.{packet_of};
 ghost use Rattle.ttx_page.specs.Streams.{heads_page, carries};
 ghost use Rattle.ttx_page.specs.declared.item.Item.TheVariants.{Row as TheRow, Links as TheLinks};
-ghost use Rattle.ttx_witness.specs.faults.Comparing.{HoldsHeader, HoldsNoHeader, HoldsRow, HoldsNoRow, HoldsLinks, HoldsNoLinks, mine_after, sends, is_other_subpage};
+ghost use Rattle.ttx_witness.specs.faults.Comparing.{HoldsHeader, HoldsNoHeader, HoldsRow, HoldsNoRow, HoldsLinks, mine_after};
+ghost use Rattle.ttx_witness.specs.faults.Comparing.{HoldsNoLinks, sends, is_other_subpage};
 
 use ttx_header::{Header, PageId, read_header};
 use ttx_packet::place::Address;

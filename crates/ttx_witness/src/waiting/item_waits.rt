@@ -6,7 +6,7 @@ ghost use Rattle.ttx_page.specs.Pages as definitions;
 ghost use Rattle.ttx_page.specs.Views.{page_of};
 ghost use Rattle.ttx_cycle.specs.Cycles.{slots_of};
 ghost use Rattle.ttx_witness.specs.sent.Collected.{ids_of};
-ghost use Rattle.ttx_witness.specs.finding.Surveys.{page_in};
+ghost use Rattle.ttx_witness.specs.finding.Surveys.{surveyed_page};
 ghost use Rattle.ttx_witness.specs.waiting.ItemWaits.{AreItemWaits};
 ghost use Rattle.ttx_witness.specs.waiting.SurveyedWaits.{IsItemWaitIn, AreItemsToldIn, AreItemWaitsIn};
 
@@ -23,7 +23,7 @@ use ttx_page::{Class, Item, Page, needed};
 
 // How long a viewer of the item of the page waits.
 fn item_wait(alloc: Global, surveyed: &SurveyedPage, item: &Item) -> Result<OwnWait, NoMemory>
-    requires seen { definitions.needed (page_in surveyed.now) item.now ≡ true }
+    requires seen { definitions.needed (surveyed_page surveyed.now) item.now ≡ true }
     ensures { IfOk result (λ wait. IsItemWaitIn surveyed.now item.now wait) }
 {
     ttx_page::laws::pages_keep_their_rules();

@@ -59,7 +59,8 @@ fn cut_ones(sent: &[Transmission], lines: u8) -> usize
 
 /// What becomes of the transmissions of the item.
 pub(crate) fn losses_of(sent: &[Transmission], lines: u8) -> Losses
-    ensures { (cycle : List (List ℕ)) (p : definitions.Page) (item : Item) → sent.now ≡ sent_in cycle p.id lines item → AreLosses cycle p.id lines item result }
+    ensures { (cycle : List (List ℕ)) (p : definitions.Page) (item : Item) → sent.now ≡ sent_in cycle p.id lines item →
+        AreLosses cycle p.id lines item result }
 {
     Losses {
         sent: sent.len(),

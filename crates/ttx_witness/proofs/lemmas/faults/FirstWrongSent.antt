@@ -10,10 +10,10 @@ use Rattle.ttx_page.specs.Steady.{HasHeader}
 use Rattle.ttx_header.specs.Ids.{Id}
 use Rattle.ttx_page.specs.Streams.{Stream, repeated, IsOwned, IsSure, IsTransmission}
 use Rattle.ttx_witness.specs.runs.Transmissions.{Transmission}
-use Rattle.ttx_witness.specs.runs.Repeating.{AreSent, IsSent}
+use Rattle.ttx_witness.specs.runs.Repeating.{AreSent, IsSentAt}
 use Rattle.ttx_witness.specs.sent.ItemTransmissions.{sent_in}
 use Rattle.ttx_witness.specs.declared.faults.comparing.Check.{Check}
-use Rattle.ttx_witness.specs.faults.Comparing.{item_of, IsWrong, IsWrongIn, WrongAt}
+use Rattle.ttx_witness.specs.faults.Comparing.{compared_item, IsWrong, IsWrongIn, WrongAt}
 use Rattle.ttx_witness.specs.faults.Faults.{Never, IsFirstAt}
 use Rattle.ttx_witness.proofs.lemmas.Choices.{cases_ltz, cases_bool, no_both, not_true, not_false}
 use Rattle.ttx_witness.proofs.lemmas.sent.CycleTransmissions.{sent_told}
@@ -35,7 +35,7 @@ module _ (cycle : List (List ℕ)) (some : 1 ≤ length cycle) (p : Page) (check
   n = length cycle
 
   abbrev item : Item
-  item = item_of check
+  item = compared_item check
 
   abbrev In : ℤ → Type 0
   In x = IsWrongIn cycle p check x
@@ -51,7 +51,7 @@ module _ (cycle : List (List ℕ)) (some : 1 ≤ length cycle) (p : Page) (check
     owned : IsOwned s p.id item t.owner t.slot
     from : low ≤ℤ t.slot
     to : t.slot <ℤ pos n
-    none : (x : ℤ) → low ≤ℤ x → x <ℤ t.slot → IsSent (IsOwned s p.id item) x → In x → ⊥
+    none : (x : ℤ) → low ≤ℤ x → x <ℤ t.slot → IsSentAt (IsOwned s p.id item) x → In x → ⊥
 
   found : (low : ℤ) (done : List Transmission) (t : Transmission) (rest : List Transmission) → Listed low (done ++ t ∷ rest) → AllByRecursion (λ d. In d.slot → ⊥) done → Found low t
   found low [] t rest l a = record { owned = l.0.owned; from = l.1; to = l.2; none = λ x lo hi sent w. l.3 x lo hi sent }
@@ -70,7 +70,7 @@ module _ (cycle : List (List ℕ)) (some : 1 ≤ length cycle) (p : Page) (check
         ];
       }
 
-  none_listed : (low : ℤ) (ts : List Transmission) → Listed low ts → AllByRecursion (λ t. In t.slot → ⊥) ts → (x : ℤ) → low ≤ℤ x → x <ℤ pos n → IsSent (IsOwned s p.id item) x → In x → ⊥
+  none_listed : (low : ℤ) (ts : List Transmission) → Listed low ts → AllByRecursion (λ t. In t.slot → ⊥) ts → (x : ℤ) → low ≤ℤ x → x <ℤ pos n → IsSentAt (IsOwned s p.id item) x → In x → ⊥
   none_listed low [] l a x lo hi sent w = l x lo hi sent
   none_listed low (t ∷ ts) l a x lo hi sent w = elim (cases_ltz x t.slot) as (λ _. ⊥) [
     | inl lt ↦ l.3 x lo lt sent
@@ -80,7 +80,7 @@ module _ (cycle : List (List ℕ)) (some : 1 ≤ length cycle) (p : Page) (check
     ]
   ]
 
-  sent_is : (x : ℤ) → IsTransmission s p.id item x → IsSent (IsOwned s p.id item) x
+  sent_is : (x : ℤ) → IsTransmission s p.id item x → IsSentAt (IsOwned s p.id item) x
   sent_is x t = record { owner = t.owner; owned = t.owned }
 
   module _ (ts : List Transmission) (is : ts ≡ sent_in cycle p.id lines item) where

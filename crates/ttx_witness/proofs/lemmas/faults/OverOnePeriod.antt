@@ -10,8 +10,8 @@ use Rattle.ttx_page.specs.declared.selection.Selection.TheVariants.{AnySub}
 use Rattle.ttx_page.specs.declared.item.Item.TheVariants.{Head as TheHead, Row as TheRow, Links as TheLinks}
 use Rattle.ttx_page.specs.Streams.{Stream, repeated, heads, heads_page, heads_matched, ends_serial, IsOwned, IsTransmission, IsLatestHeader}
 use Rattle.ttx_page.specs.Steady.{HasHeader}
-use Rattle.ttx_witness.specs.sent.ItemTransmissions.{PageOwner, owner_after, owner_scan, owner_moved, tainted_by, entry_of}
-use Rattle.ttx_witness.specs.faults.Comparing.{is_mine, mine_after, sends, item_of, IsWrong, WrongAt, OtherHeaderAt, is_other_subpage}
+use Rattle.ttx_witness.specs.sent.ItemTransmissions.{PageOwner, owner_after, owner_scan, owner_moved, tainted_by, entry_owner}
+use Rattle.ttx_witness.specs.faults.Comparing.{is_mine, mine_after, sends, compared_item, IsWrong, WrongAt, OtherHeaderAt, is_other_subpage}
 use Rattle.ttx_witness.specs.declared.faults.comparing.Check.{Check}
 use Rattle.ttx_witness.specs.faults.Faults.{Never}
 use Rattle.ttx_witness.proofs.lemmas.Choices.{if_ind, and_left, and_right, and_both, no_both, not_true, not_false}
@@ -42,7 +42,7 @@ pub mine_scan : (page : Id) (s : Stream) (entry : Option PageOwner) (j : ℕ) �
 unfolding owner_scan
 mine_scan page s entry j = let e : suc j ≡ j + 1 = omega arith in mine_step page (pos j) (packet_of (s (pos j))) (owner_scan page s entry j) ∙ ap (λ n. is_mine (owner_scan page s entry n)) e
 
-pub mine_entry : (cycle : List (List ℕ)) (page : Id) → is_mine (owner_scan page (repeated cycle) None (length cycle)) ≡ is_mine (entry_of cycle page)
+pub mine_entry : (cycle : List (List ℕ)) (page : Id) → is_mine (owner_scan page (repeated cycle) None (length cycle)) ≡ is_mine (entry_owner cycle page)
 mine_entry cycle page = sym (mine_moved _ (owner_scan page (repeated cycle) None (length cycle)))
 
 -- whether a slot sends the item, by its owner
@@ -97,8 +97,8 @@ module _ (cycle : List (List ℕ)) (some : 1 ≤ length cycle) where
 
   pub never_wrong : (p : Page) (check : Check) → ((i : ℕ) → i < n → WrongAt s p check (pos i) → ⊥) → Never (WrongAt s p check)
   never_wrong p check = nowhere (WrongAt s p check)
-      (λ i w. record { sent = sent_down p.id (item_of check) i w.sent; wrong = subst (IsWrong p check) (period i) w.wrong })
-      (λ i w. record { sent = sent_up p.id (item_of check) i w.sent; wrong = subst (IsWrong p check) (back i) w.wrong })
+      (λ i w. record { sent = sent_down p.id (compared_item check) i w.sent; wrong = subst (IsWrong p check) (period i) w.wrong })
+      (λ i w. record { sent = sent_up p.id (compared_item check) i w.sent; wrong = subst (IsWrong p check) (back i) w.wrong })
 
   pub never_other : (page : Id) → ((i : ℕ) → i < n → OtherHeaderAt s page (pos i) → ⊥) → Never (OtherHeaderAt s page)
   never_other page = nowhere (OtherHeaderAt s page)
@@ -110,8 +110,8 @@ module _ (cycle : List (List ℕ)) (some : 1 ≤ length cycle) where
       (λ i. subst (λ x. heads_page page (packet_of x) ≡ true) (period i)) (λ i. subst (λ x. heads_page page (packet_of x) ≡ true) (back i)) none h.slot h.is_header
 
   -- the owner at each slot of the period
-  pub owner_at : (page : Id) (j : ℕ) → O.IsOwnerAt page s (owner_scan page s (entry_of cycle page) j) (pos j)
-  owner_at page j = O.scan_right page s (entry_of cycle page) (O.first_entry page s n some period) j
+  pub owner_at : (page : Id) (j : ℕ) → O.IsOwnerAt page s (owner_scan page s (entry_owner cycle page) j) (pos j)
+  owner_at page j = O.scan_right page s (entry_owner cycle page) (O.first_entry page s n some period) j
 
 pub other_is : (s : Stream) (page : Id) (j : ℤ) → (is_other_subpage page (packet_of (s j)) ≡ true) ↔ OtherHeaderAt s page j
 other_is s page j = (
@@ -125,14 +125,14 @@ one_more P j none not i lt q = elim (cases_lt i j) as (λ _. ⊥) [ inl less ↦
 
 -- a slot of the period that sends what differs
 pub wrong_is : (cycle : List (List ℕ)) → 1 ≤ length cycle → (p : Page) (check : Check) (j : ℕ) → j < length cycle → (mine : Bool) →
-    mine ≡ is_mine (owner_scan p.id (repeated cycle) (entry_of cycle p.id) j) →
-    ((sends p.id (item_of check) (packet_of (slice_index_or cycle j [])) mine ≡ true) × IsWrong p check (slice_index_or cycle j [])) ↔ WrongAt (repeated cycle) p check (pos j)
+    mine ≡ is_mine (owner_scan p.id (repeated cycle) (entry_owner cycle p.id) j) →
+    ((sends p.id (compared_item check) (packet_of (slice_index_or cycle j [])) mine ≡ true) × IsWrong p check (slice_index_or cycle j [])) ↔ WrongAt (repeated cycle) p check (pos j)
 wrong_is cycle some p check j lt mine e =
     let at = slot_is cycle j lt in
-    let o = owner_scan p.id (repeated cycle) (entry_of cycle p.id) j in
-    let r = sends_is p.id (repeated cycle) (pos j) (item_of check) o (owner_at cycle some p.id j) in
-    let same : sends p.id (item_of check) (packet_of (slice_index_or cycle j [])) mine ≡ sends p.id (item_of check) (packet_of (repeated cycle (pos j))) (is_mine o) =
-    ap (λ x. sends p.id (item_of check) (packet_of x) mine) (sym at) ∙ ap (λ m. sends p.id (item_of check) (packet_of (repeated cycle (pos j))) m) e in (
+    let o = owner_scan p.id (repeated cycle) (entry_owner cycle p.id) j in
+    let r = sends_is p.id (repeated cycle) (pos j) (compared_item check) o (owner_at cycle some p.id j) in
+    let same : sends p.id (compared_item check) (packet_of (slice_index_or cycle j [])) mine ≡ sends p.id (compared_item check) (packet_of (repeated cycle (pos j))) (is_mine o) =
+    ap (λ x. sends p.id (compared_item check) (packet_of x) mine) (sym at) ∙ ap (λ m. sends p.id (compared_item check) (packet_of (repeated cycle (pos j))) m) e in (
       (λ h. record { sent = r.0 (sym same ∙ h.0); wrong = subst (IsWrong p check) (sym at) h.1 }),
       (λ w. (same ∙ r.1 w.sent, subst (IsWrong p check) at w.wrong)),
     )

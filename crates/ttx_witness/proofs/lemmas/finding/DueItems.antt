@@ -13,8 +13,8 @@ use Rattle.ttx_page.specs.Pages.{Page, needed}
 use Rattle.ttx_page.specs.declared.item.Item.{Item}
 use Rattle.ttx_page.specs.declared.item.Item.TheVariants.{Head as TheHead, Row as TheRow, Links as TheLinks}
 use Rattle.ttx_page.specs.declared.class.Class.{Class}
-use Rattle.ttx_witness.specs.sent.Collected.{IsItem, ids_of, item_number, place}
-use Rattle.ttx_witness.specs.finding.Finding.{starts_for, limit_for, Fits, wider, IsDone, IsTold, HasEntry, same_place, AreNamed, AddsEntry}
+use Rattle.ttx_witness.specs.sent.Collected.{IsItem, ids_of, item_number, place_of_item}
+use Rattle.ttx_witness.specs.finding.Finding.{starts_for, limit_for, IsEnough, wider, IsDone, NamesStarts, HasEntry, same_place, AreNamed, AddsEntry}
 use Rattle.ttx_certificate.specs.declared.entries.Entry.{Entry}
 use Rattle.ttx_witness.proofs.lemmas.Choices.{no_both, and_left, and_right, cases_bool}
 use Rattle.ttx_witness.proofs.lemmas.finding.EntryOrder.{same_entry}
@@ -57,17 +57,17 @@ item_one TheLinks TheHead x y e = absurd (omega arith)
 item_one TheLinks (TheRow s) x y e = absurd (let h = y.1 in omega arith)
 item_one TheLinks TheLinks x y e = refl
 
-fits_left : (a b : Option ℕ) (limit : ℕ) → Fits (wider a b) limit → Fits a limit
+fits_left : (a b : Option ℕ) (limit : ℕ) → IsEnough (wider a b) limit → IsEnough a limit
 fits_left None b limit f = f
 fits_left (Some a) None limit f = absurd f
 fits_left (Some a) (Some b) limit f = omega arith
 
-fits_right : (a b : Option ℕ) (limit : ℕ) → Fits (wider a b) limit → Fits b limit
+fits_right : (a b : Option ℕ) (limit : ℕ) → IsEnough (wider a b) limit → IsEnough b limit
 fits_right None b limit f = absurd f
 fits_right (Some a) None limit f = f
 fits_right (Some a) (Some b) limit f = omega arith
 
-fits_both : (a b : Option ℕ) (limit : ℕ) → Fits a limit → Fits b limit → Fits (wider a b) limit
+fits_both : (a b : Option ℕ) (limit : ℕ) → IsEnough a limit → IsEnough b limit → IsEnough (wider a b) limit
 fits_both None b limit f g = f
 fits_both (Some a) None limit f g = g
 fits_both (Some a) (Some b) limit f g = omega arith
@@ -82,7 +82,7 @@ all_append P (y ∷ ys) x a p = (a.0, all_append P ys x a.1 p)
 all_push : {A : Type 0} (P : A → Type 0) (xs : List A) (x : A) → All P xs → P x → All P (xs ++ x ∷ [])
 all_push P xs x a p = all_by_place P (xs ++ x ∷ []) (all_append P xs x (all_by_recursion P xs a) p)
 
-module _ (pages : List Page) (class : Class) (m j : ℕ) (q : Page) (given : Item) (at : slice_get pages j ≡ Some q) (is : IsItem given) (here : place j given ≡ m) where
+module _ (pages : List Page) (class : Class) (m j : ℕ) (q : Page) (given : Item) (at : slice_get pages j ≡ Some q) (is : IsItem given) (here : place_of_item j given ≡ m) where
   pub done_more : (i : ℕ) (p : Page) (item : Item) → IsDone pages m i p item → IsDone pages (m + 1) i p item
   done_more i p item d = record { at = d.at; is = d.is; seen = d.seen; before = let b = d.before in omega arith }
 
@@ -92,7 +92,7 @@ module _ (pages : List Page) (class : Class) (m j : ℕ) (q : Page) (given : Ite
     pub of_item : item ≡ given
 
   pub done_cases : (i : ℕ) (p : Page) (item : Item) → IsDone pages (m + 1) i p item → IsDone pages m i p item ⊎ IsLast i p item
-  done_cases i p item d = elim (cases_lt (place i item) m) as (λ _. IsDone pages m i p item ⊎ IsLast i p item) [
+  done_cases i p item d = elim (cases_lt (place_of_item i item) m) as (λ _. IsDone pages m i p item ⊎ IsLast i p item) [
     | inl low ↦ inl (record { at = d.at; is = d.is; seen = d.seen; before = low })
     | inr high ↦
         let b = d.before in let r = number_low item d.is in let s = number_low given is in
@@ -104,8 +104,8 @@ module _ (pages : List Page) (class : Class) (m j : ℕ) (q : Page) (given : Ite
   ]
 
   module _ (cycle : List (List ℕ)) (lines repeat : ℕ) where
-    -- no earlier entry stands in the place of one of this item
-    new_place : AreApart pages → (e n : Entry) → IsTold cycle pages class lines repeat m e → n.page ≡ q.id → n.item ≡ given → same_place e n ≡ false
+    -- no earlier entry stands in the place_of_item of one of this item
+    new_place : AreApart pages → (e n : Entry) → NamesStarts cycle pages class lines repeat m e → n.page ≡ q.id → n.item ≡ given → same_place e n ≡ false
     new_place apart e n t page item = elim (cases_bool (same_place e n)) as (λ _. same_place e n ≡ false) [
       | inl same ↦
           let one = same_entry n.page n.item n.kept.id n.kept.item e (eqb-true _ _ same) in
@@ -117,16 +117,16 @@ module _ (pages : List Page) (class : Class) (m j : ℕ) (q : Page) (given : Ite
       | inr other ↦ other
     ]
 
-    told_more : (e : Entry) → IsTold cycle pages class lines repeat m e → IsTold cycle pages class lines repeat (m + 1) e
+    told_more : (e : Entry) → NamesStarts cycle pages class lines repeat m e → NamesStarts cycle pages class lines repeat (m + 1) e
     told_more e t = record { index = t.index; p = t.p; done = done_more t.index t.p e.item t.done; page = t.page; starts = t.starts }
 
     pub nothing_named : (entries : List Entry) (least : Option ℕ) → needed q given ≡ false → AreNamed cycle pages class lines repeat m entries least → AreNamed cycle pages class lines repeat (m + 1) entries least
     nothing_named entries least not_seen a = record {
-      told = all_more (IsTold cycle pages class lines repeat m) (IsTold cycle pages class lines repeat (m + 1)) told_more entries a.told;
+      told = all_more (NamesStarts cycle pages class lines repeat m) (NamesStarts cycle pages class lines repeat (m + 1)) told_more entries a.told;
       apart = a.apart;
       kept = λ i p item d. elim (done_cases i p item d) as (λ _. (starts_for cycle class lines repeat p item ≡ []) ⊎ HasEntry entries p.id item)
           [ inl b ↦ a.kept i p item b | inr l ↦ absurd (not_last i p item d l) ];
-      least_to = λ limit f i p item d. elim (done_cases i p item d) as (λ _. Fits (limit_for cycle class lines repeat p item) limit)
+      least_to = λ limit f i p item d. elim (done_cases i p item d) as (λ _. IsEnough (limit_for cycle class lines repeat p item) limit)
           [ inl b ↦ a.least_to limit f i p item b | inr l ↦ absurd (not_last i p item d l) ];
       least_from = λ limit f. a.least_from limit (λ i p item d. f i p item (done_more i p item d));
     }
@@ -141,21 +141,21 @@ module _ (pages : List Page) (class : Class) (m j : ℕ) (q : Page) (given : Ite
       apart = apart_now adds;
       kept = λ i p item d. elim (done_cases i p item d) as (λ _. (starts_for cycle class lines repeat p item ≡ []) ⊎ HasEntry new p.id item)
           [ inl b ↦ kept_before adds p item (a.kept i p item b) | inr l ↦ subst (λ x. (starts_for cycle class lines repeat p x ≡ []) ⊎ HasEntry new p.id x) (sym l.of_item) (subst (λ x. (starts_for cycle class lines repeat x given ≡ []) ⊎ HasEntry new x.id given) (sym l.of_page) (kept_now adds)) ];
-      least_to = λ limit f i p item d. elim (done_cases i p item d) as (λ _. Fits (limit_for cycle class lines repeat p item) limit) [
+      least_to = λ limit f i p item d. elim (done_cases i p item d) as (λ _. IsEnough (limit_for cycle class lines repeat p item) limit) [
         | inl b ↦ a.least_to limit (fits_left least limit_here limit f) i p item b
-        | inr l ↦ subst (λ x. Fits (limit_for cycle class lines repeat p x) limit) (sym l.of_item) (subst (λ x. Fits (limit_for cycle class lines repeat x given) limit) (sym l.of_page) (subst (λ x. Fits x limit) e (fits_right least limit_here limit f)))
+        | inr l ↦ subst (λ x. IsEnough (limit_for cycle class lines repeat p x) limit) (sym l.of_item) (subst (λ x. IsEnough (limit_for cycle class lines repeat x given) limit) (sym l.of_page) (subst (λ x. IsEnough x limit) e (fits_right least limit_here limit f)))
       ];
       least_from = λ limit f. fits_both least limit_here limit (a.least_from limit (λ i p item d. f i p item (done_more i p item d)))
-          (subst (λ x. Fits x limit) (sym e) (f j q given done_here));
+          (subst (λ x. IsEnough x limit) (sym e) (f j q given done_here));
     }
       where
         done_here : IsDone pages (m + 1) j q given
         done_here = record { at = at; is = is; seen = seen; before = omega arith }
 
-        told_now : AddsEntry old new q.id given (starts_for cycle class lines repeat q given) → All (IsTold cycle pages class lines repeat (m + 1)) new
-        told_now (inl n) = subst (All (IsTold cycle pages class lines repeat (m + 1))) (sym n.1) (all_more (IsTold cycle pages class lines repeat m) (IsTold cycle pages class lines repeat (m + 1)) told_more old a.told)
-        told_now (inr n) = subst (All (IsTold cycle pages class lines repeat (m + 1))) (sym n.1)
-            (all_push (IsTold cycle pages class lines repeat (m + 1)) old n.0 (all_more (IsTold cycle pages class lines repeat m) (IsTold cycle pages class lines repeat (m + 1)) told_more old a.told)
+        told_now : AddsEntry old new q.id given (starts_for cycle class lines repeat q given) → All (NamesStarts cycle pages class lines repeat (m + 1)) new
+        told_now (inl n) = subst (All (NamesStarts cycle pages class lines repeat (m + 1))) (sym n.1) (all_more (NamesStarts cycle pages class lines repeat m) (NamesStarts cycle pages class lines repeat (m + 1)) told_more old a.told)
+        told_now (inr n) = subst (All (NamesStarts cycle pages class lines repeat (m + 1))) (sym n.1)
+            (all_push (NamesStarts cycle pages class lines repeat (m + 1)) old n.0 (all_more (NamesStarts cycle pages class lines repeat m) (NamesStarts cycle pages class lines repeat (m + 1)) told_more old a.told)
             (record { index = j; p = q; done = subst (IsDone pages (m + 1) j q) (sym n.3) done_here; page = n.2; starts = n.4 ∙ ap (starts_for cycle class lines repeat q) (sym n.3) }))
 
         apart_now : AddsEntry old new q.id given (starts_for cycle class lines repeat q given) → AllPairs (λ x y. same_place x y ≡ false) new

@@ -13,7 +13,7 @@ use Rattle.ttx_page.specs.Laws.{EachSlotTurns}
 use Rattle.ttx_witness.specs.runs.SureStarts.{Spread}
 use Rattle.ttx_witness.specs.Coverage.{Certificate, limit, IsCovered}
 use Rattle.ttx_witness.specs.laws.CycleLaws.{found_starts, found_spread, SureStartsAreFound, LeastLimitIsFound}
-use Rattle.ttx_witness.specs.finding.Finding.{Fits, limit_of}
+use Rattle.ttx_witness.specs.finding.Finding.{IsEnough, limit_of}
 use Rattle.ttx_witness.proofs.lemmas.laws.HeaderGaps.{turned_back}
 
 -- a header of the page comes in time after the slot
@@ -63,7 +63,7 @@ module _ (turn : EachSlotTurns) (found : SureStartsAreFound) (law : LeastLimitIs
     in_time = λ tau. let i = next tau in (i.0, i.0, named_head i.0 i.3, (refl, i.3), i.1, record { rest = []; run = single i.0 i.3; ends = (i.2, tt) });
   }
 
-  pub next_fits : (o : Option Spread) → found_spread cycle p.id lines TheHead 0 ≡ o → ((tau : ℤ) → Next cycle p (d * lines) tau) ↔ Fits (limit_of (length cycle) o) (d * lines)
+  pub next_fits : (o : Option Spread) → found_spread cycle p.id lines TheHead 0 ≡ o → ((tau : ℤ) → Next cycle p (d * lines) tau) ↔ IsEnough (limit_of (length cycle) o) (d * lines)
   next_fits None e = ((λ next. (law cycle some p w TheHead 0 refl).0 e (covered_next next)), (λ f. absurd f))
   next_fits (Some s) e =
       let l = (law cycle some p w TheHead 0 refl).1 s e in

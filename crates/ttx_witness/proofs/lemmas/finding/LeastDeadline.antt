@@ -30,7 +30,7 @@ use Rattle.ttx_certificate.specs.declared.entries.Entry.{Entry}
 use Rattle.ttx_witness.specs.runs.SureStarts.{Spread}
 use Rattle.ttx_witness.specs.Coverage.{Certificate, limit, IsSureStart, IsCovered, IsLeftOut, Accepts}
 use Rattle.ttx_witness.specs.laws.CycleLaws.{SureStartsAreFound, LeastLimitIsFound}
-use Rattle.ttx_witness.specs.finding.Finding.{is_due, starts_of, spread_at, starts_for, limit_for, Fits, limit_of, least_limit, IsDone, IsTold, HasEntry, same_place, AreNamed, IsSentUnchanged, IsLeastField, IsDeadline, CanBeAccepted, IsLeastDeadline, IsFoundFor}
+use Rattle.ttx_witness.specs.finding.Finding.{is_due, starts_of, spread_at, starts_for, limit_for, IsEnough, limit_of, least_limit, IsDone, NamesStarts, HasEntry, same_place, AreNamed, IsSentUnchanged, IsLeastField, IsDeadline, CanBeAccepted, IsLeastDeadline, IsFoundFor}
 use Rattle.ttx_witness.proofs.lemmas.Choices.{no_both, and_left, and_right, and_both, cases_bool}
 use Rattle.ttx_witness.proofs.lemmas.sent.PageIndexes.{same_one, same_self}
 use Rattle.ttx_witness.proofs.lemmas.sent.AllLists.{all_by_recursion, place_below}
@@ -122,7 +122,7 @@ module _ (cycle : List (List ℕ)) (some : 1 ≤ length cycle) (pages : List Pag
   done i p item at is seen = record { at = at; is = is; seen = seen; before = place_below i item (length pages) (slice_get_within pages i p at) is }
 
   abbrev Told : Entry → Type 0
-  Told = IsTold cycle pages class lines repeat (26 * length pages)
+  Told = NamesStarts cycle pages class lines repeat (26 * length pages)
 
   by_told : (P : Entry → Type 0) → ((e : Entry) → Told e → P e) → AllByRecursion P es
   by_told P f = all_by_recursion P es (all_more Told P f es named.told)
@@ -178,21 +178,21 @@ module _ (cycle : List (List ℕ)) (some : 1 ≤ length cycle) (pages : List Pag
         from h = subst (λ x. Contains x start) (sym (due_starts n p item at is h.0)) (law.1 h.1)
 
     -- with a limit that is enough each item is covered
-    pub due_covered : LeastLimitIsFound → Fits least (d * lines) → (n : ℕ) (p : Page) → slice_get pages n ≡ Some p → (item : Item) → IsItem item → is_due class p item ≡ true → IsCovered cycle p w item
+    pub due_covered : LeastLimitIsFound → IsEnough least (d * lines) → (n : ℕ) (p : Page) → slice_get pages n ≡ Some p → (item : Item) → IsItem item → is_due class p item ≡ true → IsCovered cycle p w item
     due_covered law fits n p at item is due =
-        go (spread_at cycle lines repeat p.id item) refl (subst (λ x. Fits x (d * lines)) (if_true (is_due class p item) (least_limit cycle lines repeat p.id item) (least_limit cycle lines 1 p.id TheHead) due)
+        go (spread_at cycle lines repeat p.id item) refl (subst (λ x. IsEnough x (d * lines)) (if_true (is_due class p item) (least_limit cycle lines repeat p.id item) (least_limit cycle lines 1 p.id TheHead) due)
         (named.least_to (d * lines) fits n p item (done n p item at is (due_needed class p item due))))
       where
-        go : (sp : Option Spread) → spread_at cycle lines repeat p.id item ≡ sp → Fits (limit_of (length cycle) sp) (d * lines) → IsCovered cycle p w item
+        go : (sp : Option Spread) → spread_at cycle lines repeat p.id item ≡ sp → IsEnough (limit_of (length cycle) sp) (d * lines) → IsCovered cycle p w item
         go None e f = absurd f
         go (Some s) e f = ((law cycle some p w item (run_length repeat item - 1) (run_some repeat item repeats)).1 s e).1 (due_starts n p item at is due) f
 
     -- and the headers of a page with an item that isn't due come in time
-    pub left_in_time : EachSlotTurns → SureStartsAreFound → LeastLimitIsFound → Fits least (d * lines) → (n : ℕ) (p : Page) → slice_get pages n ≡ Some p → (item : Item) → IsItem item →
+    pub left_in_time : EachSlotTurns → SureStartsAreFound → LeastLimitIsFound → IsEnough least (d * lines) → (n : ℕ) (p : Page) → slice_get pages n ≡ Some p → (item : Item) → IsItem item →
         needed p item ≡ true → is_due class p item ≡ false → (tau : ℤ) → Next cycle p (d * lines) tau
     left_in_time turn found law fits n p at item is seen not_due =
         (next_fits turn found law cycle some p lines d (spread_at cycle lines 1 p.id TheHead) refl).1
-        (subst (λ x. Fits x (d * lines)) (if_false (is_due class p item) (least_limit cycle lines repeat p.id item) (least_limit cycle lines 1 p.id TheHead) not_due)
+        (subst (λ x. IsEnough x (d * lines)) (if_false (is_due class p item) (least_limit cycle lines repeat p.id item) (least_limit cycle lines 1 p.id TheHead) not_due)
         (named.least_to (d * lines) fits n p item (done n p item at is seen)))
 
   -- a limit with which each item that is due is covered, and headers come in time where one isn't, is enough
@@ -203,23 +203,23 @@ module _ (cycle : List (List ℕ)) (some : 1 ≤ length cycle) (pages : List Pag
     repeats_some = subst (λ r. 1 ≤ r) (sym same_repeat) repeats
 
     due_fits : (n : ℕ) (p : Page) → slice_get pages n ≡ Some p → (item : Item) → IsItem item → is_due class p item ≡ true → (sp : Option Spread) → spread_at cycle v.lines v.repeat p.id item ≡ sp →
-        Fits (limit_of (length cycle) sp) (limit v)
+        IsEnough (limit_of (length cycle) sp) (limit v)
     due_fits n p at item is due None e = absurd ((law cycle some p v item (run_length v.repeat item - 1) (run_some v.repeat item repeats_some)).0 e (covered n p at item is due))
     due_fits n p at item is due (Some s) e = ((law cycle some p v item (run_length v.repeat item - 1) (run_some v.repeat item repeats_some)).1 s e).0 (covered n p at item is due)
 
-    seen_fits : (n : ℕ) (p : Page) → slice_get pages n ≡ Some p → (item : Item) → IsItem item → needed p item ≡ true → Fits (limit_for cycle class v.lines v.repeat p item) (limit v)
+    seen_fits : (n : ℕ) (p : Page) → slice_get pages n ≡ Some p → (item : Item) → IsItem item → needed p item ≡ true → IsEnough (limit_for cycle class v.lines v.repeat p item) (limit v)
     seen_fits n p at item is seen =
         let due_limit = least_limit cycle v.lines v.repeat p.id item in
         let left_limit = least_limit cycle v.lines 1 p.id TheHead in
-        elim (cases_bool (is_due class p item)) as (λ _. Fits (limit_for cycle class v.lines v.repeat p item) (limit v)) [
-          | inl due ↦ subst (λ x. Fits x (limit v)) (sym (if_true (is_due class p item) due_limit left_limit due)) (due_fits n p at item is due (spread_at cycle v.lines v.repeat p.id item) refl)
-          | inr not_due ↦ subst (λ x. Fits x (limit v)) (sym (if_false (is_due class p item) due_limit left_limit not_due))
+        elim (cases_bool (is_due class p item)) as (λ _. IsEnough (limit_for cycle class v.lines v.repeat p item) (limit v)) [
+          | inl due ↦ subst (λ x. IsEnough x (limit v)) (sym (if_true (is_due class p item) due_limit left_limit due)) (due_fits n p at item is due (spread_at cycle v.lines v.repeat p.id item) refl)
+          | inr not_due ↦ subst (λ x. IsEnough x (limit v)) (sym (if_false (is_due class p item) due_limit left_limit not_due))
               ((next_fits turn found law cycle some p v.lines v.deadline (spread_at cycle v.lines 1 p.id TheHead) refl).0 (left n p at item is seen not_due))
         ]
 
-    pub all_fit : Fits least (limit v)
+    pub all_fit : IsEnough least (limit v)
     all_fit = named.least_from (limit v) (λ i p item d.
-        subst (λ l. Fits (limit_for cycle class l repeat p item) (limit v)) same_lines (subst (λ r. Fits (limit_for cycle class v.lines r p item) (limit v)) same_repeat (seen_fits i p d.at item d.is d.seen)))
+        subst (λ l. IsEnough (limit_for cycle class l repeat p item) (limit v)) same_lines (subst (λ r. IsEnough (limit_for cycle class v.lines r p item) (limit v)) same_repeat (seen_fits i p d.at item d.is d.seen)))
 
   module _ (blank : AreTested pages) (few : lines ≤ 32) (some_lines : 1 ≤ lines) (deadline : Option ℕ) (is : IsDeadline cycle pages lines least deadline)
       (turn : EachSlotTurns) (found : SureStartsAreFound) (law : LeastLimitIsFound) where
@@ -235,14 +235,14 @@ module _ (cycle : List (List ℕ)) (some : 1 ≤ length cycle) (pages : List Pag
     accepted_left v a n p at item is_item seen not_due = elim (a.covered n p at item seen) as (λ _. (tau : ℤ) → Next cycle p (limit v) tau)
         [ inl c ↦ next_covered cycle p v item c | inr l ↦ l.in_time ]
 
-    fits_accepted : (e : ℕ) → CanBeAccepted cycle pages class lines repeat e → Fits least (e * lines)
-    fits_accepted e c = subst (λ x. Fits least (e * x)) c.same_lines (subst (λ x. Fits least (x * c.w.lines)) c.same_deadline
+    fits_accepted : (e : ℕ) → CanBeAccepted cycle pages class lines repeat e → IsEnough least (e * lines)
+    fits_accepted e c = subst (λ x. IsEnough least (e * x)) c.same_lines (subst (λ x. IsEnough least (x * c.w.lines)) c.same_deadline
         (all_fit turn found law c.w c.same_lines c.same_repeat (accepted_covered c.w c.same_class c.accepted) (accepted_left c.w c.accepted)))
 
     unchanged : (v : Certificate) → Accepts cycle pages v → IsSentUnchanged cycle pages
     unchanged v a = record { clean = a.clean; steady = a.steady }
 
-    accepts_found : (d : ℕ) → IsSentUnchanged cycle pages → Fits least (d * lines) → Accepts cycle pages (w d)
+    accepts_found : (d : ℕ) → IsSentUnchanged cycle pages → IsEnough least (d * lines) → Accepts cycle pages (w d)
     accepts_found d u fits = record {
       clean = u.clean;
       steady = u.steady;
@@ -336,7 +336,7 @@ places_rise es up alone = rises_apart None es tt up alone
 pub named_sorted : (cycle : List (List ℕ)) (pages : List Page) (class : Class) (lines repeat m : ℕ) (xs ys : List Entry) (least : Option ℕ) → IsPermutation xs ys →
     AreNamed cycle pages class lines repeat m xs least → AreNamed cycle pages class lines repeat m ys least
 named_sorted cycle pages class lines repeat m xs ys least perm a = record {
-  told = All-permutation (IsTold cycle pages class lines repeat m) xs ys perm a.told;
+  told = All-permutation (NamesStarts cycle pages class lines repeat m) xs ys perm a.told;
   apart = pairs_sorted xs ys perm a.apart;
   kept = λ i p item d. elim (a.kept i p item d) as (λ _. (starts_for cycle class lines repeat p item ≡ []) ⊎ HasEntry ys p.id item) [
     | inl e ↦ inl e

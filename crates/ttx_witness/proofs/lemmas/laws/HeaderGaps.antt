@@ -8,7 +8,7 @@ use Rattle.ttx_page.specs.Streams.{repeated, turned, heads_page, IsOwned, IsSure
 use Rattle.ttx_page.specs.Steady.{HasHeader}
 use Rattle.ttx_page.specs.Laws.{EachSlotTurns}
 use Rattle.ttx_witness.specs.runs.Transmissions.{Transmission}
-use Rattle.ttx_witness.specs.runs.Repeating.{AreSent, IsSent, Tells}
+use Rattle.ttx_witness.specs.runs.Repeating.{AreSent, IsSentAt, Tells}
 use Rattle.ttx_witness.specs.sent.ItemTransmissions.{sent_in}
 use Rattle.ttx_witness.specs.Coverage.{Certificate, limit}
 use Rattle.ttx_witness.specs.laws.JudgingLaws.{late_before, late_header, IsHeaderAnswer, HeadersAreJudged}
@@ -41,7 +41,7 @@ module _ (cycle : List (List ℕ)) (p : Page) (lines bound : ℕ) where
   abbrev Are : ℤ → List Transmission → Type 0
   Are low ts = AreSent (IsOwned (repeated cycle) p.id TheHead) (IsSure (repeated cycle) lines p.id.mag TheHead) low (pos (length cycle)) ts
 
-  sent : (x : ℤ) → P x → IsSent (IsOwned (repeated cycle) p.id TheHead) x
+  sent : (x : ℤ) → P x → IsSentAt (IsOwned (repeated cycle) p.id TheHead) x
   sent x h = record { owner = x; owned = (refl, h) }
 
   header_of : (t : Transmission) → Tells (IsOwned (repeated cycle) p.id TheHead) (IsSure (repeated cycle) lines p.id.mag TheHead) t → P t.slot

@@ -74,7 +74,7 @@ module _ (cycle : List (List ℕ)) (some : 1 ≤ length cycle) (p : Page) (w : C
           within = a.1;
           bad = λ s. b.bad (
             subst (λ x. x < length cycle) e s.0,
-            sure_run_from (repeated cycle) p.id w.lines w.repeat item (suc k) len (pos start) (subst (λ x. R.HasSureRun Owned Sure (suc k) (pos x)) e s.1),
+            sure_run_from (repeated cycle) p.id w.lines w.repeat item (suc k) len (pos start) (subst (λ x. R.BeginsSureRun Owned Sure (suc k) (pos x)) e s.1),
           );
         },
       )

@@ -16,7 +16,7 @@ use Rattle.ttx_witness.specs.runs.Transmissions.{Transmission, Run, later, furth
 use Rattle.ttx_witness.specs.runs.Confirming.{Rising}
 use Rattle.ttx_witness.specs.Coverage.{Certificate, IsSureStart, IsCovered, IsLeftOut}
 use Rattle.ttx_witness.specs.finding.Finding.{starts_of}
-use Rattle.ttx_witness.specs.runs.Repeating.{IsSent, AreSent}
+use Rattle.ttx_witness.specs.runs.Repeating.{IsSentAt, AreSent}
 use Rattle.ttx_witness.specs.runs.SureStarts.{sure_runs, sure_starts}
 use Rattle.ttx_witness.specs.sent.ItemTransmissions.{sent_in}
 use Rattle.ttx_witness.specs.laws.SureItems.{HasSureStart, AllSureHaveStarts, IsLongEnough, SureItemsAreAccepted}
@@ -90,7 +90,7 @@ module _ (turns : EachSlotTurns) (move : StreamsMove) (cycle : List (List ℕ)) 
   same_on i t j = ap (λ x. slice_index_or cycle x []) (t.same j)
 
   -- a transmission has its place in the first period
-  placed : (page : Id) (item : Item) (h j : ℤ) → IsOwned (repeated cycle) page item h j → IsSent (IsOwned (repeated cycle) page item) (pos (turned (length cycle) j))
+  placed : (page : Id) (item : Item) (h j : ℤ) → IsOwned (repeated cycle) page item h j → IsSentAt (IsOwned (repeated cycle) page item) (pos (turned (length cycle) j))
   placed page item h j o =
       let t = turns (length cycle) j some in
       let back : IsSameOn (repeated cycle) (pos 0 -ℤ t.by) = (move (repeated cycle) t.by (same_on j t)).back in

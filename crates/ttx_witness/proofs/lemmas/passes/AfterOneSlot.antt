@@ -15,8 +15,8 @@ use Rattle.ttx_witness.specs.declared.faults.comparing.Check.{Check}
 use Rattle.ttx_witness.specs.declared.faults.comparing.Check.TheVariants.{EraseBit, Head as CheckHead, Row as CheckRow, Links as CheckLinks}
 use Rattle.ttx_witness.specs.Coverage.{Certificate, IsCertificate, limit}
 use Rattle.ttx_witness.specs.sent.ItemTransmissions.{PageOwner, owner_scan, sent_under, sent_at, sent_scan}
-use Rattle.ttx_witness.specs.sent.Collected.{IsItem, ids_of, item_number, place}
-use Rattle.ttx_witness.specs.faults.Comparing.{is_mine, item_of, sends, IsWrong}
+use Rattle.ttx_witness.specs.sent.Collected.{IsItem, ids_of, item_number, place_of_item}
+use Rattle.ttx_witness.specs.faults.Comparing.{is_mine, compared_item, sends, IsWrong}
 use Rattle.ttx_witness.specs.faults.OtherSubpages.{first_of}
 use Rattle.ttx_witness.proofs.lemmas.Choices.{and_left, and_right}
 use Rattle.ttx_witness.specs.declared.passes.page_facts.Facts.{Facts}
@@ -102,10 +102,10 @@ module _ (w : Certificate) (is : IsCertificate w) (p : Page) (i : ℕ) (sent : O
   grown item it = sent_grown y z p.id w.lines item entry owner (sent_of i item sent) k at_end right (told item it)
 
   -- what the slots send, once one more is taken
-  pub listed_more : (item : Item) → IsItem item → (old new : List (Option Sent)) → new ≡ old ++ sent ∷ [] → placed (place i item) old ≡ sent_scan p.id w.lines item (repeated y) entry (length y) →
-      placed (place i item) new ≡ sent_scan p.id w.lines item (repeated more) entry (length more)
+  pub listed_more : (item : Item) → IsItem item → (old new : List (Option Sent)) → new ≡ old ++ sent ∷ [] → placed (place_of_item i item) old ≡ sent_scan p.id w.lines item (repeated y) entry (length y) →
+      placed (place_of_item i item) new ≡ sent_scan p.id w.lines item (repeated more) entry (length more)
   listed_more item it old new e h =
-      ap (placed (place i item)) e ∙ placed_more (place i item) old sent ∙ ap (λ ts. placed (place i item) old ++ ts) (placed_item i item it sent)
+      ap (placed (place_of_item i item)) e ∙ placed_more (place_of_item i item) old sent ∙ ap (λ ts. placed (place_of_item i item) old ++ ts) (placed_item i item it sent)
       ∙ ap (λ ts. ts ++ sent_of i item sent) h ∙ grown item it
 
   -- whether the slot sends an item
@@ -116,7 +116,7 @@ module _ (w : Certificate) (is : IsCertificate w) (p : Page) (i : ℕ) (sent : O
       ∙ ap (λ o. sends p.id item (packet_of (repeated more (pos (length y)))) (is_mine o)) (right ∙ sym (owner_before y z p.id entry (length y) (omega arith)))
 
   check_item : (check : Check) → Type 0
-  check_item check = IsItem (item_of check)
+  check_item check = IsItem (compared_item check)
 
   -- what was wrong below stays
   wrong_before : (check : Check) (j : ℕ) → j < length y → SendsWrong p (repeated y) entry check j ↔ SendsWrong p (repeated more) entry check j
@@ -124,19 +124,19 @@ module _ (w : Certificate) (is : IsCertificate w) (p : Page) (i : ℕ) (sent : O
       let s = same_before y z j lt in
       let o = owner_before y z p.id entry j (omega arith) in (
         (λ a. record {
-          sent = ap (λ x. sends p.id (item_of check) (packet_of x) (is_mine (owner_scan p.id (repeated more) entry j))) s ∙ ap (λ m. sends p.id (item_of check) (packet_of (repeated y (pos j))) (is_mine m)) o ∙ a.sent;
+          sent = ap (λ x. sends p.id (compared_item check) (packet_of x) (is_mine (owner_scan p.id (repeated more) entry j))) s ∙ ap (λ m. sends p.id (compared_item check) (packet_of (repeated y (pos j))) (is_mine m)) o ∙ a.sent;
           wrong = subst (IsWrong p check) (sym s) a.wrong;
         }),
         (λ a. record {
-          sent = ap (λ m. sends p.id (item_of check) (packet_of (repeated y (pos j))) (is_mine m)) (sym o) ∙ ap (λ x. sends p.id (item_of check) (packet_of x) (is_mine (owner_scan p.id (repeated more) entry j))) (sym s) ∙ a.sent;
+          sent = ap (λ m. sends p.id (compared_item check) (packet_of (repeated y (pos j))) (is_mine m)) (sym o) ∙ ap (λ x. sends p.id (compared_item check) (packet_of x) (is_mine (owner_scan p.id (repeated more) entry j))) (sym s) ∙ a.sent;
           wrong = subst (IsWrong p check) s a.wrong;
         }),
       )
 
-  wrong_here : (check : Check) → IsItem (item_of check) → ((is_sent i (item_of check) sent ≡ true) × IsWrong p check z) ↔ SendsWrong p (repeated more) entry check (length y)
+  wrong_here : (check : Check) → IsItem (compared_item check) → ((is_sent i (compared_item check) sent ≡ true) × IsWrong p check z) ↔ SendsWrong p (repeated more) entry check (length y)
   wrong_here check it = (
-    (λ a. record { sent = sym (sends_is (item_of check) it) ∙ a.0; wrong = subst (IsWrong p check) (sym (here y z)) a.1 }),
-    (λ a. (sends_is (item_of check) it ∙ a.sent, subst (IsWrong p check) (here y z) a.wrong)),
+    (λ a. record { sent = sym (sends_is (compared_item check) it) ∙ a.0; wrong = subst (IsWrong p check) (sym (here y z)) a.1 }),
+    (λ a. (sends_is (compared_item check) it ∙ a.sent, subst (IsWrong p check) (here y z) a.wrong)),
   )
 
   longer : (P : ℕ → Type 0) (o : Option ℕ) → FirstBelow P (suc (length y)) o → FirstBelow P (length more) o

@@ -14,7 +14,7 @@ use Rattle.ttx_witness.proofs.lemmas.faults.FirstSlots.{placed}
 use Rattle.ttx_witness.specs.declared.passes.page_facts.Facts.{Facts}
 use Rattle.ttx_witness.specs.declared.sent.one_slot.Sent.{Sent}
 use Rattle.ttx_witness.specs.sent.OneSlot.{is_sent}
-use Rattle.ttx_witness.specs.passes.ItemProgress.{Holds}
+use Rattle.ttx_witness.specs.passes.ItemProgress.{HoldsAt}
 use Rattle.ttx_witness.specs.passes.PageFacts.{IsNoted, Noted, heads_after}
 use Rattle.ttx_witness.proofs.lemmas.ChangedPlaces.{set_here, set_other}
 
@@ -50,8 +50,8 @@ module _ (limit : ℕ) (pages : List PageValue) (s : Sent) (slot : List ℕ) (j 
 
   -- the page itself
   pub noted_here : (q : Page) (old new : Facts) → slice_get (map page_of pages) s.page ≡ Some q → slice_get all s.page ≡ Some old → s.page < length all → Noted limit q (λ item. item_number item == s.number) slot j old new →
-      (i : ℕ) (p : Page) (x : Facts) → slice_get (map page_of pages) i ≡ Some p → slice_get all i ≡ Some x → Holds Facts (set all s.page new) i (Noted limit p (λ item. is_sent i item (Some s)) slot j x)
-  noted_here q old new at_q at_old lt n i p x at here = elim (cases_bool (s.page == i)) as (λ _. Holds Facts (set all s.page new) i (Noted limit p (λ item. is_sent i item (Some s)) slot j x)) [
+      (i : ℕ) (p : Page) (x : Facts) → slice_get (map page_of pages) i ≡ Some p → slice_get all i ≡ Some x → HoldsAt Facts (set all s.page new) i (Noted limit p (λ item. is_sent i item (Some s)) slot j x)
+  noted_here q old new at_q at_old lt n i p x at here = elim (cases_bool (s.page == i)) as (λ _. HoldsAt Facts (set all s.page new) i (Noted limit p (λ item. is_sent i item (Some s)) slot j x)) [
     | inl e ↦
         let same : s.page ≡ i = eqb-true _ _ e in
         let page : q ≡ p = placed _ q p at_q (ap (slice_get (map page_of pages)) same ∙ at) in
@@ -67,7 +67,7 @@ module _ (limit : ℕ) (pages : List PageValue) (s : Sent) (slot : List ℕ) (j 
 
   -- no page of the list
   pub noted_past : (length all ≤ s.page) ⊎ (length pages ≤ s.page) → (i : ℕ) (p : Page) (x : Facts) → slice_get (map page_of pages) i ≡ Some p → slice_get all i ≡ Some x →
-      Holds Facts all i (Noted limit p (λ item. is_sent i item (Some s)) slot j x)
+      HoldsAt Facts all i (Noted limit p (λ item. is_sent i item (Some s)) slot j x)
   noted_past past i p x at here = record {
     value = x;
     here = here;

@@ -12,7 +12,7 @@ use Rattle.ttx_witness.specs.laws.CycleLaws.{progress_of}
 use Rattle.ttx_witness.specs.sent.ItemTransmissions.{sent_in}
 use Rattle.ttx_header.specs.Ids.{Id}
 use Rattle.ttx_page.specs.Streams.{repeated}
-use Rattle.ttx_witness.specs.sent.ItemTransmissions.{owner_scan, owner_moved, entry_of}
+use Rattle.ttx_witness.specs.sent.ItemTransmissions.{owner_scan, owner_moved, entry_owner}
 use Rattle.ttx_witness.specs.sent.Collected.{owner_for}
 use Rattle.ttx_witness.specs.declared.sent.owners.Owner.{Owner}
 use Rattle.ttx_witness.proofs.lemmas.passes.ReturningOwners.{steady_entry, own_entry}
@@ -37,13 +37,13 @@ empty_is [] e = refl
 empty_is (z ∷ y) e = absurd (omega arith)
 
 -- the owners before a list that is the first one again
-module _ (entry owners : List (Option Owner)) (x y : List (List ℕ)) (i : ℕ) (id : Id) (seen : owner_for owners i id ≡ owner_scan id (repeated y) (entry_of x id) (length y)) (begun : owner_for entry i id ≡ entry_of x id) (count : ℕ) (is : count ≡ length y) where
+module _ (entry owners : List (Option Owner)) (x y : List (List ℕ)) (i : ℕ) (id : Id) (seen : owner_for owners i id ≡ owner_scan id (repeated y) (entry_owner x id) (length y)) (begun : owner_for entry i id ≡ entry_owner x id) (count : ℕ) (is : count ≡ length y) where
   pub again : x ≡ y → owner_moved (pos 0 -ℤ pos count) (owner_for owners i id) ≡ owner_for entry i id
   again e =
       ap (λ n. owner_moved (pos 0 -ℤ pos n) (owner_for owners i id)) is ∙ ap (owner_moved (pos 0 -ℤ pos (length y))) seen
-      ∙ ap (λ z. owner_moved (pos 0 -ℤ pos (length y)) (owner_scan id (repeated y) (entry_of z id) (length y))) e
-      ∙ own_entry y id ∙ ap (λ z. entry_of z id) (sym e) ∙ sym begun
+      ∙ ap (λ z. owner_moved (pos 0 -ℤ pos (length y)) (owner_scan id (repeated y) (entry_owner z id) (length y))) e
+      ∙ own_entry y id ∙ ap (λ z. entry_owner z id) (sym e) ∙ sym begun
 
-  pub own : 1 ≤ length y → owner_moved (pos 0 -ℤ pos count) (owner_for owners i id) ≡ owner_for entry i id → entry_of x id ≡ entry_of y id
-  own some steady = steady_entry y some id (entry_of x id)
+  pub own : 1 ≤ length y → owner_moved (pos 0 -ℤ pos count) (owner_for owners i id) ≡ owner_for entry i id → entry_owner x id ≡ entry_owner y id
+  own some steady = steady_entry y some id (entry_owner x id)
       (sym (ap (owner_moved (pos 0 -ℤ pos (length y))) seen) ∙ sym (ap (λ n. owner_moved (pos 0 -ℤ pos n) (owner_for owners i id)) is) ∙ steady ∙ begun)

@@ -13,7 +13,7 @@ use Rattle.ttx_witness.specs.declared.faults.comparing.Check.TheVariants.{EraseB
 use Rattle.ttx_witness.specs.declared.faults.subcodes.Subcodes.TheVariants.{Unlisted}
 use Rattle.ttx_witness.specs.faults.Comparing.{WrongAt}
 use Rattle.ttx_witness.specs.faults.Faults.{AreFirst, TellsFirst}
-use Rattle.ttx_witness.specs.sent.ItemTransmissions.{sent_in, entry_of}
+use Rattle.ttx_witness.specs.sent.ItemTransmissions.{sent_in, entry_owner}
 use Rattle.ttx_witness.specs.faults.OtherSubpages.{place, AreSubcodes, AreAllSubcodes, IsStrayAt}
 use Rattle.ttx_witness.proofs.lemmas.faults.FirstSlots.{tells_same, erased_is, head_is, links_are}
 use Rattle.ttx_witness.proofs.lemmas.faults.FirstWrongSent.{headers_sent}
@@ -51,7 +51,7 @@ module _ (ended : EndedPass) (y : List (List ℕ)) (kept : IsEnded ended y) (n :
       tells_same y (IsStrayAt table (repeated y) p.id.mag p.id.page) (OtherSubpageAt (repeated y) (ended_pages ended) p) (stray_is (ended_pages ended) p n at (slice_get_within (ended_pages ended) n p at) table (repeated y) here) stray
       (first_all y some table p.id.mag p.id.page stray (kept.strays p.id.mag p.id.page is.mag_from is.mag_to is.page))
 
-  pub facts_first : (f : Facts) → AreFacts (ended_certificate ended) p (repeated y) (entry_of y p.id) (length y) f →
+  pub facts_first : (f : Facts) → AreFacts (ended_certificate ended) p (repeated y) (entry_owner y p.id) (length y) f →
       AreFirst y (ended_pages ended) p (record { has_header = is_some f.heads; other_subpage = stray; erased = f.erased; head = f.head; row = f.row; links = f.links })
   facts_first f a =
       let s = repeated y in

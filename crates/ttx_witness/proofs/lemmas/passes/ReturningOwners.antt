@@ -5,8 +5,8 @@ use Rattle.ttx_header.specs.Ids.{Id}
 use Rattle.ttx_page.specs.Packets.{packet_of}
 use Rattle.ttx_page.specs.Pages.{Page}
 use Rattle.ttx_page.specs.Streams.{Stream, repeated, heads, heads_page, ends_serial}
-use Rattle.ttx_witness.specs.sent.ItemTransmissions.{PageOwner, tainted_by, owner_scan, owner_moved, sent_scan, entry_of}
-use Rattle.ttx_witness.specs.faults.Comparing.{is_mine, item_of, sends, IsWrong, WrongAt}
+use Rattle.ttx_witness.specs.sent.ItemTransmissions.{PageOwner, tainted_by, owner_scan, owner_moved, sent_scan, entry_owner}
+use Rattle.ttx_witness.specs.faults.Comparing.{is_mine, compared_item, sends, IsWrong, WrongAt}
 use Rattle.ttx_witness.specs.declared.faults.comparing.Check.{Check}
 use Rattle.ttx_witness.specs.faults.Faults.{TellsFirst}
 use Rattle.ttx_witness.proofs.lemmas.faults.OverOnePeriod.{slot_is, wrong_is, never_wrong, nowhere, sent_down, sent_up}
@@ -15,7 +15,7 @@ use Rattle.ttx_witness.specs.declared.faults.comparing.Check.TheVariants.{Row as
 use Rattle.ttx_page.specs.declared.item.Item.TheVariants.{Row as TheRow}
 use Rattle.ttx_page.specs.Steady.{RowDiffersAt, RowIsRight}
 use Rattle.ttx_witness.specs.declared.passes.page_facts.Facts.{Facts}
-use Rattle.ttx_witness.specs.passes.ItemProgress.{Holds}
+use Rattle.ttx_witness.specs.passes.ItemProgress.{HoldsAt}
 use Rattle.ttx_witness.specs.passes.PageFacts.{FirstBelow, SendsWrong, SendsWrongRow, AreFacts}
 use Rattle.ttx_witness.specs.passes.Passing.{AreKept, pages_of, certificate}
 use Rattle.ttx_witness.specs.declared.passes.passing.Pass.{Pass}
@@ -64,18 +64,18 @@ not_later n some (Some o) None h e = absurd h
 not_later n some (Some o) (Some p) h e = let s : (p.slot +ℤ (pos 0 -ℤ pos n)) ≡ o.slot = ap slot_in e in absurd (omega (arith, ints))
 
 -- an entry that a pass leaves as it was is the list's own
-pub steady_entry : (y : List (List ℕ)) → 1 ≤ length y → (id : Id) (entry : Option PageOwner) → owner_moved (pos 0 -ℤ pos (length y)) (owner_scan id (repeated y) entry (length y)) ≡ entry → entry ≡ entry_of y id
-steady_entry y some id entry steady = elim (scan_forgets id (repeated y) entry (length y)) as (λ _. entry ≡ entry_of y id) [
+pub steady_entry : (y : List (List ℕ)) → 1 ≤ length y → (id : Id) (entry : Option PageOwner) → owner_moved (pos 0 -ℤ pos (length y)) (owner_scan id (repeated y) entry (length y)) ≡ entry → entry ≡ entry_owner y id
+steady_entry y some id entry steady = elim (scan_forgets id (repeated y) entry (length y)) as (λ _. entry ≡ entry_owner y id) [
   | inl e ↦ sym steady ∙ ap (owner_moved (pos 0 -ℤ pos (length y))) e
   | inr h ↦ not_later (length y) some entry (owner_scan id (repeated y) entry (length y)) h.0 steady ∙ sym (ap (owner_moved (pos 0 -ℤ pos (length y))) h.1)
 ]
 
 -- and the list's own is one
-pub own_entry : (y : List (List ℕ)) (id : Id) → owner_moved (pos 0 -ℤ pos (length y)) (owner_scan id (repeated y) (entry_of y id) (length y)) ≡ entry_of y id
-own_entry y id = elim (scan_forgets id (repeated y) (entry_of y id) (length y)) as (λ _. owner_moved (pos 0 -ℤ pos (length y)) (owner_scan id (repeated y) (entry_of y id) (length y)) ≡ entry_of y id) [
+pub own_entry : (y : List (List ℕ)) (id : Id) → owner_moved (pos 0 -ℤ pos (length y)) (owner_scan id (repeated y) (entry_owner y id) (length y)) ≡ entry_owner y id
+own_entry y id = elim (scan_forgets id (repeated y) (entry_owner y id) (length y)) as (λ _. owner_moved (pos 0 -ℤ pos (length y)) (owner_scan id (repeated y) (entry_owner y id) (length y)) ≡ entry_owner y id) [
   | inl e ↦ ap (owner_moved (pos 0 -ℤ pos (length y))) e
   | inr h ↦
-      let none : entry_of y id ≡ None = ap (owner_moved (pos 0 -ℤ pos (length y))) h.1 in
+      let none : entry_owner y id ≡ None = ap (owner_moved (pos 0 -ℤ pos (length y))) h.1 in
       ap (λ e. owner_moved (pos 0 -ℤ pos (length y)) (owner_scan id (repeated y) e (length y))) none
 ]
 
@@ -88,23 +88,23 @@ kept_same pass a b y same k = record {
     unlinked = k.sent.unlinked;
     each = λ i p item at it. k.sent.each i p item at it ∙ ap (λ e. sent_scan p.id (certificate pass).lines item (repeated y) e (length y)) (same i p at);
   };
-  facts = λ i p at. subst (λ e. Holds Facts pass.facts.items i (AreFacts (certificate pass) p (repeated y) e (length y))) (same i p at) (k.facts i p at);
+  facts = λ i p at. subst (λ e. HoldsAt Facts pass.facts.items i (AreFacts (certificate pass) p (repeated y) e (length y))) (same i p at) (k.facts i p at);
   strays = k.strays;
 }
 
 -- the first wrong slot of a period is the stream's
-pub wrong_first : (y : List (List ℕ)) → 1 ≤ length y → (p : Page) (check : Check) (o : Option ℕ) → FirstBelow (SendsWrong p (repeated y) (entry_of y p.id) check) (length y) o → TellsFirst y (WrongAt (repeated y) p check) o
+pub wrong_first : (y : List (List ℕ)) → 1 ≤ length y → (p : Page) (check : Check) (o : Option ℕ) → FirstBelow (SendsWrong p (repeated y) (entry_owner y p.id) check) (length y) o → TellsFirst y (WrongAt (repeated y) p check) o
 wrong_first y some p check o f = go o f
   where
-    is : (j : ℕ) → j < length y → SendsWrong p (repeated y) (entry_of y p.id) check j ↔ WrongAt (repeated y) p check (pos j)
+    is : (j : ℕ) → j < length y → SendsWrong p (repeated y) (entry_owner y p.id) check j ↔ WrongAt (repeated y) p check (pos j)
     is j lt =
         let at = slot_is y j lt in
-        let w = wrong_is y some p check j lt (is_mine (owner_scan p.id (repeated y) (entry_of y p.id) j)) refl in (
-          (λ a. w.0 (ap (λ x. sends p.id (item_of check) (packet_of x) (is_mine (owner_scan p.id (repeated y) (entry_of y p.id) j))) (sym at) ∙ a.sent, subst (IsWrong p check) at a.wrong)),
-          (λ a. let b = w.1 a in record { sent = ap (λ x. sends p.id (item_of check) (packet_of x) (is_mine (owner_scan p.id (repeated y) (entry_of y p.id) j))) at ∙ b.0; wrong = subst (IsWrong p check) (sym at) b.1 }),
+        let w = wrong_is y some p check j lt (is_mine (owner_scan p.id (repeated y) (entry_owner y p.id) j)) refl in (
+          (λ a. w.0 (ap (λ x. sends p.id (compared_item check) (packet_of x) (is_mine (owner_scan p.id (repeated y) (entry_owner y p.id) j))) (sym at) ∙ a.sent, subst (IsWrong p check) at a.wrong)),
+          (λ a. let b = w.1 a in record { sent = ap (λ x. sends p.id (compared_item check) (packet_of x) (is_mine (owner_scan p.id (repeated y) (entry_owner y p.id) j))) at ∙ b.0; wrong = subst (IsWrong p check) (sym at) b.1 }),
         )
 
-    go : (o : Option ℕ) → FirstBelow (SendsWrong p (repeated y) (entry_of y p.id) check) (length y) o → TellsFirst y (WrongAt (repeated y) p check) o
+    go : (o : Option ℕ) → FirstBelow (SendsWrong p (repeated y) (entry_owner y p.id) check) (length y) o → TellsFirst y (WrongAt (repeated y) p check) o
     go None g = never_wrong y some p check (λ j lt v. g j lt ((is j lt).1 v))
     go (Some j) g = record { within = g.0; here = (is j g.0).0 g.1; none_before = λ i lt v. let l = g.0 in g.2 i lt ((is i (omega arith)).1 v) }
 
@@ -112,30 +112,30 @@ back : (y : List (List ℕ)) (i : ℤ) → repeated y (i -ℤ pos (length y)) �
 back y i = let e : (i -ℤ pos (length y)) +ℤ pos (length y) ≡ i = omega (arith, ints) in sym (period_of y (i -ℤ pos (length y))) ∙ ap (repeated y) e
 
 -- the first wrong row
-pub row_first : (y : List (List ℕ)) → 1 ≤ length y → (p : Page) (o : Option ℕ) → FirstBelow (SendsWrongRow p (repeated y) (entry_of y p.id)) (length y) o → TellsFirst y (RowDiffersAt (repeated y) p) o
+pub row_first : (y : List (List ℕ)) → 1 ≤ length y → (p : Page) (o : Option ℕ) → FirstBelow (SendsWrongRow p (repeated y) (entry_owner y p.id)) (length y) o → TellsFirst y (RowDiffersAt (repeated y) p) o
 row_first y some p o f = go o f
   where
-    to : (j : ℕ) → j < length y → SendsWrongRow p (repeated y) (entry_of y p.id) j → RowDiffersAt (repeated y) p (pos j)
+    to : (j : ℕ) → j < length y → SendsWrongRow p (repeated y) (entry_owner y p.id) j → RowDiffersAt (repeated y) p (pos j)
     to j lt a =
         let at = slot_is y j lt in
-        let w = (wrong_is y some p (CheckRow a.row) j lt (is_mine (owner_scan p.id (repeated y) (entry_of y p.id) j)) refl).0
-        (ap (λ x. sends p.id (TheRow a.row) (packet_of x) (is_mine (owner_scan p.id (repeated y) (entry_of y p.id) j))) (sym at) ∙ a.wrong.sent, subst (IsWrong p (CheckRow a.row)) at a.wrong.wrong) in
+        let w = (wrong_is y some p (CheckRow a.row) j lt (is_mine (owner_scan p.id (repeated y) (entry_owner y p.id) j)) refl).0
+        (ap (λ x. sends p.id (TheRow a.row) (packet_of x) (is_mine (owner_scan p.id (repeated y) (entry_owner y p.id) j))) (sym at) ∙ a.wrong.sent, subst (IsWrong p (CheckRow a.row)) at a.wrong.wrong) in
         record { row = a.row; needed = a.needed; sent = w.sent; differs = w.wrong }
 
-    from : (j : ℕ) → j < length y → RowDiffersAt (repeated y) p (pos j) → SendsWrongRow p (repeated y) (entry_of y p.id) j
+    from : (j : ℕ) → j < length y → RowDiffersAt (repeated y) p (pos j) → SendsWrongRow p (repeated y) (entry_owner y p.id) j
     from j lt d =
         let at = slot_is y j lt in
-        let b = (wrong_is y some p (CheckRow d.row) j lt (is_mine (owner_scan p.id (repeated y) (entry_of y p.id) j)) refl).1 (record { sent = d.sent; wrong = d.differs }) in
+        let b = (wrong_is y some p (CheckRow d.row) j lt (is_mine (owner_scan p.id (repeated y) (entry_owner y p.id) j)) refl).1 (record { sent = d.sent; wrong = d.differs }) in
         record {
           row = d.row;
           needed = d.needed;
           wrong = record {
-            sent = ap (λ x. sends p.id (TheRow d.row) (packet_of x) (is_mine (owner_scan p.id (repeated y) (entry_of y p.id) j))) at ∙ b.0;
+            sent = ap (λ x. sends p.id (TheRow d.row) (packet_of x) (is_mine (owner_scan p.id (repeated y) (entry_owner y p.id) j))) at ∙ b.0;
             wrong = subst (IsWrong p (CheckRow d.row)) (sym at) b.1;
           };
         }
 
-    go : (o : Option ℕ) → FirstBelow (SendsWrongRow p (repeated y) (entry_of y p.id)) (length y) o → TellsFirst y (RowDiffersAt (repeated y) p) o
+    go : (o : Option ℕ) → FirstBelow (SendsWrongRow p (repeated y) (entry_owner y p.id)) (length y) o → TellsFirst y (RowDiffersAt (repeated y) p) o
     go None g = nowhere y some (RowDiffersAt (repeated y) p)
         (λ i d. record { row = d.row; needed = d.needed; sent = sent_down y some p.id (TheRow d.row) i d.sent; differs = subst (λ x. RowIsRight p d.row (packet_of x) → ⊥) (period_of y i) d.differs })
         (λ i d. record { row = d.row; needed = d.needed; sent = sent_up y some p.id (TheRow d.row) i d.sent; differs = subst (λ x. RowIsRight p d.row (packet_of x) → ⊥) (back y i) d.differs })

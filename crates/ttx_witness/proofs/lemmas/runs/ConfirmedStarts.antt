@@ -7,7 +7,7 @@ use Rattle.std.proofs.lemmas.Bool.{cases_lt}
 use Rattle.std.proofs.lemmas.Bool.Decides.{nat_tests}
 use Rattle.ttx_witness.proofs.lemmas.Choices.{no_both, cases_bool, if_ind, and_left, and_right, and_both}
 use Rattle.ttx_witness.proofs.lemmas.Choices.{cases_ltz}
-use Rattle.ttx_witness.specs.runs.Transmissions.{Run, moved}
+use Rattle.ttx_witness.specs.runs.Transmissions.{Run, moved_run}
 use Rattle.ttx_witness.specs.runs.Confirming.{Progress, Rising, confirmed, is_next, late_after, confirmed_runs, same_slot, after_runs, not_begun}
 use Rattle.ttx_witness.specs.runs.Repeating.{FollowInTime}
 
@@ -120,13 +120,13 @@ first_end_kept limit starts m (q ∷ rs) some a =
 
 -- all runs of a period and the first of the next are in step exactly where nothing is late at the end
 pub late_round : (limit : ℕ) (starts : List ℕ) (n : ℕ) (g : Run) (rs : List Run) → Matches starts 0 (g ∷ rs) → let m = after_runs limit starts not_begun (g ∷ rs) in
-    (late_after limit starts m (m.first_end +ℤ pos n) ≡ None) ↔ FollowInTime limit g (rs ++ moved (pos n) g ∷ [])
+    (late_after limit starts m (m.first_end +ℤ pos n) ≡ None) ↔ FollowInTime limit g (rs ++ moved_run (pos n) g ∷ [])
 unfolding after_runs
 late_round limit starts n g rs a =
     let c = confirmed_yes limit starts not_begun g a.0 in
     let m1 = taken limit starts not_begun g in
     let f : (after_runs limit starts m1 rs).first_end ≡ g.end = first_end_kept limit starts m1 rs (omega arith) a.1 in
-    let i = late_chain limit starts m1 g rs (moved (pos n) g) (omega arith) refl a.1 in
+    let i = late_chain limit starts m1 g rs (moved_run (pos n) g) (omega arith) refl a.1 in
     let e : late_after limit starts (after_runs limit starts (confirmed limit starts not_begun g) rs) ((after_runs limit starts (confirmed limit starts not_begun g) rs).first_end +ℤ pos n)
     ≡ late_after limit starts (after_runs limit starts m1 rs) (g.end +ℤ pos n) =
     ap (λ x. late_after limit starts (after_runs limit starts x rs) ((after_runs limit starts x rs).first_end +ℤ pos n)) c ∙ ap (λ x. late_after limit starts (after_runs limit starts m1 rs) (x +ℤ pos n)) f in

@@ -7,7 +7,7 @@ use Rattle.std.proofs.lemmas.Bool.{cases_lt}
 use Rattle.std.proofs.Math.Nat.{add-mod_right}
 use Rattle.ttx_witness.specs.runs.Transmissions.{Transmission, runs}
 use Rattle.ttx_witness.specs.runs.Confirming.{Progress, Rising, late_after, confirmed_runs, after_runs, not_begun}
-use Rattle.ttx_witness.specs.runs.Repeating.{Repeats, AreSent, HasSureRun, IsInTime, IsNamed, Covers, turned}
+use Rattle.ttx_witness.specs.runs.Repeating.{Repeats, AreSent, BeginsSureRun, IsInTime, IsNamed, Covers, turned}
 use Rattle.ttx_witness.specs.laws.RunLaws.{Passes}
 use Rattle.ttx_witness.proofs.lemmas.runs.ConfirmedStarts.{named_at, marked_next, match_bound, chosen_match}
 use Rattle.ttx_witness.proofs.lemmas.runs.PassDecides as D
@@ -62,7 +62,7 @@ module _ (Owned Sure : ℤ → ℤ → Type 0) (n k limit : ℕ) (law : Repeats 
         sure = λ start h.
             let a = at_from_Contains starts start h in
             let e : slice_index_or starts a.0 0 ≡ start = a.2 0 in
-            (subst (λ x. x < n) e (below a.0 a.1), subst (λ x. HasSureRun Owned Sure (suc k) (pos x)) e (each a.0 a.1).1);
+            (subst (λ x. x < n) e (below a.0 a.1), subst (λ x. BeginsSureRun Owned Sure (suc k) (pos x)) e (each a.0 a.1).1);
         in_time = (late_is below c.all_confirmed c.some_named).0 c.none_late;
       }
 
@@ -77,7 +77,7 @@ module _ (Owned Sure : ℤ → ℤ → Type 0) (n k limit : ℕ) (law : Repeats 
         none_late = (late_is (λ i lt. (sure_at i lt).0) full any).1 c.in_time;
       }
     where
-      full_if : ((i : ℕ) → i < length starts → slice_index_or starts i 0 < n) → ((i : ℕ) → i < length starts → HasSureRun Owned Sure (suc k) (named_at starts i)) → final.next ≡ length starts
+      full_if : ((i : ℕ) → i < length starts → slice_index_or starts i 0 < n) → ((i : ℕ) → i < length starts → BeginsSureRun Owned Sure (suc k) (named_at starts i)) → final.next ≡ length starts
       full_if below sure = elim (cases_lt final.next (length starts)) as (λ _. final.next ≡ length starts) [
         | inl lt ↦ absurd (D.stops Owned Sure n k law starts rising limit ts told final.next refl lt
             (let b = below final.next lt in omega (arith, ints)) (sure final.next lt))
@@ -91,7 +91,7 @@ module _ (Owned Sure : ℤ → ℤ → Type 0) (n k limit : ℕ) (law : Repeats 
 -- a further start that is the start of a sure run leaves what is covered covered
 pub more_cover : (Owned Sure : ℤ → ℤ → Type 0) (n k limit : ℕ) (starts more : List ℕ) →
     ((start : ℕ) → Contains starts start → Contains more start) →
-    ((start : ℕ) → Contains more start → (start < n) × HasSureRun Owned Sure k (pos start)) →
+    ((start : ℕ) → Contains more start → (start < n) × BeginsSureRun Owned Sure k (pos start)) →
     Covers Owned Sure n k limit starts → Covers Owned Sure n k limit more
 more_cover Owned Sure n k limit starts more further sure c = record {
   named = (c.named.0, further c.named.0 c.named.1);

@@ -4,9 +4,9 @@ use Rattle.std.specs.List.{AllByRecursion}
 use Rattle.std.proofs.lemmas.Int.{ints}
 use Rattle.std.proofs.lemmas.Bool.{cases_lt}
 use Rattle.std.proofs.lemmas.Bool.Decides.{nat_tests}
-use Rattle.ttx_witness.specs.runs.Transmissions.{Transmission, Run, runs, moved}
+use Rattle.ttx_witness.specs.runs.Transmissions.{Transmission, Run, runs, moved_run}
 use Rattle.ttx_witness.specs.runs.Confirming.{Progress, Rising, late_after, confirmed_runs, after_runs, not_begun}
-use Rattle.ttx_witness.specs.runs.Repeating.{Repeats, AreSent, EndsBelow, IsRunOf, IsBad, IsLate, IsFirst, next_start}
+use Rattle.ttx_witness.specs.runs.Repeating.{Repeats, AreSent, RunEndsBelow, IsRunOf, IsBad, IsLate, IsFirst, next_start}
 use Rattle.ttx_witness.proofs.lemmas.Choices.{if_ind}
 use Rattle.ttx_witness.proofs.lemmas.runs.MovedStreams.{run_later}
 use Rattle.ttx_witness.proofs.lemmas.runs.ConfirmedStarts.{named_at, Matches, next_is, marked_next, marked_chosen, chosen_match, match_bound, confirmed_yes, first_end_kept, late_is_first, first_late}
@@ -44,13 +44,13 @@ module _ (Owned Sure : ℤ → ℤ → Type 0) (n k limit : ℕ) (law : Repeats 
     within = lt;
     owner = r.owner;
     owned = subst (Owned r.owner) at a.owned;
-    late = λ h. let g = (b.ends ((r.owner +ℤ pos limit) +ℤ pos 1)).1 (subst (λ x. EndsBelow Owned (suc k) x ((r.owner +ℤ pos limit) +ℤ pos 1)) (sym next) h) in omega (arith, ints);
+    late = λ h. let g = (b.ends ((r.owner +ℤ pos limit) +ℤ pos 1)).1 (subst (λ x. RunEndsBelow Owned (suc k) x ((r.owner +ℤ pos limit) +ℤ pos 1)) (sym next) h) in omega (arith, ints);
   }
 
   not_late : (i : ℕ) (r q : Run) → Is r → r.start ≡ named_at starts i → Is q → q.start ≡ next_start n starts i → int_lt (r.owner +ℤ pos limit) q.end ≡ false → Late i → ⊥
   not_late i r q a at b next e l =
       let same : r.owner ≡ l.owner = law.one_owner r.owner l.owner r.start a.owned (subst (Owned l.owner) (sym at) l.owned) in
-      l.late (subst (λ x. EndsBelow Owned (suc k) x ((l.owner +ℤ pos limit) +ℤ pos 1)) next ((b.ends ((l.owner +ℤ pos limit) +ℤ pos 1)).0 (omega (arith, ints))))
+      l.late (subst (λ x. RunEndsBelow Owned (suc k) x ((l.owner +ℤ pos limit) +ℤ pos 1)) next ((b.ends ((l.owner +ℤ pos limit) +ℤ pos 1)).0 (omega (arith, ints))))
 
   -- from the i-th on
   FirstFrom : ℕ → Option ℕ → Type 0
@@ -118,7 +118,7 @@ module _ (Owned Sure : ℤ → ℤ → Type 0) (n k limit : ℕ) (law : Repeats 
             IsFirst Late starts (late_after limit starts final (final.first_end +ℤ pos n))
         go [] m e a f = absurd (omega arith)
         go (g ∷ rs) m e a f =
-            let z = moved (pos n) g in
+            let z = moved_run (pos n) g in
             let c = confirmed_yes limit starts not_begun g m.0 in
             let m1 : Progress = record { next = 0 + 1; previous = g.owner; first_end = g.end; late = None } in
             let c' : final ≡ after_runs limit starts m1 rs = f ∙ ap (λ x. after_runs limit starts x rs) c in

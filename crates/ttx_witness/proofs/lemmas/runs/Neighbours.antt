@@ -2,8 +2,8 @@
 use Rattle.std.proofs.Common.{◌≡◌, ◌↔◌, ℕ, zero, suc, ℤ, pos, ◌+ℤ◌, ◌-ℤ◌, ◌<ℤ◌, ◌≤ℤ◌, nat_abs, List, [], ◌∷◌, ◌++◌, length, refl, sym, ap, subst, inl, inr, arith}
 use Rattle.std.specs.List.{AllByRecursion}
 use Rattle.std.proofs.lemmas.Int.{ints}
-use Rattle.ttx_witness.specs.runs.Transmissions.{Run, start_of, moved}
-use Rattle.ttx_witness.specs.runs.Repeating.{Lists, Successive, Repeats, IsSent, EndsBelow, IsNamedRun, IsInTime, FollowInTime}
+use Rattle.ttx_witness.specs.runs.Transmissions.{Run, start_of, moved_run}
+use Rattle.ttx_witness.specs.runs.Repeating.{Lists, Successive, Repeats, IsSentAt, RunEndsBelow, IsNamedRun, IsInTime, FollowInTime}
 use Rattle.ttx_witness.proofs.lemmas.Choices.{cases_ltz}
 use Rattle.ttx_witness.proofs.lemmas.runs.Gaps as G
 use Rattle.ttx_witness.proofs.lemmas.runs.AllBetween.{lists_join}
@@ -24,10 +24,10 @@ module _ (Owned Sure : ℤ → ℤ → Type 0) (n k limit : ℕ) (law : Repeats 
   abbrev back : ℤ
   back = minus Owned Sure n k law
 
-  named_on : (r : Run) → IsOne r → IsOne (moved (pos n) r)
+  named_on : (r : Run) → IsOne r → IsOne (moved_run (pos n) r)
   named_on r a = record { named = up r.start a.named; run = run_later Owned Sure n k law r a.run }
 
-  named_back : (r : Run) → IsOne r → IsOne (moved back r)
+  named_back : (r : Run) → IsOne r → IsOne (moved_run back r)
   named_back r a = record {
     named = let e : r.start -ℤ pos n ≡ r.start +ℤ back = omega (arith, ints) in subst Named e (down r.start a.named);
     run = run_earlier Owned Sure n k law r a.run;
@@ -75,10 +75,10 @@ module _ (Owned Sure : ℤ → ℤ → Type 0) (n k limit : ℕ) (law : Repeats 
 
   next_on : (i : ℤ) → HasNext i → HasNext (i +ℤ pos n)
   next_on i h = record {
-    run = moved (pos n) h.run;
+    run = moved_run (pos n) h.run;
     here = ap (λ x. x +ℤ pos n) h.here;
     is = named_on h.run h.is;
-    next = moved (pos n) h.next;
+    next = moved_run (pos n) h.next;
     next_is = named_on h.next h.next_is;
     later = let e = h.later in omega (arith, ints);
     in_time = let e = h.in_time in omega (arith, ints);
@@ -86,10 +86,10 @@ module _ (Owned Sure : ℤ → ℤ → Type 0) (n k limit : ℕ) (law : Repeats 
 
   next_back : (i : ℤ) → HasNext i → HasNext (i -ℤ pos n)
   next_back i h = record {
-    run = moved back h.run;
+    run = moved_run back h.run;
     here = let e = h.here in omega (arith, ints);
     is = named_back h.run h.is;
-    next = moved back h.next;
+    next = moved_run back h.next;
     next_is = named_back h.next h.next_is;
     later = let e = h.later in omega (arith, ints);
     in_time = let e = h.in_time in omega (arith, ints);
@@ -110,18 +110,18 @@ module _ (Owned Sure : ℤ → ℤ → Type 0) (n k limit : ℕ) (law : Repeats 
   -- some start is before any slot
   early : (tau : ℤ) (fuel : ℕ) (r : Run) → IsOne r → r.owner <ℤ (tau +ℤ pos fuel) → (i : ℤ) × (a : Start i) × (start_owner i a <ℤ tau)
   early tau zero r a lt = let k : r.owner <ℤ tau = omega (arith, ints) in (r.start, (r, refl, a), k)
-  early tau (suc fuel) r a lt = early tau fuel (moved back r) (named_back r a) (omega (arith, ints))
+  early tau (suc fuel) r a lt = early tau fuel (moved_run back r) (named_back r a) (omega (arith, ints))
 
   -- named runs of one period, and the first of the next
-  module _ (first : Run) (rest : List Run) (high : ℤ) (lists : Lists start_of Named IsOne (pos 0) high (first ∷ rest ++ moved (pos n) first ∷ [])) where
-    all_next : FollowInTime limit first (rest ++ moved (pos n) first ∷ []) → (i : ℤ) → Named i → HasNext i
+  module _ (first : Run) (rest : List Run) (high : ℤ) (lists : Lists start_of Named IsOne (pos 0) high (first ∷ rest ++ moved_run (pos n) first ∷ [])) where
+    all_next : FollowInTime limit first (rest ++ moved_run (pos n) first ∷ []) → (i : ℤ) → Named i → HasNext i
     all_next st = everywhere n law.some (λ i. Named i → HasNext i)
-        (λ i a b p. next_in (pos 0) high first rest (moved (pos n) first) lists st i p a (let l = lists.1 in omega (arith, ints)))
+        (λ i a b p. next_in (pos 0) high first rest (moved_run (pos n) first) lists st i p a (let l = lists.1 in omega (arith, ints)))
         (λ i h p. next_on i (h (let e : (i +ℤ pos n) -ℤ pos n ≡ i = omega (arith, ints) in subst Named e (down (i +ℤ pos n) p))))
         (λ i h p. next_back i (h (let e : (i -ℤ pos n) +ℤ pos n ≡ i = omega (arith, ints) in subst Named e (up (i -ℤ pos n) p))))
 
     -- in step, every tuning slot is served
-    pub served : FollowInTime limit first (rest ++ moved (pos n) first ∷ []) → (tau : ℤ) → InTime tau
+    pub served : FollowInTime limit first (rest ++ moved_run (pos n) first ∷ []) → (tau : ℤ) → InTime tau
     served st tau =
         let begin = early tau (suc (nat_abs (first.owner -ℤ tau))) first lists.0 (omega (arith, ints)) in
         let it = G.in_time_from Start start_owner start_end n limit near
@@ -137,7 +137,7 @@ module _ (Owned Sure : ℤ → ℤ → Type 0) (n k limit : ℕ) (law : Repeats 
           named = subst Named it.start.1 it.start.2.named;
           owned = subst (Owned it.start.0.owner) it.start.1 it.start.2.run.owned;
           not_before = it.not_before;
-          ends = subst (λ z. EndsBelow Owned k z (tau +ℤ pos limit)) it.start.1 ((it.start.2.run.ends (tau +ℤ pos limit)).0 it.ends);
+          ends = subst (λ z. RunEndsBelow Owned k z (tau +ℤ pos limit)) it.start.1 ((it.start.2.run.ends (tau +ℤ pos limit)).0 it.ends);
         }
 
   -- out of step, the slot after the owner isn't served
@@ -155,11 +155,11 @@ module _ (Owned Sure : ℤ → ℤ → Type 0) (n k limit : ℕ) (law : Repeats 
       let k = (b.run.ends ((r.owner +ℤ pos 1) +ℤ pos limit)).1 (earlier_ends next.start t.start ((r.owner +ℤ pos 1) +ℤ pos limit) from ((b.run.ends (next.end +ℤ pos 1)).0 (omega (arith, ints))) t.ends) in
       omega (arith, ints)
     where
-      earlier_ends : (i j e : ℤ) {f : ℤ} → i ≤ℤ j → EndsBelow Owned k i f → EndsBelow Owned k j e → EndsBelow Owned k i e
+      earlier_ends : (i j e : ℤ) {f : ℤ} → i ≤ℤ j → RunEndsBelow Owned k i f → RunEndsBelow Owned k j e → RunEndsBelow Owned k i e
       earlier_ends i j e le x y = record {
         rest = x.rest;
         run = x.run;
-        ends = let c = x.run.count in let d = y.run.count in ends_rise (IsSent Owned) i j e x.rest y.rest (omega arith) le
+        ends = let c = x.run.count in let d = y.run.count in ends_rise (IsSentAt Owned) i j e x.rest y.rest (omega arith) le
             x.run.successive y.run.successive y.ends;
       }
 
@@ -175,10 +175,10 @@ module _ (Owned Sure : ℤ → ℤ → Type 0) (n k limit : ℕ) (law : Repeats 
 
   -- the named runs of a period, and the first of the next, with none between two of them
   chain : (first : Run) (rest : List Run) → Lists start_of Named IsOne (pos 0) (pos n) (first ∷ rest) →
-      Lists start_of Named IsOne (pos 0) ((first.start +ℤ pos n) +ℤ pos 1) (first ∷ rest ++ moved (pos n) first ∷ [])
+      Lists start_of Named IsOne (pos 0) ((first.start +ℤ pos n) +ℤ pos 1) (first ∷ rest ++ moved_run (pos n) first ∷ [])
   chain first rest l =
       let a = l.1 in let b = l.2 in
-      lists_join start_of Named IsOne is_at (pos 0) (pos n) ((first.start +ℤ pos n) +ℤ pos 1) (first ∷ rest) (moved (pos n) first ∷ []) (omega (arith, ints)) (omega (arith, ints)) l (
+      lists_join start_of Named IsOne is_at (pos 0) (pos n) ((first.start +ℤ pos n) +ℤ pos 1) (first ∷ rest) (moved_run (pos n) first ∷ []) (omega (arith, ints)) (omega (arith, ints)) l (
         named_on first l.0,
         omega (arith, ints),
         omega (arith, ints),
@@ -188,8 +188,8 @@ module _ (Owned Sure : ℤ → ℤ → Type 0) (n k limit : ℕ) (law : Repeats 
 
   -- the neighbour law
   pub neighbours : (first : Run) (rest : List Run) → Lists start_of Named IsOne (pos 0) (pos n) (first ∷ rest) →
-      FollowInTime limit first (rest ++ moved (pos n) first ∷ []) ↔ ((tau : ℤ) → InTime tau)
+      FollowInTime limit first (rest ++ moved_run (pos n) first ∷ []) ↔ ((tau : ℤ) → InTime tau)
   neighbours first rest l =
       let c = chain first rest l in
       let high = (first.start +ℤ pos n) +ℤ pos 1 in
-      ((λ st. served first rest high c st), (λ all. in_step_of all (pos 0) high first (rest ++ moved (pos n) first ∷ []) c))
+      ((λ st. served first rest high c st), (λ all. in_step_of all (pos 0) high first (rest ++ moved_run (pos n) first ∷ []) c))

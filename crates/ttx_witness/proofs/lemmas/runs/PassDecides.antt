@@ -4,9 +4,9 @@ use Rattle.std.specs.List.{AllByRecursion}
 use Rattle.std.proofs.lemmas.Int.{ints}
 use Rattle.std.proofs.lemmas.List.{length-append}
 use Rattle.std.proofs.lemmas.Bool.{cases_lt}
-use Rattle.ttx_witness.specs.runs.Transmissions.{Transmission, start_of, Run, run_of, runs, moved, windows, further, extended}
+use Rattle.ttx_witness.specs.runs.Transmissions.{Transmission, start_of, Run, run_of, runs, moved_run, windows, further, extended}
 use Rattle.ttx_witness.specs.runs.Confirming.{Progress, Rising, is_next, late_after, confirmed_runs, after_runs, not_begun}
-use Rattle.ttx_witness.specs.runs.Repeating.{Lists, Successive, Repeats, IsSent, AreSent, HasSureRun, IsRunOf, IsNamedRun, IsInTime, FollowInTime}
+use Rattle.ttx_witness.specs.runs.Repeating.{Lists, Successive, Repeats, IsSentAt, AreSent, BeginsSureRun, IsRunOf, IsNamedRun, IsInTime, FollowInTime}
 use Rattle.ttx_witness.proofs.lemmas.Choices.{if_ind, cases_ltz}
 use Rattle.ttx_witness.proofs.lemmas.runs.Windows.{windows_yes, windows_no, windows_short}
 use Rattle.ttx_witness.proofs.lemmas.runs.Rounds.{extended_lists, length_further}
@@ -35,7 +35,7 @@ module _ (Owned Sure : ℤ → ℤ → Type 0) (n k : ℕ) (law : Repeats n Owne
 
   -- the slots of a period that hold a transmission each begin a run
   missing : (low high x : ℤ) (ts us : List Transmission) → length us ≡ k → AreSent Owned Sure low high ts → low ≤ℤ x → x <ℤ high →
-      HasSureRun Owned Sure (suc k) x → IsSent Owned x → AllByRecursion (IsRunOf Owned Sure (suc k)) (map run_of (windows (suc k) (ts ++ us))) →
+      BeginsSureRun Owned Sure (suc k) x → IsSentAt Owned x → AllByRecursion (IsRunOf Owned Sure (suc k)) (map run_of (windows (suc k) (ts ++ us))) →
       NoneFor x (map run_of (windows (suc k) (ts ++ us))) → ⊥
   missing low high x [] us len l a b h p all none = l x a b p
   missing low high x (t ∷ ts) us len l a b h p all none =
@@ -47,7 +47,7 @@ module _ (Owned Sure : ℤ → ℤ → Type 0) (n k : ℕ) (law : Repeats n Owne
         | inl lt ↦ l.3 x a lt p
         | inr ge ↦ elim (cases_ltz t.slot x) as (λ _. ⊥) [
           | inl gt ↦ missing (t.slot +ℤ pos 1) high x ts us len l.4 (omega (arith, ints)) b h p all'.1 none'.1
-          | inr le ↦ let e : t.slot ≡ x = omega (arith, ints) in none'.0 e (all'.0.sure.1 (subst (HasSureRun Owned Sure (suc k)) (sym e) h))
+          | inr le ↦ let e : t.slot ≡ x = omega (arith, ints) in none'.0 e (all'.0.sure.1 (subst (BeginsSureRun Owned Sure (suc k)) (sym e) h))
         ]
       ]
 
@@ -58,15 +58,15 @@ module _ (Owned Sure : ℤ → ℤ → Type 0) (n k : ℕ) (law : Repeats n Owne
       rw (windows_yes (suc k) t (ts ++ us) (omega arith)) (l.2, below_windows (t.slot +ℤ pos 1) high ts us len l.4)
 
   pub good_at : (starts : List ℕ) (next : ℕ) (rs : List Run) → Matches starts next rs → AllByRecursion (IsRunOf Owned Sure (suc k)) rs → AllByRecursion (λ r. r.start <ℤ pos n) rs →
-      (i : ℕ) → next ≤ i → i < next + length rs → (named_at starts i <ℤ pos n) × HasSureRun Owned Sure (suc k) (named_at starts i)
+      (i : ℕ) → next ≤ i → i < next + length rs → (named_at starts i <ℤ pos n) × BeginsSureRun Owned Sure (suc k) (named_at starts i)
   good_at starts next [] m a b i low high = absurd (omega arith)
-  good_at starts next (r ∷ rs) m a b i low high = elim (cases_lt next i) as (λ _. (named_at starts i <ℤ pos n) × HasSureRun Owned Sure (suc k) (named_at starts i)) [
+  good_at starts next (r ∷ rs) m a b i low high = elim (cases_lt next i) as (λ _. (named_at starts i <ℤ pos n) × BeginsSureRun Owned Sure (suc k) (named_at starts i)) [
     | inl lt ↦ good_at starts (next + 1) rs m.1 a.1 b.1 i (omega arith) (omega arith)
     | inr ge ↦
         let e : next ≡ i = omega arith in
         let q = next_is starts next r m.0 in
         let w : r.start ≡ named_at starts i = sym q.start ∙ ap (named_at starts) e in
-        (subst (λ x. x <ℤ pos n) w b.0, subst (HasSureRun Owned Sure (suc k)) w (a.0.sure.0 q.sure))
+        (subst (λ x. x <ℤ pos n) w b.0, subst (BeginsSureRun Owned Sure (suc k)) w (a.0.sure.0 q.sure))
   ]
 
   -- what the starts of the list below n name in the stream
@@ -84,15 +84,15 @@ module _ (Owned Sure : ℤ → ℤ → Type 0) (n k : ℕ) (law : Repeats n Owne
     rise = let m = extended_lists (Sent Owned Sure) (Told Owned Sure) (told_sent Owned Sure) n (told_later Owned Sure n law) (sent_earlier Owned Sure n law) k ts told in
         rises_windows (pos 0) m.0 (extended n k ts) m.2
 
-    sent_of : (x : ℤ) → HasSureRun Owned Sure (suc k) x → IsSent Owned x
+    sent_of : (x : ℤ) → BeginsSureRun Owned Sure (suc k) x → IsSentAt Owned x
     sent_of x h = first h.rest h.run.successive
       where
-        first : (rest : List ℤ) → Successive (IsSent Owned) (x ∷ rest) → IsSent Owned x
+        first : (rest : List ℤ) → Successive (IsSentAt Owned) (x ∷ rest) → IsSentAt Owned x
         first [] a = a
         first (y ∷ rest) a = a.0
 
     -- a slot of the period with a sure run is the start of a sure run of the list
-    pub not_missing : (x : ℤ) → pos 0 ≤ℤ x → x <ℤ pos n → HasSureRun Owned Sure (suc k) x → NoneFor x all_runs → ⊥
+    pub not_missing : (x : ℤ) → pos 0 ≤ℤ x → x <ℤ pos n → BeginsSureRun Owned Sure (suc k) x → NoneFor x all_runs → ⊥
     not_missing x from below h none = go ts told are none
       where
         go : (ts : List Transmission) → AreSent Owned Sure (pos 0) (pos n) ts → AllByRecursion (IsRunOf Owned Sure (suc k)) (runs n k ts) → NoneFor x (runs n k ts) → ⊥
@@ -100,7 +100,7 @@ module _ (Owned Sure : ℤ → ℤ → Type 0) (n k : ℕ) (law : Repeats n Owne
         go (t ∷ ts) l a none = missing (pos 0) (pos n) x (t ∷ ts) (further n k (t ∷ ts)) (length_further n k (t ∷ ts) (omega arith)) l from below h (sent_of x h) a none
 
     -- where the cursor stops short, its start has no sure run
-    pub stops : (at : ℕ) → at ≡ final.next → at < length starts → named_at starts at <ℤ pos n → HasSureRun Owned Sure (suc k) (named_at starts at) → ⊥
+    pub stops : (at : ℕ) → at ≡ final.next → at < length starts → named_at starts at <ℤ pos n → BeginsSureRun Owned Sure (suc k) (named_at starts at) → ⊥
     stops at is lt below h = not_missing (named_at starts at) (omega (arith, ints)) below h
         (stuck starts rising 0 (pos 0) all_runs rise (λ _. omega (arith, ints)) at (is ∙ marked_next limit starts not_begun all_runs) lt)
 
@@ -118,14 +118,14 @@ module _ (Owned Sure : ℤ → ℤ → Type 0) (n k : ℕ) (law : Repeats n Owne
     picked = confirmed_runs starts 0 all_runs
 
     -- each start before it is that of a sure run
-    pub before_stop : (i : ℕ) → i < final.next → (named_at starts i <ℤ pos n) × HasSureRun Owned Sure (suc k) (named_at starts i)
+    pub before_stop : (i : ℕ) → i < final.next → (named_at starts i <ℤ pos n) × BeginsSureRun Owned Sure (suc k) (named_at starts i)
     unfolding picked
     before_stop i lt =
         let c = marked_next limit starts not_begun all_runs in
         good_at starts 0 picked (chosen_match starts 0 all_runs) (all_chosen (IsRunOf Owned Sure (suc k)) starts 0 all_runs are) (all_chosen (λ r. r.start <ℤ pos n) starts 0 all_runs runs_below) i (omega arith) (omega arith)
 
     -- where it comes to the end, each start is that of a good run
-    pub complete : final.next ≡ length starts → (i : ℕ) → i < length starts → (named_at starts i <ℤ pos n) × HasSureRun Owned Sure (suc k) (named_at starts i)
+    pub complete : final.next ≡ length starts → (i : ℕ) → i < length starts → (named_at starts i <ℤ pos n) × BeginsSureRun Owned Sure (suc k) (named_at starts i)
     unfolding picked
     complete all i lt =
         let c = marked_next limit starts not_begun all_runs in
@@ -171,7 +171,7 @@ module _ (Owned Sure : ℤ → ℤ → Type 0) (n k : ℕ) (law : Repeats n Owne
       -- the runs of all starts follow in time exactly where every tuning slot is served
       pub follow_in_time : (g : Run) (rs : List Run) → Matches starts 0 (g ∷ rs) → length starts ≡ 0 + length (g ∷ rs) →
           AllByRecursion (IsRunOf Owned Sure (suc k)) (g ∷ rs) → AllByRecursion (λ r. r.start <ℤ pos n) (g ∷ rs) →
-          FollowInTime limit g (rs ++ moved (pos n) g ∷ []) ↔ ((tau : ℤ) → IsInTime Owned Named (suc k) limit tau)
+          FollowInTime limit g (rs ++ moved_run (pos n) g ∷ []) ↔ ((tau : ℤ) → IsInTime Owned Named (suc k) limit tau)
       follow_in_time g rs m e a b = N.neighbours Owned Sure n (suc k) limit law Named up down g rs
           (lists_from 0 (pos 0) (g ∷ rs) m (omega arith) (omega (arith, ints)) (λ i lt w. absurd (omega arith)) (λ i le w. omega (arith, ints)) a b)
 

@@ -4,14 +4,14 @@ use Rattle.std.specs.List.{AllByRecursion}
 use Rattle.std.proofs.lemmas.List.{length-map}
 use Rattle.std.proofs.lemmas.Int.{ints}
 use Rattle.ttx_witness.specs.runs.Transmissions.{Transmission, slot_of, later, extended, windows, run_of, runs, last_slot, all_sure}
-use Rattle.ttx_witness.specs.runs.Repeating.{Successive, Repeats, IsSent, IsSureSent, Tells, AreSent, IsRun, IsRunOf}
+use Rattle.ttx_witness.specs.runs.Repeating.{Successive, Repeats, IsSentAt, IsSureSent, Tells, AreSent, IsRunFrom, IsRunOf}
 use Rattle.ttx_witness.proofs.lemmas.Choices.{and_left, and_right, and_both}
 use Rattle.ttx_witness.proofs.lemmas.runs.AllBetween.{successive_same, slots, IsWindow}
 use Rattle.ttx_witness.proofs.lemmas.runs.Rounds.{extended_windows}
 
 module _ (Owned Sure : ℤ → ℤ → Type 0) where
   abbrev pub Sent : ℤ → Type 0
-  Sent = IsSent Owned
+  Sent = IsSentAt Owned
 
   abbrev pub Told : Transmission → Type 0
   Told = Tells Owned Sure
@@ -44,11 +44,11 @@ module _ (Owned Sure : ℤ → ℤ → Type 0) where
     pub window_is : (k : ℕ) (w : List Transmission) → IsWindow slot_of Sent Told told_sent (suc k) w → IsRunOf Owned Sure (suc k) (run_of w)
     window_is k [] w = let c = w.count in absurd (omega arith)
     window_is k (t ∷ ts) w =
-        let run : IsRun Owned (suc k) t.slot (slots ts) = record {
+        let run : IsRunFrom Owned (suc k) t.slot (slots ts) = record {
           count = length-map (t ∷ ts) slot_of ∙ w.count;
           successive = w.successive;
         } in
-        let same = λ (rest : List ℤ) (r : IsRun Owned (suc k) t.slot rest).
+        let same = λ (rest : List ℤ) (r : IsRunFrom Owned (suc k) t.slot rest).
         let c = r.count in let d = run.count in
         successive_same Sent t.slot rest (slots ts) (omega arith) r.successive w.successive in
         let sures = all_sure_of (t ∷ ts) w.each in

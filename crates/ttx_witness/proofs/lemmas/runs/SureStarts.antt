@@ -5,9 +5,9 @@ use Rattle.std.proofs.lemmas.List.{length-map}
 use Rattle.std.proofs.lemmas.List.Elements.{Contains-get_or, at_from_Contains}
 use Rattle.std.proofs.lemmas.Int.{ints}
 use Rattle.std.proofs.lemmas.Bool.{cases_lt}
-use Rattle.ttx_witness.specs.runs.Transmissions.{Transmission, Run, runs, moved}
+use Rattle.ttx_witness.specs.runs.Transmissions.{Transmission, Run, runs, moved_run}
 use Rattle.ttx_witness.specs.runs.Confirming.{Rising}
-use Rattle.ttx_witness.specs.runs.Repeating.{Repeats, AreSent, HasSureRun, IsRunOf, IsNamed, Covers}
+use Rattle.ttx_witness.specs.runs.Repeating.{Repeats, AreSent, BeginsSureRun, IsRunOf, IsNamed, Covers}
 use Rattle.ttx_witness.specs.runs.SureStarts.{Spread, sure_runs, sure_starts, spread_after, spread_of, above_zero, width}
 use Rattle.ttx_witness.specs.laws.RunLaws.{IsLeastLimit}
 use Rattle.ttx_witness.proofs.lemmas.Choices.{if_ind, no_both, cases_bool}
@@ -176,18 +176,18 @@ module _ (Owned Sure : ℤ → ℤ → Type 0) (n k : ℕ) (law : Repeats n Owne
   below : AllByRecursion (λ r. r.start <ℤ pos n) qs
   below = all_of (λ r. r.start <ℤ pos n) rs (D.runs_below Owned Sure n k law [] none_rise 0 ts told)
 
-  each : (i : ℕ) → i < length starts → (named_at starts i <ℤ pos n) × HasSureRun Owned Sure (suc k) (named_at starts i)
+  each : (i : ℕ) → i < length starts → (named_at starts i <ℤ pos n) × BeginsSureRun Owned Sure (suc k) (named_at starts i)
   each i lt = D.good_at Owned Sure n k law starts 0 qs matches are below i (omega arith) (let c = count in omega arith)
 
   each_below : (i : ℕ) → i < length starts → slice_index_or starts i 0 < n
   each_below i lt = let h : named_at starts i <ℤ pos n = (each i lt).0 in let g : slice_index_or starts i 0 < n = omega (arith, ints) in g
 
   -- the starts that are found are those of all sure runs of the period
-  pub found_starts : (start : ℕ) → Contains starts start ↔ ((start < n) × HasSureRun Owned Sure (suc k) (pos start))
+  pub found_starts : (start : ℕ) → Contains starts start ↔ ((start < n) × BeginsSureRun Owned Sure (suc k) (pos start))
   found_starts start = (
     (λ h. let a = at_from_Contains starts start h in
         let e : slice_index_or starts a.0 0 ≡ start = a.2 0 in
-        (subst (λ x. x < n) e (each_below a.0 a.1), subst (λ x. HasSureRun Owned Sure (suc k) (pos x)) e (each a.0 a.1).1)),
+        (subst (λ x. x < n) e (each_below a.0 a.1), subst (λ x. BeginsSureRun Owned Sure (suc k) (pos x)) e (each a.0 a.1).1)),
     (λ b. elim (found_or start (pos 0) rs (omega (arith, ints)) risen) as (λ _. Contains starts start) [
       | inl f ↦ subst (Contains starts) f.2 (Contains-get_or starts f.0 0 f.1)
       | inr none ↦ absurd (D.not_missing Owned Sure n k law [] none_rise 0 ts told (pos start) (omega (arith, ints)) (let lt = b.0 in omega (arith, ints)) b.1 none)
@@ -225,11 +225,11 @@ module _ (Owned Sure : ℤ → ℤ → Type 0) (n k : ℕ) (law : Repeats n Owne
           none_some : None ≡ Some s → ⊥
           none_some h = cc
       cases (g ∷ xs) q =
-          let z = found_closed g xs (moved (pos n) g) (subst AllSure q (all_sure rs)) in
+          let z = found_closed g xs (moved_run (pos n) g) (subst AllSure q (all_sure rs)) in
           let h : z.spread ≡ s = some_same (sym z.is ∙ ap (spread_of None) (sym q) ∙ sym (spread_sure None rs) ∙ e) in
-          let w : width n s ≡ widest g (xs ++ moved (pos n) g ∷ []) =
+          let w : width n s ≡ widest g (xs ++ moved_run (pos n) g ∷ []) =
           ap (width n) (sym h) ∙ ap (λ f. max z.spread.widest (above_zero ((f +ℤ pos n) -ℤ z.spread.previous))) z.first_is ∙ z.width_is in
-          let l = in_step_widest limit g (xs ++ moved (pos n) g ∷ []) in
+          let l = in_step_widest limit g (xs ++ moved_run (pos n) g ∷ []) in
           let f = D.follow_in_time Owned Sure n k law starts rising limit ts told (IsNamed n starts) (named_up n starts) (named_down n starts) (named_is n starts each_below) (named_in n starts)
           g xs (subst (Matches starts 0) q matches) (let c : length starts ≡ length (g ∷ xs) = sym count ∙ ap length q in omega arith) (subst (AllByRecursion (IsRunOf Owned Sure (suc k))) q are) (subst (AllByRecursion (λ r. r.start <ℤ pos n)) q below) in
           let first : Contains starts (slice_index_or starts 0 0) = Contains-get_or starts 0 0 (let c = sym count ∙ ap length q in omega arith) in (

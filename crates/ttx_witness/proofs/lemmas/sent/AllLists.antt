@@ -17,7 +17,7 @@ use Rattle.ttx_page.specs.declared.item.Item.TheVariants.{Head as TheHead, Row a
 use Rattle.ttx_witness.specs.runs.Transmissions.{Transmission}
 use Rattle.ttx_witness.specs.runs.Tracks.{AreInOrder, IsWithin}
 use Rattle.ttx_witness.specs.sent.ItemTransmissions.{PageOwner, owner_after, owner_scan, sent_at, sent_scan, sent_after}
-use Rattle.ttx_witness.specs.sent.Collected.{held, place, item_number, IsItem, ids_of, AreCollected}
+use Rattle.ttx_witness.specs.sent.Collected.{held, place_of_item, item_number, IsItem, ids_of, AreCollected}
 use Rattle.ttx_witness.specs.sent.AllSent.{AreSentAfter}
 use Rattle.ttx_witness.specs.declared.sent.collected.Collected.{Collected}
 use Rattle.ttx_witness.proofs.lemmas.sent.EntryOwners.{slot_here}
@@ -58,12 +58,12 @@ pub nothing_sent : (id : Id) (lines : ℕ) (item : Item) (s : Stream) (entry : O
 unfolding sent_scan
 nothing_sent id lines item s entry = refl
 
-pub place_below : (i : ℕ) (item : Item) (n : ℕ) → i < n → IsItem item → place i item < 26 * n
+pub place_below : (i : ℕ) (item : Item) (n : ℕ) → i < n → IsItem item → place_of_item i item < 26 * n
 place_below i TheHead n lt is = omega arith
 place_below i (TheRow r) n lt is = omega arith
 place_below i TheLinks n lt is = omega arith
 
--- the item in a place
+-- the item in a place_of_item
 item_for : (r : ℕ) → r < 26 → (item : Item) × IsItem item × (item_number item ≡ r)
 item_for r lt = elim (cases_lt 0 r) as (λ _. (item : Item) × IsItem item × (item_number item ≡ r)) [
   | inr low ↦ (TheHead, tt, (let e : 0 ≡ r = omega arith in e))
@@ -89,7 +89,7 @@ module _ (ids : List Id) (are : (i : ℕ) (id : Id) → slice_get ids i ≡ Some
         elim (slice_get_cases ids (n / 26)).1 as (λ _. Keeps (held lists n)) [
           | inl w ↦
               let r = item_for (n % 26) (mod-lt n (omega arith)) in
-              let place_is : place (n / 26) r.0 ≡ n = let e = r.2 in omega arith in
+              let place_is : place_of_item (n / 26) r.0 ≡ n = let e = r.2 in omega arith in
               let list_is : held lists n ≡ sent_after before cycle w.0 lines r.0 = ap (held lists) (sym place_is) ∙ a.each (n / 26) w.0 r.0 w.2 (are (n / 26) w.0 w.2) r.1 in
               subst Keeps (sym list_is) (each w.0 r.0)
           | inr past ↦ let p = past.0 in absurd (omega arith)
@@ -126,11 +126,11 @@ pub all_by_recursion : {A : Type 0} (P : A → Type 0) (xs : List A) → All P x
 all_by_recursion P [] h = tt
 all_by_recursion P (x ∷ xs) h = (h zero x (omega arith), all_by_recursion P xs (λ k d lt. h (suc k) d (omega arith)))
 
--- the list that is read in a place
+-- the list that is read in a place_of_item
 pub held_read : (vs : Lists) (i n : ℕ) (item : Item) (v : Vec Transmission Global) (ts : List Transmission) → ts ≡ v.items → n ≡ item_number item → IsItem item → i < length vs / 26 →
-    v ≡ get_or vs (26 * i + n) v → ts ≡ held vs (place i item)
+    v ≡ get_or vs (26 * i + n) v → ts ≡ held vs (place_of_item i item)
 held_read vs i n item v ts t e is below read =
     let p = place_below i item (i + 1) (omega arith) is in
-    let low : place i item < length vs = omega arith in
-    let read_here : v ≡ get_or vs (place i item) v = subst (λ k. v ≡ get_or vs (26 * i + k) v) e read in
-    t ∙ ap (λ x. x.items) read_here ∙ sym (held_is vs (place i item) v low)
+    let low : place_of_item i item < length vs = omega arith in
+    let read_here : v ≡ get_or vs (place_of_item i item) v = subst (λ k. v ≡ get_or vs (26 * i + k) v) e read in
+    t ∙ ap (λ x. x.items) read_here ∙ sym (held_is vs (place_of_item i item) v low)

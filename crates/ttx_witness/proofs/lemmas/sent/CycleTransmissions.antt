@@ -10,9 +10,9 @@ use Rattle.ttx_page.specs.Streams.{Stream, repeated, IsOwned, IsTransmission, Is
 use Rattle.ttx_witness.specs.runs.Transmissions.{Transmission, slot_of}
 use Rattle.ttx_witness.specs.runs.Tracks.{AreInOrder, IsWithin}
 use Rattle.ttx_witness.specs.runs.Repeating as R
-use Rattle.ttx_witness.specs.runs.Repeating.{Repeats, Successive, IsSent, IsSureSent, AreSent, Covers}
+use Rattle.ttx_witness.specs.runs.Repeating.{Repeats, Successive, IsSentAt, IsSureSent, AreSent, Covers}
 use Rattle.ttx_witness.specs.Coverage.{Certificate, limit, IsCovered}
-use Rattle.ttx_witness.specs.sent.ItemTransmissions.{sent_in, entry_of}
+use Rattle.ttx_witness.specs.sent.ItemTransmissions.{sent_in, entry_owner}
 use Rattle.ttx_witness.proofs.lemmas.runs.Coverage.{turned_once}
 use Rattle.ttx_witness.proofs.lemmas.runs.AllBetween.{lists_low, lists_high, lists_rise}
 use Rattle.ttx_witness.proofs.lemmas.sent.Periods.{repeats}
@@ -29,18 +29,18 @@ module _ (s : Stream) (page : Id) (lines repeat : ℕ) (item : Item) where
   abbrev Sure : ℤ → ℤ → Type 0
   Sure = IsSure s lines page.mag item
 
-  sent_to : (j : ℤ) → IsTransmission s page item j → IsSent Owned j
+  sent_to : (j : ℤ) → IsTransmission s page item j → IsSentAt Owned j
   sent_to j a = record { owner = a.owner; owned = a.owned }
 
-  sent_from : (j : ℤ) → IsSent Owned j → IsTransmission s page item j
+  sent_from : (j : ℤ) → IsSentAt Owned j → IsTransmission s page item j
   sent_from j a = record { owner = a.owner; owned = a.owned }
 
-  successive_to : (xs : List ℤ) → AreSuccessive s page item xs → Successive (IsSent Owned) xs
+  successive_to : (xs : List ℤ) → AreSuccessive s page item xs → Successive (IsSentAt Owned) xs
   successive_to [] a = tt
   successive_to (x ∷ []) a = sent_to x a
   successive_to (x ∷ y ∷ xs) a = (sent_to x a.0, a.1, (λ z low high p. a.2 z low high (sent_from z p)), successive_to (y ∷ xs) a.3)
 
-  successive_from : (xs : List ℤ) → Successive (IsSent Owned) xs → AreSuccessive s page item xs
+  successive_from : (xs : List ℤ) → Successive (IsSentAt Owned) xs → AreSuccessive s page item xs
   successive_from [] a = tt
   successive_from (x ∷ []) a = sent_from x a
   successive_from (x ∷ y ∷ xs) a = (sent_from x a.0, a.1, (λ z low high p. a.2 z low high (sent_to z p)), successive_from (y ∷ xs) a.3)
@@ -54,22 +54,22 @@ module _ (s : Stream) (page : Id) (lines repeat : ℕ) (item : Item) where
   sures_from (x ∷ xs) a = (record { owner = a.0.owner; owned = a.0.owned; sure = a.0.sure }, sures_from xs a.1)
 
   module _ (k : ℕ) (len : run_length repeat item ≡ k) where
-    run_to : (i : ℤ) (rest : List ℤ) → S.IsRun s page repeat item i rest → R.IsRun Owned k i rest
+    run_to : (i : ℤ) (rest : List ℤ) → S.IsRun s page repeat item i rest → R.IsRunFrom Owned k i rest
     run_to i rest r = record { count = r.count ∙ len; successive = successive_to (i ∷ rest) r.successive }
 
-    run_from : (i : ℤ) (rest : List ℤ) → R.IsRun Owned k i rest → S.IsRun s page repeat item i rest
+    run_from : (i : ℤ) (rest : List ℤ) → R.IsRunFrom Owned k i rest → S.IsRun s page repeat item i rest
     run_from i rest r = record { count = r.count ∙ sym len; successive = successive_from (i ∷ rest) r.successive }
 
-    pub sure_run_to : (i : ℤ) → S.HasSureRun s page lines repeat item i → R.HasSureRun Owned Sure k i
+    pub sure_run_to : (i : ℤ) → S.HasSureRun s page lines repeat item i → R.BeginsSureRun Owned Sure k i
     sure_run_to i h = record { rest = h.rest; run = run_to i h.rest h.run; all_sure = sures_to (i ∷ h.rest) h.all_sure }
 
-    pub sure_run_from : (i : ℤ) → R.HasSureRun Owned Sure k i → S.HasSureRun s page lines repeat item i
+    pub sure_run_from : (i : ℤ) → R.BeginsSureRun Owned Sure k i → S.HasSureRun s page lines repeat item i
     sure_run_from i h = record { rest = h.rest; run = run_from i h.rest h.run; all_sure = sures_from (i ∷ h.rest) h.all_sure }
 
-    pub ends_to : (i e : ℤ) → S.EndsBelow s page repeat item i e → R.EndsBelow Owned k i e
+    pub ends_to : (i e : ℤ) → S.EndsBelow s page repeat item i e → R.RunEndsBelow Owned k i e
     ends_to i e h = record { rest = h.rest; run = run_to i h.rest h.run; ends = h.ends }
 
-    pub ends_from : (i e : ℤ) → R.EndsBelow Owned k i e → S.EndsBelow s page repeat item i e
+    pub ends_from : (i e : ℤ) → R.RunEndsBelow Owned k i e → S.EndsBelow s page repeat item i e
     ends_from i e h = record { rest = h.rest; run = run_from i h.rest h.run; ends = h.ends }
 
 turned_same : (n : ℕ) (i : ℤ) → R.turned n i ≡ S.turned n i
@@ -82,7 +82,7 @@ module _ (cycle : List (List ℕ)) (some : 1 ≤ length cycle) (page : Id) (line
 
   -- the scan of a period lists its transmissions
   pub sent_told : AreSent (IsOwned (repeated cycle) page item) (IsSure (repeated cycle) lines page.mag item) (pos 0) (pos (length cycle)) (sent_in cycle page lines item)
-  sent_told = O.scan_told page (repeated cycle) lines item (entry_of cycle page) (O.first_entry page (repeated cycle) (length cycle) some (period_of cycle)) (length cycle)
+  sent_told = O.scan_told page (repeated cycle) lines item (entry_owner cycle page) (O.first_entry page (repeated cycle) (length cycle) some (period_of cycle)) (length cycle)
 
   -- whose numbers are small
   pub told_within : length cycle ≤ 65536 → (low : ℤ) → pos 0 ≤ℤ low → (ts : List Transmission) →

@@ -10,7 +10,7 @@ use Rattle.ttx_page.specs.Streams.{Stream, repeated, joined, heads, heads_page, 
 use Rattle.ttx_witness.specs.runs.Transmissions.{Transmission, slot_of}
 use Rattle.ttx_witness.specs.runs.Tracks.{AreInOrder, IsWithin}
 use Rattle.ttx_witness.specs.runs.Repeating.{AreSent}
-use Rattle.ttx_witness.specs.sent.ItemTransmissions.{PageOwner, tainted_by, owner_after, owner_scan, owner_moved, sent_under, sent_at, sent_scan, sent_after, entry_of}
+use Rattle.ttx_witness.specs.sent.ItemTransmissions.{PageOwner, tainted_by, owner_after, owner_scan, owner_moved, sent_under, sent_at, sent_scan, sent_after, entry_owner}
 use Rattle.ttx_witness.specs.laws.JudgingLaws.{FirstPeriodIsListed}
 use Rattle.ttx_witness.proofs.lemmas.Choices.{if_ind}
 use Rattle.ttx_witness.proofs.lemmas.runs.AllBetween.{lists_low, lists_high, lists_rise}
@@ -39,7 +39,7 @@ moved_between : (n : ℕ) (o : Option PageOwner) → IsBetween (pos 0) (pos n) o
 moved_between n None h = tt
 moved_between n (Some o) h = let a = h.0 in let b = h.1 in (omega (arith, ints), omega (arith, ints))
 
-entry_between : (before : List (List ℕ)) (page : Id) → IsBetween (pos 0 -ℤ pos (length before)) (pos 0) (entry_of before page)
+entry_between : (before : List (List ℕ)) (page : Id) → IsBetween (pos 0 -ℤ pos (length before)) (pos 0) (entry_owner before page)
 entry_between before page = moved_between (length before) (owner_scan page (repeated before) None (length before)) (scan_between page (repeated before) None (pos 0) (omega (arith, ints)) tt (length before))
 
 abbrev Within : List Transmission → Type 0
@@ -113,13 +113,13 @@ module _ (before cycle : List (List ℕ)) where
       pub after_told : 1 ≤ length before →
           AreSent (IsOwned s page item) (IsSure s lines page.mag item) (pos 0) (pos (length cycle)) (sent_after before cycle page lines item)
       after_told some =
-          subst (AreSent (IsOwned s page item) (IsSure s lines page.mag item) (pos 0) (pos (length cycle))) (same_sent (entry_of before page) (length cycle))
-          (O.scan_told page s lines item (entry_of before page) (carried (entry_of before page) (O.first_entry page (repeated before) (length before) some (period_of before))) (length cycle))
+          subst (AreSent (IsOwned s page item) (IsSure s lines page.mag item) (pos 0) (pos (length cycle))) (same_sent (entry_owner before page) (length cycle))
+          (O.scan_told page s lines item (entry_owner before page) (carried (entry_owner before page) (O.first_entry page (repeated before) (length before) some (period_of before))) (length cycle))
 
 -- the numbers are small
 pub after_within : (before cycle : List (List ℕ)) → length before ≤ 65536 → length cycle ≤ 65536 → (page : Id) (lines : ℕ) (item : Item) → Within (sent_after before cycle page lines item)
 after_within before cycle few few_new page lines item =
-    scan_within page lines item (repeated cycle) (entry_of before page) (pos 0 -ℤ pos (length before)) (omega (arith, ints)) (omega (arith, ints)) (entry_between before page) (length cycle) few_new
+    scan_within page lines item (repeated cycle) (entry_owner before page) (pos 0 -ℤ pos (length before)) (omega (arith, ints)) (omega (arith, ints)) (entry_between before page) (length cycle) few_new
 
 -- and the slots rise
 pub after_in_order : (before cycle : List (List ℕ)) → 1 ≤ length before → length cycle ≤ 65536 → (page : Id) (lines : ℕ) (item : Item) → AreInOrder (sent_after before cycle page lines item)

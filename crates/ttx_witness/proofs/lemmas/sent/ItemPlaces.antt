@@ -5,7 +5,7 @@ use Rattle.std.proofs.lemmas.Bool.Decides.{nat_tests}
 use Rattle.std.proofs.lemmas.List.{append-nil}
 use Rattle.ttx_page.specs.declared.item.Item.{Item}
 use Rattle.ttx_page.specs.declared.item.Item.TheVariants.{Head as TheHead, Row as TheRow, Links as TheLinks}
-use Rattle.ttx_witness.specs.sent.Collected.{IsItem, item_number, place}
+use Rattle.ttx_witness.specs.sent.Collected.{IsItem, item_number, place_of_item}
 use Rattle.ttx_witness.specs.sent.OneSlot.{sent_of, sends_place, placed_at}
 use Rattle.ttx_witness.specs.declared.runs.transmissions.Transmission.{Transmission}
 use Rattle.ttx_witness.specs.declared.sent.one_slot.Sent.{Sent}
@@ -22,19 +22,19 @@ bool_same true false f g = sym (f refl)
 bool_same false true f g = g refl
 bool_same false false f g = refl
 
-pub same_place : (i page number : ℕ) (item : Item) → IsItem item → number < 26 → (place i item == 26 * page + number) ≡ ((item_number item == number) && (page == i))
+pub same_place : (i page number : ℕ) (item : Item) → IsItem item → number < 26 → (place_of_item i item == 26 * page + number) ≡ ((item_number item == number) && (page == i))
 same_place i page number item is lt = bool_same _ _
     (λ e.
-    let q : place i item ≡ 26 * page + number = eqb-true _ _ e in
+    let q : place_of_item i item ≡ 26 * page + number = eqb-true _ _ e in
     let s = item_small item is in
     let a : item_number item ≡ number = omega arith in
     let b : page ≡ i = omega arith in
     rw (eq-eqb _ _ a) (eq-eqb _ _ b))
-    (λ e. elim (cases_bool (item_number item == number)) as (λ _. (place i item == 26 * page + number) ≡ true) [
+    (λ e. elim (cases_bool (item_number item == number)) as (λ _. (place_of_item i item == 26 * page + number) ≡ true) [
       | inl p ↦
           let a : item_number item ≡ number = eqb-true _ _ p in
           let b : page ≡ i = eqb-true _ _ (second (item_number item == number) (page == i) e) in
-          let r : place i item ≡ 26 * page + number = omega arith in
+          let r : place_of_item i item ≡ 26 * page + number = omega arith in
           eq-eqb _ _ r
       | inr p ↦ absurd (no_both _ (first (item_number item == number) (page == i) e) p)
     ])
@@ -48,18 +48,18 @@ same_place i page number item is lt = bool_same _ _
     first false b h = h
 
 -- a slot, by page and number
-pub placed_item : (i : ℕ) (item : Item) → IsItem item → (sent : Option Sent) → placed_at (place i item) sent ≡ sent_of i item sent
+pub placed_item : (i : ℕ) (item : Item) → IsItem item → (sent : Option Sent) → placed_at (place_of_item i item) sent ≡ sent_of i item sent
 placed_item i item is None = refl
-placed_item i item is (Some s) = elim (cases_lt s.number 26) as (λ _. placed_at (place i item) (Some s) ≡ sent_of i item (Some s)) [
+placed_item i item is (Some s) = elim (cases_lt s.number 26) as (λ _. placed_at (place_of_item i item) (Some s) ≡ sent_of i item (Some s)) [
   | inl lt ↦
       let small : nat_lt s.number 26 ≡ true = grind (arith, nat_tests) in
-      ap (λ b. if b && (place i item == 26 * s.page + s.number) then s.transmission ∷ [] else []) small
+      ap (λ b. if b && (place_of_item i item == 26 * s.page + s.number) then s.transmission ∷ [] else []) small
       ∙ ap (λ b. if b then s.transmission ∷ [] else []) (same_place i s.page s.number item is lt)
   | inr ge ↦
       let large : nat_lt s.number 26 ≡ false = grind (arith, nat_tests) in
       let h = item_small item is in
       let other : (item_number item == s.number) ≡ false = differ (item_number item) s.number (omega arith) in
-      ap (λ b. if b && (place i item == 26 * s.page + s.number) then s.transmission ∷ [] else []) large
+      ap (λ b. if b && (place_of_item i item == 26 * s.page + s.number) then s.transmission ∷ [] else []) large
       ∙ ap (λ b. if b && (s.page == i) then s.transmission ∷ [] else []) (sym other)
 ]
   where
@@ -71,14 +71,14 @@ pub one_place : (m n : ℕ) (sent : Option Sent) → sends_place m sent ≡ true
 one_place m n None e f = cc
 one_place m n (Some s) e f = eqb-true _ _ (and_right (nat_lt s.number 26) _ e) ∙ sym (eqb-true _ _ (and_right (nat_lt s.number 26) _ f))
 
--- a list that grows by what is sent, where this is the item of its place
-pub placed_added : (place n : ℕ) (s : Sent) (ts : List Transmission) → sends_place place (Some s) ≡ true → (if n == place then ts ++ s.transmission ∷ [] else ts) ≡ ts ++ placed_at n (Some s)
-placed_added place n s ts here = elim (cases_bool (n == place)) as (λ _. (if n == place then ts ++ s.transmission ∷ [] else ts) ≡ ts ++ placed_at n (Some s)) [
+-- a list that grows by what is sent, where this is the item of its place_of_item
+pub placed_added : (place_of_item n : ℕ) (s : Sent) (ts : List Transmission) → sends_place place_of_item (Some s) ≡ true → (if n == place_of_item then ts ++ s.transmission ∷ [] else ts) ≡ ts ++ placed_at n (Some s)
+placed_added place_of_item n s ts here = elim (cases_bool (n == place_of_item)) as (λ _. (if n == place_of_item then ts ++ s.transmission ∷ [] else ts) ≡ ts ++ placed_at n (Some s)) [
   | inl e ↦
-      let sends : sends_place n (Some s) ≡ true = ap (λ m. sends_place m (Some s)) (eqb-true n place e) ∙ here in
+      let sends : sends_place n (Some s) ≡ true = ap (λ m. sends_place m (Some s)) (eqb-true n place_of_item e) ∙ here in
       rw e (ap (λ b. ts ++ (if b then s.transmission ∷ [] else [])) (sym sends))
   | inr e ↦
-      let silent = never n (λ sends. no_both (n == place) (eq-eqb n place (one_place n place (Some s) sends here)) e) in
+      let silent = never n (λ sends. no_both (n == place_of_item) (eq-eqb n place_of_item (one_place n place_of_item (Some s) sends here)) e) in
       rw e (sym (append-nil ts) ∙ ap (λ b. ts ++ (if b then s.transmission ∷ [] else [])) (sym silent))
 ]
   where

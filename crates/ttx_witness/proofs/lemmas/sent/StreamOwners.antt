@@ -10,7 +10,7 @@ use Rattle.ttx_page.specs.Streams.{Stream, heads, heads_page, ends_serial, carri
 use Rattle.ttx_witness.proofs.lemmas.Choices.{no_both, cases_bool, if_ind, or_false, and_left, and_right, and_both, not_true, not_false, cases_ltz}
 use Rattle.ttx_witness.specs.runs.Transmissions.{Transmission, slot_of}
 use Rattle.ttx_witness.specs.sent.ItemTransmissions.{PageOwner, tainted_by, owner_after, owner_scan, owner_moved, sent_under, sent_at, sent_scan}
-use Rattle.ttx_witness.specs.runs.Repeating.{AreSent, Tells, IsSent}
+use Rattle.ttx_witness.specs.runs.Repeating.{AreSent, Tells, IsSentAt}
 use Rattle.ttx_witness.proofs.lemmas.runs.AllBetween.{lists_more, lists_same}
 use Rattle.ttx_witness.proofs.lemmas.runs.StreamRuns.{told_sent}
 use Rattle.ttx_witness.proofs.lemmas.sent.Periods.{latest_same, latest_moved}
@@ -172,15 +172,15 @@ module _ (page : Id) (s : Stream) where
   module _ (lines : ℕ) (item : Item) where
     -- one slot holds no transmission or the one that is told
     pub Says : ℤ → List Transmission → Type 0
-    Says j [] = IsSent (IsOwned s page item) j → ⊥
+    Says j [] = IsSentAt (IsOwned s page item) j → ⊥
     Says j (t ∷ []) = (t.slot ≡ j) × Tells (IsOwned s page item) (IsSure s lines page.mag item) t
     Says j (t ∷ u ∷ ts) = ⊥
 
     pub appended : (j : ℤ) (ts us : List Transmission) → pos 0 ≤ℤ j → Says j us → AreSent (IsOwned s page item) (IsSure s lines page.mag item) (pos 0) j ts → AreSent (IsOwned s page item) (IsSure s lines page.mag item) (pos 0) (j +ℤ pos 1) (ts ++ us)
     unfolding Says
     appended j ts [] low a l =
-        subst (λ z. AreSent (IsOwned s page item) (IsSure s lines page.mag item) (pos 0) (j +ℤ pos 1) z) (sym (append-nil ts)) (lists_same slot_of (IsSent (IsOwned s page item)) (Tells (IsOwned s page item) (IsSure s lines page.mag item)) (told_sent (IsOwned s page item) (IsSure s lines page.mag item)) (pos 0) j ts low a l)
-    appended j ts (t ∷ []) low a l = lists_more slot_of (IsSent (IsOwned s page item)) (Tells (IsOwned s page item) (IsSure s lines page.mag item)) (told_sent (IsOwned s page item) (IsSure s lines page.mag item)) (pos 0) j ts t low a.0 a.1 l
+        subst (λ z. AreSent (IsOwned s page item) (IsSure s lines page.mag item) (pos 0) (j +ℤ pos 1) z) (sym (append-nil ts)) (lists_same slot_of (IsSentAt (IsOwned s page item)) (Tells (IsOwned s page item) (IsSure s lines page.mag item)) (told_sent (IsOwned s page item) (IsSure s lines page.mag item)) (pos 0) j ts low a l)
+    appended j ts (t ∷ []) low a l = lists_more slot_of (IsSentAt (IsOwned s page item)) (Tells (IsOwned s page item) (IsSure s lines page.mag item)) (told_sent (IsOwned s page item) (IsSure s lines page.mag item)) (pos 0) j ts t low a.0 a.1 l
     appended j ts (t ∷ u ∷ us) low a l = absurd a
 
   module _ (lines r : ℕ) where

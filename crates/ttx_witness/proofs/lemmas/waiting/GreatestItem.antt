@@ -10,7 +10,7 @@ use Rattle.ttx_page.specs.declared.class.Class.{Class}
 use Rattle.ttx_witness.specs.sent.Collected.{IsItem, item_number}
 use Rattle.ttx_witness.specs.laws.CycleLaws.{SureStartsAreFound, LeastLimitIsFound}
 use Rattle.ttx_witness.specs.waiting.ItemWaits.{item_at, seen_below, least_of, IsItemWait, AreItemsTold, IsUpTo, IsGreatest}
-use Rattle.ttx_witness.specs.waiting.PageWaits.{IsLeast, CanShow, CanAccept, fields_of, IsWait}
+use Rattle.ttx_witness.specs.waiting.PageWaits.{IsLeast, CanShow, CanAccept, fields_told, IsWait}
 use Rattle.ttx_witness.specs.declared.faults.reason.Reason.{Reason}
 use Rattle.ttx_witness.specs.declared.waiting.wait.ItemWait.{ItemWait}
 use Rattle.ttx_witness.specs.declared.waiting.wait.OwnWait.{OwnWait}
@@ -91,7 +91,7 @@ module _ (turn : EachSlotTurns) (found : SureStartsAreFound) (law : LeastLimitIs
   none_of (Least own) item l never = absurd (never own l.0)
   none_of (Never losses) item l never = refl
 
-  pub page_greatest : (wait : Wait) → IsWait cycle pages p class repeat lines wait → ((reason : Reason) → wait ≡ Faulty reason → ⊥) → IsGreatest told (fields_of wait)
+  pub page_greatest : (wait : Wait) → IsWait cycle pages p class repeat lines wait → ((reason : Reason) → wait ≡ Faulty reason → ⊥) → IsGreatest told (fields_told wait)
   page_greatest (Fields d item) w right =
       let n = w.reason.here in
       let t = told_one item n.seen in

@@ -11,8 +11,8 @@ use Rattle.ttx_page.specs.declared.class.Class.{Class}
 use Rattle.ttx_witness.specs.runs.Confirming.{Rising}
 use Rattle.ttx_witness.specs.Coverage.{Certificate, IsCertificate, Accepts}
 use Rattle.ttx_witness.specs.laws.CycleLaws.{SureStartsAreFound, LeastLimitIsFound}
-use Rattle.ttx_witness.specs.finding.Finding.{wider, is_due, starts_of, limit_for, Fits, CanBeAccepted, IsLeastDeadline}
-use Rattle.ttx_witness.specs.waiting.PageWaits.{CanAccept, IsLeast, AreWaits, fields_of}
+use Rattle.ttx_witness.specs.finding.Finding.{wider, is_due, starts_of, limit_for, IsEnough, CanBeAccepted, IsLeastDeadline}
+use Rattle.ttx_witness.specs.waiting.PageWaits.{CanAccept, IsLeast, AreWaits, fields_told}
 use Rattle.ttx_witness.specs.laws.WaitLaws.{greatest, DeadlineIsGreatest}
 use Rattle.ttx_witness.specs.declared.waiting.wait.PageWait.{PageWait}
 use Rattle.ttx_witness.proofs.lemmas.Choices.{if_ind, cases_bool}
@@ -40,7 +40,7 @@ due_here class item (q ∷ pages) (suc n) p apart at = elim (cases_bool (same_id
 -- each answer that is told is at most e
 record AllTo (told : List PageWait) (e index : ℕ) (answer : PageWait) : Type 0 where
   deadline : ℕ
-  is : fields_of answer.wait ≡ Some deadline
+  is : fields_told answer.wait ≡ Some deadline
   least : deadline ≤ e
 
 record IsGreatest (told : List PageWait) (e : ℕ) : Type 0 where
@@ -64,15 +64,15 @@ greatest_to (t ∷ told) e some each =
 
 greatest_each : (told : List PageWait) (d : ℕ) → greatest told ≡ Some d → (index : ℕ) (answer : PageWait) → slice_get told index ≡ Some answer → AllTo told d index answer
 greatest_each [] d e index answer at = let h : None ≡ Some answer = at in cc
-greatest_each (t ∷ told) d e index answer at = go (λ n f i there. greatest_each told n f i answer there) (fields_of t.wait) (greatest told) refl refl e index at
+greatest_each (t ∷ told) d e index answer at = go (λ n f i there. greatest_each told n f i answer there) (fields_told t.wait) (greatest told) refl refl e index at
   where
-    go : ((n : ℕ) → greatest told ≡ Some n → (i : ℕ) → slice_get told i ≡ Some answer → AllTo told n i answer) → (a b : Option ℕ) → fields_of t.wait ≡ a → greatest told ≡ b → wider a b ≡ Some d → (index : ℕ) → slice_get (t ∷ told) index ≡ Some answer → AllTo (t ∷ told) d index answer
+    go : ((n : ℕ) → greatest told ≡ Some n → (i : ℕ) → slice_get told i ≡ Some answer → AllTo told n i answer) → (a b : Option ℕ) → fields_told t.wait ≡ a → greatest told ≡ b → wider a b ≡ Some d → (index : ℕ) → slice_get (t ∷ told) index ≡ Some answer → AllTo (t ∷ told) d index answer
     go rest None b x y h index at = let g : None ≡ Some d = h in cc
     go rest (Some m) None x y h index at = let g : None ≡ Some d = h in cc
     go rest (Some m) (Some n) x y h zero at =
         let same : t ≡ answer = cc in
         let g : max m n ≡ d = cc in
-        record { deadline = m; is = ap (λ z. fields_of z.wait) (sym same) ∙ x; least = omega arith }
+        record { deadline = m; is = ap (λ z. fields_told z.wait) (sym same) ∙ x; least = omega arith }
     go rest (Some m) (Some n) x y h (suc index) at =
         let g : max m n ≡ d = cc in
         let a = rest n y index at in
@@ -91,7 +91,7 @@ module _ (turn : EachSlotTurns) (found : SureStartsAreFound) (law : LeastLimitIs
   names_rise : (id : Id) (item : Item) → Rising (names id item)
   names_rise id item = if_ind Rising (due_among class pages id item) (starts_of cycle lines repeat id item) [] (λ due. found_rise cycle some most id lines repeat item) (λ not_due. none_rise)
 
-  fits_more : (o : Option ℕ) (a b : ℕ) → a ≤ b → Fits o a → Fits o b
+  fits_more : (o : Option ℕ) (a b : ℕ) → a ≤ b → IsEnough o a → IsEnough o b
   fits_more None a b le f = f
   fits_more (Some n) a b le f = omega arith
 
@@ -122,13 +122,13 @@ module _ (turn : EachSlotTurns) (found : SureStartsAreFound) (law : LeastLimitIs
 
   module _ (told : List PageWait) (waits : AreWaits cycle pages class repeat lines told) (w : Certificate) (is : IsCertificate w) (same_class : w.class ≡ class) (same_repeat : w.repeat ≡ repeat) (same_lines : w.lines ≡ lines) where
     -- the page of an answer
-    answered : (index : ℕ) (answer : PageWait) → slice_get told index ≡ Some answer → (p : Page) × (slice_get pages index ≡ Some p) × IsLeast (CanAccept cycle pages p class repeat lines) (fields_of answer.wait)
-    answered index answer at = elim (slice_get_cases pages index).1 as (λ _. (p : Page) × (slice_get pages index ≡ Some p) × IsLeast (CanAccept cycle pages p class repeat lines) (fields_of answer.wait)) [
+    answered : (index : ℕ) (answer : PageWait) → slice_get told index ≡ Some answer → (p : Page) × (slice_get pages index ≡ Some p) × IsLeast (CanAccept cycle pages p class repeat lines) (fields_told answer.wait)
+    answered index answer at = elim (slice_get_cases pages index).1 as (λ _. (p : Page) × (slice_get pages index ≡ Some p) × IsLeast (CanAccept cycle pages p class repeat lines) (fields_told answer.wait)) [
       | inl there ↦
           let t = waits.each index there.0 there.2 in
           let t_at = t.at in
           let same : t.answer ≡ answer = cc in
-          (there.0, there.2, subst (λ a. IsLeast (CanAccept cycle pages there.0 class repeat lines) (fields_of a.wait)) same t.wait.least)
+          (there.0, there.2, subst (λ a. IsLeast (CanAccept cycle pages there.0 class repeat lines) (fields_told a.wait)) same t.wait.least)
       | inr past ↦ absurd (let lt = slice_get_within told index answer at in let c = waits.count in let h = past.0 in omega arith)
     ]
 
@@ -139,13 +139,13 @@ module _ (turn : EachSlotTurns) (found : SureStartsAreFound) (law : LeastLimitIs
       accepts = record { steady = a.steady n p at; shows = a.covered n p at };
     }
 
-    least_to : (p : Page) (o : Option ℕ) (d index : ℕ) (answer : PageWait) → fields_of answer.wait ≡ o → IsLeast (CanAccept cycle pages p class repeat lines) o → CanAccept cycle pages p class repeat lines d → AllTo told d index answer
+    least_to : (p : Page) (o : Option ℕ) (d index : ℕ) (answer : PageWait) → fields_told answer.wait ≡ o → IsLeast (CanAccept cycle pages p class repeat lines) o → CanAccept cycle pages p class repeat lines d → AllTo told d index answer
     least_to p None d index answer e h c = absurd (h d c)
     least_to p (Some m) d index answer e h c = record { deadline = m; is = e; least = h.1 d c }
 
     -- the least deadline for all pages is at least the greatest, and at most
     each_to : (d : ℕ) → ((n : ℕ) (p : Page) → slice_get pages n ≡ Some p → CanAccept cycle pages p class repeat lines d) → (index : ℕ) (answer : PageWait) → slice_get told index ≡ Some answer → AllTo told d index answer
-    each_to d can index answer at = let a = answered index answer at in least_to a.0 (fields_of answer.wait) d index answer refl a.2 (can index a.0 a.1)
+    each_to d can index answer at = let a = answered index answer at in least_to a.0 (fields_told answer.wait) d index answer refl a.2 (can index a.0 a.1)
 
     page_some : (d : ℕ) → greatest told ≡ Some d → (n : ℕ) (p : Page) → slice_get pages n ≡ Some p → Some_ d n p
     page_some d e n p at =

@@ -9,7 +9,7 @@ use Rattle.ttx_page.specs.declared.item.Item.{Item}
 use Rattle.ttx_page.specs.declared.item.Item.TheVariants.{Head as TheHead, Row as TheRow, Links as TheLinks}
 use Rattle.ttx_page.specs.declared.class.Class.{Class}
 use Rattle.ttx_witness.specs.sent.Collected.{IsItem, item_number}
-use Rattle.ttx_witness.specs.passes.ItemProgress.{Holds}
+use Rattle.ttx_witness.specs.passes.ItemProgress.{HoldsAt}
 use Rattle.ttx_witness.specs.waiting.ItemWaits.{item_at, seen_below, IsItemWait, AreItemsTold, AreItemWaits}
 use Rattle.ttx_witness.specs.declared.waiting.wait.ItemWait.{ItemWait}
 use Rattle.ttx_witness.specs.declared.waiting.wait.OwnWait.{OwnWait}
@@ -70,7 +70,7 @@ pub page_told : (cycle : List (List ℕ)) (pages : List Page) (p : Page) (class 
     AreItemWaits cycle pages class repeat lines all → AreItemsTold cycle p class repeat lines 26 told → AreItemWaits cycle (pages ++ p ∷ []) class repeat lines (all ++ told ∷ [])
 page_told cycle pages p class repeat lines all told h t = record {
   count = length-append all (told ∷ []) ∙ ap (λ n. n + 1) h.count ∙ sym (length-append pages (p ∷ []));
-  each = λ index q at. elim (cases_lt index (length pages)) as (λ _. Holds (List ItemWait) (all ++ told ∷ []) index (AreItemsTold cycle q class repeat lines 26)) [
+  each = λ index q at. elim (cases_lt index (length pages)) as (λ _. HoldsAt (List ItemWait) (all ++ told ∷ []) index (AreItemsTold cycle q class repeat lines 26)) [
     | inl low ↦
         let o = h.each index q (sym (before_here pages (p ∷ []) index low) ∙ at) in
         record { value = o.value; here = before_here all (told ∷ []) index (let c = h.count in omega arith) ∙ o.here; is = o.is }

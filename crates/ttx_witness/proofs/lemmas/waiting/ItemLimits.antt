@@ -5,7 +5,7 @@ use Rattle.ttx_page.specs.Pages.{Page, needed}
 use Rattle.ttx_page.specs.declared.item.Item.{Item}
 use Rattle.ttx_page.specs.declared.class.Class.{Class}
 use Rattle.ttx_witness.specs.sent.Collected.{IsItem, item_number}
-use Rattle.ttx_witness.specs.waiting.ItemLimits.{IsOwn, IsBelow, AllBelow, IsFirstLongest, IsLongest}
+use Rattle.ttx_witness.specs.waiting.ItemLimits.{IsOwnDeadline, IsBelow, AllBelow, IsFirstLongest, IsLongest}
 use Rattle.ttx_witness.specs.finding.Finding.{limit_for, IsLeastField}
 use Rattle.ttx_witness.proofs.lemmas.Choices.{no_both}
 use Rattle.ttx_witness.proofs.lemmas.finding.DueItems.{item_one}
@@ -42,7 +42,7 @@ module _ (cycle : List (List ℕ)) (p : Page) (class : Class) (repeat lines : �
     pub longest_unseen : needed p item ≡ false → IsLongest cycle p class repeat lines (m + 1) deadline at
     longest_unseen unseen = record { all = below_one m (deadline + 1) item is here (λ seen. absurd (no_both (needed p item) seen unseen)) h.all; first = first_more m deadline at h.first }
 
-    module _ (own : ℕ) (seen : needed p item ≡ true) (is_own : IsOwn cycle p class repeat lines item own) where
+    module _ (own : ℕ) (seen : needed p item ≡ true) (is_own : IsOwnDeadline cycle p class repeat lines item own) where
       -- one that needs no more
       pub longest_kept : own ≤ deadline → IsLongest cycle p class repeat lines (m + 1) deadline at
       longest_kept le = record {
@@ -63,5 +63,5 @@ module _ (cycle : List (List ℕ)) (p : Page) (class : Class) (repeat lines : �
       }
 
 pub own_field : (cycle : List (List ℕ)) (p : Page) (class : Class) (repeat lines : ℕ) (item : Item) (least : Option ℕ) (slots own : ℕ) →
-    least ≡ limit_for cycle class lines repeat p item → least ≡ Some slots → IsLeastField slots lines (Some own) → IsOwn cycle p class repeat lines item own
+    least ≡ limit_for cycle class lines repeat p item → least ≡ Some slots → IsLeastField slots lines (Some own) → IsOwnDeadline cycle p class repeat lines item own
 own_field cycle p class repeat lines item least slots own is some_slots h = record { limit = slots; is = sym is ∙ some_slots; least = h }

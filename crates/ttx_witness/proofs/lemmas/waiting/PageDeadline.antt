@@ -23,9 +23,9 @@ use Rattle.ttx_witness.specs.sent.ItemTransmissions.{sent_in}
 use Rattle.ttx_witness.specs.Coverage.{Certificate, limit, IsSureStart, IsCovered}
 use Rattle.ttx_witness.specs.laws.CycleLaws.{found_starts, SureStartsAreFound, LeastLimitIsFound}
 use Rattle.ttx_witness.specs.faults.Faults.{IsPageFault, SteadyHasNoFault}
-use Rattle.ttx_witness.specs.finding.Finding.{is_due, starts_of, starts_for, spread_at, limit_of, least_limit, limit_for, Fits}
-use Rattle.ttx_witness.specs.waiting.PageWaits.{IsFor, IsLeast, Shows, CanShow, CanAccept, Needs, HasNoSureStart, IsWait, IsTold, AreWaits}
-use Rattle.ttx_witness.specs.waiting.ItemLimits.{IsOwn, IsBelow, IsFirstLongest, IsLongest, IsByLimits}
+use Rattle.ttx_witness.specs.finding.Finding.{is_due, starts_of, starts_for, spread_at, limit_of, least_limit, limit_for, IsEnough}
+use Rattle.ttx_witness.specs.waiting.PageWaits.{IsFor, IsLeast, ShowsItem, CanShow, CanAccept, Needs, HasNoSureStart, IsWait, IsPageTold, AreWaits}
+use Rattle.ttx_witness.specs.waiting.ItemLimits.{IsOwnDeadline, IsBelow, IsFirstLongest, IsLongest, IsByLimits}
 use Rattle.ttx_witness.specs.declared.faults.reason.Reason.{Reason}
 use Rattle.ttx_witness.specs.declared.waiting.wait.Losses.{Losses}
 use Rattle.ttx_witness.specs.declared.waiting.wait.Wait.{Wait}
@@ -106,40 +106,40 @@ accepted_shows cycle p class repeat lines pages e c item seen = record { w = c.w
 module _ (turn : EachSlotTurns) (found : SureStartsAreFound) (law : LeastLimitIsFound) (cycle : List (List ℕ)) (some : 1 ≤ length cycle) (most : length cycle ≤ 65536) (p : Page)
     (tested : (item : Item) → needed p item ≡ true → is_blank p item ≡ true ↔ IsBlank p item) where
   -- what a certificate shows it shows within its limit
-  covered_fits : (v : Certificate) → 1 ≤ v.repeat → (item : Item) → IsCovered cycle p v item → Fits (least_limit cycle v.lines v.repeat p.id item) (limit v)
+  covered_fits : (v : Certificate) → 1 ≤ v.repeat → (item : Item) → IsCovered cycle p v item → IsEnough (least_limit cycle v.lines v.repeat p.id item) (limit v)
   covered_fits v repeats item c = go (spread_at cycle v.lines v.repeat p.id item) refl
     where
-      go : (sp : Option Spread) → spread_at cycle v.lines v.repeat p.id item ≡ sp → Fits (limit_of (length cycle) sp) (limit v)
+      go : (sp : Option Spread) → spread_at cycle v.lines v.repeat p.id item ≡ sp → IsEnough (limit_of (length cycle) sp) (limit v)
       go None e = absurd ((law cycle some p v item (run_length v.repeat item - 1) (run_some v.repeat item repeats)).0 e c)
       go (Some s) e = ((law cycle some p v item (run_length v.repeat item - 1) (run_some v.repeat item repeats)).1 s e).0 c
 
-  shown_next : (v : Certificate) (item : Item) → Shows cycle p v item → (tau : ℤ) → Next cycle p (limit v) tau
+  shown_next : (v : Certificate) (item : Item) → ShowsItem cycle p v item → (tau : ℤ) → Next cycle p (limit v) tau
   shown_next v item (inl c) = next_covered cycle p v item c
   shown_next v item (inr l) = l.in_time
 
-  shown_covered : (v : Certificate) (item : Item) → is_due v.class p item ≡ true → Shows cycle p v item → IsCovered cycle p v item
+  shown_covered : (v : Certificate) (item : Item) → is_due v.class p item ≡ true → ShowsItem cycle p v item → IsCovered cycle p v item
   shown_covered v item due (inl c) = c
   shown_covered v item due (inr l) = absurd (no_both (is_blank p item) ((tested item (due_needed v.class p item due)).1 l.blank) (due_not_blank v.class p item l.clearing due))
 
-  shown_fits : (v : Certificate) → 1 ≤ v.repeat → (item : Item) → Shows cycle p v item → Fits (limit_for cycle v.class v.lines v.repeat p item) (limit v)
-  shown_fits v repeats item shows = if_ind (λ o. Fits o (limit v)) (is_due v.class p item) (least_limit cycle v.lines v.repeat p.id item) (least_limit cycle v.lines 1 p.id TheHead)
+  shown_fits : (v : Certificate) → 1 ≤ v.repeat → (item : Item) → ShowsItem cycle p v item → IsEnough (limit_for cycle v.class v.lines v.repeat p item) (limit v)
+  shown_fits v repeats item shows = if_ind (λ o. IsEnough o (limit v)) (is_due v.class p item) (least_limit cycle v.lines v.repeat p.id item) (least_limit cycle v.lines 1 p.id TheHead)
       (λ due. covered_fits v repeats item (shown_covered v item due shows))
       (λ not_due. (next_fits turn found law cycle some p v.lines v.deadline (spread_at cycle v.lines 1 p.id TheHead) refl).0 (shown_next v item shows))
 
   module _ (class : Class) (repeat lines : ℕ) where
-    pub can_fits : (item : Item) (e : ℕ) → CanShow cycle p class repeat lines item e → Fits (limit_for cycle class lines repeat p item) (e * lines)
+    pub can_fits : (item : Item) (e : ℕ) → CanShow cycle p class repeat lines item e → IsEnough (limit_for cycle class lines repeat p item) (e * lines)
     can_fits item e c =
-        subst (λ x. Fits (limit_for cycle x lines repeat p item) (e * lines)) c.is.same_class
-        (subst (λ x. Fits (limit_for cycle c.w.class lines x p item) (e * lines)) c.is.same_repeat
-        (subst (λ x. Fits (limit_for cycle c.w.class x c.w.repeat p item) (e * x)) c.is.same_lines
-        (subst (λ x. Fits (limit_for cycle c.w.class c.w.lines c.w.repeat p item) (x * c.w.lines)) c.is.same_deadline (shown_fits c.w c.is.is.some_repeats item c.shows))))
+        subst (λ x. IsEnough (limit_for cycle x lines repeat p item) (e * lines)) c.is.same_class
+        (subst (λ x. IsEnough (limit_for cycle c.w.class lines x p item) (e * lines)) c.is.same_repeat
+        (subst (λ x. IsEnough (limit_for cycle c.w.class x c.w.repeat p item) (e * x)) c.is.same_lines
+        (subst (λ x. IsEnough (limit_for cycle c.w.class c.w.lines c.w.repeat p item) (x * c.w.lines)) c.is.same_deadline (shown_fits c.w c.is.is.some_repeats item c.shows))))
 
     -- with a limit that is enough, a certificate that names each start of a sure run shows an item
     pub named_shows : 1 ≤ repeat → (names : Id → Item → List ℕ) → ((item : Item) → names p.id item ≡ starts_for cycle class lines repeat p item) → (item : Item) → needed p item ≡ true → (d : ℕ) →
-        Fits (limit_for cycle class lines repeat p item) (d * lines) → Shows cycle p (record { lines = lines; repeat = repeat; deadline = d; class = class; starts = names }) item
-    named_shows repeats names named item seen d fits = elim (cases_bool (is_due class p item)) as (λ _. Shows cycle p (record { lines = lines; repeat = repeat; deadline = d; class = class; starts = names }) item) [
+        IsEnough (limit_for cycle class lines repeat p item) (d * lines) → ShowsItem cycle p (record { lines = lines; repeat = repeat; deadline = d; class = class; starts = names }) item
+    named_shows repeats names named item seen d fits = elim (cases_bool (is_due class p item)) as (λ _. ShowsItem cycle p (record { lines = lines; repeat = repeat; deadline = d; class = class; starts = names }) item) [
       | inl due ↦ inl (due_shows due (spread_at cycle lines repeat p.id item) refl
-          (subst (λ x. Fits x (d * lines)) (if_true (is_due class p item) (least_limit cycle lines repeat p.id item) (least_limit cycle lines 1 p.id TheHead) due) fits))
+          (subst (λ x. IsEnough x (d * lines)) (if_true (is_due class p item) (least_limit cycle lines repeat p.id item) (least_limit cycle lines 1 p.id TheHead) due) fits))
       | inr not_due ↦
           let left = not_due_is class p item seen not_due in
           inr (record {
@@ -147,11 +147,11 @@ module _ (turn : EachSlotTurns) (found : SureStartsAreFound) (law : LeastLimitIs
             blank = (tested item seen).0 left.1;
             no_line = named item ∙ if_false (is_due class p item) (starts_of cycle lines repeat p.id item) [] not_due;
             in_time = (next_fits turn found law cycle some p lines d (spread_at cycle lines 1 p.id TheHead) refl).1
-                (subst (λ x. Fits x (d * lines)) (if_false (is_due class p item) (least_limit cycle lines repeat p.id item) (least_limit cycle lines 1 p.id TheHead) not_due) fits);
+                (subst (λ x. IsEnough x (d * lines)) (if_false (is_due class p item) (least_limit cycle lines repeat p.id item) (least_limit cycle lines 1 p.id TheHead) not_due) fits);
           })
     ]
       where
-        due_shows : is_due class p item ≡ true → (sp : Option Spread) → spread_at cycle lines repeat p.id item ≡ sp → Fits (limit_of (length cycle) sp) (d * lines) →
+        due_shows : is_due class p item ≡ true → (sp : Option Spread) → spread_at cycle lines repeat p.id item ≡ sp → IsEnough (limit_of (length cycle) sp) (d * lines) →
             IsCovered cycle p (record { lines = lines; repeat = repeat; deadline = d; class = class; starts = names }) item
         due_shows due None e f = absurd f
         due_shows due (Some s) e f = ((law cycle some p (record { lines = lines; repeat = repeat; deadline = d; class = class; starts = names }) item (run_length repeat item - 1) (run_some repeat item repeats)).1 s e).1
@@ -174,24 +174,24 @@ module _ (turn : EachSlotTurns) (found : SureStartsAreFound) (law : LeastLimitIs
         same_deadline = refl;
       }
 
-      full_shows : (item : Item) → needed p item ≡ true → (d : ℕ) → Fits (limit_for cycle class lines repeat p item) (d * lines) → Shows cycle p (full d) item
+      full_shows : (item : Item) → needed p item ≡ true → (d : ℕ) → IsEnough (limit_for cycle class lines repeat p item) (d * lines) → ShowsItem cycle p (full d) item
       full_shows = named_shows repeats (λ id item. starts_for cycle class lines repeat p item) (λ item. refl)
 
       -- an item's own least deadline is the least with which a certificate shows it
-      own_fits : (item : Item) (d e : ℕ) → IsOwn cycle p class repeat lines item d → d ≤ e → Fits (limit_for cycle class lines repeat p item) (e * lines)
-      own_fits item d e own le = subst (λ o. Fits o (e * lines)) (sym own.is) (let a = own.least.2 in let b = longer d e lines le in omega arith)
+      own_fits : (item : Item) (d e : ℕ) → IsOwnDeadline cycle p class repeat lines item d → d ≤ e → IsEnough (limit_for cycle class lines repeat p item) (e * lines)
+      own_fits item d e own le = subst (λ o. IsEnough o (e * lines)) (sym own.is) (let a = own.least.2 in let b = longer d e lines le in omega arith)
 
-      own_shows : (item : Item) → needed p item ≡ true → (d : ℕ) → IsOwn cycle p class repeat lines item d → CanShow cycle p class repeat lines item d
+      own_shows : (item : Item) → needed p item ≡ true → (d : ℕ) → IsOwnDeadline cycle p class repeat lines item d → CanShow cycle p class repeat lines item d
       own_shows item seen d own = record { w = full d; is = full_is d own.least.0 own.least.1; shows = full_shows item seen d (own_fits item d d own (omega arith)) }
 
-      own_least : (item : Item) (d : ℕ) → IsOwn cycle p class repeat lines item d → (e : ℕ) → CanShow cycle p class repeat lines item e → d ≤ e
-      own_least item d own e c = own.least.3 e (subst (λ x. 1 ≤ x) c.is.same_deadline c.is.is.some_fields) (subst (λ o. Fits o (e * lines)) own.is (can_fits item e c))
+      own_least : (item : Item) (d : ℕ) → IsOwnDeadline cycle p class repeat lines item d → (e : ℕ) → CanShow cycle p class repeat lines item e → d ≤ e
+      own_least item d own e c = own.least.3 e (subst (λ x. 1 ≤ x) c.is.same_deadline c.is.is.some_fields) (subst (λ o. IsEnough o (e * lines)) own.is (can_fits item e c))
 
-      pub item_least : (item : Item) → needed p item ≡ true → (d : ℕ) → IsOwn cycle p class repeat lines item d → IsLeast (CanShow cycle p class repeat lines item) (Some d)
+      pub item_least : (item : Item) → needed p item ≡ true → (d : ℕ) → IsOwnDeadline cycle p class repeat lines item d → IsLeast (CanShow cycle p class repeat lines item) (Some d)
       item_least item seen d own = (own_shows item seen d own, own_least item d own)
 
       pub item_never : (item : Item) → limit_for cycle class lines repeat p item ≡ None → IsLeast (CanShow cycle p class repeat lines item) None
-      item_never item e = λ d c. subst (λ o. Fits o (d * lines)) e (can_fits item d c)
+      item_never item e = λ d c. subst (λ o. IsEnough o (d * lines)) e (can_fits item d c)
 
       -- an item that is due and has no sure start has no limit
       pub no_start_never : (item : Item) → HasNoSureStart cycle p class repeat lines item → IsLeast (CanShow cycle p class repeat lines item) None
@@ -203,7 +203,7 @@ module _ (turn : EachSlotTurns) (found : SureStartsAreFound) (law : LeastLimitIs
         wait_fields : (d : ℕ) (item : Item) → IsLongest cycle p class repeat lines 26 d item → IsWait cycle pages p class repeat lines (Fields d item)
         wait_fields d item h = go h.first
           where
-            below_shows : (other : Item) → needed p other ≡ true → IsBelow cycle p class repeat lines other (d + 1) → 1 ≤ d → d ≤ 1000000 → Shows cycle p (full d) other
+            below_shows : (other : Item) → needed p other ≡ true → IsBelow cycle p class repeat lines other (d + 1) → 1 ≤ d → d ≤ 1000000 → ShowsItem cycle p (full d) other
             below_shows other seen b low high = full_shows other seen d (own_fits other b.deadline d b.own (let lt = b.below in omega arith))
 
             smaller : (other : Item) → IsBelow cycle p class repeat lines other d → Needs cycle p class repeat lines d other → ⊥
@@ -256,7 +256,7 @@ module _ (turn : EachSlotTurns) (found : SureStartsAreFound) (law : LeastLimitIs
 
         wait_unsure : (item : Item) (losses : Losses) → IsByLimits cycle p class repeat lines (Unsure item losses) → IsWait cycle pages p class repeat lines (Unsure item losses)
         wait_unsure item losses h = record {
-          least = none_accepts item h.0 (λ e c. subst (λ o. Fits o (e * lines)) h.1 (can_fits item e c));
+          least = none_accepts item h.0 (λ e c. subst (λ o. IsEnough o (e * lines)) h.1 (can_fits item e c));
           reason = (
             steady,
             record {
@@ -286,7 +286,7 @@ wait_faulty law cycle pages p class repeat lines reason fault = record {
 -- what is told of the first m pages
 pub record AreTold (cycle : List (List ℕ)) (pages : List PageValue) (class : Class) (repeat lines m : ℕ) (told : List PageWait) : Type 0 where
   pub count : length told ≡ m
-  pub each : (index : ℕ) (p : Page) → index < m → slice_get (map page_of pages) index ≡ Some p → IsTold cycle (map page_of pages) class repeat lines index p told
+  pub each : (index : ℕ) (p : Page) → index < m → slice_get (map page_of pages) index ≡ Some p → IsPageTold cycle (map page_of pages) class repeat lines index p told
 
 pub none_told : (cycle : List (List ℕ)) (pages : List PageValue) (class : Class) (repeat lines : ℕ) → AreTold cycle pages class repeat lines 0 []
 none_told cycle pages class repeat lines = record { count = refl; each = λ index p lt. absurd (omega arith) }
@@ -295,7 +295,7 @@ pub one_told : (cycle : List (List ℕ)) (pages : List PageValue) (class : Class
     answer.page ≡ p.id → IsWait cycle (map page_of pages) p class repeat lines answer.wait → AreTold cycle pages class repeat lines m told → AreTold cycle pages class repeat lines (m + 1) (told ++ answer ∷ [])
 one_told cycle pages class repeat lines m told answer p at page wait h = record {
   count = let l = length-append told (answer ∷ []) in let k = h.count in omega arith;
-  each = λ index q lt there. elim (cases_lt index m) as (λ _. IsTold cycle (map page_of pages) class repeat lines index q (told ++ answer ∷ [])) [
+  each = λ index q lt there. elim (cases_lt index m) as (λ _. IsPageTold cycle (map page_of pages) class repeat lines index q (told ++ answer ∷ [])) [
     | inl low ↦ let t = h.each index q low there in record { answer = t.answer; at = before_here told (answer ∷ []) index (let k = h.count in omega arith) ∙ t.at; page = t.page; wait = t.wait }
     | inr high ↦
         let same : index ≡ m = omega arith in

@@ -1,7 +1,7 @@
 -- What is told of the page of a survey at an index, as of the page in the list.
 use Rattle.std.proofs.Common.{◌≡◌, ℕ, Some, slice_get, List, subst}
 use Rattle.ttx_page.specs.Pages.{Page}
-use Rattle.ttx_witness.specs.finding.Surveys.{slots_in, pages_in, page_in, AreOthersIn}
+use Rattle.ttx_witness.specs.finding.Surveys.{survey_slots, survey_pages, surveyed_page, AreOthersIn}
 use Rattle.ttx_witness.specs.waiting.PageWaits.{IsWait}
 use Rattle.ttx_witness.specs.waiting.ItemWaits.{AreItemsTold}
 use Rattle.ttx_witness.specs.waiting.SurveyedWaits.{IsWaitIn, AreItemsToldIn}
@@ -13,18 +13,18 @@ use Rattle.ttx_witness.specs.declared.waiting.wait.Wait.{Wait}
 use Rattle.ttx_witness.proofs.lemmas.finding.Surveys.{surveyed_here}
 
 -- the page is the one in the list
-same_page : (survey : Survey) (index : ℕ) (p : SurveyedPage) → p.survey.now ≡ survey → p.index ≡ index → (q : Page) → slice_get (pages_in survey) index ≡ Some q → page_in p ≡ q
+same_page : (survey : Survey) (index : ℕ) (p : SurveyedPage) → p.survey.now ≡ survey → p.index ≡ index → (q : Page) → slice_get (survey_pages survey) index ≡ Some q → surveyed_page p ≡ q
 same_page survey index p of is q at = let here = surveyed_here survey index p of is in cc
 
-pub wait_here : (survey : Survey) (index : ℕ) (p : SurveyedPage) → p.survey.now ≡ survey → p.index ≡ index → (q : Page) → slice_get (pages_in survey) index ≡ Some q →
+pub wait_here : (survey : Survey) (index : ℕ) (p : SurveyedPage) → p.survey.now ≡ survey → p.index ≡ index → (q : Page) → slice_get (survey_pages survey) index ≡ Some q →
     (others : OtherSubpages) (wait : Wait) → (AreOthersIn p.survey.now others → IsWaitIn p wait) → AreOthersIn survey others →
-    IsWait (slots_in survey) (pages_in survey) q survey.class survey.repeat survey.lines wait
+    IsWait (survey_slots survey) (survey_pages survey) q survey.class survey.repeat survey.lines wait
 wait_here survey index p of is q at others wait tells known =
-    subst (λ x. IsWait (slots_in survey) (pages_in survey) x survey.class survey.repeat survey.lines wait) (same_page survey index p of is q at)
-    (subst (λ v. AreOthersIn v others → IsWait (slots_in v) (pages_in v) (page_in p) v.class v.repeat v.lines wait) of tells known)
+    subst (λ x. IsWait (survey_slots survey) (survey_pages survey) x survey.class survey.repeat survey.lines wait) (same_page survey index p of is q at)
+    (subst (λ v. AreOthersIn v others → IsWait (survey_slots v) (survey_pages v) (surveyed_page p) v.class v.repeat v.lines wait) of tells known)
 
-pub items_here : (survey : Survey) (index : ℕ) (p : SurveyedPage) → p.survey.now ≡ survey → p.index ≡ index → (q : Page) → slice_get (pages_in survey) index ≡ Some q →
-    (n : ℕ) (told : List ItemWait) → AreItemsToldIn p n told → AreItemsTold (slots_in survey) q survey.class survey.repeat survey.lines n told
+pub items_here : (survey : Survey) (index : ℕ) (p : SurveyedPage) → p.survey.now ≡ survey → p.index ≡ index → (q : Page) → slice_get (survey_pages survey) index ≡ Some q →
+    (n : ℕ) (told : List ItemWait) → AreItemsToldIn p n told → AreItemsTold (survey_slots survey) q survey.class survey.repeat survey.lines n told
 items_here survey index p of is q at n told tells =
-    subst (λ x. AreItemsTold (slots_in survey) x survey.class survey.repeat survey.lines n told) (same_page survey index p of is q at)
-    (subst (λ v. AreItemsTold (slots_in v) (page_in p) v.class v.repeat v.lines n told) of tells)
+    subst (λ x. AreItemsTold (survey_slots survey) x survey.class survey.repeat survey.lines n told) (same_page survey index p of is q at)
+    (subst (λ v. AreItemsTold (survey_slots v) (surveyed_page p) v.class v.repeat v.lines n told) of tells)

@@ -2,7 +2,7 @@ use Rattle.std.proofs.Common.{pos, [], slice_index_or, sym, ap, ◌∙◌, subst
 use Rattle.ttx_page.specs.Packets.{packet_of}
 use Rattle.ttx_page.specs.Streams.{repeated}
 use Rattle.ttx_page.specs.Views.{page_of}
-use Rattle.ttx_witness.specs.sent.ItemTransmissions.{owner_scan, entry_of}
+use Rattle.ttx_witness.specs.sent.ItemTransmissions.{owner_scan, entry_owner}
 use Rattle.ttx_witness.specs.faults.Comparing.{is_mine, mine_after, WrongAt}
 use Rattle.ttx_witness.specs.faults.Faults.{Never, IsFirstAt}
 use Rattle.ttx_witness.proofs.lemmas.Choices.{no_both}
@@ -12,7 +12,7 @@ use Rattle.ttx_witness.proofs.faults.page_faults.first_wrong.Goals as goal
 pub loop-j-init : goal.loop-j-init
 unfolding owner_scan
 loop-j-init c = record {
-  mine = c.requires ∙ ap (λ x. is_mine (entry_of x (page_of c.args.page.now).id)) (sym c.slots-slots.ensures.slots);
+  mine = c.requires ∙ ap (λ x. is_mine (entry_owner x (page_of c.args.page.now).id)) (sym c.slots-slots.ensures.slots);
   none = λ i lt w. absurd (omega arith);
 }
 
@@ -35,7 +35,7 @@ loop-j-preserved c =
           ∙ ap (λ page. mine_after page (packet_of (slice_index_or x c.loop-j.j [])) c.loop-j.mine) c.id.ensures
           ∙ ap (λ y. mine_after p.id (packet_of y) c.loop-j.mine) (sym (slot_is x c.loop-j.j c.loop-j-test.true))
           ∙ ap (λ m. mine_after p.id (packet_of (repeated x (pos c.loop-j.j))) m) c.loop-j.invariant.mine
-          ∙ mine_scan p.id (repeated x) (entry_of x p.id) c.loop-j.j;
+          ∙ mine_scan p.id (repeated x) (entry_owner x p.id) c.loop-j.j;
       none = one_more (λ i. WrongAt (repeated x) p c.args.check.now (pos i)) c.loop-j.j c.loop-j.invariant.none
           (λ w. no_both _ (c.differs.ensures.1 ((wrong_is x c.slots-slots.ensures.cycle.some p c.args.check.now c.loop-j.j c.loop-j-test.true c.loop-j.mine c.loop-j.invariant.mine).1 w)) c.if-differs.false);
     }

@@ -1,12 +1,12 @@
 use Rattle.std.proofs.Common.{◌≡◌, ◌+◌, ◌*◌, length, Some, sym, subst, arith}
-use Rattle.ttx_witness.specs.finding.Surveys.{slots_in, pages_in, AreNamedIn}
+use Rattle.ttx_witness.specs.finding.Surveys.{survey_slots, survey_pages, AreNamedIn}
 use Rattle.ttx_witness.proofs.lemmas.finding.LeastDeadline.{none_named}
 use Rattle.ttx_witness.proofs.finding.certificates.name_pages.Goals as goal
 
 pub loop-index-init : goal.loop-index-init
 loop-index-init c = record {
   named = subst (λ es. AreNamedIn c.args.survey.now 0 es (Some 0)) (sym c.requires.none)
-      (let v = c.args.survey.now in none_named (slots_in v) (pages_in v) v.class v.lines v.repeat);
+      (let v = c.args.survey.now in none_named (survey_slots v) (survey_pages v) v.class v.lines v.repeat);
 }
 
 pub loop-index-preserved : goal.loop-index-preserved

@@ -2,7 +2,7 @@ use Rattle.std.proofs.Common.{rules, ◌≡◌, ◌∙◌, [], true, false, sym,
 use Rattle.std.proofs.lemmas.Result.{IfOk-weaker, on_ok_weaker}
 use Rattle.ttx_page.specs.declared.item.Item.TheVariants.{Head as TheHead}
 use Rattle.ttx_witness.specs.finding.Finding.{is_due, AddsEntry}
-use Rattle.ttx_witness.specs.finding.Surveys.{page_in, starts_in, least_in}
+use Rattle.ttx_witness.specs.finding.Surveys.{surveyed_page, surveyed_starts, surveyed_least}
 use Rattle.ttx_witness.proofs.lemmas.finding.LeastDeadline.{if_true, if_false}
 use Rattle.ttx_witness.proofs.finding.naming.name_seen.Goals as goal
 
@@ -10,23 +10,23 @@ pub returns-then-not-is_due-clause-least : goal.returns-then-not-is_due-clause-l
 returns-then-not-is_due-clause-least c =
     let s = c.args.surveyed.now in
     let item = c.args.item.now in
-    let due : is_due s.survey.now.class (page_in s) item ≡ false = search rules in
+    let due : is_due s.survey.now.class (surveyed_page s) item ≡ false = search rules in
     IfOk-weaker c.header_limit.result _ _ (λ least tells.
-    tells ∙ sym (if_false (is_due s.survey.now.class (page_in s) item) (least_in s s.survey.now.repeat item) (least_in s 1 TheHead) due)) c.header_limit.ensures.least
+    tells ∙ sym (if_false (is_due s.survey.now.class (surveyed_page s) item) (surveyed_least s s.survey.now.repeat item) (surveyed_least s 1 TheHead) due)) c.header_limit.ensures.least
 
 pub returns-clause-entries : goal.returns-clause-entries
 returns-clause-entries c =
     let s = c.args.surveyed.now in
     let item = c.args.item.now in
-    let due : is_due s.survey.now.class (page_in s) item ≡ true = search rules in
+    let due : is_due s.survey.now.class (surveyed_page s) item ≡ true = search rules in
     on_ok_weaker c.name_item.result (λ tells.
-    subst (AddsEntry c.args.entries.now.items c.name_item.new.entries.items (page_in s).id item)
-    (sym (if_true (is_due s.survey.now.class (page_in s) item) (starts_in s s.survey.now.repeat item) [] due)) tells) c.name_item.ensures.entries
+    subst (AddsEntry c.args.entries.now.items c.name_item.new.entries.items (surveyed_page s).id item)
+    (sym (if_true (is_due s.survey.now.class (surveyed_page s) item) (surveyed_starts s s.survey.now.repeat item) [] due)) tells) c.name_item.ensures.entries
 
 pub returns-clause-least : goal.returns-clause-least
 returns-clause-least c =
     let s = c.args.surveyed.now in
     let item = c.args.item.now in
-    let due : is_due s.survey.now.class (page_in s) item ≡ true = search rules in
+    let due : is_due s.survey.now.class (surveyed_page s) item ≡ true = search rules in
     IfOk-weaker c.name_item.result _ _ (λ least tells.
-    tells ∙ sym (if_true (is_due s.survey.now.class (page_in s) item) (least_in s s.survey.now.repeat item) (least_in s 1 TheHead) due)) c.name_item.ensures.least
+    tells ∙ sym (if_true (is_due s.survey.now.class (surveyed_page s) item) (surveyed_least s s.survey.now.repeat item) (surveyed_least s 1 TheHead) due)) c.name_item.ensures.least

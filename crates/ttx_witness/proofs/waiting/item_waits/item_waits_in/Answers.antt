@@ -1,6 +1,6 @@
 use Rattle.std.proofs.Common.{rules, ◌≡◌, ◌++◌, ◌∷◌, [], map, take, sym, ap, ◌∙◌, subst}
 use Rattle.std.proofs.lemmas.List.{map-append}
-use Rattle.ttx_witness.specs.finding.Surveys.{slots_in, pages_in, page_in}
+use Rattle.ttx_witness.specs.finding.Surveys.{survey_slots, survey_pages, surveyed_page}
 use Rattle.ttx_witness.specs.waiting.ItemWaits.{AreItemWaits}
 use Rattle.ttx_witness.proofs.lemmas.finding.Surveys.{surveyed_here}
 use Rattle.ttx_witness.proofs.lemmas.waiting.ItemByItem.{take_next, page_told}
@@ -16,9 +16,9 @@ loop-index-preserved c =
     let told = c.in_ok-told.told in
     let pushed : c.push.new.self.items ≡ c.loop-index.all.items ++ told ∷ [] = search rules in
     record {
-      told = subst (λ xs. AreItemWaits (slots_in v) xs v.class v.repeat v.lines (map (λ told. told.items) c.push.new.self.items)) (take_next (pages_in v) index (page_in s) at)
-          (subst (AreItemWaits (slots_in v) (take index (pages_in v) ++ page_in s ∷ []) v.class v.repeat v.lines)
+      told = subst (λ xs. AreItemWaits (survey_slots v) xs v.class v.repeat v.lines (map (λ told. told.items) c.push.new.self.items)) (take_next (survey_pages v) index (surveyed_page s) at)
+          (subst (AreItemWaits (survey_slots v) (take index (survey_pages v) ++ surveyed_page s ∷ []) v.class v.repeat v.lines)
           (sym (ap (map (λ told. told.items)) pushed ∙ map-append (λ told. told.items) c.loop-index.all.items (told ∷ [])))
-          (page_told (slots_in v) (take index (pages_in v)) (page_in s) v.class v.repeat v.lines (map (λ told. told.items) c.loop-index.all.items) told.items c.loop-index.invariant.told
-          (items_here v index s c.surveyed_at.ensures.survey c.surveyed_at.ensures.index (page_in s) at 26 told.items c.in_ok-told.ensures)));
+          (page_told (survey_slots v) (take index (survey_pages v)) (surveyed_page s) v.class v.repeat v.lines (map (λ told. told.items) c.loop-index.all.items) told.items c.loop-index.invariant.told
+          (items_here v index s c.surveyed_at.ensures.survey c.surveyed_at.ensures.index (surveyed_page s) at 26 told.items c.in_ok-told.ensures)));
     }

@@ -1,5 +1,5 @@
 use Rattle.std.proofs.Common.{rules, ◌≡◌, ◌+◌, ◌++◌, ◌∷◌, [], sym, subst, arith}
-use Rattle.ttx_witness.specs.finding.Surveys.{slots_in, page_in}
+use Rattle.ttx_witness.specs.finding.Surveys.{survey_slots, surveyed_page}
 use Rattle.ttx_witness.specs.declared.waiting.wait.PageWait.{PageWait}
 use Rattle.ttx_witness.proofs.lemmas.finding.Surveys.{surveyed_here}
 use Rattle.ttx_witness.proofs.lemmas.waiting.PageDeadline.{AreTold, one_told, all_told}
@@ -9,7 +9,7 @@ use Rattle.ttx_witness.proofs.waiting.page_waits.waits_in.Goals as goal
 pub returns : goal.returns
 returns c = λ others.
     let v = c.args.survey.now in
-    all_told (slots_in v) v.pages.now v.class v.repeat v.lines c.loop-index.index c.loop-index.waits.items
+    all_told (survey_slots v) v.pages.now v.class v.repeat v.lines c.loop-index.index c.loop-index.waits.items
     (let a = c.loop-index-test.false in let b = c.loop-index.auto in omega arith) (c.loop-index.invariant.told others)
 
 pub loop-index-preserved : goal.loop-index-preserved
@@ -22,8 +22,8 @@ loop-index-preserved c =
     let at = surveyed_here v index s c.surveyed_at-surveyed.ensures.survey c.surveyed_at-surveyed.ensures.index in
     record {
       told = λ others.
-          subst (AreTold (slots_in v) v.pages.now v.class v.repeat v.lines (index + 1)) (sym pushed)
-          (one_told (slots_in v) v.pages.now v.class v.repeat v.lines index c.loop-index.waits.items told (page_in s) at c.id-page.ensures
-          (wait_here v index s c.surveyed_at-surveyed.ensures.survey c.surveyed_at-surveyed.ensures.index (page_in s) at c.args.others.now c.in_ok-wait.wait c.in_ok-wait.ensures others)
+          subst (AreTold (survey_slots v) v.pages.now v.class v.repeat v.lines (index + 1)) (sym pushed)
+          (one_told (survey_slots v) v.pages.now v.class v.repeat v.lines index c.loop-index.waits.items told (surveyed_page s) at c.id-page.ensures
+          (wait_here v index s c.surveyed_at-surveyed.ensures.survey c.surveyed_at-surveyed.ensures.index (surveyed_page s) at c.args.others.now c.in_ok-wait.wait c.in_ok-wait.ensures others)
           (c.loop-index.invariant.told others));
     }

@@ -3,7 +3,7 @@ use Rattle.std.proofs.lemmas.Option.{slice_get_within}
 use Rattle.ttx_page.specs.Pages.{needed}
 use Rattle.ttx_page.specs.Streams.{run_length}
 use Rattle.ttx_page.specs.Views.{page_of}
-use Rattle.ttx_witness.specs.sent.Collected.{place}
+use Rattle.ttx_witness.specs.sent.Collected.{place_of_item}
 use Rattle.ttx_witness.specs.passes.Passing.{ended_pages, ended_certificate}
 use Rattle.ttx_witness.specs.passes.SentSlots.{placed}
 use Rattle.ttx_witness.specs.sent.ItemTransmissions.{sent_in}
@@ -66,7 +66,7 @@ returns c = λ y p item ended at it number.
     let short : repeat - 1 < 8 = short_run w is item (repeat - 1) (omega arith) in
     let some : 1 ≤ length y = (let s = ended.cycle.some in omega arith) in
     let few : self.period ≤ 65536 = (let m = ended.cycle.most in let e = ended.period in omega arith) in
-    let number_is : 26 * c.args.index + c.from.result ≡ place c.args.index item = ap (λ n. 26 * c.args.index + n) (c.from.ensures ∙ sym number) in
+    let number_is : 26 * c.args.index + c.from.result ≡ place_of_item c.args.index item = ap (λ n. 26 * c.args.index + n) (c.from.ensures ∙ sym number) in
     let within : 26 * c.args.index + c.from.result < length self.sent.firsts.items = (let l = ended.places in let s = slice_get_within (ended_pages self) c.args.index p at in let b = place_below c.args.index item (length (ended_pages self)) s it in omega arith) in
     let sent = ap (λ n. placed n self.sent.slots.items) number_is ∙ ended.sent c.args.index p item at it in
     let ts = sent_in y p.id w.lines item in

@@ -1,7 +1,7 @@
 use Rattle.std.proofs.Common.{◌≡◌, ℕ, slice_get, Some, ◌-◌, pos, ◌-ℤ◌, [], length, get_or, false, true, refl, None, sym, ap, ◌∙◌, subst, arith}
 use Rattle.ttx_header.specs.Ids.{Id, IsId}
 use Rattle.ttx_page.specs.Streams.{repeated}
-use Rattle.ttx_witness.specs.sent.ItemTransmissions.{owner_scan, owner_moved, sent_scan, entry_of}
+use Rattle.ttx_witness.specs.sent.ItemTransmissions.{owner_scan, owner_moved, sent_scan, entry_owner}
 use Rattle.ttx_witness.specs.passes.Passing.{ids}
 use Rattle.ttx_witness.proofs.lemmas.passes.OwnersBetween.{FromZero, scan_from_zero, moved_seen, facts_none}
 use Rattle.ttx_witness.proofs.passes.passing.Pass.begin_second.Goals as goal
@@ -26,7 +26,7 @@ returns-clause-stands c = λ x old.
         owners = record { each = entry; apart = λ m i id lt at d. c.all_moved-entry.ensures.foreign m i lt (old.owners.apart m i id lt at d) };
         kept = record {
           sent = record { count = old.nothing.sent.count; places = old.nothing.sent.places; unlinked = old.nothing.sent.unlinked; each = old.nothing.sent.each };
-          facts = λ i p at. let f = old.nothing.facts i p at in record { value = f.value; here = f.here; is = facts_none _ p (repeated []) None (entry_of x p.id) f.value f.is };
+          facts = λ i p at. let f = old.nothing.facts i p at in record { value = f.value; here = f.here; is = facts_none _ p (repeated []) None (entry_owner x p.id) f.value f.is };
           strays = old.nothing.strays;
         };
         slots = λ k d lt. absurd (omega arith);

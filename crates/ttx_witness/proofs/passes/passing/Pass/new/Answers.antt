@@ -4,7 +4,7 @@ use Rattle.std.proofs.lemmas.Option.{slice_get_within}
 use Rattle.ttx_page.specs.Views.{page_of}
 use Rattle.ttx_page.specs.Streams.{repeated}
 use Rattle.ttx_certificate.specs.Certificates.{certificate_of}
-use Rattle.ttx_witness.specs.sent.Collected.{seen_by, IsForeign, place as item_place}
+use Rattle.ttx_witness.specs.sent.Collected.{seen_by, IsForeign, place_of_item as item_place}
 use Rattle.ttx_witness.specs.passes.SentSlots.{placed}
 use Rattle.ttx_witness.specs.faults.OtherSubpages.{place, IsStrayAt}
 use Rattle.ttx_witness.specs.sent.ItemTransmissions.{owner_scan, sent_scan}

@@ -1,8 +1,8 @@
 use Rattle.std.proofs.Common.{◌≡◌, ◌≤◌, [], length, ap, ◌∙◌, inl, inr, arith}
 use Rattle.std.proofs.lemmas.Bool.{cases_lt}
-use Rattle.ttx_witness.specs.sent.Collected.{place}
+use Rattle.ttx_witness.specs.sent.Collected.{place_of_item}
 use Rattle.ttx_witness.specs.passes.SentSlots.{placed}
-use Rattle.ttx_witness.specs.sent.ItemTransmissions.{entry_of}
+use Rattle.ttx_witness.specs.sent.ItemTransmissions.{entry_owner}
 use Rattle.ttx_witness.proofs.lemmas.passes.EndOfList.{empty_is, again, own}
 use Rattle.ttx_witness.proofs.lemmas.sent.PageIndexes.{ids_are}
 use Rattle.ttx_witness.proofs.lemmas.passes.ReturningOwners.{kept_same}
@@ -34,7 +34,7 @@ returns-clause-ended c = λ x y st.
     let v = st.passed short in
     let some : 1 ≤ length y = (let k = v.count in let n = c.if-period-eq0.false in omega arith) in
     let steady = c.are_steady-is_steady.ensures.0 c.if-not-is_steady.false in
-    let kept = kept_same pass (entry_of x) (entry_of y) y (λ i p at.
+    let kept = kept_same pass (entry_owner x) (entry_owner y) y (λ i p at.
     let at_id = id_of_page pass.pages.now i p at in
     let is = ids_are c.pages_keep_their_rules.ensures pass.pages.now i p.id at_id in
     own c.args.self.entry pass.owners x y i p.id (v.owners.each i p.id at_id is) (st.entry i p.id at_id is) pass.count v.count some (steady i p.id at_id)) v.kept in
@@ -45,7 +45,7 @@ returns-clause-ended c = λ x y st.
       period = v.count;
       places = c.link.ensures.places ∙ kept.sent.places;
       linked = c.link.ensures.linked kept.sent.unlinked;
-      sent = λ i p item at it. ap (λ v. placed (place i item) v.items) c.link.ensures.slots ∙ kept.sent.each i p item at it;
+      sent = λ i p item at it. ap (λ v. placed (place_of_item i item) v.items) c.link.ensures.slots ∙ kept.sent.each i p item at it;
       facts = kept.facts;
       strays = kept.strays;
     }

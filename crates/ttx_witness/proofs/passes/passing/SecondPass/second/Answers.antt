@@ -3,7 +3,7 @@ use Rattle.std.proofs.lemmas.Bool.{cases_lt}
 use Rattle.ttx_packet.specs.Slots.{IsSlot, is_clean}
 use Rattle.ttx_page.specs.Views.{page_of}
 use Rattle.ttx_witness.proofs.lemmas.Choices.{not_true, not_false}
-use Rattle.ttx_witness.specs.sent.ItemTransmissions.{entry_of}
+use Rattle.ttx_witness.specs.sent.ItemTransmissions.{entry_owner}
 use Rattle.ttx_witness.specs.faults.OtherSubpages.{first_of}
 use Rattle.ttx_witness.specs.passes.PageFacts.{FirstBelow}
 use Rattle.ttx_witness.proofs.lemmas.passes.GrowingLists.{one_longer, index_before, index_last, below_same, below_more, all_more}
@@ -28,7 +28,7 @@ returns-clause-stands c = λ x y old.
       );
       passed = λ few.
           let v = old.passed (omega arith) in
-          let taken = t.taken (entry_of x) y old.ready v.count v.owners v.kept in
+          let taken = t.taken (entry_owner x) y old.ready v.count v.owners v.kept in
           record {
             count = t.count ∙ (let k = v.count in omega arith);
             owners = taken.0;
