@@ -8,7 +8,7 @@ use Rattle.ttx_certificate.specs.NamedStarts.{Rising}
 use Rattle.ttx_certificate.specs.NamedStarts.{IsCertificate}
 use Rattle.ttx_certificate.specs.Entries.{EntryFields, CertificateFields, IsEntry, IsCertificateFields, are_starts, starts_in, same_item, certificate_at}
 use Rattle.ttx_certificate.specs.EntryViews.{entries_of}
-use Rattle.ttx_certificate.specs.Certificates.{certificate_fields}
+use Rattle.ttx_certificate.specs.Certificates.{fields_of}
 use Rattle.ttx_certificate.specs.CertificateLaws.{CertificatesKeepTheirRules}
 use Rattle.ttx_certificate.specs.declared.entries.Entry.{Entry}
 use Rattle.ttx_certificate.proofs.Basics.{if_ind, and_right}
@@ -46,5 +46,5 @@ entries_keep (e ∷ es) = (e.kept, entries_keep es)
 
 pub certificates_keep_their_rules : CertificatesKeepTheirRules
 certificates_keep_their_rules w =
-    let is : IsCertificateFields (certificate_fields w) = record { numbers = w.numbers; entries = entries_keep w.entries.items; rising = w.rising } in
-    (is, are_certificates (certificate_fields w) is)
+    let is : IsCertificateFields (fields_of w) = record { numbers = w.numbers; entries = entries_keep w.entries.items; rising = w.rising } in
+    (is, are_certificates (fields_of w) is)

@@ -6,13 +6,13 @@
 use Rattle.std.specs.Prelude.{◌≡◌, ℕ, List, Ok}
 use Rattle.ttx_certificate.specs.NamedStarts.{IsCertificate}
 use Rattle.ttx_certificate.specs.Entries.{CertificateFields, IsCertificateFields}
-use Rattle.ttx_certificate.specs.Certificates.{certificate_fields, certificate_of}
+use Rattle.ttx_certificate.specs.Certificates.{fields_of, certificate_of}
 use Rattle.ttx_certificate.specs.CertificateTexts.{certificate_text}
 use Rattle.ttx_certificate.specs.CertificateReading.{read_text}
 use Rattle.ttx_certificate.specs.declared.certificates.Certificate.{Certificate}
 
 abbrev pub CertificatesKeepTheirRules : Type 0
-CertificatesKeepTheirRules = (w : Certificate) → IsCertificateFields (certificate_fields w) × IsCertificate (certificate_of w)
+CertificatesKeepTheirRules = (w : Certificate) → IsCertificateFields (fields_of w) × IsCertificate (certificate_of w)
 
 abbrev pub AcceptedTextsAreWritten : Type 0
 AcceptedTextsAreWritten = (bytes : List ℕ) (w : CertificateFields) → read_text bytes ≡ Ok w → bytes ≡ certificate_text w

@@ -52,7 +52,7 @@ fn are_in_order(entries: &[Entry]) -> bool
 impl Certificate {
     ghost use Rattle.std.specs.Prelude.{is_some, IfSome, ◌&&◌};
     ghost use Rattle.ttx_certificate.specs.Entries.{certificate_fields_at, starts_in};
-    ghost use Rattle.ttx_certificate.specs.Certificates.{certificate_fields};
+    ghost use Rattle.ttx_certificate.specs.Certificates.{fields_of};
 
     /// The certificate of these fields, which keep the type's rules.
     pub fn of(
@@ -64,7 +64,7 @@ impl Certificate {
     ) -> Certificate
         requires numbers { are_numbers lines repeat deadline ≡ true }
         requires rising { rises (entry_places (entries_of entries.items)) ≡ true }
-        ensures { certificate_fields result ≡ certificate_fields_at lines repeat deadline (entries_of entries.items) class }
+        ensures { fields_of result ≡ certificate_fields_at lines repeat deadline (entries_of entries.items) class }
     {
         Certificate {
             lines,
@@ -84,7 +84,7 @@ impl Certificate {
         class: Class,
     ) -> Option<Certificate>
         ensures some { is_some result ≡ (are_numbers lines repeat deadline && rises (entry_places (entries_of entries.items))) }
-        ensures fields { IfSome result (λ w. certificate_fields w ≡ certificate_fields_at lines repeat deadline (entries_of entries.items) class) }
+        ensures fields { IfSome result (λ w. fields_of w ≡ certificate_fields_at lines repeat deadline (entries_of entries.items) class) }
     {
         if are_numbers(lines, repeat, deadline) && are_in_order(entries.as_slice()) {
             Some(Certificate::of(lines, repeat, deadline, entries, class))
@@ -95,42 +95,42 @@ impl Certificate {
 
     /// The lines to a field, 1 to 32.
     pub fn lines(&self) -> u8
-        ensures { result ≡ (certificate_fields self.now).lines }
+        ensures { result ≡ (fields_of self.now).lines }
     {
         self.lines
     }
 
     /// How often an item is sent for one right reception, 1 to 8.
     pub fn repeat(&self) -> u8
-        ensures { result ≡ (certificate_fields self.now).repeat }
+        ensures { result ≡ (fields_of self.now).repeat }
     {
         self.repeat
     }
 
     /// The deadline in fields, 1 to 1,000,000.
     pub fn deadline(&self) -> u32
-        ensures { result ≡ (certificate_fields self.now).deadline }
+        ensures { result ≡ (fields_of self.now).deadline }
     {
         self.deadline
     }
 
     /// The entries in their order.
     pub fn entries(&self) -> &[Entry]
-        ensures { entries_of result.now ≡ (certificate_fields self.now).entries }
+        ensures { entries_of result.now ≡ (fields_of self.now).entries }
     {
         self.entries.as_slice()
     }
 
     /// The class of receivers.
     pub fn class(&self) -> Class
-        ensures { result ≡ (certificate_fields self.now).class }
+        ensures { result ≡ (fields_of self.now).class }
     {
         self.class
     }
 
     /// The starts that are named for an item of a page; none where there is no entry for it.
     pub fn starts(&self, page: PageId, item: Item) -> &[u32]
-        ensures { result.now ≡ starts_in (certificate_fields self.now).entries page item }
+        ensures { result.now ≡ starts_in (fields_of self.now).entries page item }
     {
         let place = place(page, item);
         let entries = self.entries.as_slice();

@@ -4,7 +4,7 @@ ghost use Rattle.std.specs.Prelude.{◌≡◌, ◌+◌, ◌<◌, ◌≤◌, ◌^
 ghost use Rattle.ttx_header.specs.Ids.{id_at};
 ghost use Rattle.ttx_certificate.specs.Entries.{is_item, is_page_id, rises, entry_places};
 ghost use Rattle.ttx_certificate.specs.EntryViews.{entry_of, entries_of};
-ghost use Rattle.ttx_certificate.specs.Certificates.{certificate_fields};
+ghost use Rattle.ttx_certificate.specs.Certificates.{fields_of};
 ghost use Rattle.ttx_certificate.specs.CertificateReading.{lines_in, words_in, is_id};
 ghost use Rattle.ttx_certificate.specs.CertificateReading as rule;
 ghost use Rattle.ttx_certificate.specs.WrittenEntries.{written_item, written_of};
@@ -161,7 +161,7 @@ fn number_line<'a>(
 #[tactic(auto, unfolding(crate::specs::CertificateReading::read_numbers))]
 fn numbers(alloc: Global, text: &[u8], line: usize, class: Class) -> Result<Certificate, CertFault>
     requires { line + length text.now + 8 < 2 ^ 64 }
-    ensures { IsUnlessMemory result (outcome certificate_fields result ≡ rule.read_numbers class line (lines_in text.now)) }
+    ensures { IsUnlessMemory result (outcome fields_of result ≡ rule.read_numbers class line (lines_in text.now)) }
 {
     let (lines, rest) = number_line(text, line, b"lines", 32)?;
     let (repeat, rest) = number_line(rest, line + 1, b"repeat", 8)?;
@@ -173,7 +173,7 @@ fn numbers(alloc: Global, text: &[u8], line: usize, class: Class) -> Result<Cert
 // The lines after the first one of version 2: the class, the numbers and the entries.
 fn clearing(alloc: Global, text: &[u8]) -> Result<Certificate, CertFault>
     requires { length text.now + 16 < 2 ^ 64 }
-    ensures { IsUnlessMemory result (outcome certificate_fields result ≡ rule.read_class (lines_in text.now)) }
+    ensures { IsUnlessMemory result (outcome fields_of result ≡ rule.read_class (lines_in text.now)) }
 {
     let (class, rest) = line_at(text, 2)?;
     if class != b"class clearing".as_slice() {
@@ -185,7 +185,7 @@ fn clearing(alloc: Global, text: &[u8]) -> Result<Certificate, CertFault>
 /// The certificate that a text is. Else its first fault: a line's shape is looked at before the ranges of its numbers, and
 /// these before their order.
 pub fn read_certificate(alloc: Global, bytes: &[u8]) -> Result<Certificate, CertFault>
-    ensures { IsUnlessMemory result (outcome certificate_fields result ≡ rule.read_text bytes.now) }
+    ensures { IsUnlessMemory result (outcome fields_of result ≡ rule.read_text bytes.now) }
 {
     let Ok((first, rest)) = line_at(bytes, 1) else {
         return Err(CertFault::Title);

@@ -5,7 +5,7 @@ ghost use Rattle.ttx_header.specs.Ids.{id_at};
 ghost use Rattle.ttx_certificate.specs.CertificateTexts.{hex_digit, hex_byte, id_text, item_text, starts_text, entry_text};
 ghost use Rattle.ttx_certificate.specs.CertificateTexts.{entries_text, class_text, head_text, certificate_text};
 ghost use Rattle.ttx_certificate.specs.EntryViews.{entry_of, entries_of};
-ghost use Rattle.ttx_certificate.specs.Certificates.{certificate_fields};
+ghost use Rattle.ttx_certificate.specs.Certificates.{fields_of};
 
 use crate::certificates::Certificate;
 use crate::entries::Entry;
@@ -117,7 +117,7 @@ fn push_class(text: &mut String, class: Class) -> Result<(), AllocError>
 
 // Adds the lines before the entries.
 fn push_head(text: &mut String, certificate: &Certificate) -> Result<(), AllocError>
-    ensures { OnOk result (string_bytes text.new ≡ string_bytes text.old ++ head_text (certificate_fields certificate.now)) }
+    ensures { OnOk result (string_bytes text.new ≡ string_bytes text.old ++ head_text (fields_of certificate.now)) }
 {
     push_class(text, certificate.class())?;
     let lines = certificate.lines();
@@ -130,7 +130,7 @@ fn push_head(text: &mut String, certificate: &Certificate) -> Result<(), AllocEr
 
 // The whole text.
 fn text_of(alloc: Global, certificate: &Certificate) -> Result<String, AllocError>
-    ensures { IfOk result (λ text. string_bytes text ≡ certificate_text (certificate_fields certificate.now)) }
+    ensures { IfOk result (λ text. string_bytes text ≡ certificate_text (fields_of certificate.now)) }
 {
     let mut text = String::new(alloc);
     push_head(&mut text, certificate)?;
@@ -140,7 +140,7 @@ fn text_of(alloc: Global, certificate: &Certificate) -> Result<String, AllocErro
 
 /// The text of a certificate. Only a refused growth is an error.
 pub fn write_certificate(alloc: Global, certificate: &Certificate) -> Result<Vec<u8>, NoMemory>
-    ensures { IfOk result (λ text. text.items ≡ certificate_text (certificate_fields certificate.now)) }
+    ensures { IfOk result (λ text. text.items ≡ certificate_text (fields_of certificate.now)) }
 {
     match text_of(alloc, certificate) {
         Ok(text) => Ok(text.into_bytes()),
