@@ -4,7 +4,7 @@
 --   date_of, second_of      five digits of the date; the second of the day, of six digits
 --   moment_of               the date and the second that a text names
 use Rattle.std.specs.Prelude.{ℕ, ◌+◌, ◌-◌, List, Option, Some, None, ◌&&◌, ◌==◌, nat_lt, nat_le, length, slice_index, if◌then◌else◌}
-use Rattle.ttx_source.specs.Values.{joined}
+use Rattle.ttx_source.specs.Values.{joined_digits}
 
 abbrev pub digit_of : ℕ → Option ℕ
 digit_of c = if nat_le 48 c && nat_le c 57 then Some (c - 48) else None
@@ -15,18 +15,18 @@ digit_at text at = digit_of (slice_index text at)
 
 -- the number of the two digits from a place on
 unfoldable pub two_digits : List ℕ → ℕ → Option ℕ
-two_digits text at = joined 10 (digit_at text at) (digit_at text (at + 1))
+two_digits text at = joined_digits 10 (digit_at text at) (digit_at text (at + 1))
 
 abbrev pub below : ℕ → Option ℕ → Option ℕ
 below limit None = None
 below limit (Some number) = if nat_lt number limit then Some number else None
 
 abbrev pub date_of : List ℕ → Option ℕ
-date_of text = joined 10000 (digit_at text 0) (joined 100 (two_digits text 1) (two_digits text 3))
+date_of text = joined_digits 10000 (digit_at text 0) (joined_digits 100 (two_digits text 1) (two_digits text 3))
 
 -- hours below 24, minutes and seconds below 60
 abbrev pub second_of : List ℕ → Option ℕ
-second_of text = joined 3600 (below 24 (two_digits text 6)) (joined 60 (below 60 (two_digits text 8)) (below 60 (two_digits text 10)))
+second_of text = joined_digits 3600 (below 24 (two_digits text 6)) (joined_digits 60 (below 60 (two_digits text 8)) (below 60 (two_digits text 10)))
 
 abbrev pub moment_at : Option ℕ → Option ℕ → Option (ℕ × ℕ)
 moment_at None second = None

@@ -13,9 +13,9 @@ use Rattle.ttx_page.specs.declared.item.Item.{Item}
 use Rattle.ttx_page.specs.declared.item.Item.TheVariants.{Head as TheHead, Row as TheRow, Links as TheLinks}
 use Rattle.ttx_page.specs.declared.class.Class.{Class}
 use Rattle.ttx_page.specs.declared.class.Class.TheVariants.{Any, Clearing}
-use Rattle.ttx_certificate.specs.Entries.{EntryFields, entry_at, CertificateFields, fields_at, place_of}
+use Rattle.ttx_certificate.specs.Entries.{EntryFields, entry_at, CertificateFields, certificate_fields_at, place_of}
 use Rattle.ttx_certificate.specs.CertificateTexts.{hex_digit, hex_byte, id_text, item_text, starts_text, entry_text, entries_text, class_text, number_text, certificate_text}
-use Rattle.ttx_certificate.specs.CertificateReading.{lines_in, words_in, are_digits, is_number, value_after, number_of, is_between, is_hex, hex_value, is_id_word, hex_pair, id_of, row_in, item_in, before_numbers, numbers_in, starts_in_words, with_starts, with_item, entry_in, read_entry, read_entries, ranged, only_number, number_in, line_at, number_line, read_numbers, read_class, read_title, read_text, ◌>>=◌}
+use Rattle.ttx_certificate.specs.CertificateReading.{lines_in, words_in, are_digits, is_number, decimal_after, number_in_word, is_between, is_hex, hex_value, is_id_word, hex_pair, id_in_word, row_in, item_in, before_numbers, numbers_in, starts_in_words, with_starts, with_item, entry_in, read_entry, read_entries, ranged, only_number, number_in, line_at, number_line, read_numbers, read_class, read_title, read_text, ◌>>=◌}
 use Rattle.ttx_certificate.specs.declared.certificate_faults.CertFault.{CertFault}
 use Rattle.ttx_certificate.specs.declared.certificate_faults.CertFault.TheVariants.{Title, Line, Range}
 use Rattle.ttx_certificate.proofs.Basics.{if_ind, and_left, and_right}
@@ -29,10 +29,10 @@ some_same : {A : Type 0} (a b : A) → Some a ≡ Some b → a ≡ b
 some_same a b is = ap (λ o. unwrap_or o a) is
 
 -- digits without a leading zero are the text of their number
-pub own : IsNumeralModel (λ ds. are_digits ds ≡ true) (value_after 0)
-own = numerals_by_fold _ (search rules) value_after (search rules)
+pub own : IsNumeralModel (λ ds. are_digits ds ≡ true) (decimal_after 0)
+own = numerals_by_fold _ (search rules) decimal_after (search rules)
 
-number_word : (word : List ℕ) → is_number word ≡ true → decimal (value_after 0 word) ≡ word
+number_word : (word : List ℕ) → is_number word ≡ true → decimal (decimal_after 0 word) ≡ word
 number_word word is =
     let last = and_right (are_digits word && nat_le 1 (length word) && nat_le (length word) 7) (length word == 1 || not (slice_index word 0 == 48)) is in
     let three = and_left (are_digits word && nat_le 1 (length word) && nat_le (length word) 7) (length word == 1 || not (slice_index word 0 == 48)) is in
@@ -42,13 +42,13 @@ number_word word is =
     let digits = and_left (are_digits word) (nat_le 1 (length word)) two in
     let few : length word ≤ 7 = grind (arith, nat_tests) in
     let some : 0 < length word = grind (arith, nat_tests) in
-    let small : value_after 0 word < 10 ^ 7 = digits_value_short own word 7 digits few in
+    let small : decimal_after 0 word < 10 ^ 7 = digits_value_short own word 7 digits few in
     decimal-digits_value own word digits some (λ lead. grind (arith, nat_tests)) (omega arith)
 
-number_is : (word : List ℕ) (n : ℕ) → number_of word ≡ Some n → word ≡ decimal n
+number_is : (word : List ℕ) (n : ℕ) → number_in_word word ≡ Some n → word ≡ decimal n
 number_is word n is =
-    if_ind (λ o. o ≡ Some n → word ≡ decimal n) (is_number word) (Some (value_after 0 word)) None
-    (λ number h. sym (number_word word number) ∙ ap decimal (some_same (value_after 0 word) n h))
+    if_ind (λ o. o ≡ Some n → word ≡ decimal n) (is_number word) (Some (decimal_after 0 word)) None
+    (λ number h. sym (number_word word number) ∙ ap decimal (some_same (decimal_after 0 word) n h))
     (λ _ h. absurd (none_some n h)) is
 
 -- a hexadecimal digit is that of its value
@@ -96,7 +96,7 @@ id_word_text w is =
     ∙ ap (λ s. slice_index w 0 ∷ slice_index w 1 ∷ slice_index w 2 ∷ s ∷ slice_index w 4 ∷ slice_index w 5 ∷ slice_index w 6 ∷ slice_index w 7 ∷ []) (sym stroke)
     ∙ sym (as_eight w (eqb-true (length w) 8 parts.length))
 
-id_is : (word : List ℕ) (id : Id) → id_of word ≡ Some id → word ≡ id_text id
+id_is : (word : List ℕ) (id : Id) → id_in_word word ≡ Some id → word ≡ id_text id
 id_is word id is =
     let read : Id = id_at (slice_index word 0 - 48) (hex_pair word 1) (256 * hex_pair word 4 + hex_pair word 6) in
     if_ind (λ o. o ≡ Some id → word ≡ id_text id) (is_id_word word) (Some read) None
@@ -108,14 +108,14 @@ item_words TheHead = codes "head" ∷ []
 item_words (TheRow n) = codes "row" ∷ decimal n ∷ []
 item_words TheLinks = codes "links" ∷ []
 
-row_with : (word x : List ℕ) (words : List (List ℕ)) (p : Item × List (List ℕ)) (o : Option ℕ) → word ≡ codes "row" → number_of x ≡ o → option_map (λ n. (TheRow n, words)) o ≡ Some p → word ∷ x ∷ words ≡ item_words p.0 ++ p.1
+row_with : (word x : List ℕ) (words : List (List ℕ)) (p : Item × List (List ℕ)) (o : Option ℕ) → word ≡ codes "row" → number_in_word x ≡ o → option_map (λ n. (TheRow n, words)) o ≡ Some p → word ∷ x ∷ words ≡ item_words p.0 ++ p.1
 row_with word x words p None is same h = absurd (none_some p h)
 row_with word x words p (Some n) is same h =
     subst (λ (q : Item × List (List ℕ)). word ∷ x ∷ words ≡ item_words q.0 ++ q.1) (some_same (TheRow n, words) p h) (ap (λ w. w ∷ x ∷ words) is ∙ ap (λ y. codes "row" ∷ y ∷ words) (number_is x n same))
 
 row_is : (word : List ℕ) (words : List (List ℕ)) (p : Item × List (List ℕ)) → word ≡ codes "row" → row_in words ≡ Some p → word ∷ words ≡ item_words p.0 ++ p.1
 row_is word [] p is h = absurd (none_some p h)
-row_is word (x ∷ words) p is h = row_with word x words p (number_of x) is refl h
+row_is word (x ∷ words) p is h = row_with word x words p (number_in_word x) is refl h
 
 -- an item and what follows it, by its words
 item_is : (words : List (List ℕ)) (p : Item × List (List ℕ)) → item_in words ≡ Some p → words ≡ item_words p.0 ++ p.1
@@ -130,7 +130,7 @@ item_is (w ∷ ws) p is =
     (λ _ h. absurd (none_some p h))))
     is
 
-numbers_with : (word : List ℕ) (words : List (List ℕ)) (ns : List ℕ) (o : Option ℕ) (q : Option (List ℕ)) → number_of word ≡ o → ((ms : List ℕ) → q ≡ Some ms → words ≡ map decimal ms) → before_numbers o q ≡ Some ns → word ∷ words ≡ map decimal ns
+numbers_with : (word : List ℕ) (words : List (List ℕ)) (ns : List ℕ) (o : Option ℕ) (q : Option (List ℕ)) → number_in_word word ≡ o → ((ms : List ℕ) → q ≡ Some ms → words ≡ map decimal ms) → before_numbers o q ≡ Some ns → word ∷ words ≡ map decimal ns
 numbers_with word words ns None q same more h = absurd (none_some ns h)
 numbers_with word words ns (Some n) None same more h = absurd (none_some ns h)
 numbers_with word words ns (Some n) (Some ms) same more h =
@@ -138,7 +138,7 @@ numbers_with word words ns (Some n) (Some ms) same more h =
 
 numbers_are : (words : List (List ℕ)) (ns : List ℕ) → numbers_in words ≡ Some ns → words ≡ map decimal ns
 numbers_are [] ns is = subst (λ ns. [] ≡ map decimal ns) (some_same [] ns is) refl
-numbers_are (word ∷ words) ns is = numbers_with word words ns (number_of word) (numbers_in words) refl (λ ms same. numbers_are words ms same) is
+numbers_are (word ∷ words) ns is = numbers_with word words ns (number_in_word word) (numbers_in words) refl (λ ms same. numbers_are words ms same) is
 
 starts_are : (words : List (List ℕ)) (ns : List ℕ) → starts_in_words words ≡ Some ns → words ≡ map decimal ns
 starts_are [] ns is = absurd (none_some ns is)
@@ -158,14 +158,14 @@ with_item_is : (words : List (List ℕ)) (page : Id) (e : EntryFields) (q : Opti
 with_item_is words page e None same h = absurd (none_some e h)
 with_item_is words page e (Some p) same h = with_starts_is words page p e (starts_in_words p.1) refl (item_is words p same) h
 
-with_id_is : (word : List ℕ) (words : List (List ℕ)) (e : EntryFields) (o : Option Id) → id_of word ≡ o → with_item o words ≡ Some e → word ∷ words ≡ entry_words e
+with_id_is : (word : List ℕ) (words : List (List ℕ)) (e : EntryFields) (o : Option Id) → id_in_word word ≡ o → with_item o words ≡ Some e → word ∷ words ≡ entry_words e
 with_id_is word words e None same h = absurd (none_some e h)
 with_id_is word words e (Some page) same h = ap (λ w. w ∷ words) (id_is word page same) ∙ with_item_is words page e (item_in words) refl h
 
 -- an entry, by the words of its line
 entry_is : (words : List (List ℕ)) (e : EntryFields) → entry_in words ≡ Some e → words ≡ entry_words e
 entry_is [] e is = absurd (none_some e is)
-entry_is (word ∷ words) e is = with_id_is word words e (id_of word) refl is
+entry_is (word ∷ words) e is = with_id_is word words e (id_in_word word) refl is
 
 -- words, joined by spaces
 join_starts : (x : List ℕ) (ss : List ℕ) → join_with_byte 32 (x ∷ map decimal ss) ≡ x ++ starts_text ss
@@ -216,7 +216,7 @@ ranged_is n most v (Some x) is =
 
 only_is : (n most v : ℕ) (words : List (List ℕ)) → only_number n most words ≡ Ok v → words ≡ decimal v ∷ []
 only_is n most v [] is = absurd (no_value (Line n) v is)
-only_is n most v (word ∷ []) is = ap (λ w. w ∷ []) (number_is word v (ranged_is n most v (number_of word) is))
+only_is n most v (word ∷ []) is = ap (λ w. w ∷ []) (number_is word v (ranged_is n most v (number_in_word word) is))
 only_is n most v (word ∷ next ∷ more) is = absurd (no_value (Line n) v is)
 
 number_line_is : (n : ℕ) (key : List ℕ) (most v : ℕ) (words : List (List ℕ)) → number_in n key most words ≡ Ok v → words ≡ key ∷ decimal v ∷ []
@@ -244,7 +244,7 @@ abbrev pub numbers_text : CertificateFields → List ℕ
 numbers_text w = number_text (codes "lines") w.lines ++ (number_text (codes "repeat") w.repeat ++ (number_text (codes "deadline") w.deadline ++ entries_text w.entries))
 
 module _ (class : Class) (n : ℕ) (text : List ℕ) (w : CertificateFields) where
-  with_entries : (l r d : ℕ) (rest : List (List ℕ)) (q : Result (List EntryFields) CertFault) → read_entries (n + 3) None rest ≡ q → (q >>= (λ es. Ok (fields_at l r d es class))) ≡ Ok w →
+  with_entries : (l r d : ℕ) (rest : List (List ℕ)) (q : Result (List EntryFields) CertFault) → read_entries (n + 3) None rest ≡ q → (q >>= (λ es. Ok (certificate_fields_at l r d es class))) ≡ Ok w →
       (number_text (codes "lines") l ++ (number_text (codes "repeat") r ++ (number_text (codes "deadline") d ++ join_with_byte 10 rest)) ≡ numbers_text w) × (class ≡ w.class)
   with_entries l r d rest (Err fault) same h = absurd (no_value fault w h)
   with_entries l r d rest (Ok es) same h =
@@ -252,7 +252,7 @@ module _ (class : Class) (n : ℕ) (text : List ℕ) (w : CertificateFields) whe
       (ap (λ t. number_text (codes "lines") l ++ (number_text (codes "repeat") r ++ (number_text (codes "deadline") d ++ t))) (entries_are (n + 3) None rest es same), refl)
 
   with_deadline : (l r : ℕ) (rest : List (List ℕ)) (q : Result (ℕ × List (List ℕ)) CertFault) → number_line (n + 2) (codes "deadline") 1000000 rest ≡ q →
-      (q >>= (λ d. read_entries (n + 3) None d.1 >>= (λ es. Ok (fields_at l r d.0 es class)))) ≡ Ok w →
+      (q >>= (λ d. read_entries (n + 3) None d.1 >>= (λ es. Ok (certificate_fields_at l r d.0 es class)))) ≡ Ok w →
       (number_text (codes "lines") l ++ (number_text (codes "repeat") r ++ join_with_byte 10 rest) ≡ numbers_text w) × (class ≡ w.class)
   with_deadline l r rest (Err fault) same h = absurd (no_value fault w h)
   with_deadline l r rest (Ok d) same h =
@@ -260,7 +260,7 @@ module _ (class : Class) (n : ℕ) (text : List ℕ) (w : CertificateFields) whe
       (ap (λ t. number_text (codes "lines") l ++ (number_text (codes "repeat") r ++ t)) (number_text_is (n + 2) (codes "deadline") 1000000 rest d same) ∙ more.0, more.1)
 
   with_repeat : (l : ℕ) (rest : List (List ℕ)) (q : Result (ℕ × List (List ℕ)) CertFault) → number_line (n + 1) (codes "repeat") 8 rest ≡ q →
-      (q >>= (λ r. number_line (n + 2) (codes "deadline") 1000000 r.1 >>= (λ d. read_entries (n + 3) None d.1 >>= (λ es. Ok (fields_at l r.0 d.0 es class))))) ≡ Ok w →
+      (q >>= (λ r. number_line (n + 2) (codes "deadline") 1000000 r.1 >>= (λ d. read_entries (n + 3) None d.1 >>= (λ es. Ok (certificate_fields_at l r.0 d.0 es class))))) ≡ Ok w →
       (number_text (codes "lines") l ++ join_with_byte 10 rest ≡ numbers_text w) × (class ≡ w.class)
   with_repeat l rest (Err fault) same h = absurd (no_value fault w h)
   with_repeat l rest (Ok r) same h =
@@ -268,7 +268,7 @@ module _ (class : Class) (n : ℕ) (text : List ℕ) (w : CertificateFields) whe
       (ap (λ t. number_text (codes "lines") l ++ t) (number_text_is (n + 1) (codes "repeat") 8 rest r same) ∙ more.0, more.1)
 
   with_lines : (lines : List (List ℕ)) (q : Result (ℕ × List (List ℕ)) CertFault) → number_line n (codes "lines") 32 lines ≡ q →
-      (q >>= (λ l. number_line (n + 1) (codes "repeat") 8 l.1 >>= (λ r. number_line (n + 2) (codes "deadline") 1000000 r.1 >>= (λ d. read_entries (n + 3) None d.1 >>= (λ es. Ok (fields_at l.0 r.0 d.0 es class)))))) ≡ Ok w →
+      (q >>= (λ l. number_line (n + 1) (codes "repeat") 8 l.1 >>= (λ r. number_line (n + 2) (codes "deadline") 1000000 r.1 >>= (λ d. read_entries (n + 3) None d.1 >>= (λ es. Ok (certificate_fields_at l.0 r.0 d.0 es class)))))) ≡ Ok w →
       (join_with_byte 10 lines ≡ numbers_text w) × (class ≡ w.class)
   with_lines lines (Err fault) same h = absurd (no_value fault w h)
   with_lines lines (Ok l) same h =

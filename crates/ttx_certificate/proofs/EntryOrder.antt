@@ -9,7 +9,7 @@ use Rattle.ttx_header.specs.Ids.{Id, IsId, same_id}
 use Rattle.ttx_page.specs.declared.item.Item.{Item}
 use Rattle.ttx_page.specs.declared.item.Item.TheVariants.{Head as TheHead, Row as TheRow, Links as TheLinks}
 use Rattle.ttx_certificate.specs.ItemPlaces.{item_number, key_of}
-use Rattle.ttx_certificate.specs.Entries.{is_item, rises_above, place_of, places, same_item, starts_in}
+use Rattle.ttx_certificate.specs.Entries.{is_item, rises_above, place_of, entry_places, same_item, starts_in}
 use Rattle.ttx_certificate.specs.EntryViews.{entries_of, place_in}
 use Rattle.ttx_certificate.specs.declared.entries.Entry.{Entry}
 use Rattle.ttx_certificate.proofs.Basics.{and_left, and_right, and_both, cases_bool}
@@ -52,20 +52,20 @@ rising_pairs low (n ∷ ns) i zero d up lt in_range = absurd (omega arith)
 rising_pairs low (n ∷ ns) zero (suc j) d up lt in_range = above_low n ns j d (and_right _ _ up) (omega arith)
 rising_pairs low (n ∷ ns) (suc i) (suc j) d up lt in_range = rising_pairs (Some n) ns i j d (and_right _ _ up) (omega arith) (omega arith)
 
-pub length_places : (es : List Entry) → length (places (entries_of es)) ≡ length es
+pub length_places : (es : List Entry) → length (entry_places (entries_of es)) ≡ length es
 length_places [] = refl
 length_places (e ∷ es) = ap suc (length_places es)
 
-pub place_at : (es : List Entry) (i d : ℕ) (e : Entry) → i < length es → get_or (places (entries_of es)) i d ≡ place_in (get_or es i e)
+pub place_at : (es : List Entry) (i d : ℕ) (e : Entry) → i < length es → get_or (entry_places (entries_of es)) i d ≡ place_in (get_or es i e)
 place_at [] i d e lt = absurd (omega arith)
 place_at (x ∷ es) zero d e lt = refl
 place_at (x ∷ es) (suc i) d e lt = place_at es i d e (omega arith)
 
--- places of entries rise
-entries_rise : (es : List Entry) → rises_above None (places (entries_of es)) ≡ true → (i j : ℕ) (d : Entry) → i < j → j < length es → place_in (get_or es i d) < place_in (get_or es j d)
+-- entry_places of entries rise
+entries_rise : (es : List Entry) → rises_above None (entry_places (entries_of es)) ≡ true → (i j : ℕ) (d : Entry) → i < j → j < length es → place_in (get_or es i d) < place_in (get_or es j d)
 entries_rise es up i j d lt in_range =
     let n = length_places es in
-    let pairs = rising_pairs None (places (entries_of es)) i j 0 up lt (omega arith) in
+    let pairs = rising_pairs None (entry_places (entries_of es)) i j 0 up lt (omega arith) in
     let a = place_at es i 0 d (omega arith) in
     let b = place_at es j 0 d in_range in
     omega arith
@@ -92,7 +92,7 @@ module _ (page : Id) (item : Item) (id : IsId page) (is : is_item item ≡ true)
   ]
 
   -- the entry at the item's place has its starts
-  found : (es : List Entry) → rises_above None (places (entries_of es)) ≡ true → (i : ℕ) (d : Entry) → i < length es → place_in (get_or es i d) ≡ place_of page item →
+  found : (es : List Entry) → rises_above None (entry_places (entries_of es)) ≡ true → (i : ℕ) (d : Entry) → i < length es → place_in (get_or es i d) ≡ place_of page item →
       starts_in (entries_of es) page item ≡ (get_or es i d).starts.items
   found es up = found_in es (entries_rise es up)
     where
@@ -109,13 +109,13 @@ module _ (page : Id) (item : Item) (id : IsId page) (is : is_item item ≡ true)
   absent (e ∷ es) other = rw (other_entry e (other 0 e (omega arith))) (absent es (λ j d lt. other (suc j) d (omega arith)))
 
   -- the answers of a search for the item's place rise along the entries
-  answers_rise : (es : List Entry) → rises_above None (places (entries_of es)) ≡ true → IsNonDecreasingBy (λ e. ordering_index (nat_cmp (place_in e) (place_of page item))) es
+  answers_rise : (es : List Entry) → rises_above None (entry_places (entries_of es)) ≡ true → IsNonDecreasingBy (λ e. ordering_index (nat_cmp (place_in e) (place_of page item))) es
   answers_rise es up = λ i j d le lt.
       let all_up : place_in (get_or es i d) ≤ place_in (get_or es j d) = grind (arith, entries_rise es up i j d, λ (same : i ≡ j). ap (λ n. place_in (get_or es n d)) same) in
       grind (arith, nat_tests)
 
   -- what a search for the item's place says of its starts
-  pub searched : (es : List Entry) → rises_above None (places (entries_of es)) ≡ true → (r : Result ℕ ℕ) → IsSearchInRange r (length es) → IsBinarySearchResult (λ e. nat_cmp (place_in e) (place_of page item)) es r →
+  pub searched : (es : List Entry) → rises_above None (entry_places (entries_of es)) ≡ true → (r : Result ℕ ℕ) → IsSearchInRange r (length es) → IsBinarySearchResult (λ e. nat_cmp (place_in e) (place_of page item)) es r →
       record { found : IfOk r (λ i. (d : Entry) → starts_in (entries_of es) page item ≡ (get_or es i d).starts.items); absent : IfErr r (λ i. starts_in (entries_of es) page item ≡ []) }
   searched es up (Ok i) in_range equal = record { found = λ d. found es up i d in_range (ranked _ (place_of page item) _ (sym (equal d))); absent = tt }
   searched es up (Err i) in_range parted = record {
@@ -127,11 +127,11 @@ module _ (page : Id) (item : Item) (id : IsId page) (is : is_item item ≡ true)
   }
 
 -- the same, as a search for a number in a list that is lent
-pub looked_up : (page : Id) (item : Item) → IsId page → is_item item ≡ true → (place : ℕ) → place ≡ place_of page item → (own lent : List Entry) → lent ≡ own → rises_above None (places (entries_of own)) ≡ true →
+pub looked_up : (page : Id) (item : Item) → IsId page → is_item item ≡ true → (place : ℕ) → place ≡ place_of page item → (own lent : List Entry) → lent ≡ own → rises_above None (entry_places (entries_of own)) ≡ true →
     (r : Result ℕ ℕ) → IsSearchInRange r (length lent) → IsBinarySearchResult (λ e. nat_cmp (place_in e) place) lent r →
     record { found : (i : ℕ) (e : Entry) → r ≡ Ok i → e ≡ get_or lent i e → e.starts.items ≡ starts_in (entries_of own) page item; absent : (i : ℕ) → r ≡ Err i → [] ≡ starts_in (entries_of own) page item }
 looked_up page item id is place same own lent eq up r in_range result =
-    let here = searched page item id is lent (subst (λ xs. rises_above None (places (entries_of xs)) ≡ true) (sym eq) up) r in_range (subst (λ p. IsBinarySearchResult (λ e. nat_cmp (place_in e) p) lent r) same result) in
+    let here = searched page item id is lent (subst (λ xs. rises_above None (entry_places (entries_of xs)) ≡ true) (sym eq) up) r in_range (subst (λ p. IsBinarySearchResult (λ e. nat_cmp (place_in e) p) lent r) same result) in
     record {
       found = λ i e is at. ap (λ (x : Entry). x.starts.items) at ∙ sym (subst (λ r. IfOk r (λ i. (d : Entry) → starts_in (entries_of lent) page item ≡ (get_or lent i d).starts.items)) is here.found e) ∙ ap (λ xs. starts_in (entries_of xs) page item) eq;
       absent = λ i is. sym (subst (λ r. IfErr r (λ i. starts_in (entries_of lent) page item ≡ [])) is here.absent) ∙ ap (λ xs. starts_in (entries_of xs) page item) eq;

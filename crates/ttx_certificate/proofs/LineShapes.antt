@@ -4,7 +4,7 @@ use Rattle.std.proofs.lemmas.List.Splits.{length-slice_split}
 use Rattle.ttx_header.specs.Ids.{Id}
 use Rattle.ttx_page.specs.declared.item.Item.{Item}
 use Rattle.ttx_certificate.specs.Entries.{entry_at, place_of}
-use Rattle.ttx_certificate.specs.CertificateReading.{parts_at, words_in, id_of, item_in, numbers_in, starts_in_words, with_item, with_starts, entry_in, read_entry, read_entries, line_at, only_number, ◌>>=◌}
+use Rattle.ttx_certificate.specs.CertificateReading.{parts_at, words_in, id_in_word, item_in, numbers_in, starts_in_words, with_item, with_starts, entry_in, read_entry, read_entries, line_at, only_number, ◌>>=◌}
 use Rattle.ttx_certificate.specs.declared.certificate_faults.CertFault.{CertFault}
 use Rattle.ttx_certificate.specs.declared.certificate_faults.CertFault.TheVariants.{Line}
 
@@ -17,7 +17,7 @@ one_at_least [] some = absurd (omega arith)
 one_at_least (word ∷ words) some = refl
 
 -- the line of an entry, by its words
-pub entry_shape : (words rest : List (List ℕ)) (word text : List ℕ) (page : Id) (item : Item) (starts : List ℕ) → words ≡ word ∷ rest → Some page ≡ id_of word →
+pub entry_shape : (words rest : List (List ℕ)) (word text : List ℕ) (page : Id) (item : Item) (starts : List ℕ) → words ≡ word ∷ rest → Some page ≡ id_in_word word →
     Some (item, words_in text) ≡ item_in rest → Some starts ≡ numbers_in (words_in text) → Some (entry_at page item starts) ≡ entry_in words
 entry_shape words rest word text page item starts is id_is item_is starts_are =
     sym (ap entry_in is ∙ ap (λ o. with_item o rest) (sym id_is) ∙ ap (with_starts page) (sym item_is)

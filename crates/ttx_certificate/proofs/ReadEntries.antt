@@ -3,7 +3,7 @@ use Rattle.std.proofs.Common.{◌≡◌, ◌⊎◌, inl, inr, ℕ, ◌+◌, ◌<
 use Rattle.std.specs.List.{join_with_byte}
 use Rattle.std.proofs.lemmas.List.{map-append}
 use Rattle.std.proofs.lemmas.List.Splits.{join_with_byte-slice_split}
-use Rattle.ttx_certificate.specs.Entries.{EntryFields, place_of, rises_above, places, is_above, are_starts}
+use Rattle.ttx_certificate.specs.Entries.{EntryFields, place_of, rises_above, entry_places, is_above, are_starts}
 use Rattle.ttx_certificate.specs.EntryViews.{entry_of, entries_of}
 use Rattle.ttx_certificate.specs.CertificateReading.{lines_in, words_in, entry_in, is_in_range, is_in_order, read_entry, read_entries, line_at, ◌>>=◌}
 use Rattle.ttx_certificate.specs.declared.entries.Entry.{Entry}
@@ -102,22 +102,22 @@ entry_ok n low (Some x) e is =
     not_not false h = sym h
 
 module _ (n : ℕ) (low : Option ℕ) (es : List EntryFields) (others : EntryFields → Result (List EntryFields) CertFault)
-    (rise : (e : EntryFields) (es' : List EntryFields) → others e ≡ Ok es' → rises_above (Some (place_of e.page e.item)) (places es') ≡ true) where
-  rise_after : (e : EntryFields) → is_in_order low e ≡ true → (r : Result (List EntryFields) CertFault) → others e ≡ r → (r >>= (λ es. Ok (e ∷ es))) ≡ Ok es → rises_above low (places es) ≡ true
-  rise_after e order (Ok es') same h = subst (λ es. rises_above low (places es) ≡ true) (ap (value_or []) h)
-      (and_both (is_above low (place_of e.page e.item)) (rises_above (Some (place_of e.page e.item)) (places es')) (and_right (are_starts e.starts) (is_above low (place_of e.page e.item)) order) (rise e es' same))
+    (rise : (e : EntryFields) (es' : List EntryFields) → others e ≡ Ok es' → rises_above (Some (place_of e.page e.item)) (entry_places es') ≡ true) where
+  rise_after : (e : EntryFields) → is_in_order low e ≡ true → (r : Result (List EntryFields) CertFault) → others e ≡ r → (r >>= (λ es. Ok (e ∷ es))) ≡ Ok es → rises_above low (entry_places es) ≡ true
+  rise_after e order (Ok es') same h = subst (λ es. rises_above low (entry_places es) ≡ true) (ap (value_or []) h)
+      (and_both (is_above low (place_of e.page e.item)) (rises_above (Some (place_of e.page e.item)) (entry_places es')) (and_right (are_starts e.starts) (is_above low (place_of e.page e.item)) order) (rise e es' same))
   rise_after e order (Err fault) same h = absurd (no_value fault es h)
 
-  rise_with : (o : Option EntryFields) (r : Result EntryFields CertFault) → read_entry n low o ≡ r → (r >>= (λ e. others e >>= (λ es. Ok (e ∷ es)))) ≡ Ok es → rises_above low (places es) ≡ true
+  rise_with : (o : Option EntryFields) (r : Result EntryFields CertFault) → read_entry n low o ≡ r → (r >>= (λ e. others e >>= (λ es. Ok (e ∷ es)))) ≡ Ok es → rises_above low (entry_places es) ≡ true
   rise_with o (Ok e) same h = rise_after e (entry_ok n low o e same).order (others e) refl h
   rise_with o (Err fault) same h = absurd (no_value fault es h)
 
 -- the entries of a text rise
-pub entries_rise : (n : ℕ) (low : Option ℕ) (lines : List (List ℕ)) (es : List EntryFields) → read_entries n low lines ≡ Ok es → rises_above low (places es) ≡ true
+pub entries_rise : (n : ℕ) (low : Option ℕ) (lines : List (List ℕ)) (es : List EntryFields) → read_entries n low lines ≡ Ok es → rises_above low (entry_places es) ≡ true
 entries_rise n low [] es is = absurd (no_value (Line n) es is)
 entries_rise n low (line ∷ []) es is =
-    if_ind (λ r. r ≡ Ok es → rises_above low (places es) ≡ true) (length line == 0) (Ok []) (Err (Line n))
-    (λ _ h. subst (λ es. rises_above low (places es) ≡ true) (ap (value_or []) h) refl)
+    if_ind (λ r. r ≡ Ok es → rises_above low (entry_places es) ≡ true) (length line == 0) (Ok []) (Err (Line n))
+    (λ _ h. subst (λ es. rises_above low (entry_places es) ≡ true) (ap (value_or []) h) refl)
     (λ _ h. absurd (no_value (Line n) es h))
     is
 entries_rise n low (line ∷ next ∷ more) es is =

@@ -12,9 +12,9 @@ use Rattle.ttx_page.specs.declared.item.Item.{Item}
 use Rattle.ttx_page.specs.declared.item.Item.TheVariants.{Head as TheHead, Row as TheRow, Links as TheLinks}
 use Rattle.ttx_page.specs.declared.class.Class.{Class}
 use Rattle.ttx_page.specs.declared.class.Class.TheVariants.{Any, Clearing}
-use Rattle.ttx_certificate.specs.Entries.{EntryFields, IsEntry, entry_at, CertificateFields, IsCertificateFields, fields_at, place_of, places, is_item, is_page_id, is_above, are_starts, rises, rises_above, are_numbers}
+use Rattle.ttx_certificate.specs.Entries.{EntryFields, IsEntry, entry_at, CertificateFields, IsCertificateFields, certificate_fields_at, place_of, entry_places, is_item, is_page_id, is_above, are_starts, rises, rises_above, are_numbers}
 use Rattle.ttx_certificate.specs.CertificateTexts.{hex_digit, id_text, item_text, starts_text, entry_text, entries_text, class_text, number_text, certificate_text}
-use Rattle.ttx_certificate.specs.CertificateReading.{parts_at, lines_in, words_in, are_digits, is_number, value_after, number_of, is_between, is_hex, hex_value, is_id_word, hex_pair, id_of, is_id, is_in_range, is_in_order, item_in, before_numbers, numbers_in, starts_in_words, with_starts, with_item, entry_in, read_entry, read_entries, ranged, only_number, number_in, line_at, number_line, read_numbers, read_clearing, read_class, read_version, read_title, read_text, ◌>>=◌}
+use Rattle.ttx_certificate.specs.CertificateReading.{parts_at, lines_in, words_in, are_digits, is_number, decimal_after, number_in_word, is_between, is_hex, hex_value, is_id_word, hex_pair, id_in_word, is_id, is_in_range, is_in_order, item_in, before_numbers, numbers_in, starts_in_words, with_starts, with_item, entry_in, read_entry, read_entries, ranged, only_number, number_in, line_at, number_line, read_numbers, read_clearing, read_class, read_version, read_title, read_text, ◌>>=◌}
 use Rattle.ttx_certificate.specs.declared.certificate_faults.CertFault.TheVariants.{Line, Range, Order}
 use Rattle.ttx_certificate.proofs.Basics.{and_left, and_right, and_both, no_both}
 use Rattle.ttx_certificate.proofs.AcceptedTexts.{own, item_words, numbers_text, whole}
@@ -72,7 +72,7 @@ lead zero small = rw (decimal_digit 0 (omega arith)) refl
 lead (suc n) small = let first : 48 < slice_index (decimal (suc n)) 0 = first_decimal (suc n) (omega arith) (omega arith) in grind (arith, nat_tests)
 
 -- the text of a number is read as the number
-number_decimal : (n : ℕ) → n < 10000000 → number_of (decimal n) ≡ Some n
+number_decimal : (n : ℕ) → n < 10000000 → number_in_word (decimal n) ≡ Some n
 number_decimal n small =
     let some : 0 < length (decimal n) = decimal_nonempty n (omega arith) in
     let few : length (decimal n) ≤ 7 = length-decimal-le 7 n (omega arith) (omega arith) (omega arith) in
@@ -80,8 +80,8 @@ number_decimal n small =
     let b : nat_le (length (decimal n)) 7 ≡ true = grind (arith, nat_tests) in
     let is : is_number (decimal n) ≡ true = and_both (are_digits (decimal n) && nat_le 1 (length (decimal n)) && nat_le (length (decimal n)) 7) (length (decimal n) == 1 || not (slice_index (decimal n) 0 == 48))
     (and_both (are_digits (decimal n) && nat_le 1 (length (decimal n))) (nat_le (length (decimal n)) 7) (and_both (are_digits (decimal n)) (nat_le 1 (length (decimal n))) (decimal_digits n small) a) b) (lead n small) in
-    let value : value_after 0 (decimal n) ≡ n = digits_value-decimal own n (omega arith) in
-    if_true (is_number (decimal n)) (Some (value_after 0 (decimal n))) None is ∙ ap Some value
+    let value : decimal_after 0 (decimal n) ≡ n = digits_value-decimal own n (omega arith) in
+    if_true (is_number (decimal n)) (Some (decimal_after 0 (decimal n))) None is ∙ ap Some value
 
 -- the digit of a number below 16
 hex_there : (n : ℕ) → n < 16 → (is_hex (hex_digit n) ≡ true) × (hex_value (hex_digit n) ≡ n)
@@ -106,7 +106,7 @@ id_word_of m a b c d e f = (48 + m) ∷ hex_digit a ∷ hex_digit b ∷ 47 ∷ h
 
 -- the word of a magazine and six digits
 id_word_read : (m a b c d e f : ℕ) → 1 ≤ m → m ≤ 8 → a < 16 → b < 16 → c < 16 → d < 16 → e < 16 → f < 16 →
-    id_of (id_word_of m a b c d e f) ≡ Some (id_at m (16 * a + b) (256 * (16 * c + d) + (16 * e + f)))
+    id_in_word (id_word_of m a b c d e f) ≡ Some (id_at m (16 * a + b) (256 * (16 * c + d) + (16 * e + f)))
 id_word_read m a b c d e f low high pa pb pc pd pe pf =
     let mag : is_between 49 56 (48 + m) ≡ true = grind (arith, nat_tests) in
     let value : (48 + m) - 48 ≡ m = omega arith in
@@ -119,7 +119,7 @@ id_word_read m a b c d e f low high pa pb pc pd pe pf =
     ∙ ap (λ x. Some (id_at m (16 * a + b) (256 * (16 * c + d) + x))) (pair_value e f pe pf)
 
 -- the text of an id is read as the id
-id_read : (id : Id) → IsId id → id_of (id_text id) ≡ Some id
+id_read : (id : Id) → IsId id → id_in_word (id_text id) ≡ Some id
 id_read id is =
     let small : id.page < 256 = is.page in
     let sub : id.sub < 16384 = is.sub.top in
@@ -236,15 +236,15 @@ entry_accepted n low e is above =
     ∙ if_true (is_in_order low e) (Ok e) (Err (Order n)) (and_both (are_starts e.starts) (is_above low (place_of e.page e.item)) is.starts above)
 
 -- the text of entries is read as the entries
-entries_read : (n : ℕ) (low : Option ℕ) (es : List EntryFields) → AllByRecursion IsEntry es → rises_above low (places es) ≡ true → read_entries n low (lines_in (entries_text es)) ≡ Ok es
+entries_read : (n : ℕ) (low : Option ℕ) (es : List EntryFields) → AllByRecursion IsEntry es → rises_above low (entry_places es) ≡ true → read_entries n low (lines_in (entries_text es)) ≡ Ok es
 entries_read n low [] all up = refl
 entries_read n low (e ∷ es) all up =
     ap (λ t. read_entries n low (lines_in t)) (append_assoc (entry_text e) (10 ∷ []) (entries_text es))
     ∙ ap (read_entries n low) (part_before 10 (entry_text e) (entries_text es) (entry_free e all.0))
     ∙ entries_step n low (entry_text e ∷ lines_in (entries_text es)) (entry_text e) (lines_in (entries_text es)) (sym (ended_line n 10 (entry_text e) (entries_text es)))
     ∙ ap (λ r. r >>= (λ e. read_entries (n + 1) (Some (place_of e.page e.item)) (lines_in (entries_text es)) >>= (λ es. Ok (e ∷ es))))
-    (ap (read_entry n low) (entry_read e all.0) ∙ entry_accepted n low e all.0 (and_left (is_above low (place_of e.page e.item)) (rises_above (Some (place_of e.page e.item)) (places es)) up))
-    ∙ ap (λ r. r >>= (λ es. Ok (e ∷ es))) (entries_read (n + 1) (Some (place_of e.page e.item)) es all.1 (and_right (is_above low (place_of e.page e.item)) (rises_above (Some (place_of e.page e.item)) (places es)) up))
+    (ap (read_entry n low) (entry_read e all.0) ∙ entry_accepted n low e all.0 (and_left (is_above low (place_of e.page e.item)) (rises_above (Some (place_of e.page e.item)) (entry_places es)) up))
+    ∙ ap (λ r. r >>= (λ es. Ok (e ∷ es))) (entries_read (n + 1) (Some (place_of e.page e.item)) es all.1 (and_right (is_above low (place_of e.page e.item)) (rises_above (Some (place_of e.page e.item)) (entry_places es)) up))
 
 -- the line of a number is read as the number
 number_read : (n : ℕ) (key : List ℕ) (most v : ℕ) (rest : List ℕ) → free 32 key ≡ true → free 10 key ≡ true → v < 10000000 → is_between 1 most v ≡ true →
@@ -294,13 +294,13 @@ numbers_text_read n w is =
     let numbers = numbers_of w is.numbers in
     let deadline_text = number_text (codes "deadline") w.deadline ++ entries_text w.entries in
     let repeat_text = number_text (codes "repeat") w.repeat ++ (number_text (codes "deadline") w.deadline ++ entries_text w.entries) in
-    ap (λ q. q >>= (λ l. number_line (n + 1) (codes "repeat") 8 l.1 >>= (λ r. number_line (n + 2) (codes "deadline") 1000000 r.1 >>= (λ d. read_entries (n + 3) None d.1 >>= (λ es. Ok (fields_at l.0 r.0 d.0 es w.class))))))
+    ap (λ q. q >>= (λ l. number_line (n + 1) (codes "repeat") 8 l.1 >>= (λ r. number_line (n + 2) (codes "deadline") 1000000 r.1 >>= (λ d. read_entries (n + 3) None d.1 >>= (λ es. Ok (certificate_fields_at l.0 r.0 d.0 es w.class))))))
     (number_read n (codes "lines") 32 w.lines repeat_text refl refl numbers.few_lines numbers.lines)
-    ∙ ap (λ q. q >>= (λ r. number_line (n + 2) (codes "deadline") 1000000 r.1 >>= (λ d. read_entries (n + 3) None d.1 >>= (λ es. Ok (fields_at w.lines r.0 d.0 es w.class)))))
+    ∙ ap (λ q. q >>= (λ r. number_line (n + 2) (codes "deadline") 1000000 r.1 >>= (λ d. read_entries (n + 3) None d.1 >>= (λ es. Ok (certificate_fields_at w.lines r.0 d.0 es w.class)))))
     (number_read (n + 1) (codes "repeat") 8 w.repeat deadline_text refl refl numbers.few_repeats numbers.repeat)
-    ∙ ap (λ q. q >>= (λ d. read_entries (n + 3) None d.1 >>= (λ es. Ok (fields_at w.lines w.repeat d.0 es w.class))))
+    ∙ ap (λ q. q >>= (λ d. read_entries (n + 3) None d.1 >>= (λ es. Ok (certificate_fields_at w.lines w.repeat d.0 es w.class))))
     (number_read (n + 2) (codes "deadline") 1000000 w.deadline (entries_text w.entries) refl refl numbers.few_fields numbers.deadline)
-    ∙ ap (λ q. q >>= (λ es. Ok (fields_at w.lines w.repeat w.deadline es w.class))) (entries_read (n + 3) None w.entries is.entries is.rising)
+    ∙ ap (λ q. q >>= (λ es. Ok (certificate_fields_at w.lines w.repeat w.deadline es w.class))) (entries_read (n + 3) None w.entries is.entries is.rising)
 
 -- the first line, and what follows it
 first_read : (first rest : List ℕ) → free 10 first ≡ true → read_text (first ++ (10 ∷ rest)) ≡ read_version first (lines_in rest)

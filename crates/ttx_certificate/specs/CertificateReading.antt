@@ -2,7 +2,7 @@
 -- counted from 1.
 --
 --   lines_in, words_in      the lines of a text, of which the last is what stands after the last 0A; the words of a line
---   number_of, id_of        a number, and the id of a page
+--   number_in_word, id_in_word        a number, and the id of a page
 --   item_in, starts_in_words, entry_in      an item, starts, and the line of an entry
 --   is_in_range, is_in_order                the ranges of an entry, and its place after the one before it
 --   read_entries, line_at, number_line, read_numbers, read_version, read_text       the parts of a text, and the text
@@ -15,7 +15,7 @@ use Rattle.ttx_page.specs.declared.item.Item.{Item}
 use Rattle.ttx_page.specs.declared.item.Item.TheVariants.{Head as TheHead, Row as TheRow, Links as TheLinks}
 use Rattle.ttx_page.specs.declared.class.Class.{Class}
 use Rattle.ttx_page.specs.declared.class.Class.TheVariants.{Any, Clearing}
-use Rattle.ttx_certificate.specs.Entries.{EntryFields, entry_at, CertificateFields, fields_at, is_above}
+use Rattle.ttx_certificate.specs.Entries.{EntryFields, entry_at, CertificateFields, certificate_fields_at, is_above}
 use Rattle.ttx_certificate.specs.Entries.{are_slots, are_starts, is_item, is_page_id, place_of}
 use Rattle.ttx_certificate.specs.declared.certificate_faults.CertFault.{CertFault}
 use Rattle.ttx_certificate.specs.declared.certificate_faults.CertFault.TheVariants.{Title, Line, Order, Range}
@@ -39,12 +39,12 @@ are_digits word = list_all (is_between 48 57) word
 abbrev pub is_number : List ℕ → Bool
 is_number word = are_digits word && nat_le 1 (length word) && nat_le (length word) 7 && (length word == 1 || not (slice_index word 0 == 48))
 
-abbrev pub value_after : ℕ → List ℕ → ℕ
-value_after n [] = n
-value_after n (digit ∷ digits) = value_after (10 * n + (digit - 48)) digits
+abbrev pub decimal_after : ℕ → List ℕ → ℕ
+decimal_after n [] = n
+decimal_after n (digit ∷ digits) = decimal_after (10 * n + (digit - 48)) digits
 
-abbrev pub number_of : List ℕ → Option ℕ
-number_of word = if is_number word then Some (value_after 0 word) else None
+abbrev pub number_in_word : List ℕ → Option ℕ
+number_in_word word = if is_number word then Some (decimal_after 0 word) else None
 
 -- 0 to 9 and A to F
 abbrev pub is_hex : ℕ → Bool
@@ -63,12 +63,12 @@ is_id_word word =
 abbrev pub hex_pair : List ℕ → ℕ → ℕ
 hex_pair word i = 16 * hex_value (slice_index word i) + hex_value (slice_index word (i + 1))
 
-abbrev pub id_of : List ℕ → Option Id
-id_of word = if is_id_word word then Some (id_at (slice_index word 0 - 48) (hex_pair word 1) (256 * hex_pair word 4 + hex_pair word 6)) else None
+abbrev pub id_in_word : List ℕ → Option Id
+id_in_word word = if is_id_word word then Some (id_at (slice_index word 0 - 48) (hex_pair word 1) (256 * hex_pair word 4 + hex_pair word 6)) else None
 
 abbrev pub row_in : List (List ℕ) → Option (Item × List (List ℕ))
 row_in [] = None
-row_in (word ∷ words) = option_map (λ n. (TheRow n, words)) (number_of word)
+row_in (word ∷ words) = option_map (λ n. (TheRow n, words)) (number_in_word word)
 
 -- an item, and the words after it
 abbrev pub item_in : List (List ℕ) → Option (Item × List (List ℕ))
@@ -85,7 +85,7 @@ before_numbers (Some n) ns = option_map (λ ns. n ∷ ns) ns
 
 abbrev pub numbers_in : List (List ℕ) → Option (List ℕ)
 numbers_in [] = Some []
-numbers_in (word ∷ words) = before_numbers (number_of word) (numbers_in words)
+numbers_in (word ∷ words) = before_numbers (number_in_word word) (numbers_in words)
 
 -- one number at least
 abbrev pub starts_in_words : List (List ℕ) → Option (List ℕ)
@@ -103,7 +103,7 @@ with_item (Some page) words = with_starts page (item_in words)
 -- the page, the item and the starts of a line
 abbrev pub entry_in : List (List ℕ) → Option EntryFields
 entry_in [] = None
-entry_in (word ∷ words) = with_item (id_of word) words
+entry_in (word ∷ words) = with_item (id_in_word word) words
 
 -- a magazine and a subcode inside their ranges
 abbrev pub is_id : Id → Bool
@@ -141,7 +141,7 @@ ranged n most (Some value) = if is_between 1 most value then Ok value else Err (
 
 -- one word, which is the number
 abbrev pub only_number : ℕ → ℕ → List (List ℕ) → Result ℕ CertFault
-only_number n most (word ∷ []) = ranged n most (number_of word)
+only_number n most (word ∷ []) = ranged n most (number_in_word word)
 only_number n most words = Err (Line n)
 
 -- a number from 1 to the most, after a word
@@ -165,7 +165,7 @@ read_numbers class n text = do
   repeat ← number_line (n + 1) (codes "repeat") 8 lines.1
   deadline ← number_line (n + 2) (codes "deadline") 1000000 repeat.1
   entries ← read_entries (n + 3) None deadline.1
-  Ok (fields_at lines.0 repeat.0 deadline.0 entries class)
+  Ok (certificate_fields_at lines.0 repeat.0 deadline.0 entries class)
 
 -- the lines after the line of the class
 abbrev pub read_clearing : List ℕ × List (List ℕ) → Result CertificateFields CertFault

@@ -33,8 +33,9 @@ pub record CertificateFields : Type 0 where
   pub entries : List EntryFields
   pub class : Class
 
-abbrev pub fields_at : ℕ → ℕ → ℕ → List EntryFields → Class → CertificateFields
-fields_at lines repeat deadline entries class = record { lines = lines; repeat = repeat; deadline = deadline; entries = entries; class = class }
+abbrev pub certificate_fields_at : ℕ → ℕ → ℕ → List EntryFields → Class → CertificateFields
+certificate_fields_at lines repeat deadline entries class =
+    record { lines = lines; repeat = repeat; deadline = deadline; entries = entries; class = class }
 
 abbrev pub is_above : Option ℕ → ℕ → Bool
 is_above None n = true
@@ -48,9 +49,9 @@ rises_above low (n ∷ ns) = is_above low n && rises_above (Some n) ns
 abbrev pub rises : List ℕ → Bool
 rises ns = rises_above None ns
 
-abbrev pub is_empty : List ℕ → Bool
-is_empty [] = true
-is_empty (n ∷ ns) = Bool.false
+abbrev pub are_none : List ℕ → Bool
+are_none [] = true
+are_none (n ∷ ns) = Bool.false
 
 -- a row is 1 to 24
 abbrev pub is_item : Item → Bool
@@ -68,7 +69,7 @@ are_slots numbers = list_all (λ number. nat_lt number 65536) numbers
 
 -- one start at least, each below 65,536, rising
 abbrev pub are_starts : List ℕ → Bool
-are_starts starts = not (is_empty starts) && are_slots starts && rises starts
+are_starts starts = not (are_none starts) && are_slots starts && rises starts
 
 pub record IsEntry (e : EntryFields) : Type 0 where
   pub id : IsId e.page
@@ -81,8 +82,8 @@ pub record IsEntry (e : EntryFields) : Type 0 where
 abbrev pub place_of : Id → Item → ℕ
 place_of page item = key_of page * 26 + item_number item
 
-abbrev pub places : List EntryFields → List ℕ
-places entries = map (λ e. place_of e.page e.item) entries
+abbrev pub entry_places : List EntryFields → List ℕ
+entry_places entries = map (λ e. place_of e.page e.item) entries
 
 -- lines 1 to 32, repeat 1 to 8, deadline 1 to 1,000,000
 abbrev pub are_numbers : ℕ → ℕ → ℕ → Bool
@@ -93,7 +94,7 @@ are_numbers lines repeat deadline =
 pub record IsCertificateFields (w : CertificateFields) : Type 0 where
   pub numbers : are_numbers w.lines w.repeat w.deadline ≡ true
   pub entries : AllByRecursion IsEntry w.entries
-  pub rising : rises (places w.entries) ≡ true
+  pub rising : rises (entry_places w.entries) ≡ true
 
 -- whether two items are the same
 abbrev pub same_item : Item → Item → Bool

@@ -1,6 +1,6 @@
 -- Entries as they are written, and what the parts of the reader answer, as the definitions see them.
 --
---   item_of, written_of     an item and an entry whose numbers may be out of range
+--   written_item, written_of     an item and an entry whose numbers may be out of range
 --   words_after             the words of what is left of a line
 use Rattle.std.specs.Prelude.{ℕ, List, [], Option, Some, None}
 use Rattle.ttx_header.specs.Ids.{id_at}
@@ -12,13 +12,13 @@ use Rattle.ttx_certificate.specs.declared.written.Written.{Written}
 use Rattle.ttx_certificate.specs.declared.written.WrittenItem.{WrittenItem}
 use Rattle.ttx_certificate.specs.declared.written.WrittenItem.TheVariants.{Head, Row, Links}
 
-abbrev pub item_of : WrittenItem → Item
-item_of Head = TheHead
-item_of (Row n) = TheRow n
-item_of Links = TheLinks
+abbrev pub written_item : WrittenItem → Item
+written_item Head = TheHead
+written_item (Row n) = TheRow n
+written_item Links = TheLinks
 
 abbrev pub written_of : Written → EntryFields
-written_of e = entry_at (id_at e.mag e.page e.sub) (item_of e.item) e.starts.items
+written_of e = entry_at (id_at e.mag e.page e.sub) (written_item e.item) e.starts.items
 
 abbrev pub words_after : Option (List ℕ) → List (List ℕ)
 words_after None = []

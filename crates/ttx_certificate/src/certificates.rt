@@ -1,7 +1,7 @@
 //! Certificates.
 
 ghost use Rattle.std.specs.Prelude.{◌≡◌, true};
-ghost use Rattle.ttx_certificate.specs.Entries.{are_numbers, rises, places};
+ghost use Rattle.ttx_certificate.specs.Entries.{are_numbers, rises, entry_places};
 ghost use Rattle.ttx_certificate.specs.EntryViews.{entries_of};
 
 use crate::entries::{Entry, is_above, place};
@@ -19,7 +19,7 @@ pub struct Certificate {
     entries: Vec<Entry>,
     class: Class,
     ghost numbers: { are_numbers lines repeat deadline ≡ true },
-    ghost rising: { rises (places (entries_of entries.items)) ≡ true },
+    ghost rising: { rises (entry_places (entries_of entries.items)) ≡ true },
 }
 
 // Whether the numbers are in their ranges.
@@ -36,7 +36,7 @@ fn are_numbers(lines: u8, repeat: u8, deadline: u32) -> bool
 
 // Whether each entry stands after the one before it.
 fn are_in_order(entries: &[Entry]) -> bool
-    ensures { result ≡ rises (places (entries_of entries.now)) }
+    ensures { result ≡ rises (entry_places (entries_of entries.now)) }
 {
     let mut low = None;
     for entry in entries {
@@ -51,7 +51,7 @@ fn are_in_order(entries: &[Entry]) -> bool
 
 impl Certificate {
     ghost use Rattle.std.specs.Prelude.{is_some, IfSome, ◌&&◌};
-    ghost use Rattle.ttx_certificate.specs.Entries.{fields_at, starts_in};
+    ghost use Rattle.ttx_certificate.specs.Entries.{certificate_fields_at, starts_in};
     ghost use Rattle.ttx_certificate.specs.Certificates.{fields_of};
 
     /// The certificate of these fields, which keep the type's rules.
@@ -63,8 +63,8 @@ impl Certificate {
         class: Class,
     ) -> Certificate
         requires numbers { are_numbers lines repeat deadline ≡ true }
-        requires rising { rises (places (entries_of entries.items)) ≡ true }
-        ensures { fields_of result ≡ fields_at lines repeat deadline (entries_of entries.items) class }
+        requires rising { rises (entry_places (entries_of entries.items)) ≡ true }
+        ensures { fields_of result ≡ certificate_fields_at lines repeat deadline (entries_of entries.items) class }
     {
         Certificate {
             lines,
@@ -83,8 +83,8 @@ impl Certificate {
         entries: Vec<Entry>,
         class: Class,
     ) -> Option<Certificate>
-        ensures some { is_some result ≡ (are_numbers lines repeat deadline && rises (places (entries_of entries.items))) }
-        ensures fields { IfSome result (λ w. fields_of w ≡ fields_at lines repeat deadline (entries_of entries.items) class) }
+        ensures some { is_some result ≡ (are_numbers lines repeat deadline && rises (entry_places (entries_of entries.items))) }
+        ensures fields { IfSome result (λ w. fields_of w ≡ certificate_fields_at lines repeat deadline (entries_of entries.items) class) }
     {
         if are_numbers(lines, repeat, deadline) && are_in_order(entries.as_slice()) {
             Some(Certificate::of(lines, repeat, deadline, entries, class))

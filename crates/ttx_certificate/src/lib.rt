@@ -5,12 +5,12 @@ mod certificate_faults;
 pub mod certificate_laws;
 mod certificates;
 mod entries;
+mod entry_lines;
 mod item_numbers;
 mod limits;
+mod line_words;
 mod no_memory;
 mod reading;
-mod shapes;
-mod words;
 mod writing;
 mod written;
 

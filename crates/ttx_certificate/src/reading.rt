@@ -2,19 +2,19 @@
 
 ghost use Rattle.std.specs.Prelude.{◌≡◌, ◌+◌, ◌<◌, ◌≤◌, ◌^◌, ◌&&◌, true, length, IfOk, Some, None, if◌then◌else◌};
 ghost use Rattle.ttx_header.specs.Ids.{id_at};
-ghost use Rattle.ttx_certificate.specs.Entries.{is_item, is_page_id, rises, places};
+ghost use Rattle.ttx_certificate.specs.Entries.{is_item, is_page_id, rises, entry_places};
 ghost use Rattle.ttx_certificate.specs.EntryViews.{entry_of, entries_of};
 ghost use Rattle.ttx_certificate.specs.Certificates.{fields_of};
 ghost use Rattle.ttx_certificate.specs.CertificateReading.{lines_in, words_in, is_id};
 ghost use Rattle.ttx_certificate.specs.CertificateReading as rule;
-ghost use Rattle.ttx_certificate.specs.WrittenEntries.{item_of, written_of};
+ghost use Rattle.ttx_certificate.specs.WrittenEntries.{written_item, written_of};
 ghost use Rattle.ttx_certificate.specs.ReadingAnswers.{outcome, IsUnlessMemory};
 
 use crate::certificate_faults::CertFault;
 use crate::certificates::Certificate;
 use crate::entries::{Entry, are_slots, is_above};
-use crate::shapes::shape;
-use crate::words::{cut, number};
+use crate::entry_lines::shape;
+use crate::line_words::{cut, number};
 use crate::written::{Written, WrittenItem};
 use std::alloc::Global;
 use ttx_header::PageId;
@@ -32,7 +32,7 @@ fn page_id(mag: u8, page: u8, sub: u16) -> Option<PageId>
 
 // The item, where the number of a row is 1 to 24.
 fn ranged_item(item: WrittenItem) -> Option<Item>
-    ensures { result ≡ (if is_item (item_of item) then Some (item_of item) else None) }
+    ensures { result ≡ (if is_item (written_item item) then Some (written_item item) else None) }
 {
     match item {
         WrittenItem::Head => Some(Item::Head),
@@ -92,7 +92,7 @@ fn line_at(text: &[u8], line: usize) -> Result<(&[u8], &[u8]), CertFault>
 fn entries(alloc: Global, text: &[u8], first: usize) -> Result<Vec<Entry>, CertFault>
     requires { first + length text.now < 2 ^ 64 }
     ensures value { IsUnlessMemory result (outcome (λ v. entries_of v.items) result ≡ rule.read_entries first None (lines_in text.now)) }
-    ensures rising { IfOk result (λ v. rises (places (entries_of v.items)) ≡ true) }
+    ensures rising { IfOk result (λ v. rises (entry_places (entries_of v.items)) ≡ true) }
 {
     let mut entries = Vec::new(alloc);
     let mut low = None;

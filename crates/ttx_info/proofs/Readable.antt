@@ -10,7 +10,7 @@ use Rattle.ttx_packet.specs.Slots.{IsSlot, are_readable}
 use Rattle.ttx_header.specs.Headers.{number}
 use Rattle.ttx_links.specs.Laws.{ReadLinkIsSaid}
 use Rattle.ttx_links.specs.Sets.{IsLink}
-use Rattle.ttx_info.specs.Infos.{InfoFields, IsInfoFields, is_digit, value_of, date_digits, time_digits, date_halves, time_halves, fields_of, info_of, Says}
+use Rattle.ttx_info.specs.Infos.{InfoFields, IsInfoFields, is_digit, value_of, date_digits, time_digits, date_halves, time_halves, info_fields, info_of, SaysInfo}
 use Rattle.ttx_info.specs.Laws.{ReadInfosAreSaid}
 use Rattle.ttx_info.specs.declared.faults.InfoFault.{InfoFault}
 
@@ -117,7 +117,7 @@ module _ (link : ReadLinkIsSaid) where
   -- the fields that are read, where no test leads to a fault
   said : (s : List ℕ) → IsSlot s → is_some (reading (slice_index s 2)) ≡ true → nat_lt 1 (number s 2) ≡ false → are_readable (slice_range s 3 9) ≡ true →
       list_all is_digit (date_digits s) ≡ true → list_all is_digit (time_digits s) ≡ true → list_all is_odd (slice_range s 22 42) ≡ true →
-      IsInfoFields (fields_of s) × IsLink (fields_of s).initial × Says (fields_of s) s
+      IsInfoFields (info_fields s) × IsLink (info_fields s).initial × SaysInfo (info_fields s) s
   said s is first low linked date time odd =
       let (target, initial) = link 8 s 3 is (omega arith) linked in
       let (mjd, days) = date_again _ _ _ _ _ date in
@@ -157,8 +157,8 @@ module _ (link : ReadLinkIsSaid) where
       let (digits, e4) = passed _ _ _ f e3 in
       let (odd, e5) = passed _ _ _ f e4 in
       let both = and_parts (list_all is_digit (date_digits s)) (list_all is_digit (time_digits s)) (turned _ digits) in
-      subst (λ g. IsInfoFields g × IsLink g.initial × Says g s) (ap (λ r. the r) e5) (said s is (turned _ first) low (turned _ linked) both.0 both.1 (turned _ odd))
+      subst (λ g. IsInfoFields g × IsLink g.initial × SaysInfo g s) (ap (λ r. the r) e5) (said s is (turned _ first) low (turned _ linked) both.0 both.1 (turned _ odd))
     where
       the : Result InfoFields InfoFault → InfoFields
       the (Ok g) = g
-      the (Err fault) = fields_of s
+      the (Err fault) = info_fields s

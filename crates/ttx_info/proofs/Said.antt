@@ -8,14 +8,14 @@ use Rattle.ttx_code.specs.Laws.{OddBytesHoldTheirCodes}
 use Rattle.ttx_header.specs.Headers.{number}
 use Rattle.ttx_links.specs.Sets.{IsLink}
 use Rattle.ttx_links.specs.Laws.{SaidLinkIsRead}
-use Rattle.ttx_info.specs.Infos.{InfoFields, IsInfoFields, info_at, is_digit, value_of, date_digits, time_digits, fields_of, info_of, Says}
+use Rattle.ttx_info.specs.Infos.{InfoFields, IsInfoFields, info_at, is_digit, value_of, date_digits, time_digits, info_fields, info_of, SaysInfo}
 use Rattle.ttx_info.proofs.Digits.{both, date_is_digits, time_is_digits, date_value, time_value, codes_of_bytes, bytes_are_odd}
 
 not_above_one : (n : ℕ) → n < 2 → nat_lt 1 n ≡ false
 not_above_one n l = grind (arith, nat_tests)
 
 module _ (holds : OddBytesHoldTheirCodes) (link : SaidLinkIsRead) where
-  pub info_said : (f : InfoFields) (s : List ℕ) → IsInfoFields f → IsLink f.initial → length s ≡ 42 → Says f s → info_of s ≡ Ok f
+  pub info_said : (f : InfoFields) (s : List ℕ) → IsInfoFields f → IsLink f.initial → length s ≡ 42 → SaysInfo f s → info_of s ≡ Ok f
   unfolding info_of
   info_said f s is target size says =
       let (initial, linked) = link 8 f.initial s 3 target says.initial (omega (arith, size)) in
@@ -28,5 +28,5 @@ module _ (holds : OddBytesHoldTheirCodes) (link : SaidLinkIsRead) where
       let mjd : value_of (date_digits s) ≡ f.mjd = ap value_of says.date ∙ date_value f.mjd is.range.mjd in
       let utc : value_of (time_digits s) ≡ f.utc = ap value_of says.time ∙ time_value f.utc is.range.utc in
       let text : map (λ b. b % 128) (slice_range s 22 42) ≡ f.text = ap (map (λ b. b % 128)) says.text ∙ codes_of_bytes holds f.text is.range.text in
-      let fields : fields_of s ≡ f = λ i. info_at (first i) (initial i) (says.network i) (says.halves i) (says.west i) (mjd i) (utc i) (text i) in
+      let fields : info_fields s ≡ f = λ i. info_at (first i) (initial i) (says.network i) (says.halves i) (says.west i) (mjd i) (utc i) (text i) in
       rw (second, low, linked, digits, odd) (ap Ok fields)

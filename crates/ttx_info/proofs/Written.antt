@@ -9,7 +9,7 @@ use Rattle.ttx_packet.specs.Laws.{AddressIsReadBack, IsReadBack}
 use Rattle.ttx_header.specs.Ids.{Id}
 use Rattle.ttx_links.specs.Sets.{link_bytes, SaysLink}
 use Rattle.ttx_links.specs.Laws.{SaidLinkIsRead, WrittenLinkIsSaid}
-use Rattle.ttx_info.specs.Infos.{half_byte, offset_byte, date_bytes, time_bytes, date_digits, time_digits, date_halves, time_halves, info_bytes, Says}
+use Rattle.ttx_info.specs.Infos.{half_byte, offset_byte, date_bytes, time_bytes, date_digits, time_digits, date_halves, time_halves, info_bytes, SaysInfo}
 use Rattle.ttx_info.specs.Laws.{WrittenInfosAreRead}
 use Rattle.ttx_info.proofs.Said.{info_said}
 
@@ -89,7 +89,7 @@ module _ (read : WordsAreRead) (holds : OddBytesHoldTheirCodes) (address : Addre
       let at = λ (k : ℕ) (l : k < 11). (let e : get_or s (11 + k) 0 ≡ get_or times k 0 = at_range s 11 22 k l ∙ ap (λ xs. get_or xs k 0) clock in e) in
       let third_byte : reading (slice_index s 2) ≡ Some f.designation =
       subst (λ t. reading (slice_index t 2) ≡ Some f.designation) first (read f.designation (omega (arith, is.range.designation))) in
-      let says : Says f s = record {
+      let says : SaysInfo f s = record {
         designation = third_byte;
         initial = subst (λ t. SaysLink 8 f.initial t 3) first (written 8 f.initial front after target);
         network = network;

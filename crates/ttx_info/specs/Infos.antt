@@ -4,9 +4,9 @@
 --   InfoFields, info_at     the fields, as contracts see an `Info`
 --   IsInfoRange, IsInfoFields       their ranges
 --   digits_of, is_digit, value_of   the half bytes of date and time, each a digit plus one
---   fields_of, info_of      what the bytes of a packet say, or why they say nothing
+--   info_fields, info_of      what the bytes of a packet say, or why they say nothing
 --   half_byte, offset_byte, date_bytes, time_bytes, info_bytes          the bytes that are written
---   Says                    the packet that 42 bytes say
+--   SaysInfo                    the packet that 42 bytes say
 use Rattle.std.specs.Prelude.{◌≡◌, ℕ, ◌+◌, ◌-◌, ◌*◌, ◌/◌, ◌%◌, ◌<◌, List, [], ◌∷◌, ◌++◌, All, Bool, nat_le, nat_lt, not, ◌==◌, ◌&&◌}
 use Rattle.std.specs.Prelude.{Option, Some, Result, Ok, Err, if◌then◌else◌, is_some, length, map, slice_index, slice_range}
 use Rattle.std.specs.List.{list_all}
@@ -70,8 +70,8 @@ abbrev pub value_of : List ℕ → ℕ
 value_of halves = followed_by 0 halves
 
 -- all fields of a packet that has no fault
-abbrev pub fields_of : List ℕ → InfoFields
-fields_of s =
+abbrev pub info_fields : List ℕ → InfoFields
+info_fields s =
     info_at (number s 2) (link_at 8 s 3) (slice_range s 9 11) (slice_index s 11 / 2 % 32) (slice_index s 11 / 64 % 2 == 1)
     (value_of (date_digits s)) (value_of (time_digits s)) (map (λ b. b % 128) (slice_range s 22 42))
 
@@ -83,7 +83,7 @@ info_of s =
     else if not (are_readable (slice_range s 3 9)) then Err Hamming
     else if not (list_all is_digit (date_digits s) && list_all is_digit (time_digits s)) then Err Digit
     else if not (list_all is_odd (slice_range s 22 42)) then Err Parity
-    else Ok (fields_of s)
+    else Ok (info_fields s)
 
 -- a decimal digit of n as a half byte; unit is 1 for the last digit, 10 for the one before it, and so on
 abbrev pub half_byte : ℕ → ℕ → ℕ
@@ -120,7 +120,7 @@ info_bytes f =
 
 -- The bytes say the fields: byte 2, the link, the network, bits 2 to 7 of byte 11, eleven half bytes, and 20 characters. Bits 1
 -- and 8 of byte 11, the high half of byte 12 and bytes 18 to 21 are any.
-pub record Says (f : InfoFields) (s : List ℕ) : Type 0 where
+pub record SaysInfo (f : InfoFields) (s : List ℕ) : Type 0 where
   pub designation : reading (slice_index s 2) ≡ Some f.designation
   pub initial : SaysLink 8 f.initial s 3
   pub network : slice_range s 9 11 ≡ f.network

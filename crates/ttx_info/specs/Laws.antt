@@ -6,22 +6,22 @@
 use Rattle.std.specs.Prelude.{◌≡◌, ℕ, List, Ok, true}
 use Rattle.ttx_packet.specs.Slots.{IsSlot, IsInfo, kind_of, is_clean}
 use Rattle.ttx_links.specs.Sets.{IsLink}
-use Rattle.ttx_info.specs.Infos.{InfoFields, IsInfoFields, Says, info_of, info_bytes}
+use Rattle.ttx_info.specs.Infos.{InfoFields, IsInfoFields, SaysInfo, info_of, info_bytes}
 
 -- 42 bytes that say fields are read as these fields
 abbrev pub SaidInfosAreRead : Type 0
-SaidInfosAreRead = (f : InfoFields) (s : List ℕ) → IsInfoFields f → IsLink f.initial → IsSlot s → Says f s → info_of s ≡ Ok f
+SaidInfosAreRead = (f : InfoFields) (s : List ℕ) → IsInfoFields f → IsLink f.initial → IsSlot s → SaysInfo f s → info_of s ≡ Ok f
 
 -- 42 bytes that are read as fields say these fields, which are in range
 abbrev pub ReadInfosAreSaid : Type 0
-ReadInfosAreSaid = (f : InfoFields) (s : List ℕ) → IsSlot s → info_of s ≡ Ok f → IsInfoFields f × IsLink f.initial × Says f s
+ReadInfosAreSaid = (f : InfoFields) (s : List ℕ) → IsSlot s → info_of s ≡ Ok f → IsInfoFields f × IsLink f.initial × SaysInfo f s
 
 -- what is written of fields is clean, has the kind info, says the fields and is read as the same fields
-pub record IsWritten (f : InfoFields) : Type 0 where
+pub record IsInfoWritten (f : InfoFields) : Type 0 where
   pub kind : kind_of (info_bytes f) ≡ IsInfo
   pub clean : is_clean (info_bytes f) ≡ true
-  pub says : Says f (info_bytes f)
+  pub says : SaysInfo f (info_bytes f)
   pub fields : info_of (info_bytes f) ≡ Ok f
 
 abbrev pub WrittenInfosAreRead : Type 0
-WrittenInfosAreRead = (f : InfoFields) → IsInfoFields f → IsLink f.initial → IsWritten f
+WrittenInfosAreRead = (f : InfoFields) → IsInfoFields f → IsLink f.initial → IsInfoWritten f

@@ -5,7 +5,7 @@ use Rattle.ttx_packet.specs.Slots.{are_readable, magazine}
 use Rattle.ttx_header.specs.Headers.{ReadsFrom, number}
 use Rattle.ttx_header.specs.Ids.{Id, id_at, IsSubcode}
 use Rattle.ttx_header.specs.Laws.{ReadBytesAreReadable, ReadNumbersAreNumbers}
-use Rattle.ttx_links.specs.Sets.{LinksFields, IsLinksFields, IsLink, AreLinks, link_numbers, numbers_for, no_link, target_magazine, target_at, linked, link_at, links_of, SaysLink, SaysEach, Says}
+use Rattle.ttx_links.specs.Sets.{LinksFields, IsLinksFields, IsLink, AreLinks, link_numbers, numbers_for, no_link, target_magazine, target_at, linked, link_at, links_of, SaysLink, SaysEach, SaysLinks}
 use Rattle.ttx_links.specs.Laws.{SaidLinkIsRead}
 use Rattle.ttx_links.proofs.Magazines.{xor_below_8, xor_back, magazine_back}
 
@@ -68,7 +68,7 @@ module _ (numbers : ReadNumbersAreNumbers) where
           subst (λ n. are_readable (slice_range s k (k + n)) ≡ true) long (readable s k ns (omega (arith, long, inside)) reads),
         )
 
-    pub links_said : (mag : ℕ) (f : LinksFields) (s : List ℕ) → IsLinksFields f → AreLinks f.set.six → length s ≡ 42 → Says mag f s → links_of mag s ≡ Some f.set
+    pub links_said : (mag : ℕ) (f : LinksFields) (s : List ℕ) → IsLinksFields f → AreLinks f.set.six → length s ≡ 42 → SaysLinks mag f s → links_of mag s ≡ Some f.set
     unfolding links_of
     links_said mag f s is targets size says =
         let (n, control, shows) = says.control in

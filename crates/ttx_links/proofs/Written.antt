@@ -7,7 +7,7 @@ use Rattle.ttx_packet.specs.Slots.{IsLinks, is_empty, is_clean, are_words, addre
 use Rattle.ttx_packet.specs.Laws.{AddressIsReadBack, IsReadBack}
 use Rattle.ttx_header.specs.Ids.{Id, IsSubcode}
 use Rattle.ttx_header.specs.Laws.{WrittenWordsAreRead, AreNumbers, ReadNumbersAreNumbers, ReadBytesAreReadable}
-use Rattle.ttx_links.specs.Sets.{IsLink, AreLinks, link_numbers, numbers_for, no_link, link_bytes, control_byte, links_bytes, SaysLink, SaysEach, Says}
+use Rattle.ttx_links.specs.Sets.{IsLink, AreLinks, link_numbers, numbers_for, no_link, link_bytes, control_byte, links_bytes, SaysLink, SaysEach, SaysLinks}
 use Rattle.ttx_links.specs.Laws.{WrittenLinkIsSaid, WrittenLinksAreRead}
 use Rattle.ttx_links.proofs.Magazines.{xor_below_8}
 use Rattle.ttx_links.proofs.Said.{links_said}
@@ -84,7 +84,7 @@ module _ (written : WrittenWordsAreRead) where
         let before : length (front ++ links ++ hamming_word n ∷ []) ≡ 40 = omega (arith, length-append (front ++ links) (hamming_word n ∷ []), at) in
         let crc : slice_range s 40 42 ≡ f.crc =
         subst (λ t. slice_range t 40 42 ≡ f.crc) ends (ap (take 2) (drop_at (front ++ links ++ hamming_word n ∷ []) f.crc 40 before) ∙ take_all 2 f.crc (omega (arith, is.crc))) in
-        let says : Says mag f s = record { links = each_written mag f.set.six front (control_byte f.set.show24 ∷ f.crc) targets; control = (n, reads, shows f.set.show24); crc = crc } in
+        let says : SaysLinks mag f s = record { links = each_written mag f.set.six front (control_byte f.set.show24 ∷ f.crc) targets; control = (n, reads, shows f.set.show24); crc = crc } in
         let size : length s ≡ 42 = ap length (sym ends) ∙ omega (arith, length-append (front ++ links ++ hamming_word n ∷ []) f.crc, before, is.crc) in
         let part : slice_range s 3 40 ≡ links ++ hamming_word n ∷ [] =
         ap (take 37) (sym (append_assoc links (hamming_word n ∷ []) f.crc)) ∙ take_at (links ++ hamming_word n ∷ []) f.crc 37 (omega (arith, length-append links (hamming_word n ∷ []), long)) in

@@ -10,7 +10,7 @@ use Rattle.ttx_code.specs.Words.{Near}
 use Rattle.ttx_packet.specs.Slots.{IsSlot, IsLinks, are_readable, kind_of, is_clean}
 use Rattle.ttx_header.specs.Ids.{Id}
 use Rattle.ttx_links.specs.Sets.{LinkSet, LinksFields, IsLinksFields, IsLink, AreLinks, link_at, link_bytes}
-use Rattle.ttx_links.specs.Sets.{SaysLink, Says, links_of, fields_of, is_exact, links_bytes}
+use Rattle.ttx_links.specs.Sets.{SaysLink, SaysLinks, links_of, links_fields, is_exact, links_bytes}
 
 -- what is received of a packet X/27/0 whose bytes 3 to 39 are code words, with at most one wrong bit in each, says the same links and show24
 abbrev pub LinksAreKept : Type 0
@@ -38,22 +38,22 @@ WrittenLinkIsSaid =
 -- 42 bytes that say a packet of the magazine are read as this packet
 abbrev pub SaidLinksAreRead : Type 0
 SaidLinksAreRead =
-    (mag : ℕ) (f : LinksFields) (s : List ℕ) → IsLinksFields f → AreLinks f.set.six → IsSlot s → Says mag f s →
+    (mag : ℕ) (f : LinksFields) (s : List ℕ) → IsLinksFields f → AreLinks f.set.six → IsSlot s → SaysLinks mag f s →
     (links_of mag s ≡ Some f.set) × (slice_range s 40 42 ≡ f.crc)
 
 -- a packet whose bytes 3 to 39 are readable says what is read of it, and its links lead to targets in range
 abbrev pub ReadLinksAreSaid : Type 0
 ReadLinksAreSaid =
     (mag : ℕ) (s : List ℕ) (set : LinkSet) → IsSlot s → links_of mag s ≡ Some set →
-    ((fields_of mag s).set ≡ set) × IsLinksFields (fields_of mag s) × AreLinks set.six × Says mag (fields_of mag s) s
+    ((links_fields mag s).set ≡ set) × IsLinksFields (links_fields mag s) × AreLinks set.six × SaysLinks mag (links_fields mag s) s
 
 -- what is written of a packet is clean and exact, has the kind links, says the packet and is read as the same packet
-pub record IsWritten (mag : ℕ) (f : LinksFields) : Type 0 where
+pub record IsLinksWritten (mag : ℕ) (f : LinksFields) : Type 0 where
   pub kind : kind_of (links_bytes mag f) ≡ IsLinks mag
   pub clean : is_clean (links_bytes mag f) ≡ true
   pub exact : is_exact (links_bytes mag f) ≡ true
-  pub says : Says mag f (links_bytes mag f)
+  pub says : SaysLinks mag f (links_bytes mag f)
   pub set : links_of mag (links_bytes mag f) ≡ Some f.set
 
 abbrev pub WrittenLinksAreRead : Type 0
-WrittenLinksAreRead = (mag : ℕ) (f : LinksFields) → 1 ≤ mag → mag ≤ 8 → IsLinksFields f → AreLinks f.set.six → IsWritten mag f
+WrittenLinksAreRead = (mag : ℕ) (f : LinksFields) → 1 ≤ mag → mag ≤ 8 → IsLinksFields f → AreLinks f.set.six → IsLinksWritten mag f

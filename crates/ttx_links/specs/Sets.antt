@@ -5,9 +5,9 @@
 --   LinkSet, no_links       what a receiver keeps of a packet X/27/0
 --   LinksFields, links_at, IsLinksFields            a packet's fields, as contracts see `Links`
 --   target_magazine, target_at, link_at         the link whose six bytes begin at byte k
---   set_of, links_of, fields_of             what the bytes of a packet say
+--   set_of, links_of, links_fields             what the bytes of a packet say
 --   link_numbers, numbers_for, link_bytes, control_byte, links_bytes        the bytes that are written
---   SaysLink, Says          the packet that 42 bytes say
+--   SaysLink, SaysLinks          the packet that 42 bytes say
 --   is_exact                bytes 3 to 39 are code words
 use Rattle.std.specs.Prelude.{◌≡◌, ℕ, ◌+◌, ◌*◌, ◌/◌, ◌%◌, ◌<◌, List, [], ◌∷◌, ◌++◌, Bool, false, ◌==◌, Option, Some, None}
 use Rattle.std.specs.Prelude.{if◌then◌else◌, flat_map, map, length, replicate, slice_index, slice_range, bit_xor}
@@ -81,8 +81,8 @@ unfoldable pub links_of : ℕ → List ℕ → Option LinkSet
 links_of mag s = if are_readable (slice_range s 3 40) then Some (set_of mag s) else None
 
 -- all fields of a packet whose bytes 3 to 39 are readable
-abbrev pub fields_of : ℕ → List ℕ → LinksFields
-fields_of mag s = record { set = set_of mag s; crc = slice_range s 40 42 }
+abbrev pub links_fields : ℕ → List ℕ → LinksFields
+links_fields mag s = record { set = set_of mag s; crc = slice_range s 40 42 }
 
 -- what is written where there is no link; its magazine isn't sent
 abbrev pub no_link : Id
@@ -121,7 +121,7 @@ SaysEach mag [] s k = Unit {0}
 SaysEach mag (link ∷ links) s k = SaysLink mag link s k × SaysEach mag links s (k + 6)
 
 -- Bytes 3 to 38 say the six links, D4 of byte 39 is show24 and its other bits are any, and bytes 40 and 41 are the check word.
-pub record Says (mag : ℕ) (f : LinksFields) (s : List ℕ) : Type 0 where
+pub record SaysLinks (mag : ℕ) (f : LinksFields) (s : List ℕ) : Type 0 where
   pub links : SaysEach mag f.set.six s 3
   pub control : (n : ℕ) × (reading (slice_index s 39) ≡ Some n) × ((n / 8 == 1) ≡ f.set.show24)
   pub crc : slice_range s 40 42 ≡ f.crc

@@ -2,7 +2,7 @@
 
 ghost use Rattle.std.specs.Prelude.{◌≡◌, ◌+◌, ◌≤◌, true, SomeIff, slice_range, option_map};
 ghost use Rattle.ttx_packet.specs.Slots.{are_readable};
-ghost use Rattle.ttx_links.specs.Sets.{link_at, fields_of, links_of};
+ghost use Rattle.ttx_links.specs.Sets.{link_at, links_fields, links_of};
 
 use crate::sets::Links;
 use crate::targets::Target;
@@ -55,7 +55,7 @@ fn crc_of(bytes: &[u8; 42]) -> [u8; 2]
 pub fn read_links(mag: u8, bytes: &[u8; 42]) -> Option<Links>
     requires low { 1 ≤ mag }
     requires high { mag ≤ 8 }
-    ensures fields { SomeIff result (are_readable (slice_range bytes.now 3 40) ≡ true) (fields_of mag bytes.now) }
+    ensures fields { SomeIff result (are_readable (slice_range bytes.now 3 40) ≡ true) (links_fields mag bytes.now) }
     ensures set { option_map (λ f. f.set) result ≡ links_of mag bytes.now }
 {
     if !is_readable(&bytes[3..40]) {

@@ -2,7 +2,7 @@
 
 ghost use Rattle.std.specs.Prelude.{◌≡◌, drop};
 ghost use Rattle.ttx_packet.specs.Slots.{is_empty, are_readable, are_words, packet_kind, read_number, is_clean};
-ghost use Rattle.ttx_packet.specs.Lent.{Shows, ShowsAs};
+ghost use Rattle.ttx_packet.specs.Lent.{Lends, ShowsAs};
 
 use crate::place::Address;
 use ttx_code::{is_word, unham};
@@ -82,7 +82,7 @@ fn packet_of<'a>(bytes: &'a [u8; 42], at: Address) -> Slot<'a>
 /// 3. Else its magazine and packet number say what it is, and for packet 27 the designation in byte 2.
 #[tactic(auto, unfolding(crate::specs::Slots::kind_of))]
 pub fn slot_of<'a>(bytes: &'a [u8; 42]) -> Slot<'a>
-    ensures { Shows result bytes.now }
+    ensures { Lends result bytes.now }
 {
     if is_zero(bytes) {
         return Slot::Empty;

@@ -6,7 +6,7 @@ use Rattle.ttx_packet.specs.Slots.{kind_of, packet_kind}
 use Rattle.ttx_links.specs.Sets.{links_of}
 use Rattle.ttx_page.specs.Packets.{packet_of}
 use Rattle.ttx_page.specs.Streams.{repeated, heads, ends_serial}
-use Rattle.ttx_page.specs.Examples.{Examples, base, turned_base}
+use Rattle.ttx_page.specs.Examples.{Examples, base_cycle, turned_base}
 use Rattle.ttx_page.proofs.Decisions.{and_left, and_right, not_true}
 use Rattle.ttx_page.proofs.Places.{cases_ltz}
 
@@ -29,7 +29,7 @@ examples_hold = record {
   owner = record {
     earlier = omega (arith, ints);
     is_header = refl;
-    none_between = λ i low high. none_back_is (λ i. heads 1 (packet_of (repeated base i))) 2 (pos 31) refl i (omega (arith, ints)) high;
+    none_between = λ i low high. none_back_is (λ i. heads 1 (packet_of (repeated base_cycle i))) 2 (pos 31) refl i (omega (arith, ints)) high;
   };
   owner_round = record {
     earlier = omega (arith, ints);
@@ -42,12 +42,12 @@ examples_hold = record {
       record {
         earlier = omega (arith, ints);
         is_header = refl;
-        none_between = λ i low high. none_back_is (λ i. heads 1 (packet_of (repeated base i))) 2 (pos 3) refl i (omega (arith, ints)) high;
+        none_between = λ i low high. none_back_is (λ i. heads 1 (packet_of (repeated base_cycle i))) 2 (pos 3) refl i (omega (arith, ints)) high;
       },
       refl,
       refl,
     );
-    sure = (omega (arith, ints), λ i low high. none_back_is (λ i. ends_serial 1 (packet_of (repeated base i))) 2 (pos 3) refl i (omega (arith, ints)) high);
+    sure = (omega (arith, ints), λ i low high. none_back_is (λ i. ends_serial 1 (packet_of (repeated base_cycle i))) 2 (pos 3) refl i (omega (arith, ints)) high);
   };
   unsure = λ s. let e = s.0 in omega (arith, ints);
   taken = refl;

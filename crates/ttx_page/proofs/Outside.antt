@@ -8,11 +8,11 @@ use Rattle.ttx_page.specs.Packets.{packet_of}
 use Rattle.ttx_page.specs.Pages.{TheRow}
 use Rattle.ttx_page.specs.Streams.{repeated, heads, carries, IsTransmission, AreSuccessive}
 use Rattle.ttx_page.specs.Receptions.{IsRight}
-use Rattle.ttx_page.specs.Examples.{id_100, base}
+use Rattle.ttx_page.specs.Examples.{id_100, base_cycle}
 use Rattle.ttx_page.specs.ErrorRule.{spoilt_base, AreOutside}
 use Rattle.ttx_page.proofs.Examples.{none_back, none_back_is}
 
-first_sending : IsTransmission (repeated base) id_100 (TheRow 1) (pos 3)
+first_sending : IsTransmission (repeated base_cycle) id_100 (TheRow 1) (pos 3)
 unfolding none_back packet_of kind_of packet_kind reading distance ones hamming_word links_of
 first_sending = record {
   owner = pos 0;
@@ -20,14 +20,14 @@ first_sending = record {
     record {
       earlier = omega (arith, ints);
       is_header = refl;
-      none_between = λ i low high. none_back_is (λ i. heads 1 (packet_of (repeated base i))) 2 (pos 3) refl i (omega (arith, ints)) high;
+      none_between = λ i low high. none_back_is (λ i. heads 1 (packet_of (repeated base_cycle i))) 2 (pos 3) refl i (omega (arith, ints)) high;
     },
     refl,
     refl,
   );
 }
 
-second_sending : IsTransmission (repeated base) id_100 (TheRow 1) (pos 31)
+second_sending : IsTransmission (repeated base_cycle) id_100 (TheRow 1) (pos 31)
 unfolding none_back packet_of kind_of packet_kind reading distance ones hamming_word links_of
 second_sending = record {
   owner = pos 28;
@@ -35,25 +35,25 @@ second_sending = record {
     record {
       earlier = omega (arith, ints);
       is_header = refl;
-      none_between = λ i low high. none_back_is (λ i. heads 1 (packet_of (repeated base i))) 2 (pos 31) refl i (omega (arith, ints)) high;
+      none_between = λ i low high. none_back_is (λ i. heads 1 (packet_of (repeated base_cycle i))) 2 (pos 31) refl i (omega (arith, ints)) high;
     },
     refl,
     refl,
   );
 }
 
-none_between : (x : ℤ) → pos 3 <ℤ x → x <ℤ pos 31 → carries 1 (TheRow 1) (packet_of (repeated base x)) ≡ false
+none_between : (x : ℤ) → pos 3 <ℤ x → x <ℤ pos 31 → carries 1 (TheRow 1) (packet_of (repeated base_cycle x)) ≡ false
 unfolding none_back packet_of kind_of packet_kind reading distance ones hamming_word links_of
-none_between x low high = none_back_is (λ i. carries 1 (TheRow 1) (packet_of (repeated base i))) 27 (pos 31) refl x (omega (arith, ints)) high
+none_between x low high = none_back_is (λ i. carries 1 (TheRow 1) (packet_of (repeated base_cycle i))) 27 (pos 31) refl x (omega (arith, ints)) high
 
-both_sendings : AreSuccessive (repeated base) id_100 (TheRow 1) (pos 3 ∷ pos 31 ∷ [])
+both_sendings : AreSuccessive (repeated base_cycle) id_100 (TheRow 1) (pos 3 ∷ pos 31 ∷ [])
 both_sendings = (first_sending, omega (arith, ints), λ x low high t. let f = none_between x low high in let h = t.owned.2 in cc, second_sending)
 
 spoilt : (n : ℕ) → slice_index (get_or (spoilt_base ++ spoilt_base) n []) 2 ≡ 0x20 → n ≡ 3 ⊎ n ≡ 31 → ⊥
 spoilt n e (inl is) = let f : slice_index (get_or (spoilt_base ++ spoilt_base) 3 []) 2 ≡ 0x20 = subst (λ m. slice_index (get_or (spoilt_base ++ spoilt_base) m []) 2 ≡ 0x20) is e in omega arith
 spoilt n e (inr is) = let f : slice_index (get_or (spoilt_base ++ spoilt_base) 31 []) 2 ≡ 0x20 = subst (λ m. slice_index (get_or (spoilt_base ++ spoilt_base) m []) 2 ≡ 0x20) is e in omega arith
 
-not_right : (j : ℤ) (k : ℕ) → j ≡ pos k → (k ≡ 3) ⊎ (k ≡ 31) → slice_index (repeated base j) 2 ≡ 0x20 → IsRight (repeated base) (pos 0) (spoilt_base ++ spoilt_base) 2 j → ⊥
+not_right : (j : ℤ) (k : ℕ) → j ≡ pos k → (k ≡ 3) ⊎ (k ≡ 31) → slice_index (repeated base_cycle j) 2 ≡ 0x20 → IsRight (repeated base_cycle) (pos 0) (spoilt_base ++ spoilt_base) 2 j → ⊥
 not_right j k e which sent r =
     let same : r.index ≡ k = let p = r.place in omega (arith, ints) in
     spoilt r.index (let q = r.right in cc) (elim which as (λ _. (r.index ≡ 3) ⊎ (r.index ≡ 31)) [ inl a ↦ inl (omega arith) | inr b ↦ inr (omega arith) ])

@@ -18,7 +18,7 @@ use Rattle.ttx_page.specs.Memories.{IsFormer}
 use Rattle.ttx_page.specs.Views.{memory_of}
 use Rattle.ttx_page.specs.Streams.{Stream, repeated}
 use Rattle.ttx_page.specs.Receptions.{Received}
-use Rattle.ttx_page.specs.Examples.{id_100, base, row_slot}
+use Rattle.ttx_page.specs.Examples.{id_100, base_cycle, row_slot}
 
 -- the bytes from first on and before end
 abbrev pub AreSame : ℕ → ℕ → List ℕ → List ℕ → Type 0
@@ -52,10 +52,10 @@ WrongTextIsReceived =
 abbrev pub MemoriesAreFormer : Type 0
 MemoriesAreFormer = (m : PageMemory) → IsFormer Any (memory_of m) × ((memory_of m).fresh ≡ true → IsFormer Clearing (memory_of m))
 
--- base with a byte of row 1 received wrong, by one bit
+-- base_cycle with a byte of row 1 received wrong, by one bit
 abbrev pub spoilt_base : List (List ℕ)
-spoilt_base = slice_set base 3 (slice_set (row_slot 1) 2 0x21)
+spoilt_base = slice_set base_cycle 3 (slice_set (row_slot 1) 2 0x21)
 
 pub record AreOutside : Type 0 where
-  pub both_wrong : Received (repeated base) id_100 2 (pos 0) (spoilt_base ++ spoilt_base) → ⊥
+  pub both_wrong : Received (repeated base_cycle) id_100 2 (pos 0) (spoilt_base ++ spoilt_base) → ⊥
   pub two_bits : MayBeReceivedAs (row_slot 1) (slice_set (row_slot 1) 2 0x23) → ⊥

@@ -85,7 +85,7 @@ blank_row = replicate 40 32
 abbrev pub has_double_height : List ℕ → Bool
 has_double_height row = list_any (λ c. c == 13) row
 
--- the rows in which it has an effect
+-- the rows in which the height codes have an effect: 1 to 22 (profile)
 abbrev pub is_tall : ℕ → Bool
 is_tall number = nat_le 1 number && nat_le number 22
 

@@ -13,7 +13,7 @@ use Rattle.ttx_render.specs.declared.cells.Glyph.TheVariants.{Char, Mosaic}
 use Rattle.ttx_render.specs.declared.cells.Part.{Part}
 use Rattle.ttx_render.specs.declared.cells.Part.TheVariants.{Single, Upper, Lower}
 use Rattle.ttx_render.specs.declared.cells.Cell.{Cell}
-use Rattle.ttx_render.specs.Colours.{number_of}
+use Rattle.ttx_render.specs.Colours.{colour_number}
 use Rattle.ttx_render.specs.View.{Screen}
 use Rattle.ttx_picture.specs.declared.svg.pens.Pen.{Pen}
 use Rattle.ttx_picture.specs.declared.svg.pens.Layer.{Layer}
@@ -35,14 +35,14 @@ abbrev pub pen_text : Pen → List ℕ
 pen_text pen = codes "c" ++ decimal pen.colour ++ (if pen.flash then codes " f" else []) ++ (if pen.separated then codes " s" else [])
 
 abbrev pub ink : Cell → Bool → Pen
-ink cell separated = record { colour = number_of cell.fore; flash = cell.flash; separated = separated }
+ink cell separated = record { colour = colour_number cell.fore; flash = cell.flash; separated = separated }
 
 -- colour 8 is the television picture; black isn't drawn
 abbrev pub ground : Cell → Option Pen
 ground cell =
     if cell.picture then Some (record { colour = 8; flash = false; separated = false })
-    else if number_of cell.back == 0 then None
-    else Some (record { colour = number_of cell.back; flash = false; separated = false })
+    else if colour_number cell.back == 0 then None
+    else Some (record { colour = colour_number cell.back; flash = false; separated = false })
 
 -- whether a cell's glyph is drawn in single height, or from its upper half twice as high
 abbrev pub is_drawn : Bool → Part → Bool

@@ -5,7 +5,7 @@ ghost use Rattle.ttx_render.specs.Cells.{space_cell};
 ghost use Rattle.ttx_picture.specs.Ansi.{sgr, ink, ground, blink, change, changes, cells_ansi, row_ansi, rows_ansi, ansi_of};
 
 use crate::links::push_links;
-use crate::shown::{char_of, number_of};
+use crate::shown::{char_of, colour_number};
 use std::alloc::AllocError;
 use ttx_render::{Cell, Colour, Glyph, Part, View};
 
@@ -18,7 +18,7 @@ fn push_sgr(text: &mut String, number: u8) -> Result<(), AllocError>
 fn ink(cell: &Cell) -> u8
     ensures { result ≡ ink cell.now }
 {
-    30 + number_of(cell.fore)
+    30 + colour_number(cell.fore)
 }
 
 fn ground(cell: &Cell) -> u8
@@ -27,7 +27,7 @@ fn ground(cell: &Cell) -> u8
     if cell.picture {
         49
     } else {
-        40 + number_of(cell.back)
+        40 + colour_number(cell.back)
     }
 }
 

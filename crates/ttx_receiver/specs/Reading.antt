@@ -1,7 +1,7 @@
 -- What a receiver reads in a slot.
 --
 --   IsIgnored               a packet that changes nothing of what a receiver holds
---   Lends                   what is lent of a slot is what its packet says
+--   LendsPacket                   what is lent of a slot is what its packet says
 use Rattle.std.specs.Prelude.{◌≡◌, ◌≤◌, true, drop}
 use Rattle.ttx_header.specs.Headers.{is_header, id_of, control_of}
 use Rattle.ttx_links.specs.Sets.{links_of}
@@ -16,8 +16,8 @@ IsIgnored (Row mag number text) = ⊥
 IsIgnored (Links mag content) = ⊥
 IsIgnored _ = Unit {0}
 
-abbrev pub Lends : Lent → Packet → Type 0
-Lends (TheHeader bytes) packet = (is_header bytes.now ≡ true) × (packet ≡ Header (id_of bytes.now) (control_of bytes.now) (drop 10 bytes.now))
-Lends (TheRow at text) packet = (at.number ≤ 24) × (packet ≡ Row at.mag at.number text.now)
-Lends (TheLinks at bytes) packet = packet ≡ Links at.mag (links_of at.mag bytes.now)
-Lends Nothing packet = IsIgnored packet
+abbrev pub LendsPacket : Lent → Packet → Type 0
+LendsPacket (TheHeader bytes) packet = (is_header bytes.now ≡ true) × (packet ≡ Header (id_of bytes.now) (control_of bytes.now) (drop 10 bytes.now))
+LendsPacket (TheRow at text) packet = (at.number ≤ 24) × (packet ≡ Row at.mag at.number text.now)
+LendsPacket (TheLinks at bytes) packet = packet ≡ Links at.mag (links_of at.mag bytes.now)
+LendsPacket Nothing packet = IsIgnored packet

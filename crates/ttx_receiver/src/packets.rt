@@ -1,7 +1,7 @@
 //! What a receiver reads in a slot.
 
 ghost use Rattle.ttx_page.specs.Packets.{packet_of};
-ghost use Rattle.ttx_receiver.specs.Reading.{Lends};
+ghost use Rattle.ttx_receiver.specs.Reading.{LendsPacket};
 
 use ttx_packet::place::Address;
 use ttx_packet::slots::{Slot, slot_of};
@@ -19,7 +19,7 @@ pub(crate) enum Packet<'a> {
 /// What a receiver reads in a slot.
 #[tactic(auto, unfolding(ttx_page::specs::Packets::packet_of))]
 pub(crate) fn packet_in<'a>(slot: &'a [u8; 42]) -> Packet<'a>
-    ensures { Lends result (packet_of slot.now) }
+    ensures { LendsPacket result (packet_of slot.now) }
 {
     ttx_packet::laws::rows_are_numbered();
     ttx_header::laws::headers_have_fields();

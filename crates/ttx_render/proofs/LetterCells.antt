@@ -10,7 +10,8 @@ use Rattle.ttx_render.specs.Cells.{cell_at, space_cell, glyph_of}
 use Rattle.ttx_render.specs.Comparison.{cell_in}
 use Rattle.ttx_render.specs.Laws.{IsOwn, LetterIsShown, LetterIsSeen}
 use Rattle.ttx_render.specs.Mosaics.{held_at, same}
-use Rattle.ttx_render.specs.View.{codes_of, view_of, is_tall, has_boxes, own_cells}
+use Rattle.ttx_page.specs.Pages.{is_tall}
+use Rattle.ttx_render.specs.View.{codes_of, view_of, has_boxes, own_cells}
 use Rattle.ttx_render.proofs.ViewRows.{view_row-own, rows_to-at}
 use Rattle.ttx_render.proofs.Columns.{cells_to-at}
 use Rattle.ttx_render.proofs.ShownRows.{codes_of-shown, codes_of-head}

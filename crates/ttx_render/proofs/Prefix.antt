@@ -3,7 +3,7 @@ use Rattle.std.proofs.Common.{◌≡◌, ℕ, zero, suc, ◌+◌, ◌<◌, Bool,
 use Rattle.ttx_render.specs.declared.spacing.Spacing.{Spacing}
 use Rattle.ttx_render.specs.declared.spacing.Spacing.TheVariants.{EndBox, StartBox, NormalHeight, DoubleHeight}
 use Rattle.ttx_render.specs.declared.attributes.Attributes.{Attributes}
-use Rattle.ttx_render.specs.declared.held.Held.{Held}
+use Rattle.ttx_render.specs.declared.held_mosaic.Held.{Held}
 use Rattle.ttx_render.specs.declared.cells.Glyph.{Glyph}
 use Rattle.ttx_render.specs.Attributes.{spacing_at, attributes_at}
 use Rattle.ttx_render.specs.Cells.{cell_at, cell_of}

@@ -5,7 +5,7 @@ use Rattle.std.specs.List.{AllByRecursion, range_with_len}
 use Rattle.ttx_charset.specs.Glyphs.{glyph, set_of}
 use Rattle.ttx_header.specs.Control.{option_of}
 use Rattle.ttx_page.specs.Memories.{Memory, IsMemory, memory_row}
-use Rattle.ttx_page.specs.Pages.{IsRow}
+use Rattle.ttx_page.specs.Pages.{IsRow, is_tall}
 use Rattle.ttx_render.specs.declared.attributes.Attributes.{Attributes}
 use Rattle.ttx_render.specs.declared.cells.Cell.{Cell}
 use Rattle.ttx_render.specs.declared.cells.Glyph.{Glyph}
@@ -16,7 +16,7 @@ use Rattle.ttx_render.specs.Attributes.{attributes_at}
 use Rattle.ttx_render.specs.Cells.{glyph_of, cell_at, cells_to}
 use Rattle.ttx_render.specs.Laws.{is_control, IsPrinted, ArePrinted, ViewsArePrinted}
 use Rattle.ttx_render.specs.Mosaics.{has_blocks, held_at, stays, shows_mosaic}
-use Rattle.ttx_render.specs.View.{is_shown, is_tall, codes_of, has_boxes, own_cells, is_below, lower, lower_at, view_row, rows_to}
+use Rattle.ttx_render.specs.View.{is_shown, codes_of, has_boxes, own_cells, is_below, lower, lower_at, view_row, rows_to}
 use Rattle.ttx_render.proofs.LetterCells.{option_of-lt}
 use Rattle.ttx_render.proofs.SpaceRows.{IsRow-spaces, IsRow-head}
 

@@ -4,12 +4,12 @@ use Rattle.std.proofs.Math.ListN.{get_or-append}
 use Rattle.ttx_header.specs.Control.{c10, option_of}
 use Rattle.ttx_links.specs.Sets.{LinkSet}
 use Rattle.ttx_page.specs.Memories.{Memory, memory_row, memory_of_page, Shows}
-use Rattle.ttx_page.specs.Pages.{is_hidden, has_double_height, Page, page_row, needed}
+use Rattle.ttx_page.specs.Pages.{is_hidden, has_double_height, Page, page_row, needed, is_tall}
 use Rattle.ttx_page.specs.declared.item.Item.TheVariants.{Head as TheHead, Row as TheRow, Links as TheLinks}
 use Rattle.ttx_render.specs.Cells.{cell_at, space_cell}
 use Rattle.ttx_render.specs.Comparison.{IsCompared, cell_in}
 use Rattle.ttx_render.specs.Laws.{ShowingIsSeeing}
-use Rattle.ttx_render.specs.View.{is_tall, is_shown, codes_of, is_below, own_cells, view_row, lower, has_boxes, view_of}
+use Rattle.ttx_render.specs.View.{is_shown, codes_of, is_below, own_cells, view_row, lower, has_boxes, view_of}
 use Rattle.ttx_render.specs.declared.cells.Cell.{Cell}
 use Rattle.ttx_render.proofs.ViewRows.{view_row-own, view_row-below, above, rows_to-at}
 use Rattle.ttx_render.proofs.Columns.{cells_to-at}

@@ -5,9 +5,9 @@ use Rattle.std.proofs.lemmas.Bool.{eqb-true, leb-true}
 use Rattle.std.proofs.lemmas.Bool.Decides.{nat_tests}
 use Rattle.ttx_header.specs.Control.{c10}
 use Rattle.ttx_page.specs.Memories.{Memory, memory_row, memory_of_page}
-use Rattle.ttx_page.specs.Pages.{is_hidden, has_double_height, Page, page_row}
+use Rattle.ttx_page.specs.Pages.{is_hidden, has_double_height, Page, page_row, is_tall}
 use Rattle.ttx_render.specs.Mosaics.{same}
-use Rattle.ttx_render.specs.View.{is_tall, is_shown, codes_of}
+use Rattle.ttx_render.specs.View.{is_shown, codes_of}
 
 -- ---- tests
 

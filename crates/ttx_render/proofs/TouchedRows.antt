@@ -2,10 +2,10 @@
 use Rattle.std.proofs.Common.{◌≡◌, ℕ, zero, suc, ◌-◌, ◌<◌, ◌≤◌, Bool, true, false, Option, List, [], length, get_or, map, refl, ap, sym, ◌∙◌, arith, inl, inr, ◌⊎◌}
 use Rattle.ttx_header.specs.Ids.{Id}
 use Rattle.ttx_page.specs.Memories.{Memory}
-use Rattle.ttx_page.specs.Pages.{has_double_height}
+use Rattle.ttx_page.specs.Pages.{has_double_height, is_tall}
 use Rattle.ttx_render.specs.Mosaics.{same}
 use Rattle.ttx_render.specs.Touch.{DiffersAt, IsView}
-use Rattle.ttx_render.specs.View.{codes_of, own_cells, is_below, is_tall, view_row, lower, rows_to, view_of}
+use Rattle.ttx_render.specs.View.{codes_of, own_cells, is_below, view_row, lower, rows_to, view_of}
 use Rattle.std.proofs.Math.Nat.{eq-or-lt_of_le}
 use Rattle.std.proofs.lemmas.List.{ext_get_or}
 use Rattle.ttx_render.specs.declared.cells.Cell.{Cell}

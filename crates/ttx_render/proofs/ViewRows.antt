@@ -4,13 +4,13 @@ use Rattle.std.proofs.lemmas.List.{get_or-take, take_more_set}
 use Rattle.std.proofs.lemmas.List.FromFn.{map-range_with_len_more, get_or-map-range_with_len, length-map-range_with_len}
 use Rattle.ttx_header.specs.Control.{option_of}
 use Rattle.ttx_page.specs.Memories.{Memory, memory_at}
-use Rattle.ttx_page.specs.Pages.{has_double_height}
+use Rattle.ttx_page.specs.Pages.{has_double_height, is_tall}
 use Rattle.std.specs.List.{range_with_len}
 use Rattle.ttx_render.specs.declared.cells.Cell.{Cell}
 use Rattle.ttx_render.specs.Cells.{cells_to}
 use Rattle.ttx_render.specs.Laws.{ContentsDecide}
 use Rattle.ttx_render.specs.Mosaics.{same}
-use Rattle.ttx_render.specs.View.{rows_to, view_row, is_below, own_cells, lower, is_tall, codes_of, has_boxes}
+use Rattle.ttx_render.specs.View.{rows_to, view_row, is_below, own_cells, lower, codes_of, has_boxes}
 
 module _ (m : Memory) where
   pub rows_to-none : rows_to m 0 ≡ []

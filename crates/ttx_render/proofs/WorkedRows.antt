@@ -9,7 +9,7 @@ use Rattle.ttx_render.specs.Cells.{cells_to}
 use Rattle.ttx_render.specs.Colours.{colour_of}
 use Rattle.ttx_render.specs.Spacing.{spacing_of}
 use Rattle.ttx_render.specs.View.{view_row, own_cells, codes_of}
-use Rattle.ttx_render.specs.Words.{cell_word}
+use Rattle.ttx_render.specs.CellWords.{cell_word}
 
 -- a memory of these control bits, blank but for the beginning of one row
 abbrev memory_with : ℕ → ℕ → List ℕ → Memory

@@ -7,7 +7,7 @@ use Rattle.ttx_page.specs.Memories.{Memory, memory_row, memory_of_page}
 use Rattle.ttx_page.specs.Pages.{is_hidden, Page, page_row, needed}
 use Rattle.ttx_page.specs.declared.item.Item.TheVariants.{Row as TheRow}
 use Rattle.ttx_render.specs.Comparison.{IsCompared}
-use Rattle.ttx_render.specs.Laws.{IsLetter, IsOwn, item_of, ShowsBut, WrongLetterIsSeen}
+use Rattle.ttx_render.specs.Laws.{IsLetter, IsOwn, row_item, ShowsBut, WrongLetterIsSeen}
 use Rattle.ttx_render.specs.View.{is_shown, is_below}
 use Rattle.ttx_render.proofs.ShownRows.{is_shown-suc}
 use Rattle.ttx_render.proofs.Showing.{hidden-same, is_shown-same, is_below-same}
@@ -36,7 +36,7 @@ seen-from true false shows last s hid e f = cc
 seen-from false le shows last s hid e f = cc
 
 module _ (p : Page) where
-  needed-shown : (number : ℕ) → needed p (item_of number) ≡ true → is_shown (memory_of_page p) number ≡ true
+  needed-shown : (number : ℕ) → needed p (row_item number) ≡ true → is_shown (memory_of_page p) number ≡ true
   needed-shown zero n = n
   needed-shown (suc d) n =
       is_shown-suc (memory_of_page p) d
@@ -51,19 +51,19 @@ module _ (p : Page) where
       hidden-same p (suc d) (uninhibited-from (nat_le 1 (suc d)) (nat_le (suc d) 24) (not (c10 p.control)) (suc d == 24) p.links.show24 (is_hidden (page_row p) (suc d)) n)
       ∙ seen-from (nat_le 1 (suc d)) (nat_le (suc d) 24) (not (c10 p.control)) (suc d == 24) p.links.show24 (is_hidden (page_row p) (suc d)) n e
 
-  needed-seen : (number : ℕ) → needed p (item_of number) ≡ true → is_below (memory_of_page p) number ≡ false
+  needed-seen : (number : ℕ) → needed p (row_item number) ≡ true → is_below (memory_of_page p) number ≡ false
   needed-seen zero n = refl
   needed-seen (suc d) n = below-by d (suc d == 24) refl n
 
   -- the needed rows above the one that isn't held
-  rows-above : (m : Memory) (number : ℕ) → ShowsBut p m (item_of number) → (k : ℕ) → k < number → needed p (TheRow k) ≡ true → memory_row m k ≡ page_row p k
+  rows-above : (m : Memory) (number : ℕ) → ShowsBut p m (row_item number) → (k : ℕ) → k < number → needed p (TheRow k) ≡ true → memory_row m k ≡ page_row p k
   rows-above m zero but k l n = absurd (omega arith)
   rows-above m (suc d) but k l n = but.items (TheRow k) (λ e. let same : k ≡ suc d = cc in absurd (omega arith)) n
 
-  pub own-page : (number c : ℕ) → IsCompared number c → needed p (item_of number) ≡ true → IsOwn (memory_of_page p) number c
+  pub own-page : (number c : ℕ) → IsCompared number c → needed p (row_item number) ≡ true → IsOwn (memory_of_page p) number c
   own-page number c is n = (is, needed-shown number n, needed-seen number n)
 
-  pub own-memory : (m : Memory) (number c : ℕ) → IsCompared number c → needed p (item_of number) ≡ true → ShowsBut p m (item_of number) → IsOwn m number c
+  pub own-memory : (m : Memory) (number c : ℕ) → IsCompared number c → needed p (row_item number) ≡ true → ShowsBut p m (row_item number) → IsOwn m number c
   own-memory m number c is n but =
       let fits : number ≤ 25 = let low : number < 25 = is.0 in omega arith in
       let rows = rows-above m number but in (

@@ -7,12 +7,12 @@ use Rattle.ttx_render.specs.declared.colour.Colour.TheVariants.{Black, Red, Gree
 unfoldable pub colour_of : ℕ → Colour
 colour_of number = slice_index_or (Black ∷ Red ∷ Green ∷ Yellow ∷ Blue ∷ Magenta ∷ Cyan ∷ []) number White
 
-abbrev pub number_of : Colour → ℕ
-number_of Black = 0
-number_of Red = 1
-number_of Green = 2
-number_of Yellow = 3
-number_of Blue = 4
-number_of Magenta = 5
-number_of Cyan = 6
-number_of White = 7
+abbrev pub colour_number : Colour → ℕ
+colour_number Black = 0
+colour_number Red = 1
+colour_number Green = 2
+colour_number Yellow = 3
+colour_number Blue = 4
+colour_number Magenta = 5
+colour_number Cyan = 6
+colour_number White = 7

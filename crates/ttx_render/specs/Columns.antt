@@ -8,7 +8,7 @@ use Rattle.ttx_render.specs.declared.spacing.Spacing.{Spacing}
 use Rattle.ttx_render.specs.declared.cells.Glyph.{Glyph}
 use Rattle.ttx_render.specs.declared.cells.Glyph.TheVariants.{Char}
 use Rattle.ttx_render.specs.declared.attributes.Attributes.{Attributes}
-use Rattle.ttx_render.specs.declared.held.Held.{Held}
+use Rattle.ttx_render.specs.declared.held_mosaic.Held.{Held}
 use Rattle.ttx_render.specs.Spacing.{Effect, Leaves, SetAt, SetAfter, on_fore, on_back, on_flash, on_boxed}
 use Rattle.ttx_render.specs.Spacing.{on_double, on_concealed, on_mosaic, on_separated, on_hold}
 use Rattle.ttx_render.specs.Attributes.{value_at, value_left, start, spacing_at, fore_at, mosaic_at, double_at, separated_at}

@@ -5,7 +5,7 @@
 --   ShowingIsSeeing                             a memory that shows a page has its View
 --   IsLetter, IsOwn         the letters A and B; cells that show their own code
 --   LetterIsShown, LetterIsSeen         such a letter shows where it stands, and nowhere else
---   item_of, ShowsBut, WrongLetterIsSeen        so one wrong letter in a needed item is seen
+--   row_item, ShowsBut, WrongLetterIsSeen        so one wrong letter in a needed item is seen
 --   is_control, ArePrinted, ViewsArePrinted     no cell of a View shows a control character
 use Rattle.std.specs.Prelude.{◌≡◌, ◌≢◌, ◌<◌, ◌⊎◌, ◌↔◌, ℕ, zero, suc, Bool, true, false, ◌&&◌, ◌||◌, nat_lt, nat_le, List, length}
 use Rattle.std.specs.List.{AllByRecursion}
@@ -59,9 +59,9 @@ LetterIsSeen =
     char_at m number c ≡ letter → char_at n number c ≢ letter → ¬ SameButClock (view_of m) (view_of n)
 
 -- the item that a row belongs to
-abbrev pub item_of : ℕ → Item
-item_of zero = TheHead
-item_of (suc above) = TheRow (suc above)
+abbrev pub row_item : ℕ → Item
+row_item zero = TheHead
+row_item (suc above) = TheRow (suc above)
 
 -- the memory has all that a viewer sees of the page, but perhaps for one row
 pub record ShowsBut (p : Page) (m : Memory) (but : Item) : Type 0 where
@@ -72,8 +72,8 @@ pub record ShowsBut (p : Page) (m : Memory) (but : Item) : Type 0 where
 -- where the memory has a letter in the place of another character of a needed row, it hasn't the page's View
 abbrev pub WrongLetterIsSeen : Type 0
 WrongLetterIsSeen =
-    (p : Page) (m : Memory) (number c letter : ℕ) → IsLetter letter → IsCompared number c → needed p (item_of number) ≡ true →
-    ShowsBut p m (item_of number) → char_at m number c ≡ letter → char_at (memory_of_page p) number c < 128 →
+    (p : Page) (m : Memory) (number c letter : ℕ) → IsLetter letter → IsCompared number c → needed p (row_item number) ≡ true →
+    ShowsBut p m (row_item number) → char_at m number c ≡ letter → char_at (memory_of_page p) number c < 128 →
     char_at (memory_of_page p) number c ≢ letter → ¬ SameButClock (view_of m) (view_of (memory_of_page p))
 
 -- the control characters of Unicode: 00 to 1F, and 7F to 9F

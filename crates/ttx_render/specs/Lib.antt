@@ -4,7 +4,7 @@ pub mod Attributes
 pub mod Mosaics
 pub mod Cells
 pub mod View
-pub mod Words
+pub mod CellWords
 pub mod Comparison
 pub mod Columns
 pub mod Touch

@@ -1,27 +1,22 @@
 -- The View of a memory: 25 rows of 40 cells, with hidden rows and rows that aren't shown, and its links.
 --
---   is_tall                 the rows in which the height codes have an effect
 --   is_shown, codes_of      the codes that a row shows
 --   has_boxes               whether cells outside a box show the picture
 --   own_cells               the cells of a row by its own codes
 --   is_below, lower         rows that double height hides, and what they show
 --   view_row                a row of the View
 --   Screen, view_of         what a View is, and the View of a memory
-use Rattle.std.specs.Prelude.{ℕ, ◌-◌, Bool, not, ◌&&◌, ◌||◌, ◌==◌, if◌then◌else◌, List, [], ◌++◌, replicate, drop, map, nat_le, slice_index_or}
+use Rattle.std.specs.Prelude.{ℕ, ◌-◌, Bool, not, ◌&&◌, ◌||◌, ◌==◌, if◌then◌else◌, List, [], ◌++◌, replicate, drop, map, slice_index_or}
 use Rattle.std.specs.List.{range_with_len}
 use Rattle.ttx_header.specs.Control.{c7, c10, c5, c6, option_of}
 use Rattle.ttx_page.specs.Memories.{Memory}
-use Rattle.ttx_page.specs.Pages.{is_hidden}
+use Rattle.ttx_page.specs.Pages.{is_tall, is_hidden}
 use Rattle.ttx_render.specs.declared.cells.Glyph.TheVariants.{Char}
 use Rattle.ttx_render.specs.declared.cells.Part.{Part}
 use Rattle.ttx_render.specs.declared.cells.Part.TheVariants.{Upper, Lower}
 use Rattle.ttx_render.specs.declared.cells.Cell.{Cell}
 use Rattle.ttx_render.specs.declared.view.View.{View}
 use Rattle.ttx_render.specs.Cells.{cells_to}
-
--- the rows in which the height codes have an effect: 1 to 22 (profile)
-abbrev pub is_tall : ℕ → Bool
-is_tall number = nat_le 1 number && nat_le number 22
 
 -- row 0 without C7, rows 1 to 24 without C10, and row 24 only with show24
 abbrev pub is_shown : Memory → ℕ → Bool

@@ -1,7 +1,7 @@
 //! Colours.
 
 ghost use Rattle.std.specs.Prelude.{◌≡◌, ◌<◌};
-ghost use Rattle.ttx_render.specs.Colours.{colour_of, number_of};
+ghost use Rattle.ttx_render.specs.Colours.{colour_of, colour_number};
 
 /// The colours of Level 1, in the order of their numbers 0 to 7.
 #[derive(Clone, Copy, PartialEq, Eq, Debug)]
@@ -34,8 +34,8 @@ pub fn colour_of(number: u8) -> Colour
     }
 }
 
-pub fn number_of(colour: Colour) -> u8
-    ensures number { result ≡ number_of colour }
+pub fn colour_number(colour: Colour) -> u8
+    ensures number { result ≡ colour_number colour }
     ensures range { result < 8 }
 {
     match colour {

@@ -3,20 +3,20 @@
 
 mod attributes;
 mod cache;
+mod cell_words;
 mod cells;
 mod colour;
 mod compare;
-mod held;
+mod held_mosaic;
 pub mod laws;
 mod rows;
 mod spacing;
 mod touch;
 mod view;
-mod words;
 
 pub use cache::Cache;
+pub use cell_words::cell_word;
 pub use cells::{Cell, Glyph, Part};
 pub use colour::Colour;
 pub use compare::same_but_clock;
 pub use view::{View, render};
-pub use words::cell_word;

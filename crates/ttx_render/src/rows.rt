@@ -7,7 +7,7 @@ ghost use Rattle.ttx_render.specs.Cells.{glyph_of, cell_of, cells_to, space_cell
 use crate::attributes::Attributes;
 use crate::cells::{Cell, Glyph, Part};
 use crate::colour::Colour;
-use crate::held::{Held, mosaic_of};
+use crate::held_mosaic::{Held, mosaic_of};
 use crate::spacing::Spacing;
 use ttx_charset::glyph;
 

@@ -2,9 +2,9 @@
 
 ghost use Rattle.std.specs.Prelude.{◌≡◌, ◌<◌, ◌&&◌, ◌++◌, drop, map, replicate};
 ghost use Rattle.ttx_header.specs.Control.{option_of};
-ghost use Rattle.ttx_page.specs.Pages.{IsRow, has_double_height};
+ghost use Rattle.ttx_page.specs.Pages.{IsRow, has_double_height, is_tall};
 ghost use Rattle.ttx_page.specs.Views.{memory_of};
-ghost use Rattle.ttx_render.specs.View.{is_tall, is_shown, codes_of, has_boxes, lower, rows_to, view_of};
+ghost use Rattle.ttx_render.specs.View.{is_shown, codes_of, has_boxes, lower, rows_to, view_of};
 
 use crate::cells::{Cell, Glyph, Part};
 use crate::rows::{Style, row_cells, space_cells};

@@ -13,7 +13,7 @@ use Rattle.ttx_header.specs.contracts.ids.PageIdPartialEq.TheImpl.{eq-value}
 use Rattle.ttx_page.specs.declared.page.Page.{Page}
 use Rattle.ttx_page.specs.Views.{page_of}
 use Rattle.ttx_source.specs.Services.{Authored, authored_at, ids_of, ServiceFields, IsService, IsAuthored, has_id, with_page}
-use Rattle.ttx_source.specs.Views.{pages_of}
+use Rattle.ttx_source.specs.Views.{authored_pages}
 
 -- the map and the list have as many entries
 pub same_length : (ps : List Page) (es : List (Id × ℕ)) → keys_of es ≡ map (λ p. (page_of p).id) ps → length es ≡ length ps
@@ -27,38 +27,38 @@ same_length ps es same = sym (length-keys es) ∙ ap length same ∙ length-ids 
     length-ids [] = refl
     length-ids (p ∷ ps) = ap suc (length-ids ps)
 
-pub pages_of-push : (ps : List Page) (es : List (Id × ℕ)) (p : Page) (e : Id × ℕ) → length es ≡ length ps
-    → pages_of (ps ++ p ∷ []) (es ++ e ∷ []) ≡ pages_of ps es ++ authored_at (page_of p) e.1 ∷ []
-pages_of-push [] [] p e same = refl
-pages_of-push [] (x ∷ es) p e same = cc
-pages_of-push (q ∷ ps) [] p e same = cc
-pages_of-push (q ∷ ps) (x ∷ es) p e same = ap (λ rest. authored_at (page_of q) x.1 ∷ rest) (pages_of-push ps es p e (suc_same same))
+pub authored_pages-push : (ps : List Page) (es : List (Id × ℕ)) (p : Page) (e : Id × ℕ) → length es ≡ length ps
+    → authored_pages (ps ++ p ∷ []) (es ++ e ∷ []) ≡ authored_pages ps es ++ authored_at (page_of p) e.1 ∷ []
+authored_pages-push [] [] p e same = refl
+authored_pages-push [] (x ∷ es) p e same = cc
+authored_pages-push (q ∷ ps) [] p e same = cc
+authored_pages-push (q ∷ ps) (x ∷ es) p e same = ap (λ rest. authored_at (page_of q) x.1 ∷ rest) (authored_pages-push ps es p e (suc_same same))
   where
     suc_same : suc (length es) ≡ suc (length ps) → length es ≡ length ps
     suc_same h = cc
 
-pub pages_of-pages : (ps : List Page) (es : List (Id × ℕ)) → length es ≡ length ps → map (λ a. a.page) (pages_of ps es) ≡ map page_of ps
-pages_of-pages [] es same = refl
-pages_of-pages (p ∷ ps) [] same = cc
-pages_of-pages (p ∷ ps) (e ∷ es) same = ap (λ rest. page_of p ∷ rest) (pages_of-pages ps es (cc))
+pub authored_pages-pages : (ps : List Page) (es : List (Id × ℕ)) → length es ≡ length ps → map (λ a. a.page) (authored_pages ps es) ≡ map page_of ps
+authored_pages-pages [] es same = refl
+authored_pages-pages (p ∷ ps) [] same = cc
+authored_pages-pages (p ∷ ps) (e ∷ es) same = ap (λ rest. page_of p ∷ rest) (authored_pages-pages ps es (cc))
 
-pub pages_of-ids : (ps : List Page) (es : List (Id × ℕ)) → length es ≡ length ps → ids_of (pages_of ps es) ≡ map (λ p. (page_of p).id) ps
-pages_of-ids [] es same = refl
-pages_of-ids (p ∷ ps) [] same = cc
-pages_of-ids (p ∷ ps) (e ∷ es) same = ap (λ rest. (page_of p).id ∷ rest) (pages_of-ids ps es (cc))
+pub authored_pages-ids : (ps : List Page) (es : List (Id × ℕ)) → length es ≡ length ps → ids_of (authored_pages ps es) ≡ map (λ p. (page_of p).id) ps
+authored_pages-ids [] es same = refl
+authored_pages-ids (p ∷ ps) [] same = cc
+authored_pages-ids (p ∷ ps) (e ∷ es) same = ap (λ rest. (page_of p).id ∷ rest) (authored_pages-ids ps es (cc))
 
-pub pages_of-length : (ps : List Page) (es : List (Id × ℕ)) → length es ≡ length ps → length (pages_of ps es) ≡ length ps
-pages_of-length [] es same = refl
-pages_of-length (p ∷ ps) [] same = cc
-pages_of-length (p ∷ ps) (e ∷ es) same = ap suc (pages_of-length ps es (cc))
+pub authored_pages-length : (ps : List Page) (es : List (Id × ℕ)) → length es ≡ length ps → length (authored_pages ps es) ≡ length ps
+authored_pages-length [] es same = refl
+authored_pages-length (p ∷ ps) [] same = cc
+authored_pages-length (p ∷ ps) (e ∷ es) same = ap suc (authored_pages-length ps es (cc))
 
-pub pages_of-often : (ps : List Page) (es : List (Id × ℕ)) (i : ℕ) (e : Id × ℕ) → length es ≡ length ps → slice_get es i ≡ Some e
-    → option_map (λ a. a.often) (slice_get (pages_of ps es) i) ≡ Some e.1
-pages_of-often [] [] i e same found = cc
-pages_of-often [] (x ∷ es) i e same found = cc
-pages_of-often (p ∷ ps) [] i e same found = cc
-pages_of-often (p ∷ ps) (x ∷ es) zero e same found = search rules
-pages_of-often (p ∷ ps) (x ∷ es) (suc i) e same found = pages_of-often ps es i e (cc) found
+pub authored_pages-often : (ps : List Page) (es : List (Id × ℕ)) (i : ℕ) (e : Id × ℕ) → length es ≡ length ps → slice_get es i ≡ Some e
+    → option_map (λ a. a.often) (slice_get (authored_pages ps es) i) ≡ Some e.1
+authored_pages-often [] [] i e same found = cc
+authored_pages-often [] (x ∷ es) i e same found = cc
+authored_pages-often (p ∷ ps) [] i e same found = cc
+authored_pages-often (p ∷ ps) (x ∷ es) zero e same found = search rules
+authored_pages-often (p ∷ ps) (x ∷ es) (suc i) e same found = authored_pages-often ps es i e (cc) found
 
 -- `==` of ids is equality
 pub eq_is : (x y : Id) → eq-value.it x y ≡ same_id x y

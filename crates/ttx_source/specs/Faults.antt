@@ -2,7 +2,7 @@
 --
 --   fault_of       a fault
 --   outcome        a value, seen by a function, or its fault
---   placed         a value, seen by a function, or its fault and the page that it is in
+--   outcome_in_page         a value, seen by a function, or its fault and the page that it is in
 --   IsUnlessMemory     a fact, but where memory ran out
 use Rattle.std.specs.Prelude.{◌≡◌, ◌⊎◌, ℕ, Result, Ok, Err}
 use Rattle.ttx_source.specs.Values.{Fault, not_toml, missing, wrong_kind, wrong_page_number, wrong_subcode, duplicate}
@@ -30,9 +30,9 @@ abbrev pub outcome : {A B : Type 0} → (A → B) → Result A SourceFault → R
 outcome seen (Ok a) = Ok (seen a)
 outcome seen (Err e) = Err (fault_of e)
 
-abbrev pub placed : {A B : Type 0} → (A → B) → Result A SourceError → Result B (Fault × ℕ)
-placed seen (Ok a) = Ok (seen a)
-placed seen (Err e) = Err (fault_of e.fault, e.page)
+abbrev pub outcome_in_page : {A B : Type 0} → (A → B) → Result A SourceError → Result B (Fault × ℕ)
+outcome_in_page seen (Ok a) = Ok (seen a)
+outcome_in_page seen (Err e) = Err (fault_of e.fault, e.page)
 
 -- want of memory is told with no page
 abbrev pub IsUnlessMemory : {A : Type 0} → Result A SourceError → Type 0 → Type 0

@@ -1,10 +1,10 @@
 -- The keys of a service definition that stand for themselves, a line for each key (profile). Pages are in Services.
 --
 --   lines, serial                         the keys of the whole service
---   designation .. text, info_of          the keys of the table `info`: packet 8/30 format 1 (EN 300 706, 9.8.1)
---   control_of                            the keys of a page that set control bits (EN 300 706, 9.3.1.3)
+--   designation .. text, info_of_table          the keys of the table `info`: packet 8/30 format 1 (EN 300 706, 9.8.1)
+--   control_of_table                            the keys of a page that set control bits (EN 300 706, 9.3.1.3)
 --   head, rows                            the texts of a page
---   six_links, crc, links_of              the keys of a page for its packet X/27/0 (EN 300 706, 9.6.1)
+--   six_links, crc, links_of_table              the keys of a page for its packet X/27/0 (EN 300 706, 9.6.1)
 use Rattle.std.specs.Prelude.{ℕ, suc, ℤ, pos, negsuc, ◌+◌, ◌-◌, ◌*◌, ◌/◌, ◌%◌, ◌<◌, ◌++◌, List, [], ◌∷◌, codes, length, replicate}
 use Rattle.std.specs.Prelude.{slice_index_or, Bool, true, false, ◌&&◌, ◌||◌, ◌==◌, nat_le, nat_lt, Option, Some, None, Result, Ok, Err}
 use Rattle.std.specs.Prelude.{if◌then◌else◌}
@@ -70,8 +70,8 @@ abbrev pub text : Members → Result (List ℕ) Fault
 text table = with_default (codes "text") as_str [] table >>= characters 20
 
 -- the packet 8/30 of a table
-unfoldable pub info_of : Members → Result InfoFields Fault
-info_of table = do
+unfoldable pub info_of_table : Members → Result InfoFields Fault
+info_of_table table = do
   number ← designation table
   page ← initial table
   code ← network table
@@ -82,7 +82,7 @@ info_of table = do
 -- the packet 8/30 of a service, which may have none
 abbrev pub info_in : Option Data → Result (Option InfoFields) Fault
 info_in None = Ok None
-info_in (Some value) = of_kind (codes "info") as_table value >>= info_of >>= (λ fields. Ok (Some fields))
+info_in (Some value) = of_kind (codes "info") as_table value >>= info_of_table >>= (λ fields. Ok (Some fields))
 
 abbrev pub info : Members → Result (Option InfoFields) Fault
 info table = info_in (get_member (codes "info") table)
@@ -109,28 +109,28 @@ bit_at weight set = if set then weight else 0
 abbrev pub national : ℕ → ℕ
 national number = 256 * (number / 4) + 512 * (number / 2 % 2) + 1024 * (number % 2)
 
-abbrev pub flag : List ℕ → Members → Result Bool Fault
-flag key table = with_default key as_bool false table
+abbrev pub flag_at : List ℕ → Members → Result Bool Fault
+flag_at key table = with_default key as_bool false table
 
 -- the control bits C5 to C7 of a page
 unfoldable pub lower_flags_of : Members → Result ℕ Fault
 lower_flags_of table = do
-  newsflash ← flag (codes "newsflash") table
-  subtitle ← flag (codes "subtitle") table
-  suppress ← flag (codes "suppress") table
+  newsflash ← flag_at (codes "newsflash") table
+  subtitle ← flag_at (codes "subtitle") table
+  suppress ← flag_at (codes "suppress") table
   Ok (bit_at 2 newsflash + bit_at 4 subtitle + bit_at 8 suppress)
 
 -- the control bits C8 to C10 of a page
 unfoldable pub upper_flags_of : Members → Result ℕ Fault
 upper_flags_of table = do
-  update ← flag (codes "update") table
-  interrupted ← flag (codes "interrupted") table
-  inhibit ← flag (codes "inhibit") table
+  update ← flag_at (codes "update") table
+  interrupted ← flag_at (codes "interrupted") table
+  inhibit ← flag_at (codes "inhibit") table
   Ok (bit_at 16 update + bit_at 32 interrupted + bit_at 64 inhibit)
 
 -- all control bits of a page, with C11 as the service has it
-unfoldable pub control_of : Bool → Members → Result ℕ Fault
-control_of is_serial table = do
+unfoldable pub control_of_table : Bool → Members → Result ℕ Fault
+control_of_table is_serial table = do
   number ← option table
   lower ← lower_flags_of table
   upper ← upper_flags_of table
@@ -213,9 +213,9 @@ abbrev pub crc : Members → Result (List ℕ) Fault
 crc table = with_default (codes "crc") as_str zeros table >>= byte_pair (codes "crc")
 
 -- the packet X/27/0
-unfoldable pub links_of : Members → Result LinksFields Fault
-links_of table = do
+unfoldable pub links_of_table : Members → Result LinksFields Fault
+links_of_table table = do
   six ← six_links table
-  show24 ← flag (codes "row24") table
+  show24 ← flag_at (codes "row24") table
   bytes ← crc table
   Ok (links_at six show24 bytes)

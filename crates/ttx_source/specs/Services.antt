@@ -3,8 +3,8 @@
 --   Authored, ServiceFields         a page with how often it is sent; a service, as contracts see it
 --   pages_of                        its pages alone
 --   IsService                       the ranges of a service
---   id_of, authored_of              a page from its table
---   settings_of, after              a service without its pages, and with the pages of some tables added
+--   id_of_table, authored_of              a page from its table
+--   settings_of, with_pages              a service without its pages, and with the pages of some tables added
 --   service_of, read_bytes          the service that a table is, and that a text is
 use Rattle.std.specs.Prelude.{◌≡◌, ◌≢◌, ℕ, ◌+◌, ◌≤◌, ◌++◌, List, [], ◌∷◌, codes, length, map, Bool, true}
 use Rattle.std.specs.Prelude.{◌&&◌, Option, Some, None, Result, Ok, Err, if◌then◌else◌, nat_lt, is_some}
@@ -18,7 +18,7 @@ use Rattle.ttx_info.specs.Infos.{InfoFields}
 use Rattle.ttx_page.specs.Pages.{Page, page_at, IsPage}
 use Rattle.ttx_source.specs.Values.{Fault, not_toml, out_of_range, wrong_kind, duplicate, ◌>>=◌}
 use Rattle.ttx_source.specs.Values.{of_kind, required, with_default, page_number, subcode}
-use Rattle.ttx_source.specs.Keys.{lines, serial, info, often, is_often, control_of, head, rows, links_of, count, zeros}
+use Rattle.ttx_source.specs.Keys.{lines, serial, info, often, is_often, control_of_table, head, rows, links_of_table, count, zeros}
 
 -- a page, and how often it is sent
 pub record Authored : Type 0 where
@@ -70,8 +70,8 @@ abbrev pub new_id : List Authored → Id → Result Id Fault
 new_id earlier id = if has_id earlier id then Err duplicate else Ok id
 
 -- a page's id, which no earlier page has
-unfoldable pub id_of : List Authored → Members → Result Id Fault
-id_of earlier table = do
+unfoldable pub id_of_table : List Authored → Members → Result Id Fault
+id_of_table earlier table = do
   number ← required (codes "number") as_str table >>= page_number
   sub ← with_default (codes "sub") as_str zeros table >>= subcode
   new_id earlier (id_at number.0 number.1 sub)
@@ -79,12 +79,12 @@ id_of earlier table = do
 -- a page of a service, after its earlier pages
 unfoldable pub authored_of : Bool → List Authored → Members → Result Authored Fault
 authored_of is_serial earlier table = do
-  id ← id_of earlier table
+  id ← id_of_table earlier table
   times ← often table
-  control ← control_of is_serial table
+  control ← control_of_table is_serial table
   characters ← head table
   texts ← rows table
-  links ← links_of table
+  links ← links_of_table table
   Ok (authored_at (page_at id control characters texts links.set links.crc) times)
 
 -- a fault, and the page that it is in, counted from 1; 0 outside pages
@@ -98,9 +98,9 @@ next_page service value =
     >>= (λ table. in_page (length service.pages + 1) (authored_of service.serial service.pages table))
 
 -- the service with the pages of an array added
-unfoldable pub after : ServiceFields → Items → Result ServiceFields (Fault × ℕ)
-after service no_items = Ok service
-after service (item value values) = next_page service value >>= (λ page. after (with_page service page) values)
+unfoldable pub with_pages : ServiceFields → Items → Result ServiceFields (Fault × ℕ)
+with_pages service no_items = Ok service
+with_pages service (item value values) = next_page service value >>= (λ page. with_pages (with_page service page) values)
 
 -- each item is a table
 abbrev pub are_tables : Items → Bool
@@ -130,7 +130,7 @@ unfoldable pub service_of : Members → Result ServiceFields (Fault × ℕ)
 service_of table = do
   service ← in_page 0 (settings_of table)
   pages ← in_page 0 (page_tables table)
-  after service pages
+  with_pages service pages
 
 abbrev pub service_in : Option Members → Result ServiceFields (Fault × ℕ)
 service_in None = Err (not_toml, 0)

@@ -88,18 +88,18 @@ digit c =
     else if nat_le 65 c && nat_le c 70 then Some (c - 55)
     else None
 
-abbrev pub joined : ℕ → Option ℕ → Option ℕ → Option ℕ
-joined weight None low = None
-joined weight (Some high) None = None
-joined weight (Some high) (Some low) = Some (weight * high + low)
+abbrev pub joined_digits : ℕ → Option ℕ → Option ℕ → Option ℕ
+joined_digits weight None low = None
+joined_digits weight (Some high) None = None
+joined_digits weight (Some high) (Some low) = Some (weight * high + low)
 
 -- the number of the two digits from a place on, the higher one first
 unfoldable pub two_digits : List ℕ → ℕ → Option ℕ
-two_digits text at = joined 16 (digit (slice_index text at)) (digit (slice_index text (at + 1)))
+two_digits text at = joined_digits 16 (digit (slice_index text at)) (digit (slice_index text (at + 1)))
 
 -- the number of four digits
 unfoldable pub four_digits : List ℕ → ℕ → Option ℕ
-four_digits text at = joined 256 (two_digits text at) (two_digits text (at + 2))
+four_digits text at = joined_digits 256 (two_digits text at) (two_digits text (at + 2))
 
 -- the magazine, 1 to 8, and the page number, two digits but not FF, in the first three characters
 abbrev pub numbered : ℕ → Option ℕ → Option (ℕ × ℕ)
@@ -130,18 +130,18 @@ unfoldable pub subcode : List ℕ → Result ℕ Fault
 subcode text = if length text == 4 then subcode_of (four_digits text 0) else Err wrong_subcode
 
 -- a link to a page number and a subcode inside 3F7F
-abbrev pub linked : Option (ℕ × ℕ) → Option ℕ → Result (Option Id) Fault
-linked None sub = Err wrong_page_number
-linked (Some number) None = Err wrong_page_number
-linked (Some number) (Some sub) =
+abbrev pub link_to : Option (ℕ × ℕ) → Option ℕ → Result (Option Id) Fault
+link_to None sub = Err wrong_page_number
+link_to (Some number) None = Err wrong_page_number
+link_to (Some number) (Some sub) =
     if is_inside_mask sub then Ok (Some (id_at number.0 number.1 sub)) else Err wrong_subcode
 
 -- nothing: no link; MPP: any subpage; MPP/SSSS
 unfoldable pub link : List ℕ → Result (Option Id) Fault
 link text =
     if length text == 0 then Ok None
-    else if length text == 3 then linked (first_number text) (Some any_subcode)
-    else if (length text == 8) && (slice_index text 3 == 47) then linked (first_number text) (four_digits text 4)
+    else if length text == 3 then link_to (first_number text) (Some any_subcode)
+    else if (length text == 8) && (slice_index text 3 == 47) then link_to (first_number text) (four_digits text 4)
     else Err wrong_page_number
 
 -- two bytes, as four digits

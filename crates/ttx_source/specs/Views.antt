@@ -1,6 +1,6 @@
 -- The pages of a `Service` as the records of the definitions.
 --
---   pages_of       pages, and the entries of the map from their ids to how often they are sent
+--   authored_pages       pages, and the entries of the map from their ids to how often they are sent
 use Rattle.std.specs.Prelude.{◌≡◌, ℕ, List, [], ◌∷◌, map}
 use Rattle.std.specs.Map.{keys_of}
 use Rattle.ttx_header.specs.Ids.{Id}
@@ -8,10 +8,10 @@ use Rattle.ttx_page.specs.declared.page.Page.{Page}
 use Rattle.ttx_page.specs.Views.{page_of}
 use Rattle.ttx_source.specs.Services.{Authored, authored_at, ServiceFields, IsService}
 
-abbrev pub pages_of : List Page → List (Id × ℕ) → List Authored
-pages_of [] entries = []
-pages_of (page ∷ pages) [] = []
-pages_of (page ∷ pages) (entry ∷ entries) = authored_at (page_of page) entry.1 ∷ pages_of pages entries
+abbrev pub authored_pages : List Page → List (Id × ℕ) → List Authored
+authored_pages [] entries = []
+authored_pages (page ∷ pages) [] = []
+authored_pages (page ∷ pages) (entry ∷ entries) = authored_at (page_of page) entry.1 ∷ authored_pages pages entries
 
 -- the map has the pages' ids in the pages' order, and the service is in its ranges
 pub record IsKept (service : ServiceFields) (pages : List Page) (entries : List (Id × ℕ)) : Type 0 where

@@ -73,9 +73,9 @@ fn upper_flags(page: &Table) -> Result<u16, SourceFault>
 }
 
 /// The control bits of a page, with C11 as the service has it.
-#[tactic(auto, unfolding(crate::specs::Keys::control_of))]
+#[tactic(auto, unfolding(crate::specs::Keys::control_of_table))]
 pub fn control(page: &Table, serial: bool) -> Result<Control, SourceFault>
-    ensures value { outcome (λ c. c.0) result ≡ rule.control_of serial (table_view page.now) }
+    ensures value { outcome (λ c. c.0) result ≡ rule.control_of_table serial (table_view page.now) }
     ensures ranges { IfOk result (λ c. IsControl c.0 × (c4 c.0 ≡ false) × (c11 c.0 ≡ serial)) }
 {
     let option = option(page)?;

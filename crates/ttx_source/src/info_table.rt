@@ -70,9 +70,9 @@ fn status(info: &Table) -> Result<[u8; 20], SourceFault>
 }
 
 // The packet of a table.
-#[tactic(auto, unfolding(crate::specs::Keys::info_of))]
+#[tactic(auto, unfolding(crate::specs::Keys::info_of_table))]
 fn info_of(table: &Table) -> Result<Info, SourceFault>
-    ensures { outcome (λ i. i) result ≡ rule.info_of (table_view table.now) }
+    ensures { outcome (λ i. i) result ≡ rule.info_of_table (table_view table.now) }
 {
     let designation = designation(table)?;
     let initial = match initial(table) {

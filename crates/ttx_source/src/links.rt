@@ -69,9 +69,9 @@ fn crc(page: &Table) -> Result<[u8; 2], SourceFault>
 }
 
 /// The links of a page, show24 and the bytes of the page CRC.
-#[tactic(auto, unfolding(crate::specs::Keys::links_of))]
+#[tactic(auto, unfolding(crate::specs::Keys::links_of_table))]
 pub fn links(page: &Table) -> Result<Links, SourceFault>
-    ensures { outcome (λ l. l) result ≡ rule.links_of (table_view page.now) }
+    ensures { outcome (λ l. l) result ≡ rule.links_of_table (table_view page.now) }
 {
     let six = match six_links(page) {
         Ok(six) => six,

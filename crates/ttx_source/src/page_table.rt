@@ -7,7 +7,7 @@ ghost use Rattle.ttx_header.specs.Control.{c11};
 ghost use Rattle.ttx_page.specs.Pages.{IsPage, page_at};
 ghost use Rattle.ttx_page.specs.Views.{page_of};
 ghost use Rattle.ttx_source.specs.Keys as rule;
-ghost use Rattle.ttx_source.specs.Services.{id_of, authored_at, authored_of, has_id};
+ghost use Rattle.ttx_source.specs.Services.{id_of_table, authored_at, authored_of, has_id};
 ghost use Rattle.ttx_source.specs.Faults.{outcome};
 
 use crate::controls::control;
@@ -23,9 +23,9 @@ use ttx_links::Links;
 use ttx_page::Page;
 
 // The id of a page, which no earlier page has.
-#[tactic(auto, unfolding(crate::specs::Services::id_of))]
+#[tactic(auto, unfolding(crate::specs::Services::id_of_table))]
 fn id(page: &Table, service: &Service) -> Result<PageId, SourceFault>
-    ensures value { outcome (λ id. id) result ≡ id_of service.now.pages (table_view page.now) }
+    ensures value { outcome (λ id. id) result ≡ id_of_table service.now.pages (table_view page.now) }
     ensures new { IfOk result (λ id. has_id service.now.pages id ≡ false) }
     ensures ranges { IfOk result (λ id. IsId id × (id.page ≢ 0xff) × (id.sub ≢ 0x3f7f)) }
 {

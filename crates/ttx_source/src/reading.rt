@@ -9,7 +9,7 @@ ghost use Rattle.ttx_page.specs.Views.{page_of};
 ghost use Rattle.ttx_source.specs.Keys.{is_often};
 ghost use Rattle.ttx_source.specs.Services.{authored_at, has_id};
 ghost use Rattle.ttx_source.specs.Services as rule;
-ghost use Rattle.ttx_source.specs.Faults.{outcome, placed, IsUnlessMemory};
+ghost use Rattle.ttx_source.specs.Faults.{outcome, outcome_in_page, IsUnlessMemory};
 
 use crate::faults::{SourceError, SourceFault};
 use crate::info_table::info;
@@ -73,7 +73,7 @@ fn page_tables<'a>(table: &'a Table) -> Result<&'a [Value], SourceFault>
 // The page of a value, after the pages of the service; `number` counts it from 1.
 fn next_page(value: &Value, number: usize, service: &Service) -> Result<(Page, u8), SourceError>
     requires { number ≡ length service.now.pages + 1 }
-    ensures value { placed (λ p. authored_at (page_of p.0) p.1) result ≡ rule.next_page service.now (view value.now) }
+    ensures value { outcome_in_page (λ p. authored_at (page_of p.0) p.1) result ≡ rule.next_page service.now (view value.now) }
     ensures new { IfOk result (λ p. has_id service.now.pages (page_of p.0).id ≡ false) }
     ensures c11 { IfOk result (λ p. c11 (page_of p.0).control ≡ service.now.serial) }
     ensures often { IfOk result (λ p. is_often p.1 ≡ true) }
@@ -95,7 +95,7 @@ fn next_page(value: &Value, number: usize, service: &Service) -> Result<(Page, u
 fn with_pages(mut service: Service, values: &[Value]) -> Result<Service, SourceError>
     requires none { service.pages ≡ [] }
     requires most { length values.now ≤ 2000 }
-    ensures { IsUnlessMemory result (placed (λ s. s) result ≡ rule.after service (items_view values.now)) }
+    ensures { IsUnlessMemory result (outcome_in_page (λ s. s) result ≡ rule.with_pages service (items_view values.now)) }
 {
     for (index, value) in values.iter().enumerate() {
         let (page, often) = match next_page(value, index + 1, &service) {
@@ -113,7 +113,7 @@ fn with_pages(mut service: Service, values: &[Value]) -> Result<Service, SourceE
 // The service that a table is, or its first fault.
 #[tactic(auto, unfolding(crate::specs::Services::service_of))]
 fn service_of(alloc: Global, table: &Table) -> Result<Service, SourceError>
-    ensures { IsUnlessMemory result (placed (λ s. s) result ≡ rule.service_of (table_view table.now)) }
+    ensures { IsUnlessMemory result (outcome_in_page (λ s. s) result ≡ rule.service_of (table_view table.now)) }
 {
     let service = match settings(alloc, table) {
         Ok(service) => service,
@@ -127,7 +127,7 @@ fn service_of(alloc: Global, table: &Table) -> Result<Service, SourceError>
 
 /// The service that a TOML text says. Lines, serial and `info` are looked at before the pages, and the pages in their order.
 pub fn read_service(alloc: Global, bytes: &[u8]) -> Result<Service, SourceError>
-    ensures { IsUnlessMemory result (placed (λ s. s) result ≡ rule.read_bytes bytes.now) }
+    ensures { IsUnlessMemory result (outcome_in_page (λ s. s) result ≡ rule.read_bytes bytes.now) }
 {
     let Ok(text) = std::str::from_utf8(bytes) else {
         return Err(SourceError {

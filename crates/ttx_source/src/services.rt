@@ -26,13 +26,14 @@ pub struct Service {
 
 impl Model for Service {
     ghost use Rattle.ttx_source.specs.Services.{ServiceFields, service_at};
-    ghost use Rattle.ttx_source.specs.Views.{pages_of, IsKept};
+    ghost use Rattle.ttx_source.specs.Views.{authored_pages, IsKept};
 
     ghost Value = { ServiceFields };
 
-    ghost view = { λ s. service_at s.lines s.serial s.info (pages_of s.pages.items s.often.entries) };
+    ghost view = { λ s. service_at s.lines s.serial s.info (authored_pages s.pages.items s.often.entries) };
 
-    ghost invariant = { λ s. IsKept (service_at s.lines s.serial s.info (pages_of s.pages.items s.often.entries)) s.pages.items s.often.entries };
+    ghost invariant = { λ s. IsKept (service_at s.lines s.serial s.info (authored_pages s.pages.items s.often.entries))
+        s.pages.items s.often.entries };
 }
 
 impl Service {

@@ -128,7 +128,7 @@ pub fn byte_pair(text: &str, key: &'static str) -> Result<[u8; 2], SourceFault>
 // The target of a link, if both parts of its text are numbers.
 fn target(number: Option<(u8, u8)>, sub: Option<u16>) -> Result<Option<Target>, SourceFault>
     requires { IfSome number (λ n. (1 ≤ n.0) × (n.0 ≤ 8) × (n.1 ≢ 0xff)) }
-    ensures { outcome (λ l. l) result ≡ rule.linked number sub }
+    ensures { outcome (λ l. l) result ≡ rule.link_to number sub }
 {
     let (Some((mag, page)), Some(sub)) = (number, sub) else {
         return Err(SourceFault::PageNumber);

@@ -8,7 +8,7 @@ use Rattle.std.specs.Prelude.{ℕ, ◌+◌, ◌/◌, ◌%◌, List, [], ◌∷�
 use Rattle.std.specs.Fmt.{decimal}
 use Rattle.ttx_render.specs.declared.cells.Cell.{Cell}
 use Rattle.ttx_render.specs.View.{Screen}
-use Rattle.ttx_render.specs.Words.{cell_word}
+use Rattle.ttx_render.specs.CellWords.{cell_word}
 use Rattle.ttx_tool.specs.Texts.{links_text}
 
 -- the digit of a number below 16

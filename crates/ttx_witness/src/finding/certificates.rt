@@ -7,7 +7,7 @@ ghost use Rattle.ttx_page.specs.Pages as definitions;
 ghost use Rattle.ttx_page.specs.Views.{page_of};
 ghost use Rattle.ttx_page.specs.declared.class.Class.TheVariants.{Any};
 ghost use Rattle.ttx_cycle.specs.Cycles.{slots_of};
-ghost use Rattle.ttx_certificate.specs.Entries.{places, rises};
+ghost use Rattle.ttx_certificate.specs.Entries.{entry_places, rises};
 ghost use Rattle.ttx_certificate.specs.EntryViews.{entries_of};
 ghost use Rattle.ttx_certificate.specs.Certificates.{certificate_of};
 ghost use Rattle.ttx_witness.specs.sent.Collected.{ids_of};
@@ -88,7 +88,7 @@ fn name_pages(
 fn sort_entries(entries: &mut Vec<Entry>)
     requires apart { AllPairs (λ a b. same_place a b ≡ false) entries.old.items }
     ensures same { IsPermutation entries.old.items entries.new.items }
-    ensures rising { rises (places (entries_of entries.new.items)) ≡ true }
+    ensures rising { rises (entry_places (entries_of entries.new.items)) ≡ true }
 {
     entries.sort_unstable_by_key(|entry| entry.place());
 }

@@ -25,7 +25,7 @@ use Rattle.ttx_page.specs.declared.item.Item.TheVariants.{Head as TheHead, Row a
 use Rattle.ttx_page.specs.declared.class.Class.{Class}
 use Rattle.ttx_page.specs.declared.class.Class.TheVariants.{Any, Clearing}
 use Rattle.ttx_witness.specs.sent.Collected.{IsItem, item_number}
-use Rattle.ttx_certificate.specs.Entries.{are_numbers, is_above, rises, rises_above, places, same_item, starts_in, fields_at, certificate_at}
+use Rattle.ttx_certificate.specs.Entries.{are_numbers, is_above, rises, rises_above, entry_places, same_item, starts_in, certificate_fields_at, certificate_at}
 use Rattle.ttx_certificate.specs.declared.entries.Entry.{Entry}
 use Rattle.ttx_witness.specs.runs.SureStarts.{Spread}
 use Rattle.ttx_witness.specs.Coverage.{Certificate, limit, IsSureStart, IsCovered, IsLeftOut, Accepts}
@@ -159,7 +159,7 @@ module _ (cycle : List (List ℕ)) (some : 1 ≤ length cycle) (pages : List Pag
 
   module _ (d : ℕ) where
     abbrev pub w : Certificate
-    w = certificate_at (fields_at lines repeat d (entries_of es) class)
+    w = certificate_at (certificate_fields_at lines repeat d (entries_of es) class)
 
     pub named_is : SureStartsAreFound → (n : ℕ) (p : Page) → slice_get pages n ≡ Some p → (item : Item) → IsItem item →
         (start : ℕ) → Contains (w.starts p.id item) start ↔ ((is_due class p item ≡ true) × IsSureStart cycle p.id lines repeat item start)
@@ -315,7 +315,7 @@ pairs_sorted xs ys perm alone =
     let d = IsDistinct-IsPermutation same_place same_place_flips xs ys perm (IsDistinct-from_apart same_place xs alone) in
     λ i j e lt in_range. apart_from_distinct same_place ys i j e d lt in_range
 
-rises_apart : (low : Option ℕ) (es : List Entry) → Lower low es → IsNonDecreasingBy place_in es → AreAlone es → rises_above low (places (entries_of es)) ≡ true
+rises_apart : (low : Option ℕ) (es : List Entry) → Lower low es → IsNonDecreasingBy place_in es → AreAlone es → rises_above low (entry_places (entries_of es)) ≡ true
 rises_apart low [] l up alone = refl
 rises_apart low (e ∷ es) l up alone = and_both _ _ (first low l)
     (rises_apart (Some (place_in e)) es
@@ -330,7 +330,7 @@ rises_apart low (e ∷ es) l up alone = and_both _ _ (first low l)
     above m n le other = grind (arith, nat_tests)
 
 -- entries of distinct items that are sorted rise strictly
-pub places_rise : (es : List Entry) → IsNonDecreasingBy place_in es → AllPairs (λ a b. same_place a b ≡ false) es → rises (places (entries_of es)) ≡ true
+pub places_rise : (es : List Entry) → IsNonDecreasingBy place_in es → AllPairs (λ a b. same_place a b ≡ false) es → rises (entry_places (entries_of es)) ≡ true
 places_rise es up alone = rises_apart None es tt up alone
 
 pub named_sorted : (cycle : List (List ℕ)) (pages : List Page) (class : Class) (lines repeat m : ℕ) (xs ys : List Entry) (least : Option ℕ) → IsPermutation xs ys →

@@ -2,7 +2,7 @@ use Rattle.std.proofs.Common.{◌≡◌, ◌≤◌, ◌*◌, true, map, length, 
 use Rattle.std.proofs.lemmas.List.{length-map}
 use Rattle.ttx_cycle.specs.Cycles.{slots_of, slots_of-IsCycle}
 use Rattle.ttx_page.specs.Views.{page_of}
-use Rattle.ttx_certificate.specs.Entries.{are_numbers, fields_at, certificate_at}
+use Rattle.ttx_certificate.specs.Entries.{are_numbers, certificate_fields_at, certificate_at}
 use Rattle.ttx_certificate.specs.EntryViews.{entries_of}
 use Rattle.ttx_witness.specs.finding.Finding.{AreNamed, IsFoundFor}
 use Rattle.ttx_witness.proofs.lemmas.finding.DueItems.{pages_apart}
@@ -28,7 +28,7 @@ returns c =
     let named = named_sorted cycle pages c.args.class c.args.lines c.args.repeat (26 * length (map page_of c.args.pages.now)) c.name_pages.new.entries.items es c.in_ok-least.least c.sort_entries.ensures.same
     (subst (λ m. AreNamed (slots_of c.args.cycle.now) (map page_of c.args.pages.now) c.args.class c.args.lines c.args.repeat m c.name_pages.new.entries.items c.in_ok-least.least) count c.in_ok-least.ensures) in
     subst (λ f. IsFoundFor (slots_of c.args.cycle.now) (map page_of c.args.pages.now) c.args.repeat c.args.lines c.args.class (certificate_at f) c.deadline_of-deadline.result)
-    (sym (c.of-2.ensures ∙ ap (λ d. fields_at c.args.lines c.args.repeat d (entries_of c.sort_entries.new.entries.items) c.args.class) c.unwrap_or-fields.ensures))
+    (sym (c.of-2.ensures ∙ ap (λ d. certificate_fields_at c.args.lines c.args.repeat d (entries_of c.sort_entries.new.entries.items) c.args.class) c.unwrap_or-fields.ensures))
     (is_found cycle some pages (pages_apart c.args.pages.now c.requires.distinct) c.args.class c.args.lines c.args.repeat c.requires.some_repeats es c.in_ok-least.least named (pages_tested c.pages_keep_their_rules.ensures c.pages_have_six_links.ensures c.blank_is_tested.ensures c.args.pages.now) c.requires.few_lines
     c.requires.some_lines c.deadline_of-deadline.result
     (c.deadline_of-deadline.ensures cycle pages (c.is_sent_unchanged-unchanged.ensures c.in_ok-others.ensures)) c.each_slot_turns.ensures c.sure_starts_are_found.ensures c.least_limit_is_found.ensures)

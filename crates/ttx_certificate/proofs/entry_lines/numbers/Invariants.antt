@@ -1,7 +1,7 @@
 use Rattle.std.proofs.Common.{◌≡◌, ◌+◌, ◌++◌, option_map, unwrap_or, length}
 use Rattle.ttx_certificate.specs.CertificateReading.{numbers_in, words_in}
 use Rattle.ttx_certificate.specs.WrittenEntries.{words_after}
-use Rattle.ttx_certificate.proofs.shapes.numbers.Given as goal
+use Rattle.ttx_certificate.proofs.entry_lines.numbers.Given as goal
 
 -- the numbers so far, and then those of the words that are left
 abbrev pub invariant-loop-rest : goal.invariant-loop-rest

@@ -1,10 +1,10 @@
-//! Lines, words, numbers and ids of pages in texts.
+//! The words of a line: numbers, and ids of pages.
 
 ghost use Rattle.std.specs.Prelude.{◌≡◌, ◌==◌, ◌+◌, ◌*◌, true, ◌<◌, ◌≤◌, [], ◌∷◌, length, option_map, IfSome, MatchOption};
 ghost use Rattle.std.specs.List.{position};
 ghost use Rattle.ttx_header.specs.Ids.{id_at};
-ghost use Rattle.ttx_certificate.specs.CertificateReading.{parts_at, is_between, are_digits, is_number, number_of};
-ghost use Rattle.ttx_certificate.specs.CertificateReading.{value_after, is_hex, hex_value, is_id_word, id_of};
+ghost use Rattle.ttx_certificate.specs.CertificateReading.{parts_at, is_between, are_digits, is_number, number_in_word};
+ghost use Rattle.ttx_certificate.specs.CertificateReading.{decimal_after, is_hex, hex_value, is_id_word, id_in_word};
 
 // The place of the first separator.
 fn position_of(text: &[u8], separator: u8) -> Option<usize>
@@ -50,7 +50,7 @@ fn is_number(word: &[u8]) -> bool
 fn value_of(digits: &[u8]) -> u32
     requires digits { are_digits digits.now ≡ true }
     requires few { length digits.now ≤ 7 }
-    ensures { result ≡ value_after 0 digits.now }
+    ensures { result ≡ decimal_after 0 digits.now }
 {
     let mut value = 0;
     for digit in digits {
@@ -61,7 +61,7 @@ fn value_of(digits: &[u8]) -> u32
 
 /// The number that the word is, below 10,000,000. None where it isn't 1 to 7 digits without a leading zero.
 pub(crate) fn number(word: &[u8]) -> Option<u32>
-    ensures value { result ≡ number_of word.now }
+    ensures value { result ≡ number_in_word word.now }
 {
     if !is_number(word) {
         return None;
@@ -116,7 +116,7 @@ fn hex_pair(high: u8, low: u8) -> u8
 /// Magazine, page number and subcode of an id, as 100/3F7F. None where the word has another shape; the subcode may have any
 /// bits.
 pub(crate) fn id(word: &[u8]) -> Option<(u8, u8, u16)>
-    ensures { option_map (λ id. id_at id.0 id.1 id.2) result ≡ id_of word.now }
+    ensures { option_map (λ id. id_at id.0 id.1 id.2) result ≡ id_in_word word.now }
 {
     if !is_id_word(word) {
         return None;

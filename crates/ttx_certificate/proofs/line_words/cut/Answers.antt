@@ -1,6 +1,6 @@
 use Rattle.std.proofs.Common.{◌==◌, ◌∙◌, sym}
 use Rattle.ttx_certificate.proofs.TextParts.{cut_at, not_cut}
-use Rattle.ttx_certificate.proofs.words.cut.Goals as goal
+use Rattle.ttx_certificate.proofs.line_words.cut.Goals as goal
 
 pub returns-in-Some-clause-parts : goal.returns-in-Some-clause-parts
 returns-in-Some-clause-parts c = (cut_at (λ b. b == c.args.separator) c.args.text.now c.in-Some.end (sym c.position_of.ensures ∙ c.in-Some.is)).1

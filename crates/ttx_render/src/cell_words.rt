@@ -1,10 +1,10 @@
 //! Cells as words.
 
 ghost use Rattle.std.specs.Prelude.{◌≡◌, ◌<◌, ◌^◌};
-ghost use Rattle.ttx_render.specs.Words.{glyph_word, part_number, cell_word};
+ghost use Rattle.ttx_render.specs.CellWords.{glyph_word, part_number, cell_word};
 
 use crate::cells::{Cell, Glyph, Part};
-use crate::colour::number_of;
+use crate::colour::colour_number;
 
 // 21 bits: a character's number, or 110000 and the blocks of a mosaic.
 fn glyph_word(glyph: Glyph) -> u32
@@ -37,7 +37,7 @@ fn part_number(part: Part) -> u32
 pub fn cell_word(cell: &Cell) -> u32
     ensures { result ≡ cell_word cell.now }
 {
-    let colours = u32::from(number_of(cell.fore)) + 8 * u32::from(number_of(cell.back));
+    let colours = u32::from(colour_number(cell.fore)) + 8 * u32::from(colour_number(cell.back));
     let flags = u32::from(cell.flash)
         + 2 * u32::from(cell.concealed)
         + 4 * u32::from(cell.picture)

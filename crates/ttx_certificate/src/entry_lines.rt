@@ -1,11 +1,11 @@
-//! The shape of the line of an entry.
+//! The line of an entry, word by word.
 
 ghost use Rattle.std.specs.Prelude.{◌≡◌, ◌<◌, ◌∷◌, length, option_map, IfOk, IfSome};
 ghost use Rattle.ttx_certificate.specs.CertificateReading.{words_in, row_in, item_in, numbers_in, entry_in};
-ghost use Rattle.ttx_certificate.specs.WrittenEntries.{item_of, written_of, words_after};
+ghost use Rattle.ttx_certificate.specs.WrittenEntries.{written_item, written_of, words_after};
 
+use crate::line_words::{cut, id, number};
 use crate::no_memory::NoMemory;
-use crate::words::{cut, id, number};
 use crate::written::{Written, WrittenItem};
 use std::alloc::Global;
 
@@ -22,7 +22,7 @@ fn next_word(text: &[u8]) -> (&[u8], Option<&[u8]>)
 
 // A row by its number, and what follows it.
 fn row<'a>(rest: Option<&'a [u8]>) -> Option<(WrittenItem, Option<&'a [u8]>)>
-    ensures { option_map (λ p. (item_of p.0, words_after (option_map (λ t. t.now) p.1))) result
+    ensures { option_map (λ p. (written_item p.0, words_after (option_map (λ t. t.now) p.1))) result
         ≡ row_in (words_after (option_map (λ t. t.now) rest.entry)) }
 {
     let (word, rest) = next_word(rest?);
@@ -34,7 +34,7 @@ fn row<'a>(rest: Option<&'a [u8]>) -> Option<(WrittenItem, Option<&'a [u8]>)>
 
 // An item, and what follows it.
 fn item<'a>(rest: Option<&'a [u8]>) -> Option<(WrittenItem, Option<&'a [u8]>)>
-    ensures { option_map (λ p. (item_of p.0, words_after (option_map (λ t. t.now) p.1))) result
+    ensures { option_map (λ p. (written_item p.0, words_after (option_map (λ t. t.now) p.1))) result
         ≡ item_in (words_after (option_map (λ t. t.now) rest.entry)) }
 {
     let (word, rest) = next_word(rest?);
