@@ -293,9 +293,6 @@ module _ (cycle : List (List ℕ)) (page : Id) where
       )
 
 -- the places of a list of the program's pages
-pub page_at : (pages : List PageValue) (i : ℕ) (p : PageValue) → i < length pages → p ≡ get_or pages i p → slice_get (map page_of pages) i ≡ Some (page_of p)
-page_at pages i p lt e = slice_get-map page_of pages i ∙ ap (option_map page_of) (slice_get_read pages (length pages) i p refl lt e)
-
 -- the pages below a place have another id
 pub none_here : (pages : List Page) (id : Id) (index : ℕ) → ((n : ℕ) (p : Page) → n < index → slice_get pages n ≡ Some p → p.id ≡ id → ⊥) → (here : Page) → slice_get pages index ≡ Some here →
     (here.id ≡ id → ⊥) → (n : ℕ) (p : Page) → n < index + 1 → slice_get pages n ≡ Some p → p.id ≡ id → ⊥

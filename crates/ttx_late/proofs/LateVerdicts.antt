@@ -18,7 +18,7 @@ use Rattle.ttx_late.specs.LateVerdicts.{IsNeverShown, IsFollowedVerdict, IsLateV
 use Rattle.ttx_late.specs.declared.unshown.Unshown.{Unshown}
 use Rattle.ttx_late.specs.declared.verdict.LateVerdict.{LateVerdict}
 use Rattle.ttx_late.specs.declared.verdict.LateVerdict.TheVariants.{Yes, No, NeverShown}
-use Rattle.ttx_late.proofs.FollowersOfCycles.{page_at}
+use Rattle.ttx_certify.proofs.PageByPage.{page_at}
 
 pub never_shown : (cycle : List (List ℕ)) (pages : List PageValue) (u : Unshown) → IsFirstUnshown cycle (map page_of pages) u → (p : PageValue) → p ≡ get_or pages u.page p →
     (id : Id) → id ≡ p.id → IsNeverShown cycle (map page_of pages) id u.slot
@@ -29,10 +29,6 @@ never_shown cycle pages u first p at id is =
     let same : first.page ≡ page_of p = cc in
     record { index = u.page; first = first; is = ap (λ q. q.id) same ∙ sym is }
 
-pub are_pages : PagesKeepTheirRules → (pages : List PageValue) → ArePages (map page_of pages)
-are_pages rules [] n p e = cc
-are_pages rules (x ∷ xs) zero p e = let same : page_of x ≡ p = cc in subst IsPage same (rules x)
-are_pages rules (x ∷ xs) (suc n) p e = are_pages rules xs n p e
 
 module _ (cycle : List (List ℕ)) (pages : List Page) (w : Certificate) (accepts : Accepts cycle pages w) where
   pub late_exact : (verdict : LateVerdict) → IsFollowedVerdict cycle pages verdict → IsLateVerdict cycle pages w verdict

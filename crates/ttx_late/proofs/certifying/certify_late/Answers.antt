@@ -6,7 +6,8 @@ use Rattle.ttx_source.specs.Services.{pages_of}
 use Rattle.ttx_certify.specs.Laws.{ArePages}
 use Rattle.ttx_certify.specs.Verdicts.{IsVerdict, Means}
 use Rattle.ttx_late.specs.LateVerdicts.{IsFollowedVerdict}
-use Rattle.ttx_late.proofs.LateVerdicts.{are_pages, late_means}
+use Rattle.ttx_certify.proofs.PageByPage.{are_pages}
+use Rattle.ttx_late.proofs.LateVerdicts.{late_means}
 use Rattle.ttx_late.proofs.certifying.certify_late.Goals as goal
 
 pub returns-in-Yes-clause-seen : goal.returns-in-Yes-clause-seen
