@@ -1,20 +1,11 @@
 -- What is accepted, and followed by another page number, is shown.
-use Rattle.std.proofs.Common.{◌≡◌, ℕ, ◌<◌, ℤ, pos, ◌+ℤ◌, ◌<ℤ◌, ◌≤ℤ◌, Bool, true, false, ◌&&◌, List, [], ◌∷◌, length, get_or, refl, sym, ap, subst, inl, inr, arith, slice_get, Some, eq-eqb}
+use Rattle.std.proofs.Common.{◌≡◌, ℕ, pos, ◌+ℤ◌, ◌<ℤ◌, ◌≤ℤ◌, true, false, List, [], ◌∷◌, length, refl, sym, subst, inl, inr, arith, slice_get, Some}
 use Rattle.std.proofs.lemmas.Int.{ints}
-use Rattle.std.proofs.lemmas.List.Elements.{All-get_or}
-use Rattle.std.specs.List.{AllByRecursion}
-use Rattle.ttx_packet.specs.Slots.{IsSlot}
-use Rattle.ttx_header.specs.Ids.{Id, same_id}
-use Rattle.ttx_page.specs.Packets.{Packet, Empty, Unreadable, Header, Row, Links, Info, Other, packet_of}
-use Rattle.ttx_page.specs.Pages.{Page, Fits, matches, needed}
-use Rattle.ttx_page.specs.declared.selection.Selection.{Selection}
-use Rattle.ttx_page.specs.declared.selection.Selection.TheVariants.{Exact, AnySub}
-use Rattle.ttx_page.specs.declared.item.Item.{Item}
+use Rattle.ttx_page.specs.Packets.{packet_of}
+use Rattle.ttx_page.specs.Pages.{Page}
 use Rattle.ttx_page.specs.Receivers.{older, after}
-use Rattle.ttx_page.specs.Streams.{Stream, repeated, turned, heads_page, heads_matched, IsRun, IsSureTransmission, HasSureRun}
-use Rattle.ttx_page.specs.Steady.{SendsItsOwn}
-use Rattle.ttx_page.specs.Laws.{EachSlotTurns, StreamsMove, RunsAreUnique, SteadySendsItsOwn, CyclesRepeat}
-use Rattle.ttx_receiver.specs.Laws.{IsSteadyFrom, IsBrought}
+use Rattle.ttx_page.specs.Streams.{repeated, heads_page}
+use Rattle.ttx_page.specs.Laws.{CyclesRepeat}
 use Rattle.ttx_cycle.specs.Files.{IsCycle}
 use Rattle.ttx_witness.specs.Coverage.{Certificate, IsCertificate, Accepts, limit}
 use Rattle.ttx_certify.specs.Laws.{ArePages}

@@ -1,12 +1,11 @@
 -- The verdict on a cycle that is accepted, where receivers may show pages late.
-use Rattle.std.proofs.Common.{◌≡◌, ◌<◌, ℕ, zero, suc, List, [], ◌∷◌, length, map, get_or, slice_get, Some, sym, ap, ◌∙◌, subst, arith}
+use Rattle.std.proofs.Common.{◌≡◌, ◌<◌, ℕ, List, length, map, get_or, sym, ap, ◌∙◌, arith}
 use Rattle.std.proofs.lemmas.List.{length-map}
 use Rattle.std.proofs.lemmas.Option.{slice_get_within}
 use Rattle.ttx_header.specs.Ids.{Id}
-use Rattle.ttx_page.specs.Pages.{Page, IsPage}
+use Rattle.ttx_page.specs.Pages.{Page}
 use Rattle.ttx_page.specs.declared.page.Page.{Page as PageValue}
 use Rattle.ttx_page.specs.Views.{page_of}
-use Rattle.ttx_page.specs.Laws.{PagesKeepTheirRules}
 use Rattle.ttx_cycle.specs.Files.{IsCycle}
 use Rattle.ttx_witness.specs.Coverage.{Certificate, IsCertificate, Accepts}
 use Rattle.ttx_certify.specs.Laws.{ArePages}
@@ -28,7 +27,6 @@ never_shown cycle pages u first p at id is =
     let listed = first.listed in
     let same : first.page ≡ page_of p = cc in
     record { index = u.page; first = first; is = ap (λ q. q.id) same ∙ sym is }
-
 
 module _ (cycle : List (List ℕ)) (pages : List Page) (w : Certificate) (accepts : Accepts cycle pages w) where
   pub late_exact : (verdict : LateVerdict) → IsFollowedVerdict cycle pages verdict → IsLateVerdict cycle pages w verdict
