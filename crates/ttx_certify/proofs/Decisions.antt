@@ -1,6 +1,6 @@
 -- Facts that are decided: each is true, or refuted. Equality of what pages and packets hold, searches below a number, and items by
 -- their numbers.
-use Rattle.std.proofs.Common.{◌≡◌, ◌⊎◌, ℕ, zero, suc, ◌<◌, Bool, true, false, List, [], ◌∷◌, Option, Some, None, refl, ap, subst, inl, inr, arith}
+use Rattle.std.proofs.Common.{◌≡◌, ℕ, zero, suc, ◌<◌, false, List, [], ◌∷◌, Option, Some, None, refl, ap, subst, inl, inr, arith}
 use Rattle.std.proofs.lemmas.Bool.{cases_lt, cases_eq}
 use Rattle.ttx_header.specs.Ids.{Id}
 use Rattle.ttx_links.specs.Sets.{LinkSet}
@@ -10,17 +10,10 @@ use Rattle.ttx_page.specs.declared.class.Class.{Class}
 use Rattle.ttx_page.specs.declared.class.Class.TheVariants.{Any, Clearing}
 use Rattle.ttx_page.specs.declared.item.Item.{Item}
 use Rattle.ttx_page.specs.declared.item.Item.TheVariants.{Head as TheHead, Row as TheRow, Links as TheLinks}
+pub use Rattle.ttx_page.proofs.Decisions.{Decided, both, same_bool, same_option, same_list}
 use Rattle.ttx_page.specs.Steady.{IsLikeHead, HeadIsRight, RowIsRight, LinksAreRight}
 use Rattle.ttx_witness.specs.sent.Collected.{item_number, IsItem}
 use Rattle.ttx_witness.specs.passes.PageFacts.{FirstBelow}
-
-abbrev pub Decided : Type 0 → Type 0
-Decided P = P ⊎ (P → ⊥)
-
-pub both : {P Q : Type 0} → Decided P → Decided Q → Decided (P × Q)
-both (inl p) (inl q) = inl (p, q)
-both (inl p) (inr n) = inr (λ b. n b.1)
-both (inr n) q = inr (λ b. n b.0)
 
 pub refuted : {P : Type 0} → Decided P → Decided (P → ⊥)
 refuted (inl p) = inr (λ n. n p)
@@ -29,28 +22,6 @@ refuted (inr n) = inl n
 pub alike : {P Q : Type 0} → (P → Q) → (Q → P) → Decided P → Decided Q
 alike f g (inl p) = inl (f p)
 alike f g (inr n) = inr (λ q. n (g q))
-
-pub same_bool : (a b : Bool) → Decided (a ≡ b)
-same_bool true true = inl refl
-same_bool false false = inl refl
-same_bool true false = inr (λ e. cc)
-same_bool false true = inr (λ e. cc)
-
-module _ {A : Type 0} (same : (a b : A) → Decided (a ≡ b)) where
-  pub same_option : (a b : Option A) → Decided (a ≡ b)
-  same_option None None = inl refl
-  same_option None (Some b) = inr (λ e. cc)
-  same_option (Some a) None = inr (λ e. cc)
-  same_option (Some a) (Some b) = elim (same a b) as (λ _. Decided (Some a ≡ Some b)) [ inl e ↦ inl (ap Some e) | inr ne ↦ inr (λ e. ne (cc)) ]
-
-  pub same_list : (xs ys : List A) → Decided (xs ≡ ys)
-  same_list [] [] = inl refl
-  same_list [] (y ∷ ys) = inr (λ e. cc)
-  same_list (x ∷ xs) [] = inr (λ e. cc)
-  same_list (x ∷ xs) (y ∷ ys) = elim (same x y) as (λ _. Decided ((x ∷ xs) ≡ (y ∷ ys))) [
-    | inl e ↦ elim (same_list xs ys) as (λ _. Decided ((x ∷ xs) ≡ (y ∷ ys))) [ inl f ↦ inl (cc) | inr ne ↦ inr (λ f. ne (cc)) ]
-    | inr ne ↦ inr (λ f. ne (cc))
-  ]
 
 pub same_nat : (a b : ℕ) → Decided (a ≡ b)
 same_nat a b = cases_eq a b

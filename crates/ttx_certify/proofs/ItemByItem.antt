@@ -1,5 +1,5 @@
 -- The first reason that is true of the items of a page, one item after the other.
-use Rattle.std.proofs.Common.{◌≡◌, ◌⊎◌, ℕ, ◌+◌, ◌<◌, ◌≤◌, nat_lt, Bool, true, false, ◌&&◌, if◌then◌else◌, Option, Some, None, List, refl, sym, ap, subst, inl, inr, arith, leb-true}
+use Rattle.std.proofs.Common.{◌≡◌, ◌⊎◌, ℕ, ◌+◌, ◌<◌, ◌≤◌, nat_lt, Bool, true, false, if◌then◌else◌, Option, Some, None, List, refl, sym, ap, subst, inl, inr, arith, leb-true}
 use Rattle.std.proofs.lemmas.Bool.{cases_lt}
 use Rattle.std.proofs.lemmas.Bool.Decides.{nat_tests}
 use Rattle.ttx_header.specs.Ids.{Id}
@@ -13,15 +13,8 @@ use Rattle.ttx_witness.specs.faults.Reasons.{HasNoWitness, WitnessBadAt, LateAt,
 use Rattle.ttx_witness.specs.declared.faults.reason.Reason.{Reason}
 use Rattle.ttx_witness.specs.declared.faults.reason.Reason.TheVariants.{NoWitness, WitnessBad, Late, LateBlank}
 use Rattle.ttx_certify.specs.ItemReasons.{reason_number, start_in, IsTrueOf, IsFine, IsFirstReason, IsItemReason, IsFirstBelow, IsReasonBelow, IsReasonAt, told_first}
+use Rattle.ttx_page.proofs.Decisions.{and_left, and_right}
 use Rattle.ttx_certify.proofs.OneItem.{of_four, true_needed}
-
-and_left : (a b : Bool) → (a && b) ≡ true → a ≡ true
-and_left true b h = refl
-and_left false b h = h
-
-and_right : (a b : Bool) → (a && b) ≡ true → b ≡ true
-and_right true b h = h
-and_right false b h = cc
 
 -- what a viewer sees is an item of the page
 pub needed_item : (p : Page) (item : Item) → needed p item ≡ true → IsItem item
@@ -32,7 +25,7 @@ needed_item p (TheRow r) h =
     (leb-true 1 r a, leb-true r 24 b)
 needed_item p TheLinks h = tt
 
-item_within : (item : Item) → IsItem item → item_number item < 26
+pub item_within : (item : Item) → IsItem item → item_number item < 26
 item_within TheHead i = omega arith
 item_within (TheRow r) i = let b = i.1 in omega arith
 item_within TheLinks i = omega arith

@@ -1,15 +1,16 @@
-mod Seeing
-mod OneItem
-mod ItemByItem
+pub mod LaterReceptions
+pub mod AcceptedIsSeen
+pub mod OneItem
+pub mod ItemByItem
 mod Accepting
-mod Walked
-mod Fed
+mod WalkVerdicts
+mod SlotBySlot
 mod OneFile
 mod TwoFiles
-mod PageByPage
-mod AuthoredIds
-mod ThreeInputs
-mod Shown
+pub mod PageByPage
+pub mod AuthoredIds
+pub mod ThreeInputs
+mod CertifiedIsShown
 mod OneVerdict
 pub mod Decisions
 mod SomeFault

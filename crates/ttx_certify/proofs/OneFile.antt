@@ -8,7 +8,7 @@ use Rattle.ttx_witness.specs.Entries.{certificate_at}
 use Rattle.ttx_source.specs.Services.{pages_of}
 use Rattle.ttx_certify.specs.CertifyingPasses.{PassesAreFiles}
 use Rattle.ttx_certify.specs.Walking.{IsWalkVerdict}
-use Rattle.ttx_certify.proofs.Walked.{walked_same}
+use Rattle.ttx_certify.proofs.WalkVerdicts.{walked_same}
 
 -- a file is the file of one list of slots alone
 pub same_slots : (xs ys : List (List ℕ)) → All IsSlot xs → All IsSlot ys → file_of xs ≡ file_of ys → xs ≡ ys

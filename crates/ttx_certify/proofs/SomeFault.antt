@@ -1,6 +1,6 @@
 -- Each page has a first fault, or none.
 use Rattle.std.proofs.Common.{◌≡◌, ◌⊎◌, ℕ, ◌<◌, ℤ, pos, ◌+ℤ◌, ◌-ℤ◌, ◌<ℤ◌, ◌≤ℤ◌, true, false, Bool, List, [], ◌∷◌, length, slice_index_or, Option, Some, None, refl, sym, ap, ◌∙◌, subst, inl, inr, arith, mod-eq_of_lt}
-use Rattle.std.proofs.lemmas.Int.{ints, by_lt_z}
+use Rattle.std.proofs.lemmas.Int.{ints}
 use Rattle.ttx_header.specs.Ids.{Id}
 use Rattle.ttx_page.specs.Packets.{packet_of}
 use Rattle.ttx_page.specs.Pages.{Page, needed}
@@ -22,9 +22,7 @@ use Rattle.ttx_witness.specs.declared.faults.reason.Reason.{Reason}
 use Rattle.ttx_witness.specs.declared.faults.reason.Reason.TheVariants.{NoHeader, OtherSubpage, Erased, HeadDiffers, RowDiffers, LinksDiffer}
 use Rattle.ttx_certify.proofs.Decisions.{Decided, both, refuted, alike, same_bool, like_head, row_right, links_right, alone, least_below, any_below}
 use Rattle.ttx_certify.proofs.ItemByItem.{needed_item}
-
-cases_ltz : (a b : ℤ) → (a <ℤ b) ⊎ (b ≤ℤ a)
-cases_ltz a b = by_lt_z a b (λ h. inl h) (λ h. inr h)
+use Rattle.ttx_page.proofs.Places.{cases_ltz}
 
 -- whether a slot is one of those that a list has
 pub listed : (P : ℤ → Type 0) (Is : Transmission → Type 0) → ((t : Transmission) → Is t → P t.slot) → (low high : ℤ) (ts : List Transmission) → Lists slot_of P Is low high ts →

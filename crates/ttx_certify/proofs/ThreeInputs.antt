@@ -24,7 +24,7 @@ together P Q R G (Some a) None c p q r f = tt
 together P Q R G None b c p q r f = tt
 
 -- what follows of three inputs whose bytes are known
-lifted : (P Q : List ℕ → List ℕ → List ℕ → Type 0) (a b c : Option (List ℕ)) → ((x y z : List ℕ) → P x y z → Q x y z) →
+pub lifted : (P Q : List ℕ → List ℕ → List ℕ → Type 0) (a b c : Option (List ℕ)) → ((x y z : List ℕ) → P x y z → Q x y z) →
     IfSome a (λ x. IfSome b (λ y. IfSome c (λ z. P x y z))) → IfSome a (λ x. IfSome b (λ y. IfSome c (λ z. Q x y z)))
 lifted P Q (Some a) (Some b) (Some c) f h = f a b c h
 lifted P Q (Some a) (Some b) None f h = tt
@@ -54,7 +54,7 @@ all_judged inputs judged h a b c =
     })
 
 -- nothing is written where the inputs are refused
-keeps_same : (known : Option (List ℕ)) → Keeps known known
+pub keeps_same : (known : Option (List ℕ)) → Keeps known known
 keeps_same None = tt
 keeps_same (Some xs) = refl
 

@@ -1,20 +1,11 @@
 -- What is accepted, and followed by another page number, is shown.
-use Rattle.std.proofs.Common.{◌≡◌, ℕ, ◌<◌, ℤ, pos, ◌+ℤ◌, ◌<ℤ◌, ◌≤ℤ◌, Bool, true, false, ◌&&◌, List, [], ◌∷◌, length, get_or, refl, sym, ap, subst, inl, inr, arith, slice_get, Some, eq-eqb}
+use Rattle.std.proofs.Common.{◌≡◌, ℕ, pos, ◌+ℤ◌, ◌<ℤ◌, ◌≤ℤ◌, true, false, List, [], ◌∷◌, length, refl, sym, subst, inl, inr, arith, slice_get, Some}
 use Rattle.std.proofs.lemmas.Int.{ints}
-use Rattle.std.proofs.lemmas.List.Elements.{All-get_or}
-use Rattle.std.specs.List.{AllByRecursion}
-use Rattle.ttx_packet.specs.Slots.{IsSlot}
-use Rattle.ttx_header.specs.Ids.{Id, same_id}
-use Rattle.ttx_page.specs.Packets.{Packet, Empty, Unreadable, Header, Row, Links, Info, Other, packet_of}
-use Rattle.ttx_page.specs.Pages.{Page, Fits, matches, needed}
-use Rattle.ttx_page.specs.declared.selection.Selection.{Selection}
-use Rattle.ttx_page.specs.declared.selection.Selection.TheVariants.{Exact, AnySub}
-use Rattle.ttx_page.specs.declared.item.Item.{Item}
+use Rattle.ttx_page.specs.Packets.{packet_of}
+use Rattle.ttx_page.specs.Pages.{Page}
 use Rattle.ttx_page.specs.Receivers.{older, after}
-use Rattle.ttx_page.specs.Streams.{Stream, repeated, turned, heads_page, heads_matched, IsRun, IsSureTransmission, HasSureRun}
-use Rattle.ttx_page.specs.Steady.{SendsItsOwn}
-use Rattle.ttx_page.specs.Laws.{EachSlotTurns, StreamsMove, RunsAreUnique, SteadySendsItsOwn, CyclesRepeat}
-use Rattle.ttx_receiver.specs.Laws.{IsSteadyFrom, IsBrought}
+use Rattle.ttx_page.specs.Streams.{repeated, heads_page}
+use Rattle.ttx_page.specs.Laws.{CyclesRepeat}
 use Rattle.ttx_cycle.specs.Files.{IsCycle}
 use Rattle.ttx_witness.specs.Coverage.{Certificate, IsCertificate, Accepts, limit}
 use Rattle.ttx_certify.specs.Laws.{ArePages}
@@ -22,93 +13,19 @@ use Rattle.ttx_late.specs.LateReceivers.{LateMemory, must_show, LateRun}
 use Rattle.ttx_page.specs.Followers.{IsFollowedWithin}
 use Rattle.ttx_late.specs.Laws.{RunsAreShown, FollowedIsWithin, AcceptedIsShown, EachListRunsLate}
 use Rattle.ttx_late.specs.SeenLate.{SeenLate}
+use Rattle.ttx_certify.proofs.AcceptedIsSeen.{StreamLaws, fits_matches, steady_from, brought}
 use Rattle.ttx_late.proofs.Tests.{no_both, cases_bool}
 use Rattle.ttx_late.proofs.FollowedReceptions.{cases_ltz}
 use Rattle.ttx_late.proofs.RunsAreShown.{page_heads}
 
--- the laws of streams that are cited
-pub record StreamLaws : Type 0 where
-  pub turn : EachSlotTurns
-  pub move : StreamsMove
-  pub one_run : RunsAreUnique
-  pub own : SteadySendsItsOwn
-
--- the run from a slot whose place in the first period is named is all sure
-sure_run : StreamLaws → (cycle : List (List ℕ)) (page : Id) (lines repeat : ℕ) (item : Item) (i : ℤ) (rest : List ℤ) → 0 < length cycle →
-    HasSureRun (repeated cycle) page lines repeat item (pos (turned (length cycle) i)) → IsRun (repeated cycle) page repeat item i rest →
-    AllByRecursion (IsSureTransmission (repeated cycle) page lines item) (i ∷ rest)
-sure_run laws cycle page lines repeat item i rest some first run =
-    let s = repeated cycle in
-    let t = laws.turn (length cycle) i some in
-    let moves = laws.move s t.by (λ j. ap (λ n. get_or cycle n []) (t.same j)) in
-    let here : HasSureRun s page lines repeat item i =
-    subst (λ z. HasSureRun s page lines repeat item z) (sym t.place) (moves.run page lines repeat item (pos (turned (length cycle) i)) first) in
-    subst (λ xs. AllByRecursion (IsSureTransmission s page lines item) (i ∷ xs)) (laws.one_run s page repeat item i here.rest rest here.run run) here.all_sure
-
-and_both : (a b : Bool) → a ≡ true → b ≡ true → (a && b) ≡ true
-and_both true b h k = k
-and_both false b h k = h
-
-fits_matches : (pages : List Page) (p : Page) (sel : Selection) → Fits pages p sel → matches sel p.id ≡ true
-fits_matches pages p (Exact id) f =
-    let e = λ (n : ℕ). eq-eqb n n refl in
-    subst (λ own. same_id own p.id ≡ true) (sym f) (and_both _ _ (and_both _ _ (e p.id.mag) (e p.id.page)) (e p.id.sub))
-fits_matches pages p (AnySub mag number) f = and_both _ _ (eq-eqb mag p.id.mag f.0) (eq-eqb number p.id.page f.1)
-
--- the headers that a fitting selection matches are the page's
-selected_page : (s : Stream) (pages : List Page) (p : Page) → SendsItsOwn s pages p → (sel : Selection) → Fits pages p sel → (j : ℤ) →
-    heads_matched sel (packet_of (s j)) ≡ true → heads_page p.id (packet_of (s j)) ≡ true
-selected_page s pages p steady (Exact id) f j h = exactly (packet_of (s j)) (subst (λ own. heads_matched (Exact own) (packet_of (s j)) ≡ true) f h)
-  where
-    exactly : (packet : Packet) → heads_matched (Exact p.id) packet ≡ true → heads_page p.id packet ≡ true
-    exactly (Header id control text) h = h
-    exactly (Row m n t) h = h
-    exactly (Links m content) h = h
-    exactly Empty h = h
-    exactly Unreadable h = h
-    exactly Info h = h
-    exactly Other h = h
-selected_page s pages p steady (AnySub mag number) f j h =
-    steady.only_subpage f.2 j (subst (λ n. heads_matched (AnySub p.id.mag n) (packet_of (s j)) ≡ true) f.1 (subst (λ m. heads_matched (AnySub m number) (packet_of (s j)) ≡ true) f.0 h))
-
 module _ (laws : StreamLaws) (cycle : List (List ℕ)) (pages : List Page) (w : Certificate) (is_cycle : IsCycle cycle) (are_pages : ArePages pages) (is_certificate : IsCertificate w)
     (accepts : Accepts cycle pages w) (n : ℕ) (p : Page) (here : slice_get pages n ≡ Some p) where
-  steady_from : (sel : Selection) → Fits pages p sel → (tau : ℤ) → IsSteadyFrom (repeated cycle) p sel tau
-  steady_from sel fits tau =
-      let own = (laws.own (repeated cycle) pages p (are_pages n p here)).0 (accepts.steady n p here) in
-      let inside = λ (j : ℤ). (laws.turn (length cycle) j is_cycle.some).inside in
-      record {
-        slots = λ j _. All-get_or IsSlot cycle (turned (length cycle) j) [] (inside j) is_cycle.each;
-        clean = λ j _. accepts.clean (turned (length cycle) j) (inside j);
-        selected = λ j _ h. selected_page (repeated cycle) pages p own sel fits j h;
-        items = λ item checked h j _ owned. own.items item checked h j owned;
-      }
-
-  brought : (tau : ℤ) (item : Item) → needed p item ≡ true → IsBrought (repeated cycle) p w.class w.lines w.repeat item tau (tau +ℤ pos (limit w))
-  brought tau item need = elim (accepts.covered n p here item need) as (λ _. IsBrought (repeated cycle) p w.class w.lines w.repeat item tau (tau +ℤ pos (limit w))) [
-    | inl c ↦
-        let t = c.in_time tau in
-        inl (record {
-          first = t.0;
-          rest = t.5.rest;
-          owner = t.1;
-          owned = t.3;
-          not_before = t.4;
-          run = t.5.run;
-          all_sure = sure_run laws cycle p.id w.lines w.repeat item t.0 t.5.rest is_cycle.some (c.sure (turned (length cycle) t.0) t.2).1 t.5.run;
-          ends = t.5.ends;
-        })
-    | inr l ↦
-        let t = l.in_time tau in
-        inr (l.clearing, l.blank, record { slot = t.0; not_before = t.1; before = t.2; is_header = t.3 })
-  ]
-
   shown : RunsAreShown → (gap : ℕ) → IsFollowedWithin (repeated cycle) p.id gap → SeenLate cycle pages p w gap
   shown runs gap followed = record {
     shown = λ sel fits tau former d received is_former permitted long run.
         let late : ((tau +ℤ pos (limit w)) +ℤ pos gap) ≤ℤ (tau +ℤ pos (length received)) = omega (arith, ints, long) in
         runs (repeated cycle) p sel w.class w.lines w.repeat tau (tau +ℤ pos (limit w)) (are_pages n p here) is_certificate.few_lines (fits_matches pages p sel fits)
-        (steady_from sel fits tau) (brought tau) gap followed former d received is_former permitted run late;
+        (steady_from laws cycle pages w is_cycle are_pages is_certificate accepts n p here sel fits tau) (brought laws cycle pages w is_cycle are_pages is_certificate accepts n p here tau) gap followed former d received is_former permitted run late;
   }
 
 pub accepted_is_shown : RunsAreShown → StreamLaws → AcceptedIsShown

@@ -1,6 +1,6 @@
 -- What is received of a stream in which each header of the page is followed by another page number; and a part of a reception.
-use Rattle.std.proofs.Common.{◌≡◌, ◌⊎◌, ℕ, suc, ◌+◌, ◌-◌, ◌<◌, ◌≤◌, ℤ, pos, ◌+ℤ◌, ◌<ℤ◌, ◌≤ℤ◌, true, false, ◌==◌, List, [], ◌∷◌, length, get_or, take, drop, refl, sym, ap, ◌∙◌, subst, inl, inr, arith, eqb-true, get_or-take, get_or-drop, length-drop}
-use Rattle.std.proofs.lemmas.Int.{ints, by_lt_z}
+use Rattle.std.proofs.Common.{◌≡◌, ℕ, suc, ◌-◌, ◌<◌, ◌≤◌, ℤ, pos, ◌+ℤ◌, ◌<ℤ◌, ◌≤ℤ◌, true, false, ◌==◌, List, [], ◌∷◌, length, get_or, take, refl, sym, ap, ◌∙◌, subst, inl, inr, arith, eqb-true, get_or-take}
+use Rattle.std.proofs.lemmas.Int.{ints}
 use Rattle.std.proofs.lemmas.List.{length-take-le}
 use Rattle.std.specs.Prelude.{slice_index}
 use Rattle.std.specs.List.{AllByRecursion}
@@ -17,12 +17,10 @@ use Rattle.ttx_page.specs.Streams.{Stream, heads, heads_page, heads_matched}
 use Rattle.ttx_page.specs.Receptions.{Received, IsRight, OneIs}
 use Rattle.ttx_late.specs.LateReceivers.{selected_number}
 use Rattle.ttx_page.specs.Followers.{heads_another, IsFollowedWithin}
+pub use Rattle.ttx_page.proofs.Places.{cases_ltz}
 use Rattle.ttx_late.proofs.Tests.{and_left, and_right, and_false_right, not_true, no_both}
 use Rattle.ttx_late.proofs.KeptSlots.{SameTests, same_tests}
 use Rattle.ttx_late.proofs.Gathering.{IsAnother, Ends, AllEnd}
-
-pub cases_ltz : (a b : ℤ) → (a <ℤ b) ⊎ (b ≤ℤ a)
-cases_ltz a b = by_lt_z a b (λ h. inl h) (λ h. inr h)
 
 -- a selection that matches a page has its magazine and its number
 pub mag_is : (sel : Selection) (page : Id) → matches sel page ≡ true → selected_mag sel ≡ page.mag
@@ -128,38 +126,3 @@ module _ (s : Stream) (page : Id) (repeat : ℕ) (tau : ℤ) (n : ℕ) (received
       wider : (slots : List ℤ) → AllByRecursion (λ j. (tau ≤ℤ j) × (j <ℤ (tau +ℤ pos (length (take n received))))) slots → AllByRecursion (λ j. (tau ≤ℤ j) × (j <ℤ (tau +ℤ pos (length received)))) slots
       wider [] b = tt
       wider (j ∷ slots) b = ((b.0.0, (let k = b.0.1 in let l = length-take-le n received le in omega (arith, ints))), wider slots b.1)
-
--- what is received from a later slot on is within the error rule too
-module _ (s : Stream) (page : Id) (repeat : ℕ) (tau begin : ℤ) (n : ℕ) (cut : begin ≡ tau +ℤ pos n) (received : List (List ℕ)) where
-  right_later : (x : ℕ) (j : ℤ) → begin ≤ℤ j → IsRight s tau received x j → IsRight s begin (drop n received) x j
-  right_later x j le a =
-      let place = a.place in
-      let e : n + (a.index - n) ≡ a.index = omega (arith, ints) in
-      record {
-        index = a.index - n;
-        place = omega (arith, ints);
-        right = ap (λ y. slice_index y x) (get_or-drop n received (a.index - n) [] ∙ ap (λ i. get_or received i []) e) ∙ a.right;
-      }
-
-  one_later : (x : ℕ) (slots : List ℤ) → AllByRecursion (λ j. (begin ≤ℤ j) × (j <ℤ (begin +ℤ pos (length (drop n received))))) slots → OneIs (IsRight s tau received x) slots → OneIs (IsRight s begin (drop n received) x) slots
-  one_later x [] a b = b
-  one_later x (j ∷ slots) a b = elim b as (λ _. OneIs (IsRight s begin (drop n received) x) (j ∷ slots)) [ inl r ↦ inl (right_later x j a.0.0 r) | inr r ↦ inr (one_later x slots a.1 r) ]
-
-  pub received_later : n ≤ length received → Received s page repeat tau received → Received s page repeat begin (drop n received)
-  received_later le a =
-      let long = length-drop n received in
-      record {
-        each = λ i lt.
-            let e : begin +ℤ pos i ≡ tau +ℤ pos (n + i) = omega (arith, ints) in
-            subst (λ z. MayBeReceivedAs (s z) (get_or (drop n received) i [])) (sym e)
-            (subst (MayBeReceivedAs (s (tau +ℤ pos (n + i)))) (sym (get_or-drop n received i [])) (a.each (n + i) (omega arith)));
-        one_right = λ item x text slots count successive all.
-            one_later x slots all (a.one_right item x text slots count successive (earlier slots all));
-      }
-    where
-      earlier : (slots : List ℤ) → AllByRecursion (λ j. (begin ≤ℤ j) × (j <ℤ (begin +ℤ pos (length (drop n received))))) slots → AllByRecursion (λ j. (tau ≤ℤ j) × (j <ℤ (tau +ℤ pos (length received)))) slots
-      earlier [] b = tt
-      earlier (j ∷ slots) b = (
-        ((let k = b.0.0 in omega (arith, ints)), (let k = b.0.1 in let l = length-drop n received in omega (arith, ints))),
-        earlier slots b.1,
-      )

@@ -1,9 +1,8 @@
 -- Whether a header is followed by one of another page number, read round the cycle.
-use Rattle.std.proofs.Common.{◌+ℤ◌, ◌≤ℤ◌, ◌≡◌, ℕ, ◌+◌, ◌-◌, ◌%◌, ◌<◌, ◌≤◌, ℤ, pos, ◌-ℤ◌, ◌<ℤ◌, nat_abs, Bool, true, false, not, ◌&&◌, ◌==◌, List, [], length, map, get_or, slice_get, Option, Some, None, SomeIff, MatchOption, refl, sym, ap, ◌∙◌, subst, inl, inr, arith, eqb-true, eq-eqb, mod-eq_of_lt}
-use Rattle.std.specs.Option.{option_map}
+use Rattle.std.proofs.Common.{◌+ℤ◌, ◌≤ℤ◌, ◌≡◌, ℕ, ◌+◌, ◌-◌, ◌%◌, ◌<◌, ◌≤◌, ℤ, pos, ◌-ℤ◌, ◌<ℤ◌, nat_abs, Bool, true, false, not, ◌&&◌, ◌==◌, List, [], length, get_or, slice_get, Option, Some, None, SomeIff, MatchOption, refl, sym, ap, ◌∙◌, subst, inl, inr, arith, eqb-true, eq-eqb, mod-eq_of_lt}
 use Rattle.std.proofs.lemmas.Int.{ints}
 use Rattle.std.proofs.lemmas.Bool.{cases_lt}
-use Rattle.std.proofs.lemmas.Option.{slice_get_within, slice_get-map, slice_get_read}
+use Rattle.std.proofs.lemmas.Option.{slice_get_within}
 use Rattle.std.proofs.Math.Nat.{add-mod_right}
 use Rattle.ttx_packet.specs.Slots.{IsSlot, Kind, IsEmpty, IsUnreadable, IsHeader, IsRow, IsLinks, IsInfo, IsOther, kind_of}
 use Rattle.ttx_header.specs.Ids.{Id, same_id}
@@ -12,12 +11,10 @@ use Rattle.ttx_header.specs.Headers.{id_of, fields_of, is_header}
 use Rattle.ttx_header.specs.Laws.{HeadersHaveFields, HeadersAreHeaders}
 use Rattle.ttx_page.specs.Packets.{Packet, Empty, Unreadable, Header, Row, Links, Info, Other, packet_of, packet_of_kind}
 use Rattle.ttx_page.specs.Pages.{Page}
-use Rattle.ttx_page.specs.declared.page.Page.{Page as PageValue}
-use Rattle.ttx_page.specs.Views.{page_of}
 use Rattle.ttx_page.specs.Streams.{turned, repeated, heads, heads_page, IsLatestHeader}
 use Rattle.ttx_page.specs.Laws.{EachSlotTurns, StreamsMove}
 use Rattle.ttx_page.specs.Followers.{heads_another, IsFollowed, IsFollowedByAnother, IsFollowedWithin}
-use Rattle.ttx_late.specs.Followed.{IsFollowedIn, IsGap, HoldsId, HoldsNoId, IsFollowedAt, TellsUnfollowed, AllAreFollowed}
+use Rattle.ttx_late.specs.Followed.{IsFollowedIn, HoldsId, HoldsNoId, IsFollowedAt, TellsUnfollowed, AllAreFollowed}
 use Rattle.ttx_late.proofs.Tests.{and_left, and_right, and_both, no_both}
 use Rattle.ttx_late.proofs.FollowedReceptions.{cases_ltz}
 use Rattle.ttx_late.proofs.RunsAreShown.{page_heads}
@@ -293,9 +290,6 @@ module _ (cycle : List (List ℕ)) (page : Id) where
       )
 
 -- the places of a list of the program's pages
-pub page_at : (pages : List PageValue) (i : ℕ) (p : PageValue) → i < length pages → p ≡ get_or pages i p → slice_get (map page_of pages) i ≡ Some (page_of p)
-page_at pages i p lt e = slice_get-map page_of pages i ∙ ap (option_map page_of) (slice_get_read pages (length pages) i p refl lt e)
-
 -- the pages below a place have another id
 pub none_here : (pages : List Page) (id : Id) (index : ℕ) → ((n : ℕ) (p : Page) → n < index → slice_get pages n ≡ Some p → p.id ≡ id → ⊥) → (here : Page) → slice_get pages index ≡ Some here →
     (here.id ≡ id → ⊥) → (n : ℕ) (p : Page) → n < index + 1 → slice_get pages n ≡ Some p → p.id ≡ id → ⊥

@@ -1,7 +1,7 @@
 -- What is answered and written for three inputs.
-use Rattle.std.proofs.Common.{◌≡◌, ℕ, List, string_bytes, Option, Some, None, Ok, Err, refl, sym, subst}
+use Rattle.std.proofs.Common.{◌≡◌, ℕ, List, Option, Ok, Err, sym, subst}
 use Rattle.std.specs.Prelude.{IfSome}
-use Rattle.std.specs.Io.KnownBytes.{Appends, Keeps}
+use Rattle.std.specs.Io.KnownBytes.{Appends}
 use Rattle.ttx_cycle.specs.Cycles.{slots_of}
 use Rattle.ttx_cycle.specs.declared.faults.CycleFault.TheVariants as cycle
 use Rattle.ttx_witness.specs.Certificates.{fields_of}
@@ -11,22 +11,11 @@ use Rattle.ttx_certify.specs.declared.faults.FilesFault.{FilesFault}
 use Rattle.ttx_certify.specs.declared.faults.FilesFault.TheVariants.{Cycle, Service, Certificate, Read, TooLong, Write, NoMemory}
 use Rattle.ttx_certify.specs.declared.faults.TextFile.TheVariants as text
 use Rattle.ttx_certify.specs.declared.files.Inputs.{Inputs}
+use Rattle.ttx_certify.proofs.ThreeInputs.{lifted, keeps_same}
 use Rattle.ttx_late.specs.CertifyingLate.{IsJudgedLate, CertifiesLate, CertifiesFilesLate}
 use Rattle.ttx_late.specs.declared.verdict.LateVerdict.{LateVerdict}
 
--- what follows of three inputs whose bytes are known
-lifted : (P Q : List ℕ → List ℕ → List ℕ → Type 0) (a b c : Option (List ℕ)) → ((x y z : List ℕ) → P x y z → Q x y z) →
-    IfSome a (λ x. IfSome b (λ y. IfSome c (λ z. P x y z))) → IfSome a (λ x. IfSome b (λ y. IfSome c (λ z. Q x y z)))
-lifted P Q (Some a) (Some b) (Some c) f h = f a b c h
-lifted P Q (Some a) (Some b) None f h = tt
-lifted P Q (Some a) None c f h = tt
-lifted P Q None b c f h = tt
-
 -- nothing is written where the inputs are refused
-keeps_same : (known : Option (List ℕ)) → Keeps known known
-keeps_same None = tt
-keeps_same (Some xs) = refl
-
 refused : (fault : FilesFault) (x y z : List ℕ) (known : Option (List ℕ)) → IsRefused x y z fault → CertifiesFilesLate x y z known known (Err fault)
 refused (Write written) x y z known h = absurd h
 refused (Cycle f) x y z known h = (h, keeps_same known)

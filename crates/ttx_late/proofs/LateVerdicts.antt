@@ -1,12 +1,11 @@
 -- The verdict on a cycle that is accepted, where receivers may show pages late.
-use Rattle.std.proofs.Common.{◌≡◌, ◌<◌, ℕ, zero, suc, List, [], ◌∷◌, length, map, get_or, slice_get, Some, sym, ap, ◌∙◌, subst, arith}
+use Rattle.std.proofs.Common.{◌≡◌, ◌<◌, ℕ, List, length, map, get_or, sym, ap, ◌∙◌, arith}
 use Rattle.std.proofs.lemmas.List.{length-map}
 use Rattle.std.proofs.lemmas.Option.{slice_get_within}
 use Rattle.ttx_header.specs.Ids.{Id}
-use Rattle.ttx_page.specs.Pages.{Page, IsPage}
+use Rattle.ttx_page.specs.Pages.{Page}
 use Rattle.ttx_page.specs.declared.page.Page.{Page as PageValue}
 use Rattle.ttx_page.specs.Views.{page_of}
-use Rattle.ttx_page.specs.Laws.{PagesKeepTheirRules}
 use Rattle.ttx_cycle.specs.Files.{IsCycle}
 use Rattle.ttx_witness.specs.Coverage.{Certificate, IsCertificate, Accepts}
 use Rattle.ttx_certify.specs.Laws.{ArePages}
@@ -18,7 +17,7 @@ use Rattle.ttx_late.specs.LateVerdicts.{IsNeverShown, IsFollowedVerdict, IsLateV
 use Rattle.ttx_late.specs.declared.unshown.Unshown.{Unshown}
 use Rattle.ttx_late.specs.declared.verdict.LateVerdict.{LateVerdict}
 use Rattle.ttx_late.specs.declared.verdict.LateVerdict.TheVariants.{Yes, No, NeverShown}
-use Rattle.ttx_late.proofs.FollowersOfCycles.{page_at}
+use Rattle.ttx_certify.proofs.PageByPage.{page_at}
 
 pub never_shown : (cycle : List (List ℕ)) (pages : List PageValue) (u : Unshown) → IsFirstUnshown cycle (map page_of pages) u → (p : PageValue) → p ≡ get_or pages u.page p →
     (id : Id) → id ≡ p.id → IsNeverShown cycle (map page_of pages) id u.slot
@@ -28,11 +27,6 @@ never_shown cycle pages u first p at id is =
     let listed = first.listed in
     let same : first.page ≡ page_of p = cc in
     record { index = u.page; first = first; is = ap (λ q. q.id) same ∙ sym is }
-
-pub are_pages : PagesKeepTheirRules → (pages : List PageValue) → ArePages (map page_of pages)
-are_pages rules [] n p e = cc
-are_pages rules (x ∷ xs) zero p e = let same : page_of x ≡ p = cc in subst IsPage same (rules x)
-are_pages rules (x ∷ xs) (suc n) p e = are_pages rules xs n p e
 
 module _ (cycle : List (List ℕ)) (pages : List Page) (w : Certificate) (accepts : Accepts cycle pages w) where
   pub late_exact : (verdict : LateVerdict) → IsFollowedVerdict cycle pages verdict → IsLateVerdict cycle pages w verdict

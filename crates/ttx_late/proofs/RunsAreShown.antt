@@ -26,7 +26,8 @@ use Rattle.ttx_late.proofs.Tests.{and_left, and_right, no_both}
 use Rattle.ttx_late.proofs.Steps.{same_back, has_view_same}
 use Rattle.ttx_late.proofs.Gathering.{AllEnd, gathers}
 use Rattle.ttx_late.proofs.Showing.{Comes, ready_after, IsDue, shown_has_view}
-use Rattle.ttx_late.proofs.FollowedReceptions.{cases_ltz, mag_is, number_is, AreOf, of_received, all_end, received_before, received_later}
+use Rattle.ttx_certify.proofs.LaterReceptions.{received_later}
+use Rattle.ttx_late.proofs.FollowedReceptions.{cases_ltz, mag_is, number_is, AreOf, of_received, all_end, received_before}
 
 -- a header of a page is matched by each selection that matches the page
 page_matched : (sel : Selection) (page : Id) → matches sel page ≡ true → (pkt : Packet) → heads_page page pkt ≡ true → heads_matched sel pkt ≡ true

@@ -12,7 +12,6 @@ use Rattle.ttx_certify.specs.Verdicts.{IsRefusal}
 use Rattle.ttx_certify.specs.Seen.{Seen}
 use Rattle.ttx_late.specs.Followed.{AllAreFollowed, IsGreatestGap, IsFirstUnshown}
 use Rattle.ttx_late.specs.SeenLate.{SeenLate}
-use Rattle.ttx_late.specs.declared.unshown.Unshown.{Unshown}
 use Rattle.ttx_late.specs.declared.verdict.LateVerdict.{LateVerdict}
 use Rattle.ttx_late.specs.declared.verdict.LateVerdict.TheVariants.{Yes, No, NeverShown}
 

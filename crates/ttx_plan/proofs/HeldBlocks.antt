@@ -1,5 +1,5 @@
 -- Where the packets of a block stand in a list of slots: behind the block's header, with no other header of the magazine between.
-use Rattle.std.proofs.Common.{◌≡◌, ℕ, zero, suc, ◌+◌, ◌-◌, ◌<◌, Bool, true, false, ◌&&◌, eqb, List, [], ◌∷◌, ◌++◌, map, length, replicate, get_or, Option, Some, None, refl, sym, ap, ◌∙◌, subst, arith, append_assoc, length-append}
+use Rattle.std.proofs.Common.{◌≡◌, ℕ, zero, suc, ◌+◌, ◌-◌, ◌<◌, Bool, true, false, eqb, List, [], ◌∷◌, ◌++◌, map, length, replicate, get_or, Option, Some, None, refl, sym, ap, ◌∙◌, subst, arith, append_assoc, length-append}
 use Rattle.std.specs.Prelude.{slice_get, flat_map}
 use Rattle.std.specs.List.{AllByRecursion}
 use Rattle.std.proofs.lemmas.List.{get_or_at, get_or-append-add, map-append}
@@ -12,6 +12,7 @@ use Rattle.ttx_plan.proofs.InQueues.{head_of}
 use Rattle.ttx_plan.proofs.LaidSlots.{with_info_append}
 use Rattle.ttx_plan.proofs.Lists.{all_append, all_replicate}
 use Rattle.ttx_plan.proofs.Owners.{heads}
+use Rattle.std.proofs.Math.Bool.{and-false}
 
 -- the slots hold the block's header
 pub record HoldsHead (block : Block) (slots : List Slot) : Type 0 where
@@ -113,16 +114,12 @@ module _ (lines : ℕ) (info : Option (List ℕ)) where
 
 -- ---- serial transmission
 
-and_false : (b : Bool) → (b && false) ≡ false
-and_false true = refl
-and_false false = refl
-
 abbrev rest_slot : Block → List ℕ → Slot
 rest_slot block bytes = Sent block.queue (rest_packet bytes)
 
 rows_quiet : (block : Block) (rows : List (List ℕ)) → AllByRecursion (λ slot. heads block.queue slot ≡ false) (map (rest_slot block) rows)
 rows_quiet block [] = tt
-rows_quiet block (bytes ∷ rows) = (and_false (eqb block.queue block.queue), rows_quiet block rows)
+rows_quiet block (bytes ∷ rows) = (and-false (eqb block.queue block.queue), rows_quiet block rows)
 
 page_holds : (lines : ℕ) (block : Block) (bytes : List ℕ) → Splits bytes block.rest → Holds block bytes (serial_page lines block)
 page_holds lines block bytes s = record {

@@ -14,6 +14,7 @@ use Rattle.ttx_plan.specs.Turns.{is_info_due, missing}
 use Rattle.ttx_plan.proofs.Alternating.{number, Leads, Alternates}
 use Rattle.ttx_plan.proofs.Owners.{heads}
 use Rattle.ttx_plan.proofs.SendingOrder.{of_queue}
+use Rattle.std.proofs.Math.Bool.{and-false}
 
 -- ---- the packets of a queue in a serial cycle
 
@@ -167,10 +168,6 @@ one_on queue n slot slots off h = record {
     none zero lt = off
     none (suc i) lt = h.none_before i (omega arith)
 
-and_false : (b : Bool) → (b && false) ≡ false
-and_false true = refl
-and_false false = refl
-
 finds : (queue n : ℕ) (slots : List Slot) → Leads n (of_queue queue slots) → HasNext queue n slots
 finds queue n [] l = absurd l
 finds queue n (Empty ∷ slots) l = one_on queue n Empty slots refl (finds queue n slots l)
@@ -178,7 +175,7 @@ finds queue n (Info bytes ∷ slots) l = one_on queue n (Info bytes) slots refl 
 finds queue n (Sent m p ∷ slots) l = by (eqb m queue) refl l (λ k. finds queue n slots k)
   where
     own : eqb m queue ≡ true → (late : Bool) → is_row_or_links p.kind ≡ late → MatchBool late (Leads n (of_queue queue slots)) (number p.bytes ≡ n → ⊥) → (Leads n (of_queue queue slots) → HasNext queue n slots) → HasNext queue n (Sent m p ∷ slots)
-    own e true late l again = one_on queue n (Sent m p) slots (ap (λ b. eqb m queue && not b) late ∙ and_false (eqb m queue)) (again l)
+    own e true late l again = one_on queue n (Sent m p) slots (ap (λ b. eqb m queue && not b) late ∙ and-false (eqb m queue)) (again l)
     own e false early l again = record { place = 0; packet = p; within = omega arith; at = ap (λ q. Sent q p) (eqb-true m queue e); early = early; other = l; none_before = λ i lt. absurd (omega arith) }
 
     by : (mine : Bool) → eqb m queue ≡ mine → Leads n (cond mine (p ∷ of_queue queue slots) (of_queue queue slots)) → (Leads n (of_queue queue slots) → HasNext queue n slots) → HasNext queue n (Sent m p ∷ slots)

@@ -10,6 +10,7 @@ use Rattle.ttx_plan.specs.Turns.{Magazines, queue_of, sent_by, turn_from, order,
 use Rattle.ttx_plan.proofs.ServicePages.{take_next}
 use Rattle.ttx_plan.proofs.Orders.{found_ready}
 use Rattle.ttx_plan.proofs.CursorsLookBack.{IsFrom, turn_from_queues}
+use Rattle.std.proofs.Math.Bool.{and-false}
 
 -- the packets of a magazine in the order of sending
 abbrev pub packets_by : ℕ → List Slot → List Packet
@@ -128,10 +129,6 @@ front mag before header early =
     age_of zero h on = omega arith
     age_of (suc n) h on = let f : true ≡ false = sym on ∙ (or_parts (has_header mag (Sent mag header)) (list_any (has_header mag) (take n before)) h).0 in cc
 
-and_false : (b : Bool) → (b && false) ≡ false
-and_false true = refl
-and_false false = refl
-
 -- the latest header of the magazine is the latest header among its packets
 pub owner_is : (mag : ℕ) (before : List Slot) (header : Packet) → last_header (packets_by mag before) None ≡ Some header → IsLatest mag before header
 owner_is mag [] header h = let e : None ≡ Some header = h in cc
@@ -158,4 +155,4 @@ owner_is mag (Sent m packet ∷ before) header h =
     ]
       where
         off : is_row_or_links packet.kind ≡ true → (eqb m mag && not (is_row_or_links packet.kind)) ≡ false
-        off late = ap (λ b. eqb m mag && not b) late ∙ and_false (eqb m mag)
+        off late = ap (λ b. eqb m mag && not b) late ∙ and-false (eqb m mag)

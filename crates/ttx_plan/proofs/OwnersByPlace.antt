@@ -13,6 +13,7 @@ use Rattle.ttx_plan.specs.Serial.{serial_list, with_info}
 use Rattle.ttx_plan.proofs.Owners.{heads, slot_at}
 use Rattle.ttx_plan.proofs.InQueues.{IsOf, HasOwner, owner_of_turn}
 use Rattle.ttx_plan.proofs.SerialOwners.{IsBehind, Follows, laid_follows}
+use Rattle.std.proofs.Math.Bool.{and-false}
 
 -- the owner, with no header of any magazine between
 pub record HasQuietOwner (lines : ℕ) (blocks : List Block) (at : ℕ → Slot) (mag : ℕ) (packet : Packet) (j : ℕ) : Type 0 where
@@ -47,11 +48,7 @@ stays at mag header age j off s = λ h e. let b = s h e in record {
     strict i ne lt = grind arith
 
 heads_not_late : (m n : ℕ) (packet : Packet) → is_row_or_links packet.kind ≡ true → (eqb n m && not (is_row_or_links packet.kind)) ≡ false
-heads_not_late m n packet late = ap (λ b. eqb n m && not b) late ∙ and_false (eqb n m)
-  where
-    and_false : (b : Bool) → (b && false) ≡ false
-    and_false true = refl
-    and_false false = refl
+heads_not_late m n packet late = ap (λ b. eqb n m && not b) late ∙ and-false (eqb n m)
 
 pub quiet_owner : (lines : ℕ) (blocks : List Block) (at : ℕ → Slot) (mag : ℕ) (header : Option Packet) (age j : ℕ) (rest : List Slot) → ((k : ℕ) → at (j + k) ≡ get_or rest k Empty) →
     Follows lines blocks mag header age rest → Stands at mag header age j →

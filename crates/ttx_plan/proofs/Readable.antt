@@ -27,6 +27,8 @@ use Rattle.ttx_plan.specs.Packets.{is_row_or_links, bytes_of}
 use Rattle.ttx_plan.specs.Laws.{IsHeadOf}
 use Rattle.ttx_source.specs.Services.{Authored}
 use Rattle.ttx_plan.proofs.Owners.{heads}
+use Rattle.ttx_witness.proofs.lemmas.Choices.{and_both}
+use Rattle.std.proofs.Math.Bool.{and-false}
 
 -- the laws of lower layers that are cited
 pub record LawsBelow : Type 0 where
@@ -57,10 +59,6 @@ pub record Reads (pages : List Authored) (serial : Bool) (slot : Slot) : Type 0 
 
 apart : false ≡ true → ⊥
 apart e = cc
-
-and_false : (b : Bool) → (b && false) ≡ false
-and_false true = refl
-and_false false = refl
 
 pub packet_from : (slot : List ℕ) (k : Kind) → kind_of slot ≡ k → packet_of slot ≡ packet_of_kind slot k
 unfolding packet_of
@@ -113,15 +111,11 @@ not_or : (a b : Bool) → a ≡ false → (not a || b) ≡ true
 not_or true b e = absurd (apart (sym e))
 not_or false b e = refl
 
-both : (a b : Bool) → a ≡ true → b ≡ true → (a && b) ≡ true
-both true b e f = f
-both false b e f = e
-
 -- a slot of an address of code words whose number isn't that of a header, nor of a packet 27 without a code word in byte 2
 addressed_clean : (slot : List ℕ) (number : ℕ) → are_words (slice_range slot 0 2) ≡ true → read_number slot ≡ number → (number ≡ 0 → ⊥) → (not (eqb (read_number slot) 27) || is_word (slice_index slot 2)) ≡ true → is_clean slot ≡ true
 unfolding is_clean
 addressed_clean slot number words e ne links =
-    or_true (is_empty slot) _ (both _ _ (both _ _ words (not_or (eqb (read_number slot) 0) _ (ne_eqb (read_number slot) 0 (λ z. ne (sym e ∙ z))))) links)
+    or_true (is_empty slot) _ (and_both _ _ (and_both _ _ words (not_or (eqb (read_number slot) 0) _ (ne_eqb (read_number slot) 0 (λ z. ne (sym e ∙ z))))) links)
 
 pub empty_slot : LawsBelow → (pages : List Authored) (serial : Bool) → Reads pages serial Empty
 empty_slot laws pages serial =
@@ -155,7 +149,7 @@ header_reads pages serial queue packet id control text early mag_is c e clean ow
   heads_is = λ m. ap (S.heads (suc m)) e ∙ same m;
   late_is = λ mag item h. absurd (not_in_header id control text mag item (sym (ap (S.carries mag item) e) ∙ h));
   quiet = λ mag off. absurd (apart (sym (off queue) ∙ on queue refl));
-  parallel = λ p mag. ap (S.ends_serial mag) e ∙ ap (λ b. not (eqb id.mag mag) && b) (c ∙ p) ∙ and_false (not (eqb id.mag mag));
+  parallel = λ p mag. ap (S.ends_serial mag) e ∙ ap (λ b. not (eqb id.mag mag) && b) (c ∙ p) ∙ and-false (not (eqb id.mag mag));
 }
   where
     on : (m : ℕ) → queue ≡ m → (eqb queue m && not (is_row_or_links packet.kind)) ≡ true
@@ -168,7 +162,7 @@ header_reads pages serial queue packet id control text early mag_is c e clean ow
     ]
 
 late_heads : (queue m : ℕ) (packet : Packet) → is_row_or_links packet.kind ≡ true → (eqb queue m && not (is_row_or_links packet.kind)) ≡ false
-late_heads queue m packet late = ap (λ b. eqb queue m && not b) late ∙ and_false (eqb queue m)
+late_heads queue m packet late = ap (λ b. eqb queue m && not b) late ∙ and-false (eqb queue m)
 
 row_reads : (pages : List Authored) (serial : Bool) (queue : ℕ) (packet : Packet) (mag number : ℕ) (text : List ℕ) → is_row_or_links packet.kind ≡ true → mag ≡ suc queue →
     packet_of packet.bytes ≡ P.Row mag number text → is_clean packet.bytes ≡ true → Reads pages serial (Sent queue packet)

@@ -30,6 +30,7 @@ use Rattle.ttx_plan.proofs.PlannedSlots.{IsLaidOut, laid_out, row_in_rest, links
 use Rattle.ttx_plan.proofs.OwnLinks.{links_are}
 use Rattle.ttx_plan.proofs.UnderHeaders.{head_says, row_is, authored_at}
 use Rattle.ttx_plan.proofs.Readable.{LawsBelow}
+use Rattle.ttx_witness.proofs.lemmas.Choices.{and_both}
 
 -- the page at an index of the service
 pub page_there : (pages : List Authored) (n : ℕ) (p : Page) → slice_get (map (λ authored. authored.page) pages) n ≡ Some p → (authored : Authored) × (slice_get pages n ≡ Some authored) × (authored.page ≡ p)
@@ -50,11 +51,7 @@ heads_its page P.Info e = e
 heads_its page P.Other e = e
 
 row_carried : (mag r : ℕ) (text : List ℕ) → carries mag (TheRow r) (P.Row mag r text) ≡ true
-row_carried mag r text = both _ _ (eq-eqb mag mag refl) (eq-eqb r r refl)
-  where
-    both : (a b : Bool) → a ≡ true → b ≡ true → (a && b) ≡ true
-    both true b e f = f
-    both false b e f = e
+row_carried mag r text = and_both _ _ (eq-eqb mag mag refl) (eq-eqb r r refl)
 
 -- rows that are sent to a class have their numbers
 sent_needed : (class : Class) (p : Page) (item : Item) → is_sent_to class p item ≡ true → needed p item ≡ true

@@ -29,6 +29,7 @@ use Rattle.ttx_plan.proofs.SurePlaces.{one_latest, between}
 use Rattle.ttx_plan.proofs.Planned.{planned_headers_are_own}
 use Rattle.ttx_plan.proofs.Readable.{LawsBelow}
 use Rattle.ttx_plan.proofs.SentItems.{page_there, heads_its, planned_items_are_sent}
+use Rattle.ttx_witness.proofs.lemmas.Choices.{and_both}
 
 -- ---- ids
 
@@ -126,12 +127,8 @@ module _ (laws : LawsBelow) (written : WrittenLinksAreRead) (late : Bool) (class
       let page : h.authored.page.id.page ≡ own.page.id.page = sym (eqb-true own.page.id.page id.page two.1 ∙ ap (λ x. x.page) h.id_is) in
       let sub = same_sub (eqb h.authored.page.id.mag own.page.id.mag) (eqb h.authored.page.id.page own.page.id.page) (eqb h.authored.page.id.sub own.page.id.sub) (eq-eqb _ _ mag) (eq-eqb _ _ page) other in
       let subs : own.page.id.sub ≡ id.sub = sym (ap (λ x. x.sub) h.id_is ∙ eqb-true h.authored.page.id.sub own.page.id.sub sub) in
-      both (eqb own.page.id.mag id.mag && eqb own.page.id.page id.page) (eqb own.page.id.sub id.sub) m (eq-eqb own.page.id.sub id.sub subs)
+      and_both (eqb own.page.id.mag id.mag && eqb own.page.id.page id.page) (eqb own.page.id.sub id.sub) m (eq-eqb own.page.id.sub id.sub subs)
     where
-      both : (a b : Bool) → a ≡ true → b ≡ true → (a && b) ≡ true
-      both true b e f = f
-      both false b e f = e
-
       same_sub : (a b d : Bool) → a ≡ true → b ≡ true → ((a && b) && not d) ≡ false → d ≡ true
       same_sub true true true e f g = refl
       same_sub true true false e f g = cc

@@ -1,12 +1,13 @@
 -- Where the packets of a planned cycle stand, and that each transmission is sure there.
-use Rattle.std.proofs.Common.{◌≡◌, ◌⊎◌, ℕ, ◌+◌, ◌<◌, ℤ, pos, ◌+ℤ◌, ◌-ℤ◌, ◌<ℤ◌, ◌≤ℤ◌, nat_abs, true, false, List, [], length, get_or, sym, ap, ◌∙◌, subst, inl, inr, arith, mod-eq_of_lt}
-use Rattle.std.proofs.lemmas.Int.{ints, by_lt_z}
+use Rattle.std.proofs.Common.{◌≡◌, ℕ, ◌+◌, ◌<◌, ℤ, pos, ◌+ℤ◌, ◌-ℤ◌, ◌<ℤ◌, nat_abs, true, false, List, [], length, get_or, sym, ap, ◌∙◌, subst, inl, inr, arith, mod-eq_of_lt}
+use Rattle.std.proofs.lemmas.Int.{ints}
 use Rattle.ttx_header.specs.Ids.{Id}
 use Rattle.ttx_page.specs.Laws.{Turn, EachSlotTurns}
 use Rattle.ttx_page.specs.Packets.{packet_of}
 use Rattle.ttx_page.specs.declared.item.Item.{Item}
 use Rattle.ttx_page.specs.declared.item.Item.TheVariants.{Head as TheHead, Row as TheRow, Links as TheLinks}
 use Rattle.ttx_page.specs.Streams.{Stream, turned, repeated, heads, ends_serial, carries, IsLatestHeader, IsOwned, IsSure}
+use Rattle.ttx_page.proofs.Places.{cases_ltz}
 
 -- the slot at place j has a header of its magazine more than a field before it in the same period, and nothing between ends the page
 pub record IsPlaced (lines : ℕ) (cycle : List (List ℕ)) (mag j : ℕ) : Type 0 where
@@ -20,9 +21,6 @@ pub record IsPlaced (lines : ℕ) (cycle : List (List ℕ)) (mag j : ℕ) : Type
 pub record ArePlaced (lines : ℕ) (cycle : List (List ℕ)) : Type 0 where
   pub some : 0 < length cycle
   pub placed : (mag j : ℕ) (item : Item) → j < length cycle → carries mag item (packet_of (get_or cycle j [])) ≡ true → IsPlaced lines cycle mag j
-
-cases_ltz : (a b : ℤ) → (a <ℤ b) ⊎ (b ≤ℤ a)
-cases_ltz a b = by_lt_z a b (λ h. inl h) (λ h. inr h)
 
 pub one_latest : (s : Stream) (mag : ℕ) (g h j : ℤ) → IsLatestHeader s mag g j → IsLatestHeader s mag h j → g ≡ h
 one_latest s mag g h j a b = elim (cases_ltz g h) as (λ _. g ≡ h) [

@@ -1,5 +1,5 @@
 -- Each row and X/27/0 of a planned cycle is one of the packets of the page whose header it stands under.
-use Rattle.std.proofs.Common.{◌≡◌, ℕ, zero, suc, ◌+◌, ◌-◌, ◌<◌, ◌≤◌, Bool, true, false, ◌&&◌, List, [], ◌∷◌, map, length, replicate, get_or, Option, Some, None, refl, sym, ap, ◌∙◌, subst, arith}
+use Rattle.std.proofs.Common.{◌≡◌, ℕ, zero, suc, ◌+◌, ◌-◌, ◌<◌, ◌≤◌, Bool, true, false, List, [], ◌∷◌, map, length, replicate, get_or, Option, Some, None, refl, sym, ap, ◌∙◌, subst, arith}
 use Rattle.std.specs.Prelude.{All, slice_get, option_map}
 use Rattle.std.specs.List.{AllByRecursion}
 use Rattle.std.proofs.lemmas.Bool.{eq-eqb}
@@ -33,13 +33,10 @@ use Rattle.ttx_plan.proofs.Owners.{slot_at}
 use Rattle.ttx_plan.proofs.PlacesByKind.{places, serial_at, serial_quiet, parallel_at, parallel_owner}
 use Rattle.ttx_plan.proofs.Readable.{LawsBelow, Reads, packet_from, row_kind}
 use Rattle.ttx_plan.proofs.SentBlocks.{order_all}
+use Rattle.ttx_witness.proofs.lemmas.Choices.{and_both}
 
 same : (id : Id) → same_id id id ≡ true
-same id = both _ _ (both _ _ (eq-eqb id.mag id.mag refl) (eq-eqb id.page id.page refl)) (eq-eqb id.sub id.sub refl)
-  where
-    both : (a b : Bool) → a ≡ true → b ≡ true → (a && b) ≡ true
-    both true b e f = f
-    both false b e f = e
+same id = and_both _ _ (and_both _ _ (eq-eqb id.mag id.mag refl) (eq-eqb id.page id.page refl)) (eq-eqb id.sub id.sub refl)
 
 header_says : LawsBelow → (h : HeaderFields) → IsHeaderFields h → S.heads_page h.id (packet_of (header_bytes h)) ≡ true
 header_says laws h ranges =

@@ -7,9 +7,7 @@ use Rattle.ttx_page.specs.Streams.{Stream, repeated, turned, heads, heads_page, 
 use Rattle.ttx_page.specs.Laws.{EachSlotTurns}
 use Rattle.ttx_proof.specs.Seams.{IsLeftTo}
 use Rattle.ttx_proof.proofs.StreamsOfSides.{cases_ltz}
-
-pub no_both : (b : Bool) → b ≡ true → b ≡ false → ⊥
-no_both b h k = cc
+pub use Rattle.ttx_page.proofs.Decisions.{no_both}
 
 latest_same : (s : Stream) (mag : ℕ) (h k j : ℤ) → IsLatestHeader s mag h j → IsLatestHeader s mag k j → h ≡ k
 latest_same s mag h k j a b = elim (cases_ltz h k) as (λ _. h ≡ k) [

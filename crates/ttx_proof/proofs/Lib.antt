@@ -1,8 +1,8 @@
 mod KeptMemories
 mod Decisions
 mod StreamsOfSides
-mod Cut
-mod Seeing
+mod CutRuns
+mod BridgedIsSeen
 mod Windows
 mod Neighbours
 mod Naming
@@ -19,7 +19,6 @@ mod SeamAnswers
 pub mod Places
 pub mod Deciding
 pub mod Judging
-pub mod AuthoredIds
 pub mod SixFiles
 mod OneVerdict
 mod SomeVerdict

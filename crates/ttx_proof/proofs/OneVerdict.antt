@@ -15,7 +15,7 @@ use Rattle.ttx_proof.specs.Meaning.{VerdictsMean, SpliceVerdictsAreOne}
 use Rattle.ttx_proof.specs.declared.verdict.SpliceReason.{SpliceReason}
 use Rattle.ttx_proof.specs.declared.verdict.SpliceReason.TheVariants.{Old, New, Numbers, Seam, SeamLate}
 use Rattle.ttx_proof.specs.declared.verdict.SpliceVerdict.TheVariants.{Yes, No}
-use Rattle.ttx_proof.proofs.Deciding.{one_item}
+use Rattle.ttx_certify.proofs.ItemByItem.{one_item}
 
 -- two numbers, neither of which is below the other
 one_number : (a b : ℕ) → (a < b → ⊥) → (b < a → ⊥) → a ≡ b

@@ -1,15 +1,12 @@
 -- Pages in their places in the two lists.
-use Rattle.std.proofs.Common.{◌≡◌, ℕ, zero, suc, ◌+◌, ◌<◌, ◌≤◌, List, [], ◌∷◌, length, map, get_or, slice_get, true, Option, Some, None, Result, Ok, Err, IfOk, refl, sym, ap, ◌∙◌, subst, inl, inr, arith, eqb-true, eq-eqb}
+use Rattle.std.proofs.Common.{◌≡◌, ℕ, zero, suc, ◌+◌, ◌<◌, ◌≤◌, List, [], ◌∷◌, length, map, slice_get, true, Option, Some, None, Result, Ok, Err, IfOk, refl, sym, ap, ◌∙◌, subst, inl, inr, arith, eqb-true, eq-eqb}
 use Rattle.std.specs.List.{Contains}
-use Rattle.std.specs.Option.{option_map}
 use Rattle.std.proofs.lemmas.Bool.{cases_lt}
 use Rattle.std.proofs.lemmas.List.Elements.{Contains-get_or}
-use Rattle.std.proofs.lemmas.Option.{slice_get_within, slice_get-map, slice_get_read, get_or_from_slice_get}
-use Rattle.ttx_page.specs.Pages.{Page, IsPage}
-use Rattle.ttx_page.specs.Laws.{PagesKeepTheirRules}
+use Rattle.std.proofs.lemmas.Option.{slice_get_within, get_or_from_slice_get}
+use Rattle.ttx_page.specs.Pages.{Page}
 use Rattle.ttx_page.specs.Views.{page_of}
 use Rattle.ttx_page.specs.declared.page.Page.{Page as PageValue}
-use Rattle.ttx_certify.specs.Laws.{ArePages}
 use Rattle.ttx_proof.specs.Splices.{Splice, IsCommon}
 use Rattle.ttx_witness.specs.sent.Collected.{ids_of, is_page, Finds}
 use Rattle.ttx_header.specs.Ids.{Id, same_id}
@@ -17,24 +14,16 @@ use Rattle.ttx_proof.proofs.Windows.{and_both}
 use Rattle.ttx_proof.specs.Splicing.{TellsPlace, TellsPlaceAt, StandsAt, TellsSeamOf, TellsLate, TellsLateOf}
 use Rattle.ttx_proof.specs.Verdicts.{IsFirstCommon, TellsSeam}
 use Rattle.ttx_page.specs.declared.item.Item.{Item}
-use Rattle.ttx_proof.proofs.Seeing.{place_of}
+use Rattle.ttx_proof.proofs.BridgedIsSeen.{place_of}
 
 pub ok_map : {A E : Type 0} (P Q : A → Type 0) (r : Result A E) → ((a : A) → P a → Q a) → IfOk r P → IfOk r Q
 ok_map P Q (Ok a) f h = f a h
 ok_map P Q (Err e) f h = h
 
-pub page_at : (pages : List PageValue) (i : ℕ) (p : PageValue) → i < length pages → p ≡ get_or pages i p → slice_get (map page_of pages) i ≡ Some (page_of p)
-page_at pages i p lt e = slice_get-map page_of pages i ∙ ap (option_map page_of) (slice_get_read pages (length pages) i p refl lt e)
-
 pub page_there : (pages : List PageValue) (i : ℕ) → i < length pages → (p : Page) × (slice_get (map page_of pages) i ≡ Some p)
 page_there [] i lt = absurd (omega arith)
 page_there (x ∷ xs) zero lt = (page_of x, refl)
 page_there (x ∷ xs) (suc i) lt = page_there xs i (omega arith)
-
-pub are_pages : PagesKeepTheirRules → (pages : List PageValue) → ArePages (map page_of pages)
-are_pages rules [] n p e = cc
-are_pages rules (x ∷ xs) zero p e = let same : page_of x ≡ p = cc in subst IsPage same (rules x)
-are_pages rules (x ∷ xs) (suc n) p e = are_pages rules xs n p e
 
 pub contains_at : {X : Type 0} (xs : List X) (i : ℕ) (x : X) → slice_get xs i ≡ Some x → Contains xs x
 contains_at xs i x e = subst (Contains xs) (get_or_from_slice_get xs i x x e) (Contains-get_or xs i x (slice_get_within xs i x e))

@@ -5,7 +5,7 @@ use Rattle.ttx_witness.specs.Certificates.{certificate_of}
 use Rattle.ttx_certify.specs.Verdicts.{IsVerdict}
 use Rattle.ttx_certify.proofs.PageByPage.{are_pages}
 use Rattle.ttx_certify.specs.Walking.{second_pages, second_certificate}
-use Rattle.ttx_certify.proofs.Walked.{walked_same, seen_by_all}
+use Rattle.ttx_certify.proofs.WalkVerdicts.{walked_same, seen_by_all}
 use Rattle.ttx_certify.proofs.certifying.certify.Goals as goal
 
 pub returns-clause-exact : goal.returns-clause-exact

@@ -2,7 +2,7 @@ use Rattle.std.proofs.Common.{rules, ◌≡◌, ◌+◌, ap, subst, sym, [], len
 use Rattle.ttx_cycle.specs.Reading.{AnswersNext}
 use Rattle.ttx_certify.specs.Feeding.{Gave}
 use Rattle.ttx_certify.specs.Walking.{Starts}
-use Rattle.ttx_certify.proofs.Fed.{gave_more, taken}
+use Rattle.ttx_certify.proofs.SlotBySlot.{gave_more, taken}
 use Rattle.ttx_certify.proofs.feeding.feed_first.Goals as goal
 
 pub loop-walk-preserved : goal.loop-walk-preserved

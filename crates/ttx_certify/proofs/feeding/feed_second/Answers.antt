@@ -2,7 +2,7 @@ use Rattle.std.proofs.Common.{rules, ◌≡◌, ◌+◌, ap, subst, sym, [], Ok,
 use Rattle.ttx_cycle.specs.Reading.{AnswersNext}
 use Rattle.ttx_certify.specs.Feeding.{Gave}
 use Rattle.ttx_certify.specs.Walking.{Stands}
-use Rattle.ttx_certify.proofs.Fed.{gave_more}
+use Rattle.ttx_certify.proofs.SlotBySlot.{gave_more}
 use Rattle.ttx_certify.proofs.feeding.feed_second.Goals as goal
 
 pub loop-second-preserved : goal.loop-second-preserved

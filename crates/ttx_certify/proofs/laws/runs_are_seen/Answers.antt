@@ -1,4 +1,4 @@
-use Rattle.ttx_certify.proofs.Seeing as L
+use Rattle.ttx_certify.proofs.AcceptedIsSeen as L
 use Rattle.ttx_certify.proofs.laws.runs_are_seen.Goals as goal
 
 pub returns : goal.returns

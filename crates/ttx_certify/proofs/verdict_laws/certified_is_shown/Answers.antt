@@ -1,4 +1,4 @@
-use Rattle.ttx_certify.proofs.Shown.{certified_is_shown}
+use Rattle.ttx_certify.proofs.CertifiedIsShown.{certified_is_shown}
 use Rattle.ttx_certify.proofs.verdict_laws.certified_is_shown.Goals as goal
 
 pub returns : goal.returns

@@ -1,12 +1,12 @@
-use Rattle.std.proofs.Common.{map, subst}
+use Rattle.std.proofs.Common.{subst}
 use Rattle.ttx_cycle.specs.Cycles.{slots_of, slots_of-IsCycle}
-use Rattle.ttx_page.specs.Views.{page_of}
 use Rattle.ttx_witness.specs.Certificates.{certificate_of}
 use Rattle.ttx_source.specs.Services.{pages_of}
 use Rattle.ttx_certify.specs.Laws.{ArePages}
 use Rattle.ttx_certify.specs.Verdicts.{IsVerdict, Means}
 use Rattle.ttx_late.specs.LateVerdicts.{IsFollowedVerdict}
-use Rattle.ttx_late.proofs.LateVerdicts.{are_pages, late_means}
+use Rattle.ttx_certify.proofs.PageByPage.{are_pages}
+use Rattle.ttx_late.proofs.LateVerdicts.{late_means}
 use Rattle.ttx_late.proofs.certifying.certify_late.Goals as goal
 
 pub returns-in-Yes-clause-seen : goal.returns-in-Yes-clause-seen

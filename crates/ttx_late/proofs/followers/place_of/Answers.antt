@@ -1,7 +1,8 @@
 use Rattle.std.proofs.Common.{◌≤◌, length, map, sym, ◌∙◌, arith}
 use Rattle.std.proofs.lemmas.List.{length-map}
 use Rattle.ttx_page.specs.Views.{page_of}
-use Rattle.ttx_late.proofs.FollowersOfCycles.{page_at, tested_is, tested_self, none_here, none_listed}
+use Rattle.ttx_certify.proofs.PageByPage.{page_at}
+use Rattle.ttx_late.proofs.FollowersOfCycles.{tested_is, tested_self, none_here, none_listed}
 use Rattle.ttx_late.proofs.Tests.{no_both}
 use Rattle.ttx_late.proofs.followers.place_of.Goals as goal
 

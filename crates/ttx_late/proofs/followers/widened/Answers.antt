@@ -1,4 +1,4 @@
-use Rattle.std.proofs.Common.{[], MatchOption, ◌≡◌, ◌≤◌, ℕ, Some, slice_get, slice_index_or, map, pos, subst, arith}
+use Rattle.std.proofs.Common.{[], MatchOption, ◌≡◌, ℕ, Some, slice_get, slice_index_or, map, pos, subst, arith}
 use Rattle.ttx_page.specs.Packets.{packet_of}
 use Rattle.ttx_page.specs.Pages as definitions
 use Rattle.ttx_page.specs.Streams.{repeated}

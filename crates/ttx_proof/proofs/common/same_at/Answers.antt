@@ -2,7 +2,7 @@ use Rattle.std.proofs.Common.{◌≡◌, map, Some, refl, ap, ◌∙◌, arith}
 use Rattle.std.proofs.lemmas.List.{length-map}
 use Rattle.std.proofs.lemmas.Option.{slice_get_within}
 use Rattle.ttx_page.specs.Views.{page_of}
-use Rattle.ttx_proof.proofs.Places.{page_at}
+use Rattle.ttx_certify.proofs.PageByPage.{page_at}
 use Rattle.ttx_proof.proofs.common.same_at.Goals as goal
 
 pub returns-then-place-pages : goal.returns-then-place-pages

@@ -3,7 +3,7 @@ use Rattle.ttx_witness.specs.passes.Passing.{EndsAs, ended_pages, ended_certific
 use Rattle.ttx_certify.specs.Verdicts.{IsVerdict, Means}
 use Rattle.ttx_certify.specs.Walking.{second_pages, second_certificate}
 use Rattle.ttx_certify.proofs.PageByPage.{are_pages}
-use Rattle.ttx_certify.proofs.Walked.{as_walked, seen_by_all}
+use Rattle.ttx_certify.proofs.WalkVerdicts.{as_walked, seen_by_all}
 use Rattle.ttx_certify.proofs.walking.Second.finish.Goals as goal
 
 pub returns-in-Some : goal.returns-in-Some

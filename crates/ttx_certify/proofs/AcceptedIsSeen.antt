@@ -35,7 +35,7 @@ pub record StreamLaws : Type 0 where
   pub own : SteadySendsItsOwn
 
 -- the run from a slot whose place in the first period is named is all sure
-sure_run : StreamLaws → (cycle : List (List ℕ)) (page : Id) (lines repeat : ℕ) (item : Item) (i : ℤ) (rest : List ℤ) → 0 < length cycle →
+pub sure_run : StreamLaws → (cycle : List (List ℕ)) (page : Id) (lines repeat : ℕ) (item : Item) (i : ℤ) (rest : List ℤ) → 0 < length cycle →
     HasSureRun (repeated cycle) page lines repeat item (pos (turned (length cycle) i)) → IsRun (repeated cycle) page repeat item i rest →
     AllByRecursion (IsSureTransmission (repeated cycle) page lines item) (i ∷ rest)
 sure_run laws cycle page lines repeat item i rest some first run =
@@ -46,18 +46,18 @@ sure_run laws cycle page lines repeat item i rest some first run =
     subst (λ z. HasSureRun s page lines repeat item z) (sym t.place) (moves.run page lines repeat item (pos (turned (length cycle) i)) first) in
     subst (λ xs. AllByRecursion (IsSureTransmission s page lines item) (i ∷ xs)) (laws.one_run s page repeat item i here.rest rest here.run run) here.all_sure
 
-and_both : (a b : Bool) → a ≡ true → b ≡ true → (a && b) ≡ true
+pub and_both : (a b : Bool) → a ≡ true → b ≡ true → (a && b) ≡ true
 and_both true b h k = k
 and_both false b h k = h
 
-fits_matches : (pages : List Page) (p : Page) (sel : Selection) → Fits pages p sel → matches sel p.id ≡ true
+pub fits_matches : (pages : List Page) (p : Page) (sel : Selection) → Fits pages p sel → matches sel p.id ≡ true
 fits_matches pages p (Exact id) f =
     let e = λ (n : ℕ). eq-eqb n n refl in
     subst (λ own. same_id own p.id ≡ true) (sym f) (and_both _ _ (and_both _ _ (e p.id.mag) (e p.id.page)) (e p.id.sub))
 fits_matches pages p (AnySub mag number) f = and_both _ _ (eq-eqb mag p.id.mag f.0) (eq-eqb number p.id.page f.1)
 
 -- the headers that a fitting selection matches are the page's
-selected_page : (s : Stream) (pages : List Page) (p : Page) → SendsItsOwn s pages p → (sel : Selection) → Fits pages p sel → (j : ℤ) →
+pub selected_page : (s : Stream) (pages : List Page) (p : Page) → SendsItsOwn s pages p → (sel : Selection) → Fits pages p sel → (j : ℤ) →
     heads_matched sel (packet_of (s j)) ≡ true → heads_page p.id (packet_of (s j)) ≡ true
 selected_page s pages p steady (Exact id) f j h = exactly (packet_of (s j)) (subst (λ own. heads_matched (Exact own) (packet_of (s j)) ≡ true) f h)
   where
@@ -74,7 +74,7 @@ selected_page s pages p steady (AnySub mag number) f j h =
 
 module _ (laws : StreamLaws) (cycle : List (List ℕ)) (pages : List Page) (w : Certificate) (is_cycle : IsCycle cycle) (are_pages : ArePages pages) (is_certificate : IsCertificate w)
     (accepts : Accepts cycle pages w) (n : ℕ) (p : Page) (here : slice_get pages n ≡ Some p) where
-  steady_from : (sel : Selection) → Fits pages p sel → (tau : ℤ) → IsSteadyFrom (repeated cycle) p sel tau
+  pub steady_from : (sel : Selection) → Fits pages p sel → (tau : ℤ) → IsSteadyFrom (repeated cycle) p sel tau
   steady_from sel fits tau =
       let own = (laws.own (repeated cycle) pages p (are_pages n p here)).0 (accepts.steady n p here) in
       let inside = λ (j : ℤ). (laws.turn (length cycle) j is_cycle.some).inside in
@@ -85,7 +85,7 @@ module _ (laws : StreamLaws) (cycle : List (List ℕ)) (pages : List Page) (w : 
         items = λ item checked h j _ owned. own.items item checked h j owned;
       }
 
-  brought : (tau : ℤ) (item : Item) → needed p item ≡ true → IsBrought (repeated cycle) p w.class w.lines w.repeat item tau (tau +ℤ pos (limit w))
+  pub brought : (tau : ℤ) (item : Item) → needed p item ≡ true → IsBrought (repeated cycle) p w.class w.lines w.repeat item tau (tau +ℤ pos (limit w))
   brought tau item need = elim (accepts.covered n p here item need) as (λ _. IsBrought (repeated cycle) p w.class w.lines w.repeat item tau (tau +ℤ pos (limit w))) [
     | inl c ↦
         let t = c.in_time tau in
