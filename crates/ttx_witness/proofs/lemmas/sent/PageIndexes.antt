@@ -11,7 +11,7 @@ use Rattle.std.proofs.Math.Dec.{eqb}
 use Rattle.std.proofs.lemmas.Bool.{cases_lt}
 use Rattle.ttx_header.specs.Ids.{Id, IsId, same_id}
 use Rattle.ttx_page.specs.declared.page.Page.{Page as PageValue}
-use Rattle.ttx_page.specs.Pages.{IsPage}
+use Rattle.ttx_page.specs.Pages.{Page, IsPage}
 use Rattle.ttx_page.specs.Views.{page_of}
 use Rattle.ttx_witness.specs.sent.Collected.{ids_of, is_page, Finds, key_of}
 use Rattle.ttx_witness.proofs.lemmas.Choices.{if_ind, no_both, and_left, and_right, and_both, cases_bool}
@@ -134,3 +134,9 @@ ids_are rules [] i id e = let h : None ≡ Some id = e in cc
 
 pub id_at : (pages : List PageValue) (i : ℕ) (p : PageValue) → i < length pages → p ≡ get_or pages i p → slice_get (ids_of pages) i ≡ Some (page_of p).id
 id_at pages i p lt e = slice_get-map (λ q. (page_of q).id) pages i ∙ ap (option_map (λ q. (page_of q).id)) (slice_get_read pages (length pages) i p refl lt e)
+
+-- the id of the page in the same place
+pub id_of_page : (pages : List PageValue) (i : ℕ) (p : Page) → slice_get (map page_of pages) i ≡ Some p → slice_get (ids_of pages) i ≡ Some p.id
+id_of_page [] i p e = let h : None ≡ Some p = e in cc
+id_of_page (q ∷ pages) zero p e = let h : page_of q ≡ p = cc in ap (λ x. Some x.id) h
+id_of_page (q ∷ pages) (suc i) p e = id_of_page pages i p e
