@@ -1,10 +1,9 @@
 -- The items of pages in their places, and what is known of entries and limits after one more.
-use Rattle.std.proofs.Common.{◌≡◌, ◌≢◌, ◌⊎◌, ℕ, zero, ◌+◌, ◌<◌, true, false, eqb-true, List, [], ◌∷◌, ◌++◌, map, length, get_or, slice_get, Option, Some, None, refl, sym, ap, ◌∙◌, subst, inl, inr, arith}
+use Rattle.std.proofs.Common.{◌≡◌, ◌≢◌, ◌⊎◌, ℕ, zero, ◌+◌, ◌<◌, true, false, eqb-true, List, [], ◌∷◌, ◌++◌, map, get_or, slice_get, Option, Some, None, refl, sym, ap, ◌∙◌, subst, inl, inr, arith}
 use Rattle.std.specs.List.{All, AllByRecursion, AllPairs, Contains}
 use Rattle.std.proofs.lemmas.List.Elements.{Contains-append_left, Contains-append_right}
-use Rattle.std.specs.Option.{option_map}
 use Rattle.std.proofs.lemmas.List.Quantifiers.{all_pairs_push}
-use Rattle.std.proofs.lemmas.Option.{slice_get-map, slice_get_read, slice_get_within, get_or_from_slice_get}
+use Rattle.std.proofs.lemmas.Option.{slice_get_within, get_or_from_slice_get}
 use Rattle.ttx_header.specs.Ids.{same_id}
 use Rattle.std.proofs.lemmas.Bool.{cases_lt}
 use Rattle.ttx_page.specs.declared.page.Page.{Page as PageValue}
@@ -168,6 +167,3 @@ module _ (pages : List Page) (class : Class) (m j : ℕ) (q : Page) (given : Ite
           of_page = n.2;
           of_item = n.3;
         })
-
-pub page_read : (pages : List PageValue) (i : ℕ) (p : PageValue) → i < length pages → p ≡ get_or pages i p → slice_get (map page_of pages) i ≡ Some (page_of p)
-page_read pages i p lt e = slice_get-map page_of pages i ∙ ap (option_map page_of) (slice_get_read pages (length pages) i p refl lt e)

@@ -280,10 +280,6 @@ none_named cycle pages class lines repeat = record {
   least_from = λ limit f. omega arith;
 }
 
-pub none_from : {A : Type 0} (o : Option A) → is_some o ≡ false → o ≡ None
-none_from None e = refl
-none_from (Some a) e = cc
-
 abbrev AreAlone : List Entry → Type 0
 AreAlone es = AllPairs (λ a b. same_place a b ≡ false) es
 

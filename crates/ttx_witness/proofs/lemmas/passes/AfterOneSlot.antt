@@ -108,9 +108,6 @@ module _ (w : Certificate) (is : IsCertificate w) (p : Page) (i : ℕ) (sent : O
       ∙ ap (λ x. sends p.id item (packet_of x) (is_mine owner)) (sym (here y z))
       ∙ ap (λ o. sends p.id item (packet_of (repeated more (pos (length y)))) (is_mine o)) (right ∙ sym (owner_before y z p.id entry (length y) (omega arith)))
 
-  check_item : (check : Check) → Type 0
-  check_item check = IsItem (compared_item check)
-
   -- what was wrong below stays
   wrong_before : (check : Check) (j : ℕ) → j < length y → SendsWrong p (repeated y) entry check j ↔ SendsWrong p (repeated more) entry check j
   wrong_before check j lt =

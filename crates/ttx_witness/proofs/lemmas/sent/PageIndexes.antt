@@ -57,9 +57,6 @@ pub record IsIndexed (ids : List Id) (n : ℕ) (at : ℕ → Option ℕ) : Type 
   pub known : (i : ℕ) (own : Id) → i < n → slice_get ids i ≡ Some own → at (key_of own) ≡ Some i
   pub sound : (key i : ℕ) (own : Id) → at key ≡ Some i → slice_get ids i ≡ Some own → key_of own ≡ key
 
-pub nothing_indexed : (ids : List Id) (at : ℕ → Option ℕ) → ((q : ℕ) → at q ≡ None) → IsIndexed ids 0 at
-nothing_indexed ids at none = record { known = λ i own lt e. absurd (omega arith); sound = λ key i own e f. let n = none key in cc }
-
 module _ (ids : List Id) (are : (i : ℕ) (id : Id) → slice_get ids i ≡ Some id → IsId id) (distinct : AllPairs (λ a b. a ≢ b) ids) where
   places_differ : (i j : ℕ) (a b : Id) → i < j → slice_get ids i ≡ Some a → slice_get ids j ≡ Some b → a ≡ b → ⊥
   places_differ i j a b lt e f same =
