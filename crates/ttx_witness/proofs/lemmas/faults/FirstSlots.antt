@@ -6,11 +6,11 @@ use Rattle.std.proofs.lemmas.Option.{slice_get-map, slice_get-get_or}
 use Rattle.ttx_page.specs.declared.page.Page.{Page as PageValue}
 use Rattle.ttx_page.specs.Views.{page_of}
 use Rattle.ttx_header.specs.Control.{c10}
-use Rattle.ttx_page.specs.Pages.{Page, needed, page_row, is_hidden, IsAlone}
+use Rattle.ttx_page.specs.Pages.{Page, needed, page_row, is_hidden}
 use Rattle.ttx_page.specs.declared.item.Item.TheVariants.{Row as TheRow}
 use Rattle.ttx_page.specs.Streams.{Stream}
-use Rattle.ttx_page.specs.Steady.{OtherSubpageAt, ErasedAt, HeadDiffersAt, RowDiffersAt, LinksDifferAt}
-use Rattle.ttx_witness.specs.faults.Comparing.{WrongAt, RowWrongAt, OtherHeaderAt}
+use Rattle.ttx_page.specs.Steady.{ErasedAt, HeadDiffersAt, RowDiffersAt, LinksDifferAt}
+use Rattle.ttx_witness.specs.faults.Comparing.{WrongAt, RowWrongAt}
 use Rattle.ttx_witness.specs.declared.faults.comparing.Check.TheVariants.{EraseBit, Head as CheckHead, Row as CheckRow, Links as CheckLinks}
 use Rattle.ttx_witness.specs.faults.Faults.{IsFirstAt, TellsFirst, earlier}
 use Rattle.ttx_witness.proofs.lemmas.Choices.{if_ind, and_left, and_right}
@@ -91,10 +91,6 @@ module _ (s : Stream) (p : Page) where
       few r e =
           let a : (nat_le 1 r && nat_le r 24) ≡ true = and_left _ (not (c10 p.control)) (and_left _ (if r == 24 then p.links.show24 else not (is_hidden (page_row p) r)) e) in
           let b : nat_le r 24 ≡ true = and_right (nat_le 1 r) (nat_le r 24) a in grind (arith, nat_tests)
-
--- another subpage, where the page is alone
-pub other_subpage_is : (s : Stream) (pages : List Page) (p : Page) → IsAlone pages p → (j : ℤ) → OtherHeaderAt s p.id j ↔ OtherSubpageAt s pages p j
-other_subpage_is s pages p alone j = ((λ h. record { alone = alone; number = h.number; other = h.other }), (λ h. record { number = h.number; other = h.other }))
 
 -- the page in a place of the list
 pub placed : {A : Type 0} (o : Option A) (p q : A) → o ≡ Some p → o ≡ Some q → p ≡ q
