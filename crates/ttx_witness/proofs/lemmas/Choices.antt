@@ -1,11 +1,19 @@
 -- Choices, tests and order of whole numbers.
-use Rattle.std.proofs.Common.{◌≡◌, ◌⊎◌, ℤ, ◌<ℤ◌, ◌≤ℤ◌, Bool, true, false, not, ◌&&◌, ◌||◌, if◌then◌else◌, refl, sym, inl, inr}
-use Rattle.std.proofs.lemmas.Int.{by_lt_z}
+use Rattle.std.proofs.Common.{◌≡◌, ◌⊎◌, ℤ, pos, negsuc, ◌<ℤ◌, ◌≤ℤ◌, int_lt, unsigned_abs, Bool, true, false, not, ◌&&◌, ◌||◌, if◌then◌else◌, refl, sym, inl, inr, arith}
+use Rattle.std.proofs.lemmas.Int.{by_lt_z, ints}
 
 -- what holds of both choices
 pub if_ind : {A : Type 0} (P : A → Type 0) (b : Bool) (x y : A) → (b ≡ true → P x) → (b ≡ false → P y) → P (if b then x else y)
 if_ind P true x y f g = f refl
 if_ind P false x y f g = g refl
+
+pub if_true : {A : Type 0} (b : Bool) (x y : A) → b ≡ true → (if b then x else y) ≡ x
+if_true true x y e = refl
+if_true false x y e = cc
+
+pub if_false : {A : Type 0} (b : Bool) (x y : A) → b ≡ false → (if b then x else y) ≡ y
+if_false true x y e = cc
+if_false false x y e = refl
 
 pub and_left : (a b : Bool) → (a && b) ≡ true → a ≡ true
 and_left true b h = refl
@@ -40,3 +48,10 @@ cases_bool false = inr refl
 
 pub cases_ltz : (a b : ℤ) → (a <ℤ b) ⊎ (b ≤ℤ a)
 cases_ltz a b = by_lt_z a b (λ h. inl h) (λ h. inr h)
+
+pub is_lt : (a b : ℤ) → int_lt a b ≡ true → a <ℤ b
+is_lt a b e = omega (arith, ints)
+
+pub abs_is : (a : ℤ) → pos 0 ≤ℤ a → pos (unsigned_abs a) ≡ a
+abs_is (pos n) h = refl
+abs_is (negsuc n) h = absurd (omega (arith, ints))

@@ -1,5 +1,4 @@
 pub mod SentPlaces
-pub mod LinkedSlots
 pub mod ChangedFacts
 pub mod BeforeFirstSlot
 pub mod GrowingLists

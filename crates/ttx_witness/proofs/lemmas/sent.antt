@@ -10,3 +10,4 @@ pub mod AllLists
 pub mod ListsInPlaces
 pub mod PacketKinds
 pub mod ItemPlaces
+pub mod RunLengths

@@ -1,12 +1,12 @@
 -- What of a page is compared with the slots that send it.
 --
 --   HoldsHeader, HoldsNoHeader      the header that a packet is, if it is one
---   HoldsRow, HoldsNoRow, HoldsLinks, HoldsNoLinks          the same for rows and links
+--   HoldsRow, HoldsNoRow, HoldsLinks, HoldsNoLinks  the same for rows and links
 --   mine_after, sends       whether the page owns its magazine after a slot, and whether a slot sends an item
 --   is_mine                 whether an owner is the page's header
 --   is_other_subpage        a header of the page's number with another subcode
---   Check, compared_item          what is compared, and the item whose transmissions show it
---   IsWrong, WrongAt, RowWrongAt, OtherHeaderAt, IsWrongIn     a slot that differs from the page
+--   Check, compared_item    what is compared, and the item whose transmissions show it
+--   IsWrong, WrongAt, RowWrongAt, OtherHeaderAt, IsWrongIn  a slot that differs from the page
 use Rattle.std.specs.Prelude.{◌≡◌, ℕ, ℤ, pos, ◌<ℤ◌, ◌≤ℤ◌, unsigned_abs, [], length, slice_index_or, Bool, true, false, not, ◌&&◌}
 use Rattle.std.specs.Prelude.{if◌then◌else◌, List, Option, Some, None, take, drop}
 use Rattle.ttx_packet.specs.declared.place.Address.{Address}

@@ -3,9 +3,9 @@
 --   Subcodes, with_subcode  the subcodes of the pages of a number: none, one, or several
 --   place                   the place of a magazine and two digits in a table of all
 --   IsListed, AreSubcodes, AreAllSubcodes   a page of the first of a list; what they have of a number; of each number
---   is_stray, IsStrayAt     a header of a number whose one subcode is another
+--   heads_other, HeadsOtherAt     a header of a number whose one subcode is another
 --   first_of, TellsBelow    the first slot of something so far
---   AreStrays, AreOtherSubpages     the first slots of each number, and those of each page
+--   AreOtherHeaders, AreOtherSubpages     the first slots of each number, and those of each page
 use Rattle.std.specs.Prelude.{◌≡◌, ℕ, ◌+◌, ◌-◌, ◌*◌, ◌<◌, ◌≤◌, ℤ, pos, Bool, true, false, not, ◌&&◌, ◌==◌, if◌then◌else◌, List, get_or}
 use Rattle.std.specs.Prelude.{slice_get, Option, Some, None}
 use Rattle.ttx_header.specs.Ids.{IsId}
@@ -51,13 +51,13 @@ is_other Unlisted sub = false
 is_other (One own) sub = not (own == sub)
 is_other Several sub = false
 
-abbrev pub is_stray : List Subcodes → ℕ → ℕ → Packet → Bool
-is_stray table mag number (Header id control text) = (mag == id.mag) && (number == id.page)
+abbrev pub heads_other : List Subcodes → ℕ → ℕ → Packet → Bool
+heads_other table mag number (Header id control text) = (mag == id.mag) && (number == id.page)
     && is_other (get_or table (place mag number) Unlisted) id.sub
-is_stray table mag number packet = false
+heads_other table mag number packet = false
 
-abbrev pub IsStrayAt : List Subcodes → Stream → ℕ → ℕ → ℤ → Type 0
-IsStrayAt table s mag number j = is_stray table mag number (packet_of (s j)) ≡ true
+abbrev pub HeadsOtherAt : List Subcodes → Stream → ℕ → ℕ → ℤ → Type 0
+HeadsOtherAt table s mag number j = heads_other table mag number (packet_of (s j)) ≡ true
 
 -- slot j, where it is one and none was before
 abbrev pub first_of : Option ℕ → Bool → ℕ → Option ℕ
@@ -69,9 +69,9 @@ abbrev pub TellsBelow : (ℤ → Type 0) → ℕ → Option ℕ → Type 0
 TellsBelow P n None = (i : ℕ) → i < n → P (pos i) → ⊥
 TellsBelow P n (Some j) = (j < n) × P (pos j) × ((i : ℕ) → i < j → P (pos i) → ⊥)
 
-abbrev pub AreStrays : List (List ℕ) → List Subcodes → List (Option ℕ) → Type 0
-AreStrays cycle table first = (mag number : ℕ) → 1 ≤ mag → mag ≤ 8 → number < 256 →
-    TellsFirst cycle (IsStrayAt table (repeated cycle) mag number) (get_or first (place mag number) None)
+abbrev pub AreOtherHeaders : List (List ℕ) → List Subcodes → List (Option ℕ) → Type 0
+AreOtherHeaders cycle table first = (mag number : ℕ) → 1 ≤ mag → mag ≤ 8 → number < 256 →
+    TellsFirst cycle (HeadsOtherAt table (repeated cycle) mag number) (get_or first (place mag number) None)
 
 -- for each page of the list, the first header of another subpage where the page is the only one of its number
 abbrev pub AreOtherSubpages : List (List ℕ) → List Page → OtherSubpages → Type 0

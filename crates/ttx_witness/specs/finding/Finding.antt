@@ -2,9 +2,9 @@
 --
 --   is_due                  the items for which starts are named: those that a viewer sees and a receiver of the class hasn't already
 --   starts_of, spread_at    the starts of the sure runs of an item, and what is kept of these runs
---   IsEnough, least_limit       a limit in slots is enough; the least one in which sure runs of an item follow one another, None where there is none
+--   IsEnough, least_limit   a limit in slots is enough; the least one in which sure runs of an item follow one another, None where there is none
 --   starts_for, limit_for   what is named for an item that a viewer sees, and its least limit: that of the page's headers where it isn't due
---   IsDone, same_place, AreNamed            the items that have been looked at; what is known of entries and limits after them
+--   IsDone, same_place, AreNamed    the items that have been looked at; what is known of entries and limits after them
 --   CanBeAccepted           some certificate of these numbers and this deadline is accepted
 --   IsFoundFor              the certificate that is found, and the least deadline
 use Rattle.std.specs.Prelude.{◌≡◌, ◌⊎◌, ◌↔◌, ℕ, ◌-◌, ◌*◌, ◌<◌, ◌≤◌, max, Bool, true, false, not, ◌&&◌, ◌==◌, if◌then◌else◌, List, [], ◌∷◌}
@@ -61,7 +61,7 @@ wider None b = None
 wider (Some a) None = None
 wider (Some a) (Some b) = Some (max a b)
 
--- an item of a page that a viewer sees, in its place_of_item among the first m
+-- an item of a page that a viewer sees, in its place among the first m
 pub record IsDone (pages : List Page) (m i : ℕ) (p : Page) (item : Item) : Type 0 where
   pub at : slice_get pages i ≡ Some p
   pub is : IsItem item

@@ -1,6 +1,6 @@
 -- The starts that are named for an item, once a period has passed.
 --
---   HoldsAt                   a place of a list holds something of which P is true
+--   HoldsAt                 a place of a list holds something of which P is true
 --   IsIdle                  an item that isn't needed, or for which no start is named
 --   IsProgress              what the named starts of an item come to, which isn't known where it is idle
 use Rattle.std.specs.Prelude.{◌≡◌, ℕ, ◌-◌, ◌<◌, true, List, length, slice_get, Option, Some, None}

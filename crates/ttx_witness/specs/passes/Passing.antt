@@ -5,7 +5,7 @@
 --   ended_pages, ended_certificate  and of one that has ended
 --   AreReady                what a pass keeps of its pages alone
 --   AreSeen                 the owners after a list, as the pages see them
---   AreListed, AreNoted, AreTold, AreKept       what the slots send, facts and headers of other subpages after a list, with the owners before it
+--   AreListed, AreNoted, AreTold, AreKept   what the slots send, facts and headers of other subpages after a list, with the owners before it
 --   IsFirstPass             a pass that was given a first list
 --   IsPassed, IsSecondPass  a second pass that was given a second list, after a first one
 --   IsEnded                 a second pass that has ended as it began
@@ -26,12 +26,12 @@ use Rattle.ttx_witness.specs.passes.PageFacts.{FirstBelow, AreFacts}
 use Rattle.ttx_witness.specs.passes.ItemProgress.{HoldsAt}
 use Rattle.ttx_witness.specs.passes.SentSlots.{placed, IsLinked}
 use Rattle.ttx_witness.specs.faults.OtherSubpages as table
-use Rattle.ttx_witness.specs.faults.OtherSubpages.{AreAllSubcodes, IsStrayAt, TellsBelow}
+use Rattle.ttx_witness.specs.faults.OtherSubpages.{AreAllSubcodes, HeadsOtherAt, TellsBelow}
 use Rattle.ttx_witness.specs.sent.ItemTransmissions.{PageOwner, owner_scan, sent_scan, sent_in, entry_owner}
 use Rattle.ttx_witness.specs.declared.sent.owners.Owner.{Owner}
 use Rattle.ttx_witness.specs.declared.passes.page_facts.Facts.{Facts}
 use Rattle.ttx_witness.specs.declared.passes.sent_slots.SentSlots.{SentSlots}
-use Rattle.ttx_witness.specs.declared.passes.other_headers.Strays.{Strays}
+use Rattle.ttx_witness.specs.declared.passes.other_headers.OtherHeaders.{OtherHeaders}
 use Rattle.ttx_witness.specs.declared.passes.passing.Pass.{Pass}
 use Rattle.ttx_witness.specs.declared.passes.passing.SecondPass.{SecondPass}
 use Rattle.ttx_witness.specs.declared.passes.ending.EndedPass.{EndedPass}
@@ -59,7 +59,7 @@ ended_certificate ended = certificate_of ended.certificate.now
 
 pub record AreReady (pass : Pass) : Type 0 where
   pub index : IsIndex (ids pass) pass.index
-  pub subcodes : AreAllSubcodes (pages_of pass) (length pass.pages.now) pass.strays.subcodes.items
+  pub subcodes : AreAllSubcodes (pages_of pass) (length pass.pages.now) pass.others.subcodes.items
 
 -- the owners after the list y, where those before it are the entry's
 pub record AreSeen (pass : Pass) (entry : Id → Option PageOwner) (y : List (List ℕ)) (owners : List (Option Owner)) : Type 0 where
@@ -80,14 +80,14 @@ AreNoted pages w entry y all = (i : ℕ) (p : Page) → slice_get pages i ≡ So
     HoldsAt Facts all i (AreFacts w p (repeated y) (entry p.id) (length y))
 
 -- the first header of another subpage, of each page number
-abbrev pub AreTold : List (List ℕ) → Strays → Type 0
-AreTold y strays = (mag number : ℕ) → 1 ≤ mag → mag ≤ 8 → number < 256 →
-    TellsBelow (IsStrayAt strays.subcodes.items (repeated y) mag number) (length y) (get_or strays.first.items (table.place mag number) None)
+abbrev pub AreTold : List (List ℕ) → OtherHeaders → Type 0
+AreTold y others = (mag number : ℕ) → 1 ≤ mag → mag ≤ 8 → number < 256 →
+    TellsBelow (HeadsOtherAt others.subcodes.items (repeated y) mag number) (length y) (get_or others.first.items (table.place mag number) None)
 
 pub record AreKept (pass : Pass) (entry : Id → Option PageOwner) (y : List (List ℕ)) : Type 0 where
   pub sent : AreListed (pages_of pass) (certificate pass) entry y pass.sent
   pub facts : AreNoted (pages_of pass) (certificate pass) entry y pass.facts.items
-  pub strays : AreTold y pass.strays
+  pub others : AreTold y pass.others
 
 -- Of the first list a pass keeps how long it is, and the owners at its end.
 pub record IsFirstPass (pass : Pass) (x : List (List ℕ)) : Type 0 where
@@ -116,14 +116,14 @@ pub record IsSecondPass (second : SecondPass) (x y : List (List ℕ)) : Type 0 w
 pub record IsEnded (ended : EndedPass) (y : List (List ℕ)) : Type 0 where
   pub cycle : IsCycle y
   pub bad : FirstBelow (λ j. is_clean (slice_index_or y j []) ≡ false) (length y) ended.bad
-  pub subcodes : AreAllSubcodes (ended_pages ended) (length ended.pages.now) ended.strays.subcodes.items
+  pub subcodes : AreAllSubcodes (ended_pages ended) (length ended.pages.now) ended.others.subcodes.items
   pub period : ended.period ≡ length y
   pub places : length ended.sent.firsts.items ≡ 26 * length (ended_pages ended)
   pub linked : IsLinked ended.sent.slots.items ended.sent.firsts.items ended.sent.nexts.items 0
   pub sent : (i : ℕ) (p : Page) (item : Item) → slice_get (ended_pages ended) i ≡ Some p → IsItem item →
       placed (place_of_item i item) ended.sent.slots.items ≡ sent_in y p.id (ended_certificate ended).lines item
   pub facts : AreNoted (ended_pages ended) (ended_certificate ended) (entry_owner y) y ended.facts.items
-  pub strays : AreTold y ended.strays
+  pub others : AreTold y ended.others
 
 -- None only where the lists differ or the second is empty
 abbrev pub EndsAs : List (List ℕ) → List (List ℕ) → Option EndedPass → Type 0

@@ -4,9 +4,9 @@
 --
 --   Lists                   a list of all that has a property, from one slot to below another
 --   Successive              slots that rise, with none of the property between two of them
---   IsSentAt, IsSureSent      a slot is a transmission, or a sure one
+--   IsSentAt, IsSureSent    a slot is a transmission, or a sure one
 --   Repeats                 what is asked of the two relations
---   IsRunFrom, BeginsSureRun, RunEndsBelow    the run of k transmissions from a slot
+--   IsRunFrom, BeginsSureRun, RunEndsBelow  the run of k transmissions from a slot
 --   IsRunOf, IsNamedRun     numbers that tell of a run of the stream, and of one from a named slot
 --   turned, IsNamed         slots of a period, and named starts round the cycle
 --   Covers                  the named starts cover the item from every tuning slot

@@ -3,7 +3,7 @@
 --
 --   Transmission            its slot, the slot of its owner (the page header that it belongs to), and whether it is sure
 --   Run                     k successive transmissions: first slot, that one's owner, last slot, whether all are sure
---   later, moved_run            the same a period later, or some slots later
+--   later, moved_run        the same a period later, or some slots later
 --   further, extended       the transmissions that follow a period's, round the cycle
 --   windows, run_of, runs   the lists of k that follow one another; the run of such a list; the runs of one period
 use Rattle.std.specs.Prelude.{ℕ, zero, suc, ℤ, pos, ◌+ℤ◌, Bool, if◌then◌else◌, List, [], ◌∷◌, ◌++◌, length, map, take, nat_le, false}

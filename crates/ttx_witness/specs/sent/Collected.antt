@@ -1,11 +1,11 @@
 -- The owners of the eight magazines, and the transmissions of all items of all pages, while the slots of a period are read.
 --
 --   taint, seen_by          an owner after a header of another magazine; an owner as one of the pages sees it
---   Finds                   a look-up that tells the place_of_item of an id among the ids of pages
+--   Finds                   a look-up that tells the place of an id among the ids of pages
 --   ids_of                  the ids of pages
 --   AreOwners               the owners are right for each page
---   IsItem, place_of_item           the items of a page, and where the transmissions of an item of a page are kept
---   held, AreCollected      the list in a place_of_item; the lists are the transmissions of all items in the first slots of a period
+--   IsItem, place_of_item   the items of a page, and where the transmissions of an item of a page are kept
+--   held, AreCollected      the list in a place; the lists are the transmissions of all items in the first slots of a period
 use Rattle.std.specs.Prelude.{◌≡◌, ℕ, ◌+◌, ◌-◌, ◌*◌, ◌<◌, Bool, false, ◌||◌, ◌==◌, List, [], slice_get, get_or, map, length, nat_eq}
 use Rattle.std.specs.Prelude.{Option, Some, None, Vec}
 use Rattle.std.specs.Global.{Global}
@@ -38,7 +38,7 @@ abbrev pub seen_by : ℕ → Option Owner → Option PageOwner
 seen_by i None = None
 seen_by i (Some o) = Some (record { slot = o.slot; mine = is_page i o.page; tainted = o.tainted })
 
--- the answer for an id is the place_of_item of the page that has it
+-- the answer for an id is the place of the page that has it
 abbrev pub Finds : List Id → Id → Option ℕ → Type 0
 Finds ids id answer = (i : ℕ) (own : Id) → slice_get ids i ≡ Some own → is_page i answer ≡ same_id own id
 
@@ -62,7 +62,7 @@ AreApart ids owners = (m i : ℕ) (id : Id) → m < 8 → slice_get ids i ≡ So
 abbrev pub place_of_item : ℕ → Item → ℕ
 place_of_item i item = 26 * i + item_number item
 
--- the list in a place_of_item
+-- the list in a place
 abbrev pub held : List (Vec Transmission Global) → ℕ → List Transmission
 held lists n = get_or (map (λ v. v.items) lists) n []
 

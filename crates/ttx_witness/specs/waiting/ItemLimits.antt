@@ -1,6 +1,6 @@
 -- What is told of the items of a page by their least limits, while they are looked at in order.
 --
---   IsOwnDeadline                   the item's own least deadline
+--   IsOwnDeadline           the item's own least deadline
 --   IsBelow                 an item whose own least deadline is at most, or below, a number
 --   IsLongest               the greatest of the first m items that a viewer sees, and the first of them that has it
 --   IsByLimits              the answer for all of them

@@ -2,7 +2,7 @@
 -- pages of the list say only whether it is the one page of its number.
 --
 --   IsFor                   a certificate of this class, repeat count, lines and deadline
---   ShowsItem, AcceptsPage      an item is covered or left out; the page is steady, and each item that a viewer sees is shown
+--   ShowsItem, AcceptsPage  an item is covered or left out; the page is steady, and each item that a viewer sees is shown
 --   CanShow, CanAccept      some certificate of these numbers shows the item; some accepts the page
 --   IsLeast                 the least number of which something is true, None where it is true of none
 --   Needs                   an item that a viewer sees, and that no smaller deadline is enough for

@@ -5,7 +5,7 @@ ghost use Rattle.ttx_cycle.specs.Cycles.{slots_of};
 ghost use Rattle.ttx_packet.specs.Slots.{IsSlot};
 ghost use Rattle.ttx_page.specs.Packets.{packet_of};
 ghost use Rattle.ttx_page.specs.Views.{page_of};
-ghost use Rattle.ttx_witness.specs.faults.OtherSubpages.{place, first_of, is_stray, AreStrays, AreOtherSubpages};
+ghost use Rattle.ttx_witness.specs.faults.OtherSubpages.{place, first_of, heads_other, AreOtherHeaders, AreOtherSubpages};
 
 use crate::faults::subcodes::{NUMBERS, Subcodes, is_other, place, subcodes_of};
 use crate::sent::packets::header_in;
@@ -39,7 +39,7 @@ pub fn note_slot(first: &mut Vec<Option<u32>>, subcodes: &[Subcodes], slot: &[u8
     ensures size { length first.new.items ≡ 2048 }
     ensures noted { (mag number : ℕ) → 1 ≤ mag → mag ≤ 8 → number < 256 →
         get_or first.new.items (place mag number) None
-        ≡ first_of (get_or first.old.items (place mag number) None) (is_stray subcodes.now mag number (packet_of slot.now)) j }
+        ≡ first_of (get_or first.old.items (place mag number) None) (heads_other subcodes.now mag number (packet_of slot.now)) j }
 {
     let Some(header) = header_in(slot) else {
         return;
@@ -63,14 +63,14 @@ pub fn none_told(alloc: Global) -> Result<Vec<Option<u32>>, NoMemory>
 }
 
 // The first header of each number with another subcode than its one.
-fn first_strays(
+fn first_other_headers(
     alloc: Global,
     cycle: &Cycle,
     subcodes: &[Subcodes],
 ) -> Result<Vec<Option<u32>>, NoMemory>
     requires { length subcodes.now ≡ 2048 }
     ensures size { IfOk result (λ first. length first.items ≡ 2048) }
-    ensures first { IfOk result (λ first. AreStrays (slots_of cycle.now) subcodes.now first.items) }
+    ensures first { IfOk result (λ first. AreOtherHeaders (slots_of cycle.now) subcodes.now first.items) }
 {
     let slots = cycle.slots();
     let mut first = none_told(alloc)?;
@@ -95,7 +95,7 @@ impl OtherSubpages {
         ensures { IfOk result (λ others. AreOtherSubpages (slots_of cycle.now) (map page_of pages.now) others) }
     {
         let subcodes = subcodes_of(alloc, pages)?;
-        let first = first_strays(alloc, cycle, &subcodes)?;
+        let first = first_other_headers(alloc, cycle, &subcodes)?;
         Ok(OtherSubpages { first })
     }
 

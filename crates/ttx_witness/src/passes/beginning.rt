@@ -7,7 +7,7 @@ ghost use Rattle.ttx_certificate.specs.Certificates.{certificate_of};
 
 use crate::faults::other_subpages::none_told;
 use crate::faults::subcodes::subcodes_of;
-use crate::passes::other_headers::Strays;
+use crate::passes::other_headers::OtherHeaders;
 use crate::passes::page_facts::Facts;
 use crate::passes::passing::Pass;
 use crate::passes::sent_slots::SentSlots;
@@ -58,14 +58,14 @@ impl<'a> Pass<'a> {
         let index = index_of(alloc, pages)?;
         let subcodes = subcodes_of(alloc, pages)?;
         let first = none_told(alloc)?;
-        let strays = Strays { subcodes, first };
+        let others = OtherHeaders { subcodes, first };
         let sent = SentSlots::new(alloc, pages.len())?;
         let facts = no_facts(alloc, pages.len())?;
         Ok(Pass {
             pages,
             certificate,
             index,
-            strays,
+            others,
             sent,
             facts,
             owners: [None; 8],

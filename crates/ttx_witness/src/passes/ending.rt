@@ -9,7 +9,7 @@ ghost use Rattle.ttx_witness.specs.faults.OtherSubpages as tables;
 use crate::faults::first_slots::{FirstSlots, least_fault};
 use crate::faults::reason::Reason;
 use crate::faults::subcodes::place;
-use crate::passes::other_headers::Strays;
+use crate::passes::other_headers::OtherHeaders;
 use crate::passes::page_facts::{Facts, late_of};
 use crate::passes::progress::{finish, take_all};
 use crate::passes::sent_slots::SentSlots;
@@ -27,16 +27,16 @@ pub struct EndedPass<'a> {
     pub certificate: &'a Certificate,
     pub period: u32,
     pub bad: Option<u32>,
-    pub(crate) strays: Strays,
+    pub(crate) others: OtherHeaders,
     pub(crate) sent: SentSlots,
     pub(crate) facts: Vec<Facts>,
 }
 
 // The first header of the page's number with another subcode than the one of the number.
-fn first_stray(strays: &Strays, page: PageId) -> Option<u32>
-    ensures { result ≡ get_or strays.now.first.items (tables.place page.mag page.page) None }
+fn first_other_header_of(others: &OtherHeaders, page: PageId) -> Option<u32>
+    ensures { result ≡ get_or others.now.first.items (tables.place page.mag page.page) None }
 {
-    strays.first[place(page)]
+    others.first[place(page)]
 }
 
 // The facts of the page at the index.
@@ -102,7 +102,7 @@ impl<'a> EndedPass<'a> {
             return None;
         };
         let page = self.pages[index].id();
-        let first = first_slots(facts, first_stray(&self.strays, page));
+        let first = first_slots(facts, first_other_header_of(&self.others, page));
         least_fault(page, first)
     }
 

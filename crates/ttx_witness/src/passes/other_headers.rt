@@ -3,14 +3,14 @@
 ghost use Rattle.std.specs.Prelude.{◌≡◌, ◌≤◌, ◌<◌, ℕ, None, get_or, length};
 ghost use Rattle.ttx_packet.specs.Slots.{IsSlot};
 ghost use Rattle.ttx_page.specs.Packets.{packet_of};
-ghost use Rattle.ttx_witness.specs.faults.OtherSubpages.{place, first_of, is_stray};
+ghost use Rattle.ttx_witness.specs.faults.OtherSubpages.{place, first_of, heads_other};
 
 use crate::faults::other_subpages::note_slot;
 use crate::faults::subcodes::Subcodes;
 
 /// The subcodes of the pages of each number, and the first header of each number with another one.
 #[derive(Drop)]
-pub struct Strays {
+pub struct OtherHeaders {
     pub subcodes: Vec<Subcodes>,
     pub first: Vec<Option<u32>>,
     ghost subcodes_size: { length subcodes.items ≡ 2048 },
@@ -18,12 +18,12 @@ pub struct Strays {
 }
 
 /// Notes slot j, where it is a header.
-pub fn note_stray(strays: &mut Strays, slot: &[u8; 42], j: u32)
+pub fn note_other_header(others: &mut OtherHeaders, slot: &[u8; 42], j: u32)
     requires slot { IsSlot slot.now }
-    ensures subcodes { strays.new.subcodes ≡ strays.old.subcodes }
+    ensures subcodes { others.new.subcodes ≡ others.old.subcodes }
     ensures noted { (mag number : ℕ) → 1 ≤ mag → mag ≤ 8 → number < 256 →
-        get_or strays.new.first.items (place mag number) None
-        ≡ first_of (get_or strays.old.first.items (place mag number) None) (is_stray strays.old.subcodes.items mag number (packet_of slot.now)) j }
+        get_or others.new.first.items (place mag number) None
+        ≡ first_of (get_or others.old.first.items (place mag number) None) (heads_other others.old.subcodes.items mag number (packet_of slot.now)) j }
 {
-    note_slot(&mut strays.first, &strays.subcodes, slot, j);
+    note_slot(&mut others.first, &others.subcodes, slot, j);
 }

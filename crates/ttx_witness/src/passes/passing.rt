@@ -11,7 +11,7 @@ use crate::faults::other_subpages::first_of;
 use crate::passes::earlier_owners::all_moved;
 use crate::passes::ending::EndedPass;
 use crate::passes::numbered_slot::NumberedSlot;
-use crate::passes::other_headers::{Strays, note_stray};
+use crate::passes::other_headers::{OtherHeaders, note_other_header};
 use crate::passes::page_facts::{Facts, note_sent};
 use crate::passes::returning_owners::are_steady;
 use crate::passes::sent_slots::SentSlots;
@@ -38,7 +38,7 @@ pub struct Pass<'a> {
     pub(crate) pages: &'a [Page],
     pub(crate) certificate: &'a Certificate,
     pub(crate) index: PageIndex,
-    pub(crate) strays: Strays,
+    pub(crate) others: OtherHeaders,
     pub(crate) sent: SentSlots,
     pub(crate) facts: Vec<Facts>,
     pub(crate) owners: [Option<Owner>; 8],
@@ -78,7 +78,7 @@ fn take_slot(pass: &mut Pass, slot: &[u8; 42])
     pass.sent.note(sent);
     let numbered = NumberedSlot { bytes: slot, at: j };
     note_sent(&mut pass.facts, pass.pages, sent, &numbered, limit);
-    note_stray(&mut pass.strays, slot, j);
+    note_other_header(&mut pass.others, slot, j);
     note_owner(&mut pass.owners, &pass.index, slot, j as i32);
     pass.count += 1;
 }
@@ -165,7 +165,7 @@ impl<'a> SecondPass<'a> {
             certificate,
             period,
             bad,
-            strays: pass.strays,
+            others: pass.others,
             sent: pass.sent,
             facts: pass.facts,
         })

@@ -1,28 +1,24 @@
 -- First slots of single reasons.
-use Rattle.std.proofs.Common.{◌≡◌, ◌⊎◌, ◌↔◌, ℕ, zero, suc, ◌+◌, ◌<◌, ◌≤◌, ℤ, pos, true, false, not, ◌&&◌, ◌==◌, if◌then◌else◌, nat_le, List, length, map, get_or, slice_get, option_map, Option, Some, None, refl, sym, ap, ◌∙◌, subst, inl, inr, arith}
+use Rattle.std.proofs.Common.{◌≡◌, ◌⊎◌, ◌↔◌, ℕ, zero, suc, ◌+◌, ◌<◌, ◌≤◌, ℤ, pos, true, not, ◌&&◌, ◌==◌, if◌then◌else◌, nat_le, List, length, map, get_or, slice_get, option_map, Option, Some, None, refl, sym, ap, ◌∙◌, subst, inl, inr, arith}
 use Rattle.std.proofs.lemmas.Bool.{cases_lt}
 use Rattle.std.proofs.lemmas.Bool.Decides.{nat_tests}
 use Rattle.std.proofs.lemmas.Option.{slice_get-map, slice_get-get_or}
 use Rattle.ttx_page.specs.declared.page.Page.{Page as PageValue}
 use Rattle.ttx_page.specs.Views.{page_of}
-use Rattle.ttx_page.specs.Packets.{packet_of}
 use Rattle.ttx_header.specs.Control.{c10}
-use Rattle.ttx_page.specs.Pages.{Page, needed, page_row, is_hidden, IsAlone}
+use Rattle.ttx_page.specs.Pages.{Page, needed, page_row, is_hidden}
 use Rattle.ttx_page.specs.declared.item.Item.TheVariants.{Row as TheRow}
-use Rattle.ttx_page.specs.Streams.{Stream, heads_page}
-use Rattle.ttx_page.specs.Steady.{HasHeader, HasNoHeader, OtherSubpageAt, ErasedAt, HeadDiffersAt, RowDiffersAt, LinksDifferAt}
-use Rattle.ttx_witness.specs.faults.Comparing.{WrongAt, RowWrongAt, OtherHeaderAt}
+use Rattle.ttx_page.specs.Streams.{Stream}
+use Rattle.ttx_page.specs.Steady.{ErasedAt, HeadDiffersAt, RowDiffersAt, LinksDifferAt}
+use Rattle.ttx_witness.specs.faults.Comparing.{WrongAt, RowWrongAt}
 use Rattle.ttx_witness.specs.declared.faults.comparing.Check.TheVariants.{EraseBit, Head as CheckHead, Row as CheckRow, Links as CheckLinks}
 use Rattle.ttx_witness.specs.faults.Faults.{IsFirstAt, TellsFirst, earlier}
-use Rattle.ttx_witness.proofs.lemmas.Choices.{if_ind, cases_bool, and_left, and_right}
+use Rattle.ttx_witness.proofs.lemmas.Choices.{if_ind, and_left, and_right}
 
 -- the same for what is as true
 pub tells_same : (cycle : List (List ℕ)) (P Q : ℤ → Type 0) → ((j : ℤ) → P j ↔ Q j) → (o : Option ℕ) → TellsFirst cycle P o → TellsFirst cycle Q o
 tells_same cycle P Q same None f = λ j q. f j ((same j).1 q)
 tells_same cycle P Q same (Some slot) f = record { within = f.within; here = (same (pos slot)).0 f.here; none_before = λ i lt q. f.none_before i lt ((same (pos i)).1 q) }
-
-pub tells_none : (cycle : List (List ℕ)) (P : ℤ → Type 0) → ((j : ℤ) → P j → ⊥) → TellsFirst cycle P None
-tells_none cycle P none = none
 
 -- of two
 module _ (cycle : List (List ℕ)) (P Q R : ℤ → Type 0) (left : (j : ℤ) → P j → R j) (right : (j : ℤ) → Q j → R j) (either : (j : ℤ) → R j → P j ⊎ Q j) where
@@ -95,15 +91,6 @@ module _ (s : Stream) (p : Page) where
       few r e =
           let a : (nat_le 1 r && nat_le r 24) ≡ true = and_left _ (not (c10 p.control)) (and_left _ (if r == 24 then p.links.show24 else not (is_hidden (page_row p) r)) e) in
           let b : nat_le r 24 ≡ true = and_right (nat_le 1 r) (nat_le r 24) a in grind (arith, nat_tests)
-
--- no header
-pub no_header_is : (s : Stream) (p : Page) → (HasHeader s p.id → ⊥) → HasNoHeader s p
-no_header_is s p none j = elim (cases_bool (heads_page p.id (packet_of (s j)))) as (λ _. heads_page p.id (packet_of (s j)) ≡ false)
-    [ inl e ↦ absurd (none (record { slot = j; is_header = e })) | inr e ↦ e ]
-
--- another subpage, where the page is alone
-pub other_subpage_is : (s : Stream) (pages : List Page) (p : Page) → IsAlone pages p → (j : ℤ) → OtherHeaderAt s p.id j ↔ OtherSubpageAt s pages p j
-other_subpage_is s pages p alone j = ((λ h. record { alone = alone; number = h.number; other = h.other }), (λ h. record { number = h.number; other = h.other }))
 
 -- the page in a place of the list
 pub placed : {A : Type 0} (o : Option A) (p q : A) → o ≡ Some p → o ≡ Some q → p ≡ q

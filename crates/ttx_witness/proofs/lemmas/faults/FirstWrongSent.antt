@@ -1,5 +1,5 @@
 -- The first of a period's transmissions that differs.
-use Rattle.std.proofs.Common.{◌≡◌, ◌↔◌, Bool, not, ◌==◌, IsTrue, ℕ, suc, ◌<◌, ◌≤◌, ℤ, pos, negsuc, ◌+ℤ◌, ◌<ℤ◌, ◌≤ℤ◌, unsigned_abs, List, [], ◌∷◌, ◌++◌, length, take, drop, get_or, refl, sym, ◌∙◌, subst, inl, inr, arith, eqb-true}
+use Rattle.std.proofs.Common.{◌≡◌, ◌↔◌, Bool, not, ◌==◌, IsTrue, ℕ, suc, ◌<◌, ◌≤◌, ℤ, pos, ◌+ℤ◌, ◌<ℤ◌, ◌≤ℤ◌, unsigned_abs, List, [], ◌∷◌, ◌++◌, length, take, drop, get_or, refl, sym, ◌∙◌, subst, inl, inr, arith, eqb-true}
 use Rattle.std.specs.List.{AllByRecursion}
 use Rattle.std.proofs.lemmas.Int.{ints}
 use Rattle.std.proofs.Math.Seq.{split_at}
@@ -15,17 +15,13 @@ use Rattle.ttx_witness.specs.sent.ItemTransmissions.{sent_in}
 use Rattle.ttx_witness.specs.declared.faults.comparing.Check.{Check}
 use Rattle.ttx_witness.specs.faults.Comparing.{compared_item, IsWrong, IsWrongIn, WrongAt}
 use Rattle.ttx_witness.specs.faults.Faults.{Never, IsFirstAt}
-use Rattle.ttx_witness.proofs.lemmas.Choices.{cases_ltz, cases_bool, no_both, not_true, not_false}
+use Rattle.ttx_witness.proofs.lemmas.Choices.{cases_ltz, cases_bool, no_both, not_true, not_false, abs_is}
 use Rattle.ttx_witness.proofs.lemmas.sent.CycleTransmissions.{sent_told}
 use Rattle.ttx_witness.proofs.lemmas.faults.OverOnePeriod.{slot_is, never_wrong, never_heads}
 
 pub all_more : {A : Type 0} (P : A → Type 0) (xs : List A) (y : A) → AllByRecursion P xs → P y → AllByRecursion P (xs ++ y ∷ [])
 all_more P [] y a b = (b, tt)
 all_more P (x ∷ xs) y a b = (a.0, all_more P xs y a.1 b)
-
-pub abs_is : (z : ℤ) → pos 0 ≤ℤ z → pos (unsigned_abs z) ≡ z
-abs_is (pos a) h = refl
-abs_is (negsuc a) h = absurd (omega (arith, ints))
 
 module _ (cycle : List (List ℕ)) (some : 1 ≤ length cycle) (p : Page) (check : Check) (lines : ℕ) where
   abbrev s : Stream

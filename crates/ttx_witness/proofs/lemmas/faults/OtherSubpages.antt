@@ -10,7 +10,7 @@ use Rattle.ttx_page.specs.declared.selection.Selection.TheVariants.{AnySub}
 use Rattle.ttx_page.specs.Streams.{Stream, repeated, heads_page, heads_matched}
 use Rattle.ttx_page.specs.Steady.{OtherSubpageAt}
 use Rattle.ttx_witness.specs.faults.Faults.{TellsFirst}
-use Rattle.ttx_witness.specs.faults.OtherSubpages.{place, IsListed, AreSubcodes, is_other, is_stray, IsStrayAt, first_of, TellsBelow}
+use Rattle.ttx_witness.specs.faults.OtherSubpages.{place, IsListed, AreSubcodes, is_other, heads_other, HeadsOtherAt, first_of, TellsBelow}
 use Rattle.ttx_witness.specs.declared.faults.subcodes.Subcodes.{Subcodes}
 use Rattle.ttx_witness.specs.declared.faults.subcodes.Subcodes.TheVariants.{Unlisted, One, Several}
 use Rattle.ttx_witness.proofs.lemmas.Choices.{if_ind, no_both, cases_bool, and_left, and_right, and_both, not_true, not_false}
@@ -29,9 +29,9 @@ module _ (pages : List Page) (p : Page) (n : ℕ) (at : slice_get pages n ≡ So
   listed : IsListed pages (length pages) p.id.mag p.id.page p
   listed = record { index = n; below = inside; here = at; in_magazine = refl; numbered = refl }
 
-  abbrev Stray : Subcodes → Packet → Type 0
-  Stray t (Header id control text) = ((p.id.mag == id.mag) && (p.id.page == id.page) && is_other t id.sub) ≡ true
-  Stray t packet = ⊥
+  abbrev HeadsOther : Subcodes → Packet → Type 0
+  HeadsOther t (Header id control text) = ((p.id.mag == id.mag) && (p.id.page == id.page) && is_other t id.sub) ≡ true
+  HeadsOther t packet = ⊥
 
   record OtherPage (packet : Packet) : Type 0 where
     alone : IsAlone pages p
@@ -61,54 +61,54 @@ module _ (pages : List Page) (p : Page) (n : ℕ) (at : slice_get pages n ≡ So
     | inr e ↦ absurd (no_both _ (and_both _ _ (and_both _ _ (eq-eqb _ _ l.in_magazine) (eq-eqb _ _ l.numbered)) (not_false _ e)) (alone l.index q l.here))
   ]
 
-  stray_to : (t : Subcodes) → AreSubcodes pages (length pages) p.id.mag p.id.page t → (packet : Packet) → Stray t packet → OtherPage packet
-  stray_to Unlisted a (Header id control text) h = absurd (a p listed)
-  stray_to (One sub) a (Header id control text) h =
+  other_to : (t : Subcodes) → AreSubcodes pages (length pages) p.id.mag p.id.page t → (packet : Packet) → HeadsOther t packet → OtherPage packet
+  other_to Unlisted a (Header id control text) h = absurd (a p listed)
+  other_to (One sub) a (Header id control text) h =
       let m = and_left ((p.id.mag == id.mag) && (p.id.page == id.page)) _ h in
       let d : (sub == id.sub) ≡ false = not_true _ (and_right ((p.id.mag == id.mag) && (p.id.page == id.page)) _ h) in
       record { alone = alone_of sub a.1; number = m; other = differs p id (ap (λ x. x == id.sub) (a.1 p listed) ∙ d) }
-  stray_to Several a (Header id control text) h = absurd (no_both _ (and_right ((p.id.mag == id.mag) && (p.id.page == id.page)) _ h) refl)
-  stray_to t a Empty h = absurd h
-  stray_to t a Unreadable h = absurd h
-  stray_to t a (Row m r text) h = absurd h
-  stray_to t a (Links m content) h = absurd h
-  stray_to t a Info h = absurd h
-  stray_to t a Other h = absurd h
+  other_to Several a (Header id control text) h = absurd (no_both _ (and_right ((p.id.mag == id.mag) && (p.id.page == id.page)) _ h) refl)
+  other_to t a Empty h = absurd h
+  other_to t a Unreadable h = absurd h
+  other_to t a (Row m r text) h = absurd h
+  other_to t a (Links m content) h = absurd h
+  other_to t a Info h = absurd h
+  other_to t a Other h = absurd h
 
-  stray_from : (t : Subcodes) → AreSubcodes pages (length pages) p.id.mag p.id.page t → (packet : Packet) → OtherPage packet → Stray t packet
-  stray_from Unlisted a (Header id control text) o = absurd (a p listed)
-  stray_from (One sub) a (Header id control text) o = and_both _ _ o.number (not_false _ (ap (λ x. x == id.sub) (sym (a.1 p listed)) ∙ unlike p id o.number o.other))
-  stray_from Several a (Header id control text) o = absurd (a.4 (same_sub o.alone a.0 a.2 ∙ sym (same_sub o.alone a.1 a.3)))
-  stray_from t a Empty o = no_both _ o.number refl
-  stray_from t a Unreadable o = no_both _ o.number refl
-  stray_from t a (Row m r text) o = no_both _ o.number refl
-  stray_from t a (Links m content) o = no_both _ o.number refl
-  stray_from t a Info o = no_both _ o.number refl
-  stray_from t a Other o = no_both _ o.number refl
+  other_from : (t : Subcodes) → AreSubcodes pages (length pages) p.id.mag p.id.page t → (packet : Packet) → OtherPage packet → HeadsOther t packet
+  other_from Unlisted a (Header id control text) o = absurd (a p listed)
+  other_from (One sub) a (Header id control text) o = and_both _ _ o.number (not_false _ (ap (λ x. x == id.sub) (sym (a.1 p listed)) ∙ unlike p id o.number o.other))
+  other_from Several a (Header id control text) o = absurd (a.4 (same_sub o.alone a.0 a.2 ∙ sym (same_sub o.alone a.1 a.3)))
+  other_from t a Empty o = no_both _ o.number refl
+  other_from t a Unreadable o = no_both _ o.number refl
+  other_from t a (Row m r text) o = no_both _ o.number refl
+  other_from t a (Links m content) o = no_both _ o.number refl
+  other_from t a Info o = no_both _ o.number refl
+  other_from t a Other o = no_both _ o.number refl
 
   module _ (table : List Subcodes) where
-    to_stray : (packet : Packet) → is_stray table p.id.mag p.id.page packet ≡ true → Stray (get_or table (place p.id.mag p.id.page) Unlisted) packet
-    to_stray (Header id control text) h = h
-    to_stray Empty h = no_both _ h refl
-    to_stray Unreadable h = no_both _ h refl
-    to_stray (Row m r text) h = no_both _ h refl
-    to_stray (Links m content) h = no_both _ h refl
-    to_stray Info h = no_both _ h refl
-    to_stray Other h = no_both _ h refl
+    to_other : (packet : Packet) → heads_other table p.id.mag p.id.page packet ≡ true → HeadsOther (get_or table (place p.id.mag p.id.page) Unlisted) packet
+    to_other (Header id control text) h = h
+    to_other Empty h = no_both _ h refl
+    to_other Unreadable h = no_both _ h refl
+    to_other (Row m r text) h = no_both _ h refl
+    to_other (Links m content) h = no_both _ h refl
+    to_other Info h = no_both _ h refl
+    to_other Other h = no_both _ h refl
 
-    from_stray : (packet : Packet) → Stray (get_or table (place p.id.mag p.id.page) Unlisted) packet → is_stray table p.id.mag p.id.page packet ≡ true
-    from_stray (Header id control text) h = h
-    from_stray Empty h = absurd h
-    from_stray Unreadable h = absurd h
-    from_stray (Row m r text) h = absurd h
-    from_stray (Links m content) h = absurd h
-    from_stray Info h = absurd h
-    from_stray Other h = absurd h
+    from_other : (packet : Packet) → HeadsOther (get_or table (place p.id.mag p.id.page) Unlisted) packet → heads_other table p.id.mag p.id.page packet ≡ true
+    from_other (Header id control text) h = h
+    from_other Empty h = absurd h
+    from_other Unreadable h = absurd h
+    from_other (Row m r text) h = absurd h
+    from_other (Links m content) h = absurd h
+    from_other Info h = absurd h
+    from_other Other h = absurd h
 
-    pub stray_is : (s : Stream) → AreSubcodes pages (length pages) p.id.mag p.id.page (get_or table (place p.id.mag p.id.page) Unlisted) → (j : ℤ) → IsStrayAt table s p.id.mag p.id.page j ↔ OtherSubpageAt s pages p j
-    stray_is s a j = (
-      (λ h. let o = stray_to (get_or table (place p.id.mag p.id.page) Unlisted) a (packet_of (s j)) (to_stray (packet_of (s j)) h) in record { alone = o.alone; number = o.number; other = o.other }),
-      (λ o. from_stray (packet_of (s j)) (stray_from (get_or table (place p.id.mag p.id.page) Unlisted) a (packet_of (s j)) (record { alone = o.alone; number = o.number; other = o.other }))),
+    pub other_is : (s : Stream) → AreSubcodes pages (length pages) p.id.mag p.id.page (get_or table (place p.id.mag p.id.page) Unlisted) → (j : ℤ) → HeadsOtherAt table s p.id.mag p.id.page j ↔ OtherSubpageAt s pages p j
+    other_is s a j = (
+      (λ h. let o = other_to (get_or table (place p.id.mag p.id.page) Unlisted) a (packet_of (s j)) (to_other (packet_of (s j)) h) in record { alone = o.alone; number = o.number; other = o.other }),
+      (λ o. from_other (packet_of (s j)) (other_from (get_or table (place p.id.mag p.id.page) Unlisted) a (packet_of (s j)) (record { alone = o.alone; number = o.number; other = o.other }))),
     )
 
 -- the first slots, slot by slot
@@ -130,10 +130,10 @@ first_none P first e k =
     ]
 
 pub first_all : (cycle : List (List ℕ)) → 1 ≤ length cycle → (table : List Subcodes) (mag number : ℕ) (o : Option ℕ) →
-    TellsBelow (IsStrayAt table (repeated cycle) mag number) (length cycle) o → TellsFirst cycle (IsStrayAt table (repeated cycle) mag number) o
-first_all cycle some table mag number None t = nowhere cycle some (IsStrayAt table (repeated cycle) mag number)
-    (λ i. subst (λ x. is_stray table mag number (packet_of x) ≡ true) (period_of cycle i))
-    (λ i. subst (λ x. is_stray table mag number (packet_of x) ≡ true) (back i)) t
+    TellsBelow (HeadsOtherAt table (repeated cycle) mag number) (length cycle) o → TellsFirst cycle (HeadsOtherAt table (repeated cycle) mag number) o
+first_all cycle some table mag number None t = nowhere cycle some (HeadsOtherAt table (repeated cycle) mag number)
+    (λ i. subst (λ x. heads_other table mag number (packet_of x) ≡ true) (period_of cycle i))
+    (λ i. subst (λ x. heads_other table mag number (packet_of x) ≡ true) (back i)) t
   where
     back : (i : ℤ) → repeated cycle (i -ℤ pos (length cycle)) ≡ repeated cycle i
     back i = let e : (i -ℤ pos (length cycle)) +ℤ pos (length cycle) ≡ i = omega (arith, ints) in sym (period_of cycle (i -ℤ pos (length cycle))) ∙ ap (repeated cycle) e

@@ -42,9 +42,6 @@ pub mine_scan : (page : Id) (s : Stream) (entry : Option PageOwner) (j : ℕ) �
 unfolding owner_scan
 mine_scan page s entry j = let e : suc j ≡ j + 1 = omega arith in mine_step page (pos j) (packet_of (s (pos j))) (owner_scan page s entry j) ∙ ap (λ n. is_mine (owner_scan page s entry n)) e
 
-pub mine_entry : (cycle : List (List ℕ)) (page : Id) → is_mine (owner_scan page (repeated cycle) None (length cycle)) ≡ is_mine (entry_owner cycle page)
-mine_entry cycle page = sym (mine_moved _ (owner_scan page (repeated cycle) None (length cycle)))
-
 -- whether a slot sends the item, by its owner
 module _ (page : Id) (s : Stream) (j : ℤ) where
   by_owner : (o : Option PageOwner) → O.IsOwnerAt page s o j → (is_mine o ≡ true) ↔ ((h : ℤ) × IsLatestHeader s page.mag h j × (heads_page page (packet_of (s h)) ≡ true))

@@ -1,10 +1,9 @@
 -- The items of pages in their places, and what is known of entries and limits after one more.
-use Rattle.std.proofs.Common.{◌≡◌, ◌≢◌, ◌⊎◌, ℕ, zero, suc, ◌+◌, ◌<◌, true, false, eqb-true, List, [], ◌∷◌, ◌++◌, map, length, get_or, slice_get, Option, Some, None, refl, sym, ap, ◌∙◌, subst, inl, inr, arith}
+use Rattle.std.proofs.Common.{◌≡◌, ◌≢◌, ◌⊎◌, ℕ, zero, ◌+◌, ◌<◌, true, false, eqb-true, List, [], ◌∷◌, ◌++◌, map, get_or, slice_get, Option, Some, None, refl, sym, ap, ◌∙◌, subst, inl, inr, arith}
 use Rattle.std.specs.List.{All, AllByRecursion, AllPairs, Contains}
 use Rattle.std.proofs.lemmas.List.Elements.{Contains-append_left, Contains-append_right}
-use Rattle.std.specs.Option.{option_map}
 use Rattle.std.proofs.lemmas.List.Quantifiers.{all_pairs_push}
-use Rattle.std.proofs.lemmas.Option.{slice_get-map, slice_get_read, slice_get_within, get_or_from_slice_get}
+use Rattle.std.proofs.lemmas.Option.{slice_get_within, get_or_from_slice_get}
 use Rattle.ttx_header.specs.Ids.{same_id}
 use Rattle.std.proofs.lemmas.Bool.{cases_lt}
 use Rattle.ttx_page.specs.declared.page.Page.{Page as PageValue}
@@ -18,8 +17,9 @@ use Rattle.ttx_witness.specs.finding.Finding.{starts_for, limit_for, IsEnough, w
 use Rattle.ttx_certificate.specs.declared.entries.Entry.{Entry}
 use Rattle.ttx_witness.proofs.lemmas.Choices.{no_both, and_left, and_right, cases_bool}
 use Rattle.ttx_witness.proofs.lemmas.finding.EntryOrder.{same_entry}
-use Rattle.ttx_witness.proofs.lemmas.sent.PageIndexes.{same_one}
+use Rattle.ttx_witness.proofs.lemmas.sent.PageIndexes.{same_one, id_of_page}
 use Rattle.ttx_witness.proofs.lemmas.sent.AllLists.{all_by_place, all_by_recursion}
+use Rattle.ttx_witness.proofs.lemmas.sent.ItemPlaces.{item_small}
 
 abbrev pub AreApart : List Page → Type 0
 AreApart pages = (i j : ℕ) (p q : Page) → slice_get pages i ≡ Some p → slice_get pages j ≡ Some q → p.id ≡ q.id → i ≡ j
@@ -31,20 +31,10 @@ pages_apart pages distinct i j p q e f same = elim (cases_lt i j) as (λ _. i �
   | inr le ↦ elim (cases_lt j i) as (λ _. i ≡ j) [ inl high ↦ absurd (differ j i q p high f e (sym same)) | inr ge ↦ (let g : i ≡ j = omega arith in g) ]
 ]
   where
-    id_in : (pages : List PageValue) (i : ℕ) (p : Page) → slice_get (map page_of pages) i ≡ Some p → slice_get (ids_of pages) i ≡ Some p.id
-    id_in [] i p e = let h : None ≡ Some p = e in cc
-    id_in (q ∷ pages) zero p e = let h : page_of q ≡ p = cc in ap (λ x. Some x.id) h
-    id_in (q ∷ pages) (suc i) p e = id_in pages i p e
-
     differ : (i j : ℕ) (p q : Page) → i < j → slice_get (map page_of pages) i ≡ Some p → slice_get (map page_of pages) j ≡ Some q → p.id ≡ q.id → ⊥
     differ i j p q lt e f same =
-        let a = id_in pages i p e in let b = id_in pages j q f in
+        let a = id_of_page pages i p e in let b = id_of_page pages j q f in
         distinct i j p.id lt (slice_get_within (ids_of pages) j q.id b) (get_or_from_slice_get (ids_of pages) i p.id p.id a ∙ same ∙ sym (get_or_from_slice_get (ids_of pages) j q.id p.id b))
-
-pub number_low : (item : Item) → IsItem item → item_number item < 26
-number_low TheHead is = omega arith
-number_low (TheRow r) is = omega arith
-number_low TheLinks is = omega arith
 
 pub item_one : (a b : Item) → IsItem a → IsItem b → item_number a ≡ item_number b → a ≡ b
 item_one TheHead TheHead x y e = refl
@@ -75,7 +65,7 @@ fits_both (Some a) (Some b) limit f g = omega arith
 pub all_more : {A : Type 0} (P Q : A → Type 0) → ((x : A) → P x → Q x) → (xs : List A) → All P xs → All Q xs
 all_more P Q f xs a k d lt = f (get_or xs k d) (a k d lt)
 
-all_append : {A : Type 0} (P : A → Type 0) (xs : List A) (x : A) → AllByRecursion P xs → P x → AllByRecursion P (xs ++ x ∷ [])
+pub all_append : {A : Type 0} (P : A → Type 0) (xs : List A) (x : A) → AllByRecursion P xs → P x → AllByRecursion P (xs ++ x ∷ [])
 all_append P [] x a p = (p, tt)
 all_append P (y ∷ ys) x a p = (a.0, all_append P ys x a.1 p)
 
@@ -95,7 +85,7 @@ module _ (pages : List Page) (class : Class) (m j : ℕ) (q : Page) (given : Ite
   done_cases i p item d = elim (cases_lt (place_of_item i item) m) as (λ _. IsDone pages m i p item ⊎ IsLast i p item) [
     | inl low ↦ inl (record { at = d.at; is = d.is; seen = d.seen; before = low })
     | inr high ↦
-        let b = d.before in let r = number_low item d.is in let s = number_low given is in
+        let b = d.before in let r = item_small item d.is in let s = item_small given is in
         let index : i ≡ j = omega arith in
         let number : item_number item ≡ item_number given = omega arith in
         let there : slice_get pages j ≡ Some p = subst (λ n. slice_get pages n ≡ Some p) index d.at in
@@ -104,7 +94,7 @@ module _ (pages : List Page) (class : Class) (m j : ℕ) (q : Page) (given : Ite
   ]
 
   module _ (cycle : List (List ℕ)) (lines repeat : ℕ) where
-    -- no earlier entry stands in the place_of_item of one of this item
+    -- no earlier entry stands in the place of one of this item
     new_place : AreApart pages → (e n : Entry) → NamesStarts cycle pages class lines repeat m e → n.page ≡ q.id → n.item ≡ given → same_place e n ≡ false
     new_place apart e n t page item = elim (cases_bool (same_place e n)) as (λ _. same_place e n ≡ false) [
       | inl same ↦
@@ -177,6 +167,3 @@ module _ (pages : List Page) (class : Class) (m j : ℕ) (q : Page) (given : Ite
           of_page = n.2;
           of_item = n.3;
         })
-
-pub page_read : (pages : List PageValue) (i : ℕ) (p : PageValue) → i < length pages → p ≡ get_or pages i p → slice_get (map page_of pages) i ≡ Some (page_of p)
-page_read pages i p lt e = slice_get-map page_of pages i ∙ ap (option_map page_of) (slice_get_read pages (length pages) i p refl lt e)

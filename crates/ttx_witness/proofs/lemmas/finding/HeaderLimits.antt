@@ -15,15 +15,11 @@ use Rattle.ttx_witness.specs.Coverage.{Certificate, limit, IsCovered}
 use Rattle.ttx_witness.specs.laws.CycleLaws.{found_starts, found_spread, SureStartsAreFound, LeastLimitIsFound}
 use Rattle.ttx_witness.specs.finding.Finding.{IsEnough, limit_of}
 use Rattle.ttx_witness.proofs.lemmas.laws.HeaderGaps.{turned_back}
+use Rattle.ttx_witness.proofs.lemmas.sent.Periods.{owned_before}
 
 -- a header of the page comes in time after the slot
 abbrev pub Next : List (List ℕ) → Page → ℕ → ℤ → Type 0
 Next cycle p bound tau = (i : ℤ) × (tau ≤ℤ i) × (i <ℤ (tau +ℤ pos bound)) × (heads_page p.id (packet_of (repeated cycle i)) ≡ true)
-
-owner_before : (s : Stream) (page : Id) (item : Item) (h j : ℤ) → IsOwned s page item h j → h ≤ℤ j
-owner_before s page TheHead h j o = let e : h ≡ j = o.0 in omega (arith, ints)
-owner_before s page (TheRow r) h j o = let e : h <ℤ j = o.0.earlier in omega (arith, ints)
-owner_before s page TheLinks h j o = let e : h <ℤ j = o.0.earlier in omega (arith, ints)
 
 owner_heads : (s : Stream) (page : Id) (item : Item) (h j : ℤ) → IsOwned s page item h j → heads_page page (packet_of (s h)) ≡ true
 owner_heads s page TheHead h j o = subst (λ x. heads_page page (packet_of (s x)) ≡ true) (sym o.0) o.1
@@ -34,7 +30,7 @@ owner_heads s page TheLinks h j o = o.1
 pub next_covered : (cycle : List (List ℕ)) (p : Page) (v : Certificate) (item : Item) → IsCovered cycle p v item → (tau : ℤ) → Next cycle p (limit v) tau
 next_covered cycle p v item c tau =
     let t = c.in_time tau in
-    let before : t.1 ≤ℤ t.0 = owner_before (repeated cycle) p.id item t.1 t.0 t.3 in
+    let before : t.1 ≤ℤ t.0 = owned_before (repeated cycle) p.id item t.1 t.0 t.3 in
     let high : t.0 <ℤ (tau +ℤ pos (limit v)) = t.5.ends.0 in
     (t.1, t.4, omega (arith, ints), owner_heads (repeated cycle) p.id item t.1 t.0 t.3)
 

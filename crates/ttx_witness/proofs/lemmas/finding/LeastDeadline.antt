@@ -31,19 +31,12 @@ use Rattle.ttx_witness.specs.runs.SureStarts.{Spread}
 use Rattle.ttx_witness.specs.Coverage.{Certificate, limit, IsSureStart, IsCovered, IsLeftOut, Accepts}
 use Rattle.ttx_witness.specs.laws.CycleLaws.{SureStartsAreFound, LeastLimitIsFound}
 use Rattle.ttx_witness.specs.finding.Finding.{is_due, starts_of, spread_at, starts_for, limit_for, IsEnough, limit_of, least_limit, IsDone, NamesStarts, HasEntry, same_place, AreNamed, IsSentUnchanged, IsLeastField, IsDeadline, CanBeAccepted, IsLeastDeadline, IsFoundFor}
-use Rattle.ttx_witness.proofs.lemmas.Choices.{no_both, and_left, and_right, and_both, cases_bool}
+use Rattle.ttx_witness.proofs.lemmas.Choices.{no_both, and_left, and_right, and_both, cases_bool, if_true, if_false}
 use Rattle.ttx_witness.proofs.lemmas.sent.PageIndexes.{same_one, same_self}
 use Rattle.ttx_witness.proofs.lemmas.sent.AllLists.{all_by_recursion, place_below}
 use Rattle.ttx_witness.proofs.lemmas.finding.DueItems.{AreApart, item_one, all_more}
 use Rattle.ttx_witness.proofs.lemmas.finding.HeaderLimits.{Next, next_covered, next_fits}
-
-pub if_true : {A : Type 0} (b : Bool) (x y : A) → b ≡ true → (if b then x else y) ≡ x
-if_true true x y e = refl
-if_true false x y e = cc
-
-pub if_false : {A : Type 0} (b : Bool) (x y : A) → b ≡ false → (if b then x else y) ≡ y
-if_false true x y e = cc
-if_false false x y e = refl
+use Rattle.ttx_witness.proofs.lemmas.sent.RunLengths.{run_some}
 
 -- an entry of the item names these starts
 abbrev NamesFor : Id → Item → List ℕ → Entry → Type 0
@@ -110,11 +103,6 @@ pages_tested keep six tested pages n p at item seen = go pages n at
         let h : page_of q ≡ p = cc in
         tested p item (subst IsPage h (keep q)) (subst (λ x. length x.links.six ≡ 6) h (six q)) seen
     go (q ∷ qs) (suc n) e = go qs n e
-
-pub run_some : (repeat : ℕ) (item : Item) → 1 ≤ repeat → run_length repeat item ≡ suc (run_length repeat item - 1)
-run_some repeat TheHead some = omega arith
-run_some repeat (TheRow r) some = omega arith
-run_some repeat TheLinks some = refl
 
 module _ (cycle : List (List ℕ)) (some : 1 ≤ length cycle) (pages : List Page) (apart : AreApart pages) (class : Class) (lines repeat : ℕ) (repeats : 1 ≤ repeat) (es : List Entry) (least : Option ℕ)
     (named : AreNamed cycle pages class lines repeat (26 * length pages) es least) where
@@ -291,10 +279,6 @@ none_named cycle pages class lines repeat = record {
   least_to = λ limit f i p item d. absurd (let b = d.before in omega arith);
   least_from = λ limit f. omega arith;
 }
-
-pub none_from : {A : Type 0} (o : Option A) → is_some o ≡ false → o ≡ None
-none_from None e = refl
-none_from (Some a) e = cc
 
 abbrev AreAlone : List Entry → Type 0
 AreAlone es = AllPairs (λ a b. same_place a b ≡ false) es

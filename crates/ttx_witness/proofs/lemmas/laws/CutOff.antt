@@ -12,8 +12,7 @@ use Rattle.ttx_witness.specs.runs.Repeating.{AreSent, Tells}
 use Rattle.ttx_witness.specs.sent.ItemTransmissions.{sent_in}
 use Rattle.ttx_witness.specs.waiting.PageWaits.{is_near, is_cut}
 use Rattle.ttx_witness.specs.laws.WaitLaws.{IsNear, IsCut, IsLossTold, LossesAreTold}
-use Rattle.ttx_witness.proofs.lemmas.Choices.{and_left, and_right, and_both, no_both, not_true, not_false, cases_bool, cases_ltz}
-use Rattle.ttx_witness.proofs.lemmas.faults.FirstWrongSent.{abs_is}
+use Rattle.ttx_witness.proofs.lemmas.Choices.{and_left, and_right, and_both, no_both, not_true, not_false, cases_bool, cases_ltz, is_lt, abs_is}
 use Rattle.ttx_witness.proofs.lemmas.sent.CycleTransmissions.{sent_told}
 
 -- one of the k numbers from low on passes, or none does
@@ -36,9 +35,6 @@ look P low (suc k) = elim (look P low k) as (λ _. Passes P low (low +ℤ pos (s
   ]
 ]
 
-lt_true : (a b : ℤ) → int_lt a b ≡ true → a <ℤ b
-lt_true a b e = omega (arith, ints)
-
 lt_is : (a b : ℤ) → a <ℤ b → int_lt a b ≡ true
 lt_is a b lt = elim (cases_bool (int_lt a b)) as (λ _. int_lt a b ≡ true) [
   | inl e ↦ e
@@ -59,7 +55,7 @@ module _ (s : Stream) (page : Id) (lines : ℕ) (item : Item) (not_head : item �
   module _ (t : Transmission) (tells : Tells (IsOwned s page item) (IsSure s lines page.mag item) t) where
     cut_to : is_cut lines t ≡ true → IsCut s page.mag lines t
     cut_to e =
-        let far = lt_true (t.owner +ℤ pos lines) t.slot (and_left _ _ e) in
+        let far = is_lt (t.owner +ℤ pos lines) t.slot (and_left _ _ e) in
         let unsure : t.sure ≡ false = not_true t.sure (and_right (int_lt (t.owner +ℤ pos lines) t.slot) (not t.sure) e) in
         let low = t.owner +ℤ pos 1 in
         let k = unsigned_abs (t.slot -ℤ (t.owner +ℤ pos 1)) in
@@ -83,7 +79,7 @@ module _ (s : Stream) (page : Id) (lines : ℕ) (item : Item) (not_head : item �
 
     near_from : IsNear lines t → is_near lines t ≡ true
     near_from le = not_false (int_lt (t.owner +ℤ pos lines) t.slot) (elim (cases_bool (int_lt (t.owner +ℤ pos lines) t.slot)) as (λ _. int_lt (t.owner +ℤ pos lines) t.slot ≡ false) [
-      | inl e ↦ absurd (let lt = lt_true (t.owner +ℤ pos lines) t.slot e in omega (arith, ints))
+      | inl e ↦ absurd (let lt = is_lt (t.owner +ℤ pos lines) t.slot e in omega (arith, ints))
       | inr f ↦ f
     ])
 

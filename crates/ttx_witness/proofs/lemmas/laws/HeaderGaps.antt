@@ -1,5 +1,5 @@
 -- Whether each header of a page is followed by the next in time.
-use Rattle.std.proofs.Common.{◌≡◌, ℕ, ◌<◌, ◌≤◌, ℤ, pos, negsuc, ◌+ℤ◌, ◌-ℤ◌, ◌<ℤ◌, ◌≤ℤ◌, Bool, true, false, if◌then◌else◌, int_lt, unsigned_abs, List, [], ◌∷◌, length, slice_index_or, Option, Some, None, refl, sym, ap, ◌∙◌, subst, inl, inr, arith}
+use Rattle.std.proofs.Common.{◌≡◌, ℕ, ◌<◌, ◌≤◌, ℤ, pos, ◌+ℤ◌, ◌-ℤ◌, ◌<ℤ◌, ◌≤ℤ◌, Bool, true, false, if◌then◌else◌, int_lt, unsigned_abs, List, [], ◌∷◌, length, slice_index_or, Option, Some, None, refl, sym, ap, ◌∙◌, subst, inl, inr, arith}
 use Rattle.std.proofs.lemmas.Int.{ints}
 use Rattle.ttx_page.specs.Packets.{packet_of}
 use Rattle.ttx_page.specs.Pages.{Page}
@@ -12,18 +12,11 @@ use Rattle.ttx_witness.specs.runs.Repeating.{AreSent, IsSentAt, Tells}
 use Rattle.ttx_witness.specs.sent.ItemTransmissions.{sent_in}
 use Rattle.ttx_witness.specs.Coverage.{Certificate, limit}
 use Rattle.ttx_witness.specs.laws.JudgingLaws.{late_before, late_header, IsHeaderAnswer, HeadersAreJudged}
-use Rattle.ttx_witness.proofs.lemmas.Choices.{cases_ltz, no_both}
+use Rattle.ttx_witness.proofs.lemmas.Choices.{cases_ltz, no_both, is_lt, abs_is}
 use Rattle.ttx_witness.proofs.lemmas.sent.CycleTransmissions.{sent_told, period_of}
 
 not_lt : (a b : ℤ) → int_lt a b ≡ false → b ≤ℤ a
 not_lt a b e = omega (arith, ints)
-
-is_lt : (a b : ℤ) → int_lt a b ≡ true → a <ℤ b
-is_lt a b e = omega (arith, ints)
-
-abs_is : (a : ℤ) → pos 0 ≤ℤ a → pos (unsigned_abs a) ≡ a
-abs_is (pos n) h = refl
-abs_is (negsuc n) h = absurd (omega (arith, ints))
 
 is_false : (b : Bool) → (b ≡ true → ⊥) → b ≡ false
 is_false true h = absurd (h refl)

@@ -27,20 +27,12 @@ use Rattle.ttx_witness.proofs.lemmas.runs.FoundStarts.{starts_rise}
 use Rattle.ttx_witness.proofs.lemmas.runs.Rounds.{length_further}
 use Rattle.ttx_witness.proofs.lemmas.sent.CycleTransmissions.{period_of, sent_told, told_in_order}
 use Rattle.ttx_witness.proofs.lemmas.runs.Windows.{windows_yes}
-
--- a run has at least one transmission, and at most eight
-some_length : (repeat : ℕ) (item : Item) → 1 ≤ repeat → 1 ≤ run_length repeat item
-some_length repeat TheHead h = h
-some_length repeat (TheRow r) h = h
-some_length repeat TheLinks h = omega arith
+use Rattle.ttx_witness.proofs.lemmas.sent.RunLengths.{run_some}
 
 few_length : (repeat : ℕ) (item : Item) → repeat ≤ 8 → run_length repeat item ≤ 8
 few_length repeat TheHead h = h
 few_length repeat (TheRow r) h = h
 few_length repeat TheLinks h = omega arith
-
-length_is : (repeat : ℕ) (item : Item) → 1 ≤ repeat → run_length repeat item ≡ suc (run_length repeat item - 1)
-length_is repeat item h = let l = some_length repeat item h in omega arith
 
 -- ---- where all is sure, the first window of a period is a sure run
 
@@ -113,7 +105,7 @@ module _ (turns : EachSlotTurns) (move : StreamsMove) (cycle : List (List ℕ)) 
       from (t ∷ ts) e told =
           let f = some_found (length cycle) (run_length repeat item - 1) t ts (told_sure (IsOwned (repeated cycle) page item) (IsSure (repeated cycle) lines page.mag item) all (pos 0) (pos (length cycle)) (t ∷ ts) told) in (
             f.0,
-            (sure_starts_are_found cycle some page lines repeat item (run_length repeat item - 1) (length_is repeat item one) f.0).0
+            (sure_starts_are_found cycle some page lines repeat item (run_length repeat item - 1) (run_some repeat item one) f.0).0
                 (subst (λ us. Contains (sure_starts (runs (length cycle) (run_length repeat item - 1) us)) f.0) (sym e) f.1),
           )
 
@@ -205,7 +197,7 @@ module _ (turns : EachSlotTurns) (move : StreamsMove) (near : OwnersAreNear) (cy
   all_cover : (p : Page) (class : Class) (lines repeat deadline : ℕ) (item : Item) → 1 ≤ repeat → repeat ≤ 8 → IsLongEnough cycle lines deadline → HasSureStart cycle p.id lines repeat item →
       IsCovered cycle p (numbered class lines repeat deadline (starts_of cycle lines repeat)) item
   all_cover p class lines repeat deadline item one eight long start =
-      let found = sure_starts_are_found cycle some p.id lines repeat item (run_length repeat item - 1) (length_is repeat item one) in
+      let found = sure_starts_are_found cycle some p.id lines repeat item (run_length repeat item - 1) (run_some repeat item one) in
       further_starts_cover cycle p (numbered class lines repeat deadline (λ id i. start.0 ∷ [])) (numbered class lines repeat deadline (starts_of cycle lines repeat)) item refl refl refl
       (λ x h. subst (Contains (starts_of cycle lines repeat p.id item)) (only_one start.0 x h) ((found start.0).1 start.1))
       (λ x h. (found x).0 h)
@@ -234,7 +226,7 @@ module _ (turns : EachSlotTurns) (move : StreamsMove) (near : OwnersAreNear) (cy
   either p class lines repeat deadline item one eight long header (inr blank) (x ∷ xs) e =
       let named : Contains (starts_of cycle lines repeat p.id item) x = subst (λ l. Contains l x) (sym e) (0, omega arith, refl) in
       inl (all_cover p class lines repeat deadline item one eight long
-      (x, (sure_starts_are_found cycle some p.id lines repeat item (run_length repeat item - 1) (length_is repeat item one) x).0 named))
+      (x, (sure_starts_are_found cycle some p.id lines repeat item (run_length repeat item - 1) (run_some repeat item one) x).0 named))
 
 pub sure_items_are_accepted : EachSlotTurns → StreamsMove → OwnersAreNear → SureItemsAreAccepted
 sure_items_are_accepted turns move near cycle pages class lines repeat deadline some few l1 l32 one eight d1 dm long unchanged sent = record {

@@ -8,7 +8,7 @@ use Rattle.std.proofs.lemmas.Bool.Decides.{nat_tests}
 use Rattle.std.proofs.lemmas.List.Elements.{Contains-get_or, at_from_Contains}
 use Rattle.ttx_page.specs.Pages.{Page, needed}
 use Rattle.ttx_page.specs.declared.item.Item.{Item}
-use Rattle.ttx_page.specs.declared.item.Item.TheVariants.{Head as TheHead, Row as TheRow, Links as TheLinks}
+use Rattle.ttx_page.specs.declared.item.Item.TheVariants.{Head as TheHead}
 use Rattle.ttx_page.specs.Laws.{OwnersAreUnique, OwnersDontFall, RunsRise, CyclesRepeat, StreamsMove}
 use Rattle.ttx_page.specs.Streams.{repeated, turned, run_length, IsOwned, IsRun, EndsBelow}
 use Rattle.ttx_witness.specs.runs.Confirming.{Rising, late_after}
@@ -20,6 +20,7 @@ use Rattle.ttx_witness.specs.faults.Reasons.{LateAt, LateBlankAt}
 use Rattle.ttx_witness.specs.runs.Repeating.{next_start}
 use Rattle.ttx_witness.specs.sent.ItemTransmissions.{sent_in}
 use Rattle.ttx_witness.proofs.lemmas.Choices.{if_ind, cases_ltz}
+use Rattle.ttx_witness.proofs.lemmas.sent.RunLengths.{some_run}
 
 pub record StartLaws : Type 0 where
   pub judged : ItemsAreJudged
@@ -28,11 +29,6 @@ pub record StartLaws : Type 0 where
   pub rise : RunsRise
   pub period : CyclesRepeat
   pub move : StreamsMove
-
-some_run : (repeat : ℕ) (item : Item) → 1 ≤ repeat → 1 ≤ run_length repeat item
-some_run repeat TheHead h = h
-some_run repeat (TheRow r) h = h
-some_run repeat TheLinks h = omega arith
 
 -- ---- the next named start
 

@@ -1,12 +1,10 @@
 -- What is kept after one more slot.
-use Rattle.std.proofs.Common.{◌≡◌, ◌↔◌, ℕ, zero, suc, ◌<◌, ℤ, pos, ◌+ℤ◌, int_lt, Bool, true, false, not, ◌&&◌, ◌==◌, if◌then◌else◌, List, [], ◌∷◌, ◌++◌, length, map, slice_get, nat_le, Option, Some, None, refl, sym, ap, ◌∙◌, subst, arith}
+use Rattle.std.proofs.Common.{◌≡◌, ◌↔◌, ℕ, suc, ◌<◌, ℤ, pos, ◌+ℤ◌, int_lt, Bool, true, false, not, ◌&&◌, ◌==◌, if◌then◌else◌, List, [], ◌∷◌, ◌++◌, length, nat_le, Option, Some, None, refl, sym, ap, ◌∙◌, subst, arith}
 use Rattle.std.proofs.lemmas.Bool.Decides.{nat_tests}
 use Rattle.ttx_header.specs.Ids.{Id}
 use Rattle.ttx_header.specs.Control.{c10}
 use Rattle.ttx_page.specs.Packets.{Packet, packet_of}
 use Rattle.ttx_page.specs.Pages.{Page, needed, page_row, is_hidden}
-use Rattle.ttx_page.specs.Views.{page_of}
-use Rattle.ttx_page.specs.declared.page.Page.{Page as PageValue}
 use Rattle.ttx_page.specs.declared.item.Item.{Item}
 use Rattle.ttx_page.specs.declared.item.Item.TheVariants.{Head as TheHead, Row as TheRow, Links as TheLinks}
 use Rattle.ttx_page.specs.Streams.{repeated, run_length, heads_page, carries}
@@ -15,7 +13,7 @@ use Rattle.ttx_witness.specs.declared.faults.comparing.Check.{Check}
 use Rattle.ttx_witness.specs.declared.faults.comparing.Check.TheVariants.{EraseBit, Head as CheckHead, Row as CheckRow, Links as CheckLinks}
 use Rattle.ttx_witness.specs.Coverage.{Certificate, IsCertificate, limit}
 use Rattle.ttx_witness.specs.sent.ItemTransmissions.{PageOwner, owner_scan, sent_under, sent_at, sent_scan}
-use Rattle.ttx_witness.specs.sent.Collected.{IsItem, ids_of, item_number, place_of_item}
+use Rattle.ttx_witness.specs.sent.Collected.{IsItem, item_number, place_of_item}
 use Rattle.ttx_witness.specs.faults.Comparing.{is_mine, compared_item, sends, IsWrong}
 use Rattle.ttx_witness.specs.faults.OtherSubpages.{first_of}
 use Rattle.ttx_witness.proofs.lemmas.Choices.{and_left, and_right}
@@ -29,11 +27,6 @@ use Rattle.ttx_witness.specs.passes.PageFacts.{FirstBelow, SendsWrong, SendsWron
 use Rattle.ttx_witness.proofs.lemmas.passes.SentPlaces.{placed_more}
 use Rattle.ttx_witness.proofs.lemmas.sent.ItemPlaces.{placed_item}
 use Rattle.ttx_witness.proofs.lemmas.passes.GrowingLists.{one_longer, here, same_before, owner_before, sent_grown, below_same, below_more}
-
-pub id_of_page : (pages : List PageValue) (i : ℕ) (p : Page) → slice_get (map page_of pages) i ≡ Some p → slice_get (ids_of pages) i ≡ Some p.id
-id_of_page [] i p e = let h : None ≡ Some p = e in cc
-id_of_page (q ∷ pages) zero p e = let h : page_of q ≡ p = cc in ap (λ x. Some x.id) h
-id_of_page (q ∷ pages) (suc i) p e = id_of_page pages i p e
 
 -- a run has eight transmissions at most
 pub short_run : (w : Certificate) → IsCertificate w → (item : Item) (k : ℕ) → run_length w.repeat item ≡ suc k → k < 8
@@ -114,9 +107,6 @@ module _ (w : Certificate) (is : IsCertificate w) (p : Page) (i : ℕ) (sent : O
       sent_some i item sent ∙ ap some_of (told item it) ∙ sends_some p.id w.lines item k (packet_of z) owner
       ∙ ap (λ x. sends p.id item (packet_of x) (is_mine owner)) (sym (here y z))
       ∙ ap (λ o. sends p.id item (packet_of (repeated more (pos (length y)))) (is_mine o)) (right ∙ sym (owner_before y z p.id entry (length y) (omega arith)))
-
-  check_item : (check : Check) → Type 0
-  check_item check = IsItem (compared_item check)
 
   -- what was wrong below stays
   wrong_before : (check : Check) (j : ℕ) → j < length y → SendsWrong p (repeated y) entry check j ↔ SendsWrong p (repeated more) entry check j

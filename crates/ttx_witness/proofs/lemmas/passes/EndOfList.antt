@@ -3,7 +3,6 @@ use Rattle.std.proofs.Common.{◌≡◌, ℕ, ◌-◌, ◌≤◌, pos, ◌-ℤ�
 use Rattle.ttx_page.specs.Pages.{Page}
 use Rattle.ttx_page.specs.Streams.{run_length}
 use Rattle.ttx_page.specs.declared.item.Item.{Item}
-use Rattle.ttx_page.specs.declared.item.Item.TheVariants.{Head as TheHead, Row as TheRow, Links as TheLinks}
 use Rattle.ttx_witness.specs.runs.Transmissions.{runs}
 use Rattle.ttx_witness.specs.runs.Confirming.{after_runs, not_begun}
 use Rattle.ttx_witness.specs.declared.runs.confirming.Progress.{Progress}
@@ -16,11 +15,6 @@ use Rattle.ttx_witness.specs.sent.ItemTransmissions.{owner_scan, owner_moved, en
 use Rattle.ttx_witness.specs.sent.Collected.{owner_for}
 use Rattle.ttx_witness.specs.declared.sent.owners.Owner.{Owner}
 use Rattle.ttx_witness.proofs.lemmas.passes.ReturningOwners.{steady_entry, own_entry}
-
-pub some_run : (repeat : ℕ) (item : Item) → 1 ≤ repeat → 1 ≤ run_length repeat item
-some_run repeat TheHead h = h
-some_run repeat (TheRow r) h = h
-some_run repeat TheLinks h = omega arith
 
 pub progress_told : (y : List (List ℕ)) (p : Page) (w : Certificate) (item : Item) (starts : List ℕ) (lim period repeat : ℕ) (progress : Progress) →
     starts ≡ w.starts p.id item → lim ≡ limit w → period ≡ length y → repeat ≡ run_length w.repeat item →

@@ -14,10 +14,10 @@ use Rattle.ttx_witness.specs.declared.faults.subcodes.Subcodes.TheVariants.{Unli
 use Rattle.ttx_witness.specs.faults.Comparing.{WrongAt}
 use Rattle.ttx_witness.specs.faults.Faults.{AreFirst, TellsFirst}
 use Rattle.ttx_witness.specs.sent.ItemTransmissions.{sent_in, entry_owner}
-use Rattle.ttx_witness.specs.faults.OtherSubpages.{place, AreSubcodes, AreAllSubcodes, IsStrayAt}
+use Rattle.ttx_witness.specs.faults.OtherSubpages.{place, AreSubcodes, AreAllSubcodes, HeadsOtherAt}
 use Rattle.ttx_witness.proofs.lemmas.faults.FirstSlots.{tells_same, erased_is, head_is, links_are}
 use Rattle.ttx_witness.proofs.lemmas.faults.FirstWrongSent.{headers_sent}
-use Rattle.ttx_witness.proofs.lemmas.faults.OtherSubpages.{stray_is, first_all}
+use Rattle.ttx_witness.proofs.lemmas.faults.OtherSubpages.{other_is, first_all}
 use Rattle.ttx_witness.specs.declared.passes.page_facts.Facts.{Facts}
 use Rattle.ttx_witness.specs.declared.passes.page_facts.Heads.{Heads}
 use Rattle.ttx_witness.specs.declared.passes.ending.EndedPass.{EndedPass}
@@ -40,24 +40,24 @@ module _ (ended : EndedPass) (y : List (List ℕ)) (kept : IsEnded ended y) (n :
   some : 1 ≤ length y
   some = let s = kept.cycle.some in omega arith
 
-  abbrev stray : Option ℕ
-  stray = get_or ended.strays.first.items (place p.id.mag p.id.page) None
+  abbrev other : Option ℕ
+  other = get_or ended.others.first.items (place p.id.mag p.id.page) None
 
-  stray_first : TellsFirst y (OtherSubpageAt (repeated y) (ended_pages ended) p) stray
-  stray_first =
-      let table = ended.strays.subcodes.items in
+  other_first : TellsFirst y (OtherSubpageAt (repeated y) (ended_pages ended) p) other
+  other_first =
+      let table = ended.others.subcodes.items in
       let here : AreSubcodes (ended_pages ended) (length (ended_pages ended)) p.id.mag p.id.page (get_or table (place p.id.mag p.id.page) Unlisted) =
       subst (λ k. AreAllSubcodes (ended_pages ended) k table) (sym (length-map ended.pages.now page_of)) kept.subcodes p.id.mag p.id.page is.mag_from is.mag_to is.page in
-      tells_same y (IsStrayAt table (repeated y) p.id.mag p.id.page) (OtherSubpageAt (repeated y) (ended_pages ended) p) (stray_is (ended_pages ended) p n at (slice_get_within (ended_pages ended) n p at) table (repeated y) here) stray
-      (first_all y some table p.id.mag p.id.page stray (kept.strays p.id.mag p.id.page is.mag_from is.mag_to is.page))
+      tells_same y (HeadsOtherAt table (repeated y) p.id.mag p.id.page) (OtherSubpageAt (repeated y) (ended_pages ended) p) (other_is (ended_pages ended) p n at (slice_get_within (ended_pages ended) n p at) table (repeated y) here) other
+      (first_all y some table p.id.mag p.id.page other (kept.others p.id.mag p.id.page is.mag_from is.mag_to is.page))
 
   pub facts_first : (f : Facts) → AreFacts (ended_certificate ended) p (repeated y) (entry_owner y p.id) (length y) f →
-      AreFirst y (ended_pages ended) p (record { has_header = is_some f.heads; other_subpage = stray; erased = f.erased; head = f.head; row = f.row; links = f.links })
+      AreFirst y (ended_pages ended) p (record { has_header = is_some f.heads; other_subpage = other; erased = f.erased; head = f.head; row = f.row; links = f.links })
   facts_first f a =
       let s = repeated y in
       record {
         has_header = subst (λ h. IsTrue (is_some h) ↔ HasHeader s p.id) (sym a.heads) (heads_are _ (sent_in y p.id (ended_certificate ended).lines TheHead) (HasHeader s p.id) (headers_sent y some p.id (ended_certificate ended).lines (sent_in y p.id (ended_certificate ended).lines TheHead) refl));
-        other_subpage = stray_first;
+        other_subpage = other_first;
         erased = tells_same y (WrongAt s p EraseBit) (ErasedAt s p) (erased_is s p) f.erased (wrong_first y some p EraseBit f.erased a.erased);
         head = tells_same y (WrongAt s p CheckHead) (HeadDiffersAt s p) (head_is s p) f.head (wrong_first y some p CheckHead f.head a.head);
         row = row_first y some p f.row a.row;

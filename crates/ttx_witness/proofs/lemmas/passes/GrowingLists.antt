@@ -8,7 +8,7 @@ use Rattle.ttx_page.specs.declared.item.Item.{Item}
 use Rattle.ttx_page.specs.Streams.{Stream, repeated}
 use Rattle.ttx_witness.specs.declared.runs.transmissions.Transmission.{Transmission}
 use Rattle.ttx_witness.specs.sent.ItemTransmissions.{PageOwner, owner_after, owner_scan, sent_at, sent_scan}
-use Rattle.ttx_witness.specs.faults.OtherSubpages.{TellsBelow, first_of, is_stray, IsStrayAt}
+use Rattle.ttx_witness.specs.faults.OtherSubpages.{TellsBelow, first_of, heads_other, HeadsOtherAt}
 use Rattle.ttx_witness.specs.declared.faults.subcodes.Subcodes.{Subcodes}
 use Rattle.ttx_witness.proofs.lemmas.faults.OtherSubpages.{first_more}
 use Rattle.ttx_witness.specs.passes.PageFacts.{FirstBelow}
@@ -103,17 +103,17 @@ tells_same P Q n same None f = λ j lt q. f j lt ((same j lt).1 q)
 tells_same P Q n same (Some i) f = (f.0, (same i f.0).0 f.1, (λ j lt q. let l = f.0 in f.2 j lt ((same j (omega arith)).1 q)))
 
 -- headers of other subpages
-pub strays_more : (table : List Subcodes) (mag number : ℕ) (y : List (List ℕ)) (z : List ℕ) (old new : Option ℕ) (j : ℕ) → j ≡ length y → new ≡ first_of old (is_stray table mag number (packet_of z)) j →
-    TellsBelow (IsStrayAt table (repeated y) mag number) (length y) old → TellsBelow (IsStrayAt table (repeated (y ++ z ∷ [])) mag number) (length (y ++ z ∷ [])) new
-strays_more table mag number y z old new j e n t =
-    let P : ℤ → Type 0 = IsStrayAt table (repeated (y ++ z ∷ [])) mag number in
-    let at = ap (λ x. is_stray table mag number (packet_of x)) (here y z) in
+pub others_more : (table : List Subcodes) (mag number : ℕ) (y : List (List ℕ)) (z : List ℕ) (old new : Option ℕ) (j : ℕ) → j ≡ length y → new ≡ first_of old (heads_other table mag number (packet_of z)) j →
+    TellsBelow (HeadsOtherAt table (repeated y) mag number) (length y) old → TellsBelow (HeadsOtherAt table (repeated (y ++ z ∷ [])) mag number) (length (y ++ z ∷ [])) new
+others_more table mag number y z old new j e n t =
+    let P : ℤ → Type 0 = HeadsOtherAt table (repeated (y ++ z ∷ [])) mag number in
+    let at = ap (λ x. heads_other table mag number (packet_of x)) (here y z) in
     let l : length y + 1 ≡ length (y ++ z ∷ []) = (let k = one_longer y z in omega arith) in
     subst (λ m. TellsBelow P m new) l
-    (subst (TellsBelow P (length y + 1)) (sym (n ∙ ap (first_of old (is_stray table mag number (packet_of z))) e))
-    (first_more P (length y) (is_stray table mag number (packet_of z)) ((λ h. at ∙ h), (λ h. sym at ∙ h)) old
-    (tells_same (IsStrayAt table (repeated y) mag number) P (length y)
-    (λ i lt. let s = ap (λ x. is_stray table mag number (packet_of x)) (same_before y z i lt) in ((λ h. s ∙ h), (λ h. sym s ∙ h))) old t)))
+    (subst (TellsBelow P (length y + 1)) (sym (n ∙ ap (first_of old (heads_other table mag number (packet_of z))) e))
+    (first_more P (length y) (heads_other table mag number (packet_of z)) ((λ h. at ∙ h), (λ h. sym at ∙ h)) old
+    (tells_same (HeadsOtherAt table (repeated y) mag number) P (length y)
+    (λ i lt. let s = ap (λ x. heads_other table mag number (packet_of x)) (same_before y z i lt) in ((λ h. s ∙ h), (λ h. sym s ∙ h))) old t)))
 
 pub all_more : (P : List ℕ → Type 0) (y : List (List ℕ)) (z : List ℕ) → All P y → P z → All P (y ++ z ∷ [])
 all_more P [] z a p zero d lt = p

@@ -89,7 +89,7 @@ kept_same pass a b y same k = record {
     each = λ i p item at it. k.sent.each i p item at it ∙ ap (λ e. sent_scan p.id (certificate pass).lines item (repeated y) e (length y)) (same i p at);
   };
   facts = λ i p at. subst (λ e. HoldsAt Facts pass.facts.items i (AreFacts (certificate pass) p (repeated y) e (length y))) (same i p at) (k.facts i p at);
-  strays = k.strays;
+  others = k.others;
 }
 
 -- the first wrong slot of a period is the stream's

@@ -1,8 +1,6 @@
 -- The least limit in which runs follow in time, and the least deadline.
-use Rattle.std.proofs.Common.{◌≡◌, ◌↔◌, ℕ, suc, ◌+◌, ◌-◌, ◌*◌, ◌/◌, ◌≤◌, max, ℤ, pos, negsuc, ◌+ℤ◌, ◌-ℤ◌, ◌≤ℤ◌, List, [], ◌∷◌, inl, inr, arith}
+use Rattle.std.proofs.Common.{◌↔◌, ℕ, ◌≤◌, max, ℤ, pos, negsuc, ◌+ℤ◌, ◌-ℤ◌, ◌≤ℤ◌, List, [], ◌∷◌, arith}
 use Rattle.std.proofs.lemmas.Int.{ints}
-use Rattle.std.proofs.lemmas.Bool.{cases_lt}
-use Rattle.std.proofs.Math.Nat.{le-div_iff_mul-le}
 use Rattle.ttx_witness.specs.runs.Transmissions.{Run}
 use Rattle.ttx_witness.specs.runs.Repeating.{FollowInTime}
 use Rattle.ttx_witness.specs.runs.SureStarts.{above_zero}
@@ -25,21 +23,3 @@ in_step_widest window r (q ∷ rs) =
       (λ h. let g : q.end ≤ℤ (r.owner +ℤ pos window) = h.0 in let x = a.0 (omega (arith, ints)) in let y = i.0 h.1 in omega arith),
       (λ h. let x = a.1 (omega arith) in ((let m : q.end ≤ℤ (r.owner +ℤ pos window) = omega (arith, ints) in m), i.1 (omega arith))),
     )
-
--- the least deadline in fields
-pub least_fields : (width lines d : ℕ) → 1 ≤ lines → 1 ≤ d → (width ≤ d * lines) ↔ (max 1 ((width + (lines - 1)) / lines) ≤ d)
-least_fields width lines d some one = (
-  (λ h. elim (cases_lt d q) as (λ _. max 1 q ≤ d) [
-    | inl lt ↦ let k : suc d * lines ≤ width + (lines - 1) = (le-div_iff_mul-le {k = lines} {x = suc d} {y = width + (lines - 1)} some).0 lt in
-        let e : suc d * lines ≡ d * lines + lines = omega arith in absurd (omega arith)
-    | inr ge ↦ omega arith
-  ]),
-  (λ h. elim (cases_lt (d * lines) width) as (λ _. width ≤ d * lines) [
-    | inl lt ↦ let e : suc d * lines ≡ d * lines + lines = omega arith in
-        let k : suc d ≤ q = (le-div_iff_mul-le {k = lines} {x = suc d} {y = width + (lines - 1)} some).1 (omega arith) in absurd (omega arith)
-    | inr ge ↦ ge
-  ]),
-)
-  where
-    q : ℕ
-    q = (width + (lines - 1)) / lines

@@ -1,5 +1,5 @@
 -- One transmission more, in what is held of them.
-use Rattle.std.proofs.Common.{◌≡◌, ℕ, zero, suc, ◌+◌, ◌-◌, ◌<◌, ◌≤◌, if◌then◌else◌, ◌==◌, nat_lt, List, [], ◌∷◌, ◌++◌, Option, Some, None, map, take, drop, length, refl, sym, ap, ◌∙◌, subst, inl, inr, arith, length-append, slice_get, eqb-true, eq-eqb, remove, unsigned_abs}
+use Rattle.std.proofs.Common.{◌≡◌, ℕ, zero, suc, ◌+◌, ◌-◌, ◌<◌, ◌≤◌, if◌then◌else◌, ◌==◌, nat_lt, List, [], ◌∷◌, ◌++◌, Option, Some, None, map, take, drop, length, refl, sym, ap, ◌∙◌, subst, inl, inr, arith, length-append, slice_get, eqb-true, eq-eqb, unsigned_abs}
 use Rattle.std.proofs.lemmas.List.{map-append, take-append-le, length-take-le, length-drop, drop-append-le, drop-drop}
 use Rattle.std.proofs.lemmas.Bool.{cases_lt}
 use Rattle.std.proofs.lemmas.Bool.Decides.{nat_tests}
@@ -38,21 +38,6 @@ keep_step {A} k ts t h = elim (cases_lt (length ts) k) as (λ _. keep_last k (ke
       let many : length (ts ++ t ∷ []) - k ≡ d + 1 = omega arith in
       ap (λ m. drop m (drop d ts ++ t ∷ [])) one ∙ ap (drop 1) (sym (drop-append-le d ts (t ∷ []) (omega arith))) ∙ drop-drop 1 d (ts ++ t ∷ []) ∙ ap (λ m. drop m (ts ++ t ∷ [])) (sym many)
 ]
-
--- one that is full loses its first
-pub full_step : {A : Type 0} (n : ℕ) (xs : List A) (t : A) → 1 ≤ length xs → length xs ≡ n → remove xs 0 ++ t ∷ [] ≡ keep_last n (xs ++ t ∷ [])
-full_step n [] t some e = absurd (omega arith)
-full_step n (x ∷ xs) t some e =
-    let l = length-append (x ∷ xs) (t ∷ []) in
-    let one : length ((x ∷ xs) ++ t ∷ []) - n ≡ 1 = omega arith in
-    ap (λ m. drop m ((x ∷ xs) ++ t ∷ [])) (sym one)
-
--- and one that isn't, none
-pub room_step : {A : Type 0} (n : ℕ) (xs : List A) (t : A) → length xs < n → xs ++ t ∷ [] ≡ keep_last n (xs ++ t ∷ [])
-room_step n xs t lt =
-    let l = length-append xs (t ∷ []) in
-    let none : length (xs ++ t ∷ []) - n ≡ 0 = omega arith in
-    ap (λ m. drop m (xs ++ t ∷ [])) (sym none)
 
 pub few_kept : {A : Type 0} (n : ℕ) (ts xs : List A) → xs ≡ keep_last n ts → length xs ≤ n
 few_kept n ts xs e = let l : length xs ≡ length ts - (length ts - n) = ap length e ∙ length-drop (length ts - n) ts in omega arith

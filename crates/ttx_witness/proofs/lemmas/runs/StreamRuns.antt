@@ -81,9 +81,6 @@ module _ (Owned Sure : ℤ → ℤ → Type 0) where
       );
     }
 
-    pub sent_later : (x : ℤ) → Sent x → Sent (x +ℤ pos n)
-    sent_later x a = record { owner = a.owner +ℤ pos n; owned = law.owned_later a.owner x a.owned }
-
     pub sent_earlier : (x : ℤ) → Sent (x +ℤ pos n) → Sent x
     sent_earlier x a = record { owner = a.owner -ℤ pos n; owned = subst (Owned (a.owner -ℤ pos n)) (back x) (law.owned_earlier a.owner (x +ℤ pos n) a.owned) }
 

@@ -10,7 +10,7 @@ use Rattle.ttx_witness.specs.runs.Confirming.{Rising}
 use Rattle.ttx_witness.specs.runs.Repeating.{Repeats, AreSent, BeginsSureRun, IsRunOf, IsNamed, Covers}
 use Rattle.ttx_witness.specs.runs.SureStarts.{Spread, sure_runs, sure_starts, spread_after, spread_of, above_zero, width}
 use Rattle.ttx_witness.specs.laws.RunLaws.{IsLeastLimit}
-use Rattle.ttx_witness.proofs.lemmas.Choices.{if_ind, no_both, cases_bool}
+use Rattle.ttx_witness.proofs.lemmas.Choices.{if_ind, no_both, cases_bool, abs_is}
 use Rattle.ttx_witness.proofs.lemmas.runs.ConfirmedStarts.{named_at, Matches, is_next_of, RisesFrom, NoneFor}
 use Rattle.ttx_witness.proofs.lemmas.runs.Coverage.{named_up, named_down, named_is, named_in, more_cover}
 use Rattle.ttx_witness.proofs.lemmas.runs.LeastLimits.{widest, in_step_widest}
@@ -41,9 +41,6 @@ rises_sure low (r ∷ rs) u = if_ind (RisesFrom low) r.sure (r ∷ sure_runs rs)
 
 abbrev starts_of : List Run → List ℕ
 starts_of qs = map (λ r. unsigned_abs r.start) qs
-
-abs_is : (z : ℤ) → pos 0 ≤ℤ z → pos (unsigned_abs z) ≡ z
-abs_is z h = omega (arith, ints)
 
 -- starts that rise as runs do
 above_all : (low : ℤ) (qs : List Run) → pos 0 ≤ℤ low → RisesFrom low qs → (j : ℕ) → j < length (starts_of qs) → low ≤ℤ named_at (starts_of qs) j

@@ -1,5 +1,5 @@
 -- The lists of all items of all pages, before the first slot and after the last.
-use Rattle.std.proofs.Common.{◌≡◌, ℕ, zero, suc, ◌+◌, ◌*◌, ◌/◌, ◌%◌, ◌<◌, ◌≤◌, ℤ, pos, List, [], ◌∷◌, ◌++◌, map, length, get_or, slice_get, Vec, Global, Option, Some, None, refl, sym, ap, ◌∙◌, subst, inl, inr, arith, mod-lt}
+use Rattle.std.proofs.Common.{◌≡◌, ℕ, zero, suc, ◌+◌, ◌*◌, ◌/◌, ◌%◌, ◌<◌, ◌≤◌, ℤ, pos, List, [], ◌∷◌, ◌++◌, map, length, get_or, slice_get, Vec, Global, Option, Some, refl, sym, ap, ◌∙◌, subst, inl, inr, arith, mod-lt}
 use Rattle.std.specs.List.{All, AllByRecursion}
 use Rattle.std.proofs.lemmas.List.{length-map}
 use Rattle.std.proofs.lemmas.Option.{slice_get_cases}
@@ -8,7 +8,6 @@ use Rattle.std.proofs.Math.ListN.{get_or-eq_default}
 use Rattle.ttx_header.specs.Ids.{Id, IsId}
 use Rattle.ttx_cycle.specs.Files.{IsCycle}
 use Rattle.ttx_page.specs.Packets.{packet_of}
-use Rattle.ttx_page.specs.Pages.{Page}
 use Rattle.ttx_page.specs.Views.{page_of}
 use Rattle.ttx_page.specs.Streams.{Stream, repeated}
 use Rattle.ttx_page.specs.declared.page.Page.{Page as PageValue}
@@ -23,6 +22,7 @@ use Rattle.ttx_witness.specs.declared.sent.collected.Collected.{Collected}
 use Rattle.ttx_witness.proofs.lemmas.sent.EntryOwners.{slot_here}
 use Rattle.ttx_witness.proofs.lemmas.sent.ListsInPlaces.{held_is}
 use Rattle.ttx_witness.proofs.lemmas.sent.FirstPeriod.{after_within, after_in_order}
+use Rattle.ttx_witness.proofs.lemmas.sent.PageIndexes.{id_of_page}
 
 abbrev Lists : Type 0
 Lists = List (Vec Transmission Global)
@@ -63,7 +63,7 @@ place_below i TheHead n lt is = omega arith
 place_below i (TheRow r) n lt is = omega arith
 place_below i TheLinks n lt is = omega arith
 
--- the item in a place_of_item
+-- the item in a place
 item_for : (r : ℕ) → r < 26 → (item : Item) × IsItem item × (item_number item ≡ r)
 item_for r lt = elim (cases_lt 0 r) as (λ _. (item : Item) × IsItem item × (item_number item ≡ r)) [
   | inr low ↦ (TheHead, tt, (let e : 0 ≡ r = omega arith in e))
@@ -116,17 +116,12 @@ all_sent pages are before cycle lines c a = record {
   count = let l = length-map pages (λ p. (page_of p).id) in let m = length-map pages page_of in let n = a.count in omega arith;
   each = λ i p item at is. let e : slice_get (ids_of pages) i ≡ Some p.id = id_of_page pages i p at in a.each i p.id item e (are i p.id e) is;
 }
-  where
-    id_of_page : (pages : List PageValue) (i : ℕ) (p : Page) → slice_get (map page_of pages) i ≡ Some p → slice_get (ids_of pages) i ≡ Some p.id
-    id_of_page [] i p e = let h : None ≡ Some p = e in cc
-    id_of_page (q ∷ pages) zero p e = let h : page_of q ≡ p = cc in ap (λ x. Some x.id) h
-    id_of_page (q ∷ pages) (suc i) p e = id_of_page pages i p e
 
 pub all_by_recursion : {A : Type 0} (P : A → Type 0) (xs : List A) → All P xs → AllByRecursion P xs
 all_by_recursion P [] h = tt
 all_by_recursion P (x ∷ xs) h = (h zero x (omega arith), all_by_recursion P xs (λ k d lt. h (suc k) d (omega arith)))
 
--- the list that is read in a place_of_item
+-- the list that is read in a place
 pub held_read : (vs : Lists) (i n : ℕ) (item : Item) (v : Vec Transmission Global) (ts : List Transmission) → ts ≡ v.items → n ≡ item_number item → IsItem item → i < length vs / 26 →
     v ≡ get_or vs (26 * i + n) v → ts ≡ held vs (place_of_item i item)
 held_read vs i n item v ts t e is below read =

@@ -9,7 +9,7 @@ use Rattle.ttx_witness.specs.sent.Collected.{IsItem, item_number, place_of_item}
 use Rattle.ttx_witness.specs.sent.OneSlot.{sent_of, sends_place, placed_at}
 use Rattle.ttx_witness.specs.declared.runs.transmissions.Transmission.{Transmission}
 use Rattle.ttx_witness.specs.declared.sent.one_slot.Sent.{Sent}
-use Rattle.ttx_witness.proofs.lemmas.Choices.{and_right, cases_bool, no_both}
+use Rattle.ttx_witness.proofs.lemmas.Choices.{and_right, cases_bool, no_both, and_left}
 
 pub item_small : (item : Item) → IsItem item → item_number item < 26
 item_small TheHead is = omega arith
@@ -33,19 +33,11 @@ same_place i page number item is lt = bool_same _ _
     (λ e. elim (cases_bool (item_number item == number)) as (λ _. (place_of_item i item == 26 * page + number) ≡ true) [
       | inl p ↦
           let a : item_number item ≡ number = eqb-true _ _ p in
-          let b : page ≡ i = eqb-true _ _ (second (item_number item == number) (page == i) e) in
+          let b : page ≡ i = eqb-true _ _ (and_right (item_number item == number) (page == i) e) in
           let r : place_of_item i item ≡ 26 * page + number = omega arith in
           eq-eqb _ _ r
-      | inr p ↦ absurd (no_both _ (first (item_number item == number) (page == i) e) p)
+      | inr p ↦ absurd (no_both _ (and_left (item_number item == number) (page == i) e) p)
     ])
-  where
-    second : (a b : Bool) → (a && b) ≡ true → b ≡ true
-    second true b h = h
-    second false b h = cc
-
-    first : (a b : Bool) → (a && b) ≡ true → a ≡ true
-    first true b h = refl
-    first false b h = h
 
 -- a slot, by page and number
 pub placed_item : (i : ℕ) (item : Item) → IsItem item → (sent : Option Sent) → placed_at (place_of_item i item) sent ≡ sent_of i item sent
@@ -71,14 +63,14 @@ pub one_place : (m n : ℕ) (sent : Option Sent) → sends_place m sent ≡ true
 one_place m n None e f = cc
 one_place m n (Some s) e f = eqb-true _ _ (and_right (nat_lt s.number 26) _ e) ∙ sym (eqb-true _ _ (and_right (nat_lt s.number 26) _ f))
 
--- a list that grows by what is sent, where this is the item of its place_of_item
-pub placed_added : (place_of_item n : ℕ) (s : Sent) (ts : List Transmission) → sends_place place_of_item (Some s) ≡ true → (if n == place_of_item then ts ++ s.transmission ∷ [] else ts) ≡ ts ++ placed_at n (Some s)
-placed_added place_of_item n s ts here = elim (cases_bool (n == place_of_item)) as (λ _. (if n == place_of_item then ts ++ s.transmission ∷ [] else ts) ≡ ts ++ placed_at n (Some s)) [
+-- a list that grows by what is sent, where this is the item of its place
+pub placed_added : (place n : ℕ) (s : Sent) (ts : List Transmission) → sends_place place (Some s) ≡ true → (if n == place then ts ++ s.transmission ∷ [] else ts) ≡ ts ++ placed_at n (Some s)
+placed_added place n s ts here = elim (cases_bool (n == place)) as (λ _. (if n == place then ts ++ s.transmission ∷ [] else ts) ≡ ts ++ placed_at n (Some s)) [
   | inl e ↦
-      let sends : sends_place n (Some s) ≡ true = ap (λ m. sends_place m (Some s)) (eqb-true n place_of_item e) ∙ here in
+      let sends : sends_place n (Some s) ≡ true = ap (λ m. sends_place m (Some s)) (eqb-true n place e) ∙ here in
       rw e (ap (λ b. ts ++ (if b then s.transmission ∷ [] else [])) (sym sends))
   | inr e ↦
-      let silent = never n (λ sends. no_both (n == place_of_item) (eq-eqb n place_of_item (one_place n place_of_item (Some s) sends here)) e) in
+      let silent = never n (λ sends. no_both (n == place) (eq-eqb n place (one_place n place (Some s) sends here)) e) in
       rw e (sym (append-nil ts) ∙ ap (λ b. ts ++ (if b then s.transmission ∷ [] else [])) (sym silent))
 ]
   where

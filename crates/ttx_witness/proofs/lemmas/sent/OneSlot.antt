@@ -16,16 +16,8 @@ use Rattle.ttx_witness.specs.runs.Transmissions.{Transmission}
 use Rattle.ttx_witness.specs.sent.ItemTransmissions.{PageOwner, sent_under, sent_at}
 use Rattle.ttx_witness.specs.sent.Collected.{is_page, seen_by, Finds, owner_for, IsForeign, AreApart, IsItem, item_number}
 use Rattle.ttx_witness.specs.declared.sent.owners.Owner.{Owner}
-use Rattle.ttx_witness.proofs.lemmas.Choices.{if_ind, no_both, cases_bool}
+use Rattle.ttx_witness.proofs.lemmas.Choices.{if_ind, no_both, cases_bool, if_true, if_false}
 use Rattle.ttx_witness.proofs.lemmas.sent.OwnersAfterSlot.{packet_is}
-
-if_false : {A : Type 0} (b : Bool) (x y : A) → b ≡ false → (if b then x else y) ≡ y
-if_false true x y e = cc
-if_false false x y e = refl
-
-if_true : {A : Type 0} (b : Bool) (x y : A) → b ≡ true → (if b then x else y) ≡ x
-if_true true x y e = refl
-if_true false x y e = cc
 
 not_equal : (a b : ℕ) → (a ≡ b → ⊥) → (a == b) ≡ false
 not_equal a b d = elim (cases_bool (a == b)) as (λ _. (a == b) ≡ false) [ inl e ↦ absurd (d (eqb-true a b e)) | inr e ↦ e ]

@@ -11,7 +11,7 @@ use Rattle.std.proofs.Math.Dec.{eqb}
 use Rattle.std.proofs.lemmas.Bool.{cases_lt}
 use Rattle.ttx_header.specs.Ids.{Id, IsId, same_id}
 use Rattle.ttx_page.specs.declared.page.Page.{Page as PageValue}
-use Rattle.ttx_page.specs.Pages.{IsPage}
+use Rattle.ttx_page.specs.Pages.{Page, IsPage}
 use Rattle.ttx_page.specs.Views.{page_of}
 use Rattle.ttx_witness.specs.sent.Collected.{ids_of, is_page, Finds, key_of}
 use Rattle.ttx_witness.proofs.lemmas.Choices.{if_ind, no_both, and_left, and_right, and_both, cases_bool}
@@ -56,9 +56,6 @@ slice_get_here ids i lt = elim (slice_get_cases ids i).1 as (λ _. (id : Id) × 
 pub record IsIndexed (ids : List Id) (n : ℕ) (at : ℕ → Option ℕ) : Type 0 where
   pub known : (i : ℕ) (own : Id) → i < n → slice_get ids i ≡ Some own → at (key_of own) ≡ Some i
   pub sound : (key i : ℕ) (own : Id) → at key ≡ Some i → slice_get ids i ≡ Some own → key_of own ≡ key
-
-pub nothing_indexed : (ids : List Id) (at : ℕ → Option ℕ) → ((q : ℕ) → at q ≡ None) → IsIndexed ids 0 at
-nothing_indexed ids at none = record { known = λ i own lt e. absurd (omega arith); sound = λ key i own e f. let n = none key in cc }
 
 module _ (ids : List Id) (are : (i : ℕ) (id : Id) → slice_get ids i ≡ Some id → IsId id) (distinct : AllPairs (λ a b. a ≢ b) ids) where
   places_differ : (i j : ℕ) (a b : Id) → i < j → slice_get ids i ≡ Some a → slice_get ids j ≡ Some b → a ≡ b → ⊥
@@ -134,3 +131,9 @@ ids_are rules [] i id e = let h : None ≡ Some id = e in cc
 
 pub id_at : (pages : List PageValue) (i : ℕ) (p : PageValue) → i < length pages → p ≡ get_or pages i p → slice_get (ids_of pages) i ≡ Some (page_of p).id
 id_at pages i p lt e = slice_get-map (λ q. (page_of q).id) pages i ∙ ap (option_map (λ q. (page_of q).id)) (slice_get_read pages (length pages) i p refl lt e)
+
+-- the id of the page in the same place
+pub id_of_page : (pages : List PageValue) (i : ℕ) (p : Page) → slice_get (map page_of pages) i ≡ Some p → slice_get (ids_of pages) i ≡ Some p.id
+id_of_page [] i p e = let h : None ≡ Some p = e in cc
+id_of_page (q ∷ pages) zero p e = let h : page_of q ≡ p = cc in ap (λ x. Some x.id) h
+id_of_page (q ∷ pages) (suc i) p e = id_of_page pages i p e

@@ -17,11 +17,11 @@ use Rattle.ttx_witness.specs.declared.waiting.wait.OwnWait.{OwnWait}
 use Rattle.ttx_witness.specs.declared.waiting.wait.OwnWait.TheVariants.{Least, Never}
 use Rattle.ttx_witness.specs.declared.waiting.wait.Wait.{Wait}
 use Rattle.ttx_witness.specs.declared.waiting.wait.Wait.TheVariants.{Fields, Faulty, Unsure}
-use Rattle.ttx_witness.proofs.lemmas.finding.DueItems.{number_low}
 use Rattle.ttx_witness.proofs.lemmas.finding.LeastDeadline.{item_needed, due_needed}
 use Rattle.ttx_witness.proofs.lemmas.ChangedPlaces.{before_here, last_here}
 use Rattle.ttx_witness.proofs.lemmas.waiting.ItemByItem.{item_is}
 use Rattle.ttx_witness.proofs.lemmas.waiting.PageDeadline.{accepted_shows, no_start_never}
+use Rattle.ttx_witness.proofs.lemmas.sent.ItemPlaces.{item_small}
 
 record IsIn (xs : List Item) (x : Item) : Type 0 where
   index : ℕ
@@ -68,7 +68,7 @@ module _ (turn : EachSlotTurns) (found : SureStartsAreFound) (law : LeastLimitIs
 
   told_one : (item : Item) → needed p item ≡ true → (i : IsIn (seen_below p 26) item) × IsOne Own told i.index item
   told_one item seen =
-      let i = seen_in p item (item_needed p item seen) seen 26 (number_low item (item_needed p item seen)) in
+      let i = seen_in p item (item_needed p item seen) seen 26 (item_small item (item_needed p item seen)) in
       (i, one_of Own told i.index item are.each (ap (λ xs. slice_get xs i.index) are.items ∙ i.here))
 
   up_to : (d : ℕ) → CanAccept cycle pages p class repeat lines d → (one : ItemWait) → Own one → IsUpTo d one.wait

@@ -15,9 +15,9 @@ use Rattle.ttx_witness.specs.finding.Finding.{wider, is_due, starts_of, limit_fo
 use Rattle.ttx_witness.specs.waiting.PageWaits.{CanAccept, IsLeast, AreWaits, fields_told}
 use Rattle.ttx_witness.specs.laws.WaitLaws.{greatest, DeadlineIsGreatest}
 use Rattle.ttx_witness.specs.declared.waiting.wait.PageWait.{PageWait}
-use Rattle.ttx_witness.proofs.lemmas.Choices.{if_ind, cases_bool}
+use Rattle.ttx_witness.proofs.lemmas.Choices.{if_ind, cases_bool, if_true, if_false}
 use Rattle.ttx_witness.proofs.lemmas.finding.DueItems.{AreApart, pages_apart}
-use Rattle.ttx_witness.proofs.lemmas.finding.LeastDeadline.{AreTested, pages_tested, if_true, if_false}
+use Rattle.ttx_witness.proofs.lemmas.finding.LeastDeadline.{AreTested, pages_tested}
 use Rattle.ttx_witness.proofs.lemmas.sent.PageIndexes.{same_one, same_self}
 use Rattle.ttx_witness.proofs.lemmas.waiting.PageDeadline.{none_rise, found_rise, longer, can_fits, named_shows, accepted_shows}
 

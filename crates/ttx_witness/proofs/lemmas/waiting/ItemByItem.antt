@@ -1,6 +1,5 @@
 -- What is told of the items of a page, one by one.
 use Rattle.std.proofs.Common.{◌≡◌, ℕ, zero, suc, ◌+◌, false, ◌==◌, if◌then◌else◌, List, [], ◌∷◌, ◌++◌, length, take, slice_get, Some, None, refl, sym, ap, ◌∙◌, subst, inl, inr, arith, eqb-true, length-append}
-use Rattle.std.specs.List.{AllByRecursion}
 use Rattle.std.proofs.lemmas.Bool.{cases_lt}
 use Rattle.std.proofs.lemmas.List.{append-nil, map-append}
 use Rattle.std.proofs.lemmas.Option.{slice_get_within}
@@ -15,6 +14,7 @@ use Rattle.ttx_witness.specs.declared.waiting.wait.ItemWait.{ItemWait}
 use Rattle.ttx_witness.specs.declared.waiting.wait.OwnWait.{OwnWait}
 use Rattle.ttx_witness.proofs.lemmas.Choices.{cases_bool}
 use Rattle.ttx_witness.proofs.lemmas.ChangedPlaces.{before_here, last_here}
+use Rattle.ttx_witness.proofs.lemmas.finding.DueItems.{all_append}
 
 pub item_is : (item : Item) → IsItem item → item_at (item_number item) ≡ item
 item_is TheHead is = refl
@@ -31,10 +31,6 @@ seen_step p n item is e =
     let next : n + 1 ≡ suc n = omega arith in
     let same : item_at n ≡ item = ap item_at (sym e) ∙ item_is item is in
     ap (seen_below p) next ∙ ap (λ i. seen_below p n ++ (if needed p i then i ∷ [] else [])) same
-
-all_end : {A : Type 0} (P : A → Type 0) (xs : List A) (x : A) → AllByRecursion P xs → P x → AllByRecursion P (xs ++ x ∷ [])
-all_end P [] x h p = (p, tt)
-all_end P (y ∷ xs) x h p = (h.0, all_end P xs x h.1 p)
 
 module _ (cycle : List (List ℕ)) (p : Page) (class : Class) (repeat lines : ℕ) where
   pub nothing_told : (told : List ItemWait) → told ≡ [] → AreItemsTold cycle p class repeat lines 0 told
@@ -54,7 +50,7 @@ module _ (cycle : List (List ℕ)) (p : Page) (class : Class) (repeat lines : �
         record {
           items = map-append (λ one. one.item) told (one ∷ []) ∙ ap (λ items. items ++ item ∷ []) h.items
               ∙ ap (λ b. seen_below p n ++ (if b then item ∷ [] else [])) (sym w.seen) ∙ sym (seen_step p n item is number);
-          each = all_end (λ one. IsItemWait cycle p class repeat lines one.item one.wait) told one h.each w;
+          each = all_append (λ one. IsItemWait cycle p class repeat lines one.item one.wait) told one h.each w;
         }
 
 take_one : {A : Type 0} (xs : List A) (n : ℕ) (x : A) → slice_get xs n ≡ Some x → take n xs ++ x ∷ [] ≡ take (suc n) xs

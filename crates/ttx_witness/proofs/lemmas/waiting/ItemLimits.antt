@@ -18,9 +18,6 @@ module _ (cycle : List (List ℕ)) (p : Page) (class : Class) (repeat lines : �
   abbrev Longest : ℕ → ℕ → Item → Type 0
   Longest m deadline item = IsLongest cycle p class repeat lines m deadline item
 
-  pub none_longest : (item : Item) → IsLongest cycle p class repeat lines 0 0 item
-  none_longest item = record { all = λ other seen lt. absurd (omega arith); first = inl (omega arith) }
-
   below_more : (m a b : ℕ) → a ≤ b → Below m a → Below m b
   below_more m a b le h other seen lt = let o = h other seen lt in record { deadline = o.deadline; own = o.own; below = let q = o.below in omega arith }
 

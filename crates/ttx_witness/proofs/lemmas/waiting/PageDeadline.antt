@@ -30,13 +30,14 @@ use Rattle.ttx_witness.specs.declared.faults.reason.Reason.{Reason}
 use Rattle.ttx_witness.specs.declared.waiting.wait.Losses.{Losses}
 use Rattle.ttx_witness.specs.declared.waiting.wait.Wait.{Wait}
 use Rattle.ttx_witness.specs.declared.waiting.wait.Wait.TheVariants.{Fields, Faulty, Unsure}
-use Rattle.ttx_witness.proofs.lemmas.Choices.{if_ind, no_both, cases_bool}
-use Rattle.ttx_witness.proofs.lemmas.finding.DueItems.{number_low}
+use Rattle.ttx_witness.proofs.lemmas.Choices.{if_ind, no_both, cases_bool, if_true, if_false}
 use Rattle.ttx_witness.proofs.lemmas.finding.EntryOrder.{rising_pairs}
 use Rattle.ttx_witness.proofs.lemmas.runs.FoundStarts.{starts_rise}
 use Rattle.ttx_witness.proofs.lemmas.sent.CycleTransmissions.{sent_told, told_in_order}
 use Rattle.ttx_witness.proofs.lemmas.finding.HeaderLimits.{Next, next_covered, next_fits, named_head}
-use Rattle.ttx_witness.proofs.lemmas.finding.LeastDeadline.{if_true, if_false, item_needed, due_needed, due_not_blank, not_due_is, run_some}
+use Rattle.ttx_witness.proofs.lemmas.finding.LeastDeadline.{item_needed, due_needed, due_not_blank, not_due_is}
+use Rattle.ttx_witness.proofs.lemmas.sent.ItemPlaces.{item_small}
+use Rattle.ttx_witness.proofs.lemmas.sent.RunLengths.{run_some}
 
 pub none_rise : Rising []
 none_rise i j lt in_range = absurd (omega arith)
@@ -218,7 +219,7 @@ module _ (turn : EachSlotTurns) (found : SureStartsAreFound) (law : LeastLimitIs
                   is = full_is d f.own.least.0 f.own.least.1;
                   accepts = record {
                     steady = steady;
-                    shows = λ other seen. below_shows other seen (h.all other seen (number_low other (item_needed p other seen))) f.own.least.0 f.own.least.1;
+                    shows = λ other seen. below_shows other seen (h.all other seen (item_small other (item_needed p other seen))) f.own.least.0 f.own.least.1;
                   };
                 },
                 (λ e c. own_least item d f.own e (accepted_shows cycle p class repeat lines pages e c item f.seen)),

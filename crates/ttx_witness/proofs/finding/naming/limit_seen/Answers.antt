@@ -3,8 +3,8 @@ use Rattle.std.proofs.lemmas.Result.{IfOk-weaker}
 use Rattle.ttx_page.specs.declared.item.Item.TheVariants.{Head as TheHead}
 use Rattle.ttx_witness.specs.finding.Finding.{is_due}
 use Rattle.ttx_witness.specs.finding.Surveys.{surveyed_page, surveyed_least}
-use Rattle.ttx_witness.proofs.lemmas.finding.LeastDeadline.{if_true, if_false}
 use Rattle.ttx_witness.proofs.finding.naming.limit_seen.Goals as goal
+use Rattle.ttx_witness.proofs.lemmas.Choices.{if_true, if_false}
 
 pub returns-then-is_due-clause-least : goal.returns-then-is_due-clause-least
 returns-then-is_due-clause-least c =

@@ -3,8 +3,8 @@ use Rattle.std.proofs.lemmas.Result.{IfOk-weaker, on_ok_weaker}
 use Rattle.ttx_page.specs.declared.item.Item.TheVariants.{Head as TheHead}
 use Rattle.ttx_witness.specs.finding.Finding.{is_due, AddsEntry}
 use Rattle.ttx_witness.specs.finding.Surveys.{surveyed_page, surveyed_starts, surveyed_least}
-use Rattle.ttx_witness.proofs.lemmas.finding.LeastDeadline.{if_true, if_false}
 use Rattle.ttx_witness.proofs.finding.naming.name_seen.Goals as goal
+use Rattle.ttx_witness.proofs.lemmas.Choices.{if_true, if_false}
 
 pub returns-then-not-is_due-clause-least : goal.returns-then-not-is_due-clause-least
 returns-then-not-is_due-clause-least c =

@@ -2,17 +2,17 @@ use Rattle.std.proofs.Common.{rules, ◌≡◌, ◌+◌, ◌<◌, ◌++◌, ◌�
 use Rattle.ttx_page.specs.Streams.{repeated}
 use Rattle.ttx_witness.specs.Coverage.{Certificate, IsCertificate}
 use Rattle.ttx_witness.specs.sent.Collected.{owner_for}
-use Rattle.ttx_witness.specs.faults.OtherSubpages.{place, AreAllSubcodes, IsStrayAt, TellsBelow}
-use Rattle.ttx_witness.proofs.lemmas.sent.PageIndexes.{ids_are}
+use Rattle.ttx_witness.specs.faults.OtherSubpages.{place, AreAllSubcodes, HeadsOtherAt, TellsBelow}
+use Rattle.ttx_witness.proofs.lemmas.sent.PageIndexes.{ids_are, id_of_page}
 use Rattle.ttx_witness.specs.passes.Passing.{ids, pages_of, certificate}
-use Rattle.ttx_witness.proofs.lemmas.passes.GrowingLists.{owner_grown, strays_more}
-use Rattle.ttx_witness.proofs.lemmas.passes.AfterOneSlot.{id_of_page, listed_more, facts_more}
+use Rattle.ttx_witness.proofs.lemmas.passes.GrowingLists.{owner_grown, others_more}
+use Rattle.ttx_witness.proofs.lemmas.passes.AfterOneSlot.{listed_more, facts_more}
 use Rattle.ttx_witness.proofs.passes.passing.take_slot.Goals as goal
 
 pub returns-clause-ready : goal.returns-clause-ready
 returns-clause-ready c = λ ready.
     let pass = c.args.pass.now in
-    record { index = ready.index; subcodes = subst (λ v. AreAllSubcodes (pages_of pass) (length pass.pages.now) v.items) (sym c.note_stray.ensures.subcodes) ready.subcodes }
+    record { index = ready.index; subcodes = subst (λ v. AreAllSubcodes (pages_of pass) (length pass.pages.now) v.items) (sym c.note_other_header.ensures.subcodes) ready.subcodes }
 
 pub returns-clause-taken : goal.returns-clause-taken
 returns-clause-taken c = λ entry y ready count seen kept.
@@ -50,8 +50,8 @@ returns-clause-taken c = λ entry y ready count seen kept.
                   c.lines-lines.result c.lines-lines.ensures (λ item it. c.sent_in_slot-sent.ensures.sent (ids pass) ready.index seen.apart i p.id item at_id it)
                   c.limit-limit.result c.limit-limit.ensures pass.count end h.value t.value h.is t.is;
             };
-        strays = λ mag number low high small.
-            subst (λ v. TellsBelow (IsStrayAt v.items (repeated (y ++ z ∷ [])) mag number) (length (y ++ z ∷ [])) (get_or c.note_stray.new.strays.first.items (place mag number) None)) (sym c.note_stray.ensures.subcodes)
-            (strays_more pass.strays.subcodes.items mag number y z _ _ pass.count end (c.note_stray.ensures.noted mag number low high small) (kept.strays mag number low high small));
+        others = λ mag number low high small.
+            subst (λ v. TellsBelow (HeadsOtherAt v.items (repeated (y ++ z ∷ [])) mag number) (length (y ++ z ∷ [])) (get_or c.note_other_header.new.others.first.items (place mag number) None)) (sym c.note_other_header.ensures.subcodes)
+            (others_more pass.others.subcodes.items mag number y z _ _ pass.count end (c.note_other_header.ensures.noted mag number low high small) (kept.others mag number low high small));
       },
     )

@@ -7,9 +7,9 @@ use Rattle.ttx_page.specs.Steady.{OtherSubpageAt}
 use Rattle.ttx_page.specs.Views.{page_of}
 use Rattle.ttx_witness.specs.declared.faults.subcodes.Subcodes.{Subcodes}
 use Rattle.ttx_witness.specs.declared.faults.subcodes.Subcodes.TheVariants.{Unlisted}
-use Rattle.ttx_witness.specs.faults.OtherSubpages.{place, AreSubcodes, AreAllSubcodes, IsStrayAt}
+use Rattle.ttx_witness.specs.faults.OtherSubpages.{place, AreSubcodes, AreAllSubcodes, HeadsOtherAt}
 use Rattle.ttx_witness.proofs.lemmas.faults.FirstSlots.{tells_same}
-use Rattle.ttx_witness.proofs.lemmas.faults.OtherSubpages.{stray_is}
+use Rattle.ttx_witness.proofs.lemmas.faults.OtherSubpages.{other_is}
 use Rattle.ttx_witness.proofs.faults.other_subpages.OtherSubpages.of.Goals as goal
 
 pub returns : goal.returns
@@ -21,5 +21,5 @@ returns c = λ n p at is.
     let here : AreSubcodes pages (length pages) p.id.mag p.id.page (get_or table (place p.id.mag p.id.page) Unlisted) =
     subst (λ k. AreAllSubcodes pages k table) (sym (length-map c.args.pages.now page_of)) c.in_ok-subcodes.ensures.subcodes p.id.mag p.id.page is.mag_from is.mag_to is.page in
     let there = subst (λ t. AreSubcodes pages (length pages) p.id.mag p.id.page (get_or t (place p.id.mag p.id.page) Unlisted)) same here in
-    tells_same cycle (IsStrayAt c.deref.result.now s p.id.mag p.id.page) (OtherSubpageAt s pages p) (stray_is pages p n at (slice_get_within pages n p at) c.deref.result.now s there)
+    tells_same cycle (HeadsOtherAt c.deref.result.now s p.id.mag p.id.page) (OtherSubpageAt s pages p) (other_is pages p n at (slice_get_within pages n p at) c.deref.result.now s there)
     (get_or c.in_ok-first.first.items (place p.id.mag p.id.page) None) (c.in_ok-first.ensures.first p.id.mag p.id.page is.mag_from is.mag_to is.page)

@@ -2,11 +2,10 @@ use Rattle.std.proofs.Common.{rules, ◌≡◌, None, is_some, slice_get, get_or
 use Rattle.ttx_page.specs.Views.{page_of}
 use Rattle.ttx_witness.specs.faults.OtherSubpages.{place}
 use Rattle.ttx_witness.specs.faults.Faults.{AreFirst}
-use Rattle.ttx_witness.proofs.lemmas.sent.PageIndexes.{ids_are}
+use Rattle.ttx_witness.proofs.lemmas.sent.PageIndexes.{ids_are, id_of_page}
 use Rattle.ttx_witness.proofs.lemmas.passes.LateHeaders.{nowhere}
 use Rattle.ttx_witness.proofs.lemmas.faults.FirstSlots.{placed, page_here}
 use Rattle.ttx_witness.specs.passes.Passing.{ended_pages}
-use Rattle.ttx_witness.proofs.lemmas.passes.AfterOneSlot.{id_of_page}
 use Rattle.ttx_witness.proofs.lemmas.passes.FactsOfStream.{facts_first}
 use Rattle.ttx_witness.proofs.passes.ending.EndedPass.page_fault.Goals as goal
 
@@ -31,6 +30,6 @@ returns c = λ y p kept at.
     c.least_fault.ensures y (ended_pages self) p id
     (subst (AreFirst y (ended_pages self) p)
     (sym (c.first_slots-first.ensures
-    ∙ ap (λ f. record { has_header = is_some f.heads; other_subpage = c.first_stray.result; erased = f.erased; head = f.head; row = f.row; links = f.links }) fact
-    ∙ ap (λ o. record { has_header = is_some h.value.heads; other_subpage = o; erased = h.value.erased; head = h.value.head; row = h.value.row; links = h.value.links }) (c.first_stray.ensures ∙ ap (λ i. get_or self.strays.first.items (place i.mag i.page) None) id)))
+    ∙ ap (λ f. record { has_header = is_some f.heads; other_subpage = c.first_other_header_of.result; erased = f.erased; head = f.head; row = f.row; links = f.links }) fact
+    ∙ ap (λ o. record { has_header = is_some h.value.heads; other_subpage = o; erased = h.value.erased; head = h.value.head; row = h.value.row; links = h.value.links }) (c.first_other_header_of.ensures ∙ ap (λ i. get_or self.others.first.items (place i.mag i.page) None) id)))
     first)

@@ -8,13 +8,14 @@ use Rattle.ttx_witness.specs.passes.Passing.{ended_pages, ended_certificate}
 use Rattle.ttx_witness.specs.passes.SentSlots.{placed}
 use Rattle.ttx_witness.specs.sent.ItemTransmissions.{sent_in}
 use Rattle.ttx_witness.specs.runs.Tracks.{IsTrack, IsWithin}
-use Rattle.ttx_witness.proofs.lemmas.passes.EndOfList.{some_run, progress_told}
+use Rattle.ttx_witness.proofs.lemmas.passes.EndOfList.{progress_told}
 use Rattle.ttx_witness.proofs.lemmas.finding.DueItems.{item_one}
 use Rattle.ttx_witness.proofs.lemmas.runs.AfterThePeriod.{some_of}
 use Rattle.ttx_witness.proofs.lemmas.passes.AfterOneSlot.{short_run}
 use Rattle.ttx_witness.proofs.lemmas.faults.FirstSlots.{placed as same_page, page_here}
 use Rattle.ttx_witness.proofs.lemmas.sent.AllLists.{all_by_place, place_below}
 use Rattle.ttx_witness.proofs.passes.ending.EndedPass.progress.Goals as goal
+use Rattle.ttx_witness.proofs.lemmas.sent.RunLengths.{some_run}
 
 some_starts : (b : Bool) (xs ys : List ℕ) → xs ≡ (if b then ys else []) → 1 ≤ length xs → xs ≡ ys
 some_starts true xs ys e some = e

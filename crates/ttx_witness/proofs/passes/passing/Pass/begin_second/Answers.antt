@@ -27,7 +27,7 @@ returns-clause-stands c = λ x old.
         kept = record {
           sent = record { count = old.nothing.sent.count; places = old.nothing.sent.places; unlinked = old.nothing.sent.unlinked; each = old.nothing.sent.each };
           facts = λ i p at. let f = old.nothing.facts i p at in record { value = f.value; here = f.here; is = facts_none _ p (repeated []) None (entry_owner x p.id) f.value f.is };
-          strays = old.nothing.strays;
+          others = old.nothing.others;
         };
         slots = λ k d lt. absurd (omega arith);
         bad = λ j lt. absurd (omega arith);

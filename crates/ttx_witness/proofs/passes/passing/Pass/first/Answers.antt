@@ -18,5 +18,5 @@ returns-clause-stands c = λ x old.
             (let e : pass.count ≡ length x = old.count in search (rules, e)) (old.owners.each i id at is) (c.note_owner.ensures.after (ids pass) old.ready.index i id at is);
         apart = c.note_owner.ensures.apart (ids pass) old.ready.index old.owners.apart;
       };
-      nothing = record { sent = old.nothing.sent; facts = old.nothing.facts; strays = old.nothing.strays };
+      nothing = record { sent = old.nothing.sent; facts = old.nothing.facts; others = old.nothing.others };
     }

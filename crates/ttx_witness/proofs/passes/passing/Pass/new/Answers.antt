@@ -6,7 +6,7 @@ use Rattle.ttx_page.specs.Streams.{repeated}
 use Rattle.ttx_certificate.specs.Certificates.{certificate_of}
 use Rattle.ttx_witness.specs.sent.Collected.{seen_by, IsForeign, place_of_item as item_place}
 use Rattle.ttx_witness.specs.passes.SentSlots.{placed}
-use Rattle.ttx_witness.specs.faults.OtherSubpages.{place, IsStrayAt}
+use Rattle.ttx_witness.specs.faults.OtherSubpages.{place, HeadsOtherAt}
 use Rattle.ttx_witness.specs.sent.ItemTransmissions.{owner_scan, sent_scan}
 use Rattle.ttx_witness.proofs.lemmas.sent.EntryOwners.{none_at}
 use Rattle.ttx_witness.proofs.lemmas.faults.OtherSubpages.{first_none}
@@ -36,6 +36,6 @@ returns-clause-stands c =
             let lt = slice_get_within (map page_of pages) i p at in
             let l = length-map pages page_of in
             nothing_noted (certificate_of c.args.certificate.now) p (repeated []) c.in_ok-facts.facts.items (length pages) i c.in_ok-facts.ensures (omega arith);
-        strays = λ mag number low high small. first_none (IsStrayAt c.in_ok-subcodes.subcodes.items (repeated []) mag number) c.in_ok-first.first.items c.in_ok-first.ensures (place mag number);
+        others = λ mag number low high small. first_none (HeadsOtherAt c.in_ok-subcodes.subcodes.items (repeated []) mag number) c.in_ok-first.first.items c.in_ok-first.ensures (place mag number);
       };
     }

@@ -4,9 +4,8 @@ use Rattle.ttx_witness.specs.sent.Collected.{place_of_item}
 use Rattle.ttx_witness.specs.passes.SentSlots.{placed}
 use Rattle.ttx_witness.specs.sent.ItemTransmissions.{entry_owner}
 use Rattle.ttx_witness.proofs.lemmas.passes.EndOfList.{empty_is, again, own}
-use Rattle.ttx_witness.proofs.lemmas.sent.PageIndexes.{ids_are}
+use Rattle.ttx_witness.proofs.lemmas.sent.PageIndexes.{ids_are, id_of_page}
 use Rattle.ttx_witness.proofs.lemmas.passes.ReturningOwners.{kept_same}
-use Rattle.ttx_witness.proofs.lemmas.passes.AfterOneSlot.{id_of_page}
 use Rattle.ttx_witness.proofs.passes.passing.SecondPass.end.Goals as goal
 use Rattle.ttx_witness.proofs.passes.passing.SecondPass.end.Goals.{then-self-via-then-self, then-self-via-else-self+then-period-eq0, then-self-via-else-self+else-period-eq0+then-not-is_steady}
 
@@ -47,5 +46,5 @@ returns-clause-ended c = λ x y st.
       linked = c.link.ensures.linked kept.sent.unlinked;
       sent = λ i p item at it. ap (λ v. placed (place_of_item i item) v.items) c.link.ensures.slots ∙ kept.sent.each i p item at it;
       facts = kept.facts;
-      strays = kept.strays;
+      others = kept.others;
     }
