@@ -14,8 +14,7 @@ use Rattle.ttx_cycle.specs.declared.faults.CycleFault.TheVariants as cycle
 use Rattle.ttx_source.specs.Services.{ServiceFields, pages_of}
 use Rattle.ttx_witness.specs.Certificates.{fields_of}
 use Rattle.ttx_witness.specs.Entries.{CertificateFields, certificate_at}
-use Rattle.ttx_certify.specs.CertifyingFiles.{most_bytes, IsServiceText, IsCertificateText, Certifies}
-use Rattle.ttx_certify.specs.FileSteps.{ReadsService, ReadsWitness}
+use Rattle.ttx_certify.specs.CertifyingFiles.{most_bytes, IsServiceText, IsCertificateText, IsServiceFault, IsCertificateFault, Certifies}
 use Rattle.ttx_certify.specs.VerdictLines.{verdict_line}
 use Rattle.ttx_certify.specs.declared.faults.FilesFault.{FilesFault}
 use Rattle.ttx_certify.specs.declared.faults.FilesFault.TheVariants.{Cycle, Service, Certificate, Read, TooLong, Write, NoMemory}
@@ -28,8 +27,8 @@ use Rattle.ttx_certify.specs.declared.passes.Texts.{Texts}
 -- why a service definition and a certificate are refused, in this order
 abbrev pub IsRefusedText : List ℕ → List ℕ → FilesFault → Type 0
 IsRefusedText c d (Cycle fault) = ⊥
-IsRefusedText c d (Service error) = ReadsService c (Err (Service error))
-IsRefusedText c d (Certificate fault) = (service : ServiceFields) × IsServiceText c service × ReadsWitness d (Err (Certificate fault))
+IsRefusedText c d (Service error) = IsServiceFault c error
+IsRefusedText c d (Certificate fault) = (service : ServiceFields) × IsServiceText c service × IsCertificateFault d fault
 IsRefusedText c d (Read which) = ⊤
 IsRefusedText c d (TooLong text.Service) = most_bytes < length c
 IsRefusedText c d (TooLong text.Certificate) = (service : ServiceFields) × IsServiceText c service × (most_bytes < length d)

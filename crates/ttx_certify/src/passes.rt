@@ -114,7 +114,8 @@ pub fn certify_passes<A: Read, B: Read, C: Read, D: Read, W: Write>(
     ensures bytes { IfSome (A.remaining (inner_of first.old)) (λ a.
         IfSome (B.remaining (inner_of second.old)) (λ b.
         IfSome (C.remaining (inner_of service.old)) (λ c.
-        IfSome (D.remaining (inner_of certificate.old)) (λ d. CertifiesPasses a b c d (W.contents (inner_of writer.old)) (W.contents (inner_of writer.new)) result)))) }
+        IfSome (D.remaining (inner_of certificate.old)) (λ d.
+        CertifiesPasses a b c d (W.contents (inner_of writer.old)) (W.contents (inner_of writer.new)) result)))) }
     ensures faults { CountsPasses result (faults_of first.old) (faults_of first.new) (faults_of second.old) (faults_of second.new)
         (faults_of service.old) (faults_of service.new) (faults_of certificate.old) (faults_of certificate.new) (faults_of writer.old)
         (faults_of writer.new) }

@@ -69,7 +69,8 @@ pub fn certify_files_late<A: Read, B: Read, C: Read, W: Write>(
 ) -> Result<LateVerdict, FilesFault>
     ensures bytes { IfSome (A.remaining (inner_of cycle.old)) (λ a.
         IfSome (B.remaining (inner_of service.old)) (λ b.
-        IfSome (C.remaining (inner_of certificate.old)) (λ c. CertifiesFilesLate a b c (W.contents (inner_of writer.old)) (W.contents (inner_of writer.new)) result))) }
+        IfSome (C.remaining (inner_of certificate.old)) (λ c.
+        CertifiesFilesLate a b c (W.contents (inner_of writer.old)) (W.contents (inner_of writer.new)) result))) }
     ensures faults { CountsFiles result (faults_of cycle.old) (faults_of cycle.new) (faults_of service.old) (faults_of service.new)
         (faults_of certificate.old) (faults_of certificate.new) (faults_of writer.old) (faults_of writer.new) }
 {
