@@ -18,7 +18,7 @@ use Rattle.ttx_certificate.specs.CertificateTexts.{hex_digit, hex_byte, id_text,
 use Rattle.ttx_certificate.specs.CertificateReading.{lines_in, words_in, are_digits, is_number, decimal_after, number_in_word, is_between, is_hex, hex_value, is_id_word, hex_pair, id_in_word, row_in, item_in, before_numbers, numbers_in, starts_in_words, with_starts, with_item, entry_in, read_entry, read_entries, ranged, only_number, number_in, line_at, number_line, read_numbers, read_class, read_title, read_text, ◌>>=◌}
 use Rattle.ttx_certificate.specs.declared.certificate_faults.CertFault.{CertFault}
 use Rattle.ttx_certificate.specs.declared.certificate_faults.CertFault.TheVariants.{Title, Line, Range}
-use Rattle.ttx_certificate.proofs.Basics.{if_ind, and_left, and_right}
+use Rattle.ttx_certificate.proofs.Choices.{if_ind, and_left, and_right}
 use Rattle.ttx_certificate.proofs.TextParts.{id_word, magazine_digit}
 use Rattle.ttx_certificate.proofs.ReadEntries.{no_value, value_or, entry_ok}
 

@@ -11,7 +11,7 @@ use Rattle.ttx_certificate.specs.EntryViews.{entries_of}
 use Rattle.ttx_certificate.specs.Certificates.{fields_of}
 use Rattle.ttx_certificate.specs.CertificateLaws.{CertificatesKeepTheirRules}
 use Rattle.ttx_certificate.specs.declared.entries.Entry.{Entry}
-use Rattle.ttx_certificate.proofs.Basics.{if_ind, and_right}
+use Rattle.ttx_certificate.proofs.Choices.{if_ind, and_right}
 use Rattle.ttx_certificate.proofs.EntryOrder.{rising_pairs}
 
 rising_starts : (starts : List ℕ) → are_starts starts ≡ true → Rising starts

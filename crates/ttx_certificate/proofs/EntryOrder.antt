@@ -4,7 +4,7 @@ use Rattle.std.specs.List.Sorted.{IsSearchInRange, IsBinarySearchResult, IsNonDe
 use Rattle.std.specs.Ordering.{nat_cmp, ordering_index}
 use Rattle.std.proofs.lemmas.Cmp.{ranked}
 use Rattle.std.proofs.lemmas.Bool.Decides.{nat_tests}
-use Rattle.std.proofs.lemmas.Bool.{cases_lt}
+use Rattle.std.proofs.lemmas.Bool.{cases_lt, and_from, cases_Bool}
 use Rattle.ttx_header.specs.Ids.{Id, IsId, same_id}
 use Rattle.ttx_page.specs.declared.item.Item.{Item}
 use Rattle.ttx_page.specs.declared.item.Item.TheVariants.{Head as TheHead, Row as TheRow, Links as TheLinks}
@@ -12,7 +12,7 @@ use Rattle.ttx_certificate.specs.ItemPlaces.{item_number, key_of}
 use Rattle.ttx_certificate.specs.Entries.{is_item, rises_above, place_of, entry_places, same_item, starts_in}
 use Rattle.ttx_certificate.specs.EntryViews.{entries_of, place_in}
 use Rattle.ttx_certificate.specs.declared.entries.Entry.{Entry}
-use Rattle.ttx_certificate.proofs.Basics.{and_left, and_right, and_both, cases_bool}
+use Rattle.ttx_certificate.proofs.Choices.{and_left, and_right}
 
 item_below : (item : Item) → is_item item ≡ true → item_number item < 26
 item_below TheHead is = omega arith
@@ -77,10 +77,10 @@ module _ (page : Id) (item : Item) (id : IsId page) (is : is_item item ≡ true)
   pub same_entry : (e : Entry) → place_in e ≡ place_of page item → is_for e ≡ true
   same_entry e same =
       let parts = same_parts e.page page (item_number e.item) (item_number item) e.kept.id id (item_below e.item e.kept.item) (item_below item is) same in
-      and_both _ _ (and_both _ _ (and_both _ _ (eq-eqb _ _ parts.mag) (eq-eqb _ _ parts.page)) (eq-eqb _ _ parts.sub)) (eq-eqb _ _ parts.item)
+      and_from _ _ (and_from _ _ (and_from _ _ (eq-eqb _ _ parts.mag) (eq-eqb _ _ parts.page)) (eq-eqb _ _ parts.sub)) (eq-eqb _ _ parts.item)
 
   other_entry : (e : Entry) → place_in e ≢ place_of page item → is_for e ≡ false
-  other_entry e other = elim (cases_bool (is_for e)) [
+  other_entry e other = elim (cases_Bool (is_for e)) [
     | inl is_it ↦
         let mag : e.page.mag ≡ page.mag = eqb-true _ _ (and_left _ _ (and_left _ _ (and_left _ _ is_it))) in
         let number : e.page.page ≡ page.page = eqb-true _ _ (and_right _ _ (and_left _ _ (and_left _ _ is_it))) in

@@ -1,4 +1,4 @@
-pub mod Basics
+pub mod Choices
 mod EntryOrder
 mod CertificateRules
 mod TextParts

@@ -1,5 +1,6 @@
 -- Entries that are read one after another.
 use Rattle.std.proofs.Common.{◌≡◌, ◌⊎◌, inl, inr, ℕ, ◌+◌, ◌<◌, ◌==◌, Bool, true, false, not, ◌++◌, List, [], ◌∷◌, length, Option, Some, None, Result, Ok, Err, if◌then◌else◌, refl, sym, ap, ◌∙◌, subst, arith, append_assoc, eqb-true}
+use Rattle.std.proofs.lemmas.Bool.{and_from}
 use Rattle.std.specs.List.{join_with_byte}
 use Rattle.std.proofs.lemmas.List.{map-append}
 use Rattle.std.proofs.lemmas.List.Splits.{join_with_byte-slice_split}
@@ -9,7 +10,7 @@ use Rattle.ttx_certificate.specs.CertificateReading.{lines_in, words_in, entry_i
 use Rattle.ttx_certificate.specs.declared.entries.Entry.{Entry}
 use Rattle.ttx_certificate.specs.declared.certificate_faults.CertFault.{CertFault}
 use Rattle.ttx_certificate.specs.declared.certificate_faults.CertFault.TheVariants.{Title, Line, Range, Order}
-use Rattle.ttx_certificate.proofs.Basics.{if_ind, and_right, and_both}
+use Rattle.ttx_certificate.proofs.Choices.{if_ind, and_right}
 use Rattle.ttx_certificate.proofs.LineShapes.{entries_step}
 
 -- what follows where memory doesn't run out
@@ -105,7 +106,7 @@ module _ (n : ℕ) (low : Option ℕ) (es : List EntryFields) (others : EntryFie
     (rise : (e : EntryFields) (es' : List EntryFields) → others e ≡ Ok es' → rises_above (Some (place_of e.page e.item)) (entry_places es') ≡ true) where
   rise_after : (e : EntryFields) → is_in_order low e ≡ true → (r : Result (List EntryFields) CertFault) → others e ≡ r → (r >>= (λ es. Ok (e ∷ es))) ≡ Ok es → rises_above low (entry_places es) ≡ true
   rise_after e order (Ok es') same h = subst (λ es. rises_above low (entry_places es) ≡ true) (ap (value_or []) h)
-      (and_both (is_above low (place_of e.page e.item)) (rises_above (Some (place_of e.page e.item)) (entry_places es')) (and_right (are_starts e.starts) (is_above low (place_of e.page e.item)) order) (rise e es' same))
+      (and_from (is_above low (place_of e.page e.item)) (rises_above (Some (place_of e.page e.item)) (entry_places es')) (and_right (are_starts e.starts) (is_above low (place_of e.page e.item)) order) (rise e es' same))
   rise_after e order (Err fault) same h = absurd (no_value fault es h)
 
   rise_with : (o : Option EntryFields) (r : Result EntryFields CertFault) → read_entry n low o ≡ r → (r >>= (λ e. others e >>= (λ es. Ok (e ∷ es)))) ≡ Ok es → rises_above low (entry_places es) ≡ true

@@ -1,30 +1,31 @@
 -- Texts that are cut at a byte, and the numbers that digits are.
 use Rattle.std.proofs.Common.{◌≡◌, ℕ, zero, suc, ◌+◌, ◌-◌, ◌^◌, ◌<◌, ◌≤◌, Bool, true, false, ◌&&◌, List, [], ◌∷◌, length, take, drop, get_or, Some, None, nat_lt, ◌==◌, slice_index, unwrap_or, is_some, refl, sym, ap, ◌∙◌, inl, inr, arith}
+use Rattle.std.proofs.lemmas.Bool.{cases_Bool}
 use Rattle.std.specs.List.{slice_split, position, position_or_len}
 use Rattle.std.proofs.lemmas.Bool.Decides.{nat_tests}
 use Rattle.std.proofs.lemmas.List.{take_all, length-drop}
 use Rattle.std.proofs.lemmas.List.Splits.{slice_split-cons_no, slice_split_first}
 use Rattle.ttx_certificate.specs.CertificateReading.{is_between, are_digits, is_hex, is_id_word}
-use Rattle.ttx_certificate.proofs.Basics.{and_left, and_right, cases_bool, no_both}
+use Rattle.ttx_certificate.proofs.Choices.{and_left, and_right, no_both}
 
 module _ (p : ℕ → Bool) where
   no_part : (xs : List ℕ) → nat_lt (position_or_len p xs) (length xs) ≡ false → slice_split p xs ≡ xs ∷ []
   no_part [] none = refl
-  no_part (x ∷ xs) none = elim (cases_bool (p x)) [
+  no_part (x ∷ xs) none = elim (cases_Bool (p x)) [
     | inl here ↦ absurd (no_both (nat_lt 0 (suc (length xs))) (grind (arith, nat_tests)) (rw here at none))
     | inr other ↦ slice_split-cons_no p x xs other ∙ rw (no_part xs (let more = rw other at none in grind (arith, nat_tests))) refl
   ]
 
   -- where there is no separator, the text is one part
   pub not_cut : (xs : List ℕ) → position p xs ≡ None → slice_split p xs ≡ xs ∷ []
-  not_cut xs none = elim (cases_bool (nat_lt (position_or_len p xs) (length xs))) [
+  not_cut xs none = elim (cases_Bool (nat_lt (position_or_len p xs) (length xs))) [
     | inl some ↦ let found = rw some at none in cc
     | inr past ↦ no_part xs past
   ]
 
   -- the first part ends before the separator
   pub cut_at : (xs : List ℕ) (i : ℕ) → position p xs ≡ Some i → (i < length xs) × (slice_split p xs ≡ take i xs ∷ slice_split p (take (length xs - (i + 1)) (drop (i + 1) xs)))
-  cut_at xs i is = elim (cases_bool (nat_lt (position_or_len p xs) (length xs))) [
+  cut_at xs i is = elim (cases_Bool (nat_lt (position_or_len p xs) (length xs))) [
     | inl some ↦
         let found : Some (position_or_len p xs) ≡ Some i = rw some at is in
         let same : position_or_len p xs ≡ i = ap (λ o. unwrap_or o 0) found in

@@ -1,5 +1,6 @@
 -- The text of a certificate is read as the certificate.
 use Rattle.std.proofs.Common.{◌≡◌, ℕ, zero, suc, ◌+◌, ◌-◌, ◌*◌, ◌/◌, ◌%◌, ◌<◌, ◌≤◌, ◌==◌, Bool, true, false, not, ◌&&◌, ◌||◌, ◌++◌, List, [], ◌∷◌, length, map, slice_index, codes, Option, Some, None, option_map, Ok, Err, if◌then◌else◌, nat_lt, nat_le, refl, sym, ap, ◌∙◌, arith, append_assoc, append-nil, eq-eqb}
+use Rattle.std.proofs.lemmas.Bool.{and_from}
 use Rattle.std.specs.Fmt.{decimal}
 use Rattle.std.specs.List.{list_all, onto_first, AllByRecursion}
 use Rattle.std.specs.Str.{bytes_eq}
@@ -16,7 +17,7 @@ use Rattle.ttx_certificate.specs.Entries.{EntryFields, IsEntry, entry_at, Certif
 use Rattle.ttx_certificate.specs.CertificateTexts.{hex_digit, id_text, item_text, starts_text, entry_text, entries_text, class_text, number_text, certificate_text}
 use Rattle.ttx_certificate.specs.CertificateReading.{parts_at, lines_in, words_in, are_digits, is_number, decimal_after, number_in_word, is_between, is_hex, hex_value, is_id_word, hex_pair, id_in_word, is_id, is_in_range, is_in_order, item_in, before_numbers, numbers_in, starts_in_words, with_starts, with_item, entry_in, read_entry, read_entries, ranged, only_number, number_in, line_at, number_line, read_numbers, read_clearing, read_class, read_version, read_title, read_text, ◌>>=◌}
 use Rattle.ttx_certificate.specs.declared.certificate_faults.CertFault.TheVariants.{Line, Range, Order}
-use Rattle.ttx_certificate.proofs.Basics.{and_left, and_right, and_both, no_both}
+use Rattle.ttx_certificate.proofs.Choices.{and_left, and_right, no_both}
 use Rattle.ttx_certificate.proofs.AcceptedTexts.{own, item_words, numbers_text, whole}
 use Rattle.ttx_certificate.proofs.LineShapes.{ended_line, entries_step}
 
@@ -34,7 +35,7 @@ if_false false x y h = refl
 
 free_join : (s : ℕ) (xs ys : List ℕ) → free s xs ≡ true → free s ys ≡ true → free s (xs ++ ys) ≡ true
 free_join s [] ys p q = q
-free_join s (x ∷ xs) ys p q = and_both (not (x == s)) (free s (xs ++ ys)) (and_left (not (x == s)) (free s xs) p) (free_join s xs ys (and_right (not (x == s)) (free s xs) p) q)
+free_join s (x ∷ xs) ys p q = and_from (not (x == s)) (free s (xs ++ ys)) (and_left (not (x == s)) (free s xs) p) (free_join s xs ys (and_right (not (x == s)) (free s xs) p) q)
 
 not_it : (a : Bool) → not a ≡ true → a ≡ false
 not_it true h = sym h
@@ -59,7 +60,7 @@ digits_free s [] low are = refl
 digits_free s (d ∷ ds) low are =
     let digit : is_between 48 57 d ≡ true = and_left (is_between 48 57 d) (are_digits ds) are in
     let here : not (d == s) ≡ true = grind (arith, nat_tests) in
-    and_both (not (d == s)) (free s ds) here (digits_free s ds low (and_right (is_between 48 57 d) (are_digits ds) are))
+    and_from (not (d == s)) (free s ds) here (digits_free s ds low (and_right (is_between 48 57 d) (are_digits ds) are))
 
 decimal_digits : (n : ℕ) → n < 10000000 → are_digits (decimal n) ≡ true
 decimal_digits n small = digits_decimal own n (omega arith)
@@ -78,8 +79,8 @@ number_decimal n small =
     let few : length (decimal n) ≤ 7 = length-decimal-le 7 n (omega arith) (omega arith) (omega arith) in
     let a : nat_le 1 (length (decimal n)) ≡ true = grind (arith, nat_tests) in
     let b : nat_le (length (decimal n)) 7 ≡ true = grind (arith, nat_tests) in
-    let is : is_number (decimal n) ≡ true = and_both (are_digits (decimal n) && nat_le 1 (length (decimal n)) && nat_le (length (decimal n)) 7) (length (decimal n) == 1 || not (slice_index (decimal n) 0 == 48))
-    (and_both (are_digits (decimal n) && nat_le 1 (length (decimal n))) (nat_le (length (decimal n)) 7) (and_both (are_digits (decimal n)) (nat_le 1 (length (decimal n))) (decimal_digits n small) a) b) (lead n small) in
+    let is : is_number (decimal n) ≡ true = and_from (are_digits (decimal n) && nat_le 1 (length (decimal n)) && nat_le (length (decimal n)) 7) (length (decimal n) == 1 || not (slice_index (decimal n) 0 == 48))
+    (and_from (are_digits (decimal n) && nat_le 1 (length (decimal n))) (nat_le (length (decimal n)) 7) (and_from (are_digits (decimal n)) (nat_le 1 (length (decimal n))) (decimal_digits n small) a) b) (lead n small) in
     let value : decimal_after 0 (decimal n) ≡ n = digits_value-decimal own n (omega arith) in
     if_true (is_number (decimal n)) (Some (decimal_after 0 (decimal n))) None is ∙ ap Some value
 
@@ -98,8 +99,8 @@ pair_value a b pa pb = ap (λ x. 16 * x + hex_value (hex_digit b)) (hex_there a 
 
 nine : (a b c d e f g h i : Bool) → a ≡ true → b ≡ true → c ≡ true → d ≡ true → e ≡ true → f ≡ true → g ≡ true → h ≡ true → i ≡ true → (a && b && c && d && e && f && g && h && i) ≡ true
 nine a b c d e f g h i pa pb pc pd pe pf pg ph pi =
-    and_both (a && b && c && d && e && f && g && h) i (and_both (a && b && c && d && e && f && g) h (and_both (a && b && c && d && e && f) g (and_both (a && b && c && d && e) f
-    (and_both (a && b && c && d) e (and_both (a && b && c) d (and_both (a && b) c (and_both a b pa pb) pc) pd) pe) pf) pg) ph) pi
+    and_from (a && b && c && d && e && f && g && h) i (and_from (a && b && c && d && e && f && g) h (and_from (a && b && c && d && e && f) g (and_from (a && b && c && d && e) f
+    (and_from (a && b && c && d) e (and_from (a && b && c) d (and_from (a && b) c (and_from a b pa pb) pc) pd) pe) pf) pg) ph) pi
 
 abbrev id_word_of : ℕ → ℕ → ℕ → ℕ → ℕ → ℕ → ℕ → List ℕ
 id_word_of m a b c d e f = (48 + m) ∷ hex_digit a ∷ hex_digit b ∷ 47 ∷ hex_digit c ∷ hex_digit d ∷ hex_digit e ∷ hex_digit f ∷ []
@@ -138,7 +139,7 @@ hex_free : (s n : ℕ) → s < 48 → n < 16 → not (hex_digit n == s) ≡ true
 hex_free s n low small = grind (arith, nat_tests)
 
 free_cons : (s x : ℕ) (xs : List ℕ) → not (x == s) ≡ true → free s xs ≡ true → free s (x ∷ xs) ≡ true
-free_cons s x xs p q = and_both (not (x == s)) (free s xs) p q
+free_cons s x xs p q = and_from (not (x == s)) (free s xs) p q
 
 eight_free : (s a b c d e f g h : ℕ) → not (a == s) ≡ true → not (b == s) ≡ true → not (c == s) ≡ true → not (d == s) ≡ true → not (e == s) ≡ true → not (f == s) ≡ true → not (g == s) ≡ true → not (h == s) ≡ true →
     free s (a ∷ b ∷ c ∷ d ∷ e ∷ f ∷ g ∷ h ∷ []) ≡ true
@@ -224,16 +225,16 @@ id_in_range id is =
     let low : 1 ≤ id.mag = is.mag_from in let high : id.mag ≤ 8 = is.mag_to in let sub : id.sub < 16384 = is.sub.top in
     let mag : is_between 1 8 id.mag ≡ true = grind (arith, nat_tests) in
     let top : nat_lt id.sub 16384 ≡ true = grind (arith, nat_tests) in
-    and_both (is_between 1 8 id.mag && nat_lt id.sub 16384) (id.sub / 128 % 2 == 0) (and_both (is_between 1 8 id.mag) (nat_lt id.sub 16384) mag top) (eq-eqb (id.sub / 128 % 2) 0 is.sub.gap)
+    and_from (is_between 1 8 id.mag && nat_lt id.sub 16384) (id.sub / 128 % 2 == 0) (and_from (is_between 1 8 id.mag) (nat_lt id.sub 16384) mag top) (eq-eqb (id.sub / 128 % 2) 0 is.sub.gap)
 
 entry_in_range : (e : EntryFields) → IsEntry e → is_in_range e ≡ true
-entry_in_range e is = and_both (is_id e.page && is_page_id e.page && is_item e.item) (are_small e.starts)
-    (and_both (is_id e.page && is_page_id e.page) (is_item e.item) (and_both (is_id e.page) (is_page_id e.page) (id_in_range e.page is.id) is.page) is.item) (starts_small e.starts is.starts)
+entry_in_range e is = and_from (is_id e.page && is_page_id e.page && is_item e.item) (are_small e.starts)
+    (and_from (is_id e.page && is_page_id e.page) (is_item e.item) (and_from (is_id e.page) (is_page_id e.page) (id_in_range e.page is.id) is.page) is.item) (starts_small e.starts is.starts)
 
 entry_accepted : (n : ℕ) (low : Option ℕ) (e : EntryFields) → IsEntry e → is_above low (place_of e.page e.item) ≡ true → read_entry n low (Some e) ≡ Ok e
 entry_accepted n low e is above =
     if_false (not (is_in_range e)) (Err (Range n)) (if is_in_order low e then Ok e else Err (Order n)) (ap not (entry_in_range e is))
-    ∙ if_true (is_in_order low e) (Ok e) (Err (Order n)) (and_both (are_starts e.starts) (is_above low (place_of e.page e.item)) is.starts above)
+    ∙ if_true (is_in_order low e) (Ok e) (Err (Order n)) (and_from (are_starts e.starts) (is_above low (place_of e.page e.item)) is.starts above)
 
 -- the text of entries is read as the entries
 entries_read : (n : ℕ) (low : Option ℕ) (es : List EntryFields) → AllByRecursion IsEntry es → rises_above low (entry_places es) ≡ true → read_entries n low (lines_in (entries_text es)) ≡ Ok es
@@ -281,9 +282,9 @@ numbers_of w is =
     record {
       lines = two;
       few_lines = grind (arith, nat_tests);
-      repeat = and_both c d (and_right (a && b) c three) eight;
+      repeat = and_from c d (and_right (a && b) c three) eight;
       few_repeats = grind (arith, nat_tests);
-      deadline = and_both e f (and_right (a && b && c && d) e five) last;
+      deadline = and_from e f (and_right (a && b && c && d) e five) last;
       few_fields = grind (arith, nat_tests);
     }
 

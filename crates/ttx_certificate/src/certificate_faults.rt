@@ -17,7 +17,7 @@ pub enum CertFault {
     /// A number of the line is out of its range.
     #[error("a number of line {line} is out of range")]
     Range { line: usize },
-    /// A growth was refused.
+    /// An allocation failed.
     #[error("out of memory")]
     NoMemory,
 }

@@ -1,5 +1,5 @@
-//! Memory that is refused.
+//! An allocation that failed.
 
-/// Memory was refused.
+/// An allocation failed.
 #[derive(Clone, Copy, PartialEq, Eq, Debug)]
 pub struct NoMemory;

@@ -11,7 +11,7 @@ use Rattle.ttx_cycle.specs.declared.cycles.Cycle.{Cycle}
 use Rattle.ttx_cycle.specs.declared.faults.CycleFault.{CycleFault}
 use Rattle.ttx_cycle.specs.declared.faults.CycleFault.TheVariants.{Read, TooLong, NoMemory}
 
--- no fault of a device, and no want of memory
+-- no fault of a device, and no allocation that failed
 abbrev pub SpeaksOfBytes : Result Cycle CycleFault → Type 0
 SpeaksOfBytes (Err Read) = ⊥
 SpeaksOfBytes (Err NoMemory) = ⊥

@@ -17,7 +17,7 @@ pub enum CycleFault {
     /// The file has more than 2,752,512 bytes. Told before `Truncated`.
     #[error("the packet file has more than 65536 slots")]
     TooLong,
-    /// A growth was refused.
+    /// An allocation failed.
     #[error("out of memory")]
     NoMemory,
 }
@@ -38,7 +38,7 @@ pub enum TextFault {
     /// The text has more bytes than are allowed.
     #[error("the text is too long")]
     TooLong,
-    /// A growth was refused.
+    /// An allocation failed.
     #[error("out of memory")]
     NoMemory,
 }

@@ -1,4 +1,4 @@
 pub mod Digits
-pub mod Said
-pub mod Written
-pub mod Readable
+pub mod SaidInfo
+pub mod WrittenInfo
+pub mod ReadableInfo

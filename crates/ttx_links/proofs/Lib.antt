@@ -1,6 +1,6 @@
-pub mod Each
+pub mod LinksOneByOne
 pub mod Magazines
 pub mod Receptions
-pub mod Said
-pub mod Written
-pub mod Readable
+pub mod SaidLinks
+pub mod WrittenLinks
+pub mod ReadableLinks

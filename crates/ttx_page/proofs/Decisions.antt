@@ -14,16 +14,8 @@ pub and_right : (a b : Bool) → (a && b) ≡ true → b ≡ true
 and_right true b h = h
 and_right false b h = cc
 
-pub not_true : (a : Bool) → not a ≡ true → a ≡ false
-not_true true h = cc
-not_true false h = refl
-
 pub no_both : (a : Bool) → a ≡ true → a ≡ false → ⊥
 no_both a h k = cc
-
-pub cases_bool : (b : Bool) → (b ≡ true) ⊎ (b ≡ false)
-cases_bool true = inl refl
-cases_bool false = inr refl
 
 -- a fact, or its refutation
 abbrev pub Decided : Type 0 → Type 0

@@ -1,20 +1,20 @@
 mod Unions
 mod Heights
-pub mod Rules
-pub mod Kept
+pub mod PageRules
+pub mod KeptRanges
 pub mod PageLists
 pub mod Decisions
-pub mod Places
-pub mod Blank
+pub mod SlotDistances
+pub mod BlankMemories
 pub mod Choices
-pub mod Exact
-pub mod GoingOn
-pub mod Moved
+pub mod ExactReception
+pub mod RunsOneSlotOn
+pub mod MovedStreams
 pub mod OwnContents
 pub mod Owners
 pub mod Runs
 pub mod Turns
 pub mod Examples
 pub mod WrongText
-pub mod Outside
+pub mod OutsideErrorRule
 mod Targets

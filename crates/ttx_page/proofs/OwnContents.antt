@@ -1,6 +1,6 @@
 -- No reason is true exactly where the page's own contents are sent.
 use Rattle.std.proofs.Common.{◌≡◌, ℕ, ◌/◌, ℤ, true, false, List, Some, map, take, refl, sym, ap, ◌∙◌, inl, inr, arith}
-use Rattle.std.proofs.lemmas.Bool.{cases_eq}
+use Rattle.std.proofs.lemmas.Bool.{cases_eq, cases_Bool}
 use Rattle.std.proofs.lemmas.Bool.Decides.{nat_tests}
 use Rattle.ttx_code.specs.Words.{odd_byte}
 use Rattle.ttx_header.specs.Ids.{Id}
@@ -11,7 +11,7 @@ use Rattle.ttx_page.specs.Pages.{Page, IsPage, Item, TheHead, TheRow, TheLinks, 
 use Rattle.ttx_page.specs.Streams.{IsOwned, heads_page}
 use Rattle.ttx_page.specs.Steady.{Steady, SendsItsOwn, IsChecked, IsTrueTo, IsLikeHead, HeadIsRight, RowIsRight, LinksAreRight, erases_page}
 use Rattle.ttx_page.specs.Laws.{NoHeaderIsNone, SteadySendsItsOwn}
-use Rattle.ttx_page.proofs.Decisions.{Decided, by_refuting, both, same_bool, same_option, same_list, no_both, cases_bool}
+use Rattle.ttx_page.proofs.Decisions.{Decided, by_refuting, both, same_bool, same_option, same_list, no_both}
 
 same_nat : (a b : ℕ) → Decided (a ≡ b)
 same_nat a b = cases_eq a b
@@ -38,7 +38,7 @@ same_control a b h k e = grind (arith, nat_tests)
 head_right : (p : Page) (packet : Packet) → IsPage p → heads_page p.id packet ≡ true → (erases_page packet ≡ true → ⊥) → ((IsLikeHead p packet → ⊥) → ⊥) → HeadIsRight p packet
 head_right p (Header id control text) is h none like =
     let k = by_refuting (both (same_nat (control / 2) (p.control / 2)) (same_text (take 24 text) (map odd_byte p.head))) like in
-    (same_control control p.control (elim (cases_bool (c4 control)) as (λ _. c4 control ≡ false) [ inl e ↦ absurd (none e) | inr e ↦ e ]) is.no_erase k.0, k.1)
+    (same_control control p.control (elim (cases_Bool (c4 control)) as (λ _. c4 control ≡ false) [ inl e ↦ absurd (none e) | inr e ↦ e ]) is.no_erase k.0, k.1)
 head_right p Empty is h none like = cc
 head_right p Unreadable is h none like = cc
 head_right p (Row m number text) is h none like = cc
@@ -85,7 +85,7 @@ right_like p Other r = r
 pub no_header_is_none : NoHeaderIsNone
 no_header_is_none s p = (
   (λ none h. no_both _ h.is_header (none h.slot)),
-  (λ none j. elim (cases_bool (heads_page p.id (packet_of (s j)))) as (λ _. heads_page p.id (packet_of (s j)) ≡ false)
+  (λ none j. elim (cases_Bool (heads_page p.id (packet_of (s j)))) as (λ _. heads_page p.id (packet_of (s j)) ≡ false)
       [ inl e ↦ absurd (none (record { slot = j; is_header = e })) | inr e ↦ e ]),
 )
 
@@ -95,7 +95,7 @@ steady_sends_its_own s pages p is = (own, steady)
     own : Steady s pages p → SendsItsOwn s pages p
     own t = record {
       header = t.header;
-      only_subpage = λ alone j number. elim (cases_bool (heads_page p.id (packet_of (s j)))) as (λ _. heads_page p.id (packet_of (s j)) ≡ true)
+      only_subpage = λ alone j number. elim (cases_Bool (heads_page p.id (packet_of (s j)))) as (λ _. heads_page p.id (packet_of (s j)) ≡ true)
           [ inl e ↦ e | inr e ↦ absurd (t.only_subpage j (record { alone = alone; number = number; other = e })) ];
       items = items;
     }

@@ -7,7 +7,7 @@ use Rattle.ttx_page.specs.Pages.{Item, TheHead, TheRow, TheLinks}
 use Rattle.ttx_page.specs.Streams.{Stream, heads, heads_page, carries, IsLatestHeader, IsOwned}
 use Rattle.ttx_page.specs.Laws.{IsSameOn, OwnersAreUnique, OwnersComeFirst, OwnersAreNear, OwnersDontFall}
 use Rattle.ttx_page.proofs.Decisions.{no_both, and_left}
-use Rattle.ttx_page.proofs.Places.{cases_ltz}
+use Rattle.ttx_page.proofs.SlotDistances.{cases_ltz}
 
 latest_unique : (s : Stream) (mag : ℕ) (h k j : ℤ) → IsLatestHeader s mag h j → IsLatestHeader s mag k j → h ≡ k
 latest_unique s mag h k j a b = elim (cases_ltz h k) as (λ _. h ≡ k) [

@@ -6,7 +6,7 @@ use Rattle.ttx_header.specs.Ids.{Id}
 use Rattle.ttx_page.specs.Pages.{Item}
 use Rattle.ttx_page.specs.Streams.{Stream, IsTransmission, AreSuccessive}
 use Rattle.ttx_page.specs.Laws.{RunsAreUnique, RunsRise}
-use Rattle.ttx_page.proofs.Places.{cases_ltz}
+use Rattle.ttx_page.proofs.SlotDistances.{cases_ltz}
 
 module _ (s : Stream) (page : Id) (item : Item) where
   begins : (z : ℤ) (c : List ℤ) → AreSuccessive s page item (z ∷ c) → IsTransmission s page item z

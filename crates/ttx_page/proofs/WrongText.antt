@@ -14,8 +14,8 @@ use Rattle.ttx_page.specs.Streams.{Stream, heads_page, carries, IsTransmission, 
 use Rattle.ttx_page.specs.Receptions.{IsTextByte, IsRight, OneIs, Received}
 use Rattle.ttx_page.specs.ErrorRule.{AreSame, HasRightText, HasWrongText, WrongTextIsReceived}
 use Rattle.ttx_page.proofs.Decisions.{if_ind}
-use Rattle.ttx_page.proofs.Exact.{near_self}
-use Rattle.ttx_page.proofs.Places.{offset, offset_lt}
+use Rattle.ttx_page.proofs.ExactReception.{near_self}
+use Rattle.ttx_page.proofs.SlotDistances.{offset, offset_lt}
 
 -- ---- numbers in a list
 

@@ -18,24 +18,8 @@ pub and_right : (a b : Bool) → (a && b) ≡ true → b ≡ true
 and_right true b h = h
 and_right false b h = cc
 
-pub and_both : (a b : Bool) → a ≡ true → b ≡ true → (a && b) ≡ true
-and_both true b h k = k
-and_both false b h k = h
-
-pub not_true : (a : Bool) → not a ≡ true → a ≡ false
-not_true true h = cc
-not_true false h = refl
-
-pub not_false : (a : Bool) → a ≡ false → not a ≡ true
-not_false true h = sym h
-not_false false h = refl
-
 pub no_both : (a : Bool) → a ≡ true → a ≡ false → ⊥
 no_both a h k = cc
-
-pub cases_bool : (b : Bool) → (b ≡ true) ⊎ (b ≡ false)
-cases_bool true = inl refl
-cases_bool false = inr refl
 
 pub eq_sym : (a b : ℕ) → (a == b) ≡ true → (b == a) ≡ true
 eq_sym a b h = eq-eqb b a (sym (eqb-true a b h))
@@ -65,10 +49,6 @@ stored_row_good [] text c h k o = absurd (omega arith)
 stored_row_good (x ∷ row) [] c h k o = absurd (omega arith)
 stored_row_good (x ∷ row) (b ∷ text) zero h k o = if_ind (λ v. v ≡ b % 128) (is_odd b) (b % 128) x (λ e. refl) (λ e. absurd (no_both (is_odd b) o e))
 stored_row_good (x ∷ row) (b ∷ text) (suc c) h k o = stored_row_good row text c (omega arith) (omega arith) o
-
-pub or_false : (a b : Bool) → a ≡ false → b ≡ false → (a || b) ≡ false
-or_false true b h k = h
-or_false false b h k = k
 
 pub gt_not_le : (a b : ℕ) → b < a → nat_le a b ≡ false
 gt_not_le a b h = grind (arith, nat_tests)

@@ -1,5 +1,6 @@
 -- A receiver tuned to a stream is given its packets.
 use Rattle.std.proofs.Common.{◌≡◌, ℕ, ◌<◌, ℤ, pos, ◌+ℤ◌, ◌<ℤ◌, ◌≤ℤ◌, true, false, ◌&&◌, ◌==◌, List, [], length, get_or, refl, sym, ap, ◌∙◌, subst, inl, inr, arith, eqb-true, eq-eqb}
+use Rattle.std.proofs.lemmas.Bool.{and_from, cases_Bool}
 use Rattle.std.proofs.lemmas.Int.{ints}
 use Rattle.ttx_header.specs.Ids.{Id, same_id}
 use Rattle.ttx_page.specs.Packets.{Packet, Empty, Unreadable, Header, Row, Links, Info, Other, packet_of}
@@ -10,11 +11,11 @@ use Rattle.ttx_page.specs.declared.item.Item.TheVariants.{Head as TheHead, Row a
 use Rattle.ttx_page.specs.Streams.{Stream, heads, heads_page, heads_matched, carries, IsLatestHeader}
 use Rattle.ttx_page.specs.Receptions.{Received}
 use Rattle.ttx_receiver.specs.Laws.{IsSteadyFrom}
-use Rattle.ttx_receiver.proofs.Choices.{and_left, and_right, and_both, cases_bool}
+use Rattle.ttx_receiver.proofs.Choices.{and_left, and_right}
 use Rattle.ttx_receiver.proofs.Runs.{packet_at, IsOwnedAt, ReceivesPage}
-use Rattle.ttx_receiver.proofs.Items.{needed_row}
-use Rattle.ttx_receiver.proofs.Received.{LawsBelow, of_slot, IsOfSlot, same_heads, same_matched, same_links, row_was_sent, received_head, received_row, received_links}
-use Rattle.ttx_receiver.proofs.Places.{offset, not_before, offset_lt, lt_offset, le_le}
+use Rattle.ttx_receiver.proofs.TakenItems.{needed_row}
+use Rattle.ttx_receiver.proofs.ReceivedPackets.{LawsBelow, of_slot, IsOfSlot, same_heads, same_matched, same_links, row_was_sent, received_head, received_row, received_links}
+use Rattle.ttx_receiver.proofs.SlotDistances.{offset, not_before, offset_lt, lt_offset, le_le}
 
 -- the page's headers are of its magazine, and the selection matches them
 pub page_heads : (id : Id) (pkt : Packet) → heads_page id pkt ≡ true → heads id.mag pkt ≡ true
@@ -31,11 +32,11 @@ matches_same (Exact own) id other h k =
     let a = eqb-true _ _ (and_left _ _ (and_left _ _ h)) ∙ eqb-true _ _ (and_left _ _ (and_left _ _ k)) in
     let b = eqb-true _ _ (and_right _ _ (and_left _ _ h)) ∙ eqb-true _ _ (and_right _ _ (and_left _ _ k)) in
     let c = eqb-true _ _ (and_right _ _ h) ∙ eqb-true _ _ (and_right _ _ k) in
-    and_both _ _ (and_both _ _ (eq-eqb own.mag other.mag a) (eq-eqb own.page other.page b)) (eq-eqb own.sub other.sub c)
+    and_from _ _ (and_from _ _ (eq-eqb own.mag other.mag a) (eq-eqb own.page other.page b)) (eq-eqb own.sub other.sub c)
 matches_same (AnySub mag page) id other h k =
     let a = eqb-true _ _ (and_left _ _ h) ∙ eqb-true _ _ (and_left _ _ (and_left _ _ k)) in
     let b = eqb-true _ _ (and_right _ _ h) ∙ eqb-true _ _ (and_right _ _ (and_left _ _ k)) in
-    and_both _ _ (eq-eqb mag other.mag a) (eq-eqb page other.page b)
+    and_from _ _ (eq-eqb mag other.mag a) (eq-eqb page other.page b)
 
 pub page_matched : (sel : Selection) (id : Id) (pkt : Packet) → matches sel id ≡ true → heads_page id pkt ≡ true → heads_matched sel pkt ≡ true
 page_matched sel id (Header other control text) m h = matches_same sel id other m h
@@ -54,7 +55,7 @@ pub no_row_zero : LawsBelow → (mag : ℕ) (slot : List ℕ) → carries mag (T
 no_row_zero laws mag slot = go (packet_of slot) (of_slot laws slot)
   where
     go : (pkt : Packet) → IsOfSlot slot pkt → carries mag (TheRow 0) pkt ≡ false
-    go (Row m number text) o = elim (cases_bool ((m == mag) && (number == 0))) as (λ _. ((m == mag) && (number == 0)) ≡ false)
+    go (Row m number text) o = elim (cases_Bool ((m == mag) && (number == 0))) as (λ _. ((m == mag) && (number == 0)) ≡ false)
         [ inl e ↦ let z : number ≡ 0 = eqb-true number 0 (and_right _ _ e) in absurd (omega (arith, o.1)) | inr e ↦ e ]
     go (Header id control text) o = refl
     go (Links m content) o = refl

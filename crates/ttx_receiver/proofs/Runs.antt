@@ -9,7 +9,7 @@ use Rattle.ttx_page.specs.declared.class.Class.{Class}
 use Rattle.ttx_page.specs.Memories.{Memory}
 use Rattle.ttx_page.specs.Receivers.{older, after, Run}
 use Rattle.ttx_page.specs.Streams.{heads, heads_matched, ends_serial, carries}
-use Rattle.ttx_receiver.proofs.OneStep.{Shape, IsHeadOf, IsRowOf, AreLinksOf, shape_after, after_storing, after_ready, after_begin, after_settled}
+use Rattle.ttx_receiver.proofs.StepsOverPage.{Shape, IsHeadOf, IsRowOf, AreLinksOf, shape_after, after_storing, after_ready, after_begin, after_settled}
 
 -- what is received at a place of the list
 abbrev pub packet_at : List (List ℕ) → ℕ → Packet

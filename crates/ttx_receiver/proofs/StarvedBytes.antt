@@ -1,14 +1,14 @@
 -- Slots in which the lowest bit of one byte is wrong.
 use Rattle.std.proofs.Common.{◌≡◌, ◌≢◌, ℕ, ◌^◌, ◌<◌, ◌≤◌, ◌&&◌, not, leb, Bool, true, false, ◌==◌, List, get_or, refl, sym, ◌∙◌, subst, inl, inr, arith, eqb-true, eq-eqb, leb-true, length-set, get_or-set_same, get_or-set_other}
 use Rattle.std.specs.Prelude.{bit_xor}
-use Rattle.std.proofs.lemmas.Bool.{agree_below, agree_below_at}
+use Rattle.std.proofs.lemmas.Bool.{agree_below, agree_below_at, cases_Bool, not-true}
 use Rattle.ttx_code.specs.Words.{Near, ones, distance, is_odd}
 use Rattle.ttx_packet.specs.Slots.{IsSlot}
 use Rattle.ttx_packet.specs.Receptions.{MayBeReceivedAs}
 use Rattle.ttx_page.specs.Packets.{Empty, packet_of}
 use Rattle.ttx_receiver.specs.Starving.{spoilt}
-use Rattle.ttx_receiver.proofs.Choices.{and_left, and_right, not_true, no_both, cases_bool}
-use Rattle.ttx_receiver.proofs.Received.{packet_empty}
+use Rattle.ttx_receiver.proofs.Choices.{and_left, and_right, no_both}
+use Rattle.ttx_receiver.proofs.ReceivedPackets.{packet_empty}
 
 -- a byte with its lowest bit wrong is a byte, one bit from it, and of the other parity
 abbrev is_flipped : ℕ → Bool
@@ -35,7 +35,7 @@ both_false true b h k = h
 both_false false b h k = cc
 
 pub flip_even : (b : ℕ) → b < 256 → is_odd b ≡ true → is_odd (bit_xor b 1) ≡ false
-flip_even b lt odd = both_false (is_odd b) (is_odd (bit_xor b 1)) (not_true _ (and_right _ _ (flip_at b lt))) odd
+flip_even b lt odd = both_false (is_odd b) (is_odd (bit_xor b 1)) (not-true _ (and_right _ _ (flip_at b lt))) odd
 
 module _ (slot : List ℕ) (s : IsSlot slot) where
   pub kept_byte : (x y : ℕ) → y ≢ x → get_or (spoilt slot x) y 0 ≡ get_or slot y 0
@@ -45,7 +45,7 @@ module _ (slot : List ℕ) (s : IsSlot slot) where
   flipped_byte x lt = get_or-set_same slot x (bit_xor (get_or slot x 0) 1) 0 (omega (arith, s.size))
 
   each_byte : (P : ℕ → ℕ → Type 0) (x : ℕ) → x < 42 → ((y : ℕ) → P y (get_or slot y 0)) → P x (bit_xor (get_or slot x 0) 1) → (y : ℕ) → P y (get_or (spoilt slot x) y 0)
-  each_byte P x lt others flipped y = elim (cases_bool (y == x)) as (λ _. P y (get_or (spoilt slot x) y 0)) [
+  each_byte P x lt others flipped y = elim (cases_Bool (y == x)) as (λ _. P y (get_or (spoilt slot x) y 0)) [
     | inl e ↦ let same : y ≡ x = eqb-true y x e in subst (λ z. P z (get_or (spoilt slot x) z 0)) (sym same) (subst (P x) (sym (flipped_byte x lt)) flipped)
     | inr e ↦ subst (P y) (sym (kept_byte x y (λ q. no_both _ (eq-eqb y x q) e))) (others y)
   ]

@@ -15,8 +15,8 @@ use Rattle.ttx_page.specs.Receptions.{IsTextByte, IsRight, OneIs, Received}
 use Rattle.ttx_receiver.specs.Laws.{IsSteadyFrom}
 use Rattle.ttx_receiver.specs.Starving.{spoilt, takes, heard, starved_memory, starved_slots}
 use Rattle.ttx_receiver.proofs.Choices.{if_ind, and_left, and_right, no_both}
-use Rattle.ttx_receiver.proofs.Received.{LawsBelow}
-use Rattle.ttx_receiver.proofs.Places.{offset, offset_lt}
+use Rattle.ttx_receiver.proofs.ReceivedPackets.{LawsBelow}
+use Rattle.ttx_receiver.proofs.SlotDistances.{offset, offset_lt}
 use Rattle.ttx_receiver.proofs.StarvedUnder.{IsTaken, length_slots, slot_at, may, taken_at}
 
 -- a slot carries one item

@@ -1,7 +1,7 @@
 -- What a starved receiver hears and chooses, as hits and as a script.
 use Rattle.std.proofs.Common.{◌≡◌, ℕ, zero, suc, ◌+◌, ◌<◌, ℤ, pos, ◌+ℤ◌, Bool, true, false, List, [], ◌∷◌, ◌++◌, length, get_or, refl, sym, ap, ◌∙◌, subst, inl, inr, arith, length-append, append_assoc}
 use Rattle.std.specs.List.{Contains}
-use Rattle.std.proofs.lemmas.Bool.{cases_lt}
+use Rattle.std.proofs.lemmas.Bool.{cases_lt, cases_Bool}
 use Rattle.std.proofs.lemmas.List.{get_or_append_left, append-nil}
 use Rattle.std.proofs.Math.Seq.{get_or-append_seam}
 use Rattle.std.proofs.lemmas.List.Elements.{Contains-get_or, Contains-append_left, Contains-append_right, Contains-append_cases}
@@ -16,8 +16,8 @@ use Rattle.ttx_page.specs.Receivers.{older, after, has_choice, next_choice, late
 use Rattle.ttx_page.specs.Streams.{Stream}
 use Rattle.ttx_page.specs.Laws.{ChoicesAreChoices}
 use Rattle.ttx_receiver.specs.Starving.{spoilt, takes, heard, is_hit, first_byte, starved_memory, starved_slots, starved_hits, starved_choices, StarvedIsScripted}
-use Rattle.ttx_receiver.proofs.Choices.{if_ind, no_both, cases_bool}
-use Rattle.ttx_receiver.proofs.Received.{packet_empty}
+use Rattle.ttx_receiver.proofs.Choices.{if_ind, no_both}
+use Rattle.ttx_receiver.proofs.ReceivedPackets.{packet_empty}
 use Rattle.ttx_receiver.proofs.StarvedUnder.{slot_at, takes_something}
 
 -- the choices that a run leaves of a script
@@ -42,11 +42,11 @@ hit_heard : (lines : ℕ) (sel : Selection) (item : Item) (m : Memory) (slot : L
     (heard lines sel item m slot ≡ spoilt slot (first_byte item)) × (is_empty slot ≡ false)
 hit_heard lines sel TheHead m slot h = (
   if_ind (λ y. y ≡ spoilt slot 10) (takes lines sel TheHead (older m) (packet_of slot)) (spoilt slot 10) slot (λ _. refl) (λ e. absurd (no_both _ h e)),
-  elim (cases_bool (is_empty slot)) as (λ _. is_empty slot ≡ false) [ inl e ↦ absurd (takes_something lines sel TheHead (older m) (packet_of slot) h (packet_empty slot e)) | inr e ↦ e ],
+  elim (cases_Bool (is_empty slot)) as (λ _. is_empty slot ≡ false) [ inl e ↦ absurd (takes_something lines sel TheHead (older m) (packet_of slot) h (packet_empty slot e)) | inr e ↦ e ],
 )
 hit_heard lines sel (TheRow r) m slot h = (
   if_ind (λ y. y ≡ spoilt slot 2) (takes lines sel (TheRow r) (older m) (packet_of slot)) (spoilt slot 2) slot (λ _. refl) (λ e. absurd (no_both _ h e)),
-  elim (cases_bool (is_empty slot)) as (λ _. is_empty slot ≡ false) [ inl e ↦ absurd (takes_something lines sel (TheRow r) (older m) (packet_of slot) h (packet_empty slot e)) | inr e ↦ e ],
+  elim (cases_Bool (is_empty slot)) as (λ _. is_empty slot ≡ false) [ inl e ↦ absurd (takes_something lines sel (TheRow r) (older m) (packet_of slot) h (packet_empty slot e)) | inr e ↦ e ],
 )
 hit_heard lines sel TheLinks m slot h = absurd (no_both false h refl)
 
@@ -168,7 +168,7 @@ starved_is_scripted plain lines sel item s tau former n = record {
   hit = λ t c. let h = hits_are lines sel item s tau former n t c in
       slot_at lines sel item s tau former n t h.0 ∙ (hit_heard lines sel item (mem lines sel item s tau former t) (s (tau +ℤ pos t)) h.1).0;
   other = λ t lt no. slot_at lines sel item s tau former n t lt
-      ∙ elim (cases_bool (is_hit lines sel item (mem lines sel item s tau former t) (s (tau +ℤ pos t)))) as (λ _. heard lines sel item (mem lines sel item s tau former t) (s (tau +ℤ pos t)) ≡ s (tau +ℤ pos t)) [
+      ∙ elim (cases_Bool (is_hit lines sel item (mem lines sel item s tau former t) (s (tau +ℤ pos t)))) as (λ _. heard lines sel item (mem lines sel item s tau former t) (s (tau +ℤ pos t)) ≡ s (tau +ℤ pos t)) [
         | inl e ↦ absurd (no (hits_have lines sel item s tau former n t lt e))
         | inr e ↦ unhit_heard lines sel item (mem lines sel item s tau former t) (s (tau +ℤ pos t)) e
       ];

@@ -1,5 +1,6 @@
 -- Where an item never comes by an all-sure run, a receiver that takes all its choices keeps it wrong, and all else right.
 use Rattle.std.proofs.Common.{◌≡◌, ◌≢◌, ℕ, zero, suc, ◌+◌, ◌<◌, ◌≤◌, ℤ, pos, ◌+ℤ◌, Bool, true, false, if◌then◌else◌, List, [], length, get_or, refl, sym, ap, ◌∙◌, subst, arith, ext_get_or, get_or-drop}
+use Rattle.std.proofs.lemmas.Bool.{and_from}
 use Rattle.ttx_code.specs.Words.{is_odd}
 use Rattle.ttx_packet.specs.Slots.{IsSlot}
 use Rattle.ttx_page.specs.Packets.{Packet, Empty, Unreadable, Header, Row, Links, Info, Other, packet_of}
@@ -16,14 +17,14 @@ use Rattle.ttx_page.specs.Steady.{HeadIsRight, RowIsRight}
 use Rattle.ttx_page.specs.Laws.{PageIsShown, RunsGoOn}
 use Rattle.ttx_receiver.specs.Laws.{IsSteadyFrom}
 use Rattle.ttx_receiver.specs.Starving.{spoilt, is_bound, takes, heard, starved_memory, starved_slots, wrong_memory, IsWrong, IsStarved, StarvedStaysWrong}
-use Rattle.ttx_receiver.proofs.Choices.{and_left, and_right, and_both, no_both}
-use Rattle.ttx_receiver.proofs.OneStep.{Shape, shape_after}
-use Rattle.ttx_receiver.proofs.Keeps.{HeadRightAt, RowRightAt, keep_row, keep_head, keep_links}
+use Rattle.ttx_receiver.proofs.Choices.{and_left, and_right, no_both}
+use Rattle.ttx_receiver.proofs.StepsOverPage.{Shape, shape_after}
+use Rattle.ttx_receiver.proofs.TakenAndKept.{HeadRightAt, RowRightAt, keep_row, keep_head, keep_links}
 use Rattle.ttx_receiver.proofs.Runs.{packet_at, IsTuned, ReceivesPage, tuned_next}
-use Rattle.ttx_receiver.proofs.Items.{needed_row}
-use Rattle.ttx_receiver.proofs.Received.{LawsBelow, IsOfSlot, of_slot, same_matched, row_was_sent, head_received_at, row_received_at}
+use Rattle.ttx_receiver.proofs.TakenItems.{needed_row}
+use Rattle.ttx_receiver.proofs.ReceivedPackets.{LawsBelow, IsOfSlot, of_slot, same_matched, row_was_sent, head_received_at, row_received_at}
 use Rattle.ttx_receiver.proofs.ReceivedPage.{receives_page, same_mag}
-use Rattle.ttx_receiver.proofs.Places.{not_before, lt_offset}
+use Rattle.ttx_receiver.proofs.SlotDistances.{not_before, lt_offset}
 use Rattle.ttx_receiver.proofs.StarvedBytes.{flip_even, flipped_byte, received_as_sent}
 use Rattle.ttx_receiver.proofs.StarvedSteps.{IsFirstEven, wrong_row, wrong_head, wrong_links}
 use Rattle.ttx_receiver.proofs.StarvedUnder.{IsTaken, memory_begins, memory_next, length_slots, slot_at, may, taken_at}
@@ -145,7 +146,7 @@ module _ (all : StarvingLaws) (s : Stream) (p : Page) (page : IsPage p) (sel : S
       let mine = ap (λ mag. carries mag (TheRow r) (packet_of (hears t))) (same_mag sel p.id fits) ∙ carried in
       let was = row_was_sent laws (sent t) (hears t) (slots_are t) (steady.clean _ (not_before tau t)) (may laws s p sel fits lines few item tau steady former (wrong_is_idle p item).0 t) p.id.mag r mine in
       let was' : takes lines sel (TheRow r) (older m) (packet_of (sent t)) ≡ true =
-      and_both (carries (selected_mag sel) (TheRow r) (packet_of (sent t))) (is_bound lines (older m))
+      and_from (carries (selected_mag sel) (TheRow r) (packet_of (sent t))) (is_bound lines (older m))
       (ap (λ mag. carries mag (TheRow r) (packet_of (sent t))) (sym (same_mag sel p.id fits)) ∙ was) (and_right (carries (selected_mag sel) (TheRow r) (packet_of (hears t))) _ h) in
       let k = taken t (subst (λ i. takes lines sel i (older m) (packet_of (sent t)) ≡ true) (sym is) was') in
       let own : RowIsRight p r (packet_of (sent t)) =

@@ -1,5 +1,6 @@
 -- What one slot changes of a character or of the links, and when a receiver that takes all its choices is storing after it.
 use Rattle.std.proofs.Common.{◌≡◌, ◌≢◌, ◌⊎◌, ℕ, ◌-◌, ◌<◌, ◌≤◌, Bool, true, false, not, ◌&&◌, ◌==◌, List, [], ◌++◌, Some, None, length, get_or, take, drop, set, refl, sym, ap, ◌∙◌, subst, inl, inr, arith, eqb-true, eq-eqb, nat_le, get_or-set_same, get_or-set_other, length-drop, get_or-drop}
+use Rattle.std.proofs.lemmas.Bool.{and_from, cases_Bool}
 use Rattle.ttx_code.specs.Words.{is_odd}
 use Rattle.ttx_header.specs.Control.{c4, c11}
 use Rattle.ttx_page.specs.Packets.{Packet, Empty, Unreadable, Header, Row, Links, Info, Other}
@@ -11,9 +12,9 @@ use Rattle.ttx_page.specs.Memories.{Memory, char_at}
 use Rattle.ttx_page.specs.Receivers.{stored_row, with_row, with_storing, erased, begun, with_links, erases, misses, after}
 use Rattle.ttx_page.specs.Streams.{heads, heads_matched, ends_serial, carries}
 use Rattle.ttx_receiver.specs.Starving.{is_bound, takes}
-use Rattle.ttx_receiver.proofs.Choices.{if_ind, and_left, and_right, and_both, no_both, cases_bool, stored_row_at}
-use Rattle.ttx_receiver.proofs.OneStep.{Shape, IsHeadOf, erased_first, shape_erased}
-use Rattle.ttx_receiver.proofs.Keeps.{erases_not, head_char}
+use Rattle.ttx_receiver.proofs.Choices.{if_ind, and_left, and_right, no_both, stored_row_at}
+use Rattle.ttx_receiver.proofs.StepsOverPage.{Shape, IsHeadOf, erased_first, shape_erased}
+use Rattle.ttx_receiver.proofs.TakenAndKept.{erases_not, head_char}
 
 -- the first byte of the text is of even parity
 abbrev pub IsFirstEven : Packet → Type 0
@@ -79,9 +80,9 @@ module _ (lines : ℕ) (sel : Selection) where
 
   taken_is : (m : Memory) (mag r number : ℕ) → taken_by m mag ≡ true → (number == r) ≡ true → takes lines sel (TheRow r) m (Row mag number []) ≡ true
   taken_is m mag r number e q =
-      and_both ((mag == selected_mag sel) && (number == r)) (is_bound lines m)
-      (and_both (mag == selected_mag sel) (number == r) (and_left _ _ (and_left _ _ e)) q)
-      (and_both m.storing (not (nat_le m.age lines)) (and_right _ _ (and_left _ _ e)) (and_right _ _ e))
+      and_from ((mag == selected_mag sel) && (number == r)) (is_bound lines m)
+      (and_from (mag == selected_mag sel) (number == r) (and_left _ _ (and_left _ _ e)) q)
+      (and_from m.storing (not (nat_le m.age lines)) (and_right _ _ (and_left _ _ e)) (and_right _ _ e))
 
   -- the first character of row r stays as it is where each row r that is taken has a wrong first byte
   pub wrong_row : (r : ℕ) → 1 ≤ r → r < 25 → (p : Page) → c4 p.control ≡ false → (m : Memory) (pkt : Packet) → Shape m → m.fresh ≡ false →
@@ -101,7 +102,7 @@ module _ (lines : ℕ) (sel : Selection) where
       let P : Memory → Type 0 = λ new. char_at new r 0 ≡ char_at m r 0 in
       let row = stored_row (get_or m.rows number []) text in
       if_ind {A = Memory} P (taken_by m mag) (with_row m number row) m
-      (λ e. elim (cases_bool (number == r)) as (λ _. P (with_row m number row)) [
+      (λ e. elim (cases_Bool (number == r)) as (λ _. P (with_row m number row)) [
         | inl q ↦
             let same : number ≡ r = eqb-true number r q in
             let lt : number < length m.rows = omega (arith, s.count) in
@@ -148,7 +149,7 @@ module _ (lines : ℕ) (sel : Selection) where
       let row = stored_row (get_or m.rows number []) text in
       if_ind {A = Memory} P (taken_by m mag) (with_row m number row) m
       (λ e.
-      let ne : 0 ≢ number = λ z. no_both _ (and_both _ _ (and_left _ _ (and_left _ _ e)) (eq-eqb number 0 (sym z))) none in
+      let ne : 0 ≢ number = λ z. no_both _ (and_from _ _ (and_left _ _ (and_left _ _ e)) (eq-eqb number 0 (sym z))) none in
       ap (λ z. get_or z 8 0) (get_or-set_other m.rows number 0 row [] ne))
       (λ _. refl)
   wrong_head m (Links mag None) s even none =
@@ -176,8 +177,8 @@ module _ (lines : ℕ) (sel : Selection) where
       if_ind {A = Memory} (λ new. new.links ≡ m.links) (taken_by m mag) (with_row m number (stored_row (get_or m.rows number []) text)) m (λ _. refl) (λ _. refl)
   wrong_links p k4 m (Links mag content) f hh none =
       if_ind {A = Memory} (λ new. new.links ≡ m.links) (taken_by m mag) (with_links m content) m
-      (λ e. absurd (none (and_both (mag == selected_mag sel) (is_bound lines m) (and_left _ _ (and_left _ _ e))
-      (and_both m.storing (not (nat_le m.age lines)) (and_right _ _ (and_left _ _ e)) (and_right _ _ e)))))
+      (λ e. absurd (none (and_from (mag == selected_mag sel) (is_bound lines m) (and_left _ _ (and_left _ _ e))
+      (and_from m.storing (not (nat_le m.age lines)) (and_right _ _ (and_left _ _ e)) (and_right _ _ e)))))
       (λ _. refl)
   wrong_links p k4 m Empty f hh none = refl
   wrong_links p k4 m Unreadable f hh none = refl

@@ -1,7 +1,7 @@
 -- A receiver that takes all its choices stores under the page's headers alone, and what it then takes is sure.
 use Rattle.std.proofs.Common.{◌≡◌, ℕ, zero, suc, ◌+◌, ◌-◌, ◌<◌, ◌≤◌, min, ℤ, pos, ◌+ℤ◌, ◌<ℤ◌, ◌≤ℤ◌, Bool, true, false, ◌&&◌, List, [], ◌∷◌, ◌++◌, length, get_or, refl, sym, ap, ◌∙◌, subst, inl, inr, arith, nat_le, length-append}
 use Rattle.std.proofs.lemmas.Int.{ints}
-use Rattle.std.proofs.lemmas.Bool.{cases_lt, leb-false}
+use Rattle.std.proofs.lemmas.Bool.{cases_lt, leb-false, not-true}
 use Rattle.std.proofs.lemmas.List.{get_or_append_left, get_or-append-add}
 use Rattle.ttx_packet.specs.Slots.{IsSlot}
 use Rattle.ttx_packet.specs.Receptions.{MayBeReceivedAs}
@@ -16,10 +16,10 @@ use Rattle.ttx_page.specs.Receivers.{older, after}
 use Rattle.ttx_page.specs.Streams.{Stream, heads, heads_page, heads_matched, ends_serial, carries, IsLatestHeader, IsOwned, IsSure, CannotBeMissed}
 use Rattle.ttx_receiver.specs.Laws.{IsSteadyFrom}
 use Rattle.ttx_receiver.specs.Starving.{spoilt, is_bound, takes, heard, starved_memory, starved_slots}
-use Rattle.ttx_receiver.proofs.Choices.{if_ind, and_left, and_right, not_true, no_both}
-use Rattle.ttx_receiver.proofs.Received.{LawsBelow, same_heads, same_matched, same_ends}
+use Rattle.ttx_receiver.proofs.Choices.{if_ind, and_left, and_right, no_both}
+use Rattle.ttx_receiver.proofs.ReceivedPackets.{LawsBelow, same_heads, same_matched, same_ends}
 use Rattle.ttx_receiver.proofs.ReceivedPage.{page_heads, same_mag}
-use Rattle.ttx_receiver.proofs.Places.{offset, not_before, offset_lt, lt_offset}
+use Rattle.ttx_receiver.proofs.SlotDistances.{offset, not_before, offset_lt, lt_offset}
 use Rattle.ttx_receiver.proofs.StarvedBytes.{spoilt_received, received_as_sent}
 use Rattle.ttx_receiver.proofs.StarvedSteps.{stores_since}
 
@@ -175,7 +175,7 @@ module _ (laws : LawsBelow) (s : Stream) (p : Page) (sel : Selection) (fits : ma
   bound_at : (t : ℕ) → is_bound lines (older (mem t)) ≡ true → IsBoundAt t
   bound_at t b =
       let u = under t (and_left _ _ b) in
-      let k : u.header + lines < t = old_enough t u.header (mem t) u.age u.before (not_true _ (and_right (mem t).storing _ b)) in
+      let k : u.header + lines < t = old_enough t u.header (mem t) u.age u.before (not-true _ (and_right (mem t).storing _ b)) in
       let inside = λ (P : ℤ → Type 0) (each : (i : ℕ) → u.header < i → i < t → P (place i)) (i : ℤ) (low : place u.header <ℤ i) (high : i <ℤ place t).
       let o = offset tau i (le_lt _ _ _ (not_before tau u.header) low) in
       subst P (sym o.1) (each o.0 (offset_lt tau u.header o.0 (subst (λ x. place u.header <ℤ x) o.1 low)) (offset_lt tau o.0 t (subst (λ x. x <ℤ place t) o.1 high))) in

@@ -3,7 +3,7 @@
 --   fault_of       a fault
 --   outcome        a value, seen by a function, or its fault
 --   outcome_in_page         a value, seen by a function, or its fault and the page that it is in
---   IsUnlessMemory     a fact, but where memory ran out
+--   IsUnlessMemory     a fact, but where an allocation failed
 use Rattle.std.specs.Prelude.{◌≡◌, ◌⊎◌, ℕ, Result, Ok, Err}
 use Rattle.ttx_source.specs.Values.{Fault, not_toml, missing, wrong_kind, wrong_page_number, wrong_subcode, duplicate}
 use Rattle.ttx_source.specs.Values.{too_long, wrong_character, wrong_often, out_of_range, no_memory}
@@ -34,7 +34,7 @@ abbrev pub outcome_in_page : {A B : Type 0} → (A → B) → Result A SourceErr
 outcome_in_page seen (Ok a) = Ok (seen a)
 outcome_in_page seen (Err e) = Err (fault_of e.fault, e.page)
 
--- want of memory is told with no page
+-- an allocation that failed is told with no page
 abbrev pub IsUnlessMemory : {A : Type 0} → Result A SourceError → Type 0 → Type 0
 IsUnlessMemory (Ok a) P = P
 IsUnlessMemory (Err e) P = (e ≡ record { fault = NoMemory; page = 0 }) ⊎ P

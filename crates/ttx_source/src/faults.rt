@@ -87,7 +87,7 @@ pub enum SourceFault {
     /// A value isn't in its range.
     #[error("`{key}` is out of range: it takes {values}", values = accepted(.key))]
     Range { key: &'static str },
-    /// A growth was refused.
+    /// An allocation failed.
     #[error("out of memory")]
     NoMemory,
 }
@@ -105,7 +105,7 @@ impl fmt::Display for Place {
     }
 }
 
-/// A fault, and the page that it is in, counted from 1: 0 outside pages and for want of memory.
+/// A fault, and the page that it is in, counted from 1: 0 outside pages and where an allocation failed.
 #[derive(Clone, Copy, Debug, PartialEq, Eq, Error)]
 #[error("{place}: {fault}", place = Place(*.page))]
 pub struct SourceError {

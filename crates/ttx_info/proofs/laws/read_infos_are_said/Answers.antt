@@ -1,4 +1,4 @@
-use Rattle.ttx_info.proofs.Readable.{read_infos_are_said}
+use Rattle.ttx_info.proofs.ReadableInfo.{read_infos_are_said}
 use Rattle.ttx_info.proofs.laws.read_infos_are_said.Goals as goal
 
 pub returns : goal.returns

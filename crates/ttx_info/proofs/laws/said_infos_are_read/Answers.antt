@@ -1,4 +1,4 @@
-use Rattle.ttx_info.proofs.Said.{info_said}
+use Rattle.ttx_info.proofs.SaidInfo.{info_said}
 use Rattle.ttx_info.proofs.laws.said_infos_are_read.Goals as goal
 
 pub returns : goal.returns

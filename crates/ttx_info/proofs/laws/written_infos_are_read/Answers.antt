@@ -1,4 +1,4 @@
-use Rattle.ttx_info.proofs.Written.{written_infos_are_read}
+use Rattle.ttx_info.proofs.WrittenInfo.{written_infos_are_read}
 use Rattle.ttx_info.proofs.laws.written_infos_are_read.Goals as goal
 
 pub returns : goal.returns

@@ -1,6 +1,6 @@
 use Rattle.std.proofs.Common.{arith, ap, length, subst}
 use Rattle.ttx_links.specs.Sets.{AreLinks}
-use Rattle.ttx_links.proofs.Each.{are_links}
+use Rattle.ttx_links.proofs.LinksOneByOne.{are_links}
 use Rattle.ttx_links.proofs.laws.links_lead_to_targets.Goals as goal
 
 pub returns : goal.returns

@@ -1,4 +1,4 @@
-use Rattle.ttx_links.proofs.Readable.{read_link_is_said}
+use Rattle.ttx_links.proofs.ReadableLinks.{read_link_is_said}
 use Rattle.ttx_links.proofs.laws.read_link_is_said.Goals as goal
 
 pub returns : goal.returns

@@ -1,4 +1,4 @@
-use Rattle.ttx_links.proofs.Readable.{read_links_are_said}
+use Rattle.ttx_links.proofs.ReadableLinks.{read_links_are_said}
 use Rattle.ttx_links.proofs.laws.read_links_are_said.Goals as goal
 
 pub returns : goal.returns

@@ -1,4 +1,4 @@
-use Rattle.ttx_links.proofs.Said.{said_link_is_read}
+use Rattle.ttx_links.proofs.SaidLinks.{said_link_is_read}
 use Rattle.ttx_links.proofs.laws.said_link_is_read.Goals as goal
 
 pub returns : goal.returns

@@ -1,4 +1,4 @@
-use Rattle.ttx_links.proofs.Said.{links_said}
+use Rattle.ttx_links.proofs.SaidLinks.{links_said}
 use Rattle.ttx_links.proofs.laws.said_links_are_read.Goals as goal
 
 pub returns : goal.returns

@@ -1,4 +1,4 @@
-use Rattle.ttx_links.proofs.Written.{link_written}
+use Rattle.ttx_links.proofs.WrittenLinks.{link_written}
 use Rattle.ttx_links.proofs.laws.written_link_is_said.Goals as goal
 
 pub returns : goal.returns

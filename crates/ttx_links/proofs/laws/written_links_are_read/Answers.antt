@@ -1,4 +1,4 @@
-use Rattle.ttx_links.proofs.Written.{written_links_are_read}
+use Rattle.ttx_links.proofs.WrittenLinks.{written_links_are_read}
 use Rattle.ttx_links.proofs.laws.written_links_are_read.Goals as goal
 
 pub returns : goal.returns

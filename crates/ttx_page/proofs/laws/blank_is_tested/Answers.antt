@@ -1,4 +1,4 @@
-use Rattle.ttx_page.proofs.Blank.{blank_is_tested}
+use Rattle.ttx_page.proofs.BlankMemories.{blank_is_tested}
 use Rattle.ttx_page.proofs.laws.blank_is_tested.Goals as goal
 
 pub returns : goal.returns

@@ -1,4 +1,4 @@
-use Rattle.ttx_page.proofs.Blank.{erased_holds_blank}
+use Rattle.ttx_page.proofs.BlankMemories.{erased_holds_blank}
 use Rattle.ttx_page.proofs.laws.erased_holds_blank.Goals as goal
 
 pub returns : goal.returns

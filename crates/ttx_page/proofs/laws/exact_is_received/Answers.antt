@@ -1,4 +1,4 @@
-use Rattle.ttx_page.proofs.Exact.{exact_is_received}
+use Rattle.ttx_page.proofs.ExactReception.{exact_is_received}
 use Rattle.ttx_page.proofs.laws.exact_is_received.Goals as goal
 
 pub returns : goal.returns

@@ -1,4 +1,4 @@
-use Rattle.ttx_page.proofs.Moved.{streams_move}
+use Rattle.ttx_page.proofs.MovedStreams.{streams_move}
 use Rattle.ttx_page.proofs.laws.streams_move.Goals as goal
 
 pub returns : goal.returns

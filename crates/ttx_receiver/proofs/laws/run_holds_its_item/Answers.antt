@@ -1,4 +1,4 @@
-use Rattle.ttx_receiver.proofs.OneItem.{run_holds_its_item}
+use Rattle.ttx_receiver.proofs.ItemIsHeld.{run_holds_its_item}
 use Rattle.ttx_receiver.proofs.laws.run_holds_its_item.Goals as goal
 
 pub returns : goal.returns

@@ -1,6 +1,6 @@
 use Rattle.std.proofs.Common.{[], ap, length, get_or, sym, subst, arith}
 use Rattle.ttx_page.specs.Pages.{IsRow}
-use Rattle.ttx_page.proofs.Kept.{rows-blank}
+use Rattle.ttx_page.proofs.KeptRanges.{rows-blank}
 use Rattle.ttx_page.proofs.memory.PageMemory.blank.Goals as goal
 
 pub invariant_of-result : goal.invariant_of-result

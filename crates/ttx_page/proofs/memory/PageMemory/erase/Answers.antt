@@ -1,6 +1,6 @@
 use Rattle.std.proofs.Common.{[], ap, length, length-set, get_or, set, sym, subst, ◌∙◌}
 use Rattle.ttx_page.specs.Pages.{IsRow}
-use Rattle.ttx_page.proofs.Kept.{IsRow-erased}
+use Rattle.ttx_page.proofs.KeptRanges.{IsRow-erased}
 use Rattle.ttx_page.proofs.memory.PageMemory.erase.Goals as goal
 
 pub invariant_of-self : goal.invariant_of-self

@@ -3,7 +3,7 @@ use Rattle.ttx_header.specs.Control.{IsControl}
 use Rattle.ttx_page.specs.Pages.{IsRow}
 use Rattle.ttx_page.specs.Memories.{memory_of_page}
 use Rattle.ttx_page.specs.Views.{page_of}
-use Rattle.ttx_page.proofs.Kept.{IsMemory-memory_of_page}
+use Rattle.ttx_page.proofs.KeptRanges.{IsMemory-memory_of_page}
 use Rattle.ttx_page.proofs.memory.PageMemory.of.Goals as goal
 
 pub invariant_of-result : goal.invariant_of-result

@@ -1,6 +1,6 @@
 use Rattle.std.proofs.Common.{◌∙◌, subst, sym, arith}
 use Rattle.ttx_page.specs.Pages.{IsRow}
-use Rattle.ttx_page.proofs.Kept.{stored_row-zip2, IsRow-stored_row}
+use Rattle.ttx_page.proofs.KeptRanges.{stored_row-zip2, IsRow-stored_row}
 use Rattle.ttx_page.proofs.memory.steps.received_row.Goals as goal
 
 pub returns-clause-value : goal.returns-clause-value

@@ -1,6 +1,6 @@
 use Rattle.std.proofs.Common.{◌∙◌, ap, arith}
 use Rattle.ttx_page.specs.Receivers.{stored_row}
-use Rattle.ttx_page.proofs.Kept.{stored_row-zeros}
+use Rattle.ttx_page.proofs.KeptRanges.{stored_row-zeros}
 use Rattle.ttx_page.proofs.memory.steps.received_top.Goals as goal
 
 pub returns-clause-value : goal.returns-clause-value

@@ -1,5 +1,5 @@
 use Rattle.std.proofs.Common.{◌≡◌, true, false, rules}
-use Rattle.ttx_page.proofs.Rules.{PassesAsPage, IsPage_from_passes, passes_from_IsPage}
+use Rattle.ttx_page.proofs.PageRules.{PassesAsPage, IsPage_from_passes, passes_from_IsPage}
 use Rattle.ttx_page.proofs.Targets.{each_target}
 use Rattle.ttx_page.proofs.page.Page.new.Goals as goal
 use Rattle.ttx_page.proofs.page.Page.new.Goals.{else-is_page_id-via-then-is_page_id+then-is_page_control+then-is_head+else-are_rows, else-is_page_id-via-then-is_page_id+then-is_page_control+else-is_head, else-is_page_id-via-then-is_page_id+else-is_page_control, else-is_page_id-via-else-is_page_id}

@@ -10,7 +10,7 @@ use Rattle.ttx_header.specs.Laws.{WrittenWordsAreRead, AreNumbers, ReadNumbersAr
 use Rattle.ttx_links.specs.Sets.{IsLink, AreLinks, link_numbers, numbers_for, no_link, link_bytes, control_byte, links_bytes, SaysLink, SaysEach, SaysLinks}
 use Rattle.ttx_links.specs.Laws.{WrittenLinkIsSaid, WrittenLinksAreRead}
 use Rattle.ttx_links.proofs.Magazines.{xor_below_8}
-use Rattle.ttx_links.proofs.Said.{links_said}
+use Rattle.ttx_links.proofs.SaidLinks.{links_said}
 
 numbers_are_small : (m : ℕ) (id : Id) → m < 8 → id.page < 256 → IsSubcode id.sub → AreNumbers (link_numbers m id)
 numbers_are_small m id lm lp is = (omega arith, (omega (arith, lp), (omega arith, (omega arith, (omega arith, (omega (arith, is.top, lm), tt))))))

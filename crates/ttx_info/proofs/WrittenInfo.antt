@@ -11,7 +11,7 @@ use Rattle.ttx_links.specs.Sets.{link_bytes, SaysLink}
 use Rattle.ttx_links.specs.Laws.{SaidLinkIsRead, WrittenLinkIsSaid}
 use Rattle.ttx_info.specs.Infos.{half_byte, offset_byte, date_bytes, time_bytes, date_digits, time_digits, date_halves, time_halves, info_bytes, SaysInfo}
 use Rattle.ttx_info.specs.Laws.{WrittenInfosAreRead}
-use Rattle.ttx_info.proofs.Said.{info_said}
+use Rattle.ttx_info.proofs.SaidInfo.{info_said}
 
 length_link : (link : Option Id) → length (link_bytes 8 link) ≡ 6
 length_link None = refl

@@ -8,7 +8,7 @@ use Rattle.ttx_packet.specs.Receptions.{MayBeReceivedAs}
 use Rattle.ttx_page.specs.Streams.{Stream}
 use Rattle.ttx_page.specs.Receptions.{IsRight, OneIs}
 use Rattle.ttx_page.specs.Laws.{sent_from, ExactIsReceived}
-use Rattle.ttx_page.proofs.Places.{offset, offset_lt}
+use Rattle.ttx_page.proofs.SlotDistances.{offset, offset_lt}
 
 pub near_self : (a : ℕ) → Near a a
 unfolding distance ones

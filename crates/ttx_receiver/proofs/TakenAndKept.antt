@@ -1,5 +1,6 @@
 -- What a receiver takes from a slot, and what it keeps.
 use Rattle.std.proofs.Common.{◌≡◌, ◌≢◌, ℕ, ◌+◌, ◌-◌, ◌%◌, ◌<◌, ◌≤◌, Bool, true, false, not, ◌&&◌, ◌==◌, List, [], ◌++◌, Some, None, length, get_or, take, drop, set, refl, sym, ap, ◌∙◌, subst, inl, inr, arith, eqb-true, eq-eqb, nat_le, get_or-set_same, get_or-set_other, length-take-le, length-drop, get_or-drop, get_or-append-add}
+use Rattle.std.proofs.lemmas.Bool.{and_from, cases_Bool, not_from_false, or_from}
 use Rattle.ttx_code.specs.Words.{is_odd}
 use Rattle.ttx_page.specs.Packets.{Packet, Empty, Unreadable, Header, Row, Links, Info, Other}
 use Rattle.ttx_page.specs.Pages.{Page, selected_mag, matches, page_row}
@@ -11,12 +12,12 @@ use Rattle.ttx_header.specs.Control.{c4, c11}
 use Rattle.ttx_page.specs.Memories.{Memory, char_at}
 use Rattle.ttx_page.specs.Receivers.{stored_row, with_row, with_storing, erased, begun, with_links, erases, misses, after}
 use Rattle.ttx_page.specs.Streams.{heads_matched, carries}
-use Rattle.ttx_receiver.proofs.Choices.{if_ind, and_left, and_right, and_both, not_false, no_both, cases_bool, or_false, gt_not_le, stored_row_at, stored_row_good}
-use Rattle.ttx_receiver.proofs.OneStep.{Shape, GoodText, IsHeadOf, IsRowOf, AreLinksOf, erased_first, shape_erased}
+use Rattle.ttx_receiver.proofs.Choices.{if_ind, and_left, and_right, no_both, gt_not_le, stored_row_at, stored_row_good}
+use Rattle.ttx_receiver.proofs.StepsOverPage.{Shape, GoodText, IsHeadOf, IsRowOf, AreLinksOf, erased_first, shape_erased}
 
 pub erases_not : (class : Class) (choice : Bool) (m : Memory) (control : ℕ) → c4 control ≡ false → m.fresh ≡ false → erases class choice m control ≡ false
-erases_not Any choice m control k f = or_false (c4 control) (m.fresh && choice) k (subst (λ b. (b && choice) ≡ false) (sym f) refl)
-erases_not Clearing choice m control k f = or_false (c4 control) m.fresh k f
+erases_not Any choice m control k f = or_from (c4 control) (m.fresh && choice) k (subst (λ b. (b && choice) ≡ false) (sym f) refl)
+erases_not Clearing choice m control k f = or_from (c4 control) m.fresh k f
 
 -- the stored_row row is the old one, but where the byte is good
 kept_char : (old text chars : List ℕ) (c n : ℕ) → length old ≡ n → c < n → GoodText chars n text → get_or old c 0 ≡ get_or chars c 0 → get_or (stored_row old text) c 0 ≡ get_or chars c 0
@@ -76,11 +77,11 @@ module _ (class : Class) (lines : ℕ) (sel : Selection) (p : Page) where
       let P : Memory → Type 0 = λ new. char_at new r c ≡ get_or (page_row p r) c 0 in
       let row = stored_row (get_or m.rows number []) text in
       if_ind {A = Memory} P (takes choice m mag) (with_row m number row) m
-      (λ e. elim (cases_bool (number == r)) as (λ _. P (with_row m number row)) [
+      (λ e. elim (cases_Bool (number == r)) as (λ _. P (with_row m number row)) [
         | inl q ↦
             let same : r ≡ number = sym (eqb-true number r q) in
             let lt : number < length m.rows = omega (arith, s.count) in
-            let good = hr (and_right _ _ (and_left _ _ e)) (and_both _ _ (and_left _ _ (and_left _ _ e)) q) in
+            let good = hr (and_right _ _ (and_left _ _ e)) (and_from _ _ (and_left _ _ (and_left _ _ e)) q) in
             subst (λ x. get_or (get_or (set m.rows number row) x []) c 0 ≡ get_or (page_row p r) c 0) (sym same)
             (ap (λ z. get_or z c 0) (get_or-set_same m.rows number row [] lt)
             ∙ kept_char (get_or m.rows number []) text (page_row p r) c 40 (s.width number (omega arith)) col good
@@ -128,7 +129,7 @@ module _ (class : Class) (lines : ℕ) (sel : Selection) (p : Page) where
       let row = stored_row (get_or m.rows number []) text in
       if_ind {A = Memory} P (takes choice m mag) (with_row m number row) m
       (λ e.
-      let ne : 0 ≢ number = λ z. no_both _ (and_both _ _ (and_left _ _ (and_left _ _ e)) (eq-eqb number 0 (sym z))) none in
+      let ne : 0 ≢ number = λ z. no_both _ (and_from _ _ (and_left _ _ (and_left _ _ e)) (eq-eqb number 0 (sym z))) none in
       ap (λ z. get_or z (8 + c) 0) (get_or-set_other m.rows number 0 row [] ne) ∙ was)
       (λ _. was)
   keep_head c col choice m (Links mag None) s hh none was =
@@ -167,7 +168,7 @@ module _ (class : Class) (lines : ℕ) (sel : Selection) (p : Page) where
 
   ready_takes : (choice : Bool) (m : Memory) (mag : ℕ) → m.storing ≡ true → lines < m.age → (mag == selected_mag sel) ≡ true → takes choice m mag ≡ true
   ready_takes choice m mag st old here =
-      and_both _ _ (and_both _ _ here st) (not_false _ (misses_not choice))
+      and_from _ _ (and_from _ _ here st) (not_from_false _ (misses_not choice))
     where
       misses_not : (choice : Bool) → (choice && nat_le m.age lines) ≡ false
       misses_not true = gt_not_le m.age lines old

@@ -1,6 +1,6 @@
 -- Receivers that surely clear: what is blank needn't be sent.
 use Rattle.std.proofs.Common.{◌≡◌, ◌≢◌, ◌⊎◌, ℕ, zero, suc, ◌+◌, ◌<◌, ◌≤◌, Bool, true, false, not, ◌&&◌, ◌||◌, ◌==◌, List, [], Some, None, length, get_or, refl, sym, ap, ◌∙◌, subst, inl, inr, arith, get_or-set_other}
-use Rattle.std.proofs.lemmas.Bool.{cases_lt}
+use Rattle.std.proofs.lemmas.Bool.{cases_lt, cases_Bool}
 use Rattle.ttx_page.specs.Packets.{Packet, Empty, Unreadable, Header, Row, Links, Info, Other}
 use Rattle.ttx_links.specs.Sets.{no_links}
 use Rattle.ttx_page.specs.Pages.{Page, IsPage, selected_mag, needed, page_row, matches, blank_row}
@@ -11,11 +11,11 @@ use Rattle.ttx_header.specs.Control.{c4, c11}
 use Rattle.ttx_page.specs.Memories.{Memory, char_at}
 use Rattle.ttx_page.specs.Receivers.{older, after, Run, erased, begun, with_storing, with_row, with_links, erases, misses, stored_row}
 use Rattle.ttx_page.specs.Streams.{heads_matched}
-use Rattle.ttx_receiver.proofs.Choices.{no_both, cases_bool, if_ind}
-use Rattle.ttx_receiver.proofs.OneStep.{Shape, shape_after, erased_row}
-use Rattle.ttx_receiver.proofs.Keeps.{keep_row, keep_links}
+use Rattle.ttx_receiver.proofs.Choices.{no_both, if_ind}
+use Rattle.ttx_receiver.proofs.StepsOverPage.{Shape, shape_after, erased_row}
+use Rattle.ttx_receiver.proofs.TakenAndKept.{keep_row, keep_links}
 use Rattle.ttx_receiver.proofs.Runs.{packet_at, run_keeps, ReceivesPage, IsTuned, tuned_begin, tuned_next}
-use Rattle.ttx_receiver.proofs.Items.{needed_row}
+use Rattle.ttx_receiver.proofs.TakenItems.{needed_row}
 
 or_true : (a b : Bool) → b ≡ true → (a || b) ≡ true
 or_true true b h = refl
@@ -97,7 +97,7 @@ module _ (lines : ℕ) (sel : Selection) (p : Page) (page : IsPage p) (received 
       stepped t lt choice x v =
           let s = shape_after Clearing lines sel choice (older x) (g t) (record { count = v.0.count; width = v.0.width }) in
           elim v.1 as (λ _. Inv (suc t) (next choice x t)) [
-            | inl f ↦ elim (cases_bool (heads_matched sel (g t))) as (λ _. Inv (suc t) (next choice x t)) [
+            | inl f ↦ elim (cases_Bool (heads_matched sel (g t))) as (λ _. Inv (suc t) (next choice x t)) [
               | inl h ↦ let b = (tuned_begin Clearing lines sel p g (length received) receives_page t lt h choice x).0 in (s, inr (b, brings t choice x v.0 f h), (λ _. b.settled))
               | inr h ↦ let e = after_fresh lines sel choice (older x) (g t) h in (
                 s,

@@ -10,8 +10,8 @@ use Rattle.ttx_page.specs.Memories.{Memory, char_at}
 use Rattle.ttx_page.specs.Receivers.{older, after, Run}
 use Rattle.ttx_page.specs.Streams.{heads, heads_matched, ends_serial, carries}
 use Rattle.ttx_receiver.proofs.Choices.{and_left, and_right}
-use Rattle.ttx_receiver.proofs.OneStep.{Shape}
-use Rattle.ttx_receiver.proofs.Keeps.{HeadRightAt, RowRightAt, keep_row, keep_head, keep_links, take_row, take_links, take_head}
+use Rattle.ttx_receiver.proofs.StepsOverPage.{Shape}
+use Rattle.ttx_receiver.proofs.TakenAndKept.{HeadRightAt, RowRightAt, keep_row, keep_head, keep_links, take_row, take_links, take_head}
 use Rattle.ttx_receiver.proofs.Runs.{packet_at, run_keeps, ReceivesPage, IsTuned, IsStoring, tuned_begin, tuned_next, storing_next, lasting}
 
 -- a transmission under the header at place h that no receiver misses

@@ -1,6 +1,6 @@
 -- A receiver over the packets of a page.
 use Rattle.std.proofs.Common.{◌≡◌, ◌⊎◌, ℕ, zero, suc, ◌%◌, ◌<◌, Bool, true, false, not, ◌&&◌, ◌==◌, ◌≢◌, List, [], ◌∷◌, ◌++◌, Some, None, length, get_or, take, drop, set, replicate, refl, sym, ap, ◌∙◌, subst, inl, inr, arith, eqb-true, eq-eqb, length-set, get_or-set_same, get_or-set_other, length-append, length-take-le, length-drop}
-use Rattle.std.proofs.lemmas.Bool.{cases_lt}
+use Rattle.std.proofs.lemmas.Bool.{cases_lt, and_from, cases_Bool, not_from_false}
 use Rattle.std.proofs.lemmas.List.{get_or-replicate}
 use Rattle.ttx_code.specs.Words.{is_odd}
 use Rattle.ttx_header.specs.Ids.{Id}
@@ -13,7 +13,7 @@ use Rattle.ttx_header.specs.Control.{c11}
 use Rattle.ttx_page.specs.Memories.{Memory}
 use Rattle.ttx_page.specs.Receivers.{stored_row, with_row, with_storing, erased, begun, with_links, erases, misses, after}
 use Rattle.ttx_page.specs.Streams.{heads, heads_matched, ends_serial}
-use Rattle.ttx_receiver.proofs.Choices.{if_ind, and_left, and_both, not_false, no_both, cases_bool, eq_sym, length-stored_row}
+use Rattle.ttx_receiver.proofs.Choices.{if_ind, and_left, no_both, eq_sym, length-stored_row}
 
 matches_mag : (sel : Selection) (id : Id) → matches sel id ≡ true → (id.mag == selected_mag sel) ≡ true
 matches_mag (Exact own) id h = eq_sym own.mag id.mag (and_left _ _ (and_left _ _ h))
@@ -57,7 +57,7 @@ pub record Shape (m : Memory) : Type 0 where
 
 shape_set : (rows : List (List ℕ)) (n : ℕ) (row : List ℕ) → length row ≡ 40 → length rows ≡ 25 → ((r : ℕ) → r < 25 → length (get_or rows r []) ≡ 40) →
     (r : ℕ) → r < 25 → length (get_or (set rows n row) r []) ≡ 40
-shape_set rows n row w k f r h = elim (cases_bool (r == n)) as (λ _. length (get_or (set rows n row) r []) ≡ 40) [
+shape_set rows n row w k f r h = elim (cases_Bool (r == n)) as (λ _. length (get_or (set rows n row) r []) ≡ 40) [
   | inl e ↦ let same : r ≡ n = eqb-true r n e in
       let lt : n < length rows = omega arith in
       subst (λ x. length (get_or (set rows n row) x []) ≡ 40) (sym same) (ap length (get_or-set_same rows n row [] lt) ∙ w)
@@ -164,7 +164,7 @@ module _ (class : Class) (lines : ℕ) (sel : Selection) where
       (λ _. if_ind (λ (new : Memory). (new.storing ≡ true) × (new.age ≡ m.age)) (id.mag == selected_mag sel) _ _
       (λ e. absurd (no_both _ e other))
       (λ e. if_ind (λ (new : Memory). (new.storing ≡ true) × (new.age ≡ m.age)) (c11 control && choice) (with_storing m false) m
-      (λ c. absurd (no_both _ (and_both _ _ (not_false _ e) (and_left _ _ c)) on)) (λ _. (st, refl))))
+      (λ c. absurd (no_both _ (and_from _ _ (not_from_false _ e) (and_left _ _ c)) on)) (λ _. (st, refl))))
   after_ready choice m (Row mag number text) other on st =
       if_ind (λ (new : Memory). (new.storing ≡ true) × (new.age ≡ m.age)) ((mag == selected_mag sel) && m.storing && not (misses lines choice m))
       (with_row m number (stored_row (get_or m.rows number []) text)) m (λ _. (st, refl)) (λ _. (st, refl))

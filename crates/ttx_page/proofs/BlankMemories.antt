@@ -1,5 +1,6 @@
 -- Blank memories, pages received whole, and cleared memories.
 use Rattle.std.proofs.Common.{◌≡◌, false, ℕ, zero, suc, ◌+◌, ◌-◌, ◌<◌, ◌≤◌, true, List, [], ◌∷◌, ◌++◌, length, get_or, take, replicate, not, ◌&&◌, ◌==◌, Option, Some, None, is_none, subst, eqb-true, nat_le, refl, sym, ap, ◌∙◌, arith}
+use Rattle.std.proofs.lemmas.Bool.{not-true}
 use Rattle.std.proofs.lemmas.Bool.Decides.{nat_tests}
 use Rattle.std.specs.List.{list_all}
 use Rattle.ttx_header.specs.Ids.{Id}
@@ -7,8 +8,8 @@ use Rattle.ttx_links.specs.Sets.{LinkSet}
 use Rattle.ttx_page.specs.Pages.{Page, Item, TheHead, TheRow, TheLinks, Any, Clearing, blank_row, needed, page_row}
 use Rattle.ttx_page.specs.Memories.{IsMemory, blank_memory, memory_of_page, Holds}
 use Rattle.ttx_page.specs.Laws.{BlankIsFormer, PageIsShown, ErasedHoldsBlank, BlankIsTested}
-use Rattle.ttx_page.proofs.Kept.{rows-blank}
-use Rattle.ttx_page.proofs.Decisions.{and_left, and_right, not_true}
+use Rattle.ttx_page.proofs.KeptRanges.{rows-blank}
+use Rattle.ttx_page.proofs.Decisions.{and_left, and_right}
 
 IsMemory-blank : IsMemory blank_memory
 IsMemory-blank = record { row_count = refl; rows = rows-blank 25; control = omega arith; at_most = omega arith }
@@ -85,7 +86,7 @@ blank_is_tested p (TheRow number) is six need = (
 )
 blank_is_tested p TheLinks is six need = (
   (λ h. let none : p.links.six ≡ replicate 6 None = none_from_test p.links.six (and_left _ _ h) ∙ ap (λ n. replicate n None) six in
-      let hidden : p.links.show24 ≡ false = not_true _ (and_right _ _ h) in
+      let hidden : p.links.show24 ≡ false = not-true _ (and_right _ _ h) in
       λ i. record { six = none i; show24 = hidden i }),
   (λ b. subst (λ (l : LinkSet). (list_all is_none l.six && not l.show24) ≡ true) (sym b) refl),
 )

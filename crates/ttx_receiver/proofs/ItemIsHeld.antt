@@ -16,13 +16,13 @@ use Rattle.ttx_page.specs.Streams.{Stream, heads, heads_page, heads_matched, end
 use Rattle.ttx_page.specs.Receptions.{IsRight, OneIs, Received}
 use Rattle.ttx_receiver.specs.Laws.{IsSteadyFrom, RunHoldsItsItem, HasHeaderBetween}
 use Rattle.ttx_receiver.proofs.Choices.{no_both}
-use Rattle.ttx_receiver.proofs.OneStep.{Shape, shape_after}
+use Rattle.ttx_receiver.proofs.StepsOverPage.{Shape, shape_after}
 use Rattle.ttx_receiver.proofs.Runs.{packet_at, run_keeps}
-use Rattle.ttx_receiver.proofs.Items.{IsSureAt, needed_row, row_held, links_held, head_held}
-use Rattle.ttx_receiver.proofs.Blank.{blank_row_held, blank_links_held}
-use Rattle.ttx_receiver.proofs.Received.{LawsBelow, same_heads, same_matched, same_ends, same_links, head_received_at, row_received_at}
+use Rattle.ttx_receiver.proofs.TakenItems.{IsSureAt, needed_row, row_held, links_held, head_held}
+use Rattle.ttx_receiver.proofs.BlankItems.{blank_row_held, blank_links_held}
+use Rattle.ttx_receiver.proofs.ReceivedPackets.{LawsBelow, same_heads, same_matched, same_ends, same_links, head_received_at, row_received_at}
 use Rattle.ttx_receiver.proofs.ReceivedPage.{receives_page, page_matched, same_mag}
-use Rattle.ttx_receiver.proofs.Places.{offset, not_before, offset_lt, lt_offset, offset_same, late_offset, before_end, lt_le, le_le, le_self, cases_ltz}
+use Rattle.ttx_receiver.proofs.SlotDistances.{offset, not_before, offset_lt, lt_offset, offset_same, late_offset, before_end, lt_le, le_le, le_self, cases_ltz}
 
 lt_is_le : (a b : ℤ) → a <ℤ b → a ≤ℤ b
 lt_is_le a b h = omega (arith, ints)

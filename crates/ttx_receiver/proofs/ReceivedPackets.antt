@@ -1,5 +1,6 @@
 -- What a receiver is given of the packets of a page, where each byte has at most one wrong bit.
 use Rattle.std.proofs.Common.{◌≡◌, ◌⊎◌, ℕ, ◌+◌, ◌%◌, ◌<◌, ◌≤◌, Bool, true, false, ◌==◌, List, [], None, length, get_or, take, drop, map, refl, sym, ap, ◌∙◌, subst, inl, inr, arith, eqb-true, length-drop, get_or-drop, get_or-take}
+use Rattle.std.proofs.lemmas.Bool.{cases_Bool}
 use Rattle.std.proofs.lemmas.List.{get_or-map}
 use Rattle.ttx_code.specs.Words.{ones, Near, is_odd, odd_byte}
 use Rattle.ttx_code.specs.Laws.{OddBytesUnderOneWrongBit, OddBytesHoldTheirCodes}
@@ -16,9 +17,9 @@ use Rattle.ttx_page.specs.declared.selection.Selection.{Selection}
 use Rattle.ttx_page.specs.declared.item.Item.TheVariants.{Row as TheRow, Links as TheLinks}
 use Rattle.ttx_page.specs.Streams.{heads, heads_matched, ends_serial, carries}
 use Rattle.ttx_page.specs.Steady.{HeadIsRight, RowIsRight, LinksAreRight}
-use Rattle.ttx_receiver.proofs.Choices.{if_ind, no_both, cases_bool, list_all_at}
-use Rattle.ttx_receiver.proofs.OneStep.{GoodText, IsHeadOf, IsRowOf, AreLinksOf}
-use Rattle.ttx_receiver.proofs.Keeps.{IsRightAt, HeadRightAt, RowRightAt}
+use Rattle.ttx_receiver.proofs.Choices.{if_ind, no_both, list_all_at}
+use Rattle.ttx_receiver.proofs.StepsOverPage.{GoodText, IsHeadOf, IsRowOf, AreLinksOf}
+use Rattle.ttx_receiver.proofs.TakenAndKept.{IsRightAt, HeadRightAt, RowRightAt}
 
 -- the laws of the crates below
 pub record LawsBelow : Type 0 where
@@ -133,7 +134,7 @@ near_header sent received mag e h x lt = elim (h.near x (omega arith)) as (λ _.
 -- what is received is the packet that was sent, but for text and links; or a row is lost
 pub received_as : LawsBelow → (sent received : List ℕ) → IsSlot sent → is_clean sent ≡ true → MayBeReceivedAs sent received →
     (outline (packet_of received) ≡ outline (packet_of sent)) ⊎ IsLost sent received
-received_as laws sent received s clean h = elim (cases_bool (is_empty sent)) as (λ _. (outline (packet_of received) ≡ outline (packet_of sent)) ⊎ IsLost sent received) [
+received_as laws sent received s clean h = elim (cases_Bool (is_empty sent)) as (λ _. (outline (packet_of received) ≡ outline (packet_of sent)) ⊎ IsLost sent received) [
   | inl e ↦ inl (ap outline (packet_empty received (h.empty e)) ∙ ap outline (sym (packet_empty sent e)))
   | inr e ↦ elim (laws.kind sent received s clean e h) as (λ _. (outline (packet_of received) ≡ outline (packet_of sent)) ⊎ IsLost sent received) [
     | inl same ↦ inl (ap outline (packet_is received) ∙ ap (λ k. outline (packet_of_kind received k)) same ∙ same_outline (kind_of sent) refl ∙ ap outline (sym (packet_is sent)))
