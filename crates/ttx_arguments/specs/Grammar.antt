@@ -1,9 +1,9 @@
 -- The command line as `clap` reads it: what is taken, and the faults of what isn't.
 --
---   NameList, Lists          names as `clap` holds them, wherever they lie in memory
+--   NameList, AreNames       names as `clap` holds them, wherever they lie in memory
 --   kind_names, class_names, form_names     the names that `--kind`, `--class` and `--as` take
 --   operand_rule             an operand that has to be there
---   number_rule, name_rule   an option with a number in a range, and one with a name of a list
+--   number_rule, name_rule    an option with a number in a range, and one with a name of a list
 --   flag_rule, text_rule     an option without a value, and one with any text
 --   needed_rule, needed_number_rule         an option that has to be there, with any text, and with a number in a range
 --   inspect_app, plan_app, find_app, certify_app, refute_app, replay_app, receive_app, show_app, preview_app, splice_app, wait_app, send_app, pages_app, book_app, extract_app, check_app, version_app
@@ -21,8 +21,8 @@ use Rattle.clap.specs.declared.builder.value_parser.ValueParser.TheVariants as p
 abbrev pub NameList : Type 0
 NameList = Bor (List (Bor Text))
 
-abbrev pub Lists : NameList → List Text → Type 0
-Lists names texts = map (λ name. name.now) names.now ≡ texts
+abbrev pub AreNames : NameList → List Text → Type 0
+AreNames names texts = map (λ name. name.now) names.now ≡ texts
 
 abbrev pub kind_names : List Text
 kind_names = codes "eager" ∷ codes "careful" ∷ codes "cleared" ∷ []

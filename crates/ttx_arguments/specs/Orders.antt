@@ -21,7 +21,7 @@ use Rattle.clap.specs.declared.error.kind.ErrorKind.TheVariants.{OutOfMemory}
 use Rattle.ttx_page.specs.declared.class.Class.{Class}
 use Rattle.ttx_page.specs.declared.class.Class.TheVariants.{Any, Clearing}
 use Rattle.ttx_page.specs.declared.selection.Selection.{Selection}
-use Rattle.ttx_arguments.specs.Grammar.{NameList, Lists, kind_names, class_names, form_names, ttx_app}
+use Rattle.ttx_arguments.specs.Grammar.{NameList, AreNames, kind_names, class_names, form_names, ttx_app}
 use Rattle.ttx_arguments.specs.PageNames.{selection_of}
 use Rattle.ttx_arguments.specs.Moments.{moment_of}
 use Rattle.ttx_picture.specs.declared.forms.Form.{Form}
@@ -138,8 +138,8 @@ pub data Unfit : Type 0 where
   no_time : Unfit
   named_twice : Unfit
 
-abbrev pub tuning_at : Selection → List Row → Tuning
-tuning_at selection rows = record {
+abbrev pub tuning_asked : Selection → List Row → Tuning
+tuning_asked selection rows = record {
   selection = selection;
   lines = number_at (codes "lines") 1 32 16 rows;
   start = number_at (codes "start") 0 65535 0 rows;
@@ -149,14 +149,14 @@ tuning_at selection rows = record {
 
 abbrev pub receive_by : Option Selection → List Row → Result OrderView Unfit
 receive_by None rows = Err no_page
-receive_by (Some selection) rows = Ok (receive_order (text_at (codes "cycle") rows) (tuning_at selection rows))
+receive_by (Some selection) rows = Ok (receive_order (text_at (codes "cycle") rows) (tuning_asked selection rows))
 
 abbrev pub look_at : List Row → LookView
 look_at rows = record { page = text_at (codes "page") rows; form = form_named (text_at (codes "as") rows); reveal = is_set (codes "reveal") rows }
 
 abbrev pub show_by : Option Selection → List Row → Result OrderView Unfit
 show_by None rows = Err no_page
-show_by (Some selection) rows = Ok (show_order (text_at (codes "cycle") rows) (tuning_at selection rows) (look_at rows))
+show_by (Some selection) rows = Ok (show_order (text_at (codes "cycle") rows) (tuning_asked selection rows) (look_at rows))
 
 abbrev pub preview_by : Option Selection → List Row → Result OrderView Unfit
 preview_by None rows = Err no_page
@@ -195,8 +195,8 @@ show_at rows = show_by (selection_of (text_at (codes "page") rows)) rows
 abbrev pub preview_at : List Row → Result OrderView Unfit
 preview_at rows = preview_by (selection_of (text_at (codes "page") rows)) rows
 
-abbrev pub splice_at : List Row → OrderView
-splice_at rows =
+abbrev pub splice_asked : List Row → OrderView
+splice_asked rows =
     splice_order (text_at (codes "old") rows) (text_at (codes "new") rows) (text_at (codes "old_service") rows) (text_at (codes "new_service") rows)
     (text_at (codes "old_certificate") rows) (text_at (codes "new_certificate") rows)
 
@@ -296,7 +296,7 @@ order_by command.Replay rows = once (replay_at rows)
 order_by command.Receive rows = receive_at rows
 order_by command.Show rows = show_at rows
 order_by command.Preview rows = preview_at rows
-order_by command.Splice rows = once (splice_at rows)
+order_by command.Splice rows = once (splice_asked rows)
 order_by command.Wait rows = once (wait_at rows)
 order_by command.Send rows = send_at rows
 order_by command.Pages rows = Ok (pages_at rows)
@@ -331,7 +331,7 @@ AnswersBy app words (Err NoMemory) = ⊤
 -- The same with the names that `--kind`, `--class` and `--as` take.
 abbrev pub Answers : List Text → Result Order WordsFault → Type 0
 Answers words result =
-    (kinds classes forms : NameList) × Lists kinds kind_names × Lists classes class_names × Lists forms form_names
+    (kinds classes forms : NameList) × AreNames kinds kind_names × AreNames classes class_names × AreNames forms form_names
     × AnswersBy (ttx_app kinds classes forms) words result
 
 -- an order, or the fault of words that ask for nothing

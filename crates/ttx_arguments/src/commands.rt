@@ -3,7 +3,8 @@
 ghost use Rattle.std.specs.Prelude.{◌≡◌, [], ◌∷◌, if◌then◌else◌, nat_lt, count_by, codes};
 ghost use Rattle.std.specs.Str.{bytes_eq};
 ghost use Rattle.clap.specs.Words.{rows_of, found_of};
-ghost use Rattle.ttx_arguments.specs.Orders.{order_view, inspect_at, plan_at, find_at, certify_at, refute_at, replay_at, receive_at, show_at, preview_at, splice_at, wait_at, send_at, pages_at, book_at, extract_at, check_at, once, IsOrderOf};
+ghost use Rattle.ttx_arguments.specs.Orders.{order_view, inspect_at, plan_at, find_at, certify_at, refute_at, replay_at, receive_at, show_at};
+ghost use Rattle.ttx_arguments.specs.Orders.{preview_at, splice_asked, wait_at, send_at, pages_at, book_at, extract_at, check_at, once, IsOrderOf};
 
 use crate::moments::moment;
 use crate::orders::{
@@ -197,7 +198,7 @@ pub(crate) fn replay_of<'a>(values: &ArgMatches<'a>) -> Result<Order<'a>, WordsF
 }
 
 fn splice_order<'a>(values: &ArgMatches<'a>) -> Order<'a>
-    ensures { order_view result ≡ splice_at (rows_of (found_of values.now)) }
+    ensures { order_view result ≡ splice_asked (rows_of (found_of values.now)) }
 {
     Order::Splice(SpliceOrder {
         old: text_of(values, "old"),
@@ -210,7 +211,7 @@ fn splice_order<'a>(values: &ArgMatches<'a>) -> Order<'a>
 }
 
 pub(crate) fn splice_of<'a>(values: &ArgMatches<'a>) -> Result<Order<'a>, WordsFault>
-    ensures { IsOrderOf result (once (splice_at (rows_of (found_of values.now)))) }
+    ensures { IsOrderOf result (once (splice_asked (rows_of (found_of values.now)))) }
 {
     let standard = [
         is_standard(text_of(values, "old")),

@@ -3,7 +3,10 @@
 ghost use Rattle.std.specs.Prelude.{◌≡◌, false, codes};
 ghost use Rattle.clap.specs.Words.{App, Text, rule_of, with_rule, with_subcommand, new_app};
 ghost use Rattle.ttx_arguments.specs.Grammar as rule;
-ghost use Rattle.ttx_arguments.specs.Grammar.{Lists, Builds, operand_rule, number_rule, name_rule, flag_rule, text_rule, needed_rule, needed_number_rule, with_tuning, with_look, inspect_app, plan_app, find_app, certify_app, refute_app, replay_app, receive_app, show_app, preview_app, splice_app, wait_app, send_app, pages_app, book_app, extract_app, check_app, version_app, bare_app, ttx_app};
+ghost use Rattle.ttx_arguments.specs.Grammar.{AreNames, Builds, operand_rule, number_rule, name_rule, flag_rule, text_rule, needed_rule};
+ghost use Rattle.ttx_arguments.specs.Grammar.{needed_number_rule, with_tuning, with_look, inspect_app, plan_app, find_app, certify_app, refute_app};
+ghost use Rattle.ttx_arguments.specs.Grammar.{replay_app, receive_app, show_app, preview_app, splice_app, wait_app, send_app, pages_app, book_app};
+ghost use Rattle.ttx_arguments.specs.Grammar.{extract_app, check_app, version_app, bare_app, ttx_app};
 
 use crate::help;
 use clap::builder::ValueParser;
@@ -37,23 +40,25 @@ fn with_operand<'a>(
     with_arg(command, operand)
 }
 
-// An option with a number from low to high.
-fn with_number<'a>(
-    alloc: Global,
-    command: Building<'a>,
+// An option with a number: its name, what help calls its value and says of it, and the range of the number.
+#[derive(Clone, Copy)]
+struct NumberOption<'a> {
     id: &'a str,
     name: &'a str,
     help: &'a str,
     low: u64,
     high: u64,
-) -> Building<'a>
-    ensures { (app : App) (text : Text) → id.entry.now ≡ text → Builds command.entry app → Builds result (with_rule app (number_rule text low high)) }
+}
+
+fn with_number<'a>(alloc: Global, command: Building<'a>, option: NumberOption<'a>) -> Building<'a>
+    ensures { (app : App) (text : Text) → option.entry.id.now ≡ text → Builds command.entry app →
+        Builds result (with_rule app (number_rule text option.entry.low option.entry.high)) }
 {
-    let number = Arg::new(alloc, id)
-        .long(id)
-        .value_name(name)
-        .help(help)
-        .value_parser(ValueParser::unsigned(low, high));
+    let number = Arg::new(alloc, option.id)
+        .long(option.id)
+        .value_name(option.name)
+        .help(option.help)
+        .value_parser(ValueParser::unsigned(option.low, option.high));
     with_arg(command, number)
 }
 
@@ -153,7 +158,17 @@ fn find<'a>(alloc: Global, classes: &'a [&'a str]) -> Building<'a>
     let find = with_operand(alloc, find, "cycle", "CYCLE", help::CYCLE_OPERAND);
     let find = with_operand(alloc, find, "service", "SERVICE", help::SERVICE_OPERAND);
     let find = with_operand(alloc, find, "out", "OUT", help::FOUND_OPERAND);
-    let find = with_number(alloc, find, "repeat", "K", help::REPEAT_OPTION, 1, 8);
+    let find = with_number(
+        alloc,
+        find,
+        NumberOption {
+            id: "repeat",
+            name: "K",
+            help: help::REPEAT_OPTION,
+            low: 1,
+            high: 8,
+        },
+    );
     with_class(alloc, find, classes)
 }
 
@@ -222,16 +237,38 @@ fn with_tuning<'a>(alloc: Global, command: Building<'a>, kinds: &'a [&'a str]) -
 {
     let command = with_operand(alloc, command, "cycle", "CYCLE", help::CYCLE_OPERAND);
     let command = with_operand(alloc, command, "page", "PAGE", help::PAGE_OPERAND);
-    let command = with_number(alloc, command, "lines", "L", help::LINES_OPTION, 1, 32);
-    let command = with_number(alloc, command, "start", "S", help::START_OPTION, 0, 65_535);
     let command = with_number(
         alloc,
         command,
-        "slots",
-        "N",
-        help::SLOTS_OPTION,
-        0,
-        1_000_000,
+        NumberOption {
+            id: "lines",
+            name: "L",
+            help: help::LINES_OPTION,
+            low: 1,
+            high: 32,
+        },
+    );
+    let command = with_number(
+        alloc,
+        command,
+        NumberOption {
+            id: "start",
+            name: "S",
+            help: help::START_OPTION,
+            low: 0,
+            high: 65_535,
+        },
+    );
+    let command = with_number(
+        alloc,
+        command,
+        NumberOption {
+            id: "slots",
+            name: "N",
+            help: help::SLOTS_OPTION,
+            low: 0,
+            high: 1_000_000,
+        },
     );
     with_kind(alloc, command, kinds)
 }
@@ -315,7 +352,17 @@ fn wait<'a>(alloc: Global, classes: &'a [&'a str]) -> Building<'a>
     let wait = command(alloc, "wait", help::WAIT, help::WAIT_MORE);
     let wait = with_operand(alloc, wait, "cycle", "CYCLE", help::CYCLE_OPERAND);
     let wait = with_operand(alloc, wait, "service", "SERVICE", help::SERVICE_OPERAND);
-    let wait = with_number(alloc, wait, "repeat", "K", help::REPEAT_OPTION, 1, 8);
+    let wait = with_number(
+        alloc,
+        wait,
+        NumberOption {
+            id: "repeat",
+            name: "K",
+            help: help::REPEAT_OPTION,
+            low: 1,
+            high: 8,
+        },
+    );
     let wait = with_class(alloc, wait, classes);
     with_flag(alloc, wait, "items", help::ITEMS_OPTION)
 }
@@ -361,17 +408,39 @@ fn send<'a>(alloc: Global) -> Building<'a>
     let send = with_operand(alloc, send, "cycle", "CYCLE", help::CYCLE_OPERAND);
     let send = with_moment(alloc, send);
     let send = with_fields(alloc, send);
-    let send = with_number(alloc, send, "lines", "L", help::LINES_OPTION, 1, 32);
     let send = with_number(
         alloc,
         send,
-        "phase",
-        "F",
-        help::PHASE_OPTION,
-        0,
-        4_294_967_295,
+        NumberOption {
+            id: "lines",
+            name: "L",
+            help: help::LINES_OPTION,
+            low: 1,
+            high: 32,
+        },
     );
-    with_number(alloc, send, "offset", "HALVES", help::OFFSET_OPTION, 0, 47)
+    let send = with_number(
+        alloc,
+        send,
+        NumberOption {
+            id: "phase",
+            name: "F",
+            help: help::PHASE_OPTION,
+            low: 0,
+            high: 4_294_967_295,
+        },
+    );
+    with_number(
+        alloc,
+        send,
+        NumberOption {
+            id: "offset",
+            name: "HALVES",
+            help: help::OFFSET_OPTION,
+            low: 0,
+            high: 47,
+        },
+    )
 }
 
 // `pages CYCLE`
@@ -444,21 +513,21 @@ fn bare<'a>(alloc: Global) -> Building<'a>
 
 /// The names that `--kind` takes.
 pub(crate) fn kind_names<'a>() -> &'a [&'a str]
-    ensures { Lists result rule.kind_names }
+    ensures { AreNames result rule.kind_names }
 {
     &["eager", "careful", "cleared"]
 }
 
 /// The names that `--class` takes.
 pub(crate) fn class_names<'a>() -> &'a [&'a str]
-    ensures { Lists result rule.class_names }
+    ensures { AreNames result rule.class_names }
 {
     &["any", "clearing"]
 }
 
 /// The names that `--as` takes.
 pub(crate) fn form_names<'a>() -> &'a [&'a str]
-    ensures { Lists result rule.form_names }
+    ensures { AreNames result rule.form_names }
 {
     &["text", "ansi", "svg", "html"]
 }

@@ -19,10 +19,10 @@ fn digit(text: &[u8], at: usize) -> Option<u32>
 }
 
 // The number of the two digits from a place on.
-#[tactic(auto, unfolding(crate::specs::Moments::two_digits))]
-fn two_digits(text: &[u8], at: usize) -> Option<u32>
+#[tactic(auto, unfolding(crate::specs::Moments::decimal_pair))]
+fn decimal_pair(text: &[u8], at: usize) -> Option<u32>
     requires { at + 2 ≤ length text.now }
-    ensures value { result ≡ rule.two_digits text.now at }
+    ensures value { result ≡ rule.decimal_pair text.now at }
     ensures range { IfSome result (λ n. n < 100) }
 {
     let high = digit(text, at)?;
@@ -33,10 +33,10 @@ fn two_digits(text: &[u8], at: usize) -> Option<u32>
 // The two digits from a place on, where their number is below the limit.
 fn below(text: &[u8], at: usize, limit: u32) -> Option<u32>
     requires { at + 2 ≤ length text.now }
-    ensures value { result ≡ rule.below limit (rule.two_digits text.now at) }
+    ensures value { result ≡ rule.below limit (rule.decimal_pair text.now at) }
     ensures range { IfSome result (λ n. n < 100) }
 {
-    match two_digits(text, at) {
+    match decimal_pair(text, at) {
         Some(number) if number < limit => Some(number),
         _ => None,
     }
@@ -48,8 +48,8 @@ fn date(text: &[u8]) -> Option<u32>
     ensures { result ≡ rule.date_of text.now }
 {
     let first = digit(text, 0)?;
-    let high = two_digits(text, 1)?;
-    let low = two_digits(text, 3)?;
+    let high = decimal_pair(text, 1)?;
+    let low = decimal_pair(text, 3)?;
     Some(10_000 * first + (100 * high + low))
 }
 

@@ -3,7 +3,8 @@
 ghost use Rattle.std.specs.Prelude.{◌≡◌, [], true, IfOk, IfErr, Some, Result, is_some, map, option_map};
 ghost use Rattle.clap.specs.Words.{rows_of, found_of, subcommand_rows_of, subcommand_of, fault_of};
 ghost use Rattle.ttx_arguments.specs.Grammar.{ttx_app};
-ghost use Rattle.ttx_arguments.specs.Orders.{OrderView, Unfit, command_named, order_by, order_at, IsOrderOf, AnswersBy, Answers, IsFaultOf, IsRefusalOf};
+ghost use Rattle.ttx_arguments.specs.Orders.{OrderView, Unfit, command_named, order_by, order_at, IsOrderOf, AnswersBy, Answers, IsFaultOf};
+ghost use Rattle.ttx_arguments.specs.Orders.{IsRefusalOf};
 
 use crate::command_names::CommandName;
 use crate::commands::{
@@ -94,7 +95,8 @@ fn order_of<'a>(name: &str, values: &ArgMatches<'a>) -> Result<Order<'a>, WordsF
 // The order that the matches stand for.
 fn chosen<'a>(matches: &ArgMatches<'a>) -> Result<Order<'a>, WordsFault>
     requires { is_some (subcommand_rows_of matches.now) ≡ true }
-    ensures { (answer : Result OrderView Unfit) × (option_map (λ p. order_at p.0 p.1) (subcommand_rows_of matches.now) ≡ Some answer) × IsOrderOf result answer }
+    ensures { (answer : Result OrderView Unfit) × (option_map (λ p. order_at p.0 p.1) (subcommand_rows_of matches.now) ≡ Some answer)
+        × IsOrderOf result answer }
 {
     let (name, values) = matches.subcommand().unwrap();
     order_of(name, values)
@@ -118,9 +120,11 @@ fn parsed<'a>(
     forms: &'a [&'a str],
     words: &'a [&'a str],
 ) -> Result<ArgMatches<'a>, WordsFault>
-    ensures rows { IfOk result (λ m. subcommand_rows_of m ≡ subcommand_of (ttx_app kinds.entry classes.entry forms.entry) (map (λ w. w.now) words.entry.now)) }
+    ensures rows { IfOk result (λ m. subcommand_rows_of m ≡ subcommand_of (ttx_app kinds.entry classes.entry forms.entry)
+        (map (λ w. w.now) words.entry.now)) }
     ensures no_fault { IfOk result (λ _. fault_of (ttx_app kinds.entry classes.entry forms.entry) (map (λ w. w.now) words.entry.now) ≡ []) }
-    ensures refused { IfErr result (λ e. IsRefusalOf e (fault_of (ttx_app kinds.entry classes.entry forms.entry) (map (λ w. w.now) words.entry.now))) }
+    ensures refused { IfErr result (λ e. IsRefusalOf e (fault_of (ttx_app kinds.entry classes.entry forms.entry)
+        (map (λ w. w.now) words.entry.now))) }
 {
     let command = match ttx(alloc, kinds, classes, forms) {
         Ok(command) => command,

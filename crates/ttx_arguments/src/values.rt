@@ -3,7 +3,7 @@
 ghost use Rattle.std.specs.Prelude.{◌≡◌, ◌≤◌, option_map, option_and_then, codes};
 ghost use Rattle.clap.specs.Words.{rows_of, first_of, found_of};
 ghost use Rattle.ttx_arguments.specs.Orders as rule;
-ghost use Rattle.ttx_arguments.specs.Orders.{look_view, text_at, kind_named, class_named, form_named, is_set, tuning_at, look_at, sending_at};
+ghost use Rattle.ttx_arguments.specs.Orders.{look_view, text_at, kind_named, class_named, form_named, is_set, tuning_asked, look_at, sending_at};
 
 use crate::orders::{Look, ReceiverKind, Sending, Tuning};
 use clap::ArgMatches;
@@ -112,7 +112,7 @@ pub(crate) fn look_of<'a>(values: &ArgMatches<'a>) -> Look<'a>
 
 // What `receive` is told of a receiver that is set to this page.
 pub(crate) fn tuning_of(values: &ArgMatches<'_>, selection: Selection) -> Tuning
-    ensures { result ≡ tuning_at selection (rows_of (found_of values.now)) }
+    ensures { result ≡ tuning_asked selection (rows_of (found_of values.now)) }
 {
     Tuning {
         selection,

@@ -7,7 +7,7 @@ use Rattle.std.specs.Ordering.{is_eq, nat_cmp}
 use Rattle.ttx_page.specs.declared.class.Class.TheVariants.{Any}
 use Rattle.ttx_receiver.specs.Tuning.{Tuned, stepped}
 use Rattle.ttx_book.specs.Hearing.{hears}
-use Rattle.ttx_book.specs.Placing.{gap, place_from, IsIndex}
+use Rattle.ttx_book.specs.Placing.{gap, place_from, IsPlaceIndex}
 
 gap_here : (key page : ℕ) (pages : List ℕ) → (page == key) ≡ true → gap key (page ∷ pages) ≡ 0
 gap_here key page pages e = ap (λ b. if b then 0 else suc (gap key pages)) e
@@ -89,7 +89,7 @@ gap_none key (page ∷ pages) e = absurd (omega (arith, e))
 
 -- from the end on nothing stands
 pub nothing_yet : (pages : List ℕ) (at : ℕ) (first : BTreeMap ℕ ℕ) (next : List ℕ) → at ≡ length pages → length next ≡ length pages →
-    ((q : ℕ) → get nat_cmp first q ≡ None) → IsIndex pages at first next
+    ((q : ℕ) → get nat_cmp first q ≡ None) → IsPlaceIndex pages at first next
 nothing_yet pages at first next e size none = record {
   size = size;
   begins = λ key.
@@ -111,8 +111,8 @@ at_other page key ne =
 
 -- one slot before those that are noted
 module _ (pages : List ℕ) (at : ℕ) (first new : BTreeMap ℕ ℕ) (next : List ℕ) (page : ℕ) where
-  pub one_more : at < length pages → page ≡ get_or pages at 0 → IsIndex pages (at + 1) first next → Adds first page at new →
-      IsIndex pages at new (set next at (unwrap_or (get nat_cmp first page) (length pages)))
+  pub one_more : at < length pages → page ≡ get_or pages at 0 → IsPlaceIndex pages (at + 1) first next → Adds first page at new →
+      IsPlaceIndex pages at new (set next at (unwrap_or (get nat_cmp first page) (length pages)))
   one_more l is old adds = record {
     size = length-set next at end ∙ old.size;
     begins = λ key. ⊎_elim (same key) (other key) (cases_eq page key);

@@ -1,7 +1,7 @@
 -- All pages of a cycle as one HTML file, which needs nothing else.
 --
 --   index_html              links to the pages
---   leaf_html, leaves_html  a page: its picture, its links and its text
+--   leaf_html, leaves_html    a page: its picture, its links and its text
 --   book_text               the whole file
 use Rattle.std.specs.Prelude.{ℕ, ◌+◌, ◌*◌, ◌==◌, false, List, [], ◌∷◌, ◌++◌, codes, if◌then◌else◌}
 use Rattle.std.specs.List.{flat_map}
@@ -33,13 +33,13 @@ abbrev pub index_html : List Id → List ℕ
 index_html ids = flat_map index_entry ids
 
 -- magazine and page number
-abbrev pub number_of : Id → ℕ
-number_of id = id.mag * 256 + id.page
+abbrev pub full_number : Id → ℕ
+full_number id = id.mag * 256 + id.page
 
 -- The first page of each number bears it as an id too, since a link may lead to any subpage.
 unfoldable pub anchor : ℕ → Id → List ℕ
 anchor former id =
-    if former == number_of id then [] else codes "<a id=\"" ++ (48 + id.mag) ∷ hex_byte id.page ++ codes "\"></a>"
+    if former == full_number id then [] else codes "<a id=\"" ++ (48 + id.mag) ∷ hex_byte id.page ++ codes "\"></a>"
 
 unfoldable pub section_tag : List ℕ
 section_tag = codes "<section id=\""
@@ -57,7 +57,7 @@ leaf_html slots pages former id =
 -- pages, after one of this number
 abbrev pub leaves_html : List (List ℕ) → List ℕ → ℕ → List Id → List ℕ
 leaves_html slots pages former [] = []
-leaves_html slots pages former (id ∷ ids) = leaf_html slots pages former id ++ leaves_html slots pages (number_of id) ids
+leaves_html slots pages former (id ∷ ids) = leaf_html slots pages former id ++ leaves_html slots pages (full_number id) ids
 
 -- Three digits lead to the page of this number.
 unfoldable pub script : List ℕ

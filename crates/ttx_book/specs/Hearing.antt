@@ -1,6 +1,6 @@
 -- What is shown of each page of a cycle.
 --
---   heard, hears            a receiver that takes no choice, after the packets of its page in a slot, and in some slots: its headers,
+--   heard_of_page, hears    a receiver that takes no choice, after the packets of its page in a slot, and in some slots: its headers,
 --                           and the rows and packets X/27/0 that are sent under them
 --   page_memory             what it holds of the page after two cycles
 --   leaf_id, leaf_ids       the pages that a cycle has, rising; a time-filling header is none
@@ -10,23 +10,23 @@ use Rattle.ttx_header.specs.Ids.{Id, is_time_filling}
 use Rattle.ttx_page.specs.Memories.{Memory, blank_memory}
 use Rattle.ttx_page.specs.declared.class.Class.TheVariants.{Any}
 use Rattle.ttx_page.specs.declared.selection.Selection.TheVariants.{Exact}
-use Rattle.ttx_pages.specs.Keys.{key_of, owners, page_headers}
+use Rattle.ttx_pages.specs.Keys.{page_key, owners, page_headers}
 use Rattle.ttx_receiver.specs.Tuning.{Tuned, tuned_at, stepped}
 
 -- It stores all that it may, clears the page only where C4 says so, and is given the packets of its page alone.
-abbrev pub heard : ℕ → Tuned → List ℕ → ℕ → Tuned
-heard key t slot page = if page == key then stepped Any false t slot else t
+abbrev pub heard_of_page : ℕ → Tuned → List ℕ → ℕ → Tuned
+heard_of_page key t slot page = if page == key then stepped Any false t slot else t
 
 -- after these slots, by their pages
 abbrev pub hears : ℕ → Tuned → List (List ℕ) → List ℕ → Tuned
 hears key t [] pages = t
 hears key t (slot ∷ slots) [] = t
-hears key t (slot ∷ slots) (page ∷ pages) = hears key (heard key t slot page) slots pages
+hears key t (slot ∷ slots) (page ∷ pages) = hears key (heard_of_page key t slot page) slots pages
 
 -- Twice, since rows at the cycle's beginning may belong to a header at its end.
 unfoldable pub page_memory : List (List ℕ) → List ℕ → Id → Memory
 page_memory slots pages id =
-    let key = key_of id in
+    let key = page_key id in
     (hears key (hears key (tuned_at (Exact id) 1 blank_memory) slots pages) slots pages).memory
 
 abbrev pub leaf_id : List ℕ → Option Id

@@ -2,7 +2,7 @@
 --
 --   gap                     how many slots come before the first of the page
 --   place_from              where the first slot of the page stands from a slot on, or the end
---   IsIndex                 where each page begins from a slot on, and for each slot from there on where its page goes on
+--   IsPlaceIndex            where each page begins from a slot on, and for each slot from there on where its page goes on
 use Rattle.std.specs.Prelude.{◌≡◌, ℕ, suc, ◌+◌, ◌<◌, ◌≤◌, ◌==◌, List, [], ◌∷◌, drop, get_or, length, unwrap_or, if◌then◌else◌}
 use Rattle.std.specs.BTreeMap.{BTreeMap, get}
 use Rattle.std.specs.Ordering.{nat_cmp}
@@ -14,7 +14,7 @@ gap key (page ∷ pages) = if page == key then 0 else suc (gap key pages)
 abbrev pub place_from : ℕ → ℕ → List ℕ → ℕ
 place_from at key pages = at + gap key (drop at pages)
 
-pub record IsIndex (pages : List ℕ) (at : ℕ) (first : BTreeMap ℕ ℕ) (next : List ℕ) : Type 0 where
+pub record IsPlaceIndex (pages : List ℕ) (at : ℕ) (first : BTreeMap ℕ ℕ) (next : List ℕ) : Type 0 where
   pub size : length next ≡ length pages
   pub begins : (key : ℕ) → unwrap_or (get nat_cmp first key) (length pages) ≡ place_from at key pages
   pub goes_on : (k : ℕ) → at ≤ k → k < length pages → get_or next k 0 ≡ place_from (k + 1) (get_or pages k 0) pages

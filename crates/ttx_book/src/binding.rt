@@ -3,7 +3,7 @@
 ghost use Rattle.std.specs.Prelude.{IfSome};
 ghost use Rattle.ttx_book.specs.Books.{book_text};
 ghost use Rattle.ttx_cycle.specs.Counters.{inner_of, faults_of};
-ghost use Rattle.ttx_pages.specs.Paging.{Writes, CountsPages, IsUntouched};
+ghost use Rattle.ttx_pages.specs.Paging.{WritesTextOf, CountsPages, IsUntouchedByPages};
 
 use crate::books::book_text;
 use std::alloc::Global;
@@ -22,9 +22,9 @@ pub fn book<R: Read, W: Write>(
     writer: &mut Counted<W>,
 ) -> Result<(), PagesFault>
     ensures bytes { IfSome (R.remaining (inner_of reader.old))
-        (λ bytes. Writes book_text bytes (W.contents (inner_of writer.old)) (W.contents (inner_of writer.new)) result) }
+        (λ bytes. WritesTextOf book_text bytes (W.contents (inner_of writer.old)) (W.contents (inner_of writer.new)) result) }
     ensures faults { CountsPages result (faults_of reader.old) (faults_of reader.new) (faults_of writer.old) (faults_of writer.new) }
-    ensures untouched { IsUntouched result writer.old writer.new }
+    ensures untouched { IsUntouchedByPages result writer.old writer.new }
 {
     let cycle = read_cycle(alloc, reader).map_err(PagesFault::Cycle)?;
     let text = book_text(alloc, cycle.slots()).map_err(|_| PagesFault::NoMemory)?;

@@ -8,7 +8,7 @@ use crate::placing::Index;
 use std::alloc::{AllocError, Global};
 use ttx_header::{PageId, read_header};
 use ttx_page::{PageMemory, Selection};
-use ttx_pages::keys::key_of;
+use ttx_pages::keys::page_key;
 use ttx_receiver::{Eager, Receiver};
 use ttx_render::{View, render};
 
@@ -30,7 +30,7 @@ pub(crate) fn page_view(slots: &[[u8; 42]], pages: &Index, id: PageId) -> View
     requires { length pages.now ≡ length slots.now }
     ensures { result ≡ view_of (page_memory slots.now pages.now id) }
 {
-    let key = key_of(id);
+    let key = page_key(id);
     let mut receiver = Eager::new(Selection::Exact(id), 1, PageMemory::blank());
     hear(&mut receiver, slots, pages, key);
     hear(&mut receiver, slots, pages, key);

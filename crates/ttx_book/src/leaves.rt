@@ -1,7 +1,7 @@
 //! The pages of a book, and its index.
 
 ghost use Rattle.std.specs.Prelude.{◌≡◌, ◌++◌, OnOk, length, string_bytes};
-ghost use Rattle.ttx_book.specs.Books.{name_of, index_entry, index_html, number_of, anchor, section_tag, heading, leaf_end, leaf_html, leaves_html};
+ghost use Rattle.ttx_book.specs.Books.{name_of, index_entry, index_html, full_number, anchor, section_tag, heading, leaf_end, leaf_html, leaves_html};
 ghost use Rattle.ttx_witness.specs.CertificateTexts.{hex_byte};
 
 use crate::hearing::page_view;
@@ -40,8 +40,8 @@ pub(crate) fn push_index(text: &mut String, ids: &[PageId]) -> Result<(), AllocE
 }
 
 // Magazine and page number.
-fn number_of(id: PageId) -> u32
-    ensures { result ≡ number_of id }
+fn full_number(id: PageId) -> u32
+    ensures { result ≡ full_number id }
 {
     u32::from(id.mag()) * 256 + u32::from(id.page())
 }
@@ -58,7 +58,7 @@ fn push_byte(text: &mut String, byte: u8) -> Result<(), AllocError>
 fn push_anchor(text: &mut String, former: u32, id: PageId) -> Result<(), AllocError>
     ensures { OnOk result (string_bytes text.new ≡ string_bytes text.old ++ anchor former id) }
 {
-    if former == number_of(id) {
+    if former == full_number(id) {
         return Ok(());
     }
     text.push_str("<a id=\"")?;
@@ -130,7 +130,7 @@ pub(crate) fn push_leaves(
     let mut former = 0;
     for id in ids {
         push_leaf(text, slots, pages, former, *id)?;
-        former = number_of(*id);
+        former = full_number(*id);
     }
     Ok(())
 }

@@ -20,13 +20,13 @@ pub(crate) struct Index {
 
 impl Model for Index {
     ghost use Rattle.std.specs.Prelude.{ℕ, List};
-    ghost use Rattle.ttx_book.specs.Placing.{IsIndex};
+    ghost use Rattle.ttx_book.specs.Placing.{IsPlaceIndex};
 
     ghost Value = { List ℕ };
 
     ghost view = { λ i. i.pages.items };
 
-    ghost invariant = { λ i. IsIndex i.pages.items 0 i.first i.next.items };
+    ghost invariant = { λ i. IsPlaceIndex i.pages.items 0 i.first i.next.items };
 }
 
 // Where the page begins, or the end.

@@ -2,7 +2,8 @@
 
 ghost use Rattle.std.specs.Prelude.{◌≡◌, ◌++◌, ◌<◌, ◌≤◌, IfOk, OnOk};
 ghost use Rattle.ttx_header.specs.Ids.{same_id};
-ghost use Rattle.ttx_check.specs.Queues.{is_in_queue, is_in_round, is_sent_in_round, round_from, whole_queue, follows, followers, filler, followers_to, behind_subpages, behind_copies};
+ghost use Rattle.ttx_check.specs.Queues.{is_in_queue, is_in_round, is_sent_in_round, round_from, whole_queue, follows, followers, filler};
+ghost use Rattle.ttx_check.specs.Queues.{followers_to, behind_subpages, behind_copies};
 
 use crate::entries::Entry;
 use std::alloc::{AllocError, Global};

@@ -1,6 +1,7 @@
 //! The keys of a service text that mean nothing.
 
-ghost use Rattle.std.specs.Prelude.{◌≡◌, ◌++◌, ◌≤◌, length, map, find, nat_lt, if◌then◌else◌, option_map, option_copied, IfOk, OnOk, None, codes, string_bytes};
+ghost use Rattle.std.specs.Prelude.{◌≡◌, ◌++◌, ◌≤◌, length, map, find, nat_lt, if◌then◌else◌, option_map, option_copied, IfOk, OnOk, None, codes};
+ghost use Rattle.std.specs.Prelude.{string_bytes};
 ghost use Rattle.std.specs.List.{list_any};
 ghost use Rattle.std.specs.Str.{bytes_eq};
 ghost use Rattle.toml.specs.Data.{as_table, get_member};

@@ -2,7 +2,8 @@
 
 ghost use Rattle.std.specs.Prelude.{◌≡◌, ◌++◌, ◌∷◌, [], OnOk, codes, string_bytes};
 ghost use Rattle.std.specs.Fmt.{decimal};
-ghost use Rattle.ttx_check.specs.WarningLines.{page_text, row_text, dead_link_text, itself_text, magazine_text, warning_text, warning_line, warning_lines};
+ghost use Rattle.ttx_check.specs.WarningLines.{page_text, row_text, dead_link_text, itself_text, magazine_text, warning_text, warning_line};
+ghost use Rattle.ttx_check.specs.WarningLines.{warning_lines};
 
 use crate::warning::Warning;
 use std::alloc::AllocError;

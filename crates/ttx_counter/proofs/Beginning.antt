@@ -17,7 +17,7 @@ use Rattle.ttx_witness.specs.laws.CycleLaws.{FurtherStartsCover, progress_of}
 use Rattle.ttx_witness.specs.sent.ItemTransmissions.{sent_in}
 use Rattle.ttx_witness.specs.laws.JudgingLaws.{TransmissionsAreListed}
 use Rattle.ttx_witness.specs.runs.Tracks.{IsWithin}
-use Rattle.ttx_counter.specs.Starving.{fullest, with_starts}
+use Rattle.ttx_counter.specs.Starving.{fullest, with_sure_starts}
 use Rattle.ttx_counter.specs.Completeness.{StarvesFrom, StartsAreJudged, AreJudged, FullestNamesAll, late_start}
 use Rattle.ttx_counter.specs.Refutations.{IsAfterOwner}
 use Rattle.ttx_counter.proofs.Between.{cases_ltz}
@@ -79,7 +79,7 @@ pub record StartLaws : Type 0 where
 module _ (laws : StartLaws) (cycle : List (List ℕ)) (is_cycle : IsCycle cycle) (p : Page) (w : Certificate) (is : IsCertificate w) (item : Item) (starts : List ℕ) (rising : Rising starts)
     (named : (start : ℕ) → Contains starts start ↔ IsSureStart cycle p.id w.lines w.repeat item start) where
   abbrev v : Certificate
-  v = with_starts w starts
+  v = with_sure_starts w starts
 
   judged : AreJudged cycle p v item
   judged = laws.judged cycle is_cycle.some p v item is.some_repeats rising named

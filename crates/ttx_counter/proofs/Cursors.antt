@@ -4,18 +4,18 @@ use Rattle.std.specs.List.{list_any}
 use Rattle.std.specs.List.Sorted.{IsNonDecreasing}
 use Rattle.std.proofs.lemmas.Bool.{cases_lt}
 use Rattle.std.proofs.lemmas.List.Folds.{list_any_at}
-use Rattle.ttx_counter.specs.Keys.{key_at, slot_in, byte_in, place_in, is_hit, AreSlotKeys, AreApart}
+use Rattle.ttx_counter.specs.Keys.{key_at, slot_in, byte_in, byte_place, is_hit, AreSlotKeys, AreHitOnce}
 use Rattle.ttx_counter.specs.Rule.{IsCursor}
 use Rattle.ttx_counter.proofs.Streaking.{cases_bool, no_both}
 
 -- the parts of a key
-pub parts : (key : ℕ) → place_in key ≡ slot_in key * 256 + byte_in key
+pub parts : (key : ℕ) → byte_place key ≡ slot_in key * 256 + byte_in key
 parts key = omega arith
 
 pub byte_small : (key : ℕ) → byte_in key < 256
 byte_small key = omega arith
 
-pub same_parts : (a n x : ℕ) → x < 256 → place_in a ≡ n * 256 + x → (slot_in a ≡ n) × (byte_in a ≡ x)
+pub same_parts : (a n x : ℕ) → x < 256 → byte_place a ≡ n * 256 + x → (slot_in a ≡ n) × (byte_in a ≡ x)
 same_parts a n x lt e = (omega (arith, parts a, byte_small a), omega (arith, parts a, byte_small a))
 
 any_index : (p : ℕ → Bool) (xs : List ℕ) → list_any p xs ≡ true → (i : ℕ) × (i < length xs) × (p (get_or xs i 0) ≡ true)
@@ -29,19 +29,19 @@ module _ (keys : List ℕ) where
   pub hit_index : (n x : ℕ) → x < 256 → is_hit keys x n ≡ true → (i : ℕ) × (i < length keys) × (slot_in (key_at keys i) ≡ n) × (byte_in (key_at keys i) ≡ x)
   unfolding is_hit
   hit_index n x lt h =
-      let w = any_index (λ key. place_in key == n * 256 + x) keys h in
+      let w = any_index (λ key. byte_place key == n * 256 + x) keys h in
       let e = same_parts (key_at keys w.0) n x lt (eqb-true _ _ w.2) in
       (w.0, w.1, e.0, e.1)
 
   pub index_hit : (n x i : ℕ) → i < length keys → slot_in (key_at keys i) ≡ n → byte_in (key_at keys i) ≡ x → is_hit keys x n ≡ true
   unfolding is_hit
-  index_hit n x i lt e f = list_any_at (λ key. place_in key == n * 256 + x) keys i 0 lt (eq-eqb _ _ (omega (arith, parts (key_at keys i))))
+  index_hit n x i lt e f = list_any_at (λ key. byte_place key == n * 256 + x) keys i 0 lt (eq-eqb _ _ (omega (arith, parts (key_at keys i))))
 
   pub cursor_begins : IsCursor keys 0 0
   cursor_begins = record { within = omega arith; before = λ i lt. absurd (omega arith); after = λ i a b. omega arith }
 
   -- no byte of a slot stands twice
-  pub own_bytes : AreApart keys → (n from to : ℕ) → AreSlotKeys keys n from to → (i j : ℕ) → from ≤ i → i < j → j < to → byte_in (key_at keys i) ≡ byte_in (key_at keys j) → ⊥
+  pub own_bytes : AreHitOnce keys → (n from to : ℕ) → AreSlotKeys keys n from to → (i j : ℕ) → from ≤ i → i < j → j < to → byte_in (key_at keys i) ≡ byte_in (key_at keys j) → ⊥
   own_bytes apart n from to s i j low lt high e =
       let a = s.own i low (omega arith) in let b = s.own j (omega arith) high in
       apart i j lt (let w = s.within in omega arith) (omega (arith, parts (key_at keys i), parts (key_at keys j)))

@@ -15,10 +15,10 @@ use Rattle.ttx_page.specs.Receivers.{scripted}
 use Rattle.ttx_page.specs.Streams.{repeated}
 use Rattle.ttx_certify.specs.Seen.{HasView}
 use Rattle.ttx_counter.specs.Counters.{CounterRun, IsHit, selection_for, IsCounterRun}
-use Rattle.ttx_counter.specs.Keys.{key_of, key_at, slot_in, IsKey, AreApart}
+use Rattle.ttx_counter.specs.Keys.{hit_key, key_at, slot_in, IsKey, AreHitOnce}
 use Rattle.ttx_counter.specs.Rule.{KeepsRule}
 use Rattle.ttx_counter.specs.Hearing.{IsHitBy}
-use Rattle.ttx_counter.specs.Checking.{IsInRange, IsJudged, IsJudgedWithin, IsRefuting}
+use Rattle.ttx_counter.specs.Checking.{IsInRange, IsJudgedRun, IsJudgedWithin, IsRefuting}
 use Rattle.ttx_counter.proofs.Bridging.{at_hit, from_key, slot_of_key, keys_are, apart_to, apart_back, hits_to, hits_back}
 use Rattle.ttx_counter.proofs.Exactly as E
 
@@ -26,7 +26,7 @@ pub slots_are : EachSlotTurns → (cycle : List (List ℕ)) → IsCycle cycle �
 slots_are turns cycle is j = let t = turns (length cycle) j is.some in is.each _ [] t.inside
 
 module _ (itself : EachByteIsNearItself) (turns : EachSlotTurns) (cycle : List (List ℕ)) (is : IsCycle cycle) (p : Page) (c : CounterRun) (keys : List ℕ)
-    (all : All (IsHit (repeated cycle) c.start c.slots) c.hits) (same : IsPermutation (map key_of c.hits) keys) where
+    (all : All (IsHit (repeated cycle) c.start c.slots) c.hits) (same : IsPermutation (map hit_key c.hits) keys) where
   abbrev each : (i : ℕ) → i < length keys → IsKey (key_at keys i)
   each = keys_are (repeated cycle) c.start c.slots c.hits keys all same
 
@@ -38,7 +38,7 @@ module _ (itself : EachByteIsNearItself) (turns : EachSlotTurns) (cycle : List (
       subst (λ n. is_empty (repeated cycle (pos c.start +ℤ pos n)) ≡ false) e h.sent
 
   -- the parts that a refuting run has
-  pub refuting_apart : IsRefuting cycle p c → AreApart keys
+  pub refuting_apart : IsRefuting cycle p c → AreHitOnce keys
   refuting_apart r = apart_to (repeated cycle) c.start c.slots c.hits keys all same r.once
 
   heard : (r : IsRefuting cycle p c) → (i : ℕ) → i < c.slots → IsHitBy keys i (repeated cycle (pos c.start +ℤ pos i)) (get_or r.received i [])
@@ -48,7 +48,7 @@ module _ (itself : EachByteIsNearItself) (turns : EachSlotTurns) (cycle : List (
   refuting_keeps r = E.keeps (repeated cycle) (slots_are turns cycle is) p.id c.start c.slots c.repeat keys each r.received r.with_hits.count (heard r) r.permitted
 
   -- where they hold, the judgment decides
-  decided : (wrong : Bool) → AreApart keys → KeepsRule (repeated cycle) p.id c.start c.slots c.repeat keys → IsJudged (repeated cycle) keys p c wrong → (wrong ≡ true) ↔ IsRefuting cycle p c
+  decided : (wrong : Bool) → AreHitOnce keys → KeepsRule (repeated cycle) p.id c.start c.slots c.repeat keys → IsJudgedRun (repeated cycle) keys p c wrong → (wrong ≡ true) ↔ IsRefuting cycle p c
   decided wrong apart rule j = (
     (λ w. record {
       once = apart_back (repeated cycle) c.start c.slots c.hits keys all same apart;
@@ -62,7 +62,7 @@ module _ (itself : EachByteIsNearItself) (turns : EachSlotTurns) (cycle : List (
   )
 
   -- and where one of them doesn't, nothing is refuted
-  pub decided_within : (wrong : Bool) → AreApart keys → IsJudgedWithin (repeated cycle) keys p c wrong → (wrong ≡ true) ↔ IsRefuting cycle p c
+  pub decided_within : (wrong : Bool) → AreHitOnce keys → IsJudgedWithin (repeated cycle) keys p c wrong → (wrong ≡ true) ↔ IsRefuting cycle p c
   decided_within wrong apart j = (
     (λ w. let rule = j.keeps w in (decided wrong apart rule (j.judged rule)).0 w),
     (λ r. let rule = refuting_keeps r in (decided wrong apart rule (j.judged rule)).1 r),

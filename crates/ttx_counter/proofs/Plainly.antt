@@ -18,7 +18,7 @@ use Rattle.ttx_counter.specs.Refutations.{IsCounterTo}
 use Rattle.ttx_counter.specs.Sources.{plain_from, PlainRunsAreCounterRuns, AbsentPagesAreWrong, PeriodsRepeat}
 use Rattle.ttx_counter.proofs.Streaking.{no_both}
 use Rattle.ttx_counter.proofs.Deciding.{slots_are, same_page}
-use Rattle.ttx_counter.specs.Counters.{CounterRun, AreNumbers, IsCounterRun, selection_for}
+use Rattle.ttx_counter.specs.Counters.{CounterRun, AreCertificateNumbers, IsCounterRun, selection_for}
 use Rattle.ttx_counter.specs.Sources.{plain_counter, IsWrongAfter, TellsWrong, IsPlainlyRight}
 use Rattle.std.specs.Prelude.{slice_get, Some, None}
 use Rattle.ttx_cycle.specs.Files.{IsCycle}
@@ -250,7 +250,7 @@ runs_on T lines sel former r0 r1 r2 s a b low is m1 s1 l1 m2 s2 l2 sum told =
     second ∙ ap (λ z. plain_from z sel former s (pos 0) low) (sym l) ∙ ap (λ z. plain_from r2.lines z former s (pos 0) low) (sym c) in
     subst (λ z. T z sel former) l (subst (λ z. T r2.lines z former) c (told third))
 
-pub numbers_of : (w : Certificate) → IsCertificate w → AreNumbers w.lines w.repeat w.deadline
+pub numbers_of : (w : Certificate) → IsCertificate w → AreCertificateNumbers w.lines w.repeat w.deadline
 numbers_of w is = record {
   some_lines = is.some_lines;
   few_lines = is.few_lines;
@@ -272,7 +272,7 @@ plain_to cycle pages w index any_sub former n run made is = record {
 
 -- what a search for plain runs gives
 pub found : PlainRunsAreCounterRuns → (cycle : List (List ℕ)) → IsCycle cycle → (pages : List Page) (p : Page) (index : ℕ) (any_sub : Bool) (sel : Selection) (former : Memory) (lines repeat deadline n : ℕ) (run : CounterRun) →
-    slice_get pages index ≡ Some p → sel ≡ selection_for any_sub p.id → Fits pages p sel → IsMemory former → former ≡ memory_of_page p → AreNumbers lines repeat deadline → deadline * lines ≤ n →
+    slice_get pages index ≡ Some p → sel ≡ selection_for any_sub p.id → Fits pages p sel → IsMemory former → former ≡ memory_of_page p → AreCertificateNumbers lines repeat deadline → deadline * lines ≤ n →
     IsWrongAfter cycle p lines sel (memory_of_page p) n → run ≡ plain_counter index any_sub former lines repeat deadline n → IsCounterRun cycle pages run
 found law cycle is pages p index any_sub sel former lines repeat deadline n run here same fits known own numbers lasts wrong made =
     subst (IsCounterRun cycle pages) (sym made)

@@ -12,7 +12,7 @@ use Rattle.ttx_page.specs.Pages.{IsRow}
 use Rattle.ttx_page.specs.Memories.{Memory, memory_at}
 use Rattle.ttx_counter.specs.Counters.{Hit, CounterRun}
 use Rattle.ttx_counter.specs.CounterTexts.{bit, bits, link_numbers, links_numbers, hits_numbers, counter_text}
-use Rattle.ttx_counter.specs.CounterReading.{at_most, is_one, characters_in, rows_in, is_target, link_of, links_in, hit_of, hits_in, memory_in, choices_in, hits_after, numbers_behind, counter_in, numbers_in, judged, IsHitFields, IsCounterFields, AcceptedTextsAreWritten, WrittenTextsAreRead}
+use Rattle.ttx_counter.specs.CounterReading.{at_most, is_one, characters_in, read_rows, is_target, read_link, read_links, hit_of, hits_in, memory_in, choices_in, hits_after, numbers_behind, counter_in, line_numbers, judged, IsHitFields, IsCounterFields, AcceptedCounterTextsAreWritten, WrittenCounterTextsAreRead}
 use Rattle.ttx_counter.proofs.Between.{if_ind}
 use Rattle.ttx_counter.proofs.ReadNumbers.{AreSmall, EachSmall, joined, numbers_of, whole, if_true}
 
@@ -48,13 +48,13 @@ drop_row row rest long = subst (λ n. drop n (row ++ rest) ≡ rest) long (drop-
 take_row : (row rest : List ℕ) → IsRow row → characters_in 40 (row ++ rest) ≡ row
 take_row row rest is = subst (λ n. characters_in n (row ++ rest) ≡ row) is.length (characters row rest (each_code row is.codes))
 
-rows : (rs : List (List ℕ)) (rest : List ℕ) → AreRows rs → rows_in (length rs) (joined rs ++ rest) ≡ rs
-unfolding rows_in
+rows : (rs : List (List ℕ)) (rest : List ℕ) → AreRows rs → read_rows (length rs) (joined rs ++ rest) ≡ rs
+unfolding read_rows
 rows [] rest are = refl
 rows (row ∷ rs) rest are =
-    ap (λ ns. characters_in 40 ns ∷ rows_in (length rs) (drop 40 ns)) (append_assoc row (joined rs) rest)
-    ∙ ap (λ r. r ∷ rows_in (length rs) (drop 40 (row ++ (joined rs ++ rest)))) (take_row row (joined rs ++ rest) are.0)
-    ∙ ap (λ ns. row ∷ rows_in (length rs) ns) (drop_row row (joined rs ++ rest) are.0.length) ∙ ap (λ x. row ∷ x) (rows rs rest are.1)
+    ap (λ ns. characters_in 40 ns ∷ read_rows (length rs) (drop 40 ns)) (append_assoc row (joined rs) rest)
+    ∙ ap (λ r. r ∷ read_rows (length rs) (drop 40 (row ++ (joined rs ++ rest)))) (take_row row (joined rs ++ rest) are.0)
+    ∙ ap (λ ns. row ∷ read_rows (length rs) ns) (drop_row row (joined rs ++ rest) are.0.length) ∙ ap (λ x. row ∷ x) (rows rs rest are.1)
 
 joined_length : (rs : List (List ℕ)) → AreRows rs → length (joined rs) ≡ 40 * length rs
 joined_length [] are = refl
@@ -88,7 +88,7 @@ target id is =
     and_both _ _ (and_both _ _ (and_both _ _ (and_both _ _ (and_both _ _ low high) page) top) mask) (not_it _ is.link)
 
 abbrev first_link : List ℕ → Option Id
-first_link ns = link_of (slice_index ns 0) (slice_index ns 1) (slice_index ns 2)
+first_link ns = read_link (slice_index ns 0) (slice_index ns 1) (slice_index ns 2)
 
 link : (l : Option Id) (rest : List ℕ) → IsLink l → first_link (link_numbers l ++ rest) ≡ l
 link None rest is = refl
@@ -98,13 +98,13 @@ drop_link : (l : Option Id) (rest : List ℕ) → drop 3 (link_numbers l ++ rest
 drop_link None rest = refl
 drop_link (Some id) rest = refl
 
-links : (six : List (Option Id)) (rest : List ℕ) → AreLinks six → links_in (length six) (links_numbers six ++ rest) ≡ six
-unfolding links_in
+links : (six : List (Option Id)) (rest : List ℕ) → AreLinks six → read_links (length six) (links_numbers six ++ rest) ≡ six
+unfolding read_links
 links [] rest are = refl
 links (l ∷ six) rest are =
-    ap (λ ns. first_link ns ∷ links_in (length six) (drop 3 ns)) (append_assoc (link_numbers l) (links_numbers six) rest)
-    ∙ ap (λ x. x ∷ links_in (length six) (drop 3 (link_numbers l ++ (links_numbers six ++ rest)))) (link l (links_numbers six ++ rest) are.0)
-    ∙ ap (λ ns. l ∷ links_in (length six) ns) (drop_link l (links_numbers six ++ rest)) ∙ ap (λ x. l ∷ x) (links six rest are.1)
+    ap (λ ns. first_link ns ∷ read_links (length six) (drop 3 ns)) (append_assoc (link_numbers l) (links_numbers six) rest)
+    ∙ ap (λ x. x ∷ read_links (length six) (drop 3 (link_numbers l ++ (links_numbers six ++ rest)))) (link l (links_numbers six ++ rest) are.0)
+    ∙ ap (λ ns. l ∷ read_links (length six) ns) (drop_link l (links_numbers six ++ rest)) ∙ ap (λ x. l ∷ x) (links six rest are.1)
 
 link_length : (l : Option Id) → length (link_numbers l) ≡ 3
 link_length None = refl
@@ -180,11 +180,11 @@ module _ (c : CounterRun) (is : IsCounterFields c) (are : AreHits c.hits) where
       let e : length (joined m.rows) ≡ 1000 = joined_length m.rows of_rows ∙ omega (arith, is.former.row_count) in
       ap (drop 1000) after_links ∙ subst (λ n. drop n (joined m.rows ++ behind) ≡ behind) e (drop-append_seam (joined m.rows) behind)
 
-  six_is : links_in 6 (drop 14 ns) ≡ m.links.six
-  six_is = subst (λ n. links_in n (links_numbers m.links.six ++ (joined m.rows ++ behind)) ≡ m.links.six) is.six (links m.links.six (joined m.rows ++ behind) is.links)
+  six_is : read_links 6 (drop 14 ns) ≡ m.links.six
+  six_is = subst (λ n. read_links n (links_numbers m.links.six ++ (joined m.rows ++ behind)) ≡ m.links.six) is.six (links m.links.six (joined m.rows ++ behind) is.links)
 
-  rows_are : rows_in 25 (drop 18 (drop 14 ns)) ≡ m.rows
-  rows_are = ap (rows_in 25) after_links ∙ subst (λ n. rows_in n (joined m.rows ++ behind) ≡ m.rows) is.former.row_count (rows m.rows behind of_rows)
+  rows_are : read_rows 25 (drop 18 (drop 14 ns)) ≡ m.rows
+  rows_are = ap (read_rows 25) after_links ∙ subst (λ n. read_rows n (joined m.rows ++ behind) ≡ m.rows) is.former.row_count (rows m.rows behind of_rows)
 
   memory_is : memory_in ns ≡ m
   memory_is =
@@ -217,7 +217,7 @@ module _ (c : CounterRun) (is : IsCounterFields c) (are : AreHits c.hits) where
         deadline = c.deadline;
       }
 
-  pub read : counter_in (numbers_in (counter_text c)) ≡ c
+  pub read : counter_in (line_numbers (counter_text c)) ≡ c
   read = ap counter_in (whole c (record {
     lines = is.lines;
     repeat = is.repeat;
@@ -241,7 +241,7 @@ each_hit (h ∷ hs) all = (all 0 h (omega arith), each_hit hs (λ k d lt. all (s
 itself : (bytes : List ℕ) → bytes_eq bytes bytes ≡ true
 itself bytes = (bytes_eq-Decides bytes bytes).1 refl
 
-pub written_is_read : WrittenTextsAreRead
+pub written_is_read : WrittenCounterTextsAreRead
 written_is_read c is =
     let e = read c is (each_hit c.hits is.each) in
     ap (judged (counter_text c)) e ∙ if_true (bytes_eq (counter_text c) (counter_text c)) (Ok c) (Err _) (itself (counter_text c))
@@ -250,9 +250,9 @@ written_is_read c is =
 ok_is : {A E : Type 0} (a : A) (x y : A) → ◌≡◌ {A = Rattle.std.specs.Prelude.Result A E} (Ok x) (Ok y) → x ≡ y
 ok_is a x y e = cc
 
-pub accepted_is_written : AcceptedTextsAreWritten
+pub accepted_is_written : AcceptedCounterTextsAreWritten
 accepted_is_written bytes c read =
-    let d = counter_in (numbers_in bytes) in
+    let d = counter_in (line_numbers bytes) in
     if_ind (λ r. r ≡ Ok c → bytes ≡ counter_text c) (bytes_eq (counter_text d) bytes) (Ok d) (Err _)
     (λ same h. sym ((bytes_eq-Decides (counter_text d) bytes).0 same) ∙ ap counter_text (let k : d ≡ c = cc in k))
     (λ _ h. absurd (let k : Err _ ≡ Ok c = h in cc)) read

@@ -5,8 +5,8 @@ use Rattle.std.proofs.lemmas.Bool.Decides.{nat_tests}
 use Rattle.std.proofs.lemmas.Fmt.{decimal_by_steps}
 use Rattle.ttx_page.specs.Memories.{Memory}
 use Rattle.ttx_counter.specs.Counters.{Hit, CounterRun}
-use Rattle.ttx_counter.specs.CounterTexts.{numbers_text, line_text, bit, bits, links_numbers, hits_numbers, rows_text, state_text, links_text, memory_text, choices_text, hits_text, title, head_text, tuning_text, counter_text}
-use Rattle.ttx_counter.specs.CounterReading.{is_digit, at_most, digit_after, closed, numbers_after, numbers_in}
+use Rattle.ttx_counter.specs.CounterTexts.{numbers_text, line_text, bit, bits, links_numbers, hits_numbers, row_lines, state_text, links_lines, memory_text, choices_text, hits_text, title, head_lines, tuning_text, counter_text}
+use Rattle.ttx_counter.specs.CounterReading.{is_digit, at_most, digit_after, closed, numbers_after, line_numbers}
 
 pub if_true : {A : Type 0} (b : Bool) (x y : A) → b ≡ true → (if b then x else y) ≡ x
 if_true true x y h = refl
@@ -43,39 +43,39 @@ digits n small = decimal_by_steps (λ m ds. (rest : List ℕ) → numbers_after 
     ∙ step (Some (at_most 4294967295 (m / 10))) (m % 10) rest (last_small m) ∙ ap (λ v. numbers_after (Some v) rest) (next_digit m))
     n small
 
-over : (n b : ℕ) (rest : List ℕ) → is_digit b ≡ false → numbers_after (Some n) (b ∷ rest) ≡ n ∷ numbers_in (b ∷ rest)
+over : (n b : ℕ) (rest : List ℕ) → is_digit b ≡ false → numbers_after (Some n) (b ∷ rest) ≡ n ∷ line_numbers (b ∷ rest)
 unfolding numbers_after
 over n b rest h = rw h refl
 
 -- a number that a space or the end of the line follows
-ended : (n b : ℕ) (rest : List ℕ) → n < 2 ^ 32 → is_digit b ≡ false → numbers_in (decimal n ++ (b ∷ rest)) ≡ n ∷ numbers_in (b ∷ rest)
+ended : (n b : ℕ) (rest : List ℕ) → n < 2 ^ 32 → is_digit b ≡ false → line_numbers (decimal n ++ (b ∷ rest)) ≡ n ∷ line_numbers (b ∷ rest)
 ended n b rest small h =
     let same : at_most 4294967295 n ≡ n = omega arith in
     digits n (omega arith) (b ∷ rest) ∙ ap (λ v. numbers_after (Some v) (b ∷ rest)) same ∙ over n b rest h
 
-numbers : (ns rest : List ℕ) → AreSmall ns → numbers_in (numbers_text ns ++ (10 ∷ rest)) ≡ ns ++ numbers_in rest
+numbers : (ns rest : List ℕ) → AreSmall ns → line_numbers (numbers_text ns ++ (10 ∷ rest)) ≡ ns ++ line_numbers rest
 unfolding numbers_after
 numbers [] rest small = refl
-numbers (n ∷ []) rest small = ap numbers_in (append_assoc (decimal n) [] (10 ∷ rest)) ∙ ended n 10 rest small.0 refl
+numbers (n ∷ []) rest small = ap line_numbers (append_assoc (decimal n) [] (10 ∷ rest)) ∙ ended n 10 rest small.0 refl
 numbers (n ∷ m ∷ ns) rest small =
-    ap numbers_in (append_assoc (decimal n) (numbers_text (m ∷ ns)) (10 ∷ rest)) ∙ ended n 32 ((decimal m ++ numbers_text ns) ++ (10 ∷ rest)) small.0 refl
+    ap line_numbers (append_assoc (decimal n) (numbers_text (m ∷ ns)) (10 ∷ rest)) ∙ ended n 32 ((decimal m ++ numbers_text ns) ++ (10 ∷ rest)) small.0 refl
     ∙ ap (λ xs. n ∷ xs) (numbers (m ∷ ns) rest small.1)
 
 -- a word without digits says nothing
 abbrev IsPlain : List ℕ → Type 0
-IsPlain key = (rest : List ℕ) → numbers_in (key ++ rest) ≡ numbers_in rest
+IsPlain key = (rest : List ℕ) → line_numbers (key ++ rest) ≡ line_numbers rest
 
-line : (key ns rest : List ℕ) → IsPlain key → AreSmall ns → numbers_in (line_text key ns ++ rest) ≡ ns ++ numbers_in rest
+line : (key ns rest : List ℕ) → IsPlain key → AreSmall ns → line_numbers (line_text key ns ++ rest) ≡ ns ++ line_numbers rest
 line key ns rest plain small =
-    ap numbers_in (append_assoc (key ++ numbers_text ns) (10 ∷ []) rest ∙ append_assoc key (numbers_text ns) (10 ∷ rest)) ∙ plain (numbers_text ns ++ (10 ∷ rest)) ∙ numbers ns rest small
+    ap line_numbers (append_assoc (key ++ numbers_text ns) (10 ∷ []) rest ∙ append_assoc key (numbers_text ns) (10 ∷ rest)) ∙ plain (numbers_text ns ++ (10 ∷ rest)) ∙ numbers ns rest small
 
 four : (a b c d rest : List ℕ) → a ++ b ++ c ++ d ++ rest ≡ a ++ (b ++ (c ++ (d ++ rest)))
 four a b c d rest = append_assoc (a ++ b ++ c) d rest ∙ append_assoc (a ++ b) c (d ++ rest) ∙ append_assoc a b (c ++ (d ++ rest))
 
-head : (c : CounterRun) (rest : List ℕ) → c.lines < 256 → c.repeat < 256 → c.deadline < 2 ^ 32 → numbers_in (head_text c ++ rest) ≡ 1 ∷ c.lines ∷ c.repeat ∷ c.deadline ∷ numbers_in rest
-unfolding head_text numbers_after
+head : (c : CounterRun) (rest : List ℕ) → c.lines < 256 → c.repeat < 256 → c.deadline < 2 ^ 32 → line_numbers (head_lines c ++ rest) ≡ 1 ∷ c.lines ∷ c.repeat ∷ c.deadline ∷ line_numbers rest
+unfolding head_lines numbers_after
 head c rest l r d =
-    ap numbers_in (four title (line_text (codes "lines") (c.lines ∷ [])) (line_text (codes "repeat") (c.repeat ∷ [])) (line_text (codes "deadline") (c.deadline ∷ [])) rest)
+    ap line_numbers (four title (line_text (codes "lines") (c.lines ∷ [])) (line_text (codes "repeat") (c.repeat ∷ [])) (line_text (codes "deadline") (c.deadline ∷ [])) rest)
     ∙ ap (λ xs. 1 ∷ xs)
     (line (codes "lines") (c.lines ∷ []) (line_text (codes "repeat") (c.repeat ∷ []) ++ (line_text (codes "deadline") (c.deadline ∷ []) ++ rest)) (λ t. refl) (omega arith, tt)
     ∙ ap (λ xs. c.lines ∷ xs)
@@ -86,28 +86,28 @@ bit_small : (b : Bool) → bit b < 2 ^ 32
 bit_small true = omega arith
 bit_small false = omega arith
 
-tuning : (c : CounterRun) (rest : List ℕ) → c.page < 2 ^ 32 → c.start < 2 ^ 32 → c.slots < 2 ^ 32 → numbers_in (tuning_text c ++ rest) ≡ c.page ∷ bit c.any_sub ∷ c.start ∷ c.slots ∷ numbers_in rest
+tuning : (c : CounterRun) (rest : List ℕ) → c.page < 2 ^ 32 → c.start < 2 ^ 32 → c.slots < 2 ^ 32 → line_numbers (tuning_text c ++ rest) ≡ c.page ∷ bit c.any_sub ∷ c.start ∷ c.slots ∷ line_numbers rest
 unfolding tuning_text numbers_after
 tuning c rest p s n =
     let la = line_text (codes "page") (c.page ∷ []) in
     let lb = line_text (codes "any-subpage") (bit c.any_sub ∷ []) in
     let lc = line_text (codes "start") (c.start ∷ []) in
     let ld = line_text (codes "slots") (c.slots ∷ []) in
-    ap numbers_in (four la lb lc ld rest)
+    ap line_numbers (four la lb lc ld rest)
     ∙ line (codes "page") (c.page ∷ []) (lb ++ (lc ++ (ld ++ rest))) (λ t. refl) (p, tt)
     ∙ ap (λ xs. c.page ∷ xs)
     (line (codes "any-subpage") (bit c.any_sub ∷ []) (lc ++ (ld ++ rest)) (λ t. refl) (bit_small c.any_sub, tt)
     ∙ ap (λ xs. bit c.any_sub ∷ xs)
     (line (codes "start") (c.start ∷ []) (ld ++ rest) (λ t. refl) (s, tt) ∙ ap (λ xs. c.start ∷ xs) (line (codes "slots") (c.slots ∷ []) rest (λ t. refl) (n, tt))))
 
-state : (m : Memory) (rest : List ℕ) → m.control < 2048 → m.age ≤ 64 → numbers_in (state_text m ++ rest) ≡ m.control ∷ bit m.storing ∷ m.age ∷ bit m.fresh ∷ numbers_in rest
+state : (m : Memory) (rest : List ℕ) → m.control < 2048 → m.age ≤ 64 → line_numbers (state_text m ++ rest) ≡ m.control ∷ bit m.storing ∷ m.age ∷ bit m.fresh ∷ line_numbers rest
 unfolding state_text numbers_after
 state m rest c a =
     let la = line_text (codes "control") (m.control ∷ []) in
     let lb = line_text (codes "storing") (bit m.storing ∷ []) in
     let lc = line_text (codes "age") (m.age ∷ []) in
     let ld = line_text (codes "fresh") (bit m.fresh ∷ []) in
-    ap numbers_in (four la lb lc ld rest)
+    ap line_numbers (four la lb lc ld rest)
     ∙ line (codes "control") (m.control ∷ []) (lb ++ (lc ++ (ld ++ rest))) (λ t. refl) (omega arith, tt)
     ∙ ap (λ xs. m.control ∷ xs)
     (line (codes "storing") (bit m.storing ∷ []) (lc ++ (ld ++ rest)) (λ t. refl) (bit_small m.storing, tt)
@@ -115,16 +115,16 @@ state m rest c a =
     (line (codes "age") (m.age ∷ []) (ld ++ rest) (λ t. refl) (omega arith, tt) ∙ ap (λ xs. m.age ∷ xs) (line (codes "fresh") (bit m.fresh ∷ []) rest (λ t. refl) (bit_small m.fresh, tt))))
 
 -- the word `row-24` holds a number
-row_24 : (m : Memory) (rest : List ℕ) → numbers_in (line_text (codes "row-24") (bit m.links.show24 ∷ []) ++ rest) ≡ 24 ∷ bit m.links.show24 ∷ numbers_in rest
+row_24 : (m : Memory) (rest : List ℕ) → line_numbers (line_text (codes "row-24") (bit m.links.show24 ∷ []) ++ rest) ≡ 24 ∷ bit m.links.show24 ∷ line_numbers rest
 unfolding numbers_after
 row_24 m rest =
-    ap numbers_in (append_assoc (codes "row-24" ++ numbers_text (bit m.links.show24 ∷ [])) (10 ∷ []) rest ∙ append_assoc (codes "row-24") (numbers_text (bit m.links.show24 ∷ [])) (10 ∷ rest))
+    ap line_numbers (append_assoc (codes "row-24" ++ numbers_text (bit m.links.show24 ∷ [])) (10 ∷ []) rest ∙ append_assoc (codes "row-24") (numbers_text (bit m.links.show24 ∷ [])) (10 ∷ rest))
     ∙ ap (λ xs. 24 ∷ xs) (numbers (bit m.links.show24 ∷ []) rest (bit_small m.links.show24, tt))
 
-links : (m : Memory) (rest : List ℕ) → AreSmall (links_numbers m.links.six) → numbers_in (links_text m ++ rest) ≡ 24 ∷ bit m.links.show24 ∷ (links_numbers m.links.six ++ numbers_in rest)
-unfolding links_text numbers_after
+links : (m : Memory) (rest : List ℕ) → AreSmall (links_numbers m.links.six) → line_numbers (links_lines m ++ rest) ≡ 24 ∷ bit m.links.show24 ∷ (links_numbers m.links.six ++ line_numbers rest)
+unfolding links_lines numbers_after
 links m rest small =
-    ap numbers_in (append_assoc (line_text (codes "row-24") (bit m.links.show24 ∷ [])) (line_text (codes "links") (links_numbers m.links.six)) rest)
+    ap line_numbers (append_assoc (line_text (codes "row-24") (bit m.links.show24 ∷ [])) (line_text (codes "links") (links_numbers m.links.six)) rest)
     ∙ row_24 m (line_text (codes "links") (links_numbers m.links.six) ++ rest)
     ∙ ap (λ xs. 24 ∷ bit m.links.show24 ∷ xs) (line (codes "links") (links_numbers m.links.six) rest (λ t. refl) small)
 
@@ -149,20 +149,20 @@ hits_plain : IsPlain (codes "hits")
 unfolding numbers_after
 hits_plain t = refl
 
-rows : (rs : List (List ℕ)) (rest : List ℕ) → EachSmall rs → numbers_in (rows_text rs ++ rest) ≡ joined rs ++ numbers_in rest
+rows : (rs : List (List ℕ)) (rest : List ℕ) → EachSmall rs → line_numbers (row_lines rs ++ rest) ≡ joined rs ++ line_numbers rest
 rows [] rest small = refl
 rows (row ∷ rs) rest small =
-    ap numbers_in (append_assoc (line_text (codes "row") row) (rows_text rs) rest) ∙ line (codes "row") row (rows_text rs ++ rest) row_plain small.0 ∙ ap (λ xs. row ++ xs) (rows rs rest small.1)
-    ∙ sym (append_assoc row (joined rs) (numbers_in rest))
+    ap line_numbers (append_assoc (line_text (codes "row") row) (row_lines rs) rest) ∙ line (codes "row") row (row_lines rs ++ rest) row_plain small.0 ∙ ap (λ xs. row ++ xs) (rows rs rest small.1)
+    ∙ sym (append_assoc row (joined rs) (line_numbers rest))
 
 bits_small : (cs : List Bool) → AreSmall (bits cs)
 bits_small [] = tt
 bits_small (b ∷ cs) = (bit_small b, bits_small cs)
 
-choices : (cs : List Bool) (rest : List ℕ) → length cs < 2 ^ 32 → numbers_in (choices_text cs ++ rest) ≡ length cs ∷ (bits cs ++ numbers_in rest)
+choices : (cs : List Bool) (rest : List ℕ) → length cs < 2 ^ 32 → line_numbers (choices_text cs ++ rest) ≡ length cs ∷ (bits cs ++ line_numbers rest)
 choices cs rest few = line (codes "choices") (length cs ∷ bits cs) rest choices_plain (few, bits_small cs)
 
-hits : (hs : List Hit) (rest : List ℕ) → length hs < 2 ^ 32 → AreSmall (hits_numbers hs) → numbers_in (hits_text hs ++ rest) ≡ length hs ∷ (hits_numbers hs ++ numbers_in rest)
+hits : (hs : List Hit) (rest : List ℕ) → length hs < 2 ^ 32 → AreSmall (hits_numbers hs) → line_numbers (hits_text hs ++ rest) ≡ length hs ∷ (hits_numbers hs ++ line_numbers rest)
 hits hs rest few small = line (codes "hits") (length hs ∷ hits_numbers hs) rest hits_plain (few, small)
 
 -- what the numbers of a counter-run's text are
@@ -186,13 +186,13 @@ pub record AreAllSmall (c : CounterRun) : Type 0 where
   pub hits : length c.hits < 2 ^ 32
   pub places : AreSmall (hits_numbers c.hits)
 
-nothing : numbers_in [] ≡ []
+nothing : line_numbers [] ≡ []
 unfolding numbers_after
 nothing = refl
 
-pub whole : (c : CounterRun) → AreAllSmall c → numbers_in (counter_text c) ≡ numbers_of c
+pub whole : (c : CounterRun) → AreAllSmall c → line_numbers (counter_text c) ≡ numbers_of c
 whole c is =
-    ap numbers_in (four (head_text c) (tuning_text c) (memory_text c.former) (choices_text c.choices) (hits_text c.hits))
+    ap line_numbers (four (head_lines c) (tuning_text c) (memory_text c.former) (choices_text c.choices) (hits_text c.hits))
     ∙ head c _ is.lines is.repeat is.deadline
     ∙ ap (λ xs. 1 ∷ c.lines ∷ c.repeat ∷ c.deadline ∷ xs) (tuning c _ is.page is.start is.slots)
     ∙ ap (λ xs. 1 ∷ c.lines ∷ c.repeat ∷ c.deadline ∷ c.page ∷ bit c.any_sub ∷ c.start ∷ c.slots ∷ xs) (memory ∙ ap before behind)
@@ -203,15 +203,15 @@ whole c is =
     before : List ℕ → List ℕ
     before xs = c.former.control ∷ bit c.former.storing ∷ c.former.age ∷ bit c.former.fresh ∷ 24 ∷ bit c.former.links.show24 ∷ (links_numbers c.former.links.six ++ (joined c.former.rows ++ xs))
 
-    memory : numbers_in (memory_text c.former ++ tail) ≡ before (numbers_in tail)
+    memory : line_numbers (memory_text c.former ++ tail) ≡ before (line_numbers tail)
     memory =
-        ap numbers_in (append_assoc (state_text c.former ++ links_text c.former) (rows_text c.former.rows) tail ∙ append_assoc (state_text c.former) (links_text c.former) (rows_text c.former.rows ++ tail))
+        ap line_numbers (append_assoc (state_text c.former ++ links_lines c.former) (row_lines c.former.rows) tail ∙ append_assoc (state_text c.former) (links_lines c.former) (row_lines c.former.rows ++ tail))
         ∙ state c.former _ is.control is.age
         ∙ ap (λ xs. c.former.control ∷ bit c.former.storing ∷ c.former.age ∷ bit c.former.fresh ∷ xs)
         (links c.former _ is.links ∙ ap (λ xs. 24 ∷ bit c.former.links.show24 ∷ (links_numbers c.former.links.six ++ xs)) (rows c.former.rows tail is.rows))
 
-    hits_only : numbers_in (hits_text c.hits) ≡ length c.hits ∷ (hits_numbers c.hits ++ [])
-    hits_only = sym (ap numbers_in (append-nil (hits_text c.hits))) ∙ hits c.hits [] is.hits is.places ∙ ap (λ xs. length c.hits ∷ (hits_numbers c.hits ++ xs)) nothing
+    hits_only : line_numbers (hits_text c.hits) ≡ length c.hits ∷ (hits_numbers c.hits ++ [])
+    hits_only = sym (ap line_numbers (append-nil (hits_text c.hits))) ∙ hits c.hits [] is.hits is.places ∙ ap (λ xs. length c.hits ∷ (hits_numbers c.hits ++ xs)) nothing
 
-    behind : numbers_in tail ≡ length c.choices ∷ (bits c.choices ++ (length c.hits ∷ (hits_numbers c.hits ++ [])))
+    behind : line_numbers tail ≡ length c.choices ∷ (bits c.choices ++ (length c.hits ∷ (hits_numbers c.hits ++ [])))
     behind = choices c.choices (hits_text c.hits) is.choices ∙ ap (λ xs. length c.choices ∷ (bits c.choices ++ xs)) hits_only

@@ -7,7 +7,7 @@ use Rattle.ttx_links.specs.Sets.{LinkSet}
 use Rattle.ttx_counter.specs.Counters.{Hit}
 use Rattle.ttx_counter.proofs.Between.{if_ind}
 use Rattle.ttx_counter.proofs.ReadNumbers.{if_true}
-use Rattle.ttx_counter.specs.CounterReading.{at_most, closed, characters_in, rows_in, hit_of, hits_in, line_of}
+use Rattle.ttx_counter.specs.CounterReading.{at_most, closed, characters_in, read_rows, hit_of, hits_in, line_of}
 
 -- a number that has ended stands before the others
 pub closed_more : (begun : Option ℕ) (xs : List ℕ) → closed begun xs ≡ closed begun [] ++ xs
@@ -41,22 +41,22 @@ drop_more zero b xs = let e : 0 + b ≡ b = omega arith in ap (λ n. drop n xs) 
 drop_more (suc a) b [] = drop_none (suc a + b) ∙ sym (drop_none b)
 drop_more (suc a) b (x ∷ xs) = let e : suc a + b ≡ suc (a + b) = omega arith in ap (λ n. drop n (x ∷ xs)) e ∙ drop_more a b xs
 
-pub rows_length : (n : ℕ) (ns : List ℕ) → length (rows_in n ns) ≡ n
-unfolding rows_in
+pub rows_length : (n : ℕ) (ns : List ℕ) → length (read_rows n ns) ≡ n
+unfolding read_rows
 rows_length zero ns = refl
 rows_length (suc n) ns = ap suc (rows_length n (drop 40 ns))
 
-pub row_at : (n : ℕ) (ns : List ℕ) (k : ℕ) → k < n → get_or (rows_in n ns) k [] ≡ characters_in 40 (drop (40 * k) ns)
-unfolding rows_in
+pub row_at : (n : ℕ) (ns : List ℕ) (k : ℕ) → k < n → get_or (read_rows n ns) k [] ≡ characters_in 40 (drop (40 * k) ns)
+unfolding read_rows
 row_at zero ns k lt = absurd (omega arith)
 row_at (suc n) ns zero lt = refl
 row_at (suc n) ns (suc k) lt =
     let e : 40 + 40 * k ≡ 40 * suc k = omega arith in
     row_at n (drop 40 ns) k (omega arith) ∙ ap (characters_in 40) (sym (drop_more 40 (40 * k) ns) ∙ ap (λ n. drop n ns) e)
 
-pub rows_are : (n : ℕ) (ns : List ℕ) (rows : List (List ℕ)) → length rows ≡ n → ((k : ℕ) → k < n → get_or rows k [] ≡ characters_in 40 (drop (40 * k) ns)) → rows ≡ rows_in n ns
+pub rows_are : (n : ℕ) (ns : List ℕ) (rows : List (List ℕ)) → length rows ≡ n → ((k : ℕ) → k < n → get_or rows k [] ≡ characters_in 40 (drop (40 * k) ns)) → rows ≡ read_rows n ns
 rows_are n ns rows long each =
-    ext_get_or [] rows (rows_in n ns) (long ∙ sym (rows_length n ns)) (λ k lt. each k (omega arith) ∙ sym (row_at n ns k (omega arith)))
+    ext_get_or [] rows (read_rows n ns) (long ∙ sym (rows_length n ns)) (λ k lt. each k (omega arith) ∙ sym (row_at n ns k (omega arith)))
 
 low : (n : ℕ) (ns : List ℕ) (c : ℕ) → get_or (characters_in n ns) c 0 < 128
 unfolding characters_in
@@ -70,7 +70,7 @@ is_row : (ns : List ℕ) → IsRow (characters_in 40 ns)
 is_row ns = record { length = characters_length 40 ns; codes = low 40 ns }
 
 -- parts that make a memory
-pub memory_fits : (rows : List (List ℕ)) (ns : List ℕ) (control age n : ℕ) (links : LinkSet) (storing fresh : Bool) → rows ≡ rows_in 25 ns → control ≡ at_most 2047 n → age ≤ 64 →
+pub memory_fits : (rows : List (List ℕ)) (ns : List ℕ) (control age n : ℕ) (links : LinkSet) (storing fresh : Bool) → rows ≡ read_rows 25 ns → control ≡ at_most 2047 n → age ≤ 64 →
     IsMemory (memory_at rows control links storing age fresh)
 memory_fits rows ns control age n links storing fresh made low young = record {
   row_count = ap length made ∙ rows_length 25 ns;

@@ -9,7 +9,7 @@ use Rattle.ttx_receiver.specs.Tuning.{Script, script_step, script_at, tuned_at}
 use Rattle.ttx_page.specs.Pages.{Page}
 use Rattle.ttx_certify.specs.Seen.{HasView}
 use Rattle.ttx_counter.specs.Counters.{CounterRun, selection_for}
-use Rattle.ttx_counter.specs.Checking.{IsJudged}
+use Rattle.ttx_counter.specs.Checking.{IsJudgedRun}
 use Rattle.ttx_counter.specs.Keys.{AreSlotKeys, AreFlipped}
 use Rattle.ttx_counter.specs.Rule.{IsCursor}
 use Rattle.ttx_counter.specs.Hearing.{IsHitBy, script_after, IsHeard}
@@ -63,7 +63,7 @@ heard_more s start n keys old now new slot hit step h = record {
 }
 
 pub judged : (s : Stream) (keys : List ℕ) (p : Page) (c : CounterRun) (wrong : Bool) (old new : Script) → IsHeard s c.start c.slots keys old new →
-    old ≡ script_at (tuned_at (selection_for c.any_sub p.id) c.lines c.former) c.choices → (wrong ≡ true) ↔ (HasView p new.tuned.memory → ⊥) → IsJudged s keys p c wrong
+    old ≡ script_at (tuned_at (selection_for c.any_sub p.id) c.lines c.former) c.choices → (wrong ≡ true) ↔ (HasView p new.tuned.memory → ⊥) → IsJudgedRun s keys p c wrong
 judged s keys p c wrong old new h is told = record {
   received = h.received;
   count = h.count;

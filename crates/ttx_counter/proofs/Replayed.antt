@@ -11,7 +11,7 @@ use Rattle.ttx_page.specs.declared.class.Class.TheVariants.{Any}
 use Rattle.ttx_receiver.specs.Tuning.{Script, script_at, tuned_at}
 use Rattle.ttx_counter.specs.Counters.{CounterRun, IsCounterRun, selection_for}
 use Rattle.ttx_counter.specs.Hearing.{IsHitBy, IsHeard}
-use Rattle.ttx_counter.specs.Keys.{key_of, key_at, IsKey, AreApart}
+use Rattle.ttx_counter.specs.Keys.{hit_key, key_at, IsKey, AreHitOnce}
 use Rattle.ttx_counter.specs.Replaying.{IsLeft, IsReplayed}
 use Rattle.ttx_counter.proofs.Bridging.{keys_are, apart_to, hits_to}
 use Rattle.ttx_counter.proofs.Deciding.{slots_are, same_page}
@@ -27,8 +27,8 @@ left s keys p c m old new h is e = record {
   memory = e ∙ ap (λ r. r.tuned.memory) h.reached ∙ script_memory old h.received ∙ ap (λ (o : Script). scripted Any o.tuned.lines o.tuned.selection o.choices o.tuned.memory h.received) is;
 }
 
-module _ (cycle : List (List ℕ)) (pages : List Page) (c : CounterRun) (keys : List ℕ) (is : IsCounterRun cycle pages c) (same : IsPermutation (map key_of c.hits) keys) where
-  pub apart : AreApart keys
+module _ (cycle : List (List ℕ)) (pages : List Page) (c : CounterRun) (keys : List ℕ) (is : IsCounterRun cycle pages c) (same : IsPermutation (map hit_key c.hits) keys) where
+  pub apart : AreHitOnce keys
   apart = apart_to (repeated cycle) c.start c.slots c.hits keys is.hits.each same is.hits.once
 
   pub each : (i : ℕ) → i < length keys → IsKey (key_at keys i)

@@ -13,7 +13,7 @@ use Rattle.ttx_page.specs.Receptions.{IsTextByte, OneIs}
 use Rattle.ttx_counter.specs.Keys.{is_hit, AreSlotKeys}
 use Rattle.ttx_counter.specs.Streaks.{IsSentAmong, IsInside, IsRightAmong, StreaksDecide}
 use Rattle.ttx_counter.specs.Listening.{row_sent, row_from, mine_from, item_of}
-use Rattle.ttx_counter.specs.Cells.{is_text, is_row, Tells, AreStreaks, IsBroken}
+use Rattle.ttx_counter.specs.Cells.{is_text, is_row, TellsSlot, AreStreaks, IsBroken}
 use Rattle.ttx_counter.specs.Rule.{IsCursor, sent_from, KeepsRule}
 use Rattle.ttx_counter.specs.declared.streaks.Streak.{Streak}
 use Rattle.ttx_counter.proofs.Streaking.{no_both}
@@ -22,7 +22,7 @@ use Rattle.ttx_counter.proofs.Cursors.{hit_here, not_hit}
 
 -- what one slot tells
 pub tells : (keys : List ℕ) → IsNonDecreasing keys → (n from to : ℕ) → IsCursor keys n from → AreSlotKeys keys n from to →
-    (page : Id) (s : Stream) (tau : ℤ) (mine : Bool) (row : Option ℕ) → row ≡ row_from page s tau mine n → Tells (sent_from page s tau mine) (is_hit keys) row keys from to n
+    (page : Id) (s : Stream) (tau : ℤ) (mine : Bool) (row : Option ℕ) → row ≡ row_from page s tau mine n → TellsSlot (sent_from page s tau mine) (is_hit keys) row keys from to n
 tells keys sorted n from to c a page s tau mine row e = record {
   sent_is = λ r lt. ap (is_row r) (sym e);
   hit = λ i low high. hit_here keys sorted n from to c a i low high;

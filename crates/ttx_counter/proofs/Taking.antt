@@ -11,7 +11,7 @@ use Rattle.ttx_page.specs.Streams.{heads_matched}
 use Rattle.ttx_page.specs.Receivers.{after, older, with_storing, misses}
 use Rattle.ttx_render.specs.Laws.{ContentsDecide}
 use Rattle.ttx_render.specs.View.{view_of}
-use Rattle.ttx_counter.specs.Sources.{is_of, takes}
+use Rattle.ttx_counter.specs.Sources.{is_under, takes_from}
 use Rattle.ttx_counter.proofs.Streaking.{no_both}
 
 -- what is shown of two memories is alike
@@ -36,7 +36,7 @@ left : (b c : Bool) (x m : Memory) → b ≡ false → IsAlike m (if b && c then
 left true c x m h = absurd (no_both _ refl h)
 left false c x m h = same m
 
-by_kind : (lines : ℕ) (sel : Selection) (m : Memory) (packet : Packet) → heads_matched sel packet ≡ false → (is_of (selected_mag sel) packet && m.storing) ≡ false → IsAlike m (after Any lines sel false (older m) packet)
+by_kind : (lines : ℕ) (sel : Selection) (m : Memory) (packet : Packet) → heads_matched sel packet ≡ false → (is_under (selected_mag sel) packet && m.storing) ≡ false → IsAlike m (after Any lines sel false (older m) packet)
 by_kind lines sel m (Header id control text) h k = rw h (other (id.mag == selected_mag sel) (c11 control))
   where
     other : (a b : Bool) → IsAlike m (if a then with_storing (older m) false else (if b && false then with_storing (older m) false else older m))
@@ -50,11 +50,11 @@ by_kind lines sel m Unreadable h k = same m
 by_kind lines sel m Info h k = same m
 by_kind lines sel m Other h k = same m
 
-pub untaken : (lines : ℕ) (sel : Selection) (m : Memory) (packet : Packet) → takes sel m packet ≡ false → IsAlike m (after Any lines sel false (older m) packet)
+pub untaken : (lines : ℕ) (sel : Selection) (m : Memory) (packet : Packet) → takes_from sel m packet ≡ false → IsAlike m (after Any lines sel false (older m) packet)
 untaken lines sel m packet h = by_kind lines sel m packet (or_left (heads_matched sel packet) _ h) (or_right (heads_matched sel packet) _ h)
 
 -- so its View is the same
-pub unseen : ContentsDecide → (lines : ℕ) (sel : Selection) (m new : Memory) (packet : Packet) → takes sel m packet ≡ false → new ≡ after Any lines sel false (older m) packet → view_of new ≡ view_of m
+pub unseen : ContentsDecide → (lines : ℕ) (sel : Selection) (m new : Memory) (packet : Packet) → takes_from sel m packet ≡ false → new ≡ after Any lines sel false (older m) packet → view_of new ≡ view_of m
 unseen law lines sel m new packet h e = let a = untaken lines sel m packet h in ap view_of e ∙ law _ m a.rows a.control a.links
 
 -- the packet of a slot by its kind

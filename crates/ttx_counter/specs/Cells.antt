@@ -1,11 +1,11 @@
 -- What is kept of the streaks of all text bytes of a page while slots pass: for each row the number of slots up to its latest
 -- transmission, and for each byte of it the same for its latest wrong one, with the length of that streak.
 --
---   is_text, IsTextByteOf   the bytes of rows that are text, row 0 being that of headers
+--   is_text, IsTextByteOf    the bytes of rows that are text, row 0 being that of headers
 --   cell_at, streak_of      what is kept of a byte
 --   running                 the streak of a byte, whose row was last sent so many slots ago
---   AreCounted, IsOver      the wrong bytes of one transmission are counted; one of them makes a streak of k
---   is_row, Tells           what is sent and wrong in one slot
+--   AreCounted, IsStreakReached    the wrong bytes of one transmission are counted; one of them makes a streak of k
+--   is_row, TellsSlot       what is sent and wrong in one slot
 --   AreStreaks, IsBroken    what is kept of n slots; a streak of k
 use Rattle.std.specs.Prelude.{◌≡◌, ℕ, suc, ◌+◌, ◌*◌, ◌<◌, ◌≤◌, Bool, true, false, ◌&&◌, ◌==◌, if◌then◌else◌, nat_le, nat_lt, List, slice_index, slice_index_or, Option, Some, None}
 use Rattle.ttx_counter.specs.Keys.{key_at, byte_in}
@@ -33,7 +33,7 @@ pub record AreCounted (row latest now k : ℕ) (keys : List ℕ) (from to : ℕ)
   pub other : (q : ℕ) → ((i : ℕ) → from ≤ i → i < to → is_text row (byte_in (key_at keys i)) ≡ true → 42 * row + byte_in (key_at keys i) ≡ q → ⊥) →
       slice_index_or new q (streak_of 0 0) ≡ slice_index_or old q (streak_of 0 0)
 
-pub record IsOver (row latest k : ℕ) (keys : List ℕ) (from to : ℕ) (old : List Streak) : Type 0 where
+pub record IsStreakReached (row latest k : ℕ) (keys : List ℕ) (from to : ℕ) (old : List Streak) : Type 0 where
   pub key : ℕ
   pub after : from ≤ key
   pub before : key < to
@@ -45,7 +45,7 @@ is_row r None = false
 is_row r (Some row) = row == r
 
 -- slot n sends this row, if any, and the bytes of these keys are wrong in it
-pub record Tells (sent wrong : ℕ → ℕ → Bool) (row : Option ℕ) (keys : List ℕ) (from to n : ℕ) : Type 0 where
+pub record TellsSlot (sent wrong : ℕ → ℕ → Bool) (row : Option ℕ) (keys : List ℕ) (from to n : ℕ) : Type 0 where
   pub sent_is : (r : ℕ) → r < 25 → sent r n ≡ is_row r row
   pub hit : (i : ℕ) → from ≤ i → i < to → wrong (byte_in (key_at keys i)) n ≡ true
   pub other : (x : ℕ) → x < 42 → ((i : ℕ) → from ≤ i → i < to → byte_in (key_at keys i) ≡ x → ⊥) → wrong x n ≡ false
@@ -67,6 +67,6 @@ pub record IsBroken (sent wrong : ℕ → ℕ → Bool) (k n : ℕ) : Type 0 whe
   pub long : k ≤ streak_to (sent row) (wrong byte) n
 
 -- after one more slot the streaks are kept, or one has reached k
-abbrev pub Noted : Bool → (ℕ → ℕ → Bool) → (ℕ → ℕ → Bool) → ℕ → ℕ → List ℕ → List Streak → Type 0
-Noted true sent wrong k n latest cells = AreStreaks sent wrong k n latest cells
-Noted false sent wrong k n latest cells = IsBroken sent wrong k n
+abbrev pub StreaksAfter : Bool → (ℕ → ℕ → Bool) → (ℕ → ℕ → Bool) → ℕ → ℕ → List ℕ → List Streak → Type 0
+StreaksAfter true sent wrong k n latest cells = AreStreaks sent wrong k n latest cells
+StreaksAfter false sent wrong k n latest cells = IsBroken sent wrong k n

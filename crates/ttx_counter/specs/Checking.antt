@@ -1,7 +1,7 @@
 -- What is checked of a counter-run, part by part.
 --
 --   IsInRange               the numbers, the selection and the hits, but for bytes that are hit twice
---   IsJudged                the receiver's View is wrong, or it isn't
+--   IsJudgedRun             the receiver's View is wrong, or it isn't
 --   IsJudgedWithin          the hits keep the rule and it is wrong, or not
 --   IsRefuting              what is received is within the rules, and the View is wrong
 use Rattle.std.specs.Prelude.{◌≡◌, ◌↔◌, ℕ, ◌*◌, ◌<◌, ◌≤◌, pos, ◌+ℤ◌, Bool, true, List, [], length, slice_index_or, All}
@@ -12,17 +12,17 @@ use Rattle.ttx_page.specs.Streams.{Stream, repeated}
 use Rattle.std.specs.List.{AllPairs}
 use Rattle.ttx_page.specs.Receptions.{Received}
 use Rattle.ttx_certify.specs.Seen.{HasView}
-use Rattle.ttx_counter.specs.Counters.{CounterRun, AreNumbers, IsHit, IsHitList, selection_for}
+use Rattle.ttx_counter.specs.Counters.{CounterRun, AreCertificateNumbers, IsHit, IsHitList, selection_for}
 use Rattle.ttx_counter.specs.Hearing.{IsHitBy}
 use Rattle.ttx_counter.specs.Rule.{KeepsRule}
 
 pub record IsInRange (cycle : List (List ℕ)) (pages : List Page) (p : Page) (c : CounterRun) : Type 0 where
   pub fits : Fits pages p (selection_for c.any_sub p.id)
-  pub numbers : AreNumbers c.lines c.repeat c.deadline
+  pub numbers : AreCertificateNumbers c.lines c.repeat c.deadline
   pub lasts : c.deadline * c.lines ≤ c.slots
   pub each : All (IsHit (repeated cycle) c.start c.slots) c.hits
 
-pub record IsJudged (s : Stream) (keys : List ℕ) (p : Page) (c : CounterRun) (wrong : Bool) : Type 0 where
+pub record IsJudgedRun (s : Stream) (keys : List ℕ) (p : Page) (c : CounterRun) (wrong : Bool) : Type 0 where
   pub received : List (List ℕ)
   pub count : length received ≡ c.slots
   pub each : (i : ℕ) → i < c.slots → IsHitBy keys i (s (pos c.start +ℤ pos i)) (slice_index_or received i [])
@@ -30,7 +30,7 @@ pub record IsJudged (s : Stream) (keys : List ℕ) (p : Page) (c : CounterRun) (
 
 -- true: the hits keep the rule, and the View is wrong; false: they don't, or it isn't
 pub record IsJudgedWithin (s : Stream) (keys : List ℕ) (p : Page) (c : CounterRun) (wrong : Bool) : Type 0 where
-  pub judged : KeepsRule s p.id c.start c.slots c.repeat keys → IsJudged s keys p c wrong
+  pub judged : KeepsRule s p.id c.start c.slots c.repeat keys → IsJudgedRun s keys p c wrong
   pub keeps : wrong ≡ true → KeepsRule s p.id c.start c.slots c.repeat keys
 
 -- the hits keep every rule, and the receiver's View is wrong after them

@@ -1,13 +1,13 @@
 -- Reading the text of a counter-run (profile). The numbers in a text say a counter-run; a text is read where it is that one's text.
 -- Else its first line is told that is another than in that text, lines counted from 1.
 --
---   is_digit, digit_after, closed, numbers_after, numbers_in        the numbers in a text: runs of digits, each of 2^32 and more as 2^32 - 1
+--   is_digit, digit_after, closed, numbers_after, line_numbers      the numbers in a text: runs of digits, each of 2^32 and more as 2^32 - 1
 --   at_most, is_one         a number cut to the largest of its place; what isn't 0 is yes
---   characters_in, rows_in, is_target, link_of, links_in, hits_in       parts of a counter-run from the numbers from a place on; 0 for what is missing
---   memory_in, counter_in   the memory, and the counter-run, that the numbers of a text say
+--   characters_in, read_rows, is_target, read_link, read_links, hits_in    parts of a counter-run from the numbers from a place on; 0 for what is missing
+--   memory_in, counter_in    the memory, and the counter-run, that the numbers of a text say
 --   line_of                 the line in which two texts first differ
 --   CounterFields           the ranges of the fields of a `Counter`
---   read_text               the counter-run that a text is, or the fault of the text
+--   read_counter_text       the counter-run that a text is, or the fault of the text
 use Rattle.std.specs.Prelude.{◌≡◌, ℕ, zero, suc, ◌+◌, ◌-◌, ◌*◌, ◌/◌, ◌%◌, ◌^◌, ◌<◌, min, Bool, not, ◌&&◌, ◌==◌, nat_le, nat_lt, List, [], ◌∷◌, All, map, take, drop, length, slice_index, Option, Some, None, Result, Ok, Err, if◌then◌else◌}
 use Rattle.std.specs.Str.{bytes_eq}
 use Rattle.ttx_header.specs.Ids.{Id, id_at}
@@ -38,8 +38,8 @@ unfoldable pub numbers_after : Option ℕ → List ℕ → List ℕ
 numbers_after begun [] = closed begun []
 numbers_after begun (b ∷ bytes) = if is_digit b then numbers_after (Some (digit_after begun b)) bytes else closed begun (numbers_after None bytes)
 
-abbrev pub numbers_in : List ℕ → List ℕ
-numbers_in bytes = numbers_after None bytes
+abbrev pub line_numbers : List ℕ → List ℕ
+line_numbers bytes = numbers_after None bytes
 
 abbrev pub is_one : ℕ → Bool
 is_one n = not (n == 0)
@@ -51,21 +51,21 @@ characters_in (suc n) [] = 0 ∷ characters_in n []
 characters_in (suc n) (x ∷ ns) = at_most 127 x ∷ characters_in n ns
 
 -- n rows of 40 characters
-unfoldable pub rows_in : ℕ → List ℕ → List (List ℕ)
-rows_in zero ns = []
-rows_in (suc n) ns = characters_in 40 ns ∷ rows_in n (drop 40 ns)
+unfoldable pub read_rows : ℕ → List ℕ → List (List ℕ)
+read_rows zero ns = []
+read_rows (suc n) ns = characters_in 40 ns ∷ read_rows n (drop 40 ns)
 
 -- a magazine from 1 to 8, a page below 256 and a subcode inside 3F7F, but for page FF with subcode 3F7F
 abbrev pub is_target : ℕ → ℕ → ℕ → Bool
 is_target mag page sub = nat_le 1 mag && nat_le mag 8 && nat_lt page 256 && nat_lt sub 16384 && (sub / 128 % 2 == 0) && not ((page == 255) && (sub == 16255))
 
-abbrev pub link_of : ℕ → ℕ → ℕ → Option Id
-link_of mag page sub = if is_target mag page sub then Some (id_at mag page sub) else None
+abbrev pub read_link : ℕ → ℕ → ℕ → Option Id
+read_link mag page sub = if is_target mag page sub then Some (id_at mag page sub) else None
 
 -- n links of three numbers each
-unfoldable pub links_in : ℕ → List ℕ → List (Option Id)
-links_in zero ns = []
-links_in (suc n) ns = link_of (slice_index ns 0) (slice_index ns 1) (slice_index ns 2) ∷ links_in n (drop 3 ns)
+unfoldable pub read_links : ℕ → List ℕ → List (Option Id)
+read_links zero ns = []
+read_links (suc n) ns = read_link (slice_index ns 0) (slice_index ns 1) (slice_index ns 2) ∷ read_links n (drop 3 ns)
 
 abbrev pub hit_of : ℕ → ℕ → ℕ → Hit
 hit_of index byte bit = record { index = index; byte = at_most 255 byte; bit = at_most 255 bit }
@@ -79,7 +79,7 @@ hits_in (suc n) _ = []
 -- the lines of a memory begin with the eighth number after the title's; the 24 of `row-24` is one of the numbers
 abbrev pub memory_in : List ℕ → Memory
 memory_in ns =
-    memory_at (rows_in 25 (drop 18 (drop 14 ns))) (at_most 2047 (slice_index ns 8)) (record { six = links_in 6 (drop 14 ns); show24 = is_one (slice_index ns 13) })
+    memory_at (read_rows 25 (drop 18 (drop 14 ns))) (at_most 2047 (slice_index ns 8)) (record { six = read_links 6 (drop 14 ns); show24 = is_one (slice_index ns 13) })
     (is_one (slice_index ns 9)) (at_most 64 (slice_index ns 10)) (is_one (slice_index ns 11))
 
 abbrev pub choices_in : List ℕ → List Bool
@@ -120,8 +120,8 @@ fault_of line = if line == 1 then Title else Line line
 abbrev pub judged : List ℕ → CounterRun → Result CounterRun CounterFault
 judged bytes c = if bytes_eq (counter_text c) bytes then Ok c else Err (fault_of (line_of 1 bytes (counter_text c)))
 
-abbrev pub read_text : List ℕ → Result CounterRun CounterFault
-read_text bytes = judged bytes (counter_in (numbers_in bytes))
+abbrev pub read_counter_text : List ℕ → Result CounterRun CounterFault
+read_counter_text bytes = judged bytes (counter_in (line_numbers bytes))
 
 abbrev pub IsHitFields : Hit → Type 0
 IsHitFields h = (h.index < 2 ^ 32) × (h.byte < 256) × (h.bit < 256)
@@ -142,9 +142,9 @@ pub record IsCounterFields (c : CounterRun) : Type 0 where
   pub each : All IsHitFields c.hits
 
 -- a text that is read is the one text of its counter-run
-abbrev pub AcceptedTextsAreWritten : Type 0
-AcceptedTextsAreWritten = (bytes : List ℕ) (c : CounterRun) → read_text bytes ≡ Ok c → bytes ≡ counter_text c
+abbrev pub AcceptedCounterTextsAreWritten : Type 0
+AcceptedCounterTextsAreWritten = (bytes : List ℕ) (c : CounterRun) → read_counter_text bytes ≡ Ok c → bytes ≡ counter_text c
 
 -- the text of a counter-run is read as the counter-run
-abbrev pub WrittenTextsAreRead : Type 0
-WrittenTextsAreRead = (c : CounterRun) → IsCounterFields c → read_text (counter_text c) ≡ Ok c
+abbrev pub WrittenCounterTextsAreRead : Type 0
+WrittenCounterTextsAreRead = (c : CounterRun) → IsCounterFields c → read_counter_text (counter_text c) ≡ Ok c

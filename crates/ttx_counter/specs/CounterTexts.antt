@@ -3,8 +3,8 @@
 --
 --   numbers_text, line_text         numbers, each after a space; a line
 --   bit, bits, link_numbers, links_numbers, hits_numbers    what is no number, as numbers
---   rows_text, state_text, links_text, memory_text          the lines of rows, and of a memory
---   choices_text, hits_text, title, head_text, tuning_text, counter_text     the lines after the memory and before it; the whole text
+--   row_lines, state_text, links_lines, memory_text         the lines of rows, and of a memory
+--   choices_text, hits_text, title, head_lines, tuning_text, counter_text    the lines after the memory and before it; the whole text
 use Rattle.std.specs.Prelude.{ℕ, Bool, List, [], ◌∷◌, ◌++◌, codes, length, Option, Some, None, if◌then◌else◌}
 use Rattle.std.specs.Fmt.{decimal}
 use Rattle.ttx_header.specs.Ids.{Id}
@@ -43,9 +43,9 @@ hits_numbers [] = []
 hits_numbers (h ∷ hits) = h.index ∷ h.byte ∷ h.bit ∷ hits_numbers hits
 
 -- rows 0 to 24, each with the codes of its 40 characters
-abbrev pub rows_text : List (List ℕ) → List ℕ
-rows_text [] = []
-rows_text (row ∷ rows) = line_text (codes "row") row ++ rows_text rows
+abbrev pub row_lines : List (List ℕ) → List ℕ
+row_lines [] = []
+row_lines (row ∷ rows) = line_text (codes "row") row ++ row_lines rows
 
 -- control bits as one number, C4 its lowest bit
 unfoldable pub state_text : Memory → List ℕ
@@ -54,11 +54,11 @@ state_text m =
     ++ line_text (codes "fresh") (bit m.fresh ∷ [])
 
 -- whether row 24 is shown, and the six links
-unfoldable pub links_text : Memory → List ℕ
-links_text m = line_text (codes "row-24") (bit m.links.show24 ∷ []) ++ line_text (codes "links") (links_numbers m.links.six)
+unfoldable pub links_lines : Memory → List ℕ
+links_lines m = line_text (codes "row-24") (bit m.links.show24 ∷ []) ++ line_text (codes "links") (links_numbers m.links.six)
 
 abbrev pub memory_text : Memory → List ℕ
-memory_text m = state_text m ++ links_text m ++ rows_text m.rows
+memory_text m = state_text m ++ links_lines m ++ row_lines m.rows
 
 -- how many there are, and a bit for each
 abbrev pub choices_text : List Bool → List ℕ
@@ -72,8 +72,8 @@ abbrev pub title : List ℕ
 title = codes "ttx counter 1" ++ 10 ∷ []
 
 -- the title, and the numbers of the certificates that it refutes
-unfoldable pub head_text : CounterRun → List ℕ
-head_text c =
+unfoldable pub head_lines : CounterRun → List ℕ
+head_lines c =
     title ++ line_text (codes "lines") (c.lines ∷ []) ++ line_text (codes "repeat") (c.repeat ∷ [])
     ++ line_text (codes "deadline") (c.deadline ∷ [])
 
@@ -84,4 +84,4 @@ tuning_text c =
     ++ line_text (codes "slots") (c.slots ∷ [])
 
 abbrev pub counter_text : CounterRun → List ℕ
-counter_text c = head_text c ++ tuning_text c ++ memory_text c.former ++ choices_text c.choices ++ hits_text c.hits
+counter_text c = head_lines c ++ tuning_text c ++ memory_text c.former ++ choices_text c.choices ++ hits_text c.hits

@@ -83,7 +83,7 @@ pub record AreHits (s : Stream) (start slots : ℕ) (hits : List Hit) : Type 0 w
   pub once : AllPairs (λ a b. a.index ≡ b.index → a.byte ≡ b.byte → ⊥) hits
 
 -- lines, repeat count and deadline of a certificate
-pub record AreNumbers (lines repeat deadline : ℕ) : Type 0 where
+pub record AreCertificateNumbers (lines repeat deadline : ℕ) : Type 0 where
   pub some_lines : 1 ≤ lines
   pub few_lines : lines ≤ 32
   pub some_repeats : 1 ≤ repeat
@@ -97,7 +97,7 @@ pub record IsCounterRun (cycle : List (List ℕ)) (pages : List Page) (c : Count
   pub page : Page
   pub here : slice_get pages c.page ≡ Some page
   pub fits : Fits pages page (selection_for c.any_sub page.id)
-  pub numbers : AreNumbers c.lines c.repeat c.deadline
+  pub numbers : AreCertificateNumbers c.lines c.repeat c.deadline
   pub lasts : c.deadline * c.lines ≤ c.slots
   pub hits : AreHits (repeated cycle) c.start c.slots c.hits
   pub former : IsMemory c.former

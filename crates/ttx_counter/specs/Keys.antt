@@ -1,9 +1,9 @@
 -- Hits as numbers, in the order of their slots and bytes.
 --
---   key_of                  a hit as one number: the slot, the byte, the bit
---   slot_in, byte_in, bit_in, place_in      the parts of such a number; slot and byte together
+--   hit_key                 a hit as one number: the slot, the byte, the bit
+--   slot_in, byte_in, bit_in, byte_place    the parts of such a number; slot and byte together
 --   key_at                  the number at a place of a list
---   AreApart                no byte is hit twice
+--   AreHitOnce              no byte is hit twice
 --   AreSlotKeys             the numbers of one slot: those from one place to below another
 --   AreOfOtherBytes         no byte is hit twice by those from one place to below another
 --   AreFlipped              a slot with those bits flipped
@@ -12,8 +12,8 @@ use Rattle.std.specs.Prelude.{◌≡◌, ℕ, ◌+◌, ◌*◌, ◌/◌, ◌%◌
 use Rattle.std.specs.List.{list_any}
 use Rattle.ttx_counter.specs.Counters.{Hit, flipped}
 
-abbrev pub key_of : Hit → ℕ
-key_of h = h.index * 65536 + h.byte * 256 + h.bit
+abbrev pub hit_key : Hit → ℕ
+hit_key h = h.index * 65536 + h.byte * 256 + h.bit
 
 abbrev pub slot_in : ℕ → ℕ
 slot_in key = key / 65536
@@ -24,15 +24,15 @@ byte_in key = key / 256 % 256
 abbrev pub bit_in : ℕ → ℕ
 bit_in key = key % 256
 
-abbrev pub place_in : ℕ → ℕ
-place_in key = key / 256
+abbrev pub byte_place : ℕ → ℕ
+byte_place key = key / 256
 
 abbrev pub key_at : List ℕ → ℕ → ℕ
 key_at keys i = slice_index keys i
 
 -- of any two the places differ
-abbrev pub AreApart : List ℕ → Type 0
-AreApart keys = (i j : ℕ) → i < j → j < length keys → place_in (key_at keys i) ≡ place_in (key_at keys j) → ⊥
+abbrev pub AreHitOnce : List ℕ → Type 0
+AreHitOnce keys = (i j : ℕ) → i < j → j < length keys → byte_place (key_at keys i) ≡ byte_place (key_at keys j) → ⊥
 
 -- bits of bytes of a slot
 pub record IsKey (key : ℕ) : Type 0 where
@@ -59,4 +59,4 @@ pub record AreFlipped (keys : List ℕ) (from to : ℕ) (sent received : List �
 
 -- whether byte x of slot n is hit
 unfoldable pub is_hit : List ℕ → ℕ → ℕ → Bool
-is_hit keys x n = list_any (λ key. place_in key == n * 256 + x) keys
+is_hit keys x n = list_any (λ key. byte_place key == n * 256 + x) keys

@@ -7,7 +7,7 @@
 --   ArePrepared             what is kept of a cycle and its pages
 --   is_absent               the fault of a page without a header
 --   TellsCovered            a page each of whose items is covered by all its sure runs; or a counter-run
---   IsSentWell, TellsPage   a page that is sent, and where it is steady covered by some certificate of these numbers; or a counter-run
+--   IsSentWell, TellsPage    a page that is sent, and where it is steady covered by some certificate of these numbers; or a counter-run
 --   TellsPlainly            a counter-run, or a page of which no plain run ends wrong
 --   TellsPages, TellsAllPlainly     the same of all pages
 --   IsUnrefuted, TellsCounter       the same of all pages; or a counter-run

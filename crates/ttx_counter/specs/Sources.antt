@@ -6,7 +6,7 @@
 --   AbsentPagesAreWrong     where the page has no header, a receiver that isn't storing keeps wrong links
 --   SteadyPagesStay         of a page that is sent unchanged none ends wrong
 --   IsPlainlyRight          no plain run ends wrong
---   is_of, takes            whether a receiver takes something from a packet that it may show
+--   is_under, takes_from    whether a receiver takes something from a packet that it may show
 --   IsWrongAfter, TellsWrong        the View is wrong after n slots; the first such number
 --   PeriodsRepeat           a period that gives the memory back gives it back ever after
 use Rattle.std.specs.Prelude.{◌≡◌, ◌≢◌, ℕ, zero, suc, ◌+◌, ◌*◌, ◌≤◌, ◌<◌, ℤ, pos, ◌+ℤ◌, Bool, false, ◌&&◌, ◌||◌, ◌==◌, List, [], length, slice_get, Option, Some, None}
@@ -21,7 +21,7 @@ use Rattle.ttx_page.specs.Receivers.{after, older}
 use Rattle.ttx_page.specs.Streams.{Stream, repeated, heads_page, heads_matched}
 use Rattle.ttx_page.specs.Steady.{Steady}
 use Rattle.ttx_certify.specs.Seen.{HasView}
-use Rattle.ttx_counter.specs.Counters.{CounterRun, AreNumbers, IsCounterRun, selection_for}
+use Rattle.ttx_counter.specs.Counters.{CounterRun, AreCertificateNumbers, IsCounterRun, selection_for}
 
 unfoldable pub plain_from : ℕ → Selection → Memory → Stream → ℤ → ℕ → Memory
 plain_from lines sel m s tau zero = m
@@ -34,7 +34,7 @@ plain_counter index any_sub former lines repeat deadline n =
 abbrev pub PlainRunsAreCounterRuns : Type 0
 PlainRunsAreCounterRuns =
     (cycle : List (List ℕ)) (pages : List Page) (p : Page) (index : ℕ) (any_sub : Bool) (former : Memory) (lines repeat deadline n : ℕ) → IsCycle cycle →
-    slice_get pages index ≡ Some p → Fits pages p (selection_for any_sub p.id) → IsMemory former → AreNumbers lines repeat deadline → deadline * lines ≤ n →
+    slice_get pages index ≡ Some p → Fits pages p (selection_for any_sub p.id) → IsMemory former → AreCertificateNumbers lines repeat deadline → deadline * lines ≤ n →
     (HasView p (plain_from lines (selection_for any_sub p.id) former (repeated cycle) (pos 0) n) → ⊥) →
     IsCounterRun cycle pages (plain_counter index any_sub former lines repeat deadline n)
 
@@ -56,14 +56,14 @@ PeriodsRepeat =
     plain_from lines sel m (repeated cycle) (pos 0) (q * length cycle) ≡ m
 
 -- a row or an X/27/0 of the magazine
-abbrev pub is_of : ℕ → Packet → Bool
-is_of mag (Row m number text) = m == mag
-is_of mag (Links m content) = m == mag
-is_of mag _ = false
+abbrev pub is_under : ℕ → Packet → Bool
+is_under mag (Row m number text) = m == mag
+is_under mag (Links m content) = m == mag
+is_under mag _ = false
 
 -- a header that the selection matches; or, of a page that is being stored, a row or an X/27/0 of its magazine
-abbrev pub takes : Selection → Memory → Packet → Bool
-takes sel m packet = heads_matched sel packet || (is_of (selected_mag sel) packet && m.storing)
+abbrev pub takes_from : Selection → Memory → Packet → Bool
+takes_from sel m packet = heads_matched sel packet || (is_under (selected_mag sel) packet && m.storing)
 
 -- the first number of slots from low to high after which the View is wrong, if one is
 abbrev pub IsWrongAfter : List (List ℕ) → Page → ℕ → Selection → Memory → ℕ → Type 0

@@ -10,8 +10,8 @@ ghost use Rattle.ttx_certify.specs.Seen.{HasView};
 ghost use Rattle.ttx_render.specs.Comparison.{SameButClock};
 ghost use Rattle.ttx_render.specs.View.{view_of};
 ghost use Rattle.ttx_cycle.specs.Cycles.{slots_of};
-ghost use Rattle.ttx_counter.specs.Counters.{run_of, selection_for, AreNumbers, IsHit, IsCounterRun};
-ghost use Rattle.ttx_counter.specs.Keys.{key_at, key_of, AreApart, IsKey};
+ghost use Rattle.ttx_counter.specs.Counters.{run_of, selection_for, AreCertificateNumbers, IsHit, IsCounterRun};
+ghost use Rattle.ttx_counter.specs.Keys.{key_at, hit_key, AreHitOnce, IsKey};
 ghost use Rattle.ttx_counter.specs.Checking.{IsInRange, IsJudgedWithin, IsRefuting};
 
 use crate::counter::{Counter, Hit};
@@ -40,7 +40,7 @@ pub fn selection_for(any_sub: bool, id: PageId) -> Selection
 
 // Whether the numbers are those of a certificate.
 fn are_numbers(lines: u8, repeat: u8, deadline: u32) -> bool
-    ensures { IsTrue result ↔ AreNumbers lines repeat deadline }
+    ensures { IsTrue result ↔ AreCertificateNumbers lines repeat deadline }
 {
     1 <= lines
         && lines <= 32
@@ -90,7 +90,8 @@ fn are_hits(cycle: &Cycle, start: u32, count: u32, hits: &[Hit]) -> bool
 // Whether the numbers, the selection and the hits are in their ranges.
 fn is_in_range(cycle: &Cycle, pages: &[Page], index: usize, counter: &Counter) -> bool
     requires { index < length pages.now }
-    ensures { (p : definitions.Page) → slice_get (map page_of pages.now) index ≡ Some p → IsTrue result ↔ IsInRange (slots_of cycle.now) (map page_of pages.now) p (run_of counter.now) }
+    ensures { (p : definitions.Page) → slice_get (map page_of pages.now) index ≡ Some p →
+        IsTrue result ↔ IsInRange (slots_of cycle.now) (map page_of pages.now) p (run_of counter.now) }
 {
     let selection = selection_for(counter.any_sub, pages[index].id());
     selection.fits(pages, index)
@@ -123,7 +124,7 @@ fn ends_wrong(
 ) -> Result<bool, NoMemory>
     requires some { 1 ≤ (run_of counter.now).repeat }
     requires sorted { IsNonDecreasing keys.now }
-    requires apart { AreApart keys.now }
+    requires apart { AreHitOnce keys.now }
     requires keys { (i : ℕ) → i < length keys.now → IsKey (key_at keys.now i) }
     ensures { IfOk result (IsJudgedWithin (repeated (slots_of cycle.now)) keys.now (page_of page.now) (run_of counter.now)) }
 {
@@ -149,7 +150,7 @@ fn check_keys(
 ) -> Result<bool, NoMemory>
     requires all { All (IsHit (repeated (slots_of cycle.now)) (run_of counter.now).start (run_of counter.now).slots) (run_of counter.now).hits }
     requires some { 1 ≤ (run_of counter.now).repeat }
-    requires same { IsPermutation (map key_of (run_of counter.now).hits) keys.now }
+    requires same { IsPermutation (map hit_key (run_of counter.now).hits) keys.now }
     requires sorted { IsNonDecreasing keys.now }
     ensures { IfOk result (λ b. IsTrue b ↔ IsRefuting (slots_of cycle.now) (page_of page.now) (run_of counter.now)) }
 {

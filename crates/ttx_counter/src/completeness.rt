@@ -1,6 +1,8 @@
 //! Laws of completeness, for receivers of class Any. A call costs nothing and gives the caller's proof the law.
 
-ghost use Rattle.ttx_counter.specs.Completeness.{CoveredOrStarved, StartsAreJudged, StarvedIsUnseen, StarvedHasCounter, StarvesInPeriod, StarvingIsCounterRun, CounterIsUnseen, FullestNamesAll, SeenIsCovered, SeenExactlyWhereAccepted, FoundIsLeastSeen};
+ghost use Rattle.ttx_counter.specs.Completeness.{CoveredOrStarved, StartsAreJudged, StarvedIsUnseen, StarvedHasCounter, StarvesInPeriod};
+ghost use Rattle.ttx_counter.specs.Completeness.{StarvingIsCounterRun, CounterIsUnseen, FullestNamesAll, SeenIsCovered, SeenExactlyWhereAccepted};
+ghost use Rattle.ttx_counter.specs.Completeness.{FoundIsLeastSeen};
 
 /// An item is covered by its sure runs, or from some tuning slot on none of them comes in time.
 pub fn covered_or_starved()

@@ -1,18 +1,20 @@
 //! Reading counter-runs.
 
-ghost use Rattle.std.specs.Prelude.{◌≡◌, ◌<◌, ◌≤◌, ◌∷◌, [], ◌++◌, ◌+◌, ◌-◌, ◌^◌, ◌==◌, if◌then◌else◌, true, length, map, take, slice_index, IfOk, OnOk};
+ghost use Rattle.std.specs.Prelude.{◌≡◌, ◌<◌, ◌≤◌, ◌∷◌, [], ◌++◌, ◌+◌, ◌-◌, ◌^◌, ◌==◌, if◌then◌else◌, true, length, map, take, slice_index, IfOk};
+ghost use Rattle.std.specs.Prelude.{OnOk};
 ghost use Rattle.ttx_header.specs.Ids.{id_at};
 ghost use Rattle.ttx_page.specs.Memories.{memory_at};
 ghost use Rattle.ttx_page.specs.Views.{memory_of};
 ghost use Rattle.ttx_counter.specs.Counters.{run_of};
-ghost use Rattle.ttx_counter.specs.CounterReading.{at_most, characters_in, rows_in, is_target, link_of, links_in, is_one, hit_of, hits_in, memory_in, choices_in, hits_after, counter_in, line_of, fault_of, read_text};
+ghost use Rattle.ttx_counter.specs.CounterReading.{at_most, characters_in, read_rows, is_target, read_link, read_links, is_one, hit_of, hits_in};
+ghost use Rattle.ttx_counter.specs.CounterReading.{memory_in, choices_in, hits_after, counter_in, line_of, fault_of, read_counter_text};
 ghost use Rattle.ttx_counter.specs.CounterReading as rule;
 ghost use Rattle.ttx_counter.specs.ReadingAnswers.{outcome, IsUnlessMemory};
 
 use crate::counter::{Counter, Hit};
 use crate::counter_faults::CounterFault;
 use crate::counter_writing::write_counter;
-use crate::numbers::{after_first, first_of, is_one, number_at, numbers_in};
+use crate::numbers::{after_first, first_of, is_one, line_numbers, number_at};
 use std::alloc::Global;
 use ttx_header::Control;
 use ttx_links::Target;
@@ -43,8 +45,8 @@ fn row_in(numbers: &[u32]) -> [u8; 40]
 }
 
 // 25 rows.
-fn rows_in(numbers: &[u32]) -> [[u8; 40]; 25]
-    ensures { result ≡ rows_in 25 numbers.now }
+fn read_rows(numbers: &[u32]) -> [[u8; 40]; 25]
+    ensures { result ≡ read_rows 25 numbers.now }
 {
     let mut rows = [[0; 40]; 25];
     for r in 0..25 {
@@ -65,8 +67,8 @@ fn is_target(mag: u32, page: u32, sub: u32) -> bool
         && !(page == 255 && sub == 16255)
 }
 
-fn link_of(mag: u32, page: u32, sub: u32) -> Option<Target>
-    ensures { result ≡ link_of mag page sub }
+fn read_link(mag: u32, page: u32, sub: u32) -> Option<Target>
+    ensures { result ≡ read_link mag page sub }
 {
     if is_target(mag, page, sub) {
         Target::new(mag as u8, page as u8, sub as u16)
@@ -77,9 +79,9 @@ fn link_of(mag: u32, page: u32, sub: u32) -> Option<Target>
 
 // The link that three numbers say.
 fn first_link(numbers: &[u32]) -> Option<Target>
-    ensures { result ≡ link_of (slice_index numbers.now 0) (slice_index numbers.now 1) (slice_index numbers.now 2) }
+    ensures { result ≡ read_link (slice_index numbers.now 0) (slice_index numbers.now 1) (slice_index numbers.now 2) }
 {
-    link_of(
+    read_link(
         number_at(numbers, 0),
         number_at(numbers, 1),
         number_at(numbers, 2),
@@ -87,9 +89,9 @@ fn first_link(numbers: &[u32]) -> Option<Target>
 }
 
 // Six links.
-#[tactic(auto, unfolding(crate::specs::CounterReading::links_in))]
-fn links_in(numbers: &[u32]) -> [Option<Target>; 6]
-    ensures { result ≡ links_in 6 numbers.now }
+#[tactic(auto, unfolding(crate::specs::CounterReading::read_links))]
+fn read_links(numbers: &[u32]) -> [Option<Target>; 6]
+    ensures { result ≡ read_links 6 numbers.now }
 {
     let second = after_first(numbers, 3);
     let third = after_first(second, 3);
@@ -121,13 +123,21 @@ fn memory_in(numbers: &[u32]) -> PageMemory
     ensures { memory_of result ≡ memory_in numbers.now }
 {
     let links = after_first(numbers, 14);
-    let rows = rows_in(after_first(links, 18));
+    let rows = read_rows(after_first(links, 18));
     let control = control_of(number_at(numbers, 8));
     let storing = is_one(number_at(numbers, 9));
     let age = small(number_at(numbers, 10), 64);
     let fresh = is_one(number_at(numbers, 11));
     let show24 = is_one(number_at(numbers, 13));
-    match PageMemory::new(rows, control, links_in(links), show24, storing, age, fresh) {
+    match PageMemory::new(
+        rows,
+        control,
+        read_links(links),
+        show24,
+        storing,
+        age,
+        fresh,
+    ) {
         Some(memory) => memory,
         None => PageMemory::blank(),
     }
@@ -261,9 +271,9 @@ fn judged(alloc: Global, bytes: &[u8], counter: Counter) -> Result<Counter, Coun
 /// The counter-run that a text is. Else the first line that is another than in the text of the counter-run that its numbers say.
 /// Memory for the numbers, and for that text.
 pub fn read_counter(alloc: Global, bytes: &[u8]) -> Result<Counter, CounterFault>
-    ensures { IsUnlessMemory result (outcome run_of result ≡ read_text bytes.now) }
+    ensures { IsUnlessMemory result (outcome run_of result ≡ read_counter_text bytes.now) }
 {
-    let Ok(numbers) = numbers_in(alloc, bytes) else {
+    let Ok(numbers) = line_numbers(alloc, bytes) else {
         return Err(CounterFault::NoMemory);
     };
     match counter_in(alloc, &numbers) {

@@ -3,7 +3,9 @@
 ghost use Rattle.std.specs.Prelude.{◌≡◌, ◌∷◌, ◌++◌, [], OnOk, IfOk, string_bytes, codes, length};
 ghost use Rattle.ttx_page.specs.Views.{memory_of};
 ghost use Rattle.ttx_counter.specs.Counters.{run_of};
-ghost use Rattle.ttx_counter.specs.CounterTexts.{numbers_text, line_text, bit, bits, link_numbers, links_numbers, hits_numbers, rows_text, state_text, links_text, memory_text, choices_text, hits_text, title, head_text, tuning_text, counter_text};
+ghost use Rattle.ttx_counter.specs.CounterTexts.{numbers_text, line_text, bit, bits, link_numbers, links_numbers, hits_numbers, row_lines};
+ghost use Rattle.ttx_counter.specs.CounterTexts.{state_text, links_lines, memory_text, choices_text, hits_text, title, head_lines, tuning_text};
+ghost use Rattle.ttx_counter.specs.CounterTexts.{counter_text};
 
 use crate::counter::{Counter, Hit};
 use std::alloc::{AllocError, Global};
@@ -82,7 +84,7 @@ fn push_row(text: &mut String, row: &[u8; 40]) -> Result<(), AllocError>
 
 // Adds the lines of rows.
 fn push_rows(text: &mut String, rows: &[[u8; 40]]) -> Result<(), AllocError>
-    ensures { OnOk result (string_bytes text.new ≡ string_bytes text.old ++ rows_text rows.now) }
+    ensures { OnOk result (string_bytes text.new ≡ string_bytes text.old ++ row_lines rows.now) }
 {
     for row in rows {
         push_row(text, row)?;
@@ -102,9 +104,9 @@ fn push_state(text: &mut String, memory: &PageMemory) -> Result<(), AllocError>
 }
 
 // Adds the lines of its links.
-#[tactic(auto, unfolding(crate::specs::CounterTexts::links_text))]
+#[tactic(auto, unfolding(crate::specs::CounterTexts::links_lines))]
 fn push_link_lines(text: &mut String, memory: &PageMemory) -> Result<(), AllocError>
-    ensures { OnOk result (string_bytes text.new ≡ string_bytes text.old ++ links_text (memory_of memory.now)) }
+    ensures { OnOk result (string_bytes text.new ≡ string_bytes text.old ++ links_lines (memory_of memory.now)) }
 {
     push_number(text, "row-24", bit(memory.show24()))?;
     text.push_str("links")?;
@@ -178,9 +180,9 @@ fn push_title(text: &mut String) -> Result<(), AllocError>
 }
 
 // Adds the first line and those of the certificate's numbers.
-#[tactic(auto, unfolding(crate::specs::CounterTexts::head_text))]
+#[tactic(auto, unfolding(crate::specs::CounterTexts::head_lines))]
 fn push_head(text: &mut String, counter: &Counter) -> Result<(), AllocError>
-    ensures { OnOk result (string_bytes text.new ≡ string_bytes text.old ++ head_text (run_of counter.now)) }
+    ensures { OnOk result (string_bytes text.new ≡ string_bytes text.old ++ head_lines (run_of counter.now)) }
 {
     push_title(text)?;
     push_number(text, "lines", u32::from(counter.lines))?;

@@ -57,7 +57,7 @@ fn other_six_of(six: &[Option<Target>; 6]) -> [Option<Target>; 6]
     links
 }
 
-fn links_in(memory: PageMemory, links: &Links) -> PageMemory
+fn read_links(memory: PageMemory, links: &Links) -> PageMemory
     ensures { memory_of result ≡ with_other_links (memory_of memory) links.now.set }
 {
     let mut wrong = memory;
@@ -74,6 +74,6 @@ pub fn wrong_memory_of(page: &Page, item: &Item) -> PageMemory
     match item {
         Item::Head => letter_at(memory, 0, 8),
         Item::Row(row) => letter_at(memory, usize::from(row.number()), 0),
-        Item::Links => links_in(memory, page.links()),
+        Item::Links => read_links(memory, page.links()),
     }
 }

@@ -4,7 +4,7 @@ ghost use Rattle.std.specs.Prelude.{◌≡◌, ℕ, ◌<◌, ◌≤◌, length};
 ghost use Rattle.std.specs.List.Sorted.{IsNonDecreasing};
 ghost use Rattle.ttx_page.specs.Streams.{repeated};
 ghost use Rattle.ttx_cycle.specs.Cycles.{slots_of};
-ghost use Rattle.ttx_counter.specs.Keys.{key_at, AreApart, IsKey};
+ghost use Rattle.ttx_counter.specs.Keys.{key_at, AreHitOnce, IsKey};
 ghost use Rattle.ttx_counter.specs.Hearing.{IsHeard};
 
 use crate::keys::{SlotKeys, end_of, hit_slot};
@@ -24,7 +24,7 @@ pub struct Run<'a> {
 /// Gives the receiver what is received in a run.
 pub fn hear(receiver: &mut Scripted<'_>, run: &Run<'_>)
     requires sorted { IsNonDecreasing run.now.keys.now }
-    requires apart { AreApart run.now.keys.now }
+    requires apart { AreHitOnce run.now.keys.now }
     requires keys { (i : ℕ) → i < length run.now.keys.now → IsKey (key_at run.now.keys.now i) }
     ensures { IsHeard (repeated (slots_of run.now.cycle.now)) run.now.start run.now.count run.now.keys.now receiver.old receiver.new }
 {

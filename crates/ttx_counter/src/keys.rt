@@ -3,7 +3,8 @@
 ghost use Rattle.std.specs.Prelude.{◌≡◌, ℕ, ◌<◌, ◌≤◌, ◌↔◌, IsTrue, IfOk, length, map, IsPermutation};
 ghost use Rattle.std.specs.List.Sorted.{IsNonDecreasing};
 ghost use Rattle.ttx_counter.specs.Counters.{flipped};
-ghost use Rattle.ttx_counter.specs.Keys.{key_of, key_at, byte_in, bit_in, place_in, slot_in, AreApart, IsKey, AreSlotKeys, AreFlipped, AreOfOtherBytes};
+ghost use Rattle.ttx_counter.specs.Keys.{hit_key, key_at, byte_in, bit_in, byte_place, slot_in, AreHitOnce, IsKey, AreSlotKeys, AreFlipped};
+ghost use Rattle.ttx_counter.specs.Keys.{AreOfOtherBytes};
 
 use crate::counter::Hit;
 use std::alloc::Global;
@@ -18,19 +19,19 @@ pub struct SlotKeys<'a> {
 }
 
 // A hit as one number.
-fn key_of(hit: Hit) -> u64
-    ensures { result ≡ key_of hit }
+fn hit_key(hit: Hit) -> u64
+    ensures { result ≡ hit_key hit }
 {
     u64::from(hit.index) * 65536 + u64::from(hit.byte) * 256 + u64::from(hit.bit)
 }
 
 // The numbers of the hits, in their order.
 fn keys_of(alloc: Global, hits: &[Hit]) -> Result<Vec<u64>, NoMemory>
-    ensures { IfOk result (λ keys. keys.items ≡ map key_of hits.now) }
+    ensures { IfOk result (λ keys. keys.items ≡ map hit_key hits.now) }
 {
     let mut keys = Vec::new(alloc);
     for hit in hits {
-        if keys.push(key_of(*hit)).is_err() {
+        if keys.push(hit_key(*hit)).is_err() {
             return Err(NoMemory);
         }
     }
@@ -39,7 +40,7 @@ fn keys_of(alloc: Global, hits: &[Hit]) -> Result<Vec<u64>, NoMemory>
 
 /// The numbers of the hits, sorted.
 pub fn sorted_keys(alloc: Global, hits: &[Hit]) -> Result<Vec<u64>, NoMemory>
-    ensures same { IfOk result (λ keys. IsPermutation (map key_of hits.now) keys.items) }
+    ensures same { IfOk result (λ keys. IsPermutation (map hit_key hits.now) keys.items) }
     ensures sorted { IfOk result (λ keys. IsNonDecreasing keys.items) }
 {
     let mut keys = keys_of(alloc, hits)?;
@@ -50,7 +51,7 @@ pub fn sorted_keys(alloc: Global, hits: &[Hit]) -> Result<Vec<u64>, NoMemory>
 /// Whether no byte of a slot is hit twice.
 pub fn are_apart(keys: &[u64]) -> bool
     requires { IsNonDecreasing keys.now }
-    ensures { IsTrue result ↔ AreApart keys.now }
+    ensures { IsTrue result ↔ AreHitOnce keys.now }
 {
     for i in 1..keys.len() {
         if keys[i - 1] / 256 == keys[i] / 256 {

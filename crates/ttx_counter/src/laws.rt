@@ -1,6 +1,6 @@
 //! The laws of counter-runs. A call costs nothing and gives the caller's proof the law.
 
-ghost use Rattle.ttx_counter.specs.CounterReading.{AcceptedTextsAreWritten, WrittenTextsAreRead};
+ghost use Rattle.ttx_counter.specs.CounterReading.{AcceptedCounterTextsAreWritten, WrittenCounterTextsAreRead};
 ghost use Rattle.ttx_counter.specs.Laws.{CounterRunsRefute, RefutedIsNotAccepted};
 ghost use Rattle.ttx_counter.specs.Sources.{PlainRunsAreCounterRuns, AbsentPagesAreWrong, SteadyPagesStay, PeriodsRepeat};
 ghost use Rattle.ttx_counter.specs.Streaks.{StreaksDecide};
@@ -58,10 +58,10 @@ pub fn periods_repeat()
 
 /// A text that is read is the text that is written of its counter-run: each counter-run has one text.
 pub fn accepted_texts_are_written()
-    ensures { AcceptedTextsAreWritten }
+    ensures { AcceptedCounterTextsAreWritten }
 {}
 
 /// The text that is written of a counter-run is read as the counter-run.
 pub fn written_texts_are_read()
-    ensures { WrittenTextsAreRead }
+    ensures { WrittenCounterTextsAreRead }
 {}

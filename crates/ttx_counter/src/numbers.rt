@@ -1,7 +1,7 @@
 //! The numbers in a text.
 
 ghost use Rattle.std.specs.Prelude.{◌≡◌, ◌∷◌, [], ◌++◌, true, length, map, take, drop, slice_index, IfOk, OnOk};
-ghost use Rattle.ttx_counter.specs.CounterReading.{is_digit, at_most, digit_after, closed, numbers_in, is_one};
+ghost use Rattle.ttx_counter.specs.CounterReading.{is_digit, at_most, digit_after, closed, line_numbers, is_one};
 
 use std::alloc::Global;
 use ttx_witness::NoMemory;
@@ -49,8 +49,8 @@ fn keep(numbers: &mut Vec<u32>, ended: Option<u32>) -> Result<(), NoMemory>
 
 /// The numbers in a text: runs of digits, each of 2^32 or more as 2^32 - 1.
 #[tactic(auto, unfolding(crate::specs::CounterReading::numbers_after), using(crate::proofs::ReadParts::closed_more))]
-pub fn numbers_in(alloc: Global, bytes: &[u8]) -> Result<Vec<u32>, NoMemory>
-    ensures { IfOk result (λ numbers. numbers.items ≡ numbers_in bytes.now) }
+pub fn line_numbers(alloc: Global, bytes: &[u8]) -> Result<Vec<u32>, NoMemory>
+    ensures { IfOk result (λ numbers. numbers.items ≡ line_numbers bytes.now) }
 {
     let mut numbers = Vec::new(alloc);
     let mut begun = None;

@@ -1,6 +1,7 @@
 //! Plain runs: a receiver that takes no choice, from slot 0 on and without hits.
 
-ghost use Rattle.std.specs.Prelude.{◌≡◌, ℕ, ◌+◌, ◌-◌, ◌*◌, ◌<◌, ◌≤◌, ◌^◌, ◌==◌, ◌&&◌, pos, true, IsTrue, ◌↔◌, MatchOption, [], map, length, slice_index_or};
+ghost use Rattle.std.specs.Prelude.{◌≡◌, ℕ, ◌+◌, ◌-◌, ◌*◌, ◌<◌, ◌≤◌, ◌^◌, ◌==◌, ◌&&◌, pos, true, IsTrue, ◌↔◌, MatchOption, [], map, length};
+ghost use Rattle.std.specs.Prelude.{slice_index_or};
 ghost use Rattle.ttx_header.specs.Headers.{is_header, id_of};
 ghost use Rattle.ttx_page.specs.Packets.{packet_of};
 ghost use Rattle.ttx_page.specs.Pages as definitions;
@@ -11,7 +12,7 @@ ghost use Rattle.ttx_page.specs.Memories.{Memory, memory_of_page};
 ghost use Rattle.ttx_cycle.specs.Cycles.{slots_of};
 ghost use Rattle.ttx_render.specs.View.{view_of};
 ghost use Rattle.ttx_counter.specs.Magazines.{magazine_of};
-ghost use Rattle.ttx_counter.specs.Sources.{plain_from, is_of, takes, TellsWrong};
+ghost use Rattle.ttx_counter.specs.Sources.{plain_from, is_under, takes_from, TellsWrong};
 
 use crate::checking::is_unlike;
 use crate::listening::place;
@@ -73,7 +74,8 @@ fn are_same(a: &PageMemory, b: &PageMemory) -> bool
 // Gives the receiver `count` slots of the cycle from slot `begin` on.
 fn advance(receiver: &mut Eager, sorted: &Sorted<'_>, begin: u32, count: u32)
     requires magazines { sorted.now.magazines.now ≡ map magazine_of (slots_of sorted.now.cycle.now) }
-    ensures memory { receiver.new.memory ≡ plain_from receiver.old.lines receiver.old.selection receiver.old.memory (repeated (slots_of sorted.now.cycle.now)) (pos begin) count }
+    ensures memory { receiver.new.memory ≡ plain_from receiver.old.lines receiver.old.selection receiver.old.memory
+        (repeated (slots_of sorted.now.cycle.now)) (pos begin) count }
     ensures selection { receiver.new.selection ≡ receiver.old.selection }
     ensures lines { receiver.new.lines ≡ receiver.old.lines }
 {
@@ -88,7 +90,8 @@ fn settle(receiver: &mut Eager, sorted: &Sorted<'_>, periods: u32, period: u32)
     requires magazines { sorted.now.magazines.now ≡ map magazine_of (slots_of sorted.now.cycle.now) }
     requires period { period ≡ length (slots_of sorted.now.cycle.now) }
     requires small { periods * period < 2 ^ 32 }
-    ensures memory { receiver.new.memory ≡ plain_from receiver.old.lines receiver.old.selection receiver.old.memory (repeated (slots_of sorted.now.cycle.now)) (pos 0) (periods * period) }
+    ensures memory { receiver.new.memory ≡ plain_from receiver.old.lines receiver.old.selection receiver.old.memory
+        (repeated (slots_of sorted.now.cycle.now)) (pos 0) (periods * period) }
     ensures selection { receiver.new.selection ≡ receiver.old.selection }
     ensures lines { receiver.new.lines ≡ receiver.old.lines }
 {
@@ -129,8 +132,8 @@ fn begins(selection: &Selection, slot: &[u8; 42]) -> bool
 }
 
 // Whether a slot is a row or an X/27/0 of the magazine.
-fn is_of(mag: u8, slot: &[u8; 42]) -> bool
-    ensures { result ≡ is_of mag (packet_of slot.now) }
+fn is_under(mag: u8, slot: &[u8; 42]) -> bool
+    ensures { result ≡ is_under mag (packet_of slot.now) }
 {
     match slot_of(slot) {
         Slot::Header(_, _) => false,
@@ -144,17 +147,17 @@ fn is_of(mag: u8, slot: &[u8; 42]) -> bool
 }
 
 // Whether the receiver takes something from the slot in a place that it may show.
-fn takes(memory: &PageMemory, selection: &Selection, sorted: &Sorted<'_>, at: usize) -> bool
+fn takes_from(memory: &PageMemory, selection: &Selection, sorted: &Sorted<'_>, at: usize) -> bool
     requires magazines { sorted.now.magazines.now ≡ map magazine_of (slots_of sorted.now.cycle.now) }
     requires at { at < length (slots_of sorted.now.cycle.now) }
-    ensures { result ≡ takes selection.now (memory_of memory.now) (packet_of (slice_index_or (slots_of sorted.now.cycle.now) at [])) }
+    ensures { result ≡ takes_from selection.now (memory_of memory.now) (packet_of (slice_index_or (slots_of sorted.now.cycle.now) at [])) }
 {
     let mag = selected(selection);
     if magazine_at(sorted, at) != mag {
         return false;
     }
     let slot = &sorted.cycle.slots()[at];
-    begins(selection, slot) || is_of(mag, slot) && memory.storing()
+    begins(selection, slot) || is_under(mag, slot) && memory.storing()
 }
 
 // The first number of slots, `low` or up to `more` above it, after which the receiver's View isn't this one. Views are compared only
@@ -168,7 +171,9 @@ fn first_wrong(
 ) -> Option<u32>
     requires magazines { sorted.now.magazines.now ≡ map magazine_of (slots_of sorted.now.cycle.now) }
     requires small { low + more < 2 ^ 32 - 1 }
-    ensures { (p : definitions.Page) (former : Memory) → own.now ≡ view_of (memory_of_page p) → receiver.old.memory ≡ plain_from receiver.old.lines receiver.old.selection former (repeated (slots_of sorted.now.cycle.now)) (pos 0) low → TellsWrong (slots_of sorted.now.cycle.now) p receiver.old.lines receiver.old.selection former low (low + more) result }
+    ensures { (p : definitions.Page) (former : Memory) → own.now ≡ view_of (memory_of_page p) →
+        receiver.old.memory ≡ plain_from receiver.old.lines receiver.old.selection former (repeated (slots_of sorted.now.cycle.now)) (pos 0) low →
+        TellsWrong (slots_of sorted.now.cycle.now) p receiver.old.lines receiver.old.selection former low (low + more) result }
 {
     ttx_render::laws::contents_decide();
     let period = sorted.cycle.slots().len();
@@ -179,7 +184,7 @@ fn first_wrong(
             return Some(n);
         }
         let at = place(n, 0, period);
-        let taken = takes(receiver.memory(), &receiver.selection(), sorted, at);
+        let taken = takes_from(receiver.memory(), &receiver.selection(), sorted, at);
         hear_at(receiver, sorted, at);
         if taken {
             wrong = is_unlike(own, receiver.memory());
@@ -199,7 +204,8 @@ pub fn plain_run(
 ) -> Option<u32>
     requires magazines { sorted.now.magazines.now ≡ map magazine_of (slots_of sorted.now.cycle.now) }
     requires few { low ≤ 32000000 }
-    ensures { TellsWrong (slots_of sorted.now.cycle.now) (page_of page.now) lines selection (memory_of_page (page_of page.now)) low (low + 2 * length (slots_of sorted.now.cycle.now)) result }
+    ensures { TellsWrong (slots_of sorted.now.cycle.now) (page_of page.now) lines selection (memory_of_page (page_of page.now)) low
+        (low + 2 * length (slots_of sorted.now.cycle.now)) result }
 {
     let period = sorted.cycle.slots().len() as u32;
     let own = PageMemory::of(page);

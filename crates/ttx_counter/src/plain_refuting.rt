@@ -62,8 +62,10 @@ pub fn refute_plainly(
 ) -> Option<Counter>
     requires index { index < length claim.now.pages.now }
     requires magazines { claim.now.magazines.now ≡ map magazine_of (slots_of claim.now.cycle.now) }
-    requires steady { IsTrue steady → (p : definitions.Page) → slice_get (map page_of claim.now.pages.now) index ≡ Some p → Steady (repeated (slots_of claim.now.cycle.now)) (map page_of claim.now.pages.now) p }
-    ensures { TellsPlainly run_of (slots_of claim.now.cycle.now) (map page_of claim.now.pages.now) index any_sub (certificate_of claim.now.certificate.now) result }
+    requires steady { IsTrue steady → (p : definitions.Page) → slice_get (map page_of claim.now.pages.now) index ≡ Some p →
+        Steady (repeated (slots_of claim.now.cycle.now)) (map page_of claim.now.pages.now) p }
+    ensures { TellsPlainly run_of (slots_of claim.now.cycle.now) (map page_of claim.now.pages.now) index any_sub
+        (certificate_of claim.now.certificate.now) result }
 {
     crate::laws::plain_runs_are_counter_runs();
     crate::laws::steady_pages_stay();

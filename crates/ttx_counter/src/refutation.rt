@@ -20,7 +20,8 @@ ghost use Rattle.ttx_witness.specs.faults.OtherSubpages.{AreOtherSubpages};
 ghost use Rattle.ttx_counter.specs.Completeness.{IsClean};
 ghost use Rattle.ttx_counter.specs.Counters.{run_of};
 ghost use Rattle.ttx_counter.specs.Magazines.{magazine_of};
-ghost use Rattle.ttx_counter.specs.Refutations.{is_absent, IsCounterTo, ArePrepared, TellsNeeded, TellsCovered, TellsPage, TellsPages, TellsAllPlainly, TellsPlainly, TellsCounter};
+ghost use Rattle.ttx_counter.specs.Refutations.{is_absent, IsCounterTo, ArePrepared, TellsNeeded, TellsCovered, TellsPage, TellsPages};
+ghost use Rattle.ttx_counter.specs.Refutations.{TellsAllPlainly, TellsPlainly, TellsCounter};
 ghost use Rattle.ttx_counter.specs.Sources.{plain_counter, IsPlainlyRight};
 
 use crate::claim::{Claim, Prepared, page_at};
@@ -46,7 +47,8 @@ fn is_absent(fault: Option<Reason>) -> bool
 
 // A counter-run of a page that has no header: a link that isn't the page's stays.
 fn absent_counter(alloc: Global, page: &Page, index: u32, certificate: &Certificate) -> Counter
-    ensures run { run_of result ≡ plain_counter index false (wrong_memory (page_of page.now) items.Links) (certificate_of certificate.now).lines (certificate_of certificate.now).repeat (certificate_of certificate.now).deadline (coverage.limit (certificate_of certificate.now)) }
+    ensures run { run_of result ≡ plain_counter index false (wrong_memory (page_of page.now) items.Links) (certificate_of certificate.now).lines
+        (certificate_of certificate.now).repeat (certificate_of certificate.now).deadline (coverage.limit (certificate_of certificate.now)) }
     ensures former { IsMemory (wrong_memory (page_of page.now) items.Links) }
 {
     ttx_page::laws::memories_keep_their_rules();
@@ -68,9 +70,11 @@ fn start_for(
     item: &Item,
 ) -> Result<Option<u32>, NoMemory>
     requires index { index < length claim.now.pages.now }
-    requires prepared { ArePrepared (slots_of claim.now.cycle.now) (map page_of claim.now.pages.now) (certificate_of claim.now.certificate.now) (certificate_of prepared.now.found.now) prepared.now.collected.now }
+    requires prepared { ArePrepared (slots_of claim.now.cycle.now) (map page_of claim.now.pages.now) (certificate_of claim.now.certificate.now)
+        (certificate_of prepared.now.found.now) prepared.now.collected.now }
     requires item { IsItem item.now }
-    ensures { IfOk result (λ start. (p : definitions.Page) → slice_get (map page_of claim.now.pages.now) index ≡ Some p → TellsNeeded (slots_of claim.now.cycle.now) p (certificate_of claim.now.certificate.now) item.now start) }
+    ensures { IfOk result (λ start. (p : definitions.Page) → slice_get (map page_of claim.now.pages.now) index ≡ Some p →
+        TellsNeeded (slots_of claim.now.cycle.now) p (certificate_of claim.now.certificate.now) item.now start) }
 {
     ttx_witness::certificate_laws::certificates_keep_their_rules();
     let page = page_at(claim.pages, index);
@@ -93,9 +97,12 @@ fn starved_counter(
 ) -> Result<Counter, NoMemory>
     requires index { index < length claim.now.pages.now }
     requires clean { IsClean (slots_of claim.now.cycle.now) }
-    requires steady { (p : definitions.Page) → slice_get (map page_of claim.now.pages.now) index ≡ Some p → Steady (repeated (slots_of claim.now.cycle.now)) (map page_of claim.now.pages.now) p }
-    requires starved { (p : definitions.Page) → slice_get (map page_of claim.now.pages.now) index ≡ Some p → TellsNeeded (slots_of claim.now.cycle.now) p (certificate_of claim.now.certificate.now) item.now (Some start) }
-    ensures { IfOk result (λ c. IsCounterTo (slots_of claim.now.cycle.now) (map page_of claim.now.pages.now) (certificate_of claim.now.certificate.now) (run_of c)) }
+    requires steady { (p : definitions.Page) → slice_get (map page_of claim.now.pages.now) index ≡ Some p →
+        Steady (repeated (slots_of claim.now.cycle.now)) (map page_of claim.now.pages.now) p }
+    requires starved { (p : definitions.Page) → slice_get (map page_of claim.now.pages.now) index ≡ Some p →
+        TellsNeeded (slots_of claim.now.cycle.now) p (certificate_of claim.now.certificate.now) item.now (Some start) }
+    ensures { IfOk result (λ c. IsCounterTo (slots_of claim.now.cycle.now) (map page_of claim.now.pages.now)
+        (certificate_of claim.now.certificate.now) (run_of c)) }
 {
     crate::completeness::starving_is_counter_run();
     ttx_page::laws::pages_keep_their_rules();
@@ -118,10 +125,13 @@ fn starve_page(
     index: u32,
 ) -> Result<Option<Counter>, NoMemory>
     requires index { index < length claim.now.pages.now }
-    requires prepared { ArePrepared (slots_of claim.now.cycle.now) (map page_of claim.now.pages.now) (certificate_of claim.now.certificate.now) (certificate_of prepared.now.found.now) prepared.now.collected.now }
+    requires prepared { ArePrepared (slots_of claim.now.cycle.now) (map page_of claim.now.pages.now) (certificate_of claim.now.certificate.now)
+        (certificate_of prepared.now.found.now) prepared.now.collected.now }
     requires clean { IsClean (slots_of claim.now.cycle.now) }
-    requires steady { (p : definitions.Page) → slice_get (map page_of claim.now.pages.now) index ≡ Some p → Steady (repeated (slots_of claim.now.cycle.now)) (map page_of claim.now.pages.now) p }
-    ensures { IfOk result (λ c. (p : definitions.Page) → slice_get (map page_of claim.now.pages.now) index ≡ Some p → TellsCovered run_of (slots_of claim.now.cycle.now) (map page_of claim.now.pages.now) p (certificate_of claim.now.certificate.now) c) }
+    requires steady { (p : definitions.Page) → slice_get (map page_of claim.now.pages.now) index ≡ Some p →
+        Steady (repeated (slots_of claim.now.cycle.now)) (map page_of claim.now.pages.now) p }
+    ensures { IfOk result (λ c. (p : definitions.Page) → slice_get (map page_of claim.now.pages.now) index ≡ Some p →
+        TellsCovered run_of (slots_of claim.now.cycle.now) (map page_of claim.now.pages.now) p (certificate_of claim.now.certificate.now) c) }
 {
     for number in 0..26u8 {
         let item = item_of(number);
@@ -142,10 +152,12 @@ fn refute_page(
     index: u32,
 ) -> Result<Option<Counter>, NoMemory>
     requires index { index < length claim.now.pages.now }
-    requires prepared { ArePrepared (slots_of claim.now.cycle.now) (map page_of claim.now.pages.now) (certificate_of claim.now.certificate.now) (certificate_of prepared.now.found.now) prepared.now.collected.now }
+    requires prepared { ArePrepared (slots_of claim.now.cycle.now) (map page_of claim.now.pages.now) (certificate_of claim.now.certificate.now)
+        (certificate_of prepared.now.found.now) prepared.now.collected.now }
     requires others { AreOtherSubpages (slots_of claim.now.cycle.now) (map page_of claim.now.pages.now) prepared.now.others.now }
     requires clean { IsTrue prepared.now.clean ↔ IsClean (slots_of claim.now.cycle.now) }
-    ensures { IfOk result (λ c. (p : definitions.Page) → slice_get (map page_of claim.now.pages.now) index ≡ Some p → TellsPage run_of (slots_of claim.now.cycle.now) (map page_of claim.now.pages.now) p (certificate_of claim.now.certificate.now) c) }
+    ensures { IfOk result (λ c. (p : definitions.Page) → slice_get (map page_of claim.now.pages.now) index ≡ Some p →
+        TellsPage run_of (slots_of claim.now.cycle.now) (map page_of claim.now.pages.now) p (certificate_of claim.now.certificate.now) c) }
 {
     crate::completeness::fullest_names_all();
     crate::laws::absent_pages_are_wrong();
@@ -178,10 +190,12 @@ fn refute_pages(
     prepared: &Prepared<'_>,
 ) -> Result<Option<Counter>, NoMemory>
     requires few { length claim.now.pages.now < 2 ^ 32 }
-    requires prepared { ArePrepared (slots_of claim.now.cycle.now) (map page_of claim.now.pages.now) (certificate_of claim.now.certificate.now) (certificate_of prepared.now.found.now) prepared.now.collected.now }
+    requires prepared { ArePrepared (slots_of claim.now.cycle.now) (map page_of claim.now.pages.now) (certificate_of claim.now.certificate.now)
+        (certificate_of prepared.now.found.now) prepared.now.collected.now }
     requires others { AreOtherSubpages (slots_of claim.now.cycle.now) (map page_of claim.now.pages.now) prepared.now.others.now }
     requires clean { IsTrue prepared.now.clean ↔ IsClean (slots_of claim.now.cycle.now) }
-    ensures { IfOk result (TellsPages run_of (slots_of claim.now.cycle.now) (map page_of claim.now.pages.now) (certificate_of claim.now.certificate.now)) }
+    ensures { IfOk result (TellsPages run_of (slots_of claim.now.cycle.now) (map page_of claim.now.pages.now)
+        (certificate_of claim.now.certificate.now)) }
 {
     for index in 0..claim.pages.len() as u32 {
         let counter = refute_page(alloc, claim, prepared, index)?;
@@ -195,9 +209,11 @@ fn refute_pages(
 // Whether the cycle sends the page at the index unchanged.
 fn is_steady(claim: &Claim<'_>, prepared: &Prepared<'_>, index: u32) -> bool
     requires index { index < length claim.now.pages.now }
-    requires sent { AreAllSent (slots_of claim.now.cycle.now) (map page_of claim.now.pages.now) (certificate_of claim.now.certificate.now).lines prepared.now.collected.now }
+    requires sent { AreAllSent (slots_of claim.now.cycle.now) (map page_of claim.now.pages.now) (certificate_of claim.now.certificate.now).lines
+        prepared.now.collected.now }
     requires others { AreOtherSubpages (slots_of claim.now.cycle.now) (map page_of claim.now.pages.now) prepared.now.others.now }
-    ensures { (p : definitions.Page) → slice_get (map page_of claim.now.pages.now) index ≡ Some p → IsTrue result ↔ Steady (repeated (slots_of claim.now.cycle.now)) (map page_of claim.now.pages.now) p }
+    ensures { (p : definitions.Page) → slice_get (map page_of claim.now.pages.now) index ≡ Some p →
+        IsTrue result ↔ Steady (repeated (slots_of claim.now.cycle.now)) (map page_of claim.now.pages.now) p }
 {
     ttx_witness::fault_laws::steady_has_no_fault();
     let page = page_at(claim.pages, index);
@@ -223,10 +239,13 @@ fn refute_by_number(
 ) -> Option<Counter>
     requires index { index < length claim.now.pages.now }
     requires others { AreOtherSubpages (slots_of claim.now.cycle.now) (map page_of claim.now.pages.now) prepared.now.others.now }
-    requires steady { IsTrue steady → (p : definitions.Page) → slice_get (map page_of claim.now.pages.now) index ≡ Some p → Steady (repeated (slots_of claim.now.cycle.now)) (map page_of claim.now.pages.now) p }
+    requires steady { IsTrue steady → (p : definitions.Page) → slice_get (map page_of claim.now.pages.now) index ≡ Some p →
+        Steady (repeated (slots_of claim.now.cycle.now)) (map page_of claim.now.pages.now) p }
     requires magazines { claim.now.magazines.now ≡ map magazine_of (slots_of claim.now.cycle.now) }
-    requires exactly { IsPlainlyRight (slots_of claim.now.cycle.now) (map page_of claim.now.pages.now) index false (certificate_of claim.now.certificate.now).lines (coverage.limit (certificate_of claim.now.certificate.now)) }
-    ensures { TellsPlainly run_of (slots_of claim.now.cycle.now) (map page_of claim.now.pages.now) index true (certificate_of claim.now.certificate.now) result }
+    requires exactly { IsPlainlyRight (slots_of claim.now.cycle.now) (map page_of claim.now.pages.now) index false
+        (certificate_of claim.now.certificate.now).lines (coverage.limit (certificate_of claim.now.certificate.now)) }
+    ensures { TellsPlainly run_of (slots_of claim.now.cycle.now) (map page_of claim.now.pages.now) index true
+        (certificate_of claim.now.certificate.now) result }
 {
     let page = page_at(claim.pages, index);
     match prepared.others.first(page.id()) {
@@ -238,10 +257,12 @@ fn refute_by_number(
 // A counter-run of the first page of which a plain run ends wrong, by its own id or by its number.
 fn refute_all_plainly(alloc: Global, claim: &Claim<'_>, prepared: &Prepared<'_>) -> Option<Counter>
     requires few { length claim.now.pages.now < 2 ^ 32 }
-    requires sent { AreAllSent (slots_of claim.now.cycle.now) (map page_of claim.now.pages.now) (certificate_of claim.now.certificate.now).lines prepared.now.collected.now }
+    requires sent { AreAllSent (slots_of claim.now.cycle.now) (map page_of claim.now.pages.now) (certificate_of claim.now.certificate.now).lines
+        prepared.now.collected.now }
     requires others { AreOtherSubpages (slots_of claim.now.cycle.now) (map page_of claim.now.pages.now) prepared.now.others.now }
     requires magazines { claim.now.magazines.now ≡ map magazine_of (slots_of claim.now.cycle.now) }
-    ensures { TellsAllPlainly run_of (slots_of claim.now.cycle.now) (map page_of claim.now.pages.now) (certificate_of claim.now.certificate.now) result }
+    ensures { TellsAllPlainly run_of (slots_of claim.now.cycle.now) (map page_of claim.now.pages.now) (certificate_of claim.now.certificate.now)
+        result }
 {
     for index in 0..claim.pages.len() as u32 {
         let steady = is_steady(claim, prepared, index);
@@ -270,7 +291,9 @@ pub fn refute(
     requires any { (certificate_of certificate.now).class ≡ Any }
     requires distinct { AllPairs (λ a b. a ≢ b) (ids_of pages.now) }
     ensures tells { IfOk result (TellsCounter run_of (slots_of cycle.now) (map page_of pages.now) (certificate_of certificate.now)) }
-    ensures exact { IfOk result (λ c. IsSentUnchanged (slots_of cycle.now) (map page_of pages.now) → (is_some c ≡ true) ↔ (CanBeAccepted (slots_of cycle.now) (map page_of pages.now) Any (certificate_of certificate.now).lines (certificate_of certificate.now).repeat (certificate_of certificate.now).deadline → ⊥)) }
+    ensures exact { IfOk result (λ c. IsSentUnchanged (slots_of cycle.now) (map page_of pages.now) →
+        (is_some c ≡ true) ↔ (CanBeAccepted (slots_of cycle.now) (map page_of pages.now) Any (certificate_of certificate.now).lines
+        (certificate_of certificate.now).repeat (certificate_of certificate.now).deadline → ⊥)) }
 {
     crate::laws::refuted_is_not_accepted();
     crate::completeness::fullest_names_all();

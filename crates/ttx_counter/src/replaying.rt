@@ -6,7 +6,7 @@ ghost use Rattle.ttx_page.specs.Streams.{repeated};
 ghost use Rattle.ttx_page.specs.Views.{page_of, memory_of};
 ghost use Rattle.ttx_cycle.specs.Cycles.{slots_of};
 ghost use Rattle.ttx_counter.specs.Counters.{run_of};
-ghost use Rattle.ttx_counter.specs.Keys.{key_at, AreApart, IsKey};
+ghost use Rattle.ttx_counter.specs.Keys.{key_at, AreHitOnce, IsKey};
 ghost use Rattle.ttx_counter.specs.Replaying.{IsLeft, TellsReplayed};
 
 use crate::checking::{check_counter, selection_for};
@@ -23,7 +23,7 @@ use ttx_witness::NoMemory;
 // The receiver's memory after the run.
 fn memory_after(cycle: &Cycle, page: &Page, counter: &Counter, keys: &[u64]) -> PageMemory
     requires sorted { IsNonDecreasing keys.now }
-    requires apart { AreApart keys.now }
+    requires apart { AreHitOnce keys.now }
     requires keys { (i : ℕ) → i < length keys.now → IsKey (key_at keys.now i) }
     ensures { IsLeft (repeated (slots_of cycle.now)) keys.now (page_of page.now) (run_of counter.now) (memory_of result) }
 {

@@ -5,7 +5,7 @@ ghost use Rattle.std.specs.List.Sorted.{IsNonDecreasing};
 ghost use Rattle.ttx_page.specs.Streams.{repeated};
 ghost use Rattle.ttx_cycle.specs.Cycles.{slots_of};
 ghost use Rattle.ttx_counter.specs.Hearing.{IsHeard};
-ghost use Rattle.ttx_counter.specs.Keys.{key_at, AreApart, IsKey};
+ghost use Rattle.ttx_counter.specs.Keys.{key_at, AreHitOnce, IsKey};
 ghost use Rattle.ttx_counter.specs.Rule.{KeepsRule};
 
 use crate::hearing::{Run, hear};
@@ -28,10 +28,12 @@ pub fn hear_within_rule(
 ) -> Result<bool, NoMemory>
     requires some { 1 ≤ repeat }
     requires sorted { IsNonDecreasing run.now.keys.now }
-    requires apart { AreApart run.now.keys.now }
+    requires apart { AreHitOnce run.now.keys.now }
     requires keys { (i : ℕ) → i < length run.now.keys.now → IsKey (key_at run.now.keys.now i) }
-    ensures kept { IfOk result (λ b. IsTrue b ↔ KeepsRule (repeated (slots_of run.now.cycle.now)) page run.now.start run.now.count repeat run.now.keys.now) }
-    ensures heard { IfOk result (λ b. IsTrue b → IsHeard (repeated (slots_of run.now.cycle.now)) run.now.start run.now.count run.now.keys.now receiver.old receiver.new) }
+    ensures kept { IfOk result (λ b. IsTrue b ↔ KeepsRule (repeated (slots_of run.now.cycle.now)) page run.now.start run.now.count repeat
+        run.now.keys.now) }
+    ensures heard { IfOk result (λ b. IsTrue b → IsHeard (repeated (slots_of run.now.cycle.now)) run.now.start run.now.count run.now.keys.now
+        receiver.old receiver.new) }
 {
     ttx_packet::laws::rows_are_numbered();
     crate::laws::streaks_decide();

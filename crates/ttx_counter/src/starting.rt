@@ -30,7 +30,8 @@ pub fn limit(certificate: &Certificate) -> u32
 
 // The transmission in a slot.
 fn in_slot(sent: &[Transmission], slot: u32) -> Option<Transmission>
-    ensures { MatchOption result ((t : transmissions.Transmission) → Contains sent.now t → t.slot ≡ pos slot → ⊥) (λ t. Contains sent.now t × (t.slot ≡ pos slot)) }
+    ensures { MatchOption result ((t : transmissions.Transmission) → Contains sent.now t → t.slot ≡ pos slot → ⊥)
+        (λ t. Contains sent.now t × (t.slot ≡ pos slot)) }
 {
     for i in 0..sent.len() {
         if i64::from(sent[i].slot) == i64::from(slot) {
@@ -91,8 +92,10 @@ pub fn starving_start(
 ) -> Result<Option<u32>, NoMemory>
     requires rising { Rising sent_item.now.starts.now }
     requires named { (start : ℕ) → Contains sent_item.now.starts.now start ↔
-        IsSureStart (slots_of cycle.now) (page_of page.now).id (certificate_of certificate.now).lines (certificate_of certificate.now).repeat sent_item.now.item.now start }
-    requires sent { sent_item.now.sent.now ≡ sent_in (slots_of cycle.now) (page_of page.now).id (certificate_of certificate.now).lines sent_item.now.item.now }
+        IsSureStart (slots_of cycle.now) (page_of page.now).id (certificate_of certificate.now).lines (certificate_of certificate.now).repeat
+        sent_item.now.item.now start }
+    requires sent { sent_item.now.sent.now ≡ sent_in (slots_of cycle.now) (page_of page.now).id (certificate_of certificate.now).lines
+        sent_item.now.item.now }
     requires within { AllByRecursion (IsWithin 65536) sent_item.now.sent.now }
     ensures { IfOk result (TellsStart (slots_of cycle.now) (page_of page.now) (certificate_of certificate.now) sent_item.now.item.now) }
 {

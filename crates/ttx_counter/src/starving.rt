@@ -69,7 +69,8 @@ pub fn starve_over(
     slots: u32,
 ) -> Result<Starved, NoMemory>
     requires { receiver.now.lines ≤ 32 }
-    ensures hits { IfOk result (λ r. r.hits.items ≡ map (hit_at receiver.now.item.now) (starved_hits receiver.now.lines receiver.now.selection receiver.now.item.now
+    ensures hits { IfOk result (λ r. r.hits.items ≡ map (hit_at receiver.now.item.now)
+        (starved_hits receiver.now.lines receiver.now.selection receiver.now.item.now
         (repeated (slots_of cycle.now)) (pos start) (memory_of receiver.now.former) slots)) }
     ensures choices { IfOk result (λ r. r.choices.items ≡ starved_choices receiver.now.lines receiver.now.selection receiver.now.item.now
         (repeated (slots_of cycle.now)) (pos start) (memory_of receiver.now.former) slots) }
@@ -105,7 +106,8 @@ pub fn counter_for(
     starved: &StarvedPage<'_>,
     certificate: &Certificate,
 ) -> Result<Counter, NoMemory>
-    ensures { IfOk result (λ c. run_of c ≡ starving_run (slots_of cycle.now) starved.now.index (page_of starved.now.page.now) starved.now.item.now starved.now.start
+    ensures { IfOk result (λ c. run_of c ≡ starving_run (slots_of cycle.now) starved.now.index (page_of starved.now.page.now) starved.now.item.now
+        starved.now.start
         (certificate_of certificate.now).lines (certificate_of certificate.now).repeat (certificate_of certificate.now).deadline) }
 {
     ttx_witness::certificate_laws::certificates_keep_their_rules();

@@ -1,8 +1,9 @@
 //! How often in a row each text byte of a page has been received wrong.
 
-ghost use Rattle.std.specs.Prelude.{◌≡◌, ℕ, ◌+◌, ◌<◌, ◌≤◌, ◌^◌, Bool, true, false, IsTrue, MatchOption, ⊤, List, length, slice_index, slice_index_or, IfOk};
+ghost use Rattle.std.specs.Prelude.{◌≡◌, ℕ, ◌+◌, ◌<◌, ◌≤◌, ◌^◌, Bool, true, false, IsTrue, MatchOption, ⊤, List, length, slice_index};
+ghost use Rattle.std.specs.Prelude.{slice_index_or, IfOk};
 ghost use Rattle.ttx_counter.specs.Keys.{key_at, byte_in, IsKey, AreOfOtherBytes};
-ghost use Rattle.ttx_counter.specs.Cells.{is_text, running, streak_of, AreCounted, IsOver, Tells, AreStreaks, Noted};
+ghost use Rattle.ttx_counter.specs.Cells.{is_text, running, streak_of, AreCounted, IsStreakReached, TellsSlot, AreStreaks, StreaksAfter};
 
 use crate::keys::{SlotKeys, byte_in};
 use std::alloc::Global;
@@ -63,8 +64,9 @@ fn count_hits(
     requires keys { (i : ℕ) → i < length hits.now.keys.now → IsKey (key_at hits.now.keys.now i) }
     requires apart { AreOfOtherBytes hits.now.keys.now hits.now.from hits.now.to }
     ensures places { length cells.new.items ≡ 1050 }
-    ensures counted { result ≡ true → AreCounted sent.row sent.latest sent.now repeat hits.now.keys.now hits.now.from hits.now.to cells.old.items cells.new.items }
-    ensures over { result ≡ false → IsOver sent.row sent.latest repeat hits.now.keys.now hits.now.from hits.now.to cells.old.items }
+    ensures counted { result ≡ true → AreCounted sent.row sent.latest sent.now repeat hits.now.keys.now hits.now.from hits.now.to cells.old.items
+        cells.new.items }
+    ensures over { result ≡ false → IsStreakReached sent.row sent.latest repeat hits.now.keys.now hits.now.from hits.now.to cells.old.items }
 {
     let keys = hits.keys;
     for i in hits.from..hits.to {
@@ -97,7 +99,9 @@ pub fn note(streaks: &mut Streaks, row: Option<u8>, n: u32, hits: &SlotKeys<'_>,
     requires apart { AreOfOtherBytes hits.now.keys.now hits.now.from hits.now.to }
     ensures rows { length streaks.new.latest.items ≡ 25 }
     ensures places { length streaks.new.cells.items ≡ 1050 }
-    ensures noted { (sent wrong : ℕ → ℕ → Bool) → AreStreaks sent wrong repeat n streaks.old.latest.items streaks.old.cells.items → Tells sent wrong row hits.now.keys.now hits.now.from hits.now.to n → Noted result sent wrong repeat (n + 1) streaks.new.latest.items streaks.new.cells.items }
+    ensures noted { (sent wrong : ℕ → ℕ → Bool) → AreStreaks sent wrong repeat n streaks.old.latest.items streaks.old.cells.items →
+        TellsSlot sent wrong row hits.now.keys.now hits.now.from hits.now.to n →
+        StreaksAfter result sent wrong repeat (n + 1) streaks.new.latest.items streaks.new.cells.items }
 {
     let Some(row) = row else {
         return true;

@@ -5,7 +5,7 @@ use Rattle.std.proofs.Math.Seq.{drop-cons}
 use Rattle.std.proofs.Math.ListN.{drop_of_length-le}
 use Rattle.ttx_info.specs.Infos.{InfoFields}
 use Rattle.ttx_extract.specs.Extracts.{slot_info, first_info, info_or}
-use Rattle.ttx_extract.specs.Telling.{TellsInfo}
+use Rattle.ttx_extract.specs.FoundInfos.{TellsInfo}
 use Rattle.ttx_extract.specs.declared.infos.FoundInfo.{FoundInfo}
 
 first_of : (slot : List ℕ) (slots : List (List ℕ)) → first_info (slot ∷ slots) ≡ info_or (slot_info slot) (first_info slots)

@@ -1,3 +1,3 @@
 pub mod Extracts
 pub mod Refusals
-pub mod Telling
+pub mod FoundInfos

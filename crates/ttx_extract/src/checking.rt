@@ -68,9 +68,12 @@ pub fn first_reason(
     collected: &Collected,
     others: &OtherSubpages,
 ) -> Option<Told>
-    ensures { (lines : ℕ) → AreAllSent (slots_of cycle.now) (map page_of pages.now) lines collected.now → AreOtherSubpages (slots_of cycle.now) (map page_of pages.now) others.now →
-        MatchOption result ((n : ℕ) (p : definitions.Page) → slice_get (map page_of pages.now) n ≡ Some p → Steady (repeated (slots_of cycle.now)) (map page_of pages.now) p)
-        (λ told. (p : definitions.Page) × (slice_get (map page_of pages.now) told.index ≡ Some p) × (told.page ≡ p.id) × IsPageFault (slots_of cycle.now) (map page_of pages.now) p (Some told.reason)) }
+    ensures { (lines : ℕ) → AreAllSent (slots_of cycle.now) (map page_of pages.now) lines collected.now →
+        AreOtherSubpages (slots_of cycle.now) (map page_of pages.now) others.now →
+        MatchOption result ((n : ℕ) (p : definitions.Page) → slice_get (map page_of pages.now) n ≡ Some p →
+        Steady (repeated (slots_of cycle.now)) (map page_of pages.now) p)
+        (λ told. (p : definitions.Page) × (slice_get (map page_of pages.now) told.index ≡ Some p) × (told.page ≡ p.id)
+        × IsPageFault (slots_of cycle.now) (map page_of pages.now) p (Some told.reason)) }
 {
     for index in 0..pages.len() {
         let page = &pages[index];

@@ -75,7 +75,8 @@ fn slot_of_first(sent: Transmission) -> u32
 // The slot of a list's first transmission, where this slot differs from it.
 fn first_unlike(cycle: &Cycle, sent: &[Transmission], slot: u32) -> Option<u32>
     ensures { IfSome result (λ first. (page : Id) (lines : ℕ) (item : ItemIs) → sent.now ≡ sent_in (slots_of cycle.now) page lines item →
-        IsTransmission (repeated (slots_of cycle.now)) page item (pos first) × Differs (packet_of (repeated (slots_of cycle.now) (pos first))) (packet_of (repeated (slots_of cycle.now) (pos slot)))) }
+        IsTransmission (repeated (slots_of cycle.now)) page item (pos first)
+        × Differs (packet_of (repeated (slots_of cycle.now) (pos first))) (packet_of (repeated (slots_of cycle.now) (pos slot)))) }
 {
     ttx_witness::judging_laws::transmissions_are_listed();
     let slots = cycle.slots();
@@ -98,7 +99,8 @@ fn first_unlike(cycle: &Cycle, sent: &[Transmission], slot: u32) -> Option<u32>
 
 // The row in a slot of the cycle.
 fn row_at(cycle: &Cycle, slot: u32) -> Option<RowNumber>
-    ensures { IfSome result (λ row. (mag number : ℕ) (text : List ℕ) → packet_of (repeated (slots_of cycle.now) (pos slot)) ≡ Row mag number text → number ≡ row) }
+    ensures { IfSome result (λ row. (mag number : ℕ) (text : List ℕ) → packet_of (repeated (slots_of cycle.now) (pos slot)) ≡ Row mag number text →
+        number ≡ row) }
 {
     let slots = cycle.slots();
     if slot as usize >= slots.len() {
@@ -119,7 +121,9 @@ struct Blamed {
 
 // The item that differs, and the slot where it does.
 fn unlike_item(cycle: &Cycle, reason: &Reason) -> Option<Blamed>
-    ensures { IfSome result (λ unlike. (pages : List definitions.Page) (p : definitions.Page) → IsPageFault (slots_of cycle.now) pages p (Some reason.now) → IsTransmission (repeated (slots_of cycle.now)) p.id unlike.item (pos unlike.slot)) }
+    ensures { IfSome result (λ unlike. (pages : List definitions.Page) (p : definitions.Page) →
+        IsPageFault (slots_of cycle.now) pages p (Some reason.now) →
+        IsTransmission (repeated (slots_of cycle.now)) p.id unlike.item (pos unlike.slot)) }
 {
     match reason {
         Reason::HeadDiffers { page: _, slot } => Some(Blamed {
@@ -150,7 +154,8 @@ pub fn why(
     index: usize,
     reason: Reason,
 ) -> ExtractFault
-    ensures { (pages : List definitions.Page) (lines : ℕ) (p : definitions.Page) → AreAllSent (slots_of cycle.now) pages lines collected.now → slice_get pages index ≡ Some p → page ≡ p.id →
+    ensures { (pages : List definitions.Page) (lines : ℕ) (p : definitions.Page) → AreAllSent (slots_of cycle.now) pages lines collected.now →
+        slice_get pages index ≡ Some p → page ≡ p.id →
         IsPageFault (slots_of cycle.now) pages p (Some reason) → Blames (slots_of cycle.now) result }
 {
     let Some(blamed) = unlike_item(cycle, &reason) else {

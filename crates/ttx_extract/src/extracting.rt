@@ -7,7 +7,7 @@ ghost use Rattle.ttx_source.specs.Services.{ids_of, pages_of};
 ghost use Rattle.ttx_witness.specs.sent.AllSent.{AreAllSent};
 ghost use Rattle.ttx_witness.specs.faults.OtherSubpages.{AreOtherSubpages};
 ghost use Rattle.ttx_extract.specs.Extracts.{AnswersFault, AreOfPages, AreSteady, Blames, Extracts, IsExtract, first_info};
-ghost use Rattle.ttx_extract.specs.Telling.{MinusZero, OkTrue};
+ghost use Rattle.ttx_extract.specs.FoundInfos.{MinusZero, OkTrue};
 
 use crate::checking::{are_listed, are_often, first_reason};
 use crate::conflicts::why;
@@ -102,7 +102,8 @@ fn sent_of(alloc: Global, cycle: &Cycle, service: &Service, lines: u8) -> Result
 
 // Why the pages of a service aren't sent unchanged; none where they are.
 fn blame(cycle: &Cycle, service: &Service, sent: &Sent) -> Option<ExtractFault>
-    ensures { (lines : ℕ) → AreAllSent (slots_of cycle.now) (pages_of service.now) lines sent.now.collected → AreOtherSubpages (slots_of cycle.now) (pages_of service.now) sent.now.others →
+    ensures { (lines : ℕ) → AreAllSent (slots_of cycle.now) (pages_of service.now) lines sent.now.collected →
+        AreOtherSubpages (slots_of cycle.now) (pages_of service.now) sent.now.others →
         MatchOption result (AreSteady (slots_of cycle.now) service.now) (λ fault. Blames (slots_of cycle.now) fault) }
 {
     match first_reason(cycle, service.pages(), &sent.collected, &sent.others) {

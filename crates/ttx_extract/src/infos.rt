@@ -3,7 +3,7 @@
 ghost use Rattle.std.specs.Prelude.{◌≡◌, IsTrue};
 ghost use Rattle.ttx_cycle.specs.Cycles.{slots_of};
 ghost use Rattle.ttx_extract.specs.Extracts.{slot_info};
-ghost use Rattle.ttx_extract.specs.Telling.{TellsInfo};
+ghost use Rattle.ttx_extract.specs.FoundInfos.{TellsInfo};
 
 use ttx_cycle::Cycle;
 use ttx_info::{Info, read_info, write_info};

@@ -44,7 +44,8 @@ fn push_conflict(
     item: Item,
     slots: (u32, u32),
 ) -> Result<(), AllocError>
-    ensures { OnOk result (string_bytes text.new ≡ string_bytes text.old ++ (item_words name.now page item ++ 32 ∷ decimal slots.0 ++ 32 ∷ decimal slots.1)) }
+    ensures { OnOk result (string_bytes text.new ≡ string_bytes text.old
+        ++ (item_words name.now page item ++ 32 ∷ decimal slots.0 ++ 32 ∷ decimal slots.1)) }
 {
     push_of(text, name, page, item)?;
     push_slots(text, slots.0, slots.1)

@@ -7,7 +7,7 @@ use Rattle.std.specs.List.{AllByRecursion, flat_map, range_with_len}
 use Rattle.std.specs.List.Sorted.{IsStrictlySortedBy}
 use Rattle.std.specs.Map.{lookup}
 use Rattle.std.specs.Ordering.{is_eq, nat_cmp}
-use Rattle.ttx_pages.specs.Keys.{all_below, told}
+use Rattle.ttx_pages.specs.Keys.{all_below, header_list}
 
 abbrev pub Entries : Type 0
 Entries = List (ℕ × List ℕ)
@@ -49,7 +49,7 @@ pub record Finds (f : ℕ → Option (List ℕ)) (low high : ℕ) (es : Entries)
   pub bound : (q : ℕ) (v : List ℕ) → f q ≡ Some v → q < high
 
 lists : (f : ℕ → Option (List ℕ)) (low n high : ℕ) (es : Entries) → high ≡ low + n → IsRising low es → Finds f low high es →
-    map (λ e. e.1) es ≡ flat_map (λ k. told (f k)) (range_with_len low n)
+    map (λ e. e.1) es ≡ flat_map (λ k. header_list (f k)) (range_with_len low n)
 lists f low zero high [] size r h = refl
 lists f low zero high (e ∷ es) size r h =
     let b : e.0 < high = h.bound e.0 e.1 (h.same e.0 r.0 ∙ hit e.0 e es refl) in
@@ -57,19 +57,19 @@ lists f low zero high (e ∷ es) size r h =
 lists f low (suc n) high [] size r h =
     let none : f low ≡ None = h.same low (omega arith) in
     let rest = lists f (low + 1) n high [] (omega (arith, size)) tt (record { same = λ q l. h.same q (omega (arith, l)); bound = h.bound }) in
-    rest ∙ ap (λ o. told o ++ flat_map (λ k. told (f k)) (range_with_len (low + 1) n)) (sym none)
+    rest ∙ ap (λ o. header_list o ++ flat_map (λ k. header_list (f k)) (range_with_len (low + 1) n)) (sym none)
 lists f low (suc n) high (e ∷ es) size r h =
     ⊎_elim
     (λ eq.
     let here : f low ≡ Some e.1 = h.same low (omega arith) ∙ hit low e es eq in
     let rest = lists f (low + 1) n high es (omega (arith, size)) (subst (λ k. IsRising (k + 1) es) (sym eq) r.1)
     (record { same = λ q l. h.same q (omega (arith, l)) ∙ passed q e es (at_more q e.0 (omega (arith, l, eq))); bound = h.bound }) in
-    ap (λ t. e.1 ∷ t) rest ∙ ap (λ o. told o ++ flat_map (λ k. told (f k)) (range_with_len (low + 1) n)) (sym here))
+    ap (λ t. e.1 ∷ t) rest ∙ ap (λ o. header_list o ++ flat_map (λ k. header_list (f k)) (range_with_len (low + 1) n)) (sym here))
     (λ ne.
     let after : low + 1 ≤ e.0 = omega (arith, ne, r.0) in
     let none : f low ≡ None = h.same low (omega arith) ∙ missed low (low + 1) (e ∷ es) (omega arith) (after, r.1) in
     let rest = lists f (low + 1) n high (e ∷ es) (omega (arith, size)) (after, r.1) (record { same = λ q l. h.same q (omega (arith, l)); bound = h.bound }) in
-    rest ∙ ap (λ o. told o ++ flat_map (λ k. told (f k)) (range_with_len (low + 1) n)) (sym none))
+    rest ∙ ap (λ o. header_list o ++ flat_map (λ k. header_list (f k)) (range_with_len (low + 1) n)) (sym none))
     (cases_eq low e.0)
 
 less_lt : (x y : ℕ) → nat_cmp x y ≡ Less → x < y
@@ -94,6 +94,6 @@ from_zero (y ∷ ys) = (omega arith, from_zero ys)
 
 -- the values of a map in order are those that the function finds in all numbers
 pub all_lists : (f : ℕ → Option (List ℕ)) (high : ℕ) (es : Entries) → IsStrictlySortedBy nat_cmp (map (λ e. e.0) es) → Finds f 0 high es →
-    map (λ e. e.1) es ≡ flat_map (λ k. told (f k)) (all_below high)
+    map (λ e. e.1) es ≡ flat_map (λ k. header_list (f k)) (all_below high)
 unfolding all_below
 all_lists f high es sorted h = lists f 0 high high es (omega arith) (rising 0 es (from_zero (map (λ e. e.0) es)) sorted) h

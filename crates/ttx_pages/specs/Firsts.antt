@@ -2,12 +2,12 @@
 use Rattle.std.specs.Prelude.{◌≡◌, ℕ, ◌<◌, List, Option, Some, None, if◌then◌else◌}
 use Rattle.std.specs.BTreeMap.{BTreeMap, get}
 use Rattle.std.specs.Ordering.{nat_cmp}
-use Rattle.ttx_pages.specs.Keys.{heads}
+use Rattle.ttx_pages.specs.Keys.{is_header_of}
 
 -- the slot, where it is a header of the page
-abbrev pub header_of : ℕ → List ℕ → Option (List ℕ)
-header_of key slot = if heads key slot then Some slot else None
+abbrev pub header_by_key : ℕ → List ℕ → Option (List ℕ)
+header_by_key key slot = if is_header_of key slot then Some slot else None
 
 -- each key is the number of a page
-abbrev pub ArePages : BTreeMap ℕ (List ℕ) → Type 0
-ArePages firsts = (q : ℕ) (slot : List ℕ) → get nat_cmp firsts q ≡ Some slot → q < 37748736
+abbrev pub ArePageKeys : BTreeMap ℕ (List ℕ) → Type 0
+ArePageKeys firsts = (q : ℕ) (slot : List ℕ) → get nat_cmp firsts q ≡ Some slot → q < 37748736

@@ -1,55 +1,55 @@
 -- Pages by number, and under which page a packet is sent (EN 300 706, 9.3.1: a header opens a page of its magazine).
 --
---   key_of                  a page as one number: these rise by magazine, page number and subcode; none is 0
+--   page_key                a page as one number: these rise by magazine, page number and subcode; none is 0
 --   all_below               numbers, rising
---   heads, page_headers     a header of the page; the first header of each page
+--   is_header_of, page_headers    a header of the page; the first header of each page
 --   opened, opens           the page that each magazine has open after a slot, and after slots; 0 where it has none
---   page_at, owners_from, owners        the page of each slot of a cycle that is sent again and again
+--   page_open_at, owners_from, owners      the page of each slot of a cycle that is sent again and again
 --   sent_key, keys_from, keys_sent      the same of its headers, rows or packets X/27/0 alone
 use Rattle.std.specs.Prelude.{ℕ, ◌+◌, ◌*◌, ◌-◌, Bool, ◌&&◌, ◌==◌, List, [], ◌∷◌, ◌++◌, fold, replicate, slice_index, slice_set, Option, Some, None, if◌then◌else◌}
 use Rattle.std.specs.List.{find, flat_map, range_with_len}
 use Rattle.ttx_header.specs.Headers.{id_of, is_header}
 use Rattle.ttx_header.specs.Ids.{Id}
 use Rattle.ttx_packet.specs.Slots.{Kind, kind_of}
-use Rattle.ttx_pages.specs.Places.{place_in, key_at, place_of}
+use Rattle.ttx_pages.specs.Places.{magazine_place_in, open_key, magazine_place}
 use Rattle.ttx_pages.specs.declared.keys.Part.{Part}
 
-abbrev pub key_of : Id → ℕ
-key_of id = (id.mag * 256 + id.page) * 16384 + id.sub
+abbrev pub page_key : Id → ℕ
+page_key id = (id.mag * 256 + id.page) * 16384 + id.sub
 
 -- the numbers below n, rising
 unfoldable pub all_below : ℕ → List ℕ
 all_below n = range_with_len 0 n
 
 -- a header of the page
-abbrev pub heads : ℕ → List ℕ → Bool
-heads key slot = is_header slot && (key_of (id_of slot) == key)
+abbrev pub is_header_of : ℕ → List ℕ → Bool
+is_header_of key slot = is_header slot && (page_key (id_of slot) == key)
 
 -- a header, if there is one
-abbrev pub told : Option (List ℕ) → List (List ℕ)
-told None = []
-told (Some slot) = slot ∷ []
+abbrev pub header_list : Option (List ℕ) → List (List ℕ)
+header_list None = []
+header_list (Some slot) = slot ∷ []
 
 -- the first header of each page that has one, by rising numbers, of which the last of magazine 8 is 37748735
 abbrev pub page_headers : List (List ℕ) → List (List ℕ)
-page_headers slots = flat_map (λ key. told (find (heads key) slots)) (all_below 37748736)
+page_headers slots = flat_map (λ key. header_list (find (is_header_of key) slots)) (all_below 37748736)
 
 -- a header opens its page in its magazine
 abbrev pub opened : List ℕ → List ℕ → List ℕ
-opened current slot = if is_header slot then slice_set current ((id_of slot).mag - 1) (key_of (id_of slot)) else current
+opened current slot = if is_header slot then slice_set current ((id_of slot).mag - 1) (page_key (id_of slot)) else current
 
 -- which pages the eight magazines have open after these slots
 abbrev pub opens : List (List ℕ) → List ℕ
 opens slots = fold opened (replicate 8 0) slots
 
 -- the page that a magazine has open, of a packet that belongs to one, else 0
-abbrev pub page_at : List ℕ → Option ℕ → ℕ
-page_at current None = 0
-page_at current (Some place) = slice_index current place
+abbrev pub page_open_at : List ℕ → Option ℕ → ℕ
+page_open_at current None = 0
+page_open_at current (Some place) = slice_index current place
 
 abbrev pub owners_from : List ℕ → List (List ℕ) → List ℕ
 owners_from current [] = []
-owners_from current (slot ∷ slots) = page_at (opened current slot) (place_of (kind_of slot)) ∷ owners_from (opened current slot) slots
+owners_from current (slot ∷ slots) = page_open_at (opened current slot) (magazine_place (kind_of slot)) ∷ owners_from (opened current slot) slots
 
 -- the page that each slot of a cycle belongs to; a page that is open at the cycle's end is so at its beginning
 abbrev pub owners : List (List ℕ) → List ℕ
@@ -57,7 +57,7 @@ owners slots = owners_from (opens slots) slots
 
 -- the page that a packet of this part belongs to: the one that its magazine has open
 abbrev pub sent_key : Part → List ℕ → Kind → List ℕ
-sent_key part current kind = key_at current (place_in part kind)
+sent_key part current kind = open_key current (magazine_place_in part kind)
 
 abbrev pub keys_from : Part → List ℕ → List (List ℕ) → List ℕ
 keys_from part current [] = []

@@ -1,8 +1,8 @@
 -- The lines of `pages`.
 --
 --   quoted, quoted_text     characters as they stand between quotation marks
---   control_text, counts_text, head_text    the parts of a line: control bits, how often is sent what, the characters of a header
---   page_line               the line of a page
+--   control_text, counts_text, quoted_line    the parts of a line: control bits, how often is sent what, the characters of a header
+--   listed_line             the line of a page
 use Rattle.std.specs.Prelude.{ℕ, Bool, ◌||◌, ◌==◌, ◌%◌, List, [], ◌∷◌, ◌++◌, codes, nat_lt, if◌then◌else◌}
 use Rattle.std.specs.Fmt.{decimal}
 use Rattle.std.specs.Int.RustNames.{bit_and}
@@ -38,9 +38,9 @@ control_text control = set_names control control_table
 unfoldable pub counts_text : ℕ → ℕ → ℕ → List ℕ
 counts_text times rows links = codes " sent " ++ decimal times ++ codes " rows " ++ decimal rows ++ (if links == 0 then [] else codes " links")
 
-unfoldable pub head_text : List ℕ → List ℕ
-head_text bytes = codes " \"" ++ quoted_text bytes ++ codes "\"\n"
+unfoldable pub quoted_line : List ℕ → List ℕ
+quoted_line bytes = codes " \"" ++ quoted_text bytes ++ codes "\"\n"
 
 -- a page that is sent so many times, with so many rows and packets X/27/0, and the control bits and characters of a header of it
-unfoldable pub page_line : Id → ℕ → ℕ → ℕ → ℕ → List ℕ → List ℕ
-page_line id times rows links control text = id_text id ++ counts_text times rows links ++ control_text control ++ head_text text
+unfoldable pub listed_line : Id → ℕ → ℕ → ℕ → ℕ → List ℕ → List ℕ
+listed_line id times rows links control text = id_text id ++ counts_text times rows links ++ control_text control ++ quoted_line text

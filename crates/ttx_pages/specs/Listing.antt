@@ -2,8 +2,8 @@
 --
 --   times                   how many packets of a part a page has
 --   header_line             the line of a page, with the control bits and characters of one of its headers
---   listed                  the lines of all pages that have a header
---   is_info, is_other, is_blank, is_unreadable, is_corrected    tests of slots
+--   listed_lines            the lines of all pages that have a header
+--   is_info, is_other_packet, is_empty_slot, is_unreadable, is_corrected    tests of slots
 --   rest_line               the last line: what belongs to no page
 --   pages_text              the whole text
 use Rattle.std.specs.Prelude.{ℕ, Bool, true, false, not, ◌&&◌, ◌==◌, List, [], ◌∷◌, ◌++◌, codes, count_by, if◌then◌else◌}
@@ -11,8 +11,8 @@ use Rattle.std.specs.Fmt.{decimal}
 use Rattle.std.specs.List.{flat_map}
 use Rattle.ttx_header.specs.Headers.{fields_of, is_header}
 use Rattle.ttx_packet.specs.Slots.{Kind, kind_of, is_clean, IsEmpty, IsUnreadable, IsInfo, IsOther}
-use Rattle.ttx_pages.specs.Keys.{key_of, page_headers, keys_sent}
-use Rattle.ttx_pages.specs.Lines.{page_line}
+use Rattle.ttx_pages.specs.Keys.{page_key, page_headers, keys_sent}
+use Rattle.ttx_pages.specs.Lines.{listed_line}
 use Rattle.ttx_pages.specs.declared.keys.Part.{Part}
 use Rattle.ttx_pages.specs.declared.keys.Part.TheVariants.{Head, Row, Links}
 
@@ -24,12 +24,12 @@ times part slots key = count_by (λ k. k == key) (keys_sent part slots)
 unfoldable pub header_line : List (List ℕ) → List ℕ → List ℕ
 header_line slots slot =
     let h = fields_of slot in
-    let key = key_of h.id in
-    if is_header slot then page_line h.id (times Head slots key) (times Row slots key) (times Links slots key) h.control h.text else []
+    let key = page_key h.id in
+    if is_header slot then listed_line h.id (times Head slots key) (times Row slots key) (times Links slots key) h.control h.text else []
 
 -- a line for each page that has a header, rising
-abbrev pub listed : List (List ℕ) → List ℕ
-listed slots = flat_map (header_line slots) (page_headers slots)
+abbrev pub listed_lines : List (List ℕ) → List ℕ
+listed_lines slots = flat_map (header_line slots) (page_headers slots)
 
 -- tests of kinds
 abbrev pub info_kind : Kind → Bool
@@ -52,11 +52,11 @@ unreadable_kind kind = false
 abbrev pub is_info : List ℕ → Bool
 is_info slot = info_kind (kind_of slot)
 
-abbrev pub is_other : List ℕ → Bool
-is_other slot = other_kind (kind_of slot)
+abbrev pub is_other_packet : List ℕ → Bool
+is_other_packet slot = other_kind (kind_of slot)
 
-abbrev pub is_blank : List ℕ → Bool
-is_blank slot = empty_kind (kind_of slot)
+abbrev pub is_empty_slot : List ℕ → Bool
+is_empty_slot slot = empty_kind (kind_of slot)
 
 abbrev pub is_unreadable : List ℕ → Bool
 is_unreadable slot = unreadable_kind (kind_of slot)
@@ -70,10 +70,10 @@ unfoldable pub strays_text : List (List ℕ) → List ℕ
 strays_text slots = codes "rest rows " ++ decimal (times Row slots 0) ++ codes " links " ++ decimal (times Links slots 0)
 
 unfoldable pub others_text : List (List ℕ) → List ℕ
-others_text slots = codes " info " ++ decimal (count_by is_info slots) ++ codes " other " ++ decimal (count_by is_other slots)
+others_text slots = codes " info " ++ decimal (count_by is_info slots) ++ codes " other " ++ decimal (count_by is_other_packet slots)
 
 unfoldable pub unread_text : List (List ℕ) → List ℕ
-unread_text slots = codes " empty " ++ decimal (count_by is_blank slots) ++ codes " unreadable " ++ decimal (count_by is_unreadable slots)
+unread_text slots = codes " empty " ++ decimal (count_by is_empty_slot slots) ++ codes " unreadable " ++ decimal (count_by is_unreadable slots)
 
 unfoldable pub corrected_text : List (List ℕ) → List ℕ
 corrected_text slots = codes " corrected " ++ decimal (count_by is_corrected slots)
@@ -86,4 +86,4 @@ rest_line slots = strays_text slots ++ others_text slots ++ slots_text slots
 
 -- a line for each page, and the line of the rest
 abbrev pub pages_text : List (List ℕ) → List ℕ
-pages_text slots = listed slots ++ rest_line slots
+pages_text slots = listed_lines slots ++ rest_line slots

@@ -1,9 +1,9 @@
 -- What `pages` writes for the bytes of a packet file.
 --
 --   IsFileOf                the bytes are the packet file of these slots
---   Writes                  what was written at each answer
+--   WritesTextOf            what was written at each answer
 --   CountsPages             faults of devices are answered only where they were counted
---   IsUntouched             at each fault but that of a write, what could be written to is as it was
+--   IsUntouchedByPages      at each fault but that of a write, what could be written to is as it was
 use Rattle.std.specs.Prelude.{◌≡◌, ℕ, ◌<◌, List, length, take, ⊤, Option, Result, Ok, Err}
 use Rattle.std.specs.Io.KnownBytes.{Appends, Keeps}
 use Rattle.ttx_cycle.specs.Counts.{HasRisen}
@@ -18,12 +18,12 @@ pub record IsFileOf (bytes : List ℕ) (slots : List (List ℕ)) : Type 0 where
   pub same : bytes ≡ file_of slots
 
 -- Ok: the text of the slots went out. A write fault: the first `written` bytes of it. Else nothing, and the file is refused as it is judged.
-abbrev pub Writes : {U : Type 0} → (List (List ℕ) → List ℕ) → List ℕ → Option (List ℕ) → Option (List ℕ) → Result U PagesFault → Type 0
-Writes text bytes old new (Ok _) = (slots : List (List ℕ)) × IsFileOf bytes slots × Appends old new (text slots)
-Writes text bytes old new (Err (Write written)) =
+abbrev pub WritesTextOf : {U : Type 0} → (List (List ℕ) → List ℕ) → List ℕ → Option (List ℕ) → Option (List ℕ) → Result U PagesFault → Type 0
+WritesTextOf text bytes old new (Ok _) = (slots : List (List ℕ)) × IsFileOf bytes slots × Appends old new (text slots)
+WritesTextOf text bytes old new (Err (Write written)) =
     (slots : List (List ℕ)) × IsFileOf bytes slots × (written < length (text slots)) × Appends old new (take written (text slots))
-Writes text bytes old new (Err (Cycle fault)) = Judged bytes (Err fault) × Keeps old new
-Writes text bytes old new (Err NoMemory) = Keeps old new
+WritesTextOf text bytes old new (Err (Cycle fault)) = Judged bytes (Err fault) × Keeps old new
+WritesTextOf text bytes old new (Err NoMemory) = Keeps old new
 
 -- the faults counted by the reader and by the writer, before and after
 abbrev pub CountsPages : {U : Type 0} → Result U PagesFault → ℕ → ℕ → ℕ → ℕ → Type 0
@@ -36,7 +36,7 @@ CountsPages (Err (Cycle cycle.NoMemory)) read_old read_new write_old write_new =
 CountsPages (Err (Write written)) read_old read_new write_old write_new = HasRisen write_old write_new
 CountsPages (Err NoMemory) read_old read_new write_old write_new = ⊤
 
-abbrev pub IsUntouched : {T W : Type 0} → Result T PagesFault → W → W → Type 0
-IsUntouched (Ok answer) old new = ⊤
-IsUntouched (Err (Write written)) old new = ⊤
-IsUntouched (Err fault) old new = new ≡ old
+abbrev pub IsUntouchedByPages : {T W : Type 0} → Result T PagesFault → W → W → Type 0
+IsUntouchedByPages (Ok answer) old new = ⊤
+IsUntouchedByPages (Err (Write written)) old new = ⊤
+IsUntouchedByPages (Err fault) old new = new ≡ old

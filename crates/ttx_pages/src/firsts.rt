@@ -5,23 +5,23 @@ ghost use Rattle.std.specs.List.{find};
 ghost use Rattle.std.specs.Ordering.{nat_cmp};
 ghost use Rattle.std.specs.BTreeMap as tree;
 ghost use Rattle.std.specs.Option.{option_or};
-ghost use Rattle.ttx_pages.specs.Firsts.{header_of, ArePages};
-ghost use Rattle.ttx_pages.specs.Keys.{heads, page_headers};
+ghost use Rattle.ttx_pages.specs.Firsts.{header_by_key, ArePageKeys};
+ghost use Rattle.ttx_pages.specs.Keys.{is_header_of, page_headers};
 
-use crate::keys::key_of;
+use crate::keys::page_key;
 use std::alloc::{AllocError, Global};
 use std::collections::BTreeMap;
 use ttx_header::read_header;
 
 // Keeps a header, unless one of its page is kept already.
 fn keep_first(firsts: &mut BTreeMap<u32, [u8; 42]>, slot: &[u8; 42]) -> Result<(), AllocError>
-    ensures first { OnOk result ((q : ℕ) → tree.get nat_cmp firsts.new q ≡ option_or (tree.get nat_cmp firsts.old q) (header_of q slot.now)) }
-    ensures pages { OnOk result (ArePages firsts.old → ArePages firsts.new) }
+    ensures first { OnOk result ((q : ℕ) → tree.get nat_cmp firsts.new q ≡ option_or (tree.get nat_cmp firsts.old q) (header_by_key q slot.now)) }
+    ensures pages { OnOk result (ArePageKeys firsts.old → ArePageKeys firsts.new) }
 {
     let Some(header) = read_header(slot) else {
         return Ok(());
     };
-    let key = key_of(header.id());
+    let key = page_key(header.id());
     if !firsts.contains_key(&key) {
         firsts.insert(key, *slot)?;
     }
@@ -30,8 +30,8 @@ fn keep_first(firsts: &mut BTreeMap<u32, [u8; 42]>, slot: &[u8; 42]) -> Result<(
 
 // The first header of each page that has one, by the number of the page.
 fn first_headers(alloc: Global, slots: &[[u8; 42]]) -> Result<BTreeMap<u32, [u8; 42]>, AllocError>
-    ensures first { IfOk result (λ firsts. (q : ℕ) → tree.get nat_cmp firsts q ≡ find (heads q) slots.now) }
-    ensures pages { IfOk result ArePages }
+    ensures first { IfOk result (λ firsts. (q : ℕ) → tree.get nat_cmp firsts q ≡ find (is_header_of q) slots.now) }
+    ensures pages { IfOk result ArePageKeys }
 {
     let mut firsts: BTreeMap<u32, [u8; 42]> = BTreeMap::new(alloc);
     for slot in slots {

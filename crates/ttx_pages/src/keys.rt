@@ -2,8 +2,8 @@
 
 ghost use Rattle.std.specs.Prelude.{◌≡◌, ◌<◌, ◌-◌, IfOk, IfSome, length, fold, replicate};
 ghost use Rattle.ttx_packet.specs.Slots.{kind_of};
-ghost use Rattle.ttx_pages.specs.Keys.{key_of, opened, opens, page_at, owners, keys_sent};
-ghost use Rattle.ttx_pages.specs.Places.{place_in, place_of};
+ghost use Rattle.ttx_pages.specs.Keys.{page_key, opened, opens, page_open_at, owners, keys_sent};
+ghost use Rattle.ttx_pages.specs.Places.{magazine_place_in, magazine_place};
 
 use std::alloc::{AllocError, Global};
 use ttx_header::{PageId, read_header};
@@ -21,8 +21,8 @@ pub enum Part {
 }
 
 /// A page as one number: these rise by magazine, page number and subcode.
-pub fn key_of(id: PageId) -> u32
-    ensures value { result ≡ key_of id }
+pub fn page_key(id: PageId) -> u32
+    ensures value { result ≡ page_key id }
     ensures range { result < 37748736 }
 {
     (u32::from(id.mag()) * 256 + u32::from(id.page())) * 16384 + u32::from(id.sub())
@@ -34,7 +34,7 @@ pub fn open_page(current: &mut [u32; 8], slot: &[u8; 42])
 {
     if let Some(header) = read_header(slot) {
         let id = header.id();
-        current[usize::from(id.mag()) - 1] = key_of(id);
+        current[usize::from(id.mag()) - 1] = page_key(id);
     }
 }
 
@@ -56,8 +56,8 @@ fn open_pages(slots: &[[u8; 42]]) -> [u32; 8]
 }
 
 // The magazine, counted from 0, of a packet of this part.
-fn place_in(part: Part, slot: &[u8; 42]) -> Option<usize>
-    ensures value { result ≡ place_in part (kind_of slot.now) }
+fn magazine_place_in(part: Part, slot: &[u8; 42]) -> Option<usize>
+    ensures value { result ≡ magazine_place_in part (kind_of slot.now) }
     ensures range { IfSome result (λ place. place < 8) }
 {
     let at = match (part, slot_of(slot)) {
@@ -77,7 +77,7 @@ pub fn keys_sent(alloc: Global, part: Part, slots: &[[u8; 42]]) -> Result<Vec<u3
     let mut keys = Vec::new(alloc);
     for slot in slots {
         open_page(&mut current, slot);
-        if let Some(place) = place_in(part, slot) {
+        if let Some(place) = magazine_place_in(part, slot) {
             keys.push(current[place])?;
         }
     }
@@ -85,8 +85,8 @@ pub fn keys_sent(alloc: Global, part: Part, slots: &[[u8; 42]]) -> Result<Vec<u3
 }
 
 // The magazine, counted from 0, of a packet that belongs to a page.
-fn place_of(slot: &[u8; 42]) -> Option<usize>
-    ensures value { result ≡ place_of (kind_of slot.now) }
+fn magazine_place(slot: &[u8; 42]) -> Option<usize>
+    ensures value { result ≡ magazine_place (kind_of slot.now) }
     ensures range { IfSome result (λ place. place < 8) }
 {
     let at = match slot_of(slot) {
@@ -99,10 +99,10 @@ fn place_of(slot: &[u8; 42]) -> Option<usize>
 }
 
 // The page that the slot's magazine has open.
-fn page_at(current: &[u32; 8], slot: &[u8; 42]) -> u32
-    ensures { result ≡ page_at current.now (place_of (kind_of slot.now)) }
+fn page_open_at(current: &[u32; 8], slot: &[u8; 42]) -> u32
+    ensures { result ≡ page_open_at current.now (magazine_place (kind_of slot.now)) }
 {
-    match place_of(slot) {
+    match magazine_place(slot) {
         Some(place) => current[place],
         None => 0,
     }
@@ -117,7 +117,7 @@ pub fn owners(alloc: Global, slots: &[[u8; 42]]) -> Result<Vec<u32>, AllocError>
     let mut pages = Vec::new(alloc);
     for slot in slots {
         open_page(&mut current, slot);
-        pages.push(page_at(&current, slot))?;
+        pages.push(page_open_at(&current, slot))?;
     }
     Ok(pages)
 }

@@ -1,7 +1,7 @@
 //! The line of a page.
 
 ghost use Rattle.std.specs.Prelude.{◌≡◌, ◌<◌, ◌++◌, ◌∷◌, [], OnOk, codes, map, string_bytes};
-ghost use Rattle.ttx_pages.specs.Lines.{character, quoted, quoted_text, set_names, control_text, counts_text, head_text, page_line};
+ghost use Rattle.ttx_pages.specs.Lines.{character, quoted, quoted_text, set_names, control_text, counts_text, quoted_line, listed_line};
 ghost use Rattle.ttx_witness.specs.CertificateTexts.{hex_byte};
 
 use bitflags::{Flag, Flags};
@@ -92,9 +92,9 @@ fn push_counts(text: &mut String, times: usize, rows: usize, links: usize) -> Re
     Ok(())
 }
 
-#[tactic(auto, unfolding(crate::specs::Lines::head_text))]
+#[tactic(auto, unfolding(crate::specs::Lines::quoted_line))]
 fn push_text(text: &mut String, bytes: &[u8]) -> Result<(), AllocError>
-    ensures { OnOk result (string_bytes text.new ≡ string_bytes text.old ++ head_text bytes.now) }
+    ensures { OnOk result (string_bytes text.new ≡ string_bytes text.old ++ quoted_line bytes.now) }
 {
     text.push_str(" \"")?;
     push_characters(text, bytes)?;
@@ -102,7 +102,7 @@ fn push_text(text: &mut String, bytes: &[u8]) -> Result<(), AllocError>
 }
 
 /// Adds the line of a page that has so many headers, rows and packets X/27/0.
-#[tactic(auto, unfolding(crate::specs::Lines::page_line))]
+#[tactic(auto, unfolding(crate::specs::Lines::listed_line))]
 pub(crate) fn push_page_line(
     text: &mut String,
     header: &Header,
@@ -110,7 +110,8 @@ pub(crate) fn push_page_line(
     rows: usize,
     links: usize,
 ) -> Result<(), AllocError>
-    ensures { OnOk result (string_bytes text.new ≡ string_bytes text.old ++ page_line header.now.id times rows links header.now.control header.now.text) }
+    ensures { OnOk result (string_bytes text.new ≡ string_bytes text.old
+        ++ listed_line header.now.id times rows links header.now.control header.now.text) }
 {
     push_id(text, header.id())?;
     push_counts(text, times, rows, links)?;

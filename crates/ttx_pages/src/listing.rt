@@ -2,11 +2,11 @@
 
 ghost use Rattle.std.specs.Prelude.{◌≡◌, ◌++◌, ℕ, List, IfOk, OnOk, string_bytes};
 ghost use Rattle.std.specs.List.{flat_map};
-ghost use Rattle.ttx_pages.specs.Listing.{listed, strays_text, rest_line, pages_text};
-ghost use Rattle.ttx_pages.specs.Counting.{Counts, counted_line};
+ghost use Rattle.ttx_pages.specs.Listing.{listed_lines, strays_text, rest_line, pages_text};
+ghost use Rattle.ttx_pages.specs.Counting.{CountsPackets, counted_line};
 
 use crate::firsts::page_headers;
-use crate::keys::{Part, key_of, keys_sent};
+use crate::keys::{Part, keys_sent, page_key};
 use crate::lines::push_page_line;
 use crate::rest::{push_others, push_slots};
 use crate::tallies::{count_of, tally};
@@ -28,14 +28,15 @@ fn counts_of(
     part: Part,
     slots: &[[u8; 42]],
 ) -> Result<BTreeMap<u32, usize>, AllocError>
-    ensures { IfOk result (λ counts. Counts part slots.now counts) }
+    ensures { IfOk result (λ counts. CountsPackets part slots.now counts) }
 {
     let keys = keys_sent(alloc, part, slots)?;
     tally(alloc, keys.as_slice())
 }
 
 fn all_counts(alloc: Global, slots: &[[u8; 42]]) -> Result<Sent, AllocError>
-    ensures { IfOk result (λ all. Counts Part.Head slots.now all.heads × Counts Part.Row slots.now all.rows × Counts Part.Links slots.now all.links) }
+    ensures { IfOk result (λ all. CountsPackets Part.Head slots.now all.heads × CountsPackets Part.Row slots.now all.rows
+        × CountsPackets Part.Links slots.now all.links) }
 {
     Ok(Sent {
         heads: counts_of(alloc, Part::Head, slots)?,
@@ -52,7 +53,7 @@ fn push_header_line(text: &mut String, all: &Sent, slot: &[u8; 42]) -> Result<()
     let Some(header) = read_header(slot) else {
         return Ok(());
     };
-    let key = key_of(header.id());
+    let key = page_key(header.id());
     let times = count_of(&all.heads, key);
     let rows = count_of(&all.rows, key);
     let links = count_of(&all.links, key);
@@ -76,10 +77,10 @@ fn push_listed(
     all: &Sent,
     slots: &[[u8; 42]],
 ) -> Result<(), AllocError>
-    requires heads { Counts Part.Head slots.now all.now.heads }
-    requires rows { Counts Part.Row slots.now all.now.rows }
-    requires links { Counts Part.Links slots.now all.now.links }
-    ensures { OnOk result (string_bytes text.new ≡ string_bytes text.old ++ listed slots.now) }
+    requires heads { CountsPackets Part.Head slots.now all.now.heads }
+    requires rows { CountsPackets Part.Row slots.now all.now.rows }
+    requires links { CountsPackets Part.Links slots.now all.now.links }
+    ensures { OnOk result (string_bytes text.new ≡ string_bytes text.old ++ listed_lines slots.now) }
 {
     let headers = page_headers(alloc, slots)?;
     push_lines(text, all, headers.as_slice())
@@ -87,7 +88,8 @@ fn push_listed(
 
 #[tactic(auto, unfolding(crate::specs::Listing::strays_text))]
 fn push_strays(text: &mut String, all: &Sent) -> Result<(), AllocError>
-    ensures { OnOk result ((slots : List (List ℕ)) → Counts Part.Row slots all.now.rows → Counts Part.Links slots all.now.links → string_bytes text.new ≡ string_bytes text.old ++ strays_text slots) }
+    ensures { OnOk result ((slots : List (List ℕ)) → CountsPackets Part.Row slots all.now.rows → CountsPackets Part.Links slots all.now.links →
+        string_bytes text.new ≡ string_bytes text.old ++ strays_text slots) }
 {
     let rows = count_of(&all.rows, 0);
     let links = count_of(&all.links, 0);

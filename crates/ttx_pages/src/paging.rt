@@ -3,7 +3,7 @@
 ghost use Rattle.std.specs.Prelude.{IfSome};
 ghost use Rattle.ttx_cycle.specs.Counters.{inner_of, faults_of};
 ghost use Rattle.ttx_pages.specs.Listing.{pages_text};
-ghost use Rattle.ttx_pages.specs.Paging.{Writes, CountsPages, IsUntouched};
+ghost use Rattle.ttx_pages.specs.Paging.{WritesTextOf, CountsPages, IsUntouchedByPages};
 
 use crate::faults::PagesFault;
 use crate::listing::pages_text;
@@ -21,9 +21,9 @@ pub fn pages<R: Read, W: Write>(
     writer: &mut Counted<W>,
 ) -> Result<(), PagesFault>
     ensures bytes { IfSome (R.remaining (inner_of reader.old))
-        (λ bytes. Writes pages_text bytes (W.contents (inner_of writer.old)) (W.contents (inner_of writer.new)) result) }
+        (λ bytes. WritesTextOf pages_text bytes (W.contents (inner_of writer.old)) (W.contents (inner_of writer.new)) result) }
     ensures faults { CountsPages result (faults_of reader.old) (faults_of reader.new) (faults_of writer.old) (faults_of writer.new) }
-    ensures untouched { IsUntouched result writer.old writer.new }
+    ensures untouched { IsUntouchedByPages result writer.old writer.new }
 {
     let cycle = read_cycle(alloc, reader).map_err(PagesFault::Cycle)?;
     let text = pages_text(alloc, cycle.slots()).map_err(|_| PagesFault::NoMemory)?;

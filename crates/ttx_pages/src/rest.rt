@@ -2,7 +2,8 @@
 
 ghost use Rattle.std.specs.Prelude.{◌≡◌, ◌++◌, ◌∷◌, [], OnOk, codes, count_by, string_bytes};
 ghost use Rattle.std.specs.Fmt.{decimal};
-ghost use Rattle.ttx_pages.specs.Listing.{is_info, is_other, is_blank, is_unreadable, is_corrected, others_text, unread_text, corrected_text, slots_text};
+ghost use Rattle.ttx_pages.specs.Listing.{is_info, is_other_packet, is_empty_slot, is_unreadable, is_corrected, others_text, unread_text};
+ghost use Rattle.ttx_pages.specs.Listing.{corrected_text, slots_text};
 
 use std::alloc::AllocError;
 use ttx_packet::{Slot, clean, slot_of};
@@ -16,8 +17,8 @@ fn is_info(slot: &[u8; 42]) -> bool
     }
 }
 
-fn is_other(slot: &[u8; 42]) -> bool
-    ensures { result ≡ is_other slot.now }
+fn is_other_packet(slot: &[u8; 42]) -> bool
+    ensures { result ≡ is_other_packet slot.now }
 {
     match slot_of(slot) {
         Slot::Other(_) => true,
@@ -25,8 +26,8 @@ fn is_other(slot: &[u8; 42]) -> bool
     }
 }
 
-fn is_blank(slot: &[u8; 42]) -> bool
-    ensures { result ≡ is_blank slot.now }
+fn is_empty_slot(slot: &[u8; 42]) -> bool
+    ensures { result ≡ is_empty_slot slot.now }
 {
     match slot_of(slot) {
         Slot::Empty => true,
@@ -56,15 +57,15 @@ fn infos(slots: &[[u8; 42]]) -> usize
 }
 
 fn others(slots: &[[u8; 42]]) -> usize
-    ensures { result ≡ count_by is_other slots.now }
+    ensures { result ≡ count_by is_other_packet slots.now }
 {
-    slots.iter().filter(|slot| is_other(slot)).count()
+    slots.iter().filter(|slot| is_other_packet(slot)).count()
 }
 
 fn blanks(slots: &[[u8; 42]]) -> usize
-    ensures { result ≡ count_by is_blank slots.now }
+    ensures { result ≡ count_by is_empty_slot slots.now }
 {
-    slots.iter().filter(|slot| is_blank(slot)).count()
+    slots.iter().filter(|slot| is_empty_slot(slot)).count()
 }
 
 fn unreadables(slots: &[[u8; 42]]) -> usize

@@ -2,7 +2,8 @@
 
 ghost use Rattle.std.specs.Prelude.{◌≡◌, ◌++◌, [], None, OnOk, codes, string_bytes};
 ghost use Rattle.ttx_picture.specs.Svg.{style};
-ghost use Rattle.ttx_picture.specs.Html.{key_class, key_start, key_title, key_end, key_html, keys_html, html_start, page_style, key_style, head_end, head_html, picture_html, nav_html, text_html, sheet, figure_html, html_of, coloured_link};
+ghost use Rattle.ttx_picture.specs.Html.{key_class, key_start, key_title, key_end, key_html, keys_html, html_start, page_style, key_style};
+ghost use Rattle.ttx_picture.specs.Html.{head_end, head_html, picture_html, nav_html, text_html, sheet, figure_html, html_of, coloured_link};
 
 use crate::links::push_target;
 use crate::svg::{push_body, push_style, push_svg_start};
@@ -74,7 +75,8 @@ fn push_key(
 }
 
 fn push_three_keys(text: &mut String, view: &View) -> Result<(), AllocError>
-    ensures { OnOk result (string_bytes text.new ≡ string_bytes text.old ++ key_html (codes "Red") 1 (coloured_link view.now 0) ++ key_html (codes "Green") 2 (coloured_link view.now 1) ++ key_html (codes "Yellow") 3 (coloured_link view.now 2)) }
+    ensures { OnOk result (string_bytes text.new ≡ string_bytes text.old ++ key_html (codes "Red") 1 (coloured_link view.now 0)
+        ++ key_html (codes "Green") 2 (coloured_link view.now 1) ++ key_html (codes "Yellow") 3 (coloured_link view.now 2)) }
 {
     push_key(text, "Red", 1, &view.links[0])?;
     push_key(text, "Green", 2, &view.links[1])?;

@@ -1,7 +1,8 @@
 //! A View as a picture.
 
 ghost use Rattle.std.specs.Prelude.{◌≡◌, ◌<◌, ◌++◌, OnOk, string_bytes};
-ghost use Rattle.ttx_picture.specs.Svg.{group_start, row_ground, row_tall, row_glyphs, has_upper, is_upper, grounds_from, glyphs_from, pass, black_screen, body, svg_start, svg_of};
+ghost use Rattle.ttx_picture.specs.Svg.{group_start, row_ground, row_tall, row_glyphs, has_upper, is_upper, grounds_from, glyphs_from, pass};
+ghost use Rattle.ttx_picture.specs.Svg.{black_screen, body, svg_start, svg_of};
 
 mod letters;
 mod pens;

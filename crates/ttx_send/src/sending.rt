@@ -91,7 +91,8 @@ pub fn send<W: Write>(
     requires most { lines ≤ 32 }
     ensures bytes { Writes (file_of (sent_slots (sending_of (slots_of cycle.now) lines phase start.now) fields))
         (W.contents (inner_of writer.old)) (W.contents (inner_of writer.new)) result }
-    ensures faults { MatchResult result (λ _. faults_of writer.new ≡ faults_of writer.old) (λ _. HasRisen (faults_of writer.old) (faults_of writer.new)) }
+    ensures faults { MatchResult result (λ _. faults_of writer.new ≡ faults_of writer.old)
+        (λ _. HasRisen (faults_of writer.old) (faults_of writer.new)) }
 {
     let slots = cycle.slots();
     let lines = usize::from(lines);

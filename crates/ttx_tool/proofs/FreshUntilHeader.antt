@@ -9,7 +9,7 @@ use Rattle.ttx_page.specs.declared.class.Class.{Class}
 use Rattle.ttx_page.specs.declared.selection.Selection.{Selection}
 use Rattle.ttx_page.specs.Receivers.{older, erased, begun, erases, misses, with_row, with_storing, with_links, stored_row, after, Run}
 use Rattle.ttx_page.specs.Streams.{heads_matched}
-use Rattle.ttx_tool.specs.Showing.{has_header, stays_fresh}
+use Rattle.ttx_tool.specs.Showing.{has_matching_header, stays_fresh}
 
 and_true : (b : Bool) → b ≡ (b && not false)
 and_true true = refl
@@ -57,4 +57,4 @@ fresh_run class lines sel m new [] run = ap (λ (x : Memory). x.fresh) run ∙ a
 fresh_run class lines sel m new (slot ∷ rest) run =
     let first : (run.0).fresh ≡ (m.fresh && not (heads_matched sel (packet_of slot))) =
     ap (λ (x : Memory). x.fresh) run.1.is ∙ fresh_after class lines sel run.1.choice (older m) (packet_of slot) in
-    fresh_run class lines sel run.0 new rest run.2 ∙ ap (λ b. b && not (has_header sel rest)) first ∙ and_not_or m.fresh (heads_matched sel (packet_of slot)) (has_header sel rest)
+    fresh_run class lines sel run.0 new rest run.2 ∙ ap (λ b. b && not (has_matching_header sel rest)) first ∙ and_not_or m.fresh (heads_matched sel (packet_of slot)) (has_matching_header sel rest)

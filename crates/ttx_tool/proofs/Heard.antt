@@ -8,7 +8,7 @@ use Rattle.ttx_page.specs.Receivers.{Step, Run}
 use Rattle.ttx_page.specs.Streams.{Stream, repeated}
 use Rattle.ttx_page.specs.declared.class.Class.{Class}
 use Rattle.ttx_page.specs.declared.selection.Selection.{Selection}
-use Rattle.ttx_tool.specs.Receiving.{tuning_at, Hears}
+use Rattle.ttx_tool.specs.Receiving.{tuned_as, Hears}
 
 -- the slots that are sent, and one more
 sent_more : (s : Stream) (a n : ℕ) → sent_from s (pos a) (suc n) ≡ sent_from s (pos a) n ++ s (pos (a + n)) ∷ []
@@ -20,8 +20,8 @@ sent_more s a (suc n) =
 -- the receiver hears the slot where the cycle stands
 pub hears_more : RunsGoOn → {class class' : Class} {lines lines' : ℕ} {sel sel' : Selection} {mid new : Memory} (old : Memory) (slots : List (List ℕ)) (start count at : ℕ) →
     class' ≡ class → lines' ≡ lines → sel' ≡ sel → at ≡ (start + count) % length slots →
-    Hears (tuning_at class lines sel) slots start count old mid → Step class' lines' sel' mid (get_or slots at []) new →
-    Hears (tuning_at class lines sel) slots start (count + 1) old new
+    Hears (tuned_as class lines sel) slots start count old mid → Step class' lines' sel' mid (get_or slots at []) new →
+    Hears (tuned_as class lines sel) slots start (count + 1) old new
 hears_more law {class} {class'} {lines} {lines'} {sel} {sel'} {mid} {new} old slots start count at a b c place run step =
     let heard = subst (λ i. Step class' lines' sel' mid (get_or slots i []) new) place step in
     let next : count + 1 ≡ suc count = omega arith in

@@ -13,7 +13,7 @@ use Rattle.ttx_page.specs.declared.class.Class.{Class}
 use Rattle.ttx_plan.specs.Acceptance.{IsPlanned, PlannedIsFound}
 use Rattle.ttx_plan.specs.Following.{AreFollowed, PlannedIsFollowed}
 use Rattle.ttx_source.specs.Services.{ServiceFields, pages_of, read_bytes}
-use Rattle.ttx_tool.specs.FindingFiles.{Tells, IsFinding, Finds}
+use Rattle.ttx_tool.specs.FindingFiles.{TellsFound, IsFinding, FindsFiles}
 use Rattle.ttx_tool.specs.PlannedFiles as T
 use Rattle.ttx_tool.specs.PlannedFiles.{IsCertified, FoundIsCertified, SaysYes, LateIsCertified, FindsDeadline, MakesCertified}
 use Rattle.ttx_tool.specs.declared.faults.ToolFault.{ToolFault}
@@ -27,7 +27,7 @@ use Rattle.ttx_witness.specs.finding.Finding.{IsFoundFor}
 
 -- where there is a deadline the status is 0
 deadline_told : (slots : List (List ℕ)) (service : ServiceFields) (w : CertificateFields) (answer : Option ℕ) (deadline : ℕ) (file line : List ℕ) (status : ℕ) →
-    answer ≡ Some deadline → Tells slots service w answer file line status → status ≡ 0
+    answer ≡ Some deadline → TellsFound slots service w answer file line status → status ≡ 0
 deadline_told slots service w None deadline file line status e t = cc
 deadline_told slots service w (Some d) deadline file line status e t = t.2
 
@@ -43,11 +43,11 @@ planned_is_found law a b late class p repeat one eight file line status f =
 -- ---- what is found is accepted, and its text is that of one certificate
 
 accepted_of : (slots : List (List ℕ)) (service : ServiceFields) (repeat : ℕ) (class : Class) (w : CertificateFields) (answer : Option ℕ) (file line : List ℕ) →
-    IsFoundFor slots (pages_of service) repeat service.lines class (certificate_at w) answer → Tells slots service w answer file line 0 → Accepts slots (pages_of service) (certificate_at w)
+    IsFoundFor slots (pages_of service) repeat service.lines class (certificate_at w) answer → TellsFound slots service w answer file line 0 → Accepts slots (pages_of service) (certificate_at w)
 accepted_of slots service repeat class w None file line f t = cc
 accepted_of slots service repeat class w (Some d) file line f t = f.least.1
 
-text_of : (slots : List (List ℕ)) (service : ServiceFields) (w : CertificateFields) (answer : Option ℕ) (file line : List ℕ) → Tells slots service w answer file line 0 → file ≡ certificate_text w
+text_of : (slots : List (List ℕ)) (service : ServiceFields) (w : CertificateFields) (answer : Option ℕ) (file line : List ℕ) → TellsFound slots service w answer file line 0 → file ≡ certificate_text w
 text_of slots service w None file line t = cc
 text_of slots service w (Some d) file line t = t.0
 
@@ -96,14 +96,14 @@ late_is_certified law followed a b class p asked repeat file line f verdict said
 -- ---- what `find` answers and writes
 
 module _ (repeat : ℕ) (class : Class) (file_old file_new old new : Option (List ℕ)) where
-  finds_deadline : T.PlannedIsFound → 1 ≤ repeat → repeat ≤ 8 → (a b : List ℕ) (result : Result ℕ ToolFault) → Finds a b repeat class file_old file_new old new result → FindsDeadline a b class result
+  finds_deadline : T.PlannedIsFound → 1 ≤ repeat → repeat ≤ 8 → (a b : List ℕ) (result : Result ℕ ToolFault) → FindsFiles a b repeat class file_old file_new old new result → FindsDeadline a b class result
   finds_deadline law one eight a b (Ok status) f = λ late p. law a b late class p repeat one eight f.0 f.1 status f.2
   finds_deadline law one eight a b (Err fault) f = tt
 
   written : (bytes file : List ℕ) → Appends (Some []) (Some file) bytes → bytes ≡ file
   written bytes file a = sym a
 
-  makes_certified : FoundIsCertified → (a b : List ℕ) (result : Result ℕ ToolFault) → Finds a b repeat class file_old file_new old new result → MakesCertified a b file_old file_new result
+  makes_certified : FoundIsCertified → (a b : List ℕ) (result : Result ℕ ToolFault) → FindsFiles a b repeat class file_old file_new old new result → MakesCertified a b file_old file_new result
   makes_certified law a b (Err fault) f file empty full zero = cc
   makes_certified law a b (Ok status) f file empty full zero =
       let none : status ≡ 0 = cc in
@@ -111,13 +111,13 @@ module _ (repeat : ℕ) (class : Class) (file_old file_new old new : Option (Lis
       subst (IsCertified a b) (written f.0 file there) (law a b class repeat f.0 f.1 (subst (IsFinding a b repeat class f.0 f.1) none f.2))
 
   pub all_find : T.PlannedIsFound → 1 ≤ repeat → repeat ≤ 8 → (a b : Option (List ℕ)) (result : Result ℕ ToolFault) →
-      IfSome a (λ x. IfSome b (λ y. Finds x y repeat class file_old file_new old new result)) → IfSome a (λ x. IfSome b (λ y. FindsDeadline x y class result))
+      IfSome a (λ x. IfSome b (λ y. FindsFiles x y repeat class file_old file_new old new result)) → IfSome a (λ x. IfSome b (λ y. FindsDeadline x y class result))
   all_find law one eight (Some a) (Some b) result f = finds_deadline law one eight a b result f
   all_find law one eight (Some a) None result f = tt
   all_find law one eight None b result f = tt
 
   pub all_certify : FoundIsCertified → (a b : Option (List ℕ)) (result : Result ℕ ToolFault) →
-      IfSome a (λ x. IfSome b (λ y. Finds x y repeat class file_old file_new old new result)) → IfSome a (λ x. IfSome b (λ y. MakesCertified x y file_old file_new result))
+      IfSome a (λ x. IfSome b (λ y. FindsFiles x y repeat class file_old file_new old new result)) → IfSome a (λ x. IfSome b (λ y. MakesCertified x y file_old file_new result))
   all_certify law (Some a) (Some b) result f = makes_certified law a b result f
   all_certify law (Some a) None result f = tt
   all_certify law None b result f = tt

@@ -12,7 +12,7 @@ use Rattle.ttx_page.specs.declared.class.Class.TheVariants.{Any}
 use Rattle.ttx_page.specs.declared.page.Page.{Page as PageValue}
 use Rattle.ttx_source.specs.Services as S
 use Rattle.ttx_source.specs.Services.{ServiceFields, pages_of}
-use Rattle.ttx_tool.specs.RefutingFiles.{TellsAnswer, IsRefutation, IsRefuting}
+use Rattle.ttx_tool.specs.RefutingFiles.{TellsAnswer, IsRefutation, IsRefutingFiles}
 use Rattle.ttx_witness.specs.sent.Collected.{ids_of}
 use Rattle.ttx_witness.specs.Entries.{CertificateFields}
 use Rattle.ttx_witness.specs.finding.Finding.{IsSentUnchanged, CanBeAccepted}
@@ -49,7 +49,7 @@ refutation slots pages service w save same any answer exact file line status tol
 pub refuting_of : (slots : List (List ℕ)) (service : ServiceFields) (w : CertificateFields) (a b c : Option (List ℕ)) (save : Bool) (file line : List ℕ) (status : ℕ) →
     IsRefutation slots service w save file line status →
     IfSome a (λ x. IfSome b (λ y. IfSome c (λ z. IsPacketFile x slots × IsServiceText y service × IsCertificateText z w))) →
-    IfSome a (λ x. IfSome b (λ y. IfSome c (λ z. IsRefuting x y z save file line status)))
+    IfSome a (λ x. IfSome b (λ y. IfSome c (λ z. IsRefutingFiles x y z save file line status)))
 refuting_of slots service w (Some a) (Some b) (Some c) save file line status told h = record {
   slots = slots;
   service = service;

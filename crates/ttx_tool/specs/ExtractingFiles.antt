@@ -4,7 +4,7 @@
 --   IsExtracted, IsExtracting       the text of what slots send, and of a packet file, and its line
 --   IsExtractFault, IsNoExtract     why there is none
 --   ExtractsText            what is answered for the bytes
---   is_write                the fault of a write
+--   is_extraction_write                the fault of a write
 --   ExtractsFile            what was written to the text's file and to the output, at each answer
 --   CountsCycle, CountsExtract      faults of devices are answered only where they were counted
 use Rattle.std.specs.Prelude.{◌≡◌, ◌⊎◌, ℕ, Bool, false, List, [], ◌∷◌, ◌++◌, length, codes, string_bytes, ⊤, Option, Result, Ok, Err}
@@ -65,9 +65,9 @@ ExtractsFile bytes lines file_old file_new old new (Err (Tool (tool.Write writte
 ExtractsFile bytes lines file_old file_new old new (Err fault) = IsNoExtract bytes fault × Keeps file_old file_new × Keeps old new
 
 -- the fault of a write
-abbrev pub is_write : ExtractionFault → Bool
-is_write (Tool fault) = files.is_write fault
-is_write (Refused fault) = false
+abbrev pub is_extraction_write : ExtractionFault → Bool
+is_extraction_write (Tool fault) = files.is_tool_write fault
+is_extraction_write (Refused fault) = false
 
 -- the faults counted by the reader, before and after
 abbrev pub CountsCycle : {T : Type 0} → Result T ExtractionFault → ℕ → ℕ → Type 0

@@ -1,7 +1,7 @@
 -- The certifier's faults as those of commands.
 --
 --   tool_fault              the fault of the same name
---   is_write                the fault of a write, which alone leaves a writer otherwise than it was
+--   is_tool_write                the fault of a write, which alone leaves a writer otherwise than it was
 use Rattle.std.specs.Prelude.{Bool, true, false}
 use Rattle.ttx_certify.specs.declared.faults.FilesFault.{FilesFault}
 use Rattle.ttx_certify.specs.declared.faults.FilesFault.TheVariants as files
@@ -19,6 +19,6 @@ tool_fault (files.Write written) = Write written
 tool_fault files.NoMemory = NoMemory
 
 -- the fault of a write
-abbrev pub is_write : ToolFault → Bool
-is_write (Write written) = true
-is_write _ = false
+abbrev pub is_tool_write : ToolFault → Bool
+is_tool_write (Write written) = true
+is_tool_write _ = false

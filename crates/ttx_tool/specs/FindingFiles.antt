@@ -1,11 +1,11 @@
 -- What `find` writes for a packet file and the text of a service.
 --
 --   found_line              the line of a deadline
---   TellsDeadline, TellsNo, Tells   what goes out where there is a deadline, and where there is none
+--   TellsDeadline, TellsNo, TellsFound    what goes out where there is a deadline, and where there is none
 --   TellsVerdict            the same, whatever the verdict
---   IsTold, IsFinding       what is found of a cycle and a service, and of their texts, and what goes out
---   IsNoFinding, FindsText  why nothing is found; what is answered
---   Finds                   what was written to the certificate's file and to the output, at each answer
+--   IsFoundAndTold, IsFinding    what is found of a cycle and a service, and of their texts, and what goes out
+--   IsNoFinding, FindsText    why nothing is found; what is answered
+--   FindsFiles              what was written to the certificate's file and to the output, at each answer
 --   CountsInputs, CountsFind        faults of devices are answered only where they were counted
 use Rattle.std.specs.Prelude.{◌≡◌, ℕ, List, [], ◌∷◌, ◌++◌, length, codes, string_bytes, ⊤, Option, Some, None, Result, Ok, Err}
 use Rattle.std.specs.Fmt.{decimal}
@@ -49,17 +49,17 @@ TellsNo slots service w file line status = (file ≡ []) × ((reason : Reason) �
 abbrev pub TellsVerdict : List (List ℕ) → ServiceFields → CertificateFields → List ℕ → List ℕ → ℕ → Type 0
 TellsVerdict slots service w file line status = (file ≡ []) × ((verdict : Verdict) × IsVerdictLine slots service w verdict line) × (status ≡ 1)
 
-abbrev pub Tells : List (List ℕ) → ServiceFields → CertificateFields → Option ℕ → List ℕ → List ℕ → ℕ → Type 0
-Tells slots service w (Some deadline) file line status = TellsDeadline w deadline file line status
-Tells slots service w None file line status = TellsNo slots service w file line status
+abbrev pub TellsFound : List (List ℕ) → ServiceFields → CertificateFields → Option ℕ → List ℕ → List ℕ → ℕ → Type 0
+TellsFound slots service w (Some deadline) file line status = TellsDeadline w deadline file line status
+TellsFound slots service w None file line status = TellsNo slots service w file line status
 
 -- the certificate that is found of a cycle and a service, and what goes out
-pub record IsTold (slots : List (List ℕ)) (service : ServiceFields) (repeat : ℕ) (class : Class) (file line : List ℕ) (status : ℕ) : Type 0 where
+pub record IsFoundAndTold (slots : List (List ℕ)) (service : ServiceFields) (repeat : ℕ) (class : Class) (file line : List ℕ) (status : ℕ) : Type 0 where
   pub w : CertificateFields
   pub fields : IsCertificateFields w
   pub deadline : Option ℕ
   pub found : IsFoundFor slots (pages_of service) repeat service.lines class (certificate_at w) deadline
-  pub told : Tells slots service w deadline file line status
+  pub told : TellsFound slots service w deadline file line status
 
 -- the same of a packet file and the text of a service
 pub record IsFinding (a b : List ℕ) (repeat : ℕ) (class : Class) (file line : List ℕ) (status : ℕ) : Type 0 where
@@ -67,7 +67,7 @@ pub record IsFinding (a b : List ℕ) (repeat : ℕ) (class : Class) (file line 
   pub service : ServiceFields
   pub cycle_is : IsPacketFile a slots
   pub service_is : IsServiceText b service
-  pub told : IsTold slots service repeat class file line status
+  pub told : IsFoundAndTold slots service repeat class file line status
 
 -- why nothing is found: of these bytes there is no cycle, or there is and the text is that of no service
 abbrev pub IsNoFinding : List ℕ → List ℕ → ToolFault → Type 0
@@ -80,12 +80,12 @@ FindsText a b repeat class (Ok told) = IsFinding a b repeat class told.file.item
 FindsText a b repeat class (Err fault) = IsNoFinding a b fault
 
 -- Ok: the bytes of the file and the line. A write fault: the first `written` bytes of both. Else nothing, and why nothing is found.
-abbrev pub Finds : List ℕ → List ℕ → ℕ → Class → Option (List ℕ) → Option (List ℕ) → Option (List ℕ) → Option (List ℕ) → Result ℕ ToolFault → Type 0
-Finds a b repeat class file_old file_new old new (Ok status) =
+abbrev pub FindsFiles : List ℕ → List ℕ → ℕ → Class → Option (List ℕ) → Option (List ℕ) → Option (List ℕ) → Option (List ℕ) → Result ℕ ToolFault → Type 0
+FindsFiles a b repeat class file_old file_new old new (Ok status) =
     (file line : List ℕ) × IsFinding a b repeat class file line status × WritesBoth file line file_old file_new old new (Ok status)
-Finds a b repeat class file_old file_new old new (Err (Write written)) =
+FindsFiles a b repeat class file_old file_new old new (Err (Write written)) =
     (file line : List ℕ) × (status : ℕ) × IsFinding a b repeat class file line status × WritesBoth {U = ℕ} file line file_old file_new old new (Err (Write written))
-Finds a b repeat class file_old file_new old new (Err fault) = IsNoFinding a b fault × Keeps file_old file_new × Keeps old new
+FindsFiles a b repeat class file_old file_new old new (Err fault) = IsNoFinding a b fault × Keeps file_old file_new × Keeps old new
 
 -- the faults counted by the readers of the cycle and of the service, before and after
 abbrev pub CountsInputs : {T : Type 0} → Result T ToolFault → ℕ → ℕ → ℕ → ℕ → Type 0

@@ -1,9 +1,9 @@
 -- The lines of `inspect`, one a slot.
 --
---   line_of, lines_from    the line of a slot, and those of slots one after another
+--   slot_line, lines_from    the line of a slot, and those of slots one after another
 --   slot_text              what a line says of its slot
 --   header_text, link_fields_text, info_text    the fields of a page header, a packet X/27/0 and a packet 8/30
---   corrected_text         the mark of a slot that isn't clean
+--   corrected_mark         the mark of a slot that isn't clean
 use Rattle.std.specs.Prelude.{ℕ, ◌+◌, ◌==◌, List, [], ◌∷◌, ◌++◌, codes, Option, Some, None, Result, Ok, Err, if◌then◌else◌}
 use Rattle.std.specs.Fmt.{decimal}
 use Rattle.std.specs.Int.RustNames.{bit_and}
@@ -16,7 +16,7 @@ use Rattle.ttx_info.specs.Infos.{InfoFields, info_of}
 use Rattle.ttx_info.specs.declared.faults.InfoFault.{InfoFault}
 use Rattle.ttx_info.specs.declared.faults.InfoFault.TheVariants.{Designation, Hamming, Digit, Parity}
 use Rattle.ttx_witness.specs.CertificateTexts.{id_text}
-use Rattle.ttx_tool.specs.Texts.{links_text, date_text, time_text}
+use Rattle.ttx_tool.specs.Texts.{link_ids_text, date_text, time_text}
 
 -- magazine, packet number and kind
 abbrev pub packet_text : ℕ → ℕ → List ℕ → List ℕ
@@ -34,7 +34,7 @@ header_text id control = 32 ∷ id_text id ++ set_names control control_table
 -- the six links, and whether row 24 is shown
 abbrev pub link_fields_text : Option LinkSet → List ℕ
 link_fields_text None = codes " unreadable"
-link_fields_text (Some set) = links_text set.six ++ (if set.show24 then codes " row24" else [])
+link_fields_text (Some set) = link_ids_text set.six ++ (if set.show24 then codes " row24" else [])
 
 -- the number of a fault of a packet 8/30
 abbrev pub number_of_fault : InfoFault → ℕ
@@ -49,24 +49,24 @@ info_text (Ok info) = 32 ∷ date_text info.mjd ++ 32 ∷ time_text info.utc
 info_text (Err fault) = codes " fault " ++ decimal (number_of_fault fault)
 
 -- nothing where the slot is clean
-abbrev pub corrected_text : List ℕ → List ℕ
-corrected_text s = if is_clean s then [] else codes " corrected"
+abbrev pub corrected_mark : List ℕ → List ℕ
+corrected_mark s = if is_clean s then [] else codes " corrected"
 
 -- the packet, its fields, and the mark where it isn't clean
 abbrev pub slot_text : List ℕ → Kind → List ℕ
 slot_text s IsEmpty = codes "empty"
 slot_text s IsUnreadable = codes "unreadable"
-slot_text s (IsHeader mag) = packet_text mag 0 (codes "header") ++ header_text (id_of s) (control_of s) ++ corrected_text s
-slot_text s (IsRow mag number) = packet_text mag number (codes "row") ++ corrected_text s
-slot_text s (IsLinks mag) = packet_text mag 27 (codes "links") ++ link_fields_text (links_of mag s) ++ corrected_text s
-slot_text s IsInfo = packet_text 8 30 (codes "info") ++ info_text (info_of s) ++ corrected_text s
-slot_text s (IsOther mag number) = packet_text mag number (codes "other") ++ corrected_text s
+slot_text s (IsHeader mag) = packet_text mag 0 (codes "header") ++ header_text (id_of s) (control_of s) ++ corrected_mark s
+slot_text s (IsRow mag number) = packet_text mag number (codes "row") ++ corrected_mark s
+slot_text s (IsLinks mag) = packet_text mag 27 (codes "links") ++ link_fields_text (links_of mag s) ++ corrected_mark s
+slot_text s IsInfo = packet_text 8 30 (codes "info") ++ info_text (info_of s) ++ corrected_mark s
+slot_text s (IsOther mag number) = packet_text mag number (codes "other") ++ corrected_mark s
 
 -- the slot's number and a space before it, 0A after it
-abbrev pub line_of : ℕ → List ℕ → List ℕ
-line_of at s = decimal at ++ 32 ∷ slot_text s (kind_of s) ++ 10 ∷ []
+abbrev pub slot_line : ℕ → List ℕ → List ℕ
+slot_line at s = decimal at ++ 32 ∷ slot_text s (kind_of s) ++ 10 ∷ []
 
 -- the lines of slots, the first of which is slot `at`
 abbrev pub lines_from : ℕ → List (List ℕ) → List ℕ
 lines_from at [] = []
-lines_from at (s ∷ ss) = line_of at s ++ lines_from (at + 1) ss
+lines_from at (s ∷ ss) = slot_line at s ++ lines_from (at + 1) ss

@@ -24,7 +24,7 @@ use Rattle.ttx_source.specs.Services.{ServiceFields, read_bytes}
 use Rattle.ttx_source.specs.declared.faults.SourceFault.TheVariants as source
 use Rattle.ttx_certify.specs.declared.faults.TextFile.TheVariants as text
 use Rattle.ttx_tool.specs.declared.faults.ToolFault.{ToolFault}
-use Rattle.ttx_tool.specs.declared.faults.ToolFault.TheVariants.{Cycle, Service, Read, TooLong, Write, NoMemory, Plan}
+use Rattle.ttx_tool.specs.declared.faults.ToolFault.TheVariants.{Cycle, Service, Read, TooLong, Write, NoMemory, Plan, Counter}
 
 -- why a text is that of no service
 abbrev pub IsNoText : List ℕ → ToolFault → Type 0
@@ -84,10 +84,11 @@ Plans bytes late class file_old file_new old new (Err (Write written)) =
     (slots : List (List ℕ)) × IsPlan bytes late class slots × WritesBoth {U = ℕ} (file_of slots) (planned_line (length slots)) file_old file_new old new (Err (Write written))
 Plans bytes late class file_old file_new old new (Err fault) = IsNoPlan bytes late class fault × Keeps file_old file_new × Keeps old new
 
--- the faults counted by the reader, before and after
+-- The faults counted by the reader, before and after. It reads the text of the service, and no other file.
 abbrev pub CountsDefinition : {T : Type 0} → Result T ToolFault → ℕ → ℕ → Type 0
-CountsDefinition (Err (Read which)) old new = HasRisen old new
+CountsDefinition (Err (Read which)) old new = (which ≡ text.Service) × HasRisen old new
 CountsDefinition (Err (Cycle fault)) old new = ⊥
+CountsDefinition (Err (Counter fault)) old new = ⊥
 CountsDefinition (Err (Write written)) old new = ⊥
 CountsDefinition result old new = new ≡ old
 

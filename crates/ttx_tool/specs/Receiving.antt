@@ -23,15 +23,15 @@ pub record Tuning : Type 0 where
   pub lines : ℕ
   pub selection : Selection
 
-abbrev pub tuning_at : Class → ℕ → Selection → Tuning
-tuning_at class lines selection = record { class = class; lines = lines; selection = selection }
+abbrev pub tuned_as : Class → ℕ → Selection → Tuning
+tuned_as class lines selection = record { class = class; lines = lines; selection = selection }
 
 -- The memory may become the new one over `count` slots of the cycle from slot `start` on, which counts round the cycle.
 abbrev pub Hears : Tuning → List (List ℕ) → ℕ → ℕ → Memory → Memory → Type 0
 Hears t slots start count old new = Run t.class t.lines t.selection old (sent_from (repeated slots) (pos start) count) new
 
 -- the slots of a packet file, over which the memory became the new one
-pub record IsHeard (t : Tuning) (start count : ℕ) (bytes : List ℕ) (old new : Memory) : Type 0 where
+pub record IsReceivedFile (t : Tuning) (start count : ℕ) (bytes : List ℕ) (old new : Memory) : Type 0 where
   pub slots : List (List ℕ)
   pub file : IsPacketFile bytes slots
   pub run : Hears t slots start count old new
@@ -40,9 +40,9 @@ pub record IsHeard (t : Tuning) (start count : ℕ) (bytes : List ℕ) (old new 
 -- the file is refused as it is judged.
 abbrev pub Receives : Tuning → ℕ → ℕ → List ℕ → Memory → Option (List ℕ) → Option (List ℕ) → Result ℕ ToolFault → Type 0
 Receives t start count bytes held before after (Ok status) =
-    (status ≡ 0) × ((new : Memory) × IsHeard t start count bytes held new × Appends before after (view_lines (view_of new)))
+    (status ≡ 0) × ((new : Memory) × IsReceivedFile t start count bytes held new × Appends before after (view_lines (view_of new)))
 Receives t start count bytes held before after (Err (Write written)) =
-    (new : Memory) × IsHeard t start count bytes held new × (written < length (view_lines (view_of new))) × Appends before after (take written (view_lines (view_of new)))
+    (new : Memory) × IsReceivedFile t start count bytes held new × (written < length (view_lines (view_of new))) × Appends before after (take written (view_lines (view_of new)))
 Receives t start count bytes held before after (Err (Cycle fault)) = Judged bytes (Err fault) × Keeps before after
 Receives t start count bytes held before after (Err NoMemory) = Keeps before after
 Receives t start count bytes held before after (Err _) = ⊥

@@ -3,9 +3,9 @@
 --   counter_line            the line of a counter-run
 --   saved                   the text that is kept of it, where it is asked for
 --   TellsAnswer             what goes out where there is a counter-run, and where there is none
---   IsRefutation, IsRefuting        what is found of a cycle, a service and a certificate, and of their texts, and what goes out
+--   IsRefutation, IsRefutingFiles    what is found of a cycle, a service and a certificate, and of their texts, and what goes out
 --   IsNoClass, IsClassFault, IsNoRefuting, RefutesText    why nothing is looked for; what is answered
---   Refutes                 what was written to the counter-run's file and to the output, at each answer
+--   RefutesFiles            what was written to the counter-run's file and to the output, at each answer
 --   CountsThree, CountsRefute       faults of devices are answered only where they were counted
 use Rattle.std.specs.Prelude.{◌≡◌, ◌↔◌, ℕ, Bool, true, List, [], ◌∷◌, ◌++◌, length, slice_get, codes, string_bytes, is_some, ⊤, Option, Some, None, Result, Ok, Err, if◌then◌else◌}
 use Rattle.std.specs.Fmt.{decimal}
@@ -42,14 +42,14 @@ abbrev pub saved : Bool → CounterRun → List ℕ
 saved save c = if save then counter_text c else []
 
 -- the counter-run has the certificate's numbers, and its page is named
-pub record IsShown (slots : List (List ℕ)) (pages : List Page) (w : CertificateFields) (c : CounterRun) (line : List ℕ) : Type 0 where
+pub record IsCounterTold (slots : List (List ℕ)) (pages : List Page) (w : CertificateFields) (c : CounterRun) (line : List ℕ) : Type 0 where
   pub is : IsCounterTo slots pages (certificate_at w) c
   pub page : Page
   pub here : slice_get pages c.page ≡ Some page
   pub same : line ≡ counter_line page.id c
 
 abbrev pub TellsAnswer : List (List ℕ) → List Page → CertificateFields → Bool → Option CounterRun → List ℕ → List ℕ → ℕ → Type 0
-TellsAnswer slots pages w save (Some c) file line status = IsShown slots pages w c line × (file ≡ saved save c) × (status ≡ 1)
+TellsAnswer slots pages w save (Some c) file line status = IsCounterTold slots pages w c line × (file ≡ saved save c) × (status ≡ 1)
 TellsAnswer slots pages w save None file line status = IsUnrefuted slots pages (certificate_at w) × (file ≡ []) × (line ≡ codes "none" ++ 10 ∷ []) × (status ≡ 0)
 
 -- Where all pages are sent unchanged in clean slots, there is a counter-run exactly where no certificate of these numbers is accepted.
@@ -61,7 +61,7 @@ pub record IsRefutation (slots : List (List ℕ)) (service : ServiceFields) (w :
       (is_some answer ≡ true) ↔ (CanBeAccepted slots (pages_of service) Any w.lines w.repeat w.deadline → ⊥)
 
 -- the same of three files
-pub record IsRefuting (a b c : List ℕ) (save : Bool) (file line : List ℕ) (status : ℕ) : Type 0 where
+pub record IsRefutingFiles (a b c : List ℕ) (save : Bool) (file line : List ℕ) (status : ℕ) : Type 0 where
   pub slots : List (List ℕ)
   pub service : ServiceFields
   pub w : CertificateFields
@@ -93,16 +93,16 @@ IsNoRefuting a b c NoMemory = ⊤
 IsNoRefuting a b c fault = (refusal : FilesFault) × (fault ≡ tool_fault refusal) × IsRefused a b c refusal
 
 abbrev pub RefutesText : List ℕ → List ℕ → List ℕ → Bool → Result Told ToolFault → Type 0
-RefutesText a b c save (Ok told) = IsRefuting a b c save told.file.items (string_bytes told.line) told.status
+RefutesText a b c save (Ok told) = IsRefutingFiles a b c save told.file.items (string_bytes told.line) told.status
 RefutesText a b c save (Err fault) = IsNoRefuting a b c fault
 
 -- Ok: the bytes of the file and the line. A write fault: the first `written` bytes of both. Else nothing, and why nothing is looked for.
-abbrev pub Refutes : List ℕ → List ℕ → List ℕ → Bool → Option (List ℕ) → Option (List ℕ) → Option (List ℕ) → Option (List ℕ) → Result ℕ ToolFault → Type 0
-Refutes a b c save file_old file_new old new (Ok status) =
-    (file line : List ℕ) × IsRefuting a b c save file line status × WritesBoth file line file_old file_new old new (Ok status)
-Refutes a b c save file_old file_new old new (Err (Write written)) =
-    (file line : List ℕ) × (status : ℕ) × IsRefuting a b c save file line status × WritesBoth {U = ℕ} file line file_old file_new old new (Err (Write written))
-Refutes a b c save file_old file_new old new (Err fault) = IsNoRefuting a b c fault × Keeps file_old file_new × Keeps old new
+abbrev pub RefutesFiles : List ℕ → List ℕ → List ℕ → Bool → Option (List ℕ) → Option (List ℕ) → Option (List ℕ) → Option (List ℕ) → Result ℕ ToolFault → Type 0
+RefutesFiles a b c save file_old file_new old new (Ok status) =
+    (file line : List ℕ) × IsRefutingFiles a b c save file line status × WritesBoth file line file_old file_new old new (Ok status)
+RefutesFiles a b c save file_old file_new old new (Err (Write written)) =
+    (file line : List ℕ) × (status : ℕ) × IsRefutingFiles a b c save file line status × WritesBoth {U = ℕ} file line file_old file_new old new (Err (Write written))
+RefutesFiles a b c save file_old file_new old new (Err fault) = IsNoRefuting a b c fault × Keeps file_old file_new × Keeps old new
 
 -- the faults counted by the readers of the cycle, the service and the certificate, before and after
 abbrev pub CountsThree : {T : Type 0} → Result T ToolFault → ℕ → ℕ → ℕ → ℕ → ℕ → ℕ → Type 0

@@ -1,15 +1,15 @@
 -- What `replay` writes for a packet file, the text of a service and that of a counter-run.
 --
---   replay_text, none_text  what goes out of a counter-run, and where there is none
+--   replay_text, none_text    what goes out of a counter-run, and where there is none
 --   IsReplayOf, IsReplay, IsReplaying       what goes out for slots, pages and a counter-run, and for their texts
 --   IsCounterText, IsNoCounter, ReadsCounter        the counter-run that a text is, why it is none, what is answered for it
 --   IsNoReplay, ReplaysText what is answered for the three texts
 --   Replays                 what was written at each answer
---   CountsService, CountsCounter, CountsInputs, CountsReplay        faults of devices are answered only where they were counted
+--   CountsCounter, CountsReplayInputs, CountsReplay        faults of devices are answered only where they were counted
 use Rattle.std.specs.Prelude.{◌≡◌, ◌⊎◌, ℕ, ◌<◌, ◌≤◌, List, [], ◌∷◌, ◌++◌, length, take, codes, string_bytes, ⊤, Option, Result, Ok, Err}
 use Rattle.std.specs.Io.KnownBytes.{Appends, Keeps}
 use Rattle.ttx_certify.specs.CertifyingFiles.{IsPacketFile, IsServiceText, most_bytes}
-use Rattle.ttx_counter.specs.CounterReading.{read_text}
+use Rattle.ttx_counter.specs.CounterReading.{read_counter_text}
 use Rattle.ttx_counter.specs.Counters.{CounterRun, run_of, IsCounterRun}
 use Rattle.ttx_counter.specs.Replaying.{IsReplayed}
 use Rattle.ttx_counter.specs.declared.counter.Counter.{Counter as CounterValue}
@@ -50,7 +50,7 @@ IsReplay slots pages c text status =
 -- a text that isn't too long, and the counter-run that it says
 pub record IsCounterText (bytes : List ℕ) (c : CounterRun) : Type 0 where
   pub most : length bytes ≤ most_bytes
-  pub says : read_text bytes ≡ Ok c
+  pub says : read_counter_text bytes ≡ Ok c
 
 -- the same of three files
 pub record IsReplaying (a b c : List ℕ) (text : List ℕ) (status : ℕ) : Type 0 where
@@ -66,7 +66,7 @@ pub record IsReplaying (a b c : List ℕ) (text : List ℕ) (status : ℕ) : Typ
 abbrev pub IsNoCounter : List ℕ → CounterFileFault → Type 0
 IsNoCounter bytes counter.Read = ⊤
 IsNoCounter bytes counter.TooLong = most_bytes < length bytes
-IsNoCounter bytes (counter.Text f) = (length bytes ≤ most_bytes) × ((f ≡ fault.NoMemory) ⊎ (read_text bytes ≡ Err f))
+IsNoCounter bytes (counter.Text f) = (length bytes ≤ most_bytes) × ((f ≡ fault.NoMemory) ⊎ (read_counter_text bytes ≡ Err f))
 
 abbrev pub ReadsCounter : List ℕ → Result CounterValue ToolFault → Type 0
 ReadsCounter bytes (Ok c) = IsCounterText bytes (run_of c)
@@ -90,15 +90,7 @@ Replays a b c old new (Err (Write written)) =
     (text : List ℕ) × (status : ℕ) × IsReplaying a b c text status × (written < length text) × Appends old new (take written text)
 Replays a b c old new (Err fault) = IsNoReplay a b c fault × Keeps old new
 
--- the faults counted by the reader of the service, before and after
-abbrev pub CountsService : {T : Type 0} → Result T ToolFault → ℕ → ℕ → Type 0
-CountsService (Err (Read which)) old new = HasRisen old new
-CountsService (Err (Cycle fault)) old new = ⊥
-CountsService (Err (Write written)) old new = ⊥
-CountsService (Err (Counter fault)) old new = ⊥
-CountsService result old new = ⊤
-
--- and by that of the counter-run
+-- the faults counted by the reader of the counter-run, before and after
 abbrev pub CountsCounter : {T : Type 0} → Result T ToolFault → ℕ → ℕ → Type 0
 CountsCounter (Err (Counter counter.Read)) old new = HasRisen old new
 CountsCounter (Err (Cycle fault)) old new = ⊥
@@ -107,12 +99,12 @@ CountsCounter (Err (Write written)) old new = ⊥
 CountsCounter result old new = ⊤
 
 -- those of the readers of the cycle, the service and the counter-run
-abbrev pub CountsInputs : {T : Type 0} → Result T ToolFault → ℕ → ℕ → ℕ → ℕ → ℕ → ℕ → Type 0
-CountsInputs (Err (Cycle cycle.Read)) cycle_old cycle_new service_old service_new old new = HasRisen cycle_old cycle_new
-CountsInputs (Err (Read which)) cycle_old cycle_new service_old service_new old new = HasRisen service_old service_new
-CountsInputs (Err (Counter counter.Read)) cycle_old cycle_new service_old service_new old new = HasRisen old new
-CountsInputs (Err (Write written)) cycle_old cycle_new service_old service_new old new = ⊥
-CountsInputs result cycle_old cycle_new service_old service_new old new = ⊤
+abbrev pub CountsReplayInputs : {T : Type 0} → Result T ToolFault → ℕ → ℕ → ℕ → ℕ → ℕ → ℕ → Type 0
+CountsReplayInputs (Err (Cycle cycle.Read)) cycle_old cycle_new service_old service_new old new = HasRisen cycle_old cycle_new
+CountsReplayInputs (Err (Read which)) cycle_old cycle_new service_old service_new old new = HasRisen service_old service_new
+CountsReplayInputs (Err (Counter counter.Read)) cycle_old cycle_new service_old service_new old new = HasRisen old new
+CountsReplayInputs (Err (Write written)) cycle_old cycle_new service_old service_new old new = ⊥
+CountsReplayInputs result cycle_old cycle_new service_old service_new old new = ⊤
 
 -- and of the writer
 abbrev pub CountsReplay : {T : Type 0} → Result T ToolFault → ℕ → ℕ → ℕ → ℕ → ℕ → ℕ → ℕ → ℕ → Type 0

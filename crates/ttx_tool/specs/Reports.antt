@@ -1,8 +1,8 @@
 -- What is said of a fault, and the status of the program after it.
 --
---   source_text, service_text, certificate_text        what is said of a service definition, and of a certificate
+--   source_text, service_text, certificate_refusal        what is said of a service definition, and of a certificate
 --   extract_text, extract_status            what is said of a cycle of which no service text is made, and the status
---   run_text, run_status   what is said of the text of a counter-run, and the status
+--   run_text, run_status    what is said of the text of a counter-run, and the status
 --   fault_text, fault_line, status_of        the line of a fault, and its status
 --   Reports, ReportsWords    what a report wrote at each answer
 --   CountsReport             a write fault is answered only where it was counted
@@ -48,12 +48,12 @@ service_text no_memory page = codes "fault: memory"
 service_text fault page = codes "refused: service " ++ source_text fault ++ codes " page " ++ decimal page
 
 -- a refused certificate, with the line that the fault is in
-abbrev pub certificate_text : CertFault → List ℕ
-certificate_text cert.Title = codes "refused: certificate 1 title"
-certificate_text (cert.Line line) = codes "refused: certificate 2 line line " ++ decimal line
-certificate_text (cert.Order line) = codes "refused: certificate 3 order line " ++ decimal line
-certificate_text (cert.Range line) = codes "refused: certificate 4 range line " ++ decimal line
-certificate_text cert.NoMemory = codes "fault: memory"
+abbrev pub certificate_refusal : CertFault → List ℕ
+certificate_refusal cert.Title = codes "refused: certificate 1 title"
+certificate_refusal (cert.Line line) = codes "refused: certificate 2 line line " ++ decimal line
+certificate_refusal (cert.Order line) = codes "refused: certificate 3 order line " ++ decimal line
+certificate_refusal (cert.Range line) = codes "refused: certificate 4 range line " ++ decimal line
+certificate_refusal cert.NoMemory = codes "fault: memory"
 
 -- a cycle of which no service text is made; the fault of the text itself is that of a service definition
 abbrev pub extract_text : ExtractFault → List ℕ
@@ -78,7 +78,7 @@ fault_text (Cycle cycle.Empty) = codes "refused: cycle 3 empty"
 fault_text (Cycle cycle.TooLong) = codes "refused: cycle 4 too-long"
 fault_text (Cycle cycle.NoMemory) = codes "fault: memory"
 fault_text (Service error) = service_text (fault_of error.fault) error.page
-fault_text (Certificate fault) = certificate_text fault
+fault_text (Certificate fault) = certificate_refusal fault
 fault_text (Read which) = codes "fault: read"
 fault_text (TooLong text.Service) = codes "refused: service too-long"
 fault_text (TooLong text.Certificate) = codes "refused: certificate too-long"

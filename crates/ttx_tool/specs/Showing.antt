@@ -1,10 +1,10 @@
 -- What `show` writes for the bytes of a packet file.
 --
---   has_header, stays_fresh         whether a header that the selection matches came, and whether none did yet
+--   has_matching_header, stays_fresh    whether a header that the selection matches came, and whether none did yet
 --   no_page_line            the line where none came
 --   shown_text, shown_status        what is shown of a memory, and the status
---   IsShown                 the slots of a packet file, over which the memory became the new one
---   ShowsAfter, Shows       what was written at each answer, of the memory that the receiver then holds, and of some such memory
+--   IsShownFile                 the slots of a packet file, over which the memory became the new one
+--   ShowsAfter, ShowsFile    what was written at each answer, of the memory that the receiver then holds, and of some such memory
 use Rattle.std.specs.Prelude.{◌≡◌, ℕ, ◌<◌, pos, Bool, not, ◌&&◌, if◌then◌else◌, List, [], ◌∷◌, ◌++◌, length, take, codes, Option, Result, Ok, Err}
 use Rattle.std.specs.Io.KnownBytes.{Appends, Keeps}
 use Rattle.std.specs.List.{list_any}
@@ -23,12 +23,12 @@ use Rattle.ttx_tool.specs.declared.faults.ToolFault.TheVariants.{Cycle, Write, N
 use Rattle.ttx_arguments.specs.declared.orders.Look.{Look}
 
 -- one of the slots is a header that the selection matches
-abbrev pub has_header : Selection → List (List ℕ) → Bool
-has_header sel slots = list_any (λ slot. heads_matched sel (packet_of slot)) slots
+abbrev pub has_matching_header : Selection → List (List ℕ) → Bool
+has_matching_header sel slots = list_any (λ slot. heads_matched sel (packet_of slot)) slots
 
 -- no such header came before, nor is one of the slots
 abbrev pub stays_fresh : Selection → Memory → List (List ℕ) → Bool
-stays_fresh sel old slots = old.fresh && not (has_header sel slots)
+stays_fresh sel old slots = old.fresh && not (has_matching_header sel slots)
 
 abbrev pub no_page_line : List ℕ → List ℕ
 no_page_line name = codes "no page " ++ name ++ 10 ∷ []
@@ -41,7 +41,7 @@ abbrev pub shown_status : Memory → ℕ
 shown_status m = if m.fresh then 1 else 0
 
 -- the slots of a packet file, over which the memory became the new one; it is fresh exactly where no header of the page came
-pub record IsShown (t : Tuning) (start count : ℕ) (bytes : List ℕ) (old new : Memory) : Type 0 where
+pub record IsShownFile (t : Tuning) (start count : ℕ) (bytes : List ℕ) (old new : Memory) : Type 0 where
   pub slots : List (List ℕ)
   pub file : IsPacketFile bytes slots
   pub run : Hears t slots start count old new
@@ -51,13 +51,13 @@ pub record IsShown (t : Tuning) (start count : ℕ) (bytes : List ℕ) (old new 
 -- nothing, and the file is refused as it is judged.
 abbrev pub ShowsAfter : Tuning → ℕ → ℕ → Look → List ℕ → Memory → Memory → Option (List ℕ) → Option (List ℕ) → Result ℕ ToolFault → Type 0
 ShowsAfter t start count look bytes held new before after (Ok status) =
-    (status ≡ shown_status new) × IsShown t start count bytes held new × Appends before after (shown_text look new)
+    (status ≡ shown_status new) × IsShownFile t start count bytes held new × Appends before after (shown_text look new)
 ShowsAfter t start count look bytes held new before after (Err (Write written)) =
-    IsShown t start count bytes held new × (written < length (shown_text look new)) × Appends before after (take written (shown_text look new))
+    IsShownFile t start count bytes held new × (written < length (shown_text look new)) × Appends before after (take written (shown_text look new))
 ShowsAfter t start count look bytes held new before after (Err (Cycle fault)) = Judged bytes (Err fault) × (new ≡ held) × Keeps before after
 ShowsAfter t start count look bytes held new before after (Err NoMemory) = Keeps before after
 ShowsAfter t start count look bytes held new before after (Err _) = ⊥
 
 -- the receiver goes with the call, so its new memory is some memory
-abbrev pub Shows : Tuning → ℕ → ℕ → Look → List ℕ → Memory → Option (List ℕ) → Option (List ℕ) → Result ℕ ToolFault → Type 0
-Shows t start count look bytes held before after result = (new : Memory) × ShowsAfter t start count look bytes held new before after result
+abbrev pub ShowsFile : Tuning → ℕ → ℕ → Look → List ℕ → Memory → Option (List ℕ) → Option (List ℕ) → Result ℕ ToolFault → Type 0
+ShowsFile t start count look bytes held before after result = (new : Memory) × ShowsAfter t start count look bytes held new before after result

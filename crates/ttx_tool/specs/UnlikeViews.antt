@@ -9,8 +9,8 @@ use Rattle.std.specs.Str.{bytes_eq}
 use Rattle.ttx_header.specs.Ids.{Id}
 use Rattle.ttx_render.specs.declared.cells.Cell.{Cell}
 use Rattle.ttx_render.specs.View.{Screen}
-use Rattle.ttx_tool.specs.Texts.{links_text}
-use Rattle.ttx_tool.specs.ViewLines.{cells_text, row_line}
+use Rattle.ttx_tool.specs.Texts.{link_ids_text}
+use Rattle.ttx_tool.specs.ViewLines.{cell_words, row_line}
 
 -- columns 8 to 31 of row 0, and all of another
 abbrev pub compared : ℕ → List Cell → List Cell
@@ -23,7 +23,7 @@ both_rows number shown own = codes "shown " ++ row_line number shown ++ codes "p
 -- where the words of the cells that are compared differ
 unfoldable pub unlike_row : ℕ → List Cell → List Cell → List ℕ
 unlike_row number shown own =
-    if bytes_eq (cells_text (compared number shown)) (cells_text (compared number own)) then [] else both_rows number shown own
+    if bytes_eq (cell_words (compared number shown)) (cell_words (compared number own)) then [] else both_rows number shown own
 
 -- rows as they are shown, the first of which is row `number`
 abbrev pub unlike_rows : List (List Cell) → ℕ → List (List Cell) → List ℕ
@@ -32,8 +32,8 @@ unlike_rows own number (cells ∷ rows) = unlike_row number cells (slice_index_o
 
 unfoldable pub unlike_links : List (Option Id) → List (Option Id) → List ℕ
 unlike_links shown own =
-    if bytes_eq (links_text shown) (links_text own) then []
-    else codes "shown links" ++ links_text shown ++ 10 ∷ codes "page links" ++ links_text own ++ 10 ∷ []
+    if bytes_eq (link_ids_text shown) (link_ids_text own) then []
+    else codes "shown links" ++ link_ids_text shown ++ 10 ∷ codes "page links" ++ link_ids_text own ++ 10 ∷ []
 
 abbrev pub unlike_lines : Screen → Screen → List ℕ
 unlike_lines shown own = unlike_rows own.cells 0 shown.cells ++ unlike_links shown.links own.links

@@ -1,7 +1,7 @@
 -- What `version` writes.
 --
 --   version_text            the version of the program, and the kit and the logic by which it is proved
---   Tells                   what was written of a text at each answer
+--   TellsVersion                   what was written of a text at each answer
 use Rattle.std.specs.Prelude.{ℕ, ◌<◌, List, [], ◌∷◌, ◌++◌, length, take, codes, Option, Result, Ok, Err}
 use Rattle.std.specs.Io.KnownBytes.{Appends}
 use Rattle.ttx_tool.specs.declared.faults.ToolFault.{ToolFault}
@@ -12,7 +12,7 @@ abbrev pub version_text : List ℕ
 version_text = codes "ttx 1.0.0" ++ 10 ∷ codes "kit rattle-kit-13b" ++ 10 ∷ codes "logic dac8208d650f15bf" ++ 10 ∷ []
 
 -- the text went out, or its first `written` bytes
-abbrev pub Tells : {U : Type 0} → List ℕ → Option (List ℕ) → Option (List ℕ) → Result U ToolFault → Type 0
-Tells text old new (Ok _) = Appends old new text
-Tells text old new (Err (Write written)) = (written < length text) × Appends old new (take written text)
-Tells text old new (Err _) = ⊥
+abbrev pub TellsVersion : {U : Type 0} → List ℕ → Option (List ℕ) → Option (List ℕ) → Result U ToolFault → Type 0
+TellsVersion text old new (Ok _) = Appends old new text
+TellsVersion text old new (Err (Write written)) = (written < length text) × Appends old new (take written text)
+TellsVersion text old new (Err _) = ⊥

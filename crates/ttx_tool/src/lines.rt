@@ -7,7 +7,8 @@ ghost use Rattle.ttx_header.specs.Headers.{is_header, id_of, control_of};
 ghost use Rattle.ttx_links.specs.Sets.{links_of};
 ghost use Rattle.ttx_info.specs.Infos.{info_of};
 ghost use Rattle.ttx_tool.specs.Texts.{date_text, time_text};
-ghost use Rattle.ttx_tool.specs.Lines.{packet_text, set_names, header_text, link_fields_text, number_of_fault, info_text, corrected_text, line_of, lines_from};
+ghost use Rattle.ttx_tool.specs.Lines.{packet_text, set_names, header_text, link_fields_text, number_of_fault, info_text, corrected_mark};
+ghost use Rattle.ttx_tool.specs.Lines.{slot_line, lines_from};
 
 use crate::texts::{push_date, push_decimal, push_links, push_time};
 use bitflags::{Flag, Flags};
@@ -116,7 +117,7 @@ fn push_packet(text: &mut String, slot: usize, at: Address, kind: &str) -> Resul
 
 // Ends the line of a packet.
 fn end_packet(text: &mut String, bytes: &[u8; 42]) -> Result<(), AllocError>
-    ensures { OnOk result (string_bytes text.new ≡ string_bytes text.old ++ corrected_text bytes.now ++ 10 ∷ []) }
+    ensures { OnOk result (string_bytes text.new ≡ string_bytes text.old ++ corrected_mark bytes.now ++ 10 ∷ []) }
 {
     if !clean(bytes) {
         text.push_str(" corrected")?;
@@ -132,7 +133,7 @@ fn push_header_line(
     bytes: &[u8; 42],
 ) -> Result<(), AllocError>
     requires { is_header bytes.now ≡ true }
-    ensures { OnOk result (string_bytes text.new ≡ string_bytes text.old ++ decimal slot ++ 32 ∷ packet_text at.mag at.number (codes "header") ++ header_text (id_of bytes.now) (control_of bytes.now) ++ corrected_text bytes.now ++ 10 ∷ []) }
+    ensures { OnOk result (string_bytes text.new ≡ string_bytes text.old ++ decimal slot ++ 32 ∷ packet_text at.mag at.number (codes "header") ++ header_text (id_of bytes.now) (control_of bytes.now) ++ corrected_mark bytes.now ++ 10 ∷ []) }
 {
     let header = read_header(bytes).unwrap();
     push_packet(text, slot, at, "header")?;
@@ -147,7 +148,7 @@ fn push_links_line(
     at: Address,
     bytes: &[u8; 42],
 ) -> Result<(), AllocError>
-    ensures { OnOk result (string_bytes text.new ≡ string_bytes text.old ++ decimal slot ++ 32 ∷ packet_text at.mag at.number (codes "links") ++ link_fields_text (links_of at.mag bytes.now) ++ corrected_text bytes.now ++ 10 ∷ []) }
+    ensures { OnOk result (string_bytes text.new ≡ string_bytes text.old ++ decimal slot ++ 32 ∷ packet_text at.mag at.number (codes "links") ++ link_fields_text (links_of at.mag bytes.now) ++ corrected_mark bytes.now ++ 10 ∷ []) }
 {
     push_packet(text, slot, at, "links")?;
     push_link_fields(text, read_links(at.mag, bytes))?;
@@ -161,7 +162,7 @@ fn push_info_line(
     at: Address,
     bytes: &[u8; 42],
 ) -> Result<(), AllocError>
-    ensures { OnOk result (string_bytes text.new ≡ string_bytes text.old ++ decimal slot ++ 32 ∷ packet_text at.mag at.number (codes "info") ++ info_text (info_of bytes.now) ++ corrected_text bytes.now ++ 10 ∷ []) }
+    ensures { OnOk result (string_bytes text.new ≡ string_bytes text.old ++ decimal slot ++ 32 ∷ packet_text at.mag at.number (codes "info") ++ info_text (info_of bytes.now) ++ corrected_mark bytes.now ++ 10 ∷ []) }
 {
     push_packet(text, slot, at, "info")?;
     push_info(text, &read_info(bytes))?;
@@ -176,7 +177,8 @@ fn push_plain_line(
     kind: &str,
     bytes: &[u8; 42],
 ) -> Result<(), AllocError>
-    ensures { OnOk result (string_bytes text.new ≡ string_bytes text.old ++ decimal slot ++ 32 ∷ packet_text at.mag at.number kind.now ++ corrected_text bytes.now ++ 10 ∷ []) }
+    ensures { OnOk result (string_bytes text.new ≡ string_bytes text.old ++ decimal slot ++ 32 ∷ packet_text at.mag at.number kind.now
+        ++ corrected_mark bytes.now ++ 10 ∷ []) }
 {
     push_packet(text, slot, at, kind)?;
     end_packet(text, bytes)
@@ -185,7 +187,7 @@ fn push_plain_line(
 // Adds the line of a slot.
 #[tactic(auto, using(crate::proofs::ReadHeaders::kind_is_header))]
 fn push_line(text: &mut String, slot: usize, bytes: &[u8; 42]) -> Result<(), AllocError>
-    ensures { OnOk result (string_bytes text.new ≡ string_bytes text.old ++ line_of slot bytes.now) }
+    ensures { OnOk result (string_bytes text.new ≡ string_bytes text.old ++ slot_line slot bytes.now) }
 {
     match slot_of(bytes) {
         Slot::Empty => writeln!(text, "{slot} empty"),

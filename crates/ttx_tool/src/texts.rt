@@ -2,7 +2,7 @@
 
 ghost use Rattle.std.specs.Prelude.{◌≡◌, ◌<◌, ◌+◌, ◌∷◌, [], ◌++◌, OnOk, string_bytes};
 ghost use Rattle.std.specs.Fmt.{decimal};
-ghost use Rattle.ttx_tool.specs.Texts.{link_text, links_text, two_digits, date_text, time_text};
+ghost use Rattle.ttx_tool.specs.Texts.{link_id_text, link_ids_text, last_two_digits, date_text, time_text};
 
 use std::alloc::AllocError;
 use ttx_links::Target;
@@ -30,7 +30,7 @@ pub(crate) fn push_decimal(text: &mut String, number: usize) -> Result<(), Alloc
 
 // Adds a space and where a link leads.
 fn push_link(text: &mut String, link: &Option<Target>) -> Result<(), AllocError>
-    ensures { OnOk result (string_bytes text.new ≡ string_bytes text.old ++ link_text link.now) }
+    ensures { OnOk result (string_bytes text.new ≡ string_bytes text.old ++ link_id_text link.now) }
 {
     match link {
         Some(target) => {
@@ -43,7 +43,7 @@ fn push_link(text: &mut String, link: &Option<Target>) -> Result<(), AllocError>
 
 /// Adds links, each after a space.
 pub(crate) fn push_links(text: &mut String, links: &[Option<Target>]) -> Result<(), AllocError>
-    ensures { OnOk result (string_bytes text.new ≡ string_bytes text.old ++ links_text links.now) }
+    ensures { OnOk result (string_bytes text.new ≡ string_bytes text.old ++ link_ids_text links.now) }
 {
     for link in links {
         push_link(text, link)?;
@@ -53,7 +53,7 @@ pub(crate) fn push_links(text: &mut String, links: &[Option<Target>]) -> Result<
 
 // Adds two decimal digits, the last two of the number.
 fn push_pair(text: &mut String, number: u32) -> Result<(), AllocError>
-    ensures { OnOk result (string_bytes text.new ≡ string_bytes text.old ++ two_digits number) }
+    ensures { OnOk result (string_bytes text.new ≡ string_bytes text.old ++ last_two_digits number) }
 {
     text.push(digit((number / 10 % 10) as u8))?;
     text.push(digit((number % 10) as u8))

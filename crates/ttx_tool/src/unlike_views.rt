@@ -2,9 +2,9 @@
 
 ghost use Rattle.std.specs.Prelude.{◌≡◌, ◌<◌, ◌≤◌, ◌∷◌, ◌++◌, [], OnOk, IfOk, codes, length, string_bytes};
 ghost use Rattle.std.specs.Str.{bytes_eq};
-ghost use Rattle.ttx_tool.specs.Texts.{links_text};
+ghost use Rattle.ttx_tool.specs.Texts.{link_ids_text};
 ghost use Rattle.ttx_tool.specs.UnlikeViews.{compared, both_rows, unlike_row, unlike_rows, unlike_links, unlike_lines};
-ghost use Rattle.ttx_tool.specs.ViewLines.{cells_text};
+ghost use Rattle.ttx_tool.specs.ViewLines.{cell_words};
 
 use crate::texts::push_links;
 use crate::views::{push_cells, push_row};
@@ -21,7 +21,7 @@ fn compared(number: usize, cells: &[Cell; 40]) -> &[Cell]
 
 // The words of cells.
 fn words_of(alloc: Global, cells: &[Cell]) -> Result<String, AllocError>
-    ensures { IfOk result (λ words. string_bytes words ≡ cells_text cells.now) }
+    ensures { IfOk result (λ words. string_bytes words ≡ cell_words cells.now) }
 {
     let mut words = String::new(alloc);
     push_cells(&mut words, cells)?;
@@ -35,7 +35,7 @@ fn are_alike(
     shown: &[Cell; 40],
     own: &[Cell; 40],
 ) -> Result<bool, AllocError>
-    ensures { IfOk result (λ b. b ≡ bytes_eq (cells_text (compared number shown.now)) (cells_text (compared number own.now))) }
+    ensures { IfOk result (λ b. b ≡ bytes_eq (cell_words (compared number shown.now)) (cell_words (compared number own.now))) }
 {
     let shown = words_of(alloc, compared(number, shown))?;
     let own = words_of(alloc, compared(number, own))?;
@@ -93,7 +93,7 @@ fn push_unlike_rows(
 
 // The text of links.
 fn text_of(alloc: Global, links: &[Option<Target>]) -> Result<String, AllocError>
-    ensures { IfOk result (λ text. string_bytes text ≡ links_text links.now) }
+    ensures { IfOk result (λ text. string_bytes text ≡ link_ids_text links.now) }
 {
     let mut text = String::new(alloc);
     push_links(&mut text, links)?;

@@ -1,7 +1,7 @@
 //! The lines of a View.
 
 ghost use Rattle.std.specs.Prelude.{◌≡◌, ◌<◌, ◌++◌, OnOk, IfOk, string_bytes};
-ghost use Rattle.ttx_tool.specs.ViewLines.{low_digit, low_byte, word_text, cells_text, row_line, rows_from, view_lines};
+ghost use Rattle.ttx_tool.specs.ViewLines.{low_digit, low_byte, word_text, cell_words, row_line, rows_from, view_lines};
 
 use crate::texts::push_links;
 use std::alloc::{AllocError, Global};
@@ -40,7 +40,7 @@ fn push_word(text: &mut String, word: u32) -> Result<(), AllocError>
 
 /// Adds cells as words, each after a space.
 pub(crate) fn push_cells(text: &mut String, cells: &[Cell]) -> Result<(), AllocError>
-    ensures { OnOk result (string_bytes text.new ≡ string_bytes text.old ++ cells_text cells.now) }
+    ensures { OnOk result (string_bytes text.new ≡ string_bytes text.old ++ cell_words cells.now) }
 {
     for cell in cells {
         text.push(' ')?;

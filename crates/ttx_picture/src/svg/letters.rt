@@ -1,7 +1,8 @@
 //! The characters of a row.
 
 ghost use Rattle.std.specs.Prelude.{◌≡◌, ◌++◌, OnOk, string_bytes, None};
-ghost use Rattle.ttx_picture.specs.Svg.{code_of, letter_of, has_no_letters, span_start, span_end, letter_text, span_after, letters, text_start, row_letters};
+ghost use Rattle.ttx_picture.specs.Svg.{code_of, letter_of, has_no_letters, span_start, span_end, letter_text, span_after, letters, text_start};
+ghost use Rattle.ttx_picture.specs.Svg.{row_letters};
 
 use crate::escapes::push_escaped;
 use crate::shown::shown_glyph;

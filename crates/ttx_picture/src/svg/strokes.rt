@@ -1,7 +1,8 @@
 //! The paths of backgrounds and mosaics.
 
 ghost use Rattle.std.specs.Prelude.{◌≡◌, ◌<◌, ◌≤◌, ◌++◌, OnOk, string_bytes};
-ghost use Rattle.ttx_picture.specs.Svg.{left_block, right_block, has_block, block, half_of, layer_text, height_text, lowered, lifted, path_start, path_end, stroke, pen_after, is_down, drawn};
+ghost use Rattle.ttx_picture.specs.Svg.{left_block, right_block, has_block, block, half_of, layer_text, height_text, lowered, lifted, path_start};
+ghost use Rattle.ttx_picture.specs.Svg.{path_end, stroke, pen_after, is_down, drawn};
 ghost use Rattle.ttx_picture.specs.Shown.{shown_glyph as seen};
 
 use crate::shown::shown_glyph;
@@ -106,43 +107,43 @@ fn push_path_end(text: &mut String, current: Option<Pen>) -> Result<(), AllocErr
     }
 }
 
-// Begins a path of another pen.
-fn push_other(
-    text: &mut String,
-    layer: Layer,
+// Where a path stands: its pen, whether it is down, and how far to the right.
+#[derive(Clone, Copy)]
+struct PathPoint {
     current: Option<Pen>,
     down: bool,
     x: usize,
-    pen: Pen,
-) -> Result<(), AllocError>
-    ensures { OnOk result (string_bytes text.new ≡ string_bytes text.old ++ lifted down x ++ path_end current ++ path_start layer pen ++ lowered layer x) }
-{
-    push_lifted(text, down, x)?;
-    push_path_end(text, current)?;
-    push_path_start(text, layer, pen)?;
-    push_lowered(text, layer, x)
 }
 
-// Adds what a half needs where this pen is current, and down or not.
+// Begins a path of another pen.
+fn push_other(text: &mut String, layer: Layer, at: PathPoint, pen: Pen) -> Result<(), AllocError>
+    ensures { OnOk result (string_bytes text.new ≡ string_bytes text.old ++ lifted at.down at.x ++ path_end at.current
+        ++ path_start layer pen ++ lowered layer at.x) }
+{
+    push_lifted(text, at.down, at.x)?;
+    push_path_end(text, at.current)?;
+    push_path_start(text, layer, pen)?;
+    push_lowered(text, layer, at.x)
+}
+
+// Adds what a half needs from this point on.
 fn push_stroke(
     text: &mut String,
     layer: Layer,
-    current: Option<Pen>,
-    down: bool,
-    x: usize,
+    at: PathPoint,
     half: Option<Pen>,
 ) -> Result<(), AllocError>
-    ensures { OnOk result (string_bytes text.new ≡ string_bytes text.old ++ stroke layer current down x half) }
+    ensures { OnOk result (string_bytes text.new ≡ string_bytes text.old ++ stroke layer at.current at.down at.x half) }
 {
     match half {
-        None => push_lifted(text, down, x),
+        None => push_lifted(text, at.down, at.x),
         Some(pen) => {
-            if !is_pen(current, pen) {
-                push_other(text, layer, current, down, x, pen)
-            } else if down {
+            if !is_pen(at.current, pen) {
+                push_other(text, layer, at, pen)
+            } else if at.down {
                 Ok(())
             } else {
-                push_lowered(text, layer, x)
+                push_lowered(text, layer, at.x)
             }
         }
     }
@@ -182,9 +183,14 @@ pub fn push_drawn(
     for cell in cells {
         let left = half_of(reveal, tall, layer, left_block(layer), cell);
         let right = half_of(reveal, tall, layer, 2 * left_block(layer), cell);
-        push_stroke(text, layer, current, down, x, left)?;
+        push_stroke(text, layer, PathPoint { current, down, x }, left)?;
         current = pen_after(current, left);
-        push_stroke(text, layer, current, is_down(left), x + 10, right)?;
+        let middle = PathPoint {
+            current,
+            down: is_down(left),
+            x: x + 10,
+        };
+        push_stroke(text, layer, middle, right)?;
         current = pen_after(current, right);
         down = is_down(right);
         x += 20;

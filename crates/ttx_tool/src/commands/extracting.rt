@@ -4,7 +4,8 @@ ghost use Rattle.std.specs.Prelude.{◌≡◌, IfSome, IfOk, IfErr, string_bytes
 ghost use Rattle.ttx_cycle.specs.Counters.{inner_of, faults_of};
 ghost use Rattle.ttx_cycle.specs.Cycles.{slots_of};
 ghost use Rattle.ttx_certify.specs.CertifyingFiles.{IsUntouched};
-ghost use Rattle.ttx_tool.specs.ExtractingFiles.{extracted_line, IsExtracted, IsExtractFault, ExtractsText, ExtractsFile, is_write, CountsCycle, CountsExtract};
+ghost use Rattle.ttx_tool.specs.ExtractingFiles.{extracted_line, IsExtracted, IsExtractFault, ExtractsText, ExtractsFile, is_extraction_write};
+ghost use Rattle.ttx_tool.specs.ExtractingFiles.{CountsCycle, CountsExtract};
 
 use super::finding::write_told;
 use crate::faults::{ExtractionFault, ToolFault};
@@ -78,9 +79,11 @@ pub fn extract<R: Read, O: Write, W: Write>(
     writer: &mut Counted<W>,
 ) -> Result<u8, ExtractionFault>
     ensures bytes { IfSome (R.remaining (inner_of reader.old)) (λ bytes. ExtractsFile bytes lines
-        (O.contents (inner_of file.old)) (O.contents (inner_of file.new)) (W.contents (inner_of writer.old)) (W.contents (inner_of writer.new)) result) }
-    ensures faults { CountsExtract result (faults_of reader.old) (faults_of reader.new) (faults_of file.old) (faults_of file.new) (faults_of writer.old) (faults_of writer.new) }
-    ensures untouched { IsUntouched is_write result file.old file.new × IsUntouched is_write result writer.old writer.new }
+        (O.contents (inner_of file.old)) (O.contents (inner_of file.new)) (W.contents (inner_of writer.old)) (W.contents (inner_of writer.new))
+        result) }
+    ensures faults { CountsExtract result (faults_of reader.old) (faults_of reader.new) (faults_of file.old) (faults_of file.new)
+        (faults_of writer.old) (faults_of writer.new) }
+    ensures untouched { IsUntouched is_extraction_write result file.old file.new × IsUntouched is_extraction_write result writer.old writer.new }
 {
     let told = match extract_text(alloc, reader, lines) {
         Ok(told) => told,

@@ -5,8 +5,9 @@ ghost use Rattle.ttx_cycle.specs.Counters.{inner_of, faults_of};
 ghost use Rattle.ttx_cycle.specs.Cycles.{slots_of};
 ghost use Rattle.ttx_witness.specs.Certificates.{fields_of};
 ghost use Rattle.ttx_certify.specs.CertifyingFiles.{IsUntouched};
-ghost use Rattle.ttx_tool.specs.FilesFaults.{is_write};
-ghost use Rattle.ttx_tool.specs.FindingFiles.{found_line, TellsDeadline, TellsVerdict, IsTold, FindsText, Finds, CountsInputs, CountsFind};
+ghost use Rattle.ttx_tool.specs.FilesFaults.{is_tool_write};
+ghost use Rattle.ttx_tool.specs.FindingFiles.{found_line, TellsDeadline, TellsVerdict, IsFoundAndTold, FindsText, FindsFiles, CountsInputs};
+ghost use Rattle.ttx_tool.specs.FindingFiles.{CountsFind};
 ghost use Rattle.ttx_tool.specs.PlannedFiles.{FindsDeadline, MakesCertified};
 ghost use Rattle.ttx_tool.specs.Planning.{WritesBoth, CountsBoth};
 
@@ -60,7 +61,8 @@ fn tell_verdict(
     service: &Service,
     certificate: &Certificate,
 ) -> Result<Told, ToolFault>
-    ensures told { IfOk result (λ told. TellsVerdict (slots_of cycle.now) service.now (fields_of certificate.now) told.file.items (string_bytes told.line) told.status) }
+    ensures told { IfOk result (λ told. TellsVerdict (slots_of cycle.now) service.now (fields_of certificate.now) told.file.items
+        (string_bytes told.line) told.status) }
     ensures memory { IfErr result (λ fault. fault ≡ ToolFault.NoMemory) }
 {
     let Ok(verdict) = certify_service(alloc, cycle, service, certificate) else {
@@ -86,7 +88,8 @@ fn tell(
 ) -> Result<Told, ToolFault>
     requires some { 1 ≤ repeat }
     requires few { repeat ≤ 8 }
-    ensures told { IfOk result (λ told. IsTold (slots_of cycle.now) service.now repeat class told.file.items (string_bytes told.line) told.status) }
+    ensures told { IfOk result (λ told. IsFoundAndTold (slots_of cycle.now) service.now repeat class told.file.items
+        (string_bytes told.line) told.status) }
     ensures memory { IfErr result (λ fault. fault ≡ ToolFault.NoMemory) }
 {
     ttx_witness::certificate_laws::certificates_keep_their_rules();
@@ -109,7 +112,8 @@ fn find_text<A: Read, B: Read>(
 ) -> Result<Told, ToolFault>
     requires some { 1 ≤ repeat }
     requires few { repeat ≤ 8 }
-    ensures bytes { IfSome (A.remaining (inner_of cycle.old)) (λ a. IfSome (B.remaining (inner_of service.old)) (λ b. FindsText a b repeat class result)) }
+    ensures bytes { IfSome (A.remaining (inner_of cycle.old))
+        (λ a. IfSome (B.remaining (inner_of service.old)) (λ b. FindsText a b repeat class result)) }
     ensures faults { CountsInputs result (faults_of cycle.old) (faults_of cycle.new) (faults_of service.old) (faults_of service.new) }
 {
     let cycle = match read_cycle(alloc, cycle) {
@@ -133,7 +137,8 @@ pub(super) fn write_told<O: Write, W: Write>(
     writer: &mut Counted<W>,
     line: &[u8],
 ) -> Result<(), ToolFault>
-    ensures bytes { WritesBoth bytes.now line.now (O.contents (inner_of file.old)) (O.contents (inner_of file.new)) (W.contents (inner_of writer.old)) (W.contents (inner_of writer.new)) result }
+    ensures bytes { WritesBoth bytes.now line.now (O.contents (inner_of file.old)) (O.contents (inner_of file.new))
+        (W.contents (inner_of writer.old)) (W.contents (inner_of writer.new)) result }
     ensures faults { CountsBoth result (faults_of file.old) (faults_of file.new) (faults_of writer.old) (faults_of writer.new) }
 {
     write_bytes(file, bytes).map_err(ToolFault::from_write)?;
@@ -154,11 +159,12 @@ fn find_and_write<A: Read, B: Read, O: Write, W: Write>(
 ) -> Result<u8, ToolFault>
     requires some { 1 ≤ repeat }
     requires few { repeat ≤ 8 }
-    ensures bytes { IfSome (A.remaining (inner_of cycle.old)) (λ a. IfSome (B.remaining (inner_of service.old)) (λ b. Finds a b repeat class
-        (O.contents (inner_of file.old)) (O.contents (inner_of file.new)) (W.contents (inner_of writer.old)) (W.contents (inner_of writer.new)) result)) }
+    ensures bytes { IfSome (A.remaining (inner_of cycle.old)) (λ a. IfSome (B.remaining (inner_of service.old)) (λ b. FindsFiles a b repeat class
+        (O.contents (inner_of file.old)) (O.contents (inner_of file.new)) (W.contents (inner_of writer.old)) (W.contents (inner_of writer.new))
+        result)) }
     ensures faults { CountsFind result (faults_of cycle.old) (faults_of cycle.new) (faults_of service.old) (faults_of service.new)
         (faults_of file.old) (faults_of file.new) (faults_of writer.old) (faults_of writer.new) }
-    ensures untouched { IsUntouched is_write result file.old file.new × IsUntouched is_write result writer.old writer.new }
+    ensures untouched { IsUntouched is_tool_write result file.old file.new × IsUntouched is_tool_write result writer.old writer.new }
 {
     let told = find_text(alloc, cycle, service, repeat, class)?;
     write_told(file, told.file.as_slice(), writer, told.line.as_bytes())?;
@@ -186,14 +192,16 @@ pub fn find<A: Read, B: Read, O: Write, W: Write>(
 ) -> Result<u8, ToolFault>
     requires some { 1 ≤ repeat }
     requires few { repeat ≤ 8 }
-    ensures bytes { IfSome (A.remaining (inner_of cycle.old)) (λ a. IfSome (B.remaining (inner_of service.old)) (λ b. Finds a b repeat class
-        (O.contents (inner_of file.old)) (O.contents (inner_of file.new)) (W.contents (inner_of writer.old)) (W.contents (inner_of writer.new)) result)) }
-    ensures planned { IfSome (A.remaining (inner_of cycle.old)) (λ a. IfSome (B.remaining (inner_of service.old)) (λ b. FindsDeadline a b class result)) }
+    ensures bytes { IfSome (A.remaining (inner_of cycle.old)) (λ a. IfSome (B.remaining (inner_of service.old)) (λ b. FindsFiles a b repeat class
+        (O.contents (inner_of file.old)) (O.contents (inner_of file.new)) (W.contents (inner_of writer.old)) (W.contents (inner_of writer.new))
+        result)) }
+    ensures planned { IfSome (A.remaining (inner_of cycle.old))
+        (λ a. IfSome (B.remaining (inner_of service.old)) (λ b. FindsDeadline a b class result)) }
     ensures certified { IfSome (A.remaining (inner_of cycle.old)) (λ a. IfSome (B.remaining (inner_of service.old)) (λ b. MakesCertified a b
         (O.contents (inner_of file.old)) (O.contents (inner_of file.new)) result)) }
     ensures faults { CountsFind result (faults_of cycle.old) (faults_of cycle.new) (faults_of service.old) (faults_of service.new)
         (faults_of file.old) (faults_of file.new) (faults_of writer.old) (faults_of writer.new) }
-    ensures untouched { IsUntouched is_write result file.old file.new × IsUntouched is_write result writer.old writer.new }
+    ensures untouched { IsUntouched is_tool_write result file.old file.new × IsUntouched is_tool_write result writer.old writer.new }
 {
     crate::laws::planned_is_found();
     crate::laws::found_is_certified();

@@ -3,7 +3,7 @@
 ghost use Rattle.std.specs.Prelude.{IfSome};
 ghost use Rattle.ttx_cycle.specs.Counters.{inner_of, calls_of, faults_of};
 ghost use Rattle.ttx_certify.specs.CertifyingFiles.{IsUntouched};
-ghost use Rattle.ttx_tool.specs.FilesFaults.{is_write};
+ghost use Rattle.ttx_tool.specs.FilesFaults.{is_tool_write};
 ghost use Rattle.ttx_tool.specs.Inspecting.{Inspects, CountsInspect};
 
 use crate::faults::ToolFault;
@@ -24,7 +24,7 @@ pub fn inspect<R: Read, W: Write>(
     ensures bytes { IfSome (R.remaining (inner_of reader.old))
         (λ bytes. Inspects bytes (W.contents (inner_of writer.old)) (W.contents (inner_of writer.new)) result) }
     ensures faults { CountsInspect result (faults_of reader.old) (faults_of reader.new) (faults_of writer.old) (faults_of writer.new) }
-    ensures untouched { IsUntouched is_write result writer.old writer.new }
+    ensures untouched { IsUntouched is_tool_write result writer.old writer.new }
 {
     let cycle = read_cycle(alloc, reader).map_err(ToolFault::Cycle)?;
     let text = lines(alloc, cycle.slots()).map_err(|_| ToolFault::NoMemory)?;

@@ -5,7 +5,7 @@ ghost use Rattle.ttx_cycle.specs.Counters.{inner_of, faults_of};
 ghost use Rattle.ttx_cycle.specs.Cycles.{slots_of};
 ghost use Rattle.ttx_cycle.specs.Files.{file_of};
 ghost use Rattle.ttx_certify.specs.CertifyingFiles.{IsUntouched};
-ghost use Rattle.ttx_tool.specs.FilesFaults.{is_write};
+ghost use Rattle.ttx_tool.specs.FilesFaults.{is_tool_write};
 ghost use Rattle.ttx_tool.specs.Planning.{Defines, PlansText, CountsDefinition, planned_line, WritesBoth, CountsBoth, Plans, CountsPlan};
 
 use crate::faults::ToolFault;
@@ -62,7 +62,8 @@ fn write_both<O: Write, W: Write>(
     writer: &mut Counted<W>,
     line: &[u8],
 ) -> Result<(), ToolFault>
-    ensures bytes { WritesBoth (file_of (slots_of cycle.now)) line.now (O.contents (inner_of file.old)) (O.contents (inner_of file.new)) (W.contents (inner_of writer.old)) (W.contents (inner_of writer.new)) result }
+    ensures bytes { WritesBoth (file_of (slots_of cycle.now)) line.now (O.contents (inner_of file.old)) (O.contents (inner_of file.new))
+        (W.contents (inner_of writer.old)) (W.contents (inner_of writer.new)) result }
     ensures faults { CountsBoth result (faults_of file.old) (faults_of file.new) (faults_of writer.old) (faults_of writer.new) }
 {
     write_cycle(file, cycle).map_err(ToolFault::from_write)?;
@@ -84,9 +85,11 @@ pub fn plan<R: Read, O: Write, W: Write>(
     writer: &mut Counted<W>,
 ) -> Result<u8, ToolFault>
     ensures bytes { IfSome (R.remaining (inner_of reader.old)) (λ bytes. Plans bytes receivers.late receivers.class
-        (O.contents (inner_of file.old)) (O.contents (inner_of file.new)) (W.contents (inner_of writer.old)) (W.contents (inner_of writer.new)) result) }
-    ensures faults { CountsPlan result (faults_of reader.old) (faults_of reader.new) (faults_of file.old) (faults_of file.new) (faults_of writer.old) (faults_of writer.new) }
-    ensures untouched { IsUntouched is_write result file.old file.new × IsUntouched is_write result writer.old writer.new }
+        (O.contents (inner_of file.old)) (O.contents (inner_of file.new)) (W.contents (inner_of writer.old)) (W.contents (inner_of writer.new))
+        result) }
+    ensures faults { CountsPlan result (faults_of reader.old) (faults_of reader.new) (faults_of file.old) (faults_of file.new)
+        (faults_of writer.old) (faults_of writer.new) }
+    ensures untouched { IsUntouched is_tool_write result file.old file.new × IsUntouched is_tool_write result writer.old writer.new }
 {
     let cycle = plan_text(alloc, reader, receivers)?;
     let line = planned_line(alloc, cycle.slots().len()).map_err(|_| ToolFault::NoMemory)?;

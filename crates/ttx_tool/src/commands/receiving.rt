@@ -3,9 +3,9 @@
 ghost use Rattle.std.specs.Prelude.{IfSome};
 ghost use Rattle.ttx_cycle.specs.Counters.{inner_of, faults_of};
 ghost use Rattle.ttx_certify.specs.CertifyingFiles.{IsUntouched};
-ghost use Rattle.ttx_tool.specs.FilesFaults.{is_write};
+ghost use Rattle.ttx_tool.specs.FilesFaults.{is_tool_write};
 ghost use Rattle.ttx_tool.specs.Inspecting.{CountsInspect};
-ghost use Rattle.ttx_tool.specs.Receiving.{tuning_at, Receives};
+ghost use Rattle.ttx_tool.specs.Receiving.{tuned_as, Receives};
 
 use crate::faults::ToolFault;
 use crate::stepping::step_over;
@@ -29,10 +29,10 @@ pub fn receive<R: Read, X: Receiver + Drop, W: Write>(
     writer: &mut Counted<W>,
 ) -> Result<u8, ToolFault>
     ensures bytes { IfSome (R.remaining (inner_of reader.old))
-        (λ bytes. Receives (tuning_at (X.kind receiver) (X.field receiver) (X.tuned receiver)) start count bytes
+        (λ bytes. Receives (tuned_as (X.kind receiver) (X.field receiver) (X.tuned receiver)) start count bytes
         (X.held receiver) (W.contents (inner_of writer.old)) (W.contents (inner_of writer.new)) result) }
     ensures faults { CountsInspect result (faults_of reader.old) (faults_of reader.new) (faults_of writer.old) (faults_of writer.new) }
-    ensures untouched { IsUntouched is_write result writer.old writer.new }
+    ensures untouched { IsUntouched is_tool_write result writer.old writer.new }
 {
     let mut receiver = Watched::new(receiver);
     let cycle = read_cycle(alloc, reader).map_err(ToolFault::Cycle)?;

@@ -8,7 +8,7 @@ ghost use Rattle.ttx_witness.specs.Certificates.{fields_of};
 ghost use Rattle.ttx_page.specs.Pages as definitions;
 ghost use Rattle.ttx_page.specs.declared.class.Class.TheVariants.{Any};
 ghost use Rattle.ttx_page.specs.Views.{page_of};
-ghost use Rattle.ttx_tool.specs.RefutingFiles.{counter_line, saved, IsRefutation, IsClassFault, RefutesText, Refutes, CountsThree, CountsRefute};
+ghost use Rattle.ttx_tool.specs.RefutingFiles.{counter_line, saved, IsRefutation, IsClassFault, RefutesText, RefutesFiles, CountsThree, CountsRefute};
 
 use super::finding::write_told;
 use crate::faults::ToolFault;
@@ -78,7 +78,8 @@ fn tell_counter(
     save: bool,
 ) -> Result<Told, ToolFault>
     requires { counter.now.page < length pages.now }
-    ensures line { IfOk result (λ told. (p : definitions.Page) → slice_get (map page_of pages.now) counter.now.page ≡ Some p → string_bytes told.line ≡ counter_line p.id (run_of counter.now)) }
+    ensures line { IfOk result (λ told. (p : definitions.Page) → slice_get (map page_of pages.now) counter.now.page ≡ Some p →
+        string_bytes told.line ≡ counter_line p.id (run_of counter.now)) }
     ensures file { IfOk result (λ told. told.file.items ≡ saved save (run_of counter.now)) }
     ensures status { IfOk result (λ told. told.status ≡ 1) }
     ensures memory { IfErr result (λ fault. fault ≡ ToolFault.NoMemory) }
@@ -122,7 +123,8 @@ fn tell_any(
     save: bool,
 ) -> Result<Told, ToolFault>
     requires { (fields_of certificate.now).class ≡ Any }
-    ensures told { IfOk result (λ told. IsRefutation (slots_of cycle.now) service.now (fields_of certificate.now) save told.file.items (string_bytes told.line) told.status) }
+    ensures told { IfOk result (λ told. IsRefutation (slots_of cycle.now) service.now (fields_of certificate.now) save told.file.items
+        (string_bytes told.line) told.status) }
     ensures memory { IfErr result (λ fault. fault ≡ ToolFault.NoMemory) }
 {
     let pages = service.pages();
@@ -143,7 +145,8 @@ fn tell(
     certificate: &Certificate,
     save: bool,
 ) -> Result<Told, ToolFault>
-    ensures told { IfOk result (λ told. IsRefutation (slots_of cycle.now) service.now (fields_of certificate.now) save told.file.items (string_bytes told.line) told.status) }
+    ensures told { IfOk result (λ told. IsRefutation (slots_of cycle.now) service.now (fields_of certificate.now) save told.file.items
+        (string_bytes told.line) told.status) }
     ensures fault { IfErr result (IsClassFault (fields_of certificate.now).class) }
 {
     match certificate.class() {
@@ -163,9 +166,11 @@ fn refute_text<A: Read, B: Read, C: Read>(
     certificate: &mut Counted<C>,
     save: bool,
 ) -> Result<Told, ToolFault>
-    ensures bytes { IfSome (A.remaining (inner_of cycle.old)) (λ a. IfSome (B.remaining (inner_of service.old)) (λ b. IfSome (C.remaining (inner_of certificate.old))
+    ensures bytes { IfSome (A.remaining (inner_of cycle.old))
+        (λ a. IfSome (B.remaining (inner_of service.old)) (λ b. IfSome (C.remaining (inner_of certificate.old))
         (λ c. RefutesText a b c save result))) }
-    ensures faults { CountsThree result (faults_of cycle.old) (faults_of cycle.new) (faults_of service.old) (faults_of service.new) (faults_of certificate.old) (faults_of certificate.new) }
+    ensures faults { CountsThree result (faults_of cycle.old) (faults_of cycle.new) (faults_of service.old) (faults_of service.new)
+        (faults_of certificate.old) (faults_of certificate.new) }
 {
     let inputs = match read_inputs(alloc, cycle, service, certificate) {
         Ok(inputs) => inputs,
@@ -199,9 +204,12 @@ pub fn refute<A: Read, B: Read, C: Read, O: Write, W: Write>(
     file: &mut Counted<O>,
     writer: &mut Counted<W>,
 ) -> Result<u8, ToolFault>
-    ensures bytes { IfSome (A.remaining (inner_of cycle.old)) (λ a. IfSome (B.remaining (inner_of service.old)) (λ b. IfSome (C.remaining (inner_of certificate.old)) (λ c. Refutes a b c save
-        (O.contents (inner_of file.old)) (O.contents (inner_of file.new)) (W.contents (inner_of writer.old)) (W.contents (inner_of writer.new)) result))) }
-    ensures faults { CountsRefute result (faults_of cycle.old) (faults_of cycle.new) (faults_of service.old) (faults_of service.new) (faults_of certificate.old) (faults_of certificate.new)
+    ensures bytes { IfSome (A.remaining (inner_of cycle.old))
+        (λ a. IfSome (B.remaining (inner_of service.old)) (λ b. IfSome (C.remaining (inner_of certificate.old)) (λ c. RefutesFiles a b c save
+        (O.contents (inner_of file.old)) (O.contents (inner_of file.new)) (W.contents (inner_of writer.old)) (W.contents (inner_of writer.new))
+        result))) }
+    ensures faults { CountsRefute result (faults_of cycle.old) (faults_of cycle.new) (faults_of service.old) (faults_of service.new)
+        (faults_of certificate.old) (faults_of certificate.new)
         (faults_of file.old) (faults_of file.new) (faults_of writer.old) (faults_of writer.new) }
 {
     let told = refute_text(alloc, cycle, service, certificate, save)?;

@@ -8,10 +8,11 @@ ghost use Rattle.ttx_cycle.specs.Cycles.{slots_of};
 ghost use Rattle.ttx_page.specs.Pages as definitions;
 ghost use Rattle.ttx_page.specs.Views.{page_of, memory_of};
 ghost use Rattle.ttx_source.specs.Services.{pages_of};
-ghost use Rattle.ttx_tool.specs.FilesFaults.{is_write};
-ghost use Rattle.ttx_tool.specs.Planning.{Defines};
-ghost use Rattle.ttx_tool.specs.ReplayingFiles.{replay_text, none_text, IsReplay, ReadsCounter, ReplaysText, Replays, CountsService, CountsCounter, CountsInputs, CountsReplay};
+ghost use Rattle.ttx_tool.specs.FilesFaults.{is_tool_write};
+ghost use Rattle.ttx_tool.specs.ReplayingFiles.{replay_text, none_text, IsReplay, ReadsCounter, ReplaysText, Replays, CountsCounter};
+ghost use Rattle.ttx_tool.specs.ReplayingFiles.{CountsReplayInputs, CountsReplay};
 
+use super::planning::read_definition;
 use super::refuting::counter_line;
 use crate::faults::{CounterFileFault, ToolFault};
 use crate::unlike_views::push_unlike_lines;
@@ -31,17 +32,6 @@ const MOST_BYTES: usize = 4_194_304;
 struct Told {
     text: String,
     status: u8,
-}
-
-// Reads the text of a service. None of its faults is one of a counter-run's text.
-fn read_service<R: Read>(alloc: Global, reader: &mut Counted<R>) -> Result<Service, ToolFault>
-    ensures bytes { IfSome (R.remaining (inner_of reader.old)) (λ bytes. Defines bytes result) }
-    ensures faults { CountsService result (faults_of reader.old) (faults_of reader.new) }
-{
-    match ttx_certify::read_definition(alloc, reader) {
-        Ok(service) => Ok(service),
-        Err(fault) => Err(ToolFault::from_files(fault)),
-    }
 }
 
 // Reads the text of a counter-run.
@@ -118,7 +108,8 @@ fn tell(
     service: &Service,
     counter: &Counter,
 ) -> Result<Told, ToolFault>
-    ensures told { IfOk result (λ told. IsReplay (slots_of cycle.now) (pages_of service.now) (run_of counter.now) (string_bytes told.text) told.status) }
+    ensures told { IfOk result (λ told. IsReplay (slots_of cycle.now) (pages_of service.now) (run_of counter.now)
+        (string_bytes told.text) told.status) }
     ensures memory { IfErr result (λ fault. fault ≡ ToolFault.NoMemory) }
 {
     let pages = service.pages();
@@ -138,15 +129,17 @@ fn replay_files<A: Read, B: Read, C: Read>(
     service: &mut Counted<B>,
     counter: &mut Counted<C>,
 ) -> Result<Told, ToolFault>
-    ensures bytes { IfSome (A.remaining (inner_of cycle.old)) (λ a. IfSome (B.remaining (inner_of service.old)) (λ b. IfSome (C.remaining (inner_of counter.old))
+    ensures bytes { IfSome (A.remaining (inner_of cycle.old))
+        (λ a. IfSome (B.remaining (inner_of service.old)) (λ b. IfSome (C.remaining (inner_of counter.old))
         (λ c. ReplaysText a b c result))) }
-    ensures faults { CountsInputs result (faults_of cycle.old) (faults_of cycle.new) (faults_of service.old) (faults_of service.new) (faults_of counter.old) (faults_of counter.new) }
+    ensures faults { CountsReplayInputs result (faults_of cycle.old) (faults_of cycle.new) (faults_of service.old) (faults_of service.new)
+        (faults_of counter.old) (faults_of counter.new) }
 {
     let cycle = match read_cycle(alloc, cycle) {
         Ok(cycle) => cycle,
         Err(fault) => return Err(ToolFault::Cycle(fault)),
     };
-    let service = match read_service(alloc, service) {
+    let service = match read_definition(alloc, service) {
         Ok(service) => service,
         Err(fault) => return Err(fault),
     };
@@ -173,11 +166,13 @@ pub fn replay<A: Read, B: Read, C: Read, W: Write>(
     counter: &mut Counted<C>,
     writer: &mut Counted<W>,
 ) -> Result<u8, ToolFault>
-    ensures bytes { IfSome (A.remaining (inner_of cycle.old)) (λ a. IfSome (B.remaining (inner_of service.old)) (λ b. IfSome (C.remaining (inner_of counter.old)) (λ c. Replays a b c
+    ensures bytes { IfSome (A.remaining (inner_of cycle.old))
+        (λ a. IfSome (B.remaining (inner_of service.old)) (λ b. IfSome (C.remaining (inner_of counter.old)) (λ c. Replays a b c
         (W.contents (inner_of writer.old)) (W.contents (inner_of writer.new)) result))) }
-    ensures faults { CountsReplay result (faults_of cycle.old) (faults_of cycle.new) (faults_of service.old) (faults_of service.new) (faults_of counter.old) (faults_of counter.new)
+    ensures faults { CountsReplay result (faults_of cycle.old) (faults_of cycle.new) (faults_of service.old) (faults_of service.new)
+        (faults_of counter.old) (faults_of counter.new)
         (faults_of writer.old) (faults_of writer.new) }
-    ensures untouched { IsUntouched is_write result writer.old writer.new }
+    ensures untouched { IsUntouched is_tool_write result writer.old writer.new }
 {
     let told = replay_files(alloc, cycle, service, counter)?;
     write_bytes(writer, told.text.as_bytes()).map_err(ToolFault::from_write)?;

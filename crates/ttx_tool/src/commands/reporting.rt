@@ -5,7 +5,8 @@ ghost use Rattle.std.specs.Fmt.{decimal};
 ghost use Rattle.ttx_cycle.specs.Counters.{inner_of, faults_of};
 ghost use Rattle.ttx_extract.specs.Refusals.{refusal_text};
 ghost use Rattle.ttx_source.specs.Faults.{fault_of};
-ghost use Rattle.ttx_tool.specs.Reports.{service_text, service_status, certificate_text, extract_text, extract_status, run_text, run_status, fault_line, status_of, Reports, ReportsWords, CountsReport};
+ghost use Rattle.ttx_tool.specs.Reports.{service_text, service_status, certificate_refusal, extract_text, extract_status, run_text, run_status};
+ghost use Rattle.ttx_tool.specs.Reports.{fault_line, status_of, Reports, ReportsWords, CountsReport};
 
 use crate::faults::{CounterFileFault, ToolFault};
 use std::alloc::{AllocError, Global};
@@ -52,7 +53,7 @@ fn service_line(alloc: Global, error: &SourceError) -> Result<String, AllocError
 
 // The line of a refused certificate.
 fn certificate_line(alloc: Global, fault: &CertFault) -> Result<String, AllocError>
-    ensures { IfOk result (λ line. string_bytes line ≡ certificate_text fault.now ++ 10 ∷ []) }
+    ensures { IfOk result (λ line. string_bytes line ≡ certificate_refusal fault.now ++ 10 ∷ []) }
 {
     match fault {
         CertFault::Title => String::from_str(alloc, "refused: certificate 1 title\n"),
@@ -220,7 +221,8 @@ pub fn report_extraction<W: Write>(
     fault: &ExtractFault,
     writer: &mut Counted<W>,
 ) -> Result<u8, ToolFault>
-    ensures line { Reports (extract_text fault.now ++ 10 ∷ []) (extract_status fault.now) (W.contents (inner_of writer.old)) (W.contents (inner_of writer.new)) result }
+    ensures line { Reports (extract_text fault.now ++ 10 ∷ []) (extract_status fault.now) (W.contents (inner_of writer.old))
+        (W.contents (inner_of writer.new)) result }
     ensures faults { CountsReport result (faults_of writer.old) (faults_of writer.new) }
 {
     let line = extract_line(alloc, fault).map_err(|_| ToolFault::NoMemory)?;

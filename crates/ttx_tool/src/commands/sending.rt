@@ -3,7 +3,7 @@
 ghost use Rattle.std.specs.Prelude.{IfSome, ◌≤◌};
 ghost use Rattle.ttx_cycle.specs.Counters.{inner_of, faults_of};
 ghost use Rattle.ttx_certify.specs.CertifyingFiles.{IsUntouched};
-ghost use Rattle.ttx_tool.specs.FilesFaults.{is_write};
+ghost use Rattle.ttx_tool.specs.FilesFaults.{is_tool_write};
 ghost use Rattle.ttx_tool.specs.Inspecting.{CountsInspect};
 ghost use Rattle.ttx_tool.specs.SendingFiles.{Sends};
 
@@ -32,7 +32,7 @@ pub fn send<R: Read, W: Write>(
     ensures bytes { IfSome (R.remaining (inner_of reader.old))
         (λ bytes. Sends bytes start.now lines phase fields (W.contents (inner_of writer.old)) (W.contents (inner_of writer.new)) result) }
     ensures faults { CountsInspect result (faults_of reader.old) (faults_of reader.new) (faults_of writer.old) (faults_of writer.new) }
-    ensures untouched { IsUntouched is_write result writer.old writer.new }
+    ensures untouched { IsUntouched is_tool_write result writer.old writer.new }
 {
     let cycle = read_cycle(alloc, reader).map_err(ToolFault::Cycle)?;
     ttx_send::send(&cycle, start, lines, phase, fields, writer).map_err(ToolFault::from_write)

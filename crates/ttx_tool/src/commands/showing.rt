@@ -7,10 +7,10 @@ ghost use Rattle.ttx_page.specs.Streams.{repeated};
 ghost use Rattle.ttx_page.specs.Views.{memory_of};
 ghost use Rattle.ttx_picture.specs.Forms.{picture_of};
 ghost use Rattle.ttx_certify.specs.CertifyingFiles.{IsUntouched};
-ghost use Rattle.ttx_tool.specs.FilesFaults.{is_write};
+ghost use Rattle.ttx_tool.specs.FilesFaults.{is_tool_write};
 ghost use Rattle.ttx_tool.specs.Inspecting.{CountsInspect};
-ghost use Rattle.ttx_tool.specs.Receiving.{tuning_at, Hears};
-ghost use Rattle.ttx_tool.specs.Showing.{stays_fresh, no_page_line, shown_text, shown_status, ShowsAfter, Shows};
+ghost use Rattle.ttx_tool.specs.Receiving.{tuned_as, Hears};
+ghost use Rattle.ttx_tool.specs.Showing.{stays_fresh, no_page_line, shown_text, shown_status, ShowsAfter, ShowsFile};
 
 use crate::faults::ToolFault;
 use crate::stepping::step_over;
@@ -23,11 +23,20 @@ use ttx_picture::push_picture;
 use ttx_receiver::Receiver;
 use ttx_render::{View, render};
 
+// What is asked for beside the cycle.
+#[derive(Clone, Copy)]
+struct Request<'a> {
+    tuning: &'a Tuning,
+    look: &'a Look<'a>,
+}
+
 // Steps a receiver over `count` slots from slot `start` on, which counts round the cycle.
 fn hear<X: Receiver>(receiver: &mut X, slots: &[[u8; 42]], start: usize, count: u32)
     requires { 0 < length slots.now }
-    ensures heard { Hears (tuning_at (X.kind receiver.old) (X.field receiver.old) (X.tuned receiver.old)) slots.now start count (X.held receiver.old) (X.held receiver.new) }
-    ensures fresh { (X.held receiver.new).fresh ≡ stays_fresh (X.tuned receiver.old) (X.held receiver.old) (sent_from (repeated slots.now) (pos start) count) }
+    ensures heard { Hears (tuned_as (X.kind receiver.old) (X.field receiver.old) (X.tuned receiver.old)) slots.now start count (X.held receiver.old)
+        (X.held receiver.new) }
+    ensures fresh { (X.held receiver.new).fresh ≡ stays_fresh (X.tuned receiver.old) (X.held receiver.old)
+        (sent_from (repeated slots.now) (pos start) count) }
 {
     step_over(receiver, slots, start, count);
 }
@@ -70,16 +79,17 @@ fn show_by<R: Read, X: Receiver, W: Write>(
     alloc: Global,
     reader: &mut Counted<R>,
     receiver: &mut X,
-    tuning: &Tuning,
-    look: &Look<'_>,
+    request: &Request<'_>,
     writer: &mut Counted<W>,
 ) -> Result<u8, ToolFault>
     ensures bytes { IfSome (R.remaining (inner_of reader.old))
-        (λ bytes. ShowsAfter (tuning_at (X.kind receiver.old) (X.field receiver.old) (X.tuned receiver.old)) tuning.now.start tuning.now.slots look.now bytes
+        (λ bytes. ShowsAfter (tuned_as (X.kind receiver.old) (X.field receiver.old) (X.tuned receiver.old)) request.now.tuning.now.start
+        request.now.tuning.now.slots request.now.look.now bytes
         (X.held receiver.old) (X.held receiver.new) (W.contents (inner_of writer.old)) (W.contents (inner_of writer.new)) result) }
     ensures faults { CountsInspect result (faults_of reader.old) (faults_of reader.new) (faults_of writer.old) (faults_of writer.new) }
-    ensures untouched { IsUntouched is_write result writer.old writer.new }
+    ensures untouched { IsUntouched is_tool_write result writer.old writer.new }
 {
+    let (tuning, look) = (request.tuning, request.look);
     let cycle = read_cycle(alloc, reader).map_err(ToolFault::Cycle)?;
     hear(
         receiver,
@@ -108,11 +118,12 @@ pub fn show<R: Read, X: Receiver + Drop, W: Write>(
     writer: &mut Counted<W>,
 ) -> Result<u8, ToolFault>
     ensures bytes { IfSome (R.remaining (inner_of reader.old))
-        (λ bytes. Shows (tuning_at (X.kind receiver) (X.field receiver) (X.tuned receiver)) tuning.now.start tuning.now.slots look.now bytes
+        (λ bytes. ShowsFile (tuned_as (X.kind receiver) (X.field receiver) (X.tuned receiver)) tuning.now.start tuning.now.slots look.now bytes
         (X.held receiver) (W.contents (inner_of writer.old)) (W.contents (inner_of writer.new)) result) }
     ensures faults { CountsInspect result (faults_of reader.old) (faults_of reader.new) (faults_of writer.old) (faults_of writer.new) }
-    ensures untouched { IsUntouched is_write result writer.old writer.new }
+    ensures untouched { IsUntouched is_tool_write result writer.old writer.new }
 {
     let mut receiver = receiver;
-    show_by(alloc, reader, &mut receiver, tuning, look, writer)
+    let request = Request { tuning, look };
+    show_by(alloc, reader, &mut receiver, &request, writer)
 }

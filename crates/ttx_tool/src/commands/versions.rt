@@ -2,7 +2,7 @@
 
 ghost use Rattle.ttx_cycle.specs.Counters.{inner_of, faults_of};
 ghost use Rattle.ttx_tool.specs.Reports.{CountsReport};
-ghost use Rattle.ttx_tool.specs.Versions.{version_text, Tells};
+ghost use Rattle.ttx_tool.specs.Versions.{version_text, TellsVersion};
 
 use crate::faults::ToolFault;
 use std::io::Write;
@@ -13,7 +13,7 @@ const VERSION: &str = "ttx 1.0.0\nkit rattle-kit-13b\nlogic dac8208d650f15bf\n";
 
 /// Writes the version of the program, and the kit and the logic by which it is proved.
 pub fn version<W: Write>(writer: &mut Counted<W>) -> Result<(), ToolFault>
-    ensures bytes { Tells version_text (W.contents (inner_of writer.old)) (W.contents (inner_of writer.new)) result }
+    ensures bytes { TellsVersion version_text (W.contents (inner_of writer.old)) (W.contents (inner_of writer.new)) result }
     ensures faults { CountsReport result (faults_of writer.old) (faults_of writer.new) }
 {
     write_bytes(writer, VERSION.as_bytes()).map_err(ToolFault::from_write)

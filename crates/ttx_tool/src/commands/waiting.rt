@@ -4,7 +4,7 @@ ghost use Rattle.std.specs.Prelude.{◌≡◌, ◌≤◌, IfSome, IfOk, IfErr, s
 ghost use Rattle.ttx_cycle.specs.Counters.{inner_of, faults_of};
 ghost use Rattle.ttx_cycle.specs.Cycles.{slots_of};
 ghost use Rattle.ttx_certify.specs.CertifyingFiles.{IsUntouched};
-ghost use Rattle.ttx_tool.specs.FilesFaults.{is_write};
+ghost use Rattle.ttx_tool.specs.FilesFaults.{is_tool_write};
 ghost use Rattle.ttx_tool.specs.FindingFiles.{CountsInputs};
 ghost use Rattle.ttx_tool.specs.WaitingFiles.{wait_status, IsWaitOf, WaitsText, Waits, CountsWait};
 
@@ -24,6 +24,14 @@ struct Told {
     status: u8,
 }
 
+// For receivers of which class, with which repeat count, and in which lines it is told.
+#[derive(Clone, Copy)]
+struct Question {
+    repeat: u8,
+    class: Class,
+    detail: Detail,
+}
+
 fn wait_status(deadline: Option<u32>) -> u8
     ensures { result ≡ wait_status deadline }
 {
@@ -38,23 +46,22 @@ fn tell(
     alloc: Global,
     cycle: &Cycle,
     service: &Service,
-    repeat: u8,
-    class: Class,
-    detail: Detail,
+    question: Question,
 ) -> Result<Told, ToolFault>
-    requires some { 1 ≤ repeat }
-    requires few { repeat ≤ 8 }
-    ensures told { IfOk result (λ told. IsWaitOf (slots_of cycle.now) service.now repeat class detail (string_bytes told.text) told.status) }
+    requires some { 1 ≤ question.repeat }
+    requires few { question.repeat ≤ 8 }
+    ensures told { IfOk result (λ told. IsWaitOf (slots_of cycle.now) service.now question.repeat question.class question.detail
+        (string_bytes told.text) told.status) }
     ensures memory { IfErr result (λ fault. fault ≡ ToolFault.NoMemory) }
 {
     let Ok(report) = report_with(
         alloc,
         cycle,
         service.pages(),
-        class,
-        repeat,
+        question.class,
+        question.repeat,
         service.lines(),
-        detail,
+        question.detail,
     ) else {
         return Err(ToolFault::NoMemory);
     };
@@ -70,13 +77,12 @@ fn wait_text<A: Read, B: Read>(
     alloc: Global,
     cycle: &mut Counted<A>,
     service: &mut Counted<B>,
-    repeat: u8,
-    class: Class,
-    detail: Detail,
+    question: Question,
 ) -> Result<Told, ToolFault>
-    requires some { 1 ≤ repeat }
-    requires few { repeat ≤ 8 }
-    ensures bytes { IfSome (A.remaining (inner_of cycle.old)) (λ a. IfSome (B.remaining (inner_of service.old)) (λ b. WaitsText a b repeat class detail result)) }
+    requires some { 1 ≤ question.repeat }
+    requires few { question.repeat ≤ 8 }
+    ensures bytes { IfSome (A.remaining (inner_of cycle.old))
+        (λ a. IfSome (B.remaining (inner_of service.old)) (λ b. WaitsText a b question.repeat question.class question.detail result)) }
     ensures faults { CountsInputs result (faults_of cycle.old) (faults_of cycle.new) (faults_of service.old) (faults_of service.new) }
 {
     let cycle = match read_cycle(alloc, cycle) {
@@ -87,14 +93,15 @@ fn wait_text<A: Read, B: Read>(
         Ok(service) => service,
         Err(fault) => return Err(fault),
     };
-    match tell(alloc, &cycle, &service, repeat, class, detail) {
+    match tell(alloc, &cycle, &service, question) {
         Ok(told) => Ok(told),
         Err(_) => Err(ToolFault::NoMemory),
     }
 }
 
 /// Reads a packet file and the text of a service, and writes how long viewers of each page of the service wait, and what they
-/// wait for, to receivers of the class, in the lines that `detail` asks for; `repeat` is 1 to 8. The status is 0 where there is a deadline for all pages, else 1.
+/// wait for, to receivers of the class, in the lines that `detail` asks for; `repeat` is 1 to 8. The status is 0 where there is a
+/// deadline for all pages, else 1.
 ///
 /// Nothing is written before all is told. At `Write` exactly the first `written` bytes of the lines went out; at each other
 /// fault the writer is as it was.
@@ -113,9 +120,14 @@ pub fn wait<A: Read, B: Read, W: Write>(
         (W.contents (inner_of writer.old)) (W.contents (inner_of writer.new)) result)) }
     ensures faults { CountsWait result (faults_of cycle.old) (faults_of cycle.new) (faults_of service.old) (faults_of service.new)
         (faults_of writer.old) (faults_of writer.new) }
-    ensures untouched { IsUntouched is_write result writer.old writer.new }
+    ensures untouched { IsUntouched is_tool_write result writer.old writer.new }
 {
-    let told = wait_text(alloc, cycle, service, repeat, class, detail)?;
+    let question = Question {
+        repeat,
+        class,
+        detail,
+    };
+    let told = wait_text(alloc, cycle, service, question)?;
     write_bytes(writer, told.text.as_bytes()).map_err(ToolFault::from_write)?;
     Ok(told.status)
 }

@@ -6,7 +6,7 @@ use Rattle.ttx_certify.specs.Seen.{HasView}
 use Rattle.ttx_receiver.specs.Tuning.{Tuned, tuned_at}
 use Rattle.ttx_render.specs.Comparison.{SameButClock}
 use Rattle.ttx_render.specs.View.{view_of}
-use Rattle.ttx_counter.specs.Sources.{IsWrongAfter, takes}
+use Rattle.ttx_counter.specs.Sources.{IsWrongAfter, takes_from}
 use Rattle.ttx_page.specs.Packets.{packet_of}
 use Rattle.ttx_counter.proofs.Streaking.{no_both}
 use Rattle.ttx_counter.proofs.Sending.{slot_at}
@@ -15,8 +15,8 @@ use Rattle.ttx_counter.proofs.Taking.{unseen}
 use Rattle.ttx_counter.proofs.plain.first_wrong.Goals.{then-taken, else-taken}
 use Rattle.ttx_counter.proofs.plain.first_wrong.Goals as goal
 
-pub takes-taken-requires-clause-at : goal.takes-taken-requires-clause-at
-takes-taken-requires-clause-at c = subst (λ s. c.place-at.result < length s) c.slots-period.ensures.slots c.place-at.ensures.inside
+pub takes_from-taken-requires-clause-at : goal.takes_from-taken-requires-clause-at
+takes_from-taken-requires-clause-at c = subst (λ s. c.place-at.result < length s) c.slots-period.ensures.slots c.place-at.ensures.inside
 
 pub hear_at-requires-clause-at : goal.hear_at-requires-clause-at
 hear_at-requires-clause-at c = subst (λ s. c.place-at.result < length s) c.slots-period.ensures.slots c.place-at.ensures.inside
@@ -38,8 +38,8 @@ loop-n-preserved c =
         | else-taken w ↦
             let m = c.loop-n.receiver.memory in
             let packet = packet_of (get_or x c.place-at.result []) in
-            let left : takes c.loop-n.receiver.selection m packet ≡ false =
-            sym (c.takes-taken.ensures ∙ ap (λ z. takes c.selection.result z packet) c.memory-in-loop-n.ensures ∙ ap (λ z. takes z m packet) c.selection.ensures) ∙ w.if-taken.false in
+            let left : takes_from c.loop-n.receiver.selection m packet ≡ false =
+            sym (c.takes_from-taken.ensures ∙ ap (λ z. takes_from c.selection.result z packet) c.memory-in-loop-n.ensures ∙ ap (λ z. takes_from z m packet) c.selection.ensures) ∙ w.if-taken.false in
             let same = unseen c.contents_decide.ensures c.loop-n.receiver.lines c.loop-n.receiver.selection m c.hear_at.new.receiver.memory packet left (ap (λ (r : Tuned). r.memory) c.hear_at.ensures.value) in
             subst (λ b. (b ≡ true) ↔ (SameButClock (view_of c.hear_at.new.receiver.memory) own → ⊥)) (sym w.wrong-is)
             (subst (λ v. (c.loop-n.wrong ≡ true) ↔ (SameButClock v own → ⊥)) (sym same) i.wrong)

@@ -3,7 +3,7 @@ use Rattle.std.proofs.lemmas.List.{get_or_read}
 use Rattle.ttx_counter.specs.Cells.{streak_of}
 use Rattle.ttx_counter.proofs.streaks.count_hits.Goals as goal
 use Rattle.ttx_counter.proofs.streaks.count_hits.Goals.{then-is_text+else-count-from, else-is_text}
-use Rattle.ttx_counter.proofs.Noting.{counted_same, counted_set}
+use Rattle.ttx_counter.proofs.NotedStreaks.{counted_same, counted_set}
 
 pub loop-i-preserved : goal.loop-i-preserved
 loop-i-preserved c =

@@ -3,7 +3,7 @@ use Rattle.std.proofs.lemmas.List.{take_more}
 use Rattle.std.proofs.lemmas.List.Folds.{find-append}
 use Rattle.std.specs.List.{find}
 use Rattle.std.specs.Option.{option_or}
-use Rattle.ttx_pages.specs.Keys.{heads}
+use Rattle.ttx_pages.specs.Keys.{is_header_of}
 use Rattle.ttx_pages.proofs.firsts.first_headers.Goals as goal
 
 -- one slot more
@@ -15,6 +15,6 @@ find_more p xs i d old new h e f =
 
 pub loop-slot-preserved : goal.loop-slot-preserved
 loop-slot-preserved c = record {
-  first = λ q. find_more (heads q) c.args.slots.now c.loop-slot.slot-index _ _ _ c.loop-slot-test.true (c.in_ok-keep_first.ensures.first q) (c.loop-slot.invariant.first q);
+  first = λ q. find_more (is_header_of q) c.args.slots.now c.loop-slot.slot-index _ _ _ c.loop-slot-test.true (c.in_ok-keep_first.ensures.first q) (c.loop-slot.invariant.first q);
   pages = c.in_ok-keep_first.ensures.pages c.loop-slot.invariant.pages;
 }

@@ -1,10 +1,10 @@
 use Rattle.std.proofs.Common.{◌≡◌, ◌+◌, ◌%◌, length}
-use Rattle.ttx_tool.specs.Receiving.{tuning_at, Hears}
+use Rattle.ttx_tool.specs.Receiving.{tuned_as, Hears}
 use Rattle.ttx_tool.proofs.stepping.step_over.Given as goal
 
 abbrev pub invariant-loop : goal.invariant-loop
 invariant-loop g l = record {
-  run : Hears (tuning_at (g.X.Receiver.kind l.initial.receiver) (g.X.Receiver.field l.initial.receiver) (g.X.Receiver.tuned l.initial.receiver)) l.slots l.start l.counter
+  run : Hears (tuned_as (g.X.Receiver.kind l.initial.receiver) (g.X.Receiver.field l.initial.receiver) (g.X.Receiver.tuned l.initial.receiver)) l.slots l.start l.counter
       (g.X.Receiver.held l.initial.receiver) (g.X.Receiver.held l.receiver);
   at : l.at ≡ (l.start + l.counter) % length l.slots;
   class : g.X.Receiver.kind l.receiver ≡ g.X.Receiver.kind l.initial.receiver;

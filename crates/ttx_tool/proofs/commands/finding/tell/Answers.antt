@@ -4,7 +4,7 @@ use Rattle.ttx_cycle.specs.Cycles.{slots_of}
 use Rattle.ttx_source.specs.Services.{pages_of}
 use Rattle.ttx_witness.specs.Certificates.{fields_of, certificate_of}
 use Rattle.ttx_witness.specs.finding.Finding.{IsFoundFor}
-use Rattle.ttx_tool.specs.FindingFiles.{Tells}
+use Rattle.ttx_tool.specs.FindingFiles.{TellsFound}
 use Rattle.ttx_tool.proofs.FoundNothing.{says_no}
 use Rattle.ttx_tool.proofs.commands.finding.tell.Goals as goal
 
@@ -16,7 +16,7 @@ returns-in-Some-clause-told c =
       fields = (c.certificates_keep_their_rules.ensures c.in-Ok.found.certificate).0;
       deadline = c.in-Ok.found.deadline;
       found = c.in-Ok.ensures;
-      told = subst (λ d. Tells (slots_of c.args.cycle.now) c.args.service.now w d t.file.items (string_bytes t.line) t.status) (sym c.in-Some.is) h;
+      told = subst (λ d. TellsFound (slots_of c.args.cycle.now) c.args.service.now w d t.file.items (string_bytes t.line) t.status) (sym c.in-Some.is) h;
     }) c.tell_deadline.ensures.told
 
 pub returns-clause-told : goal.returns-clause-told

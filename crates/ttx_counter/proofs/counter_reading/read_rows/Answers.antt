@@ -1,6 +1,6 @@
 use Rattle.std.proofs.Common.{arith}
 use Rattle.ttx_counter.proofs.ReadParts.{rows_are}
-use Rattle.ttx_counter.proofs.counter_reading.rows_in.Goals as goal
+use Rattle.ttx_counter.proofs.counter_reading.read_rows.Goals as goal
 
 pub returns : goal.returns
 returns c =

@@ -1,4 +1,4 @@
--- What the parts of `extract` tell.
+-- The first packet 8/30 of a cycle as the program finds it, and what it says of it.
 --
 --   TellsInfo               the first packet 8/30 and its slot
 --   MinusZero               the slot of one with an offset that no text says

@@ -5,7 +5,7 @@ use Rattle.std.proofs.lemmas.Bool.Decides.{nat_tests}
 use Rattle.std.proofs.lemmas.List.{get_or-set_same, get_or-set_other}
 use Rattle.ttx_counter.specs.Keys.{key_at, byte_in}
 use Rattle.ttx_counter.specs.Streaks.{streak_to}
-use Rattle.ttx_counter.specs.Cells.{is_text, streak_of, cell_at, running, AreCounted, IsOver, Tells, IsCell, AreStreaks, IsBroken, Noted}
+use Rattle.ttx_counter.specs.Cells.{is_text, streak_of, cell_at, running, AreCounted, IsStreakReached, TellsSlot, IsCell, AreStreaks, IsBroken, StreaksAfter}
 use Rattle.ttx_counter.specs.declared.streaks.Streak.{Streak}
 use Rattle.ttx_counter.proofs.Streaking.{cases_bool, no_both}
 
@@ -53,7 +53,7 @@ module _ (row latest now k : ℕ) (keys : List ℕ) (from : ℕ) (old new : List
 
   pub is_over : (count : ℕ) → from ≤ i → (to : ℕ) → i < to → is_text row (byte_at keys i) ≡ true →
       ((j : ℕ) → from ≤ j → j < i → byte_at keys j ≡ byte_at keys i → ⊥) → count ≡ running latest (cell_at new row (byte_at keys i)) → k ≤ suc count →
-      AreCounted row latest now k keys from i old new → IsOver row latest k keys from to old
+      AreCounted row latest now k keys from i old new → IsStreakReached row latest k keys from to old
   is_over count up to lt its apart is many a =
       let fresh : cell_at new row (byte_at keys i) ≡ cell_at old row (byte_at keys i) = a.other (42 * row + byte_at keys i) (λ j low high text e. apart j low high (omega arith)) in
       record { key = i; after = up; before = lt; text = its; long = (let e : count ≡ running latest (cell_at old row (byte_at keys i)) = is ∙ ap (running latest) fresh in omega arith) }
@@ -76,7 +76,7 @@ module _ (row latest now k : ℕ) (keys : List ℕ) (from : ℕ) (old new : List
 
   pub over_at : (x count : ℕ) (cell : Streak) → x ≡ byte_at keys i → from ≤ i → (to : ℕ) → i < to → is_text row x ≡ true →
       ((j : ℕ) → from ≤ j → j < i → byte_at keys j ≡ byte_at keys i → ⊥) → cell ≡ cell_at new row x → count ≡ running latest cell → k ≤ suc count →
-      AreCounted row latest now k keys from i old new → IsOver row latest k keys from to old
+      AreCounted row latest now k keys from i old new → IsStreakReached row latest k keys from to old
   over_at x count cell e up to lt its apart here is many a =
       is_over count up to lt (subst (λ y. is_text row y ≡ true) e its) apart (is ∙ ap (running latest) (here ∙ ap (cell_at new row) e)) many a
 
@@ -131,14 +131,14 @@ module _ (sent wrong : ℕ → ℕ → Bool) (k n : ℕ) (latest : List ℕ) (ce
       let w = a.counted r x lt text in
       record { past = subst (λ z. z.last ≤ get_or new r 0) (sym c) (subst (λ z. (cell_at cells r x).last ≤ z) (sym l) w.past); is = unsent r x e ∙ w.is ∙ ap (λ z. running z (cell_at cells r x)) (sym l) ∙ ap (running (get_or new r 0)) (sym c) }
 
-  pub noted_none : Tells sent wrong None keys from to n → AreStreaks sent wrong k n latest cells → AreStreaks sent wrong k (n + 1) latest cells
+  pub noted_none : TellsSlot sent wrong None keys from to n → AreStreaks sent wrong k n latest cells → AreStreaks sent wrong k (n + 1) latest cells
   noted_none t a = record {
     past = λ r lt. let h = a.past r lt in omega arith;
     counted = λ r x lt text. kept latest cells r x lt text a (t.sent_is r lt) refl refl;
     below = λ r x m lt text le. below_next r x lt text a (let u = unsent r x (t.sent_is r lt) in let b = a.below r x n lt text (omega arith) in omega arith) m le;
   }
 
-  module _ (row : ℕ) (inside : row < 25) (count : length latest ≡ 25) (t : Tells sent wrong (Some row) keys from to n) (a : AreStreaks sent wrong k n latest cells) where
+  module _ (row : ℕ) (inside : row < 25) (count : length latest ≡ 25) (t : TellsSlot sent wrong (Some row) keys from to n) (a : AreStreaks sent wrong k n latest cells) where
     sent_row : sent row n ≡ true
     sent_row = t.sent_is row inside ∙ eq-eqb row row refl
 
@@ -190,7 +190,7 @@ module _ (sent wrong : ℕ → ℕ → Bool) (k n : ℕ) (latest : List ℕ) (ce
         ]) m le;
       }
 
-    pub broken_row : IsOver row (get_or latest row 0) k keys from to cells → IsBroken sent wrong k (n + 1)
+    pub broken_row : IsStreakReached row (get_or latest row 0) k keys from to cells → IsBroken sent wrong k (n + 1)
     broken_row o =
         let w = a.counted row (byte_at keys o.key) inside o.text in
         record {
@@ -202,8 +202,8 @@ module _ (sent wrong : ℕ → ℕ → Bool) (k n : ℕ) (latest : List ℕ) (ce
         }
 
 pub noted : (result : Bool) (sent wrong : ℕ → ℕ → Bool) (k n : ℕ) (latest : List ℕ) (cells more : List Streak) (keys : List ℕ) (from to row : ℕ) → row < 25 → length latest ≡ 25 → 1 ≤ k →
-    (result ≡ true → AreCounted row (get_or latest row 0) (n + 1) k keys from to cells more) → (result ≡ false → IsOver row (get_or latest row 0) k keys from to cells) →
-    AreStreaks sent wrong k n latest cells → Tells sent wrong (Some row) keys from to n → Noted result sent wrong k (n + 1) (set latest row (n + 1)) more
+    (result ≡ true → AreCounted row (get_or latest row 0) (n + 1) k keys from to cells more) → (result ≡ false → IsStreakReached row (get_or latest row 0) k keys from to cells) →
+    AreStreaks sent wrong k n latest cells → TellsSlot sent wrong (Some row) keys from to n → StreaksAfter result sent wrong k (n + 1) (set latest row (n + 1)) more
 noted true sent wrong k n latest cells more keys from to row inside count some f g a t = noted_row sent wrong k n latest cells keys from to row inside count t a more some (f refl)
 noted false sent wrong k n latest cells more keys from to row inside count some f g a t = broken_row sent wrong k n latest cells keys from to row inside count t a (g refl)
 

@@ -1,6 +1,6 @@
 use Rattle.std.proofs.Common.{◌≡◌, ℕ, ◌*◌, ◌<◌, [], length, drop, get_or}
 use Rattle.ttx_counter.specs.CounterReading.{characters_in}
-use Rattle.ttx_counter.proofs.counter_reading.rows_in.Given as goal
+use Rattle.ttx_counter.proofs.counter_reading.read_rows.Given as goal
 
 abbrev pub invariant-loop-r : goal.invariant-loop-r
 invariant-loop-r l = record {

@@ -1,0 +1,67 @@
+//! The commands of counter-runs: `refute`, `replay`.
+
+use super::Outcome;
+use super::inputs::{Claim, buffered};
+use crate::devices::create_out;
+use std::io;
+use std::io::Write;
+use ttx_arguments::{RefuteOrder, ReplayOrder};
+use ttx_cycle::Counted;
+use ttx_tool::{ToolFault, commands};
+
+// Looks for a viewer whom a cycle fails: status 1 where there is one, else 0.
+fn refute_claim<O: Write + Drop>(
+    rt: &HostRuntime,
+    claim: Claim,
+    save: bool,
+    out: O,
+) -> Result<u8, ToolFault> {
+    let mut cycle = buffered(rt, claim.cycle)?;
+    let mut service = buffered(rt, claim.service)?;
+    let mut certificate = buffered(rt, claim.text)?;
+    let mut file = Counted::new(out);
+    let mut writer = Counted::new(io::writer(rt));
+    commands::refute(
+        rt.alloc(),
+        &mut cycle,
+        &mut service,
+        &mut certificate,
+        save,
+        &mut file,
+        &mut writer,
+    )
+}
+
+/// Opens the cycle, the service and the certificate, makes the counter-run's file anew where it is named, and refutes.
+pub fn refute(rt: &HostRuntime, order: &RefuteOrder<'_>) -> Outcome {
+    let claim = Claim::open(rt, order.cycle, order.service, order.certificate)?;
+    let Some(out) = order.save else {
+        return Ok(refute_claim(rt, claim, false, io::sink()));
+    };
+    let inputs = [&claim.cycle, &claim.service, &claim.text];
+    match create_out(rt, &inputs, out)? {
+        Some(file) => Ok(refute_claim(rt, claim, true, file)),
+        None => Ok(Err(ToolFault::Same)),
+    }
+}
+
+// The status is 0 where the text is that of a counter-run, else 1.
+fn replay_claim(rt: &HostRuntime, claim: Claim) -> Result<u8, ToolFault> {
+    let mut cycle = buffered(rt, claim.cycle)?;
+    let mut service = buffered(rt, claim.service)?;
+    let mut counter = buffered(rt, claim.text)?;
+    let mut writer = Counted::new(io::writer(rt));
+    commands::replay(
+        rt.alloc(),
+        &mut cycle,
+        &mut service,
+        &mut counter,
+        &mut writer,
+    )
+}
+
+/// Opens the cycle, the service and the counter-run, and shows what is shown after it.
+pub fn replay(rt: &HostRuntime, order: &ReplayOrder<'_>) -> Outcome {
+    let claim = Claim::open(rt, order.cycle, order.service, order.counter)?;
+    Ok(replay_claim(rt, claim))
+}

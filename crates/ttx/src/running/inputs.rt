@@ -1,0 +1,53 @@
+//! The opened inputs of a command.
+
+use crate::devices::{Input, open_input};
+use std::io;
+use std::io::BufReader;
+use ttx_cycle::Counted;
+use ttx_tool::ToolFault;
+
+/// A buffered reader of an input.
+pub fn buffered(rt: &HostRuntime, input: Input) -> Result<Counted<BufReader<Input>>, ToolFault> {
+    match BufReader::new(rt.alloc(), input) {
+        Ok(reader) => Ok(Counted::new(reader)),
+        Err(_) => Err(ToolFault::NoMemory),
+    }
+}
+
+/// A cycle, and the service that it is to send.
+#[derive(Drop)]
+pub struct SentService {
+    pub cycle: Input,
+    pub service: Input,
+}
+
+impl SentService {
+    /// Opens both, the cycle first.
+    pub fn open(rt: &HostRuntime, cycle: &str, service: &str) -> io::Result<SentService> {
+        let cycle = open_input(rt, cycle)?;
+        let service = open_input(rt, service)?;
+        Ok(SentService { cycle, service })
+    }
+}
+
+/// A cycle, the service that it is to send, and a third text on both: a certificate, or a counter-run.
+#[derive(Drop)]
+pub struct Claim {
+    pub cycle: Input,
+    pub service: Input,
+    pub text: Input,
+}
+
+impl Claim {
+    /// Opens the three, in this order.
+    pub fn open(rt: &HostRuntime, cycle: &str, service: &str, text: &str) -> io::Result<Claim> {
+        let cycle = open_input(rt, cycle)?;
+        let service = open_input(rt, service)?;
+        let text = open_input(rt, text)?;
+        Ok(Claim {
+            cycle,
+            service,
+            text,
+        })
+    }
+}

@@ -1,0 +1,88 @@
+//! The commands that show a page: `receive`, `show`, `preview`.
+
+use super::Outcome;
+use super::inputs::buffered;
+use crate::devices::{Input, open_input};
+use std::io;
+use ttx_arguments::{Look, ReceiverKind, Tuning};
+use ttx_cycle::Counted;
+use ttx_page::{PageMemory, Selection};
+use ttx_receiver::{Careful, Cleared, Eager, Receiver};
+use ttx_tool::{ToolFault, commands};
+
+// Shows a page as it is asked for, or writes what is held of it word by word.
+fn receive_by<X: Receiver + Drop>(
+    rt: &HostRuntime,
+    input: Input,
+    receiver: X,
+    tuning: &Tuning,
+    look: Option<&Look<'_>>,
+) -> Result<u8, ToolFault> {
+    let mut reader = buffered(rt, input)?;
+    let mut writer = Counted::new(io::writer(rt));
+    match look {
+        Some(look) => commands::show(rt.alloc(), &mut reader, receiver, tuning, look, &mut writer),
+        None => commands::receive(
+            rt.alloc(),
+            &mut reader,
+            receiver,
+            tuning.start,
+            tuning.slots,
+            &mut writer,
+        ),
+    }
+}
+
+// By a receiver of the kind that is asked for, with nothing received before.
+fn receive_input(
+    rt: &HostRuntime,
+    input: Input,
+    tuning: &Tuning,
+    look: Option<&Look<'_>>,
+) -> Result<u8, ToolFault> {
+    let (selection, lines, blank) = (tuning.selection, tuning.lines, PageMemory::blank());
+    match tuning.kind {
+        ReceiverKind::Eager => receive_by(
+            rt,
+            input,
+            Eager::new(selection, lines, blank),
+            tuning,
+            look,
+        ),
+        ReceiverKind::Careful => receive_by(
+            rt,
+            input,
+            Careful::new(selection, lines, blank),
+            tuning,
+            look,
+        ),
+        ReceiverKind::Cleared => receive_by(
+            rt,
+            input,
+            Cleared::new(selection, lines, blank),
+            tuning,
+            look,
+        ),
+    }
+}
+
+/// Opens the cycle, and shows a page as a receiver shows it; with no look what is held of it, word by word.
+pub fn receive(rt: &HostRuntime, cycle: &str, tuning: &Tuning, look: Option<&Look<'_>>) -> Outcome {
+    Ok(receive_input(rt, open_input(rt, cycle)?, tuning, look))
+}
+
+fn preview_input(
+    rt: &HostRuntime,
+    input: Input,
+    selection: &Selection,
+    look: &Look<'_>,
+) -> Result<u8, ToolFault> {
+    let mut reader = buffered(rt, input)?;
+    let mut writer = Counted::new(io::writer(rt));
+    commands::preview(rt.alloc(), &mut reader, selection, look, &mut writer)
+}
+
+/// Opens the service, and shows a page of it before it is sent.
+pub fn preview(rt: &HostRuntime, service: &str, selection: &Selection, look: &Look<'_>) -> Outcome {
+    Ok(preview_input(rt, open_input(rt, service)?, selection, look))
+}

@@ -1,0 +1,60 @@
+//! The commands that take a service alone: `check`, `plan`.
+
+use super::Outcome;
+use super::inputs::buffered;
+use crate::devices::{Input, create_out, open_input};
+use std::fs::File;
+use std::io;
+use ttx_arguments::PlanOrder;
+use ttx_certify::TextFile;
+use ttx_check::CheckFault;
+use ttx_cycle::Counted;
+use ttx_plan::Receivers;
+use ttx_tool::{ToolFault, commands};
+
+// The fault of the same name.
+fn from_check(fault: CheckFault) -> ToolFault {
+    let which = TextFile::Service;
+    match fault {
+        CheckFault::Read => ToolFault::Read { which },
+        CheckFault::TooLong => ToolFault::TooLong { which },
+        CheckFault::Write { written } => ToolFault::Write { written },
+        CheckFault::NoMemory => ToolFault::NoMemory,
+    }
+}
+
+fn check_input(rt: &HostRuntime, input: Input) -> Result<u8, ToolFault> {
+    let mut reader = buffered(rt, input)?;
+    let mut writer = Counted::new(io::writer(rt));
+    ttx_check::check(rt.alloc(), &mut reader, &mut writer).map_err(from_check)
+}
+
+/// Opens the service, and tells what is wrong, or likely wrong, in its text.
+pub fn check(rt: &HostRuntime, service: &str) -> Outcome {
+    Ok(check_input(rt, open_input(rt, service)?))
+}
+
+fn plan_input(
+    rt: &HostRuntime,
+    input: Input,
+    receivers: Receivers,
+    out: File,
+) -> Result<u8, ToolFault> {
+    let mut reader = buffered(rt, input)?;
+    let mut file = Counted::new(out);
+    let mut writer = Counted::new(io::writer(rt));
+    commands::plan(rt.alloc(), &mut reader, receivers, &mut file, &mut writer)
+}
+
+/// Opens the service, makes the cycle's file anew, and plans.
+pub fn plan(rt: &HostRuntime, order: &PlanOrder<'_>) -> Outcome {
+    let service = open_input(rt, order.service)?;
+    let receivers = Receivers {
+        class: order.class,
+        late: order.late,
+    };
+    match create_out(rt, &[&service], order.out)? {
+        Some(file) => Ok(plan_input(rt, service, receivers, file)),
+        None => Ok(Err(ToolFault::Same)),
+    }
+}
