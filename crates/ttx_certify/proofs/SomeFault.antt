@@ -22,7 +22,7 @@ use Rattle.ttx_witness.specs.declared.faults.reason.Reason.{Reason}
 use Rattle.ttx_witness.specs.declared.faults.reason.Reason.TheVariants.{NoHeader, OtherSubpage, Erased, HeadDiffers, RowDiffers, LinksDiffer}
 use Rattle.ttx_certify.proofs.Decisions.{Decided, both, refuted, alike, same_bool, like_head, row_right, links_right, alone, least_below, any_below}
 use Rattle.ttx_certify.proofs.ItemByItem.{needed_item}
-use Rattle.ttx_page.proofs.Places.{cases_ltz}
+use Rattle.ttx_page.proofs.SlotDistances.{cases_ltz}
 
 -- whether a slot is one of those that a list has
 pub listed : (P : ℤ → Type 0) (Is : Transmission → Type 0) → ((t : Transmission) → Is t → P t.slot) → (low high : ℤ) (ts : List Transmission) → Lists slot_of P Is low high ts →

@@ -14,7 +14,7 @@ use Rattle.ttx_page.specs.Followers.{IsFollowedWithin}
 use Rattle.ttx_late.specs.Laws.{RunsAreShown, FollowedIsWithin, AcceptedIsShown, EachListRunsLate}
 use Rattle.ttx_late.specs.SeenLate.{SeenLate}
 use Rattle.ttx_certify.proofs.AcceptedIsSeen.{StreamLaws, fits_matches, steady_from, brought}
-use Rattle.ttx_late.proofs.Tests.{no_both, cases_bool}
+use Rattle.ttx_late.proofs.Tests.{no_both, cases_Bool}
 use Rattle.ttx_late.proofs.FollowedReceptions.{cases_ltz}
 use Rattle.ttx_late.proofs.RunsAreShown.{page_heads}
 
@@ -51,7 +51,7 @@ each_list_runs_late class lines sel d [] = (d, refl)
 each_list_runs_late class lines sel d (slot ∷ received) =
     let gathered = after class lines sel false (older d.gathered) (packet_of slot) in
     let packet = packet_of slot in
-    elim (cases_bool (must_show sel d.gathered gathered packet)) as (λ _. (new : LateMemory) × LateRun class lines sel d (slot ∷ received) new) [
+    elim (cases_Bool (must_show sel d.gathered gathered packet)) as (λ _. (new : LateMemory) × LateRun class lines sel d (slot ∷ received) new) [
       | inl must ↦
           let mid : LateMemory = record { gathered = gathered; shown = d.gathered } in
           let rest = each_list_runs_late class lines sel mid received in

@@ -17,8 +17,8 @@ use Rattle.ttx_page.specs.Streams.{Stream, heads, heads_page, heads_matched}
 use Rattle.ttx_page.specs.Receptions.{Received, IsRight, OneIs}
 use Rattle.ttx_late.specs.LateReceivers.{selected_number}
 use Rattle.ttx_page.specs.Followers.{heads_another, IsFollowedWithin}
-pub use Rattle.ttx_page.proofs.Places.{cases_ltz}
-use Rattle.ttx_late.proofs.Tests.{and_left, and_right, and_false_right, not_true, no_both}
+pub use Rattle.ttx_page.proofs.SlotDistances.{cases_ltz}
+use Rattle.ttx_late.proofs.Tests.{and_left, and_right, and_false_right, not-true, no_both}
 use Rattle.ttx_late.proofs.KeptSlots.{SameTests, same_tests}
 use Rattle.ttx_late.proofs.Gathering.{IsAnother, Ends, AllEnd}
 
@@ -34,7 +34,7 @@ number_is (AnySub mag number) page h = eqb-true number page.page (and_right (mag
 another_is : (sel : Selection) (page : Id) → selected_mag sel ≡ page.mag → selected_number sel ≡ page.page → (pkt : Packet) → heads_another page pkt ≡ true → IsAnother sel pkt
 another_is sel page mag number (Header id control text) h = (
   subst (λ m. (id.mag == m) ≡ true) (sym mag) (and_left (id.mag == page.mag) _ h),
-  and_false_right (id.mag == selected_mag sel) _ (subst (λ n. (id.page == n) ≡ false) (sym number) (not_true _ (and_right (id.mag == page.mag) _ h))),
+  and_false_right (id.mag == selected_mag sel) _ (subst (λ n. (id.page == n) ≡ false) (sym number) (not-true _ (and_right (id.mag == page.mag) _ h))),
 )
 another_is sel page mag number (Row m n text) h = absurd (no_both false h refl)
 another_is sel page mag number (Links m content) h = absurd (no_both false h refl)

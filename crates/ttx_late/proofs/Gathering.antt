@@ -9,7 +9,7 @@ use Rattle.ttx_page.specs.Memories.{Memory, IsFormer}
 use Rattle.ttx_page.specs.Receivers.{older, Step, Run}
 use Rattle.ttx_page.specs.Streams.{heads, heads_matched}
 use Rattle.ttx_late.specs.LateReceivers.{LateMemory, heads_number, may_forget, TakesIn, LateRun}
-use Rattle.ttx_late.proofs.Tests.{and_left, and_right, and_both, eq_sym, no_both, cases_bool}
+use Rattle.ttx_late.proofs.Tests.{and_left, and_right, and_both, eq_sym, no_both, cases_Bool}
 use Rattle.ttx_late.proofs.Steps.{after_storing}
 
 -- a header of the magazine with another number
@@ -120,7 +120,7 @@ module _ (class : Class) (lines : ℕ) (sel : Selection) (gap : ℕ) where
       let mid = run.0 in
       let step = run.1 in
       let Answer : Type 0 = Run class lines sel d.gathered (slot ∷ received) new.gathered ⊎ Begins (slot ∷ received) new.gathered in
-      elim (cases_bool (heads (selected_mag sel) (packet_of slot))) as (λ _. Answer) [
+      elim (cases_Bool (heads (selected_mag sel) (packet_of slot))) as (λ _. Answer) [
         | inl head ↦
             let rest = settled received mid new all.1
             (λ st. elim (step_storing class lines sel step.base mid.gathered slot step.step st) as (λ _. (k : ℕ) × Ends sel received k)

@@ -10,7 +10,7 @@ use Rattle.ttx_page.specs.Packets.{Packet, Empty, Unreadable, Header, Row, Links
 use Rattle.ttx_page.specs.declared.selection.Selection.{Selection}
 use Rattle.ttx_page.specs.Streams.{heads, heads_matched}
 use Rattle.ttx_late.specs.LateReceivers.{heads_number}
-use Rattle.ttx_late.proofs.Tests.{if_ind, no_both, cases_bool}
+use Rattle.ttx_late.proofs.Tests.{if_ind, no_both, cases_Bool}
 
 -- the header in a packet: all else is one
 abbrev pub outline : Packet → Packet
@@ -39,7 +39,7 @@ near_header sent received mag e h x lt = elim (h.near x (omega arith)) as (λ _.
 -- what is received is a header of the same id and control bits, or it is none, as what was sent
 pub received_as : KindIsKept → HeaderIsKept → (sent received : List ℕ) → IsSlot sent → is_clean sent ≡ true → MayBeReceivedAs sent received →
     outline (packet_of received) ≡ outline (packet_of sent)
-received_as kind header sent received s clean h = elim (cases_bool (is_empty sent)) as (λ _. outline (packet_of received) ≡ outline (packet_of sent)) [
+received_as kind header sent received s clean h = elim (cases_Bool (is_empty sent)) as (λ _. outline (packet_of received) ≡ outline (packet_of sent)) [
   | inl e ↦ ap outline (packet_empty received (h.empty e)) ∙ ap outline (sym (packet_empty sent e))
   | inr e ↦ elim (kind sent received s clean e h) as (λ _. outline (packet_of received) ≡ outline (packet_of sent)) [
     | inl same ↦ ap outline (packet_is received) ∙ ap (λ k. outline (packet_of_kind received k)) same ∙ same_outline (kind_of sent) refl ∙ ap outline (sym (packet_is sent))

@@ -14,7 +14,7 @@ use Rattle.ttx_page.specs.Streams.{Stream, heads, heads_page, heads_matched}
 use Rattle.ttx_late.specs.LateReceivers.{LateMemory, selected_number, heads_number, must_show, LateRun}
 use Rattle.ttx_page.specs.Followers.{heads_another, IsNeverFollowed}
 use Rattle.ttx_late.specs.Laws.{NeverFollowedIsUnshown}
-use Rattle.ttx_late.proofs.Tests.{and_both, and_false_left, and_false_right, not_false, no_both, cases_bool}
+use Rattle.ttx_late.proofs.Tests.{and_both, and_false_left, and_false_right, not_false, no_both, cases_Bool}
 use Rattle.ttx_late.proofs.Steps.{after_quiet}
 use Rattle.ttx_late.proofs.Gathering.{number_heads, matched_number, step_storing}
 use Rattle.ttx_late.proofs.FollowedReceptions.{cases_ltz, mag_is, number_is, AreOf, of_received}
@@ -35,7 +35,7 @@ own_number : (sel : Selection) (page : Id) → selected_mag sel ≡ page.mag →
     heads_another page pkt ≡ false → heads_number sel pkt ≡ true
 own_number sel page mag number (Header id control text) head other =
     and_both (id.mag == selected_mag sel) (id.page == selected_number sel) (subst (λ m. (id.mag == m) ≡ true) (sym mag) head)
-    (subst (λ n. (id.page == n) ≡ true) (sym number) (elim (cases_bool (id.page == page.page)) as (λ _. (id.page == page.page) ≡ true) [
+    (subst (λ n. (id.page == n) ≡ true) (sym number) (elim (cases_Bool (id.page == page.page)) as (λ _. (id.page == page.page) ≡ true) [
       | inl e ↦ e
       | inr ne ↦ absurd (no_both _ (and_both (id.mag == page.mag) (not (id.page == page.page)) head (not_false _ ne)) other)
     ]))
@@ -50,8 +50,8 @@ module _ (s : Stream) (page : Id) (sel : Selection) (mag : selected_mag sel ≡ 
   stays : (h : ℤ) → heads_page page (packet_of (s h)) ≡ true → (rest : List (List ℕ)) (begin : ℤ) → h <ℤ begin →
       ((i : ℤ) → h <ℤ i → i <ℤ begin → heads page.mag (packet_of (s i)) ≡ false) → AreOf s begin rest → Stays sel rest
   stays h head [] begin after none of = tt
-  stays h head (slot ∷ rest) begin after none of = elim (cases_bool (heads page.mag (packet_of (s begin)))) as (λ _. Stays sel (slot ∷ rest)) [
-    | inl next ↦ inl (of.0.number sel ∙ own_number sel page mag number (packet_of (s begin)) next (elim (cases_bool (heads_another page (packet_of (s begin)))) as (λ _. heads_another page (packet_of (s begin)) ≡ false) [
+  stays h head (slot ∷ rest) begin after none of = elim (cases_Bool (heads page.mag (packet_of (s begin)))) as (λ _. Stays sel (slot ∷ rest)) [
+    | inl next ↦ inl (of.0.number sel ∙ own_number sel page mag number (packet_of (s begin)) next (elim (cases_Bool (heads_another page (packet_of (s begin)))) as (λ _. heads_another page (packet_of (s begin)) ≡ false) [
       | inr f ↦ f
       | inl another ↦ absurd (never h head (record { slot = begin; next = record { earlier = after; is_header = page_heads page (packet_of (s h)) head; none_between = none }; another = another }))
     ]))
@@ -86,12 +86,12 @@ module _ (class : Class) (lines : ℕ) (sel : Selection) where
   silent m slot rest stay =
       let pkt = packet_of slot in
       let new = after class lines sel false (older m) pkt in
-      elim (cases_bool m.storing) as (λ _. must_show sel m new pkt ≡ false) [
+      elim (cases_Bool m.storing) as (λ _. must_show sel m new pkt ≡ false) [
         | inr idle ↦ and_false_left (m.storing && not new.storing) (not (heads_number sel pkt)) (and_false_left m.storing (not new.storing) idle)
         | inl on ↦ elim (stay on) as (λ _. must_show sel m new pkt ≡ false) [
           | inl own ↦ and_false_right (m.storing && not new.storing) (not (heads_number sel pkt)) (ap not own)
           | inr n ↦
-              let unmatched : heads_matched sel pkt ≡ false = elim (cases_bool (heads_matched sel pkt)) as (λ _. heads_matched sel pkt ≡ false)
+              let unmatched : heads_matched sel pkt ≡ false = elim (cases_Bool (heads_matched sel pkt)) as (λ _. heads_matched sel pkt ≡ false)
               [ inr f ↦ f | inl t ↦ absurd (no_both _ (number_heads sel pkt (matched_number sel pkt t)) n.0) ] in
               let still : new.storing ≡ true = after_quiet class lines sel (older m) pkt n.0 unmatched ∙ on in
               and_false_left (m.storing && not new.storing) (not (heads_number sel pkt)) (and_false_right m.storing (not new.storing) (ap not still))

@@ -10,7 +10,7 @@ use Rattle.ttx_page.specs.Streams.{heads_matched}
 use Rattle.ttx_render.specs.Laws.{ContentsDecide}
 use Rattle.ttx_certify.specs.Seen.{HasView}
 use Rattle.ttx_late.specs.LateReceivers.{LateMemory, heads_number, may_forget, must_show, MayShow, LateStep, LateRun}
-use Rattle.ttx_late.proofs.Tests.{and_both, and_false_left, and_false_right, not_false, no_both, cases_bool}
+use Rattle.ttx_late.proofs.Tests.{and_both, and_false_left, and_false_right, not_false, no_both, cases_Bool}
 use Rattle.ttx_late.proofs.Steps.{Same, same_self, same_then, same_older, after_matched, after_stopped}
 use Rattle.ttx_late.proofs.Gathering.{Ends, AllEnd, matched_number, no_number, step_storing, kept_base}
 
@@ -69,7 +69,7 @@ module _ (class : Class) (lines : ℕ) (sel : Selection) (gap : ℕ) where
   ]
 
   pub not_number : (slot : List ℕ) (rest : List (List ℕ)) (k : ℕ) → Ends sel (slot ∷ rest) k → heads_number sel (packet_of slot) ≡ false
-  not_number slot rest k ends = elim (cases_bool (heads_number sel (packet_of slot))) as (λ _. heads_number sel (packet_of slot) ≡ false)
+  not_number slot rest k ends = elim (cases_Bool (heads_number sel (packet_of slot))) as (λ _. heads_number sel (packet_of slot) ≡ false)
       [ inl h ↦ absurd (no_number sel slot rest k ends h) | inr f ↦ f ]
 
   pub must : (m new : Memory) (pkt : Packet) → m.storing ≡ true → new.storing ≡ false → heads_number sel pkt ≡ false → must_show sel m new pkt ≡ true
@@ -85,11 +85,11 @@ module _ (class : Class) (lines : ℕ) (sel : Selection) (gap : ℕ) where
   pub ready_next : (d new : LateMemory) (slot : List ℕ) (rest : List (List ℕ)) → AllEnd sel gap (slot ∷ rest) → LateStep class lines sel d slot new →
       IsReady sel gap d (slot ∷ rest) → IsReady sel gap new rest
   ready_next d new slot rest all step ready =
-      elim (cases_bool (heads_matched sel (packet_of slot))) as (λ _. IsReady sel gap new rest) [
+      elim (cases_Bool (heads_matched sel (packet_of slot))) as (λ _. IsReady sel gap new rest) [
         | inl matched ↦ ready_matched d new slot rest all step matched
         | inr other ↦
             let taken : Step class lines sel d.gathered slot new.gathered = subst (λ base. Step class lines sel base slot new.gathered) (base_is d new slot rest step ready) step.step in
-            elim (cases_bool new.gathered.storing) as (λ _. IsReady sel gap new rest) [
+            elim (cases_Bool new.gathered.storing) as (λ _. IsReady sel gap new rest) [
               | inl on ↦ elim (step_storing class lines sel d.gathered new.gathered slot taken on) as (λ _. IsReady sel gap new rest) [
                 | inl matched ↦ absurd (no_both _ matched other)
                 | inr was ↦ elim ready as (λ _. IsReady sel gap new rest) [
@@ -153,7 +153,7 @@ module _ (class : Class) (lines : ℕ) (sel : Selection) (gap : ℕ) where
           | inr s ↦
               let lt = s.before in
               let other = not_number slot rest s.place s.ends in
-              elim (cases_bool mid.gathered.storing) as (λ _. IsDue mid rest) [
+              elim (cases_Bool mid.gathered.storing) as (λ _. IsDue mid rest) [
                 | inr idle ↦ inl (anew (λ l. absurd (no_both _ (must d.gathered mid.gathered (packet_of slot) s.storing idle other) l.1)))
                 | inl on ↦ elim s.ends as (λ _. IsDue mid rest) [
                   | inr n ↦ let some = n.1 in inr (record { storing = on; place = s.place - 1; before = omega arith; ends = n.2 })

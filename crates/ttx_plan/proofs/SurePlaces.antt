@@ -7,7 +7,7 @@ use Rattle.ttx_page.specs.Packets.{packet_of}
 use Rattle.ttx_page.specs.declared.item.Item.{Item}
 use Rattle.ttx_page.specs.declared.item.Item.TheVariants.{Head as TheHead, Row as TheRow, Links as TheLinks}
 use Rattle.ttx_page.specs.Streams.{Stream, turned, repeated, heads, ends_serial, carries, IsLatestHeader, IsOwned, IsSure}
-use Rattle.ttx_page.proofs.Places.{cases_ltz}
+use Rattle.ttx_page.proofs.SlotDistances.{cases_ltz}
 
 -- the slot at place j has a header of its magazine more than a field before it in the same period, and nothing between ends the page
 pub record IsPlaced (lines : ℕ) (cycle : List (List ℕ)) (mag j : ℕ) : Type 0 where
