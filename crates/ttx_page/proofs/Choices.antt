@@ -1,7 +1,7 @@
 -- A receiver's choice matters only where it has one, and a script makes a run.
 use Rattle.std.proofs.Common.{◌≡◌, Bool, true, false, not, ◌&&◌, ◌||◌, ◌==◌, if◌then◌else◌, [], ◌∷◌, nat_le, refl, sym, ap}
 use Rattle.ttx_header.specs.Control.{c4, c11}
-use Rattle.ttx_page.specs.Packets.{Empty, Unreadable, Header, Row, Links, Info, Other, packet_of}
+use Rattle.ttx_page.specs.Packets.{Header, Row, Links, packet_of}
 use Rattle.ttx_page.specs.Pages.{Any, Clearing, selected_mag, matches}
 use Rattle.ttx_page.specs.Memories.{Memory, memory_row}
 use Rattle.ttx_page.specs.Receivers.{older, erased, begun, with_storing, with_row, with_links, stored_row, after, has_choice, next_choice, later_choices}
@@ -48,10 +48,7 @@ choices_are_choices Clearing lines sel m (Header id control text) h = header (ma
 choices_are_choices class lines sel m (Row mag number text) h =
     text_kept m (with_row m number (stored_row (memory_row m number) text)) (mag == selected_mag sel) m.storing (nat_le m.age lines) h
 choices_are_choices class lines sel m (Links mag content) h = text_kept m (with_links m content) (mag == selected_mag sel) m.storing (nat_le m.age lines) h
-choices_are_choices class lines sel m Empty h = refl
-choices_are_choices class lines sel m Unreadable h = refl
-choices_are_choices class lines sel m Info h = refl
-choices_are_choices class lines sel m Other h = refl
+choices_are_choices class lines sel m _ h = refl
 
 pub each_list_runs : EachListRuns
 each_list_runs class lines sel m [] = (m, refl)

@@ -6,7 +6,7 @@ use Rattle.ttx_code.specs.Words.{odd_byte}
 use Rattle.ttx_header.specs.Ids.{Id}
 use Rattle.ttx_header.specs.Control.{c4}
 use Rattle.ttx_links.specs.Sets.{LinkSet, is_exact}
-use Rattle.ttx_page.specs.Packets.{Packet, Empty, Unreadable, Header, Row, Links, Info, Other, packet_of}
+use Rattle.ttx_page.specs.Packets.{Packet, Empty, Unreadable, Header, Row, Links, packet_of}
 use Rattle.ttx_page.specs.Pages.{Page, IsPage, Item, TheHead, TheRow, TheLinks, page_row}
 use Rattle.ttx_page.specs.Streams.{IsOwned, heads_page}
 use Rattle.ttx_page.specs.Steady.{Steady, SendsItsOwn, IsChecked, IsTrueTo, IsLikeHead, HeadIsRight, RowIsRight, LinksAreRight, erases_page}
@@ -43,8 +43,7 @@ head_right p Empty is h none like = cc
 head_right p Unreadable is h none like = cc
 head_right p (Row m number text) is h none like = cc
 head_right p (Links m content) is h none like = cc
-head_right p Info is h none like = cc
-head_right p Other is h none like = cc
+head_right p _ is h none like = cc
 
 row_right : (p : Page) (r : ℕ) (packet : Packet) → ((RowIsRight p r packet → ⊥) → ⊥) → RowIsRight p r packet
 row_right p r (Row m number text) f = by_refuting (same_text text (map odd_byte (page_row p r))) f
@@ -52,8 +51,7 @@ row_right p r Empty f = f (λ e. e)
 row_right p r Unreadable f = f (λ e. e)
 row_right p r (Header id control text) f = f (λ e. e)
 row_right p r (Links m content) f = f (λ e. e)
-row_right p r Info f = f (λ e. e)
-row_right p r Other f = f (λ e. e)
+row_right p r _ f = f (λ e. e)
 
 links_right : (p : Page) (slot : List ℕ) (packet : Packet) → ((LinksAreRight p slot packet → ⊥) → ⊥) → LinksAreRight p slot packet
 links_right p slot (Links m content) f = by_refuting (both (same_bool (is_exact slot) true) (same_option same_link_set content (Some p.links))) f
@@ -61,8 +59,7 @@ links_right p slot Empty f = f (λ e. e)
 links_right p slot Unreadable f = f (λ e. e)
 links_right p slot (Header id control text) f = f (λ e. e)
 links_right p slot (Row m number text) f = f (λ e. e)
-links_right p slot Info f = f (λ e. e)
-links_right p slot Other f = f (λ e. e)
+links_right p slot _ f = f (λ e. e)
 
 right_keeps : (p : Page) (packet : Packet) → IsPage p → HeadIsRight p packet → erases_page packet ≡ true → ⊥
 right_keeps p (Header id control text) is r e = no_both _ (ap c4 (sym r.0) ∙ e) is.no_erase
@@ -70,8 +67,7 @@ right_keeps p Empty is r e = r
 right_keeps p Unreadable is r e = r
 right_keeps p (Row m number text) is r e = r
 right_keeps p (Links m content) is r e = r
-right_keeps p Info is r e = r
-right_keeps p Other is r e = r
+right_keeps p _ is r e = r
 
 right_like : (p : Page) (packet : Packet) → HeadIsRight p packet → IsLikeHead p packet
 right_like p (Header id control text) r = (ap (λ c. c / 2) r.0, r.1)
@@ -79,8 +75,7 @@ right_like p Empty r = r
 right_like p Unreadable r = r
 right_like p (Row m number text) r = r
 right_like p (Links m content) r = r
-right_like p Info r = r
-right_like p Other r = r
+right_like p _ r = r
 
 pub no_header_is_none : NoHeaderIsNone
 no_header_is_none s p = (

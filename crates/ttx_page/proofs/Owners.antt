@@ -2,7 +2,7 @@
 use Rattle.std.proofs.Common.{◌≡◌, ℕ, ◌<◌, ℤ, pos, ◌+ℤ◌, ◌<ℤ◌, ◌≤ℤ◌, true, ◌==◌, sym, ap, ◌∙◌, subst, inl, inr, arith, eqb-true, eq-eqb}
 use Rattle.std.proofs.lemmas.Int.{ints}
 use Rattle.ttx_header.specs.Ids.{Id}
-use Rattle.ttx_page.specs.Packets.{Packet, Empty, Unreadable, Header, Row, Links, Info, Other, packet_of}
+use Rattle.ttx_page.specs.Packets.{Packet, Empty, Unreadable, Header, Row, Links, packet_of}
 use Rattle.ttx_page.specs.Pages.{Item, TheHead, TheRow, TheLinks}
 use Rattle.ttx_page.specs.Streams.{Stream, heads, heads_page, carries, IsLatestHeader, IsOwned}
 use Rattle.ttx_page.specs.Laws.{IsSameOn, OwnersAreUnique, OwnersComeFirst, OwnersAreNear, OwnersDontFall}
@@ -37,8 +37,7 @@ no_head mag item Empty h k = cc
 no_head mag item Unreadable h k = cc
 no_head mag item (Row m number text) h k = cc
 no_head mag item (Links m content) h k = cc
-no_head mag item Info h k = cc
-no_head mag item Other h k = cc
+no_head mag item _ h k = cc
 
 -- a header of the page is one of its magazine
 page_heads : (page : Id) (packet : Packet) → heads_page page packet ≡ true → heads page.mag packet ≡ true
@@ -50,8 +49,7 @@ page_heads page Empty h = h
 page_heads page Unreadable h = h
 page_heads page (Row m number text) h = h
 page_heads page (Links m content) h = h
-page_heads page Info h = h
-page_heads page Other h = h
+page_heads page _ h = h
 
 latest_near : (s : Stream) (n : ℕ) → 0 < n → IsSameOn s (pos n) → (mag : ℕ) (h j : ℤ) → IsLatestHeader s mag h j → j ≤ℤ (h +ℤ pos n)
 latest_near s n some period mag h j a = elim (cases_ltz (h +ℤ pos n) j) as (λ _. j ≤ℤ (h +ℤ pos n)) [

@@ -1,7 +1,7 @@
 -- Receivers that surely clear: what is blank needn't be sent.
 use Rattle.std.proofs.Common.{◌≡◌, ◌≢◌, ◌⊎◌, ℕ, zero, suc, ◌+◌, ◌<◌, ◌≤◌, Bool, true, false, not, ◌&&◌, ◌||◌, ◌==◌, List, [], Some, None, length, get_or, refl, sym, ap, ◌∙◌, subst, inl, inr, arith, get_or-set_other}
 use Rattle.std.proofs.lemmas.Bool.{cases_lt, cases_Bool}
-use Rattle.ttx_page.specs.Packets.{Packet, Empty, Unreadable, Header, Row, Links, Info, Other}
+use Rattle.ttx_page.specs.Packets.{Packet, Header, Row, Links}
 use Rattle.ttx_links.specs.Sets.{no_links}
 use Rattle.ttx_page.specs.Pages.{Page, IsPage, selected_mag, needed, page_row, matches, blank_row}
 use Rattle.ttx_page.specs.declared.selection.Selection.{Selection}
@@ -35,10 +35,7 @@ module _ (lines : ℕ) (sel : Selection) where
       if_ind (λ (new : Memory). new.fresh ≡ m.fresh) ((mag == selected_mag sel) && m.storing && not (misses lines choice m)) m m (λ _. refl) (λ _. refl)
   after_fresh choice m (Links mag (Some content)) h =
       if_ind (λ (new : Memory). new.fresh ≡ m.fresh) ((mag == selected_mag sel) && m.storing && not (misses lines choice m)) (with_links m (Some content)) m (λ _. refl) (λ _. refl)
-  after_fresh choice m Empty h = refl
-  after_fresh choice m Unreadable h = refl
-  after_fresh choice m Info h = refl
-  after_fresh choice m Other h = refl
+  after_fresh choice m _ h = refl
 
   -- a matching header blanks the rows and links of a fresh one
   blanks_row : (r c : ℕ) → 1 ≤ r → r < 25 → c < 40 → (choice : Bool) (m : Memory) (pkt : Packet) → Shape m → m.fresh ≡ true → heads_matched sel pkt ≡ true →
@@ -55,10 +52,7 @@ module _ (lines : ℕ) (sel : Selection) where
       (λ e. absurd (no_both _ h e))
   blanks_row (suc r) c low high col choice m (Row mag number text) s f h = absurd (no_both _ h refl)
   blanks_row (suc r) c low high col choice m (Links mag content) s f h = absurd (no_both _ h refl)
-  blanks_row (suc r) c low high col choice m Empty s f h = absurd (no_both _ h refl)
-  blanks_row (suc r) c low high col choice m Unreadable s f h = absurd (no_both _ h refl)
-  blanks_row (suc r) c low high col choice m Info s f h = absurd (no_both _ h refl)
-  blanks_row (suc r) c low high col choice m Other s f h = absurd (no_both _ h refl)
+  blanks_row (suc r) c low high col choice m _ s f h = absurd (no_both _ h refl)
 
   blanks_links : (choice : Bool) (m : Memory) (pkt : Packet) → m.fresh ≡ true → heads_matched sel pkt ≡ true → (after Clearing lines sel choice m pkt).links ≡ no_links
   blanks_links choice m (Header id control text) f h =
@@ -68,10 +62,7 @@ module _ (lines : ℕ) (sel : Selection) where
       (λ e. absurd (no_both _ h e))
   blanks_links choice m (Row mag number text) f h = absurd (no_both _ h refl)
   blanks_links choice m (Links mag content) f h = absurd (no_both _ h refl)
-  blanks_links choice m Empty f h = absurd (no_both _ h refl)
-  blanks_links choice m Unreadable f h = absurd (no_both _ h refl)
-  blanks_links choice m Info f h = absurd (no_both _ h refl)
-  blanks_links choice m Other f h = absurd (no_both _ h refl)
+  blanks_links choice m _ f h = absurd (no_both _ h refl)
 
 module _ (lines : ℕ) (sel : Selection) (p : Page) (page : IsPage p) (received : List (List ℕ)) (receives_page : ReceivesPage sel p (packet_at received) (length received)) where
   abbrev g : ℕ → Packet

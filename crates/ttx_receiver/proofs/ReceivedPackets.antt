@@ -59,10 +59,7 @@ abbrev pub IsRowPacket : Packet → Type 0
 IsRowPacket (Row mag number text) = Unit {0}
 IsRowPacket (Header id control text) = ⊥
 IsRowPacket (Links mag content) = ⊥
-IsRowPacket Empty = ⊥
-IsRowPacket Unreadable = ⊥
-IsRowPacket Info = ⊥
-IsRowPacket Other = ⊥
+IsRowPacket _ = ⊥
 
 -- bytes that may be received as anything
 abbrev pub IsFreeIn : Packet → ℕ → Type 0
@@ -95,10 +92,7 @@ abbrev pub IsOfSlot : List ℕ → Packet → Type 0
 IsOfSlot slot (Header id control text) = text ≡ drop 10 slot
 IsOfSlot slot (Row mag number text) = (text ≡ drop 2 slot) × (1 ≤ number)
 IsOfSlot slot (Links mag content) = content ≡ links_of mag slot
-IsOfSlot slot Empty = Unit {0}
-IsOfSlot slot Unreadable = Unit {0}
-IsOfSlot slot Info = Unit {0}
-IsOfSlot slot Other = Unit {0}
+IsOfSlot slot _ = Unit {0}
 
 of_kind : RowsAreNumbered → (slot : List ℕ) (k : Kind) → kind_of slot ≡ k → IsOfSlot slot (packet_of_kind slot k)
 of_kind numbered slot IsEmpty e = tt
@@ -162,46 +156,31 @@ matched_outline : (sel : Selection) (pkt : Packet) → heads_matched sel (outlin
 matched_outline sel (Header id control text) = refl
 matched_outline sel (Row mag number text) = refl
 matched_outline sel (Links mag content) = refl
-matched_outline sel Empty = refl
-matched_outline sel Unreadable = refl
-matched_outline sel Info = refl
-matched_outline sel Other = refl
+matched_outline sel _ = refl
 
 heads_outline : (mag : ℕ) (pkt : Packet) → heads mag (outline pkt) ≡ heads mag pkt
 heads_outline mag (Header id control text) = refl
 heads_outline mag (Row m number text) = refl
 heads_outline mag (Links m content) = refl
-heads_outline mag Empty = refl
-heads_outline mag Unreadable = refl
-heads_outline mag Info = refl
-heads_outline mag Other = refl
+heads_outline mag _ = refl
 
 ends_outline : (mag : ℕ) (pkt : Packet) → ends_serial mag (outline pkt) ≡ ends_serial mag pkt
 ends_outline mag (Header id control text) = refl
 ends_outline mag (Row m number text) = refl
 ends_outline mag (Links m content) = refl
-ends_outline mag Empty = refl
-ends_outline mag Unreadable = refl
-ends_outline mag Info = refl
-ends_outline mag Other = refl
+ends_outline mag _ = refl
 
 row_outline : (mag r : ℕ) (pkt : Packet) → carries mag (TheRow r) (outline pkt) ≡ carries mag (TheRow r) pkt
 row_outline mag r (Header id control text) = refl
 row_outline mag r (Row m number text) = refl
 row_outline mag r (Links m content) = refl
-row_outline mag r Empty = refl
-row_outline mag r Unreadable = refl
-row_outline mag r Info = refl
-row_outline mag r Other = refl
+row_outline mag r _ = refl
 
 links_outline : (mag : ℕ) (pkt : Packet) → carries mag TheLinks (outline pkt) ≡ carries mag TheLinks pkt
 links_outline mag (Header id control text) = refl
 links_outline mag (Row m number text) = refl
 links_outline mag (Links m content) = refl
-links_outline mag Empty = refl
-links_outline mag Unreadable = refl
-links_outline mag Info = refl
-links_outline mag Other = refl
+links_outline mag _ = refl
 
 -- a test that looks at no text and holds of no row and of no empty slot is the same of what is sent and received
 same_test : LawsBelow → (test : Packet → Bool) → ((pkt : Packet) → test (outline pkt) ≡ test pkt) → ((pkt : Packet) → IsRowPacket pkt → test pkt ≡ false) → test Empty ≡ false →
@@ -215,37 +194,25 @@ row_heads_none : (mag : ℕ) (pkt : Packet) → IsRowPacket pkt → heads mag pk
 row_heads_none mag (Row m number text) r = refl
 row_heads_none mag (Header id control text) r = absurd r
 row_heads_none mag (Links m content) r = refl
-row_heads_none mag Empty r = refl
-row_heads_none mag Unreadable r = refl
-row_heads_none mag Info r = refl
-row_heads_none mag Other r = refl
+row_heads_none mag _ r = refl
 
 row_matched_none : (sel : Selection) (pkt : Packet) → IsRowPacket pkt → heads_matched sel pkt ≡ false
 row_matched_none sel (Row m number text) r = refl
 row_matched_none sel (Header id control text) r = absurd r
 row_matched_none sel (Links m content) r = refl
-row_matched_none sel Empty r = refl
-row_matched_none sel Unreadable r = refl
-row_matched_none sel Info r = refl
-row_matched_none sel Other r = refl
+row_matched_none sel _ r = refl
 
 row_ends_none : (mag : ℕ) (pkt : Packet) → IsRowPacket pkt → ends_serial mag pkt ≡ false
 row_ends_none mag (Row m number text) r = refl
 row_ends_none mag (Header id control text) r = absurd r
 row_ends_none mag (Links m content) r = refl
-row_ends_none mag Empty r = refl
-row_ends_none mag Unreadable r = refl
-row_ends_none mag Info r = refl
-row_ends_none mag Other r = refl
+row_ends_none mag _ r = refl
 
 row_links_none : (mag : ℕ) (pkt : Packet) → IsRowPacket pkt → carries mag TheLinks pkt ≡ false
 row_links_none mag (Row m number text) r = refl
 row_links_none mag (Header id control text) r = absurd r
 row_links_none mag (Links m content) r = absurd r
-row_links_none mag Empty r = refl
-row_links_none mag Unreadable r = refl
-row_links_none mag Info r = refl
-row_links_none mag Other r = refl
+row_links_none mag _ r = refl
 
 module _ (laws : LawsBelow) (sent received : List ℕ) (s : IsSlot sent) (clean : is_clean sent ≡ true) (h : MayBeReceivedAs sent received) where
   pub same_heads : (mag : ℕ) → heads mag (packet_of received) ≡ heads mag (packet_of sent)
@@ -319,16 +286,10 @@ module _ (laws : LawsBelow) (sent received : List ℕ) (s : IsSlot sent) (clean 
           )
       go (Header id control text) (Row m n t) e os or right free = tt
       go (Header id control text) (Links m content) e os or right free = tt
-      go (Header id control text) Empty e os or right free = tt
-      go (Header id control text) Unreadable e os or right free = tt
-      go (Header id control text) Info e os or right free = tt
-      go (Header id control text) Other e os or right free = tt
+      go (Header id control text) _ e os or right free = tt
       go (Row m n t) R e os or right free = absurd right
       go (Links m content) R e os or right free = absurd right
-      go Empty R e os or right free = absurd right
-      go Unreadable R e os or right free = absurd right
-      go Info R e os or right free = absurd right
-      go Other R e os or right free = absurd right
+      go _ R e os or right free = absurd right
 
   -- what is received of a row of the page
   pub received_row : (p : Page) → IsPage p → (r : ℕ) → 1 ≤ r → r ≤ 24 → RowIsRight p r (packet_of sent) → IsRowOf p r (packet_of received)
@@ -343,16 +304,10 @@ module _ (laws : LawsBelow) (sent received : List ℕ) (s : IsSlot sent) (clean 
           (good_text 2 40 (page_row p r) (omega arith) (page.rows r low high).codes (λ x a b f. free x f) (sent_row p page r low high text right os.0))
       go (Row mag number text) (Header id control t) e os or right free = tt
       go (Row mag number text) (Links m content) e os or right free = tt
-      go (Row mag number text) Empty e os or right free = tt
-      go (Row mag number text) Unreadable e os or right free = tt
-      go (Row mag number text) Info e os or right free = tt
-      go (Row mag number text) Other e os or right free = tt
+      go (Row mag number text) _ e os or right free = tt
       go (Header id control text) R e os or right free = absurd right
       go (Links m content) R e os or right free = absurd right
-      go Empty R e os or right free = absurd right
-      go Unreadable R e os or right free = absurd right
-      go Info R e os or right free = absurd right
-      go Other R e os or right free = absurd right
+      go _ R e os or right free = absurd right
 
   -- what is received of the links of the page
   pub received_links : (p : Page) → LinksAreRight p sent (packet_of sent) → AreLinksOf p (packet_of received)
@@ -372,16 +327,10 @@ module _ (laws : LawsBelow) (sent received : List ℕ) (s : IsSlot sent) (clean 
           or ∙ ap (λ x. links_of x received) k ∙ same mag right.0 free ∙ sym os ∙ right.1
       go (Links mag content) (Header id control t) e os or right free = tt
       go (Links mag content) (Row m n t) e os or right free = tt
-      go (Links mag content) Empty e os or right free = tt
-      go (Links mag content) Unreadable e os or right free = tt
-      go (Links mag content) Info e os or right free = tt
-      go (Links mag content) Other e os or right free = tt
+      go (Links mag content) _ e os or right free = tt
       go (Header id control text) R e os or right free = absurd right
       go (Row m n text) R e os or right free = absurd right
-      go Empty R e os or right free = absurd right
-      go Unreadable R e os or right free = absurd right
-      go Info R e os or right free = absurd right
-      go Other R e os or right free = absurd right
+      go _ R e os or right free = absurd right
 
   -- a character of a header that is received as sent
   pub head_received_at : (p : Page) → IsPage p → HeadIsRight p (packet_of sent) → (c : ℕ) → c < 24 → get_or received (10 + c) 0 ≡ get_or sent (10 + c) 0 → HeadRightAt p c (packet_of received)
@@ -394,26 +343,17 @@ module _ (laws : LawsBelow) (sent received : List ℕ) (s : IsSlot sent) (clean 
       no_head (Header id control text) row right = row
       no_head (Row m n text) row right = right
       no_head (Links m content) row right = right
-      no_head Empty row right = right
-      no_head Unreadable row right = right
-      no_head Info row right = right
-      no_head Other row right = right
+      no_head _ row right = right
 
       go : (S R : Packet) → outline R ≡ outline S → IsOfSlot sent S → IsOfSlot received R → HeadIsRight p S → HeadRightAt p c R
       go (Header id control text) (Header id' control' text') e os or right =
           subst (λ t. IsRightAt p.head t c) (sym or) (right_at 10 24 p.head (omega arith) page.head_codes c lt (sent_head p page text right.1 os c lt) same)
       go (Header id control text) (Row m n t) e os or right = cc
       go (Header id control text) (Links m content) e os or right = cc
-      go (Header id control text) Empty e os or right = cc
-      go (Header id control text) Unreadable e os or right = cc
-      go (Header id control text) Info e os or right = cc
-      go (Header id control text) Other e os or right = cc
+      go (Header id control text) _ e os or right = cc
       go (Row m n t) R e os or right = absurd right
       go (Links m content) R e os or right = absurd right
-      go Empty R e os or right = absurd right
-      go Unreadable R e os or right = absurd right
-      go Info R e os or right = absurd right
-      go Other R e os or right = absurd right
+      go _ R e os or right = absurd right
 
   -- a character of a row that is received as sent: so the row is received
   pub row_received_at : (p : Page) → IsPage p → (r : ℕ) → 1 ≤ r → r ≤ 24 → RowIsRight p r (packet_of sent) → (c : ℕ) → c < 40 → get_or received (2 + c) 0 ≡ get_or sent (2 + c) 0 →
@@ -432,16 +372,10 @@ module _ (laws : LawsBelow) (sent received : List ℕ) (s : IsSlot sent) (clean 
           subst (λ t. IsRightAt (page_row p r) t c) (sym or.0) (right_at 2 40 (page_row p r) (omega arith) (page.rows r low high).codes c lt (sent_row p page r low high text right os.0 c lt) same)
       go (Row mag number text) (Header id control t) e os or right = cc
       go (Row mag number text) (Links m content) e os or right = cc
-      go (Row mag number text) Empty e os or right = cc
-      go (Row mag number text) Unreadable e os or right = cc
-      go (Row mag number text) Info e os or right = cc
-      go (Row mag number text) Other e os or right = cc
+      go (Row mag number text) _ e os or right = cc
       go (Header id control text) R e os or right = absurd right
       go (Links m content) R e os or right = absurd right
-      go Empty R e os or right = absurd right
-      go Unreadable R e os or right = absurd right
-      go Info R e os or right = absurd right
-      go Other R e os or right = absurd right
+      go _ R e os or right = absurd right
 
       lost : (S : Packet) → IsOfSlot sent S → RowIsRight p r S → is_empty received ≡ true → ⊥
       lost (Row mag number text) os right z =
@@ -450,7 +384,4 @@ module _ (laws : LawsBelow) (sent received : List ℕ) (s : IsSlot sent) (clean 
           no_both _ (sym (ap is_odd (sym same ∙ zero_byte)) ∙ o) even_zero
       lost (Header id control text) os right z = right
       lost (Links m content) os right z = right
-      lost Empty os right z = right
-      lost Unreadable os right z = right
-      lost Info os right z = right
-      lost Other os right z = right
+      lost _ os right z = right

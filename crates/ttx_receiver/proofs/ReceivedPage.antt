@@ -3,7 +3,7 @@ use Rattle.std.proofs.Common.{◌≡◌, ℕ, ◌<◌, ℤ, pos, ◌+ℤ◌, ◌
 use Rattle.std.proofs.lemmas.Bool.{and_from, cases_Bool}
 use Rattle.std.proofs.lemmas.Int.{ints}
 use Rattle.ttx_header.specs.Ids.{Id, same_id}
-use Rattle.ttx_page.specs.Packets.{Packet, Empty, Unreadable, Header, Row, Links, Info, Other, packet_of}
+use Rattle.ttx_page.specs.Packets.{Packet, Header, Row, Links, packet_of}
 use Rattle.ttx_page.specs.Pages.{Page, IsPage, selected_mag, matches}
 use Rattle.ttx_page.specs.declared.selection.Selection.{Selection}
 use Rattle.ttx_page.specs.declared.selection.Selection.TheVariants.{Exact, AnySub}
@@ -22,10 +22,7 @@ pub page_heads : (id : Id) (pkt : Packet) → heads_page id pkt ≡ true → hea
 page_heads id (Header other control text) h = let e : id.mag ≡ other.mag = eqb-true _ _ (and_left _ _ (and_left _ _ h)) in eq-eqb other.mag id.mag (sym e)
 page_heads id (Row m n t) h = h
 page_heads id (Links m content) h = h
-page_heads id Empty h = h
-page_heads id Unreadable h = h
-page_heads id Info h = h
-page_heads id Other h = h
+page_heads id _ h = h
 
 matches_same : (sel : Selection) (id other : Id) → matches sel id ≡ true → same_id id other ≡ true → matches sel other ≡ true
 matches_same (Exact own) id other h k =
@@ -42,10 +39,7 @@ pub page_matched : (sel : Selection) (id : Id) (pkt : Packet) → matches sel id
 page_matched sel id (Header other control text) m h = matches_same sel id other m h
 page_matched sel id (Row a n t) m h = h
 page_matched sel id (Links a content) m h = h
-page_matched sel id Empty m h = h
-page_matched sel id Unreadable m h = h
-page_matched sel id Info m h = h
-page_matched sel id Other m h = h
+page_matched sel id _ m h = h
 
 pub same_mag : (sel : Selection) (id : Id) → matches sel id ≡ true → id.mag ≡ selected_mag sel
 same_mag (Exact own) id h = sym (eqb-true own.mag id.mag (and_left _ _ (and_left _ _ h)))
@@ -59,10 +53,7 @@ no_row_zero laws mag slot = go (packet_of slot) (of_slot laws slot)
         [ inl e ↦ let z : number ≡ 0 = eqb-true number 0 (and_right _ _ e) in absurd (omega (arith, o.1)) | inr e ↦ e ]
     go (Header id control text) o = refl
     go (Links m content) o = refl
-    go Empty o = refl
-    go Unreadable o = refl
-    go Info o = refl
-    go Other o = refl
+    go _ o = refl
 
 module _ (laws : LawsBelow) (s : Stream) (p : Page) (page : IsPage p) (sel : Selection) (fits : matches sel p.id ≡ true) (begin : ℤ) (steady : IsSteadyFrom s p sel begin)
     (repeat : ℕ) (received : List (List ℕ)) (permitted : Received s p.id repeat begin received) where

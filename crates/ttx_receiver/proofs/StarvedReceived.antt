@@ -3,7 +3,7 @@ use Rattle.std.proofs.Common.{◌≡◌, ◌⊎◌, ℕ, ◌<◌, ◌≤◌, ℤ
 use Rattle.std.specs.List.{AllByRecursion}
 use Rattle.ttx_header.specs.Ids.{Id}
 use Rattle.ttx_packet.specs.Receptions.{MayBeReceivedAs}
-use Rattle.ttx_page.specs.Packets.{Packet, Empty, Unreadable, Header, Row, Links, Info, Other, packet_of}
+use Rattle.ttx_page.specs.Packets.{Packet, Header, Row, Links, packet_of}
 use Rattle.ttx_page.specs.Pages.{Page, selected_mag, matches}
 use Rattle.ttx_page.specs.declared.selection.Selection.{Selection}
 use Rattle.ttx_page.specs.declared.item.Item.{Item}
@@ -24,28 +24,19 @@ matched_no_row : (sel : Selection) (mag r : ℕ) (pkt : Packet) → heads_matche
 matched_no_row sel mag r (Header id control text) h = refl
 matched_no_row sel mag r (Row m n t) h = absurd (no_both false h refl)
 matched_no_row sel mag r (Links m c) h = refl
-matched_no_row sel mag r Empty h = refl
-matched_no_row sel mag r Unreadable h = refl
-matched_no_row sel mag r Info h = refl
-matched_no_row sel mag r Other h = refl
+matched_no_row sel mag r _ h = refl
 
 row_no_header : (id : Id) (mag r : ℕ) (pkt : Packet) → carries mag (TheRow r) pkt ≡ true → heads_page id pkt ≡ false
 row_no_header id mag r (Header i control text) h = absurd (no_both false h refl)
 row_no_header id mag r (Row m n t) h = refl
 row_no_header id mag r (Links m c) h = refl
-row_no_header id mag r Empty h = refl
-row_no_header id mag r Unreadable h = refl
-row_no_header id mag r Info h = refl
-row_no_header id mag r Other h = refl
+row_no_header id mag r _ h = refl
 
 one_row : (mag mag' r r' : ℕ) (pkt : Packet) → carries mag (TheRow r) pkt ≡ true → carries mag' (TheRow r') pkt ≡ true → r' ≡ r
 one_row mag mag' r r' (Row m n t) h k = sym (eqb-true n r' (and_right _ _ k)) ∙ eqb-true n r (and_right _ _ h)
 one_row mag mag' r r' (Header i control text) h k = absurd (no_both false h refl)
 one_row mag mag' r r' (Links m c) h k = absurd (no_both false h refl)
-one_row mag mag' r r' Empty h k = absurd (no_both false h refl)
-one_row mag mag' r r' Unreadable h k = absurd (no_both false h refl)
-one_row mag mag' r r' Info h k = absurd (no_both false h refl)
-one_row mag mag' r r' Other h k = absurd (no_both false h refl)
+one_row mag mag' r r' _ h k = absurd (no_both false h refl)
 
 all_sent : (s : Stream) (id : Id) (item : Item) (xs : List ℤ) → AreSuccessive s id item xs → AllByRecursion (IsTransmission s id item) xs
 all_sent s id item [] a = tt

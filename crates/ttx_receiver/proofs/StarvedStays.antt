@@ -3,7 +3,7 @@ use Rattle.std.proofs.Common.{◌≡◌, ◌≢◌, ℕ, zero, suc, ◌+◌, ◌
 use Rattle.std.proofs.lemmas.Bool.{and_from}
 use Rattle.ttx_code.specs.Words.{is_odd}
 use Rattle.ttx_packet.specs.Slots.{IsSlot}
-use Rattle.ttx_page.specs.Packets.{Packet, Empty, Unreadable, Header, Row, Links, Info, Other, packet_of}
+use Rattle.ttx_page.specs.Packets.{Packet, Header, Row, Links, packet_of}
 use Rattle.ttx_page.specs.Pages.{Page, IsPage, selected_mag, matches, needed, page_row}
 use Rattle.ttx_page.specs.declared.selection.Selection.{Selection}
 use Rattle.ttx_page.specs.declared.item.Item.{Item}
@@ -40,37 +40,25 @@ row_even : (slot : List ℕ) (pkt : Packet) → IsOfSlot slot pkt → (mag r : �
 row_even slot (Row m n text) o mag r h even = ap (λ x. is_odd (get_or x 0 0)) o.0 ∙ ap is_odd (get_or-drop 2 slot 0 0) ∙ even
 row_even slot (Header id control text) o mag r h even = absurd (no_both false h refl)
 row_even slot (Links m c) o mag r h even = tt
-row_even slot Empty o mag r h even = tt
-row_even slot Unreadable o mag r h even = tt
-row_even slot Info o mag r h even = tt
-row_even slot Other o mag r h even = tt
+row_even slot _ o mag r h even = tt
 
 head_even : (slot : List ℕ) (pkt : Packet) → IsOfSlot slot pkt → (sel : Selection) → heads_matched sel pkt ≡ true → is_odd (get_or slot 10 0) ≡ false → IsFirstEven pkt
 head_even slot (Header id control text) o sel h even = ap (λ x. is_odd (get_or x 0 0)) o ∙ ap is_odd (get_or-drop 10 slot 0 0) ∙ even
 head_even slot (Row m n text) o sel h even = absurd (no_both false h refl)
 head_even slot (Links m c) o sel h even = tt
-head_even slot Empty o sel h even = tt
-head_even slot Unreadable o sel h even = tt
-head_even slot Info o sel h even = tt
-head_even slot Other o sel h even = tt
+head_even slot _ o sel h even = tt
 
 row_odd : (slot : List ℕ) (pkt : Packet) → IsOfSlot slot pkt → (p : Page) (r : ℕ) → RowRightAt p r 0 pkt → is_odd (get_or slot 2 0) ≡ true
 row_odd slot (Row m n text) o p r h = ap is_odd (sym (get_or-drop 2 slot 0 0)) ∙ ap (λ x. is_odd (get_or x 0 0)) (sym o.0) ∙ h.good
 row_odd slot (Header id control text) o p r h = absurd h
 row_odd slot (Links m c) o p r h = absurd h
-row_odd slot Empty o p r h = absurd h
-row_odd slot Unreadable o p r h = absurd h
-row_odd slot Info o p r h = absurd h
-row_odd slot Other o p r h = absurd h
+row_odd slot _ o p r h = absurd h
 
 head_odd : (slot : List ℕ) (pkt : Packet) → IsOfSlot slot pkt → (p : Page) → HeadRightAt p 0 pkt → is_odd (get_or slot 10 0) ≡ true
 head_odd slot (Header id control text) o p h = ap is_odd (sym (get_or-drop 10 slot 0 0)) ∙ ap (λ x. is_odd (get_or x 0 0)) (sym o) ∙ h.good
 head_odd slot (Row m n text) o p h = absurd h
 head_odd slot (Links m c) o p h = absurd h
-head_odd slot Empty o p h = absurd h
-head_odd slot Unreadable o p h = absurd h
-head_odd slot Info o p h = absurd h
-head_odd slot Other o p h = absurd h
+head_odd slot _ o p h = absurd h
 
 -- an item's characters one by one, and its links
 abbrev pub HoldsEach : Page → Memory → Item → Type 0

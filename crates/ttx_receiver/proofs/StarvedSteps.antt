@@ -3,7 +3,7 @@ use Rattle.std.proofs.Common.{◌≡◌, ◌≢◌, ◌⊎◌, ℕ, ◌-◌, ◌
 use Rattle.std.proofs.lemmas.Bool.{and_from, cases_Bool}
 use Rattle.ttx_code.specs.Words.{is_odd}
 use Rattle.ttx_header.specs.Control.{c4, c11}
-use Rattle.ttx_page.specs.Packets.{Packet, Empty, Unreadable, Header, Row, Links, Info, Other}
+use Rattle.ttx_page.specs.Packets.{Packet, Header, Row, Links}
 use Rattle.ttx_page.specs.Pages.{Page, selected_mag, matches}
 use Rattle.ttx_page.specs.declared.selection.Selection.{Selection}
 use Rattle.ttx_page.specs.declared.item.Item.TheVariants.{Head as TheHead, Row as TheRow, Links as TheLinks}
@@ -21,10 +21,7 @@ abbrev pub IsFirstEven : Packet → Type 0
 IsFirstEven (Header id control text) = is_odd (get_or text 0 0) ≡ false
 IsFirstEven (Row mag number text) = is_odd (get_or text 0 0) ≡ false
 IsFirstEven (Links mag content) = Unit {0}
-IsFirstEven Empty = Unit {0}
-IsFirstEven Unreadable = Unit {0}
-IsFirstEven Info = Unit {0}
-IsFirstEven Other = Unit {0}
+IsFirstEven _ = Unit {0}
 
 even_kept : (row text : List ℕ) → 0 < length row → is_odd (get_or text 0 0) ≡ false → get_or (stored_row row text) 0 0 ≡ get_or row 0 0
 even_kept row text lt even = elim (stored_row_at row text 0 lt) as (λ _. get_or (stored_row row text) 0 0 ≡ get_or row 0 0)
@@ -70,10 +67,7 @@ module _ (lines : ℕ) (sel : Selection) where
       if_ind (λ (new : Memory). new.storing ≡ true → StoresSince m new sel (Links mag (Some content))) ((mag == selected_mag sel) && m.storing && not (misses lines true m))
       (with_links m (Some content)) m
       (λ _ h. inr (record { was = h; no_header = refl; no_end = refl; same_age = refl })) (λ _ h. inr (record { was = h; no_header = refl; no_end = refl; same_age = refl })) st
-  stores_since m Empty h = inr (record { was = h; no_header = refl; no_end = refl; same_age = refl })
-  stores_since m Unreadable h = inr (record { was = h; no_header = refl; no_end = refl; same_age = refl })
-  stores_since m Info h = inr (record { was = h; no_header = refl; no_end = refl; same_age = refl })
-  stores_since m Other h = inr (record { was = h; no_header = refl; no_end = refl; same_age = refl })
+  stores_since m _ h = inr (record { was = h; no_header = refl; no_end = refl; same_age = refl })
 
   abbrev taken_by : Memory → ℕ → Bool
   taken_by m mag = (mag == selected_mag sel) && m.storing && not (misses lines true m)
@@ -119,10 +113,7 @@ module _ (lines : ℕ) (sel : Selection) where
       if_ind {A = Memory} (λ new. char_at new r 0 ≡ char_at m r 0) (taken_by m mag) m m (λ _. refl) (λ _. refl)
   wrong_row r low high p k4 m (Links mag (Some content)) s f hh even =
       if_ind {A = Memory} (λ new. char_at new r 0 ≡ char_at m r 0) (taken_by m mag) (with_links m (Some content)) m (λ _. refl) (λ _. refl)
-  wrong_row r low high p k4 m Empty s f hh even = refl
-  wrong_row r low high p k4 m Unreadable s f hh even = refl
-  wrong_row r low high p k4 m Info s f hh even = refl
-  wrong_row r low high p k4 m Other s f hh even = refl
+  wrong_row r low high p k4 m _ s f hh even = refl
 
   -- so does column 8 of row 0 where each matching header has a wrong first byte
   pub wrong_head : (m : Memory) (pkt : Packet) → Shape m → (takes lines sel TheHead m pkt ≡ true → IsFirstEven pkt) → carries (selected_mag sel) (TheRow 0) pkt ≡ false →
@@ -156,10 +147,7 @@ module _ (lines : ℕ) (sel : Selection) where
       if_ind {A = Memory} (λ new. char_at new 0 8 ≡ char_at m 0 8) (taken_by m mag) m m (λ _. refl) (λ _. refl)
   wrong_head m (Links mag (Some content)) s even none =
       if_ind {A = Memory} (λ new. char_at new 0 8 ≡ char_at m 0 8) (taken_by m mag) (with_links m (Some content)) m (λ _. refl) (λ _. refl)
-  wrong_head m Empty s even none = refl
-  wrong_head m Unreadable s even none = refl
-  wrong_head m Info s even none = refl
-  wrong_head m Other s even none = refl
+  wrong_head m _ s even none = refl
 
   -- so do the links where no links are taken
   pub wrong_links : (p : Page) → c4 p.control ≡ false → (m : Memory) (pkt : Packet) → m.fresh ≡ false → (heads_matched sel pkt ≡ true → IsHeadOf p pkt) →
@@ -180,7 +168,4 @@ module _ (lines : ℕ) (sel : Selection) where
       (λ e. absurd (none (and_from (mag == selected_mag sel) (is_bound lines m) (and_left _ _ (and_left _ _ e))
       (and_from m.storing (not (nat_le m.age lines)) (and_right _ _ (and_left _ _ e)) (and_right _ _ e)))))
       (λ _. refl)
-  wrong_links p k4 m Empty f hh none = refl
-  wrong_links p k4 m Unreadable f hh none = refl
-  wrong_links p k4 m Info f hh none = refl
-  wrong_links p k4 m Other f hh none = refl
+  wrong_links p k4 m _ f hh none = refl

@@ -3,7 +3,7 @@ use Rattle.std.proofs.Common.{◌≡◌, ℕ, zero, suc, ◌+◌, ◌%◌, ◌<�
 use Rattle.std.proofs.lemmas.Int.{ints}
 use Rattle.std.proofs.lemmas.List.{get_or-map}
 use Rattle.ttx_code.specs.Words.{odd_byte}
-use Rattle.ttx_page.specs.Packets.{Packet, Empty, Unreadable, Header, Row, Links, Info, Other, packet_of}
+use Rattle.ttx_page.specs.Packets.{Packet, Header, Row, Links, packet_of}
 use Rattle.ttx_page.specs.Pages.{Page, IsPage, selected_mag, matches, needed, page_row}
 use Rattle.ttx_page.specs.declared.selection.Selection.{Selection}
 use Rattle.ttx_page.specs.declared.item.Item.{Item}
@@ -49,29 +49,20 @@ head_is : LawsBelow → (p : Page) → IsPage p → (pkt : Packet) → HeadIsRig
 head_is laws p page (Header id control text) h = (h.0, good laws p.head text 24 (omega (arith, page.head_length)) page.head_codes h.1)
 head_is laws p page (Row mag number text) h = absurd h
 head_is laws p page (Links mag content) h = absurd h
-head_is laws p page Empty h = absurd h
-head_is laws p page Unreadable h = absurd h
-head_is laws p page Info h = absurd h
-head_is laws p page Other h = absurd h
+head_is laws p page _ h = absurd h
 
 row_is : LawsBelow → (p : Page) → IsPage p → (r : ℕ) → (1 ≤ r) × (r ≤ 24) → (pkt : Packet) → RowIsRight p r pkt → IsRowOf p r pkt
 row_is laws p page r range (Row mag number text) h =
     let row = page.rows r range.0 range.1 in good_row laws (page_row p r) text 40 (omega (arith, row.length)) row.codes h
 row_is laws p page r range (Header id control text) h = absurd h
 row_is laws p page r range (Links mag content) h = absurd h
-row_is laws p page r range Empty h = absurd h
-row_is laws p page r range Unreadable h = absurd h
-row_is laws p page r range Info h = absurd h
-row_is laws p page r range Other h = absurd h
+row_is laws p page r range _ h = absurd h
 
 links_are : (p : Page) (slot : List ℕ) (pkt : Packet) → LinksAreRight p slot pkt → AreLinksOf p pkt
 links_are p slot (Links mag content) h = h.1
 links_are p slot (Header id control text) h = absurd h
 links_are p slot (Row mag number text) h = absurd h
-links_are p slot Empty h = absurd h
-links_are p slot Unreadable h = absurd h
-links_are p slot Info h = absurd h
-links_are p slot Other h = absurd h
+links_are p slot _ h = absurd h
 
 lt_is_le : (a b : ℤ) → a <ℤ b → a ≤ℤ b
 lt_is_le a b h = omega (arith, ints)

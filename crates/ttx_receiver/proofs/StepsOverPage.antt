@@ -4,7 +4,7 @@ use Rattle.std.proofs.lemmas.Bool.{cases_lt, and_from, cases_Bool, not_from_fals
 use Rattle.std.proofs.lemmas.List.{get_or-replicate}
 use Rattle.ttx_code.specs.Words.{is_odd}
 use Rattle.ttx_header.specs.Ids.{Id}
-use Rattle.ttx_page.specs.Packets.{Packet, Empty, Unreadable, Header, Row, Links, Info, Other}
+use Rattle.ttx_page.specs.Packets.{Packet, Empty, Unreadable, Header, Row, Links}
 use Rattle.ttx_page.specs.Pages.{Page, selected_mag, matches, page_row, blank_row}
 use Rattle.ttx_page.specs.declared.selection.Selection.{Selection}
 use Rattle.ttx_page.specs.declared.selection.Selection.TheVariants.{Exact, AnySub}
@@ -29,8 +29,7 @@ IsHeadOf p Empty = Unit {0}
 IsHeadOf p Unreadable = Unit {0}
 IsHeadOf p (Row mag number text) = Unit {0}
 IsHeadOf p (Links mag content) = Unit {0}
-IsHeadOf p Info = Unit {0}
-IsHeadOf p Other = Unit {0}
+IsHeadOf p _ = Unit {0}
 
 abbrev pub IsRowOf : Page → ℕ → Packet → Type 0
 IsRowOf p r (Row mag number text) = GoodText (page_row p r) 40 text
@@ -38,8 +37,7 @@ IsRowOf p r Empty = Unit {0}
 IsRowOf p r Unreadable = Unit {0}
 IsRowOf p r (Header id control text) = Unit {0}
 IsRowOf p r (Links mag content) = Unit {0}
-IsRowOf p r Info = Unit {0}
-IsRowOf p r Other = Unit {0}
+IsRowOf p r _ = Unit {0}
 
 abbrev pub AreLinksOf : Page → Packet → Type 0
 AreLinksOf p (Links mag content) = content ≡ Some p.links
@@ -47,8 +45,7 @@ AreLinksOf p Empty = Unit {0}
 AreLinksOf p Unreadable = Unit {0}
 AreLinksOf p (Header id control text) = Unit {0}
 AreLinksOf p (Row mag number text) = Unit {0}
-AreLinksOf p Info = Unit {0}
-AreLinksOf p Other = Unit {0}
+AreLinksOf p _ = Unit {0}
 
 -- the rows of a memory have their lengths
 pub record Shape (m : Memory) : Type 0 where
@@ -126,10 +123,7 @@ module _ (class : Class) (lines : ℕ) (sel : Selection) where
   shape_after choice m (Links mag (Some content)) s =
       if_ind {A = Memory} Shape ((mag == selected_mag sel) && m.storing && not (misses lines choice m)) (with_links m (Some content)) m
       (λ _. shape_same m (with_links m (Some content)) refl s) (λ _. s)
-  shape_after choice m Empty s = s
-  shape_after choice m Unreadable s = s
-  shape_after choice m Info s = s
-  shape_after choice m Other s = s
+  shape_after choice m _ s = s
 
   -- a page is stored_row after a slot only where the slot is a matching header, or the page was stored_row and the slot is no header of the magazine
   pub after_storing : (choice : Bool) (m : Memory) (pkt : Packet) → (after class lines sel choice m pkt).storing ≡ true →
@@ -150,10 +144,7 @@ module _ (class : Class) (lines : ℕ) (sel : Selection) where
   after_storing choice m (Links mag (Some content)) st =
       if_ind (λ (new : Memory). new.storing ≡ true → (false ≡ true) ⊎ ((m.storing ≡ true) × (false ≡ false))) ((mag == selected_mag sel) && m.storing && not (misses lines choice m))
       (with_links m (Some content)) m (λ _ h. inr (h, refl)) (λ _ h. inr (h, refl)) st
-  after_storing choice m Empty h = inr (h, refl)
-  after_storing choice m Unreadable h = inr (h, refl)
-  after_storing choice m Info h = inr (h, refl)
-  after_storing choice m Other h = inr (h, refl)
+  after_storing choice m _ h = inr (h, refl)
 
   -- without a header of the magazine and without an end in serial transmission the page goes on being stored_row
   pub after_ready : (choice : Bool) (m : Memory) (pkt : Packet) → heads (selected_mag sel) pkt ≡ false → ends_serial (selected_mag sel) pkt ≡ false →
@@ -174,10 +165,7 @@ module _ (class : Class) (lines : ℕ) (sel : Selection) where
   after_ready choice m (Links mag (Some content)) other on st =
       if_ind (λ (new : Memory). (new.storing ≡ true) × (new.age ≡ m.age)) ((mag == selected_mag sel) && m.storing && not (misses lines choice m))
       (with_links m (Some content)) m (λ _. (st, refl)) (λ _. (st, refl))
-  after_ready choice m Empty other on st = (st, refl)
-  after_ready choice m Unreadable other on st = (st, refl)
-  after_ready choice m Info other on st = (st, refl)
-  after_ready choice m Other other on st = (st, refl)
+  after_ready choice m _ other on st = (st, refl)
 
 module _ (class : Class) (lines : ℕ) (sel : Selection) (p : Page) where
   -- what a matching header leaves
@@ -191,8 +179,7 @@ module _ (class : Class) (lines : ℕ) (sel : Selection) (p : Page) where
   after_begin choice m Unreadable h r = absurd (no_both false h refl)
   after_begin choice m (Row mag number text) h r = absurd (no_both false h refl)
   after_begin choice m (Links mag content) h r = absurd (no_both false h refl)
-  after_begin choice m Info h r = absurd (no_both false h refl)
-  after_begin choice m Other h r = absurd (no_both false h refl)
+  after_begin choice m _ h r = absurd (no_both false h refl)
 
   -- a receiver that isn't fresh keeps the page's control bits
   pub after_settled : (choice : Bool) (m : Memory) (pkt : Packet) → (heads_matched sel pkt ≡ true → IsHeadOf p pkt) →
@@ -211,7 +198,4 @@ module _ (class : Class) (lines : ℕ) (sel : Selection) (p : Page) where
   after_settled choice m (Links mag (Some content)) r f k =
       if_ind (λ (new : Memory). (new.fresh ≡ false) × (new.control ≡ p.control)) ((mag == selected_mag sel) && m.storing && not (misses lines choice m))
       (with_links m (Some content)) m (λ _. (f, k)) (λ _. (f, k))
-  after_settled choice m Empty r f k = (f, k)
-  after_settled choice m Unreadable r f k = (f, k)
-  after_settled choice m Info r f k = (f, k)
-  after_settled choice m Other r f k = (f, k)
+  after_settled choice m _ r f k = (f, k)

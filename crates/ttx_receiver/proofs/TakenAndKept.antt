@@ -2,7 +2,7 @@
 use Rattle.std.proofs.Common.{◌≡◌, ◌≢◌, ℕ, ◌+◌, ◌-◌, ◌%◌, ◌<◌, ◌≤◌, Bool, true, false, not, ◌&&◌, ◌==◌, List, [], ◌++◌, Some, None, length, get_or, take, drop, set, refl, sym, ap, ◌∙◌, subst, inl, inr, arith, eqb-true, eq-eqb, nat_le, get_or-set_same, get_or-set_other, length-take-le, length-drop, get_or-drop, get_or-append-add}
 use Rattle.std.proofs.lemmas.Bool.{and_from, cases_Bool, not_from_false, or_from}
 use Rattle.ttx_code.specs.Words.{is_odd}
-use Rattle.ttx_page.specs.Packets.{Packet, Empty, Unreadable, Header, Row, Links, Info, Other}
+use Rattle.ttx_page.specs.Packets.{Packet, Empty, Unreadable, Header, Row, Links}
 use Rattle.ttx_page.specs.Pages.{Page, selected_mag, matches, page_row}
 use Rattle.ttx_page.specs.declared.selection.Selection.{Selection}
 use Rattle.ttx_page.specs.declared.item.Item.TheVariants.{Row as TheRow, Links as TheLinks}
@@ -42,8 +42,7 @@ HeadRightAt p c Empty = ⊥
 HeadRightAt p c Unreadable = ⊥
 HeadRightAt p c (Row mag number text) = ⊥
 HeadRightAt p c (Links mag content) = ⊥
-HeadRightAt p c Info = ⊥
-HeadRightAt p c Other = ⊥
+HeadRightAt p c _ = ⊥
 
 abbrev pub RowRightAt : Page → ℕ → ℕ → Packet → Type 0
 RowRightAt p r c (Row mag number text) = IsRightAt (page_row p r) text c
@@ -51,8 +50,7 @@ RowRightAt p r c Empty = ⊥
 RowRightAt p r c Unreadable = ⊥
 RowRightAt p r c (Header id control text) = ⊥
 RowRightAt p r c (Links mag content) = ⊥
-RowRightAt p r c Info = ⊥
-RowRightAt p r c Other = ⊥
+RowRightAt p r c _ = ⊥
 
 module _ (class : Class) (lines : ℕ) (sel : Selection) (p : Page) where
   abbrev takes : Bool → Memory → ℕ → Bool
@@ -95,10 +93,7 @@ module _ (class : Class) (lines : ℕ) (sel : Selection) (p : Page) where
       if_ind {A = Memory} (λ new. char_at new r c ≡ get_or (page_row p r) c 0) (takes choice m mag) m m (λ _. was) (λ _. was)
   keep_row k4 r c low high col choice m (Links mag (Some content)) s f hh hr was =
       if_ind {A = Memory} (λ new. char_at new r c ≡ get_or (page_row p r) c 0) (takes choice m mag) (with_links m (Some content)) m (λ _. was) (λ _. was)
-  keep_row k4 r c low high col choice m Empty s f hh hr was = was
-  keep_row k4 r c low high col choice m Unreadable s f hh hr was = was
-  keep_row k4 r c low high col choice m Info s f hh hr was = was
-  keep_row k4 r c low high col choice m Other s f hh hr was = was
+  keep_row k4 r c low high col choice m _ s f hh hr was = was
 
   -- a character of row 0 stays right
   pub keep_head : (c : ℕ) → c < 24 → (choice : Bool) (m : Memory) (pkt : Packet) → Shape m →
@@ -136,10 +131,7 @@ module _ (class : Class) (lines : ℕ) (sel : Selection) (p : Page) where
       if_ind {A = Memory} (λ new. char_at new 0 (8 + c) ≡ get_or p.head c 0) (takes choice m mag) m m (λ _. was) (λ _. was)
   keep_head c col choice m (Links mag (Some content)) s hh none was =
       if_ind {A = Memory} (λ new. char_at new 0 (8 + c) ≡ get_or p.head c 0) (takes choice m mag) (with_links m (Some content)) m (λ _. was) (λ _. was)
-  keep_head c col choice m Empty s hh none was = was
-  keep_head c col choice m Unreadable s hh none was = was
-  keep_head c col choice m Info s hh none was = was
-  keep_head c col choice m Other s hh none was = was
+  keep_head c col choice m _ s hh none was = was
 
   -- the links stay right
   pub keep_links : c4 p.control ≡ false → (choice : Bool) (m : Memory) (pkt : Packet) → m.fresh ≡ false →
@@ -161,10 +153,7 @@ module _ (class : Class) (lines : ℕ) (sel : Selection) (p : Page) where
   keep_links k4 choice m (Links mag (Some content)) f hh hl was =
       if_ind {A = Memory} (λ new. new.links ≡ p.links) (takes choice m mag) (with_links m (Some content)) m
       (λ e. let q = hl (and_right _ _ (and_left _ _ e)) (and_left _ _ (and_left _ _ e)) in cc) (λ _. was)
-  keep_links k4 choice m Empty f hh hl was = was
-  keep_links k4 choice m Unreadable f hh hl was = was
-  keep_links k4 choice m Info f hh hl was = was
-  keep_links k4 choice m Other f hh hl was = was
+  keep_links k4 choice m _ f hh hl was = was
 
   ready_takes : (choice : Bool) (m : Memory) (mag : ℕ) → m.storing ≡ true → lines < m.age → (mag == selected_mag sel) ≡ true → takes choice m mag ≡ true
   ready_takes choice m mag st old here =
@@ -188,10 +177,7 @@ module _ (class : Class) (lines : ℕ) (sel : Selection) (p : Page) where
       (λ e. absurd (no_both _ (ready_takes choice m mag st old (and_left _ _ here)) e))
   take_row r c high col choice m (Links mag content) s st old here right = absurd right
   take_row r c high col choice m (Header id control text) s st old here right = absurd right
-  take_row r c high col choice m Empty s st old here right = absurd right
-  take_row r c high col choice m Unreadable s st old here right = absurd right
-  take_row r c high col choice m Info s st old here right = absurd right
-  take_row r c high col choice m Other s st old here right = absurd right
+  take_row r c high col choice m _ s st old here right = absurd right
 
   pub take_links : (choice : Bool) (m : Memory) (pkt : Packet) → m.storing ≡ true → lines < m.age →
       carries (selected_mag sel) TheLinks pkt ≡ true → AreLinksOf p pkt → (after class lines sel choice m pkt).links ≡ p.links
@@ -201,10 +187,7 @@ module _ (class : Class) (lines : ℕ) (sel : Selection) (p : Page) where
       (λ _. cc) (λ e. absurd (no_both _ (ready_takes choice m mag st old here) e))
   take_links choice m (Row mag number text) st old here right = absurd (no_both _ here refl)
   take_links choice m (Header id control text) st old here right = absurd (no_both _ here refl)
-  take_links choice m Empty st old here right = absurd (no_both _ here refl)
-  take_links choice m Unreadable st old here right = absurd (no_both _ here refl)
-  take_links choice m Info st old here right = absurd (no_both _ here refl)
-  take_links choice m Other st old here right = absurd (no_both _ here refl)
+  take_links choice m _ st old here right = absurd (no_both _ here refl)
 
   pub take_head : (c : ℕ) → c < 24 → (choice : Bool) (m : Memory) (pkt : Packet) → Shape m → heads_matched sel pkt ≡ true → HeadRightAt p c pkt →
       char_at (after class lines sel choice m pkt) 0 (8 + c) ≡ get_or p.head c 0
@@ -225,7 +208,4 @@ module _ (class : Class) (lines : ℕ) (sel : Selection) (p : Page) where
           ∙ stored_row_good (drop 8 row) text c (omega arith) right.within right.good ∙ right.right
   take_head c col choice m (Row mag number text) s here right = absurd right
   take_head c col choice m (Links mag content) s here right = absurd right
-  take_head c col choice m Empty s here right = absurd right
-  take_head c col choice m Unreadable s here right = absurd right
-  take_head c col choice m Info s here right = absurd right
-  take_head c col choice m Other s here right = absurd right
+  take_head c col choice m _ s here right = absurd right
