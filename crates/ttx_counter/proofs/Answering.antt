@@ -11,20 +11,20 @@ use Rattle.ttx_page.specs.Steady.{Steady, HasHeader, HasNoHeader}
 use Rattle.ttx_page.specs.Streams.{repeated}
 use Rattle.ttx_receiver.specs.Starving.{wrong_memory}
 use Rattle.ttx_cycle.specs.Files.{IsCycle}
-use Rattle.ttx_witness.specs.Collected.{IsItem, item_number}
+use Rattle.ttx_witness.specs.sent.Collected.{IsItem, item_number}
 use Rattle.ttx_witness.specs.Coverage.{Certificate, IsCertificate, limit, IsSureStart, IsCovered}
 use Rattle.ttx_page.specs.Laws.{PagesKeepTheirRules}
 use Rattle.ttx_page.specs.declared.page.Page.{Page as PageValue}
 use Rattle.ttx_page.specs.declared.class.Class.TheVariants.{Any}
 use Rattle.ttx_page.specs.Views.{page_of}
 use Rattle.ttx_certify.specs.Laws.{ArePages}
-use Rattle.ttx_witness.specs.CycleLaws.{FurtherStartsCover}
-use Rattle.ttx_witness.specs.Finding.{IsSentUnchanged, CanBeAccepted}
+use Rattle.ttx_witness.specs.laws.CycleLaws.{FurtherStartsCover}
+use Rattle.ttx_witness.specs.finding.Finding.{IsSentUnchanged, CanBeAccepted}
 use Rattle.ttx_counter.specs.Laws.{RefutedIsNotAccepted}
-use Rattle.ttx_witness.specs.Faults.{IsPageFault, SteadyHasNoFault}
-use Rattle.ttx_witness.specs.declared.period.Collected.{Collected}
-use Rattle.ttx_witness.specs.declared.reason.Reason.{Reason}
-use Rattle.ttx_witness.specs.declared.reason.Reason.TheVariants.{BadSlot, NoHeader, OtherSubpage, Erased, HeadDiffers, RowDiffers, LinksDiffer, NoWitness, WitnessBad, Late, Unsteady, LateBlank}
+use Rattle.ttx_witness.specs.faults.Faults.{IsPageFault, SteadyHasNoFault}
+use Rattle.ttx_witness.specs.declared.sent.collected.Collected.{Collected}
+use Rattle.ttx_witness.specs.declared.faults.reason.Reason.{Reason}
+use Rattle.ttx_witness.specs.declared.faults.reason.Reason.TheVariants.{BadSlot, NoHeader, OtherSubpage, Erased, HeadDiffers, RowDiffers, LinksDiffer, NoWitness, WitnessBad, Late, Unsteady, LateBlank}
 use Rattle.ttx_counter.specs.Counters.{CounterRun, IsCounterRun}
 use Rattle.ttx_counter.specs.StarvingRuns.{starving_run}
 use Rattle.ttx_counter.specs.Sources.{plain_counter, PlainRunsAreCounterRuns, AbsentPagesAreWrong}

@@ -7,16 +7,16 @@ use Rattle.ttx_page.specs.Pages.{Page}
 use Rattle.ttx_page.specs.declared.item.Item.{Item}
 use Rattle.ttx_page.specs.Streams.{repeated, turned, run_length, IsOwned}
 use Rattle.ttx_cycle.specs.Files.{IsCycle}
-use Rattle.ttx_witness.specs.Confirming.{Rising, late_after, after_runs, not_begun}
-use Rattle.ttx_witness.specs.declared.confirming.Progress.{Progress}
-use Rattle.ttx_witness.specs.Transmissions.{runs, slot_of}
-use Rattle.ttx_witness.specs.declared.transmissions.Transmission.{Transmission}
-use Rattle.ttx_witness.specs.Repeating.{Lists}
+use Rattle.ttx_witness.specs.runs.Confirming.{Rising, late_after, after_runs, not_begun}
+use Rattle.ttx_witness.specs.declared.runs.confirming.Progress.{Progress}
+use Rattle.ttx_witness.specs.runs.Transmissions.{runs, slot_of}
+use Rattle.ttx_witness.specs.declared.runs.transmissions.Transmission.{Transmission}
+use Rattle.ttx_witness.specs.runs.Repeating.{Lists}
 use Rattle.ttx_witness.specs.Coverage.{Certificate, IsCertificate, limit, IsSureStart, IsCovered}
-use Rattle.ttx_witness.specs.CycleLaws.{FurtherStartsCover, progress_of}
-use Rattle.ttx_witness.specs.Sent.{sent_in}
-use Rattle.ttx_witness.specs.JudgingLaws.{TransmissionsAreListed}
-use Rattle.ttx_witness.specs.Tracks.{IsWithin}
+use Rattle.ttx_witness.specs.laws.CycleLaws.{FurtherStartsCover, progress_of}
+use Rattle.ttx_witness.specs.sent.ItemTransmissions.{sent_in}
+use Rattle.ttx_witness.specs.laws.JudgingLaws.{TransmissionsAreListed}
+use Rattle.ttx_witness.specs.runs.Tracks.{IsWithin}
 use Rattle.ttx_counter.specs.Starving.{fullest, with_sure_starts}
 use Rattle.ttx_counter.specs.Completeness.{StarvesFrom, StartsAreJudged, AreJudged, FullestNamesAll, late_start}
 use Rattle.ttx_counter.specs.Refutations.{IsAfterOwner}

@@ -9,7 +9,7 @@ use Rattle.ttx_page.specs.Memories.{Memory, memory_of_page}
 use Rattle.ttx_page.specs.Receivers.{after, older, begun, erased, erases, with_storing}
 use Rattle.ttx_page.specs.Steady.{OtherSubpageAt}
 use Rattle.ttx_page.specs.Streams.{Stream, repeated, heads_matched, heads_page}
-use Rattle.ttx_witness.specs.Faults.{Never}
+use Rattle.ttx_witness.specs.faults.Faults.{Never}
 use Rattle.ttx_certify.specs.Seen.{HasView}
 use Rattle.ttx_counter.specs.Sources.{plain_from, IsPlainlyRight}
 use Rattle.ttx_counter.proofs.Deciding.{same_page}

@@ -11,11 +11,11 @@ use Rattle.ttx_page.specs.declared.item.Item.{Item}
 use Rattle.ttx_page.specs.declared.item.Item.TheVariants.{Head as TheHead, Row as TheRow, Links as TheLinks}
 use Rattle.ttx_page.specs.Streams.{Stream, repeated, turned, run_length, IsOwned, IsRun, HasSureRun, EndsBelow, IsSent}
 use Rattle.ttx_page.specs.Laws.{EachSlotTurns, StreamsMove, CyclesRepeat, OwnersAreUnique, OwnersDontFall, RunsRise}
-use Rattle.ttx_witness.specs.Confirming.{Rising, late_after}
-use Rattle.ttx_witness.specs.declared.confirming.Progress.{Progress}
-use Rattle.ttx_witness.specs.Repeating.{IsLate, IsFirst, next_start}
+use Rattle.ttx_witness.specs.runs.Confirming.{Rising, late_after}
+use Rattle.ttx_witness.specs.declared.runs.confirming.Progress.{Progress}
+use Rattle.ttx_witness.specs.runs.Repeating.{IsLate, IsFirst, next_start}
 use Rattle.ttx_witness.specs.Coverage.{Certificate, limit, IsSureStart, IsCovered}
-use Rattle.ttx_witness.specs.CycleLaws.{CoverageIsDecided, FirstsAreFound, progress_of}
+use Rattle.ttx_witness.specs.laws.CycleLaws.{CoverageIsDecided, FirstsAreFound, progress_of}
 use Rattle.ttx_counter.specs.Starving.{NamesAll, Starves}
 use Rattle.ttx_counter.specs.Completeness.{CoveredOrStarved}
 use Rattle.ttx_counter.proofs.Between.{cases_ltz, if_ind, next_at_most}

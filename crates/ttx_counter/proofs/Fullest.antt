@@ -6,9 +6,9 @@ use Rattle.std.proofs.lemmas.List.{get_or_append_left}
 use Rattle.std.proofs.Math.Seq.{get_or-append_seam}
 use Rattle.std.proofs.lemmas.List.Elements.{Contains-get_or, Contains-append_left, Contains-append_right, Contains-append_cases}
 use Rattle.ttx_page.specs.Streams.{run_length}
-use Rattle.ttx_witness.specs.Confirming.{Rising}
-use Rattle.ttx_witness.specs.CycleLaws.{SureStartsAreFound}
-use Rattle.ttx_witness.specs.Finding.{starts_of}
+use Rattle.ttx_witness.specs.runs.Confirming.{Rising}
+use Rattle.ttx_witness.specs.laws.CycleLaws.{SureStartsAreFound}
+use Rattle.ttx_witness.specs.finding.Finding.{starts_of}
 use Rattle.ttx_counter.specs.Starving.{sorted_below}
 use Rattle.ttx_counter.specs.Completeness.{FullestNamesAll}
 use Rattle.ttx_counter.proofs.Between.{if_ind}

@@ -9,7 +9,7 @@ use Rattle.ttx_page.specs.Packets.{Packet, Empty, Unreadable, Header, Row, Links
 use Rattle.ttx_page.specs.declared.item.Item.TheVariants.{Row as TheRow}
 use Rattle.ttx_page.specs.Laws.{CyclesRepeat}
 use Rattle.ttx_page.specs.Streams.{Stream, repeated, heads, heads_page, carries, IsTransmission}
-use Rattle.ttx_witness.specs.Comparing.{mine_after}
+use Rattle.ttx_witness.specs.faults.Comparing.{mine_after}
 use Rattle.ttx_counter.specs.Listening.{HasOwner, row_sent, mine_from, item_of}
 use Rattle.ttx_counter.specs.Cells.{is_row}
 use Rattle.ttx_counter.proofs.Streaking.{no_both}

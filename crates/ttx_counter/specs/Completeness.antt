@@ -21,10 +21,10 @@ use Rattle.ttx_page.specs.Streams.{Stream, repeated, turned, run_length, IsOwned
 use Rattle.ttx_page.specs.Steady.{Steady}
 use Rattle.ttx_receiver.specs.Starving.{IsStarved}
 use Rattle.ttx_cycle.specs.Files.{IsCycle}
-use Rattle.ttx_witness.specs.Confirming.{Rising, late_after}
-use Rattle.ttx_witness.specs.CycleLaws.{progress_of}
+use Rattle.ttx_witness.specs.runs.Confirming.{Rising, late_after}
+use Rattle.ttx_witness.specs.laws.CycleLaws.{progress_of}
 use Rattle.ttx_witness.specs.Coverage.{Certificate, IsCertificate, limit, IsCovered}
-use Rattle.ttx_witness.specs.Finding.{IsSentUnchanged, CanBeAccepted, IsLeastDeadline}
+use Rattle.ttx_witness.specs.finding.Finding.{IsSentUnchanged, CanBeAccepted, IsLeastDeadline}
 use Rattle.ttx_certify.specs.Seen.{HasView, Seen}
 use Rattle.ttx_certify.specs.Laws.{ArePages}
 use Rattle.ttx_counter.specs.Counters.{IsCounterRun}

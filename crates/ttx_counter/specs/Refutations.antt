@@ -16,13 +16,13 @@ use Rattle.ttx_page.specs.Pages.{Page, needed}
 use Rattle.ttx_page.specs.declared.item.Item.{Item}
 use Rattle.ttx_page.specs.Streams.{repeated, turned}
 use Rattle.ttx_page.specs.Steady.{HasHeader, Steady}
-use Rattle.ttx_witness.specs.declared.transmissions.Transmission.{Transmission}
-use Rattle.ttx_witness.specs.AllSent.{AreAllSent}
-use Rattle.ttx_witness.specs.Collected.{IsItem}
+use Rattle.ttx_witness.specs.declared.runs.transmissions.Transmission.{Transmission}
+use Rattle.ttx_witness.specs.sent.AllSent.{AreAllSent}
+use Rattle.ttx_witness.specs.sent.Collected.{IsItem}
 use Rattle.ttx_witness.specs.Coverage.{Certificate, limit, IsSureStart, IsCovered}
-use Rattle.ttx_witness.specs.declared.period.Collected.{Collected}
-use Rattle.ttx_witness.specs.declared.reason.Reason.{Reason}
-use Rattle.ttx_witness.specs.declared.reason.Reason.TheVariants.{BadSlot, NoHeader, OtherSubpage, Erased, HeadDiffers, RowDiffers, LinksDiffer, NoWitness, WitnessBad, Late, Unsteady, LateBlank}
+use Rattle.ttx_witness.specs.declared.sent.collected.Collected.{Collected}
+use Rattle.ttx_witness.specs.declared.faults.reason.Reason.{Reason}
+use Rattle.ttx_witness.specs.declared.faults.reason.Reason.TheVariants.{BadSlot, NoHeader, OtherSubpage, Erased, HeadDiffers, RowDiffers, LinksDiffer, NoWitness, WitnessBad, Late, Unsteady, LateBlank}
 use Rattle.ttx_counter.specs.Counters.{CounterRun, IsCounterRun}
 use Rattle.ttx_counter.specs.Sources.{IsPlainlyRight}
 use Rattle.ttx_counter.specs.Starving.{fullest, IsCoveredByOne}

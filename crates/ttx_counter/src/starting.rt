@@ -6,12 +6,12 @@ ghost use Rattle.ttx_cycle.specs.Cycles.{slots_of};
 ghost use Rattle.ttx_page.specs.Streams.{turned};
 ghost use Rattle.ttx_page.specs.Views.{page_of};
 ghost use Rattle.ttx_witness.specs.Certificates.{certificate_of};
-ghost use Rattle.ttx_witness.specs.Confirming.{Rising};
+ghost use Rattle.ttx_witness.specs.runs.Confirming.{Rising};
 ghost use Rattle.ttx_witness.specs.Coverage as coverage;
 ghost use Rattle.ttx_witness.specs.Coverage.{IsSureStart};
-ghost use Rattle.ttx_witness.specs.Sent.{sent_in};
-ghost use Rattle.ttx_witness.specs.Tracks.{IsWithin};
-ghost use Rattle.ttx_witness.specs.declared.transmissions.Transmission as transmissions;
+ghost use Rattle.ttx_witness.specs.sent.ItemTransmissions.{sent_in};
+ghost use Rattle.ttx_witness.specs.runs.Tracks.{IsWithin};
+ghost use Rattle.ttx_witness.specs.declared.runs.transmissions.Transmission as transmissions;
 ghost use Rattle.ttx_counter.specs.Refutations.{IsAfterOwner, TellsStart};
 
 use std::alloc::Global;

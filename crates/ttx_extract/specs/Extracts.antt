@@ -20,10 +20,10 @@ use Rattle.ttx_page.specs.declared.item.Item.TheVariants.{Head as TheHead}
 use Rattle.ttx_page.specs.Streams.{repeated, IsTransmission}
 use Rattle.ttx_page.specs.Steady.{Steady}
 use Rattle.ttx_source.specs.Services.{ServiceFields, Authored, pages_of, ids_of}
-use Rattle.ttx_witness.specs.Sent.{sent_in}
-use Rattle.ttx_witness.specs.Faults.{IsPageFault}
-use Rattle.ttx_witness.specs.declared.reason.Reason.{Reason as WitnessReason}
-use Rattle.ttx_certify.specs.CertifyingFiles.{IsService}
+use Rattle.ttx_witness.specs.sent.ItemTransmissions.{sent_in}
+use Rattle.ttx_witness.specs.faults.Faults.{IsPageFault}
+use Rattle.ttx_witness.specs.declared.faults.reason.Reason.{Reason as WitnessReason}
+use Rattle.ttx_certify.specs.CertifyingFiles.{IsServiceText}
 use Rattle.ttx_extract.specs.declared.extracting.Extracted.{Extracted}
 use Rattle.ttx_extract.specs.declared.faults.ExtractFault.{ExtractFault}
 use Rattle.ttx_extract.specs.declared.faults.ExtractFault.TheVariants.{Conflict, Reason, Info}
@@ -110,5 +110,5 @@ AnswersFault slots (Info slot) = IsMinusZero slots slot
 AnswersFault slots fault = ⊤
 
 abbrev pub Extracts : List (List ℕ) → ℕ → Result Extracted ExtractFault → Type 0
-Extracts slots lines (Ok extracted) = IsService (string_bytes extracted.text) extracted.service × IsExtract slots lines extracted.service
+Extracts slots lines (Ok extracted) = IsServiceText (string_bytes extracted.text) extracted.service × IsExtract slots lines extracted.service
 Extracts slots lines (Err fault) = AnswersFault slots fault

@@ -2,7 +2,7 @@
 use Rattle.std.proofs.Common.{◌≡◌, ◌∙◌, ℕ, pos, ◌≤◌, List, [], Option, Some, None, Result, Ok, Err, refl, sym, ap, subst}
 use Rattle.std.specs.Prelude.{IfSome}
 use Rattle.std.specs.Io.KnownBytes.{Appends}
-use Rattle.ttx_certify.specs.CertifyingFiles.{IsPacketFile, IsService, IsWitness}
+use Rattle.ttx_certify.specs.CertifyingFiles.{IsPacketFile, IsServiceText, IsCertificateText}
 use Rattle.ttx_certify.specs.Verdicts.{IsVerdict}
 use Rattle.ttx_certify.specs.declared.verdict.Verdict.{Verdict}
 use Rattle.ttx_certify.specs.declared.verdict.Verdict.TheVariants.{Yes, No}
@@ -23,7 +23,7 @@ use Rattle.ttx_witness.specs.CertificateReading.{read_text}
 use Rattle.ttx_witness.specs.CertificateTexts.{certificate_text}
 use Rattle.ttx_witness.specs.Coverage.{Accepts}
 use Rattle.ttx_witness.specs.Entries.{CertificateFields, certificate_at}
-use Rattle.ttx_witness.specs.Finding.{IsFoundFor}
+use Rattle.ttx_witness.specs.finding.Finding.{IsFoundFor}
 
 -- where there is a deadline the status is 0
 deadline_told : (slots : List (List ℕ)) (service : ServiceFields) (w : CertificateFields) (answer : Option ℕ) (deadline : ℕ) (file line : List ℕ) (status : ℕ) →
@@ -58,7 +58,7 @@ is_yes slots service w (No reason) a v = absurd (v.1 a)
 
 -- so it is with the inputs that `certify` reads
 accepted_there : WrittenTextsAreRead → (a b : List ℕ) (class : Class) (repeat : ℕ) (file line : List ℕ) → IsFinding a b repeat class file line 0 → (slots : List (List ℕ)) (service : ServiceFields) (w : CertificateFields) →
-    IsPacketFile a slots → IsService b service → IsWitness file w → Accepts slots (pages_of service) (certificate_at w)
+    IsPacketFile a slots → IsServiceText b service → IsCertificateText file w → Accepts slots (pages_of service) (certificate_at w)
 accepted_there law a b class repeat file line f slots service w cycle_is service_is certificate_is =
     let t = f.told in
     let same_cycle : f.slots ≡ slots = same_slots f.slots slots f.cycle_is.is_cycle.each cycle_is.is_cycle.each (sym f.cycle_is.same ∙ cycle_is.same) in

@@ -1,7 +1,7 @@
 -- What is told of a counter-run once the three inputs are read.
 use Rattle.std.proofs.Common.{◌≡◌, ℕ, List, Option, Some, None, Result, Ok, Err, IfOk}
 use Rattle.std.specs.Prelude.{IfSome}
-use Rattle.ttx_certify.specs.CertifyingFiles.{IsService}
+use Rattle.ttx_certify.specs.CertifyingFiles.{IsServiceText}
 use Rattle.ttx_counter.specs.Counters.{CounterRun}
 use Rattle.ttx_cycle.specs.Files.{IsCycle, file_of}
 use Rattle.ttx_source.specs.Services.{ServiceFields, pages_of}
@@ -14,7 +14,7 @@ both_of P Q T (Err e) f p q = tt
 
 module _ (slots : List (List ℕ)) (service : ServiceFields) (run : CounterRun) (is_cycle : IsCycle slots) (text : List ℕ) (status : ℕ)
     (told : IsReplay slots (pages_of service) run text status) where
-  pub replaying_of : (a b c : Option (List ℕ)) → IfSome a (λ x. x ≡ file_of slots) → IfSome b (λ y. IsService y service) → IfSome c (λ z. IsCounterText z run) →
+  pub replaying_of : (a b c : Option (List ℕ)) → IfSome a (λ x. x ≡ file_of slots) → IfSome b (λ y. IsServiceText y service) → IfSome c (λ z. IsCounterText z run) →
       IfSome a (λ x. IfSome b (λ y. IfSome c (λ z. IsReplaying x y z text status)))
   replaying_of (Some a) (Some b) (Some c) p q r = record {
     slots = slots;

@@ -3,7 +3,7 @@ use Rattle.std.proofs.Common.{◌≡◌, ◌≢◌, ◌↔◌, ℕ, Bool, true, 
 use Rattle.std.specs.List.{AllPairs}
 use Rattle.std.specs.Prelude.{IfSome}
 use Rattle.std.proofs.lemmas.Simd.{map-map}
-use Rattle.ttx_certify.specs.CertifyingFiles.{IsPacketFile, IsService, IsWitness}
+use Rattle.ttx_certify.specs.CertifyingFiles.{IsPacketFile, IsServiceText, IsCertificateText}
 use Rattle.ttx_counter.specs.Counters.{CounterRun}
 use Rattle.ttx_header.specs.Ids.{Id}
 use Rattle.ttx_page.specs.Pages.{Page}
@@ -13,9 +13,9 @@ use Rattle.ttx_page.specs.declared.page.Page.{Page as PageValue}
 use Rattle.ttx_source.specs.Services as S
 use Rattle.ttx_source.specs.Services.{ServiceFields, pages_of}
 use Rattle.ttx_tool.specs.RefutingFiles.{TellsAnswer, IsRefutation, IsRefutingFiles}
-use Rattle.ttx_witness.specs.Collected.{ids_of}
+use Rattle.ttx_witness.specs.sent.Collected.{ids_of}
 use Rattle.ttx_witness.specs.Entries.{CertificateFields}
-use Rattle.ttx_witness.specs.Finding.{IsSentUnchanged, CanBeAccepted}
+use Rattle.ttx_witness.specs.finding.Finding.{IsSentUnchanged, CanBeAccepted}
 
 abbrev id_in : Page → Id
 id_in p = p.id
@@ -48,7 +48,7 @@ refutation slots pages service w save same any answer exact file line status tol
 
 pub refuting_of : (slots : List (List ℕ)) (service : ServiceFields) (w : CertificateFields) (a b c : Option (List ℕ)) (save : Bool) (file line : List ℕ) (status : ℕ) →
     IsRefutation slots service w save file line status →
-    IfSome a (λ x. IfSome b (λ y. IfSome c (λ z. IsPacketFile x slots × IsService y service × IsWitness z w))) →
+    IfSome a (λ x. IfSome b (λ y. IfSome c (λ z. IsPacketFile x slots × IsServiceText y service × IsCertificateText z w))) →
     IfSome a (λ x. IfSome b (λ y. IfSome c (λ z. IsRefutingFiles x y z save file line status)))
 refuting_of slots service w (Some a) (Some b) (Some c) save file line status told h = record {
   slots = slots;

@@ -10,7 +10,7 @@
 use Rattle.std.specs.Prelude.{◌≡◌, ◌⊎◌, ℕ, Bool, false, List, [], ◌∷◌, ◌++◌, length, codes, string_bytes, ⊤, Option, Result, Ok, Err}
 use Rattle.std.specs.Fmt.{decimal}
 use Rattle.std.specs.Io.KnownBytes.{Keeps}
-use Rattle.ttx_certify.specs.CertifyingFiles.{IsPacketFile, IsService}
+use Rattle.ttx_certify.specs.CertifyingFiles.{IsPacketFile, IsServiceText}
 use Rattle.ttx_cycle.specs.Counts.{HasRisen}
 use Rattle.ttx_cycle.specs.Reading.{Judged}
 use Rattle.ttx_cycle.specs.declared.faults.CycleFault.TheVariants as cycle
@@ -29,7 +29,7 @@ extracted_line count = codes "extracted " ++ decimal count ++ codes " pages" ++ 
 -- the text is that of a service that says what the slots send, and the line counts its pages
 pub record IsExtracted (slots : List (List ℕ)) (lines : ℕ) (text line : List ℕ) : Type 0 where
   pub service : ServiceFields
-  pub text_is : IsService text service
+  pub text_is : IsServiceText text service
   pub says : IsExtract slots lines service
   pub line_is : line ≡ extracted_line (length service.pages)
 

@@ -10,7 +10,7 @@
 use Rattle.std.specs.Prelude.{◌≡◌, ℕ, List, [], ◌∷◌, ◌++◌, length, codes, string_bytes, ⊤, Option, Some, None, Result, Ok, Err}
 use Rattle.std.specs.Fmt.{decimal}
 use Rattle.std.specs.Io.KnownBytes.{Keeps}
-use Rattle.ttx_certify.specs.CertifyingFiles.{IsPacketFile, IsService}
+use Rattle.ttx_certify.specs.CertifyingFiles.{IsPacketFile, IsServiceText}
 use Rattle.ttx_certify.specs.VerdictLines.{verdict_line}
 use Rattle.ttx_certify.specs.Verdicts.{IsVerdict}
 use Rattle.ttx_certify.specs.declared.verdict.Verdict.{Verdict}
@@ -26,8 +26,8 @@ use Rattle.ttx_tool.specs.declared.faults.ToolFault.{ToolFault}
 use Rattle.ttx_tool.specs.declared.faults.ToolFault.TheVariants.{Cycle, Read, Write, NoMemory}
 use Rattle.ttx_witness.specs.CertificateTexts.{certificate_text}
 use Rattle.ttx_witness.specs.Entries.{CertificateFields, IsCertificateFields, certificate_at}
-use Rattle.ttx_witness.specs.Finding.{IsFoundFor}
-use Rattle.ttx_witness.specs.declared.reason.Reason.{Reason}
+use Rattle.ttx_witness.specs.finding.Finding.{IsFoundFor}
+use Rattle.ttx_witness.specs.declared.faults.reason.Reason.{Reason}
 
 abbrev pub found_line : ℕ → List ℕ
 found_line deadline = codes "found deadline " ++ decimal deadline ++ 10 ∷ []
@@ -66,7 +66,7 @@ pub record IsFinding (a b : List ℕ) (repeat : ℕ) (class : Class) (file line 
   pub slots : List (List ℕ)
   pub service : ServiceFields
   pub cycle_is : IsPacketFile a slots
-  pub service_is : IsService b service
+  pub service_is : IsServiceText b service
   pub told : IsFoundAndTold slots service repeat class file line status
 
 -- why nothing is found: of these bytes there is no cycle, or there is and the text is that of no service

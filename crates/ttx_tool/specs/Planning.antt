@@ -8,7 +8,7 @@
 use Rattle.std.specs.Prelude.{◌≡◌, ◌⊎◌, ℕ, ◌-◌, ◌<◌, ◌≤◌, Bool, List, [], ◌∷◌, ◌++◌, length, take, codes, ⊤, Option, Result, Ok, Err}
 use Rattle.std.specs.Fmt.{decimal}
 use Rattle.std.specs.Io.KnownBytes.{Appends, Keeps}
-use Rattle.ttx_certify.specs.CertifyingFiles.{IsService, most_bytes}
+use Rattle.ttx_certify.specs.CertifyingFiles.{IsServiceText, most_bytes}
 use Rattle.ttx_cycle.specs.Counts.{HasRisen}
 use Rattle.ttx_cycle.specs.Cycles.{slots_of}
 use Rattle.ttx_cycle.specs.Files.{IsCycle, file_of}
@@ -16,7 +16,7 @@ use Rattle.ttx_cycle.specs.declared.cycles.Cycle.{Cycle as CycleValue}
 use Rattle.ttx_page.specs.declared.class.Class.{Class}
 use Rattle.ttx_plan.specs.Acceptance.{IsPlanned}
 use Rattle.ttx_plan.specs.Blocks.{length_bound}
-use Rattle.ttx_plan.specs.Carries.{Carries, sent_of}
+use Rattle.ttx_plan.specs.Carries.{Carries, blocks_sent}
 use Rattle.ttx_plan.specs.declared.faults.PlanFault.{PlanFault}
 use Rattle.ttx_plan.specs.declared.faults.PlanFault.TheVariants as plan
 use Rattle.ttx_source.specs.Faults.{fault_of}
@@ -37,15 +37,15 @@ IsNoText bytes NoMemory = ⊤
 IsNoText bytes _ = ⊥
 
 abbrev pub Defines : List ℕ → Result ServiceFields ToolFault → Type 0
-Defines bytes (Ok service) = IsService bytes service
+Defines bytes (Ok service) = IsServiceText bytes service
 Defines bytes (Err fault) = IsNoText bytes fault
 
 -- The slots carry the service of the text, which isn't too long, to receivers of the class, as a planned cycle; late: also to those that
 -- show a page late.
 pub record IsPlan (bytes : List ℕ) (late : Bool) (class : Class) (slots : List (List ℕ)) : Type 0 where
   pub service : ServiceFields
-  pub text : IsService bytes service
-  pub few : length_bound service.lines (sent_of late class service.pages) ≤ 65536
+  pub text : IsServiceText bytes service
+  pub few : length_bound service.lines (blocks_sent late class service.pages) ≤ 65536
   pub carries : Carries late class service slots
   pub planned : IsPlanned late class service slots
   pub is_cycle : IsCycle slots
@@ -56,12 +56,12 @@ planned_line count = codes "planned " ++ decimal count ++ codes " slots" ++ 10 �
 -- why a service has no plan
 abbrev pub HasNoPlan : Bool → Class → ServiceFields → PlanFault → Type 0
 HasNoPlan late class service plan.NoPages = service.pages ≡ []
-HasNoPlan late class service plan.TooLong = 65536 < length_bound service.lines (sent_of late class service.pages)
+HasNoPlan late class service plan.TooLong = 65536 < length_bound service.lines (blocks_sent late class service.pages)
 HasNoPlan late class service plan.NoMemory = ⊤
 
 -- why a text has no plan: its service has none, or it is that of no service
 abbrev pub IsNoPlan : List ℕ → Bool → Class → ToolFault → Type 0
-IsNoPlan bytes late class (Plan fault) = (service : ServiceFields) × IsService bytes service × HasNoPlan late class service fault
+IsNoPlan bytes late class (Plan fault) = (service : ServiceFields) × IsServiceText bytes service × HasNoPlan late class service fault
 IsNoPlan bytes late class fault = IsNoText bytes fault
 
 abbrev pub PlansText : List ℕ → Bool → Class → Result CycleValue ToolFault → Type 0

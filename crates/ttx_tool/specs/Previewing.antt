@@ -7,7 +7,7 @@
 --   CountsPreview           faults of devices are answered only where they were counted
 use Rattle.std.specs.Prelude.{◌≡◌, ℕ, ◌<◌, List, [], ◌∷◌, length, take, string_bytes, ⊤, if◌then◌else◌, Option, Some, None, Result, Ok, Err}
 use Rattle.std.specs.Io.KnownBytes.{Appends, Keeps}
-use Rattle.ttx_certify.specs.CertifyingFiles.{IsService}
+use Rattle.ttx_certify.specs.CertifyingFiles.{IsServiceText}
 use Rattle.ttx_cycle.specs.Counts.{HasRisen}
 use Rattle.ttx_page.specs.Memories.{memory_of_page}
 use Rattle.ttx_page.specs.Pages.{Page, matches}
@@ -38,7 +38,7 @@ preview_status (Some p) = 0
 -- what is shown of the first page that the selection matches in the service of a text
 pub record IsPreview (bytes : List ℕ) (sel : Selection) (look : Look) (text : List ℕ) (status : ℕ) : Type 0 where
   pub service : ServiceFields
-  pub says : IsService bytes service
+  pub says : IsServiceText bytes service
   pub text_is : text ≡ preview_text look (first_match sel (pages_of service))
   pub status_is : status ≡ preview_status (first_match sel (pages_of service))
 

@@ -10,7 +10,7 @@
 use Rattle.std.specs.Prelude.{◌≡◌, ◌↔◌, ℕ, Bool, true, List, [], ◌∷◌, ◌++◌, length, slice_get, codes, string_bytes, is_some, ⊤, Option, Some, None, Result, Ok, Err, if◌then◌else◌}
 use Rattle.std.specs.Fmt.{decimal}
 use Rattle.std.specs.Io.KnownBytes.{Keeps}
-use Rattle.ttx_certify.specs.CertifyingFiles.{IsPacketFile, IsService, IsWitness, IsRefused}
+use Rattle.ttx_certify.specs.CertifyingFiles.{IsPacketFile, IsServiceText, IsCertificateText, IsRefused}
 use Rattle.ttx_certify.specs.declared.faults.FilesFault.{FilesFault}
 use Rattle.ttx_certify.specs.declared.faults.TextFile.TheVariants as text
 use Rattle.ttx_counter.specs.Counters.{CounterRun}
@@ -30,7 +30,7 @@ use Rattle.ttx_tool.specs.declared.faults.ToolFault.{ToolFault}
 use Rattle.ttx_tool.specs.declared.faults.ToolFault.TheVariants.{Cycle, Read, Write, NoMemory, Class}
 use Rattle.ttx_witness.specs.CertificateTexts.{id_text}
 use Rattle.ttx_witness.specs.Entries.{CertificateFields, certificate_at}
-use Rattle.ttx_witness.specs.Finding.{IsSentUnchanged, CanBeAccepted}
+use Rattle.ttx_witness.specs.finding.Finding.{IsSentUnchanged, CanBeAccepted}
 
 -- the page, the first slot and how many, and how many wrong bits and choices
 abbrev pub counter_line : Id → CounterRun → List ℕ
@@ -66,8 +66,8 @@ pub record IsRefutingFiles (a b c : List ℕ) (save : Bool) (file line : List �
   pub service : ServiceFields
   pub w : CertificateFields
   pub cycle_is : IsPacketFile a slots
-  pub service_is : IsService b service
-  pub certificate_is : IsWitness c w
+  pub service_is : IsServiceText b service
+  pub certificate_is : IsCertificateText c w
   pub told : IsRefutation slots service w save file line status
 
 -- the certificate is for receivers that surely clear
@@ -76,8 +76,8 @@ pub record IsNoClass (a b c : List ℕ) : Type 0 where
   pub service : ServiceFields
   pub w : CertificateFields
   pub cycle_is : IsPacketFile a slots
-  pub service_is : IsService b service
-  pub certificate_is : IsWitness c w
+  pub service_is : IsServiceText b service
+  pub certificate_is : IsCertificateText c w
   pub class : w.class ≡ Clearing
 
 -- the certificate isn't for receivers of any class, or memory is wanting

@@ -8,7 +8,7 @@
 --   CountsCounter, CountsReplayInputs, CountsReplay        faults of devices are answered only where they were counted
 use Rattle.std.specs.Prelude.{◌≡◌, ◌⊎◌, ℕ, ◌<◌, ◌≤◌, List, [], ◌∷◌, ◌++◌, length, take, codes, string_bytes, ⊤, Option, Result, Ok, Err}
 use Rattle.std.specs.Io.KnownBytes.{Appends, Keeps}
-use Rattle.ttx_certify.specs.CertifyingFiles.{IsPacketFile, IsService, most_bytes}
+use Rattle.ttx_certify.specs.CertifyingFiles.{IsPacketFile, IsServiceText, most_bytes}
 use Rattle.ttx_counter.specs.CounterReading.{read_counter_text}
 use Rattle.ttx_counter.specs.Counters.{CounterRun, run_of, IsCounterRun}
 use Rattle.ttx_counter.specs.Replaying.{IsReplayed}
@@ -58,7 +58,7 @@ pub record IsReplaying (a b c : List ℕ) (text : List ℕ) (status : ℕ) : Typ
   pub service : ServiceFields
   pub run : CounterRun
   pub cycle_is : IsPacketFile a slots
-  pub service_is : IsService b service
+  pub service_is : IsServiceText b service
   pub counter_is : IsCounterText c run
   pub told : IsReplay slots (pages_of service) run text status
 
@@ -76,7 +76,7 @@ ReadsCounter bytes (Err _) = ⊥
 
 -- why nothing is replayed: the counter-run isn't read, or an input before it
 abbrev pub IsNoReplay : List ℕ → List ℕ → List ℕ → ToolFault → Type 0
-IsNoReplay a b c (Counter f) = (slots : List (List ℕ)) × (service : ServiceFields) × IsPacketFile a slots × IsService b service × IsNoCounter c f
+IsNoReplay a b c (Counter f) = (slots : List (List ℕ)) × (service : ServiceFields) × IsPacketFile a slots × IsServiceText b service × IsNoCounter c f
 IsNoReplay a b c fault = IsNoFinding a b fault
 
 abbrev pub ReplaysText : List ℕ → List ℕ → List ℕ → Result Told ToolFault → Type 0

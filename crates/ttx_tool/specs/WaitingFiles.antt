@@ -7,7 +7,7 @@
 --   CountsWait              faults of devices are answered only where they were counted
 use Rattle.std.specs.Prelude.{◌≡◌, ℕ, ◌<◌, List, length, take, string_bytes, ⊤, Option, Some, None, Result, Ok, Err}
 use Rattle.std.specs.Io.KnownBytes.{Appends, Keeps}
-use Rattle.ttx_certify.specs.CertifyingFiles.{IsPacketFile, IsService}
+use Rattle.ttx_certify.specs.CertifyingFiles.{IsPacketFile, IsServiceText}
 use Rattle.ttx_cycle.specs.Counts.{HasRisen}
 use Rattle.ttx_cycle.specs.declared.faults.CycleFault.TheVariants as cycle
 use Rattle.ttx_page.specs.declared.class.Class.{Class}
@@ -34,7 +34,7 @@ pub record IsWaiting (a b : List ℕ) (repeat : ℕ) (class : Class) (detail : D
   pub slots : List (List ℕ)
   pub service : ServiceFields
   pub cycle_is : IsPacketFile a slots
-  pub service_is : IsService b service
+  pub service_is : IsServiceText b service
   pub told : IsWaitOf slots service repeat class detail text status
 
 abbrev pub WaitsText : List ℕ → List ℕ → ℕ → Class → Detail → Result Told ToolFault → Type 0

@@ -1,7 +1,7 @@
 use Rattle.std.proofs.Common.{◌≡◌, ◌↔◌, ℕ, true, map, sym, subst, ◌∙◌}
 use Rattle.std.specs.List.{Contains}
 use Rattle.ttx_page.specs.Pages.{needed}
-use Rattle.ttx_witness.specs.AllSent.{AreAllSent}
+use Rattle.ttx_witness.specs.sent.AllSent.{AreAllSent}
 use Rattle.ttx_witness.specs.Coverage.{IsSureStart}
 use Rattle.ttx_cycle.specs.Cycles.{slots_of, slots_of-IsCycle}
 use Rattle.ttx_page.specs.Views.{page_of}

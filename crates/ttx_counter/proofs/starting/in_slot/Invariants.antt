@@ -1,5 +1,5 @@
 use Rattle.std.proofs.Common.{◌≡◌, ◌<◌, ℕ, pos, get_or}
-use Rattle.ttx_witness.specs.declared.transmissions.Transmission.{Transmission}
+use Rattle.ttx_witness.specs.declared.runs.transmissions.Transmission.{Transmission}
 use Rattle.ttx_counter.proofs.starting.in_slot.Given as goal
 
 abbrev pub invariant-loop-i : goal.invariant-loop-i
