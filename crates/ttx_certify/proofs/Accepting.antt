@@ -7,12 +7,12 @@ use Rattle.ttx_page.specs.declared.item.Item.{Item}
 use Rattle.ttx_page.specs.Streams.{repeated, run_length}
 use Rattle.ttx_page.specs.Steady.{Steady}
 use Rattle.ttx_witness.specs.Coverage.{Certificate, IsCertificate, limit, IsCovered, IsLeftOut, Accepts}
-use Rattle.ttx_witness.specs.CycleLaws.{CoverageIsDecided}
-use Rattle.ttx_witness.specs.Faults.{IsFault, IsWitnessFault, SteadyHasNoFault}
-use Rattle.ttx_witness.specs.JudgingLaws.{ItemsAreJudged, IsLateAnswer}
-use Rattle.ttx_witness.specs.Reasons.{BadSlotAt, HasNoWitness, WitnessBadAt, LateAt, LateBlankAt}
-use Rattle.ttx_witness.specs.declared.reason.Reason.{Reason}
-use Rattle.ttx_witness.specs.declared.reason.Reason.TheVariants.{BadSlot, NoHeader, OtherSubpage, Erased, HeadDiffers, RowDiffers, LinksDiffer, NoWitness, WitnessBad, Late, Unsteady, LateBlank}
+use Rattle.ttx_witness.specs.laws.CycleLaws.{CoverageIsDecided}
+use Rattle.ttx_witness.specs.faults.Faults.{IsFault, IsWitnessFault, SteadyHasNoFault}
+use Rattle.ttx_witness.specs.laws.JudgingLaws.{ItemsAreJudged, IsLateAnswer}
+use Rattle.ttx_witness.specs.faults.Reasons.{BadSlotAt, HasNoWitness, WitnessBadAt, LateAt, LateBlankAt}
+use Rattle.ttx_witness.specs.declared.faults.reason.Reason.{Reason}
+use Rattle.ttx_witness.specs.declared.faults.reason.Reason.TheVariants.{BadSlot, NoHeader, OtherSubpage, Erased, HeadDiffers, RowDiffers, LinksDiffer, NoWitness, WitnessBad, Late, Unsteady, LateBlank}
 use Rattle.ttx_certify.specs.Verdicts.{IsClean, IsFirstFault, IsRefusal}
 use Rattle.ttx_certify.proofs.OneItem.{some_run}
 

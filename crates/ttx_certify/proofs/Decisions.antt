@@ -12,8 +12,8 @@ use Rattle.ttx_page.specs.declared.item.Item.{Item}
 use Rattle.ttx_page.specs.declared.item.Item.TheVariants.{Head as TheHead, Row as TheRow, Links as TheLinks}
 pub use Rattle.ttx_page.proofs.Decisions.{Decided, both, same_bool, same_option, same_list}
 use Rattle.ttx_page.specs.Steady.{IsLikeHead, HeadIsRight, RowIsRight, LinksAreRight}
-use Rattle.ttx_witness.specs.Collected.{item_number, IsItem}
-use Rattle.ttx_witness.specs.Facts.{FirstBelow}
+use Rattle.ttx_witness.specs.sent.Collected.{item_number, IsItem}
+use Rattle.ttx_witness.specs.passes.PageFacts.{FirstBelow}
 
 pub refuted : {P : Type 0} → Decided P → Decided (P → ⊥)
 refuted (inl p) = inr (λ n. n p)

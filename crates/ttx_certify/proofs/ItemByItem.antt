@@ -6,12 +6,12 @@ use Rattle.ttx_header.specs.Ids.{Id}
 use Rattle.ttx_page.specs.Pages.{Page, needed}
 use Rattle.ttx_page.specs.declared.item.Item.{Item}
 use Rattle.ttx_page.specs.declared.item.Item.TheVariants.{Head as TheHead, Row as TheRow, Links as TheLinks}
-use Rattle.ttx_witness.specs.Collected.{item_number, IsItem}
+use Rattle.ttx_witness.specs.sent.Collected.{item_number, IsItem}
 use Rattle.ttx_witness.specs.Coverage.{Certificate}
-use Rattle.ttx_witness.specs.Faults.{IsWitnessFault}
-use Rattle.ttx_witness.specs.Reasons.{HasNoWitness, WitnessBadAt, LateAt, LateBlankAt}
-use Rattle.ttx_witness.specs.declared.reason.Reason.{Reason}
-use Rattle.ttx_witness.specs.declared.reason.Reason.TheVariants.{NoWitness, WitnessBad, Late, LateBlank}
+use Rattle.ttx_witness.specs.faults.Faults.{IsWitnessFault}
+use Rattle.ttx_witness.specs.faults.Reasons.{HasNoWitness, WitnessBadAt, LateAt, LateBlankAt}
+use Rattle.ttx_witness.specs.declared.faults.reason.Reason.{Reason}
+use Rattle.ttx_witness.specs.declared.faults.reason.Reason.TheVariants.{NoWitness, WitnessBad, Late, LateBlank}
 use Rattle.ttx_certify.specs.ItemReasons.{reason_number, start_in, IsTrueOf, IsFine, IsFirstReason, IsItemReason, IsFirstBelow, IsReasonBelow, IsReasonAt, told_first}
 use Rattle.ttx_page.proofs.Decisions.{and_left, and_right}
 use Rattle.ttx_certify.proofs.OneItem.{of_four, true_needed}

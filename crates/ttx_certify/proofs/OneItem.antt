@@ -7,14 +7,14 @@ use Rattle.ttx_page.specs.declared.class.Class.TheVariants.{Clearing}
 use Rattle.ttx_page.specs.declared.item.Item.{Item}
 use Rattle.ttx_page.specs.declared.item.Item.TheVariants.{Head as TheHead, Row as TheRow, Links as TheLinks}
 use Rattle.ttx_page.specs.Streams.{run_length}
-use Rattle.ttx_witness.specs.declared.confirming.Progress.{Progress}
-use Rattle.ttx_witness.specs.declared.reason.Reason.{Reason}
-use Rattle.ttx_witness.specs.declared.reason.Reason.TheVariants.{BadSlot, NoHeader, OtherSubpage, Erased, HeadDiffers, RowDiffers, LinksDiffer, NoWitness, WitnessBad, Late, Unsteady, LateBlank}
-use Rattle.ttx_witness.specs.Confirming.{late_after}
+use Rattle.ttx_witness.specs.declared.runs.confirming.Progress.{Progress}
+use Rattle.ttx_witness.specs.declared.faults.reason.Reason.{Reason}
+use Rattle.ttx_witness.specs.declared.faults.reason.Reason.TheVariants.{BadSlot, NoHeader, OtherSubpage, Erased, HeadDiffers, RowDiffers, LinksDiffer, NoWitness, WitnessBad, Late, Unsteady, LateBlank}
+use Rattle.ttx_witness.specs.runs.Confirming.{late_after}
 use Rattle.ttx_witness.specs.Coverage.{Certificate, IsCertificate, limit}
-use Rattle.ttx_witness.specs.CycleLaws.{progress_of}
-use Rattle.ttx_witness.specs.Reasons.{HasNoWitness, WitnessBadAt, LateAt, LateBlankAt}
-use Rattle.ttx_witness.specs.JudgingLaws.{ItemsAreJudged, IsFirstOf, IsLateAnswer, IsHeaderAnswer}
+use Rattle.ttx_witness.specs.laws.CycleLaws.{progress_of}
+use Rattle.ttx_witness.specs.faults.Reasons.{HasNoWitness, WitnessBadAt, LateAt, LateBlankAt}
+use Rattle.ttx_witness.specs.laws.JudgingLaws.{ItemsAreJudged, IsFirstOf, IsLateAnswer, IsHeaderAnswer}
 use Rattle.ttx_certify.specs.ItemReasons.{reason_number, start_in, IsTrueOf, IsFine, IsFirstReason, IsItemReason}
 
 abbrev pub late_reason : Id → Item → Option ℕ → Option Reason

@@ -6,12 +6,12 @@ use Rattle.ttx_page.specs.declared.item.Item.{Item}
 use Rattle.ttx_page.specs.declared.item.Item.TheVariants.{Head as TheHead, Row as TheRow, Links as TheLinks}
 use Rattle.ttx_page.specs.Streams.{repeated}
 use Rattle.ttx_page.specs.Steady.{HasHeader, HasNoHeader, OtherSubpageAt, ErasedAt, HeadDiffersAt, RowDiffersAt, LinksDifferAt}
-use Rattle.ttx_witness.specs.Collected.{item_number}
+use Rattle.ttx_witness.specs.sent.Collected.{item_number}
 use Rattle.ttx_witness.specs.Coverage.{Certificate, IsCertificate}
-use Rattle.ttx_witness.specs.Faults.{IsFault, IsPageFault, IsWitnessFault, Never, NoItem, NoStart}
-use Rattle.ttx_witness.specs.Reasons.{BadSlotAt, HasNoWitness, WitnessBadAt, LateAt, LateBlankAt}
-use Rattle.ttx_witness.specs.declared.reason.Reason.{Reason}
-use Rattle.ttx_witness.specs.declared.reason.Reason.TheVariants.{BadSlot, NoHeader, OtherSubpage, Erased, HeadDiffers, RowDiffers, LinksDiffer, NoWitness, WitnessBad, Late, Unsteady, LateBlank}
+use Rattle.ttx_witness.specs.faults.Faults.{IsFault, IsPageFault, IsWitnessFault, Never, NoItem, NoStart}
+use Rattle.ttx_witness.specs.faults.Reasons.{BadSlotAt, HasNoWitness, WitnessBadAt, LateAt, LateBlankAt}
+use Rattle.ttx_witness.specs.declared.faults.reason.Reason.{Reason}
+use Rattle.ttx_witness.specs.declared.faults.reason.Reason.TheVariants.{BadSlot, NoHeader, OtherSubpage, Erased, HeadDiffers, RowDiffers, LinksDiffer, NoWitness, WitnessBad, Late, Unsteady, LateBlank}
 use Rattle.ttx_certify.specs.Verdicts.{IsClean, IsFirstFault, IsRefusal, IsVerdict}
 use Rattle.ttx_certify.specs.VerdictLaws.{VerdictsAreOne}
 use Rattle.ttx_certify.specs.declared.verdict.Verdict.{Verdict}

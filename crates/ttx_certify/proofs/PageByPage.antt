@@ -10,8 +10,8 @@ use Rattle.ttx_page.specs.Views.{page_of}
 use Rattle.ttx_page.specs.Steady.{Steady}
 use Rattle.ttx_page.specs.Streams.{repeated}
 use Rattle.ttx_witness.specs.Coverage.{Certificate}
-use Rattle.ttx_witness.specs.Faults.{IsFault, IsWitnessFault}
-use Rattle.ttx_witness.specs.declared.reason.Reason.{Reason}
+use Rattle.ttx_witness.specs.faults.Faults.{IsFault, IsWitnessFault}
+use Rattle.ttx_witness.specs.declared.faults.reason.Reason.{Reason}
 use Rattle.ttx_certify.specs.Laws.{ArePages}
 use Rattle.ttx_certify.specs.Verdicts.{IsFirstFault}
 

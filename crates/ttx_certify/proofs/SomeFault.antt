@@ -11,15 +11,15 @@ use Rattle.ttx_page.specs.Streams.{Stream, repeated, turned, heads_page, heads_m
 use Rattle.ttx_page.specs.Steady.{HasHeader, HasNoHeader, OtherSubpageAt, ErasedAt, HeadDiffersAt, RowDiffersAt, LinksDifferAt, RowIsRight, IsLikeHead, LinksAreRight, erases_page}
 use Rattle.ttx_page.specs.Laws.{EachSlotTurns, StreamsMove, IsSameOn}
 use Rattle.ttx_cycle.specs.Files.{IsCycle}
-use Rattle.ttx_witness.specs.Transmissions.{slot_of}
-use Rattle.ttx_witness.specs.declared.transmissions.Transmission.{Transmission}
-use Rattle.ttx_witness.specs.Repeating.{Lists, IsSent, Tells}
-use Rattle.ttx_witness.specs.Facts.{FirstBelow}
-use Rattle.ttx_witness.specs.Faults.{TellsFirst, IsPageFault}
-use Rattle.ttx_witness.specs.JudgingLaws.{TransmissionsAreListed}
-use Rattle.ttx_witness.specs.Sent.{sent_in}
-use Rattle.ttx_witness.specs.declared.reason.Reason.{Reason}
-use Rattle.ttx_witness.specs.declared.reason.Reason.TheVariants.{NoHeader, OtherSubpage, Erased, HeadDiffers, RowDiffers, LinksDiffer}
+use Rattle.ttx_witness.specs.runs.Transmissions.{slot_of}
+use Rattle.ttx_witness.specs.declared.runs.transmissions.Transmission.{Transmission}
+use Rattle.ttx_witness.specs.runs.Repeating.{Lists, IsSentAt, Tells}
+use Rattle.ttx_witness.specs.passes.PageFacts.{FirstBelow}
+use Rattle.ttx_witness.specs.faults.Faults.{TellsFirst, IsPageFault}
+use Rattle.ttx_witness.specs.laws.JudgingLaws.{TransmissionsAreListed}
+use Rattle.ttx_witness.specs.sent.ItemTransmissions.{sent_in}
+use Rattle.ttx_witness.specs.declared.faults.reason.Reason.{Reason}
+use Rattle.ttx_witness.specs.declared.faults.reason.Reason.TheVariants.{NoHeader, OtherSubpage, Erased, HeadDiffers, RowDiffers, LinksDiffer}
 use Rattle.ttx_certify.proofs.Decisions.{Decided, both, refuted, alike, same_bool, like_head, row_right, links_right, alone, least_below, any_below}
 use Rattle.ttx_certify.proofs.ItemByItem.{needed_item}
 use Rattle.ttx_page.proofs.Places.{cases_ltz}
@@ -69,7 +69,7 @@ module _ (laws : FaultLaws) (cycle : List (List ℕ)) (is : IsCycle cycle) where
       let Owned = IsOwned s page item in
       let Sure = IsSure s 0 page.mag item in
       alike (λ t. record { owner = t.owner; owned = t.owned }) (λ t. record { owner = t.owner; owned = t.owned })
-      (listed (IsSent Owned) (Tells Owned Sure) (λ t told. record { owner = t.owner; owned = told.owned }) (pos 0) (pos n) (sent_in cycle page 0 item)
+      (listed (IsSentAt Owned) (Tells Owned Sure) (λ t told. record { owner = t.owner; owned = told.owned }) (pos 0) (pos n) (sent_in cycle page 0 item)
       (laws.list cycle (let some = is.some in omega arith) is.most page 0 item).0 (pos j) (omega (arith, ints)) (omega (arith, ints)))
 
   -- the first slot of a period, where the stream is the same in each

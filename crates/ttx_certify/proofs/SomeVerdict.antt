@@ -9,16 +9,16 @@ use Rattle.ttx_page.specs.declared.item.Item.TheVariants.{Head as TheHead}
 use Rattle.ttx_page.specs.Steady.{HasHeader}
 use Rattle.ttx_page.specs.Streams.{repeated, run_length}
 use Rattle.ttx_cycle.specs.Files.{IsCycle}
-use Rattle.ttx_witness.specs.Confirming.{late_after}
+use Rattle.ttx_witness.specs.runs.Confirming.{late_after}
 use Rattle.ttx_witness.specs.Coverage.{Certificate, IsCertificate, limit}
-use Rattle.ttx_witness.specs.CycleLaws.{progress_of}
-use Rattle.ttx_witness.specs.Facts.{FirstBelow}
-use Rattle.ttx_witness.specs.Faults.{IsFault, IsPageFault, IsWitnessFault}
-use Rattle.ttx_witness.specs.JudgingLaws.{HeadersAreJudged, late_header}
-use Rattle.ttx_witness.specs.Reasons.{BadSlotAt}
-use Rattle.ttx_witness.specs.Sent.{sent_in}
-use Rattle.ttx_witness.specs.declared.reason.Reason.{Reason}
-use Rattle.ttx_witness.specs.declared.reason.Reason.TheVariants.{BadSlot, NoWitness, WitnessBad}
+use Rattle.ttx_witness.specs.laws.CycleLaws.{progress_of}
+use Rattle.ttx_witness.specs.passes.PageFacts.{FirstBelow}
+use Rattle.ttx_witness.specs.faults.Faults.{IsFault, IsPageFault, IsWitnessFault}
+use Rattle.ttx_witness.specs.laws.JudgingLaws.{HeadersAreJudged, late_header}
+use Rattle.ttx_witness.specs.faults.Reasons.{BadSlotAt}
+use Rattle.ttx_witness.specs.sent.ItemTransmissions.{sent_in}
+use Rattle.ttx_witness.specs.declared.faults.reason.Reason.{Reason}
+use Rattle.ttx_witness.specs.declared.faults.reason.Reason.TheVariants.{BadSlot, NoWitness, WitnessBad}
 use Rattle.ttx_certify.specs.ItemReasons.{IsItemReason, IsReasonBelow, told_first}
 use Rattle.ttx_certify.specs.Verdicts.{IsClean, IsFirstFault, IsVerdict}
 use Rattle.ttx_certify.specs.VerdictLaws.{SomeVerdictIsRight}

@@ -3,7 +3,7 @@ use Rattle.std.proofs.Common.{◌≡◌, ℕ, ◌≤◌, List, length, inl, inr,
 use Rattle.ttx_cycle.specs.Files.{IsCycle}
 use Rattle.ttx_page.specs.Pages.{Page}
 use Rattle.ttx_witness.specs.Coverage.{Certificate, IsCertificate}
-use Rattle.ttx_witness.specs.declared.reason.Reason.TheVariants as R
+use Rattle.ttx_witness.specs.declared.faults.reason.Reason.TheVariants as R
 use Rattle.ttx_certify.specs.Laws.{AcceptedIsSeen, ArePages}
 use Rattle.ttx_certify.specs.Verdicts.{IsVerdict, Means}
 use Rattle.ttx_certify.specs.Walking.{IsWalkVerdict}

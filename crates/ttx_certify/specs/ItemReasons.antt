@@ -15,15 +15,15 @@ use Rattle.ttx_page.specs.Views.{page_of}
 use Rattle.ttx_page.specs.declared.class.Class.TheVariants.{Clearing}
 use Rattle.ttx_page.specs.declared.item.Item.{Item}
 use Rattle.ttx_witness.specs.Certificates.{certificate_of}
-use Rattle.ttx_witness.specs.Collected.{item_number, IsItem}
+use Rattle.ttx_witness.specs.sent.Collected.{item_number, IsItem}
 use Rattle.ttx_witness.specs.Coverage.{Certificate, IsCovered, IsLeftOut}
-use Rattle.ttx_witness.specs.JudgingLaws.{IsHeaderAnswer}
-use Rattle.ttx_witness.specs.Passing.{IsEnded, ended_pages, ended_certificate}
-use Rattle.ttx_witness.specs.Reasons.{HasNoWitness, WitnessBadAt, LateAt, LateBlankAt}
-use Rattle.ttx_witness.specs.declared.ending.EndedPass.{EndedPass}
-use Rattle.ttx_witness.specs.declared.reason.Reason.{Reason}
-use Rattle.ttx_witness.specs.declared.reason.Reason.TheVariants.{BadSlot, NoHeader, OtherSubpage, Erased, HeadDiffers, RowDiffers, LinksDiffer}
-use Rattle.ttx_witness.specs.declared.reason.Reason.TheVariants.{NoWitness, WitnessBad, Late, Unsteady, LateBlank}
+use Rattle.ttx_witness.specs.laws.JudgingLaws.{IsHeaderAnswer}
+use Rattle.ttx_witness.specs.passes.Passing.{IsEnded, ended_pages, ended_certificate}
+use Rattle.ttx_witness.specs.faults.Reasons.{HasNoWitness, WitnessBadAt, LateAt, LateBlankAt}
+use Rattle.ttx_witness.specs.declared.passes.ending.EndedPass.{EndedPass}
+use Rattle.ttx_witness.specs.declared.faults.reason.Reason.{Reason}
+use Rattle.ttx_witness.specs.declared.faults.reason.Reason.TheVariants.{BadSlot, NoHeader, OtherSubpage, Erased, HeadDiffers, RowDiffers, LinksDiffer}
+use Rattle.ttx_witness.specs.declared.faults.reason.Reason.TheVariants.{NoWitness, WitnessBad, Late, Unsteady, LateBlank}
 use Rattle.ttx_certify.specs.declared.item_reasons.JudgedPage.{JudgedPage}
 
 abbrev pub reason_number : Reason → ℕ

@@ -9,10 +9,10 @@ use Rattle.std.specs.Prelude.{◌≡◌, ℕ, ◌<◌, true, List, [], length, s
 use Rattle.ttx_packet.specs.Slots.{is_clean}
 use Rattle.ttx_page.specs.Pages.{Page}
 use Rattle.ttx_witness.specs.Coverage.{Certificate, Accepts}
-use Rattle.ttx_witness.specs.Reasons.{BadSlotAt}
-use Rattle.ttx_witness.specs.Faults.{IsFault}
-use Rattle.ttx_witness.specs.declared.reason.Reason.{Reason}
-use Rattle.ttx_witness.specs.declared.reason.Reason.TheVariants.{BadSlot}
+use Rattle.ttx_witness.specs.faults.Reasons.{BadSlotAt}
+use Rattle.ttx_witness.specs.faults.Faults.{IsFault}
+use Rattle.ttx_witness.specs.declared.faults.reason.Reason.{Reason}
+use Rattle.ttx_witness.specs.declared.faults.reason.Reason.TheVariants.{BadSlot}
 use Rattle.ttx_certify.specs.Seen.{Seen}
 use Rattle.ttx_certify.specs.declared.verdict.Verdict.{Verdict}
 use Rattle.ttx_certify.specs.declared.verdict.Verdict.TheVariants.{Yes, No}

@@ -7,8 +7,8 @@
 use Rattle.std.specs.Prelude.{◌≡◌, ℕ, List, []}
 use Rattle.ttx_page.specs.Pages.{Page}
 use Rattle.ttx_witness.specs.Coverage.{Certificate}
-use Rattle.ttx_witness.specs.Passing.{IsFirstPass, IsSecondPass, pages_of, certificate, pages_in, certificate_in}
-use Rattle.ttx_witness.specs.declared.reason.Reason.TheVariants.{Unsteady}
+use Rattle.ttx_witness.specs.passes.Passing.{IsFirstPass, IsSecondPass, pages_of, certificate, pages_in, certificate_in}
+use Rattle.ttx_witness.specs.declared.faults.reason.Reason.TheVariants.{Unsteady}
 use Rattle.ttx_certify.specs.Verdicts.{IsVerdict}
 use Rattle.ttx_certify.specs.declared.verdict.Verdict.{Verdict}
 use Rattle.ttx_certify.specs.declared.verdict.Verdict.TheVariants.{No}

@@ -2,8 +2,8 @@
 
 ghost use Rattle.std.specs.Prelude.{◌≡◌, ◌<◌, ℕ, List, Some, None, MatchOption, length, slice_get};
 ghost use Rattle.ttx_page.specs.Pages as definitions;
-ghost use Rattle.ttx_witness.specs.Faults.{IsFault};
-ghost use Rattle.ttx_witness.specs.Passing.{IsEnded, ended_pages, ended_certificate};
+ghost use Rattle.ttx_witness.specs.faults.Faults.{IsFault};
+ghost use Rattle.ttx_witness.specs.passes.Passing.{IsEnded, ended_pages, ended_certificate};
 ghost use Rattle.ttx_certify.specs.Verdicts.{IsFirstFault, IsVerdict};
 
 use crate::page_reasons::witness_fault;

@@ -5,9 +5,9 @@ ghost use Rattle.ttx_page.specs.declared.class.Class.TheVariants.{Clearing};
 ghost use Rattle.ttx_page.specs.Pages as definitions;
 ghost use Rattle.ttx_page.specs.Steady.{HasHeader};
 ghost use Rattle.ttx_page.specs.Streams.{repeated};
-ghost use Rattle.ttx_witness.specs.Faults.{IsWitnessFault};
-ghost use Rattle.ttx_witness.specs.JudgingLaws.{IsHeaderAnswer};
-ghost use Rattle.ttx_witness.specs.Passing.{IsEnded, ended_pages, ended_certificate};
+ghost use Rattle.ttx_witness.specs.faults.Faults.{IsWitnessFault};
+ghost use Rattle.ttx_witness.specs.laws.JudgingLaws.{IsHeaderAnswer};
+ghost use Rattle.ttx_witness.specs.passes.Passing.{IsEnded, ended_pages, ended_certificate};
 ghost use Rattle.ttx_certify.specs.ItemReasons.{reason_number, told_first, judged_page, judged_certificate, IsReasonAt, IsReasonBelow, IsReadyAt};
 
 use crate::item_reasons::JudgedPage;

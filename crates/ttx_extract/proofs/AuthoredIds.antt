@@ -7,7 +7,7 @@ use Rattle.ttx_page.specs.Pages.{Page}
 use Rattle.ttx_page.specs.declared.page.Page.{Page as PageValue}
 use Rattle.ttx_page.specs.Views.{page_of}
 use Rattle.ttx_source.specs.Services as S
-use Rattle.ttx_witness.specs.Collected.{ids_of}
+use Rattle.ttx_witness.specs.sent.Collected.{ids_of}
 
 abbrev id_in : Page → Id
 id_in p = p.id

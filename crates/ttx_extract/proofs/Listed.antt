@@ -5,8 +5,8 @@ use Rattle.std.proofs.lemmas.Option.{get_or_from_slice_get, slice_get_within}
 use Rattle.ttx_header.specs.Ids.{Id, same_id}
 use Rattle.ttx_header.specs.Fields.{HeaderFields}
 use Rattle.ttx_page.specs.Packets.{Packet}
-use Rattle.ttx_witness.specs.Collected.{Finds}
-use Rattle.ttx_witness.specs.Comparing.{HoldsHeader}
+use Rattle.ttx_witness.specs.sent.Collected.{Finds}
+use Rattle.ttx_witness.specs.faults.Comparing.{HoldsHeader}
 use Rattle.ttx_extract.specs.Extracts.{IsListed}
 
 and_left : (a b : Bool) → (a && b) ≡ true → a ≡ true

@@ -5,8 +5,8 @@ use Rattle.std.specs.Prelude.{unsigned_abs}
 use Rattle.ttx_header.specs.Ids.{Id}
 use Rattle.ttx_page.specs.declared.item.Item.{Item}
 use Rattle.ttx_page.specs.Streams.{repeated, IsOwned, IsSure, IsTransmission}
-use Rattle.ttx_witness.specs.declared.transmissions.Transmission.{Transmission}
-use Rattle.ttx_witness.specs.Repeating.{AreSent}
+use Rattle.ttx_witness.specs.declared.runs.transmissions.Transmission.{Transmission}
+use Rattle.ttx_witness.specs.runs.Repeating.{AreSent}
 
 pub slot_is : (cycle : List (List ℕ)) (i : ℕ) → i < length cycle → repeated cycle (pos i) ≡ get_or cycle i []
 slot_is cycle i lt = ap (λ x. get_or cycle x []) (mod-eq_of_lt lt)

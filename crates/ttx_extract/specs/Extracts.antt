@@ -20,9 +20,9 @@ use Rattle.ttx_page.specs.declared.item.Item.TheVariants.{Head as TheHead}
 use Rattle.ttx_page.specs.Streams.{repeated, IsTransmission}
 use Rattle.ttx_page.specs.Steady.{Steady}
 use Rattle.ttx_source.specs.Services.{ServiceFields, Authored, pages_of, ids_of}
-use Rattle.ttx_witness.specs.Sent.{sent_in}
-use Rattle.ttx_witness.specs.Faults.{IsPageFault}
-use Rattle.ttx_witness.specs.declared.reason.Reason.{Reason as WitnessReason}
+use Rattle.ttx_witness.specs.sent.ItemTransmissions.{sent_in}
+use Rattle.ttx_witness.specs.faults.Faults.{IsPageFault}
+use Rattle.ttx_witness.specs.declared.faults.reason.Reason.{Reason as WitnessReason}
 use Rattle.ttx_certify.specs.CertifyingFiles.{IsServiceText}
 use Rattle.ttx_extract.specs.declared.extracting.Extracted.{Extracted}
 use Rattle.ttx_extract.specs.declared.faults.ExtractFault.{ExtractFault}

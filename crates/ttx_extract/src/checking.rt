@@ -10,10 +10,10 @@ ghost use Rattle.ttx_page.specs.Streams.{repeated};
 ghost use Rattle.ttx_page.specs.Steady.{Steady};
 ghost use Rattle.ttx_page.specs.Views.{page_of};
 ghost use Rattle.ttx_source.specs.Services.{Authored};
-ghost use Rattle.ttx_witness.specs.AllSent.{AreAllSent};
-ghost use Rattle.ttx_witness.specs.Collected.{IsIndex};
-ghost use Rattle.ttx_witness.specs.Faults.{IsPageFault};
-ghost use Rattle.ttx_witness.specs.OtherSubpages.{AreOtherSubpages};
+ghost use Rattle.ttx_witness.specs.sent.AllSent.{AreAllSent};
+ghost use Rattle.ttx_witness.specs.sent.Collected.{IsIndex};
+ghost use Rattle.ttx_witness.specs.faults.Faults.{IsPageFault};
+ghost use Rattle.ttx_witness.specs.faults.OtherSubpages.{AreOtherSubpages};
 ghost use Rattle.ttx_extract.specs.Extracts.{IsListed, AreListed, IsOften};
 
 use crate::page_texts::often_for;

@@ -8,9 +8,9 @@ ghost use Rattle.ttx_page.specs.Packets.{packet_of, Row};
 ghost use Rattle.ttx_page.specs.declared.item.Item.{Item as ItemIs};
 ghost use Rattle.ttx_page.specs.Pages as definitions;
 ghost use Rattle.ttx_page.specs.Streams.{repeated, IsTransmission};
-ghost use Rattle.ttx_witness.specs.AllSent.{AreAllSent};
-ghost use Rattle.ttx_witness.specs.Faults.{IsPageFault};
-ghost use Rattle.ttx_witness.specs.Sent.{sent_in};
+ghost use Rattle.ttx_witness.specs.sent.AllSent.{AreAllSent};
+ghost use Rattle.ttx_witness.specs.faults.Faults.{IsPageFault};
+ghost use Rattle.ttx_witness.specs.sent.ItemTransmissions.{sent_in};
 ghost use Rattle.ttx_extract.specs.Extracts.{Differs, Blames};
 
 use crate::faults::ExtractFault;

@@ -4,8 +4,8 @@ ghost use Rattle.std.specs.Prelude.{◌≡◌, ◌≤◌, ℕ, IsTrue, IfSome, I
 ghost use Rattle.ttx_certify.specs.CertifyingFiles.{most_bytes};
 ghost use Rattle.ttx_cycle.specs.Cycles.{slots_of};
 ghost use Rattle.ttx_source.specs.Services.{ids_of, pages_of};
-ghost use Rattle.ttx_witness.specs.AllSent.{AreAllSent};
-ghost use Rattle.ttx_witness.specs.OtherSubpages.{AreOtherSubpages};
+ghost use Rattle.ttx_witness.specs.sent.AllSent.{AreAllSent};
+ghost use Rattle.ttx_witness.specs.faults.OtherSubpages.{AreOtherSubpages};
 ghost use Rattle.ttx_extract.specs.Extracts.{AnswersFault, AreListed, AreSteady, Blames, Extracts, IsExtract, first_info};
 ghost use Rattle.ttx_extract.specs.Telling.{MinusZero, OkTrue};
 

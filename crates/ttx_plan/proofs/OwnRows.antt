@@ -17,7 +17,7 @@ use Rattle.ttx_plan.specs.Laws.{PlannedRowsAreOwn}
 use Rattle.ttx_plan.proofs.Lists.{all_append, all_if, all_get}
 use Rattle.ttx_plan.proofs.Readable.{LawsBelow, packet_from, row_kind, links_kind_is}
 use Rattle.ttx_plan.proofs.UnderHeaders.{under, authored_at}
-use Rattle.ttx_witness.proofs.Basics.{and_both}
+use Rattle.ttx_witness.proofs.lemmas.Choices.{and_both}
 
 -- a packet that is read as a row is that of the page
 abbrev pub SaysRow : Page → List ℕ → Type 0

@@ -27,7 +27,7 @@ use Rattle.ttx_plan.specs.Packets.{is_row_or_links, bytes_of}
 use Rattle.ttx_plan.specs.Laws.{IsHeadOf}
 use Rattle.ttx_source.specs.Services.{Authored}
 use Rattle.ttx_plan.proofs.Owners.{heads}
-use Rattle.ttx_witness.proofs.Basics.{and_both}
+use Rattle.ttx_witness.proofs.lemmas.Choices.{and_both}
 use Rattle.std.proofs.Math.Bool.{and-false}
 
 -- the laws of lower layers that are cited

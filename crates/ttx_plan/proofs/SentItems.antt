@@ -30,7 +30,7 @@ use Rattle.ttx_plan.proofs.PlannedSlots.{IsLaidOut, laid_out, row_in_rest, links
 use Rattle.ttx_plan.proofs.OwnLinks.{links_are}
 use Rattle.ttx_plan.proofs.UnderHeaders.{head_says, row_is, authored_at}
 use Rattle.ttx_plan.proofs.Readable.{LawsBelow}
-use Rattle.ttx_witness.proofs.Basics.{and_both}
+use Rattle.ttx_witness.proofs.lemmas.Choices.{and_both}
 
 -- the page at an index of the service
 pub page_there : (pages : List Authored) (n : ℕ) (p : Page) → slice_get (map (λ authored. authored.page) pages) n ≡ Some p → (authored : Authored) × (slice_get pages n ≡ Some authored) × (authored.page ≡ p)

@@ -29,7 +29,7 @@ use Rattle.ttx_plan.proofs.SurePlaces.{one_latest, between}
 use Rattle.ttx_plan.proofs.Planned.{planned_headers_are_own}
 use Rattle.ttx_plan.proofs.Readable.{LawsBelow}
 use Rattle.ttx_plan.proofs.SentItems.{page_there, heads_its, planned_items_are_sent}
-use Rattle.ttx_witness.proofs.Basics.{and_both}
+use Rattle.ttx_witness.proofs.lemmas.Choices.{and_both}
 
 -- ---- ids
 

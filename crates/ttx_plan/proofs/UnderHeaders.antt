@@ -33,7 +33,7 @@ use Rattle.ttx_plan.proofs.Owners.{slot_at}
 use Rattle.ttx_plan.proofs.PlacesByKind.{places, serial_at, serial_quiet, parallel_at, parallel_owner}
 use Rattle.ttx_plan.proofs.Readable.{LawsBelow, Reads, packet_from, row_kind}
 use Rattle.ttx_plan.proofs.SentBlocks.{order_all}
-use Rattle.ttx_witness.proofs.Basics.{and_both}
+use Rattle.ttx_witness.proofs.lemmas.Choices.{and_both}
 
 same : (id : Id) → same_id id id ≡ true
 same id = and_both _ _ (and_both _ _ (eq-eqb id.mag id.mag refl) (eq-eqb id.page id.page refl)) (eq-eqb id.sub id.sub refl)

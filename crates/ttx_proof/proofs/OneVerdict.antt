@@ -3,8 +3,8 @@ use Rattle.std.proofs.Common.{◌≡◌, ℕ, ◌<◌, slice_get, Some, refl, ap
 use Rattle.std.proofs.lemmas.Bool.{cases_lt}
 use Rattle.ttx_page.specs.Pages.{Page}
 use Rattle.ttx_page.specs.declared.item.Item.{Item}
-use Rattle.ttx_witness.specs.Collected.{item_number}
-use Rattle.ttx_witness.specs.declared.reason.Reason.{Reason}
+use Rattle.ttx_witness.specs.sent.Collected.{item_number}
+use Rattle.ttx_witness.specs.declared.faults.reason.Reason.{Reason}
 use Rattle.ttx_certify.specs.Verdicts.{IsVerdict}
 use Rattle.ttx_certify.specs.VerdictLaws.{VerdictsAreOne}
 use Rattle.ttx_certify.specs.declared.verdict.Verdict.TheVariants as verdict

@@ -9,7 +9,7 @@ use Rattle.ttx_page.specs.declared.item.Item.TheVariants.{Head as TheHead, Row a
 use Rattle.ttx_page.specs.Streams.{repeated, turned, heads, carries}
 use Rattle.ttx_page.specs.Laws.{EachSlotTurns}
 use Rattle.ttx_proof.specs.Seams.{IsWrongAs, IsWrongSlot, HangsOver}
-use Rattle.ttx_witness.specs.Comparing.{HoldsNoRow}
+use Rattle.ttx_witness.specs.faults.Comparing.{HoldsNoRow}
 use Rattle.ttx_proof.proofs.Windows.{and_right}
 use Rattle.ttx_proof.proofs.Backward.{no_both}
 

@@ -8,7 +8,7 @@ use Rattle.ttx_page.specs.Pages.{Page}
 use Rattle.ttx_page.specs.Views.{page_of}
 use Rattle.ttx_page.specs.declared.page.Page.{Page as PageValue}
 use Rattle.ttx_proof.specs.Splices.{Splice, IsCommon}
-use Rattle.ttx_witness.specs.Collected.{ids_of, is_page, Finds}
+use Rattle.ttx_witness.specs.sent.Collected.{ids_of, is_page, Finds}
 use Rattle.ttx_header.specs.Ids.{Id, same_id}
 use Rattle.ttx_proof.proofs.Windows.{and_both}
 use Rattle.ttx_proof.specs.Splicing.{TellsPlace, TellsPlaceAt, StandsAt, TellsSeamOf, TellsLate, TellsLateOf}

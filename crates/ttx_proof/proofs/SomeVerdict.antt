@@ -12,13 +12,13 @@ use Rattle.ttx_page.specs.declared.item.Item.TheVariants.{Head as TheHead, Row a
 use Rattle.ttx_page.specs.Streams.{repeated, run_length, heads, heads_page, carries}
 use Rattle.ttx_page.specs.Steady.{IsTrueTo}
 use Rattle.ttx_page.specs.Laws.{EachSlotTurns}
-use Rattle.ttx_witness.specs.Collected.{item_number, IsItem}
+use Rattle.ttx_witness.specs.sent.Collected.{item_number, IsItem}
 use Rattle.ttx_witness.specs.Coverage.{Certificate, limit, Accepts}
-use Rattle.ttx_witness.specs.Facts.{FirstBelow}
-use Rattle.ttx_witness.specs.JudgingLaws.{TransmissionsAreListed, FirstPeriodIsListed}
-use Rattle.ttx_witness.specs.Repeating.{FollowInTime}
-use Rattle.ttx_witness.specs.Sent.{sent_in, sent_after}
-use Rattle.ttx_witness.specs.declared.transmissions.Run.{Run}
+use Rattle.ttx_witness.specs.passes.PageFacts.{FirstBelow}
+use Rattle.ttx_witness.specs.laws.JudgingLaws.{TransmissionsAreListed, FirstPeriodIsListed}
+use Rattle.ttx_witness.specs.runs.Repeating.{FollowInTime}
+use Rattle.ttx_witness.specs.sent.ItemTransmissions.{sent_in, sent_after}
+use Rattle.ttx_witness.specs.declared.runs.transmissions.Run.{Run}
 use Rattle.ttx_certify.specs.Verdicts.{IsVerdict}
 use Rattle.ttx_certify.specs.VerdictLaws.{SomeVerdictIsRight}
 use Rattle.ttx_certify.specs.declared.verdict.Verdict.{Verdict}

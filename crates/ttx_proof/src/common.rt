@@ -2,7 +2,7 @@
 
 ghost use Rattle.std.specs.Prelude.{◌≡◌, ◌↔◌, IsTrue, map};
 ghost use Rattle.ttx_page.specs.Views.{page_of};
-ghost use Rattle.ttx_witness.specs.Collected.{ids_of, IsIndex};
+ghost use Rattle.ttx_witness.specs.sent.Collected.{ids_of, IsIndex};
 ghost use Rattle.ttx_proof.specs.Splicing.{TellsPlace, TellsPlaceAt};
 
 use ttx_header::PageId;

@@ -3,7 +3,7 @@
 ghost use Rattle.std.specs.Prelude.{Contains};
 ghost use Rattle.ttx_cycle.specs.Cycles.{slots_of};
 ghost use Rattle.ttx_page.specs.Views.{page_of};
-ghost use Rattle.ttx_witness.specs.Collected.{ids_of, IsIndex};
+ghost use Rattle.ttx_witness.specs.sent.Collected.{ids_of, IsIndex};
 ghost use Rattle.ttx_proof.specs.Seams.{AreLatest};
 ghost use Rattle.ttx_proof.specs.Splicing.{splice_between, TellsSeamOf, TellsSeams};
 

@@ -3,7 +3,7 @@
 ghost use Rattle.std.specs.Prelude.{◌≡◌, ◌<◌, ◌↔◌, IsTrue, true, negsuc, length};
 ghost use Rattle.ttx_page.specs.Pages.{needed};
 ghost use Rattle.ttx_page.specs.Views.{page_of};
-ghost use Rattle.ttx_witness.specs.Comparing.{item_of, sends, IsWrong};
+ghost use Rattle.ttx_witness.specs.faults.Comparing.{compared_item, sends, IsWrong};
 ghost use Rattle.ttx_cycle.specs.Cycles.{slots_of};
 ghost use Rattle.ttx_packet.specs.Slots.{IsSlot};
 ghost use Rattle.ttx_page.specs.Packets.{packet_of};
@@ -78,8 +78,8 @@ fn is_left(old: &Cycle, latest: &[Option<usize>; 8], page: PageId) -> bool
 // Whether the slot carries what is compared, a viewer sees it, and it isn't the page's.
 fn is_wrong_slot(page: &Page, check: &Check, slot: &[u8; 42]) -> bool
     requires slot { IsSlot slot.now }
-    ensures { IsTrue result ↔ ((sends (page_of page.now).id (item_of check.now) (packet_of slot.now) true ≡ true)
-        × (needed (page_of page.now) (item_of check.now) ≡ true) × IsWrong (page_of page.now) check.now slot.now) }
+    ensures { IsTrue result ↔ ((sends (page_of page.now).id (compared_item check.now) (packet_of slot.now) true ≡ true)
+        × (needed (page_of page.now) (compared_item check.now) ≡ true) × IsWrong (page_of page.now) check.now slot.now) }
 {
     sends(page.id(), check.item(), slot, true)
         && needed(page, check.item())

@@ -7,7 +7,7 @@ use Rattle.ttx_source.specs.Services.{ServiceFields, pages_of}
 use Rattle.ttx_tool.specs.FindingFiles.{IsVerdictLine, TellsNo, TellsVerdict}
 use Rattle.ttx_witness.specs.Coverage.{IsCertificate}
 use Rattle.ttx_witness.specs.Entries.{CertificateFields, certificate_at}
-use Rattle.ttx_witness.specs.Finding.{IsFoundFor}
+use Rattle.ttx_witness.specs.finding.Finding.{IsFoundFor}
 
 module _ (cycle : List (List ℕ)) (service : ServiceFields) (repeat : ℕ) (class : Class) (w : CertificateFields) (is : IsCertificate (certificate_at w))
     (found : IsFoundFor cycle (pages_of service) repeat service.lines class (certificate_at w) None) (file line : List ℕ) (status : ℕ) where

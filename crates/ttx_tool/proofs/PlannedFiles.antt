@@ -23,7 +23,7 @@ use Rattle.ttx_witness.specs.CertificateReading.{read_text}
 use Rattle.ttx_witness.specs.CertificateTexts.{certificate_text}
 use Rattle.ttx_witness.specs.Coverage.{Accepts}
 use Rattle.ttx_witness.specs.Entries.{CertificateFields, certificate_at}
-use Rattle.ttx_witness.specs.Finding.{IsFoundFor}
+use Rattle.ttx_witness.specs.finding.Finding.{IsFoundFor}
 
 -- where there is a deadline the status is 0
 deadline_told : (slots : List (List ℕ)) (service : ServiceFields) (w : CertificateFields) (answer : Option ℕ) (deadline : ℕ) (file line : List ℕ) (status : ℕ) →

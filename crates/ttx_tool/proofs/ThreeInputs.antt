@@ -13,9 +13,9 @@ use Rattle.ttx_page.specs.declared.page.Page.{Page as PageValue}
 use Rattle.ttx_source.specs.Services as S
 use Rattle.ttx_source.specs.Services.{ServiceFields, pages_of}
 use Rattle.ttx_tool.specs.RefutingFiles.{TellsAnswer, IsRefutation, IsRefuting}
-use Rattle.ttx_witness.specs.Collected.{ids_of}
+use Rattle.ttx_witness.specs.sent.Collected.{ids_of}
 use Rattle.ttx_witness.specs.Entries.{CertificateFields}
-use Rattle.ttx_witness.specs.Finding.{IsSentUnchanged, CanBeAccepted}
+use Rattle.ttx_witness.specs.finding.Finding.{IsSentUnchanged, CanBeAccepted}
 
 abbrev id_in : Page → Id
 id_in p = p.id

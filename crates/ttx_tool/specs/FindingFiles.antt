@@ -26,8 +26,8 @@ use Rattle.ttx_tool.specs.declared.faults.ToolFault.{ToolFault}
 use Rattle.ttx_tool.specs.declared.faults.ToolFault.TheVariants.{Cycle, Read, Write, NoMemory}
 use Rattle.ttx_witness.specs.CertificateTexts.{certificate_text}
 use Rattle.ttx_witness.specs.Entries.{CertificateFields, IsCertificateFields, certificate_at}
-use Rattle.ttx_witness.specs.Finding.{IsFoundFor}
-use Rattle.ttx_witness.specs.declared.reason.Reason.{Reason}
+use Rattle.ttx_witness.specs.finding.Finding.{IsFoundFor}
+use Rattle.ttx_witness.specs.declared.faults.reason.Reason.{Reason}
 
 abbrev pub found_line : ℕ → List ℕ
 found_line deadline = codes "found deadline " ++ decimal deadline ++ 10 ∷ []

@@ -30,7 +30,7 @@ use Rattle.ttx_tool.specs.declared.faults.ToolFault.{ToolFault}
 use Rattle.ttx_tool.specs.declared.faults.ToolFault.TheVariants.{Cycle, Read, Write, NoMemory, Class}
 use Rattle.ttx_witness.specs.CertificateTexts.{id_text}
 use Rattle.ttx_witness.specs.Entries.{CertificateFields, certificate_at}
-use Rattle.ttx_witness.specs.Finding.{IsSentUnchanged, CanBeAccepted}
+use Rattle.ttx_witness.specs.finding.Finding.{IsSentUnchanged, CanBeAccepted}
 
 -- the page, the first slot and how many, and how many wrong bits and choices
 abbrev pub counter_line : Id → CounterRun → List ℕ

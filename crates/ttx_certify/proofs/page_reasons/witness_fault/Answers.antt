@@ -2,8 +2,8 @@ use Rattle.std.proofs.Common.{◌≡◌, ◌≤◌, length, get_or, slice_get, S
 use Rattle.ttx_page.specs.Steady.{HasHeader}
 use Rattle.ttx_page.specs.Streams.{repeated}
 use Rattle.ttx_page.specs.Views.{page_of}
-use Rattle.ttx_witness.specs.Faults.{IsWitnessFault}
-use Rattle.ttx_witness.specs.Passing.{ended_pages, ended_certificate}
+use Rattle.ttx_witness.specs.faults.Faults.{IsWitnessFault}
+use Rattle.ttx_witness.specs.passes.Passing.{ended_pages, ended_certificate}
 use Rattle.ttx_certify.proofs.ItemByItem as items
 use Rattle.ttx_certify.proofs.PageByPage.{page_at, same_page}
 use Rattle.ttx_certify.proofs.page_reasons.witness_fault.Goals as goal

@@ -2,7 +2,7 @@ use Rattle.std.proofs.Common.{◌≡◌, List, length}
 use Rattle.ttx_cycle.specs.Cycles.{slots_of}
 use Rattle.ttx_header.specs.Ids.{Id}
 use Rattle.ttx_page.specs.Packets.{packet_of}
-use Rattle.ttx_witness.specs.Collected.{IsIndex}
+use Rattle.ttx_witness.specs.sent.Collected.{IsIndex}
 use Rattle.ttx_extract.specs.Extracts.{IsListed}
 use Rattle.ttx_extract.proofs.Lists.{Before}
 use Rattle.ttx_extract.proofs.checking.are_listed.Given as goal

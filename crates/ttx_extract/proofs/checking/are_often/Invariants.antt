@@ -1,5 +1,5 @@
 use Rattle.std.proofs.Common.{ℕ, List, map}
-use Rattle.ttx_witness.specs.AllSent.{AreAllSent}
+use Rattle.ttx_witness.specs.sent.AllSent.{AreAllSent}
 use Rattle.ttx_extract.specs.Extracts.{IsOften}
 use Rattle.ttx_extract.proofs.Lists.{Before}
 use Rattle.ttx_extract.proofs.checking.are_often.Given as goal

@@ -4,7 +4,7 @@ use Rattle.ttx_cycle.specs.Cycles.{slots_of}
 use Rattle.ttx_page.specs.Streams.{repeated}
 use Rattle.ttx_page.specs.Steady.{Steady}
 use Rattle.ttx_page.specs.Views.{page_of}
-use Rattle.ttx_witness.specs.Faults.{IsPageFault}
+use Rattle.ttx_witness.specs.faults.Faults.{IsPageFault}
 use Rattle.ttx_extract.proofs.Lists.{one_more, all}
 use Rattle.ttx_extract.proofs.Pages.{page_at, same_page}
 use Rattle.ttx_extract.proofs.checking.first_reason.Goals as goal

@@ -3,8 +3,8 @@ use Rattle.ttx_cycle.specs.Cycles.{slots_of}
 use Rattle.ttx_page.specs.Streams.{repeated}
 use Rattle.ttx_page.specs.Steady.{Steady}
 use Rattle.ttx_page.specs.Views.{page_of}
-use Rattle.ttx_witness.specs.AllSent.{AreAllSent}
-use Rattle.ttx_witness.specs.OtherSubpages.{AreOtherSubpages}
+use Rattle.ttx_witness.specs.sent.AllSent.{AreAllSent}
+use Rattle.ttx_witness.specs.faults.OtherSubpages.{AreOtherSubpages}
 use Rattle.ttx_extract.proofs.Lists.{Before}
 use Rattle.ttx_extract.proofs.checking.first_reason.Given as goal
 

@@ -2,7 +2,7 @@ use Rattle.std.proofs.Common.{◌<◌, length, subst, arith}
 use Rattle.std.specs.List.{Contains}
 use Rattle.std.proofs.lemmas.Bool.{ltb-true}
 use Rattle.ttx_page.specs.Packets.{packet_of}
-use Rattle.ttx_witness.specs.Collected.{Finds}
+use Rattle.ttx_witness.specs.sent.Collected.{Finds}
 use Rattle.ttx_extract.proofs.Listed.{contains, listed}
 use Rattle.ttx_extract.proofs.checking.is_listed.Goals as goal
 

@@ -2,7 +2,7 @@ use Rattle.std.proofs.Common.{◌<◌, pos, [], length, get_or, ap, sym, ◌∙�
 use Rattle.ttx_cycle.specs.Cycles.{slots_of, slots_of-IsCycle}
 use Rattle.ttx_page.specs.Packets.{packet_of}
 use Rattle.ttx_page.specs.Streams.{repeated, IsOwned, IsSure, IsTransmission}
-use Rattle.ttx_witness.specs.Repeating.{AreSent}
+use Rattle.ttx_witness.specs.runs.Repeating.{AreSent}
 use Rattle.ttx_extract.specs.Extracts.{Differs}
 use Rattle.ttx_extract.proofs.Slots.{slot_is, some_of, first_sent}
 use Rattle.ttx_extract.proofs.conflicts.first_unlike.Goals as goal

@@ -4,8 +4,8 @@ use Rattle.ttx_page.specs.Pages.{Page}
 use Rattle.ttx_page.specs.Steady.{Steady}
 use Rattle.ttx_page.specs.Streams.{repeated}
 use Rattle.ttx_page.specs.Views.{page_of}
-use Rattle.ttx_witness.specs.AllSent.{AreAllSent}
-use Rattle.ttx_witness.specs.OtherSubpages.{AreOtherSubpages}
+use Rattle.ttx_witness.specs.sent.AllSent.{AreAllSent}
+use Rattle.ttx_witness.specs.faults.OtherSubpages.{AreOtherSubpages}
 use Rattle.ttx_extract.proofs.extracting.blame.Goals as goal
 
 pub returns-in-Some : goal.returns-in-Some

@@ -1,6 +1,6 @@
 use Rattle.std.proofs.Common.{◌≡◌, ◌<◌, pos, ◌+ℤ◌, length, slice_index_or, Some, sym, ap, ◌∙◌, subst, arith}
-use Rattle.ttx_witness.specs.Confirming.{late_after}
-use Rattle.ttx_witness.specs.declared.reason.Reason.TheVariants.{WitnessBad}
+use Rattle.ttx_witness.specs.runs.Confirming.{late_after}
+use Rattle.ttx_witness.specs.declared.faults.reason.Reason.TheVariants.{WitnessBad}
 use Rattle.ttx_certify.specs.ItemReasons.{judged_page, judged_certificate, IsItemReason}
 use Rattle.ttx_certify.proofs.OneItem.{late_reason, judged_so}
 use Rattle.ttx_certify.proofs.item_reasons.JudgedPage.named.Goals as goal

@@ -1,5 +1,5 @@
 use Rattle.std.proofs.Common.{Some, sym, subst}
-use Rattle.ttx_witness.specs.declared.reason.Reason.TheVariants.{NoWitness}
+use Rattle.ttx_witness.specs.declared.faults.reason.Reason.TheVariants.{NoWitness}
 use Rattle.ttx_certify.specs.ItemReasons.{judged_page, judged_certificate, IsItemReason}
 use Rattle.ttx_certify.proofs.OneItem.{blank_reason, unnamed_first, blank_first}
 use Rattle.ttx_certify.proofs.item_reasons.JudgedPage.unnamed.Goals as goal

@@ -1,5 +1,5 @@
 use Rattle.std.proofs.Common.{◌≡◌, IfSome, subst}
-use Rattle.ttx_witness.specs.Passing.{EndsAs, ended_pages, ended_certificate}
+use Rattle.ttx_witness.specs.passes.Passing.{EndsAs, ended_pages, ended_certificate}
 use Rattle.ttx_certify.specs.Verdicts.{IsVerdict, Means}
 use Rattle.ttx_certify.specs.Walking.{second_pages, second_certificate}
 use Rattle.ttx_certify.proofs.PageByPage.{are_pages}

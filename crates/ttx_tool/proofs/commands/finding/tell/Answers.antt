@@ -3,7 +3,7 @@ use Rattle.std.proofs.lemmas.Result.{IfOk-weaker}
 use Rattle.ttx_cycle.specs.Cycles.{slots_of}
 use Rattle.ttx_source.specs.Services.{pages_of}
 use Rattle.ttx_witness.specs.Certificates.{fields_of, certificate_of}
-use Rattle.ttx_witness.specs.Finding.{IsFoundFor}
+use Rattle.ttx_witness.specs.finding.Finding.{IsFoundFor}
 use Rattle.ttx_tool.specs.FindingFiles.{Tells}
 use Rattle.ttx_tool.proofs.FoundNothing.{says_no}
 use Rattle.ttx_tool.proofs.commands.finding.tell.Goals as goal

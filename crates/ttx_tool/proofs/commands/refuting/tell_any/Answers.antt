@@ -11,7 +11,7 @@ use Rattle.ttx_page.specs.declared.class.Class.TheVariants.{Any}
 use Rattle.ttx_tool.specs.RefutingFiles.{counter_line, saved, IsRefutation}
 use Rattle.ttx_tool.proofs.ThreeInputs.{distinct_ids, all_three, refutation}
 use Rattle.ttx_witness.specs.Certificates.{fields_of, certificate_of}
-use Rattle.ttx_witness.specs.Finding.{IsSentUnchanged, CanBeAccepted}
+use Rattle.ttx_witness.specs.finding.Finding.{IsSentUnchanged, CanBeAccepted}
 use Rattle.ttx_tool.proofs.commands.refuting.tell_any.Goals as goal
 
 pub refute-requires-clause-distinct : goal.refute-requires-clause-distinct
