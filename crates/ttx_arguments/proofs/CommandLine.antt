@@ -1,5 +1,6 @@
 -- The program's command line is one whose matches and faults are known exactly, and words without a fault name a command.
-use Rattle.std.proofs.Common.{◌≡◌, ◌≢◌, ◌∙◌, ap, Result, Ok, Err, List, [], ◌∷◌, length, codes, inl, inr, true, false, refl, sym, subst, Bool, ◌&&◌, not, is_some, Some, option_map, arith}
+use Rattle.std.proofs.Common.{◌≡◌, ◌≢◌, ◌∙◌, ap, Result, Ok, Err, List, [], ◌∷◌, length, codes, inl, inr, true, false, refl, sym, subst, Bool, ◌&&◌}
+use Rattle.std.proofs.Common.{not, is_some, Some, option_map, arith}
 use Rattle.std.specs.List.{list_any}
 use Rattle.clap.specs.Words.{App, Shape, Text, built, is_simple, is_simple_and_free, kind_of, subcommand_of, fault_of}
 use Rattle.clap.specs.Walk.{Names, Held, walk, walk_from, settled, finished, nothing_held}
@@ -11,7 +12,8 @@ use Rattle.clap.specs.Kinds.{Kinds, HasKind, IsAmong, or_else, check_kinds}
 use Rattle.clap.specs.declared.error.Error.{Error}
 use Rattle.clap.specs.declared.error.kind.ErrorKind.TheVariants.{OutOfMemory}
 use Rattle.ttx_arguments.specs.Grammar.{NameList, ttx_app}
-use Rattle.ttx_arguments.specs.Orders.{OrderView, Unfit, inspect_order, order_view, order_at, Asks, Refuses, IsOrderOf, IsRefusalOf, IsFaultOf, AnswersBy}
+use Rattle.ttx_arguments.specs.Orders.{OrderView, Unfit, inspect_order, order_view, order_at, Asks, Refuses, IsOrderOf, IsRefusalOf, IsFaultOf}
+use Rattle.ttx_arguments.specs.Orders.{AnswersBy}
 use Rattle.ttx_arguments.specs.declared.orders.Order.{Order}
 use Rattle.ttx_arguments.specs.declared.orders.WordsFault.{WordsFault}
 use Rattle.ttx_arguments.specs.declared.orders.WordsFault.TheVariants.{Refused, Page, Time, Twice, NoMemory}

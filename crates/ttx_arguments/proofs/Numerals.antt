@@ -1,5 +1,6 @@
 -- What `parse` reads of a text is the number that it is.
-use Rattle.std.proofs.Common.{◌≡◌, ◌&&◌, ℕ, Bool, true, false, refl, sym, ap, List, [], ◌∷◌, length, Some, None, Result, Ok, Err, nat_lt, lt-ltb, ltb-true, true≢false, cond}
+use Rattle.std.proofs.Common.{◌≡◌, ◌&&◌, ℕ, Bool, true, false, refl, sym, ap, List, [], ◌∷◌, length, Some, None, Result, Ok, Err, nat_lt, lt-ltb}
+use Rattle.std.proofs.Common.{ltb-true, true≢false, cond}
 use Rattle.std.specs.List.{list_all}
 use Rattle.std.specs.Result.{result_ok}
 use Rattle.std.specs.Char.{digit_value}

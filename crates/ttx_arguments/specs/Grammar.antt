@@ -74,7 +74,8 @@ find_app classes =
 -- certify CYCLE SERVICE CERT [--late] [--twice]
 abbrev pub certify_app : App
 certify_app =
-    with_rule (with_rule (with_rule (with_rule (with_rule (new_app (codes "certify")) (operand_rule (codes "cycle"))) (operand_rule (codes "service")))
+    with_rule (with_rule (with_rule (with_rule (with_rule (new_app (codes "certify")) (operand_rule (codes "cycle"))) (operand_rule
+    (codes "service")))
     (operand_rule (codes "certificate"))) (flag_rule (codes "late"))) (flag_rule (codes "twice"))
 
 -- refute CYCLE SERVICE CERT [--save OUT]
@@ -86,13 +87,15 @@ refute_app =
 -- replay CYCLE SERVICE COUNTER
 abbrev pub replay_app : App
 replay_app =
-    with_rule (with_rule (with_rule (new_app (codes "replay")) (operand_rule (codes "cycle"))) (operand_rule (codes "service"))) (operand_rule (codes "counter"))
+    with_rule (with_rule (with_rule (new_app (codes "replay")) (operand_rule (codes "cycle"))) (operand_rule (codes "service"))) (operand_rule
+    (codes "counter"))
 
 -- CYCLE PAGE [--lines L] [--start S] [--slots N] [--kind eager|careful|cleared]
 abbrev pub with_tuning : NameList → App → App
 with_tuning kinds app =
     with_rule (with_rule (with_rule (with_rule (with_rule (with_rule app (operand_rule (codes "cycle"))) (operand_rule (codes "page")))
-    (number_rule (codes "lines") 1 32)) (number_rule (codes "start") 0 65535)) (number_rule (codes "slots") 0 1000000)) (name_rule (codes "kind") kinds)
+    (number_rule (codes "lines") 1 32)) (number_rule (codes "start") 0 65535)) (number_rule (codes "slots") 0 1000000)) (name_rule
+    (codes "kind") kinds)
 
 -- receive, with these
 abbrev pub receive_app : NameList → App
@@ -114,8 +117,10 @@ preview_app forms =
 -- splice OLD NEW OLDSERVICE NEWSERVICE OLDCERT NEWCERT
 abbrev pub splice_app : App
 splice_app =
-    with_rule (with_rule (with_rule (with_rule (with_rule (with_rule (new_app (codes "splice")) (operand_rule (codes "old"))) (operand_rule (codes "new")))
-    (operand_rule (codes "old_service"))) (operand_rule (codes "new_service"))) (operand_rule (codes "old_certificate"))) (operand_rule (codes "new_certificate"))
+    with_rule (with_rule (with_rule (with_rule (with_rule (with_rule (new_app (codes "splice")) (operand_rule (codes "old"))) (operand_rule
+    (codes "new")))
+    (operand_rule (codes "old_service"))) (operand_rule (codes "new_service"))) (operand_rule (codes "old_certificate"))) (operand_rule
+    (codes "new_certificate"))
 
 -- wait CYCLE SERVICE [--repeat K] [--class any|clearing] [--items]
 abbrev pub wait_app : NameList → App
@@ -126,7 +131,8 @@ wait_app classes =
 -- send CYCLE --at MJD/HHMMSS --fields N [--lines L] [--phase F] [--offset HALVES]
 abbrev pub send_app : App
 send_app =
-    with_rule (with_rule (with_rule (with_rule (with_rule (with_rule (new_app (codes "send")) (operand_rule (codes "cycle"))) (needed_rule (codes "at")))
+    with_rule (with_rule (with_rule (with_rule (with_rule (with_rule (new_app (codes "send")) (operand_rule (codes "cycle"))) (needed_rule
+    (codes "at")))
     (needed_number_rule (codes "fields") 0 4294967295)) (number_rule (codes "lines") 1 32)) (number_rule (codes "phase") 0 4294967295))
     (number_rule (codes "offset") 0 47)
 
@@ -161,9 +167,12 @@ bare_app = record { top = bare (new_app (codes "ttx")).top; subs = [] }
 
 unfoldable pub ttx_app : NameList → NameList → NameList → App
 ttx_app kinds classes forms =
-    with_subcommand (with_subcommand (with_subcommand (with_subcommand (with_subcommand (with_subcommand (with_subcommand (with_subcommand (with_subcommand
-    (with_subcommand (with_subcommand (with_subcommand (with_subcommand (with_subcommand (with_subcommand (with_subcommand (with_subcommand bare_app inspect_app.top)
-    (plan_app classes).top) (find_app classes).top) certify_app.top) refute_app.top) replay_app.top) (receive_app kinds).top) (show_app kinds forms).top)
+    with_subcommand (with_subcommand (with_subcommand (with_subcommand (with_subcommand (with_subcommand (with_subcommand (with_subcommand
+    (with_subcommand
+    (with_subcommand (with_subcommand (with_subcommand (with_subcommand (with_subcommand (with_subcommand (with_subcommand
+    (with_subcommand bare_app inspect_app.top)
+    (plan_app classes).top) (find_app classes).top) certify_app.top) refute_app.top) replay_app.top) (receive_app kinds).top)
+    (show_app kinds forms).top)
     (preview_app forms).top) splice_app.top) (wait_app classes).top) send_app.top) pages_app.top) book_app.top) extract_app.top) check_app.top)
     version_app.top
 

@@ -26,7 +26,8 @@ date_of text = joined_digits 10000 (digit_at text 0) (joined_digits 100 (decimal
 
 -- hours below 24, minutes and seconds below 60
 abbrev pub second_of : List ℕ → Option ℕ
-second_of text = joined_digits 3600 (below 24 (decimal_pair text 6)) (joined_digits 60 (below 60 (decimal_pair text 8)) (below 60 (decimal_pair text 10)))
+second_of text = joined_digits 3600 (below 24 (decimal_pair text 6)) (joined_digits 60 (below 60 (decimal_pair text 8)) (below 60
+    (decimal_pair text 10)))
 
 abbrev pub moment_when : Option ℕ → Option ℕ → Option (ℕ × ℕ)
 moment_when None second = None

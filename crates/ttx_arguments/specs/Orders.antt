@@ -10,7 +10,8 @@
 --   Asks                     what the program is asked for by words
 --   Refuses, Answers         what is answered for words
 --   IsFaultOf                an error of `clap` by its own name
-use Rattle.std.specs.Prelude.{◌≡◌, ◌≢◌, ℕ, ◌*◌, Bool, ◌&&◌, List, [], ◌∷◌, ⊤, Option, Some, None, option_map, option_and_then, Result, Ok, Err, codes, unwrap_or, length, count_by, nat_lt, nat_le, if◌then◌else◌}
+use Rattle.std.specs.Prelude.{◌≡◌, ◌≢◌, ℕ, ◌*◌, Bool, ◌&&◌, List, [], ◌∷◌, ⊤, Option, Some, None, option_map, option_and_then, Result, Ok, Err, codes}
+use Rattle.std.specs.Prelude.{unwrap_or, length, count_by, nat_lt, nat_le, if◌then◌else◌}
 use Rattle.std.specs.List.{list_all}
 use Rattle.std.specs.Str.{bytes_eq}
 use Rattle.std.specs.Str.Parse.{digits_value, without_leading_plus}
@@ -30,7 +31,8 @@ use Rattle.ttx_arguments.specs.declared.command_names.CommandName.{CommandName}
 use Rattle.ttx_arguments.specs.declared.command_names.CommandName.TheVariants as command
 use Rattle.ttx_arguments.specs.declared.orders.Look.{Look}
 use Rattle.ttx_arguments.specs.declared.orders.Order.{Order}
-use Rattle.ttx_arguments.specs.declared.orders.Order.TheVariants.{Inspect, Plan, Find, Certify, Refute, Replay, Receive, Show, Preview, Splice, Wait, Send, Pages, Book, Extract, Check, Version}
+use Rattle.ttx_arguments.specs.declared.orders.Order.TheVariants.{Inspect, Plan, Find, Certify, Refute, Replay, Receive, Show, Preview, Splice, Wait}
+use Rattle.ttx_arguments.specs.declared.orders.Order.TheVariants.{Send, Pages, Book, Extract, Check, Version}
 use Rattle.ttx_arguments.specs.declared.orders.ReceiverKind.{ReceiverKind}
 use Rattle.ttx_arguments.specs.declared.orders.ReceiverKind.TheVariants.{Eager, Careful, Cleared}
 use Rattle.ttx_arguments.specs.declared.orders.Sending.{Sending}

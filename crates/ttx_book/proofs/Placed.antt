@@ -1,5 +1,7 @@
 -- Slots that are found one after another are those of their page that a pass over all would meet.
-use Rattle.std.proofs.Common.{◌≡◌, ◌∙◌, ℕ, suc, ◌+◌, ◌<◌, ⊎_elim, ◌-◌, Bool, true, false, cond, ◌==◌, if◌then◌else◌, List, [], ◌∷◌, drop, get_or, set, length, Some, None, unwrap_or, refl, sym, ap, arith, eqb-true, eq-eqb, add-one, Less, Equal, Greater, ◌≢◌, drop-cons, drop-drop, get_or-drop, get_or-set_same, get_or-set_other, length-drop, length-set}
+use Rattle.std.proofs.Common.{◌≡◌, ◌∙◌, ℕ, suc, ◌+◌, ◌<◌, ⊎_elim, ◌-◌, Bool, true, false, cond, ◌==◌, if◌then◌else◌, List, [], ◌∷◌, drop, get_or, set}
+use Rattle.std.proofs.Common.{length, Some, None, unwrap_or, refl, sym, ap, arith, eqb-true, eq-eqb, add-one, Less, Equal, Greater, ◌≢◌, drop-cons}
+use Rattle.std.proofs.Common.{drop-drop, get_or-drop, get_or-set_same, get_or-set_other, length-drop, length-set}
 use Rattle.std.proofs.lemmas.Bool.{cases_eq, cases_order, ne_eqb}
 use Rattle.std.specs.BTreeMap.{BTreeMap, get, is_at}
 use Rattle.std.specs.Cmp.{nat_cmp_is}

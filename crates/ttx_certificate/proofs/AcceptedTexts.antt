@@ -1,5 +1,7 @@
 -- A text that is read is the text of its certificate.
-use Rattle.std.proofs.Common.{◌≡◌, ℕ, ◌+◌, ◌-◌, ◌*◌, ◌/◌, ◌%◌, ◌^◌, ◌<◌, ◌≤◌, ◌==◌, true, not, ◌&&◌, ◌||◌, ◌++◌, List, [], ◌∷◌, length, map, slice_index, codes, Option, Some, None, option_map, unwrap_or, Result, Ok, Err, nat_le, refl, sym, ap, ◌∙◌, subst, arith, rules, append_assoc, append-nil, eqb-true}
+use Rattle.std.proofs.Common.{◌≡◌, ℕ, ◌+◌, ◌-◌, ◌*◌, ◌/◌, ◌%◌, ◌^◌, ◌<◌, ◌≤◌, ◌==◌, true, not, ◌&&◌, ◌||◌, ◌++◌, List, [], ◌∷◌, length, map}
+use Rattle.std.proofs.Common.{slice_index, codes, Option, Some, None, option_map, unwrap_or, Result, Ok, Err, nat_le, refl, sym, ap, ◌∙◌, subst}
+use Rattle.std.proofs.Common.{arith, rules, append_assoc, append-nil, eqb-true}
 use Rattle.std.specs.Fmt.{decimal}
 use Rattle.std.specs.List.{join_with_byte}
 use Rattle.std.specs.Str.{bytes_eq}
@@ -14,8 +16,12 @@ use Rattle.ttx_page.specs.declared.item.Item.TheVariants.{Head as TheHead, Row a
 use Rattle.ttx_page.specs.declared.class.Class.{Class}
 use Rattle.ttx_page.specs.declared.class.Class.TheVariants.{Any, Clearing}
 use Rattle.ttx_certificate.specs.Entries.{EntryFields, entry_at, CertificateFields, certificate_fields_at, place_of}
-use Rattle.ttx_certificate.specs.CertificateTexts.{hex_digit, hex_byte, id_text, item_text, starts_text, entry_text, entries_text, class_text, number_text, certificate_text}
-use Rattle.ttx_certificate.specs.CertificateReading.{lines_in, words_in, are_digits, is_number, decimal_after, number_in_word, is_between, is_hex, hex_value, is_id_word, hex_pair, id_in_word, row_in, item_in, before_numbers, numbers_in, starts_in_words, with_starts, with_item, entry_in, read_entry, read_entries, ranged, only_number, number_in, line_at, number_line, read_numbers, read_class, read_title, read_text, ◌>>=◌}
+use Rattle.ttx_certificate.specs.CertificateTexts.{hex_digit, hex_byte, id_text, item_text, starts_text, entry_text, entries_text, class_text}
+use Rattle.ttx_certificate.specs.CertificateTexts.{number_text, certificate_text}
+use Rattle.ttx_certificate.specs.CertificateReading.{lines_in, words_in, are_digits, is_number, decimal_after, number_in_word, is_between, is_hex}
+use Rattle.ttx_certificate.specs.CertificateReading.{hex_value, is_id_word, hex_pair, id_in_word, row_in, item_in, before_numbers, numbers_in}
+use Rattle.ttx_certificate.specs.CertificateReading.{starts_in_words, with_starts, with_item, entry_in, read_entry, read_entries, ranged, only_number}
+use Rattle.ttx_certificate.specs.CertificateReading.{number_in, line_at, number_line, read_numbers, read_class, read_title, read_text, ◌>>=◌}
 use Rattle.ttx_certificate.specs.declared.certificate_faults.CertFault.{CertFault}
 use Rattle.ttx_certificate.specs.declared.certificate_faults.CertFault.TheVariants.{Title, Line, Range}
 use Rattle.ttx_certificate.proofs.Choices.{if_ind, and_left, and_right}

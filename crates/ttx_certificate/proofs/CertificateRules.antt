@@ -6,7 +6,8 @@ use Rattle.ttx_header.specs.Ids.{Id, same_id}
 use Rattle.ttx_page.specs.declared.item.Item.{Item}
 use Rattle.ttx_certificate.specs.NamedStarts.{Rising}
 use Rattle.ttx_certificate.specs.NamedStarts.{IsCertificate}
-use Rattle.ttx_certificate.specs.Entries.{EntryFields, CertificateFields, IsEntry, IsCertificateFields, are_starts, starts_in, same_item, certificate_at}
+use Rattle.ttx_certificate.specs.Entries.{EntryFields, CertificateFields, IsEntry, IsCertificateFields, are_starts, starts_in, same_item}
+use Rattle.ttx_certificate.specs.Entries.{certificate_at}
 use Rattle.ttx_certificate.specs.EntryViews.{entries_of}
 use Rattle.ttx_certificate.specs.Certificates.{fields_of}
 use Rattle.ttx_certificate.specs.CertificateLaws.{CertificatesKeepTheirRules}

@@ -1,5 +1,7 @@
 -- The text of a certificate is read as the certificate.
-use Rattle.std.proofs.Common.{◌≡◌, ℕ, zero, suc, ◌+◌, ◌-◌, ◌*◌, ◌/◌, ◌%◌, ◌<◌, ◌≤◌, ◌==◌, Bool, true, false, not, ◌&&◌, ◌||◌, ◌++◌, List, [], ◌∷◌, length, map, slice_index, codes, Option, Some, None, option_map, Ok, Err, if◌then◌else◌, nat_lt, nat_le, refl, sym, ap, ◌∙◌, arith, append_assoc, append-nil, eq-eqb}
+use Rattle.std.proofs.Common.{◌≡◌, ℕ, zero, suc, ◌+◌, ◌-◌, ◌*◌, ◌/◌, ◌%◌, ◌<◌, ◌≤◌, ◌==◌, Bool, true, false, not, ◌&&◌, ◌||◌, ◌++◌, List, [], ◌∷◌}
+use Rattle.std.proofs.Common.{length, map, slice_index, codes, Option, Some, None, option_map, Ok, Err, if◌then◌else◌, nat_lt, nat_le, refl, sym, ap}
+use Rattle.std.proofs.Common.{◌∙◌, arith, append_assoc, append-nil, eq-eqb}
 use Rattle.std.proofs.lemmas.Bool.{and_from}
 use Rattle.std.specs.Fmt.{decimal}
 use Rattle.std.specs.List.{list_all, onto_first, AllByRecursion}
@@ -13,9 +15,15 @@ use Rattle.ttx_page.specs.declared.item.Item.{Item}
 use Rattle.ttx_page.specs.declared.item.Item.TheVariants.{Head as TheHead, Row as TheRow, Links as TheLinks}
 use Rattle.ttx_page.specs.declared.class.Class.{Class}
 use Rattle.ttx_page.specs.declared.class.Class.TheVariants.{Any, Clearing}
-use Rattle.ttx_certificate.specs.Entries.{EntryFields, IsEntry, entry_at, CertificateFields, IsCertificateFields, certificate_fields_at, place_of, entry_places, is_item, is_page_id, is_above, are_starts, rises, rises_above, are_numbers}
-use Rattle.ttx_certificate.specs.CertificateTexts.{hex_digit, id_text, item_text, starts_text, entry_text, entries_text, class_text, number_text, certificate_text}
-use Rattle.ttx_certificate.specs.CertificateReading.{parts_at, lines_in, words_in, are_digits, is_number, decimal_after, number_in_word, is_between, is_hex, hex_value, is_id_word, hex_pair, id_in_word, is_id, is_in_range, is_in_order, item_in, before_numbers, numbers_in, starts_in_words, with_starts, with_item, entry_in, read_entry, read_entries, ranged, only_number, number_in, line_at, number_line, read_numbers, read_clearing, read_class, read_version, read_title, read_text, ◌>>=◌}
+use Rattle.ttx_certificate.specs.Entries.{EntryFields, IsEntry, entry_at, CertificateFields, IsCertificateFields, certificate_fields_at, place_of}
+use Rattle.ttx_certificate.specs.Entries.{entry_places, is_item, is_page_id, is_above, are_starts, rises, rises_above, are_numbers}
+use Rattle.ttx_certificate.specs.CertificateTexts.{hex_digit, id_text, item_text, starts_text, entry_text, entries_text, class_text, number_text}
+use Rattle.ttx_certificate.specs.CertificateTexts.{certificate_text}
+use Rattle.ttx_certificate.specs.CertificateReading.{parts_at, lines_in, words_in, are_digits, is_number, decimal_after, number_in_word, is_between}
+use Rattle.ttx_certificate.specs.CertificateReading.{is_hex, hex_value, is_id_word, hex_pair, id_in_word, is_id, is_in_range, is_in_order, item_in}
+use Rattle.ttx_certificate.specs.CertificateReading.{before_numbers, numbers_in, starts_in_words, with_starts, with_item, entry_in, read_entry}
+use Rattle.ttx_certificate.specs.CertificateReading.{read_entries, ranged, only_number, number_in, line_at, number_line, read_numbers, read_clearing}
+use Rattle.ttx_certificate.specs.CertificateReading.{read_class, read_version, read_title, read_text, ◌>>=◌}
 use Rattle.ttx_certificate.specs.declared.certificate_faults.CertFault.TheVariants.{Line, Range, Order}
 use Rattle.ttx_certificate.proofs.Choices.{and_left, and_right, no_both}
 use Rattle.ttx_certificate.proofs.AcceptedTexts.{own, item_words, numbers_text, whole}

@@ -1,5 +1,6 @@
 -- A walk that is given the slots of a packet file, one by one.
-use Rattle.std.proofs.Common.{◌≡◌, ℕ, ◌+◌, ◌<◌, List, [], ◌∷◌, ◌++◌, length, Option, Some, None, IfSome, true, false, Result, Ok, Err, MatchResult, arith}
+use Rattle.std.proofs.Common.{◌≡◌, ℕ, ◌+◌, ◌<◌, List, [], ◌∷◌, ◌++◌, length, Option, Some, None, IfSome, true, false, Result, Ok, Err, MatchResult}
+use Rattle.std.proofs.Common.{arith}
 use Rattle.ttx_packet.specs.Slots.{IsSlot}
 use Rattle.ttx_cycle.specs.Reading.{AnswersNext}
 use Rattle.ttx_cycle.specs.SlotLaws.{NoneIsGiven, OneMoreIsGiven, AllAreGiven, FaultIsTheFiles}

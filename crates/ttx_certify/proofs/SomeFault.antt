@@ -1,5 +1,6 @@
 -- Each page has a first fault, or none.
-use Rattle.std.proofs.Common.{◌≡◌, ◌⊎◌, ℕ, ◌<◌, ℤ, pos, ◌+ℤ◌, ◌-ℤ◌, ◌<ℤ◌, ◌≤ℤ◌, true, false, Bool, List, [], ◌∷◌, length, slice_index_or, Option, Some, None, refl, sym, ap, ◌∙◌, subst, inl, inr, arith, mod-eq_of_lt}
+use Rattle.std.proofs.Common.{◌≡◌, ◌⊎◌, ℕ, ◌<◌, ℤ, pos, ◌+ℤ◌, ◌-ℤ◌, ◌<ℤ◌, ◌≤ℤ◌, true, false, Bool, List, [], ◌∷◌, length, slice_index_or, Option}
+use Rattle.std.proofs.Common.{Some, None, refl, sym, ap, ◌∙◌, subst, inl, inr, arith, mod-eq_of_lt}
 use Rattle.std.proofs.lemmas.Int.{ints}
 use Rattle.ttx_header.specs.Ids.{Id}
 use Rattle.ttx_page.specs.Packets.{packet_of}
@@ -8,7 +9,8 @@ use Rattle.ttx_page.specs.declared.item.Item.{Item}
 use Rattle.ttx_page.specs.declared.item.Item.TheVariants.{Row as TheRow, Links as TheLinks}
 use Rattle.ttx_page.specs.declared.selection.Selection.TheVariants.{AnySub}
 use Rattle.ttx_page.specs.Streams.{Stream, repeated, turned, heads_page, heads_matched, IsOwned, IsSure, IsTransmission}
-use Rattle.ttx_page.specs.Steady.{HasHeader, HasNoHeader, OtherSubpageAt, ErasedAt, HeadDiffersAt, RowDiffersAt, LinksDifferAt, RowIsRight, IsLikeHead, LinksAreRight, erases_page}
+use Rattle.ttx_page.specs.Steady.{HasHeader, HasNoHeader, OtherSubpageAt, ErasedAt, HeadDiffersAt, RowDiffersAt, LinksDifferAt, RowIsRight}
+use Rattle.ttx_page.specs.Steady.{IsLikeHead, LinksAreRight, erases_page}
 use Rattle.ttx_page.specs.Laws.{EachSlotTurns, StreamsMove, IsSameOn}
 use Rattle.ttx_cycle.specs.Files.{IsCycle}
 use Rattle.ttx_witness.specs.runs.Transmissions.{slot_of}

@@ -1,5 +1,6 @@
 -- Of each cycle, pages and certificate some verdict is right.
-use Rattle.std.proofs.Common.{◌≡◌, ◌⊎◌, ℕ, zero, suc, ◌+◌, ◌-◌, ◌<◌, ◌≤◌, pos, ◌+ℤ◌, true, false, Bool, List, [], ◌∷◌, length, slice_get, slice_index_or, Option, Some, None, refl, ap, subst, inl, inr, arith}
+use Rattle.std.proofs.Common.{◌≡◌, ◌⊎◌, ℕ, zero, suc, ◌+◌, ◌-◌, ◌<◌, ◌≤◌, pos, ◌+ℤ◌, true, false, Bool, List, [], ◌∷◌, length, slice_get}
+use Rattle.std.proofs.Common.{slice_index_or, Option, Some, None, refl, ap, subst, inl, inr, arith}
 use Rattle.std.proofs.lemmas.Bool.{cases_lt}
 use Rattle.ttx_packet.specs.Slots.{is_clean}
 use Rattle.ttx_page.specs.Pages.{Page, needed}

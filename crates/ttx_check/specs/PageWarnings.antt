@@ -14,7 +14,8 @@ use Rattle.ttx_page.specs.declared.item.Item.TheVariants.{Row as TheRow}
 use Rattle.ttx_page.specs.Pages.{Page, page_row, is_hidden, is_blank}
 use Rattle.ttx_check.specs.declared.entries.Entry.{Entry}
 use Rattle.ttx_check.specs.declared.warning.Warning.{Warning}
-use Rattle.ttx_check.specs.declared.warning.Warning.TheVariants.{DeadLink, HiddenRow, UnshownRow, StrayTab, StrayBreak, NoBox, BehindSubpage, BehindItself}
+use Rattle.ttx_check.specs.declared.warning.Warning.TheVariants.{DeadLink, HiddenRow, UnshownRow, StrayTab, StrayBreak, NoBox, BehindSubpage}
+use Rattle.ttx_check.specs.declared.warning.Warning.TheVariants.{BehindItself}
 
 -- a link leads to a page of its number and subcode; 3F7F hexadecimal is any subcode
 abbrev pub leads_to : Id → Entry → Bool

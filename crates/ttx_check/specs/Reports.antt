@@ -8,7 +8,8 @@ use Rattle.std.specs.Fmt.{decimal}
 use Rattle.toml.specs.Data.{Members}
 use Rattle.toml.specs.Parse.{parse_document}
 use Rattle.ttx_source.specs.Services.{ServiceFields, pages_of, read_bytes}
-use Rattle.ttx_source.specs.Values.{Fault, not_toml, missing, wrong_kind, wrong_page_number, wrong_subcode, duplicate, too_long, wrong_character, wrong_often, out_of_range, no_memory}
+use Rattle.ttx_source.specs.Values.{Fault, not_toml, missing, wrong_kind, wrong_page_number, wrong_subcode, duplicate, too_long, wrong_character}
+use Rattle.ttx_source.specs.Values.{wrong_often, out_of_range, no_memory}
 use Rattle.ttx_check.specs.UnknownKeys.{key_lines}
 use Rattle.ttx_check.specs.WarningLines.{warning_lines}
 use Rattle.ttx_check.specs.Warnings.{warnings}

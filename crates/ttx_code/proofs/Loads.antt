@@ -1,5 +1,6 @@
 -- From lanes that were computed from bytes to the test of each byte.
-use Rattle.std.proofs.Common.{◌≡◌, ℕ, ◌+◌, ◌%◌, ◌^◌, Bool, true, cond, eqb, ◌*◌, not, ◌&&◌, false, List, [], ◌∷◌, map, length, Fits, w8, refl, ap, ap₂, ◌∙◌, arith}
+use Rattle.std.proofs.Common.{◌≡◌, ℕ, ◌+◌, ◌%◌, ◌^◌, Bool, true, cond, eqb, ◌*◌, not, ◌&&◌, false, List, [], ◌∷◌, map, length, Fits, w8, refl, ap}
+use Rattle.std.proofs.Common.{ap₂, ◌∙◌, arith}
 use Rattle.std.proofs.lemmas.Bool.{agree_below, agree_below_at, eqb-true}
 use Rattle.std.proofs.lemmas.Simd.{map-map, mask_l-mod}
 use Rattle.std.proofs.lemmas.List.{length-map}

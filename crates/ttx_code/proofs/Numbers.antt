@@ -1,5 +1,6 @@
 -- The tables of words and numbers hold what the definitions say, computed over all their entries.
-use Rattle.std.proofs.Common.{◌≡◌, ℕ, ◌<◌, ◌≤◌, Bool, true, refl, leb, eqb, get_or, arith, sym, ◌∙◌, ap, ◌&&◌, ltb, Option, Some, None, ◌||◌, not, false, inl, inr, subst}
+use Rattle.std.proofs.Common.{◌≡◌, ℕ, ◌<◌, ◌≤◌, Bool, true, refl, leb, eqb, get_or, arith, sym, ◌∙◌, ap, ◌&&◌, ltb, Option, Some, None, ◌||◌, not}
+use Rattle.std.proofs.Common.{false, inl, inr, subst}
 use Rattle.std.proofs.lemmas.Bool.{cases_lt, agree_below, agree_below_at, eqb-true, eq-eqb, leb-true, le-leb, ltb-true, and_parts}
 use Rattle.std.proofs.lemmas.Nat.{xor_comm}
 use Rattle.std.specs.Int.Bits.{xor_self}

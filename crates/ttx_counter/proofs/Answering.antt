@@ -1,5 +1,6 @@
 -- What the search for counter-runs answers, page by page.
-use Rattle.std.proofs.Common.{◌≡◌, ◌⊎◌, ◌↔◌, ℕ, zero, suc, ◌+◌, ◌<◌, pos, Bool, true, false, ◌&&◌, List, [], ◌∷◌, length, map, slice_get, Option, Some, None, Result, Ok, Err, IfOk, refl, sym, ap, ◌∙◌, subst, inl, inr, arith, leb-true}
+use Rattle.std.proofs.Common.{◌≡◌, ◌⊎◌, ◌↔◌, ℕ, zero, suc, ◌+◌, ◌<◌, pos, Bool, true, false, ◌&&◌, List, [], ◌∷◌, length, map, slice_get, Option}
+use Rattle.std.proofs.Common.{Some, None, Result, Ok, Err, IfOk, refl, sym, ap, ◌∙◌, subst, inl, inr, arith, leb-true}
 use Rattle.std.specs.List.{Contains}
 use Rattle.std.specs.Prelude.{is_some}
 use Rattle.std.proofs.lemmas.Bool.{cases_lt}
@@ -24,13 +25,15 @@ use Rattle.ttx_counter.specs.Laws.{RefutedIsNotAccepted}
 use Rattle.ttx_witness.specs.faults.Faults.{IsPageFault, SteadyHasNoFault}
 use Rattle.ttx_witness.specs.declared.sent.collected.Collected.{Collected}
 use Rattle.ttx_witness.specs.declared.faults.reason.Reason.{Reason}
-use Rattle.ttx_witness.specs.declared.faults.reason.Reason.TheVariants.{BadSlot, NoHeader, OtherSubpage, Erased, HeadDiffers, RowDiffers, LinksDiffer, NoWitness, WitnessBad, Late, Unsteady, LateBlank}
+use Rattle.ttx_witness.specs.declared.faults.reason.Reason.TheVariants.{BadSlot, NoHeader, OtherSubpage, Erased, HeadDiffers, RowDiffers, LinksDiffer}
+use Rattle.ttx_witness.specs.declared.faults.reason.Reason.TheVariants.{NoWitness, WitnessBad, Late, Unsteady, LateBlank}
 use Rattle.ttx_counter.specs.Counters.{CounterRun, IsCounterRun}
 use Rattle.ttx_counter.specs.StarvingRuns.{starving_run}
 use Rattle.ttx_counter.specs.Sources.{plain_counter, PlainRunsAreCounterRuns, AbsentPagesAreWrong}
 use Rattle.ttx_counter.specs.Starving.{fullest, IsCoveredByOne}
 use Rattle.ttx_counter.specs.Completeness.{IsClean, StarvingIsCounterRun, FullestNamesAll}
-use Rattle.ttx_counter.specs.Refutations.{is_absent, ArePrepared, IsCounterTo, IsSentWell, TellsStart, TellsNeeded, TellsCovered, TellsPage, TellsPages, TellsAllPlainly, TellsCounter}
+use Rattle.ttx_counter.specs.Refutations.{is_absent, ArePrepared, IsCounterTo, IsSentWell, TellsStart, TellsNeeded, TellsCovered, TellsPage}
+use Rattle.ttx_counter.specs.Refutations.{TellsPages, TellsAllPlainly, TellsCounter}
 use Rattle.ttx_counter.proofs.Plainly.{numbers_of, plain_to}
 use Rattle.ttx_counter.proofs.Unseen.{other_is}
 

@@ -1,5 +1,6 @@
 -- A counter-run is checked exactly.
-use Rattle.std.proofs.Common.{◌≡◌, ◌↔◌, ℕ, suc, ◌<◌, ℤ, pos, ◌+ℤ◌, Bool, true, false, zero, List, [], ◌∷◌, length, get_or, map, sym, ap, ◌∙◌, subst, arith, Some, IfOk, Result, Ok, Err}
+use Rattle.std.proofs.Common.{◌≡◌, ◌↔◌, ℕ, suc, ◌<◌, ℤ, pos, ◌+ℤ◌, Bool, true, false, zero, List, [], ◌∷◌, length, get_or, map, sym, ap, ◌∙◌, subst}
+use Rattle.std.proofs.Common.{arith, Some, IfOk, Result, Ok, Err}
 use Rattle.ttx_page.specs.declared.page.Page.{Page as PageValue}
 use Rattle.ttx_page.specs.Views.{page_of}
 use Rattle.std.specs.Prelude.{IsPermutation, slice_get}

@@ -1,11 +1,13 @@
 -- Streaks while slots pass.
-use Rattle.std.proofs.Common.{◌≡◌, ◌⊎◌, ◌≢◌, ℕ, zero, suc, ◌+◌, ◌*◌, ◌<◌, ◌≤◌, Bool, true, false, if◌then◌else◌, List, length, get_or, set, Some, None, refl, sym, ap, ◌∙◌, subst, inl, inr, arith, eqb, eqb-true, eq-eqb}
+use Rattle.std.proofs.Common.{◌≡◌, ◌⊎◌, ◌≢◌, ℕ, zero, suc, ◌+◌, ◌*◌, ◌<◌, ◌≤◌, Bool, true, false, if◌then◌else◌, List, length, get_or, set, Some}
+use Rattle.std.proofs.Common.{None, refl, sym, ap, ◌∙◌, subst, inl, inr, arith, eqb, eqb-true, eq-eqb}
 use Rattle.std.proofs.lemmas.Bool.{cases_lt}
 use Rattle.std.proofs.lemmas.Bool.Decides.{nat_tests}
 use Rattle.std.proofs.lemmas.List.{get_or-set_same, get_or-set_other}
 use Rattle.ttx_counter.specs.Keys.{key_at, byte_in}
 use Rattle.ttx_counter.specs.Streaks.{streak_to}
-use Rattle.ttx_counter.specs.Cells.{is_text, streak_of, cell_at, running, AreCounted, IsStreakReached, TellsSlot, IsCell, AreStreaks, IsBroken, StreaksAfter}
+use Rattle.ttx_counter.specs.Cells.{is_text, streak_of, cell_at, running, AreCounted, IsStreakReached, TellsSlot, IsCell, AreStreaks, IsBroken}
+use Rattle.ttx_counter.specs.Cells.{StreaksAfter}
 use Rattle.ttx_counter.specs.declared.streaks.Streak.{Streak}
 use Rattle.ttx_counter.proofs.Streaking.{cases_bool, no_both}
 

@@ -1,5 +1,6 @@
 -- The numbers of a counter-run's text say the counter-run.
-use Rattle.std.proofs.Common.{◌≡◌, ℕ, suc, ◌*◌, ◌/◌, ◌%◌, ◌<◌, Bool, true, false, not, ◌&&◌, ◌==◌, nat_le, nat_lt, List, [], ◌∷◌, ◌++◌, length, map, take, drop, get_or, Option, Some, None, Ok, Err, refl, sym, ap, ◌∙◌, subst, arith, append_assoc}
+use Rattle.std.proofs.Common.{◌≡◌, ℕ, suc, ◌*◌, ◌/◌, ◌%◌, ◌<◌, Bool, true, false, not, ◌&&◌, ◌==◌, nat_le, nat_lt, List, [], ◌∷◌, ◌++◌, length, map}
+use Rattle.std.proofs.Common.{take, drop, get_or, Option, Some, None, Ok, Err, refl, sym, ap, ◌∙◌, subst, arith, append_assoc}
 use Rattle.std.specs.Prelude.{All, slice_index}
 use Rattle.std.specs.Str.{bytes_eq}
 use Rattle.std.proofs.Math.Seq.{take-append_seam, drop-append_seam}
@@ -12,7 +13,9 @@ use Rattle.ttx_page.specs.Pages.{IsRow}
 use Rattle.ttx_page.specs.Memories.{Memory, memory_at}
 use Rattle.ttx_counter.specs.Counters.{Hit, CounterRun}
 use Rattle.ttx_counter.specs.CounterTexts.{bit, bits, link_numbers, links_numbers, hits_numbers, counter_text}
-use Rattle.ttx_counter.specs.CounterReading.{at_most, is_one, characters_in, read_rows, is_target, read_link, read_links, hit_of, hits_in, memory_in, choices_in, hits_after, numbers_behind, counter_in, line_numbers, judged, IsHitFields, IsCounterFields, AcceptedCounterTextsAreWritten, WrittenCounterTextsAreRead}
+use Rattle.ttx_counter.specs.CounterReading.{at_most, is_one, characters_in, read_rows, is_target, read_link, read_links, hit_of, hits_in, memory_in}
+use Rattle.ttx_counter.specs.CounterReading.{choices_in, hits_after, numbers_behind, counter_in, line_numbers, judged, IsHitFields, IsCounterFields}
+use Rattle.ttx_counter.specs.CounterReading.{AcceptedCounterTextsAreWritten, WrittenCounterTextsAreRead}
 use Rattle.ttx_counter.proofs.Between.{if_ind}
 use Rattle.ttx_counter.proofs.ReadNumbers.{AreSmall, EachSmall, joined, numbers_of, whole, if_true}
 

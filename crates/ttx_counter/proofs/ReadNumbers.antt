@@ -1,11 +1,13 @@
 -- The numbers in the text of a counter-run are those that were written.
-use Rattle.std.proofs.Common.{◌≡◌, ℕ, ◌+◌, ◌-◌, ◌*◌, ◌/◌, ◌%◌, ◌^◌, ◌<◌, ◌≤◌, Bool, true, false, List, [], ◌∷◌, ◌++◌, length, codes, Option, Some, None, if◌then◌else◌, refl, sym, ap, ◌∙◌, arith, append_assoc, append-nil}
+use Rattle.std.proofs.Common.{◌≡◌, ℕ, ◌+◌, ◌-◌, ◌*◌, ◌/◌, ◌%◌, ◌^◌, ◌<◌, ◌≤◌, Bool, true, false, List, [], ◌∷◌, ◌++◌, length, codes, Option, Some}
+use Rattle.std.proofs.Common.{None, if◌then◌else◌, refl, sym, ap, ◌∙◌, arith, append_assoc, append-nil}
 use Rattle.std.specs.Fmt.{decimal}
 use Rattle.std.proofs.lemmas.Bool.Decides.{nat_tests}
 use Rattle.std.proofs.lemmas.Fmt.{decimal_by_steps}
 use Rattle.ttx_page.specs.Memories.{Memory}
 use Rattle.ttx_counter.specs.Counters.{Hit, CounterRun}
-use Rattle.ttx_counter.specs.CounterTexts.{numbers_text, line_text, bit, bits, links_numbers, hits_numbers, row_lines, state_text, links_lines, memory_text, choices_text, hits_text, title, head_lines, tuning_text, counter_text}
+use Rattle.ttx_counter.specs.CounterTexts.{numbers_text, line_text, bit, bits, links_numbers, hits_numbers, row_lines, state_text, links_lines}
+use Rattle.ttx_counter.specs.CounterTexts.{memory_text, choices_text, hits_text, title, head_lines, tuning_text, counter_text}
 use Rattle.ttx_counter.specs.CounterReading.{is_digit, at_most, digit_after, closed, numbers_after, line_numbers}
 
 pub if_true : {A : Type 0} (b : Bool) (x y : A) → b ≡ true → (if b then x else y) ≡ x

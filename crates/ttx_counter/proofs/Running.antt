@@ -1,5 +1,6 @@
 -- The run of a starved receiver as a counter-run.
-use Rattle.std.proofs.Common.{◌≡◌, ℕ, ◌<◌, ℤ, pos, ◌+ℤ◌, Bool, true, false, ◌==◌, List, [], map, length, get_or, refl, sym, ap, ◌∙◌, subst, inl, inr, arith, length-set, get_or-set_same, get_or-set_other}
+use Rattle.std.proofs.Common.{◌≡◌, ℕ, ◌<◌, ℤ, pos, ◌+ℤ◌, Bool, true, false, ◌==◌, List, [], map, length, get_or, refl, sym, ap, ◌∙◌, subst, inl, inr}
+use Rattle.std.proofs.Common.{arith, length-set, get_or-set_same, get_or-set_other}
 use Rattle.std.specs.Prelude.{bit_xor}
 use Rattle.std.specs.List.{Contains, AllPairs, list_any}
 use Rattle.std.proofs.lemmas.Int.{ints}
@@ -13,7 +14,8 @@ use Rattle.ttx_page.specs.declared.item.Item.TheVariants.{Head as TheHead, Row a
 use Rattle.ttx_page.specs.Memories.{Memory}
 use Rattle.ttx_page.specs.Streams.{repeated, turned, IsSent}
 use Rattle.ttx_page.specs.Laws.{EachSlotTurns, StreamsMove}
-use Rattle.ttx_receiver.specs.Starving.{spoilt, first_byte, wrong_memory, starved_memory, starved_slots, starved_hits, starved_choices, StarvedIsScripted, IsScripted}
+use Rattle.ttx_receiver.specs.Starving.{spoilt, first_byte, wrong_memory, starved_memory, starved_slots, starved_hits, starved_choices}
+use Rattle.ttx_receiver.specs.Starving.{StarvedIsScripted, IsScripted}
 use Rattle.ttx_cycle.specs.Files.{IsCycle}
 use Rattle.ttx_witness.specs.Coverage.{Certificate, limit}
 use Rattle.ttx_certify.specs.Seen.{HasView}

@@ -21,7 +21,8 @@ use Rattle.ttx_witness.specs.Coverage.{Certificate, IsCertificate, limit, IsCove
 use Rattle.ttx_certify.specs.Seen.{Seen}
 use Rattle.ttx_certify.specs.Laws.{AcceptedIsSeen}
 use Rattle.ttx_counter.specs.Starving.{fullest}
-use Rattle.ttx_counter.specs.Completeness.{CoveredOrStarved, StarvedIsUnseen, IsClean, StarvedHasCounter, CounterIsUnseen, FullestNamesAll, SeenIsCovered, SeenExactlyWhereAccepted, FoundIsLeastSeen}
+use Rattle.ttx_counter.specs.Completeness.{CoveredOrStarved, StarvedIsUnseen, IsClean, StarvedHasCounter, CounterIsUnseen, FullestNamesAll}
+use Rattle.ttx_counter.specs.Completeness.{SeenIsCovered, SeenExactlyWhereAccepted, FoundIsLeastSeen}
 
 and_both : (a b : Bool) → a ≡ true → b ≡ true → (a && b) ≡ true
 and_both true b h k = k

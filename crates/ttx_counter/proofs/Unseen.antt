@@ -1,5 +1,6 @@
 -- A receiver that is starved of an item hasn't the page's View.
-use Rattle.std.proofs.Common.{◌≡◌, ◌≢◌, ℕ, ◌≤◌, zero, suc, ◌<◌, Bool, true, false, ◌==◌, List, [], ◌∷◌, Option, Some, None, get_or, refl, sym, ap, ◌∙◌, subst, inl, inr, arith, eqb-true, eq-eqb, leb-true}
+use Rattle.std.proofs.Common.{◌≡◌, ◌≢◌, ℕ, ◌≤◌, zero, suc, ◌<◌, Bool, true, false, ◌==◌, List, [], ◌∷◌, Option, Some, None, get_or, refl, sym, ap}
+use Rattle.std.proofs.Common.{◌∙◌, subst, inl, inr, arith, eqb-true, eq-eqb, leb-true}
 use Rattle.std.specs.Prelude.{◌&&◌}
 use Rattle.ttx_header.specs.Ids.{Id}
 use Rattle.ttx_page.specs.Pages.{Page, needed, page_row}

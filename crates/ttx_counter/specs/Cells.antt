@@ -7,7 +7,8 @@
 --   AreCounted, IsStreakReached    the wrong bytes of one transmission are counted; one of them makes a streak of k
 --   is_row, TellsSlot       what is sent and wrong in one slot
 --   AreStreaks, IsBroken    what is kept of n slots; a streak of k
-use Rattle.std.specs.Prelude.{◌≡◌, ℕ, suc, ◌+◌, ◌*◌, ◌<◌, ◌≤◌, Bool, true, false, ◌&&◌, ◌==◌, if◌then◌else◌, nat_le, nat_lt, List, slice_index, slice_index_or, Option, Some, None}
+use Rattle.std.specs.Prelude.{◌≡◌, ℕ, suc, ◌+◌, ◌*◌, ◌<◌, ◌≤◌, Bool, true, false, ◌&&◌, ◌==◌, if◌then◌else◌, nat_le, nat_lt, List, slice_index}
+use Rattle.std.specs.Prelude.{slice_index_or, Option, Some, None}
 use Rattle.ttx_counter.specs.Keys.{key_at, byte_in}
 use Rattle.ttx_counter.specs.Streaks.{streak_to}
 use Rattle.ttx_counter.specs.declared.streaks.Streak.{Streak}

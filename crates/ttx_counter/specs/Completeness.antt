@@ -43,15 +43,18 @@ pub record StarvesFrom (cycle : List (List ℕ)) (p : Page) (w : Certificate) (i
 -- the first named start whose next run comes too late, as one pass tells it
 abbrev pub late_start : List (List ℕ) → Page → Certificate → Item → Option ℕ
 late_start cycle p w item =
-    let m = progress_of cycle p w item (run_length w.repeat item - 1) in late_after (limit w) (w.starts p.id item) m (m.first_end +ℤ pos (length cycle))
+    let m = progress_of cycle p w item (run_length w.repeat item - 1) in late_after (limit w) (w.starts p.id item) m (m.first_end +ℤ pos
+    (length cycle))
 
 -- what one pass tells where all sure starts are named
 pub record AreJudged (cycle : List (List ℕ)) (p : Page) (w : Certificate) (item : Item) : Type 0 where
   pub next : (progress_of cycle p w item (run_length w.repeat item - 1)).next ≤ length (w.starts p.id item)
   pub none : length (w.starts p.id item) ≡ 0 → StarvesFrom cycle p w item 0
   pub covered : 0 < length (w.starts p.id item) → late_start cycle p w item ≡ None → IsCovered cycle p w item
-  pub sent : 0 < length (w.starts p.id item) → (at : ℕ) → late_start cycle p w item ≡ Some at → (at < length cycle) × ((owner : ℤ) × IsOwned (repeated cycle) p.id item owner (pos at))
-  pub late : 0 < length (w.starts p.id item) → (at : ℕ) → late_start cycle p w item ≡ Some at → (owner : ℤ) → IsOwned (repeated cycle) p.id item owner (pos at) →
+  pub sent : 0 < length (w.starts p.id item) → (at : ℕ) → late_start cycle p w item ≡ Some at →
+      (at < length cycle) × ((owner : ℤ) × IsOwned (repeated cycle) p.id item owner (pos at))
+  pub late : 0 < length (w.starts p.id item) → (at : ℕ) → late_start cycle p w item ≡ Some at → (owner : ℤ) →
+      IsOwned (repeated cycle) p.id item owner (pos at) →
       StarvesFrom cycle p w item (turned (length cycle) (owner +ℤ pos 1))
 
 abbrev pub StartsAreJudged : Type 0
@@ -59,14 +62,16 @@ StartsAreJudged = (cycle : List (List ℕ)) → 0 < length cycle → (p : Page) 
     Rising (w.starts p.id item) → NamesAll cycle p w item → AreJudged cycle p w item
 
 abbrev pub StarvedIsUnseen : Type 0
-StarvedIsUnseen = (s : Stream) (p : Page) (sel : Selection) (lines repeat : ℕ) (item : Item) (tau : ℤ) (n : ℕ) (former m : Memory) (received : List (List ℕ)) →
+StarvedIsUnseen = (s : Stream) (p : Page) (sel : Selection) (lines repeat : ℕ) (item : Item) (tau : ℤ) (n : ℕ) (former m : Memory) (received : List
+    (List ℕ)) →
     IsPage p → needed p item ≡ true → IsStarved s p sel lines repeat item tau n former m received → HasView p m → ⊥
 
 abbrev pub IsClean : List (List ℕ) → Type 0
 IsClean cycle = (n : ℕ) → n < length cycle → is_clean (slice_index_or cycle n []) ≡ true
 
 abbrev pub StarvedHasCounter : Type 0
-StarvedHasCounter = (cycle : List (List ℕ)) (pages : List Page) (p : Page) (w : Certificate) → IsCycle cycle → IsPage p → IsCertificate w → w.class ≡ Any →
+StarvedHasCounter = (cycle : List (List ℕ)) (pages : List Page) (p : Page) (w : Certificate) → IsCycle cycle → IsPage p → IsCertificate w →
+    w.class ≡ Any →
     IsClean cycle → Steady (repeated cycle) pages p →
     (item : Item) → needed p item ≡ true → Starves (repeated cycle) p.id w.lines w.repeat item (limit w) → HasCounter cycle pages p w
 
@@ -89,11 +94,13 @@ FullestNamesAll = (cycle : List (List ℕ)) → IsCycle cycle → (w : Certifica
 
 -- whatever is true of other pages
 abbrev pub SeenIsCovered : Type 0
-SeenIsCovered = (cycle : List (List ℕ)) (pages : List Page) (p : Page) (w : Certificate) → IsCycle cycle → IsPage p → IsCertificate w → w.class ≡ Any →
+SeenIsCovered = (cycle : List (List ℕ)) (pages : List Page) (p : Page) (w : Certificate) → IsCycle cycle → IsPage p → IsCertificate w →
+    w.class ≡ Any →
     IsClean cycle → Steady (repeated cycle) pages p → Seen cycle pages p w → IsCoveredByOne cycle p w
 
 abbrev pub SeenExactlyWhereAccepted : Type 0
-SeenExactlyWhereAccepted = (cycle : List (List ℕ)) (pages : List Page) (w : Certificate) → IsCycle cycle → ArePages pages → IsCertificate w → w.class ≡ Any →
+SeenExactlyWhereAccepted = (cycle : List (List ℕ)) (pages : List Page) (w : Certificate) → IsCycle cycle → ArePages pages → IsCertificate w →
+    w.class ≡ Any →
     IsSentUnchanged cycle pages →
     ((n : ℕ) (p : Page) → slice_get pages n ≡ Some p → Seen cycle pages p w) ↔ CanBeAccepted cycle pages w.class w.lines w.repeat w.deadline
 
@@ -103,6 +110,7 @@ AllSeen cycle pages w = (n : ℕ) (p : Page) → slice_get pages n ≡ Some p �
 
 -- the deadline that is found is the least for which all pages are seen
 abbrev pub FoundIsLeastSeen : Type 0
-FoundIsLeastSeen = (cycle : List (List ℕ)) (pages : List Page) (w : Certificate) (d : ℕ) → IsCycle cycle → ArePages pages → IsCertificate w → w.class ≡ Any →
+FoundIsLeastSeen = (cycle : List (List ℕ)) (pages : List Page) (w : Certificate) (d : ℕ) → IsCycle cycle → ArePages pages → IsCertificate w →
+    w.class ≡ Any →
     IsSentUnchanged cycle pages → IsLeastDeadline cycle pages w (Some d) →
     AllSeen cycle pages w × (w.deadline ≡ d) × ((e : ℕ) → 1 ≤ e → e ≤ 1000000 → AllSeen cycle pages (record w { deadline = e }) → d ≤ e)

@@ -3,12 +3,14 @@
 --
 --   is_digit, digit_after, closed, numbers_after, line_numbers      the numbers in a text: runs of digits, each of 2^32 and more as 2^32 - 1
 --   at_most, is_one         a number cut to the largest of its place; what isn't 0 is yes
---   characters_in, read_rows, is_target, read_link, read_links, hits_in    parts of a counter-run from the numbers from a place on; 0 for what is missing
+--   characters_in, read_rows, is_target, read_link, read_links,
+--   hits_in    parts of a counter-run from the numbers from a place on; 0 for what is missing
 --   memory_in, counter_in    the memory, and the counter-run, that the numbers of a text say
 --   line_of                 the line in which two texts first differ
 --   CounterFields           the ranges of the fields of a `Counter`
 --   read_counter_text       the counter-run that a text is, or the fault of the text
-use Rattle.std.specs.Prelude.{◌≡◌, ℕ, zero, suc, ◌+◌, ◌-◌, ◌*◌, ◌/◌, ◌%◌, ◌^◌, ◌<◌, min, Bool, not, ◌&&◌, ◌==◌, nat_le, nat_lt, List, [], ◌∷◌, All, map, take, drop, length, slice_index, Option, Some, None, Result, Ok, Err, if◌then◌else◌}
+use Rattle.std.specs.Prelude.{◌≡◌, ℕ, zero, suc, ◌+◌, ◌-◌, ◌*◌, ◌/◌, ◌%◌, ◌^◌, ◌<◌, min, Bool, not, ◌&&◌, ◌==◌, nat_le, nat_lt, List, [], ◌∷◌, All}
+use Rattle.std.specs.Prelude.{map, take, drop, length, slice_index, Option, Some, None, Result, Ok, Err, if◌then◌else◌}
 use Rattle.std.specs.Str.{bytes_eq}
 use Rattle.ttx_header.specs.Ids.{Id, id_at}
 use Rattle.ttx_links.specs.Sets.{AreLinks}
@@ -57,7 +59,8 @@ read_rows (suc n) ns = characters_in 40 ns ∷ read_rows n (drop 40 ns)
 
 -- a magazine from 1 to 8, a page below 256 and a subcode inside 3F7F, but for page FF with subcode 3F7F
 abbrev pub is_target : ℕ → ℕ → ℕ → Bool
-is_target mag page sub = nat_le 1 mag && nat_le mag 8 && nat_lt page 256 && nat_lt sub 16384 && (sub / 128 % 2 == 0) && not ((page == 255) && (sub == 16255))
+is_target mag page sub = nat_le 1 mag && nat_le mag 8 && nat_lt page 256 && nat_lt sub 16384 && (sub / 128 % 2 == 0) && not ((page == 255)
+    && (sub == 16255))
 
 abbrev pub read_link : ℕ → ℕ → ℕ → Option Id
 read_link mag page sub = if is_target mag page sub then Some (id_at mag page sub) else None
@@ -79,7 +82,8 @@ hits_in (suc n) _ = []
 -- the lines of a memory begin with the eighth number after the title's; the 24 of `row-24` is one of the numbers
 abbrev pub memory_in : List ℕ → Memory
 memory_in ns =
-    memory_at (read_rows 25 (drop 18 (drop 14 ns))) (at_most 2047 (slice_index ns 8)) (record { six = read_links 6 (drop 14 ns); show24 = is_one (slice_index ns 13) })
+    memory_at (read_rows 25 (drop 18 (drop 14 ns))) (at_most 2047 (slice_index ns 8))
+    (record { six = read_links 6 (drop 14 ns); show24 = is_one (slice_index ns 13) })
     (is_one (slice_index ns 9)) (at_most 64 (slice_index ns 10)) (is_one (slice_index ns 11))
 
 abbrev pub choices_in : List ℕ → List Bool

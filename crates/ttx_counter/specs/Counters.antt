@@ -6,7 +6,8 @@
 --   IsHitIn, IsHitList      what is received of a slot, and of slots of a stream, where bits are hit
 --   IsHit, AreHits          bits that may be hit
 --   IsCounterRun            a counter-run of a cycle and pages
-use Rattle.std.specs.Prelude.{◌≡◌, ℕ, ◌-◌, ◌*◌, ◌^◌, ◌<◌, ◌≤◌, pos, ◌+ℤ◌, bit_xor, Bool, true, false, List, [], length, slice_get, slice_index, slice_index_or, All, Contains, Some}
+use Rattle.std.specs.Prelude.{◌≡◌, ℕ, ◌-◌, ◌*◌, ◌^◌, ◌<◌, ◌≤◌, pos, ◌+ℤ◌, bit_xor, Bool, true, false, List, [], length, slice_get, slice_index}
+use Rattle.std.specs.Prelude.{slice_index_or, All, Contains, Some}
 use Rattle.std.specs.List.{AllPairs}
 use Rattle.ttx_packet.specs.Slots.{is_empty}
 use Rattle.ttx_header.specs.Ids.{Id}

@@ -13,7 +13,8 @@ pub record IsHitBy (keys : List ℕ) (n : ℕ) (sent received : List ℕ) : Type
   pub size : length received ≡ length sent
   pub hit : (i : ℕ) → i < length keys → slot_in (key_at keys i) ≡ n →
       slice_index received (byte_in (key_at keys i)) ≡ flipped (bit_in (key_at keys i)) (slice_index sent (byte_in (key_at keys i)))
-  pub other : (x : ℕ) → ((i : ℕ) → i < length keys → slot_in (key_at keys i) ≡ n → byte_in (key_at keys i) ≡ x → ⊥) → slice_index received x ≡ slice_index sent x
+  pub other : (x : ℕ) → ((i : ℕ) → i < length keys → slot_in (key_at keys i) ≡ n → byte_in (key_at keys i) ≡ x → ⊥) →
+      slice_index received x ≡ slice_index sent x
 
 unfoldable pub script_after : Script → List (List ℕ) → Script
 script_after r [] = r

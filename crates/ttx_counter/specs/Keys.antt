@@ -54,7 +54,8 @@ AreOfOtherBytes keys from to = (i j : ℕ) → from ≤ i → i < j → j < to �
 -- the bits in these places are flipped
 pub record AreFlipped (keys : List ℕ) (from to : ℕ) (sent received : List ℕ) : Type 0 where
   pub size : length received ≡ length sent
-  pub hit : (i : ℕ) → from ≤ i → i < to → slice_index received (byte_in (key_at keys i)) ≡ flipped (bit_in (key_at keys i)) (slice_index sent (byte_in (key_at keys i)))
+  pub hit : (i : ℕ) → from ≤ i → i < to → slice_index received (byte_in (key_at keys i)) ≡ flipped (bit_in (key_at keys i)) (slice_index sent
+      (byte_in (key_at keys i)))
   pub other : (x : ℕ) → ((i : ℕ) → from ≤ i → i < to → byte_in (key_at keys i) ≡ x → ⊥) → slice_index received x ≡ slice_index sent x
 
 -- whether byte x of slot n is hit

@@ -9,7 +9,8 @@
 --   is_under, takes_from    whether a receiver takes something from a packet that it may show
 --   IsWrongAfter, TellsWrong        the View is wrong after n slots; the first such number
 --   PeriodsRepeat           a period that gives the memory back gives it back ever after
-use Rattle.std.specs.Prelude.{◌≡◌, ◌≢◌, ℕ, zero, suc, ◌+◌, ◌*◌, ◌≤◌, ◌<◌, ℤ, pos, ◌+ℤ◌, Bool, false, ◌&&◌, ◌||◌, ◌==◌, List, [], length, slice_get, Option, Some, None}
+use Rattle.std.specs.Prelude.{◌≡◌, ◌≢◌, ℕ, zero, suc, ◌+◌, ◌*◌, ◌≤◌, ◌<◌, ℤ, pos, ◌+ℤ◌, Bool, false, ◌&&◌, ◌||◌, ◌==◌, List, [], length, slice_get}
+use Rattle.std.specs.Prelude.{Option, Some, None}
 use Rattle.ttx_cycle.specs.Files.{IsCycle}
 use Rattle.ttx_page.specs.Packets.{Packet, Row, Links, packet_of}
 use Rattle.ttx_page.specs.Pages.{Page, IsPage, Fits, selected_mag}
@@ -33,26 +34,31 @@ plain_counter index any_sub former lines repeat deadline n =
 
 abbrev pub PlainRunsAreCounterRuns : Type 0
 PlainRunsAreCounterRuns =
-    (cycle : List (List ℕ)) (pages : List Page) (p : Page) (index : ℕ) (any_sub : Bool) (former : Memory) (lines repeat deadline n : ℕ) → IsCycle cycle →
-    slice_get pages index ≡ Some p → Fits pages p (selection_for any_sub p.id) → IsMemory former → AreCertificateNumbers lines repeat deadline → deadline * lines ≤ n →
+    (cycle : List (List ℕ)) (pages : List Page) (p : Page) (index : ℕ) (any_sub : Bool) (former : Memory) (lines repeat deadline n : ℕ) →
+    IsCycle cycle →
+    slice_get pages index ≡ Some p → Fits pages p (selection_for any_sub p.id) → IsMemory former → AreCertificateNumbers lines repeat deadline →
+    deadline * lines ≤ n →
     (HasView p (plain_from lines (selection_for any_sub p.id) former (repeated cycle) (pos 0) n) → ⊥) →
     IsCounterRun cycle pages (plain_counter index any_sub former lines repeat deadline n)
 
 abbrev pub AbsentPagesAreWrong : Type 0
 AbsentPagesAreWrong =
-    (s : Stream) (p : Page) (former : Memory) (lines n : ℕ) → ((j : ℤ) → heads_page p.id (packet_of (s j)) ≡ false) → former.storing ≡ false → former.links.six ≢ p.links.six →
+    (s : Stream) (p : Page) (former : Memory) (lines n : ℕ) → ((j : ℤ) → heads_page p.id (packet_of (s j)) ≡ false) → former.storing ≡ false →
+    former.links.six ≢ p.links.six →
     (tau : ℤ) → HasView p (plain_from lines (Exact p.id) former s tau n) → ⊥
 
 -- a page that is sent unchanged stays in the View of a receiver that holds it at first
 abbrev pub SteadyPagesStay : Type 0
 SteadyPagesStay =
-    (s : Stream) (pages : List Page) (p : Page) (sel : Selection) (lines n : ℕ) (tau : ℤ) → IsPage p → IsMemory (memory_of_page p) → Fits pages p sel → Steady s pages p →
+    (s : Stream) (pages : List Page) (p : Page) (sel : Selection) (lines n : ℕ) (tau : ℤ) → IsPage p → IsMemory (memory_of_page p) →
+    Fits pages p sel → Steady s pages p →
     HasView p (plain_from lines sel (memory_of_page p) s tau n)
 
 -- q periods of a cycle after one that gave the memory back
 abbrev pub PeriodsRepeat : Type 0
 PeriodsRepeat =
-    (cycle : List (List ℕ)) (lines : ℕ) (sel : Selection) (m : Memory) (q : ℕ) → 0 < length cycle → plain_from lines sel m (repeated cycle) (pos 0) (length cycle) ≡ m →
+    (cycle : List (List ℕ)) (lines : ℕ) (sel : Selection) (m : Memory) (q : ℕ) → 0 < length cycle →
+    plain_from lines sel m (repeated cycle) (pos 0) (length cycle) ≡ m →
     plain_from lines sel m (repeated cycle) (pos 0) (q * length cycle) ≡ m
 
 -- a row or an X/27/0 of the magazine

@@ -1,5 +1,6 @@
 -- That the header of a slot is a listed page's.
-use Rattle.std.proofs.Common.{◌≡◌, ℕ, zero, suc, ◌<◌, Bool, true, false, ◌&&◌, eqb, List, [], ◌∷◌, length, slice_get, Some, refl, sym, ◌∙◌, subst, inr, arith, eqb-true, eq-eqb}
+use Rattle.std.proofs.Common.{◌≡◌, ℕ, zero, suc, ◌<◌, Bool, true, false, ◌&&◌, eqb, List, [], ◌∷◌, length, slice_get, Some, refl, sym, ◌∙◌, subst}
+use Rattle.std.proofs.Common.{inr, arith, eqb-true, eq-eqb}
 use Rattle.std.specs.List.{Contains}
 use Rattle.std.proofs.lemmas.Option.{get_or_from_slice_get, slice_get_within}
 use Rattle.ttx_header.specs.Ids.{Id, same_id}

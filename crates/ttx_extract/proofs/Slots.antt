@@ -1,5 +1,6 @@
 -- The slots of a cycle's stream, and the first transmission of a list.
-use Rattle.std.proofs.Common.{◌≡◌, ℕ, true, false, eqb, ◌<◌, ℤ, pos, negsuc, ◌≤ℤ◌, List, [], ◌∷◌, length, get_or, refl, ap, mod-eq_of_lt, subst, arith}
+use Rattle.std.proofs.Common.{◌≡◌, ℕ, true, false, eqb, ◌<◌, ℤ, pos, negsuc, ◌≤ℤ◌, List, [], ◌∷◌, length, get_or, refl, ap, mod-eq_of_lt, subst}
+use Rattle.std.proofs.Common.{arith}
 use Rattle.std.proofs.lemmas.Int.{ints}
 use Rattle.std.specs.Prelude.{unsigned_abs}
 use Rattle.ttx_header.specs.Ids.{Id}

@@ -8,7 +8,8 @@
 --   HasReason, IsMinusZero    a page of some list has the reason; an offset that no text says
 --   Blames, AnswersFault    why pages aren't sent unchanged; why there is no text
 --   Extracts                what is answered for a cycle and lines of a field
-use Rattle.std.specs.Prelude.{◌≡◌, ◌⊎◌, ℕ, pos, true, List, [], ◌∷◌, take, length, Contains, slice_get, slice_index_or, string_bytes, ⊤, Option, Some, None, Result, Ok, Err, if◌then◌else◌, nat_le}
+use Rattle.std.specs.Prelude.{◌≡◌, ◌⊎◌, ℕ, pos, true, List, [], ◌∷◌, take, length, Contains, slice_get, slice_index_or, string_bytes, ⊤, Option, Some}
+use Rattle.std.specs.Prelude.{None, Result, Ok, Err, if◌then◌else◌, nat_le}
 use Rattle.ttx_packet.specs.Slots.{Kind, kind_of, IsInfo}
 use Rattle.ttx_header.specs.Ids.{Id}
 use Rattle.ttx_info.specs.Infos.{InfoFields, info_of}

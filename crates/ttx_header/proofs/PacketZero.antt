@@ -1,8 +1,10 @@
 -- The kind of a page header.
-use Rattle.std.proofs.Common.{◌≡◌, ℕ, ◌==◌, ◌&&◌, Bool, true, false, if◌then◌else◌, List, Option, Some, None, is_some, nat_le, refl, sym, ap, subst, ◌∙◌, slice_index, slice_range}
+use Rattle.std.proofs.Common.{◌≡◌, ℕ, ◌==◌, ◌&&◌, Bool, true, false, if◌then◌else◌, List, Option, Some, None, is_some, nat_le, refl, sym, ap, subst}
+use Rattle.std.proofs.Common.{◌∙◌, slice_index, slice_range}
 use Rattle.std.specs.Prelude.{unwrap_or}
 use Rattle.ttx_code.specs.Words.{reading}
-use Rattle.ttx_packet.specs.Slots.{Kind, IsEmpty, IsUnreadable, IsHeader, IsRow, IsLinks, IsInfo, IsOther, is_empty, are_readable, magazine, packet_number, links_kind, packet_kind, addressed_kind, kind_of, read_number}
+use Rattle.ttx_packet.specs.Slots.{Kind, IsEmpty, IsUnreadable, IsHeader, IsRow, IsLinks, IsInfo, IsOther, is_empty, are_readable, magazine}
+use Rattle.ttx_packet.specs.Slots.{packet_number, links_kind, packet_kind, addressed_kind, kind_of, read_number}
 use Rattle.ttx_header.proofs.Slices.{some_of}
 
 if_ind : {A : Type 0} (P : A → Type 0) (b : Bool) (x y : A) → (b ≡ true → P x) → (b ≡ false → P y) → P (if b then x else y)

@@ -1,5 +1,7 @@
 -- The fields of a page header by the numbers of its bytes.
-use Rattle.std.proofs.Common.{◌≡◌, ℕ, ◌+◌, ◌*◌, ◌/◌, ◌%◌, ◌<◌, ◌≤◌, ◌==◌, ◌&&◌, ◌||◌, Bool, true, false, List, [], ◌∷◌, ◌++◌, Option, Some, None, is_some, length, take, take_all, take_at, drop, drop_at, length-append, not, map, refl, sym, ap, subst, ◌∙◌, inl, inr, arith, eqb-true, eq-eqb, slice_index, slice_range}
+use Rattle.std.proofs.Common.{◌≡◌, ℕ, ◌+◌, ◌*◌, ◌/◌, ◌%◌, ◌<◌, ◌≤◌, ◌==◌, ◌&&◌, ◌||◌, Bool, true, false, List, [], ◌∷◌, ◌++◌, Option, Some, None}
+use Rattle.std.proofs.Common.{is_some, length, take, take_all, take_at, drop, drop_at, length-append, not, map, refl, sym, ap, subst, ◌∙◌, inl, inr}
+use Rattle.std.proofs.Common.{arith, eqb-true, eq-eqb, slice_index, slice_range}
 use Rattle.std.specs.Prelude.{unwrap_or}
 use Rattle.std.proofs.lemmas.Bool.{cases_Bool, and_parts}
 use Rattle.std.proofs.lemmas.Bool.Decides.{nat_tests}
@@ -10,7 +12,8 @@ use Rattle.ttx_packet.specs.Laws.{AddressIsReadBack, IsReadBack}
 use Rattle.ttx_header.specs.Ids.{id_at}
 use Rattle.ttx_header.specs.Fields.{HeaderFields, IsHeaderFields}
 use Rattle.ttx_header.specs.Headers.{ReadsFrom, number, numbers_of, header_bytes, id_of, control_of, fields_of, is_header}
-use Rattle.ttx_header.specs.Laws.{HeaderIsKept, HeadersHaveFields, HeadersAreHeaders, SaidHeadersAreRead, ReadHeadersAreSaid, WrittenHeadersAreRead, WordsAreKept, ReadableBytesHaveNumbers, AreNumbers, WrittenWordsAreRead}
+use Rattle.ttx_header.specs.Laws.{HeaderIsKept, HeadersHaveFields, HeadersAreHeaders, SaidHeadersAreRead, ReadHeadersAreSaid, WrittenHeadersAreRead}
+use Rattle.ttx_header.specs.Laws.{WordsAreKept, ReadableBytesHaveNumbers, AreNumbers, WrittenWordsAreRead}
 use Rattle.ttx_header.proofs.Slices.{length_range, some_of, passes_at, passes_in, read_bytes_are_readable}
 use Rattle.ttx_header.proofs.PacketZero.{HeaderCase, header_case, kind_of_header}
 

@@ -1,5 +1,6 @@
 -- Parts of a packet, byte by byte.
-use Rattle.std.proofs.Common.{◌≡◌, ℕ, zero, suc, ◌+◌, ◌-◌, ◌<◌, ◌≤◌, Bool, true, false, ◌&&◌, List, [], ◌∷◌, ◌++◌, Option, Some, None, is_some, length, get_or, drop, map, refl, ap, subst, ◌∙◌, arith, slice_index, slice_range}
+use Rattle.std.proofs.Common.{◌≡◌, ℕ, zero, suc, ◌+◌, ◌-◌, ◌<◌, ◌≤◌, Bool, true, false, ◌&&◌, List, [], ◌∷◌, ◌++◌, Option, Some, None, is_some}
+use Rattle.std.proofs.Common.{length, get_or, drop, map, refl, ap, subst, ◌∙◌, arith, slice_index, slice_range}
 use Rattle.std.specs.List.{list_all}
 use Rattle.std.specs.Prelude.{unwrap_or}
 use Rattle.std.proofs.lemmas.Bool.{and_parts}
@@ -9,7 +10,8 @@ use Rattle.ttx_code.specs.Words.{reading, hamming_word, is_word}
 use Rattle.ttx_code.specs.Laws.{ReadingsAreNumbers, WordsAreReadUnderOneWrongBit, WordsAreRead, WordsAreWords}
 use Rattle.ttx_packet.specs.Slots.{are_words}
 use Rattle.ttx_header.specs.Headers.{ReadsFrom}
-use Rattle.ttx_header.specs.Laws.{WordsAreKept, AreNumbers, ReadBytesAreReadable, ReadableBytesHaveNumbers, ReadNumbersAreNumbers, WrittenWordsAreRead}
+use Rattle.ttx_header.specs.Laws.{WordsAreKept, AreNumbers, ReadBytesAreReadable, ReadableBytesHaveNumbers, ReadNumbersAreNumbers}
+use Rattle.ttx_header.specs.Laws.{WrittenWordsAreRead}
 
 pub at_range : (s : List ℕ) (a b k : ℕ) (d : ℕ) → k < b - a → get_or (slice_range s a b) k d ≡ get_or s (a + k) d
 at_range s a b k d l = get_or-take (b - a) (drop a s) k d l ∙ get_or-drop a s k d

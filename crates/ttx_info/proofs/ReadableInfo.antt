@@ -1,5 +1,7 @@
 -- A readable packet 8/30 format 1 says what is read of it.
-use Rattle.std.proofs.Common.{◌≡◌, ℕ, zero, suc, ◌+◌, ◌-◌, ◌/◌, ◌%◌, ◌<◌, ◌≤◌, ◌||◌, Bool, true, false, not, nat_lt, nat_le, List, [], ◌∷◌, All, Option, Some, None, Result, Ok, Err, if◌then◌else◌, is_some, length, get_or, drop, map, refl, sym, ap, ap₂, subst, ◌∙◌, arith, eqb, slice_index, slice_range}
+use Rattle.std.proofs.Common.{◌≡◌, ℕ, zero, suc, ◌+◌, ◌-◌, ◌/◌, ◌%◌, ◌<◌, ◌≤◌, ◌||◌, Bool, true, false, not, nat_lt, nat_le, List, [], ◌∷◌, All}
+use Rattle.std.proofs.Common.{Option, Some, None, Result, Ok, Err, if◌then◌else◌, is_some, length, get_or, drop, map, refl, sym, ap, ap₂, subst, ◌∙◌}
+use Rattle.std.proofs.Common.{arith, eqb, slice_index, slice_range}
 use Rattle.std.specs.List.{list_all}
 use Rattle.std.specs.Prelude.{unwrap_or}
 use Rattle.std.proofs.lemmas.Bool.{agree_below, agree_below_at, and_parts, eqb-true}
@@ -10,7 +12,8 @@ use Rattle.ttx_packet.specs.Slots.{IsSlot, are_readable}
 use Rattle.ttx_header.specs.Headers.{number}
 use Rattle.ttx_links.specs.Laws.{ReadLinkIsSaid}
 use Rattle.ttx_links.specs.Sets.{IsLink}
-use Rattle.ttx_info.specs.Infos.{InfoFields, IsInfoFields, is_digit, value_of, date_digits, time_digits, date_halves, time_halves, info_fields, info_of, SaysInfo}
+use Rattle.ttx_info.specs.Infos.{InfoFields, IsInfoFields, is_digit, value_of, date_digits, time_digits, date_halves, time_halves, info_fields}
+use Rattle.ttx_info.specs.Infos.{info_of, SaysInfo}
 use Rattle.ttx_info.specs.Laws.{ReadInfosAreSaid}
 use Rattle.ttx_info.specs.declared.faults.InfoFault.{InfoFault}
 

@@ -1,5 +1,7 @@
 -- A packet 8/30 format 1 that is written.
-use Rattle.std.proofs.Common.{◌≡◌, ℕ, ◌+◌, ◌*◌, ◌/◌, ◌%◌, ◌<◌, ◌==◌, ◌||◌, Bool, true, false, List, [], ◌∷◌, ◌++◌, Option, Some, None, length, length-append, append_assoc, take, drop, take_at, take_all, drop_at, map, refl, sym, ap, subst, ◌∙◌, arith, slice_index, slice_range, get_or, ◌-◌}
+use Rattle.std.proofs.Common.{◌≡◌, ℕ, ◌+◌, ◌*◌, ◌/◌, ◌%◌, ◌<◌, ◌==◌, ◌||◌, Bool, true, false, List, [], ◌∷◌, ◌++◌, Option, Some, None, length}
+use Rattle.std.proofs.Common.{length-append, append_assoc, take, drop, take_at, take_all, drop_at, map, refl, sym, ap, subst, ◌∙◌, arith, slice_index}
+use Rattle.std.proofs.Common.{slice_range, get_or, ◌-◌}
 use Rattle.std.proofs.lemmas.Bool.Decides.{nat_tests}
 use Rattle.std.proofs.lemmas.List.{get_or-take, get_or-drop, length-map}
 use Rattle.ttx_code.specs.Words.{reading, hamming_word, odd_byte}
@@ -9,7 +11,8 @@ use Rattle.ttx_packet.specs.Laws.{AddressIsReadBack, IsReadBack}
 use Rattle.ttx_header.specs.Ids.{Id}
 use Rattle.ttx_links.specs.Sets.{link_bytes, SaysLink}
 use Rattle.ttx_links.specs.Laws.{SaidLinkIsRead, WrittenLinkIsSaid}
-use Rattle.ttx_info.specs.Infos.{half_byte, offset_byte, date_bytes, time_bytes, date_digits, time_digits, date_halves, time_halves, info_bytes, SaysInfo}
+use Rattle.ttx_info.specs.Infos.{half_byte, offset_byte, date_bytes, time_bytes, date_digits, time_digits, date_halves, time_halves, info_bytes}
+use Rattle.ttx_info.specs.Infos.{SaysInfo}
 use Rattle.ttx_info.specs.Laws.{WrittenInfosAreRead}
 use Rattle.ttx_info.proofs.SaidInfo.{info_said}
 

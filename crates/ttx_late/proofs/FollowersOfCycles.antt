@@ -1,5 +1,7 @@
 -- Whether a header is followed by one of another page number, read round the cycle.
-use Rattle.std.proofs.Common.{◌+ℤ◌, ◌≤ℤ◌, ◌≡◌, ℕ, ◌+◌, ◌-◌, ◌%◌, ◌<◌, ◌≤◌, ℤ, pos, ◌-ℤ◌, ◌<ℤ◌, nat_abs, Bool, true, false, not, ◌&&◌, ◌==◌, List, [], length, get_or, slice_get, Option, Some, None, SomeIff, MatchOption, refl, sym, ap, ◌∙◌, subst, inl, inr, arith, eqb-true, eq-eqb, mod-eq_of_lt}
+use Rattle.std.proofs.Common.{◌+ℤ◌, ◌≤ℤ◌, ◌≡◌, ℕ, ◌+◌, ◌-◌, ◌%◌, ◌<◌, ◌≤◌, ℤ, pos, ◌-ℤ◌, ◌<ℤ◌, nat_abs, Bool, true, false, not, ◌&&◌, ◌==◌, List, []}
+use Rattle.std.proofs.Common.{length, get_or, slice_get, Option, Some, None, SomeIff, MatchOption, refl, sym, ap, ◌∙◌, subst, inl, inr, arith}
+use Rattle.std.proofs.Common.{eqb-true, eq-eqb, mod-eq_of_lt}
 use Rattle.std.proofs.lemmas.Int.{ints}
 use Rattle.std.proofs.lemmas.Bool.{cases_lt}
 use Rattle.std.proofs.lemmas.Option.{slice_get_within}

@@ -1,11 +1,13 @@
 -- A packet X/27/0 that is said by its bytes.
-use Rattle.std.proofs.Common.{◌≡◌, ℕ, zero, suc, ◌+◌, ◌*◌, ◌/◌, ◌%◌, ◌<◌, ◌==◌, List, [], ◌∷◌, ◌++◌, Option, Some, None, length, length-append, refl, ap, ap₂, subst, ◌∙◌, arith, true, bit_xor, slice_range}
+use Rattle.std.proofs.Common.{◌≡◌, ℕ, zero, suc, ◌+◌, ◌*◌, ◌/◌, ◌%◌, ◌<◌, ◌==◌, List, [], ◌∷◌, ◌++◌, Option, Some, None, length, length-append, refl}
+use Rattle.std.proofs.Common.{ap, ap₂, subst, ◌∙◌, arith, true, bit_xor, slice_range}
 use Rattle.std.specs.Prelude.{unwrap_or}
 use Rattle.ttx_packet.specs.Slots.{are_readable, magazine}
 use Rattle.ttx_header.specs.Headers.{ReadsFrom, number}
 use Rattle.ttx_header.specs.Ids.{Id, id_at, IsSubcode}
 use Rattle.ttx_header.specs.Laws.{ReadBytesAreReadable, ReadNumbersAreNumbers}
-use Rattle.ttx_links.specs.Sets.{LinksFields, IsLinksFields, IsLink, AreLinks, link_numbers, numbers_for, no_link, target_magazine, target_at, linked, link_at, links_of, SaysLink, SaysEach, SaysLinks}
+use Rattle.ttx_links.specs.Sets.{LinksFields, IsLinksFields, IsLink, AreLinks, link_numbers, numbers_for, no_link, target_magazine, target_at, linked}
+use Rattle.ttx_links.specs.Sets.{link_at, links_of, SaysLink, SaysEach, SaysLinks}
 use Rattle.ttx_links.specs.Laws.{SaidLinkIsRead}
 use Rattle.ttx_links.proofs.Magazines.{xor_below_8, xor_back, magazine_back}
 

@@ -1,5 +1,7 @@
 -- A packet X/27/0 that is written.
-use Rattle.std.proofs.Common.{◌≡◌, ℕ, ◌+◌, ◌*◌, ◌/◌, ◌%◌, ◌<◌, ◌==◌, ◌&&◌, ◌||◌, Bool, true, false, if◌then◌else◌, List, [], ◌∷◌, ◌++◌, Option, Some, None, length, length-append, append_assoc, take, take_at, take_all, drop_at, flat_map, refl, sym, ap, subst, ◌∙◌, arith, bit_xor, slice_index, slice_range}
+use Rattle.std.proofs.Common.{◌≡◌, ℕ, ◌+◌, ◌*◌, ◌/◌, ◌%◌, ◌<◌, ◌==◌, ◌&&◌, ◌||◌, Bool, true, false, if◌then◌else◌, List, [], ◌∷◌, ◌++◌, Option, Some}
+use Rattle.std.proofs.Common.{None, length, length-append, append_assoc, take, take_at, take_all, drop_at, flat_map, refl, sym, ap, subst, ◌∙◌, arith}
+use Rattle.std.proofs.Common.{bit_xor, slice_index, slice_range}
 use Rattle.std.proofs.lemmas.List.Folds.{list_all-append}
 use Rattle.ttx_code.specs.Words.{reading, hamming_word, is_word}
 use Rattle.ttx_code.specs.Laws.{WordsAreRead, WordsAreWords}
@@ -7,7 +9,8 @@ use Rattle.ttx_packet.specs.Slots.{IsLinks, is_empty, is_clean, are_words, addre
 use Rattle.ttx_packet.specs.Laws.{AddressIsReadBack, IsReadBack}
 use Rattle.ttx_header.specs.Ids.{Id, IsSubcode}
 use Rattle.ttx_header.specs.Laws.{WrittenWordsAreRead, AreNumbers, ReadNumbersAreNumbers, ReadBytesAreReadable}
-use Rattle.ttx_links.specs.Sets.{IsLink, AreLinks, link_numbers, numbers_for, no_link, link_bytes, control_byte, links_bytes, SaysLink, SaysEach, SaysLinks}
+use Rattle.ttx_links.specs.Sets.{IsLink, AreLinks, link_numbers, numbers_for, no_link, link_bytes, control_byte, links_bytes, SaysLink, SaysEach}
+use Rattle.ttx_links.specs.Sets.{SaysLinks}
 use Rattle.ttx_links.specs.Laws.{WrittenLinkIsSaid, WrittenLinksAreRead}
 use Rattle.ttx_links.proofs.Magazines.{xor_below_8}
 use Rattle.ttx_links.proofs.SaidLinks.{links_said}

@@ -1,5 +1,6 @@
 -- A packet that begins with a written address.
-use Rattle.std.proofs.Common.{◌≡◌, ℕ, ◌+◌, ◌*◌, ◌/◌, ◌%◌, ◌<◌, ◌≤◌, ◌==◌, ◌&&◌, Bool, true, false, if◌then◌else◌, ◌++◌, Some, refl, ap, ap₂, ◌∙◌, arith, inl, inr, eqb, eqb-true}
+use Rattle.std.proofs.Common.{◌≡◌, ℕ, ◌+◌, ◌*◌, ◌/◌, ◌%◌, ◌<◌, ◌≤◌, ◌==◌, ◌&&◌, Bool, true, false, if◌then◌else◌, ◌++◌, Some, refl, ap, ap₂, ◌∙◌}
+use Rattle.std.proofs.Common.{arith, inl, inr, eqb, eqb-true}
 use Rattle.std.specs.Prelude.{unwrap_or}
 use Rattle.std.proofs.lemmas.Bool.{cases_Bool, agree_below_at}
 use Rattle.std.proofs.lemmas.Bool.Decides.{nat_tests}

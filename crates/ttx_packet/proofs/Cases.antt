@@ -1,9 +1,11 @@
 -- The kind of a slot by its cases.
-use Rattle.std.proofs.Common.{◌≡◌, ℕ, ◌≤◌, Bool, true, false, ◌&&◌, ◌==◌, if◌then◌else◌, List, Option, Some, None, nat_le, refl, sym, ap, ◌∙◌, inl, inr, arith, eqb-true, slice_index}
+use Rattle.std.proofs.Common.{◌≡◌, ℕ, ◌≤◌, Bool, true, false, ◌&&◌, ◌==◌, if◌then◌else◌, List, Option, Some, None, nat_le, refl, sym, ap, ◌∙◌, inl}
+use Rattle.std.proofs.Common.{inr, arith, eqb-true, slice_index}
 use Rattle.std.specs.List.{slice_range}
 use Rattle.std.proofs.lemmas.Bool.{cases_Bool}
 use Rattle.ttx_code.specs.Words.{reading}
-use Rattle.ttx_packet.specs.Slots.{Kind, IsEmpty, IsUnreadable, IsHeader, IsRow, IsLinks, IsInfo, IsOther, is_empty, are_readable, magazine, packet_number, links_kind, packet_kind, addressed_kind, kind_of}
+use Rattle.ttx_packet.specs.Slots.{Kind, IsEmpty, IsUnreadable, IsHeader, IsRow, IsLinks, IsInfo, IsOther, is_empty, are_readable, magazine}
+use Rattle.ttx_packet.specs.Slots.{packet_number, links_kind, packet_kind, addressed_kind, kind_of}
 use Rattle.ttx_packet.specs.Receptions.{IsFree}
 use Rattle.ttx_packet.proofs.Choices.{if_ind, no_both}
 

@@ -4,7 +4,8 @@ use Rattle.std.proofs.lemmas.Bool.{leb-true}
 use Rattle.std.proofs.lemmas.Bool.Decides.{nat_tests}
 use Rattle.std.specs.Prelude.{nat_le}
 use Rattle.ttx_code.specs.Words.{reading}
-use Rattle.ttx_packet.specs.Slots.{Kind, IsEmpty, IsUnreadable, IsHeader, IsRow, IsLinks, IsInfo, IsOther, is_empty, packet_kind, links_kind, addressed_kind, kind_of}
+use Rattle.ttx_packet.specs.Slots.{Kind, IsEmpty, IsUnreadable, IsHeader, IsRow, IsLinks, IsInfo, IsOther, is_empty, packet_kind, links_kind}
+use Rattle.ttx_packet.specs.Slots.{addressed_kind, kind_of}
 use Rattle.ttx_packet.proofs.Choices.{if_ind}
 
 -- the number of a row is 1 to 24

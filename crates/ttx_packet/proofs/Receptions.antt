@@ -1,5 +1,6 @@
 -- One wrong bit in each byte leaves the kind of a clean slot.
-use Rattle.std.proofs.Common.{◌≡◌, ◌⊎◌, ℕ, ◌+◌, ◌-◌, subst, ◌<◌, ◌≤◌, ◌==◌, true, false, List, Some, length, get_or, drop, is_some, refl, sym, ap, ◌∙◌, inl, inr, arith, eqb-true, slice_index, get_or-take, get_or-drop, length-take-le, length-drop}
+use Rattle.std.proofs.Common.{◌≡◌, ◌⊎◌, ℕ, ◌+◌, ◌-◌, subst, ◌<◌, ◌≤◌, ◌==◌, true, false, List, Some, length, get_or, drop, is_some, refl, sym, ap}
+use Rattle.std.proofs.Common.{◌∙◌, inl, inr, arith, eqb-true, slice_index, get_or-take, get_or-drop, length-take-le, length-drop}
 use Rattle.std.specs.List.{slice_range}
 use Rattle.std.proofs.lemmas.Bool.{cases_Bool, and_parts}
 use Rattle.ttx_code.specs.Words.{reading, number_of, is_word, hamming_word, distance, ones}

@@ -4,7 +4,8 @@ use Rattle.ttx_header.specs.Control.{c4, c11}
 use Rattle.ttx_page.specs.Packets.{Header, Row, Links, packet_of}
 use Rattle.ttx_page.specs.Pages.{Any, Clearing, selected_mag, matches}
 use Rattle.ttx_page.specs.Memories.{Memory, memory_row}
-use Rattle.ttx_page.specs.Receivers.{older, erased, begun, with_storing, with_row, with_links, stored_row, after, has_choice, next_choice, later_choices}
+use Rattle.ttx_page.specs.Receivers.{older, erased, begun, with_storing, with_row, with_links, stored_row, after, has_choice, next_choice}
+use Rattle.ttx_page.specs.Receivers.{later_choices}
 use Rattle.ttx_page.specs.Laws.{EachListRuns, ScriptedRuns, ChoicesAreChoices}
 
 -- a row or an X/27/0

@@ -1,5 +1,6 @@
 -- What keeps rows and memories in their ranges.
-use Rattle.std.proofs.Common.{◌≡◌, ℕ, zero, suc, ◌-◌, ◌%◌, ◌<◌, ◌≤◌, Bool, true, false, if◌then◌else◌, List, [], ◌∷◌, ◌++◌, length, get_or, take, drop, set, replicate, refl, ap, ◌∙◌, subst, arith, lit<, length-append}
+use Rattle.std.proofs.Common.{◌≡◌, ℕ, zero, suc, ◌-◌, ◌%◌, ◌<◌, ◌≤◌, Bool, true, false, if◌then◌else◌, List, [], ◌∷◌, ◌++◌, length, get_or, take}
+use Rattle.std.proofs.Common.{drop, set, replicate, refl, ap, ◌∙◌, subst, arith, lit<, length-append}
 use Rattle.std.specs.Simd.Lanes.{zip2}
 use Rattle.ttx_code.specs.Words.{stored, is_odd, ones}
 use Rattle.ttx_page.specs.Pages.{Page, IsPage, IsRow, blank_row}

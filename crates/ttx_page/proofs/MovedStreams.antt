@@ -6,7 +6,8 @@ use Rattle.std.proofs.lemmas.Int.{ints}
 use Rattle.ttx_header.specs.Ids.{Id}
 use Rattle.ttx_page.specs.Packets.{packet_of}
 use Rattle.ttx_page.specs.Pages.{Item, TheHead, TheRow, TheLinks}
-use Rattle.ttx_page.specs.Streams.{Stream, heads, heads_page, ends_serial, carries, IsLatestHeader, IsOwned, IsTransmission, IsSure, CannotBeMissed, IsSureTransmission, AreSuccessive, IsRun}
+use Rattle.ttx_page.specs.Streams.{Stream, heads, heads_page, ends_serial, carries, IsLatestHeader, IsOwned, IsTransmission, IsSure, CannotBeMissed}
+use Rattle.ttx_page.specs.Streams.{IsSureTransmission, AreSuccessive, IsRun}
 use Rattle.ttx_page.specs.Laws.{IsSameOn, StreamsMove}
 
 same_back : (s : Stream) (d : ℤ) → IsSameOn s d → IsSameOn s (pos 0 -ℤ d)

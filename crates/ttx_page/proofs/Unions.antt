@@ -1,5 +1,6 @@
 -- The union of bytes, bit by bit, and bit 7 in it.
-use Rattle.std.proofs.Common.{◌≡◌, ◌∙◌, ◌↔◌, ℕ, ◌+◌, ◌<◌, true, ◌&&◌, IsTrue, List, nat_lt, get_or, bit_or, inl, inr, refl, ap₂, sym, subst, arith, lt-ltb, ltb-true}
+use Rattle.std.proofs.Common.{◌≡◌, ◌∙◌, ◌↔◌, ℕ, ◌+◌, ◌<◌, true, ◌&&◌, IsTrue, List, nat_lt, get_or, bit_or, inl, inr, refl, ap₂, sym, subst, arith}
+use Rattle.std.proofs.Common.{lt-ltb, ltb-true}
 use Rattle.std.proofs.lemmas.Bool.{agree_below, agree_below_at, and_parts, cases_Bool}
 use Rattle.std.proofs.lemmas.Bool.Decides.{nat_tests}
 

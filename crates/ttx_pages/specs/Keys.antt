@@ -6,7 +6,8 @@
 --   opened, opens           the page that each magazine has open after a slot, and after slots; 0 where it has none
 --   page_open_at, owners_from, owners      the page of each slot of a cycle that is sent again and again
 --   sent_key, keys_from, keys_sent      the same of its headers, rows or packets X/27/0 alone
-use Rattle.std.specs.Prelude.{ℕ, ◌+◌, ◌*◌, ◌-◌, Bool, ◌&&◌, ◌==◌, List, [], ◌∷◌, ◌++◌, fold, replicate, slice_index, slice_set, Option, Some, None, if◌then◌else◌}
+use Rattle.std.specs.Prelude.{ℕ, ◌+◌, ◌*◌, ◌-◌, Bool, ◌&&◌, ◌==◌, List, [], ◌∷◌, ◌++◌, fold, replicate, slice_index, slice_set, Option, Some, None}
+use Rattle.std.specs.Prelude.{if◌then◌else◌}
 use Rattle.std.specs.List.{find, flat_map, range_with_len}
 use Rattle.ttx_header.specs.Headers.{id_of, is_header}
 use Rattle.ttx_header.specs.Ids.{Id}

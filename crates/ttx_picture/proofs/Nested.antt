@@ -1,5 +1,6 @@
 -- The tags of pictures are nested.
-use Rattle.std.proofs.Common.{◌≡◌, ◌∙◌, ℕ, ◌+◌, ◌*◌, Bool, true, false, not, ◌||◌, ◌&&◌, ◌==◌, if◌then◌else◌, List, [], ◌∷◌, ◌++◌, codes, fold, Option, Some, None, refl, ap}
+use Rattle.std.proofs.Common.{◌≡◌, ◌∙◌, ℕ, ◌+◌, ◌*◌, Bool, true, false, not, ◌||◌, ◌&&◌, ◌==◌, if◌then◌else◌, List, [], ◌∷◌, ◌++◌, codes, fold}
+use Rattle.std.proofs.Common.{Option, Some, None, refl, ap}
 use Rattle.std.proofs.lemmas.Bool.{or_parts}
 use Rattle.std.proofs.lemmas.List.Sums.{fold-append}
 use Rattle.std.specs.List.{AllByRecursion, list_all}
@@ -11,10 +12,15 @@ use Rattle.ttx_picture.specs.declared.svg.pens.Pen.{Pen}
 use Rattle.ttx_picture.specs.declared.svg.pens.Layer.{Layer}
 use Rattle.ttx_picture.specs.declared.svg.pens.Layer.TheVariants.{Ground, Top, Middle, Bottom}
 use Rattle.ttx_picture.specs.Escapes.{escaped}
-use Rattle.ttx_picture.specs.Html.{key_class, key_start, key_title, key_end, key_html, coloured_link, keys_html, html_start, page_style, key_style, head_end, head_html, picture_html, nav_html, text_html, html_of}
+use Rattle.ttx_picture.specs.Html.{key_class, key_start, key_title, key_end, key_html, coloured_link, keys_html, html_start, page_style, key_style}
+use Rattle.ttx_picture.specs.Html.{head_end, head_html, picture_html, nav_html, text_html, html_of}
 use Rattle.ttx_picture.specs.Laws.{is_markup, TagsAreNested}
 use Rattle.ttx_picture.specs.Shown.{char_of, are_blank}
-use Rattle.ttx_picture.specs.Svg.{is_pen, pen_text, ink, cell_halves, layer_text, height_text, lowered, lifted, path_start, path_end, stroke, pen_after, is_down, strokes, drawn, letter_of, has_no_letters, span_start, span_end, letter_text, span_after, letters, text_start, row_letters, pass, has_upper, group_start, row_ground, row_tall, row_glyphs, grounds_from, glyphs_from, black_screen, body, path_style, gap_style, text_style, ink_style, picture_style, flash_style, style, svg_start, svg_of}
+use Rattle.ttx_picture.specs.Svg.{is_pen, pen_text, ink, cell_halves, layer_text, height_text, lowered, lifted, path_start, path_end, stroke}
+use Rattle.ttx_picture.specs.Svg.{pen_after, is_down, strokes, drawn, letter_of, has_no_letters, span_start, span_end, letter_text, span_after}
+use Rattle.ttx_picture.specs.Svg.{letters, text_start, row_letters, pass, has_upper, group_start, row_ground, row_tall, row_glyphs, grounds_from}
+use Rattle.ttx_picture.specs.Svg.{glyphs_from, black_screen, body, path_style, gap_style, text_style, ink_style, picture_style, flash_style, style}
+use Rattle.ttx_picture.specs.Svg.{svg_start, svg_of}
 use Rattle.ttx_picture.specs.Tags.{is_ruled, Place, InText, InName, InValue, Reading, reading_at, read, IsNested}
 use Rattle.ttx_picture.specs.Text.{cells_text, rows_text}
 use Rattle.ttx_picture.proofs.Quiet.{quiet, IsQuiet, calm, with_quiet, either_quiet, decimal_quiet, id_quiet, escaped_quiet, char_low, letter_low}

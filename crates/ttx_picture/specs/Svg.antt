@@ -6,7 +6,8 @@
 --   letters, row_letters    the characters of a row, a span for each pen
 --   pass, row_glyphs        single height, and over it double height, drawn twice as high
 --   body, svg_of            all grounds, then all glyphs; the whole picture
-use Rattle.std.specs.Prelude.{ℕ, ◌+◌, ◌*◌, ◌/◌, ◌%◌, ◌==◌, Bool, true, false, not, ◌&&◌, ◌||◌, List, [], ◌∷◌, ◌++◌, codes, Option, Some, None, if◌then◌else◌}
+use Rattle.std.specs.Prelude.{ℕ, ◌+◌, ◌*◌, ◌/◌, ◌%◌, ◌==◌, Bool, true, false, not, ◌&&◌, ◌||◌, List, [], ◌∷◌, ◌++◌, codes, Option, Some, None}
+use Rattle.std.specs.Prelude.{if◌then◌else◌}
 use Rattle.std.specs.Fmt.{decimal}
 use Rattle.ttx_render.specs.declared.cells.Glyph.{Glyph}
 use Rattle.ttx_render.specs.declared.cells.Glyph.TheVariants.{Char, Mosaic}

@@ -1,5 +1,6 @@
 -- Each slot of a planned cycle is read as what it is.
-use Rattle.std.proofs.Common.{◌≡◌, ℕ, zero, suc, ◌+◌, ◌-◌, ◌<◌, ◌≤◌, Bool, true, false, cond, eqb, List, [], ◌∷◌, map, length, replicate, get_or, Option, Some, None, refl, sym, ap, ◌∙◌, subst, inl, inr, arith}
+use Rattle.std.proofs.Common.{◌≡◌, ℕ, zero, suc, ◌+◌, ◌-◌, ◌<◌, ◌≤◌, Bool, true, false, cond, eqb, List, [], ◌∷◌, map, length, replicate, get_or}
+use Rattle.std.proofs.Common.{Option, Some, None, refl, sym, ap, ◌∙◌, subst, inl, inr, arith}
 use Rattle.std.specs.Prelude.{All, slice_get, flat_map, option_map}
 use Rattle.std.specs.List.{AllByRecursion}
 use Rattle.std.proofs.lemmas.Bool.{cond-true, cond-false, cases_Bool, eqb-true}
@@ -16,12 +17,14 @@ use Rattle.ttx_source.specs.Services.{Authored, IsAuthored}
 use Rattle.ttx_plan.specs.declared.packet.Packet.{Packet}
 use Rattle.ttx_plan.specs.declared.packet.Slot.{Slot}
 use Rattle.ttx_plan.specs.declared.packet.Slot.TheVariants.{Empty, Info, Sent}
-use Rattle.ttx_plan.specs.Blocks.{Block, header_packet, rest_packet, page_packets, filler_of, packets_of, has_pages, used_to, used_queues, time_filling_packet, queue_packets}
+use Rattle.ttx_plan.specs.Blocks.{Block, header_packet, rest_packet, page_packets, filler_of, packets_of, has_pages, used_to, used_queues}
+use Rattle.ttx_plan.specs.Blocks.{time_filling_packet, queue_packets}
 use Rattle.ttx_plan.specs.Carries.{magazines_for, block_at, blocks_of, blocks_sent}
 use Rattle.ttx_plan.specs.Contents.{page_header_bytes, page_row_bytes, page_links_bytes, is_sent_to, sent_rows}
 use Rattle.ttx_plan.specs.Laws.{IsSaid}
 use Rattle.ttx_plan.specs.Serial.{serial_page, serial_block, serial_list, info_if, with_info, serial_slots}
-use Rattle.ttx_plan.specs.Turns.{KeepsTurns, sent_by, next_slot, chosen, sending, is_ready, next_of, turn_from, order, is_info_due, or_info, slot_after, missing, Magazines}
+use Rattle.ttx_plan.specs.Turns.{KeepsTurns, sent_by, next_slot, chosen, sending, is_ready, next_of, turn_from, order, is_info_due, or_info}
+use Rattle.ttx_plan.specs.Turns.{slot_after, missing, Magazines}
 use Rattle.std.specs.List.{find}
 use Rattle.ttx_plan.proofs.InQueues.{queue_at_is}
 use Rattle.ttx_plan.proofs.Lists.{all_append, all_map, all_replicate, all_if, all_flat_map, all_get}

@@ -1,5 +1,6 @@
 -- The cursors say what looking back says.
-use Rattle.std.proofs.Common.{◌≡◌, ℕ, suc, ◌+◌, ◌-◌, ◌<◌, ◌≤◌, Bool, true, false, not, ◌&&◌, cond, List, [], ◌∷◌, length, take, Option, Some, None, refl, sym, ap, ◌∙◌, subst, arith, inl, inr, ltb, eqb, get_or, set, get_or-set_other}
+use Rattle.std.proofs.Common.{◌≡◌, ℕ, suc, ◌+◌, ◌-◌, ◌<◌, ◌≤◌, Bool, true, false, not, ◌&&◌, cond, List, [], ◌∷◌, length, take, Option, Some, None}
+use Rattle.std.proofs.Common.{refl, sym, ap, ◌∙◌, subst, arith, inl, inr, ltb, eqb, get_or, set, get_or-set_other}
 use Rattle.std.specs.Prelude.{slice_get, Vec}
 use Rattle.std.specs.List.{list_any, find}
 use Rattle.std.specs.declared.alloc.Global.{Global}
@@ -12,7 +13,8 @@ use Rattle.ttx_plan.specs.declared.packet.Slot.{Slot}
 use Rattle.ttx_plan.specs.declared.packet.Slot.TheVariants.{Empty, Info, Sent}
 use Rattle.ttx_plan.specs.declared.cursors.Cursors.{Cursors}
 use Rattle.ttx_plan.specs.Packets.{has_header, is_page_header, is_row_or_links}
-use Rattle.ttx_plan.specs.Turns.{Magazines, sent_by, turn_from, order, next_of, may_go, is_ready, sending, chosen, next_slot, is_info_due, or_info, slot_after}
+use Rattle.ttx_plan.specs.Turns.{Magazines, sent_by, turn_from, order, next_of, may_go, is_ready, sending, chosen, next_slot, is_info_due, or_info}
+use Rattle.ttx_plan.specs.Turns.{slot_after}
 use Rattle.ttx_plan.specs.Cursors.{queue_at, offered, is_free, picked, slot_by_cursors, cursors_after, magazines_of}
 use Rattle.ttx_plan.proofs.WaitingMagazines.{until, recent_until}
 use Rattle.ttx_plan.proofs.Orders.{order_same, found_ready}

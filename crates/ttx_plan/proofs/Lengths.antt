@@ -1,5 +1,6 @@
 -- The queues hold what the bound on the length counts, and the slots of a serial cycle are within it.
-use Rattle.std.proofs.Common.{◌≡◌, ℕ, zero, suc, ◌+◌, ◌*◌, ◌<◌, ◌≤◌, Bool, true, false, cond, List, [], ◌∷◌, ◌++◌, map, length, replicate, Option, refl, sym, ap, ◌∙◌, subst, arith, inl, inr, eqb, length-append, get_or}
+use Rattle.std.proofs.Common.{◌≡◌, ℕ, zero, suc, ◌+◌, ◌*◌, ◌<◌, ◌≤◌, Bool, true, false, cond, List, [], ◌∷◌, ◌++◌, map, length, replicate, Option}
+use Rattle.std.proofs.Common.{refl, sym, ap, ◌∙◌, subst, arith, inl, inr, eqb, length-append, get_or}
 use Rattle.std.specs.Prelude.{flat_map, sum_by}
 use Rattle.std.proofs.lemmas.List.{map-append, length-map, length-replicate}
 use Rattle.std.proofs.lemmas.List.Sums.{sum_by-cons}
@@ -8,7 +9,8 @@ use Rattle.ttx_plan.specs.declared.packet.Packet.{Packet}
 use Rattle.ttx_plan.specs.declared.packet.Slot.{Slot}
 use Rattle.ttx_plan.specs.declared.packet.Slot.TheVariants.{Empty, Sent}
 use Rattle.ttx_plan.specs.declared.rounds.SentBlock.{SentBlock}
-use Rattle.ttx_plan.specs.Blocks.{Block, rest_packet, filler_of, page_packets, packets_of, has_pages, used_to, used_queues, time_filling_packet, queue_packets, queues_to, packets_in}
+use Rattle.ttx_plan.specs.Blocks.{Block, rest_packet, filler_of, page_packets, packets_of, has_pages, used_to, used_queues, time_filling_packet}
+use Rattle.ttx_plan.specs.Blocks.{queue_packets, queues_to, packets_in}
 use Rattle.ttx_plan.specs.Counting.{sum_to, slots_for}
 use Rattle.ttx_plan.specs.Packets.{bytes_of}
 use Rattle.ttx_plan.specs.Seen.{seen_sent}

@@ -1,5 +1,6 @@
 -- The header that follows a header of a page in a cycle that is planned for receivers that show a page late.
-use Rattle.std.proofs.Common.{◌≡◌, ℕ, zero, suc, ◌+◌, ◌<◌, Bool, true, false, not, ◌&&◌, cond, eqb, List, [], ◌∷◌, ◌++◌, map, length, replicate, get_or, Option, Some, None, refl, sym, ap, ◌∙◌, subst, arith, inl, inr}
+use Rattle.std.proofs.Common.{◌≡◌, ℕ, zero, suc, ◌+◌, ◌<◌, Bool, true, false, not, ◌&&◌, cond, eqb, List, [], ◌∷◌, ◌++◌, map, length, replicate}
+use Rattle.std.proofs.Common.{get_or, Option, Some, None, refl, sym, ap, ◌∙◌, subst, arith, inl, inr}
 use Rattle.std.specs.Prelude.{flat_map}
 use Rattle.std.specs.Bool.{MatchBool}
 use Rattle.std.proofs.lemmas.Bool.{cond-true, eq-eqb, eqb-true, ne_eqb, cases_eq}
@@ -7,7 +8,8 @@ use Rattle.std.proofs.lemmas.List.{append-nil, map-append}
 use Rattle.ttx_plan.specs.declared.packet.Packet.{Packet}
 use Rattle.ttx_plan.specs.declared.packet.Slot.{Slot}
 use Rattle.ttx_plan.specs.declared.packet.Slot.TheVariants.{Empty, Info, Sent}
-use Rattle.ttx_plan.specs.Blocks.{Block, header_packet, rest_packet, filler_of, page_packets, packets_of, has_pages, used_to, used_queues, time_filling_packet, queue_packets}
+use Rattle.ttx_plan.specs.Blocks.{Block, header_packet, rest_packet, filler_of, page_packets, packets_of, has_pages, used_to, used_queues}
+use Rattle.ttx_plan.specs.Blocks.{time_filling_packet, queue_packets}
 use Rattle.ttx_plan.specs.Packets.{is_row_or_links}
 use Rattle.ttx_plan.specs.Serial.{serial_page, serial_block, serial_list, info_if, with_info, serial_slots}
 use Rattle.ttx_plan.specs.Turns.{is_info_due, missing}

@@ -1,12 +1,14 @@
 -- Each row and X/27/0 of a parallel cycle stands more than a field behind the header of its own block.
-use Rattle.std.proofs.Common.{◌≡◌, ℕ, zero, suc, ◌+◌, ◌<◌, Bool, true, false, not, ◌&&◌, cond, List, [], ◌∷◌, ◌++◌, length, take, Option, Some, None, refl, sym, ap, ◌∙◌, subst, arith, inl, inr, eqb}
+use Rattle.std.proofs.Common.{◌≡◌, ℕ, zero, suc, ◌+◌, ◌<◌, Bool, true, false, not, ◌&&◌, cond, List, [], ◌∷◌, ◌++◌, length, take, Option, Some, None}
+use Rattle.std.proofs.Common.{refl, sym, ap, ◌∙◌, subst, arith, inl, inr, eqb}
 use Rattle.std.specs.List.{list_any, find}
 use Rattle.std.proofs.lemmas.Bool.{cond-true, cond-false, cases_Bool, cases_lt, cases_eq, eq-eqb, ne_eqb, not-true, or_parts}
 use Rattle.ttx_plan.specs.declared.packet.Packet.{Packet}
 use Rattle.ttx_plan.specs.declared.packet.Slot.{Slot}
 use Rattle.ttx_plan.specs.declared.packet.Slot.TheVariants.{Empty, Info, Sent}
 use Rattle.ttx_plan.specs.Packets.{has_header, is_page_header, is_row_or_links}
-use Rattle.ttx_plan.specs.Turns.{Magazines, queue_of, sent_by, turn_from, order, next_of, waits, may_go, is_ready, sending, chosen, next_slot, is_info_due, or_info, slot_after, KeepsTurns}
+use Rattle.ttx_plan.specs.Turns.{Magazines, queue_of, sent_by, turn_from, order, next_of, waits, may_go, is_ready, sending, chosen, next_slot}
+use Rattle.ttx_plan.specs.Turns.{is_info_due, or_info, slot_after, KeepsTurns}
 use Rattle.ttx_plan.proofs.ServicePages.{take_next}
 use Rattle.ttx_plan.proofs.Orders.{found_ready}
 use Rattle.ttx_plan.proofs.CursorsLookBack.{IsFrom, turn_from_queues}

@@ -1,5 +1,6 @@
 -- The slots of a planned cycle are read as what they are.
-use Rattle.std.proofs.Common.{◌≡◌, ℕ, suc, ◌≤◌, Bool, true, false, not, ◌&&◌, ◌||◌, eqb, leb, List, ◌++◌, replicate, Option, Some, refl, sym, ap, ◌∙◌, inl, inr, arith, subst}
+use Rattle.std.proofs.Common.{◌≡◌, ℕ, suc, ◌≤◌, Bool, true, false, not, ◌&&◌, ◌||◌, eqb, leb, List, ◌++◌, replicate, Option, Some, refl, sym, ap, ◌∙◌}
+use Rattle.std.proofs.Common.{inl, inr, arith, subst}
 use Rattle.std.specs.Prelude.{slice_index, slice_range, drop, take}
 use Rattle.std.proofs.lemmas.Bool.{cond-true, cond-false, cases_eq, eq-eqb, ne_eqb, eqb-true, le-leb, and_parts}
 use Rattle.ttx_code.specs.Laws.{WordsAreRead, WordsAreWords}
@@ -13,7 +14,8 @@ use Rattle.ttx_info.specs.Infos.{InfoFields, IsInfoFields, info_bytes}
 use Rattle.ttx_info.specs.Laws.{WrittenInfosAreRead}
 use Rattle.ttx_links.specs.Sets.{IsLink, LinksFields, LinkSet, links_bytes, links_of}
 use Rattle.ttx_packet.specs.Laws.{AddressIsReadBack, EmptySlotsAreEmpty}
-use Rattle.ttx_packet.specs.Slots.{Kind, IsEmpty, IsHeader, IsRow, IsLinks, IsInfo, kind_of, packet_kind, links_kind, address_bytes, is_clean, is_empty, are_words, read_number}
+use Rattle.ttx_packet.specs.Slots.{Kind, IsEmpty, IsHeader, IsRow, IsLinks, IsInfo, kind_of, packet_kind, links_kind, address_bytes, is_clean}
+use Rattle.ttx_packet.specs.Slots.{is_empty, are_words, read_number}
 use Rattle.ttx_page.specs.Laws.{EachSlotTurns}
 use Rattle.ttx_page.specs.Packets as P
 use Rattle.ttx_page.specs.Packets.{packet_of, packet_of_kind}

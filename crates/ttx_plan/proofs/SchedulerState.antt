@@ -1,5 +1,6 @@
 -- What the scheduler has done so far.
-use Rattle.std.proofs.Common.{◌≡◌, ℕ, ◌+◌, ◌*◌, ◌<◌, ◌≤◌, true, false, List, [], ◌∷◌, ◌++◌, length, Option, refl, sym, ap, ◌∙◌, subst, arith, cond, replicate, get_or, zero, suc, ◌-◌, drop, length-append, length-drop}
+use Rattle.std.proofs.Common.{◌≡◌, ℕ, ◌+◌, ◌*◌, ◌<◌, ◌≤◌, true, false, List, [], ◌∷◌, ◌++◌, length, Option, refl, sym, ap, ◌∙◌, subst, arith, cond}
+use Rattle.std.proofs.Common.{replicate, get_or, zero, suc, ◌-◌, drop, length-append, length-drop}
 use Rattle.std.proofs.lemmas.List.{length-replicate}
 use Rattle.std.specs.Prelude.{Vec}
 use Rattle.std.specs.declared.alloc.Global.{Global}
@@ -13,7 +14,8 @@ use Rattle.ttx_plan.specs.Cursors.{slot_by_cursors, cursors_after, magazines_of}
 use Rattle.ttx_plan.specs.Counting.{sum_to, slots_for}
 use Rattle.ttx_plan.proofs.CursorsLookBack.{Tracks, IsFrom, turn_from_queues, sends_turn, tracks_none, tracks_more}
 use Rattle.ttx_plan.proofs.Sums.{sum_none}
-use Rattle.ttx_plan.proofs.Bound.{left_of, total, sent_bytes_length, few_infos, all_slots, room, left_less, left_work, total_falls, sent_most, others, infos, ends_info}
+use Rattle.ttx_plan.proofs.Bound.{left_of, total, sent_bytes_length, few_infos, all_slots, room, left_less, left_work, total_falls, sent_most, others}
+use Rattle.ttx_plan.proofs.Bound.{infos, ends_info}
 
 pub record State (mags : Magazines) (cursors : Cursors) (slots : List (List ℕ)) (left : ℕ) : Type 0 where
   pub before : List Slot

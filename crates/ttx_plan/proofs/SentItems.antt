@@ -1,5 +1,6 @@
 -- What is sent of a page is transmitted under its header.
-use Rattle.std.proofs.Common.{◌≡◌, ℕ, zero, suc, ◌-◌, ◌<◌, ◌≤◌, ℤ, pos, nat_abs, Bool, true, false, not, ◌&&◌, cond, eqb, leb, List, [], ◌∷◌, map, length, get_or, Some, None, refl, sym, ap, ◌∙◌, subst, arith, length-append, mod-eq_of_lt}
+use Rattle.std.proofs.Common.{◌≡◌, ℕ, zero, suc, ◌-◌, ◌<◌, ◌≤◌, ℤ, pos, nat_abs, Bool, true, false, not, ◌&&◌, cond, eqb, leb, List, [], ◌∷◌, map}
+use Rattle.std.proofs.Common.{length, get_or, Some, None, refl, sym, ap, ◌∙◌, subst, arith, length-append, mod-eq_of_lt}
 use Rattle.std.specs.Prelude.{slice_get}
 use Rattle.std.proofs.lemmas.Bool.{eq-eqb, eqb-true, leb-true, and_parts}
 use Rattle.std.proofs.lemmas.Int.{ints}

@@ -1,5 +1,6 @@
 -- The latest header before slot 0, looked for backwards.
-use Rattle.std.proofs.Common.{◌≡◌, ◌↔◌, ℕ, ◌-◌, ◌<◌, ℤ, pos, negsuc, ◌<ℤ◌, Bool, true, false, List, [], length, get_or, sym, ap, ◌∙◌, subst, inl, inr, arith, mod-eq_of_lt}
+use Rattle.std.proofs.Common.{◌≡◌, ◌↔◌, ℕ, ◌-◌, ◌<◌, ℤ, pos, negsuc, ◌<ℤ◌, Bool, true, false, List, [], length, get_or, sym, ap, ◌∙◌, subst, inl, inr}
+use Rattle.std.proofs.Common.{arith, mod-eq_of_lt}
 use Rattle.std.proofs.lemmas.Int.{ints}
 use Rattle.ttx_header.specs.Ids.{Id}
 use Rattle.ttx_page.specs.Packets.{packet_of}

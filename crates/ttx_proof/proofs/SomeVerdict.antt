@@ -1,5 +1,6 @@
 -- Of each splice some verdict is right.
-use Rattle.std.proofs.Common.{◌≡◌, ◌⊎◌, ℕ, zero, suc, ◌+◌, ◌-◌, ◌<◌, ◌≤◌, pos, negsuc, ◌≤ℤ◌, ◌+ℤ◌, true, false, Bool, List, [], ◌∷◌, length, get_or, slice_get, Option, Some, None, refl, ap, subst, inl, inr, arith}
+use Rattle.std.proofs.Common.{◌≡◌, ◌⊎◌, ℕ, zero, suc, ◌+◌, ◌-◌, ◌<◌, ◌≤◌, pos, negsuc, ◌≤ℤ◌, ◌+ℤ◌, true, false, Bool, List, [], ◌∷◌, length, get_or}
+use Rattle.std.proofs.Common.{slice_get, Option, Some, None, refl, ap, subst, inl, inr, arith}
 use Rattle.std.specs.List.{Contains}
 use Rattle.std.proofs.lemmas.Int.{ints}
 use Rattle.std.proofs.lemmas.Option.{slice_get_within}
@@ -23,7 +24,8 @@ use Rattle.ttx_certify.specs.Verdicts.{IsVerdict}
 use Rattle.ttx_certify.specs.VerdictLaws.{SomeVerdictIsRight}
 use Rattle.ttx_certify.specs.declared.verdict.Verdict.{Verdict}
 use Rattle.ttx_certify.specs.declared.verdict.Verdict.TheVariants as verdict
-use Rattle.ttx_certify.proofs.Decisions.{item_with, Decided, both, refuted, alike, same_bool, same_option, same_list, same_nat, same_numbers, same_id, same_links, same_class, head_right, row_right, links_right, least_below, any_below}
+use Rattle.ttx_certify.proofs.Decisions.{item_with, Decided, both, refuted, alike, same_bool, same_option, same_list, same_nat, same_numbers, same_id}
+use Rattle.ttx_certify.proofs.Decisions.{same_links, same_class, head_right, row_right, links_right, least_below, any_below}
 use Rattle.ttx_proof.specs.Splices.{Splice, IsCommon, HasSeam, IsBridged, NumbersAgree}
 use Rattle.ttx_proof.specs.Laws.{IsSplice, BothAccepted, WalksDecide}
 use Rattle.ttx_proof.specs.Bridging.{AllFollow, counted, is_named}

@@ -1,5 +1,6 @@
 -- What was touched, over steps; and rows that are followed one by one.
-use Rattle.std.proofs.Common.{◌≡◌, ◌∙◌, ℕ, ◌+◌, ◌≤◌, min, max, Bool, List, [], ap, sym, subst, inl, inr, arith, Option, Some, None, replicate, Bor, MatchOption}
+use Rattle.std.proofs.Common.{◌≡◌, ◌∙◌, ℕ, ◌+◌, ◌≤◌, min, max, Bool, List, [], ap, sym, subst, inl, inr, arith, Option, Some, None, replicate, Bor}
+use Rattle.std.proofs.Common.{MatchOption}
 use Rattle.std.proofs.lemmas.List.{ext_get_or}
 use Rattle.ttx_page.specs.Memories.{Memory}
 use Rattle.ttx_page.specs.Packets.{packet_of}

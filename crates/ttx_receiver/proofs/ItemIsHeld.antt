@@ -1,5 +1,6 @@
 -- The laws of the headline.
-use Rattle.std.proofs.Common.{◌≡◌, ℕ, ◌+◌, ◌<◌, ◌≤◌, ℤ, pos, ◌+ℤ◌, ◌<ℤ◌, ◌≤ℤ◌, true, false, List, [], ◌∷◌, length, get_or, refl, sym, ap, ◌∙◌, subst, inl, inr, arith, ext_get_or}
+use Rattle.std.proofs.Common.{◌≡◌, ℕ, ◌+◌, ◌<◌, ◌≤◌, ℤ, pos, ◌+ℤ◌, ◌<ℤ◌, ◌≤ℤ◌, true, false, List, [], ◌∷◌, length, get_or, refl, sym, ap, ◌∙◌, subst}
+use Rattle.std.proofs.Common.{inl, inr, arith, ext_get_or}
 use Rattle.std.specs.List.{AllByRecursion}
 use Rattle.std.proofs.lemmas.Int.{ints}
 use Rattle.ttx_header.specs.Ids.{Id}
@@ -12,7 +13,8 @@ use Rattle.ttx_page.specs.declared.class.Class.{Class}
 use Rattle.ttx_page.specs.declared.class.Class.TheVariants.{Any, Clearing}
 use Rattle.ttx_page.specs.Memories.{Memory, IsFormer, char_at, Holds}
 use Rattle.ttx_page.specs.Receivers.{Run, older}
-use Rattle.ttx_page.specs.Streams.{Stream, heads, heads_page, heads_matched, ends_serial, carries, IsLatestHeader, IsOwned, IsSure, IsSureTransmission, AreSuccessive, IsSent}
+use Rattle.ttx_page.specs.Streams.{Stream, heads, heads_page, heads_matched, ends_serial, carries, IsLatestHeader, IsOwned, IsSure}
+use Rattle.ttx_page.specs.Streams.{IsSureTransmission, AreSuccessive, IsSent}
 use Rattle.ttx_page.specs.Receptions.{IsRight, OneIs, Received}
 use Rattle.ttx_receiver.specs.Laws.{IsSteadyFrom, RunHoldsItsItem, HasHeaderBetween}
 use Rattle.ttx_receiver.proofs.Choices.{no_both}
@@ -22,7 +24,8 @@ use Rattle.ttx_receiver.proofs.TakenItems.{IsSureAt, needed_row, row_held, links
 use Rattle.ttx_receiver.proofs.BlankItems.{blank_row_held, blank_links_held}
 use Rattle.ttx_receiver.proofs.ReceivedPackets.{LawsBelow, same_heads, same_matched, same_ends, same_links, head_received_at, row_received_at}
 use Rattle.ttx_receiver.proofs.ReceivedPage.{receives_page, page_matched, same_mag}
-use Rattle.ttx_receiver.proofs.SlotDistances.{offset, not_before, offset_lt, lt_offset, offset_same, late_offset, before_end, lt_le, le_le, le_self, cases_ltz}
+use Rattle.ttx_receiver.proofs.SlotDistances.{offset, not_before, offset_lt, lt_offset, offset_same, late_offset, before_end, lt_le, le_le, le_self}
+use Rattle.ttx_receiver.proofs.SlotDistances.{cases_ltz}
 
 lt_is_le : (a b : ℤ) → a <ℤ b → a ≤ℤ b
 lt_is_le a b h = omega (arith, ints)

@@ -1,5 +1,6 @@
 -- Packets of other magazines that are no page headers change nothing.
-use Rattle.std.proofs.Common.{◌≡◌, ℕ, ◌==◌, ◌&&◌, nat_le, slice_index, Some, None, Bool, true, false, not, if◌then◌else◌, List, Option, drop, refl, sym, subst, inl, inr, arith, eqb-true}
+use Rattle.std.proofs.Common.{◌≡◌, ℕ, ◌==◌, ◌&&◌, nat_le, slice_index, Some, None, Bool, true, false, not, if◌then◌else◌, List, Option, drop, refl}
+use Rattle.std.proofs.Common.{sym, subst, inl, inr, arith, eqb-true}
 use Rattle.std.proofs.lemmas.Bool.{cases_Bool}
 use Rattle.std.proofs.lemmas.Bool.Decides.{nat_tests}
 use Rattle.ttx_links.specs.Sets.{LinkSet, links_of}

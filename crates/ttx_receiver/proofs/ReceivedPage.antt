@@ -1,5 +1,6 @@
 -- A receiver tuned to a stream is given its packets.
-use Rattle.std.proofs.Common.{◌≡◌, ℕ, ◌<◌, ℤ, pos, ◌+ℤ◌, ◌<ℤ◌, ◌≤ℤ◌, true, false, ◌&&◌, ◌==◌, List, [], length, get_or, refl, sym, ap, ◌∙◌, subst, inl, inr, arith, eqb-true, eq-eqb}
+use Rattle.std.proofs.Common.{◌≡◌, ℕ, ◌<◌, ℤ, pos, ◌+ℤ◌, ◌<ℤ◌, ◌≤ℤ◌, true, false, ◌&&◌, ◌==◌, List, [], length, get_or, refl, sym, ap, ◌∙◌, subst}
+use Rattle.std.proofs.Common.{inl, inr, arith, eqb-true, eq-eqb}
 use Rattle.std.proofs.lemmas.Bool.{and_from, cases_Bool}
 use Rattle.std.proofs.lemmas.Int.{ints}
 use Rattle.ttx_header.specs.Ids.{Id, same_id}
@@ -14,7 +15,8 @@ use Rattle.ttx_receiver.specs.Laws.{IsSteadyFrom}
 use Rattle.ttx_receiver.proofs.Choices.{and_left, and_right}
 use Rattle.ttx_receiver.proofs.Runs.{packet_at, IsOwnedAt, ReceivesPage}
 use Rattle.ttx_receiver.proofs.TakenItems.{needed_row}
-use Rattle.ttx_receiver.proofs.ReceivedPackets.{LawsBelow, of_slot, IsOfSlot, same_heads, same_matched, same_links, row_was_sent, received_head, received_row, received_links}
+use Rattle.ttx_receiver.proofs.ReceivedPackets.{LawsBelow, of_slot, IsOfSlot, same_heads, same_matched, same_links, row_was_sent, received_head}
+use Rattle.ttx_receiver.proofs.ReceivedPackets.{received_row, received_links}
 use Rattle.ttx_receiver.proofs.SlotDistances.{offset, not_before, offset_lt, lt_offset, le_le}
 
 -- the page's headers are of its magazine, and the selection matches them

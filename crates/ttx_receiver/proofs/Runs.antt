@@ -1,5 +1,6 @@
 -- Runs of a receiver over the packets that it is given.
-use Rattle.std.proofs.Common.{◌≡◌, ℕ, suc, ◌+◌, ◌-◌, ◌<◌, ◌≤◌, min, Bool, true, false, List, [], ◌∷◌, length, get_or, sym, ◌∙◌, subst, inl, inr, arith}
+use Rattle.std.proofs.Common.{◌≡◌, ℕ, suc, ◌+◌, ◌-◌, ◌<◌, ◌≤◌, min, Bool, true, false, List, [], ◌∷◌, length, get_or, sym, ◌∙◌, subst, inl, inr}
+use Rattle.std.proofs.Common.{arith}
 use Rattle.std.proofs.lemmas.Bool.{cases_lt}
 use Rattle.ttx_page.specs.Packets.{Packet, packet_of}
 use Rattle.ttx_page.specs.Pages.{Page, selected_mag, needed}
@@ -9,7 +10,8 @@ use Rattle.ttx_page.specs.declared.class.Class.{Class}
 use Rattle.ttx_page.specs.Memories.{Memory}
 use Rattle.ttx_page.specs.Receivers.{older, after, Run}
 use Rattle.ttx_page.specs.Streams.{heads, heads_matched, ends_serial, carries}
-use Rattle.ttx_receiver.proofs.StepsOverPage.{Shape, IsHeadOf, IsRowOf, AreLinksOf, shape_after, after_storing, after_ready, after_begin, after_settled}
+use Rattle.ttx_receiver.proofs.StepsOverPage.{Shape, IsHeadOf, IsRowOf, AreLinksOf, shape_after, after_storing, after_ready, after_begin}
+use Rattle.ttx_receiver.proofs.StepsOverPage.{after_settled}
 
 -- what is received at a place of the list
 abbrev pub packet_at : List (List ℕ) → ℕ → Packet

@@ -1,5 +1,6 @@
 -- Slots in which the lowest bit of one byte is wrong.
-use Rattle.std.proofs.Common.{◌≡◌, ◌≢◌, ℕ, ◌^◌, ◌<◌, ◌≤◌, ◌&&◌, not, leb, Bool, true, false, ◌==◌, List, get_or, refl, sym, ◌∙◌, subst, inl, inr, arith, eqb-true, eq-eqb, leb-true, length-set, get_or-set_same, get_or-set_other}
+use Rattle.std.proofs.Common.{◌≡◌, ◌≢◌, ℕ, ◌^◌, ◌<◌, ◌≤◌, ◌&&◌, not, leb, Bool, true, false, ◌==◌, List, get_or, refl, sym, ◌∙◌, subst, inl, inr}
+use Rattle.std.proofs.Common.{arith, eqb-true, eq-eqb, leb-true, length-set, get_or-set_same, get_or-set_other}
 use Rattle.std.specs.Prelude.{bit_xor}
 use Rattle.std.proofs.lemmas.Bool.{agree_below, agree_below_at, cases_Bool, not-true}
 use Rattle.ttx_code.specs.Words.{Near, ones, distance, is_odd}

@@ -1,5 +1,6 @@
 -- What is heard of an item that never comes by an all-sure run is within the error rule.
-use Rattle.std.proofs.Common.{◌≡◌, ◌⊎◌, ℕ, ◌<◌, ◌≤◌, ℤ, pos, ◌+ℤ◌, ◌<ℤ◌, ◌≤ℤ◌, true, false, List, [], ◌∷◌, length, get_or, refl, sym, ap, ◌∙◌, subst, inl, inr, arith, eqb-true}
+use Rattle.std.proofs.Common.{◌≡◌, ◌⊎◌, ℕ, ◌<◌, ◌≤◌, ℤ, pos, ◌+ℤ◌, ◌<ℤ◌, ◌≤ℤ◌, true, false, List, [], ◌∷◌, length, get_or, refl, sym, ap, ◌∙◌, subst}
+use Rattle.std.proofs.Common.{inl, inr, arith, eqb-true}
 use Rattle.std.specs.List.{AllByRecursion}
 use Rattle.ttx_header.specs.Ids.{Id}
 use Rattle.ttx_packet.specs.Receptions.{MayBeReceivedAs}
@@ -10,7 +11,8 @@ use Rattle.ttx_page.specs.declared.item.Item.{Item}
 use Rattle.ttx_page.specs.declared.item.Item.TheVariants.{Head as TheHead, Row as TheRow, Links as TheLinks}
 use Rattle.ttx_page.specs.Memories.{Memory}
 use Rattle.ttx_page.specs.Receivers.{older}
-use Rattle.ttx_page.specs.Streams.{Stream, heads_page, heads_matched, carries, IsOwned, IsTransmission, IsSureTransmission, AreSuccessive, run_length, IsSent}
+use Rattle.ttx_page.specs.Streams.{Stream, heads_page, heads_matched, carries, IsOwned, IsTransmission, IsSureTransmission, AreSuccessive, run_length}
+use Rattle.ttx_page.specs.Streams.{IsSent}
 use Rattle.ttx_page.specs.Receptions.{IsTextByte, IsRight, OneIs, Received}
 use Rattle.ttx_receiver.specs.Laws.{IsSteadyFrom}
 use Rattle.ttx_receiver.specs.Starving.{spoilt, takes, heard, starved_memory, starved_slots}

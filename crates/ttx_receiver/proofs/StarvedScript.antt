@@ -1,5 +1,6 @@
 -- What a starved receiver hears and chooses, as hits and as a script.
-use Rattle.std.proofs.Common.{◌≡◌, ℕ, zero, suc, ◌+◌, ◌<◌, ℤ, pos, ◌+ℤ◌, Bool, true, false, List, [], ◌∷◌, ◌++◌, length, get_or, refl, sym, ap, ◌∙◌, subst, inl, inr, arith, length-append, append_assoc}
+use Rattle.std.proofs.Common.{◌≡◌, ℕ, zero, suc, ◌+◌, ◌<◌, ℤ, pos, ◌+ℤ◌, Bool, true, false, List, [], ◌∷◌, ◌++◌, length, get_or, refl, sym, ap, ◌∙◌}
+use Rattle.std.proofs.Common.{subst, inl, inr, arith, length-append, append_assoc}
 use Rattle.std.specs.List.{Contains}
 use Rattle.std.proofs.lemmas.Bool.{cases_lt, cases_Bool}
 use Rattle.std.proofs.lemmas.List.{get_or_append_left, append-nil}
@@ -15,7 +16,8 @@ use Rattle.ttx_page.specs.Memories.{Memory}
 use Rattle.ttx_page.specs.Receivers.{older, after, has_choice, next_choice, later_choices, scripted}
 use Rattle.ttx_page.specs.Streams.{Stream}
 use Rattle.ttx_page.specs.Laws.{ChoicesAreChoices}
-use Rattle.ttx_receiver.specs.Starving.{spoilt, takes, heard, is_hit, first_byte, starved_memory, starved_slots, starved_hits, starved_choices, StarvedIsScripted}
+use Rattle.ttx_receiver.specs.Starving.{spoilt, takes, heard, is_hit, first_byte, starved_memory, starved_slots, starved_hits, starved_choices}
+use Rattle.ttx_receiver.specs.Starving.{StarvedIsScripted}
 use Rattle.ttx_receiver.proofs.Choices.{if_ind, no_both}
 use Rattle.ttx_receiver.proofs.ReceivedPackets.{packet_empty}
 use Rattle.ttx_receiver.proofs.StarvedUnder.{slot_at, takes_something}

@@ -1,5 +1,6 @@
 -- Where an item never comes by an all-sure run, a receiver that takes all its choices keeps it wrong, and all else right.
-use Rattle.std.proofs.Common.{◌≡◌, ◌≢◌, ℕ, zero, suc, ◌+◌, ◌<◌, ◌≤◌, ℤ, pos, ◌+ℤ◌, Bool, true, false, if◌then◌else◌, List, [], length, get_or, refl, sym, ap, ◌∙◌, subst, arith, ext_get_or, get_or-drop}
+use Rattle.std.proofs.Common.{◌≡◌, ◌≢◌, ℕ, zero, suc, ◌+◌, ◌<◌, ◌≤◌, ℤ, pos, ◌+ℤ◌, Bool, true, false, if◌then◌else◌, List, [], length, get_or, refl}
+use Rattle.std.proofs.Common.{sym, ap, ◌∙◌, subst, arith, ext_get_or, get_or-drop}
 use Rattle.std.proofs.lemmas.Bool.{and_from}
 use Rattle.ttx_code.specs.Words.{is_odd}
 use Rattle.ttx_packet.specs.Slots.{IsSlot}
@@ -16,7 +17,8 @@ use Rattle.ttx_page.specs.Receptions.{Received}
 use Rattle.ttx_page.specs.Steady.{HeadIsRight, RowIsRight}
 use Rattle.ttx_page.specs.Laws.{PageIsShown, RunsGoOn}
 use Rattle.ttx_receiver.specs.Laws.{IsSteadyFrom}
-use Rattle.ttx_receiver.specs.Starving.{spoilt, is_bound, takes, heard, starved_memory, starved_slots, wrong_memory, IsWrong, IsStarved, StarvedStaysWrong}
+use Rattle.ttx_receiver.specs.Starving.{spoilt, is_bound, takes, heard, starved_memory, starved_slots, wrong_memory, IsWrong, IsStarved}
+use Rattle.ttx_receiver.specs.Starving.{StarvedStaysWrong}
 use Rattle.ttx_receiver.proofs.Choices.{and_left, and_right, no_both}
 use Rattle.ttx_receiver.proofs.StepsOverPage.{Shape, shape_after}
 use Rattle.ttx_receiver.proofs.TakenAndKept.{HeadRightAt, RowRightAt, keep_row, keep_head, keep_links}

@@ -1,5 +1,7 @@
 -- What one slot changes of a character or of the links, and when a receiver that takes all its choices is storing after it.
-use Rattle.std.proofs.Common.{◌≡◌, ◌≢◌, ◌⊎◌, ℕ, ◌-◌, ◌<◌, ◌≤◌, Bool, true, false, not, ◌&&◌, ◌==◌, List, [], ◌++◌, Some, None, length, get_or, take, drop, set, refl, sym, ap, ◌∙◌, subst, inl, inr, arith, eqb-true, eq-eqb, nat_le, get_or-set_same, get_or-set_other, length-drop, get_or-drop}
+use Rattle.std.proofs.Common.{◌≡◌, ◌≢◌, ◌⊎◌, ℕ, ◌-◌, ◌<◌, ◌≤◌, Bool, true, false, not, ◌&&◌, ◌==◌, List, [], ◌++◌, Some, None, length, get_or, take}
+use Rattle.std.proofs.Common.{drop, set, refl, sym, ap, ◌∙◌, subst, inl, inr, arith, eqb-true, eq-eqb, nat_le, get_or-set_same, get_or-set_other}
+use Rattle.std.proofs.Common.{length-drop, get_or-drop}
 use Rattle.std.proofs.lemmas.Bool.{and_from, cases_Bool}
 use Rattle.ttx_code.specs.Words.{is_odd}
 use Rattle.ttx_header.specs.Control.{c4, c11}

@@ -1,5 +1,7 @@
 -- A receiver over the packets of a page.
-use Rattle.std.proofs.Common.{◌≡◌, ◌⊎◌, ℕ, zero, suc, ◌%◌, ◌<◌, Bool, true, false, not, ◌&&◌, ◌==◌, ◌≢◌, List, [], ◌∷◌, ◌++◌, Some, None, length, get_or, take, drop, set, replicate, refl, sym, ap, ◌∙◌, subst, inl, inr, arith, eqb-true, eq-eqb, length-set, get_or-set_same, get_or-set_other, length-append, length-take-le, length-drop}
+use Rattle.std.proofs.Common.{◌≡◌, ◌⊎◌, ℕ, zero, suc, ◌%◌, ◌<◌, Bool, true, false, not, ◌&&◌, ◌==◌, ◌≢◌, List, [], ◌∷◌, ◌++◌, Some, None, length}
+use Rattle.std.proofs.Common.{get_or, take, drop, set, replicate, refl, sym, ap, ◌∙◌, subst, inl, inr, arith, eqb-true, eq-eqb, length-set}
+use Rattle.std.proofs.Common.{get_or-set_same, get_or-set_other, length-append, length-take-le, length-drop}
 use Rattle.std.proofs.lemmas.Bool.{cases_lt, and_from, cases_Bool, not_from_false}
 use Rattle.std.proofs.lemmas.List.{get_or-replicate}
 use Rattle.ttx_code.specs.Words.{is_odd}

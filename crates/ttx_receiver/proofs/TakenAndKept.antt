@@ -1,5 +1,7 @@
 -- What a receiver takes from a slot, and what it keeps.
-use Rattle.std.proofs.Common.{◌≡◌, ◌≢◌, ℕ, ◌+◌, ◌-◌, ◌%◌, ◌<◌, ◌≤◌, Bool, true, false, not, ◌&&◌, ◌==◌, List, [], ◌++◌, Some, None, length, get_or, take, drop, set, refl, sym, ap, ◌∙◌, subst, inl, inr, arith, eqb-true, eq-eqb, nat_le, get_or-set_same, get_or-set_other, length-take-le, length-drop, get_or-drop, get_or-append-add}
+use Rattle.std.proofs.Common.{◌≡◌, ◌≢◌, ℕ, ◌+◌, ◌-◌, ◌%◌, ◌<◌, ◌≤◌, Bool, true, false, not, ◌&&◌, ◌==◌, List, [], ◌++◌, Some, None, length, get_or}
+use Rattle.std.proofs.Common.{take, drop, set, refl, sym, ap, ◌∙◌, subst, inl, inr, arith, eqb-true, eq-eqb, nat_le, get_or-set_same}
+use Rattle.std.proofs.Common.{get_or-set_other, length-take-le, length-drop, get_or-drop, get_or-append-add}
 use Rattle.std.proofs.lemmas.Bool.{and_from, cases_Bool, not_from_false, or_from}
 use Rattle.ttx_code.specs.Words.{is_odd}
 use Rattle.ttx_page.specs.Packets.{Packet, Empty, Unreadable, Header, Row, Links}

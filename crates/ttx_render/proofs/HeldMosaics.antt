@@ -1,5 +1,6 @@
 -- The held mosaic looks back.
-use Rattle.std.proofs.Common.{◌≡◌, ℕ, zero, suc, ◌+◌, ◌<◌, ◌≤◌, Bool, true, false, ◌&&◌, List, get_or, refl, ap, sym, ◌∙◌, arith, inl, inr, below_more, add-one, subst}
+use Rattle.std.proofs.Common.{◌≡◌, ℕ, zero, suc, ◌+◌, ◌<◌, ◌≤◌, Bool, true, false, ◌&&◌, List, get_or, refl, ap, sym, ◌∙◌, arith, inl, inr}
+use Rattle.std.proofs.Common.{below_more, add-one, subst}
 use Rattle.ttx_render.specs.declared.cells.Glyph.TheVariants.{Char}
 use Rattle.ttx_render.specs.Attributes.{mosaic_at, double_at, separated_at}
 use Rattle.ttx_render.specs.Laws.{HeldIsFromLatest}

@@ -1,5 +1,6 @@
 -- A memory that holds what a page needs has the page's view.
-use Rattle.std.proofs.Common.{◌≡◌, ℕ, zero, suc, ◌-◌, ◌<◌, ◌≤◌, Bool, true, false, not, ◌==◌, List, [], ◌++◌, length, map, drop, replicate, get_or, refl, ap, sym, ◌∙◌, arith, nat_le, get_or-drop}
+use Rattle.std.proofs.Common.{◌≡◌, ℕ, zero, suc, ◌-◌, ◌<◌, ◌≤◌, Bool, true, false, not, ◌==◌, List, [], ◌++◌, length, map, drop, replicate, get_or}
+use Rattle.std.proofs.Common.{refl, ap, sym, ◌∙◌, arith, nat_le, get_or-drop}
 use Rattle.std.proofs.Math.ListN.{get_or-append}
 use Rattle.ttx_header.specs.Control.{c10, option_of}
 use Rattle.ttx_links.specs.Sets.{LinkSet}
@@ -14,7 +15,8 @@ use Rattle.ttx_render.specs.declared.cells.Cell.{Cell}
 use Rattle.ttx_render.proofs.ViewRows.{view_row-own, view_row-below, above, rows_to-at}
 use Rattle.ttx_render.proofs.Columns.{cells_to-at}
 use Rattle.ttx_render.proofs.Prefix.{cell_at-same}
-use Rattle.ttx_render.proofs.ShownRows.{and-left, step-shut, is_shown-suc, codes_of-shown, codes_of-not_shown, tall-not24, shown-bool, codes_of-head, front-same, at_most, needed-bool, page_row-suc, is_hidden-same}
+use Rattle.ttx_render.proofs.ShownRows.{and-left, step-shut, is_shown-suc, codes_of-shown, codes_of-not_shown, tall-not24, shown-bool, codes_of-head}
+use Rattle.ttx_render.proofs.ShownRows.{front-same, at_most, needed-bool, page_row-suc, is_hidden-same}
 
 -- ---- rows of a page that are shown and that no row hides
 

@@ -1,5 +1,6 @@
 -- A row that is touched changes itself, and the rows below it as far as hidden rows go.
-use Rattle.std.proofs.Common.{◌≡◌, ℕ, zero, suc, ◌-◌, ◌<◌, ◌≤◌, Bool, true, false, Option, List, [], length, get_or, map, refl, ap, sym, ◌∙◌, arith, inl, inr, ◌⊎◌}
+use Rattle.std.proofs.Common.{◌≡◌, ℕ, zero, suc, ◌-◌, ◌<◌, ◌≤◌, Bool, true, false, Option, List, [], length, get_or, map, refl, ap, sym, ◌∙◌, arith}
+use Rattle.std.proofs.Common.{inl, inr, ◌⊎◌}
 use Rattle.ttx_header.specs.Ids.{Id}
 use Rattle.ttx_page.specs.Memories.{Memory}
 use Rattle.ttx_page.specs.Pages.{has_double_height, is_tall}

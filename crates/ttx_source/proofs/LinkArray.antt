@@ -1,5 +1,6 @@
 -- The array of links, text by text.
-use Rattle.std.proofs.Common.{◌≡◌, ◌<◌, ◌≤◌, ◌+◌, ◌-◌, ◌++◌, ℕ, suc, List, [], ◌∷◌, length, replicate, Option, None, Ok, Err, ap, refl, append-nil, drop, take, set, get_or, arith}
+use Rattle.std.proofs.Common.{◌≡◌, ◌<◌, ◌≤◌, ◌+◌, ◌-◌, ◌++◌, ℕ, suc, List, [], ◌∷◌, length, replicate, Option, None, Ok, Err, ap, refl, append-nil}
+use Rattle.std.proofs.Common.{drop, take, set, get_or, arith}
 use Rattle.std.proofs.lemmas.List.{drop_more, drop_all, drop-set-lt, drop-replicate, take-append-drop}
 use Rattle.std.proofs.lemmas.List.{drop-drop}
 use Rattle.std.proofs.lemmas.Grind.{common_steps}

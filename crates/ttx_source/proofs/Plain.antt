@@ -1,5 +1,6 @@
 -- Texts: those of codes below 128 have a byte for each character, and some bytes are no text.
-use Rattle.std.proofs.Common.{◌≡◌, ◌∙◌, ◌<◌, ◌≤◌, ◌+◌, ◌-◌, ◌*◌, ◌++◌, ◌&&◌, Bool, true, length, List, ℕ, zero, suc, nat_lt, bit_or, replicate, [], ◌∷◌, arith, ap, refl, false, inl, inr}
+use Rattle.std.proofs.Common.{◌≡◌, ◌∙◌, ◌<◌, ◌≤◌, ◌+◌, ◌-◌, ◌*◌, ◌++◌, ◌&&◌, Bool, true, length, List, ℕ, zero, suc, nat_lt, bit_or, replicate, []}
+use Rattle.std.proofs.Common.{◌∷◌, arith, ap, refl, false, inl, inr}
 use Rattle.std.specs.List.{list_all}
 use Rattle.std.specs.Str.{chars, chars_after, continuation_len, lead_bits, IsAscii, IsUtf8, is_utf8}
 use Rattle.std.proofs.lemmas.List.Folds.{list_all-append}

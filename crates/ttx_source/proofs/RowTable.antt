@@ -1,5 +1,7 @@
 -- The table of rows, key by key.
-use Rattle.std.proofs.Common.{◌≡◌, ◌≢◌, ◌==◌, ◌<◌, ◌≤◌, ◌+◌, ◌++◌, ◌&&◌, ℕ, zero, suc, List, [], ◌∷◌, length, Ok, Err, String, string_bytes, Global, Bor, ap, refl, append-nil, map, drop, take, set, get_or, slice_index, replicate, inl, inr, get_or-set_same, get_or-set_other, arith, Bool}
+use Rattle.std.proofs.Common.{◌≡◌, ◌≢◌, ◌==◌, ◌<◌, ◌≤◌, ◌+◌, ◌++◌, ◌&&◌, ℕ, zero, suc, List, [], ◌∷◌, length, Ok, Err, String, string_bytes, Global}
+use Rattle.std.proofs.Common.{Bor, ap, refl, append-nil, map, drop, take, set, get_or, slice_index, replicate, inl, inr, get_or-set_same}
+use Rattle.std.proofs.Common.{get_or-set_other, arith, Bool}
 use Rattle.std.specs.List.{list_all}
 use Rattle.std.specs.Map.{keys_of}
 use Rattle.std.proofs.lemmas.List.{drop_more, drop_all, get_or-replicate}

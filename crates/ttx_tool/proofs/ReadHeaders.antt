@@ -1,7 +1,9 @@
 -- A slot of the kind of a page header is readable as one.
-use Rattle.std.proofs.Common.{◌≡◌, ℕ, ◌==◌, ◌&&◌, List, [], ◌∷◌, length, Bool, true, false, Option, Some, None, nat_le, if◌then◌else◌, is_some, unwrap_or, slice_index, slice_range, refl, sym, ap, ◌∙◌, subst, arith}
+use Rattle.std.proofs.Common.{◌≡◌, ℕ, ◌==◌, ◌&&◌, List, [], ◌∷◌, length, Bool, true, false, Option, Some, None, nat_le, if◌then◌else◌, is_some}
+use Rattle.std.proofs.Common.{unwrap_or, slice_index, slice_range, refl, sym, ap, ◌∙◌, subst, arith}
 use Rattle.ttx_code.specs.Words.{reading}
-use Rattle.ttx_packet.specs.Slots.{Kind, IsEmpty, IsUnreadable, IsHeader, IsRow, IsLinks, IsInfo, IsOther, kind_of, packet_kind, addressed_kind, links_kind, is_empty, are_readable, magazine, packet_number}
+use Rattle.ttx_packet.specs.Slots.{Kind, IsEmpty, IsUnreadable, IsHeader, IsRow, IsLinks, IsInfo, IsOther, kind_of, packet_kind, addressed_kind}
+use Rattle.ttx_packet.specs.Slots.{links_kind, is_empty, are_readable, magazine, packet_number}
 use Rattle.ttx_header.specs.Headers.{is_header}
 
 abbrev pub IsHeaderKind : Kind → Type 0

@@ -54,7 +54,8 @@ TellsFound slots service w (Some deadline) file line status = TellsDeadline w de
 TellsFound slots service w None file line status = TellsNo slots service w file line status
 
 -- the certificate that is found of a cycle and a service, and what goes out
-pub record IsFoundAndTold (slots : List (List ℕ)) (service : ServiceFields) (repeat : ℕ) (class : Class) (file line : List ℕ) (status : ℕ) : Type 0 where
+pub record IsFoundAndTold (slots : List (List ℕ)) (service : ServiceFields) (repeat : ℕ) (class : Class) (file line : List ℕ) (status : ℕ)
+    : Type 0 where
   pub w : CertificateFields
   pub fields : IsCertificateFields w
   pub deadline : Option ℕ
@@ -80,11 +81,13 @@ FindsText a b repeat class (Ok told) = IsFinding a b repeat class told.file.item
 FindsText a b repeat class (Err fault) = IsNoFinding a b fault
 
 -- Ok: the bytes of the file and the line. A write fault: the first `written` bytes of both. Else nothing, and why nothing is found.
-abbrev pub FindsFiles : List ℕ → List ℕ → ℕ → Class → Option (List ℕ) → Option (List ℕ) → Option (List ℕ) → Option (List ℕ) → Result ℕ ToolFault → Type 0
+abbrev pub FindsFiles : List ℕ → List ℕ → ℕ → Class → Option (List ℕ) → Option (List ℕ) → Option (List ℕ) → Option (List ℕ) → Result ℕ ToolFault →
+    Type 0
 FindsFiles a b repeat class file_old file_new old new (Ok status) =
     (file line : List ℕ) × IsFinding a b repeat class file line status × WritesBoth file line file_old file_new old new (Ok status)
 FindsFiles a b repeat class file_old file_new old new (Err (Write written)) =
-    (file line : List ℕ) × (status : ℕ) × IsFinding a b repeat class file line status × WritesBoth {U = ℕ} file line file_old file_new old new (Err (Write written))
+    (file line : List ℕ) × (status : ℕ) × IsFinding a b repeat class file line status
+    × WritesBoth {U = ℕ} file line file_old file_new old new (Err (Write written))
 FindsFiles a b repeat class file_old file_new old new (Err fault) = IsNoFinding a b fault × Keeps file_old file_new × Keeps old new
 
 -- the faults counted by the readers of the cycle and of the service, before and after

@@ -44,7 +44,8 @@ SaysYes _ = ⊥
 
 -- where `find` finds a deadline in a packet file that is planned for receivers that show late, `certify --late` says yes to the certificate
 abbrev pub LateIsCertified : Type 0
-LateIsCertified = (a b : List ℕ) (class : Class) → IsPlanFile a b true class → (asked : Class) (repeat : ℕ) (file line : List ℕ) → IsFinding a b repeat asked file line 0 →
+LateIsCertified = (a b : List ℕ) (class : Class) → IsPlanFile a b true class → (asked : Class) (repeat : ℕ) (file line : List ℕ) →
+    IsFinding a b repeat asked file line 0 →
     (verdict : LateVerdict) (said : List ℕ) → CertifiesLate a b file verdict said → SaysYes verdict
 
 -- the status is 0 where the packet file is one of a plan

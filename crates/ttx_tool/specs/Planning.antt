@@ -69,7 +69,8 @@ PlansText bytes late class (Ok cycle) = IsPlan bytes late class (slots_of cycle)
 PlansText bytes late class (Err fault) = IsNoPlan bytes late class fault
 
 -- Ok: the bytes of a file went out, and those of a line. A write fault: the first `written` bytes of both, the file's before the line's.
-abbrev pub WritesBoth : {U : Type 0} → List ℕ → List ℕ → Option (List ℕ) → Option (List ℕ) → Option (List ℕ) → Option (List ℕ) → Result U ToolFault → Type 0
+abbrev pub WritesBoth : {U : Type 0} → List ℕ → List ℕ → Option (List ℕ) → Option (List ℕ) → Option (List ℕ) → Option (List ℕ) →
+    Result U ToolFault → Type 0
 WritesBoth bytes line file_old file_new old new (Ok _) = Appends file_old file_new bytes × Appends old new line
 WritesBoth bytes line file_old file_new old new (Err (Write written)) =
     (written < length (bytes ++ line)) × Appends file_old file_new (take written bytes) × Appends old new (take (written - length bytes) line)
@@ -79,9 +80,11 @@ WritesBoth bytes line file_old file_new old new (Err _) = ⊥
 abbrev pub Plans : List ℕ → Bool → Class → Option (List ℕ) → Option (List ℕ) → Option (List ℕ) → Option (List ℕ) → Result ℕ ToolFault → Type 0
 Plans bytes late class file_old file_new old new (Ok status) =
     (status ≡ 0)
-    × ((slots : List (List ℕ)) × IsPlan bytes late class slots × WritesBoth (file_of slots) (planned_line (length slots)) file_old file_new old new (Ok status))
+    × ((slots : List (List ℕ)) × IsPlan bytes late class slots
+    × WritesBoth (file_of slots) (planned_line (length slots)) file_old file_new old new (Ok status))
 Plans bytes late class file_old file_new old new (Err (Write written)) =
-    (slots : List (List ℕ)) × IsPlan bytes late class slots × WritesBoth {U = ℕ} (file_of slots) (planned_line (length slots)) file_old file_new old new (Err (Write written))
+    (slots : List (List ℕ)) × IsPlan bytes late class slots × WritesBoth {U = ℕ} (file_of slots) (planned_line
+    (length slots)) file_old file_new old new (Err (Write written))
 Plans bytes late class file_old file_new old new (Err fault) = IsNoPlan bytes late class fault × Keeps file_old file_new × Keeps old new
 
 -- The faults counted by the reader, before and after. It reads the text of the service, and no other file.

@@ -9,4 +9,5 @@ use Rattle.ttx_tool.specs.declared.faults.ToolFault.TheVariants.{Plan}
 
 abbrev pub PlannedIsNotTooLong : Type 0
 PlannedIsNotTooLong =
-    (bytes : List ℕ) (late : Bool) (class : Class) (slots : List (List ℕ)) → IsPlan bytes late class slots → IsNoPlan bytes late class (Plan plan.TooLong) → ⊥
+    (bytes : List ℕ) (late : Bool) (class : Class) (slots : List (List ℕ)) → IsPlan bytes late class slots →
+    IsNoPlan bytes late class (Plan plan.TooLong) → ⊥

@@ -42,7 +42,8 @@ abbrev pub Receives : Tuning → ℕ → ℕ → List ℕ → Memory → Option 
 Receives t start count bytes held before after (Ok status) =
     (status ≡ 0) × ((new : Memory) × IsReceivedFile t start count bytes held new × Appends before after (view_lines (view_of new)))
 Receives t start count bytes held before after (Err (Write written)) =
-    (new : Memory) × IsReceivedFile t start count bytes held new × (written < length (view_lines (view_of new))) × Appends before after (take written (view_lines (view_of new)))
+    (new : Memory) × IsReceivedFile t start count bytes held new × (written < length (view_lines (view_of new)))
+    × Appends before after (take written (view_lines (view_of new)))
 Receives t start count bytes held before after (Err (Cycle fault)) = Judged bytes (Err fault) × Keeps before after
 Receives t start count bytes held before after (Err NoMemory) = Keeps before after
 Receives t start count bytes held before after (Err _) = ⊥

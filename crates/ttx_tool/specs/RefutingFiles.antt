@@ -7,7 +7,8 @@
 --   IsNoClass, IsClassFault, IsNoRefuting, RefutesText    why nothing is looked for; what is answered
 --   RefutesFiles            what was written to the counter-run's file and to the output, at each answer
 --   CountsThree, CountsRefute       faults of devices are answered only where they were counted
-use Rattle.std.specs.Prelude.{◌≡◌, ◌↔◌, ℕ, Bool, true, List, [], ◌∷◌, ◌++◌, length, slice_get, codes, string_bytes, is_some, ⊤, Option, Some, None, Result, Ok, Err, if◌then◌else◌}
+use Rattle.std.specs.Prelude.{◌≡◌, ◌↔◌, ℕ, Bool, true, List, [], ◌∷◌, ◌++◌, length, slice_get, codes, string_bytes, is_some, ⊤, Option, Some, None}
+use Rattle.std.specs.Prelude.{Result, Ok, Err, if◌then◌else◌}
 use Rattle.std.specs.Fmt.{decimal}
 use Rattle.std.specs.Io.KnownBytes.{Keeps}
 use Rattle.ttx_certify.specs.CertifyingFiles.{IsPacketFile, IsServiceText, IsCertificateText, IsRefused}
@@ -35,7 +36,8 @@ use Rattle.ttx_witness.specs.finding.Finding.{IsSentUnchanged, CanBeAccepted}
 -- the page, the first slot and how many, and how many wrong bits and choices
 abbrev pub counter_line : Id → CounterRun → List ℕ
 counter_line id c =
-    codes "counter " ++ id_text id ++ codes " start " ++ decimal c.start ++ codes " slots " ++ decimal c.slots ++ codes " hits " ++ decimal (length c.hits)
+    codes "counter " ++ id_text id ++ codes " start " ++ decimal c.start ++ codes " slots " ++ decimal c.slots ++ codes " hits "
+    ++ decimal (length c.hits)
     ++ codes " choices " ++ decimal (length c.choices) ++ 10 ∷ []
 
 abbrev pub saved : Bool → CounterRun → List ℕ
@@ -50,10 +52,12 @@ pub record IsCounterTold (slots : List (List ℕ)) (pages : List Page) (w : Cert
 
 abbrev pub TellsAnswer : List (List ℕ) → List Page → CertificateFields → Bool → Option CounterRun → List ℕ → List ℕ → ℕ → Type 0
 TellsAnswer slots pages w save (Some c) file line status = IsCounterTold slots pages w c line × (file ≡ saved save c) × (status ≡ 1)
-TellsAnswer slots pages w save None file line status = IsUnrefuted slots pages (certificate_at w) × (file ≡ []) × (line ≡ codes "none" ++ 10 ∷ []) × (status ≡ 0)
+TellsAnswer slots pages w save None file line status = IsUnrefuted slots pages (certificate_at w) × (file ≡ []) × (line ≡ codes "none" ++ 10 ∷ [])
+    × (status ≡ 0)
 
 -- Where all pages are sent unchanged in clean slots, there is a counter-run exactly where no certificate of these numbers is accepted.
-pub record IsRefutation (slots : List (List ℕ)) (service : ServiceFields) (w : CertificateFields) (save : Bool) (file line : List ℕ) (status : ℕ) : Type 0 where
+pub record IsRefutation (slots : List (List ℕ)) (service : ServiceFields) (w : CertificateFields) (save : Bool) (file line : List ℕ) (status : ℕ)
+    : Type 0 where
   pub class : w.class ≡ Any
   pub answer : Option CounterRun
   pub told : TellsAnswer slots (pages_of service) w save answer file line status
@@ -97,11 +101,13 @@ RefutesText a b c save (Ok told) = IsRefutingFiles a b c save told.file.items (s
 RefutesText a b c save (Err fault) = IsNoRefuting a b c fault
 
 -- Ok: the bytes of the file and the line. A write fault: the first `written` bytes of both. Else nothing, and why nothing is looked for.
-abbrev pub RefutesFiles : List ℕ → List ℕ → List ℕ → Bool → Option (List ℕ) → Option (List ℕ) → Option (List ℕ) → Option (List ℕ) → Result ℕ ToolFault → Type 0
+abbrev pub RefutesFiles : List ℕ → List ℕ → List ℕ → Bool → Option (List ℕ) → Option (List ℕ) → Option (List ℕ) → Option (List ℕ) →
+    Result ℕ ToolFault → Type 0
 RefutesFiles a b c save file_old file_new old new (Ok status) =
     (file line : List ℕ) × IsRefutingFiles a b c save file line status × WritesBoth file line file_old file_new old new (Ok status)
 RefutesFiles a b c save file_old file_new old new (Err (Write written)) =
-    (file line : List ℕ) × (status : ℕ) × IsRefutingFiles a b c save file line status × WritesBoth {U = ℕ} file line file_old file_new old new (Err (Write written))
+    (file line : List ℕ) × (status : ℕ) × IsRefutingFiles a b c save file line status
+    × WritesBoth {U = ℕ} file line file_old file_new old new (Err (Write written))
 RefutesFiles a b c save file_old file_new old new (Err fault) = IsNoRefuting a b c fault × Keeps file_old file_new × Keeps old new
 
 -- the faults counted by the readers of the cycle, the service and the certificate, before and after
@@ -114,7 +120,11 @@ CountsThree result cycle_old cycle_new service_old service_new old new = ⊤
 
 -- and those of all five
 abbrev pub CountsRefute : {T : Type 0} → Result T ToolFault → ℕ → ℕ → ℕ → ℕ → ℕ → ℕ → ℕ → ℕ → ℕ → ℕ → Type 0
-CountsRefute (Err (Cycle cycle.Read)) cycle_old cycle_new service_old service_new third_old third_new file_old file_new old new = HasRisen cycle_old cycle_new
-CountsRefute (Err (Read text.Service)) cycle_old cycle_new service_old service_new third_old third_new file_old file_new old new = HasRisen service_old service_new
-CountsRefute (Err (Read text.Certificate)) cycle_old cycle_new service_old service_new third_old third_new file_old file_new old new = HasRisen third_old third_new
-CountsRefute result cycle_old cycle_new service_old service_new third_old third_new file_old file_new old new = CountsBoth result file_old file_new old new
+CountsRefute (Err (Cycle cycle.Read)) cycle_old cycle_new service_old service_new third_old third_new file_old file_new old new =
+    HasRisen cycle_old cycle_new
+CountsRefute (Err (Read text.Service)) cycle_old cycle_new service_old service_new third_old third_new file_old file_new old new =
+    HasRisen service_old service_new
+CountsRefute (Err (Read text.Certificate)) cycle_old cycle_new service_old service_new third_old third_new file_old file_new old new =
+    HasRisen third_old third_new
+CountsRefute result cycle_old cycle_new service_old service_new third_old third_new file_old file_new old new =
+    CountsBoth result file_old file_new old new

@@ -24,7 +24,8 @@ wait_status None = 1
 wait_status (Some deadline) = 0
 
 -- the lines of a report on the slots and the pages of the service, and the status of its deadline
-pub record IsWaitOf (slots : List (List ℕ)) (service : ServiceFields) (repeat : ℕ) (class : Class) (detail : Detail) (text : List ℕ) (status : ℕ) : Type 0 where
+pub record IsWaitOf (slots : List (List ℕ)) (service : ServiceFields) (repeat : ℕ) (class : Class) (detail : Detail) (text : List ℕ) (status : ℕ)
+    : Type 0 where
   pub deadline : Option ℕ
   pub report : IsReportWith detail slots (pages_of service) class repeat service.lines text deadline
   pub status_is : status ≡ wait_status deadline

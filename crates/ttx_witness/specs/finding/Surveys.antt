@@ -5,7 +5,8 @@
 --   AreOthersIn             the headers of other subpages of its pages
 --   IsSteadyIn, IsFaultIn   a page is sent unchanged; the first of the reasons why it isn't
 --   surveyed_page           the page
---   surveyed_starts, surveyed_spread, surveyed_least        the starts of the sure runs of an item of the page, what is kept of these runs, the least limit
+--   surveyed_starts, surveyed_spread,
+--   surveyed_least        the starts of the sure runs of an item of the page, what is kept of these runs, the least limit
 --   surveyed_named, surveyed_limit  what is named for an item that a viewer of the page sees, and its least limit
 use Rattle.std.specs.Prelude.{ℕ, List, Option, map}
 use Rattle.ttx_cycle.specs.Cycles.{slots_of}

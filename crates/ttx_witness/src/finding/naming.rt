@@ -6,7 +6,8 @@ ghost use Rattle.ttx_page.specs.declared.item.Item.TheVariants.{Head as TheHead}
 ghost use Rattle.ttx_certificate.specs.Entries.{are_slots, is_page_id, rises};
 ghost use Rattle.ttx_witness.specs.runs.SureStarts.{above_zero, width};
 ghost use Rattle.ttx_witness.specs.finding.Finding.{is_due, limit_of, wider, AddsEntry};
-ghost use Rattle.ttx_witness.specs.finding.Surveys.{survey_slots, surveyed_page, surveyed_starts, surveyed_spread, surveyed_least, surveyed_named, surveyed_limit, AreNamedIn};
+ghost use Rattle.ttx_witness.specs.finding.Surveys.{survey_slots, surveyed_page, surveyed_starts, surveyed_spread, surveyed_least, surveyed_named};
+ghost use Rattle.ttx_witness.specs.finding.Surveys.{surveyed_limit, AreNamedIn};
 
 use crate::finding::survey::SurveyedPage;
 use crate::runs::one_item::search_item;

@@ -1,4 +1,5 @@
-use Rattle.std.proofs.Common.{◌≡◌, ℕ, ◌+◌, ◌<◌, ◌≤◌, ◌%◌, List, All, Option, IfSome, Some, subst, ap, ◌∙◌, arith, length, take, drop, ◌-◌, slice_range}
+use Rattle.std.proofs.Common.{◌≡◌, ℕ, ◌+◌, ◌<◌, ◌≤◌, ◌%◌, List, All, Option, IfSome, Some, subst, ap, ◌∙◌, arith, length, take, drop, ◌-◌}
+use Rattle.std.proofs.Common.{slice_range}
 use Rattle.std.proofs.lemmas.List.{length-take-le, length-drop, length-map}
 use Rattle.std.proofs.lemmas.List.Elements.{All-map}
 use Rattle.ttx_info.proofs.reading.read_info.Goals as goal

@@ -5,7 +5,8 @@ use Rattle.ttx_late.specs.Followed.{IsFollowedIn, IsGap}
 use Rattle.ttx_late.proofs.Tests.{no_both}
 use Rattle.ttx_late.proofs.FollowersOfCycles.{AreNear, IsLeast, next_near, near_in, least_in, not_followed, near_within}
 use Rattle.ttx_late.proofs.followers.gap_after.Goals as goal
-use Rattle.ttx_late.proofs.followers.gap_after.Goals.{then-heads_page+in-Some+then-distance-gap, then-heads_page+in-Some+else-distance-gap, else-heads_page}
+use Rattle.ttx_late.proofs.followers.gap_after.Goals.{then-heads_page+in-Some+then-distance-gap, then-heads_page+in-Some+else-distance-gap}
+use Rattle.ttx_late.proofs.followers.gap_after.Goals.{else-heads_page}
 
 pub returns-in-None : goal.returns-in-None
 returns-in-None c =

@@ -4,7 +4,8 @@ use Rattle.ttx_plan.specs.declared.faults.PlanFault.TheVariants.{NoPages, TooLon
 use Rattle.ttx_plan.specs.Acceptance.{IsPlanned}
 use Rattle.ttx_plan.specs.Blocks.{length_bound}
 use Rattle.ttx_plan.specs.Carries.{blocks_sent}
-use Rattle.ttx_plan.proofs.PlanFaults.{is_told, is_not_told, ok_is_other, memory_is_not_pages, memory_is_not_long, long_is_not_pages, pages_are_not_long, empty_alike, some_alike, bound_of_none}
+use Rattle.ttx_plan.proofs.PlanFaults.{is_told, is_not_told, ok_is_other, memory_is_not_pages, memory_is_not_long, long_is_not_pages}
+use Rattle.ttx_plan.proofs.PlanFaults.{pages_are_not_long, empty_alike, some_alike, bound_of_none}
 use Rattle.ttx_plan.proofs.planning.plan_with.Goals as goal
 
 pub cycle_of-requires : goal.cycle_of-requires

@@ -5,7 +5,8 @@ use Rattle.ttx_page.specs.Streams.{repeated}
 use Rattle.ttx_page.specs.Steady.{Steady}
 use Rattle.ttx_witness.specs.faults.Faults.{IsPageFault, SteadyHasNoFault}
 use Rattle.ttx_witness.specs.declared.faults.reason.Reason.{Reason}
-use Rattle.ttx_witness.specs.declared.faults.reason.Reason.TheVariants.{BadSlot, NoHeader, OtherSubpage, Erased, HeadDiffers, RowDiffers, LinksDiffer, NoWitness, WitnessBad, Late, Unsteady, LateBlank}
+use Rattle.ttx_witness.specs.declared.faults.reason.Reason.TheVariants.{BadSlot, NoHeader, OtherSubpage, Erased, HeadDiffers, RowDiffers, LinksDiffer}
+use Rattle.ttx_witness.specs.declared.faults.reason.Reason.TheVariants.{NoWitness, WitnessBad, Late, Unsteady, LateBlank}
 use Rattle.ttx_witness.proofs.lemmas.Choices.{no_both}
 
 not_steady : (cycle : List (List ℕ)) (pages : List Page) (p : Page) (reason : Reason) → IsPageFault cycle pages p (Some reason) → Steady (repeated cycle) pages p → ⊥

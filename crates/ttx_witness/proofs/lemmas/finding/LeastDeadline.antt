@@ -1,5 +1,7 @@
 -- The certificate that names every start of a sure run, and its least deadline.
-use Rattle.std.proofs.Common.{◌≡◌, ◌⊎◌, ◌↔◌, ℕ, zero, suc, ◌+◌, ◌-◌, ◌*◌, ◌<◌, ◌≤◌, ℤ, Bool, true, false, not, ◌&&◌, ◌==◌, if◌then◌else◌, List, [], ◌∷◌, map, length, get_or, slice_get, slice_index_or, Option, Some, None, unwrap_or, refl, sym, ap, ◌∙◌, subst, inl, inr, arith, eqb-true, eq-eqb}
+use Rattle.std.proofs.Common.{◌≡◌, ◌⊎◌, ◌↔◌, ℕ, zero, suc, ◌+◌, ◌-◌, ◌*◌, ◌<◌, ◌≤◌, ℤ, Bool, true, false, not, ◌&&◌, ◌==◌, if◌then◌else◌, List, []}
+use Rattle.std.proofs.Common.{◌∷◌, map, length, get_or, slice_get, slice_index_or, Option, Some, None, unwrap_or, refl, sym, ap, ◌∙◌, subst, inl, inr}
+use Rattle.std.proofs.Common.{arith, eqb-true, eq-eqb}
 use Rattle.std.specs.List.{All, AllByRecursion, AllPairs, Contains}
 use Rattle.std.proofs.lemmas.Option.{slice_get_within, slice_get_cases}
 use Rattle.std.proofs.lemmas.List.{length-map}
@@ -25,12 +27,15 @@ use Rattle.ttx_page.specs.declared.item.Item.TheVariants.{Head as TheHead, Row a
 use Rattle.ttx_page.specs.declared.class.Class.{Class}
 use Rattle.ttx_page.specs.declared.class.Class.TheVariants.{Any, Clearing}
 use Rattle.ttx_witness.specs.sent.Collected.{IsItem, item_number}
-use Rattle.ttx_certificate.specs.Entries.{are_numbers, is_above, rises, rises_above, entry_places, same_item, starts_in, certificate_fields_at, certificate_at}
+use Rattle.ttx_certificate.specs.Entries.{are_numbers, is_above, rises, rises_above, entry_places, same_item, starts_in, certificate_fields_at}
+use Rattle.ttx_certificate.specs.Entries.{certificate_at}
 use Rattle.ttx_certificate.specs.declared.entries.Entry.{Entry}
 use Rattle.ttx_witness.specs.runs.SureStarts.{Spread}
 use Rattle.ttx_witness.specs.Coverage.{Certificate, limit, IsSureStart, IsCovered, IsLeftOut, Accepts}
 use Rattle.ttx_witness.specs.laws.CycleLaws.{SureStartsAreFound, LeastLimitIsFound}
-use Rattle.ttx_witness.specs.finding.Finding.{is_due, starts_of, spread_at, starts_for, limit_for, IsEnough, limit_of, least_limit, IsDone, NamesStarts, HasEntry, same_place, AreNamed, IsSentUnchanged, IsLeastField, IsDeadline, CanBeAccepted, IsLeastDeadline, IsFoundFor}
+use Rattle.ttx_witness.specs.finding.Finding.{is_due, starts_of, spread_at, starts_for, limit_for, IsEnough, limit_of, least_limit, IsDone}
+use Rattle.ttx_witness.specs.finding.Finding.{NamesStarts, HasEntry, same_place, AreNamed, IsSentUnchanged, IsLeastField, IsDeadline, CanBeAccepted}
+use Rattle.ttx_witness.specs.finding.Finding.{IsLeastDeadline, IsFoundFor}
 use Rattle.ttx_witness.proofs.lemmas.Choices.{no_both, and_left, and_right, and_both, cases_bool, if_true, if_false}
 use Rattle.ttx_witness.proofs.lemmas.sent.PageIndexes.{same_one, same_self}
 use Rattle.ttx_witness.proofs.lemmas.sent.AllLists.{all_by_recursion, place_below}

@@ -1,5 +1,7 @@
 -- Where each item has a sure run, the certificate that names all starts of sure runs is accepted.
-use Rattle.std.proofs.Common.{◌≡◌, ◌⊎◌, ℕ, zero, suc, ◌+◌, ◌-◌, ◌*◌, ◌<◌, ◌≤◌, ℤ, pos, ◌+ℤ◌, ◌-ℤ◌, ◌<ℤ◌, ◌≤ℤ◌, true, List, [], ◌∷◌, ◌++◌, map, take, length, slice_index_or, None, unsigned_abs, refl, sym, ap, ◌∙◌, subst, inl, inr, arith, mul-le-mul, mod-eq_of_lt, length-append}
+use Rattle.std.proofs.Common.{◌≡◌, ◌⊎◌, ℕ, zero, suc, ◌+◌, ◌-◌, ◌*◌, ◌<◌, ◌≤◌, ℤ, pos, ◌+ℤ◌, ◌-ℤ◌, ◌<ℤ◌, ◌≤ℤ◌, true, List, [], ◌∷◌, ◌++◌, map, take}
+use Rattle.std.proofs.Common.{length, slice_index_or, None, unsigned_abs, refl, sym, ap, ◌∙◌, subst, inl, inr, arith, mul-le-mul, mod-eq_of_lt}
+use Rattle.std.proofs.Common.{length-append}
 use Rattle.std.specs.List.{Contains, AllByRecursion}
 use Rattle.std.proofs.lemmas.Int.{ints}
 use Rattle.ttx_header.specs.Ids.{Id}

@@ -1,5 +1,6 @@
 -- What the headers kept of a list tell, once the list has ended.
-use Rattle.std.proofs.Common.{◌≡◌, ℕ, ℤ, pos, ◌+ℤ◌, true, false, Bool, int_lt, unsigned_abs, if◌then◌else◌, List, [], ◌∷◌, Option, Some, None, refl, ◌∙◌}
+use Rattle.std.proofs.Common.{◌≡◌, ℕ, ℤ, pos, ◌+ℤ◌, true, false, Bool, int_lt, unsigned_abs, if◌then◌else◌, List, [], ◌∷◌, Option, Some, None, refl}
+use Rattle.std.proofs.Common.{◌∙◌}
 use Rattle.ttx_witness.specs.laws.JudgingLaws.{late_before, late_header}
 use Rattle.ttx_witness.specs.declared.runs.transmissions.Transmission.{Transmission}
 use Rattle.ttx_witness.specs.declared.passes.page_facts.Heads.{Heads}

@@ -1,5 +1,6 @@
 -- What the slots of a period send, by the places of the items of pages.
-use Rattle.std.proofs.Common.{◌≡◌, ℕ, zero, suc, ◌++◌, take, get_or, Option, None, ap, append_assoc, ◌+◌, ◌<◌, ◌≤◌, true, if◌then◌else◌, List, [], ◌∷◌, length, Some, refl, sym, ◌∙◌, inl, inr, arith}
+use Rattle.std.proofs.Common.{◌≡◌, ℕ, zero, suc, ◌++◌, take, get_or, Option, None, ap, append_assoc, ◌+◌, ◌<◌, ◌≤◌, true, if◌then◌else◌, List, []}
+use Rattle.std.proofs.Common.{◌∷◌, length, Some, refl, sym, ◌∙◌, inl, inr, arith}
 use Rattle.ttx_witness.proofs.lemmas.Choices.{cases_bool}
 use Rattle.ttx_witness.proofs.lemmas.runs.OneByOne.{take_more}
 use Rattle.ttx_witness.proofs.lemmas.runs.OneMore.{take_whole}

@@ -1,5 +1,6 @@
 -- The start that a pass calls bad, and the one that it calls late, are the first such.
-use Rattle.std.proofs.Common.{◌≡◌, ◌⊎◌, ℕ, suc, ◌+◌, ◌<◌, ◌≤◌, ℤ, pos, ◌+ℤ◌, ◌<ℤ◌, true, false, int_lt, nat_lt, List, [], ◌∷◌, ◌++◌, length, slice_index_or, Option, Some, None, refl, sym, ap, ◌∙◌, subst, inl, inr, arith}
+use Rattle.std.proofs.Common.{◌≡◌, ◌⊎◌, ℕ, suc, ◌+◌, ◌<◌, ◌≤◌, ℤ, pos, ◌+ℤ◌, ◌<ℤ◌, true, false, int_lt, nat_lt, List, [], ◌∷◌, ◌++◌, length}
+use Rattle.std.proofs.Common.{slice_index_or, Option, Some, None, refl, sym, ap, ◌∙◌, subst, inl, inr, arith}
 use Rattle.std.specs.List.{AllByRecursion}
 use Rattle.std.proofs.lemmas.Int.{ints}
 use Rattle.std.proofs.lemmas.Bool.{cases_lt}
@@ -9,7 +10,8 @@ use Rattle.ttx_witness.specs.runs.Confirming.{Progress, Rising, late_after, conf
 use Rattle.ttx_witness.specs.runs.Repeating.{Repeats, AreSent, RunEndsBelow, IsRunOf, IsBad, IsLate, IsFirst, next_start}
 use Rattle.ttx_witness.proofs.lemmas.Choices.{if_ind}
 use Rattle.ttx_witness.proofs.lemmas.runs.MovedStreams.{run_later}
-use Rattle.ttx_witness.proofs.lemmas.runs.ConfirmedStarts.{named_at, Matches, next_is, marked_next, marked_chosen, chosen_match, match_bound, confirmed_yes, first_end_kept, late_is_first, first_late}
+use Rattle.ttx_witness.proofs.lemmas.runs.ConfirmedStarts.{named_at, Matches, next_is, marked_next, marked_chosen, chosen_match, match_bound}
+use Rattle.ttx_witness.proofs.lemmas.runs.ConfirmedStarts.{confirmed_yes, first_end_kept, late_is_first, first_late}
 use Rattle.ttx_witness.proofs.lemmas.runs.PassDecides as D
 
 module _ (Owned Sure : ℤ → ℤ → Type 0) (n k limit : ℕ) (law : Repeats n Owned Sure) (starts : List ℕ) where

@@ -1,5 +1,6 @@
 -- One transmission more, in what is held of them.
-use Rattle.std.proofs.Common.{◌≡◌, ℕ, zero, suc, ◌+◌, ◌-◌, ◌<◌, ◌≤◌, if◌then◌else◌, ◌==◌, nat_lt, List, [], ◌∷◌, ◌++◌, Option, Some, None, map, take, drop, length, refl, sym, ap, ◌∙◌, subst, inl, inr, arith, length-append, slice_get, eqb-true, eq-eqb, unsigned_abs}
+use Rattle.std.proofs.Common.{◌≡◌, ℕ, zero, suc, ◌+◌, ◌-◌, ◌<◌, ◌≤◌, if◌then◌else◌, ◌==◌, nat_lt, List, [], ◌∷◌, ◌++◌, Option, Some, None, map, take}
+use Rattle.std.proofs.Common.{drop, length, refl, sym, ap, ◌∙◌, subst, inl, inr, arith, length-append, slice_get, eqb-true, eq-eqb, unsigned_abs}
 use Rattle.std.proofs.lemmas.List.{map-append, take-append-le, length-take-le, length-drop, drop-append-le, drop-drop}
 use Rattle.std.proofs.lemmas.Bool.{cases_lt}
 use Rattle.std.proofs.lemmas.Bool.Decides.{nat_tests}

@@ -1,18 +1,21 @@
 -- What a track tells at the end is what is asked of the named starts.
-use Rattle.std.proofs.Common.{◌≡◌, ◌↔◌, ℕ, zero, suc, ◌+◌, ◌<◌, ◌≤◌, ℤ, pos, ◌+ℤ◌, ◌-ℤ◌, ◌<ℤ◌, ◌≤ℤ◌, List, [], ◌∷◌, ◌++◌, map, length, slice_index_or, None, refl, sym, ap, ◌∙◌, subst, inl, inr, arith}
+use Rattle.std.proofs.Common.{◌≡◌, ◌↔◌, ℕ, zero, suc, ◌+◌, ◌<◌, ◌≤◌, ℤ, pos, ◌+ℤ◌, ◌-ℤ◌, ◌<ℤ◌, ◌≤ℤ◌, List, [], ◌∷◌, ◌++◌, map, length, slice_index_or}
+use Rattle.std.proofs.Common.{None, refl, sym, ap, ◌∙◌, subst, inl, inr, arith}
 use Rattle.std.specs.List.{AllByRecursion}
 use Rattle.std.proofs.lemmas.Int.{ints}
 use Rattle.std.proofs.lemmas.List.{length-append}
 use Rattle.std.proofs.lemmas.Bool.{cases_lt}
 use Rattle.ttx_witness.specs.runs.Transmissions.{Transmission, start_of, Run, run_of, runs, moved_run, windows, further, extended}
 use Rattle.ttx_witness.specs.runs.Confirming.{Progress, Rising, is_next, late_after, confirmed_runs, after_runs, not_begun}
-use Rattle.ttx_witness.specs.runs.Repeating.{Lists, Successive, Repeats, IsSentAt, AreSent, BeginsSureRun, IsRunOf, IsNamedRun, IsInTime, FollowInTime}
+use Rattle.ttx_witness.specs.runs.Repeating.{Lists, Successive, Repeats, IsSentAt, AreSent, BeginsSureRun, IsRunOf, IsNamedRun, IsInTime}
+use Rattle.ttx_witness.specs.runs.Repeating.{FollowInTime}
 use Rattle.ttx_witness.proofs.lemmas.Choices.{if_ind, cases_ltz}
 use Rattle.ttx_witness.proofs.lemmas.runs.Windows.{windows_yes, windows_no, windows_short}
 use Rattle.ttx_witness.proofs.lemmas.runs.Rounds.{extended_lists, length_further}
 use Rattle.ttx_witness.proofs.lemmas.runs.StreamRuns.{Sent, Told, told_sent, told_later, sent_earlier, runs_are}
 use Rattle.ttx_witness.proofs.lemmas.runs.Neighbours as N
-use Rattle.ttx_witness.proofs.lemmas.runs.ConfirmedStarts.{Matches, chosen_match, marked_chosen, marked_next, late_round, next_is, named_at, RisesFrom, NoneFor, stuck}
+use Rattle.ttx_witness.proofs.lemmas.runs.ConfirmedStarts.{Matches, chosen_match, marked_chosen, marked_next, late_round, next_is, named_at}
+use Rattle.ttx_witness.proofs.lemmas.runs.ConfirmedStarts.{RisesFrom, NoneFor, stuck}
 
 runs_none : (n k : ℕ) → runs n k [] ≡ []
 unfolding further windows

@@ -1,5 +1,6 @@
 -- The owners before slot 0 are those at the end of the period, a period earlier.
-use Rattle.std.proofs.Common.{◌≡◌, ℕ, zero, suc, ◌+◌, ◌<◌, ℤ, pos, ◌+ℤ◌, Bool, true, false, if◌then◌else◌, List, [], ◌∷◌, length, get_or, Option, Some, None, refl, sym, ap, ◌∙◌, arith, mod-eq_of_lt}
+use Rattle.std.proofs.Common.{◌≡◌, ℕ, zero, suc, ◌+◌, ◌<◌, ℤ, pos, ◌+ℤ◌, Bool, true, false, if◌then◌else◌, List, [], ◌∷◌, length, get_or, Option}
+use Rattle.std.proofs.Common.{Some, None, refl, sym, ap, ◌∙◌, arith, mod-eq_of_lt}
 use Rattle.std.proofs.lemmas.List.{get_or_default}
 use Rattle.ttx_header.specs.Ids.{Id}
 use Rattle.ttx_page.specs.Packets.{Packet, packet_of}

@@ -1,5 +1,6 @@
 -- The transmissions in a cycle's first period after another cycle.
-use Rattle.std.proofs.Common.{◌≡◌, ℕ, zero, suc, ◌≤◌, ℤ, pos, negsuc, ◌+ℤ◌, ◌-ℤ◌, ◌<ℤ◌, ◌≤ℤ◌, Bool, true, false, List, [], ◌∷◌, ◌++◌, length, Option, Some, None, refl, sym, ap, ◌∙◌, subst, arith}
+use Rattle.std.proofs.Common.{◌≡◌, ℕ, zero, suc, ◌≤◌, ℤ, pos, negsuc, ◌+ℤ◌, ◌-ℤ◌, ◌<ℤ◌, ◌≤ℤ◌, Bool, true, false, List, [], ◌∷◌, ◌++◌, length, Option}
+use Rattle.std.proofs.Common.{Some, None, refl, sym, ap, ◌∙◌, subst, arith}
 use Rattle.std.specs.List.{AllByRecursion}
 use Rattle.std.proofs.lemmas.Int.{ints}
 use Rattle.ttx_header.specs.Ids.{Id}
@@ -10,7 +11,8 @@ use Rattle.ttx_page.specs.Streams.{Stream, repeated, joined, heads, heads_page, 
 use Rattle.ttx_witness.specs.runs.Transmissions.{Transmission, slot_of}
 use Rattle.ttx_witness.specs.runs.Tracks.{AreInOrder, IsWithin}
 use Rattle.ttx_witness.specs.runs.Repeating.{AreSent}
-use Rattle.ttx_witness.specs.sent.ItemTransmissions.{PageOwner, tainted_by, owner_after, owner_scan, owner_moved, sent_under, sent_at, sent_scan, sent_after, entry_owner}
+use Rattle.ttx_witness.specs.sent.ItemTransmissions.{PageOwner, tainted_by, owner_after, owner_scan, owner_moved, sent_under, sent_at, sent_scan}
+use Rattle.ttx_witness.specs.sent.ItemTransmissions.{sent_after, entry_owner}
 use Rattle.ttx_witness.specs.laws.JudgingLaws.{FirstPeriodIsListed}
 use Rattle.ttx_witness.proofs.lemmas.Choices.{if_ind}
 use Rattle.ttx_witness.proofs.lemmas.runs.AllBetween.{lists_low, lists_high, lists_rise}

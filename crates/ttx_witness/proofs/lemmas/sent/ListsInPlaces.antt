@@ -1,5 +1,6 @@
 -- Lists in their places.
-use Rattle.std.proofs.Common.{◌≡◌, ℕ, zero, suc, ◌<◌, ◌==◌, if◌then◌else◌, List, [], ◌∷◌, ◌++◌, map, length, get_or, set, Vec, Global, refl, sym, ap, ◌∙◌, arith, eqb-true, eq-eqb, get_or-set_same, get_or-set_other}
+use Rattle.std.proofs.Common.{◌≡◌, ℕ, zero, suc, ◌<◌, ◌==◌, if◌then◌else◌, List, [], ◌∷◌, ◌++◌, map, length, get_or, set, Vec, Global, refl, sym, ap}
+use Rattle.std.proofs.Common.{◌∙◌, arith, eqb-true, eq-eqb, get_or-set_same, get_or-set_other}
 use Rattle.std.proofs.lemmas.List.{length-map, map-set}
 use Rattle.ttx_witness.specs.runs.Transmissions.{Transmission}
 use Rattle.ttx_witness.specs.sent.Collected.{held}

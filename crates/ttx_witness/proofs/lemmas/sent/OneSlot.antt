@@ -1,11 +1,13 @@
 -- What one slot sends of the items of pages.
-use Rattle.std.proofs.Common.{◌≡◌, ℕ, ◌-◌, ◌≤◌, ℤ, Bool, true, false, ◌&&◌, ◌==◌, if◌then◌else◌, Bor, List, [], ◌∷◌, ◌++◌, get_or, slice_get, Option, Some, None, refl, sym, ap, ◌∙◌, subst, inl, inr, arith, eqb-true, eq-eqb}
+use Rattle.std.proofs.Common.{◌≡◌, ℕ, ◌-◌, ◌≤◌, ℤ, Bool, true, false, ◌&&◌, ◌==◌, if◌then◌else◌, Bor, List, [], ◌∷◌, ◌++◌, get_or, slice_get, Option}
+use Rattle.std.proofs.Common.{Some, None, refl, sym, ap, ◌∙◌, subst, inl, inr, arith, eqb-true, eq-eqb}
 use Rattle.std.proofs.lemmas.List.{append-nil}
 use Rattle.ttx_packet.specs.Slots.{Kind, IsEmpty, IsUnreadable, IsHeader, IsRow, IsLinks, IsInfo, IsOther, kind_of}
 use Rattle.ttx_packet.specs.Lent.{ShowsAs}
 use Rattle.ttx_packet.specs.declared.place.Address.{Address}
 use Rattle.ttx_packet.specs.declared.slots.Slot.{Slot}
-use Rattle.ttx_packet.specs.declared.slots.Slot.TheVariants.{Empty as SEmpty, Unreadable as SUnreadable, Header as SHeader, Row as SRow, Links as SLinks, Info as SInfo, Other as SOther}
+use Rattle.ttx_packet.specs.declared.slots.Slot.TheVariants.{Empty as SEmpty, Unreadable as SUnreadable, Header as SHeader, Row as SRow}
+use Rattle.ttx_packet.specs.declared.slots.Slot.TheVariants.{Links as SLinks, Info as SInfo, Other as SOther}
 use Rattle.ttx_header.specs.Headers.{id_of}
 use Rattle.ttx_header.specs.Ids.{Id, same_id}
 use Rattle.ttx_links.specs.Sets.{LinkSet}

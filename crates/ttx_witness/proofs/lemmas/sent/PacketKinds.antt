@@ -1,5 +1,6 @@
 -- What is known of a packet from the kind of its slot.
-use Rattle.std.proofs.Common.{◌≡◌, ℕ, Bool, true, false, not, List, Option, Some, None, SomeIff, MatchOption, IsTrue, drop, map, ◌↔◌, refl, sym, subst}
+use Rattle.std.proofs.Common.{◌≡◌, ℕ, Bool, true, false, not, List, Option, Some, None, SomeIff, MatchOption, IsTrue, drop, map, ◌↔◌, refl, sym}
+use Rattle.std.proofs.Common.{subst}
 use Rattle.ttx_packet.specs.Slots.{IsSlot, Kind, IsEmpty, IsUnreadable, IsHeader, IsRow, IsLinks, IsInfo, IsOther, kind_of}
 use Rattle.ttx_header.specs.Ids.{Id}
 use Rattle.ttx_header.specs.Fields.{HeaderFields}

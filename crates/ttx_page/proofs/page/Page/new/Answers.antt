@@ -2,7 +2,9 @@ use Rattle.std.proofs.Common.{◌≡◌, true, false, rules}
 use Rattle.ttx_page.proofs.PageRules.{PassesAsPage, IsPage_from_passes, passes_from_IsPage}
 use Rattle.ttx_page.proofs.Targets.{each_target}
 use Rattle.ttx_page.proofs.page.Page.new.Goals as goal
-use Rattle.ttx_page.proofs.page.Page.new.Goals.{else-is_page_id-via-then-is_page_id+then-is_page_control+then-is_head+else-are_rows, else-is_page_id-via-then-is_page_id+then-is_page_control+else-is_head, else-is_page_id-via-then-is_page_id+else-is_page_control, else-is_page_id-via-else-is_page_id}
+use Rattle.ttx_page.proofs.page.Page.new.Goals.{else-is_page_id-via-then-is_page_id+then-is_page_control+then-is_head+else-are_rows}
+use Rattle.ttx_page.proofs.page.Page.new.Goals.{else-is_page_id-via-then-is_page_id+then-is_page_control+else-is_head}
+use Rattle.ttx_page.proofs.page.Page.new.Goals.{else-is_page_id-via-then-is_page_id+else-is_page_control, else-is_page_id-via-else-is_page_id}
 
 pub invariant_of-result : goal.invariant_of-result
 invariant_of-result c = record {

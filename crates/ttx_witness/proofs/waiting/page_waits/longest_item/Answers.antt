@@ -4,7 +4,8 @@ use Rattle.ttx_witness.specs.waiting.ItemLimits.{AllBelow}
 use Rattle.ttx_witness.specs.waiting.SurveyedWaits.{IsLongestIn}
 use Rattle.ttx_witness.proofs.lemmas.waiting.ItemLimits.{longest_unseen, longest_kept, longest_new, own_field}
 use Rattle.ttx_witness.proofs.waiting.page_waits.longest_item.Goals as goal
-use Rattle.ttx_witness.proofs.waiting.page_waits.longest_item.Goals.{then-needed+in_ok-slots+in-Some+then-own-fields, then-needed+in_ok-slots+in-Some+else-own-fields, else-needed}
+use Rattle.ttx_witness.proofs.waiting.page_waits.longest_item.Goals.{then-needed+in_ok-slots+in-Some+then-own-fields}
+use Rattle.ttx_witness.proofs.waiting.page_waits.longest_item.Goals.{then-needed+in_ok-slots+in-Some+else-own-fields, else-needed}
 
 pub returns-in_default : goal.returns-in_default
 returns-in_default c =

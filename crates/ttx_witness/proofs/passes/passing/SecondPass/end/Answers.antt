@@ -7,7 +7,8 @@ use Rattle.ttx_witness.proofs.lemmas.passes.EndOfList.{empty_is, again, own}
 use Rattle.ttx_witness.proofs.lemmas.sent.PageIndexes.{ids_are, id_of_page}
 use Rattle.ttx_witness.proofs.lemmas.passes.ReturningOwners.{kept_same}
 use Rattle.ttx_witness.proofs.passes.passing.SecondPass.end.Goals as goal
-use Rattle.ttx_witness.proofs.passes.passing.SecondPass.end.Goals.{then-self-via-then-self, then-self-via-else-self+then-period-eq0, then-self-via-else-self+else-period-eq0+then-not-is_steady}
+use Rattle.ttx_witness.proofs.passes.passing.SecondPass.end.Goals.{then-self-via-then-self, then-self-via-else-self+then-period-eq0}
+use Rattle.ttx_witness.proofs.passes.passing.SecondPass.end.Goals.{then-self-via-else-self+else-period-eq0+then-not-is_steady}
 
 pub returns-then-self-clause-ended : goal.returns-then-self-clause-ended
 returns-then-self-clause-ended c = λ x y st e.
