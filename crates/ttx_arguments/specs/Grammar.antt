@@ -6,7 +6,8 @@
 --   number_rule, name_rule    an option with a number in a range, and one with a name of a list
 --   flag_rule, text_rule     an option without a value, and one with any text
 --   needed_rule, needed_number_rule         an option that has to be there, with any text, and with a number in a range
---   inspect_app, plan_app, find_app, certify_app, refute_app, replay_app, receive_app, show_app, preview_app, splice_app, wait_app, send_app, pages_app, book_app, extract_app, check_app, version_app
+--   inspect_app, plan_app, find_app, certify_app, refute_app, replay_app, receive_app, show_app,
+--   preview_app, splice_app, wait_app, send_app, pages_app, book_app, extract_app, check_app, version_app
 --                            a command with its arguments
 --   bare_app, ttx_app        the program alone, and with its commands
 --   Builds                   what is built of a command, where memory doesn't run out
