@@ -4,7 +4,8 @@
 --   Rising                  named starts rise strictly
 --   IsCertificate           the ranges of a certificate's numbers, and the order of its starts
 --   limit                   the deadline in slots
-use Rattle.std.specs.Prelude.{ℕ, ◌*◌, ◌<◌, ◌≤◌, List, length, slice_index_or}
+--   next_start              the named start after one, round a cycle
+use Rattle.std.specs.Prelude.{ℕ, ◌+◌, ◌*◌, ◌<◌, ◌≤◌, ℤ, pos, ◌+ℤ◌, nat_lt, if◌then◌else◌, List, length, slice_index_or}
 use Rattle.ttx_header.specs.Ids.{Id}
 use Rattle.ttx_page.specs.declared.item.Item.{Item}
 use Rattle.ttx_page.specs.declared.class.Class.{Class}
@@ -32,3 +33,7 @@ pub record IsCertificate (w : Certificate) : Type 0 where
 
 abbrev pub limit : Certificate → ℕ
 limit w = w.deadline * w.lines
+
+-- where the next named start stands after the i-th, in a cycle of n slots: after the last one the first, a period later
+abbrev pub next_start : ℕ → List ℕ → ℕ → ℤ
+next_start n starts i = if nat_lt (i + 1) (length starts) then pos (slice_index_or starts (i + 1) 0) else pos (slice_index_or starts 0 0) +ℤ pos n

@@ -13,7 +13,7 @@ use Rattle.ttx_page.specs.Pages.{Page, IsBlank, needed}
 use Rattle.ttx_page.specs.declared.item.Item.{Item}
 use Rattle.ttx_page.specs.declared.class.Class.TheVariants.{Clearing}
 use Rattle.ttx_page.specs.Streams.{repeated, IsOwned, EndsBelow, heads_page}
-use Rattle.ttx_witness.specs.runs.Repeating.{next_start}
+use Rattle.ttx_certificate.specs.NamedStarts.{next_start}
 use Rattle.ttx_witness.specs.Coverage.{Certificate, limit, IsSureStart}
 
 pub record BadSlotAt (cycle : List (List ℕ)) (slot : ℕ) : Type 0 where

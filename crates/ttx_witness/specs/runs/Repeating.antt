@@ -13,9 +13,10 @@
 --   IsBad, IsLate, IsFirst  a named start without a sure run; one that the next follows too late; the first such
 --   FollowInTime            each run ends within the limit after the owner of the one before it
 use Rattle.std.specs.Prelude.{◌≡◌, ◌↔◌, ℕ, ◌+◌, ◌<◌, ◌≤◌, ℤ, pos, ◌+ℤ◌, ◌-ℤ◌, ◌<ℤ◌, ◌≤ℤ◌, true, List, [], ◌∷◌, length}
-use Rattle.std.specs.Prelude.{Contains, if◌then◌else◌, nat_lt, slice_index_or, Option, Some, None}
+use Rattle.std.specs.Prelude.{Contains, slice_index_or, Option, Some, None}
 use Rattle.std.specs.List.{AllByRecursion}
 pub use Rattle.ttx_page.specs.Streams.{turned}
+pub use Rattle.ttx_certificate.specs.NamedStarts.{next_start}
 use Rattle.ttx_witness.specs.runs.Transmissions.{Transmission, Run, slot_of}
 
 -- ts are all that has the property P, from slot low to below slot high, each as Is tells
@@ -114,10 +115,6 @@ pub record Covers (Owned Sure : ℤ → ℤ → Type 0) (n k limit : ℕ) (start
 abbrev pub FollowInTime : ℕ → Run → List Run → Type 0
 FollowInTime limit r [] = Unit {0}
 FollowInTime limit r (next ∷ rest) = (next.end ≤ℤ (r.owner +ℤ pos limit)) × FollowInTime limit next rest
-
--- where the next named start stands after the i-th: after the last one the first, a period later
-abbrev pub next_start : ℕ → List ℕ → ℕ → ℤ
-next_start n starts i = if nat_lt (i + 1) (length starts) then pos (slice_index_or starts (i + 1) 0) else pos (slice_index_or starts 0 0) +ℤ pos n
 
 -- the next named run doesn't end within the limit after the owner of the i-th
 pub record IsLate (Owned : ℤ → ℤ → Type 0) (n k limit : ℕ) (starts : List ℕ) (i : ℕ) : Type 0 where
