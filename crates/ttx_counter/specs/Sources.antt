@@ -30,8 +30,18 @@ plain_from lines sel m s tau (suc n) = plain_from lines sel (after Any lines sel
 
 abbrev pub plain_counter : ℕ → Bool → Memory → ℕ → ℕ → ℕ → ℕ → CounterRun
 plain_counter index any_sub former lines repeat deadline n =
-    record { page = index; any_sub = any_sub; start = 0; slots = n; former = former; choices = []; hits = [];
-      lines = lines; repeat = repeat; deadline = deadline }
+    record {
+      page = index;
+      any_sub = any_sub;
+      start = 0;
+      slots = n;
+      former = former;
+      choices = [];
+      hits = [];
+      lines = lines;
+      repeat = repeat;
+      deadline = deadline;
+    }
 
 abbrev pub PlainRunsAreCounterRuns : Type 0
 PlainRunsAreCounterRuns =
