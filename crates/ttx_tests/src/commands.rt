@@ -67,7 +67,7 @@ fn orders(rt: HostRuntime) -> Result<(), Fail> {
     );
     assert_eq!(rt;
         asked(alloc, &["plan", "a", "b", "--class", "clearing"])?.as_str(),
-        "Plan { service: \"a\", out: \"b\", class: Clearing, late: false }"
+        "Plan(PlanOrder { service: \"a\", out: \"b\", class: Clearing, late: false })"
     );
     assert_eq!(rt;
         asked(alloc, &["receive", "a", "100", "--lines", "33"])?.as_str(),
