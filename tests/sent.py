@@ -1,6 +1,7 @@
 #!/usr/bin/env python3
 """Runs `send` over cycles of random slots, and compares what goes out with what a plain sender of its own makes of them, byte for
 byte: damaged page headers, packets 8/30 of all designations, phases up to 2^32 - 1, midnight, and the last date of five digits.
+Then 100,000 fields of the shipped example, over midnight, of which `receive` and `show` tell the right clock.
 
 usage: sent.py PROGRAM [COUNT]
 """
@@ -69,6 +70,34 @@ def random_slot(chance):
     return bytes(slot)
 
 
+def clock_at_end(stream, lines, second):
+    """The clock of the last header of page 100, by the field in which it stands."""
+    for at in range(len(stream) // 42 - 1, -1, -1):
+        if bytes(stream[42 * at : 42 * at + 8]) == bytes(WORDS[n] for n in (1, 0, 0, 0, 0, 0, 0, 0)):
+            now = (second + at // lines // 50) % 86400
+            return f"{now // 3600:02}:{now // 60 % 60:02}:{now % 60:02}"
+    return None
+
+
+def long_sending(program, folder):
+    """What is wrong with the clock that is shown at the end of 100,000 fields, or nothing."""
+    lines, second, kept = 12, 23 * 3600 + 40 * 60, 5400
+    service = Path(__file__).resolve().parent.parent / "examples/broadcast.toml"
+    subprocess.run([program, "plan", service, folder / "news.t42", "--late"], capture_output=True, check=True)
+    words = ["--at", "60999/234000", "--fields", "100000", "--lines", str(lines)]
+    stream = subprocess.run([program, "send", folder / "news.t42"] + words, capture_output=True, check=True).stdout
+    if len(stream) != 100000 * lines * 42:
+        return f"{len(stream)} bytes"
+    # a packet file has at most 65,536 slots: the last fields
+    (folder / "end.t42").write_bytes(stream[-kept * lines * 42 :])
+    wanted = clock_at_end(stream, lines, second)
+    words = [folder / "end.t42", "100", "--lines", str(lines), "--slots", str(kept * lines)]
+    shown = subprocess.run([program, "show", *words, "--as", "text"], capture_output=True, text=True, check=True).stdout
+    row = subprocess.run([program, "receive", *words], capture_output=True, text=True, check=True).stdout.split("\n")[0].split()[2:]
+    told = [shown.split("\n")[0][32:40], "".join(chr(int(word, 16) % 128) for word in row[32:40])]
+    return None if told == [wanted, wanted] else f"{told} are shown, and it is {wanted}"
+
+
 def main():
     program = str(Path(sys.argv[1]).resolve())
     count = int(sys.argv[2]) if len(sys.argv) > 2 else 60
@@ -93,6 +122,9 @@ def main():
                     wanted += timed(slot, day, now % 86400, 1800 * halves)
             if made != bytes(wanted):
                 sys.exit(f"sent: run {run}, {' '.join(words)}: something else is sent")
+        why = long_sending(program, Path(folder))
+        if why:
+            sys.exit(f"sent: 100,000 fields: {why}")
     print(f"sent: {count} sendings, 0 failed")
 
 
