@@ -4,7 +4,7 @@
 --   date_of, second_of      five digits of the date; the second of the day, of six digits
 --   moment_of               the date and the second that a text names
 use Rattle.std.specs.Prelude.{ℕ, ◌+◌, ◌-◌, List, Option, Some, None, ◌&&◌, ◌==◌, nat_lt, nat_le, length, slice_index, if◌then◌else◌}
-use Rattle.ttx_source.specs.Values.{joined_digits}
+use Rattle.ttx_digits.specs.Digits.{joined_digits}
 
 abbrev pub digit_of : ℕ → Option ℕ
 digit_of c = if nat_le 48 c && nat_le c 57 then Some (c - 48) else None

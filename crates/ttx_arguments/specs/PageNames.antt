@@ -5,7 +5,9 @@ use Rattle.std.specs.Prelude.{ℕ, List, Option, Some, None, ◌&&◌, ◌==◌,
 use Rattle.ttx_header.specs.Ids.{id_at}
 use Rattle.ttx_page.specs.declared.selection.Selection.{Selection}
 use Rattle.ttx_page.specs.declared.selection.Selection.TheVariants.{Exact, AnySub}
-use Rattle.ttx_source.specs.Values.{first_number, four_digits, is_inside_mask, any_subcode}
+use Rattle.ttx_digits.specs.Digits.{four_digits}
+use Rattle.ttx_digits.specs.PageIds.{first_number}
+use Rattle.ttx_source.specs.Values.{is_inside_mask, any_subcode}
 
 -- any subpage of a magazine and a page number
 abbrev pub any_of : Option (ℕ × ℕ) → Option Selection

@@ -10,7 +10,8 @@ use Rattle.ttx_header.specs.Ids.{Id}
 use Rattle.ttx_pages.specs.Keys.{owners}
 use Rattle.ttx_picture.specs.Html.{sheet, figure_html}
 use Rattle.ttx_render.specs.View.{view_of}
-use Rattle.ttx_witness.specs.CertificateTexts.{hex_digit, hex_byte, id_text}
+use Rattle.ttx_digits.specs.Digits.{hex_byte, hex_digit}
+use Rattle.ttx_digits.specs.PageIds.{id_text}
 
 unfoldable pub book_start : List ℕ
 book_start = codes "<!DOCTYPE html>\n<html lang=\"en\"><head><meta charset=\"utf-8\"/><meta name=\"viewport\" content=\"width=device-width\"/><title>Teletext pages</title><style>"

@@ -2,7 +2,7 @@
 
 ghost use Rattle.std.specs.Prelude.{◌≡◌, ◌++◌, OnOk, length, string_bytes};
 ghost use Rattle.ttx_book.specs.Books.{name_of, index_entry, index_html, full_number, anchor, section_tag, heading, leaf_end, leaf_html, leaves_html};
-ghost use Rattle.ttx_witness.specs.CertificateTexts.{hex_byte};
+ghost use Rattle.ttx_digits.specs.Digits.{hex_byte};
 
 use crate::hearing::page_view;
 use crate::placing::Index;

@@ -16,16 +16,18 @@ use Rattle.ttx_page.specs.declared.item.Item.TheVariants.{Head as TheHead, Row a
 use Rattle.ttx_page.specs.declared.class.Class.{Class}
 use Rattle.ttx_page.specs.declared.class.Class.TheVariants.{Any, Clearing}
 use Rattle.ttx_certificate.specs.Entries.{EntryFields, entry_at, CertificateFields, certificate_fields_at, place_of}
-use Rattle.ttx_certificate.specs.CertificateTexts.{hex_digit, hex_byte, id_text, item_text, starts_text, entry_text, entries_text, class_text}
+use Rattle.ttx_digits.specs.Digits.{are_digits, decimal_after, hex_byte, hex_digit, hex_pair, hex_value, is_between, is_hex, is_number, number_in_word}
+use Rattle.ttx_digits.specs.PageIds.{id_in_word, id_text, is_id_word}
+use Rattle.ttx_certificate.specs.CertificateTexts.{item_text, starts_text, entry_text, entries_text, class_text}
 use Rattle.ttx_certificate.specs.CertificateTexts.{number_text, certificate_text}
-use Rattle.ttx_certificate.specs.CertificateReading.{lines_in, words_in, are_digits, is_number, decimal_after, number_in_word, is_between, is_hex}
-use Rattle.ttx_certificate.specs.CertificateReading.{hex_value, is_id_word, hex_pair, id_in_word, row_in, item_in, before_numbers, numbers_in}
+use Rattle.ttx_certificate.specs.CertificateReading.{lines_in, words_in}
+use Rattle.ttx_certificate.specs.CertificateReading.{row_in, item_in, before_numbers, numbers_in}
 use Rattle.ttx_certificate.specs.CertificateReading.{starts_in_words, with_starts, with_item, entry_in, read_entry, read_entries, ranged, only_number}
 use Rattle.ttx_certificate.specs.CertificateReading.{number_in, line_at, number_line, read_numbers, read_class, read_title, read_text, ◌>>=◌}
 use Rattle.ttx_certificate.specs.declared.certificate_faults.CertFault.{CertFault}
 use Rattle.ttx_certificate.specs.declared.certificate_faults.CertFault.TheVariants.{Title, Line, Range}
 use Rattle.ttx_certificate.proofs.Choices.{if_ind, and_left, and_right}
-use Rattle.ttx_certificate.proofs.TextParts.{id_word, magazine_digit}
+use Rattle.ttx_digits.proofs.Words.{id_word, magazine_digit}
 use Rattle.ttx_certificate.proofs.ReadEntries.{no_value, value_or, entry_ok}
 
 none_some : {A : Type 0} (a : A) → ◌≡◌ {A = Option A} None (Some a) → ⊥

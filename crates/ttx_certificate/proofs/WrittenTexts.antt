@@ -17,10 +17,12 @@ use Rattle.ttx_page.specs.declared.class.Class.{Class}
 use Rattle.ttx_page.specs.declared.class.Class.TheVariants.{Any, Clearing}
 use Rattle.ttx_certificate.specs.Entries.{EntryFields, IsEntry, entry_at, CertificateFields, IsCertificateFields, certificate_fields_at, place_of}
 use Rattle.ttx_certificate.specs.Entries.{entry_places, is_item, is_page_id, is_above, are_starts, rises, rises_above, are_numbers}
-use Rattle.ttx_certificate.specs.CertificateTexts.{hex_digit, id_text, item_text, starts_text, entry_text, entries_text, class_text, number_text}
+use Rattle.ttx_digits.specs.Digits.{are_digits, decimal_after, hex_digit, hex_pair, hex_value, is_between, is_hex, is_number, number_in_word}
+use Rattle.ttx_digits.specs.PageIds.{id_in_word, id_text, is_id_word}
+use Rattle.ttx_certificate.specs.CertificateTexts.{item_text, starts_text, entry_text, entries_text, class_text, number_text}
 use Rattle.ttx_certificate.specs.CertificateTexts.{certificate_text}
-use Rattle.ttx_certificate.specs.CertificateReading.{parts_at, lines_in, words_in, are_digits, is_number, decimal_after, number_in_word, is_between}
-use Rattle.ttx_certificate.specs.CertificateReading.{is_hex, hex_value, is_id_word, hex_pair, id_in_word, is_id, is_in_range, is_in_order, item_in}
+use Rattle.ttx_certificate.specs.CertificateReading.{parts_at, lines_in, words_in}
+use Rattle.ttx_certificate.specs.CertificateReading.{is_id, is_in_range, is_in_order, item_in}
 use Rattle.ttx_certificate.specs.CertificateReading.{before_numbers, numbers_in, starts_in_words, with_starts, with_item, entry_in, read_entry}
 use Rattle.ttx_certificate.specs.CertificateReading.{read_entries, ranged, only_number, number_in, line_at, number_line, read_numbers, read_clearing}
 use Rattle.ttx_certificate.specs.CertificateReading.{read_class, read_version, read_title, read_text, ◌>>=◌}

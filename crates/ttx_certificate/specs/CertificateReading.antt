@@ -2,15 +2,16 @@
 -- counted from 1.
 --
 --   lines_in, words_in      the lines of a text, of which the last is what stands after the last 0A; the words of a line
---   number_in_word, id_in_word        a number, and the id of a page
 --   item_in, starts_in_words, entry_in      an item, starts, and the line of an entry
 --   is_in_range, is_in_order                the ranges of an entry, and its place after the one before it
 --   read_entries, line_at, number_line, read_numbers, read_version, read_text       the parts of a text, and the text
-use Rattle.std.specs.Prelude.{ℕ, ◌+◌, ◌-◌, ◌*◌, ◌/◌, ◌%◌, Bool, not, ◌&&◌, ◌||◌, ◌==◌, nat_lt, nat_le, List, [], ◌∷◌, codes}
-use Rattle.std.specs.Prelude.{length, slice_index, Option, Some, None, option_map, Result, Ok, Err, if◌then◌else◌}
-use Rattle.std.specs.List.{list_all, slice_split}
+use Rattle.std.specs.Prelude.{ℕ, ◌+◌, ◌/◌, ◌%◌, Bool, not, ◌&&◌, ◌==◌, nat_lt, List, [], ◌∷◌, codes}
+use Rattle.std.specs.Prelude.{length, Option, Some, None, option_map, Result, Ok, Err, if◌then◌else◌}
+use Rattle.std.specs.List.{slice_split}
 use Rattle.std.specs.Str.{bytes_eq}
-use Rattle.ttx_header.specs.Ids.{Id, id_at}
+use Rattle.ttx_header.specs.Ids.{Id}
+use Rattle.ttx_digits.specs.Digits.{is_between, number_in_word}
+use Rattle.ttx_digits.specs.PageIds.{id_in_word}
 use Rattle.ttx_page.specs.declared.item.Item.{Item}
 use Rattle.ttx_page.specs.declared.item.Item.TheVariants.{Head as TheHead, Row as TheRow, Links as TheLinks}
 use Rattle.ttx_page.specs.declared.class.Class.{Class}
@@ -28,43 +29,6 @@ lines_in text = parts_at 10 text
 
 abbrev pub words_in : List ℕ → List (List ℕ)
 words_in line = parts_at 32 line
-
-abbrev pub is_between : ℕ → ℕ → ℕ → Bool
-is_between low high b = nat_le low b && nat_le b high
-
-abbrev pub are_digits : List ℕ → Bool
-are_digits word = list_all (is_between 48 57) word
-
--- 1 to 7 digits without a leading zero
-abbrev pub is_number : List ℕ → Bool
-is_number word = are_digits word && nat_le 1 (length word) && nat_le (length word) 7 && (length word == 1 || not (slice_index word 0 == 48))
-
-abbrev pub decimal_after : ℕ → List ℕ → ℕ
-decimal_after n [] = n
-decimal_after n (digit ∷ digits) = decimal_after (10 * n + (digit - 48)) digits
-
-abbrev pub number_in_word : List ℕ → Option ℕ
-number_in_word word = if is_number word then Some (decimal_after 0 word) else None
-
--- 0 to 9 and A to F
-abbrev pub is_hex : ℕ → Bool
-is_hex b = is_between 48 57 b || is_between 65 70 b
-
-abbrev pub hex_value : ℕ → ℕ
-hex_value b = if nat_le b 57 then b - 48 else b - 55
-
--- a magazine, 1 to 8, two hexadecimal digits, a stroke and four hexadecimal digits
-abbrev pub is_id_word : List ℕ → Bool
-is_id_word word =
-    (length word == 8) && is_between 49 56 (slice_index word 0) && is_hex (slice_index word 1) && is_hex (slice_index word 2)
-    && (slice_index word 3 == 47)
-    && is_hex (slice_index word 4) && is_hex (slice_index word 5) && is_hex (slice_index word 6) && is_hex (slice_index word 7)
-
-abbrev pub hex_pair : List ℕ → ℕ → ℕ
-hex_pair word i = 16 * hex_value (slice_index word i) + hex_value (slice_index word (i + 1))
-
-abbrev pub id_in_word : List ℕ → Option Id
-id_in_word word = if is_id_word word then Some (id_at (slice_index word 0 - 48) (hex_pair word 1) (256 * hex_pair word 4 + hex_pair word 6)) else None
 
 abbrev pub row_in : List (List ℕ) → Option (Item × List (List ℕ))
 row_in [] = None

@@ -1,30 +1,17 @@
 -- The text of a certificate (profile): its lines, each ended by 0A, one space between words, numbers in decimal without leading
 -- zeros.
 --
---   hex_digit, hex_byte, id_text        the id of a page, as 100/3F7F
 --   item_text, starts_text, entry_text  a line for each item of a page for which starts are named
 --   title, class_text       the first line, and the class of receivers
 --   head_text, certificate_text         the lines before the entries; the whole text
-use Rattle.std.specs.Prelude.{ℕ, ◌+◌, ◌/◌, ◌%◌, List, [], ◌∷◌, ◌++◌, codes, nat_lt, if◌then◌else◌}
+use Rattle.std.specs.Prelude.{ℕ, List, [], ◌∷◌, ◌++◌, codes}
 use Rattle.std.specs.Fmt.{decimal}
-use Rattle.ttx_header.specs.Ids.{Id}
+use Rattle.ttx_digits.specs.PageIds.{id_text}
 use Rattle.ttx_page.specs.declared.item.Item.{Item}
 use Rattle.ttx_page.specs.declared.item.Item.TheVariants.{Head as TheHead, Row as TheRow, Links as TheLinks}
 use Rattle.ttx_page.specs.declared.class.Class.{Class}
 use Rattle.ttx_page.specs.declared.class.Class.TheVariants.{Any, Clearing}
 use Rattle.ttx_certificate.specs.Entries.{EntryFields, CertificateFields}
-
--- the digit of a number below 16
-abbrev pub hex_digit : ℕ → ℕ
-hex_digit n = if nat_lt n 10 then 48 + n else 55 + n
-
--- the digits of a byte, the high one first
-abbrev pub hex_byte : ℕ → List ℕ
-hex_byte b = hex_digit (b / 16) ∷ hex_digit (b % 16) ∷ []
-
--- magazine and two digits, a stroke, and the four digits of the subcode
-abbrev pub id_text : Id → List ℕ
-id_text id = (48 + id.mag) ∷ hex_byte id.page ++ 47 ∷ hex_byte (id.sub / 256) ++ hex_byte (id.sub % 256)
 
 abbrev pub item_text : Item → List ℕ
 item_text TheHead = codes " head"

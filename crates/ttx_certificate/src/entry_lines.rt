@@ -4,10 +4,11 @@ ghost use Rattle.std.specs.Prelude.{◌≡◌, ◌<◌, ◌∷◌, length, optio
 ghost use Rattle.ttx_certificate.specs.CertificateReading.{words_in, row_in, item_in, numbers_in, entry_in};
 ghost use Rattle.ttx_certificate.specs.WrittenEntries.{written_item, written_of, words_after};
 
-use crate::line_words::{cut, id, number};
+use crate::line_words::cut;
 use crate::no_memory::NoMemory;
 use crate::written::{Written, WrittenItem};
 use std::alloc::Global;
+use ttx_digits::{id, number};
 
 // The first word, and what stands after the space that ends it.
 fn next_word(text: &[u8]) -> (&[u8], Option<&[u8]>)

@@ -21,4 +21,5 @@ pub use item_numbers::item_number;
 pub use limits::limit;
 pub use no_memory::NoMemory;
 pub use reading::read_certificate;
-pub use writing::{digit, push_id, push_item, push_numbers, write_certificate};
+pub use ttx_digits::{digit, push_id, push_numbers};
+pub use writing::{push_item, write_certificate};

@@ -14,9 +14,10 @@ use crate::certificate_faults::CertFault;
 use crate::certificates::Certificate;
 use crate::entries::{Entry, are_slots, is_above};
 use crate::entry_lines::shape;
-use crate::line_words::{cut, number};
+use crate::line_words::cut;
 use crate::written::{Written, WrittenItem};
 use std::alloc::Global;
+use ttx_digits::number;
 use ttx_header::PageId;
 use ttx_page::{Class, Item, RowNumber};
 

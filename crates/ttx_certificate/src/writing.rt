@@ -1,8 +1,7 @@
 //! Writing certificates.
 
-ghost use Rattle.std.specs.Prelude.{◌≡◌, ◌<◌, ◌/◌, ◌%◌, ◌∷◌, ◌++◌, [], OnOk, IfOk, string_bytes};
-ghost use Rattle.ttx_header.specs.Ids.{id_at};
-ghost use Rattle.ttx_certificate.specs.CertificateTexts.{hex_digit, hex_byte, id_text, item_text, starts_text, entry_text};
+ghost use Rattle.std.specs.Prelude.{◌≡◌, ◌∷◌, ◌++◌, [], OnOk, IfOk, string_bytes};
+ghost use Rattle.ttx_certificate.specs.CertificateTexts.{item_text, starts_text, entry_text};
 ghost use Rattle.ttx_certificate.specs.CertificateTexts.{entries_text, class_text, head_text, certificate_text};
 ghost use Rattle.ttx_certificate.specs.EntryViews.{entry_of, entries_of};
 ghost use Rattle.ttx_certificate.specs.Certificates.{fields_of};
@@ -11,55 +10,8 @@ use crate::certificates::Certificate;
 use crate::entries::Entry;
 use crate::no_memory::NoMemory;
 use std::alloc::{AllocError, Global};
-use ttx_header::PageId;
+use ttx_digits::push_id;
 use ttx_page::{Class, Item};
-
-/// The digit of a number below 16.
-pub fn digit(number: u8) -> char
-    requires { number < 16 }
-    ensures { result ≡ hex_digit number }
-{
-    if number < 10 {
-        char::from(b'0' + number)
-    } else {
-        char::from(b'A' - 10 + number)
-    }
-}
-
-/// Adds two hexadecimal digits.
-pub fn push_byte(text: &mut String, byte: u8) -> Result<(), AllocError>
-    ensures { OnOk result (string_bytes text.new ≡ string_bytes text.old ++ hex_byte byte) }
-{
-    text.push(digit(byte / 16))?;
-    text.push(digit(byte % 16))
-}
-
-// Adds the four digits of a subcode.
-fn push_subcode(text: &mut String, sub: u16) -> Result<(), AllocError>
-    ensures { OnOk result (string_bytes text.new ≡ string_bytes text.old ++ hex_byte (sub / 256) ++ hex_byte (sub % 256)) }
-{
-    push_byte(text, (sub / 256) as u8)?;
-    push_byte(text, (sub % 256) as u8)
-}
-
-/// Adds an id by its numbers, of a page or of a link's target: magazine and two digits, a stroke, and the four digits of
-/// the subcode.
-pub fn push_numbers(text: &mut String, mag: u8, page: u8, sub: u16) -> Result<(), AllocError>
-    requires { mag < 10 }
-    ensures { OnOk result (string_bytes text.new ≡ string_bytes text.old ++ id_text (id_at mag page sub)) }
-{
-    text.push(digit(mag))?;
-    push_byte(text, page)?;
-    text.push('/')?;
-    push_subcode(text, sub)
-}
-
-/// Adds the id of a page.
-pub fn push_id(text: &mut String, id: PageId) -> Result<(), AllocError>
-    ensures { OnOk result (string_bytes text.new ≡ string_bytes text.old ++ id_text id) }
-{
-    push_numbers(text, id.mag(), id.page(), id.sub())
-}
 
 /// Adds an item, after a space.
 pub fn push_item(text: &mut String, item: Item) -> Result<(), AllocError>

@@ -7,7 +7,7 @@
 use Rattle.std.specs.Prelude.{ℕ, List, [], ◌∷◌, ◌++◌, codes}
 use Rattle.std.specs.Fmt.{decimal}
 use Rattle.ttx_header.specs.Ids.{Id}
-use Rattle.ttx_certificate.specs.CertificateTexts.{id_text}
+use Rattle.ttx_digits.specs.PageIds.{id_text}
 use Rattle.ttx_check.specs.declared.warning.Warning.{Warning}
 use Rattle.ttx_check.specs.declared.warning.Warning.TheVariants.{DeadInitial, DeadLink, HiddenRow, UnshownRow, StrayTab, StrayBreak, NoBox}
 use Rattle.ttx_check.specs.declared.warning.Warning.TheVariants.{BehindSubpage, BehindItself, MostTraffic}

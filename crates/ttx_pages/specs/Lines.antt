@@ -9,7 +9,8 @@ use Rattle.std.specs.Int.RustNames.{bit_and}
 use Rattle.ttx_code.specs.Words.{is_odd}
 use Rattle.ttx_header.specs.Control.{control_table}
 use Rattle.ttx_header.specs.Ids.{Id}
-use Rattle.ttx_witness.specs.CertificateTexts.{hex_byte, id_text}
+use Rattle.ttx_digits.specs.Digits.{hex_byte}
+use Rattle.ttx_digits.specs.PageIds.{id_text}
 
 -- a character as itself; behind a backslash where it would end the text, and by its number where it is none that is seen
 abbrev pub character : ℕ → List ℕ

@@ -2,7 +2,7 @@
 
 ghost use Rattle.std.specs.Prelude.{◌≡◌, ◌<◌, ◌++◌, ◌∷◌, [], OnOk, codes, map, string_bytes};
 ghost use Rattle.ttx_pages.specs.Lines.{character, quoted, quoted_text, set_names, control_text, counts_text, quoted_line, listed_line};
-ghost use Rattle.ttx_witness.specs.CertificateTexts.{hex_byte};
+ghost use Rattle.ttx_digits.specs.Digits.{hex_byte};
 
 use bitflags::{Flag, Flags};
 use std::alloc::AllocError;

@@ -4,13 +4,14 @@
 --   required, with_default    the value at a key, which must be there or has a default
 --   integer_within            an integer in a range
 --   characters                a text as the codes of its characters, filled with spaces
---   digit, two_digits, four_digits    hexadecimal digits, 0 to 9 and A to F
---   page_number, subcode, link, byte_pair    texts of such digits
-use Rattle.std.specs.Prelude.{ℕ, ℤ, pos, negsuc, ◌+◌, ◌-◌, ◌*◌, ◌/◌, ◌%◌, ◌++◌, List, [], ◌∷◌, length, replicate, slice_index}
+--   page_number, subcode, link, byte_pair    texts of hexadecimal digits
+use Rattle.std.specs.Prelude.{ℕ, ℤ, pos, negsuc, ◌+◌, ◌-◌, ◌/◌, ◌%◌, ◌++◌, List, [], ◌∷◌, length, replicate, slice_index}
 use Rattle.std.specs.Prelude.{Bool, false, not, ◌&&◌, ◌==◌, nat_lt, nat_le, Option, Some, None, Result, Ok, Err, if◌then◌else◌}
 use Rattle.std.specs.List.{list_all}
 use Rattle.std.specs.Str.{chars}
 use Rattle.ttx_header.specs.Ids.{Id, id_at}
+use Rattle.ttx_digits.specs.Digits.{two_digits, four_digits}
+use Rattle.ttx_digits.specs.PageIds.{first_number}
 use Rattle.toml.specs.Data.{Data, Members, get_member, as_integer}
 
 -- why a service definition is refused
@@ -80,34 +81,6 @@ characters most text =
     if nat_lt most (length (chars text)) then Err too_long
     else if list_all (λ b. nat_lt b 128) text then Ok (text ++ replicate (most - length text) 32)
     else Err wrong_character
-
--- a digit: 0 to 9, A to F
-unfoldable pub digit : ℕ → Option ℕ
-digit c =
-    if nat_le 48 c && nat_le c 57 then Some (c - 48)
-    else if nat_le 65 c && nat_le c 70 then Some (c - 55)
-    else None
-
-abbrev pub joined_digits : ℕ → Option ℕ → Option ℕ → Option ℕ
-joined_digits weight None low = None
-joined_digits weight (Some high) None = None
-joined_digits weight (Some high) (Some low) = Some (weight * high + low)
-
--- the number of the two digits from a place on, the higher one first
-unfoldable pub two_digits : List ℕ → ℕ → Option ℕ
-two_digits text at = joined_digits 16 (digit (slice_index text at)) (digit (slice_index text (at + 1)))
-
--- the number of four digits
-unfoldable pub four_digits : List ℕ → ℕ → Option ℕ
-four_digits text at = joined_digits 256 (two_digits text at) (two_digits text (at + 2))
-
--- the magazine, 1 to 8, and the page number, two digits but not FF, in the first three characters
-abbrev pub numbered : ℕ → Option ℕ → Option (ℕ × ℕ)
-numbered mag None = None
-numbered mag (Some page) = if (nat_le 49 mag && nat_le mag 56) && not (page == 0xff) then Some (mag - 48, page) else None
-
-unfoldable pub first_number : List ℕ → Option (ℕ × ℕ)
-first_number text = numbered (slice_index text 0) (two_digits text 1)
 
 -- MPP: a magazine and a page number alone
 unfoldable pub page_number : List ℕ → Result (ℕ × ℕ) Fault

@@ -2,7 +2,6 @@
 #![tactic(auto)]
 
 mod controls;
-mod digits;
 pub mod faults;
 mod info_table;
 mod links;
@@ -13,7 +12,7 @@ pub mod services;
 mod texts;
 mod values;
 
-pub use digits::{first_number, four_digits};
 pub use faults::{SourceError, SourceFault};
 pub use reading::read_service;
 pub use services::Service;
+pub use ttx_digits::{first_number, four_digits};

@@ -7,8 +7,8 @@ ghost use Rattle.ttx_header.specs.Ids.{IsSubcode};
 ghost use Rattle.ttx_source.specs.Values as rule;
 ghost use Rattle.ttx_source.specs.Faults.{outcome, fault_of};
 
-use crate::digits::{first_number, four_digits, two_digits};
 use crate::faults::SourceFault;
+use ttx_digits::{first_number, four_digits, two_digits};
 use ttx_links::Target;
 
 /// The subcode that in a link stands for any subpage.

@@ -15,7 +15,7 @@ use Rattle.ttx_links.specs.Sets.{LinkSet, links_of}
 use Rattle.ttx_info.specs.Infos.{InfoFields, info_of}
 use Rattle.ttx_info.specs.declared.faults.InfoFault.{InfoFault}
 use Rattle.ttx_info.specs.declared.faults.InfoFault.TheVariants.{Designation, Hamming, Digit, Parity}
-use Rattle.ttx_witness.specs.CertificateTexts.{id_text}
+use Rattle.ttx_digits.specs.PageIds.{id_text}
 use Rattle.ttx_tool.specs.Texts.{link_ids_text, date_text, time_text}
 
 -- magazine, packet number and kind

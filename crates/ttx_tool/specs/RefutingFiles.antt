@@ -29,7 +29,7 @@ use Rattle.ttx_tool.specs.Planning.{WritesBoth, CountsBoth}
 use Rattle.ttx_tool.specs.declared.commands.refuting.Told.{Told}
 use Rattle.ttx_tool.specs.declared.faults.ToolFault.{ToolFault}
 use Rattle.ttx_tool.specs.declared.faults.ToolFault.TheVariants.{Cycle, Read, Write, NoMemory, Class}
-use Rattle.ttx_witness.specs.CertificateTexts.{id_text}
+use Rattle.ttx_digits.specs.PageIds.{id_text}
 use Rattle.ttx_witness.specs.Entries.{CertificateFields, certificate_at}
 use Rattle.ttx_witness.specs.finding.Finding.{IsSentUnchanged, CanBeAccepted}
 

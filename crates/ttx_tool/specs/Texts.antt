@@ -4,7 +4,8 @@
 --   last_two_digits, date_text, time_text    a date in five decimal digits, a time in six
 use Rattle.std.specs.Prelude.{ℕ, ◌/◌, ◌%◌, List, [], ◌∷◌, ◌++◌, codes, Option, Some, None}
 use Rattle.ttx_header.specs.Ids.{Id}
-use Rattle.ttx_witness.specs.CertificateTexts.{hex_digit, id_text}
+use Rattle.ttx_digits.specs.Digits.{hex_digit}
+use Rattle.ttx_digits.specs.PageIds.{id_text}
 
 abbrev pub link_id_text : Option Id → List ℕ
 link_id_text None = codes " -"

@@ -1,6 +1,7 @@
 use Rattle.std.proofs.Common.{◌≡◌, Some, option_map, rules}
 use Rattle.ttx_header.specs.Ids.{id_at}
-use Rattle.ttx_certificate.specs.CertificateReading.{id_in_word, item_in, numbers_in, words_in}
+use Rattle.ttx_digits.specs.PageIds.{id_in_word}
+use Rattle.ttx_certificate.specs.CertificateReading.{item_in, numbers_in, words_in}
 use Rattle.ttx_certificate.specs.WrittenEntries.{written_item, words_after}
 use Rattle.ttx_certificate.proofs.LineShapes.{entry_shape}
 use Rattle.ttx_certificate.proofs.entry_lines.shape.Goals as goal

@@ -1,6 +1,6 @@
 use Rattle.std.proofs.Common.{◌≡◌, ◌∙◌, ◌++◌, codes, string_bytes, append_assoc, subst, ap}
 use Rattle.std.specs.Prelude.{OnOk}
-use Rattle.ttx_certificate.specs.CertificateTexts.{id_text}
+use Rattle.ttx_digits.specs.PageIds.{id_text}
 use Rattle.ttx_check.specs.WarningLines.{page_text}
 use Rattle.ttx_check.proofs.warning_lines.push_place.Goals as goal
 

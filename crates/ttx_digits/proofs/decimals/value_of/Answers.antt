@@ -1,6 +1,6 @@
 use Rattle.std.proofs.Common.{◌<◌, arith}
-use Rattle.ttx_certificate.proofs.TextParts.{number_fits}
-use Rattle.ttx_certificate.proofs.line_words.value_of.Goals as goal
+use Rattle.ttx_digits.proofs.Words.{number_fits}
+use Rattle.ttx_digits.proofs.decimals.value_of.Goals as goal
 
 pub overflow_mul-value : goal.overflow_mul-value
 overflow_mul-value c = let small : c.loop-digit.value < 1000000 = number_fits c.loop-digit.value c.loop-digit.digit-index c.loop-digit.invariant.small (omega arith) in omega arith

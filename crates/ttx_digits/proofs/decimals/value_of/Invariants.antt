@@ -1,6 +1,6 @@
 use Rattle.std.proofs.Common.{◌≡◌, ◌<◌, ◌^◌, drop}
-use Rattle.ttx_certificate.specs.CertificateReading.{decimal_after}
-use Rattle.ttx_certificate.proofs.line_words.value_of.Given as goal
+use Rattle.ttx_digits.specs.Digits.{decimal_after}
+use Rattle.ttx_digits.proofs.decimals.value_of.Given as goal
 
 abbrev pub invariant-loop-digit : goal.invariant-loop-digit
 invariant-loop-digit l = record {

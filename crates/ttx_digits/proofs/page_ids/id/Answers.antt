@@ -1,7 +1,7 @@
 use Rattle.std.proofs.Common.{◌≡◌, true, rules}
-use Rattle.ttx_certificate.specs.CertificateReading.{is_id_word}
-use Rattle.ttx_certificate.proofs.TextParts.{id_word, magazine_digit}
-use Rattle.ttx_certificate.proofs.line_words.id.Goals as goal
+use Rattle.ttx_digits.specs.PageIds.{is_id_word}
+use Rattle.ttx_digits.proofs.Words.{id_word, magazine_digit}
+use Rattle.ttx_digits.proofs.page_ids.id.Goals as goal
 
 pub hex_pair-requires-clause-high : goal.hex_pair-requires-clause-high
 hex_pair-requires-clause-high c = let is : is_id_word c.args.word.now ≡ true = search rules in (id_word c.args.word.now is).first

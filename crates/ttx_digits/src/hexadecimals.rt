@@ -1,0 +1,70 @@
+//! Hexadecimal numbers.
+
+ghost use Rattle.std.specs.Prelude.{◌≡◌, ◌≤◌, ◌<◌, ◌+◌, ◌/◌, ◌%◌, ◌++◌, length, IfSome, OnOk, string_bytes};
+ghost use Rattle.ttx_digits.specs.Digits as rule;
+ghost use Rattle.ttx_digits.specs.Digits.{hex_digit, hex_byte};
+
+use std::alloc::AllocError;
+
+/// The digit of a number below 16.
+pub fn digit(number: u8) -> char
+    requires { number < 16 }
+    ensures { result ≡ hex_digit number }
+{
+    if number < 10 {
+        char::from(b'0' + number)
+    } else {
+        char::from(b'A' - 10 + number)
+    }
+}
+
+/// Adds the two digits of a byte.
+pub fn push_byte(text: &mut String, byte: u8) -> Result<(), AllocError>
+    ensures { OnOk result (string_bytes text.new ≡ string_bytes text.old ++ hex_byte byte) }
+{
+    text.push(digit(byte / 16))?;
+    text.push(digit(byte % 16))
+}
+
+/// Adds the four digits of a subcode.
+pub fn push_subcode(text: &mut String, sub: u16) -> Result<(), AllocError>
+    ensures { OnOk result (string_bytes text.new ≡ string_bytes text.old ++ hex_byte (sub / 256) ++ hex_byte (sub % 256)) }
+{
+    push_byte(text, (sub / 256) as u8)?;
+    push_byte(text, (sub % 256) as u8)
+}
+
+// The value of a digit.
+#[tactic(auto, unfolding(crate::specs::Digits::hex_in))]
+fn hex_in(byte: u8) -> Option<u8>
+    ensures value { result ≡ rule.hex_in byte }
+    ensures small { IfSome result (λ n. n < 16) }
+{
+    match byte {
+        b'0'..=b'9' => Some(byte - b'0'),
+        b'A'..=b'F' => Some(byte - b'A' + 10),
+        _ => None,
+    }
+}
+
+/// The number of the two digits from a place on; None where one of them isn't a digit.
+#[tactic(auto, unfolding(crate::specs::Digits::two_digits))]
+pub fn two_digits(text: &[u8], at: usize) -> Option<u8>
+    requires { at + 2 ≤ length text.now }
+    ensures { result ≡ rule.two_digits text.now at }
+{
+    let high = hex_in(text[at])?;
+    let low = hex_in(text[at + 1])?;
+    Some(16 * high + low)
+}
+
+/// The number of the four digits from a place on; None where one of them isn't a digit.
+#[tactic(auto, unfolding(crate::specs::Digits::four_digits))]
+pub fn four_digits(text: &[u8], at: usize) -> Option<u16>
+    requires { at + 4 ≤ length text.now }
+    ensures { result ≡ rule.four_digits text.now at }
+{
+    let high = two_digits(text, at)?;
+    let low = two_digits(text, at + 2)?;
+    Some(256 * high as u16 + low as u16)
+}

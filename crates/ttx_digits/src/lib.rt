@@ -1,0 +1,10 @@
+//! Numbers and the ids of pages in texts: decimal digits, and hexadecimal ones, 0 to 9 and A to F.
+#![tactic(auto)]
+
+mod decimals;
+mod hexadecimals;
+mod page_ids;
+
+pub use decimals::{decimal_in, number, push_decimal, two_decimals};
+pub use hexadecimals::{digit, four_digits, push_byte, push_subcode, two_digits};
+pub use page_ids::{first_number, id, push_id, push_numbers};
