@@ -1,5 +1,6 @@
 -- Texts of bounded length.
 --
+--   most_bytes    the most bytes of a text
 --   ReadsText     what is answered for the bytes of a text
 --   CountsText    a read fault is answered only where one was counted
 use Rattle.std.specs.Prelude.{◌≡◌, ℕ, ◌<◌, ◌≤◌, List, length, ⊤, Result, Ok, Err, Vec}
@@ -7,6 +8,10 @@ use Rattle.std.specs.declared.alloc.Global.{Global}
 use Rattle.ttx_cycle.specs.Counts.{HasRisen}
 use Rattle.ttx_cycle.specs.declared.faults.TextFault.{TextFault}
 use Rattle.ttx_cycle.specs.declared.faults.TextFault.TheVariants.{Read, TooLong, NoMemory}
+
+-- the most bytes of a service definition, a certificate or a counter-run (profile)
+abbrev pub most_bytes : ℕ
+most_bytes = 4194304
 
 -- all the bytes where there are no more than the most, and no text where there are more
 abbrev pub ReadsText : List ℕ → ℕ → Result (Vec ℕ Global) TextFault → Type 0

@@ -18,5 +18,5 @@ pub use cycles::Cycle;
 pub use faults::{CycleFault, TextFault, WriteFault};
 pub use reading::read_cycle;
 pub use slot_reader::SlotReader;
-pub use texts::read_text;
+pub use texts::{MOST_BYTES, read_text};
 pub use writing::{write_bytes, write_cycle};

@@ -1,6 +1,6 @@
 //! Reads texts of bounded length.
 
-ghost use Rattle.std.specs.Prelude.{IfSome};
+ghost use Rattle.std.specs.Prelude.{◌≡◌, length, IfSome};
 ghost use Rattle.ttx_cycle.specs.Counters.{inner_of, faults_of};
 ghost use Rattle.ttx_cycle.specs.Bounded.{ReadsText, CountsText};
 
@@ -9,7 +9,17 @@ use crate::faults::TextFault;
 use std::alloc::Global;
 use std::io::Read;
 
-/// Reads a text of at most `most` bytes to its end. A longer one is `TooLong`, after at most 64 bytes more.
+/// The most bytes of a text: of a service definition, a certificate or a counter-run.
+pub const MOST_BYTES: usize = 4_194_304;
+
+// Room for the bytes that are read at once.
+fn piece_of_zeros() -> [u8; 1024]
+    ensures { length result ≡ 1024 }
+{
+    [0; 1024]
+}
+
+/// Reads a text of at most `most` bytes to its end. A longer one is `TooLong`, after at most 1,024 bytes more.
 pub fn read_text<R: Read>(
     alloc: Global,
     reader: &mut Counted<R>,
@@ -19,7 +29,7 @@ pub fn read_text<R: Read>(
     ensures faults { CountsText result (faults_of reader.old) (faults_of reader.new) }
 {
     let mut text = Vec::new(alloc);
-    let mut piece = [0; 64];
+    let mut piece = piece_of_zeros();
     while text.len() <= most {
         match reader.read(&mut piece) {
             Ok(0) => return Ok(text),
