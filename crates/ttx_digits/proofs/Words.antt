@@ -1,19 +1,11 @@
 -- The numbers that words of digits are, and the digits in the word of an id.
-use Rattle.std.proofs.Common.{◌≡◌, ℕ, zero, suc, ◌^◌, ◌<◌, ◌≤◌, Bool, true, false, ◌&&◌, List, [], ◌∷◌, length, get_or}
-use Rattle.std.proofs.Common.{◌==◌, ◌+◌, ◌-◌, ◌*◌, slice_index, unwrap_or, Option, Some, None, if◌then◌else◌, refl, sym, ap, ◌∙◌, inl, inr, arith}
-use Rattle.std.proofs.lemmas.Bool.{and_from, cases_Bool}
+use Rattle.std.proofs.Common.{◌≡◌, ℕ, zero, suc, ◌^◌, ◌<◌, ◌≤◌, Bool, true, false, ◌&&◌, List, length}
+use Rattle.std.proofs.Common.{◌==◌, ◌+◌, ◌-◌, ◌*◌, slice_index, unwrap_or, Some, None, if◌then◌else◌, refl, sym, ap, ◌∙◌, inl, inr, arith}
+use Rattle.std.proofs.lemmas.Bool.{and_from, and_parts, cases_Bool}
 use Rattle.std.proofs.lemmas.Bool.Decides.{nat_tests}
 use Rattle.ttx_header.specs.Ids.{id_at}
 use Rattle.ttx_digits.specs.Digits.{is_between, is_hex, hex_value, hex_in, hex_pair, joined_digits, two_digits, four_digits}
 use Rattle.ttx_digits.specs.PageIds.{is_id_word, id_in_word}
-
-and_left : (a b : Bool) → (a && b) ≡ true → a ≡ true
-and_left true b h = refl
-and_left false b h = h
-
-and_right : (a b : Bool) → (a && b) ≡ true → b ≡ true
-and_right true b h = h
-and_right false b h = cc
 
 power_le : (i : ℕ) → i < 7 → 10 ^ i ≤ 1000000
 power_le zero lt = omega arith
@@ -43,23 +35,23 @@ pub record IdWord (word : List ℕ) : Type 0 where
 all_nine : (a b c d e f g h i : Bool) → (a && b && c && d && e && f && g && h && i) ≡ true →
     record { a : a ≡ true; b : b ≡ true; c : c ≡ true; d : d ≡ true; e : e ≡ true; f : f ≡ true; g : g ≡ true; h : h ≡ true; i : i ≡ true }
 all_nine a b c d e f g h i all =
-    let eight = and_left (a && b && c && d && e && f && g && h) i all in
-    let seven = and_left (a && b && c && d && e && f && g) h eight in
-    let six = and_left (a && b && c && d && e && f) g seven in
-    let five = and_left (a && b && c && d && e) f six in
-    let four = and_left (a && b && c && d) e five in
-    let three = and_left (a && b && c) d four in
-    let two = and_left (a && b) c three in
+    let eight = (and_parts (a && b && c && d && e && f && g && h) i all).0 in
+    let seven = (and_parts (a && b && c && d && e && f && g) h eight).0 in
+    let six = (and_parts (a && b && c && d && e && f) g seven).0 in
+    let five = (and_parts (a && b && c && d && e) f six).0 in
+    let four = (and_parts (a && b && c && d) e five).0 in
+    let three = (and_parts (a && b && c) d four).0 in
+    let two = (and_parts (a && b) c three).0 in
     record {
-      a = and_left a b two;
-      b = and_right a b two;
-      c = and_right (a && b) c three;
-      d = and_right (a && b && c) d four;
-      e = and_right (a && b && c && d) e five;
-      f = and_right (a && b && c && d && e) f six;
-      g = and_right (a && b && c && d && e && f) g seven;
-      h = and_right (a && b && c && d && e && f && g) h eight;
-      i = and_right (a && b && c && d && e && f && g && h) i all;
+      a = (and_parts a b two).0;
+      b = (and_parts a b two).1;
+      c = (and_parts (a && b) c three).1;
+      d = (and_parts (a && b && c) d four).1;
+      e = (and_parts (a && b && c && d) e five).1;
+      f = (and_parts (a && b && c && d && e) f six).1;
+      g = (and_parts (a && b && c && d && e && f) g seven).1;
+      h = (and_parts (a && b && c && d && e && f && g) h eight).1;
+      i = (and_parts (a && b && c && d && e && f && g && h) i all).1;
     }
 
 -- the digits of the word of an id
@@ -118,9 +110,9 @@ pub id_of_digits : (word : List ℕ) (page sub : ℕ) → (length word == 8) ≡
 id_of_digits word page sub long magazine stroke page_is sub_is =
     let two = chosen (is_hex (slice_index word 1) && is_hex (slice_index word 2)) (hex_pair word 1) page (page_is ∙ two_by_tests word 1) in
     let four = chosen ((is_hex (slice_index word 4) && is_hex (slice_index word 5)) && (is_hex (slice_index word 6) && is_hex (slice_index word 7))) (256 * hex_pair word 4 + hex_pair word 6) sub (sub_is ∙ four_by_tests word 4) in
-    let high = and_left _ _ four.0 in
-    let low = and_right _ _ four.0 in
+    let high = (and_parts _ _ four.0).0 in
+    let low = (and_parts _ _ four.0).1 in
     let is : is_id_word word ≡ true = nine (length word == 8) (is_between 49 56 (slice_index word 0)) (is_hex (slice_index word 1)) (is_hex (slice_index word 2)) (slice_index word 3 == 47)
     (is_hex (slice_index word 4)) (is_hex (slice_index word 5)) (is_hex (slice_index word 6)) (is_hex (slice_index word 7))
-    long magazine (and_left _ _ two.0) (and_right _ _ two.0) stroke (and_left _ _ high) (and_right _ _ high) (and_left _ _ low) (and_right _ _ low) in
+    long magazine ((and_parts _ _ two.0).0) ((and_parts _ _ two.0).1) stroke ((and_parts _ _ high).0) ((and_parts _ _ high).1) ((and_parts _ _ low).0) ((and_parts _ _ low).1) in
     rw is (ap (λ p. Some (id_at (slice_index word 0 - 48) p sub)) (sym two.1) ∙ ap (λ s. Some (id_at (slice_index word 0 - 48) (hex_pair word 1) s)) (sym four.1))
