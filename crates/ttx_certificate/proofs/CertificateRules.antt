@@ -12,11 +12,11 @@ use Rattle.ttx_certificate.specs.EntryViews.{entries_of}
 use Rattle.ttx_certificate.specs.Certificates.{fields_of}
 use Rattle.ttx_certificate.specs.CertificateLaws.{CertificatesKeepTheirRules}
 use Rattle.ttx_certificate.specs.declared.entries.Entry.{Entry}
-use Rattle.ttx_certificate.proofs.Choices.{if_ind, and_right}
+use Rattle.std.proofs.lemmas.Bool.{and_parts, cond_both}
 use Rattle.ttx_certificate.proofs.EntryOrder.{rising_pairs}
 
 rising_starts : (starts : List ℕ) → are_starts starts ≡ true → Rising starts
-rising_starts starts are i j lt in_range = rising_pairs None starts i j 0 (and_right _ _ are) lt in_range
+rising_starts starts are i j lt in_range = rising_pairs None starts i j 0 ((and_parts _ _ are).1) lt in_range
 
 none_rise : Rising []
 none_rise i j lt in_range = absurd (omega arith)
@@ -24,7 +24,7 @@ none_rise i j lt in_range = absurd (omega arith)
 -- the starts that are named for an item rise
 named_rise : (es : List EntryFields) → AllByRecursion IsEntry es → (page : Id) (item : Item) → Rising (starts_in es page item)
 named_rise [] all page item = none_rise
-named_rise (e ∷ es) all page item = if_ind Rising (same_id e.page page && same_item e.item item) e.starts (starts_in es page item)
+named_rise (e ∷ es) all page item = cond_both (same_id e.page page && same_item e.item item) e.starts (starts_in es page item) Rising
     (λ _. rising_starts e.starts all.0.starts) (λ _. named_rise es all.1 page item)
 
 -- so a certificate's numbers and starts are in the ranges of the definitions

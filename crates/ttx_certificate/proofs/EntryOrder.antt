@@ -13,7 +13,7 @@ use Rattle.ttx_certificate.specs.ItemPlaces.{item_number, key_of}
 use Rattle.ttx_certificate.specs.Entries.{is_item, rises_above, place_of, entry_places, same_item, starts_in}
 use Rattle.ttx_certificate.specs.EntryViews.{entries_of, place_in}
 use Rattle.ttx_certificate.specs.declared.entries.Entry.{Entry}
-use Rattle.ttx_certificate.proofs.Choices.{and_left, and_right}
+use Rattle.std.proofs.lemmas.Bool.{and_parts}
 
 item_below : (item : Item) → is_item item ≡ true → item_number item < 26
 item_below TheHead is = omega arith
@@ -42,16 +42,16 @@ above_low : (low : ℕ) (ns : List ℕ) (i d : ℕ) → rises_above (Some low) n
 above_low low [] i d up lt = absurd (omega arith)
 above_low low (n ∷ ns) zero d up lt = grind (arith, nat_tests)
 above_low low (n ∷ ns) (suc i) d up lt =
-    let here : nat_lt low n ≡ true = and_left _ _ up in
-    let more : n < get_or ns i d = above_low n ns i d (and_right _ _ up) (omega arith) in
+    let here : nat_lt low n ≡ true = (and_parts _ _ up).0 in
+    let more : n < get_or ns i d = above_low n ns i d ((and_parts _ _ up).1) (omega arith) in
     grind (arith, nat_tests)
 
 -- each number of a rising list is below those after it
 pub rising_pairs : (low : Option ℕ) (ns : List ℕ) (i j d : ℕ) → rises_above low ns ≡ true → i < j → j < length ns → get_or ns i d < get_or ns j d
 rising_pairs low [] i j d up lt in_range = absurd (omega arith)
 rising_pairs low (n ∷ ns) i zero d up lt in_range = absurd (omega arith)
-rising_pairs low (n ∷ ns) zero (suc j) d up lt in_range = above_low n ns j d (and_right _ _ up) (omega arith)
-rising_pairs low (n ∷ ns) (suc i) (suc j) d up lt in_range = rising_pairs (Some n) ns i j d (and_right _ _ up) (omega arith) (omega arith)
+rising_pairs low (n ∷ ns) zero (suc j) d up lt in_range = above_low n ns j d ((and_parts _ _ up).1) (omega arith)
+rising_pairs low (n ∷ ns) (suc i) (suc j) d up lt in_range = rising_pairs (Some n) ns i j d ((and_parts _ _ up).1) (omega arith) (omega arith)
 
 pub length_places : (es : List Entry) → length (entry_places (entries_of es)) ≡ length es
 length_places [] = refl
@@ -83,10 +83,10 @@ module _ (page : Id) (item : Item) (id : IsId page) (is : is_item item ≡ true)
   other_entry : (e : Entry) → place_in e ≢ place_of page item → is_for e ≡ false
   other_entry e other = elim (cases_Bool (is_for e)) [
     | inl is_it ↦
-        let mag : e.page.mag ≡ page.mag = eqb-true _ _ (and_left _ _ (and_left _ _ (and_left _ _ is_it))) in
-        let number : e.page.page ≡ page.page = eqb-true _ _ (and_right _ _ (and_left _ _ (and_left _ _ is_it))) in
-        let sub : e.page.sub ≡ page.sub = eqb-true _ _ (and_right _ _ (and_left _ _ is_it)) in
-        let part : item_number e.item ≡ item_number item = eqb-true _ _ (and_right _ _ is_it) in
+        let mag : e.page.mag ≡ page.mag = eqb-true _ _ ((and_parts _ _ ((and_parts _ _ ((and_parts _ _ is_it).0)).0)).0) in
+        let number : e.page.page ≡ page.page = eqb-true _ _ ((and_parts _ _ ((and_parts _ _ ((and_parts _ _ is_it).0)).0)).1) in
+        let sub : e.page.sub ≡ page.sub = eqb-true _ _ ((and_parts _ _ ((and_parts _ _ is_it).0)).1) in
+        let part : item_number e.item ≡ item_number item = eqb-true _ _ ((and_parts _ _ is_it).1) in
         let same : place_in e ≡ place_of page item = omega arith in
         absurd (other same)
     | inr other_one ↦ other_one

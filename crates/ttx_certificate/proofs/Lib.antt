@@ -1,8 +1,7 @@
-pub mod Choices
 mod EntryOrder
 mod CertificateRules
 mod TextParts
-pub mod LineShapes
+mod LineShapes
 mod ReadEntries
-pub mod AcceptedTexts
+mod AcceptedTexts
 mod WrittenTexts

@@ -11,7 +11,7 @@ use Rattle.ttx_certificate.specs.CertificateReading.{lines_in, words_in, entry_i
 use Rattle.ttx_certificate.specs.declared.entries.Entry.{Entry}
 use Rattle.ttx_certificate.specs.declared.certificate_faults.CertFault.{CertFault}
 use Rattle.ttx_certificate.specs.declared.certificate_faults.CertFault.TheVariants.{Title, Line, Range, Order}
-use Rattle.ttx_certificate.proofs.Choices.{if_ind, and_right}
+use Rattle.std.proofs.lemmas.Bool.{and_parts, cond_both}
 use Rattle.ttx_certificate.proofs.LineShapes.{entries_step}
 
 -- what follows where memory doesn't run out
@@ -56,7 +56,7 @@ open_line : (before : List EntryFields) (n : ℕ) (low : Option ℕ) (lines : Li
 open_line before n low [] fault is some = ap Err (ap fault_in is)
 open_line before n low ([] ∷ []) fault is some = absurd (some refl)
 open_line before n low ((b ∷ bs) ∷ []) fault is some =
-    if_ind (λ r. Err fault ≡ joined before r) (length (b ∷ bs) == 0) (Ok []) (Err (Line n)) (λ none. absurd (let e : length (b ∷ bs) ≡ 0 = eqb-true (length (b ∷ bs)) 0 none in omega arith)) (λ _. ap Err (ap fault_in is))
+    cond_both (length (b ∷ bs) == 0) (Ok []) (Err (Line n)) (λ r. Err fault ≡ joined before r) (λ none. absurd (let e : length (b ∷ bs) ≡ 0 = eqb-true (length (b ∷ bs)) 0 none in omega arith)) (λ _. ap Err (ap fault_in is))
 open_line before n low (line ∷ next ∷ more) fault is some = cc
 
 -- a line that isn't ended
@@ -92,9 +92,9 @@ pub record IsRead (low : Option ℕ) (o : Option EntryFields) (e : EntryFields) 
 pub entry_ok : (n : ℕ) (low : Option ℕ) (o : Option EntryFields) (e : EntryFields) → read_entry n low o ≡ Ok e → IsRead low o e
 entry_ok n low None e is = absurd (no_value (Line n) e is)
 entry_ok n low (Some x) e is =
-    if_ind (λ r. r ≡ Ok e → IsRead low (Some x) e) (not (is_in_range x)) (Err (Range n)) (if is_in_order low x then Ok x else Err (Order n))
+    cond_both (not (is_in_range x)) (Err (Range n)) (if is_in_order low x then Ok x else Err (Order n)) (λ r. r ≡ Ok e → IsRead low (Some x) e)
     (λ _ h. absurd (no_value (Range n) e h))
-    (λ inside. if_ind (λ r. r ≡ Ok e → IsRead low (Some x) e) (is_in_order low x) (Ok x) (Err (Order n))
+    (λ inside. cond_both (is_in_order low x) (Ok x) (Err (Order n)) (λ r. r ≡ Ok e → IsRead low (Some x) e)
     (λ ordered h. subst (IsRead low (Some x)) (ap (value_or x) h) (record { is = refl; range = not_not (is_in_range x) inside; order = ordered }))
     (λ _ h. absurd (no_value (Order n) e h)))
     is
@@ -107,7 +107,7 @@ module _ (n : ℕ) (low : Option ℕ) (es : List EntryFields) (others : EntryFie
     (rise : (e : EntryFields) (es' : List EntryFields) → others e ≡ Ok es' → rises_above (Some (place_of e.page e.item)) (entry_places es') ≡ true) where
   rise_after : (e : EntryFields) → is_in_order low e ≡ true → (r : Result (List EntryFields) CertFault) → others e ≡ r → (r >>= (λ es. Ok (e ∷ es))) ≡ Ok es → rises_above low (entry_places es) ≡ true
   rise_after e order (Ok es') same h = subst (λ es. rises_above low (entry_places es) ≡ true) (ap (value_or []) h)
-      (and_from (is_above low (place_of e.page e.item)) (rises_above (Some (place_of e.page e.item)) (entry_places es')) (and_right (are_starts e.starts) (is_above low (place_of e.page e.item)) order) (rise e es' same))
+      (and_from (is_above low (place_of e.page e.item)) (rises_above (Some (place_of e.page e.item)) (entry_places es')) ((and_parts (are_starts e.starts) (is_above low (place_of e.page e.item)) order).1) (rise e es' same))
   rise_after e order (Err fault) same h = absurd (no_value fault es h)
 
   rise_with : (o : Option EntryFields) (r : Result EntryFields CertFault) → read_entry n low o ≡ r → (r >>= (λ e. others e >>= (λ es. Ok (e ∷ es)))) ≡ Ok es → rises_above low (entry_places es) ≡ true
@@ -118,7 +118,7 @@ module _ (n : ℕ) (low : Option ℕ) (es : List EntryFields) (others : EntryFie
 pub entries_rise : (n : ℕ) (low : Option ℕ) (lines : List (List ℕ)) (es : List EntryFields) → read_entries n low lines ≡ Ok es → rises_above low (entry_places es) ≡ true
 entries_rise n low [] es is = absurd (no_value (Line n) es is)
 entries_rise n low (line ∷ []) es is =
-    if_ind (λ r. r ≡ Ok es → rises_above low (entry_places es) ≡ true) (length line == 0) (Ok []) (Err (Line n))
+    cond_both (length line == 0) (Ok []) (Err (Line n)) (λ r. r ≡ Ok es → rises_above low (entry_places es) ≡ true)
     (λ _ h. subst (λ es. rises_above low (entry_places es) ≡ true) (ap (value_or []) h) refl)
     (λ _ h. absurd (no_value (Line n) es h))
     is

@@ -1,6 +1,6 @@
 -- The text of a certificate is read as the certificate.
-use Rattle.std.proofs.Common.{◌≡◌, ℕ, zero, suc, ◌+◌, ◌-◌, ◌*◌, ◌/◌, ◌%◌, ◌<◌, ◌≤◌, ◌==◌, Bool, true, false, not, ◌&&◌, ◌||◌, ◌++◌, List, [], ◌∷◌}
-use Rattle.std.proofs.Common.{length, map, slice_index, codes, Option, Some, None, option_map, Ok, Err, if◌then◌else◌, nat_lt, nat_le, refl, sym, ap}
+use Rattle.std.proofs.Common.{◌≡◌, ℕ, ◌+◌, ◌/◌, ◌%◌, ◌<◌, ◌≤◌, ◌==◌, Bool, true, false, not, ◌&&◌, ◌++◌, List, [], ◌∷◌}
+use Rattle.std.proofs.Common.{map, codes, Option, Some, None, option_map, Ok, Err, if◌then◌else◌, nat_lt, nat_le, refl, sym, ap}
 use Rattle.std.proofs.Common.{◌∙◌, arith, append_assoc, append-nil, eq-eqb}
 use Rattle.std.proofs.lemmas.Bool.{and_from}
 use Rattle.std.specs.Fmt.{decimal}
@@ -8,17 +8,16 @@ use Rattle.std.specs.List.{list_all, onto_first, AllByRecursion}
 use Rattle.std.specs.Str.{bytes_eq}
 use Rattle.std.proofs.lemmas.Slice.Eq.{bytes_eq-Decides}
 use Rattle.std.proofs.lemmas.Bool.Decides.{nat_tests}
-use Rattle.std.proofs.lemmas.Fmt.{digits_decimal, digits_value-decimal, length-decimal-le, decimal_nonempty, first_decimal, decimal_digit}
 use Rattle.std.proofs.lemmas.List.Splits.{slice_split-cons_yes, slice_split-cons_no}
-use Rattle.ttx_header.specs.Ids.{Id, IsId, id_at}
+use Rattle.ttx_header.specs.Ids.{Id, IsId}
 use Rattle.ttx_page.specs.declared.item.Item.{Item}
 use Rattle.ttx_page.specs.declared.item.Item.TheVariants.{Head as TheHead, Row as TheRow, Links as TheLinks}
 use Rattle.ttx_page.specs.declared.class.Class.{Class}
 use Rattle.ttx_page.specs.declared.class.Class.TheVariants.{Any, Clearing}
 use Rattle.ttx_certificate.specs.Entries.{EntryFields, IsEntry, entry_at, CertificateFields, IsCertificateFields, certificate_fields_at, place_of}
 use Rattle.ttx_certificate.specs.Entries.{entry_places, is_item, is_page_id, is_above, are_starts, rises, rises_above, are_numbers}
-use Rattle.ttx_digits.specs.Digits.{are_digits, decimal_after, hex_digit, hex_pair, hex_value, is_between, is_hex, is_number, number_in_word}
-use Rattle.ttx_digits.specs.PageIds.{id_in_word, id_text, is_id_word}
+use Rattle.ttx_digits.specs.Digits.{is_between}
+use Rattle.ttx_digits.specs.PageIds.{id_text}
 use Rattle.ttx_certificate.specs.CertificateTexts.{item_text, starts_text, entry_text, entries_text, class_text, number_text}
 use Rattle.ttx_certificate.specs.CertificateTexts.{certificate_text}
 use Rattle.ttx_certificate.specs.CertificateReading.{parts_at, lines_in, words_in}
@@ -27,25 +26,18 @@ use Rattle.ttx_certificate.specs.CertificateReading.{before_numbers, numbers_in,
 use Rattle.ttx_certificate.specs.CertificateReading.{read_entries, ranged, only_number, number_in, line_at, number_line, read_numbers, read_clearing}
 use Rattle.ttx_certificate.specs.CertificateReading.{read_class, read_version, read_title, read_text, ◌>>=◌}
 use Rattle.ttx_certificate.specs.declared.certificate_faults.CertFault.TheVariants.{Line, Range, Order}
-use Rattle.ttx_certificate.proofs.Choices.{and_left, and_right, no_both}
-use Rattle.ttx_certificate.proofs.AcceptedTexts.{own, item_words, numbers_text, whole}
+use Rattle.std.proofs.lemmas.Bool.{and_parts, cond-true, cond-false, true≢false}
+use Rattle.ttx_certificate.proofs.AcceptedTexts.{item_words, numbers_text, whole}
+use Rattle.ttx_digits.specs.Laws.{WrittenIdsAreRead, WrittenNumbersAreRead, IdsHoldNoSeparator, NumbersHoldNoSeparator}
 use Rattle.ttx_certificate.proofs.LineShapes.{ended_line, entries_step}
 
 -- no byte of the list is the separator
 abbrev free : ℕ → List ℕ → Bool
 free separator xs = list_all (λ b. not (b == separator)) xs
 
-if_true : {A : Type 0} (b : Bool) (x y : A) → b ≡ true → (if b then x else y) ≡ x
-if_true true x y h = refl
-if_true false x y h = cc
-
-if_false : {A : Type 0} (b : Bool) (x y : A) → b ≡ false → (if b then x else y) ≡ y
-if_false true x y h = cc
-if_false false x y h = refl
-
 free_join : (s : ℕ) (xs ys : List ℕ) → free s xs ≡ true → free s ys ≡ true → free s (xs ++ ys) ≡ true
 free_join s [] ys p q = q
-free_join s (x ∷ xs) ys p q = and_from (not (x == s)) (free s (xs ++ ys)) (and_left (not (x == s)) (free s xs) p) (free_join s xs ys (and_right (not (x == s)) (free s xs) p) q)
+free_join s (x ∷ xs) ys p q = and_from (not (x == s)) (free s (xs ++ ys)) ((and_parts (not (x == s)) (free s xs) p).0) (free_join s xs ys ((and_parts (not (x == s)) (free s xs) p).1) q)
 
 not_it : (a : Bool) → not a ≡ true → a ≡ false
 not_it true h = sym h
@@ -55,180 +47,37 @@ not_it false h = refl
 part_before : (s : ℕ) (xs rest : List ℕ) → free s xs ≡ true → parts_at s (xs ++ (s ∷ rest)) ≡ xs ∷ parts_at s rest
 part_before s [] rest p = slice_split-cons_yes (λ b. b == s) s rest (eq-eqb s s refl)
 part_before s (x ∷ xs) rest p =
-    slice_split-cons_no (λ b. b == s) x (xs ++ (s ∷ rest)) (not_it (x == s) (and_left (not (x == s)) (free s xs) p))
-    ∙ ap (onto_first x) (part_before s xs rest (and_right (not (x == s)) (free s xs) p))
+    slice_split-cons_no (λ b. b == s) x (xs ++ (s ∷ rest)) (not_it (x == s) ((and_parts (not (x == s)) (free s xs) p).0))
+    ∙ ap (onto_first x) (part_before s xs rest ((and_parts (not (x == s)) (free s xs) p).1))
 
 -- the last part
 last_part : (s : ℕ) (xs : List ℕ) → free s xs ≡ true → parts_at s xs ≡ xs ∷ []
 last_part s [] p = refl
 last_part s (x ∷ xs) p =
-    slice_split-cons_no (λ b. b == s) x xs (not_it (x == s) (and_left (not (x == s)) (free s xs) p)) ∙ ap (onto_first x) (last_part s xs (and_right (not (x == s)) (free s xs) p))
+    slice_split-cons_no (λ b. b == s) x xs (not_it (x == s) ((and_parts (not (x == s)) (free s xs) p).0)) ∙ ap (onto_first x) (last_part s xs ((and_parts (not (x == s)) (free s xs) p).1))
 
--- digits hold no space and no end of a line
-digits_free : (s : ℕ) (ds : List ℕ) → s < 48 → are_digits ds ≡ true → free s ds ≡ true
-digits_free s [] low are = refl
-digits_free s (d ∷ ds) low are =
-    let digit : is_between 48 57 d ≡ true = and_left (is_between 48 57 d) (are_digits ds) are in
-    let here : not (d == s) ≡ true = grind (arith, nat_tests) in
-    and_from (not (d == s)) (free s ds) here (digits_free s ds low (and_right (is_between 48 57 d) (are_digits ds) are))
-
-decimal_digits : (n : ℕ) → n < 10000000 → are_digits (decimal n) ≡ true
-decimal_digits n small = digits_decimal own n (omega arith)
-
-decimal_free : (s n : ℕ) → s < 48 → n < 10000000 → free s (decimal n) ≡ true
-decimal_free s n low small = digits_free s (decimal n) low (decimal_digits n small)
-
-lead : (n : ℕ) → n < 10000000 → (length (decimal n) == 1 || not (slice_index (decimal n) 0 == 48)) ≡ true
-lead zero small = rw (decimal_digit 0 (omega arith)) refl
-lead (suc n) small = let first : 48 < slice_index (decimal (suc n)) 0 = first_decimal (suc n) (omega arith) (omega arith) in grind (arith, nat_tests)
-
--- the text of a number is read as the number
-number_decimal : (n : ℕ) → n < 10000000 → number_in_word (decimal n) ≡ Some n
-number_decimal n small =
-    let some : 0 < length (decimal n) = decimal_nonempty n (omega arith) in
-    let few : length (decimal n) ≤ 7 = length-decimal-le 7 n (omega arith) (omega arith) (omega arith) in
-    let a : nat_le 1 (length (decimal n)) ≡ true = grind (arith, nat_tests) in
-    let b : nat_le (length (decimal n)) 7 ≡ true = grind (arith, nat_tests) in
-    let is : is_number (decimal n) ≡ true = and_from (are_digits (decimal n) && nat_le 1 (length (decimal n)) && nat_le (length (decimal n)) 7) (length (decimal n) == 1 || not (slice_index (decimal n) 0 == 48))
-    (and_from (are_digits (decimal n) && nat_le 1 (length (decimal n))) (nat_le (length (decimal n)) 7) (and_from (are_digits (decimal n)) (nat_le 1 (length (decimal n))) (decimal_digits n small) a) b) (lead n small) in
-    let value : decimal_after 0 (decimal n) ≡ n = digits_value-decimal own n (omega arith) in
-    if_true (is_number (decimal n)) (Some (decimal_after 0 (decimal n))) None is ∙ ap Some value
-
--- the digit of a number below 16
-hex_there : (n : ℕ) → n < 16 → (is_hex (hex_digit n) ≡ true) × (hex_value (hex_digit n) ≡ n)
-hex_there n small = (is, value)
-  where
-    is : is_hex (hex_digit n) ≡ true
-    is = grind (arith, nat_tests)
-
-    value : hex_value (hex_digit n) ≡ n
-    value = grind (arith, nat_tests)
-
-pair_value : (a b : ℕ) → a < 16 → b < 16 → 16 * hex_value (hex_digit a) + hex_value (hex_digit b) ≡ 16 * a + b
-pair_value a b pa pb = ap (λ x. 16 * x + hex_value (hex_digit b)) (hex_there a pa).1 ∙ ap (λ x. 16 * a + x) (hex_there b pb).1
-
-nine : (a b c d e f g h i : Bool) → a ≡ true → b ≡ true → c ≡ true → d ≡ true → e ≡ true → f ≡ true → g ≡ true → h ≡ true → i ≡ true → (a && b && c && d && e && f && g && h && i) ≡ true
-nine a b c d e f g h i pa pb pc pd pe pf pg ph pi =
-    and_from (a && b && c && d && e && f && g && h) i (and_from (a && b && c && d && e && f && g) h (and_from (a && b && c && d && e && f) g (and_from (a && b && c && d && e) f
-    (and_from (a && b && c && d) e (and_from (a && b && c) d (and_from (a && b) c (and_from a b pa pb) pc) pd) pe) pf) pg) ph) pi
-
-abbrev id_word_of : ℕ → ℕ → ℕ → ℕ → ℕ → ℕ → ℕ → List ℕ
-id_word_of m a b c d e f = (48 + m) ∷ hex_digit a ∷ hex_digit b ∷ 47 ∷ hex_digit c ∷ hex_digit d ∷ hex_digit e ∷ hex_digit f ∷ []
-
--- the word of a magazine and six digits
-id_word_read : (m a b c d e f : ℕ) → 1 ≤ m → m ≤ 8 → a < 16 → b < 16 → c < 16 → d < 16 → e < 16 → f < 16 →
-    id_in_word (id_word_of m a b c d e f) ≡ Some (id_at m (16 * a + b) (256 * (16 * c + d) + (16 * e + f)))
-id_word_read m a b c d e f low high pa pb pc pd pe pf =
-    let mag : is_between 49 56 (48 + m) ≡ true = grind (arith, nat_tests) in
-    let value : (48 + m) - 48 ≡ m = omega arith in
-    let is : is_id_word (id_word_of m a b c d e f) ≡ true = nine (length (id_word_of m a b c d e f) == 8) (is_between 49 56 (48 + m)) (is_hex (hex_digit a)) (is_hex (hex_digit b)) (47 == 47) (is_hex (hex_digit c)) (is_hex (hex_digit d)) (is_hex (hex_digit e)) (is_hex (hex_digit f))
-    refl mag (hex_there a pa).0 (hex_there b pb).0 refl (hex_there c pc).0 (hex_there d pd).0 (hex_there e pe).0 (hex_there f pf).0 in
-    if_true (is_id_word (id_word_of m a b c d e f)) (Some (id_at (slice_index (id_word_of m a b c d e f) 0 - 48) (hex_pair (id_word_of m a b c d e f) 1) (256 * hex_pair (id_word_of m a b c d e f) 4 + hex_pair (id_word_of m a b c d e f) 6))) None is
-    ∙ ap (λ x. Some (id_at x (16 * hex_value (hex_digit a) + hex_value (hex_digit b)) (256 * (16 * hex_value (hex_digit c) + hex_value (hex_digit d)) + (16 * hex_value (hex_digit e) + hex_value (hex_digit f))))) value
-    ∙ ap (λ x. Some (id_at m x (256 * (16 * hex_value (hex_digit c) + hex_value (hex_digit d)) + (16 * hex_value (hex_digit e) + hex_value (hex_digit f))))) (pair_value a b pa pb)
-    ∙ ap (λ x. Some (id_at m (16 * a + b) (256 * x + (16 * hex_value (hex_digit e) + hex_value (hex_digit f))))) (pair_value c d pc pd)
-    ∙ ap (λ x. Some (id_at m (16 * a + b) (256 * (16 * c + d) + x))) (pair_value e f pe pf)
-
--- the text of an id is read as the id
-id_read : (id : Id) → IsId id → id_in_word (id_text id) ≡ Some id
-id_read id is =
-    let small : id.page < 256 = is.page in
-    let sub : id.sub < 16384 = is.sub.top in
-    let a : id.page / 16 < 16 = omega arith in
-    let b : id.page % 16 < 16 = omega arith in
-    let c : id.sub / 256 / 16 < 16 = omega arith in
-    let d : id.sub / 256 % 16 < 16 = omega arith in
-    let e : id.sub % 256 / 16 < 16 = omega arith in
-    let f : id.sub % 256 % 16 < 16 = omega arith in
-    let page : 16 * (id.page / 16) + id.page % 16 ≡ id.page = omega arith in
-    let whole : 256 * (16 * (id.sub / 256 / 16) + id.sub / 256 % 16) + (16 * (id.sub % 256 / 16) + id.sub % 256 % 16) ≡ id.sub = omega arith in
-    id_word_read id.mag (id.page / 16) (id.page % 16) (id.sub / 256 / 16) (id.sub / 256 % 16) (id.sub % 256 / 16) (id.sub % 256 % 16) is.mag_from is.mag_to a b c d e f
-    ∙ ap (λ p. Some (id_at id.mag p (256 * (16 * (id.sub / 256 / 16) + id.sub / 256 % 16) + (16 * (id.sub % 256 / 16) + id.sub % 256 % 16)))) page ∙ ap (λ s. Some (id_at id.mag id.page s)) whole
-
-hex_free : (s n : ℕ) → s < 48 → n < 16 → not (hex_digit n == s) ≡ true
-hex_free s n low small = grind (arith, nat_tests)
-
-free_cons : (s x : ℕ) (xs : List ℕ) → not (x == s) ≡ true → free s xs ≡ true → free s (x ∷ xs) ≡ true
-free_cons s x xs p q = and_from (not (x == s)) (free s xs) p q
-
-eight_free : (s a b c d e f g h : ℕ) → not (a == s) ≡ true → not (b == s) ≡ true → not (c == s) ≡ true → not (d == s) ≡ true → not (e == s) ≡ true → not (f == s) ≡ true → not (g == s) ≡ true → not (h == s) ≡ true →
-    free s (a ∷ b ∷ c ∷ d ∷ e ∷ f ∷ g ∷ h ∷ []) ≡ true
-eight_free s a b c d e f g h pa pb pc pd pe pf pg ph =
-    free_cons s a (b ∷ c ∷ d ∷ e ∷ f ∷ g ∷ h ∷ []) pa (free_cons s b (c ∷ d ∷ e ∷ f ∷ g ∷ h ∷ []) pb (free_cons s c (d ∷ e ∷ f ∷ g ∷ h ∷ []) pc (free_cons s d (e ∷ f ∷ g ∷ h ∷ []) pd
-    (free_cons s e (f ∷ g ∷ h ∷ []) pe (free_cons s f (g ∷ h ∷ []) pf (free_cons s g (h ∷ []) pg (free_cons s h [] ph refl)))))))
-
-id_free : (s : ℕ) (id : Id) → s < 47 → IsId id → free s (id_text id) ≡ true
-id_free s id low is =
-    let small : id.page < 256 = is.page in
-    let sub : id.sub < 16384 = is.sub.top in
-    let m : not ((48 + id.mag) == s) ≡ true = grind (arith, nat_tests) in
-    let stroke : not (47 == s) ≡ true = grind (arith, nat_tests) in
-    eight_free s (48 + id.mag) (hex_digit (id.page / 16)) (hex_digit (id.page % 16)) 47 (hex_digit (id.sub / 256 / 16)) (hex_digit (id.sub / 256 % 16)) (hex_digit (id.sub % 256 / 16)) (hex_digit (id.sub % 256 % 16))
-    m (hex_free s (id.page / 16) (omega arith) (omega arith)) (hex_free s (id.page % 16) (omega arith) (omega arith)) stroke (hex_free s (id.sub / 256 / 16) (omega arith) (omega arith)) (hex_free s (id.sub / 256 % 16) (omega arith) (omega arith))
-    (hex_free s (id.sub % 256 / 16) (omega arith) (omega arith)) (hex_free s (id.sub % 256 % 16) (omega arith) (omega arith))
+-- a separator is below the stroke
+low_free : (s : ℕ) (xs : List ℕ) → s < 47 → list_all (nat_le 47) xs ≡ true → free s xs ≡ true
+low_free s [] low above = refl
+low_free s (x ∷ xs) low above =
+    let parts = and_parts (nat_le 47 x) (list_all (nat_le 47) xs) above in
+    let first = parts.0 in
+    let here : not (x == s) ≡ true = grind (arith, nat_tests) in
+    and_from (not (x == s)) (free s xs) here (low_free s xs low parts.1)
 
 abbrev are_small : List ℕ → Bool
 are_small ss = list_all (λ s. nat_lt s 65536) ss
 
 -- the first number of a list of small ones
 small_first : (s : ℕ) (ss : List ℕ) → are_small (s ∷ ss) ≡ true → s < 10000000
-small_first s ss small = let here : nat_lt s 65536 ≡ true = and_left (nat_lt s 65536) (are_small ss) small in grind (arith, nat_tests)
-
-numbers_read : (ss : List ℕ) → are_small ss ≡ true → numbers_in (map decimal ss) ≡ Some ss
-numbers_read [] small = refl
-numbers_read (s ∷ ss) small =
-    ap (λ o. before_numbers o (numbers_in (map decimal ss))) (number_decimal s (small_first s ss small)) ∙ ap (before_numbers (Some s)) (numbers_read ss (and_right (nat_lt s 65536) (are_small ss) small))
-
-words_of_starts : (x ss : List ℕ) → free 32 x ≡ true → are_small ss ≡ true → words_in (x ++ starts_text ss) ≡ x ∷ map decimal ss
-words_of_starts x [] p small = ap words_in (append-nil x) ∙ last_part 32 x p
-words_of_starts x (s ∷ ss) p small =
-    part_before 32 x (decimal s ++ starts_text ss) p
-    ∙ ap (λ ws. x ∷ ws) (words_of_starts (decimal s) ss (decimal_free 32 s (omega arith) (small_first s ss small)) (and_right (nat_lt s 65536) (are_small ss) small))
+small_first s ss small = let here : nat_lt s 65536 ≡ true = (and_parts (nat_lt s 65536) (are_small ss) small).0 in grind (arith, nat_tests)
 
 row_small : (n : ℕ) → is_item (TheRow n) ≡ true → n < 10000000
 row_small n is = grind (arith, nat_tests)
 
-words_of_entry : (page : List ℕ) (item : Item) (ss : List ℕ) → free 32 page ≡ true → is_item item ≡ true → are_small ss ≡ true → words_in (page ++ item_text item ++ starts_text ss) ≡ page ∷ (item_words item ++ map decimal ss)
-words_of_entry page TheHead ss p is small =
-    ap words_in (append_assoc page (codes " head") (starts_text ss)) ∙ part_before 32 page (codes "head" ++ starts_text ss) p ∙ ap (λ ws. page ∷ ws) (words_of_starts (codes "head") ss refl small)
-words_of_entry page (TheRow n) ss p is small =
-    ap words_in (append_assoc page (codes " row " ++ decimal n) (starts_text ss)) ∙ part_before 32 page (codes "row" ++ (32 ∷ (decimal n ++ starts_text ss))) p
-    ∙ ap (λ ws. page ∷ ws) (part_before 32 (codes "row") (decimal n ++ starts_text ss) refl ∙ ap (λ ws. codes "row" ∷ ws) (words_of_starts (decimal n) ss (decimal_free 32 n (omega arith) (row_small n is)) small))
-words_of_entry page TheLinks ss p is small =
-    ap words_in (append_assoc page (codes " links") (starts_text ss)) ∙ part_before 32 page (codes "links" ++ starts_text ss) p ∙ ap (λ ws. page ∷ ws) (words_of_starts (codes "links") ss refl small)
-
-item_read : (item : Item) (words : List (List ℕ)) → is_item item ≡ true → item_in (item_words item ++ words) ≡ Some (item, words)
-item_read TheHead words is = refl
-item_read (TheRow n) words is = ap (option_map (λ n. (TheRow n, words))) (number_decimal n (row_small n is))
-item_read TheLinks words is = refl
-
-starts_read : (ss : List ℕ) → are_starts ss ≡ true → starts_in_words (map decimal ss) ≡ Some ss
-starts_read [] are = absurd (no_both (are_starts []) are refl)
-starts_read (s ∷ ss) are = numbers_read (s ∷ ss) (and_left (are_small (s ∷ ss)) (rises (s ∷ ss)) are)
-
 starts_small : (ss : List ℕ) → are_starts ss ≡ true → are_small ss ≡ true
 starts_small [] are = refl
-starts_small (s ∷ ss) are = and_left (are_small (s ∷ ss)) (rises (s ∷ ss)) are
-
--- the line of an entry is read as the entry
-entry_read : (e : EntryFields) → IsEntry e → entry_in (words_in (entry_text e)) ≡ Some e
-entry_read e is =
-    ap entry_in (words_of_entry (id_text e.page) e.item e.starts (id_free 32 e.page (omega arith) is.id) is.item (starts_small e.starts is.starts))
-    ∙ ap (λ o. with_item o (item_words e.item ++ map decimal e.starts)) (id_read e.page is.id) ∙ ap (with_starts e.page) (item_read e.item (map decimal e.starts) is.item)
-    ∙ ap (option_map (λ starts. entry_at e.page e.item starts)) (starts_read e.starts is.starts)
-
-starts_free : (ss : List ℕ) → are_small ss ≡ true → free 10 (starts_text ss) ≡ true
-starts_free [] small = refl
-starts_free (s ∷ ss) small = free_join 10 (32 ∷ decimal s) (starts_text ss) (decimal_free 10 s (omega arith) (small_first s ss small)) (starts_free ss (and_right (nat_lt s 65536) (are_small ss) small))
-
-item_free : (item : Item) → is_item item ≡ true → free 10 (item_text item) ≡ true
-item_free TheHead is = refl
-item_free (TheRow n) is = free_join 10 (codes " row ") (decimal n) refl (decimal_free 10 n (omega arith) (row_small n is))
-item_free TheLinks is = refl
-
-entry_free : (e : EntryFields) → IsEntry e → free 10 (entry_text e) ≡ true
-entry_free e is = free_join 10 (id_text e.page ++ item_text e.item) (starts_text e.starts) (free_join 10 (id_text e.page) (item_text e.item) (id_free 10 e.page (omega arith) is.id) (item_free e.item is.item))
-    (starts_free e.starts (starts_small e.starts is.starts))
+starts_small (s ∷ ss) are = (and_parts (are_small (s ∷ ss)) (rises (s ∷ ss)) are).0
 
 id_in_range : (id : Id) → IsId id → is_id id ≡ true
 id_in_range id is =
@@ -243,33 +92,8 @@ entry_in_range e is = and_from (is_id e.page && is_page_id e.page && is_item e.i
 
 entry_accepted : (n : ℕ) (low : Option ℕ) (e : EntryFields) → IsEntry e → is_above low (place_of e.page e.item) ≡ true → read_entry n low (Some e) ≡ Ok e
 entry_accepted n low e is above =
-    if_false (not (is_in_range e)) (Err (Range n)) (if is_in_order low e then Ok e else Err (Order n)) (ap not (entry_in_range e is))
-    ∙ if_true (is_in_order low e) (Ok e) (Err (Order n)) (and_from (are_starts e.starts) (is_above low (place_of e.page e.item)) is.starts above)
-
--- the text of entries is read as the entries
-entries_read : (n : ℕ) (low : Option ℕ) (es : List EntryFields) → AllByRecursion IsEntry es → rises_above low (entry_places es) ≡ true → read_entries n low (lines_in (entries_text es)) ≡ Ok es
-entries_read n low [] all up = refl
-entries_read n low (e ∷ es) all up =
-    ap (λ t. read_entries n low (lines_in t)) (append_assoc (entry_text e) (10 ∷ []) (entries_text es))
-    ∙ ap (read_entries n low) (part_before 10 (entry_text e) (entries_text es) (entry_free e all.0))
-    ∙ entries_step n low (entry_text e ∷ lines_in (entries_text es)) (entry_text e) (lines_in (entries_text es)) (sym (ended_line n 10 (entry_text e) (entries_text es)))
-    ∙ ap (λ r. r >>= (λ e. read_entries (n + 1) (Some (place_of e.page e.item)) (lines_in (entries_text es)) >>= (λ es. Ok (e ∷ es))))
-    (ap (read_entry n low) (entry_read e all.0) ∙ entry_accepted n low e all.0 (and_left (is_above low (place_of e.page e.item)) (rises_above (Some (place_of e.page e.item)) (entry_places es)) up))
-    ∙ ap (λ r. r >>= (λ es. Ok (e ∷ es))) (entries_read (n + 1) (Some (place_of e.page e.item)) es all.1 (and_right (is_above low (place_of e.page e.item)) (rises_above (Some (place_of e.page e.item)) (entry_places es)) up))
-
--- the line of a number is read as the number
-number_read : (n : ℕ) (key : List ℕ) (most v : ℕ) (rest : List ℕ) → free 32 key ≡ true → free 10 key ≡ true → v < 10000000 → is_between 1 most v ≡ true →
-    number_line n key most (lines_in (number_text key v ++ rest)) ≡ Ok (v, lines_in rest)
-number_read n key most v rest no_space no_end small within =
-    let line_free : free 10 (key ++ 32 ∷ decimal v) ≡ true = free_join 10 key (32 ∷ decimal v) no_end (decimal_free 10 v (omega arith) small) in
-    let words : words_in (key ++ 32 ∷ decimal v) ≡ key ∷ decimal v ∷ [] = part_before 32 key (decimal v) no_space ∙ ap (λ ws. key ∷ ws) (last_part 32 (decimal v) (decimal_free 32 v (omega arith) small)) in
-    let same : bytes_eq key key ≡ true = (bytes_eq-Decides key key).1 refl in
-    let read : number_in n key most (words_in (key ++ 32 ∷ decimal v)) ≡ Ok v = ap (number_in n key most) words
-    ∙ if_true (bytes_eq key key) (only_number n most (decimal v ∷ [])) (Err (Line n)) same ∙ ap (ranged n most) (number_decimal v small) ∙ if_true (is_between 1 most v) (Ok v) (Err (Range n)) within in
-    ap (λ t. number_line n key most (lines_in t)) (append_assoc (key ++ 32 ∷ decimal v) (10 ∷ []) rest)
-    ∙ ap (number_line n key most) (part_before 10 (key ++ 32 ∷ decimal v) rest line_free)
-    ∙ ap (λ r. r >>= (λ p. number_in n key most (words_in p.0) >>= (λ value. Ok (value, p.1)))) (ended_line n 10 (key ++ 32 ∷ decimal v) rest)
-    ∙ ap (λ r. r >>= (λ value. Ok (value, lines_in rest))) read
+    cond-false (not (is_in_range e)) (Err (Range n)) (if is_in_order low e then Ok e else Err (Order n)) (ap not (entry_in_range e is))
+    ∙ cond-true (is_in_order low e) (Ok e) (Err (Order n)) (and_from (are_starts e.starts) (is_above low (place_of e.page e.item)) is.starts above)
 
 pub record Numbers (w : CertificateFields) : Type 0 where
   pub lines : is_between 1 32 w.lines ≡ true
@@ -282,36 +106,21 @@ pub record Numbers (w : CertificateFields) : Type 0 where
 numbers_of : (w : CertificateFields) → are_numbers w.lines w.repeat w.deadline ≡ true → Numbers w
 numbers_of w is =
     let a = nat_le 1 w.lines in let b = nat_le w.lines 32 in let c = nat_le 1 w.repeat in let d = nat_le w.repeat 8 in let e = nat_le 1 w.deadline in let f = nat_le w.deadline 1000000 in
-    let last : nat_le w.deadline 1000000 ≡ true = and_right (a && b && c && d && e) f is in
-    let five = and_left (a && b && c && d && e) f is in
-    let four = and_left (a && b && c && d) e five in
-    let three = and_left (a && b && c) d four in
-    let two = and_left (a && b) c three in
-    let eight : nat_le w.repeat 8 ≡ true = and_right (a && b && c) d four in
-    let most : nat_le w.lines 32 ≡ true = and_right a b two in
+    let last : nat_le w.deadline 1000000 ≡ true = (and_parts (a && b && c && d && e) f is).1 in
+    let five = (and_parts (a && b && c && d && e) f is).0 in
+    let four = (and_parts (a && b && c && d) e five).0 in
+    let three = (and_parts (a && b && c) d four).0 in
+    let two = (and_parts (a && b) c three).0 in
+    let eight : nat_le w.repeat 8 ≡ true = (and_parts (a && b && c) d four).1 in
+    let most : nat_le w.lines 32 ≡ true = (and_parts a b two).1 in
     record {
       lines = two;
       few_lines = grind (arith, nat_tests);
-      repeat = and_from c d (and_right (a && b) c three) eight;
+      repeat = and_from c d ((and_parts (a && b) c three).1) eight;
       few_repeats = grind (arith, nat_tests);
-      deadline = and_from e f (and_right (a && b && c && d) e five) last;
+      deadline = and_from e f ((and_parts (a && b && c && d) e five).1) last;
       few_fields = grind (arith, nat_tests);
     }
-
--- the text of the numbers and the entries is read as these
-numbers_text_read : (n : ℕ) (w : CertificateFields) → IsCertificateFields w → read_numbers w.class n (lines_in (numbers_text w)) ≡ Ok w
-unfolding read_numbers
-numbers_text_read n w is =
-    let numbers = numbers_of w is.numbers in
-    let deadline_text = number_text (codes "deadline") w.deadline ++ entries_text w.entries in
-    let repeat_text = number_text (codes "repeat") w.repeat ++ (number_text (codes "deadline") w.deadline ++ entries_text w.entries) in
-    ap (λ q. q >>= (λ l. number_line (n + 1) (codes "repeat") 8 l.1 >>= (λ r. number_line (n + 2) (codes "deadline") 1000000 r.1 >>= (λ d. read_entries (n + 3) None d.1 >>= (λ es. Ok (certificate_fields_at l.0 r.0 d.0 es w.class))))))
-    (number_read n (codes "lines") 32 w.lines repeat_text refl refl numbers.few_lines numbers.lines)
-    ∙ ap (λ q. q >>= (λ r. number_line (n + 2) (codes "deadline") 1000000 r.1 >>= (λ d. read_entries (n + 3) None d.1 >>= (λ es. Ok (certificate_fields_at w.lines r.0 d.0 es w.class)))))
-    (number_read (n + 1) (codes "repeat") 8 w.repeat deadline_text refl refl numbers.few_repeats numbers.repeat)
-    ∙ ap (λ q. q >>= (λ d. read_entries (n + 3) None d.1 >>= (λ es. Ok (certificate_fields_at w.lines w.repeat d.0 es w.class))))
-    (number_read (n + 2) (codes "deadline") 1000000 w.deadline (entries_text w.entries) refl refl numbers.few_fields numbers.deadline)
-    ∙ ap (λ q. q >>= (λ es. Ok (certificate_fields_at w.lines w.repeat w.deadline es w.class))) (entries_read (n + 3) None w.entries is.entries is.rising)
 
 -- the first line, and what follows it
 first_read : (first rest : List ℕ) → free 10 first ≡ true → read_text (first ++ (10 ∷ rest)) ≡ read_version first (lines_in rest)
@@ -323,5 +132,102 @@ class_read Clearing rest w read =
     first_read (codes "ttx certificate 2") (codes "class clearing" ++ (10 ∷ rest)) refl ∙ ap read_class (part_before 10 (codes "class clearing") rest refl)
     ∙ ap (λ r. r >>= read_clearing) (ended_line 2 10 (codes "class clearing") rest) ∙ read 3
 
-pub written_is_accepted : (w : CertificateFields) → IsCertificateFields w → read_text (certificate_text w) ≡ Ok w
-written_is_accepted w is = ap read_text (sym (whole w)) ∙ class_read w.class (numbers_text w) w (λ n. numbers_text_read n w is)
+-- the texts of ids and numbers are words, which are read as these
+module _ (id_read : WrittenIdsAreRead) (number_decimal : WrittenNumbersAreRead) (ids_free : IdsHoldNoSeparator) (numbers_free : NumbersHoldNoSeparator) where
+  decimal_free : (s n : ℕ) → s < 47 → n < 10000000 → free s (decimal n) ≡ true
+  decimal_free s n low small = low_free s (decimal n) low (numbers_free n small)
+
+  id_free : (s : ℕ) (id : Id) → s < 47 → IsId id → free s (id_text id) ≡ true
+  id_free s id low is = low_free s (id_text id) low (ids_free id is)
+
+  numbers_read : (ss : List ℕ) → are_small ss ≡ true → numbers_in (map decimal ss) ≡ Some ss
+  numbers_read [] small = refl
+  numbers_read (s ∷ ss) small =
+      ap (λ o. before_numbers o (numbers_in (map decimal ss))) (number_decimal s (small_first s ss small)) ∙ ap (before_numbers (Some s)) (numbers_read ss ((and_parts (nat_lt s 65536) (are_small ss) small).1))
+
+  words_of_starts : (x ss : List ℕ) → free 32 x ≡ true → are_small ss ≡ true → words_in (x ++ starts_text ss) ≡ x ∷ map decimal ss
+  words_of_starts x [] p small = ap words_in (append-nil x) ∙ last_part 32 x p
+  words_of_starts x (s ∷ ss) p small =
+      part_before 32 x (decimal s ++ starts_text ss) p
+      ∙ ap (λ ws. x ∷ ws) (words_of_starts (decimal s) ss (decimal_free 32 s (omega arith) (small_first s ss small)) ((and_parts (nat_lt s 65536) (are_small ss) small).1))
+
+  words_of_entry : (page : List ℕ) (item : Item) (ss : List ℕ) → free 32 page ≡ true → is_item item ≡ true → are_small ss ≡ true → words_in (page ++ item_text item ++ starts_text ss) ≡ page ∷ (item_words item ++ map decimal ss)
+  words_of_entry page TheHead ss p is small =
+      ap words_in (append_assoc page (codes " head") (starts_text ss)) ∙ part_before 32 page (codes "head" ++ starts_text ss) p ∙ ap (λ ws. page ∷ ws) (words_of_starts (codes "head") ss refl small)
+  words_of_entry page (TheRow n) ss p is small =
+      ap words_in (append_assoc page (codes " row " ++ decimal n) (starts_text ss)) ∙ part_before 32 page (codes "row" ++ (32 ∷ (decimal n ++ starts_text ss))) p
+      ∙ ap (λ ws. page ∷ ws) (part_before 32 (codes "row") (decimal n ++ starts_text ss) refl ∙ ap (λ ws. codes "row" ∷ ws) (words_of_starts (decimal n) ss (decimal_free 32 n (omega arith) (row_small n is)) small))
+  words_of_entry page TheLinks ss p is small =
+      ap words_in (append_assoc page (codes " links") (starts_text ss)) ∙ part_before 32 page (codes "links" ++ starts_text ss) p ∙ ap (λ ws. page ∷ ws) (words_of_starts (codes "links") ss refl small)
+
+  item_read : (item : Item) (words : List (List ℕ)) → is_item item ≡ true → item_in (item_words item ++ words) ≡ Some (item, words)
+  item_read TheHead words is = refl
+  item_read (TheRow n) words is = ap (option_map (λ n. (TheRow n, words))) (number_decimal n (row_small n is))
+  item_read TheLinks words is = refl
+
+  starts_read : (ss : List ℕ) → are_starts ss ≡ true → starts_in_words (map decimal ss) ≡ Some ss
+  starts_read [] are = absurd (true≢false (sym are ∙ refl))
+  starts_read (s ∷ ss) are = numbers_read (s ∷ ss) ((and_parts (are_small (s ∷ ss)) (rises (s ∷ ss)) are).0)
+
+  -- the line of an entry is read as the entry
+  entry_read : (e : EntryFields) → IsEntry e → entry_in (words_in (entry_text e)) ≡ Some e
+  entry_read e is =
+      ap entry_in (words_of_entry (id_text e.page) e.item e.starts (id_free 32 e.page (omega arith) is.id) is.item (starts_small e.starts is.starts))
+      ∙ ap (λ o. with_item o (item_words e.item ++ map decimal e.starts)) (id_read e.page is.id) ∙ ap (with_starts e.page) (item_read e.item (map decimal e.starts) is.item)
+      ∙ ap (option_map (λ starts. entry_at e.page e.item starts)) (starts_read e.starts is.starts)
+
+  starts_free : (ss : List ℕ) → are_small ss ≡ true → free 10 (starts_text ss) ≡ true
+  starts_free [] small = refl
+  starts_free (s ∷ ss) small = free_join 10 (32 ∷ decimal s) (starts_text ss) (decimal_free 10 s (omega arith) (small_first s ss small)) (starts_free ss ((and_parts (nat_lt s 65536) (are_small ss) small).1))
+
+  item_free : (item : Item) → is_item item ≡ true → free 10 (item_text item) ≡ true
+  item_free TheHead is = refl
+  item_free (TheRow n) is = free_join 10 (codes " row ") (decimal n) refl (decimal_free 10 n (omega arith) (row_small n is))
+  item_free TheLinks is = refl
+
+  entry_free : (e : EntryFields) → IsEntry e → free 10 (entry_text e) ≡ true
+  entry_free e is = free_join 10 (id_text e.page ++ item_text e.item) (starts_text e.starts) (free_join 10 (id_text e.page) (item_text e.item) (id_free 10 e.page (omega arith) is.id) (item_free e.item is.item))
+      (starts_free e.starts (starts_small e.starts is.starts))
+
+  -- the text of entries is read as the entries
+  entries_read : (n : ℕ) (low : Option ℕ) (es : List EntryFields) → AllByRecursion IsEntry es → rises_above low (entry_places es) ≡ true → read_entries n low (lines_in (entries_text es)) ≡ Ok es
+  entries_read n low [] all up = refl
+  entries_read n low (e ∷ es) all up =
+      ap (λ t. read_entries n low (lines_in t)) (append_assoc (entry_text e) (10 ∷ []) (entries_text es))
+      ∙ ap (read_entries n low) (part_before 10 (entry_text e) (entries_text es) (entry_free e all.0))
+      ∙ entries_step n low (entry_text e ∷ lines_in (entries_text es)) (entry_text e) (lines_in (entries_text es)) (sym (ended_line n 10 (entry_text e) (entries_text es)))
+      ∙ ap (λ r. r >>= (λ e. read_entries (n + 1) (Some (place_of e.page e.item)) (lines_in (entries_text es)) >>= (λ es. Ok (e ∷ es))))
+      (ap (read_entry n low) (entry_read e all.0) ∙ entry_accepted n low e all.0 ((and_parts (is_above low (place_of e.page e.item)) (rises_above (Some (place_of e.page e.item)) (entry_places es)) up).0))
+      ∙ ap (λ r. r >>= (λ es. Ok (e ∷ es))) (entries_read (n + 1) (Some (place_of e.page e.item)) es all.1 ((and_parts (is_above low (place_of e.page e.item)) (rises_above (Some (place_of e.page e.item)) (entry_places es)) up).1))
+
+  -- the line of a number is read as the number
+  number_read : (n : ℕ) (key : List ℕ) (most v : ℕ) (rest : List ℕ) → free 32 key ≡ true → free 10 key ≡ true → v < 10000000 → is_between 1 most v ≡ true →
+      number_line n key most (lines_in (number_text key v ++ rest)) ≡ Ok (v, lines_in rest)
+  number_read n key most v rest no_space no_end small within =
+      let line_free : free 10 (key ++ 32 ∷ decimal v) ≡ true = free_join 10 key (32 ∷ decimal v) no_end (decimal_free 10 v (omega arith) small) in
+      let words : words_in (key ++ 32 ∷ decimal v) ≡ key ∷ decimal v ∷ [] = part_before 32 key (decimal v) no_space ∙ ap (λ ws. key ∷ ws) (last_part 32 (decimal v) (decimal_free 32 v (omega arith) small)) in
+      let same : bytes_eq key key ≡ true = (bytes_eq-Decides key key).1 refl in
+      let read : number_in n key most (words_in (key ++ 32 ∷ decimal v)) ≡ Ok v = ap (number_in n key most) words
+      ∙ cond-true (bytes_eq key key) (only_number n most (decimal v ∷ [])) (Err (Line n)) same ∙ ap (ranged n most) (number_decimal v small) ∙ cond-true (is_between 1 most v) (Ok v) (Err (Range n)) within in
+      ap (λ t. number_line n key most (lines_in t)) (append_assoc (key ++ 32 ∷ decimal v) (10 ∷ []) rest)
+      ∙ ap (number_line n key most) (part_before 10 (key ++ 32 ∷ decimal v) rest line_free)
+      ∙ ap (λ r. r >>= (λ p. number_in n key most (words_in p.0) >>= (λ value. Ok (value, p.1)))) (ended_line n 10 (key ++ 32 ∷ decimal v) rest)
+      ∙ ap (λ r. r >>= (λ value. Ok (value, lines_in rest))) read
+
+  -- the text of the numbers and the entries is read as these
+  numbers_text_read : (n : ℕ) (w : CertificateFields) → IsCertificateFields w → read_numbers w.class n (lines_in (numbers_text w)) ≡ Ok w
+  unfolding read_numbers
+  numbers_text_read n w is =
+      let numbers = numbers_of w is.numbers in
+      let deadline_text = number_text (codes "deadline") w.deadline ++ entries_text w.entries in
+      let repeat_text = number_text (codes "repeat") w.repeat ++ (number_text (codes "deadline") w.deadline ++ entries_text w.entries) in
+      ap (λ q. q >>= (λ l. number_line (n + 1) (codes "repeat") 8 l.1 >>= (λ r. number_line (n + 2) (codes "deadline") 1000000 r.1 >>= (λ d. read_entries (n + 3) None d.1 >>= (λ es. Ok (certificate_fields_at l.0 r.0 d.0 es w.class))))))
+      (number_read n (codes "lines") 32 w.lines repeat_text refl refl numbers.few_lines numbers.lines)
+      ∙ ap (λ q. q >>= (λ r. number_line (n + 2) (codes "deadline") 1000000 r.1 >>= (λ d. read_entries (n + 3) None d.1 >>= (λ es. Ok (certificate_fields_at w.lines r.0 d.0 es w.class)))))
+      (number_read (n + 1) (codes "repeat") 8 w.repeat deadline_text refl refl numbers.few_repeats numbers.repeat)
+      ∙ ap (λ q. q >>= (λ d. read_entries (n + 3) None d.1 >>= (λ es. Ok (certificate_fields_at w.lines w.repeat d.0 es w.class))))
+      (number_read (n + 2) (codes "deadline") 1000000 w.deadline (entries_text w.entries) refl refl numbers.few_fields numbers.deadline)
+      ∙ ap (λ q. q >>= (λ es. Ok (certificate_fields_at w.lines w.repeat w.deadline es w.class))) (entries_read (n + 3) None w.entries is.entries is.rising)
+
+  pub written_is_accepted : (w : CertificateFields) → IsCertificateFields w → read_text (certificate_text w) ≡ Ok w
+  written_is_accepted w is = ap read_text (sym (whole w)) ∙ class_read w.class (numbers_text w) w (λ n. numbers_text_read n w is)

@@ -1,7 +1,8 @@
 //! The entries of certificates.
 
-ghost use Rattle.std.specs.Prelude.{◌≡◌, true};
+ghost use Rattle.std.specs.Prelude.{◌≡◌, ◌<◌, ◌+◌, ◌*◌, true};
 ghost use Rattle.ttx_header.specs.Ids.{IsId};
+ghost use Rattle.ttx_certificate.specs.ItemPlaces.{key_of};
 ghost use Rattle.ttx_certificate.specs.Entries.{IsEntry, entry_at, is_above, is_page_id, is_item, are_slots, are_starts, rises, place_of};
 
 use crate::item_numbers::item_number;
@@ -14,8 +15,10 @@ use ttx_page::Item;
 pub struct Entry {
     page: PageId,
     item: Item,
+    place: u32,
     starts: Vec<u32>,
     ghost kept: { IsEntry (entry_at page item starts.items) },
+    ghost placed: { place ≡ place_of page item },
 }
 
 /// Whether a number is above the one before it.
@@ -38,8 +41,8 @@ fn is_page_id(page: PageId) -> bool
     page.page() != 0xff && page.sub() != 0x3f7f
 }
 
-// Whether each number is above the one before it.
-fn rises(numbers: &[u32]) -> bool
+/// Whether each number is above the one before it.
+pub(crate) fn rises(numbers: &[u32]) -> bool
     ensures { result ≡ rises numbers.now }
 {
     let mut low = None;
@@ -66,15 +69,24 @@ fn are_starts(starts: &[u32]) -> bool
     !starts.is_empty() && are_slots(starts) && rises(starts)
 }
 
+// The place of the item with this number.
+fn numbered_place(page: PageId, number: u8) -> u32
+    requires { number < 26 }
+    ensures value { result ≡ key_of page * 26 + number }
+    ensures id { IsId page }
+{
+    let mag = page.mag();
+    let key = (u32::from(mag) * 0x100 + u32::from(page.page())) * 0x4000;
+    (key + u32::from(page.sub())) * 26 + u32::from(number)
+}
+
 /// The place of an item of a page in the order of entries.
 pub(crate) fn place(page: PageId, item: Item) -> u32
     ensures value { result ≡ place_of page item }
     ensures id { IsId page }
     ensures item { is_item item ≡ true }
 {
-    let mag = page.mag();
-    let key = (u32::from(mag) * 0x100 + u32::from(page.page())) * 0x4000;
-    (key + u32::from(page.sub())) * 26 + u32::from(item_number(&item))
+    numbered_place(page, item_number(&item))
 }
 
 impl Entry {
@@ -87,10 +99,13 @@ impl Entry {
         requires starts { are_starts starts.items ≡ true }
         ensures { entry_of result ≡ entry_at page item starts.items }
     {
-        // These calls tell the ranges of the id and of the item.
-        let _mag = page.mag();
-        let _number = item_number(&item);
-        Entry { page, item, starts }
+        let place = numbered_place(page, item_number(&item));
+        Entry {
+            page,
+            item,
+            place,
+            starts,
+        }
     }
 
     /// The entry of these fields. None where one of the type's rules fails.
@@ -125,7 +140,7 @@ impl Entry {
     pub fn place(&self) -> u32
         ensures { result ≡ place_of (entry_of self.now).page (entry_of self.now).item }
     {
-        place(self.page, self.item)
+        self.place
     }
 
     /// The starts that are named, in slots from 0.

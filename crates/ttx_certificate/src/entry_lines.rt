@@ -4,7 +4,7 @@ ghost use Rattle.std.specs.Prelude.{◌≡◌, ◌<◌, ◌∷◌, length, optio
 ghost use Rattle.ttx_certificate.specs.CertificateReading.{words_in, row_in, item_in, numbers_in, entry_in};
 ghost use Rattle.ttx_certificate.specs.WrittenEntries.{written_item, written_of, words_after};
 
-use crate::line_words::cut;
+use crate::line_words::cut_word;
 use crate::no_memory::NoMemory;
 use crate::written::{Written, WrittenItem};
 use std::alloc::Global;
@@ -15,7 +15,7 @@ fn next_word(text: &[u8]) -> (&[u8], Option<&[u8]>)
     ensures words { words_in text.now ≡ result.0.now ∷ words_after (option_map (λ t. t.now) result.1) }
     ensures shorter { IfSome result.1 (λ t. length t.now < length text.now) }
 {
-    match cut(text, b' ') {
+    match cut_word(text) {
         Some((word, rest)) => (word, Some(rest)),
         None => (text, None),
     }

@@ -1,23 +1,42 @@
-//! The parts of a text, cut at a byte.
+//! The lines of a text, and the words of a line.
 
 ghost use Rattle.std.specs.Prelude.{◌≡◌, ◌==◌, ◌<◌, [], ◌∷◌, length, IfSome, MatchOption};
 ghost use Rattle.std.specs.List.{position};
-ghost use Rattle.ttx_certificate.specs.CertificateReading.{parts_at};
+ghost use Rattle.ttx_certificate.specs.CertificateReading.{lines_in, words_in};
 
-// The place of the first separator.
-fn position_of(text: &[u8], separator: u8) -> Option<usize>
-    ensures { result ≡ position (λ b. b == separator) text.now }
+use memchr::memchr;
+
+// The place of the first end of a line.
+fn line_end(text: &[u8]) -> Option<usize>
+    ensures { result ≡ position (λ b. b == 10) text.now }
 {
-    text.iter().position(|byte| *byte == separator)
+    memchr(b'\n', text)
 }
 
-/// What stands before the first separator, and what stands after it. None where there is no separator.
-pub(crate) fn cut(text: &[u8], separator: u8) -> Option<(&[u8], &[u8])>
-    ensures parts { MatchOption result (parts_at separator text.now ≡ text.now ∷ [])
-        (λ p. parts_at separator text.now ≡ p.0.now ∷ parts_at separator p.1.now) }
+/// The first line, without its 0A, and what follows it. None where no line is ended.
+pub(crate) fn cut_line(text: &[u8]) -> Option<(&[u8], &[u8])>
+    ensures parts { MatchOption result (lines_in text.now ≡ text.now ∷ []) (λ p. lines_in text.now ≡ p.0.now ∷ lines_in p.1.now) }
     ensures shorter { IfSome result (λ p. length p.1.now < length text.now) }
 {
-    match position_of(text, separator) {
+    match line_end(text) {
+        Some(end) => Some((&text[..end], &text[end + 1..])),
+        None => None,
+    }
+}
+
+// The place of the first space. Words are too short for a search by vectors.
+fn word_end(text: &[u8]) -> Option<usize>
+    ensures { result ≡ position (λ b. b == 32) text.now }
+{
+    text.iter().position(|byte| *byte == b' ')
+}
+
+/// The first word, and what follows the space after it. None where there is no space.
+pub(crate) fn cut_word(text: &[u8]) -> Option<(&[u8], &[u8])>
+    ensures parts { MatchOption result (words_in text.now ≡ text.now ∷ []) (λ p. words_in text.now ≡ p.0.now ∷ words_in p.1.now) }
+    ensures shorter { IfSome result (λ p. length p.1.now < length text.now) }
+{
+    match word_end(text) {
         Some(end) => Some((&text[..end], &text[end + 1..])),
         None => None,
     }

@@ -12,9 +12,9 @@ ghost use Rattle.ttx_certificate.specs.ReadingAnswers.{outcome, IsUnlessMemory};
 
 use crate::certificate_faults::CertFault;
 use crate::certificates::Certificate;
-use crate::entries::{Entry, are_slots, is_above};
+use crate::entries::{Entry, are_slots, is_above, rises};
 use crate::entry_lines::shape;
-use crate::line_words::cut;
+use crate::line_words::{cut_line, cut_word};
 use crate::written::{Written, WrittenItem};
 use std::alloc::Global;
 use ttx_digits::number;
@@ -60,9 +60,14 @@ fn entry(written: Written, number: usize, low: Option<u32>) -> Result<Entry, Cer
     if !are_slots(written.starts.as_slice()) {
         return Err(range);
     }
-    match Entry::new(page, item, written.starts) {
-        Some(entry) if is_above(low, entry.place()) => Ok(entry),
-        _ => Err(CertFault::Order { line: number }),
+    if written.starts.is_empty() || !rises(written.starts.as_slice()) {
+        return Err(CertFault::Order { line: number });
+    }
+    let entry = Entry::of(page, item, written.starts);
+    if is_above(low, entry.place()) {
+        Ok(entry)
+    } else {
+        Err(CertFault::Order { line: number })
     }
 }
 
@@ -83,7 +88,7 @@ fn line_at(text: &[u8], line: usize) -> Result<(&[u8], &[u8]), CertFault>
     ensures value { outcome (λ p. (p.0.now, lines_in p.1.now)) result ≡ rule.line_at line (lines_in text.now) }
     ensures shorter { IfOk result (λ p. length p.1.now < length text.now) }
 {
-    match cut(text, b'\n') {
+    match cut_line(text) {
         Some((first, rest)) => Ok((first, rest)),
         None => Err(CertFault::Line { line }),
     }
@@ -130,13 +135,13 @@ fn number_in(text: &[u8], line: usize, key: &[u8], most: u32) -> Result<u32, Cer
     ensures value { result ≡ rule.number_in line key.now most (words_in text.now) }
     ensures range { IfOk result (λ n. (1 ≤ n) × (n ≤ most)) }
 {
-    let Some((word, rest)) = cut(text, b' ') else {
+    let Some((word, rest)) = cut_word(text) else {
         return Err(CertFault::Line { line });
     };
     if word != key {
         return Err(CertFault::Line { line });
     }
-    match cut(rest, b' ') {
+    match cut_word(rest) {
         Some(_) => Err(CertFault::Line { line }),
         None => ranged(number(rest), line, most),
     }

@@ -10,7 +10,7 @@ use crate::certificates::Certificate;
 use crate::entries::Entry;
 use crate::no_memory::NoMemory;
 use std::alloc::{AllocError, Global};
-use ttx_digits::push_id;
+use ttx_digits::{push_decimal, push_id};
 use ttx_page::{Class, Item};
 
 /// Adds an item, after a space.
@@ -20,8 +20,8 @@ pub fn push_item(text: &mut String, item: Item) -> Result<(), AllocError>
     match item {
         Item::Head => text.push_str(" head"),
         Item::Row(row) => {
-            let number = row.number();
-            write!(text, " row {number}")
+            text.push_str(" row ")?;
+            push_decimal(text, row.number() as usize)
         }
         Item::Links => text.push_str(" links"),
     }
@@ -32,7 +32,8 @@ fn push_starts(text: &mut String, starts: &[u32]) -> Result<(), AllocError>
     ensures { OnOk result (string_bytes text.new ≡ string_bytes text.old ++ starts_text starts.now) }
 {
     for start in starts {
-        write!(text, " {start}")?;
+        text.push(' ')?;
+        push_decimal(text, *start as usize)?;
     }
     Ok(())
 }

@@ -1,17 +1,11 @@
 -- The numbers that words of digits are, and the digits in the word of an id.
-use Rattle.std.proofs.Common.{◌≡◌, ℕ, zero, suc, ◌^◌, ◌<◌, ◌≤◌, Bool, true, false, ◌&&◌, List, [], ◌∷◌, length, get_or}
-use Rattle.std.proofs.Common.{◌==◌, slice_index, refl, arith}
+use Rattle.std.proofs.Common.{◌≡◌, ℕ, zero, suc, ◌^◌, ◌<◌, ◌≤◌, Bool, true, false, ◌&&◌, List, length}
+use Rattle.std.proofs.Common.{◌==◌, ◌+◌, ◌-◌, ◌*◌, slice_index, unwrap_or, Some, None, if◌then◌else◌, refl, sym, ap, ◌∙◌, inl, inr, arith}
+use Rattle.std.proofs.lemmas.Bool.{and_from, and_parts, cases_Bool}
 use Rattle.std.proofs.lemmas.Bool.Decides.{nat_tests}
-use Rattle.ttx_digits.specs.Digits.{is_between, are_digits, is_hex}
-use Rattle.ttx_digits.specs.PageIds.{is_id_word}
-
-and_left : (a b : Bool) → (a && b) ≡ true → a ≡ true
-and_left true b h = refl
-and_left false b h = h
-
-and_right : (a b : Bool) → (a && b) ≡ true → b ≡ true
-and_right true b h = h
-and_right false b h = cc
+use Rattle.ttx_header.specs.Ids.{id_at}
+use Rattle.ttx_digits.specs.Digits.{is_between, is_hex, hex_value, hex_in, hex_pair, joined_digits, two_digits, four_digits}
+use Rattle.ttx_digits.specs.PageIds.{is_id_word, id_in_word}
 
 power_le : (i : ℕ) → i < 7 → 10 ^ i ≤ 1000000
 power_le zero lt = omega arith
@@ -27,12 +21,6 @@ power_le (suc (suc (suc (suc (suc (suc (suc i))))))) lt = absurd (omega arith)
 pub number_fits : (n i : ℕ) → n < 10 ^ i → i < 7 → n < 1000000
 number_fits n i small lt = let p = power_le i lt in omega arith
 
--- each digit is one
-pub digit_at : (ds : List ℕ) (i d : ℕ) → are_digits ds ≡ true → i < length ds → (48 ≤ get_or ds i d) × (get_or ds i d ≤ 57)
-digit_at [] i d are lt = absurd (omega arith)
-digit_at (x ∷ ds) zero d are lt = let here : is_between 48 57 x ≡ true = and_left _ _ are in grind (arith, nat_tests)
-digit_at (x ∷ ds) (suc i) d are lt = digit_at ds i d (and_right _ _ are) (omega arith)
-
 pub record IdWord (word : List ℕ) : Type 0 where
   pub magazine : is_between 49 56 (slice_index word 0) ≡ true
   pub tens : is_hex (slice_index word 1) ≡ true
@@ -47,23 +35,23 @@ pub record IdWord (word : List ℕ) : Type 0 where
 all_nine : (a b c d e f g h i : Bool) → (a && b && c && d && e && f && g && h && i) ≡ true →
     record { a : a ≡ true; b : b ≡ true; c : c ≡ true; d : d ≡ true; e : e ≡ true; f : f ≡ true; g : g ≡ true; h : h ≡ true; i : i ≡ true }
 all_nine a b c d e f g h i all =
-    let eight = and_left (a && b && c && d && e && f && g && h) i all in
-    let seven = and_left (a && b && c && d && e && f && g) h eight in
-    let six = and_left (a && b && c && d && e && f) g seven in
-    let five = and_left (a && b && c && d && e) f six in
-    let four = and_left (a && b && c && d) e five in
-    let three = and_left (a && b && c) d four in
-    let two = and_left (a && b) c three in
+    let eight = (and_parts (a && b && c && d && e && f && g && h) i all).0 in
+    let seven = (and_parts (a && b && c && d && e && f && g) h eight).0 in
+    let six = (and_parts (a && b && c && d && e && f) g seven).0 in
+    let five = (and_parts (a && b && c && d && e) f six).0 in
+    let four = (and_parts (a && b && c && d) e five).0 in
+    let three = (and_parts (a && b && c) d four).0 in
+    let two = (and_parts (a && b) c three).0 in
     record {
-      a = and_left a b two;
-      b = and_right a b two;
-      c = and_right (a && b) c three;
-      d = and_right (a && b && c) d four;
-      e = and_right (a && b && c && d) e five;
-      f = and_right (a && b && c && d && e) f six;
-      g = and_right (a && b && c && d && e && f) g seven;
-      h = and_right (a && b && c && d && e && f && g) h eight;
-      i = and_right (a && b && c && d && e && f && g && h) i all;
+      a = (and_parts a b two).0;
+      b = (and_parts a b two).1;
+      c = (and_parts (a && b) c three).1;
+      d = (and_parts (a && b && c) d four).1;
+      e = (and_parts (a && b && c && d) e five).1;
+      f = (and_parts (a && b && c && d && e) f six).1;
+      g = (and_parts (a && b && c && d && e && f) g seven).1;
+      h = (and_parts (a && b && c && d && e && f && g) h eight).1;
+      i = (and_parts (a && b && c && d && e && f && g && h) i all).1;
     }
 
 -- the digits of the word of an id
@@ -76,3 +64,55 @@ id_word word is =
 -- the magazine of an id is a digit
 pub magazine_digit : (word : List ℕ) → is_id_word word ≡ true → 48 ≤ slice_index word 0
 magazine_digit word is = let here = (id_word word is).magazine in grind (arith, nat_tests)
+
+-- a word that isn't an id's
+pub no_id : (word : List ℕ) → (is_id_word word ≡ true → ⊥) → None ≡ id_in_word word
+no_id word is_none = elim (cases_Bool (is_id_word word)) [
+  | inl is ↦ absurd (is_none is)
+  | inr other ↦ rw other refl
+]
+
+both : (weight x y : ℕ) (a b : Bool) → joined_digits weight (if a then Some x else None) (if b then Some y else None) ≡ (if a && b then Some (weight * x + y) else None)
+both weight x y true true = refl
+both weight x y true false = refl
+both weight x y false b = refl
+
+-- two hexadecimal digits, by their tests
+pub two_by_tests : (text : List ℕ) (at : ℕ) → two_digits text at ≡ (if is_hex (slice_index text at) && is_hex (slice_index text (at + 1)) then Some (hex_pair text at) else None)
+unfolding two_digits hex_in
+two_by_tests text at = both 16 (hex_value (slice_index text at)) (hex_value (slice_index text (at + 1))) (is_hex (slice_index text at)) (is_hex (slice_index text (at + 1)))
+
+-- and four
+pub four_by_tests : (text : List ℕ) (at : ℕ) → four_digits text at ≡
+    (if (is_hex (slice_index text at) && is_hex (slice_index text (at + 1))) && (is_hex (slice_index text (at + 2)) && is_hex (slice_index text (at + 2 + 1)))
+    then Some (256 * hex_pair text at + hex_pair text (at + 2)) else None)
+unfolding four_digits
+four_by_tests text at = ap (λ high. joined_digits 256 high (two_digits text (at + 2))) (two_by_tests text at)
+    ∙ ap (λ low. joined_digits 256 (if is_hex (slice_index text at) && is_hex (slice_index text (at + 1)) then Some (hex_pair text at) else None) low) (two_by_tests text (at + 2))
+    ∙ both 256 (hex_pair text at) (hex_pair text (at + 2)) (is_hex (slice_index text at) && is_hex (slice_index text (at + 1))) (is_hex (slice_index text (at + 2)) && is_hex (slice_index text (at + 2 + 1)))
+
+-- the number of the four digits of an id's word
+pub four_of_id : (word : List ℕ) → is_id_word word ≡ true → four_digits word 4 ≡ Some (256 * hex_pair word 4 + hex_pair word 6)
+four_of_id word is = let parts = id_word word is in four_by_tests word 4 ∙ rw (parts.first, parts.second, parts.third, parts.fourth) refl
+
+chosen : {A : Type 0} (b : Bool) (x y : A) → Some y ≡ (if b then Some x else None) → (b ≡ true) × (x ≡ y)
+chosen true x y is = (refl, sym (ap (λ o. unwrap_or o y) is))
+chosen false x y is = cc
+
+pub nine : (a b c d e f g h i : Bool) → a ≡ true → b ≡ true → c ≡ true → d ≡ true → e ≡ true → f ≡ true → g ≡ true → h ≡ true → i ≡ true → (a && b && c && d && e && f && g && h && i) ≡ true
+nine a b c d e f g h i pa pb pc pd pe pf pg ph pi =
+    and_from (a && b && c && d && e && f && g && h) i (and_from (a && b && c && d && e && f && g) h (and_from (a && b && c && d && e && f) g (and_from (a && b && c && d && e) f
+    (and_from (a && b && c && d) e (and_from (a && b && c) d (and_from (a && b) c (and_from a b pa pb) pc) pd) pe) pf) pg) ph) pi
+
+-- the id of a word, by its digits
+pub id_of_digits : (word : List ℕ) (page sub : ℕ) → (length word == 8) ≡ true → is_between 49 56 (slice_index word 0) ≡ true → (slice_index word 3 == 47) ≡ true → Some page ≡ two_digits word 1 → Some sub ≡ four_digits word 4 →
+    Some (id_at (slice_index word 0 - 48) page sub) ≡ id_in_word word
+id_of_digits word page sub long magazine stroke page_is sub_is =
+    let two = chosen (is_hex (slice_index word 1) && is_hex (slice_index word 2)) (hex_pair word 1) page (page_is ∙ two_by_tests word 1) in
+    let four = chosen ((is_hex (slice_index word 4) && is_hex (slice_index word 5)) && (is_hex (slice_index word 6) && is_hex (slice_index word 7))) (256 * hex_pair word 4 + hex_pair word 6) sub (sub_is ∙ four_by_tests word 4) in
+    let high = (and_parts _ _ four.0).0 in
+    let low = (and_parts _ _ four.0).1 in
+    let is : is_id_word word ≡ true = nine (length word == 8) (is_between 49 56 (slice_index word 0)) (is_hex (slice_index word 1)) (is_hex (slice_index word 2)) (slice_index word 3 == 47)
+    (is_hex (slice_index word 4)) (is_hex (slice_index word 5)) (is_hex (slice_index word 6)) (is_hex (slice_index word 7))
+    long magazine ((and_parts _ _ two.0).0) ((and_parts _ _ two.0).1) stroke ((and_parts _ _ high).0) ((and_parts _ _ high).1) ((and_parts _ _ low).0) ((and_parts _ _ low).1) in
+    rw is (ap (λ p. Some (id_at (slice_index word 0 - 48) p sub)) (sym two.1) ∙ ap (λ s. Some (id_at (slice_index word 0 - 48) (hex_pair word 1) s)) (sym four.1))

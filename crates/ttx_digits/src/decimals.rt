@@ -1,9 +1,9 @@
 //! Decimal numbers.
 
-ghost use Rattle.std.specs.Prelude.{◌≡◌, true, ◌≤◌, ◌<◌, ◌+◌, ◌++◌, length, IfSome, OnOk, string_bytes};
+ghost use Rattle.std.specs.Prelude.{◌≡◌, ◌≤◌, ◌<◌, ◌+◌, ◌++◌, length, Some, None, if◌then◌else◌, IfSome, OnOk, string_bytes};
 ghost use Rattle.std.specs.Fmt.{decimal};
 ghost use Rattle.ttx_digits.specs.Digits as rule;
-ghost use Rattle.ttx_digits.specs.Digits.{is_between, are_digits, is_number, decimal_after, number_in_word};
+ghost use Rattle.ttx_digits.specs.Digits.{are_digits, decimal_after, number_in_word};
 
 use itoa::Buffer;
 use std::alloc::AllocError;
@@ -39,46 +39,26 @@ pub fn two_decimals(text: &[u8], at: usize) -> Option<u8>
     Some(10 * high + low)
 }
 
-// Whether the byte is a decimal digit.
-fn is_digit(byte: u8) -> bool
-    ensures { result ≡ is_between 48 57 byte }
-{
-    b'0' <= byte && byte <= b'9'
-}
-
-// Whether each byte is a decimal digit.
-fn are_digits(word: &[u8]) -> bool
-    ensures { result ≡ are_digits word.now }
-{
-    word.iter().all(|byte| is_digit(*byte))
-}
-
-// Whether the word is 1 to 7 digits without a leading zero.
-fn is_number(word: &[u8]) -> bool
-    ensures { result ≡ is_number word.now }
-{
-    are_digits(word) && 1 <= word.len() && word.len() <= 7 && (word.len() == 1 || word[0] != b'0')
-}
-
-// The number of which these are the digits.
-fn value_of(digits: &[u8]) -> u32
-    requires digits { are_digits digits.now ≡ true }
+// The number of which these are the digits; None where one isn't a digit.
+#[tactic(auto, unfolding(crate::specs::Digits::decimal_in))]
+fn value_of(digits: &[u8]) -> Option<u32>
     requires few { length digits.now ≤ 7 }
-    ensures { result ≡ decimal_after 0 digits.now }
+    ensures { result ≡ (if are_digits digits.now then Some (decimal_after 0 digits.now) else None) }
 {
     let mut value = 0;
     for digit in digits {
-        value = 10 * value + u32::from(*digit - b'0');
+        value = 10 * value + u32::from(decimal_in(*digit)?);
     }
-    value
+    Some(value)
 }
 
 /// The number that the word is, below 10,000,000. None where it isn't 1 to 7 digits without a leading zero.
 pub fn number(word: &[u8]) -> Option<u32>
     ensures value { result ≡ number_in_word word.now }
 {
-    if !is_number(word) {
+    let has_lead = 1 < word.len() && word[0] == b'0';
+    if word.is_empty() || word.len() > 7 || has_lead {
         return None;
     }
-    Some(value_of(word))
+    value_of(word)
 }

@@ -3,6 +3,7 @@
 
 mod decimals;
 mod hexadecimals;
+pub mod laws;
 mod page_ids;
 
 pub use decimals::{decimal_in, number, push_decimal, two_decimals};

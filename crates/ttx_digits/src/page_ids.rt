@@ -1,12 +1,11 @@
 //! The numbers and ids of pages.
 
-ghost use Rattle.std.specs.Prelude.{◌≡◌, ◌≢◌, true, ◌≤◌, ◌<◌, ◌+◌, ◌*◌, ◌++◌, length, option_map, IfSome, OnOk, string_bytes};
+ghost use Rattle.std.specs.Prelude.{◌≡◌, ◌≢◌, ◌≤◌, ◌<◌, ◌+◌, ◌++◌, length, option_map, IfSome, OnOk, string_bytes};
 ghost use Rattle.ttx_header.specs.Ids.{id_at};
-ghost use Rattle.ttx_digits.specs.Digits.{is_hex, hex_value};
 ghost use Rattle.ttx_digits.specs.PageIds as rule;
-ghost use Rattle.ttx_digits.specs.PageIds.{id_text, is_id_word, id_in_word};
+ghost use Rattle.ttx_digits.specs.PageIds.{id_text, id_in_word};
 
-use crate::hexadecimals::{digit, push_byte, push_subcode, two_digits};
+use crate::hexadecimals::{digit, four_digits, push_byte, push_subcode, two_digits};
 use std::alloc::AllocError;
 use ttx_header::PageId;
 
@@ -44,58 +43,18 @@ pub fn first_number(text: &[u8]) -> Option<(u8, u8)>
     Some((text[0] - b'0', page))
 }
 
-// Whether the byte is a hexadecimal digit.
-fn is_hex(byte: u8) -> bool
-    ensures { result ≡ is_hex byte }
-{
-    matches!(byte, b'0'..=b'9' | b'A'..=b'F')
-}
-
-// Whether the word has the shape of a page's id.
-fn is_id_word(word: &[u8]) -> bool
-    ensures { result ≡ is_id_word word.now }
-{
-    word.len() == 8
-        && (b'1' <= word[0] && word[0] <= b'8')
-        && is_hex(word[1])
-        && is_hex(word[2])
-        && word[3] == b'/'
-        && is_hex(word[4])
-        && is_hex(word[5])
-        && is_hex(word[6])
-        && is_hex(word[7])
-}
-
-// The value of a hexadecimal digit.
-fn hex_value(byte: u8) -> u8
-    requires { is_hex byte ≡ true }
-    ensures value { result ≡ hex_value byte }
-    ensures small { result < 16 }
-{
-    if byte <= b'9' {
-        byte - b'0'
-    } else {
-        byte - b'A' + 10
-    }
-}
-
-// The value of two hexadecimal digits.
-fn hex_pair(high: u8, low: u8) -> u8
-    requires high { is_hex high ≡ true }
-    requires low { is_hex low ≡ true }
-    ensures { result ≡ 16 * hex_value high + hex_value low }
-{
-    16 * hex_value(high) + hex_value(low)
-}
-
 /// Magazine, page number and subcode of an id, as 100/3F7F. None where the word has another shape; the subcode may have any
 /// bits.
 pub fn id(word: &[u8]) -> Option<(u8, u8, u16)>
     ensures { option_map (λ id. id_at id.0 id.1 id.2) result ≡ id_in_word word.now }
 {
-    if !is_id_word(word) {
+    if word.len() != 8 || word[3] != b'/' {
         return None;
     }
-    let sub = u16::from(hex_pair(word[4], word[5])) * 256 + u16::from(hex_pair(word[6], word[7]));
-    Some((word[0] - b'0', hex_pair(word[1], word[2]), sub))
+    let page = two_digits(word, 1)?;
+    let sub = four_digits(word, 4)?;
+    match word[0] {
+        b'1'..=b'8' => Some((word[0] - b'0', page, sub)),
+        _ => None,
+    }
 }

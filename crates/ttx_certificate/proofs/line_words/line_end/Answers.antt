@@ -1,0 +1,6 @@
+use Rattle.std.proofs.Common.{◌==◌}
+use Rattle.ttx_certificate.proofs.TextParts.{first_byte}
+use Rattle.ttx_certificate.proofs.line_words.line_end.Goals as goal
+
+pub returns : goal.returns
+returns c = first_byte (λ b. b == 10) c.args.text.now c.memchr.result c.memchr.ensures
