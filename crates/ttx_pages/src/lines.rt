@@ -2,21 +2,12 @@
 
 ghost use Rattle.std.specs.Prelude.{◌≡◌, ◌<◌, ◌++◌, ◌∷◌, [], OnOk, codes, map, string_bytes};
 ghost use Rattle.ttx_pages.specs.Lines.{character, quoted, quoted_text, set_names, control_text, counts_text, quoted_line, listed_line};
-ghost use Rattle.ttx_digits.specs.Digits.{hex_byte};
 
 use bitflags::{Flag, Flags};
 use std::alloc::AllocError;
 use ttx_code::odd_of;
+use ttx_digits::{push_byte, push_id};
 use ttx_header::{Control, Header};
-use ttx_witness::{digit, push_id};
-
-// Adds two hexadecimal digits.
-fn push_byte(text: &mut String, byte: u8) -> Result<(), AllocError>
-    ensures { OnOk result (string_bytes text.new ≡ string_bytes text.old ++ hex_byte byte) }
-{
-    text.push(digit(byte / 16))?;
-    text.push(digit(byte % 16))
-}
 
 // Adds a character as it stands between quotation marks.
 fn push_character(text: &mut String, code: u8) -> Result<(), AllocError>
