@@ -2,6 +2,7 @@
 #![tactic(auto)]
 
 pub mod control;
+mod control_names;
 pub mod headers;
 pub mod ids;
 pub mod laws;
@@ -10,6 +11,7 @@ mod reading;
 mod writing;
 
 pub use control::Control;
+pub use control_names::push_control;
 pub use headers::Header;
 pub use ids::PageId;
 pub use reading::read_header;
