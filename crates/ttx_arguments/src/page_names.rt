@@ -3,9 +3,9 @@
 ghost use Rattle.std.specs.Prelude.{◌≡◌, ◌≤◌, ◌≢◌, IfSome};
 ghost use Rattle.ttx_arguments.specs.PageNames.{any_of, exact_of, selection_of};
 
+use ttx_digits::{first_number, four_digits};
 use ttx_header::PageId;
 use ttx_page::Selection;
-use ttx_source::{first_number, four_digits};
 
 // The subcode that stands for any subpage and names none.
 const ANY_SUBCODE: u16 = 0x3F7F;

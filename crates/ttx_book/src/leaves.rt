@@ -2,14 +2,13 @@
 
 ghost use Rattle.std.specs.Prelude.{◌≡◌, ◌++◌, OnOk, length, string_bytes};
 ghost use Rattle.ttx_book.specs.Books.{name_of, index_entry, index_html, full_number, anchor, section_tag, heading, leaf_end, leaf_html, leaves_html};
-ghost use Rattle.ttx_digits.specs.Digits.{hex_byte};
 
 use crate::hearing::page_view;
 use crate::placing::Index;
 use std::alloc::AllocError;
+use ttx_digits::{digit, push_byte, push_id};
 use ttx_header::PageId;
 use ttx_picture::push_figure;
-use ttx_witness::{digit, push_id};
 
 #[tactic(auto, unfolding(crate::specs::Books::name_of))]
 fn push_name(text: &mut String, id: PageId) -> Result<(), AllocError>
@@ -44,13 +43,6 @@ fn full_number(id: PageId) -> u32
     ensures { result ≡ full_number id }
 {
     u32::from(id.mag()) * 256 + u32::from(id.page())
-}
-
-fn push_byte(text: &mut String, byte: u8) -> Result<(), AllocError>
-    ensures { OnOk result (string_bytes text.new ≡ string_bytes text.old ++ hex_byte byte) }
-{
-    text.push(digit(byte / 16))?;
-    text.push(digit(byte % 16))
 }
 
 // Adds the number of a page as an id, unless the page before had it.

@@ -2,6 +2,7 @@
 //! tables of `[[page]]` are counted from 1. The text is one that `toml` has read.
 
 use crate::tokens::{Token, token_at};
+use itoa::Buffer;
 use std::alloc::{AllocError, Global};
 
 // What is awaited.
@@ -69,20 +70,9 @@ impl<'a> Walk<'a> {
         self.path.extend_from_slice(part)
     }
 
-    // Adds the number of an element, of at most seven digits.
+    // Adds the number of an element.
     fn push_number(&mut self, number: usize) -> Result<(), AllocError> {
-        self.path.push(b'/')?;
-        let mut weight = 1_000_000usize;
-        let mut begun = false;
-        for _digit in 0..7 {
-            let digit = number / weight.max(1) % 10;
-            begun = begun || digit != 0;
-            if begun {
-                self.path.push(b'0' + digit as u8)?;
-            }
-            weight = weight / 10;
-        }
-        Ok(())
+        self.push_part(Buffer::new().format(number).as_bytes())
     }
 
     // A part of a key or of the name of a table. Below `page` the name of a table goes through the latest page.

@@ -2,8 +2,9 @@
 
 use std::alloc::{AllocError, Global};
 use toml::{Table, Value};
+use ttx_digits::{first_number, four_digits};
 use ttx_links::Target;
-use ttx_source::{SourceError, SourceFault, first_number, four_digits};
+use ttx_source::{SourceError, SourceFault};
 
 static ROWS: [&str; 24] = [
     "1", "2", "3", "4", "5", "6", "7", "8", "9", "10", "11", "12", "13", "14", "15", "16", "17",

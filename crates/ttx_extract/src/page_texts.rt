@@ -4,10 +4,11 @@ ghost use Rattle.std.specs.Prelude.{◌≡◌};
 ghost use Rattle.ttx_extract.specs.Extracts.{often_for};
 
 use crate::found::Found;
-use crate::texts::{push_byte, push_characters, push_number, push_subcode, trimmed};
+use crate::texts::{push_characters, push_number, trimmed};
 use bitflags::Flags;
 use std::alloc::AllocError;
 use ttx_cycle::Cycle;
+use ttx_digits::{push_byte, push_subcode};
 use ttx_header::{Control, Header};
 use ttx_links::{Links, Target, read_links};
 use ttx_witness::header_in;

@@ -8,9 +8,10 @@ ghost use Rattle.ttx_extract.specs.Refusals.{refusal_text};
 use crate::faults::ExtractFault;
 use std::alloc::AllocError;
 use ttx_certify::push_reason;
+use ttx_digits::push_id;
 use ttx_header::PageId;
 use ttx_page::Item;
-use ttx_witness::{push_id, push_item};
+use ttx_witness::push_item;
 
 // Adds two slots, each after a space.
 fn push_slots(text: &mut String, first: u32, second: u32) -> Result<(), AllocError>

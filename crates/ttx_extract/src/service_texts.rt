@@ -2,9 +2,10 @@
 
 use crate::gathering::Gathered;
 use crate::page_texts::{push_page, push_target};
-use crate::texts::{push_byte, push_characters};
+use crate::texts::push_characters;
 use std::alloc::{AllocError, Global};
 use ttx_cycle::Cycle;
+use ttx_digits::push_byte;
 use ttx_info::Info;
 use ttx_witness::{NoMemory, header_in};
 

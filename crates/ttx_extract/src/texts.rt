@@ -3,13 +3,7 @@
 ghost use Rattle.std.specs.Prelude.{◌<◌, ◌≤◌, length};
 
 use std::alloc::AllocError;
-use ttx_witness::digit;
-
-/// Adds two hexadecimal digits.
-pub fn push_byte(text: &mut String, byte: u8) -> Result<(), AllocError> {
-    text.push(digit(byte / 16))?;
-    text.push(digit(byte % 16))
-}
+use ttx_digits::{digit, push_byte};
 
 /// Adds the three characters of a page number. The magazine is below 10.
 pub fn push_number(text: &mut String, mag: u8, page: u8) -> Result<(), AllocError>
@@ -17,12 +11,6 @@ pub fn push_number(text: &mut String, mag: u8, page: u8) -> Result<(), AllocErro
 {
     text.push(digit(mag))?;
     push_byte(text, page)
-}
-
-/// Adds the four digits of a subcode.
-pub fn push_subcode(text: &mut String, sub: u16) -> Result<(), AllocError> {
-    push_byte(text, (sub / 256) as u8)?;
-    push_byte(text, (sub % 256) as u8)
 }
 
 // Adds a character. Codes below 20 and code 7F are escapes.

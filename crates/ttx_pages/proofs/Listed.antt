@@ -2,7 +2,7 @@
 use Rattle.std.proofs.Common.{◌≡◌, List, ℕ, [], if◌then◌else◌}
 use Rattle.std.specs.List.{flat_map}
 use Rattle.ttx_header.specs.Headers.{fields_of, is_header}
-use Rattle.ttx_pages.specs.Counting.{CountsPackets, counted_line}
+use Rattle.ttx_pages.specs.Counting.{CountsByPage, counted_line}
 use Rattle.ttx_pages.specs.Keys.{page_key}
 use Rattle.ttx_pages.specs.Lines.{listed_line}
 use Rattle.ttx_pages.specs.Listing.{header_line}
@@ -10,9 +10,9 @@ use Rattle.ttx_pages.specs.declared.keys.Part.TheVariants.{Head, Row, Links}
 use Rattle.ttx_pages.specs.declared.listing.Sent.{Sent}
 
 pub record HasCounts (slots : List (List ℕ)) (all : Sent) : Type 0 where
-  pub heads : CountsPackets Head slots all.heads
-  pub rows : CountsPackets Row slots all.rows
-  pub links : CountsPackets Links slots all.links
+  pub heads : CountsByPage Head slots all.heads
+  pub rows : CountsByPage Row slots all.rows
+  pub links : CountsByPage Links slots all.links
 
 line_is : (slots : List (List ℕ)) (all : Sent) (slot : List ℕ) → HasCounts slots all → counted_line all slot ≡ header_line slots slot
 unfolding counted_line header_line

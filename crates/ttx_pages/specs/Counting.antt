@@ -13,8 +13,8 @@ abbrev pub count_in : BTreeMap ℕ ℕ → ℕ → ℕ
 count_in counts key = unwrap_or (get nat_cmp counts key) 0
 
 -- the map has the count of each page
-abbrev pub CountsPackets : Part → List (List ℕ) → BTreeMap ℕ ℕ → Type 0
-CountsPackets part slots counts = (q : ℕ) → count_in counts q ≡ times part slots q
+abbrev pub CountsByPage : Part → List (List ℕ) → BTreeMap ℕ ℕ → Type 0
+CountsByPage part slots counts = (q : ℕ) → count_in counts q ≡ times part slots q
 
 -- the line of a page with the counts that maps have
 unfoldable pub counted_line : Sent → List ℕ → List ℕ

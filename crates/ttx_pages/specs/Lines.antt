@@ -1,13 +1,12 @@
 -- The lines of `pages`.
 --
 --   quoted, quoted_text     characters as they stand between quotation marks
---   control_text, counts_text, quoted_line    the parts of a line: control bits, how often is sent what, the characters of a header
+--   counts_text, quoted_line    the parts of a line: how often is sent what, the characters of a header
 --   listed_line             the line of a page
 use Rattle.std.specs.Prelude.{ℕ, Bool, ◌||◌, ◌==◌, ◌%◌, List, [], ◌∷◌, ◌++◌, codes, nat_lt, if◌then◌else◌}
 use Rattle.std.specs.Fmt.{decimal}
-use Rattle.std.specs.Int.RustNames.{bit_and}
 use Rattle.ttx_code.specs.Words.{is_odd}
-use Rattle.ttx_header.specs.Control.{control_table}
+use Rattle.ttx_header.specs.Control.{control_text}
 use Rattle.ttx_header.specs.Ids.{Id}
 use Rattle.ttx_digits.specs.Digits.{hex_byte}
 use Rattle.ttx_digits.specs.PageIds.{id_text}
@@ -26,15 +25,6 @@ quoted b = if is_odd b then character (b % 128) else codes "\\?"
 abbrev pub quoted_text : List ℕ → List ℕ
 quoted_text [] = []
 quoted_text (b ∷ bytes) = quoted b ++ quoted_text bytes
-
--- the names of the control bits that are set, each after a space
-abbrev pub set_names : ℕ → List (List ℕ × ℕ) → List ℕ
-set_names control [] = []
-set_names control (row ∷ rest) = (if bit_and control row.1 == row.1 then 32 ∷ row.0 else []) ++ set_names control rest
-
--- the names of all control bits that are set, C4 first
-unfoldable pub control_text : ℕ → List ℕ
-control_text control = set_names control control_table
 
 unfoldable pub counts_text : ℕ → ℕ → ℕ → List ℕ
 counts_text times rows links = codes " sent " ++ decimal times ++ codes " rows " ++ decimal rows ++ (if links == 0 then [] else codes " links")

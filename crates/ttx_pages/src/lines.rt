@@ -1,22 +1,12 @@
 //! The line of a page.
 
 ghost use Rattle.std.specs.Prelude.{◌≡◌, ◌<◌, ◌++◌, ◌∷◌, [], OnOk, codes, map, string_bytes};
-ghost use Rattle.ttx_pages.specs.Lines.{character, quoted, quoted_text, set_names, control_text, counts_text, quoted_line, listed_line};
-ghost use Rattle.ttx_digits.specs.Digits.{hex_byte};
+ghost use Rattle.ttx_pages.specs.Lines.{character, quoted, quoted_text, counts_text, quoted_line, listed_line};
 
-use bitflags::{Flag, Flags};
 use std::alloc::AllocError;
 use ttx_code::odd_of;
-use ttx_header::{Control, Header};
-use ttx_witness::{digit, push_id};
-
-// Adds two hexadecimal digits.
-fn push_byte(text: &mut String, byte: u8) -> Result<(), AllocError>
-    ensures { OnOk result (string_bytes text.new ≡ string_bytes text.old ++ hex_byte byte) }
-{
-    text.push(digit(byte / 16))?;
-    text.push(digit(byte % 16))
-}
+use ttx_digits::{push_byte, push_id};
+use ttx_header::{Header, push_control};
 
 // Adds a character as it stands between quotation marks.
 fn push_character(text: &mut String, code: u8) -> Result<(), AllocError>
@@ -54,31 +44,6 @@ fn push_characters(text: &mut String, bytes: &[u8]) -> Result<(), AllocError>
         push_quoted(text, *byte)?;
     }
     Ok(())
-}
-
-// Adds the names of the set flags, each after a space.
-fn push_flags(
-    text: &mut String,
-    control: Control,
-    flags: &[Flag<Control>],
-) -> Result<(), AllocError>
-    ensures { OnOk result (string_bytes text.new ≡ string_bytes text.old ++ set_names control.0 (map (λ f. (f.name.now, f.value.0)) flags.now)) }
-{
-    for flag in flags {
-        if control.contains(flag.value) {
-            text.push(' ')?;
-            text.push_str(flag.name)?;
-        }
-    }
-    Ok(())
-}
-
-// Adds the names of the set control bits, C4 first.
-#[tactic(auto, unfolding(crate::specs::Lines::control_text))]
-fn push_control(text: &mut String, control: Control) -> Result<(), AllocError>
-    ensures { OnOk result (string_bytes text.new ≡ string_bytes text.old ++ control_text control.0) }
-{
-    push_flags(text, control, Control::flags())
 }
 
 #[tactic(auto, unfolding(crate::specs::Lines::counts_text))]

@@ -3,7 +3,7 @@
 ghost use Rattle.std.specs.Prelude.{◌≡◌, ◌++◌, ℕ, List, IfOk, OnOk, string_bytes};
 ghost use Rattle.std.specs.List.{flat_map};
 ghost use Rattle.ttx_pages.specs.Listing.{listed_lines, strays_text, rest_line, pages_text};
-ghost use Rattle.ttx_pages.specs.Counting.{CountsPackets, counted_line};
+ghost use Rattle.ttx_pages.specs.Counting.{CountsByPage, counted_line};
 
 use crate::firsts::page_headers;
 use crate::keys::{Part, keys_sent, page_key};
@@ -28,15 +28,15 @@ fn counts_of(
     part: Part,
     slots: &[[u8; 42]],
 ) -> Result<BTreeMap<u32, usize>, AllocError>
-    ensures { IfOk result (λ counts. CountsPackets part slots.now counts) }
+    ensures { IfOk result (λ counts. CountsByPage part slots.now counts) }
 {
     let keys = keys_sent(alloc, part, slots)?;
     tally(alloc, keys.as_slice())
 }
 
 fn all_counts(alloc: Global, slots: &[[u8; 42]]) -> Result<Sent, AllocError>
-    ensures { IfOk result (λ all. CountsPackets Part.Head slots.now all.heads × CountsPackets Part.Row slots.now all.rows
-        × CountsPackets Part.Links slots.now all.links) }
+    ensures { IfOk result (λ all. CountsByPage Part.Head slots.now all.heads × CountsByPage Part.Row slots.now all.rows
+        × CountsByPage Part.Links slots.now all.links) }
 {
     Ok(Sent {
         heads: counts_of(alloc, Part::Head, slots)?,
@@ -77,9 +77,9 @@ fn push_listed(
     all: &Sent,
     slots: &[[u8; 42]],
 ) -> Result<(), AllocError>
-    requires heads { CountsPackets Part.Head slots.now all.now.heads }
-    requires rows { CountsPackets Part.Row slots.now all.now.rows }
-    requires links { CountsPackets Part.Links slots.now all.now.links }
+    requires heads { CountsByPage Part.Head slots.now all.now.heads }
+    requires rows { CountsByPage Part.Row slots.now all.now.rows }
+    requires links { CountsByPage Part.Links slots.now all.now.links }
     ensures { OnOk result (string_bytes text.new ≡ string_bytes text.old ++ listed_lines slots.now) }
 {
     let headers = page_headers(alloc, slots)?;
@@ -88,7 +88,7 @@ fn push_listed(
 
 #[tactic(auto, unfolding(crate::specs::Listing::strays_text))]
 fn push_strays(text: &mut String, all: &Sent) -> Result<(), AllocError>
-    ensures { OnOk result ((slots : List (List ℕ)) → CountsPackets Part.Row slots all.now.rows → CountsPackets Part.Links slots all.now.links →
+    ensures { OnOk result ((slots : List (List ℕ)) → CountsByPage Part.Row slots all.now.rows → CountsByPage Part.Links slots all.now.links →
         string_bytes text.new ≡ string_bytes text.old ++ strays_text slots) }
 {
     let rows = count_of(&all.rows, 0);

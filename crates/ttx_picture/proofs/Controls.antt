@@ -9,7 +9,7 @@ use Rattle.ttx_header.specs.Ids.{Id}
 use Rattle.ttx_render.specs.declared.cells.Cell.{Cell}
 use Rattle.ttx_render.specs.Cells.{space_cell}
 use Rattle.ttx_render.specs.Laws.{ArePrinted}
-use Rattle.ttx_picture.specs.Ansi.{sgr, ink, ground, blink, change, changes, cells_ansi, row_ansi, rows_ansi}
+use Rattle.ttx_picture.specs.Ansi.{sgr, foreground, background, blink, change, changes, cells_ansi, row_ansi, rows_ansi}
 use Rattle.ttx_picture.specs.Laws.{FormsHaveNoControls}
 use Rattle.ttx_picture.specs.Links.{link_name, link_names}
 use Rattle.ttx_picture.specs.Shown.{char_of, are_blank}
@@ -125,7 +125,7 @@ module _ (p : ℕ → Bool) (admits : Admits p) where
       change_all before now = either_all p (before == now) (all_of p refl) (sgr_all now)
 
       changes_all : (before cell : Cell) → IsAll p (changes before cell)
-      changes_all before cell = with_all p (with_all p (change_all (ink before) (ink cell)) (change_all (ground before) (ground cell))) (change_all (blink before) (blink cell))
+      changes_all before cell = with_all p (with_all p (change_all (foreground before) (foreground cell)) (change_all (background before) (background cell))) (change_all (blink before) (blink cell))
 
       ansi_all : (before : Cell) (cells : List Cell) → Printed cells → IsAll p (cells_ansi reveal before cells)
       ansi_all before [] h = all_of p refl

@@ -17,7 +17,8 @@ use Rattle.ttx_render.specs.declared.cells.Part.TheVariants.{Single, Upper, Lowe
 use Rattle.ttx_render.specs.Laws.{is_control, IsPrinted}
 use Rattle.ttx_picture.specs.Escapes.{escaped}
 use Rattle.ttx_picture.specs.Laws.{is_markup, is_reserved}
-use Rattle.ttx_picture.specs.Links.{digit, two_digits, sub_text, page_name}
+use Rattle.ttx_digits.specs.Digits.{hex_digit, hex_byte}
+use Rattle.ttx_picture.specs.Links.{sub_text, page_name}
 use Rattle.ttx_picture.specs.Shown.{shown_glyph, over, sextant, braille, half, glyph_char, char_of}
 use Rattle.ttx_picture.specs.Svg.{is_drawn, code_of, letter_of}
 use Rattle.ttx_picture.specs.Tags.{is_ruled}
@@ -72,7 +73,7 @@ pub decimal_quiet : (n : ℕ) → IsQuiet (decimal n)
 unfolding digits
 decimal_quiet n = onto_quiet 64 n [] (calm refl)
 
-digit_quiet : (n : ℕ) → quiet (digit n) ≡ true
+digit_quiet : (n : ℕ) → quiet (hex_digit n) ≡ true
 digit_quiet n =
     by_if (λ b. quiet b ≡ true) (nat_lt n 10) (48 + n) (55 + n)
     (λ e. figure_quiet (48 + n) (omega arith) (omega (arith, small_digit n e))) (λ e. high_quiet (55 + n) (omega (arith, large_digit n e)))
@@ -80,20 +81,20 @@ digit_quiet n =
     large_digit : (n : ℕ) → nat_lt n 10 ≡ false → 10 ≤ n
     large_digit n e = grind (arith, nat_tests)
 
-two_quiet : (n : ℕ) → IsQuiet (two_digits n)
-two_quiet n = calm (both_true (quiet (digit (n / 16))) _ (digit_quiet (n / 16)) (both_true (quiet (digit (n % 16))) true (digit_quiet (n % 16)) refl))
+two_quiet : (n : ℕ) → IsQuiet (hex_byte n)
+two_quiet n = calm (both_true (quiet (hex_digit (n / 16))) _ (digit_quiet (n / 16)) (both_true (quiet (hex_digit (n % 16))) true (digit_quiet (n % 16)) refl))
 
 sub_quiet : (sub : ℕ) → IsQuiet (sub_text sub)
-sub_quiet sub = either_quiet (sub == 0x3f7f) (calm refl) (with_quiet {a = 47 ∷ two_digits (sub / 256)} slash (two_quiet (sub % 256)))
+sub_quiet sub = either_quiet (sub == 0x3f7f) (calm refl) (with_quiet {a = 47 ∷ hex_byte (sub / 256)} slash (two_quiet (sub % 256)))
   where
-    slash : IsQuiet (47 ∷ two_digits (sub / 256))
+    slash : IsQuiet (47 ∷ hex_byte (sub / 256))
     slash = calm (two_quiet (sub / 256)).is
 
 pub id_quiet : (id : Id) → IsQuiet (page_name id)
-id_quiet id = with_quiet {a = digit id.mag ∷ two_digits id.page} first (sub_quiet id.sub)
+id_quiet id = with_quiet {a = hex_digit id.mag ∷ hex_byte id.page} first (sub_quiet id.sub)
   where
-    first : IsQuiet (digit id.mag ∷ two_digits id.page)
-    first = calm (both_true (quiet (digit id.mag)) (list_all quiet (two_digits id.page)) (digit_quiet id.mag) (two_quiet id.page).is)
+    first : IsQuiet (hex_digit id.mag ∷ hex_byte id.page)
+    first = calm (both_true (quiet (hex_digit id.mag)) (list_all quiet (hex_byte id.page)) (digit_quiet id.mag) (two_quiet id.page).is)
 
 -- ---- characters
 

@@ -2,7 +2,7 @@
 
 ghost use Rattle.std.specs.Prelude.{◌≡◌, ◌<◌, ◌++◌, OnOk, string_bytes};
 ghost use Rattle.ttx_render.specs.Cells.{space_cell};
-ghost use Rattle.ttx_picture.specs.Ansi.{sgr, ink, ground, blink, change, changes, cells_ansi, row_ansi, rows_ansi, ansi_of};
+ghost use Rattle.ttx_picture.specs.Ansi.{sgr, foreground, background, blink, change, changes, cells_ansi, row_ansi, rows_ansi, ansi_of};
 
 use crate::links::push_links;
 use crate::shown::{char_of, colour_number};
@@ -15,14 +15,14 @@ fn push_sgr(text: &mut String, number: u8) -> Result<(), AllocError>
     write!(text, "\u{1b}[{number}m")
 }
 
-fn ink(cell: &Cell) -> u8
-    ensures { result ≡ ink cell.now }
+fn foreground(cell: &Cell) -> u8
+    ensures { result ≡ foreground cell.now }
 {
     30 + colour_number(cell.fore)
 }
 
-fn ground(cell: &Cell) -> u8
-    ensures { result ≡ ground cell.now }
+fn background(cell: &Cell) -> u8
+    ensures { result ≡ background cell.now }
 {
     if cell.picture {
         49
@@ -50,8 +50,8 @@ fn push_change(text: &mut String, before: u8, now: u8) -> Result<(), AllocError>
 fn push_changes(text: &mut String, before: &Cell, cell: &Cell) -> Result<(), AllocError>
     ensures { OnOk result (string_bytes text.new ≡ string_bytes text.old ++ changes before.now cell.now) }
 {
-    push_change(text, ink(before), ink(cell))?;
-    push_change(text, ground(before), ground(cell))?;
+    push_change(text, foreground(before), foreground(cell))?;
+    push_change(text, background(before), background(cell))?;
     push_change(text, blink(before), blink(cell))
 }
 

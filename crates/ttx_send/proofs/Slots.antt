@@ -11,9 +11,9 @@ use Rattle.std.proofs.lemmas.List.{take-append-le}
 use Rattle.ttx_cycle.specs.Files.{file_of}
 use Rattle.ttx_page.specs.Streams.{Stream, repeated}
 use Rattle.ttx_page.specs.Laws.{sent_from}
-use Rattle.ttx_send.specs.Times.{Moment, later, moment_at}
+use Rattle.ttx_send.specs.Times.{Moment, fields_later, moment_at}
 use Rattle.ttx_send.specs.Laws.{SentFileIsTheAir}
-use Rattle.ttx_send.specs.Airing.{at_time, at_moment, Sending, on_air, sent_slots}
+use Rattle.ttx_send.specs.Airing.{at_time, at_moment, Broadcast, on_air, sent_slots}
 
 -- n slots and m more
 pub sent_both : (s : Stream) (tau : ℤ) (n m : ℕ) → sent_from s tau (n + m) ≡ sent_from s tau n ++ sent_from s (tau +ℤ pos n) m
@@ -52,13 +52,13 @@ field_of phase field lines k some =
     omega (arith, e)
 
 -- fields of one second have its time
-same_time : (start : Moment) (a b : ℕ) → a / 50 ≡ b / 50 → later start a ≡ later start b
+same_time : (start : Moment) (a b : ℕ) → a / 50 ≡ b / 50 → fields_later start a ≡ fields_later start b
 same_time start a b e = λ i. moment_at ((start.mjd + (start.second + e i) / 86400) % 100000) ((start.second + e i) % 86400) start.ahead
 
 -- the slots of some fields more, all of one second
-module _ (s : Sending) where
+module _ (s : Broadcast) where
   abbrev pub piece_slots : ℕ → ℕ → List (List ℕ)
-  piece_slots field m = sent_from (at_moment s.cycle (later s.start field)) (pos ((s.phase + field) * s.lines)) (m * s.lines)
+  piece_slots field m = sent_from (at_moment s.cycle (fields_later s.start field)) (pos ((s.phase + field) * s.lines)) (m * s.lines)
 
   pub slots_more : (field m : ℕ) → 0 < s.lines → ((n : ℕ) → n < m → (field + n) / 50 ≡ field / 50) →
       sent_slots s (field + m) ≡ sent_slots s field ++ piece_slots field m
@@ -69,9 +69,9 @@ module _ (s : Sending) where
       ∙ sent_both (on_air s) (pos (s.phase * s.lines)) (field * s.lines) (m * s.lines)
       ∙ ap (λ l. sent_slots s field ++ l)
       (ap (λ j. sent_from (on_air s) (pos j) (m * s.lines)) place
-      ∙ same_from (on_air s) (at_moment s.cycle (later s.start field)) first (m * s.lines)
+      ∙ same_from (on_air s) (at_moment s.cycle (fields_later s.start field)) first (m * s.lines)
       (λ k l. ap (λ t. at_time t (repeated s.cycle (pos (first + k))))
-      (ap (later s.start) (field_of s.phase field s.lines k some)
+      (ap (fields_later s.start) (field_of s.phase field s.lines k some)
       ∙ same_time s.start (field + k / s.lines) field (second (k / s.lines) ((div-lt_iff_lt-mul some).1 l)))))
 
   pub bytes_more : (field m : ℕ) → 0 < s.lines → ((n : ℕ) → n < m → (field + n) / 50 ≡ field / 50) →
@@ -125,5 +125,5 @@ sent_file_is_the_air s fields field line before within =
       long_from (on_air s) (pos first) (fields * s.lines),
       from_at (on_air s) (pos first) (fields * s.lines) (field * s.lines + line) inside
           ∙ ap (λ j. on_air s (pos j)) place
-          ∙ ap (λ n. at_time (later s.start n) (repeated s.cycle (pos ((s.phase + field) * s.lines + line)))) at,
+          ∙ ap (λ n. at_time (fields_later s.start n) (repeated s.cycle (pos ((s.phase + field) * s.lines + line)))) at,
     )

@@ -7,7 +7,7 @@ ghost use Rattle.ttx_cycle.specs.Cycles.{slots_of};
 ghost use Rattle.ttx_cycle.specs.Files.{file_of, IsCycle};
 ghost use Rattle.ttx_cycle.specs.Writing.{Writes};
 ghost use Rattle.ttx_page.specs.Laws.{sent_from};
-ghost use Rattle.ttx_send.specs.Airing.{at_moment, sending_of, sent_slots};
+ghost use Rattle.ttx_send.specs.Airing.{at_moment, broadcast_of, sent_slots};
 
 use crate::moments::Moment;
 use crate::stamps::{Stamp, stamp_of};
@@ -89,7 +89,7 @@ pub fn send<W: Write>(
 ) -> Result<(), WriteFault>
     requires some { 1 ≤ lines }
     requires most { lines ≤ 32 }
-    ensures bytes { Writes (file_of (sent_slots (sending_of (slots_of cycle.now) lines phase start.now) fields))
+    ensures bytes { Writes (file_of (sent_slots (broadcast_of (slots_of cycle.now) lines phase start.now) fields))
         (W.contents (inner_of writer.old)) (W.contents (inner_of writer.new)) result }
     ensures faults { MatchResult result (λ _. faults_of writer.new ≡ faults_of writer.old)
         (λ _. HasRisen (faults_of writer.old) (faults_of writer.new)) }

@@ -5,7 +5,7 @@
 --   control_of_table                            the keys of a page that set control bits (EN 300 706, 9.3.1.3)
 --   head, rows                            the texts of a page
 --   six_links, crc, links_of_table              the keys of a page for its packet X/27/0 (EN 300 706, 9.6.1)
-use Rattle.std.specs.Prelude.{ℕ, suc, ℤ, pos, negsuc, ◌+◌, ◌-◌, ◌*◌, ◌/◌, ◌%◌, ◌<◌, ◌++◌, List, [], ◌∷◌, codes, length, replicate}
+use Rattle.std.specs.Prelude.{ℕ, suc, ℤ, pos, negsuc, ◌+◌, ◌-◌, ◌*◌, ◌/◌, ◌%◌, ◌<◌, ◌++◌, List, [], ◌∷◌, codes, length, map, replicate}
 use Rattle.std.specs.Prelude.{slice_index_or, Bool, true, false, ◌&&◌, ◌||◌, ◌==◌, nat_le, nat_lt, Option, Some, None, Result, Ok, Err}
 use Rattle.std.specs.Prelude.{if◌then◌else◌}
 use Rattle.std.specs.List.{list_any}
@@ -15,7 +15,7 @@ use Rattle.ttx_header.specs.Ids.{Id}
 use Rattle.ttx_links.specs.Sets.{LinksFields, links_at}
 use Rattle.ttx_info.specs.Infos.{InfoFields, info_at}
 use Rattle.ttx_page.specs.Pages.{IsRow}
-use Rattle.ttx_source.specs.Values.{Fault, out_of_range, wrong_often, ◌>>=◌, of_kind, required, with_default}
+use Rattle.ttx_source.specs.Values.{Fault, out_of_range, wrong_often, ◌>>=◌, or_fault, of_kind, required, with_default}
 use Rattle.ttx_source.specs.Values.{integer_at, integer_at_or, magnitude, characters, link, byte_pair}
 
 -- the slots in a field
@@ -145,10 +145,10 @@ abbrev pub row_of : Option Data → Result (List ℕ) Fault
 row_of None = Ok (replicate 40 32)
 row_of (Some value) = of_kind (codes "rows") as_str value >>= characters 40
 
--- the rows of some keys, in their order
-unfoldable pub rows_of : List (List ℕ) → Members → Result (List (List ℕ)) Fault
-rows_of [] table = Ok []
-rows_of (key ∷ keys) table = row_of (get_member key table) >>= (λ row. rows_of keys table >>= (λ rows. Ok (row ∷ rows)))
+-- the rows of some values, in their order
+unfoldable pub rows_of : List (Option Data) → Result (List (List ℕ)) Fault
+rows_of [] = Ok []
+rows_of (value ∷ values) = row_of value >>= (λ row. rows_of values >>= (λ rows. Ok (row ∷ rows)))
 
 -- 1 to 24, without leading zeros
 unfoldable pub row_keys : List (List ℕ)
@@ -165,9 +165,13 @@ abbrev pub keys_pass : (List ℕ → Bool) → Members → Bool
 keys_pass test no_members = true
 keys_pass test (member key value table) = test key && keys_pass test table
 
+-- the values of rows 1 to 24 in a table of rows; none where it has another key
+abbrev pub row_values : Members → Option (List (Option Data))
+row_values table = if keys_pass is_row_key table then Some (map (λ key. get_member key table) row_keys) else None
+
 -- the table of rows: its keys are looked at before its texts
 abbrev pub rows_in : Members → Result (List (List ℕ)) Fault
-rows_in table = if keys_pass is_row_key table then rows_of row_keys table else Err (out_of_range (codes "rows"))
+rows_in table = or_fault (out_of_range (codes "rows")) (row_values table) >>= rows_of
 
 abbrev pub rows_member : Option Data → Result (List (List ℕ)) Fault
 rows_member None = Ok (replicate 24 (replicate 40 32))

@@ -15,4 +15,3 @@ mod values;
 pub use faults::{SourceError, SourceFault};
 pub use reading::read_service;
 pub use services::Service;
-pub use ttx_digits::{first_number, four_digits};

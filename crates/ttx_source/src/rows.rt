@@ -1,11 +1,9 @@
 //! The rows of a page.
 
-ghost use Rattle.std.specs.Prelude.{◌≡◌, map, replicate, string_bytes, codes, IfOk};
-ghost use Rattle.std.specs.List.{list_all, list_any};
+ghost use Rattle.std.specs.Prelude.{◌≡◌, ◌<◌, [], map, option_map, is_some, replicate, slice_index_or, codes, IfOk, IfSome};
+ghost use Rattle.std.specs.List.{position};
 ghost use Rattle.std.specs.Str.{bytes_eq};
-ghost use Rattle.std.specs.BTreeMap.{keys};
-ghost use Rattle.toml.specs.Data.{get_member};
-ghost use Rattle.toml.specs.View.{table_view};
+ghost use Rattle.toml.specs.View.{table_view, view};
 ghost use Rattle.ttx_page.specs.Pages.{IsRow};
 ghost use Rattle.ttx_source.specs.Keys as rule;
 ghost use Rattle.ttx_source.specs.Keys.{AreRows};
@@ -14,37 +12,25 @@ ghost use Rattle.ttx_source.specs.Faults.{outcome};
 use crate::faults::SourceFault;
 use crate::texts::characters;
 use crate::values::{member, table_of, text_of};
-use toml::Table;
+use toml::{Table, Value};
 
 static ROW_KEYS: [&str; 24] = [
     "1", "2", "3", "4", "5", "6", "7", "8", "9", "10", "11", "12", "13", "14", "15", "16", "17",
     "18", "19", "20", "21", "22", "23", "24",
 ];
 
-fn is_among(keys: &[&str], key: &str) -> bool
-    ensures { result ≡ list_any (λ name. bytes_eq name.now key.now) keys.now }
+fn place_among(keys: &[&str], key: &str) -> Option<usize>
+    ensures { result ≡ position (λ name. bytes_eq name.now key.now) keys.now }
 {
-    keys.iter().any(|name| *name == key)
+    keys.iter().position(|name| *name == key)
 }
 
-// Whether a key is the number of a row.
-fn is_row_key(key: &str) -> bool
-    ensures { result ≡ rule.is_row_key key.now }
+// The place of a key among the numbers of rows; None where it isn't the number of a row.
+fn row_index(key: &str) -> Option<usize>
+    ensures among { is_some result ≡ rule.is_row_key key.now }
+    ensures place { IfSome result (λ i. (i < 24) × (slice_index_or rule.row_keys i [] ≡ key.now)) }
 {
-    is_among(ROW_KEYS.as_slice(), key)
-}
-
-fn each_key_is_a_row(rows: &Table) -> bool
-    ensures { result ≡ list_all (λ k. rule.is_row_key (string_bytes k)) (keys rows.now) }
-{
-    rows.keys().all(|key| is_row_key(key.as_str()))
-}
-
-// Whether each key is the number of a row.
-fn are_row_keys(rows: &Table) -> bool
-    ensures { result ≡ rule.keys_pass rule.is_row_key (table_view rows.now) }
-{
-    each_key_is_a_row(rows)
+    place_among(ROW_KEYS.as_slice(), key)
 }
 
 fn blank_row() -> [u8; 40]
@@ -54,12 +40,12 @@ fn blank_row() -> [u8; 40]
     [b' '; 40]
 }
 
-// The row at a key.
-fn row_at(rows: &Table, key: &str) -> Result<[u8; 40], SourceFault>
-    ensures value { outcome (λ r. r) result ≡ rule.row_of (get_member key.now (table_view rows.now)) }
+// The row of a value: spaces where there is none.
+fn row_of(value: Option<&Value>) -> Result<[u8; 40], SourceFault>
+    ensures value { outcome (λ r. r) result ≡ rule.row_of (option_map (λ v. view v.now) value.entry) }
     ensures row { IfOk result IsRow }
 {
-    match member(rows, key) {
+    match value {
         None => Ok(blank_row()),
         Some(value) => characters(text_of(value, "rows")?),
     }
@@ -72,14 +58,14 @@ fn blank_rows() -> [[u8; 40]; 24]
     [[b' '; 40]; 24]
 }
 
-// The rows at these keys.
-fn rows_at(table: &Table, keys: &[&str; 24]) -> Result<[[u8; 40]; 24], SourceFault>
-    ensures value { outcome (λ r. r) result ≡ rule.rows_of (map (λ key. key.now) keys.now) (table_view table.now) }
+// The rows of these values.
+fn rows_of(values: &[Option<&Value>; 24]) -> Result<[[u8; 40]; 24], SourceFault>
+    ensures value { outcome (λ r. r) result ≡ rule.rows_of (map (option_map (λ v. view v.now)) values.now) }
     ensures rows { IfOk result AreRows }
 {
     let mut rows = blank_rows();
-    for (index, key) in keys.iter().enumerate() {
-        rows[index] = row_at(table, *key)?;
+    for (index, value) in values.iter().enumerate() {
+        rows[index] = row_of(*value)?;
     }
     Ok(rows)
 }
@@ -89,10 +75,14 @@ fn rows_in(table: &Table) -> Result<[[u8; 40]; 24], SourceFault>
     ensures value { outcome (λ r. r) result ≡ rule.rows_in (table_view table.now) }
     ensures rows { IfOk result AreRows }
 {
-    if !are_row_keys(table) {
-        return Err(SourceFault::Range { key: "rows" });
+    let mut values = [None; 24];
+    for (key, value) in table.iter() {
+        match row_index(key.as_str()) {
+            None => return Err(SourceFault::Range { key: "rows" }),
+            Some(index) => values[index] = Some(value),
+        }
     }
-    rows_at(table, &ROW_KEYS)
+    rows_of(&values)
 }
 
 /// Rows 1 to 24 of a page.

@@ -6,8 +6,9 @@ ghost use Rattle.ttx_wait.specs.WaitLines.{own_text, item_line, item_lines, line
 use crate::deadlines::greatest;
 use crate::wait_lines::{push_all, push_fields, push_losses, push_page};
 use std::alloc::{AllocError, Global};
+use ttx_digits::push_id;
 use ttx_header::PageId;
-use ttx_witness::{ItemWait, OwnWait, PageWait, Wait, push_id, push_item};
+use ttx_witness::{ItemWait, OwnWait, PageWait, Wait, push_item};
 
 // Adds how long a viewer waits for an item, or what becomes of its transmissions.
 fn push_own(text: &mut String, wait: OwnWait) -> Result<(), AllocError>

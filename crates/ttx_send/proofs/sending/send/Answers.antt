@@ -6,8 +6,8 @@ use Rattle.std.proofs.Math.Nat.{add-mul, mul-le-mul_left}
 use Rattle.ttx_cycle.specs.Cycles.{slots_of}
 use Rattle.ttx_cycle.specs.Files.{file_of}
 use Rattle.ttx_page.specs.Laws.{sent_from}
-use Rattle.ttx_send.specs.Times.{Moment, later}
-use Rattle.ttx_send.specs.Airing.{at_moment, Sending, sending_of, sent_slots}
+use Rattle.ttx_send.specs.Times.{Moment, fields_later}
+use Rattle.ttx_send.specs.Airing.{at_moment, Broadcast, broadcast_of, sent_slots}
 use Rattle.ttx_send.proofs.Slots.{piece_slots, bytes_more, bytes_after, take_parts}
 use Rattle.ttx_send.proofs.sending.send.Goals as goal
 
@@ -16,14 +16,14 @@ piece_long : (bytes : List ℕ) (slots : ℕ) → length bytes ≡ 5376 → slot
 piece_long bytes slots long few = length-take-le (42 * slots) bytes (omega (arith, long, few))
 
 piece_is : (cycle : List (List ℕ)) (lines phase field m first slots : ℕ) (start moment : Moment) (bytes : List ℕ) →
-    take (42 * slots) bytes ≡ file_of (sent_from (at_moment cycle moment) (pos first) slots) → moment ≡ later start field →
+    take (42 * slots) bytes ≡ file_of (sent_from (at_moment cycle moment) (pos first) slots) → moment ≡ fields_later start field →
     first ≡ (phase + field) * lines → slots ≡ m * lines →
-    take (42 * slots) bytes ≡ file_of (piece_slots (sending_of cycle lines phase start) field m)
+    take (42 * slots) bytes ≡ file_of (piece_slots (broadcast_of cycle lines phase start) field m)
 piece_is cycle lines phase field m first slots start moment bytes e t f n =
     e ∙ (λ i. file_of (sent_from (at_moment cycle (t i)) (pos (f i)) (n i)))
 
 -- at a fault in a piece
-module _ (s : Sending) (field fields at n m : ℕ) (part : List ℕ) (some : 0 < s.lines) (second : (k : ℕ) → k < m → (field + k) / 50 ≡ field / 50)
+module _ (s : Broadcast) (field fields at n m : ℕ) (part : List ℕ) (some : 0 < s.lines) (second : (k : ℕ) → k < m → (field + k) / 50 ≡ field / 50)
     (inside : field + m ≤ fields) (size : length (file_of (sent_slots s field)) ≡ at) (is : part ≡ file_of (piece_slots s field m)) (fits : n < length part) where
   abbrev rest : List ℕ
   rest = (bytes_after s (field + m) fields inside).0
@@ -47,16 +47,16 @@ returns-in-Err-clause-bytes g c =
     let field = c.loop-field.field in
     let piece = c.next_piece-piece.result in
     let n = c.in-Err.fault.written in
-    let s = sending_of slots lines c.args.phase c.args.start.now in
-    let same : s ≡ sending_of (slots_of c.args.cycle.now) c.args.lines c.args.phase c.args.start.now =
-    λ i. sending_of (c.slots-slots.ensures.slots i) (c.from-lines.ensures i) c.args.phase c.args.start.now in
+    let s = broadcast_of slots lines c.args.phase c.args.start.now in
+    let same : s ≡ broadcast_of (slots_of c.args.cycle.now) c.args.lines c.args.phase c.args.start.now =
+    λ i. broadcast_of (c.slots-slots.ensures.slots i) (c.from-lines.ensures i) c.args.phase c.args.start.now in
     let some : 0 < lines = omega (arith, c.from-lines.ensures, c.requires.some) in
     let part = take (42 * piece.slots) c.piece_bytes-bytes.result in
     let is : part ≡ file_of (piece_slots s field piece.fields) =
     piece_is slots lines c.args.phase field piece.fields c.loop-field.first piece.slots c.args.start.now c.stamp_of-stamp.result.moment c.piece_bytes-bytes.result
     c.piece_bytes-bytes.ensures.bytes (c.stamp_of-stamp.ensures ∙ c.later.ensures) c.loop-field.invariant.first c.next_piece-piece.ensures.slots in
     let out = c.in-Err.ensures.bytes in
-    let w : file_of (sent_slots s c.args.fields) ≡ file_of (sent_slots (sending_of (slots_of c.args.cycle.now) c.args.lines c.args.phase c.args.start.now) c.args.fields) =
+    let w : file_of (sent_slots s c.args.fields) ≡ file_of (sent_slots (broadcast_of (slots_of c.args.cycle.now) c.args.lines c.args.phase c.args.start.now) c.args.fields) =
     ap (λ t. file_of (sent_slots t c.args.fields)) same in
     let second = c.next_piece-piece.ensures.second in
     let inside = c.next_piece-piece.ensures.inside in
@@ -73,7 +73,7 @@ loop-field-preserved g c =
     let field = c.loop-field.field in
     let piece = c.next_piece-piece.result in
     let m = piece.fields in
-    let s = sending_of slots lines c.args.phase c.args.start.now in
+    let s = broadcast_of slots lines c.args.phase c.args.start.now in
     let some : 0 < lines = omega (arith, c.from-lines.ensures, c.requires.some) in
     let few : lines ≤ 32 = omega (arith, c.from-lines.ensures, c.requires.most) in
     let part = take (42 * piece.slots) c.piece_bytes-bytes.result in

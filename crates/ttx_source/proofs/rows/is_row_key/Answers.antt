@@ -1,7 +1,0 @@
-use Rattle.std.proofs.Common.{rules}
-use Rattle.ttx_source.specs.Keys.{row_keys}
-use Rattle.ttx_source.proofs.rows.is_row_key.Goals as goal
-
-pub returns : goal.returns
-unfolding row_keys
-returns c = search rules
