@@ -1,8 +1,10 @@
 -- Bytes that send characters, found by the union of all differences.
-use Rattle.std.proofs.Common.{◌≡◌, ◌↔◌, ℕ, zero, suc, ◌+◌, ◌-◌, ◌*◌, ◌/◌, ◌%◌, ◌<◌, ◌≤◌, ◌==◌, ◌&&◌, Bool, true, false, List, [], ◌∷◌, map, length, get_or}
-use Rattle.std.proofs.Common.{drop, bit_and, bit_or, refl, ap, ◌∙◌, arith, eqb, ltb, eqb-true, eq-eqb}
+use Rattle.std.proofs.Common.{◌≡◌, ◌↔◌, ℕ, zero, suc, ◌+◌, ◌-◌, ◌*◌, ◌/◌, ◌%◌, ◌<◌, ◌≤◌, ◌==◌, ◌&&◌, Bool, true, List, [], ◌∷◌, map, length, get_or}
+use Rattle.std.proofs.Common.{drop, bit_and, bit_or, refl, sym, ap, ◌∙◌, arith, eqb, ltb, eqb-true, eq-eqb}
 use Rattle.std.proofs.lemmas.Bool.{agree_below, agree_below_at, ltb-true}
+use Rattle.std.proofs.Math.Bool.{and-true, and_assoc}
 use Rattle.std.specs.Int.Bits.{bit_xor}
+use Rattle.ttx_packet.proofs.Unions.{no_bit}
 use Rattle.ttx_code.specs.Words.{ones, odd_byte}
 use Rattle.ttx_witness.proofs.lemmas.Choices.{and_left, and_right, and_both}
 
@@ -22,9 +24,6 @@ pub parity_is : (c : ℕ) → c < 128 → with_parity c ≡ odd_byte c
 unfolding ones
 parity_is c l = eqb-true _ _ (agree_below_at (λ c. eqb (with_parity c) (odd_byte c)) (λ _. true) 128 c refl l)
 
-unions : agree_below (λ a. agree_below (λ b. bit_or a b == 0) (λ b. (a == 0) && (b == 0)) 256) (λ _. true) 256 ≡ true
-unions = refl
-
 differences : agree_below (λ a. agree_below (λ b. bit_xor a b == 0) (λ b. a == b) 256) (λ _. true) 256 ≡ true
 differences = refl
 
@@ -35,8 +34,7 @@ small = refl
 pub union_more : (u a b : ℕ) → u < 256 → a < 256 → b < 256 → (bit_or u (bit_xor a b) == 0) ≡ ((u == 0) && (a == b))
 union_more u a b lu la lb =
     let fits : bit_xor a b < 256 = ltb-true _ _ (agree_below_at (λ b. ltb (bit_xor a b) 256) (λ _. true) 256 b (agree_below_at (λ a. agree_below (λ b. ltb (bit_xor a b) 256) (λ _. true) 256) (λ _. true) 256 a small la) lb) in
-    agree_below_at (λ x. bit_or u x == 0) (λ x. (u == 0) && (x == 0)) 256 (bit_xor a b)
-    (agree_below_at (λ a. agree_below (λ b. bit_or a b == 0) (λ b. (a == 0) && (b == 0)) 256) (λ _. true) 256 u unions lu) fits
+    no_bit u (bit_xor a b) lu fits
     ∙ ap (λ t. (u == 0) && t) (agree_below_at (λ b. bit_xor a b == 0) (λ b. a == b) 256 b
     (agree_below_at (λ a. agree_below (λ b. bit_xor a b == 0) (λ b. a == b) 256) (λ _. true) 256 a differences la) lb)
 
@@ -47,22 +45,14 @@ are_sent (suc n) [] characters = true
 are_sent (suc n) (b ∷ bytes) [] = true
 are_sent (suc n) (b ∷ bytes) (c ∷ characters) = (b == odd_byte c) && are_sent n bytes characters
 
-and_true : (a : Bool) → (a && true) ≡ a
-and_true true = refl
-and_true false = refl
-
-and_first : (a b c : Bool) → (a && (b && c)) ≡ ((a && b) && c)
-and_first true b c = refl
-and_first false b c = refl
-
 sent_suc : (bytes characters : List ℕ) (i : ℕ) → i < length bytes → length bytes ≡ length characters →
     are_sent (suc i) bytes characters ≡ (are_sent i bytes characters && (get_or bytes i 0 == odd_byte (get_or characters i 0)))
 sent_suc [] characters i lt e = absurd (omega arith)
 sent_suc (b ∷ bytes) [] i lt e = absurd (omega arith)
-sent_suc (b ∷ bytes) (c ∷ characters) zero lt e = and_true (b == odd_byte c)
+sent_suc (b ∷ bytes) (c ∷ characters) zero lt e = and-true (b == odd_byte c)
 sent_suc (b ∷ bytes) (c ∷ characters) (suc i) lt e =
     ap (λ t. (b == odd_byte c) && t) (sent_suc bytes characters i (omega arith) (omega arith))
-    ∙ and_first (b == odd_byte c) (are_sent i bytes characters) (get_or bytes i 0 == odd_byte (get_or characters i 0))
+    ∙ sym (and_assoc (b == odd_byte c) (are_sent i bytes characters) (get_or bytes i 0 == odd_byte (get_or characters i 0)))
 
 pub sent_more : (bytes characters : List ℕ) (i : ℕ) → i < length bytes → length bytes ≡ length characters →
     are_sent (i + 1) bytes characters ≡ (are_sent i bytes characters && (get_or bytes i 0 == odd_byte (get_or characters i 0)))
