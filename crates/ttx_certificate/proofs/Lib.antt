@@ -1,5 +1,5 @@
 pub mod Choices
-mod EntryOrder
+pub mod EntryOrder
 mod CertificateRules
 mod TextParts
 pub mod LineShapes

@@ -17,7 +17,7 @@ use Rattle.ttx_witness.specs.sent.Collected.{IsItem, ids_of, item_number, place_
 use Rattle.ttx_witness.specs.finding.Finding.{starts_for, limit_for, IsEnough, wider, IsDone, NamesStarts, HasEntry, same_place, AreNamed, AddsEntry}
 use Rattle.ttx_certificate.specs.declared.entries.Entry.{Entry}
 use Rattle.ttx_witness.proofs.lemmas.Choices.{no_both, and_left, and_right}
-use Rattle.ttx_witness.proofs.lemmas.finding.EntryOrder.{same_entry}
+use Rattle.ttx_certificate.proofs.EntryOrder.{same_entry}
 use Rattle.ttx_witness.proofs.lemmas.sent.PageIndexes.{same_one, id_of_page}
 use Rattle.ttx_witness.proofs.lemmas.sent.AllLists.{all_by_place, all_by_recursion}
 use Rattle.ttx_witness.proofs.lemmas.sent.ItemPlaces.{item_small}

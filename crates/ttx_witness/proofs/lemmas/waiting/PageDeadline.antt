@@ -32,7 +32,7 @@ use Rattle.ttx_witness.specs.declared.waiting.wait.Losses.{Losses}
 use Rattle.ttx_witness.specs.declared.waiting.wait.Wait.{Wait}
 use Rattle.ttx_witness.specs.declared.waiting.wait.Wait.TheVariants.{Fields, Faulty, Unsure}
 use Rattle.ttx_witness.proofs.lemmas.Choices.{if_ind, no_both, if_true, if_false}
-use Rattle.ttx_witness.proofs.lemmas.finding.EntryOrder.{rising_pairs}
+use Rattle.ttx_certificate.proofs.EntryOrder.{rising_pairs}
 use Rattle.ttx_witness.proofs.lemmas.runs.FoundStarts.{starts_rise}
 use Rattle.ttx_witness.proofs.lemmas.sent.CycleTransmissions.{sent_told, told_in_order}
 use Rattle.ttx_witness.proofs.lemmas.finding.HeaderLimits.{Next, next_covered, next_fits, named_head}
