@@ -93,7 +93,7 @@ module _ (page : Id) (item : Item) (id : IsId page) (is : is_item item ≡ true)
   ]
 
   -- the entry at the item's place has its starts
-  found : (es : List Entry) → rises_above None (entry_places (entries_of es)) ≡ true → (i : ℕ) (d : Entry) → i < length es → place_in (get_or es i d) ≡ place_of page item →
+  pub found : (es : List Entry) → rises_above None (entry_places (entries_of es)) ≡ true → (i : ℕ) (d : Entry) → i < length es → place_in (get_or es i d) ≡ place_of page item →
       starts_in (entries_of es) page item ≡ (get_or es i d).starts.items
   found es up = found_in es (entries_rise es up)
     where

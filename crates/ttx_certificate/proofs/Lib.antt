@@ -1,4 +1,4 @@
-mod EntryOrder
+pub mod EntryOrder
 mod CertificateRules
 mod TextParts
 mod LineShapes

@@ -139,4 +139,23 @@ impl Certificate {
             Err(_) => &[],
         }
     }
+
+    /// The starts that are named for an item of a page, and near which entry those of the next item may stand; `near` is where this
+    /// item's may stand, and wherever that is, the starts are the same.
+    pub fn starts_near(&self, page: PageId, item: Item, near: usize) -> (usize, &[u32])
+        ensures { result.1.now ≡ starts_in (fields_of self.now).entries page item }
+    {
+        let wanted = place(page, item);
+        let entries = self.entries.as_slice();
+        if near < entries.len() {
+            let entry = &entries[near];
+            if entry.place() == wanted {
+                return (near + 1, entry.starts());
+            }
+        }
+        match entries.binary_search_by_key(&wanted, |entry| entry.place()) {
+            Ok(index) => (index + 1, entries[index].starts()),
+            Err(index) => (index, &[]),
+        }
+    }
 }

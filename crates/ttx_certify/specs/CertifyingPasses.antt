@@ -1,28 +1,24 @@
 -- What is answered and written where two readings of a packet file, a service definition and a certificate are certified.
 --
---   IsRefusedText, ReadsTexts       why the two texts are refused; what they say
---   WalksFiles      the verdict on two packet files, with the pages of a service and a certificate
+--   IsRefusedText   why the two texts are refused
 --   CertifiesTwice  the verdict on four inputs, and its line
---   IsRefusedTwice, JudgesPasses    why four inputs are refused; the verdict and its line, before they are written
+--   IsRefusedTwice  why four inputs are refused
 --   CertifiesPasses what was written at each answer
+--   CountsFour, CountsPasses        a fault of a device is answered only where one was counted
 --   PassesAreFiles  the law that two readings of one file are certified as the file is
---   CountsTexts, CountsCycles, CountsFour, CountsPasses     a fault of a device is answered only where one was counted
-use Rattle.std.specs.Prelude.{◌≡◌, ◌⊎◌, ℕ, ◌<◌, List, length, take, string_bytes, ⊤, Option, Result, Ok, Err}
+use Rattle.std.specs.Prelude.{◌≡◌, ◌⊎◌, ℕ, ◌<◌, List, length, take, ⊤, Option, Result, Ok, Err}
 use Rattle.std.specs.Io.KnownBytes.{Appends, Keeps}
 use Rattle.ttx_cycle.specs.Counts.{HasRisen}
 use Rattle.ttx_cycle.specs.declared.faults.CycleFault.TheVariants as cycle
 use Rattle.ttx_source.specs.Services.{ServiceFields, pages_of}
-use Rattle.ttx_witness.specs.Certificates.{fields_of}
 use Rattle.ttx_witness.specs.Entries.{CertificateFields, certificate_at}
 use Rattle.ttx_certify.specs.CertifyingFiles.{most_bytes, IsServiceText, IsCertificateText, IsServiceFault, IsCertificateFault, Certifies}
 use Rattle.ttx_certify.specs.VerdictLines.{verdict_line}
 use Rattle.ttx_certify.specs.declared.faults.FilesFault.{FilesFault}
 use Rattle.ttx_certify.specs.declared.faults.FilesFault.TheVariants.{Cycle, Service, Certificate, Read, TooLong, Write, NoMemory}
 use Rattle.ttx_certify.specs.declared.faults.TextFile.TheVariants as text
-use Rattle.ttx_certify.specs.declared.files.Told.{Told}
 use Rattle.ttx_certify.specs.declared.verdict.Verdict.{Verdict}
 use Rattle.ttx_certify.specs.Feeding.{IsRefusedCycle, WalkedFiles}
-use Rattle.ttx_certify.specs.declared.passes.Texts.{Texts}
 
 -- why a service definition and a certificate are refused, in this order
 abbrev pub IsRefusedText : List ℕ → List ℕ → FilesFault → Type 0
@@ -34,17 +30,6 @@ IsRefusedText c d (TooLong text.Service) = most_bytes < length c
 IsRefusedText c d (TooLong text.Certificate) = (service : ServiceFields) × IsServiceText c service × (most_bytes < length d)
 IsRefusedText c d (Write written) = ⊥
 IsRefusedText c d NoMemory = ⊤
-
--- the two texts, once they are read
-abbrev pub ReadsTexts : List ℕ → List ℕ → Result Texts FilesFault → Type 0
-ReadsTexts c d (Ok texts) = IsServiceText c texts.service × IsCertificateText d (fields_of texts.certificate)
-ReadsTexts c d (Err fault) = IsRefusedText c d fault
-
-abbrev pub WalksFiles : List ℕ → List ℕ → ServiceFields → CertificateFields → Result Verdict FilesFault → Type 0
-WalksFiles a b service w (Ok verdict) = WalkedFiles a b (pages_of service) (certificate_at w) verdict
-WalksFiles a b service w (Err (Cycle fault)) = IsRefusedCycle a b fault
-WalksFiles a b service w (Err NoMemory) = ⊤
-WalksFiles a b service w (Err _) = ⊥
 
 -- the verdict on two packet files, the pages of the service and the certificate, and its line
 pub record CertifiesTwice (a b c d : List ℕ) (verdict : Verdict) (line : List ℕ) : Type 0 where
@@ -61,10 +46,6 @@ IsRefusedTwice a b c d (Cycle fault) = (service : ServiceFields) × (w : Certifi
     × IsRefusedCycle a b fault
 IsRefusedTwice a b c d fault = IsRefusedText c d fault
 
-abbrev pub JudgesPasses : List ℕ → List ℕ → List ℕ → List ℕ → Result Told FilesFault → Type 0
-JudgesPasses a b c d (Ok told) = CertifiesTwice a b c d told.verdict (string_bytes told.line)
-JudgesPasses a b c d (Err fault) = IsRefusedTwice a b c d fault
-
 -- Ok: the line of the verdict went out. A write fault: its first `written` bytes. Else nothing, and why the inputs are refused.
 abbrev pub CertifiesPasses : List ℕ → List ℕ → List ℕ → List ℕ → Option (List ℕ) → Option (List ℕ) → Result Verdict FilesFault → Type 0
 CertifiesPasses a b c d old new (Ok verdict) = (line : List ℕ) × CertifiesTwice a b c d verdict line × Appends old new line
@@ -72,22 +53,7 @@ CertifiesPasses a b c d old new (Err (Write written)) =
     (line : List ℕ) × (verdict : Verdict) × CertifiesTwice a b c d verdict line × (written < length line) × Appends old new (take written line)
 CertifiesPasses a b c d old new (Err fault) = IsRefusedTwice a b c d fault × Keeps old new
 
--- the faults counted by the readers of the service and the certificate
-abbrev pub CountsTexts : {T : Type 0} → Result T FilesFault → ℕ → ℕ → ℕ → ℕ → Type 0
-CountsTexts (Err (Read text.Service)) service_old service_new old new = HasRisen service_old service_new
-CountsTexts (Err (Read text.Certificate)) service_old service_new old new = HasRisen old new
-CountsTexts (Err (Cycle fault)) service_old service_new old new = ⊥
-CountsTexts (Err (Write written)) service_old service_new old new = ⊥
-CountsTexts result service_old service_new old new = ⊤
-
--- by those of the first and the second packet file
-abbrev pub CountsCycles : {T : Type 0} → Result T FilesFault → ℕ → ℕ → ℕ → ℕ → Type 0
-CountsCycles (Err (Cycle cycle.Read)) first_old first_new old new = HasRisen first_old first_new ⊎ HasRisen old new
-CountsCycles (Err (Read which)) first_old first_new old new = ⊥
-CountsCycles (Err (Write written)) first_old first_new old new = ⊥
-CountsCycles result first_old first_new old new = ⊤
-
--- and by all four
+-- the faults counted by all four readers
 abbrev pub CountsFour : {T : Type 0} → Result T FilesFault → ℕ → ℕ → ℕ → ℕ → ℕ → ℕ → ℕ → ℕ → Type 0
 CountsFour (Err (Cycle cycle.Read)) a_old a_new b_old b_new c_old c_new d_old d_new = HasRisen a_old a_new ⊎ HasRisen b_old b_new
 CountsFour (Err (Read text.Service)) a_old a_new b_old b_new c_old c_new d_old d_new = HasRisen c_old c_new

@@ -7,5 +7,6 @@ pub mod CertifyingFiles
 pub mod FileSteps
 pub mod Feeding
 pub mod CertifyingPasses
+pub mod PassSteps
 pub mod Laws
 pub mod VerdictLaws

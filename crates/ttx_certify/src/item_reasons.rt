@@ -15,7 +15,7 @@ pub struct JudgedPage<'a> {
 }
 
 impl<'a> JudgedPage<'a> {
-    ghost use Rattle.std.specs.Prelude.{◌≡◌, ◌<◌, ◌↔◌, IsTrue, true, ℕ, List, [], Some, length};
+    ghost use Rattle.std.specs.Prelude.{◌≡◌, ◌<◌, ◌↔◌, IsTrue, MatchOption, true, false, ℕ, List, [], Some, length};
     ghost use Rattle.ttx_page.specs.declared.class.Class.TheVariants.{Clearing};
     ghost use Rattle.ttx_page.specs.Pages as definitions;
     ghost use Rattle.ttx_witness.specs.passes.ItemProgress.{IsProgress};
@@ -88,15 +88,32 @@ impl<'a> JudgedPage<'a> {
         }
     }
 
-    /// The first reason that is true of the item; `progress` is how far the list confirms the starts that are named for it.
-    pub fn item_reason(&self, item: &Item, progress: Option<Progress>) -> Option<Reason>
+    /// The starts that are named for the item, and near which entry of the certificate those of the next item stand; `near` is the same
+    /// of this item, and says nothing of the starts. None where a viewer doesn't need the item.
+    pub fn starts(&self, item: &Item, near: usize) -> Option<(usize, &'a [u32])>
+        ensures { MatchOption result (definitions.needed (judged_page self.now) item.now ≡ false)
+            (λ found. (definitions.needed (judged_page self.now) item.now ≡ true)
+            × (found.1.now ≡ (judged_certificate self.now).starts (judged_page self.now).id item.now)) }
+    {
+        if needed(self.page, *item) {
+            Some(self.certificate.starts_near(self.page.id(), *item, near))
+        } else {
+            None
+        }
+    }
+
+    /// The first reason that is true of the item; `starts` are named for it, and `progress` is how far the list confirms them.
+    pub fn item_reason(
+        &self,
+        item: &Item,
+        starts: &[u32],
+        progress: Option<Progress>,
+    ) -> Option<Reason>
+        requires needed { definitions.needed (judged_page self.now) item.now ≡ true }
+        requires starts { starts.now ≡ (judged_certificate self.now).starts (judged_page self.now).id item.now }
         ensures { (y : List (List ℕ)) → IsReady self.now y → IsProgress y (judged_page self.now) (judged_certificate self.now) item.now progress →
             IsItemReason y (judged_page self.now) (judged_certificate self.now) item.now result }
     {
-        if !needed(self.page, *item) {
-            return None;
-        }
-        let starts = self.certificate.starts(self.page.id(), *item);
         if starts.is_empty() {
             return self.unnamed(item);
         }

@@ -62,16 +62,25 @@ fn late_header(ended: &EndedPass, index: usize) -> Option<u32>
     }
 }
 
-// The first reason that is true of the item of this number, of the page at the index.
-fn reason_at(ended: &EndedPass, index: usize, judged: &JudgedPage, number: u8) -> Option<Reason>
-    requires index { index < length ended.now.pages.now }
+// The first reason that is true of the item of this number, of the page at the index, and near which entry of the certificate the next
+// item's starts stand; `near` is the same of this item.
+fn reason_at(
+    ended: &EndedPass,
+    index: usize,
+    judged: &JudgedPage,
+    number: u8,
+    near: usize,
+) -> (usize, Option<Reason>)
     requires number { number < 26 }
     ensures { (y : List (List ℕ)) → IsReadyAt ended.now index judged.now y →
-        IsReasonAt y (judged_page judged.now) (judged_certificate judged.now) number result }
+        IsReasonAt y (judged_page judged.now) (judged_certificate judged.now) number result.1 }
 {
     let item = item_of(number);
-    let progress = ended.progress(index, number);
-    judged.item_reason(&item, progress)
+    let Some((next, starts)) = judged.starts(&item, near) else {
+        return (near, None);
+    };
+    let progress = ended.progress(index, number, starts);
+    (next, judged.item_reason(&item, starts, progress))
 }
 
 // The first reason that is true of the items of the page at the index.
@@ -81,8 +90,11 @@ fn first_reason(ended: &EndedPass, index: usize, judged: &JudgedPage) -> Option<
         IsReasonBelow y (judged_page judged.now) (judged_certificate judged.now) 26 result }
 {
     let mut first = None;
+    let mut near = 0;
     for number in 0..26u8 {
-        first = told_first(&first, &reason_at(ended, index, judged, number));
+        let (next, reason) = reason_at(ended, index, judged, number, near);
+        near = next;
+        first = told_first(&first, &reason);
     }
     first
 }

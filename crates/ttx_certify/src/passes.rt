@@ -3,8 +3,9 @@
 ghost use Rattle.std.specs.Prelude.{◌≡◌, IfSome};
 ghost use Rattle.ttx_cycle.specs.Counters.{inner_of, faults_of};
 ghost use Rattle.ttx_witness.specs.Certificates.{fields_of};
-ghost use Rattle.ttx_certify.specs.CertifyingPasses.{ReadsTexts, WalksFiles, JudgesPasses, CertifiesPasses, CountsTexts, CountsCycles, CountsFour};
-ghost use Rattle.ttx_certify.specs.CertifyingPasses.{CountsPasses};
+ghost use Rattle.ttx_certify.specs.CertifyingFiles.{IsUntouched, is_write};
+ghost use Rattle.ttx_certify.specs.CertifyingPasses.{CertifiesPasses, CountsFour, CountsPasses};
+ghost use Rattle.ttx_certify.specs.PassSteps.{ReadsTexts, WalksFiles, JudgesPasses, CountsTexts, CountsCycles};
 
 use crate::faults::FilesFault;
 use crate::feeding::walk_twice;
@@ -101,8 +102,8 @@ fn judge_passes<A: Read, B: Read, C: Read, D: Read>(
 /// pages of the service for the second reading and writes the line of the verdict. Where the verdict is Yes each page is seen in
 /// the second reading; where both are the same, the verdict is that of `certify_files`.
 ///
-/// Nothing is written before all is judged. At `Write` exactly the first `written` bytes of the line went out. The first packet
-/// file that isn't one is answered by `Cycle`.
+/// Nothing is written before all is judged. At `Write` exactly the first `written` bytes of the line went out; at each other fault the
+/// writer is as it was, whatever the readers tell. The first packet file that isn't one is answered by `Cycle`.
 pub fn certify_passes<A: Read, B: Read, C: Read, D: Read, W: Write>(
     alloc: Global,
     first: &mut Counted<A>,
@@ -119,6 +120,7 @@ pub fn certify_passes<A: Read, B: Read, C: Read, D: Read, W: Write>(
     ensures faults { CountsPasses result (faults_of first.old) (faults_of first.new) (faults_of second.old) (faults_of second.new)
         (faults_of service.old) (faults_of service.new) (faults_of certificate.old) (faults_of certificate.new) (faults_of writer.old)
         (faults_of writer.new) }
+    ensures untouched { IsUntouched is_write result writer.old writer.new }
 {
     let told = match judge_passes(alloc, first, second, service, certificate) {
         Ok(told) => told,

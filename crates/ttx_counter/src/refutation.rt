@@ -62,29 +62,23 @@ fn absent_counter(alloc: Global, page: &Page, index: u32, certificate: &Certific
 }
 
 // The slot from which on a receiver is starved of the item, where a viewer sees it and there is one.
-fn start_for(
-    alloc: Global,
-    claim: &Claim<'_>,
-    prepared: &Prepared<'_>,
-    index: u32,
-    item: &Item,
-) -> Result<Option<u32>, NoMemory>
+fn start_for(claim: &Claim<'_>, prepared: &Prepared<'_>, index: u32, item: &Item) -> Option<u32>
     requires index { index < length claim.now.pages.now }
     requires prepared { ArePrepared (slots_of claim.now.cycle.now) (map page_of claim.now.pages.now) (certificate_of claim.now.certificate.now)
         (certificate_of prepared.now.found.now) prepared.now.collected.now }
     requires item { IsItem item.now }
-    ensures { IfOk result (λ start. (p : definitions.Page) → slice_get (map page_of claim.now.pages.now) index ≡ Some p →
-        TellsNeeded (slots_of claim.now.cycle.now) p (certificate_of claim.now.certificate.now) item.now start) }
+    ensures { (p : definitions.Page) → slice_get (map page_of claim.now.pages.now) index ≡ Some p →
+        TellsNeeded (slots_of claim.now.cycle.now) p (certificate_of claim.now.certificate.now) item.now result }
 {
     ttx_witness::certificate_laws::certificates_keep_their_rules();
     let page = page_at(claim.pages, index);
     if !needed(page, *item) {
-        return Ok(None);
+        return None;
     }
     let starts = prepared.found.starts(page.id(), *item);
     let sent = prepared.collected.sent(index as usize, *item);
     let sent_item = SentItem { item, starts, sent };
-    starving_start(alloc, claim.cycle, page, claim.certificate, &sent_item)
+    starving_start(claim.cycle, page, claim.certificate, &sent_item)
 }
 
 // The counter-run of the page that is starved of the item from a slot on.
@@ -135,7 +129,7 @@ fn starve_page(
 {
     for number in 0..26u8 {
         let item = item_of(number);
-        let start = start_for(alloc, claim, prepared, index, &item)?;
+        let start = start_for(claim, prepared, index, &item);
         if let Some(start) = start {
             let counter = starved_counter(alloc, claim, index, &item, start)?;
             return Ok(Some(counter));

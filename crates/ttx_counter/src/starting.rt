@@ -1,6 +1,6 @@
 //! The slot from which on a receiver is starved of an item.
 
-ghost use Rattle.std.specs.Prelude.{◌≡◌, ◌≤◌, ◌<◌, ◌↔◌, ◌+ℤ◌, ◌≤ℤ◌, pos, ℕ, IfOk, MatchOption, length, Contains};
+ghost use Rattle.std.specs.Prelude.{◌≡◌, ◌≤◌, ◌<◌, ◌↔◌, ◌+ℤ◌, ◌≤ℤ◌, pos, ℕ, MatchOption, length, Contains};
 ghost use Rattle.std.specs.List.{AllByRecursion};
 ghost use Rattle.ttx_cycle.specs.Cycles.{slots_of};
 ghost use Rattle.ttx_page.specs.Streams.{turned};
@@ -14,10 +14,9 @@ ghost use Rattle.ttx_witness.specs.runs.Tracks.{IsWithin};
 ghost use Rattle.ttx_witness.specs.declared.runs.transmissions.Transmission as transmissions;
 ghost use Rattle.ttx_counter.specs.Refutations.{IsAfterOwner, TellsStart};
 
-use std::alloc::Global;
 use ttx_cycle::Cycle;
 use ttx_page::{Item, Page};
-use ttx_witness::{Certificate, NoMemory, Transmission, judge_item, late_at_end, run_length};
+use ttx_witness::{Certificate, Transmission, judge_item, late_at_end, run_length};
 
 /// The deadline in slots.
 pub fn limit(certificate: &Certificate) -> u32
@@ -84,12 +83,11 @@ pub struct SentItem<'a> {
 
 /// The slot of the period from which on no sure run of the item comes in time, where there is one.
 pub fn starving_start(
-    alloc: Global,
     cycle: &Cycle,
     page: &Page,
     certificate: &Certificate,
     sent_item: &SentItem<'_>,
-) -> Result<Option<u32>, NoMemory>
+) -> Option<u32>
     requires rising { Rising sent_item.now.starts.now }
     requires named { (start : ℕ) → Contains sent_item.now.starts.now start ↔
         IsSureStart (slots_of cycle.now) (page_of page.now).id (certificate_of certificate.now).lines (certificate_of certificate.now).repeat
@@ -97,7 +95,7 @@ pub fn starving_start(
     requires sent { sent_item.now.sent.now ≡ sent_in (slots_of cycle.now) (page_of page.now).id (certificate_of certificate.now).lines
         sent_item.now.item.now }
     requires within { AllByRecursion (IsWithin 65536) sent_item.now.sent.now }
-    ensures { IfOk result (TellsStart (slots_of cycle.now) (page_of page.now) (certificate_of certificate.now) sent_item.now.item.now) }
+    ensures { TellsStart (slots_of cycle.now) (page_of page.now) (certificate_of certificate.now) sent_item.now.item.now result }
 {
     crate::completeness::starts_are_judged();
     crate::completeness::fullest_names_all();
@@ -106,14 +104,14 @@ pub fn starving_start(
     ttx_witness::judging_laws::transmissions_are_listed();
     let (item, starts, sent) = (sent_item.item, sent_item.starts, sent_item.sent);
     if starts.is_empty() {
-        return Ok(Some(0));
+        return Some(0);
     }
     let period = cycle.slots().len() as u32;
     let limit = limit(certificate);
     let repeat = run_length(certificate.repeat(), item);
-    let progress = judge_item(alloc, sent, starts, repeat, limit, period)?;
+    let progress = judge_item(sent, starts, repeat, limit, period);
     match late_at_end(progress, period, starts, limit) {
-        Some(at) => Ok(Some(after_owner(sent, at, period))),
-        None => Ok(None),
+        Some(at) => Some(after_owner(sent, at, period)),
+        None => None,
     }
 }

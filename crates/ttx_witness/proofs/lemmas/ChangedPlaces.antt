@@ -1,8 +1,7 @@
 -- Lists of which one place is changed.
 use Rattle.std.proofs.Common.{◌≡◌, ℕ, zero, suc, ◌+◌, ◌<◌, true, ◌==◌, List, [], ◌∷◌, ◌++◌, length, set, get_or, get_or-set_same, get_or-set_other}
 use Rattle.std.proofs.Common.{slice_get, Some, refl, sym, ap, subst, inl, inr, arith, eqb-true, eq-eqb}
-use Rattle.std.proofs.lemmas.Bool.{cases_lt}
-use Rattle.ttx_witness.proofs.lemmas.Choices.{cases_bool}
+use Rattle.std.proofs.lemmas.Bool.{cases_lt, cases_Bool}
 
 pub set_here : {A : Type 0} (xs : List A) (at : ℕ) (v : A) → at < length xs → slice_get (set xs at v) at ≡ Some v
 set_here [] at v lt = absurd (omega arith)
@@ -18,7 +17,7 @@ set_other (x ∷ xs) (suc at) (suc n) v d = set_other xs at n v (λ e. d (ap suc
 
 -- a list whose first places are done
 pub set_below : {A : Type 0} (xs : List A) (n : ℕ) (v d : A) (Q : ℕ → A → Type 0) → n < length xs → ((m : ℕ) → m < n → Q m (get_or xs m d)) → Q n v → (m : ℕ) → m < n + 1 → Q m (get_or (set xs n v) m d)
-set_below xs n v d Q lt done here m below = elim (cases_bool (m == n)) as (λ _. Q m (get_or (set xs n v) m d)) [
+set_below xs n v d Q lt done here m below = elim (cases_Bool (m == n)) as (λ _. Q m (get_or (set xs n v) m d)) [
   | inl e ↦ let q : m ≡ n = eqb-true m n e in subst (λ k. Q k (get_or (set xs n v) k d)) (sym q) (subst (Q n) (sym (get_or-set_same xs n v d lt)) here)
   | inr e ↦
       let d' : (m ≡ n → ⊥) = λ q. let h : (m == n) ≡ true = eq-eqb m n q in cc in

@@ -43,10 +43,6 @@ not_false false h = refl
 pub no_both : (a : Bool) → a ≡ true → a ≡ false → ⊥
 no_both a h k = cc
 
-pub cases_bool : (b : Bool) → (b ≡ true) ⊎ (b ≡ false)
-cases_bool true = inl refl
-cases_bool false = inr refl
-
 pub cases_ltz : (a b : ℤ) → (a <ℤ b) ⊎ (b ≤ℤ a)
 cases_ltz a b = by_lt_z a b (λ h. inl h) (λ h. inr h)
 

@@ -4,3 +4,4 @@ pub mod OverOnePeriod
 pub mod FirstWrongSent
 pub mod PageSubcodes
 pub mod OtherSubpages
+pub mod SentBytes

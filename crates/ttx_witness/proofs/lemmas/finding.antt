@@ -1,4 +1,3 @@
-pub mod EntryOrder
 pub mod DueItems
 pub mod LeastDeadline
 pub mod HeaderLimits

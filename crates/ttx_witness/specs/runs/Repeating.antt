@@ -12,7 +12,7 @@
 --   Covers                  the named starts cover the item from every tuning slot
 --   IsBad, IsLate, IsFirst  a named start without a sure run; one that the next follows too late; the first such
 --   FollowInTime            each run ends within the limit after the owner of the one before it
-use Rattle.std.specs.Prelude.{◌≡◌, ◌↔◌, ℕ, ◌+◌, ◌<◌, ◌≤◌, ℤ, pos, ◌+ℤ◌, ◌-ℤ◌, ◌<ℤ◌, ◌≤ℤ◌, true, List, [], ◌∷◌, length}
+use Rattle.std.specs.Prelude.{◌≡◌, ◌↔◌, ℕ, ◌<◌, ◌≤◌, ℤ, pos, ◌+ℤ◌, ◌-ℤ◌, ◌<ℤ◌, ◌≤ℤ◌, true, List, [], ◌∷◌, length}
 use Rattle.std.specs.Prelude.{Contains, slice_index_or, Option, Some, None}
 use Rattle.std.specs.List.{AllByRecursion}
 pub use Rattle.ttx_page.specs.Streams.{turned}

@@ -10,7 +10,7 @@ ghost use Rattle.ttx_page.specs.Views.{page_of};
 ghost use Rattle.ttx_witness.specs.faults.Comparing.{compared_item, IsWrong};
 
 use crate::sent::packets::{header_in, links_in, row_in};
-use ttx_code::{is_word, odd};
+use ttx_code::is_word;
 use ttx_header::Control;
 use ttx_links::{Links, Target, read_links};
 use ttx_page::{Item, Page, RowNumber};
@@ -42,6 +42,17 @@ impl Check {
     }
 }
 
+// The byte that sends a character: bit 7 makes the parity odd.
+fn sent_as(character: u8) -> u8
+    requires { character < 128 }
+    ensures { result ≡ odd_byte character }
+{
+    let halves = character ^ (character >> 4);
+    let quarters = halves ^ (halves >> 2);
+    let eighths = quarters ^ (quarters >> 1);
+    character | ((!eighths & 1) << 7)
+}
+
 // Whether the bytes are those that send the characters.
 fn are_sent(bytes: &[u8], characters: &[u8]) -> bool
     requires { (c : ℕ) → slice_index characters.now c < 128 }
@@ -50,12 +61,11 @@ fn are_sent(bytes: &[u8], characters: &[u8]) -> bool
     if bytes.len() != characters.len() {
         return false;
     }
+    let mut union = 0;
     for i in 0..bytes.len() {
-        if bytes[i] != odd(characters[i]) {
-            return false;
-        }
+        union |= bytes[i] ^ sent_as(characters[i]);
     }
-    true
+    union == 0
 }
 
 // Whether the slot is a header with the erase bit.

@@ -1,6 +1,6 @@
 //! Finding certificates.
 
-ghost use Rattle.std.specs.Prelude.{◌≡◌, ◌≢◌, [], ◌≤◌, ◌<◌, ◌*◌, ◌↔◌, ℕ, IfOk, IsTrue, List, map, length, Some, true, false};
+ghost use Rattle.std.specs.Prelude.{◌≡◌, ◌≢◌, [], ◌≤◌, ◌<◌, ◌*◌, ◌↔◌, ℕ, IfOk, OnOk, IsTrue, List, map, length, Some, true, false};
 ghost use Rattle.std.specs.List.{AllPairs};
 ghost use Rattle.std.specs.List.Sorted.{IsPermutation};
 ghost use Rattle.ttx_page.specs.Pages as definitions;
@@ -85,12 +85,15 @@ fn name_pages(
 }
 
 // The entries in the order of certificates, which is strict where no two entries are of one item.
-fn sort_entries(entries: &mut Vec<Entry>)
+fn sort_entries(entries: &mut Vec<Entry>) -> Result<(), NoMemory>
     requires apart { AllPairs (λ a b. same_place a b ≡ false) entries.old.items }
     ensures same { IsPermutation entries.old.items entries.new.items }
-    ensures rising { rises (entry_places (entries_of entries.new.items)) ≡ true }
+    ensures rising { OnOk result (rises (entry_places (entries_of entries.new.items)) ≡ true) }
 {
-    entries.sort_unstable_by_key(|entry| entry.place());
+    match entries.sort_by_cached_key(|entry| entry.place()) {
+        Ok(()) => Ok(()),
+        Err(_) => Err(NoMemory),
+    }
 }
 
 // The deadline, where all is sent unchanged and there is a limit that is enough.
@@ -145,7 +148,7 @@ pub fn find_for(
     };
     let mut entries = Vec::new(alloc);
     let least = name_pages(alloc, &survey, &mut entries)?;
-    sort_entries(&mut entries);
+    sort_entries(&mut entries)?;
     let unchanged = is_sent_unchanged(&survey, &others);
     let deadline = deadline_of(unchanged, lines, least);
     let fields = deadline.unwrap_or(1_000_000);

@@ -1,6 +1,6 @@
 //! What the second pass tells of the pages, once it has ended.
 
-ghost use Rattle.std.specs.Prelude.{◌≡◌, [], Option, None, if◌then◌else◌, is_some, get_or, slice_get};
+ghost use Rattle.std.specs.Prelude.{◌≡◌, Option, None, is_some, get_or, slice_get};
 ghost use Rattle.ttx_certificate.specs.Certificates.{certificate_of};
 ghost use Rattle.ttx_page.specs.Pages as definitions;
 ghost use Rattle.ttx_page.specs.Views.{page_of};
@@ -18,7 +18,7 @@ use crate::runs::one_item::nothing_confirmed;
 use crate::sent::page_items::{item_of, run_length};
 use ttx_certificate::{Certificate, limit};
 use ttx_header::PageId;
-use ttx_page::{Item, Page, needed};
+use ttx_page::Page;
 
 /// What a cycle of `period` slots sends of the pages, with a certificate; `bad` is its first slot that isn't clean.
 #[derive(Drop)]
@@ -44,18 +44,6 @@ fn facts_at(all: &[Facts], index: usize) -> Option<Facts>
     ensures { result ≡ slice_get all.now index }
 {
     all.get(index).copied()
-}
-
-// The starts that are named for the item, where a viewer needs it, and else none.
-fn needed_starts<'a>(page: &Page, certificate: &'a Certificate, item: &Item) -> &'a [u32]
-    ensures { result.now ≡ (if definitions.needed (page_of page.now) item.now
-        then (certificate_of certificate.now).starts (page_of page.now).id item.now else []) }
-{
-    if needed(page, *item) {
-        certificate.starts(page.id(), *item)
-    } else {
-        &[]
-    }
 }
 
 // The first slots of the single reasons.
@@ -119,25 +107,24 @@ impl<'a> EndedPass<'a> {
         late_of(facts.heads, self.period, limit(self.certificate))
     }
 
-    /// How far the starts that are named for the item of this number of the page at the index are confirmed. None only where
-    /// none is named or a viewer doesn't need the item.
-    pub fn progress(&self, index: usize, number: u8) -> Option<Progress>
-        requires index { index < length self.now.pages.now }
+    /// How far these starts, which are named for the item of this number of the page at the index, are confirmed. None only where
+    /// none is named.
+    pub fn progress(&self, index: usize, number: u8, starts: &[u32]) -> Option<Progress>
         requires number { number < 26 }
         ensures { (y : List (List ℕ)) (p : definitions.Page) (item : Item) → IsEnded self.now y →
             slice_get (ended_pages self.now) index ≡ Some p → IsItem item → item_number item ≡ number →
+            starts.now ≡ (ended_certificate self.now).starts p.id item →
             IsProgress y p (ended_certificate self.now) item result }
     {
         ttx_certificate::certificate_laws::certificates_keep_their_rules();
         crate::laws::judging_laws::transmissions_are_listed();
+        if starts.is_empty() {
+            return None;
+        }
         if index >= self.sent.firsts.len() / 26 {
             return None;
         }
         let item = item_of(number);
-        let starts = needed_starts(&self.pages[index], self.certificate, &item);
-        if starts.is_empty() {
-            return None;
-        }
         let place = 26 * index + usize::from(number);
         let limit = limit(self.certificate);
         let mut track = nothing_confirmed(run_length(self.certificate.repeat(), &item));

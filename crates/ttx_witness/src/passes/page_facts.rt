@@ -89,7 +89,7 @@ fn is_row_wrong(page: &Page, number: u8, slot: &[u8; 42]) -> bool
     ensures { IsTrue result ↔ RowWrong (page_of page.now) (λ item. item_number item == number) slot.now }
 {
     match RowNumber::new(number) {
-        Some(row) => needed(page, Item::Row(row)) && is_wrong(page, &Check::Row(row), slot),
+        Some(row) => is_wrong(page, &Check::Row(row), slot) && needed(page, Item::Row(row)),
         None => false,
     }
 }

@@ -72,23 +72,22 @@ pub fn search_item(
 
 /// How far the named starts are confirmed by the transmissions of a period. No memory is taken.
 pub fn judge_item(
-    _alloc: Global,
     sent: &[Transmission],
     starts: &[u32],
     repeat: usize,
     limit: u32,
     period: u32,
-) -> Result<Progress, NoMemory>
+) -> Progress
     requires some { 1 ≤ repeat }
     requires few { repeat ≤ 8 }
     requires small { AllByRecursion (IsWithin 65536) sent.now }
     requires short { period ≤ 65536 }
-    ensures { IfOk result (λ p. p ≡ after_runs limit starts.now not_begun (runs period (repeat - 1) sent.now)) }
+    ensures { result ≡ after_runs limit starts.now not_begun (runs period (repeat - 1) sent.now) }
 {
     let mut track = nothing_confirmed(repeat);
     for i in 0..sent.len() {
         named_starts::note(&mut track, sent[i], starts, limit);
     }
     named_starts::finish(&mut track, period, starts, limit);
-    Ok(track.progress)
+    track.progress
 }

@@ -2,8 +2,7 @@ use Rattle.std.proofs.Common.{map, sym, ap, ◌∙◌}
 use Rattle.ttx_cycle.specs.Cycles.{slots_of}
 use Rattle.ttx_page.specs.Views.{page_of}
 use Rattle.ttx_witness.specs.Certificates.{certificate_of}
-use Rattle.ttx_counter.specs.Refutations.{TellsStart}
-use Rattle.ttx_counter.proofs.Answering.{ok_map, named_for, needed_told}
+use Rattle.ttx_counter.proofs.Answering.{named_for, needed_told}
 use Rattle.ttx_counter.proofs.refutation.start_for.Goals as goal
 
 pub starving_start-requires-clause-named : goal.starving_start-requires-clause-named
@@ -32,4 +31,4 @@ returns c =
     let w = certificate_of c.args.claim.now.certificate.now in
     let p = page_of c.page_at-page.result.now in
     let here = c.page_at-page.ensures in
-    ok_map (TellsStart cycle p w c.args.item.now) _ c.starving_start.result (λ o t. needed_told cycle pages w c.args.index p here c.args.item.now (sym c.needed.ensures ∙ c.if-not-needed.false) o t) c.starving_start.ensures
+    needed_told cycle pages w c.args.index p here c.args.item.now (sym c.needed.ensures ∙ c.if-not-needed.false) c.starving_start.result c.starving_start.ensures

@@ -19,8 +19,8 @@ late_at_end-requires c =
     (slots_of c.args.cycle.now) (slots_of-IsCycle c.args.cycle.now) (page_of c.args.page.now) (certificate_of c.args.certificate.now) (c.certificates_keep_their_rules.ensures c.args.certificate.now).1
     c.args.sent_item.now.item.now c.args.sent_item.now.starts.now c.requires.rising c.requires.named
     (some_of c.is_empty.result (length c.args.sent_item.now.starts.now) c.is_empty.ensures c.if-is_empty.false)
-    c.limit-limit.result (length c.slots.result.now) c.run_length-repeat.result c.args.sent_item.now.sent.now c.in_ok-progress.progress c.limit-limit.ensures.value (ap length c.slots.ensures.slots)
-    (c.run_length-repeat.ensures ∙ ap (λ x. run_length x c.args.sent_item.now.item.now) c.repeat.ensures) c.requires.sent c.in_ok-progress.ensures
+    c.limit-limit.result (length c.slots.result.now) c.run_length-repeat.result c.args.sent_item.now.sent.now c.judge_item-progress.result c.limit-limit.ensures.value (ap length c.slots.ensures.slots)
+    (c.run_length-repeat.ensures ∙ ap (λ x. run_length x c.args.sent_item.now.item.now) c.repeat.ensures) c.requires.sent c.judge_item-progress.ensures
 
 pub returns-in-Some : goal.returns-in-Some
 returns-in-Some c =
@@ -28,8 +28,8 @@ returns-in-Some c =
     (slots_of c.args.cycle.now) (slots_of-IsCycle c.args.cycle.now) (page_of c.args.page.now) (certificate_of c.args.certificate.now) (c.certificates_keep_their_rules.ensures c.args.certificate.now).1
     c.args.sent_item.now.item.now c.args.sent_item.now.starts.now c.requires.rising c.requires.named
     (some_of c.is_empty.result (length c.args.sent_item.now.starts.now) c.is_empty.ensures c.if-is_empty.false)
-    c.limit-limit.result (length c.slots.result.now) c.run_length-repeat.result c.args.sent_item.now.sent.now c.in_ok-progress.progress c.limit-limit.ensures.value (ap length c.slots.ensures.slots)
-    (c.run_length-repeat.ensures ∙ ap (λ x. run_length x c.args.sent_item.now.item.now) c.repeat.ensures) c.requires.sent c.in_ok-progress.ensures
+    c.limit-limit.result (length c.slots.result.now) c.run_length-repeat.result c.args.sent_item.now.sent.now c.judge_item-progress.result c.limit-limit.ensures.value (ap length c.slots.ensures.slots)
+    (c.run_length-repeat.ensures ∙ ap (λ x. run_length x c.args.sent_item.now.item.now) c.repeat.ensures) c.requires.sent c.judge_item-progress.ensures
     c.in-Some.at c.after_owner.result (sym c.late_at_end.ensures ∙ c.in-Some.is) c.after_owner.ensures
 
 pub returns-in-None : goal.returns-in-None
@@ -38,6 +38,6 @@ returns-in-None c =
     (slots_of c.args.cycle.now) (slots_of-IsCycle c.args.cycle.now) (page_of c.args.page.now) (certificate_of c.args.certificate.now) (c.certificates_keep_their_rules.ensures c.args.certificate.now).1
     c.args.sent_item.now.item.now c.args.sent_item.now.starts.now c.requires.rising c.requires.named
     (some_of c.is_empty.result (length c.args.sent_item.now.starts.now) c.is_empty.ensures c.if-is_empty.false)
-    c.limit-limit.result (length c.slots.result.now) c.run_length-repeat.result c.args.sent_item.now.sent.now c.in_ok-progress.progress c.limit-limit.ensures.value (ap length c.slots.ensures.slots)
-    (c.run_length-repeat.ensures ∙ ap (λ x. run_length x c.args.sent_item.now.item.now) c.repeat.ensures) c.requires.sent c.in_ok-progress.ensures
+    c.limit-limit.result (length c.slots.result.now) c.run_length-repeat.result c.args.sent_item.now.sent.now c.judge_item-progress.result c.limit-limit.ensures.value (ap length c.slots.ensures.slots)
+    (c.run_length-repeat.ensures ∙ ap (λ x. run_length x c.args.sent_item.now.item.now) c.repeat.ensures) c.requires.sent c.judge_item-progress.ensures
     (sym c.late_at_end.ensures ∙ c.in-None.is)

@@ -1,7 +1,7 @@
 -- Headers with another subcode than the one of their number are those of other subpages of pages that are alone.
 use Rattle.std.proofs.Common.{◌≡◌, ◌↔◌, ℕ, ◌+◌, ◌<◌, ◌≤◌, ℤ, pos, ◌+ℤ◌, ◌-ℤ◌, Bool, true, false, ◌&&◌, ◌==◌, List, length, get_or, slice_get}
 use Rattle.std.proofs.Common.{replicate, Option, Some, None, refl, sym, ap, ◌∙◌, subst, inl, inr, arith, eqb-true, eq-eqb}
-use Rattle.std.proofs.lemmas.Bool.{cases_lt}
+use Rattle.std.proofs.lemmas.Bool.{cases_lt, cases_Bool}
 use Rattle.std.proofs.lemmas.List.{get_or-replicate, get_or_past, length-replicate}
 use Rattle.std.proofs.lemmas.Option.{slice_get_within}
 use Rattle.ttx_header.specs.Ids.{Id, same_id}
@@ -14,17 +14,17 @@ use Rattle.ttx_witness.specs.faults.Faults.{TellsFirst}
 use Rattle.ttx_witness.specs.faults.OtherSubpages.{place, IsListed, AreSubcodes, is_other, heads_other, HeadsOtherAt, first_of, TellsBelow}
 use Rattle.ttx_witness.specs.declared.faults.subcodes.Subcodes.{Subcodes}
 use Rattle.ttx_witness.specs.declared.faults.subcodes.Subcodes.TheVariants.{Unlisted, One, Several}
-use Rattle.ttx_witness.proofs.lemmas.Choices.{if_ind, no_both, cases_bool, and_left, and_right, and_both, not_true, not_false}
+use Rattle.ttx_witness.proofs.lemmas.Choices.{if_ind, no_both, and_left, and_right, and_both, not_true, not_false}
 use Rattle.ttx_witness.proofs.lemmas.faults.OverOnePeriod.{nowhere, one_more}
 use Rattle.ttx_witness.proofs.lemmas.sent.CycleTransmissions.{period_of}
 use Rattle.std.proofs.lemmas.Int.{ints}
 
 -- a header whose subcode isn't the page's
 unlike : (p : Page) (id : Id) → (p.id.mag == id.mag) && (p.id.page == id.page) ≡ true → same_id p.id id ≡ false → (p.id.sub == id.sub) ≡ false
-unlike p id a b = elim (cases_bool (p.id.sub == id.sub)) as (λ _. (p.id.sub == id.sub) ≡ false) [ inl e ↦ absurd (no_both _ (and_both _ _ a e) b) | inr e ↦ e ]
+unlike p id a b = elim (cases_Bool (p.id.sub == id.sub)) as (λ _. (p.id.sub == id.sub) ≡ false) [ inl e ↦ absurd (no_both _ (and_both _ _ a e) b) | inr e ↦ e ]
 
 differs : (p : Page) (id : Id) → (p.id.sub == id.sub) ≡ false → same_id p.id id ≡ false
-differs p id a = elim (cases_bool (same_id p.id id)) as (λ _. same_id p.id id ≡ false) [ inl e ↦ absurd (no_both _ (and_right ((p.id.mag == id.mag) && (p.id.page == id.page)) _ e) a) | inr e ↦ e ]
+differs p id a = elim (cases_Bool (same_id p.id id)) as (λ _. same_id p.id id ≡ false) [ inl e ↦ absurd (no_both _ (and_right ((p.id.mag == id.mag) && (p.id.page == id.page)) _ e) a) | inr e ↦ e ]
 
 module _ (pages : List Page) (p : Page) (n : ℕ) (at : slice_get pages n ≡ Some p) (inside : n < length pages) where
   listed : IsListed pages (length pages) p.id.mag p.id.page p
@@ -41,7 +41,7 @@ module _ (pages : List Page) (p : Page) (n : ℕ) (at : slice_get pages n ≡ So
 
   -- pages of the number with one subcode
   alone_of : (sub : ℕ) → ((q : Page) → IsListed pages (length pages) p.id.mag p.id.page q → q.id.sub ≡ sub) → IsAlone pages p
-  alone_of sub all m q here = elim (cases_bool (is_other_subpage p q)) as (λ _. is_other_subpage p q ≡ false) [
+  alone_of sub all m q here = elim (cases_Bool (is_other_subpage p q)) as (λ _. is_other_subpage p q ≡ false) [
     | inl e ↦
         let a = and_left ((q.id.mag == p.id.mag) && (q.id.page == p.id.page)) _ e in
         let l : IsListed pages (length pages) p.id.mag p.id.page q = record {
@@ -57,7 +57,7 @@ module _ (pages : List Page) (p : Page) (n : ℕ) (at : slice_get pages n ≡ So
 
   -- which are alone have one subcode
   same_sub : IsAlone pages p → (q : Page) → IsListed pages (length pages) p.id.mag p.id.page q → q.id.sub ≡ p.id.sub
-  same_sub alone q l = elim (cases_bool (q.id.sub == p.id.sub)) as (λ _. q.id.sub ≡ p.id.sub) [
+  same_sub alone q l = elim (cases_Bool (q.id.sub == p.id.sub)) as (λ _. q.id.sub ≡ p.id.sub) [
     | inl e ↦ eqb-true _ _ e
     | inr e ↦ absurd (no_both _ (and_both _ _ (and_both _ _ (eq-eqb _ _ l.in_magazine) (eq-eqb _ _ l.numbered)) (not_false _ e)) (alone l.index q l.here))
   ]

@@ -6,7 +6,7 @@ use Rattle.std.proofs.lemmas.List.Elements.{Contains-append_left, Contains-appen
 use Rattle.std.proofs.lemmas.List.Quantifiers.{all_pairs_push}
 use Rattle.std.proofs.lemmas.Option.{slice_get_within, get_or_from_slice_get}
 use Rattle.ttx_header.specs.Ids.{same_id}
-use Rattle.std.proofs.lemmas.Bool.{cases_lt}
+use Rattle.std.proofs.lemmas.Bool.{cases_lt, cases_Bool}
 use Rattle.ttx_page.specs.declared.page.Page.{Page as PageValue}
 use Rattle.ttx_page.specs.Views.{page_of}
 use Rattle.ttx_page.specs.Pages.{Page, needed}
@@ -16,8 +16,8 @@ use Rattle.ttx_page.specs.declared.class.Class.{Class}
 use Rattle.ttx_witness.specs.sent.Collected.{IsItem, ids_of, item_number, place_of_item}
 use Rattle.ttx_witness.specs.finding.Finding.{starts_for, limit_for, IsEnough, wider, IsDone, NamesStarts, HasEntry, same_place, AreNamed, AddsEntry}
 use Rattle.ttx_certificate.specs.declared.entries.Entry.{Entry}
-use Rattle.ttx_witness.proofs.lemmas.Choices.{no_both, and_left, and_right, cases_bool}
-use Rattle.ttx_witness.proofs.lemmas.finding.EntryOrder.{same_entry}
+use Rattle.ttx_witness.proofs.lemmas.Choices.{no_both, and_left, and_right}
+use Rattle.ttx_certificate.proofs.EntryOrder.{same_entry}
 use Rattle.ttx_witness.proofs.lemmas.sent.PageIndexes.{same_one, id_of_page}
 use Rattle.ttx_witness.proofs.lemmas.sent.AllLists.{all_by_place, all_by_recursion}
 use Rattle.ttx_witness.proofs.lemmas.sent.ItemPlaces.{item_small}
@@ -97,7 +97,7 @@ module _ (pages : List Page) (class : Class) (m j : ℕ) (q : Page) (given : Ite
   module _ (cycle : List (List ℕ)) (lines repeat : ℕ) where
     -- no earlier entry stands in the place of one of this item
     new_place : AreApart pages → (e n : Entry) → NamesStarts cycle pages class lines repeat m e → n.page ≡ q.id → n.item ≡ given → same_place e n ≡ false
-    new_place apart e n t page item = elim (cases_bool (same_place e n)) as (λ _. same_place e n ≡ false) [
+    new_place apart e n t page item = elim (cases_Bool (same_place e n)) as (λ _. same_place e n ≡ false) [
       | inl same ↦
           let one = same_entry n.page n.item n.kept.id n.kept.item e (eqb-true _ _ same) in
           let id : t.p.id ≡ q.id = sym t.page ∙ same_one e.page n.page (and_left _ _ one) ∙ page in

@@ -5,7 +5,7 @@ use Rattle.std.proofs.Common.{arith, eqb-true, eq-eqb}
 use Rattle.std.specs.List.{All, AllByRecursion, AllPairs, Contains}
 use Rattle.std.proofs.lemmas.Option.{slice_get_within, slice_get_cases}
 use Rattle.std.proofs.lemmas.List.{length-map}
-use Rattle.std.proofs.lemmas.Bool.{cases_lt, leb-true}
+use Rattle.std.proofs.lemmas.Bool.{cases_lt, leb-true, cases_Bool}
 use Rattle.std.specs.Prelude.{nat_le, is_some, is_none, IsTrue, MatchOption}
 use Rattle.ttx_header.specs.Control.{c10}
 use Rattle.ttx_packet.specs.Slots.{is_clean}
@@ -36,7 +36,7 @@ use Rattle.ttx_witness.specs.laws.CycleLaws.{SureStartsAreFound, LeastLimitIsFou
 use Rattle.ttx_witness.specs.finding.Finding.{is_due, starts_of, spread_at, starts_for, limit_for, IsEnough, limit_of, least_limit, IsDone}
 use Rattle.ttx_witness.specs.finding.Finding.{NamesStarts, HasEntry, same_place, AreNamed, IsSentUnchanged, IsLeastField, IsDeadline, CanBeAccepted}
 use Rattle.ttx_witness.specs.finding.Finding.{IsLeastDeadline, IsFoundFor}
-use Rattle.ttx_witness.proofs.lemmas.Choices.{no_both, and_left, and_right, and_both, cases_bool, if_true, if_false}
+use Rattle.ttx_witness.proofs.lemmas.Choices.{no_both, and_left, and_right, and_both, if_true, if_false}
 use Rattle.ttx_witness.proofs.lemmas.sent.PageIndexes.{same_one, same_self}
 use Rattle.ttx_witness.proofs.lemmas.sent.AllLists.{all_by_recursion, place_below}
 use Rattle.ttx_witness.proofs.lemmas.finding.DueItems.{AreApart, item_one, all_more}
@@ -50,7 +50,7 @@ NamesFor id item x e = e.page ≡ id → item_number e.item ≡ item_number item
 starts_at : (id : Id) (item : Item) (x : List ℕ) (es : List Entry) → AllByRecursion (NamesFor id item x) es → (x ≡ []) ⊎ HasEntry es id item → starts_in (entries_of es) id item ≡ x
 starts_at id item x [] a (inl e) = sym e
 starts_at id item x [] a (inr h) = absurd (let lt = h.among.1 in omega arith)
-starts_at id item x (e ∷ es) a h = elim (cases_bool (same_id e.page id && same_item e.item item)) as (λ _. (if same_id e.page id && same_item e.item item then e.starts.items else starts_in (entries_of es) id item) ≡ x) [
+starts_at id item x (e ∷ es) a h = elim (cases_Bool (same_id e.page id && same_item e.item item)) as (λ _. (if same_id e.page id && same_item e.item item then e.starts.items else starts_in (entries_of es) id item) ≡ x) [
   | inl t ↦ if_true (same_id e.page id && same_item e.item item) _ _ t ∙ a.0 (same_one e.page id (and_left _ _ t)) (eqb-true _ _ (and_right (same_id e.page id) _ t))
   | inr f ↦ if_false (same_id e.page id && same_item e.item item) _ _ f ∙ starts_at id item x es a.1 (rest f h)
 ]
@@ -142,7 +142,7 @@ module _ (cycle : List (List ℕ)) (some : 1 ≤ length cycle) (pages : List Pag
   due_starts i p item at is due = seen_starts i p item at is (due_needed class p item due) ∙ if_true (is_due class p item) (starts_of cycle lines repeat p.id item) [] due
 
   pub other_starts : (i : ℕ) (p : Page) (item : Item) → slice_get pages i ≡ Some p → IsItem item → is_due class p item ≡ false → starts_in (entries_of es) p.id item ≡ []
-  other_starts i p item at is not_due = elim (cases_bool (needed p item)) as (λ _. starts_in (entries_of es) p.id item ≡ []) [
+  other_starts i p item at is not_due = elim (cases_Bool (needed p item)) as (λ _. starts_in (entries_of es) p.id item ≡ []) [
     | inl seen ↦ seen_starts i p item at is seen ∙ if_false (is_due class p item) (starts_of cycle lines repeat p.id item) [] not_due
     | inr unseen ↦ unseen_starts i p item at is unseen
   ]
@@ -162,7 +162,7 @@ module _ (cycle : List (List ℕ)) (some : 1 ≤ length cycle) (pages : List Pag
         law = found cycle some p.id lines repeat item (run_length repeat item - 1) (run_some repeat item repeats) start
 
         to : Contains (starts_in (entries_of es) p.id item) start → (is_due class p item ≡ true) × IsSureStart cycle p.id lines repeat item start
-        to h = elim (cases_bool (is_due class p item)) as (λ _. (is_due class p item ≡ true) × IsSureStart cycle p.id lines repeat item start) [
+        to h = elim (cases_Bool (is_due class p item)) as (λ _. (is_due class p item ≡ true) × IsSureStart cycle p.id lines repeat item start) [
           | inl due ↦ (due, law.0 (subst (λ x. Contains x start) (due_starts n p item at is due) h))
           | inr none ↦ absurd (let g = subst (λ x. Contains x start) (other_starts n p item at is none) h in let lt = g.1 in omega arith)
         ]
@@ -204,7 +204,7 @@ module _ (cycle : List (List ℕ)) (some : 1 ≤ length cycle) (pages : List Pag
     seen_fits n p at item is seen =
         let due_limit = least_limit cycle v.lines v.repeat p.id item in
         let left_limit = least_limit cycle v.lines 1 p.id TheHead in
-        elim (cases_bool (is_due class p item)) as (λ _. IsEnough (limit_for cycle class v.lines v.repeat p item) (limit v)) [
+        elim (cases_Bool (is_due class p item)) as (λ _. IsEnough (limit_for cycle class v.lines v.repeat p item) (limit v)) [
           | inl due ↦ subst (λ x. IsEnough x (limit v)) (sym (if_true (is_due class p item) due_limit left_limit due)) (due_fits n p at item is due (spread_at cycle v.lines v.repeat p.id item) refl)
           | inr not_due ↦ subst (λ x. IsEnough x (limit v)) (sym (if_false (is_due class p item) due_limit left_limit not_due))
               ((next_fits turn found law cycle some p v.lines v.deadline (spread_at cycle v.lines 1 p.id TheHead) refl).0 (left n p at item is seen not_due))
@@ -239,7 +239,7 @@ module _ (cycle : List (List ℕ)) (some : 1 ≤ length cycle) (pages : List Pag
     accepts_found d u fits = record {
       clean = u.clean;
       steady = u.steady;
-      covered = λ n p at item seen. elim (cases_bool (is_due class p item)) as (λ _. IsCovered cycle p (w d) item ⊎ IsLeftOut cycle p (w d) item) [
+      covered = λ n p at item seen. elim (cases_Bool (is_due class p item)) as (λ _. IsCovered cycle p (w d) item ⊎ IsLeftOut cycle p (w d) item) [
         | inl due ↦ inl (due_covered d law fits n p at item (item_needed p item seen) due)
         | inr not_due ↦
             let left = not_due_is class p item seen not_due in
@@ -353,7 +353,7 @@ steady_more cycle pages index b tells e before n p lt at = elim (cases_lt n inde
 ]
 
 pub clean_all : (cycle : List (List ℕ)) (P : ℕ → Type 0) (o : Option ℕ) → MatchOption o ((j : ℕ) → BadSlotAt cycle j → ⊥) P → is_some o ≡ false → (n : ℕ) → n < length cycle → is_clean (slice_index_or cycle n []) ≡ true
-clean_all cycle P None m e n lt = elim (cases_bool (is_clean (slice_index_or cycle n []))) as (λ _. is_clean (slice_index_or cycle n []) ≡ true)
+clean_all cycle P None m e n lt = elim (cases_Bool (is_clean (slice_index_or cycle n []))) as (λ _. is_clean (slice_index_or cycle n []) ≡ true)
     [ inl c ↦ c | inr f ↦ absurd (m n (record { within = lt; bad = f })) ]
 clean_all cycle P (Some j) m e n lt = cc
 

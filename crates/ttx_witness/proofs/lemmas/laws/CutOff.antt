@@ -1,6 +1,7 @@
 -- Why the transmissions of an item aren't sure.
 use Rattle.std.proofs.Common.{◌≡◌, ◌⊎◌, ℕ, zero, suc, ℤ, pos, ◌+ℤ◌, ◌-ℤ◌, ◌<ℤ◌, ◌≤ℤ◌, unsigned_abs, int_lt, Bool, true, false, not, List, [], ◌∷◌}
 use Rattle.std.proofs.Common.{length, refl, subst, inl, inr, arith}
+use Rattle.std.proofs.lemmas.Bool.{cases_Bool}
 use Rattle.std.proofs.lemmas.Int.{ints}
 use Rattle.std.specs.List.{AllByRecursion}
 use Rattle.ttx_header.specs.Ids.{Id}
@@ -13,7 +14,7 @@ use Rattle.ttx_witness.specs.runs.Repeating.{AreSent, Tells}
 use Rattle.ttx_witness.specs.sent.ItemTransmissions.{sent_in}
 use Rattle.ttx_witness.specs.waiting.PageWaits.{is_near, is_cut}
 use Rattle.ttx_witness.specs.laws.WaitLaws.{IsNear, IsCut, IsLossTold, LossesAreTold}
-use Rattle.ttx_witness.proofs.lemmas.Choices.{and_left, and_right, and_both, no_both, not_true, not_false, cases_bool, cases_ltz, is_lt, abs_is}
+use Rattle.ttx_witness.proofs.lemmas.Choices.{and_left, and_right, and_both, no_both, not_true, not_false, cases_ltz, is_lt, abs_is}
 use Rattle.ttx_witness.proofs.lemmas.sent.CycleTransmissions.{sent_told}
 
 -- one of the k numbers from low on passes, or none does
@@ -27,7 +28,7 @@ look : (P : ℤ → Bool) (low : ℤ) (k : ℕ) → Passes P low (low +ℤ pos k
 look P low zero = inr (λ i a b. absurd (omega (arith, ints)))
 look P low (suc k) = elim (look P low k) as (λ _. Passes P low (low +ℤ pos (suc k)) ⊎ ((i : ℤ) → low ≤ℤ i → i <ℤ (low +ℤ pos (suc k)) → P i ≡ false)) [
   | inl p ↦ inl (record { at = p.at; from = p.from; to = let t = p.to in omega (arith, ints); is = p.is })
-  | inr none ↦ elim (cases_bool (P (low +ℤ pos k))) as (λ _. Passes P low (low +ℤ pos (suc k)) ⊎ ((i : ℤ) → low ≤ℤ i → i <ℤ (low +ℤ pos (suc k)) → P i ≡ false)) [
+  | inr none ↦ elim (cases_Bool (P (low +ℤ pos k))) as (λ _. Passes P low (low +ℤ pos (suc k)) ⊎ ((i : ℤ) → low ≤ℤ i → i <ℤ (low +ℤ pos (suc k)) → P i ≡ false)) [
     | inl yes_ ↦ inl (record { at = low +ℤ pos k; from = omega (arith, ints); to = omega (arith, ints); is = yes_ })
     | inr no_ ↦ inr (λ i a b. elim (cases_ltz i (low +ℤ pos k)) as (λ _. P i ≡ false) [
       | inl lt ↦ none i a lt
@@ -37,7 +38,7 @@ look P low (suc k) = elim (look P low k) as (λ _. Passes P low (low +ℤ pos (s
 ]
 
 lt_is : (a b : ℤ) → a <ℤ b → int_lt a b ≡ true
-lt_is a b lt = elim (cases_bool (int_lt a b)) as (λ _. int_lt a b ≡ true) [
+lt_is a b lt = elim (cases_Bool (int_lt a b)) as (λ _. int_lt a b ≡ true) [
   | inl e ↦ e
   | inr f ↦ absurd (omega (arith, ints))
 ]
@@ -67,7 +68,7 @@ module _ (s : Stream) (page : Id) (lines : ℕ) (item : Item) (not_head : item �
         ]
 
     cut_from : IsCut s page.mag lines t → is_cut lines t ≡ true
-    cut_from c = and_both _ _ (lt_is (t.owner +ℤ pos lines) t.slot c.far) (not_false t.sure (elim (cases_bool t.sure) as (λ _. t.sure ≡ false) [
+    cut_from c = and_both _ _ (lt_is (t.owner +ℤ pos lines) t.slot c.far) (not_false t.sure (elim (cases_Bool t.sure) as (λ _. t.sure ≡ false) [
       | inl sure ↦ absurd (no_both (ends_serial page.mag (packet_of (s c.header))) c.ends ((sure_to t.owner t.slot item not_head (tells.sure.0 sure)).1 c.header c.after c.before))
       | inr unsure ↦ unsure
     ]))
@@ -79,7 +80,7 @@ module _ (s : Stream) (page : Id) (lines : ℕ) (item : Item) (not_head : item �
     ]
 
     near_from : IsNear lines t → is_near lines t ≡ true
-    near_from le = not_false (int_lt (t.owner +ℤ pos lines) t.slot) (elim (cases_bool (int_lt (t.owner +ℤ pos lines) t.slot)) as (λ _. int_lt (t.owner +ℤ pos lines) t.slot ≡ false) [
+    near_from le = not_false (int_lt (t.owner +ℤ pos lines) t.slot) (elim (cases_Bool (int_lt (t.owner +ℤ pos lines) t.slot)) as (λ _. int_lt (t.owner +ℤ pos lines) t.slot ≡ false) [
       | inl e ↦ absurd (let lt = is_lt (t.owner +ℤ pos lines) t.slot e in omega (arith, ints))
       | inr f ↦ f
     ])

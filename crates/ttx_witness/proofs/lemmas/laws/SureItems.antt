@@ -24,7 +24,7 @@ use Rattle.ttx_witness.specs.sent.ItemTransmissions.{sent_in}
 use Rattle.ttx_witness.specs.laws.SureItems.{HasSureStart, AllSureHaveStarts, IsLongEnough, SureItemsAreAccepted}
 use Rattle.ttx_witness.proofs.lemmas.Choices.{and_left, and_right, and_both, if_ind, cases_ltz, no_both}
 use Rattle.ttx_witness.proofs.lemmas.laws.CycleLaws.{sure_starts_are_found, further_starts_cover}
-use Rattle.ttx_witness.proofs.lemmas.finding.EntryOrder.{rising_pairs}
+use Rattle.ttx_certificate.proofs.EntryOrder.{rising_pairs}
 use Rattle.ttx_witness.proofs.lemmas.runs.FoundStarts.{starts_rise}
 use Rattle.ttx_witness.proofs.lemmas.runs.Rounds.{length_further}
 use Rattle.ttx_witness.proofs.lemmas.sent.CycleTransmissions.{period_of, sent_told, told_in_order}

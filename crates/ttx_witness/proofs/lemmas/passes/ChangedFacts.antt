@@ -1,6 +1,7 @@
 -- Facts of pages, of which at most one changes.
 use Rattle.std.proofs.Common.{◌≡◌, ◌⊎◌, ℕ, ◌<◌, ◌≤◌, pos, Bool, true, false, ◌&&◌, ◌==◌, List, length, map, set, slice_get, Option, Some, None, refl}
 use Rattle.std.proofs.Common.{sym, ap, ◌∙◌, subst, inl, inr, arith, eqb-true, eq-eqb}
+use Rattle.std.proofs.lemmas.Bool.{cases_Bool}
 use Rattle.std.proofs.lemmas.List.{length-map}
 use Rattle.std.proofs.lemmas.Option.{slice_get_within}
 use Rattle.ttx_page.specs.Pages.{Page}
@@ -10,7 +11,7 @@ use Rattle.ttx_page.specs.declared.item.Item.{Item}
 use Rattle.ttx_page.specs.declared.item.Item.TheVariants.{Head as TheHead, Links as TheLinks}
 use Rattle.ttx_witness.specs.sent.Collected.{item_number}
 use Rattle.ttx_witness.specs.faults.OtherSubpages.{first_of}
-use Rattle.ttx_witness.proofs.lemmas.Choices.{cases_bool, no_both}
+use Rattle.ttx_witness.proofs.lemmas.Choices.{no_both}
 use Rattle.ttx_witness.proofs.lemmas.faults.FirstSlots.{placed}
 use Rattle.ttx_witness.specs.declared.passes.page_facts.Facts.{Facts}
 use Rattle.ttx_witness.specs.declared.sent.one_slot.Sent.{Sent}
@@ -47,12 +48,12 @@ and_false false b e = refl
 module _ (limit : ℕ) (pages : List PageValue) (s : Sent) (slot : List ℕ) (j : ℕ) (all : List Facts) where
   -- another page
   pub noted_other : (i : ℕ) (p : Page) (x : Facts) → (s.page ≡ i → ⊥) → Noted limit p (λ item. is_sent i item (Some s)) slot j x x
-  noted_other i p x d = noted_none limit p (λ item. is_sent i item (Some s)) slot j x (λ item. and_false (item_number item == s.number) (s.page == i) (elim (cases_bool (s.page == i)) as (λ _. (s.page == i) ≡ false) [ inl e ↦ absurd (d (eqb-true _ _ e)) | inr e ↦ e ]))
+  noted_other i p x d = noted_none limit p (λ item. is_sent i item (Some s)) slot j x (λ item. and_false (item_number item == s.number) (s.page == i) (elim (cases_Bool (s.page == i)) as (λ _. (s.page == i) ≡ false) [ inl e ↦ absurd (d (eqb-true _ _ e)) | inr e ↦ e ]))
 
   -- the page itself
   pub noted_here : (q : Page) (old new : Facts) → slice_get (map page_of pages) s.page ≡ Some q → slice_get all s.page ≡ Some old → s.page < length all → Noted limit q (λ item. item_number item == s.number) slot j old new →
       (i : ℕ) (p : Page) (x : Facts) → slice_get (map page_of pages) i ≡ Some p → slice_get all i ≡ Some x → HoldsAt Facts (set all s.page new) i (Noted limit p (λ item. is_sent i item (Some s)) slot j x)
-  noted_here q old new at_q at_old lt n i p x at here = elim (cases_bool (s.page == i)) as (λ _. HoldsAt Facts (set all s.page new) i (Noted limit p (λ item. is_sent i item (Some s)) slot j x)) [
+  noted_here q old new at_q at_old lt n i p x at here = elim (cases_Bool (s.page == i)) as (λ _. HoldsAt Facts (set all s.page new) i (Noted limit p (λ item. is_sent i item (Some s)) slot j x)) [
     | inl e ↦
         let same : s.page ≡ i = eqb-true _ _ e in
         let page : q ≡ p = placed _ q p at_q (ap (slice_get (map page_of pages)) same ∙ at) in

@@ -12,6 +12,7 @@ use Rattle.ttx_witness.specs.declared.faults.comparing.Check.{Check}
 use Rattle.ttx_witness.specs.faults.Faults.{TellsFirst}
 use Rattle.ttx_witness.proofs.lemmas.faults.OverOnePeriod.{slot_is, wrong_is, never_wrong, nowhere, sent_down, sent_up}
 use Rattle.ttx_witness.proofs.lemmas.sent.CycleTransmissions.{period_of}
+use Rattle.ttx_witness.proofs.lemmas.sent.StreamOwners.{SameSlot, same_refl, same_tainted}
 use Rattle.ttx_witness.specs.declared.faults.comparing.Check.TheVariants.{Row as CheckRow}
 use Rattle.ttx_page.specs.declared.item.Item.TheVariants.{Row as TheRow}
 use Rattle.ttx_page.specs.Steady.{RowDiffersAt, RowIsRight}
@@ -20,22 +21,6 @@ use Rattle.ttx_witness.specs.passes.ItemProgress.{HoldsAt}
 use Rattle.ttx_witness.specs.passes.PageFacts.{FirstBelow, SendsWrong, SendsWrongRow, AreFacts}
 use Rattle.ttx_witness.specs.passes.Passing.{AreKept, pages_of, certificate}
 use Rattle.ttx_witness.specs.declared.passes.passing.Pass.{Pass}
-
-abbrev SameSlot : Option PageOwner → Option PageOwner → Type 0
-SameSlot None None = Unit {0}
-SameSlot (Some o) (Some p) = o.slot ≡ p.slot
-SameSlot None (Some p) = ⊥
-SameSlot (Some o) None = ⊥
-
-same_refl : (o : Option PageOwner) → SameSlot o o
-same_refl None = tt
-same_refl (Some o) = refl
-
-same_tainted : (b : Bool) (entry o : Option PageOwner) → SameSlot entry o → SameSlot entry (tainted_by b o)
-same_tainted b None None h = h
-same_tainted b (Some o) (Some p) h = h
-same_tainted b None (Some p) h = absurd h
-same_tainted b (Some o) None h = absurd h
 
 -- a scan has met a header and forgotten its entry, or met none
 abbrev Forgets : Option PageOwner → Option PageOwner → Option PageOwner → Type 0

@@ -1,7 +1,7 @@
 -- What the slots of a period send, by the places of the items of pages.
 use Rattle.std.proofs.Common.{◌≡◌, ℕ, zero, suc, ◌++◌, take, get_or, Option, None, ap, append_assoc, ◌+◌, ◌<◌, ◌≤◌, true, if◌then◌else◌, List, []}
 use Rattle.std.proofs.Common.{◌∷◌, length, Some, refl, sym, ◌∙◌, inl, inr, arith}
-use Rattle.ttx_witness.proofs.lemmas.Choices.{cases_bool}
+use Rattle.std.proofs.lemmas.Bool.{cases_Bool}
 use Rattle.ttx_witness.proofs.lemmas.runs.OneByOne.{take_more}
 use Rattle.ttx_witness.proofs.lemmas.runs.OneMore.{take_whole}
 use Rattle.ttx_witness.specs.passes.SentSlots.{placed, SendsAt, IsNext}
@@ -25,7 +25,7 @@ nothing_placed n [] = refl
 nothing_placed n (s ∷ slots) = refl
 
 not_here : (n : ℕ) (sent : Option Sent) → (sends_place n sent ≡ true → ⊥) → placed_at n sent ≡ []
-not_here n sent never = elim (cases_bool (sends_place n sent)) as (λ _. placed_at n sent ≡ []) [ inl e ↦ absurd (never e) | inr e ↦ ap (λ b. if b then told sent else []) e ]
+not_here n sent never = elim (cases_Bool (sends_place n sent)) as (λ _. placed_at n sent ≡ []) [ inl e ↦ absurd (never e) | inr e ↦ ap (λ b. if b then told sent else []) e ]
 
 -- slots that don't send the item
 placed_skip : (n : ℕ) (slots : List (Option Sent)) (from to : ℕ) → from ≤ to → ((j : ℕ) → from ≤ j → j < to → SendsAt slots n j → ⊥) → placed n (take to slots) ≡ placed n (take from slots)

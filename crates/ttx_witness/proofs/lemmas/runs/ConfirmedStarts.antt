@@ -5,9 +5,9 @@ use Rattle.std.proofs.Common.{eqb-true}
 use Rattle.std.specs.Prelude.{int_le}
 use Rattle.std.specs.List.{AllByRecursion}
 use Rattle.std.proofs.lemmas.Int.{ints}
-use Rattle.std.proofs.lemmas.Bool.{cases_lt}
+use Rattle.std.proofs.lemmas.Bool.{cases_lt, cases_Bool}
 use Rattle.std.proofs.lemmas.Bool.Decides.{nat_tests}
-use Rattle.ttx_witness.proofs.lemmas.Choices.{no_both, cases_bool, if_ind, and_left, and_right, and_both}
+use Rattle.ttx_witness.proofs.lemmas.Choices.{no_both, if_ind, and_left, and_right, and_both}
 use Rattle.ttx_witness.proofs.lemmas.Choices.{cases_ltz}
 use Rattle.ttx_witness.specs.runs.Transmissions.{Run, moved_run}
 use Rattle.ttx_witness.specs.runs.Confirming.{Progress, Rising, confirmed, is_next, late_after, confirmed_runs, same_slot, after_runs, not_begun}
@@ -36,7 +36,7 @@ chosen_no starts next r rs e = if_ind (λ x. x ≡ confirmed_runs starts next rs
 pub marked_chosen : (limit : ℕ) (starts : List ℕ) (m : Progress) (rs : List Run) → after_runs limit starts m rs ≡ after_runs limit starts m (confirmed_runs starts m.next rs)
 unfolding after_runs confirmed_runs
 marked_chosen limit starts m [] = refl
-marked_chosen limit starts m (r ∷ rs) = elim (cases_bool (is_next starts m.next r)) as (λ _. after_runs limit starts m (r ∷ rs) ≡ after_runs limit starts m (confirmed_runs starts m.next (r ∷ rs))) [
+marked_chosen limit starts m (r ∷ rs) = elim (cases_Bool (is_next starts m.next r)) as (λ _. after_runs limit starts m (r ∷ rs) ≡ after_runs limit starts m (confirmed_runs starts m.next (r ∷ rs))) [
   | inl e ↦
       let c = confirmed_yes limit starts m r e in
       ap (λ x. after_runs limit starts x rs) c ∙ marked_chosen limit starts (taken limit starts m r) rs
@@ -60,7 +60,7 @@ chosen_match starts next (r ∷ rs) = if_ind (Matches starts next) (is_next star
 pub marked_next : (limit : ℕ) (starts : List ℕ) (m : Progress) (rs : List Run) → (after_runs limit starts m rs).next ≡ m.next + length (confirmed_runs starts m.next rs)
 unfolding after_runs confirmed_runs
 marked_next limit starts m [] = omega arith
-marked_next limit starts m (r ∷ rs) = elim (cases_bool (is_next starts m.next r)) as (λ _. (after_runs limit starts m (r ∷ rs)).next ≡ m.next + length (confirmed_runs starts m.next (r ∷ rs))) [
+marked_next limit starts m (r ∷ rs) = elim (cases_Bool (is_next starts m.next r)) as (λ _. (after_runs limit starts m (r ∷ rs)).next ≡ m.next + length (confirmed_runs starts m.next (r ∷ rs))) [
   | inl e ↦
       let c = confirmed_yes limit starts m r e in
       let i = marked_next limit starts (taken limit starts m r) rs in
@@ -90,7 +90,7 @@ late_one limit starts m end some = if_ind (λ x. (x ≡ None) ↔ ((m.late ≡ N
     (λ e. ((λ s. (s, late_no s e)), (λ b. b.0))))
   where
     late_no : m.late ≡ None → (is_none m.late && int_lt (m.previous +ℤ pos limit) end) ≡ false → end ≤ℤ (m.previous +ℤ pos limit)
-    late_no s e = elim (cases_bool (int_lt (m.previous +ℤ pos limit) end)) as (λ _. end ≤ℤ (m.previous +ℤ pos limit)) [
+    late_no s e = elim (cases_Bool (int_lt (m.previous +ℤ pos limit) end)) as (λ _. end ≤ℤ (m.previous +ℤ pos limit)) [
       | inl t ↦ absurd (no_both _ (and_both _ _ (is_none_of _ s) t) e)
       | inr f ↦ omega (arith, ints)
     ]
@@ -153,7 +153,7 @@ pub is_same_slot : (a b : ℤ) → a ≡ b → same_slot a b ≡ true
 is_same_slot a b e = and_both _ _ (le_true a b (omega (arith, ints))) (le_true b a (omega (arith, ints)))
   where
     le_true : (a b : ℤ) → a ≤ℤ b → int_le a b ≡ true
-    le_true a b h = elim (cases_bool (int_le a b)) as (λ _. int_le a b ≡ true) [ inl t ↦ t | inr f ↦ absurd (omega (arith, ints)) ]
+    le_true a b h = elim (cases_Bool (int_le a b)) as (λ _. int_le a b ≡ true) [ inl t ↦ t | inr f ↦ absurd (omega (arith, ints)) ]
 
 pub next_is : (starts : List ℕ) (next : ℕ) (r : Run) → is_next starts next r ≡ true → IsNextRun starts next r
 next_is starts next r e = record {
@@ -183,7 +183,7 @@ none_past x low (r ∷ rs) lt a = ((λ e g. let k = a.0 in absurd (omega (arith,
 chosen_past : (starts : List ℕ) (next : ℕ) (low : ℤ) (rs : List Run) → named_at starts next <ℤ low → RisesFrom low rs → confirmed_runs starts next rs ≡ []
 unfolding confirmed_runs
 chosen_past starts next low [] lt a = refl
-chosen_past starts next low (r ∷ rs) lt a = elim (cases_bool (is_next starts next r)) as (λ _. confirmed_runs starts next (r ∷ rs) ≡ []) [
+chosen_past starts next low (r ∷ rs) lt a = elim (cases_Bool (is_next starts next r)) as (λ _. confirmed_runs starts next (r ∷ rs) ≡ []) [
   | inl e ↦ let k = (next_is starts next r e).start in let b = a.0 in absurd (omega (arith, ints))
   | inr e ↦ chosen_no starts next r rs e ∙ chosen_past starts next (r.start +ℤ pos 1) rs (let b = a.0 in omega (arith, ints)) a.1
 ]
@@ -193,7 +193,7 @@ pub stuck : (starts : List ℕ) → Rising starts → (next : ℕ) (low : ℤ) (
     (at : ℕ) → at ≡ next + length (confirmed_runs starts next rs) → at < length starts → NoneFor (named_at starts at) rs
 unfolding confirmed_runs
 stuck starts up next low [] a b at is lt = tt
-stuck starts up next low (r ∷ rs) a b at is lt = elim (cases_bool (is_next starts next r)) as (λ _. NoneFor (named_at starts at) (r ∷ rs)) [
+stuck starts up next low (r ∷ rs) a b at is lt = elim (cases_Bool (is_next starts next r)) as (λ _. NoneFor (named_at starts at) (r ∷ rs)) [
   | inl e ↦
       let m = next_is starts next r e in
       let c = chosen_yes starts next r rs e in

@@ -5,13 +5,13 @@ use Rattle.std.specs.List.{Contains, AllByRecursion}
 use Rattle.std.proofs.lemmas.List.{length-map}
 use Rattle.std.proofs.lemmas.List.Elements.{Contains-get_or, at_from_Contains}
 use Rattle.std.proofs.lemmas.Int.{ints}
-use Rattle.std.proofs.lemmas.Bool.{cases_lt}
+use Rattle.std.proofs.lemmas.Bool.{cases_lt, cases_Bool}
 use Rattle.ttx_witness.specs.runs.Transmissions.{Transmission, Run, runs, moved_run}
 use Rattle.ttx_witness.specs.runs.Confirming.{Rising}
 use Rattle.ttx_witness.specs.runs.Repeating.{Repeats, AreSent, BeginsSureRun, IsRunOf, IsNamed, Covers}
 use Rattle.ttx_witness.specs.runs.SureStarts.{Spread, sure_runs, sure_starts, spread_after, spread_of, above_zero, width}
 use Rattle.ttx_witness.specs.laws.RunLaws.{IsLeastLimit}
-use Rattle.ttx_witness.proofs.lemmas.Choices.{if_ind, no_both, cases_bool, abs_is}
+use Rattle.ttx_witness.proofs.lemmas.Choices.{if_ind, no_both, abs_is}
 use Rattle.ttx_witness.proofs.lemmas.runs.ConfirmedStarts.{named_at, Matches, is_next_of, RisesFrom, NoneFor}
 use Rattle.ttx_witness.proofs.lemmas.runs.Coverage.{named_up, named_down, named_is, named_in, more_cover}
 use Rattle.ttx_witness.proofs.lemmas.runs.LeastLimits.{widest, in_step_widest}
@@ -102,7 +102,7 @@ found_or x low (r ∷ rs) z u =
 spread_sure : (s : Option Spread) (rs : List Run) → spread_of s rs ≡ spread_of s (sure_runs rs)
 unfolding spread_of sure_runs
 spread_sure s [] = refl
-spread_sure s (r ∷ rs) = elim (cases_bool r.sure) as (λ _. spread_of s (r ∷ rs) ≡ spread_of s (sure_runs (r ∷ rs))) [
+spread_sure s (r ∷ rs) = elim (cases_Bool r.sure) as (λ _. spread_of s (r ∷ rs) ≡ spread_of s (sure_runs (r ∷ rs))) [
   | inl e ↦ spread_sure (spread_after s r) rs ∙ if_ind (λ qs. spread_of (spread_after s r) (sure_runs rs) ≡ spread_of s qs) r.sure (r ∷ sure_runs rs) (sure_runs rs) (λ _. refl) (λ f. absurd (no_both _ e f))
   | inr e ↦ ap (λ x. spread_of x rs) (if_ind (λ x. x ≡ s) r.sure _ s (λ f. absurd (no_both _ f e)) (λ _. refl)) ∙ spread_sure s rs
       ∙ if_ind (λ qs. spread_of s (sure_runs rs) ≡ spread_of s qs) r.sure (r ∷ sure_runs rs) (sure_runs rs) (λ f. absurd (no_both _ f e)) (λ _. refl)

@@ -1,7 +1,7 @@
 -- What a slot sends, by the places of the items of pages.
 use Rattle.std.proofs.Common.{◌≡◌, ℕ, nat_lt, Option, None, ap, ◌+◌, ◌*◌, ◌<◌, Bool, true, false, ◌&&◌, ◌==◌, if◌then◌else◌, List, [], ◌∷◌, ◌++◌}
 use Rattle.std.proofs.Common.{Some, refl, sym, ◌∙◌, inl, inr, arith, eqb-true, eq-eqb}
-use Rattle.std.proofs.lemmas.Bool.{cases_lt}
+use Rattle.std.proofs.lemmas.Bool.{cases_lt, cases_Bool}
 use Rattle.std.proofs.lemmas.Bool.Decides.{nat_tests}
 use Rattle.std.proofs.lemmas.List.{append-nil}
 use Rattle.ttx_page.specs.declared.item.Item.{Item}
@@ -10,7 +10,7 @@ use Rattle.ttx_witness.specs.sent.Collected.{IsItem, item_number, place_of_item}
 use Rattle.ttx_witness.specs.sent.OneSlot.{sent_of, sends_place, placed_at}
 use Rattle.ttx_witness.specs.declared.runs.transmissions.Transmission.{Transmission}
 use Rattle.ttx_witness.specs.declared.sent.one_slot.Sent.{Sent}
-use Rattle.ttx_witness.proofs.lemmas.Choices.{and_right, cases_bool, no_both, and_left}
+use Rattle.ttx_witness.proofs.lemmas.Choices.{and_right, no_both, and_left}
 
 pub item_small : (item : Item) → IsItem item → item_number item < 26
 item_small TheHead is = omega arith
@@ -31,7 +31,7 @@ same_place i page number item is lt = bool_same _ _
     let a : item_number item ≡ number = omega arith in
     let b : page ≡ i = omega arith in
     rw (eq-eqb _ _ a) (eq-eqb _ _ b))
-    (λ e. elim (cases_bool (item_number item == number)) as (λ _. (place_of_item i item == 26 * page + number) ≡ true) [
+    (λ e. elim (cases_Bool (item_number item == number)) as (λ _. (place_of_item i item == 26 * page + number) ≡ true) [
       | inl p ↦
           let a : item_number item ≡ number = eqb-true _ _ p in
           let b : page ≡ i = eqb-true _ _ (and_right (item_number item == number) (page == i) e) in
@@ -57,7 +57,7 @@ placed_item i item is (Some s) = elim (cases_lt s.number 26) as (λ _. placed_at
 ]
   where
     differ : (m n : ℕ) → m < n → (m == n) ≡ false
-    differ m n lt = elim (cases_bool (m == n)) as (λ _. (m == n) ≡ false) [ inl e ↦ (let q : m ≡ n = eqb-true m n e in absurd (omega arith)) | inr e ↦ e ]
+    differ m n lt = elim (cases_Bool (m == n)) as (λ _. (m == n) ≡ false) [ inl e ↦ (let q : m ≡ n = eqb-true m n e in absurd (omega arith)) | inr e ↦ e ]
 
 -- two places of one slot
 pub one_place : (m n : ℕ) (sent : Option Sent) → sends_place m sent ≡ true → sends_place n sent ≡ true → m ≡ n
@@ -66,7 +66,7 @@ one_place m n (Some s) e f = eqb-true _ _ (and_right (nat_lt s.number 26) _ e) �
 
 -- a list that grows by what is sent, where this is the item of its place
 pub placed_added : (place n : ℕ) (s : Sent) (ts : List Transmission) → sends_place place (Some s) ≡ true → (if n == place then ts ++ s.transmission ∷ [] else ts) ≡ ts ++ placed_at n (Some s)
-placed_added place n s ts here = elim (cases_bool (n == place)) as (λ _. (if n == place then ts ++ s.transmission ∷ [] else ts) ≡ ts ++ placed_at n (Some s)) [
+placed_added place n s ts here = elim (cases_Bool (n == place)) as (λ _. (if n == place then ts ++ s.transmission ∷ [] else ts) ≡ ts ++ placed_at n (Some s)) [
   | inl e ↦
       let sends : sends_place n (Some s) ≡ true = ap (λ m. sends_place m (Some s)) (eqb-true n place e) ∙ here in
       rw e (ap (λ b. ts ++ (if b then s.transmission ∷ [] else [])) (sym sends))
@@ -76,4 +76,4 @@ placed_added place n s ts here = elim (cases_bool (n == place)) as (λ _. (if n 
 ]
   where
     never : (n : ℕ) → (sends_place n (Some s) ≡ true → ⊥) → sends_place n (Some s) ≡ false
-    never n f = elim (cases_bool (sends_place n (Some s))) as (λ _. sends_place n (Some s) ≡ false) [ inl e ↦ absurd (f e) | inr e ↦ e ]
+    never n f = elim (cases_Bool (sends_place n (Some s))) as (λ _. sends_place n (Some s) ≡ false) [ inl e ↦ absurd (f e) | inr e ↦ e ]

@@ -1,6 +1,7 @@
 -- What one slot sends of the items of pages.
 use Rattle.std.proofs.Common.{◌≡◌, ℕ, ◌-◌, ◌≤◌, ℤ, Bool, true, false, ◌&&◌, ◌==◌, if◌then◌else◌, Bor, List, [], ◌∷◌, ◌++◌, get_or, slice_get, Option}
 use Rattle.std.proofs.Common.{Some, None, refl, sym, ap, ◌∙◌, subst, inl, inr, arith, eqb-true, eq-eqb}
+use Rattle.std.proofs.lemmas.Bool.{cases_Bool}
 use Rattle.std.proofs.lemmas.List.{append-nil}
 use Rattle.ttx_packet.specs.Slots.{Kind, IsEmpty, IsUnreadable, IsHeader, IsRow, IsLinks, IsInfo, IsOther, kind_of}
 use Rattle.ttx_packet.specs.Lent.{ShowsAs}
@@ -18,11 +19,11 @@ use Rattle.ttx_witness.specs.runs.Transmissions.{Transmission}
 use Rattle.ttx_witness.specs.sent.ItemTransmissions.{PageOwner, sent_under, sent_at}
 use Rattle.ttx_witness.specs.sent.Collected.{is_page, seen_by, Finds, owner_for, IsForeign, AreApart, IsItem, item_number}
 use Rattle.ttx_witness.specs.declared.sent.owners.Owner.{Owner}
-use Rattle.ttx_witness.proofs.lemmas.Choices.{if_ind, no_both, cases_bool, if_true, if_false}
+use Rattle.ttx_witness.proofs.lemmas.Choices.{if_ind, no_both, if_true, if_false}
 use Rattle.ttx_witness.proofs.lemmas.sent.OwnersAfterSlot.{packet_is}
 
 not_equal : (a b : ℕ) → (a ≡ b → ⊥) → (a == b) ≡ false
-not_equal a b d = elim (cases_bool (a == b)) as (λ _. (a == b) ≡ false) [ inl e ↦ absurd (d (eqb-true a b e)) | inr e ↦ e ]
+not_equal a b d = elim (cases_Bool (a == b)) as (λ _. (a == b) ≡ false) [ inl e ↦ absurd (d (eqb-true a b e)) | inr e ↦ e ]
 
 foreign : (lines i : ℕ) (j : ℤ) (o : Option Owner) → IsForeign i o → sent_under lines j (seen_by i o) ≡ []
 foreign lines i j None f = refl
@@ -39,7 +40,7 @@ module _ (ids : List Id) (lines : ℕ) (j : ℤ) (owners : List (Option Owner)) 
       (if item_number item == number then sent_under lines j (seen_by i (get_or owners (mag - 1) None)) else []) ≡ sent_at id lines item j (Row mag number text) (owner_for owners i id)
   row_sent number text low high TheHead is = if_false (0 == number) _ _ (not_equal 0 number (λ e. omega arith))
   row_sent number text low high TheLinks is = if_false (25 == number) _ _ (not_equal 25 number (λ e. omega arith))
-  row_sent number text low high (TheRow r) is = elim (cases_bool (r == number)) as (λ _. (if r == number then sent_under lines j (seen_by i (get_or owners (mag - 1) None)) else []) ≡ sent_at id lines (TheRow r) j (Row mag number text) (owner_for owners i id)) [
+  row_sent number text low high (TheRow r) is = elim (cases_Bool (r == number)) as (λ _. (if r == number then sent_under lines j (seen_by i (get_or owners (mag - 1) None)) else []) ≡ sent_at id lines (TheRow r) j (Row mag number text) (owner_for owners i id)) [
     | inl e ↦ if_true (r == number) _ _ e ∙ under ∙ both (mag == id.mag) (number == r) (sent_under lines j (owner_for owners i id)) (eq-eqb number r (sym (eqb-true r number e)))
     | inr e ↦ if_false (r == number) _ _ e ∙ sym (none (mag == id.mag) (number == r) (sent_under lines j (owner_for owners i id)) (not_equal number r (λ q. no_both _ (eq-eqb r number (sym q)) e)))
   ]

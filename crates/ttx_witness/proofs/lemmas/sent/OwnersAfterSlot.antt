@@ -1,6 +1,7 @@
 -- What one slot makes of the owners of the magazines, and of the lists of transmissions.
 use Rattle.std.proofs.Common.{◌≡◌, ℕ, ◌-◌, ◌<◌, ◌≤◌, ℤ, Bool, true, false, not, ◌&&◌, ◌||◌, ◌==◌, if◌then◌else◌, List, get_or, slice_get, Option}
 use Rattle.std.proofs.Common.{Some, None, refl, sym, ap, ◌∙◌, subst, inl, inr, arith, eqb-true, eq-eqb}
+use Rattle.std.proofs.lemmas.Bool.{cases_Bool}
 use Rattle.ttx_packet.specs.Slots.{Kind, IsEmpty, IsUnreadable, IsHeader, IsRow, IsLinks, IsInfo, IsOther, kind_of}
 use Rattle.ttx_header.specs.Control.{c11}
 use Rattle.ttx_header.specs.Headers.{id_of, control_of}
@@ -9,7 +10,7 @@ use Rattle.ttx_page.specs.Packets.{packet_of, packet_of_kind}
 use Rattle.ttx_witness.specs.sent.ItemTransmissions.{PageOwner, tainted_by, owner_after}
 use Rattle.ttx_witness.specs.sent.Collected.{taint, seen_by, Finds, owner_for, IsForeign, AreApart}
 use Rattle.ttx_witness.specs.declared.sent.owners.Owner.{Owner}
-use Rattle.ttx_witness.proofs.lemmas.Choices.{if_ind, no_both, and_left, cases_bool}
+use Rattle.ttx_witness.proofs.lemmas.Choices.{if_ind, no_both, and_left}
 
 pub packet_is : (slot : List ℕ) (k : Kind) → kind_of slot ≡ k → packet_of slot ≡ packet_of_kind slot k
 unfolding packet_of
@@ -69,7 +70,7 @@ module _ (slot : List ℕ) (mag : ℕ) (kind : kind_of slot ≡ IsHeader mag) (s
   new_other m lt d = noted m lt ∙ if_ind (λ x. x ≡ taint (c11 (control_of slot)) (get_or old m None)) (m == mag - 1) _ _ (λ e. absurd (d (eqb-true m (mag - 1) e))) (λ _. refl)
 
   pub owner_comes : (i : ℕ) (id : Id) → slice_get ids i ≡ Some id → IsId id → owner_for new i id ≡ owner_after id j (packet_of slot) (owner_for old i id)
-  owner_comes i id at is = rw (packet_is slot (IsHeader mag) kind) (elim (cases_bool ((id_of slot).mag == id.mag)) as (λ _. owner_for new i id ≡ owner_after id j (packet_of_kind slot (IsHeader mag)) (owner_for old i id)) [
+  owner_comes i id at is = rw (packet_is slot (IsHeader mag) kind) (elim (cases_Bool ((id_of slot).mag == id.mag)) as (λ _. owner_for new i id ≡ owner_after id j (packet_of_kind slot (IsHeader mag)) (owner_for old i id)) [
     | inl e ↦
         let q : (id_of slot).mag ≡ id.mag = eqb-true (id_of slot).mag id.mag e in
         let h = is.mag_from in let g = is.mag_to in
@@ -88,10 +89,10 @@ module _ (slot : List ℕ) (mag : ℕ) (kind : kind_of slot ≡ IsHeader mag) (s
   foreign_taint i b (Some o) f = f
 
   other_mag : (a b : Id) → (a.mag ≡ b.mag → ⊥) → same_id a b ≡ false
-  other_mag a b d = elim (cases_bool (same_id a b)) as (λ _. same_id a b ≡ false) [ inl e ↦ absurd (d (eqb-true a.mag b.mag (and_left _ _ (and_left _ _ e)))) | inr e ↦ e ]
+  other_mag a b d = elim (cases_Bool (same_id a b)) as (λ _. same_id a b ≡ false) [ inl e ↦ absurd (d (eqb-true a.mag b.mag (and_left _ _ (and_left _ _ e)))) | inr e ↦ e ]
 
   pub apart_comes : AreApart ids old → AreApart ids new
-  apart_comes a m i id lt at d = elim (cases_bool (m == mag - 1)) as (λ _. IsForeign i (get_or new m None)) [
+  apart_comes a m i id lt at d = elim (cases_Bool (m == mag - 1)) as (λ _. IsForeign i (get_or new m None)) [
     | inl e ↦ let q : m ≡ mag - 1 = eqb-true m (mag - 1) e in
         subst (IsForeign i) (sym (new_here m lt q)) (finds i id at ∙ other_mag id (id_of slot) (λ p. d (omega arith)))
     | inr e ↦ subst (IsForeign i) (sym (new_other m lt (λ q. no_both _ (eq-eqb m (mag - 1) q) e))) (foreign_taint i (c11 (control_of slot)) (get_or old m None) (a m i id lt at d))

@@ -9,13 +9,13 @@ use Rattle.std.proofs.lemmas.Map.Made.{IsDistinct-from_AllPairs}
 use Rattle.std.proofs.lemmas.Map.Steps.{length-le_from_distinct_below}
 use Rattle.std.proofs.lemmas.Bool.Decides.{Decides-eqb}
 use Rattle.std.proofs.Math.Dec.{eqb}
-use Rattle.std.proofs.lemmas.Bool.{cases_lt}
+use Rattle.std.proofs.lemmas.Bool.{cases_lt, cases_Bool}
 use Rattle.ttx_header.specs.Ids.{Id, IsId, same_id}
 use Rattle.ttx_page.specs.declared.page.Page.{Page as PageValue}
 use Rattle.ttx_page.specs.Pages.{Page, IsPage}
 use Rattle.ttx_page.specs.Views.{page_of}
 use Rattle.ttx_witness.specs.sent.Collected.{ids_of, is_page, Finds, key_of}
-use Rattle.ttx_witness.proofs.lemmas.Choices.{if_ind, no_both, and_left, and_right, and_both, cases_bool}
+use Rattle.ttx_witness.proofs.lemmas.Choices.{if_ind, no_both, and_left, and_right, and_both}
 
 id_same : (a b : Id) → a.mag ≡ b.mag → a.page ≡ b.page → a.sub ≡ b.sub → a ≡ b
 id_same a b m p s = λ i. record { mag = m i; page = p i; sub = s i }
@@ -38,7 +38,7 @@ key_below id is = let m = is.mag_to in let p = is.page in let s = is.sub.top in 
 
 keys_below : (ids : List Id) → ((i : ℕ) (id : Id) → slice_get ids i ≡ Some id → IsId id) → (q : ℕ) → list_any (eqb q) (map key_of ids) ≡ true → q < 37748736
 keys_below [] are q e = absurd (let h : false ≡ true = e in cc)
-keys_below (id ∷ ids) are q e = elim (cases_bool (eqb q (key_of id))) as (λ _. q < 37748736) [
+keys_below (id ∷ ids) are q e = elim (cases_Bool (eqb q (key_of id))) as (λ _. q < 37748736) [
   | inl h ↦ subst (λ x. x < 37748736) (sym (eqb-true q (key_of id) h)) (key_below id (are zero id refl))
   | inr h ↦ keys_below ids (λ i. are (suc i)) q (or_right (eqb q (key_of id)) _ h e)
 ]
@@ -93,7 +93,7 @@ module _ (ids : List Id) (are : (i : ℕ) (id : Id) → slice_get ids i ≡ Some
           put (key_of other) ∙ if_ind (λ x. x ≡ Some i) (key_of own == key_of other) _ _
           (λ _. ap Some (sym q)) (λ f. absurd (no_both _ (eq-eqb (key_of own) (key_of other) (ap key_of (sym s))) f))
     ];
-    sound = λ key i other e f. elim (cases_bool (key_of own == key)) as (λ _. key_of other ≡ key) [
+    sound = λ key i other e f. elim (cases_Bool (key_of own == key)) as (λ _. key_of other ≡ key) [
       | inl q ↦
           let h : new key ≡ Some n = put key ∙ if_ind (λ x. x ≡ Some n) (key_of own == key) _ _ (λ _. refl) (λ g. absurd (no_both _ q g)) in
           let k : i ≡ n = cc in
@@ -106,7 +106,7 @@ module _ (ids : List Id) (are : (i : ℕ) (id : Id) → slice_get ids i ≡ Some
   }
 
   pub all_indexed : (at : ℕ → Option ℕ) → IsIndexed ids (length ids) at → (id : Id) → IsId id → Finds ids id (at (key_of id))
-  all_indexed at a id is i own e = elim (cases_bool (same_id own id)) as (λ _. is_page i (at (key_of id)) ≡ same_id own id) [
+  all_indexed at a id is i own e = elim (cases_Bool (same_id own id)) as (λ _. is_page i (at (key_of id)) ≡ same_id own id) [
     | inl s ↦
         let k = a.known i own (slice_get_within ids i own e) e in
         let q : at (key_of id) ≡ Some i = ap (λ x. at (key_of x)) (sym (same_one own id s)) ∙ k in
@@ -116,7 +116,7 @@ module _ (ids : List Id) (are : (i : ℕ) (id : Id) → slice_get ids i ≡ Some
     where
       other : same_id own id ≡ false → (x : Option ℕ) → at (key_of id) ≡ x → is_page i x ≡ false
       other s None q = refl
-      other s (Some j) q = elim (cases_bool (j == i)) as (λ _. (j == i) ≡ false) [
+      other s (Some j) q = elim (cases_Bool (j == i)) as (λ _. (j == i) ≡ false) [
         | inl f ↦
             let k : at (key_of id) ≡ Some i = q ∙ ap Some (eqb-true j i f) in
             let same : own ≡ id = key_one own id (are i own e) is (a.sound (key_of id) i own k e) in

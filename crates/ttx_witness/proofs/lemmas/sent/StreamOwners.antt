@@ -1,6 +1,7 @@
 -- Owners that are kept while slots pass are the stream's.
 use Rattle.std.proofs.Common.{◌≡◌, ◌⊎◌, ◌↔◌, ℕ, zero, suc, ◌≤◌, ℤ, pos, ◌+ℤ◌, ◌-ℤ◌, ◌<ℤ◌, ◌≤ℤ◌, Bool, true, false, not, ◌&&◌, ◌||◌, int_lt, List, []}
 use Rattle.std.proofs.Common.{◌∷◌, ◌++◌, Option, Some, None, refl, sym, ap, ◌∙◌, subst, inl, inr, arith}
+use Rattle.std.proofs.lemmas.Bool.{cases_Bool}
 use Rattle.std.proofs.lemmas.Int.{ints}
 use Rattle.std.proofs.lemmas.List.{append-nil}
 use Rattle.ttx_header.specs.Ids.{Id}
@@ -8,7 +9,7 @@ use Rattle.ttx_page.specs.Packets.{packet_of}
 use Rattle.ttx_page.specs.declared.item.Item.{Item}
 use Rattle.ttx_page.specs.declared.item.Item.TheVariants.{Head as TheHead, Row as TheRow, Links as TheLinks}
 use Rattle.ttx_page.specs.Streams.{Stream, heads, heads_page, ends_serial, carries, IsLatestHeader, IsOwned, IsSure}
-use Rattle.ttx_witness.proofs.lemmas.Choices.{no_both, cases_bool, if_ind, or_false, and_left, and_right, and_both, not_true, not_false, cases_ltz}
+use Rattle.ttx_witness.proofs.lemmas.Choices.{no_both, if_ind, or_false, and_left, and_right, and_both, not_true, not_false, cases_ltz}
 use Rattle.ttx_witness.specs.runs.Transmissions.{Transmission, slot_of}
 use Rattle.ttx_witness.specs.sent.ItemTransmissions.{PageOwner, tainted_by, owner_after, owner_scan, owner_moved, sent_under, sent_at, sent_scan}
 use Rattle.ttx_witness.specs.runs.Repeating.{AreSent, Tells, IsSentAt}
@@ -18,7 +19,24 @@ use Rattle.ttx_witness.proofs.lemmas.sent.Periods.{latest_same, latest_moved}
 use Rattle.ttx_witness.proofs.lemmas.runs.EveryPeriod.{everywhere}
 
 int_lt_is : (a b : ℤ) → (int_lt a b ≡ true) ↔ (a <ℤ b)
-int_lt_is a b = ((λ e. omega (arith, ints)), (λ lt. elim (cases_bool (int_lt a b)) as (λ _. int_lt a b ≡ true) [ inl e ↦ e | inr e ↦ absurd (omega (arith, ints)) ]))
+int_lt_is a b = ((λ e. omega (arith, ints)), (λ lt. elim (cases_Bool (int_lt a b)) as (λ _. int_lt a b ≡ true) [ inl e ↦ e | inr e ↦ absurd (omega (arith, ints)) ]))
+
+-- two owners have the same slot
+abbrev pub SameSlot : Option PageOwner → Option PageOwner → Type 0
+SameSlot None None = Unit {0}
+SameSlot (Some o) (Some p) = o.slot ≡ p.slot
+SameSlot None (Some p) = ⊥
+SameSlot (Some o) None = ⊥
+
+pub same_refl : (o : Option PageOwner) → SameSlot o o
+same_refl None = tt
+same_refl (Some o) = refl
+
+pub same_tainted : (b : Bool) (entry o : Option PageOwner) → SameSlot entry o → SameSlot entry (tainted_by b o)
+same_tainted b None None h = h
+same_tainted b (Some o) (Some p) h = h
+same_tainted b None (Some p) h = h
+same_tainted b (Some o) None h = h
 
 module _ (page : Id) (s : Stream) where
   -- nothing ends the page between two slots
@@ -76,12 +94,6 @@ module _ (page : Id) (s : Stream) where
   owner_step o j a = if_ind (λ x. IsOwnerAt x (j +ℤ pos 1)) (heads page.mag (packet_of (s j))) _ _ (λ e. owner_new j e) (λ e. owner_other o j e a)
 
   -- what is known of a scan from any entry: a header has come and the owner is right, or none has and the slot is the entry's
-  abbrev pub SameSlot : Option PageOwner → Option PageOwner → Type 0
-  SameSlot None None = Unit {0}
-  SameSlot (Some o) (Some p) = o.slot ≡ p.slot
-  SameSlot None (Some p) = ⊥
-  SameSlot (Some o) None = ⊥
-
   pub record IsNone (entry o : Option PageOwner) (j : ℕ) : Type 0 where
     pub none : (i : ℤ) → pos 0 ≤ℤ i → i <ℤ pos j → heads page.mag (packet_of (s i)) ≡ false
     pub same : SameSlot entry o
@@ -90,16 +102,6 @@ module _ (page : Id) (s : Stream) where
     pub owner : PageOwner
     pub is : o ≡ Some owner
     pub right : IsOwner owner (pos j)
-
-  same_refl : (o : Option PageOwner) → SameSlot o o
-  same_refl None = tt
-  same_refl (Some o) = refl
-
-  same_tainted : (b : Bool) (entry o : Option PageOwner) → SameSlot entry o → SameSlot entry (tainted_by b o)
-  same_tainted b None None h = h
-  same_tainted b (Some o) (Some p) h = h
-  same_tainted b None (Some p) h = h
-  same_tainted b (Some o) None h = h
 
   pub scanned : (entry : Option PageOwner) (j : ℕ) → IsNone entry (owner_scan page s entry j) j ⊎ IsSome (owner_scan page s entry j) j
   unfolding owner_scan

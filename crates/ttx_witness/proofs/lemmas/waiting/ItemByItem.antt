@@ -1,7 +1,7 @@
 -- What is told of the items of a page, one by one.
 use Rattle.std.proofs.Common.{◌≡◌, ℕ, zero, suc, ◌+◌, false, ◌==◌, if◌then◌else◌, List, [], ◌∷◌, ◌++◌, length, take, slice_get, Some, None, refl, sym}
 use Rattle.std.proofs.Common.{ap, ◌∙◌, subst, inl, inr, arith, eqb-true, length-append}
-use Rattle.std.proofs.lemmas.Bool.{cases_lt}
+use Rattle.std.proofs.lemmas.Bool.{cases_lt, cases_Bool}
 use Rattle.std.proofs.lemmas.List.{append-nil, map-append}
 use Rattle.std.proofs.lemmas.Option.{slice_get_within}
 use Rattle.ttx_page.specs.Pages.{Page, needed}
@@ -13,14 +13,13 @@ use Rattle.ttx_witness.specs.passes.ItemProgress.{HoldsAt}
 use Rattle.ttx_witness.specs.waiting.ItemWaits.{item_at, seen_below, IsItemWait, AreItemsTold, AreItemWaits}
 use Rattle.ttx_witness.specs.declared.waiting.wait.ItemWait.{ItemWait}
 use Rattle.ttx_witness.specs.declared.waiting.wait.OwnWait.{OwnWait}
-use Rattle.ttx_witness.proofs.lemmas.Choices.{cases_bool}
 use Rattle.ttx_witness.proofs.lemmas.ChangedPlaces.{before_here, last_here}
 use Rattle.ttx_witness.proofs.lemmas.finding.DueItems.{all_append}
 
 pub item_is : (item : Item) → IsItem item → item_at (item_number item) ≡ item
 item_is TheHead is = refl
 item_is (TheRow zero) is = absurd (let l = is.0 in omega arith)
-item_is (TheRow (suc r)) is = elim (cases_bool (r == 24)) as (λ _. (if r == 24 then TheLinks else TheRow (suc r)) ≡ TheRow (suc r)) [
+item_is (TheRow (suc r)) is = elim (cases_Bool (r == 24)) as (λ _. (if r == 24 then TheLinks else TheRow (suc r)) ≡ TheRow (suc r)) [
   | inl e ↦ absurd (let q : r ≡ 24 = eqb-true r 24 e in let h = is.1 in omega arith)
   | inr e ↦ ap (λ b. if b then TheLinks else TheRow (suc r)) e
 ]

@@ -2,7 +2,7 @@
 use Rattle.std.proofs.Common.{◌≡◌, ◌⊎◌, ◌↔◌, ℕ, zero, suc, ◌+◌, ◌-◌, ◌*◌, ◌<◌, ◌≤◌, ℤ, true, List, [], ◌∷◌, ◌++◌, length, slice_get, Option, Some}
 use Rattle.std.proofs.Common.{None, unsigned_abs, map, if◌then◌else◌, refl, sym, ap, ◌∙◌, subst, inl, inr, arith}
 use Rattle.std.specs.List.{Contains}
-use Rattle.std.proofs.lemmas.Bool.{cases_lt}
+use Rattle.std.proofs.lemmas.Bool.{cases_lt, cases_Bool}
 use Rattle.std.proofs.lemmas.List.{length-map, length-append}
 use Rattle.std.proofs.lemmas.Option.{slice_get_within}
 use Rattle.ttx_witness.proofs.lemmas.ChangedPlaces.{before_here, last_here}
@@ -31,8 +31,8 @@ use Rattle.ttx_witness.specs.declared.faults.reason.Reason.{Reason}
 use Rattle.ttx_witness.specs.declared.waiting.wait.Losses.{Losses}
 use Rattle.ttx_witness.specs.declared.waiting.wait.Wait.{Wait}
 use Rattle.ttx_witness.specs.declared.waiting.wait.Wait.TheVariants.{Fields, Faulty, Unsure}
-use Rattle.ttx_witness.proofs.lemmas.Choices.{if_ind, no_both, cases_bool, if_true, if_false}
-use Rattle.ttx_witness.proofs.lemmas.finding.EntryOrder.{rising_pairs}
+use Rattle.ttx_witness.proofs.lemmas.Choices.{if_ind, no_both, if_true, if_false}
+use Rattle.ttx_certificate.proofs.EntryOrder.{rising_pairs}
 use Rattle.ttx_witness.proofs.lemmas.runs.FoundStarts.{starts_rise}
 use Rattle.ttx_witness.proofs.lemmas.sent.CycleTransmissions.{sent_told, told_in_order}
 use Rattle.ttx_witness.proofs.lemmas.finding.HeaderLimits.{Next, next_covered, next_fits, named_head}
@@ -47,7 +47,7 @@ none_rise i j lt in_range = absurd (omega arith)
 no_spread : (rs : List Run) → sure_starts rs ≡ [] → spread_of None rs ≡ None
 unfolding sure_runs spread_of
 no_spread [] e = refl
-no_spread (r ∷ rs) e = elim (cases_bool r.sure) as (λ _. spread_of (if r.sure then Some (widened None r) else None) rs ≡ None) [
+no_spread (r ∷ rs) e = elim (cases_Bool r.sure) as (λ _. spread_of (if r.sure then Some (widened None r) else None) rs ≡ None) [
   | inl sure ↦ absurd (some_starts r (sure_runs rs) (ap numbers (sym (if_true r.sure (r ∷ sure_runs rs) (sure_runs rs) sure)) ∙ e))
   | inr unsure ↦ ap (λ s. spread_of s rs) (if_false r.sure (Some (widened None r)) None unsure) ∙ no_spread rs (ap numbers (sym (if_false r.sure (r ∷ sure_runs rs) (sure_runs rs) unsure)) ∙ e)
 ]
@@ -62,7 +62,7 @@ no_spread (r ∷ rs) e = elim (cases_bool r.sure) as (λ _. spread_of (if r.sure
 spread_stays : (s : Spread) (rs : List Run) → spread_of (Some s) rs ≡ None → ⊥
 unfolding spread_of
 spread_stays s [] e = let h : Some s ≡ None = e in cc
-spread_stays s (r ∷ rs) e = elim (cases_bool r.sure) as (λ _. ⊥) [
+spread_stays s (r ∷ rs) e = elim (cases_Bool r.sure) as (λ _. ⊥) [
   | inl sure ↦ spread_stays (widened (Some s) r) rs (ap (λ x. spread_of x rs) (sym (if_true r.sure (Some (widened (Some s) r)) (Some s) sure)) ∙ e)
   | inr unsure ↦ spread_stays s rs (ap (λ x. spread_of x rs) (sym (if_false r.sure (Some (widened (Some s) r)) (Some s) unsure)) ∙ e)
 ]
@@ -70,7 +70,7 @@ spread_stays s (r ∷ rs) e = elim (cases_bool r.sure) as (λ _. ⊥) [
 no_starts : (rs : List Run) → spread_of None rs ≡ None → sure_starts rs ≡ []
 unfolding sure_runs spread_of
 no_starts [] e = refl
-no_starts (r ∷ rs) e = elim (cases_bool r.sure) as (λ _. map (λ r. unsigned_abs r.start) (if r.sure then r ∷ sure_runs rs else sure_runs rs) ≡ []) [
+no_starts (r ∷ rs) e = elim (cases_Bool r.sure) as (λ _. map (λ r. unsigned_abs r.start) (if r.sure then r ∷ sure_runs rs else sure_runs rs) ≡ []) [
   | inl sure ↦ absurd (spread_stays (widened None r) rs (ap (λ s. spread_of s rs) (sym (if_true r.sure (Some (widened None r)) None sure)) ∙ e))
   | inr unsure ↦ ap (λ rs. map (λ r. unsigned_abs r.start) rs) (if_false r.sure (r ∷ sure_runs rs) (sure_runs rs) unsure)
       ∙ no_starts rs (ap (λ s. spread_of s rs) (sym (if_false r.sure (Some (widened None r)) None unsure)) ∙ e)
@@ -139,7 +139,7 @@ module _ (turn : EachSlotTurns) (found : SureStartsAreFound) (law : LeastLimitIs
     -- with a limit that is enough, a certificate that names each start of a sure run shows an item
     pub named_shows : 1 ≤ repeat → (names : Id → Item → List ℕ) → ((item : Item) → names p.id item ≡ starts_for cycle class lines repeat p item) → (item : Item) → needed p item ≡ true → (d : ℕ) →
         IsEnough (limit_for cycle class lines repeat p item) (d * lines) → ShowsItem cycle p (record { lines = lines; repeat = repeat; deadline = d; class = class; starts = names }) item
-    named_shows repeats names named item seen d fits = elim (cases_bool (is_due class p item)) as (λ _. ShowsItem cycle p (record { lines = lines; repeat = repeat; deadline = d; class = class; starts = names }) item) [
+    named_shows repeats names named item seen d fits = elim (cases_Bool (is_due class p item)) as (λ _. ShowsItem cycle p (record { lines = lines; repeat = repeat; deadline = d; class = class; starts = names }) item) [
       | inl due ↦ inl (due_shows due (spread_at cycle lines repeat p.id item) refl
           (subst (λ x. IsEnough x (d * lines)) (if_true (is_due class p item) (least_limit cycle lines repeat p.id item) (least_limit cycle lines 1 p.id TheHead) due) fits))
       | inr not_due ↦
@@ -241,7 +241,7 @@ module _ (turn : EachSlotTurns) (found : SureStartsAreFound) (law : LeastLimitIs
             (named_head turn found law cycle some p lines 1 steady.header.slot steady.header.is_header)
 
         unsure_due : (item : Item) → limit_for cycle class lines repeat p item ≡ None → is_due class p item ≡ true
-        unsure_due item e = elim (cases_bool (is_due class p item)) as (λ _. is_due class p item ≡ true) [
+        unsure_due item e = elim (cases_Bool (is_due class p item)) as (λ _. is_due class p item ≡ true) [
           | inl due ↦ due
           | inr not_due ↦ absurd (head_limit (sym (if_false (is_due class p item) (least_limit cycle lines repeat p.id item) (least_limit cycle lines 1 p.id TheHead) not_due) ∙ e))
         ]

@@ -1,6 +1,6 @@
-use Rattle.std.proofs.Common.{◌≡◌, map, take}
-use Rattle.ttx_code.specs.Words.{odd_byte}
+use Rattle.std.proofs.Common.{◌≡◌, ◌==◌}
+use Rattle.ttx_witness.proofs.lemmas.faults.SentBytes.{are_sent}
 use Rattle.ttx_witness.proofs.faults.comparing.are_sent.Given as goal
 
 abbrev pub invariant-loop-i : goal.invariant-loop-i
-invariant-loop-i l = take l.i l.bytes ≡ take l.i (map odd_byte l.characters)
+invariant-loop-i l = (l.union == 0) ≡ are_sent l.i l.bytes l.characters

@@ -4,8 +4,8 @@ use Rattle.ttx_certificate.specs.EntryViews.{place_in}
 use Rattle.ttx_witness.proofs.lemmas.finding.LeastDeadline.{pairs_sorted, places_rise}
 use Rattle.ttx_witness.proofs.finding.certificates.sort_entries.Goals as goal
 
-pub returns-clause-rising : goal.returns-clause-rising
-returns-clause-rising c =
-    let sorted = c.sort_unstable_by_key.new.self.items in
-    places_rise sorted (IsNonDecreasingBy-from_sort_by_key place_in sorted c.sort_unstable_by_key.ensures.sorted (λ a r k called. search rules))
-    (pairs_sorted c.args.entries.now.items sorted c.sort_unstable_by_key.ensures.permutation c.requires.apart)
+pub returns-in-Ok-clause-rising : goal.returns-in-Ok-clause-rising
+returns-in-Ok-clause-rising c =
+    let sorted = c.sort_by_cached_key.new.self.items in
+    places_rise sorted (IsNonDecreasingBy-from_sort_by_key place_in sorted c.in-Ok.ensures.sorted (λ a r k called. search rules))
+    (pairs_sorted c.args.entries.now.items sorted c.sort_by_cached_key.ensures.permutation c.requires.apart)
