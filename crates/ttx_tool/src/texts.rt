@@ -1,18 +1,19 @@
 //! Texts of links, dates and times.
 
-ghost use Rattle.std.specs.Prelude.{◌≡◌, ◌<◌, ◌+◌, ◌∷◌, [], ◌++◌, OnOk, string_bytes};
+ghost use Rattle.std.specs.Prelude.{◌≡◌, ◌<◌, ◌++◌, OnOk, string_bytes};
 ghost use Rattle.std.specs.Fmt.{decimal};
 ghost use Rattle.ttx_tool.specs.Texts.{link_id_text, link_ids_text, last_two_digits, date_text, time_text};
 
+use itoa::Buffer;
 use std::alloc::AllocError;
 use ttx_links::Target;
 use ttx_witness::{digit, push_numbers};
 
-// Adds a decimal digit.
-#[inline(always)]
-fn push_digit(text: &mut String, digit: u8) -> Result<(), AllocError>
+/// Adds a number of one decimal digit.
+#[tactic(auto, using(std::proofs::lemmas::Fmt::decimal_digit))]
+pub(crate) fn push_digit(text: &mut String, digit: u8) -> Result<(), AllocError>
     requires { digit < 10 }
-    ensures { OnOk result (string_bytes text.new ≡ string_bytes text.old ++ (48 + digit) ∷ []) }
+    ensures { OnOk result (string_bytes text.new ≡ string_bytes text.old ++ decimal digit) }
 {
     text.push(char::from(b'0' + digit))
 }
@@ -21,11 +22,7 @@ fn push_digit(text: &mut String, digit: u8) -> Result<(), AllocError>
 pub(crate) fn push_decimal(text: &mut String, number: usize) -> Result<(), AllocError>
     ensures { OnOk result (string_bytes text.new ≡ string_bytes text.old ++ decimal number) }
 {
-    if number < 10 {
-        return push_digit(text, number as u8);
-    }
-    push_decimal(text, number / 10)?;
-    push_digit(text, (number % 10) as u8)
+    text.push_str(Buffer::new().format(number))
 }
 
 // Adds a space and where a link leads.
