@@ -15,6 +15,15 @@ pub fn push_decimal(text: &mut String, number: usize) -> Result<(), AllocError>
     text.push_str(Buffer::new().format(number))
 }
 
+/// Adds a number of one digit.
+#[tactic(auto, using(std::proofs::lemmas::Fmt::decimal_digit))]
+pub fn push_digit(text: &mut String, digit: u8) -> Result<(), AllocError>
+    requires { digit < 10 }
+    ensures { OnOk result (string_bytes text.new ≡ string_bytes text.old ++ decimal digit) }
+{
+    text.push(char::from(b'0' + digit))
+}
+
 /// The number of a digit; None where the byte isn't one.
 #[tactic(auto, unfolding(crate::specs::Digits::decimal_in))]
 pub fn decimal_in(byte: u8) -> Option<u8>

@@ -4,7 +4,7 @@ ghost use Rattle.std.specs.Prelude.{◌≡◌, IfSome, IfOk, IfErr, string_bytes
 ghost use Rattle.ttx_cycle.specs.Counters.{inner_of, faults_of};
 ghost use Rattle.ttx_cycle.specs.Cycles.{slots_of};
 ghost use Rattle.ttx_witness.specs.Certificates.{fields_of};
-ghost use Rattle.ttx_certify.specs.CertifyingFiles.{CountsFiles};
+ghost use Rattle.ttx_certify.specs.CertifyingFiles.{CountsFiles, IsUntouched, is_write};
 ghost use Rattle.ttx_late.specs.CertifyingLate.{IsJudgedLate, CertifiesFilesLate};
 ghost use Rattle.ttx_late.specs.LateVerdictLines.{late_verdict_line};
 
@@ -59,7 +59,8 @@ fn judge(alloc: Global, inputs: &Inputs) -> Result<Told, FilesFault>
 /// that show pages late too, and writes the line of the verdict. Where the verdict is Yes each page is seen on both kinds of receivers,
 /// as `certify_late` says.
 ///
-/// Nothing is written before all is judged. At `Write` exactly the first `written` bytes of the line went out.
+/// Nothing is written before all is judged. At `Write` exactly the first `written` bytes of the line went out; at each
+/// other fault the writer is as it was.
 pub fn certify_files_late<A: Read, B: Read, C: Read, W: Write>(
     alloc: Global,
     cycle: &mut Counted<A>,
@@ -73,6 +74,7 @@ pub fn certify_files_late<A: Read, B: Read, C: Read, W: Write>(
         CertifiesFilesLate a b c (W.contents (inner_of writer.old)) (W.contents (inner_of writer.new)) result))) }
     ensures faults { CountsFiles result (faults_of cycle.old) (faults_of cycle.new) (faults_of service.old) (faults_of service.new)
         (faults_of certificate.old) (faults_of certificate.new) (faults_of writer.old) (faults_of writer.new) }
+    ensures untouched { IsUntouched is_write result writer.old writer.new }
 {
     let inputs = match read_inputs(alloc, cycle, service, certificate) {
         Ok(inputs) => inputs,

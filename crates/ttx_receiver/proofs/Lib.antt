@@ -8,7 +8,7 @@ mod BlankItems
 mod SlotDistances
 mod ReceivedPage
 mod ItemIsHeld
-mod OtherMagazines
+mod PassedPackets
 mod StarvedBytes
 mod StarvedSteps
 mod StarvedUnder

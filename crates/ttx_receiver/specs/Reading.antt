@@ -2,9 +2,11 @@
 --
 --   IsIgnored               a packet that changes nothing of what a receiver holds
 --   LendsPacket                   what is lent of a slot is what its packet says
-use Rattle.std.specs.Prelude.{◌≡◌, ◌≤◌, true, drop}
+--   names_magazine, names_packet_0        what the numbers of bytes 0 and 1 name, where they are readable
+use Rattle.std.specs.Prelude.{◌≡◌, ◌≤◌, ℕ, Bool, true, false, ◌==◌, drop, Option, Some, None}
 use Rattle.ttx_header.specs.Headers.{is_header, id_of, control_of}
 use Rattle.ttx_links.specs.Sets.{links_of}
+use Rattle.ttx_packet.specs.Slots.{magazine, packet_number}
 use Rattle.ttx_page.specs.Packets.{Packet, Header, Row, Links}
 use Rattle.ttx_receiver.specs.declared.packets.Packet.{Packet as Lent}
 use Rattle.ttx_receiver.specs.declared.packets.Packet.TheVariants.{Header as TheHeader, Row as TheRow, Links as TheLinks, Nothing}
@@ -21,3 +23,14 @@ LendsPacket (TheHeader bytes) packet = (is_header bytes.now ≡ true) × (packet
 LendsPacket (TheRow at text) packet = (at.number ≤ 24) × (packet ≡ Row at.mag at.number text.now)
 LendsPacket (TheLinks at bytes) packet = packet ≡ Links at.mag (links_of at.mag bytes.now)
 LendsPacket Nothing packet = IsIgnored packet
+
+-- whether byte 0 names the magazine
+abbrev pub names_magazine : ℕ → Option ℕ → Bool
+names_magazine mag None = false
+names_magazine mag (Some low) = magazine low == mag
+
+-- whether the address names packet 0
+abbrev pub names_packet_0 : Option ℕ → Option ℕ → Bool
+names_packet_0 None high = false
+names_packet_0 (Some low) None = false
+names_packet_0 (Some low) (Some high) = packet_number low high == 0

@@ -1,6 +1,7 @@
 //! What one slot does to a memory, by the receiver's choice.
 
-ghost use Rattle.std.specs.Prelude.{◌≡◌, ◌≤◌, ◌++◌, ℕ, Bool, IsTrue, drop, true, ◌==◌, ◌&&◌, nat_le};
+ghost use Rattle.std.specs.Prelude.{◌≡◌, ◌≤◌, ◌++◌, ℕ, Bool, IsTrue, drop, slice_index, true, ◌==◌, ◌&&◌, nat_le};
+ghost use Rattle.ttx_code.specs.Words.{reading};
 ghost use Rattle.ttx_header.specs.Headers.{is_header, id_of, control_of};
 ghost use Rattle.ttx_links.specs.Sets.{links_of};
 ghost use Rattle.ttx_packet.specs.Slots.{magazine};
@@ -11,6 +12,7 @@ ghost use Rattle.ttx_page.specs.Views.{memory_of};
 ghost use Rattle.ttx_page.specs.Memories.{Memory};
 ghost use Rattle.ttx_page.specs.declared.class.Class.{Class as ClassValue};
 ghost use Rattle.ttx_page.specs.declared.class.Class.TheVariants.{Any};
+ghost use Rattle.ttx_receiver.specs.Reading.{names_magazine, names_packet_0};
 ghost use Rattle.ttx_receiver.specs.Tuning.{tuned_after};
 
 use crate::packets::{Packet, packet_in};
@@ -41,18 +43,30 @@ fn magazine_in(low: u8) -> u8
     if low % 8 == 0 { 8 } else { low % 8 }
 }
 
-/// Whether the address alone says that the slot changes no memory: the packet is of another magazine, and no page header.
-pub(crate) fn is_elsewhere(slot: &[u8; 42], selection: &Selection) -> bool
-    ensures { IsTrue result → (class : ClassValue) (lines : ℕ) (choice : Bool) (m : Memory) →
+// Whether the address names the magazine.
+fn is_of(slot: &[u8; 42], mag: u8) -> bool
+    ensures { result ≡ names_magazine mag (reading (slice_index slot.now 0)) }
+{
+    match unham(slot[0]) {
+        Some(low) => magazine_in(low) == mag,
+        None => false,
+    }
+}
+
+// Whether the address names packet 0.
+fn is_packet_0(slot: &[u8; 42]) -> bool
+    ensures { result ≡ names_packet_0 (reading (slice_index slot.now 0)) (reading (slice_index slot.now 1)) }
+{
+    matches!(unham(slot[1]), Some(0)) && matches!(unham(slot[0]), Some(0..=7))
+}
+
+/// Whether the address alone says that the slot changes nothing of a memory that is storing, or isn't: the packet is no page
+/// header, and it is of another magazine or nothing is stored.
+pub(crate) fn is_passed(slot: &[u8; 42], selection: &Selection, storing: bool) -> bool
+    ensures { IsTrue result → (class : ClassValue) (lines : ℕ) (choice : Bool) (m : Memory) → m.storing ≡ storing →
         m ≡ after class lines selection.now choice m (packet_of slot.now) }
 {
-    let Some(low) = unham(slot[0]) else {
-        return false;
-    };
-    let Some(high) = unham(slot[1]) else {
-        return false;
-    };
-    magazine_in(low) != magazine_of(selection) && low / 8 + 2 * high != 0
+    !is_packet_0(slot) && !(storing && is_of(slot, magazine_of(selection)))
 }
 
 impl Tuning {

@@ -7,7 +7,7 @@ ghost use Rattle.ttx_page.specs.Views.{memory_of};
 ghost use Rattle.ttx_page.specs.declared.class.Class.TheVariants.{Any};
 ghost use Rattle.ttx_receiver.specs.Tuning.{tuned_at, stepped};
 
-use crate::steps::{EMPTY, chooses, is_elsewhere};
+use crate::steps::{EMPTY, chooses, is_passed};
 use crate::tuning::Tuning;
 use std::marker::Model;
 use ttx_page::{Class, PageMemory, Selection};
@@ -72,12 +72,12 @@ impl Tuned {
         chooses(&self.memory, self.lines, &self.selection, slot)
     }
 
-    /// Takes a slot by the receiver's choice, the age grown already. Most slots are of other magazines.
+    /// Takes a slot by the receiver's choice, the age grown already. Most slots are passed over by their address.
     pub(crate) fn take(&mut self, class: Class, choice: bool, slot: &[u8; 42])
         ensures { self.new ≡ tuned_at self.old.selection self.old.lines
             (after class self.old.lines self.old.selection choice self.old.memory (packet_of slot.now)) }
     {
-        if is_elsewhere(slot, &self.selection) {
+        if is_passed(slot, &self.selection, self.memory.storing()) {
             return;
         }
         let tuning = Tuning {

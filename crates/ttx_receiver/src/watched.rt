@@ -115,7 +115,7 @@ impl<R: Receiver> Receiver for Watched<R> {
         let bytes = bytes_of(slot);
         let storing = self.receiver.memory().storing();
         self.receiver.step(slot);
-        if self.receiver.memory().storing() && !self.touched.everything {
+        if !self.touched.everything && self.receiver.memory().storing() {
             let touch = touch_of(&self.receiver.selection(), storing, bytes);
             self.touched.add(touch);
         }

@@ -1,6 +1,7 @@
 -- The lines of `inspect`, one a slot.
 --
 --   slot_line, lines_from    the line of a slot, and those of slots one after another
+--   packet_line            the line of a packet with these fields
 --   slot_text              what a line says of its slot
 --   header_text, link_fields_text, info_text    the fields of a page header, a packet X/27/0 and a packet 8/30
 --   corrected_mark         the mark of a slot that isn't clean
@@ -51,6 +52,10 @@ info_text (Err fault) = codes " fault " ++ decimal (number_of_fault fault)
 -- nothing where the slot is clean
 abbrev pub corrected_mark : List ℕ → List ℕ
 corrected_mark s = if is_clean s then [] else codes " corrected"
+
+-- the slot's number, the packet, its fields, and the mark where it isn't clean
+abbrev pub packet_line : ℕ → List ℕ → List ℕ → List ℕ → List ℕ
+packet_line slot packet fields s = decimal slot ++ 32 ∷ packet ++ fields ++ corrected_mark s ++ 10 ∷ []
 
 -- the packet, its fields, and the mark where it isn't clean
 abbrev pub slot_text : List ℕ → Kind → List ℕ

@@ -1,6 +1,6 @@
 -- What is said of a fault, and the status of the program after it.
 --
---   source_text, service_text, certificate_refusal        what is said of a service definition, and of a certificate
+--   source_text, refused_service, service_text, certificate_refusal        what is said of a service definition, and of a certificate
 --   extract_text, extract_status            what is said of a cycle of which no service text is made, and the status
 --   run_text, run_status    what is said of the text of a counter-run, and the status
 --   fault_text, fault_line, status_of        the line of a fault, and its status
@@ -44,10 +44,14 @@ source_text wrong_often = codes "9 often"
 source_text (out_of_range key) = codes "10 range " ++ key
 source_text no_memory = codes "11 no-memory"
 
--- a refused service definition, with the page that the fault is in; want of memory is no refusal
+-- a service definition that is refused for this, with the page that the fault is in
+abbrev pub refused_service : List ℕ → ℕ → List ℕ
+refused_service why page = codes "refused: service " ++ why ++ codes " page " ++ decimal page
+
+-- want of memory is no refusal
 abbrev pub service_text : Fault → ℕ → List ℕ
 service_text no_memory page = codes "fault: memory"
-service_text fault page = codes "refused: service " ++ source_text fault ++ codes " page " ++ decimal page
+service_text fault page = refused_service (source_text fault) page
 
 -- a refused certificate, with the line that the fault is in
 abbrev pub certificate_refusal : CertFault → List ℕ

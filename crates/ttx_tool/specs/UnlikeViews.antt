@@ -2,7 +2,7 @@
 --
 --   compared                the cells of a row that are compared
 --   unlike_row, unlike_rows the lines of a row, and of rows, of both Views where they differ
---   unlike_links            those of the links
+--   both_links, unlike_links    those of the links
 --   unlike_lines            all that differs
 use Rattle.std.specs.Prelude.{ℕ, ◌+◌, ◌==◌, List, [], ◌∷◌, ◌++◌, codes, take, drop, slice_index_or, Option, if◌then◌else◌}
 use Rattle.std.specs.Str.{bytes_eq}
@@ -30,10 +30,14 @@ abbrev pub unlike_rows : List (List Cell) → ℕ → List (List Cell) → List 
 unlike_rows own number [] = []
 unlike_rows own number (cells ∷ rows) = unlike_row number cells (slice_index_or own number []) ++ unlike_rows own (number + 1) rows
 
+-- the links as they are shown, and as the page has them
+abbrev pub both_links : List ℕ → List ℕ → List ℕ
+both_links shown own = codes "shown links" ++ shown ++ 10 ∷ codes "page links" ++ own ++ 10 ∷ []
+
+-- where they differ
 unfoldable pub unlike_links : List (Option Id) → List (Option Id) → List ℕ
 unlike_links shown own =
-    if bytes_eq (link_ids_text shown) (link_ids_text own) then []
-    else codes "shown links" ++ link_ids_text shown ++ 10 ∷ codes "page links" ++ link_ids_text own ++ 10 ∷ []
+    if bytes_eq (link_ids_text shown) (link_ids_text own) then [] else both_links (link_ids_text shown) (link_ids_text own)
 
 abbrev pub unlike_lines : Screen → Screen → List ℕ
 unlike_lines shown own = unlike_rows own.cells 0 shown.cells ++ unlike_links shown.links own.links

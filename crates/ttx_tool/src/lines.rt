@@ -8,17 +8,17 @@ ghost use Rattle.ttx_links.specs.Sets.{links_of};
 ghost use Rattle.ttx_info.specs.Infos.{info_of};
 ghost use Rattle.ttx_tool.specs.Texts.{date_text, time_text};
 ghost use Rattle.ttx_tool.specs.Lines.{packet_text, set_names, header_text, link_fields_text, number_of_fault, info_text, corrected_mark};
-ghost use Rattle.ttx_tool.specs.Lines.{slot_line, lines_from};
+ghost use Rattle.ttx_tool.specs.Lines.{packet_line, slot_line, lines_from};
 
-use crate::texts::{push_date, push_decimal, push_links, push_time};
+use crate::texts::{push_date, push_links, push_time};
 use bitflags::{Flag, Flags};
 use std::alloc::{AllocError, Global};
+use ttx_digits::{push_decimal, push_digit, push_id};
 use ttx_header::{Control, Header, read_header};
 use ttx_info::{Info, InfoFault, read_info};
 use ttx_links::{Links, read_links};
 use ttx_packet::place::Address;
 use ttx_packet::{Slot, clean, slot_of};
-use ttx_witness::push_id;
 
 // Adds the names of the set flags, each after a space.
 fn push_flags(
@@ -108,7 +108,7 @@ fn push_packet(text: &mut String, slot: usize, at: Address, kind: &str) -> Resul
 {
     push_decimal(text, slot)?;
     text.push(' ')?;
-    push_decimal(text, usize::from(at.mag))?;
+    push_digit(text, at.mag)?;
     text.push('/')?;
     push_decimal(text, usize::from(at.number))?;
     text.push(' ')?;
@@ -126,6 +126,7 @@ fn end_packet(text: &mut String, bytes: &[u8; 42]) -> Result<(), AllocError>
 }
 
 // Adds the line of a page header.
+#[tactic(auto, using(std::proofs::Common::append_assoc))]
 fn push_header_line(
     text: &mut String,
     slot: usize,
@@ -133,7 +134,8 @@ fn push_header_line(
     bytes: &[u8; 42],
 ) -> Result<(), AllocError>
     requires { is_header bytes.now ≡ true }
-    ensures { OnOk result (string_bytes text.new ≡ string_bytes text.old ++ decimal slot ++ 32 ∷ packet_text at.mag at.number (codes "header") ++ header_text (id_of bytes.now) (control_of bytes.now) ++ corrected_mark bytes.now ++ 10 ∷ []) }
+    ensures { OnOk result (string_bytes text.new ≡ string_bytes text.old
+        ++ packet_line slot (packet_text at.mag at.number (codes "header")) (header_text (id_of bytes.now) (control_of bytes.now)) bytes.now) }
 {
     let header = read_header(bytes).unwrap();
     push_packet(text, slot, at, "header")?;
@@ -142,13 +144,15 @@ fn push_header_line(
 }
 
 // Adds the line of a packet X/27/0.
+#[tactic(auto, using(std::proofs::Common::append_assoc))]
 fn push_links_line(
     text: &mut String,
     slot: usize,
     at: Address,
     bytes: &[u8; 42],
 ) -> Result<(), AllocError>
-    ensures { OnOk result (string_bytes text.new ≡ string_bytes text.old ++ decimal slot ++ 32 ∷ packet_text at.mag at.number (codes "links") ++ link_fields_text (links_of at.mag bytes.now) ++ corrected_mark bytes.now ++ 10 ∷ []) }
+    ensures { OnOk result (string_bytes text.new ≡ string_bytes text.old
+        ++ packet_line slot (packet_text at.mag at.number (codes "links")) (link_fields_text (links_of at.mag bytes.now)) bytes.now) }
 {
     push_packet(text, slot, at, "links")?;
     push_link_fields(text, read_links(at.mag, bytes))?;
@@ -156,13 +160,15 @@ fn push_links_line(
 }
 
 // Adds the line of a packet 8/30.
+#[tactic(auto, using(std::proofs::Common::append_assoc))]
 fn push_info_line(
     text: &mut String,
     slot: usize,
     at: Address,
     bytes: &[u8; 42],
 ) -> Result<(), AllocError>
-    ensures { OnOk result (string_bytes text.new ≡ string_bytes text.old ++ decimal slot ++ 32 ∷ packet_text at.mag at.number (codes "info") ++ info_text (info_of bytes.now) ++ corrected_mark bytes.now ++ 10 ∷ []) }
+    ensures { OnOk result (string_bytes text.new ≡ string_bytes text.old
+        ++ packet_line slot (packet_text at.mag at.number (codes "info")) (info_text (info_of bytes.now)) bytes.now) }
 {
     push_packet(text, slot, at, "info")?;
     push_info(text, &read_info(bytes))?;

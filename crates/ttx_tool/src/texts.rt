@@ -1,32 +1,11 @@
 //! Texts of links, dates and times.
 
-ghost use Rattle.std.specs.Prelude.{◌≡◌, ◌<◌, ◌+◌, ◌∷◌, [], ◌++◌, OnOk, string_bytes};
-ghost use Rattle.std.specs.Fmt.{decimal};
+ghost use Rattle.std.specs.Prelude.{◌≡◌, ◌++◌, OnOk, string_bytes};
 ghost use Rattle.ttx_tool.specs.Texts.{link_id_text, link_ids_text, last_two_digits, date_text, time_text};
 
 use std::alloc::AllocError;
+use ttx_digits::{digit, push_numbers};
 use ttx_links::Target;
-use ttx_witness::{digit, push_numbers};
-
-// Adds a decimal digit.
-#[inline(always)]
-fn push_digit(text: &mut String, digit: u8) -> Result<(), AllocError>
-    requires { digit < 10 }
-    ensures { OnOk result (string_bytes text.new ≡ string_bytes text.old ++ (48 + digit) ∷ []) }
-{
-    text.push(char::from(b'0' + digit))
-}
-
-/// Adds a number in decimal.
-pub(crate) fn push_decimal(text: &mut String, number: usize) -> Result<(), AllocError>
-    ensures { OnOk result (string_bytes text.new ≡ string_bytes text.old ++ decimal number) }
-{
-    if number < 10 {
-        return push_digit(text, number as u8);
-    }
-    push_decimal(text, number / 10)?;
-    push_digit(text, (number % 10) as u8)
-}
 
 // Adds a space and where a link leads.
 fn push_link(text: &mut String, link: &Option<Target>) -> Result<(), AllocError>

@@ -3,7 +3,7 @@
 ghost use Rattle.std.specs.Prelude.{◌≡◌, ◌<◌, ◌≤◌, ◌∷◌, ◌++◌, [], OnOk, IfOk, codes, length, string_bytes};
 ghost use Rattle.std.specs.Str.{bytes_eq};
 ghost use Rattle.ttx_tool.specs.Texts.{link_ids_text};
-ghost use Rattle.ttx_tool.specs.UnlikeViews.{compared, both_rows, unlike_row, unlike_rows, unlike_links, unlike_lines};
+ghost use Rattle.ttx_tool.specs.UnlikeViews.{compared, both_rows, unlike_row, unlike_rows, both_links, unlike_links, unlike_lines};
 ghost use Rattle.ttx_tool.specs.ViewLines.{cell_words};
 
 use crate::texts::push_links;
@@ -102,7 +102,7 @@ fn text_of(alloc: Global, links: &[Option<Target>]) -> Result<String, AllocError
 
 // Adds both lines of the links.
 fn push_both_links(text: &mut String, shown: &str, own: &str) -> Result<(), AllocError>
-    ensures { OnOk result (string_bytes text.new ≡ string_bytes text.old ++ codes "shown links" ++ shown.now ++ 10 ∷ codes "page links" ++ own.now ++ 10 ∷ []) }
+    ensures { OnOk result (string_bytes text.new ≡ string_bytes text.old ++ both_links shown.now own.now) }
 {
     write!(text, "shown links{shown}\npage links{own}\n")
 }

@@ -3,7 +3,9 @@
 ghost use Rattle.std.specs.Prelude.{◌≡◌, IfSome, IfOk, map, option_map, string_bytes};
 ghost use Rattle.ttx_cycle.specs.Counters.{inner_of, faults_of};
 ghost use Rattle.ttx_page.specs.Views.{page_of};
+ghost use Rattle.ttx_certify.specs.CertifyingFiles.{IsUntouched};
 ghost use Rattle.ttx_source.specs.Services.{pages_of};
+ghost use Rattle.ttx_tool.specs.FilesFaults.{is_tool_write};
 ghost use Rattle.ttx_tool.specs.Previewing.{first_match, preview_text, preview_status, PreviewsText, Previews, CountsPreview};
 ghost use Rattle.ttx_tool.specs.Planning.{CountsDefinition};
 
@@ -96,7 +98,8 @@ fn preview_service<R: Read>(
 /// Reads the text of a service, and writes the View of the first page that the selection matches, as it is asked for: the status
 /// is 0. Where there is no such page, writes a line that says so: the status is 1.
 ///
-/// Nothing is written before the text is read. At `Write` exactly the first `written` bytes went out.
+/// Nothing is written before the text is read. At `Write` exactly the first `written` bytes went out; at each other fault the
+/// writer is as it was.
 pub fn preview<R: Read, W: Write>(
     alloc: Global,
     reader: &mut Counted<R>,
@@ -107,6 +110,7 @@ pub fn preview<R: Read, W: Write>(
     ensures bytes { IfSome (R.remaining (inner_of reader.old))
         (λ bytes. Previews bytes selection.now look.now (W.contents (inner_of writer.old)) (W.contents (inner_of writer.new)) result) }
     ensures faults { CountsPreview result (faults_of reader.old) (faults_of reader.new) (faults_of writer.old) (faults_of writer.new) }
+    ensures untouched { IsUntouched is_tool_write result writer.old writer.new }
 {
     let preview = preview_service(alloc, reader, selection, look)?;
     write_bytes(writer, preview.text.as_bytes()).map_err(ToolFault::from_write)?;

@@ -8,6 +8,8 @@ ghost use Rattle.ttx_witness.specs.Certificates.{fields_of};
 ghost use Rattle.ttx_page.specs.Pages as definitions;
 ghost use Rattle.ttx_page.specs.declared.class.Class.TheVariants.{Any};
 ghost use Rattle.ttx_page.specs.Views.{page_of};
+ghost use Rattle.ttx_certify.specs.CertifyingFiles.{IsUntouched};
+ghost use Rattle.ttx_tool.specs.FilesFaults.{is_tool_write};
 ghost use Rattle.ttx_tool.specs.RefutingFiles.{counter_line, saved, IsRefutation, IsClassFault, RefutesText, RefutesFiles, CountsThree, CountsRefute};
 
 use super::finding::write_told;
@@ -194,7 +196,7 @@ fn refute_text<A: Read, B: Read, C: Read>(
 /// none to the other writer: the status is 0. Of a certificate of class clearing the answer is `Class`.
 ///
 /// Nothing is written before all is found. At `Write` exactly the first `written` bytes of both went out, the file's before the
-/// line's.
+/// line's; at each other fault both writers are as they were.
 pub fn refute<A: Read, B: Read, C: Read, O: Write, W: Write>(
     alloc: Global,
     cycle: &mut Counted<A>,
@@ -211,6 +213,7 @@ pub fn refute<A: Read, B: Read, C: Read, O: Write, W: Write>(
     ensures faults { CountsRefute result (faults_of cycle.old) (faults_of cycle.new) (faults_of service.old) (faults_of service.new)
         (faults_of certificate.old) (faults_of certificate.new)
         (faults_of file.old) (faults_of file.new) (faults_of writer.old) (faults_of writer.new) }
+    ensures untouched { IsUntouched is_tool_write result file.old file.new × IsUntouched is_tool_write result writer.old writer.new }
 {
     let told = refute_text(alloc, cycle, service, certificate, save)?;
     write_told(file, told.file.as_slice(), writer, told.line.as_bytes())?;

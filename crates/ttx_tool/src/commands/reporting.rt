@@ -1,12 +1,11 @@
 //! Reports of faults: their lines and their statuses.
 
 ghost use Rattle.std.specs.Prelude.{◌≡◌, [], ◌∷◌, ◌++◌, IfOk, codes, string_bytes};
-ghost use Rattle.std.specs.Fmt.{decimal};
 ghost use Rattle.ttx_cycle.specs.Counters.{inner_of, faults_of};
 ghost use Rattle.ttx_extract.specs.Refusals.{refusal_text};
 ghost use Rattle.ttx_source.specs.Faults.{fault_of};
 ghost use Rattle.ttx_tool.specs.Reports.{service_text, service_status, certificate_refusal, extract_text, extract_status, run_text, run_status};
-ghost use Rattle.ttx_tool.specs.Reports.{fault_line, status_of, Reports, ReportsWords, CountsReport};
+ghost use Rattle.ttx_tool.specs.Reports.{refused_service, fault_line, status_of, Reports, ReportsWords, CountsReport};
 
 use crate::faults::{CounterFileFault, ToolFault};
 use std::alloc::{AllocError, Global};
@@ -22,7 +21,7 @@ use ttx_witness::CertFault;
 
 // The line of a refused service definition whose fault names a key.
 fn keyed_line(alloc: Global, name: &str, key: &str, page: usize) -> Result<String, AllocError>
-    ensures { IfOk result (λ line. string_bytes line ≡ codes "refused: service " ++ (name.now ++ 32 ∷ key.now) ++ codes " page " ++ decimal page ++ 10 ∷ []) }
+    ensures { IfOk result (λ line. string_bytes line ≡ refused_service (name.now ++ 32 ∷ key.now) page ++ 10 ∷ []) }
 {
     format!(in alloc; "refused: service {name} {key} page {page}\n")
 }
