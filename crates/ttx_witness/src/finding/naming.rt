@@ -11,7 +11,7 @@ ghost use Rattle.ttx_witness.specs.finding.Surveys.{surveyed_limit, AreNamedIn};
 
 use crate::finding::survey::SurveyedPage;
 use crate::runs::one_item::search_item;
-use crate::runs::sure_starts::{Search, Spread};
+use crate::runs::sure_starts::{Spread, SureRuns};
 use crate::sent::page_items::{item_of, run_length};
 use std::alloc::Global;
 use ttx_certificate::{Entry, NoMemory};
@@ -90,7 +90,7 @@ fn search_for(
     surveyed: &SurveyedPage,
     item: &Item,
     repeat: u8,
-) -> Result<Search, NoMemory>
+) -> Result<SureRuns, NoMemory>
     requires some { 1 ≤ repeat }
     requires few { repeat ≤ 8 }
     ensures starts { IfOk result (λ s. s.starts.items ≡ surveyed_starts surveyed.now repeat item.now) }
@@ -122,11 +122,7 @@ fn name_item(
 {
     ttx_page::laws::pages_keep_their_rules();
     let period = surveyed.survey.cycle.slots().len() as u32;
-    let Search {
-        recent: _,
-        starts,
-        spread,
-    } = search_for(alloc, surveyed, item, surveyed.survey.repeat)?;
+    let SureRuns { starts, spread } = search_for(alloc, surveyed, item, surveyed.survey.repeat)?;
     add_entry(entries, surveyed.page.id(), *item, starts)?;
     Ok(limit_of(period, spread))
 }
@@ -144,11 +140,7 @@ fn item_limit(
     ensures small { IfOk result (λ least. (limit : ℕ) → least ≡ Some limit → limit ≤ 655360) }
 {
     let period = surveyed.survey.cycle.slots().len() as u32;
-    let Search {
-        recent: _,
-        starts: _,
-        spread,
-    } = search_for(alloc, surveyed, item, repeat)?;
+    let SureRuns { starts: _, spread } = search_for(alloc, surveyed, item, repeat)?;
     Ok(limit_of(period, spread))
 }
 

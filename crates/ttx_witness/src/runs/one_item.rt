@@ -9,7 +9,7 @@ ghost use Rattle.ttx_witness.specs.runs.Tracks.{IsRecent, IsTrack, IsWithin};
 
 use crate::runs::confirming::Progress;
 use crate::runs::named_starts::{self, Track};
-use crate::runs::sure_starts::{self, Search};
+use crate::runs::sure_starts::{self, Search, SureRuns};
 use crate::runs::transmissions::Transmission;
 use crate::runs::window::Recent;
 use arrayvec::ArrayVec;
@@ -51,7 +51,7 @@ pub fn search_item(
     sent: &[Transmission],
     repeat: usize,
     period: u32,
-) -> Result<Search, NoMemory>
+) -> Result<SureRuns, NoMemory>
     requires some { 1 ≤ repeat }
     requires few { repeat ≤ 8 }
     requires small { AllByRecursion (IsWithin 65536) sent.now }
@@ -67,7 +67,12 @@ pub fn search_item(
         sure_starts::note(&mut search, sent[i])?;
     }
     sure_starts::finish(&mut search, period)?;
-    Ok(search)
+    let Search {
+        recent: _,
+        starts,
+        spread,
+    } = search;
+    Ok(SureRuns { starts, spread })
 }
 
 /// How far the named starts are confirmed by the transmissions of a period. No memory is taken.

@@ -27,6 +27,13 @@ pub struct Search {
     pub spread: Option<Spread>,
 }
 
+/// The starts of all sure runs of an item, and what is kept of these runs.
+#[derive(Drop)]
+pub struct SureRuns {
+    pub starts: Vec<u32>,
+    pub spread: Option<Spread>,
+}
+
 // The slots from an owner to the end of a run, none where the run ends before it.
 fn distance(owner: i32, end: i32) -> u32
     ensures { result ≡ above_zero (end -ℤ owner) }
