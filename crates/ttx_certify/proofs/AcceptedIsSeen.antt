@@ -4,6 +4,7 @@ use Rattle.std.proofs.Common.{subst, inl, inr, arith, slice_get, Some, eq-eqb}
 use Rattle.std.proofs.lemmas.Int.{ints}
 use Rattle.std.proofs.lemmas.List.Elements.{All-get_or}
 use Rattle.std.specs.List.{AllByRecursion}
+use Rattle.std.proofs.lemmas.Bool.{and_from}
 use Rattle.ttx_packet.specs.Slots.{IsSlot}
 use Rattle.ttx_header.specs.Ids.{Id, same_id}
 use Rattle.ttx_page.specs.Packets.{Packet, Empty, Unreadable, Header, Row, Links, Info, Other, packet_of}
@@ -47,15 +48,11 @@ sure_run laws cycle page lines repeat item i rest some first run =
     subst (λ z. HasSureRun s page lines repeat item z) (sym t.place) (moves.run page lines repeat item (pos (turned (length cycle) i)) first) in
     subst (λ xs. AllByRecursion (IsSureTransmission s page lines item) (i ∷ xs)) (laws.one_run s page repeat item i here.rest rest here.run run) here.all_sure
 
-pub and_both : (a b : Bool) → a ≡ true → b ≡ true → (a && b) ≡ true
-and_both true b h k = k
-and_both false b h k = h
-
 pub fits_matches : (pages : List Page) (p : Page) (sel : Selection) → Fits pages p sel → matches sel p.id ≡ true
 fits_matches pages p (Exact id) f =
     let e = λ (n : ℕ). eq-eqb n n refl in
-    subst (λ own. same_id own p.id ≡ true) (sym f) (and_both _ _ (and_both _ _ (e p.id.mag) (e p.id.page)) (e p.id.sub))
-fits_matches pages p (AnySub mag number) f = and_both _ _ (eq-eqb mag p.id.mag f.0) (eq-eqb number p.id.page f.1)
+    subst (λ own. same_id own p.id ≡ true) (sym f) (and_from _ _ (and_from _ _ (e p.id.mag) (e p.id.page)) (e p.id.sub))
+fits_matches pages p (AnySub mag number) f = and_from _ _ (eq-eqb mag p.id.mag f.0) (eq-eqb number p.id.page f.1)
 
 -- the headers that a fitting selection matches are the page's
 pub selected_page : (s : Stream) (pages : List Page) (p : Page) → SendsItsOwn s pages p → (sel : Selection) → Fits pages p sel → (j : ℤ) →

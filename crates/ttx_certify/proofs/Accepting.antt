@@ -3,6 +3,7 @@ use Rattle.std.proofs.Common.{◌≡◌, ◌⊎◌, ℕ, suc, ◌-◌, ◌≤◌
 use Rattle.std.proofs.Common.{subst, inl, inr, arith}
 use Rattle.std.specs.List.{Contains}
 use Rattle.std.proofs.lemmas.Int.{ints}
+use Rattle.std.proofs.lemmas.Bool.{true_from_ne_false}
 use Rattle.ttx_page.specs.Pages.{Page, needed}
 use Rattle.ttx_page.specs.declared.item.Item.{Item}
 use Rattle.ttx_page.specs.Streams.{repeated, run_length}
@@ -108,12 +109,8 @@ refusal cycle pages w (Late page item start) clean f = (clean, f)
 refusal cycle pages w Unsteady clean f = (clean, f)
 refusal cycle pages w (LateBlank page item header) clean f = (clean, f)
 
-is_true : (b : Bool) → (b ≡ false → ⊥) → b ≡ true
-is_true true h = refl
-is_true false h = absurd (h refl)
-
 pub clean_if : (cycle : List (List ℕ)) → ((j : ℕ) → BadSlotAt cycle j → ⊥) → IsClean cycle
-clean_if cycle none n lt = is_true _ (λ bad. none n (record { within = lt; bad = bad }))
+clean_if cycle none n lt = true_from_ne_false _ (λ bad. none n (record { within = lt; bad = bad }))
 
 pub accepted : (cycle : List (List ℕ)) (pages : List Page) (w : Certificate) → IsClean cycle → ((n : ℕ) (p : Page) → slice_get pages n ≡ Some p → IsFault cycle pages p w None) → Accepts cycle pages w
 accepted cycle pages w clean none = record { clean = clean; steady = λ n p here. (none n p here).0; covered = λ n p here. (none n p here).1 }

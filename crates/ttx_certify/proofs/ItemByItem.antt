@@ -1,7 +1,7 @@
 -- The first reason that is true of the items of a page, one item after the other.
 use Rattle.std.proofs.Common.{◌≡◌, ◌⊎◌, ℕ, ◌+◌, ◌<◌, ◌≤◌, nat_lt, Bool, true, false, if◌then◌else◌, Option, Some, None, List, refl, sym, ap, subst}
 use Rattle.std.proofs.Common.{inl, inr, arith, leb-true}
-use Rattle.std.proofs.lemmas.Bool.{cases_lt}
+use Rattle.std.proofs.lemmas.Bool.{cases_lt, and_parts}
 use Rattle.std.proofs.lemmas.Bool.Decides.{nat_tests}
 use Rattle.ttx_header.specs.Ids.{Id}
 use Rattle.ttx_page.specs.Pages.{Page, needed}
@@ -15,15 +15,14 @@ use Rattle.ttx_witness.specs.declared.faults.reason.Reason.{Reason}
 use Rattle.ttx_witness.specs.declared.faults.reason.Reason.TheVariants.{NoWitness, WitnessBad, Late, LateBlank}
 use Rattle.ttx_certify.specs.ItemReasons.{reason_number, start_in, IsTrueOf, IsFine, IsFirstReason, IsItemReason, IsFirstBelow, IsReasonBelow}
 use Rattle.ttx_certify.specs.ItemReasons.{IsReasonAt, told_first}
-use Rattle.ttx_page.proofs.Decisions.{and_left, and_right}
 use Rattle.ttx_certify.proofs.OneItem.{of_four, true_needed}
 
 -- what a viewer sees is an item of the page
 pub needed_item : (p : Page) (item : Item) → needed p item ≡ true → IsItem item
 needed_item p TheHead h = tt
 needed_item p (TheRow r) h =
-    let a = and_left _ _ (and_left _ _ (and_left _ _ h)) in
-    let b = and_right _ _ (and_left _ _ (and_left _ _ h)) in
+    let a = (and_parts _ _ (and_parts _ _ (and_parts _ _ h).0).0).0 in
+    let b = (and_parts _ _ (and_parts _ _ (and_parts _ _ h).0).0).1 in
     (leb-true 1 r a, leb-true r 24 b)
 needed_item p TheLinks h = tt
 

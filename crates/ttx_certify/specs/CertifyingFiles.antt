@@ -1,6 +1,5 @@
 -- What is answered and written where a packet file, a service definition and a certificate are certified.
 --
---   most_bytes              the most bytes of a text
 --   IsPacketFile, IsServiceText, IsCertificateText      what the three inputs are
 --   IsServiceFault, IsCertificateFault      why a text is none
 --   Certifies               the verdict on three inputs, and its line
@@ -10,6 +9,7 @@
 --   CountsFiles             a fault of a device is answered only where one was counted
 use Rattle.std.specs.Prelude.{◌≡◌, ◌⊎◌, ℕ, ◌<◌, ◌≤◌, Bool, true, false, List, length, take, ⊤, Option, Result, Ok, Err}
 use Rattle.std.specs.Io.KnownBytes.{Appends, Keeps}
+use Rattle.ttx_cycle.specs.Bounded.{most_bytes}
 use Rattle.ttx_cycle.specs.Counts.{HasRisen}
 use Rattle.ttx_cycle.specs.Files.{IsCycle, file_of}
 use Rattle.ttx_cycle.specs.Reading.{Judged}
@@ -28,9 +28,6 @@ use Rattle.ttx_certify.specs.declared.faults.FilesFault.TheVariants.{Cycle, Serv
 use Rattle.ttx_certify.specs.declared.faults.TextFile.TheVariants as text
 use Rattle.ttx_cycle.specs.declared.faults.CycleFault.TheVariants as cycle
 use Rattle.ttx_certify.specs.declared.verdict.Verdict.{Verdict}
-
-abbrev pub most_bytes : ℕ
-most_bytes = 4194304
 
 -- the bytes are the packet file of these slots
 pub record IsPacketFile (bytes : List ℕ) (slots : List (List ℕ)) : Type 0 where

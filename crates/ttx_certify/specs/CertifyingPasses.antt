@@ -12,7 +12,8 @@ use Rattle.ttx_cycle.specs.Counts.{HasRisen}
 use Rattle.ttx_cycle.specs.declared.faults.CycleFault.TheVariants as cycle
 use Rattle.ttx_source.specs.Services.{ServiceFields, pages_of}
 use Rattle.ttx_witness.specs.Entries.{CertificateFields, certificate_at}
-use Rattle.ttx_certify.specs.CertifyingFiles.{most_bytes, IsServiceText, IsCertificateText, IsServiceFault, IsCertificateFault, Certifies}
+use Rattle.ttx_certify.specs.CertifyingFiles.{IsServiceText, IsCertificateText, IsServiceFault, IsCertificateFault, Certifies}
+use Rattle.ttx_cycle.specs.Bounded.{most_bytes}
 use Rattle.ttx_certify.specs.VerdictLines.{verdict_line}
 use Rattle.ttx_certify.specs.declared.faults.FilesFault.{FilesFault}
 use Rattle.ttx_certify.specs.declared.faults.FilesFault.TheVariants.{Cycle, Service, Certificate, Read, TooLong, Write, NoMemory}

@@ -7,7 +7,7 @@
 use Rattle.std.specs.Prelude.{◌≡◌, ℕ, List, []}
 use Rattle.ttx_page.specs.Pages.{Page}
 use Rattle.ttx_witness.specs.Coverage.{Certificate}
-use Rattle.ttx_witness.specs.passes.Passing.{IsFirstPass, IsSecondPass, pages_of, certificate, pages_in, certificate_in}
+use Rattle.ttx_witness.specs.passes.Passing.{IsFirstPass, IsSecondPass, pass_pages, certificate, pages_in, certificate_in}
 use Rattle.ttx_witness.specs.declared.faults.reason.Reason.TheVariants.{Unsteady}
 use Rattle.ttx_certify.specs.Verdicts.{IsVerdict}
 use Rattle.ttx_certify.specs.declared.verdict.Verdict.{Verdict}
@@ -16,7 +16,7 @@ use Rattle.ttx_certify.specs.declared.walking.Walk.{Walk}
 use Rattle.ttx_certify.specs.declared.walking.Second.{Second}
 
 abbrev pub walk_pages : Walk → List Page
-walk_pages walk = pages_of walk.pass
+walk_pages walk = pass_pages walk.pass
 
 abbrev pub walk_certificate : Walk → Certificate
 walk_certificate walk = certificate walk.pass

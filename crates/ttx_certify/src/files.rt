@@ -15,12 +15,9 @@ use crate::verdict::Verdict;
 use crate::verdict_lines::verdict_line;
 use std::alloc::Global;
 use std::io::{Read, Write};
-use ttx_cycle::{Counted, Cycle, TextFault, read_cycle, read_text, write_bytes};
+use ttx_cycle::{Counted, Cycle, MOST_BYTES, TextFault, read_cycle, read_text, write_bytes};
 use ttx_source::{Service, read_service};
 use ttx_witness::{Certificate, read_certificate};
-
-// The most bytes of a text.
-const MOST_BYTES: usize = 4_194_304;
 
 /// What is read of a packet file, the text of a service and that of a certificate.
 #[derive(Drop)]

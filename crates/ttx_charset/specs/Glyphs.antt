@@ -3,7 +3,7 @@
 --
 --   places          the codes that a national set replaces
 --   english ..      each set: its characters at these places, in their order
---   set_of          the set of an option
+--   national_set          the set of an option
 --   base            what the other codes show
 --   glyph           what a code shows under an option
 use Rattle.std.specs.Prelude.{ℕ, List, [], ◌∷◌, Option, Some, None, ◌==◌, if◌then◌else◌, slice_index, slice_index_or, position}
@@ -40,8 +40,8 @@ abbrev pub czech : List ℕ
 czech = 0x23 ∷ 0x16f ∷ 0x10d ∷ 0x165 ∷ 0x17e ∷ 0xfd ∷ 0xed ∷ 0x159 ∷ 0xe9 ∷ 0xe1 ∷ 0x11b ∷ 0xfa ∷ 0x161 ∷ []
 
 -- the sets of options 0 to 7, of which the last is English again
-unfoldable pub set_of : ℕ → List ℕ
-set_of option =
+unfoldable pub national_set : ℕ → List ℕ
+national_set option =
     slice_index_or (english ∷ german ∷ swedish ∷ italian ∷ french ∷ spanish ∷ czech ∷ english ∷ []) option []
 
 -- at all other places a code is its own number, but 7F is a black square
@@ -54,4 +54,4 @@ placed set code None = base code
 
 -- what a code shows
 unfoldable pub glyph : ℕ → ℕ → ℕ
-glyph option code = placed (set_of option) code (position (λ place. place == code) places)
+glyph option code = placed (national_set option) code (position (λ place. place == code) places)

@@ -36,7 +36,7 @@ fn place_of(code: u8) -> Option<usize>
 /// The character that a code 20 to 7F shows under a national option 0 to 7.
 ///
 /// The table of the national sets is the profile's own.
-#[tactic(auto, unfolding(crate::specs::Glyphs::glyph, crate::specs::Glyphs::set_of))]
+#[tactic(auto, unfolding(crate::specs::Glyphs::glyph, crate::specs::Glyphs::national_set))]
 pub fn glyph(option: u8, code: u8) -> char
     requires option { option < 8 }
     requires printed { 0x20 ≤ code }

@@ -1,12 +1,12 @@
 -- What `check` writes for the text of a service.
 --
 --   check_fault             the fault of the same name
---   most_bytes              the most bytes of a text
 --   Told                    the report on a text that isn't too long
 --   Checks                  what was written at each answer
 --   CountsCheck             faults of devices are answered only where they were counted
 use Rattle.std.specs.Prelude.{ℕ, ◌<◌, ◌≤◌, List, length, take, ⊤, Option, Result, Ok, Err}
 use Rattle.std.specs.Io.KnownBytes.{Appends, Keeps}
+use Rattle.ttx_cycle.specs.Bounded.{most_bytes}
 use Rattle.ttx_cycle.specs.Counts.{HasRisen}
 use Rattle.ttx_cycle.specs.declared.faults.TextFault.{TextFault}
 use Rattle.ttx_cycle.specs.declared.faults.TextFault.TheVariants as text
@@ -19,9 +19,6 @@ abbrev pub check_fault : TextFault → CheckFault
 check_fault text.Read = Read
 check_fault text.TooLong = TooLong
 check_fault text.NoMemory = NoMemory
-
-abbrev pub most_bytes : ℕ
-most_bytes = 4194304
 
 pub record Told (bytes text : List ℕ) (status : ℕ) : Type 0 where
   pub most : length bytes ≤ most_bytes

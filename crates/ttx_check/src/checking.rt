@@ -8,10 +8,7 @@ use crate::faults::CheckFault;
 use crate::reports::report;
 use std::alloc::Global;
 use std::io::{Read, Write};
-use ttx_cycle::{Counted, read_text, write_bytes};
-
-// The most bytes of a text.
-const MOST_BYTES: usize = 4_194_304;
+use ttx_cycle::{Counted, MOST_BYTES, read_text, write_bytes};
 
 /// Reads the text of a service, of at most 4,194,304 bytes, and writes the report on it: the status is 2 where the text is
 /// refused, else 0.

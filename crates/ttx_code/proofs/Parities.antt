@@ -1,7 +1,7 @@
 -- Odd parity, computed over all bytes.
 use Rattle.std.proofs.Common.{◌≡◌, ◌⊎◌, ℕ, ◌<◌, ◌%◌, Bool, true, false, not, ◌&&◌, ◌||◌, refl, leb, eqb, ltb, arith, inl, inr, zero, suc, List, []}
 use Rattle.std.proofs.Common.{◌∷◌, ◌++◌, length, get_or, take, drop, sym, ap, ◌∙◌, eq-eqb}
-use Rattle.std.proofs.lemmas.Bool.{cases_Bool, agree_below, agree_below_at, eqb-true, le-leb, ltb-true, and_parts}
+use Rattle.std.proofs.lemmas.Bool.{cases_Bool, agree_below, agree_below_at, eqb-true, le-leb, ltb-true, and_parts, and_from}
 use Rattle.std.specs.List.{list_all, All, AllByRecursion}
 use Rattle.std.proofs.lemmas.List.{take-append-drop}
 use Rattle.std.proofs.lemmas.List.Elements.{All-from_get_or, recursion_from_All}
@@ -32,15 +32,11 @@ pub odd_bytes_table : agree_below (λ a. agree_below (odd_or_same a) (λ _. true
 unfolding ones distance
 odd_bytes_table = refl
 
-and_both : (a b : Bool) → a ≡ true → b ≡ true → (a && b) ≡ true
-and_both true b h k = k
-and_both false b h k = h
-
 pub odd_bytes_under_one_wrong_bit : OddBytesUnderOneWrongBit
 odd_bytes_under_one_wrong_bit sent received ls lr odd close = elim (cases_Bool (is_odd received)) as (λ _. (received ≡ sent) ⊎ (is_odd received ≡ false)) [
   | inl o ↦ inl (eqb-true _ _ (implied _ _
       (agree_below_at (odd_or_same sent) (λ _. true) 256 received (agree_below_at (λ a. agree_below (odd_or_same a) (λ _. true) 256) (λ _. true) 256 sent odd_bytes_table ls) lr)
-      (and_both _ _ (and_both _ _ (le-leb _ _ close) odd) o)))
+      (and_from _ _ (and_from _ _ (le-leb _ _ close) odd) o)))
   | inr e ↦ inr e
 ]
 
@@ -72,7 +68,7 @@ test_from_All_odd xs h = go xs (recursion_from_All IsOdd xs h)
   where
     go : (xs : List ℕ) → AllByRecursion IsOdd xs → list_all is_odd xs ≡ true
     go [] h = refl
-    go (x ∷ xs) h = and_both _ _ (eq-eqb _ _ h.0) (go xs h.1)
+    go (x ∷ xs) h = and_from _ _ (eq-eqb _ _ h.0) (go xs h.1)
 
 pub all_of_parts : (test : ℕ → Bool) (n : ℕ) (xs : List ℕ) → (list_all test (take n xs) && list_all test (drop n xs)) ≡ list_all test xs
 all_of_parts test n xs = sym (list_all-append test (take n xs) (drop n xs)) ∙ ap (list_all test) (take-append-drop n xs)

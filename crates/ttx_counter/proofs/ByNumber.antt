@@ -1,6 +1,7 @@
 -- Where a cycle has no other subpage of a page, a receiver that is set to the page's number makes the same of it.
 use Rattle.std.proofs.Common.{◌≡◌, ℕ, zero, suc, ℤ, pos, ◌+ℤ◌, Bool, true, false, ◌&&◌, ◌==◌, if◌then◌else◌, List, slice_get, Some, refl, sym, ap}
 use Rattle.std.proofs.Common.{◌∙◌, subst}
+use Rattle.std.proofs.lemmas.Bool.{and_parts, true_from_ne_false}
 use Rattle.ttx_header.specs.Control.{c11}
 use Rattle.ttx_page.specs.Packets.{Packet, Empty, Unreadable, Header, Row, Links, Info, Other, packet_of}
 use Rattle.ttx_page.specs.Pages.{Page, IsAlone}
@@ -13,25 +14,17 @@ use Rattle.ttx_page.specs.Streams.{Stream, repeated, heads_matched, heads_page}
 use Rattle.ttx_witness.specs.faults.Faults.{Never}
 use Rattle.ttx_certify.specs.Seen.{HasView}
 use Rattle.ttx_counter.specs.Sources.{plain_from, IsPlainlyRight}
-use Rattle.ttx_counter.proofs.Deciding.{same_page}
-use Rattle.ttx_counter.proofs.Streaking.{no_both}
-
-and_left : (a b : Bool) → (a && b) ≡ true → a ≡ true
-and_left true b h = refl
-and_left false b h = absurd (no_both _ h refl)
+use Rattle.ttx_counter.proofs.CheckIsExact.{same_page}
+use Rattle.ttx_counter.proofs.StreaksBelowK.{no_both}
 
 same_bool : (a b : Bool) → (a ≡ true → b ≡ true) → (b ≡ true → a ≡ true) → a ≡ b
 same_bool true b f g = sym (f refl)
 same_bool false true f g = g refl
 same_bool false false f g = refl
 
-is_true : (b : Bool) → (b ≡ false → ⊥) → b ≡ true
-is_true true h = refl
-is_true false h = absurd (h refl)
-
 -- a header of the page is one of its number
 numbered : (p : Page) (packet : Packet) → heads_page p.id packet ≡ true → heads_matched (AnySub p.id.mag p.id.page) packet ≡ true
-numbered p (Header id control text) h = and_left ((p.id.mag == id.mag) && (p.id.page == id.page)) (p.id.sub == id.sub) h
+numbered p (Header id control text) h = (and_parts ((p.id.mag == id.mag) && (p.id.page == id.page)) (p.id.sub == id.sub) h).0
 numbered p Empty h = h
 numbered p Unreadable h = h
 numbered p (Row mag number text) h = h
@@ -54,7 +47,7 @@ same_after p lines m Other e = refl
 
 module _ (s : Stream) (pages : List Page) (p : Page) (alone : IsAlone pages p) (none : Never (OtherSubpageAt s pages p)) (lines : ℕ) where
   same_heads : (j : ℤ) → heads_matched (AnySub p.id.mag p.id.page) (packet_of (s j)) ≡ heads_page p.id (packet_of (s j))
-  same_heads j = same_bool _ _ (λ number. is_true _ (λ other. none j (record { alone = alone; number = number; other = other }))) (numbered p (packet_of (s j)))
+  same_heads j = same_bool _ _ (λ number. true_from_ne_false _ (λ other. none j (record { alone = alone; number = number; other = other }))) (numbered p (packet_of (s j)))
 
   same_run : (m : Memory) (tau : ℤ) (n : ℕ) → plain_from lines (AnySub p.id.mag p.id.page) m s tau n ≡ plain_from lines (Exact p.id) m s tau n
   unfolding plain_from

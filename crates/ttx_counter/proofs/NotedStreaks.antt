@@ -9,7 +9,7 @@ use Rattle.ttx_counter.specs.Streaks.{streak_to}
 use Rattle.ttx_counter.specs.Cells.{is_text, streak_of, cell_at, running, AreCounted, IsStreakReached, TellsSlot, IsCell, AreStreaks, IsBroken}
 use Rattle.ttx_counter.specs.Cells.{StreaksAfter}
 use Rattle.ttx_counter.specs.declared.streaks.Streak.{Streak}
-use Rattle.ttx_counter.proofs.Streaking.{cases_bool, no_both}
+use Rattle.ttx_counter.proofs.StreaksBelowK.{cases_bool, no_both}
 
 abbrev pub byte_at : List ℕ → ℕ → ℕ
 byte_at keys i = byte_in (key_at keys i)

@@ -7,19 +7,19 @@ use Rattle.std.proofs.Math.Seq.{take-append_seam, drop-append_seam}
 use Rattle.std.proofs.lemmas.Bool.Decides.{nat_tests}
 use Rattle.std.proofs.lemmas.List.{length-append}
 use Rattle.std.proofs.lemmas.Slice.Eq.{bytes_eq-Decides}
+use Rattle.std.proofs.lemmas.Bool.{and_from, cond_both}
 use Rattle.ttx_header.specs.Ids.{Id, id_at}
 use Rattle.ttx_links.specs.Sets.{IsTarget, IsLink, AreLinks}
 use Rattle.ttx_page.specs.Pages.{IsRow}
 use Rattle.ttx_page.specs.Memories.{Memory, memory_at}
 use Rattle.ttx_counter.specs.Counters.{Hit, CounterRun}
-use Rattle.ttx_counter.specs.CounterTexts.{bit, bits, link_numbers, links_numbers, hits_numbers, counter_text}
+use Rattle.ttx_counter.specs.CounterTexts.{yes_as_one, bits, target_numbers, links_numbers, hits_numbers, counter_text}
 use Rattle.ttx_counter.specs.CounterReading.{at_most, is_one, characters_in, read_rows, is_target, read_link, read_links, hit_of, hits_in, memory_in}
 use Rattle.ttx_counter.specs.CounterReading.{choices_in, hits_after, numbers_behind, counter_in, line_numbers, judged, IsHitFields, IsCounterFields}
 use Rattle.ttx_counter.specs.CounterReading.{AcceptedCounterTextsAreWritten, WrittenCounterTextsAreRead}
-use Rattle.ttx_counter.proofs.Between.{if_ind}
 use Rattle.ttx_counter.proofs.ReadNumbers.{AreSmall, EachSmall, joined, numbers_of, whole, if_true}
 
-one : (b : Bool) → is_one (bit b) ≡ b
+one : (b : Bool) → is_one (yes_as_one b) ≡ b
 one true = refl
 one false = refl
 
@@ -76,10 +76,6 @@ not_it : (a : Bool) → a ≡ false → not a ≡ true
 not_it true h = sym h
 not_it false h = refl
 
-and_both : (a b : Bool) → a ≡ true → b ≡ true → (a && b) ≡ true
-and_both true b h k = k
-and_both false b h k = h
-
 target : (id : Id) → IsTarget id → is_target id.mag id.page id.sub ≡ true
 target id is =
     let r = is.ranges in
@@ -88,16 +84,16 @@ target id is =
     let page : nat_lt id.page 256 ≡ true = (let h = r.page in grind (arith, nat_tests)) in
     let top : nat_lt id.sub 16384 ≡ true = (let h = r.sub.top in grind (arith, nat_tests)) in
     let mask : (id.sub / 128 % 2 == 0) ≡ true = (let h = r.sub.gap in grind (arith, nat_tests)) in
-    and_both _ _ (and_both _ _ (and_both _ _ (and_both _ _ (and_both _ _ low high) page) top) mask) (not_it _ is.link)
+    and_from _ _ (and_from _ _ (and_from _ _ (and_from _ _ (and_from _ _ low high) page) top) mask) (not_it _ is.link)
 
 abbrev first_link : List ℕ → Option Id
 first_link ns = read_link (slice_index ns 0) (slice_index ns 1) (slice_index ns 2)
 
-link : (l : Option Id) (rest : List ℕ) → IsLink l → first_link (link_numbers l ++ rest) ≡ l
+link : (l : Option Id) (rest : List ℕ) → IsLink l → first_link (target_numbers l ++ rest) ≡ l
 link None rest is = refl
 link (Some id) rest is = if_true (is_target id.mag id.page id.sub) (Some (id_at id.mag id.page id.sub)) None (target id is)
 
-drop_link : (l : Option Id) (rest : List ℕ) → drop 3 (link_numbers l ++ rest) ≡ rest
+drop_link : (l : Option Id) (rest : List ℕ) → drop 3 (target_numbers l ++ rest) ≡ rest
 drop_link None rest = refl
 drop_link (Some id) rest = refl
 
@@ -105,19 +101,19 @@ links : (six : List (Option Id)) (rest : List ℕ) → AreLinks six → read_lin
 unfolding read_links
 links [] rest are = refl
 links (l ∷ six) rest are =
-    ap (λ ns. first_link ns ∷ read_links (length six) (drop 3 ns)) (append_assoc (link_numbers l) (links_numbers six) rest)
-    ∙ ap (λ x. x ∷ read_links (length six) (drop 3 (link_numbers l ++ (links_numbers six ++ rest)))) (link l (links_numbers six ++ rest) are.0)
+    ap (λ ns. first_link ns ∷ read_links (length six) (drop 3 ns)) (append_assoc (target_numbers l) (links_numbers six) rest)
+    ∙ ap (λ x. x ∷ read_links (length six) (drop 3 (target_numbers l ++ (links_numbers six ++ rest)))) (link l (links_numbers six ++ rest) are.0)
     ∙ ap (λ ns. l ∷ read_links (length six) ns) (drop_link l (links_numbers six ++ rest)) ∙ ap (λ x. l ∷ x) (links six rest are.1)
 
-link_length : (l : Option Id) → length (link_numbers l) ≡ 3
+link_length : (l : Option Id) → length (target_numbers l) ≡ 3
 link_length None = refl
 link_length (Some id) = refl
 
 links_length : (six : List (Option Id)) → length (links_numbers six) ≡ 3 * length six
 links_length [] = refl
-links_length (l ∷ six) = length-append (link_numbers l) (links_numbers six) ∙ omega (arith, link_length l, links_length six)
+links_length (l ∷ six) = length-append (target_numbers l) (links_numbers six) ∙ omega (arith, link_length l, links_length six)
 
-link_small : (l : Option Id) (ns : List ℕ) → IsLink l → AreSmall ns → AreSmall (link_numbers l ++ ns)
+link_small : (l : Option Id) (ns : List ℕ) → IsLink l → AreSmall ns → AreSmall (target_numbers l ++ ns)
 link_small None ns is small = (omega arith, (omega arith, (omega arith, small)))
 link_small (Some id) ns is small =
     let r = is.ranges in let a = r.mag_to in let b = r.page in let c = r.sub.top in (omega arith, (omega arith, (omega arith, small)))
@@ -149,7 +145,7 @@ one_hit : (h : Hit) → IsHitFields h → hit_of h.index h.byte h.bit ≡ h
 one_hit h is =
     let b : at_most 255 h.byte ≡ h.byte = (let l = is.1 in omega arith) in
     let c : at_most 255 h.bit ≡ h.bit = (let l = is.2 in omega arith) in
-    λ i. record { index = h.index; byte = b i; bit = c i }
+    λ i. record { index = h.index; byte = b i; yes_as_one = c i }
 
 hits : (hs : List Hit) (rest : List ℕ) → AreHits hs → hits_in (length hs) (hits_numbers hs ++ rest) ≡ hs
 unfolding hits_in
@@ -256,6 +252,6 @@ ok_is a x y e = cc
 pub accepted_is_written : AcceptedCounterTextsAreWritten
 accepted_is_written bytes c read =
     let d = counter_in (line_numbers bytes) in
-    if_ind (λ r. r ≡ Ok c → bytes ≡ counter_text c) (bytes_eq (counter_text d) bytes) (Ok d) (Err _)
+    cond_both (bytes_eq (counter_text d) bytes) (Ok d) (Err _) (λ r. r ≡ Ok c → bytes ≡ counter_text c)
     (λ same h. sym ((bytes_eq-Decides (counter_text d) bytes).0 same) ∙ ap counter_text (let k : d ≡ c = cc in k))
     (λ _ h. absurd (let k : Err _ ≡ Ok c = h in cc)) read

@@ -6,7 +6,7 @@ use Rattle.std.proofs.lemmas.Bool.Decides.{nat_tests}
 use Rattle.std.proofs.lemmas.Fmt.{decimal_by_steps}
 use Rattle.ttx_page.specs.Memories.{Memory}
 use Rattle.ttx_counter.specs.Counters.{Hit, CounterRun}
-use Rattle.ttx_counter.specs.CounterTexts.{numbers_text, line_text, bit, bits, links_numbers, hits_numbers, row_lines, state_text, links_lines}
+use Rattle.ttx_counter.specs.CounterTexts.{numbers_text, line_text, yes_as_one, bits, links_numbers, hits_numbers, row_lines, state_text, links_lines}
 use Rattle.ttx_counter.specs.CounterTexts.{memory_text, choices_text, hits_text, title, head_lines, tuning_text, counter_text}
 use Rattle.ttx_counter.specs.CounterReading.{is_digit, at_most, digit_after, closed, numbers_after, line_numbers}
 
@@ -84,51 +84,51 @@ head c rest l r d =
     (line (codes "repeat") (c.repeat ∷ []) (line_text (codes "deadline") (c.deadline ∷ []) ++ rest) (λ t. refl) (omega arith, tt)
     ∙ ap (λ xs. c.repeat ∷ xs) (line (codes "deadline") (c.deadline ∷ []) rest (λ t. refl) (d, tt))))
 
-bit_small : (b : Bool) → bit b < 2 ^ 32
+bit_small : (b : Bool) → yes_as_one b < 2 ^ 32
 bit_small true = omega arith
 bit_small false = omega arith
 
-tuning : (c : CounterRun) (rest : List ℕ) → c.page < 2 ^ 32 → c.start < 2 ^ 32 → c.slots < 2 ^ 32 → line_numbers (tuning_text c ++ rest) ≡ c.page ∷ bit c.any_sub ∷ c.start ∷ c.slots ∷ line_numbers rest
+tuning : (c : CounterRun) (rest : List ℕ) → c.page < 2 ^ 32 → c.start < 2 ^ 32 → c.slots < 2 ^ 32 → line_numbers (tuning_text c ++ rest) ≡ c.page ∷ yes_as_one c.any_sub ∷ c.start ∷ c.slots ∷ line_numbers rest
 unfolding tuning_text numbers_after
 tuning c rest p s n =
     let la = line_text (codes "page") (c.page ∷ []) in
-    let lb = line_text (codes "any-subpage") (bit c.any_sub ∷ []) in
+    let lb = line_text (codes "any-subpage") (yes_as_one c.any_sub ∷ []) in
     let lc = line_text (codes "start") (c.start ∷ []) in
     let ld = line_text (codes "slots") (c.slots ∷ []) in
     ap line_numbers (four la lb lc ld rest)
     ∙ line (codes "page") (c.page ∷ []) (lb ++ (lc ++ (ld ++ rest))) (λ t. refl) (p, tt)
     ∙ ap (λ xs. c.page ∷ xs)
-    (line (codes "any-subpage") (bit c.any_sub ∷ []) (lc ++ (ld ++ rest)) (λ t. refl) (bit_small c.any_sub, tt)
-    ∙ ap (λ xs. bit c.any_sub ∷ xs)
+    (line (codes "any-subpage") (yes_as_one c.any_sub ∷ []) (lc ++ (ld ++ rest)) (λ t. refl) (bit_small c.any_sub, tt)
+    ∙ ap (λ xs. yes_as_one c.any_sub ∷ xs)
     (line (codes "start") (c.start ∷ []) (ld ++ rest) (λ t. refl) (s, tt) ∙ ap (λ xs. c.start ∷ xs) (line (codes "slots") (c.slots ∷ []) rest (λ t. refl) (n, tt))))
 
-state : (m : Memory) (rest : List ℕ) → m.control < 2048 → m.age ≤ 64 → line_numbers (state_text m ++ rest) ≡ m.control ∷ bit m.storing ∷ m.age ∷ bit m.fresh ∷ line_numbers rest
+state : (m : Memory) (rest : List ℕ) → m.control < 2048 → m.age ≤ 64 → line_numbers (state_text m ++ rest) ≡ m.control ∷ yes_as_one m.storing ∷ m.age ∷ yes_as_one m.fresh ∷ line_numbers rest
 unfolding state_text numbers_after
 state m rest c a =
     let la = line_text (codes "control") (m.control ∷ []) in
-    let lb = line_text (codes "storing") (bit m.storing ∷ []) in
+    let lb = line_text (codes "storing") (yes_as_one m.storing ∷ []) in
     let lc = line_text (codes "age") (m.age ∷ []) in
-    let ld = line_text (codes "fresh") (bit m.fresh ∷ []) in
+    let ld = line_text (codes "fresh") (yes_as_one m.fresh ∷ []) in
     ap line_numbers (four la lb lc ld rest)
     ∙ line (codes "control") (m.control ∷ []) (lb ++ (lc ++ (ld ++ rest))) (λ t. refl) (omega arith, tt)
     ∙ ap (λ xs. m.control ∷ xs)
-    (line (codes "storing") (bit m.storing ∷ []) (lc ++ (ld ++ rest)) (λ t. refl) (bit_small m.storing, tt)
-    ∙ ap (λ xs. bit m.storing ∷ xs)
-    (line (codes "age") (m.age ∷ []) (ld ++ rest) (λ t. refl) (omega arith, tt) ∙ ap (λ xs. m.age ∷ xs) (line (codes "fresh") (bit m.fresh ∷ []) rest (λ t. refl) (bit_small m.fresh, tt))))
+    (line (codes "storing") (yes_as_one m.storing ∷ []) (lc ++ (ld ++ rest)) (λ t. refl) (bit_small m.storing, tt)
+    ∙ ap (λ xs. yes_as_one m.storing ∷ xs)
+    (line (codes "age") (m.age ∷ []) (ld ++ rest) (λ t. refl) (omega arith, tt) ∙ ap (λ xs. m.age ∷ xs) (line (codes "fresh") (yes_as_one m.fresh ∷ []) rest (λ t. refl) (bit_small m.fresh, tt))))
 
 -- the word `row-24` holds a number
-row_24 : (m : Memory) (rest : List ℕ) → line_numbers (line_text (codes "row-24") (bit m.links.show24 ∷ []) ++ rest) ≡ 24 ∷ bit m.links.show24 ∷ line_numbers rest
+row_24 : (m : Memory) (rest : List ℕ) → line_numbers (line_text (codes "row-24") (yes_as_one m.links.show24 ∷ []) ++ rest) ≡ 24 ∷ yes_as_one m.links.show24 ∷ line_numbers rest
 unfolding numbers_after
 row_24 m rest =
-    ap line_numbers (append_assoc (codes "row-24" ++ numbers_text (bit m.links.show24 ∷ [])) (10 ∷ []) rest ∙ append_assoc (codes "row-24") (numbers_text (bit m.links.show24 ∷ [])) (10 ∷ rest))
-    ∙ ap (λ xs. 24 ∷ xs) (numbers (bit m.links.show24 ∷ []) rest (bit_small m.links.show24, tt))
+    ap line_numbers (append_assoc (codes "row-24" ++ numbers_text (yes_as_one m.links.show24 ∷ [])) (10 ∷ []) rest ∙ append_assoc (codes "row-24") (numbers_text (yes_as_one m.links.show24 ∷ [])) (10 ∷ rest))
+    ∙ ap (λ xs. 24 ∷ xs) (numbers (yes_as_one m.links.show24 ∷ []) rest (bit_small m.links.show24, tt))
 
-links : (m : Memory) (rest : List ℕ) → AreSmall (links_numbers m.links.six) → line_numbers (links_lines m ++ rest) ≡ 24 ∷ bit m.links.show24 ∷ (links_numbers m.links.six ++ line_numbers rest)
+links : (m : Memory) (rest : List ℕ) → AreSmall (links_numbers m.links.six) → line_numbers (links_lines m ++ rest) ≡ 24 ∷ yes_as_one m.links.show24 ∷ (links_numbers m.links.six ++ line_numbers rest)
 unfolding links_lines numbers_after
 links m rest small =
-    ap line_numbers (append_assoc (line_text (codes "row-24") (bit m.links.show24 ∷ [])) (line_text (codes "links") (links_numbers m.links.six)) rest)
+    ap line_numbers (append_assoc (line_text (codes "row-24") (yes_as_one m.links.show24 ∷ [])) (line_text (codes "links") (links_numbers m.links.six)) rest)
     ∙ row_24 m (line_text (codes "links") (links_numbers m.links.six) ++ rest)
-    ∙ ap (λ xs. 24 ∷ bit m.links.show24 ∷ xs) (line (codes "links") (links_numbers m.links.six) rest (λ t. refl) small)
+    ∙ ap (λ xs. 24 ∷ yes_as_one m.links.show24 ∷ xs) (line (codes "links") (links_numbers m.links.six) rest (λ t. refl) small)
 
 -- rows one after another
 abbrev pub joined : List (List ℕ) → List ℕ
@@ -170,7 +170,7 @@ hits hs rest few small = line (codes "hits") (length hs ∷ hits_numbers hs) res
 -- what the numbers of a counter-run's text are
 abbrev pub numbers_of : CounterRun → List ℕ
 numbers_of c =
-    1 ∷ c.lines ∷ c.repeat ∷ c.deadline ∷ c.page ∷ bit c.any_sub ∷ c.start ∷ c.slots ∷ c.former.control ∷ bit c.former.storing ∷ c.former.age ∷ bit c.former.fresh ∷ 24 ∷ bit c.former.links.show24
+    1 ∷ c.lines ∷ c.repeat ∷ c.deadline ∷ c.page ∷ yes_as_one c.any_sub ∷ c.start ∷ c.slots ∷ c.former.control ∷ yes_as_one c.former.storing ∷ c.former.age ∷ yes_as_one c.former.fresh ∷ 24 ∷ yes_as_one c.former.links.show24
     ∷ (links_numbers c.former.links.six ++ (joined c.former.rows ++ (length c.choices ∷ (bits c.choices ++ (length c.hits ∷ (hits_numbers c.hits ++ []))))))
 
 pub record AreAllSmall (c : CounterRun) : Type 0 where
@@ -197,20 +197,20 @@ whole c is =
     ap line_numbers (four (head_lines c) (tuning_text c) (memory_text c.former) (choices_text c.choices) (hits_text c.hits))
     ∙ head c _ is.lines is.repeat is.deadline
     ∙ ap (λ xs. 1 ∷ c.lines ∷ c.repeat ∷ c.deadline ∷ xs) (tuning c _ is.page is.start is.slots)
-    ∙ ap (λ xs. 1 ∷ c.lines ∷ c.repeat ∷ c.deadline ∷ c.page ∷ bit c.any_sub ∷ c.start ∷ c.slots ∷ xs) (memory ∙ ap before behind)
+    ∙ ap (λ xs. 1 ∷ c.lines ∷ c.repeat ∷ c.deadline ∷ c.page ∷ yes_as_one c.any_sub ∷ c.start ∷ c.slots ∷ xs) (memory ∙ ap before behind)
   where
     tail : List ℕ
     tail = choices_text c.choices ++ hits_text c.hits
 
     before : List ℕ → List ℕ
-    before xs = c.former.control ∷ bit c.former.storing ∷ c.former.age ∷ bit c.former.fresh ∷ 24 ∷ bit c.former.links.show24 ∷ (links_numbers c.former.links.six ++ (joined c.former.rows ++ xs))
+    before xs = c.former.control ∷ yes_as_one c.former.storing ∷ c.former.age ∷ yes_as_one c.former.fresh ∷ 24 ∷ yes_as_one c.former.links.show24 ∷ (links_numbers c.former.links.six ++ (joined c.former.rows ++ xs))
 
     memory : line_numbers (memory_text c.former ++ tail) ≡ before (line_numbers tail)
     memory =
         ap line_numbers (append_assoc (state_text c.former ++ links_lines c.former) (row_lines c.former.rows) tail ∙ append_assoc (state_text c.former) (links_lines c.former) (row_lines c.former.rows ++ tail))
         ∙ state c.former _ is.control is.age
-        ∙ ap (λ xs. c.former.control ∷ bit c.former.storing ∷ c.former.age ∷ bit c.former.fresh ∷ xs)
-        (links c.former _ is.links ∙ ap (λ xs. 24 ∷ bit c.former.links.show24 ∷ (links_numbers c.former.links.six ++ xs)) (rows c.former.rows tail is.rows))
+        ∙ ap (λ xs. c.former.control ∷ yes_as_one c.former.storing ∷ c.former.age ∷ yes_as_one c.former.fresh ∷ xs)
+        (links c.former _ is.links ∙ ap (λ xs. 24 ∷ yes_as_one c.former.links.show24 ∷ (links_numbers c.former.links.six ++ xs)) (rows c.former.rows tail is.rows))
 
     hits_only : line_numbers (hits_text c.hits) ≡ length c.hits ∷ (hits_numbers c.hits ++ [])
     hits_only = sym (ap line_numbers (append-nil (hits_text c.hits))) ∙ hits c.hits [] is.hits is.places ∙ ap (λ xs. length c.hits ∷ (hits_numbers c.hits ++ xs)) nothing

@@ -11,7 +11,6 @@
 --   SeenExactlyWhereAccepted        where no reason 1 to 7 is true: all pages are seen exactly where some certificate is accepted
 --   AllSeen, FoundIsLeastSeen       so the deadline that is found is the least for which all pages are seen
 use Rattle.std.specs.Prelude.{◌≡◌, ◌⊎◌, ◌↔◌, ℕ, ◌-◌, ◌<◌, ◌≤◌, ℤ, pos, ◌+ℤ◌, true, List, [], length, slice_get, slice_index_or, Option, Some, None}
-use Rattle.ttx_packet.specs.Slots.{is_clean}
 use Rattle.ttx_page.specs.Pages.{Page, IsPage, needed}
 use Rattle.ttx_page.specs.declared.selection.Selection.{Selection}
 use Rattle.ttx_page.specs.declared.item.Item.{Item}
@@ -27,6 +26,7 @@ use Rattle.ttx_witness.specs.Coverage.{Certificate, IsCertificate, limit, IsCove
 use Rattle.ttx_witness.specs.finding.Finding.{IsSentUnchanged, CanBeAccepted, IsLeastDeadline}
 use Rattle.ttx_certify.specs.Seen.{HasView, Seen}
 use Rattle.ttx_certify.specs.Laws.{ArePages}
+use Rattle.ttx_certify.specs.Verdicts.{IsClean}
 use Rattle.ttx_counter.specs.Counters.{IsCounterRun}
 use Rattle.ttx_counter.specs.StarvingRuns.{starving_run}
 use Rattle.ttx_counter.specs.Starving.{NamesAll, Starves, HasCounter, fullest, IsCoveredByOne}
@@ -65,9 +65,6 @@ abbrev pub StarvedIsUnseen : Type 0
 StarvedIsUnseen = (s : Stream) (p : Page) (sel : Selection) (lines repeat : ℕ) (item : Item) (tau : ℤ) (n : ℕ) (former m : Memory) (received : List
     (List ℕ)) →
     IsPage p → needed p item ≡ true → IsStarved s p sel lines repeat item tau n former m received → HasView p m → ⊥
-
-abbrev pub IsClean : List (List ℕ) → Type 0
-IsClean cycle = (n : ℕ) → n < length cycle → is_clean (slice_index_or cycle n []) ≡ true
 
 abbrev pub StarvedHasCounter : Type 0
 StarvedHasCounter = (cycle : List (List ℕ)) (pages : List Page) (p : Page) (w : Certificate) → IsCycle cycle → IsPage p → IsCertificate w →

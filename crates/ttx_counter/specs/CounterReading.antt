@@ -117,12 +117,12 @@ line_of n [] own = n
 line_of n (x ∷ text) [] = n
 line_of n (x ∷ text) (y ∷ own) = if x == y then line_of (if x == 10 then n + 1 else n) text own else n
 
-abbrev pub fault_of : ℕ → CounterFault
-fault_of line = if line == 1 then Title else Line line
+abbrev pub fault_in_line : ℕ → CounterFault
+fault_in_line line = if line == 1 then Title else Line line
 
 -- the counter-run that a text is, by the counter-run that its numbers say
 abbrev pub judged : List ℕ → CounterRun → Result CounterRun CounterFault
-judged bytes c = if bytes_eq (counter_text c) bytes then Ok c else Err (fault_of (line_of 1 bytes (counter_text c)))
+judged bytes c = if bytes_eq (counter_text c) bytes then Ok c else Err (fault_in_line (line_of 1 bytes (counter_text c)))
 
 abbrev pub read_counter_text : List ℕ → Result CounterRun CounterFault
 read_counter_text bytes = judged bytes (counter_in (line_numbers bytes))

@@ -1,6 +1,6 @@
 -- Counter-runs: a reception within every rule after which a receiver hasn't the page's View (profile).
 --
---   CounterRun, run_of      what a counter-run says, and that of a `Counter`
+--   CounterRun, counter_run_of      what a counter-run says, and that of a `Counter`
 --   selection_for           what the receiver is set to
 --   flipped                 a byte with one bit wrong
 --   IsHitIn, IsHitList      what is received of a slot, and of slots of a stream, where bits are hit
@@ -36,8 +36,8 @@ pub record CounterRun : Type 0 where
   pub repeat : ℕ
   pub deadline : ℕ
 
-abbrev pub run_of : Counter → CounterRun
-run_of c = record {
+abbrev pub counter_run_of : Counter → CounterRun
+counter_run_of c = record {
   page = c.page;
   any_sub = c.any_sub;
   start = c.start;

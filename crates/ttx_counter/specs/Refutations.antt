@@ -27,7 +27,8 @@ use Rattle.ttx_witness.specs.declared.faults.reason.Reason.TheVariants.{NoWitnes
 use Rattle.ttx_counter.specs.Counters.{CounterRun, IsCounterRun}
 use Rattle.ttx_counter.specs.Sources.{IsPlainlyRight}
 use Rattle.ttx_counter.specs.Starving.{fullest, IsCoveredByOne}
-use Rattle.ttx_counter.specs.Completeness.{IsClean, StarvesFrom}
+use Rattle.ttx_certify.specs.Verdicts.{IsClean}
+use Rattle.ttx_counter.specs.Completeness.{StarvesFrom}
 
 abbrev pub TellsStart : List (List ℕ) → Page → Certificate → Item → Option ℕ → Type 0
 TellsStart cycle p w item None = IsCovered cycle p (fullest cycle w) item

@@ -1,7 +1,7 @@
 -- The rule of k for bits that are hit, and what is known while the slots of a run pass.
 --
 --   IsCursor                the keys of earlier slots stand before a place, all others from it on
---   sent_from               whether a slot sends a row of the page
+--   sends_row               whether a slot sends a row of the page
 --   KeepsRule               of any k successive transmissions of a text byte inside the run one isn't hit
 use Rattle.std.specs.Prelude.{◌≡◌, ℕ, ◌<◌, ◌≤◌, ℤ, pos, Bool, List, length}
 use Rattle.std.specs.List.{AllByRecursion}
@@ -19,8 +19,8 @@ pub record IsCursor (keys : List ℕ) (n at : ℕ) : Type 0 where
   pub before : (i : ℕ) → i < at → slot_in (key_at keys i) < n
   pub after : (i : ℕ) → at ≤ i → i < length keys → n ≤ slot_in (key_at keys i)
 
-abbrev pub sent_from : Id → Stream → ℤ → Bool → ℕ → ℕ → Bool
-sent_from page s tau mine r n = is_row r (row_from page s tau mine n)
+abbrev pub sends_row : Id → Stream → ℤ → Bool → ℕ → ℕ → Bool
+sends_row page s tau mine r n = is_row r (row_from page s tau mine n)
 
 abbrev pub KeepsRule : Stream → Id → ℕ → ℕ → ℕ → List ℕ → Type 0
 KeepsRule s page start slots k keys =

@@ -10,7 +10,7 @@ ghost use Rattle.ttx_certify.specs.Seen.{HasView};
 ghost use Rattle.ttx_render.specs.Comparison.{SameButClock};
 ghost use Rattle.ttx_render.specs.View.{view_of};
 ghost use Rattle.ttx_cycle.specs.Cycles.{slots_of};
-ghost use Rattle.ttx_counter.specs.Counters.{run_of, selection_for, AreCertificateNumbers, IsHit, IsCounterRun};
+ghost use Rattle.ttx_counter.specs.Counters.{counter_run_of, selection_for, AreCertificateNumbers, IsHit, IsCounterRun};
 ghost use Rattle.ttx_counter.specs.Keys.{key_at, hit_key, AreHitOnce, IsKey};
 ghost use Rattle.ttx_counter.specs.Checking.{IsInRange, IsJudgedWithin, IsRefuting};
 
@@ -91,7 +91,7 @@ fn are_hits(cycle: &Cycle, start: u32, count: u32, hits: &[Hit]) -> bool
 fn is_in_range(cycle: &Cycle, pages: &[Page], index: usize, counter: &Counter) -> bool
     requires { index < length pages.now }
     ensures { (p : definitions.Page) → slice_get (map page_of pages.now) index ≡ Some p →
-        IsTrue result ↔ IsInRange (slots_of cycle.now) (map page_of pages.now) p (run_of counter.now) }
+        IsTrue result ↔ IsInRange (slots_of cycle.now) (map page_of pages.now) p (counter_run_of counter.now) }
 {
     let selection = selection_for(counter.any_sub, pages[index].id());
     selection.fits(pages, index)
@@ -122,11 +122,11 @@ fn ends_wrong(
     counter: &Counter,
     keys: &[u64],
 ) -> Result<bool, NoMemory>
-    requires some { 1 ≤ (run_of counter.now).repeat }
+    requires some { 1 ≤ (counter_run_of counter.now).repeat }
     requires sorted { IsNonDecreasing keys.now }
     requires apart { AreHitOnce keys.now }
     requires keys { (i : ℕ) → i < length keys.now → IsKey (key_at keys.now i) }
-    ensures { IfOk result (IsJudgedWithin (repeated (slots_of cycle.now)) keys.now (page_of page.now) (run_of counter.now)) }
+    ensures { IfOk result (IsJudgedWithin (repeated (slots_of cycle.now)) keys.now (page_of page.now) (counter_run_of counter.now)) }
 {
     let run = Run {
         cycle,
@@ -148,11 +148,11 @@ fn check_keys(
     counter: &Counter,
     keys: &[u64],
 ) -> Result<bool, NoMemory>
-    requires all { All (IsHit (repeated (slots_of cycle.now)) (run_of counter.now).start (run_of counter.now).slots) (run_of counter.now).hits }
-    requires some { 1 ≤ (run_of counter.now).repeat }
-    requires same { IsPermutation (map hit_key (run_of counter.now).hits) keys.now }
+    requires all { All (IsHit (repeated (slots_of cycle.now)) (counter_run_of counter.now).start (counter_run_of counter.now).slots) (counter_run_of counter.now).hits }
+    requires some { 1 ≤ (counter_run_of counter.now).repeat }
+    requires same { IsPermutation (map hit_key (counter_run_of counter.now).hits) keys.now }
     requires sorted { IsNonDecreasing keys.now }
-    ensures { IfOk result (λ b. IsTrue b ↔ IsRefuting (slots_of cycle.now) (page_of page.now) (run_of counter.now)) }
+    ensures { IfOk result (λ b. IsTrue b ↔ IsRefuting (slots_of cycle.now) (page_of page.now) (counter_run_of counter.now)) }
 {
     ttx_code::laws::each_byte_is_near_itself();
     ttx_page::laws::each_slot_turns();
@@ -169,9 +169,9 @@ fn check_hits(
     page: &Page,
     counter: &Counter,
 ) -> Result<bool, NoMemory>
-    requires all { All (IsHit (repeated (slots_of cycle.now)) (run_of counter.now).start (run_of counter.now).slots) (run_of counter.now).hits }
-    requires some { 1 ≤ (run_of counter.now).repeat }
-    ensures { IfOk result (λ b. IsTrue b ↔ IsRefuting (slots_of cycle.now) (page_of page.now) (run_of counter.now)) }
+    requires all { All (IsHit (repeated (slots_of cycle.now)) (counter_run_of counter.now).start (counter_run_of counter.now).slots) (counter_run_of counter.now).hits }
+    requires some { 1 ≤ (counter_run_of counter.now).repeat }
+    ensures { IfOk result (λ b. IsTrue b ↔ IsRefuting (slots_of cycle.now) (page_of page.now) (counter_run_of counter.now)) }
 {
     let keys = sorted_keys(alloc, &counter.hits)?;
     check_keys(alloc, cycle, page, counter, &keys)
@@ -185,7 +185,7 @@ pub fn check_counter(
     pages: &[Page],
     counter: &Counter,
 ) -> Result<bool, NoMemory>
-    ensures { IfOk result (λ b. IsTrue b ↔ IsCounterRun (slots_of cycle.now) (map page_of pages.now) (run_of counter.now)) }
+    ensures { IfOk result (λ b. IsTrue b ↔ IsCounterRun (slots_of cycle.now) (map page_of pages.now) (counter_run_of counter.now)) }
 {
     ttx_page::laws::memories_keep_their_rules();
     let index = counter.page as usize;

@@ -5,11 +5,11 @@ ghost use Rattle.std.specs.Prelude.{OnOk};
 ghost use Rattle.ttx_header.specs.Ids.{id_at};
 ghost use Rattle.ttx_page.specs.Memories.{memory_at};
 ghost use Rattle.ttx_page.specs.Views.{memory_of};
-ghost use Rattle.ttx_counter.specs.Counters.{run_of};
+ghost use Rattle.ttx_counter.specs.Counters.{counter_run_of};
 ghost use Rattle.ttx_counter.specs.CounterReading.{at_most, characters_in, read_rows, is_target, read_link, read_links, is_one, hit_of, hits_in};
-ghost use Rattle.ttx_counter.specs.CounterReading.{memory_in, choices_in, hits_after, counter_in, line_of, fault_of, read_counter_text};
+ghost use Rattle.ttx_counter.specs.CounterReading.{memory_in, choices_in, hits_after, counter_in, line_of, fault_in_line, read_counter_text};
 ghost use Rattle.ttx_counter.specs.CounterReading as rule;
-ghost use Rattle.ttx_counter.specs.ReadingAnswers.{outcome, IsUnlessMemory};
+ghost use Rattle.ttx_counter.specs.ReadingAnswers.{counter_outcome, IsCounterUnlessMemory};
 
 use crate::counter::{Counter, Hit};
 use crate::counter_faults::CounterFault;
@@ -193,7 +193,7 @@ fn hits_in(alloc: Global, numbers: &[u32], count: u32) -> Result<Vec<Hit>, NoMem
 
 // The counter-run that the numbers of a text say.
 fn counter_in(alloc: Global, numbers: &[u32]) -> Result<Counter, NoMemory>
-    ensures { IfOk result (λ c. run_of c ≡ counter_in numbers.now) }
+    ensures { IfOk result (λ c. counter_run_of c ≡ counter_in numbers.now) }
 {
     let behind = after_first(after_first(after_first(numbers, 14), 18), 1000);
     let count = number_at(behind, 0);
@@ -242,8 +242,8 @@ fn line_of(text: &[u8], own: &[u8]) -> usize
     line
 }
 
-fn fault_of(line: usize) -> CounterFault
-    ensures { result ≡ fault_of line }
+fn fault_in_line(line: usize) -> CounterFault
+    ensures { result ≡ fault_in_line line }
 {
     if line == 1 {
         CounterFault::Title
@@ -254,14 +254,14 @@ fn fault_of(line: usize) -> CounterFault
 
 // The counter-run of the text, where it is that one's.
 fn judged(alloc: Global, bytes: &[u8], counter: Counter) -> Result<Counter, CounterFault>
-    ensures { IsUnlessMemory result (outcome run_of result ≡ rule.judged bytes.now (run_of counter)) }
+    ensures { IsCounterUnlessMemory result (counter_outcome counter_run_of result ≡ rule.judged bytes.now (counter_run_of counter)) }
 {
     match write_counter(alloc, &counter) {
         Ok(text) => {
             if text.as_slice() == bytes {
                 Ok(counter)
             } else {
-                Err(fault_of(line_of(bytes, text.as_slice())))
+                Err(fault_in_line(line_of(bytes, text.as_slice())))
             }
         }
         Err(_) => Err(CounterFault::NoMemory),
@@ -271,7 +271,7 @@ fn judged(alloc: Global, bytes: &[u8], counter: Counter) -> Result<Counter, Coun
 /// The counter-run that a text is. Else the first line that is another than in the text of the counter-run that its numbers say.
 /// Memory for the numbers, and for that text.
 pub fn read_counter(alloc: Global, bytes: &[u8]) -> Result<Counter, CounterFault>
-    ensures { IsUnlessMemory result (outcome run_of result ≡ read_counter_text bytes.now) }
+    ensures { IsCounterUnlessMemory result (counter_outcome counter_run_of result ≡ read_counter_text bytes.now) }
 {
     let Ok(numbers) = line_numbers(alloc, bytes) else {
         return Err(CounterFault::NoMemory);

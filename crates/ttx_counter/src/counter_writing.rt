@@ -2,8 +2,8 @@
 
 ghost use Rattle.std.specs.Prelude.{◌≡◌, ◌∷◌, ◌++◌, [], OnOk, IfOk, string_bytes, codes, length};
 ghost use Rattle.ttx_page.specs.Views.{memory_of};
-ghost use Rattle.ttx_counter.specs.Counters.{run_of};
-ghost use Rattle.ttx_counter.specs.CounterTexts.{numbers_text, line_text, bit, bits, link_numbers, links_numbers, hits_numbers, row_lines};
+ghost use Rattle.ttx_counter.specs.Counters.{counter_run_of};
+ghost use Rattle.ttx_counter.specs.CounterTexts.{numbers_text, line_text, yes_as_one, bits, target_numbers, links_numbers, hits_numbers, row_lines};
 ghost use Rattle.ttx_counter.specs.CounterTexts.{state_text, links_lines, memory_text, choices_text, hits_text, title, head_lines, tuning_text};
 ghost use Rattle.ttx_counter.specs.CounterTexts.{counter_text};
 
@@ -22,8 +22,8 @@ fn push_number(text: &mut String, word: &str, number: u32) -> Result<(), AllocEr
 }
 
 // 1 for yes.
-fn bit(yes: bool) -> u32
-    ensures { result ≡ bit yes }
+fn yes_as_one(yes: bool) -> u32
+    ensures { result ≡ yes_as_one yes }
 {
     if yes { 1 } else { 0 }
 }
@@ -37,7 +37,7 @@ fn push_next(text: &mut String, number: u32) -> Result<(), AllocError>
 
 // Adds the numbers of a link.
 fn push_link(text: &mut String, link: Option<Target>) -> Result<(), AllocError>
-    ensures { OnOk result (string_bytes text.new ≡ string_bytes text.old ++ numbers_text (link_numbers link)) }
+    ensures { OnOk result (string_bytes text.new ≡ string_bytes text.old ++ numbers_text (target_numbers link)) }
 {
     match link {
         Some(target) => {
@@ -98,9 +98,9 @@ fn push_state(text: &mut String, memory: &PageMemory) -> Result<(), AllocError>
     ensures { OnOk result (string_bytes text.new ≡ string_bytes text.old ++ state_text (memory_of memory.now)) }
 {
     push_number(text, "control", u32::from(memory.control().0))?;
-    push_number(text, "storing", bit(memory.storing()))?;
+    push_number(text, "storing", yes_as_one(memory.storing()))?;
     push_number(text, "age", u32::from(memory.age()))?;
-    push_number(text, "fresh", bit(memory.fresh()))
+    push_number(text, "fresh", yes_as_one(memory.fresh()))
 }
 
 // Adds the lines of its links.
@@ -108,7 +108,7 @@ fn push_state(text: &mut String, memory: &PageMemory) -> Result<(), AllocError>
 fn push_link_lines(text: &mut String, memory: &PageMemory) -> Result<(), AllocError>
     ensures { OnOk result (string_bytes text.new ≡ string_bytes text.old ++ links_lines (memory_of memory.now)) }
 {
-    push_number(text, "row-24", bit(memory.show24()))?;
+    push_number(text, "row-24", yes_as_one(memory.show24()))?;
     text.push_str("links")?;
     push_links(text, memory.links())?;
     text.push('\n')
@@ -128,7 +128,7 @@ fn push_bits(text: &mut String, choices: &[bool]) -> Result<(), AllocError>
     ensures { OnOk result (string_bytes text.new ≡ string_bytes text.old ++ numbers_text (bits choices.now)) }
 {
     for choice in choices {
-        push_next(text, bit(*choice))?;
+        push_next(text, yes_as_one(*choice))?;
     }
     Ok(())
 }
@@ -182,7 +182,7 @@ fn push_title(text: &mut String) -> Result<(), AllocError>
 // Adds the first line and those of the certificate's numbers.
 #[tactic(auto, unfolding(crate::specs::CounterTexts::head_lines))]
 fn push_head(text: &mut String, counter: &Counter) -> Result<(), AllocError>
-    ensures { OnOk result (string_bytes text.new ≡ string_bytes text.old ++ head_lines (run_of counter.now)) }
+    ensures { OnOk result (string_bytes text.new ≡ string_bytes text.old ++ head_lines (counter_run_of counter.now)) }
 {
     push_title(text)?;
     push_number(text, "lines", u32::from(counter.lines))?;
@@ -193,17 +193,17 @@ fn push_head(text: &mut String, counter: &Counter) -> Result<(), AllocError>
 // Adds the lines of the page, the selection and the slots.
 #[tactic(auto, unfolding(crate::specs::CounterTexts::tuning_text))]
 fn push_tuning(text: &mut String, counter: &Counter) -> Result<(), AllocError>
-    ensures { OnOk result (string_bytes text.new ≡ string_bytes text.old ++ tuning_text (run_of counter.now)) }
+    ensures { OnOk result (string_bytes text.new ≡ string_bytes text.old ++ tuning_text (counter_run_of counter.now)) }
 {
     push_number(text, "page", counter.page)?;
-    push_number(text, "any-subpage", bit(counter.any_sub))?;
+    push_number(text, "any-subpage", yes_as_one(counter.any_sub))?;
     push_number(text, "start", counter.start)?;
     push_number(text, "slots", counter.slots)
 }
 
 // The whole text.
 fn text_of(alloc: Global, counter: &Counter) -> Result<String, AllocError>
-    ensures { IfOk result (λ text. string_bytes text ≡ counter_text (run_of counter.now)) }
+    ensures { IfOk result (λ text. string_bytes text ≡ counter_text (counter_run_of counter.now)) }
 {
     let mut text = String::new(alloc);
     push_head(&mut text, counter)?;
@@ -216,7 +216,7 @@ fn text_of(alloc: Global, counter: &Counter) -> Result<String, AllocError>
 
 /// The text of a counter-run. Only a refused growth is an error.
 pub fn write_counter(alloc: Global, counter: &Counter) -> Result<Vec<u8>, NoMemory>
-    ensures { IfOk result (λ text. text.items ≡ counter_text (run_of counter.now)) }
+    ensures { IfOk result (λ text. text.items ≡ counter_text (counter_run_of counter.now)) }
 {
     match text_of(alloc, counter) {
         Ok(text) => Ok(text.into_bytes()),

@@ -7,7 +7,7 @@ ghost use Rattle.ttx_page.specs.Streams.{repeated};
 ghost use Rattle.ttx_page.specs.Views.{page_of, memory_of};
 ghost use Rattle.ttx_cycle.specs.Cycles.{slots_of};
 ghost use Rattle.ttx_witness.specs.Certificates.{certificate_of};
-ghost use Rattle.ttx_counter.specs.Counters.{run_of};
+ghost use Rattle.ttx_counter.specs.Counters.{counter_run_of};
 ghost use Rattle.ttx_counter.specs.Magazines.{magazine_of};
 ghost use Rattle.ttx_counter.specs.Refutations.{TellsPlainly};
 ghost use Rattle.ttx_counter.specs.Sources.{plain_counter};
@@ -34,7 +34,7 @@ pub struct PlainRun {
 
 /// The counter-run that a plain run is, with the numbers of the certificate.
 pub fn plain_counter(alloc: Global, run: PlainRun, certificate: &Certificate) -> Counter
-    ensures { run_of result ≡ plain_counter run.page run.any_sub (memory_of run.former)
+    ensures { counter_run_of result ≡ plain_counter run.page run.any_sub (memory_of run.former)
         (certificate_of certificate.now).lines (certificate_of certificate.now).repeat (certificate_of certificate.now).deadline run.slots }
 {
     Counter {
@@ -64,7 +64,7 @@ pub fn refute_plainly(
     requires magazines { claim.now.magazines.now ≡ map magazine_of (slots_of claim.now.cycle.now) }
     requires steady { IsTrue steady → (p : definitions.Page) → slice_get (map page_of claim.now.pages.now) index ≡ Some p →
         Steady (repeated (slots_of claim.now.cycle.now)) (map page_of claim.now.pages.now) p }
-    ensures { TellsPlainly run_of (slots_of claim.now.cycle.now) (map page_of claim.now.pages.now) index any_sub
+    ensures { TellsPlainly counter_run_of (slots_of claim.now.cycle.now) (map page_of claim.now.pages.now) index any_sub
         (certificate_of claim.now.certificate.now) result }
 {
     crate::laws::plain_runs_are_counter_runs();

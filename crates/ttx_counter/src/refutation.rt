@@ -17,8 +17,8 @@ ghost use Rattle.ttx_witness.specs.sent.Collected.{ids_of, IsItem};
 ghost use Rattle.ttx_witness.specs.Coverage as coverage;
 ghost use Rattle.ttx_witness.specs.finding.Finding.{CanBeAccepted, IsSentUnchanged};
 ghost use Rattle.ttx_witness.specs.faults.OtherSubpages.{AreOtherSubpages};
-ghost use Rattle.ttx_counter.specs.Completeness.{IsClean};
-ghost use Rattle.ttx_counter.specs.Counters.{run_of};
+ghost use Rattle.ttx_certify.specs.Verdicts.{IsClean};
+ghost use Rattle.ttx_counter.specs.Counters.{counter_run_of};
 ghost use Rattle.ttx_counter.specs.Magazines.{magazine_of};
 ghost use Rattle.ttx_counter.specs.Refutations.{is_absent, IsCounterTo, ArePrepared, TellsNeeded, TellsCovered, TellsPage, TellsPages};
 ghost use Rattle.ttx_counter.specs.Refutations.{TellsAllPlainly, TellsPlainly, TellsCounter};
@@ -47,7 +47,7 @@ fn is_absent(fault: Option<Reason>) -> bool
 
 // A counter-run of a page that has no header: a link that isn't the page's stays.
 fn absent_counter(alloc: Global, page: &Page, index: u32, certificate: &Certificate) -> Counter
-    ensures run { run_of result ≡ plain_counter index false (wrong_memory (page_of page.now) items.Links) (certificate_of certificate.now).lines
+    ensures run { counter_run_of result ≡ plain_counter index false (wrong_memory (page_of page.now) items.Links) (certificate_of certificate.now).lines
         (certificate_of certificate.now).repeat (certificate_of certificate.now).deadline (coverage.limit (certificate_of certificate.now)) }
     ensures former { IsMemory (wrong_memory (page_of page.now) items.Links) }
 {
@@ -96,7 +96,7 @@ fn starved_counter(
     requires starved { (p : definitions.Page) → slice_get (map page_of claim.now.pages.now) index ≡ Some p →
         TellsNeeded (slots_of claim.now.cycle.now) p (certificate_of claim.now.certificate.now) item.now (Some start) }
     ensures { IfOk result (λ c. IsCounterTo (slots_of claim.now.cycle.now) (map page_of claim.now.pages.now)
-        (certificate_of claim.now.certificate.now) (run_of c)) }
+        (certificate_of claim.now.certificate.now) (counter_run_of c)) }
 {
     crate::completeness::starving_is_counter_run();
     ttx_page::laws::pages_keep_their_rules();
@@ -125,7 +125,7 @@ fn starve_page(
     requires steady { (p : definitions.Page) → slice_get (map page_of claim.now.pages.now) index ≡ Some p →
         Steady (repeated (slots_of claim.now.cycle.now)) (map page_of claim.now.pages.now) p }
     ensures { IfOk result (λ c. (p : definitions.Page) → slice_get (map page_of claim.now.pages.now) index ≡ Some p →
-        TellsCovered run_of (slots_of claim.now.cycle.now) (map page_of claim.now.pages.now) p (certificate_of claim.now.certificate.now) c) }
+        TellsCovered counter_run_of (slots_of claim.now.cycle.now) (map page_of claim.now.pages.now) p (certificate_of claim.now.certificate.now) c) }
 {
     for number in 0..26u8 {
         let item = item_of(number);
@@ -151,7 +151,7 @@ fn refute_page(
     requires others { AreOtherSubpages (slots_of claim.now.cycle.now) (map page_of claim.now.pages.now) prepared.now.others.now }
     requires clean { IsTrue prepared.now.clean ↔ IsClean (slots_of claim.now.cycle.now) }
     ensures { IfOk result (λ c. (p : definitions.Page) → slice_get (map page_of claim.now.pages.now) index ≡ Some p →
-        TellsPage run_of (slots_of claim.now.cycle.now) (map page_of claim.now.pages.now) p (certificate_of claim.now.certificate.now) c) }
+        TellsPage counter_run_of (slots_of claim.now.cycle.now) (map page_of claim.now.pages.now) p (certificate_of claim.now.certificate.now) c) }
 {
     crate::completeness::fullest_names_all();
     crate::laws::absent_pages_are_wrong();
@@ -188,7 +188,7 @@ fn refute_pages(
         (certificate_of prepared.now.found.now) prepared.now.collected.now }
     requires others { AreOtherSubpages (slots_of claim.now.cycle.now) (map page_of claim.now.pages.now) prepared.now.others.now }
     requires clean { IsTrue prepared.now.clean ↔ IsClean (slots_of claim.now.cycle.now) }
-    ensures { IfOk result (TellsPages run_of (slots_of claim.now.cycle.now) (map page_of claim.now.pages.now)
+    ensures { IfOk result (TellsPages counter_run_of (slots_of claim.now.cycle.now) (map page_of claim.now.pages.now)
         (certificate_of claim.now.certificate.now)) }
 {
     for index in 0..claim.pages.len() as u32 {
@@ -238,7 +238,7 @@ fn refute_by_number(
     requires magazines { claim.now.magazines.now ≡ map magazine_of (slots_of claim.now.cycle.now) }
     requires exactly { IsPlainlyRight (slots_of claim.now.cycle.now) (map page_of claim.now.pages.now) index false
         (certificate_of claim.now.certificate.now).lines (coverage.limit (certificate_of claim.now.certificate.now)) }
-    ensures { TellsPlainly run_of (slots_of claim.now.cycle.now) (map page_of claim.now.pages.now) index true
+    ensures { TellsPlainly counter_run_of (slots_of claim.now.cycle.now) (map page_of claim.now.pages.now) index true
         (certificate_of claim.now.certificate.now) result }
 {
     let page = page_at(claim.pages, index);
@@ -255,7 +255,7 @@ fn refute_all_plainly(alloc: Global, claim: &Claim<'_>, prepared: &Prepared<'_>)
         prepared.now.collected.now }
     requires others { AreOtherSubpages (slots_of claim.now.cycle.now) (map page_of claim.now.pages.now) prepared.now.others.now }
     requires magazines { claim.now.magazines.now ≡ map magazine_of (slots_of claim.now.cycle.now) }
-    ensures { TellsAllPlainly run_of (slots_of claim.now.cycle.now) (map page_of claim.now.pages.now) (certificate_of claim.now.certificate.now)
+    ensures { TellsAllPlainly counter_run_of (slots_of claim.now.cycle.now) (map page_of claim.now.pages.now) (certificate_of claim.now.certificate.now)
         result }
 {
     for index in 0..claim.pages.len() as u32 {
@@ -284,7 +284,7 @@ pub fn refute(
 ) -> Result<Option<Counter>, NoMemory>
     requires any { (certificate_of certificate.now).class ≡ Any }
     requires distinct { AllPairs (λ a b. a ≢ b) (ids_of pages.now) }
-    ensures tells { IfOk result (TellsCounter run_of (slots_of cycle.now) (map page_of pages.now) (certificate_of certificate.now)) }
+    ensures tells { IfOk result (TellsCounter counter_run_of (slots_of cycle.now) (map page_of pages.now) (certificate_of certificate.now)) }
     ensures exact { IfOk result (λ c. IsSentUnchanged (slots_of cycle.now) (map page_of pages.now) →
         (is_some c ≡ true) ↔ (CanBeAccepted (slots_of cycle.now) (map page_of pages.now) Any (certificate_of certificate.now).lines
         (certificate_of certificate.now).repeat (certificate_of certificate.now).deadline → ⊥)) }

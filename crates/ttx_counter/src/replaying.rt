@@ -5,7 +5,7 @@ ghost use Rattle.std.specs.List.Sorted.{IsNonDecreasing};
 ghost use Rattle.ttx_page.specs.Streams.{repeated};
 ghost use Rattle.ttx_page.specs.Views.{page_of, memory_of};
 ghost use Rattle.ttx_cycle.specs.Cycles.{slots_of};
-ghost use Rattle.ttx_counter.specs.Counters.{run_of};
+ghost use Rattle.ttx_counter.specs.Counters.{counter_run_of};
 ghost use Rattle.ttx_counter.specs.Keys.{key_at, AreHitOnce, IsKey};
 ghost use Rattle.ttx_counter.specs.Replaying.{IsLeft, TellsReplayed};
 
@@ -25,7 +25,7 @@ fn memory_after(cycle: &Cycle, page: &Page, counter: &Counter, keys: &[u64]) -> 
     requires sorted { IsNonDecreasing keys.now }
     requires apart { AreHitOnce keys.now }
     requires keys { (i : ℕ) → i < length keys.now → IsKey (key_at keys.now i) }
-    ensures { IsLeft (repeated (slots_of cycle.now)) keys.now (page_of page.now) (run_of counter.now) (memory_of result) }
+    ensures { IsLeft (repeated (slots_of cycle.now)) keys.now (page_of page.now) (counter_run_of counter.now) (memory_of result) }
 {
     let selection = selection_for(counter.any_sub, page.id());
     let mut receiver = Scripted::new(selection, counter.lines, counter.former, &counter.choices);
@@ -48,7 +48,7 @@ pub fn replay(
     pages: &[Page],
     counter: &Counter,
 ) -> Result<Option<PageMemory>, NoMemory>
-    ensures { IfOk result (TellsReplayed memory_of (slots_of cycle.now) (map page_of pages.now) (run_of counter.now)) }
+    ensures { IfOk result (TellsReplayed memory_of (slots_of cycle.now) (map page_of pages.now) (counter_run_of counter.now)) }
 {
     ttx_page::laws::each_slot_turns();
     let is = check_counter(alloc, cycle, pages, counter)?;

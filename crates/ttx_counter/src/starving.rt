@@ -6,7 +6,7 @@ ghost use Rattle.ttx_page.specs.Views.{page_of, memory_of};
 ghost use Rattle.ttx_receiver.specs.Starving.{starved_hits, starved_choices};
 ghost use Rattle.ttx_cycle.specs.Cycles.{slots_of};
 ghost use Rattle.ttx_witness.specs.Certificates.{certificate_of};
-ghost use Rattle.ttx_counter.specs.Counters.{run_of};
+ghost use Rattle.ttx_counter.specs.Counters.{counter_run_of};
 ghost use Rattle.ttx_counter.specs.StarvingRuns.{hit_at, starving_run};
 
 use crate::counter::{Counter, Hit};
@@ -106,7 +106,7 @@ pub fn counter_for(
     starved: &StarvedPage<'_>,
     certificate: &Certificate,
 ) -> Result<Counter, NoMemory>
-    ensures { IfOk result (λ c. run_of c ≡ starving_run (slots_of cycle.now) starved.now.index (page_of starved.now.page.now) starved.now.item.now
+    ensures { IfOk result (λ c. counter_run_of c ≡ starving_run (slots_of cycle.now) starved.now.index (page_of starved.now.page.now) starved.now.item.now
         starved.now.start
         (certificate_of certificate.now).lines (certificate_of certificate.now).repeat (certificate_of certificate.now).deadline) }
 {

@@ -3,6 +3,7 @@ use Rattle.std.proofs.Common.{◌≡◌, ℕ, zero, suc, ◌<◌, Bool, true, fa
 use Rattle.std.proofs.Common.{inr, arith, eqb-true, eq-eqb}
 use Rattle.std.specs.List.{Contains}
 use Rattle.std.proofs.lemmas.Option.{get_or_from_slice_get, slice_get_within}
+use Rattle.std.proofs.lemmas.Bool.{and_parts}
 use Rattle.ttx_header.specs.Ids.{Id, same_id}
 use Rattle.ttx_header.specs.Fields.{HeaderFields}
 use Rattle.ttx_page.specs.Packets.{Packet}
@@ -10,20 +11,12 @@ use Rattle.ttx_witness.specs.sent.Collected.{Finds}
 use Rattle.ttx_witness.specs.faults.Comparing.{HoldsHeader}
 use Rattle.ttx_extract.specs.Extracts.{IsOfPages}
 
-and_left : (a b : Bool) → (a && b) ≡ true → a ≡ true
-and_left true b e = refl
-and_left false b e = e
-
-and_right : (a b : Bool) → (a && b) ≡ true → b ≡ true
-and_right true b e = e
-and_right false b e = absurd (let h : false ≡ true = e in cc)
-
 same_one : (a b : Id) → same_id a b ≡ true → a ≡ b
 same_one a b e =
-    let front : (eqb a.mag b.mag && eqb a.page b.page) ≡ true = and_left _ _ e in
-    let mag : a.mag ≡ b.mag = eqb-true a.mag b.mag (and_left _ _ front) in
-    let page : a.page ≡ b.page = eqb-true a.page b.page (and_right _ _ front) in
-    let sub : a.sub ≡ b.sub = eqb-true a.sub b.sub (and_right _ _ e) in
+    let front : (eqb a.mag b.mag && eqb a.page b.page) ≡ true = (and_parts _ _ e).0 in
+    let mag : a.mag ≡ b.mag = eqb-true a.mag b.mag ((and_parts _ _ front).0) in
+    let page : a.page ≡ b.page = eqb-true a.page b.page ((and_parts _ _ front).1) in
+    let sub : a.sub ≡ b.sub = eqb-true a.sub b.sub ((and_parts _ _ e).1) in
     λ i. record { mag = mag i; page = page i; sub = sub i }
 
 here_is : (xs : List Id) (i : ℕ) → i < length xs → (id : Id) × (slice_get xs i ≡ Some id)

@@ -1,7 +1,7 @@
 //! The service text of a cycle.
 
 ghost use Rattle.std.specs.Prelude.{◌≡◌, ◌≤◌, ℕ, IsTrue, IfSome, IfOk, IfErr, MatchOption, MatchResult, length, option_map, string_bytes};
-ghost use Rattle.ttx_certify.specs.CertifyingFiles.{most_bytes};
+ghost use Rattle.ttx_cycle.specs.Bounded.{most_bytes};
 ghost use Rattle.ttx_cycle.specs.Cycles.{slots_of};
 ghost use Rattle.ttx_source.specs.Services.{ids_of, pages_of};
 ghost use Rattle.ttx_witness.specs.sent.AllSent.{AreAllSent};
@@ -16,13 +16,10 @@ use crate::gathering::gather;
 use crate::infos::{FoundInfo, first_info, same_info};
 use crate::service_texts::service_text;
 use std::alloc::Global;
-use ttx_cycle::Cycle;
+use ttx_cycle::{Cycle, MOST_BYTES};
 use ttx_info::Info;
 use ttx_source::{Service, read_service};
 use ttx_witness::{Collected, NoMemory, OtherSubpages, collect, index_of};
-
-// The most bytes of a text.
-const MOST_BYTES: usize = 4_194_304;
 
 /// A text, and the service that it says.
 #[derive(Drop)]

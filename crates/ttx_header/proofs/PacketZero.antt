@@ -2,14 +2,11 @@
 use Rattle.std.proofs.Common.{◌≡◌, ℕ, ◌==◌, ◌&&◌, Bool, true, false, if◌then◌else◌, List, Option, Some, None, is_some, nat_le, refl, sym, ap, subst}
 use Rattle.std.proofs.Common.{◌∙◌, slice_index, slice_range}
 use Rattle.std.specs.Prelude.{unwrap_or}
+use Rattle.std.proofs.lemmas.Bool.{cond_both}
 use Rattle.ttx_code.specs.Words.{reading}
 use Rattle.ttx_packet.specs.Slots.{Kind, IsEmpty, IsUnreadable, IsHeader, IsRow, IsLinks, IsInfo, IsOther, is_empty, are_readable, magazine}
 use Rattle.ttx_packet.specs.Slots.{packet_number, links_kind, packet_kind, addressed_kind, kind_of, read_number}
 use Rattle.ttx_header.proofs.Slices.{some_of}
-
-if_ind : {A : Type 0} (P : A → Type 0) (b : Bool) (x y : A) → (b ≡ true → P x) → (b ≡ false → P y) → P (if b then x else y)
-if_ind P true x y f g = f refl
-if_ind P false x y f g = g refl
 
 -- the magazine of a header, and 0 for all else
 abbrev header_mag : Kind → ℕ
@@ -34,17 +31,17 @@ pub record HeaderCase (s : List ℕ) (mag : ℕ) : Type 0 where
 
 links_is_none : (mag : ℕ) (o : Option ℕ) → IsOne (links_kind mag o) → ⊥
 links_is_none mag None e = e
-links_is_none mag (Some d) e = if_ind (λ k. IsOne k → ⊥) (d == 0) (IsLinks mag) (IsOther mag 27) (λ _ f. f) (λ _ f. f) e
+links_is_none mag (Some d) e = cond_both (d == 0) (IsLinks mag) (IsOther mag 27) (λ k. IsOne k → ⊥) (λ _ f. f) (λ _ f. f) e
 
 by_number : (s : List ℕ) (m number mag : ℕ) → packet_kind s m number ≡ IsHeader mag → ((number == 0) ≡ true) × (are_readable (slice_range s 2 10) ≡ true) × (m ≡ mag)
 unfolding packet_kind
 by_number s m number mag =
     let P : Kind → Type 0 = λ k. k ≡ IsHeader mag → ((number == 0) ≡ true) × (are_readable (slice_range s 2 10) ≡ true) × (m ≡ mag) in
-    if_ind P (number == 0) _ _
-    (λ zero. if_ind P (are_readable (slice_range s 2 10)) (IsHeader m) IsUnreadable (λ readable e. (zero, readable, ap header_mag e)) (λ _ e. absurd (is_one _ mag e)))
-    (λ _. if_ind P (nat_le number 24) (IsRow m number) _ (λ _ e. absurd (is_one _ mag e))
-    (λ _. if_ind P (number == 27) _ _ (λ _ e. absurd (links_is_none m (reading (slice_index s 2)) (is_one _ mag e)))
-    (λ _. if_ind P ((number == 30) && (m == 8)) IsInfo (IsOther m number) (λ _ e. absurd (is_one _ mag e)) (λ _ e. absurd (is_one _ mag e)))))
+    cond_both (number == 0) _ _ P
+    (λ zero. cond_both (are_readable (slice_range s 2 10)) (IsHeader m) IsUnreadable P (λ readable e. (zero, readable, ap header_mag e)) (λ _ e. absurd (is_one _ mag e)))
+    (λ _. cond_both (nat_le number 24) (IsRow m number) _ P (λ _ e. absurd (is_one _ mag e))
+    (λ _. cond_both (number == 27) _ _ P (λ _ e. absurd (links_is_none m (reading (slice_index s 2)) (is_one _ mag e)))
+    (λ _. cond_both ((number == 30) && (m == 8)) IsInfo (IsOther m number) P (λ _ e. absurd (is_one _ mag e)) (λ _ e. absurd (is_one _ mag e)))))
 
 by_address : (s : List ℕ) (mag : ℕ) → is_empty s ≡ false → (o p : Option ℕ) → reading (slice_index s 0) ≡ o → reading (slice_index s 1) ≡ p →
     addressed_kind s o p ≡ IsHeader mag → HeaderCase s mag
@@ -64,7 +61,7 @@ by_address s mag some (Some low) (Some high) e f k =
 pub header_case : (s : List ℕ) (mag : ℕ) → kind_of s ≡ IsHeader mag → HeaderCase s mag
 unfolding kind_of
 header_case s mag =
-    if_ind (λ k. k ≡ IsHeader mag → HeaderCase s mag) (is_empty s) IsEmpty _ (λ _ e. absurd (is_one _ mag e))
+    cond_both (is_empty s) IsEmpty _ (λ k. k ≡ IsHeader mag → HeaderCase s mag) (λ _ e. absurd (is_one _ mag e))
     (λ some. by_address s mag some (reading (slice_index s 0)) (reading (slice_index s 1)) refl refl)
 
 -- ---- the kind of a packet 0

@@ -11,7 +11,7 @@ use Rattle.ttx_packet.specs.Slots.{IsHeader, is_empty, is_clean, are_readable, a
 use Rattle.ttx_packet.specs.Laws.{AddressIsReadBack, IsReadBack}
 use Rattle.ttx_header.specs.Ids.{id_at}
 use Rattle.ttx_header.specs.Fields.{HeaderFields, IsHeaderFields}
-use Rattle.ttx_header.specs.Headers.{ReadsFrom, number, numbers_of, header_bytes, id_of, control_of, fields_of, is_header}
+use Rattle.ttx_header.specs.Headers.{ReadsFrom, number, numbers_of, header_bytes, id_of, control_of, header_fields_of, is_header}
 use Rattle.ttx_header.specs.Laws.{HeaderIsKept, HeadersHaveFields, HeadersAreHeaders, SaidHeadersAreRead, ReadHeadersAreSaid, WrittenHeadersAreRead}
 use Rattle.ttx_header.specs.Laws.{WordsAreKept, ReadableBytesHaveNumbers, AreNumbers, WrittenWordsAreRead}
 use Rattle.ttx_header.proofs.Slices.{length_range, some_of, passes_at, passes_in, read_bytes_are_readable}
@@ -209,7 +209,7 @@ module _ (numbers : ReadableBytesHaveNumbers) (kinds : HeadersAreHeaders) (range
       let (r7, l7) = at 7 (omega arith) in
       let (r8, l8) = at 8 (omega arith) in
       let (r9, l9) = at 9 (omega arith) in
-      let h = fields_of s in
+      let h = header_fields_of s in
       let e0 : number s 0 ≡ h.id.mag % 8 = sym (magazine_again (number s 0) (omega (arith, number_zero))) in
       let e1 : number s 1 ≡ 0 = omega (arith, number_zero) in
       let e2 : number s 2 ≡ h.id.page % 16 = omega (arith, l2) in

@@ -4,7 +4,7 @@
 --   ReadsFrom               the bytes from one place on read as these numbers
 --   numbers_of, Says        the numbers of bytes 0 to 9, and the header that 42 bytes say
 --   header_bytes            the bytes that are written for a header
---   id_of, control_of, fields_of            a header's fields as functions of its bytes
+--   id_of, control_of, header_fields_of            a header's fields as functions of its bytes
 --   is_header               a readable packet 0
 --   time_filling            a header of page FF, subcode 3F7F
 use Rattle.std.specs.Prelude.{◌≡◌, ℕ, ◌+◌, ◌*◌, ◌/◌, ◌%◌, List, [], ◌∷◌, ◌++◌, Bool, ◌==◌, ◌&&◌}
@@ -51,8 +51,8 @@ abbrev pub control_of : List ℕ → ℕ
 control_of s = number s 5 / 8 + 2 * (number s 7 / 4) + 8 * number s 8 + 128 * number s 9
 
 -- all fields
-abbrev pub fields_of : List ℕ → HeaderFields
-fields_of s = fields_at (id_of s) (control_of s) (slice_range s 10 34) (slice_range s 34 42)
+abbrev pub header_fields_of : List ℕ → HeaderFields
+header_fields_of s = fields_at (id_of s) (control_of s) (slice_range s 10 34) (slice_range s 34 42)
 
 -- bytes 0 to 9 are readable, and the packet number is 0
 abbrev pub is_header : List ℕ → Bool

@@ -14,7 +14,7 @@ use Rattle.ttx_code.specs.Words.{reading, hamming_word, Near}
 use Rattle.ttx_packet.specs.Slots.{IsSlot, IsHeader, kind_of, is_clean, are_readable, are_words}
 use Rattle.ttx_header.specs.Control.{IsControl}
 use Rattle.ttx_header.specs.Fields.{HeaderFields, IsHeaderFields}
-use Rattle.ttx_header.specs.Headers.{ReadsFrom, Says, number, id_of, control_of, fields_of, is_header, header_bytes}
+use Rattle.ttx_header.specs.Headers.{ReadsFrom, Says, number, id_of, control_of, header_fields_of, is_header, header_bytes}
 use Rattle.ttx_header.specs.Ids.{IsId}
 
 -- what is received of a clean page header, with at most one wrong bit in each of bytes 0 to 9, has its id and its control bits
@@ -40,11 +40,11 @@ HeadersAreHeaders = (s : List ℕ) → IsSlot s → is_header s ≡ true → kin
 
 -- 42 bytes that say a header are read as this header
 abbrev pub SaidHeadersAreRead : Type 0
-SaidHeadersAreRead = (h : HeaderFields) (s : List ℕ) → IsHeaderFields h → IsSlot s → Says h s → (is_header s ≡ true) × (fields_of s ≡ h)
+SaidHeadersAreRead = (h : HeaderFields) (s : List ℕ) → IsHeaderFields h → IsSlot s → Says h s → (is_header s ≡ true) × (header_fields_of s ≡ h)
 
 -- a readable packet 0 says the header that is read of it, and its fields are in range
 abbrev pub ReadHeadersAreSaid : Type 0
-ReadHeadersAreSaid = (s : List ℕ) → IsSlot s → is_header s ≡ true → IsHeaderFields (fields_of s) × Says (fields_of s) s
+ReadHeadersAreSaid = (s : List ℕ) → IsSlot s → is_header s ≡ true → IsHeaderFields (header_fields_of s) × Says (header_fields_of s) s
 
 -- what is written of a header is clean, has the kind header, says the header and is read as the same header
 pub record IsWritten (h : HeaderFields) : Type 0 where
@@ -52,7 +52,7 @@ pub record IsWritten (h : HeaderFields) : Type 0 where
   pub clean : is_clean (header_bytes h) ≡ true
   pub says : Says h (header_bytes h)
   pub header : is_header (header_bytes h) ≡ true
-  pub fields : fields_of (header_bytes h) ≡ h
+  pub fields : header_fields_of (header_bytes h) ≡ h
 
 abbrev pub WrittenHeadersAreRead : Type 0
 WrittenHeadersAreRead = (h : HeaderFields) → IsHeaderFields h → IsWritten h

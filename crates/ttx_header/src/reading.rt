@@ -1,7 +1,7 @@
 //! Reads page headers.
 
 ghost use Rattle.std.specs.Prelude.{◌≡◌, true, SomeIff, slice_range};
-ghost use Rattle.ttx_header.specs.Headers.{is_header, fields_of};
+ghost use Rattle.ttx_header.specs.Headers.{is_header, header_fields_of};
 
 use crate::control::Control;
 use crate::headers::Header;
@@ -27,7 +27,7 @@ fn clock_of(bytes: &[u8; 42]) -> [u8; 8]
 /// The header that the 42 bytes of a slot say (EN 300 706, 9.3.1). None where one of bytes 0 to 9 is unreadable, or
 /// the packet number isn't 0.
 pub fn read_header(bytes: &[u8; 42]) -> Option<Header>
-    ensures { SomeIff result (is_header bytes.now ≡ true) (fields_of bytes.now) }
+    ensures { SomeIff result (is_header bytes.now ≡ true) (header_fields_of bytes.now) }
 {
     let low = unham(bytes[0])?;
     let high = unham(bytes[1])?;

@@ -4,20 +4,20 @@ use Rattle.std.specs.List.{list_all}
 use Rattle.std.proofs.lemmas.Bool.{le-leb}
 use Rattle.ttx_code.specs.Words.{is_odd, odd_byte}
 use Rattle.ttx_code.specs.Laws.{OddBytesHoldTheirCodes}
-use Rattle.ttx_info.specs.Infos.{is_digit, value_of, half_byte, date_halves, time_halves}
+use Rattle.ttx_info.specs.Infos.{is_half_digit, value_of, half_byte, date_halves, time_halves}
 
 pub both : (a b : Bool) → a ≡ true → b ≡ true → (a && b) ≡ true
 both true b e f = f
 both false b e f = e
 
-half_is_digit : (n unit : ℕ) → is_digit (half_byte n unit) ≡ true
+half_is_digit : (n unit : ℕ) → is_half_digit (half_byte n unit) ≡ true
 half_is_digit n unit = both (nat_le 1 (half_byte n unit)) (nat_le (half_byte n unit) 10) (le-leb _ _ (omega arith)) (le-leb _ _ (omega arith))
 
-pub date_is_digits : (mjd : ℕ) → list_all is_digit (date_halves mjd) ≡ true
+pub date_is_digits : (mjd : ℕ) → list_all is_half_digit (date_halves mjd) ≡ true
 date_is_digits n =
     both _ _ (half_is_digit n 10000) (both _ _ (half_is_digit n 1000) (both _ _ (half_is_digit n 100) (both _ _ (half_is_digit n 10) (both _ _ (half_is_digit n 1) refl))))
 
-pub time_is_digits : (utc : ℕ) → list_all is_digit (time_halves utc) ≡ true
+pub time_is_digits : (utc : ℕ) → list_all is_half_digit (time_halves utc) ≡ true
 time_is_digits n = both _ _ (half_is_digit n 100000) (date_is_digits n)
 
 pub date_value : (mjd : ℕ) → mjd < 100000 → value_of (date_halves mjd) ≡ mjd

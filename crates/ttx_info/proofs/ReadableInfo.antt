@@ -12,7 +12,7 @@ use Rattle.ttx_packet.specs.Slots.{IsSlot, are_readable}
 use Rattle.ttx_header.specs.Headers.{number}
 use Rattle.ttx_links.specs.Laws.{ReadLinkIsSaid}
 use Rattle.ttx_links.specs.Sets.{IsLink}
-use Rattle.ttx_info.specs.Infos.{InfoFields, IsInfoFields, is_digit, value_of, date_digits, time_digits, date_halves, time_halves, info_fields}
+use Rattle.ttx_info.specs.Infos.{InfoFields, IsInfoFields, is_half_digit, value_of, date_digits, time_digits, date_halves, time_halves, info_fields}
 use Rattle.ttx_info.specs.Infos.{info_of, SaysInfo}
 use Rattle.ttx_info.specs.Laws.{ReadInfosAreSaid}
 use Rattle.ttx_info.specs.declared.faults.InfoFault.{InfoFault}
@@ -32,17 +32,17 @@ some_of (Some n) e = refl
 
 -- ---- digits
 
-digit : (half : ℕ) → is_digit half ≡ true → (1 ≤ half) × (half ≤ 10)
+digit : (half : ℕ) → is_half_digit half ≡ true → (1 ≤ half) × (half ≤ 10)
 digit half e = let parts = and_parts (nat_le 1 half) (nat_le half 10) e in (grind (arith, nat_tests, parts.0), grind (arith, nat_tests, parts.1))
 
-date_again : (a b c d e : ℕ) → list_all is_digit (a ∷ b ∷ c ∷ d ∷ e ∷ []) ≡ true →
+date_again : (a b c d e : ℕ) → list_all is_half_digit (a ∷ b ∷ c ∷ d ∷ e ∷ []) ≡ true →
     (value_of (a ∷ b ∷ c ∷ d ∷ e ∷ []) < 100000) × (a ∷ b ∷ c ∷ d ∷ e ∷ [] ≡ date_halves (value_of (a ∷ b ∷ c ∷ d ∷ e ∷ [])))
 date_again a b c d e h =
-    let p1 = and_parts (is_digit a) (list_all is_digit (b ∷ c ∷ d ∷ e ∷ [])) h in
-    let p2 = and_parts (is_digit b) (list_all is_digit (c ∷ d ∷ e ∷ [])) p1.1 in
-    let p3 = and_parts (is_digit c) (list_all is_digit (d ∷ e ∷ [])) p2.1 in
-    let p4 = and_parts (is_digit d) (list_all is_digit (e ∷ [])) p3.1 in
-    let p5 = and_parts (is_digit e) (list_all is_digit []) p4.1 in
+    let p1 = and_parts (is_half_digit a) (list_all is_half_digit (b ∷ c ∷ d ∷ e ∷ [])) h in
+    let p2 = and_parts (is_half_digit b) (list_all is_half_digit (c ∷ d ∷ e ∷ [])) p1.1 in
+    let p3 = and_parts (is_half_digit c) (list_all is_half_digit (d ∷ e ∷ [])) p2.1 in
+    let p4 = and_parts (is_half_digit d) (list_all is_half_digit (e ∷ [])) p3.1 in
+    let p5 = and_parts (is_half_digit e) (list_all is_half_digit []) p4.1 in
     let (a1, a2) = digit a p1.0 in
     let (b1, b2) = digit b p2.0 in
     let (c1, c2) = digit c p3.0 in
@@ -56,15 +56,15 @@ date_again a b c d e h =
     let ee : e ≡ n / 1 % 10 + 1 = omega (arith, a1, a2, b1, b2, c1, c2, d1, d2, e1, e2) in
     (omega (arith, a1, a2, b1, b2, c1, c2, d1, d2, e1, e2), λ i. ea i ∷ eb i ∷ ec i ∷ ed i ∷ ee i ∷ [])
 
-time_again : (a b c d e f : ℕ) → list_all is_digit (a ∷ b ∷ c ∷ d ∷ e ∷ f ∷ []) ≡ true →
+time_again : (a b c d e f : ℕ) → list_all is_half_digit (a ∷ b ∷ c ∷ d ∷ e ∷ f ∷ []) ≡ true →
     (value_of (a ∷ b ∷ c ∷ d ∷ e ∷ f ∷ []) < 1000000) × (a ∷ b ∷ c ∷ d ∷ e ∷ f ∷ [] ≡ time_halves (value_of (a ∷ b ∷ c ∷ d ∷ e ∷ f ∷ [])))
 time_again a b c d e f h =
-    let p1 = and_parts (is_digit a) (list_all is_digit (b ∷ c ∷ d ∷ e ∷ f ∷ [])) h in
-    let p2 = and_parts (is_digit b) (list_all is_digit (c ∷ d ∷ e ∷ f ∷ [])) p1.1 in
-    let p3 = and_parts (is_digit c) (list_all is_digit (d ∷ e ∷ f ∷ [])) p2.1 in
-    let p4 = and_parts (is_digit d) (list_all is_digit (e ∷ f ∷ [])) p3.1 in
-    let p5 = and_parts (is_digit e) (list_all is_digit (f ∷ [])) p4.1 in
-    let p6 = and_parts (is_digit f) (list_all is_digit []) p5.1 in
+    let p1 = and_parts (is_half_digit a) (list_all is_half_digit (b ∷ c ∷ d ∷ e ∷ f ∷ [])) h in
+    let p2 = and_parts (is_half_digit b) (list_all is_half_digit (c ∷ d ∷ e ∷ f ∷ [])) p1.1 in
+    let p3 = and_parts (is_half_digit c) (list_all is_half_digit (d ∷ e ∷ f ∷ [])) p2.1 in
+    let p4 = and_parts (is_half_digit d) (list_all is_half_digit (e ∷ f ∷ [])) p3.1 in
+    let p5 = and_parts (is_half_digit e) (list_all is_half_digit (f ∷ [])) p4.1 in
+    let p6 = and_parts (is_half_digit f) (list_all is_half_digit []) p5.1 in
     let (a1, a2) = digit a p1.0 in
     let (b1, b2) = digit b p2.0 in
     let (c1, c2) = digit c p3.0 in
@@ -119,7 +119,7 @@ length_range s a b l m = length-take-le (b - a) (drop a s) (omega (arith, length
 module _ (link : ReadLinkIsSaid) where
   -- the fields that are read, where no test leads to a fault
   said : (s : List ℕ) → IsSlot s → is_some (reading (slice_index s 2)) ≡ true → nat_lt 1 (number s 2) ≡ false → are_readable (slice_range s 3 9) ≡ true →
-      list_all is_digit (date_digits s) ≡ true → list_all is_digit (time_digits s) ≡ true → list_all is_odd (slice_range s 22 42) ≡ true →
+      list_all is_half_digit (date_digits s) ≡ true → list_all is_half_digit (time_digits s) ≡ true → list_all is_odd (slice_range s 22 42) ≡ true →
       IsInfoFields (info_fields s) × IsLink (info_fields s).initial × SaysInfo (info_fields s) s
   said s is first low linked date time odd =
       let (target, initial) = link 8 s 3 is (omega arith) linked in
@@ -159,7 +159,7 @@ module _ (link : ReadLinkIsSaid) where
       let (linked, e3) = passed _ _ _ f e2 in
       let (digits, e4) = passed _ _ _ f e3 in
       let (odd, e5) = passed _ _ _ f e4 in
-      let both = and_parts (list_all is_digit (date_digits s)) (list_all is_digit (time_digits s)) (turned _ digits) in
+      let both = and_parts (list_all is_half_digit (date_digits s)) (list_all is_half_digit (time_digits s)) (turned _ digits) in
       subst (λ g. IsInfoFields g × IsLink g.initial × SaysInfo g s) (ap (λ r. the r) e5) (said s is (turned _ first) low (turned _ linked) both.0 both.1 (turned _ odd))
     where
       the : Result InfoFields InfoFault → InfoFields

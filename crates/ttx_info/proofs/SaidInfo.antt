@@ -8,7 +8,7 @@ use Rattle.ttx_code.specs.Laws.{OddBytesHoldTheirCodes}
 use Rattle.ttx_header.specs.Headers.{number}
 use Rattle.ttx_links.specs.Sets.{IsLink}
 use Rattle.ttx_links.specs.Laws.{SaidLinkIsRead}
-use Rattle.ttx_info.specs.Infos.{InfoFields, IsInfoFields, info_at, is_digit, value_of, date_digits, time_digits, info_fields, info_of, SaysInfo}
+use Rattle.ttx_info.specs.Infos.{InfoFields, IsInfoFields, info_at, is_half_digit, value_of, date_digits, time_digits, info_fields, info_of, SaysInfo}
 use Rattle.ttx_info.proofs.Digits.{both, date_is_digits, time_is_digits, date_value, time_value, codes_of_bytes, bytes_are_odd}
 
 not_above_one : (n : ℕ) → n < 2 → nat_lt 1 n ≡ false
@@ -22,8 +22,8 @@ module _ (holds : OddBytesHoldTheirCodes) (link : SaidLinkIsRead) where
       let first : number s 2 ≡ f.designation = ap (λ o. unwrap_or o 0) says.designation in
       let second : is_some (reading (slice_index s 2)) ≡ true = ap is_some says.designation in
       let low : nat_lt 1 (number s 2) ≡ false = ap (nat_lt 1) first ∙ not_above_one f.designation is.range.designation in
-      let digits : (list_all is_digit (date_digits s) && list_all is_digit (time_digits s)) ≡ true =
-      both _ _ (ap (list_all is_digit) says.date ∙ date_is_digits f.mjd) (ap (list_all is_digit) says.time ∙ time_is_digits f.utc) in
+      let digits : (list_all is_half_digit (date_digits s) && list_all is_half_digit (time_digits s)) ≡ true =
+      both _ _ (ap (list_all is_half_digit) says.date ∙ date_is_digits f.mjd) (ap (list_all is_half_digit) says.time ∙ time_is_digits f.utc) in
       let odd : list_all is_odd (slice_range s 22 42) ≡ true = ap (list_all is_odd) says.text ∙ bytes_are_odd holds f.text is.range.text in
       let mjd : value_of (date_digits s) ≡ f.mjd = ap value_of says.date ∙ date_value f.mjd is.range.mjd in
       let utc : value_of (time_digits s) ≡ f.utc = ap value_of says.time ∙ time_value f.utc is.range.utc in

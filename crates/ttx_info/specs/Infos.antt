@@ -3,7 +3,7 @@
 --
 --   InfoFields, info_at     the fields, as contracts see an `Info`
 --   IsInfoRange, IsInfoFields       their ranges
---   digits_of, is_digit, value_of   the half bytes of date and time, each a digit plus one
+--   digits_of, is_half_digit, value_of   the half bytes of date and time, each a digit plus one
 --   info_fields, info_of      what the bytes of a packet say, or why they say nothing
 --   half_byte, offset_byte, date_bytes, time_bytes, info_bytes          the bytes that are written
 --   SaysInfo                    the packet that 42 bytes say
@@ -58,8 +58,8 @@ time_digits s =
     slice_index s 15 / 16 ∷ slice_index s 15 % 16 ∷ slice_index s 16 / 16 ∷ slice_index s 16 % 16 ∷ slice_index s 17 / 16 ∷ slice_index s 17 % 16 ∷ []
 
 -- a digit plus one: 1 to 10
-abbrev pub is_digit : ℕ → Bool
-is_digit half = nat_le 1 half && nat_le half 10
+abbrev pub is_half_digit : ℕ → Bool
+is_half_digit half = nat_le 1 half && nat_le half 10
 
 -- the number whose decimal digits follow those of n, each as a digit plus one
 abbrev pub followed_by : ℕ → List ℕ → ℕ
@@ -81,7 +81,7 @@ info_of s =
     if not (is_some (reading (slice_index s 2))) then Err Hamming
     else if nat_lt 1 (number s 2) then Err Designation
     else if not (are_readable (slice_range s 3 9)) then Err Hamming
-    else if not (list_all is_digit (date_digits s) && list_all is_digit (time_digits s)) then Err Digit
+    else if not (list_all is_half_digit (date_digits s) && list_all is_half_digit (time_digits s)) then Err Digit
     else if not (list_all is_odd (slice_range s 22 42)) then Err Parity
     else Ok (info_fields s)
 

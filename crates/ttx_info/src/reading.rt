@@ -3,7 +3,7 @@
 ghost use Rattle.std.specs.Prelude.{◌≡◌, ◌-◌, ◌<◌, ◌%◌, true, IfSome, SomeIff, slice_range, map};
 ghost use Rattle.std.specs.List.{list_all};
 ghost use Rattle.ttx_code.specs.Words.{is_odd};
-ghost use Rattle.ttx_info.specs.Infos.{is_digit, date_digits, time_digits, value_of, info_of};
+ghost use Rattle.ttx_info.specs.Infos.{is_half_digit, date_digits, time_digits, value_of, info_of};
 
 use crate::faults::InfoFault;
 use crate::fields::Info;
@@ -12,7 +12,7 @@ use ttx_links::read_link;
 
 // Whether each half byte is a digit plus one.
 fn are_digits(halves: &[u8]) -> bool
-    ensures { result ≡ list_all is_digit halves.now }
+    ensures { result ≡ list_all is_half_digit halves.now }
 {
     halves.iter().all(|half| 1 <= *half && *half <= 10)
 }
@@ -27,7 +27,7 @@ fn digit(half: u8) -> u32
 
 // The date. None where one of its half bytes is no digit plus one.
 fn date_of(bytes: &[u8; 42]) -> Option<u32>
-    ensures value { SomeIff result (list_all is_digit (date_digits bytes.now) ≡ true) (value_of (date_digits bytes.now)) }
+    ensures value { SomeIff result (list_all is_half_digit (date_digits bytes.now) ≡ true) (value_of (date_digits bytes.now)) }
     ensures range { IfSome result (λ mjd. mjd < 100000) }
 {
     let [a, b, c] = [bytes[12], bytes[13], bytes[14]];
@@ -40,7 +40,7 @@ fn date_of(bytes: &[u8; 42]) -> Option<u32>
 
 // The time. None where one of its half bytes is no digit plus one.
 fn time_of(bytes: &[u8; 42]) -> Option<u32>
-    ensures value { SomeIff result (list_all is_digit (time_digits bytes.now) ≡ true) (value_of (time_digits bytes.now)) }
+    ensures value { SomeIff result (list_all is_half_digit (time_digits bytes.now) ≡ true) (value_of (time_digits bytes.now)) }
     ensures range { IfSome result (λ utc. utc < 1000000) }
 {
     let [a, b, c] = [bytes[15], bytes[16], bytes[17]];

@@ -5,6 +5,7 @@ use Rattle.std.proofs.lemmas.Int.{ints}
 use Rattle.std.proofs.lemmas.List.{length-take-le}
 use Rattle.std.specs.Prelude.{slice_index}
 use Rattle.std.specs.List.{AllByRecursion}
+use Rattle.std.proofs.lemmas.Bool.{and_parts}
 use Rattle.ttx_packet.specs.Slots.{IsSlot, is_clean}
 use Rattle.ttx_packet.specs.Receptions.{MayBeReceivedAs}
 use Rattle.ttx_packet.specs.Laws.{KindIsKept}
@@ -19,23 +20,23 @@ use Rattle.ttx_page.specs.Receptions.{Received, IsRight, OneIs}
 use Rattle.ttx_late.specs.LateReceivers.{selected_number}
 use Rattle.ttx_page.specs.Followers.{heads_another, IsFollowedWithin}
 pub use Rattle.ttx_page.proofs.SlotDistances.{cases_ltz}
-use Rattle.ttx_late.proofs.Tests.{and_left, and_right, and_false_right, not-true, no_both}
+use Rattle.ttx_late.proofs.Tests.{and_false_right, not-true, no_both}
 use Rattle.ttx_late.proofs.KeptSlots.{SameTests, same_tests}
-use Rattle.ttx_late.proofs.Gathering.{IsAnother, Ends, AllEnd}
+use Rattle.ttx_late.proofs.GatheredMemories.{IsAnother, Ends, AllEnd}
 
 -- a selection that matches a page has its magazine and its number
 pub mag_is : (sel : Selection) (page : Id) → matches sel page ≡ true → selected_mag sel ≡ page.mag
-mag_is (Exact own) page h = eqb-true own.mag page.mag (and_left _ _ (and_left _ _ h))
-mag_is (AnySub mag number) page h = eqb-true mag page.mag (and_left _ _ h)
+mag_is (Exact own) page h = eqb-true own.mag page.mag ((and_parts _ _ (and_parts _ _ h).0).0)
+mag_is (AnySub mag number) page h = eqb-true mag page.mag ((and_parts _ _ h).0)
 
 pub number_is : (sel : Selection) (page : Id) → matches sel page ≡ true → selected_number sel ≡ page.page
-number_is (Exact own) page h = eqb-true own.page page.page (and_right (own.mag == page.mag) _ (and_left _ _ h))
-number_is (AnySub mag number) page h = eqb-true number page.page (and_right (mag == page.mag) _ h)
+number_is (Exact own) page h = eqb-true own.page page.page ((and_parts (own.mag == page.mag) _ (and_parts _ _ h).0).1)
+number_is (AnySub mag number) page h = eqb-true number page.page ((and_parts (mag == page.mag) _ h).1)
 
 another_is : (sel : Selection) (page : Id) → selected_mag sel ≡ page.mag → selected_number sel ≡ page.page → (pkt : Packet) → heads_another page pkt ≡ true → IsAnother sel pkt
 another_is sel page mag number (Header id control text) h = (
-  subst (λ m. (id.mag == m) ≡ true) (sym mag) (and_left (id.mag == page.mag) _ h),
-  and_false_right (id.mag == selected_mag sel) _ (subst (λ n. (id.page == n) ≡ false) (sym number) (not-true _ (and_right (id.mag == page.mag) _ h))),
+  subst (λ m. (id.mag == m) ≡ true) (sym mag) ((and_parts (id.mag == page.mag) _ h).0),
+  and_false_right (id.mag == selected_mag sel) _ (subst (λ n. (id.page == n) ≡ false) (sym number) (not-true _ ((and_parts (id.mag == page.mag) _ h).1))),
 )
 another_is sel page mag number (Row m n text) h = absurd (no_both false h refl)
 another_is sel page mag number (Links m content) h = absurd (no_both false h refl)

@@ -3,13 +3,13 @@ use Rattle.std.proofs.Common.{◌+ℤ◌, ◌≤ℤ◌, ◌≡◌, ℕ, ◌+◌,
 use Rattle.std.proofs.Common.{length, get_or, slice_get, Option, Some, None, SomeIff, MatchOption, refl, sym, ap, ◌∙◌, subst, inl, inr, arith}
 use Rattle.std.proofs.Common.{eqb-true, eq-eqb, mod-eq_of_lt}
 use Rattle.std.proofs.lemmas.Int.{ints}
-use Rattle.std.proofs.lemmas.Bool.{cases_lt}
+use Rattle.std.proofs.lemmas.Bool.{cases_lt, and_from, and_parts}
 use Rattle.std.proofs.lemmas.Option.{slice_get_within}
 use Rattle.std.proofs.Math.Nat.{add-mod_right}
 use Rattle.ttx_packet.specs.Slots.{IsSlot, Kind, IsEmpty, IsUnreadable, IsHeader, IsRow, IsLinks, IsInfo, IsOther, kind_of}
 use Rattle.ttx_header.specs.Ids.{Id, same_id}
 use Rattle.ttx_header.specs.Fields.{HeaderFields}
-use Rattle.ttx_header.specs.Headers.{id_of, fields_of, is_header}
+use Rattle.ttx_header.specs.Headers.{id_of, header_fields_of, is_header}
 use Rattle.ttx_header.specs.Laws.{HeadersHaveFields, HeadersAreHeaders}
 use Rattle.ttx_page.specs.Packets.{Packet, Empty, Unreadable, Header, Row, Links, Info, Other, packet_of, packet_of_kind}
 use Rattle.ttx_page.specs.Pages.{Page}
@@ -17,7 +17,7 @@ use Rattle.ttx_page.specs.Streams.{turned, repeated, heads, heads_page, IsLatest
 use Rattle.ttx_page.specs.Laws.{EachSlotTurns, StreamsMove}
 use Rattle.ttx_page.specs.Followers.{heads_another, IsFollowed, IsFollowedByAnother, IsFollowedWithin}
 use Rattle.ttx_late.specs.Followed.{IsFollowedIn, HoldsId, HoldsNoId, IsFollowedAt, TellsUnfollowed, AllAreFollowed}
-use Rattle.ttx_late.proofs.Tests.{and_left, and_right, and_both, no_both}
+use Rattle.ttx_late.proofs.Tests.{no_both}
 use Rattle.ttx_late.proofs.FollowedReceptions.{cases_ltz}
 use Rattle.ttx_late.proofs.RunsAreShown.{page_heads}
 
@@ -26,7 +26,7 @@ unfolding packet_of
 packet_is slot k e = ap (packet_of_kind slot) e
 
 -- what is read of a header is what its packet says
-pub id_told : (slot : List ℕ) → IsSlot slot → HeadersHaveFields → HeadersAreHeaders → (o : Option HeaderFields) → SomeIff o (is_header slot ≡ true) (fields_of slot) →
+pub id_told : (slot : List ℕ) → IsSlot slot → HeadersHaveFields → HeadersAreHeaders → (o : Option HeaderFields) → SomeIff o (is_header slot ≡ true) (header_fields_of slot) →
     MatchOption o (HoldsNoId (packet_of slot)) (λ h. HoldsId h.id (packet_of slot))
 id_told slot is fields headers (Some h) told =
     subst (λ x. HoldsId x.id (packet_of slot)) (sym told.1) (subst (HoldsId (id_of slot)) (sym (packet_is slot (IsHeader (id_of slot).mag) (headers slot is told.0))) refl)
@@ -88,9 +88,9 @@ no_page page Other h = refl
 
 same_is : (a b : Id) → same_id a b ≡ true → a ≡ b
 same_is a b h =
-    let mag = eqb-true a.mag b.mag (and_left _ _ (and_left _ _ h)) in
-    let page = eqb-true a.page b.page (and_right (a.mag == b.mag) _ (and_left _ _ h)) in
-    let sub = eqb-true a.sub b.sub (and_right ((a.mag == b.mag) && (a.page == b.page)) _ h) in
+    let mag = eqb-true a.mag b.mag ((and_parts _ _ (and_parts _ _ h).0).0) in
+    let page = eqb-true a.page b.page ((and_parts (a.mag == b.mag) _ (and_parts _ _ h).0).1) in
+    let sub = eqb-true a.sub b.sub ((and_parts ((a.mag == b.mag) && (a.page == b.page)) _ h).1) in
     λ i. record { mag = mag i; page = page i; sub = sub i }
 
 -- the program's test of ids
@@ -99,17 +99,17 @@ tested a b = (a.mag == b.mag) && ((a.page == b.page) && (a.sub == b.sub))
 
 pub tested_is : (a b : Id) → tested a b ≡ true → a ≡ b
 tested_is a b h =
-    let rest = and_right (a.mag == b.mag) _ h in
-    let mag = eqb-true a.mag b.mag (and_left _ _ h) in
-    let page = eqb-true a.page b.page (and_left _ _ rest) in
-    let sub = eqb-true a.sub b.sub (and_right (a.page == b.page) _ rest) in
+    let rest = (and_parts (a.mag == b.mag) _ h).1 in
+    let mag = eqb-true a.mag b.mag ((and_parts _ _ h).0) in
+    let page = eqb-true a.page b.page ((and_parts _ _ rest).0) in
+    let sub = eqb-true a.sub b.sub ((and_parts (a.page == b.page) _ rest).1) in
     λ i. record { mag = mag i; page = page i; sub = sub i }
 
 pub tested_self : (a b : Id) → a ≡ b → tested a b ≡ true
-tested_self a b e = subst (λ x. tested a x ≡ true) e (and_both _ _ (eq-eqb a.mag a.mag refl) (and_both _ _ (eq-eqb a.page a.page refl) (eq-eqb a.sub a.sub refl)))
+tested_self a b e = subst (λ x. tested a x ≡ true) e (and_from _ _ (eq-eqb a.mag a.mag refl) (and_from _ _ (eq-eqb a.page a.page refl) (eq-eqb a.sub a.sub refl)))
 
 self_is : (a : Id) → same_id a a ≡ true
-self_is a = and_both _ _ (and_both _ _ (eq-eqb a.mag a.mag refl) (eq-eqb a.page a.page refl)) (eq-eqb a.sub a.sub refl)
+self_is a = and_from _ _ (and_from _ _ (eq-eqb a.mag a.mag refl) (eq-eqb a.page a.page refl)) (eq-eqb a.sub a.sub refl)
 
 -- the page of a header is the one that it names
 pub page_told : (id page : Id) (packet : Packet) → HoldsId id packet → heads_page page packet ≡ true → page ≡ id
@@ -131,7 +131,7 @@ own_page id Info h = absurd h
 own_page id Other h = absurd h
 
 another_heads : (page : Id) (packet : Packet) → heads_another page packet ≡ true → heads page.mag packet ≡ true
-another_heads page (Header own control text) h = and_left _ _ h
+another_heads page (Header own control text) h = (and_parts _ _ h).0
 another_heads page Empty h = absurd (no_both false h refl)
 another_heads page Unreadable h = absurd (no_both false h refl)
 another_heads page (Row m n t) h = absurd (no_both false h refl)

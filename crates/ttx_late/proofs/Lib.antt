@@ -1,8 +1,8 @@
 mod Tests
 mod KeptSlots
-mod Steps
-mod Gathering
-mod Showing
+mod StoringSteps
+mod GatheredMemories
+mod ShownIsGathered
 mod FollowedReceptions
 mod RunsAreShown
 mod AcceptedIsShown

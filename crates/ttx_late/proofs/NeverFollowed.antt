@@ -2,6 +2,7 @@
 use Rattle.std.proofs.Common.{◌≡◌, ◌⊎◌, ℕ, ℤ, pos, ◌+ℤ◌, ◌<ℤ◌, ◌≤ℤ◌, true, false, not, ◌&&◌, ◌==◌, List, [], ◌∷◌, refl, sym, ap, ◌∙◌, subst, inl, inr}
 use Rattle.std.proofs.Common.{arith}
 use Rattle.std.proofs.lemmas.Int.{ints}
+use Rattle.std.proofs.lemmas.Bool.{and_from}
 use Rattle.ttx_packet.specs.Laws.{KindIsKept}
 use Rattle.ttx_header.specs.Laws.{HeaderIsKept}
 use Rattle.ttx_header.specs.Ids.{Id}
@@ -15,9 +16,9 @@ use Rattle.ttx_page.specs.Streams.{Stream, heads, heads_page, heads_matched}
 use Rattle.ttx_late.specs.LateReceivers.{LateMemory, selected_number, heads_number, must_show, LateRun}
 use Rattle.ttx_page.specs.Followers.{heads_another, IsNeverFollowed}
 use Rattle.ttx_late.specs.Laws.{NeverFollowedIsUnshown}
-use Rattle.ttx_late.proofs.Tests.{and_both, and_false_left, and_false_right, not_false, no_both, cases_Bool}
-use Rattle.ttx_late.proofs.Steps.{after_quiet}
-use Rattle.ttx_late.proofs.Gathering.{number_heads, matched_number, step_storing}
+use Rattle.ttx_late.proofs.Tests.{and_false_left, and_false_right, not_false, no_both, cases_Bool}
+use Rattle.ttx_late.proofs.StoringSteps.{after_quiet}
+use Rattle.ttx_late.proofs.GatheredMemories.{number_heads, matched_number, step_storing}
 use Rattle.ttx_late.proofs.FollowedReceptions.{cases_ltz, mag_is, number_is, AreOf, of_received}
 use Rattle.ttx_late.proofs.RunsAreShown.{page_heads}
 
@@ -35,10 +36,9 @@ AllStay sel (slot ∷ rest) = (heads_matched sel (packet_of slot) ≡ true → S
 own_number : (sel : Selection) (page : Id) → selected_mag sel ≡ page.mag → selected_number sel ≡ page.page → (pkt : Packet) → heads page.mag pkt ≡ true →
     heads_another page pkt ≡ false → heads_number sel pkt ≡ true
 own_number sel page mag number (Header id control text) head other =
-    and_both (id.mag == selected_mag sel) (id.page == selected_number sel) (subst (λ m. (id.mag == m) ≡ true) (sym mag) head)
-    (subst (λ n. (id.page == n) ≡ true) (sym number) (elim (cases_Bool (id.page == page.page)) as (λ _. (id.page == page.page) ≡ true) [
+    and_from (id.mag == selected_mag sel) (id.page == selected_number sel) (subst (λ m. (id.mag == m) ≡ true) (sym mag) head) (subst (λ n. (id.page == n) ≡ true) (sym number) (elim (cases_Bool (id.page == page.page)) as (λ _. (id.page == page.page) ≡ true) [
       | inl e ↦ e
-      | inr ne ↦ absurd (no_both _ (and_both (id.mag == page.mag) (not (id.page == page.page)) head (not_false _ ne)) other)
+      | inr ne ↦ absurd (no_both _ (and_from (id.mag == page.mag) (not (id.page == page.page)) head (not_false _ ne)) other)
     ]))
 own_number sel page mag number (Row m n text) head other = absurd (no_both false head refl)
 own_number sel page mag number (Links m content) head other = absurd (no_both false head refl)

@@ -3,6 +3,7 @@ use Rattle.std.proofs.Common.{◌≡◌, ℕ, zero, suc, ◌+◌, ◌<◌, ◌�
 use Rattle.std.proofs.Common.{get_or, take, drop, refl, sym, ap, ◌∙◌, subst, inl, inr, arith, eqb-true, eq-eqb, nat_abs, length-drop}
 use Rattle.std.proofs.lemmas.Int.{ints}
 use Rattle.std.proofs.lemmas.List.{length-take-le, take-append-drop}
+use Rattle.std.proofs.lemmas.Bool.{and_parts}
 use Rattle.ttx_packet.specs.Laws.{KindIsKept}
 use Rattle.ttx_header.specs.Laws.{HeaderIsKept}
 use Rattle.ttx_header.specs.Ids.{Id}
@@ -23,19 +24,19 @@ use Rattle.ttx_certify.specs.Laws.{RunsAreSeen}
 use Rattle.ttx_late.specs.LateReceivers.{LateMemory, LateRun}
 use Rattle.ttx_page.specs.Followers.{IsFollowedWithin}
 use Rattle.ttx_late.specs.Laws.{RunsAreShown}
-use Rattle.ttx_late.proofs.Tests.{and_left, and_right, no_both}
-use Rattle.ttx_late.proofs.Steps.{same_back, has_view_same}
-use Rattle.ttx_late.proofs.Gathering.{AllEnd, gathers}
-use Rattle.ttx_late.proofs.Showing.{Comes, ready_after, IsDue, shown_has_view}
+use Rattle.ttx_late.proofs.Tests.{no_both}
+use Rattle.ttx_late.proofs.StoringSteps.{same_back, has_view_same}
+use Rattle.ttx_late.proofs.GatheredMemories.{AllEnd, gathers}
+use Rattle.ttx_late.proofs.ShownIsGathered.{Comes, ready_after, IsDue, shown_has_view}
 use Rattle.ttx_certify.proofs.LaterReceptions.{received_later}
 use Rattle.ttx_late.proofs.FollowedReceptions.{cases_ltz, mag_is, number_is, AreOf, of_received, all_end, received_before}
 
 -- a header of a page is matched by each selection that matches the page
 page_matched : (sel : Selection) (page : Id) → matches sel page ≡ true → (pkt : Packet) → heads_page page pkt ≡ true → heads_matched sel pkt ≡ true
 page_matched sel page fits (Header id control text) h =
-    let mag = eqb-true page.mag id.mag (and_left _ _ (and_left _ _ h)) in
-    let number = eqb-true page.page id.page (and_right (page.mag == id.mag) _ (and_left _ _ h)) in
-    let sub = eqb-true page.sub id.sub (and_right ((page.mag == id.mag) && (page.page == id.page)) _ h) in
+    let mag = eqb-true page.mag id.mag ((and_parts _ _ (and_parts _ _ h).0).0) in
+    let number = eqb-true page.page id.page ((and_parts (page.mag == id.mag) _ (and_parts _ _ h).0).1) in
+    let sub = eqb-true page.sub id.sub ((and_parts ((page.mag == id.mag) && (page.page == id.page)) _ h).1) in
     by sel fits mag number sub
   where
     by : (sel : Selection) → matches sel page ≡ true → page.mag ≡ id.mag → page.page ≡ id.page → page.sub ≡ id.sub → matches sel id ≡ true
@@ -54,7 +55,7 @@ page_matched sel page fits Other h = absurd (no_both false h refl)
 
 pub page_heads : (page : Id) (pkt : Packet) → heads_page page pkt ≡ true → heads page.mag pkt ≡ true
 page_heads page (Header id control text) h =
-    let mag = eqb-true page.mag id.mag (and_left _ _ (and_left _ _ h)) in subst (λ m. (m == page.mag) ≡ true) mag (same page.mag)
+    let mag = eqb-true page.mag id.mag ((and_parts _ _ (and_parts _ _ h).0).0) in subst (λ m. (m == page.mag) ≡ true) mag (same page.mag)
   where
     same : (n : ℕ) → (n == n) ≡ true
     same n = eq-eqb n n refl

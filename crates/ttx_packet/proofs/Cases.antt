@@ -2,22 +2,22 @@
 use Rattle.std.proofs.Common.{◌≡◌, ℕ, ◌≤◌, Bool, true, false, ◌&&◌, ◌==◌, if◌then◌else◌, List, Option, Some, None, nat_le, refl, sym, ap, ◌∙◌, inl}
 use Rattle.std.proofs.Common.{inr, arith, eqb-true, slice_index}
 use Rattle.std.specs.List.{slice_range}
-use Rattle.std.proofs.lemmas.Bool.{cases_Bool}
+use Rattle.std.proofs.lemmas.Bool.{cases_Bool, cond_both}
 use Rattle.ttx_code.specs.Words.{reading}
 use Rattle.ttx_packet.specs.Slots.{Kind, IsEmpty, IsUnreadable, IsHeader, IsRow, IsLinks, IsInfo, IsOther, is_empty, are_readable, magazine}
 use Rattle.ttx_packet.specs.Slots.{packet_number, links_kind, packet_kind, addressed_kind, kind_of}
 use Rattle.ttx_packet.specs.Receptions.{IsFree}
-use Rattle.ttx_packet.proofs.Choices.{if_ind, no_both}
+use Rattle.ttx_packet.proofs.Choices.{no_both}
 
 pub kind_when_empty : (slot : List ℕ) → is_empty slot ≡ true → kind_of slot ≡ IsEmpty
 unfolding kind_of
-kind_when_empty slot e = if_ind (λ (k : Kind). k ≡ IsEmpty) (is_empty slot) IsEmpty _ (λ _. refl) (λ f. absurd (no_both _ e f))
+kind_when_empty slot e = cond_both (is_empty slot) IsEmpty _ (λ (k : Kind). k ≡ IsEmpty) (λ _. refl) (λ f. absurd (no_both _ e f))
 
 pub kind_when_read : (slot : List ℕ) (low high : ℕ) → is_empty slot ≡ false → reading (slice_index slot 0) ≡ Some low → reading (slice_index slot 1) ≡ Some high →
     kind_of slot ≡ packet_kind slot (magazine low) (packet_number low high)
 unfolding kind_of
 kind_when_read slot low high e first second =
-    if_ind (λ (k : Kind). k ≡ packet_kind slot (magazine low) (packet_number low high)) (is_empty slot) IsEmpty _ (λ f. absurd (no_both _ f e))
+    cond_both (is_empty slot) IsEmpty _ (λ (k : Kind). k ≡ packet_kind slot (magazine low) (packet_number low high)) (λ f. absurd (no_both _ f e))
     (λ _. ap (λ o. addressed_kind slot o (reading (slice_index slot 1))) first ∙ ap (addressed_kind slot (Some low)) second)
 
 abbrev pub IsPacketKind : Kind → Type 0
@@ -26,15 +26,15 @@ IsPacketKind _ = Unit {0}
 
 links_kind_is_packet : (mag : ℕ) (o : Option ℕ) → IsPacketKind (links_kind mag o)
 links_kind_is_packet mag None = tt
-links_kind_is_packet mag (Some d) = if_ind IsPacketKind (d == 0) (IsLinks mag) (IsOther mag 27) (λ _. tt) (λ _. tt)
+links_kind_is_packet mag (Some d) = cond_both (d == 0) (IsLinks mag) (IsOther mag 27) IsPacketKind (λ _. tt) (λ _. tt)
 
 packet_kind_is_packet : (slot : List ℕ) (mag number : ℕ) → IsPacketKind (packet_kind slot mag number)
 unfolding packet_kind
 packet_kind_is_packet slot mag number =
-    if_ind IsPacketKind (number == 0) _ _ (λ _. if_ind IsPacketKind (are_readable (slice_range slot 2 10)) (IsHeader mag) IsUnreadable (λ _. tt) (λ _. tt))
-    (λ _. if_ind IsPacketKind (nat_le number 24) (IsRow mag number) _ (λ _. tt)
-    (λ _. if_ind IsPacketKind (number == 27) _ _ (λ _. links_kind_is_packet mag (reading (slice_index slot 2)))
-    (λ _. if_ind IsPacketKind ((number == 30) && (mag == 8)) IsInfo (IsOther mag number) (λ _. tt) (λ _. tt))))
+    cond_both (number == 0) _ _ IsPacketKind (λ _. cond_both (are_readable (slice_range slot 2 10)) (IsHeader mag) IsUnreadable IsPacketKind (λ _. tt) (λ _. tt))
+    (λ _. cond_both (nat_le number 24) (IsRow mag number) _ IsPacketKind (λ _. tt)
+    (λ _. cond_both (number == 27) _ _ IsPacketKind (λ _. links_kind_is_packet mag (reading (slice_index slot 2)))
+    (λ _. cond_both ((number == 30) && (mag == 8)) IsInfo (IsOther mag number) IsPacketKind (λ _. tt) (λ _. tt))))
 
 addressed_kind_is_packet : (slot : List ℕ) (low high : Option ℕ) → IsPacketKind (addressed_kind slot low high)
 addressed_kind_is_packet slot None high = tt
@@ -53,7 +53,7 @@ not_empty_kind (IsOther mag number) p e = cc
 pub empty_when_kind : (slot : List ℕ) → kind_of slot ≡ IsEmpty → is_empty slot ≡ true
 unfolding kind_of
 empty_when_kind slot e =
-    if_ind (λ (k : Kind). k ≡ IsEmpty → is_empty slot ≡ true) (is_empty slot) IsEmpty _ (λ t _. t)
+    cond_both (is_empty slot) IsEmpty _ (λ (k : Kind). k ≡ IsEmpty → is_empty slot ≡ true) (λ t _. t)
     (λ _ k. absurd (not_empty_kind _ (addressed_kind_is_packet slot (reading (slice_index slot 0)) (reading (slice_index slot 1))) k)) e
 
 -- ---- bytes that may be anything
@@ -66,21 +66,21 @@ pub record FreeBytes (number x : ℕ) : Type 0 where
 
 free_links : (mag x : ℕ) (o : Option ℕ) → IsFree (links_kind mag o) x → ⊥
 free_links mag x None f = f
-free_links mag x (Some d) f = if_ind (λ k. IsFree k x → ⊥) (d == 0) (IsLinks mag) (IsOther mag 27) (λ _ f. f) (λ _ f. f) f
+free_links mag x (Some d) f = cond_both (d == 0) (IsLinks mag) (IsOther mag 27) (λ k. IsFree k x → ⊥) (λ _ f. f) (λ _ f. f) f
 
 pub free_bytes : (slot : List ℕ) (mag number x : ℕ) → IsFree (packet_kind slot mag number) x → FreeBytes number x
 unfolding packet_kind
 free_bytes slot mag number x =
     let P : Kind → Type 0 = λ k. IsFree k x → FreeBytes number x in
-    if_ind P (number == 0) _ _
-    (λ n. if_ind P (are_readable (slice_range slot 2 10)) (IsHeader mag) IsUnreadable (λ _ f. record {
+    cond_both (number == 0) _ _ P
+    (λ n. cond_both (are_readable (slice_range slot 2 10)) (IsHeader mag) IsUnreadable P (λ _ f. record {
       behind_address = omega (arith, f);
       behind_header = λ _. f;
       not_links = λ q. let e : number ≡ 0 = eqb-true number 0 n in let e' : number ≡ 27 = eqb-true number 27 q in omega arith;
     }) (λ _ f. absurd f))
-    (λ n. if_ind P (nat_le number 24) (IsRow mag number) _ (λ _ f. absurd f)
-    (λ _. if_ind P (number == 27) _ _ (λ _ f. absurd (free_links mag x (reading (slice_index slot 2)) f))
-    (λ q. if_ind P ((number == 30) && (mag == 8)) IsInfo (IsOther mag number)
+    (λ n. cond_both (nat_le number 24) (IsRow mag number) _ P (λ _ f. absurd f)
+    (λ _. cond_both (number == 27) _ _ P (λ _ f. absurd (free_links mag x (reading (slice_index slot 2)) f))
+    (λ q. cond_both ((number == 30) && (mag == 8)) IsInfo (IsOther mag number) P
     (λ _ f. record { behind_address = f; behind_header = λ z. absurd (no_both _ z n); not_links = λ z. no_both _ z q }) (λ _ f. absurd f))))
 
 -- ---- equal kinds

@@ -2,11 +2,6 @@
 use Rattle.std.proofs.Common.{◌≡◌, ℕ, zero, suc, ◌<◌, Bool, true, false, not, ◌&&◌, ◌||◌, if◌then◌else◌, List, [], ◌∷◌, length, get_or, refl, arith}
 use Rattle.std.specs.List.{list_all}
 
--- what holds of both choices
-pub if_ind : {A : Type 0} (P : A → Type 0) (b : Bool) (x y : A) → (b ≡ true → P x) → (b ≡ false → P y) → P (if b then x else y)
-if_ind P true x y f g = f refl
-if_ind P false x y f g = g refl
-
 pub no_both : (a : Bool) → a ≡ true → a ≡ false → ⊥
 no_both a h k = cc
 

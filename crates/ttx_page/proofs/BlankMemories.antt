@@ -1,7 +1,7 @@
 -- Blank memories, pages received whole, and cleared memories.
 use Rattle.std.proofs.Common.{◌≡◌, false, ℕ, zero, suc, ◌+◌, ◌-◌, ◌<◌, ◌≤◌, true, List, [], ◌∷◌, ◌++◌, length, get_or, take, replicate, not, ◌&&◌}
 use Rattle.std.proofs.Common.{◌==◌, Option, Some, None, is_none, subst, eqb-true, nat_le, refl, sym, ap, ◌∙◌, arith}
-use Rattle.std.proofs.lemmas.Bool.{not-true}
+use Rattle.std.proofs.lemmas.Bool.{not-true, and_parts}
 use Rattle.std.proofs.lemmas.Bool.Decides.{nat_tests}
 use Rattle.std.specs.List.{list_all}
 use Rattle.ttx_header.specs.Ids.{Id}
@@ -10,7 +10,6 @@ use Rattle.ttx_page.specs.Pages.{Page, Item, TheHead, TheRow, TheLinks, Any, Cle
 use Rattle.ttx_page.specs.Memories.{IsMemory, blank_memory, memory_of_page, Holds}
 use Rattle.ttx_page.specs.Laws.{BlankIsFormer, PageIsShown, ErasedHoldsBlank, BlankIsTested}
 use Rattle.ttx_page.proofs.KeptRanges.{rows-blank}
-use Rattle.ttx_page.proofs.Decisions.{and_left, and_right}
 
 IsMemory-blank : IsMemory blank_memory
 IsMemory-blank = record { row_count = refl; rows = rows-blank 25; control = omega arith; at_most = omega arith }
@@ -31,7 +30,7 @@ head_at (x ∷ head) rest (suc c) h = head_at head rest c (omega arith)
 
 -- a needed row has a number from 1 to 24
 row_to_24 : (p : Page) (number : ℕ) → needed p (TheRow number) ≡ true → number ≤ 24
-row_to_24 p number need = to_24 number (and_right (nat_le 1 number) (nat_le number 24) (and_left _ _ (and_left _ _ need)))
+row_to_24 p number need = to_24 number ((and_parts (nat_le 1 number) (nat_le number 24) (and_parts _ _ (and_parts _ _ need).0).0).1)
   where
     to_24 : (n : ℕ) → nat_le n 24 ≡ true → n ≤ 24
     to_24 n h = grind (arith, nat_tests)
@@ -68,7 +67,7 @@ erased_holds_blank p m TheLinks is need blank = sym blank
 
 spaces_from_test : (row : List ℕ) → list_all (λ c. c == 32) row ≡ true → row ≡ replicate (length row) 32
 spaces_from_test [] h = refl
-spaces_from_test (c ∷ row) h = let first : c ≡ 32 = eqb-true _ _ (and_left _ _ h) in ap (λ x. x ∷ row) first ∙ ap (λ r. 32 ∷ r) (spaces_from_test row (and_right _ _ h))
+spaces_from_test (c ∷ row) h = let first : c ≡ 32 = eqb-true _ _ ((and_parts _ _ h).0) in ap (λ x. x ∷ row) first ∙ ap (λ r. 32 ∷ r) (spaces_from_test row ((and_parts _ _ h).1))
 
 test_of_spaces : (n : ℕ) → list_all (λ c. c == 32) (replicate n 32) ≡ true
 test_of_spaces zero = refl
@@ -86,8 +85,8 @@ blank_is_tested p (TheRow number) is six need = (
   (λ b. subst (λ row. list_all (λ c. c == 32) row ≡ true) (sym b) (test_of_spaces 40)),
 )
 blank_is_tested p TheLinks is six need = (
-  (λ h. let none : p.links.six ≡ replicate 6 None = none_from_test p.links.six (and_left _ _ h) ∙ ap (λ n. replicate n None) six in
-      let hidden : p.links.show24 ≡ false = not-true _ (and_right _ _ h) in
+  (λ h. let none : p.links.six ≡ replicate 6 None = none_from_test p.links.six ((and_parts _ _ h).0) ∙ ap (λ n. replicate n None) six in
+      let hidden : p.links.show24 ≡ false = not-true _ ((and_parts _ _ h).1) in
       λ i. record { six = none i; show24 = hidden i }),
   (λ b. subst (λ (l : LinkSet). (list_all is_none l.six && not l.show24) ≡ true) (sym b) refl),
 )

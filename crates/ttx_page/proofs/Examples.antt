@@ -1,6 +1,6 @@
 -- The worked examples, by computing.
 use Rattle.std.proofs.Common.{◌≡◌, ℕ, zero, suc, ℤ, pos, ◌-ℤ◌, ◌<ℤ◌, ◌≤ℤ◌, Bool, true, false, not, ◌&&◌, refl, subst, inl, inr, arith}
-use Rattle.std.proofs.lemmas.Bool.{not-true}
+use Rattle.std.proofs.lemmas.Bool.{not-true, and_parts}
 use Rattle.std.proofs.lemmas.Int.{ints}
 use Rattle.ttx_code.specs.Words.{reading, distance, ones, hamming_word}
 use Rattle.ttx_packet.specs.Slots.{kind_of, packet_kind}
@@ -8,7 +8,6 @@ use Rattle.ttx_links.specs.Sets.{links_of}
 use Rattle.ttx_page.specs.Packets.{packet_of}
 use Rattle.ttx_page.specs.Streams.{repeated, heads, ends_serial}
 use Rattle.ttx_page.specs.Examples.{Examples, base_cycle, turned_base}
-use Rattle.ttx_page.proofs.Decisions.{and_left, and_right}
 use Rattle.ttx_page.proofs.SlotDistances.{cases_ltz}
 
 -- none of the n slots before j passes the test
@@ -20,8 +19,8 @@ pub none_back_is : (test : ℤ → Bool) (n : ℕ) (j : ℤ) → none_back test 
 unfolding none_back
 none_back_is test zero j e i low high = absurd (omega (arith, ints))
 none_back_is test (suc n) j e i low high = elim (cases_ltz i (j -ℤ pos 1)) as (λ _. test i ≡ false) [
-  | inl lt ↦ none_back_is test n (j -ℤ pos 1) (and_right _ _ e) i (omega (arith, ints)) lt
-  | inr ge ↦ let q : j -ℤ pos 1 ≡ i = omega (arith, ints) in subst (λ x. test x ≡ false) q (not-true _ (and_left _ _ e))
+  | inl lt ↦ none_back_is test n (j -ℤ pos 1) ((and_parts _ _ e).1) i (omega (arith, ints)) lt
+  | inr ge ↦ let q : j -ℤ pos 1 ≡ i = omega (arith, ints) in subst (λ x. test x ≡ false) q (not-true _ ((and_parts _ _ e).0))
 ]
 
 pub examples_hold : Examples

@@ -1,12 +1,13 @@
 -- Owners of packets.
 use Rattle.std.proofs.Common.{◌≡◌, ℕ, ◌<◌, ℤ, pos, ◌+ℤ◌, ◌<ℤ◌, ◌≤ℤ◌, true, ◌==◌, sym, ap, ◌∙◌, subst, inl, inr, arith, eqb-true, eq-eqb}
 use Rattle.std.proofs.lemmas.Int.{ints}
+use Rattle.std.proofs.lemmas.Bool.{and_parts}
 use Rattle.ttx_header.specs.Ids.{Id}
 use Rattle.ttx_page.specs.Packets.{Packet, Empty, Unreadable, Header, Row, Links, packet_of}
 use Rattle.ttx_page.specs.Pages.{Item, TheHead, TheRow, TheLinks}
 use Rattle.ttx_page.specs.Streams.{Stream, heads, heads_page, carries, IsLatestHeader, IsOwned}
 use Rattle.ttx_page.specs.Laws.{IsSameOn, OwnersAreUnique, OwnersComeFirst, OwnersAreNear, OwnersDontFall}
-use Rattle.ttx_page.proofs.Decisions.{no_both, and_left}
+use Rattle.ttx_page.proofs.Decisions.{no_both}
 use Rattle.ttx_page.proofs.SlotDistances.{cases_ltz}
 
 latest_unique : (s : Stream) (mag : ℕ) (h k j : ℤ) → IsLatestHeader s mag h j → IsLatestHeader s mag k j → h ≡ k
@@ -41,7 +42,7 @@ no_head mag item _ h k = cc
 
 -- a header of the page is one of its magazine
 page_heads : (page : Id) (packet : Packet) → heads_page page packet ≡ true → heads page.mag packet ≡ true
-page_heads page (Header id control text) h = swapped (and_left _ _ (and_left _ _ h))
+page_heads page (Header id control text) h = swapped ((and_parts _ _ (and_parts _ _ h).0).0)
   where
     swapped : (page.mag == id.mag) ≡ true → (id.mag == page.mag) ≡ true
     swapped e = eq-eqb _ _ (sym (eqb-true _ _ e))

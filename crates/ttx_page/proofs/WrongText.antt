@@ -2,7 +2,7 @@
 use Rattle.std.proofs.Common.{◌≡◌, ◌≢◌, ◌⊎◌, ℕ, zero, suc, ◌<◌, ◌≤◌, ℤ, pos, ◌+ℤ◌, ◌<ℤ◌, ◌≤ℤ◌, true, ◌==◌, if◌then◌else◌, List, [], ◌∷◌, length}
 use Rattle.std.proofs.Common.{get_or, slice_index, refl, sym, ap, ◌∙◌, subst, inl, inr, arith, eqb-true, eq-eqb}
 use Rattle.std.specs.List.{AllByRecursion, Contains}
-use Rattle.std.proofs.lemmas.Bool.{cases_lt}
+use Rattle.std.proofs.lemmas.Bool.{cases_lt, cond_both}
 use Rattle.std.proofs.lemmas.Int.{ints}
 use Rattle.ttx_code.specs.Words.{Near}
 use Rattle.ttx_packet.specs.Slots.{IsSlot, Kind, IsEmpty, IsUnreadable, IsHeader, IsRow, IsLinks, IsInfo, IsOther, kind_of, is_empty}
@@ -14,7 +14,6 @@ use Rattle.ttx_page.specs.Pages.{Item, TheHead, TheRow, TheLinks}
 use Rattle.ttx_page.specs.Streams.{Stream, heads_page, carries, IsTransmission, AreSuccessive}
 use Rattle.ttx_page.specs.Receptions.{IsTextByte, IsRight, OneIs, Received}
 use Rattle.ttx_page.specs.ErrorRule.{AreSame, HasRightText, HasWrongText, WrongTextIsReceived}
-use Rattle.ttx_page.proofs.Decisions.{if_ind}
 use Rattle.ttx_page.proofs.ExactReception.{near_self}
 use Rattle.ttx_page.proofs.SlotDistances.{offset, offset_lt}
 
@@ -37,7 +36,7 @@ without n (w ∷ ws) = if w == n then ws else w ∷ without n ws
 shorter : (n : ℕ) (ws : List ℕ) → IsIn ws n → length ws ≡ suc (length (without n ws))
 unfolding IsIn without
 shorter n [] i = absurd i
-shorter n (w ∷ ws) i = if_ind (λ (xs : List ℕ). suc (length ws) ≡ suc (length xs)) (w == n) ws (w ∷ without n ws) (λ t. refl) (λ f. elim i as (λ _. suc (length ws) ≡ suc (suc (length (without n ws)))) [
+shorter n (w ∷ ws) i = cond_both (w == n) ws (w ∷ without n ws) (λ (xs : List ℕ). suc (length ws) ≡ suc (length xs)) (λ t. refl) (λ f. elim i as (λ _. suc (length ws) ≡ suc (suc (length (without n ws)))) [
   | inl e ↦ let t : (w == n) ≡ true = eq-eqb w n e in cc
   | inr r ↦ ap suc (shorter n ws r)
 ])
@@ -45,7 +44,7 @@ shorter n (w ∷ ws) i = if_ind (λ (xs : List ℕ). suc (length ws) ≡ suc (le
 stays : (n m : ℕ) (ws : List ℕ) → m ≢ n → IsIn ws m → IsIn (without n ws) m
 unfolding IsIn without
 stays n m [] ne i = i
-stays n m (w ∷ ws) ne i = if_ind (λ (xs : List ℕ). IsIn xs m) (w == n) ws (w ∷ without n ws)
+stays n m (w ∷ ws) ne i = cond_both (w == n) ws (w ∷ without n ws) (λ (xs : List ℕ). IsIn xs m)
     (λ t. elim i as (λ _. IsIn ws m) [ inl e ↦ absurd (ne (sym e ∙ eqb-true w n t)) | inr r ↦ r ])
     (λ f. elim i as (λ _. (w ≡ m) ⊎ IsIn (without n ws) m) [ inl e ↦ inl e | inr r ↦ inr (stays n m ws ne r) ])
 

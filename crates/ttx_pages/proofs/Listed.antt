@@ -1,7 +1,7 @@
 -- The lines of headers, by maps that have the counts of the slots.
 use Rattle.std.proofs.Common.{◌≡◌, List, ℕ, [], if◌then◌else◌}
 use Rattle.std.specs.List.{flat_map}
-use Rattle.ttx_header.specs.Headers.{fields_of, is_header}
+use Rattle.ttx_header.specs.Headers.{header_fields_of, is_header}
 use Rattle.ttx_pages.specs.Counting.{CountsByPage, counted_line}
 use Rattle.ttx_pages.specs.Keys.{page_key}
 use Rattle.ttx_pages.specs.Lines.{listed_line}
@@ -17,7 +17,7 @@ pub record HasCounts (slots : List (List ℕ)) (all : Sent) : Type 0 where
 line_is : (slots : List (List ℕ)) (all : Sent) (slot : List ℕ) → HasCounts slots all → counted_line all slot ≡ header_line slots slot
 unfolding counted_line header_line
 line_is slots all slot h = λ i.
-    let fields = fields_of slot in
+    let fields = header_fields_of slot in
     let key = page_key fields.id in
     if is_header slot then listed_line fields.id (h.heads key i) (h.rows key i) (h.links key i) fields.control fields.text else []
 

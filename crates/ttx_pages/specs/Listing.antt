@@ -9,7 +9,7 @@
 use Rattle.std.specs.Prelude.{ℕ, Bool, true, false, not, ◌&&◌, ◌==◌, List, [], ◌∷◌, ◌++◌, codes, count_by, if◌then◌else◌}
 use Rattle.std.specs.Fmt.{decimal}
 use Rattle.std.specs.List.{flat_map}
-use Rattle.ttx_header.specs.Headers.{fields_of, is_header}
+use Rattle.ttx_header.specs.Headers.{header_fields_of, is_header}
 use Rattle.ttx_packet.specs.Slots.{Kind, kind_of, is_clean, IsEmpty, IsUnreadable, IsInfo, IsOther}
 use Rattle.ttx_pages.specs.Keys.{page_key, page_headers, keys_sent}
 use Rattle.ttx_pages.specs.Lines.{listed_line}
@@ -23,7 +23,7 @@ times part slots key = count_by (λ k. k == key) (keys_sent part slots)
 -- the line of the page that a header names; nothing for a slot that is none
 unfoldable pub header_line : List (List ℕ) → List ℕ → List ℕ
 header_line slots slot =
-    let h = fields_of slot in
+    let h = header_fields_of slot in
     let key = page_key h.id in
     if is_header slot then listed_line h.id (times Head slots key) (times Row slots key) (times Links slots key) h.control h.text else []
 

@@ -27,7 +27,7 @@ use Rattle.ttx_plan.specs.Turns.{KeepsTurns, sent_by, next_slot, chosen, sending
 use Rattle.ttx_plan.specs.Turns.{slot_after, missing, Magazines}
 use Rattle.std.specs.List.{find}
 use Rattle.ttx_plan.proofs.InQueues.{queue_at_is}
-use Rattle.ttx_plan.proofs.Lists.{all_append, all_map, all_replicate, all_if, all_flat_map, all_get}
+use Rattle.ttx_plan.proofs.ListElements.{all_append, all_map, all_replicate, all_if, all_flat_map, all_get}
 use Rattle.ttx_plan.proofs.Owners.{slot_at}
 use Rattle.ttx_plan.proofs.SentBlocks.{order_all}
 use Rattle.ttx_plan.proofs.Readable.{LawsBelow, Reads, empty_slot, info_slot, header_slot, row_slot, links_slot}

@@ -17,7 +17,7 @@ use Rattle.ttx_plan.specs.Turns.{Magazines, sent_by, turn_from, order, next_of, 
 use Rattle.ttx_plan.specs.Turns.{slot_after}
 use Rattle.ttx_plan.specs.Cursors.{queue_at, offered, is_free, picked, slot_by_cursors, cursors_after, magazines_of}
 use Rattle.ttx_plan.proofs.WaitingMagazines.{until, recent_until}
-use Rattle.ttx_plan.proofs.Orders.{order_same, found_ready}
+use Rattle.ttx_plan.proofs.FirstInOrder.{order_same, found_ready}
 
 pub record Tracks (lines : ℕ) (cursors : Cursors) (before : List Slot) : Type 0 where
   pub sent_size : length cursors.sent ≡ 8

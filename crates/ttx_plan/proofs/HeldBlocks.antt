@@ -11,7 +11,7 @@ use Rattle.ttx_plan.specs.Serial.{serial_page, serial_block, serial_list, info_i
 use Rattle.ttx_plan.specs.Turns.{is_info_due, missing}
 use Rattle.ttx_plan.proofs.InQueues.{head_of}
 use Rattle.ttx_plan.proofs.LaidSlots.{with_info_append}
-use Rattle.ttx_plan.proofs.Lists.{all_append, all_replicate}
+use Rattle.ttx_plan.proofs.ListElements.{all_append, all_replicate}
 use Rattle.ttx_plan.proofs.Owners.{heads}
 use Rattle.std.proofs.Math.Bool.{and-false}
 

@@ -16,7 +16,7 @@ use Rattle.ttx_plan.specs.Packets.{bytes_of}
 use Rattle.ttx_plan.specs.Seen.{seen_sent}
 use Rattle.ttx_plan.specs.Serial.{serial_page, serial_block, serial_list, with_info, IsLaid, to_whole_field}
 use Rattle.ttx_plan.specs.Turns.{missing}
-use Rattle.ttx_plan.proofs.Sums.{sum_same, sum_less}
+use Rattle.ttx_plan.proofs.MagazineSums.{sum_same, sum_less}
 use Rattle.ttx_plan.proofs.LaidSlots.{laid_length, laid_least}
 
 -- ---- each block belongs to one of the eight queues

@@ -1,15 +1,15 @@
-pub mod Bound
+pub mod WaitingBound
 pub mod SentBlocks
 pub mod PassedBlocks
 pub mod Alternating
 pub mod NextHeaders
 pub mod LaidSlots
 pub mod Lengths
-pub mod Orders
+pub mod FirstInOrder
 pub mod SchedulerState
 pub mod ServicePages
 pub mod RepeatedBlocks
-pub mod Sums
+pub mod MagazineSums
 pub mod CursorsLookBack
 pub mod UsedQueues
 pub mod WaitingMagazines
@@ -17,7 +17,7 @@ pub mod Owners
 pub mod InQueues
 pub mod SerialOwners
 pub mod OwnersByPlace
-pub mod Lists
+pub mod ListElements
 pub mod SurePlaces
 pub mod Readable
 pub mod AllRead

@@ -16,7 +16,7 @@ use Rattle.ttx_page.specs.Streams as S
 use Rattle.ttx_plan.specs.Acceptance.{PlannedLinksAreOwn}
 use Rattle.ttx_plan.proofs.PageLinks.{are_links}
 use Rattle.ttx_plan.specs.Contents.{page_row_bytes, page_links_bytes, is_sent_to, sent_rows, rest_of}
-use Rattle.ttx_plan.proofs.Lists.{all_append, all_if, all_get}
+use Rattle.ttx_plan.proofs.ListElements.{all_append, all_if, all_get}
 use Rattle.ttx_plan.proofs.Readable.{LawsBelow, packet_from}
 use Rattle.ttx_plan.proofs.UnderHeaders.{under, row_is, authored_at}
 

@@ -2,7 +2,7 @@
 use Rattle.std.proofs.Common.{◌≡◌, ℕ, zero, suc, ◌≤◌, true, cond, List, [], ◌∷◌, map, get_or, Option, refl, sym, ap, ◌∙◌, arith}
 use Rattle.std.specs.Prelude.{drop}
 use Rattle.std.specs.List.{AllByRecursion}
-use Rattle.std.proofs.lemmas.Bool.{eq-eqb}
+use Rattle.std.proofs.lemmas.Bool.{eq-eqb, and_from}
 use Rattle.ttx_code.specs.Words.{odd_byte}
 use Rattle.ttx_links.specs.Sets.{links_at, links_of as said_links}
 use Rattle.ttx_packet.specs.Slots.{IsRow, IsLinks}
@@ -14,10 +14,9 @@ use Rattle.ttx_page.specs.Pages.{Page, IsPage, page_row}
 use Rattle.ttx_page.specs.Streams as S
 use Rattle.ttx_plan.specs.Contents.{page_row_bytes, page_links_bytes, is_sent_to, sent_rows, rest_of}
 use Rattle.ttx_plan.specs.Laws.{PlannedRowsAreOwn}
-use Rattle.ttx_plan.proofs.Lists.{all_append, all_if, all_get}
+use Rattle.ttx_plan.proofs.ListElements.{all_append, all_if, all_get}
 use Rattle.ttx_plan.proofs.Readable.{LawsBelow, packet_from, row_kind, links_kind_is}
 use Rattle.ttx_plan.proofs.UnderHeaders.{under, authored_at}
-use Rattle.ttx_witness.proofs.lemmas.Choices.{and_both}
 
 -- a packet that is read as a row is that of the page
 abbrev pub SaysRow : Page → List ℕ → Type 0
@@ -57,7 +56,7 @@ rest_says laws p is class =
         (all_if (SaysRow p) (is_sent_to class p (TheRow (suc n))) (page_row_bytes p (suc n)) (λ _. row_says laws p (suc n) is.id.mag_from is.id.mag_to (omega arith) le))
 
 row_carried : (slot : List ℕ) (mag number : ℕ) (text : List ℕ) → packet_of slot ≡ P.Row mag number text → S.carries mag (TheRow number) (packet_of slot) ≡ true
-row_carried slot mag number text e = ap (S.carries mag (TheRow number)) e ∙ and_both _ _ (eq-eqb mag mag refl) (eq-eqb number number refl)
+row_carried slot mag number text e = ap (S.carries mag (TheRow number)) e ∙ and_from _ _ (eq-eqb mag mag refl) (eq-eqb number number refl)
 
 pub planned_rows_are_own : LawsBelow → PlannedRowsAreOwn
 planned_rows_are_own laws late class service cycle is_service said known n lt mag number text e =

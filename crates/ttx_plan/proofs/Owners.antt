@@ -10,7 +10,7 @@ use Rattle.ttx_plan.specs.Packets.{has_header, is_page_header, is_row_or_links}
 use Rattle.ttx_plan.specs.Turns.{Magazines, queue_of, sent_by, turn_from, order, next_of, waits, may_go, is_ready, sending, chosen, next_slot}
 use Rattle.ttx_plan.specs.Turns.{is_info_due, or_info, slot_after, KeepsTurns}
 use Rattle.ttx_plan.proofs.ServicePages.{take_next}
-use Rattle.ttx_plan.proofs.Orders.{found_ready}
+use Rattle.ttx_plan.proofs.FirstInOrder.{found_ready}
 use Rattle.ttx_plan.proofs.CursorsLookBack.{IsFrom, turn_from_queues}
 use Rattle.std.proofs.Math.Bool.{and-false}
 

@@ -15,7 +15,7 @@ use Rattle.ttx_plan.specs.Packets.{is_row_or_links, bytes_of, sent_bytes}
 use Rattle.ttx_plan.specs.Serial.{serial_list, with_info, serial_slots}
 use Rattle.ttx_plan.specs.Turns.{missing, IsParallel}
 use Rattle.ttx_plan.proofs.SerialOwners.{Follows, IsBehind, laid_follows}
-use Rattle.ttx_plan.proofs.Bound.{sent_bytes_length}
+use Rattle.ttx_plan.proofs.WaitingBound.{sent_bytes_length}
 use Rattle.ttx_plan.proofs.InQueues.{HasOwner, IsOf}
 use Rattle.ttx_plan.proofs.OwnersByPlace.{HasQuietOwner, quiet_owner, parallel_owned}
 use Rattle.ttx_plan.proofs.Owners.{heads, slot_at}

@@ -23,10 +23,10 @@ use Rattle.ttx_plan.specs.Serial.{serial_slots}
 use Rattle.ttx_plan.specs.Turns.{missing}
 use Rattle.ttx_plan.proofs.AllRead.{serial_read, parallel_read, read_there}
 use Rattle.ttx_plan.proofs.HeldBlocks.{HoldsHead, Holds, Splits, serial_head, serial_holds}
-use Rattle.ttx_plan.proofs.Lists.{all_append, all_replicate, all_get}
+use Rattle.ttx_plan.proofs.ListElements.{all_append, all_replicate, all_get}
 use Rattle.ttx_plan.proofs.Readable.{LawsBelow, Reads, empty_slot}
 use Rattle.ttx_plan.proofs.NextHeaders.{queue_filled, serial_queue}
-use Rattle.ttx_plan.proofs.Sums.{get_within}
+use Rattle.ttx_plan.proofs.MagazineSums.{get_within}
 use Rattle.ttx_plan.proofs.SentBlocks.{order_all, led_get, first_round}
 use Rattle.ttx_plan.proofs.SendingOrder.{timed, timed_bytes, timed_all, of_queue, all_of_queue, parallel_head, parallel_holds}
 

@@ -2,7 +2,7 @@
 use Rattle.std.proofs.Common.{◌≡◌, ℕ, suc, ◌≤◌, Bool, true, false, not, ◌&&◌, ◌||◌, eqb, leb, List, ◌++◌, replicate, Option, Some, refl, sym, ap, ◌∙◌}
 use Rattle.std.proofs.Common.{inl, inr, arith, subst}
 use Rattle.std.specs.Prelude.{slice_index, slice_range, drop, take}
-use Rattle.std.proofs.lemmas.Bool.{cond-true, cond-false, cases_eq, eq-eqb, ne_eqb, eqb-true, le-leb, and_parts}
+use Rattle.std.proofs.lemmas.Bool.{cond-true, cond-false, cases_eq, eq-eqb, ne_eqb, eqb-true, le-leb, and_parts, and_from, or_right}
 use Rattle.ttx_code.specs.Laws.{WordsAreRead, WordsAreWords}
 use Rattle.ttx_code.specs.Words.{reading, is_word}
 use Rattle.ttx_header.specs.Control.{c11}
@@ -29,7 +29,6 @@ use Rattle.ttx_plan.specs.Packets.{is_row_or_links, bytes_of}
 use Rattle.ttx_plan.specs.Laws.{IsHeadOf}
 use Rattle.ttx_source.specs.Services.{Authored}
 use Rattle.ttx_plan.proofs.Owners.{heads}
-use Rattle.ttx_witness.proofs.lemmas.Choices.{and_both}
 use Rattle.std.proofs.Math.Bool.{and-false}
 
 -- the laws of lower layers that are cited
@@ -105,10 +104,6 @@ empty_clean : is_clean (replicate 42 0) ≡ true
 unfolding is_clean
 empty_clean = refl
 
-or_true : (a b : Bool) → b ≡ true → (a || b) ≡ true
-or_true true b e = refl
-or_true false b e = e
-
 not_or : (a b : Bool) → a ≡ false → (not a || b) ≡ true
 not_or true b e = absurd (apart (sym e))
 not_or false b e = refl
@@ -117,7 +112,7 @@ not_or false b e = refl
 addressed_clean : (slot : List ℕ) (number : ℕ) → are_words (slice_range slot 0 2) ≡ true → read_number slot ≡ number → (number ≡ 0 → ⊥) → (not (eqb (read_number slot) 27) || is_word (slice_index slot 2)) ≡ true → is_clean slot ≡ true
 unfolding is_clean
 addressed_clean slot number words e ne links =
-    or_true (is_empty slot) _ (and_both _ _ (and_both _ _ words (not_or (eqb (read_number slot) 0) _ (ne_eqb (read_number slot) 0 (λ z. ne (sym e ∙ z))))) links)
+    or_right (is_empty slot) _ (and_from _ _ (and_from _ _ words (not_or (eqb (read_number slot) 0) _ (ne_eqb (read_number slot) 0 (λ z. ne (sym e ∙ z))))) links)
 
 pub empty_slot : LawsBelow → (pages : List Authored) (serial : Bool) → Reads pages serial Empty
 empty_slot laws pages serial =
@@ -231,4 +226,4 @@ links_slot laws pages serial queue packet mag f low high bytes late mag_is =
     links_reads pages serial queue packet mag (links_of mag (links_bytes mag f)) late mag_is
     (ap packet_of bytes ∙ packet_from (links_bytes mag f) (IsLinks mag) (a.kind ∙ links_kind_is (links_bytes mag f) mag (laws.word 0 (omega arith))))
     (ap is_clean bytes ∙ addressed_clean (links_bytes mag f) 27 a.words a.numbered (λ z. omega (arith, z))
-    (or_true (not (eqb (read_number (links_bytes mag f)) 27)) _ (laws.is_word 0 (omega arith))))
+    (or_right (not (eqb (read_number (links_bytes mag f)) 27)) _ (laws.is_word 0 (omega arith))))

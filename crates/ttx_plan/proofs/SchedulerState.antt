@@ -13,9 +13,9 @@ use Rattle.ttx_plan.specs.Turns.{Magazines, queue_of, sent_by, slot_after, Keeps
 use Rattle.ttx_plan.specs.Cursors.{slot_by_cursors, cursors_after, magazines_of}
 use Rattle.ttx_plan.specs.Counting.{sum_to, slots_for}
 use Rattle.ttx_plan.proofs.CursorsLookBack.{Tracks, IsFrom, turn_from_queues, sends_turn, tracks_none, tracks_more}
-use Rattle.ttx_plan.proofs.Sums.{sum_none}
-use Rattle.ttx_plan.proofs.Bound.{left_of, total, sent_bytes_length, few_infos, all_slots, room, left_less, left_work, total_falls, sent_most, others}
-use Rattle.ttx_plan.proofs.Bound.{infos, ends_info}
+use Rattle.ttx_plan.proofs.MagazineSums.{sum_none}
+use Rattle.ttx_plan.proofs.WaitingBound.{left_of, total, sent_bytes_length, few_infos, all_slots, room, left_less, left_work, total_falls, sent_most, others}
+use Rattle.ttx_plan.proofs.WaitingBound.{infos, ends_info}
 
 pub record State (mags : Magazines) (cursors : Cursors) (slots : List (List ℕ)) (left : ℕ) : Type 0 where
   pub before : List Slot

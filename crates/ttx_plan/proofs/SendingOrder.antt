@@ -15,7 +15,7 @@ use Rattle.ttx_plan.specs.Packets.{is_row_or_links, bytes_of, sent_bytes}
 use Rattle.ttx_plan.specs.Turns.{queue_of, IsParallel}
 use Rattle.ttx_plan.proofs.HeldBlocks.{HoldsHead, Holds, Splits, Stands, stands_in, head_more, holds_more}
 use Rattle.ttx_plan.proofs.InQueues.{head_of, in_queue, queue_at_is}
-use Rattle.ttx_plan.proofs.Lists.{all_append}
+use Rattle.ttx_plan.proofs.ListElements.{all_append}
 use Rattle.ttx_plan.proofs.Owners.{packets_by, in_order, heads}
 
 -- latest last

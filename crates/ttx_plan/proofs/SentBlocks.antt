@@ -8,7 +8,7 @@ use Rattle.std.proofs.lemmas.Bool.{cond-true, eq-eqb}
 use Rattle.std.proofs.lemmas.List.Sums.{sum_by-cons}
 use Rattle.ttx_plan.specs.Blocks.{Block, led, round_of, rounds_to, latest, with_fillers, sent_blocks, has_pages, used_to, packets_in}
 use Rattle.ttx_plan.specs.Seen.{fillers_in}
-use Rattle.ttx_plan.proofs.Lists.{all_append, all_filter}
+use Rattle.ttx_plan.proofs.ListElements.{all_append, all_filter}
 
 -- ---- what holds of each
 

@@ -2,7 +2,7 @@
 use Rattle.std.proofs.Common.{◌≡◌, ℕ, zero, suc, ◌-◌, ◌<◌, ◌≤◌, ℤ, pos, nat_abs, Bool, true, false, not, ◌&&◌, cond, eqb, leb, List, [], ◌∷◌, map}
 use Rattle.std.proofs.Common.{length, get_or, Some, None, refl, sym, ap, ◌∙◌, subst, arith, length-append, mod-eq_of_lt}
 use Rattle.std.specs.Prelude.{slice_get}
-use Rattle.std.proofs.lemmas.Bool.{eq-eqb, eqb-true, leb-true, and_parts}
+use Rattle.std.proofs.lemmas.Bool.{eq-eqb, eqb-true, leb-true, and_parts, and_from}
 use Rattle.std.proofs.lemmas.Int.{ints}
 use Rattle.std.proofs.lemmas.List.{get_or-map, length-map, get_or_at}
 use Rattle.ttx_code.specs.Words.{odd_byte}
@@ -31,7 +31,6 @@ use Rattle.ttx_plan.proofs.PlannedSlots.{IsLaidOut, laid_out, row_in_rest, links
 use Rattle.ttx_plan.proofs.OwnLinks.{links_are}
 use Rattle.ttx_plan.proofs.UnderHeaders.{head_says, row_is, authored_at}
 use Rattle.ttx_plan.proofs.Readable.{LawsBelow}
-use Rattle.ttx_witness.proofs.lemmas.Choices.{and_both}
 
 -- the page at an index of the service
 pub page_there : (pages : List Authored) (n : ℕ) (p : Page) → slice_get (map (λ authored. authored.page) pages) n ≡ Some p → (authored : Authored) × (slice_get pages n ≡ Some authored) × (authored.page ≡ p)
@@ -52,7 +51,7 @@ heads_its page P.Info e = e
 heads_its page P.Other e = e
 
 row_carried : (mag r : ℕ) (text : List ℕ) → carries mag (TheRow r) (P.Row mag r text) ≡ true
-row_carried mag r text = and_both _ _ (eq-eqb mag mag refl) (eq-eqb r r refl)
+row_carried mag r text = and_from _ _ (eq-eqb mag mag refl) (eq-eqb r r refl)
 
 -- rows that are sent to a class have their numbers
 sent_needed : (class : Class) (p : Page) (item : Item) → is_sent_to class p item ≡ true → needed p item ≡ true

@@ -3,7 +3,7 @@ use Rattle.std.proofs.Common.{◌≡◌, ℕ, ◌<◌, ◌≤◌, ℤ, pos, ◌+
 use Rattle.std.proofs.Common.{ap, ◌∙◌, subst, inl, inr, arith, mod-eq_of_lt}
 use Rattle.std.specs.Prelude.{slice_get}
 use Rattle.std.specs.List.{AllPairs}
-use Rattle.std.proofs.lemmas.Bool.{eq-eqb, eqb-true, and_parts, cases_lt}
+use Rattle.std.proofs.lemmas.Bool.{eq-eqb, eqb-true, and_parts, cases_lt, and_from}
 use Rattle.std.proofs.lemmas.Int.{ints}
 use Rattle.std.proofs.lemmas.Option.{get_or_from_slice_get, slice_get_within}
 use Rattle.ttx_code.specs.Words.{odd_byte}
@@ -30,7 +30,6 @@ use Rattle.ttx_plan.proofs.SurePlaces.{one_latest, between}
 use Rattle.ttx_plan.proofs.Planned.{planned_headers_are_own}
 use Rattle.ttx_plan.proofs.Readable.{LawsBelow}
 use Rattle.ttx_plan.proofs.SentItems.{page_there, heads_its, planned_items_are_sent}
-use Rattle.ttx_witness.proofs.lemmas.Choices.{and_both}
 
 -- ---- ids
 
@@ -128,7 +127,7 @@ module _ (laws : LawsBelow) (written : WrittenLinksAreRead) (late : Bool) (class
       let page : h.authored.page.id.page ≡ own.page.id.page = sym (eqb-true own.page.id.page id.page two.1 ∙ ap (λ x. x.page) h.id_is) in
       let sub = same_sub (eqb h.authored.page.id.mag own.page.id.mag) (eqb h.authored.page.id.page own.page.id.page) (eqb h.authored.page.id.sub own.page.id.sub) (eq-eqb _ _ mag) (eq-eqb _ _ page) other in
       let subs : own.page.id.sub ≡ id.sub = sym (ap (λ x. x.sub) h.id_is ∙ eqb-true h.authored.page.id.sub own.page.id.sub sub) in
-      and_both (eqb own.page.id.mag id.mag && eqb own.page.id.page id.page) (eqb own.page.id.sub id.sub) m (eq-eqb own.page.id.sub id.sub subs)
+      and_from (eqb own.page.id.mag id.mag && eqb own.page.id.page id.page) (eqb own.page.id.sub id.sub) m (eq-eqb own.page.id.sub id.sub subs)
     where
       same_sub : (a b d : Bool) → a ≡ true → b ≡ true → ((a && b) && not d) ≡ false → d ≡ true
       same_sub true true true e f g = refl

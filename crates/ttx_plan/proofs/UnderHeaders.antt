@@ -3,7 +3,7 @@ use Rattle.std.proofs.Common.{◌≡◌, ℕ, zero, suc, ◌+◌, ◌-◌, ◌<�
 use Rattle.std.proofs.Common.{None, refl, sym, ap, ◌∙◌, subst, arith}
 use Rattle.std.specs.Prelude.{All, slice_get, option_map}
 use Rattle.std.specs.List.{AllByRecursion}
-use Rattle.std.proofs.lemmas.Bool.{eq-eqb}
+use Rattle.std.proofs.lemmas.Bool.{eq-eqb, and_from}
 use Rattle.std.proofs.lemmas.List.{length-map}
 use Rattle.ttx_code.specs.Words.{odd_byte}
 use Rattle.ttx_header.specs.Fields.{HeaderFields, IsHeaderFields, fields_at}
@@ -29,15 +29,14 @@ use Rattle.ttx_plan.specs.Packets.{bytes_of}
 use Rattle.ttx_plan.specs.Serial.{serial_slots}
 use Rattle.ttx_plan.proofs.AllRead.{serial_read, parallel_read, read_at, read_there}
 use Rattle.ttx_plan.proofs.InQueues.{HasOwner}
-use Rattle.ttx_plan.proofs.Lists.{all_get}
+use Rattle.ttx_plan.proofs.ListElements.{all_get}
 use Rattle.ttx_plan.proofs.Owners.{slot_at}
 use Rattle.ttx_plan.proofs.PlacesByKind.{places, serial_at, serial_quiet, parallel_at, parallel_owner}
 use Rattle.ttx_plan.proofs.Readable.{LawsBelow, Reads, packet_from, row_kind}
 use Rattle.ttx_plan.proofs.SentBlocks.{order_all}
-use Rattle.ttx_witness.proofs.lemmas.Choices.{and_both}
 
 same : (id : Id) → same_id id id ≡ true
-same id = and_both _ _ (and_both _ _ (eq-eqb id.mag id.mag refl) (eq-eqb id.page id.page refl)) (eq-eqb id.sub id.sub refl)
+same id = and_from _ _ (and_from _ _ (eq-eqb id.mag id.mag refl) (eq-eqb id.page id.page refl)) (eq-eqb id.sub id.sub refl)
 
 header_says : LawsBelow → (h : HeaderFields) → IsHeaderFields h → S.heads_page h.id (packet_of (header_bytes h)) ≡ true
 header_says laws h ranges =

@@ -1,24 +1,24 @@
 mod KeptMemories
-mod Decisions
+mod RightWhereNotRefuted
 mod StreamsOfSides
 mod CutRuns
 mod BridgedIsSeen
-mod Windows
-mod Neighbours
-mod Naming
-mod Anchors
-mod OneByOne
-mod Periods
-mod Shifting
-mod Walking
-mod Meanings
-mod Hanging
-mod Backward
-mod Over
+mod RunsInWindows
+mod NeighbouringRuns
+mod NamedStarts
+mod RunsNearBothEnds
+mod CountingRuns
+mod JoinedPeriods
+mod ShiftedTransmissions
+mod WalkDecides
+mod VerdictMeanings
+mod HangingOver
+mod LatestHeaderBefore
+mod FirstHangingOver
 mod SeamAnswers
-pub mod Places
-pub mod Deciding
-pub mod Judging
+pub mod PlacesOfPages
+pub mod BridgedItems
+pub mod VerdictOfFindings
 pub mod SixFiles
 mod OneVerdict
 mod SomeVerdict

@@ -37,12 +37,12 @@ use Rattle.ttx_proof.specs.Verdicts.{IsFirstLate, HasLate, IsFirstCommon, NoSeam
 use Rattle.ttx_proof.specs.declared.verdict.SpliceReason.TheVariants.{Old, New, Numbers, Seam, SeamLate}
 use Rattle.ttx_proof.specs.declared.verdict.SpliceVerdict.{SpliceVerdict}
 use Rattle.ttx_proof.specs.declared.verdict.SpliceVerdict.TheVariants.{Yes, No}
-use Rattle.ttx_proof.proofs.Backward.{latest_at, none_met, left_by, left_to_none}
+use Rattle.ttx_proof.proofs.LatestHeaderBefore.{latest_at, none_met, left_by, left_to_none}
 use Rattle.ttx_certify.proofs.ItemByItem.{needed_item}
-use Rattle.ttx_proof.proofs.Deciding.{AreBridgedBelow, bridged_more, first_late, all_bridged}
-use Rattle.ttx_proof.proofs.Judging.{accepted}
-use Rattle.ttx_proof.proofs.Over.{no_head, ended, first_is, none_over}
-use Rattle.ttx_proof.proofs.Places.{contains_at}
+use Rattle.ttx_proof.proofs.BridgedItems.{AreBridgedBelow, bridged_more, first_late, all_bridged}
+use Rattle.ttx_proof.proofs.VerdictOfFindings.{accepted}
+use Rattle.ttx_proof.proofs.FirstHangingOver.{no_head, ended, first_is, none_over}
+use Rattle.ttx_proof.proofs.PlacesOfPages.{contains_at}
 use Rattle.ttx_proof.proofs.SeamAnswers.{seam_told, no_seam_told}
 use Rattle.ttx_proof.proofs.BridgedIsSeen.{place_of}
 use Rattle.ttx_proof.proofs.StreamsOfSides.{cases_ltz}

@@ -1,7 +1,7 @@
 -- Receivers that surely clear: what is blank needn't be sent.
 use Rattle.std.proofs.Common.{◌≡◌, ◌≢◌, ◌⊎◌, ℕ, zero, suc, ◌+◌, ◌<◌, ◌≤◌, Bool, true, false, not, ◌&&◌, ◌||◌, ◌==◌, List, [], Some, None, length}
 use Rattle.std.proofs.Common.{get_or, refl, sym, ap, ◌∙◌, subst, inl, inr, arith, get_or-set_other}
-use Rattle.std.proofs.lemmas.Bool.{cases_lt, cases_Bool}
+use Rattle.std.proofs.lemmas.Bool.{cases_lt, cases_Bool, cond_both, or_right}
 use Rattle.ttx_page.specs.Packets.{Packet, Header, Row, Links}
 use Rattle.ttx_links.specs.Sets.{no_links}
 use Rattle.ttx_page.specs.Pages.{Page, IsPage, selected_mag, needed, page_row, matches, blank_row}
@@ -12,30 +12,25 @@ use Rattle.ttx_header.specs.Control.{c4, c11}
 use Rattle.ttx_page.specs.Memories.{Memory, char_at}
 use Rattle.ttx_page.specs.Receivers.{older, after, Run, erased, begun, with_storing, with_row, with_links, erases, misses, stored_row}
 use Rattle.ttx_page.specs.Streams.{heads_matched}
-use Rattle.ttx_receiver.proofs.Choices.{no_both, if_ind}
+use Rattle.ttx_receiver.proofs.Choices.{no_both}
 use Rattle.ttx_receiver.proofs.StepsOverPage.{Shape, shape_after, erased_row}
 use Rattle.ttx_receiver.proofs.TakenAndKept.{keep_row, keep_links}
 use Rattle.ttx_receiver.proofs.Runs.{packet_at, run_keeps, ReceivesPage, IsTuned, tuned_begin, tuned_next}
 use Rattle.ttx_receiver.proofs.TakenItems.{needed_row}
 
-or_true : (a b : Bool) → b ≡ true → (a || b) ≡ true
-or_true true b h = refl
-or_true false b h = h
-
 module _ (lines : ℕ) (sel : Selection) where
   -- a receiver stays fresh until a matching header
   after_fresh : (choice : Bool) (m : Memory) (pkt : Packet) → heads_matched sel pkt ≡ false → (after Clearing lines sel choice m pkt).fresh ≡ m.fresh
   after_fresh choice m (Header id control text) h =
-      if_ind (λ (new : Memory). new.fresh ≡ m.fresh) (matches sel id) _ _ (λ e. absurd (no_both _ e h))
-      (λ _. if_ind (λ (new : Memory). new.fresh ≡ m.fresh) (id.mag == selected_mag sel) _ _ (λ _. refl)
-      (λ _. if_ind (λ (new : Memory). new.fresh ≡ m.fresh) (c11 control && choice) (with_storing m false) m (λ _. refl) (λ _. refl)))
+      cond_both (matches sel id) _ _ (λ (new : Memory). new.fresh ≡ m.fresh) (λ e. absurd (no_both _ e h))
+      (λ _. cond_both (id.mag == selected_mag sel) _ _ (λ (new : Memory). new.fresh ≡ m.fresh) (λ _. refl)
+      (λ _. cond_both (c11 control && choice) (with_storing m false) m (λ (new : Memory). new.fresh ≡ m.fresh) (λ _. refl) (λ _. refl)))
   after_fresh choice m (Row mag number text) h =
-      if_ind (λ (new : Memory). new.fresh ≡ m.fresh) ((mag == selected_mag sel) && m.storing && not (misses lines choice m))
-      (with_row m number (stored_row (get_or m.rows number []) text)) m (λ _. refl) (λ _. refl)
+      cond_both ((mag == selected_mag sel) && m.storing && not (misses lines choice m)) (with_row m number (stored_row (get_or m.rows number []) text)) m (λ (new : Memory). new.fresh ≡ m.fresh) (λ _. refl) (λ _. refl)
   after_fresh choice m (Links mag None) h =
-      if_ind (λ (new : Memory). new.fresh ≡ m.fresh) ((mag == selected_mag sel) && m.storing && not (misses lines choice m)) m m (λ _. refl) (λ _. refl)
+      cond_both ((mag == selected_mag sel) && m.storing && not (misses lines choice m)) m m (λ (new : Memory). new.fresh ≡ m.fresh) (λ _. refl) (λ _. refl)
   after_fresh choice m (Links mag (Some content)) h =
-      if_ind (λ (new : Memory). new.fresh ≡ m.fresh) ((mag == selected_mag sel) && m.storing && not (misses lines choice m)) (with_links m (Some content)) m (λ _. refl) (λ _. refl)
+      cond_both ((mag == selected_mag sel) && m.storing && not (misses lines choice m)) (with_links m (Some content)) m (λ (new : Memory). new.fresh ≡ m.fresh) (λ _. refl) (λ _. refl)
   after_fresh choice m _ h = refl
 
   -- a matching header blanks the rows and links of a fresh one
@@ -43,13 +38,13 @@ module _ (lines : ℕ) (sel : Selection) where
       char_at (after Clearing lines sel choice m pkt) r c ≡ get_or blank_row c 0
   blanks_row zero c low high col choice m pkt s f h = absurd (omega arith)
   blanks_row (suc r) c low high col choice m (Header id control text) s f h =
-      if_ind (λ (new : Memory). char_at new (suc r) c ≡ get_or blank_row c 0) (matches sel id) _ _
-      (λ _. if_ind {A = Memory} (λ x. char_at (begun x control text) (suc r) c ≡ get_or blank_row c 0) (erases Clearing choice m control) (erased m) m
+      cond_both (matches sel id) _ _ (λ (new : Memory). char_at new (suc r) c ≡ get_or blank_row c 0)
+      (λ _. cond_both {A = Memory} (erases Clearing choice m control) (erased m) m (λ x. char_at (begun x control text) (suc r) c ≡ get_or blank_row c 0)
       (λ _.
       let ne : suc r ≢ 0 = omega arith in
       let lt : r < 24 = omega arith in
       ap (λ row. get_or row c 0) (get_or-set_other (erased m).rows 0 (suc r) _ [] ne ∙ erased_row m.rows r s.count lt))
-      (λ e. absurd (no_both _ (or_true (c4 control) m.fresh f) e)))
+      (λ e. absurd (no_both _ (or_right (c4 control) m.fresh f) e)))
       (λ e. absurd (no_both _ h e))
   blanks_row (suc r) c low high col choice m (Row mag number text) s f h = absurd (no_both _ h refl)
   blanks_row (suc r) c low high col choice m (Links mag content) s f h = absurd (no_both _ h refl)
@@ -57,9 +52,9 @@ module _ (lines : ℕ) (sel : Selection) where
 
   blanks_links : (choice : Bool) (m : Memory) (pkt : Packet) → m.fresh ≡ true → heads_matched sel pkt ≡ true → (after Clearing lines sel choice m pkt).links ≡ no_links
   blanks_links choice m (Header id control text) f h =
-      if_ind (λ (new : Memory). new.links ≡ no_links) (matches sel id) _ _
-      (λ _. if_ind {A = Memory} (λ x. (begun x control text).links ≡ no_links) (erases Clearing choice m control) (erased m) m
-      (λ _. refl) (λ e. absurd (no_both _ (or_true (c4 control) m.fresh f) e)))
+      cond_both (matches sel id) _ _ (λ (new : Memory). new.links ≡ no_links)
+      (λ _. cond_both {A = Memory} (erases Clearing choice m control) (erased m) m (λ x. (begun x control text).links ≡ no_links)
+      (λ _. refl) (λ e. absurd (no_both _ (or_right (c4 control) m.fresh f) e)))
       (λ e. absurd (no_both _ h e))
   blanks_links choice m (Row mag number text) f h = absurd (no_both _ h refl)
   blanks_links choice m (Links mag content) f h = absurd (no_both _ h refl)

@@ -3,21 +3,9 @@ use Rattle.std.proofs.Common.{◌≡◌, ◌⊎◌, ℕ, zero, suc, ◌%◌, ◌
 use Rattle.std.proofs.Common.{get_or, refl, sym, ap, inl, inr, arith, eqb-true, eq-eqb, nat_le}
 use Rattle.std.proofs.lemmas.Bool.Decides.{nat_tests}
 use Rattle.std.specs.List.{list_all}
+use Rattle.std.proofs.lemmas.Bool.{and_parts, cond_both}
 use Rattle.ttx_page.specs.Receivers.{stored_row}
 use Rattle.ttx_code.specs.Words.{is_odd}
-
--- what holds of both choices
-pub if_ind : {A : Type 0} (P : A → Type 0) (b : Bool) (x y : A) → (b ≡ true → P x) → (b ≡ false → P y) → P (if b then x else y)
-if_ind P true x y f g = f refl
-if_ind P false x y f g = g refl
-
-pub and_left : (a b : Bool) → (a && b) ≡ true → a ≡ true
-and_left true b h = refl
-and_left false b h = h
-
-pub and_right : (a b : Bool) → (a && b) ≡ true → b ≡ true
-and_right true b h = h
-and_right false b h = cc
 
 pub no_both : (a : Bool) → a ≡ true → a ≡ false → ⊥
 no_both a h k = cc
@@ -39,7 +27,7 @@ pub stored_row_at : (row text : List ℕ) (c : ℕ) → c < length row → (get_
 stored_row_at [] text c h = inl refl
 stored_row_at (x ∷ row) [] c h = inl refl
 stored_row_at (x ∷ row) (b ∷ text) zero h =
-    if_ind (λ v. (v ≡ x) ⊎ IsTaken (b ∷ text) 0 v) (is_odd b) (b % 128) x (λ e. inr (record { good = e; is = refl })) (λ e. inl refl)
+    cond_both (is_odd b) (b % 128) x (λ v. (v ≡ x) ⊎ IsTaken (b ∷ text) 0 v) (λ e. inr (record { good = e; is = refl })) (λ e. inl refl)
 stored_row_at (x ∷ row) (b ∷ text) (suc c) h =
     elim (stored_row_at row text c (omega arith)) as (λ _. (get_or (stored_row row text) c 0 ≡ get_or row c 0) ⊎ IsTaken (b ∷ text) (suc c) (get_or (stored_row row text) c 0))
     [ inl e ↦ inl e | inr t ↦ inr (record { good = t.good; is = t.is }) ]
@@ -48,7 +36,7 @@ stored_row_at (x ∷ row) (b ∷ text) (suc c) h =
 pub stored_row_good : (row text : List ℕ) (c : ℕ) → c < length row → c < length text → is_odd (get_or text c 0) ≡ true → get_or (stored_row row text) c 0 ≡ get_or text c 0 % 128
 stored_row_good [] text c h k o = absurd (omega arith)
 stored_row_good (x ∷ row) [] c h k o = absurd (omega arith)
-stored_row_good (x ∷ row) (b ∷ text) zero h k o = if_ind (λ v. v ≡ b % 128) (is_odd b) (b % 128) x (λ e. refl) (λ e. absurd (no_both (is_odd b) o e))
+stored_row_good (x ∷ row) (b ∷ text) zero h k o = cond_both (is_odd b) (b % 128) x (λ v. v ≡ b % 128) (λ e. refl) (λ e. absurd (no_both (is_odd b) o e))
 stored_row_good (x ∷ row) (b ∷ text) (suc c) h k o = stored_row_good row text c (omega arith) (omega arith) o
 
 pub gt_not_le : (a b : ℕ) → b < a → nat_le a b ≡ false
@@ -64,5 +52,5 @@ either false b h k = h
 
 pub list_all_at : (test : ℕ → Bool) (xs : List ℕ) (k : ℕ) → list_all test xs ≡ true → k < length xs → test (get_or xs k 0) ≡ true
 list_all_at test [] k h lt = absurd (omega arith)
-list_all_at test (x ∷ xs) zero h lt = and_left _ _ h
-list_all_at test (x ∷ xs) (suc k) h lt = list_all_at test xs k (and_right _ _ h) (omega arith)
+list_all_at test (x ∷ xs) zero h lt = (and_parts _ _ h).0
+list_all_at test (x ∷ xs) (suc k) h lt = list_all_at test xs k ((and_parts _ _ h).1) (omega arith)

@@ -1,7 +1,7 @@
 -- What a receiver is given of the packets of a page, where each byte has at most one wrong bit.
 use Rattle.std.proofs.Common.{◌≡◌, ◌⊎◌, ℕ, ◌+◌, ◌%◌, ◌<◌, ◌≤◌, Bool, true, false, ◌==◌, List, [], None, length, get_or, take, drop, map, refl, sym}
 use Rattle.std.proofs.Common.{ap, ◌∙◌, subst, inl, inr, arith, eqb-true, length-drop, get_or-drop, get_or-take}
-use Rattle.std.proofs.lemmas.Bool.{cases_Bool}
+use Rattle.std.proofs.lemmas.Bool.{cases_Bool, cond_both}
 use Rattle.std.proofs.lemmas.List.{get_or-map}
 use Rattle.ttx_code.specs.Words.{ones, Near, is_odd, odd_byte}
 use Rattle.ttx_code.specs.Laws.{OddBytesUnderOneWrongBit, OddBytesHoldTheirCodes}
@@ -18,7 +18,7 @@ use Rattle.ttx_page.specs.declared.selection.Selection.{Selection}
 use Rattle.ttx_page.specs.declared.item.Item.TheVariants.{Row as TheRow, Links as TheLinks}
 use Rattle.ttx_page.specs.Streams.{heads, heads_matched, ends_serial, carries}
 use Rattle.ttx_page.specs.Steady.{HeadIsRight, RowIsRight, LinksAreRight}
-use Rattle.ttx_receiver.proofs.Choices.{if_ind, no_both, list_all_at}
+use Rattle.ttx_receiver.proofs.Choices.{no_both, list_all_at}
 use Rattle.ttx_receiver.proofs.StepsOverPage.{GoodText, IsHeadOf, IsRowOf, AreLinksOf}
 use Rattle.ttx_receiver.proofs.TakenAndKept.{IsRightAt, HeadRightAt, RowRightAt}
 
@@ -110,7 +110,7 @@ of_slot laws slot = subst (IsOfSlot slot) (sym (packet_is slot)) (of_kind laws.n
 pub packet_empty : (slot : List ℕ) → is_empty slot ≡ true → packet_of slot ≡ Empty
 unfolding kind_of
 packet_empty slot e =
-    packet_is slot ∙ ap (packet_of_kind slot) (if_ind (λ k. k ≡ IsEmpty) (is_empty slot) IsEmpty _ (λ _. refl) (λ f. absurd (no_both _ e f)))
+    packet_is slot ∙ ap (packet_of_kind slot) (cond_both (is_empty slot) IsEmpty _ (λ k. k ≡ IsEmpty) (λ _. refl) (λ f. absurd (no_both _ e f)))
 
 no_empty : (slot : List ℕ) (k : ℕ) → is_empty slot ≡ true → k < length slot → get_or slot k 0 ≡ 0
 no_empty slot k e lt = eqb-true _ 0 (list_all_at (λ b. b == 0) slot k e lt)

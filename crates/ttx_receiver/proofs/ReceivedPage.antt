@@ -1,7 +1,7 @@
 -- A receiver tuned to a stream is given its packets.
 use Rattle.std.proofs.Common.{◌≡◌, ℕ, ◌<◌, ℤ, pos, ◌+ℤ◌, ◌<ℤ◌, ◌≤ℤ◌, true, false, ◌&&◌, ◌==◌, List, [], length, get_or, refl, sym, ap, ◌∙◌, subst}
 use Rattle.std.proofs.Common.{inl, inr, arith, eqb-true, eq-eqb}
-use Rattle.std.proofs.lemmas.Bool.{and_from, cases_Bool}
+use Rattle.std.proofs.lemmas.Bool.{and_from, cases_Bool, and_parts}
 use Rattle.std.proofs.lemmas.Int.{ints}
 use Rattle.ttx_header.specs.Ids.{Id, same_id}
 use Rattle.ttx_page.specs.Packets.{Packet, Header, Row, Links, packet_of}
@@ -12,7 +12,6 @@ use Rattle.ttx_page.specs.declared.item.Item.TheVariants.{Head as TheHead, Row a
 use Rattle.ttx_page.specs.Streams.{Stream, heads, heads_page, heads_matched, carries, IsLatestHeader}
 use Rattle.ttx_page.specs.Receptions.{Received}
 use Rattle.ttx_receiver.specs.Laws.{IsSteadyFrom}
-use Rattle.ttx_receiver.proofs.Choices.{and_left, and_right}
 use Rattle.ttx_receiver.proofs.Runs.{packet_at, IsOwnedAt, ReceivesPage}
 use Rattle.ttx_receiver.proofs.TakenItems.{needed_row}
 use Rattle.ttx_receiver.proofs.ReceivedPackets.{LawsBelow, of_slot, IsOfSlot, same_heads, same_matched, same_links, row_was_sent, received_head}
@@ -21,20 +20,20 @@ use Rattle.ttx_receiver.proofs.SlotDistances.{offset, not_before, offset_lt, lt_
 
 -- the page's headers are of its magazine, and the selection matches them
 pub page_heads : (id : Id) (pkt : Packet) → heads_page id pkt ≡ true → heads id.mag pkt ≡ true
-page_heads id (Header other control text) h = let e : id.mag ≡ other.mag = eqb-true _ _ (and_left _ _ (and_left _ _ h)) in eq-eqb other.mag id.mag (sym e)
+page_heads id (Header other control text) h = let e : id.mag ≡ other.mag = eqb-true _ _ ((and_parts _ _ (and_parts _ _ h).0).0) in eq-eqb other.mag id.mag (sym e)
 page_heads id (Row m n t) h = h
 page_heads id (Links m content) h = h
 page_heads id _ h = h
 
 matches_same : (sel : Selection) (id other : Id) → matches sel id ≡ true → same_id id other ≡ true → matches sel other ≡ true
 matches_same (Exact own) id other h k =
-    let a = eqb-true _ _ (and_left _ _ (and_left _ _ h)) ∙ eqb-true _ _ (and_left _ _ (and_left _ _ k)) in
-    let b = eqb-true _ _ (and_right _ _ (and_left _ _ h)) ∙ eqb-true _ _ (and_right _ _ (and_left _ _ k)) in
-    let c = eqb-true _ _ (and_right _ _ h) ∙ eqb-true _ _ (and_right _ _ k) in
+    let a = eqb-true _ _ ((and_parts _ _ (and_parts _ _ h).0).0) ∙ eqb-true _ _ ((and_parts _ _ (and_parts _ _ k).0).0) in
+    let b = eqb-true _ _ ((and_parts _ _ (and_parts _ _ h).0).1) ∙ eqb-true _ _ ((and_parts _ _ (and_parts _ _ k).0).1) in
+    let c = eqb-true _ _ ((and_parts _ _ h).1) ∙ eqb-true _ _ ((and_parts _ _ k).1) in
     and_from _ _ (and_from _ _ (eq-eqb own.mag other.mag a) (eq-eqb own.page other.page b)) (eq-eqb own.sub other.sub c)
 matches_same (AnySub mag page) id other h k =
-    let a = eqb-true _ _ (and_left _ _ h) ∙ eqb-true _ _ (and_left _ _ (and_left _ _ k)) in
-    let b = eqb-true _ _ (and_right _ _ h) ∙ eqb-true _ _ (and_right _ _ (and_left _ _ k)) in
+    let a = eqb-true _ _ ((and_parts _ _ h).0) ∙ eqb-true _ _ ((and_parts _ _ (and_parts _ _ k).0).0) in
+    let b = eqb-true _ _ ((and_parts _ _ h).1) ∙ eqb-true _ _ ((and_parts _ _ (and_parts _ _ k).0).1) in
     and_from _ _ (eq-eqb mag other.mag a) (eq-eqb page other.page b)
 
 pub page_matched : (sel : Selection) (id : Id) (pkt : Packet) → matches sel id ≡ true → heads_page id pkt ≡ true → heads_matched sel pkt ≡ true
@@ -44,15 +43,15 @@ page_matched sel id (Links a content) m h = h
 page_matched sel id _ m h = h
 
 pub same_mag : (sel : Selection) (id : Id) → matches sel id ≡ true → id.mag ≡ selected_mag sel
-same_mag (Exact own) id h = sym (eqb-true own.mag id.mag (and_left _ _ (and_left _ _ h)))
-same_mag (AnySub mag page) id h = sym (eqb-true mag id.mag (and_left _ _ h))
+same_mag (Exact own) id h = sym (eqb-true own.mag id.mag ((and_parts _ _ (and_parts _ _ h).0).0))
+same_mag (AnySub mag page) id h = sym (eqb-true mag id.mag ((and_parts _ _ h).0))
 
 pub no_row_zero : LawsBelow → (mag : ℕ) (slot : List ℕ) → carries mag (TheRow 0) (packet_of slot) ≡ false
 no_row_zero laws mag slot = go (packet_of slot) (of_slot laws slot)
   where
     go : (pkt : Packet) → IsOfSlot slot pkt → carries mag (TheRow 0) pkt ≡ false
     go (Row m number text) o = elim (cases_Bool ((m == mag) && (number == 0))) as (λ _. ((m == mag) && (number == 0)) ≡ false)
-        [ inl e ↦ let z : number ≡ 0 = eqb-true number 0 (and_right _ _ e) in absurd (omega (arith, o.1)) | inr e ↦ e ]
+        [ inl e ↦ let z : number ≡ 0 = eqb-true number 0 ((and_parts _ _ e).1) in absurd (omega (arith, o.1)) | inr e ↦ e ]
     go (Header id control text) o = refl
     go (Links m content) o = refl
     go _ o = refl

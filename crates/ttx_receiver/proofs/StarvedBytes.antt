@@ -2,13 +2,13 @@
 use Rattle.std.proofs.Common.{◌≡◌, ◌≢◌, ℕ, ◌^◌, ◌<◌, ◌≤◌, ◌&&◌, not, leb, Bool, true, false, ◌==◌, List, get_or, refl, sym, ◌∙◌, subst, inl, inr}
 use Rattle.std.proofs.Common.{arith, eqb-true, eq-eqb, leb-true, length-set, get_or-set_same, get_or-set_other}
 use Rattle.std.specs.Prelude.{bit_xor}
-use Rattle.std.proofs.lemmas.Bool.{agree_below, agree_below_at, cases_Bool, not-true}
+use Rattle.std.proofs.lemmas.Bool.{agree_below, agree_below_at, cases_Bool, not-true, and_parts}
 use Rattle.ttx_code.specs.Words.{Near, ones, distance, is_odd}
 use Rattle.ttx_packet.specs.Slots.{IsSlot}
 use Rattle.ttx_packet.specs.Receptions.{MayBeReceivedAs}
 use Rattle.ttx_page.specs.Packets.{Empty, packet_of}
 use Rattle.ttx_receiver.specs.Starving.{spoilt}
-use Rattle.ttx_receiver.proofs.Choices.{and_left, and_right, no_both}
+use Rattle.ttx_receiver.proofs.Choices.{no_both}
 use Rattle.ttx_receiver.proofs.ReceivedPackets.{packet_empty}
 
 -- a byte with its lowest bit wrong is a byte, one bit from it, and of the other parity
@@ -23,20 +23,20 @@ flip_at : (b : ℕ) → b < 256 → is_flipped b ≡ true
 flip_at b lt = agree_below_at is_flipped (λ _. true) 256 b flips lt
 
 flip_byte : (b : ℕ) → b < 256 → bit_xor b 1 < 256
-flip_byte b lt = let h : bit_xor b 1 ≤ 255 = leb-true _ _ (and_left _ _ (and_left _ _ (and_left _ _ (flip_at b lt)))) in omega arith
+flip_byte b lt = let h : bit_xor b 1 ≤ 255 = leb-true _ _ ((and_parts _ _ (and_parts _ _ (and_parts _ _ (flip_at b lt)).0).0).0) in omega arith
 
 flip_near : (b : ℕ) → b < 256 → Near b (bit_xor b 1)
-flip_near b lt = leb-true _ _ (and_right _ _ (and_left _ _ (and_left _ _ (flip_at b lt))))
+flip_near b lt = leb-true _ _ ((and_parts _ _ (and_parts _ _ (and_parts _ _ (flip_at b lt)).0).0).1)
 
 pub near_self : (b : ℕ) → b < 256 → Near b b
-near_self b lt = leb-true _ _ (and_right _ _ (and_left _ _ (flip_at b lt)))
+near_self b lt = leb-true _ _ ((and_parts _ _ (and_parts _ _ (flip_at b lt)).0).1)
 
 both_false : (a b : Bool) → (a && b) ≡ false → a ≡ true → b ≡ false
 both_false true b h k = h
 both_false false b h k = cc
 
 pub flip_even : (b : ℕ) → b < 256 → is_odd b ≡ true → is_odd (bit_xor b 1) ≡ false
-flip_even b lt odd = both_false (is_odd b) (is_odd (bit_xor b 1)) (not-true _ (and_right _ _ (flip_at b lt))) odd
+flip_even b lt odd = both_false (is_odd b) (is_odd (bit_xor b 1)) (not-true _ ((and_parts _ _ (flip_at b lt)).1)) odd
 
 module _ (slot : List ℕ) (s : IsSlot slot) where
   pub kept_byte : (x y : ℕ) → y ≢ x → get_or (spoilt slot x) y 0 ≡ get_or slot y 0

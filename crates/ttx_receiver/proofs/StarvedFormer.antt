@@ -1,14 +1,14 @@
 -- The former memory: a page's own, but for one character or one link.
 use Rattle.std.proofs.Common.{◌≡◌, ◌≢◌, ℕ, zero, suc, ◌+◌, ◌-◌, ◌<◌, true, false, ◌==◌, List, [], ◌∷◌, ◌++◌, get_or, set, replicate, refl, sym, ap}
 use Rattle.std.proofs.Common.{◌∙◌, subst, inl, inr, arith, eqb-true, eq-eqb, length-set, get_or-set_same, get_or-set_other, length-append}
-use Rattle.std.proofs.lemmas.Bool.{cases_Bool}
+use Rattle.std.proofs.lemmas.Bool.{cases_Bool, cond_both}
 use Rattle.ttx_page.specs.Pages.{Page, IsPage, IsRow, needed}
 use Rattle.ttx_page.specs.declared.item.Item.{Item}
 use Rattle.ttx_page.specs.declared.item.Item.TheVariants.{Head as TheHead, Row as TheRow, Links as TheLinks}
 use Rattle.ttx_page.specs.Memories.{Memory, IsMemory, memory_row, char_at, memory_of_page, Holds}
 use Rattle.ttx_page.specs.Laws.{PageIsShown}
-use Rattle.ttx_receiver.specs.Starving.{other_letter, with_letter, wrong_memory, IsWrong}
-use Rattle.ttx_receiver.proofs.Choices.{if_ind, no_both}
+use Rattle.ttx_receiver.specs.Starving.{other_letter, with_letter, wrong_memory, HoldsWrong}
+use Rattle.ttx_receiver.proofs.Choices.{no_both}
 use Rattle.ttx_receiver.proofs.TakenItems.{needed_row}
 
 abbrev AreCodes : List ℕ → Type 0
@@ -38,7 +38,7 @@ page_memory p page = record { row_count = ap suc page.row_count; rows = rows_are
     rows_are (suc r) lt = let e : suc r - 1 ≡ r = omega arith in subst (λ k. IsRow (get_or p.rows k [])) e (page.rows (suc r) (omega arith) (omega arith))
 
 letter_code : (c : ℕ) → other_letter c < 128
-letter_code c = if_ind (λ x. x < 128) (c == 0x41) 0x42 0x41 (λ _. omega arith) (λ _. omega arith)
+letter_code c = cond_both (c == 0x41) 0x42 0x41 (λ x. x < 128) (λ _. omega arith) (λ _. omega arith)
 
 module _ (m : Memory) (is : IsMemory m) (r c : ℕ) (low : r < 25) (col : c < 40) where
   abbrev row : List ℕ
@@ -86,7 +86,7 @@ wrong_is_idle p TheHead = (refl, refl, refl)
 wrong_is_idle p (TheRow r) = (refl, refl, refl)
 wrong_is_idle p TheLinks = (refl, refl, refl)
 
-pub wrong_is_wrong : PageIsShown → (p : Page) → IsPage p → (item : Item) → needed p item ≡ true → IsWrong p (wrong_memory p item) item
+pub wrong_is_wrong : PageIsShown → (p : Page) → IsPage p → (item : Item) → needed p item ≡ true → HoldsWrong p (wrong_memory p item) item
 wrong_is_wrong shown p page TheHead need =
     lettered (memory_of_page p) (page_memory p page) 0 8 (omega arith) (omega arith) ∙ ap other_letter ((shown p page).items TheHead need 0 (omega arith))
 wrong_is_wrong shown p page (TheRow r) need =

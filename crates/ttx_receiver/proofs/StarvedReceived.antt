@@ -2,6 +2,7 @@
 use Rattle.std.proofs.Common.{◌≡◌, ◌⊎◌, ℕ, ◌<◌, ◌≤◌, ℤ, pos, ◌+ℤ◌, ◌<ℤ◌, ◌≤ℤ◌, true, false, List, [], ◌∷◌, length, get_or, refl, sym, ap, ◌∙◌, subst}
 use Rattle.std.proofs.Common.{inl, inr, arith, eqb-true}
 use Rattle.std.specs.List.{AllByRecursion}
+use Rattle.std.proofs.lemmas.Bool.{and_parts, cond_both}
 use Rattle.ttx_header.specs.Ids.{Id}
 use Rattle.ttx_packet.specs.Receptions.{MayBeReceivedAs}
 use Rattle.ttx_page.specs.Packets.{Packet, Header, Row, Links, packet_of}
@@ -16,7 +17,7 @@ use Rattle.ttx_page.specs.Streams.{IsSent}
 use Rattle.ttx_page.specs.Receptions.{IsTextByte, IsRight, OneIs, Received}
 use Rattle.ttx_receiver.specs.Laws.{IsSteadyFrom}
 use Rattle.ttx_receiver.specs.Starving.{spoilt, takes, heard, starved_memory, starved_slots}
-use Rattle.ttx_receiver.proofs.Choices.{if_ind, and_left, and_right, no_both}
+use Rattle.ttx_receiver.proofs.Choices.{no_both}
 use Rattle.ttx_receiver.proofs.ReceivedPackets.{LawsBelow}
 use Rattle.ttx_receiver.proofs.SlotDistances.{offset, offset_lt}
 use Rattle.ttx_receiver.proofs.StarvedUnder.{IsTaken, length_slots, slot_at, may, taken_at}
@@ -35,7 +36,7 @@ row_no_header id mag r (Links m c) h = refl
 row_no_header id mag r _ h = refl
 
 one_row : (mag mag' r r' : ℕ) (pkt : Packet) → carries mag (TheRow r) pkt ≡ true → carries mag' (TheRow r') pkt ≡ true → r' ≡ r
-one_row mag mag' r r' (Row m n t) h k = sym (eqb-true n r' (and_right _ _ k)) ∙ eqb-true n r (and_right _ _ h)
+one_row mag mag' r r' (Row m n t) h k = sym (eqb-true n r' ((and_parts _ _ k).1)) ∙ eqb-true n r ((and_parts _ _ h).1)
 one_row mag mag' r r' (Header i control text) h k = absurd (no_both false h refl)
 one_row mag mag' r r' (Links m c) h k = absurd (no_both false h refl)
 one_row mag mag' r r' _ h k = absurd (no_both false h refl)
@@ -85,17 +86,13 @@ module _ (laws : LawsBelow) (s : Stream) (p : Page) (sel : Selection) (fits : ma
     where
       go : (i : Item) (m : Memory) (other : Item) → IsTextByte other x → (h : ℤ) → IsOwned s p.id other h (tau +ℤ pos t) →
           (get_or (heard lines sel i m (sent t)) x 0 ≡ get_or (sent t) x 0) ⊎ ((other ≡ i) × (takes lines sel i (older m) (packet_of (sent t)) ≡ true))
-      go TheHead m TheHead text h owned = if_ind (λ y. (get_or y x 0 ≡ get_or (sent t) x 0) ⊎ ((TheHead ≡ TheHead) × (takes lines sel TheHead (older m) (packet_of (sent t)) ≡ true)))
-          (takes lines sel TheHead (older m) (packet_of (sent t))) (spoilt (sent t) 10) (sent t) (λ e. inr (refl, e)) (λ _. inl refl)
-      go TheHead m (TheRow r) text h owned = if_ind (λ y. (get_or y x 0 ≡ get_or (sent t) x 0) ⊎ ((TheRow r ≡ TheHead) × (takes lines sel TheHead (older m) (packet_of (sent t)) ≡ true)))
-          (takes lines sel TheHead (older m) (packet_of (sent t))) (spoilt (sent t) 10) (sent t)
+      go TheHead m TheHead text h owned = cond_both (takes lines sel TheHead (older m) (packet_of (sent t))) (spoilt (sent t) 10) (sent t) (λ y. (get_or y x 0 ≡ get_or (sent t) x 0) ⊎ ((TheHead ≡ TheHead) × (takes lines sel TheHead (older m) (packet_of (sent t)) ≡ true))) (λ e. inr (refl, e)) (λ _. inl refl)
+      go TheHead m (TheRow r) text h owned = cond_both (takes lines sel TheHead (older m) (packet_of (sent t))) (spoilt (sent t) 10) (sent t) (λ y. (get_or y x 0 ≡ get_or (sent t) x 0) ⊎ ((TheRow r ≡ TheHead) × (takes lines sel TheHead (older m) (packet_of (sent t)) ≡ true)))
           (λ e. absurd (no_both _ owned.2 (matched_no_row sel p.id.mag r (packet_of (sent t)) e))) (λ _. inl refl)
-      go (TheRow r) m TheHead text h owned = if_ind (λ y. (get_or y x 0 ≡ get_or (sent t) x 0) ⊎ ((TheHead ≡ TheRow r) × (takes lines sel (TheRow r) (older m) (packet_of (sent t)) ≡ true)))
-          (takes lines sel (TheRow r) (older m) (packet_of (sent t))) (spoilt (sent t) 2) (sent t)
-          (λ e. absurd (no_both _ owned.1 (row_no_header p.id (selected_mag sel) r (packet_of (sent t)) (and_left _ _ e)))) (λ _. inl refl)
-      go (TheRow r) m (TheRow r') text h owned = if_ind (λ y. (get_or y x 0 ≡ get_or (sent t) x 0) ⊎ ((TheRow r' ≡ TheRow r) × (takes lines sel (TheRow r) (older m) (packet_of (sent t)) ≡ true)))
-          (takes lines sel (TheRow r) (older m) (packet_of (sent t))) (spoilt (sent t) 2) (sent t)
-          (λ e. inr (ap TheRow (one_row (selected_mag sel) p.id.mag r r' (packet_of (sent t)) (and_left _ _ e) owned.2), e)) (λ _. inl refl)
+      go (TheRow r) m TheHead text h owned = cond_both (takes lines sel (TheRow r) (older m) (packet_of (sent t))) (spoilt (sent t) 2) (sent t) (λ y. (get_or y x 0 ≡ get_or (sent t) x 0) ⊎ ((TheHead ≡ TheRow r) × (takes lines sel (TheRow r) (older m) (packet_of (sent t)) ≡ true)))
+          (λ e. absurd (no_both _ owned.1 (row_no_header p.id (selected_mag sel) r (packet_of (sent t)) ((and_parts _ _ e).0)))) (λ _. inl refl)
+      go (TheRow r) m (TheRow r') text h owned = cond_both (takes lines sel (TheRow r) (older m) (packet_of (sent t))) (spoilt (sent t) 2) (sent t) (λ y. (get_or y x 0 ≡ get_or (sent t) x 0) ⊎ ((TheRow r' ≡ TheRow r) × (takes lines sel (TheRow r) (older m) (packet_of (sent t)) ≡ true)))
+          (λ e. inr (ap TheRow (one_row (selected_mag sel) p.id.mag r r' (packet_of (sent t)) ((and_parts _ _ e).0) owned.2), e)) (λ _. inl refl)
       go TheHead m TheLinks text h owned = absurd text
       go (TheRow r) m TheLinks text h owned = absurd text
       go TheLinks m other text h owned = inl refl

@@ -2,7 +2,7 @@
 use Rattle.std.proofs.Common.{◌≡◌, ℕ, zero, suc, ◌+◌, ◌<◌, ℤ, pos, ◌+ℤ◌, Bool, true, false, List, [], ◌∷◌, ◌++◌, length, get_or, refl, sym, ap, ◌∙◌}
 use Rattle.std.proofs.Common.{subst, inl, inr, arith, length-append, append_assoc}
 use Rattle.std.specs.List.{Contains}
-use Rattle.std.proofs.lemmas.Bool.{cases_lt, cases_Bool}
+use Rattle.std.proofs.lemmas.Bool.{cases_lt, cases_Bool, cond_both}
 use Rattle.std.proofs.lemmas.List.{get_or_append_left, append-nil}
 use Rattle.std.proofs.Math.Seq.{get_or-append_seam}
 use Rattle.std.proofs.lemmas.List.Elements.{Contains-get_or, Contains-append_left, Contains-append_right, Contains-append_cases}
@@ -16,9 +16,9 @@ use Rattle.ttx_page.specs.Memories.{Memory}
 use Rattle.ttx_page.specs.Receivers.{older, after, has_choice, next_choice, later_choices, scripted}
 use Rattle.ttx_page.specs.Streams.{Stream}
 use Rattle.ttx_page.specs.Laws.{ChoicesAreChoices}
-use Rattle.ttx_receiver.specs.Starving.{spoilt, takes, heard, is_hit, first_byte, starved_memory, starved_slots, starved_hits, starved_choices}
+use Rattle.ttx_receiver.specs.Starving.{spoilt, takes, heard, is_received_wrong, first_byte, starved_memory, starved_slots, starved_hits, starved_choices}
 use Rattle.ttx_receiver.specs.Starving.{StarvedIsScripted}
-use Rattle.ttx_receiver.proofs.Choices.{if_ind, no_both}
+use Rattle.ttx_receiver.proofs.Choices.{no_both}
 use Rattle.ttx_receiver.proofs.ReceivedPackets.{packet_empty}
 use Rattle.ttx_receiver.proofs.StarvedUnder.{slot_at, takes_something}
 
@@ -40,21 +40,21 @@ module _ (lines : ℕ) (sel : Selection) where
       let has = has_choice Any lines sel (older m) (packet_of first) in
       scripted_more (later_choices has script) (after Any lines sel (next_choice has script) (older m) (packet_of first)) slots slot
 
-hit_heard : (lines : ℕ) (sel : Selection) (item : Item) (m : Memory) (slot : List ℕ) → is_hit lines sel item m slot ≡ true →
+hit_heard : (lines : ℕ) (sel : Selection) (item : Item) (m : Memory) (slot : List ℕ) → is_received_wrong lines sel item m slot ≡ true →
     (heard lines sel item m slot ≡ spoilt slot (first_byte item)) × (is_empty slot ≡ false)
 hit_heard lines sel TheHead m slot h = (
-  if_ind (λ y. y ≡ spoilt slot 10) (takes lines sel TheHead (older m) (packet_of slot)) (spoilt slot 10) slot (λ _. refl) (λ e. absurd (no_both _ h e)),
+  cond_both (takes lines sel TheHead (older m) (packet_of slot)) (spoilt slot 10) slot (λ y. y ≡ spoilt slot 10) (λ _. refl) (λ e. absurd (no_both _ h e)),
   elim (cases_Bool (is_empty slot)) as (λ _. is_empty slot ≡ false) [ inl e ↦ absurd (takes_something lines sel TheHead (older m) (packet_of slot) h (packet_empty slot e)) | inr e ↦ e ],
 )
 hit_heard lines sel (TheRow r) m slot h = (
-  if_ind (λ y. y ≡ spoilt slot 2) (takes lines sel (TheRow r) (older m) (packet_of slot)) (spoilt slot 2) slot (λ _. refl) (λ e. absurd (no_both _ h e)),
+  cond_both (takes lines sel (TheRow r) (older m) (packet_of slot)) (spoilt slot 2) slot (λ y. y ≡ spoilt slot 2) (λ _. refl) (λ e. absurd (no_both _ h e)),
   elim (cases_Bool (is_empty slot)) as (λ _. is_empty slot ≡ false) [ inl e ↦ absurd (takes_something lines sel (TheRow r) (older m) (packet_of slot) h (packet_empty slot e)) | inr e ↦ e ],
 )
 hit_heard lines sel TheLinks m slot h = absurd (no_both false h refl)
 
-unhit_heard : (lines : ℕ) (sel : Selection) (item : Item) (m : Memory) (slot : List ℕ) → is_hit lines sel item m slot ≡ false → heard lines sel item m slot ≡ slot
-unhit_heard lines sel TheHead m slot h = if_ind (λ y. y ≡ slot) (takes lines sel TheHead (older m) (packet_of slot)) (spoilt slot 10) slot (λ e. absurd (no_both _ e h)) (λ _. refl)
-unhit_heard lines sel (TheRow r) m slot h = if_ind (λ y. y ≡ slot) (takes lines sel (TheRow r) (older m) (packet_of slot)) (spoilt slot 2) slot (λ e. absurd (no_both _ e h)) (λ _. refl)
+unhit_heard : (lines : ℕ) (sel : Selection) (item : Item) (m : Memory) (slot : List ℕ) → is_received_wrong lines sel item m slot ≡ false → heard lines sel item m slot ≡ slot
+unhit_heard lines sel TheHead m slot h = cond_both (takes lines sel TheHead (older m) (packet_of slot)) (spoilt slot 10) slot (λ y. y ≡ slot) (λ e. absurd (no_both _ e h)) (λ _. refl)
+unhit_heard lines sel (TheRow r) m slot h = cond_both (takes lines sel (TheRow r) (older m) (packet_of slot)) (spoilt slot 2) slot (λ y. y ≡ slot) (λ e. absurd (no_both _ e h)) (λ _. refl)
 unhit_heard lines sel TheLinks m slot h = refl
 
 only_one : (n a : ℕ) → Contains (n ∷ []) a → n ≡ a
@@ -88,14 +88,14 @@ module _ (lines : ℕ) (sel : Selection) (item : Item) (s : Stream) (tau : ℤ) 
   hits n = starved_hits lines sel item s tau former n
 
   abbrev hit_at : ℕ → Bool
-  hit_at t = is_hit lines sel item (mem t) (sent t)
+  hit_at t = is_received_wrong lines sel item (mem t) (sent t)
 
   -- the hits are the slots that are hit
   hits_are : (n t : ℕ) → Contains (hits n) t → (t < n) × (hit_at t ≡ true)
   unfolding starved_hits
   hits_are zero t c = absurd (let lt = c.1 in omega arith)
   hits_are (suc n) t c =
-      if_ind (λ z. Contains z t → (t < suc n) × (hit_at t ≡ true)) (hit_at n) (hits n ++ n ∷ []) (hits n)
+      cond_both (hit_at n) (hits n ++ n ∷ []) (hits n) (λ z. Contains z t → (t < suc n) × (hit_at t ≡ true))
       (λ e c. elim (Contains-append_cases (hits n) (n ∷ []) t c) as (λ _. (t < suc n) × (hit_at t ≡ true)) [
         | inl d ↦ let h = hits_are n t d in ((let lt = h.0 in omega arith), h.1)
         | inr d ↦ let same : n ≡ t = only_one n t d in ((omega arith), subst (λ x. hit_at x ≡ true) same e)
@@ -106,7 +106,7 @@ module _ (lines : ℕ) (sel : Selection) (item : Item) (s : Stream) (tau : ℤ) 
   unfolding starved_hits
   hits_have zero t lt h = absurd (omega arith)
   hits_have (suc n) t lt h =
-      if_ind (λ z. Contains z t) (hit_at n) (hits n ++ n ∷ []) (hits n)
+      cond_both (hit_at n) (hits n ++ n ∷ []) (hits n) (λ z. Contains z t)
       (λ e. elim (cases_lt t n) as (λ _. Contains (hits n ++ n ∷ []) t) [
         | inl less ↦ Contains-append_left (hits n) (n ∷ []) t (hits_have n t less h)
         | inr ge ↦ let same : n ≡ t = omega arith in Contains-append_right (hits n) (n ∷ []) t (0, (omega arith), same)
@@ -120,7 +120,7 @@ module _ (lines : ℕ) (sel : Selection) (item : Item) (s : Stream) (tau : ℤ) 
   unfolding starved_hits
   hits_rise zero i j lt inside = absurd (omega arith)
   hits_rise (suc n) i j lt inside =
-      if_ind (λ z. j < length z → get_or z i 0 < get_or z j 0) (hit_at n) (hits n ++ n ∷ []) (hits n)
+      cond_both (hit_at n) (hits n ++ n ∷ []) (hits n) (λ z. j < length z → get_or z i 0 < get_or z j 0)
       (λ e in_list. rising_more (hits n) n (hits_rise n) (λ k kt. (hits_are n (get_or (hits n) k 0) (Contains-get_or (hits n) k 0 kt)).0) i j lt in_list)
       (λ e in_list. hits_rise n i j lt in_list) inside
 
@@ -130,7 +130,7 @@ module _ (lines : ℕ) (sel : Selection) (item : Item) (s : Stream) (tau : ℤ) 
   unfolding starved_choices starved_slots starved_memory
   script_is plain zero more = (refl, refl)
   script_is plain (suc n) more =
-      if_ind (λ (z : List Bool). (scripted Any lines sel (z ++ more) former (slots ++ now ∷ []) ≡ new) × (left lines sel (z ++ more) former (slots ++ now ∷ []) ≡ more)) has (before ++ true ∷ []) before
+      cond_both has (before ++ true ∷ []) before (λ (z : List Bool). (scripted Any lines sel (z ++ more) former (slots ++ now ∷ []) ≡ new) × (left lines sel (z ++ more) former (slots ++ now ∷ []) ≡ more))
       (λ e. subst (λ z. (scripted Any lines sel z former (slots ++ now ∷ []) ≡ new) × (left lines sel z former (slots ++ now ∷ []) ≡ more)) (sym (append_assoc before (true ∷ []) more))
       (let i = script_is plain n (true ∷ more) in one_more true e (before ++ true ∷ more) (true ∷ more) i.0 i.1 refl refl))
       (λ e. let i = script_is plain n more in one_more false e (before ++ more) more i.0 i.1 (sym (plain Any lines sel (older (mem n)) (packet_of now) e)) refl)
@@ -170,7 +170,7 @@ starved_is_scripted plain lines sel item s tau former n = record {
   hit = λ t c. let h = hits_are lines sel item s tau former n t c in
       slot_at lines sel item s tau former n t h.0 ∙ (hit_heard lines sel item (mem lines sel item s tau former t) (s (tau +ℤ pos t)) h.1).0;
   other = λ t lt no. slot_at lines sel item s tau former n t lt
-      ∙ elim (cases_Bool (is_hit lines sel item (mem lines sel item s tau former t) (s (tau +ℤ pos t)))) as (λ _. heard lines sel item (mem lines sel item s tau former t) (s (tau +ℤ pos t)) ≡ s (tau +ℤ pos t)) [
+      ∙ elim (cases_Bool (is_received_wrong lines sel item (mem lines sel item s tau former t) (s (tau +ℤ pos t)))) as (λ _. heard lines sel item (mem lines sel item s tau former t) (s (tau +ℤ pos t)) ≡ s (tau +ℤ pos t)) [
         | inl e ↦ absurd (no (hits_have lines sel item s tau former n t lt e))
         | inr e ↦ unhit_heard lines sel item (mem lines sel item s tau former t) (s (tau +ℤ pos t)) e
       ];

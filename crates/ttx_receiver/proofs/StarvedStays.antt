@@ -1,7 +1,7 @@
 -- Where an item never comes by an all-sure run, a receiver that takes all its choices keeps it wrong, and all else right.
 use Rattle.std.proofs.Common.{◌≡◌, ◌≢◌, ℕ, zero, suc, ◌+◌, ◌<◌, ◌≤◌, ℤ, pos, ◌+ℤ◌, Bool, true, false, if◌then◌else◌, List, [], length, get_or, refl}
 use Rattle.std.proofs.Common.{sym, ap, ◌∙◌, subst, arith, ext_get_or, get_or-drop}
-use Rattle.std.proofs.lemmas.Bool.{and_from}
+use Rattle.std.proofs.lemmas.Bool.{and_from, and_parts}
 use Rattle.ttx_code.specs.Words.{is_odd}
 use Rattle.ttx_packet.specs.Slots.{IsSlot}
 use Rattle.ttx_page.specs.Packets.{Packet, Header, Row, Links, packet_of}
@@ -17,9 +17,9 @@ use Rattle.ttx_page.specs.Receptions.{Received}
 use Rattle.ttx_page.specs.Steady.{HeadIsRight, RowIsRight}
 use Rattle.ttx_page.specs.Laws.{PageIsShown, RunsGoOn}
 use Rattle.ttx_receiver.specs.Laws.{IsSteadyFrom}
-use Rattle.ttx_receiver.specs.Starving.{spoilt, is_bound, takes, heard, starved_memory, starved_slots, wrong_memory, IsWrong, IsStarved}
+use Rattle.ttx_receiver.specs.Starving.{spoilt, is_bound, takes, heard, starved_memory, starved_slots, wrong_memory, HoldsWrong, IsStarved}
 use Rattle.ttx_receiver.specs.Starving.{StarvedStaysWrong}
-use Rattle.ttx_receiver.proofs.Choices.{and_left, and_right, no_both}
+use Rattle.ttx_receiver.proofs.Choices.{no_both}
 use Rattle.ttx_receiver.proofs.StepsOverPage.{Shape, shape_after}
 use Rattle.ttx_receiver.proofs.TakenAndKept.{HeadRightAt, RowRightAt, keep_row, keep_head, keep_links}
 use Rattle.ttx_receiver.proofs.Runs.{packet_at, IsTuned, ReceivesPage, tuned_next}
@@ -132,12 +132,12 @@ module _ (all : StarvingLaws) (s : Stream) (p : Page) (page : IsPage p) (sel : S
   even_row r is t h =
       let range = needed_row p r (subst (λ i. needed p i ≡ true) is need) in
       let m = mem t in
-      let carried = and_left _ _ h in
+      let carried = (and_parts _ _ h).0 in
       let mine = ap (λ mag. carries mag (TheRow r) (packet_of (hears t))) (same_mag sel p.id fits) ∙ carried in
       let was = row_was_sent laws (sent t) (hears t) (slots_are t) (steady.clean _ (not_before tau t)) (may laws s p sel fits lines few item tau steady former (wrong_is_idle p item).0 t) p.id.mag r mine in
       let was' : takes lines sel (TheRow r) (older m) (packet_of (sent t)) ≡ true =
       and_from (carries (selected_mag sel) (TheRow r) (packet_of (sent t))) (is_bound lines (older m))
-      (ap (λ mag. carries mag (TheRow r) (packet_of (sent t))) (sym (same_mag sel p.id fits)) ∙ was) (and_right (carries (selected_mag sel) (TheRow r) (packet_of (hears t))) _ h) in
+      (ap (λ mag. carries mag (TheRow r) (packet_of (sent t))) (sym (same_mag sel p.id fits)) ∙ was) ((and_parts (carries (selected_mag sel) (TheRow r) (packet_of (hears t))) _ h).1) in
       let k = taken t (subst (λ i. takes lines sel i (older m) (packet_of (sent t)) ≡ true) (sym is) was') in
       let own : RowIsRight p r (packet_of (sent t)) =
       steady.items (TheRow r) (subst (λ i. needed p i ≡ true) is need) k.owner (tau +ℤ pos t) k.not_before (subst (λ i. IsOwned s p.id i k.owner (tau +ℤ pos t)) is k.owned) in
@@ -182,7 +182,7 @@ module _ (all : StarvingLaws) (s : Stream) (p : Page) (page : IsPage p) (sel : S
     shape : Shape m
     tuned : IsTuned sel p (packet_at got) t m
     others : (other : Item) → other ≢ item → needed p other ≡ true → HoldsEach p m other
-    wrong : IsWrong p m item
+    wrong : HoldsWrong p m item
 
   heard_at : (t : ℕ) → t < n → packet_at got t ≡ packet_of (hears t)
   heard_at t lt = ap packet_of (slot_at lines sel item s tau former n t lt)
@@ -222,20 +222,20 @@ module _ (all : StarvingLaws) (s : Stream) (p : Page) (page : IsPage p) (sel : S
           others_next TheLinks need' inside shape was =
               keep_links Any lines sel p page.no_erase true (older (mem t)) (packet_at got t) l.tuned.settled (given.heads t inside) (λ st carry. given.links t inside (l.tuned.owned st) carry) was
 
-          wrong_next : (i : Item) → item ≡ i → t < length got → Shape (older (mem t)) → IsWrong p (after Any lines sel true (older (mem t)) (packet_at got t)) i
+          wrong_next : (i : Item) → item ≡ i → t < length got → Shape (older (mem t)) → HoldsWrong p (after Any lines sel true (older (mem t)) (packet_at got t)) i
           wrong_next TheHead is inside shape =
               wrong_head lines sel (older (mem t)) (packet_at got t) shape
               (λ h. subst IsFirstEven (sym (heard_at t lt)) (even_head is t (subst (λ x. takes lines sel TheHead (older (mem t)) x ≡ true) (heard_at t lt) h))) (given.no_row_0 t inside)
-              ∙ subst (IsWrong p (mem t)) is l.wrong
+              ∙ subst (HoldsWrong p (mem t)) is l.wrong
           wrong_next (TheRow r) is inside shape =
               let range = needed_row p r (subst (λ i. needed p i ≡ true) is need) in
               wrong_row lines sel r range.0 (omega (arith, range.1)) p page.no_erase (older (mem t)) (packet_at got t) shape l.tuned.settled (given.heads t inside)
               (λ h. subst IsFirstEven (sym (heard_at t lt)) (even_row r is t (subst (λ x. takes lines sel (TheRow r) (older (mem t)) x ≡ true) (heard_at t lt) h)))
-              ∙ subst (IsWrong p (mem t)) is l.wrong
+              ∙ subst (HoldsWrong p (mem t)) is l.wrong
           wrong_next TheLinks is inside shape =
               wrong_links lines sel p page.no_erase (older (mem t)) (packet_at got t) l.tuned.settled (given.heads t inside)
               (λ h. no_links is t lt (subst (λ x. takes lines sel TheLinks (older (mem t)) x ≡ true) (heard_at t lt) h))
-              ∙ subst (IsWrong p (mem t)) is l.wrong
+              ∙ subst (HoldsWrong p (mem t)) is l.wrong
 
   pub starved : IsStarved s p sel lines repeat item tau n former (mem n) got
   starved =

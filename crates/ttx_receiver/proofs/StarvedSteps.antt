@@ -2,7 +2,7 @@
 use Rattle.std.proofs.Common.{◌≡◌, ◌≢◌, ◌⊎◌, ℕ, ◌-◌, ◌<◌, ◌≤◌, Bool, true, false, not, ◌&&◌, ◌==◌, List, [], ◌++◌, Some, None, length, get_or, take}
 use Rattle.std.proofs.Common.{drop, set, refl, sym, ap, ◌∙◌, subst, inl, inr, arith, eqb-true, eq-eqb, nat_le, get_or-set_same, get_or-set_other}
 use Rattle.std.proofs.Common.{length-drop, get_or-drop}
-use Rattle.std.proofs.lemmas.Bool.{and_from, cases_Bool}
+use Rattle.std.proofs.lemmas.Bool.{and_from, cases_Bool, and_parts, cond_both}
 use Rattle.ttx_code.specs.Words.{is_odd}
 use Rattle.ttx_header.specs.Control.{c4, c11}
 use Rattle.ttx_page.specs.Packets.{Packet, Header, Row, Links}
@@ -14,7 +14,7 @@ use Rattle.ttx_page.specs.Memories.{Memory, char_at}
 use Rattle.ttx_page.specs.Receivers.{stored_row, with_row, with_storing, erased, begun, with_links, erases, misses, after}
 use Rattle.ttx_page.specs.Streams.{heads, heads_matched, ends_serial, carries}
 use Rattle.ttx_receiver.specs.Starving.{is_bound, takes}
-use Rattle.ttx_receiver.proofs.Choices.{if_ind, and_left, and_right, no_both, stored_row_at}
+use Rattle.ttx_receiver.proofs.Choices.{no_both, stored_row_at}
 use Rattle.ttx_receiver.proofs.StepsOverPage.{Shape, IsHeadOf, erased_first, shape_erased}
 use Rattle.ttx_receiver.proofs.TakenAndKept.{erases_not, head_char}
 
@@ -46,11 +46,11 @@ StoresSince m new sel pkt = ((heads_matched sel pkt ≡ true) × (new.age ≡ 0)
 module _ (lines : ℕ) (sel : Selection) where
   pub stores_since : (m : Memory) (pkt : Packet) → (after Any lines sel true m pkt).storing ≡ true → StoresSince m (after Any lines sel true m pkt) sel pkt
   stores_since m (Header id control text) st =
-      if_ind (λ (new : Memory). new.storing ≡ true → StoresSince m new sel (Header id control text)) (matches sel id) _ _
+      cond_both (matches sel id) _ _ (λ (new : Memory). new.storing ≡ true → StoresSince m new sel (Header id control text))
       (λ e _. inl (e, refl))
-      (λ _. if_ind (λ (new : Memory). new.storing ≡ true → StoresSince m new sel (Header id control text)) (id.mag == selected_mag sel) _ _
+      (λ _. cond_both (id.mag == selected_mag sel) _ _ (λ (new : Memory). new.storing ≡ true → StoresSince m new sel (Header id control text))
       (λ _ h. absurd (no_both false h refl))
-      (λ e. if_ind (λ (new : Memory). new.storing ≡ true → StoresSince m new sel (Header id control text)) (c11 control && true) (with_storing m false) m
+      (λ e. cond_both (c11 control && true) (with_storing m false) m (λ (new : Memory). new.storing ≡ true → StoresSince m new sel (Header id control text))
       (λ _ h. absurd (no_both false h refl))
       (λ k h. inr (record { was = h; no_header = e; no_end = no_taint (id.mag == selected_mag sel) (c11 control) k; same_age = refl })))) st
     where
@@ -59,15 +59,12 @@ module _ (lines : ℕ) (sel : Selection) where
       no_taint false true k = k
       no_taint false false k = refl
   stores_since m (Row mag number text) st =
-      if_ind (λ (new : Memory). new.storing ≡ true → StoresSince m new sel (Row mag number text)) ((mag == selected_mag sel) && m.storing && not (misses lines true m))
-      (with_row m number (stored_row (get_or m.rows number []) text)) m
+      cond_both ((mag == selected_mag sel) && m.storing && not (misses lines true m)) (with_row m number (stored_row (get_or m.rows number []) text)) m (λ (new : Memory). new.storing ≡ true → StoresSince m new sel (Row mag number text))
       (λ _ h. inr (record { was = h; no_header = refl; no_end = refl; same_age = refl })) (λ _ h. inr (record { was = h; no_header = refl; no_end = refl; same_age = refl })) st
   stores_since m (Links mag None) st =
-      if_ind (λ (new : Memory). new.storing ≡ true → StoresSince m new sel (Links mag None)) ((mag == selected_mag sel) && m.storing && not (misses lines true m))
-      m m (λ _ h. inr (record { was = h; no_header = refl; no_end = refl; same_age = refl })) (λ _ h. inr (record { was = h; no_header = refl; no_end = refl; same_age = refl })) st
+      cond_both ((mag == selected_mag sel) && m.storing && not (misses lines true m)) m m (λ (new : Memory). new.storing ≡ true → StoresSince m new sel (Links mag None)) (λ _ h. inr (record { was = h; no_header = refl; no_end = refl; same_age = refl })) (λ _ h. inr (record { was = h; no_header = refl; no_end = refl; same_age = refl })) st
   stores_since m (Links mag (Some content)) st =
-      if_ind (λ (new : Memory). new.storing ≡ true → StoresSince m new sel (Links mag (Some content))) ((mag == selected_mag sel) && m.storing && not (misses lines true m))
-      (with_links m (Some content)) m
+      cond_both ((mag == selected_mag sel) && m.storing && not (misses lines true m)) (with_links m (Some content)) m (λ (new : Memory). new.storing ≡ true → StoresSince m new sel (Links mag (Some content)))
       (λ _ h. inr (record { was = h; no_header = refl; no_end = refl; same_age = refl })) (λ _ h. inr (record { was = h; no_header = refl; no_end = refl; same_age = refl })) st
   stores_since m _ h = inr (record { was = h; no_header = refl; no_end = refl; same_age = refl })
 
@@ -77,27 +74,27 @@ module _ (lines : ℕ) (sel : Selection) where
   taken_is : (m : Memory) (mag r number : ℕ) → taken_by m mag ≡ true → (number == r) ≡ true → takes lines sel (TheRow r) m (Row mag number []) ≡ true
   taken_is m mag r number e q =
       and_from ((mag == selected_mag sel) && (number == r)) (is_bound lines m)
-      (and_from (mag == selected_mag sel) (number == r) (and_left _ _ (and_left _ _ e)) q)
-      (and_from m.storing (not (nat_le m.age lines)) (and_right _ _ (and_left _ _ e)) (and_right _ _ e))
+      (and_from (mag == selected_mag sel) (number == r) ((and_parts _ _ (and_parts _ _ e).0).0) q)
+      (and_from m.storing (not (nat_le m.age lines)) ((and_parts _ _ (and_parts _ _ e).0).1) ((and_parts _ _ e).1))
 
   -- the first character of row r stays as it is where each row r that is taken has a wrong first byte
   pub wrong_row : (r : ℕ) → 1 ≤ r → r < 25 → (p : Page) → c4 p.control ≡ false → (m : Memory) (pkt : Packet) → Shape m → m.fresh ≡ false →
       (heads_matched sel pkt ≡ true → IsHeadOf p pkt) → (takes lines sel (TheRow r) m pkt ≡ true → IsFirstEven pkt) → char_at (after Any lines sel true m pkt) r 0 ≡ char_at m r 0
   wrong_row r low high p k4 m (Header id control text) s f hh even =
       let P : Memory → Type 0 = λ new. char_at new r 0 ≡ char_at m r 0 in
-      if_ind {A = Memory} P (matches sel id) _ _
+      cond_both {A = Memory} (matches sel id) _ _ P
       (λ e.
       let k : c4 control ≡ false = ap c4 (hh e).0 ∙ k4 in
       let ne : r ≢ 0 = omega arith in
-      if_ind {A = Memory} (λ x. P (begun x control text)) (erases Any true m control) (erased m) m
+      cond_both {A = Memory} (erases Any true m control) (erased m) m (λ x. P (begun x control text))
       (λ q. absurd (no_both _ q (erases_not Any true m control k f)))
       (λ _. ap (λ row. get_or row 0 0) (get_or-set_other m.rows 0 r _ [] ne)))
-      (λ _. if_ind {A = Memory} P (id.mag == selected_mag sel) _ _ (λ _. refl)
-      (λ _. if_ind {A = Memory} P (c11 control && true) (with_storing m false) m (λ _. refl) (λ _. refl)))
+      (λ _. cond_both {A = Memory} (id.mag == selected_mag sel) _ _ P (λ _. refl)
+      (λ _. cond_both {A = Memory} (c11 control && true) (with_storing m false) m P (λ _. refl) (λ _. refl)))
   wrong_row r low high p k4 m (Row mag number text) s f hh even =
       let P : Memory → Type 0 = λ new. char_at new r 0 ≡ char_at m r 0 in
       let row = stored_row (get_or m.rows number []) text in
-      if_ind {A = Memory} P (taken_by m mag) (with_row m number row) m
+      cond_both {A = Memory} (taken_by m mag) (with_row m number row) m P
       (λ e. elim (cases_Bool (number == r)) as (λ _. P (with_row m number row)) [
         | inl q ↦
             let same : number ≡ r = eqb-true number r q in
@@ -112,9 +109,9 @@ module _ (lines : ℕ) (sel : Selection) where
       ])
       (λ _. refl)
   wrong_row r low high p k4 m (Links mag None) s f hh even =
-      if_ind {A = Memory} (λ new. char_at new r 0 ≡ char_at m r 0) (taken_by m mag) m m (λ _. refl) (λ _. refl)
+      cond_both {A = Memory} (taken_by m mag) m m (λ new. char_at new r 0 ≡ char_at m r 0) (λ _. refl) (λ _. refl)
   wrong_row r low high p k4 m (Links mag (Some content)) s f hh even =
-      if_ind {A = Memory} (λ new. char_at new r 0 ≡ char_at m r 0) (taken_by m mag) (with_links m (Some content)) m (λ _. refl) (λ _. refl)
+      cond_both {A = Memory} (taken_by m mag) (with_links m (Some content)) m (λ new. char_at new r 0 ≡ char_at m r 0) (λ _. refl) (λ _. refl)
   wrong_row r low high p k4 m _ s f hh even = refl
 
   -- so does column 8 of row 0 where each matching header has a wrong first byte
@@ -122,12 +119,12 @@ module _ (lines : ℕ) (sel : Selection) where
       char_at (after Any lines sel true m pkt) 0 8 ≡ char_at m 0 8
   wrong_head m (Header id control text) s even none =
       let P : Memory → Type 0 = λ new. char_at new 0 8 ≡ char_at m 0 8 in
-      if_ind {A = Memory} P (matches sel id) _ _
-      (λ e. if_ind {A = Memory} (λ x. P (begun x control text)) (erases Any true m control) (erased m) m
+      cond_both {A = Memory} (matches sel id) _ _ P
+      (λ e. cond_both {A = Memory} (erases Any true m control) (erased m) m (λ x. P (begun x control text))
       (λ _. begun_keeps (erased m) (shape_erased m s) (even e) ∙ ap (λ row. get_or row 8 0) (erased_first m.rows s.count))
       (λ _. begun_keeps m s (even e)))
-      (λ _. if_ind {A = Memory} P (id.mag == selected_mag sel) _ _ (λ _. refl)
-      (λ _. if_ind {A = Memory} P (c11 control && true) (with_storing m false) m (λ _. refl) (λ _. refl)))
+      (λ _. cond_both {A = Memory} (id.mag == selected_mag sel) _ _ P (λ _. refl)
+      (λ _. cond_both {A = Memory} (c11 control && true) (with_storing m false) m P (λ _. refl) (λ _. refl)))
     where
       begun_keeps : (x : Memory) → Shape x → is_odd (get_or text 0 0) ≡ false → char_at (begun x control text) 0 8 ≡ char_at x 0 8
       begun_keeps x s ev =
@@ -140,15 +137,15 @@ module _ (lines : ℕ) (sel : Selection) where
   wrong_head m (Row mag number text) s even none =
       let P : Memory → Type 0 = λ new. char_at new 0 8 ≡ char_at m 0 8 in
       let row = stored_row (get_or m.rows number []) text in
-      if_ind {A = Memory} P (taken_by m mag) (with_row m number row) m
+      cond_both {A = Memory} (taken_by m mag) (with_row m number row) m P
       (λ e.
-      let ne : 0 ≢ number = λ z. no_both _ (and_from _ _ (and_left _ _ (and_left _ _ e)) (eq-eqb number 0 (sym z))) none in
+      let ne : 0 ≢ number = λ z. no_both _ (and_from _ _ ((and_parts _ _ (and_parts _ _ e).0).0) (eq-eqb number 0 (sym z))) none in
       ap (λ z. get_or z 8 0) (get_or-set_other m.rows number 0 row [] ne))
       (λ _. refl)
   wrong_head m (Links mag None) s even none =
-      if_ind {A = Memory} (λ new. char_at new 0 8 ≡ char_at m 0 8) (taken_by m mag) m m (λ _. refl) (λ _. refl)
+      cond_both {A = Memory} (taken_by m mag) m m (λ new. char_at new 0 8 ≡ char_at m 0 8) (λ _. refl) (λ _. refl)
   wrong_head m (Links mag (Some content)) s even none =
-      if_ind {A = Memory} (λ new. char_at new 0 8 ≡ char_at m 0 8) (taken_by m mag) (with_links m (Some content)) m (λ _. refl) (λ _. refl)
+      cond_both {A = Memory} (taken_by m mag) (with_links m (Some content)) m (λ new. char_at new 0 8 ≡ char_at m 0 8) (λ _. refl) (λ _. refl)
   wrong_head m _ s even none = refl
 
   -- so do the links where no links are taken
@@ -156,18 +153,18 @@ module _ (lines : ℕ) (sel : Selection) where
       (takes lines sel TheLinks m pkt ≡ true → ⊥) → (after Any lines sel true m pkt).links ≡ m.links
   wrong_links p k4 m (Header id control text) f hh none =
       let P : Memory → Type 0 = λ new. new.links ≡ m.links in
-      if_ind {A = Memory} P (matches sel id) _ _
+      cond_both {A = Memory} (matches sel id) _ _ P
       (λ e.
       let k : c4 control ≡ false = ap c4 (hh e).0 ∙ k4 in
-      if_ind {A = Memory} (λ x. P (begun x control text)) (erases Any true m control) (erased m) m
+      cond_both {A = Memory} (erases Any true m control) (erased m) m (λ x. P (begun x control text))
       (λ q. absurd (no_both _ q (erases_not Any true m control k f))) (λ _. refl))
-      (λ _. if_ind {A = Memory} P (id.mag == selected_mag sel) _ _ (λ _. refl)
-      (λ _. if_ind {A = Memory} P (c11 control && true) (with_storing m false) m (λ _. refl) (λ _. refl)))
+      (λ _. cond_both {A = Memory} (id.mag == selected_mag sel) _ _ P (λ _. refl)
+      (λ _. cond_both {A = Memory} (c11 control && true) (with_storing m false) m P (λ _. refl) (λ _. refl)))
   wrong_links p k4 m (Row mag number text) f hh none =
-      if_ind {A = Memory} (λ new. new.links ≡ m.links) (taken_by m mag) (with_row m number (stored_row (get_or m.rows number []) text)) m (λ _. refl) (λ _. refl)
+      cond_both {A = Memory} (taken_by m mag) (with_row m number (stored_row (get_or m.rows number []) text)) m (λ new. new.links ≡ m.links) (λ _. refl) (λ _. refl)
   wrong_links p k4 m (Links mag content) f hh none =
-      if_ind {A = Memory} (λ new. new.links ≡ m.links) (taken_by m mag) (with_links m content) m
-      (λ e. absurd (none (and_from (mag == selected_mag sel) (is_bound lines m) (and_left _ _ (and_left _ _ e))
-      (and_from m.storing (not (nat_le m.age lines)) (and_right _ _ (and_left _ _ e)) (and_right _ _ e)))))
+      cond_both {A = Memory} (taken_by m mag) (with_links m content) m (λ new. new.links ≡ m.links)
+      (λ e. absurd (none (and_from (mag == selected_mag sel) (is_bound lines m) ((and_parts _ _ (and_parts _ _ e).0).0)
+      (and_from m.storing (not (nat_le m.age lines)) ((and_parts _ _ (and_parts _ _ e).0).1) ((and_parts _ _ e).1)))))
       (λ _. refl)
   wrong_links p k4 m _ f hh none = refl

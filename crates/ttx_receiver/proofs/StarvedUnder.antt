@@ -2,7 +2,7 @@
 use Rattle.std.proofs.Common.{◌≡◌, ℕ, zero, suc, ◌+◌, ◌-◌, ◌<◌, ◌≤◌, min, ℤ, pos, ◌+ℤ◌, ◌<ℤ◌, ◌≤ℤ◌, Bool, true, false, ◌&&◌, List, [], ◌∷◌, ◌++◌}
 use Rattle.std.proofs.Common.{length, get_or, refl, sym, ap, ◌∙◌, subst, inl, inr, arith, nat_le, length-append}
 use Rattle.std.proofs.lemmas.Int.{ints}
-use Rattle.std.proofs.lemmas.Bool.{cases_lt, leb-false, not-true}
+use Rattle.std.proofs.lemmas.Bool.{cases_lt, leb-false, not-true, and_parts, cond_both}
 use Rattle.std.proofs.lemmas.List.{get_or_append_left, get_or-append-add}
 use Rattle.ttx_packet.specs.Slots.{IsSlot}
 use Rattle.ttx_packet.specs.Receptions.{MayBeReceivedAs}
@@ -17,7 +17,7 @@ use Rattle.ttx_page.specs.Receivers.{older, after}
 use Rattle.ttx_page.specs.Streams.{Stream, heads, heads_page, heads_matched, ends_serial, carries, IsLatestHeader, IsOwned, IsSure, CannotBeMissed}
 use Rattle.ttx_receiver.specs.Laws.{IsSteadyFrom}
 use Rattle.ttx_receiver.specs.Starving.{spoilt, is_bound, takes, heard, starved_memory, starved_slots}
-use Rattle.ttx_receiver.proofs.Choices.{if_ind, and_left, and_right, no_both}
+use Rattle.ttx_receiver.proofs.Choices.{no_both}
 use Rattle.ttx_receiver.proofs.ReceivedPackets.{LawsBelow, same_heads, same_matched, same_ends}
 use Rattle.ttx_receiver.proofs.ReceivedPage.{page_heads, same_mag}
 use Rattle.ttx_receiver.proofs.SlotDistances.{offset, not_before, offset_lt, lt_offset}
@@ -78,10 +78,10 @@ takes_something lines sel TheLinks m pkt h e = no_both _ (subst (λ x. (carries 
 -- what is heard may be received
 pub heard_received : (lines : ℕ) (sel : Selection) (item : Item) (m : Memory) (slot : List ℕ) → IsSlot slot → MayBeReceivedAs slot (heard lines sel item m slot)
 heard_received lines sel TheHead m slot s =
-    if_ind (MayBeReceivedAs slot) (takes lines sel TheHead (older m) (packet_of slot)) (spoilt slot 10) slot
+    cond_both (takes lines sel TheHead (older m) (packet_of slot)) (spoilt slot 10) slot (MayBeReceivedAs slot)
     (λ e. spoilt_received slot s 10 (omega arith) (takes_something lines sel TheHead (older m) (packet_of slot) e)) (λ _. received_as_sent slot s)
 heard_received lines sel (TheRow r) m slot s =
-    if_ind (MayBeReceivedAs slot) (takes lines sel (TheRow r) (older m) (packet_of slot)) (spoilt slot 2) slot
+    cond_both (takes lines sel (TheRow r) (older m) (packet_of slot)) (spoilt slot 2) slot (MayBeReceivedAs slot)
     (λ e. spoilt_received slot s 2 (omega arith) (takes_something lines sel (TheRow r) (older m) (packet_of slot) e)) (λ _. received_as_sent slot s)
 heard_received lines sel TheLinks m slot s = received_as_sent slot s
 
@@ -175,8 +175,8 @@ module _ (laws : LawsBelow) (s : Stream) (p : Page) (sel : Selection) (fits : ma
 
   bound_at : (t : ℕ) → is_bound lines (older (mem t)) ≡ true → IsBoundAt t
   bound_at t b =
-      let u = under t (and_left _ _ b) in
-      let k : u.header + lines < t = old_enough t u.header (mem t) u.age u.before (not-true _ (and_right (mem t).storing _ b)) in
+      let u = under t ((and_parts _ _ b).0) in
+      let k : u.header + lines < t = old_enough t u.header (mem t) u.age u.before (not-true _ ((and_parts (mem t).storing _ b).1)) in
       let inside = λ (P : ℤ → Type 0) (each : (i : ℕ) → u.header < i → i < t → P (place i)) (i : ℤ) (low : place u.header <ℤ i) (high : i <ℤ place t).
       let o = offset tau i (le_lt _ _ _ (not_before tau u.header) low) in
       subst P (sym o.1) (each o.0 (offset_lt tau u.header o.0 (subst (λ x. place u.header <ℤ x) o.1 low)) (offset_lt tau o.0 t (subst (λ x. x <ℤ place t) o.1 high))) in
@@ -204,19 +204,19 @@ module _ (laws : LawsBelow) (s : Stream) (p : Page) (sel : Selection) (fits : ma
       }
       go (TheRow r) e =
           let k : (carries (selected_mag sel) (TheRow r) (packet_of (sent t)) && is_bound lines (older (mem t))) ≡ true = subst (λ y. takes lines sel y (older (mem t)) (packet_of (sent t)) ≡ true) (sym e) h in
-          let b = bound_at t (and_right _ _ k) in
+          let b = bound_at t ((and_parts _ _ k).1) in
           record {
             owner = place b.header;
-            owned = (b.latest, b.mine, ap (λ m. carries m (TheRow r) (packet_of (sent t))) (same_mag sel p.id fits) ∙ and_left _ _ k);
+            owned = (b.latest, b.mine, ap (λ m. carries m (TheRow r) (packet_of (sent t))) (same_mag sel p.id fits) ∙ (and_parts _ _ k).0);
             not_before = not_before tau b.header;
             sure = b.sure;
           }
       go TheLinks e =
           let k : (carries (selected_mag sel) TheLinks (packet_of (sent t)) && is_bound lines (older (mem t))) ≡ true = subst (λ y. takes lines sel y (older (mem t)) (packet_of (sent t)) ≡ true) (sym e) h in
-          let b = bound_at t (and_right _ _ k) in
+          let b = bound_at t ((and_parts _ _ k).1) in
           record {
             owner = place b.header;
-            owned = (b.latest, b.mine, ap (λ m. carries m TheLinks (packet_of (sent t))) (same_mag sel p.id fits) ∙ and_left _ _ k);
+            owned = (b.latest, b.mine, ap (λ m. carries m TheLinks (packet_of (sent t))) (same_mag sel p.id fits) ∙ (and_parts _ _ k).0);
             not_before = not_before tau b.header;
             sure = b.sure;
           }

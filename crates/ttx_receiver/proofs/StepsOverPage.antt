@@ -2,7 +2,7 @@
 use Rattle.std.proofs.Common.{◌≡◌, ◌⊎◌, ℕ, zero, suc, ◌%◌, ◌<◌, Bool, true, false, not, ◌&&◌, ◌==◌, ◌≢◌, List, [], ◌∷◌, ◌++◌, Some, None, length}
 use Rattle.std.proofs.Common.{get_or, take, drop, set, replicate, refl, sym, ap, ◌∙◌, subst, inl, inr, arith, eqb-true, eq-eqb, length-set}
 use Rattle.std.proofs.Common.{get_or-set_same, get_or-set_other, length-append, length-take-le, length-drop}
-use Rattle.std.proofs.lemmas.Bool.{cases_lt, and_from, cases_Bool, not_from_false}
+use Rattle.std.proofs.lemmas.Bool.{cases_lt, and_from, cases_Bool, not_from_false, and_parts, cond_both}
 use Rattle.std.proofs.lemmas.List.{get_or-replicate}
 use Rattle.ttx_code.specs.Words.{is_odd}
 use Rattle.ttx_header.specs.Ids.{Id}
@@ -15,11 +15,11 @@ use Rattle.ttx_header.specs.Control.{c11}
 use Rattle.ttx_page.specs.Memories.{Memory}
 use Rattle.ttx_page.specs.Receivers.{stored_row, with_row, with_storing, erased, begun, with_links, erases, misses, after}
 use Rattle.ttx_page.specs.Streams.{heads, heads_matched, ends_serial}
-use Rattle.ttx_receiver.proofs.Choices.{if_ind, and_left, no_both, eq_sym, length-stored_row}
+use Rattle.ttx_receiver.proofs.Choices.{no_both, eq_sym, length-stored_row}
 
 matches_mag : (sel : Selection) (id : Id) → matches sel id ≡ true → (id.mag == selected_mag sel) ≡ true
-matches_mag (Exact own) id h = eq_sym own.mag id.mag (and_left _ _ (and_left _ _ h))
-matches_mag (AnySub mag page) id h = eq_sym mag id.mag (and_left _ _ h)
+matches_mag (Exact own) id h = eq_sym own.mag id.mag ((and_parts _ _ (and_parts _ _ h).0).0)
+matches_mag (AnySub mag page) id h = eq_sym mag id.mag ((and_parts _ _ h).0)
 
 -- a byte of odd parity has the right character
 abbrev pub GoodText : List ℕ → ℕ → List ℕ → Type 0
@@ -113,17 +113,17 @@ shape_same m n e s = record {
 module _ (class : Class) (lines : ℕ) (sel : Selection) where
   pub shape_after : (choice : Bool) (m : Memory) (pkt : Packet) → Shape m → Shape (after class lines sel choice m pkt)
   shape_after choice m (Header id control text) s =
-      if_ind {A = Memory} Shape (matches sel id) _ _
-      (λ _. shape_begun _ control text (if_ind {A = Memory} Shape (erases class choice m control) (erased m) m (λ _. shape_erased m s) (λ _. s)))
-      (λ _. if_ind {A = Memory} Shape (id.mag == selected_mag sel) _ _ (λ _. shape_same m (with_storing m false) refl s)
-      (λ _. if_ind {A = Memory} Shape (c11 control && choice) (with_storing m false) m (λ _. shape_same m (with_storing m false) refl s) (λ _. s)))
+      cond_both {A = Memory} (matches sel id) _ _ Shape
+      (λ _. shape_begun _ control text (cond_both {A = Memory} (erases class choice m control) (erased m) m Shape (λ _. shape_erased m s) (λ _. s)))
+      (λ _. cond_both {A = Memory} (id.mag == selected_mag sel) _ _ Shape (λ _. shape_same m (with_storing m false) refl s)
+      (λ _. cond_both {A = Memory} (c11 control && choice) (with_storing m false) m Shape (λ _. shape_same m (with_storing m false) refl s) (λ _. s)))
   shape_after choice m (Row mag number text) s =
-      if_ind {A = Memory} Shape ((mag == selected_mag sel) && m.storing && not (misses lines choice m)) _ m
+      cond_both {A = Memory} ((mag == selected_mag sel) && m.storing && not (misses lines choice m)) _ m Shape
       (λ _. shape_row m number (stored_row (get_or m.rows number []) text) s (λ lt. length-stored_row (get_or m.rows number []) text ∙ s.width number lt)) (λ _. s)
   shape_after choice m (Links mag None) s =
-      if_ind {A = Memory} Shape ((mag == selected_mag sel) && m.storing && not (misses lines choice m)) m m (λ _. s) (λ _. s)
+      cond_both {A = Memory} ((mag == selected_mag sel) && m.storing && not (misses lines choice m)) m m Shape (λ _. s) (λ _. s)
   shape_after choice m (Links mag (Some content)) s =
-      if_ind {A = Memory} Shape ((mag == selected_mag sel) && m.storing && not (misses lines choice m)) (with_links m (Some content)) m
+      cond_both {A = Memory} ((mag == selected_mag sel) && m.storing && not (misses lines choice m)) (with_links m (Some content)) m Shape
       (λ _. shape_same m (with_links m (Some content)) refl s) (λ _. s)
   shape_after choice m _ s = s
 
@@ -131,42 +131,34 @@ module _ (class : Class) (lines : ℕ) (sel : Selection) where
   pub after_storing : (choice : Bool) (m : Memory) (pkt : Packet) → (after class lines sel choice m pkt).storing ≡ true →
       (heads_matched sel pkt ≡ true) ⊎ ((m.storing ≡ true) × (heads (selected_mag sel) pkt ≡ false))
   after_storing choice m (Header id control text) st =
-      if_ind (λ (new : Memory). new.storing ≡ true → (matches sel id ≡ true) ⊎ ((m.storing ≡ true) × ((id.mag == selected_mag sel) ≡ false))) (matches sel id) _ _
+      cond_both (matches sel id) _ _ (λ (new : Memory). new.storing ≡ true → (matches sel id ≡ true) ⊎ ((m.storing ≡ true) × ((id.mag == selected_mag sel) ≡ false)))
       (λ e _. inl e)
-      (λ _. if_ind (λ (new : Memory). new.storing ≡ true → (matches sel id ≡ true) ⊎ ((m.storing ≡ true) × ((id.mag == selected_mag sel) ≡ false)))
-      (id.mag == selected_mag sel) _ _ (λ _ h. absurd (no_both false h refl))
-      (λ e. if_ind (λ (new : Memory). new.storing ≡ true → (matches sel id ≡ true) ⊎ ((m.storing ≡ true) × ((id.mag == selected_mag sel) ≡ false)))
-      (c11 control && choice) (with_storing m false) m (λ _ h. absurd (no_both false h refl)) (λ _ h. inr (h, e)))) st
+      (λ _. cond_both (id.mag == selected_mag sel) _ _ (λ (new : Memory). new.storing ≡ true → (matches sel id ≡ true) ⊎ ((m.storing ≡ true) × ((id.mag == selected_mag sel) ≡ false))) (λ _ h. absurd (no_both false h refl))
+      (λ e. cond_both (c11 control && choice) (with_storing m false) m (λ (new : Memory). new.storing ≡ true → (matches sel id ≡ true) ⊎ ((m.storing ≡ true) × ((id.mag == selected_mag sel) ≡ false))) (λ _ h. absurd (no_both false h refl)) (λ _ h. inr (h, e)))) st
   after_storing choice m (Row mag number text) st =
-      if_ind (λ (new : Memory). new.storing ≡ true → (false ≡ true) ⊎ ((m.storing ≡ true) × (false ≡ false))) ((mag == selected_mag sel) && m.storing && not (misses lines choice m))
-      (with_row m number (stored_row (get_or m.rows number []) text)) m (λ _ h. inr (h, refl)) (λ _ h. inr (h, refl)) st
+      cond_both ((mag == selected_mag sel) && m.storing && not (misses lines choice m)) (with_row m number (stored_row (get_or m.rows number []) text)) m (λ (new : Memory). new.storing ≡ true → (false ≡ true) ⊎ ((m.storing ≡ true) × (false ≡ false))) (λ _ h. inr (h, refl)) (λ _ h. inr (h, refl)) st
   after_storing choice m (Links mag None) st =
-      if_ind (λ (new : Memory). new.storing ≡ true → (false ≡ true) ⊎ ((m.storing ≡ true) × (false ≡ false))) ((mag == selected_mag sel) && m.storing && not (misses lines choice m))
-      m m (λ _ h. inr (h, refl)) (λ _ h. inr (h, refl)) st
+      cond_both ((mag == selected_mag sel) && m.storing && not (misses lines choice m)) m m (λ (new : Memory). new.storing ≡ true → (false ≡ true) ⊎ ((m.storing ≡ true) × (false ≡ false))) (λ _ h. inr (h, refl)) (λ _ h. inr (h, refl)) st
   after_storing choice m (Links mag (Some content)) st =
-      if_ind (λ (new : Memory). new.storing ≡ true → (false ≡ true) ⊎ ((m.storing ≡ true) × (false ≡ false))) ((mag == selected_mag sel) && m.storing && not (misses lines choice m))
-      (with_links m (Some content)) m (λ _ h. inr (h, refl)) (λ _ h. inr (h, refl)) st
+      cond_both ((mag == selected_mag sel) && m.storing && not (misses lines choice m)) (with_links m (Some content)) m (λ (new : Memory). new.storing ≡ true → (false ≡ true) ⊎ ((m.storing ≡ true) × (false ≡ false))) (λ _ h. inr (h, refl)) (λ _ h. inr (h, refl)) st
   after_storing choice m _ h = inr (h, refl)
 
   -- without a header of the magazine and without an end in serial transmission the page goes on being stored_row
   pub after_ready : (choice : Bool) (m : Memory) (pkt : Packet) → heads (selected_mag sel) pkt ≡ false → ends_serial (selected_mag sel) pkt ≡ false →
       m.storing ≡ true → ((after class lines sel choice m pkt).storing ≡ true) × ((after class lines sel choice m pkt).age ≡ m.age)
   after_ready choice m (Header id control text) other on st =
-      if_ind (λ (new : Memory). (new.storing ≡ true) × (new.age ≡ m.age)) (matches sel id) _ _
+      cond_both (matches sel id) _ _ (λ (new : Memory). (new.storing ≡ true) × (new.age ≡ m.age))
       (λ e. absurd (no_both _ (matches_mag sel id e) other))
-      (λ _. if_ind (λ (new : Memory). (new.storing ≡ true) × (new.age ≡ m.age)) (id.mag == selected_mag sel) _ _
+      (λ _. cond_both (id.mag == selected_mag sel) _ _ (λ (new : Memory). (new.storing ≡ true) × (new.age ≡ m.age))
       (λ e. absurd (no_both _ e other))
-      (λ e. if_ind (λ (new : Memory). (new.storing ≡ true) × (new.age ≡ m.age)) (c11 control && choice) (with_storing m false) m
-      (λ c. absurd (no_both _ (and_from _ _ (not_from_false _ e) (and_left _ _ c)) on)) (λ _. (st, refl))))
+      (λ e. cond_both (c11 control && choice) (with_storing m false) m (λ (new : Memory). (new.storing ≡ true) × (new.age ≡ m.age))
+      (λ c. absurd (no_both _ (and_from _ _ (not_from_false _ e) ((and_parts _ _ c).0)) on)) (λ _. (st, refl))))
   after_ready choice m (Row mag number text) other on st =
-      if_ind (λ (new : Memory). (new.storing ≡ true) × (new.age ≡ m.age)) ((mag == selected_mag sel) && m.storing && not (misses lines choice m))
-      (with_row m number (stored_row (get_or m.rows number []) text)) m (λ _. (st, refl)) (λ _. (st, refl))
+      cond_both ((mag == selected_mag sel) && m.storing && not (misses lines choice m)) (with_row m number (stored_row (get_or m.rows number []) text)) m (λ (new : Memory). (new.storing ≡ true) × (new.age ≡ m.age)) (λ _. (st, refl)) (λ _. (st, refl))
   after_ready choice m (Links mag None) other on st =
-      if_ind (λ (new : Memory). (new.storing ≡ true) × (new.age ≡ m.age)) ((mag == selected_mag sel) && m.storing && not (misses lines choice m))
-      m m (λ _. (st, refl)) (λ _. (st, refl))
+      cond_both ((mag == selected_mag sel) && m.storing && not (misses lines choice m)) m m (λ (new : Memory). (new.storing ≡ true) × (new.age ≡ m.age)) (λ _. (st, refl)) (λ _. (st, refl))
   after_ready choice m (Links mag (Some content)) other on st =
-      if_ind (λ (new : Memory). (new.storing ≡ true) × (new.age ≡ m.age)) ((mag == selected_mag sel) && m.storing && not (misses lines choice m))
-      (with_links m (Some content)) m (λ _. (st, refl)) (λ _. (st, refl))
+      cond_both ((mag == selected_mag sel) && m.storing && not (misses lines choice m)) (with_links m (Some content)) m (λ (new : Memory). (new.storing ≡ true) × (new.age ≡ m.age)) (λ _. (st, refl)) (λ _. (st, refl))
   after_ready choice m _ other on st = (st, refl)
 
 module _ (class : Class) (lines : ℕ) (sel : Selection) (p : Page) where
@@ -175,7 +167,7 @@ module _ (class : Class) (lines : ℕ) (sel : Selection) (p : Page) where
       let new = after class lines sel choice m pkt in
       (new.storing ≡ true) × (new.age ≡ 0) × (new.fresh ≡ false) × (new.control ≡ p.control)
   after_begin choice m (Header id control text) h r =
-      if_ind (λ (new : Memory). (new.storing ≡ true) × (new.age ≡ 0) × (new.fresh ≡ false) × (new.control ≡ p.control)) (matches sel id) _ _
+      cond_both (matches sel id) _ _ (λ (new : Memory). (new.storing ≡ true) × (new.age ≡ 0) × (new.fresh ≡ false) × (new.control ≡ p.control))
       (λ e. (refl, refl, refl, r.0)) (λ e. absurd (no_both (matches sel id) h e))
   after_begin choice m Empty h r = absurd (no_both false h refl)
   after_begin choice m Unreadable h r = absurd (no_both false h refl)
@@ -187,17 +179,14 @@ module _ (class : Class) (lines : ℕ) (sel : Selection) (p : Page) where
   pub after_settled : (choice : Bool) (m : Memory) (pkt : Packet) → (heads_matched sel pkt ≡ true → IsHeadOf p pkt) →
       m.fresh ≡ false → m.control ≡ p.control → ((after class lines sel choice m pkt).fresh ≡ false) × ((after class lines sel choice m pkt).control ≡ p.control)
   after_settled choice m (Header id control text) r f k =
-      if_ind (λ (new : Memory). (new.fresh ≡ false) × (new.control ≡ p.control)) (matches sel id) _ _
+      cond_both (matches sel id) _ _ (λ (new : Memory). (new.fresh ≡ false) × (new.control ≡ p.control))
       (λ e. (refl, (r e).0))
-      (λ _. if_ind (λ (new : Memory). (new.fresh ≡ false) × (new.control ≡ p.control)) (id.mag == selected_mag sel) _ _ (λ _. (f, k))
-      (λ _. if_ind (λ (new : Memory). (new.fresh ≡ false) × (new.control ≡ p.control)) (c11 control && choice) (with_storing m false) m (λ _. (f, k)) (λ _. (f, k))))
+      (λ _. cond_both (id.mag == selected_mag sel) _ _ (λ (new : Memory). (new.fresh ≡ false) × (new.control ≡ p.control)) (λ _. (f, k))
+      (λ _. cond_both (c11 control && choice) (with_storing m false) m (λ (new : Memory). (new.fresh ≡ false) × (new.control ≡ p.control)) (λ _. (f, k)) (λ _. (f, k))))
   after_settled choice m (Row mag number text) r f k =
-      if_ind (λ (new : Memory). (new.fresh ≡ false) × (new.control ≡ p.control)) ((mag == selected_mag sel) && m.storing && not (misses lines choice m))
-      (with_row m number (stored_row (get_or m.rows number []) text)) m (λ _. (f, k)) (λ _. (f, k))
+      cond_both ((mag == selected_mag sel) && m.storing && not (misses lines choice m)) (with_row m number (stored_row (get_or m.rows number []) text)) m (λ (new : Memory). (new.fresh ≡ false) × (new.control ≡ p.control)) (λ _. (f, k)) (λ _. (f, k))
   after_settled choice m (Links mag None) r f k =
-      if_ind (λ (new : Memory). (new.fresh ≡ false) × (new.control ≡ p.control)) ((mag == selected_mag sel) && m.storing && not (misses lines choice m))
-      m m (λ _. (f, k)) (λ _. (f, k))
+      cond_both ((mag == selected_mag sel) && m.storing && not (misses lines choice m)) m m (λ (new : Memory). (new.fresh ≡ false) × (new.control ≡ p.control)) (λ _. (f, k)) (λ _. (f, k))
   after_settled choice m (Links mag (Some content)) r f k =
-      if_ind (λ (new : Memory). (new.fresh ≡ false) × (new.control ≡ p.control)) ((mag == selected_mag sel) && m.storing && not (misses lines choice m))
-      (with_links m (Some content)) m (λ _. (f, k)) (λ _. (f, k))
+      cond_both ((mag == selected_mag sel) && m.storing && not (misses lines choice m)) (with_links m (Some content)) m (λ (new : Memory). (new.fresh ≡ false) × (new.control ≡ p.control)) (λ _. (f, k)) (λ _. (f, k))
   after_settled choice m _ r f k = (f, k)

@@ -2,7 +2,7 @@
 use Rattle.std.proofs.Common.{◌≡◌, ◌≢◌, ℕ, ◌+◌, ◌-◌, ◌%◌, ◌<◌, ◌≤◌, Bool, true, false, not, ◌&&◌, ◌==◌, List, [], ◌++◌, Some, None, length, get_or}
 use Rattle.std.proofs.Common.{take, drop, set, refl, sym, ap, ◌∙◌, subst, inl, inr, arith, eqb-true, eq-eqb, nat_le, get_or-set_same}
 use Rattle.std.proofs.Common.{get_or-set_other, length-take-le, length-drop, get_or-drop, get_or-append-add}
-use Rattle.std.proofs.lemmas.Bool.{and_from, cases_Bool, not_from_false, or_from}
+use Rattle.std.proofs.lemmas.Bool.{and_from, cases_Bool, not_from_false, or_from, and_parts, cond_both}
 use Rattle.ttx_code.specs.Words.{is_odd}
 use Rattle.ttx_page.specs.Packets.{Packet, Empty, Unreadable, Header, Row, Links}
 use Rattle.ttx_page.specs.Pages.{Page, selected_mag, matches, page_row}
@@ -14,7 +14,7 @@ use Rattle.ttx_header.specs.Control.{c4, c11}
 use Rattle.ttx_page.specs.Memories.{Memory, char_at}
 use Rattle.ttx_page.specs.Receivers.{stored_row, with_row, with_storing, erased, begun, with_links, erases, misses, after}
 use Rattle.ttx_page.specs.Streams.{heads_matched, carries}
-use Rattle.ttx_receiver.proofs.Choices.{if_ind, and_left, and_right, no_both, gt_not_le, stored_row_at, stored_row_good}
+use Rattle.ttx_receiver.proofs.Choices.{no_both, gt_not_le, stored_row_at, stored_row_good}
 use Rattle.ttx_receiver.proofs.StepsOverPage.{Shape, GoodText, IsHeadOf, IsRowOf, AreLinksOf, erased_first, shape_erased}
 
 pub erases_not : (class : Class) (choice : Bool) (m : Memory) (control : ℕ) → c4 control ≡ false → m.fresh ≡ false → erases class choice m control ≡ false
@@ -64,24 +64,24 @@ module _ (class : Class) (lines : ℕ) (sel : Selection) (p : Page) where
       char_at m r c ≡ get_or (page_row p r) c 0 → char_at (after class lines sel choice m pkt) r c ≡ get_or (page_row p r) c 0
   keep_row k4 r c low high col choice m (Header id control text) s f hh hr was =
       let P : Memory → Type 0 = λ new. char_at new r c ≡ get_or (page_row p r) c 0 in
-      if_ind {A = Memory} P (matches sel id) _ _
+      cond_both {A = Memory} (matches sel id) _ _ P
       (λ e.
       let k : c4 control ≡ false = ap c4 (hh e).0 ∙ k4 in
       let ne : r ≢ 0 = omega arith in
-      if_ind {A = Memory} (λ x. P (begun x control text)) (erases class choice m control) (erased m) m
+      cond_both {A = Memory} (erases class choice m control) (erased m) m (λ x. P (begun x control text))
       (λ q. absurd (no_both _ q (erases_not class choice m control k f)))
       (λ _. ap (λ row. get_or row c 0) (get_or-set_other m.rows 0 r _ [] ne) ∙ was))
-      (λ _. if_ind {A = Memory} P (id.mag == selected_mag sel) _ _ (λ _. was)
-      (λ _. if_ind {A = Memory} P (c11 control && choice) (with_storing m false) m (λ _. was) (λ _. was)))
+      (λ _. cond_both {A = Memory} (id.mag == selected_mag sel) _ _ P (λ _. was)
+      (λ _. cond_both {A = Memory} (c11 control && choice) (with_storing m false) m P (λ _. was) (λ _. was)))
   keep_row k4 r c low high col choice m (Row mag number text) s f hh hr was =
       let P : Memory → Type 0 = λ new. char_at new r c ≡ get_or (page_row p r) c 0 in
       let row = stored_row (get_or m.rows number []) text in
-      if_ind {A = Memory} P (takes choice m mag) (with_row m number row) m
+      cond_both {A = Memory} (takes choice m mag) (with_row m number row) m P
       (λ e. elim (cases_Bool (number == r)) as (λ _. P (with_row m number row)) [
         | inl q ↦
             let same : r ≡ number = sym (eqb-true number r q) in
             let lt : number < length m.rows = omega (arith, s.count) in
-            let good = hr (and_right _ _ (and_left _ _ e)) (and_from _ _ (and_left _ _ (and_left _ _ e)) q) in
+            let good = hr ((and_parts _ _ (and_parts _ _ e).0).1) (and_from _ _ ((and_parts _ _ (and_parts _ _ e).0).0) q) in
             subst (λ x. get_or (get_or (set m.rows number row) x []) c 0 ≡ get_or (page_row p r) c 0) (sym same)
             (ap (λ z. get_or z c 0) (get_or-set_same m.rows number row [] lt)
             ∙ kept_char (get_or m.rows number []) text (page_row p r) c 40 (s.width number (omega arith)) col good
@@ -92,9 +92,9 @@ module _ (class : Class) (lines : ℕ) (sel : Selection) (p : Page) where
       ])
       (λ _. was)
   keep_row k4 r c low high col choice m (Links mag None) s f hh hr was =
-      if_ind {A = Memory} (λ new. char_at new r c ≡ get_or (page_row p r) c 0) (takes choice m mag) m m (λ _. was) (λ _. was)
+      cond_both {A = Memory} (takes choice m mag) m m (λ new. char_at new r c ≡ get_or (page_row p r) c 0) (λ _. was) (λ _. was)
   keep_row k4 r c low high col choice m (Links mag (Some content)) s f hh hr was =
-      if_ind {A = Memory} (λ new. char_at new r c ≡ get_or (page_row p r) c 0) (takes choice m mag) (with_links m (Some content)) m (λ _. was) (λ _. was)
+      cond_both {A = Memory} (takes choice m mag) (with_links m (Some content)) m (λ new. char_at new r c ≡ get_or (page_row p r) c 0) (λ _. was) (λ _. was)
   keep_row k4 r c low high col choice m _ s f hh hr was = was
 
   -- a character of row 0 stays right
@@ -103,12 +103,12 @@ module _ (class : Class) (lines : ℕ) (sel : Selection) (p : Page) where
       char_at m 0 (8 + c) ≡ get_or p.head c 0 → char_at (after class lines sel choice m pkt) 0 (8 + c) ≡ get_or p.head c 0
   keep_head c col choice m (Header id control text) s hh none was =
       let P : Memory → Type 0 = λ new. char_at new 0 (8 + c) ≡ get_or p.head c 0 in
-      if_ind {A = Memory} P (matches sel id) _ _
-      (λ e. if_ind {A = Memory} (λ x. P (begun x control text)) (erases class choice m control) (erased m) m
+      cond_both {A = Memory} (matches sel id) _ _ P
+      (λ e. cond_both {A = Memory} (erases class choice m control) (erased m) m (λ x. P (begun x control text))
       (λ _. begun_keeps (erased m) control text (shape_erased m s) (hh e).1 (ap (λ row. get_or row (8 + c) 0) (erased_first m.rows s.count) ∙ was))
       (λ _. begun_keeps m control text s (hh e).1 was))
-      (λ _. if_ind {A = Memory} P (id.mag == selected_mag sel) _ _ (λ _. was)
-      (λ _. if_ind {A = Memory} P (c11 control && choice) (with_storing m false) m (λ _. was) (λ _. was)))
+      (λ _. cond_both {A = Memory} (id.mag == selected_mag sel) _ _ P (λ _. was)
+      (λ _. cond_both {A = Memory} (c11 control && choice) (with_storing m false) m P (λ _. was) (λ _. was)))
     where
       begun_keeps : (m : Memory) (control : ℕ) (text : List ℕ) → Shape m → GoodText p.head 24 text → char_at m 0 (8 + c) ≡ get_or p.head c 0 →
           char_at (begun m control text) 0 (8 + c) ≡ get_or p.head c 0
@@ -124,15 +124,15 @@ module _ (class : Class) (lines : ℕ) (sel : Selection) (p : Page) where
   keep_head c col choice m (Row mag number text) s hh none was =
       let P : Memory → Type 0 = λ new. char_at new 0 (8 + c) ≡ get_or p.head c 0 in
       let row = stored_row (get_or m.rows number []) text in
-      if_ind {A = Memory} P (takes choice m mag) (with_row m number row) m
+      cond_both {A = Memory} (takes choice m mag) (with_row m number row) m P
       (λ e.
-      let ne : 0 ≢ number = λ z. no_both _ (and_from _ _ (and_left _ _ (and_left _ _ e)) (eq-eqb number 0 (sym z))) none in
+      let ne : 0 ≢ number = λ z. no_both _ (and_from _ _ ((and_parts _ _ (and_parts _ _ e).0).0) (eq-eqb number 0 (sym z))) none in
       ap (λ z. get_or z (8 + c) 0) (get_or-set_other m.rows number 0 row [] ne) ∙ was)
       (λ _. was)
   keep_head c col choice m (Links mag None) s hh none was =
-      if_ind {A = Memory} (λ new. char_at new 0 (8 + c) ≡ get_or p.head c 0) (takes choice m mag) m m (λ _. was) (λ _. was)
+      cond_both {A = Memory} (takes choice m mag) m m (λ new. char_at new 0 (8 + c) ≡ get_or p.head c 0) (λ _. was) (λ _. was)
   keep_head c col choice m (Links mag (Some content)) s hh none was =
-      if_ind {A = Memory} (λ new. char_at new 0 (8 + c) ≡ get_or p.head c 0) (takes choice m mag) (with_links m (Some content)) m (λ _. was) (λ _. was)
+      cond_both {A = Memory} (takes choice m mag) (with_links m (Some content)) m (λ new. char_at new 0 (8 + c) ≡ get_or p.head c 0) (λ _. was) (λ _. was)
   keep_head c col choice m _ s hh none was = was
 
   -- the links stay right
@@ -141,20 +141,20 @@ module _ (class : Class) (lines : ℕ) (sel : Selection) (p : Page) where
       m.links ≡ p.links → (after class lines sel choice m pkt).links ≡ p.links
   keep_links k4 choice m (Header id control text) f hh hl was =
       let P : Memory → Type 0 = λ new. new.links ≡ p.links in
-      if_ind {A = Memory} P (matches sel id) _ _
+      cond_both {A = Memory} (matches sel id) _ _ P
       (λ e.
       let k : c4 control ≡ false = ap c4 (hh e).0 ∙ k4 in
-      if_ind {A = Memory} (λ x. P (begun x control text)) (erases class choice m control) (erased m) m
+      cond_both {A = Memory} (erases class choice m control) (erased m) m (λ x. P (begun x control text))
       (λ q. absurd (no_both _ q (erases_not class choice m control k f))) (λ _. was))
-      (λ _. if_ind {A = Memory} P (id.mag == selected_mag sel) _ _ (λ _. was)
-      (λ _. if_ind {A = Memory} P (c11 control && choice) (with_storing m false) m (λ _. was) (λ _. was)))
+      (λ _. cond_both {A = Memory} (id.mag == selected_mag sel) _ _ P (λ _. was)
+      (λ _. cond_both {A = Memory} (c11 control && choice) (with_storing m false) m P (λ _. was) (λ _. was)))
   keep_links k4 choice m (Row mag number text) f hh hl was =
-      if_ind {A = Memory} (λ new. new.links ≡ p.links) (takes choice m mag) (with_row m number (stored_row (get_or m.rows number []) text)) m (λ _. was) (λ _. was)
+      cond_both {A = Memory} (takes choice m mag) (with_row m number (stored_row (get_or m.rows number []) text)) m (λ new. new.links ≡ p.links) (λ _. was) (λ _. was)
   keep_links k4 choice m (Links mag None) f hh hl was =
-      if_ind {A = Memory} (λ new. new.links ≡ p.links) (takes choice m mag) m m (λ _. was) (λ _. was)
+      cond_both {A = Memory} (takes choice m mag) m m (λ new. new.links ≡ p.links) (λ _. was) (λ _. was)
   keep_links k4 choice m (Links mag (Some content)) f hh hl was =
-      if_ind {A = Memory} (λ new. new.links ≡ p.links) (takes choice m mag) (with_links m (Some content)) m
-      (λ e. let q = hl (and_right _ _ (and_left _ _ e)) (and_left _ _ (and_left _ _ e)) in cc) (λ _. was)
+      cond_both {A = Memory} (takes choice m mag) (with_links m (Some content)) m (λ new. new.links ≡ p.links)
+      (λ e. let q = hl ((and_parts _ _ (and_parts _ _ e).0).1) ((and_parts _ _ (and_parts _ _ e).0).0) in cc) (λ _. was)
   keep_links k4 choice m _ f hh hl was = was
 
   ready_takes : (choice : Bool) (m : Memory) (mag : ℕ) → m.storing ≡ true → lines < m.age → (mag == selected_mag sel) ≡ true → takes choice m mag ≡ true
@@ -170,13 +170,13 @@ module _ (class : Class) (lines : ℕ) (sel : Selection) (p : Page) where
       carries (selected_mag sel) (TheRow r) pkt ≡ true → RowRightAt p r c pkt → char_at (after class lines sel choice m pkt) r c ≡ get_or (page_row p r) c 0
   take_row r c high col choice m (Row mag number text) s st old here right =
       let row = stored_row (get_or m.rows number []) text in
-      let same : number ≡ r = eqb-true number r (and_right _ _ here) in
+      let same : number ≡ r = eqb-true number r ((and_parts _ _ here).1) in
       let lt : number < length m.rows = omega (arith, s.count) in
-      if_ind {A = Memory} (λ new. char_at new r c ≡ get_or (page_row p r) c 0) (takes choice m mag) (with_row m number row) m
+      cond_both {A = Memory} (takes choice m mag) (with_row m number row) m (λ new. char_at new r c ≡ get_or (page_row p r) c 0)
       (λ _. subst (λ x. get_or (get_or (set m.rows number row) x []) c 0 ≡ get_or (page_row p r) c 0) same
       (ap (λ z. get_or z c 0) (get_or-set_same m.rows number row [] lt)
       ∙ stored_row_good (get_or m.rows number []) text c (omega (arith, s.width number (omega arith))) right.within right.good ∙ right.right))
-      (λ e. absurd (no_both _ (ready_takes choice m mag st old (and_left _ _ here)) e))
+      (λ e. absurd (no_both _ (ready_takes choice m mag st old ((and_parts _ _ here).0)) e))
   take_row r c high col choice m (Links mag content) s st old here right = absurd right
   take_row r c high col choice m (Header id control text) s st old here right = absurd right
   take_row r c high col choice m _ s st old here right = absurd right
@@ -185,7 +185,7 @@ module _ (class : Class) (lines : ℕ) (sel : Selection) (p : Page) where
       carries (selected_mag sel) TheLinks pkt ≡ true → AreLinksOf p pkt → (after class lines sel choice m pkt).links ≡ p.links
   take_links choice m (Links mag None) st old here right = cc
   take_links choice m (Links mag (Some content)) st old here right =
-      if_ind {A = Memory} (λ new. new.links ≡ p.links) (takes choice m mag) (with_links m (Some content)) m
+      cond_both {A = Memory} (takes choice m mag) (with_links m (Some content)) m (λ new. new.links ≡ p.links)
       (λ _. cc) (λ e. absurd (no_both _ (ready_takes choice m mag st old here) e))
   take_links choice m (Row mag number text) st old here right = absurd (no_both _ here refl)
   take_links choice m (Header id control text) st old here right = absurd (no_both _ here refl)
@@ -194,8 +194,8 @@ module _ (class : Class) (lines : ℕ) (sel : Selection) (p : Page) where
   pub take_head : (c : ℕ) → c < 24 → (choice : Bool) (m : Memory) (pkt : Packet) → Shape m → heads_matched sel pkt ≡ true → HeadRightAt p c pkt →
       char_at (after class lines sel choice m pkt) 0 (8 + c) ≡ get_or p.head c 0
   take_head c col choice m (Header id control text) s here right =
-      if_ind {A = Memory} (λ new. char_at new 0 (8 + c) ≡ get_or p.head c 0) (matches sel id) _ _
-      (λ e. if_ind {A = Memory} (λ x. char_at (begun x control text) 0 (8 + c) ≡ get_or p.head c 0) (erases class choice m control) (erased m) m
+      cond_both {A = Memory} (matches sel id) _ _ (λ new. char_at new 0 (8 + c) ≡ get_or p.head c 0)
+      (λ e. cond_both {A = Memory} (erases class choice m control) (erased m) m (λ x. char_at (begun x control text) 0 (8 + c) ≡ get_or p.head c 0)
       (λ _. begun_takes (erased m) control text (shape_erased m s) right) (λ _. begun_takes m control text s right))
       (λ e. absurd (no_both _ here e))
     where

@@ -1,6 +1,6 @@
 -- Each needed item stays, once it was taken.
 use Rattle.std.proofs.Common.{◌≡◌, ℕ, suc, ◌+◌, ◌<◌, ◌≤◌, Bool, true, false, List, length, get_or, sym, subst, inl, inr, arith, leb-true}
-use Rattle.std.proofs.lemmas.Bool.{cases_lt}
+use Rattle.std.proofs.lemmas.Bool.{cases_lt, and_parts}
 use Rattle.ttx_page.specs.Packets.{Packet}
 use Rattle.ttx_page.specs.Pages.{Page, IsPage, selected_mag, needed, page_row}
 use Rattle.ttx_page.specs.declared.selection.Selection.{Selection}
@@ -9,7 +9,6 @@ use Rattle.ttx_page.specs.declared.class.Class.{Class}
 use Rattle.ttx_page.specs.Memories.{Memory, char_at}
 use Rattle.ttx_page.specs.Receivers.{older, after, Run}
 use Rattle.ttx_page.specs.Streams.{heads, heads_matched, ends_serial, carries}
-use Rattle.ttx_receiver.proofs.Choices.{and_left, and_right}
 use Rattle.ttx_receiver.proofs.StepsOverPage.{Shape}
 use Rattle.ttx_receiver.proofs.TakenAndKept.{HeadRightAt, RowRightAt, keep_row, keep_head, keep_links, take_row, take_links, take_head}
 use Rattle.ttx_receiver.proofs.Runs.{packet_at, run_keeps, ReceivesPage, IsTuned, IsStoring, tuned_begin, tuned_next, storing_next, lasting}
@@ -23,8 +22,8 @@ pub record IsSureAt (sel : Selection) (g : ℕ → Packet) (lines : ℕ) (h j : 
 
 pub needed_row : (p : Page) (r : ℕ) → needed p (TheRow r) ≡ true → (1 ≤ r) × (r ≤ 24)
 needed_row p r h =
-    let a = and_left _ _ (and_left _ _ (and_left _ _ h)) in
-    let b = and_right _ _ (and_left _ _ (and_left _ _ h)) in
+    let a = (and_parts _ _ (and_parts _ _ (and_parts _ _ h).0).0).0 in
+    let b = (and_parts _ _ (and_parts _ _ (and_parts _ _ h).0).0).1 in
     (leb-true 1 r a, leb-true r 24 b)
 
 module _ (class : Class) (lines : ℕ) (sel : Selection) (p : Page) (page : IsPage p) (few : lines ≤ 32) (received : List (List ℕ)) (receives_page : ReceivesPage sel p (packet_at received) (length received)) where

@@ -3,13 +3,13 @@
 --
 --   spoilt                  a slot with the lowest bit of a byte wrong
 --   is_bound, takes         whether such a receiver takes the item from a packet
---   first_byte, is_hit, heard       what is received of a slot
+--   first_byte, is_received_wrong, heard       what is received of a slot
 --   careful_after           the memory after one slot, each choice taken
 --   starved_memory, starved_slots       the memory after some slots of a stream, and what is received of them
 --   starved_hits, starved_choices       which slots have a wrong bit; the choices as a script
 --   IsScripted, StarvedIsScripted       hits and script make the slots and the memory
 --   other_letter, other_link, other_links, wrong_memory         the former memory: the page's, but for one character or one link
---   IsWrong                 that character or that link is wrong
+--   HoldsWrong                 that character or that link is wrong
 --   IsStarved, StarvedStaysWrong        where no all-sure run comes, it stays wrong, and all else is the page's
 use Rattle.std.specs.Prelude.{◌≡◌, ◌≢◌, ◌<◌, ◌≤◌, ℕ, zero, suc, ℤ, pos, ◌+ℤ◌, Bool, true, false, not, ◌&&◌, ◌==◌, if◌then◌else◌, nat_le, bit_xor}
 use Rattle.std.specs.Prelude.{Option, Some, None, List, [], ◌∷◌, ◌++◌, length, slice_index, slice_index_or, slice_set, Contains}
@@ -49,14 +49,14 @@ first_byte (TheRow r) = 2
 first_byte TheLinks = 0
 
 -- whether a slot is received with a wrong bit
-abbrev pub is_hit : ℕ → Selection → Item → Memory → List ℕ → Bool
-is_hit lines sel TheHead m slot = takes lines sel TheHead (older m) (packet_of slot)
-is_hit lines sel (TheRow r) m slot = takes lines sel (TheRow r) (older m) (packet_of slot)
-is_hit lines sel TheLinks m slot = false
+abbrev pub is_received_wrong : ℕ → Selection → Item → Memory → List ℕ → Bool
+is_received_wrong lines sel TheHead m slot = takes lines sel TheHead (older m) (packet_of slot)
+is_received_wrong lines sel (TheRow r) m slot = takes lines sel (TheRow r) (older m) (packet_of slot)
+is_received_wrong lines sel TheLinks m slot = false
 
 -- what is received of a slot: the first character of the item with a wrong bit, where it would be taken; links as they are sent
 abbrev pub heard : ℕ → Selection → Item → Memory → List ℕ → List ℕ
-heard lines sel item m slot = if is_hit lines sel item m slot then spoilt slot (first_byte item) else slot
+heard lines sel item m slot = if is_received_wrong lines sel item m slot then spoilt slot (first_byte item) else slot
 
 -- one slot, each choice taken
 abbrev pub careful_after : ℕ → Selection → Memory → List ℕ → Memory
@@ -79,7 +79,7 @@ starved_slots lines sel item s tau former (suc n) =
 unfoldable pub starved_hits : ℕ → Selection → Item → Stream → ℤ → Memory → ℕ → List ℕ
 starved_hits lines sel item s tau former zero = []
 starved_hits lines sel item s tau former (suc n) =
-    if is_hit lines sel item (starved_memory lines sel item s tau former n) (s (tau +ℤ pos n))
+    if is_received_wrong lines sel item (starved_memory lines sel item s tau former n) (s (tau +ℤ pos n))
     then starved_hits lines sel item s tau former n ++ n ∷ [] else starved_hits lines sel item s tau former n
 
 -- a bit for each choice that is taken
@@ -133,10 +133,10 @@ wrong_memory p TheHead = with_letter (memory_of_page p) 0 8
 wrong_memory p (TheRow r) = with_letter (memory_of_page p) r 0
 wrong_memory p TheLinks = record (memory_of_page p) { links = other_links p.links }
 
-abbrev pub IsWrong : Page → Memory → Item → Type 0
-IsWrong p m TheHead = char_at m 0 8 ≡ other_letter (slice_index p.head 0)
-IsWrong p m (TheRow r) = char_at m r 0 ≡ other_letter (slice_index (page_row p r) 0)
-IsWrong p m TheLinks = m.links ≡ other_links p.links
+abbrev pub HoldsWrong : Page → Memory → Item → Type 0
+HoldsWrong p m TheHead = char_at m 0 8 ≡ other_letter (slice_index p.head 0)
+HoldsWrong p m (TheRow r) = char_at m r 0 ≡ other_letter (slice_index (page_row p r) 0)
+HoldsWrong p m TheLinks = m.links ≡ other_links p.links
 
 -- What is received of n slots from slot tau on is within the error rule, and the receiver's memory is the page's but for the item.
 pub record IsStarved (s : Stream) (p : Page) (sel : Selection) (lines repeat : ℕ) (item : Item) (tau : ℤ) (n : ℕ)
@@ -147,7 +147,7 @@ pub record IsStarved (s : Stream) (p : Page) (sel : Selection) (lines repeat : �
   pub run : Run Any lines sel former received m
   pub control : m.control ≡ p.control
   pub others : (other : Item) → other ≢ item → needed p other ≡ true → Holds p m other
-  pub wrong : IsWrong p m item
+  pub wrong : HoldsWrong p m item
 
 -- Where no all-sure run of an item comes between slot tau and n slots later, a receiver that once has it wrong is starved of it.
 abbrev pub StarvedStaysWrong : Type 0

@@ -10,7 +10,7 @@ ghost use Rattle.ttx_page.specs.Streams.{heads_matched};
 ghost use Rattle.ttx_page.specs.Views.{memory_of};
 ghost use Rattle.ttx_page.specs.declared.class.Class.TheVariants.{Any};
 ghost use Rattle.ttx_page.specs.declared.item.Item.TheVariants.{Row as TheRow};
-ghost use Rattle.ttx_receiver.specs.Starving.{spoilt, is_bound, takes, first_byte, heard, is_hit, careful_after};
+ghost use Rattle.ttx_receiver.specs.Starving.{spoilt, is_bound, takes, first_byte, heard, is_received_wrong, careful_after};
 
 use crate::packets::{Packet, packet_in};
 use crate::steps::{chooses, magazine_of};
@@ -80,7 +80,7 @@ fn takes_row(
 // Whether the next slot is received with a wrong bit.
 fn hits(memory: &PageMemory, lines: u8, selection: &Selection, item: &Item, slot: &[u8; 42]) -> bool
     requires { lines ≤ 32 }
-    ensures { result ≡ is_hit lines selection.now item.now (memory_of memory.now) slot.now }
+    ensures { result ≡ is_received_wrong lines selection.now item.now (memory_of memory.now) slot.now }
 {
     match item {
         Item::Head => takes_head(selection, slot),
@@ -123,7 +123,7 @@ pub fn starve(
     slot: &[u8; 42],
 ) -> (bool, bool)
     requires { lines ≤ 32 }
-    ensures hit { result.0 ≡ is_hit lines selection.now item.now (memory_of memory.old) slot.now }
+    ensures hit { result.0 ≡ is_received_wrong lines selection.now item.now (memory_of memory.old) slot.now }
     ensures choice { result.1 ≡ has_choice Any lines selection.now (older (memory_of memory.old))
         (packet_of (heard lines selection.now item.now (memory_of memory.old) slot.now)) }
     ensures memory { memory_of memory.new ≡ careful_after lines selection.now (memory_of memory.old)

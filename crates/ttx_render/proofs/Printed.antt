@@ -3,7 +3,7 @@ use Rattle.std.proofs.Common.{◌≡◌, ℕ, zero, suc, ◌+◌, ◌-◌, ◌<�
 use Rattle.std.proofs.Common.{get_or, map, refl, arith}
 use Rattle.std.proofs.lemmas.Bool.{agree_below, agree_below_at}
 use Rattle.std.specs.List.{AllByRecursion, range_with_len}
-use Rattle.ttx_charset.specs.Glyphs.{glyph, set_of}
+use Rattle.ttx_charset.specs.Glyphs.{glyph, national_set}
 use Rattle.ttx_header.specs.Control.{option_of}
 use Rattle.ttx_page.specs.Memories.{Memory, IsMemory, memory_row}
 use Rattle.ttx_page.specs.Pages.{IsRow, is_tall}
@@ -35,7 +35,7 @@ are_right option = agree_below (is_right option) (λ _. true) 128
 
 -- what is said of all codes of all options
 all_right : agree_below are_right (λ _. true) 8 ≡ true
-unfolding glyph set_of
+unfolding glyph national_set
 all_right = refl
 
 right_one : (a b : Bool) → a || not b ≡ true → a ≡ false → b ≡ false

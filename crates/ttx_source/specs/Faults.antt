@@ -1,9 +1,9 @@
 -- The faults of the program as those of the definitions.
 --
 --   fault_of       a fault
---   outcome        a value, seen by a function, or its fault
+--   source_outcome        a value, seen by a function, or its fault
 --   outcome_in_page         a value, seen by a function, or its fault and the page that it is in
---   IsUnlessMemory     a fact, but where an allocation failed
+--   IsSourceUnlessMemory     a fact, but where an allocation failed
 use Rattle.std.specs.Prelude.{◌≡◌, ◌⊎◌, ℕ, Result, Ok, Err}
 use Rattle.ttx_source.specs.Values.{Fault, not_toml, missing, wrong_kind, wrong_page_number, wrong_subcode, duplicate}
 use Rattle.ttx_source.specs.Values.{too_long, wrong_character, wrong_often, out_of_range, no_memory}
@@ -26,15 +26,15 @@ fault_of (Range key) = out_of_range key.now
 fault_of NoMemory = no_memory
 
 -- a value under a view, or its fault
-abbrev pub outcome : {A B : Type 0} → (A → B) → Result A SourceFault → Result B Fault
-outcome seen (Ok a) = Ok (seen a)
-outcome seen (Err e) = Err (fault_of e)
+abbrev pub source_outcome : {A B : Type 0} → (A → B) → Result A SourceFault → Result B Fault
+source_outcome seen (Ok a) = Ok (seen a)
+source_outcome seen (Err e) = Err (fault_of e)
 
 abbrev pub outcome_in_page : {A B : Type 0} → (A → B) → Result A SourceError → Result B (Fault × ℕ)
 outcome_in_page seen (Ok a) = Ok (seen a)
 outcome_in_page seen (Err e) = Err (fault_of e.fault, e.page)
 
 -- an allocation that failed is told with no page
-abbrev pub IsUnlessMemory : {A : Type 0} → Result A SourceError → Type 0 → Type 0
-IsUnlessMemory (Ok a) P = P
-IsUnlessMemory (Err e) P = (e ≡ record { fault = NoMemory; page = 0 }) ⊎ P
+abbrev pub IsSourceUnlessMemory : {A : Type 0} → Result A SourceError → Type 0 → Type 0
+IsSourceUnlessMemory (Ok a) P = P
+IsSourceUnlessMemory (Err e) P = (e ≡ record { fault = NoMemory; page = 0 }) ⊎ P

@@ -4,7 +4,7 @@ ghost use Rattle.std.specs.Prelude.{◌≡◌, ◌≤◌, ◌%◌, codes, false,
 ghost use Rattle.ttx_header.specs.Control.{IsControl, c4, c11};
 ghost use Rattle.toml.specs.View.{table_view};
 ghost use Rattle.ttx_source.specs.Keys as rule;
-ghost use Rattle.ttx_source.specs.Faults.{outcome};
+ghost use Rattle.ttx_source.specs.Faults.{source_outcome};
 
 use crate::faults::SourceFault;
 use crate::values::{flag, integer_or, within};
@@ -13,7 +13,7 @@ use ttx_header::Control;
 
 // The national option.
 fn option(page: &Table) -> Result<u32, SourceFault>
-    ensures value { outcome (λ n. n) result ≡ rule.option (table_view page.now) }
+    ensures value { source_outcome (λ n. n) result ≡ rule.option (table_view page.now) }
     ensures most { IfOk result (λ n. n ≤ 7) }
 {
     within(integer_or(page, "option", 0)?, "option", 0, 7)
@@ -41,7 +41,7 @@ fn national(option: u32) -> u16
 // The control bits C5 to C7 of a page.
 #[tactic(auto, unfolding(crate::specs::Keys::lower_flags_of))]
 fn lower_flags(page: &Table) -> Result<u16, SourceFault>
-    ensures value { outcome (λ n. n) result ≡ rule.lower_flags_of (table_view page.now) }
+    ensures value { source_outcome (λ n. n) result ≡ rule.lower_flags_of (table_view page.now) }
     ensures place { IfOk result (λ n. n % 2 ≡ 0) }
     ensures most { IfOk result (λ n. n ≤ 14) }
 {
@@ -58,7 +58,7 @@ fn lower_flags(page: &Table) -> Result<u16, SourceFault>
 // The control bits C8 to C10 of a page.
 #[tactic(auto, unfolding(crate::specs::Keys::upper_flags_of))]
 fn upper_flags(page: &Table) -> Result<u16, SourceFault>
-    ensures value { outcome (λ n. n) result ≡ rule.upper_flags_of (table_view page.now) }
+    ensures value { source_outcome (λ n. n) result ≡ rule.upper_flags_of (table_view page.now) }
     ensures place { IfOk result (λ n. n % 16 ≡ 0) }
     ensures most { IfOk result (λ n. n ≤ 112) }
 {
@@ -75,7 +75,7 @@ fn upper_flags(page: &Table) -> Result<u16, SourceFault>
 /// The control bits of a page, with C11 as the service has it.
 #[tactic(auto, unfolding(crate::specs::Keys::control_of_table))]
 pub fn control(page: &Table, serial: bool) -> Result<Control, SourceFault>
-    ensures value { outcome (λ c. c.0) result ≡ rule.control_of_table serial (table_view page.now) }
+    ensures value { source_outcome (λ c. c.0) result ≡ rule.control_of_table serial (table_view page.now) }
     ensures ranges { IfOk result (λ c. IsControl c.0 × (c4 c.0 ≡ false) × (c11 c.0 ≡ serial)) }
 {
     let option = option(page)?;

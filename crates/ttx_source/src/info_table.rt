@@ -3,7 +3,7 @@
 ghost use Rattle.std.specs.Prelude.{◌≡◌, ◌≤◌, ◌<◌, ℕ, codes, slice_index, IfOk};
 ghost use Rattle.toml.specs.View.{table_view};
 ghost use Rattle.ttx_source.specs.Keys as rule;
-ghost use Rattle.ttx_source.specs.Faults.{outcome};
+ghost use Rattle.ttx_source.specs.Faults.{source_outcome};
 
 use crate::faults::SourceFault;
 use crate::texts::{byte_pair, characters, link};
@@ -13,7 +13,7 @@ use ttx_info::Info;
 use ttx_links::Target;
 
 fn designation(info: &Table) -> Result<u8, SourceFault>
-    ensures value { outcome (λ n. n) result ≡ rule.designation (table_view info.now) }
+    ensures value { source_outcome (λ n. n) result ≡ rule.designation (table_view info.now) }
     ensures range { IfOk result (λ n. n < 2) }
 {
     let number = within(integer_or(info, "designation", 0)?, "designation", 0, 1)?;
@@ -21,20 +21,20 @@ fn designation(info: &Table) -> Result<u8, SourceFault>
 }
 
 fn initial(info: &Table) -> Result<Option<Target>, SourceFault>
-    ensures { outcome (λ l. l) result ≡ rule.initial (table_view info.now) }
+    ensures { source_outcome (λ l. l) result ≡ rule.initial (table_view info.now) }
 {
     link(text_or(info, "initial", "")?)
 }
 
 fn network(info: &Table) -> Result<[u8; 2], SourceFault>
-    ensures { outcome (λ b. b) result ≡ rule.network (table_view info.now) }
+    ensures { source_outcome (λ b. b) result ≡ rule.network (table_view info.now) }
 {
     byte_pair(text(info, "network")?, "network")
 }
 
 // The local offset in half-hours, and whether it is negative.
 fn halves(info: &Table) -> Result<(u8, bool), SourceFault>
-    ensures value { outcome (λ h. h) result ≡ rule.halves (table_view info.now) }
+    ensures value { source_outcome (λ h. h) result ≡ rule.halves (table_view info.now) }
     ensures range { IfOk result (λ h. h.0 < 32) }
 {
     let number = integer_or(info, "halves", 0)?;
@@ -51,7 +51,7 @@ fn halves(info: &Table) -> Result<(u8, bool), SourceFault>
 // The local offset as `halves` has it, and the date and the time.
 #[tactic(auto, unfolding(crate::specs::Keys::clock_of))]
 fn clock(info: &Table) -> Result<((u8, bool), (u32, u32)), SourceFault>
-    ensures value { outcome (λ c. c) result ≡ rule.clock_of (table_view info.now) }
+    ensures value { source_outcome (λ c. c) result ≡ rule.clock_of (table_view info.now) }
     ensures offset { IfOk result (λ c. c.0.0 < 32) }
     ensures date { IfOk result (λ c. c.1.0 ≤ 99999) }
     ensures time { IfOk result (λ c. c.1.1 ≤ 999999) }
@@ -63,7 +63,7 @@ fn clock(info: &Table) -> Result<((u8, bool), (u32, u32)), SourceFault>
 }
 
 fn status(info: &Table) -> Result<[u8; 20], SourceFault>
-    ensures value { outcome (λ t. t) result ≡ rule.text (table_view info.now) }
+    ensures value { source_outcome (λ t. t) result ≡ rule.text (table_view info.now) }
     ensures codes { IfOk result (λ t. (c : ℕ) → slice_index t c < 128) }
 {
     characters::<20>(text_or(info, "text", "")?)
@@ -72,7 +72,7 @@ fn status(info: &Table) -> Result<[u8; 20], SourceFault>
 // The packet of a table.
 #[tactic(auto, unfolding(crate::specs::Keys::info_of_table))]
 fn info_of(table: &Table) -> Result<Info, SourceFault>
-    ensures { outcome (λ i. i) result ≡ rule.info_of_table (table_view table.now) }
+    ensures { source_outcome (λ i. i) result ≡ rule.info_of_table (table_view table.now) }
 {
     let designation = designation(table)?;
     let initial = match initial(table) {
@@ -88,7 +88,7 @@ fn info_of(table: &Table) -> Result<Info, SourceFault>
 
 /// The packet 8/30 of a service; none where the service has no table `info`.
 pub fn info(service: &Table) -> Result<Option<Info>, SourceFault>
-    ensures { outcome (λ i. i) result ≡ rule.info (table_view service.now) }
+    ensures { source_outcome (λ i. i) result ≡ rule.info (table_view service.now) }
 {
     match member(service, "info") {
         None => Ok(None),

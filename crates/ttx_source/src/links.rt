@@ -4,7 +4,7 @@ ghost use Rattle.std.specs.Prelude.{◌≡◌, ◌≤◌, length, codes, Ok};
 ghost use Rattle.toml.specs.Data.{no_items};
 ghost use Rattle.toml.specs.View.{table_view, items_view, view};
 ghost use Rattle.ttx_source.specs.Keys as rule;
-ghost use Rattle.ttx_source.specs.Faults.{outcome};
+ghost use Rattle.ttx_source.specs.Faults.{source_outcome};
 
 use crate::faults::SourceFault;
 use crate::texts::{byte_pair, link};
@@ -14,7 +14,7 @@ use ttx_links::{Links, Target};
 
 // The link that a value of the array is.
 fn link_of(value: &Value) -> Result<Option<Target>, SourceFault>
-    ensures { outcome (λ l. l) result ≡ rule.link_of (view value.now) }
+    ensures { source_outcome (λ l. l) result ≡ rule.link_of (view value.now) }
 {
     link(text_of(value, "links")?)
 }
@@ -22,7 +22,7 @@ fn link_of(value: &Value) -> Result<Option<Target>, SourceFault>
 // The six links of an array of at most six.
 fn six_of(values: &[Value]) -> Result<[Option<Target>; 6], SourceFault>
     requires { length values.now ≤ 6 }
-    ensures { outcome (λ l. l) result ≡ rule.six_of (items_view values.now) }
+    ensures { source_outcome (λ l. l) result ≡ rule.six_of (items_view values.now) }
 {
     let mut six = [None; 6];
     for (place, value) in values.iter().enumerate() {
@@ -50,7 +50,7 @@ fn no_links() -> [Option<Target>; 6]
 
 // The six links of a page.
 fn six_links(page: &Table) -> Result<[Option<Target>; 6], SourceFault>
-    ensures { outcome (λ l. l) result ≡ rule.six_links (table_view page.now) }
+    ensures { source_outcome (λ l. l) result ≡ rule.six_links (table_view page.now) }
 {
     let Some(value) = member(page, "links") else {
         return Ok(no_links());
@@ -63,7 +63,7 @@ fn six_links(page: &Table) -> Result<[Option<Target>; 6], SourceFault>
 }
 
 fn crc(page: &Table) -> Result<[u8; 2], SourceFault>
-    ensures { outcome (λ b. b) result ≡ rule.crc (table_view page.now) }
+    ensures { source_outcome (λ b. b) result ≡ rule.crc (table_view page.now) }
 {
     byte_pair(text_or(page, "crc", "0000")?, "crc")
 }
@@ -71,7 +71,7 @@ fn crc(page: &Table) -> Result<[u8; 2], SourceFault>
 /// The links of a page, show24 and the bytes of the page CRC.
 #[tactic(auto, unfolding(crate::specs::Keys::links_of_table))]
 pub fn links(page: &Table) -> Result<Links, SourceFault>
-    ensures { outcome (λ l. l) result ≡ rule.links_of_table (table_view page.now) }
+    ensures { source_outcome (λ l. l) result ≡ rule.links_of_table (table_view page.now) }
 {
     let six = match six_links(page) {
         Ok(six) => six,

@@ -8,7 +8,7 @@ ghost use Rattle.ttx_page.specs.Pages.{IsPage, page_at};
 ghost use Rattle.ttx_page.specs.Views.{page_of};
 ghost use Rattle.ttx_source.specs.Keys as rule;
 ghost use Rattle.ttx_source.specs.Services.{id_of_table, authored_at, authored_of, has_id};
-ghost use Rattle.ttx_source.specs.Faults.{outcome};
+ghost use Rattle.ttx_source.specs.Faults.{source_outcome};
 
 use crate::controls::control;
 use crate::faults::SourceFault;
@@ -25,7 +25,7 @@ use ttx_page::Page;
 // The id of a page, which no earlier page has.
 #[tactic(auto, unfolding(crate::specs::Services::id_of_table))]
 fn id(page: &Table, service: &Service) -> Result<PageId, SourceFault>
-    ensures value { outcome (λ id. id) result ≡ id_of_table service.now.pages (table_view page.now) }
+    ensures value { source_outcome (λ id. id) result ≡ id_of_table service.now.pages (table_view page.now) }
     ensures new { IfOk result (λ id. has_id service.now.pages id ≡ false) }
     ensures ranges { IfOk result (λ id. IsId id × (id.page ≢ 0xff) × (id.sub ≢ 0x3f7f)) }
 {
@@ -40,7 +40,7 @@ fn id(page: &Table, service: &Service) -> Result<PageId, SourceFault>
 
 // How often a page is sent.
 fn often(page: &Table) -> Result<u8, SourceFault>
-    ensures value { outcome (λ n. n) result ≡ rule.often (table_view page.now) }
+    ensures value { source_outcome (λ n. n) result ≡ rule.often (table_view page.now) }
     ensures range { IfOk result (λ n. rule.is_often n ≡ true) }
 {
     match integer_or(page, "often", 1)? {
@@ -53,7 +53,7 @@ fn often(page: &Table) -> Result<u8, SourceFault>
 }
 
 fn head(page: &Table) -> Result<[u8; 24], SourceFault>
-    ensures value { outcome (λ t. t) result ≡ rule.head (table_view page.now) }
+    ensures value { source_outcome (λ t. t) result ≡ rule.head (table_view page.now) }
     ensures codes { IfOk result (λ t. (c : ℕ) → slice_index t c < 128) }
 {
     characters::<24>(text_or(page, "head", "")?)
@@ -75,7 +75,7 @@ fn page_with(
 /// The page that a table is, after the pages of the service, and how often it is sent.
 #[tactic(auto, unfolding(crate::specs::Services::authored_of))]
 pub fn page(table: &Table, service: &Service) -> Result<(Page, u8), SourceFault>
-    ensures value { outcome (λ p. authored_at (page_of p.0) p.1) result ≡ authored_of service.now.serial service.now.pages (table_view table.now) }
+    ensures value { source_outcome (λ p. authored_at (page_of p.0) p.1) result ≡ authored_of service.now.serial service.now.pages (table_view table.now) }
     ensures new { IfOk result (λ p. has_id service.now.pages (page_of p.0).id ≡ false) }
     ensures c11 { IfOk result (λ p. c11 (page_of p.0).control ≡ service.now.serial) }
     ensures often { IfOk result (λ p. rule.is_often p.1 ≡ true) }

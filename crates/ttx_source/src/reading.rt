@@ -9,7 +9,7 @@ ghost use Rattle.ttx_page.specs.Views.{page_of};
 ghost use Rattle.ttx_source.specs.Keys.{is_often};
 ghost use Rattle.ttx_source.specs.Services.{authored_at, has_id};
 ghost use Rattle.ttx_source.specs.Services as rule;
-ghost use Rattle.ttx_source.specs.Faults.{outcome, outcome_in_page, IsUnlessMemory};
+ghost use Rattle.ttx_source.specs.Faults.{source_outcome, outcome_in_page, IsSourceUnlessMemory};
 
 use crate::faults::{SourceError, SourceFault};
 use crate::info_table::info;
@@ -29,7 +29,7 @@ const NO_MEMORY: SourceError = SourceError {
 // The service of a table without its pages.
 #[tactic(auto, unfolding(crate::specs::Services::settings_of))]
 fn settings(alloc: Global, table: &Table) -> Result<Service, SourceFault>
-    ensures value { outcome (λ s. s) result ≡ rule.settings_of (table_view table.now) }
+    ensures value { source_outcome (λ s. s) result ≡ rule.settings_of (table_view table.now) }
     ensures none { IfOk result (λ s. s.pages ≡ []) }
 {
     let lines = integer(table, "lines", 1, 32)?;
@@ -54,7 +54,7 @@ fn are_tables(values: &[Value]) -> bool
 
 // The tables of the pages.
 fn page_tables<'a>(table: &'a Table) -> Result<&'a [Value], SourceFault>
-    ensures value { outcome (λ v. items_view v.now) result ≡ rule.page_tables (table_view table.now) }
+    ensures value { source_outcome (λ v. items_view v.now) result ≡ rule.page_tables (table_view table.now) }
     ensures most { IfOk result (λ v. length v.now ≤ 2000) }
 {
     let Some(value) = member(table, "page") else {
@@ -95,7 +95,7 @@ fn next_page(value: &Value, number: usize, service: &Service) -> Result<(Page, u
 fn with_pages(mut service: Service, values: &[Value]) -> Result<Service, SourceError>
     requires none { service.pages ≡ [] }
     requires most { length values.now ≤ 2000 }
-    ensures { IsUnlessMemory result (outcome_in_page (λ s. s) result ≡ rule.with_pages service (items_view values.now)) }
+    ensures { IsSourceUnlessMemory result (outcome_in_page (λ s. s) result ≡ rule.with_pages service (items_view values.now)) }
 {
     for (index, value) in values.iter().enumerate() {
         let (page, often) = match next_page(value, index + 1, &service) {
@@ -113,7 +113,7 @@ fn with_pages(mut service: Service, values: &[Value]) -> Result<Service, SourceE
 // The service that a table is, or its first fault.
 #[tactic(auto, unfolding(crate::specs::Services::service_of))]
 fn service_of(alloc: Global, table: &Table) -> Result<Service, SourceError>
-    ensures { IsUnlessMemory result (outcome_in_page (λ s. s) result ≡ rule.service_of (table_view table.now)) }
+    ensures { IsSourceUnlessMemory result (outcome_in_page (λ s. s) result ≡ rule.service_of (table_view table.now)) }
 {
     let service = match settings(alloc, table) {
         Ok(service) => service,
@@ -127,7 +127,7 @@ fn service_of(alloc: Global, table: &Table) -> Result<Service, SourceError>
 
 /// The service that a TOML text says. Lines, serial and `info` are looked at before the pages, and the pages in their order.
 pub fn read_service(alloc: Global, bytes: &[u8]) -> Result<Service, SourceError>
-    ensures { IsUnlessMemory result (outcome_in_page (λ s. s) result ≡ rule.read_bytes bytes.now) }
+    ensures { IsSourceUnlessMemory result (outcome_in_page (λ s. s) result ≡ rule.read_bytes bytes.now) }
 {
     let Ok(text) = std::str::from_utf8(bytes) else {
         return Err(SourceError {

@@ -7,7 +7,7 @@ ghost use Rattle.toml.specs.View.{table_view, view};
 ghost use Rattle.ttx_page.specs.Pages.{IsRow};
 ghost use Rattle.ttx_source.specs.Keys as rule;
 ghost use Rattle.ttx_source.specs.Keys.{AreRows};
-ghost use Rattle.ttx_source.specs.Faults.{outcome};
+ghost use Rattle.ttx_source.specs.Faults.{source_outcome};
 
 use crate::faults::SourceFault;
 use crate::texts::characters;
@@ -42,7 +42,7 @@ fn blank_row() -> [u8; 40]
 
 // The row of a value: spaces where there is none.
 fn row_of(value: Option<&Value>) -> Result<[u8; 40], SourceFault>
-    ensures value { outcome (λ r. r) result ≡ rule.row_of (option_map (λ v. view v.now) value.entry) }
+    ensures value { source_outcome (λ r. r) result ≡ rule.row_of (option_map (λ v. view v.now) value.entry) }
     ensures row { IfOk result IsRow }
 {
     match value {
@@ -60,7 +60,7 @@ fn blank_rows() -> [[u8; 40]; 24]
 
 // The rows of these values.
 fn rows_of(values: &[Option<&Value>; 24]) -> Result<[[u8; 40]; 24], SourceFault>
-    ensures value { outcome (λ r. r) result ≡ rule.rows_of (map (option_map (λ v. view v.now)) values.now) }
+    ensures value { source_outcome (λ r. r) result ≡ rule.rows_of (map (option_map (λ v. view v.now)) values.now) }
     ensures rows { IfOk result AreRows }
 {
     let mut rows = blank_rows();
@@ -72,7 +72,7 @@ fn rows_of(values: &[Option<&Value>; 24]) -> Result<[[u8; 40]; 24], SourceFault>
 
 // The rows of a table of rows.
 fn rows_in(table: &Table) -> Result<[[u8; 40]; 24], SourceFault>
-    ensures value { outcome (λ r. r) result ≡ rule.rows_in (table_view table.now) }
+    ensures value { source_outcome (λ r. r) result ≡ rule.rows_in (table_view table.now) }
     ensures rows { IfOk result AreRows }
 {
     let mut values = [None; 24];
@@ -87,7 +87,7 @@ fn rows_in(table: &Table) -> Result<[[u8; 40]; 24], SourceFault>
 
 /// Rows 1 to 24 of a page.
 pub fn rows(page: &Table) -> Result<[[u8; 40]; 24], SourceFault>
-    ensures value { outcome (λ r. r) result ≡ rule.rows (table_view page.now) }
+    ensures value { source_outcome (λ r. r) result ≡ rule.rows (table_view page.now) }
     ensures rows { IfOk result AreRows }
 {
     match member(page, "rows") {

@@ -5,7 +5,7 @@ ghost use Rattle.std.specs.List.{list_all};
 ghost use Rattle.std.specs.Str.{chars};
 ghost use Rattle.ttx_header.specs.Ids.{IsSubcode};
 ghost use Rattle.ttx_source.specs.Values as rule;
-ghost use Rattle.ttx_source.specs.Faults.{outcome, fault_of};
+ghost use Rattle.ttx_source.specs.Faults.{source_outcome, fault_of};
 
 use crate::faults::SourceFault;
 use ttx_digits::{first_number, four_digits, two_digits};
@@ -56,7 +56,7 @@ fn padded<const N: usize>(bytes: &[u8]) -> [u8; N]
 
 /// The codes of a text of at most `N` characters, with spaces at the end.
 pub fn characters<const N: usize>(text: &str) -> Result<[u8; N], SourceFault>
-    ensures value { outcome (λ r. r) result ≡ rule.characters N text.now }
+    ensures value { source_outcome (λ r. r) result ≡ rule.characters N text.now }
     ensures codes { IfOk result (λ row. (c : ℕ) → slice_index row c < 128) }
 {
     let bytes = text.as_bytes();
@@ -74,7 +74,7 @@ pub fn characters<const N: usize>(text: &str) -> Result<[u8; N], SourceFault>
 /// The magazine and the page number that `MPP` names.
 #[tactic(auto, unfolding(crate::specs::Values::page_number))]
 pub fn page_number(text: &str) -> Result<(u8, u8), SourceFault>
-    ensures value { outcome (λ n. n) result ≡ rule.page_number text.now }
+    ensures value { source_outcome (λ n. n) result ≡ rule.page_number text.now }
     ensures ranges { IfOk result (λ n. (1 ≤ n.0) × (n.0 ≤ 8) × (n.1 ≢ 0xff)) }
 {
     let text = text.as_bytes();
@@ -97,7 +97,7 @@ fn is_inside_mask(sub: u16) -> bool
 /// The subcode of a page, as four digits.
 #[tactic(auto, unfolding(crate::specs::Values::subcode))]
 pub fn subcode(text: &str) -> Result<u16, SourceFault>
-    ensures value { outcome (λ n. n) result ≡ rule.subcode text.now }
+    ensures value { source_outcome (λ n. n) result ≡ rule.subcode text.now }
     ensures ranges { IfOk result (λ sub. IsSubcode sub × (sub ≢ 0x3f7f)) }
 {
     let text = text.as_bytes();
@@ -113,7 +113,7 @@ pub fn subcode(text: &str) -> Result<u16, SourceFault>
 /// Two bytes, as four digits.
 #[tactic(auto, unfolding(crate::specs::Values::byte_pair))]
 pub fn byte_pair(text: &str, key: &'static str) -> Result<[u8; 2], SourceFault>
-    ensures { outcome (λ b. b) result ≡ rule.byte_pair key.now text.now }
+    ensures { source_outcome (λ b. b) result ≡ rule.byte_pair key.now text.now }
 {
     let text = text.as_bytes();
     if text.len() != 4 {
@@ -128,7 +128,7 @@ pub fn byte_pair(text: &str, key: &'static str) -> Result<[u8; 2], SourceFault>
 // The target of a link, if both parts of its text are numbers.
 fn target(number: Option<(u8, u8)>, sub: Option<u16>) -> Result<Option<Target>, SourceFault>
     requires { IfSome number (λ n. (1 ≤ n.0) × (n.0 ≤ 8) × (n.1 ≢ 0xff)) }
-    ensures { outcome (λ l. l) result ≡ rule.link_to number sub }
+    ensures { source_outcome (λ l. l) result ≡ rule.link_to number sub }
 {
     let (Some((mag, page)), Some(sub)) = (number, sub) else {
         return Err(SourceFault::PageNumber);
@@ -142,7 +142,7 @@ fn target(number: Option<(u8, u8)>, sub: Option<u16>) -> Result<Option<Target>, 
 /// A link: none in an empty text, else `MPP` for any subpage or `MPP/SSSS`.
 #[tactic(auto, unfolding(crate::specs::Values::link))]
 pub fn link(text: &str) -> Result<Option<Target>, SourceFault>
-    ensures { outcome (λ l. l) result ≡ rule.link text.now }
+    ensures { source_outcome (λ l. l) result ≡ rule.link text.now }
 {
     let text = text.as_bytes();
     match text.len() {

@@ -5,7 +5,7 @@ ghost use Rattle.toml.specs.Data.{as_integer, as_bool, as_str, as_array, as_tabl
 ghost use Rattle.toml.specs.View.{table_view, array_view, view};
 ghost use Rattle.ttx_source.specs.Values as rule;
 ghost use Rattle.ttx_source.specs.Values.{or_fault, missing, of_kind, with_default, integer_at, integer_at_or, integer_within};
-ghost use Rattle.ttx_source.specs.Faults.{outcome};
+ghost use Rattle.ttx_source.specs.Faults.{source_outcome};
 
 use crate::faults::SourceFault;
 use toml::{Table, Value};
@@ -19,7 +19,7 @@ pub fn member<'a>(table: &'a Table, key: &str) -> Option<&'a Value>
 
 // The value at a key that must be there.
 fn required<'a>(table: &'a Table, key: &'static str) -> Result<&'a Value, SourceFault>
-    ensures { outcome (λ x. view x.now) result ≡ or_fault (missing key.now) (get_member key.now (table_view table.now)) }
+    ensures { source_outcome (λ x. view x.now) result ≡ or_fault (missing key.now) (get_member key.now (table_view table.now)) }
 {
     match member(table, key) {
         None => Err(SourceFault::Missing { key }),
@@ -28,7 +28,7 @@ fn required<'a>(table: &'a Table, key: &'static str) -> Result<&'a Value, Source
 }
 
 fn integer_of(value: &Value, key: &'static str) -> Result<i64, SourceFault>
-    ensures { outcome (λ z. z) result ≡ of_kind key.now as_integer (view value.now) }
+    ensures { source_outcome (λ z. z) result ≡ of_kind key.now as_integer (view value.now) }
 {
     match value.as_integer() {
         None => Err(SourceFault::Kind { key }),
@@ -37,7 +37,7 @@ fn integer_of(value: &Value, key: &'static str) -> Result<i64, SourceFault>
 }
 
 fn boolean_of(value: &Value, key: &'static str) -> Result<bool, SourceFault>
-    ensures { outcome (λ b. b) result ≡ of_kind key.now as_bool (view value.now) }
+    ensures { source_outcome (λ b. b) result ≡ of_kind key.now as_bool (view value.now) }
 {
     match value.as_bool() {
         None => Err(SourceFault::Kind { key }),
@@ -47,7 +47,7 @@ fn boolean_of(value: &Value, key: &'static str) -> Result<bool, SourceFault>
 
 /// The text that a value is.
 pub fn text_of<'a>(value: &'a Value, key: &'static str) -> Result<&'a str, SourceFault>
-    ensures { outcome (λ t. t.now) result ≡ of_kind key.now as_str (view value.now) }
+    ensures { source_outcome (λ t. t.now) result ≡ of_kind key.now as_str (view value.now) }
 {
     match value.as_str() {
         None => Err(SourceFault::Kind { key }),
@@ -57,7 +57,7 @@ pub fn text_of<'a>(value: &'a Value, key: &'static str) -> Result<&'a str, Sourc
 
 /// The array that a value is.
 pub fn array_of<'a>(value: &'a Value, key: &'static str) -> Result<&'a Vec<Value>, SourceFault>
-    ensures { outcome (λ a. array_view a.now) result ≡ of_kind key.now as_array (view value.now) }
+    ensures { source_outcome (λ a. array_view a.now) result ≡ of_kind key.now as_array (view value.now) }
 {
     match value.as_array() {
         None => Err(SourceFault::Kind { key }),
@@ -67,7 +67,7 @@ pub fn array_of<'a>(value: &'a Value, key: &'static str) -> Result<&'a Vec<Value
 
 /// The table that a value is.
 pub fn table_of<'a>(value: &'a Value, key: &'static str) -> Result<&'a Table, SourceFault>
-    ensures { outcome (λ t. table_view t.now) result ≡ of_kind key.now as_table (view value.now) }
+    ensures { source_outcome (λ t. table_view t.now) result ≡ of_kind key.now as_table (view value.now) }
 {
     match value.as_table() {
         None => Err(SourceFault::Kind { key }),
@@ -77,7 +77,7 @@ pub fn table_of<'a>(value: &'a Value, key: &'static str) -> Result<&'a Table, So
 
 /// An integer in a range.
 pub fn within(number: i64, key: &'static str, low: u32, high: u32) -> Result<u32, SourceFault>
-    ensures value { outcome (λ n. n) result ≡ integer_within key.now low high number }
+    ensures value { source_outcome (λ n. n) result ≡ integer_within key.now low high number }
     ensures range { IfOk result (λ n. (low ≤ n) × (n ≤ high)) }
 {
     if number < i64::from(low) || number > i64::from(high) {
@@ -88,7 +88,7 @@ pub fn within(number: i64, key: &'static str, low: u32, high: u32) -> Result<u32
 
 /// The integer at a key that must be there, in a range.
 pub fn integer(table: &Table, key: &'static str, low: u32, high: u32) -> Result<u32, SourceFault>
-    ensures value { outcome (λ n. n) result ≡ integer_at key.now low high (table_view table.now) }
+    ensures value { source_outcome (λ n. n) result ≡ integer_at key.now low high (table_view table.now) }
     ensures range { IfOk result (λ n. (low ≤ n) × (n ≤ high)) }
 {
     let number = integer_of(required(table, key)?, key)?;
@@ -97,7 +97,7 @@ pub fn integer(table: &Table, key: &'static str, low: u32, high: u32) -> Result<
 
 /// The integer at a key, or a default.
 pub fn integer_or(table: &Table, key: &'static str, default: i64) -> Result<i64, SourceFault>
-    ensures { outcome (λ z. z) result ≡ with_default key.now as_integer default (table_view table.now) }
+    ensures { source_outcome (λ z. z) result ≡ with_default key.now as_integer default (table_view table.now) }
 {
     match member(table, key) {
         None => Ok(default),
@@ -107,14 +107,14 @@ pub fn integer_or(table: &Table, key: &'static str, default: i64) -> Result<i64,
 
 /// The boolean at a key that must be there.
 pub fn boolean(table: &Table, key: &'static str) -> Result<bool, SourceFault>
-    ensures { outcome (λ b. b) result ≡ rule.required key.now as_bool (table_view table.now) }
+    ensures { source_outcome (λ b. b) result ≡ rule.required key.now as_bool (table_view table.now) }
 {
     boolean_of(required(table, key)?, key)
 }
 
 /// The boolean at a key; false where there is none.
 pub fn flag(table: &Table, key: &'static str) -> Result<bool, SourceFault>
-    ensures { outcome (λ b. b) result ≡ with_default key.now as_bool false (table_view table.now) }
+    ensures { source_outcome (λ b. b) result ≡ with_default key.now as_bool false (table_view table.now) }
 {
     match member(table, key) {
         None => Ok(false),
@@ -124,7 +124,7 @@ pub fn flag(table: &Table, key: &'static str) -> Result<bool, SourceFault>
 
 /// The text at a key that must be there.
 pub fn text<'a>(table: &'a Table, key: &'static str) -> Result<&'a str, SourceFault>
-    ensures { outcome (λ t. t.now) result ≡ rule.required key.now as_str (table_view table.now) }
+    ensures { source_outcome (λ t. t.now) result ≡ rule.required key.now as_str (table_view table.now) }
 {
     text_of(required(table, key)?, key)
 }
@@ -135,7 +135,7 @@ pub fn text_or<'a>(
     key: &'static str,
     default: &'static str,
 ) -> Result<&'a str, SourceFault>
-    ensures { outcome (λ t. t.now) result ≡ with_default key.now as_str default.now (table_view table.now) }
+    ensures { source_outcome (λ t. t.now) result ≡ with_default key.now as_str default.now (table_view table.now) }
 {
     match member(table, key) {
         None => Ok(default),

@@ -31,7 +31,7 @@ deadline_told : (slots : List (List ℕ)) (service : ServiceFields) (w : Certifi
 deadline_told slots service w None deadline file line status e t = cc
 deadline_told slots service w (Some d) deadline file line status e t = t.2
 
-pub planned_is_found : PlannedIsFound → T.PlannedIsFound
+pub planned_is_found : PlannedIsFound → T.PlannedFilesAreFound
 planned_is_found law a b late class p repeat one eight file line status f =
     let slots : p.slots ≡ f.slots = same_slots p.slots f.slots p.plan.is_cycle.each f.cycle_is.is_cycle.each (sym p.file ∙ f.cycle_is.same) in
     let service : p.plan.service ≡ f.service = same_ok (read_bytes b) p.plan.service f.service p.plan.text.says f.service_is.says in
@@ -96,7 +96,7 @@ late_is_certified law followed a b class p asked repeat file line f verdict said
 -- ---- what `find` answers and writes
 
 module _ (repeat : ℕ) (class : Class) (file_old file_new old new : Option (List ℕ)) where
-  finds_deadline : T.PlannedIsFound → 1 ≤ repeat → repeat ≤ 8 → (a b : List ℕ) (result : Result ℕ ToolFault) → FindsFiles a b repeat class file_old file_new old new result → FindsDeadline a b class result
+  finds_deadline : T.PlannedFilesAreFound → 1 ≤ repeat → repeat ≤ 8 → (a b : List ℕ) (result : Result ℕ ToolFault) → FindsFiles a b repeat class file_old file_new old new result → FindsDeadline a b class result
   finds_deadline law one eight a b (Ok status) f = λ late p. law a b late class p repeat one eight f.0 f.1 status f.2
   finds_deadline law one eight a b (Err fault) f = tt
 
@@ -110,7 +110,7 @@ module _ (repeat : ℕ) (class : Class) (file_old file_new old new : Option (Lis
       let there : Appends (Some []) (Some file) f.0 = subst (λ x. Appends (Some []) x f.0) full (subst (λ x. Appends x file_new f.0) empty f.3.0) in
       subst (IsCertified a b) (written f.0 file there) (law a b class repeat f.0 f.1 (subst (IsFinding a b repeat class f.0 f.1) none f.2))
 
-  pub all_find : T.PlannedIsFound → 1 ≤ repeat → repeat ≤ 8 → (a b : Option (List ℕ)) (result : Result ℕ ToolFault) →
+  pub all_find : T.PlannedFilesAreFound → 1 ≤ repeat → repeat ≤ 8 → (a b : Option (List ℕ)) (result : Result ℕ ToolFault) →
       IfSome a (λ x. IfSome b (λ y. FindsFiles x y repeat class file_old file_new old new result)) → IfSome a (λ x. IfSome b (λ y. FindsDeadline x y class result))
   all_find law one eight (Some a) (Some b) result f = finds_deadline law one eight a b result f
   all_find law one eight (Some a) None result f = tt

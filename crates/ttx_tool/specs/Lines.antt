@@ -7,10 +7,9 @@
 --   corrected_mark         the mark of a slot that isn't clean
 use Rattle.std.specs.Prelude.{ℕ, ◌+◌, ◌==◌, List, [], ◌∷◌, ◌++◌, codes, Option, Some, None, Result, Ok, Err, if◌then◌else◌}
 use Rattle.std.specs.Fmt.{decimal}
-use Rattle.std.specs.Int.RustNames.{bit_and}
 use Rattle.ttx_packet.specs.Slots.{Kind, kind_of, is_clean, IsEmpty, IsUnreadable, IsHeader, IsRow, IsLinks, IsInfo, IsOther}
 use Rattle.ttx_header.specs.Ids.{Id}
-use Rattle.ttx_header.specs.Control.{control_table}
+use Rattle.ttx_header.specs.Control.{control_text}
 use Rattle.ttx_header.specs.Headers.{id_of, control_of}
 use Rattle.ttx_links.specs.Sets.{LinkSet, links_of}
 use Rattle.ttx_info.specs.Infos.{InfoFields, info_of}
@@ -23,14 +22,9 @@ use Rattle.ttx_tool.specs.Texts.{link_ids_text, date_text, time_text}
 abbrev pub packet_text : ℕ → ℕ → List ℕ → List ℕ
 packet_text mag number kind = decimal mag ++ 47 ∷ decimal number ++ 32 ∷ kind
 
--- the names of the control bits that are set, in the order of the table, each after a space
-abbrev pub set_names : ℕ → List (List ℕ × ℕ) → List ℕ
-set_names control [] = []
-set_names control (row ∷ rest) = (if bit_and control row.1 == row.1 then 32 ∷ row.0 else []) ++ set_names control rest
-
 -- the page's id, and the control bits that are set, C4 first
 abbrev pub header_text : Id → ℕ → List ℕ
-header_text id control = 32 ∷ id_text id ++ set_names control control_table
+header_text id control = 32 ∷ id_text id ++ control_text control
 
 -- the six links, and whether row 24 is shown
 abbrev pub link_fields_text : Option LinkSet → List ℕ

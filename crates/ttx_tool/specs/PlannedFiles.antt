@@ -2,7 +2,7 @@
 --
 --   IsPlanFile              a packet file that is written for the text of a service
 --   IsCertified             `certify` says yes to these three inputs
---   PlannedIsFound          in a packet file of a plan a deadline is found
+--   PlannedFilesAreFound          in a packet file of a plan a deadline is found
 --   FoundIsCertified        a certificate that is found is certified
 --   SaysYes, LateIsCertified            and in a packet file of a plan for receivers that show late, `certify --late` says yes to it
 --   FindsDeadline, MakesCertified           both of what `find` answers and writes
@@ -30,8 +30,8 @@ abbrev pub IsCertified : List ℕ → List ℕ → List ℕ → Type 0
 IsCertified a b c = (verdict : Verdict) (line : List ℕ) → Certifies a b c verdict line → verdict ≡ Yes
 
 -- in a packet file of a plan `find` finds a deadline, for the class of the plan and each repeat count
-abbrev pub PlannedIsFound : Type 0
-PlannedIsFound = (a b : List ℕ) (late : Bool) (class : Class) → IsPlanFile a b late class → (repeat : ℕ) → 1 ≤ repeat → repeat ≤ 8 →
+abbrev pub PlannedFilesAreFound : Type 0
+PlannedFilesAreFound = (a b : List ℕ) (late : Bool) (class : Class) → IsPlanFile a b late class → (repeat : ℕ) → 1 ≤ repeat → repeat ≤ 8 →
     (file line : List ℕ) (status : ℕ) → IsFinding a b repeat class file line status → status ≡ 0
 
 -- where `find` finds a deadline, `certify` says yes to the certificate

@@ -8,9 +8,10 @@
 --   CountsCounter, CountsReplayInputs, CountsReplay        faults of devices are answered only where they were counted
 use Rattle.std.specs.Prelude.{◌≡◌, ◌⊎◌, ℕ, ◌<◌, ◌≤◌, List, [], ◌∷◌, ◌++◌, length, take, codes, string_bytes, ⊤, Option, Result, Ok, Err}
 use Rattle.std.specs.Io.KnownBytes.{Appends, Keeps}
-use Rattle.ttx_certify.specs.CertifyingFiles.{IsPacketFile, IsServiceText, most_bytes}
+use Rattle.ttx_certify.specs.CertifyingFiles.{IsPacketFile, IsServiceText}
+use Rattle.ttx_cycle.specs.Bounded.{most_bytes}
 use Rattle.ttx_counter.specs.CounterReading.{read_counter_text}
-use Rattle.ttx_counter.specs.Counters.{CounterRun, run_of, IsCounterRun}
+use Rattle.ttx_counter.specs.Counters.{CounterRun, counter_run_of, IsCounterRun}
 use Rattle.ttx_counter.specs.Replaying.{IsReplayed}
 use Rattle.ttx_counter.specs.declared.counter.Counter.{Counter as CounterValue}
 use Rattle.ttx_counter.specs.declared.counter_faults.CounterFault.TheVariants as fault
@@ -69,7 +70,7 @@ IsNoCounter bytes counter.TooLong = most_bytes < length bytes
 IsNoCounter bytes (counter.Text f) = (length bytes ≤ most_bytes) × ((f ≡ fault.NoMemory) ⊎ (read_counter_text bytes ≡ Err f))
 
 abbrev pub ReadsCounter : List ℕ → Result CounterValue ToolFault → Type 0
-ReadsCounter bytes (Ok c) = IsCounterText bytes (run_of c)
+ReadsCounter bytes (Ok c) = IsCounterText bytes (counter_run_of c)
 ReadsCounter bytes (Err (Counter f)) = IsNoCounter bytes f
 ReadsCounter bytes (Err NoMemory) = ⊤
 ReadsCounter bytes (Err _) = ⊥

@@ -2,47 +2,21 @@
 
 ghost use Rattle.std.specs.Prelude.{◌≡◌, true, [], ◌∷◌, ◌++◌, OnOk, IfOk, codes, map, option_map, string_bytes};
 ghost use Rattle.std.specs.Fmt.{decimal};
-ghost use Rattle.ttx_header.specs.Control.{control_table};
 ghost use Rattle.ttx_header.specs.Headers.{is_header, id_of, control_of};
 ghost use Rattle.ttx_links.specs.Sets.{links_of};
 ghost use Rattle.ttx_info.specs.Infos.{info_of};
 ghost use Rattle.ttx_tool.specs.Texts.{date_text, time_text};
-ghost use Rattle.ttx_tool.specs.Lines.{packet_text, set_names, header_text, link_fields_text, number_of_fault, info_text, corrected_mark};
+ghost use Rattle.ttx_tool.specs.Lines.{packet_text, header_text, link_fields_text, number_of_fault, info_text, corrected_mark};
 ghost use Rattle.ttx_tool.specs.Lines.{packet_line, slot_line, lines_from};
 
 use crate::texts::{push_date, push_links, push_time};
-use bitflags::{Flag, Flags};
 use std::alloc::{AllocError, Global};
 use ttx_digits::{push_decimal, push_digit, push_id};
-use ttx_header::{Control, Header, read_header};
+use ttx_header::{Header, push_control, read_header};
 use ttx_info::{Info, InfoFault, read_info};
 use ttx_links::{Links, read_links};
 use ttx_packet::place::Address;
 use ttx_packet::{Slot, clean, slot_of};
-
-// Adds the names of the set flags, each after a space.
-fn push_flags(
-    text: &mut String,
-    control: Control,
-    flags: &[Flag<Control>],
-) -> Result<(), AllocError>
-    ensures { OnOk result (string_bytes text.new ≡ string_bytes text.old ++ set_names control.0 (map (λ f. (f.name.now, f.value.0)) flags.now)) }
-{
-    for flag in flags {
-        if control.contains(flag.value) {
-            text.push(' ')?;
-            text.push_str(flag.name)?;
-        }
-    }
-    Ok(())
-}
-
-// Adds the names of the set control bits, C4 first.
-fn push_control(text: &mut String, control: Control) -> Result<(), AllocError>
-    ensures { OnOk result (string_bytes text.new ≡ string_bytes text.old ++ set_names control.0 control_table) }
-{
-    push_flags(text, control, Control::flags())
-}
 
 // Adds the fields of a page header.
 fn push_header(text: &mut String, header: &Header) -> Result<(), AllocError>

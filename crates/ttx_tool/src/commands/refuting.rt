@@ -1,7 +1,7 @@
 //! `refute`: a viewer whom a cycle fails, by the numbers of a certificate.
 
 ghost use Rattle.std.specs.Prelude.{◌≡◌, ◌<◌, ◌∷◌, ◌++◌, [], Some, IfSome, IfOk, IfErr, codes, length, map, slice_get, string_bytes};
-ghost use Rattle.ttx_counter.specs.Counters.{run_of};
+ghost use Rattle.ttx_counter.specs.Counters.{counter_run_of};
 ghost use Rattle.ttx_cycle.specs.Counters.{inner_of, faults_of};
 ghost use Rattle.ttx_cycle.specs.Cycles.{slots_of};
 ghost use Rattle.ttx_witness.specs.Certificates.{fields_of};
@@ -38,7 +38,7 @@ pub(super) fn counter_line(
     id: PageId,
     counter: &Counter,
 ) -> Result<String, AllocError>
-    ensures { IfOk result (λ line. string_bytes line ≡ counter_line id (run_of counter.now)) }
+    ensures { IfOk result (λ line. string_bytes line ≡ counter_line id (counter_run_of counter.now)) }
 {
     let (start, slots) = (counter.start, counter.slots);
     let (hits, choices) = (counter.hits.len(), counter.choices.len());
@@ -52,7 +52,7 @@ pub(super) fn counter_line(
 
 // The text of a counter-run, where it is asked for.
 fn saved(alloc: Global, counter: &Counter, save: bool) -> Result<Vec<u8>, ToolFault>
-    ensures text { IfOk result (λ file. file.items ≡ saved save (run_of counter.now)) }
+    ensures text { IfOk result (λ file. file.items ≡ saved save (counter_run_of counter.now)) }
     ensures memory { IfErr result (λ fault. fault ≡ ToolFault.NoMemory) }
 {
     if !save {
@@ -81,8 +81,8 @@ fn tell_counter(
 ) -> Result<Told, ToolFault>
     requires { counter.now.page < length pages.now }
     ensures line { IfOk result (λ told. (p : definitions.Page) → slice_get (map page_of pages.now) counter.now.page ≡ Some p →
-        string_bytes told.line ≡ counter_line p.id (run_of counter.now)) }
-    ensures file { IfOk result (λ told. told.file.items ≡ saved save (run_of counter.now)) }
+        string_bytes told.line ≡ counter_line p.id (counter_run_of counter.now)) }
+    ensures file { IfOk result (λ told. told.file.items ≡ saved save (counter_run_of counter.now)) }
     ensures status { IfOk result (λ told. told.status ≡ 1) }
     ensures memory { IfErr result (λ fault. fault ≡ ToolFault.NoMemory) }
 {

@@ -2,7 +2,7 @@
 
 ghost use Rattle.std.specs.Prelude.{◌≡◌, ◌<◌, Some, IfSome, IfOk, IfErr, length, map, slice_get, string_bytes};
 ghost use Rattle.ttx_certify.specs.CertifyingFiles.{IsUntouched};
-ghost use Rattle.ttx_counter.specs.Counters.{run_of};
+ghost use Rattle.ttx_counter.specs.Counters.{counter_run_of};
 ghost use Rattle.ttx_cycle.specs.Counters.{inner_of, faults_of};
 ghost use Rattle.ttx_cycle.specs.Cycles.{slots_of};
 ghost use Rattle.ttx_page.specs.Pages as definitions;
@@ -19,13 +19,10 @@ use crate::unlike_views::push_unlike_lines;
 use std::alloc::{AllocError, Global};
 use std::io::{Read, Write};
 use ttx_counter::{Counter, read_counter, replay as replay_counter};
-use ttx_cycle::{Counted, Cycle, TextFault, read_cycle, read_text, write_bytes};
+use ttx_cycle::{Counted, Cycle, MOST_BYTES, TextFault, read_cycle, read_text, write_bytes};
 use ttx_page::{Page, PageMemory};
 use ttx_render::render;
 use ttx_source::Service;
-
-// The most bytes of a text.
-const MOST_BYTES: usize = 4_194_304;
 
 // What goes out, and the status.
 #[derive(Drop)]
@@ -58,7 +55,7 @@ fn replay_text(
     counter: &Counter,
     memory: &PageMemory,
 ) -> Result<String, AllocError>
-    ensures { IfOk result (λ text. string_bytes text ≡ replay_text (page_of page.now) (run_of counter.now) (memory_of memory.now)) }
+    ensures { IfOk result (λ text. string_bytes text ≡ replay_text (page_of page.now) (counter_run_of counter.now) (memory_of memory.now)) }
 {
     let mut text = counter_line(alloc, page.id(), counter)?;
     push_unlike_lines(
@@ -79,7 +76,7 @@ fn tell_shown(
 ) -> Result<Told, ToolFault>
     requires { counter.now.page < length pages.now }
     ensures text { IfOk result (λ told. (p : definitions.Page) → slice_get (map page_of pages.now) counter.now.page ≡ Some p →
-        string_bytes told.text ≡ replay_text p (run_of counter.now) (memory_of memory.now)) }
+        string_bytes told.text ≡ replay_text p (counter_run_of counter.now) (memory_of memory.now)) }
     ensures status { IfOk result (λ told. told.status ≡ 0) }
     ensures memory { IfErr result (λ fault. fault ≡ ToolFault.NoMemory) }
 {
@@ -108,7 +105,7 @@ fn tell(
     service: &Service,
     counter: &Counter,
 ) -> Result<Told, ToolFault>
-    ensures told { IfOk result (λ told. IsReplay (slots_of cycle.now) (pages_of service.now) (run_of counter.now)
+    ensures told { IfOk result (λ told. IsReplay (slots_of cycle.now) (pages_of service.now) (counter_run_of counter.now)
         (string_bytes told.text) told.status) }
     ensures memory { IfErr result (λ fault. fault ≡ ToolFault.NoMemory) }
 {

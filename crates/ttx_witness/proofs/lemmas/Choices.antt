@@ -3,11 +3,6 @@ use Rattle.std.proofs.Common.{◌≡◌, ◌⊎◌, ℤ, pos, negsuc, ◌<ℤ◌
 use Rattle.std.proofs.Common.{sym, inl, inr, arith}
 use Rattle.std.proofs.lemmas.Int.{by_lt_z, ints}
 
--- what holds of both choices
-pub if_ind : {A : Type 0} (P : A → Type 0) (b : Bool) (x y : A) → (b ≡ true → P x) → (b ≡ false → P y) → P (if b then x else y)
-if_ind P true x y f g = f refl
-if_ind P false x y f g = g refl
-
 pub if_true : {A : Type 0} (b : Bool) (x y : A) → b ≡ true → (if b then x else y) ≡ x
 if_true true x y e = refl
 if_true false x y e = cc
@@ -15,18 +10,6 @@ if_true false x y e = cc
 pub if_false : {A : Type 0} (b : Bool) (x y : A) → b ≡ false → (if b then x else y) ≡ y
 if_false true x y e = cc
 if_false false x y e = refl
-
-pub and_left : (a b : Bool) → (a && b) ≡ true → a ≡ true
-and_left true b h = refl
-and_left false b h = h
-
-pub and_right : (a b : Bool) → (a && b) ≡ true → b ≡ true
-and_right true b h = h
-and_right false b h = cc
-
-pub and_both : (a b : Bool) → a ≡ true → b ≡ true → (a && b) ≡ true
-and_both true b h k = k
-and_both false b h k = h
 
 pub or_false : (a b : Bool) → a ≡ false → b ≡ false → (a || b) ≡ false
 or_false true b h k = h

@@ -4,7 +4,7 @@
 --   HoldsRow, HoldsNoRow, HoldsLinks, HoldsNoLinks  the same for rows and links
 --   mine_after, sends       whether the page owns its magazine after a slot, and whether a slot sends an item
 --   is_mine                 whether an owner is the page's header
---   is_other_subpage        a header of the page's number with another subcode
+--   heads_other_subpage        a header of the page's number with another subcode
 --   Check, compared_item    what is compared, and the item whose transmissions show it
 --   IsWrong, WrongAt, RowWrongAt, OtherHeaderAt, IsWrongIn  a slot that differs from the page
 use Rattle.std.specs.Prelude.{◌≡◌, ℕ, ℤ, pos, ◌<ℤ◌, ◌≤ℤ◌, unsigned_abs, [], length, slice_index_or, Bool, true, false, not, ◌&&◌}
@@ -64,8 +64,8 @@ abbrev pub is_mine : Option PageOwner → Bool
 is_mine None = false
 is_mine (Some owner) = owner.mine
 
-abbrev pub is_other_subpage : Id → Packet → Bool
-is_other_subpage page packet = heads_matched (AnySub page.mag page.page) packet && not (heads_page page packet)
+abbrev pub heads_other_subpage : Id → Packet → Bool
+heads_other_subpage page packet = heads_matched (AnySub page.mag page.page) packet && not (heads_page page packet)
 
 abbrev pub compared_item : Check → Item
 compared_item EraseBit = TheHead

@@ -1,6 +1,6 @@
 -- What two passes keep of the two lists of slots that they were given. Slots are counted from 0.
 --
---   ids, pages_of, certificate      the pages and the certificate of a pass
+--   ids, pass_pages, certificate      the pages and the certificate of a pass
 --   pages_in, certificate_in        of a second pass
 --   ended_pages, ended_certificate  and of one that has ended
 --   AreReady                what a pass keeps of its pages alone
@@ -24,7 +24,7 @@ use Rattle.ttx_witness.specs.sent.Collected.{IsIndex, AreApart, IsItem, ids_of, 
 use Rattle.ttx_witness.specs.Coverage.{Certificate}
 use Rattle.ttx_witness.specs.passes.PageFacts.{FirstBelow, AreFacts}
 use Rattle.ttx_witness.specs.passes.ItemProgress.{HoldsAt}
-use Rattle.ttx_witness.specs.passes.SentSlots.{placed, IsLinked}
+use Rattle.ttx_witness.specs.passes.SentSlots.{placed_in, IsLinked}
 use Rattle.ttx_witness.specs.faults.OtherSubpages as table
 use Rattle.ttx_witness.specs.faults.OtherSubpages.{AreAllSubcodes, HeadsOtherAt, TellsBelow}
 use Rattle.ttx_witness.specs.sent.ItemTransmissions.{PageOwner, owner_scan, sent_scan, sent_in, entry_owner}
@@ -36,8 +36,8 @@ use Rattle.ttx_witness.specs.declared.passes.passing.Pass.{Pass}
 use Rattle.ttx_witness.specs.declared.passes.passing.SecondPass.{SecondPass}
 use Rattle.ttx_witness.specs.declared.passes.ending.EndedPass.{EndedPass}
 
-abbrev pub pages_of : Pass → List Page
-pages_of pass = map page_of pass.pages.now
+abbrev pub pass_pages : Pass → List Page
+pass_pages pass = map page_of pass.pages.now
 
 abbrev pub ids : Pass → List Id
 ids pass = ids_of pass.pages.now
@@ -46,7 +46,7 @@ abbrev pub certificate : Pass → Certificate
 certificate pass = certificate_of pass.certificate.now
 
 abbrev pub pages_in : SecondPass → List Page
-pages_in second = pages_of second.pass
+pages_in second = pass_pages second.pass
 
 abbrev pub certificate_in : SecondPass → Certificate
 certificate_in second = certificate second.pass
@@ -59,7 +59,7 @@ ended_certificate ended = certificate_of ended.certificate.now
 
 pub record AreReady (pass : Pass) : Type 0 where
   pub index : IsIndex (ids pass) pass.index
-  pub subcodes : AreAllSubcodes (pages_of pass) (length pass.pages.now) pass.others.subcodes.items
+  pub subcodes : AreAllSubcodes (pass_pages pass) (length pass.pages.now) pass.others.subcodes.items
 
 -- the owners after the list y, where those before it are the entry's
 pub record AreSeen (pass : Pass) (entry : Id → Option PageOwner) (y : List (List ℕ)) (owners : List (Option Owner)) : Type 0 where
@@ -72,7 +72,7 @@ pub record AreListed (pages : List Page) (w : Certificate) (entry : Id → Optio
   pub places : length sent.firsts.items ≡ 26 * length pages
   pub unlinked : (n : ℕ) → get_or sent.firsts.items n None ≡ None
   pub each : (i : ℕ) (p : Page) (item : Item) → slice_get pages i ≡ Some p → IsItem item →
-      placed (place_of_item i item) sent.slots.items ≡ sent_scan p.id w.lines item (repeated y) (entry p.id) (length y)
+      placed_in (place_of_item i item) sent.slots.items ≡ sent_scan p.id w.lines item (repeated y) (entry p.id) (length y)
 
 -- the facts of each page
 abbrev pub AreNoted : List Page → Certificate → (Id → Option PageOwner) → List (List ℕ) → List Facts → Type 0
@@ -85,8 +85,8 @@ AreTold y others = (mag number : ℕ) → 1 ≤ mag → mag ≤ 8 → number < 2
     TellsBelow (HeadsOtherAt others.subcodes.items (repeated y) mag number) (length y) (get_or others.first.items (table.place mag number) None)
 
 pub record AreKept (pass : Pass) (entry : Id → Option PageOwner) (y : List (List ℕ)) : Type 0 where
-  pub sent : AreListed (pages_of pass) (certificate pass) entry y pass.sent
-  pub facts : AreNoted (pages_of pass) (certificate pass) entry y pass.facts.items
+  pub sent : AreListed (pass_pages pass) (certificate pass) entry y pass.sent
+  pub facts : AreNoted (pass_pages pass) (certificate pass) entry y pass.facts.items
   pub others : AreTold y pass.others
 
 -- Of the first list a pass keeps how long it is, and the owners at its end.
@@ -121,7 +121,7 @@ pub record IsEnded (ended : EndedPass) (y : List (List ℕ)) : Type 0 where
   pub places : length ended.sent.firsts.items ≡ 26 * length (ended_pages ended)
   pub linked : IsLinked ended.sent.slots.items ended.sent.firsts.items ended.sent.nexts.items 0
   pub sent : (i : ℕ) (p : Page) (item : Item) → slice_get (ended_pages ended) i ≡ Some p → IsItem item →
-      placed (place_of_item i item) ended.sent.slots.items ≡ sent_in y p.id (ended_certificate ended).lines item
+      placed_in (place_of_item i item) ended.sent.slots.items ≡ sent_in y p.id (ended_certificate ended).lines item
   pub facts : AreNoted (ended_pages ended) (ended_certificate ended) (entry_owner y) y ended.facts.items
   pub others : AreTold y ended.others
 

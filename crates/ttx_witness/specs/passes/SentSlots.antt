@@ -1,6 +1,6 @@
 -- What the slots of a period send, item by item.
 --
---   placed                  the transmissions of the item in a place
+--   placed_in                  the transmissions of the item in a place
 --   IsNext                  the first number from one to below another of which something is true
 --   IsLinked                from a slot on, the slots that send an item are linked: the first one is known, and of each the next
 use Rattle.std.specs.Prelude.{◌≡◌, ℕ, ◌+◌, ◌<◌, ◌≤◌, true, List, [], ◌∷◌, ◌++◌, length, get_or, Option, Some, None}
@@ -8,9 +8,9 @@ use Rattle.ttx_witness.specs.declared.runs.transmissions.Transmission.{Transmiss
 use Rattle.ttx_witness.specs.sent.OneSlot.{sends_place, placed_at}
 use Rattle.ttx_witness.specs.declared.sent.one_slot.Sent.{Sent}
 
-unfoldable pub placed : ℕ → List (Option Sent) → List Transmission
-placed place [] = []
-placed place (sent ∷ slots) = placed_at place sent ++ placed place slots
+unfoldable pub placed_in : ℕ → List (Option Sent) → List Transmission
+placed_in place [] = []
+placed_in place (sent ∷ slots) = placed_at place sent ++ placed_in place slots
 
 abbrev pub SendsAt : List (Option Sent) → ℕ → ℕ → Type 0
 SendsAt slots place j = sends_place place (get_or slots j None) ≡ true

@@ -15,7 +15,7 @@ ghost use Rattle.ttx_witness.specs.faults.Faults.{TellsFirst, AreFirst, IsPageFa
 use crate::faults::comparing::{Check, is_wrong};
 use crate::faults::first_slots::{FirstSlots, earlier, least_fault};
 use crate::faults::reason::Reason;
-use crate::sent::packets::{heads_page, is_other_subpage, mine_after, sends};
+use crate::sent::packets::{heads_other_subpage, heads_page, mine_after, sends};
 use ttx_cycle::Cycle;
 use ttx_header::PageId;
 use ttx_page::{Item, Page, RowNumber, Selection, needed};
@@ -39,7 +39,7 @@ fn first_other_header(cycle: &Cycle, page: PageId) -> Option<u32>
 {
     let slots = cycle.slots();
     for j in 0..slots.len() {
-        if is_other_subpage(page, &slots[j]) {
+        if heads_other_subpage(page, &slots[j]) {
             return Some(j as u32);
         }
     }

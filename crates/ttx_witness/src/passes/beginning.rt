@@ -41,7 +41,7 @@ impl<'a> Pass<'a> {
     ghost use Rattle.ttx_page.specs.Views.{page_of};
     ghost use Rattle.ttx_certificate.specs.Certificates.{certificate_of};
     ghost use Rattle.ttx_witness.specs.passes.Passing as passing;
-    ghost use Rattle.ttx_witness.specs.passes.Passing.{IsFirstPass, pages_of};
+    ghost use Rattle.ttx_witness.specs.passes.Passing.{IsFirstPass, pass_pages};
 
     /// A pass over the pages, whose ids are distinct, with the certificate. All its growths are made here.
     pub fn new(
@@ -51,7 +51,7 @@ impl<'a> Pass<'a> {
     ) -> Result<Pass<'a>, NoMemory>
         requires distinct { AllPairs (λ a b. a ≢ b) (ids_of pages.now) }
         ensures stands { IfOk result (λ pass. IsFirstPass pass []) }
-        ensures pages { IfOk result (λ pass. pages_of pass ≡ map page_of pages.entry.now) }
+        ensures pages { IfOk result (λ pass. pass_pages pass ≡ map page_of pages.entry.now) }
         ensures certificate { IfOk result (λ pass. passing.certificate pass ≡ certificate_of certificate.entry.now) }
     {
         ttx_page::laws::pages_keep_their_rules();

@@ -86,14 +86,14 @@ fn take_slot(pass: &mut Pass, slot: &[u8; 42])
 impl<'a> Pass<'a> {
     ghost use Rattle.std.specs.Prelude.{◌≡◌, ◌++◌, ◌∷◌, [], ℕ, List, MatchResult, length};
     ghost use Rattle.ttx_packet.specs.Slots.{IsSlot};
-    ghost use Rattle.ttx_witness.specs.passes.Passing.{IsFirstPass, IsSecondPass, pages_of, pages_in, certificate, certificate_in};
+    ghost use Rattle.ttx_witness.specs.passes.Passing.{IsFirstPass, IsSecondPass, pass_pages, pages_in, certificate, certificate_in};
 
     /// The next slot of the first list. After `TooLong` the pass is as it was.
     pub fn first(&mut self, slot: &[u8; 42]) -> Result<(), WalkFault>
         requires { IsSlot slot.now }
         ensures stands { (x : List (List ℕ)) → IsFirstPass self.old x →
             MatchResult result (λ u. IsFirstPass self.new (x ++ slot.now ∷ [])) (λ f. (self.new ≡ self.old) × (length x ≡ 65536)) }
-        ensures pages { pages_of self.new ≡ pages_of self.old }
+        ensures pages { pass_pages self.new ≡ pass_pages self.old }
         ensures certificate { certificate self.new ≡ certificate self.old }
     {
         if self.count >= 65536 {
@@ -107,7 +107,7 @@ impl<'a> Pass<'a> {
     /// Before the second list: the owners are those at the end of the first, as many slots earlier as it has.
     pub fn begin_second(self) -> SecondPass<'a>
         ensures stands { (x : List (List ℕ)) → IsFirstPass self.entry x → IsSecondPass result x [] }
-        ensures pages { pages_in result ≡ pages_of self.entry }
+        ensures pages { pages_in result ≡ pass_pages self.entry }
         ensures certificate { certificate_in result ≡ certificate self.entry }
     {
         let entry = all_moved(&self.owners, self.count);

@@ -3,7 +3,7 @@
 ghost use Rattle.std.specs.Prelude.{◌≡◌, ◌↔◌, IsTrue, ◌<◌, ◌≤◌, ◌++◌, ◌∷◌, [], ℕ, List, length};
 ghost use Rattle.std.specs.List.{All};
 ghost use Rattle.ttx_witness.specs.runs.Confirming.{after_runs, not_begun};
-ghost use Rattle.ttx_witness.specs.passes.SentSlots.{IsLinked, placed};
+ghost use Rattle.ttx_witness.specs.passes.SentSlots.{IsLinked, placed_in};
 ghost use Rattle.ttx_witness.specs.sent.OneSlot.{told};
 ghost use Rattle.ttx_witness.specs.runs.Tracks.{IsTrack, IsWithin};
 ghost use Rattle.ttx_witness.specs.runs.Transmissions.{runs};
@@ -37,7 +37,7 @@ fn take_sent(track: &mut Track, sent: Option<Sent>, starts: &[u32], limit: u32)
 pub fn take_all(track: &mut Track, sent: &SentSlots, place: usize, starts: &[u32], limit: u32)
     ensures { (k : ℕ) → k < 8 → IsLinked sent.now.slots.items sent.now.firsts.items sent.now.nexts.items 0 →
         place < length sent.now.firsts.items → IsTrack k limit starts.now [] track.old →
-        IsTrack k limit starts.now (placed place sent.now.slots.items) track.new }
+        IsTrack k limit starts.now (placed_in place sent.now.slots.items) track.new }
 {
     let mut at = sent.first(place);
     for i in 0..sent.slots.len() {

@@ -6,7 +6,7 @@ ghost use Rattle.ttx_page.specs.Packets.{packet_of};
 ghost use Rattle.ttx_page.specs.Streams.{heads_page, carries};
 ghost use Rattle.ttx_page.specs.declared.item.Item.TheVariants.{Row as TheRow, Links as TheLinks};
 ghost use Rattle.ttx_witness.specs.faults.Comparing.{HoldsHeader, HoldsNoHeader, HoldsRow, HoldsNoRow, HoldsLinks, mine_after};
-ghost use Rattle.ttx_witness.specs.faults.Comparing.{HoldsNoLinks, sends, is_other_subpage};
+ghost use Rattle.ttx_witness.specs.faults.Comparing.{HoldsNoLinks, sends, heads_other_subpage};
 
 use ttx_header::{Header, PageId, read_header};
 use ttx_packet::place::Address;
@@ -65,9 +65,9 @@ pub fn heads_page(page: PageId, slot: &[u8; 42]) -> bool
 }
 
 /// Whether the slot is a header of the page's number with another subcode.
-pub fn is_other_subpage(page: PageId, slot: &[u8; 42]) -> bool
+pub fn heads_other_subpage(page: PageId, slot: &[u8; 42]) -> bool
     requires { IsSlot slot.now }
-    ensures { result ≡ is_other_subpage page (packet_of slot.now) }
+    ensures { result ≡ heads_other_subpage page (packet_of slot.now) }
 {
     match header_in(slot) {
         Some(header) => {

@@ -1,6 +1,6 @@
 use Rattle.std.proofs.Common.{◌≡◌, ◌<◌, ℕ, Bool, true, refl, sym, ◌∙◌, eqb}
 use Rattle.std.proofs.lemmas.Bool.{agree_below, agree_below_at, eqb-true, eq-eqb}
-use Rattle.ttx_charset.specs.Glyphs.{glyph, set_of}
+use Rattle.ttx_charset.specs.Glyphs.{glyph, national_set}
 use Rattle.ttx_charset.specs.Laws.{ShowsOnly}
 use Rattle.ttx_charset.proofs.laws.letters_stand_alone.Goals as goal
 
@@ -9,11 +9,11 @@ abbrev alone_in : ℕ → ℕ → Bool
 alone_in letter option = agree_below (λ code. eqb (glyph option code) letter) (λ code. eqb code letter) 128
 
 a-alone : agree_below (alone_in 0x41) (λ _. true) 8 ≡ true
-unfolding glyph set_of
+unfolding glyph national_set
 a-alone = refl
 
 b-alone : agree_below (alone_in 0x42) (λ _. true) 8 ≡ true
-unfolding glyph set_of
+unfolding glyph national_set
 b-alone = refl
 
 same-test : (letter : ℕ) → agree_below (alone_in letter) (λ _. true) 8 ≡ true → (option code : ℕ) → option < 8 → code < 128 → eqb (glyph option code) letter ≡ eqb code letter

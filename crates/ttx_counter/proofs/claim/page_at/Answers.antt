@@ -1,4 +1,4 @@
-use Rattle.ttx_counter.proofs.Deciding.{page_here}
+use Rattle.ttx_counter.proofs.CheckIsExact.{page_here}
 use Rattle.ttx_counter.proofs.claim.page_at.Goals as goal
 
 pub returns : goal.returns

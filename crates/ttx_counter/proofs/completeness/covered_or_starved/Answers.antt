@@ -1,4 +1,4 @@
-use Rattle.ttx_counter.proofs.Covering.{covered_or_starved}
+use Rattle.ttx_counter.proofs.CoveredOrStarved.{covered_or_starved}
 use Rattle.ttx_counter.proofs.completeness.covered_or_starved.Goals as goal
 
 pub returns : goal.returns

@@ -1,4 +1,4 @@
-use Rattle.ttx_counter.proofs.Seeing.{found_is_least_seen}
+use Rattle.ttx_counter.proofs.SeenIsCovered.{found_is_least_seen}
 use Rattle.ttx_counter.proofs.completeness.found_is_least_seen.Goals as goal
 
 pub returns : goal.returns

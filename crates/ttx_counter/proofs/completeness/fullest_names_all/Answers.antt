@@ -1,4 +1,4 @@
-use Rattle.ttx_counter.proofs.Fullest.{fullest_names_all}
+use Rattle.ttx_counter.proofs.FullestCertificate.{fullest_names_all}
 use Rattle.ttx_counter.proofs.completeness.fullest_names_all.Goals as goal
 
 pub returns : goal.returns

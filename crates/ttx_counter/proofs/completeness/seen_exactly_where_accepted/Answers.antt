@@ -1,4 +1,4 @@
-use Rattle.ttx_counter.proofs.Seeing.{seen_exactly_where_accepted}
+use Rattle.ttx_counter.proofs.SeenIsCovered.{seen_exactly_where_accepted}
 use Rattle.ttx_counter.proofs.completeness.seen_exactly_where_accepted.Goals as goal
 
 pub returns : goal.returns

@@ -1,4 +1,4 @@
-use Rattle.ttx_counter.proofs.Seeing.{seen_is_covered}
+use Rattle.ttx_counter.proofs.SeenIsCovered.{seen_is_covered}
 use Rattle.ttx_counter.proofs.completeness.seen_is_covered.Goals as goal
 
 pub returns : goal.returns

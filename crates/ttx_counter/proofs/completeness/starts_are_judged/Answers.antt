@@ -1,4 +1,4 @@
-use Rattle.ttx_counter.proofs.Beginning.{starts_are_judged}
+use Rattle.ttx_counter.proofs.StarvedFrom.{starts_are_judged}
 use Rattle.ttx_counter.proofs.completeness.starts_are_judged.Goals as goal
 
 pub returns : goal.returns

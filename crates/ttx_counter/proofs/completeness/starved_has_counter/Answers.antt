@@ -1,4 +1,4 @@
-use Rattle.ttx_counter.proofs.Seeing.{starved_has_counter}
+use Rattle.ttx_counter.proofs.SeenIsCovered.{starved_has_counter}
 use Rattle.ttx_counter.proofs.completeness.starved_has_counter.Goals as goal
 
 pub returns : goal.returns

@@ -1,4 +1,4 @@
-use Rattle.ttx_counter.proofs.Unseen.{starved_is_unseen}
+use Rattle.ttx_counter.proofs.StarvedIsUnseen.{starved_is_unseen}
 use Rattle.ttx_counter.proofs.completeness.starved_is_unseen.Goals as goal
 
 pub returns : goal.returns

@@ -1,4 +1,4 @@
-use Rattle.ttx_counter.proofs.Running.{starves_in_period}
+use Rattle.ttx_counter.proofs.StarvedCounterRuns.{starves_in_period}
 use Rattle.ttx_counter.proofs.completeness.starves_in_period.Goals as goal
 
 pub returns : goal.returns

@@ -1,4 +1,4 @@
-use Rattle.ttx_counter.proofs.Running.{starving_is_counter_run}
+use Rattle.ttx_counter.proofs.StarvedCounterRuns.{starving_is_counter_run}
 use Rattle.ttx_counter.proofs.completeness.starving_is_counter_run.Goals as goal
 
 pub returns : goal.returns

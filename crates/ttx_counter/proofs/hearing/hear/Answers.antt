@@ -1,9 +1,9 @@
 use Rattle.std.proofs.Common.{subst, sym}
 use Rattle.ttx_page.specs.Streams.{repeated}
 use Rattle.ttx_counter.specs.Hearing.{IsHitBy}
-use Rattle.ttx_counter.proofs.Sending.{slot_at}
-use Rattle.ttx_counter.proofs.Cursors.{cursor_begins, cursor_next}
-use Rattle.ttx_counter.proofs.Reception.{hit_by, heard_none, heard_more}
+use Rattle.ttx_counter.proofs.SentRows.{slot_at}
+use Rattle.ttx_counter.proofs.KeyCursors.{cursor_begins, cursor_next}
+use Rattle.ttx_counter.proofs.ReceivedSlots.{hit_by, heard_none, heard_more}
 use Rattle.ttx_counter.proofs.hearing.hear.Goals as goal
 
 pub loop-i-init : goal.loop-i-init

@@ -1,4 +1,4 @@
-use Rattle.ttx_counter.proofs.Plainly.{absent}
+use Rattle.ttx_counter.proofs.PlainRuns.{absent}
 use Rattle.ttx_counter.proofs.laws.absent_pages_are_wrong.Goals as goal
 
 pub returns : goal.returns

@@ -1,4 +1,4 @@
-use Rattle.ttx_counter.proofs.Refuting.{refute}
+use Rattle.ttx_counter.proofs.CounterRunRefutes.{refute}
 use Rattle.ttx_counter.proofs.laws.counter_runs_refute.Goals as goal
 
 pub returns : goal.returns

@@ -1,4 +1,4 @@
-use Rattle.ttx_counter.proofs.Plainly.{periods}
+use Rattle.ttx_counter.proofs.PlainRuns.{periods}
 use Rattle.ttx_counter.proofs.laws.periods_repeat.Goals as goal
 
 pub returns : goal.returns

@@ -1,4 +1,4 @@
-use Rattle.ttx_counter.proofs.Plainly.{counter_runs}
+use Rattle.ttx_counter.proofs.PlainRuns.{counter_runs}
 use Rattle.ttx_counter.proofs.laws.plain_runs_are_counter_runs.Goals as goal
 
 pub returns : goal.returns

@@ -1,4 +1,4 @@
-use Rattle.ttx_counter.proofs.Refuting.{not_accepted}
+use Rattle.ttx_counter.proofs.CounterRunRefutes.{not_accepted}
 use Rattle.ttx_counter.proofs.laws.refuted_is_not_accepted.Goals as goal
 
 pub returns : goal.returns

@@ -1,4 +1,4 @@
-use Rattle.ttx_counter.proofs.Staying.{stays}
+use Rattle.ttx_counter.proofs.UnchangedPageStays.{stays}
 use Rattle.ttx_counter.proofs.laws.steady_pages_stay.Goals as goal
 
 pub returns : goal.returns

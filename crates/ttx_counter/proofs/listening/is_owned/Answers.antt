@@ -1,7 +1,7 @@
 use Rattle.std.proofs.Common.{◌≡◌, ◌↔◌, pos, ◌-ℤ◌, length, false, true, subst, arith}
 use Rattle.ttx_page.specs.Streams.{repeated}
 use Rattle.ttx_counter.specs.Listening.{HasOwner}
-use Rattle.ttx_counter.proofs.Sending.{slot_before, mine_more, mine_begins, owned_at}
+use Rattle.ttx_counter.proofs.SentRows.{slot_before, mine_more, mine_begins, owned_at}
 use Rattle.ttx_counter.proofs.listening.is_owned.Goals as goal
 
 pub loop-i-init : goal.loop-i-init

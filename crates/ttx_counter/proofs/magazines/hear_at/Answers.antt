@@ -5,7 +5,7 @@ use Rattle.ttx_page.specs.Receivers.{older}
 use Rattle.ttx_cycle.specs.Cycles.{slots_of}
 use Rattle.ttx_receiver.specs.Tuning.{tuned_at}
 use Rattle.ttx_counter.specs.Magazines.{magazine_of}
-use Rattle.ttx_counter.proofs.Foreign.{as_empty}
+use Rattle.ttx_counter.proofs.OtherMagazineSlots.{as_empty}
 use Rattle.ttx_counter.proofs.magazines.hear_at.Goals as goal
 
 pub returns-else-magazine_at-selected-clause-value : goal.returns-else-magazine_at-selected-clause-value

@@ -2,7 +2,7 @@ use Rattle.std.proofs.Common.{◌∙◌, sym, ap}
 use Rattle.ttx_packet.specs.Slots.{IsEmpty, IsUnreadable, IsHeader, IsRow, IsLinks, IsInfo, IsOther}
 use Rattle.ttx_header.specs.Headers.{id_of}
 use Rattle.ttx_counter.specs.Magazines.{magazine_in}
-use Rattle.ttx_counter.proofs.Taking.{packet_from}
+use Rattle.ttx_counter.proofs.NotTakenIsKept.{packet_from}
 use Rattle.ttx_counter.proofs.magazines.magazine_of.Goals as goal
 
 pub returns-in-Header : goal.returns-in-Header

@@ -1,8 +1,8 @@
 use Rattle.std.proofs.Common.{◌≡◌, ◌∙◌, ◌+◌, ◌%◌, ◌<◌, pos, length, refl, sym, ap, subst}
 use Rattle.ttx_cycle.specs.Cycles.{slots_of}
 use Rattle.ttx_page.specs.Streams.{repeated}
-use Rattle.ttx_counter.proofs.Sending.{slot_at}
-use Rattle.ttx_counter.proofs.Plainly.{plain_none, plain_step}
+use Rattle.ttx_counter.proofs.SentRows.{slot_at}
+use Rattle.ttx_counter.proofs.PlainRuns.{plain_none, plain_step}
 use Rattle.ttx_counter.proofs.plain.advance.Goals as goal
 
 pub loop-i-init : goal.loop-i-init

@@ -3,7 +3,7 @@ use Rattle.ttx_packet.specs.Slots.{IsEmpty, IsUnreadable, IsHeader, IsRow, IsLin
 use Rattle.ttx_header.specs.Headers.{id_of, control_of}
 use Rattle.ttx_page.specs.Packets.{Header}
 use Rattle.ttx_page.specs.Streams.{heads_matched}
-use Rattle.ttx_counter.proofs.Taking.{packet_from}
+use Rattle.ttx_counter.proofs.NotTakenIsKept.{packet_from}
 use Rattle.ttx_counter.proofs.plain.begins.Goals as goal
 
 pub returns-in-Header : goal.returns-in-Header

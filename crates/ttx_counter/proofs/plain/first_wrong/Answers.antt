@@ -8,10 +8,10 @@ use Rattle.ttx_render.specs.Comparison.{SameButClock}
 use Rattle.ttx_render.specs.View.{view_of}
 use Rattle.ttx_counter.specs.Sources.{IsWrongAfter, takes_from}
 use Rattle.ttx_page.specs.Packets.{packet_of}
-use Rattle.ttx_counter.proofs.Streaking.{no_both}
-use Rattle.ttx_counter.proofs.Sending.{slot_at}
-use Rattle.ttx_counter.proofs.Plainly.{plain_step}
-use Rattle.ttx_counter.proofs.Taking.{unseen}
+use Rattle.ttx_counter.proofs.StreaksBelowK.{no_both}
+use Rattle.ttx_counter.proofs.SentRows.{slot_at}
+use Rattle.ttx_counter.proofs.PlainRuns.{plain_step}
+use Rattle.ttx_counter.proofs.NotTakenIsKept.{unseen}
 use Rattle.ttx_counter.proofs.plain.first_wrong.Goals.{then-taken, else-taken}
 use Rattle.ttx_counter.proofs.plain.first_wrong.Goals as goal
 

@@ -1,7 +1,7 @@
 use Rattle.std.proofs.Common.{sym, ap}
 use Rattle.ttx_packet.specs.Slots.{IsEmpty, IsUnreadable, IsHeader, IsRow, IsLinks, IsInfo, IsOther}
 use Rattle.ttx_counter.specs.Sources.{is_under}
-use Rattle.ttx_counter.proofs.Taking.{packet_from}
+use Rattle.ttx_counter.proofs.NotTakenIsKept.{packet_from}
 use Rattle.ttx_counter.proofs.plain.is_under.Goals as goal
 
 pub returns-in-Header : goal.returns-in-Header

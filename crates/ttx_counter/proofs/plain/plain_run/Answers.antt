@@ -6,7 +6,7 @@ use Rattle.ttx_cycle.specs.Cycles.{slots_of}
 use Rattle.ttx_receiver.specs.Tuning.{tuned_at}
 use Rattle.ttx_render.specs.View.{view_of}
 use Rattle.ttx_counter.specs.Sources.{TellsWrong}
-use Rattle.ttx_counter.proofs.Plainly.{runs_on}
+use Rattle.ttx_counter.proofs.PlainRuns.{runs_on}
 use Rattle.ttx_counter.proofs.plain.plain_run.Goals as goal
 
 whole_rest : (a n : ℕ) → 0 < n → a / n * n + (a - a / n * n) ≡ a

@@ -1,7 +1,7 @@
 use Rattle.std.proofs.Common.{◌∙◌, pos, refl, sym, ap, arith}
 use Rattle.ttx_page.specs.Streams.{repeated}
 use Rattle.ttx_cycle.specs.Cycles.{slots_of, slots_of-IsCycle}
-use Rattle.ttx_counter.proofs.Plainly.{plain_none, period_at, settled_at}
+use Rattle.ttx_counter.proofs.PlainRuns.{plain_none, period_at, settled_at}
 use Rattle.ttx_counter.specs.Sources.{plain_from}
 use Rattle.ttx_counter.proofs.plain.settle.Goals as goal
 

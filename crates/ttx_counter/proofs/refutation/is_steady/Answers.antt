@@ -6,7 +6,7 @@ use Rattle.ttx_page.specs.Streams.{repeated}
 use Rattle.ttx_page.specs.Views.{page_of}
 use Rattle.ttx_witness.specs.Certificates.{certificate_of}
 use Rattle.ttx_witness.specs.declared.faults.reason.Reason.{Reason}
-use Rattle.ttx_counter.proofs.Deciding.{same_page}
+use Rattle.ttx_counter.proofs.CheckIsExact.{same_page}
 use Rattle.ttx_counter.proofs.refutation.is_steady.Goals as goal
 
 differ : false ≡ true → ⊥

@@ -6,8 +6,8 @@ use Rattle.ttx_witness.specs.Coverage.{IsSureStart}
 use Rattle.ttx_cycle.specs.Cycles.{slots_of, slots_of-IsCycle}
 use Rattle.ttx_page.specs.Views.{page_of}
 use Rattle.ttx_witness.specs.Certificates.{certificate_of}
-use Rattle.ttx_counter.specs.Counters.{run_of}
-use Rattle.ttx_counter.proofs.Answering.{are_pages, counter_told, both_told, exact_told}
+use Rattle.ttx_counter.specs.Counters.{counter_run_of}
+use Rattle.ttx_counter.proofs.SearchAnswers.{are_pages, counter_told, both_told, exact_told}
 use Rattle.ttx_counter.proofs.refutation.refute.Goals as goal
 
 pub refute_pages-requires-clause-prepared : goal.refute_pages-requires-clause-prepared
@@ -24,15 +24,15 @@ returns-then-is_some-clause-exact c =
     let cycle = slots_of c.args.cycle.now in
     let pages = map page_of c.args.pages.now in
     let w = certificate_of c.args.certificate.now in
-    exact_told cycle pages w run_of c.fullest_names_all.ensures c.further_starts_cover.ensures c.refuted_is_not_accepted.ensures (slots_of-IsCycle c.args.cycle.now) (are_pages c.pages_keep_their_rules.ensures c.args.pages.now)
+    exact_told cycle pages w counter_run_of c.fullest_names_all.ensures c.further_starts_cover.ensures c.refuted_is_not_accepted.ensures (slots_of-IsCycle c.args.cycle.now) (are_pages c.pages_keep_their_rules.ensures c.args.pages.now)
     (c.certificates_keep_their_rules.ensures c.args.certificate.now).1 c.requires.any c.in_ok-counter.counter
-    (counter_told cycle pages w run_of c.in_ok-counter.counter (sym c.is_some.ensures ∙ c.if-is_some.true) c.in_ok-counter.ensures)
+    (counter_told cycle pages w counter_run_of c.in_ok-counter.counter (sym c.is_some.ensures ∙ c.if-is_some.true) c.in_ok-counter.ensures)
 
 pub returns-clause-exact : goal.returns-clause-exact
 returns-clause-exact c =
     let cycle = slots_of c.args.cycle.now in
     let pages = map page_of c.args.pages.now in
     let w = certificate_of c.args.certificate.now in
-    exact_told cycle pages w run_of c.fullest_names_all.ensures c.further_starts_cover.ensures c.refuted_is_not_accepted.ensures (slots_of-IsCycle c.args.cycle.now) (are_pages c.pages_keep_their_rules.ensures c.args.pages.now)
+    exact_told cycle pages w counter_run_of c.fullest_names_all.ensures c.further_starts_cover.ensures c.refuted_is_not_accepted.ensures (slots_of-IsCycle c.args.cycle.now) (are_pages c.pages_keep_their_rules.ensures c.args.pages.now)
     (c.certificates_keep_their_rules.ensures c.args.certificate.now).1 c.requires.any c.refute_all_plainly.result
-    (both_told cycle pages w run_of c.in_ok-counter.counter (sym c.is_some.ensures ∙ c.if-is_some.false) c.in_ok-counter.ensures c.refute_all_plainly.result c.refute_all_plainly.ensures)
+    (both_told cycle pages w counter_run_of c.in_ok-counter.counter (sym c.is_some.ensures ∙ c.if-is_some.false) c.in_ok-counter.ensures c.refute_all_plainly.result c.refute_all_plainly.ensures)

@@ -1,5 +1,5 @@
 use Rattle.std.proofs.Common.{inl}
-use Rattle.ttx_counter.proofs.Beginning.{within_all}
+use Rattle.ttx_counter.proofs.StarvedFrom.{within_all}
 use Rattle.ttx_counter.proofs.starting.after_owner.Goals as goal
 
 pub returns-in-Some : goal.returns-in-Some

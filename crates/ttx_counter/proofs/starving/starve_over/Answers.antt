@@ -2,7 +2,7 @@ use Rattle.std.proofs.Common.{◌≡◌, ◌∙◌, ◌+◌, ◌%◌, ◌∷◌,
 use Rattle.ttx_page.specs.Streams.{repeated}
 use Rattle.ttx_page.specs.Views.{memory_of}
 use Rattle.ttx_cycle.specs.Cycles.{slots_of}
-use Rattle.ttx_counter.proofs.Stepping.{slot_of_run, memory_begins, hits_begin, choices_begin, memory_more, hits_more, choices_more}
+use Rattle.ttx_counter.proofs.StarvingStep.{slot_of_run, memory_begins, hits_begin, choices_begin, memory_more, hits_more, choices_more}
 use Rattle.ttx_counter.proofs.starving.starve_over.Goals as goal
 
 pub loop-i-init : goal.loop-i-init

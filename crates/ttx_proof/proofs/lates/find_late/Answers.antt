@@ -1,4 +1,4 @@
-use Rattle.ttx_proof.proofs.Places.{ok_map}
+use Rattle.ttx_proof.proofs.PlacesOfPages.{ok_map}
 use Rattle.ttx_proof.proofs.lates.find_late.Goals as goal
 
 pub returns : goal.returns

@@ -2,7 +2,7 @@ use Rattle.std.proofs.Common.{◌≡◌, Contains, Some, get_or, ap, ◌∙◌, 
 use Rattle.ttx_page.specs.Views.{page_of}
 use Rattle.ttx_proof.specs.Splicing.{splice_between, StandsAt, TellsLateOf}
 use Rattle.ttx_certify.proofs.PageByPage.{page_at}
-use Rattle.ttx_proof.proofs.Places.{ok_map, common_at, late_told}
+use Rattle.ttx_proof.proofs.PlacesOfPages.{ok_map, common_at, late_told}
 use Rattle.ttx_proof.proofs.lates.late_of.Goals as goal
 
 pub returns-in-Some : goal.returns-in-Some

@@ -4,7 +4,7 @@ use Rattle.ttx_page.specs.Views.{page_of}
 use Rattle.ttx_proof.specs.Splices.{HasSeam}
 use Rattle.ttx_proof.specs.Splicing.{splice_between, TellsSeamOf}
 use Rattle.ttx_certify.proofs.PageByPage.{page_at}
-use Rattle.ttx_proof.proofs.Places.{contains_at, first_common, one_more, all_common}
+use Rattle.ttx_proof.proofs.PlacesOfPages.{contains_at, first_common, one_more, all_common}
 use Rattle.ttx_proof.proofs.seaming.find_seam.Goals as goal
 
 pub loop-place-init : goal.loop-place-init

@@ -1,7 +1,7 @@
 use Rattle.std.proofs.Common.{refl, subst}
 use Rattle.ttx_page.specs.Views.{page_of}
 use Rattle.ttx_proof.specs.Splicing.{splice_between, TellsPlace}
-use Rattle.ttx_proof.proofs.Places.{contains_at, seam_told}
+use Rattle.ttx_proof.proofs.PlacesOfPages.{contains_at, seam_told}
 use Rattle.ttx_proof.proofs.seaming.seam_of.Goals as goal
 
 pub returns-in-Some : goal.returns-in-Some

@@ -1,7 +1,7 @@
 use Rattle.std.proofs.Common.{◌<◌, negsuc, length, sym, ap, ◌∙◌, subst}
 use Rattle.ttx_page.specs.Packets.{packet_of}
 use Rattle.ttx_page.specs.Streams.{repeated, heads_page}
-use Rattle.ttx_proof.proofs.Backward.{back_is}
+use Rattle.ttx_proof.proofs.LatestHeaderBefore.{back_is}
 use Rattle.ttx_proof.proofs.seams.is_its_header.Goals as goal
 
 pub returns : goal.returns

@@ -1,7 +1,7 @@
 use Rattle.std.proofs.Common.{◌≡◌, ◌-◌, negsuc, Some, None, get_or, sym, ap, ◌∙◌, subst}
 use Rattle.ttx_cycle.specs.Cycles.{slots_of}
 use Rattle.ttx_proof.specs.Seams.{TellsLatest}
-use Rattle.ttx_proof.proofs.Backward.{left_by, left_to_none}
+use Rattle.ttx_proof.proofs.LatestHeaderBefore.{left_by, left_to_none}
 use Rattle.ttx_proof.proofs.seams.is_left.Goals as goal
 
 pub returns-in-Some : goal.returns-in-Some

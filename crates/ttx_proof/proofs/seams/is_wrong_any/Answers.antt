@@ -2,8 +2,8 @@ use Rattle.std.proofs.Common.{false, refl}
 use Rattle.ttx_page.specs.Views.{page_of}
 use Rattle.ttx_page.specs.declared.item.Item.TheVariants.{Row as TheRow, Links as TheLinks}
 use Rattle.ttx_proof.specs.Seams.{IsWrongAs}
-use Rattle.ttx_proof.proofs.Backward.{no_both}
-use Rattle.ttx_proof.proofs.Over.{only_row, only_links}
+use Rattle.ttx_proof.proofs.LatestHeaderBefore.{no_both}
+use Rattle.ttx_proof.proofs.FirstHangingOver.{only_row, only_links}
 use Rattle.ttx_proof.proofs.seams.is_wrong_any.Goals as goal
 
 pub returns-then-are_wrong_links : goal.returns-then-are_wrong_links

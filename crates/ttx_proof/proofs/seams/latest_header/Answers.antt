@@ -3,7 +3,7 @@ use Rattle.ttx_page.specs.Packets.{packet_of}
 use Rattle.ttx_page.specs.Streams.{heads}
 use Rattle.ttx_cycle.specs.Cycles.{slots_of-IsCycle}
 use Rattle.ttx_proof.specs.Seams.{TellsLatest}
-use Rattle.ttx_proof.proofs.Backward.{latest_at, none_met}
+use Rattle.ttx_proof.proofs.LatestHeaderBefore.{latest_at, none_met}
 use Rattle.ttx_proof.proofs.seams.latest_header.Goals as goal
 
 pub returns-then-heads : goal.returns-then-heads

@@ -1,6 +1,6 @@
 use Rattle.std.proofs.Common.{subst}
 use Rattle.ttx_proof.specs.Splicing.{splice_between, TellsSeams, TellsLates}
-use Rattle.ttx_proof.proofs.Judging.{seam_refused, late_refused, accepted}
+use Rattle.ttx_proof.proofs.VerdictOfFindings.{seam_refused, late_refused, accepted}
 use Rattle.ttx_proof.proofs.splicing.found_verdict.Goals as goal
 
 pub returns-in-Some : goal.returns-in-Some

@@ -1,4 +1,5 @@
 use Rattle.std.proofs.Common.{◌≡◌, ℕ, Bool, true, false, not, ◌&&◌, ◌==◌, Option, Some, None, refl, sym, subst}
+use Rattle.std.proofs.lemmas.Bool.{and_parts, cond_both}
 use Rattle.ttx_header.specs.Control.{c11}
 use Rattle.ttx_links.specs.Sets.{LinkSet}
 use Rattle.ttx_page.specs.Memories.{Memory}
@@ -8,7 +9,7 @@ use Rattle.ttx_page.specs.Receivers.{older, misses, with_links, after}
 use Rattle.ttx_page.specs.declared.class.Class.{Class}
 use Rattle.ttx_page.specs.declared.selection.Selection.{Selection}
 use Rattle.ttx_receiver.specs.Touching.{AreAlikeBut}
-use Rattle.ttx_receiver.proofs.Choices.{if_ind, and_left, and_right, no_both}
+use Rattle.ttx_receiver.proofs.Choices.{no_both}
 use Rattle.ttx_receiver.proofs.laws.idle_steps_touch_nothing.Goals as goal
 
 module _ (class : Class) (lines : ℕ) (sel : Selection) (choice : Bool) (m : Memory) where
@@ -24,17 +25,17 @@ module _ (class : Class) (lines : ℕ) (sel : Selection) (choice : Bool) (m : Me
   packet_idle : (packet : Packet) → IsIdle (after class lines sel choice (older m) packet)
   unfolding IsIdle
   packet_idle (Header id control text) =
-      if_ind IsIdle (matches sel id) _ _ (λ t e. absurd (no_both true refl e))
-      (λ t. if_ind IsIdle (id.mag == selected_mag sel) _ _ (λ u e. record { control = refl; links = refl; count = refl; rows = λ k out. refl })
-      (λ u. if_ind IsIdle (c11 control && choice) _ _ (λ v e. record { control = refl; links = refl; count = refl; rows = λ k out. refl })
+      cond_both (matches sel id) _ _ IsIdle (λ t e. absurd (no_both true refl e))
+      (λ t. cond_both (id.mag == selected_mag sel) _ _ IsIdle (λ u e. record { control = refl; links = refl; count = refl; rows = λ k out. refl })
+      (λ u. cond_both (c11 control && choice) _ _ IsIdle (λ v e. record { control = refl; links = refl; count = refl; rows = λ k out. refl })
       (λ v e. record { control = refl; links = refl; count = refl; rows = λ k out. refl })))
   packet_idle (Row mag number text) =
-      if_ind IsIdle ((mag == selected_mag sel) && m.storing && not (misses lines choice (older m))) _ _
-      (λ t e. absurd (no_both m.storing (and_right (mag == selected_mag sel) m.storing (and_left _ _ t)) e))
+      cond_both ((mag == selected_mag sel) && m.storing && not (misses lines choice (older m))) _ _ IsIdle
+      (λ t e. absurd (no_both m.storing ((and_parts (mag == selected_mag sel) m.storing (and_parts _ _ t).0).1) e))
       (λ t e. record { control = refl; links = refl; count = refl; rows = λ k out. refl })
   packet_idle (Links mag content) =
-      if_ind IsIdle ((mag == selected_mag sel) && m.storing && not (misses lines choice (older m))) _ _
-      (λ t. links_idle content (and_right (mag == selected_mag sel) m.storing (and_left _ _ t)))
+      cond_both ((mag == selected_mag sel) && m.storing && not (misses lines choice (older m))) _ _ IsIdle
+      (λ t. links_idle content ((and_parts (mag == selected_mag sel) m.storing (and_parts _ _ t).0).1))
       (λ t e. record { control = refl; links = refl; count = refl; rows = λ k out. refl })
   packet_idle _ = λ e. record { control = refl; links = refl; count = refl; rows = λ k out. refl }
 

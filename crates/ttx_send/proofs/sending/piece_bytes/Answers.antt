@@ -2,7 +2,7 @@ use Rattle.std.proofs.Common.{◌≡◌, ◌+◌, ◌*◌, ◌++◌, pos, sym, a
 use Rattle.ttx_cycle.specs.Files.{file_of}
 use Rattle.ttx_page.specs.Laws.{sent_from}
 use Rattle.ttx_send.specs.Airing.{at_moment}
-use Rattle.ttx_send.proofs.Slots.{file_more}
+use Rattle.ttx_send.proofs.SentSlots.{file_more}
 use Rattle.ttx_send.proofs.sending.piece_bytes.Goals as goal
 
 pub loop-at-preserved : goal.loop-at-preserved

@@ -8,7 +8,7 @@ use Rattle.ttx_cycle.specs.Files.{file_of}
 use Rattle.ttx_page.specs.Laws.{sent_from}
 use Rattle.ttx_send.specs.Times.{Moment, fields_later}
 use Rattle.ttx_send.specs.Airing.{at_moment, Broadcast, broadcast_of, sent_slots}
-use Rattle.ttx_send.proofs.Slots.{piece_slots, bytes_more, bytes_after, take_parts}
+use Rattle.ttx_send.proofs.SentSlots.{piece_slots, bytes_more, bytes_after, take_parts}
 use Rattle.ttx_send.proofs.sending.send.Goals as goal
 
 -- the bytes of a piece, and how many they are

@@ -1,7 +1,7 @@
 -- First slots of single reasons.
 use Rattle.std.proofs.Common.{◌≡◌, ◌⊎◌, ◌↔◌, ℕ, zero, suc, ◌+◌, ◌<◌, ◌≤◌, ℤ, pos, true, not, ◌&&◌, ◌==◌, if◌then◌else◌, nat_le, List, length, map}
 use Rattle.std.proofs.Common.{get_or, slice_get, option_map, Option, Some, None, refl, sym, ap, ◌∙◌, subst, inl, inr, arith}
-use Rattle.std.proofs.lemmas.Bool.{cases_lt}
+use Rattle.std.proofs.lemmas.Bool.{cases_lt, and_parts, cond_both}
 use Rattle.std.proofs.lemmas.Bool.Decides.{nat_tests}
 use Rattle.std.proofs.lemmas.Option.{slice_get-map, slice_get-get_or}
 use Rattle.ttx_page.specs.declared.page.Page.{Page as PageValue}
@@ -14,7 +14,6 @@ use Rattle.ttx_page.specs.Steady.{ErasedAt, HeadDiffersAt, RowDiffersAt, LinksDi
 use Rattle.ttx_witness.specs.faults.Comparing.{WrongAt, RowWrongAt}
 use Rattle.ttx_witness.specs.declared.faults.comparing.Check.TheVariants.{EraseBit, Head as CheckHead, Row as CheckRow, Links as CheckLinks}
 use Rattle.ttx_witness.specs.faults.Faults.{IsFirstAt, TellsFirst, earlier}
-use Rattle.ttx_witness.proofs.lemmas.Choices.{if_ind, and_left, and_right}
 
 -- the same for what is as true
 pub tells_same : (cycle : List (List ℕ)) (P Q : ℤ → Type 0) → ((j : ℤ) → P j ↔ Q j) → (o : Option ℕ) → TellsFirst cycle P o → TellsFirst cycle Q o
@@ -35,7 +34,7 @@ module _ (cycle : List (List ℕ)) (P Q R : ℤ → Type 0) (left : (j : ℤ) �
     here = left (pos a) f.here;
     none_before = λ i lt r. elim (either (pos i) r) as (λ _. ⊥) [ inl p ↦ f.none_before i lt p | inr q ↦ g (pos i) q ];
   }
-  earlier_is (Some a) (Some b) f g = if_ind (λ x. IsFirstAt cycle R x) (nat_le a b) a b
+  earlier_is (Some a) (Some b) f g = cond_both (nat_le a b) a b (λ x. IsFirstAt cycle R x)
       (λ e. record {
         within = f.within;
         here = left (pos a) f.here;
@@ -90,8 +89,8 @@ module _ (s : Stream) (p : Page) where
     where
       few : (r : ℕ) → needed p (TheRow r) ≡ true → r ≤ 24
       few r e =
-          let a : (nat_le 1 r && nat_le r 24) ≡ true = and_left _ (not (c10 p.control)) (and_left _ (if r == 24 then p.links.show24 else not (is_hidden (page_row p) r)) e) in
-          let b : nat_le r 24 ≡ true = and_right (nat_le 1 r) (nat_le r 24) a in grind (arith, nat_tests)
+          let a : (nat_le 1 r && nat_le r 24) ≡ true = (and_parts _ (not (c10 p.control)) (and_parts _ (if r == 24 then p.links.show24 else not (is_hidden (page_row p) r)) e).0).0 in
+          let b : nat_le r 24 ≡ true = (and_parts (nat_le 1 r) (nat_le r 24) a).1 in grind (arith, nat_tests)
 
 -- the page in a place of the list
 pub placed : {A : Type 0} (o : Option A) (p q : A) → o ≡ Some p → o ≡ Some q → p ≡ q

@@ -2,7 +2,7 @@
 use Rattle.std.proofs.Common.{◌≡◌, ◌↔◌, ℕ, suc, ◌+◌, ◌<◌, ◌≤◌, ℤ, pos, ◌+ℤ◌, ◌-ℤ◌, ◌<ℤ◌, ◌≤ℤ◌, Bool, true, false, not, if◌then◌else◌, List, []}
 use Rattle.std.proofs.Common.{length, slice_index_or, nat_abs, Option, Some, None, refl, sym, ap, ◌∙◌, subst, inl, inr, arith, mod-eq_of_lt}
 use Rattle.std.proofs.lemmas.Int.{ints}
-use Rattle.std.proofs.lemmas.Bool.{cases_lt}
+use Rattle.std.proofs.lemmas.Bool.{cases_lt, and_from, and_parts, cond_both}
 use Rattle.ttx_header.specs.Ids.{Id}
 use Rattle.ttx_page.specs.Packets.{Packet, packet_of}
 use Rattle.ttx_page.specs.Pages.{Page}
@@ -12,10 +12,10 @@ use Rattle.ttx_page.specs.declared.item.Item.TheVariants.{Head as TheHead, Row a
 use Rattle.ttx_page.specs.Streams.{Stream, repeated, heads, heads_page, heads_matched, ends_serial, IsOwned, IsTransmission, IsLatestHeader}
 use Rattle.ttx_page.specs.Steady.{HasHeader}
 use Rattle.ttx_witness.specs.sent.ItemTransmissions.{PageOwner, owner_after, owner_scan, owner_moved, tainted_by, entry_owner}
-use Rattle.ttx_witness.specs.faults.Comparing.{is_mine, mine_after, sends, compared_item, IsWrong, WrongAt, OtherHeaderAt, is_other_subpage}
+use Rattle.ttx_witness.specs.faults.Comparing.{is_mine, mine_after, sends, compared_item, IsWrong, WrongAt, OtherHeaderAt, heads_other_subpage}
 use Rattle.ttx_witness.specs.declared.faults.comparing.Check.{Check}
 use Rattle.ttx_witness.specs.faults.Faults.{Never}
-use Rattle.ttx_witness.proofs.lemmas.Choices.{if_ind, and_left, and_right, and_both, no_both, not_true, not_false}
+use Rattle.ttx_witness.proofs.lemmas.Choices.{no_both, not_true, not_false}
 use Rattle.ttx_witness.proofs.lemmas.runs.EveryPeriod.{everywhere}
 use Rattle.ttx_witness.proofs.lemmas.sent.Periods.{latest_same}
 use Rattle.ttx_witness.proofs.lemmas.sent.StreamOwners as O
@@ -35,7 +35,7 @@ mine_moved d None = refl
 mine_moved d (Some o) = refl
 
 mine_step : (page : Id) (j : ℤ) (packet : Packet) (o : Option PageOwner) → mine_after page packet (is_mine o) ≡ is_mine (owner_after page j packet o)
-mine_step page j packet o = if_ind (λ x. mine_after page packet (is_mine o) ≡ is_mine x) (heads page.mag packet) _ _
+mine_step page j packet o = cond_both (heads page.mag packet) _ _ (λ x. mine_after page packet (is_mine o) ≡ is_mine x)
     (λ e. ap (λ b. if b then heads_page page packet else is_mine o) e)
     (λ e. ap (λ b. if b then heads_page page packet else is_mine o) e ∙ sym (mine_tainted (ends_serial page.mag packet) o))
 
@@ -55,12 +55,12 @@ module _ (page : Id) (s : Stream) (j : ℤ) where
   pub sends_is : (item : Item) (o : Option PageOwner) → O.IsOwnerAt page s o j → (sends page item (packet_of (s j)) (is_mine o) ≡ true) ↔ IsTransmission s page item j
   sends_is TheHead o a = ((λ e. record { owner = j; owned = (refl, e) }), (λ t. t.owned.1))
   sends_is (TheRow r) o a = (
-    (λ e. let h = (by_owner o a).0 (and_right _ _ e) in record { owner = h.0; owned = (h.1, h.2, and_left _ _ e) }),
-    (λ t. and_both _ _ t.owned.2 ((by_owner o a).1 (t.owner, t.owned.0, t.owned.1))),
+    (λ e. let h = (by_owner o a).0 ((and_parts _ _ e).1) in record { owner = h.0; owned = (h.1, h.2, (and_parts _ _ e).0) }),
+    (λ t. and_from _ _ t.owned.2 ((by_owner o a).1 (t.owner, t.owned.0, t.owned.1))),
   )
   sends_is TheLinks o a = (
-    (λ e. let h = (by_owner o a).0 (and_right _ _ e) in record { owner = h.0; owned = (h.1, h.2, and_left _ _ e) }),
-    (λ t. and_both _ _ t.owned.2 ((by_owner o a).1 (t.owner, t.owned.0, t.owned.1))),
+    (λ e. let h = (by_owner o a).0 ((and_parts _ _ e).1) in record { owner = h.0; owned = (h.1, h.2, (and_parts _ _ e).0) }),
+    (λ t. and_from _ _ t.owned.2 ((by_owner o a).1 (t.owner, t.owned.0, t.owned.1))),
   )
 
 module _ (cycle : List (List ℕ)) (some : 1 ≤ length cycle) where
@@ -111,10 +111,10 @@ module _ (cycle : List (List ℕ)) (some : 1 ≤ length cycle) where
   pub owner_at : (page : Id) (j : ℕ) → O.IsOwnerAt page s (owner_scan page s (entry_owner cycle page) j) (pos j)
   owner_at page j = O.scan_right page s (entry_owner cycle page) (O.first_entry page s n some period) j
 
-pub other_is : (s : Stream) (page : Id) (j : ℤ) → (is_other_subpage page (packet_of (s j)) ≡ true) ↔ OtherHeaderAt s page j
+pub other_is : (s : Stream) (page : Id) (j : ℤ) → (heads_other_subpage page (packet_of (s j)) ≡ true) ↔ OtherHeaderAt s page j
 other_is s page j = (
-  (λ e. record { number = and_left _ _ e; other = not_true _ (and_right _ _ e) }),
-  (λ h. and_both _ _ h.number (not_false _ h.other)),
+  (λ e. record { number = (and_parts _ _ e).0; other = not_true _ ((and_parts _ _ e).1) }),
+  (λ h. and_from _ _ h.number (not_false _ h.other)),
 )
 
 -- none among the first j, nor the next

@@ -1,12 +1,11 @@
 -- Bytes that send characters, found by the union of all differences.
 use Rattle.std.proofs.Common.{◌≡◌, ◌↔◌, ℕ, zero, suc, ◌+◌, ◌-◌, ◌*◌, ◌/◌, ◌%◌, ◌<◌, ◌≤◌, ◌==◌, ◌&&◌, Bool, true, List, [], ◌∷◌, map, length, get_or}
 use Rattle.std.proofs.Common.{drop, bit_and, bit_or, refl, sym, ap, ◌∙◌, arith, eqb, ltb, eqb-true, eq-eqb}
-use Rattle.std.proofs.lemmas.Bool.{agree_below, agree_below_at, ltb-true}
+use Rattle.std.proofs.lemmas.Bool.{agree_below, agree_below_at, ltb-true, and_from, and_parts}
 use Rattle.std.proofs.Math.Bool.{and-true, and_assoc}
 use Rattle.std.specs.Int.Bits.{bit_xor}
 use Rattle.ttx_packet.proofs.Unions.{no_bit}
 use Rattle.ttx_code.specs.Words.{ones, odd_byte}
-use Rattle.ttx_witness.proofs.lemmas.Choices.{and_left, and_right, and_both}
 
 abbrev halves : ℕ → ℕ
 halves c = bit_xor c (c / 16)
@@ -68,6 +67,6 @@ sent_whole (b ∷ bytes) [] n e le = absurd (omega arith)
 sent_whole (b ∷ bytes) (c ∷ characters) zero e le = absurd (omega arith)
 sent_whole (b ∷ bytes) (c ∷ characters) (suc n) e le =
     let rest = sent_whole bytes characters n (omega arith) (omega arith) in (
-      (λ t. ap (λ x. x ∷ bytes) (eqb-true b (odd_byte c) (and_left _ _ t)) ∙ ap (λ xs. odd_byte c ∷ xs) (rest.0 (and_right (b == odd_byte c) _ t))),
-      (λ q. and_both _ _ (eq-eqb _ _ (ap (λ xs. get_or xs 0 0) q)) (rest.1 (ap (drop 1) q))),
+      (λ t. ap (λ x. x ∷ bytes) (eqb-true b (odd_byte c) ((and_parts _ _ t).0)) ∙ ap (λ xs. odd_byte c ∷ xs) (rest.0 ((and_parts (b == odd_byte c) _ t).1))),
+      (λ q. and_from _ _ (eq-eqb _ _ (ap (λ xs. get_or xs 0 0) q)) (rest.1 (ap (drop 1) q))),
     )

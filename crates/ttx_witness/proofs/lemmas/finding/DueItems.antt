@@ -6,7 +6,7 @@ use Rattle.std.proofs.lemmas.List.Elements.{Contains-append_left, Contains-appen
 use Rattle.std.proofs.lemmas.List.Quantifiers.{all_pairs_push}
 use Rattle.std.proofs.lemmas.Option.{slice_get_within, get_or_from_slice_get}
 use Rattle.ttx_header.specs.Ids.{same_id}
-use Rattle.std.proofs.lemmas.Bool.{cases_lt, cases_Bool}
+use Rattle.std.proofs.lemmas.Bool.{cases_lt, cases_Bool, and_parts}
 use Rattle.ttx_page.specs.declared.page.Page.{Page as PageValue}
 use Rattle.ttx_page.specs.Views.{page_of}
 use Rattle.ttx_page.specs.Pages.{Page, needed}
@@ -16,7 +16,7 @@ use Rattle.ttx_page.specs.declared.class.Class.{Class}
 use Rattle.ttx_witness.specs.sent.Collected.{IsItem, ids_of, item_number, place_of_item}
 use Rattle.ttx_witness.specs.finding.Finding.{starts_for, limit_for, IsEnough, wider, IsDone, NamesStarts, HasEntry, same_place, AreNamed, AddsEntry}
 use Rattle.ttx_certificate.specs.declared.entries.Entry.{Entry}
-use Rattle.ttx_witness.proofs.lemmas.Choices.{no_both, and_left, and_right}
+use Rattle.ttx_witness.proofs.lemmas.Choices.{no_both}
 use Rattle.ttx_certificate.proofs.EntryOrder.{same_entry}
 use Rattle.ttx_witness.proofs.lemmas.sent.PageIndexes.{same_one, id_of_page}
 use Rattle.ttx_witness.proofs.lemmas.sent.AllLists.{all_by_place, all_by_recursion}
@@ -100,9 +100,9 @@ module _ (pages : List Page) (class : Class) (m j : ℕ) (q : Page) (given : Ite
     new_place apart e n t page item = elim (cases_Bool (same_place e n)) as (λ _. same_place e n ≡ false) [
       | inl same ↦
           let one = same_entry n.page n.item n.kept.id n.kept.item e (eqb-true _ _ same) in
-          let id : t.p.id ≡ q.id = sym t.page ∙ same_one e.page n.page (and_left _ _ one) ∙ page in
+          let id : t.p.id ≡ q.id = sym t.page ∙ same_one e.page n.page ((and_parts _ _ one).0) ∙ page in
           let index : t.index ≡ j = apart t.index j t.p q t.done.at at id in
-          let number : item_number e.item ≡ item_number given = eqb-true _ _ (and_right (same_id e.page n.page) _ one) ∙ ap item_number item in
+          let number : item_number e.item ≡ item_number given = eqb-true _ _ ((and_parts (same_id e.page n.page) _ one).1) ∙ ap item_number item in
           let before = t.done.before in
           absurd (omega arith)
       | inr other ↦ other

@@ -5,7 +5,7 @@ use Rattle.std.proofs.Common.{arith, eqb-true, eq-eqb}
 use Rattle.std.specs.List.{All, AllByRecursion, AllPairs, Contains}
 use Rattle.std.proofs.lemmas.Option.{slice_get_within, slice_get_cases}
 use Rattle.std.proofs.lemmas.List.{length-map}
-use Rattle.std.proofs.lemmas.Bool.{cases_lt, leb-true, cases_Bool}
+use Rattle.std.proofs.lemmas.Bool.{cases_lt, leb-true, cases_Bool, and_from, and_parts}
 use Rattle.std.specs.Prelude.{nat_le, is_some, is_none, IsTrue, MatchOption}
 use Rattle.ttx_header.specs.Control.{c10}
 use Rattle.ttx_packet.specs.Slots.{is_clean}
@@ -36,7 +36,7 @@ use Rattle.ttx_witness.specs.laws.CycleLaws.{SureStartsAreFound, LeastLimitIsFou
 use Rattle.ttx_witness.specs.finding.Finding.{is_due, starts_of, spread_at, starts_for, limit_for, IsEnough, limit_of, least_limit, IsDone}
 use Rattle.ttx_witness.specs.finding.Finding.{NamesStarts, HasEntry, same_place, AreNamed, IsSentUnchanged, IsLeastField, IsDeadline, CanBeAccepted}
 use Rattle.ttx_witness.specs.finding.Finding.{IsLeastDeadline, IsFoundFor}
-use Rattle.ttx_witness.proofs.lemmas.Choices.{no_both, and_left, and_right, and_both, if_true, if_false}
+use Rattle.ttx_witness.proofs.lemmas.Choices.{no_both, if_true, if_false}
 use Rattle.ttx_witness.proofs.lemmas.sent.PageIndexes.{same_one, same_self}
 use Rattle.ttx_witness.proofs.lemmas.sent.AllLists.{all_by_recursion, place_below}
 use Rattle.ttx_witness.proofs.lemmas.finding.DueItems.{AreApart, item_one, all_more}
@@ -51,13 +51,12 @@ starts_at : (id : Id) (item : Item) (x : List ℕ) (es : List Entry) → AllByRe
 starts_at id item x [] a (inl e) = sym e
 starts_at id item x [] a (inr h) = absurd (let lt = h.among.1 in omega arith)
 starts_at id item x (e ∷ es) a h = elim (cases_Bool (same_id e.page id && same_item e.item item)) as (λ _. (if same_id e.page id && same_item e.item item then e.starts.items else starts_in (entries_of es) id item) ≡ x) [
-  | inl t ↦ if_true (same_id e.page id && same_item e.item item) _ _ t ∙ a.0 (same_one e.page id (and_left _ _ t)) (eqb-true _ _ (and_right (same_id e.page id) _ t))
+  | inl t ↦ if_true (same_id e.page id && same_item e.item item) _ _ t ∙ a.0 (same_one e.page id ((and_parts _ _ t).0)) (eqb-true _ _ ((and_parts (same_id e.page id) _ t).1))
   | inr f ↦ if_false (same_id e.page id && same_item e.item item) _ _ f ∙ starts_at id item x es a.1 (rest f h)
 ]
   where
     here : (f : Entry) → e ≡ f → f.page ≡ id → f.item ≡ item → (same_id e.page id && same_item e.item item) ≡ true
-    here f same page number = and_both _ _ (subst (λ y. same_id y id ≡ true) (sym (ap (λ y. y.page) same ∙ page)) (same_self id))
-        (eq-eqb _ _ (ap (λ y. item_number y.item) same ∙ ap item_number number))
+    here f same page number = and_from _ _ (subst (λ y. same_id y id ≡ true) (sym (ap (λ y. y.page) same ∙ page)) (same_self id)) (eq-eqb _ _ (ap (λ y. item_number y.item) same ∙ ap item_number number))
 
     later_one : (f : Entry) (k : ℕ) → (same_id e.page id && same_item e.item item) ≡ false → k < length (e ∷ es) → get_or (e ∷ es) k f ≡ f → f.page ≡ id → f.item ≡ item → Contains es f
     later_one f zero other lt is page number = absurd (no_both _ (here f is page number) other)
@@ -70,20 +69,20 @@ starts_at id item x (e ∷ es) a h = elim (cases_Bool (same_id e.page id && same
 pub item_needed : (p : Page) (item : Item) → needed p item ≡ true → IsItem item
 item_needed p TheHead n = tt
 item_needed p (TheRow r) n =
-    let range = and_left (nat_le 1 r && nat_le r 24) (not (c10 p.control)) (and_left (nat_le 1 r && nat_le r 24 && not (c10 p.control)) _ n) in
-    (leb-true 1 r (and_left (nat_le 1 r) (nat_le r 24) range), leb-true r 24 (and_right (nat_le 1 r) (nat_le r 24) range))
+    let range = (and_parts (nat_le 1 r && nat_le r 24) (not (c10 p.control)) (and_parts (nat_le 1 r && nat_le r 24 && not (c10 p.control)) _ n).0).0 in
+    (leb-true 1 r ((and_parts (nat_le 1 r) (nat_le r 24) range).0), leb-true r 24 ((and_parts (nat_le 1 r) (nat_le r 24) range).1))
 item_needed p TheLinks n = tt
 
 pub due_needed : (class : Class) (p : Page) (item : Item) → is_due class p item ≡ true → needed p item ≡ true
 due_needed Any p item e = e
-due_needed Clearing p item e = and_left (needed p item) (not (is_blank p item)) e
+due_needed Clearing p item e = (and_parts (needed p item) (not (is_blank p item)) e).0
 
 not_is : (b : Bool) → not b ≡ true → b ≡ false
 not_is true e = cc
 not_is false e = refl
 
 pub due_not_blank : (class : Class) (p : Page) (item : Item) → class ≡ Clearing → is_due class p item ≡ true → is_blank p item ≡ false
-due_not_blank class p item clearing due = not_is (is_blank p item) (and_right (needed p item) (not (is_blank p item)) (subst (λ c. is_due c p item ≡ true) clearing due))
+due_not_blank class p item clearing due = not_is (is_blank p item) ((and_parts (needed p item) (not (is_blank p item)) (subst (λ c. is_due c p item ≡ true) clearing due)).1)
 
 blank_if : (a b : Bool) → a ≡ true → (a && not b) ≡ false → b ≡ true
 blank_if true true n e = refl
@@ -306,8 +305,7 @@ pairs_sorted xs ys perm alone =
 
 rises_apart : (low : Option ℕ) (es : List Entry) → Lower low es → IsNonDecreasingBy place_in es → AreAlone es → rises_above low (entry_places (entries_of es)) ≡ true
 rises_apart low [] l up alone = refl
-rises_apart low (e ∷ es) l up alone = and_both _ _ (first low l)
-    (rises_apart (Some (place_in e)) es
+rises_apart low (e ∷ es) l up alone = and_from _ _ (first low l) (rises_apart (Some (place_in e)) es
     (λ k d lt. let le = up zero (suc k) d (omega arith) (omega arith) in let other = alone zero (suc k) d (omega arith) (omega arith) in above (place_in e) (place_in (get_or es k d)) le other)
     (λ i j d le in_range. up (suc i) (suc j) d (omega arith) (omega arith)) (λ i j d lt in_range. alone (suc i) (suc j) d (omega arith) (omega arith)))
   where

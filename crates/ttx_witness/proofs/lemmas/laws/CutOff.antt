@@ -1,7 +1,7 @@
 -- Why the transmissions of an item aren't sure.
 use Rattle.std.proofs.Common.{◌≡◌, ◌⊎◌, ℕ, zero, suc, ℤ, pos, ◌+ℤ◌, ◌-ℤ◌, ◌<ℤ◌, ◌≤ℤ◌, unsigned_abs, int_lt, Bool, true, false, not, List, [], ◌∷◌}
 use Rattle.std.proofs.Common.{length, refl, subst, inl, inr, arith}
-use Rattle.std.proofs.lemmas.Bool.{cases_Bool}
+use Rattle.std.proofs.lemmas.Bool.{cases_Bool, and_from, and_parts}
 use Rattle.std.proofs.lemmas.Int.{ints}
 use Rattle.std.specs.List.{AllByRecursion}
 use Rattle.ttx_header.specs.Ids.{Id}
@@ -14,7 +14,7 @@ use Rattle.ttx_witness.specs.runs.Repeating.{AreSent, Tells}
 use Rattle.ttx_witness.specs.sent.ItemTransmissions.{sent_in}
 use Rattle.ttx_witness.specs.waiting.PageWaits.{is_near, is_cut}
 use Rattle.ttx_witness.specs.laws.WaitLaws.{IsNear, IsCut, IsLossTold, LossesAreTold}
-use Rattle.ttx_witness.proofs.lemmas.Choices.{and_left, and_right, and_both, no_both, not_true, not_false, cases_ltz, is_lt, abs_is}
+use Rattle.ttx_witness.proofs.lemmas.Choices.{no_both, not_true, not_false, cases_ltz, is_lt, abs_is}
 use Rattle.ttx_witness.proofs.lemmas.sent.CycleTransmissions.{sent_told}
 
 -- one of the k numbers from low on passes, or none does
@@ -57,8 +57,8 @@ module _ (s : Stream) (page : Id) (lines : ℕ) (item : Item) (not_head : item �
   module _ (t : Transmission) (tells : Tells (IsOwned s page item) (IsSure s lines page.mag item) t) where
     cut_to : is_cut lines t ≡ true → IsCut s page.mag lines t
     cut_to e =
-        let far = is_lt (t.owner +ℤ pos lines) t.slot (and_left _ _ e) in
-        let unsure : t.sure ≡ false = not_true t.sure (and_right (int_lt (t.owner +ℤ pos lines) t.slot) (not t.sure) e) in
+        let far = is_lt (t.owner +ℤ pos lines) t.slot ((and_parts _ _ e).0) in
+        let unsure : t.sure ≡ false = not_true t.sure ((and_parts (int_lt (t.owner +ℤ pos lines) t.slot) (not t.sure) e).1) in
         let low = t.owner +ℤ pos 1 in
         let k = unsigned_abs (t.slot -ℤ (t.owner +ℤ pos 1)) in
         let size : pos (unsigned_abs (t.slot -ℤ (t.owner +ℤ pos 1))) ≡ t.slot -ℤ (t.owner +ℤ pos 1) = abs_is (t.slot -ℤ (t.owner +ℤ pos 1)) (omega (arith, ints)) in
@@ -68,7 +68,7 @@ module _ (s : Stream) (page : Id) (lines : ℕ) (item : Item) (not_head : item �
         ]
 
     cut_from : IsCut s page.mag lines t → is_cut lines t ≡ true
-    cut_from c = and_both _ _ (lt_is (t.owner +ℤ pos lines) t.slot c.far) (not_false t.sure (elim (cases_Bool t.sure) as (λ _. t.sure ≡ false) [
+    cut_from c = and_from _ _ (lt_is (t.owner +ℤ pos lines) t.slot c.far) (not_false t.sure (elim (cases_Bool t.sure) as (λ _. t.sure ≡ false) [
       | inl sure ↦ absurd (no_both (ends_serial page.mag (packet_of (s c.header))) c.ends ((sure_to t.owner t.slot item not_head (tells.sure.0 sure)).1 c.header c.after c.before))
       | inr unsure ↦ unsure
     ]))

@@ -4,6 +4,7 @@ use Rattle.std.proofs.Common.{length, slice_index_or, None, unsigned_abs, refl, 
 use Rattle.std.proofs.Common.{length-append}
 use Rattle.std.specs.List.{Contains, AllByRecursion}
 use Rattle.std.proofs.lemmas.Int.{ints}
+use Rattle.std.proofs.lemmas.Bool.{and_from, and_parts, cond_both}
 use Rattle.ttx_header.specs.Ids.{Id}
 use Rattle.ttx_page.specs.Laws.{Turn, EachSlotTurns, StreamsMove, OwnersAreNear, IsSameOn}
 use Rattle.ttx_page.specs.Packets.{packet_of}
@@ -22,7 +23,7 @@ use Rattle.ttx_witness.specs.runs.Repeating.{IsSentAt, AreSent}
 use Rattle.ttx_witness.specs.runs.SureStarts.{sure_runs, sure_starts}
 use Rattle.ttx_witness.specs.sent.ItemTransmissions.{sent_in}
 use Rattle.ttx_witness.specs.laws.SureItems.{HasSureStart, AllSureHaveStarts, IsLongEnough, SureItemsAreAccepted}
-use Rattle.ttx_witness.proofs.lemmas.Choices.{and_left, and_right, and_both, if_ind, cases_ltz, no_both}
+use Rattle.ttx_witness.proofs.lemmas.Choices.{cases_ltz, no_both}
 use Rattle.ttx_witness.proofs.lemmas.laws.CycleLaws.{sure_starts_are_found, further_starts_cover}
 use Rattle.ttx_certificate.proofs.EntryOrder.{rising_pairs}
 use Rattle.ttx_witness.proofs.lemmas.runs.FoundStarts.{starts_rise}
@@ -40,23 +41,23 @@ few_length repeat TheLinks h = omega arith
 
 all_sure_append : (ts us : List Transmission) → all_sure ts ≡ true → all_sure us ≡ true → all_sure (ts ++ us) ≡ true
 all_sure_append [] us a b = b
-all_sure_append (t ∷ ts) us a b = and_both t.sure _ (and_left t.sure _ a) (all_sure_append ts us (and_right t.sure _ a) b)
+all_sure_append (t ∷ ts) us a b = and_from t.sure _ (and_parts t.sure _ a).0 (all_sure_append ts us ((and_parts t.sure _ a).1) b)
 
 all_sure_further : (n k : ℕ) (ts : List Transmission) → all_sure ts ≡ true → all_sure (further n k ts) ≡ true
 unfolding further
 all_sure_further n zero ts a = refl
 all_sure_further n (suc k) [] a = refl
 all_sure_further n (suc k) (t ∷ ts) a =
-    and_both _ _ (and_left t.sure _ a) (all_sure_further n k (ts ++ later n t ∷ []) (all_sure_append ts (later n t ∷ []) (and_right t.sure _ a) (and_both t.sure true (and_left t.sure _ a) refl)))
+    and_from _ _ (and_parts t.sure _ a).0 (all_sure_further n k (ts ++ later n t ∷ []) (all_sure_append ts (later n t ∷ []) ((and_parts t.sure _ a).1) (and_from t.sure true (and_parts t.sure _ a).0 refl)))
 
 all_sure_take : (k : ℕ) (ts : List Transmission) → all_sure ts ≡ true → all_sure (take k ts) ≡ true
 all_sure_take zero ts a = refl
 all_sure_take (suc k) [] a = refl
-all_sure_take (suc k) (t ∷ ts) a = and_both _ _ (and_left t.sure _ a) (all_sure_take k ts (and_right t.sure _ a))
+all_sure_take (suc k) (t ∷ ts) a = and_from _ _ (and_parts t.sure _ a).0 (all_sure_take k ts ((and_parts t.sure _ a).1))
 
 first_found : (r : Run) (rs : List Run) → r.sure ≡ true → Contains (sure_starts (r ∷ rs)) (unsigned_abs r.start)
 unfolding sure_runs
-first_found r rs e = if_ind (λ qs. Contains (map (λ q. unsigned_abs q.start) qs) (unsigned_abs r.start)) r.sure (r ∷ sure_runs rs) (sure_runs rs)
+first_found r rs e = cond_both r.sure (r ∷ sure_runs rs) (sure_runs rs) (λ qs. Contains (map (λ q. unsigned_abs q.start) qs) (unsigned_abs r.start))
     (λ y. (0, omega arith, refl)) (λ f. absurd (no_both _ e f))
 
 some_found : (n k : ℕ) (t : Transmission) (ts : List Transmission) → all_sure (t ∷ ts) ≡ true → (start : ℕ) × Contains (sure_starts (runs n k (t ∷ ts))) start
@@ -75,7 +76,7 @@ some_found n k t ts a =
 
 told_sure : (Owned Sure : ℤ → ℤ → Type 0) → ((h j : ℤ) → Owned h j → Sure h j) → (low high : ℤ) (ts : List Transmission) → AreSent Owned Sure low high ts → all_sure ts ≡ true
 told_sure Owned Sure all low high [] l = refl
-told_sure Owned Sure all low high (t ∷ ts) l = and_both _ _ (l.0.sure.1 (all t.owner t.slot l.0.owned)) (told_sure Owned Sure all (t.slot +ℤ pos 1) high ts l.4)
+told_sure Owned Sure all low high (t ∷ ts) l = and_from _ _ (l.0.sure.1 (all t.owner t.slot l.0.owned)) (told_sure Owned Sure all (t.slot +ℤ pos 1) high ts l.4)
 
 -- ---- periods
 

@@ -4,7 +4,7 @@ use Rattle.std.proofs.Common.{slice_index_or, Option, Some, None, ap, subst, inl
 use Rattle.std.specs.List.{AllByRecursion, Contains}
 use Rattle.std.proofs.Math.Nat.{mul-le-mul_left, mod-eq_of_lt}
 use Rattle.std.proofs.lemmas.Int.{ints}
-use Rattle.std.proofs.lemmas.Bool.{cases_lt}
+use Rattle.std.proofs.lemmas.Bool.{cases_lt, cond_both}
 use Rattle.std.proofs.lemmas.Bool.Decides.{nat_tests}
 use Rattle.std.proofs.lemmas.List.Elements.{Contains-get_or, at_from_Contains}
 use Rattle.ttx_page.specs.Pages.{Page, needed}
@@ -20,7 +20,7 @@ use Rattle.ttx_witness.specs.laws.LateLaws.{IsServed, LateIsUnserved, HasHeaderI
 use Rattle.ttx_witness.specs.faults.Reasons.{LateAt, LateBlankAt}
 use Rattle.ttx_witness.specs.runs.Repeating.{next_start}
 use Rattle.ttx_witness.specs.sent.ItemTransmissions.{sent_in}
-use Rattle.ttx_witness.proofs.lemmas.Choices.{if_ind, cases_ltz}
+use Rattle.ttx_witness.proofs.lemmas.Choices.{cases_ltz}
 use Rattle.ttx_witness.proofs.lemmas.sent.RunLengths.{some_run}
 
 pub record StartLaws : Type 0 where
@@ -64,9 +64,9 @@ module _ (n : ℕ) (starts : List ℕ) (rising : Rising starts) (within : (i : �
             let same : m % n ≡ m = rem_small m n inside in
             let later : i < a.0 = place_after i a.0 lt (omega arith) in
             let next = not_falling (i + 1) a.0 (omega arith) a.1 in
-            if_ind (λ x. x ≤ℤ pos m) (nat_lt (i + 1) (length starts)) _ _ (λ t. omega (arith, ints)) (λ f. let l : length starts ≤ i + 1 = grind (arith, nat_tests) in absurd (let b = a.1 in omega arith))
+            cond_both (nat_lt (i + 1) (length starts)) _ _ (λ x. x ≤ℤ pos m) (λ t. omega (arith, ints)) (λ f. let l : length starts ≤ i + 1 = grind (arith, nat_tests) in absurd (let b = a.1 in omega arith))
         | inr past ↦
-            if_ind (λ x. x ≤ℤ pos m) (nat_lt (i + 1) (length starts)) _ _
+            cond_both (nat_lt (i + 1) (length starts)) _ _ (λ x. x ≤ℤ pos m)
             (λ t. let l : i + 1 < length starts = grind (arith, nat_tests) in let b = within (i + 1) l in omega (arith, ints))
             (λ f. let first = not_falling 0 a.0 (omega arith) a.1 in let round = rem_round m n some past in omega (arith, ints))
       ]
@@ -115,7 +115,7 @@ module _ (laws : StartLaws) (cycle : List (List ℕ)) (some : 1 ≤ length cycle
       (moved.rest, moved.run)
 
   next_run : (i : ℕ) → i < length starts → HasRun (next_start n starts i)
-  next_run i lt = if_ind HasRun (nat_lt (i + 1) (length starts)) _ _ (λ t. run_at (i + 1) (grind (arith, nat_tests))) (λ f. run_again 0 (omega arith))
+  next_run i lt = cond_both (nat_lt (i + 1) (length starts)) _ _ HasRun (λ t. run_at (i + 1) (grind (arith, nat_tests))) (λ f. run_again 0 (omega arith))
 
   -- a run that starts no earlier than another ends no earlier
   ends_by : (i j end : ℤ) → i ≤ℤ j → HasRun i → EndsBelow (repeated cycle) p.id w.repeat item j (end +ℤ pos 1) → EndsBelow (repeated cycle) p.id w.repeat item i (end +ℤ pos 1)

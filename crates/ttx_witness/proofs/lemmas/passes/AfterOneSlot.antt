@@ -2,6 +2,7 @@
 use Rattle.std.proofs.Common.{◌≡◌, ◌↔◌, ℕ, suc, ◌<◌, ℤ, pos, ◌+ℤ◌, int_lt, Bool, true, false, not, ◌&&◌, ◌==◌, if◌then◌else◌, List, [], ◌∷◌, ◌++◌}
 use Rattle.std.proofs.Common.{length, nat_le, Option, Some, None, refl, sym, ap, ◌∙◌, subst, arith}
 use Rattle.std.proofs.lemmas.Bool.Decides.{nat_tests}
+use Rattle.std.proofs.lemmas.Bool.{and_parts}
 use Rattle.ttx_header.specs.Ids.{Id}
 use Rattle.ttx_header.specs.Control.{c10}
 use Rattle.ttx_page.specs.Packets.{Packet, packet_of}
@@ -17,12 +18,11 @@ use Rattle.ttx_witness.specs.sent.ItemTransmissions.{PageOwner, owner_scan, sent
 use Rattle.ttx_witness.specs.sent.Collected.{IsItem, item_number, place_of_item}
 use Rattle.ttx_witness.specs.faults.Comparing.{is_mine, compared_item, sends, IsWrong}
 use Rattle.ttx_witness.specs.faults.OtherSubpages.{first_of}
-use Rattle.ttx_witness.proofs.lemmas.Choices.{and_left, and_right}
 use Rattle.ttx_witness.specs.declared.passes.page_facts.Facts.{Facts}
 use Rattle.ttx_witness.specs.declared.passes.page_facts.Heads.{Heads}
 use Rattle.ttx_witness.specs.declared.sent.one_slot.Sent.{Sent}
 use Rattle.ttx_witness.specs.sent.OneSlot.{sent_of, is_sent}
-use Rattle.ttx_witness.specs.passes.SentSlots.{placed}
+use Rattle.ttx_witness.specs.passes.SentSlots.{placed_in}
 use Rattle.ttx_witness.specs.passes.PageFacts.{IsNoted, RowWrong, Noted, heads_after}
 use Rattle.ttx_witness.specs.passes.PageFacts.{FirstBelow, SendsWrong, SendsWrongRow, heads_of, AreFacts}
 use Rattle.ttx_witness.proofs.lemmas.passes.SentPlaces.{placed_more}
@@ -38,9 +38,9 @@ short_run w is TheLinks k e = omega arith
 -- a needed row is 1 to 24
 pub row_is_item : (p : Page) (r : ℕ) → needed p (TheRow r) ≡ true → IsItem (TheRow r)
 row_is_item p r e =
-    let a : (nat_le 1 r && nat_le r 24) ≡ true = and_left _ (not (c10 p.control)) (and_left _ (if r == 24 then p.links.show24 else not (is_hidden (page_row p) r)) e) in
-    let b : nat_le 1 r ≡ true = and_left _ (nat_le r 24) a in
-    let c : nat_le r 24 ≡ true = and_right (nat_le 1 r) (nat_le r 24) a in
+    let a : (nat_le 1 r && nat_le r 24) ≡ true = (and_parts _ (not (c10 p.control)) (and_parts _ (if r == 24 then p.links.show24 else not (is_hidden (page_row p) r)) e).0).0 in
+    let b : nat_le 1 r ≡ true = (and_parts _ (nat_le r 24) a).0 in
+    let c : nat_le r 24 ≡ true = (and_parts (nat_le 1 r) (nat_le r 24) a).1 in
     (grind (arith, nat_tests), grind (arith, nat_tests))
 
 abbrev some_of : List Transmission → Bool
@@ -96,10 +96,10 @@ module _ (w : Certificate) (is : IsCertificate w) (p : Page) (i : ℕ) (sent : O
   grown item it = sent_grown y z p.id w.lines item entry owner (sent_of i item sent) k at_end right (told item it)
 
   -- what the slots send, once one more is taken
-  pub listed_more : (item : Item) → IsItem item → (old new : List (Option Sent)) → new ≡ old ++ sent ∷ [] → placed (place_of_item i item) old ≡ sent_scan p.id w.lines item (repeated y) entry (length y) →
-      placed (place_of_item i item) new ≡ sent_scan p.id w.lines item (repeated more) entry (length more)
+  pub listed_more : (item : Item) → IsItem item → (old new : List (Option Sent)) → new ≡ old ++ sent ∷ [] → placed_in (place_of_item i item) old ≡ sent_scan p.id w.lines item (repeated y) entry (length y) →
+      placed_in (place_of_item i item) new ≡ sent_scan p.id w.lines item (repeated more) entry (length more)
   listed_more item it old new e h =
-      ap (placed (place_of_item i item)) e ∙ placed_more (place_of_item i item) old sent ∙ ap (λ ts. placed (place_of_item i item) old ++ ts) (placed_item i item it sent)
+      ap (placed_in (place_of_item i item)) e ∙ placed_more (place_of_item i item) old sent ∙ ap (λ ts. placed_in (place_of_item i item) old ++ ts) (placed_item i item it sent)
       ∙ ap (λ ts. ts ++ sent_of i item sent) h ∙ grown item it
 
   -- whether the slot sends an item

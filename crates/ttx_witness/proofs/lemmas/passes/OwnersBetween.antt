@@ -1,13 +1,13 @@
 -- The owners at the end of the first list, as those before the second.
 use Rattle.std.proofs.Common.{◌≡◌, ℕ, zero, suc, ◌≤◌, pos, ◌+ℤ◌, ◌-ℤ◌, ◌≤ℤ◌, Bool, Option, Some, None, ap, ◌∙◌, arith}
 use Rattle.std.proofs.lemmas.Int.{ints}
+use Rattle.std.proofs.lemmas.Bool.{cond_both}
 use Rattle.ttx_header.specs.Ids.{Id}
 use Rattle.ttx_page.specs.Packets.{packet_of}
 use Rattle.ttx_page.specs.Streams.{Stream, heads}
 use Rattle.ttx_witness.specs.sent.ItemTransmissions.{PageOwner, tainted_by, owner_scan, owner_moved}
 use Rattle.ttx_witness.specs.sent.Collected.{seen_by}
 use Rattle.ttx_witness.specs.declared.sent.owners.Owner.{Owner}
-use Rattle.ttx_witness.proofs.lemmas.Choices.{if_ind}
 use Rattle.ttx_page.specs.Pages.{Page}
 use Rattle.ttx_witness.specs.Coverage.{Certificate}
 use Rattle.ttx_witness.specs.sent.ItemTransmissions.{sent_scan}
@@ -28,7 +28,7 @@ from_tainted b (Some o) h = h
 pub scan_from_zero : (id : Id) (s : Stream) (n : ℕ) → FromZero (owner_scan id s None n)
 unfolding owner_scan
 scan_from_zero id s zero = tt
-scan_from_zero id s (suc n) = if_ind FromZero (heads id.mag (packet_of (s (pos n)))) _ _ (λ e. let h : pos 0 ≤ℤ pos n = omega (arith, ints) in h) (λ e. from_tainted _ (owner_scan id s None n) (scan_from_zero id s n))
+scan_from_zero id s (suc n) = cond_both (heads id.mag (packet_of (s (pos n)))) _ _ FromZero (λ e. let h : pos 0 ≤ℤ pos n = omega (arith, ints) in h) (λ e. from_tainted _ (owner_scan id s None n) (scan_from_zero id s n))
 
 pub moved_seen : (i by : ℕ) (o r : Option Owner) → by ≤ 65536 → IsMoved by o r → FromZero (seen_by i o) → seen_by i r ≡ owner_moved (pos 0 -ℤ pos by) (seen_by i o)
 moved_seen i by None r few m low = ap (seen_by i) m

@@ -19,7 +19,7 @@ use Rattle.ttx_page.specs.Steady.{RowDiffersAt, RowIsRight}
 use Rattle.ttx_witness.specs.declared.passes.page_facts.Facts.{Facts}
 use Rattle.ttx_witness.specs.passes.ItemProgress.{HoldsAt}
 use Rattle.ttx_witness.specs.passes.PageFacts.{FirstBelow, SendsWrong, SendsWrongRow, AreFacts}
-use Rattle.ttx_witness.specs.passes.Passing.{AreKept, pages_of, certificate}
+use Rattle.ttx_witness.specs.passes.Passing.{AreKept, pass_pages, certificate}
 use Rattle.ttx_witness.specs.declared.passes.passing.Pass.{Pass}
 
 -- a scan has met a header and forgotten its entry, or met none
@@ -66,7 +66,7 @@ own_entry y id = elim (scan_forgets id (repeated y) (entry_owner y id) (length y
 ]
 
 -- what is kept under equal entries
-pub kept_same : (pass : Pass) (a b : Id → Option PageOwner) (y : List (List ℕ)) → ((i : ℕ) (p : Page) → slice_get (pages_of pass) i ≡ Some p → a p.id ≡ b p.id) → AreKept pass a y → AreKept pass b y
+pub kept_same : (pass : Pass) (a b : Id → Option PageOwner) (y : List (List ℕ)) → ((i : ℕ) (p : Page) → slice_get (pass_pages pass) i ≡ Some p → a p.id ≡ b p.id) → AreKept pass a y → AreKept pass b y
 kept_same pass a b y same k = record {
   sent = record {
     count = k.sent.count;

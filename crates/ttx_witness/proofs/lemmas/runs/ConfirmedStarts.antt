@@ -5,9 +5,9 @@ use Rattle.std.proofs.Common.{eqb-true}
 use Rattle.std.specs.Prelude.{int_le}
 use Rattle.std.specs.List.{AllByRecursion}
 use Rattle.std.proofs.lemmas.Int.{ints}
-use Rattle.std.proofs.lemmas.Bool.{cases_lt, cases_Bool}
+use Rattle.std.proofs.lemmas.Bool.{cases_lt, cases_Bool, and_from, and_parts, cond_both}
 use Rattle.std.proofs.lemmas.Bool.Decides.{nat_tests}
-use Rattle.ttx_witness.proofs.lemmas.Choices.{no_both, if_ind, and_left, and_right, and_both}
+use Rattle.ttx_witness.proofs.lemmas.Choices.{no_both}
 use Rattle.ttx_witness.proofs.lemmas.Choices.{cases_ltz}
 use Rattle.ttx_witness.specs.runs.Transmissions.{Run, moved_run}
 use Rattle.ttx_witness.specs.runs.Confirming.{Progress, Rising, confirmed, is_next, late_after, confirmed_runs, same_slot, after_runs, not_begun}
@@ -18,19 +18,19 @@ taken limit starts m run = record { next = m.next + 1; previous = run.owner; fir
 
 pub confirmed_yes : (limit : ℕ) (starts : List ℕ) (m : Progress) (r : Run) → is_next starts m.next r ≡ true → confirmed limit starts m r ≡ taken limit starts m r
 unfolding confirmed
-confirmed_yes limit starts m r e = if_ind (λ x. x ≡ taken limit starts m r) (is_next starts m.next r) (taken limit starts m r) m (λ _. refl) (λ f. absurd (no_both _ e f))
+confirmed_yes limit starts m r e = cond_both (is_next starts m.next r) (taken limit starts m r) m (λ x. x ≡ taken limit starts m r) (λ _. refl) (λ f. absurd (no_both _ e f))
 
 confirmed_no : (limit : ℕ) (starts : List ℕ) (m : Progress) (r : Run) → is_next starts m.next r ≡ false → confirmed limit starts m r ≡ m
 unfolding confirmed
-confirmed_no limit starts m r e = if_ind (λ x. x ≡ m) (is_next starts m.next r) (taken limit starts m r) m (λ f. absurd (no_both _ f e)) (λ _. refl)
+confirmed_no limit starts m r e = cond_both (is_next starts m.next r) (taken limit starts m r) m (λ x. x ≡ m) (λ f. absurd (no_both _ f e)) (λ _. refl)
 
 chosen_yes : (starts : List ℕ) (next : ℕ) (r : Run) (rs : List Run) → is_next starts next r ≡ true → confirmed_runs starts next (r ∷ rs) ≡ r ∷ confirmed_runs starts (next + 1) rs
 unfolding confirmed_runs
-chosen_yes starts next r rs e = if_ind (λ x. x ≡ r ∷ confirmed_runs starts (next + 1) rs) (is_next starts next r) _ _ (λ _. refl) (λ f. absurd (no_both _ e f))
+chosen_yes starts next r rs e = cond_both (is_next starts next r) _ _ (λ x. x ≡ r ∷ confirmed_runs starts (next + 1) rs) (λ _. refl) (λ f. absurd (no_both _ e f))
 
 chosen_no : (starts : List ℕ) (next : ℕ) (r : Run) (rs : List Run) → is_next starts next r ≡ false → confirmed_runs starts next (r ∷ rs) ≡ confirmed_runs starts next rs
 unfolding confirmed_runs
-chosen_no starts next r rs e = if_ind (λ x. x ≡ confirmed_runs starts next rs) (is_next starts next r) _ _ (λ f. absurd (no_both _ f e)) (λ _. refl)
+chosen_no starts next r rs e = cond_both (is_next starts next r) _ _ (λ x. x ≡ confirmed_runs starts next rs) (λ f. absurd (no_both _ f e)) (λ _. refl)
 
 -- only the confirmed_runs runs count
 pub marked_chosen : (limit : ℕ) (starts : List ℕ) (m : Progress) (rs : List Run) → after_runs limit starts m rs ≡ after_runs limit starts m (confirmed_runs starts m.next rs)
@@ -54,7 +54,7 @@ Matches starts next (r ∷ rs) = (is_next starts next r ≡ true) × Matches sta
 pub chosen_match : (starts : List ℕ) (next : ℕ) (rs : List Run) → Matches starts next (confirmed_runs starts next rs)
 unfolding confirmed_runs
 chosen_match starts next [] = tt
-chosen_match starts next (r ∷ rs) = if_ind (Matches starts next) (is_next starts next r) _ _ (λ e. (e, chosen_match starts (next + 1) rs)) (λ e. chosen_match starts next rs)
+chosen_match starts next (r ∷ rs) = cond_both (is_next starts next r) _ _ (Matches starts next) (λ e. (e, chosen_match starts (next + 1) rs)) (λ e. chosen_match starts next rs)
 
 -- how far the cursor comes
 pub marked_next : (limit : ℕ) (starts : List ℕ) (m : Progress) (rs : List Run) → (after_runs limit starts m rs).next ≡ m.next + length (confirmed_runs starts m.next rs)
@@ -83,15 +83,15 @@ is_none_of o e = ap is_none e
 
 -- one pair
 late_one : (limit : ℕ) (starts : List ℕ) (m : Progress) (end : ℤ) → 1 ≤ m.next → (late_after limit starts m end ≡ None) ↔ ((m.late ≡ None) × (end ≤ℤ (m.previous +ℤ pos limit)))
-late_one limit starts m end some = if_ind (λ x. (x ≡ None) ↔ ((m.late ≡ None) × (end ≤ℤ (m.previous +ℤ pos limit)))) (m.next == 0) _ _
+late_one limit starts m end some = cond_both (m.next == 0) _ _ (λ x. (x ≡ None) ↔ ((m.late ≡ None) × (end ≤ℤ (m.previous +ℤ pos limit))))
     (λ e. let z = eqb-true _ _ e in absurd (omega arith))
-    (λ _. if_ind (λ x. (x ≡ None) ↔ ((m.late ≡ None) × (end ≤ℤ (m.previous +ℤ pos limit)))) (is_none m.late && int_lt (m.previous +ℤ pos limit) end) _ _
-    (λ e. let g : int_lt (m.previous +ℤ pos limit) end ≡ true = and_right _ _ e in ((λ s. absurd (some_none s)), (λ b. let k = b.1 in absurd (let w : int_lt (m.previous +ℤ pos limit) end ≡ true = g in omega (arith, ints)))))
+    (λ _. cond_both (is_none m.late && int_lt (m.previous +ℤ pos limit) end) _ _ (λ x. (x ≡ None) ↔ ((m.late ≡ None) × (end ≤ℤ (m.previous +ℤ pos limit))))
+    (λ e. let g : int_lt (m.previous +ℤ pos limit) end ≡ true = (and_parts _ _ e).1 in ((λ s. absurd (some_none s)), (λ b. let k = b.1 in absurd (let w : int_lt (m.previous +ℤ pos limit) end ≡ true = g in omega (arith, ints)))))
     (λ e. ((λ s. (s, late_no s e)), (λ b. b.0))))
   where
     late_no : m.late ≡ None → (is_none m.late && int_lt (m.previous +ℤ pos limit) end) ≡ false → end ≤ℤ (m.previous +ℤ pos limit)
     late_no s e = elim (cases_Bool (int_lt (m.previous +ℤ pos limit) end)) as (λ _. end ≤ℤ (m.previous +ℤ pos limit)) [
-      | inl t ↦ absurd (no_both _ (and_both _ _ (is_none_of _ s) t) e)
+      | inl t ↦ absurd (no_both _ (and_from _ _ (is_none_of _ s) t) e)
       | inr f ↦ omega (arith, ints)
     ]
 
@@ -118,7 +118,7 @@ unfolding after_runs
 first_end_kept limit starts m [] some a = refl
 first_end_kept limit starts m (q ∷ rs) some a =
     ap (λ x. (after_runs limit starts x rs).first_end) (confirmed_yes limit starts m q a.0) ∙ first_end_kept limit starts (taken limit starts m q) rs (omega arith) a.1
-    ∙ if_ind (λ x. x ≡ m.first_end) (m.next == 0) q.end m.first_end (λ e. let z = eqb-true _ _ e in absurd (omega arith)) (λ e. refl)
+    ∙ cond_both (m.next == 0) q.end m.first_end (λ x. x ≡ m.first_end) (λ e. let z = eqb-true _ _ e in absurd (omega arith)) (λ e. refl)
 
 -- all runs of a period and the first of the next are in step exactly where nothing is late at the end
 pub late_round : (limit : ℕ) (starts : List ℕ) (n : ℕ) (g : Run) (rs : List Run) → Matches starts 0 (g ∷ rs) → let m = after_runs limit starts not_begun (g ∷ rs) in
@@ -145,25 +145,25 @@ pub record IsNextRun (starts : List ℕ) (next : ℕ) (r : Run) : Type 0 where
 
 pub same_slot_is : (a b : ℤ) → same_slot a b ≡ true → a ≡ b
 same_slot_is a b e =
-    let f : int_le a b ≡ true = and_left (int_le a b) (int_le b a) e in
-    let g : int_le b a ≡ true = and_right (int_le a b) (int_le b a) e in
+    let f : int_le a b ≡ true = (and_parts (int_le a b) (int_le b a) e).0 in
+    let g : int_le b a ≡ true = (and_parts (int_le a b) (int_le b a) e).1 in
     omega (arith, ints)
 
 pub is_same_slot : (a b : ℤ) → a ≡ b → same_slot a b ≡ true
-is_same_slot a b e = and_both _ _ (le_true a b (omega (arith, ints))) (le_true b a (omega (arith, ints)))
+is_same_slot a b e = and_from _ _ (le_true a b (omega (arith, ints))) (le_true b a (omega (arith, ints)))
   where
     le_true : (a b : ℤ) → a ≤ℤ b → int_le a b ≡ true
     le_true a b h = elim (cases_Bool (int_le a b)) as (λ _. int_le a b ≡ true) [ inl t ↦ t | inr f ↦ absurd (omega (arith, ints)) ]
 
 pub next_is : (starts : List ℕ) (next : ℕ) (r : Run) → is_next starts next r ≡ true → IsNextRun starts next r
 next_is starts next r e = record {
-  within = let f : nat_lt next (length starts) ≡ true = and_left _ _ (and_left _ _ e) in grind (arith, nat_tests);
-  start = same_slot_is _ _ (and_right _ _ (and_left _ _ e));
-  sure = and_right _ _ e;
+  within = let f : nat_lt next (length starts) ≡ true = (and_parts _ _ (and_parts _ _ e).0).0 in grind (arith, nat_tests);
+  start = same_slot_is _ _ ((and_parts _ _ (and_parts _ _ e).0).1);
+  sure = (and_parts _ _ e).1;
 }
 
 pub is_next_of : (starts : List ℕ) (next : ℕ) (r : Run) → next < length starts → named_at starts next ≡ r.start → r.sure ≡ true → is_next starts next r ≡ true
-is_next_of starts next r lt e g = and_both _ _ (and_both _ _ (lt_true next (length starts) lt) (is_same_slot _ _ e)) g
+is_next_of starts next r lt e g = and_from _ _ (and_from _ _ (lt_true next (length starts) lt) (is_same_slot _ _ e)) g
   where
     lt_true : (a b : ℕ) → a < b → nat_lt a b ≡ true
     lt_true a b h = grind (arith, nat_tests)
@@ -233,8 +233,8 @@ first_late limit starts next r [] = None
 first_late limit starts next r (q ∷ rs) = if int_lt (r.owner +ℤ pos limit) q.end then Some (slice_index_or starts next 0) else first_late limit starts (next + 1) q rs
 
 late_some : (limit : ℕ) (starts : List ℕ) (m : Progress) (end : ℤ) (x : ℕ) → m.late ≡ Some x → late_after limit starts m end ≡ Some x
-late_some limit starts m end x e = if_ind (λ z. z ≡ Some x) (m.next == 0) _ _ (λ _. e)
-    (λ _. if_ind (λ z. z ≡ Some x) (is_none m.late && int_lt (m.previous +ℤ pos limit) end) _ _ (λ t. absurd (no_both _ (and_left _ _ t) (ap is_none e))) (λ _. e))
+late_some limit starts m end x e = cond_both (m.next == 0) _ _ (λ z. z ≡ Some x) (λ _. e)
+    (λ _. cond_both (is_none m.late && int_lt (m.previous +ℤ pos limit) end) _ _ (λ z. z ≡ Some x) (λ t. absurd (no_both _ ((and_parts _ _ t).0) (ap is_none e))) (λ _. e))
 
 stays_late : (limit : ℕ) (starts : List ℕ) (m : Progress) (rs : List Run) (z : Run) (x : ℕ) → m.late ≡ Some x → Matches starts m.next rs → late_after limit starts (after_runs limit starts m rs) z.end ≡ Some x
 unfolding after_runs
@@ -244,24 +244,24 @@ stays_late limit starts m (q ∷ rs) z x e a =
     ∙ stays_late limit starts (taken limit starts m q) rs z x (late_some limit starts m q.end x e) a.1
 
 late_yes : (limit : ℕ) (starts : List ℕ) (m : Progress) (end : ℤ) (at : ℕ) → m.next ≡ at + 1 → m.late ≡ None → int_lt (m.previous +ℤ pos limit) end ≡ true → late_after limit starts m end ≡ Some (slice_index_or starts at 0)
-late_yes limit starts m end at next none e = if_ind (λ z. z ≡ Some (slice_index_or starts at 0)) (m.next == 0) _ _ (λ t. let z = eqb-true _ _ t in absurd (omega arith))
-    (λ _. if_ind (λ z. z ≡ Some (slice_index_or starts at 0)) (is_none m.late && int_lt (m.previous +ℤ pos limit) end) _ _
-    (λ _. ap (λ i. Some (slice_index_or starts i 0)) (let h : m.next - 1 ≡ at = omega arith in h)) (λ f. absurd (no_both _ (and_both _ _ (is_none_of _ none) e) f)))
+late_yes limit starts m end at next none e = cond_both (m.next == 0) _ _ (λ z. z ≡ Some (slice_index_or starts at 0)) (λ t. let z = eqb-true _ _ t in absurd (omega arith))
+    (λ _. cond_both (is_none m.late && int_lt (m.previous +ℤ pos limit) end) _ _ (λ z. z ≡ Some (slice_index_or starts at 0))
+    (λ _. ap (λ i. Some (slice_index_or starts i 0)) (let h : m.next - 1 ≡ at = omega arith in h)) (λ f. absurd (no_both _ (and_from _ _ (is_none_of _ none) e) f)))
 
 late_not : (limit : ℕ) (starts : List ℕ) (m : Progress) (end : ℤ) → int_lt (m.previous +ℤ pos limit) end ≡ false → late_after limit starts m end ≡ m.late
-late_not limit starts m end e = if_ind (λ z. z ≡ m.late) (m.next == 0) _ _ (λ _. refl)
-    (λ _. if_ind (λ z. z ≡ m.late) (is_none m.late && int_lt (m.previous +ℤ pos limit) end) _ _ (λ t. absurd (no_both _ (and_right _ _ t) e)) (λ _. refl))
+late_not limit starts m end e = cond_both (m.next == 0) _ _ (λ z. z ≡ m.late) (λ _. refl)
+    (λ _. cond_both (is_none m.late && int_lt (m.previous +ℤ pos limit) end) _ _ (λ z. z ≡ m.late) (λ t. absurd (no_both _ ((and_parts _ _ t).1) e)) (λ _. refl))
 
 -- what is late is the first of the chain
 pub late_is_first : (limit : ℕ) (starts : List ℕ) (m : Progress) (r : Run) (rs : List Run) (z : Run) (at : ℕ) → m.next ≡ at + 1 → m.previous ≡ r.owner → m.late ≡ None → Matches starts m.next rs →
     late_after limit starts (after_runs limit starts m rs) z.end ≡ first_late limit starts at r (rs ++ z ∷ [])
 unfolding after_runs first_late
-late_is_first limit starts m r [] z at next prev none a = if_ind (λ x. late_after limit starts m z.end ≡ x) (int_lt (r.owner +ℤ pos limit) z.end) _ _
+late_is_first limit starts m r [] z at next prev none a = cond_both (int_lt (r.owner +ℤ pos limit) z.end) _ _ (λ x. late_after limit starts m z.end ≡ x)
     (λ e. late_yes limit starts m z.end at next none (ap (λ x. int_lt (x +ℤ pos limit) z.end) prev ∙ e))
     (λ e. late_not limit starts m z.end (ap (λ x. int_lt (x +ℤ pos limit) z.end) prev ∙ e) ∙ none)
 late_is_first limit starts m r (q ∷ rs) z at next prev none a =
     ap (λ y. late_after limit starts (after_runs limit starts y rs) z.end) (confirmed_yes limit starts m q a.0)
-    ∙ if_ind (λ x. late_after limit starts (after_runs limit starts (taken limit starts m q) rs) z.end ≡ x) (int_lt (r.owner +ℤ pos limit) q.end) _ _
+    ∙ cond_both (int_lt (r.owner +ℤ pos limit) q.end) _ _ (λ x. late_after limit starts (after_runs limit starts (taken limit starts m q) rs) z.end ≡ x)
     (λ e. stays_late limit starts (taken limit starts m q) rs z (slice_index_or starts at 0) (late_yes limit starts m q.end at next none (ap (λ x. int_lt (x +ℤ pos limit) q.end) prev ∙ e)) a.1)
     (λ e. late_is_first limit starts (taken limit starts m q) q rs z (at + 1) (ap (λ x. x + 1) next) refl
     (late_not limit starts m q.end (ap (λ x. int_lt (x +ℤ pos limit) q.end) prev ∙ e) ∙ none) a.1)

@@ -3,12 +3,11 @@ use Rattle.std.proofs.Common.{◌≡◌, ◌⊎◌, ℕ, suc, ◌+◌, ◌<◌, 
 use Rattle.std.proofs.Common.{slice_index_or, Option, Some, None, refl, sym, ap, ◌∙◌, subst, inl, inr, arith}
 use Rattle.std.specs.List.{AllByRecursion}
 use Rattle.std.proofs.lemmas.Int.{ints}
-use Rattle.std.proofs.lemmas.Bool.{cases_lt}
+use Rattle.std.proofs.lemmas.Bool.{cases_lt, cond_both}
 use Rattle.std.proofs.lemmas.Bool.Decides.{nat_tests}
 use Rattle.ttx_witness.specs.runs.Transmissions.{Transmission, Run, runs, moved_run}
 use Rattle.ttx_witness.specs.runs.Confirming.{Progress, Rising, late_after, confirmed_runs, after_runs, not_begun}
 use Rattle.ttx_witness.specs.runs.Repeating.{Repeats, AreSent, RunEndsBelow, IsRunOf, IsBad, IsLate, IsFirst, next_start}
-use Rattle.ttx_witness.proofs.lemmas.Choices.{if_ind}
 use Rattle.ttx_witness.proofs.lemmas.runs.MovedStreams.{run_later}
 use Rattle.ttx_witness.proofs.lemmas.runs.ConfirmedStarts.{named_at, Matches, next_is, marked_next, marked_chosen, chosen_match, match_bound}
 use Rattle.ttx_witness.proofs.lemmas.runs.ConfirmedStarts.{confirmed_yes, first_end_kept, late_is_first, first_late}
@@ -27,10 +26,10 @@ module _ (Owned Sure : ℤ → ℤ → Type 0) (n k limit : ℕ) (law : Repeats 
   Chain i r (q ∷ qs) = (i < length starts) × Is r × (r.start ≡ named_at starts i) × Is q × (q.start ≡ next_start n starts i) × Chain (i + 1) q qs
 
   next_before : (i : ℕ) → i + 1 < length starts → next_start n starts i ≡ named_at starts (i + 1)
-  next_before i lt = if_ind (λ x. x ≡ named_at starts (i + 1)) (nat_lt (i + 1) (length starts)) _ _ (λ _. refl) (λ e. absurd (grind (arith, nat_tests)))
+  next_before i lt = cond_both (nat_lt (i + 1) (length starts)) _ _ (λ x. x ≡ named_at starts (i + 1)) (λ _. refl) (λ e. absurd (grind (arith, nat_tests)))
 
   next_last : (i : ℕ) → length starts ≤ i + 1 → next_start n starts i ≡ named_at starts 0 +ℤ pos n
-  next_last i le = if_ind (λ x. x ≡ named_at starts 0 +ℤ pos n) (nat_lt (i + 1) (length starts)) _ _ (λ e. absurd (grind (arith, nat_tests))) (λ _. refl)
+  next_last i le = cond_both (nat_lt (i + 1) (length starts)) _ _ (λ x. x ≡ named_at starts 0 +ℤ pos n) (λ e. absurd (grind (arith, nat_tests))) (λ _. refl)
 
   chain_of : (i : ℕ) (r : Run) (rs : List Run) (z : Run) → i < length starts → Is r → r.start ≡ named_at starts i → Matches starts (i + 1) rs → (i + 1) + length rs ≡ length starts →
       AllByRecursion Is rs → Is z → z.start ≡ named_at starts 0 +ℤ pos n → Chain i r (rs ++ z ∷ [])
@@ -62,7 +61,7 @@ module _ (Owned Sure : ℤ → ℤ → Type 0) (n k limit : ℕ) (law : Repeats 
   first_from : (i : ℕ) (r : Run) (qs : List Run) → Chain i r qs → FirstFrom i (first_late limit starts i r qs)
   unfolding Chain FirstFrom first_late
   first_from i r [] c = λ j le l. let w = l.within in omega arith
-  first_from i r (q ∷ qs) c = if_ind (FirstFrom i) (int_lt (r.owner +ℤ pos limit) q.end) (Some (slice_index_or starts i 0)) (first_late limit starts (i + 1) q qs)
+  first_from i r (q ∷ qs) c = cond_both (int_lt (r.owner +ℤ pos limit) q.end) (Some (slice_index_or starts i 0)) (first_late limit starts (i + 1) q qs) (FirstFrom i)
       (λ e. (i, omega arith, refl, is_late i r q c.0 c.1 c.2 c.3 c.4 e, (λ m le lt l. absurd (omega arith))))
       (λ e. on (first_late limit starts (i + 1) q qs) (first_from (i + 1) q qs c.5) (not_late i r q c.1 c.2 c.3 c.4 e))
     where

@@ -4,11 +4,11 @@ use Rattle.std.proofs.Common.{subst, arith}
 use Rattle.std.specs.List.{All, AllPairs}
 use Rattle.std.proofs.lemmas.Int.{ints}
 use Rattle.std.proofs.lemmas.Bool.Decides.{nat_tests}
+use Rattle.std.proofs.lemmas.Bool.{and_from, cond_both}
 use Rattle.ttx_witness.specs.runs.Transmissions.{Transmission, Run, start_of, run_of, windows, extended, further, runs}
 use Rattle.ttx_witness.specs.runs.SureStarts.{sure_runs, sure_starts}
 use Rattle.ttx_witness.specs.runs.Tracks.{AreInOrder}
 use Rattle.ttx_certificate.specs.Entries.{are_slots, rises, rises_above}
-use Rattle.ttx_witness.proofs.lemmas.Choices.{if_ind, and_both}
 use Rattle.ttx_witness.proofs.lemmas.runs.AllBetween.{slots}
 use Rattle.ttx_witness.proofs.lemmas.runs.Rounds.{length_further, starts_of}
 
@@ -32,7 +32,7 @@ climb_more low high (z ∷ zs) le c = ((let h = c.0 in omega (arith, ints)), c.1
 sure_climb : (low : ℤ) (rs : List Run) → Climbs low (map start_of rs) → Climbs low (map start_of (sure_runs rs))
 unfolding sure_runs
 sure_climb low [] c = tt
-sure_climb low (r ∷ rs) c = if_ind (λ qs. Climbs low (map start_of qs)) r.sure (r ∷ sure_runs rs) (sure_runs rs) (λ e. (c.0, c.1, sure_climb (r.start +ℤ pos 1) rs c.2))
+sure_climb low (r ∷ rs) c = cond_both r.sure (r ∷ sure_runs rs) (sure_runs rs) (λ qs. Climbs low (map start_of qs)) (λ e. (c.0, c.1, sure_climb (r.start +ℤ pos 1) rs c.2))
     (λ e. climb_more low (r.start +ℤ pos 1) (map start_of (sure_runs rs)) (let h = c.0 in omega (arith, ints)) (sure_climb (r.start +ℤ pos 1) rs c.2))
 
 abbrev numbers : List Run → List ℕ
@@ -43,14 +43,14 @@ are_below low [] z c = refl
 are_below low (r ∷ rs) z c =
     let a = c.0 in let b = c.1 in
     let lt : unsigned_abs r.start < 65536 = omega (arith, ints) in
-    and_both _ _ (grind (arith, nat_tests)) (are_below (r.start +ℤ pos 1) rs (omega (arith, ints)) c.2)
+    and_from _ _ (grind (arith, nat_tests)) (are_below (r.start +ℤ pos 1) rs (omega (arith, ints)) c.2)
 
 they_rise : (last : ℕ) (low : ℤ) (rs : List Run) → pos last <ℤ low → Climbs low (map start_of rs) → rises_above (Some last) (numbers rs) ≡ true
 they_rise last low [] z c = refl
 they_rise last low (r ∷ rs) z c =
     let a = c.0 in
     let lt : last < unsigned_abs r.start = omega (arith, ints) in
-    and_both _ _ (grind (arith, nat_tests)) (they_rise (unsigned_abs r.start) (r.start +ℤ pos 1) rs (omega (arith, ints)) c.2)
+    and_from _ _ (grind (arith, nat_tests)) (they_rise (unsigned_abs r.start) (r.start +ℤ pos 1) rs (omega (arith, ints)) c.2)
 
 from_zero : (rs : List Run) → Climbs (pos 0) (map start_of rs) → rises (numbers rs) ≡ true
 from_zero [] c = refl

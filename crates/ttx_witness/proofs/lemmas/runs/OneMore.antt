@@ -2,14 +2,14 @@
 use Rattle.std.proofs.Common.{◌≡◌, ℕ, zero, suc, ◌+◌, ◌-◌, ◌<◌, ◌≤◌, if◌then◌else◌, ◌==◌, nat_lt, List, [], ◌∷◌, ◌++◌, Option, Some, None, map, take}
 use Rattle.std.proofs.Common.{drop, length, refl, sym, ap, ◌∙◌, subst, inl, inr, arith, length-append, slice_get, eqb-true, eq-eqb, unsigned_abs}
 use Rattle.std.proofs.lemmas.List.{map-append, take-append-le, length-take-le, length-drop, drop-append-le, drop-drop}
-use Rattle.std.proofs.lemmas.Bool.{cases_lt}
+use Rattle.std.proofs.lemmas.Bool.{cases_lt, cond_both}
 use Rattle.std.proofs.lemmas.Bool.Decides.{nat_tests}
 use Rattle.ttx_witness.specs.runs.Transmissions.{Transmission, Run, run_of, run_between, windows, last_slot, all_sure}
 use Rattle.ttx_witness.specs.runs.Confirming.{Progress, confirmed, after_runs}
 use Rattle.ttx_witness.specs.runs.SureStarts.{Spread, sure_runs, sure_starts, spread_after, spread_of, IsFound}
 use Rattle.ttx_witness.specs.runs.Tracks.{ended, keep_last, listed, IsRecent}
 use Rattle.ttx_witness.specs.declared.runs.window.Recent.{Recent}
-use Rattle.ttx_witness.proofs.lemmas.Choices.{if_ind, no_both}
+use Rattle.ttx_witness.proofs.lemmas.Choices.{no_both}
 use Rattle.ttx_witness.proofs.lemmas.runs.Windows.{windows_step, windows_none, windows_short}
 
 some_same : {A : Type 0} {x y : A} → Some x ≡ Some y → x ≡ y
@@ -55,10 +55,10 @@ take_step {A} k ts t = elim (cases_lt (length ts) k) as (λ _. take k (ts ++ t �
       let b' : length (ts ++ t ∷ []) ≡ length ts + 1 = length-append ts (t ∷ []) in
       let w : take k ts ≡ ts = take_whole k ts (omega arith) in
       let v : take k (ts ++ t ∷ []) ≡ ts ++ t ∷ [] = take_whole k (ts ++ t ∷ []) (omega arith) in
-      rw (v, w) (if_ind (λ x. ts ++ t ∷ [] ≡ x) (nat_lt (length ts + 1) (suc k)) _ _ (λ e. refl) (λ e. absurd (grind (arith, nat_tests))))
+      rw (v, w) (cond_both (nat_lt (length ts + 1) (suc k)) _ _ (λ x. ts ++ t ∷ [] ≡ x) (λ e. refl) (λ e. absurd (grind (arith, nat_tests))))
   | inr ge ↦
       let l : length (take k ts) ≡ k = length-take-le k ts ge in
-      rw (take-append-le k ts (t ∷ []) ge) (if_ind (λ x. take k ts ≡ x) (nat_lt (length (take k ts) + 1) (suc k)) _ _ (λ e. absurd (grind (arith, nat_tests))) (λ e. refl))
+      rw (take-append-le k ts (t ∷ []) ge) (cond_both (nat_lt (length (take k ts) + 1) (suc k)) _ _ (λ x. take k ts ≡ x) (λ e. absurd (grind (arith, nat_tests))) (λ e. refl))
 ]
 
 -- the run that ends with one more, where one does
@@ -73,15 +73,14 @@ ended_step k ts t = elim (cases_lt (length ts) k) as (λ _. ended k (ts ++ t ∷
       let z : length (ts ++ t ∷ []) - suc k ≡ 0 = omega arith in
       let q : suc (length ts) < suc k = omega arith in
       let q' : length ts < suc k = omega arith in
-      rw (windows_none (suc k) ts t q, windows_short (suc k) ts q', z) (if_ind (λ x. [] ≡ listed x) (length (ts ++ t ∷ []) == suc k) _ _ (λ e. absurd (let h = eqb-true _ _ e in omega arith)) (λ e. refl))
+      rw (windows_none (suc k) ts t q, windows_short (suc k) ts q', z) (cond_both (length (ts ++ t ∷ []) == suc k) _ _ (λ x. [] ≡ listed x) (λ e. absurd (let h = eqb-true _ _ e in omega arith)) (λ e. refl))
   | inr ge ↦
       let b : length (ts ++ t ∷ []) ≡ suc (length ts) = length-append ts (t ∷ []) ∙ omega arith in
       let l : length (keep_last (suc k) (ts ++ t ∷ [])) ≡ suc k = length-drop (length (ts ++ t ∷ []) - suc k) (ts ++ t ∷ []) ∙ omega arith in
       let w : windows (suc k) (ts ++ t ∷ []) ≡ windows (suc k) ts ++ keep_last (suc k) (ts ++ t ∷ []) ∷ [] =
       windows_step (suc k) ts t (omega arith) (omega arith) ∙ ap (λ m. windows (suc k) ts ++ drop (m - suc k) (ts ++ t ∷ []) ∷ []) (sym b) in
       ap (map run_of) w ∙ map-append run_of (windows (suc k) ts) (keep_last (suc k) (ts ++ t ∷ []) ∷ [])
-      ∙ if_ind (λ x. ended k ts ++ run_of (keep_last (suc k) (ts ++ t ∷ [])) ∷ [] ≡ ended k ts ++ listed x)
-      (length (keep_last (suc k) (ts ++ t ∷ [])) == suc k) _ _ (λ e. refl) (λ e. absurd (no_both _ (eq-eqb _ _ l) e))
+      ∙ cond_both (length (keep_last (suc k) (ts ++ t ∷ [])) == suc k) _ _ (λ x. ended k ts ++ run_of (keep_last (suc k) (ts ++ t ∷ [])) ∷ [] ≡ ended k ts ++ listed x) (λ e. refl) (λ e. absurd (no_both _ (eq-eqb _ _ l) e))
 ]
 
 -- what is held after one more, by the equations of the two steps
@@ -121,9 +120,9 @@ spread_more s (r ∷ rs) qs = spread_more (spread_after s r) rs qs
 sure_more : (rs qs : List Run) → sure_runs (rs ++ qs) ≡ sure_runs rs ++ sure_runs qs
 unfolding sure_runs
 sure_more [] qs = refl
-sure_more (r ∷ rs) qs = if_ind (λ x. x ≡ (if r.sure then r ∷ sure_runs rs else sure_runs rs) ++ sure_runs qs) r.sure (r ∷ sure_runs (rs ++ qs)) (sure_runs (rs ++ qs))
-    (λ e. ap (λ x. r ∷ x) (sure_more rs qs) ∙ if_ind (λ x. r ∷ (sure_runs rs ++ sure_runs qs) ≡ x ++ sure_runs qs) r.sure (r ∷ sure_runs rs) (sure_runs rs) (λ _. refl) (λ f. absurd (no_both _ e f)))
-    (λ e. sure_more rs qs ∙ if_ind (λ x. sure_runs rs ++ sure_runs qs ≡ x ++ sure_runs qs) r.sure (r ∷ sure_runs rs) (sure_runs rs) (λ f. absurd (no_both _ f e)) (λ _. refl))
+sure_more (r ∷ rs) qs = cond_both r.sure (r ∷ sure_runs (rs ++ qs)) (sure_runs (rs ++ qs)) (λ x. x ≡ (if r.sure then r ∷ sure_runs rs else sure_runs rs) ++ sure_runs qs)
+    (λ e. ap (λ x. r ∷ x) (sure_more rs qs) ∙ cond_both r.sure (r ∷ sure_runs rs) (sure_runs rs) (λ x. r ∷ (sure_runs rs ++ sure_runs qs) ≡ x ++ sure_runs qs) (λ _. refl) (λ f. absurd (no_both _ e f)))
+    (λ e. sure_more rs qs ∙ cond_both r.sure (r ∷ sure_runs rs) (sure_runs rs) (λ x. sure_runs rs ++ sure_runs qs ≡ x ++ sure_runs qs) (λ f. absurd (no_both _ f e)) (λ _. refl))
 
 pub starts_more : (rs qs : List Run) → sure_starts (rs ++ qs) ≡ sure_starts rs ++ sure_starts qs
 starts_more rs qs = ap (map (λ r. unsigned_abs r.start)) (sure_more rs qs) ∙ map-append (λ r. unsigned_abs r.start) (sure_runs rs) (sure_runs qs)

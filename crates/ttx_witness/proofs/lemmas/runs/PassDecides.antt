@@ -4,12 +4,12 @@ use Rattle.std.proofs.Common.{None, refl, sym, ap, ◌∙◌, subst, inl, inr, a
 use Rattle.std.specs.List.{AllByRecursion}
 use Rattle.std.proofs.lemmas.Int.{ints}
 use Rattle.std.proofs.lemmas.List.{length-append}
-use Rattle.std.proofs.lemmas.Bool.{cases_lt}
+use Rattle.std.proofs.lemmas.Bool.{cases_lt, cond_both}
 use Rattle.ttx_witness.specs.runs.Transmissions.{Transmission, start_of, Run, run_of, runs, moved_run, windows, further, extended}
 use Rattle.ttx_witness.specs.runs.Confirming.{Progress, Rising, is_next, late_after, confirmed_runs, after_runs, not_begun}
 use Rattle.ttx_witness.specs.runs.Repeating.{Lists, Successive, Repeats, IsSentAt, AreSent, BeginsSureRun, IsRunOf, IsNamedRun, IsInTime}
 use Rattle.ttx_witness.specs.runs.Repeating.{FollowInTime}
-use Rattle.ttx_witness.proofs.lemmas.Choices.{if_ind, cases_ltz}
+use Rattle.ttx_witness.proofs.lemmas.Choices.{cases_ltz}
 use Rattle.ttx_witness.proofs.lemmas.runs.Windows.{windows_yes, windows_no, windows_short}
 use Rattle.ttx_witness.proofs.lemmas.runs.Rounds.{extended_lists, length_further}
 use Rattle.ttx_witness.proofs.lemmas.runs.StreamRuns.{Sent, Told, told_sent, told_later, sent_earlier, runs_are}
@@ -25,7 +25,7 @@ runs_none n (suc k) = refl
 pub all_chosen : (P : Run → Type 0) (starts : List ℕ) (next : ℕ) (rs : List Run) → AllByRecursion P rs → AllByRecursion P (confirmed_runs starts next rs)
 unfolding confirmed_runs
 all_chosen P starts next [] a = tt
-all_chosen P starts next (r ∷ rs) a = if_ind (AllByRecursion P) (is_next starts next r) _ _ (λ e. (a.0, all_chosen P starts (next + 1) rs a.1)) (λ e. all_chosen P starts next rs a.1)
+all_chosen P starts next (r ∷ rs) a = cond_both (is_next starts next r) _ _ (AllByRecursion P) (λ e. (a.0, all_chosen P starts (next + 1) rs a.1)) (λ e. all_chosen P starts next rs a.1)
 
 module _ (Owned Sure : ℤ → ℤ → Type 0) (n k : ℕ) (law : Repeats n Owned Sure) where
   rises_windows : (low high : ℤ) (ts : List Transmission) → AreSent Owned Sure low high ts → RisesFrom low (map run_of (windows (suc k) ts))

@@ -3,9 +3,9 @@ use Rattle.std.proofs.Common.{◌≡◌, ◌↔◌, ℕ, suc, ℤ, pos, ◌+ℤ�
 use Rattle.std.specs.List.{AllByRecursion}
 use Rattle.std.proofs.lemmas.List.{length-map}
 use Rattle.std.proofs.lemmas.Int.{ints}
+use Rattle.std.proofs.lemmas.Bool.{and_from, and_parts}
 use Rattle.ttx_witness.specs.runs.Transmissions.{Transmission, slot_of, later, extended, windows, run_of, runs, last_slot, all_sure}
 use Rattle.ttx_witness.specs.runs.Repeating.{Successive, Repeats, IsSentAt, IsSureSent, Tells, AreSent, IsRunFrom, IsRunOf}
-use Rattle.ttx_witness.proofs.lemmas.Choices.{and_left, and_right, and_both}
 use Rattle.ttx_witness.proofs.lemmas.runs.AllBetween.{successive_same, slots, IsWindow}
 use Rattle.ttx_witness.proofs.lemmas.runs.Rounds.{extended_windows}
 
@@ -30,7 +30,7 @@ module _ (Owned Sure : ℤ → ℤ → Type 0) where
     all_sure_of [] a = (λ _. tt, λ _. refl)
     all_sure_of (t ∷ ts) a =
         let i = all_sure_of ts a.1 in
-        ((λ e. ((sure_of t a.0).0 (and_left _ _ e), i.0 (and_right _ _ e))), (λ b. and_both _ _ ((sure_of t a.0).1 b.0) (i.1 b.1)))
+        ((λ e. ((sure_of t a.0).0 ((and_parts _ _ e).0), i.0 ((and_parts _ _ e).1))), (λ b. and_from _ _ ((sure_of t a.0).1 b.0) (i.1 b.1)))
 
     ends_of : (t : Transmission) (ts : List Transmission) (e : ℤ) → Successive Sent (slots (t ∷ ts)) → (last_slot t.slot ts <ℤ e) ↔ AllByRecursion (λ j. j <ℤ e) (slots (t ∷ ts))
     ends_of t [] e a = ((λ l. (l, tt)), (λ l. l.0))

@@ -5,13 +5,13 @@ use Rattle.std.specs.List.{Contains, AllByRecursion}
 use Rattle.std.proofs.lemmas.List.{length-map}
 use Rattle.std.proofs.lemmas.List.Elements.{Contains-get_or, at_from_Contains}
 use Rattle.std.proofs.lemmas.Int.{ints}
-use Rattle.std.proofs.lemmas.Bool.{cases_lt, cases_Bool}
+use Rattle.std.proofs.lemmas.Bool.{cases_lt, cases_Bool, cond_both}
 use Rattle.ttx_witness.specs.runs.Transmissions.{Transmission, Run, runs, moved_run}
 use Rattle.ttx_witness.specs.runs.Confirming.{Rising}
 use Rattle.ttx_witness.specs.runs.Repeating.{Repeats, AreSent, BeginsSureRun, IsRunOf, IsNamed, Covers}
 use Rattle.ttx_witness.specs.runs.SureStarts.{Spread, sure_runs, sure_starts, spread_after, spread_of, above_zero, width}
 use Rattle.ttx_witness.specs.laws.RunLaws.{IsLeastLimit}
-use Rattle.ttx_witness.proofs.lemmas.Choices.{if_ind, no_both, abs_is}
+use Rattle.ttx_witness.proofs.lemmas.Choices.{no_both, abs_is}
 use Rattle.ttx_witness.proofs.lemmas.runs.ConfirmedStarts.{named_at, Matches, is_next_of, RisesFrom, NoneFor}
 use Rattle.ttx_witness.proofs.lemmas.runs.Coverage.{named_up, named_down, named_is, named_in, more_cover}
 use Rattle.ttx_witness.proofs.lemmas.runs.LeastLimits.{widest, in_step_widest}
@@ -23,12 +23,12 @@ AllSure qs = AllByRecursion (λ r. r.sure ≡ true) qs
 all_sure : (rs : List Run) → AllSure (sure_runs rs)
 unfolding sure_runs
 all_sure [] = tt
-all_sure (r ∷ rs) = if_ind AllSure r.sure (r ∷ sure_runs rs) (sure_runs rs) (λ e. (e, all_sure rs)) (λ e. all_sure rs)
+all_sure (r ∷ rs) = cond_both r.sure (r ∷ sure_runs rs) (sure_runs rs) AllSure (λ e. (e, all_sure rs)) (λ e. all_sure rs)
 
 all_of : (P : Run → Type 0) (rs : List Run) → AllByRecursion P rs → AllByRecursion P (sure_runs rs)
 unfolding sure_runs
 all_of P [] a = tt
-all_of P (r ∷ rs) a = if_ind (AllByRecursion P) r.sure (r ∷ sure_runs rs) (sure_runs rs) (λ e. (a.0, all_of P rs a.1)) (λ e. all_of P rs a.1)
+all_of P (r ∷ rs) a = cond_both r.sure (r ∷ sure_runs rs) (sure_runs rs) (AllByRecursion P) (λ e. (a.0, all_of P rs a.1)) (λ e. all_of P rs a.1)
 
 rises_more : (a b : ℤ) (rs : List Run) → a ≤ℤ b → RisesFrom b rs → RisesFrom a rs
 rises_more a b [] le u = tt
@@ -37,7 +37,7 @@ rises_more a b (r ∷ rs) le u = ((let k = u.0 in omega (arith, ints)), u.1)
 rises_sure : (low : ℤ) (rs : List Run) → RisesFrom low rs → RisesFrom low (sure_runs rs)
 unfolding sure_runs
 rises_sure low [] u = tt
-rises_sure low (r ∷ rs) u = if_ind (RisesFrom low) r.sure (r ∷ sure_runs rs) (sure_runs rs) (λ e. (u.0, rises_sure (r.start +ℤ pos 1) rs u.1))
+rises_sure low (r ∷ rs) u = cond_both r.sure (r ∷ sure_runs rs) (sure_runs rs) (RisesFrom low) (λ e. (u.0, rises_sure (r.start +ℤ pos 1) rs u.1))
     (λ e. rises_more low (r.start +ℤ pos 1) (sure_runs rs) (let k = u.0 in omega (arith, ints)) (rises_sure (r.start +ℤ pos 1) rs u.1))
 
 abbrev starts_of : List Run → List ℕ
@@ -79,7 +79,7 @@ found_or x low [] z u = inr tt
 found_or x low (r ∷ rs) z u =
     let rest = found_or x (r.start +ℤ pos 1) rs (let k = u.0 in omega (arith, ints)) u.1 in
     let e = abs_is r.start (let k = u.0 in omega (arith, ints)) in
-    if_ind (λ qs. ((i : ℕ) × (i < length (starts_of qs)) × (slice_index_or (starts_of qs) i 0 ≡ x)) ⊎ NoneFor (pos x) (r ∷ rs)) r.sure (r ∷ sure_runs rs) (sure_runs rs)
+    cond_both r.sure (r ∷ sure_runs rs) (sure_runs rs) (λ qs. ((i : ℕ) × (i < length (starts_of qs)) × (slice_index_or (starts_of qs) i 0 ≡ x)) ⊎ NoneFor (pos x) (r ∷ rs))
     (λ sure. elim (cases_lt (unsigned_abs r.start) x) as (λ _. ((i : ℕ) × (i < length (starts_of (r ∷ sure_runs rs))) × (slice_index_or (starts_of (r ∷ sure_runs rs)) i 0 ≡ x)) ⊎ NoneFor (pos x) (r ∷ rs)) [
       | inl lt ↦ elim rest as (λ _. ((i : ℕ) × (i < length (starts_of (r ∷ sure_runs rs))) × (slice_index_or (starts_of (r ∷ sure_runs rs)) i 0 ≡ x)) ⊎ NoneFor (pos x) (r ∷ rs)) [
         | inl f ↦ inl (suc f.0, (let k = f.1 in omega arith), f.2)
@@ -103,9 +103,9 @@ spread_sure : (s : Option Spread) (rs : List Run) → spread_of s rs ≡ spread_
 unfolding spread_of sure_runs
 spread_sure s [] = refl
 spread_sure s (r ∷ rs) = elim (cases_Bool r.sure) as (λ _. spread_of s (r ∷ rs) ≡ spread_of s (sure_runs (r ∷ rs))) [
-  | inl e ↦ spread_sure (spread_after s r) rs ∙ if_ind (λ qs. spread_of (spread_after s r) (sure_runs rs) ≡ spread_of s qs) r.sure (r ∷ sure_runs rs) (sure_runs rs) (λ _. refl) (λ f. absurd (no_both _ e f))
-  | inr e ↦ ap (λ x. spread_of x rs) (if_ind (λ x. x ≡ s) r.sure _ s (λ f. absurd (no_both _ f e)) (λ _. refl)) ∙ spread_sure s rs
-      ∙ if_ind (λ qs. spread_of s (sure_runs rs) ≡ spread_of s qs) r.sure (r ∷ sure_runs rs) (sure_runs rs) (λ f. absurd (no_both _ f e)) (λ _. refl)
+  | inl e ↦ spread_sure (spread_after s r) rs ∙ cond_both r.sure (r ∷ sure_runs rs) (sure_runs rs) (λ qs. spread_of (spread_after s r) (sure_runs rs) ≡ spread_of s qs) (λ _. refl) (λ f. absurd (no_both _ e f))
+  | inr e ↦ ap (λ x. spread_of x rs) (cond_both r.sure _ s (λ x. x ≡ s) (λ f. absurd (no_both _ f e)) (λ _. refl)) ∙ spread_sure s rs
+      ∙ cond_both r.sure (r ∷ sure_runs rs) (sure_runs rs) (λ qs. spread_of s (sure_runs rs) ≡ spread_of s qs) (λ f. absurd (no_both _ f e)) (λ _. refl)
 ]
 
 -- the greatest distance, once the run after the last is looked at
@@ -125,7 +125,7 @@ closes s r [] z a e = record {
 }
 closes s r (q ∷ qs) z a e =
     let s' : Spread = record { first_end = s.first_end; previous = q.owner; widest = max s.widest (above_zero (q.end -ℤ s.previous)) } in
-    let after : spread_after (Some s) q ≡ Some s' = if_ind (λ x. x ≡ Some s') q.sure (Some s') (Some s) (λ _. refl) (λ f. absurd (no_both _ a.0 f)) in
+    let after : spread_after (Some s) q ≡ Some s' = cond_both q.sure (Some s') (Some s) (λ x. x ≡ Some s') (λ _. refl) (λ f. absurd (no_both _ a.0 f)) in
     let i = closes s' q qs z a.1 refl in
     record {
       spread = i.spread;
@@ -138,7 +138,7 @@ pub found_closed : (g : Run) (qs : List Run) (z : Run) → AllSure (g ∷ qs) �
 unfolding spread_of
 found_closed g qs z a =
     let s : Spread = record { first_end = g.end; previous = g.owner; widest = 0 } in
-    let after : spread_after None g ≡ Some s = if_ind (λ x. x ≡ Some s) g.sure (Some s) None (λ _. refl) (λ f. absurd (no_both _ a.0 f)) in
+    let after : spread_after None g ≡ Some s = cond_both g.sure (Some s) None (λ x. x ≡ Some s) (λ _. refl) (λ f. absurd (no_both _ a.0 f)) in
     let i = closes s g qs z a.1 refl in
     record { spread = i.spread; is = ap (λ x. spread_of x qs) after ∙ i.is; first_is = i.first_is; width_is = i.width_is ∙ omega arith }
 

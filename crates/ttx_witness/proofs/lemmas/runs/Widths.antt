@@ -3,6 +3,7 @@ use Rattle.std.proofs.Common.{◌≡◌, ℕ, zero, suc, ◌+◌, ◌-◌, ◌*�
 use Rattle.std.proofs.Common.{Option, Some, None, refl, sym, subst, arith}
 use Rattle.std.proofs.lemmas.Int.{ints}
 use Rattle.std.specs.List.{AllByRecursion}
+use Rattle.std.proofs.lemmas.Bool.{cond_both}
 use Rattle.ttx_witness.specs.runs.Transmissions.{Transmission, Run, run_of, last_slot, windows, later, further, extended, runs}
 use Rattle.ttx_witness.specs.runs.SureStarts.{Spread, widened, spread_after, spread_of, above_zero, width}
 use Rattle.ttx_witness.specs.runs.Tracks.{IsWithin}
@@ -10,7 +11,6 @@ use Rattle.ttx_page.specs.Streams.{run_length}
 use Rattle.ttx_page.specs.declared.item.Item.{Item}
 use Rattle.ttx_page.specs.declared.item.Item.TheVariants.{Head as TheHead, Row as TheRow, Links as TheLinks}
 use Rattle.ttx_witness.specs.finding.Finding.{limit_of}
-use Rattle.ttx_witness.proofs.lemmas.Choices.{if_ind}
 use Rattle.ttx_witness.proofs.lemmas.runs.AfterThePeriod.{within_more, turn_within}
 
 all_append : {A : Type 0} (P : A → Type 0) (xs ys : List A) → AllByRecursion P xs → AllByRecursion P ys → AllByRecursion P (xs ++ ys)
@@ -43,7 +43,7 @@ last_within c (suc k) z (t ∷ ts) le w = last_within c k t.slot ts w.0.slot_hig
 runs_within : (c k : ℕ) (ts : List Transmission) → AllByRecursion (IsWithin c) ts → AllByRecursion (IsRunWithin c) (map run_of (windows (suc k) ts))
 unfolding windows
 runs_within c k [] w = tt
-runs_within c k (t ∷ ts) w = if_ind (λ ws. AllByRecursion (IsRunWithin c) (map run_of ws)) (nat_le (suc k) (suc (length ts))) (take (suc k) (t ∷ ts) ∷ windows (suc k) ts) []
+runs_within c k (t ∷ ts) w = cond_both (nat_le (suc k) (suc (length ts))) (take (suc k) (t ∷ ts) ∷ windows (suc k) ts) [] (λ ws. AllByRecursion (IsRunWithin c) (map run_of ws))
     (λ _. (record { owner_low = w.0.owner_low; end_high = last_within c k t.slot ts w.0.slot_high w.1 }, runs_within c k ts w.1)) (λ _. tt)
 
 above_most : (z : ℤ) (w : ℕ) → z ≤ℤ pos w → above_zero z ≤ w
@@ -69,7 +69,7 @@ widened_within c (Some s) r w a =
 spread_within : (c : ℕ) (s : Option Spread) (rs : List Run) → Within c s → AllByRecursion (IsRunWithin c) rs → Within c (spread_of s rs)
 unfolding spread_of
 spread_within c s [] w a = w
-spread_within c s (r ∷ rs) w a = spread_within c (spread_after s r) rs (if_ind (Within c) r.sure (Some (widened s r)) s (λ _. widened_within c s r w a.0) (λ _. w)) a.1
+spread_within c s (r ∷ rs) w a = spread_within c (spread_after s r) rs (cond_both r.sure (Some (widened s r)) s (Within c) (λ _. widened_within c s r w a.0) (λ _. w)) a.1
 
 -- the least limit of the sure runs of at most 8 transmissions
 pub width_most : (n k : ℕ) (ts : List Transmission) (s : Spread) → n ≤ 65536 → k ≤ 7 → AllByRecursion (IsWithin 65536) ts → spread_of None (runs n k ts) ≡ Some s → width n s ≤ 655360

@@ -3,9 +3,8 @@ use Rattle.std.proofs.Common.{◌≡◌, ℕ, zero, suc, ◌+◌, ◌-◌, ◌<�
 use Rattle.std.proofs.Common.{inr, arith, nat_le, append_assoc, length-append}
 use Rattle.std.proofs.lemmas.List.{take-append-le}
 use Rattle.std.proofs.Math.Seq.{take-length}
-use Rattle.std.proofs.lemmas.Bool.{cases_lt}
+use Rattle.std.proofs.lemmas.Bool.{cases_lt, cond_both}
 use Rattle.std.proofs.lemmas.Bool.Decides.{nat_tests}
-use Rattle.ttx_witness.proofs.lemmas.Choices.{if_ind}
 use Rattle.ttx_witness.specs.runs.Transmissions.{Transmission, later, further, windows}
 
 pub head_same : {A : Type 0} {x y : A} {xs ys : List A} → x ∷ xs ≡ y ∷ ys → x ≡ y
@@ -51,11 +50,11 @@ further_few n k ts us le = let m : length (ts ++ us) ≡ length ts + length us =
 
 pub windows_yes : {A : Type 0} (k : ℕ) (t : A) (ts : List A) → k ≤ suc (length ts) → windows k (t ∷ ts) ≡ take k (t ∷ ts) ∷ windows k ts
 unfolding windows
-windows_yes k t ts le = if_ind (λ x. x ≡ take k (t ∷ ts) ∷ windows k ts) (nat_le k (suc (length ts))) _ _ (λ e. refl) (λ e. absurd (let h : k ≤ suc (length ts) = le in grind (arith, nat_tests)))
+windows_yes k t ts le = cond_both (nat_le k (suc (length ts))) _ _ (λ x. x ≡ take k (t ∷ ts) ∷ windows k ts) (λ e. refl) (λ e. absurd (let h : k ≤ suc (length ts) = le in grind (arith, nat_tests)))
 
 pub windows_no : {A : Type 0} (k : ℕ) (t : A) (ts : List A) → suc (length ts) < k → windows k (t ∷ ts) ≡ []
 unfolding windows
-windows_no k t ts lt = if_ind (λ x. x ≡ []) (nat_le k (suc (length ts))) _ _ (λ e. absurd (let h : suc (length ts) < k = lt in grind (arith, nat_tests))) (λ e. refl)
+windows_no k t ts lt = cond_both (nat_le k (suc (length ts))) _ _ (λ x. x ≡ []) (λ e. absurd (let h : suc (length ts) < k = lt in grind (arith, nat_tests))) (λ e. refl)
 
 pub windows_short : {A : Type 0} (k : ℕ) (ts : List A) → length ts < k → windows k ts ≡ []
 unfolding windows

@@ -3,6 +3,7 @@ use Rattle.std.proofs.Common.{◌≡◌, ℕ, zero, suc, ◌≤◌, ℤ, pos, ne
 use Rattle.std.proofs.Common.{Some, None, refl, sym, ap, ◌∙◌, subst, arith}
 use Rattle.std.specs.List.{AllByRecursion}
 use Rattle.std.proofs.lemmas.Int.{ints}
+use Rattle.std.proofs.lemmas.Bool.{cond_both}
 use Rattle.ttx_header.specs.Ids.{Id}
 use Rattle.ttx_page.specs.Packets.{Packet, packet_of}
 use Rattle.ttx_page.specs.declared.item.Item.{Item}
@@ -14,7 +15,6 @@ use Rattle.ttx_witness.specs.runs.Repeating.{AreSent}
 use Rattle.ttx_witness.specs.sent.ItemTransmissions.{PageOwner, tainted_by, owner_after, owner_scan, owner_moved, sent_under, sent_at, sent_scan}
 use Rattle.ttx_witness.specs.sent.ItemTransmissions.{sent_after, entry_owner}
 use Rattle.ttx_witness.specs.laws.JudgingLaws.{FirstPeriodIsListed}
-use Rattle.ttx_witness.proofs.lemmas.Choices.{if_ind}
 use Rattle.ttx_witness.proofs.lemmas.runs.AllBetween.{lists_low, lists_high, lists_rise}
 use Rattle.ttx_witness.proofs.lemmas.sent.CycleTransmissions.{period_of}
 use Rattle.ttx_witness.proofs.lemmas.sent.StreamOwners as O
@@ -33,7 +33,7 @@ unfolding owner_scan
 scan_between page s entry low le h zero = h
 scan_between page s entry low le h (suc n) =
     let e : pos n +ℤ pos 1 ≡ pos (suc n) = omega (arith, ints) in
-    if_ind (IsBetween low (pos (suc n))) (heads page.mag (packet_of (s (pos n)))) _ _ (λ _. (omega (arith, ints), omega (arith, ints)))
+    cond_both (heads page.mag (packet_of (s (pos n)))) _ _ (IsBetween low (pos (suc n))) (λ _. (omega (arith, ints), omega (arith, ints)))
     (λ _. subst (λ z. IsBetween low z (tainted_by (ends_serial page.mag (packet_of (s (pos n)))) (owner_scan page s entry n))) e
     (higher low (pos n) (ends_serial page.mag (packet_of (s (pos n)))) (owner_scan page s entry n) (scan_between page s entry low le h n)))
 
@@ -51,14 +51,14 @@ under_within : (lines n : ℕ) → n ≤ 65536 → (low : ℤ) → pos 0 ≤ℤ 
 under_within lines n few low le None h = tt
 under_within lines n few low le (Some o) h =
     let a = h.0 in let b = h.1 in
-    if_ind Within o.mine _ _ (λ _. (record { slot_low = omega (arith, ints); slot_high = omega (arith, ints); owner_low = omega (arith, ints); owner_high = omega (arith, ints) }, tt)) (λ _. tt)
+    cond_both o.mine _ _ Within (λ _. (record { slot_low = omega (arith, ints); slot_high = omega (arith, ints); owner_low = omega (arith, ints); owner_high = omega (arith, ints) }, tt)) (λ _. tt)
 
 at_within : (page : Id) (lines : ℕ) (item : Item) (n : ℕ) → n ≤ 65536 → (low : ℤ) → pos 0 ≤ℤ (low +ℤ pos 65536) → (p : Packet) (o : Option PageOwner) → IsBetween low (pos n) o →
     Within (sent_at page lines item (pos n) p o)
 at_within page lines TheHead n few low le p o h =
-    if_ind Within (heads_page page p) _ _ (λ _. (record { slot_low = omega (arith, ints); slot_high = omega (arith, ints); owner_low = omega (arith, ints); owner_high = omega (arith, ints) }, tt)) (λ _. tt)
-at_within page lines (TheRow r) n few low le p o h = if_ind Within (carries page.mag (TheRow r) p) _ _ (λ _. under_within lines n few low le o h) (λ _. tt)
-at_within page lines TheLinks n few low le p o h = if_ind Within (carries page.mag TheLinks p) _ _ (λ _. under_within lines n few low le o h) (λ _. tt)
+    cond_both (heads_page page p) _ _ Within (λ _. (record { slot_low = omega (arith, ints); slot_high = omega (arith, ints); owner_low = omega (arith, ints); owner_high = omega (arith, ints) }, tt)) (λ _. tt)
+at_within page lines (TheRow r) n few low le p o h = cond_both (carries page.mag (TheRow r) p) _ _ Within (λ _. under_within lines n few low le o h) (λ _. tt)
+at_within page lines TheLinks n few low le p o h = cond_both (carries page.mag TheLinks p) _ _ Within (λ _. under_within lines n few low le o h) (λ _. tt)
 
 both_within : (ts us : List Transmission) → Within ts → Within us → Within (ts ++ us)
 both_within [] us a b = b

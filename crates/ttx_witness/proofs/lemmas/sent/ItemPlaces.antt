@@ -1,7 +1,7 @@
 -- What a slot sends, by the places of the items of pages.
 use Rattle.std.proofs.Common.{◌≡◌, ℕ, nat_lt, Option, None, ap, ◌+◌, ◌*◌, ◌<◌, Bool, true, false, ◌&&◌, ◌==◌, if◌then◌else◌, List, [], ◌∷◌, ◌++◌}
 use Rattle.std.proofs.Common.{Some, refl, sym, ◌∙◌, inl, inr, arith, eqb-true, eq-eqb}
-use Rattle.std.proofs.lemmas.Bool.{cases_lt, cases_Bool}
+use Rattle.std.proofs.lemmas.Bool.{cases_lt, cases_Bool, and_parts}
 use Rattle.std.proofs.lemmas.Bool.Decides.{nat_tests}
 use Rattle.std.proofs.lemmas.List.{append-nil}
 use Rattle.ttx_page.specs.declared.item.Item.{Item}
@@ -10,7 +10,7 @@ use Rattle.ttx_witness.specs.sent.Collected.{IsItem, item_number, place_of_item}
 use Rattle.ttx_witness.specs.sent.OneSlot.{sent_of, sends_place, placed_at}
 use Rattle.ttx_witness.specs.declared.runs.transmissions.Transmission.{Transmission}
 use Rattle.ttx_witness.specs.declared.sent.one_slot.Sent.{Sent}
-use Rattle.ttx_witness.proofs.lemmas.Choices.{and_right, no_both, and_left}
+use Rattle.ttx_witness.proofs.lemmas.Choices.{no_both}
 
 pub item_small : (item : Item) → IsItem item → item_number item < 26
 item_small TheHead is = omega arith
@@ -34,10 +34,10 @@ same_place i page number item is lt = bool_same _ _
     (λ e. elim (cases_Bool (item_number item == number)) as (λ _. (place_of_item i item == 26 * page + number) ≡ true) [
       | inl p ↦
           let a : item_number item ≡ number = eqb-true _ _ p in
-          let b : page ≡ i = eqb-true _ _ (and_right (item_number item == number) (page == i) e) in
+          let b : page ≡ i = eqb-true _ _ ((and_parts (item_number item == number) (page == i) e).1) in
           let r : place_of_item i item ≡ 26 * page + number = omega arith in
           eq-eqb _ _ r
-      | inr p ↦ absurd (no_both _ (and_left (item_number item == number) (page == i) e) p)
+      | inr p ↦ absurd (no_both _ ((and_parts (item_number item == number) (page == i) e).0) p)
     ])
 
 -- a slot, by page and number
@@ -62,7 +62,7 @@ placed_item i item is (Some s) = elim (cases_lt s.number 26) as (λ _. placed_at
 -- two places of one slot
 pub one_place : (m n : ℕ) (sent : Option Sent) → sends_place m sent ≡ true → sends_place n sent ≡ true → m ≡ n
 one_place m n None e f = cc
-one_place m n (Some s) e f = eqb-true _ _ (and_right (nat_lt s.number 26) _ e) ∙ sym (eqb-true _ _ (and_right (nat_lt s.number 26) _ f))
+one_place m n (Some s) e f = eqb-true _ _ ((and_parts (nat_lt s.number 26) _ e).1) ∙ sym (eqb-true _ _ ((and_parts (nat_lt s.number 26) _ f).1))
 
 -- a list that grows by what is sent, where this is the item of its place
 pub placed_added : (place n : ℕ) (s : Sent) (ts : List Transmission) → sends_place place (Some s) ≡ true → (if n == place then ts ++ s.transmission ∷ [] else ts) ≡ ts ++ placed_at n (Some s)

@@ -2,9 +2,10 @@
 use Rattle.std.proofs.Common.{◌≡◌, ℕ, zero, suc, ◌<◌, ◌==◌, if◌then◌else◌, List, [], ◌∷◌, ◌++◌, map, length, get_or, set, Vec, Global, refl, sym, ap}
 use Rattle.std.proofs.Common.{◌∙◌, arith, eqb-true, eq-eqb, get_or-set_same, get_or-set_other}
 use Rattle.std.proofs.lemmas.List.{length-map, map-set}
+use Rattle.std.proofs.lemmas.Bool.{cond_both}
 use Rattle.ttx_witness.specs.runs.Transmissions.{Transmission}
 use Rattle.ttx_witness.specs.sent.Collected.{held}
-use Rattle.ttx_witness.proofs.lemmas.Choices.{if_ind, no_both}
+use Rattle.ttx_witness.proofs.lemmas.Choices.{no_both}
 
 abbrev Lists : Type 0
 Lists = List (Vec Transmission Global)
@@ -17,7 +18,7 @@ held_is (x ∷ vs) (suc n) d lt = held_is vs n d (omega arith)
 -- one list is changed
 pub held_set : (vs : Lists) (at : ℕ) (v d : Vec Transmission Global) (more : List Transmission) → at < length vs → v.items ≡ (get_or vs at d).items ++ more → (n : ℕ) →
     held (set vs at v) n ≡ (if n == at then held vs n ++ more else held vs n)
-held_set vs at v d more lt e n = if_ind (λ x. held (set vs at v) n ≡ x) (n == at) _ _
+held_set vs at v d more lt e n = cond_both (n == at) _ _ (λ x. held (set vs at v) n ≡ x)
     (λ q. let p : n ≡ at = eqb-true n at q in
     ap (λ y. get_or y n []) (map-set (λ x. x.items) vs at v) ∙ ap (λ y. get_or (set (map (λ x. x.items) vs) at v.items) y []) p
     ∙ get_or-set_same (map (λ x. x.items) vs) at v.items [] (let l = length-map vs (λ x. x.items) in omega arith)

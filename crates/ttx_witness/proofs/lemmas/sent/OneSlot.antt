@@ -1,7 +1,7 @@
 -- What one slot sends of the items of pages.
 use Rattle.std.proofs.Common.{◌≡◌, ℕ, ◌-◌, ◌≤◌, ℤ, Bool, true, false, ◌&&◌, ◌==◌, if◌then◌else◌, Bor, List, [], ◌∷◌, ◌++◌, get_or, slice_get, Option}
 use Rattle.std.proofs.Common.{Some, None, refl, sym, ap, ◌∙◌, subst, inl, inr, arith, eqb-true, eq-eqb}
-use Rattle.std.proofs.lemmas.Bool.{cases_Bool}
+use Rattle.std.proofs.lemmas.Bool.{cases_Bool, cond_both}
 use Rattle.std.proofs.lemmas.List.{append-nil}
 use Rattle.ttx_packet.specs.Slots.{Kind, IsEmpty, IsUnreadable, IsHeader, IsRow, IsLinks, IsInfo, IsOther, kind_of}
 use Rattle.ttx_packet.specs.Lent.{ShowsAs}
@@ -19,7 +19,7 @@ use Rattle.ttx_witness.specs.runs.Transmissions.{Transmission}
 use Rattle.ttx_witness.specs.sent.ItemTransmissions.{PageOwner, sent_under, sent_at}
 use Rattle.ttx_witness.specs.sent.Collected.{is_page, seen_by, Finds, owner_for, IsForeign, AreApart, IsItem, item_number}
 use Rattle.ttx_witness.specs.declared.sent.owners.Owner.{Owner}
-use Rattle.ttx_witness.proofs.lemmas.Choices.{if_ind, no_both, if_true, if_false}
+use Rattle.ttx_witness.proofs.lemmas.Choices.{no_both, if_true, if_false}
 use Rattle.ttx_witness.proofs.lemmas.sent.OwnersAfterSlot.{packet_is}
 
 not_equal : (a b : ℕ) → (a ≡ b → ⊥) → (a == b) ≡ false
@@ -32,7 +32,7 @@ foreign lines i j (Some o) f = if_false (is_page i o.page) _ _ f
 module _ (ids : List Id) (lines : ℕ) (j : ℤ) (owners : List (Option Owner)) (apart : AreApart ids owners) (mag : ℕ) (from : 1 ≤ mag) (to : mag ≤ 8) (i : ℕ) (id : Id) (at : slice_get ids i ≡ Some id) where
   -- under the owner of its magazine
   under : sent_under lines j (seen_by i (get_or owners (mag - 1) None)) ≡ (if mag == id.mag then sent_under lines j (owner_for owners i id) else [])
-  under = if_ind (λ x. sent_under lines j (seen_by i (get_or owners (mag - 1) None)) ≡ x) (mag == id.mag) _ _
+  under = cond_both (mag == id.mag) _ _ (λ x. sent_under lines j (seen_by i (get_or owners (mag - 1) None)) ≡ x)
       (λ e. ap (λ m. sent_under lines j (seen_by i (get_or owners (m - 1) None))) (eqb-true mag id.mag e))
       (λ e. foreign lines i j (get_or owners (mag - 1) None) (apart (mag - 1) i id (omega arith) at (λ q. no_both _ (eq-eqb mag id.mag (let k : mag ≡ id.mag = omega arith in k)) e)))
 

@@ -1,7 +1,7 @@
 -- What one slot makes of the owners of the magazines, and of the lists of transmissions.
 use Rattle.std.proofs.Common.{◌≡◌, ℕ, ◌-◌, ◌<◌, ◌≤◌, ℤ, Bool, true, false, not, ◌&&◌, ◌||◌, ◌==◌, if◌then◌else◌, List, get_or, slice_get, Option}
 use Rattle.std.proofs.Common.{Some, None, refl, sym, ap, ◌∙◌, subst, inl, inr, arith, eqb-true, eq-eqb}
-use Rattle.std.proofs.lemmas.Bool.{cases_Bool}
+use Rattle.std.proofs.lemmas.Bool.{cases_Bool, and_parts, cond_both}
 use Rattle.ttx_packet.specs.Slots.{Kind, IsEmpty, IsUnreadable, IsHeader, IsRow, IsLinks, IsInfo, IsOther, kind_of}
 use Rattle.ttx_header.specs.Control.{c11}
 use Rattle.ttx_header.specs.Headers.{id_of, control_of}
@@ -10,7 +10,7 @@ use Rattle.ttx_page.specs.Packets.{packet_of, packet_of_kind}
 use Rattle.ttx_witness.specs.sent.ItemTransmissions.{PageOwner, tainted_by, owner_after}
 use Rattle.ttx_witness.specs.sent.Collected.{taint, seen_by, Finds, owner_for, IsForeign, AreApart}
 use Rattle.ttx_witness.specs.declared.sent.owners.Owner.{Owner}
-use Rattle.ttx_witness.proofs.lemmas.Choices.{if_ind, no_both, and_left}
+use Rattle.ttx_witness.proofs.lemmas.Choices.{no_both}
 
 pub packet_is : (slot : List ℕ) (k : Kind) → kind_of slot ≡ k → packet_of slot ≡ packet_of_kind slot k
 unfolding packet_of
@@ -64,10 +64,10 @@ module _ (slot : List ℕ) (mag : ℕ) (kind : kind_of slot ≡ IsHeader mag) (s
     (noted : (m : ℕ) → m < 8 → get_or new m None ≡ (if m == mag - 1 then Some (record { slot = j; page = page; tainted = false }) else taint (c11 (control_of slot)) (get_or old m None)))
     (ids : List Id) (finds : Finds ids (id_of slot) page) where
   new_here : (m : ℕ) → m < 8 → m ≡ mag - 1 → get_or new m None ≡ Some (record { slot = j; page = page; tainted = false })
-  new_here m lt e = noted m lt ∙ if_ind (λ x. x ≡ Some (record { slot = j; page = page; tainted = false })) (m == mag - 1) _ _ (λ _. refl) (λ f. absurd (no_both _ (eq-eqb m (mag - 1) e) f))
+  new_here m lt e = noted m lt ∙ cond_both (m == mag - 1) _ _ (λ x. x ≡ Some (record { slot = j; page = page; tainted = false })) (λ _. refl) (λ f. absurd (no_both _ (eq-eqb m (mag - 1) e) f))
 
   new_other : (m : ℕ) → m < 8 → (m ≡ mag - 1 → ⊥) → get_or new m None ≡ taint (c11 (control_of slot)) (get_or old m None)
-  new_other m lt d = noted m lt ∙ if_ind (λ x. x ≡ taint (c11 (control_of slot)) (get_or old m None)) (m == mag - 1) _ _ (λ e. absurd (d (eqb-true m (mag - 1) e))) (λ _. refl)
+  new_other m lt d = noted m lt ∙ cond_both (m == mag - 1) _ _ (λ x. x ≡ taint (c11 (control_of slot)) (get_or old m None)) (λ e. absurd (d (eqb-true m (mag - 1) e))) (λ _. refl)
 
   pub owner_comes : (i : ℕ) (id : Id) → slice_get ids i ≡ Some id → IsId id → owner_for new i id ≡ owner_after id j (packet_of slot) (owner_for old i id)
   owner_comes i id at is = rw (packet_is slot (IsHeader mag) kind) (elim (cases_Bool ((id_of slot).mag == id.mag)) as (λ _. owner_for new i id ≡ owner_after id j (packet_of_kind slot (IsHeader mag)) (owner_for old i id)) [
@@ -75,13 +75,13 @@ module _ (slot : List ℕ) (mag : ℕ) (kind : kind_of slot ≡ IsHeader mag) (s
         let q : (id_of slot).mag ≡ id.mag = eqb-true (id_of slot).mag id.mag e in
         let h = is.mag_from in let g = is.mag_to in
         ap (seen_by i) (new_here (id.mag - 1) (omega arith) (omega arith)) ∙ ap (λ b. Some (record { slot = j; mine = b; tainted = false })) (finds i id at)
-        ∙ if_ind (λ x. Some (record { slot = j; mine = same_id id (id_of slot); tainted = false }) ≡ x) ((id_of slot).mag == id.mag) _ _ (λ _. refl) (λ f. absurd (no_both _ e f))
+        ∙ cond_both ((id_of slot).mag == id.mag) _ _ (λ x. Some (record { slot = j; mine = same_id id (id_of slot); tainted = false }) ≡ x) (λ _. refl) (λ f. absurd (no_both _ e f))
     | inr e ↦
         let h = is.mag_from in let g = is.mag_to in
         let d : (id.mag - 1 ≡ mag - 1 → ⊥) = λ p. no_both _ (eq-eqb (id_of slot).mag id.mag (omega arith)) e in
         ap (seen_by i) (new_other (id.mag - 1) (omega arith) d) ∙ seen_taint i (c11 (control_of slot)) (get_or old (id.mag - 1) None)
         ∙ ap (λ b. tainted_by (not b && c11 (control_of slot)) (owner_for old i id)) (sym e)
-        ∙ if_ind (λ x. tainted_by (not ((id_of slot).mag == id.mag) && c11 (control_of slot)) (owner_for old i id) ≡ x) ((id_of slot).mag == id.mag) _ _ (λ f. absurd (no_both _ f e)) (λ _. refl)
+        ∙ cond_both ((id_of slot).mag == id.mag) _ _ (λ x. tainted_by (not ((id_of slot).mag == id.mag) && c11 (control_of slot)) (owner_for old i id) ≡ x) (λ f. absurd (no_both _ f e)) (λ _. refl)
   ])
 
   foreign_taint : (i : ℕ) (b : Bool) (o : Option Owner) → IsForeign i o → IsForeign i (taint b o)
@@ -89,7 +89,7 @@ module _ (slot : List ℕ) (mag : ℕ) (kind : kind_of slot ≡ IsHeader mag) (s
   foreign_taint i b (Some o) f = f
 
   other_mag : (a b : Id) → (a.mag ≡ b.mag → ⊥) → same_id a b ≡ false
-  other_mag a b d = elim (cases_Bool (same_id a b)) as (λ _. same_id a b ≡ false) [ inl e ↦ absurd (d (eqb-true a.mag b.mag (and_left _ _ (and_left _ _ e)))) | inr e ↦ e ]
+  other_mag a b d = elim (cases_Bool (same_id a b)) as (λ _. same_id a b ≡ false) [ inl e ↦ absurd (d (eqb-true a.mag b.mag ((and_parts _ _ (and_parts _ _ e).0).0))) | inr e ↦ e ]
 
   pub apart_comes : AreApart ids old → AreApart ids new
   apart_comes a m i id lt at d = elim (cases_Bool (m == mag - 1)) as (λ _. IsForeign i (get_or new m None)) [

@@ -4,14 +4,14 @@ use Rattle.std.proofs.Common.{subst}
 use Rattle.ttx_packet.specs.Slots.{IsSlot, Kind, IsEmpty, IsUnreadable, IsHeader, IsRow, IsLinks, IsInfo, IsOther, kind_of}
 use Rattle.ttx_header.specs.Ids.{Id}
 use Rattle.ttx_header.specs.Fields.{HeaderFields}
-use Rattle.ttx_header.specs.Headers.{id_of, fields_of, is_header}
+use Rattle.ttx_header.specs.Headers.{id_of, header_fields_of, is_header}
 use Rattle.ttx_page.specs.Packets.{Packet, Empty, Unreadable, Header, Row, Links, Info, Other, packet_of, packet_of_kind}
 use Rattle.ttx_page.specs.declared.item.Item.TheVariants.{Row as TheRow, Links as TheLinks}
 use Rattle.ttx_page.specs.Streams.{heads_page, carries}
 use Rattle.ttx_code.specs.Words.{odd_byte}
 use Rattle.ttx_page.specs.Pages.{Page, page_row}
 use Rattle.ttx_page.specs.Steady.{erases_page, RowIsRight}
-use Rattle.ttx_witness.specs.faults.Comparing.{HoldsHeader, HoldsNoHeader, HoldsNoRow, HoldsNoLinks, mine_after, is_other_subpage}
+use Rattle.ttx_witness.specs.faults.Comparing.{HoldsHeader, HoldsNoHeader, HoldsNoRow, HoldsNoLinks, mine_after, heads_other_subpage}
 use Rattle.ttx_header.specs.Laws.{HeadersHaveFields, HeadersAreHeaders}
 use Rattle.ttx_witness.proofs.lemmas.sent.OwnersAfterSlot.{packet_is, IsNoHeader, no_header}
 
@@ -37,7 +37,7 @@ no_page page (Links mag content) n = refl
 no_page page Info n = refl
 no_page page Other n = refl
 
-pub no_subpage : (page : Id) (packet : Packet) → HoldsNoHeader packet → is_other_subpage page packet ≡ false
+pub no_subpage : (page : Id) (packet : Packet) → HoldsNoHeader packet → heads_other_subpage page packet ≡ false
 no_subpage page Empty n = refl
 no_subpage page Unreadable n = refl
 no_subpage page (Header id control text) n = absurd n
@@ -84,7 +84,7 @@ no_links mag Info n = refl
 no_links mag Other n = refl
 
 -- what is read of a header is what its packet says
-pub header_told : (slot : List ℕ) → IsSlot slot → HeadersHaveFields → HeadersAreHeaders → (o : Option HeaderFields) → SomeIff o (is_header slot ≡ true) (fields_of slot) →
+pub header_told : (slot : List ℕ) → IsSlot slot → HeadersHaveFields → HeadersAreHeaders → (o : Option HeaderFields) → SomeIff o (is_header slot ≡ true) (header_fields_of slot) →
     MatchOption o (HoldsNoHeader (packet_of slot)) (λ h. HoldsHeader h (packet_of slot))
 header_told slot is fields headers None none = holds_none slot (kind_of slot) (no_header slot (λ mag e. none (fields slot mag is e).header)) refl
 header_told slot is fields headers (Some h) told =

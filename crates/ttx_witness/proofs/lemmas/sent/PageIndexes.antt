@@ -9,13 +9,13 @@ use Rattle.std.proofs.lemmas.Map.Made.{IsDistinct-from_AllPairs}
 use Rattle.std.proofs.lemmas.Map.Steps.{length-le_from_distinct_below}
 use Rattle.std.proofs.lemmas.Bool.Decides.{Decides-eqb}
 use Rattle.std.proofs.Math.Dec.{eqb}
-use Rattle.std.proofs.lemmas.Bool.{cases_lt, cases_Bool}
+use Rattle.std.proofs.lemmas.Bool.{cases_lt, cases_Bool, and_from, and_parts, cond_both}
 use Rattle.ttx_header.specs.Ids.{Id, IsId, same_id}
 use Rattle.ttx_page.specs.declared.page.Page.{Page as PageValue}
 use Rattle.ttx_page.specs.Pages.{Page, IsPage}
 use Rattle.ttx_page.specs.Views.{page_of}
 use Rattle.ttx_witness.specs.sent.Collected.{ids_of, is_page, Finds, key_of}
-use Rattle.ttx_witness.proofs.lemmas.Choices.{if_ind, no_both, and_left, and_right, and_both}
+use Rattle.ttx_witness.proofs.lemmas.Choices.{no_both}
 
 id_same : (a b : Id) → a.mag ≡ b.mag → a.page ≡ b.page → a.sub ≡ b.sub → a ≡ b
 id_same a b m p s = λ i. record { mag = m i; page = p i; sub = s i }
@@ -27,11 +27,11 @@ key_one a b ia ib e =
 
 pub same_one : (a b : Id) → same_id a b ≡ true → a ≡ b
 same_one a b e =
-    let l = and_left _ _ e in
-    id_same a b (eqb-true _ _ (and_left _ _ l)) (eqb-true _ _ (and_right (a.mag == b.mag) _ l)) (eqb-true _ _ (and_right ((a.mag == b.mag) && (a.page == b.page)) _ e))
+    let l = (and_parts _ _ e).0 in
+    id_same a b (eqb-true _ _ ((and_parts _ _ l).0)) (eqb-true _ _ ((and_parts (a.mag == b.mag) _ l).1)) (eqb-true _ _ ((and_parts ((a.mag == b.mag) && (a.page == b.page)) _ e).1))
 
 pub same_self : (a : Id) → same_id a a ≡ true
-same_self a = and_both _ _ (and_both _ _ (eq-eqb a.mag a.mag refl) (eq-eqb a.page a.page refl)) (eq-eqb a.sub a.sub refl)
+same_self a = and_from _ _ (and_from _ _ (eq-eqb a.mag a.mag refl) (eq-eqb a.page a.page refl)) (eq-eqb a.sub a.sub refl)
 
 key_below : (id : Id) → IsId id → key_of id < 37748736
 key_below id is = let m = is.mag_to in let p = is.page in let s = is.sub.top in omega arith
@@ -84,23 +84,23 @@ module _ (ids : List Id) (are : (i : ℕ) (id : Id) → slice_get ids i ≡ Some
       ((q : ℕ) → new q ≡ (if key_of own == q then Some n else at q)) → IsIndexed ids n at → IsIndexed ids (n + 1) new
   one_indexed n own at new here put a = record {
     known = λ i other lt e. elim (cases_lt i n) as (λ _. new (key_of other) ≡ Some i) [
-      | inl low ↦ put (key_of other) ∙ if_ind (λ x. x ≡ Some i) (key_of own == key_of other) _ _
+      | inl low ↦ put (key_of other) ∙ cond_both (key_of own == key_of other) _ _ (λ x. x ≡ Some i)
           (λ q. absurd (places_differ i n other own low e here (sym (key_one own other (are n own here) (are i other e) (eqb-true _ _ q)))))
           (λ _. a.known i other low e)
       | inr high ↦
           let q : i ≡ n = omega arith in
           let s : other ≡ own = let e2 = subst (λ x. slice_get ids x ≡ Some other) q e in cc in
-          put (key_of other) ∙ if_ind (λ x. x ≡ Some i) (key_of own == key_of other) _ _
+          put (key_of other) ∙ cond_both (key_of own == key_of other) _ _ (λ x. x ≡ Some i)
           (λ _. ap Some (sym q)) (λ f. absurd (no_both _ (eq-eqb (key_of own) (key_of other) (ap key_of (sym s))) f))
     ];
     sound = λ key i other e f. elim (cases_Bool (key_of own == key)) as (λ _. key_of other ≡ key) [
       | inl q ↦
-          let h : new key ≡ Some n = put key ∙ if_ind (λ x. x ≡ Some n) (key_of own == key) _ _ (λ _. refl) (λ g. absurd (no_both _ q g)) in
+          let h : new key ≡ Some n = put key ∙ cond_both (key_of own == key) _ _ (λ x. x ≡ Some n) (λ _. refl) (λ g. absurd (no_both _ q g)) in
           let k : i ≡ n = cc in
           let s : other ≡ own = let e2 = subst (λ x. slice_get ids x ≡ Some other) k f in cc in
           ap key_of s ∙ eqb-true _ _ q
       | inr q ↦
-          let h : new key ≡ at key = put key ∙ if_ind (λ x. x ≡ at key) (key_of own == key) _ _ (λ g. absurd (no_both _ g q)) (λ _. refl) in
+          let h : new key ≡ at key = put key ∙ cond_both (key_of own == key) _ _ (λ x. x ≡ at key) (λ g. absurd (no_both _ g q)) (λ _. refl) in
           a.sound key i other (sym h ∙ e) f
     ];
   }

@@ -1,7 +1,7 @@
 -- Owners that are kept while slots pass are the stream's.
 use Rattle.std.proofs.Common.{◌≡◌, ◌⊎◌, ◌↔◌, ℕ, zero, suc, ◌≤◌, ℤ, pos, ◌+ℤ◌, ◌-ℤ◌, ◌<ℤ◌, ◌≤ℤ◌, Bool, true, false, not, ◌&&◌, ◌||◌, int_lt, List, []}
 use Rattle.std.proofs.Common.{◌∷◌, ◌++◌, Option, Some, None, refl, sym, ap, ◌∙◌, subst, inl, inr, arith}
-use Rattle.std.proofs.lemmas.Bool.{cases_Bool}
+use Rattle.std.proofs.lemmas.Bool.{cases_Bool, and_from, and_parts, cond_both}
 use Rattle.std.proofs.lemmas.Int.{ints}
 use Rattle.std.proofs.lemmas.List.{append-nil}
 use Rattle.ttx_header.specs.Ids.{Id}
@@ -9,7 +9,7 @@ use Rattle.ttx_page.specs.Packets.{packet_of}
 use Rattle.ttx_page.specs.declared.item.Item.{Item}
 use Rattle.ttx_page.specs.declared.item.Item.TheVariants.{Head as TheHead, Row as TheRow, Links as TheLinks}
 use Rattle.ttx_page.specs.Streams.{Stream, heads, heads_page, ends_serial, carries, IsLatestHeader, IsOwned, IsSure}
-use Rattle.ttx_witness.proofs.lemmas.Choices.{no_both, if_ind, or_false, and_left, and_right, and_both, not_true, not_false, cases_ltz}
+use Rattle.ttx_witness.proofs.lemmas.Choices.{no_both, or_false, not_true, not_false, cases_ltz}
 use Rattle.ttx_witness.specs.runs.Transmissions.{Transmission, slot_of}
 use Rattle.ttx_witness.specs.sent.ItemTransmissions.{PageOwner, tainted_by, owner_after, owner_scan, owner_moved, sent_under, sent_at, sent_scan}
 use Rattle.ttx_witness.specs.runs.Repeating.{AreSent, Tells, IsSentAt}
@@ -91,7 +91,7 @@ module _ (page : Id) (s : Stream) where
   }
 
   pub owner_step : (o : Option PageOwner) (j : ℤ) → IsOwnerAt o j → IsOwnerAt (owner_after page j (packet_of (s j)) o) (j +ℤ pos 1)
-  owner_step o j a = if_ind (λ x. IsOwnerAt x (j +ℤ pos 1)) (heads page.mag (packet_of (s j))) _ _ (λ e. owner_new j e) (λ e. owner_other o j e a)
+  owner_step o j a = cond_both (heads page.mag (packet_of (s j))) _ _ (λ x. IsOwnerAt x (j +ℤ pos 1)) (λ e. owner_new j e) (λ e. owner_other o j e a)
 
   -- what is known of a scan from any entry: a header has come and the owner is right, or none has and the slot is the entry's
   pub record IsNone (entry o : Option PageOwner) (j : ℕ) : Type 0 where
@@ -108,7 +108,7 @@ module _ (page : Id) (s : Stream) where
   scanned entry zero = inl (record { none = λ i a b. absurd (omega (arith, ints)); same = same_refl entry })
   scanned entry (suc j) =
       let e1 : pos j +ℤ pos 1 ≡ pos (suc j) = omega (arith, ints) in
-      if_ind (λ x. IsNone entry x (suc j) ⊎ IsSome x (suc j)) (heads page.mag (packet_of (s (pos j)))) _ _
+      cond_both (heads page.mag (packet_of (s (pos j)))) _ _ (λ x. IsNone entry x (suc j) ⊎ IsSome x (suc j))
       (λ e. inr (record { owner = record { slot = pos j; mine = heads_page page (packet_of (s (pos j))); tainted = false }; is = refl; right = subst (IsOwner _) e1 (owner_new (pos j) e) }))
       (λ e. elim (scanned entry j) as (λ _. IsNone entry (tainted_by (ends_serial page.mag (packet_of (s (pos j)))) (owner_scan page s entry j)) (suc j)
       ⊎ IsSome (tainted_by (ends_serial page.mag (packet_of (s (pos j)))) (owner_scan page s entry j)) (suc j)) [
@@ -168,8 +168,8 @@ module _ (page : Id) (s : Stream) where
   -- a sure transmission under an owner
   sure_under : (lines : ℕ) (o : PageOwner) (j : ℤ) → IsOwner o j → (int_lt (o.slot +ℤ pos lines) j && not o.tainted ≡ true) ↔ (((o.slot +ℤ pos lines) <ℤ j) × Untainted o.slot j)
   sure_under lines o j a = (
-    (λ e. ((int_lt_is _ _).0 (and_left _ _ e), a.untainted.0 (not_true _ (and_right _ _ e)))),
-    (λ b. and_both _ _ ((int_lt_is _ _).1 b.0) (not_false _ (a.untainted.1 b.1))),
+    (λ e. ((int_lt_is _ _).0 ((and_parts _ _ e).0), a.untainted.0 (not_true _ ((and_parts _ _ e).1)))),
+    (λ b. and_from _ _ ((int_lt_is _ _).1 b.0) (not_false _ (a.untainted.1 b.1))),
   )
 
   module _ (lines : ℕ) (item : Item) where
@@ -190,7 +190,7 @@ module _ (page : Id) (s : Stream) where
     under_row : (o : Option PageOwner) (j : ℤ) → carries page.mag (TheRow r) (packet_of (s j)) ≡ true → IsOwnerAt o j → Says lines (TheRow r) j (sent_under lines j o)
     unfolding Says
     under_row None j c a = λ t. let l = t.owned.0 in no_both _ l.is_header (a t.owner l.earlier)
-    under_row (Some o) j c a = if_ind (Says lines (TheRow r) j) o.mine (record { slot = j; owner = o.slot; sure = int_lt (o.slot +ℤ pos lines) j && not o.tainted } ∷ []) []
+    under_row (Some o) j c a = cond_both o.mine (record { slot = j; owner = o.slot; sure = int_lt (o.slot +ℤ pos lines) j && not o.tainted } ∷ []) [] (Says lines (TheRow r) j)
         (λ e. (refl, record { owned = (a.latest, sym a.mine ∙ e, c); sure = sure_under lines o j a }))
         (λ e t. no_both _ (subst (λ h. heads_page page (packet_of (s h)) ≡ true) (latest_same s page.mag t.owner o.slot j t.owned.0 a.latest) t.owned.1) (sym a.mine ∙ e))
 
@@ -198,18 +198,18 @@ module _ (page : Id) (s : Stream) where
     under_links : (o : Option PageOwner) (j : ℤ) → carries page.mag TheLinks (packet_of (s j)) ≡ true → IsOwnerAt o j → Says lines TheLinks j (sent_under lines j o)
     unfolding Says
     under_links None j c a = λ t. let l = t.owned.0 in no_both _ l.is_header (a t.owner l.earlier)
-    under_links (Some o) j c a = if_ind (Says lines TheLinks j) o.mine (record { slot = j; owner = o.slot; sure = int_lt (o.slot +ℤ pos lines) j && not o.tainted } ∷ []) []
+    under_links (Some o) j c a = cond_both o.mine (record { slot = j; owner = o.slot; sure = int_lt (o.slot +ℤ pos lines) j && not o.tainted } ∷ []) [] (Says lines TheLinks j)
         (λ e. (refl, record { owned = (a.latest, sym a.mine ∙ e, c); sure = sure_under lines o j a }))
         (λ e t. no_both _ (subst (λ h. heads_page page (packet_of (s h)) ≡ true) (latest_same s page.mag t.owner o.slot j t.owned.0 a.latest) t.owned.1) (sym a.mine ∙ e))
 
     pub says : (item : Item) (o : Option PageOwner) (j : ℤ) → IsOwnerAt o j → Says lines item j (sent_at page lines item j (packet_of (s j)) o)
     unfolding Says
-    says TheHead o j a = if_ind (Says lines TheHead j) (heads_page page (packet_of (s j))) (record { slot = j; owner = j; sure = true } ∷ []) []
+    says TheHead o j a = cond_both (heads_page page (packet_of (s j))) (record { slot = j; owner = j; sure = true } ∷ []) [] (Says lines TheHead j)
         (λ e. (refl, record { owned = (refl, e); sure = ((λ _. tt), (λ _. refl)) }))
         (λ e t. no_both _ t.owned.1 e)
-    says (TheRow r) o j a = if_ind (Says lines (TheRow r) j) (carries page.mag (TheRow r) (packet_of (s j))) (sent_under lines j o) []
+    says (TheRow r) o j a = cond_both (carries page.mag (TheRow r) (packet_of (s j))) (sent_under lines j o) [] (Says lines (TheRow r) j)
         (λ e. under_row lines r o j e a) (λ e t. no_both _ t.owned.2 e)
-    says TheLinks o j a = if_ind (Says lines TheLinks j) (carries page.mag TheLinks (packet_of (s j))) (sent_under lines j o) []
+    says TheLinks o j a = cond_both (carries page.mag TheLinks (packet_of (s j))) (sent_under lines j o) [] (Says lines TheLinks j)
         (λ e. under_links o j e a) (λ e t. no_both _ t.owned.2 e)
 
     -- the scan lists the transmissions of the first n slots

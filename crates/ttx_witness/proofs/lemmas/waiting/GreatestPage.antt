@@ -1,7 +1,7 @@
 -- The deadline for all pages is the greatest of those for single pages.
 use Rattle.std.proofs.Common.{◌≡◌, ℕ, zero, suc, ◌*◌, ◌<◌, ◌≤◌, max, Bool, true, false, if◌then◌else◌, List, [], ◌∷◌, map, length, slice_get}
 use Rattle.std.proofs.Common.{slice_index_or, Option, Some, None, refl, sym, ap, ◌∙◌, subst, inl, inr, arith}
-use Rattle.std.proofs.lemmas.Bool.{cases_Bool}
+use Rattle.std.proofs.lemmas.Bool.{cases_Bool, cond_both}
 use Rattle.std.proofs.lemmas.Option.{slice_get_within, slice_get_cases}
 use Rattle.ttx_header.specs.Ids.{Id, same_id}
 use Rattle.ttx_packet.specs.Slots.{is_clean}
@@ -17,7 +17,7 @@ use Rattle.ttx_witness.specs.finding.Finding.{wider, is_due, starts_of, limit_fo
 use Rattle.ttx_witness.specs.waiting.PageWaits.{CanAccept, IsLeast, AreWaits, fields_told}
 use Rattle.ttx_witness.specs.laws.WaitLaws.{greatest, DeadlineIsGreatest}
 use Rattle.ttx_witness.specs.declared.waiting.wait.PageWait.{PageWait}
-use Rattle.ttx_witness.proofs.lemmas.Choices.{if_ind, if_true, if_false}
+use Rattle.ttx_witness.proofs.lemmas.Choices.{if_true, if_false}
 use Rattle.ttx_witness.proofs.lemmas.finding.DueItems.{AreApart, pages_apart}
 use Rattle.ttx_witness.proofs.lemmas.finding.LeastDeadline.{AreTested, pages_tested}
 use Rattle.ttx_witness.proofs.lemmas.sent.PageIndexes.{same_one, same_self}
@@ -91,7 +91,7 @@ module _ (turn : EachSlotTurns) (found : SureStartsAreFound) (law : LeastLimitIs
   joint d = record { lines = lines; repeat = repeat; deadline = d; class = class; starts = names }
 
   names_rise : (id : Id) (item : Item) → Rising (names id item)
-  names_rise id item = if_ind Rising (due_among class pages id item) (starts_of cycle lines repeat id item) [] (λ due. found_rise cycle some most id lines repeat item) (λ not_due. none_rise)
+  names_rise id item = cond_both (due_among class pages id item) (starts_of cycle lines repeat id item) [] Rising (λ due. found_rise cycle some most id lines repeat item) (λ not_due. none_rise)
 
   fits_more : (o : Option ℕ) (a b : ℕ) → a ≤ b → IsEnough o a → IsEnough o b
   fits_more None a b le f = f

@@ -2,7 +2,7 @@
 use Rattle.std.proofs.Common.{◌≡◌, ◌⊎◌, ◌↔◌, ℕ, zero, suc, ◌+◌, ◌-◌, ◌*◌, ◌<◌, ◌≤◌, ℤ, true, List, [], ◌∷◌, ◌++◌, length, slice_get, Option, Some}
 use Rattle.std.proofs.Common.{None, unsigned_abs, map, if◌then◌else◌, refl, sym, ap, ◌∙◌, subst, inl, inr, arith}
 use Rattle.std.specs.List.{Contains}
-use Rattle.std.proofs.lemmas.Bool.{cases_lt, cases_Bool}
+use Rattle.std.proofs.lemmas.Bool.{cases_lt, cases_Bool, cond_both}
 use Rattle.std.proofs.lemmas.List.{length-map, length-append}
 use Rattle.std.proofs.lemmas.Option.{slice_get_within}
 use Rattle.ttx_witness.proofs.lemmas.ChangedPlaces.{before_here, last_here}
@@ -31,7 +31,7 @@ use Rattle.ttx_witness.specs.declared.faults.reason.Reason.{Reason}
 use Rattle.ttx_witness.specs.declared.waiting.wait.Losses.{Losses}
 use Rattle.ttx_witness.specs.declared.waiting.wait.Wait.{Wait}
 use Rattle.ttx_witness.specs.declared.waiting.wait.Wait.TheVariants.{Fields, Faulty, Unsure}
-use Rattle.ttx_witness.proofs.lemmas.Choices.{if_ind, no_both, if_true, if_false}
+use Rattle.ttx_witness.proofs.lemmas.Choices.{no_both, if_true, if_false}
 use Rattle.ttx_certificate.proofs.EntryOrder.{rising_pairs}
 use Rattle.ttx_witness.proofs.lemmas.runs.FoundStarts.{starts_rise}
 use Rattle.ttx_witness.proofs.lemmas.sent.CycleTransmissions.{sent_told, told_in_order}
@@ -124,7 +124,7 @@ module _ (turn : EachSlotTurns) (found : SureStartsAreFound) (law : LeastLimitIs
   shown_covered v item due (inr l) = absurd (no_both (is_blank p item) ((tested item (due_needed v.class p item due)).1 l.blank) (due_not_blank v.class p item l.clearing due))
 
   shown_fits : (v : Certificate) → 1 ≤ v.repeat → (item : Item) → ShowsItem cycle p v item → IsEnough (limit_for cycle v.class v.lines v.repeat p item) (limit v)
-  shown_fits v repeats item shows = if_ind (λ o. IsEnough o (limit v)) (is_due v.class p item) (least_limit cycle v.lines v.repeat p.id item) (least_limit cycle v.lines 1 p.id TheHead)
+  shown_fits v repeats item shows = cond_both (is_due v.class p item) (least_limit cycle v.lines v.repeat p.id item) (least_limit cycle v.lines 1 p.id TheHead) (λ o. IsEnough o (limit v))
       (λ due. covered_fits v repeats item (shown_covered v item due shows))
       (λ not_due. (next_fits turn found law cycle some p v.lines v.deadline (spread_at cycle v.lines 1 p.id TheHead) refl).0 (shown_next v item shows))
 
@@ -165,7 +165,7 @@ module _ (turn : EachSlotTurns) (found : SureStartsAreFound) (law : LeastLimitIs
       full d = record { lines = lines; repeat = repeat; deadline = d; class = class; starts = λ id item. starts_for cycle class lines repeat p item }
 
       full_rises : (item : Item) → Rising (starts_for cycle class lines repeat p item)
-      full_rises item = if_ind Rising (is_due class p item) (starts_of cycle lines repeat p.id item) [] (λ due. found_rise cycle some most p.id lines repeat item) (λ not_due. none_rise)
+      full_rises item = cond_both (is_due class p item) (starts_of cycle lines repeat p.id item) [] Rising (λ due. found_rise cycle some most p.id lines repeat item) (λ not_due. none_rise)
 
       full_is : (d : ℕ) → 1 ≤ d → d ≤ 1000000 → IsFor class repeat lines d (full d)
       full_is d low high = record {

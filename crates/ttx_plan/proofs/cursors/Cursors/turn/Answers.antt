@@ -1,6 +1,6 @@
 use Rattle.std.proofs.Common.{◌∙◌, sym}
 use Rattle.ttx_plan.specs.Cursors.{is_free}
-use Rattle.ttx_plan.proofs.Orders.{find_order}
+use Rattle.ttx_plan.proofs.FirstInOrder.{find_order}
 use Rattle.ttx_plan.proofs.cursors.Cursors.turn.Goals as goal
 
 pub returns-then-is_ready-clause-turn : goal.returns-then-is_ready-clause-turn

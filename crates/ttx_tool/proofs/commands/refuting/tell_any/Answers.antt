@@ -2,7 +2,7 @@ use Rattle.std.proofs.Common.{◌≡◌, ◌↔◌, [], ◌∷◌, ◌++◌, tru
 use Rattle.std.proofs.lemmas.List.{length-map}
 use Rattle.std.proofs.lemmas.Option.{slice_get_within}
 use Rattle.std.specs.Prelude.{slice_get}
-use Rattle.ttx_counter.specs.Counters.{run_of}
+use Rattle.ttx_counter.specs.Counters.{counter_run_of}
 use Rattle.ttx_counter.specs.Refutations.{TellsCounter}
 use Rattle.ttx_cycle.specs.Cycles.{slots_of}
 use Rattle.ttx_page.specs.Pages as definitions
@@ -20,7 +20,7 @@ refute-requires-clause-distinct c = distinct_ids c.pages-pages.result.now c.args
 pub tell_counter-requires : goal.tell_counter-requires
 tell_counter-requires c =
     let pages = map page_of c.pages-pages.result.now in
-    let told = subst (TellsCounter run_of (slots_of c.args.cycle.now) pages (certificate_of c.args.certificate.now)) c.in-Some.is c.in-Ok.ensures.tells in
+    let told = subst (TellsCounter counter_run_of (slots_of c.args.cycle.now) pages (certificate_of c.args.certificate.now)) c.in-Some.is c.in-Ok.ensures.tells in
     let inside = slice_get_within pages c.in-Some.counter.page told.is.page told.is.here in
     let same = length-map c.pages-pages.result.now page_of in
     omega (arith, inside, same)
@@ -30,8 +30,8 @@ returns-in-Some-clause-told c =
     let slots = slots_of c.args.cycle.now in
     let pages = map page_of c.pages-pages.result.now in
     let w = certificate_of c.args.certificate.now in
-    let run = run_of c.in-Some.counter in
-    let told = subst (TellsCounter run_of slots pages w) c.in-Some.is c.in-Ok.ensures.tells in
+    let run = counter_run_of c.in-Some.counter in
+    let told = subst (TellsCounter counter_run_of slots pages w) c.in-Some.is c.in-Ok.ensures.tells in
     let exact = subst (λ o. IsSentUnchanged slots pages → (is_some o ≡ true) ↔ (CanBeAccepted slots pages Any w.lines w.repeat w.deadline → ⊥)) c.in-Some.is c.in-Ok.ensures.exact in
     all_three (λ t. (p : definitions.Page) → slice_get pages run.page ≡ Some p → string_bytes t.line ≡ counter_line p.id run)
     (λ t. t.file.items ≡ saved c.args.save run) (λ t. t.status ≡ 1)
@@ -47,7 +47,7 @@ returns-in-None-clause-told c =
     let slots = slots_of c.args.cycle.now in
     let pages = map page_of c.pages-pages.result.now in
     let w = certificate_of c.args.certificate.now in
-    let told = subst (TellsCounter run_of slots pages w) c.in-None.is c.in-Ok.ensures.tells in
+    let told = subst (TellsCounter counter_run_of slots pages w) c.in-None.is c.in-Ok.ensures.tells in
     let exact = subst (λ o. IsSentUnchanged slots pages → (is_some o ≡ true) ↔ (CanBeAccepted slots pages Any w.lines w.repeat w.deadline → ⊥)) c.in-None.is c.in-Ok.ensures.exact in
     all_three (λ t. string_bytes t.line ≡ codes "none" ++ 10 ∷ []) (λ t. t.file.items ≡ []) (λ t. t.status ≡ 0)
     (λ t. IsRefutation slots c.args.service.now (fields_of c.args.certificate.now) c.args.save t.file.items (string_bytes t.line) t.status)

@@ -2,7 +2,7 @@ use Rattle.std.proofs.Common.{◌≡◌, map, inl, inr, string_bytes, Some, subs
 use Rattle.std.proofs.lemmas.List.{length-map}
 use Rattle.std.proofs.lemmas.Option.{slice_get_within}
 use Rattle.std.specs.Prelude.{slice_get}
-use Rattle.ttx_counter.specs.Counters.{run_of}
+use Rattle.ttx_counter.specs.Counters.{counter_run_of}
 use Rattle.ttx_counter.specs.Replaying.{TellsReplayed}
 use Rattle.ttx_cycle.specs.Cycles.{slots_of}
 use Rattle.ttx_page.specs.Pages as definitions
@@ -15,7 +15,7 @@ use Rattle.ttx_tool.proofs.commands.replaying.tell.Goals as goal
 pub tell_shown-requires : goal.tell_shown-requires
 tell_shown-requires c =
     let pages = map page_of c.pages-pages.result.now in
-    let told = subst (TellsReplayed memory_of (slots_of c.args.cycle.now) pages (run_of c.args.counter.now)) c.in-Some.is c.in-Ok.ensures in
+    let told = subst (TellsReplayed memory_of (slots_of c.args.cycle.now) pages (counter_run_of c.args.counter.now)) c.in-Some.is c.in-Ok.ensures in
     let inside = slice_get_within pages c.args.counter.now.page told.is.page told.is.here in
     let same = length-map c.pages-pages.result.now page_of in
     omega (arith, inside, same)
@@ -24,7 +24,7 @@ pub returns-in-Some-clause-told : goal.returns-in-Some-clause-told
 returns-in-Some-clause-told c =
     let slots = slots_of c.args.cycle.now in
     let pages = map page_of c.pages-pages.result.now in
-    let run = run_of c.args.counter.now in
+    let run = counter_run_of c.args.counter.now in
     let m = memory_of c.in-Some.memory in
     let told = subst (TellsReplayed memory_of slots pages run) c.in-Some.is c.in-Ok.ensures in
     both_of (λ t. (p : definitions.Page) → slice_get pages run.page ≡ Some p → string_bytes t.text ≡ replay_text p run m) (λ t. t.status ≡ 0)
@@ -38,7 +38,7 @@ pub returns-in-None-clause-told : goal.returns-in-None-clause-told
 returns-in-None-clause-told c =
     let slots = slots_of c.args.cycle.now in
     let pages = map page_of c.pages-pages.result.now in
-    let run = run_of c.args.counter.now in
+    let run = counter_run_of c.args.counter.now in
     let none = subst (TellsReplayed memory_of slots pages run) c.in-None.is c.in-Ok.ensures in
     both_of (λ t. string_bytes t.text ≡ none_text) (λ t. t.status ≡ 1)
     (λ t. IsReplay slots (pages_of c.args.service.now) run (string_bytes t.text) t.status)

@@ -4,7 +4,7 @@ use Rattle.ttx_witness.specs.Coverage.{Certificate, IsCertificate}
 use Rattle.ttx_witness.specs.sent.Collected.{owner_for}
 use Rattle.ttx_witness.specs.faults.OtherSubpages.{place, AreAllSubcodes, HeadsOtherAt, TellsBelow}
 use Rattle.ttx_witness.proofs.lemmas.sent.PageIndexes.{ids_are, id_of_page}
-use Rattle.ttx_witness.specs.passes.Passing.{ids, pages_of, certificate}
+use Rattle.ttx_witness.specs.passes.Passing.{ids, pass_pages, certificate}
 use Rattle.ttx_witness.proofs.lemmas.passes.GrowingLists.{owner_grown, others_more}
 use Rattle.ttx_witness.proofs.lemmas.passes.AfterOneSlot.{listed_more, facts_more}
 use Rattle.ttx_witness.proofs.passes.passing.take_slot.Goals as goal
@@ -12,7 +12,7 @@ use Rattle.ttx_witness.proofs.passes.passing.take_slot.Goals as goal
 pub returns-clause-ready : goal.returns-clause-ready
 returns-clause-ready c = λ ready.
     let pass = c.args.pass.now in
-    record { index = ready.index; subcodes = subst (λ v. AreAllSubcodes (pages_of pass) (length pass.pages.now) v.items) (sym c.note_other_header.ensures.subcodes) ready.subcodes }
+    record { index = ready.index; subcodes = subst (λ v. AreAllSubcodes (pass_pages pass) (length pass.pages.now) v.items) (sym c.note_other_header.ensures.subcodes) ready.subcodes }
 
 pub returns-clause-taken : goal.returns-clause-taken
 returns-clause-taken c = λ entry y ready count seen kept.

@@ -1,5 +1,5 @@
 use Rattle.std.proofs.Common.{◌≡◌, ◌+◌, ◌≤◌, ◌++◌, None, get_or, length, take, sym, ap, ◌∙◌, subst, arith}
-use Rattle.ttx_witness.specs.passes.SentSlots.{SendsAt, IsNext, placed}
+use Rattle.ttx_witness.specs.passes.SentSlots.{SendsAt, IsNext, placed_in}
 use Rattle.ttx_witness.specs.sent.OneSlot.{told}
 use Rattle.ttx_witness.specs.runs.Tracks.{IsTrack}
 use Rattle.ttx_witness.proofs.lemmas.passes.SentPlaces.{nothing_placed, placed_next, placed_last}
@@ -32,13 +32,13 @@ loop-i-preserved c = record {
       let h = c.loop-i.invariant.held k lt linked within track in
       let next = subst (IsNext (SendsAt slots c.args.place) h.0 (length slots)) c.in-Some.is h.3 in
       let sent : c.sent.result ≡ get_or slots slot None = c.sent.ensures ∙ ap (λ n. get_or slots n None) c.from-slot.ensures in
-      let one = c.take_sent.ensures k (placed c.args.place (take h.0 slots)) lt h.4 in (
+      let one = c.take_sent.ensures k (placed_in c.args.place (take h.0 slots)) lt h.4 in (
         slot + 1,
         (let a = h.1 in let b = next.0 in omega arith),
         (let a = next.1 in omega arith),
         subst (IsNext (SendsAt slots c.args.place) (slot + 1) (length slots)) (sym (c.next-at.ensures ∙ ap (λ n. get_or c.args.sent.now.nexts.items n None) c.from-slot.ensures))
             (linked.next c.args.place slot within (omega arith) next.1 next.2),
-        subst (λ ts. IsTrack k c.args.limit c.args.starts.now ts c.take_sent.new.track) (ap (λ s. placed c.args.place (take h.0 slots) ++ told s) sent ∙ sym (placed_next c.args.place slots h.0 slot next)) one,
+        subst (λ ts. IsTrack k c.args.limit c.args.starts.now ts c.take_sent.new.track) (ap (λ s. placed_in c.args.place (take h.0 slots) ++ told s) sent ∙ sym (placed_next c.args.place slots h.0 slot next)) one,
       );
 }
 
@@ -47,4 +47,4 @@ returns c = λ k lt linked within track.
     let slots = c.args.sent.now.slots.items in
     let h = c.loop-i.invariant.held k lt linked within track in
     let all : length slots ≤ h.0 = let a = h.1 in omega (arith, c.loop-i-test.false, c.len-i-end.ensures) in
-    subst (λ ts. IsTrack k c.args.limit c.args.starts.now ts c.loop-i.track) (ap (placed c.args.place) (take_whole h.0 slots all)) h.4
+    subst (λ ts. IsTrack k c.args.limit c.args.starts.now ts c.loop-i.track) (ap (placed_in c.args.place) (take_whole h.0 slots all)) h.4

@@ -4,7 +4,7 @@ use Rattle.std.proofs.lemmas.Option.{slice_get_within}
 use Rattle.ttx_page.specs.Streams.{run_length}
 use Rattle.ttx_witness.specs.sent.Collected.{place_of_item}
 use Rattle.ttx_witness.specs.passes.Passing.{ended_pages, ended_certificate}
-use Rattle.ttx_witness.specs.passes.SentSlots.{placed}
+use Rattle.ttx_witness.specs.passes.SentSlots.{placed_in}
 use Rattle.ttx_witness.specs.sent.ItemTransmissions.{sent_in}
 use Rattle.ttx_witness.specs.runs.Tracks.{IsTrack, IsWithin}
 use Rattle.ttx_witness.proofs.lemmas.passes.EndOfList.{progress_told}
@@ -41,7 +41,7 @@ returns c = λ y p item ended at it number named.
     let few : self.period ≤ 65536 = (let m = ended.cycle.most in let e = ended.period in omega arith) in
     let number_is : 26 * c.args.index + c.from.result ≡ place_of_item c.args.index item = ap (λ n. 26 * c.args.index + n) (c.from.ensures ∙ sym number) in
     let within : 26 * c.args.index + c.from.result < length self.sent.firsts.items = (let l = ended.places in let s = slice_get_within (ended_pages self) c.args.index p at in let b = place_below c.args.index item (length (ended_pages self)) s it in omega arith) in
-    let sent = ap (λ n. placed n self.sent.slots.items) number_is ∙ ended.sent c.args.index p item at it in
+    let sent = ap (λ n. placed_in n self.sent.slots.items) number_is ∙ ended.sent c.args.index p item at it in
     let ts = sent_in y p.id w.lines item in
     progress_told y p w item c.args.starts.now c.limit-limit.result self.period repeat c.finish.new.track.progress named c.limit-limit.ensures ended.period length_is
     (c.finish.ensures (repeat - 1) ts short few (all_by_place (IsWithin 65536) ts (c.transmissions_are_listed.ensures y some ended.cycle.most p.id w.lines item).1)

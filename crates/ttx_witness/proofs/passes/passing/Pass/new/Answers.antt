@@ -5,7 +5,7 @@ use Rattle.ttx_page.specs.Views.{page_of}
 use Rattle.ttx_page.specs.Streams.{repeated}
 use Rattle.ttx_certificate.specs.Certificates.{certificate_of}
 use Rattle.ttx_witness.specs.sent.Collected.{seen_by, IsForeign, place_of_item as item_place}
-use Rattle.ttx_witness.specs.passes.SentSlots.{placed}
+use Rattle.ttx_witness.specs.passes.SentSlots.{placed_in}
 use Rattle.ttx_witness.specs.faults.OtherSubpages.{place, HeadsOtherAt}
 use Rattle.ttx_witness.specs.sent.ItemTransmissions.{owner_scan, sent_scan}
 use Rattle.ttx_witness.proofs.lemmas.sent.EntryOwners.{none_at}
@@ -14,7 +14,7 @@ use Rattle.ttx_witness.proofs.lemmas.passes.BeforeFirstSlot.{nothing_noted}
 use Rattle.ttx_witness.proofs.passes.passing.Pass.new.Goals as goal
 
 pub returns-clause-stands : goal.returns-clause-stands
-unfolding owner_scan sent_scan placed
+unfolding owner_scan sent_scan placed_in
 returns-clause-stands c =
     let pages = c.args.pages.now in
     record {
@@ -30,7 +30,7 @@ returns-clause-stands c =
           count = ap length c.in_ok-sent.ensures.slots;
           places = c.in_ok-sent.ensures.places ∙ ap (λ n. 26 * n) (sym (length-map pages page_of));
           unlinked = c.in_ok-sent.ensures.unlinked;
-          each = λ i p item at it. ap (placed (item_place i item)) c.in_ok-sent.ensures.slots;
+          each = λ i p item at it. ap (placed_in (item_place i item)) c.in_ok-sent.ensures.slots;
         };
         facts = λ i p at.
             let lt = slice_get_within (map page_of pages) i p at in

@@ -1,7 +1,7 @@
 use Rattle.std.proofs.Common.{◌≡◌, ◌≤◌, [], length, ap, ◌∙◌, inl, inr, arith}
 use Rattle.std.proofs.lemmas.Bool.{cases_lt}
 use Rattle.ttx_witness.specs.sent.Collected.{place_of_item}
-use Rattle.ttx_witness.specs.passes.SentSlots.{placed}
+use Rattle.ttx_witness.specs.passes.SentSlots.{placed_in}
 use Rattle.ttx_witness.specs.sent.ItemTransmissions.{entry_owner}
 use Rattle.ttx_witness.proofs.lemmas.passes.EndOfList.{empty_is, again, own}
 use Rattle.ttx_witness.proofs.lemmas.sent.PageIndexes.{ids_are, id_of_page}
@@ -45,7 +45,7 @@ returns-clause-ended c = λ x y st.
       period = v.count;
       places = c.link.ensures.places ∙ kept.sent.places;
       linked = c.link.ensures.linked kept.sent.unlinked;
-      sent = λ i p item at it. ap (λ v. placed (place_of_item i item) v.items) c.link.ensures.slots ∙ kept.sent.each i p item at it;
+      sent = λ i p item at it. ap (λ v. placed_in (place_of_item i item) v.items) c.link.ensures.slots ∙ kept.sent.each i p item at it;
       facts = kept.facts;
       others = kept.others;
     }

@@ -1,0 +1,268 @@
+-- What the search for counter-runs answers, page by page.
+use Rattle.std.proofs.Common.{◌≡◌, ◌⊎◌, ◌↔◌, ℕ, zero, suc, ◌+◌, ◌<◌, pos, Bool, true, false, ◌&&◌, List, [], ◌∷◌, length, map, slice_get, Option}
+use Rattle.std.proofs.Common.{Some, None, Result, Ok, Err, IfOk, refl, sym, ap, ◌∙◌, subst, inl, inr, arith, leb-true}
+use Rattle.std.specs.List.{Contains}
+use Rattle.std.specs.Prelude.{is_some}
+use Rattle.std.proofs.lemmas.Bool.{cases_lt, and_parts}
+use Rattle.ttx_page.specs.Pages.{Page, IsPage, needed}
+use Rattle.ttx_page.specs.declared.item.Item.{Item}
+use Rattle.ttx_page.specs.declared.item.Item.TheVariants.{Head as TheHead, Row as TheRow, Links as TheLinks}
+use Rattle.ttx_page.specs.Memories.{IsMemory}
+use Rattle.ttx_page.specs.Steady.{Steady, HasHeader, HasNoHeader}
+use Rattle.ttx_page.specs.Streams.{repeated}
+use Rattle.ttx_receiver.specs.Starving.{wrong_memory}
+use Rattle.ttx_cycle.specs.Files.{IsCycle}
+use Rattle.ttx_witness.specs.sent.Collected.{IsItem, item_number}
+use Rattle.ttx_witness.specs.Coverage.{Certificate, IsCertificate, limit, IsSureStart, IsCovered}
+use Rattle.ttx_page.specs.Laws.{PagesKeepTheirRules}
+use Rattle.ttx_page.specs.declared.page.Page.{Page as PageValue}
+use Rattle.ttx_page.specs.declared.class.Class.TheVariants.{Any}
+use Rattle.ttx_page.specs.Views.{page_of}
+use Rattle.ttx_certify.specs.Laws.{ArePages}
+use Rattle.ttx_witness.specs.laws.CycleLaws.{FurtherStartsCover}
+use Rattle.ttx_witness.specs.finding.Finding.{IsSentUnchanged, CanBeAccepted}
+use Rattle.ttx_counter.specs.Laws.{RefutedIsNotAccepted}
+use Rattle.ttx_witness.specs.faults.Faults.{IsPageFault, SteadyHasNoFault}
+use Rattle.ttx_witness.specs.declared.sent.collected.Collected.{Collected}
+use Rattle.ttx_witness.specs.declared.faults.reason.Reason.{Reason}
+use Rattle.ttx_witness.specs.declared.faults.reason.Reason.TheVariants.{BadSlot, NoHeader, OtherSubpage, Erased, HeadDiffers, RowDiffers, LinksDiffer}
+use Rattle.ttx_witness.specs.declared.faults.reason.Reason.TheVariants.{NoWitness, WitnessBad, Late, Unsteady, LateBlank}
+use Rattle.ttx_counter.specs.Counters.{CounterRun, IsCounterRun}
+use Rattle.ttx_counter.specs.StarvingRuns.{starving_run}
+use Rattle.ttx_counter.specs.Sources.{plain_counter, PlainRunsAreCounterRuns, AbsentPagesAreWrong}
+use Rattle.ttx_counter.specs.Starving.{fullest, IsCoveredByOne}
+use Rattle.ttx_certify.specs.Verdicts.{IsClean}
+use Rattle.ttx_counter.specs.Completeness.{StarvingIsCounterRun, FullestNamesAll}
+use Rattle.ttx_counter.specs.Refutations.{is_absent, ArePrepared, IsCounterTo, IsSentWell, TellsStart, TellsNeeded, TellsCovered, TellsPage}
+use Rattle.ttx_counter.specs.Refutations.{TellsPages, TellsAllPlainly, TellsCounter}
+use Rattle.ttx_counter.proofs.PlainRuns.{numbers_of, plain_to}
+use Rattle.ttx_counter.proofs.StarvedIsUnseen.{other_is}
+
+differ : false ≡ true → ⊥
+differ e = cc
+
+differ_too : true ≡ false → ⊥
+differ_too e = cc
+
+pub ok_map : {A E : Type 0} (P Q : A → Type 0) (r : Result A E) → ((a : A) → P a → Q a) → IfOk r P → IfOk r Q
+ok_map P Q (Ok a) f h = f a h
+ok_map P Q (Err e) f h = h
+
+-- a page that stands at a place of a list is one
+one_page : (pages : List Page) (n : ℕ) (p q : Page) → slice_get pages n ≡ Some p → slice_get pages n ≡ Some q → p ≡ q
+one_page pages n p q a b = cc
+
+-- what a viewer sees is an item of the page
+needed_item : (p : Page) (item : Item) → needed p item ≡ true → IsItem item
+needed_item p TheHead h = tt
+needed_item p (TheRow r) h =
+    let a = (and_parts _ _ (and_parts _ _ (and_parts _ _ h).0).0).0 in
+    let b = (and_parts _ _ (and_parts _ _ (and_parts _ _ h).0).0).1 in
+    (leb-true 1 r a, leb-true r 24 b)
+needed_item p TheLinks h = tt
+
+item_within : (item : Item) → IsItem item → item_number item < 26
+item_within TheHead i = omega arith
+item_within (TheRow r) i = let b = i.1 in omega arith
+item_within TheLinks i = omega arith
+
+-- an item is known by its number
+one_item : (a b : Item) → IsItem a → IsItem b → item_number a ≡ item_number b → a ≡ b
+one_item TheHead TheHead i j e = refl
+one_item TheHead (TheRow r) i j e = let l = j.0 in absurd (omega arith)
+one_item TheHead TheLinks i j e = absurd (omega arith)
+one_item (TheRow r) TheHead i j e = let l = i.0 in absurd (omega arith)
+one_item (TheRow r) (TheRow q) i j e = ap TheRow e
+one_item (TheRow r) TheLinks i j e = let l = i.1 in absurd (omega arith)
+one_item TheLinks TheHead i j e = absurd (omega arith)
+one_item TheLinks (TheRow r) i j e = let l = j.1 in absurd (omega arith)
+one_item TheLinks TheLinks i j e = refl
+
+module _ (cycle : List (List ℕ)) (pages : List Page) (w : Certificate) where
+  pub starved_to : StarvingIsCounterRun → (p : Page) (index : ℕ) → slice_get pages index ≡ Some p → IsCycle cycle → IsPage p → IsCertificate w → IsClean cycle → Steady (repeated cycle) pages p →
+      (item : Item) (start : ℕ) → TellsNeeded cycle p w item (Some start) → (l r d : ℕ) → l ≡ w.lines → r ≡ w.repeat → d ≡ w.deadline →
+      (run : CounterRun) → run ≡ starving_run cycle index p item start l r d → IsCounterTo cycle pages w run
+  starved_to law p index here is_cycle page is clean steady item start starved l r d el er ed run made = record {
+    is = subst (IsCounterRun cycle pages) (sym (made ∙ (λ i. starving_run cycle index p item start (el i) (er i) (ed i))))
+        (law cycle pages p w index here is_cycle page is clean steady item starved.0 start starved.1);
+    lines = ap (λ (x : CounterRun). x.lines) made ∙ el;
+    repeat = ap (λ (x : CounterRun). x.repeat) made ∙ er;
+    deadline = ap (λ (x : CounterRun). x.deadline) made ∙ ed;
+  }
+
+  pub named_for : (found : Certificate) (collected : Collected) → ArePrepared cycle pages w found collected → (index : ℕ) (p : Page) → slice_get pages index ≡ Some p →
+      (item : Item) → IsItem item → needed p item ≡ true → (starts : List ℕ) → starts ≡ found.starts p.id item →
+      (start : ℕ) → Contains starts start ↔ IsSureStart cycle p.id w.lines w.repeat item start
+  named_for found collected prepared index p here item is need starts e start =
+      let n = prepared.named index p here item is start in (
+        (λ c. (n.0 (subst (λ xs. Contains xs start) e c)).1),
+        (λ s. subst (λ xs. Contains xs start) (sym e) (n.1 (need, s))),
+      )
+
+  pub needed_told : (index : ℕ) (p : Page) → slice_get pages index ≡ Some p → (item : Item) → needed p item ≡ true → (o : Option ℕ) → TellsStart cycle p w item o →
+      (q : Page) → slice_get pages index ≡ Some q → TellsNeeded cycle q w item o
+  needed_told index p here item need o told q at = subst (λ x. TellsNeeded cycle x w item o) (one_page pages index p q here at) (go o told)
+    where
+      go : (o : Option ℕ) → TellsStart cycle p w item o → TellsNeeded cycle p w item o
+      go None t = λ _. t
+      go (Some start) t = (need, t)
+
+  -- the items whose numbers are below n are covered
+  abbrev pub CoveredTo : ℕ → ℕ → Type 0
+  CoveredTo index n = (p : Page) → slice_get pages index ≡ Some p → (item : Item) → IsItem item → item_number item < n → needed p item ≡ true → IsCovered cycle p (fullest cycle w) item
+
+  pub covered_more : (index n : ℕ) → CoveredTo index n → (own : Item) → IsItem own → item_number own ≡ n → (o : Option ℕ) → o ≡ None →
+      ((p : Page) → slice_get pages index ≡ Some p → TellsNeeded cycle p w own o) → CoveredTo index (n + 1)
+  covered_more index n before own is place o none told p here item is_item lt need = elim (cases_lt (item_number item) n) as (λ _. IsCovered cycle p (fullest cycle w) item) [
+    | inl less ↦ before p here item is_item less need
+    | inr ge ↦
+        let same : own ≡ item = one_item own item is is_item (omega arith) in
+        let t = subst (TellsNeeded cycle p w own) none (told p here) in
+        subst (λ x. needed p x ≡ true → IsCovered cycle p (fullest cycle w) x) same t need
+  ]
+
+  pub covered_all : (index : ℕ) → CoveredTo index 26 → (p : Page) → slice_get pages index ≡ Some p → (item : Item) → needed p item ≡ true → IsCovered cycle p (fullest cycle w) item
+  covered_all index before p here item need = let i = needed_item p item need in before p here item i (item_within item i) need
+
+  pub absent_to : AbsentPagesAreWrong → PlainRunsAreCounterRuns → IsCycle cycle → IsCertificate w → (p : Page) (index : ℕ) → slice_get pages index ≡ Some p → HasNoHeader (repeated cycle) p →
+      IsMemory (wrong_memory p TheLinks) → (run : CounterRun) → run ≡ plain_counter index false (wrong_memory p TheLinks) w.lines w.repeat w.deadline (limit w) → IsCounterTo cycle pages w run
+  absent_to absent plain is_cycle is p index here none memory run made =
+      let former = wrong_memory p TheLinks in
+      plain_to cycle pages w index false former (limit w) run made
+      (subst (IsCounterRun cycle pages) (sym made)
+      (plain cycle pages p index false former w.lines w.repeat w.deadline (limit w) is_cycle here refl memory (numbers_of w is) (omega arith)
+      (absent (repeated cycle) p former w.lines (limit w) none refl (other_is p.links.six) (pos 0))))
+
+  module _ (p : Page) where
+    pub absent_none : (fault : Option Reason) → IsPageFault cycle pages p fault → is_absent fault ≡ true → HasNoHeader (repeated cycle) p
+    absent_none None f e = cc
+    absent_none (Some (BadSlot slot)) f e = absurd f
+    absent_none (Some (NoHeader page)) f e = f.1
+    absent_none (Some (OtherSubpage page slot)) f e = cc
+    absent_none (Some (Erased page slot)) f e = cc
+    absent_none (Some (HeadDiffers page slot)) f e = cc
+    absent_none (Some (RowDiffers page slot)) f e = cc
+    absent_none (Some (LinksDiffer page slot)) f e = cc
+    absent_none (Some (NoWitness page item)) f e = absurd f
+    absent_none (Some (WitnessBad page item start)) f e = absurd f
+    absent_none (Some (Late page item start)) f e = absurd f
+    absent_none (Some Unsteady) f e = absurd f
+    absent_none (Some (LateBlank page item header)) f e = absurd f
+
+    pub header_of : (fault : Option Reason) → IsPageFault cycle pages p fault → is_absent fault ≡ false → HasHeader (repeated cycle) p.id
+    header_of None f e = f.header
+    header_of (Some (BadSlot slot)) f e = absurd f
+    header_of (Some (NoHeader page)) f e = cc
+    header_of (Some (OtherSubpage page slot)) f e = f.1
+    header_of (Some (Erased page slot)) f e = f.1
+    header_of (Some (HeadDiffers page slot)) f e = f.1
+    header_of (Some (RowDiffers page slot)) f e = f.1
+    header_of (Some (LinksDiffer page slot)) f e = f.1
+    header_of (Some (NoWitness page item)) f e = absurd f
+    header_of (Some (WitnessBad page item start)) f e = absurd f
+    header_of (Some (Late page item start)) f e = absurd f
+    header_of (Some Unsteady) f e = absurd f
+    header_of (Some (LateBlank page item header)) f e = absurd f
+
+  -- a page that is covered by all sure runs is covered by one certificate
+  pub covered_by_one : FullestNamesAll → IsCycle cycle → IsCertificate w → (p : Page) → ((item : Item) → needed p item ≡ true → IsCovered cycle p (fullest cycle w) item) → IsCoveredByOne cycle p w
+  covered_by_one names is_cycle is p covered = record {
+    v = fullest cycle w;
+    is = (names cycle is_cycle w is).0;
+    same_class = refl;
+    same_lines = refl;
+    same_repeat = refl;
+    same_deadline = refl;
+    covered = covered;
+  }
+
+  module _ (law : SteadyHasNoFault) (p : Page) (fault : Option Reason) (is : IsPageFault cycle pages p fault) (there : is_absent fault ≡ false) where
+    -- a fault, or a slot that isn't clean: nothing is asked of its coverage
+    pub well_unless : (clean : Bool) → (clean ≡ true) ↔ IsClean cycle → (clean ≡ false) ⊎ (is_some fault ≡ true) → (q : Page) → p ≡ q → IsSentWell cycle pages q w
+    well_unless clean told why q same = subst (λ x. IsSentWell cycle pages x w) same (record {
+      header = header_of p fault is there;
+      covered = λ cl steady. absurd (elim why as (λ _. ⊥) [
+        | inl unclean ↦ let h : true ≡ false = sym (told.1 cl) ∙ unclean in cc
+        | inr some ↦ let h : false ≡ true = sym (ap (λ (x : Option Reason). is_some x) ((law cycle pages p fault is).1 steady)) ∙ some in cc
+      ]);
+    })
+
+    pub steady_if : is_some fault ≡ false → (q : Page) → p ≡ q → Steady (repeated cycle) pages q
+    steady_if e q same = subst (Steady (repeated cycle) pages) same ((law cycle pages p fault is).0 (no_fault fault e))
+      where
+        no_fault : (o : Option Reason) → is_some o ≡ false → o ≡ None
+        no_fault None e = refl
+        no_fault (Some r) e = cc
+
+    pub page_told : FullestNamesAll → IsCycle cycle → IsCertificate w → {C : Type 0} → (run : C → CounterRun) → (o : Option C) → (q : Page) → p ≡ q → TellsCovered run cycle pages q w o → TellsPage run cycle pages q w o
+    page_told names is_cycle is_w run None q same covered = record { header = subst (λ (x : Page). HasHeader (repeated cycle) x.id) same (header_of p fault is there); covered = λ _ _. covered_by_one names is_cycle is_w q covered }
+    page_told names is_cycle is_w run (Some c) q same to = to
+
+  here_is : (xs : List Page) (i : ℕ) → i < length xs → (p : Page) × (slice_get xs i ≡ Some p)
+  here_is [] i lt = absurd (omega arith)
+  here_is (x ∷ xs) zero lt = (x, refl)
+  here_is (x ∷ xs) (suc i) lt = here_is xs i (omega arith)
+
+  -- the pages before the index
+  abbrev pub SentTo : ℕ → Type 0
+  SentTo index = (n : ℕ) (p : Page) → n < index → slice_get pages n ≡ Some p → IsSentWell cycle pages p w
+
+  module _ {C : Type 0} (run : C → CounterRun) where
+    pub first_told : (index : ℕ) → index < length pages → (o : Option C) → is_some o ≡ true → ((p : Page) → slice_get pages index ≡ Some p → TellsPage run cycle pages p w o) → TellsPages run cycle pages w o
+    first_told index lt None e f = absurd (differ e)
+    first_told index lt (Some c) e f = let h = here_is pages index lt in f h.0 h.1
+
+    pub sent_more : (index : ℕ) → SentTo index → (o : Option C) → is_some o ≡ false → ((p : Page) → slice_get pages index ≡ Some p → TellsPage run cycle pages p w o) → SentTo (index + 1)
+    sent_more index before (Some c) e f = absurd (differ_too e)
+    sent_more index before None e f = λ n p lt here. elim (cases_lt n index) as (λ _. IsSentWell cycle pages p w) [
+      | inl less ↦ before n p less here
+      | inr ge ↦ let same : n ≡ index = omega arith in f p (subst (λ x. slice_get pages x ≡ Some p) same here)
+    ]
+
+    pub counter_told : (o : Option C) → is_some o ≡ true → TellsPages run cycle pages w o → TellsCounter run cycle pages w o
+    counter_told None e t = absurd (differ e)
+    counter_told (Some c) e t = t
+
+    pub both_told : (a : Option C) → is_some a ≡ false → TellsPages run cycle pages w a → (o : Option C) → TellsAllPlainly run cycle pages w o → TellsCounter run cycle pages w o
+    both_told (Some c) e t o u = absurd (differ_too e)
+    both_told None e t None u = record { sent = t; plain = u }
+    both_told None e t (Some c) u = u
+
+    -- where all is sent unchanged a counter-run is found exactly where no certificate of these numbers is accepted
+    pub exact_told : FullestNamesAll → FurtherStartsCover → RefutedIsNotAccepted → IsCycle cycle → ArePages pages → IsCertificate w → w.class ≡ Any → (o : Option C) → TellsCounter run cycle pages w o →
+        IsSentUnchanged cycle pages → (is_some o ≡ true) ↔ (CanBeAccepted cycle pages Any w.lines w.repeat w.deadline → ⊥)
+    exact_told names further refuted is_cycle are is any (Some c) t unchanged = (
+      (λ _ can. refuted cycle pages (run c) can.w is_cycle are can.is t.is
+          (record { class = can.same_class; lines = can.same_lines ∙ sym t.lines; repeat = can.same_repeat ∙ sym t.repeat; deadline = can.same_deadline ∙ sym t.deadline }) can.accepted),
+      (λ _. refl),
+    )
+    exact_told names further refuted is_cycle are is any None t unchanged = (
+      (λ e. cc),
+      (λ none. absurd (none (record {
+        w = fullest cycle w;
+        is = (names cycle is_cycle w is).0;
+        same_class = any;
+        same_lines = refl;
+        same_repeat = refl;
+        same_deadline = refl;
+        accepted = record {
+          clean = unchanged.clean;
+          steady = unchanged.steady;
+          covered = λ n p here item need. inl (by_fullest p item need ((t.sent n p here).covered unchanged.clean (unchanged.steady n p here)));
+        };
+      }))),
+    )
+      where
+        -- what one certificate covers, the fullest one does
+        by_fullest : (p : Page) (item : Item) → needed p item ≡ true → IsCoveredByOne cycle p w → IsCovered cycle p (fullest cycle w) item
+        by_fullest p item need one =
+            let f = names cycle is_cycle w is in
+            let covered = one.covered item need in
+            further cycle p one.v (fullest cycle w) item one.same_lines one.same_repeat one.same_deadline
+            (λ start c. (f.1 p item start).1 (subst (λ l. IsSureStart cycle p.id l w.repeat item start) one.same_lines (subst (λ r. IsSureStart cycle p.id one.v.lines r item start) one.same_repeat (covered.sure start c))))
+            (λ start c. (f.1 p item start).0 c) covered
+
+pub are_pages : PagesKeepTheirRules → (pages : List PageValue) → ArePages (map page_of pages)
+are_pages rules [] n p e = cc
+are_pages rules (x ∷ xs) zero p e = let same : page_of x ≡ p = cc in subst IsPage same (rules x)
+are_pages rules (x ∷ xs) (suc n) p e = are_pages rules xs n p e
