@@ -88,8 +88,8 @@ impl<'a> JudgedPage<'a> {
         }
     }
 
-    /// The starts that are named for the item, and near which entry of the certificate those of the next item stand; `near` is the same
-    /// of this item, and says nothing of the starts. None where a viewer doesn't need the item.
+    /// The starts that are named for the item, and where in the certificate the next item is looked for first. `near` is where this
+    /// one is: it changes no starts. None where a viewer doesn't need the item.
     pub fn starts(&self, item: &Item, near: usize) -> Option<(usize, &'a [u32])>
         ensures { MatchOption result (definitions.needed (judged_page self.now) item.now ≡ false)
             (λ found. (definitions.needed (judged_page self.now) item.now ≡ true)

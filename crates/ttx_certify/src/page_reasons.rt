@@ -62,8 +62,8 @@ fn late_header(ended: &EndedPass, index: usize) -> Option<u32>
     }
 }
 
-// The first reason that is true of the item of this number, of the page at the index, and near which entry of the certificate the next
-// item's starts stand; `near` is the same of this item.
+// The first reason that is true of the item of this number, of the page at the index, and where in the certificate the next item is
+// looked for first. `near` is where this one is: it changes no reason.
 fn reason_at(
     ended: &EndedPass,
     index: usize,
