@@ -1,6 +1,6 @@
 -- A text that is read is the text of its certificate.
 use Rattle.std.proofs.Common.{◌≡◌, ℕ, ◌+◌, ◌==◌, ◌++◌, List, [], ◌∷◌, length, map}
-use Rattle.std.proofs.Common.{codes, Option, Some, None, option_map, unwrap_or, Result, Ok, Err, refl, sym, ap, ◌∙◌, subst}
+use Rattle.std.proofs.Common.{codes, Option, Some, None, option_map, Result, Ok, Err, refl, sym, ap, ◌∙◌, subst}
 use Rattle.std.proofs.Common.{arith, rules, append_assoc, append-nil, eqb-true}
 use Rattle.std.specs.Fmt.{decimal}
 use Rattle.std.specs.List.{join_with_byte}
@@ -25,11 +25,8 @@ use Rattle.ttx_certificate.specs.declared.certificate_faults.CertFault.{CertFaul
 use Rattle.ttx_certificate.specs.declared.certificate_faults.CertFault.TheVariants.{Title, Line, Range}
 use Rattle.std.proofs.lemmas.Bool.{cond_both}
 use Rattle.ttx_digits.specs.Laws.{ReadIdsAreWritten, ReadNumbersAreWritten}
-use Rattle.std.proofs.lemmas.Option.{none-some}
+use Rattle.std.proofs.lemmas.Option.{none-some, same_Some}
 use Rattle.ttx_certificate.proofs.ReadEntries.{no_value, value_or, entry_ok}
-
-some_same : {A : Type 0} (a b : A) → Some a ≡ Some b → a ≡ b
-some_same a b is = ap (λ o. unwrap_or o a) is
 
 abbrev pub item_words : Item → List (List ℕ)
 item_words TheHead = codes "head" ∷ []
@@ -61,7 +58,7 @@ module _ (id_is : ReadIdsAreWritten) (number_is : ReadNumbersAreWritten) where
   row_with : (word x : List ℕ) (words : List (List ℕ)) (p : Item × List (List ℕ)) (o : Option ℕ) → word ≡ codes "row" → number_in_word x ≡ o → option_map (λ n. (TheRow n, words)) o ≡ Some p → word ∷ x ∷ words ≡ item_words p.0 ++ p.1
   row_with word x words p None is same h = absurd (none-some p h)
   row_with word x words p (Some n) is same h =
-      subst (λ (q : Item × List (List ℕ)). word ∷ x ∷ words ≡ item_words q.0 ++ q.1) (some_same (TheRow n, words) p h) (ap (λ w. w ∷ x ∷ words) is ∙ ap (λ y. codes "row" ∷ y ∷ words) (number_is x n same))
+      subst (λ (q : Item × List (List ℕ)). word ∷ x ∷ words ≡ item_words q.0 ++ q.1) (same_Some (TheRow n, words) p h) (ap (λ w. w ∷ x ∷ words) is ∙ ap (λ y. codes "row" ∷ y ∷ words) (number_is x n same))
 
   row_is : (word : List ℕ) (words : List (List ℕ)) (p : Item × List (List ℕ)) → word ≡ codes "row" → row_in words ≡ Some p → word ∷ words ≡ item_words p.0 ++ p.1
   row_is word [] p is h = absurd (none-some p h)
@@ -72,9 +69,9 @@ module _ (id_is : ReadIdsAreWritten) (number_is : ReadNumbersAreWritten) where
   item_is [] p is = absurd (none-some p is)
   item_is (w ∷ ws) p is =
       cond_both (bytes_eq w (codes "head")) (Some (TheHead, ws)) _ (λ o. o ≡ Some p → w ∷ ws ≡ item_words p.0 ++ p.1)
-      (λ head h. subst (λ (q : Item × List (List ℕ)). w ∷ ws ≡ item_words q.0 ++ q.1) (some_same (TheHead, ws) p h) (ap (λ x. x ∷ ws) ((bytes_eq-Decides w (codes "head")).0 head)))
+      (λ head h. subst (λ (q : Item × List (List ℕ)). w ∷ ws ≡ item_words q.0 ++ q.1) (same_Some (TheHead, ws) p h) (ap (λ x. x ∷ ws) ((bytes_eq-Decides w (codes "head")).0 head)))
       (λ _. cond_both (bytes_eq w (codes "links")) (Some (TheLinks, ws)) _ (λ o. o ≡ Some p → w ∷ ws ≡ item_words p.0 ++ p.1)
-      (λ links h. subst (λ (q : Item × List (List ℕ)). w ∷ ws ≡ item_words q.0 ++ q.1) (some_same (TheLinks, ws) p h) (ap (λ x. x ∷ ws) ((bytes_eq-Decides w (codes "links")).0 links)))
+      (λ links h. subst (λ (q : Item × List (List ℕ)). w ∷ ws ≡ item_words q.0 ++ q.1) (same_Some (TheLinks, ws) p h) (ap (λ x. x ∷ ws) ((bytes_eq-Decides w (codes "links")).0 links)))
       (λ _. cond_both (bytes_eq w (codes "row")) (row_in ws) None (λ o. o ≡ Some p → w ∷ ws ≡ item_words p.0 ++ p.1)
       (λ row h. row_is w ws p ((bytes_eq-Decides w (codes "row")).0 row) h)
       (λ _ h. absurd (none-some p h))))
@@ -84,10 +81,10 @@ module _ (id_is : ReadIdsAreWritten) (number_is : ReadNumbersAreWritten) where
   numbers_with word words ns None q same more h = absurd (none-some ns h)
   numbers_with word words ns (Some n) None same more h = absurd (none-some ns h)
   numbers_with word words ns (Some n) (Some ms) same more h =
-      subst (λ ns. word ∷ words ≡ map decimal ns) (some_same (n ∷ ms) ns h) (ap (λ w. w ∷ words) (number_is word n same) ∙ ap (λ ws. decimal n ∷ ws) (more ms refl))
+      subst (λ ns. word ∷ words ≡ map decimal ns) (same_Some (n ∷ ms) ns h) (ap (λ w. w ∷ words) (number_is word n same) ∙ ap (λ ws. decimal n ∷ ws) (more ms refl))
 
   numbers_are : (words : List (List ℕ)) (ns : List ℕ) → numbers_in words ≡ Some ns → words ≡ map decimal ns
-  numbers_are [] ns is = subst (λ ns. [] ≡ map decimal ns) (some_same [] ns is) refl
+  numbers_are [] ns is = subst (λ ns. [] ≡ map decimal ns) (same_Some [] ns is) refl
   numbers_are (word ∷ words) ns is = numbers_with word words ns (number_in_word word) (numbers_in words) refl (λ ms same. numbers_are words ms same) is
 
   starts_are : (words : List (List ℕ)) (ns : List ℕ) → starts_in_words words ≡ Some ns → words ≡ map decimal ns
@@ -98,7 +95,7 @@ module _ (id_is : ReadIdsAreWritten) (number_is : ReadNumbersAreWritten) where
       (id_text page ∷ words) ≡ entry_words e
   with_starts_is words page p e None same is h = absurd (none-some e h)
   with_starts_is words page p e (Some starts) same is h =
-      subst (λ e. (id_text page ∷ words) ≡ entry_words e) (some_same (entry_at page p.0 starts) e h)
+      subst (λ e. (id_text page ∷ words) ≡ entry_words e) (same_Some (entry_at page p.0 starts) e h)
       (ap (λ ws. id_text page ∷ ws) (is ∙ ap (λ ws. item_words p.0 ++ ws) (starts_are p.1 starts same)))
 
   with_item_is : (words : List (List ℕ)) (page : Id) (e : EntryFields) (q : Option (Item × List (List ℕ))) → item_in words ≡ q → with_starts page q ≡ Some e → (id_text page ∷ words) ≡ entry_words e

@@ -1,20 +1,15 @@
 -- Ids are read as they are written.
 use Rattle.std.proofs.Common.{◌≡◌, ℕ, ◌+◌, ◌-◌, ◌*◌, ◌/◌, ◌%◌, ◌<◌, ◌≤◌, ◌==◌, true, ◌++◌, List, [], ◌∷◌, length}
-use Rattle.std.proofs.Common.{slice_index, Option, Some, None, unwrap_or, nat_le, refl, sym, ap, ◌∙◌, arith, eqb-true}
+use Rattle.std.proofs.Common.{slice_index, Some, None, nat_le, refl, sym, ap, ◌∙◌, arith, eqb-true}
 use Rattle.std.specs.List.{list_all}
-use Rattle.std.proofs.lemmas.Bool.{and_from, cond_both, cond-true}
+use Rattle.std.proofs.lemmas.Bool.{and_from, cond-true}
+use Rattle.std.proofs.lemmas.Option.{cond_some}
 use Rattle.std.proofs.lemmas.Bool.Decides.{nat_tests}
-use Rattle.ttx_header.specs.Ids.{Id, id_at}
+use Rattle.ttx_header.specs.Ids.{id_at}
 use Rattle.ttx_digits.specs.Digits.{hex_byte, hex_digit, hex_pair, hex_value, is_between, is_hex}
 use Rattle.ttx_digits.specs.PageIds.{id_in_word, id_text, is_id_word}
 use Rattle.ttx_digits.specs.Laws.{WrittenIdsAreRead, ReadIdsAreWritten, IdsHoldNoSeparator}
 use Rattle.ttx_digits.proofs.Words.{id_word, magazine_digit, nine}
-
-none_some : {A : Type 0} (a : A) → ◌≡◌ {A = Option A} None (Some a) → ⊥
-none_some a is = cc
-
-some_same : {A : Type 0} (a b : A) → Some a ≡ Some b → a ≡ b
-some_same a b is = ap (λ o. unwrap_or o a) is
 
 -- a hexadecimal digit is that of its value
 hex_back : (b : ℕ) → is_hex b ≡ true → (hex_digit (hex_value b) ≡ b) × (hex_value b < 16)
@@ -63,10 +58,8 @@ id_word_text w is =
 
 pub id_is : ReadIdsAreWritten
 id_is word id is =
-    let read : Id = id_at (slice_index word 0 - 48) (hex_pair word 1) (256 * hex_pair word 4 + hex_pair word 6) in
-    cond_both (is_id_word word) (Some read) None (λ o. o ≡ Some id → word ≡ id_text id)
-    (λ shape h. sym (id_word_text word shape) ∙ ap id_text (some_same read id h))
-    (λ _ h. absurd (none_some id h)) is
+    let read = cond_some (is_id_word word) (id_at (slice_index word 0 - 48) (hex_pair word 1) (256 * hex_pair word 4 + hex_pair word 6)) id is in
+    sym (id_word_text word read.0) ∙ ap id_text read.1
 
 -- the digit of a number below 16
 hex_there : (n : ℕ) → n < 16 → (is_hex (hex_digit n) ≡ true) × (hex_value (hex_digit n) ≡ n)

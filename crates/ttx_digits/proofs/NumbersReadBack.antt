@@ -1,20 +1,15 @@
 -- Numbers are read as they are written.
 use Rattle.std.proofs.Common.{◌≡◌, ℕ, zero, suc, ◌^◌, ◌<◌, ◌≤◌, ◌==◌, true, not, ◌&&◌, ◌||◌, List, [], ◌∷◌, length}
-use Rattle.std.proofs.Common.{slice_index, Option, Some, None, unwrap_or, nat_le, refl, sym, ap, ◌∙◌, arith, rules}
+use Rattle.std.proofs.Common.{slice_index, Some, None, nat_le, refl, sym, ap, ◌∙◌, arith, rules}
 use Rattle.std.specs.Fmt.{decimal}
 use Rattle.std.specs.List.{list_all}
-use Rattle.std.proofs.lemmas.Bool.{and_from, and_parts, cond_both, cond-true}
+use Rattle.std.proofs.lemmas.Bool.{and_from, and_parts, cond-true}
+use Rattle.std.proofs.lemmas.Option.{cond_some}
 use Rattle.std.proofs.lemmas.Bool.Decides.{nat_tests}
 use Rattle.std.proofs.lemmas.Fmt.{decimal-digits_value, digits_decimal, digits_value-decimal, length-decimal-le, decimal_nonempty, first_decimal, decimal_digit}
 use Rattle.std.proofs.lemmas.Str.Parse.{IsNumeralModel, numerals_by_fold, digits_value_short}
 use Rattle.ttx_digits.specs.Digits.{are_digits, decimal_after, is_between, is_number}
 use Rattle.ttx_digits.specs.Laws.{WrittenNumbersAreRead, ReadNumbersAreWritten, NumbersHoldNoSeparator}
-
-none_some : {A : Type 0} (a : A) → ◌≡◌ {A = Option A} None (Some a) → ⊥
-none_some a is = cc
-
-some_same : {A : Type 0} (a b : A) → Some a ≡ Some b → a ≡ b
-some_same a b is = ap (λ o. unwrap_or o a) is
 
 -- digits without a leading zero are the text of their number
 own : IsNumeralModel (λ ds. are_digits ds ≡ true) (decimal_after 0)
@@ -34,10 +29,7 @@ number_word word is =
     decimal-digits_value own word digits some (λ lead. grind (arith, nat_tests)) (omega arith)
 
 pub number_is : ReadNumbersAreWritten
-number_is word n is =
-    cond_both (is_number word) (Some (decimal_after 0 word)) None (λ o. o ≡ Some n → word ≡ decimal n)
-    (λ number h. sym (number_word word number) ∙ ap decimal (some_same (decimal_after 0 word) n h))
-    (λ _ h. absurd (none_some n h)) is
+number_is word n is = let read = cond_some (is_number word) (decimal_after 0 word) n is in sym (number_word word read.0) ∙ ap decimal read.1
 
 decimal_digits : (n : ℕ) → n < 10000000 → are_digits (decimal n) ≡ true
 decimal_digits n small = digits_decimal own n (omega arith)

@@ -1,7 +1,8 @@
 -- The numbers that words of digits are, and the digits in the word of an id.
 use Rattle.std.proofs.Common.{◌≡◌, ℕ, zero, suc, ◌^◌, ◌<◌, ◌≤◌, Bool, true, false, ◌&&◌, List, length}
-use Rattle.std.proofs.Common.{◌==◌, ◌+◌, ◌-◌, ◌*◌, slice_index, unwrap_or, Some, None, if◌then◌else◌, refl, sym, ap, ◌∙◌, inl, inr, arith}
+use Rattle.std.proofs.Common.{◌==◌, ◌+◌, ◌-◌, ◌*◌, slice_index, Some, None, if◌then◌else◌, refl, sym, ap, ◌∙◌, inl, inr, arith}
 use Rattle.std.proofs.lemmas.Bool.{and_from, and_parts, cases_Bool}
+use Rattle.std.proofs.lemmas.Option.{cond_some}
 use Rattle.std.proofs.lemmas.Bool.Decides.{nat_tests}
 use Rattle.ttx_header.specs.Ids.{id_at}
 use Rattle.ttx_digits.specs.Digits.{is_between, is_hex, hex_value, hex_in, hex_pair, joined_digits, two_digits, four_digits}
@@ -95,10 +96,6 @@ four_by_tests text at = ap (λ high. joined_digits 256 high (two_digits text (at
 pub four_of_id : (word : List ℕ) → is_id_word word ≡ true → four_digits word 4 ≡ Some (256 * hex_pair word 4 + hex_pair word 6)
 four_of_id word is = let parts = id_word word is in four_by_tests word 4 ∙ rw (parts.first, parts.second, parts.third, parts.fourth) refl
 
-chosen : {A : Type 0} (b : Bool) (x y : A) → Some y ≡ (if b then Some x else None) → (b ≡ true) × (x ≡ y)
-chosen true x y is = (refl, sym (ap (λ o. unwrap_or o y) is))
-chosen false x y is = cc
-
 pub nine : (a b c d e f g h i : Bool) → a ≡ true → b ≡ true → c ≡ true → d ≡ true → e ≡ true → f ≡ true → g ≡ true → h ≡ true → i ≡ true → (a && b && c && d && e && f && g && h && i) ≡ true
 nine a b c d e f g h i pa pb pc pd pe pf pg ph pi =
     and_from (a && b && c && d && e && f && g && h) i (and_from (a && b && c && d && e && f && g) h (and_from (a && b && c && d && e && f) g (and_from (a && b && c && d && e) f
@@ -108,8 +105,8 @@ nine a b c d e f g h i pa pb pc pd pe pf pg ph pi =
 pub id_of_digits : (word : List ℕ) (page sub : ℕ) → (length word == 8) ≡ true → is_between 49 56 (slice_index word 0) ≡ true → (slice_index word 3 == 47) ≡ true → Some page ≡ two_digits word 1 → Some sub ≡ four_digits word 4 →
     Some (id_at (slice_index word 0 - 48) page sub) ≡ id_in_word word
 id_of_digits word page sub long magazine stroke page_is sub_is =
-    let two = chosen (is_hex (slice_index word 1) && is_hex (slice_index word 2)) (hex_pair word 1) page (page_is ∙ two_by_tests word 1) in
-    let four = chosen ((is_hex (slice_index word 4) && is_hex (slice_index word 5)) && (is_hex (slice_index word 6) && is_hex (slice_index word 7))) (256 * hex_pair word 4 + hex_pair word 6) sub (sub_is ∙ four_by_tests word 4) in
+    let two = cond_some (is_hex (slice_index word 1) && is_hex (slice_index word 2)) (hex_pair word 1) page (sym (page_is ∙ two_by_tests word 1)) in
+    let four = cond_some ((is_hex (slice_index word 4) && is_hex (slice_index word 5)) && (is_hex (slice_index word 6) && is_hex (slice_index word 7))) (256 * hex_pair word 4 + hex_pair word 6) sub (sym (sub_is ∙ four_by_tests word 4)) in
     let high = (and_parts _ _ four.0).0 in
     let low = (and_parts _ _ four.0).1 in
     let is : is_id_word word ≡ true = nine (length word == 8) (is_between 49 56 (slice_index word 0)) (is_hex (slice_index word 1)) (is_hex (slice_index word 2)) (slice_index word 3 == 47)

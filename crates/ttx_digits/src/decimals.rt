@@ -65,8 +65,8 @@ fn value_of(digits: &[u8]) -> Option<u32>
 pub fn number(word: &[u8]) -> Option<u32>
     ensures value { result ≡ number_in_word word.now }
 {
-    let has_lead = 1 < word.len() && word[0] == b'0';
-    if word.is_empty() || word.len() > 7 || has_lead {
+    let has_leading_zero = 1 < word.len() && word[0] == b'0';
+    if word.is_empty() || word.len() > 7 || has_leading_zero {
         return None;
     }
     value_of(word)
