@@ -1,5 +1,5 @@
 -- What is found in a packet file of a plan, and what is certified of what is found.
-use Rattle.std.proofs.Common.{◌≡◌, ◌∙◌, ℕ, pos, ◌≤◌, List, [], Option, Some, None, Result, Ok, Err, refl, sym, ap, subst}
+use Rattle.std.proofs.Common.{◌≡◌, ◌∙◌, ℕ, pos, ◌≤◌, List, [], Option, Some, None, Ok, refl, sym, ap, subst}
 use Rattle.std.specs.Prelude.{IfSome}
 use Rattle.std.specs.Io.KnownBytes.{Appends}
 use Rattle.ttx_certify.specs.CertifyingFiles.{IsPacketFile, IsServiceText, IsCertificateText}
@@ -10,13 +10,12 @@ use Rattle.ttx_late.specs.LateVerdicts.{IsLateVerdict}
 use Rattle.ttx_late.specs.declared.verdict.LateVerdict.{LateVerdict}
 use Rattle.ttx_late.specs.declared.verdict.LateVerdict.TheVariants as late
 use Rattle.ttx_page.specs.declared.class.Class.{Class}
-use Rattle.ttx_plan.specs.Acceptance.{IsPlanned, PlannedIsFound}
+use Rattle.ttx_plan.specs.Acceptance.{IsPlanned, PlannedFilesAreFound}
 use Rattle.ttx_plan.specs.Following.{AreFollowed, PlannedIsFollowed}
 use Rattle.ttx_source.specs.Services.{ServiceFields, pages_of, read_bytes}
-use Rattle.ttx_tool.specs.FindingFiles.{TellsFound, IsFinding, FindsFiles}
+use Rattle.ttx_tool.specs.FindingFiles.{TellsFound, IsFinding}
 use Rattle.ttx_tool.specs.PlannedFiles as T
 use Rattle.ttx_tool.specs.PlannedFiles.{IsCertified, FoundIsCertified, SaysYes, LateIsCertified, FindsDeadline, MakesCertified}
-use Rattle.ttx_tool.specs.declared.faults.ToolFault.{ToolFault}
 use Rattle.ttx_tool.proofs.SameInputs.{same_slots, same_ok}
 use Rattle.ttx_witness.specs.CertificateLaws.{WrittenTextsAreRead}
 use Rattle.ttx_witness.specs.CertificateReading.{read_text}
@@ -31,7 +30,7 @@ deadline_told : (slots : List (List ℕ)) (service : ServiceFields) (w : Certifi
 deadline_told slots service w None deadline file line status e t = cc
 deadline_told slots service w (Some d) deadline file line status e t = t.2
 
-pub planned_is_found : PlannedIsFound → T.PlannedFilesAreFound
+pub planned_is_found : PlannedFilesAreFound → T.PlannedFilesAreFound
 planned_is_found law a b late class p repeat one eight file line status f =
     let slots : p.slots ≡ f.slots = same_slots p.slots f.slots p.plan.is_cycle.each f.cycle_is.is_cycle.each (sym p.file ∙ f.cycle_is.same) in
     let service : p.plan.service ≡ f.service = same_ok (read_bytes b) p.plan.service f.service p.plan.text.says f.service_is.says in
@@ -95,29 +94,25 @@ late_is_certified law followed a b class p asked repeat file line f verdict said
 
 -- ---- what `find` answers and writes
 
-module _ (repeat : ℕ) (class : Class) (file_old file_new old new : Option (List ℕ)) where
-  finds_deadline : T.PlannedFilesAreFound → 1 ≤ repeat → repeat ≤ 8 → (a b : List ℕ) (result : Result ℕ ToolFault) → FindsFiles a b repeat class file_old file_new old new result → FindsDeadline a b class result
-  finds_deadline law one eight a b (Ok status) f = λ late p. law a b late class p repeat one eight f.0 f.1 status f.2
-  finds_deadline law one eight a b (Err fault) f = tt
+module _ (repeat : ℕ) (class : Class) (file line : List ℕ) (status : ℕ) where
+  pub all_find : T.PlannedFilesAreFound → 1 ≤ repeat → repeat ≤ 8 → (a b : Option (List ℕ)) →
+      IfSome a (λ x. IfSome b (λ y. IsFinding x y repeat class file line status)) → IfSome a (λ x. IfSome b (λ y. FindsDeadline x y class (Ok status)))
+  all_find law one eight (Some a) (Some b) f = λ late p. law a b late class p repeat one eight file line status f
+  all_find law one eight (Some a) None f = tt
+  all_find law one eight None b f = tt
 
-  written : (bytes file : List ℕ) → Appends (Some []) (Some file) bytes → bytes ≡ file
-  written bytes file a = sym a
+  written : (content : List ℕ) → Appends (Some []) (Some content) file → file ≡ content
+  written content a = sym a
 
-  makes_certified : FoundIsCertified → (a b : List ℕ) (result : Result ℕ ToolFault) → FindsFiles a b repeat class file_old file_new old new result → MakesCertified a b file_old file_new result
-  makes_certified law a b (Err fault) f file empty full zero = cc
-  makes_certified law a b (Ok status) f file empty full zero =
+  makes_certified : FoundIsCertified → (old new : Option (List ℕ)) → Appends old new file → (a b : List ℕ) → IsFinding a b repeat class file line status →
+      MakesCertified a b old new (Ok status)
+  makes_certified law old new appended a b f content empty full zero =
       let none : status ≡ 0 = cc in
-      let there : Appends (Some []) (Some file) f.0 = subst (λ x. Appends (Some []) x f.0) full (subst (λ x. Appends x file_new f.0) empty f.3.0) in
-      subst (IsCertified a b) (written f.0 file there) (law a b class repeat f.0 f.1 (subst (IsFinding a b repeat class f.0 f.1) none f.2))
+      let there : Appends (Some []) (Some content) file = subst (λ x. Appends (Some []) x file) full (subst (λ x. Appends x new file) empty appended) in
+      subst (IsCertified a b) (written content there) (law a b class repeat file line (subst (IsFinding a b repeat class file line) none f))
 
-  pub all_find : T.PlannedFilesAreFound → 1 ≤ repeat → repeat ≤ 8 → (a b : Option (List ℕ)) (result : Result ℕ ToolFault) →
-      IfSome a (λ x. IfSome b (λ y. FindsFiles x y repeat class file_old file_new old new result)) → IfSome a (λ x. IfSome b (λ y. FindsDeadline x y class result))
-  all_find law one eight (Some a) (Some b) result f = finds_deadline law one eight a b result f
-  all_find law one eight (Some a) None result f = tt
-  all_find law one eight None b result f = tt
-
-  pub all_certify : FoundIsCertified → (a b : Option (List ℕ)) (result : Result ℕ ToolFault) →
-      IfSome a (λ x. IfSome b (λ y. FindsFiles x y repeat class file_old file_new old new result)) → IfSome a (λ x. IfSome b (λ y. MakesCertified x y file_old file_new result))
-  all_certify law (Some a) (Some b) result f = makes_certified law a b result f
-  all_certify law (Some a) None result f = tt
-  all_certify law None b result f = tt
+  pub all_certify : FoundIsCertified → (old new : Option (List ℕ)) → Appends old new file → (a b : Option (List ℕ)) →
+      IfSome a (λ x. IfSome b (λ y. IsFinding x y repeat class file line status)) → IfSome a (λ x. IfSome b (λ y. MakesCertified x y old new (Ok status)))
+  all_certify law old new appended (Some a) (Some b) f = makes_certified law old new appended a b f
+  all_certify law old new appended (Some a) None f = tt
+  all_certify law old new appended None b f = tt

@@ -147,30 +147,6 @@ pub(super) fn write_told<O: Write, W: Write>(
     })
 }
 
-// What `find` does, but for what follows of plans and verdicts.
-fn find_and_write<A: Read, B: Read, O: Write, W: Write>(
-    alloc: Global,
-    cycle: &mut Counted<A>,
-    service: &mut Counted<B>,
-    repeat: u8,
-    class: Class,
-    file: &mut Counted<O>,
-    writer: &mut Counted<W>,
-) -> Result<u8, ToolFault>
-    requires some { 1 ≤ repeat }
-    requires few { repeat ≤ 8 }
-    ensures bytes { IfSome (A.remaining (inner_of cycle.old)) (λ a. IfSome (B.remaining (inner_of service.old)) (λ b. FindsFiles a b repeat class
-        (O.contents (inner_of file.old)) (O.contents (inner_of file.new)) (W.contents (inner_of writer.old)) (W.contents (inner_of writer.new))
-        result)) }
-    ensures faults { CountsFind result (faults_of cycle.old) (faults_of cycle.new) (faults_of service.old) (faults_of service.new)
-        (faults_of file.old) (faults_of file.new) (faults_of writer.old) (faults_of writer.new) }
-    ensures untouched { IsUntouched is_tool_write result file.old file.new × IsUntouched is_tool_write result writer.old writer.new }
-{
-    let told = find_text(alloc, cycle, service, repeat, class)?;
-    write_told(file, told.file.as_slice(), writer, told.line.as_bytes())?;
-    Ok(told.status)
-}
-
 /// Reads a packet file and the text of a service, and finds the certificate of the cycle for the pages of the service and
 /// receivers of the class; `repeat` is 1 to 8. Where there is a deadline, writes the text of the certificate to the file and
 /// the deadline to the other writer: the status is 0. Where there is none, writes nothing to the file, and to the other writer
@@ -205,5 +181,7 @@ pub fn find<A: Read, B: Read, O: Write, W: Write>(
 {
     crate::laws::planned_is_found();
     crate::laws::found_is_certified();
-    find_and_write(alloc, cycle, service, repeat, class, file, writer)
+    let told = find_text(alloc, cycle, service, repeat, class)?;
+    write_told(file, told.file.as_slice(), writer, told.line.as_bytes())?;
+    Ok(told.status)
 }
