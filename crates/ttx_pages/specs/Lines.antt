@@ -3,7 +3,7 @@
 --   quoted, quoted_text     characters as they stand between quotation marks
 --   counts_text, quoted_line    the parts of a line: how often is sent what, the characters of a header
 --   listed_line             the line of a page
-use Rattle.std.specs.Prelude.{ℕ, Bool, ◌||◌, ◌==◌, ◌%◌, List, [], ◌∷◌, ◌++◌, codes, nat_lt, if◌then◌else◌}
+use Rattle.std.specs.Prelude.{ℕ, ◌||◌, ◌==◌, ◌%◌, List, [], ◌∷◌, ◌++◌, codes, nat_lt, if◌then◌else◌}
 use Rattle.std.specs.Fmt.{decimal}
 use Rattle.ttx_code.specs.Words.{is_odd}
 use Rattle.ttx_header.specs.Control.{control_text}

@@ -1,6 +1,6 @@
 //! The line of a page.
 
-ghost use Rattle.std.specs.Prelude.{◌≡◌, ◌<◌, ◌++◌, ◌∷◌, [], OnOk, codes, map, string_bytes};
+ghost use Rattle.std.specs.Prelude.{◌≡◌, ◌<◌, ◌++◌, OnOk, codes, string_bytes};
 ghost use Rattle.ttx_pages.specs.Lines.{character, quoted, quoted_text, counts_text, quoted_line, listed_line};
 
 use std::alloc::AllocError;

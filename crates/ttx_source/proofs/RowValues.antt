@@ -1,7 +1,7 @@
 -- The values of a table of rows, entry by entry: its keys ascend, so that no later entry has the key of an earlier one.
 use Rattle.std.proofs.Common.{◌≡◌, ◌≢◌, ◌∙◌, ◌==◌, ◌<◌, ◌+◌, ℕ, List, [], ◌∷◌, length, map, Option, Some, None, String, string_bytes, Global, nat_cmp, Bool, false}
 use Rattle.std.proofs.Common.{Ordering, Less, Equal, Greater, is_eq, ap, sym, refl, true, if◌then◌else◌, get_or, set, get_or-set_same, get_or-set_other}
-use Rattle.std.proofs.Common.{inl, inr, arith, is_some, option_map, Bor, subst, IfSome}
+use Rattle.std.proofs.Common.{inl, inr, arith, is_some, Bor, subst, IfSome}
 use Rattle.std.specs.Cmp.Lexicographic.{slice_cmp}
 use Rattle.std.specs.List.{AllByRecursion, list_any, position, position_from}
 use Rattle.std.specs.List.Sorted.{IsStrictlySortedBy}
