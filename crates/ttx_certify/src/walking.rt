@@ -25,7 +25,7 @@ impl<'a> Walk<'a> {
     ghost use Rattle.ttx_packet.specs.Slots.{IsSlot};
     ghost use Rattle.ttx_page.specs.Views.{page_of};
     ghost use Rattle.ttx_witness.specs.Certificates.{certificate_of};
-    ghost use Rattle.ttx_witness.specs.sent.Collected.{ids_of};
+    ghost use Rattle.ttx_page.specs.Views.{ids_of};
     ghost use Rattle.ttx_certify.specs.Walking.{Starts, Stands, walk_pages, walk_certificate, second_pages, second_certificate};
 
     /// A walk over the pages, whose ids are distinct, with the certificate. All its growths are made here; what is kept is by

@@ -20,7 +20,7 @@ use Rattle.ttx_page.specs.declared.item.Item.{Item}
 use Rattle.ttx_page.specs.declared.item.Item.TheVariants.{Head as TheHead}
 use Rattle.ttx_page.specs.Streams.{repeated, IsTransmission}
 use Rattle.ttx_page.specs.Steady.{Steady}
-use Rattle.ttx_source.specs.Services.{ServiceFields, Authored, pages_of, ids_of}
+use Rattle.ttx_source.specs.Services.{ServiceFields, Authored, pages_of, authored_ids}
 use Rattle.ttx_witness.specs.sent.ItemTransmissions.{sent_in}
 use Rattle.ttx_witness.specs.faults.Faults.{IsPageFault}
 use Rattle.ttx_witness.specs.declared.faults.reason.Reason.{Reason as WitnessReason}
@@ -68,7 +68,7 @@ IsSentOften slots lines a = a.often ≡ often_for (length (sent_in slots a.page.
 pub record IsExtract (slots : List (List ℕ)) (lines : ℕ) (service : ServiceFields) : Type 0 where
   pub lines_are : service.lines ≡ lines
   pub info : service.info ≡ first_info slots
-  pub listed : AreOfPages (ids_of service.pages) slots
+  pub listed : AreOfPages (authored_ids service.pages) slots
   pub steady : AreSteady slots service
   pub often : (n : ℕ) (a : Authored) → slice_get service.pages n ≡ Some a → IsSentOften slots lines a
 

@@ -3,7 +3,7 @@
 ghost use Rattle.std.specs.Prelude.{◌≡◌, ◌≤◌, ℕ, IsTrue, IfSome, IfOk, IfErr, MatchOption, MatchResult, length, option_map, string_bytes};
 ghost use Rattle.ttx_cycle.specs.Bounded.{most_bytes};
 ghost use Rattle.ttx_cycle.specs.Cycles.{slots_of};
-ghost use Rattle.ttx_source.specs.Services.{ids_of, pages_of};
+ghost use Rattle.ttx_source.specs.Services.{authored_ids, pages_of};
 ghost use Rattle.ttx_witness.specs.sent.AllSent.{AreAllSent};
 ghost use Rattle.ttx_witness.specs.faults.OtherSubpages.{AreOtherSubpages};
 ghost use Rattle.ttx_extract.specs.Extracts.{AnswersFault, AreOfPages, AreSteady, Blames, Extracts, IsExtract, first_info};
@@ -74,7 +74,7 @@ fn has_head(cycle: &Cycle, service: &Service, lines: u8) -> bool
 
 // Whether the service has all pages of the cycle.
 fn has_pages(alloc: Global, cycle: &Cycle, service: &Service) -> Result<bool, NoMemory>
-    ensures { OkTrue result → AreOfPages (ids_of service.now.pages) (slots_of cycle.now) }
+    ensures { OkTrue result → AreOfPages (authored_ids service.now.pages) (slots_of cycle.now) }
 {
     let pages = service.pages();
     let index = index_of(alloc, pages)?;

@@ -19,7 +19,7 @@ use Rattle.ttx_page.specs.Packets.{Packet, packet_of}
 use Rattle.ttx_page.specs.Pages.{Page, IsPage, IsAlone, is_other_subpage, page_row}
 use Rattle.ttx_page.specs.Steady.{Steady, IsChecked, IsTrueTo, HeadIsRight, RowIsRight, LinksAreRight}
 use Rattle.ttx_page.specs.Streams.{turned, repeated, heads, heads_page, heads_matched, carries, IsLatestHeader, IsOwned}
-use Rattle.ttx_source.specs.Services.{Authored, ServiceFields, ids_of, pages_of}
+use Rattle.ttx_source.specs.Services.{Authored, ServiceFields, authored_ids, pages_of}
 use Rattle.ttx_plan.specs.Acceptance.{IsPlanned, PlannedIsSteady}
 use Rattle.ttx_plan.specs.Laws.{IsHeadOf}
 use Rattle.ttx_plan.proofs.PlannedSlots.{get_map}
@@ -50,11 +50,11 @@ one_id a b P.Info e f = cc
 one_id a b P.Other e f = cc
 
 -- a page of a service by its id
-one_page : (pages : List Authored) → AllPairs (λ a b. a ≡ b → ⊥) (ids_of pages) → (i j : ℕ) (a b : Authored) → slice_get pages i ≡ Some a → slice_get pages j ≡ Some b → a.page.id ≡ b.page.id → a ≡ b
+one_page : (pages : List Authored) → AllPairs (λ a b. a ≡ b → ⊥) (authored_ids pages) → (i j : ℕ) (a b : Authored) → slice_get pages i ≡ Some a → slice_get pages j ≡ Some b → a.page.id ≡ b.page.id → a ≡ b
 one_page pages distinct i j a b e f same = elim (cases_lt i j) as (λ _. a ≡ b) [
-  | inl lt ↦ absurd (distinct i j a.page.id lt (slice_get_within (ids_of pages) j b.page.id (at j b f)) (id_is i a e a.page.id ∙ same ∙ sym (id_is j b f a.page.id)))
+  | inl lt ↦ absurd (distinct i j a.page.id lt (slice_get_within (authored_ids pages) j b.page.id (at j b f)) (id_is i a e a.page.id ∙ same ∙ sym (id_is j b f a.page.id)))
   | inr ge ↦ elim (cases_lt j i) as (λ _. a ≡ b) [
-    | inl lt ↦ absurd (distinct j i a.page.id lt (slice_get_within (ids_of pages) i a.page.id (at i a e)) (id_is j b f a.page.id ∙ sym same ∙ sym (id_is i a e a.page.id)))
+    | inl lt ↦ absurd (distinct j i a.page.id lt (slice_get_within (authored_ids pages) i a.page.id (at i a e)) (id_is j b f a.page.id ∙ sym same ∙ sym (id_is i a e a.page.id)))
     | inr le ↦
         let q : i ≡ j = omega arith in
         let g : Some a ≡ Some b = sym e ∙ ap (slice_get pages) q ∙ f in
@@ -62,11 +62,11 @@ one_page pages distinct i j a b e f same = elim (cases_lt i j) as (λ _. a ≡ b
   ]
 ]
   where
-    at : (k : ℕ) (x : Authored) → slice_get pages k ≡ Some x → slice_get (ids_of pages) k ≡ Some x.page.id
+    at : (k : ℕ) (x : Authored) → slice_get pages k ≡ Some x → slice_get (authored_ids pages) k ≡ Some x.page.id
     at k x h = get_map (λ p. p.page.id) pages k x h
 
-    id_is : (k : ℕ) (x : Authored) → slice_get pages k ≡ Some x → (d : Id) → get_or (ids_of pages) k d ≡ x.page.id
-    id_is k x h d = get_or_from_slice_get (ids_of pages) k x.page.id d (get_map (λ p. p.page.id) pages k x h)
+    id_is : (k : ℕ) (x : Authored) → slice_get pages k ≡ Some x → (d : Id) → get_or (authored_ids pages) k d ≡ x.page.id
+    id_is k x h d = get_or_from_slice_get (authored_ids pages) k x.page.id d (get_map (λ p. p.page.id) pages k x h)
 
 not_filling : (p : Page) → IsPage p → is_time_filling p.id ≡ true → ⊥
 not_filling p is e = is.page (eqb-true p.id.page 255 (and_parts (eqb p.id.page 255) (eqb p.id.sub 16255) e).0)

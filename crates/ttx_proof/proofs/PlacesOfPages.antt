@@ -6,10 +6,10 @@ use Rattle.std.proofs.lemmas.Bool.{cases_lt, and_from}
 use Rattle.std.proofs.lemmas.List.Elements.{Contains-get_or}
 use Rattle.std.proofs.lemmas.Option.{slice_get_within, get_or_from_slice_get}
 use Rattle.ttx_page.specs.Pages.{Page}
-use Rattle.ttx_page.specs.Views.{page_of}
+use Rattle.ttx_page.specs.Views.{page_of, ids_of}
 use Rattle.ttx_page.specs.declared.page.Page.{Page as PageValue}
 use Rattle.ttx_proof.specs.Splices.{Splice, IsCommon}
-use Rattle.ttx_witness.specs.sent.Collected.{ids_of, is_page, Finds}
+use Rattle.ttx_witness.specs.sent.Collected.{is_page, Finds}
 use Rattle.ttx_header.specs.Ids.{Id, same_id}
 use Rattle.ttx_proof.specs.Splicing.{TellsPlace, TellsPlaceAt, StandsAt, TellsSeamOf, TellsLate, TellsLateOf}
 use Rattle.ttx_proof.specs.Verdicts.{IsFirstCommon, TellsSeam}

@@ -1,8 +1,8 @@
 //! Pages that are equal in both lists.
 
 ghost use Rattle.std.specs.Prelude.{◌≡◌, ◌↔◌, IsTrue, map};
-ghost use Rattle.ttx_page.specs.Views.{page_of};
-ghost use Rattle.ttx_witness.specs.sent.Collected.{ids_of, IsIndex};
+ghost use Rattle.ttx_page.specs.Views.{page_of, ids_of};
+ghost use Rattle.ttx_witness.specs.sent.Collected.{IsIndex};
 ghost use Rattle.ttx_proof.specs.Splicing.{TellsPlace, TellsPlaceAt};
 
 use ttx_header::PageId;

@@ -2,8 +2,8 @@
 
 ghost use Rattle.std.specs.Prelude.{◌≡◌, ◌<◌, IfOk, Some, map, slice_get, length};
 ghost use Rattle.ttx_page.specs.Pages as definitions;
-ghost use Rattle.ttx_page.specs.Views.{page_of};
-ghost use Rattle.ttx_witness.specs.sent.Collected.{ids_of, IsIndex};
+ghost use Rattle.ttx_page.specs.Views.{page_of, ids_of};
+ghost use Rattle.ttx_witness.specs.sent.Collected.{IsIndex};
 ghost use Rattle.ttx_proof.specs.Splicing.{splice_between, AreKnown, AreSentOn, StandsIn, TellsBridged, TellsLate, TellsLateOf, TellsLates};
 
 use crate::bridging::is_bridged;

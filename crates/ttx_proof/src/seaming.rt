@@ -2,8 +2,8 @@
 
 ghost use Rattle.std.specs.Prelude.{Contains};
 ghost use Rattle.ttx_cycle.specs.Cycles.{slots_of};
-ghost use Rattle.ttx_page.specs.Views.{page_of};
-ghost use Rattle.ttx_witness.specs.sent.Collected.{ids_of, IsIndex};
+ghost use Rattle.ttx_page.specs.Views.{page_of, ids_of};
+ghost use Rattle.ttx_witness.specs.sent.Collected.{IsIndex};
 ghost use Rattle.ttx_proof.specs.Seams.{AreLatest};
 ghost use Rattle.ttx_proof.specs.Splicing.{splice_between, TellsSeamOf, TellsSeams};
 

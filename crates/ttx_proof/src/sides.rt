@@ -2,7 +2,7 @@
 
 ghost use Rattle.std.specs.Prelude.{◌≢◌};
 ghost use Rattle.std.specs.List.{AllPairs};
-ghost use Rattle.ttx_witness.specs.sent.Collected.{ids_of};
+ghost use Rattle.ttx_page.specs.Views.{ids_of};
 
 use ttx_cycle::Cycle;
 use ttx_page::Page;

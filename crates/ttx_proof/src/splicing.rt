@@ -4,7 +4,8 @@ ghost use Rattle.std.specs.Prelude.{◌≡◌, ◌≢◌, ◌↔◌, IsTrue, IfO
 ghost use Rattle.std.specs.List.{AllPairs};
 ghost use Rattle.ttx_page.specs.declared.class.Class.TheVariants.{Any};
 ghost use Rattle.ttx_witness.specs.Certificates.{certificate_of};
-ghost use Rattle.ttx_witness.specs.sent.Collected.{ids_of, IsIndex};
+ghost use Rattle.ttx_witness.specs.sent.Collected.{IsIndex};
+ghost use Rattle.ttx_page.specs.Views.{ids_of};
 ghost use Rattle.ttx_proof.specs.Splices.{NumbersAgree};
 ghost use Rattle.ttx_proof.specs.Splicing.{splice_of, splice_between, AreKnown};
 ghost use Rattle.ttx_proof.specs.Verdicts.{IsSpliceVerdict, SpliceMeans};

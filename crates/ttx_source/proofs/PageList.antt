@@ -13,7 +13,7 @@ use Rattle.ttx_header.specs.Ids.{Id, same_id}
 use Rattle.ttx_header.specs.contracts.ids.PageIdPartialEq.TheImpl.{eq-value}
 use Rattle.ttx_page.specs.declared.page.Page.{Page}
 use Rattle.ttx_page.specs.Views.{page_of}
-use Rattle.ttx_source.specs.Services.{Authored, authored_at, ids_of, ServiceFields, IsService, IsAuthored, has_id, with_page}
+use Rattle.ttx_source.specs.Services.{Authored, authored_at, authored_ids, ServiceFields, IsService, IsAuthored, has_id, with_page}
 use Rattle.ttx_source.specs.Views.{authored_pages}
 
 -- the map and the list have as many entries
@@ -43,7 +43,7 @@ authored_pages-pages [] es same = refl
 authored_pages-pages (p ∷ ps) [] same = cc
 authored_pages-pages (p ∷ ps) (e ∷ es) same = ap (λ rest. page_of p ∷ rest) (authored_pages-pages ps es (cc))
 
-pub authored_pages-ids : (ps : List Page) (es : List (Id × ℕ)) → length es ≡ length ps → ids_of (authored_pages ps es) ≡ map (λ p. (page_of p).id) ps
+pub authored_pages-ids : (ps : List Page) (es : List (Id × ℕ)) → length es ≡ length ps → authored_ids (authored_pages ps es) ≡ map (λ p. (page_of p).id) ps
 authored_pages-ids [] es same = refl
 authored_pages-ids (p ∷ ps) [] same = cc
 authored_pages-ids (p ∷ ps) (e ∷ es) same = ap (λ rest. (page_of p).id ∷ rest) (authored_pages-ids ps es (cc))
@@ -104,5 +104,5 @@ IsService-push s a was room one new = record {
   pages = All-push (IsAuthored s.serial) s.pages a was.pages one;
   distinct =
       subst (AllPairs (λ x y. x ≢ y)) (sym (map-append (λ (p : Authored). p.page.id) s.pages (a ∷ [])))
-      (distinct_push (ids_of s.pages) a.page.id was.distinct new);
+      (distinct_push (authored_ids s.pages) a.page.id was.distinct new);
 }

@@ -45,8 +45,8 @@ with_page service page = service_at service.lines service.serial service.info (s
 abbrev pub pages_of : ServiceFields → List Page
 pages_of service = map (λ p. p.page) service.pages
 
-abbrev pub ids_of : List Authored → List Id
-ids_of pages = map (λ p. p.page.id) pages
+abbrev pub authored_ids : List Authored → List Id
+authored_ids pages = map (λ p. p.page.id) pages
 
 -- a page in its ranges, with C11 as the service has it, sent 1, 2, 4 or 8 times
 pub record IsAuthored (serial : Bool) (authored : Authored) : Type 0 where
@@ -60,11 +60,11 @@ pub record IsService (service : ServiceFields) : Type 0 where
   pub lines_to : service.lines ≤ 32
   pub count : length service.pages ≤ 2000
   pub pages : All (IsAuthored service.serial) service.pages
-  pub distinct : AllPairs (λ a b. a ≢ b) (ids_of service.pages)
+  pub distinct : AllPairs (λ a b. a ≢ b) (authored_ids service.pages)
 
 -- whether a page of the list has the id
 abbrev pub has_id : List Authored → Id → Bool
-has_id pages id = list_any (same_id id) (ids_of pages)
+has_id pages id = list_any (same_id id) (authored_ids pages)
 
 abbrev pub new_id : List Authored → Id → Result Id Fault
 new_id earlier id = if has_id earlier id then Err duplicate else Ok id

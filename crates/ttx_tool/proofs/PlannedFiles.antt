@@ -10,7 +10,7 @@ use Rattle.ttx_late.specs.LateVerdicts.{IsLateVerdict}
 use Rattle.ttx_late.specs.declared.verdict.LateVerdict.{LateVerdict}
 use Rattle.ttx_late.specs.declared.verdict.LateVerdict.TheVariants as late
 use Rattle.ttx_page.specs.declared.class.Class.{Class}
-use Rattle.ttx_plan.specs.Acceptance.{IsPlanned, PlannedFilesAreFound}
+use Rattle.ttx_plan.specs.Acceptance.{IsPlanned, PlannedIsFound}
 use Rattle.ttx_plan.specs.Following.{AreFollowed, PlannedIsFollowed}
 use Rattle.ttx_source.specs.Services.{ServiceFields, pages_of, read_bytes}
 use Rattle.ttx_tool.specs.FindingFiles.{TellsFound, IsFinding}
@@ -30,7 +30,7 @@ deadline_told : (slots : List (List ℕ)) (service : ServiceFields) (w : Certifi
 deadline_told slots service w None deadline file line status e t = cc
 deadline_told slots service w (Some d) deadline file line status e t = t.2
 
-pub planned_is_found : PlannedFilesAreFound → T.PlannedFilesAreFound
+pub planned_is_found : PlannedIsFound → T.PlannedFilesAreFound
 planned_is_found law a b late class p repeat one eight file line status f =
     let slots : p.slots ≡ f.slots = same_slots p.slots f.slots p.plan.is_cycle.each f.cycle_is.is_cycle.each (sym p.file ∙ f.cycle_is.same) in
     let service : p.plan.service ≡ f.service = same_ok (read_bytes b) p.plan.service f.service p.plan.text.says f.service_is.says in

@@ -7,13 +7,12 @@ use Rattle.ttx_certify.specs.CertifyingFiles.{IsPacketFile, IsServiceText, IsCer
 use Rattle.ttx_counter.specs.Counters.{CounterRun}
 use Rattle.ttx_header.specs.Ids.{Id}
 use Rattle.ttx_page.specs.Pages.{Page}
-use Rattle.ttx_page.specs.Views.{page_of}
+use Rattle.ttx_page.specs.Views.{page_of, ids_of}
 use Rattle.ttx_page.specs.declared.class.Class.TheVariants.{Any}
 use Rattle.ttx_page.specs.declared.page.Page.{Page as PageValue}
 use Rattle.ttx_source.specs.Services as S
 use Rattle.ttx_source.specs.Services.{ServiceFields, pages_of}
 use Rattle.ttx_tool.specs.RefutingFiles.{TellsAnswer, IsRefutation, IsRefutingFiles}
-use Rattle.ttx_witness.specs.sent.Collected.{ids_of}
 use Rattle.ttx_witness.specs.Entries.{CertificateFields}
 use Rattle.ttx_witness.specs.finding.Finding.{IsSentUnchanged, CanBeAccepted}
 
@@ -25,7 +24,7 @@ page_in a = a.page
 
 -- the ids of a service's pages are distinct
 pub distinct_ids : (pages : List PageValue) (authored : List S.Authored) → map page_of pages ≡ map (λ p. p.page) authored →
-    AllPairs (λ a b. a ≢ b) (S.ids_of authored) → AllPairs (λ a b. a ≢ b) (ids_of pages)
+    AllPairs (λ a b. a ≢ b) (S.authored_ids authored) → AllPairs (λ a b. a ≢ b) (ids_of pages)
 distinct_ids pages authored e distinct =
     subst (AllPairs (λ a b. a ≢ b)) (sym (map-map id_in page_in authored) ∙ ap (map id_in) (sym e) ∙ map-map id_in page_of pages) distinct
 

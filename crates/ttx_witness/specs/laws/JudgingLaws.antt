@@ -11,7 +11,7 @@ use Rattle.std.specs.Prelude.{◌≡◌, ℕ, suc, ◌<◌, ◌≤◌, ℤ, pos,
 use Rattle.std.specs.Prelude.{length, slice_index_or, Option, Some, None, ◌≢◌, ◌^◌}
 use Rattle.std.specs.List.{AllByRecursion, AllPairs}
 use Rattle.ttx_page.specs.declared.page.Page.{Page as PageValue}
-use Rattle.ttx_witness.specs.sent.Collected.{ids_of}
+use Rattle.ttx_page.specs.Views.{ids_of}
 use Rattle.ttx_header.specs.Ids.{Id}
 use Rattle.ttx_page.specs.Packets.{packet_of}
 use Rattle.ttx_page.specs.Pages.{Page, IsBlank, needed}

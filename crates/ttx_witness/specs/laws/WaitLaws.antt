@@ -9,7 +9,7 @@ use Rattle.std.specs.List.{AllByRecursion, AllPairs}
 use Rattle.ttx_header.specs.Ids.{Id}
 use Rattle.ttx_packet.specs.Slots.{is_clean}
 use Rattle.ttx_page.specs.Packets.{packet_of}
-use Rattle.ttx_page.specs.Views.{page_of}
+use Rattle.ttx_page.specs.Views.{page_of, ids_of}
 use Rattle.ttx_page.specs.declared.page.Page.{Page as PageValue}
 use Rattle.ttx_page.specs.declared.item.Item.{Item}
 use Rattle.ttx_page.specs.declared.item.Item.TheVariants.{Head as TheHead}
@@ -17,7 +17,6 @@ use Rattle.ttx_page.specs.declared.class.Class.{Class}
 use Rattle.ttx_page.specs.Streams.{Stream, repeated, ends_serial}
 use Rattle.ttx_witness.specs.runs.Transmissions.{Transmission}
 use Rattle.ttx_witness.specs.sent.ItemTransmissions.{sent_in}
-use Rattle.ttx_witness.specs.sent.Collected.{ids_of}
 use Rattle.ttx_witness.specs.Coverage.{Certificate, IsCertificate}
 use Rattle.ttx_witness.specs.finding.Finding.{wider, IsFoundFor}
 use Rattle.ttx_witness.specs.waiting.PageWaits.{is_near, is_cut, fields_told, AreWaits}

@@ -15,12 +15,12 @@ use Rattle.std.specs.List.{All}
 use Rattle.ttx_packet.specs.Slots.{IsSlot, is_clean}
 use Rattle.ttx_header.specs.Ids.{Id, IsId}
 use Rattle.ttx_page.specs.Pages.{Page}
-use Rattle.ttx_page.specs.Views.{page_of}
+use Rattle.ttx_page.specs.Views.{page_of, ids_of}
 use Rattle.ttx_page.specs.Streams.{repeated}
 use Rattle.ttx_page.specs.declared.item.Item.{Item}
 use Rattle.ttx_cycle.specs.Files.{IsCycle}
 use Rattle.ttx_certificate.specs.Certificates.{certificate_of}
-use Rattle.ttx_witness.specs.sent.Collected.{IsIndex, AreApart, IsItem, ids_of, owner_for, place_of_item}
+use Rattle.ttx_witness.specs.sent.Collected.{IsIndex, AreApart, IsItem, owner_for, place_of_item}
 use Rattle.ttx_witness.specs.Coverage.{Certificate}
 use Rattle.ttx_witness.specs.passes.PageFacts.{FirstBelow, AreFacts}
 use Rattle.ttx_witness.specs.passes.ItemProgress.{HoldsAt}

@@ -2,7 +2,6 @@
 --
 --   taint, seen_by          an owner after a header of another magazine; an owner as one of the pages sees it
 --   Finds                   a look-up that tells the place of an id among the ids of pages
---   ids_of                  the ids of pages
 --   AreOwners               the owners are right for each page
 --   IsItem, place_of_item   the items of a page, and where the transmissions of an item of a page are kept
 --   held, AreCollected      the list in a place; the lists are the transmissions of all items in the first slots of a period
@@ -11,8 +10,6 @@ use Rattle.std.specs.Prelude.{Option, Some, None, Vec}
 use Rattle.std.specs.Global.{Global}
 use Rattle.ttx_header.specs.Ids.{Id, IsId, same_id}
 use Rattle.ttx_page.specs.Streams.{repeated}
-use Rattle.ttx_page.specs.declared.page.Page.{Page as PageValue}
-use Rattle.ttx_page.specs.Views.{page_of}
 use Rattle.ttx_page.specs.declared.item.Item.{Item}
 pub use Rattle.ttx_certificate.specs.ItemPlaces.{IsItem, item_number, key_of}
 use Rattle.ttx_witness.specs.runs.Transmissions.{Transmission}
@@ -20,10 +17,6 @@ use Rattle.ttx_witness.specs.sent.ItemTransmissions.{PageOwner, owner_scan, sent
 use Rattle.std.specs.HashMap.{get}
 use Rattle.ttx_witness.specs.declared.sent.owners.Owner.{Owner}
 use Rattle.ttx_witness.specs.declared.sent.page_index.PageIndex.{PageIndex}
-
--- the ids of pages
-abbrev pub ids_of : List PageValue → List Id
-ids_of pages = map (λ p. (page_of p).id) pages
 
 abbrev pub taint : Bool → Option Owner → Option Owner
 taint ends None = None

@@ -4,13 +4,12 @@ ghost use Rattle.std.specs.Prelude.{◌≡◌, ◌≢◌, [], ◌≤◌, ◌<◌
 ghost use Rattle.std.specs.List.{AllPairs};
 ghost use Rattle.std.specs.List.Sorted.{IsPermutation};
 ghost use Rattle.ttx_page.specs.Pages as definitions;
-ghost use Rattle.ttx_page.specs.Views.{page_of};
+ghost use Rattle.ttx_page.specs.Views.{page_of, ids_of};
 ghost use Rattle.ttx_page.specs.declared.class.Class.TheVariants.{Any};
 ghost use Rattle.ttx_cycle.specs.Cycles.{slots_of};
 ghost use Rattle.ttx_certificate.specs.Entries.{entry_places, rises};
 ghost use Rattle.ttx_certificate.specs.EntryViews.{entries_of};
 ghost use Rattle.ttx_certificate.specs.Certificates.{certificate_of};
-ghost use Rattle.ttx_witness.specs.sent.Collected.{ids_of};
 ghost use Rattle.ttx_witness.specs.finding.Finding.{same_place, IsLeastField, IsDeadline, IsSentUnchanged, IsFoundFor};
 ghost use Rattle.ttx_witness.specs.finding.Surveys.{survey_slots, survey_pages, surveyed_page, AreNamedIn, AreOthersIn, IsSteadyIn};
 

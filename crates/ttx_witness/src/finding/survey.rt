@@ -3,9 +3,8 @@
 ghost use Rattle.std.specs.Prelude.{◌≡◌, ◌≢◌, ◌≤◌, ◌<◌, Some, length, map, slice_get};
 ghost use Rattle.std.specs.List.{AllPairs};
 ghost use Rattle.ttx_cycle.specs.Cycles.{slots_of};
-ghost use Rattle.ttx_page.specs.Views.{page_of};
+ghost use Rattle.ttx_page.specs.Views.{page_of, ids_of};
 ghost use Rattle.ttx_witness.specs.sent.AllSent.{AreAllSent};
-ghost use Rattle.ttx_witness.specs.sent.Collected.{ids_of};
 
 use crate::faults::collected_faults::fault_of;
 use crate::faults::other_subpages::OtherSubpages;

@@ -36,7 +36,7 @@ fn no_facts(alloc: Global, count: usize) -> Result<Vec<Facts>, NoMemory>
 impl<'a> Pass<'a> {
     ghost use Rattle.std.specs.Prelude.{◌≢◌, IfOk, []};
     ghost use Rattle.std.specs.List.{AllPairs};
-    ghost use Rattle.ttx_witness.specs.sent.Collected.{ids_of};
+    ghost use Rattle.ttx_page.specs.Views.{ids_of};
     ghost use Rattle.std.specs.Prelude.{◌≡◌, map};
     ghost use Rattle.ttx_page.specs.Views.{page_of};
     ghost use Rattle.ttx_certificate.specs.Certificates.{certificate_of};

@@ -3,7 +3,8 @@
 ghost use Rattle.std.specs.Prelude.{◌≡◌, ◌↔◌, IsTrue, ℕ, pos, ◌-ℤ◌, Some, slice_get};
 ghost use Rattle.ttx_header.specs.Ids.{Id};
 ghost use Rattle.ttx_witness.specs.sent.ItemTransmissions.{owner_moved};
-ghost use Rattle.ttx_witness.specs.sent.Collected.{is_page, seen_by, owner_for, ids_of};
+ghost use Rattle.ttx_witness.specs.sent.Collected.{is_page, seen_by, owner_for};
+ghost use Rattle.ttx_page.specs.Views.{ids_of};
 
 use crate::sent::owners::Owner;
 use ttx_page::Page;

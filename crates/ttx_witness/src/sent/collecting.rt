@@ -3,9 +3,9 @@
 ghost use Rattle.std.specs.Prelude.{◌≡◌, ◌≢◌, ◌<◌, ◌*◌, ℕ, IfOk, OnOk, List, [], ◌++◌, length, map};
 ghost use Rattle.std.specs.List.{AllPairs};
 ghost use Rattle.ttx_header.specs.Ids.{Id};
-ghost use Rattle.ttx_page.specs.Views.{page_of};
+ghost use Rattle.ttx_page.specs.Views.{page_of, ids_of};
 ghost use Rattle.ttx_cycle.specs.Cycles.{slots_of};
-ghost use Rattle.ttx_witness.specs.sent.Collected.{held, ids_of, IsIndex, AreCollected};
+ghost use Rattle.ttx_witness.specs.sent.Collected.{held, IsIndex, AreCollected};
 ghost use Rattle.ttx_witness.specs.sent.AllSent.{AreAllSent, AreSentAfter};
 ghost use Rattle.ttx_witness.specs.sent.OneSlot.{placed_at};
 

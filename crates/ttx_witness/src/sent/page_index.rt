@@ -4,7 +4,8 @@ ghost use Rattle.std.specs.Prelude.{◌≡◌, ◌≢◌, ℕ, List, OnOk, IfOk,
 ghost use Rattle.std.specs.List.{AllPairs};
 ghost use Rattle.std.specs.HashMap.{get};
 ghost use Rattle.ttx_header.specs.Ids.{Id};
-ghost use Rattle.ttx_witness.specs.sent.Collected.{ids_of, key_of, Finds, IsIndex};
+ghost use Rattle.ttx_witness.specs.sent.Collected.{key_of, Finds, IsIndex};
+ghost use Rattle.ttx_page.specs.Views.{ids_of};
 
 use std::alloc::Global;
 use std::collections::HashMap;

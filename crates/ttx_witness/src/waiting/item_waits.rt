@@ -3,9 +3,8 @@
 ghost use Rattle.std.specs.Prelude.{◌≡◌, ◌≢◌, ◌≤◌, IfOk, map, true};
 ghost use Rattle.std.specs.List.{AllPairs};
 ghost use Rattle.ttx_page.specs.Pages as definitions;
-ghost use Rattle.ttx_page.specs.Views.{page_of};
+ghost use Rattle.ttx_page.specs.Views.{page_of, ids_of};
 ghost use Rattle.ttx_cycle.specs.Cycles.{slots_of};
-ghost use Rattle.ttx_witness.specs.sent.Collected.{ids_of};
 ghost use Rattle.ttx_witness.specs.finding.Surveys.{surveyed_page};
 ghost use Rattle.ttx_witness.specs.waiting.ItemWaits.{AreItemWaits};
 ghost use Rattle.ttx_witness.specs.waiting.SurveyedWaits.{IsItemWaitIn, AreItemsToldIn, AreItemWaitsIn};

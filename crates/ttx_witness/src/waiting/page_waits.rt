@@ -3,9 +3,8 @@
 ghost use Rattle.std.specs.Prelude.{◌≡◌, ◌≢◌, ◌≤◌, ◌<◌, ◌*◌, ℕ, IfOk, List, map, length, filter, Some, int_lt, ◌+ℤ◌, pos};
 ghost use Rattle.std.specs.List.{AllPairs};
 ghost use Rattle.ttx_page.specs.Pages as definitions;
-ghost use Rattle.ttx_page.specs.Views.{page_of};
+ghost use Rattle.ttx_page.specs.Views.{page_of, ids_of};
 ghost use Rattle.ttx_cycle.specs.Cycles.{slots_of};
-ghost use Rattle.ttx_witness.specs.sent.Collected.{ids_of};
 ghost use Rattle.ttx_witness.specs.sent.ItemTransmissions.{sent_in};
 ghost use Rattle.ttx_witness.specs.finding.Finding.{IsLeastField};
 ghost use Rattle.ttx_witness.specs.finding.Surveys.{AreOthersIn};

@@ -1,8 +1,7 @@
 use Rattle.std.proofs.Common.{sym, subst}
 use Rattle.std.proofs.lemmas.List.{length-map}
 use Rattle.ttx_cycle.specs.Cycles.{slots_of}
-use Rattle.ttx_page.specs.Views.{page_of}
-use Rattle.ttx_witness.specs.sent.Collected.{ids_of}
+use Rattle.ttx_page.specs.Views.{page_of, ids_of}
 use Rattle.ttx_extract.specs.Extracts.{AreOfPages}
 use Rattle.ttx_extract.proofs.AuthoredIds.{distinct_ids, same_ids}
 use Rattle.ttx_extract.proofs.extracting.has_pages.Goals as goal

@@ -1,6 +1,6 @@
 use Rattle.std.proofs.Common.{Some, None, subst}
-use Rattle.ttx_page.specs.Views.{page_of}
-use Rattle.ttx_witness.specs.sent.Collected.{ids_of, Finds}
+use Rattle.ttx_page.specs.Views.{page_of, ids_of}
+use Rattle.ttx_witness.specs.sent.Collected.{Finds}
 use Rattle.ttx_proof.proofs.PlacesOfPages.{found_at, not_found}
 use Rattle.ttx_proof.proofs.common.equal_place.Goals as goal
 

@@ -9,7 +9,7 @@ use Rattle.std.proofs.Math.ListN.{get_or-eq_default}
 use Rattle.ttx_header.specs.Ids.{Id, IsId}
 use Rattle.ttx_cycle.specs.Files.{IsCycle}
 use Rattle.ttx_page.specs.Packets.{packet_of}
-use Rattle.ttx_page.specs.Views.{page_of}
+use Rattle.ttx_page.specs.Views.{page_of, ids_of}
 use Rattle.ttx_page.specs.Streams.{Stream, repeated}
 use Rattle.ttx_page.specs.declared.page.Page.{Page as PageValue}
 use Rattle.ttx_page.specs.declared.item.Item.{Item}
@@ -17,7 +17,7 @@ use Rattle.ttx_page.specs.declared.item.Item.TheVariants.{Head as TheHead, Row a
 use Rattle.ttx_witness.specs.runs.Transmissions.{Transmission}
 use Rattle.ttx_witness.specs.runs.Tracks.{AreInOrder, IsWithin}
 use Rattle.ttx_witness.specs.sent.ItemTransmissions.{PageOwner, owner_after, owner_scan, sent_at, sent_scan, sent_after}
-use Rattle.ttx_witness.specs.sent.Collected.{held, place_of_item, item_number, IsItem, ids_of, AreCollected}
+use Rattle.ttx_witness.specs.sent.Collected.{held, place_of_item, item_number, IsItem, AreCollected}
 use Rattle.ttx_witness.specs.sent.AllSent.{AreSentAfter}
 use Rattle.ttx_witness.specs.declared.sent.collected.Collected.{Collected}
 use Rattle.ttx_witness.proofs.lemmas.sent.EntryOwners.{slot_here}

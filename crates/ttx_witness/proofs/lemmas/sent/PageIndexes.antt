@@ -13,8 +13,8 @@ use Rattle.std.proofs.lemmas.Bool.{cases_lt, cases_Bool, and_from, and_parts, co
 use Rattle.ttx_header.specs.Ids.{Id, IsId, same_id}
 use Rattle.ttx_page.specs.declared.page.Page.{Page as PageValue}
 use Rattle.ttx_page.specs.Pages.{Page, IsPage}
-use Rattle.ttx_page.specs.Views.{page_of}
-use Rattle.ttx_witness.specs.sent.Collected.{ids_of, is_page, Finds, key_of}
+use Rattle.ttx_page.specs.Views.{page_of, ids_of}
+use Rattle.ttx_witness.specs.sent.Collected.{is_page, Finds, key_of}
 use Rattle.ttx_witness.proofs.lemmas.Choices.{no_both}
 
 id_same : (a b : Id) → a.mag ≡ b.mag → a.page ≡ b.page → a.sub ≡ b.sub → a ≡ b

@@ -1,7 +1,6 @@
 use Rattle.std.proofs.Common.{arith}
 use Rattle.std.proofs.lemmas.List.{length-map}
-use Rattle.ttx_page.specs.Views.{page_of}
-use Rattle.ttx_witness.specs.sent.Collected.{ids_of}
+use Rattle.ttx_page.specs.Views.{page_of, ids_of}
 use Rattle.ttx_witness.proofs.lemmas.sent.PageIndexes.{few_ids, ids_are}
 use Rattle.ttx_witness.proofs.laws.judging_laws.pages_are_few.Goals as goal
 

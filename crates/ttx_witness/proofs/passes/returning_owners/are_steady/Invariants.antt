@@ -1,7 +1,8 @@
 use Rattle.std.proofs.Common.{◌≡◌, ℕ, ◌<◌, pos, ◌-ℤ◌, slice_get, Some}
 use Rattle.ttx_header.specs.Ids.{Id}
 use Rattle.ttx_witness.specs.sent.ItemTransmissions.{owner_moved}
-use Rattle.ttx_witness.specs.sent.Collected.{owner_for, ids_of}
+use Rattle.ttx_witness.specs.sent.Collected.{owner_for}
+use Rattle.ttx_page.specs.Views.{ids_of}
 use Rattle.ttx_witness.proofs.passes.returning_owners.are_steady.Given as goal
 
 abbrev pub invariant-loop-i : goal.invariant-loop-i

@@ -1,8 +1,7 @@
 use Rattle.std.proofs.Common.{◌≡◌, ◌*◌, length, ◌∙◌, arith}
 use Rattle.std.proofs.lemmas.List.{length-map}
 use Rattle.ttx_cycle.specs.Cycles.{slots_of, slots_of-IsCycle}
-use Rattle.ttx_page.specs.Views.{page_of}
-use Rattle.ttx_witness.specs.sent.Collected.{ids_of}
+use Rattle.ttx_page.specs.Views.{page_of, ids_of}
 use Rattle.ttx_witness.proofs.lemmas.sent.PageIndexes.{few_ids, ids_are}
 use Rattle.ttx_witness.proofs.lemmas.sent.AllLists.{all_in_order, all_sent, all_within}
 use Rattle.ttx_witness.proofs.sent.collecting.collect_after.Goals as goal

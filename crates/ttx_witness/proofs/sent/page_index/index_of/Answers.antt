@@ -1,8 +1,8 @@
 use Rattle.std.proofs.Common.{◌≡◌, Some, if◌then◌else◌, ◌==◌, nat_eq, length, ap, ◌∙◌, subst, arith}
 use Rattle.std.specs.HashMap.{get}
 use Rattle.std.proofs.lemmas.List.{length-map}
-use Rattle.ttx_page.specs.Views.{page_of}
-use Rattle.ttx_witness.specs.sent.Collected.{ids_of, key_of}
+use Rattle.ttx_page.specs.Views.{page_of, ids_of}
+use Rattle.ttx_witness.specs.sent.Collected.{key_of}
 use Rattle.ttx_witness.proofs.lemmas.sent.PageIndexes.{IsIndexed, one_indexed, all_indexed, few_ids, ids_are, id_at}
 use Rattle.ttx_witness.proofs.sent.page_index.index_of.Goals as goal
 

@@ -1,6 +1,6 @@
 use Rattle.std.proofs.Common.{nat_eq}
 use Rattle.std.specs.HashMap.{get}
-use Rattle.ttx_witness.specs.sent.Collected.{ids_of}
+use Rattle.ttx_page.specs.Views.{ids_of}
 use Rattle.ttx_witness.proofs.lemmas.sent.PageIndexes.{IsIndexed}
 use Rattle.ttx_witness.proofs.sent.page_index.index_of.Given as goal
 
