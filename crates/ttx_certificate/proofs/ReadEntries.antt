@@ -1,7 +1,7 @@
 -- Entries that are read one after another.
-use Rattle.std.proofs.Common.{◌≡◌, ◌⊎◌, inl, inr, ℕ, ◌+◌, ◌<◌, ◌==◌, Bool, true, false, not, ◌++◌, List, [], ◌∷◌, length, Option, Some, None, Result}
+use Rattle.std.proofs.Common.{◌≡◌, ◌⊎◌, inl, inr, ℕ, ◌+◌, ◌<◌, ◌==◌, true, not, ◌++◌, List, [], ◌∷◌, length, Option, Some, None, Result}
 use Rattle.std.proofs.Common.{Ok, Err, if◌then◌else◌, refl, sym, ap, ◌∙◌, subst, arith, append_assoc, eqb-true}
-use Rattle.std.proofs.lemmas.Bool.{and_from}
+use Rattle.std.proofs.lemmas.Bool.{and_from, not-false}
 use Rattle.std.specs.List.{join_with_byte}
 use Rattle.std.proofs.lemmas.List.{map-append}
 use Rattle.std.proofs.lemmas.List.Splits.{join_with_byte-slice_split}
@@ -95,13 +95,9 @@ entry_ok n low (Some x) e is =
     cond_both (not (is_in_range x)) (Err (Range n)) (if is_in_order low x then Ok x else Err (Order n)) (λ r. r ≡ Ok e → IsRead low (Some x) e)
     (λ _ h. absurd (no_value (Range n) e h))
     (λ inside. cond_both (is_in_order low x) (Ok x) (Err (Order n)) (λ r. r ≡ Ok e → IsRead low (Some x) e)
-    (λ ordered h. subst (IsRead low (Some x)) (ap (value_or x) h) (record { is = refl; range = not_not (is_in_range x) inside; order = ordered }))
+    (λ ordered h. subst (IsRead low (Some x)) (ap (value_or x) h) (record { is = refl; range = not-false (is_in_range x) inside; order = ordered }))
     (λ _ h. absurd (no_value (Order n) e h)))
     is
-  where
-    not_not : (a : Bool) → not a ≡ false → a ≡ true
-    not_not true h = refl
-    not_not false h = sym h
 
 module _ (n : ℕ) (low : Option ℕ) (es : List EntryFields) (others : EntryFields → Result (List EntryFields) CertFault)
     (rise : (e : EntryFields) (es' : List EntryFields) → others e ≡ Ok es' → rises_above (Some (place_of e.page e.item)) (entry_places es') ≡ true) where

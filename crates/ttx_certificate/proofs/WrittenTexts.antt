@@ -1,8 +1,8 @@
 -- The text of a certificate is read as the certificate.
-use Rattle.std.proofs.Common.{◌≡◌, ℕ, ◌+◌, ◌/◌, ◌%◌, ◌<◌, ◌≤◌, ◌==◌, Bool, true, false, not, ◌&&◌, ◌++◌, List, [], ◌∷◌}
+use Rattle.std.proofs.Common.{◌≡◌, ℕ, ◌+◌, ◌/◌, ◌%◌, ◌<◌, ◌≤◌, ◌==◌, Bool, true, not, ◌&&◌, ◌++◌, List, [], ◌∷◌}
 use Rattle.std.proofs.Common.{map, codes, Option, Some, None, option_map, Ok, Err, if◌then◌else◌, nat_lt, nat_le, refl, sym, ap}
 use Rattle.std.proofs.Common.{◌∙◌, arith, append_assoc, append-nil, eq-eqb}
-use Rattle.std.proofs.lemmas.Bool.{and_from}
+use Rattle.std.proofs.lemmas.Bool.{and_from, not-true}
 use Rattle.std.specs.Fmt.{decimal}
 use Rattle.std.specs.List.{list_all, onto_first, AllByRecursion}
 use Rattle.std.specs.Str.{bytes_eq}
@@ -39,22 +39,18 @@ free_join : (s : ℕ) (xs ys : List ℕ) → free s xs ≡ true → free s ys �
 free_join s [] ys p q = q
 free_join s (x ∷ xs) ys p q = and_from (not (x == s)) (free s (xs ++ ys)) ((and_parts (not (x == s)) (free s xs) p).0) (free_join s xs ys ((and_parts (not (x == s)) (free s xs) p).1) q)
 
-not_it : (a : Bool) → not a ≡ true → a ≡ false
-not_it true h = sym h
-not_it false h = refl
-
 -- the part before a separator
 part_before : (s : ℕ) (xs rest : List ℕ) → free s xs ≡ true → parts_at s (xs ++ (s ∷ rest)) ≡ xs ∷ parts_at s rest
 part_before s [] rest p = slice_split-cons_yes (λ b. b == s) s rest (eq-eqb s s refl)
 part_before s (x ∷ xs) rest p =
-    slice_split-cons_no (λ b. b == s) x (xs ++ (s ∷ rest)) (not_it (x == s) ((and_parts (not (x == s)) (free s xs) p).0))
+    slice_split-cons_no (λ b. b == s) x (xs ++ (s ∷ rest)) (not-true (x == s) ((and_parts (not (x == s)) (free s xs) p).0))
     ∙ ap (onto_first x) (part_before s xs rest ((and_parts (not (x == s)) (free s xs) p).1))
 
 -- the last part
 last_part : (s : ℕ) (xs : List ℕ) → free s xs ≡ true → parts_at s xs ≡ xs ∷ []
 last_part s [] p = refl
 last_part s (x ∷ xs) p =
-    slice_split-cons_no (λ b. b == s) x xs (not_it (x == s) ((and_parts (not (x == s)) (free s xs) p).0)) ∙ ap (onto_first x) (last_part s xs ((and_parts (not (x == s)) (free s xs) p).1))
+    slice_split-cons_no (λ b. b == s) x xs (not-true (x == s) ((and_parts (not (x == s)) (free s xs) p).0)) ∙ ap (onto_first x) (last_part s xs ((and_parts (not (x == s)) (free s xs) p).1))
 
 -- a separator is below the stroke
 low_free : (s : ℕ) (xs : List ℕ) → s < 47 → list_all (nat_le 47) xs ≡ true → free s xs ≡ true
