@@ -145,7 +145,7 @@ one_hit : (h : Hit) → IsHitFields h → hit_of h.index h.byte h.bit ≡ h
 one_hit h is =
     let b : at_most 255 h.byte ≡ h.byte = (let l = is.1 in omega arith) in
     let c : at_most 255 h.bit ≡ h.bit = (let l = is.2 in omega arith) in
-    λ i. record { index = h.index; byte = b i; yes_as_one = c i }
+    λ i. record { index = h.index; byte = b i; bit = c i }
 
 hits : (hs : List Hit) (rest : List ℕ) → AreHits hs → hits_in (length hs) (hits_numbers hs ++ rest) ≡ hs
 unfolding hits_in

@@ -148,7 +148,8 @@ fn check_keys(
     counter: &Counter,
     keys: &[u64],
 ) -> Result<bool, NoMemory>
-    requires all { All (IsHit (repeated (slots_of cycle.now)) (counter_run_of counter.now).start (counter_run_of counter.now).slots) (counter_run_of counter.now).hits }
+    requires all { All (IsHit (repeated (slots_of cycle.now)) (counter_run_of counter.now).start (counter_run_of counter.now).slots)
+        (counter_run_of counter.now).hits }
     requires some { 1 ≤ (counter_run_of counter.now).repeat }
     requires same { IsPermutation (map hit_key (counter_run_of counter.now).hits) keys.now }
     requires sorted { IsNonDecreasing keys.now }
@@ -169,7 +170,8 @@ fn check_hits(
     page: &Page,
     counter: &Counter,
 ) -> Result<bool, NoMemory>
-    requires all { All (IsHit (repeated (slots_of cycle.now)) (counter_run_of counter.now).start (counter_run_of counter.now).slots) (counter_run_of counter.now).hits }
+    requires all { All (IsHit (repeated (slots_of cycle.now)) (counter_run_of counter.now).start (counter_run_of counter.now).slots)
+        (counter_run_of counter.now).hits }
     requires some { 1 ≤ (counter_run_of counter.now).repeat }
     ensures { IfOk result (λ b. IsTrue b ↔ IsRefuting (slots_of cycle.now) (page_of page.now) (counter_run_of counter.now)) }
 {

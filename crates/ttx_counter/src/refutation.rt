@@ -47,7 +47,8 @@ fn is_absent(fault: Option<Reason>) -> bool
 
 // A counter-run of a page that has no header: a link that isn't the page's stays.
 fn absent_counter(alloc: Global, page: &Page, index: u32, certificate: &Certificate) -> Counter
-    ensures run { counter_run_of result ≡ plain_counter index false (wrong_memory (page_of page.now) items.Links) (certificate_of certificate.now).lines
+    ensures run { counter_run_of result ≡ plain_counter index false (wrong_memory (page_of page.now) items.Links)
+        (certificate_of certificate.now).lines
         (certificate_of certificate.now).repeat (certificate_of certificate.now).deadline (coverage.limit (certificate_of certificate.now)) }
     ensures former { IsMemory (wrong_memory (page_of page.now) items.Links) }
 {
@@ -64,7 +65,8 @@ fn absent_counter(alloc: Global, page: &Page, index: u32, certificate: &Certific
 // The slot from which on a receiver is starved of the item, where a viewer sees it and there is one.
 fn start_for(claim: &Claim<'_>, prepared: &Prepared<'_>, index: u32, item: &Item) -> Option<u32>
     requires index { index < length claim.now.pages.now }
-    requires prepared { ArePrepared (slots_of claim.now.cycle.now) (map page_of claim.now.pages.now) (certificate_of claim.now.certificate.now)
+    requires prepared { ArePrepared (slots_of claim.now.cycle.now) (map page_of claim.now.pages.now)
+        (certificate_of claim.now.certificate.now)
         (certificate_of prepared.now.found.now) prepared.now.collected.now }
     requires item { IsItem item.now }
     ensures { (p : definitions.Page) → slice_get (map page_of claim.now.pages.now) index ≡ Some p →
@@ -119,7 +121,8 @@ fn starve_page(
     index: u32,
 ) -> Result<Option<Counter>, NoMemory>
     requires index { index < length claim.now.pages.now }
-    requires prepared { ArePrepared (slots_of claim.now.cycle.now) (map page_of claim.now.pages.now) (certificate_of claim.now.certificate.now)
+    requires prepared { ArePrepared (slots_of claim.now.cycle.now) (map page_of claim.now.pages.now)
+        (certificate_of claim.now.certificate.now)
         (certificate_of prepared.now.found.now) prepared.now.collected.now }
     requires clean { IsClean (slots_of claim.now.cycle.now) }
     requires steady { (p : definitions.Page) → slice_get (map page_of claim.now.pages.now) index ≡ Some p →
@@ -146,7 +149,8 @@ fn refute_page(
     index: u32,
 ) -> Result<Option<Counter>, NoMemory>
     requires index { index < length claim.now.pages.now }
-    requires prepared { ArePrepared (slots_of claim.now.cycle.now) (map page_of claim.now.pages.now) (certificate_of claim.now.certificate.now)
+    requires prepared { ArePrepared (slots_of claim.now.cycle.now) (map page_of claim.now.pages.now)
+        (certificate_of claim.now.certificate.now)
         (certificate_of prepared.now.found.now) prepared.now.collected.now }
     requires others { AreOtherSubpages (slots_of claim.now.cycle.now) (map page_of claim.now.pages.now) prepared.now.others.now }
     requires clean { IsTrue prepared.now.clean ↔ IsClean (slots_of claim.now.cycle.now) }
@@ -184,7 +188,8 @@ fn refute_pages(
     prepared: &Prepared<'_>,
 ) -> Result<Option<Counter>, NoMemory>
     requires few { length claim.now.pages.now < 2 ^ 32 }
-    requires prepared { ArePrepared (slots_of claim.now.cycle.now) (map page_of claim.now.pages.now) (certificate_of claim.now.certificate.now)
+    requires prepared { ArePrepared (slots_of claim.now.cycle.now) (map page_of claim.now.pages.now)
+        (certificate_of claim.now.certificate.now)
         (certificate_of prepared.now.found.now) prepared.now.collected.now }
     requires others { AreOtherSubpages (slots_of claim.now.cycle.now) (map page_of claim.now.pages.now) prepared.now.others.now }
     requires clean { IsTrue prepared.now.clean ↔ IsClean (slots_of claim.now.cycle.now) }
@@ -255,7 +260,8 @@ fn refute_all_plainly(alloc: Global, claim: &Claim<'_>, prepared: &Prepared<'_>)
         prepared.now.collected.now }
     requires others { AreOtherSubpages (slots_of claim.now.cycle.now) (map page_of claim.now.pages.now) prepared.now.others.now }
     requires magazines { claim.now.magazines.now ≡ map magazine_of (slots_of claim.now.cycle.now) }
-    ensures { TellsAllPlainly counter_run_of (slots_of claim.now.cycle.now) (map page_of claim.now.pages.now) (certificate_of claim.now.certificate.now)
+    ensures { TellsAllPlainly counter_run_of (slots_of claim.now.cycle.now) (map page_of claim.now.pages.now)
+        (certificate_of claim.now.certificate.now)
         result }
 {
     for index in 0..claim.pages.len() as u32 {

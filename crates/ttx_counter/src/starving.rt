@@ -106,7 +106,8 @@ pub fn counter_for(
     starved: &StarvedPage<'_>,
     certificate: &Certificate,
 ) -> Result<Counter, NoMemory>
-    ensures { IfOk result (λ c. counter_run_of c ≡ starving_run (slots_of cycle.now) starved.now.index (page_of starved.now.page.now) starved.now.item.now
+    ensures { IfOk result (λ c. counter_run_of c ≡ starving_run (slots_of cycle.now) starved.now.index (page_of starved.now.page.now)
+        starved.now.item.now
         starved.now.start
         (certificate_of certificate.now).lines (certificate_of certificate.now).repeat (certificate_of certificate.now).deadline) }
 {

@@ -75,7 +75,8 @@ fn page_with(
 /// The page that a table is, after the pages of the service, and how often it is sent.
 #[tactic(auto, unfolding(crate::specs::Services::authored_of))]
 pub fn page(table: &Table, service: &Service) -> Result<(Page, u8), SourceFault>
-    ensures value { source_outcome (λ p. authored_at (page_of p.0) p.1) result ≡ authored_of service.now.serial service.now.pages (table_view table.now) }
+    ensures value { source_outcome (λ p. authored_at (page_of p.0) p.1) result
+        ≡ authored_of service.now.serial service.now.pages (table_view table.now) }
     ensures new { IfOk result (λ p. has_id service.now.pages (page_of p.0).id ≡ false) }
     ensures c11 { IfOk result (λ p. c11 (page_of p.0).control ≡ service.now.serial) }
     ensures often { IfOk result (λ p. rule.is_often p.1 ≡ true) }
