@@ -1,12 +1,13 @@
 #!/usr/bin/env python3
 """Tries each wrong body of the must-fail edits by itself: edits.py [CRATE..], in the repository's top folder.
 
-An edit of the gate may hold several wrong bodies, parted by a blank line; the gate wants such an edit refused as a whole. Here
-each of them is an edit of its own. While a crate's edits are tried they stand in its folder in place of its own, which come back
-at the end.
+An edit of the gate holds several wrong bodies, parted by a blank line, each under a heading that names what it turns; the gate
+wants such an edit refused as a whole. Here each of them is an edit of its own. While a crate's edits are tried they stand in its
+folder in place of its own, which come back at the end.
 """
 import contextlib
 import pathlib
+import re
 import shutil
 import subprocess
 import sys
@@ -14,14 +15,12 @@ import tempfile
 
 
 def bodies(text):
-    """The wrong bodies of an edit, each with the file it is of."""
-    file, told = "", []
+    """The wrong bodies of an edit by name; a body begins with the heading that names what it turns."""
+    told = {}
     for part in text.strip("\n").split("\n\n"):
-        lines = part.split("\n")
-        if not lines[0].startswith("file: "):
-            lines.insert(0, file)
-        file = next(line for line in reversed(lines) if line.startswith("file: "))
-        told.append("\n".join(lines) + "\n")
+        name = re.sub(r"\W+", "-", part.partition("\n")[0]).strip("-")
+        count = sum(it == name or it.startswith(f"{name}.") for it in told)
+        told[f"{name}.{count + 1}" if count else name] = f"{part}\n"
     return told
 
 
@@ -34,10 +33,9 @@ def each_alone(folder):
         try:
             for edit in folder.glob("*.edit"):
                 told = bodies(edit.read_text())
-                if len(told) > 1:
-                    edit.unlink()
-                    for number, body in enumerate(told, 1):
-                        (folder / f"{edit.stem}-{number}.edit").write_text(body)
+                edit.unlink()
+                for name, body in told.items():
+                    (folder / f"{edit.stem}.{name}.edit").write_text(body)
             yield
         finally:
             shutil.rmtree(folder)

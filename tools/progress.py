@@ -13,7 +13,8 @@ import time
 LAST_LINES = 40
 MOST_FAULTS = 60
 FAULT = re.compile(r"NOT PROVED|NOT REFUSED|BAD EDIT|\berror\b")
-# Each edit reads its crate's kept work once more, as much as so many lines of source and proofs.
+# The first file of edits is tried from nothing, as the crate itself; each further one, and the crate once more at their end, over
+# what is kept, as much as so many lines of source and proofs.
 LINES_OF_AN_EDIT = 300
 
 
@@ -29,7 +30,8 @@ def weights(with_edits):
         folder = pathlib.Path("crates", name)
         told[name] = lines_of(folder, {".rt", ".antt"})
         if with_edits:
-            told[f"{name} edits"] = LINES_OF_AN_EDIT * len(list(folder.glob("must-fail/*.edit")))
+            edits = len(list(folder.glob("must-fail/*.edit")))
+            told[f"{name} edits"] = (told[name] + LINES_OF_AN_EDIT * (edits if edits > 1 else 0)) * (edits > 0)
     return told
 
 
