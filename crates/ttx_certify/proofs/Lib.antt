@@ -1,6 +1,6 @@
 pub mod LaterReceptions
 pub mod AcceptedIsSeen
-pub mod OneItem
+mod OneItem
 pub mod ItemByItem
 mod Accepting
 mod WalkVerdicts

@@ -1,6 +1,6 @@
 -- What is answered and written where a packet file, a service definition and a certificate are certified.
 --
---   IsPacketFile, IsServiceText, IsCertificateText      what the three inputs are
+--   IsServiceText, IsCertificateText      what the two texts are
 --   IsServiceFault, IsCertificateFault      why a text is none
 --   Certifies               the verdict on three inputs, and its line
 --   IsRefused               why inputs are refused
@@ -11,7 +11,7 @@ use Rattle.std.specs.Prelude.{◌≡◌, ◌⊎◌, ℕ, ◌<◌, ◌≤◌, Boo
 use Rattle.std.specs.Io.KnownBytes.{Appends, Keeps}
 use Rattle.ttx_cycle.specs.Bounded.{most_bytes}
 use Rattle.ttx_cycle.specs.Counts.{HasRisen}
-use Rattle.ttx_cycle.specs.Files.{IsCycle, file_of}
+use Rattle.ttx_cycle.specs.Files.{IsPacketFile}
 use Rattle.ttx_cycle.specs.Reading.{Judged}
 use Rattle.ttx_source.specs.Faults.{fault_of}
 use Rattle.ttx_source.specs.Services.{ServiceFields, pages_of, read_bytes}
@@ -28,11 +28,6 @@ use Rattle.ttx_certify.specs.declared.faults.FilesFault.TheVariants.{Cycle, Serv
 use Rattle.ttx_certify.specs.declared.faults.TextFile.TheVariants as text
 use Rattle.ttx_cycle.specs.declared.faults.CycleFault.TheVariants as cycle
 use Rattle.ttx_certify.specs.declared.verdict.Verdict.{Verdict}
-
--- the bytes are the packet file of these slots
-pub record IsPacketFile (bytes : List ℕ) (slots : List (List ℕ)) : Type 0 where
-  pub is_cycle : IsCycle slots
-  pub same : bytes ≡ file_of slots
 
 -- a text that isn't too long, and the service that it says
 pub record IsServiceText (bytes : List ℕ) (service : ServiceFields) : Type 0 where

@@ -14,7 +14,7 @@ use Rattle.ttx_cycle.specs.declared.faults.CycleFault.{CycleFault}
 use Rattle.ttx_cycle.specs.declared.faults.CycleFault.TheVariants.{Read}
 use Rattle.ttx_page.specs.Pages.{Page}
 use Rattle.ttx_witness.specs.Coverage.{Certificate}
-use Rattle.ttx_certify.specs.CertifyingFiles.{IsPacketFile}
+use Rattle.ttx_cycle.specs.Files.{IsPacketFile}
 use Rattle.ttx_certify.specs.Verdicts.{Means}
 use Rattle.ttx_certify.specs.declared.verdict.Verdict.{Verdict}
 use Rattle.ttx_certify.specs.Walking.{IsWalkVerdict}

@@ -13,7 +13,8 @@ use Rattle.ttx_cycle.specs.declared.faults.CycleFault.TheVariants as cycle
 use Rattle.ttx_source.specs.Services.{ServiceFields, pages_of}
 use Rattle.ttx_witness.specs.Certificates.{fields_of}
 use Rattle.ttx_witness.specs.Entries.{CertificateFields, certificate_at}
-use Rattle.ttx_certify.specs.CertifyingFiles.{IsPacketFile, IsServiceText, IsCertificateText, IsServiceFault, IsCertificateFault}
+use Rattle.ttx_cycle.specs.Files.{IsPacketFile}
+use Rattle.ttx_certify.specs.CertifyingFiles.{IsServiceText, IsCertificateText, IsServiceFault, IsCertificateFault}
 use Rattle.ttx_cycle.specs.Bounded.{most_bytes}
 use Rattle.ttx_certify.specs.CertifyingFiles.{Certifies, IsRefused}
 use Rattle.ttx_certify.specs.Verdicts.{IsVerdict, Means}

@@ -1,2 +1,2 @@
-pub mod Listed
-pub mod Counted
+mod Listed
+mod Counted

@@ -1,3 +1,4 @@
-pub mod Numbers
-pub mod Parities
-pub mod Loads
+pub mod Choices
+mod Numbers
+mod Parities
+mod Loads

@@ -4,6 +4,7 @@ use Rattle.std.proofs.Common.{false, inl, inr, subst}
 use Rattle.std.proofs.lemmas.Bool.{cases_lt, agree_below, agree_below_at, eqb-true, eq-eqb, leb-true, le-leb, ltb-true, and_parts}
 use Rattle.std.proofs.lemmas.Nat.{xor_comm}
 use Rattle.std.specs.Int.Bits.{xor_self}
+use Rattle.ttx_code.proofs.Choices.{implied}
 use Rattle.ttx_code.specs.Words.{ones, distance, hamming_word, Reads, reading, number_of, is_word}
 use Rattle.ttx_code.specs.Laws.{WordsHaveNumbers, WordsAreWords, ReadingsAreNumbers, WordsAreReadUnderOneWrongBit, EachByteIsNearItself}
 use Rattle.ttx_code.specs.declared.hamming.TheConstants.{WORDS, NUMBERS}
@@ -101,10 +102,6 @@ word_has_number b = not (is_word b) || (is_reading (reading b) (number_of b) && 
 pub words_have_numbers_table : agree_below word_has_number (λ _. true) 256 ≡ true
 unfolding reading ones distance hamming_word
 words_have_numbers_table = refl
-
-pub implied : (a b : Bool) → (not a || b) ≡ true → a ≡ true → b ≡ true
-implied true b h k = h
-implied false b h k = cc
 
 pub words_have_numbers : WordsHaveNumbers
 words_have_numbers b l w =

@@ -6,12 +6,12 @@ use Rattle.std.specs.List.{list_all, All, AllByRecursion}
 use Rattle.std.proofs.lemmas.List.{take-append-drop}
 use Rattle.std.proofs.lemmas.List.Elements.{All-from_get_or, recursion_from_All}
 use Rattle.std.proofs.lemmas.List.Folds.{list_all-append}
+use Rattle.ttx_code.proofs.Choices.{implied}
 use lib.Lanes.{zip2}
 use lib.Count.{ones_in, ones as count_ones}
 use Rattle.ttx_code.specs.Words.{ones, distance, IsOdd, is_odd, odd_byte}
 use Rattle.ttx_code.specs.Laws.{OddBytesUnderOneWrongBit, OddBytesHoldTheirCodes}
 use Rattle.ttx_code.specs.declared.parity.TheConstants.{ODD_BYTES}
-use Rattle.ttx_code.proofs.Numbers.{implied}
 
 -- the library counts ones as the definition does
 pub ones_agree : agree_below (λ b. eqb (count_ones b) (ones b)) (λ _. true) 256 ≡ true

@@ -15,7 +15,6 @@ use Rattle.ttx_witness.specs.faults.Faults.{Never}
 use Rattle.ttx_certify.specs.Seen.{HasView}
 use Rattle.ttx_counter.specs.Sources.{plain_from, IsPlainlyRight}
 use Rattle.ttx_counter.proofs.CheckIsExact.{same_page}
-use Rattle.ttx_counter.proofs.StreaksBelowK.{no_both}
 
 same_bool : (a b : Bool) → (a ≡ true → b ≡ true) → (b ≡ true → a ≡ true) → a ≡ b
 same_bool true b f g = sym (f refl)

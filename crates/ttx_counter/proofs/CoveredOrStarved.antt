@@ -7,6 +7,7 @@ use Rattle.std.proofs.lemmas.Int.{ints}
 use Rattle.std.proofs.lemmas.Bool.{cases_lt, cond_both}
 use Rattle.std.proofs.lemmas.Bool.Decides.{nat_tests}
 use Rattle.std.proofs.lemmas.List.Elements.{Contains-get_or}
+use Rattle.ttx_page.proofs.SlotDistances.{cases_ltz}
 use Rattle.ttx_page.specs.Pages.{Page}
 use Rattle.ttx_page.specs.declared.item.Item.{Item}
 use Rattle.ttx_page.specs.declared.item.Item.TheVariants.{Head as TheHead, Row as TheRow, Links as TheLinks}
@@ -19,7 +20,7 @@ use Rattle.ttx_witness.specs.Coverage.{Certificate, limit, IsSureStart, IsCovere
 use Rattle.ttx_witness.specs.laws.CycleLaws.{CoverageIsDecided, FirstsAreFound, progress_of}
 use Rattle.ttx_counter.specs.Starving.{NamesAll, Starves}
 use Rattle.ttx_counter.specs.Completeness.{CoveredOrStarved}
-use Rattle.ttx_counter.proofs.NextNamedStarts.{cases_ltz, next_at_most}
+use Rattle.ttx_counter.proofs.NextNamedStarts.{next_at_most}
 use Rattle.ttx_counter.proofs.RepeatedTransmissions.{sure_run_to, ends_to}
 
 -- the laws that are cited

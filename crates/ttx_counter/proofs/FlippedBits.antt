@@ -1,9 +1,8 @@
 -- One flipped bit of a byte, computed over all bytes.
-use Rattle.std.proofs.Common.{◌≡◌, ℕ, suc, ◌-◌, ◌<◌, ◌≤◌, Bool, true, false, not, ◌&&◌, leb, eqb, ltb, refl, sym, subst, arith}
-use Rattle.std.proofs.lemmas.Bool.{agree_below, agree_below_at, eq-eqb, leb-true, ltb-true, and_parts}
+use Rattle.std.proofs.Common.{◌≡◌, ℕ, suc, ◌-◌, ◌<◌, ◌≤◌, Bool, true, not, ◌&&◌, leb, eqb, ltb, refl, subst, arith}
+use Rattle.std.proofs.lemmas.Bool.{agree_below, agree_below_at, eq-eqb, leb-true, ltb-true, and_parts, both_ways, not-true}
 use Rattle.ttx_code.specs.Words.{ones, distance, Near}
 use Rattle.ttx_counter.specs.Counters.{flipped}
-use Rattle.ttx_counter.proofs.StreaksBelowK.{no_both}
 
 good : ℕ → ℕ → Bool
 good m b = leb (distance b (flipped (suc m) b)) 1 && not (eqb (flipped (suc m) b) b) && ltb (flipped (suc m) b) 256
@@ -22,11 +21,7 @@ unfolding good
 good_at m b h =
     let w = and_parts _ _ h in
     let v = and_parts _ _ w.0 in
-    record { near = leb-true _ _ v.0; other = λ e. no_both _ (eq-eqb _ _ e) (not_true _ v.1); byte = ltb-true _ _ w.1 }
-  where
-    not_true : (a : Bool) → not a ≡ true → a ≡ false
-    not_true true h = sym h
-    not_true false h = refl
+    record { near = leb-true _ _ v.0; other = λ e. both_ways _ (not-true _ v.1) (eq-eqb _ _ e); byte = ltb-true _ _ w.1 }
 
 pub flip : (bit b : ℕ) → 1 ≤ bit → bit ≤ 8 → b < 256 → IsFlip b (flipped bit b)
 flip bit b some few lt =

@@ -1,11 +1,12 @@
 -- The certificate that names the starts of all sure runs.
-use Rattle.std.proofs.Common.{◌≡◌, ◌⊎◌, ℕ, zero, suc, ◌+◌, ◌-◌, ◌<◌, Bool, true, false, ◌||◌, ◌==◌, List, [], ◌∷◌, ◌++◌, length, get_or, refl, sym}
+use Rattle.std.proofs.Common.{◌≡◌, ℕ, zero, suc, ◌+◌, ◌-◌, ◌<◌, true, false, ◌==◌, List, [], ◌∷◌, ◌++◌, length, get_or, sym}
 use Rattle.std.proofs.Common.{◌∙◌, subst, inl, inr, arith, eqb-true, eq-eqb, length-append}
 use Rattle.std.specs.List.{Contains, list_any}
-use Rattle.std.proofs.lemmas.Bool.{cases_lt, cond_both, or_left, or_right}
+use Rattle.std.proofs.lemmas.Bool.{cases_lt, cond_both, or_left, or_right, cases_Bool}
 use Rattle.std.proofs.lemmas.List.{get_or_append_left}
 use Rattle.std.proofs.Math.Seq.{get_or-append_seam}
 use Rattle.std.proofs.lemmas.List.Elements.{Contains-get_or, Contains-append_left, Contains-append_right, Contains-append_cases}
+use Rattle.ttx_code.proofs.Choices.{either}
 use Rattle.ttx_page.specs.Streams.{run_length}
 use Rattle.ttx_witness.specs.runs.Confirming.{Rising}
 use Rattle.ttx_witness.specs.laws.CycleLaws.{SureStartsAreFound}
@@ -14,17 +15,9 @@ use Rattle.ttx_counter.specs.Starving.{sorted_below}
 use Rattle.ttx_counter.specs.Completeness.{FullestNamesAll}
 use Rattle.ttx_counter.proofs.CoveredOrStarved.{run_some}
 
-pub cases_bool : (b : Bool) → (b ≡ true) ⊎ (b ≡ false)
-cases_bool true = inl refl
-cases_bool false = inr refl
-
-either : (a b : Bool) → (a || b) ≡ true → a ≡ false → b ≡ true
-either true b h k = cc
-either false b h k = h
-
 pub any_to : (n : ℕ) (xs : List ℕ) → list_any (λ x. x == n) xs ≡ true → Contains xs n
 any_to n [] h = cc
-any_to n (x ∷ xs) h = elim (cases_bool (x == n)) as (λ _. Contains (x ∷ xs) n) [
+any_to n (x ∷ xs) h = elim (cases_Bool (x == n)) as (λ _. Contains (x ∷ xs) n) [
   | inl e ↦ (0, (omega arith), eqb-true x n e)
   | inr e ↦ let c = any_to n xs (either (x == n) (list_any (λ y. y == n) xs) h e) in (suc c.0, (let lt = c.1 in omega arith), c.2)
 ]

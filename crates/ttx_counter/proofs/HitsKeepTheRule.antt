@@ -2,7 +2,7 @@
 use Rattle.std.proofs.Common.{◌≡◌, ℕ, ◌<◌, ◌^◌, ℤ, pos, ◌+ℤ◌, true, false, List, [], ◌∷◌, length, get_or, sym, ◌∙◌, subst, inl, inr, arith}
 use Rattle.std.specs.List.{AllByRecursion}
 use Rattle.std.proofs.lemmas.Int.{ints}
-use Rattle.std.proofs.lemmas.Bool.{cases_lt}
+use Rattle.std.proofs.lemmas.Bool.{cases_lt, both_ways, cases_Bool}
 use Rattle.std.proofs.lemmas.Grind.{same_number_lists}
 use Rattle.std.proofs.lemmas.List.{ext_get_or, get_or_past}
 use Rattle.ttx_code.specs.Words.{Near}
@@ -18,7 +18,6 @@ use Rattle.ttx_counter.specs.Keys.{key_at, slot_in, byte_in, bit_in, IsKey, is_h
 use Rattle.ttx_counter.specs.Streaks.{IsInside, IsRightAmong}
 use Rattle.ttx_counter.specs.Rule.{KeepsRule}
 use Rattle.ttx_counter.specs.Hearing.{IsHitBy}
-use Rattle.ttx_counter.proofs.StreaksBelowK.{cases_bool, no_both}
 use Rattle.ttx_counter.proofs.KeyCursors.{hit_index, index_hit}
 use Rattle.ttx_counter.proofs.FlippedBits.{IsFlip, flip}
 
@@ -43,16 +42,16 @@ module _ (keys : List ℕ) (each : (i : ℕ) → i < length keys → IsKey (key_
       (flip (bit_in (key_at keys w.0)) (get_or sent (byte_in (key_at keys w.0)) 0) k.some k.bit (slot.bytes (byte_in (key_at keys w.0)))))
 
   pub right_byte : (x : ℕ) → is_hit keys x n ≡ false → get_or received x 0 ≡ get_or sent x 0
-  right_byte x h = by.other x (λ i lt e f. no_both _ (index_hit keys n x i lt e f) h)
+  right_byte x h = by.other x (λ i lt e f. both_ways _ h (index_hit keys n x i lt e f))
 
   pub wrong_byte : (x : ℕ) → x < 256 → get_or received x 0 ≡ get_or sent x 0 → is_hit keys x n ≡ false
-  wrong_byte x lt e = elim (cases_bool (is_hit keys x n)) as (λ _. is_hit keys x n ≡ false) [ inl h ↦ absurd ((hit_byte x lt h).other e) | inr h ↦ h ]
+  wrong_byte x lt e = elim (cases_Bool (is_hit keys x n)) as (λ _. is_hit keys x n ≡ false) [ inl h ↦ absurd ((hit_byte x lt h).other e) | inr h ↦ h ]
 
   is_slot : IsSlot received
   is_slot = record {
     size = by.size ∙ slot.size;
     bytes = λ x. elim (cases_lt x 256) as (λ _. get_or received x 0 < 2 ^ 8) [
-      | inl lt ↦ elim (cases_bool (is_hit keys x n)) as (λ _. get_or received x 0 < 2 ^ 8)
+      | inl lt ↦ elim (cases_Bool (is_hit keys x n)) as (λ _. get_or received x 0 < 2 ^ 8)
           [ inl h ↦ (hit_byte x lt h).byte | inr h ↦ (let b = slot.bytes x in let e = right_byte x h in omega arith) ]
       | inr ge ↦ (let e = get_or_past received x 0 (let a = by.size in let b = slot.size in omega arith) in omega arith)
     ];
@@ -62,19 +61,19 @@ module _ (keys : List ℕ) (each : (i : ℕ) → i < length keys → IsKey (key_
   may_be itself none = record {
     slot = is_slot;
     empty = λ e. subst (λ l. is_empty l ≡ true) (sym (same_number_lists received sent by.size (λ x lt. right_byte x (none e x (let a = by.size in let b = slot.size in omega arith))))) e;
-    near = λ x lt. inr (elim (cases_bool (is_hit keys x n)) as (λ _. Near (get_or sent x 0) (get_or received x 0)) [
+    near = λ x lt. inr (elim (cases_Bool (is_hit keys x n)) as (λ _. Near (get_or sent x 0) (get_or received x 0)) [
       | inl h ↦ (hit_byte x (omega arith) h).near
       | inr h ↦ subst (Near (get_or sent x 0)) (sym (right_byte x h)) (itself (get_or sent x 0))
     ]);
   }
 
   pub only_one : (other : List ℕ) → IsHitBy keys n sent other → received ≡ other
-  only_one other o = same_number_lists received other (by.size ∙ sym o.size) (λ x lt. elim (cases_bool (is_hit keys x n)) as (λ _. get_or received x 0 ≡ get_or other x 0) [
+  only_one other o = same_number_lists received other (by.size ∙ sym o.size) (λ x lt. elim (cases_Bool (is_hit keys x n)) as (λ _. get_or received x 0 ≡ get_or other x 0) [
     | inl h ↦
         let small : x < 256 = let a = by.size in let b = slot.size in omega arith in
         let w = hit_index keys n x small h in
         subst (λ y. get_or received y 0 ≡ get_or other y 0) w.3 (by.hit w.0 w.1 w.2 ∙ sym (o.hit w.0 w.1 w.2))
-    | inr h ↦ right_byte x h ∙ sym (o.other x (λ i lt e f. no_both _ (index_hit keys n x i lt e f) h))
+    | inr h ↦ right_byte x h ∙ sym (o.other x (λ i lt e f. both_ways _ h (index_hit keys n x i lt e f)))
   ])
 
 -- the slots of a run
@@ -102,8 +101,8 @@ module _ (s : Stream) (slot : (j : ℤ) → IsSlot (s j)) (page : Id) (start slo
   }
     where
       not_hit : (n x : ℕ) → x < 256 → is_empty (s (pos start +ℤ pos n)) ≡ true → is_hit keys x n ≡ false
-      not_hit n x small e = elim (cases_bool (is_hit keys x n)) as (λ _. is_hit keys x n ≡ false) [
-        | inl h ↦ let w = hit_index keys n x small h in absurd (no_both _ e (subst (λ m. is_empty (s (pos start +ℤ pos m)) ≡ false) w.2 (full w.0 w.1)))
+      not_hit n x small e = elim (cases_Bool (is_hit keys x n)) as (λ _. is_hit keys x n ≡ false) [
+        | inl h ↦ let w = hit_index keys n x small h in absurd (both_ways _ (subst (λ m. is_empty (s (pos start +ℤ pos m)) ≡ false) w.2 (full w.0 w.1)) e)
         | inr h ↦ h
       ]
 

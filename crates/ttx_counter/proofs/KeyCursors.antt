@@ -3,11 +3,10 @@ use Rattle.std.proofs.Common.{◌≡◌, ℕ, suc, ◌+◌, ◌*◌, ◌/◌, �
 use Rattle.std.proofs.Common.{inl, inr, arith, eqb-true, eq-eqb}
 use Rattle.std.specs.List.{list_any}
 use Rattle.std.specs.List.Sorted.{IsNonDecreasing}
-use Rattle.std.proofs.lemmas.Bool.{cases_lt}
+use Rattle.std.proofs.lemmas.Bool.{cases_lt, both_ways, cases_Bool}
 use Rattle.std.proofs.lemmas.List.Folds.{list_any_at}
 use Rattle.ttx_counter.specs.Keys.{key_at, slot_in, byte_in, byte_place, is_hit, AreSlotKeys, AreHitOnce}
 use Rattle.ttx_counter.specs.Rule.{IsCursor}
-use Rattle.ttx_counter.proofs.StreaksBelowK.{cases_bool, no_both}
 
 -- the parts of a key
 pub parts : (key : ℕ) → byte_place key ≡ slot_in key * 256 + byte_in key
@@ -20,8 +19,8 @@ pub same_parts : (a n x : ℕ) → x < 256 → byte_place a ≡ n * 256 + x → 
 same_parts a n x lt e = (omega (arith, parts a, byte_small a), omega (arith, parts a, byte_small a))
 
 any_index : (p : ℕ → Bool) (xs : List ℕ) → list_any p xs ≡ true → (i : ℕ) × (i < length xs) × (p (get_or xs i 0) ≡ true)
-any_index p [] h = absurd (no_both _ h refl)
-any_index p (x ∷ xs) h = elim (cases_bool (p x)) as (λ _. (i : ℕ) × (i < length (x ∷ xs)) × (p (get_or (x ∷ xs) i 0) ≡ true)) [
+any_index p [] h = absurd (both_ways _ refl h)
+any_index p (x ∷ xs) h = elim (cases_Bool (p x)) as (λ _. (i : ℕ) × (i < length (x ∷ xs)) × (p (get_or (x ∷ xs) i 0) ≡ true)) [
   | inl e ↦ (0, omega arith, e)
   | inr e ↦ let w = any_index p xs (sym (ap (λ b. b || list_any p xs) e) ∙ h) in (suc w.0, (let b = w.1 in omega arith), w.2)
 ]
@@ -80,5 +79,5 @@ module _ (keys : List ℕ) where
     )
 
     pub not_hit : (x : ℕ) → x < 256 → ((i : ℕ) → from ≤ i → i < to → byte_in (key_at keys i) ≡ x → ⊥) → is_hit keys x n ≡ false
-    not_hit x lt none = elim (cases_bool (is_hit keys x n)) as (λ _. is_hit keys x n ≡ false)
+    not_hit x lt none = elim (cases_Bool (is_hit keys x n)) as (λ _. is_hit keys x n ≡ false)
         [ inl h ↦ (let w = hit_index n x lt h in let at = inside w.0 w.1 w.2 in absurd (none w.0 at.0 at.1 w.3)) | inr h ↦ h ]

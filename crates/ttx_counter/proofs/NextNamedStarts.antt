@@ -1,9 +1,9 @@
 -- Named starts in their order: none lies between one and the next.
-use Rattle.std.proofs.Common.{◌≡◌, ◌⊎◌, ℕ, zero, suc, ◌+◌, ◌-◌, ◌%◌, ◌<◌, ◌≤◌, ℤ, pos, negsuc, ◌+ℤ◌, ◌<ℤ◌, ◌≤ℤ◌, Bool, true, false, if◌then◌else◌}
+use Rattle.std.proofs.Common.{◌≡◌, ℕ, zero, suc, ◌+◌, ◌-◌, ◌%◌, ◌<◌, ◌≤◌, ℤ, pos, negsuc, ◌+ℤ◌, ◌<ℤ◌, ◌≤ℤ◌, Bool, true, false, if◌then◌else◌}
 use Rattle.std.proofs.Common.{List, length, get_or, refl, sym, ap, ◌∙◌, inl, inr, arith}
 use Rattle.std.specs.Prelude.{nat_lt}
 use Rattle.std.specs.List.{Contains}
-use Rattle.std.proofs.lemmas.Int.{ints, by_lt_z}
+use Rattle.std.proofs.lemmas.Int.{ints}
 use Rattle.std.proofs.lemmas.Bool.{cases_lt, cond_both}
 use Rattle.std.proofs.lemmas.Bool.Decides.{nat_tests}
 use Rattle.std.proofs.lemmas.Grind.{get_or_default_zero}
@@ -11,9 +11,6 @@ use Rattle.std.proofs.Math.Nat.{mod-eq_of_lt, add-mod_right}
 use Rattle.ttx_page.specs.Streams.{turned}
 use Rattle.ttx_witness.specs.runs.Confirming.{Rising}
 use Rattle.ttx_witness.specs.runs.Repeating.{next_start}
-
-pub cases_ltz : (a b : ℤ) → (a <ℤ b) ⊎ (b ≤ℤ a)
-cases_ltz a b = by_lt_z a b (λ h. inl h) (λ h. inr h)
 
 -- a list's places of a rising list are in the order of what stands there
 below_at : (starts : List ℕ) → Rising starts → (i j : ℕ) → i < length starts → get_or starts i 0 < get_or starts j 0 → i < j

@@ -1,6 +1,6 @@
 -- What a receiver doesn't take leaves what it shows.
 use Rattle.std.proofs.Common.{◌≡◌, ℕ, Bool, true, false, ◌&&◌, ◌||◌, if◌then◌else◌, not, ◌==◌, List, refl, ap, ◌∙◌}
-use Rattle.std.proofs.lemmas.Bool.{or_parts}
+use Rattle.std.proofs.lemmas.Bool.{or_parts, both_ways}
 use Rattle.ttx_header.specs.Control.{c11}
 use Rattle.ttx_packet.specs.Slots.{Kind, kind_of}
 use Rattle.ttx_page.specs.Packets.{Packet, Empty, Unreadable, Header, Row, Links, Info, Other, packet_of, packet_of_kind}
@@ -13,7 +13,6 @@ use Rattle.ttx_page.specs.Receivers.{after, older, with_storing, misses}
 use Rattle.ttx_render.specs.Laws.{ContentsDecide}
 use Rattle.ttx_render.specs.View.{view_of}
 use Rattle.ttx_counter.specs.Sources.{is_under, takes_from}
-use Rattle.ttx_counter.proofs.StreaksBelowK.{no_both}
 
 -- what is shown of two memories is alike
 pub record IsAlike (m n : Memory) : Type 0 where
@@ -26,7 +25,7 @@ same m = record { rows = refl; control = refl; links = refl }
 
 -- a test that fails leaves the memory
 left : (b c : Bool) (x m : Memory) → b ≡ false → IsAlike m (if b && c then x else older m)
-left true c x m h = absurd (no_both _ refl h)
+left true c x m h = absurd (both_ways _ h refl)
 left false c x m h = same m
 
 by_kind : (lines : ℕ) (sel : Selection) (m : Memory) (packet : Packet) → heads_matched sel packet ≡ false → (is_under (selected_mag sel) packet && m.storing) ≡ false → IsAlike m (after Any lines sel false (older m) packet)

@@ -1,7 +1,7 @@
 -- Streaks while slots pass.
 use Rattle.std.proofs.Common.{◌≡◌, ◌⊎◌, ◌≢◌, ℕ, zero, suc, ◌+◌, ◌*◌, ◌<◌, ◌≤◌, Bool, true, false, if◌then◌else◌, List, length, get_or, set, Some}
 use Rattle.std.proofs.Common.{None, refl, sym, ap, ◌∙◌, subst, inl, inr, arith, eqb, eqb-true, eq-eqb}
-use Rattle.std.proofs.lemmas.Bool.{cases_lt}
+use Rattle.std.proofs.lemmas.Bool.{cases_lt, both_ways, cases_Bool, cases_eq}
 use Rattle.std.proofs.lemmas.Bool.Decides.{nat_tests}
 use Rattle.std.proofs.lemmas.List.{get_or-set_same, get_or-set_other}
 use Rattle.ttx_counter.specs.Keys.{key_at, byte_in}
@@ -9,13 +9,9 @@ use Rattle.ttx_counter.specs.Streaks.{streak_to}
 use Rattle.ttx_counter.specs.Cells.{is_text, streak_of, cell_at, running, AreCounted, IsStreakReached, TellsSlot, IsCell, AreStreaks, IsBroken}
 use Rattle.ttx_counter.specs.Cells.{StreaksAfter}
 use Rattle.ttx_counter.specs.declared.streaks.Streak.{Streak}
-use Rattle.ttx_counter.proofs.StreaksBelowK.{cases_bool, no_both}
 
 abbrev pub byte_at : List ℕ → ℕ → ℕ
 byte_at keys i = byte_in (key_at keys i)
-
-pub cases_eq : (a b : ℕ) → (a ≡ b) ⊎ (a ≢ b)
-cases_eq a b = elim (cases_bool (eqb a b)) as (λ _. (a ≡ b) ⊎ (a ≢ b)) [ inl e ↦ inl (eqb-true a b e) | inr e ↦ inr (λ h. no_both _ (eq-eqb a b h) e) ]
 
 -- below the next number: below this one, or it
 cases_next : (a i : ℕ) → a < i + 1 → (a < i) ⊎ (i ≡ a)
@@ -25,7 +21,7 @@ module _ (row latest now k : ℕ) (keys : List ℕ) (from : ℕ) (old new : List
   pub counted_skip : is_text row (byte_at keys i) ≡ false → AreCounted row latest now k keys from i old new → AreCounted row latest now k keys from (i + 1) old new
   counted_skip isnt a = record {
     hit = λ j low high text. elim (cases_next j i high) as (λ _. (cell_at new row (byte_at keys j) ≡ streak_of now (suc (running latest (cell_at old row (byte_at keys j))))) × (suc (running latest (cell_at old row (byte_at keys j))) < k))
-        [ inl lt ↦ a.hit j low lt text | inr e ↦ absurd (no_both _ text (subst (λ x. is_text row (byte_at keys x) ≡ false) e isnt)) ];
+        [ inl lt ↦ a.hit j low lt text | inr e ↦ absurd (both_ways _ (subst (λ x. is_text row (byte_at keys x) ≡ false) e isnt) text) ];
     other = λ q none. a.other q (λ j low high text e. none j low (omega arith) text e);
   }
 
@@ -107,7 +103,7 @@ running_past : (latest : ℕ) (cell : Streak) → cell.last < latest → running
 running_past latest cell lt = rw (not_eq cell.last latest lt) refl
   where
     not_eq : (a b : ℕ) → a < b → eqb a b ≡ false
-    not_eq a b lt = elim (cases_bool (eqb a b)) as (λ _. eqb a b ≡ false) [ inl e ↦ absurd (let h = eqb-true a b e in omega arith) | inr e ↦ e ]
+    not_eq a b lt = elim (cases_Bool (eqb a b)) as (λ _. eqb a b ≡ false) [ inl e ↦ absurd (let h = eqb-true a b e in omega arith) | inr e ↦ e ]
 
 module _ (sent wrong : ℕ → ℕ → Bool) (k n : ℕ) (latest : List ℕ) (cells : List Streak) (keys : List ℕ) (from to : ℕ) where
   below_next : (r x : ℕ) → r < 25 → is_text r x ≡ true → AreStreaks sent wrong k n latest cells → streak_to (sent r) (wrong x) (n + 1) < k → (m : ℕ) → m ≤ n + 1 → streak_to (sent r) (wrong x) m < k
@@ -145,7 +141,7 @@ module _ (sent wrong : ℕ → ℕ → Bool) (k n : ℕ) (latest : List ℕ) (ce
     sent_row = t.sent_is row inside ∙ eq-eqb row row refl
 
     other_row : (r : ℕ) → r < 25 → r ≢ row → sent r n ≡ false
-    other_row r lt ne = t.sent_is r lt ∙ elim (cases_bool (eqb row r)) as (λ _. eqb row r ≡ false) [ inl e ↦ absurd (ne (sym (eqb-true row r e))) | inr e ↦ e ]
+    other_row r lt ne = t.sent_is r lt ∙ elim (cases_Bool (eqb row r)) as (λ _. eqb row r ≡ false) [ inl e ↦ absurd (ne (sym (eqb-true row r e))) | inr e ↦ e ]
 
     module _ (more : List Streak) (some : 1 ≤ k) (counts : AreCounted row (get_or latest row 0) (n + 1) k keys from to cells more) where
       abbrev new : List ℕ

@@ -17,11 +17,11 @@ use Rattle.ttx_receiver.specs.Tuning.{Tuned, tuned_at, stepped}
 use Rattle.ttx_witness.specs.Coverage.{Certificate, IsCertificate}
 use Rattle.ttx_counter.specs.Refutations.{IsCounterTo}
 use Rattle.ttx_counter.specs.Sources.{plain_from, PlainRunsAreCounterRuns, AbsentPagesAreWrong, PeriodsRepeat}
-use Rattle.ttx_counter.proofs.StreaksBelowK.{no_both}
 use Rattle.ttx_counter.proofs.CheckIsExact.{slots_are, same_page}
 use Rattle.ttx_counter.specs.Counters.{CounterRun, AreCertificateNumbers, IsCounterRun, selection_for}
 use Rattle.ttx_counter.specs.Sources.{plain_counter, IsWrongAfter, TellsWrong, IsPlainlyRight}
 use Rattle.std.specs.Prelude.{slice_get, Some, None}
+use Rattle.std.proofs.lemmas.Bool.{both_ways}
 use Rattle.ttx_cycle.specs.Files.{IsCycle}
 use Rattle.ttx_page.specs.Pages.{Fits}
 use Rattle.ttx_page.specs.Memories.{IsMemory, memory_of_page}
@@ -76,12 +76,12 @@ counter_runs exact turns cycle pages p index any_sub former lines repeat deadlin
 }
 
 stopped : (a b c : Bool) → b ≡ false → (a && b && c) ≡ false
-stopped true true c h = absurd (no_both _ refl h)
+stopped true true c h = absurd (both_ways _ h refl)
 stopped true false c h = refl
 stopped false b c h = refl
 
 unchanged : (m x : Memory) (b : Bool) → b ≡ false → m.storing ≡ false → let new = (if b then x else m) in (new.storing ≡ false) × (new.links ≡ m.links)
-unchanged m x true h off = absurd (no_both _ refl h)
+unchanged m x true h off = absurd (both_ways _ h refl)
 unchanged m x false h off = (off, refl)
 
 -- one slot that is no header of the page

@@ -7,7 +7,7 @@ use Rattle.std.proofs.Math.Seq.{take-append_seam, drop-append_seam}
 use Rattle.std.proofs.lemmas.Bool.Decides.{nat_tests}
 use Rattle.std.proofs.lemmas.List.{length-append}
 use Rattle.std.proofs.lemmas.Slice.Eq.{bytes_eq-Decides}
-use Rattle.std.proofs.lemmas.Bool.{and_from, cond_both}
+use Rattle.std.proofs.lemmas.Bool.{and_from, cond_both, cond-true}
 use Rattle.ttx_header.specs.Ids.{Id, id_at}
 use Rattle.ttx_links.specs.Sets.{IsTarget, IsLink, AreLinks}
 use Rattle.ttx_page.specs.Pages.{IsRow}
@@ -17,7 +17,7 @@ use Rattle.ttx_counter.specs.CounterTexts.{yes_as_one, bits, target_numbers, lin
 use Rattle.ttx_counter.specs.CounterReading.{at_most, is_one, characters_in, read_rows, is_target, read_link, read_links, hit_of, hits_in, memory_in}
 use Rattle.ttx_counter.specs.CounterReading.{choices_in, hits_after, numbers_behind, counter_in, line_numbers, judged, IsHitFields, IsCounterFields}
 use Rattle.ttx_counter.specs.CounterReading.{AcceptedCounterTextsAreWritten, WrittenCounterTextsAreRead}
-use Rattle.ttx_counter.proofs.ReadNumbers.{AreSmall, EachSmall, joined, numbers_of, whole, if_true}
+use Rattle.ttx_counter.proofs.ReadNumbers.{AreSmall, EachSmall, joined, numbers_of, whole}
 
 one : (b : Bool) → is_one (yes_as_one b) ≡ b
 one true = refl
@@ -91,7 +91,7 @@ first_link ns = read_link (slice_index ns 0) (slice_index ns 1) (slice_index ns 
 
 link : (l : Option Id) (rest : List ℕ) → IsLink l → first_link (target_numbers l ++ rest) ≡ l
 link None rest is = refl
-link (Some id) rest is = if_true (is_target id.mag id.page id.sub) (Some (id_at id.mag id.page id.sub)) None (target id is)
+link (Some id) rest is = cond-true (is_target id.mag id.page id.sub) (Some (id_at id.mag id.page id.sub)) None (target id is)
 
 drop_link : (l : Option Id) (rest : List ℕ) → drop 3 (target_numbers l ++ rest) ≡ rest
 drop_link None rest = refl
@@ -243,7 +243,7 @@ itself bytes = (bytes_eq-Decides bytes bytes).1 refl
 pub written_is_read : WrittenCounterTextsAreRead
 written_is_read c is =
     let e = read c is (each_hit c.hits is.each) in
-    ap (judged (counter_text c)) e ∙ if_true (bytes_eq (counter_text c) (counter_text c)) (Ok c) (Err _) (itself (counter_text c))
+    ap (judged (counter_text c)) e ∙ cond-true (bytes_eq (counter_text c) (counter_text c)) (Ok c) (Err _) (itself (counter_text c))
 
 -- the value of Ok
 ok_is : {A E : Type 0} (a : A) (x y : A) → ◌≡◌ {A = Rattle.std.specs.Prelude.Result A E} (Ok x) (Ok y) → x ≡ y

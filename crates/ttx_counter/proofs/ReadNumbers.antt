@@ -1,18 +1,15 @@
 -- The numbers in the text of a counter-run are those that were written.
 use Rattle.std.proofs.Common.{◌≡◌, ℕ, ◌+◌, ◌-◌, ◌*◌, ◌/◌, ◌%◌, ◌^◌, ◌<◌, ◌≤◌, Bool, true, false, List, [], ◌∷◌, ◌++◌, length, codes, Option, Some}
-use Rattle.std.proofs.Common.{None, if◌then◌else◌, refl, sym, ap, ◌∙◌, arith, append_assoc, append-nil}
+use Rattle.std.proofs.Common.{None, refl, sym, ap, ◌∙◌, arith, append_assoc, append-nil}
 use Rattle.std.specs.Fmt.{decimal}
 use Rattle.std.proofs.lemmas.Bool.Decides.{nat_tests}
 use Rattle.std.proofs.lemmas.Fmt.{decimal_by_steps}
+use Rattle.std.proofs.lemmas.Bool.{cond-true}
 use Rattle.ttx_page.specs.Memories.{Memory}
 use Rattle.ttx_counter.specs.Counters.{Hit, CounterRun}
 use Rattle.ttx_counter.specs.CounterTexts.{numbers_text, line_text, yes_as_one, bits, links_numbers, hits_numbers, row_lines, state_text, links_lines}
 use Rattle.ttx_counter.specs.CounterTexts.{memory_text, choices_text, hits_text, title, head_lines, tuning_text, counter_text}
 use Rattle.ttx_counter.specs.CounterReading.{is_digit, at_most, digit_after, closed, numbers_after, line_numbers}
-
-pub if_true : {A : Type 0} (b : Bool) (x y : A) → b ≡ true → (if b then x else y) ≡ x
-if_true true x y h = refl
-if_true false x y h = cc
 
 -- each below 2^32
 abbrev pub AreSmall : List ℕ → Type 0
@@ -25,7 +22,7 @@ a_digit d small = grind (arith, nat_tests)
 
 step : (begun : Option ℕ) (d : ℕ) (rest : List ℕ) → d < 10 → numbers_after begun ((48 + d) ∷ rest) ≡ numbers_after (Some (digit_after begun (48 + d))) rest
 unfolding numbers_after
-step begun d rest small = if_true (is_digit (48 + d)) (numbers_after (Some (digit_after begun (48 + d))) rest) (closed begun (numbers_after None rest)) (a_digit d small)
+step begun d rest small = cond-true (is_digit (48 + d)) (numbers_after (Some (digit_after begun (48 + d))) rest) (closed begun (numbers_after None rest)) (a_digit d small)
 
 first_digit : (m : ℕ) → m < 10 → (48 + m) - 48 ≡ at_most 4294967295 m
 first_digit m small = omega arith

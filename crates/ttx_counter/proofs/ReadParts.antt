@@ -3,12 +3,11 @@ use Rattle.std.proofs.Common.{◌≡◌, ℕ, zero, suc, ◌+◌, ◌-◌, ◌*�
 use Rattle.std.proofs.Common.{None, if◌then◌else◌, refl, sym, ap, ◌∙◌, subst, arith, ext_get_or, length-drop, append-nil, append_assoc, eqb-true}
 use Rattle.std.proofs.Common.{eq-eqb}
 use Rattle.std.specs.Prelude.{slice_index}
-use Rattle.std.proofs.lemmas.Bool.{cond_both}
+use Rattle.std.proofs.lemmas.Bool.{cond_both, cond-true}
 use Rattle.ttx_page.specs.Pages.{IsRow}
 use Rattle.ttx_page.specs.Memories.{IsMemory, memory_at}
 use Rattle.ttx_links.specs.Sets.{LinkSet}
 use Rattle.ttx_counter.specs.Counters.{Hit}
-use Rattle.ttx_counter.proofs.ReadNumbers.{if_true}
 use Rattle.ttx_counter.specs.CounterReading.{at_most, closed, characters_in, read_rows, hit_of, hits_in, line_of}
 
 -- a number that has ended stands before the others
@@ -113,7 +112,7 @@ line_of_other n x y text own ne = cond_both (x == y) _ n (λ z. z ≡ n) (λ e. 
 
 line_of_same : (n x y : ℕ) (text own : List ℕ) → x ≡ y → line_of n (x ∷ text) (y ∷ own) ≡ line_of (if x == 10 then n + 1 else n) text own
 unfolding line_of
-line_of_same n x y text own e = if_true (x == y) _ n (eq-eqb x y e)
+line_of_same n x y text own e = cond-true (x == y) _ n (eq-eqb x y e)
 
 no_hits : (n : ℕ) (ns : List ℕ) → n ≡ 0 → hits_in n ns ≡ []
 unfolding hits_in

@@ -4,6 +4,7 @@ use Rattle.std.proofs.Common.{sym, ap, ◌∙◌, arith}
 use Rattle.std.specs.List.{AllByRecursion}
 use Rattle.std.specs.List.Sorted.{IsNonDecreasing}
 use Rattle.std.proofs.lemmas.Bool.Decides.{nat_tests}
+use Rattle.std.proofs.lemmas.Bool.{both_ways}
 use Rattle.ttx_packet.specs.Laws.{RowsAreNumbered}
 use Rattle.ttx_header.specs.Ids.{Id}
 use Rattle.ttx_page.specs.Packets.{Packet, Empty, Unreadable, Header, Row, Links, Info, Other, packet_of}
@@ -17,7 +18,6 @@ use Rattle.ttx_counter.specs.Listening.{row_sent, row_from, mine_from, item_of}
 use Rattle.ttx_counter.specs.Cells.{is_text, is_row, TellsSlot, AreStreaks, IsBroken}
 use Rattle.ttx_counter.specs.Rule.{IsCursor, sends_row, KeepsRule}
 use Rattle.ttx_counter.specs.declared.streaks.Streak.{Streak}
-use Rattle.ttx_counter.proofs.StreaksBelowK.{no_both}
 use Rattle.ttx_counter.proofs.SentRows.{IsMine, IsNumbered, numbered, mine_right, sent_right}
 use Rattle.ttx_counter.proofs.KeyCursors.{hit_here, not_hit}
 
@@ -53,13 +53,13 @@ module _ (law : RowsAreNumbered) (decide : StreaksDecide) (s : Stream) (page : I
     where
       use_and : (a b : Bool) → (a && b) ≡ true → b ≡ true
       use_and true b h = h
-      use_and false b h = absurd (no_both _ h refl)
-  carries_number r Empty a h = absurd (no_both _ h refl)
-  carries_number r Unreadable a h = absurd (no_both _ h refl)
-  carries_number r (Header id control text) a h = absurd (no_both _ h refl)
-  carries_number r (Links m content) a h = absurd (no_both _ h refl)
-  carries_number r Info a h = absurd (no_both _ h refl)
-  carries_number r Other a h = absurd (no_both _ h refl)
+      use_and false b h = absurd (both_ways _ refl h)
+  carries_number r Empty a h = absurd (both_ways _ refl h)
+  carries_number r Unreadable a h = absurd (both_ways _ refl h)
+  carries_number r (Header id control text) a h = absurd (both_ways _ refl h)
+  carries_number r (Links m content) a h = absurd (both_ways _ refl h)
+  carries_number r Info a h = absurd (both_ways _ refl h)
+  carries_number r Other a h = absurd (both_ways _ refl h)
 
   first : (item : Item) (list : List ℤ) → length list ≡ k → AreSuccessive s page item list → (j : ℤ) × IsTransmission s page item j
   first item [] len a = absurd (omega arith)

@@ -2,7 +2,7 @@
 use Rattle.std.proofs.Common.{◌≡◌, ◌⊎◌, ◌↔◌, ℕ, zero, suc, ◌+◌, ◌<◌, ◌≤◌, ℤ, pos, ◌+ℤ◌, ◌-ℤ◌, ◌<ℤ◌, ◌≤ℤ◌, Bool, true, false, ◌&&◌, if◌then◌else◌}
 use Rattle.std.proofs.Common.{◌==◌, ◌%◌, List, [], length, get_or, None, refl, sym, ap, ◌∙◌, subst, inl, inr, arith, eqb-true, eq-eqb}
 use Rattle.std.proofs.lemmas.Int.{ints, by_lt_z}
-use Rattle.std.proofs.lemmas.Bool.{and_parts, cond_both}
+use Rattle.std.proofs.lemmas.Bool.{and_parts, cond_both, both_ways, and_from}
 use Rattle.ttx_packet.specs.Slots.{Kind, IsEmpty, IsUnreadable, IsHeader, IsRow, IsLinks, IsInfo, IsOther, kind_of}
 use Rattle.ttx_packet.specs.Laws.{RowsAreNumbered}
 use Rattle.ttx_header.specs.Ids.{Id, same_id}
@@ -13,7 +13,6 @@ use Rattle.ttx_page.specs.Streams.{Stream, repeated, heads, heads_page, carries,
 use Rattle.ttx_witness.specs.faults.Comparing.{mine_after}
 use Rattle.ttx_counter.specs.Listening.{HasOwner, row_sent, mine_from, item_of}
 use Rattle.ttx_counter.specs.Cells.{is_row}
-use Rattle.ttx_counter.proofs.StreaksBelowK.{no_both}
 
 -- rows are numbered
 abbrev pub IsNumbered : Packet → Type 0
@@ -60,7 +59,7 @@ module _ (s : Stream) (page : Id) where
   here j is = (
     (λ own. record { slot = j; latest = record { earlier = omega (arith, ints); is_header = is; none_between = λ i low high. absurd (omega (arith, ints)) }; own = own }),
     (λ o. by_lt_z o.slot j
-        (λ lt. absurd (no_both _ is (o.latest.none_between j lt (omega (arith, ints)))))
+        (λ lt. absurd (both_ways _ (o.latest.none_between j lt (omega (arith, ints))) is))
         (λ ge. let e : o.slot ≡ j = let a = o.latest.earlier in omega (arith, ints) in subst (λ x. heads_page page (pk x) ≡ true) e o.own)),
   )
 
@@ -80,7 +79,7 @@ module _ (s : Stream) (page : Id) where
     }),
     (λ o. by_lt_z o.slot j
         (λ lt. record { slot = o.slot; latest = record { earlier = lt; is_header = o.latest.is_header; none_between = λ i low high. o.latest.none_between i low (omega (arith, ints)) }; own = o.own })
-        (λ ge. let e : o.slot ≡ j = let a = o.latest.earlier in omega (arith, ints) in absurd (no_both _ (subst (λ x. heads page.mag (pk x) ≡ true) e o.latest.is_header) isnt))),
+        (λ ge. let e : o.slot ≡ j = let a = o.latest.earlier in omega (arith, ints) in absurd (both_ways _ isnt (subst (λ x. heads page.mag (pk x) ≡ true) e o.latest.is_header)))),
   )
 
   mine_step : (j : ℤ) (mine : Bool) → IsMine j mine → IsMine (j +ℤ pos 1) (mine_after page (pk j) mine)
@@ -123,23 +122,23 @@ module _ (s : Stream) (page : Id) where
   known n period some tau = elim (scanned tau n) as (λ _. IsMine (tau +ℤ pos n) (mine_from page s tau false n)) [
     | inr a ↦ a
     | inl w ↦ (
-      (λ m. absurd (no_both _ m w.unset)),
+      (λ m. absurd (both_ways _ w.unset m)),
       (λ o. by_lt_z o.slot tau
           (λ lt.
           let up : heads page.mag (pk (o.slot +ℤ pos n)) ≡ true = ap (λ x. heads page.mag (packet_of x)) (period o.slot) ∙ o.latest.is_header in
-          absurd (no_both _ up (o.latest.none_between (o.slot +ℤ pos n) (omega (arith, ints)) (omega (arith, ints)))))
-          (λ ge. absurd (no_both _ o.latest.is_header (w.none o.slot ge o.latest.earlier)))),
+          absurd (both_ways _ (o.latest.none_between (o.slot +ℤ pos n) (omega (arith, ints)) (omega (arith, ints))) up))
+          (λ ge. absurd (both_ways _ (w.none o.slot ge o.latest.earlier) o.latest.is_header))),
     )
   ]
 
   -- what a slot sends
   none_is : (r : ℕ) → is_row r None ≡ true → ⊥
-  none_is r h = no_both _ h refl
+  none_is r h = both_ways _ refl h
 
   sent_head : (mine : Bool) (p : Packet) → IsNumbered p → (is_row 0 (row_sent page p mine) ≡ true) ↔ (heads_page page p ≡ true)
-  sent_head mine (Header id control text) a = cond_both (same_id page id) _ _ (λ x. (is_row 0 x ≡ true) ↔ (same_id page id ≡ true)) (λ e. ((λ _. e), (λ _. refl))) (λ e. ((λ h. absurd (no_both _ h refl)), (λ h. absurd (no_both _ h e))))
+  sent_head mine (Header id control text) a = cond_both (same_id page id) _ _ (λ x. (is_row 0 x ≡ true) ↔ (same_id page id ≡ true)) (λ e. ((λ _. e), (λ _. refl))) (λ e. ((λ h. absurd (both_ways _ refl h)), (λ h. absurd (both_ways _ e h))))
   sent_head mine (Row mag number text) a = cond_both (mine && (mag == page.mag)) _ _ (λ x. (is_row 0 x ≡ true) ↔ (false ≡ true))
-      (λ e. ((λ h. absurd (let z = eqb-true number 0 h in let b = a.0 in omega arith)), (λ h. absurd (no_both _ h refl)))) (λ e. ((λ h. h), (λ h. h)))
+      (λ e. ((λ h. absurd (let z = eqb-true number 0 h in let b = a.0 in omega arith)), (λ h. absurd (both_ways _ refl h)))) (λ e. ((λ h. h), (λ h. h)))
   sent_head mine Empty a = ((λ h. h), (λ h. h))
   sent_head mine Unreadable a = ((λ h. h), (λ h. h))
   sent_head mine (Links mag content) a = ((λ h. h), (λ h. h))
@@ -148,19 +147,15 @@ module _ (s : Stream) (page : Id) where
 
   sent_row : (r : ℕ) (mine : Bool) (p : Packet) → (is_row (suc r) (row_sent page p mine) ≡ true) ↔ ((carries page.mag (TheRow (suc r)) p ≡ true) × (mine ≡ true))
   sent_row r mine (Header id control text) = cond_both (same_id page id) _ _ (λ x. (is_row (suc r) x ≡ true) ↔ ((false ≡ true) × (mine ≡ true)))
-      (λ e. ((λ h. absurd (let z = eqb-true 0 (suc r) h in omega arith)), (λ h. absurd (no_both _ h.0 refl)))) (λ e. ((λ h. absurd (no_both _ h refl)), (λ h. absurd (no_both _ h.0 refl))))
+      (λ e. ((λ h. absurd (let z = eqb-true 0 (suc r) h in omega arith)), (λ h. absurd (both_ways _ refl h.0)))) (λ e. ((λ h. absurd (both_ways _ refl h)), (λ h. absurd (both_ways _ refl h.0))))
   sent_row r mine (Row mag number text) = cond_both (mine && (mag == page.mag)) _ _ (λ x. (is_row (suc r) x ≡ true) ↔ (((mag == page.mag) && (number == suc r) ≡ true) × (mine ≡ true)))
-      (λ e. let b = and_parts _ _ e in ((λ h. (and_both _ _ b.1 h, b.0)), (λ h. (and_parts _ _ h.0).1)))
-      (λ e. ((λ h. absurd (no_both _ h refl)), (λ h. absurd (no_both _ (and_both _ _ h.1 (and_parts _ _ h.0).0) e))))
-    where
-      and_both : (a b : Bool) → a ≡ true → b ≡ true → (a && b) ≡ true
-      and_both true b h k = k
-      and_both false b h k = h
-  sent_row r mine Empty = ((λ h. absurd (no_both _ h refl)), (λ h. absurd (no_both _ h.0 refl)))
-  sent_row r mine Unreadable = ((λ h. absurd (no_both _ h refl)), (λ h. absurd (no_both _ h.0 refl)))
-  sent_row r mine (Links mag content) = ((λ h. absurd (no_both _ h refl)), (λ h. absurd (no_both _ h.0 refl)))
-  sent_row r mine Info = ((λ h. absurd (no_both _ h refl)), (λ h. absurd (no_both _ h.0 refl)))
-  sent_row r mine Other = ((λ h. absurd (no_both _ h refl)), (λ h. absurd (no_both _ h.0 refl)))
+      (λ e. let b = and_parts _ _ e in ((λ h. (and_from _ _ b.1 h, b.0)), (λ h. (and_parts _ _ h.0).1)))
+      (λ e. ((λ h. absurd (both_ways _ refl h)), (λ h. absurd (both_ways _ e (and_from _ _ h.1 (and_parts _ _ h.0).0)))))
+  sent_row r mine Empty = ((λ h. absurd (both_ways _ refl h)), (λ h. absurd (both_ways _ refl h.0)))
+  sent_row r mine Unreadable = ((λ h. absurd (both_ways _ refl h)), (λ h. absurd (both_ways _ refl h.0)))
+  sent_row r mine (Links mag content) = ((λ h. absurd (both_ways _ refl h)), (λ h. absurd (both_ways _ refl h.0)))
+  sent_row r mine Info = ((λ h. absurd (both_ways _ refl h)), (λ h. absurd (both_ways _ refl h.0)))
+  sent_row r mine Other = ((λ h. absurd (both_ways _ refl h)), (λ h. absurd (both_ways _ refl h.0)))
 
   pub sent_right : (j : ℤ) (mine : Bool) → IsMine j mine → IsNumbered (pk j) → (r : ℕ) → (is_row r (row_sent page (pk j) mine) ≡ true) ↔ IsTransmission s page (item_of r) j
   sent_right j mine a known zero =

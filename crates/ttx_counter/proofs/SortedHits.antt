@@ -2,7 +2,7 @@
 use Rattle.std.proofs.Common.{◌≡◌, ◌⊎◌, ℕ, ◌+◌, ◌*◌, ◌<◌, List, length, get_or, map, refl, sym, ap, ◌∙◌, subst, inl, inr, arith}
 use Rattle.std.specs.List.{All, AllPairs, Contains, swap}
 use Rattle.std.specs.Prelude.{IsPermutation}
-use Rattle.std.proofs.lemmas.Bool.{cases_lt}
+use Rattle.std.proofs.lemmas.Bool.{cases_lt, cases_eq}
 use Rattle.std.proofs.lemmas.List.{get_or-map, get_or_default, length-map}
 use Rattle.std.proofs.lemmas.List.Sorted.{IsPermutation-sym, IsPermutation-keeps, Contains-permutation}
 use Rattle.std.proofs.lemmas.List.Edits.{length-swap, swapped_from_swap}
@@ -10,7 +10,6 @@ use Rattle.ttx_page.specs.Streams.{Stream}
 use Rattle.ttx_counter.specs.Counters.{Hit, IsHit, IsHitIn, flipped}
 use Rattle.ttx_counter.specs.Keys.{hit_key, key_at, slot_in, byte_in, bit_in, byte_place, IsKey, AreHitOnce}
 use Rattle.ttx_counter.specs.Hearing.{IsHitBy}
-use Rattle.ttx_counter.proofs.NotedStreaks.{cases_eq}
 use Rattle.ttx_counter.proofs.KeyCursors.{parts}
 
 no_hit : Hit

@@ -6,6 +6,7 @@ use Rattle.std.specs.List.{Contains, AllPairs, list_any}
 use Rattle.std.proofs.lemmas.Int.{ints}
 use Rattle.std.proofs.lemmas.List.{get_or-map, length-map}
 use Rattle.std.proofs.lemmas.List.Elements.{Contains-get_or, All-get_or}
+use Rattle.std.proofs.lemmas.Bool.{cases_Bool}
 use Rattle.ttx_packet.specs.Slots.{IsSlot}
 use Rattle.ttx_page.specs.Pages.{Page}
 use Rattle.ttx_page.specs.declared.selection.Selection.TheVariants.{Exact}
@@ -22,7 +23,7 @@ use Rattle.ttx_certify.specs.Seen.{HasView}
 use Rattle.ttx_counter.specs.Counters.{Hit, IsHitIn, AreHits, IsHitList, flipped}
 use Rattle.ttx_counter.specs.StarvingRuns.{hit_at}
 use Rattle.ttx_counter.specs.Completeness.{StarvesFrom, StarvesInPeriod, StarvingIsCounterRun}
-use Rattle.ttx_counter.proofs.FullestCertificate.{any_to, any_from, cases_bool}
+use Rattle.ttx_counter.proofs.FullestCertificate.{any_to, any_from}
 use Rattle.ttx_counter.proofs.SeenIsCovered.{SeeingLaws, steady_from, exact_matches}
 
 -- from a tuning slot that is taken into the first period
@@ -120,7 +121,7 @@ module _ (cycle : List (List ℕ)) (is_cycle : IsCycle cycle) (turn : EachSlotTu
   pub with_hits : length received ≡ n → IsHitList (repeated cycle) start n (map (hit_at item) xs) received
   with_hits long = record {
     count = long;
-    each = λ t lt. elim (cases_bool (list_any (λ x. x == t) xs)) as (λ _. IsHitIn (map (hit_at item) xs) t (sent t) (get_or received t [])) [
+    each = λ t lt. elim (cases_Bool (list_any (λ x. x == t) xs)) as (λ _. IsHitIn (map (hit_at item) xs) t (sent t) (get_or received t [])) [
       | inl e ↦ let c = any_to t xs e in subst (IsHitIn (map (hit_at item) xs) t (sent t)) (sym (is.hit t c)) (hit_here t c)
       | inr e ↦
           let no = λ (c : Contains xs t). let k = any_from t xs c.0 c.1 c.2 in let q : true ≡ false = sym k ∙ e in absurd cc in

@@ -4,6 +4,7 @@ use Rattle.std.proofs.Common.{None, refl, sym, ap, ◌∙◌, subst, inl, inr, a
 use Rattle.std.specs.List.{Contains, AllByRecursion}
 use Rattle.std.proofs.lemmas.Int.{ints}
 use Rattle.std.proofs.lemmas.List.Elements.{All-from_recursion}
+use Rattle.ttx_page.proofs.SlotDistances.{cases_ltz}
 use Rattle.ttx_page.specs.Pages.{Page}
 use Rattle.ttx_page.specs.declared.item.Item.{Item}
 use Rattle.ttx_page.specs.Streams.{repeated, turned, run_length, IsOwned}
@@ -21,7 +22,6 @@ use Rattle.ttx_witness.specs.runs.Tracks.{IsWithin}
 use Rattle.ttx_counter.specs.Starving.{fullest, with_sure_starts}
 use Rattle.ttx_counter.specs.Completeness.{StarvesFrom, StartsAreJudged, AreJudged, FullestNamesAll, late_start}
 use Rattle.ttx_counter.specs.Refutations.{IsAfterOwner}
-use Rattle.ttx_counter.proofs.NextNamedStarts.{cases_ltz}
 use Rattle.ttx_counter.proofs.CoveredOrStarved.{DecidingLaws, late_none, start_none, start_at, next_low, covered_if, late_if}
 use Rattle.ttx_counter.proofs.StarvedCounterRuns.{starves_turned}
 

@@ -3,19 +3,12 @@ use Rattle.std.proofs.Common.{◌≡◌, ◌⊎◌, ◌↔◌, ℕ, zero, suc, �
 use Rattle.std.proofs.Common.{length, refl, ap, ◌∙◌, subst, inl, inr, arith}
 use Rattle.std.specs.List.{AllByRecursion}
 use Rattle.std.proofs.lemmas.Int.{ints, by_lt_z}
-use Rattle.std.proofs.lemmas.Bool.{cases_lt}
+use Rattle.std.proofs.lemmas.Bool.{cases_lt, both_ways, cases_Bool}
 use Rattle.ttx_header.specs.Ids.{Id}
 use Rattle.ttx_page.specs.declared.item.Item.{Item}
 use Rattle.ttx_page.specs.Streams.{Stream, IsTransmission, AreSuccessive}
 use Rattle.ttx_page.specs.Receptions.{OneIs}
 use Rattle.ttx_counter.specs.Streaks.{streak_to, IsSentAmong, IsInside, IsAmong, IsRightAmong, StreaksDecide}
-
-pub cases_bool : (b : Bool) → (b ≡ true) ⊎ (b ≡ false)
-cases_bool true = inl refl
-cases_bool false = inr refl
-
-pub no_both : (a : Bool) → a ≡ true → a ≡ false → ⊥
-no_both a h k = cc
 
 by_nat : (d : ℤ) → pos 0 ≤ℤ d → (i : ℕ) × (d ≡ pos i)
 by_nat (ℤ.pos i) h = (i, refl)
@@ -56,7 +49,7 @@ module _ (s : Stream) (page : Id) (item : Item) (tau : ℤ) (sent wrong : ℕ �
   stay i a = rw a refl
 
   unsent : (i : ℕ) → i < n → (P (tau +ℤ pos i) → ⊥) → sent i ≡ false
-  unsent i lt none = elim (cases_bool (sent i)) as (λ _. sent i ≡ false) [ inl e ↦ absurd (none ((told i lt).0 e)) | inr e ↦ e ]
+  unsent i lt none = elim (cases_Bool (sent i)) as (λ _. sent i ≡ false) [ inl e ↦ absurd (none ((told i lt).0 e)) | inr e ↦ e ]
 
   -- where nothing is sent it stays
   quiet : (d i : ℕ) → i + d ≤ n → ((x : ℕ) → i ≤ x → x < i + d → P (tau +ℤ pos x) → ⊥) → streak (i + d) ≡ streak i
@@ -74,7 +67,7 @@ module _ (s : Stream) (page : Id) (item : Item) (tau : ℤ) (sent wrong : ℕ �
       let w = nat_place tau j a.0.0 in
       let at = w.1 in
       let below : w.0 < n = let b = a.0.1 in omega (arith, ints) in
-      elim (cases_bool (wrong w.0)) as (λ _. OneIs (IsRightAmong tau n wrong) (j ∷ slots) ⊎ AllByRecursion IsWrong (j ∷ slots)) [
+      elim (cases_Bool (wrong w.0)) as (λ _. OneIs (IsRightAmong tau n wrong) (j ∷ slots) ⊎ AllByRecursion IsWrong (j ∷ slots)) [
         | inl e ↦ elim (split slots a.1) as (λ _. OneIs (IsRightAmong tau n wrong) (j ∷ slots) ⊎ AllByRecursion IsWrong (j ∷ slots)) [
           | inl one ↦ inl (inr one)
           | inr all ↦ inr (record { index = w.0; below = below; place = at; told = e }, all)
@@ -147,16 +140,16 @@ module _ (s : Stream) (page : Id) (item : Item) (tau : ℤ) (sent wrong : ℕ �
   unfolding streak_to
   build m zero acc k le len low succ all f = record { slots = acc; count = omega arith; successive = succ; wrong_all = all }
   build zero (suc d) acc k le len low succ all f = absurd (omega arith)
-  build (suc m) (suc d) acc k le len low succ all f = elim (cases_bool (sent m)) as (λ _. Streak k) [
+  build (suc m) (suc d) acc k le len low succ all f = elim (cases_Bool (sent m)) as (λ _. Streak k) [
     | inl e ↦
         let p = (told m (omega arith)).0 e in
-        elim (cases_bool (wrong m)) as (λ _. Streak k) [
+        elim (cases_Bool (wrong m)) as (λ _. Streak k) [
           | inl h ↦ build m d ((tau +ℤ pos m) ∷ acc) k (omega arith) (omega arith) (let u = up m e h in omega arith) (onto m acc p f succ)
               (record { index = m; below = omega arith; place = refl; told = h }, all) (omega (arith, ints), (λ x a b q. absurd (omega (arith, ints))))
           | inr h ↦ absurd (let u = down m e h in omega arith)
         ]
     | inr e ↦ build m (suc d) acc k (omega arith) len (let u = stay m e in omega arith) succ all
-        (earlier m acc (λ p. no_both _ ((told m (omega arith)).1 p) e) f)
+        (earlier m acc (λ p. both_ways _ e ((told m (omega arith)).1 p)) f)
   ]
 
   pub streak_is : (k m : ℕ) → m ≤ n → k ≤ streak m → Streak k
@@ -171,7 +164,7 @@ module _ (s : Stream) (page : Id) (item : Item) (tau : ℤ) (sent wrong : ℕ �
   no_right (j ∷ slots) a (inl r) =
       let e = a.0.place in let f = r.place in
       let same : a.0.index ≡ r.index = omega (arith, ints) in
-      no_both _ (subst (λ x. wrong x ≡ true) same a.0.told) r.told
+      both_ways _ r.told (subst (λ x. wrong x ≡ true) same a.0.told)
   no_right (j ∷ slots) a (inr one) = no_right slots a.1 one
 
   pub decide : (k : ℕ) → 1 ≤ k → ((m : ℕ) → m ≤ n → streak m < k)

@@ -1,4 +1,4 @@
-pub mod Chunks
+mod Chunks
 mod PutParts
 mod JudgedOnce
 mod GivenSlots

@@ -2,7 +2,8 @@
 --
 --   file_of    the bytes of a packet file
 --   IsCycle    the slots of a cycle
-use Rattle.std.specs.Prelude.{ℕ, ◌<◌, ◌≤◌, List, length, All}
+--   IsPacketFile    the bytes are the packet file of a cycle
+use Rattle.std.specs.Prelude.{◌≡◌, ℕ, ◌<◌, ◌≤◌, List, length, All}
 use Rattle.std.specs.List.{flat_map}
 use Rattle.ttx_packet.specs.Slots.{IsSlot}
 
@@ -15,3 +16,8 @@ pub record IsCycle (slots : List (List ℕ)) : Type 0 where
   pub some : 0 < length slots
   pub most : length slots ≤ 65536
   pub each : All IsSlot slots
+
+-- the bytes are the packet file of these slots
+pub record IsPacketFile (bytes : List ℕ) (slots : List (List ℕ)) : Type 0 where
+  pub is_cycle : IsCycle slots
+  pub same : bytes ≡ file_of slots

@@ -1,4 +1,4 @@
-pub mod FlagBits
-pub mod Slices
-pub mod PacketZero
-pub mod Readings
+mod FlagBits
+mod Slices
+mod PacketZero
+mod Readings

@@ -1,10 +1,11 @@
 -- The fields of a page header by the numbers of its bytes.
 use Rattle.std.proofs.Common.{◌≡◌, ℕ, ◌+◌, ◌*◌, ◌/◌, ◌%◌, ◌<◌, ◌≤◌, ◌==◌, ◌&&◌, ◌||◌, Bool, true, false, List, [], ◌∷◌, ◌++◌, Option, Some, None}
-use Rattle.std.proofs.Common.{is_some, length, take, take_all, take_at, drop, drop_at, length-append, not, map, refl, sym, ap, subst, ◌∙◌, inl, inr}
+use Rattle.std.proofs.Common.{is_some, length, take, take_all, take_at, drop, drop_at, length-append, map, refl, sym, ap, subst, ◌∙◌, inl, inr}
 use Rattle.std.proofs.Common.{arith, eqb-true, eq-eqb, slice_index, slice_range}
 use Rattle.std.specs.Prelude.{unwrap_or}
 use Rattle.std.proofs.lemmas.Bool.{cases_Bool, and_parts}
 use Rattle.std.proofs.lemmas.Bool.Decides.{nat_tests}
+use Rattle.ttx_code.proofs.Choices.{implied, either}
 use Rattle.ttx_code.specs.Words.{reading, number_of, hamming_word, distance, ones}
 use Rattle.ttx_code.specs.Laws.{ReadingsAreNumbers}
 use Rattle.ttx_packet.specs.Slots.{IsHeader, is_empty, is_clean, are_readable, are_words, address_bytes, magazine, packet_kind, kind_of, read_number}
@@ -18,14 +19,6 @@ use Rattle.ttx_header.proofs.Slices.{length_range, some_of, passes_at, passes_in
 use Rattle.ttx_header.proofs.PacketZero.{HeaderCase, header_case, kind_of_header}
 
 -- ---- a received header
-
-either : (a b : Bool) → (a || b) ≡ true → a ≡ false → b ≡ true
-either true b h k = cc
-either false b h k = h
-
-implied : (a b : Bool) → (not a || b) ≡ true → a ≡ true → b ≡ true
-implied true b h k = h
-implied false b h k = cc
 
 -- bytes 0 to 9 of a clean header are code words
 header_words : (s : List ℕ) (mag : ℕ) → is_clean s ≡ true → HeaderCase s mag → (are_words (slice_range s 0 2) ≡ true) × (are_words (slice_range s 2 10) ≡ true)
@@ -119,9 +112,6 @@ module _ (numbers : ReadingsAreNumbers) where
 zero_reads : number_of 0 ≡ 1
 unfolding reading distance hamming_word ones
 zero_reads = refl
-
-no_both : (a : Bool) → a ≡ true → a ≡ false → ⊥
-no_both a h k = cc
 
 pub headers_are_headers : HeadersAreHeaders
 headers_are_headers s is header =

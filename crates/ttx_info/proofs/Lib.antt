@@ -1,4 +1,4 @@
-pub mod Digits
-pub mod SaidInfo
-pub mod WrittenInfo
-pub mod ReadableInfo
+mod Digits
+mod SaidInfo
+mod WrittenInfo
+mod ReadableInfo

@@ -7,6 +7,7 @@ use Rattle.std.specs.Prelude.{unwrap_or}
 use Rattle.std.proofs.lemmas.Bool.{agree_below, agree_below_at, and_parts, eqb-true}
 use Rattle.std.proofs.lemmas.Bool.Decides.{nat_tests}
 use Rattle.std.proofs.lemmas.List.{get_or-take, get_or-drop, length-take-le, length-drop, length-map}
+use Rattle.ttx_code.proofs.Choices.{implied}
 use Rattle.ttx_code.specs.Words.{reading, ones, is_odd, odd_byte}
 use Rattle.ttx_packet.specs.Slots.{IsSlot, are_readable}
 use Rattle.ttx_header.specs.Headers.{number}
@@ -89,10 +90,6 @@ sends_its_code b = not (is_odd b) || eqb (odd_byte (b % 128)) b
 sends_its_code_table : agree_below sends_its_code (λ _. true) 256 ≡ true
 unfolding ones
 sends_its_code_table = refl
-
-implied : (a b : Bool) → (not a || b) ≡ true → a ≡ true → b ≡ true
-implied true b h k = h
-implied false b h k = cc
 
 byte_again : (b : ℕ) → b < 256 → is_odd b ≡ true → b ≡ odd_byte (b % 128)
 byte_again b l odd = sym (eqb-true _ _ (implied (is_odd b) _ (agree_below_at sends_its_code (λ _. true) 256 b sends_its_code_table l) odd))

@@ -1,6 +1,8 @@
 -- What is accepted, and followed by another page number, is shown.
 use Rattle.std.proofs.Common.{◌≡◌, ℕ, pos, ◌+ℤ◌, ◌<ℤ◌, ◌≤ℤ◌, true, false, List, [], ◌∷◌, length, refl, sym, subst, inl, inr, arith, slice_get, Some}
 use Rattle.std.proofs.lemmas.Int.{ints}
+use Rattle.std.proofs.lemmas.Bool.{both_ways, cases_Bool}
+use Rattle.ttx_page.proofs.SlotDistances.{cases_ltz}
 use Rattle.ttx_page.specs.Packets.{packet_of}
 use Rattle.ttx_page.specs.Pages.{Page}
 use Rattle.ttx_page.specs.Receivers.{older, after}
@@ -14,8 +16,6 @@ use Rattle.ttx_page.specs.Followers.{IsFollowedWithin}
 use Rattle.ttx_late.specs.Laws.{RunsAreShown, FollowedIsWithin, AcceptedIsShown, EachListRunsLate}
 use Rattle.ttx_late.specs.SeenLate.{SeenLate}
 use Rattle.ttx_certify.proofs.AcceptedIsSeen.{StreamLaws, fits_matches, steady_from, brought}
-use Rattle.ttx_late.proofs.Tests.{no_both, cases_Bool}
-use Rattle.ttx_late.proofs.FollowedReceptions.{cases_ltz}
 use Rattle.ttx_late.proofs.RunsAreShown.{page_heads}
 
 module _ (laws : StreamLaws) (cycle : List (List ℕ)) (pages : List Page) (w : Certificate) (is_cycle : IsCycle cycle) (are_pages : ArePages pages) (is_certificate : IsCertificate w)
@@ -41,7 +41,7 @@ followed_is_within repeat cycle page some followed h head =
       f,
       elim (cases_ltz round f.slot) as (λ _. f.slot ≤ℤ round) [
         | inr le ↦ le
-        | inl lt ↦ absurd (no_both _ (page_heads page (packet_of (repeated cycle round)) (subst (λ slot. heads_page page (packet_of slot) ≡ true) (sym (repeat cycle some h)) head)) (f.next.none_between round after lt))
+        | inl lt ↦ absurd (both_ways _ (f.next.none_between round after lt) (page_heads page (packet_of (repeated cycle round)) (subst (λ slot. heads_page page (packet_of slot) ≡ true) (sym (repeat cycle some h)) head)))
       ],
     )
 

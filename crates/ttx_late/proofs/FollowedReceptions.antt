@@ -5,7 +5,7 @@ use Rattle.std.proofs.lemmas.Int.{ints}
 use Rattle.std.proofs.lemmas.List.{length-take-le}
 use Rattle.std.specs.Prelude.{slice_index}
 use Rattle.std.specs.List.{AllByRecursion}
-use Rattle.std.proofs.lemmas.Bool.{and_parts}
+use Rattle.std.proofs.lemmas.Bool.{and_parts, both_ways, and_right, not-true}
 use Rattle.ttx_packet.specs.Slots.{IsSlot, is_clean}
 use Rattle.ttx_packet.specs.Receptions.{MayBeReceivedAs}
 use Rattle.ttx_packet.specs.Laws.{KindIsKept}
@@ -20,7 +20,6 @@ use Rattle.ttx_page.specs.Receptions.{Received, IsRight, OneIs}
 use Rattle.ttx_late.specs.LateReceivers.{selected_number}
 use Rattle.ttx_page.specs.Followers.{heads_another, IsFollowedWithin}
 pub use Rattle.ttx_page.proofs.SlotDistances.{cases_ltz}
-use Rattle.ttx_late.proofs.Tests.{and_false_right, not-true, no_both}
 use Rattle.ttx_late.proofs.KeptSlots.{SameTests, same_tests}
 use Rattle.ttx_late.proofs.GatheredMemories.{IsAnother, Ends, AllEnd}
 
@@ -36,14 +35,14 @@ number_is (AnySub mag number) page h = eqb-true number page.page ((and_parts (ma
 another_is : (sel : Selection) (page : Id) → selected_mag sel ≡ page.mag → selected_number sel ≡ page.page → (pkt : Packet) → heads_another page pkt ≡ true → IsAnother sel pkt
 another_is sel page mag number (Header id control text) h = (
   subst (λ m. (id.mag == m) ≡ true) (sym mag) ((and_parts (id.mag == page.mag) _ h).0),
-  and_false_right (id.mag == selected_mag sel) _ (subst (λ n. (id.page == n) ≡ false) (sym number) (not-true _ ((and_parts (id.mag == page.mag) _ h).1))),
+  and_right (id.mag == selected_mag sel) _ (subst (λ n. (id.page == n) ≡ false) (sym number) (not-true _ ((and_parts (id.mag == page.mag) _ h).1))),
 )
-another_is sel page mag number (Row m n text) h = absurd (no_both false h refl)
-another_is sel page mag number (Links m content) h = absurd (no_both false h refl)
-another_is sel page mag number Empty h = absurd (no_both false h refl)
-another_is sel page mag number Unreadable h = absurd (no_both false h refl)
-another_is sel page mag number Info h = absurd (no_both false h refl)
-another_is sel page mag number Other h = absurd (no_both false h refl)
+another_is sel page mag number (Row m n text) h = absurd (both_ways false refl h)
+another_is sel page mag number (Links m content) h = absurd (both_ways false refl h)
+another_is sel page mag number Empty h = absurd (both_ways false refl h)
+another_is sel page mag number Unreadable h = absurd (both_ways false refl h)
+another_is sel page mag number Info h = absurd (both_ways false refl h)
+another_is sel page mag number Other h = absurd (both_ways false refl h)
 
 -- each slot of a list has the tests of the stream's slots from one on
 abbrev pub AreOf : Stream → ℤ → List (List ℕ) → Type 0

@@ -3,9 +3,10 @@ use Rattle.std.proofs.Common.{◌+ℤ◌, ◌≤ℤ◌, ◌≡◌, ℕ, ◌+◌,
 use Rattle.std.proofs.Common.{length, get_or, slice_get, Option, Some, None, SomeIff, MatchOption, refl, sym, ap, ◌∙◌, subst, inl, inr, arith}
 use Rattle.std.proofs.Common.{eqb-true, eq-eqb, mod-eq_of_lt}
 use Rattle.std.proofs.lemmas.Int.{ints}
-use Rattle.std.proofs.lemmas.Bool.{cases_lt, and_from, and_parts}
+use Rattle.std.proofs.lemmas.Bool.{cases_lt, and_from, and_parts, both_ways}
 use Rattle.std.proofs.lemmas.Option.{slice_get_within}
 use Rattle.std.proofs.Math.Nat.{add-mod_right}
+use Rattle.ttx_page.proofs.SlotDistances.{cases_ltz}
 use Rattle.ttx_packet.specs.Slots.{IsSlot, Kind, IsEmpty, IsUnreadable, IsHeader, IsRow, IsLinks, IsInfo, IsOther, kind_of}
 use Rattle.ttx_header.specs.Ids.{Id, same_id}
 use Rattle.ttx_header.specs.Fields.{HeaderFields}
@@ -17,8 +18,6 @@ use Rattle.ttx_page.specs.Streams.{turned, repeated, heads, heads_page, IsLatest
 use Rattle.ttx_page.specs.Laws.{EachSlotTurns, StreamsMove}
 use Rattle.ttx_page.specs.Followers.{heads_another, IsFollowed, IsFollowedByAnother, IsFollowedWithin}
 use Rattle.ttx_late.specs.Followed.{IsFollowedIn, HoldsId, HoldsNoId, IsFollowedAt, TellsUnfollowed, AllAreFollowed}
-use Rattle.ttx_late.proofs.Tests.{no_both}
-use Rattle.ttx_late.proofs.FollowedReceptions.{cases_ltz}
 use Rattle.ttx_late.proofs.RunsAreShown.{page_heads}
 
 packet_is : (slot : List ℕ) (k : Kind) → kind_of slot ≡ k → packet_of slot ≡ packet_of_kind slot k
@@ -132,12 +131,12 @@ own_page id Other h = absurd h
 
 another_heads : (page : Id) (packet : Packet) → heads_another page packet ≡ true → heads page.mag packet ≡ true
 another_heads page (Header own control text) h = (and_parts _ _ h).0
-another_heads page Empty h = absurd (no_both false h refl)
-another_heads page Unreadable h = absurd (no_both false h refl)
-another_heads page (Row m n t) h = absurd (no_both false h refl)
-another_heads page (Links m c) h = absurd (no_both false h refl)
-another_heads page Info h = absurd (no_both false h refl)
-another_heads page Other h = absurd (no_both false h refl)
+another_heads page Empty h = absurd (both_ways false refl h)
+another_heads page Unreadable h = absurd (both_ways false refl h)
+another_heads page (Row m n t) h = absurd (both_ways false refl h)
+another_heads page (Links m c) h = absurd (both_ways false refl h)
+another_heads page Info h = absurd (both_ways false refl h)
+another_heads page Other h = absurd (both_ways false refl h)
 
 module _ (cycle : List (List ℕ)) (page : Id) (at : ℕ) (inside : at < length cycle) where
   -- the slot that stands so many on after the next one
@@ -170,9 +169,9 @@ module _ (cycle : List (List ℕ)) (page : Id) (at : ℕ) (inside : at < length 
     place step none head f =
         let after = f.next.earlier in
         elim (cases_ltz f.slot (pos (at + 1 + step))) as (λ _. f.slot ≡ pos (at + 1 + step)) [
-          | inl lt ↦ absurd (no_both _ (another_heads page (packet_of (repeated cycle f.slot)) f.another) (between step none f.slot after lt))
+          | inl lt ↦ absurd (both_ways _ (between step none f.slot after lt) (another_heads page (packet_of (repeated cycle f.slot)) f.another))
           | inr ge ↦ elim (cases_ltz (pos (at + 1 + step)) f.slot) as (λ _. f.slot ≡ pos (at + 1 + step)) [
-            | inl lt ↦ let low : pos at <ℤ pos (at + 1 + step) = omega (arith, ints) in absurd (no_both _ head (f.next.none_between (pos (at + 1 + step)) low lt))
+            | inl lt ↦ let low : pos at <ℤ pos (at + 1 + step) = omega (arith, ints) in absurd (both_ways _ (f.next.none_between (pos (at + 1 + step)) low lt) head)
             | inr le ↦ omega (arith, ints)
           ]
         ]
@@ -190,7 +189,7 @@ module _ (cycle : List (List ℕ)) (page : Id) (at : ℕ) (inside : at < length 
 
     pub told_not : (step : ℕ) → NoneTo step → heads page.mag (packet_of (slot_on step)) ≡ true → heads_another page (packet_of (slot_on step)) ≡ false →
         IsFollowed (repeated cycle) page (pos at) → ⊥
-    told_not step none head other f = no_both _ (subst (λ z. heads_another page (packet_of (repeated cycle z)) ≡ true) (place step none head f) f.another) other
+    told_not step none head other f = both_ways _ other (subst (λ z. heads_another page (packet_of (repeated cycle z)) ≡ true) (place step none head f) f.another)
 
     -- the header itself comes again
     pub never : NoneTo (length cycle) → ⊥
@@ -198,11 +197,10 @@ module _ (cycle : List (List ℕ)) (page : Id) (at : ℕ) (inside : at < length 
         let last = length cycle - 1 in
         let e : at + 1 + last ≡ at + length cycle = omega arith in
         let back : (at + 1 + last) % length cycle ≡ at = ap (λ x. x % length cycle) e ∙ add-mod_right at (length cycle) ∙ mod-eq_of_lt inside in
-        no_both _ (page_heads page (packet_of (get_or cycle at [])) mine)
-        (subst (λ x. heads page.mag (packet_of (get_or cycle x [])) ≡ false) back (none last (omega arith)))
+        both_ways _ (subst (λ x. heads page.mag (packet_of (get_or cycle x [])) ≡ false) back (none last (omega arith))) (page_heads page (packet_of (get_or cycle at [])) mine)
 
   pub no_header_tells : HoldsNoId (packet_of (get_or cycle at [])) → TellsUnfollowed (repeated cycle) at None
-  no_header_tells none own head = absurd (no_both _ (subst (λ slot. heads_page own (packet_of slot) ≡ true) slot_here head) (no_page own (packet_of (get_or cycle at [])) none))
+  no_header_tells none own head = absurd (both_ways _ (no_page own (packet_of (get_or cycle at [])) none) (subst (λ slot. heads_page own (packet_of slot) ≡ true) slot_here head))
 
   module _ (holds : HoldsId page (packet_of (get_or cycle at []))) where
     pub its_page : (own : Id) → heads_page own (packet_of (repeated cycle (pos at))) ≡ true → own ≡ page

@@ -1,7 +1,8 @@
 -- What is gathered is what a permitted receiver makes: at most once, at the first header of the magazine, something else takes its place.
 use Rattle.std.proofs.Common.{◌≡◌, ◌⊎◌, ℕ, zero, suc, ◌-◌, ◌<◌, ◌≤◌, true, false, ◌==◌, List, [], ◌∷◌, length, get_or, drop, refl, ap, subst, inl}
 use Rattle.std.proofs.Common.{inr, arith}
-use Rattle.std.proofs.lemmas.Bool.{and_from, and_parts}
+use Rattle.std.proofs.lemmas.Bool.{and_from, and_parts, both_ways, cases_Bool}
+use Rattle.ttx_page.proofs.Decisions.{eq_sym}
 use Rattle.ttx_page.specs.Packets.{Packet, Empty, Unreadable, Header, Row, Links, Info, Other, packet_of}
 use Rattle.ttx_page.specs.Pages.{selected_mag}
 use Rattle.ttx_page.specs.declared.selection.Selection.{Selection}
@@ -11,7 +12,6 @@ use Rattle.ttx_page.specs.Memories.{Memory, IsFormer}
 use Rattle.ttx_page.specs.Receivers.{older, Step, Run}
 use Rattle.ttx_page.specs.Streams.{heads, heads_matched}
 use Rattle.ttx_late.specs.LateReceivers.{LateMemory, heads_number, may_forget, TakesIn, LateRun}
-use Rattle.ttx_late.proofs.Tests.{eq_sym, no_both, cases_Bool}
 use Rattle.ttx_late.proofs.StoringSteps.{after_storing}
 
 -- a header of the magazine with another number
@@ -31,30 +31,30 @@ AllEnd sel gap (slot ∷ rest) = (heads_matched sel (packet_of slot) ≡ true �
 -- a header of the number is one of the magazine
 pub number_heads : (sel : Selection) (pkt : Packet) → heads_number sel pkt ≡ true → heads (selected_mag sel) pkt ≡ true
 number_heads sel (Header id control text) h = (and_parts _ _ h).0
-number_heads sel (Row mag number text) h = absurd (no_both false h refl)
-number_heads sel (Links mag content) h = absurd (no_both false h refl)
-number_heads sel Empty h = absurd (no_both false h refl)
-number_heads sel Unreadable h = absurd (no_both false h refl)
-number_heads sel Info h = absurd (no_both false h refl)
-number_heads sel Other h = absurd (no_both false h refl)
+number_heads sel (Row mag number text) h = absurd (both_ways false refl h)
+number_heads sel (Links mag content) h = absurd (both_ways false refl h)
+number_heads sel Empty h = absurd (both_ways false refl h)
+number_heads sel Unreadable h = absurd (both_ways false refl h)
+number_heads sel Info h = absurd (both_ways false refl h)
+number_heads sel Other h = absurd (both_ways false refl h)
 
 -- a header that the selection matches has its number
 pub matched_number : (sel : Selection) (pkt : Packet) → heads_matched sel pkt ≡ true → heads_number sel pkt ≡ true
 matched_number (Exact own) (Header id control text) h =
     and_from _ _ (eq_sym own.mag id.mag ((and_parts _ _ (and_parts _ _ h).0).0)) (eq_sym own.page id.page ((and_parts (own.mag == id.mag) _ (and_parts _ _ h).0).1))
 matched_number (AnySub mag page) (Header id control text) h = and_from _ _ (eq_sym mag id.mag ((and_parts _ _ h).0)) (eq_sym page id.page ((and_parts (mag == id.mag) _ h).1))
-matched_number sel (Row mag number text) h = absurd (no_both false h refl)
-matched_number sel (Links mag content) h = absurd (no_both false h refl)
-matched_number sel Empty h = absurd (no_both false h refl)
-matched_number sel Unreadable h = absurd (no_both false h refl)
-matched_number sel Info h = absurd (no_both false h refl)
-matched_number sel Other h = absurd (no_both false h refl)
+matched_number sel (Row mag number text) h = absurd (both_ways false refl h)
+matched_number sel (Links mag content) h = absurd (both_ways false refl h)
+matched_number sel Empty h = absurd (both_ways false refl h)
+matched_number sel Unreadable h = absurd (both_ways false refl h)
+matched_number sel Info h = absurd (both_ways false refl h)
+matched_number sel Other h = absurd (both_ways false refl h)
 
 -- where the next header has another number nothing is dropped
 pub no_number : (sel : Selection) (slot : List ℕ) (rest : List (List ℕ)) (k : ℕ) → Ends sel (slot ∷ rest) k → heads_number sel (packet_of slot) ≡ true → ⊥
 no_number sel slot rest k ends h = elim ends as (λ _. ⊥) [
-  | inl a ↦ no_both _ h a.1
-  | inr n ↦ no_both _ (number_heads sel (packet_of slot) h) n.0
+  | inl a ↦ both_ways _ a.1 h
+  | inr n ↦ both_ways _ n.0 (number_heads sel (packet_of slot) h)
 ]
 
 module _ (class : Class) (lines : ℕ) (sel : Selection) where
@@ -64,7 +64,7 @@ module _ (class : Class) (lines : ℕ) (sel : Selection) where
 
   -- where nothing may be dropped, what was gathered takes the slot
   pub kept_base : (m base : Memory) (pkt : Packet) → may_forget sel m pkt ≡ false → TakesIn class sel m pkt base → base ≡ m
-  kept_base m base pkt none from = elim from as (λ _. base ≡ m) [ inl e ↦ e | inr d ↦ absurd (no_both _ d.0 none) ]
+  kept_base m base pkt none from = elim from as (λ _. base ≡ m) [ inl e ↦ e | inr d ↦ absurd (both_ways _ none d.0) ]
 
 module _ (class : Class) (lines : ℕ) (sel : Selection) (gap : ℕ) where
   -- a page that is being gathered isn't dropped
@@ -85,7 +85,7 @@ module _ (class : Class) (lines : ℕ) (sel : Selection) (gap : ℕ) where
             (λ st. elim (step_storing class lines sel d.gathered mid.gathered slot taken st) as (λ _. (k : ℕ) × Ends sel received k) [
               | inl matched ↦ (gap - 1, (all.0 matched).1)
               | inr on ↦ let e = ends on.0 in elim e.1 as (λ _. (k : ℕ) × Ends sel received k) [
-                | inl a ↦ absurd (no_both _ a.0 on.1)
+                | inl a ↦ absurd (both_ways _ on.1 a.0)
                 | inr n ↦ (e.0 - 1, n.2)
               ]
             ])
@@ -126,7 +126,7 @@ module _ (class : Class) (lines : ℕ) (sel : Selection) (gap : ℕ) where
         | inl head ↦
             let rest = settled received mid new all.1
             (λ st. elim (step_storing class lines sel step.base mid.gathered slot step.step st) as (λ _. (k : ℕ) × Ends sel received k)
-            [ inl matched ↦ (gap - 1, (all.0 matched).1) | inr on ↦ absurd (no_both _ head on.1) ])
+            [ inl matched ↦ (gap - 1, (all.0 matched).1) | inr on ↦ absurd (both_ways _ on.1 head) ])
             run.2 in
             elim step.from as (λ _. Answer) [
               | inl e ↦ inl (mid.gathered, subst (λ base. Step class lines sel base slot mid.gathered) e step.step, rest)
@@ -142,7 +142,7 @@ module _ (class : Class) (lines : ℕ) (sel : Selection) (gap : ℕ) where
         | inr none ↦
             let is : step.base ≡ d.gathered = elim step.from as (λ _. step.base ≡ d.gathered) [
               | inl e ↦ e
-              | inr drop ↦ absurd (no_both _ (number_heads sel (packet_of slot) ((and_parts d.gathered.storing _ drop.0).1)) none)
+              | inr drop ↦ absurd (both_ways _ none (number_heads sel (packet_of slot) ((and_parts d.gathered.storing _ drop.0).1)))
             ] in
             elim (gathers received mid new all.1 run.2) as (λ _. Answer) [
               | inl rest ↦ inl (mid.gathered, subst (λ base. Step class lines sel base slot mid.gathered) is step.step, rest)

@@ -1,7 +1,7 @@
 -- The most slots from a header of one of some pages to the header that follows it.
 use Rattle.std.proofs.Common.{◌≡◌, ℕ, ◌+◌, ◌<◌, ◌≤◌, pos, ◌≤ℤ◌, true, List, [], length, get_or, slice_get, Some, refl, sym, subst, inl, inr, arith}
 use Rattle.std.proofs.lemmas.Int.{ints}
-use Rattle.std.proofs.lemmas.Bool.{cases_lt}
+use Rattle.std.proofs.lemmas.Bool.{cases_lt, both_ways}
 use Rattle.ttx_header.specs.Ids.{Id}
 use Rattle.ttx_page.specs.Packets.{packet_of}
 use Rattle.ttx_page.specs.Pages.{Page}
@@ -9,7 +9,6 @@ use Rattle.ttx_page.specs.Streams.{repeated, heads_page}
 use Rattle.ttx_page.specs.Laws.{EachSlotTurns, StreamsMove}
 use Rattle.ttx_page.specs.Followers.{IsFollowed}
 use Rattle.ttx_late.specs.Followed.{HoldsId, HoldsNoId, HeadsAt, IsFollowedIn, AllAreFollowed, AreFollowedWithin, IsGreatestGap, IsWidened}
-use Rattle.ttx_late.proofs.Tests.{no_both}
 use Rattle.ttx_late.proofs.FollowersOfCycles.{slot_here, its_page, own_page, no_page, near_within}
 
 module _ (cycle : List (List ℕ)) (pages : List Page) where
@@ -22,7 +21,7 @@ module _ (cycle : List (List ℕ)) (pages : List Page) where
   module _ (at gap : ℕ) (inside : at < length cycle) where
     pub no_header_widens : HoldsNoId (packet_of (get_or cycle at [])) → IsWidened (repeated cycle) pages at gap gap
     no_header_widens none =
-        kept at gap (λ n p listed head f. absurd (no_both _ (subst (λ slot. heads_page p.id (packet_of slot) ≡ true) (slot_here cycle p.id at inside) head) (no_page p.id (packet_of (get_or cycle at [])) none)))
+        kept at gap (λ n p listed head f. absurd (both_ways _ (no_page p.id (packet_of (get_or cycle at [])) none) (subst (λ slot. heads_page p.id (packet_of slot) ≡ true) (slot_here cycle p.id at inside) head)))
 
     module _ (id : Id) (holds : HoldsId id (packet_of (get_or cycle at []))) where
       its : (own : Id) → HeadsAt (repeated cycle) own at → own ≡ id

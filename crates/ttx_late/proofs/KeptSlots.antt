@@ -1,6 +1,6 @@
 -- What a slot is of a page, which no wrong bit changes: whether it is a header of the magazine, of the selection, of the page number.
 use Rattle.std.proofs.Common.{◌≡◌, ℕ, ◌<◌, ◌≤◌, true, List, [], get_or, refl, sym, ap, ◌∙◌, subst, inl, inr, arith}
-use Rattle.std.proofs.lemmas.Bool.{cond_both}
+use Rattle.std.proofs.lemmas.Bool.{cond_both, both_ways, cases_Bool}
 use Rattle.ttx_code.specs.Words.{Near}
 use Rattle.ttx_packet.specs.Slots.{IsSlot, Kind, IsEmpty, IsUnreadable, IsHeader, IsRow, IsLinks, IsInfo, IsOther, is_empty, kind_of, is_clean}
 use Rattle.ttx_packet.specs.Receptions.{IsFree, MayBeReceivedAs}
@@ -11,7 +11,6 @@ use Rattle.ttx_page.specs.Packets.{Packet, Empty, Unreadable, Header, Row, Links
 use Rattle.ttx_page.specs.declared.selection.Selection.{Selection}
 use Rattle.ttx_page.specs.Streams.{heads, heads_matched}
 use Rattle.ttx_late.specs.LateReceivers.{heads_number}
-use Rattle.ttx_late.proofs.Tests.{no_both, cases_Bool}
 
 -- the header in a packet: all else is one
 abbrev pub outline : Packet → Packet
@@ -30,7 +29,7 @@ packet_is slot = refl
 packet_empty : (slot : List ℕ) → is_empty slot ≡ true → packet_of slot ≡ Empty
 unfolding kind_of
 packet_empty slot e =
-    packet_is slot ∙ ap (packet_of_kind slot) (cond_both (is_empty slot) IsEmpty _ (λ k. k ≡ IsEmpty) (λ _. refl) (λ f. absurd (no_both _ e f)))
+    packet_is slot ∙ ap (packet_of_kind slot) (cond_both (is_empty slot) IsEmpty _ (λ k. k ≡ IsEmpty) (λ _. refl) (λ f. absurd (both_ways _ f e)))
 
 -- bytes 0 to 9 of a header are not free
 near_header : (sent received : List ℕ) (mag : ℕ) → kind_of sent ≡ IsHeader mag → MayBeReceivedAs sent received → (x : ℕ) → x < 10 → Near (get_or sent x 0) (get_or received x 0)

@@ -1,4 +1,3 @@
-mod Tests
 mod KeptSlots
 mod StoringSteps
 mod GatheredMemories

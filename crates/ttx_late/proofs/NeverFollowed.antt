@@ -2,7 +2,8 @@
 use Rattle.std.proofs.Common.{◌≡◌, ◌⊎◌, ℕ, ℤ, pos, ◌+ℤ◌, ◌<ℤ◌, ◌≤ℤ◌, true, false, not, ◌&&◌, ◌==◌, List, [], ◌∷◌, refl, sym, ap, ◌∙◌, subst, inl, inr}
 use Rattle.std.proofs.Common.{arith}
 use Rattle.std.proofs.lemmas.Int.{ints}
-use Rattle.std.proofs.lemmas.Bool.{and_from}
+use Rattle.std.proofs.lemmas.Bool.{and_from, both_ways, not_from_false, and_left, and_right, cases_Bool}
+use Rattle.ttx_page.proofs.SlotDistances.{cases_ltz}
 use Rattle.ttx_packet.specs.Laws.{KindIsKept}
 use Rattle.ttx_header.specs.Laws.{HeaderIsKept}
 use Rattle.ttx_header.specs.Ids.{Id}
@@ -16,10 +17,9 @@ use Rattle.ttx_page.specs.Streams.{Stream, heads, heads_page, heads_matched}
 use Rattle.ttx_late.specs.LateReceivers.{LateMemory, selected_number, heads_number, must_show, LateRun}
 use Rattle.ttx_page.specs.Followers.{heads_another, IsNeverFollowed}
 use Rattle.ttx_late.specs.Laws.{NeverFollowedIsUnshown}
-use Rattle.ttx_late.proofs.Tests.{and_false_left, and_false_right, not_false, no_both, cases_Bool}
 use Rattle.ttx_late.proofs.StoringSteps.{after_quiet}
 use Rattle.ttx_late.proofs.GatheredMemories.{number_heads, matched_number, step_storing}
-use Rattle.ttx_late.proofs.FollowedReceptions.{cases_ltz, mag_is, number_is, AreOf, of_received}
+use Rattle.ttx_late.proofs.FollowedReceptions.{mag_is, number_is, AreOf, of_received}
 use Rattle.ttx_late.proofs.RunsAreShown.{page_heads}
 
 -- the next header of the magazine, if it is received at all, has the selection's own number
@@ -38,14 +38,14 @@ own_number : (sel : Selection) (page : Id) → selected_mag sel ≡ page.mag →
 own_number sel page mag number (Header id control text) head other =
     and_from (id.mag == selected_mag sel) (id.page == selected_number sel) (subst (λ m. (id.mag == m) ≡ true) (sym mag) head) (subst (λ n. (id.page == n) ≡ true) (sym number) (elim (cases_Bool (id.page == page.page)) as (λ _. (id.page == page.page) ≡ true) [
       | inl e ↦ e
-      | inr ne ↦ absurd (no_both _ (and_from (id.mag == page.mag) (not (id.page == page.page)) head (not_false _ ne)) other)
+      | inr ne ↦ absurd (both_ways _ other (and_from (id.mag == page.mag) (not (id.page == page.page)) head (not_from_false _ ne)))
     ]))
-own_number sel page mag number (Row m n text) head other = absurd (no_both false head refl)
-own_number sel page mag number (Links m content) head other = absurd (no_both false head refl)
-own_number sel page mag number Empty head other = absurd (no_both false head refl)
-own_number sel page mag number Unreadable head other = absurd (no_both false head refl)
-own_number sel page mag number Info head other = absurd (no_both false head refl)
-own_number sel page mag number Other head other = absurd (no_both false head refl)
+own_number sel page mag number (Row m n text) head other = absurd (both_ways false refl head)
+own_number sel page mag number (Links m content) head other = absurd (both_ways false refl head)
+own_number sel page mag number Empty head other = absurd (both_ways false refl head)
+own_number sel page mag number Unreadable head other = absurd (both_ways false refl head)
+own_number sel page mag number Info head other = absurd (both_ways false refl head)
+own_number sel page mag number Other head other = absurd (both_ways false refl head)
 
 module _ (s : Stream) (page : Id) (sel : Selection) (mag : selected_mag sel ≡ page.mag) (number : selected_number sel ≡ page.page) (never : IsNeverFollowed s page) where
   stays : (h : ℤ) → heads_page page (packet_of (s h)) ≡ true → (rest : List (List ℕ)) (begin : ℤ) → h <ℤ begin →
@@ -88,14 +88,14 @@ module _ (class : Class) (lines : ℕ) (sel : Selection) where
       let pkt = packet_of slot in
       let new = after class lines sel false (older m) pkt in
       elim (cases_Bool m.storing) as (λ _. must_show sel m new pkt ≡ false) [
-        | inr idle ↦ and_false_left (m.storing && not new.storing) (not (heads_number sel pkt)) (and_false_left m.storing (not new.storing) idle)
+        | inr idle ↦ and_left (m.storing && not new.storing) (not (heads_number sel pkt)) (and_left m.storing (not new.storing) idle)
         | inl on ↦ elim (stay on) as (λ _. must_show sel m new pkt ≡ false) [
-          | inl own ↦ and_false_right (m.storing && not new.storing) (not (heads_number sel pkt)) (ap not own)
+          | inl own ↦ and_right (m.storing && not new.storing) (not (heads_number sel pkt)) (ap not own)
           | inr n ↦
               let unmatched : heads_matched sel pkt ≡ false = elim (cases_Bool (heads_matched sel pkt)) as (λ _. heads_matched sel pkt ≡ false)
-              [ inr f ↦ f | inl t ↦ absurd (no_both _ (number_heads sel pkt (matched_number sel pkt t)) n.0) ] in
+              [ inr f ↦ f | inl t ↦ absurd (both_ways _ n.0 (number_heads sel pkt (matched_number sel pkt t))) ] in
               let still : new.storing ≡ true = after_quiet class lines sel (older m) pkt n.0 unmatched ∙ on in
-              and_false_left (m.storing && not new.storing) (not (heads_number sel pkt)) (and_false_right m.storing (not new.storing) (ap not still))
+              and_left (m.storing && not new.storing) (not (heads_number sel pkt)) (and_right m.storing (not new.storing) (ap not still))
         ]
       ]
 
@@ -108,11 +108,11 @@ module _ (class : Class) (lines : ℕ) (sel : Selection) where
       let step : Step class lines sel d.gathered slot gathered = record { choice = false; is = refl } in
       let rest = never_shows received mid all.1 (λ st. elim (step_storing class lines sel d.gathered gathered slot step st) as (λ _. Stays sel received) [
         | inl matched ↦ all.0 matched
-        | inr on ↦ elim (stay on.0) as (λ _. Stays sel received) [ inl own ↦ absurd (no_both _ (number_heads sel (packet_of slot) own) on.1) | inr n ↦ n.1 ]
+        | inr on ↦ elim (stay on.0) as (λ _. Stays sel received) [ inl own ↦ absurd (both_ways _ on.1 (number_heads sel (packet_of slot) own)) | inr n ↦ n.1 ]
       ]) in
       (rest.0, (mid, record { base = d.gathered; from = inl refl; step = step; shown = inr (inr (refl, silent d.gathered slot received stay)) }, rest.1), rest.2)
 
 pub never_followed_is_unshown : KindIsKept → HeaderIsKept → NeverFollowedIsUnshown
 never_followed_is_unshown kind header s page sel class lines repeat begin fits clean own never former idle received r =
     let of = of_received kind header s begin received clean (λ n lt. r.each n lt) in
-    never_shows class lines sel received former (all_stay s page sel (mag_is sel page fits) (number_is sel page fits) never received begin own of) (λ on. absurd (no_both _ on idle))
+    never_shows class lines sel received former (all_stay s page sel (mag_is sel page fits) (number_is sel page fits) never received begin own of) (λ on. absurd (both_ways _ idle on))

@@ -3,7 +3,8 @@ use Rattle.std.proofs.Common.{◌≡◌, ℕ, zero, suc, ◌+◌, ◌<◌, ◌�
 use Rattle.std.proofs.Common.{get_or, take, drop, refl, sym, ap, ◌∙◌, subst, inl, inr, arith, eqb-true, eq-eqb, nat_abs, length-drop}
 use Rattle.std.proofs.lemmas.Int.{ints}
 use Rattle.std.proofs.lemmas.List.{length-take-le, take-append-drop}
-use Rattle.std.proofs.lemmas.Bool.{and_parts}
+use Rattle.std.proofs.lemmas.Bool.{and_parts, both_ways}
+use Rattle.ttx_page.proofs.SlotDistances.{cases_ltz}
 use Rattle.ttx_packet.specs.Laws.{KindIsKept}
 use Rattle.ttx_header.specs.Laws.{HeaderIsKept}
 use Rattle.ttx_header.specs.Ids.{Id}
@@ -24,12 +25,11 @@ use Rattle.ttx_certify.specs.Laws.{RunsAreSeen}
 use Rattle.ttx_late.specs.LateReceivers.{LateMemory, LateRun}
 use Rattle.ttx_page.specs.Followers.{IsFollowedWithin}
 use Rattle.ttx_late.specs.Laws.{RunsAreShown}
-use Rattle.ttx_late.proofs.Tests.{no_both}
 use Rattle.ttx_late.proofs.StoringSteps.{same_back, has_view_same}
 use Rattle.ttx_late.proofs.GatheredMemories.{AllEnd, gathers}
 use Rattle.ttx_late.proofs.ShownIsGathered.{Comes, ready_after, IsDue, shown_has_view}
 use Rattle.ttx_certify.proofs.LaterReceptions.{received_later}
-use Rattle.ttx_late.proofs.FollowedReceptions.{cases_ltz, mag_is, number_is, AreOf, of_received, all_end, received_before}
+use Rattle.ttx_late.proofs.FollowedReceptions.{mag_is, number_is, AreOf, of_received, all_end, received_before}
 
 -- a header of a page is matched by each selection that matches the page
 page_matched : (sel : Selection) (page : Id) → matches sel page ≡ true → (pkt : Packet) → heads_page page pkt ≡ true → heads_matched sel pkt ≡ true
@@ -46,12 +46,12 @@ page_matched sel page fits (Header id control text) h =
         (subst (λ x. ((own.mag == x) && (own.page == page.page) && (own.sub == page.sub)) ≡ true) mag fits))
     by (AnySub m n) fits mag number sub =
         subst (λ x. ((m == id.mag) && (n == x)) ≡ true) number (subst (λ x. ((m == x) && (n == page.page)) ≡ true) mag fits)
-page_matched sel page fits (Row m n text) h = absurd (no_both false h refl)
-page_matched sel page fits (Links m content) h = absurd (no_both false h refl)
-page_matched sel page fits Empty h = absurd (no_both false h refl)
-page_matched sel page fits Unreadable h = absurd (no_both false h refl)
-page_matched sel page fits Info h = absurd (no_both false h refl)
-page_matched sel page fits Other h = absurd (no_both false h refl)
+page_matched sel page fits (Row m n text) h = absurd (both_ways false refl h)
+page_matched sel page fits (Links m content) h = absurd (both_ways false refl h)
+page_matched sel page fits Empty h = absurd (both_ways false refl h)
+page_matched sel page fits Unreadable h = absurd (both_ways false refl h)
+page_matched sel page fits Info h = absurd (both_ways false refl h)
+page_matched sel page fits Other h = absurd (both_ways false refl h)
 
 pub page_heads : (page : Id) (pkt : Packet) → heads_page page pkt ≡ true → heads page.mag pkt ≡ true
 page_heads page (Header id control text) h =
@@ -59,12 +59,12 @@ page_heads page (Header id control text) h =
   where
     same : (n : ℕ) → (n == n) ≡ true
     same n = eq-eqb n n refl
-page_heads page (Row m n text) h = absurd (no_both false h refl)
-page_heads page (Links m content) h = absurd (no_both false h refl)
-page_heads page Empty h = absurd (no_both false h refl)
-page_heads page Unreadable h = absurd (no_both false h refl)
-page_heads page Info h = absurd (no_both false h refl)
-page_heads page Other h = absurd (no_both false h refl)
+page_heads page (Row m n text) h = absurd (both_ways false refl h)
+page_heads page (Links m content) h = absurd (both_ways false refl h)
+page_heads page Empty h = absurd (both_ways false refl h)
+page_heads page Unreadable h = absurd (both_ways false refl h)
+page_heads page Info h = absurd (both_ways false refl h)
+page_heads page Other h = absurd (both_ways false refl h)
 
 -- a run is cut and joined
 split : (class : Class) (lines : ℕ) (sel : Selection) (before rest : List (List ℕ)) (d new : LateMemory) → LateRun class lines sel d (before ++ rest) new →
@@ -195,7 +195,7 @@ module _ (runs : RunsAreSeen) (decide : ContentsDecide) (kind : KindIsKept) (hea
             let mine : heads p.id.mag (packet_of (s (begin +ℤ pos i))) ≡ true = subst (λ z. heads p.id.mag (packet_of (s z)) ≡ true) e (page_heads p.id (packet_of (s h)) head) in
             let other : heads p.id.mag (packet_of (s (begin +ℤ pos i))) ≡ false =
             sym (heads_at s p.id.mag received begin (of_part received r) i (omega arith)) ∙ subst (λ m. heads m (packet_of (get_or received i [])) ≡ false) (mag_is sel p.id fits) (none i inside) in
-            absurd (no_both _ mine other)
+            absurd (both_ways _ other mine)
       ]
 
   pub shown_view : (d : LateMemory) (received : List (List ℕ)) → Received s p.id repeat begin received → LateRun class lines sel former received d →

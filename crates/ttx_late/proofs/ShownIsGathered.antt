@@ -1,7 +1,7 @@
 -- What is shown: it is what was gathered, once storing has ended.
 use Rattle.std.proofs.Common.{◌≡◌, ◌⊎◌, ℕ, suc, ◌-◌, ◌<◌, ◌≤◌, true, false, not, ◌&&◌, List, [], ◌∷◌, ◌++◌, length, take, refl, sym, subst, inl, inr}
 use Rattle.std.proofs.Common.{arith}
-use Rattle.std.proofs.lemmas.Bool.{and_from}
+use Rattle.std.proofs.lemmas.Bool.{and_from, both_ways, not_from_false, and_left, and_right, cases_Bool}
 use Rattle.ttx_page.specs.Packets.{Packet, packet_of}
 use Rattle.ttx_page.specs.Pages.{Page}
 use Rattle.ttx_page.specs.declared.selection.Selection.{Selection}
@@ -12,7 +12,6 @@ use Rattle.ttx_page.specs.Streams.{heads_matched}
 use Rattle.ttx_render.specs.Laws.{ContentsDecide}
 use Rattle.ttx_certify.specs.Seen.{HasView}
 use Rattle.ttx_late.specs.LateReceivers.{LateMemory, heads_number, may_forget, must_show, MayShow, LateStep, LateRun}
-use Rattle.ttx_late.proofs.Tests.{and_false_left, and_false_right, not_false, no_both, cases_Bool}
 use Rattle.ttx_late.proofs.StoringSteps.{Same, same_self, same_then, same_older, after_matched, after_stopped}
 use Rattle.ttx_late.proofs.GatheredMemories.{Ends, AllEnd, matched_number, no_number, step_storing, kept_base}
 
@@ -64,7 +63,7 @@ module _ (class : Class) (lines : ℕ) (sel : Selection) (gap : ℕ) where
     | inr other ↦ elim other as (λ _. Same new.shown new.gathered) [
       | inl e ↦ subst (λ x. Same x new.gathered) (sym e) (same_self new.gathered)
       | inr left ↦ elim why as (λ _. Same new.shown new.gathered) [
-        | inl must ↦ absurd (no_both _ must left.1)
+        | inl must ↦ absurd (both_ways _ left.1 must)
         | inr was ↦ subst (λ x. Same x new.gathered) (sym left.0) (same_then d.shown d.gathered new.gathered was same)
       ]
     ]
@@ -75,13 +74,13 @@ module _ (class : Class) (lines : ℕ) (sel : Selection) (gap : ℕ) where
       [ inl h ↦ absurd (no_number sel slot rest k ends h) | inr f ↦ f ]
 
   pub must : (m new : Memory) (pkt : Packet) → m.storing ≡ true → new.storing ≡ false → heads_number sel pkt ≡ false → must_show sel m new pkt ≡ true
-  must m new pkt st idle other = and_from (m.storing && not new.storing) (not (heads_number sel pkt)) (and_from m.storing (not new.storing) st (not_false _ idle)) (not_false _ other)
+  must m new pkt st idle other = and_from (m.storing && not new.storing) (not (heads_number sel pkt)) (and_from m.storing (not new.storing) st (not_from_false _ idle)) (not_from_false _ other)
 
   -- what is gathered takes the slot
   base_is : (d new : LateMemory) (slot : List ℕ) (rest : List (List ℕ)) (step : LateStep class lines sel d slot new) → IsReady sel gap d (slot ∷ rest) → step.base ≡ d.gathered
   base_is d new slot rest step ready = kept_base class lines sel d.gathered step.base (packet_of slot) (elim ready as (λ _. may_forget sel d.gathered (packet_of slot) ≡ false) [
-    | inl g ↦ and_false_right d.gathered.storing (heads_number sel (packet_of slot)) (not_number slot rest g.place g.ends)
-    | inr s ↦ and_false_left d.gathered.storing (heads_number sel (packet_of slot)) s.idle
+    | inl g ↦ and_right d.gathered.storing (heads_number sel (packet_of slot)) (not_number slot rest g.place g.ends)
+    | inr s ↦ and_left d.gathered.storing (heads_number sel (packet_of slot)) s.idle
   ]) step.from
 
   pub ready_next : (d new : LateMemory) (slot : List ℕ) (rest : List (List ℕ)) → AllEnd sel gap (slot ∷ rest) → LateStep class lines sel d slot new →
@@ -93,11 +92,11 @@ module _ (class : Class) (lines : ℕ) (sel : Selection) (gap : ℕ) where
             let taken : Step class lines sel d.gathered slot new.gathered = subst (λ base. Step class lines sel base slot new.gathered) (base_is d new slot rest step ready) step.step in
             elim (cases_Bool new.gathered.storing) as (λ _. IsReady sel gap new rest) [
               | inl on ↦ elim (step_storing class lines sel d.gathered new.gathered slot taken on) as (λ _. IsReady sel gap new rest) [
-                | inl matched ↦ absurd (no_both _ matched other)
+                | inl matched ↦ absurd (both_ways _ other matched)
                 | inr was ↦ elim ready as (λ _. IsReady sel gap new rest) [
-                  | inr s ↦ absurd (no_both _ was.0 s.idle)
+                  | inr s ↦ absurd (both_ways _ s.idle was.0)
                   | inl g ↦ elim g.ends as (λ _. IsReady sel gap new rest) [
-                    | inl a ↦ absurd (no_both _ a.0 was.1)
+                    | inl a ↦ absurd (both_ways _ was.1 a.0)
                     | inr n ↦ let b = g.before in inl (record { storing = on; place = g.place - 1; before = omega arith; ends = n.2 })
                   ]
                 ]
@@ -156,12 +155,12 @@ module _ (class : Class) (lines : ℕ) (sel : Selection) (gap : ℕ) where
               let lt = s.before in
               let other = not_number slot rest s.place s.ends in
               elim (cases_Bool mid.gathered.storing) as (λ _. IsDue mid rest) [
-                | inr idle ↦ inl (anew (λ l. absurd (no_both _ (must d.gathered mid.gathered (packet_of slot) s.storing idle other) l.1)))
+                | inr idle ↦ inl (anew (λ l. absurd (both_ways _ l.1 (must d.gathered mid.gathered (packet_of slot) s.storing idle other))))
                 | inl on ↦ elim s.ends as (λ _. IsDue mid rest) [
                   | inr n ↦ let some = n.1 in inr (record { storing = on; place = s.place - 1; before = omega arith; ends = n.2 })
                   | inl a ↦ elim (step_storing class lines sel step.base mid.gathered slot step.step on) as (λ _. IsDue mid rest) [
-                    | inl matched ↦ absurd (no_both _ (matched_number sel (packet_of slot) matched) other)
-                    | inr was ↦ absurd (no_both _ a.0 was.1)
+                    | inl matched ↦ absurd (both_ways _ other (matched_number sel (packet_of slot) matched))
+                    | inr was ↦ absurd (both_ways _ was.1 a.0)
                   ]
                 ]
               ]

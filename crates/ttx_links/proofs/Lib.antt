@@ -1,6 +1,6 @@
-pub mod LinksOneByOne
-pub mod Magazines
-pub mod Receptions
-pub mod SaidLinks
-pub mod WrittenLinks
-pub mod ReadableLinks
+mod LinksOneByOne
+mod Magazines
+mod Receptions
+mod SaidLinks
+mod WrittenLinks
+mod ReadableLinks

@@ -1,23 +1,22 @@
 -- The kind of a slot by its cases.
-use Rattle.std.proofs.Common.{◌≡◌, ℕ, ◌≤◌, Bool, true, false, ◌&&◌, ◌==◌, if◌then◌else◌, List, Option, Some, None, nat_le, refl, sym, ap, ◌∙◌, inl}
+use Rattle.std.proofs.Common.{◌≡◌, ℕ, ◌≤◌, true, false, ◌&&◌, ◌==◌, if◌then◌else◌, List, Option, Some, None, nat_le, refl, sym, ap, ◌∙◌, inl}
 use Rattle.std.proofs.Common.{inr, arith, eqb-true, slice_index}
 use Rattle.std.specs.List.{slice_range}
-use Rattle.std.proofs.lemmas.Bool.{cases_Bool, cond_both}
+use Rattle.std.proofs.lemmas.Bool.{cases_Bool, cond_both, both_ways, cond-true, cond-false}
 use Rattle.ttx_code.specs.Words.{reading}
 use Rattle.ttx_packet.specs.Slots.{Kind, IsEmpty, IsUnreadable, IsHeader, IsRow, IsLinks, IsInfo, IsOther, is_empty, are_readable, magazine}
 use Rattle.ttx_packet.specs.Slots.{packet_number, links_kind, packet_kind, addressed_kind, kind_of}
 use Rattle.ttx_packet.specs.Receptions.{IsFree}
-use Rattle.ttx_packet.proofs.Choices.{no_both}
 
 pub kind_when_empty : (slot : List ℕ) → is_empty slot ≡ true → kind_of slot ≡ IsEmpty
 unfolding kind_of
-kind_when_empty slot e = cond_both (is_empty slot) IsEmpty _ (λ (k : Kind). k ≡ IsEmpty) (λ _. refl) (λ f. absurd (no_both _ e f))
+kind_when_empty slot e = cond_both (is_empty slot) IsEmpty _ (λ (k : Kind). k ≡ IsEmpty) (λ _. refl) (λ f. absurd (both_ways _ f e))
 
 pub kind_when_read : (slot : List ℕ) (low high : ℕ) → is_empty slot ≡ false → reading (slice_index slot 0) ≡ Some low → reading (slice_index slot 1) ≡ Some high →
     kind_of slot ≡ packet_kind slot (magazine low) (packet_number low high)
 unfolding kind_of
 kind_when_read slot low high e first second =
-    cond_both (is_empty slot) IsEmpty _ (λ (k : Kind). k ≡ packet_kind slot (magazine low) (packet_number low high)) (λ f. absurd (no_both _ f e))
+    cond_both (is_empty slot) IsEmpty _ (λ (k : Kind). k ≡ packet_kind slot (magazine low) (packet_number low high)) (λ f. absurd (both_ways _ e f))
     (λ _. ap (λ o. addressed_kind slot o (reading (slice_index slot 1))) first ∙ ap (addressed_kind slot (Some low)) second)
 
 abbrev pub IsPacketKind : Kind → Type 0
@@ -81,17 +80,9 @@ free_bytes slot mag number x =
     (λ n. cond_both (nat_le number 24) (IsRow mag number) _ P (λ _ f. absurd f)
     (λ _. cond_both (number == 27) _ _ P (λ _ f. absurd (free_links mag x (reading (slice_index slot 2)) f))
     (λ q. cond_both ((number == 30) && (mag == 8)) IsInfo (IsOther mag number) P
-    (λ _ f. record { behind_address = f; behind_header = λ z. absurd (no_both _ z n); not_links = λ z. no_both _ z q }) (λ _ f. absurd f))))
+    (λ _ f. record { behind_address = f; behind_header = λ z. absurd (both_ways _ n z); not_links = λ z. both_ways _ q z }) (λ _ f. absurd f))))
 
 -- ---- equal kinds
-
-pub if_true : {A : Type 0} (b : Bool) (x y : A) → b ≡ true → (if b then x else y) ≡ x
-if_true true x y h = refl
-if_true false x y h = cc
-
-pub if_false : {A : Type 0} (b : Bool) (x y : A) → b ≡ false → (if b then x else y) ≡ y
-if_false true x y h = cc
-if_false false x y h = refl
 
 -- the kind of a packet looks at bytes 2 to 9 where the number is 0, at byte 2 where it is 27, and at no others
 pub same_packet_kind : (mag number : ℕ) (sent received : List ℕ) →
@@ -101,16 +92,16 @@ pub same_packet_kind : (mag number : ℕ) (sent received : List ℕ) →
 unfolding packet_kind
 same_packet_kind mag number sent received header links =
     elim (cases_Bool (number == 0)) as (λ _. packet_kind received mag number ≡ packet_kind sent mag number) [
-      | inl n ↦ if_true (number == 0) _ _ n ∙ ap (λ t. if t then IsHeader mag else IsUnreadable) (header n) ∙ sym (if_true (number == 0) _ _ n)
+      | inl n ↦ cond-true (number == 0) _ _ n ∙ ap (λ t. if t then IsHeader mag else IsUnreadable) (header n) ∙ sym (cond-true (number == 0) _ _ n)
       | inr n ↦ elim (cases_Bool (number == 27)) as (λ _. packet_kind received mag number ≡ packet_kind sent mag number) [
         | inl l ↦ ap (λ o.
             if number == 0 then (if are_readable (slice_range received 2 10) then IsHeader mag else IsUnreadable)
             else if nat_le number 24 then IsRow mag number
             else if number == 27 then links_kind mag o
             else if (number == 30) && (mag == 8) then IsInfo
-            else IsOther mag number) (links l) ∙ if_false (number == 0) _ _ n ∙ sym (if_false (number == 0) _ _ n)
-        | inr l ↦ if_false (number == 0) _ _ n
-            ∙ ap (λ (k : Kind). if nat_le number 24 then IsRow mag number else k) (if_false (number == 27) _ _ l ∙ sym (if_false (number == 27) _ _ l))
-            ∙ sym (if_false (number == 0) _ _ n)
+            else IsOther mag number) (links l) ∙ cond-false (number == 0) _ _ n ∙ sym (cond-false (number == 0) _ _ n)
+        | inr l ↦ cond-false (number == 0) _ _ n
+            ∙ ap (λ (k : Kind). if nat_le number 24 then IsRow mag number else k) (cond-false (number == 27) _ _ l ∙ sym (cond-false (number == 27) _ _ l))
+            ∙ sym (cond-false (number == 0) _ _ n)
       ]
     ]

@@ -1,7 +1,7 @@
 pub mod Unions
-pub mod Choices
-pub mod Cases
-pub mod Receptions
-pub mod Addresses
-pub mod Numbered
-pub mod Free
+mod Choices
+mod Cases
+mod Receptions
+mod Addresses
+mod Numbered
+mod Free

@@ -3,12 +3,13 @@ use Rattle.std.proofs.Common.{◌≡◌, ◌⊎◌, ℕ, ◌+◌, ◌-◌, subst
 use Rattle.std.proofs.Common.{◌∙◌, inl, inr, arith, eqb-true, slice_index, get_or-take, get_or-drop, length-take-le, length-drop}
 use Rattle.std.specs.List.{slice_range}
 use Rattle.std.proofs.lemmas.Bool.{cases_Bool, and_parts}
+use Rattle.ttx_code.proofs.Choices.{implied, either}
 use Rattle.ttx_code.specs.Words.{reading, number_of, is_word, hamming_word, distance, ones}
 use Rattle.ttx_code.specs.Laws.{WordsHaveNumbers, WordsAreReadUnderOneWrongBit, EachByteIsNearItself}
 use Rattle.ttx_packet.specs.Slots.{IsSlot, IsRow, is_empty, magazine, packet_number, packet_kind, kind_of, read_number, is_clean}
 use Rattle.ttx_packet.specs.Receptions.{IsFree, MayBeReceivedAs}
 use Rattle.ttx_packet.specs.Laws.{KindIsKept, EachSlotMayBeReceivedAsSent}
-use Rattle.ttx_packet.proofs.Choices.{implied, either, list_all_at, same_list_all}
+use Rattle.ttx_packet.proofs.Choices.{each_passes, same_list_all}
 use Rattle.ttx_packet.proofs.Cases.{kind_when_read, free_bytes, FreeBytes, same_packet_kind}
 
 get_or-range : (slot : List ℕ) (a b k : ℕ) → k < b - a → get_or (slice_range slot a b) k 0 ≡ get_or slot (a + k) 0
@@ -32,14 +33,14 @@ clean_words slot s clean e =
     let parts = and_parts _ _ (either _ _ clean e) in
     let first = and_parts _ _ parts.0 in
     record {
-      first = ap is_word (sym (get_or-range slot 0 2 0 (omega arith))) ∙ list_all_at is_word (slice_range slot 0 2) 0 first.0 (omega (arith, l2));
-      second = ap is_word (sym (get_or-range slot 0 2 1 (omega arith))) ∙ list_all_at is_word (slice_range slot 0 2) 1 first.0 (omega (arith, l2));
-      header = λ n k l. ap is_word (sym (get_or-range slot 2 10 k l)) ∙ list_all_at is_word (slice_range slot 2 10) k (implied _ _ first.1 n) (omega (arith, l8));
+      first = ap is_word (sym (get_or-range slot 0 2 0 (omega arith))) ∙ each_passes is_word (slice_range slot 0 2) 0 first.0 (omega (arith, l2));
+      second = ap is_word (sym (get_or-range slot 0 2 1 (omega arith))) ∙ each_passes is_word (slice_range slot 0 2) 1 first.0 (omega (arith, l2));
+      header = λ n k l. ap is_word (sym (get_or-range slot 2 10 k l)) ∙ each_passes is_word (slice_range slot 2 10) k (implied _ _ first.1 n) (omega (arith, l8));
       links = λ n. implied _ _ parts.1 n;
     }
 
 zero_byte : (slot : List ℕ) (k : ℕ) → is_empty slot ≡ true → k < length slot → get_or slot k 0 ≡ 0
-zero_byte slot k e l = eqb-true _ 0 (list_all_at (λ b. b == 0) slot k e l)
+zero_byte slot k e l = eqb-true _ 0 (each_passes (λ b. b == 0) slot k e l)
 
 zero_reads : reading 0 ≡ Some 1
 unfolding reading distance hamming_word ones

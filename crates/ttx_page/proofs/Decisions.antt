@@ -1,8 +1,8 @@
 -- Tests and choices.
-use Rattle.std.proofs.Common.{◌≡◌, ◌⊎◌, Bool, true, false, ◌&&◌, if◌then◌else◌, List, [], ◌∷◌, Option, Some, None, refl, ap, inl, inr}
+use Rattle.std.proofs.Common.{◌≡◌, ◌⊎◌, ℕ, ◌==◌, eqb-true, eq-eqb, sym, Bool, true, false, ◌&&◌, if◌then◌else◌, List, [], ◌∷◌, Option, Some, None, refl, ap, inl, inr}
 
-pub no_both : (a : Bool) → a ≡ true → a ≡ false → ⊥
-no_both a h k = cc
+pub eq_sym : (a b : ℕ) → (a == b) ≡ true → (b == a) ≡ true
+eq_sym a b h = eq-eqb b a (sym (eqb-true a b h))
 
 -- a fact, or its refutation
 abbrev pub Decided : Type 0 → Type 0

@@ -1,20 +1,20 @@
 mod Unions
 mod Heights
-pub mod PageRules
-pub mod KeptRanges
-pub mod PageLists
+mod PageRules
+mod KeptRanges
+mod PageLists
 pub mod Decisions
 pub mod SlotDistances
-pub mod BlankMemories
-pub mod Choices
-pub mod ExactReception
-pub mod RunsOneSlotOn
-pub mod MovedStreams
-pub mod OwnContents
-pub mod Owners
-pub mod Runs
-pub mod Turns
-pub mod Examples
-pub mod WrongText
-pub mod OutsideErrorRule
+mod BlankMemories
+mod Choices
+mod ExactReception
+mod RunsOneSlotOn
+mod MovedStreams
+mod OwnContents
+mod Owners
+mod Runs
+mod Turns
+mod Examples
+mod WrongText
+mod OutsideErrorRule
 mod Targets

@@ -1,6 +1,6 @@
 -- No reason is true exactly where the page's own contents are sent.
 use Rattle.std.proofs.Common.{◌≡◌, ℕ, ◌/◌, ℤ, true, false, List, Some, map, take, refl, sym, ap, ◌∙◌, inl, inr, arith}
-use Rattle.std.proofs.lemmas.Bool.{cases_eq, cases_Bool}
+use Rattle.std.proofs.lemmas.Bool.{cases_eq, cases_Bool, both_ways}
 use Rattle.std.proofs.lemmas.Bool.Decides.{nat_tests}
 use Rattle.ttx_code.specs.Words.{odd_byte}
 use Rattle.ttx_header.specs.Ids.{Id}
@@ -11,7 +11,7 @@ use Rattle.ttx_page.specs.Pages.{Page, IsPage, Item, TheHead, TheRow, TheLinks, 
 use Rattle.ttx_page.specs.Streams.{IsOwned, heads_page}
 use Rattle.ttx_page.specs.Steady.{Steady, SendsItsOwn, IsChecked, IsTrueTo, IsLikeHead, HeadIsRight, RowIsRight, LinksAreRight, erases_page}
 use Rattle.ttx_page.specs.Laws.{NoHeaderIsNone, SteadySendsItsOwn}
-use Rattle.ttx_page.proofs.Decisions.{Decided, by_refuting, both, same_bool, same_option, same_list, no_both}
+use Rattle.ttx_page.proofs.Decisions.{Decided, by_refuting, both, same_bool, same_option, same_list}
 
 same_nat : (a b : ℕ) → Decided (a ≡ b)
 same_nat a b = cases_eq a b
@@ -62,7 +62,7 @@ links_right p slot (Row m number text) f = f (λ e. e)
 links_right p slot _ f = f (λ e. e)
 
 right_keeps : (p : Page) (packet : Packet) → IsPage p → HeadIsRight p packet → erases_page packet ≡ true → ⊥
-right_keeps p (Header id control text) is r e = no_both _ (ap c4 (sym r.0) ∙ e) is.no_erase
+right_keeps p (Header id control text) is r e = both_ways _ is.no_erase (ap c4 (sym r.0) ∙ e)
 right_keeps p Empty is r e = r
 right_keeps p Unreadable is r e = r
 right_keeps p (Row m number text) is r e = r
@@ -79,7 +79,7 @@ right_like p _ r = r
 
 pub no_header_is_none : NoHeaderIsNone
 no_header_is_none s p = (
-  (λ none h. no_both _ h.is_header (none h.slot)),
+  (λ none h. both_ways _ (none h.slot) h.is_header),
   (λ none j. elim (cases_Bool (heads_page p.id (packet_of (s j)))) as (λ _. heads_page p.id (packet_of (s j)) ≡ false)
       [ inl e ↦ absurd (none (record { slot = j; is_header = e })) | inr e ↦ e ]),
 )
@@ -103,7 +103,7 @@ steady_sends_its_own s pages p is = (own, steady)
     steady : SendsItsOwn s pages p → Steady s pages p
     steady o = record {
       header = o.header;
-      only_subpage = λ j r. no_both _ (o.only_subpage r.alone j r.number) r.other;
+      only_subpage = λ j r. both_ways _ r.other (o.only_subpage r.alone j r.number);
       not_erased = λ j r. right_keeps p (packet_of (s j)) is (o.items TheHead tt j j (refl, r.header)) r.erases;
       head = λ j r. r.differs (right_like p (packet_of (s j)) (o.items TheHead tt j j (refl, r.header)));
       rows = λ j r. r.differs (o.items (TheRow r.row) r.needed r.sent.owner j r.sent.owned);

@@ -1,20 +1,19 @@
 -- Owners of packets.
 use Rattle.std.proofs.Common.{◌≡◌, ℕ, ◌<◌, ℤ, pos, ◌+ℤ◌, ◌<ℤ◌, ◌≤ℤ◌, true, ◌==◌, sym, ap, ◌∙◌, subst, inl, inr, arith, eqb-true, eq-eqb}
 use Rattle.std.proofs.lemmas.Int.{ints}
-use Rattle.std.proofs.lemmas.Bool.{and_parts}
+use Rattle.std.proofs.lemmas.Bool.{and_parts, both_ways}
 use Rattle.ttx_header.specs.Ids.{Id}
 use Rattle.ttx_page.specs.Packets.{Packet, Empty, Unreadable, Header, Row, Links, packet_of}
 use Rattle.ttx_page.specs.Pages.{Item, TheHead, TheRow, TheLinks}
 use Rattle.ttx_page.specs.Streams.{Stream, heads, heads_page, carries, IsLatestHeader, IsOwned}
 use Rattle.ttx_page.specs.Laws.{IsSameOn, OwnersAreUnique, OwnersComeFirst, OwnersAreNear, OwnersDontFall}
-use Rattle.ttx_page.proofs.Decisions.{no_both}
 use Rattle.ttx_page.proofs.SlotDistances.{cases_ltz}
 
 latest_unique : (s : Stream) (mag : ℕ) (h k j : ℤ) → IsLatestHeader s mag h j → IsLatestHeader s mag k j → h ≡ k
 latest_unique s mag h k j a b = elim (cases_ltz h k) as (λ _. h ≡ k) [
-  | inl lt ↦ absurd (no_both _ b.is_header (a.none_between k lt b.earlier))
+  | inl lt ↦ absurd (both_ways _ (a.none_between k lt b.earlier) b.is_header)
   | inr ge ↦ elim (cases_ltz k h) as (λ _. h ≡ k) [
-    | inl lt ↦ absurd (no_both _ a.is_header (b.none_between h lt a.earlier))
+    | inl lt ↦ absurd (both_ways _ (b.none_between h lt a.earlier) a.is_header)
     | inr le ↦ omega (arith, ints)
   ]
 ]
@@ -54,7 +53,7 @@ page_heads page _ h = h
 
 latest_near : (s : Stream) (n : ℕ) → 0 < n → IsSameOn s (pos n) → (mag : ℕ) (h j : ℤ) → IsLatestHeader s mag h j → j ≤ℤ (h +ℤ pos n)
 latest_near s n some period mag h j a = elim (cases_ltz (h +ℤ pos n) j) as (λ _. j ≤ℤ (h +ℤ pos n)) [
-  | inl lt ↦ absurd (no_both _ (ap (λ x. heads mag (packet_of x)) (period h) ∙ a.is_header) (a.none_between (h +ℤ pos n) (omega (arith, ints)) lt))
+  | inl lt ↦ absurd (both_ways _ (a.none_between (h +ℤ pos n) (omega (arith, ints)) lt) (ap (λ x. heads mag (packet_of x)) (period h) ∙ a.is_header))
   | inr ge ↦ ge
 ]
 
@@ -76,7 +75,7 @@ owners_are_near s n some period page TheLinks h j a = text_near s n some period 
 -- the latest header before a later slot isn't earlier
 latest_rises : (s : Stream) (mag : ℕ) (h k j : ℤ) → h <ℤ j → heads mag (packet_of (s h)) ≡ true → IsLatestHeader s mag k j → h ≤ℤ k
 latest_rises s mag h k j before is b = elim (cases_ltz k h) as (λ _. h ≤ℤ k) [
-  | inl lt ↦ absurd (no_both _ is (b.none_between h lt before))
+  | inl lt ↦ absurd (both_ways _ (b.none_between h lt before) is)
   | inr ge ↦ ge
 ]
 

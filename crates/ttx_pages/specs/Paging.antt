@@ -1,27 +1,22 @@
 -- What `pages` writes for the bytes of a packet file.
 --
---   IsFileOf                the bytes are the packet file of these slots
 --   WritesTextOf            what was written at each answer
 --   CountsPages             faults of devices are answered only where they were counted
 --   IsUntouchedByPages      at each fault but that of a write, what could be written to is as it was
 use Rattle.std.specs.Prelude.{◌≡◌, ℕ, ◌<◌, List, length, take, ⊤, Option, Result, Ok, Err}
 use Rattle.std.specs.Io.KnownBytes.{Appends, Keeps}
 use Rattle.ttx_cycle.specs.Counts.{HasRisen}
-use Rattle.ttx_cycle.specs.Files.{IsCycle, file_of}
+use Rattle.ttx_cycle.specs.Files.{IsPacketFile}
 use Rattle.ttx_cycle.specs.Reading.{Judged}
 use Rattle.ttx_cycle.specs.declared.faults.CycleFault.TheVariants as cycle
 use Rattle.ttx_pages.specs.declared.faults.PagesFault.{PagesFault}
 use Rattle.ttx_pages.specs.declared.faults.PagesFault.TheVariants.{Cycle, Write, NoMemory}
 
-pub record IsFileOf (bytes : List ℕ) (slots : List (List ℕ)) : Type 0 where
-  pub is_cycle : IsCycle slots
-  pub same : bytes ≡ file_of slots
-
 -- Ok: the text of the slots went out. A write fault: the first `written` bytes of it. Else nothing, and the file is refused as it is judged.
 abbrev pub WritesTextOf : {U : Type 0} → (List (List ℕ) → List ℕ) → List ℕ → Option (List ℕ) → Option (List ℕ) → Result U PagesFault → Type 0
-WritesTextOf text bytes old new (Ok _) = (slots : List (List ℕ)) × IsFileOf bytes slots × Appends old new (text slots)
+WritesTextOf text bytes old new (Ok _) = (slots : List (List ℕ)) × IsPacketFile bytes slots × Appends old new (text slots)
 WritesTextOf text bytes old new (Err (Write written)) =
-    (slots : List (List ℕ)) × IsFileOf bytes slots × (written < length (text slots)) × Appends old new (take written (text slots))
+    (slots : List (List ℕ)) × IsPacketFile bytes slots × (written < length (text slots)) × Appends old new (take written (text slots))
 WritesTextOf text bytes old new (Err (Cycle fault)) = Judged bytes (Err fault) × Keeps old new
 WritesTextOf text bytes old new (Err NoMemory) = Keeps old new
 

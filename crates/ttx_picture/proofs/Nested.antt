@@ -1,7 +1,7 @@
 -- The tags of pictures are nested.
 use Rattle.std.proofs.Common.{◌≡◌, ◌∙◌, ℕ, ◌+◌, ◌*◌, Bool, true, false, not, ◌||◌, ◌&&◌, ◌==◌, if◌then◌else◌, List, [], ◌∷◌, ◌++◌, codes, fold}
 use Rattle.std.proofs.Common.{Option, Some, None, refl, ap}
-use Rattle.std.proofs.lemmas.Bool.{or_parts}
+use Rattle.std.proofs.lemmas.Bool.{or_parts, and_parts}
 use Rattle.std.proofs.lemmas.List.Sums.{fold-append}
 use Rattle.std.specs.List.{AllByRecursion, list_all}
 use Rattle.ttx_header.specs.Ids.{Id}
@@ -44,14 +44,10 @@ choose false e f = f
 nothing : (a : Reading) → Reads a [] a
 nothing a = reads refl
 
-and_parts : (a b : Bool) → not a && not b ≡ true → (a ≡ false) × (b ≡ false)
-and_parts true b e = cc
-and_parts false true e = cc
-and_parts false false e = (refl, refl)
-
-and_both : (a b : Bool) → a && b ≡ true → (a ≡ true) × (b ≡ true)
-and_both true b e = (refl, e)
-and_both false b e = cc
+neither : (a b : Bool) → not a && not b ≡ true → (a ≡ false) × (b ≡ false)
+neither true b e = cc
+neither false true e = cc
+neither false false e = (refl, refl)
 
 -- a byte that is no markup and isn't ruled out: not < and not "
 record Plain (b : ℕ) : Type 0 where
@@ -61,7 +57,7 @@ record Plain (b : ℕ) : Type 0 where
 
 plain : (b : ℕ) → quiet b ≡ true → Plain b
 plain b e =
-    let parts = and_parts (is_markup b) (is_ruled b) e in
+    let parts = neither (is_markup b) (is_ruled b) e in
     let a = or_parts ((b == 60) || (b == 62) || (b == 34)) (b == 39) parts.0 in
     let c = or_parts ((b == 60) || (b == 62)) (b == 34) a.0 in
     record { less = (or_parts (b == 60) (b == 62) c.0).0; quote = c.1; ruled = parts.1 }
@@ -78,13 +74,13 @@ module _ (w : List (List ℕ)) where
   fold_text : (bytes : List ℕ) → list_all quiet bytes ≡ true → fold read (reading_at InText w) bytes ≡ reading_at InText w
   fold_text [] e = refl
   fold_text (b ∷ bytes) e =
-      let parts = and_both (quiet b) (list_all quiet bytes) e in
+      let parts = and_parts (quiet b) (list_all quiet bytes) e in
       ap (λ r. fold read r bytes) (one_text w b (plain b parts.0)) ∙ fold_text bytes parts.1
 
   fold_value : (name : List ℕ) (bytes : List ℕ) → list_all quiet bytes ≡ true → fold read (reading_at (InValue name) w) bytes ≡ reading_at (InValue name) w
   fold_value name [] e = refl
   fold_value name (b ∷ bytes) e =
-      let parts = and_both (quiet b) (list_all quiet bytes) e in
+      let parts = and_parts (quiet b) (list_all quiet bytes) e in
       ap (λ r. fold read r bytes) (one_value w name b (plain b parts.0)) ∙ fold_value name bytes parts.1
 
   in_text : {bytes : List ℕ} → IsQuiet bytes → Reads (reading_at InText w) bytes (reading_at InText w)

@@ -1,38 +1,38 @@
-pub mod WaitingBound
-pub mod SentBlocks
-pub mod PassedBlocks
-pub mod Alternating
-pub mod NextHeaders
-pub mod LaidSlots
-pub mod Lengths
-pub mod FirstInOrder
-pub mod SchedulerState
-pub mod ServicePages
-pub mod RepeatedBlocks
-pub mod MagazineSums
-pub mod CursorsLookBack
-pub mod UsedQueues
-pub mod WaitingMagazines
-pub mod Owners
-pub mod InQueues
-pub mod SerialOwners
-pub mod OwnersByPlace
-pub mod ListElements
-pub mod SurePlaces
-pub mod Readable
-pub mod AllRead
-pub mod UnderHeaders
-pub mod OwnRows
-pub mod PlacesByKind
-pub mod Planned
-pub mod GrowingLists
-pub mod PlanFaults
-pub mod HeldBlocks
-pub mod SendingOrder
-pub mod PlannedSlots
-pub mod OwnLinks
-pub mod SentItems
-pub mod SteadyPages
-pub mod PlannedAcceptance
-pub mod PlannedFollowers
-pub mod PageLinks
+mod WaitingBound
+mod SentBlocks
+mod PassedBlocks
+mod Alternating
+mod NextHeaders
+mod LaidSlots
+mod Lengths
+mod FirstInOrder
+mod SchedulerState
+mod ServicePages
+mod RepeatedBlocks
+mod MagazineSums
+mod CursorsLookBack
+mod UsedQueues
+mod WaitingMagazines
+mod Owners
+mod InQueues
+mod SerialOwners
+mod OwnersByPlace
+mod ListElements
+mod SurePlaces
+mod Readable
+mod AllRead
+mod UnderHeaders
+mod OwnRows
+mod PlacesByKind
+mod Planned
+mod GrowingLists
+mod PlanFaults
+mod HeldBlocks
+mod SendingOrder
+mod PlannedSlots
+mod OwnLinks
+mod SentItems
+mod SteadyPages
+mod PlannedAcceptance
+mod PlannedFollowers
+mod PageLinks

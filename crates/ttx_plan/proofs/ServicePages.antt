@@ -1,9 +1,9 @@
 -- The pages of a service one by one: their blocks, how often they are sent, and the queues that they use.
-use Rattle.std.proofs.Common.{◌≡◌, ◌⊎◌, ℕ, zero, suc, ◌+◌, ◌-◌, ◌*◌, ◌<◌, ◌≤◌, Bool, true, false, cond, List, [], ◌∷◌, ◌++◌, ◌||◌, map, length, take}
+use Rattle.std.proofs.Common.{◌≡◌, ℕ, zero, suc, ◌+◌, ◌-◌, ◌*◌, ◌<◌, ◌≤◌, Bool, true, cond, List, [], ◌∷◌, ◌++◌, ◌||◌, map, length, take}
 use Rattle.std.proofs.Common.{Some, None, refl, sym, ap, ◌∙◌, subst, arith, inl, inr, eqb, get_or, mul-le-mul}
 use Rattle.std.specs.Prelude.{All, slice_get, option_map, sum_by}
 use Rattle.std.specs.List.{list_any}
-use Rattle.std.proofs.lemmas.Bool.{eqb-true}
+use Rattle.std.proofs.lemmas.Bool.{eqb-true, or_cases}
 use Rattle.std.proofs.lemmas.List.{map-append, length-map}
 use Rattle.std.proofs.lemmas.List.Sums.{sum_by-cons, sum_by-append}
 use Rattle.ttx_page.specs.declared.class.Class.{Class}
@@ -17,10 +17,6 @@ use Rattle.ttx_plan.specs.Carries.{block_at, blocks_of}
 use Rattle.ttx_plan.specs.Ranges.{IsOften}
 use Rattle.ttx_plan.specs.Seen.{used_by}
 use Rattle.ttx_plan.proofs.RepeatedBlocks.{AreOften}
-
-either : (a b : Bool) → (a || b) ≡ true → (a ≡ true) ⊎ (b ≡ true)
-either true b e = inl refl
-either false b e = inr e
 
 once : IsOften 1
 once = record { some = omega arith; most = omega arith; divides = refl }
@@ -38,9 +34,9 @@ often_one : (n m : ℕ) → IsOften m → eqb n m ≡ true → IsOften n
 often_one n m o e = subst IsOften (sym (eqb-true n m e)) o
 
 pub often_ranges : (n : ℕ) → is_often n ≡ true → IsOften n
-often_ranges n e = elim (either ((eqb n 1 || eqb n 2) || eqb n 4) (eqb n 8) e) as (λ _. IsOften n) [
-  | inl a ↦ elim (either (eqb n 1 || eqb n 2) (eqb n 4) a) as (λ _. IsOften n) [
-    | inl b ↦ elim (either (eqb n 1) (eqb n 2) b) as (λ _. IsOften n) [
+often_ranges n e = elim (or_cases ((eqb n 1 || eqb n 2) || eqb n 4) (eqb n 8) e) as (λ _. IsOften n) [
+  | inl a ↦ elim (or_cases (eqb n 1 || eqb n 2) (eqb n 4) a) as (λ _. IsOften n) [
+    | inl b ↦ elim (or_cases (eqb n 1) (eqb n 2) b) as (λ _. IsOften n) [
       | inl x ↦ often_one n 1 once x
       | inr x ↦ often_one n 2 twice x
     ]

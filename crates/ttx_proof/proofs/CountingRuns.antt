@@ -15,7 +15,6 @@ use Rattle.ttx_witness.specs.runs.Repeating.{FollowInTime}
 use Rattle.ttx_proof.specs.Bridging.{is_start_among, counts_first, counted, is_late, FollowsAfter}
 use Rattle.ttx_proof.proofs.NamedStarts.{found, among}
 use Rattle.ttx_proof.proofs.RunsInWindows.{windows_yes, windows_no, cases_Bool}
-pub use Rattle.ttx_page.proofs.Decisions.{no_both}
 
 -- the search among starts that rise
 pub rising_stays : (starts : List ℕ) → Rising starts → (i j : ℕ) → i ≤ j → j < length starts → get_or starts i 0 ≤ get_or starts j 0

@@ -2,7 +2,7 @@
 use Rattle.std.proofs.Common.{◌≡◌, ℕ, ◌+◌, ◌<◌, ◌≤◌, ℤ, pos, negsuc, ◌<ℤ◌, ◌≤ℤ◌, true, false, List, [], length, get_or, ◌==◌, sym, ap, ◌∙◌, subst}
 use Rattle.std.proofs.Common.{inl, inr, arith, eqb-true, mod-eq_of_lt}
 use Rattle.std.proofs.lemmas.Int.{ints}
-use Rattle.std.proofs.lemmas.Bool.{cases_lt, cases_eq, and_parts}
+use Rattle.std.proofs.lemmas.Bool.{cases_lt, cases_eq, and_parts, both_ways}
 use Rattle.ttx_page.specs.Packets.{Packet, Empty, Unreadable, Header, Row, Links, Info, Other, packet_of}
 use Rattle.ttx_page.specs.Pages.{Page}
 use Rattle.ttx_page.specs.declared.item.Item.{Item}
@@ -11,7 +11,6 @@ use Rattle.ttx_page.specs.Streams.{repeated, turned, heads, carries}
 use Rattle.ttx_page.specs.Laws.{EachSlotTurns}
 use Rattle.ttx_proof.specs.Seams.{IsWrongAs, IsWrongSlot, HangsOver}
 use Rattle.ttx_witness.specs.faults.Comparing.{HoldsNoRow}
-use Rattle.ttx_proof.proofs.LatestHeaderBefore.{no_both}
 
 pub no_head : (mag : ℕ) (packet : Packet) → carries mag TheHead packet ≡ true → ⊥
 no_head mag (Header id control text) e = cc
@@ -94,7 +93,7 @@ module _ (cycle : List (List ℕ)) (p : Page) where
       | inl e ↦
           let w = subst (IsWrongSlot p) (ap (λ i. repeated cycle (pos i)) e ∙ at_is j lt) o.wrong in
           no_header_carries p.id.mag w.0 (packet_of (get_or cycle j [])) here w.1.1
-      | inr ne ↦ no_both _ (ap (λ x. heads p.id.mag (packet_of x)) (at_is j lt) ∙ here) (o.no_header (pos j) (omega (arith, ints)) (above m ge ne))
+      | inr ne ↦ both_ways _ (o.no_header (pos j) (omega (arith, ints)) (above m ge ne)) (ap (λ x. heads p.id.mag (packet_of x)) (at_is j lt) ∙ here)
     ]
   ]
     where

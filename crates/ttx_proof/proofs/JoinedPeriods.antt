@@ -2,7 +2,8 @@
 use Rattle.std.proofs.Common.{◌≡◌, ℕ, zero, suc, ◌*◌, ◌≤◌, ℤ, pos, ◌+ℤ◌, ◌-ℤ◌, ◌<ℤ◌, ◌≤ℤ◌, Bool, true, false, List, [], ◌∷◌, ◌++◌, map, length}
 use Rattle.std.proofs.Common.{get_or, refl, sym, ap, ◌∙◌, subst, inl, inr, arith, ◌&&◌, eq-eqb, eqb-true}
 use Rattle.std.proofs.lemmas.Int.{ints}
-use Rattle.std.proofs.lemmas.Bool.{and_parts}
+use Rattle.std.proofs.lemmas.Bool.{and_parts, both_ways}
+use Rattle.ttx_page.proofs.SlotDistances.{cases_ltz}
 use Rattle.ttx_header.specs.Ids.{Id}
 use Rattle.ttx_page.specs.Packets.{Packet, Empty, Unreadable, Header, Row, Links, Info, Other, packet_of}
 use Rattle.ttx_page.specs.Pages.{Page}
@@ -19,8 +20,7 @@ use Rattle.ttx_proof.specs.Bridging.{low, high}
 use Rattle.ttx_proof.specs.Joining.{shifted, periods_before, periods_after, JoinedAreListed}
 use Rattle.ttx_proof.proofs.NamedStarts.{same_more}
 use Rattle.ttx_proof.proofs.StreamsOfSides as J
-use Rattle.ttx_proof.proofs.StreamsOfSides.{StreamLaws, cases_ltz}
-use Rattle.ttx_page.proofs.Decisions.{no_both}
+use Rattle.ttx_proof.proofs.StreamsOfSides.{StreamLaws}
 
 -- lists of what lies between two slots
 module _ (P : ℤ → Type 0) (Is : Transmission → Type 0) where
@@ -132,11 +132,11 @@ module _ (laws : StreamLaws) (near : OwnersAreNear) (again : CyclesRepeat) (c : 
   owner_above TheHead h j le a = let e = a.0 in omega (arith, ints)
   owner_above (TheRow r) h j le a = elim (cases_ltz h (pos 0)) as (λ _. pos 0 ≤ℤ h) [
     | inr ge ↦ ge
-    | inl lt ↦ let f = first_header in let u = f.from in let v = f.to in absurd (no_both _ f.is_header (a.0.none_between f.at (omega (arith, ints)) (omega (arith, ints))))
+    | inl lt ↦ let f = first_header in let u = f.from in let v = f.to in absurd (both_ways _ (a.0.none_between f.at (omega (arith, ints)) (omega (arith, ints))) f.is_header)
   ]
   owner_above TheLinks h j le a = elim (cases_ltz h (pos 0)) as (λ _. pos 0 ≤ℤ h) [
     | inr ge ↦ ge
-    | inl lt ↦ let f = first_header in let u = f.from in let v = f.to in absurd (no_both _ f.is_header (a.0.none_between f.at (omega (arith, ints)) (omega (arith, ints))))
+    | inl lt ↦ let f = first_header in let u = f.from in let v = f.to in absurd (both_ways _ (a.0.none_between f.at (omega (arith, ints)) (omega (arith, ints))) f.is_header)
   ]
 
   abbrev Joins : ℤ → ℤ → List Transmission → Type 0

@@ -2,19 +2,19 @@
 use Rattle.std.proofs.Common.{◌≡◌, ◌↔◌, ℕ, ◌-◌, ◌<◌, ℤ, pos, negsuc, ◌<ℤ◌, Bool, true, false, List, [], length, get_or, sym, ap, ◌∙◌, subst, inl, inr}
 use Rattle.std.proofs.Common.{arith, mod-eq_of_lt}
 use Rattle.std.proofs.lemmas.Int.{ints}
+use Rattle.std.proofs.lemmas.Bool.{both_ways}
+use Rattle.ttx_page.proofs.SlotDistances.{cases_ltz}
 use Rattle.ttx_header.specs.Ids.{Id}
 use Rattle.ttx_page.specs.Packets.{packet_of}
 use Rattle.ttx_page.specs.Streams.{Stream, repeated, turned, heads, heads_page, IsLatestHeader}
 use Rattle.ttx_page.specs.Laws.{EachSlotTurns}
 use Rattle.ttx_proof.specs.Seams.{IsLeftTo}
-use Rattle.ttx_proof.proofs.StreamsOfSides.{cases_ltz}
-pub use Rattle.ttx_page.proofs.Decisions.{no_both}
 
 latest_same : (s : Stream) (mag : ℕ) (h k j : ℤ) → IsLatestHeader s mag h j → IsLatestHeader s mag k j → h ≡ k
 latest_same s mag h k j a b = elim (cases_ltz h k) as (λ _. h ≡ k) [
-  | inl lt ↦ absurd (no_both _ b.is_header (a.none_between k lt b.earlier))
+  | inl lt ↦ absurd (both_ways _ (a.none_between k lt b.earlier) b.is_header)
   | inr ge ↦ elim (cases_ltz k h) as (λ _. h ≡ k) [
-    | inl lt ↦ absurd (no_both _ a.is_header (b.none_between h lt a.earlier))
+    | inl lt ↦ absurd (both_ways _ (b.none_between h lt a.earlier) a.is_header)
     | inr le ↦ omega (arith, ints)
   ]
 ]
@@ -45,7 +45,7 @@ module _ (cycle : List (List ℕ)) (mag : ℕ) where
       let inside = (turn (length cycle) h some).inside in
       let at = turned (length cycle) h in
       let e : length cycle - 1 - (length cycle - 1 - at) ≡ at = omega arith in
-      no_both _ l.is_header (ap (λ m. heads mag (packet_of (get_or cycle m []))) (sym e) ∙ none (length cycle - 1 - at) (omega arith))
+      both_ways _ (ap (λ m. heads mag (packet_of (get_or cycle m []))) (sym e) ∙ none (length cycle - 1 - at) (omega arith)) l.is_header
 
 -- the latest header tells to which page a magazine is left
 pub left_by : (cycle : List (List ℕ)) (page : Id) (h : ℤ) → IsLatestHeader (repeated cycle) page.mag h (pos 0) → (answer : Bool) → answer ≡ heads_page page (packet_of (repeated cycle h)) →

@@ -16,9 +16,9 @@ mod HangingOver
 mod LatestHeaderBefore
 mod FirstHangingOver
 mod SeamAnswers
-pub mod PlacesOfPages
-pub mod BridgedItems
-pub mod VerdictOfFindings
-pub mod SixFiles
+mod PlacesOfPages
+mod BridgedItems
+mod VerdictOfFindings
+mod SixFiles
 mod OneVerdict
 mod SomeVerdict

@@ -2,12 +2,12 @@
 use Rattle.std.proofs.Common.{◌≡◌, ◌↔◌, ℕ, suc, ℤ, pos, ◌+ℤ◌, ◌<ℤ◌, ◌≤ℤ◌, Bool, List, [], ◌∷◌, length, inl, inr, arith}
 use Rattle.std.specs.List.{AllByRecursion}
 use Rattle.std.proofs.lemmas.Int.{ints}
+use Rattle.ttx_page.proofs.SlotDistances.{cases_ltz}
 use Rattle.ttx_witness.specs.declared.runs.transmissions.Transmission.{Transmission}
 use Rattle.ttx_witness.specs.declared.runs.transmissions.Run.{Run}
 use Rattle.ttx_witness.specs.runs.Transmissions.{start_of}
 use Rattle.ttx_witness.specs.runs.Repeating.{Lists, Successive, IsSentAt, AreSent, RunEndsBelow, FollowInTime}
 use Rattle.ttx_proof.specs.Bridging.{counted, AllFollow}
-use Rattle.ttx_proof.proofs.StreamsOfSides.{cases_ltz}
 use Rattle.ttx_proof.proofs.RunsInWindows as W
 use Rattle.ttx_proof.proofs.RunsInWindows.{Counting}
 

@@ -5,16 +5,16 @@ use Rattle.std.specs.List.{filter, AllByRecursion}
 use Rattle.std.proofs.lemmas.List.{length-take-le}
 use Rattle.std.proofs.lemmas.Int.{ints}
 use Rattle.std.proofs.lemmas.Bool.{cases_lt, and_from, and_parts, cond_both}
+use Rattle.ttx_page.proofs.SlotDistances.{cases_ltz}
 use Rattle.ttx_witness.specs.declared.runs.transmissions.Transmission.{Transmission}
 use Rattle.ttx_witness.specs.declared.runs.transmissions.Run.{Run}
 use Rattle.ttx_witness.specs.runs.Transmissions.{start_of, windows, run_of, last_slot}
 use Rattle.ttx_witness.specs.runs.Repeating.{Lists, Successive, IsSentAt, Tells, AreSent, BeginsSureRun, RunEndsBelow, IsRunOf}
 pub use Rattle.std.proofs.lemmas.Bool.{cases_Bool}
-use Rattle.ttx_witness.proofs.lemmas.runs.AllBetween.{slots}
-use Rattle.ttx_witness.proofs.lemmas.runs.StreamRuns as R
-pub use Rattle.ttx_witness.proofs.lemmas.runs.Windows.{windows_yes, windows_no}
+use Rattle.ttx_witness.proofs.AllBetween.{slots}
+use Rattle.ttx_witness.proofs.StreamRuns as R
+pub use Rattle.ttx_witness.proofs.Windows.{windows_yes, windows_no}
 use Rattle.ttx_proof.specs.Bridging.{counted}
-use Rattle.ttx_proof.proofs.StreamsOfSides.{cases_ltz}
 
 -- a named start with an all-sure run
 abbrev pub Counting : (ℤ → ℤ → Type 0) → (ℤ → ℤ → Type 0) → ℕ → (ℤ → Bool) → ℤ → Type 0

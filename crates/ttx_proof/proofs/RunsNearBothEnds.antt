@@ -3,6 +3,7 @@ use Rattle.std.proofs.Common.{◌≡◌, ◌↔◌, ℕ, suc, ◌*◌, ◌≤◌
 use Rattle.std.proofs.Common.{arith}
 use Rattle.std.specs.List.{Contains, AllByRecursion}
 use Rattle.std.proofs.lemmas.Int.{ints}
+use Rattle.ttx_page.proofs.SlotDistances.{cases_ltz}
 use Rattle.ttx_header.specs.Ids.{Id}
 use Rattle.ttx_page.specs.Pages.{Page}
 use Rattle.ttx_page.specs.declared.item.Item.{Item}
@@ -18,7 +19,7 @@ use Rattle.ttx_proof.specs.Bridging.{low, high, is_named, AreJoined, counted, Al
 use Rattle.ttx_proof.specs.Laws.{WalksDecide}
 use Rattle.ttx_proof.proofs.NamedStarts.{named_is, named_below, named_above, turned_more, turned_back, turned_start, same_more}
 use Rattle.ttx_proof.proofs.StreamsOfSides as J
-use Rattle.ttx_proof.proofs.StreamsOfSides.{StreamLaws, cases_ltz}
+use Rattle.ttx_proof.proofs.StreamsOfSides.{StreamLaws}
 use Rattle.ttx_proof.proofs.BridgedIsSeen.{covered_sent, covered_of, place_of}
 use Rattle.ttx_proof.proofs.NeighbouringRuns as N
 use Rattle.ttx_proof.proofs.NeighbouringRuns.{IsOrdered, IsServed, IsInside}

@@ -4,6 +4,7 @@ use Rattle.std.proofs.Common.{slice_get, Option, Some, None, refl, ap, subst, in
 use Rattle.std.specs.List.{Contains}
 use Rattle.std.proofs.lemmas.Int.{ints}
 use Rattle.std.proofs.lemmas.Option.{slice_get_within}
+use Rattle.ttx_page.proofs.SlotDistances.{cases_ltz}
 use Rattle.ttx_header.specs.Ids.{Id}
 use Rattle.ttx_page.specs.Packets.{packet_of}
 use Rattle.ttx_page.specs.Pages.{Page, needed}
@@ -45,7 +46,6 @@ use Rattle.ttx_proof.proofs.FirstHangingOver.{no_head, ended, first_is, none_ove
 use Rattle.ttx_proof.proofs.PlacesOfPages.{contains_at}
 use Rattle.ttx_proof.proofs.SeamAnswers.{seam_told, no_seam_told}
 use Rattle.ttx_proof.proofs.BridgedIsSeen.{place_of}
-use Rattle.ttx_proof.proofs.StreamsOfSides.{cases_ltz}
 
 -- ---- pages and lists of pages
 

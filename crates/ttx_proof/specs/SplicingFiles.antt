@@ -15,7 +15,7 @@ use Rattle.ttx_cycle.specs.Reading.{Judged}
 use Rattle.ttx_source.specs.Services.{ServiceFields, pages_of}
 use Rattle.ttx_witness.specs.Certificates.{fields_of}
 use Rattle.ttx_witness.specs.Entries.{CertificateFields, certificate_at}
-use Rattle.ttx_certify.specs.CertifyingFiles.{IsPacketFile}
+use Rattle.ttx_cycle.specs.Files.{IsPacketFile}
 use Rattle.ttx_certify.specs.FileSteps.{ReadsService, ReadsWitness}
 use Rattle.ttx_certify.specs.declared.faults.FilesFault.{FilesFault}
 use Rattle.ttx_certify.specs.declared.faults.FilesFault.TheVariants.{Cycle, Read, Write, NoMemory}

@@ -1,7 +1,7 @@
 -- Receivers that surely clear: what is blank needn't be sent.
 use Rattle.std.proofs.Common.{◌≡◌, ◌≢◌, ◌⊎◌, ℕ, zero, suc, ◌+◌, ◌<◌, ◌≤◌, Bool, true, false, not, ◌&&◌, ◌||◌, ◌==◌, List, [], Some, None, length}
 use Rattle.std.proofs.Common.{get_or, refl, sym, ap, ◌∙◌, subst, inl, inr, arith, get_or-set_other}
-use Rattle.std.proofs.lemmas.Bool.{cases_lt, cases_Bool, cond_both, or_right}
+use Rattle.std.proofs.lemmas.Bool.{cases_lt, cases_Bool, cond_both, or_right, both_ways}
 use Rattle.ttx_page.specs.Packets.{Packet, Header, Row, Links}
 use Rattle.ttx_links.specs.Sets.{no_links}
 use Rattle.ttx_page.specs.Pages.{Page, IsPage, selected_mag, needed, page_row, matches, blank_row}
@@ -12,7 +12,6 @@ use Rattle.ttx_header.specs.Control.{c4, c11}
 use Rattle.ttx_page.specs.Memories.{Memory, char_at}
 use Rattle.ttx_page.specs.Receivers.{older, after, Run, erased, begun, with_storing, with_row, with_links, erases, misses, stored_row}
 use Rattle.ttx_page.specs.Streams.{heads_matched}
-use Rattle.ttx_receiver.proofs.Choices.{no_both}
 use Rattle.ttx_receiver.proofs.StepsOverPage.{Shape, shape_after, erased_row}
 use Rattle.ttx_receiver.proofs.TakenAndKept.{keep_row, keep_links}
 use Rattle.ttx_receiver.proofs.Runs.{packet_at, run_keeps, ReceivesPage, IsTuned, tuned_begin, tuned_next}
@@ -22,7 +21,7 @@ module _ (lines : ℕ) (sel : Selection) where
   -- a receiver stays fresh until a matching header
   after_fresh : (choice : Bool) (m : Memory) (pkt : Packet) → heads_matched sel pkt ≡ false → (after Clearing lines sel choice m pkt).fresh ≡ m.fresh
   after_fresh choice m (Header id control text) h =
-      cond_both (matches sel id) _ _ (λ (new : Memory). new.fresh ≡ m.fresh) (λ e. absurd (no_both _ e h))
+      cond_both (matches sel id) _ _ (λ (new : Memory). new.fresh ≡ m.fresh) (λ e. absurd (both_ways _ h e))
       (λ _. cond_both (id.mag == selected_mag sel) _ _ (λ (new : Memory). new.fresh ≡ m.fresh) (λ _. refl)
       (λ _. cond_both (c11 control && choice) (with_storing m false) m (λ (new : Memory). new.fresh ≡ m.fresh) (λ _. refl) (λ _. refl)))
   after_fresh choice m (Row mag number text) h =
@@ -44,21 +43,21 @@ module _ (lines : ℕ) (sel : Selection) where
       let ne : suc r ≢ 0 = omega arith in
       let lt : r < 24 = omega arith in
       ap (λ row. get_or row c 0) (get_or-set_other (erased m).rows 0 (suc r) _ [] ne ∙ erased_row m.rows r s.count lt))
-      (λ e. absurd (no_both _ (or_right (c4 control) m.fresh f) e)))
-      (λ e. absurd (no_both _ h e))
-  blanks_row (suc r) c low high col choice m (Row mag number text) s f h = absurd (no_both _ h refl)
-  blanks_row (suc r) c low high col choice m (Links mag content) s f h = absurd (no_both _ h refl)
-  blanks_row (suc r) c low high col choice m _ s f h = absurd (no_both _ h refl)
+      (λ e. absurd (both_ways _ e (or_right (c4 control) m.fresh f))))
+      (λ e. absurd (both_ways _ e h))
+  blanks_row (suc r) c low high col choice m (Row mag number text) s f h = absurd (both_ways _ refl h)
+  blanks_row (suc r) c low high col choice m (Links mag content) s f h = absurd (both_ways _ refl h)
+  blanks_row (suc r) c low high col choice m _ s f h = absurd (both_ways _ refl h)
 
   blanks_links : (choice : Bool) (m : Memory) (pkt : Packet) → m.fresh ≡ true → heads_matched sel pkt ≡ true → (after Clearing lines sel choice m pkt).links ≡ no_links
   blanks_links choice m (Header id control text) f h =
       cond_both (matches sel id) _ _ (λ (new : Memory). new.links ≡ no_links)
       (λ _. cond_both {A = Memory} (erases Clearing choice m control) (erased m) m (λ x. (begun x control text).links ≡ no_links)
-      (λ _. refl) (λ e. absurd (no_both _ (or_right (c4 control) m.fresh f) e)))
-      (λ e. absurd (no_both _ h e))
-  blanks_links choice m (Row mag number text) f h = absurd (no_both _ h refl)
-  blanks_links choice m (Links mag content) f h = absurd (no_both _ h refl)
-  blanks_links choice m _ f h = absurd (no_both _ h refl)
+      (λ _. refl) (λ e. absurd (both_ways _ e (or_right (c4 control) m.fresh f))))
+      (λ e. absurd (both_ways _ e h))
+  blanks_links choice m (Row mag number text) f h = absurd (both_ways _ refl h)
+  blanks_links choice m (Links mag content) f h = absurd (both_ways _ refl h)
+  blanks_links choice m _ f h = absurd (both_ways _ refl h)
 
 module _ (lines : ℕ) (sel : Selection) (p : Page) (page : IsPage p) (received : List (List ℕ)) (receives_page : ReceivesPage sel p (packet_at received) (length received)) where
   abbrev g : ℕ → Packet
@@ -75,7 +74,7 @@ module _ (lines : ℕ) (sel : Selection) (p : Page) (page : IsPage p) (received 
   blank_held Good i inside here brings keeps m new shape fresh run =
       let last = run_keeps Clearing lines sel Inv received 0 step m new run (shape, inl fresh, (λ lt. absurd (omega arith))) in
       elim last.1 as (λ _. (new.control ≡ p.control) × Good new)
-      [ inl f ↦ absurd (no_both _ f (last.2 (omega arith))) | inr w ↦ (w.0.control, w.1) ]
+      [ inl f ↦ absurd (both_ways _ (last.2 (omega arith)) f) | inr w ↦ (w.0.control, w.1) ]
     where
       Inv : ℕ → Memory → Type 0
       Inv t x = Shape x × ((x.fresh ≡ true) ⊎ (IsTuned sel p g t x × Good x)) × (i < t → x.fresh ≡ false)
@@ -90,8 +89,8 @@ module _ (lines : ℕ) (sel : Selection) (p : Page) (page : IsPage p) (received 
                 s,
                 inl (e ∙ f),
                 (λ le. elim (cases_lt i t) as (λ _. (next choice x t).fresh ≡ false) [
-                  | inl less ↦ absurd (no_both _ f (v.2 less))
-                  | inr ge ↦ let q : i ≡ t = omega arith in absurd (no_both _ (subst (λ z. heads_matched sel (g z) ≡ true) q here) h)
+                  | inl less ↦ absurd (both_ways _ (v.2 less) f)
+                  | inr ge ↦ let q : i ≡ t = omega arith in absurd (both_ways _ h (subst (λ z. heads_matched sel (g z) ≡ true) q here))
                 ]),
               )
             ]

@@ -3,6 +3,8 @@ use Rattle.std.proofs.Common.{◌≡◌, ℕ, ◌+◌, ◌<◌, ◌≤◌, ℤ, 
 use Rattle.std.proofs.Common.{inl, inr, arith, ext_get_or}
 use Rattle.std.specs.List.{AllByRecursion}
 use Rattle.std.proofs.lemmas.Int.{ints}
+use Rattle.std.proofs.lemmas.Bool.{both_ways}
+use Rattle.ttx_page.proofs.SlotDistances.{cases_ltz}
 use Rattle.ttx_header.specs.Ids.{Id}
 use Rattle.ttx_page.specs.Packets.{packet_of}
 use Rattle.ttx_page.specs.Pages.{Page, IsPage, selected_mag, matches, needed, page_row, IsBlank}
@@ -17,7 +19,6 @@ use Rattle.ttx_page.specs.Streams.{Stream, heads, heads_page, heads_matched, end
 use Rattle.ttx_page.specs.Streams.{IsSureTransmission, AreSuccessive, IsSent}
 use Rattle.ttx_page.specs.Receptions.{IsRight, OneIs, Received}
 use Rattle.ttx_receiver.specs.Laws.{IsSteadyFrom, RunHoldsItsItem, HasHeaderBetween}
-use Rattle.ttx_receiver.proofs.Choices.{no_both}
 use Rattle.ttx_receiver.proofs.StepsOverPage.{Shape, shape_after}
 use Rattle.ttx_receiver.proofs.Runs.{packet_at, run_keeps}
 use Rattle.ttx_receiver.proofs.TakenItems.{IsSureAt, needed_row, row_held, links_held, head_held}
@@ -25,7 +26,6 @@ use Rattle.ttx_receiver.proofs.BlankItems.{blank_row_held, blank_links_held}
 use Rattle.ttx_receiver.proofs.ReceivedPackets.{LawsBelow, same_heads, same_matched, same_ends, same_links, head_received_at, row_received_at}
 use Rattle.ttx_receiver.proofs.ReceivedPage.{receives_page, page_matched, same_mag}
 use Rattle.ttx_receiver.proofs.SlotDistances.{offset, not_before, offset_lt, lt_offset, offset_same, late_offset, before_end, lt_le, le_le, le_self}
-use Rattle.ttx_receiver.proofs.SlotDistances.{cases_ltz}
 
 lt_is_le : (a b : ℤ) → a <ℤ b → a ≤ℤ b
 lt_is_le a b h = omega (arith, ints)
@@ -71,7 +71,7 @@ module _ (laws : LawsBelow) (s : Stream) (p : Page) (page : IsPage p) (sel : Sel
   -- a later transmission has no earlier owner
   later_owner : (mag : ℕ) (owner first h j : ℤ) → IsLatestHeader s mag owner first → IsLatestHeader s mag h j → first ≤ℤ j → owner ≤ℤ h
   later_owner mag owner first h j a b le = elim (cases_ltz h owner) as (λ _. owner ≤ℤ h)
-      [ inl lt ↦ absurd (no_both _ a.is_header (b.none_between owner lt (lt_le _ _ _ a.earlier le))) | inr ge ↦ ge ]
+      [ inl lt ↦ absurd (both_ways _ (b.none_between owner lt (lt_le _ _ _ a.earlier le)) a.is_header) | inr ge ↦ ge ]
 
   same_at : (t : ℕ) → t < length received → (mag : ℕ) → heads mag (packet_at received t) ≡ heads mag (packet_of (sent t))
   same_at t lt mag = same_heads laws (sent t) (got t) (steady.slots _ (not_before begin t)) (steady.clean _ (not_before begin t)) (permitted.each t lt) mag

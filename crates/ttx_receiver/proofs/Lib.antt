@@ -1,4 +1,4 @@
-mod Choices
+mod StoredRows
 mod StepsOverPage
 mod TakenAndKept
 mod ReceivedPackets

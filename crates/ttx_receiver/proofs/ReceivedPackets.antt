@@ -1,8 +1,9 @@
 -- What a receiver is given of the packets of a page, where each byte has at most one wrong bit.
 use Rattle.std.proofs.Common.{◌≡◌, ◌⊎◌, ℕ, ◌+◌, ◌%◌, ◌<◌, ◌≤◌, Bool, true, false, ◌==◌, List, [], None, length, get_or, take, drop, map, refl, sym}
 use Rattle.std.proofs.Common.{ap, ◌∙◌, subst, inl, inr, arith, eqb-true, length-drop, get_or-drop, get_or-take}
-use Rattle.std.proofs.lemmas.Bool.{cases_Bool, cond_both}
+use Rattle.std.proofs.lemmas.Bool.{cases_Bool, cond_both, both_ways, true_from_ne_false}
 use Rattle.std.proofs.lemmas.List.{get_or-map}
+use Rattle.std.proofs.lemmas.List.Folds.{list_all_at}
 use Rattle.ttx_code.specs.Words.{ones, Near, is_odd, odd_byte}
 use Rattle.ttx_code.specs.Laws.{OddBytesUnderOneWrongBit, OddBytesHoldTheirCodes}
 use Rattle.ttx_packet.specs.Slots.{IsSlot, Kind, IsEmpty, IsUnreadable, IsHeader, IsRow, IsLinks, IsInfo, IsOther, is_empty, kind_of, is_clean}
@@ -18,7 +19,6 @@ use Rattle.ttx_page.specs.declared.selection.Selection.{Selection}
 use Rattle.ttx_page.specs.declared.item.Item.TheVariants.{Row as TheRow, Links as TheLinks}
 use Rattle.ttx_page.specs.Streams.{heads, heads_matched, ends_serial, carries}
 use Rattle.ttx_page.specs.Steady.{HeadIsRight, RowIsRight, LinksAreRight}
-use Rattle.ttx_receiver.proofs.Choices.{no_both, list_all_at}
 use Rattle.ttx_receiver.proofs.StepsOverPage.{GoodText, IsHeadOf, IsRowOf, AreLinksOf}
 use Rattle.ttx_receiver.proofs.TakenAndKept.{IsRightAt, HeadRightAt, RowRightAt}
 
@@ -39,7 +39,7 @@ odd_code laws c h = (laws.codes c h).1
 
 -- a byte of odd parity that is received with odd parity is right
 near_odd : LawsBelow → (a b : ℕ) → a < 256 → b < 256 → is_odd a ≡ true → Near a b → is_odd b ≡ true → b ≡ a
-near_odd laws a b la lb oa near ob = elim (laws.odd a b la lb oa near) as (λ _. b ≡ a) [ inl same ↦ same | inr even ↦ absurd (no_both _ ob even) ]
+near_odd laws a b la lb oa near ob = elim (laws.odd a b la lb oa near) as (λ _. b ≡ a) [ inl same ↦ same | inr even ↦ absurd (both_ways _ even ob) ]
 
 -- a zero byte is of even parity
 even_zero : is_odd 0 ≡ false
@@ -110,10 +110,10 @@ of_slot laws slot = subst (IsOfSlot slot) (sym (packet_is slot)) (of_kind laws.n
 pub packet_empty : (slot : List ℕ) → is_empty slot ≡ true → packet_of slot ≡ Empty
 unfolding kind_of
 packet_empty slot e =
-    packet_is slot ∙ ap (packet_of_kind slot) (cond_both (is_empty slot) IsEmpty _ (λ k. k ≡ IsEmpty) (λ _. refl) (λ f. absurd (no_both _ e f)))
+    packet_is slot ∙ ap (packet_of_kind slot) (cond_both (is_empty slot) IsEmpty _ (λ k. k ≡ IsEmpty) (λ _. refl) (λ f. absurd (both_ways _ f e)))
 
 no_empty : (slot : List ℕ) (k : ℕ) → is_empty slot ≡ true → k < length slot → get_or slot k 0 ≡ 0
-no_empty slot k e lt = eqb-true _ 0 (list_all_at (λ b. b == 0) slot k e lt)
+no_empty slot k e lt = eqb-true _ 0 (true_from_ne_false _ (λ f. both_ways _ (list_all_at (λ b. b == 0) slot k 0 lt f) e))
 
 -- a row of which no byte was right, and which is received as an empty slot
 pub record IsLost (sent received : List ℕ) : Type 0 where
@@ -232,7 +232,7 @@ module _ (laws : LawsBelow) (sent received : List ℕ) (s : IsSlot sent) (clean 
   pub row_was_sent : (mag r : ℕ) → carries mag (TheRow r) (packet_of received) ≡ true → carries mag (TheRow r) (packet_of sent) ≡ true
   row_was_sent mag r c = elim (received_as laws sent received s clean h) as (λ _. carries mag (TheRow r) (packet_of sent) ≡ true) [
     | inl e ↦ sym (row_outline mag r (packet_of sent)) ∙ ap (carries mag (TheRow r)) (sym e) ∙ row_outline mag r (packet_of received) ∙ c
-    | inr l ↦ absurd (no_both _ (ap (carries mag (TheRow r)) (sym l.silent) ∙ c) refl)
+    | inr l ↦ absurd (both_ways _ refl (ap (carries mag (TheRow r)) (sym l.silent) ∙ c))
   ]
 
   -- bytes of odd parity are received right or of even parity
@@ -382,7 +382,7 @@ module _ (laws : LawsBelow) (sent received : List ℕ) (s : IsSlot sent) (clean 
       lost (Row mag number text) os right z =
           let zero_byte : get_or received (2 + c) 0 ≡ 0 = no_empty received (2 + c) z (omega (arith, h.slot.size)) in
           let o : is_odd (get_or sent (2 + c) 0) ≡ true = ap is_odd (sent_row p page r low high text right os.0 c lt) ∙ odd_is_odd laws _ ((page.rows r low high).codes c) in
-          no_both _ (sym (ap is_odd (sym same ∙ zero_byte)) ∙ o) even_zero
+          both_ways _ even_zero (sym (ap is_odd (sym same ∙ zero_byte)) ∙ o)
       lost (Header id control text) os right z = right
       lost (Links m content) os right z = right
       lost _ os right z = right

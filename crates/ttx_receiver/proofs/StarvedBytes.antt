@@ -2,13 +2,12 @@
 use Rattle.std.proofs.Common.{◌≡◌, ◌≢◌, ℕ, ◌^◌, ◌<◌, ◌≤◌, ◌&&◌, not, leb, Bool, true, false, ◌==◌, List, get_or, refl, sym, ◌∙◌, subst, inl, inr}
 use Rattle.std.proofs.Common.{arith, eqb-true, eq-eqb, leb-true, length-set, get_or-set_same, get_or-set_other}
 use Rattle.std.specs.Prelude.{bit_xor}
-use Rattle.std.proofs.lemmas.Bool.{agree_below, agree_below_at, cases_Bool, not-true, and_parts}
+use Rattle.std.proofs.lemmas.Bool.{agree_below, agree_below_at, cases_Bool, not-true, and_parts, both_ways}
 use Rattle.ttx_code.specs.Words.{Near, ones, distance, is_odd}
 use Rattle.ttx_packet.specs.Slots.{IsSlot}
 use Rattle.ttx_packet.specs.Receptions.{MayBeReceivedAs}
 use Rattle.ttx_page.specs.Packets.{Empty, packet_of}
 use Rattle.ttx_receiver.specs.Starving.{spoilt}
-use Rattle.ttx_receiver.proofs.Choices.{no_both}
 use Rattle.ttx_receiver.proofs.ReceivedPackets.{packet_empty}
 
 -- a byte with its lowest bit wrong is a byte, one bit from it, and of the other parity
@@ -48,7 +47,7 @@ module _ (slot : List ℕ) (s : IsSlot slot) where
   each_byte : (P : ℕ → ℕ → Type 0) (x : ℕ) → x < 42 → ((y : ℕ) → P y (get_or slot y 0)) → P x (bit_xor (get_or slot x 0) 1) → (y : ℕ) → P y (get_or (spoilt slot x) y 0)
   each_byte P x lt others flipped y = elim (cases_Bool (y == x)) as (λ _. P y (get_or (spoilt slot x) y 0)) [
     | inl e ↦ let same : y ≡ x = eqb-true y x e in subst (λ z. P z (get_or (spoilt slot x) z 0)) (sym same) (subst (P x) (sym (flipped_byte x lt)) flipped)
-    | inr e ↦ subst (P y) (sym (kept_byte x y (λ q. no_both _ (eq-eqb y x q) e))) (others y)
+    | inr e ↦ subst (P y) (sym (kept_byte x y (λ q. both_ways _ e (eq-eqb y x q)))) (others y)
   ]
 
   pub spoilt_slot : (x : ℕ) → x < 42 → IsSlot (spoilt slot x)

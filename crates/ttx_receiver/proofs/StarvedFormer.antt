@@ -1,14 +1,13 @@
 -- The former memory: a page's own, but for one character or one link.
 use Rattle.std.proofs.Common.{◌≡◌, ◌≢◌, ℕ, zero, suc, ◌+◌, ◌-◌, ◌<◌, true, false, ◌==◌, List, [], ◌∷◌, ◌++◌, get_or, set, replicate, refl, sym, ap}
 use Rattle.std.proofs.Common.{◌∙◌, subst, inl, inr, arith, eqb-true, eq-eqb, length-set, get_or-set_same, get_or-set_other, length-append}
-use Rattle.std.proofs.lemmas.Bool.{cases_Bool, cond_both}
+use Rattle.std.proofs.lemmas.Bool.{cases_Bool, cond_both, both_ways}
 use Rattle.ttx_page.specs.Pages.{Page, IsPage, IsRow, needed}
 use Rattle.ttx_page.specs.declared.item.Item.{Item}
 use Rattle.ttx_page.specs.declared.item.Item.TheVariants.{Head as TheHead, Row as TheRow, Links as TheLinks}
 use Rattle.ttx_page.specs.Memories.{Memory, IsMemory, memory_row, char_at, memory_of_page, Holds}
 use Rattle.ttx_page.specs.Laws.{PageIsShown}
 use Rattle.ttx_receiver.specs.Starving.{other_letter, with_letter, wrong_memory, HoldsWrong}
-use Rattle.ttx_receiver.proofs.Choices.{no_both}
 use Rattle.ttx_receiver.proofs.TakenItems.{needed_row}
 
 abbrev AreCodes : List ℕ → Type 0
@@ -60,7 +59,7 @@ module _ (m : Memory) (is : IsMemory m) (r c : ℕ) (low : r < 25) (col : c < 40
       | inl e ↦ let same : k ≡ c = eqb-true k c e in
           subst (λ x. get_or row x 0 < 128) (sym same)
           (subst (λ x. x < 128) (sym (get_or-set_same (get_or m.rows r []) c (other_letter (char_at m r c)) 0 (omega (arith, (is.rows r low).length)))) (letter_code (char_at m r c)))
-      | inr e ↦ subst (λ x. x < 128) (sym (get_or-set_other (get_or m.rows r []) c k (other_letter (char_at m r c)) 0 (λ q. no_both _ (eq-eqb k c q) e))) ((is.rows r low).codes k)
+      | inr e ↦ subst (λ x. x < 128) (sym (get_or-set_other (get_or m.rows r []) c k (other_letter (char_at m r c)) 0 (λ q. both_ways _ e (eq-eqb k c q)))) ((is.rows r low).codes k)
     ];
   }
 
@@ -69,7 +68,7 @@ module _ (m : Memory) (is : IsMemory m) (r c : ℕ) (low : r < 25) (col : c < 40
     row_count = length-set m.rows r row ∙ is.row_count;
     rows = λ n lt. elim (cases_Bool (n == r)) as (λ _. IsRow (memory_row (with_letter m r c) n)) [
       | inl e ↦ let same : n ≡ r = eqb-true n r e in subst (λ x. IsRow (memory_row (with_letter m r c) x)) (sym same) (subst IsRow (sym same_row) row_is)
-      | inr e ↦ subst IsRow (sym (other_row n (λ q. no_both _ (eq-eqb n r q) e))) (is.rows n lt)
+      | inr e ↦ subst IsRow (sym (other_row n (λ q. both_ways _ e (eq-eqb n r q)))) (is.rows n lt)
     ];
     control = is.control;
     at_most = is.at_most;

@@ -2,7 +2,7 @@
 use Rattle.std.proofs.Common.{◌≡◌, ◌⊎◌, ℕ, ◌<◌, ◌≤◌, ℤ, pos, ◌+ℤ◌, ◌<ℤ◌, ◌≤ℤ◌, true, false, List, [], ◌∷◌, length, get_or, refl, sym, ap, ◌∙◌, subst}
 use Rattle.std.proofs.Common.{inl, inr, arith, eqb-true}
 use Rattle.std.specs.List.{AllByRecursion}
-use Rattle.std.proofs.lemmas.Bool.{and_parts, cond_both}
+use Rattle.std.proofs.lemmas.Bool.{and_parts, cond_both, both_ways}
 use Rattle.ttx_header.specs.Ids.{Id}
 use Rattle.ttx_packet.specs.Receptions.{MayBeReceivedAs}
 use Rattle.ttx_page.specs.Packets.{Packet, Header, Row, Links, packet_of}
@@ -17,7 +17,6 @@ use Rattle.ttx_page.specs.Streams.{IsSent}
 use Rattle.ttx_page.specs.Receptions.{IsTextByte, IsRight, OneIs, Received}
 use Rattle.ttx_receiver.specs.Laws.{IsSteadyFrom}
 use Rattle.ttx_receiver.specs.Starving.{spoilt, takes, heard, starved_memory, starved_slots}
-use Rattle.ttx_receiver.proofs.Choices.{no_both}
 use Rattle.ttx_receiver.proofs.ReceivedPackets.{LawsBelow}
 use Rattle.ttx_receiver.proofs.SlotDistances.{offset, offset_lt}
 use Rattle.ttx_receiver.proofs.StarvedUnder.{IsTaken, length_slots, slot_at, may, taken_at}
@@ -25,21 +24,21 @@ use Rattle.ttx_receiver.proofs.StarvedUnder.{IsTaken, length_slots, slot_at, may
 -- a slot carries one item
 matched_no_row : (sel : Selection) (mag r : ℕ) (pkt : Packet) → heads_matched sel pkt ≡ true → carries mag (TheRow r) pkt ≡ false
 matched_no_row sel mag r (Header id control text) h = refl
-matched_no_row sel mag r (Row m n t) h = absurd (no_both false h refl)
+matched_no_row sel mag r (Row m n t) h = absurd (both_ways false refl h)
 matched_no_row sel mag r (Links m c) h = refl
 matched_no_row sel mag r _ h = refl
 
 row_no_header : (id : Id) (mag r : ℕ) (pkt : Packet) → carries mag (TheRow r) pkt ≡ true → heads_page id pkt ≡ false
-row_no_header id mag r (Header i control text) h = absurd (no_both false h refl)
+row_no_header id mag r (Header i control text) h = absurd (both_ways false refl h)
 row_no_header id mag r (Row m n t) h = refl
 row_no_header id mag r (Links m c) h = refl
 row_no_header id mag r _ h = refl
 
 one_row : (mag mag' r r' : ℕ) (pkt : Packet) → carries mag (TheRow r) pkt ≡ true → carries mag' (TheRow r') pkt ≡ true → r' ≡ r
 one_row mag mag' r r' (Row m n t) h k = sym (eqb-true n r' ((and_parts _ _ k).1)) ∙ eqb-true n r ((and_parts _ _ h).1)
-one_row mag mag' r r' (Header i control text) h k = absurd (no_both false h refl)
-one_row mag mag' r r' (Links m c) h k = absurd (no_both false h refl)
-one_row mag mag' r r' _ h k = absurd (no_both false h refl)
+one_row mag mag' r r' (Header i control text) h k = absurd (both_ways false refl h)
+one_row mag mag' r r' (Links m c) h k = absurd (both_ways false refl h)
+one_row mag mag' r r' _ h k = absurd (both_ways false refl h)
 
 all_sent : (s : Stream) (id : Id) (item : Item) (xs : List ℤ) → AreSuccessive s id item xs → AllByRecursion (IsTransmission s id item) xs
 all_sent s id item [] a = tt
@@ -88,9 +87,9 @@ module _ (laws : LawsBelow) (s : Stream) (p : Page) (sel : Selection) (fits : ma
           (get_or (heard lines sel i m (sent t)) x 0 ≡ get_or (sent t) x 0) ⊎ ((other ≡ i) × (takes lines sel i (older m) (packet_of (sent t)) ≡ true))
       go TheHead m TheHead text h owned = cond_both (takes lines sel TheHead (older m) (packet_of (sent t))) (spoilt (sent t) 10) (sent t) (λ y. (get_or y x 0 ≡ get_or (sent t) x 0) ⊎ ((TheHead ≡ TheHead) × (takes lines sel TheHead (older m) (packet_of (sent t)) ≡ true))) (λ e. inr (refl, e)) (λ _. inl refl)
       go TheHead m (TheRow r) text h owned = cond_both (takes lines sel TheHead (older m) (packet_of (sent t))) (spoilt (sent t) 10) (sent t) (λ y. (get_or y x 0 ≡ get_or (sent t) x 0) ⊎ ((TheRow r ≡ TheHead) × (takes lines sel TheHead (older m) (packet_of (sent t)) ≡ true)))
-          (λ e. absurd (no_both _ owned.2 (matched_no_row sel p.id.mag r (packet_of (sent t)) e))) (λ _. inl refl)
+          (λ e. absurd (both_ways _ (matched_no_row sel p.id.mag r (packet_of (sent t)) e) owned.2)) (λ _. inl refl)
       go (TheRow r) m TheHead text h owned = cond_both (takes lines sel (TheRow r) (older m) (packet_of (sent t))) (spoilt (sent t) 2) (sent t) (λ y. (get_or y x 0 ≡ get_or (sent t) x 0) ⊎ ((TheHead ≡ TheRow r) × (takes lines sel (TheRow r) (older m) (packet_of (sent t)) ≡ true)))
-          (λ e. absurd (no_both _ owned.1 (row_no_header p.id (selected_mag sel) r (packet_of (sent t)) ((and_parts _ _ e).0)))) (λ _. inl refl)
+          (λ e. absurd (both_ways _ (row_no_header p.id (selected_mag sel) r (packet_of (sent t)) ((and_parts _ _ e).0)) owned.1)) (λ _. inl refl)
       go (TheRow r) m (TheRow r') text h owned = cond_both (takes lines sel (TheRow r) (older m) (packet_of (sent t))) (spoilt (sent t) 2) (sent t) (λ y. (get_or y x 0 ≡ get_or (sent t) x 0) ⊎ ((TheRow r' ≡ TheRow r) × (takes lines sel (TheRow r) (older m) (packet_of (sent t)) ≡ true)))
           (λ e. inr (ap TheRow (one_row (selected_mag sel) p.id.mag r r' (packet_of (sent t)) ((and_parts _ _ e).0) owned.2), e)) (λ _. inl refl)
       go TheHead m TheLinks text h owned = absurd text

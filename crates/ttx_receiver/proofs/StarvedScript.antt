@@ -2,7 +2,7 @@
 use Rattle.std.proofs.Common.{◌≡◌, ℕ, zero, suc, ◌+◌, ◌<◌, ℤ, pos, ◌+ℤ◌, Bool, true, false, List, [], ◌∷◌, ◌++◌, length, get_or, refl, sym, ap, ◌∙◌}
 use Rattle.std.proofs.Common.{subst, inl, inr, arith, length-append, append_assoc}
 use Rattle.std.specs.List.{Contains}
-use Rattle.std.proofs.lemmas.Bool.{cases_lt, cases_Bool, cond_both}
+use Rattle.std.proofs.lemmas.Bool.{cases_lt, cases_Bool, cond_both, both_ways}
 use Rattle.std.proofs.lemmas.List.{get_or_append_left, append-nil}
 use Rattle.std.proofs.Math.Seq.{get_or-append_seam}
 use Rattle.std.proofs.lemmas.List.Elements.{Contains-get_or, Contains-append_left, Contains-append_right, Contains-append_cases}
@@ -18,7 +18,6 @@ use Rattle.ttx_page.specs.Streams.{Stream}
 use Rattle.ttx_page.specs.Laws.{ChoicesAreChoices}
 use Rattle.ttx_receiver.specs.Starving.{spoilt, takes, heard, is_received_wrong, first_byte, starved_memory, starved_slots, starved_hits, starved_choices}
 use Rattle.ttx_receiver.specs.Starving.{StarvedIsScripted}
-use Rattle.ttx_receiver.proofs.Choices.{no_both}
 use Rattle.ttx_receiver.proofs.ReceivedPackets.{packet_empty}
 use Rattle.ttx_receiver.proofs.StarvedUnder.{slot_at, takes_something}
 
@@ -43,18 +42,18 @@ module _ (lines : ℕ) (sel : Selection) where
 hit_heard : (lines : ℕ) (sel : Selection) (item : Item) (m : Memory) (slot : List ℕ) → is_received_wrong lines sel item m slot ≡ true →
     (heard lines sel item m slot ≡ spoilt slot (first_byte item)) × (is_empty slot ≡ false)
 hit_heard lines sel TheHead m slot h = (
-  cond_both (takes lines sel TheHead (older m) (packet_of slot)) (spoilt slot 10) slot (λ y. y ≡ spoilt slot 10) (λ _. refl) (λ e. absurd (no_both _ h e)),
+  cond_both (takes lines sel TheHead (older m) (packet_of slot)) (spoilt slot 10) slot (λ y. y ≡ spoilt slot 10) (λ _. refl) (λ e. absurd (both_ways _ e h)),
   elim (cases_Bool (is_empty slot)) as (λ _. is_empty slot ≡ false) [ inl e ↦ absurd (takes_something lines sel TheHead (older m) (packet_of slot) h (packet_empty slot e)) | inr e ↦ e ],
 )
 hit_heard lines sel (TheRow r) m slot h = (
-  cond_both (takes lines sel (TheRow r) (older m) (packet_of slot)) (spoilt slot 2) slot (λ y. y ≡ spoilt slot 2) (λ _. refl) (λ e. absurd (no_both _ h e)),
+  cond_both (takes lines sel (TheRow r) (older m) (packet_of slot)) (spoilt slot 2) slot (λ y. y ≡ spoilt slot 2) (λ _. refl) (λ e. absurd (both_ways _ e h)),
   elim (cases_Bool (is_empty slot)) as (λ _. is_empty slot ≡ false) [ inl e ↦ absurd (takes_something lines sel (TheRow r) (older m) (packet_of slot) h (packet_empty slot e)) | inr e ↦ e ],
 )
-hit_heard lines sel TheLinks m slot h = absurd (no_both false h refl)
+hit_heard lines sel TheLinks m slot h = absurd (both_ways false refl h)
 
 unhit_heard : (lines : ℕ) (sel : Selection) (item : Item) (m : Memory) (slot : List ℕ) → is_received_wrong lines sel item m slot ≡ false → heard lines sel item m slot ≡ slot
-unhit_heard lines sel TheHead m slot h = cond_both (takes lines sel TheHead (older m) (packet_of slot)) (spoilt slot 10) slot (λ y. y ≡ slot) (λ e. absurd (no_both _ e h)) (λ _. refl)
-unhit_heard lines sel (TheRow r) m slot h = cond_both (takes lines sel (TheRow r) (older m) (packet_of slot)) (spoilt slot 2) slot (λ y. y ≡ slot) (λ e. absurd (no_both _ e h)) (λ _. refl)
+unhit_heard lines sel TheHead m slot h = cond_both (takes lines sel TheHead (older m) (packet_of slot)) (spoilt slot 10) slot (λ y. y ≡ slot) (λ e. absurd (both_ways _ h e)) (λ _. refl)
+unhit_heard lines sel (TheRow r) m slot h = cond_both (takes lines sel (TheRow r) (older m) (packet_of slot)) (spoilt slot 2) slot (λ y. y ≡ slot) (λ e. absurd (both_ways _ h e)) (λ _. refl)
 unhit_heard lines sel TheLinks m slot h = refl
 
 only_one : (n a : ℕ) → Contains (n ∷ []) a → n ≡ a
@@ -113,7 +112,7 @@ module _ (lines : ℕ) (sel : Selection) (item : Item) (s : Stream) (tau : ℤ) 
       ])
       (λ e. elim (cases_lt t n) as (λ _. Contains (hits n) t) [
         | inl less ↦ hits_have n t less h
-        | inr ge ↦ let same : t ≡ n = omega arith in absurd (no_both _ (subst (λ x. hit_at x ≡ true) same h) e)
+        | inr ge ↦ let same : t ≡ n = omega arith in absurd (both_ways _ e (subst (λ x. hit_at x ≡ true) same h))
       ])
 
   hits_rise : (n i j : ℕ) → i < j → j < length (hits n) → get_or (hits n) i 0 < get_or (hits n) j 0

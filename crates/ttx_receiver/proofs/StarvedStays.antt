@@ -1,7 +1,7 @@
 -- Where an item never comes by an all-sure run, a receiver that takes all its choices keeps it wrong, and all else right.
-use Rattle.std.proofs.Common.{◌≡◌, ◌≢◌, ℕ, zero, suc, ◌+◌, ◌<◌, ◌≤◌, ℤ, pos, ◌+ℤ◌, Bool, true, false, if◌then◌else◌, List, [], length, get_or, refl}
+use Rattle.std.proofs.Common.{◌≡◌, ◌≢◌, ℕ, zero, suc, ◌+◌, ◌<◌, ◌≤◌, ℤ, pos, ◌+ℤ◌, true, false, List, [], length, get_or, refl}
 use Rattle.std.proofs.Common.{sym, ap, ◌∙◌, subst, arith, ext_get_or, get_or-drop}
-use Rattle.std.proofs.lemmas.Bool.{and_from, and_parts}
+use Rattle.std.proofs.lemmas.Bool.{and_from, and_parts, both_ways, cond-true}
 use Rattle.ttx_code.specs.Words.{is_odd}
 use Rattle.ttx_packet.specs.Slots.{IsSlot}
 use Rattle.ttx_page.specs.Packets.{Packet, Header, Row, Links, packet_of}
@@ -19,7 +19,6 @@ use Rattle.ttx_page.specs.Laws.{PageIsShown, RunsGoOn}
 use Rattle.ttx_receiver.specs.Laws.{IsSteadyFrom}
 use Rattle.ttx_receiver.specs.Starving.{spoilt, is_bound, takes, heard, starved_memory, starved_slots, wrong_memory, HoldsWrong, IsStarved}
 use Rattle.ttx_receiver.specs.Starving.{StarvedStaysWrong}
-use Rattle.ttx_receiver.proofs.Choices.{no_both}
 use Rattle.ttx_receiver.proofs.StepsOverPage.{Shape, shape_after}
 use Rattle.ttx_receiver.proofs.TakenAndKept.{HeadRightAt, RowRightAt, keep_row, keep_head, keep_links}
 use Rattle.ttx_receiver.proofs.Runs.{packet_at, IsTuned, ReceivesPage, tuned_next}
@@ -33,20 +32,16 @@ use Rattle.ttx_receiver.proofs.StarvedUnder.{IsTaken, memory_begins, memory_next
 use Rattle.ttx_receiver.proofs.StarvedReceived.{permitted}
 use Rattle.ttx_receiver.proofs.StarvedFormer.{wrong_is_memory, wrong_is_idle, wrong_is_wrong, others_are_right}
 
-if_true : {A : Type 0} (b : Bool) (x y : A) → b ≡ true → (if b then x else y) ≡ x
-if_true true x y e = refl
-if_true false x y e = cc
-
 -- the first byte of a header's or a row's text
 row_even : (slot : List ℕ) (pkt : Packet) → IsOfSlot slot pkt → (mag r : ℕ) → carries mag (TheRow r) pkt ≡ true → is_odd (get_or slot 2 0) ≡ false → IsFirstEven pkt
 row_even slot (Row m n text) o mag r h even = ap (λ x. is_odd (get_or x 0 0)) o.0 ∙ ap is_odd (get_or-drop 2 slot 0 0) ∙ even
-row_even slot (Header id control text) o mag r h even = absurd (no_both false h refl)
+row_even slot (Header id control text) o mag r h even = absurd (both_ways false refl h)
 row_even slot (Links m c) o mag r h even = tt
 row_even slot _ o mag r h even = tt
 
 head_even : (slot : List ℕ) (pkt : Packet) → IsOfSlot slot pkt → (sel : Selection) → heads_matched sel pkt ≡ true → is_odd (get_or slot 10 0) ≡ false → IsFirstEven pkt
 head_even slot (Header id control text) o sel h even = ap (λ x. is_odd (get_or x 0 0)) o ∙ ap is_odd (get_or-drop 10 slot 0 0) ∙ even
-head_even slot (Row m n text) o sel h even = absurd (no_both false h refl)
+head_even slot (Row m n text) o sel h even = absurd (both_ways false refl h)
 head_even slot (Links m c) o sel h even = tt
 head_even slot _ o sel h even = tt
 
@@ -144,7 +139,7 @@ module _ (all : StarvingLaws) (s : Stream) (p : Page) (page : IsPage p) (sel : S
       let right = (row_received_at laws (sent t) (sent t) (slots_are t) (steady.clean _ (not_before tau t)) (received_as_sent (sent t) (slots_are t)) p page r range.0 range.1 own 0 (omega arith) refl).0 in
       let odd : is_odd (get_or (sent t) 2 0) ≡ true = row_odd (sent t) (packet_of (sent t)) (of_slot laws (sent t)) p r right in
       let now : hears t ≡ spoilt (sent t) 2 =
-      ap (λ i. heard lines sel i m (sent t)) is ∙ if_true (takes lines sel (TheRow r) (older m) (packet_of (sent t))) (spoilt (sent t) 2) (sent t) was' in
+      ap (λ i. heard lines sel i m (sent t)) is ∙ cond-true (takes lines sel (TheRow r) (older m) (packet_of (sent t))) (spoilt (sent t) 2) (sent t) was' in
       row_even (hears t) (packet_of (hears t)) (of_slot laws (hears t)) (selected_mag sel) r carried
       (ap (λ x. is_odd (get_or x 2 0)) now ∙ ap is_odd (flipped_byte (sent t) (slots_are t) 2 (omega arith)) ∙ flip_even (get_or (sent t) 2 0) ((slots_are t).bytes 2) odd)
 
@@ -158,7 +153,7 @@ module _ (all : StarvingLaws) (s : Stream) (p : Page) (page : IsPage p) (sel : S
       let right = head_received_at laws (sent t) (sent t) (slots_are t) (steady.clean _ (not_before tau t)) (received_as_sent (sent t) (slots_are t)) p page own 0 (omega arith) refl in
       let odd : is_odd (get_or (sent t) 10 0) ≡ true = head_odd (sent t) (packet_of (sent t)) (of_slot laws (sent t)) p right in
       let now : hears t ≡ spoilt (sent t) 10 =
-      ap (λ i. heard lines sel i m (sent t)) is ∙ if_true (takes lines sel TheHead (older m) (packet_of (sent t))) (spoilt (sent t) 10) (sent t) was in
+      ap (λ i. heard lines sel i m (sent t)) is ∙ cond-true (takes lines sel TheHead (older m) (packet_of (sent t))) (spoilt (sent t) 10) (sent t) was in
       head_even (hears t) (packet_of (hears t)) (of_slot laws (hears t)) sel h
       (ap (λ x. is_odd (get_or x 10 0)) now ∙ ap is_odd (flipped_byte (sent t) (slots_are t) 10 (omega arith)) ∙ flip_even (get_or (sent t) 10 0) ((slots_are t).bytes 10) odd)
 
@@ -190,7 +185,7 @@ module _ (all : StarvingLaws) (s : Stream) (p : Page) (page : IsPage p) (sel : S
   begins : IsLed 0 (mem 0)
   begins = subst (IsLed 0) (sym (memory_begins lines sel item s tau former)) (record {
     shape = let is = wrong_is_memory p page item need in record { count = is.row_count; width = λ r lt. (is.rows r lt).length };
-    tuned = let i = wrong_is_idle p item in record { settled = i.1; control = i.2; owned = λ st. absurd (no_both _ st i.0) };
+    tuned = let i = wrong_is_idle p item in record { settled = i.1; control = i.2; owned = λ st. absurd (both_ways _ i.0 st) };
     others = λ other ne need'. each_from p former other (others_are_right all.shown p page item need other ne need');
     wrong = wrong_is_wrong all.shown p page item need;
   })

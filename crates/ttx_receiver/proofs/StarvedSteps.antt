@@ -2,7 +2,7 @@
 use Rattle.std.proofs.Common.{◌≡◌, ◌≢◌, ◌⊎◌, ℕ, ◌-◌, ◌<◌, ◌≤◌, Bool, true, false, not, ◌&&◌, ◌==◌, List, [], ◌++◌, Some, None, length, get_or, take}
 use Rattle.std.proofs.Common.{drop, set, refl, sym, ap, ◌∙◌, subst, inl, inr, arith, eqb-true, eq-eqb, nat_le, get_or-set_same, get_or-set_other}
 use Rattle.std.proofs.Common.{length-drop, get_or-drop}
-use Rattle.std.proofs.lemmas.Bool.{and_from, cases_Bool, and_parts, cond_both}
+use Rattle.std.proofs.lemmas.Bool.{and_from, cases_Bool, and_parts, cond_both, both_ways}
 use Rattle.ttx_code.specs.Words.{is_odd}
 use Rattle.ttx_header.specs.Control.{c4, c11}
 use Rattle.ttx_page.specs.Packets.{Packet, Header, Row, Links}
@@ -14,7 +14,7 @@ use Rattle.ttx_page.specs.Memories.{Memory, char_at}
 use Rattle.ttx_page.specs.Receivers.{stored_row, with_row, with_storing, erased, begun, with_links, erases, misses, after}
 use Rattle.ttx_page.specs.Streams.{heads, heads_matched, ends_serial, carries}
 use Rattle.ttx_receiver.specs.Starving.{is_bound, takes}
-use Rattle.ttx_receiver.proofs.Choices.{no_both, stored_row_at}
+use Rattle.ttx_receiver.proofs.StoredRows.{stored_row_at}
 use Rattle.ttx_receiver.proofs.StepsOverPage.{Shape, IsHeadOf, erased_first, shape_erased}
 use Rattle.ttx_receiver.proofs.TakenAndKept.{erases_not, head_char}
 
@@ -27,7 +27,7 @@ IsFirstEven _ = Unit {0}
 
 even_kept : (row text : List ℕ) → 0 < length row → is_odd (get_or text 0 0) ≡ false → get_or (stored_row row text) 0 0 ≡ get_or row 0 0
 even_kept row text lt even = elim (stored_row_at row text 0 lt) as (λ _. get_or (stored_row row text) 0 0 ≡ get_or row 0 0)
-    [ inl e ↦ e | inr t ↦ absurd (no_both _ t.good even) ]
+    [ inl e ↦ e | inr t ↦ absurd (both_ways _ even t.good) ]
 
 and_false : (a b : Bool) → a ≡ true → (a && b) ≡ false → b ≡ false
 and_false true b h k = k
@@ -49,9 +49,9 @@ module _ (lines : ℕ) (sel : Selection) where
       cond_both (matches sel id) _ _ (λ (new : Memory). new.storing ≡ true → StoresSince m new sel (Header id control text))
       (λ e _. inl (e, refl))
       (λ _. cond_both (id.mag == selected_mag sel) _ _ (λ (new : Memory). new.storing ≡ true → StoresSince m new sel (Header id control text))
-      (λ _ h. absurd (no_both false h refl))
+      (λ _ h. absurd (both_ways false refl h))
       (λ e. cond_both (c11 control && true) (with_storing m false) m (λ (new : Memory). new.storing ≡ true → StoresSince m new sel (Header id control text))
-      (λ _ h. absurd (no_both false h refl))
+      (λ _ h. absurd (both_ways false refl h))
       (λ k h. inr (record { was = h; no_header = e; no_end = no_taint (id.mag == selected_mag sel) (c11 control) k; same_age = refl })))) st
     where
       no_taint : (a b : Bool) → (b && true) ≡ false → (not a && b) ≡ false
@@ -87,7 +87,7 @@ module _ (lines : ℕ) (sel : Selection) where
       let k : c4 control ≡ false = ap c4 (hh e).0 ∙ k4 in
       let ne : r ≢ 0 = omega arith in
       cond_both {A = Memory} (erases Any true m control) (erased m) m (λ x. P (begun x control text))
-      (λ q. absurd (no_both _ q (erases_not Any true m control k f)))
+      (λ q. absurd (both_ways _ (erases_not Any true m control k f) q))
       (λ _. ap (λ row. get_or row 0 0) (get_or-set_other m.rows 0 r _ [] ne)))
       (λ _. cond_both {A = Memory} (id.mag == selected_mag sel) _ _ P (λ _. refl)
       (λ _. cond_both {A = Memory} (c11 control && true) (with_storing m false) m P (λ _. refl) (λ _. refl)))
@@ -104,7 +104,7 @@ module _ (lines : ℕ) (sel : Selection) where
             (ap (λ z. get_or z 0 0) (get_or-set_same m.rows number row [] lt)
             ∙ even_kept (get_or m.rows number []) text w (even (taken_is m mag r number e q)))
         | inr q ↦
-            let ne : r ≢ number = λ z. no_both _ (eq-eqb number r (sym z)) q in
+            let ne : r ≢ number = λ z. both_ways _ q (eq-eqb number r (sym z)) in
             ap (λ z. get_or z 0 0) (get_or-set_other m.rows number r row [] ne)
       ])
       (λ _. refl)
@@ -139,7 +139,7 @@ module _ (lines : ℕ) (sel : Selection) where
       let row = stored_row (get_or m.rows number []) text in
       cond_both {A = Memory} (taken_by m mag) (with_row m number row) m P
       (λ e.
-      let ne : 0 ≢ number = λ z. no_both _ (and_from _ _ ((and_parts _ _ (and_parts _ _ e).0).0) (eq-eqb number 0 (sym z))) none in
+      let ne : 0 ≢ number = λ z. both_ways _ none (and_from _ _ ((and_parts _ _ (and_parts _ _ e).0).0) (eq-eqb number 0 (sym z))) in
       ap (λ z. get_or z 8 0) (get_or-set_other m.rows number 0 row [] ne))
       (λ _. refl)
   wrong_head m (Links mag None) s even none =
@@ -157,7 +157,7 @@ module _ (lines : ℕ) (sel : Selection) where
       (λ e.
       let k : c4 control ≡ false = ap c4 (hh e).0 ∙ k4 in
       cond_both {A = Memory} (erases Any true m control) (erased m) m (λ x. P (begun x control text))
-      (λ q. absurd (no_both _ q (erases_not Any true m control k f))) (λ _. refl))
+      (λ q. absurd (both_ways _ (erases_not Any true m control k f) q)) (λ _. refl))
       (λ _. cond_both {A = Memory} (id.mag == selected_mag sel) _ _ P (λ _. refl)
       (λ _. cond_both {A = Memory} (c11 control && true) (with_storing m false) m P (λ _. refl) (λ _. refl)))
   wrong_links p k4 m (Row mag number text) f hh none =

@@ -2,7 +2,7 @@
 use Rattle.std.proofs.Common.{◌≡◌, ℕ, zero, suc, ◌+◌, ◌-◌, ◌<◌, ◌≤◌, min, ℤ, pos, ◌+ℤ◌, ◌<ℤ◌, ◌≤ℤ◌, Bool, true, false, ◌&&◌, List, [], ◌∷◌, ◌++◌}
 use Rattle.std.proofs.Common.{length, get_or, refl, sym, ap, ◌∙◌, subst, inl, inr, arith, nat_le, length-append}
 use Rattle.std.proofs.lemmas.Int.{ints}
-use Rattle.std.proofs.lemmas.Bool.{cases_lt, leb-false, not-true, and_parts, cond_both}
+use Rattle.std.proofs.lemmas.Bool.{cases_lt, leb-false, not-true, and_parts, cond_both, both_ways}
 use Rattle.std.proofs.lemmas.List.{get_or_append_left, get_or-append-add}
 use Rattle.ttx_packet.specs.Slots.{IsSlot}
 use Rattle.ttx_packet.specs.Receptions.{MayBeReceivedAs}
@@ -17,7 +17,6 @@ use Rattle.ttx_page.specs.Receivers.{older, after}
 use Rattle.ttx_page.specs.Streams.{Stream, heads, heads_page, heads_matched, ends_serial, carries, IsLatestHeader, IsOwned, IsSure, CannotBeMissed}
 use Rattle.ttx_receiver.specs.Laws.{IsSteadyFrom}
 use Rattle.ttx_receiver.specs.Starving.{spoilt, is_bound, takes, heard, starved_memory, starved_slots}
-use Rattle.ttx_receiver.proofs.Choices.{no_both}
 use Rattle.ttx_receiver.proofs.ReceivedPackets.{LawsBelow, same_heads, same_matched, same_ends}
 use Rattle.ttx_receiver.proofs.ReceivedPage.{page_heads, same_mag}
 use Rattle.ttx_receiver.proofs.SlotDistances.{offset, not_before, offset_lt, lt_offset}
@@ -71,9 +70,9 @@ and_no true b h k = cc
 and_no false b h k = cc
 
 pub takes_something : (lines : ℕ) (sel : Selection) (item : Item) (m : Memory) (pkt : Packet) → takes lines sel item m pkt ≡ true → pkt ≡ Empty → ⊥
-takes_something lines sel TheHead m pkt h e = no_both _ (subst (λ x. heads_matched sel x ≡ true) e h) refl
-takes_something lines sel (TheRow r) m pkt h e = no_both _ (subst (λ x. (carries (selected_mag sel) (TheRow r) x && is_bound lines m) ≡ true) e h) refl
-takes_something lines sel TheLinks m pkt h e = no_both _ (subst (λ x. (carries (selected_mag sel) TheLinks x && is_bound lines m) ≡ true) e h) refl
+takes_something lines sel TheHead m pkt h e = both_ways _ refl (subst (λ x. heads_matched sel x ≡ true) e h)
+takes_something lines sel (TheRow r) m pkt h e = both_ways _ refl (subst (λ x. (carries (selected_mag sel) (TheRow r) x && is_bound lines m) ≡ true) e h)
+takes_something lines sel TheLinks m pkt h e = both_ways _ refl (subst (λ x. (carries (selected_mag sel) TheLinks x && is_bound lines m) ≡ true) e h)
 
 -- what is heard may be received
 pub heard_received : (lines : ℕ) (sel : Selection) (item : Item) (m : Memory) (slot : List ℕ) → IsSlot slot → MayBeReceivedAs slot (heard lines sel item m slot)
@@ -133,7 +132,7 @@ module _ (laws : LawsBelow) (s : Stream) (p : Page) (sel : Selection) (fits : ma
   up_to P h t below here i low high = elim (cases_lt i t) as (λ _. P i) [ inl lt ↦ below i low lt | inr ge ↦ let e : t ≡ i = omega arith in subst P e here ]
 
   under : (t : ℕ) → (mem t).storing ≡ true → IsUnder t (mem t)
-  under zero st = absurd (no_both _ st (ap (λ m. m.storing) (memory_begins lines sel item s tau former) ∙ idle))
+  under zero st = absurd (both_ways _ (ap (λ m. m.storing) (memory_begins lines sel item s tau former) ∙ idle) st)
   under (suc t) st = subst (IsUnder (suc t)) (sym next) (elim (stores_since lines sel (older (mem t)) (packet_of (hears t)) st') as (λ _. IsUnder (suc t) new) [
     | inl here ↦ record {
       header = t;

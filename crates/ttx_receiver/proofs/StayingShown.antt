@@ -3,6 +3,7 @@ use Rattle.std.proofs.Common.{◌≡◌, ℕ, zero, suc, ◌+◌, ◌%◌, ◌<�
 use Rattle.std.proofs.Common.{refl, sym, ap, ◌∙◌, subst, arith, get_or-take}
 use Rattle.std.proofs.lemmas.Int.{ints}
 use Rattle.std.proofs.lemmas.List.{get_or-map}
+use Rattle.std.proofs.lemmas.Bool.{both_ways}
 use Rattle.ttx_code.specs.Words.{odd_byte}
 use Rattle.ttx_page.specs.Packets.{Packet, Header, Row, Links, packet_of}
 use Rattle.ttx_page.specs.Pages.{Page, IsPage, selected_mag, matches, needed, page_row}
@@ -16,7 +17,6 @@ use Rattle.ttx_page.specs.Streams.{Stream, heads, heads_page, heads_matched, car
 use Rattle.ttx_page.specs.Steady.{HeadIsRight, RowIsRight, LinksAreRight}
 use Rattle.ttx_page.specs.Laws.{sent_from}
 use Rattle.ttx_receiver.specs.Staying.{SendsOnly, ShownStaysShown}
-use Rattle.ttx_receiver.proofs.Choices.{no_both}
 use Rattle.ttx_receiver.proofs.StepsOverPage.{Shape, GoodText, IsHeadOf, IsRowOf, AreLinksOf, shape_after}
 use Rattle.ttx_receiver.proofs.TakenAndKept.{keep_row, keep_head, keep_links}
 use Rattle.ttx_receiver.proofs.Runs.{packet_at, run_keeps, IsOwnedAt, ReceivesPage, IsTuned, tuned_next}
@@ -144,7 +144,7 @@ module _ (laws : LawsBelow) (s : Stream) (p : Page) (page : IsPage p) (sel : Sel
   begins : (former : Memory) → IsMemory former → former.storing ≡ false → former.fresh ≡ false → Shows p former → IsShowing 0 former
   begins former known off settled shows = record {
     shape = record { count = known.row_count; width = λ r lt. (known.rows r lt).length };
-    tuned = record { settled = settled; control = shows.control; owned = λ st. absurd (no_both _ st off) };
+    tuned = record { settled = settled; control = shows.control; owned = λ st. absurd (both_ways _ off st) };
     items = λ item need. each_from p former item (shows.items item need);
   }
 

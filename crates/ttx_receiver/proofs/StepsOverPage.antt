@@ -2,8 +2,9 @@
 use Rattle.std.proofs.Common.{◌≡◌, ◌⊎◌, ℕ, zero, suc, ◌%◌, ◌<◌, Bool, true, false, not, ◌&&◌, ◌==◌, ◌≢◌, List, [], ◌∷◌, ◌++◌, Some, None, length}
 use Rattle.std.proofs.Common.{get_or, take, drop, set, replicate, refl, sym, ap, ◌∙◌, subst, inl, inr, arith, eqb-true, eq-eqb, length-set}
 use Rattle.std.proofs.Common.{get_or-set_same, get_or-set_other, length-append, length-take-le, length-drop}
-use Rattle.std.proofs.lemmas.Bool.{cases_lt, and_from, cases_Bool, not_from_false, and_parts, cond_both}
+use Rattle.std.proofs.lemmas.Bool.{cases_lt, and_from, cases_Bool, not_from_false, and_parts, cond_both, both_ways}
 use Rattle.std.proofs.lemmas.List.{get_or-replicate}
+use Rattle.ttx_page.proofs.Decisions.{eq_sym}
 use Rattle.ttx_code.specs.Words.{is_odd}
 use Rattle.ttx_header.specs.Ids.{Id}
 use Rattle.ttx_page.specs.Packets.{Packet, Empty, Unreadable, Header, Row, Links}
@@ -15,7 +16,7 @@ use Rattle.ttx_header.specs.Control.{c11}
 use Rattle.ttx_page.specs.Memories.{Memory}
 use Rattle.ttx_page.specs.Receivers.{stored_row, with_row, with_storing, erased, begun, with_links, erases, misses, after}
 use Rattle.ttx_page.specs.Streams.{heads, heads_matched, ends_serial}
-use Rattle.ttx_receiver.proofs.Choices.{no_both, eq_sym, length-stored_row}
+use Rattle.ttx_receiver.proofs.StoredRows.{length-stored_row}
 
 matches_mag : (sel : Selection) (id : Id) → matches sel id ≡ true → (id.mag == selected_mag sel) ≡ true
 matches_mag (Exact own) id h = eq_sym own.mag id.mag ((and_parts _ _ (and_parts _ _ h).0).0)
@@ -60,7 +61,7 @@ shape_set rows n row w k f r h = elim (cases_Bool (r == n)) as (λ _. length (ge
   | inl e ↦ let same : r ≡ n = eqb-true r n e in
       let lt : n < length rows = omega arith in
       subst (λ x. length (get_or (set rows n row) x []) ≡ 40) (sym same) (ap length (get_or-set_same rows n row [] lt) ∙ w)
-  | inr e ↦ let ne : r ≢ n = λ q. no_both (r == n) (eq-eqb r n q) e in
+  | inr e ↦ let ne : r ≢ n = λ q. both_ways (r == n) e (eq-eqb r n q) in
       ap length (get_or-set_other rows n r row [] ne) ∙ f r h
 ]
 
@@ -133,8 +134,8 @@ module _ (class : Class) (lines : ℕ) (sel : Selection) where
   after_storing choice m (Header id control text) st =
       cond_both (matches sel id) _ _ (λ (new : Memory). new.storing ≡ true → (matches sel id ≡ true) ⊎ ((m.storing ≡ true) × ((id.mag == selected_mag sel) ≡ false)))
       (λ e _. inl e)
-      (λ _. cond_both (id.mag == selected_mag sel) _ _ (λ (new : Memory). new.storing ≡ true → (matches sel id ≡ true) ⊎ ((m.storing ≡ true) × ((id.mag == selected_mag sel) ≡ false))) (λ _ h. absurd (no_both false h refl))
-      (λ e. cond_both (c11 control && choice) (with_storing m false) m (λ (new : Memory). new.storing ≡ true → (matches sel id ≡ true) ⊎ ((m.storing ≡ true) × ((id.mag == selected_mag sel) ≡ false))) (λ _ h. absurd (no_both false h refl)) (λ _ h. inr (h, e)))) st
+      (λ _. cond_both (id.mag == selected_mag sel) _ _ (λ (new : Memory). new.storing ≡ true → (matches sel id ≡ true) ⊎ ((m.storing ≡ true) × ((id.mag == selected_mag sel) ≡ false))) (λ _ h. absurd (both_ways false refl h))
+      (λ e. cond_both (c11 control && choice) (with_storing m false) m (λ (new : Memory). new.storing ≡ true → (matches sel id ≡ true) ⊎ ((m.storing ≡ true) × ((id.mag == selected_mag sel) ≡ false))) (λ _ h. absurd (both_ways false refl h)) (λ _ h. inr (h, e)))) st
   after_storing choice m (Row mag number text) st =
       cond_both ((mag == selected_mag sel) && m.storing && not (misses lines choice m)) (with_row m number (stored_row (get_or m.rows number []) text)) m (λ (new : Memory). new.storing ≡ true → (false ≡ true) ⊎ ((m.storing ≡ true) × (false ≡ false))) (λ _ h. inr (h, refl)) (λ _ h. inr (h, refl)) st
   after_storing choice m (Links mag None) st =
@@ -148,11 +149,11 @@ module _ (class : Class) (lines : ℕ) (sel : Selection) where
       m.storing ≡ true → ((after class lines sel choice m pkt).storing ≡ true) × ((after class lines sel choice m pkt).age ≡ m.age)
   after_ready choice m (Header id control text) other on st =
       cond_both (matches sel id) _ _ (λ (new : Memory). (new.storing ≡ true) × (new.age ≡ m.age))
-      (λ e. absurd (no_both _ (matches_mag sel id e) other))
+      (λ e. absurd (both_ways _ other (matches_mag sel id e)))
       (λ _. cond_both (id.mag == selected_mag sel) _ _ (λ (new : Memory). (new.storing ≡ true) × (new.age ≡ m.age))
-      (λ e. absurd (no_both _ e other))
+      (λ e. absurd (both_ways _ other e))
       (λ e. cond_both (c11 control && choice) (with_storing m false) m (λ (new : Memory). (new.storing ≡ true) × (new.age ≡ m.age))
-      (λ c. absurd (no_both _ (and_from _ _ (not_from_false _ e) ((and_parts _ _ c).0)) on)) (λ _. (st, refl))))
+      (λ c. absurd (both_ways _ on (and_from _ _ (not_from_false _ e) ((and_parts _ _ c).0)))) (λ _. (st, refl))))
   after_ready choice m (Row mag number text) other on st =
       cond_both ((mag == selected_mag sel) && m.storing && not (misses lines choice m)) (with_row m number (stored_row (get_or m.rows number []) text)) m (λ (new : Memory). (new.storing ≡ true) × (new.age ≡ m.age)) (λ _. (st, refl)) (λ _. (st, refl))
   after_ready choice m (Links mag None) other on st =
@@ -168,12 +169,12 @@ module _ (class : Class) (lines : ℕ) (sel : Selection) (p : Page) where
       (new.storing ≡ true) × (new.age ≡ 0) × (new.fresh ≡ false) × (new.control ≡ p.control)
   after_begin choice m (Header id control text) h r =
       cond_both (matches sel id) _ _ (λ (new : Memory). (new.storing ≡ true) × (new.age ≡ 0) × (new.fresh ≡ false) × (new.control ≡ p.control))
-      (λ e. (refl, refl, refl, r.0)) (λ e. absurd (no_both (matches sel id) h e))
-  after_begin choice m Empty h r = absurd (no_both false h refl)
-  after_begin choice m Unreadable h r = absurd (no_both false h refl)
-  after_begin choice m (Row mag number text) h r = absurd (no_both false h refl)
-  after_begin choice m (Links mag content) h r = absurd (no_both false h refl)
-  after_begin choice m _ h r = absurd (no_both false h refl)
+      (λ e. (refl, refl, refl, r.0)) (λ e. absurd (both_ways (matches sel id) e h))
+  after_begin choice m Empty h r = absurd (both_ways false refl h)
+  after_begin choice m Unreadable h r = absurd (both_ways false refl h)
+  after_begin choice m (Row mag number text) h r = absurd (both_ways false refl h)
+  after_begin choice m (Links mag content) h r = absurd (both_ways false refl h)
+  after_begin choice m _ h r = absurd (both_ways false refl h)
 
   -- a receiver that isn't fresh keeps the page's control bits
   pub after_settled : (choice : Bool) (m : Memory) (pkt : Packet) → (heads_matched sel pkt ≡ true → IsHeadOf p pkt) →

@@ -2,7 +2,7 @@
 use Rattle.std.proofs.Common.{◌≡◌, ◌≢◌, ℕ, ◌+◌, ◌-◌, ◌%◌, ◌<◌, ◌≤◌, Bool, true, false, not, ◌&&◌, ◌==◌, List, [], ◌++◌, Some, None, length, get_or}
 use Rattle.std.proofs.Common.{take, drop, set, refl, sym, ap, ◌∙◌, subst, inl, inr, arith, eqb-true, eq-eqb, nat_le, get_or-set_same}
 use Rattle.std.proofs.Common.{get_or-set_other, length-take-le, length-drop, get_or-drop, get_or-append-add}
-use Rattle.std.proofs.lemmas.Bool.{and_from, cases_Bool, not_from_false, or_from, and_parts, cond_both}
+use Rattle.std.proofs.lemmas.Bool.{and_from, cases_Bool, not_from_false, or_from, and_parts, cond_both, both_ways, lt-leb}
 use Rattle.ttx_code.specs.Words.{is_odd}
 use Rattle.ttx_page.specs.Packets.{Packet, Empty, Unreadable, Header, Row, Links}
 use Rattle.ttx_page.specs.Pages.{Page, selected_mag, matches, page_row}
@@ -14,7 +14,7 @@ use Rattle.ttx_header.specs.Control.{c4, c11}
 use Rattle.ttx_page.specs.Memories.{Memory, char_at}
 use Rattle.ttx_page.specs.Receivers.{stored_row, with_row, with_storing, erased, begun, with_links, erases, misses, after}
 use Rattle.ttx_page.specs.Streams.{heads_matched, carries}
-use Rattle.ttx_receiver.proofs.Choices.{no_both, gt_not_le, stored_row_at, stored_row_good}
+use Rattle.ttx_receiver.proofs.StoredRows.{stored_row_at, stored_row_good}
 use Rattle.ttx_receiver.proofs.StepsOverPage.{Shape, GoodText, IsHeadOf, IsRowOf, AreLinksOf, erased_first, shape_erased}
 
 pub erases_not : (class : Class) (choice : Bool) (m : Memory) (control : ℕ) → c4 control ≡ false → m.fresh ≡ false → erases class choice m control ≡ false
@@ -69,7 +69,7 @@ module _ (class : Class) (lines : ℕ) (sel : Selection) (p : Page) where
       let k : c4 control ≡ false = ap c4 (hh e).0 ∙ k4 in
       let ne : r ≢ 0 = omega arith in
       cond_both {A = Memory} (erases class choice m control) (erased m) m (λ x. P (begun x control text))
-      (λ q. absurd (no_both _ q (erases_not class choice m control k f)))
+      (λ q. absurd (both_ways _ (erases_not class choice m control k f) q))
       (λ _. ap (λ row. get_or row c 0) (get_or-set_other m.rows 0 r _ [] ne) ∙ was))
       (λ _. cond_both {A = Memory} (id.mag == selected_mag sel) _ _ P (λ _. was)
       (λ _. cond_both {A = Memory} (c11 control && choice) (with_storing m false) m P (λ _. was) (λ _. was)))
@@ -87,7 +87,7 @@ module _ (class : Class) (lines : ℕ) (sel : Selection) (p : Page) where
             ∙ kept_char (get_or m.rows number []) text (page_row p r) c 40 (s.width number (omega arith)) col good
             (subst (λ x. get_or (get_or m.rows x []) c 0 ≡ get_or (page_row p r) c 0) same was))
         | inr q ↦
-            let ne : r ≢ number = λ z. no_both _ (eq-eqb number r (sym z)) q in
+            let ne : r ≢ number = λ z. both_ways _ q (eq-eqb number r (sym z)) in
             ap (λ z. get_or z c 0) (get_or-set_other m.rows number r row [] ne) ∙ was
       ])
       (λ _. was)
@@ -126,7 +126,7 @@ module _ (class : Class) (lines : ℕ) (sel : Selection) (p : Page) where
       let row = stored_row (get_or m.rows number []) text in
       cond_both {A = Memory} (takes choice m mag) (with_row m number row) m P
       (λ e.
-      let ne : 0 ≢ number = λ z. no_both _ (and_from _ _ ((and_parts _ _ (and_parts _ _ e).0).0) (eq-eqb number 0 (sym z))) none in
+      let ne : 0 ≢ number = λ z. both_ways _ none (and_from _ _ ((and_parts _ _ (and_parts _ _ e).0).0) (eq-eqb number 0 (sym z))) in
       ap (λ z. get_or z (8 + c) 0) (get_or-set_other m.rows number 0 row [] ne) ∙ was)
       (λ _. was)
   keep_head c col choice m (Links mag None) s hh none was =
@@ -145,7 +145,7 @@ module _ (class : Class) (lines : ℕ) (sel : Selection) (p : Page) where
       (λ e.
       let k : c4 control ≡ false = ap c4 (hh e).0 ∙ k4 in
       cond_both {A = Memory} (erases class choice m control) (erased m) m (λ x. P (begun x control text))
-      (λ q. absurd (no_both _ q (erases_not class choice m control k f))) (λ _. was))
+      (λ q. absurd (both_ways _ (erases_not class choice m control k f) q)) (λ _. was))
       (λ _. cond_both {A = Memory} (id.mag == selected_mag sel) _ _ P (λ _. was)
       (λ _. cond_both {A = Memory} (c11 control && choice) (with_storing m false) m P (λ _. was) (λ _. was)))
   keep_links k4 choice m (Row mag number text) f hh hl was =
@@ -162,7 +162,7 @@ module _ (class : Class) (lines : ℕ) (sel : Selection) (p : Page) where
       and_from _ _ (and_from _ _ here st) (not_from_false _ (misses_not choice))
     where
       misses_not : (choice : Bool) → (choice && nat_le m.age lines) ≡ false
-      misses_not true = gt_not_le m.age lines old
+      misses_not true = lt-leb m.age lines old
       misses_not false = refl
 
   -- a byte that is received right is stored_row
@@ -176,7 +176,7 @@ module _ (class : Class) (lines : ℕ) (sel : Selection) (p : Page) where
       (λ _. subst (λ x. get_or (get_or (set m.rows number row) x []) c 0 ≡ get_or (page_row p r) c 0) same
       (ap (λ z. get_or z c 0) (get_or-set_same m.rows number row [] lt)
       ∙ stored_row_good (get_or m.rows number []) text c (omega (arith, s.width number (omega arith))) right.within right.good ∙ right.right))
-      (λ e. absurd (no_both _ (ready_takes choice m mag st old ((and_parts _ _ here).0)) e))
+      (λ e. absurd (both_ways _ e (ready_takes choice m mag st old ((and_parts _ _ here).0))))
   take_row r c high col choice m (Links mag content) s st old here right = absurd right
   take_row r c high col choice m (Header id control text) s st old here right = absurd right
   take_row r c high col choice m _ s st old here right = absurd right
@@ -186,10 +186,10 @@ module _ (class : Class) (lines : ℕ) (sel : Selection) (p : Page) where
   take_links choice m (Links mag None) st old here right = cc
   take_links choice m (Links mag (Some content)) st old here right =
       cond_both {A = Memory} (takes choice m mag) (with_links m (Some content)) m (λ new. new.links ≡ p.links)
-      (λ _. cc) (λ e. absurd (no_both _ (ready_takes choice m mag st old here) e))
-  take_links choice m (Row mag number text) st old here right = absurd (no_both _ here refl)
-  take_links choice m (Header id control text) st old here right = absurd (no_both _ here refl)
-  take_links choice m _ st old here right = absurd (no_both _ here refl)
+      (λ _. cc) (λ e. absurd (both_ways _ e (ready_takes choice m mag st old here)))
+  take_links choice m (Row mag number text) st old here right = absurd (both_ways _ refl here)
+  take_links choice m (Header id control text) st old here right = absurd (both_ways _ refl here)
+  take_links choice m _ st old here right = absurd (both_ways _ refl here)
 
   pub take_head : (c : ℕ) → c < 24 → (choice : Bool) (m : Memory) (pkt : Packet) → Shape m → heads_matched sel pkt ≡ true → HeadRightAt p c pkt →
       char_at (after class lines sel choice m pkt) 0 (8 + c) ≡ get_or p.head c 0
@@ -197,7 +197,7 @@ module _ (class : Class) (lines : ℕ) (sel : Selection) (p : Page) where
       cond_both {A = Memory} (matches sel id) _ _ (λ new. char_at new 0 (8 + c) ≡ get_or p.head c 0)
       (λ e. cond_both {A = Memory} (erases class choice m control) (erased m) m (λ x. char_at (begun x control text) 0 (8 + c) ≡ get_or p.head c 0)
       (λ _. begun_takes (erased m) control text (shape_erased m s) right) (λ _. begun_takes m control text s right))
-      (λ e. absurd (no_both _ here e))
+      (λ e. absurd (both_ways _ e here))
     where
       begun_takes : (m : Memory) (control : ℕ) (text : List ℕ) → Shape m → IsRightAt p.head text c → char_at (begun m control text) 0 (8 + c) ≡ get_or p.head c 0
       begun_takes m control text s right =

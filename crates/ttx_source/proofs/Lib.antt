@@ -1,7 +1,7 @@
-pub mod Sequences
-pub mod Plain
-pub mod RowTable
-pub mod RowValues
-pub mod LinkArray
-pub mod PageList
-pub mod PageArray
+mod Sequences
+mod Plain
+mod RowTable
+mod RowValues
+mod LinkArray
+mod PageList
+mod PageArray

@@ -1,11 +1,11 @@
-pub mod ReadHeaders
+mod ReadHeaders
 mod FieldLines
 mod Heard
 mod FoundNothing
 mod TwoInputs
 mod FreshUntilHeader
-pub mod SameInputs
-pub mod PlannedFiles
+mod SameInputs
+mod PlannedFiles
 mod TooLong
 mod ThreeInputs
 mod ServiceIds

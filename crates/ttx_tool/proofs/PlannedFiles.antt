@@ -2,7 +2,8 @@
 use Rattle.std.proofs.Common.{◌≡◌, ◌∙◌, ℕ, pos, ◌≤◌, List, [], Option, Some, None, Ok, refl, sym, ap, subst}
 use Rattle.std.specs.Prelude.{IfSome}
 use Rattle.std.specs.Io.KnownBytes.{Appends}
-use Rattle.ttx_certify.specs.CertifyingFiles.{IsPacketFile, IsServiceText, IsCertificateText}
+use Rattle.ttx_cycle.specs.Files.{IsPacketFile}
+use Rattle.ttx_certify.specs.CertifyingFiles.{IsServiceText, IsCertificateText}
 use Rattle.ttx_certify.specs.Verdicts.{IsVerdict}
 use Rattle.ttx_certify.specs.declared.verdict.Verdict.{Verdict}
 use Rattle.ttx_certify.specs.declared.verdict.Verdict.TheVariants.{Yes, No}

@@ -10,7 +10,8 @@
 use Rattle.std.specs.Prelude.{◌≡◌, ◌⊎◌, ℕ, Bool, false, List, [], ◌∷◌, ◌++◌, length, codes, string_bytes, ⊤, Option, Result, Ok, Err}
 use Rattle.std.specs.Fmt.{decimal}
 use Rattle.std.specs.Io.KnownBytes.{Keeps}
-use Rattle.ttx_certify.specs.CertifyingFiles.{IsPacketFile, IsServiceText}
+use Rattle.ttx_cycle.specs.Files.{IsPacketFile}
+use Rattle.ttx_certify.specs.CertifyingFiles.{IsServiceText}
 use Rattle.ttx_cycle.specs.Counts.{HasRisen}
 use Rattle.ttx_cycle.specs.Reading.{Judged}
 use Rattle.ttx_cycle.specs.declared.faults.CycleFault.TheVariants as cycle

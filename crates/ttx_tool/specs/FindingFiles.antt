@@ -10,7 +10,8 @@
 use Rattle.std.specs.Prelude.{◌≡◌, ℕ, List, [], ◌∷◌, ◌++◌, length, codes, string_bytes, ⊤, Option, Some, None, Result, Ok, Err}
 use Rattle.std.specs.Fmt.{decimal}
 use Rattle.std.specs.Io.KnownBytes.{Keeps}
-use Rattle.ttx_certify.specs.CertifyingFiles.{IsPacketFile, IsServiceText}
+use Rattle.ttx_cycle.specs.Files.{IsPacketFile}
+use Rattle.ttx_certify.specs.CertifyingFiles.{IsServiceText}
 use Rattle.ttx_certify.specs.VerdictLines.{verdict_line}
 use Rattle.ttx_certify.specs.Verdicts.{IsVerdict}
 use Rattle.ttx_certify.specs.declared.verdict.Verdict.{Verdict}

@@ -4,7 +4,7 @@
 --   CountsInspect    faults of devices are answered only where they were counted
 use Rattle.std.specs.Prelude.{ℕ, ◌<◌, List, length, take, ⊤, Option, Result, Ok, Err}
 use Rattle.std.specs.Io.KnownBytes.{Appends, Keeps}
-use Rattle.ttx_certify.specs.CertifyingFiles.{IsPacketFile}
+use Rattle.ttx_cycle.specs.Files.{IsPacketFile}
 use Rattle.ttx_cycle.specs.Counts.{HasRisen}
 use Rattle.ttx_cycle.specs.Reading.{Judged}
 use Rattle.ttx_cycle.specs.declared.faults.CycleFault.TheVariants as cycle

@@ -5,7 +5,7 @@
 --   Receives                what was written at each answer
 use Rattle.std.specs.Prelude.{◌≡◌, ℕ, ◌<◌, pos, List, length, take, Option, Result, Ok, Err}
 use Rattle.std.specs.Io.KnownBytes.{Appends, Keeps}
-use Rattle.ttx_certify.specs.CertifyingFiles.{IsPacketFile}
+use Rattle.ttx_cycle.specs.Files.{IsPacketFile}
 use Rattle.ttx_cycle.specs.Reading.{Judged}
 use Rattle.ttx_page.specs.Laws.{sent_from}
 use Rattle.ttx_page.specs.Memories.{Memory}

@@ -8,7 +8,8 @@
 --   CountsCounter, CountsReplayInputs, CountsReplay        faults of devices are answered only where they were counted
 use Rattle.std.specs.Prelude.{◌≡◌, ◌⊎◌, ℕ, ◌<◌, ◌≤◌, List, [], ◌∷◌, ◌++◌, length, take, codes, string_bytes, ⊤, Option, Result, Ok, Err}
 use Rattle.std.specs.Io.KnownBytes.{Appends, Keeps}
-use Rattle.ttx_certify.specs.CertifyingFiles.{IsPacketFile, IsServiceText}
+use Rattle.ttx_cycle.specs.Files.{IsPacketFile}
+use Rattle.ttx_certify.specs.CertifyingFiles.{IsServiceText}
 use Rattle.ttx_cycle.specs.Bounded.{most_bytes}
 use Rattle.ttx_counter.specs.CounterReading.{read_counter_text}
 use Rattle.ttx_counter.specs.Counters.{CounterRun, counter_run_of, IsCounterRun}

@@ -4,8 +4,7 @@
 --   Sends                   what was written at each answer
 use Rattle.std.specs.Prelude.{ℕ, ◌<◌, List, length, take, Option, Result, Ok, Err}
 use Rattle.std.specs.Io.KnownBytes.{Appends, Keeps}
-use Rattle.ttx_certify.specs.CertifyingFiles.{IsPacketFile}
-use Rattle.ttx_cycle.specs.Files.{file_of}
+use Rattle.ttx_cycle.specs.Files.{file_of, IsPacketFile}
 use Rattle.ttx_cycle.specs.Reading.{Judged}
 use Rattle.ttx_send.specs.Airing.{broadcast_of, sent_slots}
 use Rattle.ttx_send.specs.Times.{Moment}

@@ -8,7 +8,7 @@
 use Rattle.std.specs.Prelude.{◌≡◌, ℕ, ◌<◌, pos, Bool, not, ◌&&◌, if◌then◌else◌, List, [], ◌∷◌, ◌++◌, length, take, codes, Option, Result, Ok, Err}
 use Rattle.std.specs.Io.KnownBytes.{Appends, Keeps}
 use Rattle.std.specs.List.{list_any}
-use Rattle.ttx_certify.specs.CertifyingFiles.{IsPacketFile}
+use Rattle.ttx_cycle.specs.Files.{IsPacketFile}
 use Rattle.ttx_cycle.specs.Reading.{Judged}
 use Rattle.ttx_page.specs.Laws.{sent_from}
 use Rattle.ttx_page.specs.Memories.{Memory}

@@ -1,4 +1,4 @@
-pub mod Choices
+pub mod WholeNumbers
 pub mod ChangedPlaces
 pub mod runs
 pub mod sent

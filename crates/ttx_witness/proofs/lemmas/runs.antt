@@ -1,7 +1,4 @@
-pub mod Windows
-pub mod AllBetween
 pub mod Rounds
-pub mod StreamRuns
 pub mod OneMore
 pub mod AfterThePeriod
 pub mod EveryPeriod

@@ -1,18 +1,18 @@
 use Rattle.std.proofs.Common.{◌≡◌, ◌↔◌, true, refl}
+use Rattle.std.proofs.lemmas.Bool.{both_ways}
 use Rattle.ttx_page.specs.Streams.{repeated}
 use Rattle.ttx_page.specs.Views.{page_of}
 use Rattle.ttx_cycle.specs.Cycles.{slots_of, slots_of-IsCycle}
 use Rattle.ttx_counter.specs.Counters.{counter_run_of}
 use Rattle.ttx_counter.specs.Checking.{IsJudgedWithin, IsRefuting}
-use Rattle.ttx_counter.proofs.StreaksBelowK.{no_both}
 use Rattle.ttx_counter.proofs.SortedHits.{keys_are}
 use Rattle.ttx_counter.proofs.CheckIsExact.{refuting_apart, decided_within, on_ok}
 use Rattle.ttx_counter.proofs.checking.check_keys.Goals as goal
 
 pub returns-then-not-are_apart : goal.returns-then-not-are_apart
 returns-then-not-are_apart c = (
-  (λ f. absurd (no_both _ f refl)),
-  (λ r. absurd (no_both _ (c.are_apart.ensures.1 (refuting_apart c.each_byte_is_near_itself.ensures c.each_slot_turns.ensures (slots_of c.args.cycle.now) (slots_of-IsCycle c.args.cycle.now) (page_of c.args.page.now) (counter_run_of c.args.counter.now) c.args.keys.now c.requires.all c.requires.same r)) c.if-not-are_apart.true)),
+  (λ f. absurd (both_ways _ refl f)),
+  (λ r. absurd (both_ways _ c.if-not-are_apart.true (c.are_apart.ensures.1 (refuting_apart c.each_byte_is_near_itself.ensures c.each_slot_turns.ensures (slots_of c.args.cycle.now) (slots_of-IsCycle c.args.cycle.now) (page_of c.args.page.now) (counter_run_of c.args.counter.now) c.args.keys.now c.requires.all c.requires.same r)))),
 )
 
 pub ends_wrong-requires-clause-keys : goal.ends_wrong-requires-clause-keys

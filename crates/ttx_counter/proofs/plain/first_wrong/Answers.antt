@@ -1,5 +1,5 @@
 use Rattle.std.proofs.Common.{◌≡◌, ◌↔◌, ◌∙◌, ◌+◌, ◌%◌, ◌<◌, pos, true, false, [], length, get_or, inl, inr, ap, sym, subst, arith}
-use Rattle.std.proofs.lemmas.Bool.{cases_lt}
+use Rattle.std.proofs.lemmas.Bool.{cases_lt, both_ways}
 use Rattle.ttx_cycle.specs.Cycles.{slots_of}
 use Rattle.ttx_page.specs.Streams.{repeated}
 use Rattle.ttx_certify.specs.Seen.{HasView}
@@ -8,7 +8,6 @@ use Rattle.ttx_render.specs.Comparison.{SameButClock}
 use Rattle.ttx_render.specs.View.{view_of}
 use Rattle.ttx_counter.specs.Sources.{IsWrongAfter, takes_from}
 use Rattle.ttx_page.specs.Packets.{packet_of}
-use Rattle.ttx_counter.proofs.StreaksBelowK.{no_both}
 use Rattle.ttx_counter.proofs.SentRows.{slot_at}
 use Rattle.ttx_counter.proofs.PlainRuns.{plain_step}
 use Rattle.ttx_counter.proofs.NotTakenIsKept.{unseen}
@@ -52,7 +51,7 @@ loop-n-preserved c =
               | inr ge ↦
                   let e : k ≡ c.loop-n.n = omega arith in
                   let wrong' = subst (λ z. IsWrongAfter x p old.lines old.selection former z) e wrong in
-                  no_both _ (i.wrong.1 (λ v. wrong' (subst (HasView p) w.0 (subst (λ o. SameButClock (view_of c.loop-n.receiver.memory) o) own_is v)))) c.if-wrong.false
+                  both_ways _ c.if-wrong.false (i.wrong.1 (λ v. wrong' (subst (HasView p) w.0 (subst (λ o. SameButClock (view_of c.loop-n.receiver.memory) o) own_is v))))
             ]),
           );
     }

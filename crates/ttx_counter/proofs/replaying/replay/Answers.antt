@@ -4,14 +4,14 @@ use Rattle.std.proofs.lemmas.Option.{slice_get_within}
 use Rattle.ttx_page.specs.Views.{page_of, memory_of}
 use Rattle.ttx_cycle.specs.Cycles.{slots_of, slots_of-IsCycle}
 use Rattle.std.specs.Prelude.{IsPermutation}
+use Rattle.std.proofs.lemmas.Bool.{both_ways}
 use Rattle.ttx_counter.specs.Counters.{counter_run_of}
 use Rattle.ttx_counter.specs.Keys.{hit_key}
-use Rattle.ttx_counter.proofs.StreaksBelowK.{no_both}
 use Rattle.ttx_counter.proofs.ReplayedMemory.{apart, each, replayed}
 use Rattle.ttx_counter.proofs.replaying.replay.Goals as goal
 
 pub returns-then-not-is : goal.returns-then-not-is
-returns-then-not-is c = λ is. no_both _ (c.in_ok-is.ensures.1 is) c.if-not-is.true
+returns-then-not-is c = λ is. both_ways _ c.if-not-is.true (c.in_ok-is.ensures.1 is)
 
 pub page_at-page-requires : goal.page_at-page-requires
 page_at-page-requires c =

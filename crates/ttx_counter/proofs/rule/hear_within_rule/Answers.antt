@@ -1,10 +1,10 @@
 use Rattle.std.proofs.Common.{◌≡◌, ◌↔◌, ◌+◌, pos, true, length, refl, sym, ap, subst, arith}
+use Rattle.std.proofs.lemmas.Bool.{both_ways}
 use Rattle.ttx_page.specs.Streams.{repeated}
 use Rattle.ttx_counter.specs.Keys.{is_hit}
 use Rattle.ttx_counter.specs.Listening.{HasOwner}
 use Rattle.ttx_counter.specs.Cells.{StreaksAfter, AreStreaks}
 use Rattle.ttx_counter.specs.Rule.{sends_row, KeepsRule}
-use Rattle.ttx_counter.proofs.StreaksBelowK.{no_both}
 use Rattle.ttx_counter.proofs.SentRows.{slot_at, mine_more, mine_begins}
 use Rattle.ttx_counter.proofs.KeyCursors.{cursor_begins, cursor_next}
 use Rattle.ttx_cycle.specs.Cycles.{slots_of}
@@ -61,7 +61,7 @@ returns-then-not-note-clause-kept c =
     let broken = subst (λ b. StreaksAfter b (sends_row c.args.page (repeated x) (pos c.args.run.now.start) c.is_owned-mine.result) (is_hit c.args.run.now.keys.now) c.args.repeat (c.loop-i.i + 1) c.note.new.streaks.latest.items c.note.new.streaks.cells.items)
     c.if-not-note.true (noted_here (goal.at.returns-then-not-note-clause-kept c).After-note) in
     let no_rule = breaks c.rows_are_numbered.ensures c.streaks_decide.ensures (repeated x) c.args.page c.args.run.now.start c.args.run.now.count c.args.repeat c.requires.some c.args.run.now.keys.now c.is_owned-mine.result owned (c.loop-i.i + 1) (omega arith) broken in
-    ((λ no_it. absurd (no_both _ no_it refl)), (λ rule. absurd (no_rule (subst (λ y. KeepsRule (repeated y) c.args.page c.args.run.now.start c.args.run.now.count c.args.repeat c.args.run.now.keys.now) (sym c.slots-slots.ensures.slots) rule))))
+    ((λ no_it. absurd (both_ways _ refl no_it)), (λ rule. absurd (no_rule (subst (λ y. KeepsRule (repeated y) c.args.page c.args.run.now.start c.args.run.now.count c.args.repeat c.args.run.now.keys.now) (sym c.slots-slots.ensures.slots) rule))))
 
 pub returns-clause-kept : goal.returns-clause-kept
 returns-clause-kept c =

@@ -1,8 +1,8 @@
 use Rattle.std.proofs.Common.{◌≡◌, ◌∙◌, pos, length, MatchOption, sym, subst, arith}
+use Rattle.std.proofs.lemmas.Bool.{both_ways}
 use Rattle.ttx_page.specs.Streams.{repeated}
 use Rattle.ttx_page.specs.Followers.{IsFollowed, IsFollowedByAnother}
 use Rattle.ttx_late.specs.Followed.{IsFollowedIn, IsGap}
-use Rattle.ttx_late.proofs.Tests.{no_both}
 use Rattle.ttx_late.proofs.FollowersOfCycles.{AreNear, IsLeast, next_near, near_in, least_in, not_followed, near_within}
 use Rattle.ttx_late.proofs.followers.gap_after.Goals as goal
 use Rattle.ttx_late.proofs.followers.gap_after.Goals.{then-heads_page+in-Some+then-distance-gap, then-heads_page+in-Some+else-distance-gap}
@@ -45,7 +45,7 @@ loop-at-preserved c =
       | else-heads_page w ↦
           let is = w.gap-is in
           record {
-            near = next_near slots page at c.loop-at.gap c.if-heads_page.gap (omega arith) near (λ head. absurd (no_both _ (c.heads_page.ensures ∙ head) w.if-heads_page.false));
+            near = next_near slots page at c.loop-at.gap c.if-heads_page.gap (omega arith) near (λ head. absurd (both_ways _ w.if-heads_page.false (c.heads_page.ensures ∙ head)));
             least = subst (IsLeast slots page) (sym is) least;
           }
     ]

@@ -1,9 +1,9 @@
 use Rattle.std.proofs.Common.{◌≤◌, length, map, sym, ◌∙◌, arith}
 use Rattle.std.proofs.lemmas.List.{length-map}
+use Rattle.std.proofs.lemmas.Bool.{both_ways}
 use Rattle.ttx_page.specs.Views.{page_of}
 use Rattle.ttx_certify.proofs.PageByPage.{page_at}
 use Rattle.ttx_late.proofs.FollowersOfCycles.{tested_is, tested_self, none_here, none_listed}
-use Rattle.ttx_late.proofs.Tests.{no_both}
 use Rattle.ttx_late.proofs.followers.place_of.Goals as goal
 
 pub returns-then-eq : goal.returns-then-eq
@@ -13,7 +13,7 @@ returns-then-eq c =
 pub loop-index-preserved : goal.loop-index-preserved
 loop-index-preserved c = record {
   none = none_here (map page_of c.args.pages.now) c.args.id c.loop-index.index c.loop-index.invariant.none (page_of c.index-pages-index.result)
-      (page_at c.args.pages.now c.loop-index.index c.index-pages-index.result c.loop-index-test.true c.index-pages-index.is) (λ e. no_both _ (c.eq.ensures ∙ tested_self c.id.result c.args.id (c.id.ensures ∙ e)) c.if-eq.false);
+      (page_at c.args.pages.now c.loop-index.index c.index-pages-index.result c.loop-index-test.true c.index-pages-index.is) (λ e. both_ways _ c.if-eq.false (c.eq.ensures ∙ tested_self c.id.result c.args.id (c.id.ensures ∙ e)));
 }
 
 pub returns : goal.returns

@@ -1,10 +1,11 @@
 -- The first of a period's transmissions that differs.
 use Rattle.std.proofs.Common.{◌≡◌, ◌↔◌, Bool, not, ◌==◌, IsTrue, ℕ, suc, ◌<◌, ◌≤◌, ℤ, pos, ◌+ℤ◌, ◌<ℤ◌, ◌≤ℤ◌, unsigned_abs, List, [], ◌∷◌, ◌++◌}
 use Rattle.std.proofs.Common.{length, take, drop, get_or, refl, sym, ◌∙◌, subst, inl, inr, arith, eqb-true}
-use Rattle.std.proofs.lemmas.Bool.{cases_Bool}
+use Rattle.std.proofs.lemmas.Bool.{cases_Bool, both_ways, not-true, not_from_false}
 use Rattle.std.specs.List.{AllByRecursion}
 use Rattle.std.proofs.lemmas.Int.{ints}
 use Rattle.std.proofs.Math.Seq.{split_at}
+use Rattle.ttx_page.proofs.SlotDistances.{cases_ltz}
 use Rattle.ttx_page.specs.Pages.{Page}
 use Rattle.ttx_page.specs.declared.item.Item.{Item}
 use Rattle.ttx_page.specs.declared.item.Item.TheVariants.{Head as TheHead}
@@ -17,7 +18,7 @@ use Rattle.ttx_witness.specs.sent.ItemTransmissions.{sent_in}
 use Rattle.ttx_witness.specs.declared.faults.comparing.Check.{Check}
 use Rattle.ttx_witness.specs.faults.Comparing.{compared_item, IsWrong, IsWrongIn, WrongAt}
 use Rattle.ttx_witness.specs.faults.Faults.{Never, IsFirstAt}
-use Rattle.ttx_witness.proofs.lemmas.Choices.{cases_ltz, no_both, not_true, not_false, abs_is}
+use Rattle.ttx_witness.proofs.lemmas.WholeNumbers.{abs_is}
 use Rattle.ttx_witness.proofs.lemmas.sent.CycleTransmissions.{sent_told}
 use Rattle.ttx_witness.proofs.lemmas.faults.OverOnePeriod.{slot_is, never_wrong, never_heads}
 
@@ -112,5 +113,5 @@ headers_sent cycle some page lines ts is = go ts (subst (AreSent (IsOwned (repea
     go (t ∷ us) l = ((λ lt. record { slot = t.slot; is_header = l.0.owned.1 }), (λ h. omega arith))
 
 pub by_length : {A : Type 0} (ts : List A) (P : Type 0) (b : Bool) → b ≡ (length ts == 0) → ((0 < length ts) ↔ P) → IsTrue (not b) ↔ P
-by_length [] P b e h = ((λ t. absurd (no_both b e (not_true b t))), (λ p. let y = h.1 p in absurd (omega arith)))
-by_length (t ∷ ts) P b e h = ((λ _. h.0 (omega arith)), (λ p. elim (cases_Bool b) as (λ _. IsTrue (not b)) [ inl t ↦ let z : suc (length ts) ≡ 0 = eqb-true (suc (length ts)) 0 (sym e ∙ t) in absurd (omega arith) | inr f ↦ not_false b f ]))
+by_length [] P b e h = ((λ t. absurd (both_ways b (not-true b t) e)), (λ p. let y = h.1 p in absurd (omega arith)))
+by_length (t ∷ ts) P b e h = ((λ _. h.0 (omega arith)), (λ p. elim (cases_Bool b) as (λ _. IsTrue (not b)) [ inl t ↦ let z : suc (length ts) ≡ 0 = eqb-true (suc (length ts)) 0 (sym e ∙ t) in absurd (omega arith) | inr f ↦ not_from_false b f ]))

@@ -1,5 +1,6 @@
 -- A page with a fault isn't steady.
 use Rattle.std.proofs.Common.{ℕ, pos, List, Some, None, refl}
+use Rattle.std.proofs.lemmas.Bool.{both_ways}
 use Rattle.ttx_page.specs.Pages.{Page}
 use Rattle.ttx_page.specs.Streams.{repeated}
 use Rattle.ttx_page.specs.Steady.{Steady}
@@ -7,11 +8,10 @@ use Rattle.ttx_witness.specs.faults.Faults.{IsPageFault, SteadyHasNoFault}
 use Rattle.ttx_witness.specs.declared.faults.reason.Reason.{Reason}
 use Rattle.ttx_witness.specs.declared.faults.reason.Reason.TheVariants.{BadSlot, NoHeader, OtherSubpage, Erased, HeadDiffers, RowDiffers, LinksDiffer}
 use Rattle.ttx_witness.specs.declared.faults.reason.Reason.TheVariants.{NoWitness, WitnessBad, Late, Unsteady, LateBlank}
-use Rattle.ttx_witness.proofs.lemmas.Choices.{no_both}
 
 not_steady : (cycle : List (List ℕ)) (pages : List Page) (p : Page) (reason : Reason) → IsPageFault cycle pages p (Some reason) → Steady (repeated cycle) pages p → ⊥
 not_steady cycle pages p (BadSlot slot) f y = f
-not_steady cycle pages p (NoHeader page) f y = no_both _ y.header.is_header (f.1 y.header.slot)
+not_steady cycle pages p (NoHeader page) f y = both_ways _ (f.1 y.header.slot) y.header.is_header
 not_steady cycle pages p (OtherSubpage page slot) f y = y.only_subpage (pos slot) f.2.here
 not_steady cycle pages p (Erased page slot) f y = y.not_erased (pos slot) f.3.here
 not_steady cycle pages p (HeadDiffers page slot) f y = y.head (pos slot) f.4.here

@@ -1,7 +1,7 @@
 -- Headers with another subcode than the one of their number are those of other subpages of pages that are alone.
 use Rattle.std.proofs.Common.{◌≡◌, ◌↔◌, ℕ, ◌+◌, ◌<◌, ◌≤◌, ℤ, pos, ◌+ℤ◌, ◌-ℤ◌, Bool, true, false, ◌&&◌, ◌==◌, List, length, get_or, slice_get}
 use Rattle.std.proofs.Common.{replicate, Option, Some, None, refl, sym, ap, ◌∙◌, subst, inl, inr, arith, eqb-true, eq-eqb}
-use Rattle.std.proofs.lemmas.Bool.{cases_lt, cases_Bool, and_from, and_parts, cond_both}
+use Rattle.std.proofs.lemmas.Bool.{cases_lt, cases_Bool, and_from, and_parts, cond_both, both_ways, not-true, not_from_false}
 use Rattle.std.proofs.lemmas.List.{get_or-replicate, get_or_past, length-replicate}
 use Rattle.std.proofs.lemmas.Option.{slice_get_within}
 use Rattle.ttx_header.specs.Ids.{Id, same_id}
@@ -14,17 +14,16 @@ use Rattle.ttx_witness.specs.faults.Faults.{TellsFirst}
 use Rattle.ttx_witness.specs.faults.OtherSubpages.{place, IsListed, AreSubcodes, is_other, heads_other, HeadsOtherAt, first_of, TellsBelow}
 use Rattle.ttx_witness.specs.declared.faults.subcodes.Subcodes.{Subcodes}
 use Rattle.ttx_witness.specs.declared.faults.subcodes.Subcodes.TheVariants.{Unlisted, One, Several}
-use Rattle.ttx_witness.proofs.lemmas.Choices.{no_both, not_true, not_false}
 use Rattle.ttx_witness.proofs.lemmas.faults.OverOnePeriod.{nowhere, one_more}
 use Rattle.ttx_witness.proofs.lemmas.sent.CycleTransmissions.{period_of}
 use Rattle.std.proofs.lemmas.Int.{ints}
 
 -- a header whose subcode isn't the page's
 unlike : (p : Page) (id : Id) → (p.id.mag == id.mag) && (p.id.page == id.page) ≡ true → same_id p.id id ≡ false → (p.id.sub == id.sub) ≡ false
-unlike p id a b = elim (cases_Bool (p.id.sub == id.sub)) as (λ _. (p.id.sub == id.sub) ≡ false) [ inl e ↦ absurd (no_both _ (and_from _ _ a e) b) | inr e ↦ e ]
+unlike p id a b = elim (cases_Bool (p.id.sub == id.sub)) as (λ _. (p.id.sub == id.sub) ≡ false) [ inl e ↦ absurd (both_ways _ b (and_from _ _ a e)) | inr e ↦ e ]
 
 differs : (p : Page) (id : Id) → (p.id.sub == id.sub) ≡ false → same_id p.id id ≡ false
-differs p id a = elim (cases_Bool (same_id p.id id)) as (λ _. same_id p.id id ≡ false) [ inl e ↦ absurd (no_both _ ((and_parts ((p.id.mag == id.mag) && (p.id.page == id.page)) _ e).1) a) | inr e ↦ e ]
+differs p id a = elim (cases_Bool (same_id p.id id)) as (λ _. same_id p.id id ≡ false) [ inl e ↦ absurd (both_ways _ a ((and_parts ((p.id.mag == id.mag) && (p.id.page == id.page)) _ e).1)) | inr e ↦ e ]
 
 module _ (pages : List Page) (p : Page) (n : ℕ) (at : slice_get pages n ≡ Some p) (inside : n < length pages) where
   listed : IsListed pages (length pages) p.id.mag p.id.page p
@@ -51,7 +50,7 @@ module _ (pages : List Page) (p : Page) (n : ℕ) (at : slice_get pages n ≡ So
           in_magazine = eqb-true _ _ ((and_parts _ _ a).0);
           numbered = eqb-true _ _ ((and_parts (q.id.mag == p.id.mag) _ a).1);
         } in
-        absurd (no_both _ (eq-eqb q.id.sub p.id.sub (all q l ∙ sym (all p listed))) (not_true _ ((and_parts ((q.id.mag == p.id.mag) && (q.id.page == p.id.page)) _ e).1)))
+        absurd (both_ways _ (not-true _ ((and_parts ((q.id.mag == p.id.mag) && (q.id.page == p.id.page)) _ e).1)) (eq-eqb q.id.sub p.id.sub (all q l ∙ sym (all p listed))))
     | inr e ↦ e
   ]
 
@@ -59,16 +58,16 @@ module _ (pages : List Page) (p : Page) (n : ℕ) (at : slice_get pages n ≡ So
   same_sub : IsAlone pages p → (q : Page) → IsListed pages (length pages) p.id.mag p.id.page q → q.id.sub ≡ p.id.sub
   same_sub alone q l = elim (cases_Bool (q.id.sub == p.id.sub)) as (λ _. q.id.sub ≡ p.id.sub) [
     | inl e ↦ eqb-true _ _ e
-    | inr e ↦ absurd (no_both _ (and_from _ _ (and_from _ _ (eq-eqb _ _ l.in_magazine) (eq-eqb _ _ l.numbered)) (not_false _ e)) (alone l.index q l.here))
+    | inr e ↦ absurd (both_ways _ (alone l.index q l.here) (and_from _ _ (and_from _ _ (eq-eqb _ _ l.in_magazine) (eq-eqb _ _ l.numbered)) (not_from_false _ e)))
   ]
 
   other_to : (t : Subcodes) → AreSubcodes pages (length pages) p.id.mag p.id.page t → (packet : Packet) → HeadsOther t packet → OtherPage packet
   other_to Unlisted a (Header id control text) h = absurd (a p listed)
   other_to (One sub) a (Header id control text) h =
       let m = (and_parts ((p.id.mag == id.mag) && (p.id.page == id.page)) _ h).0 in
-      let d : (sub == id.sub) ≡ false = not_true _ ((and_parts ((p.id.mag == id.mag) && (p.id.page == id.page)) _ h).1) in
+      let d : (sub == id.sub) ≡ false = not-true _ ((and_parts ((p.id.mag == id.mag) && (p.id.page == id.page)) _ h).1) in
       record { alone = alone_of sub a.1; number = m; other = differs p id (ap (λ x. x == id.sub) (a.1 p listed) ∙ d) }
-  other_to Several a (Header id control text) h = absurd (no_both _ ((and_parts ((p.id.mag == id.mag) && (p.id.page == id.page)) _ h).1) refl)
+  other_to Several a (Header id control text) h = absurd (both_ways _ refl ((and_parts ((p.id.mag == id.mag) && (p.id.page == id.page)) _ h).1))
   other_to t a Empty h = absurd h
   other_to t a Unreadable h = absurd h
   other_to t a (Row m r text) h = absurd h
@@ -78,24 +77,24 @@ module _ (pages : List Page) (p : Page) (n : ℕ) (at : slice_get pages n ≡ So
 
   other_from : (t : Subcodes) → AreSubcodes pages (length pages) p.id.mag p.id.page t → (packet : Packet) → OtherPage packet → HeadsOther t packet
   other_from Unlisted a (Header id control text) o = absurd (a p listed)
-  other_from (One sub) a (Header id control text) o = and_from _ _ o.number (not_false _ (ap (λ x. x == id.sub) (sym (a.1 p listed)) ∙ unlike p id o.number o.other))
+  other_from (One sub) a (Header id control text) o = and_from _ _ o.number (not_from_false _ (ap (λ x. x == id.sub) (sym (a.1 p listed)) ∙ unlike p id o.number o.other))
   other_from Several a (Header id control text) o = absurd (a.4 (same_sub o.alone a.0 a.2 ∙ sym (same_sub o.alone a.1 a.3)))
-  other_from t a Empty o = no_both _ o.number refl
-  other_from t a Unreadable o = no_both _ o.number refl
-  other_from t a (Row m r text) o = no_both _ o.number refl
-  other_from t a (Links m content) o = no_both _ o.number refl
-  other_from t a Info o = no_both _ o.number refl
-  other_from t a Other o = no_both _ o.number refl
+  other_from t a Empty o = both_ways _ refl o.number
+  other_from t a Unreadable o = both_ways _ refl o.number
+  other_from t a (Row m r text) o = both_ways _ refl o.number
+  other_from t a (Links m content) o = both_ways _ refl o.number
+  other_from t a Info o = both_ways _ refl o.number
+  other_from t a Other o = both_ways _ refl o.number
 
   module _ (table : List Subcodes) where
     to_other : (packet : Packet) → heads_other table p.id.mag p.id.page packet ≡ true → HeadsOther (get_or table (place p.id.mag p.id.page) Unlisted) packet
     to_other (Header id control text) h = h
-    to_other Empty h = no_both _ h refl
-    to_other Unreadable h = no_both _ h refl
-    to_other (Row m r text) h = no_both _ h refl
-    to_other (Links m content) h = no_both _ h refl
-    to_other Info h = no_both _ h refl
-    to_other Other h = no_both _ h refl
+    to_other Empty h = both_ways _ refl h
+    to_other Unreadable h = both_ways _ refl h
+    to_other (Row m r text) h = both_ways _ refl h
+    to_other (Links m content) h = both_ways _ refl h
+    to_other Info h = both_ways _ refl h
+    to_other Other h = both_ways _ refl h
 
     from_other : (packet : Packet) → HeadsOther (get_or table (place p.id.mag p.id.page) Unlisted) packet → heads_other table p.id.mag p.id.page packet ≡ true
     from_other (Header id control text) h = h
@@ -116,7 +115,7 @@ module _ (pages : List Page) (p : Page) (n : ℕ) (at : slice_get pages n ≡ So
 pub first_more : (P : ℤ → Type 0) (j : ℕ) (is : Bool) → ((is ≡ true) ↔ P (pos j)) → (o : Option ℕ) → TellsBelow P j o → TellsBelow P (j + 1) (first_of o is j)
 first_more P j is e None t = cond_both is (Some j) None (TellsBelow P (j + 1))
     (λ yes. (omega arith, e.0 yes, t))
-    (λ n. one_more (λ i. P (pos i)) j t (λ p. no_both _ (e.1 p) n))
+    (λ n. one_more (λ i. P (pos i)) j t (λ p. both_ways _ n (e.1 p)))
 first_more P j is e (Some i) t = (let l = t.0 in omega arith, t.1, t.2)
 
 pub first_none : (P : ℤ → Type 0) (first : List (Option ℕ)) → first ≡ replicate 2048 None → (k : ℕ) → TellsBelow P 0 (get_or first k None)

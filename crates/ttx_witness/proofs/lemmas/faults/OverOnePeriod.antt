@@ -2,7 +2,7 @@
 use Rattle.std.proofs.Common.{◌≡◌, ◌↔◌, ℕ, suc, ◌+◌, ◌<◌, ◌≤◌, ℤ, pos, ◌+ℤ◌, ◌-ℤ◌, ◌<ℤ◌, ◌≤ℤ◌, Bool, true, false, not, if◌then◌else◌, List, []}
 use Rattle.std.proofs.Common.{length, slice_index_or, nat_abs, Option, Some, None, refl, sym, ap, ◌∙◌, subst, inl, inr, arith, mod-eq_of_lt}
 use Rattle.std.proofs.lemmas.Int.{ints}
-use Rattle.std.proofs.lemmas.Bool.{cases_lt, and_from, and_parts, cond_both}
+use Rattle.std.proofs.lemmas.Bool.{cases_lt, and_from, and_parts, cond_both, both_ways, not-true, not_from_false}
 use Rattle.ttx_header.specs.Ids.{Id}
 use Rattle.ttx_page.specs.Packets.{Packet, packet_of}
 use Rattle.ttx_page.specs.Pages.{Page}
@@ -15,7 +15,6 @@ use Rattle.ttx_witness.specs.sent.ItemTransmissions.{PageOwner, owner_after, own
 use Rattle.ttx_witness.specs.faults.Comparing.{is_mine, mine_after, sends, compared_item, IsWrong, WrongAt, OtherHeaderAt, heads_other_subpage}
 use Rattle.ttx_witness.specs.declared.faults.comparing.Check.{Check}
 use Rattle.ttx_witness.specs.faults.Faults.{Never}
-use Rattle.ttx_witness.proofs.lemmas.Choices.{no_both, not_true, not_false}
 use Rattle.ttx_witness.proofs.lemmas.runs.EveryPeriod.{everywhere}
 use Rattle.ttx_witness.proofs.lemmas.sent.Periods.{latest_same}
 use Rattle.ttx_witness.proofs.lemmas.sent.StreamOwners as O
@@ -46,7 +45,7 @@ mine_scan page s entry j = let e : suc j ≡ j + 1 = omega arith in mine_step pa
 -- whether a slot sends the item, by its owner
 module _ (page : Id) (s : Stream) (j : ℤ) where
   by_owner : (o : Option PageOwner) → O.IsOwnerAt page s o j → (is_mine o ≡ true) ↔ ((h : ℤ) × IsLatestHeader s page.mag h j × (heads_page page (packet_of (s h)) ≡ true))
-  by_owner None a = ((λ e. cc), (λ t. absurd (no_both _ t.1.is_header (a t.0 t.1.earlier))))
+  by_owner None a = ((λ e. cc), (λ t. absurd (both_ways _ (a t.0 t.1.earlier) t.1.is_header)))
   by_owner (Some o) a = (
     (λ e. (o.slot, a.latest, sym a.mine ∙ e)),
     (λ t. a.mine ∙ subst (λ h. heads_page page (packet_of (s h)) ≡ true) (latest_same s page.mag t.0 o.slot j t.1 a.latest) t.2),
@@ -113,8 +112,8 @@ module _ (cycle : List (List ℕ)) (some : 1 ≤ length cycle) where
 
 pub other_is : (s : Stream) (page : Id) (j : ℤ) → (heads_other_subpage page (packet_of (s j)) ≡ true) ↔ OtherHeaderAt s page j
 other_is s page j = (
-  (λ e. record { number = (and_parts _ _ e).0; other = not_true _ ((and_parts _ _ e).1) }),
-  (λ h. and_from _ _ h.number (not_false _ h.other)),
+  (λ e. record { number = (and_parts _ _ e).0; other = not-true _ ((and_parts _ _ e).1) }),
+  (λ h. and_from _ _ h.number (not_from_false _ h.other)),
 )
 
 -- none among the first j, nor the next

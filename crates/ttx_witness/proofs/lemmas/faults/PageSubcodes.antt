@@ -1,13 +1,12 @@
 -- The subcodes of the pages of a number, page by page.
 use Rattle.std.proofs.Common.{◌≡◌, ◌⊎◌, ℕ, ◌+◌, ◌&&◌, ◌==◌, if◌then◌else◌, List, get_or, slice_get, replicate, Some, sym, ap, ◌∙◌, subst, inl, inr}
 use Rattle.std.proofs.Common.{arith, eqb-true, eq-eqb}
-use Rattle.std.proofs.lemmas.Bool.{cases_lt, and_from, and_parts, cond_both}
+use Rattle.std.proofs.lemmas.Bool.{cases_lt, and_from, and_parts, cond_both, both_ways}
 use Rattle.std.proofs.lemmas.List.{get_or-replicate, get_or_past, length-replicate}
 use Rattle.ttx_page.specs.Pages.{Page}
 use Rattle.ttx_witness.specs.faults.OtherSubpages.{with_subcode, place, IsListed, AreSubcodes, AreAllSubcodes}
 use Rattle.ttx_witness.specs.declared.faults.subcodes.Subcodes.{Subcodes}
 use Rattle.ttx_witness.specs.declared.faults.subcodes.Subcodes.TheVariants.{Unlisted, One, Several}
-use Rattle.ttx_witness.proofs.lemmas.Choices.{no_both}
 use Rattle.ttx_witness.proofs.lemmas.faults.FirstSlots.{placed}
 
 module _ (pages : List Page) (i mag number : ℕ) where
@@ -41,14 +40,14 @@ module _ (pages : List Page) (i mag number : ℕ) where
       with_one (One sub) a = cond_both (sub == p.id.sub) (One sub) Several (AreSubcodes pages (i + 1) mag number)
           (λ e. let s : sub ≡ p.id.sub = eqb-true sub p.id.sub e in
           ((a.0.0, later a.0.0 a.0.1), (λ q l. elim (either q l) as (λ _. q.id.sub ≡ sub) [ inl k ↦ a.1 q k | inr f ↦ ap (λ x. x.id.sub) f ∙ sym s ])))
-          (λ e. (a.0.0, p, later a.0.0 a.0.1, own, (λ f. no_both _ (eq-eqb sub p.id.sub (sym (a.1 a.0.0 a.0.1) ∙ f)) e)))
+          (λ e. (a.0.0, p, later a.0.0 a.0.1, own, (λ f. both_ways _ e (eq-eqb sub p.id.sub (sym (a.1 a.0.0 a.0.1) ∙ f)))))
       with_one Several a = (a.0, a.1, later a.0 a.2, later a.1 a.3, a.4)
 
     pub one_page : (t : Subcodes) → AreSubcodes pages i mag number t →
         AreSubcodes pages (i + 1) mag number (if (mag == p.id.mag) && (number == p.id.page) then with_subcode t p.id.sub else t)
     one_page t a = cond_both ((mag == p.id.mag) && (number == p.id.page)) (with_subcode t p.id.sub) t (AreSubcodes pages (i + 1) mag number)
         (λ e. with_one (sym (eqb-true mag p.id.mag ((and_parts _ _ e).0))) (sym (eqb-true number p.id.page ((and_parts _ _ e).1))) t a)
-        (λ e. apart (λ m n. no_both _ (and_from _ _ (eq-eqb mag p.id.mag (sym m)) (eq-eqb number p.id.page (sym n))) e) t a)
+        (λ e. apart (λ m n. both_ways _ e (and_from _ _ (eq-eqb mag p.id.mag (sym m)) (eq-eqb number p.id.page (sym n)))) t a)
 
 pub none_listed : (pages : List Page) (table : List Subcodes) → table ≡ replicate 2048 Unlisted → AreAllSubcodes pages 0 table
 none_listed pages table e mag number low high small =

@@ -6,7 +6,7 @@ use Rattle.std.proofs.lemmas.List.Elements.{Contains-append_left, Contains-appen
 use Rattle.std.proofs.lemmas.List.Quantifiers.{all_pairs_push}
 use Rattle.std.proofs.lemmas.Option.{slice_get_within, get_or_from_slice_get}
 use Rattle.ttx_header.specs.Ids.{same_id}
-use Rattle.std.proofs.lemmas.Bool.{cases_lt, cases_Bool, and_parts}
+use Rattle.std.proofs.lemmas.Bool.{cases_lt, cases_Bool, and_parts, both_ways}
 use Rattle.ttx_page.specs.declared.page.Page.{Page as PageValue}
 use Rattle.ttx_page.specs.Views.{page_of, ids_of}
 use Rattle.ttx_page.specs.Pages.{Page, needed}
@@ -16,7 +16,6 @@ use Rattle.ttx_page.specs.declared.class.Class.{Class}
 use Rattle.ttx_witness.specs.sent.Collected.{IsItem, item_number, place_of_item}
 use Rattle.ttx_witness.specs.finding.Finding.{starts_for, limit_for, IsEnough, wider, IsDone, NamesStarts, HasEntry, same_place, AreNamed, AddsEntry}
 use Rattle.ttx_certificate.specs.declared.entries.Entry.{Entry}
-use Rattle.ttx_witness.proofs.lemmas.Choices.{no_both}
 use Rattle.ttx_certificate.proofs.EntryOrder.{same_entry}
 use Rattle.ttx_witness.proofs.lemmas.sent.PageIndexes.{same_one, id_of_page}
 use Rattle.ttx_witness.proofs.lemmas.sent.AllLists.{all_by_place, all_by_recursion}
@@ -123,7 +122,7 @@ module _ (pages : List Page) (class : Class) (m j : ℕ) (q : Page) (given : Ite
     }
       where
         not_last : (i : ℕ) (p : Page) (item : Item) → IsDone pages (m + 1) i p item → IsLast i p item → ⊥
-        not_last i p item d l = no_both (needed q given) (subst (λ x. needed q x ≡ true) l.of_item (subst (λ x. needed x item ≡ true) l.of_page d.seen)) not_seen
+        not_last i p item d l = both_ways (needed q given) not_seen (subst (λ x. needed q x ≡ true) l.of_item (subst (λ x. needed x item ≡ true) l.of_page d.seen))
 
     pub one_named : AreApart pages → (old new : List Entry) (least limit_here : Option ℕ) → needed q given ≡ true → AddsEntry old new q.id given (starts_for cycle class lines repeat q given) →
         limit_here ≡ limit_for cycle class lines repeat q given → AreNamed cycle pages class lines repeat m old least → AreNamed cycle pages class lines repeat (m + 1) new (wider least limit_here)

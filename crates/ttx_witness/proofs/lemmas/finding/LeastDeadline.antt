@@ -5,7 +5,7 @@ use Rattle.std.proofs.Common.{arith, eqb-true, eq-eqb}
 use Rattle.std.specs.List.{All, AllByRecursion, AllPairs, Contains}
 use Rattle.std.proofs.lemmas.Option.{slice_get_within, slice_get_cases}
 use Rattle.std.proofs.lemmas.List.{length-map}
-use Rattle.std.proofs.lemmas.Bool.{cases_lt, leb-true, cases_Bool, and_from, and_parts}
+use Rattle.std.proofs.lemmas.Bool.{cases_lt, leb-true, cases_Bool, and_from, and_parts, both_ways, cond-true, cond-false}
 use Rattle.std.specs.Prelude.{nat_le, is_some, is_none, IsTrue, MatchOption}
 use Rattle.ttx_header.specs.Control.{c10}
 use Rattle.ttx_packet.specs.Slots.{is_clean}
@@ -36,7 +36,6 @@ use Rattle.ttx_witness.specs.laws.CycleLaws.{SureStartsAreFound, LeastLimitIsFou
 use Rattle.ttx_witness.specs.finding.Finding.{is_due, starts_of, spread_at, starts_for, limit_for, IsEnough, limit_of, least_limit, IsDone}
 use Rattle.ttx_witness.specs.finding.Finding.{NamesStarts, HasEntry, same_place, AreNamed, IsSentUnchanged, IsLeastField, IsDeadline, CanBeAccepted}
 use Rattle.ttx_witness.specs.finding.Finding.{IsLeastDeadline, IsFoundFor}
-use Rattle.ttx_witness.proofs.lemmas.Choices.{no_both, if_true, if_false}
 use Rattle.ttx_witness.proofs.lemmas.sent.PageIndexes.{same_one, same_self}
 use Rattle.ttx_witness.proofs.lemmas.sent.AllLists.{all_by_recursion, place_below}
 use Rattle.ttx_witness.proofs.lemmas.finding.DueItems.{AreApart, item_one, all_more}
@@ -51,15 +50,15 @@ starts_at : (id : Id) (item : Item) (x : List ℕ) (es : List Entry) → AllByRe
 starts_at id item x [] a (inl e) = sym e
 starts_at id item x [] a (inr h) = absurd (let lt = h.among.1 in omega arith)
 starts_at id item x (e ∷ es) a h = elim (cases_Bool (same_id e.page id && same_item e.item item)) as (λ _. (if same_id e.page id && same_item e.item item then e.starts.items else starts_in (entries_of es) id item) ≡ x) [
-  | inl t ↦ if_true (same_id e.page id && same_item e.item item) _ _ t ∙ a.0 (same_one e.page id ((and_parts _ _ t).0)) (eqb-true _ _ ((and_parts (same_id e.page id) _ t).1))
-  | inr f ↦ if_false (same_id e.page id && same_item e.item item) _ _ f ∙ starts_at id item x es a.1 (rest f h)
+  | inl t ↦ cond-true (same_id e.page id && same_item e.item item) _ _ t ∙ a.0 (same_one e.page id ((and_parts _ _ t).0)) (eqb-true _ _ ((and_parts (same_id e.page id) _ t).1))
+  | inr f ↦ cond-false (same_id e.page id && same_item e.item item) _ _ f ∙ starts_at id item x es a.1 (rest f h)
 ]
   where
     here : (f : Entry) → e ≡ f → f.page ≡ id → f.item ≡ item → (same_id e.page id && same_item e.item item) ≡ true
     here f same page number = and_from _ _ (subst (λ y. same_id y id ≡ true) (sym (ap (λ y. y.page) same ∙ page)) (same_self id)) (eq-eqb _ _ (ap (λ y. item_number y.item) same ∙ ap item_number number))
 
     later_one : (f : Entry) (k : ℕ) → (same_id e.page id && same_item e.item item) ≡ false → k < length (e ∷ es) → get_or (e ∷ es) k f ≡ f → f.page ≡ id → f.item ≡ item → Contains es f
-    later_one f zero other lt is page number = absurd (no_both _ (here f is page number) other)
+    later_one f zero other lt is page number = absurd (both_ways _ other (here f is page number))
     later_one f (suc k) other lt is page number = (k, (omega arith), is)
 
     rest : (same_id e.page id && same_item e.item item) ≡ false → (x ≡ []) ⊎ HasEntry (e ∷ es) id item → (x ≡ []) ⊎ HasEntry es id item
@@ -91,7 +90,7 @@ blank_if false b n e = cc
 
 -- an item that a viewer sees isn't due only where receivers clear and it is blank
 pub not_due_is : (class : Class) (p : Page) (item : Item) → needed p item ≡ true → is_due class p item ≡ false → (class ≡ Clearing) × (is_blank p item ≡ true)
-not_due_is Any p item n e = absurd (no_both (needed p item) n e)
+not_due_is Any p item n e = absurd (both_ways (needed p item) e n)
 not_due_is Clearing p item n e = (refl, blank_if (needed p item) (is_blank p item) n e)
 
 -- the test of blank items is right for the pages of a list
@@ -134,15 +133,15 @@ module _ (cycle : List (List ℕ)) (some : 1 ≤ length cycle) (pages : List Pag
   unseen_starts : (i : ℕ) (p : Page) (item : Item) → slice_get pages i ≡ Some p → IsItem item → needed p item ≡ false → starts_in (entries_of es) p.id item ≡ []
   unseen_starts i p item at is unseen = starts_at p.id item [] es
       (by_told (NamesFor p.id item []) (λ e t page number. absurd (
-      no_both (needed p item) (subst (λ x. needed p x ≡ true) (item_one e.item item t.done.is is number) (subst (λ x. needed x e.item ≡ true) (page_one i p at e t page) t.done.seen)) unseen)))
+      both_ways (needed p item) unseen (subst (λ x. needed p x ≡ true) (item_one e.item item t.done.is is number) (subst (λ x. needed x e.item ≡ true) (page_one i p at e t page) t.done.seen)))))
       (inl refl)
 
   pub due_starts : (i : ℕ) (p : Page) (item : Item) → slice_get pages i ≡ Some p → IsItem item → is_due class p item ≡ true → starts_in (entries_of es) p.id item ≡ starts_of cycle lines repeat p.id item
-  due_starts i p item at is due = seen_starts i p item at is (due_needed class p item due) ∙ if_true (is_due class p item) (starts_of cycle lines repeat p.id item) [] due
+  due_starts i p item at is due = seen_starts i p item at is (due_needed class p item due) ∙ cond-true (is_due class p item) (starts_of cycle lines repeat p.id item) [] due
 
   pub other_starts : (i : ℕ) (p : Page) (item : Item) → slice_get pages i ≡ Some p → IsItem item → is_due class p item ≡ false → starts_in (entries_of es) p.id item ≡ []
   other_starts i p item at is not_due = elim (cases_Bool (needed p item)) as (λ _. starts_in (entries_of es) p.id item ≡ []) [
-    | inl seen ↦ seen_starts i p item at is seen ∙ if_false (is_due class p item) (starts_of cycle lines repeat p.id item) [] not_due
+    | inl seen ↦ seen_starts i p item at is seen ∙ cond-false (is_due class p item) (starts_of cycle lines repeat p.id item) [] not_due
     | inr unseen ↦ unseen_starts i p item at is unseen
   ]
 
@@ -172,7 +171,7 @@ module _ (cycle : List (List ℕ)) (some : 1 ≤ length cycle) (pages : List Pag
     -- with a limit that is enough each item is covered
     pub due_covered : LeastLimitIsFound → IsEnough least (d * lines) → (n : ℕ) (p : Page) → slice_get pages n ≡ Some p → (item : Item) → IsItem item → is_due class p item ≡ true → IsCovered cycle p w item
     due_covered law fits n p at item is due =
-        go (spread_at cycle lines repeat p.id item) refl (subst (λ x. IsEnough x (d * lines)) (if_true (is_due class p item) (least_limit cycle lines repeat p.id item) (least_limit cycle lines 1 p.id TheHead) due)
+        go (spread_at cycle lines repeat p.id item) refl (subst (λ x. IsEnough x (d * lines)) (cond-true (is_due class p item) (least_limit cycle lines repeat p.id item) (least_limit cycle lines 1 p.id TheHead) due)
         (named.least_to (d * lines) fits n p item (done n p item at is (due_needed class p item due))))
       where
         go : (sp : Option Spread) → spread_at cycle lines repeat p.id item ≡ sp → IsEnough (limit_of (length cycle) sp) (d * lines) → IsCovered cycle p w item
@@ -184,7 +183,7 @@ module _ (cycle : List (List ℕ)) (some : 1 ≤ length cycle) (pages : List Pag
         needed p item ≡ true → is_due class p item ≡ false → (tau : ℤ) → Next cycle p (d * lines) tau
     left_in_time turn found law fits n p at item is seen not_due =
         (next_fits turn found law cycle some p lines d (spread_at cycle lines 1 p.id TheHead) refl).1
-        (subst (λ x. IsEnough x (d * lines)) (if_false (is_due class p item) (least_limit cycle lines repeat p.id item) (least_limit cycle lines 1 p.id TheHead) not_due)
+        (subst (λ x. IsEnough x (d * lines)) (cond-false (is_due class p item) (least_limit cycle lines repeat p.id item) (least_limit cycle lines 1 p.id TheHead) not_due)
         (named.least_to (d * lines) fits n p item (done n p item at is seen)))
 
   -- a limit with which each item that is due is covered, and headers come in time where one isn't, is enough
@@ -204,8 +203,8 @@ module _ (cycle : List (List ℕ)) (some : 1 ≤ length cycle) (pages : List Pag
         let due_limit = least_limit cycle v.lines v.repeat p.id item in
         let left_limit = least_limit cycle v.lines 1 p.id TheHead in
         elim (cases_Bool (is_due class p item)) as (λ _. IsEnough (limit_for cycle class v.lines v.repeat p item) (limit v)) [
-          | inl due ↦ subst (λ x. IsEnough x (limit v)) (sym (if_true (is_due class p item) due_limit left_limit due)) (due_fits n p at item is due (spread_at cycle v.lines v.repeat p.id item) refl)
-          | inr not_due ↦ subst (λ x. IsEnough x (limit v)) (sym (if_false (is_due class p item) due_limit left_limit not_due))
+          | inl due ↦ subst (λ x. IsEnough x (limit v)) (sym (cond-true (is_due class p item) due_limit left_limit due)) (due_fits n p at item is due (spread_at cycle v.lines v.repeat p.id item) refl)
+          | inr not_due ↦ subst (λ x. IsEnough x (limit v)) (sym (cond-false (is_due class p item) due_limit left_limit not_due))
               ((next_fits turn found law cycle some p v.lines v.deadline (spread_at cycle v.lines 1 p.id TheHead) refl).0 (left n p at item is seen not_due))
         ]
 
@@ -219,7 +218,7 @@ module _ (cycle : List (List ℕ)) (some : 1 ≤ length cycle) (pages : List Pag
     accepted_covered : (v : Certificate) → v.class ≡ class → Accepts cycle pages v → (n : ℕ) (p : Page) → slice_get pages n ≡ Some p → (item : Item) → IsItem item → is_due class p item ≡ true → IsCovered cycle p v item
     accepted_covered v same a n p at item is_item due = elim (a.covered n p at item (due_needed class p item due)) as (λ _. IsCovered cycle p v item) [
       | inl c ↦ c
-      | inr l ↦ absurd (no_both (is_blank p item) ((blank n p at item (due_needed class p item due)).1 l.blank) (due_not_blank class p item (sym same ∙ l.clearing) due))
+      | inr l ↦ absurd (both_ways (is_blank p item) (due_not_blank class p item (sym same ∙ l.clearing) due) ((blank n p at item (due_needed class p item due)).1 l.blank))
     ]
 
     accepted_left : (v : Certificate) → Accepts cycle pages v → (n : ℕ) (p : Page) → slice_get pages n ≡ Some p → (item : Item) → IsItem item → needed p item ≡ true → is_due class p item ≡ false →
@@ -339,7 +338,7 @@ TellsSteady cycle pages index b = (p : Page) → slice_get pages index ≡ Some 
 
 pub not_unchanged : (cycle : List (List ℕ)) (pages : List PageValue) (index : ℕ) (b : Bool) → index < length pages → TellsSteady cycle (map page_of pages) index b → b ≡ false → IsSentUnchanged cycle (map page_of pages) → ⊥
 not_unchanged cycle pages index b lt tells e u = elim (slice_get_cases (map page_of pages) index).1 as (λ _. ⊥) [
-  | inl w ↦ no_both b ((tells w.0 w.2).1 (u.steady index w.0 w.2)) e
+  | inl w ↦ both_ways b e ((tells w.0 w.2).1 (u.steady index w.0 w.2))
   | inr past ↦ let l = length-map pages page_of in let p = past.0 in omega arith
 ]
 
@@ -360,7 +359,7 @@ tells_of cycle pages index b q at h p there = let same : q ≡ p = cc in subst (
 
 pub bad_not_unchanged : (cycle : List (List ℕ)) (pages : List Page) (A : Type 0) (R : ℕ → Type 0) (o : Option ℕ) → MatchOption o A (λ j. BadSlotAt cycle j × R j) → is_some o ≡ true → IsSentUnchanged cycle pages → ⊥
 bad_not_unchanged cycle pages A R None m e u = cc
-bad_not_unchanged cycle pages A R (Some j) m e u = no_both _ (u.clean j m.0.within) m.0.bad
+bad_not_unchanged cycle pages A R (Some j) m e u = both_ways _ m.0.bad (u.clean j m.0.within)
 
 pub none_of : {A : Type 0} (o : Option A) → is_none o ≡ true → o ≡ None
 none_of None e = refl

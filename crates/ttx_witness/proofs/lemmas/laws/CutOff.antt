@@ -1,9 +1,10 @@
 -- Why the transmissions of an item aren't sure.
 use Rattle.std.proofs.Common.{◌≡◌, ◌⊎◌, ℕ, zero, suc, ℤ, pos, ◌+ℤ◌, ◌-ℤ◌, ◌<ℤ◌, ◌≤ℤ◌, unsigned_abs, int_lt, Bool, true, false, not, List, [], ◌∷◌}
 use Rattle.std.proofs.Common.{length, refl, subst, inl, inr, arith}
-use Rattle.std.proofs.lemmas.Bool.{cases_Bool, and_from, and_parts}
+use Rattle.std.proofs.lemmas.Bool.{cases_Bool, and_from, and_parts, both_ways, not-true, not_from_false}
 use Rattle.std.proofs.lemmas.Int.{ints}
 use Rattle.std.specs.List.{AllByRecursion}
+use Rattle.ttx_page.proofs.SlotDistances.{cases_ltz}
 use Rattle.ttx_header.specs.Ids.{Id}
 use Rattle.ttx_page.specs.Packets.{packet_of}
 use Rattle.ttx_page.specs.Streams.{Stream, repeated, ends_serial, IsOwned, IsSure, CannotBeMissed}
@@ -14,7 +15,7 @@ use Rattle.ttx_witness.specs.runs.Repeating.{AreSent, Tells}
 use Rattle.ttx_witness.specs.sent.ItemTransmissions.{sent_in}
 use Rattle.ttx_witness.specs.waiting.PageWaits.{is_near, is_cut}
 use Rattle.ttx_witness.specs.laws.WaitLaws.{IsNear, IsCut, IsLossTold, LossesAreTold}
-use Rattle.ttx_witness.proofs.lemmas.Choices.{no_both, not_true, not_false, cases_ltz, is_lt, abs_is}
+use Rattle.ttx_witness.proofs.lemmas.WholeNumbers.{is_lt, abs_is}
 use Rattle.ttx_witness.proofs.lemmas.sent.CycleTransmissions.{sent_told}
 
 -- one of the k numbers from low on passes, or none does
@@ -58,29 +59,29 @@ module _ (s : Stream) (page : Id) (lines : ℕ) (item : Item) (not_head : item �
     cut_to : is_cut lines t ≡ true → IsCut s page.mag lines t
     cut_to e =
         let far = is_lt (t.owner +ℤ pos lines) t.slot ((and_parts _ _ e).0) in
-        let unsure : t.sure ≡ false = not_true t.sure ((and_parts (int_lt (t.owner +ℤ pos lines) t.slot) (not t.sure) e).1) in
+        let unsure : t.sure ≡ false = not-true t.sure ((and_parts (int_lt (t.owner +ℤ pos lines) t.slot) (not t.sure) e).1) in
         let low = t.owner +ℤ pos 1 in
         let k = unsigned_abs (t.slot -ℤ (t.owner +ℤ pos 1)) in
         let size : pos (unsigned_abs (t.slot -ℤ (t.owner +ℤ pos 1))) ≡ t.slot -ℤ (t.owner +ℤ pos 1) = abs_is (t.slot -ℤ (t.owner +ℤ pos 1)) (omega (arith, ints)) in
         elim (look (λ i. ends_serial page.mag (packet_of (s i))) low k) as (λ _. IsCut s page.mag lines t) [
           | inl p ↦ record { far = far; header = p.at; after = let a = p.from in omega (arith, ints); before = let b = p.to in omega (arith, ints); ends = p.is }
-          | inr none ↦ absurd (no_both t.sure (tells.sure.1 (sure_from t.owner t.slot item (far, (λ i a b. none i (omega (arith, ints)) (omega (arith, ints)))))) unsure)
+          | inr none ↦ absurd (both_ways t.sure unsure (tells.sure.1 (sure_from t.owner t.slot item (far, (λ i a b. none i (omega (arith, ints)) (omega (arith, ints)))))))
         ]
 
     cut_from : IsCut s page.mag lines t → is_cut lines t ≡ true
-    cut_from c = and_from _ _ (lt_is (t.owner +ℤ pos lines) t.slot c.far) (not_false t.sure (elim (cases_Bool t.sure) as (λ _. t.sure ≡ false) [
-      | inl sure ↦ absurd (no_both (ends_serial page.mag (packet_of (s c.header))) c.ends ((sure_to t.owner t.slot item not_head (tells.sure.0 sure)).1 c.header c.after c.before))
+    cut_from c = and_from _ _ (lt_is (t.owner +ℤ pos lines) t.slot c.far) (not_from_false t.sure (elim (cases_Bool t.sure) as (λ _. t.sure ≡ false) [
+      | inl sure ↦ absurd (both_ways (ends_serial page.mag (packet_of (s c.header))) ((sure_to t.owner t.slot item not_head (tells.sure.0 sure)).1 c.header c.after c.before) c.ends)
       | inr unsure ↦ unsure
     ]))
 
     near_to : is_near lines t ≡ true → IsNear lines t
     near_to e = elim (cases_ltz (t.owner +ℤ pos lines) t.slot) as (λ _. IsNear lines t) [
-      | inl lt ↦ absurd (no_both (int_lt (t.owner +ℤ pos lines) t.slot) (lt_is (t.owner +ℤ pos lines) t.slot lt) (not_true (int_lt (t.owner +ℤ pos lines) t.slot) e))
+      | inl lt ↦ absurd (both_ways (int_lt (t.owner +ℤ pos lines) t.slot) (not-true (int_lt (t.owner +ℤ pos lines) t.slot) e) (lt_is (t.owner +ℤ pos lines) t.slot lt))
       | inr ge ↦ ge
     ]
 
     near_from : IsNear lines t → is_near lines t ≡ true
-    near_from le = not_false (int_lt (t.owner +ℤ pos lines) t.slot) (elim (cases_Bool (int_lt (t.owner +ℤ pos lines) t.slot)) as (λ _. int_lt (t.owner +ℤ pos lines) t.slot ≡ false) [
+    near_from le = not_from_false (int_lt (t.owner +ℤ pos lines) t.slot) (elim (cases_Bool (int_lt (t.owner +ℤ pos lines) t.slot)) as (λ _. int_lt (t.owner +ℤ pos lines) t.slot ≡ false) [
       | inl e ↦ absurd (let lt = is_lt (t.owner +ℤ pos lines) t.slot e in omega (arith, ints))
       | inr f ↦ f
     ])

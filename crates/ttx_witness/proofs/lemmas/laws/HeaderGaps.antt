@@ -2,6 +2,8 @@
 use Rattle.std.proofs.Common.{◌≡◌, ℕ, ◌<◌, ◌≤◌, ℤ, pos, ◌+ℤ◌, ◌-ℤ◌, ◌<ℤ◌, ◌≤ℤ◌, Bool, true, false, if◌then◌else◌, int_lt, unsigned_abs, List, [], ◌∷◌}
 use Rattle.std.proofs.Common.{length, slice_index_or, Option, Some, None, refl, sym, ap, ◌∙◌, subst, inl, inr, arith}
 use Rattle.std.proofs.lemmas.Int.{ints}
+use Rattle.std.proofs.lemmas.Bool.{both_ways}
+use Rattle.ttx_page.proofs.SlotDistances.{cases_ltz}
 use Rattle.ttx_page.specs.Packets.{packet_of}
 use Rattle.ttx_page.specs.Pages.{Page}
 use Rattle.ttx_page.specs.declared.item.Item.TheVariants.{Head as TheHead}
@@ -13,7 +15,7 @@ use Rattle.ttx_witness.specs.runs.Repeating.{AreSent, IsSentAt, Tells}
 use Rattle.ttx_witness.specs.sent.ItemTransmissions.{sent_in}
 use Rattle.ttx_witness.specs.Coverage.{Certificate, limit}
 use Rattle.ttx_witness.specs.laws.JudgingLaws.{late_before, late_header, IsHeaderAnswer, HeadersAreJudged}
-use Rattle.ttx_witness.proofs.lemmas.Choices.{cases_ltz, no_both, is_lt, abs_is}
+use Rattle.ttx_witness.proofs.lemmas.WholeNumbers.{is_lt, abs_is}
 use Rattle.ttx_witness.proofs.lemmas.sent.CycleTransmissions.{sent_told, period_of}
 
 not_lt : (a b : ℤ) → int_lt a b ≡ false → b ≤ℤ a
@@ -150,7 +152,7 @@ module _ (turn : EachSlotTurns) (cycle : List (List ℕ)) (some : 1 ≤ length c
       let i = next (pos h +ℤ pos 1) in
       let low : (pos h +ℤ pos 1) ≤ℤ i.0 = i.1 in
       let high : i.0 <ℤ ((pos h +ℤ pos 1) +ℤ pos (limit w)) = i.2 in
-      no_both _ i.3 (late i.0 (omega (arith, ints)) (omega (arith, ints)))
+      both_ways _ (late i.0 (omega (arith, ints)) (omega (arith, ints))) i.3
 
   judged : HasHeader (repeated cycle) p.id → (ts : List Transmission) → Are cycle p w.lines (limit w) (pos 0) ts → (o : Option ℕ) → late_header (limit w) (length cycle) ts ≡ o → IsHeaderAnswer cycle p w o
   unfolding late_header
@@ -179,7 +181,7 @@ module _ (turn : EachSlotTurns) (cycle : List (List ℕ)) (some : 1 ≤ length c
           | inl early ↦ a.3 (pos m) (omega (arith, ints)) early (sent cycle p w.lines (limit w) (pos m) l.is_header)
           | inr late ↦
               let b = g.before (pos m) late (omega (arith, ints)) l.is_header in
-              no_both _ b.3 (l.late b.0 b.1 b.2)
+              both_ways _ (l.late b.0 b.1 b.2) b.3
         ]),
       )
 

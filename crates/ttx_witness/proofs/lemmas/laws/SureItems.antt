@@ -4,7 +4,8 @@ use Rattle.std.proofs.Common.{length, slice_index_or, None, unsigned_abs, refl, 
 use Rattle.std.proofs.Common.{length-append}
 use Rattle.std.specs.List.{Contains, AllByRecursion}
 use Rattle.std.proofs.lemmas.Int.{ints}
-use Rattle.std.proofs.lemmas.Bool.{and_from, and_parts, cond_both}
+use Rattle.std.proofs.lemmas.Bool.{and_from, and_parts, cond_both, both_ways}
+use Rattle.ttx_page.proofs.SlotDistances.{cases_ltz}
 use Rattle.ttx_header.specs.Ids.{Id}
 use Rattle.ttx_page.specs.Laws.{Turn, EachSlotTurns, StreamsMove, OwnersAreNear, IsSameOn}
 use Rattle.ttx_page.specs.Packets.{packet_of}
@@ -23,13 +24,12 @@ use Rattle.ttx_witness.specs.runs.Repeating.{IsSentAt, AreSent}
 use Rattle.ttx_witness.specs.runs.SureStarts.{sure_runs, sure_starts}
 use Rattle.ttx_witness.specs.sent.ItemTransmissions.{sent_in}
 use Rattle.ttx_witness.specs.laws.SureItems.{HasSureStart, AllSureHaveStarts, IsLongEnough, SureItemsAreAccepted}
-use Rattle.ttx_witness.proofs.lemmas.Choices.{cases_ltz, no_both}
 use Rattle.ttx_witness.proofs.lemmas.laws.CycleLaws.{sure_starts_are_found, further_starts_cover}
 use Rattle.ttx_certificate.proofs.EntryOrder.{rising_pairs}
 use Rattle.ttx_witness.proofs.lemmas.runs.FoundStarts.{starts_rise}
 use Rattle.ttx_witness.proofs.lemmas.runs.Rounds.{length_further}
 use Rattle.ttx_witness.proofs.lemmas.sent.CycleTransmissions.{period_of, sent_told, told_in_order}
-use Rattle.ttx_witness.proofs.lemmas.runs.Windows.{windows_yes}
+use Rattle.ttx_witness.proofs.Windows.{windows_yes}
 use Rattle.ttx_witness.proofs.lemmas.sent.RunLengths.{run_some}
 
 few_length : (repeat : ℕ) (item : Item) → repeat ≤ 8 → run_length repeat item ≤ 8
@@ -58,7 +58,7 @@ all_sure_take (suc k) (t ∷ ts) a = and_from _ _ (and_parts t.sure _ a).0 (all_
 first_found : (r : Run) (rs : List Run) → r.sure ≡ true → Contains (sure_starts (r ∷ rs)) (unsigned_abs r.start)
 unfolding sure_runs
 first_found r rs e = cond_both r.sure (r ∷ sure_runs rs) (sure_runs rs) (λ qs. Contains (map (λ q. unsigned_abs q.start) qs) (unsigned_abs r.start))
-    (λ y. (0, omega arith, refl)) (λ f. absurd (no_both _ e f))
+    (λ y. (0, omega arith, refl)) (λ f. absurd (both_ways _ f e))
 
 some_found : (n k : ℕ) (t : Transmission) (ts : List Transmission) → all_sure (t ∷ ts) ≡ true → (start : ℕ) × Contains (sure_starts (runs n k (t ∷ ts))) start
 some_found n k t ts a =

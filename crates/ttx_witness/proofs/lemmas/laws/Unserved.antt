@@ -7,6 +7,7 @@ use Rattle.std.proofs.lemmas.Int.{ints}
 use Rattle.std.proofs.lemmas.Bool.{cases_lt, cond_both}
 use Rattle.std.proofs.lemmas.Bool.Decides.{nat_tests}
 use Rattle.std.proofs.lemmas.List.Elements.{Contains-get_or, at_from_Contains}
+use Rattle.ttx_page.proofs.SlotDistances.{cases_ltz}
 use Rattle.ttx_page.specs.Pages.{Page, needed}
 use Rattle.ttx_page.specs.declared.item.Item.{Item}
 use Rattle.ttx_page.specs.declared.item.Item.TheVariants.{Head as TheHead}
@@ -20,7 +21,6 @@ use Rattle.ttx_witness.specs.laws.LateLaws.{IsServed, LateIsUnserved, HasHeaderI
 use Rattle.ttx_witness.specs.faults.Reasons.{LateAt, LateBlankAt}
 use Rattle.ttx_witness.specs.runs.Repeating.{next_start}
 use Rattle.ttx_witness.specs.sent.ItemTransmissions.{sent_in}
-use Rattle.ttx_witness.proofs.lemmas.Choices.{cases_ltz}
 use Rattle.ttx_witness.proofs.lemmas.sent.RunLengths.{some_run}
 
 pub record StartLaws : Type 0 where

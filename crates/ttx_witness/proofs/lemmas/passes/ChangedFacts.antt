@@ -1,7 +1,7 @@
 -- Facts of pages, of which at most one changes.
 use Rattle.std.proofs.Common.{◌≡◌, ◌⊎◌, ℕ, ◌<◌, ◌≤◌, pos, Bool, true, false, ◌&&◌, ◌==◌, List, length, map, set, slice_get, Option, Some, None, refl}
 use Rattle.std.proofs.Common.{sym, ap, ◌∙◌, subst, inl, inr, arith, eqb-true, eq-eqb}
-use Rattle.std.proofs.lemmas.Bool.{cases_Bool}
+use Rattle.std.proofs.lemmas.Bool.{cases_Bool, both_ways}
 use Rattle.std.proofs.lemmas.List.{length-map}
 use Rattle.std.proofs.lemmas.Option.{slice_get_within}
 use Rattle.ttx_page.specs.Pages.{Page}
@@ -11,7 +11,6 @@ use Rattle.ttx_page.specs.declared.item.Item.{Item}
 use Rattle.ttx_page.specs.declared.item.Item.TheVariants.{Head as TheHead, Links as TheLinks}
 use Rattle.ttx_witness.specs.sent.Collected.{item_number}
 use Rattle.ttx_witness.specs.faults.OtherSubpages.{first_of}
-use Rattle.ttx_witness.proofs.lemmas.Choices.{no_both}
 use Rattle.ttx_witness.proofs.lemmas.faults.FirstSlots.{placed}
 use Rattle.ttx_witness.specs.declared.passes.page_facts.Facts.{Facts}
 use Rattle.ttx_witness.specs.declared.sent.one_slot.Sent.{Sent}
@@ -31,10 +30,10 @@ not_noted P j o not = record { holds = false; exact = ((λ e. cc), (λ p. absurd
 pub noted_none : (limit : ℕ) (p : Page) (sends : Item → Bool) (slot : List ℕ) (j : ℕ) (x : Facts) → ((item : Item) → sends item ≡ false) → Noted limit p sends slot j x x
 noted_none limit p sends slot j x none = record {
   heads = ap (λ b. heads_after limit (pos j) b x.heads) (sym (none TheHead));
-  erased = not_noted _ j x.erased (λ h. no_both _ h.0 (none TheHead));
-  head = not_noted _ j x.head (λ h. no_both _ h.0 (none TheHead));
-  row = not_noted _ j x.row (λ h. no_both _ h.sent (none _));
-  links = not_noted _ j x.links (λ h. no_both _ h.0 (none TheLinks));
+  erased = not_noted _ j x.erased (λ h. both_ways _ (none TheHead) h.0);
+  head = not_noted _ j x.head (λ h. both_ways _ (none TheHead) h.0);
+  row = not_noted _ j x.row (λ h. both_ways _ (none _) h.sent);
+  links = not_noted _ j x.links (λ h. both_ways _ (none TheLinks) h.0);
 }
 
 and_true : (a b : Bool) → b ≡ true → a ≡ (a && b)
@@ -64,7 +63,7 @@ module _ (limit : ℕ) (pages : List PageValue) (s : Sent) (slot : List ℕ) (j 
           is = subst (λ sends. Noted limit p sends slot j x new) (λ k item. and_true (item_number item == s.number) (s.page == i) e k)
               (subst (λ y. Noted limit p (λ item. item_number item == s.number) slot j y new) fact (subst (λ y. Noted limit y (λ item. item_number item == s.number) slot j old new) page n));
         }
-    | inr e ↦ record { value = x; here = set_other all s.page i new (λ q. no_both _ (eq-eqb s.page i (sym q)) e) ∙ here; is = noted_other i p x (λ q. no_both _ (eq-eqb s.page i q) e) }
+    | inr e ↦ record { value = x; here = set_other all s.page i new (λ q. both_ways _ e (eq-eqb s.page i (sym q))) ∙ here; is = noted_other i p x (λ q. both_ways _ e (eq-eqb s.page i q)) }
   ]
 
   -- no page of the list

@@ -8,7 +8,7 @@ use Rattle.std.proofs.lemmas.Bool.{cases_lt}
 use Rattle.ttx_witness.specs.runs.Transmissions.{Transmission, Run, later, further, run_of, runs}
 use Rattle.ttx_witness.specs.runs.Tracks.{ended, keep_last, listed, IsRecent, IsWithin, IsTurn, IsRound}
 use Rattle.ttx_witness.specs.declared.runs.window.Recent.{Recent}
-use Rattle.ttx_witness.proofs.lemmas.runs.Windows.{further_few}
+use Rattle.ttx_witness.proofs.Windows.{further_few}
 use Rattle.ttx_witness.proofs.lemmas.runs.OneMore.{keep_step, few_kept, take_whole, run_at_end, ended_step}
 
 further_none : (n k : ℕ) (ts : List Transmission) → length (take k ts) ≡ 0 → further n k ts ≡ []

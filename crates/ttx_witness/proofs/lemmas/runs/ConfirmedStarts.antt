@@ -5,10 +5,9 @@ use Rattle.std.proofs.Common.{eqb-true}
 use Rattle.std.specs.Prelude.{int_le}
 use Rattle.std.specs.List.{AllByRecursion}
 use Rattle.std.proofs.lemmas.Int.{ints}
-use Rattle.std.proofs.lemmas.Bool.{cases_lt, cases_Bool, and_from, and_parts, cond_both}
+use Rattle.std.proofs.lemmas.Bool.{cases_lt, cases_Bool, and_from, and_parts, cond_both, both_ways}
 use Rattle.std.proofs.lemmas.Bool.Decides.{nat_tests}
-use Rattle.ttx_witness.proofs.lemmas.Choices.{no_both}
-use Rattle.ttx_witness.proofs.lemmas.Choices.{cases_ltz}
+use Rattle.ttx_page.proofs.SlotDistances.{cases_ltz}
 use Rattle.ttx_witness.specs.runs.Transmissions.{Run, moved_run}
 use Rattle.ttx_witness.specs.runs.Confirming.{Progress, Rising, confirmed, is_next, late_after, confirmed_runs, same_slot, after_runs, not_begun}
 use Rattle.ttx_witness.specs.runs.Repeating.{FollowInTime}
@@ -18,19 +17,19 @@ taken limit starts m run = record { next = m.next + 1; previous = run.owner; fir
 
 pub confirmed_yes : (limit : ℕ) (starts : List ℕ) (m : Progress) (r : Run) → is_next starts m.next r ≡ true → confirmed limit starts m r ≡ taken limit starts m r
 unfolding confirmed
-confirmed_yes limit starts m r e = cond_both (is_next starts m.next r) (taken limit starts m r) m (λ x. x ≡ taken limit starts m r) (λ _. refl) (λ f. absurd (no_both _ e f))
+confirmed_yes limit starts m r e = cond_both (is_next starts m.next r) (taken limit starts m r) m (λ x. x ≡ taken limit starts m r) (λ _. refl) (λ f. absurd (both_ways _ f e))
 
 confirmed_no : (limit : ℕ) (starts : List ℕ) (m : Progress) (r : Run) → is_next starts m.next r ≡ false → confirmed limit starts m r ≡ m
 unfolding confirmed
-confirmed_no limit starts m r e = cond_both (is_next starts m.next r) (taken limit starts m r) m (λ x. x ≡ m) (λ f. absurd (no_both _ f e)) (λ _. refl)
+confirmed_no limit starts m r e = cond_both (is_next starts m.next r) (taken limit starts m r) m (λ x. x ≡ m) (λ f. absurd (both_ways _ e f)) (λ _. refl)
 
 chosen_yes : (starts : List ℕ) (next : ℕ) (r : Run) (rs : List Run) → is_next starts next r ≡ true → confirmed_runs starts next (r ∷ rs) ≡ r ∷ confirmed_runs starts (next + 1) rs
 unfolding confirmed_runs
-chosen_yes starts next r rs e = cond_both (is_next starts next r) _ _ (λ x. x ≡ r ∷ confirmed_runs starts (next + 1) rs) (λ _. refl) (λ f. absurd (no_both _ e f))
+chosen_yes starts next r rs e = cond_both (is_next starts next r) _ _ (λ x. x ≡ r ∷ confirmed_runs starts (next + 1) rs) (λ _. refl) (λ f. absurd (both_ways _ f e))
 
 chosen_no : (starts : List ℕ) (next : ℕ) (r : Run) (rs : List Run) → is_next starts next r ≡ false → confirmed_runs starts next (r ∷ rs) ≡ confirmed_runs starts next rs
 unfolding confirmed_runs
-chosen_no starts next r rs e = cond_both (is_next starts next r) _ _ (λ x. x ≡ confirmed_runs starts next rs) (λ f. absurd (no_both _ f e)) (λ _. refl)
+chosen_no starts next r rs e = cond_both (is_next starts next r) _ _ (λ x. x ≡ confirmed_runs starts next rs) (λ f. absurd (both_ways _ e f)) (λ _. refl)
 
 -- only the confirmed_runs runs count
 pub marked_chosen : (limit : ℕ) (starts : List ℕ) (m : Progress) (rs : List Run) → after_runs limit starts m rs ≡ after_runs limit starts m (confirmed_runs starts m.next rs)
@@ -91,7 +90,7 @@ late_one limit starts m end some = cond_both (m.next == 0) _ _ (λ x. (x ≡ Non
   where
     late_no : m.late ≡ None → (is_none m.late && int_lt (m.previous +ℤ pos limit) end) ≡ false → end ≤ℤ (m.previous +ℤ pos limit)
     late_no s e = elim (cases_Bool (int_lt (m.previous +ℤ pos limit) end)) as (λ _. end ≤ℤ (m.previous +ℤ pos limit)) [
-      | inl t ↦ absurd (no_both _ (and_from _ _ (is_none_of _ s) t) e)
+      | inl t ↦ absurd (both_ways _ e (and_from _ _ (is_none_of _ s) t))
       | inr f ↦ omega (arith, ints)
     ]
 
@@ -215,7 +214,7 @@ stuck starts up next low (r ∷ rs) a b at is lt = elim (cases_Bool (is_next sta
             let z : confirmed_runs starts next rs ≡ [] = chosen_past starts next (r.start +ℤ pos 1) rs (omega (arith, ints)) a.1 in
             let y : at ≡ next = w ∙ ap (λ x. next + length x) z ∙ omega arith in
             subst (λ i. NoneFor (named_at starts i) (r ∷ rs)) (sym y)
-            ((λ q g. no_both _ (is_next_of starts next r (subst (λ i. i < length starts) y lt) (sym q) g) e), none_past (named_at starts next) (r.start +ℤ pos 1) rs (omega (arith, ints)) a.1)
+            ((λ q g. both_ways _ e (is_next_of starts next r (subst (λ i. i < length starts) y lt) (sym q) g)), none_past (named_at starts next) (r.start +ℤ pos 1) rs (omega (arith, ints)) a.1)
       ]
 ]
   where
@@ -234,7 +233,7 @@ first_late limit starts next r (q ∷ rs) = if int_lt (r.owner +ℤ pos limit) q
 
 late_some : (limit : ℕ) (starts : List ℕ) (m : Progress) (end : ℤ) (x : ℕ) → m.late ≡ Some x → late_after limit starts m end ≡ Some x
 late_some limit starts m end x e = cond_both (m.next == 0) _ _ (λ z. z ≡ Some x) (λ _. e)
-    (λ _. cond_both (is_none m.late && int_lt (m.previous +ℤ pos limit) end) _ _ (λ z. z ≡ Some x) (λ t. absurd (no_both _ ((and_parts _ _ t).0) (ap is_none e))) (λ _. e))
+    (λ _. cond_both (is_none m.late && int_lt (m.previous +ℤ pos limit) end) _ _ (λ z. z ≡ Some x) (λ t. absurd (both_ways _ (ap is_none e) ((and_parts _ _ t).0))) (λ _. e))
 
 stays_late : (limit : ℕ) (starts : List ℕ) (m : Progress) (rs : List Run) (z : Run) (x : ℕ) → m.late ≡ Some x → Matches starts m.next rs → late_after limit starts (after_runs limit starts m rs) z.end ≡ Some x
 unfolding after_runs
@@ -246,11 +245,11 @@ stays_late limit starts m (q ∷ rs) z x e a =
 late_yes : (limit : ℕ) (starts : List ℕ) (m : Progress) (end : ℤ) (at : ℕ) → m.next ≡ at + 1 → m.late ≡ None → int_lt (m.previous +ℤ pos limit) end ≡ true → late_after limit starts m end ≡ Some (slice_index_or starts at 0)
 late_yes limit starts m end at next none e = cond_both (m.next == 0) _ _ (λ z. z ≡ Some (slice_index_or starts at 0)) (λ t. let z = eqb-true _ _ t in absurd (omega arith))
     (λ _. cond_both (is_none m.late && int_lt (m.previous +ℤ pos limit) end) _ _ (λ z. z ≡ Some (slice_index_or starts at 0))
-    (λ _. ap (λ i. Some (slice_index_or starts i 0)) (let h : m.next - 1 ≡ at = omega arith in h)) (λ f. absurd (no_both _ (and_from _ _ (is_none_of _ none) e) f)))
+    (λ _. ap (λ i. Some (slice_index_or starts i 0)) (let h : m.next - 1 ≡ at = omega arith in h)) (λ f. absurd (both_ways _ f (and_from _ _ (is_none_of _ none) e))))
 
 late_not : (limit : ℕ) (starts : List ℕ) (m : Progress) (end : ℤ) → int_lt (m.previous +ℤ pos limit) end ≡ false → late_after limit starts m end ≡ m.late
 late_not limit starts m end e = cond_both (m.next == 0) _ _ (λ z. z ≡ m.late) (λ _. refl)
-    (λ _. cond_both (is_none m.late && int_lt (m.previous +ℤ pos limit) end) _ _ (λ z. z ≡ m.late) (λ t. absurd (no_both _ ((and_parts _ _ t).1) e)) (λ _. refl))
+    (λ _. cond_both (is_none m.late && int_lt (m.previous +ℤ pos limit) end) _ _ (λ z. z ≡ m.late) (λ t. absurd (both_ways _ e ((and_parts _ _ t).1))) (λ _. refl))
 
 -- what is late is the first of the chain
 pub late_is_first : (limit : ℕ) (starts : List ℕ) (m : Progress) (r : Run) (rs : List Run) (z : Run) (at : ℕ) → m.next ≡ at + 1 → m.previous ≡ r.owner → m.late ≡ None → Matches starts m.next rs →

@@ -1,7 +1,7 @@
 -- What holds in one period and is kept by a step of a period either way holds everywhere.
 use Rattle.std.proofs.Common.{◌≡◌, ℕ, zero, suc, ◌≤◌, ℤ, pos, ◌+ℤ◌, ◌-ℤ◌, ◌<ℤ◌, ◌≤ℤ◌, nat_abs, subst, inl, inr, arith}
 use Rattle.std.proofs.lemmas.Int.{ints}
-use Rattle.ttx_witness.proofs.lemmas.Choices.{cases_ltz}
+use Rattle.ttx_page.proofs.SlotDistances.{cases_ltz}
 
 module _ (n : ℕ) (some : 1 ≤ n) (Q : ℤ → Type 0) (base : (i : ℤ) → pos 0 ≤ℤ i → i <ℤ pos n → Q i)
     (up : (i : ℤ) → Q i → Q (i +ℤ pos n)) (down : (i : ℤ) → Q i → Q (i -ℤ pos n)) where

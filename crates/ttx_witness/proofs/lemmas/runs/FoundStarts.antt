@@ -9,7 +9,7 @@ use Rattle.ttx_witness.specs.runs.Transmissions.{Transmission, Run, start_of, ru
 use Rattle.ttx_witness.specs.runs.SureStarts.{sure_runs, sure_starts}
 use Rattle.ttx_witness.specs.runs.Tracks.{AreInOrder}
 use Rattle.ttx_certificate.specs.Entries.{are_slots, rises, rises_above}
-use Rattle.ttx_witness.proofs.lemmas.runs.AllBetween.{slots}
+use Rattle.ttx_witness.proofs.AllBetween.{slots}
 use Rattle.ttx_witness.proofs.lemmas.runs.Rounds.{length_further, starts_of}
 
 -- slots that rise from low on and stay below 65,536

@@ -1,7 +1,7 @@
 -- Gaps between starts cover every tuning slot.
 use Rattle.std.proofs.Common.{ℕ, zero, suc, ℤ, pos, ◌+ℤ◌, ◌-ℤ◌, ◌<ℤ◌, ◌≤ℤ◌, nat_abs, inl, inr, arith}
 use Rattle.std.proofs.lemmas.Int.{ints}
-use Rattle.ttx_witness.proofs.lemmas.Choices.{cases_ltz}
+use Rattle.ttx_page.proofs.SlotDistances.{cases_ltz}
 
 module _ (Start : ℤ → Type 0) (owner last : (i : ℤ) → Start i → ℤ) (period window : ℕ)
     -- a start's owner is at most a period before it

@@ -3,11 +3,11 @@ use Rattle.std.proofs.Common.{◌≡◌, ◌↔◌, ℕ, zero, suc, ℤ, pos, �
 use Rattle.std.proofs.Common.{inr, arith}
 use Rattle.std.specs.List.{AllByRecursion}
 use Rattle.std.proofs.lemmas.Int.{ints}
+use Rattle.ttx_page.proofs.SlotDistances.{cases_ltz}
 use Rattle.ttx_witness.specs.runs.Transmissions.{Run, start_of, moved_run}
 use Rattle.ttx_witness.specs.runs.Repeating.{Lists, Successive, Repeats, IsSentAt, RunEndsBelow, IsNamedRun, IsInTime, FollowInTime}
-use Rattle.ttx_witness.proofs.lemmas.Choices.{cases_ltz}
 use Rattle.ttx_witness.proofs.lemmas.runs.Gaps as G
-use Rattle.ttx_witness.proofs.lemmas.runs.AllBetween.{lists_join}
+use Rattle.ttx_witness.proofs.AllBetween.{lists_join}
 use Rattle.ttx_witness.proofs.lemmas.runs.MovedStreams.{minus, run_later, run_earlier}
 use Rattle.ttx_witness.proofs.lemmas.runs.EveryPeriod.{everywhere}
 

@@ -2,15 +2,14 @@
 use Rattle.std.proofs.Common.{◌≡◌, ℕ, zero, suc, ◌+◌, ◌-◌, ◌<◌, ◌≤◌, if◌then◌else◌, ◌==◌, nat_lt, List, [], ◌∷◌, ◌++◌, Option, Some, None, map, take}
 use Rattle.std.proofs.Common.{drop, length, refl, sym, ap, ◌∙◌, subst, inl, inr, arith, length-append, slice_get, eqb-true, eq-eqb, unsigned_abs}
 use Rattle.std.proofs.lemmas.List.{map-append, take-append-le, length-take-le, length-drop, drop-append-le, drop-drop}
-use Rattle.std.proofs.lemmas.Bool.{cases_lt, cond_both}
+use Rattle.std.proofs.lemmas.Bool.{cases_lt, cond_both, both_ways}
 use Rattle.std.proofs.lemmas.Bool.Decides.{nat_tests}
 use Rattle.ttx_witness.specs.runs.Transmissions.{Transmission, Run, run_of, run_between, windows, last_slot, all_sure}
 use Rattle.ttx_witness.specs.runs.Confirming.{Progress, confirmed, after_runs}
 use Rattle.ttx_witness.specs.runs.SureStarts.{Spread, sure_runs, sure_starts, spread_after, spread_of, IsFound}
 use Rattle.ttx_witness.specs.runs.Tracks.{ended, keep_last, listed, IsRecent}
 use Rattle.ttx_witness.specs.declared.runs.window.Recent.{Recent}
-use Rattle.ttx_witness.proofs.lemmas.Choices.{no_both}
-use Rattle.ttx_witness.proofs.lemmas.runs.Windows.{windows_step, windows_none, windows_short}
+use Rattle.ttx_witness.proofs.Windows.{windows_step, windows_none, windows_short}
 
 some_same : {A : Type 0} {x y : A} → Some x ≡ Some y → x ≡ y
 some_same e = cc
@@ -80,7 +79,7 @@ ended_step k ts t = elim (cases_lt (length ts) k) as (λ _. ended k (ts ++ t ∷
       let w : windows (suc k) (ts ++ t ∷ []) ≡ windows (suc k) ts ++ keep_last (suc k) (ts ++ t ∷ []) ∷ [] =
       windows_step (suc k) ts t (omega arith) (omega arith) ∙ ap (λ m. windows (suc k) ts ++ drop (m - suc k) (ts ++ t ∷ []) ∷ []) (sym b) in
       ap (map run_of) w ∙ map-append run_of (windows (suc k) ts) (keep_last (suc k) (ts ++ t ∷ []) ∷ [])
-      ∙ cond_both (length (keep_last (suc k) (ts ++ t ∷ [])) == suc k) _ _ (λ x. ended k ts ++ run_of (keep_last (suc k) (ts ++ t ∷ [])) ∷ [] ≡ ended k ts ++ listed x) (λ e. refl) (λ e. absurd (no_both _ (eq-eqb _ _ l) e))
+      ∙ cond_both (length (keep_last (suc k) (ts ++ t ∷ [])) == suc k) _ _ (λ x. ended k ts ++ run_of (keep_last (suc k) (ts ++ t ∷ [])) ∷ [] ≡ ended k ts ++ listed x) (λ e. refl) (λ e. absurd (both_ways _ e (eq-eqb _ _ l)))
 ]
 
 -- what is held after one more, by the equations of the two steps
@@ -121,8 +120,8 @@ sure_more : (rs qs : List Run) → sure_runs (rs ++ qs) ≡ sure_runs rs ++ sure
 unfolding sure_runs
 sure_more [] qs = refl
 sure_more (r ∷ rs) qs = cond_both r.sure (r ∷ sure_runs (rs ++ qs)) (sure_runs (rs ++ qs)) (λ x. x ≡ (if r.sure then r ∷ sure_runs rs else sure_runs rs) ++ sure_runs qs)
-    (λ e. ap (λ x. r ∷ x) (sure_more rs qs) ∙ cond_both r.sure (r ∷ sure_runs rs) (sure_runs rs) (λ x. r ∷ (sure_runs rs ++ sure_runs qs) ≡ x ++ sure_runs qs) (λ _. refl) (λ f. absurd (no_both _ e f)))
-    (λ e. sure_more rs qs ∙ cond_both r.sure (r ∷ sure_runs rs) (sure_runs rs) (λ x. sure_runs rs ++ sure_runs qs ≡ x ++ sure_runs qs) (λ f. absurd (no_both _ f e)) (λ _. refl))
+    (λ e. ap (λ x. r ∷ x) (sure_more rs qs) ∙ cond_both r.sure (r ∷ sure_runs rs) (sure_runs rs) (λ x. r ∷ (sure_runs rs ++ sure_runs qs) ≡ x ++ sure_runs qs) (λ _. refl) (λ f. absurd (both_ways _ f e)))
+    (λ e. sure_more rs qs ∙ cond_both r.sure (r ∷ sure_runs rs) (sure_runs rs) (λ x. sure_runs rs ++ sure_runs qs ≡ x ++ sure_runs qs) (λ f. absurd (both_ways _ e f)) (λ _. refl))
 
 pub starts_more : (rs qs : List Run) → sure_starts (rs ++ qs) ≡ sure_starts rs ++ sure_starts qs
 starts_more rs qs = ap (map (λ r. unsigned_abs r.start)) (sure_more rs qs) ∙ map-append (λ r. unsigned_abs r.start) (sure_runs rs) (sure_runs qs)

@@ -5,14 +5,14 @@ use Rattle.std.specs.List.{AllByRecursion}
 use Rattle.std.proofs.lemmas.Int.{ints}
 use Rattle.std.proofs.lemmas.List.{length-append}
 use Rattle.std.proofs.lemmas.Bool.{cases_lt, cond_both}
+use Rattle.ttx_page.proofs.SlotDistances.{cases_ltz}
 use Rattle.ttx_witness.specs.runs.Transmissions.{Transmission, start_of, Run, run_of, runs, moved_run, windows, further, extended}
 use Rattle.ttx_witness.specs.runs.Confirming.{Progress, Rising, is_next, late_after, confirmed_runs, after_runs, not_begun}
 use Rattle.ttx_witness.specs.runs.Repeating.{Lists, Successive, Repeats, IsSentAt, AreSent, BeginsSureRun, IsRunOf, IsNamedRun, IsInTime}
 use Rattle.ttx_witness.specs.runs.Repeating.{FollowInTime}
-use Rattle.ttx_witness.proofs.lemmas.Choices.{cases_ltz}
-use Rattle.ttx_witness.proofs.lemmas.runs.Windows.{windows_yes, windows_no, windows_short}
+use Rattle.ttx_witness.proofs.Windows.{windows_yes, windows_no, windows_short}
 use Rattle.ttx_witness.proofs.lemmas.runs.Rounds.{extended_lists, length_further}
-use Rattle.ttx_witness.proofs.lemmas.runs.StreamRuns.{Sent, Told, told_sent, told_later, sent_earlier, runs_are}
+use Rattle.ttx_witness.proofs.StreamRuns.{Sent, Told, told_sent, told_later, sent_earlier, runs_are}
 use Rattle.ttx_witness.proofs.lemmas.runs.Neighbours as N
 use Rattle.ttx_witness.proofs.lemmas.runs.ConfirmedStarts.{Matches, chosen_match, marked_chosen, marked_next, late_round, next_is, named_at}
 use Rattle.ttx_witness.proofs.lemmas.runs.ConfirmedStarts.{RisesFrom, NoneFor, stuck}

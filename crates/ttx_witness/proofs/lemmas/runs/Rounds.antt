@@ -6,8 +6,8 @@ use Rattle.std.proofs.lemmas.List.{map-append, length-take-le, length-map, take-
 use Rattle.std.proofs.lemmas.Int.{ints}
 use Rattle.ttx_witness.specs.runs.Transmissions.{Transmission, slot_of, later, further, extended, windows, run_of}
 use Rattle.ttx_witness.specs.runs.Repeating.{Lists}
-use Rattle.ttx_witness.proofs.lemmas.runs.Windows.{further_is, windows_yes, windows_short}
-use Rattle.ttx_witness.proofs.lemmas.runs.AllBetween.{slots, IsWindow, windows_are, lists_join, lists_later, lists_prefix}
+use Rattle.ttx_witness.proofs.Windows.{further_is, windows_yes, windows_short}
+use Rattle.ttx_witness.proofs.AllBetween.{slots, IsWindow, windows_are, lists_join, lists_later, lists_prefix}
 
 rounds : ℕ → ℕ → List Transmission → List Transmission
 rounds n zero ts = ts

@@ -5,13 +5,13 @@ use Rattle.std.specs.List.{Contains, AllByRecursion}
 use Rattle.std.proofs.lemmas.List.{length-map}
 use Rattle.std.proofs.lemmas.List.Elements.{Contains-get_or, at_from_Contains}
 use Rattle.std.proofs.lemmas.Int.{ints}
-use Rattle.std.proofs.lemmas.Bool.{cases_lt, cases_Bool, cond_both}
+use Rattle.std.proofs.lemmas.Bool.{cases_lt, cases_Bool, cond_both, both_ways}
 use Rattle.ttx_witness.specs.runs.Transmissions.{Transmission, Run, runs, moved_run}
 use Rattle.ttx_witness.specs.runs.Confirming.{Rising}
 use Rattle.ttx_witness.specs.runs.Repeating.{Repeats, AreSent, BeginsSureRun, IsRunOf, IsNamed, Covers}
 use Rattle.ttx_witness.specs.runs.SureStarts.{Spread, sure_runs, sure_starts, spread_after, spread_of, above_zero, width}
 use Rattle.ttx_witness.specs.laws.RunLaws.{IsLeastLimit}
-use Rattle.ttx_witness.proofs.lemmas.Choices.{no_both, abs_is}
+use Rattle.ttx_witness.proofs.lemmas.WholeNumbers.{abs_is}
 use Rattle.ttx_witness.proofs.lemmas.runs.ConfirmedStarts.{named_at, Matches, is_next_of, RisesFrom, NoneFor}
 use Rattle.ttx_witness.proofs.lemmas.runs.Coverage.{named_up, named_down, named_is, named_in, more_cover}
 use Rattle.ttx_witness.proofs.lemmas.runs.LeastLimits.{widest, in_step_widest}
@@ -95,7 +95,7 @@ found_or x low (r ∷ rs) z u =
     ])
     (λ unsure. elim rest as (λ _. ((i : ℕ) × (i < length (sure_starts rs)) × (slice_index_or (sure_starts rs) i 0 ≡ x)) ⊎ NoneFor (pos x) (r ∷ rs)) [
       | inl f ↦ inl f
-      | inr n ↦ inr ((λ q g. no_both _ g unsure), n)
+      | inr n ↦ inr ((λ q g. both_ways _ unsure g), n)
     ])
 
 -- the spread of the sure runs
@@ -103,9 +103,9 @@ spread_sure : (s : Option Spread) (rs : List Run) → spread_of s rs ≡ spread_
 unfolding spread_of sure_runs
 spread_sure s [] = refl
 spread_sure s (r ∷ rs) = elim (cases_Bool r.sure) as (λ _. spread_of s (r ∷ rs) ≡ spread_of s (sure_runs (r ∷ rs))) [
-  | inl e ↦ spread_sure (spread_after s r) rs ∙ cond_both r.sure (r ∷ sure_runs rs) (sure_runs rs) (λ qs. spread_of (spread_after s r) (sure_runs rs) ≡ spread_of s qs) (λ _. refl) (λ f. absurd (no_both _ e f))
-  | inr e ↦ ap (λ x. spread_of x rs) (cond_both r.sure _ s (λ x. x ≡ s) (λ f. absurd (no_both _ f e)) (λ _. refl)) ∙ spread_sure s rs
-      ∙ cond_both r.sure (r ∷ sure_runs rs) (sure_runs rs) (λ qs. spread_of s (sure_runs rs) ≡ spread_of s qs) (λ f. absurd (no_both _ f e)) (λ _. refl)
+  | inl e ↦ spread_sure (spread_after s r) rs ∙ cond_both r.sure (r ∷ sure_runs rs) (sure_runs rs) (λ qs. spread_of (spread_after s r) (sure_runs rs) ≡ spread_of s qs) (λ _. refl) (λ f. absurd (both_ways _ f e))
+  | inr e ↦ ap (λ x. spread_of x rs) (cond_both r.sure _ s (λ x. x ≡ s) (λ f. absurd (both_ways _ e f)) (λ _. refl)) ∙ spread_sure s rs
+      ∙ cond_both r.sure (r ∷ sure_runs rs) (sure_runs rs) (λ qs. spread_of s (sure_runs rs) ≡ spread_of s qs) (λ f. absurd (both_ways _ e f)) (λ _. refl)
 ]
 
 -- the greatest distance, once the run after the last is looked at
@@ -125,7 +125,7 @@ closes s r [] z a e = record {
 }
 closes s r (q ∷ qs) z a e =
     let s' : Spread = record { first_end = s.first_end; previous = q.owner; widest = max s.widest (above_zero (q.end -ℤ s.previous)) } in
-    let after : spread_after (Some s) q ≡ Some s' = cond_both q.sure (Some s') (Some s) (λ x. x ≡ Some s') (λ _. refl) (λ f. absurd (no_both _ a.0 f)) in
+    let after : spread_after (Some s) q ≡ Some s' = cond_both q.sure (Some s') (Some s) (λ x. x ≡ Some s') (λ _. refl) (λ f. absurd (both_ways _ f a.0)) in
     let i = closes s' q qs z a.1 refl in
     record {
       spread = i.spread;
@@ -138,7 +138,7 @@ pub found_closed : (g : Run) (qs : List Run) (z : Run) → AllSure (g ∷ qs) �
 unfolding spread_of
 found_closed g qs z a =
     let s : Spread = record { first_end = g.end; previous = g.owner; widest = 0 } in
-    let after : spread_after None g ≡ Some s = cond_both g.sure (Some s) None (λ x. x ≡ Some s) (λ _. refl) (λ f. absurd (no_both _ a.0 f)) in
+    let after : spread_after None g ≡ Some s = cond_both g.sure (Some s) None (λ x. x ≡ Some s) (λ _. refl) (λ f. absurd (both_ways _ f a.0)) in
     let i = closes s g qs z a.1 refl in
     record { spread = i.spread; is = ap (λ x. spread_of x qs) after ∙ i.is; first_is = i.first_is; width_is = i.width_is ∙ omega arith }
 

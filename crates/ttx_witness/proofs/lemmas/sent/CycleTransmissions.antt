@@ -14,7 +14,7 @@ use Rattle.ttx_witness.specs.runs.Repeating.{Repeats, Successive, IsSentAt, IsSu
 use Rattle.ttx_witness.specs.Coverage.{Certificate, limit, IsCovered}
 use Rattle.ttx_witness.specs.sent.ItemTransmissions.{sent_in, entry_owner}
 use Rattle.ttx_witness.proofs.lemmas.runs.Coverage.{turned_once}
-use Rattle.ttx_witness.proofs.lemmas.runs.AllBetween.{lists_low, lists_high, lists_rise}
+use Rattle.ttx_witness.proofs.AllBetween.{lists_low, lists_high, lists_rise}
 use Rattle.ttx_witness.proofs.lemmas.sent.Periods.{repeats}
 use Rattle.ttx_witness.proofs.lemmas.sent.StreamOwners as O
 

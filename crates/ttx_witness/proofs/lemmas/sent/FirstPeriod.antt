@@ -15,7 +15,7 @@ use Rattle.ttx_witness.specs.runs.Repeating.{AreSent}
 use Rattle.ttx_witness.specs.sent.ItemTransmissions.{PageOwner, tainted_by, owner_after, owner_scan, owner_moved, sent_under, sent_at, sent_scan}
 use Rattle.ttx_witness.specs.sent.ItemTransmissions.{sent_after, entry_owner}
 use Rattle.ttx_witness.specs.laws.JudgingLaws.{FirstPeriodIsListed}
-use Rattle.ttx_witness.proofs.lemmas.runs.AllBetween.{lists_low, lists_high, lists_rise}
+use Rattle.ttx_witness.proofs.AllBetween.{lists_low, lists_high, lists_rise}
 use Rattle.ttx_witness.proofs.lemmas.sent.CycleTransmissions.{period_of}
 use Rattle.ttx_witness.proofs.lemmas.sent.StreamOwners as O
 

@@ -1,7 +1,7 @@
 -- What a slot sends, by the places of the items of pages.
 use Rattle.std.proofs.Common.{◌≡◌, ℕ, nat_lt, Option, None, ap, ◌+◌, ◌*◌, ◌<◌, Bool, true, false, ◌&&◌, ◌==◌, if◌then◌else◌, List, [], ◌∷◌, ◌++◌}
 use Rattle.std.proofs.Common.{Some, refl, sym, ◌∙◌, inl, inr, arith, eqb-true, eq-eqb}
-use Rattle.std.proofs.lemmas.Bool.{cases_lt, cases_Bool, and_parts}
+use Rattle.std.proofs.lemmas.Bool.{cases_lt, cases_Bool, and_parts, both_ways}
 use Rattle.std.proofs.lemmas.Bool.Decides.{nat_tests}
 use Rattle.std.proofs.lemmas.List.{append-nil}
 use Rattle.ttx_page.specs.declared.item.Item.{Item}
@@ -10,7 +10,6 @@ use Rattle.ttx_witness.specs.sent.Collected.{IsItem, item_number, place_of_item}
 use Rattle.ttx_witness.specs.sent.OneSlot.{sent_of, sends_place, placed_at}
 use Rattle.ttx_witness.specs.declared.runs.transmissions.Transmission.{Transmission}
 use Rattle.ttx_witness.specs.declared.sent.one_slot.Sent.{Sent}
-use Rattle.ttx_witness.proofs.lemmas.Choices.{no_both}
 
 pub item_small : (item : Item) → IsItem item → item_number item < 26
 item_small TheHead is = omega arith
@@ -37,7 +36,7 @@ same_place i page number item is lt = bool_same _ _
           let b : page ≡ i = eqb-true _ _ ((and_parts (item_number item == number) (page == i) e).1) in
           let r : place_of_item i item ≡ 26 * page + number = omega arith in
           eq-eqb _ _ r
-      | inr p ↦ absurd (no_both _ ((and_parts (item_number item == number) (page == i) e).0) p)
+      | inr p ↦ absurd (both_ways _ p ((and_parts (item_number item == number) (page == i) e).0))
     ])
 
 -- a slot, by page and number
@@ -71,7 +70,7 @@ placed_added place n s ts here = elim (cases_Bool (n == place)) as (λ _. (if n 
       let sends : sends_place n (Some s) ≡ true = ap (λ m. sends_place m (Some s)) (eqb-true n place e) ∙ here in
       rw e (ap (λ b. ts ++ (if b then s.transmission ∷ [] else [])) (sym sends))
   | inr e ↦
-      let silent = never n (λ sends. no_both (n == place) (eq-eqb n place (one_place n place (Some s) sends here)) e) in
+      let silent = never n (λ sends. both_ways (n == place) e (eq-eqb n place (one_place n place (Some s) sends here))) in
       rw e (sym (append-nil ts) ∙ ap (λ b. ts ++ (if b then s.transmission ∷ [] else [])) (sym silent))
 ]
   where

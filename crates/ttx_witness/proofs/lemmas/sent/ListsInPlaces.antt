@@ -2,10 +2,9 @@
 use Rattle.std.proofs.Common.{◌≡◌, ℕ, zero, suc, ◌<◌, ◌==◌, if◌then◌else◌, List, [], ◌∷◌, ◌++◌, map, length, get_or, set, Vec, Global, refl, sym, ap}
 use Rattle.std.proofs.Common.{◌∙◌, arith, eqb-true, eq-eqb, get_or-set_same, get_or-set_other}
 use Rattle.std.proofs.lemmas.List.{length-map, map-set}
-use Rattle.std.proofs.lemmas.Bool.{cond_both}
+use Rattle.std.proofs.lemmas.Bool.{cond_both, both_ways}
 use Rattle.ttx_witness.specs.runs.Transmissions.{Transmission}
 use Rattle.ttx_witness.specs.sent.Collected.{held}
-use Rattle.ttx_witness.proofs.lemmas.Choices.{no_both}
 
 abbrev Lists : Type 0
 Lists = List (Vec Transmission Global)
@@ -23,4 +22,4 @@ held_set vs at v d more lt e n = cond_both (n == at) _ _ (λ x. held (set vs at 
     ap (λ y. get_or y n []) (map-set (λ x. x.items) vs at v) ∙ ap (λ y. get_or (set (map (λ x. x.items) vs) at v.items) y []) p
     ∙ get_or-set_same (map (λ x. x.items) vs) at v.items [] (let l = length-map vs (λ x. x.items) in omega arith)
     ∙ e ∙ ap (λ y. y ++ more) (sym (held_is vs at d lt)) ∙ ap (λ y. held vs y ++ more) (sym p))
-    (λ q. ap (λ y. get_or y n []) (map-set (λ x. x.items) vs at v) ∙ get_or-set_other (map (λ x. x.items) vs) at n v.items [] (λ p. no_both _ (eq-eqb n at p) q))
+    (λ q. ap (λ y. get_or y n []) (map-set (λ x. x.items) vs at v) ∙ get_or-set_other (map (λ x. x.items) vs) at n v.items [] (λ p. both_ways _ q (eq-eqb n at p)))

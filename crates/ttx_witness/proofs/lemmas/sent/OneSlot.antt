@@ -1,7 +1,7 @@
 -- What one slot sends of the items of pages.
 use Rattle.std.proofs.Common.{◌≡◌, ℕ, ◌-◌, ◌≤◌, ℤ, Bool, true, false, ◌&&◌, ◌==◌, if◌then◌else◌, Bor, List, [], ◌∷◌, ◌++◌, get_or, slice_get, Option}
 use Rattle.std.proofs.Common.{Some, None, refl, sym, ap, ◌∙◌, subst, inl, inr, arith, eqb-true, eq-eqb}
-use Rattle.std.proofs.lemmas.Bool.{cases_Bool, cond_both}
+use Rattle.std.proofs.lemmas.Bool.{cases_Bool, cond_both, both_ways, cond-true, cond-false}
 use Rattle.std.proofs.lemmas.List.{append-nil}
 use Rattle.ttx_packet.specs.Slots.{Kind, IsEmpty, IsUnreadable, IsHeader, IsRow, IsLinks, IsInfo, IsOther, kind_of}
 use Rattle.ttx_packet.specs.Lent.{ShowsAs}
@@ -19,7 +19,6 @@ use Rattle.ttx_witness.specs.runs.Transmissions.{Transmission}
 use Rattle.ttx_witness.specs.sent.ItemTransmissions.{PageOwner, sent_under, sent_at}
 use Rattle.ttx_witness.specs.sent.Collected.{is_page, seen_by, Finds, owner_for, IsForeign, AreApart, IsItem, item_number}
 use Rattle.ttx_witness.specs.declared.sent.owners.Owner.{Owner}
-use Rattle.ttx_witness.proofs.lemmas.Choices.{no_both, if_true, if_false}
 use Rattle.ttx_witness.proofs.lemmas.sent.OwnersAfterSlot.{packet_is}
 
 not_equal : (a b : ℕ) → (a ≡ b → ⊥) → (a == b) ≡ false
@@ -27,22 +26,22 @@ not_equal a b d = elim (cases_Bool (a == b)) as (λ _. (a == b) ≡ false) [ inl
 
 foreign : (lines i : ℕ) (j : ℤ) (o : Option Owner) → IsForeign i o → sent_under lines j (seen_by i o) ≡ []
 foreign lines i j None f = refl
-foreign lines i j (Some o) f = if_false (is_page i o.page) _ _ f
+foreign lines i j (Some o) f = cond-false (is_page i o.page) _ _ f
 
 module _ (ids : List Id) (lines : ℕ) (j : ℤ) (owners : List (Option Owner)) (apart : AreApart ids owners) (mag : ℕ) (from : 1 ≤ mag) (to : mag ≤ 8) (i : ℕ) (id : Id) (at : slice_get ids i ≡ Some id) where
   -- under the owner of its magazine
   under : sent_under lines j (seen_by i (get_or owners (mag - 1) None)) ≡ (if mag == id.mag then sent_under lines j (owner_for owners i id) else [])
   under = cond_both (mag == id.mag) _ _ (λ x. sent_under lines j (seen_by i (get_or owners (mag - 1) None)) ≡ x)
       (λ e. ap (λ m. sent_under lines j (seen_by i (get_or owners (m - 1) None))) (eqb-true mag id.mag e))
-      (λ e. foreign lines i j (get_or owners (mag - 1) None) (apart (mag - 1) i id (omega arith) at (λ q. no_both _ (eq-eqb mag id.mag (let k : mag ≡ id.mag = omega arith in k)) e)))
+      (λ e. foreign lines i j (get_or owners (mag - 1) None) (apart (mag - 1) i id (omega arith) at (λ q. both_ways _ e (eq-eqb mag id.mag (let k : mag ≡ id.mag = omega arith in k)))))
 
   row_sent : (number : ℕ) (text : List ℕ) → 1 ≤ number → number ≤ 24 → (item : Item) → IsItem item →
       (if item_number item == number then sent_under lines j (seen_by i (get_or owners (mag - 1) None)) else []) ≡ sent_at id lines item j (Row mag number text) (owner_for owners i id)
-  row_sent number text low high TheHead is = if_false (0 == number) _ _ (not_equal 0 number (λ e. omega arith))
-  row_sent number text low high TheLinks is = if_false (25 == number) _ _ (not_equal 25 number (λ e. omega arith))
+  row_sent number text low high TheHead is = cond-false (0 == number) _ _ (not_equal 0 number (λ e. omega arith))
+  row_sent number text low high TheLinks is = cond-false (25 == number) _ _ (not_equal 25 number (λ e. omega arith))
   row_sent number text low high (TheRow r) is = elim (cases_Bool (r == number)) as (λ _. (if r == number then sent_under lines j (seen_by i (get_or owners (mag - 1) None)) else []) ≡ sent_at id lines (TheRow r) j (Row mag number text) (owner_for owners i id)) [
-    | inl e ↦ if_true (r == number) _ _ e ∙ under ∙ both (mag == id.mag) (number == r) (sent_under lines j (owner_for owners i id)) (eq-eqb number r (sym (eqb-true r number e)))
-    | inr e ↦ if_false (r == number) _ _ e ∙ sym (none (mag == id.mag) (number == r) (sent_under lines j (owner_for owners i id)) (not_equal number r (λ q. no_both _ (eq-eqb r number (sym q)) e)))
+    | inl e ↦ cond-true (r == number) _ _ e ∙ under ∙ both (mag == id.mag) (number == r) (sent_under lines j (owner_for owners i id)) (eq-eqb number r (sym (eqb-true r number e)))
+    | inr e ↦ cond-false (r == number) _ _ e ∙ sym (none (mag == id.mag) (number == r) (sent_under lines j (owner_for owners i id)) (not_equal number r (λ q. both_ways _ e (eq-eqb r number (sym q)))))
   ]
     where
       both : (a b : Bool) (x : List Transmission) → b ≡ true → (if a then x else []) ≡ (if a && b then x else [])
@@ -59,7 +58,7 @@ module _ (ids : List Id) (lines : ℕ) (j : ℤ) (owners : List (Option Owner)) 
       (if item_number item == 25 then sent_under lines j (seen_by i (get_or owners (mag - 1) None)) else []) ≡ sent_at id lines item j (Links mag content) (owner_for owners i id)
   links_sent content TheHead is = refl
   links_sent content TheLinks is = under
-  links_sent content (TheRow r) is = if_false (r == 25) _ _ (not_equal r 25 (λ e. let h = is.1 in omega arith))
+  links_sent content (TheRow r) is = cond-false (r == 25) _ _ (not_equal r 25 (λ e. let h = is.1 in omega arith))
 
   pub row_slot_sent : (slot : List ℕ) (number : ℕ) → (1 ≤ number) × (number ≤ 24) → kind_of slot ≡ IsRow mag number → (m n : ℕ) (k : ℤ) → m ≡ mag → n ≡ number → k ≡ j → (item : Item) → IsItem item →
       (if item_number item == n then sent_under lines k (seen_by i (get_or owners (m - 1) None)) else []) ≡ sent_at id lines item j (packet_of slot) (owner_for owners i id)
@@ -85,7 +84,7 @@ head_slot_sent ids lines j o slot mag hid page k same finds z ez i id at item is
   where
     go : (item : Item) → IsItem item → (if (item_number item == 0) && is_page i page then record { slot = j; owner = j; sure = true } ∷ [] else []) ≡ sent_at id lines item j (packet_of_kind slot (IsHeader mag)) o
     go TheHead is = ap (λ b. if b then record { slot = j; owner = j; sure = true } ∷ [] else []) (finds i id at ∙ ap (same_id id) same)
-    go (TheRow r) is = if_false ((r == 0) && is_page i page) _ _ (first (not_equal r 0 (λ e. let h = is.0 in omega arith)))
+    go (TheRow r) is = cond-false ((r == 0) && is_page i page) _ _ (first (not_equal r 0 (λ e. let h = is.0 in omega arith)))
       where
         first : (r == 0) ≡ false → ((r == 0) && is_page i page) ≡ false
         first e = ap (λ b. b && is_page i page) e

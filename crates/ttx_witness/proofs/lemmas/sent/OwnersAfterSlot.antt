@@ -1,7 +1,7 @@
 -- What one slot makes of the owners of the magazines, and of the lists of transmissions.
 use Rattle.std.proofs.Common.{◌≡◌, ℕ, ◌-◌, ◌<◌, ◌≤◌, ℤ, Bool, true, false, not, ◌&&◌, ◌||◌, ◌==◌, if◌then◌else◌, List, get_or, slice_get, Option}
 use Rattle.std.proofs.Common.{Some, None, refl, sym, ap, ◌∙◌, subst, inl, inr, arith, eqb-true, eq-eqb}
-use Rattle.std.proofs.lemmas.Bool.{cases_Bool, and_parts, cond_both}
+use Rattle.std.proofs.lemmas.Bool.{cases_Bool, and_parts, cond_both, both_ways}
 use Rattle.ttx_packet.specs.Slots.{Kind, IsEmpty, IsUnreadable, IsHeader, IsRow, IsLinks, IsInfo, IsOther, kind_of}
 use Rattle.ttx_header.specs.Control.{c11}
 use Rattle.ttx_header.specs.Headers.{id_of, control_of}
@@ -10,7 +10,6 @@ use Rattle.ttx_page.specs.Packets.{packet_of, packet_of_kind}
 use Rattle.ttx_witness.specs.sent.ItemTransmissions.{PageOwner, tainted_by, owner_after}
 use Rattle.ttx_witness.specs.sent.Collected.{taint, seen_by, Finds, owner_for, IsForeign, AreApart}
 use Rattle.ttx_witness.specs.declared.sent.owners.Owner.{Owner}
-use Rattle.ttx_witness.proofs.lemmas.Choices.{no_both}
 
 pub packet_is : (slot : List ℕ) (k : Kind) → kind_of slot ≡ k → packet_of slot ≡ packet_of_kind slot k
 unfolding packet_of
@@ -64,7 +63,7 @@ module _ (slot : List ℕ) (mag : ℕ) (kind : kind_of slot ≡ IsHeader mag) (s
     (noted : (m : ℕ) → m < 8 → get_or new m None ≡ (if m == mag - 1 then Some (record { slot = j; page = page; tainted = false }) else taint (c11 (control_of slot)) (get_or old m None)))
     (ids : List Id) (finds : Finds ids (id_of slot) page) where
   new_here : (m : ℕ) → m < 8 → m ≡ mag - 1 → get_or new m None ≡ Some (record { slot = j; page = page; tainted = false })
-  new_here m lt e = noted m lt ∙ cond_both (m == mag - 1) _ _ (λ x. x ≡ Some (record { slot = j; page = page; tainted = false })) (λ _. refl) (λ f. absurd (no_both _ (eq-eqb m (mag - 1) e) f))
+  new_here m lt e = noted m lt ∙ cond_both (m == mag - 1) _ _ (λ x. x ≡ Some (record { slot = j; page = page; tainted = false })) (λ _. refl) (λ f. absurd (both_ways _ f (eq-eqb m (mag - 1) e)))
 
   new_other : (m : ℕ) → m < 8 → (m ≡ mag - 1 → ⊥) → get_or new m None ≡ taint (c11 (control_of slot)) (get_or old m None)
   new_other m lt d = noted m lt ∙ cond_both (m == mag - 1) _ _ (λ x. x ≡ taint (c11 (control_of slot)) (get_or old m None)) (λ e. absurd (d (eqb-true m (mag - 1) e))) (λ _. refl)
@@ -75,13 +74,13 @@ module _ (slot : List ℕ) (mag : ℕ) (kind : kind_of slot ≡ IsHeader mag) (s
         let q : (id_of slot).mag ≡ id.mag = eqb-true (id_of slot).mag id.mag e in
         let h = is.mag_from in let g = is.mag_to in
         ap (seen_by i) (new_here (id.mag - 1) (omega arith) (omega arith)) ∙ ap (λ b. Some (record { slot = j; mine = b; tainted = false })) (finds i id at)
-        ∙ cond_both ((id_of slot).mag == id.mag) _ _ (λ x. Some (record { slot = j; mine = same_id id (id_of slot); tainted = false }) ≡ x) (λ _. refl) (λ f. absurd (no_both _ e f))
+        ∙ cond_both ((id_of slot).mag == id.mag) _ _ (λ x. Some (record { slot = j; mine = same_id id (id_of slot); tainted = false }) ≡ x) (λ _. refl) (λ f. absurd (both_ways _ f e))
     | inr e ↦
         let h = is.mag_from in let g = is.mag_to in
-        let d : (id.mag - 1 ≡ mag - 1 → ⊥) = λ p. no_both _ (eq-eqb (id_of slot).mag id.mag (omega arith)) e in
+        let d : (id.mag - 1 ≡ mag - 1 → ⊥) = λ p. both_ways _ e (eq-eqb (id_of slot).mag id.mag (omega arith)) in
         ap (seen_by i) (new_other (id.mag - 1) (omega arith) d) ∙ seen_taint i (c11 (control_of slot)) (get_or old (id.mag - 1) None)
         ∙ ap (λ b. tainted_by (not b && c11 (control_of slot)) (owner_for old i id)) (sym e)
-        ∙ cond_both ((id_of slot).mag == id.mag) _ _ (λ x. tainted_by (not ((id_of slot).mag == id.mag) && c11 (control_of slot)) (owner_for old i id) ≡ x) (λ f. absurd (no_both _ f e)) (λ _. refl)
+        ∙ cond_both ((id_of slot).mag == id.mag) _ _ (λ x. tainted_by (not ((id_of slot).mag == id.mag) && c11 (control_of slot)) (owner_for old i id) ≡ x) (λ f. absurd (both_ways _ e f)) (λ _. refl)
   ])
 
   foreign_taint : (i : ℕ) (b : Bool) (o : Option Owner) → IsForeign i o → IsForeign i (taint b o)
@@ -95,7 +94,7 @@ module _ (slot : List ℕ) (mag : ℕ) (kind : kind_of slot ≡ IsHeader mag) (s
   apart_comes a m i id lt at d = elim (cases_Bool (m == mag - 1)) as (λ _. IsForeign i (get_or new m None)) [
     | inl e ↦ let q : m ≡ mag - 1 = eqb-true m (mag - 1) e in
         subst (IsForeign i) (sym (new_here m lt q)) (finds i id at ∙ other_mag id (id_of slot) (λ p. d (omega arith)))
-    | inr e ↦ subst (IsForeign i) (sym (new_other m lt (λ q. no_both _ (eq-eqb m (mag - 1) q) e))) (foreign_taint i (c11 (control_of slot)) (get_or old m None) (a m i id lt at d))
+    | inr e ↦ subst (IsForeign i) (sym (new_other m lt (λ q. both_ways _ e (eq-eqb m (mag - 1) q)))) (foreign_taint i (c11 (control_of slot)) (get_or old m None) (a m i id lt at d))
   ]
 
 -- the same for a header as it is read

@@ -9,13 +9,12 @@ use Rattle.std.proofs.lemmas.Map.Made.{IsDistinct-from_AllPairs}
 use Rattle.std.proofs.lemmas.Map.Steps.{length-le_from_distinct_below}
 use Rattle.std.proofs.lemmas.Bool.Decides.{Decides-eqb}
 use Rattle.std.proofs.Math.Dec.{eqb}
-use Rattle.std.proofs.lemmas.Bool.{cases_lt, cases_Bool, and_from, and_parts, cond_both}
+use Rattle.std.proofs.lemmas.Bool.{cases_lt, cases_Bool, and_from, and_parts, cond_both, both_ways}
 use Rattle.ttx_header.specs.Ids.{Id, IsId, same_id}
 use Rattle.ttx_page.specs.declared.page.Page.{Page as PageValue}
 use Rattle.ttx_page.specs.Pages.{Page, IsPage}
 use Rattle.ttx_page.specs.Views.{page_of, ids_of}
 use Rattle.ttx_witness.specs.sent.Collected.{is_page, Finds, key_of}
-use Rattle.ttx_witness.proofs.lemmas.Choices.{no_both}
 
 id_same : (a b : Id) → a.mag ≡ b.mag → a.page ≡ b.page → a.sub ≡ b.sub → a ≡ b
 id_same a b m p s = λ i. record { mag = m i; page = p i; sub = s i }
@@ -91,16 +90,16 @@ module _ (ids : List Id) (are : (i : ℕ) (id : Id) → slice_get ids i ≡ Some
           let q : i ≡ n = omega arith in
           let s : other ≡ own = let e2 = subst (λ x. slice_get ids x ≡ Some other) q e in cc in
           put (key_of other) ∙ cond_both (key_of own == key_of other) _ _ (λ x. x ≡ Some i)
-          (λ _. ap Some (sym q)) (λ f. absurd (no_both _ (eq-eqb (key_of own) (key_of other) (ap key_of (sym s))) f))
+          (λ _. ap Some (sym q)) (λ f. absurd (both_ways _ f (eq-eqb (key_of own) (key_of other) (ap key_of (sym s)))))
     ];
     sound = λ key i other e f. elim (cases_Bool (key_of own == key)) as (λ _. key_of other ≡ key) [
       | inl q ↦
-          let h : new key ≡ Some n = put key ∙ cond_both (key_of own == key) _ _ (λ x. x ≡ Some n) (λ _. refl) (λ g. absurd (no_both _ q g)) in
+          let h : new key ≡ Some n = put key ∙ cond_both (key_of own == key) _ _ (λ x. x ≡ Some n) (λ _. refl) (λ g. absurd (both_ways _ g q)) in
           let k : i ≡ n = cc in
           let s : other ≡ own = let e2 = subst (λ x. slice_get ids x ≡ Some other) k f in cc in
           ap key_of s ∙ eqb-true _ _ q
       | inr q ↦
-          let h : new key ≡ at key = put key ∙ cond_both (key_of own == key) _ _ (λ x. x ≡ at key) (λ g. absurd (no_both _ g q)) (λ _. refl) in
+          let h : new key ≡ at key = put key ∙ cond_both (key_of own == key) _ _ (λ x. x ≡ at key) (λ g. absurd (both_ways _ q g)) (λ _. refl) in
           a.sound key i other (sym h ∙ e) f
     ];
   }
@@ -120,7 +119,7 @@ module _ (ids : List Id) (are : (i : ℕ) (id : Id) → slice_get ids i ≡ Some
         | inl f ↦
             let k : at (key_of id) ≡ Some i = q ∙ ap Some (eqb-true j i f) in
             let same : own ≡ id = key_one own id (are i own e) is (a.sound (key_of id) i own k e) in
-            absurd (no_both _ (subst (λ x. same_id own x ≡ true) same (same_self own)) s)
+            absurd (both_ways _ s (subst (λ x. same_id own x ≡ true) same (same_self own)))
         | inr f ↦ f
       ]
 

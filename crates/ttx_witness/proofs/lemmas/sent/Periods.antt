@@ -1,20 +1,21 @@
 -- A stream that repeats after n slots: its owners and sure transmissions do too.
 use Rattle.std.proofs.Common.{◌≡◌, ◌↔◌, ℕ, ◌≤◌, ℤ, pos, ◌+ℤ◌, ◌-ℤ◌, ◌<ℤ◌, ◌≤ℤ◌, false, sym, ap, ◌∙◌, subst, inl, inr, arith}
 use Rattle.std.proofs.lemmas.Int.{ints}
+use Rattle.std.proofs.lemmas.Bool.{both_ways}
+use Rattle.ttx_page.proofs.SlotDistances.{cases_ltz}
 use Rattle.ttx_header.specs.Ids.{Id}
 use Rattle.ttx_page.specs.Packets.{packet_of}
 use Rattle.ttx_page.specs.declared.item.Item.{Item}
 use Rattle.ttx_page.specs.declared.item.Item.TheVariants.{Head as TheHead, Row as TheRow, Links as TheLinks}
 use Rattle.ttx_page.specs.Streams.{Stream, heads, heads_page, ends_serial, carries, IsLatestHeader, IsOwned, IsSure}
 use Rattle.ttx_witness.specs.runs.Repeating.{Repeats}
-use Rattle.ttx_witness.proofs.lemmas.Choices.{no_both, cases_ltz}
 
 -- one slot has one owner
 pub latest_same : (s : Stream) (mag : ℕ) (h k j : ℤ) → IsLatestHeader s mag h j → IsLatestHeader s mag k j → h ≡ k
 latest_same s mag h k j a b = elim (cases_ltz h k) as (λ _. h ≡ k) [
-  | inl lt ↦ absurd (no_both _ b.is_header (a.none_between k lt b.earlier))
+  | inl lt ↦ absurd (both_ways _ (a.none_between k lt b.earlier) b.is_header)
   | inr ge ↦ elim (cases_ltz k h) as (λ _. h ≡ k) [
-    | inl lt ↦ absurd (no_both _ a.is_header (b.none_between h lt a.earlier))
+    | inl lt ↦ absurd (both_ways _ (b.none_between h lt a.earlier) a.is_header)
     | inr le ↦ omega (arith, ints)
   ]
 ]
@@ -32,7 +33,7 @@ owned_before s page TheLinks h j a = let e = a.0.earlier in omega (arith, ints)
 
 latest_monotone : (s : Stream) (mag : ℕ) (h k i j : ℤ) → i ≤ℤ j → IsLatestHeader s mag h i → IsLatestHeader s mag k j → h ≤ℤ k
 latest_monotone s mag h k i j le a b = elim (cases_ltz k h) as (λ _. h ≤ℤ k) [
-  | inl lt ↦ absurd (no_both _ a.is_header (b.none_between h lt (let e = a.earlier in omega (arith, ints))))
+  | inl lt ↦ absurd (both_ways _ (b.none_between h lt (let e = a.earlier in omega (arith, ints))) a.is_header)
   | inr ge ↦ ge
 ]
 
@@ -92,7 +93,7 @@ module _ (s : Stream) (n : ℕ) (period : (i : ℤ) → s (i +ℤ pos n) ≡ s i
   latest_near : 1 ≤ n → (mag : ℕ) (h j : ℤ) → IsLatestHeader s mag h j → j ≤ℤ (h +ℤ pos n)
   latest_near some mag h j a = elim (cases_ltz (h +ℤ pos n) j) as (λ _. j ≤ℤ (h +ℤ pos n)) [
     | inl lt ↦ elim (cases_ltz h (h +ℤ pos n)) as (λ _. j ≤ℤ (h +ℤ pos n)) [
-      | inl up ↦ absurd (no_both _ (ap (λ x. heads mag (packet_of x)) (period h) ∙ a.is_header) (a.none_between (h +ℤ pos n) up lt))
+      | inl up ↦ absurd (both_ways _ (a.none_between (h +ℤ pos n) up lt) (ap (λ x. heads mag (packet_of x)) (period h) ∙ a.is_header))
       | inr dn ↦ absurd (omega (arith, ints))
     ]
     | inr ge ↦ ge

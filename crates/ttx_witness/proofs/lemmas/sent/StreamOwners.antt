@@ -1,20 +1,20 @@
 -- Owners that are kept while slots pass are the stream's.
 use Rattle.std.proofs.Common.{◌≡◌, ◌⊎◌, ◌↔◌, ℕ, zero, suc, ◌≤◌, ℤ, pos, ◌+ℤ◌, ◌-ℤ◌, ◌<ℤ◌, ◌≤ℤ◌, Bool, true, false, not, ◌&&◌, ◌||◌, int_lt, List, []}
 use Rattle.std.proofs.Common.{◌∷◌, ◌++◌, Option, Some, None, refl, sym, ap, ◌∙◌, subst, inl, inr, arith}
-use Rattle.std.proofs.lemmas.Bool.{cases_Bool, and_from, and_parts, cond_both}
+use Rattle.std.proofs.lemmas.Bool.{cases_Bool, and_from, and_parts, cond_both, both_ways, or_from, not-true, not_from_false}
 use Rattle.std.proofs.lemmas.Int.{ints}
 use Rattle.std.proofs.lemmas.List.{append-nil}
+use Rattle.ttx_page.proofs.SlotDistances.{cases_ltz}
 use Rattle.ttx_header.specs.Ids.{Id}
 use Rattle.ttx_page.specs.Packets.{packet_of}
 use Rattle.ttx_page.specs.declared.item.Item.{Item}
 use Rattle.ttx_page.specs.declared.item.Item.TheVariants.{Head as TheHead, Row as TheRow, Links as TheLinks}
 use Rattle.ttx_page.specs.Streams.{Stream, heads, heads_page, ends_serial, carries, IsLatestHeader, IsOwned, IsSure}
-use Rattle.ttx_witness.proofs.lemmas.Choices.{no_both, or_false, not_true, not_false, cases_ltz}
 use Rattle.ttx_witness.specs.runs.Transmissions.{Transmission, slot_of}
 use Rattle.ttx_witness.specs.sent.ItemTransmissions.{PageOwner, tainted_by, owner_after, owner_scan, owner_moved, sent_under, sent_at, sent_scan}
 use Rattle.ttx_witness.specs.runs.Repeating.{AreSent, Tells, IsSentAt}
-use Rattle.ttx_witness.proofs.lemmas.runs.AllBetween.{lists_more, lists_same}
-use Rattle.ttx_witness.proofs.lemmas.runs.StreamRuns.{told_sent}
+use Rattle.ttx_witness.proofs.AllBetween.{lists_more, lists_same}
+use Rattle.ttx_witness.proofs.StreamRuns.{told_sent}
 use Rattle.ttx_witness.proofs.lemmas.sent.Periods.{latest_same, latest_moved}
 use Rattle.ttx_witness.proofs.lemmas.runs.EveryPeriod.{everywhere}
 
@@ -70,7 +70,7 @@ module _ (page : Id) (s : Stream) where
         | inl lt ↦ a.untainted.0 (or_left _ _ e) i low lt
         | inr ge ↦ let q : j ≡ i = omega (arith, ints) in subst (λ x. ends_serial page.mag (packet_of (s x)) ≡ false) q (or_right _ _ e)
       ]),
-      (λ u. or_false _ _ (a.untainted.1 (λ i low high. u i low (omega (arith, ints)))) (u j a.latest.earlier (omega (arith, ints)))),
+      (λ u. or_from _ _ (a.untainted.1 (λ i low high. u i low (omega (arith, ints)))) (u j a.latest.earlier (omega (arith, ints)))),
     );
   }
     where
@@ -168,8 +168,8 @@ module _ (page : Id) (s : Stream) where
   -- a sure transmission under an owner
   sure_under : (lines : ℕ) (o : PageOwner) (j : ℤ) → IsOwner o j → (int_lt (o.slot +ℤ pos lines) j && not o.tainted ≡ true) ↔ (((o.slot +ℤ pos lines) <ℤ j) × Untainted o.slot j)
   sure_under lines o j a = (
-    (λ e. ((int_lt_is _ _).0 ((and_parts _ _ e).0), a.untainted.0 (not_true _ ((and_parts _ _ e).1)))),
-    (λ b. and_from _ _ ((int_lt_is _ _).1 b.0) (not_false _ (a.untainted.1 b.1))),
+    (λ e. ((int_lt_is _ _).0 ((and_parts _ _ e).0), a.untainted.0 (not-true _ ((and_parts _ _ e).1)))),
+    (λ b. and_from _ _ ((int_lt_is _ _).1 b.0) (not_from_false _ (a.untainted.1 b.1))),
   )
 
   module _ (lines : ℕ) (item : Item) where
@@ -189,28 +189,28 @@ module _ (page : Id) (s : Stream) where
   module _ (lines r : ℕ) where
     under_row : (o : Option PageOwner) (j : ℤ) → carries page.mag (TheRow r) (packet_of (s j)) ≡ true → IsOwnerAt o j → Says lines (TheRow r) j (sent_under lines j o)
     unfolding Says
-    under_row None j c a = λ t. let l = t.owned.0 in no_both _ l.is_header (a t.owner l.earlier)
+    under_row None j c a = λ t. let l = t.owned.0 in both_ways _ (a t.owner l.earlier) l.is_header
     under_row (Some o) j c a = cond_both o.mine (record { slot = j; owner = o.slot; sure = int_lt (o.slot +ℤ pos lines) j && not o.tainted } ∷ []) [] (Says lines (TheRow r) j)
         (λ e. (refl, record { owned = (a.latest, sym a.mine ∙ e, c); sure = sure_under lines o j a }))
-        (λ e t. no_both _ (subst (λ h. heads_page page (packet_of (s h)) ≡ true) (latest_same s page.mag t.owner o.slot j t.owned.0 a.latest) t.owned.1) (sym a.mine ∙ e))
+        (λ e t. both_ways _ (sym a.mine ∙ e) (subst (λ h. heads_page page (packet_of (s h)) ≡ true) (latest_same s page.mag t.owner o.slot j t.owned.0 a.latest) t.owned.1))
 
   module _ (lines : ℕ) where
     under_links : (o : Option PageOwner) (j : ℤ) → carries page.mag TheLinks (packet_of (s j)) ≡ true → IsOwnerAt o j → Says lines TheLinks j (sent_under lines j o)
     unfolding Says
-    under_links None j c a = λ t. let l = t.owned.0 in no_both _ l.is_header (a t.owner l.earlier)
+    under_links None j c a = λ t. let l = t.owned.0 in both_ways _ (a t.owner l.earlier) l.is_header
     under_links (Some o) j c a = cond_both o.mine (record { slot = j; owner = o.slot; sure = int_lt (o.slot +ℤ pos lines) j && not o.tainted } ∷ []) [] (Says lines TheLinks j)
         (λ e. (refl, record { owned = (a.latest, sym a.mine ∙ e, c); sure = sure_under lines o j a }))
-        (λ e t. no_both _ (subst (λ h. heads_page page (packet_of (s h)) ≡ true) (latest_same s page.mag t.owner o.slot j t.owned.0 a.latest) t.owned.1) (sym a.mine ∙ e))
+        (λ e t. both_ways _ (sym a.mine ∙ e) (subst (λ h. heads_page page (packet_of (s h)) ≡ true) (latest_same s page.mag t.owner o.slot j t.owned.0 a.latest) t.owned.1))
 
     pub says : (item : Item) (o : Option PageOwner) (j : ℤ) → IsOwnerAt o j → Says lines item j (sent_at page lines item j (packet_of (s j)) o)
     unfolding Says
     says TheHead o j a = cond_both (heads_page page (packet_of (s j))) (record { slot = j; owner = j; sure = true } ∷ []) [] (Says lines TheHead j)
         (λ e. (refl, record { owned = (refl, e); sure = ((λ _. tt), (λ _. refl)) }))
-        (λ e t. no_both _ t.owned.1 e)
+        (λ e t. both_ways _ e t.owned.1)
     says (TheRow r) o j a = cond_both (carries page.mag (TheRow r) (packet_of (s j))) (sent_under lines j o) [] (Says lines (TheRow r) j)
-        (λ e. under_row lines r o j e a) (λ e t. no_both _ t.owned.2 e)
+        (λ e. under_row lines r o j e a) (λ e t. both_ways _ e t.owned.2)
     says TheLinks o j a = cond_both (carries page.mag TheLinks (packet_of (s j))) (sent_under lines j o) [] (Says lines TheLinks j)
-        (λ e. under_links o j e a) (λ e t. no_both _ t.owned.2 e)
+        (λ e. under_links o j e a) (λ e t. both_ways _ e t.owned.2)
 
     -- the scan lists the transmissions of the first n slots
     pub scan_told : (item : Item) (entry : Option PageOwner) → IsOwnerAt entry (pos 0) → (n : ℕ) → AreSent (IsOwned s page item) (IsSure s lines page.mag item) (pos 0) (pos n) (sent_scan page lines item s entry n)

@@ -1,7 +1,7 @@
 -- The deadline for all pages is the greatest of those for single pages.
 use Rattle.std.proofs.Common.{◌≡◌, ℕ, zero, suc, ◌*◌, ◌<◌, ◌≤◌, max, Bool, true, false, if◌then◌else◌, List, [], ◌∷◌, map, length, slice_get}
 use Rattle.std.proofs.Common.{slice_index_or, Option, Some, None, refl, sym, ap, ◌∙◌, subst, inl, inr, arith}
-use Rattle.std.proofs.lemmas.Bool.{cases_Bool, cond_both}
+use Rattle.std.proofs.lemmas.Bool.{cases_Bool, cond_both, cond-true, cond-false}
 use Rattle.std.proofs.lemmas.Option.{slice_get_within, slice_get_cases}
 use Rattle.ttx_header.specs.Ids.{Id, same_id}
 use Rattle.ttx_packet.specs.Slots.{is_clean}
@@ -17,7 +17,6 @@ use Rattle.ttx_witness.specs.finding.Finding.{wider, is_due, starts_of, limit_fo
 use Rattle.ttx_witness.specs.waiting.PageWaits.{CanAccept, IsLeast, AreWaits, fields_told}
 use Rattle.ttx_witness.specs.laws.WaitLaws.{greatest, DeadlineIsGreatest}
 use Rattle.ttx_witness.specs.declared.waiting.wait.PageWait.{PageWait}
-use Rattle.ttx_witness.proofs.lemmas.Choices.{if_true, if_false}
 use Rattle.ttx_witness.proofs.lemmas.finding.DueItems.{AreApart, pages_apart}
 use Rattle.ttx_witness.proofs.lemmas.finding.LeastDeadline.{AreTested, pages_tested}
 use Rattle.ttx_witness.proofs.lemmas.sent.PageIndexes.{same_one, same_self}
@@ -32,10 +31,10 @@ due_here : (class : Class) (item : Item) (pages : List Page) (n : ℕ) (p : Page
 due_here class item [] n p apart at = let h : None ≡ Some p = at in cc
 due_here class item (q ∷ pages) zero p apart at =
     let h : q ≡ p = cc in
-    if_true (same_id q.id p.id) (is_due class q item) (due_among class pages p.id item) (subst (λ x. same_id x.id p.id ≡ true) (sym h) (same_self p.id)) ∙ ap (λ x. is_due class x item) h
+    cond-true (same_id q.id p.id) (is_due class q item) (due_among class pages p.id item) (subst (λ x. same_id x.id p.id ≡ true) (sym h) (same_self p.id)) ∙ ap (λ x. is_due class x item) h
 due_here class item (q ∷ pages) (suc n) p apart at = elim (cases_Bool (same_id q.id p.id)) as (λ _. due_among class (q ∷ pages) p.id item ≡ is_due class p item) [
   | inl same ↦ absurd (let e = apart 0 (suc n) q p refl at (same_one q.id p.id same) in omega arith)
-  | inr other ↦ if_false (same_id q.id p.id) (is_due class q item) (due_among class pages p.id item) other
+  | inr other ↦ cond-false (same_id q.id p.id) (is_due class q item) (due_among class pages p.id item) other
       ∙ due_here class item pages n p (λ i j a b x y e. let s = apart (suc i) (suc j) a b x y e in omega arith) at
 ]
 

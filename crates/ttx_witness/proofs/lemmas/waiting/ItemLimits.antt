@@ -1,13 +1,12 @@
 -- The items of a page by their least limits, one more at a time.
 use Rattle.std.proofs.Common.{◌≡◌, ◌⊎◌, ℕ, ◌+◌, ◌<◌, ◌≤◌, true, false, List, Option, Some, sym, ◌∙◌, subst, inl, inr, arith}
-use Rattle.std.proofs.lemmas.Bool.{cases_lt}
+use Rattle.std.proofs.lemmas.Bool.{cases_lt, both_ways}
 use Rattle.ttx_page.specs.Pages.{Page, needed}
 use Rattle.ttx_page.specs.declared.item.Item.{Item}
 use Rattle.ttx_page.specs.declared.class.Class.{Class}
 use Rattle.ttx_witness.specs.sent.Collected.{IsItem, item_number}
 use Rattle.ttx_witness.specs.waiting.ItemLimits.{IsOwnDeadline, IsBelow, AllBelow, IsFirstLongest, IsLongest}
 use Rattle.ttx_witness.specs.finding.Finding.{limit_for, IsLeastField}
-use Rattle.ttx_witness.proofs.lemmas.Choices.{no_both}
 use Rattle.ttx_witness.proofs.lemmas.finding.DueItems.{item_one}
 use Rattle.ttx_witness.proofs.lemmas.finding.LeastDeadline.{item_needed}
 
@@ -37,7 +36,7 @@ module _ (cycle : List (List ℕ)) (p : Page) (class : Class) (repeat lines : �
   module _ (m : ℕ) (item : Item) (is : IsItem item) (here : item_number item ≡ m) (deadline : ℕ) (at : Item) (h : IsLongest cycle p class repeat lines m deadline at) where
     -- an item that isn't seen
     pub longest_unseen : needed p item ≡ false → IsLongest cycle p class repeat lines (m + 1) deadline at
-    longest_unseen unseen = record { all = below_one m (deadline + 1) item is here (λ seen. absurd (no_both (needed p item) seen unseen)) h.all; first = first_more m deadline at h.first }
+    longest_unseen unseen = record { all = below_one m (deadline + 1) item is here (λ seen. absurd (both_ways (needed p item) unseen seen)) h.all; first = first_more m deadline at h.first }
 
     module _ (own : ℕ) (seen : needed p item ≡ true) (is_own : IsOwnDeadline cycle p class repeat lines item own) where
       -- one that needs no more

@@ -2,7 +2,7 @@
 use Rattle.std.proofs.Common.{◌≡◌, ◌⊎◌, ◌↔◌, ℕ, zero, suc, ◌+◌, ◌-◌, ◌*◌, ◌<◌, ◌≤◌, ℤ, true, List, [], ◌∷◌, ◌++◌, length, slice_get, Option, Some}
 use Rattle.std.proofs.Common.{None, unsigned_abs, map, if◌then◌else◌, refl, sym, ap, ◌∙◌, subst, inl, inr, arith}
 use Rattle.std.specs.List.{Contains}
-use Rattle.std.proofs.lemmas.Bool.{cases_lt, cases_Bool, cond_both}
+use Rattle.std.proofs.lemmas.Bool.{cases_lt, cases_Bool, cond_both, both_ways, cond-true, cond-false}
 use Rattle.std.proofs.lemmas.List.{length-map, length-append}
 use Rattle.std.proofs.lemmas.Option.{slice_get_within}
 use Rattle.ttx_witness.proofs.lemmas.ChangedPlaces.{before_here, last_here}
@@ -31,7 +31,6 @@ use Rattle.ttx_witness.specs.declared.faults.reason.Reason.{Reason}
 use Rattle.ttx_witness.specs.declared.waiting.wait.Losses.{Losses}
 use Rattle.ttx_witness.specs.declared.waiting.wait.Wait.{Wait}
 use Rattle.ttx_witness.specs.declared.waiting.wait.Wait.TheVariants.{Fields, Faulty, Unsure}
-use Rattle.ttx_witness.proofs.lemmas.Choices.{no_both, if_true, if_false}
 use Rattle.ttx_certificate.proofs.EntryOrder.{rising_pairs}
 use Rattle.ttx_witness.proofs.lemmas.runs.FoundStarts.{starts_rise}
 use Rattle.ttx_witness.proofs.lemmas.sent.CycleTransmissions.{sent_told, told_in_order}
@@ -48,8 +47,8 @@ no_spread : (rs : List Run) → sure_starts rs ≡ [] → spread_of None rs ≡ 
 unfolding sure_runs spread_of
 no_spread [] e = refl
 no_spread (r ∷ rs) e = elim (cases_Bool r.sure) as (λ _. spread_of (if r.sure then Some (widened None r) else None) rs ≡ None) [
-  | inl sure ↦ absurd (some_starts r (sure_runs rs) (ap numbers (sym (if_true r.sure (r ∷ sure_runs rs) (sure_runs rs) sure)) ∙ e))
-  | inr unsure ↦ ap (λ s. spread_of s rs) (if_false r.sure (Some (widened None r)) None unsure) ∙ no_spread rs (ap numbers (sym (if_false r.sure (r ∷ sure_runs rs) (sure_runs rs) unsure)) ∙ e)
+  | inl sure ↦ absurd (some_starts r (sure_runs rs) (ap numbers (sym (cond-true r.sure (r ∷ sure_runs rs) (sure_runs rs) sure)) ∙ e))
+  | inr unsure ↦ ap (λ s. spread_of s rs) (cond-false r.sure (Some (widened None r)) None unsure) ∙ no_spread rs (ap numbers (sym (cond-false r.sure (r ∷ sure_runs rs) (sure_runs rs) unsure)) ∙ e)
 ]
   where
     numbers : List Run → List ℕ
@@ -63,17 +62,17 @@ spread_stays : (s : Spread) (rs : List Run) → spread_of (Some s) rs ≡ None �
 unfolding spread_of
 spread_stays s [] e = let h : Some s ≡ None = e in cc
 spread_stays s (r ∷ rs) e = elim (cases_Bool r.sure) as (λ _. ⊥) [
-  | inl sure ↦ spread_stays (widened (Some s) r) rs (ap (λ x. spread_of x rs) (sym (if_true r.sure (Some (widened (Some s) r)) (Some s) sure)) ∙ e)
-  | inr unsure ↦ spread_stays s rs (ap (λ x. spread_of x rs) (sym (if_false r.sure (Some (widened (Some s) r)) (Some s) unsure)) ∙ e)
+  | inl sure ↦ spread_stays (widened (Some s) r) rs (ap (λ x. spread_of x rs) (sym (cond-true r.sure (Some (widened (Some s) r)) (Some s) sure)) ∙ e)
+  | inr unsure ↦ spread_stays s rs (ap (λ x. spread_of x rs) (sym (cond-false r.sure (Some (widened (Some s) r)) (Some s) unsure)) ∙ e)
 ]
 
 no_starts : (rs : List Run) → spread_of None rs ≡ None → sure_starts rs ≡ []
 unfolding sure_runs spread_of
 no_starts [] e = refl
 no_starts (r ∷ rs) e = elim (cases_Bool r.sure) as (λ _. map (λ r. unsigned_abs r.start) (if r.sure then r ∷ sure_runs rs else sure_runs rs) ≡ []) [
-  | inl sure ↦ absurd (spread_stays (widened None r) rs (ap (λ s. spread_of s rs) (sym (if_true r.sure (Some (widened None r)) None sure)) ∙ e))
-  | inr unsure ↦ ap (λ rs. map (λ r. unsigned_abs r.start) rs) (if_false r.sure (r ∷ sure_runs rs) (sure_runs rs) unsure)
-      ∙ no_starts rs (ap (λ s. spread_of s rs) (sym (if_false r.sure (Some (widened None r)) None unsure)) ∙ e)
+  | inl sure ↦ absurd (spread_stays (widened None r) rs (ap (λ s. spread_of s rs) (sym (cond-true r.sure (Some (widened None r)) None sure)) ∙ e))
+  | inr unsure ↦ ap (λ rs. map (λ r. unsigned_abs r.start) rs) (cond-false r.sure (r ∷ sure_runs rs) (sure_runs rs) unsure)
+      ∙ no_starts rs (ap (λ s. spread_of s rs) (sym (cond-false r.sure (Some (widened None r)) None unsure)) ∙ e)
 ]
 
 nothing_in : (xs : List ℕ) → ((x : ℕ) → Contains xs x → ⊥) → xs ≡ []
@@ -121,7 +120,7 @@ module _ (turn : EachSlotTurns) (found : SureStartsAreFound) (law : LeastLimitIs
 
   shown_covered : (v : Certificate) (item : Item) → is_due v.class p item ≡ true → ShowsItem cycle p v item → IsCovered cycle p v item
   shown_covered v item due (inl c) = c
-  shown_covered v item due (inr l) = absurd (no_both (is_blank p item) ((tested item (due_needed v.class p item due)).1 l.blank) (due_not_blank v.class p item l.clearing due))
+  shown_covered v item due (inr l) = absurd (both_ways (is_blank p item) (due_not_blank v.class p item l.clearing due) ((tested item (due_needed v.class p item due)).1 l.blank))
 
   shown_fits : (v : Certificate) → 1 ≤ v.repeat → (item : Item) → ShowsItem cycle p v item → IsEnough (limit_for cycle v.class v.lines v.repeat p item) (limit v)
   shown_fits v repeats item shows = cond_both (is_due v.class p item) (least_limit cycle v.lines v.repeat p.id item) (least_limit cycle v.lines 1 p.id TheHead) (λ o. IsEnough o (limit v))
@@ -141,15 +140,15 @@ module _ (turn : EachSlotTurns) (found : SureStartsAreFound) (law : LeastLimitIs
         IsEnough (limit_for cycle class lines repeat p item) (d * lines) → ShowsItem cycle p (record { lines = lines; repeat = repeat; deadline = d; class = class; starts = names }) item
     named_shows repeats names named item seen d fits = elim (cases_Bool (is_due class p item)) as (λ _. ShowsItem cycle p (record { lines = lines; repeat = repeat; deadline = d; class = class; starts = names }) item) [
       | inl due ↦ inl (due_shows due (spread_at cycle lines repeat p.id item) refl
-          (subst (λ x. IsEnough x (d * lines)) (if_true (is_due class p item) (least_limit cycle lines repeat p.id item) (least_limit cycle lines 1 p.id TheHead) due) fits))
+          (subst (λ x. IsEnough x (d * lines)) (cond-true (is_due class p item) (least_limit cycle lines repeat p.id item) (least_limit cycle lines 1 p.id TheHead) due) fits))
       | inr not_due ↦
           let left = not_due_is class p item seen not_due in
           inr (record {
             clearing = left.0;
             blank = (tested item seen).0 left.1;
-            no_line = named item ∙ if_false (is_due class p item) (starts_of cycle lines repeat p.id item) [] not_due;
+            no_line = named item ∙ cond-false (is_due class p item) (starts_of cycle lines repeat p.id item) [] not_due;
             in_time = (next_fits turn found law cycle some p lines d (spread_at cycle lines 1 p.id TheHead) refl).1
-                (subst (λ x. IsEnough x (d * lines)) (if_false (is_due class p item) (least_limit cycle lines repeat p.id item) (least_limit cycle lines 1 p.id TheHead) not_due) fits);
+                (subst (λ x. IsEnough x (d * lines)) (cond-false (is_due class p item) (least_limit cycle lines repeat p.id item) (least_limit cycle lines 1 p.id TheHead) not_due) fits);
           })
     ]
       where
@@ -157,7 +156,7 @@ module _ (turn : EachSlotTurns) (found : SureStartsAreFound) (law : LeastLimitIs
             IsCovered cycle p (record { lines = lines; repeat = repeat; deadline = d; class = class; starts = names }) item
         due_shows due None e f = absurd f
         due_shows due (Some s) e f = ((law cycle some p (record { lines = lines; repeat = repeat; deadline = d; class = class; starts = names }) item (run_length repeat item - 1) (run_some repeat item repeats)).1 s e).1
-            (named item ∙ if_true (is_due class p item) (starts_of cycle lines repeat p.id item) [] due) f
+            (named item ∙ cond-true (is_due class p item) (starts_of cycle lines repeat p.id item) [] due) f
 
     module _ (some_lines : 1 ≤ lines) (few_lines : lines ≤ 32) (repeats : 1 ≤ repeat) (few_repeats : repeat ≤ 8) where
       -- the certificate that names each start of a sure run of the page
@@ -199,7 +198,7 @@ module _ (turn : EachSlotTurns) (found : SureStartsAreFound) (law : LeastLimitIs
       pub no_start_never : (item : Item) → HasNoSureStart cycle p class repeat lines item → IsLeast (CanShow cycle p class repeat lines item) None
       no_start_never item n =
           let none = nothing_in (starts_of cycle lines repeat p.id item) (λ start c. n.none start ((found cycle some p.id lines repeat item (run_length repeat item - 1) (run_some repeat item repeats) start).0 c)) in
-          item_never item (if_true (is_due class p item) (least_limit cycle lines repeat p.id item) (least_limit cycle lines 1 p.id TheHead) n.due ∙ ap (limit_of (length cycle)) (no_spread _ none))
+          item_never item (cond-true (is_due class p item) (least_limit cycle lines repeat p.id item) (least_limit cycle lines 1 p.id TheHead) n.due ∙ ap (limit_of (length cycle)) (no_spread _ none))
 
       module _ (pages : List Page) (steady : Steady (repeated cycle) pages p) where
         wait_fields : (d : ℕ) (item : Item) → IsLongest cycle p class repeat lines 26 d item → IsWait cycle pages p class repeat lines (Fields d item)
@@ -232,7 +231,7 @@ module _ (turn : EachSlotTurns) (found : SureStartsAreFound) (law : LeastLimitIs
         no_limit_none : (item : Item) → is_due class p item ≡ true → limit_for cycle class lines repeat p item ≡ None → (start : ℕ) → IsSureStart cycle p.id lines repeat item start → ⊥
         no_limit_none item due e start is =
             none_in (starts_of cycle lines repeat p.id item) start
-            (no_starts _ (no_limit (length cycle) (spread_at cycle lines repeat p.id item) (sym (if_true (is_due class p item) (least_limit cycle lines repeat p.id item) (least_limit cycle lines 1 p.id TheHead) due) ∙ e)))
+            (no_starts _ (no_limit (length cycle) (spread_at cycle lines repeat p.id item) (sym (cond-true (is_due class p item) (least_limit cycle lines repeat p.id item) (least_limit cycle lines 1 p.id TheHead) due) ∙ e)))
             ((found cycle some p.id lines repeat item (run_length repeat item - 1) (run_some repeat item repeats) start).1 is)
 
         -- one that isn't due has one, as the page has a header
@@ -243,14 +242,14 @@ module _ (turn : EachSlotTurns) (found : SureStartsAreFound) (law : LeastLimitIs
         unsure_due : (item : Item) → limit_for cycle class lines repeat p item ≡ None → is_due class p item ≡ true
         unsure_due item e = elim (cases_Bool (is_due class p item)) as (λ _. is_due class p item ≡ true) [
           | inl due ↦ due
-          | inr not_due ↦ absurd (head_limit (sym (if_false (is_due class p item) (least_limit cycle lines repeat p.id item) (least_limit cycle lines 1 p.id TheHead) not_due) ∙ e))
+          | inr not_due ↦ absurd (head_limit (sym (cond-false (is_due class p item) (least_limit cycle lines repeat p.id item) (least_limit cycle lines 1 p.id TheHead) not_due) ∙ e))
         ]
 
         -- one with a limit has a sure start
         sure_below : (other : Item) (bound : ℕ) → IsBelow cycle p class repeat lines other bound → HasNoSureStart cycle p class repeat lines other → ⊥
         sure_below other bound b n =
             let none = nothing_in (starts_of cycle lines repeat p.id other) (λ start c. n.none start ((found cycle some p.id lines repeat other (run_length repeat other - 1) (run_some repeat other repeats) start).0 c)) in
-            let limit : limit_for cycle class lines repeat p other ≡ None = if_true (is_due class p other) (least_limit cycle lines repeat p.id other) (least_limit cycle lines 1 p.id TheHead) n.due ∙ ap (limit_of (length cycle)) (no_spread _ none) in
+            let limit : limit_for cycle class lines repeat p other ≡ None = cond-true (is_due class p other) (least_limit cycle lines repeat p.id other) (least_limit cycle lines 1 p.id TheHead) n.due ∙ ap (limit_of (length cycle)) (no_spread _ none) in
             no_limit_some b.own.limit (sym b.own.is ∙ limit)
 
         none_accepts : (item : Item) → needed p item ≡ true → ((e : ℕ) → CanShow cycle p class repeat lines item e → ⊥) → (e : ℕ) → CanAccept cycle pages p class repeat lines e → ⊥

@@ -1,11 +1,11 @@
 use Rattle.std.proofs.Common.{take, subst, sym, arith}
 use Rattle.std.specs.List.{AllByRecursion}
+use Rattle.std.proofs.lemmas.Bool.{both_ways}
 use Rattle.ttx_cycle.specs.Cycles.{slots_of, slots_of-IsCycle}
 use Rattle.ttx_page.specs.Views.{page_of}
 use Rattle.ttx_page.specs.Streams.{repeated}
 use Rattle.ttx_witness.specs.faults.Comparing.{IsWrongIn, WrongAt}
 use Rattle.ttx_witness.specs.faults.Faults.{IsFirstAt}
-use Rattle.ttx_witness.proofs.lemmas.Choices.{no_both}
 use Rattle.ttx_witness.proofs.lemmas.runs.OneByOne.{take_more}
 use Rattle.ttx_witness.proofs.lemmas.runs.OneMore.{take_whole}
 use Rattle.ttx_witness.proofs.lemmas.faults.FirstWrongSent.{all_more, first_sent, never_sent}
@@ -21,7 +21,7 @@ pub loop-i-preserved : goal.loop-i-preserved
 loop-i-preserved c = record {
   none = subst (AllByRecursion (λ t. IsWrongIn (slots_of c.args.cycle.now) (page_of c.args.page.now) c.args.check.now t.slot → ⊥)) (take_more c.args.sent.now c.loop-i.i _ c.loop-i-test.true)
       (all_more (λ t. IsWrongIn (slots_of c.args.cycle.now) (page_of c.args.page.now) c.args.check.now t.slot → ⊥) (take c.loop-i.i c.args.sent.now) _ c.loop-i.invariant.none
-      (λ w. no_both _ (c.is_wrong_in.ensures.1 w) c.if-is_wrong_in.false));
+      (λ w. both_ways _ c.if-is_wrong_in.false (c.is_wrong_in.ensures.1 w)));
 }
 
 pub returns : goal.returns

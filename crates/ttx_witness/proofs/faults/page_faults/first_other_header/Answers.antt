@@ -1,9 +1,9 @@
 use Rattle.std.proofs.Common.{pos, sym, ap, ◌∙◌, subst, arith}
+use Rattle.std.proofs.lemmas.Bool.{both_ways}
 use Rattle.ttx_page.specs.Packets.{packet_of}
 use Rattle.ttx_page.specs.Streams.{repeated}
 use Rattle.ttx_witness.specs.faults.Comparing.{heads_other_subpage, OtherHeaderAt}
 use Rattle.ttx_witness.specs.faults.Faults.{Never, IsFirstAt}
-use Rattle.ttx_witness.proofs.lemmas.Choices.{no_both}
 use Rattle.ttx_witness.proofs.lemmas.faults.OverOnePeriod.{slot_is, never_other, other_is, one_more}
 use Rattle.ttx_witness.proofs.faults.page_faults.first_other_header.Goals as goal
 
@@ -16,8 +16,8 @@ returns-then-heads_other_subpage c =
 pub loop-j-preserved : goal.loop-j-preserved
 loop-j-preserved c = record {
   none = one_more (λ i. OtherHeaderAt (repeated c.slots-slots.result.now) c.args.page (pos i)) c.loop-j.j c.loop-j.invariant.none
-      (λ h. no_both _ (c.heads_other_subpage.ensures ∙ ap (λ x. heads_other_subpage c.args.page (packet_of x)) (sym (slot_is c.slots-slots.result.now c.loop-j.j c.loop-j-test.true))
-      ∙ (other_is (repeated c.slots-slots.result.now) c.args.page (pos c.loop-j.j)).1 h) c.if-heads_other_subpage.false);
+      (λ h. both_ways _ c.if-heads_other_subpage.false (c.heads_other_subpage.ensures ∙ ap (λ x. heads_other_subpage c.args.page (packet_of x)) (sym (slot_is c.slots-slots.result.now c.loop-j.j c.loop-j-test.true))
+      ∙ (other_is (repeated c.slots-slots.result.now) c.args.page (pos c.loop-j.j)).1 h));
 }
 
 pub returns : goal.returns

@@ -1,11 +1,11 @@
 use Rattle.std.proofs.Common.{pos, [], slice_index_or, sym, ap, ◌∙◌, subst, arith}
+use Rattle.std.proofs.lemmas.Bool.{both_ways}
 use Rattle.ttx_page.specs.Packets.{packet_of}
 use Rattle.ttx_page.specs.Streams.{repeated}
 use Rattle.ttx_page.specs.Views.{page_of}
 use Rattle.ttx_witness.specs.sent.ItemTransmissions.{owner_scan, entry_owner}
 use Rattle.ttx_witness.specs.faults.Comparing.{is_mine, mine_after, WrongAt}
 use Rattle.ttx_witness.specs.faults.Faults.{Never, IsFirstAt}
-use Rattle.ttx_witness.proofs.lemmas.Choices.{no_both}
 use Rattle.ttx_witness.proofs.lemmas.faults.OverOnePeriod.{slot_is, mine_scan, wrong_is, never_wrong, one_more}
 use Rattle.ttx_witness.proofs.faults.page_faults.first_wrong.Goals as goal
 
@@ -37,7 +37,7 @@ loop-j-preserved c =
           ∙ ap (λ m. mine_after p.id (packet_of (repeated x (pos c.loop-j.j))) m) c.loop-j.invariant.mine
           ∙ mine_scan p.id (repeated x) (entry_owner x p.id) c.loop-j.j;
       none = one_more (λ i. WrongAt (repeated x) p c.args.check.now (pos i)) c.loop-j.j c.loop-j.invariant.none
-          (λ w. no_both _ (c.differs.ensures.1 ((wrong_is x c.slots-slots.ensures.cycle.some p c.args.check.now c.loop-j.j c.loop-j-test.true c.loop-j.mine c.loop-j.invariant.mine).1 w)) c.if-differs.false);
+          (λ w. both_ways _ c.if-differs.false (c.differs.ensures.1 ((wrong_is x c.slots-slots.ensures.cycle.some p c.args.check.now c.loop-j.j c.loop-j-test.true c.loop-j.mine c.loop-j.invariant.mine).1 w)));
     }
 
 pub returns : goal.returns

@@ -1,8 +1,8 @@
 use Rattle.std.proofs.Common.{◌≡◌, pos, true, refl, sym, ap, ◌∙◌, subst, arith}
+use Rattle.std.proofs.lemmas.Bool.{both_ways}
 use Rattle.ttx_page.specs.Packets.{packet_of}
 use Rattle.ttx_page.specs.Streams.{repeated, heads_page}
 use Rattle.ttx_page.specs.Steady.{HasHeader}
-use Rattle.ttx_witness.proofs.lemmas.Choices.{no_both}
 use Rattle.ttx_witness.proofs.lemmas.faults.OverOnePeriod.{slot_is, never_heads, one_more}
 use Rattle.ttx_witness.proofs.faults.page_faults.has_header.Goals as goal
 
@@ -15,7 +15,7 @@ returns-then-heads_page c =
 pub loop-j-preserved : goal.loop-j-preserved
 loop-j-preserved c = record {
   none = one_more (λ i. heads_page c.args.page (packet_of (repeated c.slots-slots.result.now (pos i))) ≡ true) c.loop-j.j c.loop-j.invariant.none
-      (λ h. no_both _ (c.heads_page.ensures ∙ ap (λ x. heads_page c.args.page (packet_of x)) (sym (slot_is c.slots-slots.result.now c.loop-j.j c.loop-j-test.true)) ∙ h) c.if-heads_page.false);
+      (λ h. both_ways _ c.if-heads_page.false (c.heads_page.ensures ∙ ap (λ x. heads_page c.args.page (packet_of x)) (sym (slot_is c.slots-slots.result.now c.loop-j.j c.loop-j-test.true)) ∙ h));
 }
 
 pub returns : goal.returns

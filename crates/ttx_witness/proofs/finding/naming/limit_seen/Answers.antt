@@ -1,10 +1,10 @@
 use Rattle.std.proofs.Common.{rules, ◌≡◌, ◌∙◌, true, false, sym}
 use Rattle.std.proofs.lemmas.Result.{IfOk-weaker}
+use Rattle.std.proofs.lemmas.Bool.{cond-true, cond-false}
 use Rattle.ttx_page.specs.declared.item.Item.TheVariants.{Head as TheHead}
 use Rattle.ttx_witness.specs.finding.Finding.{is_due}
 use Rattle.ttx_witness.specs.finding.Surveys.{surveyed_page, surveyed_least}
 use Rattle.ttx_witness.proofs.finding.naming.limit_seen.Goals as goal
-use Rattle.ttx_witness.proofs.lemmas.Choices.{if_true, if_false}
 
 pub returns-then-is_due-clause-least : goal.returns-then-is_due-clause-least
 returns-then-is_due-clause-least c =
@@ -12,7 +12,7 @@ returns-then-is_due-clause-least c =
     let item = c.args.item.now in
     let due : is_due s.survey.now.class (surveyed_page s) item ≡ true = search rules in
     IfOk-weaker c.item_limit.result _ _ (λ least tells.
-    tells ∙ sym (if_true (is_due s.survey.now.class (surveyed_page s) item) (surveyed_least s s.survey.now.repeat item) (surveyed_least s 1 TheHead) due)) c.item_limit.ensures.least
+    tells ∙ sym (cond-true (is_due s.survey.now.class (surveyed_page s) item) (surveyed_least s s.survey.now.repeat item) (surveyed_least s 1 TheHead) due)) c.item_limit.ensures.least
 
 pub returns-else-is_due-clause-least : goal.returns-else-is_due-clause-least
 returns-else-is_due-clause-least c =
@@ -20,4 +20,4 @@ returns-else-is_due-clause-least c =
     let item = c.args.item.now in
     let due : is_due s.survey.now.class (surveyed_page s) item ≡ false = search rules in
     IfOk-weaker c.header_limit.result _ _ (λ least tells.
-    tells ∙ sym (if_false (is_due s.survey.now.class (surveyed_page s) item) (surveyed_least s s.survey.now.repeat item) (surveyed_least s 1 TheHead) due)) c.header_limit.ensures.least
+    tells ∙ sym (cond-false (is_due s.survey.now.class (surveyed_page s) item) (surveyed_least s s.survey.now.repeat item) (surveyed_least s 1 TheHead) due)) c.header_limit.ensures.least

@@ -1,10 +1,10 @@
 use Rattle.std.proofs.Common.{rules, ◌≡◌, ◌∙◌, [], true, false, sym, subst}
 use Rattle.std.proofs.lemmas.Result.{IfOk-weaker, on_ok_weaker}
+use Rattle.std.proofs.lemmas.Bool.{cond-true, cond-false}
 use Rattle.ttx_page.specs.declared.item.Item.TheVariants.{Head as TheHead}
 use Rattle.ttx_witness.specs.finding.Finding.{is_due, AddsEntry}
 use Rattle.ttx_witness.specs.finding.Surveys.{surveyed_page, surveyed_starts, surveyed_least}
 use Rattle.ttx_witness.proofs.finding.naming.name_seen.Goals as goal
-use Rattle.ttx_witness.proofs.lemmas.Choices.{if_true, if_false}
 
 pub returns-then-not-is_due-clause-least : goal.returns-then-not-is_due-clause-least
 returns-then-not-is_due-clause-least c =
@@ -12,7 +12,7 @@ returns-then-not-is_due-clause-least c =
     let item = c.args.item.now in
     let due : is_due s.survey.now.class (surveyed_page s) item ≡ false = search rules in
     IfOk-weaker c.header_limit.result _ _ (λ least tells.
-    tells ∙ sym (if_false (is_due s.survey.now.class (surveyed_page s) item) (surveyed_least s s.survey.now.repeat item) (surveyed_least s 1 TheHead) due)) c.header_limit.ensures.least
+    tells ∙ sym (cond-false (is_due s.survey.now.class (surveyed_page s) item) (surveyed_least s s.survey.now.repeat item) (surveyed_least s 1 TheHead) due)) c.header_limit.ensures.least
 
 pub returns-clause-entries : goal.returns-clause-entries
 returns-clause-entries c =
@@ -21,7 +21,7 @@ returns-clause-entries c =
     let due : is_due s.survey.now.class (surveyed_page s) item ≡ true = search rules in
     on_ok_weaker c.name_item.result (λ tells.
     subst (AddsEntry c.args.entries.now.items c.name_item.new.entries.items (surveyed_page s).id item)
-    (sym (if_true (is_due s.survey.now.class (surveyed_page s) item) (surveyed_starts s s.survey.now.repeat item) [] due)) tells) c.name_item.ensures.entries
+    (sym (cond-true (is_due s.survey.now.class (surveyed_page s) item) (surveyed_starts s s.survey.now.repeat item) [] due)) tells) c.name_item.ensures.entries
 
 pub returns-clause-least : goal.returns-clause-least
 returns-clause-least c =
@@ -29,4 +29,4 @@ returns-clause-least c =
     let item = c.args.item.now in
     let due : is_due s.survey.now.class (surveyed_page s) item ≡ true = search rules in
     IfOk-weaker c.name_item.result _ _ (λ least tells.
-    tells ∙ sym (if_true (is_due s.survey.now.class (surveyed_page s) item) (surveyed_least s s.survey.now.repeat item) (surveyed_least s 1 TheHead) due)) c.name_item.ensures.least
+    tells ∙ sym (cond-true (is_due s.survey.now.class (surveyed_page s) item) (surveyed_least s s.survey.now.repeat item) (surveyed_least s 1 TheHead) due)) c.name_item.ensures.least

@@ -1,5 +1,5 @@
 use Rattle.ttx_witness.specs.laws.RunLaws.{OwnedIn, SureIn}
-use Rattle.ttx_witness.proofs.lemmas.runs.StreamRuns as L
+use Rattle.ttx_witness.proofs.StreamRuns as L
 use Rattle.ttx_witness.proofs.laws.run_laws.runs_are_the_streams.Goals as goal
 
 pub returns : goal.returns

@@ -1,8 +1,7 @@
 use Rattle.std.proofs.Common.{◌≡◌, suc, slice_get, ◌<◌, false, not, ◌++◌, ◌∷◌, [], length, map, slice_index_or, sym, ap, ◌∙◌, subst, inl, inr, arith}
-use Rattle.std.proofs.lemmas.Bool.{cases_lt}
+use Rattle.std.proofs.lemmas.Bool.{cases_lt, not-true, not_from_false}
 use Rattle.ttx_packet.specs.Slots.{IsSlot, is_clean}
 use Rattle.ttx_page.specs.Views.{page_of}
-use Rattle.ttx_witness.proofs.lemmas.Choices.{not_true, not_false}
 use Rattle.ttx_witness.specs.sent.ItemTransmissions.{entry_owner}
 use Rattle.ttx_witness.specs.faults.OtherSubpages.{first_of}
 use Rattle.ttx_witness.specs.passes.PageFacts.{FirstBelow}
@@ -37,7 +36,7 @@ returns-clause-stands c = λ x y old.
             bad = subst (λ n. FirstBelow (λ j. is_clean (slice_index_or (y ++ z ∷ []) j []) ≡ false) n c.first_of-self.result) (sym l)
                 (subst (FirstBelow (λ j. is_clean (slice_index_or (y ++ z ∷ []) j []) ≡ false) (suc (length y))) (sym (c.first_of-self.ensures ∙ ap (λ b. first_of second.bad (not b) second.pass.count) c.clean.ensures ∙ ap (first_of second.bad (not (is_clean z))) v.count))
                 (below_more (λ j. is_clean (slice_index_or (y ++ z ∷ []) j []) ≡ false) (length y) (not (is_clean z))
-                (let e = ap is_clean (index_last y z) in ((λ h. e ∙ not_true (is_clean z) h), (λ h. not_false (is_clean z) (sym e ∙ h))))
+                (let e = ap is_clean (index_last y z) in ((λ h. e ∙ not-true (is_clean z) h), (λ h. not_from_false (is_clean z) (sym e ∙ h))))
                 second.bad
                 (below_same (λ j. is_clean (slice_index_or y j []) ≡ false) (λ j. is_clean (slice_index_or (y ++ z ∷ []) j []) ≡ false) (length y)
                 (λ j lt. let e = ap is_clean (index_before y z j lt) in ((λ h. e ∙ h), (λ h. sym e ∙ h))) second.bad v.bad)));

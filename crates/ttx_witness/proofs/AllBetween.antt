@@ -5,10 +5,10 @@ use Rattle.std.specs.List.{All, AllByRecursion, AllPairs}
 use Rattle.std.proofs.lemmas.List.{length-take-le}
 use Rattle.std.proofs.lemmas.Int.{ints}
 use Rattle.std.proofs.lemmas.Bool.{cases_lt}
-use Rattle.ttx_witness.proofs.lemmas.Choices.{cases_ltz}
+use Rattle.ttx_page.proofs.SlotDistances.{cases_ltz}
 use Rattle.ttx_witness.specs.runs.Transmissions.{Transmission, slot_of, later, windows}
 use Rattle.ttx_witness.specs.runs.Repeating.{Lists, Successive}
-use Rattle.ttx_witness.proofs.lemmas.runs.Windows.{windows_yes, windows_no}
+use Rattle.ttx_witness.proofs.Windows.{windows_yes, windows_no}
 
 -- two successive lists of one length from one slot are one
 pub successive_same : (P : ℤ → Type 0) (i : ℤ) (xs ys : List ℤ) → length xs ≡ length ys → Successive P (i ∷ xs) → Successive P (i ∷ ys) → xs ≡ ys

@@ -6,7 +6,7 @@ use Rattle.std.proofs.lemmas.Int.{ints}
 use Rattle.std.proofs.lemmas.Bool.{and_from, and_parts}
 use Rattle.ttx_witness.specs.runs.Transmissions.{Transmission, slot_of, later, extended, windows, run_of, runs, last_slot, all_sure}
 use Rattle.ttx_witness.specs.runs.Repeating.{Successive, Repeats, IsSentAt, IsSureSent, Tells, AreSent, IsRunFrom, IsRunOf}
-use Rattle.ttx_witness.proofs.lemmas.runs.AllBetween.{successive_same, slots, IsWindow}
+use Rattle.ttx_witness.proofs.AllBetween.{successive_same, slots, IsWindow}
 use Rattle.ttx_witness.proofs.lemmas.runs.Rounds.{extended_windows}
 
 module _ (Owned Sure : ℤ → ℤ → Type 0) where
