@@ -4,7 +4,7 @@
 # make install    puts program, man page and completions under PREFIX (/usr/local)
 # make dist       dist/ttx-VERSION-x86_64-linux.tar.gz: program, man page, completions and documents, and its checksum
 # make bench      times the program beside plain tools; writes nothing into the repository
-# make edits      tries each wrong body of the must-fail edits by itself; the gate tries those of one file together
+# make edits      tells whether each wrong body of the must-fail edits is refused; the gate tries those of one file together
 # make compare    compares what certify --late says with what libzvbi's decoder shows, where there is one
 
 BUILT = crates/ttx/out/ttx

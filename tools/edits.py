@@ -1,10 +1,12 @@
 #!/usr/bin/env python3
-"""Tries each wrong body of the must-fail edits by itself: edits.py [CRATE..], in the repository's top folder.
+"""Tries each wrong body of the must-fail edits: edits.py [CRATE..], in the repository's top folder.
 
-An edit of the gate holds several wrong bodies, parted by a blank line, each under a heading that names what it turns; the gate
-wants such an edit refused as a whole. Here each of them is an edit of its own. While a crate's edits are tried they stand in its
-folder in place of its own, which come back at the end.
+An edit of the gate holds several wrong bodies, parted by a blank line, each under a heading with the functions or definitions that
+it turns; the gate wants such an edit refused as a whole. Here the prover has to refuse each. First all bodies of an edit are tried
+together, over the crate's kept work: a body is done with where each function that it turns, and no other body does, is refused for
+its own sake. What is left is tried by itself, as an edit of its own. The crate's files come back as they were.
 """
+import collections
 import contextlib
 import pathlib
 import re
@@ -13,29 +15,81 @@ import subprocess
 import sys
 import tempfile
 
+REFUSED = re.compile(r"^fn (\S+): no proof: expected answers", re.M)
+
 
 def bodies(text):
-    """The wrong bodies of an edit by name; a body begins with the heading that names what it turns."""
-    told = {}
+    """The wrong bodies of an edit: of each the heading's names, and its lines."""
+    told = []
     for part in text.strip("\n").split("\n\n"):
-        name = re.sub(r"\W+", "-", part.partition("\n")[0]).strip("-")
-        count = sum(it == name or it.startswith(f"{name}.") for it in told)
-        told[f"{name}.{count + 1}" if count else name] = f"{part}\n"
+        heading, _, lines = part.partition("\n")
+        told.append((heading.removeprefix("# ").split(", "), lines.split("\n")))
     return told
 
 
+def turned(folder, told):
+    """The texts of the crate's files with all these bodies, by path, or None where one can't be applied."""
+    texts, path, old = {}, "", ""
+    for line in (line for _, lines in told for line in lines):
+        word, _, rest = line.partition(": ")
+        if word == "file":
+            path = folder / rest
+        elif word == "old":
+            old = rest
+        else:
+            text = texts.get(path) or path.read_text()
+            if text.count(old) != 1:
+                return None
+            texts[path] = text.replace(old, rest)
+    return texts
+
+
 @contextlib.contextmanager
-def each_alone(folder):
-    """The folder with an edit for each wrong body; afterwards as it was."""
+def in_place(texts):
+    """These texts in the files' place; afterwards as they were."""
+    former = {path: path.read_text() for path in texts}
+    try:
+        for path, text in texts.items():
+            path.write_text(text)
+        yield
+    finally:
+        for path, text in former.items():
+            path.write_text(text)
+
+
+def functions(names, lines):
+    """The functions that a body turns, each as a pattern of its path in the crate."""
+    modules = {line.removeprefix("file: src/").removesuffix(".rt") for line in lines if line.startswith("file: src/")}
+    among = "|".join(sorted(modules)).replace("/", "::").replace("lib", "")
+    return [rf"\w+::(?:{among})(?:::\w+)*::{re.escape(name)}" for name in names]
+
+
+def left_alone(folder, edit):
+    """The bodies of an edit that are to be tried by themselves, since together with the others it isn't seen that each is refused."""
+    told = bodies(edit.read_text())
+    texts = turned(folder, told) if len(told) > 1 else None
+    if not texts:
+        return told
+    with in_place(texts):
+        ran = subprocess.run(["rt", "check"], cwd=folder, stdout=subprocess.PIPE, stderr=subprocess.STDOUT, text=True, errors="replace", check=False)
+    refused = REFUSED.findall(ran.stdout)
+    counts = collections.Counter(it for names, lines in told for it in functions(names, lines))
+    is_seen = lambda it: counts[it] == 1 and any(re.fullmatch(it, path) for path in refused)
+    return [(names, lines) for names, lines in told if not all(map(is_seen, functions(names, lines)))]
+
+
+@contextlib.contextmanager
+def each_alone(folder, told):
+    """The folder with an edit for each of these bodies; afterwards as it was."""
     with tempfile.TemporaryDirectory() as room:
         kept = pathlib.Path(room, "must-fail")
         shutil.copytree(folder, kept)
         try:
             for edit in folder.glob("*.edit"):
-                told = bodies(edit.read_text())
                 edit.unlink()
-                for name, body in told.items():
-                    (folder / f"{edit.stem}.{name}.edit").write_text(body)
+            for number, (names, lines) in enumerate(told, 1):
+                name = re.sub(r"\W+", "-", "-".join(names))
+                (folder / f"{number:02}.{name}.edit").write_text("\n".join(lines) + "\n")
             yield
         finally:
             shutil.rmtree(folder)
@@ -46,10 +100,15 @@ def main():
     names = sys.argv[1:] or sorted(line.split(":")[0].strip() for line in open("crates.txt"))
     failed = 0
     for name in names:
-        folder = pathlib.Path("crates", name, "must-fail")
-        if folder.is_dir():
-            with each_alone(folder):
-                failed += subprocess.run(["rt", "must-fail", name], check=False).returncode != 0
+        crate = pathlib.Path("crates", name)
+        folder = crate / "must-fail"
+        edits = sorted(folder.glob("*.edit"))
+        if edits:
+            count = sum(len(bodies(edit.read_text())) for edit in edits)
+            left = [body for edit in edits for body in left_alone(crate, edit)]
+            print(f"{name}: {count - len(left)} of {count} wrong bodies refused together; the others by themselves:", flush=True)
+            with each_alone(folder, left):
+                failed += bool(left) and subprocess.run(["rt", "must-fail", name], check=False).returncode != 0
     return 1 if failed else 0
 
 

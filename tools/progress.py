@@ -13,8 +13,8 @@ import time
 LAST_LINES = 40
 MOST_FAULTS = 60
 FAULT = re.compile(r"NOT PROVED|NOT REFUSED|BAD EDIT|\berror\b")
-# The first file of edits is tried from nothing, as the crate itself; each further one, and the crate once more at their end, over
-# what is kept, as much as so many lines of source and proofs.
+# A crate's first file of edits is tried from nothing, as the crate itself; a further one, and the crate once more at their end,
+# over what is kept, as much as so many lines of source and proofs.
 LINES_OF_AN_EDIT = 300
 
 
