@@ -6,7 +6,8 @@
 --   kind_named, class_named, form_named     a kind of receiver, a class and a form by its name
 --   is_set                   whether an option without a value is given
 --   inputs, is_twice         the texts that name inputs; more than one of them is standard input
---   once, command_named, order_by, order_at        the order of a command with its values, or why there is none
+--   file_command_named, viewing_command_named, command_named        the command of a name, a part of them at a time
+--   once, order_by, order_at        the order of a command with its values, or why there is none
 --   Asks                     what the program is asked for by words
 --   Refuses, Answers         what is answered for words
 --   IsFaultOf                an error of `clap` by its own name
@@ -266,6 +267,27 @@ is_twice order = nat_lt 1 (count_by (λ name. bytes_eq name (codes "-")) (inputs
 abbrev pub once : OrderView → Result OrderView Unfit
 once order = if is_twice order then Err named_twice else Ok order
 
+-- the command of a name, of those that take one file as it is, or none
+unfoldable pub file_command_named : Text → CommandName
+file_command_named name =
+    if bytes_eq name (codes "send") then command.Send
+    else if bytes_eq name (codes "pages") then command.Pages
+    else if bytes_eq name (codes "book") then command.Book
+    else if bytes_eq name (codes "extract") then command.Extract
+    else if bytes_eq name (codes "check") then command.Check
+    else if bytes_eq name (codes "version") then command.Version
+    else command.Inspect
+
+-- the command of a name, of those that tell what viewers get, or of these
+unfoldable pub viewing_command_named : Text → CommandName
+viewing_command_named name =
+    if bytes_eq name (codes "receive") then command.Receive
+    else if bytes_eq name (codes "show") then command.Show
+    else if bytes_eq name (codes "preview") then command.Preview
+    else if bytes_eq name (codes "splice") then command.Splice
+    else if bytes_eq name (codes "wait") then command.Wait
+    else file_command_named name
+
 -- the command of a name; `clap` takes no others
 unfoldable pub command_named : Text → CommandName
 command_named name =
@@ -274,18 +296,7 @@ command_named name =
     else if bytes_eq name (codes "certify") then command.Certify
     else if bytes_eq name (codes "refute") then command.Refute
     else if bytes_eq name (codes "replay") then command.Replay
-    else if bytes_eq name (codes "receive") then command.Receive
-    else if bytes_eq name (codes "show") then command.Show
-    else if bytes_eq name (codes "preview") then command.Preview
-    else if bytes_eq name (codes "splice") then command.Splice
-    else if bytes_eq name (codes "wait") then command.Wait
-    else if bytes_eq name (codes "send") then command.Send
-    else if bytes_eq name (codes "pages") then command.Pages
-    else if bytes_eq name (codes "book") then command.Book
-    else if bytes_eq name (codes "extract") then command.Extract
-    else if bytes_eq name (codes "check") then command.Check
-    else if bytes_eq name (codes "version") then command.Version
-    else command.Inspect
+    else viewing_command_named name
 
 -- the order of a command with its values
 abbrev pub order_by : CommandName → List Row → Result OrderView Unfit

@@ -4,7 +4,7 @@ ghost use Rattle.std.specs.Prelude.{◌≡◌, [], true, IfOk, IfErr, Some, Resu
 ghost use Rattle.clap.specs.Words.{rows_of, found_of, subcommand_rows_of, subcommand_of, fault_of};
 ghost use Rattle.ttx_arguments.specs.Grammar.{ttx_app};
 ghost use Rattle.ttx_arguments.specs.Orders.{OrderView, Unfit, command_named, order_by, order_at, IsOrderOf, AnswersBy, Answers, IsFaultOf};
-ghost use Rattle.ttx_arguments.specs.Orders.{IsRefusalOf};
+ghost use Rattle.ttx_arguments.specs.Orders.{IsRefusalOf, file_command_named, viewing_command_named};
 
 use crate::command_names::CommandName;
 use crate::commands::{
@@ -16,6 +16,48 @@ use crate::orders::{Order, WordsFault};
 use clap::ArgMatches;
 use clap::error::ErrorKind;
 use std::alloc::Global;
+
+// The command of this name, of those that take one file as it is, or none.
+#[tactic(auto, unfolding(crate::specs::Orders::file_command_named))]
+fn file_command_of(name: &str) -> CommandName
+    ensures { result ≡ file_command_named name.now }
+{
+    if name == "send" {
+        CommandName::Send
+    } else if name == "pages" {
+        CommandName::Pages
+    } else if name == "book" {
+        CommandName::Book
+    } else if name == "extract" {
+        CommandName::Extract
+    } else if name == "check" {
+        CommandName::Check
+    } else if name == "version" {
+        CommandName::Version
+    } else {
+        CommandName::Inspect
+    }
+}
+
+// The command of this name, of those that tell what viewers get, or of these.
+#[tactic(auto, unfolding(crate::specs::Orders::viewing_command_named))]
+fn viewing_command_of(name: &str) -> CommandName
+    ensures { result ≡ viewing_command_named name.now }
+{
+    if name == "receive" {
+        CommandName::Receive
+    } else if name == "show" {
+        CommandName::Show
+    } else if name == "preview" {
+        CommandName::Preview
+    } else if name == "splice" {
+        CommandName::Splice
+    } else if name == "wait" {
+        CommandName::Wait
+    } else {
+        file_command_of(name)
+    }
+}
 
 // The command of this name; `clap` takes no others.
 #[tactic(auto, unfolding(crate::specs::Orders::command_named))]
@@ -32,30 +74,8 @@ fn command_of(name: &str) -> CommandName
         CommandName::Refute
     } else if name == "replay" {
         CommandName::Replay
-    } else if name == "receive" {
-        CommandName::Receive
-    } else if name == "show" {
-        CommandName::Show
-    } else if name == "preview" {
-        CommandName::Preview
-    } else if name == "splice" {
-        CommandName::Splice
-    } else if name == "wait" {
-        CommandName::Wait
-    } else if name == "send" {
-        CommandName::Send
-    } else if name == "pages" {
-        CommandName::Pages
-    } else if name == "book" {
-        CommandName::Book
-    } else if name == "extract" {
-        CommandName::Extract
-    } else if name == "check" {
-        CommandName::Check
-    } else if name == "version" {
-        CommandName::Version
     } else {
-        CommandName::Inspect
+        viewing_command_of(name)
     }
 }
 
