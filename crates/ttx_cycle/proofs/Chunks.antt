@@ -1,6 +1,6 @@
 -- Slots that are added one by one from the bytes of many.
 use Rattle.std.proofs.Common.{◌≡◌, ◌∙◌, ℕ, ◌+◌, ◌*◌, ◌-◌, ◌<◌, ◌≤◌, List, [], ◌∷◌, ◌++◌, Option, Some, None, Result, IfSome, length, take, drop}
-use Rattle.std.proofs.Common.{take_all, length-drop, length-append, length-take-le, sym, ap, subst, refl, arith, append_assoc}
+use Rattle.std.proofs.Common.{take_all, length-drop, length-append, sym, ap, subst, arith, append_assoc}
 use Rattle.std.specs.Io.KnownBytes.{Consumes, IsAtEnd}
 use Rattle.ttx_cycle.specs.Reading.{Judged}
 use Rattle.ttx_cycle.specs.declared.cycles.Cycle.{Cycle}
@@ -26,27 +26,22 @@ one_more_slot done slot bytes whole i is so_far =
 pub take_whole : (n at : ℕ) (xs : List ℕ) → length xs ≤ n → take (n - at) (drop at xs) ≡ drop at xs
 take_whole n at xs le = take_all (n - at) (drop at xs) (omega (arith, length-drop at xs))
 
-pub take_none : (n : ℕ) (xs : List ℕ) → n ≡ 0 → take n xs ≡ []
-take_none n xs e = rw e refl
-
-pub some_taken : (n : ℕ) (xs : List ℕ) → 0 < n → n ≤ length xs → 0 < length (take n xs)
-some_taken n xs some le = omega (arith, length-take-le n xs le)
+-- an answer that any file may have
+pub judged_any : (old : Option (List ℕ)) (r : Result Cycle CycleFault) → ((file : List ℕ) → Judged file r) → IfSome old (λ bytes. Judged bytes r)
+judged_any None r j = tt
+judged_any (Some xs) r j = j xs
 
 -- a file that was read to its end
-pub judged_end : (old mid new : Option (List ℕ)) (file none : List ℕ) (r : Result Cycle CycleFault) → Consumes old mid file → Consumes mid new none
-    → none ≡ [] → IsAtEnd new → Judged file r → IfSome old (λ bytes. Judged bytes r)
-judged_end None mid new file none r a b e end j = tt
-judged_end (Some xs) None new file none r a b e end j = absurd a
-judged_end (Some xs) (Some ys) None file none r a b e end j = absurd b
-judged_end (Some xs) (Some ys) (Some zs) file none r a b e end j =
-    let left : ys ≡ [] = b ∙ ap (λ n. n ++ zs) e ∙ end in
-    subst (λ bytes. Judged bytes r) (sym (a ∙ ap (λ l. file ++ l) left ∙ append-nil file)) j
+pub judged_end : (old mid : Option (List ℕ)) (file : List ℕ) (r : Result Cycle CycleFault) → Consumes old mid file → IsAtEnd mid → Judged file r
+    → IfSome old (λ bytes. Judged bytes r)
+judged_end None mid file r a end j = tt
+judged_end (Some xs) None file r a end j = absurd a
+judged_end (Some xs) (Some ys) file r a end j =
+    subst (λ bytes. Judged bytes r) (sym (a ∙ ap (λ l. file ++ l) end ∙ append-nil file)) j
 
 -- a file of more than 65,536 slots
-pub judged_long : (old mid new : Option (List ℕ)) (file more : List ℕ) → Consumes old mid file → Consumes mid new more
-    → 0 < length more → 2752512 ≤ length file → IfSome old (λ bytes. 2752512 < length bytes)
-judged_long None mid new file more a b some long = tt
-judged_long (Some xs) None new file more a b some long = absurd a
-judged_long (Some xs) (Some ys) None file more a b some long = absurd b
-judged_long (Some xs) (Some ys) (Some zs) file more a b some long =
-    omega (arith, ap length a, ap length b, length-append file ys, length-append more zs)
+pub judged_long : (old mid : Option (List ℕ)) (file : List ℕ) → Consumes old mid file → IfSome mid (λ more. 0 < length more) → 2752512 ≤ length file
+    → IfSome old (λ bytes. 2752512 < length bytes)
+judged_long None mid file a some long = tt
+judged_long (Some xs) None file a some long = absurd a
+judged_long (Some xs) (Some ys) file a some long = omega (arith, ap length a, length-append file ys, some, long)

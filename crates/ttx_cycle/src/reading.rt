@@ -1,6 +1,7 @@
 //! Reads packet files.
 
-ghost use Rattle.std.specs.Prelude.{◌≡◌, ◌+◌, ◌*◌, ◌/◌, ◌≤◌, ◌++◌, length, take, drop, vec_len, OnOk, IfSome, ℕ};
+ghost use Rattle.std.specs.Prelude.{◌≡◌, ◌+◌, ◌*◌, ◌/◌, ◌<◌, ◌≤◌, ◌++◌, length, take, drop, vec_len, OnOk, IfOk, IfErr, IfSome, Err, List, ℕ};
+ghost use Rattle.std.specs.Io.KnownBytes.{Consumes, IsAtEnd};
 ghost use Rattle.ttx_cycle.specs.Files.{file_of};
 ghost use Rattle.ttx_cycle.specs.Counters.{inner_of, calls_of, faults_of};
 ghost use Rattle.ttx_cycle.specs.Reading.{Judged, CountsRead};
@@ -8,7 +9,7 @@ ghost use Rattle.ttx_cycle.specs.Reading.{Judged, CountsRead};
 use crate::counted::Counted;
 use crate::cycles::Cycle;
 use crate::faults::CycleFault;
-use crate::filling::fill_block;
+use crate::filling::{fill_block, is_at_end};
 use std::alloc::{AllocError, Global};
 use std::io::Read;
 
@@ -55,6 +56,27 @@ fn cycle_of(slots: Vec<[u8; 42]>) -> Result<Cycle, CycleFault>
     Cycle::of(slots).ok_or(CycleFault::Empty)
 }
 
+// Reads a block and adds its whole slots, and says how many bytes came.
+fn add_block<R: Read>(
+    reader: &mut Counted<R>,
+    slots: &mut Vec<[u8; 42]>,
+    block: &mut [u8; 1344],
+) -> Result<usize, CycleFault>
+    ensures most { IfOk result (λ n. n ≤ 1344) }
+    ensures size { length block.new ≡ 1344 }
+    ensures count { IfOk result (λ n. vec_len slots.new ≡ vec_len slots.old + n / 42) }
+    ensures read { IfOk result (λ n. Consumes (R.remaining (inner_of reader.old)) (R.remaining (inner_of reader.new)) (take n block.new)) }
+    ensures bytes { IfOk result (λ n. file_of slots.new.items ++ drop (42 * (n / 42)) (take n block.new) ≡ file_of slots.old.items ++ take n block.new) }
+    ensures end { IfOk result (λ n. n < 1344 → IsAtEnd (R.remaining (inner_of reader.new))) }
+    ensures judged { IfErr result (λ fault. (file : List ℕ) → Judged file (Err fault)) }
+    ensures faults { CountsRead result (faults_of reader.old) (faults_of reader.new) }
+    ensures calls { calls_of reader.new ≤ calls_of reader.old + 1344 }
+{
+    let count = fill_block(reader, block)?;
+    add_slots(slots, &block[..count]).map_err(|_| CycleFault::NoMemory)?;
+    Ok(count)
+}
+
 /// Reads a packet file to its end.
 ///
 /// Faults in this order: `TooLong`, `Truncated`, `Empty`. `Read` and `NoMemory` are answered where they come.
@@ -67,17 +89,15 @@ pub fn read_cycle<R: Read>(alloc: Global, reader: &mut Counted<R>) -> Result<Cyc
     let mut slots = Vec::new(alloc);
     let mut block = block_of_zeros();
     for i in 0..2048usize {
-        let count = fill_block(reader, &mut block)?;
-        add_slots(&mut slots, &block[..count]).map_err(|_| CycleFault::NoMemory)?;
+        let count = add_block(reader, &mut slots, &mut block)?;
         if count < 1344 {
             if count % 42 > 0 {
                 return Err(CycleFault::Truncated { rest: count % 42 });
             }
-            return Cycle::of(slots).ok_or(CycleFault::Empty);
+            return cycle_of(slots);
         }
     }
-    let mut more = [0; 1];
-    if fill_block(reader, &mut more)? == 0 {
+    if is_at_end(reader)? {
         cycle_of(slots)
     } else {
         Err(CycleFault::TooLong)

@@ -6,7 +6,7 @@ ghost use Rattle.ttx_header.specs.Headers.{is_header, header_fields_of};
 use crate::control::Control;
 use crate::headers::Header;
 use crate::ids::PageId;
-use ttx_code::unham;
+use crate::parts::{is_readable, number_at};
 
 fn text_of(bytes: &[u8; 42]) -> [u8; 24]
     ensures { result ≡ slice_range bytes.now 10 34 }
@@ -29,19 +29,19 @@ fn clock_of(bytes: &[u8; 42]) -> [u8; 8]
 pub fn read_header(bytes: &[u8; 42]) -> Option<Header>
     ensures { SomeIff result (is_header bytes.now ≡ true) (header_fields_of bytes.now) }
 {
-    let low = unham(bytes[0])?;
-    let high = unham(bytes[1])?;
-    let units = unham(bytes[2])?;
-    let tens = unham(bytes[3])?;
-    let s1 = unham(bytes[4])?;
-    let s2 = unham(bytes[5])?;
-    let s3 = unham(bytes[6])?;
-    let s4 = unham(bytes[7])?;
-    let c7 = unham(bytes[8])?;
-    let c11 = unham(bytes[9])?;
-    if low / 8 + 2 * high != 0 {
+    if !is_readable(&bytes[0..10]) {
         return None;
     }
+    let low = number_at(bytes, 0);
+    if low / 8 + 2 * number_at(bytes, 1) != 0 {
+        return None;
+    }
+    let [s1, s2, s3, s4] = [
+        number_at(bytes, 4),
+        number_at(bytes, 5),
+        number_at(bytes, 6),
+        number_at(bytes, 7),
+    ];
     let mag = if low % 8 == 0 { 8 } else { low % 8 };
     let sub = u16::from(s1)
         + 16 * u16::from(s2 % 8)
@@ -49,8 +49,8 @@ pub fn read_header(bytes: &[u8; 42]) -> Option<Header>
         + 4096 * u16::from(s4 % 4);
     let control = u16::from(s2 / 8)
         + 2 * u16::from(s4 / 4)
-        + 8 * u16::from(c7)
-        + 128 * u16::from(c11);
-    let id = PageId::new(mag, units + 16 * tens, sub)?;
+        + 8 * u16::from(number_at(bytes, 8))
+        + 128 * u16::from(number_at(bytes, 9));
+    let id = PageId::new(mag, number_at(bytes, 2) + 16 * number_at(bytes, 3), sub)?;
     Header::new(id, Control(control), text_of(bytes), clock_of(bytes))
 }

@@ -14,7 +14,7 @@ use Rattle.ttx_header.specs.Headers.{number}
 use Rattle.ttx_links.specs.Laws.{ReadLinkIsSaid}
 use Rattle.ttx_links.specs.Sets.{IsLink}
 use Rattle.ttx_info.specs.Infos.{InfoFields, IsInfoFields, is_half_digit, value_of, date_digits, time_digits, date_halves, time_halves, info_fields}
-use Rattle.ttx_info.specs.Infos.{info_of, SaysInfo}
+use Rattle.ttx_info.specs.Infos.{info_of, info_behind_link, SaysInfo}
 use Rattle.ttx_info.specs.Laws.{ReadInfosAreSaid}
 use Rattle.ttx_info.specs.declared.faults.InfoFault.{InfoFault}
 
@@ -149,7 +149,7 @@ module _ (link : ReadLinkIsSaid) where
       )
 
   pub read_infos_are_said : ReadInfosAreSaid
-  unfolding info_of
+  unfolding info_of info_behind_link
   read_infos_are_said f s is e =
       let (first, e1) = passed _ _ _ f e in
       let (low, e2) = passed _ _ _ f e1 in

@@ -8,7 +8,7 @@ use Rattle.ttx_code.specs.Laws.{OddBytesHoldTheirCodes}
 use Rattle.ttx_header.specs.Headers.{number}
 use Rattle.ttx_links.specs.Sets.{IsLink}
 use Rattle.ttx_links.specs.Laws.{SaidLinkIsRead}
-use Rattle.ttx_info.specs.Infos.{InfoFields, IsInfoFields, info_at, is_half_digit, value_of, date_digits, time_digits, info_fields, info_of, SaysInfo}
+use Rattle.ttx_info.specs.Infos.{InfoFields, IsInfoFields, info_at, is_half_digit, value_of, date_digits, time_digits, info_fields, info_of, info_behind_link, SaysInfo}
 use Rattle.ttx_info.proofs.Digits.{both, date_is_digits, time_is_digits, date_value, time_value, codes_of_bytes, bytes_are_odd}
 
 not_above_one : (n : ℕ) → n < 2 → nat_lt 1 n ≡ false
@@ -16,7 +16,7 @@ not_above_one n l = grind (arith, nat_tests)
 
 module _ (holds : OddBytesHoldTheirCodes) (link : SaidLinkIsRead) where
   pub info_said : (f : InfoFields) (s : List ℕ) → IsInfoFields f → IsLink f.initial → length s ≡ 42 → SaysInfo f s → info_of s ≡ Ok f
-  unfolding info_of
+  unfolding info_of info_behind_link
   info_said f s is target size says =
       let (initial, linked) = link 8 f.initial s 3 target says.initial (omega (arith, size)) in
       let first : number s 2 ≡ f.designation = ap (λ o. unwrap_or o 0) says.designation in

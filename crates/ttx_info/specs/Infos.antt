@@ -5,6 +5,7 @@
 --   IsInfoRange, IsInfoFields       their ranges
 --   digits_of, is_half_digit, value_of   the half bytes of date and time, each a digit plus one
 --   info_fields, info_of      what the bytes of a packet say, or why they say nothing
+--   are_clock_digits, info_behind_link, DecidesLink       the parts of that judgment: the clock, what stands behind the link, and what stands before it
 --   half_byte, offset_byte, date_bytes, time_bytes, info_bytes          the bytes that are written
 --   SaysInfo                    the packet that 42 bytes say
 use Rattle.std.specs.Prelude.{◌≡◌, ℕ, ◌+◌, ◌-◌, ◌*◌, ◌/◌, ◌%◌, ◌<◌, List, [], ◌∷◌, ◌++◌, All, Bool, nat_le, nat_lt, not, ◌==◌, ◌&&◌}
@@ -69,11 +70,22 @@ followed_by n (half ∷ halves) = followed_by (10 * n + (half - 1)) halves
 abbrev pub value_of : List ℕ → ℕ
 value_of halves = followed_by 0 halves
 
+-- each half byte of the date and the time is a digit plus one
+abbrev pub are_clock_digits : List ℕ → Bool
+are_clock_digits s = list_all is_half_digit (date_digits s) && list_all is_half_digit (time_digits s)
+
 -- all fields of a packet that has no fault
 abbrev pub info_fields : List ℕ → InfoFields
 info_fields s =
     info_at (number s 2) (link_at 8 s 3) (slice_range s 9 11) (slice_index s 11 / 2 % 32) (slice_index s 11 / 64 % 2 == 1)
     (value_of (date_digits s)) (value_of (time_digits s)) (map (λ b. b % 128) (slice_range s 22 42))
+
+-- what the clock and the characters decide where nothing before them has a fault
+unfoldable pub info_behind_link : List ℕ → Result InfoFields InfoFault
+info_behind_link s =
+    if not (are_clock_digits s) then Err Digit
+    else if not (list_all is_odd (slice_range s 22 42)) then Err Parity
+    else Ok (info_fields s)
 
 -- the fields, or the first fault in the order of the tests
 unfoldable pub info_of : List ℕ → Result InfoFields InfoFault
@@ -81,9 +93,12 @@ info_of s =
     if not (is_some (reading (slice_index s 2))) then Err Hamming
     else if nat_lt 1 (number s 2) then Err Designation
     else if not (are_readable (slice_range s 3 9)) then Err Hamming
-    else if not (list_all is_half_digit (date_digits s) && list_all is_half_digit (time_digits s)) then Err Digit
-    else if not (list_all is_odd (slice_range s 22 42)) then Err Parity
-    else Ok (info_fields s)
+    else info_behind_link s
+
+-- what bytes 2 to 8 decide: the fault that is told; or the designation and the initial page, and then the rest decides
+abbrev pub DecidesLink : List ℕ → Result (ℕ × Option Id) InfoFault → Type 0
+DecidesLink s (Err fault) = info_of s ≡ Err fault
+DecidesLink s (Ok link) = (info_of s ≡ info_behind_link s) × (link ≡ (number s 2, link_at 8 s 3))
 
 -- a decimal digit of n as a half byte; unit is 1 for the last digit, 10 for the one before it, and so on
 abbrev pub half_byte : ℕ → ℕ → ℕ

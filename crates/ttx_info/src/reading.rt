@@ -1,14 +1,14 @@
 //! Reads packet 8/30 format 1.
 
-ghost use Rattle.std.specs.Prelude.{◌≡◌, ◌-◌, ◌<◌, ◌%◌, true, IfSome, SomeIff, slice_range, map};
+ghost use Rattle.std.specs.Prelude.{◌≡◌, ◌-◌, ◌<◌, ◌%◌, true, IfSome, SomeIff, IfOk, slice_range, map};
 ghost use Rattle.std.specs.List.{list_all};
 ghost use Rattle.ttx_code.specs.Words.{is_odd};
-ghost use Rattle.ttx_info.specs.Infos.{is_half_digit, date_digits, time_digits, value_of, info_of};
+ghost use Rattle.ttx_info.specs.Infos.{is_half_digit, are_clock_digits, date_digits, time_digits, value_of, DecidesLink, info_of};
 
 use crate::faults::InfoFault;
 use crate::fields::Info;
 use ttx_code::{odd_of, unham};
-use ttx_links::read_link;
+use ttx_links::{Target, read_link};
 
 // Whether each half byte is a digit plus one.
 fn are_digits(halves: &[u8]) -> bool
@@ -77,22 +77,48 @@ fn network_of(bytes: &[u8; 42]) -> [u8; 2]
     network
 }
 
+// The date and the time. None where one of their half bytes is no digit plus one.
+fn date_and_time(bytes: &[u8; 42]) -> Option<(u32, u32)>
+    ensures value { SomeIff result (are_clock_digits bytes.now ≡ true) (value_of (date_digits bytes.now), value_of (time_digits bytes.now)) }
+    ensures range { IfSome result (λ clock. (clock.0 < 100000) × (clock.1 < 1000000)) }
+{
+    match (date_of(bytes), time_of(bytes)) {
+        (Some(mjd), Some(utc)) => Some((mjd, utc)),
+        _ => None,
+    }
+}
+
+// The designation and the initial page, or the first fault of bytes 2 to 8.
+#[tactic(auto, unfolding(crate::specs::Infos::info_of))]
+fn designation_and_initial(bytes: &[u8; 42]) -> Result<(u8, Option<Target>), InfoFault>
+    ensures value { DecidesLink bytes.now result }
+    ensures range { IfOk result (λ link. link.0 < 2) }
+{
+    let Some(designation) = unham(bytes[2]) else {
+        return Err(InfoFault::Hamming);
+    };
+    if designation > 1 {
+        return Err(InfoFault::Designation);
+    }
+    match read_link(8, bytes, 3) {
+        Some(initial) => Ok((designation, initial)),
+        None => Err(InfoFault::Hamming),
+    }
+}
+
 /// The fields of packet 8/30 format 1: bytes 2 to 41 are looked at.
 ///
 /// The first of these faults is answered: byte 2 unreadable (`Hamming`), a designation above 1 (`Designation`), one of
 /// bytes 3 to 8 unreadable (`Hamming`), a half byte of date or time that isn't 1 to 10 (`Digit`), a character of even
 /// parity (`Parity`).
-#[tactic(auto, unfolding(crate::specs::Infos::info_of))]
+#[tactic(auto, unfolding(crate::specs::Infos::info_behind_link))]
 pub fn read_info(bytes: &[u8; 42]) -> Result<Info, InfoFault>
     ensures { result ≡ info_of bytes.now }
 {
-    let designation = unham(bytes[2]).ok_or(InfoFault::Hamming)?;
-    if designation > 1 {
-        return Err(InfoFault::Designation);
-    }
-    let initial = read_link(8, bytes, 3).ok_or(InfoFault::Hamming)?;
-    let mjd = date_of(bytes).ok_or(InfoFault::Digit)?;
-    let utc = time_of(bytes).ok_or(InfoFault::Digit)?;
+    let (designation, initial) = designation_and_initial(bytes)?;
+    let Some((mjd, utc)) = date_and_time(bytes) else {
+        return Err(InfoFault::Digit);
+    };
     if !are_odd(&bytes[22..42]) {
         return Err(InfoFault::Parity);
     }
