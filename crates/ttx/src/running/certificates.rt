@@ -1,10 +1,11 @@
 //! The commands that judge a cycle by its service: `certify`, `find`, `wait`.
 
 use super::Outcome;
-use super::inputs::{Claim, SentService, buffered};
+use super::inputs::{Claim, ClaimReaders, SentService, SentServiceReaders, buffered};
 use crate::devices::{Input, create_out, open_input};
 use std::fs::File;
 use std::io;
+use std::io::BufReader;
 use ttx_arguments::{CertifyOrder, FindOrder, WaitOrder};
 use ttx_certify::{Verdict, certify_files, certify_passes};
 use ttx_cycle::Counted;
@@ -13,37 +14,39 @@ use ttx_tool::{ToolFault, commands};
 use ttx_wait::Detail;
 
 // The status is 0 where the verdict is Yes, else 1.
-fn certify_claim(rt: &HostRuntime, claim: Claim) -> Result<u8, ToolFault> {
-    let mut cycle = buffered(rt, claim.cycle)?;
-    let mut service = buffered(rt, claim.service)?;
-    let mut certificate = buffered(rt, claim.text)?;
+fn certify_readers(rt: &HostRuntime, readers: &mut ClaimReaders) -> Result<u8, ToolFault> {
     let mut writer = Counted::new(io::writer(rt));
     match certify_files(
         rt.alloc(),
-        &mut cycle,
-        &mut service,
-        &mut certificate,
+        &mut readers.cycle,
+        &mut readers.service,
+        &mut readers.text,
         &mut writer,
     ) {
         Ok(Verdict::Yes) => Ok(0),
         Ok(Verdict::No(_)) => Ok(1),
         Err(fault) => Err(ToolFault::from_files(fault)),
     }
+}
+
+fn certify_claim(rt: &HostRuntime, claim: Claim) -> Result<u8, ToolFault> {
+    let mut readers = claim.readers(rt)?;
+    certify_readers(rt, &mut readers)
 }
 
 // The same for a cycle that is read twice.
-fn certify_twice(rt: &HostRuntime, first: Input, claim: Claim) -> Result<u8, ToolFault> {
-    let mut first = buffered(rt, first)?;
-    let mut second = buffered(rt, claim.cycle)?;
-    let mut service = buffered(rt, claim.service)?;
-    let mut certificate = buffered(rt, claim.text)?;
+fn certify_readers_twice(
+    rt: &HostRuntime,
+    first: &mut Counted<BufReader<Input>>,
+    readers: &mut ClaimReaders,
+) -> Result<u8, ToolFault> {
     let mut writer = Counted::new(io::writer(rt));
     match certify_passes(
         rt.alloc(),
-        &mut first,
-        &mut second,
-        &mut service,
-        &mut certificate,
+        first,
+        &mut readers.cycle,
+        &mut readers.service,
+        &mut readers.text,
         &mut writer,
     ) {
         Ok(Verdict::Yes) => Ok(0),
@@ -52,23 +55,31 @@ fn certify_twice(rt: &HostRuntime, first: Input, claim: Claim) -> Result<u8, Too
     }
 }
 
+fn certify_twice(rt: &HostRuntime, first: Input, claim: Claim) -> Result<u8, ToolFault> {
+    let mut first = buffered(rt, first)?;
+    let mut readers = claim.readers(rt)?;
+    certify_readers_twice(rt, &mut first, &mut readers)
+}
+
 // The same where receivers may show pages late.
-fn certify_late(rt: &HostRuntime, claim: Claim) -> Result<u8, ToolFault> {
-    let mut cycle = buffered(rt, claim.cycle)?;
-    let mut service = buffered(rt, claim.service)?;
-    let mut certificate = buffered(rt, claim.text)?;
+fn certify_readers_late(rt: &HostRuntime, readers: &mut ClaimReaders) -> Result<u8, ToolFault> {
     let mut writer = Counted::new(io::writer(rt));
     match certify_files_late(
         rt.alloc(),
-        &mut cycle,
-        &mut service,
-        &mut certificate,
+        &mut readers.cycle,
+        &mut readers.service,
+        &mut readers.text,
         &mut writer,
     ) {
         Ok(LateVerdict::Yes { .. }) => Ok(0),
         Ok(_) => Ok(1),
         Err(fault) => Err(ToolFault::from_files(fault)),
     }
+}
+
+fn certify_late(rt: &HostRuntime, claim: Claim) -> Result<u8, ToolFault> {
+    let mut readers = claim.readers(rt)?;
+    certify_readers_late(rt, &mut readers)
 }
 
 /// Opens the cycle, once more where it is read twice, the service and the certificate, and judges the cycle by the certificate.
@@ -87,27 +98,35 @@ pub fn certify(rt: &HostRuntime, order: &CertifyOrder<'_>) -> Outcome {
 }
 
 // The status is 0 where there is a deadline, else 1.
+fn find_in(
+    rt: &HostRuntime,
+    readers: &mut SentServiceReaders,
+    order: &FindOrder<'_>,
+    file: &mut Counted<File>,
+) -> Result<u8, ToolFault> {
+    let mut writer = Counted::new(io::writer(rt));
+    // The arguments have it in this range.
+    let repeat = order.repeat.clamp(1, 8);
+    commands::find(
+        rt.alloc(),
+        &mut readers.cycle,
+        &mut readers.service,
+        repeat,
+        order.class,
+        file,
+        &mut writer,
+    )
+}
+
 fn find_to(
     rt: &HostRuntime,
     inputs: SentService,
     order: &FindOrder<'_>,
     out: File,
 ) -> Result<u8, ToolFault> {
-    let mut cycle = buffered(rt, inputs.cycle)?;
-    let mut service = buffered(rt, inputs.service)?;
     let mut file = Counted::new(out);
-    let mut writer = Counted::new(io::writer(rt));
-    // The arguments have it in this range.
-    let repeat = order.repeat.clamp(1, 8);
-    commands::find(
-        rt.alloc(),
-        &mut cycle,
-        &mut service,
-        repeat,
-        order.class,
-        &mut file,
-        &mut writer,
-    )
+    let mut readers = inputs.readers(rt)?;
+    find_in(rt, &mut readers, order, &mut file)
 }
 
 /// Opens the cycle and the service, makes the certificate's file anew, and finds the certificate.
@@ -120,9 +139,11 @@ pub fn find(rt: &HostRuntime, order: &FindOrder<'_>) -> Outcome {
 }
 
 // The status is 0 where there is a deadline for all pages, else 1.
-fn wait_for(rt: &HostRuntime, inputs: SentService, order: &WaitOrder<'_>) -> Result<u8, ToolFault> {
-    let mut cycle = buffered(rt, inputs.cycle)?;
-    let mut service = buffered(rt, inputs.service)?;
+fn wait_in(
+    rt: &HostRuntime,
+    readers: &mut SentServiceReaders,
+    order: &WaitOrder<'_>,
+) -> Result<u8, ToolFault> {
     let mut writer = Counted::new(io::writer(rt));
     // The arguments have it in this range.
     let repeat = order.repeat.clamp(1, 8);
@@ -133,13 +154,18 @@ fn wait_for(rt: &HostRuntime, inputs: SentService, order: &WaitOrder<'_>) -> Res
     };
     commands::wait(
         rt.alloc(),
-        &mut cycle,
-        &mut service,
+        &mut readers.cycle,
+        &mut readers.service,
         repeat,
         order.class,
         detail,
         &mut writer,
     )
+}
+
+fn wait_for(rt: &HostRuntime, inputs: SentService, order: &WaitOrder<'_>) -> Result<u8, ToolFault> {
+    let mut readers = inputs.readers(rt)?;
+    wait_in(rt, &mut readers, order)
 }
 
 /// Opens the cycle and the service, and tells how long viewers of each page wait.

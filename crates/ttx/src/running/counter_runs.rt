@@ -1,7 +1,7 @@
 //! The commands of counter-runs: `refute`, `replay`.
 
 use super::Outcome;
-use super::inputs::{Claim, buffered};
+use super::inputs::{Claim, ClaimReaders};
 use crate::devices::create_out;
 use std::io;
 use std::io::Write;
@@ -10,26 +10,33 @@ use ttx_cycle::Counted;
 use ttx_tool::{ToolFault, commands};
 
 // Looks for a viewer whom a cycle fails: status 1 where there is one, else 0.
+fn refute_readers<O: Write>(
+    rt: &HostRuntime,
+    readers: &mut ClaimReaders,
+    save: bool,
+    file: &mut Counted<O>,
+) -> Result<u8, ToolFault> {
+    let mut writer = Counted::new(io::writer(rt));
+    commands::refute(
+        rt.alloc(),
+        &mut readers.cycle,
+        &mut readers.service,
+        &mut readers.text,
+        save,
+        file,
+        &mut writer,
+    )
+}
+
 fn refute_claim<O: Write + Drop>(
     rt: &HostRuntime,
     claim: Claim,
     save: bool,
     out: O,
 ) -> Result<u8, ToolFault> {
-    let mut cycle = buffered(rt, claim.cycle)?;
-    let mut service = buffered(rt, claim.service)?;
-    let mut certificate = buffered(rt, claim.text)?;
     let mut file = Counted::new(out);
-    let mut writer = Counted::new(io::writer(rt));
-    commands::refute(
-        rt.alloc(),
-        &mut cycle,
-        &mut service,
-        &mut certificate,
-        save,
-        &mut file,
-        &mut writer,
-    )
+    let mut readers = claim.readers(rt)?;
+    refute_readers(rt, &mut readers, save, &mut file)
 }
 
 /// Opens the cycle, the service and the certificate, makes the counter-run's file anew where it is named, and refutes.
@@ -46,18 +53,20 @@ pub fn refute(rt: &HostRuntime, order: &RefuteOrder<'_>) -> Outcome {
 }
 
 // The status is 0 where the text is that of a counter-run, else 1.
-fn replay_claim(rt: &HostRuntime, claim: Claim) -> Result<u8, ToolFault> {
-    let mut cycle = buffered(rt, claim.cycle)?;
-    let mut service = buffered(rt, claim.service)?;
-    let mut counter = buffered(rt, claim.text)?;
+fn replay_readers(rt: &HostRuntime, readers: &mut ClaimReaders) -> Result<u8, ToolFault> {
     let mut writer = Counted::new(io::writer(rt));
     commands::replay(
         rt.alloc(),
-        &mut cycle,
-        &mut service,
-        &mut counter,
+        &mut readers.cycle,
+        &mut readers.service,
+        &mut readers.text,
         &mut writer,
     )
+}
+
+fn replay_claim(rt: &HostRuntime, claim: Claim) -> Result<u8, ToolFault> {
+    let mut readers = claim.readers(rt)?;
+    replay_readers(rt, &mut readers)
 }
 
 /// Opens the cycle, the service and the counter-run, and shows what is shown after it.

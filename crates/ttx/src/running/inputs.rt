@@ -14,6 +14,13 @@ pub fn buffered(rt: &HostRuntime, input: Input) -> Result<Counted<BufReader<Inpu
     }
 }
 
+/// The readers of a cycle and of the service that it is to send.
+#[derive(Drop)]
+pub struct SentServiceReaders {
+    pub cycle: Counted<BufReader<Input>>,
+    pub service: Counted<BufReader<Input>>,
+}
+
 /// A cycle, and the service that it is to send.
 #[derive(Drop)]
 pub struct SentService {
@@ -28,6 +35,21 @@ impl SentService {
         let service = open_input(rt, service)?;
         Ok(SentService { cycle, service })
     }
+
+    /// Buffered readers of both.
+    pub fn readers(self, rt: &HostRuntime) -> Result<SentServiceReaders, ToolFault> {
+        let cycle = buffered(rt, self.cycle)?;
+        let service = buffered(rt, self.service)?;
+        Ok(SentServiceReaders { cycle, service })
+    }
+}
+
+/// The readers of a claim.
+#[derive(Drop)]
+pub struct ClaimReaders {
+    pub cycle: Counted<BufReader<Input>>,
+    pub service: Counted<BufReader<Input>>,
+    pub text: Counted<BufReader<Input>>,
 }
 
 /// A cycle, the service that it is to send, and a third text on both: a certificate, or a counter-run.
@@ -45,6 +67,18 @@ impl Claim {
         let service = open_input(rt, service)?;
         let text = open_input(rt, text)?;
         Ok(Claim {
+            cycle,
+            service,
+            text,
+        })
+    }
+
+    /// Buffered readers of the three.
+    pub fn readers(self, rt: &HostRuntime) -> Result<ClaimReaders, ToolFault> {
+        let cycle = buffered(rt, self.cycle)?;
+        let service = buffered(rt, self.service)?;
+        let text = buffered(rt, self.text)?;
+        Ok(ClaimReaders {
             cycle,
             service,
             text,

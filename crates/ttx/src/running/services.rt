@@ -5,6 +5,7 @@ use super::inputs::buffered;
 use crate::devices::{Input, create_out, open_input};
 use std::fs::File;
 use std::io;
+use std::io::BufReader;
 use ttx_arguments::PlanOrder;
 use ttx_certify::TextFile;
 use ttx_check::CheckFault;
@@ -34,16 +35,25 @@ pub fn check(rt: &HostRuntime, service: &str) -> Outcome {
     Ok(check_input(rt, open_input(rt, service)?))
 }
 
+fn plan_to(
+    rt: &HostRuntime,
+    reader: &mut Counted<BufReader<Input>>,
+    receivers: Receivers,
+    file: &mut Counted<File>,
+) -> Result<u8, ToolFault> {
+    let mut writer = Counted::new(io::writer(rt));
+    commands::plan(rt.alloc(), reader, receivers, file, &mut writer)
+}
+
 fn plan_input(
     rt: &HostRuntime,
     input: Input,
     receivers: Receivers,
     out: File,
 ) -> Result<u8, ToolFault> {
-    let mut reader = buffered(rt, input)?;
     let mut file = Counted::new(out);
-    let mut writer = Counted::new(io::writer(rt));
-    commands::plan(rt.alloc(), &mut reader, receivers, &mut file, &mut writer)
+    let mut reader = buffered(rt, input)?;
+    plan_to(rt, &mut reader, receivers, &mut file)
 }
 
 /// Opens the service, makes the cycle's file anew, and plans.

@@ -4,6 +4,7 @@ use super::Outcome;
 use super::inputs::buffered;
 use crate::devices::{Input, open_input};
 use std::io;
+use std::io::BufReader;
 use ttx_arguments::SpliceOrder;
 use ttx_cycle::Counted;
 use ttx_proof::{SpliceVerdict, splice_files};
@@ -17,29 +18,60 @@ struct SpliceInputs {
     certificates: (Input, Input),
 }
 
+// The readers of two inputs.
+#[derive(Drop)]
+struct TwoReaders {
+    old: Counted<BufReader<Input>>,
+    new: Counted<BufReader<Input>>,
+}
+
+// The readers of the inputs of a splice.
+#[derive(Drop)]
+struct SpliceReaders {
+    cycles: TwoReaders,
+    services: TwoReaders,
+    certificates: TwoReaders,
+}
+
+fn buffered_two(rt: &HostRuntime, inputs: (Input, Input)) -> Result<TwoReaders, ToolFault> {
+    let old = buffered(rt, inputs.0)?;
+    let new = buffered(rt, inputs.1)?;
+    Ok(TwoReaders { old, new })
+}
+
+fn buffered_all(rt: &HostRuntime, inputs: SpliceInputs) -> Result<SpliceReaders, ToolFault> {
+    let cycles = buffered_two(rt, inputs.cycles)?;
+    let services = buffered_two(rt, inputs.services)?;
+    let certificates = buffered_two(rt, inputs.certificates)?;
+    Ok(SpliceReaders {
+        cycles,
+        services,
+        certificates,
+    })
+}
+
 // The status is 0 where the verdict is Yes, else 1.
-fn splice_inputs(rt: &HostRuntime, inputs: SpliceInputs) -> Result<u8, ToolFault> {
-    let mut old = buffered(rt, inputs.cycles.0)?;
-    let mut new = buffered(rt, inputs.cycles.1)?;
-    let mut old_service = buffered(rt, inputs.services.0)?;
-    let mut new_service = buffered(rt, inputs.services.1)?;
-    let mut old_certificate = buffered(rt, inputs.certificates.0)?;
-    let mut new_certificate = buffered(rt, inputs.certificates.1)?;
+fn splice_readers(rt: &HostRuntime, readers: &mut SpliceReaders) -> Result<u8, ToolFault> {
     let mut writer = Counted::new(io::writer(rt));
     match splice_files(
         rt.alloc(),
-        &mut old,
-        &mut new,
-        &mut old_service,
-        &mut new_service,
-        &mut old_certificate,
-        &mut new_certificate,
+        &mut readers.cycles.old,
+        &mut readers.cycles.new,
+        &mut readers.services.old,
+        &mut readers.services.new,
+        &mut readers.certificates.old,
+        &mut readers.certificates.new,
         &mut writer,
     ) {
         Ok(SpliceVerdict::Yes) => Ok(0),
         Ok(SpliceVerdict::No(_)) => Ok(1),
         Err(fault) => Err(ToolFault::from_files(fault)),
     }
+}
+
+fn splice_inputs(rt: &HostRuntime, inputs: SpliceInputs) -> Result<u8, ToolFault> {
+    let mut readers = buffered_all(rt, inputs)?;
+    splice_readers(rt, &mut readers)
 }
 
 // Opens two inputs.
