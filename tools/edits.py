@@ -2,9 +2,10 @@
 """Tries each wrong body of the must-fail edits: edits.py [CRATE..], in the repository's top folder.
 
 An edit of the gate holds several wrong bodies, parted by a blank line, each under a heading with the functions or definitions that
-it turns; the gate wants such an edit refused as a whole. Here the prover has to refuse each. First all bodies of an edit are tried
-together, over the crate's kept work: a body is done with where each function that it turns, and no other body does, is refused for
-its own sake. What is left is tried by itself, as an edit of its own. The crate's files come back as they were.
+it turns; the gate wants such an edit refused as a whole. Here the prover has to refuse each. First all bodies of an edit that turn
+code alone are tried together, over the crate's kept work: such a body is done with where each function that it turns, and no other
+body does, is refused for its own sake. What is left is tried by itself, as an edit of its own. The crate's files come back as they
+were.
 """
 import collections
 import contextlib
@@ -15,6 +16,7 @@ import subprocess
 import sys
 import tempfile
 
+CLAUSE = re.compile(r"(old|new): .*\b(ensures|requires|keeps|invariant)\b")
 REFUSED = re.compile(r"^fn (\S+): no proof: expected answers", re.M)
 
 
@@ -64,18 +66,24 @@ def functions(names, lines):
     return [rf"\w+::(?:{among})(?:::\w+)*::{re.escape(name)}" for name in names]
 
 
+def is_of_code(lines):
+    """Whether a body turns code alone, and no definition or clause, by which other functions are refused too."""
+    return all(line.startswith("file: src/") for line in lines if line.startswith("file: ")) and not any(CLAUSE.match(line) for line in lines)
+
+
 def left_alone(folder, edit):
     """The bodies of an edit that are to be tried by themselves, since together with the others it isn't seen that each is refused."""
-    told = bodies(edit.read_text())
+    every = bodies(edit.read_text())
+    told = [(names, lines) for names, lines in every if is_of_code(lines)]
     texts = turned(folder, told) if len(told) > 1 else None
     if not texts:
-        return told
+        return every
     with in_place(texts):
         ran = subprocess.run(["rt", "check"], cwd=folder, stdout=subprocess.PIPE, stderr=subprocess.STDOUT, text=True, errors="replace", check=False)
     refused = REFUSED.findall(ran.stdout)
     counts = collections.Counter(it for names, lines in told for it in functions(names, lines))
     is_seen = lambda it: counts[it] == 1 and any(re.fullmatch(it, path) for path in refused)
-    return [(names, lines) for names, lines in told if not all(map(is_seen, functions(names, lines)))]
+    return [(names, lines) for names, lines in every if not is_of_code(lines) or not all(map(is_seen, functions(names, lines)))]
 
 
 @contextlib.contextmanager
