@@ -56,7 +56,8 @@ unfolding Refuses
 refuses app [] error some h = absurd (some refl)
 refuses app (word ∷ words) error some h = h
 
-pub answered : (app : App) (words : List Text) (answer : Result OrderView Unfit) (result : Result Order WordsFault) → length words ≢ 0 → fault_of app words ≡ []
+pub answered : (app : App) (words : List Text) (answer : Result OrderView Unfit) (result : Result Order WordsFault) → length words ≢ 0 →
+    fault_of app words ≡ []
     → option_map (λ p. order_at p.0 p.1) (subcommand_of app words) ≡ Some answer → IsOrderOf result answer → AnswersBy app words result
 answered app words answer (Ok order) some fault is of = asked app words (Ok (order_view order)) some fault (is ∙ ap Some of)
 answered app words answer (Err Page) some fault is of = asked app words _ some fault (is ∙ ap Some of)
@@ -65,7 +66,8 @@ answered app words answer (Err Twice) some fault is of = asked app words _ some 
 answered app words answer (Err (Refused error)) some fault is of = absurd of
 answered app words answer (Err NoMemory) some fault is of = absurd of
 
-pub refused : (app : App) (words : List Text) (fault : WordsFault) → length words ≢ 0 → IsRefusalOf fault (fault_of app words) → AnswersBy app words (Err fault)
+pub refused : (app : App) (words : List Text) (fault : WordsFault) → length words ≢ 0 → IsRefusalOf fault (fault_of app words) →
+    AnswersBy app words (Err fault)
 refused app words (Refused error) some h = refuses app words error some h
 refused app words Page some h = absurd h
 refused app words Time some h = absurd h
@@ -85,15 +87,21 @@ needs_command false wants_argument false true n h = cc
 needs_command wants_help wants_argument false false n h = cc
 
 -- a level that needs a command and has no fault has one
-level_has : (s : Shape) (names : Names) (h : Held) (words : List Text) (has : Bool) (below : Kinds) → s.subcommand_required ≡ true → level_fault s names h words has below ≡ [] → has ≡ true
+level_has : (s : Shape) (names : Names) (h : Held) (words : List Text) (has : Bool) (below : Kinds) → s.subcommand_required ≡ true →
+    level_fault s names h words has below ≡ [] → has ≡ true
 level_has s names h words has below n fault =
     let end = (walk s.rules names h words).held in
-    let one = (no_fault (walk_fault s names (walk_from h) words) (or_else below (or_else (settle_fault s.rules s.args_override_self end) (or_else (defaults_fault (settled s.rules end).rows s.rules) (check_fault s (finished s.rules end) has)))) fault).1 in
-    let two = (no_fault below (or_else (settle_fault s.rules s.args_override_self end) (or_else (defaults_fault (settled s.rules end).rows s.rules) (check_fault s (finished s.rules end) has))) one).1 in
-    let three = (no_fault (settle_fault s.rules s.args_override_self end) (or_else (defaults_fault (settled s.rules end).rows s.rules) (check_fault s (finished s.rules end) has)) two).1 in
+    let one = (no_fault (walk_fault s names (walk_from h) words)
+    (or_else below (or_else (settle_fault s.rules s.args_override_self end)
+    (or_else (defaults_fault (settled s.rules end).rows s.rules) (check_fault s (finished s.rules end) has)))) fault).1 in
+    let two = (no_fault below (or_else (settle_fault s.rules s.args_override_self end)
+    (or_else (defaults_fault (settled s.rules end).rows s.rules) (check_fault s (finished s.rules end) has))) one).1 in
+    let three = (no_fault (settle_fault s.rules s.args_override_self end)
+    (or_else (defaults_fault (settled s.rules end).rows s.rules) (check_fault s (finished s.rules end) has)) two).1 in
     let four = (no_fault (defaults_fault (settled s.rules end).rows s.rules) (check_fault s (finished s.rules end) has) three).1 in
     needs_command (not has && (s.arg_required_else_help && not (list_any (λ r. explicit_source r.source) (finished s.rules end))))
-    (not (s.subcommand_negates_reqs && has) && list_any (λ a. a.required && not (is_given a.id (finished s.rules end))) s.rules) has s.subcommand_required n four
+    (not (s.subcommand_negates_reqs && has) && list_any (λ a. a.required && not (is_given a.id (finished s.rules end))) s.rules) has
+    s.subcommand_required n four
 
 app_has : (a : App) (ws : List Text) → (built a).top.subcommand_required ≡ true → fault_of a ws ≡ [] → is_some (subcommand_of a ws) ≡ true
 app_has a ws n fault =

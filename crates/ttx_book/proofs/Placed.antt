@@ -22,7 +22,8 @@ hits : (key : ℕ) (pages : List ℕ) → gap key pages < length pages → get_o
 hits key [] h = absurd (omega arith)
 hits key (page ∷ pages) h = by_test (hits key pages) (page == key) refl
   where
-    by_test : (gap key pages < length pages → get_or pages (gap key pages) 0 ≡ key) → (b : Bool) → (page == key) ≡ b → get_or (page ∷ pages) (gap key (page ∷ pages)) 0 ≡ key
+    by_test : (gap key pages < length pages → get_or pages (gap key pages) 0 ≡ key) → (b : Bool) → (page == key) ≡ b →
+        get_or (page ∷ pages) (gap key (page ∷ pages)) 0 ≡ key
     by_test later true e = ap (λ n. get_or (page ∷ pages) n 0) (gap_here key page pages e) ∙ eqb-true page key e
     by_test later false e =
         let more : gap key (page ∷ pages) ≡ suc (gap key pages) = gap_later key page pages e in
@@ -38,7 +39,8 @@ skips key t [] (page ∷ pages) e = absurd (omega (arith, e))
 skips key t (slot ∷ slots) (page ∷ pages) e = by_test (skips key t slots pages (omega (arith, e))) (page == key) refl
   where
     by_test : hears key t (drop (gap key pages) slots) (drop (gap key pages) pages) ≡ hears key t slots pages → (b : Bool) → (page == key) ≡ b →
-        hears key t (drop (gap key (page ∷ pages)) (slot ∷ slots)) (drop (gap key (page ∷ pages)) (page ∷ pages)) ≡ hears key t (slot ∷ slots) (page ∷ pages)
+        hears key t (drop (gap key (page ∷ pages)) (slot ∷ slots)) (drop (gap key (page ∷ pages)) (page ∷ pages))
+        ≡ hears key t (slot ∷ slots) (page ∷ pages)
     by_test later true is = ap (λ n. hears key t (drop n (slot ∷ slots)) (drop n (page ∷ pages))) (gap_here key page pages is)
     by_test later false is =
         ap (λ n. hears key t (drop n (slot ∷ slots)) (drop n (page ∷ pages))) (gap_later key page pages is)
@@ -47,7 +49,8 @@ skips key t (slot ∷ slots) (page ∷ pages) e = by_test (skips key t slots pag
 
 module _ (key : ℕ) (slots : List (List ℕ)) (pages : List ℕ) (size : length pages ≡ length slots) where
   -- from a slot on the first one of the page is next
-  pub from_first : (at : ℕ) (t : Tuned) → hears key t (drop (place_from at key pages) slots) (drop (place_from at key pages) pages) ≡ hears key t (drop at slots) (drop at pages)
+  pub from_first : (at : ℕ) (t : Tuned) → hears key t (drop (place_from at key pages) slots) (drop (place_from at key pages) pages)
+      ≡ hears key t (drop at slots) (drop at pages)
   from_first at t =
       let g = gap key (drop at pages) in
       let left : length (drop at pages) ≡ length (drop at slots) = length-drop at pages ∙ ap (λ n. n - at) size ∙ sym (length-drop at slots) in
@@ -64,9 +67,11 @@ module _ (key : ℕ) (slots : List (List ℕ)) (pages : List ℕ) (size : length
 
   -- a slot of the page is heard, and then the next one
   pub one_heard : (at : ℕ) (t : Tuned) → at < length slots → get_or pages at 0 ≡ key →
-      hears key (stepped Any false t (get_or slots at [])) (drop (place_from (at + 1) key pages) slots) (drop (place_from (at + 1) key pages) pages) ≡ hears key t (drop at slots) (drop at pages)
+      hears key (stepped Any false t (get_or slots at [])) (drop (place_from (at + 1) key pages) slots)
+      (drop (place_from (at + 1) key pages) pages) ≡ hears key t (drop at slots) (drop at pages)
   one_heard at t l own =
-      from_first (at + 1) (stepped Any false t slot) ∙ ap (λ n. hears key (stepped Any false t slot) (drop n slots) (drop n pages)) (add-one at) ∙ sym here
+      from_first (at + 1) (stepped Any false t slot)
+      ∙ ap (λ n. hears key (stepped Any false t slot) (drop n slots) (drop n pages)) (add-one at) ∙ sym here
     where
       slot : List ℕ
       slot = get_or slots at []
@@ -135,10 +140,12 @@ module _ (pages : List ℕ) (at : ℕ) (first new : BTreeMap ℕ ℕ) (next : Li
 
       other : (key : ℕ) → page ≢ key → unwrap_or (get nat_cmp new key) (length pages) ≡ place_from at key pages
       other key ne =
-          let later : gap key (drop at pages) ≡ suc (gap key (drop (suc at) pages)) = ap (gap key) cut ∙ gap_later key page (drop (suc at) pages) (ne_eqb page key ne) in
+          let later : gap key (drop at pages) ≡ suc (gap key (drop (suc at) pages)) = ap (gap key) cut
+          ∙ gap_later key page (drop (suc at) pages) (ne_eqb page key ne) in
           let plus : gap key (drop (at + 1) pages) ≡ gap key (drop (suc at) pages) = ap (λ n. gap key (drop n pages)) (add-one at) in
           let place : place_from (at + 1) key pages ≡ place_from at key pages = omega (arith, later, plus) in
-          ap (λ o. unwrap_or o (length pages)) (adds key ∙ ap (λ b. cond b (Some at) (get nat_cmp first key)) (at_other page key ne)) ∙ old.begins key ∙ place
+          ap (λ o. unwrap_or o (length pages)) (adds key ∙ ap (λ b. cond b (Some at) (get nat_cmp first key)) (at_other page key ne))
+          ∙ old.begins key ∙ place
 
       here : (k : ℕ) → k ≡ at → get_or (set next at end) k 0 ≡ place_from (k + 1) (get_or pages k 0) pages
       here k e =

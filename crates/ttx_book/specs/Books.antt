@@ -14,11 +14,15 @@ use Rattle.ttx_digits.specs.Digits.{hex_byte, hex_digit}
 use Rattle.ttx_digits.specs.PageIds.{id_text}
 
 unfoldable pub book_start : List ℕ
-book_start = codes "<!DOCTYPE html>\n<html lang=\"en\"><head><meta charset=\"utf-8\"/><meta name=\"viewport\" content=\"width=device-width\"/><title>Teletext pages</title><style>"
+book_start = codes "<!DOCTYPE html>\n<html lang=\"en\"><head><meta charset=\"utf-8\"/>"
+    ++ codes "<meta name=\"viewport\" content=\"width=device-width\"/><title>Teletext pages</title><style>"
 
 -- pages that aren't seen aren't drawn
 unfoldable pub book_style : List ℕ
-book_style = codes ".i{flex-wrap:wrap}.i a{padding:.4em;color:#fff}h2{font-size:1em;margin:0;padding:.7em}section{content-visibility:auto;contain-intrinsic-size:auto 47em}#n{position:fixed;top:0;right:0;background:#000;color:#fff;padding:.2em .4em;font-size:1.5em}#n:empty{display:none}"
+book_style = codes ".i{flex-wrap:wrap}.i a{padding:.4em;color:#fff}h2{font-size:1em;margin:0;padding:.7em}"
+    ++ codes "section{content-visibility:auto;contain-intrinsic-size:auto 47em}"
+    ++ codes "#n{position:fixed;top:0;right:0;background:#000;color:#fff;padding:.2em .4em;font-size:1.5em}"
+    ++ codes "#n:empty{display:none}"
 
 unfoldable pub index_start : List ℕ
 index_start = codes "</style></head><body><main><output id=\"n\"></output><nav class=\"i\" aria-label=\"Pages\">"
@@ -62,7 +66,10 @@ leaves_html slots pages former (id ∷ ids) = leaf_html slots pages former id ++
 
 -- Three digits lead to the page of this number.
 unfoldable pub script : List ℕ
-script = codes "<script>var t='',n=document.getElementById('n');document.addEventListener('keydown',function(e){if(e.ctrlKey||e.altKey||e.metaKey||!/^[0-9]$/.test(e.key))return;t=t.length==3?e.key:t+e.key;n.textContent=t;if(t.length==3){var p=document.getElementById(t);if(p){location.hash=t;p.scrollIntoView();n.textContent=''}else n.textContent=t+'?'}})</script>"
+script = codes "<script>var t='',n=document.getElementById('n');document.addEventListener('keydown',function(e){"
+    ++ codes "if(e.ctrlKey||e.altKey||e.metaKey||!/^[0-9]$/.test(e.key))return;t=t.length==3?e.key:t+e.key;n.textContent=t;"
+    ++ codes "if(t.length==3){var p=document.getElementById(t);if(p){location.hash=t;p.scrollIntoView();n.textContent=''}"
+    ++ codes "else n.textContent=t+'?'}})</script>"
 
 unfoldable pub book_end : List ℕ
 book_end = codes "</main></body></html>\n"

@@ -18,7 +18,8 @@ fn push_book_start(text: &mut String) -> Result<(), AllocError>
     ensures { OnOk result (string_bytes text.new ≡ string_bytes text.old ++ book_start) }
 {
     text.push_str(
-        "<!DOCTYPE html>\n<html lang=\"en\"><head><meta charset=\"utf-8\"/><meta name=\"viewport\" content=\"width=device-width\"/><title>Teletext pages</title><style>",
+        "<!DOCTYPE html>\n<html lang=\"en\"><head><meta charset=\"utf-8\"/>\
+          <meta name=\"viewport\" content=\"width=device-width\"/><title>Teletext pages</title><style>",
     )
 }
 
@@ -27,7 +28,9 @@ fn push_book_style(text: &mut String) -> Result<(), AllocError>
     ensures { OnOk result (string_bytes text.new ≡ string_bytes text.old ++ book_style) }
 {
     text.push_str(
-        ".i{flex-wrap:wrap}.i a{padding:.4em;color:#fff}h2{font-size:1em;margin:0;padding:.7em}section{content-visibility:auto;contain-intrinsic-size:auto 47em}#n{position:fixed;top:0;right:0;background:#000;color:#fff;padding:.2em .4em;font-size:1.5em}#n:empty{display:none}",
+        ".i{flex-wrap:wrap}.i a{padding:.4em;color:#fff}h2{font-size:1em;margin:0;padding:.7em}\
+          section{content-visibility:auto;contain-intrinsic-size:auto 47em}\
+          #n{position:fixed;top:0;right:0;background:#000;color:#fff;padding:.2em .4em;font-size:1.5em}#n:empty{display:none}",
     )
 }
 
@@ -45,7 +48,10 @@ fn push_script(text: &mut String) -> Result<(), AllocError>
     ensures { OnOk result (string_bytes text.new ≡ string_bytes text.old ++ script) }
 {
     text.push_str(
-        "<script>var t='',n=document.getElementById('n');document.addEventListener('keydown',function(e){if(e.ctrlKey||e.altKey||e.metaKey||!/^[0-9]$/.test(e.key))return;t=t.length==3?e.key:t+e.key;n.textContent=t;if(t.length==3){var p=document.getElementById(t);if(p){location.hash=t;p.scrollIntoView();n.textContent=''}else n.textContent=t+'?'}})</script>",
+        "<script>var t='',n=document.getElementById('n');document.addEventListener('keydown',function(e){\
+          if(e.ctrlKey||e.altKey||e.metaKey||!/^[0-9]$/.test(e.key))return;t=t.length==3?e.key:t+e.key;n.textContent=t;\
+          if(t.length==3){var p=document.getElementById(t);if(p){location.hash=t;p.scrollIntoView();n.textContent=''}\
+          else n.textContent=t+'?'}})</script>",
     )
 }
 

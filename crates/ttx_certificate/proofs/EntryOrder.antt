@@ -63,7 +63,8 @@ place_at (x ∷ es) zero d e lt = refl
 place_at (x ∷ es) (suc i) d e lt = place_at es i d e (omega arith)
 
 -- entry_places of entries rise
-entries_rise : (es : List Entry) → rises_above None (entry_places (entries_of es)) ≡ true → (i j : ℕ) (d : Entry) → i < j → j < length es → place_in (get_or es i d) < place_in (get_or es j d)
+entries_rise : (es : List Entry) → rises_above None (entry_places (entries_of es)) ≡ true → (i j : ℕ) (d : Entry) → i < j →
+    j < length es → place_in (get_or es i d) < place_in (get_or es j d)
 entries_rise es up i j d lt in_range =
     let n = length_places es in
     let pairs = rising_pairs None (entry_places (entries_of es)) i j 0 up lt (omega arith) in
@@ -77,7 +78,8 @@ module _ (page : Id) (item : Item) (id : IsId page) (is : is_item item ≡ true)
 
   pub same_entry : (e : Entry) → place_in e ≡ place_of page item → is_for e ≡ true
   same_entry e same =
-      let parts = same_parts e.page page (item_number e.item) (item_number item) e.kept.id id (item_below e.item e.kept.item) (item_below item is) same in
+      let parts = same_parts e.page page (item_number e.item) (item_number item) e.kept.id id (item_below e.item e.kept.item)
+      (item_below item is) same in
       and_from _ _ (and_from _ _ (and_from _ _ (eq-eqb _ _ parts.mag) (eq-eqb _ _ parts.page)) (eq-eqb _ _ parts.sub)) (eq-eqb _ _ parts.item)
 
   other_entry : (e : Entry) → place_in e ≢ place_of page item → is_for e ≡ false
@@ -93,32 +95,44 @@ module _ (page : Id) (item : Item) (id : IsId page) (is : is_item item ≡ true)
   ]
 
   -- the entry at the item's place has its starts
-  pub found : (es : List Entry) → rises_above None (entry_places (entries_of es)) ≡ true → (i : ℕ) (d : Entry) → i < length es → place_in (get_or es i d) ≡ place_of page item →
+  pub found : (es : List Entry) → rises_above None (entry_places (entries_of es)) ≡ true → (i : ℕ) (d : Entry) → i < length es →
+      place_in (get_or es i d) ≡ place_of page item →
       starts_in (entries_of es) page item ≡ (get_or es i d).starts.items
   found es up = found_in es (entries_rise es up)
     where
-      found_in : (es : List Entry) → ((i j : ℕ) (d : Entry) → i < j → j < length es → place_in (get_or es i d) < place_in (get_or es j d)) → (i : ℕ) (d : Entry) → i < length es → place_in (get_or es i d) ≡ place_of page item →
+      found_in : (es : List Entry) →
+          ((i j : ℕ) (d : Entry) → i < j → j < length es → place_in (get_or es i d) < place_in (get_or es j d)) →
+          (i : ℕ) (d : Entry) → i < length es → place_in (get_or es i d) ≡ place_of page item →
           starts_in (entries_of es) page item ≡ (get_or es i d).starts.items
       found_in [] up i d lt same = absurd (omega arith)
       found_in (e ∷ es) up zero d lt same = rw (same_entry e same) refl
       found_in (e ∷ es) up (suc i) d lt same =
           let below = up 0 (suc i) d (omega arith) lt in
-          rw (other_entry e (λ eq. omega arith)) (found_in es (λ i j d lt in_range. up (suc i) (suc j) d (omega arith) (omega arith)) i d (omega arith) same)
+          rw (other_entry e (λ eq. omega arith))
+          (found_in es (λ i j d lt in_range. up (suc i) (suc j) d (omega arith) (omega arith)) i d (omega arith) same)
 
-  absent : (es : List Entry) → ((j : ℕ) (d : Entry) → j < length es → place_in (get_or es j d) ≢ place_of page item) → starts_in (entries_of es) page item ≡ []
+  absent : (es : List Entry) → ((j : ℕ) (d : Entry) → j < length es → place_in (get_or es j d) ≢ place_of page item) →
+      starts_in (entries_of es) page item ≡ []
   absent [] other = refl
   absent (e ∷ es) other = rw (other_entry e (other 0 e (omega arith))) (absent es (λ j d lt. other (suc j) d (omega arith)))
 
   -- the answers of a search for the item's place rise along the entries
-  answers_rise : (es : List Entry) → rises_above None (entry_places (entries_of es)) ≡ true → IsNonDecreasingBy (λ e. ordering_index (nat_cmp (place_in e) (place_of page item))) es
+  answers_rise : (es : List Entry) → rises_above None (entry_places (entries_of es)) ≡ true →
+      IsNonDecreasingBy (λ e. ordering_index (nat_cmp (place_in e) (place_of page item))) es
   answers_rise es up = λ i j d le lt.
-      let all_up : place_in (get_or es i d) ≤ place_in (get_or es j d) = grind (arith, entries_rise es up i j d, λ (same : i ≡ j). ap (λ n. place_in (get_or es n d)) same) in
+      let all_up : place_in (get_or es i d) ≤ place_in (get_or es j d) =
+      grind (arith, entries_rise es up i j d, λ (same : i ≡ j). ap (λ n. place_in (get_or es n d)) same) in
       grind (arith, nat_tests)
 
   -- what a search for the item's place says of its starts
-  pub searched : (es : List Entry) → rises_above None (entry_places (entries_of es)) ≡ true → (r : Result ℕ ℕ) → IsSearchInRange r (length es) → IsBinarySearchResult (λ e. nat_cmp (place_in e) (place_of page item)) es r →
-      record { found : IfOk r (λ i. (d : Entry) → starts_in (entries_of es) page item ≡ (get_or es i d).starts.items); absent : IfErr r (λ i. starts_in (entries_of es) page item ≡ []) }
-  searched es up (Ok i) in_range equal = record { found = λ d. found es up i d in_range (ranked _ (place_of page item) _ (sym (equal d))); absent = tt }
+  pub searched : (es : List Entry) → rises_above None (entry_places (entries_of es)) ≡ true → (r : Result ℕ ℕ) →
+      IsSearchInRange r (length es) → IsBinarySearchResult (λ e. nat_cmp (place_in e) (place_of page item)) es r →
+      record {
+        found : IfOk r (λ i. (d : Entry) → starts_in (entries_of es) page item ≡ (get_or es i d).starts.items);
+        absent : IfErr r (λ i. starts_in (entries_of es) page item ≡ []);
+      }
+  searched es up (Ok i) in_range equal = record
+      { found = λ d. found es up i d in_range (ranked _ (place_of page item) _ (sym (equal d))); absent = tt }
   searched es up (Err i) in_range parted = record {
     found = tt;
     absent = absent es (λ j d lt. elim (cases_lt j i) [
@@ -128,12 +142,20 @@ module _ (page : Id) (item : Item) (id : IsId page) (is : is_item item ≡ true)
   }
 
 -- the same, as a search for a number in a list that is lent
-pub looked_up : (page : Id) (item : Item) → IsId page → is_item item ≡ true → (place : ℕ) → place ≡ place_of page item → (own lent : List Entry) → lent ≡ own → rises_above None (entry_places (entries_of own)) ≡ true →
+pub looked_up : (page : Id) (item : Item) → IsId page → is_item item ≡ true → (place : ℕ) → place ≡ place_of page item →
+    (own lent : List Entry) → lent ≡ own → rises_above None (entry_places (entries_of own)) ≡ true →
     (r : Result ℕ ℕ) → IsSearchInRange r (length lent) → IsBinarySearchResult (λ e. nat_cmp (place_in e) place) lent r →
-    record { found : (i : ℕ) (e : Entry) → r ≡ Ok i → e ≡ get_or lent i e → e.starts.items ≡ starts_in (entries_of own) page item; absent : (i : ℕ) → r ≡ Err i → [] ≡ starts_in (entries_of own) page item }
-looked_up page item id is place same own lent eq up r in_range result =
-    let here = searched page item id is lent (subst (λ xs. rises_above None (entry_places (entries_of xs)) ≡ true) (sym eq) up) r in_range (subst (λ p. IsBinarySearchResult (λ e. nat_cmp (place_in e) p) lent r) same result) in
     record {
-      found = λ i e is at. ap (λ (x : Entry). x.starts.items) at ∙ sym (subst (λ r. IfOk r (λ i. (d : Entry) → starts_in (entries_of lent) page item ≡ (get_or lent i d).starts.items)) is here.found e) ∙ ap (λ xs. starts_in (entries_of xs) page item) eq;
-      absent = λ i is. sym (subst (λ r. IfErr r (λ i. starts_in (entries_of lent) page item ≡ [])) is here.absent) ∙ ap (λ xs. starts_in (entries_of xs) page item) eq;
+      found : (i : ℕ) (e : Entry) → r ≡ Ok i → e ≡ get_or lent i e → e.starts.items ≡ starts_in (entries_of own) page item;
+      absent : (i : ℕ) → r ≡ Err i → [] ≡ starts_in (entries_of own) page item;
+    }
+looked_up page item id is place same own lent eq up r in_range result =
+    let here = searched page item id is lent (subst (λ xs. rises_above None (entry_places (entries_of xs)) ≡ true) (sym eq) up) r
+    in_range (subst (λ p. IsBinarySearchResult (λ e. nat_cmp (place_in e) p) lent r) same result) in
+    record {
+      found = λ i e is at. ap (λ (x : Entry). x.starts.items) at
+          ∙ sym (subst (λ r. IfOk r (λ i. (d : Entry) → starts_in (entries_of lent) page item ≡ (get_or lent i d).starts.items))
+          is here.found e) ∙ ap (λ xs. starts_in (entries_of xs) page item) eq;
+      absent = λ i is. sym (subst (λ r. IfErr r (λ i. starts_in (entries_of lent) page item ≡ [])) is here.absent)
+          ∙ ap (λ xs. starts_in (entries_of xs) page item) eq;
     }

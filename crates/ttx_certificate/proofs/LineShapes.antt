@@ -19,7 +19,8 @@ one_at_least [] some = absurd (omega arith)
 one_at_least (word ∷ words) some = refl
 
 -- the line of an entry, by its words
-pub entry_shape : (words rest : List (List ℕ)) (word text : List ℕ) (page : Id) (item : Item) (starts : List ℕ) → words ≡ word ∷ rest → Some page ≡ id_in_word word →
+pub entry_shape : (words rest : List (List ℕ)) (word text : List ℕ) (page : Id) (item : Item) (starts : List ℕ) → words ≡ word ∷ rest →
+    Some page ≡ id_in_word word →
     Some (item, words_in text) ≡ item_in rest → Some starts ≡ numbers_in (words_in text) → Some (entry_at page item starts) ≡ entry_in words
 entry_shape words rest word text page item starts is id_is item_is starts_are =
     sym (ap entry_in is ∙ ap (λ o. with_item o rest) (sym id_is) ∙ ap (with_starts page) (sym item_is)
@@ -51,10 +52,13 @@ others (Err fault) = []
 
 -- the entry of the first line, and those of the others
 pub entries_step : (n : ℕ) (low : Option ℕ) (lines : List (List ℕ)) (line : List ℕ) (rest : List (List ℕ)) → Ok (line, rest) ≡ line_at n lines →
-    read_entries n low lines ≡ (read_entry n low (entry_in (words_in line)) >>= (λ e. read_entries (n + 1) (Some (place_of e.page e.item)) rest >>= (λ es. Ok (e ∷ es))))
+    read_entries n low lines ≡ (read_entry n low (entry_in (words_in line)) >>=
+    (λ e. read_entries (n + 1) (Some (place_of e.page e.item)) rest >>= (λ es. Ok (e ∷ es))))
 entries_step n low [] line rest is = cc
 entries_step n low (l ∷ []) line rest is = cc
 entries_step n low (l ∷ next ∷ more) line rest is =
     let same_line : line ≡ l = ap first is in let same_rest : rest ≡ next ∷ more = ap others is in
-    sym (ap (λ x. read_entry n low (entry_in (words_in x)) >>= (λ e. read_entries (n + 1) (Some (place_of e.page e.item)) rest >>= (λ es. Ok (e ∷ es)))) same_line
-    ∙ ap (λ x. read_entry n low (entry_in (words_in l)) >>= (λ e. read_entries (n + 1) (Some (place_of e.page e.item)) x >>= (λ es. Ok (e ∷ es)))) same_rest)
+    sym (ap (λ x. read_entry n low (entry_in (words_in x)) >>=
+    (λ e. read_entries (n + 1) (Some (place_of e.page e.item)) rest >>= (λ es. Ok (e ∷ es)))) same_line
+    ∙ ap (λ x. read_entry n low (entry_in (words_in l)) >>=
+    (λ e. read_entries (n + 1) (Some (place_of e.page e.item)) x >>= (λ es. Ok (e ∷ es)))) same_rest)

@@ -37,7 +37,8 @@ free separator xs = list_all (λ b. not (b == separator)) xs
 
 free_join : (s : ℕ) (xs ys : List ℕ) → free s xs ≡ true → free s ys ≡ true → free s (xs ++ ys) ≡ true
 free_join s [] ys p q = q
-free_join s (x ∷ xs) ys p q = and_from (not (x == s)) (free s (xs ++ ys)) ((and_parts (not (x == s)) (free s xs) p).0) (free_join s xs ys ((and_parts (not (x == s)) (free s xs) p).1) q)
+free_join s (x ∷ xs) ys p q = and_from (not (x == s)) (free s (xs ++ ys)) ((and_parts (not (x == s)) (free s xs) p).0)
+    (free_join s xs ys ((and_parts (not (x == s)) (free s xs) p).1) q)
 
 -- the part before a separator
 part_before : (s : ℕ) (xs rest : List ℕ) → free s xs ≡ true → parts_at s (xs ++ (s ∷ rest)) ≡ xs ∷ parts_at s rest
@@ -50,7 +51,8 @@ part_before s (x ∷ xs) rest p =
 last_part : (s : ℕ) (xs : List ℕ) → free s xs ≡ true → parts_at s xs ≡ xs ∷ []
 last_part s [] p = refl
 last_part s (x ∷ xs) p =
-    slice_split-cons_no (λ b. b == s) x xs (not-true (x == s) ((and_parts (not (x == s)) (free s xs) p).0)) ∙ ap (onto_first x) (last_part s xs ((and_parts (not (x == s)) (free s xs) p).1))
+    slice_split-cons_no (λ b. b == s) x xs (not-true (x == s) ((and_parts (not (x == s)) (free s xs) p).0))
+    ∙ ap (onto_first x) (last_part s xs ((and_parts (not (x == s)) (free s xs) p).1))
 
 -- a separator is below the stroke
 low_free : (s : ℕ) (xs : List ℕ) → s < 47 → list_all (nat_le 47) xs ≡ true → free s xs ≡ true
@@ -80,13 +82,17 @@ id_in_range id is =
     let low : 1 ≤ id.mag = is.mag_from in let high : id.mag ≤ 8 = is.mag_to in let sub : id.sub < 16384 = is.sub.top in
     let mag : is_between 1 8 id.mag ≡ true = grind (arith, nat_tests) in
     let top : nat_lt id.sub 16384 ≡ true = grind (arith, nat_tests) in
-    and_from (is_between 1 8 id.mag && nat_lt id.sub 16384) (id.sub / 128 % 2 == 0) (and_from (is_between 1 8 id.mag) (nat_lt id.sub 16384) mag top) (eq-eqb (id.sub / 128 % 2) 0 is.sub.gap)
+    and_from (is_between 1 8 id.mag && nat_lt id.sub 16384) (id.sub / 128 % 2 == 0)
+    (and_from (is_between 1 8 id.mag) (nat_lt id.sub 16384) mag top) (eq-eqb (id.sub / 128 % 2) 0 is.sub.gap)
 
 entry_in_range : (e : EntryFields) → IsEntry e → is_in_range e ≡ true
 entry_in_range e is = and_from (is_id e.page && is_page_id e.page && is_item e.item) (are_small e.starts)
-    (and_from (is_id e.page && is_page_id e.page) (is_item e.item) (and_from (is_id e.page) (is_page_id e.page) (id_in_range e.page is.id) is.page) is.item) (starts_small e.starts is.starts)
+    (and_from (is_id e.page && is_page_id e.page) (is_item e.item)
+    (and_from (is_id e.page) (is_page_id e.page) (id_in_range e.page is.id) is.page) is.item)
+    (starts_small e.starts is.starts)
 
-entry_accepted : (n : ℕ) (low : Option ℕ) (e : EntryFields) → IsEntry e → is_above low (place_of e.page e.item) ≡ true → read_entry n low (Some e) ≡ Ok e
+entry_accepted : (n : ℕ) (low : Option ℕ) (e : EntryFields) → IsEntry e → is_above low (place_of e.page e.item) ≡ true →
+    read_entry n low (Some e) ≡ Ok e
 entry_accepted n low e is above =
     cond-false (not (is_in_range e)) (Err (Range n)) (if is_in_order low e then Ok e else Err (Order n)) (ap not (entry_in_range e is))
     ∙ cond-true (is_in_order low e) (Ok e) (Err (Order n)) (and_from (are_starts e.starts) (is_above low (place_of e.page e.item)) is.starts above)
@@ -101,7 +107,8 @@ pub record Numbers (w : CertificateFields) : Type 0 where
 
 numbers_of : (w : CertificateFields) → are_numbers w.lines w.repeat w.deadline ≡ true → Numbers w
 numbers_of w is =
-    let a = nat_le 1 w.lines in let b = nat_le w.lines 32 in let c = nat_le 1 w.repeat in let d = nat_le w.repeat 8 in let e = nat_le 1 w.deadline in let f = nat_le w.deadline 1000000 in
+    let a = nat_le 1 w.lines in let b = nat_le w.lines 32 in let c = nat_le 1 w.repeat in let d = nat_le w.repeat 8 in let e =
+    nat_le 1 w.deadline in let f = nat_le w.deadline 1000000 in
     let last : nat_le w.deadline 1000000 ≡ true = (and_parts (a && b && c && d && e) f is).1 in
     let five = (and_parts (a && b && c && d && e) f is).0 in
     let four = (and_parts (a && b && c && d) e five).0 in
@@ -122,14 +129,17 @@ numbers_of w is =
 first_read : (first rest : List ℕ) → free 10 first ≡ true → read_text (first ++ (10 ∷ rest)) ≡ read_version first (lines_in rest)
 first_read first rest p = ap (λ lines. read_title (line_at 1 lines)) (part_before 10 first rest p) ∙ ap read_title (ended_line 1 10 first rest)
 
-class_read : (class : Class) (rest : List ℕ) (w : CertificateFields) → ((n : ℕ) → read_numbers class n (lines_in rest) ≡ Ok w) → read_text (class_text class ++ rest) ≡ Ok w
+class_read : (class : Class) (rest : List ℕ) (w : CertificateFields) → ((n : ℕ) → read_numbers class n (lines_in rest) ≡ Ok w) →
+    read_text (class_text class ++ rest) ≡ Ok w
 class_read Any rest w read = first_read (codes "ttx certificate 1") rest refl ∙ read 2
 class_read Clearing rest w read =
-    first_read (codes "ttx certificate 2") (codes "class clearing" ++ (10 ∷ rest)) refl ∙ ap read_class (part_before 10 (codes "class clearing") rest refl)
+    first_read (codes "ttx certificate 2") (codes "class clearing" ++ (10 ∷ rest)) refl
+    ∙ ap read_class (part_before 10 (codes "class clearing") rest refl)
     ∙ ap (λ r. r >>= read_clearing) (ended_line 2 10 (codes "class clearing") rest) ∙ read 3
 
 -- the texts of ids and numbers are words, which are read as these
-module _ (id_read : WrittenIdsAreRead) (number_decimal : WrittenNumbersAreRead) (ids_free : IdsHoldNoSeparator) (numbers_free : NumbersHoldNoSeparator) where
+module _ (id_read : WrittenIdsAreRead) (number_decimal : WrittenNumbersAreRead) (ids_free : IdsHoldNoSeparator)
+    (numbers_free : NumbersHoldNoSeparator) where
   decimal_free : (s n : ℕ) → s < 47 → n < 10000000 → free s (decimal n) ≡ true
   decimal_free s n low small = low_free s (decimal n) low (numbers_free n small)
 
@@ -139,22 +149,29 @@ module _ (id_read : WrittenIdsAreRead) (number_decimal : WrittenNumbersAreRead) 
   numbers_read : (ss : List ℕ) → are_small ss ≡ true → numbers_in (map decimal ss) ≡ Some ss
   numbers_read [] small = refl
   numbers_read (s ∷ ss) small =
-      ap (λ o. before_numbers o (numbers_in (map decimal ss))) (number_decimal s (small_first s ss small)) ∙ ap (before_numbers (Some s)) (numbers_read ss ((and_parts (nat_lt s 65536) (are_small ss) small).1))
+      ap (λ o. before_numbers o (numbers_in (map decimal ss))) (number_decimal s (small_first s ss small))
+      ∙ ap (before_numbers (Some s)) (numbers_read ss ((and_parts (nat_lt s 65536) (are_small ss) small).1))
 
   words_of_starts : (x ss : List ℕ) → free 32 x ≡ true → are_small ss ≡ true → words_in (x ++ starts_text ss) ≡ x ∷ map decimal ss
   words_of_starts x [] p small = ap words_in (append-nil x) ∙ last_part 32 x p
   words_of_starts x (s ∷ ss) p small =
       part_before 32 x (decimal s ++ starts_text ss) p
-      ∙ ap (λ ws. x ∷ ws) (words_of_starts (decimal s) ss (decimal_free 32 s (omega arith) (small_first s ss small)) ((and_parts (nat_lt s 65536) (are_small ss) small).1))
+      ∙ ap (λ ws. x ∷ ws) (words_of_starts (decimal s) ss (decimal_free 32 s (omega arith) (small_first s ss small))
+      ((and_parts (nat_lt s 65536) (are_small ss) small).1))
 
-  words_of_entry : (page : List ℕ) (item : Item) (ss : List ℕ) → free 32 page ≡ true → is_item item ≡ true → are_small ss ≡ true → words_in (page ++ item_text item ++ starts_text ss) ≡ page ∷ (item_words item ++ map decimal ss)
+  words_of_entry : (page : List ℕ) (item : Item) (ss : List ℕ) → free 32 page ≡ true → is_item item ≡ true → are_small ss ≡ true →
+      words_in (page ++ item_text item ++ starts_text ss) ≡ page ∷ (item_words item ++ map decimal ss)
   words_of_entry page TheHead ss p is small =
-      ap words_in (append_assoc page (codes " head") (starts_text ss)) ∙ part_before 32 page (codes "head" ++ starts_text ss) p ∙ ap (λ ws. page ∷ ws) (words_of_starts (codes "head") ss refl small)
+      ap words_in (append_assoc page (codes " head") (starts_text ss)) ∙ part_before 32 page (codes "head" ++ starts_text ss) p
+      ∙ ap (λ ws. page ∷ ws) (words_of_starts (codes "head") ss refl small)
   words_of_entry page (TheRow n) ss p is small =
-      ap words_in (append_assoc page (codes " row " ++ decimal n) (starts_text ss)) ∙ part_before 32 page (codes "row" ++ (32 ∷ (decimal n ++ starts_text ss))) p
-      ∙ ap (λ ws. page ∷ ws) (part_before 32 (codes "row") (decimal n ++ starts_text ss) refl ∙ ap (λ ws. codes "row" ∷ ws) (words_of_starts (decimal n) ss (decimal_free 32 n (omega arith) (row_small n is)) small))
+      ap words_in (append_assoc page (codes " row " ++ decimal n) (starts_text ss))
+      ∙ part_before 32 page (codes "row" ++ (32 ∷ (decimal n ++ starts_text ss))) p
+      ∙ ap (λ ws. page ∷ ws) (part_before 32 (codes "row") (decimal n ++ starts_text ss) refl
+      ∙ ap (λ ws. codes "row" ∷ ws) (words_of_starts (decimal n) ss (decimal_free 32 n (omega arith) (row_small n is)) small))
   words_of_entry page TheLinks ss p is small =
-      ap words_in (append_assoc page (codes " links") (starts_text ss)) ∙ part_before 32 page (codes "links" ++ starts_text ss) p ∙ ap (λ ws. page ∷ ws) (words_of_starts (codes "links") ss refl small)
+      ap words_in (append_assoc page (codes " links") (starts_text ss)) ∙ part_before 32 page (codes "links" ++ starts_text ss) p
+      ∙ ap (λ ws. page ∷ ws) (words_of_starts (codes "links") ss refl small)
 
   item_read : (item : Item) (words : List (List ℕ)) → is_item item ≡ true → item_in (item_words item ++ words) ≡ Some (item, words)
   item_read TheHead words is = refl
@@ -169,12 +186,14 @@ module _ (id_read : WrittenIdsAreRead) (number_decimal : WrittenNumbersAreRead) 
   entry_read : (e : EntryFields) → IsEntry e → entry_in (words_in (entry_text e)) ≡ Some e
   entry_read e is =
       ap entry_in (words_of_entry (id_text e.page) e.item e.starts (id_free 32 e.page (omega arith) is.id) is.item (starts_small e.starts is.starts))
-      ∙ ap (λ o. with_item o (item_words e.item ++ map decimal e.starts)) (id_read e.page is.id) ∙ ap (with_starts e.page) (item_read e.item (map decimal e.starts) is.item)
+      ∙ ap (λ o. with_item o (item_words e.item ++ map decimal e.starts)) (id_read e.page is.id)
+      ∙ ap (with_starts e.page) (item_read e.item (map decimal e.starts) is.item)
       ∙ ap (option_map (λ starts. entry_at e.page e.item starts)) (starts_read e.starts is.starts)
 
   starts_free : (ss : List ℕ) → are_small ss ≡ true → free 10 (starts_text ss) ≡ true
   starts_free [] small = refl
-  starts_free (s ∷ ss) small = free_join 10 (32 ∷ decimal s) (starts_text ss) (decimal_free 10 s (omega arith) (small_first s ss small)) (starts_free ss ((and_parts (nat_lt s 65536) (are_small ss) small).1))
+  starts_free (s ∷ ss) small = free_join 10 (32 ∷ decimal s) (starts_text ss) (decimal_free 10 s (omega arith) (small_first s ss small))
+      (starts_free ss ((and_parts (nat_lt s 65536) (are_small ss) small).1))
 
   item_free : (item : Item) → is_item item ≡ true → free 10 (item_text item) ≡ true
   item_free TheHead is = refl
@@ -182,29 +201,41 @@ module _ (id_read : WrittenIdsAreRead) (number_decimal : WrittenNumbersAreRead) 
   item_free TheLinks is = refl
 
   entry_free : (e : EntryFields) → IsEntry e → free 10 (entry_text e) ≡ true
-  entry_free e is = free_join 10 (id_text e.page ++ item_text e.item) (starts_text e.starts) (free_join 10 (id_text e.page) (item_text e.item) (id_free 10 e.page (omega arith) is.id) (item_free e.item is.item))
+  entry_free e is = free_join 10 (id_text e.page ++ item_text e.item) (starts_text e.starts)
+      (free_join 10 (id_text e.page) (item_text e.item) (id_free 10 e.page (omega arith) is.id) (item_free e.item is.item))
       (starts_free e.starts (starts_small e.starts is.starts))
 
   -- the text of entries is read as the entries
-  entries_read : (n : ℕ) (low : Option ℕ) (es : List EntryFields) → AllByRecursion IsEntry es → rises_above low (entry_places es) ≡ true → read_entries n low (lines_in (entries_text es)) ≡ Ok es
+  entries_read : (n : ℕ) (low : Option ℕ) (es : List EntryFields) → AllByRecursion IsEntry es → rises_above low (entry_places es)
+      ≡ true → read_entries n low (lines_in (entries_text es)) ≡ Ok es
   entries_read n low [] all up = refl
   entries_read n low (e ∷ es) all up =
       ap (λ t. read_entries n low (lines_in t)) (append_assoc (entry_text e) (10 ∷ []) (entries_text es))
       ∙ ap (read_entries n low) (part_before 10 (entry_text e) (entries_text es) (entry_free e all.0))
-      ∙ entries_step n low (entry_text e ∷ lines_in (entries_text es)) (entry_text e) (lines_in (entries_text es)) (sym (ended_line n 10 (entry_text e) (entries_text es)))
+      ∙ entries_step n low (entry_text e ∷ lines_in (entries_text es)) (entry_text e) (lines_in (entries_text es))
+      (sym (ended_line n 10 (entry_text e) (entries_text es)))
       ∙ ap (λ r. r >>= (λ e. read_entries (n + 1) (Some (place_of e.page e.item)) (lines_in (entries_text es)) >>= (λ es. Ok (e ∷ es))))
-      (ap (read_entry n low) (entry_read e all.0) ∙ entry_accepted n low e all.0 ((and_parts (is_above low (place_of e.page e.item)) (rises_above (Some (place_of e.page e.item)) (entry_places es)) up).0))
-      ∙ ap (λ r. r >>= (λ es. Ok (e ∷ es))) (entries_read (n + 1) (Some (place_of e.page e.item)) es all.1 ((and_parts (is_above low (place_of e.page e.item)) (rises_above (Some (place_of e.page e.item)) (entry_places es)) up).1))
+      (ap (read_entry n low) (entry_read e all.0)
+      ∙ entry_accepted n low e all.0
+      ((and_parts (is_above low (place_of e.page e.item))
+      (rises_above (Some (place_of e.page e.item)) (entry_places es)) up).0))
+      ∙ ap (λ r. r >>= (λ es. Ok (e ∷ es)))
+      (entries_read (n + 1) (Some (place_of e.page e.item)) es all.1
+      ((and_parts (is_above low (place_of e.page e.item))
+      (rises_above (Some (place_of e.page e.item)) (entry_places es)) up).1))
 
   -- the line of a number is read as the number
-  number_read : (n : ℕ) (key : List ℕ) (most v : ℕ) (rest : List ℕ) → free 32 key ≡ true → free 10 key ≡ true → v < 10000000 → is_between 1 most v ≡ true →
+  number_read : (n : ℕ) (key : List ℕ) (most v : ℕ) (rest : List ℕ) → free 32 key ≡ true → free 10 key ≡ true → v < 10000000 →
+      is_between 1 most v ≡ true →
       number_line n key most (lines_in (number_text key v ++ rest)) ≡ Ok (v, lines_in rest)
   number_read n key most v rest no_space no_end small within =
       let line_free : free 10 (key ++ 32 ∷ decimal v) ≡ true = free_join 10 key (32 ∷ decimal v) no_end (decimal_free 10 v (omega arith) small) in
-      let words : words_in (key ++ 32 ∷ decimal v) ≡ key ∷ decimal v ∷ [] = part_before 32 key (decimal v) no_space ∙ ap (λ ws. key ∷ ws) (last_part 32 (decimal v) (decimal_free 32 v (omega arith) small)) in
+      let words : words_in (key ++ 32 ∷ decimal v) ≡ key ∷ decimal v ∷ [] = part_before 32 key (decimal v) no_space
+      ∙ ap (λ ws. key ∷ ws) (last_part 32 (decimal v) (decimal_free 32 v (omega arith) small)) in
       let same : bytes_eq key key ≡ true = (bytes_eq-Decides key key).1 refl in
       let read : number_in n key most (words_in (key ++ 32 ∷ decimal v)) ≡ Ok v = ap (number_in n key most) words
-      ∙ cond-true (bytes_eq key key) (only_number n most (decimal v ∷ [])) (Err (Line n)) same ∙ ap (ranged n most) (number_decimal v small) ∙ cond-true (is_between 1 most v) (Ok v) (Err (Range n)) within in
+      ∙ cond-true (bytes_eq key key) (only_number n most (decimal v ∷ [])) (Err (Line n)) same
+      ∙ ap (ranged n most) (number_decimal v small) ∙ cond-true (is_between 1 most v) (Ok v) (Err (Range n)) within in
       ap (λ t. number_line n key most (lines_in t)) (append_assoc (key ++ 32 ∷ decimal v) (10 ∷ []) rest)
       ∙ ap (number_line n key most) (part_before 10 (key ++ 32 ∷ decimal v) rest line_free)
       ∙ ap (λ r. r >>= (λ p. number_in n key most (words_in p.0) >>= (λ value. Ok (value, p.1)))) (ended_line n 10 (key ++ 32 ∷ decimal v) rest)
@@ -217,13 +248,17 @@ module _ (id_read : WrittenIdsAreRead) (number_decimal : WrittenNumbersAreRead) 
       let numbers = numbers_of w is.numbers in
       let deadline_text = number_text (codes "deadline") w.deadline ++ entries_text w.entries in
       let repeat_text = number_text (codes "repeat") w.repeat ++ (number_text (codes "deadline") w.deadline ++ entries_text w.entries) in
-      ap (λ q. q >>= (λ l. number_line (n + 1) (codes "repeat") 8 l.1 >>= (λ r. number_line (n + 2) (codes "deadline") 1000000 r.1 >>= (λ d. read_entries (n + 3) None d.1 >>= (λ es. Ok (certificate_fields_at l.0 r.0 d.0 es w.class))))))
+      ap (λ q. q >>= (λ l. number_line (n + 1) (codes "repeat") 8 l.1 >>=
+      (λ r. number_line (n + 2) (codes "deadline") 1000000 r.1 >>=
+      (λ d. read_entries (n + 3) None d.1 >>= (λ es. Ok (certificate_fields_at l.0 r.0 d.0 es w.class))))))
       (number_read n (codes "lines") 32 w.lines repeat_text refl refl numbers.few_lines numbers.lines)
-      ∙ ap (λ q. q >>= (λ r. number_line (n + 2) (codes "deadline") 1000000 r.1 >>= (λ d. read_entries (n + 3) None d.1 >>= (λ es. Ok (certificate_fields_at w.lines r.0 d.0 es w.class)))))
+      ∙ ap (λ q. q >>= (λ r. number_line (n + 2) (codes "deadline") 1000000 r.1 >>=
+      (λ d. read_entries (n + 3) None d.1 >>= (λ es. Ok (certificate_fields_at w.lines r.0 d.0 es w.class)))))
       (number_read (n + 1) (codes "repeat") 8 w.repeat deadline_text refl refl numbers.few_repeats numbers.repeat)
       ∙ ap (λ q. q >>= (λ d. read_entries (n + 3) None d.1 >>= (λ es. Ok (certificate_fields_at w.lines w.repeat d.0 es w.class))))
       (number_read (n + 2) (codes "deadline") 1000000 w.deadline (entries_text w.entries) refl refl numbers.few_fields numbers.deadline)
-      ∙ ap (λ q. q >>= (λ es. Ok (certificate_fields_at w.lines w.repeat w.deadline es w.class))) (entries_read (n + 3) None w.entries is.entries is.rising)
+      ∙ ap (λ q. q >>= (λ es. Ok (certificate_fields_at w.lines w.repeat w.deadline es w.class)))
+      (entries_read (n + 3) None w.entries is.entries is.rising)
 
   pub written_is_accepted : (w : CertificateFields) → IsCertificateFields w → read_text (certificate_text w) ≡ Ok w
   written_is_accepted w is = ap read_text (sym (whole w)) ∙ class_read w.class (numbers_text w) w (λ n. numbers_text_read n w is)

@@ -46,7 +46,8 @@ sure_run laws cycle page lines repeat item i rest some first run =
     let moves = laws.move s t.by (λ j. ap (λ n. get_or cycle n []) (t.same j)) in
     let here : HasSureRun s page lines repeat item i =
     subst (λ z. HasSureRun s page lines repeat item z) (sym t.place) (moves.run page lines repeat item (pos (turned (length cycle) i)) first) in
-    subst (λ xs. AllByRecursion (IsSureTransmission s page lines item) (i ∷ xs)) (laws.one_run s page repeat item i here.rest rest here.run run) here.all_sure
+    subst (λ xs. AllByRecursion (IsSureTransmission s page lines item) (i ∷ xs))
+    (laws.one_run s page repeat item i here.rest rest here.run run) here.all_sure
 
 pub fits_matches : (pages : List Page) (p : Page) (sel : Selection) → Fits pages p sel → matches sel p.id ≡ true
 fits_matches pages p (Exact id) f =
@@ -68,9 +69,11 @@ selected_page s pages p steady (Exact id) f j h = exactly (packet_of (s j)) (sub
     exactly Info h = h
     exactly Other h = h
 selected_page s pages p steady (AnySub mag number) f j h =
-    steady.only_subpage f.2 j (subst (λ n. heads_matched (AnySub p.id.mag n) (packet_of (s j)) ≡ true) f.1 (subst (λ m. heads_matched (AnySub m number) (packet_of (s j)) ≡ true) f.0 h))
+    steady.only_subpage f.2 j (subst (λ n. heads_matched (AnySub p.id.mag n) (packet_of (s j)) ≡ true) f.1
+    (subst (λ m. heads_matched (AnySub m number) (packet_of (s j)) ≡ true) f.0 h))
 
-module _ (laws : StreamLaws) (cycle : List (List ℕ)) (pages : List Page) (w : Certificate) (is_cycle : IsCycle cycle) (are_pages : ArePages pages) (is_certificate : IsCertificate w)
+module _ (laws : StreamLaws) (cycle : List (List ℕ)) (pages : List Page) (w : Certificate) (is_cycle : IsCycle cycle)
+    (are_pages : ArePages pages) (is_certificate : IsCertificate w)
     (accepts : Accepts cycle pages w) (n : ℕ) (p : Page) (here : slice_get pages n ≡ Some p) where
   pub steady_from : (sel : Selection) → Fits pages p sel → (tau : ℤ) → IsSteadyFrom (repeated cycle) p sel tau
   steady_from sel fits tau =
@@ -84,34 +87,37 @@ module _ (laws : StreamLaws) (cycle : List (List ℕ)) (pages : List Page) (w : 
       }
 
   pub brought : (tau : ℤ) (item : Item) → needed p item ≡ true → IsBrought (repeated cycle) p w.class w.lines w.repeat item tau (tau +ℤ pos (limit w))
-  brought tau item need = elim (accepts.covered n p here item need) as (λ _. IsBrought (repeated cycle) p w.class w.lines w.repeat item tau (tau +ℤ pos (limit w))) [
-    | inl c ↦
-        let t = c.in_time tau in
-        inl (record {
-          first = t.0;
-          rest = t.5.rest;
-          owner = t.1;
-          owned = t.3;
-          not_before = t.4;
-          run = t.5.run;
-          all_sure = sure_run laws cycle p.id w.lines w.repeat item t.0 t.5.rest is_cycle.some (c.sure (turned (length cycle) t.0) t.2).1 t.5.run;
-          ends = t.5.ends;
-        })
-    | inr l ↦
-        let t = l.in_time tau in
-        inr (l.clearing, l.blank, record { slot = t.0; not_before = t.1; before = t.2; is_header = t.3 })
-  ]
+  brought tau item need = elim (accepts.covered n p here item need) as
+      (λ _. IsBrought (repeated cycle) p w.class w.lines w.repeat item tau (tau +ℤ pos (limit w))) [
+        | inl c ↦
+            let t = c.in_time tau in
+            inl (record {
+              first = t.0;
+              rest = t.5.rest;
+              owner = t.1;
+              owned = t.3;
+              not_before = t.4;
+              run = t.5.run;
+              all_sure = sure_run laws cycle p.id w.lines w.repeat item t.0 t.5.rest is_cycle.some (c.sure (turned (length cycle) t.0) t.2).1 t.5.run;
+              ends = t.5.ends;
+            })
+        | inr l ↦
+            let t = l.in_time tau in
+            inr (l.clearing, l.blank, record { slot = t.0; not_before = t.1; before = t.2; is_header = t.3 })
+      ]
 
   seen : RunsAreSeen → Seen cycle pages p w
   seen runs = record {
     shown = λ sel fits tau former m received is_former permitted long run.
         let late : (tau +ℤ pos (limit w)) ≤ℤ (tau +ℤ pos (length received)) = omega (arith, ints, long) in
-        runs (repeated cycle) p sel w.class w.lines w.repeat tau (tau +ℤ pos (limit w)) (are_pages n p here) is_certificate.few_lines (fits_matches pages p sel fits)
+        runs (repeated cycle) p sel w.class w.lines w.repeat tau (tau +ℤ pos (limit w)) (are_pages n p here) is_certificate.few_lines
+        (fits_matches pages p sel fits)
         (steady_from sel fits tau) (brought tau) former m received is_former permitted run late;
   }
 
 pub accepted_is_seen : RunsAreSeen → StreamLaws → AcceptedIsSeen
-accepted_is_seen runs laws cycle pages w is_cycle are_pages is_certificate accepts n p here = seen laws cycle pages w is_cycle are_pages is_certificate accepts n p here runs
+accepted_is_seen runs laws cycle pages w is_cycle are_pages is_certificate accepts n p here =
+    seen laws cycle pages w is_cycle are_pages is_certificate accepts n p here runs
 
 length-sent_from : (s : Stream) (tau : ℤ) (n : ℕ) → length (sent_from s tau n) ≡ n
 length-sent_from s tau zero = refl
@@ -124,7 +130,9 @@ each_tuning_runs turn runs exact cycle is_cycle page class lines repeat some sel
     record {
       received = sent_from s tau n;
       size = length-sent_from s tau n;
-      permitted = exact s page repeat tau n (λ j. All-get_or IsSlot cycle (turned (length cycle) j) [] (turn (length cycle) j is_cycle.some).inside is_cycle.each) some;
+      permitted = exact s page repeat tau n
+          (λ j. All-get_or IsSlot cycle (turned (length cycle) j) [] (turn (length cycle) j is_cycle.some).inside is_cycle.each)
+          some;
       memory = run.0;
       run = run.1;
     }

@@ -25,7 +25,8 @@ pub record CoverLaws : Type 0 where
   pub decided : CoverageIsDecided
   pub judged : ItemsAreJudged
 
-module _ (laws : CoverLaws) (cycle : List (List ℕ)) (some : 1 ≤ length cycle) (p : Page) (w : Certificate) (is : IsCertificate w) (item : Item) (need : needed p item ≡ true) where
+module _ (laws : CoverLaws) (cycle : List (List ℕ)) (some : 1 ≤ length cycle) (p : Page) (w : Certificate) (is : IsCertificate w)
+    (item : Item) (need : needed p item ≡ true) where
   abbrev Right : Type 0
   Right = IsCovered cycle p w item ⊎ IsLeftOut cycle p w item
 
@@ -60,7 +61,8 @@ module _ (laws : CoverLaws) (cycle : List (List ℕ)) (some : 1 ≤ length cycle
       let here = i.3 in
       cc
 
-module _ (laws : CoverLaws) (cycle : List (List ℕ)) (some : 1 ≤ length cycle) (pages : List Page) (p : Page) (w : Certificate) (is : IsCertificate w) where
+module _ (laws : CoverLaws) (cycle : List (List ℕ)) (some : 1 ≤ length cycle) (pages : List Page) (p : Page) (w : Certificate)
+    (is : IsCertificate w) where
   abbrev Rights : Type 0
   Rights = (item : Item) → needed p item ≡ true → IsCovered cycle p w item ⊎ IsLeftOut cycle p w item
 
@@ -82,16 +84,19 @@ module _ (laws : CoverLaws) (cycle : List (List ℕ)) (some : 1 ≤ length cycle
   fault_not reason (inl f) steady r = let e : Some reason ≡ None = (laws.steady cycle pages p (Some reason) f).1 steady in cc
   fault_not reason (inr f) steady r = witness_not reason f.1 r
 
-pub refused_not : CoverLaws → (cycle : List (List ℕ)) → 1 ≤ length cycle → (pages : List Page) (w : Certificate) → IsCertificate w → (reason : Reason) →
+pub refused_not : CoverLaws → (cycle : List (List ℕ)) → 1 ≤ length cycle → (pages : List Page) (w : Certificate) → IsCertificate w →
+    (reason : Reason) →
     IsFirstFault cycle pages w reason → Accepts cycle pages w → ⊥
 refused_not laws cycle some pages w is reason f a =
-    fault_not laws cycle some pages f.page w is reason f.fault (a.steady f.index f.page f.here) (λ item need. a.covered f.index f.page f.here item need)
+    fault_not laws cycle some pages f.page w is reason f.fault (a.steady f.index f.page f.here)
+    (λ item need. a.covered f.index f.page f.here item need)
 
 pub bad_slot_not : (cycle : List (List ℕ)) (pages : List Page) (w : Certificate) (slot : ℕ) → BadSlotAt cycle slot → Accepts cycle pages w → ⊥
 bad_slot_not cycle pages w slot b a = let c = a.clean slot b.within in let n = b.bad in cc
 
 -- no page fault is a bad slot
-pub refusal : (cycle : List (List ℕ)) (pages : List Page) (w : Certificate) (reason : Reason) → IsClean cycle → IsFirstFault cycle pages w reason → IsRefusal cycle pages w reason
+pub refusal : (cycle : List (List ℕ)) (pages : List Page) (w : Certificate) (reason : Reason) → IsClean cycle →
+    IsFirstFault cycle pages w reason → IsRefusal cycle pages w reason
 refusal cycle pages w (BadSlot slot) clean f = absurd (none f.fault)
   where
     none : IsFault cycle pages f.page w (Some (BadSlot slot)) → ⊥
@@ -112,5 +117,6 @@ refusal cycle pages w (LateBlank page item header) clean f = (clean, f)
 pub clean_if : (cycle : List (List ℕ)) → ((j : ℕ) → BadSlotAt cycle j → ⊥) → IsClean cycle
 clean_if cycle none n lt = true_from_ne_false _ (λ bad. none n (record { within = lt; bad = bad }))
 
-pub accepted : (cycle : List (List ℕ)) (pages : List Page) (w : Certificate) → IsClean cycle → ((n : ℕ) (p : Page) → slice_get pages n ≡ Some p → IsFault cycle pages p w None) → Accepts cycle pages w
+pub accepted : (cycle : List (List ℕ)) (pages : List Page) (w : Certificate) → IsClean cycle →
+    ((n : ℕ) (p : Page) → slice_get pages n ≡ Some p → IsFault cycle pages p w None) → Accepts cycle pages w
 accepted cycle pages w clean none = record { clean = clean; steady = λ n p here. (none n p here).0; covered = λ n p here. (none n p here).1 }

@@ -112,7 +112,11 @@ least_below P (suc n) each =
     more (Some j) f = (Some j, (let lt = f.0 in omega arith, f.1, f.2))
     more None none = elim (each n (omega arith)) as (λ _. (first : Option ℕ) × FirstBelow P (suc n) first) [
       | inl here ↦ (Some n, (omega arith, here, none))
-      | inr not ↦ (None, λ i lt p. elim (cases_lt i n) as (λ _. ⊥) [ inl less ↦ none i less p | inr ge ↦ let e : i ≡ n = omega arith in not (subst P e p) ])
+      | inr not ↦ (
+        None,
+        λ i lt p. elim (cases_lt i n) as
+            (λ _. ⊥) [ inl less ↦ none i less p | inr ge ↦ let e : i ≡ n = omega arith in not (subst P e p) ],
+      )
     ]
 
 -- some number below n has it, or none

@@ -75,7 +75,8 @@ module _ (cycle : List (List ℕ)) (p : Page) (w : Certificate) where
     fine_more a f = λ item lt. elim (before_or item lt) as (λ _. Fine item)
         [ inl less ↦ a item less | inr same ↦ not_fine item (λ need. subst Fine (same need) f) ]
 
-    keep_more : (e : Reason) → IsFirstBelow cycle p w n e → ((other : Reason) → T own other → reason_number other < reason_number e → ⊥) → IsFirstBelow cycle p w (n + 1) e
+    keep_more : (e : Reason) → IsFirstBelow cycle p w n e →
+        ((other : Reason) → T own other → reason_number other < reason_number e → ⊥) → IsFirstBelow cycle p w (n + 1) e
     keep_more e a none = record {
       item = a.item;
       within = let l = a.within in omega arith;
@@ -87,7 +88,8 @@ module _ (cycle : List (List ℕ)) (p : Page) (w : Certificate) where
       ];
     }
 
-    take_new : (f : Reason) → IsFirstReason cycle p w own f → ((item : Item) (other : Reason) → T item other → item_number item < n → reason_number other ≤ reason_number f → ⊥) →
+    take_new : (f : Reason) → IsFirstReason cycle p w own f →
+        ((item : Item) (other : Reason) → T item other → item_number item < n → reason_number other ≤ reason_number f → ⊥) →
         IsFirstBelow cycle p w (n + 1) f
     take_new f a none = record {
       item = own;
@@ -100,7 +102,8 @@ module _ (cycle : List (List ℕ)) (p : Page) (w : Certificate) where
       ];
     }
 
-    choose : (earlier next : Option Reason) → IsReasonBelow cycle p w n earlier → IsItemReason cycle p w own next → IsReasonBelow cycle p w (n + 1) (told_first earlier next)
+    choose : (earlier next : Option Reason) → IsReasonBelow cycle p w n earlier → IsItemReason cycle p w own next →
+        IsReasonBelow cycle p w (n + 1) (told_first earlier next)
     choose None None a f = fine_more a f
     choose (Some e) None a f = keep_more e a (λ other t less. f.none other t)
     choose None (Some f) a b = take_new f b (λ item other t lt le. (a item lt).none other t)
@@ -114,65 +117,81 @@ module _ (cycle : List (List ℕ)) (p : Page) (w : Certificate) where
             let ge : reason_number e ≤ reason_number f = grind (arith, nat_tests) in
             keep_more e a (λ other t low. b.no_number other t (omega arith))
 
-  pub reason_more : (n : ℕ) (earlier next : Option Reason) → IsReasonBelow cycle p w n earlier → IsReasonAt cycle p w n next → IsReasonBelow cycle p w (n + 1) (told_first earlier next)
+  pub reason_more : (n : ℕ) (earlier next : Option Reason) → IsReasonBelow cycle p w n earlier → IsReasonAt cycle p w n next →
+      IsReasonBelow cycle p w (n + 1) (told_first earlier next)
   reason_more n earlier next a f = choose n f.item f.is f.place earlier next a f.first
 
   pub no_reason : IsReasonBelow cycle p w 0 None
   no_reason = λ item lt. absurd (omega arith)
 
   -- no reason of a smaller number is true of any item
-  none_less : (reason : Reason) → IsFirstBelow cycle p w 26 reason → (item : Item) (other : Reason) → T item other → reason_number other < reason_number reason → ⊥
+  none_less : (reason : Reason) → IsFirstBelow cycle p w 26 reason → (item : Item) (other : Reason) → T item other →
+      reason_number other < reason_number reason → ⊥
   none_less reason a item other t lt = a.no_number item other t (item_within item (needed_item p item (need_of item other t))) lt
 
   first_fault : (reason : Reason) → IsFirstBelow cycle p w 26 reason → IsWitnessFault cycle p w (Some reason)
-  first_fault reason a = of_four cycle p w a.item (λ r. r ≡ reason → IsWitnessFault cycle p w (Some r)) no_witness bad late blank reason a.first.here refl
+  first_fault reason a = of_four cycle p w a.item
+      (λ r. r ≡ reason → IsWitnessFault cycle p w (Some r)) no_witness bad late blank reason a.first.here refl
     where
-      no_witness : (page : Id) (of : Item) → page ≡ p.id → of ≡ a.item → HasNoWitness p w a.item → NoWitness page of ≡ reason → IsWitnessFault cycle p w (Some (NoWitness page of))
+      no_witness : (page : Id) (of : Item) → page ≡ p.id → of ≡ a.item → HasNoWitness p w a.item → NoWitness page of ≡ reason →
+          IsWitnessFault cycle p w (Some (NoWitness page of))
       no_witness page of e f h q = (
         e,
         record {
           here = subst (HasNoWitness p w) (sym f) h;
-          none_before = λ other lt k. a.no_item other (NoWitness p.id other) (refl, refl, k) (subst (λ x. item_number other < item_number x) f lt) (ap reason_number q);
+          none_before = λ other lt k. a.no_item other (NoWitness p.id other) (refl, refl, k)
+              (subst (λ x. item_number other < item_number x) f lt) (ap reason_number q);
         },
       )
 
-      bad : (page : Id) (of : Item) (start : ℕ) → page ≡ p.id → of ≡ a.item → WitnessBadAt cycle p w a.item start → WitnessBad page of start ≡ reason →
+      bad : (page : Id) (of : Item) (start : ℕ) → page ≡ p.id → of ≡ a.item → WitnessBadAt cycle p w a.item start →
+          WitnessBad page of start ≡ reason →
           IsWitnessFault cycle p w (Some (WitnessBad page of start))
       bad page of start e f h q = let number : 9 ≡ reason_number reason = ap reason_number q in let at : start ≡ start_in reason = ap start_in q in (
         e,
         (λ item k. none_less reason a item (NoWitness p.id item) (refl, refl, k) (omega arith)),
         record {
           here = subst (λ x. WitnessBadAt cycle p w x start) (sym f) h;
-          none_before = λ other lt k. a.first.no_start (WitnessBad p.id a.item other) (refl, refl, subst (λ x. WitnessBadAt cycle p w x other) f k) number (omega arith);
-          no_item_before = λ other any lt k. a.no_item other (WitnessBad p.id other any) (refl, refl, k) (subst (λ x. item_number other < item_number x) f lt) number;
+          none_before = λ other lt k. a.first.no_start (WitnessBad p.id a.item other)
+              (refl, refl, subst (λ x. WitnessBadAt cycle p w x other) f k) number (omega arith);
+          no_item_before = λ other any lt k. a.no_item other (WitnessBad p.id other any) (refl, refl, k)
+              (subst (λ x. item_number other < item_number x) f lt) number;
         },
       )
 
-      late : (page : Id) (of : Item) (start : ℕ) → page ≡ p.id → of ≡ a.item → LateAt cycle p w a.item start → Late page of start ≡ reason → IsWitnessFault cycle p w (Some (Late page of start))
-      late page of start e f h q = let number : 10 ≡ reason_number reason = ap reason_number q in let at : start ≡ start_in reason = ap start_in q in (
-        e,
-        (λ item k. none_less reason a item (NoWitness p.id item) (refl, refl, k) (omega arith)),
-        (λ item other k. none_less reason a item (WitnessBad p.id item other) (refl, refl, k) (omega arith)),
-        record {
-          here = subst (λ x. LateAt cycle p w x start) (sym f) h;
-          none_before = λ other lt k. a.first.no_start (Late p.id a.item other) (refl, refl, subst (λ x. LateAt cycle p w x other) f k) number (omega arith);
-          no_item_before = λ other any lt k. a.no_item other (Late p.id other any) (refl, refl, k) (subst (λ x. item_number other < item_number x) f lt) number;
-        },
-      )
+      late : (page : Id) (of : Item) (start : ℕ) → page ≡ p.id → of ≡ a.item → LateAt cycle p w a.item start → Late page of start
+          ≡ reason → IsWitnessFault cycle p w (Some (Late page of start))
+      late page of start e f h q = let number : 10 ≡ reason_number reason = ap reason_number q in let at : start ≡ start_in reason =
+          ap start_in q in (
+            e,
+            (λ item k. none_less reason a item (NoWitness p.id item) (refl, refl, k) (omega arith)),
+            (λ item other k. none_less reason a item (WitnessBad p.id item other) (refl, refl, k) (omega arith)),
+            record {
+              here = subst (λ x. LateAt cycle p w x start) (sym f) h;
+              none_before = λ other lt k. a.first.no_start (Late p.id a.item other)
+                  (refl, refl, subst (λ x. LateAt cycle p w x other) f k) number (omega arith);
+              no_item_before = λ other any lt k. a.no_item other (Late p.id other any) (refl, refl, k)
+                  (subst (λ x. item_number other < item_number x) f lt) number;
+            },
+          )
 
-      blank : (page : Id) (of : Item) (header : ℕ) → page ≡ p.id → of ≡ a.item → LateBlankAt cycle p w a.item header → LateBlank page of header ≡ reason →
+      blank : (page : Id) (of : Item) (header : ℕ) → page ≡ p.id → of ≡ a.item → LateBlankAt cycle p w a.item header →
+          LateBlank page of header ≡ reason →
           IsWitnessFault cycle p w (Some (LateBlank page of header))
-      blank page of header e f h q = let number : 12 ≡ reason_number reason = ap reason_number q in let at : header ≡ start_in reason = ap start_in q in (
-        e,
-        (λ item k. none_less reason a item (NoWitness p.id item) (refl, refl, k) (omega arith)),
-        (λ item other k. none_less reason a item (WitnessBad p.id item other) (refl, refl, k) (omega arith)),
-        (λ item other k. none_less reason a item (Late p.id item other) (refl, refl, k) (omega arith)),
-        record {
-          here = subst (λ x. LateBlankAt cycle p w x header) (sym f) h;
-          none_before = λ other lt k. a.first.no_start (LateBlank p.id a.item other) (refl, refl, subst (λ x. LateBlankAt cycle p w x other) f k) number (omega arith);
-          no_item_before = λ other any lt k. a.no_item other (LateBlank p.id other any) (refl, refl, k) (subst (λ x. item_number other < item_number x) f lt) number;
-        },
-      )
+      blank page of header e f h q = let number : 12 ≡ reason_number reason = ap reason_number q in let at : header ≡ start_in reason =
+          ap start_in q in (
+            e,
+            (λ item k. none_less reason a item (NoWitness p.id item) (refl, refl, k) (omega arith)),
+            (λ item other k. none_less reason a item (WitnessBad p.id item other) (refl, refl, k) (omega arith)),
+            (λ item other k. none_less reason a item (Late p.id item other) (refl, refl, k) (omega arith)),
+            record {
+              here = subst (λ x. LateBlankAt cycle p w x header) (sym f) h;
+              none_before = λ other lt k. a.first.no_start (LateBlank p.id a.item other)
+                  (refl, refl, subst (λ x. LateBlankAt cycle p w x other) f k) number (omega arith);
+              no_item_before = λ other any lt k. a.no_item other (LateBlank p.id other any) (refl, refl, k)
+                  (subst (λ x. item_number other < item_number x) f lt) number;
+            },
+          )
 
   -- the first reason that is true of all items is the page's first fault
   pub witness_fault : (reason : Option Reason) → IsReasonBelow cycle p w 26 reason → IsWitnessFault cycle p w reason

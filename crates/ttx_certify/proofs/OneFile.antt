@@ -25,8 +25,10 @@ same_slots (x ∷ xs) [] a b e =
     absurd (omega arith)
 same_slots (x ∷ xs) (y ∷ ys) a b e =
     let long : length x ≡ length y = (a zero [] (omega arith)).size ∙ sym (b zero [] (omega arith)).size in
-    let first : x ≡ y = sym (take-append_seam x (file_of xs)) ∙ ap (take (length x)) e ∙ ap (λ n. take n (y ++ file_of ys)) long ∙ take-append_seam y (file_of ys) in
-    let rest : file_of xs ≡ file_of ys = sym (drop-append_seam x (file_of xs)) ∙ ap (drop (length x)) e ∙ ap (λ n. drop n (y ++ file_of ys)) long ∙ drop-append_seam y (file_of ys) in
+    let first : x ≡ y = sym (take-append_seam x (file_of xs)) ∙ ap (take (length x)) e ∙ ap (λ n. take n (y ++ file_of ys)) long
+    ∙ take-append_seam y (file_of ys) in
+    let rest : file_of xs ≡ file_of ys = sym (drop-append_seam x (file_of xs)) ∙ ap (drop (length x)) e
+    ∙ ap (λ n. drop n (y ++ file_of ys)) long ∙ drop-append_seam y (file_of ys) in
     ap (λ z. z ∷ xs) first ∙ ap (λ zs. y ∷ zs) (same_slots xs ys (λ k d lt. a (suc k) d (omega arith)) (λ k d lt. b (suc k) d (omega arith)) rest)
 
 pub passes_are_files : PassesAreFiles
@@ -41,7 +43,8 @@ passes_are_files a c d verdict line h =
       cycle_is = w.second_is;
       service_is = h.service_is;
       certificate_is = h.certificate_is;
-      exact = walked_same w.second (let some = w.second_is.is_cycle.some in omega arith) pages (certificate_at h.w) verdict (subst (λ x. IsWalkVerdict x w.second pages (certificate_at h.w) verdict) same w.exact);
+      exact = walked_same w.second (let some = w.second_is.is_cycle.some in omega arith) pages (certificate_at h.w) verdict
+          (subst (λ x. IsWalkVerdict x w.second pages (certificate_at h.w) verdict) same w.exact);
       seen = w.seen;
       line_is = h.line_is;
     }

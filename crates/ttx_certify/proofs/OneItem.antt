@@ -57,7 +57,8 @@ module _ (cycle : List (List ℕ)) (p : Page) (w : Certificate) (item : Item) wh
   of_four P a b c d Unsteady t = absurd t
 
   pub true_needed : (reason : Reason) → T reason → needed p item ≡ true
-  true_needed = of_four (λ r. needed p item ≡ true) (λ page of e f h. h.needed) (λ page of start e f h. h.needed) (λ page of start e f h. h.needed) (λ page of header e f h. h.needed)
+  true_needed = of_four (λ r. needed p item ≡ true) (λ page of e f h. h.needed) (λ page of start e f h. h.needed)
+      (λ page of start e f h. h.needed) (λ page of header e f h. h.needed)
 
   abbrev named : List ℕ
   named = w.starts p.id item
@@ -75,23 +76,29 @@ module _ (cycle : List (List ℕ)) (p : Page) (w : Certificate) (item : Item) wh
   bad_first any at f = record {
     here = (refl, refl, f.0);
     no_start = of_four (λ r. reason_number r ≡ 9 → start_in r < at → ⊥)
-        (λ page of i j h e lt. omega arith) (λ page of start i j h e lt. f.1 start lt h) (λ page of start i j h e lt. omega arith) (λ page of header i j h e lt. omega arith);
+        (λ page of i j h e lt. omega arith) (λ page of start i j h e lt. f.1 start lt h) (λ page of start i j h e lt. omega arith)
+        (λ page of header i j h e lt. omega arith);
     no_number = of_four (λ r. reason_number r < 9 → ⊥)
-        (λ page of i j h lt. not_empty named any h.none) (λ page of start i j h lt. omega arith) (λ page of start i j h lt. omega arith) (λ page of header i j h lt. omega arith);
+        (λ page of i j h lt. not_empty named any h.none) (λ page of start i j h lt. omega arith) (λ page of start i j h lt. omega arith)
+        (λ page of header i j h lt. omega arith);
   }
 
-  late_first : 0 < length named → ((start : ℕ) → WitnessBadAt cycle p w item start → ⊥) → (o : Option ℕ) → IsLateAnswer cycle p w item o → IsItemReason cycle p w item (late_reason p.id item o)
+  late_first : 0 < length named → ((start : ℕ) → WitnessBadAt cycle p w item start → ⊥) → (o : Option ℕ) →
+      IsLateAnswer cycle p w item o → IsItemReason cycle p w item (late_reason p.id item o)
   late_first any good None a = record {
     none = of_four (λ r. ⊥)
-        (λ page of i j h. not_empty named any h.none) (λ page of start i j h. good start h) (λ page of start i j h. a.1 start h) (λ page of header i j h. not_empty named any h.none);
+        (λ page of i j h. not_empty named any h.none) (λ page of start i j h. good start h) (λ page of start i j h. a.1 start h)
+        (λ page of header i j h. not_empty named any h.none);
     covered = λ _. inl a.0;
   }
   late_first any good (Some at) a = record {
     here = (refl, refl, a.0);
     no_start = of_four (λ r. reason_number r ≡ 10 → start_in r < at → ⊥)
-        (λ page of i j h e lt. omega arith) (λ page of start i j h e lt. omega arith) (λ page of start i j h e lt. a.1 start lt h) (λ page of header i j h e lt. omega arith);
+        (λ page of i j h e lt. omega arith) (λ page of start i j h e lt. omega arith) (λ page of start i j h e lt. a.1 start lt h)
+        (λ page of header i j h e lt. omega arith);
     no_number = of_four (λ r. reason_number r < 10 → ⊥)
-        (λ page of i j h lt. not_empty named any h.none) (λ page of start i j h lt. good start h) (λ page of start i j h lt. omega arith) (λ page of header i j h lt. omega arith);
+        (λ page of i j h lt. not_empty named any h.none) (λ page of start i j h lt. good start h)
+        (λ page of start i j h lt. omega arith) (λ page of header i j h lt. omega arith);
   }
 
   module _ (laws : ItemsAreJudged) (some : 1 ≤ length cycle) (is : IsCertificate w) (need : needed p item ≡ true) (any : 0 < length named) where
@@ -105,9 +112,11 @@ module _ (cycle : List (List ℕ)) (p : Page) (w : Certificate) (item : Item) wh
           late = λ all. late_first any (j.2 all) _ (j.3 all any);
         }
 
-    pub judged_so : (starts : List ℕ) (period : ℕ) (m : Progress) → starts ≡ named → period ≡ length cycle → m ≡ progress_of cycle p w item (run_length w.repeat item - 1) → AreJudged starts (limit w) period m
+    pub judged_so : (starts : List ℕ) (period : ℕ) (m : Progress) → starts ≡ named → period ≡ length cycle → m
+        ≡ progress_of cycle p w item (run_length w.repeat item - 1) → AreJudged starts (limit w) period m
     judged_so starts period m e f g =
-        subst (λ ss. AreJudged ss (limit w) period m) (sym e) (subst (λ n. AreJudged named (limit w) n m) (sym f) (subst (AreJudged named (limit w) (length cycle)) (sym g) judged))
+        subst (λ ss. AreJudged ss (limit w) period m) (sym e)
+        (subst (λ n. AreJudged named (limit w) n m) (sym f) (subst (AreJudged named (limit w) (length cycle)) (sym g) judged))
 
 -- an item for which no start is named
 module _ (cycle : List (List ℕ)) (p : Page) (w : Certificate) (item : Item) (need : needed p item ≡ true) (empty : w.starts p.id item ≡ []) where
@@ -122,13 +131,16 @@ module _ (cycle : List (List ℕ)) (p : Page) (w : Certificate) (item : Item) (n
     here = (refl, refl, record { needed = need; none = empty; sent = sent });
     no_start = λ other t e lt. omega arith;
     no_number = of_four cycle p w item (λ r. reason_number r < 8 → ⊥)
-        (λ page of i j h lt. omega arith) (λ page of start i j h lt. omega arith) (λ page of start i j h lt. omega arith) (λ page of header i j h lt. omega arith);
+        (λ page of i j h lt. omega arith) (λ page of start i j h lt. omega arith) (λ page of start i j h lt. omega arith)
+        (λ page of header i j h lt. omega arith);
   }
 
-  pub blank_first : w.class ≡ Clearing → IsBlank p item → (late : Option ℕ) → IsHeaderAnswer cycle p w late → IsItemReason cycle p w item (blank_reason p.id item late)
+  pub blank_first : w.class ≡ Clearing → IsBlank p item → (late : Option ℕ) → IsHeaderAnswer cycle p w late →
+      IsItemReason cycle p w item (blank_reason p.id item late)
   blank_first clearing blank None a = record {
     none = of_four cycle p w item (λ r. ⊥)
-        (λ page of i j h. h.sent clearing blank) (λ page of start i j h. no_start start h.named) (λ page of start i j h. no_index h.index h.within) (λ page of header i j h. a.1 item header h);
+        (λ page of i j h. h.sent clearing blank) (λ page of start i j h. no_start start h.named)
+        (λ page of start i j h. no_index h.index h.within) (λ page of header i j h. a.1 item header h);
     covered = λ _. inr (record { clearing = clearing; blank = blank; no_line = empty; in_time = a.0 });
   }
   blank_first clearing blank (Some at) a =
@@ -136,9 +148,11 @@ module _ (cycle : List (List ℕ)) (p : Page) (w : Certificate) (item : Item) (n
       record {
         here = (refl, refl, f.0);
         no_start = of_four cycle p w item (λ r. reason_number r ≡ 12 → start_in r < at → ⊥)
-            (λ page of i j h e lt. omega arith) (λ page of start i j h e lt. omega arith) (λ page of start i j h e lt. omega arith) (λ page of header i j h e lt. f.1 header lt h);
+            (λ page of i j h e lt. omega arith) (λ page of start i j h e lt. omega arith) (λ page of start i j h e lt. omega arith)
+            (λ page of header i j h e lt. f.1 header lt h);
         no_number = of_four cycle p w item (λ r. reason_number r < 12 → ⊥)
-            (λ page of i j h lt. h.sent clearing blank) (λ page of start i j h lt. no_start start h.named) (λ page of start i j h lt. no_index h.index h.within) (λ page of header i j h lt. omega arith);
+            (λ page of i j h lt. h.sent clearing blank) (λ page of start i j h lt. no_start start h.named)
+            (λ page of start i j h lt. no_index h.index h.within) (λ page of header i j h lt. omega arith);
       }
 
 -- an item that a viewer doesn't see

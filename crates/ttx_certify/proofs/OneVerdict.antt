@@ -29,7 +29,8 @@ pub record IsFirst (True : ℕ → ℕ → ℕ → Type 0) (number item slot : �
   pub no_number : (k i j : ℕ) → k < number → True k i j → ⊥
 
 same_number : (a b : ℕ) → (a < b → ⊥) → (b < a → ⊥) → a ≡ b
-same_number a b f g = elim (cases_lt a b) as (λ _. a ≡ b) [ inl lt ↦ absurd (f lt) | inr ge ↦ elim (cases_lt b a) as (λ _. a ≡ b) [ inl gt ↦ absurd (g gt) | inr le ↦ omega arith ] ]
+same_number a b f g = elim (cases_lt a b) as (λ _. a ≡ b)
+    [ inl lt ↦ absurd (f lt) | inr ge ↦ elim (cases_lt b a) as (λ _. a ≡ b) [ inl gt ↦ absurd (g gt) | inr le ↦ omega arith ] ]
 
 module _ (True : ℕ → ℕ → ℕ → Type 0) where
   firsts_agree : (k i j k' i' j' : ℕ) → IsFirst True k i j → IsFirst True k' i' j' → (k ≡ k') × (i ≡ i') × (j ≡ j')
@@ -72,7 +73,8 @@ module _ (cycle : List (List ℕ)) (pages : List Page) (p : Page) where
     first : IsFirst PageTrue number 0 slot
 
   -- of a page's reasons no item is told
-  first_at : (number slot : ℕ) → PageTrue number 0 slot → ((j : ℕ) → j < slot → PageTrue number 0 j → ⊥) → ((k i j : ℕ) → k < number → PageTrue k i j → ⊥) → IsFirst PageTrue number 0 slot
+  first_at : (number slot : ℕ) → PageTrue number 0 slot → ((j : ℕ) → j < slot → PageTrue number 0 j → ⊥) →
+      ((k i j : ℕ) → k < number → PageTrue k i j → ⊥) → IsFirst PageTrue number 0 slot
   first_at number slot here slots numbers = record { here = here; no_slot = slots; no_item = λ i j lt t. omega arith; no_number = numbers }
 
   abbrev NoneBelow : ℕ → Type 0
@@ -106,14 +108,16 @@ module _ (cycle : List (List ℕ)) (pages : List Page) (p : Page) where
     number = 4;
     slot = slot;
     is = ap (λ q. RowDiffers q slot) f.0;
-    first = first_at 4 slot f.5.here f.5.none_before (one_more PageTrue 3 (one_more PageTrue 2 (none_2 f.1 f.2) (λ i j t. f.3 (pos j) t)) (λ i j t. f.4 (pos j) t));
+    first = first_at 4 slot f.5.here f.5.none_before
+        (one_more PageTrue 3 (one_more PageTrue 2 (none_2 f.1 f.2) (λ i j t. f.3 (pos j) t)) (λ i j t. f.4 (pos j) t));
   }
   told_page (LinksDiffer page slot) f = record {
     number = 5;
     slot = slot;
     is = ap (λ q. LinksDiffer q slot) f.0;
     first = first_at 5 slot f.6.here f.6.none_before
-        (one_more PageTrue 4 (one_more PageTrue 3 (one_more PageTrue 2 (none_2 f.1 f.2) (λ i j t. f.3 (pos j) t)) (λ i j t. f.4 (pos j) t)) (λ i j t. f.5 (pos j) t));
+        (one_more PageTrue 4 (one_more PageTrue 3 (one_more PageTrue 2 (none_2 f.1 f.2) (λ i j t. f.3 (pos j) t))
+        (λ i j t. f.4 (pos j) t)) (λ i j t. f.5 (pos j) t));
   }
   told_page (BadSlot slot) f = absurd f
   told_page (NoWitness page item) f = absurd f
@@ -180,7 +184,9 @@ module _ (cycle : List (List ℕ)) (p : Page) (w : Certificate) where
       ((k i j : ℕ) → k < number → StartTrue k i j → ⊥) → IsFirst StartTrue number (item_number item) slot
   first_start number item slot here slots items numbers = record {
     here = (item, refl, here);
-    no_slot = λ j lt t. slots j lt (subst (λ x. ItemTrue number x j) (item_at p t.0 item (item_needed number t.0 j t.2) (item_needed number item slot here) t.1) t.2);
+    no_slot = λ j lt t. slots j lt
+        (subst (λ x. ItemTrue number x j)
+        (item_at p t.0 item (item_needed number t.0 j t.2) (item_needed number item slot here) t.1) t.2);
     no_item = λ i j lt t. items t.0 j (let e = t.1 in omega arith) t.2;
     no_number = numbers;
   }
@@ -244,7 +250,9 @@ module _ (cycle : List (List ℕ)) (p : Page) (w : Certificate) where
       let x = told_start a f in
       let y = told_start b g in
       let same = firsts_agree StartTrue x.number (item_number x.item) x.slot y.number (item_number y.item) y.slot x.first y.first in
-      x.is ∙ ap (λ n. start_reason n x.item x.slot) same.0 ∙ ap (λ i. start_reason y.number i x.slot) (item_at p x.item y.item x.need y.need same.1) ∙ ap (start_reason y.number y.item) same.2 ∙ sym y.is
+      x.is ∙ ap (λ n. start_reason n x.item x.slot) same.0
+      ∙ ap (λ i. start_reason y.number i x.slot) (item_at p x.item y.item x.need y.need same.1)
+      ∙ ap (start_reason y.number y.item) same.2 ∙ sym y.is
 
 -- ---- verdicts
 
@@ -287,7 +295,8 @@ module _ (laws : CoverLaws) (cycle : List (List ℕ)) (some : 1 ≤ length cycle
   not_clean : (reason : Reason) → IsBadSlot reason → IsClean cycle → ⊥
   not_clean reason b clean = let bad = b.2.bad in let good = clean b.0 b.2.within in cc
 
-  refusals_agree : (a b : Reason) → IsBadSlot a ⊎ (IsClean cycle × IsFirstFault cycle pages w a) → IsBadSlot b ⊎ (IsClean cycle × IsFirstFault cycle pages w b) → a ≡ b
+  refusals_agree : (a b : Reason) → IsBadSlot a ⊎ (IsClean cycle × IsFirstFault cycle pages w a) → IsBadSlot b
+      ⊎ (IsClean cycle × IsFirstFault cycle pages w b) → a ≡ b
   refusals_agree a b (inl f) (inl g) =
       f.1 ∙ ap BadSlot (same_number f.0 g.0 (λ lt. g.3 f.0 lt f.2) (λ gt. f.3 g.0 gt g.2)) ∙ sym g.1
   refusals_agree a b (inl f) (inr g) = absurd (not_clean a f g.0)

@@ -16,7 +16,8 @@ use Rattle.ttx_witness.specs.declared.faults.reason.Reason.{Reason}
 use Rattle.ttx_certify.specs.Laws.{ArePages}
 use Rattle.ttx_certify.specs.Verdicts.{IsFirstFault}
 
-pub page_at : (pages : List PageValue) (i : ℕ) (p : PageValue) → i < length pages → p ≡ get_or pages i p → slice_get (map page_of pages) i ≡ Some (page_of p)
+pub page_at : (pages : List PageValue) (i : ℕ) (p : PageValue) → i < length pages → p ≡ get_or pages i p →
+    slice_get (map page_of pages) i ≡ Some (page_of p)
 page_at pages i p lt e = slice_get-map page_of pages i ∙ ap (option_map page_of) (slice_get_read pages (length pages) i p refl lt e)
 
 pub here_is : (xs : List Page) (i : ℕ) → i < length xs → (p : Page) × (slice_get xs i ≡ Some p)
@@ -43,13 +44,15 @@ module _ (cycle : List (List ℕ)) (pages : List Page) (w : Certificate) where
       let h = here_is pages index lt in
       record { index = index; page = h.0; here = h.1; fault = subst (IsFault cycle pages h.0 w) e (f h.0 h.1); none_before = earlier }
 
-  pub one_more : (index : ℕ) → Earlier index → (o : Option Reason) → o ≡ None → ((p : Page) → slice_get pages index ≡ Some p → IsFault cycle pages p w o) → Earlier (index + 1)
+  pub one_more : (index : ℕ) → Earlier index → (o : Option Reason) → o ≡ None →
+      ((p : Page) → slice_get pages index ≡ Some p → IsFault cycle pages p w o) → Earlier (index + 1)
   one_more index earlier o e f = λ n p lt here. elim (cases_lt n index) as (λ _. IsFault cycle pages p w None) [
     | inl less ↦ earlier n p less here
     | inr ge ↦ let same : n ≡ index = omega arith in subst (IsFault cycle pages p w) e (f p (subst (λ x. slice_get pages x ≡ Some p) same here))
   ]
 
-  pub none_at_all : (index : ℕ) → length pages ≤ index → Earlier index → (n : ℕ) (p : Page) → slice_get pages n ≡ Some p → IsFault cycle pages p w None
+  pub none_at_all : (index : ℕ) → length pages ≤ index → Earlier index → (n : ℕ) (p : Page) → slice_get pages n ≡ Some p →
+      IsFault cycle pages p w None
   none_at_all index past earlier n p here = earlier n p (let lt = slice_get_within pages n p here in omega arith) here
 
 pub are_pages : PagesKeepTheirRules → (pages : List PageValue) → ArePages (map page_of pages)

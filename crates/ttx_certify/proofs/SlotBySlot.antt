@@ -13,7 +13,8 @@ gave_none law P known p = record { slots = []; given_are = law known; is = p }
 
 module _ (P : List (List ℕ) → Type 0) (given : ℕ) (old mid new : Option (List ℕ)) (z : List ℕ) (gave : Gave P given old mid) where
   -- one more is given
-  pub gave_more : OneMoreIsGiven → (Q : List (List ℕ) → Type 0) → AnswersNext given mid new z (Ok true) → IsSlot z → ((x : List (List ℕ)) → length x < 65536 → P x → Q (x ++ z ∷ [])) → Gave Q (given + 1) old new
+  pub gave_more : OneMoreIsGiven → (Q : List (List ℕ) → Type 0) → AnswersNext given mid new z (Ok true) → IsSlot z →
+      ((x : List (List ℕ)) → length x < 65536 → P x → Q (x ++ z ∷ [])) → Gave Q (given + 1) old new
   gave_more law Q answer slot step = record {
     slots = gave.slots ++ z ∷ [];
     given_are = law given old mid new gave.slots z gave.given_are answer slot;
@@ -26,10 +27,13 @@ module _ (P : List (List ℕ) → Type 0) (given : ℕ) (old mid new : Option (L
 
   -- all are given
   pub gave_all : AllAreGiven → AnswersNext given mid new z (Ok false) → IfSome old (λ bytes. Walks {T = Unit {0}} P bytes (Ok tt))
-  gave_all law answer = whole old _ (λ bytes. Walks {T = Unit {0}} P bytes (Ok tt)) (λ bytes h. (gave.slots, record { is_cycle = h.0; same = h.1 }, gave.is)) (law given old mid new gave.slots z gave.given_are answer)
+  gave_all law answer = whole old _ (λ bytes. Walks {T = Unit {0}} P bytes (Ok tt))
+      (λ bytes h. (gave.slots, record { is_cycle = h.0; same = h.1 }, gave.is))
+      (law given old mid new gave.slots z gave.given_are answer)
 
   -- or a fault is answered
-  pub gave_fault : FaultIsTheFiles → (fault : CycleFault) → AnswersNext given mid new z (Err fault) → IfSome old (λ bytes. Walks {T = Unit {0}} P bytes (Err fault))
+  pub gave_fault : FaultIsTheFiles → (fault : CycleFault) → AnswersNext given mid new z (Err fault) →
+      IfSome old (λ bytes. Walks {T = Unit {0}} P bytes (Err fault))
   gave_fault law fault answer = law given old mid new gave.slots z fault gave.given_are answer
 
 -- a list of fewer than 65,536 slots takes one more

@@ -27,7 +27,8 @@ use Rattle.ttx_certify.proofs.ItemByItem.{needed_item}
 use Rattle.ttx_page.proofs.SlotDistances.{cases_ltz}
 
 -- whether a slot is one of those that a list has
-pub listed : (P : ℤ → Type 0) (Is : Transmission → Type 0) → ((t : Transmission) → Is t → P t.slot) → (low high : ℤ) (ts : List Transmission) → Lists slot_of P Is low high ts →
+pub listed : (P : ℤ → Type 0) (Is : Transmission → Type 0) → ((t : Transmission) → Is t → P t.slot) →
+    (low high : ℤ) (ts : List Transmission) → Lists slot_of P Is low high ts →
     (x : ℤ) → low ≤ℤ x → x <ℤ high → Decided (P x)
 listed P Is of low high [] l x from to = inr (l x from to)
 listed P Is of low high (t ∷ ts) l x from to = elim (cases_ltz x t.slot) as (λ _. Decided (P x)) [
@@ -64,18 +65,23 @@ module _ (laws : FaultLaws) (cycle : List (List ℕ)) (is : IsCycle cycle) where
       let on : IsSameOn s place.by = λ i. ap (λ m. slice_index_or cycle m []) (place.same i) in
       let back = laws.move s (pos 0 -ℤ place.by) (laws.move s place.by on).back in
       let e : j +ℤ (pos 0 -ℤ place.by) ≡ pos (turned n j) = let at = place.place in omega (arith, ints) in
-      record { owner = t.owner +ℤ (pos 0 -ℤ place.by); owned = subst (IsOwned s page item (t.owner +ℤ (pos 0 -ℤ place.by))) e (back.owned page item t.owner j t.owned) }
+      record {
+        owner = t.owner +ℤ (pos 0 -ℤ place.by);
+        owned = subst (IsOwned s page item (t.owner +ℤ (pos 0 -ℤ place.by))) e (back.owned page item t.owner j t.owned);
+      }
 
   pub is_sent : (page : Id) (item : Item) (j : ℕ) → j < n → Decided (IsTransmission s page item (pos j))
   is_sent page item j lt =
       let Owned = IsOwned s page item in
       let Sure = IsSure s 0 page.mag item in
       alike (λ t. record { owner = t.owner; owned = t.owned }) (λ t. record { owner = t.owner; owned = t.owned })
-      (listed (IsSentAt Owned) (Tells Owned Sure) (λ t told. record { owner = t.owner; owned = told.owned }) (pos 0) (pos n) (sent_in cycle page 0 item)
+      (listed (IsSentAt Owned) (Tells Owned Sure) (λ t told. record { owner = t.owner; owned = told.owned }) (pos 0) (pos n)
+      (sent_in cycle page 0 item)
       (laws.list cycle (let some = is.some in omega arith) is.most page 0 item).0 (pos j) (omega (arith, ints)) (omega (arith, ints)))
 
   -- the first slot of a period, where the stream is the same in each
-  first_slot : (P : ℤ → Type 0) → ((j : ℤ) → P j → P (pos (turned n j))) → ((j : ℕ) → j < n → Decided (P (pos j))) → (first : Option ℕ) × TellsFirst cycle P first
+  first_slot : (P : ℤ → Type 0) → ((j : ℤ) → P j → P (pos (turned n j))) → ((j : ℕ) → j < n → Decided (P (pos j))) → (first : Option ℕ)
+      × TellsFirst cycle P first
   first_slot P fold each = let r = least_below (λ j. P (pos j)) n each in told r.0 r.1
     where
       told : (first : Option ℕ) → FirstBelow (λ j. P (pos j)) n first → (first : Option ℕ) × TellsFirst cycle P first
@@ -83,13 +89,19 @@ module _ (laws : FaultLaws) (cycle : List (List ℕ)) (is : IsCycle cycle) where
       told None none = (None, λ j p. none (turned n j) (inside j) (fold j p))
 
   has_header : (p : Page) → HasHeader s p.id ⊎ HasNoHeader s p
-  has_header p = elim (any_below (λ j. heads_page p.id (packet_of (s (pos j))) ≡ true) n (λ j lt. same_bool _ true)) as (λ _. HasHeader s p.id ⊎ HasNoHeader s p) [
-    | inl h ↦ inl (record { slot = pos h.0; is_header = h.2 })
-    | inr none ↦ inr (λ j. elim (same_bool (heads_page p.id (packet_of (s j))) false) as (λ _. heads_page p.id (packet_of (s j)) ≡ false) [
-      | inl e ↦ e
-      | inr ne ↦ absurd (none (turned n j, inside j, let yes_ = is_true _ ne in ap (λ x. heads_page p.id (packet_of x)) (sym (same_slot j)) ∙ yes_))
-    ])
-  ]
+  has_header p = elim (any_below (λ j. heads_page p.id (packet_of (s (pos j))) ≡ true) n (λ j lt. same_bool _ true)) as
+      (λ _. HasHeader s p.id ⊎ HasNoHeader s p) [
+        | inl h ↦ inl (record { slot = pos h.0; is_header = h.2 })
+        | inr none ↦ inr (λ j. elim (same_bool (heads_page p.id (packet_of (s j))) false) as (λ _. heads_page p.id (packet_of (s j)) ≡ false) [
+          | inl e ↦ e
+          | inr ne ↦ absurd (none (
+            turned n j,
+            inside j,
+            let yes_ = is_true _ ne
+                in ap (λ x. heads_page p.id (packet_of x)) (sym (same_slot j)) ∙ yes_,
+          ))
+        ])
+      ]
     where
       is_true : (b : Bool) → (b ≡ false → ⊥) → b ≡ true
       is_true true h = refl
@@ -103,7 +115,8 @@ module _ (laws : FaultLaws) (cycle : List (List ℕ)) (is : IsCycle cycle) where
           number = subst (λ x. heads_matched (AnySub p.id.mag p.id.page) (packet_of x) ≡ true) (same_slot j) o.number;
           other = subst (λ x. heads_page p.id (packet_of x) ≡ false) (same_slot j) o.other;
         })
-        (λ j lt. alike (λ e. record { alone = e.0; number = e.1.0; other = e.1.1 }) (λ o. (o.alone, (o.number, o.other))) (both (alone pages p) (both (same_bool _ true) (same_bool _ false))))
+        (λ j lt. alike (λ e. record { alone = e.0; number = e.1.0; other = e.1.1 }) (λ o. (o.alone, (o.number, o.other)))
+        (both (alone pages p) (both (same_bool _ true) (same_bool _ false))))
 
     erased : (first : Option ℕ) × TellsFirst cycle (ErasedAt s p) first
     erased = first_slot (ErasedAt s p)
@@ -136,18 +149,24 @@ module _ (laws : FaultLaws) (cycle : List (List ℕ)) (is : IsCycle cycle) where
           sent = sent_turned p.id (TheRow o.row) j o.sent;
           differs = subst (λ x. RowIsRight p o.row (packet_of x) → ⊥) (same_slot j) o.differs;
         })
-        (λ j lt. alike (λ e. record { row = e.0; needed = e.2.0; sent = e.2.1.0; differs = e.2.1.1 }) (λ o. (o.row, row_below o.row o.needed, (o.needed, (o.sent, o.differs))))
+        (λ j lt. alike (λ e. record { row = e.0; needed = e.2.0; sent = e.2.1.0; differs = e.2.1.1 })
+        (λ o. (o.row, row_below o.row o.needed, (o.needed, (o.sent, o.differs))))
         (any_below (WrongRow (pos j)) 25 (λ r below. both (same_bool _ true) (both (is_sent p.id (TheRow r) j lt) (refuted (row_right p r _))))))
 
     links : (first : Option ℕ) × TellsFirst cycle (LinksDifferAt s p) first
     links = first_slot (LinksDifferAt s p)
-        (λ j o. record { sent = sent_turned p.id TheLinks j o.sent; differs = subst (λ x. LinksAreRight p x (packet_of x) → ⊥) (same_slot j) o.differs })
-        (λ j lt. alike (λ e. record { sent = e.0; differs = e.1 }) (λ o. (o.sent, o.differs)) (both (is_sent p.id TheLinks j lt) (refuted (links_right p (s (pos j)) _))))
+        (λ j o. record {
+          sent = sent_turned p.id TheLinks j o.sent;
+          differs = subst (λ x. LinksAreRight p x (packet_of x) → ⊥) (same_slot j) o.differs;
+        })
+        (λ j lt. alike (λ e. record { sent = e.0; differs = e.1 }) (λ o. (o.sent, o.differs))
+        (both (is_sent p.id TheLinks j lt) (refuted (links_right p (s (pos j)) _))))
 
     abbrev SomePageFault : Type 0
     SomePageFault = (reason : Option Reason) × IsPageFault cycle pages p reason
 
-    first_of : HasHeader s p.id → (a b c d e : Option ℕ) → TellsFirst cycle (OtherSubpageAt s pages p) a → TellsFirst cycle (ErasedAt s p) b → TellsFirst cycle (HeadDiffersAt s p) c →
+    first_of : HasHeader s p.id → (a b c d e : Option ℕ) → TellsFirst cycle (OtherSubpageAt s pages p) a →
+        TellsFirst cycle (ErasedAt s p) b → TellsFirst cycle (HeadDiffersAt s p) c →
         TellsFirst cycle (RowDiffersAt s p) d → TellsFirst cycle (LinksDifferAt s p) e → SomePageFault
     first_of h (Some x) b c d e t u v w z = (Some (OtherSubpage p.id x), (refl, h, t))
     first_of h None (Some x) c d e t u v w z = (Some (Erased p.id x), (refl, h, t, u))

@@ -62,7 +62,10 @@ module _ (laws : SomeLaws) (cycle : List (List ℕ)) (is : IsCycle cycle) (w : C
         let told = judged_so cycle p w item laws.cover.judged some numbers need any starts (length cycle) m refl refl refl in
         elim (cases_lt m.next (length starts)) as (λ _. SomeReason item) [
           | inl less ↦ (Some (WitnessBad p.id item (slice_index_or starts m.next 0)), told.bad less)
-          | inr all ↦ (late_reason p.id item (late_after (limit w) starts m (m.first_end +ℤ pos (length cycle))), told.late (let next = told.next in omega arith))
+          | inr all ↦ (
+            late_reason p.id item (late_after (limit w) starts m (m.first_end +ℤ pos (length cycle))),
+            told.late (let next = told.next in omega arith),
+          )
         ]
 
     some_reason : (item : Item) → SomeReason item
@@ -118,11 +121,13 @@ module _ (laws : SomeLaws) (cycle : List (List ℕ)) (is : IsCycle cycle) (w : C
           told none here.0 here.1 fault.0 fault.1
     ]
       where
-        told : NoneBefore index → (p : Page) → slice_get pages index ≡ Some p → (reason : Option Reason) → IsFault cycle pages p w reason → FirstOrNone (suc index)
+        told : NoneBefore index → (p : Page) → slice_get pages index ≡ Some p → (reason : Option Reason) →
+            IsFault cycle pages p w reason → FirstOrNone (suc index)
         told none p here (Some reason) f = inl (reason, record { index = index; page = p; here = here; fault = f; none_before = none })
         told none p here None f =
             let e : index + 1 ≡ suc index = omega arith in
-            inr (subst NoneBefore e (one_more cycle pages w index none None refl (λ q at. let same : p ≡ q = cc in subst (λ x. IsFault cycle pages x w None) same f)))
+            inr (subst NoneBefore e (one_more cycle pages w index none None refl
+            (λ q at. let same : p ≡ q = cc in subst (λ x. IsFault cycle pages x w None) same f)))
 
     clean_verdict : IsClean cycle → (verdict : Verdict) × IsVerdict cycle pages w verdict
     clean_verdict clean = elim (first_or_none (length pages) (omega arith)) as (λ _. (verdict : Verdict) × IsVerdict cycle pages w verdict) [

@@ -32,13 +32,17 @@ lifted P Q (Some a) None c f h = tt
 lifted P Q None b c f h = tt
 
 pub all_read : (inputs : Inputs) → IsCycle (slots_of inputs.cycle) → (a b c : Option (List ℕ)) → IfSome a (λ x. x ≡ file_of (slots_of inputs.cycle)) →
-    IfSome b (λ y. IsServiceText y inputs.service) → IfSome c (λ z. IsCertificateText z (fields_of inputs.certificate)) → IfSome a (λ x. IfSome b (λ y. IfSome c (λ z. ReadsInputs x y z (Ok inputs))))
+    IfSome b (λ y. IsServiceText y inputs.service) → IfSome c (λ z. IsCertificateText z (fields_of inputs.certificate)) →
+    IfSome a (λ x. IfSome b (λ y. IfSome c (λ z. ReadsInputs x y z (Ok inputs))))
 all_read inputs is a b c p q r =
-    together (λ x. x ≡ file_of (slots_of inputs.cycle)) (λ y. IsServiceText y inputs.service) (λ z. IsCertificateText z (fields_of inputs.certificate)) (λ x y z. ReadsInputs x y z (Ok inputs)) a b c p q r
+    together (λ x. x ≡ file_of (slots_of inputs.cycle)) (λ y. IsServiceText y inputs.service)
+    (λ z. IsCertificateText z (fields_of inputs.certificate)) (λ x y z. ReadsInputs x y z (Ok inputs)) a b c p q r
     (λ x y z i j k. (record { is_cycle = is; same = i }, j, k))
 
-pub all_judged : (inputs : Inputs) (judged : Told) → IsJudged (slots_of inputs.cycle) inputs.service (fields_of inputs.certificate) judged.verdict (string_bytes judged.line) →
-    (a b c : Option (List ℕ)) → IfSome a (λ x. IfSome b (λ y. IfSome c (λ z. ReadsInputs x y z (Ok inputs)))) → IfSome a (λ x. IfSome b (λ y. IfSome c (λ z. JudgesFiles x y z (Ok judged))))
+pub all_judged : (inputs : Inputs) (judged : Told) →
+    IsJudged (slots_of inputs.cycle) inputs.service (fields_of inputs.certificate) judged.verdict (string_bytes judged.line) →
+    (a b c : Option (List ℕ)) → IfSome a (λ x. IfSome b (λ y. IfSome c (λ z. ReadsInputs x y z (Ok inputs)))) →
+    IfSome a (λ x. IfSome b (λ y. IfSome c (λ z. JudgesFiles x y z (Ok judged))))
 all_judged inputs judged h a b c =
     lifted (λ x y z. ReadsInputs x y z (Ok inputs)) (λ x y z. JudgesFiles x y z (Ok judged)) a b c
     (λ x y z read. record {
@@ -69,9 +73,11 @@ refused NoMemory x y z known h = (h, keeps_same known)
 
 pub all_refused : (fault : FilesFault) (a b c known : Option (List ℕ)) → IfSome a (λ x. IfSome b (λ y. IfSome c (λ z. IsRefused x y z fault))) →
     IfSome a (λ x. IfSome b (λ y. IfSome c (λ z. CertifiesFiles x y z known known (Err fault))))
-all_refused fault a b c known = lifted (λ x y z. IsRefused x y z fault) (λ x y z. CertifiesFiles x y z known known (Err fault)) a b c (λ x y z h. refused fault x y z known h)
+all_refused fault a b c known = lifted (λ x y z. IsRefused x y z fault) (λ x y z. CertifiesFiles x y z known known (Err fault)) a b c
+    (λ x y z h. refused fault x y z known h)
 
-pub counts_refused : (fault : FilesFault) (a b c d e f old new : ℕ) → CountsReads {T = Told} (Err fault) a b c d e f → CountsFiles {T = Verdict} (Err fault) a b c d e f old new
+pub counts_refused : (fault : FilesFault) (a b c d e f old new : ℕ) → CountsReads {T = Told} (Err fault) a b c d e f →
+    CountsFiles {T = Verdict} (Err fault) a b c d e f old new
 counts_refused (Cycle cycle.Read) a b c d e f old new h = h
 counts_refused (Cycle (cycle.Truncated rest)) a b c d e f old new h = tt
 counts_refused (Cycle cycle.Empty) a b c d e f old new h = tt
@@ -93,7 +99,8 @@ module _ (verdict : Verdict) (bytes line : List ℕ) (same : bytes ≡ line) (a 
       lifted (λ x y z. Certifies x y z verdict line) (λ x y z. CertifiesFiles x y z old new (Ok verdict)) a b c
       (λ x y z k. (bytes, subst (Certifies x y z verdict) (sym same) k, out)) h
 
-  pub partly_written : (fault : FilesFault) → WritesLine {T = Unit {0}} bytes old new (Err fault) → IfSome a (λ x. IfSome b (λ y. IfSome c (λ z. CertifiesFiles x y z old new (Err fault))))
+  pub partly_written : (fault : FilesFault) → WritesLine {T = Unit {0}} bytes old new (Err fault) →
+      IfSome a (λ x. IfSome b (λ y. IfSome c (λ z. CertifiesFiles x y z old new (Err fault))))
   partly_written (Write written) out =
       lifted (λ x y z. Certifies x y z verdict line) (λ x y z. CertifiesFiles x y z old new (Err (Write written))) a b c
       (λ x y z k. (bytes, verdict, subst (Certifies x y z verdict) (sym same) k, out.0, out.1)) h

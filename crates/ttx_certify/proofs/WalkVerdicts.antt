@@ -27,7 +27,8 @@ as_walked x y pages w (No (R.LateBlank page item header)) h = h
 as_walked x y pages w (No R.Unsteady) h = absurd (elim h.0.1.fault as (λ _. ⊥) [ inl a ↦ a | inr b ↦ b.1 ])
 
 -- over one list twice the walk's verdict is the list's
-pub walked_same : (y : List (List ℕ)) → 1 ≤ length y → (pages : List Page) (w : Certificate) (v : Verdict) → IsWalkVerdict y y pages w v → IsVerdict y pages w v
+pub walked_same : (y : List (List ℕ)) → 1 ≤ length y → (pages : List Page) (w : Certificate) (v : Verdict) →
+    IsWalkVerdict y y pages w v → IsVerdict y pages w v
 walked_same y some pages w Yes h = h
 walked_same y some pages w (No (R.BadSlot slot)) h = h
 walked_same y some pages w (No (R.NoHeader page)) h = h
@@ -43,6 +44,7 @@ walked_same y some pages w (No (R.LateBlank page item header)) h = h
 walked_same y some pages w (No R.Unsteady) h = (let e : length y ≡ 0 = ap length (h refl) in absurd (omega arith))
 
 -- what a verdict means
-pub seen_by_all : AcceptedIsSeen → (y : List (List ℕ)) → IsCycle y → (pages : List Page) → ArePages pages → (w : Certificate) → IsCertificate w → (v : Verdict) → IsVerdict y pages w v → Means y pages w v
+pub seen_by_all : AcceptedIsSeen → (y : List (List ℕ)) → IsCycle y → (pages : List Page) → ArePages pages → (w : Certificate) →
+    IsCertificate w → (v : Verdict) → IsVerdict y pages w v → Means y pages w v
 seen_by_all law y cycle pages are w is Yes h = law y pages w cycle are is h
 seen_by_all law y cycle pages are w is (No reason) h = tt

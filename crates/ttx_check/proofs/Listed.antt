@@ -14,7 +14,8 @@ get_there (y ∷ xs) zero x d lt e = ap Some (sym e)
 get_there (y ∷ xs) (suc i) x d lt e = get_there xs i x d (omega arith) e
 
 -- the page at an index, of values that a function shows as pages
-at_index : {A : Type 0} (view : A → Page) (values : List A) (pages : List Authored) (i often : ℕ) (value : A) → map view values ≡ map (λ p. p.page) pages → slice_get values i ≡ Some value →
+at_index : {A : Type 0} (view : A → Page) (values : List A) (pages : List Authored) (i often : ℕ) (value : A) → map view values
+    ≡ map (λ p. p.page) pages → slice_get values i ≡ Some value →
     option_map (λ p. p.often) (slice_get pages i) ≡ Some often → slice_get pages i ≡ Some (authored_at (view value) often)
 at_index view [] pages i often value same v o = let e : None ≡ Some value = v in cc
 at_index view (x ∷ values) [] i often value same v o = let e : None ≡ Some often = o in cc
@@ -25,13 +26,15 @@ at_index view (x ∷ values) (p ∷ pages) zero often value same v o =
     let so_often : p.often ≡ often = cc in
     let e : view x ∷ map view values ≡ p.page ∷ map (λ p. p.page) pages = same in
     let page : view x ≡ p.page = cc in
-    ap (λ q. Some (authored_at q p.often)) (sym page) ∙ ap (λ q. Some (authored_at (view q) p.often)) is ∙ ap (λ n. Some (authored_at (view value) n)) so_often
+    ap (λ q. Some (authored_at q p.often)) (sym page) ∙ ap (λ q. Some (authored_at (view q) p.often)) is
+    ∙ ap (λ n. Some (authored_at (view value) n)) so_often
 at_index view (x ∷ values) (p ∷ pages) (suc i) often value same v o =
     let e : view x ∷ map view values ≡ p.page ∷ map (λ p. p.page) pages = same in
     let rest : map view values ≡ map (λ p. p.page) pages = cc in
     at_index view values pages i often value rest v o
 
-pub page_at_index : (values : List PageValue) (pages : List Authored) (i often : ℕ) (value : PageValue) → map page_of values ≡ map (λ p. p.page) pages → slice_get values i ≡ Some value →
+pub page_at_index : (values : List PageValue) (pages : List Authored) (i often : ℕ) (value : PageValue) → map page_of values
+    ≡ map (λ p. p.page) pages → slice_get values i ≡ Some value →
     option_map (λ p. p.often) (slice_get pages i) ≡ Some often → slice_get pages i ≡ Some (authored_at (page_of value) often)
 page_at_index = at_index page_of
 
@@ -41,7 +44,8 @@ take_next (y ∷ ys) zero x h = let e : Some y ≡ Some x = h in let g : y ≡ x
 take_next (y ∷ ys) (suc n) x h = ap (λ z. y ∷ z) (take_next ys n x h)
 
 -- one page more
-pub entries_next : (pages : List Authored) (i : ℕ) (page : Authored) → slice_get pages i ≡ Some page → map queue_entry (take (i + 1) pages) ≡ map queue_entry (take i pages) ++ queue_entry page ∷ []
+pub entries_next : (pages : List Authored) (i : ℕ) (page : Authored) → slice_get pages i ≡ Some page →
+    map queue_entry (take (i + 1) pages) ≡ map queue_entry (take i pages) ++ queue_entry page ∷ []
 entries_next pages i page e =
     let n : i + 1 ≡ suc i = omega arith in
     ap (λ k. map queue_entry (take k pages)) n ∙ ap (map queue_entry) (take_next pages i page e) ∙ map-append queue_entry (take i pages) (page ∷ [])

@@ -20,7 +20,8 @@ same_tests p q (x ∷ xs) e fits = ap₂ (λ b r. b ∷ r) (agree_below_at p q 2
 pub same_maps : (f g : ℕ → ℕ) (v : List ℕ) → agree_below (λ x. eqb (f x) (g x)) (λ _. true) 256 ≡ true → Each1 (Fits w8) v → map f v ≡ map g v
 same_maps f g [] e fits = refl
 same_maps f g (x ∷ xs) e fits =
-    ap₂ (λ (a : ℕ) (r : List ℕ). a ∷ r) (eqb-true _ _ (agree_below_at (λ x. eqb (f x) (g x)) (λ _. true) 256 x e fits.0.fits)) (same_maps f g xs e fits.1)
+    ap₂ (λ (a : ℕ) (r : List ℕ). a ∷ r) (eqb-true _ _ (agree_below_at (λ x. eqb (f x) (g x)) (λ _. true) 256 x e fits.0.fits))
+    (same_maps f g xs e fits.1)
 
 -- the mask of the lanes that were computed from the bytes
 pub mask_from_lanes : (z : List ℕ) (f : ℕ → ℕ) (q : ℕ → Bool) (v : List ℕ) → length v ≡ 32 → Each1 (Fits w8) v
@@ -37,7 +38,8 @@ no_mask (x ∷ xs) = go (is_odd x) (mask_l (map (λ b. not (is_odd b)) xs)) (lis
     go true rest others e = grind (arith, nat_tests)
     go false rest others e = grind (arith, nat_tests)
 
-sel_stored : (f g : ℕ → ℕ) (v ys : List ℕ) → agree_below (λ x. top 7 (f x)) is_odd 256 ≡ true → agree_below (λ x. eqb (g x) (x % 128)) (λ _. true) 256 ≡ true
+sel_stored : (f g : ℕ → ℕ) (v ys : List ℕ) → agree_below (λ x. top 7 (f x)) is_odd 256 ≡ true →
+    agree_below (λ x. eqb (g x) (x % 128)) (λ _. true) 256 ≡ true
     → Each1 (Fits w8) v → length v ≡ length ys → sel_l (map (top 7) (map f v)) (map g v) ys ≡ zip2 stored v ys
 sel_stored f g [] ys p q fits len = refl
 sel_stored f g (x ∷ xs) [] p q fits len = absurd (omega arith)

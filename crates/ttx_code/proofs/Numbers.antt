@@ -55,7 +55,9 @@ from_same_reading (Some n) t e =
     (λ _. ap Some (sym at), λ h. absurd (omega arith))
 
 pub reading_by_table : (b t : ℕ) → b < 256 → get_or NUMBERS b 0 ≡ t → (t < 16 → Some t ≡ reading b) × (16 ≤ t → None ≡ reading b)
-reading_by_table b t l e = from_same_reading (reading b) t (ap (same_reading (reading b)) (sym e) ∙ agree_below_at (λ b. same_reading (reading b) (get_or NUMBERS b 0)) (λ _. true) 256 b readings l)
+reading_by_table b t l e = from_same_reading (reading b) t
+    (ap (same_reading (reading b)) (sym e)
+    ∙ agree_below_at (λ b. same_reading (reading b) (get_or NUMBERS b 0)) (λ _. true) 256 b readings l)
 
 -- ---- words
 
@@ -64,7 +66,11 @@ unfolding ones distance hamming_word
 near_itself = refl
 
 pub Reads-word : (b n : ℕ) → n < 16 → b ≡ hamming_word n → Reads b n
-Reads-word b n l e = record { number = l; near = rw e (leb-true _ _ (agree_below_at (λ n. leb (distance (hamming_word n) (hamming_word n)) 1) (λ _. true) 16 n near_itself l)) }
+Reads-word b n l e = record {
+  number = l;
+  near = rw e
+      (leb-true _ _ (agree_below_at (λ n. leb (distance (hamming_word n) (hamming_word n)) 1) (λ _. true) 16 n near_itself l));
+}
 
 -- a byte is read as one number at most
 pub Reads-one : (b m n : ℕ) → b < 256 → Reads b m → Reads b n → m ≡ n
@@ -128,7 +134,8 @@ pub words_are_read_under_one_wrong_bit : WordsAreReadUnderOneWrongBit
 unfolding distance
 words_are_read_under_one_wrong_bit sent received ls lr w wrong =
     let k = words_have_numbers sent ls w in
-    let close : distance received (hamming_word (number_of sent)) ≤ 1 = subst (λ x. distance received x ≤ 1) k.2 (subst (λ x. ones x ≤ 1) (xor_comm sent received) wrong) in
+    let close : distance received (hamming_word (number_of sent)) ≤ 1 =
+    subst (λ x. distance received x ≤ 1) k.2 (subst (λ x. ones x ≤ 1) (xor_comm sent received) wrong) in
     reading-from_Reads received (number_of sent) lr (record { number = k.1; near = close }) ∙ sym k.0
 
 pub each_byte_is_near_itself : EachByteIsNearItself

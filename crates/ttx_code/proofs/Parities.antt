@@ -33,12 +33,14 @@ unfolding ones distance
 odd_bytes_table = refl
 
 pub odd_bytes_under_one_wrong_bit : OddBytesUnderOneWrongBit
-odd_bytes_under_one_wrong_bit sent received ls lr odd close = elim (cases_Bool (is_odd received)) as (λ _. (received ≡ sent) ⊎ (is_odd received ≡ false)) [
-  | inl o ↦ inl (eqb-true _ _ (implied _ _
-      (agree_below_at (odd_or_same sent) (λ _. true) 256 received (agree_below_at (λ a. agree_below (odd_or_same a) (λ _. true) 256) (λ _. true) 256 sent odd_bytes_table ls) lr)
-      (and_from _ _ (and_from _ _ (le-leb _ _ close) odd) o)))
-  | inr e ↦ inr e
-]
+odd_bytes_under_one_wrong_bit sent received ls lr odd close =
+    elim (cases_Bool (is_odd received)) as (λ _. (received ≡ sent) ⊎ (is_odd received ≡ false)) [
+      | inl o ↦ inl (eqb-true _ _ (implied _ _
+          (agree_below_at (odd_or_same sent) (λ _. true) 256 received
+          (agree_below_at (λ a. agree_below (odd_or_same a) (λ _. true) 256) (λ _. true) 256 sent odd_bytes_table ls) lr)
+          (and_from _ _ (and_from _ _ (le-leb _ _ close) odd) o)))
+      | inr e ↦ inr e
+    ]
 
 abbrev pub holds_its_code : ℕ → Bool
 holds_its_code c = is_odd (odd_byte c) && eqb (odd_byte c % 128) c && ltb (odd_byte c) 256

@@ -46,7 +46,8 @@ same_after p lines m Other e = refl
 
 module _ (s : Stream) (pages : List Page) (p : Page) (alone : IsAlone pages p) (none : Never (OtherSubpageAt s pages p)) (lines : ℕ) where
   same_heads : (j : ℤ) → heads_matched (AnySub p.id.mag p.id.page) (packet_of (s j)) ≡ heads_page p.id (packet_of (s j))
-  same_heads j = same_bool _ _ (λ number. true_from_ne_false _ (λ other. none j (record { alone = alone; number = number; other = other }))) (numbered p (packet_of (s j)))
+  same_heads j = same_bool _ _ (λ number. true_from_ne_false _
+      (λ other. none j (record { alone = alone; number = number; other = other }))) (numbered p (packet_of (s j)))
 
   same_run : (m : Memory) (tau : ℤ) (n : ℕ) → plain_from lines (AnySub p.id.mag p.id.page) m s tau n ≡ plain_from lines (Exact p.id) m s tau n
   unfolding plain_from
@@ -55,9 +56,11 @@ module _ (s : Stream) (pages : List Page) (p : Page) (alone : IsAlone pages p) (
       same_run (after Any lines (AnySub p.id.mag p.id.page) false (older m) (packet_of (s tau))) (tau +ℤ pos 1) n
       ∙ ap (λ x. plain_from lines (Exact p.id) x s (tau +ℤ pos 1) n) (same_after p lines (older m) (packet_of (s tau)) (same_heads tau))
 
-pub right_by_number : (cycle : List (List ℕ)) (pages : List Page) (p : Page) (index lines low : ℕ) → slice_get pages index ≡ Some p → Never (OtherSubpageAt (repeated cycle) pages p) →
+pub right_by_number : (cycle : List (List ℕ)) (pages : List Page) (p : Page) (index lines low : ℕ) → slice_get pages index ≡ Some p →
+    Never (OtherSubpageAt (repeated cycle) pages p) →
     IsPlainlyRight cycle pages index false lines low → IsPlainlyRight cycle pages index true lines low
 right_by_number cycle pages p index lines low here none right = λ q at fits n from to wrong.
     let same = same_page pages index p q here at in
     let never = subst (λ x. Never (OtherSubpageAt (repeated cycle) pages x)) same none in
-    right q at refl n from to (λ v. wrong (subst (HasView q) (sym (same_run (repeated cycle) pages q fits.2 never lines (memory_of_page q) (pos 0) n)) v))
+    right q at refl n from to (λ v. wrong
+    (subst (HasView q) (sym (same_run (repeated cycle) pages q fits.2 never lines (memory_of_page q) (pos 0) n)) v))

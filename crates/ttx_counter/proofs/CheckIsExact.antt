@@ -26,7 +26,8 @@ use Rattle.ttx_counter.proofs.HitsKeepTheRule as E
 pub slots_are : EachSlotTurns → (cycle : List (List ℕ)) → IsCycle cycle → (j : ℤ) → IsSlot (repeated cycle j)
 slots_are turns cycle is j = let t = turns (length cycle) j is.some in is.each _ [] t.inside
 
-module _ (itself : EachByteIsNearItself) (turns : EachSlotTurns) (cycle : List (List ℕ)) (is : IsCycle cycle) (p : Page) (c : CounterRun) (keys : List ℕ)
+module _ (itself : EachByteIsNearItself) (turns : EachSlotTurns) (cycle : List (List ℕ)) (is : IsCycle cycle) (p : Page)
+    (c : CounterRun) (keys : List ℕ)
     (all : All (IsHit (repeated cycle) c.start c.slots) c.hits) (same : IsPermutation (map hit_key c.hits) keys) where
   abbrev each : (i : ℕ) → i < length keys → IsKey (key_at keys i)
   each = keys_are (repeated cycle) c.start c.slots c.hits keys all same
@@ -46,20 +47,24 @@ module _ (itself : EachByteIsNearItself) (turns : EachSlotTurns) (cycle : List (
   heard r i lt = hits_to (repeated cycle) c.start c.slots c.hits keys all same i _ _ (r.with_hits.each i lt)
 
   refuting_keeps : IsRefuting cycle p c → KeepsRule (repeated cycle) p.id c.start c.slots c.repeat keys
-  refuting_keeps r = E.keeps (repeated cycle) (slots_are turns cycle is) p.id c.start c.slots c.repeat keys each r.received r.with_hits.count (heard r) r.permitted
+  refuting_keeps r = E.keeps (repeated cycle) (slots_are turns cycle is) p.id c.start c.slots c.repeat keys each r.received
+      r.with_hits.count (heard r) r.permitted
 
   -- where they hold, the judgment decides
-  decided : (wrong : Bool) → AreHitOnce keys → KeepsRule (repeated cycle) p.id c.start c.slots c.repeat keys → IsJudgedRun (repeated cycle) keys p c wrong → (wrong ≡ true) ↔ IsRefuting cycle p c
+  decided : (wrong : Bool) → AreHitOnce keys → KeepsRule (repeated cycle) p.id c.start c.slots c.repeat keys →
+      IsJudgedRun (repeated cycle) keys p c wrong → (wrong ≡ true) ↔ IsRefuting cycle p c
   decided wrong apart rule j = (
     (λ w. record {
       once = apart_back (repeated cycle) c.start c.slots c.hits keys all same apart;
       received = j.received;
       with_hits = record { count = j.count; each = λ n lt. hits_back (repeated cycle) c.start c.slots c.hits keys all same n _ _ (j.each n lt) };
-      permitted = E.received (repeated cycle) (slots_are turns cycle is) p.id c.start c.slots c.repeat keys each itself full j.received j.count j.each rule;
+      permitted = E.received (repeated cycle) (slots_are turns cycle is) p.id c.start c.slots c.repeat keys each itself full j.received
+          j.count j.each rule;
       wrong = j.told.0 w;
     }),
     (λ r. j.told.1 (λ v. r.wrong (subst (λ rs. HasView p (scripted Any c.lines (selection_for c.any_sub p.id) c.choices c.former rs))
-        (E.only_list (repeated cycle) (slots_are turns cycle is) p.id c.start c.slots c.repeat keys each j.received r.received j.count r.with_hits.count j.each (heard r)) v))),
+        (E.only_list (repeated cycle) (slots_are turns cycle is) p.id c.start c.slots c.repeat keys each j.received r.received j.count
+        r.with_hits.count j.each (heard r)) v))),
   )
 
   -- and where one of them doesn't, nothing is refuted
@@ -70,7 +75,8 @@ module _ (itself : EachByteIsNearItself) (turns : EachSlotTurns) (cycle : List (
   )
 
 -- the whole
-pub whole : (cycle : List (List ℕ)) (pages : List Page) (p : Page) (c : CounterRun) → slice_get pages c.page ≡ Some p → IsMemory c.former → IsInRange cycle pages p c → IsRefuting cycle p c → IsCounterRun cycle pages c
+pub whole : (cycle : List (List ℕ)) (pages : List Page) (p : Page) (c : CounterRun) → slice_get pages c.page ≡ Some p →
+    IsMemory c.former → IsInRange cycle pages p c → IsRefuting cycle p c → IsCounterRun cycle pages c
 whole cycle pages p c here former r w = record {
   page = p;
   here = here;
@@ -88,15 +94,19 @@ whole cycle pages p c here former r w = record {
 pub same_page : (pages : List Page) (n : ℕ) (p q : Page) → slice_get pages n ≡ Some p → slice_get pages n ≡ Some q → p ≡ q
 same_page pages n p q a b = cc
 
-pub in_range : (cycle : List (List ℕ)) (pages : List Page) (p : Page) (c : CounterRun) → slice_get pages c.page ≡ Some p → IsCounterRun cycle pages c → IsInRange cycle pages p c
-in_range cycle pages p c here r = subst (λ q. IsInRange cycle pages q c) (same_page pages c.page r.page p r.here here) (record { fits = r.fits; numbers = r.numbers; lasts = r.lasts; each = r.hits.each })
+pub in_range : (cycle : List (List ℕ)) (pages : List Page) (p : Page) (c : CounterRun) → slice_get pages c.page ≡ Some p →
+    IsCounterRun cycle pages c → IsInRange cycle pages p c
+in_range cycle pages p c here r = subst (λ q. IsInRange cycle pages q c) (same_page pages c.page r.page p r.here here)
+    (record { fits = r.fits; numbers = r.numbers; lasts = r.lasts; each = r.hits.each })
 
-pub refuting : (cycle : List (List ℕ)) (pages : List Page) (p : Page) (c : CounterRun) → slice_get pages c.page ≡ Some p → IsCounterRun cycle pages c → IsRefuting cycle p c
+pub refuting : (cycle : List (List ℕ)) (pages : List Page) (p : Page) (c : CounterRun) → slice_get pages c.page ≡ Some p →
+    IsCounterRun cycle pages c → IsRefuting cycle p c
 refuting cycle pages p c here r = subst (λ q. IsRefuting cycle q c) (same_page pages c.page r.page p r.here here)
     (record { once = r.hits.once; received = r.received; with_hits = r.with_hits; permitted = r.permitted; wrong = r.wrong })
 
 -- a page of the program in its list
-pub page_here : (pages : List PageValue) (i : ℕ) (x : PageValue) → i < length pages → x ≡ get_or pages i x → slice_get (map page_of pages) i ≡ Some (page_of x)
+pub page_here : (pages : List PageValue) (i : ℕ) (x : PageValue) → i < length pages → x ≡ get_or pages i x →
+    slice_get (map page_of pages) i ≡ Some (page_of x)
 page_here [] i x lt e = absurd (omega arith)
 page_here (y ∷ pages) zero x lt e = ap (λ z. Some (page_of z)) (sym e)
 page_here (y ∷ pages) (suc i) x lt e = page_here pages i x (omega arith) e

@@ -82,7 +82,8 @@ module _ (laws : DecidingLaws) (cycle : List (List ℕ)) (some : 0 < length cycl
   -- a sure run begins at the start that follows a named one
   run_at_next : (i : ℕ) → i < length starts → HasSureRun s p.id w.lines w.repeat item (next_start n starts i)
   run_at_next i inside =
-      cond_both (nat_lt (i + 1) (length starts)) (pos (get_or starts (i + 1) 0)) (pos (get_or starts 0 0) +ℤ pos n) (HasSureRun s p.id w.lines w.repeat item)
+      cond_both (nat_lt (i + 1) (length starts)) (pos (get_or starts (i + 1) 0)) (pos (get_or starts 0 0) +ℤ pos n)
+      (HasSureRun s p.id w.lines w.repeat item)
       (λ e. (start_at (i + 1) (grind (arith, nat_tests))).1)
       (λ e. (laws.move s (pos n) (laws.again cycle some)).run p.id w.lines w.repeat item (pos (get_or starts 0 0)) (start_at 0 (omega arith)).1)
 
@@ -94,16 +95,19 @@ module _ (laws : DecidingLaws) (cycle : List (List ℕ)) (some : 0 < length cycl
       end : ℤ
       end = (late.owner +ℤ pos (limit w)) +ℤ pos 1
 
-      after : (x : IsSent s p.id w.lines w.repeat item (late.owner +ℤ pos 1) ((late.owner +ℤ pos 1) +ℤ pos (limit w))) → pos (get_or starts i 0) <ℤ x.first
+      after : (x : IsSent s p.id w.lines w.repeat item (late.owner +ℤ pos 1) ((late.owner +ℤ pos 1) +ℤ pos (limit w))) →
+          pos (get_or starts i 0) <ℤ x.first
       after x = elim (cases_ltz (pos (get_or starts i 0)) x.first) as (λ _. pos (get_or starts i 0) <ℤ x.first) [
         | inl lt ↦ lt
         | inr ge ↦ elim (cases_ltz x.first (pos (get_or starts i 0))) as (λ _. pos (get_or starts i 0) <ℤ x.first) [
           | inl lt ↦
-              let q : x.owner ≤ℤ late.owner = laws.owners_rise s p.id item item x.owner late.owner x.first (pos (get_or starts i 0)) lt x.owned late.owned in
+              let q : x.owner ≤ℤ late.owner = laws.owners_rise s p.id item item x.owner late.owner x.first (pos (get_or starts i 0)) lt
+              x.owned late.owned in
               let b = x.not_before in absurd (omega (arith, ints))
           | inr le ↦
               let e : x.first ≡ pos (get_or starts i 0) = omega (arith, ints) in
-              let q : x.owner ≡ late.owner = laws.one_owner s p.id item x.owner late.owner (pos (get_or starts i 0)) (subst (IsOwned s p.id item x.owner) e x.owned) late.owned in
+              let q : x.owner ≡ late.owner = laws.one_owner s p.id item x.owner late.owner (pos (get_or starts i 0))
+              (subst (IsOwned s p.id item x.owner) e x.owned) late.owned in
               let b = x.not_before in absurd (omega (arith, ints))
         ]
       ]
@@ -111,10 +115,12 @@ module _ (laws : DecidingLaws) (cycle : List (List ℕ)) (some : 0 < length cycl
       none : IsSent s p.id w.lines w.repeat item (late.owner +ℤ pos 1) ((late.owner +ℤ pos 1) +ℤ pos (limit w)) → ⊥
       none x =
           let next = next_start n starts i in
-          let le : next ≤ℤ x.first = next_at_most n starts rising i late.within (λ j lt. (start_at j lt).0) x.first (after x) (named_at x.first (sure_of _ _ x)) in
+          let le : next ≤ℤ x.first = next_at_most n starts rising i late.within (λ j lt. (start_at j lt).0) x.first (after x)
+          (named_at x.first (sure_of _ _ x)) in
           let e : (late.owner +ℤ pos 1) +ℤ pos (limit w) ≡ end = omega (arith, ints) in
           let ends = subst (λ z. AllByRecursion (λ j. j <ℤ z) (x.first ∷ x.rest)) e x.ends in
-          late.late (ends_to s p.id w.lines w.repeat item (suc k) len next end (elim (cases_ltz next x.first) as (λ _. EndsBelow s p.id w.repeat item next end) [
+          late.late (ends_to s p.id w.lines w.repeat item (suc k) len next end
+          (elim (cases_ltz next x.first) as (λ _. EndsBelow s p.id w.repeat item next end) [
             | inl lt ↦
                 let run = run_at_next i late.within in
                 record {
@@ -159,7 +165,8 @@ module _ (laws : DecidingLaws) (cycle : List (List ℕ)) (some : 0 < length cycl
   pub covered_if : 0 < length starts → late_one ≡ None → IsCovered cycle p w item
   covered_if one e = (laws.decided cycle some p w item k len rising).0 (record { some_named = one; all_confirmed = all_confirmed one; none_late = e })
 
-  pub late_if : 0 < length starts → (a : ℕ) → late_one ≡ Some a → (i : ℕ) × (a ≡ get_or starts i 0) × IsLate (IsOwned s p.id item) n (suc k) (limit w) starts i
+  pub late_if : 0 < length starts → (a : ℕ) → late_one ≡ Some a → (i : ℕ) × (a ≡ get_or starts i 0)
+      × IsLate (IsOwned s p.id item) n (suc k) (limit w) starts i
   late_if one a e =
       let f = laws.firsts cycle some p w item k len rising in
       let late = subst (IsFirst (IsLate (IsOwned s p.id item) n (suc k) (limit w) starts) starts) e (f.2 (all_confirmed one) one) in

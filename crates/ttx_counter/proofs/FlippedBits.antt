@@ -28,4 +28,5 @@ flip bit b some few lt =
     let m : ℕ = bit - 1 in
     let e : suc m ≡ bit = omega arith in
     subst (λ k. IsFlip b (flipped k b)) e
-    (good_at m b (agree_below_at (good m) (λ _. true) 256 b (agree_below_at (λ m. agree_below (good m) (λ _. true) 256) (λ _. true) 8 m all_good (omega arith)) lt))
+    (good_at m b (agree_below_at (good m) (λ _. true) 256 b
+    (agree_below_at (λ m. agree_below (good m) (λ _. true) 256) (λ _. true) 8 m all_good (omega arith)) lt))

@@ -79,7 +79,8 @@ unfolding sorted_below
 sorted_rises xs zero = λ i j lt inside. absurd (omega arith)
 sorted_rises xs (suc n) =
     cond_both (list_any (λ x. x == n) xs) (sorted_below xs n ++ n ∷ []) (sorted_below xs n) Rising
-    (λ e. rising_more (sorted_below xs n) n (sorted_rises xs n) (λ j lt. (sorted_has xs n (get_or (sorted_below xs n) j 0) (Contains-get_or (sorted_below xs n) j 0 lt)).0))
+    (λ e. rising_more (sorted_below xs n) n (sorted_rises xs n)
+    (λ j lt. (sorted_has xs n (get_or (sorted_below xs n) j 0) (Contains-get_or (sorted_below xs n) j 0 lt)).0))
     (λ e. sorted_rises xs n)
 
 pub fullest_names_all : SureStartsAreFound → FullestNamesAll

@@ -32,7 +32,8 @@ one_of P Q (j ∷ list) R a f (inl h) = inl (f j a.0 h)
 one_of P Q (j ∷ list) R a f (inr h) = inr (one_of P Q list R a.1 f h)
 
 -- one slot
-module _ (keys : List ℕ) (each : (i : ℕ) → i < length keys → IsKey (key_at keys i)) (n : ℕ) (sent received : List ℕ) (slot : IsSlot sent) (by : IsHitBy keys n sent received) where
+module _ (keys : List ℕ) (each : (i : ℕ) → i < length keys → IsKey (key_at keys i)) (n : ℕ) (sent received : List ℕ)
+    (slot : IsSlot sent) (by : IsHitBy keys n sent received) where
   hit_byte : (x : ℕ) → x < 256 → is_hit keys x n ≡ true → IsFlip (get_or sent x 0) (get_or received x 0)
   hit_byte x lt h =
       let w = hit_index keys n x lt h in
@@ -60,7 +61,9 @@ module _ (keys : List ℕ) (each : (i : ℕ) → i < length keys → IsKey (key_
   pub may_be : EachByteIsNearItself → (is_empty sent ≡ true → (x : ℕ) → x < 256 → is_hit keys x n ≡ false) → MayBeReceivedAs sent received
   may_be itself none = record {
     slot = is_slot;
-    empty = λ e. subst (λ l. is_empty l ≡ true) (sym (same_number_lists received sent by.size (λ x lt. right_byte x (none e x (let a = by.size in let b = slot.size in omega arith))))) e;
+    empty = λ e. subst (λ l. is_empty l ≡ true)
+        (sym (same_number_lists received sent by.size
+        (λ x lt. right_byte x (none e x (let a = by.size in let b = slot.size in omega arith))))) e;
     near = λ x lt. inr (elim (cases_Bool (is_hit keys x n)) as (λ _. Near (get_or sent x 0) (get_or received x 0)) [
       | inl h ↦ (hit_byte x (omega arith) h).near
       | inr h ↦ subst (Near (get_or sent x 0)) (sym (right_byte x h)) (itself (get_or sent x 0))
@@ -68,20 +71,23 @@ module _ (keys : List ℕ) (each : (i : ℕ) → i < length keys → IsKey (key_
   }
 
   pub only_one : (other : List ℕ) → IsHitBy keys n sent other → received ≡ other
-  only_one other o = same_number_lists received other (by.size ∙ sym o.size) (λ x lt. elim (cases_Bool (is_hit keys x n)) as (λ _. get_or received x 0 ≡ get_or other x 0) [
-    | inl h ↦
-        let small : x < 256 = let a = by.size in let b = slot.size in omega arith in
-        let w = hit_index keys n x small h in
-        subst (λ y. get_or received y 0 ≡ get_or other y 0) w.3 (by.hit w.0 w.1 w.2 ∙ sym (o.hit w.0 w.1 w.2))
-    | inr h ↦ right_byte x h ∙ sym (o.other x (λ i lt e f. both_ways _ h (index_hit keys n x i lt e f)))
-  ])
+  only_one other o = same_number_lists received other (by.size ∙ sym o.size)
+      (λ x lt. elim (cases_Bool (is_hit keys x n)) as (λ _. get_or received x 0 ≡ get_or other x 0) [
+        | inl h ↦
+            let small : x < 256 = let a = by.size in let b = slot.size in omega arith in
+            let w = hit_index keys n x small h in
+            subst (λ y. get_or received y 0 ≡ get_or other y 0) w.3 (by.hit w.0 w.1 w.2 ∙ sym (o.hit w.0 w.1 w.2))
+        | inr h ↦ right_byte x h ∙ sym (o.other x (λ i lt e f. both_ways _ h (index_hit keys n x i lt e f)))
+      ])
 
 -- the slots of a run
-module _ (s : Stream) (slot : (j : ℤ) → IsSlot (s j)) (page : Id) (start slots k : ℕ) (keys : List ℕ) (each : (i : ℕ) → i < length keys → IsKey (key_at keys i)) where
+module _ (s : Stream) (slot : (j : ℤ) → IsSlot (s j)) (page : Id) (start slots k : ℕ) (keys : List ℕ)
+    (each : (i : ℕ) → i < length keys → IsKey (key_at keys i)) where
   abbrev Heard : List (List ℕ) → Type 0
   Heard rs = (i : ℕ) → i < slots → IsHitBy keys i (s (pos start +ℤ pos i)) (get_or rs i [])
 
-  pub received : EachByteIsNearItself → ((i : ℕ) → i < length keys → is_empty (s (pos start +ℤ pos (slot_in (key_at keys i)))) ≡ false) → (rs : List (List ℕ)) → length rs ≡ slots → Heard rs →
+  pub received : EachByteIsNearItself → ((i : ℕ) → i < length keys → is_empty (s (pos start +ℤ pos (slot_in (key_at keys i)))) ≡ false)
+      → (rs : List (List ℕ)) → length rs ≡ slots → Heard rs →
       KeepsRule s page start slots k keys → Received s page k (pos start) rs
   received itself full rs count heard rule = record {
     each = λ n lt.
@@ -95,14 +101,16 @@ module _ (s : Stream) (slot : (j : ℤ) → IsSlot (s j)) (page : Id) (start slo
           index = r.index;
           place = r.place;
           right = subst (λ y. get_or (get_or rs r.index []) x 0 ≡ get_or (s y) x 0) (sym r.place)
-              (right_byte keys each r.index (s (pos start +ℤ pos r.index)) (get_or rs r.index []) (slot (pos start +ℤ pos r.index)) (heard r.index r.below) x r.told);
+              (right_byte keys each r.index (s (pos start +ℤ pos r.index)) (get_or rs r.index []) (slot (pos start +ℤ pos r.index))
+              (heard r.index r.below) x r.told);
         })
         (rule item x text list len succ within);
   }
     where
       not_hit : (n x : ℕ) → x < 256 → is_empty (s (pos start +ℤ pos n)) ≡ true → is_hit keys x n ≡ false
       not_hit n x small e = elim (cases_Bool (is_hit keys x n)) as (λ _. is_hit keys x n ≡ false) [
-        | inl h ↦ let w = hit_index keys n x small h in absurd (both_ways _ (subst (λ m. is_empty (s (pos start +ℤ pos m)) ≡ false) w.2 (full w.0 w.1)) e)
+        | inl h ↦ let w = hit_index keys n x small h
+            in absurd (both_ways _ (subst (λ m. is_empty (s (pos start +ℤ pos m)) ≡ false) w.2 (full w.0 w.1)) e)
         | inr h ↦ h
       ]
 
@@ -116,7 +124,8 @@ module _ (s : Stream) (slot : (j : ℤ) → IsSlot (s j)) (page : Id) (start slo
         index = w.index;
         below = below;
         place = at;
-        told = wrong_byte keys each w.index (s (pos start +ℤ pos w.index)) (get_or rs w.index []) (slot (pos start +ℤ pos w.index)) (heard w.index below) x (let l = text_low item x text in omega arith)
+        told = wrong_byte keys each w.index (s (pos start +ℤ pos w.index)) (get_or rs w.index []) (slot (pos start +ℤ pos w.index))
+            (heard w.index below) x (let l = text_low item x text in omega arith)
             (subst (λ y. get_or (get_or rs w.index []) x 0 ≡ get_or (s y) x 0) at w.right);
       })
       (r.one_right item x text list len succ (subst (λ m. AllByRecursion (IsInside (pos start) m) list) (sym count) inside))

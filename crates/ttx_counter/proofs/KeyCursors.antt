@@ -26,7 +26,8 @@ any_index p (x ∷ xs) h = elim (cases_Bool (p x)) as (λ _. (i : ℕ) × (i < l
 ]
 
 module _ (keys : List ℕ) where
-  pub hit_index : (n x : ℕ) → x < 256 → is_hit keys x n ≡ true → (i : ℕ) × (i < length keys) × (slot_in (key_at keys i) ≡ n) × (byte_in (key_at keys i) ≡ x)
+  pub hit_index : (n x : ℕ) → x < 256 → is_hit keys x n ≡ true → (i : ℕ) × (i < length keys) × (slot_in (key_at keys i) ≡ n)
+      × (byte_in (key_at keys i) ≡ x)
   unfolding is_hit
   hit_index n x lt h =
       let w = any_index (λ key. byte_place key == n * 256 + x) keys h in
@@ -41,7 +42,8 @@ module _ (keys : List ℕ) where
   cursor_begins = record { within = omega arith; before = λ i lt. absurd (omega arith); after = λ i a b. omega arith }
 
   -- no byte of a slot stands twice
-  pub own_bytes : AreHitOnce keys → (n from to : ℕ) → AreSlotKeys keys n from to → (i j : ℕ) → from ≤ i → i < j → j < to → byte_in (key_at keys i) ≡ byte_in (key_at keys j) → ⊥
+  pub own_bytes : AreHitOnce keys → (n from to : ℕ) → AreSlotKeys keys n from to → (i j : ℕ) → from ≤ i → i < j → j < to →
+      byte_in (key_at keys i) ≡ byte_in (key_at keys j) → ⊥
   own_bytes apart n from to s i j low lt high e =
       let a = s.own i low (omega arith) in let b = s.own j (omega arith) high in
       apart i j lt (let w = s.within in omega arith) (omega (arith, parts (key_at keys i), parts (key_at keys j)))
@@ -59,12 +61,15 @@ module _ (keys : List ℕ) where
         let here = c.after to up (omega arith) in
         let not_n = s.ended (omega arith) in
         let rise = slot_rises to i le lt in
-        elim (cases_lt n (slot_in (key_at keys to))) as (λ _. n + 1 ≤ slot_in (key_at keys i)) [ inl h ↦ omega arith | inr h ↦ absurd (not_n (omega arith)) ]
+        elim (cases_lt n (slot_in (key_at keys to))) as
+        (λ _. n + 1 ≤ slot_in (key_at keys i)) [ inl h ↦ omega arith | inr h ↦ absurd (not_n (omega arith)) ]
 
     pub cursor_next : IsCursor keys (n + 1) to
     cursor_next = record {
       within = s.within;
-      before = λ i lt. elim (cases_lt i from) as (λ _. slot_in (key_at keys i) < n + 1) [ inl h ↦ (let b = c.before i h in omega arith) | inr h ↦ (let b = s.own i h lt in omega arith) ];
+      before = λ i lt. elim (cases_lt i from) as
+          (λ _. slot_in (key_at keys i) < n + 1)
+          [ inl h ↦ (let b = c.before i h in omega arith) | inr h ↦ (let b = s.own i h lt in omega arith) ];
       after = later;
     }
 

@@ -15,7 +15,12 @@ right : (start slots x : ℕ) (j : ℤ) → IsInside (pos start) slots j → IsR
 right start slots x j inside =
     let from = inside.0 in
     let to = inside.1 in
-    record { index = nat_abs (j -ℤ pos start); below = omega (arith, ints, from, to); place = omega (arith, ints, from); told = none x (nat_abs (j -ℤ pos start)) }
+    record {
+      index = nat_abs (j -ℤ pos start);
+      below = omega (arith, ints, from, to);
+      place = omega (arith, ints, from);
+      told = none x (nat_abs (j -ℤ pos start));
+    }
 
 pub kept : (s : Stream) (page : Id) (start slots k : ℕ) (keys : List ℕ) → 1 ≤ k → length keys ≡ 0 → KeepsRule s page start slots k keys
 kept s page start slots k (key ∷ keys) some none item x text list count successive inside = absurd (omega arith)

@@ -28,7 +28,8 @@ left : (b c : Bool) (x m : Memory) → b ≡ false → IsAlike m (if b && c then
 left true c x m h = absurd (both_ways _ h refl)
 left false c x m h = same m
 
-by_kind : (lines : ℕ) (sel : Selection) (m : Memory) (packet : Packet) → heads_matched sel packet ≡ false → (is_under (selected_mag sel) packet && m.storing) ≡ false → IsAlike m (after Any lines sel false (older m) packet)
+by_kind : (lines : ℕ) (sel : Selection) (m : Memory) (packet : Packet) → heads_matched sel packet ≡ false →
+    (is_under (selected_mag sel) packet && m.storing) ≡ false → IsAlike m (after Any lines sel false (older m) packet)
 by_kind lines sel m (Header id control text) h k = rw h (other (id.mag == selected_mag sel) (c11 control))
   where
     other : (a b : Bool) → IsAlike m (if a then with_storing (older m) false else (if b && false then with_storing (older m) false else older m))
@@ -42,11 +43,13 @@ by_kind lines sel m Unreadable h k = same m
 by_kind lines sel m Info h k = same m
 by_kind lines sel m Other h k = same m
 
-pub untaken : (lines : ℕ) (sel : Selection) (m : Memory) (packet : Packet) → takes_from sel m packet ≡ false → IsAlike m (after Any lines sel false (older m) packet)
+pub untaken : (lines : ℕ) (sel : Selection) (m : Memory) (packet : Packet) → takes_from sel m packet ≡ false →
+    IsAlike m (after Any lines sel false (older m) packet)
 untaken lines sel m packet h = by_kind lines sel m packet ((or_parts (heads_matched sel packet) _ h).0) ((or_parts (heads_matched sel packet) _ h).1)
 
 -- so its View is the same
-pub unseen : ContentsDecide → (lines : ℕ) (sel : Selection) (m new : Memory) (packet : Packet) → takes_from sel m packet ≡ false → new ≡ after Any lines sel false (older m) packet → view_of new ≡ view_of m
+pub unseen : ContentsDecide → (lines : ℕ) (sel : Selection) (m new : Memory) (packet : Packet) → takes_from sel m packet ≡ false → new
+    ≡ after Any lines sel false (older m) packet → view_of new ≡ view_of m
 unseen law lines sel m new packet h e = let a = untaken lines sel m packet h in ap view_of e ∙ law _ m a.rows a.control a.links
 
 -- the packet of a slot by its kind

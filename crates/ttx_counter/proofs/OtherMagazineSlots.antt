@@ -15,8 +15,10 @@ use Rattle.ttx_counter.specs.Sources.{is_under, takes_from}
 
 -- a header of another magazine isn't matched
 unmatched : (sel : Selection) (packet : Packet) → (magazine_in packet ≡ selected_mag sel → ⊥) → heads_matched sel packet ≡ false
-unmatched (Exact page) (Header id control text) ne = let e : (page.mag == id.mag) ≡ false = ne_eqb page.mag id.mag (λ e. ne (sym e)) in ap (λ b. b && (page.page == id.page) && (page.sub == id.sub)) e
-unmatched (AnySub mag page) (Header id control text) ne = let e : (mag == id.mag) ≡ false = ne_eqb mag id.mag (λ e. ne (sym e)) in ap (λ b. b && (page == id.page)) e
+unmatched (Exact page) (Header id control text) ne = let e : (page.mag == id.mag) ≡ false = ne_eqb page.mag id.mag (λ e. ne (sym e))
+    in ap (λ b. b && (page.page == id.page) && (page.sub == id.sub)) e
+unmatched (AnySub mag page) (Header id control text) ne = let e : (mag == id.mag) ≡ false = ne_eqb mag id.mag (λ e. ne (sym e))
+    in ap (λ b. b && (page == id.page)) e
 unmatched sel Empty ne = refl
 unmatched sel Unreadable ne = refl
 unmatched sel (Row mag number text) ne = refl
@@ -37,10 +39,12 @@ not_of sel Other ne = refl
 pub not_taken : (sel : Selection) (m : Memory) (packet : Packet) → (magazine_in packet ≡ selected_mag sel → ⊥) → takes_from sel m packet ≡ false
 not_taken sel m packet ne = rw (unmatched sel packet ne) (rw (not_of sel packet ne) refl)
 
-stays : (lines : ℕ) (sel : Selection) (m : Memory) (packet : Packet) → (magazine_in packet ≡ selected_mag sel → ⊥) → after Any lines sel false m packet ≡ m
+stays : (lines : ℕ) (sel : Selection) (m : Memory) (packet : Packet) → (magazine_in packet ≡ selected_mag sel → ⊥) →
+    after Any lines sel false m packet ≡ m
 stays lines sel m (Header id control text) ne =
     ap (λ b. if b then begun (if erases Any false m control then erased m else m) control text
-    else (if id.mag == selected_mag sel then with_storing m false else (if c11 control && false then with_storing m false else m))) (unmatched sel (Header id control text) ne)
+    else (if id.mag == selected_mag sel then with_storing m false else (if c11 control && false then with_storing m false else m)))
+    (unmatched sel (Header id control text) ne)
     ∙ ap (λ b. if b then with_storing m false else (if c11 control && false then with_storing m false else m)) (ne_eqb id.mag (selected_mag sel) ne)
     ∙ no_end (c11 control)
   where

@@ -35,7 +35,8 @@ each_code (x ∷ row) low = (low 0, each_code row (λ c. low (suc c)))
 characters : (row rest : List ℕ) → AreCodes row → characters_in (length row) (row ++ rest) ≡ row
 unfolding characters_in
 characters [] rest low = refl
-characters (x ∷ row) rest low = let e : at_most 127 x ≡ x = omega (arith, low.0) in ap (λ y. y ∷ characters_in (length row) (row ++ rest)) e ∙ ap (λ r. x ∷ r) (characters row rest low.1)
+characters (x ∷ row) rest low = let e : at_most 127 x ≡ x = omega (arith, low.0)
+    in ap (λ y. y ∷ characters_in (length row) (row ++ rest)) e ∙ ap (λ r. x ∷ r) (characters row rest low.1)
 
 abbrev pub AreRows : List (List ℕ) → Type 0
 AreRows [] = Unit {0}
@@ -172,7 +173,8 @@ module _ (c : CounterRun) (is : IsCounterFields c) (are : AreHits c.hits) where
   after_links : drop 18 (drop 14 ns) ≡ joined m.rows ++ behind
   after_links =
       let e : length (links_numbers m.links.six) ≡ 18 = links_length m.links.six ∙ omega (arith, is.six) in
-      subst (λ n. drop n (links_numbers m.links.six ++ (joined m.rows ++ behind)) ≡ joined m.rows ++ behind) e (drop-append_seam (links_numbers m.links.six) (joined m.rows ++ behind))
+      subst (λ n. drop n (links_numbers m.links.six ++ (joined m.rows ++ behind)) ≡ joined m.rows ++ behind) e
+      (drop-append_seam (links_numbers m.links.six) (joined m.rows ++ behind))
 
   after_rows : numbers_behind ns ≡ behind
   after_rows =
@@ -180,10 +182,12 @@ module _ (c : CounterRun) (is : IsCounterFields c) (are : AreHits c.hits) where
       ap (drop 1000) after_links ∙ subst (λ n. drop n (joined m.rows ++ behind) ≡ behind) e (drop-append_seam (joined m.rows) behind)
 
   six_is : read_links 6 (drop 14 ns) ≡ m.links.six
-  six_is = subst (λ n. read_links n (links_numbers m.links.six ++ (joined m.rows ++ behind)) ≡ m.links.six) is.six (links m.links.six (joined m.rows ++ behind) is.links)
+  six_is = subst (λ n. read_links n (links_numbers m.links.six ++ (joined m.rows ++ behind)) ≡ m.links.six) is.six
+      (links m.links.six (joined m.rows ++ behind) is.links)
 
   rows_are : read_rows 25 (drop 18 (drop 14 ns)) ≡ m.rows
-  rows_are = ap (read_rows 25) after_links ∙ subst (λ n. read_rows n (joined m.rows ++ behind) ≡ m.rows) is.former.row_count (rows m.rows behind of_rows)
+  rows_are = ap (read_rows 25) after_links ∙ subst (λ n. read_rows n (joined m.rows ++ behind) ≡ m.rows) is.former.row_count
+      (rows m.rows behind of_rows)
 
   memory_is : memory_in ns ≡ m
   memory_is =
@@ -196,7 +200,8 @@ module _ (c : CounterRun) (is : IsCounterFields c) (are : AreHits c.hits) where
 
   hits_are : hits_after (drop (slice_index (numbers_behind ns) 0) (drop 1 (numbers_behind ns))) ≡ c.hits
   hits_are =
-      ap (λ xs. hits_after (drop (slice_index xs 0) (drop 1 xs))) after_rows ∙ ap hits_after (drop_bits c.choices (length c.hits ∷ (hits_numbers c.hits ++ [])))
+      ap (λ xs. hits_after (drop (slice_index xs 0) (drop 1 xs))) after_rows
+      ∙ ap hits_after (drop_bits c.choices (length c.hits ∷ (hits_numbers c.hits ++ [])))
       ∙ hits c.hits [] are
 
   same : counter_in ns ≡ c

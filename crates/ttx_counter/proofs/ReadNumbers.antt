@@ -20,9 +20,11 @@ AreSmall (n ∷ ns) = (n < 2 ^ 32) × AreSmall ns
 a_digit : (d : ℕ) → d < 10 → is_digit (48 + d) ≡ true
 a_digit d small = grind (arith, nat_tests)
 
-step : (begun : Option ℕ) (d : ℕ) (rest : List ℕ) → d < 10 → numbers_after begun ((48 + d) ∷ rest) ≡ numbers_after (Some (digit_after begun (48 + d))) rest
+step : (begun : Option ℕ) (d : ℕ) (rest : List ℕ) → d < 10 → numbers_after begun ((48 + d) ∷ rest)
+    ≡ numbers_after (Some (digit_after begun (48 + d))) rest
 unfolding numbers_after
-step begun d rest small = cond-true (is_digit (48 + d)) (numbers_after (Some (digit_after begun (48 + d))) rest) (closed begun (numbers_after None rest)) (a_digit d small)
+step begun d rest small = cond-true (is_digit (48 + d)) (numbers_after (Some (digit_after begun (48 + d))) rest)
+    (closed begun (numbers_after None rest)) (a_digit d small)
 
 first_digit : (m : ℕ) → m < 10 → (48 + m) - 48 ≡ at_most 4294967295 m
 first_digit m small = omega arith
@@ -57,7 +59,8 @@ unfolding numbers_after
 numbers [] rest small = refl
 numbers (n ∷ []) rest small = ap line_numbers (append_assoc (decimal n) [] (10 ∷ rest)) ∙ ended n 10 rest small.0 refl
 numbers (n ∷ m ∷ ns) rest small =
-    ap line_numbers (append_assoc (decimal n) (numbers_text (m ∷ ns)) (10 ∷ rest)) ∙ ended n 32 ((decimal m ++ numbers_text ns) ++ (10 ∷ rest)) small.0 refl
+    ap line_numbers (append_assoc (decimal n) (numbers_text (m ∷ ns)) (10 ∷ rest))
+    ∙ ended n 32 ((decimal m ++ numbers_text ns) ++ (10 ∷ rest)) small.0 refl
     ∙ ap (λ xs. n ∷ xs) (numbers (m ∷ ns) rest small.1)
 
 -- a word without digits says nothing
@@ -66,17 +69,22 @@ IsPlain key = (rest : List ℕ) → line_numbers (key ++ rest) ≡ line_numbers 
 
 line : (key ns rest : List ℕ) → IsPlain key → AreSmall ns → line_numbers (line_text key ns ++ rest) ≡ ns ++ line_numbers rest
 line key ns rest plain small =
-    ap line_numbers (append_assoc (key ++ numbers_text ns) (10 ∷ []) rest ∙ append_assoc key (numbers_text ns) (10 ∷ rest)) ∙ plain (numbers_text ns ++ (10 ∷ rest)) ∙ numbers ns rest small
+    ap line_numbers (append_assoc (key ++ numbers_text ns) (10 ∷ []) rest ∙ append_assoc key (numbers_text ns) (10 ∷ rest))
+    ∙ plain (numbers_text ns ++ (10 ∷ rest)) ∙ numbers ns rest small
 
 four : (a b c d rest : List ℕ) → a ++ b ++ c ++ d ++ rest ≡ a ++ (b ++ (c ++ (d ++ rest)))
 four a b c d rest = append_assoc (a ++ b ++ c) d rest ∙ append_assoc (a ++ b) c (d ++ rest) ∙ append_assoc a b (c ++ (d ++ rest))
 
-head : (c : CounterRun) (rest : List ℕ) → c.lines < 256 → c.repeat < 256 → c.deadline < 2 ^ 32 → line_numbers (head_lines c ++ rest) ≡ 1 ∷ c.lines ∷ c.repeat ∷ c.deadline ∷ line_numbers rest
+head : (c : CounterRun) (rest : List ℕ) → c.lines < 256 → c.repeat < 256 → c.deadline < 2 ^ 32 → line_numbers (head_lines c ++ rest) ≡ 1
+    ∷ c.lines ∷ c.repeat ∷ c.deadline ∷ line_numbers rest
 unfolding head_lines numbers_after
 head c rest l r d =
-    ap line_numbers (four title (line_text (codes "lines") (c.lines ∷ [])) (line_text (codes "repeat") (c.repeat ∷ [])) (line_text (codes "deadline") (c.deadline ∷ [])) rest)
+    ap line_numbers (four title (line_text (codes "lines") (c.lines ∷ [])) (line_text (codes "repeat") (c.repeat ∷ []))
+    (line_text (codes "deadline") (c.deadline ∷ [])) rest)
     ∙ ap (λ xs. 1 ∷ xs)
-    (line (codes "lines") (c.lines ∷ []) (line_text (codes "repeat") (c.repeat ∷ []) ++ (line_text (codes "deadline") (c.deadline ∷ []) ++ rest)) (λ t. refl) (omega arith, tt)
+    (line (codes "lines") (c.lines ∷ [])
+    (line_text (codes "repeat") (c.repeat ∷ []) ++ (line_text (codes "deadline") (c.deadline ∷ []) ++ rest)) (λ t. refl)
+    (omega arith, tt)
     ∙ ap (λ xs. c.lines ∷ xs)
     (line (codes "repeat") (c.repeat ∷ []) (line_text (codes "deadline") (c.deadline ∷ []) ++ rest) (λ t. refl) (omega arith, tt)
     ∙ ap (λ xs. c.repeat ∷ xs) (line (codes "deadline") (c.deadline ∷ []) rest (λ t. refl) (d, tt))))
@@ -85,7 +93,8 @@ bit_small : (b : Bool) → yes_as_one b < 2 ^ 32
 bit_small true = omega arith
 bit_small false = omega arith
 
-tuning : (c : CounterRun) (rest : List ℕ) → c.page < 2 ^ 32 → c.start < 2 ^ 32 → c.slots < 2 ^ 32 → line_numbers (tuning_text c ++ rest) ≡ c.page ∷ yes_as_one c.any_sub ∷ c.start ∷ c.slots ∷ line_numbers rest
+tuning : (c : CounterRun) (rest : List ℕ) → c.page < 2 ^ 32 → c.start < 2 ^ 32 → c.slots < 2 ^ 32 → line_numbers (tuning_text c ++ rest)
+    ≡ c.page ∷ yes_as_one c.any_sub ∷ c.start ∷ c.slots ∷ line_numbers rest
 unfolding tuning_text numbers_after
 tuning c rest p s n =
     let la = line_text (codes "page") (c.page ∷ []) in
@@ -97,9 +106,11 @@ tuning c rest p s n =
     ∙ ap (λ xs. c.page ∷ xs)
     (line (codes "any-subpage") (yes_as_one c.any_sub ∷ []) (lc ++ (ld ++ rest)) (λ t. refl) (bit_small c.any_sub, tt)
     ∙ ap (λ xs. yes_as_one c.any_sub ∷ xs)
-    (line (codes "start") (c.start ∷ []) (ld ++ rest) (λ t. refl) (s, tt) ∙ ap (λ xs. c.start ∷ xs) (line (codes "slots") (c.slots ∷ []) rest (λ t. refl) (n, tt))))
+    (line (codes "start") (c.start ∷ []) (ld ++ rest) (λ t. refl) (s, tt)
+    ∙ ap (λ xs. c.start ∷ xs) (line (codes "slots") (c.slots ∷ []) rest (λ t. refl) (n, tt))))
 
-state : (m : Memory) (rest : List ℕ) → m.control < 2048 → m.age ≤ 64 → line_numbers (state_text m ++ rest) ≡ m.control ∷ yes_as_one m.storing ∷ m.age ∷ yes_as_one m.fresh ∷ line_numbers rest
+state : (m : Memory) (rest : List ℕ) → m.control < 2048 → m.age ≤ 64 → line_numbers (state_text m ++ rest) ≡ m.control
+    ∷ yes_as_one m.storing ∷ m.age ∷ yes_as_one m.fresh ∷ line_numbers rest
 unfolding state_text numbers_after
 state m rest c a =
     let la = line_text (codes "control") (m.control ∷ []) in
@@ -111,19 +122,24 @@ state m rest c a =
     ∙ ap (λ xs. m.control ∷ xs)
     (line (codes "storing") (yes_as_one m.storing ∷ []) (lc ++ (ld ++ rest)) (λ t. refl) (bit_small m.storing, tt)
     ∙ ap (λ xs. yes_as_one m.storing ∷ xs)
-    (line (codes "age") (m.age ∷ []) (ld ++ rest) (λ t. refl) (omega arith, tt) ∙ ap (λ xs. m.age ∷ xs) (line (codes "fresh") (yes_as_one m.fresh ∷ []) rest (λ t. refl) (bit_small m.fresh, tt))))
+    (line (codes "age") (m.age ∷ []) (ld ++ rest) (λ t. refl) (omega arith, tt)
+    ∙ ap (λ xs. m.age ∷ xs) (line (codes "fresh") (yes_as_one m.fresh ∷ []) rest (λ t. refl) (bit_small m.fresh, tt))))
 
 -- the word `row-24` holds a number
-row_24 : (m : Memory) (rest : List ℕ) → line_numbers (line_text (codes "row-24") (yes_as_one m.links.show24 ∷ []) ++ rest) ≡ 24 ∷ yes_as_one m.links.show24 ∷ line_numbers rest
+row_24 : (m : Memory) (rest : List ℕ) → line_numbers (line_text (codes "row-24") (yes_as_one m.links.show24 ∷ []) ++ rest) ≡ 24
+    ∷ yes_as_one m.links.show24 ∷ line_numbers rest
 unfolding numbers_after
 row_24 m rest =
-    ap line_numbers (append_assoc (codes "row-24" ++ numbers_text (yes_as_one m.links.show24 ∷ [])) (10 ∷ []) rest ∙ append_assoc (codes "row-24") (numbers_text (yes_as_one m.links.show24 ∷ [])) (10 ∷ rest))
+    ap line_numbers (append_assoc (codes "row-24" ++ numbers_text (yes_as_one m.links.show24 ∷ [])) (10 ∷ []) rest
+    ∙ append_assoc (codes "row-24") (numbers_text (yes_as_one m.links.show24 ∷ [])) (10 ∷ rest))
     ∙ ap (λ xs. 24 ∷ xs) (numbers (yes_as_one m.links.show24 ∷ []) rest (bit_small m.links.show24, tt))
 
-links : (m : Memory) (rest : List ℕ) → AreSmall (links_numbers m.links.six) → line_numbers (links_lines m ++ rest) ≡ 24 ∷ yes_as_one m.links.show24 ∷ (links_numbers m.links.six ++ line_numbers rest)
+links : (m : Memory) (rest : List ℕ) → AreSmall (links_numbers m.links.six) → line_numbers (links_lines m ++ rest) ≡ 24
+    ∷ yes_as_one m.links.show24 ∷ (links_numbers m.links.six ++ line_numbers rest)
 unfolding links_lines numbers_after
 links m rest small =
-    ap line_numbers (append_assoc (line_text (codes "row-24") (yes_as_one m.links.show24 ∷ [])) (line_text (codes "links") (links_numbers m.links.six)) rest)
+    ap line_numbers (append_assoc (line_text (codes "row-24") (yes_as_one m.links.show24 ∷ []))
+    (line_text (codes "links") (links_numbers m.links.six)) rest)
     ∙ row_24 m (line_text (codes "links") (links_numbers m.links.six) ++ rest)
     ∙ ap (λ xs. 24 ∷ yes_as_one m.links.show24 ∷ xs) (line (codes "links") (links_numbers m.links.six) rest (λ t. refl) small)
 
@@ -151,7 +167,8 @@ hits_plain t = refl
 rows : (rs : List (List ℕ)) (rest : List ℕ) → EachSmall rs → line_numbers (row_lines rs ++ rest) ≡ joined rs ++ line_numbers rest
 rows [] rest small = refl
 rows (row ∷ rs) rest small =
-    ap line_numbers (append_assoc (line_text (codes "row") row) (row_lines rs) rest) ∙ line (codes "row") row (row_lines rs ++ rest) row_plain small.0 ∙ ap (λ xs. row ++ xs) (rows rs rest small.1)
+    ap line_numbers (append_assoc (line_text (codes "row") row) (row_lines rs) rest)
+    ∙ line (codes "row") row (row_lines rs ++ rest) row_plain small.0 ∙ ap (λ xs. row ++ xs) (rows rs rest small.1)
     ∙ sym (append_assoc row (joined rs) (line_numbers rest))
 
 bits_small : (cs : List Bool) → AreSmall (bits cs)
@@ -161,14 +178,17 @@ bits_small (b ∷ cs) = (bit_small b, bits_small cs)
 choices : (cs : List Bool) (rest : List ℕ) → length cs < 2 ^ 32 → line_numbers (choices_text cs ++ rest) ≡ length cs ∷ (bits cs ++ line_numbers rest)
 choices cs rest few = line (codes "choices") (length cs ∷ bits cs) rest choices_plain (few, bits_small cs)
 
-hits : (hs : List Hit) (rest : List ℕ) → length hs < 2 ^ 32 → AreSmall (hits_numbers hs) → line_numbers (hits_text hs ++ rest) ≡ length hs ∷ (hits_numbers hs ++ line_numbers rest)
+hits : (hs : List Hit) (rest : List ℕ) → length hs < 2 ^ 32 → AreSmall (hits_numbers hs) → line_numbers (hits_text hs ++ rest)
+    ≡ length hs ∷ (hits_numbers hs ++ line_numbers rest)
 hits hs rest few small = line (codes "hits") (length hs ∷ hits_numbers hs) rest hits_plain (few, small)
 
 -- what the numbers of a counter-run's text are
 abbrev pub numbers_of : CounterRun → List ℕ
 numbers_of c =
-    1 ∷ c.lines ∷ c.repeat ∷ c.deadline ∷ c.page ∷ yes_as_one c.any_sub ∷ c.start ∷ c.slots ∷ c.former.control ∷ yes_as_one c.former.storing ∷ c.former.age ∷ yes_as_one c.former.fresh ∷ 24 ∷ yes_as_one c.former.links.show24
-    ∷ (links_numbers c.former.links.six ++ (joined c.former.rows ++ (length c.choices ∷ (bits c.choices ++ (length c.hits ∷ (hits_numbers c.hits ++ []))))))
+    1 ∷ c.lines ∷ c.repeat ∷ c.deadline ∷ c.page ∷ yes_as_one c.any_sub ∷ c.start ∷ c.slots ∷ c.former.control
+    ∷ yes_as_one c.former.storing ∷ c.former.age ∷ yes_as_one c.former.fresh ∷ 24 ∷ yes_as_one c.former.links.show24
+    ∷ (links_numbers c.former.links.six ++
+    (joined c.former.rows ++ (length c.choices ∷ (bits c.choices ++ (length c.hits ∷ (hits_numbers c.hits ++ []))))))
 
 pub record AreAllSmall (c : CounterRun) : Type 0 where
   pub lines : c.lines < 256
@@ -200,17 +220,21 @@ whole c is =
     tail = choices_text c.choices ++ hits_text c.hits
 
     before : List ℕ → List ℕ
-    before xs = c.former.control ∷ yes_as_one c.former.storing ∷ c.former.age ∷ yes_as_one c.former.fresh ∷ 24 ∷ yes_as_one c.former.links.show24 ∷ (links_numbers c.former.links.six ++ (joined c.former.rows ++ xs))
+    before xs = c.former.control ∷ yes_as_one c.former.storing ∷ c.former.age ∷ yes_as_one c.former.fresh ∷ 24
+        ∷ yes_as_one c.former.links.show24 ∷ (links_numbers c.former.links.six ++ (joined c.former.rows ++ xs))
 
     memory : line_numbers (memory_text c.former ++ tail) ≡ before (line_numbers tail)
     memory =
-        ap line_numbers (append_assoc (state_text c.former ++ links_lines c.former) (row_lines c.former.rows) tail ∙ append_assoc (state_text c.former) (links_lines c.former) (row_lines c.former.rows ++ tail))
+        ap line_numbers (append_assoc (state_text c.former ++ links_lines c.former) (row_lines c.former.rows) tail
+        ∙ append_assoc (state_text c.former) (links_lines c.former) (row_lines c.former.rows ++ tail))
         ∙ state c.former _ is.control is.age
         ∙ ap (λ xs. c.former.control ∷ yes_as_one c.former.storing ∷ c.former.age ∷ yes_as_one c.former.fresh ∷ xs)
-        (links c.former _ is.links ∙ ap (λ xs. 24 ∷ yes_as_one c.former.links.show24 ∷ (links_numbers c.former.links.six ++ xs)) (rows c.former.rows tail is.rows))
+        (links c.former _ is.links ∙ ap (λ xs. 24 ∷ yes_as_one c.former.links.show24 ∷ (links_numbers c.former.links.six ++ xs))
+        (rows c.former.rows tail is.rows))
 
     hits_only : line_numbers (hits_text c.hits) ≡ length c.hits ∷ (hits_numbers c.hits ++ [])
-    hits_only = sym (ap line_numbers (append-nil (hits_text c.hits))) ∙ hits c.hits [] is.hits is.places ∙ ap (λ xs. length c.hits ∷ (hits_numbers c.hits ++ xs)) nothing
+    hits_only = sym (ap line_numbers (append-nil (hits_text c.hits))) ∙ hits c.hits [] is.hits is.places
+        ∙ ap (λ xs. length c.hits ∷ (hits_numbers c.hits ++ xs)) nothing
 
     behind : line_numbers tail ≡ length c.choices ∷ (bits c.choices ++ (length c.hits ∷ (hits_numbers c.hits ++ [])))
     behind = choices c.choices (hits_text c.hits) is.choices ∙ ap (λ xs. length c.choices ∷ (bits c.choices ++ xs)) hits_only

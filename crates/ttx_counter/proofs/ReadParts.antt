@@ -1,14 +1,12 @@
 -- Parts of a counter-run from numbers, place by place.
 use Rattle.std.proofs.Common.{◌≡◌, ℕ, zero, suc, ◌+◌, ◌-◌, ◌*◌, ◌<◌, ◌≤◌, ◌==◌, Bool, List, [], ◌∷◌, ◌++◌, length, take, drop, get_or, Option, Some}
-use Rattle.std.proofs.Common.{None, if◌then◌else◌, refl, sym, ap, ◌∙◌, subst, arith, ext_get_or, length-drop, append-nil, append_assoc, eqb-true}
-use Rattle.std.proofs.Common.{eq-eqb}
+use Rattle.std.proofs.Common.{None, refl, sym, ap, ◌∙◌, subst, arith, ext_get_or, length-drop, append-nil, append_assoc}
 use Rattle.std.specs.Prelude.{slice_index}
-use Rattle.std.proofs.lemmas.Bool.{cond_both, cond-true}
 use Rattle.ttx_page.specs.Pages.{IsRow}
 use Rattle.ttx_page.specs.Memories.{IsMemory, memory_at}
 use Rattle.ttx_links.specs.Sets.{LinkSet}
 use Rattle.ttx_counter.specs.Counters.{Hit}
-use Rattle.ttx_counter.specs.CounterReading.{at_most, closed, characters_in, read_rows, hit_of, hits_in, line_of}
+use Rattle.ttx_counter.specs.CounterReading.{at_most, closed, characters_in, read_rows, hit_of, hits_in}
 
 -- a number that has ended stands before the others
 pub closed_more : (begun : Option ℕ) (xs : List ℕ) → closed begun xs ≡ closed begun [] ++ xs
@@ -29,9 +27,11 @@ character_at (suc n) [] (suc k) lt = character_at n [] k (omega arith)
 character_at (suc n) (x ∷ ns) zero lt = refl
 character_at (suc n) (x ∷ ns) (suc k) lt = character_at n ns k (omega arith)
 
-pub characters_are : (n : ℕ) (ns row : List ℕ) → length row ≡ n → ((k : ℕ) → k < n → get_or row k 0 ≡ at_most 127 (slice_index ns k)) → row ≡ characters_in n ns
+pub characters_are : (n : ℕ) (ns row : List ℕ) → length row ≡ n → ((k : ℕ) → k < n → get_or row k 0 ≡ at_most 127 (slice_index ns k)) →
+    row ≡ characters_in n ns
 characters_are n ns row long each =
-    ext_get_or 0 row (characters_in n ns) (long ∙ sym (characters_length n ns)) (λ k lt. each k (omega arith) ∙ sym (character_at n ns k (omega arith)))
+    ext_get_or 0 row (characters_in n ns) (long ∙ sym (characters_length n ns))
+    (λ k lt. each k (omega arith) ∙ sym (character_at n ns k (omega arith)))
 
 drop_none : (n : ℕ) → drop {A = ℕ} n [] ≡ []
 drop_none zero = refl
@@ -55,7 +55,8 @@ row_at (suc n) ns (suc k) lt =
     let e : 40 + 40 * k ≡ 40 * suc k = omega arith in
     row_at n (drop 40 ns) k (omega arith) ∙ ap (characters_in 40) (sym (drop_more 40 (40 * k) ns) ∙ ap (λ n. drop n ns) e)
 
-pub rows_are : (n : ℕ) (ns : List ℕ) (rows : List (List ℕ)) → length rows ≡ n → ((k : ℕ) → k < n → get_or rows k [] ≡ characters_in 40 (drop (40 * k) ns)) → rows ≡ read_rows n ns
+pub rows_are : (n : ℕ) (ns : List ℕ) (rows : List (List ℕ)) → length rows ≡ n →
+    ((k : ℕ) → k < n → get_or rows k [] ≡ characters_in 40 (drop (40 * k) ns)) → rows ≡ read_rows n ns
 rows_are n ns rows long each =
     ext_get_or [] rows (read_rows n ns) (long ∙ sym (rows_length n ns)) (λ k lt. each k (omega arith) ∙ sym (row_at n ns k (omega arith)))
 
@@ -71,7 +72,8 @@ is_row : (ns : List ℕ) → IsRow (characters_in 40 ns)
 is_row ns = record { length = characters_length 40 ns; codes = low 40 ns }
 
 -- parts that make a memory
-pub memory_fits : (rows : List (List ℕ)) (ns : List ℕ) (control age n : ℕ) (links : LinkSet) (storing fresh : Bool) → rows ≡ read_rows 25 ns → control ≡ at_most 2047 n → age ≤ 64 →
+pub memory_fits : (rows : List (List ℕ)) (ns : List ℕ) (control age n : ℕ) (links : LinkSet) (storing fresh : Bool) → rows
+    ≡ read_rows 25 ns → control ≡ at_most 2047 n → age ≤ 64 →
     IsMemory (memory_at rows control links storing age fresh)
 memory_fits rows ns control age n links storing fresh made low young = record {
   row_count = ap length made ∙ rows_length 25 ns;
@@ -88,31 +90,13 @@ too_few (suc n) (a ∷ []) lt = refl
 too_few (suc n) (a ∷ b ∷ []) lt = refl
 too_few (suc n) (a ∷ b ∷ c ∷ ns) lt = absurd (omega arith)
 
-pub one_more : (n : ℕ) (ns : List ℕ) → 3 ≤ length ns → hits_in (suc n) ns ≡ hit_of (slice_index ns 0) (slice_index ns 1) (slice_index ns 2) ∷ hits_in n (drop 3 ns)
+pub one_more : (n : ℕ) (ns : List ℕ) → 3 ≤ length ns → hits_in (suc n) ns
+    ≡ hit_of (slice_index ns 0) (slice_index ns 1) (slice_index ns 2) ∷ hits_in n (drop 3 ns)
 unfolding hits_in
 one_more n [] le = absurd (omega arith)
 one_more n (a ∷ []) le = absurd (omega arith)
 one_more n (a ∷ b ∷ []) le = absurd (omega arith)
 one_more n (a ∷ b ∷ c ∷ ns) le = refl
-
-line_of_first : (n : ℕ) (xs ys : List ℕ) → length xs ≡ 0 → line_of n xs ys ≡ n
-unfolding line_of
-line_of_first n [] ys e = refl
-line_of_first n (x ∷ xs) ys e = absurd (omega arith)
-
-line_of_none : (n : ℕ) (xs ys : List ℕ) → length ys ≡ 0 → line_of n xs ys ≡ n
-unfolding line_of
-line_of_none n [] ys e = refl
-line_of_none n (x ∷ xs) [] e = refl
-line_of_none n (x ∷ xs) (y ∷ ys) e = absurd (omega arith)
-
-line_of_other : (n x y : ℕ) (text own : List ℕ) → (x ≡ y → ⊥) → line_of n (x ∷ text) (y ∷ own) ≡ n
-unfolding line_of
-line_of_other n x y text own ne = cond_both (x == y) _ n (λ z. z ≡ n) (λ e. absurd (ne (eqb-true x y e))) (λ _. refl)
-
-line_of_same : (n x y : ℕ) (text own : List ℕ) → x ≡ y → line_of n (x ∷ text) (y ∷ own) ≡ line_of (if x == 10 then n + 1 else n) text own
-unfolding line_of
-line_of_same n x y text own e = cond-true (x == y) _ n (eq-eqb x y e)
 
 no_hits : (n : ℕ) (ns : List ℕ) → n ≡ 0 → hits_in n ns ≡ []
 unfolding hits_in
@@ -126,48 +110,27 @@ hits_begin count ns done is =
     let k : 3 * 0 ≡ 0 = omega arith in
     sym (ap (λ d. d ++ hits_in (count - 0) (drop (3 * 0) ns)) is ∙ ap (λ n. hits_in n (drop (3 * 0) ns)) e ∙ ap (λ n. hits_in count (drop n ns)) k)
 
-pub hits_end : (count i : ℕ) (ns rest : List ℕ) (done : List Hit) → hits_in count ns ≡ done ++ hits_in (count - i) (drop (3 * i) ns) → rest ≡ drop (3 * i) ns → length rest < 3 → done ≡ hits_in count ns
+pub hits_end : (count i : ℕ) (ns rest : List ℕ) (done : List Hit) → hits_in count ns ≡ done ++ hits_in (count - i) (drop (3 * i) ns) →
+    rest ≡ drop (3 * i) ns → length rest < 3 → done ≡ hits_in count ns
 hits_end count i ns rest done is e few =
     sym (is ∙ ap (λ r. done ++ hits_in (count - i) r) (sym e) ∙ ap (λ h. done ++ h) (too_few (count - i) rest few) ∙ append-nil done)
 
-pub hits_all : (count i : ℕ) (ns : List ℕ) (done : List Hit) → count ≤ i → hits_in count ns ≡ done ++ hits_in (count - i) (drop (3 * i) ns) → done ≡ hits_in count ns
+pub hits_all : (count i : ℕ) (ns : List ℕ) (done : List Hit) → count ≤ i → hits_in count ns ≡ done
+    ++ hits_in (count - i) (drop (3 * i) ns) → done ≡ hits_in count ns
 hits_all count i ns done le is = sym (is ∙ ap (λ h. done ++ h) (no_hits (count - i) (drop (3 * i) ns) (omega arith)) ∙ append-nil done)
 
-pub hits_step : (count i : ℕ) (ns rest : List ℕ) (done : List Hit) (h : Hit) → i < count → hits_in count ns ≡ done ++ hits_in (count - i) (drop (3 * i) ns) → rest ≡ drop (3 * i) ns → 3 ≤ length rest →
-    h ≡ hit_of (slice_index rest 0) (slice_index rest 1) (slice_index rest 2) → hits_in count ns ≡ (done ++ h ∷ []) ++ hits_in (count - (i + 1)) (drop (3 * (i + 1)) ns)
+pub hits_step : (count i : ℕ) (ns rest : List ℕ) (done : List Hit) (h : Hit) → i < count → hits_in count ns ≡ done
+    ++ hits_in (count - i) (drop (3 * i) ns) → rest ≡ drop (3 * i) ns → 3 ≤ length rest →
+    h ≡ hit_of (slice_index rest 0) (slice_index rest 1) (slice_index rest 2) → hits_in count ns ≡ (done ++ h ∷ [])
+    ++ hits_in (count - (i + 1)) (drop (3 * (i + 1)) ns)
 hits_step count i ns rest done h lt is e le hit =
     let k : ℕ = count - (i + 1) in
     let one : count - i ≡ suc k = omega arith in
     let far : 3 * i + 3 ≡ 3 * (i + 1) = omega arith in
     let next : drop 3 rest ≡ drop (3 * (i + 1)) ns = ap (drop 3) e ∙ sym (drop_more (3 * i) 3 ns) ∙ ap (λ n. drop n ns) far in
     is ∙ ap (λ n. done ++ hits_in n (drop (3 * i) ns)) one ∙ ap (λ r. done ++ hits_in (suc k) r) (sym e) ∙ ap (λ x. done ++ x) (one_more k rest le)
-    ∙ ap (λ x. done ++ (x ∷ hits_in k (drop 3 rest))) (sym hit) ∙ ap (λ r. done ++ (h ∷ hits_in k r)) next ∙ sym (append_assoc done (h ∷ []) (hits_in k (drop (3 * (i + 1)) ns)))
-
--- lines, byte by byte
-pub line_done : (n i : ℕ) (text own : List ℕ) → length text ≤ i → line_of n (drop i text) own ≡ n
-line_done n i text own le = line_of_first n (drop i text) own (length-drop i text ∙ omega arith)
-
-pub line_ended : (n i : ℕ) (text own : List ℕ) → length own ≤ i → line_of n (drop i text) (drop i own) ≡ n
-line_ended n i text own le = line_of_none n (drop i text) (drop i own) (length-drop i own ∙ omega arith)
-
-pub line_differs : (n i : ℕ) (text own : List ℕ) → i < length text → i < length own → (slice_index text i ≡ slice_index own i → ⊥) → line_of n (drop i text) (drop i own) ≡ n
-line_differs n zero (x ∷ text) (y ∷ own) lt lo ne = line_of_other n x y text own ne
-line_differs n zero [] own lt lo ne = absurd (omega arith)
-line_differs n zero (x ∷ text) [] lt lo ne = absurd (omega arith)
-line_differs n (suc i) (x ∷ text) (y ∷ own) lt lo ne = line_differs n i text own (omega arith) (omega arith) ne
-line_differs n (suc i) [] own lt lo ne = absurd (omega arith)
-line_differs n (suc i) (x ∷ text) [] lt lo ne = absurd (omega arith)
-
-pub line_same : (n i : ℕ) (text own : List ℕ) → i < length text → i < length own → slice_index text i ≡ slice_index own i →
-    line_of n (drop i text) (drop i own) ≡ line_of (if slice_index text i == 10 then n + 1 else n) (drop (i + 1) text) (drop (i + 1) own)
-line_same n zero (x ∷ text) (y ∷ own) lt lo e = line_of_same n x y text own e
-line_same n zero [] own lt lo e = absurd (omega arith)
-line_same n zero (x ∷ text) [] lt lo e = absurd (omega arith)
-line_same n (suc i) (x ∷ text) (y ∷ own) lt lo e =
-    let k : suc i + 1 ≡ suc (i + 1) = omega arith in
-    line_same n i text own (omega arith) (omega arith) e ∙ ap (λ j. line_of (if slice_index text i == 10 then n + 1 else n) (drop j (x ∷ text)) (drop j (y ∷ own))) (sym k)
-line_same n (suc i) [] own lt lo e = absurd (omega arith)
-line_same n (suc i) (x ∷ text) [] lt lo e = absurd (omega arith)
+    ∙ ap (λ x. done ++ (x ∷ hits_in k (drop 3 rest))) (sym hit) ∙ ap (λ r. done ++ (h ∷ hits_in k r)) next
+    ∙ sym (append_assoc done (h ∷ []) (hits_in k (drop (3 * (i + 1)) ns)))
 
 pub all_of : (n : ℕ) (xs : List ℕ) → length xs ≤ n → take n xs ≡ xs
 all_of n [] le = nothing n

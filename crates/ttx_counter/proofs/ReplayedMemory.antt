@@ -24,10 +24,12 @@ left s keys p c m old new h is e = record {
   received = h.received;
   count = h.count;
   each = h.each;
-  memory = e ∙ ap (λ r. r.tuned.memory) h.reached ∙ script_memory old h.received ∙ ap (λ (o : Script). scripted Any o.tuned.lines o.tuned.selection o.choices o.tuned.memory h.received) is;
+  memory = e ∙ ap (λ r. r.tuned.memory) h.reached ∙ script_memory old h.received
+      ∙ ap (λ (o : Script). scripted Any o.tuned.lines o.tuned.selection o.choices o.tuned.memory h.received) is;
 }
 
-module _ (cycle : List (List ℕ)) (pages : List Page) (c : CounterRun) (keys : List ℕ) (is : IsCounterRun cycle pages c) (same : IsPermutation (map hit_key c.hits) keys) where
+module _ (cycle : List (List ℕ)) (pages : List Page) (c : CounterRun) (keys : List ℕ) (is : IsCounterRun cycle pages c)
+    (same : IsPermutation (map hit_key c.hits) keys) where
   pub apart : AreHitOnce keys
   apart = apart_to (repeated cycle) c.start c.slots c.hits keys is.hits.each same is.hits.once
 
@@ -37,11 +39,13 @@ module _ (cycle : List (List ℕ)) (pages : List Page) (c : CounterRun) (keys : 
   heard : (i : ℕ) → i < c.slots → IsHitBy keys i (repeated cycle (pos c.start +ℤ pos i)) (get_or is.received i [])
   heard i lt = hits_to (repeated cycle) c.start c.slots c.hits keys is.hits.each same i _ _ (is.with_hits.each i lt)
 
-  pub replayed : EachSlotTurns → IsCycle cycle → (p : Page) (m : Memory) → slice_get pages c.page ≡ Some p → IsLeft (repeated cycle) keys p c m → IsReplayed cycle pages c m
+  pub replayed : EachSlotTurns → IsCycle cycle → (p : Page) (m : Memory) → slice_get pages c.page ≡ Some p →
+      IsLeft (repeated cycle) keys p c m → IsReplayed cycle pages c m
   replayed turns is_cycle p m here l =
       let q : p ≡ is.page = same_page pages c.page p is.page here is.here in
       let rs : l.received ≡ is.received =
-      E.only_list (repeated cycle) (slots_are turns cycle is_cycle) p.id c.start c.slots c.repeat keys each l.received is.received l.count is.with_hits.count l.each heard in
+      E.only_list (repeated cycle) (slots_are turns cycle is_cycle) p.id c.start c.slots c.repeat keys each l.received is.received
+      l.count is.with_hits.count l.each heard in
       record {
         is = is;
         memory = l.memory ∙ ap (λ x. scripted Any c.lines (selection_for c.any_sub x.id) c.choices c.former l.received) q

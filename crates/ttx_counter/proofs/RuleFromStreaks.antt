@@ -23,7 +23,8 @@ use Rattle.ttx_counter.proofs.KeyCursors.{hit_here, not_hit}
 
 -- what one slot tells
 pub tells : (keys : List ℕ) → IsNonDecreasing keys → (n from to : ℕ) → IsCursor keys n from → AreSlotKeys keys n from to →
-    (page : Id) (s : Stream) (tau : ℤ) (mine : Bool) (row : Option ℕ) → row ≡ row_from page s tau mine n → TellsSlot (sends_row page s tau mine) (is_hit keys) row keys from to n
+    (page : Id) (s : Stream) (tau : ℤ) (mine : Bool) (row : Option ℕ) → row ≡ row_from page s tau mine n →
+    TellsSlot (sends_row page s tau mine) (is_hit keys) row keys from to n
 tells keys sorted n from to c a page s tau mine row e = record {
   sent_is = λ r lt. ap (is_row r) (sym e);
   hit = λ i low high. hit_here keys sorted n from to c a i low high;
@@ -40,16 +41,19 @@ text_head x a b = grind (arith, nat_tests)
 text_row : (r x : ℕ) → 2 ≤ x → x < 42 → is_text (suc r) x ≡ true
 text_row r x a b = grind (arith, nat_tests)
 
-module _ (law : RowsAreNumbered) (decide : StreaksDecide) (s : Stream) (page : Id) (start slots k : ℕ) (some : 1 ≤ k) (keys : List ℕ) (mine : Bool) (known : IsMine s page (pos start) mine) where
+module _ (law : RowsAreNumbered) (decide : StreaksDecide) (s : Stream) (page : Id) (start slots k : ℕ) (some : 1 ≤ k) (keys : List ℕ)
+    (mine : Bool) (known : IsMine s page (pos start) mine) where
   abbrev pub sent : ℕ → ℕ → Bool
   sent = sends_row page s (pos start) mine
 
   told : (r : ℕ) → IsSentAmong s page (item_of r) (pos start) slots (sent r)
-  told r i lt = sent_right s page (pos start +ℤ pos i) (mine_from page s (pos start) mine i) (mine_right s page (pos start) mine known i) (numbered law (s (pos start +ℤ pos i))) r
+  told r i lt = sent_right s page (pos start +ℤ pos i) (mine_from page s (pos start) mine i)
+      (mine_right s page (pos start) mine known i) (numbered law (s (pos start +ℤ pos i))) r
 
   -- no packet carries a row that has no number
   carries_number : (r : ℕ) (p : Packet) → IsNumbered p → carries page.mag (TheRow r) p ≡ true → (1 ≤ r) × (r ≤ 24)
-  carries_number r (Row m number text) a h = let e : number ≡ r = eqb-true number r (use_and (m == page.mag) (number == r) h) in (let b = a.0 in omega arith, let b = a.1 in omega arith)
+  carries_number r (Row m number text) a h = let e : number ≡ r = eqb-true number r (use_and (m == page.mag) (number == r) h)
+      in (let b = a.0 in omega arith, let b = a.1 in omega arith)
     where
       use_and : (a b : Bool) → (a && b) ≡ true → b ≡ true
       use_and true b h = h
@@ -67,9 +71,11 @@ module _ (law : RowsAreNumbered) (decide : StreaksDecide) (s : Stream) (page : I
   first item (j ∷ i ∷ list) len a = (j, a.0)
 
   module _ (latest : List ℕ) (cells : List Streak) (a : AreStreaks sent (is_hit keys) k slots latest cells) where
-    row_keeps : (r x : ℕ) → r < 25 → is_text r x ≡ true → (list : List ℤ) → length list ≡ k → AreSuccessive s page (item_of r) list → AllByRecursion (IsInside (pos start) slots) list →
+    row_keeps : (r x : ℕ) → r < 25 → is_text r x ≡ true → (list : List ℤ) → length list ≡ k → AreSuccessive s page (item_of r) list →
+        AllByRecursion (IsInside (pos start) slots) list →
         OneIs (IsRightAmong (pos start) slots (is_hit keys x)) list
-    row_keeps r x lt text = (decide s page (item_of r) (pos start) (sent r) (is_hit keys x) k slots some (told r)).0 (λ m le. a.below r x m lt text le)
+    row_keeps r x lt text = (decide s page (item_of r) (pos start) (sent r) (is_hit keys x) k slots some (told r)).0
+        (λ m le. a.below r x m lt text le)
 
     pub keeps : KeepsRule s page start slots k keys
     keeps TheHead x text list len succ inside = row_keeps 0 x (omega arith) (text_head x text.0 text.1) list len succ inside
@@ -84,9 +90,12 @@ module _ (law : RowsAreNumbered) (decide : StreaksDecide) (s : Stream) (page : I
 
   pub breaks : (n : ℕ) → n ≤ slots → IsBroken sent (is_hit keys) k n → KeepsRule s page start slots k keys → ⊥
   breaks n le b rule =
-      let low = (decide s page (item_of b.row) (pos start) (sent b.row) (is_hit keys b.byte) k slots some (told b.row)).1 (rule (item_of b.row) b.byte (text_of b.row b.byte b.text)) n le in
+      let low = (decide s page (item_of b.row) (pos start) (sent b.row) (is_hit keys b.byte) k slots some (told b.row)).1
+      (rule (item_of b.row) b.byte (text_of b.row b.byte b.text)) n le in
       absurd (let h = b.long in omega arith)
 
-pub row_is : (page : Id) (s : Stream) (tau : ℤ) (mine now : Bool) (n : ℕ) (slot : List ℕ) (row : Option ℕ) → now ≡ mine_from page s tau mine n → s (tau +ℤ pos n) ≡ slot → row ≡ row_sent page (packet_of slot) now →
+pub row_is : (page : Id) (s : Stream) (tau : ℤ) (mine now : Bool) (n : ℕ) (slot : List ℕ) (row : Option ℕ) → now
+    ≡ mine_from page s tau mine n → s (tau +ℤ pos n) ≡ slot → row ≡ row_sent page (packet_of slot) now →
     row ≡ row_from page s tau mine n
-row_is page s tau mine now n slot row a b e = e ∙ ap (λ x. row_sent page (packet_of x) now) (sym b) ∙ ap (row_sent page (packet_of (s (tau +ℤ pos n)))) a
+row_is page s tau mine now n slot row a b e = e ∙ ap (λ x. row_sent page (packet_of x) now) (sym b)
+    ∙ ap (row_sent page (packet_of (s (tau +ℤ pos n)))) a

@@ -79,7 +79,8 @@ one_item TheLinks (TheRow r) i j e = let l = j.1 in absurd (omega arith)
 one_item TheLinks TheLinks i j e = refl
 
 module _ (cycle : List (List ℕ)) (pages : List Page) (w : Certificate) where
-  pub starved_to : StarvingIsCounterRun → (p : Page) (index : ℕ) → slice_get pages index ≡ Some p → IsCycle cycle → IsPage p → IsCertificate w → IsClean cycle → Steady (repeated cycle) pages p →
+  pub starved_to : StarvingIsCounterRun → (p : Page) (index : ℕ) → slice_get pages index ≡ Some p → IsCycle cycle → IsPage p →
+      IsCertificate w → IsClean cycle → Steady (repeated cycle) pages p →
       (item : Item) (start : ℕ) → TellsNeeded cycle p w item (Some start) → (l r d : ℕ) → l ≡ w.lines → r ≡ w.repeat → d ≡ w.deadline →
       (run : CounterRun) → run ≡ starving_run cycle index p item start l r d → IsCounterTo cycle pages w run
   starved_to law p index here is_cycle page is clean steady item start starved l r d el er ed run made = record {
@@ -90,7 +91,8 @@ module _ (cycle : List (List ℕ)) (pages : List Page) (w : Certificate) where
     deadline = ap (λ (x : CounterRun). x.deadline) made ∙ ed;
   }
 
-  pub named_for : (found : Certificate) (collected : Collected) → ArePrepared cycle pages w found collected → (index : ℕ) (p : Page) → slice_get pages index ≡ Some p →
+  pub named_for : (found : Certificate) (collected : Collected) → ArePrepared cycle pages w found collected → (index : ℕ) (p : Page) →
+      slice_get pages index ≡ Some p →
       (item : Item) → IsItem item → needed p item ≡ true → (starts : List ℕ) → starts ≡ found.starts p.id item →
       (start : ℕ) → Contains starts start ↔ IsSureStart cycle p.id w.lines w.repeat item start
   named_for found collected prepared index p here item is need starts e start =
@@ -99,7 +101,8 @@ module _ (cycle : List (List ℕ)) (pages : List Page) (w : Certificate) where
         (λ s. subst (λ xs. Contains xs start) (sym e) (n.1 (need, s))),
       )
 
-  pub needed_told : (index : ℕ) (p : Page) → slice_get pages index ≡ Some p → (item : Item) → needed p item ≡ true → (o : Option ℕ) → TellsStart cycle p w item o →
+  pub needed_told : (index : ℕ) (p : Page) → slice_get pages index ≡ Some p → (item : Item) → needed p item ≡ true → (o : Option ℕ) →
+      TellsStart cycle p w item o →
       (q : Page) → slice_get pages index ≡ Some q → TellsNeeded cycle q w item o
   needed_told index p here item need o told q at = subst (λ x. TellsNeeded cycle x w item o) (one_page pages index p q here at) (go o told)
     where
@@ -109,23 +112,29 @@ module _ (cycle : List (List ℕ)) (pages : List Page) (w : Certificate) where
 
   -- the items whose numbers are below n are covered
   abbrev pub CoveredTo : ℕ → ℕ → Type 0
-  CoveredTo index n = (p : Page) → slice_get pages index ≡ Some p → (item : Item) → IsItem item → item_number item < n → needed p item ≡ true → IsCovered cycle p (fullest cycle w) item
+  CoveredTo index n = (p : Page) → slice_get pages index ≡ Some p → (item : Item) → IsItem item → item_number item < n → needed p item
+      ≡ true → IsCovered cycle p (fullest cycle w) item
 
   pub covered_more : (index n : ℕ) → CoveredTo index n → (own : Item) → IsItem own → item_number own ≡ n → (o : Option ℕ) → o ≡ None →
       ((p : Page) → slice_get pages index ≡ Some p → TellsNeeded cycle p w own o) → CoveredTo index (n + 1)
-  covered_more index n before own is place o none told p here item is_item lt need = elim (cases_lt (item_number item) n) as (λ _. IsCovered cycle p (fullest cycle w) item) [
-    | inl less ↦ before p here item is_item less need
-    | inr ge ↦
-        let same : own ≡ item = one_item own item is is_item (omega arith) in
-        let t = subst (TellsNeeded cycle p w own) none (told p here) in
-        subst (λ x. needed p x ≡ true → IsCovered cycle p (fullest cycle w) x) same t need
-  ]
+  covered_more index n before own is place o none told p here item is_item lt need =
+      elim (cases_lt (item_number item) n) as (λ _. IsCovered cycle p (fullest cycle w) item) [
+        | inl less ↦ before p here item is_item less need
+        | inr ge ↦
+            let same : own ≡ item = one_item own item is is_item (omega arith) in
+            let t = subst (TellsNeeded cycle p w own) none (told p here) in
+            subst (λ x. needed p x ≡ true → IsCovered cycle p (fullest cycle w) x) same t need
+      ]
 
-  pub covered_all : (index : ℕ) → CoveredTo index 26 → (p : Page) → slice_get pages index ≡ Some p → (item : Item) → needed p item ≡ true → IsCovered cycle p (fullest cycle w) item
+  pub covered_all : (index : ℕ) → CoveredTo index 26 → (p : Page) → slice_get pages index ≡ Some p → (item : Item) → needed p item
+      ≡ true → IsCovered cycle p (fullest cycle w) item
   covered_all index before p here item need = let i = needed_item p item need in before p here item i (item_within item i) need
 
-  pub absent_to : AbsentPagesAreWrong → PlainRunsAreCounterRuns → IsCycle cycle → IsCertificate w → (p : Page) (index : ℕ) → slice_get pages index ≡ Some p → HasNoHeader (repeated cycle) p →
-      IsMemory (wrong_memory p TheLinks) → (run : CounterRun) → run ≡ plain_counter index false (wrong_memory p TheLinks) w.lines w.repeat w.deadline (limit w) → IsCounterTo cycle pages w run
+  pub absent_to : AbsentPagesAreWrong → PlainRunsAreCounterRuns → IsCycle cycle → IsCertificate w → (p : Page) (index : ℕ) →
+      slice_get pages index ≡ Some p → HasNoHeader (repeated cycle) p →
+      IsMemory (wrong_memory p TheLinks) → (run : CounterRun) → run
+      ≡ plain_counter index false (wrong_memory p TheLinks) w.lines w.repeat w.deadline (limit w) →
+      IsCounterTo cycle pages w run
   absent_to absent plain is_cycle is p index here none memory run made =
       let former = wrong_memory p TheLinks in
       plain_to cycle pages w index false former (limit w) run made
@@ -165,7 +174,8 @@ module _ (cycle : List (List ℕ)) (pages : List Page) (w : Certificate) where
     header_of (Some (LateBlank page item header)) f e = absurd f
 
   -- a page that is covered by all sure runs is covered by one certificate
-  pub covered_by_one : FullestNamesAll → IsCycle cycle → IsCertificate w → (p : Page) → ((item : Item) → needed p item ≡ true → IsCovered cycle p (fullest cycle w) item) → IsCoveredByOne cycle p w
+  pub covered_by_one : FullestNamesAll → IsCycle cycle → IsCertificate w → (p : Page) →
+      ((item : Item) → needed p item ≡ true → IsCovered cycle p (fullest cycle w) item) → IsCoveredByOne cycle p w
   covered_by_one names is_cycle is p covered = record {
     v = fullest cycle w;
     is = (names cycle is_cycle w is).0;
@@ -178,7 +188,8 @@ module _ (cycle : List (List ℕ)) (pages : List Page) (w : Certificate) where
 
   module _ (law : SteadyHasNoFault) (p : Page) (fault : Option Reason) (is : IsPageFault cycle pages p fault) (there : is_absent fault ≡ false) where
     -- a fault, or a slot that isn't clean: nothing is asked of its coverage
-    pub well_unless : (clean : Bool) → (clean ≡ true) ↔ IsClean cycle → (clean ≡ false) ⊎ (is_some fault ≡ true) → (q : Page) → p ≡ q → IsSentWell cycle pages q w
+    pub well_unless : (clean : Bool) → (clean ≡ true) ↔ IsClean cycle → (clean ≡ false) ⊎ (is_some fault ≡ true) → (q : Page) → p ≡ q →
+        IsSentWell cycle pages q w
     well_unless clean told why q same = subst (λ x. IsSentWell cycle pages x w) same (record {
       header = header_of p fault is there;
       covered = λ cl steady. absurd (elim why as (λ _. ⊥) [
@@ -194,8 +205,13 @@ module _ (cycle : List (List ℕ)) (pages : List Page) (w : Certificate) where
         no_fault None e = refl
         no_fault (Some r) e = cc
 
-    pub page_told : FullestNamesAll → IsCycle cycle → IsCertificate w → {C : Type 0} → (run : C → CounterRun) → (o : Option C) → (q : Page) → p ≡ q → TellsCovered run cycle pages q w o → TellsPage run cycle pages q w o
-    page_told names is_cycle is_w run None q same covered = record { header = subst (λ (x : Page). HasHeader (repeated cycle) x.id) same (header_of p fault is there); covered = λ _ _. covered_by_one names is_cycle is_w q covered }
+    pub page_told : FullestNamesAll → IsCycle cycle → IsCertificate w → {C : Type 0} → (run : C → CounterRun) → (o : Option C) →
+        (q : Page) → p ≡ q → TellsCovered run cycle pages q w o → TellsPage run cycle pages q w o
+    page_told names is_cycle is_w run None q same covered =
+        record {
+          header = subst (λ (x : Page). HasHeader (repeated cycle) x.id) same (header_of p fault is there);
+          covered = λ _ _. covered_by_one names is_cycle is_w q covered;
+        }
     page_told names is_cycle is_w run (Some c) q same to = to
 
   here_is : (xs : List Page) (i : ℕ) → i < length xs → (p : Page) × (slice_get xs i ≡ Some p)
@@ -208,11 +224,13 @@ module _ (cycle : List (List ℕ)) (pages : List Page) (w : Certificate) where
   SentTo index = (n : ℕ) (p : Page) → n < index → slice_get pages n ≡ Some p → IsSentWell cycle pages p w
 
   module _ {C : Type 0} (run : C → CounterRun) where
-    pub first_told : (index : ℕ) → index < length pages → (o : Option C) → is_some o ≡ true → ((p : Page) → slice_get pages index ≡ Some p → TellsPage run cycle pages p w o) → TellsPages run cycle pages w o
+    pub first_told : (index : ℕ) → index < length pages → (o : Option C) → is_some o ≡ true →
+        ((p : Page) → slice_get pages index ≡ Some p → TellsPage run cycle pages p w o) → TellsPages run cycle pages w o
     first_told index lt None e f = absurd (differ e)
     first_told index lt (Some c) e f = let h = here_is pages index lt in f h.0 h.1
 
-    pub sent_more : (index : ℕ) → SentTo index → (o : Option C) → is_some o ≡ false → ((p : Page) → slice_get pages index ≡ Some p → TellsPage run cycle pages p w o) → SentTo (index + 1)
+    pub sent_more : (index : ℕ) → SentTo index → (o : Option C) → is_some o ≡ false →
+        ((p : Page) → slice_get pages index ≡ Some p → TellsPage run cycle pages p w o) → SentTo (index + 1)
     sent_more index before (Some c) e f = absurd (differ_too e)
     sent_more index before None e f = λ n p lt here. elim (cases_lt n index) as (λ _. IsSentWell cycle pages p w) [
       | inl less ↦ before n p less here
@@ -223,17 +241,24 @@ module _ (cycle : List (List ℕ)) (pages : List Page) (w : Certificate) where
     counter_told None e t = absurd (differ e)
     counter_told (Some c) e t = t
 
-    pub both_told : (a : Option C) → is_some a ≡ false → TellsPages run cycle pages w a → (o : Option C) → TellsAllPlainly run cycle pages w o → TellsCounter run cycle pages w o
+    pub both_told : (a : Option C) → is_some a ≡ false → TellsPages run cycle pages w a → (o : Option C) →
+        TellsAllPlainly run cycle pages w o → TellsCounter run cycle pages w o
     both_told (Some c) e t o u = absurd (differ_too e)
     both_told None e t None u = record { sent = t; plain = u }
     both_told None e t (Some c) u = u
 
     -- where all is sent unchanged a counter-run is found exactly where no certificate of these numbers is accepted
-    pub exact_told : FullestNamesAll → FurtherStartsCover → RefutedIsNotAccepted → IsCycle cycle → ArePages pages → IsCertificate w → w.class ≡ Any → (o : Option C) → TellsCounter run cycle pages w o →
+    pub exact_told : FullestNamesAll → FurtherStartsCover → RefutedIsNotAccepted → IsCycle cycle → ArePages pages → IsCertificate w →
+        w.class ≡ Any → (o : Option C) → TellsCounter run cycle pages w o →
         IsSentUnchanged cycle pages → (is_some o ≡ true) ↔ (CanBeAccepted cycle pages Any w.lines w.repeat w.deadline → ⊥)
     exact_told names further refuted is_cycle are is any (Some c) t unchanged = (
       (λ _ can. refuted cycle pages (run c) can.w is_cycle are can.is t.is
-          (record { class = can.same_class; lines = can.same_lines ∙ sym t.lines; repeat = can.same_repeat ∙ sym t.repeat; deadline = can.same_deadline ∙ sym t.deadline }) can.accepted),
+          (record {
+            class = can.same_class;
+            lines = can.same_lines ∙ sym t.lines;
+            repeat = can.same_repeat ∙ sym t.repeat;
+            deadline = can.same_deadline ∙ sym t.deadline;
+          }) can.accepted),
       (λ _. refl),
     )
     exact_told names further refuted is_cycle are is any None t unchanged = (
@@ -259,7 +284,9 @@ module _ (cycle : List (List ℕ)) (pages : List Page) (w : Certificate) where
             let f = names cycle is_cycle w is in
             let covered = one.covered item need in
             further cycle p one.v (fullest cycle w) item one.same_lines one.same_repeat one.same_deadline
-            (λ start c. (f.1 p item start).1 (subst (λ l. IsSureStart cycle p.id l w.repeat item start) one.same_lines (subst (λ r. IsSureStart cycle p.id one.v.lines r item start) one.same_repeat (covered.sure start c))))
+            (λ start c. (f.1 p item start).1
+            (subst (λ l. IsSureStart cycle p.id l w.repeat item start) one.same_lines
+            (subst (λ r. IsSureStart cycle p.id one.v.lines r item start) one.same_repeat (covered.sure start c))))
             (λ start c. (f.1 p item start).0 c) covered
 
 pub are_pages : PagesKeepTheirRules → (pages : List PageValue) → ArePages (map page_of pages)

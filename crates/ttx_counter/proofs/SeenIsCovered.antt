@@ -44,7 +44,8 @@ pub record SeeingLaws : Type 0 where
   pub stays : StarvedStaysWrong
   pub unseen : StarvedIsUnseen
 
-pub steady_from : SeeingLaws → (cycle : List (List ℕ)) (pages : List Page) (p : Page) → IsCycle cycle → IsPage p → IsClean cycle → Steady (repeated cycle) pages p →
+pub steady_from : SeeingLaws → (cycle : List (List ℕ)) (pages : List Page) (p : Page) → IsCycle cycle → IsPage p → IsClean cycle →
+    Steady (repeated cycle) pages p →
     (tau : ℤ) → IsSteadyFrom (repeated cycle) p (Exact p.id) tau
 steady_from laws cycle pages p is_cycle page clean steady tau =
     let own = (laws.own (repeated cycle) pages p page).0 steady in
@@ -85,12 +86,14 @@ pub record OwnLaws : Type 0 where
   pub refutes : CounterIsUnseen
   pub names : FullestNamesAll
 
-module _ (laws : OwnLaws) (cycle : List (List ℕ)) (pages : List Page) (p : Page) (w : Certificate) (is_cycle : IsCycle cycle) (page : IsPage p) (is : IsCertificate w) (any : w.class ≡ Any)
+module _ (laws : OwnLaws) (cycle : List (List ℕ)) (pages : List Page) (p : Page) (w : Certificate) (is_cycle : IsCycle cycle)
+    (page : IsPage p) (is : IsCertificate w) (any : w.class ≡ Any)
     (clean : IsClean cycle) (steady : Steady (repeated cycle) pages p) (seen : Seen cycle pages p w) where
   pub fullest_covers : (item : Item) → needed p item ≡ true → IsCovered cycle p (fullest cycle w) item
   fullest_covers item need =
       let f = laws.names cycle is_cycle w is in
-      elim (laws.decide cycle is_cycle.some p (fullest cycle w) item f.0.some_repeats (f.0.rising p.id item) (f.1 p item)) as (λ _. IsCovered cycle p (fullest cycle w) item) [
+      elim (laws.decide cycle is_cycle.some p (fullest cycle w) item f.0.some_repeats (f.0.rising p.id item) (f.1 p item)) as
+      (λ _. IsCovered cycle p (fullest cycle w) item) [
         | inl c ↦ c
         | inr starves ↦ absurd (laws.refutes cycle pages p w (laws.counter cycle pages p w is_cycle page is any clean steady item need starves) seen)
       ]
@@ -107,7 +110,8 @@ seen_is_covered laws cycle pages p w is_cycle page is any clean steady seen = re
 }
 
 -- what is seen with some numbers is seen with the same numbers, whatever starts are named
-seen_same : (cycle : List (List ℕ)) (pages : List Page) (p : Page) (v w : Certificate) → v.class ≡ w.class → v.lines ≡ w.lines → v.repeat ≡ w.repeat → v.deadline ≡ w.deadline →
+seen_same : (cycle : List (List ℕ)) (pages : List Page) (p : Page) (v w : Certificate) → v.class ≡ w.class → v.lines ≡ w.lines →
+    v.repeat ≡ w.repeat → v.deadline ≡ w.deadline →
     Seen cycle pages p v → Seen cycle pages p w
 seen_same cycle pages p v w ec el er ed seen = record {
   shown = λ sel fits tau former m received is_former permitted long run.
@@ -129,7 +133,9 @@ seen_exactly_where_accepted laws headline cycle pages w is_cycle are_pages is an
     accepted = record {
       clean = unchanged.clean;
       steady = unchanged.steady;
-      covered = λ n p here item need. inl (fullest_covers laws cycle pages p w is_cycle (are_pages n p here) is any unchanged.clean (unchanged.steady n p here) (seen n p here) item need);
+      covered = λ n p here item need. inl
+          (fullest_covers laws cycle pages p w is_cycle (are_pages n p here) is any unchanged.clean (unchanged.steady n p here)
+          (seen n p here) item need);
     };
   }),
   (λ can n p here. seen_same cycle pages p can.w w can.same_class can.same_lines can.same_repeat can.same_deadline

@@ -57,7 +57,13 @@ module _ (s : Stream) (page : Id) where
   -- a header of the magazine
   here : (j : ℤ) → heads page.mag (pk j) ≡ true → (heads_page page (pk j) ≡ true) ↔ HasOwner s page (j +ℤ pos 1)
   here j is = (
-    (λ own. record { slot = j; latest = record { earlier = omega (arith, ints); is_header = is; none_between = λ i low high. absurd (omega (arith, ints)) }; own = own }),
+    (λ own. record {
+      slot = j;
+      latest = record
+          { earlier = omega (arith, ints); is_header = is; none_between = λ i low high. absurd (omega (arith, ints)) };
+      own =
+          own;
+    }),
     (λ o. by_lt_z o.slot j
         (λ lt. absurd (both_ways _ (o.latest.none_between j lt (omega (arith, ints))) is))
         (λ ge. let e : o.slot ≡ j = let a = o.latest.earlier in omega (arith, ints) in subst (λ x. heads_page page (pk x) ≡ true) e o.own)),
@@ -78,8 +84,18 @@ module _ (s : Stream) (page : Id) where
       own = o.own;
     }),
     (λ o. by_lt_z o.slot j
-        (λ lt. record { slot = o.slot; latest = record { earlier = lt; is_header = o.latest.is_header; none_between = λ i low high. o.latest.none_between i low (omega (arith, ints)) }; own = o.own })
-        (λ ge. let e : o.slot ≡ j = let a = o.latest.earlier in omega (arith, ints) in absurd (both_ways _ isnt (subst (λ x. heads page.mag (pk x) ≡ true) e o.latest.is_header)))),
+        (λ lt. record {
+          slot = o.slot;
+          latest = record {
+            earlier = lt;
+            is_header = o.latest.is_header;
+            none_between = λ i low high.
+                o.latest.none_between i low (omega (arith, ints));
+          };
+          own = o.own;
+        })
+        (λ ge. let e : o.slot ≡ j = let a = o.latest.earlier in omega (arith, ints)
+        in absurd (both_ways _ isnt (subst (λ x. heads page.mag (pk x) ≡ true) e o.latest.is_header)))),
   )
 
   mine_step : (j : ℤ) (mine : Bool) → IsMine j mine → IsMine (j +ℤ pos 1) (mine_after page (pk j) mine)
@@ -105,7 +121,8 @@ module _ (s : Stream) (page : Id) where
   scanned tau (suc n) =
       let j = tau +ℤ pos n in
       let e1 : (tau +ℤ pos n) +ℤ pos 1 ≡ tau +ℤ pos (suc n) = omega (arith, ints) in
-      elim (scanned tau n) as (λ _. IsNone tau (suc n) (mine_from page s tau false (suc n)) ⊎ IsMine (tau +ℤ pos (suc n)) (mine_from page s tau false (suc n))) [
+      elim (scanned tau n) as (λ _. IsNone tau (suc n) (mine_from page s tau false (suc n))
+      ⊎ IsMine (tau +ℤ pos (suc n)) (mine_from page s tau false (suc n))) [
         | inl w ↦ cond_both (heads page.mag (pk (tau +ℤ pos n))) _ _ (λ x. IsNone tau (suc n) x ⊎ IsMine (tau +ℤ pos (suc n)) x)
             (λ e. inr (subst (λ x. IsMine x (heads_page page (pk (tau +ℤ pos n)))) e1 (here (tau +ℤ pos n) e)))
             (λ e. inl (record {
@@ -136,19 +153,24 @@ module _ (s : Stream) (page : Id) where
   none_is r h = both_ways _ refl h
 
   sent_head : (mine : Bool) (p : Packet) → IsNumbered p → (is_row 0 (row_sent page p mine) ≡ true) ↔ (heads_page page p ≡ true)
-  sent_head mine (Header id control text) a = cond_both (same_id page id) _ _ (λ x. (is_row 0 x ≡ true) ↔ (same_id page id ≡ true)) (λ e. ((λ _. e), (λ _. refl))) (λ e. ((λ h. absurd (both_ways _ refl h)), (λ h. absurd (both_ways _ e h))))
+  sent_head mine (Header id control text) a = cond_both (same_id page id) _ _ (λ x. (is_row 0 x ≡ true) ↔ (same_id page id ≡ true))
+      (λ e. ((λ _. e), (λ _. refl))) (λ e. ((λ h. absurd (both_ways _ refl h)), (λ h. absurd (both_ways _ e h))))
   sent_head mine (Row mag number text) a = cond_both (mine && (mag == page.mag)) _ _ (λ x. (is_row 0 x ≡ true) ↔ (false ≡ true))
-      (λ e. ((λ h. absurd (let z = eqb-true number 0 h in let b = a.0 in omega arith)), (λ h. absurd (both_ways _ refl h)))) (λ e. ((λ h. h), (λ h. h)))
+      (λ e. ((λ h. absurd (let z = eqb-true number 0 h in let b = a.0 in omega arith)), (λ h. absurd (both_ways _ refl h))))
+      (λ e. ((λ h. h), (λ h. h)))
   sent_head mine Empty a = ((λ h. h), (λ h. h))
   sent_head mine Unreadable a = ((λ h. h), (λ h. h))
   sent_head mine (Links mag content) a = ((λ h. h), (λ h. h))
   sent_head mine Info a = ((λ h. h), (λ h. h))
   sent_head mine Other a = ((λ h. h), (λ h. h))
 
-  sent_row : (r : ℕ) (mine : Bool) (p : Packet) → (is_row (suc r) (row_sent page p mine) ≡ true) ↔ ((carries page.mag (TheRow (suc r)) p ≡ true) × (mine ≡ true))
+  sent_row : (r : ℕ) (mine : Bool) (p : Packet) → (is_row (suc r) (row_sent page p mine) ≡ true)
+      ↔ ((carries page.mag (TheRow (suc r)) p ≡ true) × (mine ≡ true))
   sent_row r mine (Header id control text) = cond_both (same_id page id) _ _ (λ x. (is_row (suc r) x ≡ true) ↔ ((false ≡ true) × (mine ≡ true)))
-      (λ e. ((λ h. absurd (let z = eqb-true 0 (suc r) h in omega arith)), (λ h. absurd (both_ways _ refl h.0)))) (λ e. ((λ h. absurd (both_ways _ refl h)), (λ h. absurd (both_ways _ refl h.0))))
-  sent_row r mine (Row mag number text) = cond_both (mine && (mag == page.mag)) _ _ (λ x. (is_row (suc r) x ≡ true) ↔ (((mag == page.mag) && (number == suc r) ≡ true) × (mine ≡ true)))
+      (λ e. ((λ h. absurd (let z = eqb-true 0 (suc r) h in omega arith)), (λ h. absurd (both_ways _ refl h.0))))
+      (λ e. ((λ h. absurd (both_ways _ refl h)), (λ h. absurd (both_ways _ refl h.0))))
+  sent_row r mine (Row mag number text) = cond_both (mine && (mag == page.mag)) _ _
+      (λ x. (is_row (suc r) x ≡ true) ↔ (((mag == page.mag) && (number == suc r) ≡ true) × (mine ≡ true)))
       (λ e. let b = and_parts _ _ e in ((λ h. (and_from _ _ b.1 h, b.0)), (λ h. (and_parts _ _ h.0).1)))
       (λ e. ((λ h. absurd (both_ways _ refl h)), (λ h. absurd (both_ways _ e (and_from _ _ h.1 (and_parts _ _ h.0).0)))))
   sent_row r mine Empty = ((λ h. absurd (both_ways _ refl h)), (λ h. absurd (both_ways _ refl h.0)))
@@ -157,7 +179,8 @@ module _ (s : Stream) (page : Id) where
   sent_row r mine Info = ((λ h. absurd (both_ways _ refl h)), (λ h. absurd (both_ways _ refl h.0)))
   sent_row r mine Other = ((λ h. absurd (both_ways _ refl h)), (λ h. absurd (both_ways _ refl h.0)))
 
-  pub sent_right : (j : ℤ) (mine : Bool) → IsMine j mine → IsNumbered (pk j) → (r : ℕ) → (is_row r (row_sent page (pk j) mine) ≡ true) ↔ IsTransmission s page (item_of r) j
+  pub sent_right : (j : ℤ) (mine : Bool) → IsMine j mine → IsNumbered (pk j) → (r : ℕ) → (is_row r (row_sent page (pk j) mine) ≡ true)
+      ↔ IsTransmission s page (item_of r) j
   sent_right j mine a known zero =
       let w = sent_head mine (pk j) known in (
         (λ h. record { owner = j; owned = (refl, w.0 h) }),
@@ -170,7 +193,8 @@ module _ (s : Stream) (page : Id) where
       )
 
 -- the slots of a cycle's stream
-pub slot_at : (cycle : List (List ℕ)) (start i place : ℕ) → place ≡ (start + i) % length cycle → repeated cycle (pos start +ℤ pos i) ≡ get_or cycle place []
+pub slot_at : (cycle : List (List ℕ)) (start i place : ℕ) → place ≡ (start + i) % length cycle → repeated cycle (pos start +ℤ pos i)
+    ≡ get_or cycle place []
 slot_at cycle start i place e =
     let q : pos start +ℤ pos i ≡ pos (start + i) = omega (arith, ints) in
     ap (repeated cycle) q ∙ ap (λ n. get_or cycle n []) (sym e)
@@ -182,22 +206,26 @@ slot_before repeat cycle some start i place e =
     let q : ((pos start -ℤ pos (length cycle)) +ℤ pos i) +ℤ pos (length cycle) ≡ pos start +ℤ pos i = omega (arith, ints) in
     sym (repeat cycle some ((pos start -ℤ pos (length cycle)) +ℤ pos i)) ∙ ap (repeated cycle) q ∙ slot_at cycle start i place e
 
-pub mine_more : (page : Id) (s : Stream) (tau : ℤ) (mine now next : Bool) (n : ℕ) (slot : List ℕ) → now ≡ mine_from page s tau mine n → s (tau +ℤ pos n) ≡ slot → next ≡ mine_after page (packet_of slot) now →
+pub mine_more : (page : Id) (s : Stream) (tau : ℤ) (mine now next : Bool) (n : ℕ) (slot : List ℕ) → now ≡ mine_from page s tau mine n →
+    s (tau +ℤ pos n) ≡ slot → next ≡ mine_after page (packet_of slot) now →
     next ≡ mine_from page s tau mine (n + 1)
 unfolding mine_from
 mine_more page s tau mine now next n slot a b e =
     let one : suc n ≡ n + 1 = omega arith in
-    e ∙ ap (λ x. mine_after page (packet_of x) now) (sym b) ∙ ap (mine_after page (packet_of (s (tau +ℤ pos n)))) a ∙ ap (mine_from page s tau mine) one
+    e ∙ ap (λ x. mine_after page (packet_of x) now) (sym b) ∙ ap (mine_after page (packet_of (s (tau +ℤ pos n)))) a
+    ∙ ap (mine_from page s tau mine) one
 
 pub mine_begins : (page : Id) (s : Stream) (tau : ℤ) (mine : Bool) → mine ≡ mine_from page s tau mine 0
 unfolding mine_from
 mine_begins page s tau mine = refl
 
-pub owned_at : CyclesRepeat → (cycle : List (List ℕ)) → 0 < length cycle → (page : Id) (start n : ℕ) (mine : Bool) → n ≡ length cycle → mine ≡ mine_from page (repeated cycle) (pos start -ℤ pos (length cycle)) false n →
+pub owned_at : CyclesRepeat → (cycle : List (List ℕ)) → 0 < length cycle → (page : Id) (start n : ℕ) (mine : Bool) → n ≡ length cycle →
+    mine ≡ mine_from page (repeated cycle) (pos start -ℤ pos (length cycle)) false n →
     (mine ≡ true) ↔ HasOwner (repeated cycle) page (pos start)
 owned_at repeat cycle some page start n mine whole is =
     let q : (pos start -ℤ pos (length cycle)) +ℤ pos (length cycle) ≡ pos start = omega (arith, ints) in
-    let is' : mine ≡ mine_from page (repeated cycle) (pos start -ℤ pos (length cycle)) false (length cycle) = is ∙ ap (mine_from page (repeated cycle) (pos start -ℤ pos (length cycle)) false) whole in
+    let is' : mine ≡ mine_from page (repeated cycle) (pos start -ℤ pos (length cycle)) false (length cycle) = is
+    ∙ ap (mine_from page (repeated cycle) (pos start -ℤ pos (length cycle)) false) whole in
     subst (λ j. (mine ≡ true) ↔ HasOwner (repeated cycle) page j) q
     (subst (λ m. (m ≡ true) ↔ HasOwner (repeated cycle) page ((pos start -ℤ pos (length cycle)) +ℤ pos (length cycle))) (sym is')
     (known (repeated cycle) page (length cycle) (repeat cycle some) (omega arith) (pos start -ℤ pos (length cycle))))

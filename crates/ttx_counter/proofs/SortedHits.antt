@@ -28,15 +28,20 @@ unfolding AreAll
 apart_from l a i j lt q e = a i j (omega arith) q (λ h. absurd (omega arith)) e
 
 -- where a place of a swapped list stood before
-moved : (l : List ℕ) (a b : ℕ) → a < length l → b < length l → (i : ℕ) → i < length l → (k : ℕ) × (k < length l) × (get_or (swap l a b) i 0 ≡ get_or l k 0) × (((i ≡ a) × (k ≡ b)) ⊎ ((i ≡ b) × (k ≡ a)) ⊎ ((i ≡ a → ⊥) × (i ≡ b → ⊥) × (k ≡ i)))
+moved : (l : List ℕ) (a b : ℕ) → a < length l → b < length l → (i : ℕ) → i < length l → (k : ℕ) × (k < length l)
+    × (get_or (swap l a b) i 0 ≡ get_or l k 0)
+    × (((i ≡ a) × (k ≡ b)) ⊎ ((i ≡ b) × (k ≡ a)) ⊎ ((i ≡ a → ⊥) × (i ≡ b → ⊥) × (k ≡ i)))
 moved l a b p q i lt =
     let w = swapped_from_swap l (swap l a b) a b 0 p q refl in
-    elim (cases_eq i a) as (λ _. (k : ℕ) × (k < length l) × (get_or (swap l a b) i 0 ≡ get_or l k 0) × (((i ≡ a) × (k ≡ b)) ⊎ ((i ≡ b) × (k ≡ a)) ⊎ ((i ≡ a → ⊥) × (i ≡ b → ⊥) × (k ≡ i)))) [
+    elim (cases_eq i a) as (λ _. (k : ℕ) × (k < length l) × (get_or (swap l a b) i 0 ≡ get_or l k 0)
+    × (((i ≡ a) × (k ≡ b)) ⊎ ((i ≡ b) × (k ≡ a)) ⊎ ((i ≡ a → ⊥) × (i ≡ b → ⊥) × (k ≡ i)))) [
       | inl e ↦ (b, q, ap (λ z. get_or (swap l a b) z 0) e ∙ w.0, inl (e, refl))
-      | inr na ↦ elim (cases_eq i b) as (λ _. (k : ℕ) × (k < length l) × (get_or (swap l a b) i 0 ≡ get_or l k 0) × (((i ≡ a) × (k ≡ b)) ⊎ ((i ≡ b) × (k ≡ a)) ⊎ ((i ≡ a → ⊥) × (i ≡ b → ⊥) × (k ≡ i)))) [
-        | inl e ↦ (a, p, ap (λ z. get_or (swap l a b) z 0) e ∙ w.1, inr (inl (e, refl)))
-        | inr nb ↦ (i, lt, w.2 i na nb, inr (inr (na, nb, refl)))
-      ]
+      | inr na ↦ elim (cases_eq i b) as
+          (λ _. (k : ℕ) × (k < length l) × (get_or (swap l a b) i 0 ≡ get_or l k 0)
+          × (((i ≡ a) × (k ≡ b)) ⊎ ((i ≡ b) × (k ≡ a)) ⊎ ((i ≡ a → ⊥) × (i ≡ b → ⊥) × (k ≡ i)))) [
+            | inl e ↦ (a, p, ap (λ z. get_or (swap l a b) z 0) e ∙ w.1, inr (inl (e, refl)))
+            | inr nb ↦ (i, lt, w.2 i na nb, inr (inr (na, nb, refl)))
+          ]
     ]
 
 swap_keeps : (l : List ℕ) (a b : ℕ) → a < length l → b < length l → AreAll l → AreAll (swap l a b)
@@ -47,7 +52,8 @@ swap_keeps l a b p q all i j lti ltj ne e =
     let wj = moved l a b p q j (omega (arith, len)) in
     all wi.0 wj.0 wi.1 wj.1 (λ h. ne (apart wi.0 wj.0 h wi.3 wj.3)) (sym (ap byte_place wi.2) ∙ e ∙ ap byte_place wj.2)
   where
-    apart : (x y : ℕ) → x ≡ y → ((i ≡ a) × (x ≡ b)) ⊎ ((i ≡ b) × (x ≡ a)) ⊎ ((i ≡ a → ⊥) × (i ≡ b → ⊥) × (x ≡ i)) → ((j ≡ a) × (y ≡ b)) ⊎ ((j ≡ b) × (y ≡ a)) ⊎ ((j ≡ a → ⊥) × (j ≡ b → ⊥) × (y ≡ j)) → i ≡ j
+    apart : (x y : ℕ) → x ≡ y → ((i ≡ a) × (x ≡ b)) ⊎ ((i ≡ b) × (x ≡ a)) ⊎ ((i ≡ a → ⊥) × (i ≡ b → ⊥) × (x ≡ i)) → ((j ≡ a) × (y ≡ b))
+        ⊎ ((j ≡ b) × (y ≡ a)) ⊎ ((j ≡ a → ⊥) × (j ≡ b → ⊥) × (y ≡ j)) → i ≡ j
     apart x y h (inl s) (inl t) = s.0 ∙ sym t.0
     apart x y h (inl s) (inr (inl t)) = s.0 ∙ sym t.1 ∙ sym h ∙ s.1 ∙ sym t.0
     apart x y h (inl s) (inr (inr t)) = absurd (t.1 (sym t.2 ∙ sym h ∙ s.1))
@@ -72,19 +78,26 @@ module _ (s : Stream) (start slots : ℕ) (h : Hit) (is : IsHit s start slots h)
   pub bit_of_key : bit_in (hit_key h) ≡ h.bit
   bit_of_key = let a = is.byte in let b = is.bit in omega arith
 
-module _ (s : Stream) (start slots : ℕ) (hits : List Hit) (keys : List ℕ) (all : All (IsHit s start slots) hits) (same : IsPermutation (map hit_key hits) keys) where
+module _ (s : Stream) (start slots : ℕ) (hits : List Hit) (keys : List ℕ) (all : All (IsHit s start slots) hits)
+    (same : IsPermutation (map hit_key hits) keys) where
   pub at_hit : (h : Hit) → Contains hits h → IsHit s start slots h
   at_hit h c = subst (IsHit s start slots) c.2 (all c.0 h c.1)
 
   pub to_key : (h : Hit) → Contains hits h → (i : ℕ) × (i < length keys) × (key_at keys i ≡ hit_key h)
   to_key h c =
-      let mapped : Contains (map hit_key hits) (hit_key h) = (c.0, (let b = c.1 in omega (arith, length-map hits hit_key)), get_or-map hit_key hits c.0 h (hit_key h) c.1 ∙ ap hit_key c.2) in
+      let mapped : Contains (map hit_key hits) (hit_key h) = (
+        c.0,
+        (let b = c.1 in omega (arith, length-map hits hit_key)),
+        get_or-map hit_key hits c.0 h (hit_key h) c.1
+            ∙ ap hit_key c.2,
+      ) in
       let w = Contains-permutation (map hit_key hits) keys (hit_key h) same mapped in
       (w.0, w.1, get_or_default keys w.0 0 (hit_key h) w.1 ∙ w.2)
 
   pub from_key : (i : ℕ) → i < length keys → (h : Hit) × Contains hits h × (hit_key h ≡ key_at keys i)
   from_key i lt =
-      let w = Contains-permutation keys (map hit_key hits) (key_at keys i) (IsPermutation-sym (map hit_key hits) keys same) (i, lt, get_or_default keys i (key_at keys i) 0 lt) in
+      let w = Contains-permutation keys (map hit_key hits) (key_at keys i) (IsPermutation-sym (map hit_key hits) keys same)
+      (i, lt, get_or_default keys i (key_at keys i) 0 lt) in
       let inside : w.0 < length hits = let b = w.1 in omega (arith, length-map hits hit_key) in
       let h = get_or hits w.0 no_hit in
       (h, (w.0, inside, get_or_default hits w.0 h no_hit inside), sym (get_or-map hit_key hits w.0 no_hit (key_at keys i) inside) ∙ w.2)
@@ -99,7 +112,8 @@ module _ (s : Stream) (start slots : ℕ) (hits : List Hit) (keys : List ℕ) (a
         bit = (let b = is.bit in let e = bit_of_key s start slots w.0 is in omega arith);
       })
 
-  place_of : (i : ℕ) → i < length hits → (d : Hit) → byte_place (get_or (map hit_key hits) i 0) ≡ (get_or hits i d).index * 256 + (get_or hits i d).byte
+  place_of : (i : ℕ) → i < length hits → (d : Hit) → byte_place (get_or (map hit_key hits) i 0) ≡ (get_or hits i d).index * 256
+      + (get_or hits i d).byte
   place_of i lt d =
       let is = all i d lt in
       ap byte_place (get_or-map hit_key hits i d 0 lt) ∙ parts (hit_key (get_or hits i d))
@@ -142,7 +156,8 @@ module _ (s : Stream) (start slots : ℕ) (hits : List Hit) (keys : List ℕ) (a
           let a = slot_of_key s start slots h is in let b = byte_of_key s start slots h is in let d = bit_of_key s start slots h is in
           let g = r.hit w.0 w.1 (ap slot_in w.2 ∙ a ∙ at) in
           let g' = subst (λ key. get_or received (byte_in key) 0 ≡ flipped (bit_in key) (get_or sent (byte_in key) 0)) w.2 g in
-          sym (ap (λ x. get_or received x 0) b) ∙ g' ∙ ap (λ x. flipped (bit_in (hit_key h)) (get_or sent x 0)) b ∙ ap (λ x. flipped x (get_or sent h.byte 0)) d;
+          sym (ap (λ x. get_or received x 0) b) ∙ g' ∙ ap (λ x. flipped (bit_in (hit_key h)) (get_or sent x 0)) b
+          ∙ ap (λ x. flipped x (get_or sent h.byte 0)) d;
       other = λ x none. r.other x (λ i lt e f.
           let w = from_key i lt in
           let is = at_hit w.0 w.1 in

@@ -45,7 +45,8 @@ starves_turned turn move cycle some p w item tau none =
     }
 
 pub starves_in_period : EachSlotTurns → StreamsMove → StarvesInPeriod
-starves_in_period turn move cycle some p w item starves = (turned (length cycle) starves.tau, starves_turned turn move cycle some p w item starves.tau starves.none)
+starves_in_period turn move cycle some p w item starves =
+    (turned (length cycle) starves.tau, starves_turned turn move cycle some p w item starves.tau starves.none)
 
 low_byte : (item : Item) → first_byte item < 42
 low_byte TheHead = omega arith
@@ -70,8 +71,11 @@ hit_is item xs h c =
     }
 
 hit_in : (item : Item) (xs : List ℕ) (n : ℕ) → Contains xs n → Contains (map (hit_at item) xs) (hit_at item n)
-hit_in item xs n c =
-    (c.0, (let long : length (map (hit_at item) xs) ≡ length xs = length-map xs (hit_at item) in let lt = c.1 in omega arith), get_or-map (hit_at item) xs c.0 n (hit_at item n) c.1 ∙ ap (hit_at item) c.2)
+hit_in item xs n c = (
+  c.0,
+  (let long : length (map (hit_at item) xs) ≡ length xs = length-map xs (hit_at item) in let lt = c.1 in omega arith),
+  get_or-map (hit_at item) xs c.0 n (hit_at item n) c.1 ∙ ap (hit_at item) c.2,
+)
 
 hits_differ : (item : Item) (xs : List ℕ) → ((i j : ℕ) → i < j → j < length xs → get_or xs i 0 < get_or xs j 0) →
     AllPairs (λ a b. a.index ≡ b.index → a.byte ≡ b.byte → ⊥) (map (hit_at item) xs)
@@ -85,13 +89,15 @@ hits_differ item xs rising i j d lt inside e _ =
     let e' : get_or xs i 0 ≡ get_or xs j 0 = sym a ∙ e ∙ b in
     omega arith
 
-module _ (cycle : List (List ℕ)) (is_cycle : IsCycle cycle) (turn : EachSlotTurns) (p : Page) (item : Item) (start n : ℕ) (m : Memory) (received : List (List ℕ)) (xs : List ℕ) (choices : List Bool) (lines : ℕ)
+module _ (cycle : List (List ℕ)) (is_cycle : IsCycle cycle) (turn : EachSlotTurns) (p : Page) (item : Item) (start n : ℕ) (m : Memory)
+    (received : List (List ℕ)) (xs : List ℕ) (choices : List Bool) (lines : ℕ)
     (is : IsScripted lines (Exact p.id) item (repeated cycle) (pos start) (wrong_memory p item) m n received xs choices) where
   abbrev sent : ℕ → List ℕ
   sent t = repeated cycle (pos start +ℤ pos t)
 
   sent_slot : (t : ℕ) → IsSlot (sent t)
-  sent_slot t = All-get_or IsSlot cycle (turned (length cycle) (pos start +ℤ pos t)) [] (turn (length cycle) (pos start +ℤ pos t) is_cycle.some).inside is_cycle.each
+  sent_slot t = All-get_or IsSlot cycle (turned (length cycle) (pos start +ℤ pos t)) []
+      (turn (length cycle) (pos start +ℤ pos t) is_cycle.some).inside is_cycle.each
 
   pub are_hits : AreHits (repeated cycle) start n (map (hit_at item) xs)
   are_hits = record {
@@ -163,5 +169,6 @@ starving_is_counter_run laws scripts cycle pages p w index here is_cycle page is
       received = received;
       with_hits = with_hits cycle is_cycle laws.turn p item start n m received xs choices w.lines sc st.size;
       permitted = st.permitted;
-      wrong = λ view. laws.unseen s p (Exact p.id) w.lines w.repeat item (pos start) n former m received page need st (subst (HasView p) sc.script view);
+      wrong = λ view. laws.unseen s p (Exact p.id) w.lines w.repeat item (pos start) n former m received page need st
+          (subst (HasView p) sc.script view);
     }

@@ -32,22 +32,27 @@ starts_are_judged laws cycle some p w item repeats rising names = record {
   covered = covered_if laws cycle some p w item repeats rising names;
   sent = λ one at e.
       let l = late_if laws cycle some p w item repeats rising names one at e in
-      let h = start_at laws cycle some p w item repeats rising names l.0 l.2.within in
-      (subst (λ x. x < length cycle) (sym l.1) h.0, (l.2.owner, subst (λ x. IsOwned (repeated cycle) p.id item l.2.owner (pos x)) (sym l.1) l.2.owned));
+      let h = start_at laws cycle some p w item repeats rising names l.0 l.2.within in (
+        subst (λ x. x < length cycle) (sym l.1) h.0,
+        (l.2.owner, subst (λ x. IsOwned (repeated cycle) p.id item l.2.owner (pos x)) (sym l.1) l.2.owned),
+      );
   late = λ one at e owner owned.
       let l = late_if laws cycle some p w item repeats rising names one at e in
-      let same : l.2.owner ≡ owner = laws.one_owner (repeated cycle) p.id item l.2.owner owner (pos at) (subst (λ x. IsOwned (repeated cycle) p.id item l.2.owner (pos x)) (sym l.1) l.2.owned) owned in
+      let same : l.2.owner ≡ owner = laws.one_owner (repeated cycle) p.id item l.2.owner owner (pos at)
+      (subst (λ x. IsOwned (repeated cycle) p.id item l.2.owner (pos x)) (sym l.1) l.2.owned) owned in
       subst (λ x. StarvesFrom cycle p w item (turned (length cycle) (x +ℤ pos 1))) same
       (starves_turned laws.turn laws.move cycle some p w item (l.2.owner +ℤ pos 1) (late_none laws cycle some p w item repeats rising names l.0 l.2));
 }
 
 -- each of a list is told, and the list has each
-lists_tell : (P : ℤ → Type 0) (Is : Transmission → Type 0) (low high : ℤ) (ts : List Transmission) → Lists slot_of P Is low high ts → (t : Transmission) → Contains ts t → Is t
+lists_tell : (P : ℤ → Type 0) (Is : Transmission → Type 0) (low high : ℤ) (ts : List Transmission) → Lists slot_of P Is low high ts →
+    (t : Transmission) → Contains ts t → Is t
 lists_tell P Is low high [] l t c = absurd (let lt = c.1 in omega arith)
 lists_tell P Is low high (u ∷ ts) l t (zero, lt, e) = subst Is e l.0
 lists_tell P Is low high (u ∷ ts) l t (suc i, lt, e) = lists_tell P Is (u.slot +ℤ pos 1) high ts l.4 t (i, (omega arith), e)
 
-lists_have : (P : ℤ → Type 0) (Is : Transmission → Type 0) (low high : ℤ) (ts : List Transmission) → Lists slot_of P Is low high ts → (x : ℤ) → low ≤ℤ x → x <ℤ high → P x →
+lists_have : (P : ℤ → Type 0) (Is : Transmission → Type 0) (low high : ℤ) (ts : List Transmission) → Lists slot_of P Is low high ts →
+    (x : ℤ) → low ≤ℤ x → x <ℤ high → P x →
     (t : Transmission) × Contains ts t × (t.slot ≡ x)
 lists_have P Is low high [] l x a b h = absurd (l x a b h)
 lists_have P Is low high (u ∷ ts) l x a b h = elim (cases_ltz x u.slot) as (λ _. (t : Transmission) × Contains (u ∷ ts) t × (t.slot ≡ x)) [
@@ -77,7 +82,8 @@ pub record StartLaws : Type 0 where
   pub further : FurtherStartsCover
   pub listed : TransmissionsAreListed
 
-module _ (laws : StartLaws) (cycle : List (List ℕ)) (is_cycle : IsCycle cycle) (p : Page) (w : Certificate) (is : IsCertificate w) (item : Item) (starts : List ℕ) (rising : Rising starts)
+module _ (laws : StartLaws) (cycle : List (List ℕ)) (is_cycle : IsCycle cycle) (p : Page) (w : Certificate) (is : IsCertificate w)
+    (item : Item) (starts : List ℕ) (rising : Rising starts)
     (named : (start : ℕ) → Contains starts start ↔ IsSureStart cycle p.id w.lines w.repeat item start) where
   abbrev v : Certificate
   v = with_sure_starts w starts
@@ -91,7 +97,8 @@ module _ (laws : StartLaws) (cycle : List (List ℕ)) (is_cycle : IsCycle cycle)
   pub none_starves : starts ≡ [] → StarvesFrom cycle p w item 0
   none_starves e = starves 0 (judged.none (ap length e))
 
-  module _ (one : 0 < length starts) (bound period repeat : ℕ) (sent : List Transmission) (m : Progress) (eb : bound ≡ limit w) (ep : period ≡ length cycle) (er : repeat ≡ run_length w.repeat item)
+  module _ (one : 0 < length starts) (bound period repeat : ℕ) (sent : List Transmission) (m : Progress) (eb : bound ≡ limit w)
+      (ep : period ≡ length cycle) (er : repeat ≡ run_length w.repeat item)
       (es : sent ≡ sent_in cycle p.id w.lines item) (em : m ≡ after_runs bound starts not_begun (runs period (repeat - 1) sent)) where
     same : m ≡ progress_of cycle p v item (run_length w.repeat item - 1)
     same = em ∙ (λ i. after_runs (eb i) starts not_begun (runs (ep i) (er i - 1) (es i)))
@@ -105,19 +112,24 @@ module _ (laws : StartLaws) (cycle : List (List ℕ)) (is_cycle : IsCycle cycle)
     pub none_late : late_after bound starts m (m.first_end +ℤ pos period) ≡ None → IsCovered cycle p (fullest cycle w) item
     none_late e =
         let f = laws.names cycle is_cycle w is in
-        laws.further cycle p v (fullest cycle w) item refl refl refl (λ start c. (f.1 p item start).1 ((named start).0 c)) (λ start c. (f.1 p item start).0 c) (judged.covered one (sym late_same ∙ e))
+        laws.further cycle p v (fullest cycle w) item refl refl refl (λ start c. (f.1 p item start).1 ((named start).0 c))
+        (λ start c. (f.1 p item start).0 c) (judged.covered one (sym late_same ∙ e))
 
-    pub one_late : (at start : ℕ) → late_after bound starts m (m.first_end +ℤ pos period) ≡ Some at → IsAfterOwner sent period at start → StarvesFrom cycle p w item start
+    pub one_late : (at start : ℕ) → late_after bound starts m (m.first_end +ℤ pos period) ≡ Some at →
+        IsAfterOwner sent period at start → StarvesFrom cycle p w item start
     one_late at start e after =
         let e' = sym late_same ∙ e in
         let listed = (laws.listed cycle is_cycle.some is_cycle.most p.id w.lines item).0 in
         let here = judged.sent one at e' in
         elim after as (λ _. StarvesFrom cycle p w item start) [
           | inl t ↦
-              let told = lists_tell _ _ (pos 0) (pos (length cycle)) (sent_in cycle p.id w.lines item) listed t.0 (subst (λ xs. Contains xs t.0) es t.1) in
+              let told = lists_tell _ _ (pos 0) (pos (length cycle)) (sent_in cycle p.id w.lines item) listed t.0
+              (subst (λ xs. Contains xs t.0) es t.1) in
               let q = judged.late one at e' t.0.owner (subst (IsOwned (repeated cycle) p.id item t.0.owner) t.2 told.owned) in
               starves start (subst (StarvesFrom cycle p v item) (sym (t.3 ∙ ap (λ n. turned n (t.0.owner +ℤ pos 1)) ep)) q)
           | inr none ↦
-              let t = lists_have _ _ (pos 0) (pos (length cycle)) (sent_in cycle p.id w.lines item) listed (pos at) (omega (arith, ints)) (let lt = here.0 in omega (arith, ints)) (record { owner = here.1.0; owned = here.1.1 }) in
+              let t = lists_have _ _ (pos 0) (pos (length cycle)) (sent_in cycle p.id w.lines item) listed (pos at)
+              (omega (arith, ints)) (let lt = here.0 in omega (arith, ints)) (record { owner = here.1.0; owned = here.1.1 })
+              in
               absurd (none t.0 (subst (λ xs. Contains xs t.0) (sym es) t.1) t.2)
         ]

@@ -42,14 +42,16 @@ starved_is_unseen shown seen s p sel lines repeat TheHead tau n former m receive
     seen p m 0 8 (other_letter c) (is_letter c) (omega arith, omega arith, (λ _. (omega arith, omega arith))) need
     (record { control = st.control; links = st.others TheLinks (λ e. cc) refl; items = λ item ne need'. st.others item ne need' })
     st.wrong (subst (λ x. x < 128) (sym own) (page.head_codes 0)) (λ e. is_other c (sym own ∙ e)) view
-starved_is_unseen shown seen s p sel lines repeat (TheRow zero) tau n former m received page need st view = let range = needed_row p 0 need in absurd (let k = range.0 in omega arith)
+starved_is_unseen shown seen s p sel lines repeat (TheRow zero) tau n former m received page need st view = let range =
+    needed_row p 0 need in absurd (let k = range.0 in omega arith)
 starved_is_unseen shown seen s p sel lines repeat (TheRow (suc r)) tau n former m received page need st view =
     let range = needed_row p (suc r) need in
     let c : ℕ = get_or (page_row p (suc r)) 0 0 in
     let own : char_at (memory_of_page p) (suc r) 0 ≡ c = ap (λ x. get_or x 0 0) ((shown p page).items (TheRow (suc r)) need) in
     seen p m (suc r) 0 (other_letter c) (is_letter c) (range.1, omega arith, (λ e. absurd (omega arith))) need
     (record { control = st.control; links = st.others TheLinks (λ e. cc) refl; items = λ item ne need'. st.others item ne need' })
-    st.wrong (subst (λ x. x < 128) (sym own) ((page.rows (suc r) (omega arith) (omega (arith, range.1))).codes 0)) (λ e. is_other c (sym own ∙ e)) view
+    st.wrong (subst (λ x. x < 128) (sym own) ((page.rows (suc r) (omega arith) (omega (arith, range.1))).codes 0))
+    (λ e. is_other c (sym own ∙ e)) view
 starved_is_unseen shown seen s p sel lines repeat TheLinks tau n former m received page need st view =
     other_is p.links.six (sym (ap (λ l. l.six) st.wrong) ∙ view.links)
 

@@ -18,7 +18,8 @@ one_more : (n : ℕ) → suc n ≡ n + 1
 one_more n = omega arith
 
 -- the slot of a run in the cycle
-pub slot_of_run : (cycle : List (List ℕ)) (start i at : ℕ) → at ≡ (start + i) % length cycle → get_or cycle at [] ≡ repeated cycle (pos start +ℤ pos i)
+pub slot_of_run : (cycle : List (List ℕ)) (start i at : ℕ) → at ≡ (start + i) % length cycle → get_or cycle at []
+    ≡ repeated cycle (pos start +ℤ pos i)
 slot_of_run cycle start i at e =
     let p : pos (start + i) ≡ pos start +ℤ pos i = omega (arith, ints) in
     ap (λ x. get_or cycle x []) e ∙ ap (λ z. repeated cycle z) p
@@ -44,31 +45,38 @@ module _ (lines : ℕ) (sel : Selection) (item : Item) (s : Stream) (tau : ℤ) 
   memory_next n = refl
 
   hits_next : (n : ℕ) → starved_hits lines sel item s tau former (suc n)
-      ≡ (if is_received_wrong lines sel item (mem n) (s (tau +ℤ pos n)) then starved_hits lines sel item s tau former n ++ n ∷ [] else starved_hits lines sel item s tau former n)
+      ≡ (if is_received_wrong lines sel item (mem n) (s (tau +ℤ pos n)) then starved_hits lines sel item s tau former n ++ n ∷ []
+      else starved_hits lines sel item s tau former n)
   unfolding starved_hits
   hits_next n = refl
 
   choices_next : (n : ℕ) → starved_choices lines sel item s tau former (suc n)
-      ≡ (if has_choice Any lines sel (older (mem n)) (packet_of (heard lines sel item (mem n) (s (tau +ℤ pos n)))) then starved_choices lines sel item s tau former n ++ true ∷ [] else starved_choices lines sel item s tau former n)
+      ≡ (if has_choice Any lines sel (older (mem n)) (packet_of (heard lines sel item (mem n) (s (tau +ℤ pos n))))
+      then starved_choices lines sel item s tau former n ++ true ∷ [] else starved_choices lines sel item s tau former n)
   unfolding starved_choices
   choices_next n = refl
 
   module _ (n : ℕ) (m : Memory) (slot : List ℕ) (is : m ≡ mem n) (sent : slot ≡ s (tau +ℤ pos n)) where
     pub memory_more : (new : Memory) → new ≡ careful_after lines sel m (heard lines sel item m slot) → new ≡ mem (n + 1)
     memory_more new e =
-        e ∙ ap (λ x. careful_after lines sel x (heard lines sel item x slot)) is ∙ ap (λ x. careful_after lines sel (mem n) (heard lines sel item (mem n) x)) sent
+        e ∙ ap (λ x. careful_after lines sel x (heard lines sel item x slot)) is
+        ∙ ap (λ x. careful_after lines sel (mem n) (heard lines sel item (mem n) x)) sent
         ∙ sym (memory_next n) ∙ ap mem (one_more n)
 
-    pub hits_more : (hits new : List Hit) (hit : Bool) → hits ≡ map (hit_at item) (starved_hits lines sel item s tau former n) → hit ≡ is_received_wrong lines sel item m slot →
+    pub hits_more : (hits new : List Hit) (hit : Bool) → hits ≡ map (hit_at item) (starved_hits lines sel item s tau former n) → hit
+        ≡ is_received_wrong lines sel item m slot →
         new ≡ (if hit then hits ++ hit_at item n ∷ [] else hits) → new ≡ map (hit_at item) (starved_hits lines sel item s tau former (n + 1))
     hits_more hits new hit was h e =
         let old = starved_hits lines sel item s tau former n in
         let test = is_received_wrong lines sel item (mem n) (s (tau +ℤ pos n)) in
-        let same : hit ≡ test = h ∙ ap (λ x. is_received_wrong lines sel item x slot) is ∙ ap (λ x. is_received_wrong lines sel item (mem n) x) sent in
+        let same : hit ≡ test = h ∙ ap (λ x. is_received_wrong lines sel item x slot) is
+        ∙ ap (λ x. is_received_wrong lines sel item (mem n) x) sent in
         e ∙ ap (λ x. if x then hits ++ hit_at item n ∷ [] else hits) same ∙ ap (λ x. if test then x ++ hit_at item n ∷ [] else x) was
-        ∙ mapped test old ∙ ap (map (hit_at item)) (sym (hits_next n)) ∙ ap (λ x. map (hit_at item) (starved_hits lines sel item s tau former x)) (one_more n)
+        ∙ mapped test old ∙ ap (map (hit_at item)) (sym (hits_next n))
+        ∙ ap (λ x. map (hit_at item) (starved_hits lines sel item s tau former x)) (one_more n)
       where
-        mapped : (b : Bool) (old : List ℕ) → (if b then map (hit_at item) old ++ hit_at item n ∷ [] else map (hit_at item) old) ≡ map (hit_at item) (if b then old ++ n ∷ [] else old)
+        mapped : (b : Bool) (old : List ℕ) → (if b then map (hit_at item) old ++ hit_at item n ∷ [] else map (hit_at item) old)
+            ≡ map (hit_at item) (if b then old ++ n ∷ [] else old)
         mapped true old = sym (map-append (hit_at item) old (n ∷ []))
         mapped false old = refl
 

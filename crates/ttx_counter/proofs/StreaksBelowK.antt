@@ -76,7 +76,8 @@ module _ (s : Stream) (page : Id) (item : Item) (tau : ℤ) (sent wrong : ℕ �
       ]
 
   -- wrong ones in a row make a streak of as many
-  climb : (j : ℤ) (rest : List ℤ) → AreSuccessive s page item (j ∷ rest) → AllByRecursion IsWrong (j ∷ rest) → (i : ℕ) → j ≡ tau +ℤ pos i → (c : ℕ) → c ≤ streak i →
+  climb : (j : ℤ) (rest : List ℤ) → AreSuccessive s page item (j ∷ rest) → AllByRecursion IsWrong (j ∷ rest) → (i : ℕ) → j
+      ≡ tau +ℤ pos i → (c : ℕ) → c ≤ streak i →
       (m : ℕ) × (m ≤ n) × (c + length (j ∷ rest) ≤ streak m)
   climb j [] succ all i at c le =
       let w = all.0 in
@@ -94,12 +95,14 @@ module _ (s : Stream) (page : Id) (item : Item) (tau : ℤ) (sent wrong : ℕ �
       let e = up i ((told i inside).1 (subst P at succ.0)) (subst (λ x. wrong x ≡ true) same w.told) in
       let lt : suc i ≤ i' = let a = succ.1 in omega (arith, ints) in
       let sum : suc i + gap i i' ≡ i' = gap_is i i' lt in
-      let q = quiet (gap i i') (suc i) (let b = w'.below in omega arith) (λ x a b p. succ.2 (tau +ℤ pos x) (omega (arith, ints)) (omega (arith, ints)) p) in
+      let q = quiet (gap i i') (suc i) (let b = w'.below in omega arith)
+      (λ x a b p. succ.2 (tau +ℤ pos x) (omega (arith, ints)) (omega (arith, ints)) p) in
       let here : c + 1 ≤ streak i' = subst (λ m. c + 1 ≤ streak_to sent wrong m) sum (omega (arith, q, e)) in
       let r = climb j' rest succ.3 all.1 i' at' (c + 1) here in
       (r.0, r.1, (let h = r.2 in omega arith))
 
-  keeps : (k : ℕ) → 1 ≤ k → ((m : ℕ) → m ≤ n → streak m < k) → (slots : List ℤ) → length slots ≡ k → AreSuccessive s page item slots → AllByRecursion (IsInside tau n) slots →
+  keeps : (k : ℕ) → 1 ≤ k → ((m : ℕ) → m ≤ n → streak m < k) → (slots : List ℤ) → length slots ≡ k → AreSuccessive s page item slots →
+      AllByRecursion (IsInside tau n) slots →
       OneIs (IsRightAmong tau n wrong) slots
   keeps k some below [] len succ inside = absurd (omega arith)
   keeps k some below (j ∷ rest) len succ inside = elim (split (j ∷ rest) inside) as (λ _. OneIs (IsRightAmong tau n wrong) (j ∷ rest)) [
@@ -125,7 +128,8 @@ module _ (s : Stream) (page : Id) (item : Item) (tau : ℤ) (sent wrong : ℕ �
         (λ ge. f.1 x ge high p)),
   )
 
-  onto : (m : ℕ) (acc : List ℤ) → P (tau +ℤ pos m) → Follows (suc m) acc → AreSuccessive s page item acc → AreSuccessive s page item ((tau +ℤ pos m) ∷ acc)
+  onto : (m : ℕ) (acc : List ℤ) → P (tau +ℤ pos m) → Follows (suc m) acc → AreSuccessive s page item acc →
+      AreSuccessive s page item ((tau +ℤ pos m) ∷ acc)
   onto m [] p f a = p
   onto m (j ∷ acc) p f a = (p, (let b = f.0 in omega (arith, ints)), (λ x low high q. f.1 x (omega (arith, ints)) high q), a)
 
@@ -136,7 +140,8 @@ module _ (s : Stream) (page : Id) (item : Item) (tau : ℤ) (sent wrong : ℕ �
     pub successive : AreSuccessive s page item slots
     pub wrong_all : AllByRecursion IsWrong slots
 
-  build : (m d : ℕ) (acc : List ℤ) (k : ℕ) → m ≤ n → length acc + d ≡ k → d ≤ streak m → AreSuccessive s page item acc → AllByRecursion IsWrong acc → Follows m acc → Streak k
+  build : (m d : ℕ) (acc : List ℤ) (k : ℕ) → m ≤ n → length acc + d ≡ k → d ≤ streak m → AreSuccessive s page item acc →
+      AllByRecursion IsWrong acc → Follows m acc → Streak k
   unfolding streak_to
   build m zero acc k le len low succ all f = record { slots = acc; count = omega arith; successive = succ; wrong_all = all }
   build zero (suc d) acc k le len low succ all f = absurd (omega arith)
@@ -145,7 +150,8 @@ module _ (s : Stream) (page : Id) (item : Item) (tau : ℤ) (sent wrong : ℕ �
         let p = (told m (omega arith)).0 e in
         elim (cases_Bool (wrong m)) as (λ _. Streak k) [
           | inl h ↦ build m d ((tau +ℤ pos m) ∷ acc) k (omega arith) (omega arith) (let u = up m e h in omega arith) (onto m acc p f succ)
-              (record { index = m; below = omega arith; place = refl; told = h }, all) (omega (arith, ints), (λ x a b q. absurd (omega (arith, ints))))
+              (record { index = m; below = omega arith; place = refl; told = h }, all)
+              (omega (arith, ints), (λ x a b q. absurd (omega (arith, ints))))
           | inr h ↦ absurd (let u = down m e h in omega arith)
         ]
     | inr e ↦ build m (suc d) acc k (omega arith) len (let u = stay m e in omega arith) succ all
@@ -168,12 +174,14 @@ module _ (s : Stream) (page : Id) (item : Item) (tau : ℤ) (sent wrong : ℕ �
   no_right (j ∷ slots) a (inr one) = no_right slots a.1 one
 
   pub decide : (k : ℕ) → 1 ≤ k → ((m : ℕ) → m ≤ n → streak m < k)
-      ↔ ((slots : List ℤ) → length slots ≡ k → AreSuccessive s page item slots → AllByRecursion (IsInside tau n) slots → OneIs (IsRightAmong tau n wrong) slots)
+      ↔ ((slots : List ℤ) → length slots ≡ k → AreSuccessive s page item slots → AllByRecursion (IsInside tau n) slots → OneIs
+      (IsRightAmong tau n wrong) slots)
   decide k some = (
     keeps k some,
     (λ rule m le. elim (cases_lt (streak m) k) as (λ _. streak m < k) [
       | inl lt ↦ lt
-      | inr ge ↦ let w = streak_is k m le ge in absurd (no_right w.slots w.wrong_all (rule w.slots w.count w.successive (insides w.slots w.wrong_all)))
+      | inr ge ↦ let w = streak_is k m le ge in absurd
+          (no_right w.slots w.wrong_all (rule w.slots w.count w.successive (insides w.slots w.wrong_all)))
     ]),
   )
 

@@ -35,13 +35,17 @@ only s pages p (Exact id) fits own = record {
   items = own.items;
 }
 only s pages p (AnySub mag page) fits own = record {
-  selected = λ j h. own.only_subpage fits.2 j (subst (λ x. heads_matched (AnySub p.id.mag x) (packet_of (s j)) ≡ true) fits.1 (subst (λ x. heads_matched (AnySub x page) (packet_of (s j)) ≡ true) fits.0 h));
+  selected = λ j h. own.only_subpage fits.2 j
+      (subst (λ x. heads_matched (AnySub p.id.mag x) (packet_of (s j)) ≡ true) fits.1
+      (subst (λ x. heads_matched (AnySub x page) (packet_of (s j)) ≡ true) fits.0 h));
   items = own.items;
 }
 
 pub stays : StayingLaws → SteadyPagesStay
 stays laws s pages p sel lines n tau page known fits steady =
     let m = memory_of_page p in
-    let run = subst (Run Any lines sel m (sent_from s tau n)) (unscripted lines sel m s tau n) (laws.scripted Any lines sel [] m (sent_from s tau n)) in
+    let run = subst (Run Any lines sel m (sent_from s tau n)) (unscripted lines sel m s tau n)
+    (laws.scripted Any lines sel [] m (sent_from s tau n)) in
     laws.seen p _ page.head_length
-    (laws.kept s p sel Any lines n tau page (fitting pages p sel fits) (only s pages p sel fits ((laws.own s pages p page).0 steady)) m _ known refl refl (laws.shown p page) run)
+    (laws.kept s p sel Any lines n tau page (fitting pages p sel fits)
+    (only s pages p sel fits ((laws.own s pages p page).0 steady)) m _ known refl refl (laws.shown p page) run)

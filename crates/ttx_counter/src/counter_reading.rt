@@ -225,7 +225,7 @@ fn line_after(line: usize, byte: u8) -> usize
 }
 
 // The line, counted from 1, in which two texts first differ.
-#[tactic(auto, using(crate::proofs::ReadParts::line_ended, crate::proofs::ReadParts::line_differs, crate::proofs::ReadParts::line_same, crate::proofs::ReadParts::line_done))]
+#[tactic(auto, using(crate::proofs::LineOf::ended, crate::proofs::LineOf::differs, crate::proofs::LineOf::same, crate::proofs::LineOf::done))]
 fn line_of(text: &[u8], own: &[u8]) -> usize
     ensures { result ≡ line_of 1 text.now own.now }
 {

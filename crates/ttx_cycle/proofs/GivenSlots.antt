@@ -46,7 +46,8 @@ all_are_given given old mid new slots slot gave answer =
     (record { some = omega arith; most = omega arith; each = gave.each }, refl)
 
 -- what is left over
-left_over : (a b : Option (List ℕ)) (bs : List ℕ) (R S : List ℕ → Type 0) → Consumes a b bs → IfSome b R → ((r : List ℕ) → R r → S (bs ++ r)) → IfSome a S
+left_over : (a b : Option (List ℕ)) (bs : List ℕ) (R S : List ℕ → Type 0) → Consumes a b bs → IfSome b R →
+    ((r : List ℕ) → R r → S (bs ++ r)) → IfSome a S
 left_over None b bs R S c h f = tt
 left_over (Some x) None bs R S c h f = absurd c
 left_over (Some x) (Some y) bs R S c h f = subst S (sym c) (f y h)

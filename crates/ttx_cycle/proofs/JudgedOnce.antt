@@ -37,8 +37,10 @@ one_list (x ∷ xs) [] p q e = let l = length-file_of (x ∷ xs) p in let z : le
 one_list (x ∷ xs) (y ∷ ys) p q e =
     let joined : x ++ file_of xs ≡ y ++ file_of ys = sym (file_cons x xs) ∙ e ∙ file_cons y ys in
     let long : length x ≡ length y = p 0 (omega arith) ∙ sym (q 0 (omega arith)) in
-    let first : x ≡ y = sym (take-append_seam x (file_of xs)) ∙ ap (λ bytes. take (length x) bytes) joined ∙ ap (λ n. take n (y ++ file_of ys)) long ∙ take-append_seam y (file_of ys) in
-    let others : file_of xs ≡ file_of ys = sym (drop-append_seam x (file_of xs)) ∙ ap (λ bytes. drop (length x) bytes) joined ∙ ap (λ n. drop n (y ++ file_of ys)) long ∙ drop-append_seam y (file_of ys) in
+    let first : x ≡ y = sym (take-append_seam x (file_of xs)) ∙ ap (λ bytes. take (length x) bytes) joined
+    ∙ ap (λ n. take n (y ++ file_of ys)) long ∙ take-append_seam y (file_of ys) in
+    let others : file_of xs ≡ file_of ys = sym (drop-append_seam x (file_of xs)) ∙ ap (λ bytes. drop (length x) bytes) joined
+    ∙ ap (λ n. drop n (y ++ file_of ys)) long ∙ drop-append_seam y (file_of ys) in
     let rest : xs ≡ ys = one_list xs ys (λ n lt. p (suc n) (omega arith)) (λ n lt. q (suc n) (omega arith)) others in
     cc
 
@@ -52,7 +54,13 @@ record HasLength (bytes : List ℕ) : Type 0 where
 has_length : (bytes : List ℕ) (cycle : Cycle) → bytes ≡ file_of (slots_of cycle) → HasLength bytes
 has_length bytes cycle e =
     let is = slots_of-IsCycle cycle in
-    record { count = length (slots_of cycle); some = is.some; most = is.most; is = ap length e ∙ length-file_of (slots_of cycle) (are_42 (slots_of cycle) is) }
+    record {
+      count = length (slots_of cycle);
+      some = is.some;
+      most = is.most;
+      is = ap length e
+          ∙ length-file_of (slots_of cycle) (are_42 (slots_of cycle) is);
+    }
 
 -- a cycle is no fault
 not_fault : (bytes : List ℕ) → HasLength bytes → (fault : CycleFault) → SpeaksOfBytes (Err fault) → Judged bytes (Err fault) → ⊥

@@ -23,7 +23,8 @@ byte_back b c is_b is_c =
     ap (λ n. hex_digit n ∷ hex_digit ((16 * hex_value b + hex_value c) % 16) ∷ []) high ∙ ap (λ n. hex_digit (hex_value b) ∷ hex_digit n ∷ []) low
     ∙ ap (λ n. n ∷ hex_digit (hex_value c) ∷ []) (hex_back b is_b).0 ∙ ap (λ n. b ∷ n ∷ []) (hex_back c is_c).0
 
-as_eight : (w : List ℕ) → length w ≡ 8 → w ≡ slice_index w 0 ∷ slice_index w 1 ∷ slice_index w 2 ∷ slice_index w 3 ∷ slice_index w 4 ∷ slice_index w 5 ∷ slice_index w 6 ∷ slice_index w 7 ∷ []
+as_eight : (w : List ℕ) → length w ≡ 8 → w ≡ slice_index w 0 ∷ slice_index w 1 ∷ slice_index w 2 ∷ slice_index w 3 ∷ slice_index w 4
+    ∷ slice_index w 5 ∷ slice_index w 6 ∷ slice_index w 7 ∷ []
 as_eight [] n = absurd (omega arith)
 as_eight (a ∷ []) n = absurd (omega arith)
 as_eight (a ∷ b ∷ []) n = absurd (omega arith)
@@ -41,19 +42,25 @@ id_word_text w is =
     let parts = id_word w is in
     let digit = magazine_digit w is in
     let magazine : 48 + (slice_index w 0 - 48) ≡ slice_index w 0 = omega arith in
-    let page : hex_byte (hex_pair w 1) ≡ slice_index w 1 ∷ slice_index w 2 ∷ [] = byte_back (slice_index w 1) (slice_index w 2) parts.tens parts.units in
+    let page : hex_byte (hex_pair w 1) ≡ slice_index w 1 ∷ slice_index w 2 ∷ [] =
+    byte_back (slice_index w 1) (slice_index w 2) parts.tens parts.units in
     let first = (hex_back (slice_index w 6) parts.third).1 in
     let second = (hex_back (slice_index w 7) parts.fourth).1 in
     let above : (256 * hex_pair w 4 + hex_pair w 6) / 256 ≡ hex_pair w 4 = omega arith in
     let below : (256 * hex_pair w 4 + hex_pair w 6) % 256 ≡ hex_pair w 6 = omega arith in
-    let high : hex_byte ((256 * hex_pair w 4 + hex_pair w 6) / 256) ≡ slice_index w 4 ∷ slice_index w 5 ∷ [] = ap hex_byte above ∙ byte_back (slice_index w 4) (slice_index w 5) parts.first parts.second in
-    let low : hex_byte ((256 * hex_pair w 4 + hex_pair w 6) % 256) ≡ slice_index w 6 ∷ slice_index w 7 ∷ [] = ap hex_byte below ∙ byte_back (slice_index w 6) (slice_index w 7) parts.third parts.fourth in
+    let high : hex_byte ((256 * hex_pair w 4 + hex_pair w 6) / 256) ≡ slice_index w 4 ∷ slice_index w 5 ∷ [] = ap hex_byte above
+    ∙ byte_back (slice_index w 4) (slice_index w 5) parts.first parts.second in
+    let low : hex_byte ((256 * hex_pair w 4 + hex_pair w 6) % 256) ≡ slice_index w 6 ∷ slice_index w 7 ∷ [] = ap hex_byte below
+    ∙ byte_back (slice_index w 6) (slice_index w 7) parts.third parts.fourth in
     let stroke : slice_index w 3 ≡ 47 = eqb-true (slice_index w 3) 47 parts.stroke in
-    ap (λ m. m ∷ hex_byte (hex_pair w 1) ++ 47 ∷ hex_byte ((256 * hex_pair w 4 + hex_pair w 6) / 256) ++ hex_byte ((256 * hex_pair w 4 + hex_pair w 6) % 256)) magazine
-    ∙ ap (λ p. slice_index w 0 ∷ p ++ 47 ∷ hex_byte ((256 * hex_pair w 4 + hex_pair w 6) / 256) ++ hex_byte ((256 * hex_pair w 4 + hex_pair w 6) % 256)) page
+    ap (λ m. m ∷ hex_byte (hex_pair w 1) ++ 47 ∷ hex_byte ((256 * hex_pair w 4 + hex_pair w 6) / 256)
+    ++ hex_byte ((256 * hex_pair w 4 + hex_pair w 6) % 256)) magazine
+    ∙ ap (λ p. slice_index w 0 ∷ p ++ 47 ∷ hex_byte ((256 * hex_pair w 4 + hex_pair w 6) / 256)
+    ++ hex_byte ((256 * hex_pair w 4 + hex_pair w 6) % 256)) page
     ∙ ap (λ p. slice_index w 0 ∷ slice_index w 1 ∷ slice_index w 2 ∷ 47 ∷ (p ++ hex_byte ((256 * hex_pair w 4 + hex_pair w 6) % 256))) high
     ∙ ap (λ p. slice_index w 0 ∷ slice_index w 1 ∷ slice_index w 2 ∷ 47 ∷ slice_index w 4 ∷ slice_index w 5 ∷ p) low
-    ∙ ap (λ s. slice_index w 0 ∷ slice_index w 1 ∷ slice_index w 2 ∷ s ∷ slice_index w 4 ∷ slice_index w 5 ∷ slice_index w 6 ∷ slice_index w 7 ∷ []) (sym stroke)
+    ∙ ap (λ s. slice_index w 0 ∷ slice_index w 1 ∷ slice_index w 2 ∷ s ∷ slice_index w 4 ∷ slice_index w 5 ∷ slice_index w 6
+    ∷ slice_index w 7 ∷ []) (sym stroke)
     ∙ sym (as_eight w (eqb-true (length w) 8 parts.length))
 
 pub id_is : ReadIdsAreWritten
@@ -83,11 +90,18 @@ id_word_read : (m a b c d e f : ℕ) → 1 ≤ m → m ≤ 8 → a < 16 → b < 
 id_word_read m a b c d e f low high pa pb pc pd pe pf =
     let mag : is_between 49 56 (48 + m) ≡ true = grind (arith, nat_tests) in
     let value : (48 + m) - 48 ≡ m = omega arith in
-    let is : is_id_word (id_word_of m a b c d e f) ≡ true = nine (length (id_word_of m a b c d e f) == 8) (is_between 49 56 (48 + m)) (is_hex (hex_digit a)) (is_hex (hex_digit b)) (47 == 47) (is_hex (hex_digit c)) (is_hex (hex_digit d)) (is_hex (hex_digit e)) (is_hex (hex_digit f))
+    let is : is_id_word (id_word_of m a b c d e f) ≡ true =
+    nine (length (id_word_of m a b c d e f) == 8) (is_between 49 56 (48 + m)) (is_hex (hex_digit a)) (is_hex (hex_digit b))
+    (47 == 47) (is_hex (hex_digit c)) (is_hex (hex_digit d)) (is_hex (hex_digit e)) (is_hex (hex_digit f))
     refl mag (hex_there a pa).0 (hex_there b pb).0 refl (hex_there c pc).0 (hex_there d pd).0 (hex_there e pe).0 (hex_there f pf).0 in
-    cond-true (is_id_word (id_word_of m a b c d e f)) (Some (id_at (slice_index (id_word_of m a b c d e f) 0 - 48) (hex_pair (id_word_of m a b c d e f) 1) (256 * hex_pair (id_word_of m a b c d e f) 4 + hex_pair (id_word_of m a b c d e f) 6))) None is
-    ∙ ap (λ x. Some (id_at x (16 * hex_value (hex_digit a) + hex_value (hex_digit b)) (256 * (16 * hex_value (hex_digit c) + hex_value (hex_digit d)) + (16 * hex_value (hex_digit e) + hex_value (hex_digit f))))) value
-    ∙ ap (λ x. Some (id_at m x (256 * (16 * hex_value (hex_digit c) + hex_value (hex_digit d)) + (16 * hex_value (hex_digit e) + hex_value (hex_digit f))))) (pair_value a b pa pb)
+    cond-true (is_id_word (id_word_of m a b c d e f))
+    (Some (id_at (slice_index (id_word_of m a b c d e f) 0 - 48) (hex_pair (id_word_of m a b c d e f) 1)
+    (256 * hex_pair (id_word_of m a b c d e f) 4 + hex_pair (id_word_of m a b c d e f) 6))) None is
+    ∙ ap (λ x. Some (id_at x (16 * hex_value (hex_digit a) + hex_value (hex_digit b))
+    (256 * (16 * hex_value (hex_digit c) + hex_value (hex_digit d))
+    + (16 * hex_value (hex_digit e) + hex_value (hex_digit f))))) value
+    ∙ ap (λ x. Some (id_at m x (256 * (16 * hex_value (hex_digit c) + hex_value (hex_digit d))
+    + (16 * hex_value (hex_digit e) + hex_value (hex_digit f))))) (pair_value a b pa pb)
     ∙ ap (λ x. Some (id_at m (16 * a + b) (256 * x + (16 * hex_value (hex_digit e) + hex_value (hex_digit f))))) (pair_value c d pc pd)
     ∙ ap (λ x. Some (id_at m (16 * a + b) (256 * (16 * c + d) + x))) (pair_value e f pe pf)
 
@@ -104,8 +118,11 @@ id_read id is =
     let f : id.sub % 256 % 16 < 16 = omega arith in
     let page : 16 * (id.page / 16) + id.page % 16 ≡ id.page = omega arith in
     let whole : 256 * (16 * (id.sub / 256 / 16) + id.sub / 256 % 16) + (16 * (id.sub % 256 / 16) + id.sub % 256 % 16) ≡ id.sub = omega arith in
-    id_word_read id.mag (id.page / 16) (id.page % 16) (id.sub / 256 / 16) (id.sub / 256 % 16) (id.sub % 256 / 16) (id.sub % 256 % 16) is.mag_from is.mag_to a b c d e f
-    ∙ ap (λ p. Some (id_at id.mag p (256 * (16 * (id.sub / 256 / 16) + id.sub / 256 % 16) + (16 * (id.sub % 256 / 16) + id.sub % 256 % 16)))) page ∙ ap (λ s. Some (id_at id.mag id.page s)) whole
+    id_word_read id.mag (id.page / 16) (id.page % 16) (id.sub / 256 / 16) (id.sub / 256 % 16) (id.sub % 256 / 16)
+    (id.sub % 256 % 16) is.mag_from is.mag_to a b c d e f
+    ∙ ap (λ p. Some (id_at id.mag p
+    (256 * (16 * (id.sub / 256 / 16) + id.sub / 256 % 16) + (16 * (id.sub % 256 / 16) + id.sub % 256 % 16)))) page
+    ∙ ap (λ s. Some (id_at id.mag id.page s)) whole
 
 hex_high : (n : ℕ) → n < 16 → nat_le 47 (hex_digit n) ≡ true
 hex_high n small = grind (arith, nat_tests)
@@ -117,14 +134,18 @@ word_high : (m a b c d e f : ℕ) → a < 16 → b < 16 → c < 16 → d < 16 �
 word_high m a b c d e f pa pb pc pd pe pf =
     let magazine : nat_le 47 (48 + m) ≡ true = grind (arith, nat_tests) in
     let digits : list_all (nat_le 47) (hex_digit c ∷ hex_digit d ∷ hex_digit e ∷ hex_digit f ∷ []) ≡ true
-    = high_cons (hex_digit c) (hex_digit d ∷ hex_digit e ∷ hex_digit f ∷ []) (hex_high c pc) (high_cons (hex_digit d) (hex_digit e ∷ hex_digit f ∷ []) (hex_high d pd) (high_cons (hex_digit e) (hex_digit f ∷ []) (hex_high e pe) (high_cons (hex_digit f) [] (hex_high f pf) refl))) in
+    = high_cons (hex_digit c) (hex_digit d ∷ hex_digit e ∷ hex_digit f ∷ []) (hex_high c pc)
+    (high_cons (hex_digit d) (hex_digit e ∷ hex_digit f ∷ []) (hex_high d pd)
+    (high_cons (hex_digit e) (hex_digit f ∷ []) (hex_high e pe) (high_cons (hex_digit f) [] (hex_high f pf) refl))) in
     high_cons (48 + m) (hex_digit a ∷ hex_digit b ∷ 47 ∷ hex_digit c ∷ hex_digit d ∷ hex_digit e ∷ hex_digit f ∷ []) magazine
     (high_cons (hex_digit a) (hex_digit b ∷ 47 ∷ hex_digit c ∷ hex_digit d ∷ hex_digit e ∷ hex_digit f ∷ []) (hex_high a pa)
-    (high_cons (hex_digit b) (47 ∷ hex_digit c ∷ hex_digit d ∷ hex_digit e ∷ hex_digit f ∷ []) (hex_high b pb) (high_cons 47 (hex_digit c ∷ hex_digit d ∷ hex_digit e ∷ hex_digit f ∷ []) refl digits)))
+    (high_cons (hex_digit b) (47 ∷ hex_digit c ∷ hex_digit d ∷ hex_digit e ∷ hex_digit f ∷ []) (hex_high b pb)
+    (high_cons 47 (hex_digit c ∷ hex_digit d ∷ hex_digit e ∷ hex_digit f ∷ []) refl digits)))
 
 -- an id's digits and stroke are no separators
 pub ids_free : IdsHoldNoSeparator
 ids_free id is =
     let small : id.page < 256 = is.page in
     let sub : id.sub < 16384 = is.sub.top in
-    word_high id.mag (id.page / 16) (id.page % 16) (id.sub / 256 / 16) (id.sub / 256 % 16) (id.sub % 256 / 16) (id.sub % 256 % 16) (omega arith) (omega arith) (omega arith) (omega arith) (omega arith) (omega arith)
+    word_high id.mag (id.page / 16) (id.page % 16) (id.sub / 256 / 16) (id.sub / 256 % 16) (id.sub % 256 / 16) (id.sub % 256 % 16)
+    (omega arith) (omega arith) (omega arith) (omega arith) (omega arith) (omega arith)

@@ -6,7 +6,8 @@ use Rattle.std.specs.List.{list_all}
 use Rattle.std.proofs.lemmas.Bool.{and_from, and_parts, cond-true}
 use Rattle.std.proofs.lemmas.Option.{cond_some}
 use Rattle.std.proofs.lemmas.Bool.Decides.{nat_tests}
-use Rattle.std.proofs.lemmas.Fmt.{decimal-digits_value, digits_decimal, digits_value-decimal, length-decimal-le, decimal_nonempty, first_decimal, decimal_digit}
+use Rattle.std.proofs.lemmas.Fmt.{decimal-digits_value, digits_decimal, digits_value-decimal, length-decimal-le}
+use Rattle.std.proofs.lemmas.Fmt.{decimal_nonempty, first_decimal, decimal_digit}
 use Rattle.std.proofs.lemmas.Str.Parse.{IsNumeralModel, numerals_by_fold, digits_value_short}
 use Rattle.ttx_digits.specs.Digits.{are_digits, decimal_after, is_between, is_number}
 use Rattle.ttx_digits.specs.Laws.{WrittenNumbersAreRead, ReadNumbersAreWritten, NumbersHoldNoSeparator}
@@ -17,8 +18,10 @@ own = numerals_by_fold _ (search rules) decimal_after (search rules)
 
 number_word : (word : List ℕ) → is_number word ≡ true → decimal (decimal_after 0 word) ≡ word
 number_word word is =
-    let last = (and_parts (are_digits word && nat_le 1 (length word) && nat_le (length word) 7) (length word == 1 || not (slice_index word 0 == 48)) is).1 in
-    let three = (and_parts (are_digits word && nat_le 1 (length word) && nat_le (length word) 7) (length word == 1 || not (slice_index word 0 == 48)) is).0 in
+    let last = (and_parts (are_digits word && nat_le 1 (length word) && nat_le (length word) 7)
+    (length word == 1 || not (slice_index word 0 == 48)) is).1 in
+    let three = (and_parts (are_digits word && nat_le 1 (length word) && nat_le (length word) 7)
+    (length word == 1 || not (slice_index word 0 == 48)) is).0 in
     let most = (and_parts (are_digits word && nat_le 1 (length word)) (nat_le (length word) 7) three).1 in
     let two = (and_parts (are_digits word && nat_le 1 (length word)) (nat_le (length word) 7) three).0 in
     let one = (and_parts (are_digits word) (nat_le 1 (length word)) two).1 in
@@ -45,8 +48,11 @@ number_read n small =
     let few : length (decimal n) ≤ 7 = length-decimal-le 7 n (omega arith) (omega arith) (omega arith) in
     let a : nat_le 1 (length (decimal n)) ≡ true = grind (arith, nat_tests) in
     let b : nat_le (length (decimal n)) 7 ≡ true = grind (arith, nat_tests) in
-    let is : is_number (decimal n) ≡ true = and_from (are_digits (decimal n) && nat_le 1 (length (decimal n)) && nat_le (length (decimal n)) 7) (length (decimal n) == 1 || not (slice_index (decimal n) 0 == 48))
-    (and_from (are_digits (decimal n) && nat_le 1 (length (decimal n))) (nat_le (length (decimal n)) 7) (and_from (are_digits (decimal n)) (nat_le 1 (length (decimal n))) (decimal_digits n small) a) b) (lead n small) in
+    let is : is_number (decimal n) ≡ true = and_from
+    (are_digits (decimal n) && nat_le 1 (length (decimal n)) && nat_le (length (decimal n)) 7)
+    (length (decimal n) == 1 || not (slice_index (decimal n) 0 == 48))
+    (and_from (are_digits (decimal n) && nat_le 1 (length (decimal n))) (nat_le (length (decimal n)) 7)
+    (and_from (are_digits (decimal n)) (nat_le 1 (length (decimal n))) (decimal_digits n small) a) b) (lead n small) in
     let value : decimal_after 0 (decimal n) ≡ n = digits_value-decimal own n (omega arith) in
     cond-true (is_number (decimal n)) (Some (decimal_after 0 (decimal n))) None is ∙ ap Some value
 

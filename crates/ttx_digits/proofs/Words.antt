@@ -58,9 +58,20 @@ all_nine a b c d e f g h i all =
 -- the digits of the word of an id
 pub id_word : (word : List ℕ) → is_id_word word ≡ true → IdWord word
 id_word word is =
-    let all = all_nine (length word == 8) (is_between 49 56 (slice_index word 0)) (is_hex (slice_index word 1)) (is_hex (slice_index word 2)) (slice_index word 3 == 47)
+    let all = all_nine (length word == 8) (is_between 49 56 (slice_index word 0)) (is_hex (slice_index word 1))
+    (is_hex (slice_index word 2)) (slice_index word 3 == 47)
     (is_hex (slice_index word 4)) (is_hex (slice_index word 5)) (is_hex (slice_index word 6)) (is_hex (slice_index word 7)) is in
-    record { magazine = all.b; tens = all.c; units = all.d; first = all.f; second = all.g; third = all.h; fourth = all.i; length = all.a; stroke = all.e }
+    record {
+      magazine = all.b;
+      tens = all.c;
+      units = all.d;
+      first = all.f;
+      second = all.g;
+      third = all.h;
+      fourth = all.i;
+      length = all.a;
+      stroke = all.e;
+    }
 
 -- the magazine of an id is a digit
 pub magazine_digit : (word : List ℕ) → is_id_word word ≡ true → 48 ≤ slice_index word 0
@@ -73,43 +84,58 @@ no_id word is_none = elim (cases_Bool (is_id_word word)) [
   | inr other ↦ rw other refl
 ]
 
-both : (weight x y : ℕ) (a b : Bool) → joined_digits weight (if a then Some x else None) (if b then Some y else None) ≡ (if a && b then Some (weight * x + y) else None)
+both : (weight x y : ℕ) (a b : Bool) → joined_digits weight (if a then Some x else None) (if b then Some y else None)
+    ≡ (if a && b then Some (weight * x + y) else None)
 both weight x y true true = refl
 both weight x y true false = refl
 both weight x y false b = refl
 
 -- two hexadecimal digits, by their tests
-pub two_by_tests : (text : List ℕ) (at : ℕ) → two_digits text at ≡ (if is_hex (slice_index text at) && is_hex (slice_index text (at + 1)) then Some (hex_pair text at) else None)
+pub two_by_tests : (text : List ℕ) (at : ℕ) → two_digits text at
+    ≡ (if is_hex (slice_index text at) && is_hex (slice_index text (at + 1)) then Some (hex_pair text at) else None)
 unfolding two_digits hex_in
-two_by_tests text at = both 16 (hex_value (slice_index text at)) (hex_value (slice_index text (at + 1))) (is_hex (slice_index text at)) (is_hex (slice_index text (at + 1)))
+two_by_tests text at = both 16 (hex_value (slice_index text at)) (hex_value (slice_index text (at + 1))) (is_hex (slice_index text at))
+    (is_hex (slice_index text (at + 1)))
 
 -- and four
 pub four_by_tests : (text : List ℕ) (at : ℕ) → four_digits text at ≡
-    (if (is_hex (slice_index text at) && is_hex (slice_index text (at + 1))) && (is_hex (slice_index text (at + 2)) && is_hex (slice_index text (at + 2 + 1)))
+    (if (is_hex (slice_index text at) && is_hex (slice_index text (at + 1)))
+    && (is_hex (slice_index text (at + 2)) && is_hex (slice_index text (at + 2 + 1)))
     then Some (256 * hex_pair text at + hex_pair text (at + 2)) else None)
 unfolding four_digits
 four_by_tests text at = ap (λ high. joined_digits 256 high (two_digits text (at + 2))) (two_by_tests text at)
-    ∙ ap (λ low. joined_digits 256 (if is_hex (slice_index text at) && is_hex (slice_index text (at + 1)) then Some (hex_pair text at) else None) low) (two_by_tests text (at + 2))
-    ∙ both 256 (hex_pair text at) (hex_pair text (at + 2)) (is_hex (slice_index text at) && is_hex (slice_index text (at + 1))) (is_hex (slice_index text (at + 2)) && is_hex (slice_index text (at + 2 + 1)))
+    ∙ ap (λ low. joined_digits 256
+    (if is_hex (slice_index text at) && is_hex (slice_index text (at + 1)) then Some (hex_pair text at) else None) low)
+    (two_by_tests text (at + 2))
+    ∙ both 256 (hex_pair text at) (hex_pair text (at + 2)) (is_hex (slice_index text at) && is_hex (slice_index text (at + 1)))
+    (is_hex (slice_index text (at + 2)) && is_hex (slice_index text (at + 2 + 1)))
 
 -- the number of the four digits of an id's word
 pub four_of_id : (word : List ℕ) → is_id_word word ≡ true → four_digits word 4 ≡ Some (256 * hex_pair word 4 + hex_pair word 6)
 four_of_id word is = let parts = id_word word is in four_by_tests word 4 ∙ rw (parts.first, parts.second, parts.third, parts.fourth) refl
 
-pub nine : (a b c d e f g h i : Bool) → a ≡ true → b ≡ true → c ≡ true → d ≡ true → e ≡ true → f ≡ true → g ≡ true → h ≡ true → i ≡ true → (a && b && c && d && e && f && g && h && i) ≡ true
+pub nine : (a b c d e f g h i : Bool) → a ≡ true → b ≡ true → c ≡ true → d ≡ true → e ≡ true → f ≡ true → g ≡ true → h ≡ true → i
+    ≡ true → (a && b && c && d && e && f && g && h && i) ≡ true
 nine a b c d e f g h i pa pb pc pd pe pf pg ph pi =
-    and_from (a && b && c && d && e && f && g && h) i (and_from (a && b && c && d && e && f && g) h (and_from (a && b && c && d && e && f) g (and_from (a && b && c && d && e) f
+    and_from (a && b && c && d && e && f && g && h) i
+    (and_from (a && b && c && d && e && f && g) h (and_from (a && b && c && d && e && f) g (and_from (a && b && c && d && e) f
     (and_from (a && b && c && d) e (and_from (a && b && c) d (and_from (a && b) c (and_from a b pa pb) pc) pd) pe) pf) pg) ph) pi
 
 -- the id of a word, by its digits
-pub id_of_digits : (word : List ℕ) (page sub : ℕ) → (length word == 8) ≡ true → is_between 49 56 (slice_index word 0) ≡ true → (slice_index word 3 == 47) ≡ true → Some page ≡ two_digits word 1 → Some sub ≡ four_digits word 4 →
+pub id_of_digits : (word : List ℕ) (page sub : ℕ) → (length word == 8) ≡ true → is_between 49 56 (slice_index word 0) ≡ true →
+    (slice_index word 3 == 47) ≡ true → Some page ≡ two_digits word 1 → Some sub ≡ four_digits word 4 →
     Some (id_at (slice_index word 0 - 48) page sub) ≡ id_in_word word
 id_of_digits word page sub long magazine stroke page_is sub_is =
     let two = cond_some (is_hex (slice_index word 1) && is_hex (slice_index word 2)) (hex_pair word 1) page (sym (page_is ∙ two_by_tests word 1)) in
-    let four = cond_some ((is_hex (slice_index word 4) && is_hex (slice_index word 5)) && (is_hex (slice_index word 6) && is_hex (slice_index word 7))) (256 * hex_pair word 4 + hex_pair word 6) sub (sym (sub_is ∙ four_by_tests word 4)) in
+    let four = cond_some ((is_hex (slice_index word 4) && is_hex (slice_index word 5))
+    && (is_hex (slice_index word 6) && is_hex (slice_index word 7))) (256 * hex_pair word 4 + hex_pair word 6) sub
+    (sym (sub_is ∙ four_by_tests word 4)) in
     let high = (and_parts _ _ four.0).0 in
     let low = (and_parts _ _ four.0).1 in
-    let is : is_id_word word ≡ true = nine (length word == 8) (is_between 49 56 (slice_index word 0)) (is_hex (slice_index word 1)) (is_hex (slice_index word 2)) (slice_index word 3 == 47)
+    let is : is_id_word word ≡ true = nine (length word == 8) (is_between 49 56 (slice_index word 0)) (is_hex (slice_index word 1))
+    (is_hex (slice_index word 2)) (slice_index word 3 == 47)
     (is_hex (slice_index word 4)) (is_hex (slice_index word 5)) (is_hex (slice_index word 6)) (is_hex (slice_index word 7))
-    long magazine ((and_parts _ _ two.0).0) ((and_parts _ _ two.0).1) stroke ((and_parts _ _ high).0) ((and_parts _ _ high).1) ((and_parts _ _ low).0) ((and_parts _ _ low).1) in
-    rw is (ap (λ p. Some (id_at (slice_index word 0 - 48) p sub)) (sym two.1) ∙ ap (λ s. Some (id_at (slice_index word 0 - 48) (hex_pair word 1) s)) (sym four.1))
+    long magazine ((and_parts _ _ two.0).0) ((and_parts _ _ two.0).1) stroke ((and_parts _ _ high).0) ((and_parts _ _ high).1)
+    ((and_parts _ _ low).0) ((and_parts _ _ low).1) in
+    rw is (ap (λ p. Some (id_at (slice_index word 0 - 48) p sub)) (sym two.1)
+    ∙ ap (λ s. Some (id_at (slice_index word 0 - 48) (hex_pair word 1) s)) (sym four.1))

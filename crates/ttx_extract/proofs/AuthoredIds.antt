@@ -14,7 +14,8 @@ id_in p = p.id
 abbrev page_in : S.Authored → Page
 page_in a = a.page
 
-pub same_ids : (pages : List PageValue) (authored : List S.Authored) → map page_of pages ≡ map (λ p. p.page) authored → S.authored_ids authored ≡ ids_of pages
+pub same_ids : (pages : List PageValue) (authored : List S.Authored) → map page_of pages ≡ map (λ p. p.page) authored →
+    S.authored_ids authored ≡ ids_of pages
 same_ids pages authored e = sym (map-map id_in page_in authored) ∙ ap (map id_in) (sym e) ∙ map-map id_in page_of pages
 
 pub distinct_ids : (pages : List PageValue) (authored : List S.Authored) → map page_of pages ≡ map (λ p. p.page) authored →

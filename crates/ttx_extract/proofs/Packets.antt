@@ -9,7 +9,8 @@ packet_is : (slot : List ℕ) (k : Kind) → kind_of slot ≡ k → packet_of sl
 unfolding packet_of
 packet_is slot k e = ap (packet_of_kind slot) e
 
-pub links_unlike : (a b : List ℕ) (m n : ℕ) (x y : Option LinkSet) → kind_of a ≡ IsLinks m → kind_of b ≡ IsLinks n → links_of m a ≡ x → links_of n b ≡ y →
+pub links_unlike : (a b : List ℕ) (m n : ℕ) (x y : Option LinkSet) → kind_of a ≡ IsLinks m → kind_of b ≡ IsLinks n → links_of m a ≡ x →
+    links_of n b ≡ y →
     (x ≡ y → ⊥) → Differs (packet_of a) (packet_of b)
 links_unlike a b m n x y ka kb ex ey unlike =
     let p : packet_of a ≡ Links m x = packet_is a (IsLinks m) ka ∙ ap (Links m) ex in

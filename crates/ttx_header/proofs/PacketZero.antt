@@ -33,12 +33,14 @@ links_is_none : (mag : ℕ) (o : Option ℕ) → IsOne (links_kind mag o) → �
 links_is_none mag None e = e
 links_is_none mag (Some d) e = cond_both (d == 0) (IsLinks mag) (IsOther mag 27) (λ k. IsOne k → ⊥) (λ _ f. f) (λ _ f. f) e
 
-by_number : (s : List ℕ) (m number mag : ℕ) → packet_kind s m number ≡ IsHeader mag → ((number == 0) ≡ true) × (are_readable (slice_range s 2 10) ≡ true) × (m ≡ mag)
+by_number : (s : List ℕ) (m number mag : ℕ) → packet_kind s m number ≡ IsHeader mag → ((number == 0) ≡ true)
+    × (are_readable (slice_range s 2 10) ≡ true) × (m ≡ mag)
 unfolding packet_kind
 by_number s m number mag =
     let P : Kind → Type 0 = λ k. k ≡ IsHeader mag → ((number == 0) ≡ true) × (are_readable (slice_range s 2 10) ≡ true) × (m ≡ mag) in
     cond_both (number == 0) _ _ P
-    (λ zero. cond_both (are_readable (slice_range s 2 10)) (IsHeader m) IsUnreadable P (λ readable e. (zero, readable, ap header_mag e)) (λ _ e. absurd (is_one _ mag e)))
+    (λ zero. cond_both (are_readable (slice_range s 2 10)) (IsHeader m) IsUnreadable P (λ readable e. (zero, readable, ap header_mag e))
+    (λ _ e. absurd (is_one _ mag e)))
     (λ _. cond_both (nat_le number 24) (IsRow m number) _ P (λ _ e. absurd (is_one _ mag e))
     (λ _. cond_both (number == 27) _ _ P (λ _ e. absurd (links_is_none m (reading (slice_index s 2)) (is_one _ mag e)))
     (λ _. cond_both ((number == 30) && (m == 8)) IsInfo (IsOther m number) P (λ _ e. absurd (is_one _ mag e)) (λ _ e. absurd (is_one _ mag e)))))
@@ -53,7 +55,8 @@ by_address s mag some (Some low) (Some high) e f k =
       some = some;
       low = ap is_some e;
       high = ap is_some f;
-      number = ap (λ o. packet_number (unwrap_or o 0) (unwrap_or (reading (slice_index s 1)) 0) == 0) e ∙ ap (λ o. packet_number low (unwrap_or o 0) == 0) f ∙ zero;
+      number = ap (λ o. packet_number (unwrap_or o 0) (unwrap_or (reading (slice_index s 1)) 0) == 0) e
+          ∙ ap (λ o. packet_number low (unwrap_or o 0) == 0) f ∙ zero;
       readable = readable;
       magazine_is = ap (λ o. magazine (unwrap_or o 0)) e ∙ same;
     }
@@ -66,7 +69,8 @@ header_case s mag =
 
 -- ---- the kind of a packet 0
 
-pub kind_of_header : (s : List ℕ) → is_empty s ≡ false → is_some (reading (slice_index s 0)) ≡ true → is_some (reading (slice_index s 1)) ≡ true → (read_number s == 0) ≡ true →
+pub kind_of_header : (s : List ℕ) → is_empty s ≡ false → is_some (reading (slice_index s 0)) ≡ true →
+    is_some (reading (slice_index s 1)) ≡ true → (read_number s == 0) ≡ true →
     are_readable (slice_range s 2 10) ≡ true → kind_of s ≡ IsHeader (magazine (unwrap_or (reading (slice_index s 0)) 0))
 unfolding kind_of packet_kind
 kind_of_header s some low high number readable = rw (some, some_of _ low, some_of _ high, number, readable) refl

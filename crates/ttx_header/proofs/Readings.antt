@@ -21,7 +21,8 @@ use Rattle.ttx_header.proofs.PacketZero.{HeaderCase, header_case, kind_of_header
 -- ---- a received header
 
 -- bytes 0 to 9 of a clean header are code words
-header_words : (s : List ℕ) (mag : ℕ) → is_clean s ≡ true → HeaderCase s mag → (are_words (slice_range s 0 2) ≡ true) × (are_words (slice_range s 2 10) ≡ true)
+header_words : (s : List ℕ) (mag : ℕ) → is_clean s ≡ true → HeaderCase s mag → (are_words (slice_range s 0 2) ≡ true)
+    × (are_words (slice_range s 2 10) ≡ true)
 unfolding is_clean
 header_words s mag clean header =
     let parts = and_parts _ _ (either _ _ clean header.some) in
@@ -33,8 +34,10 @@ module _ (kept : WordsAreKept) where
   header_is_kept sent received mag s r clean kind near =
       let header = header_case sent mag kind in
       let (front, back) = header_words sent mag clean header in
-      let low = λ (x : ℕ) (l : x < 2). ap (λ o. unwrap_or o 0) (kept sent received 0 2 s r (omega arith) front (λ y a b. near y (omega arith)) x (omega arith) l) in
-      let high = λ (x : ℕ) (k : 2 ≤ x) (l : x < 10). ap (λ o. unwrap_or o 0) (kept sent received 2 10 s r (omega arith) back (λ y a b. near y (omega arith)) x k l) in
+      let low = λ (x : ℕ) (l : x < 2). ap (λ o. unwrap_or o 0)
+      (kept sent received 0 2 s r (omega arith) front (λ y a b. near y (omega arith)) x (omega arith) l) in
+      let high = λ (x : ℕ) (k : 2 ≤ x) (l : x < 10).
+      ap (λ o. unwrap_or o 0) (kept sent received 2 10 s r (omega arith) back (λ y a b. near y (omega arith)) x k l) in
       let n0 : number received 0 ≡ number sent 0 = low 0 (omega arith) in
       let n2 : number received 2 ≡ number sent 2 = high 2 (omega arith) (omega arith) in
       let n3 : number received 3 ≡ number sent 3 = high 3 (omega arith) (omega arith) in
@@ -73,7 +76,9 @@ module _ (numbers : ReadingsAreNumbers) where
   headers_have_fields s mag is kind =
       let header = header_case s mag kind in
       let n = λ (k : ℕ). small (slice_index s k) (is.bytes k) (reading (slice_index s k)) refl in
-      let at = λ (k : ℕ) (a : 2 ≤ k) (b : k < 10). some_of (reading (slice_index s k)) (passes_in (λ b. is_some (reading b)) s 2 10 k (omega (arith, is.size)) header.readable a b) in
+      let at = λ (k : ℕ) (a : 2 ≤ k) (b : k < 10).
+      some_of (reading (slice_index s k))
+      (passes_in (λ b. is_some (reading b)) s 2 10 k (omega (arith, is.size)) header.readable a b) in
       let reads : ReadsFrom 0 s (number s 0 ∷ number s 1 ∷ numbers_behind s) = (
         some_of _ header.low,
         (
@@ -84,7 +89,16 @@ module _ (numbers : ReadingsAreNumbers) where
               at 3 (omega arith) (omega arith),
               (
                 at 4 (omega arith) (omega arith),
-                (at 5 (omega arith) (omega arith), (at 6 (omega arith) (omega arith), (at 7 (omega arith) (omega arith), (at 8 (omega arith) (omega arith), (at 9 (omega arith) (omega arith), tt))))),
+                (
+                  at 5 (omega arith) (omega arith),
+                  (
+                    at 6 (omega arith) (omega arith),
+                    (
+                      at 7 (omega arith) (omega arith),
+                      (at 8 (omega arith) (omega arith), (at 9 (omega arith) (omega arith), tt)),
+                    ),
+                  ),
+                ),
               ),
             ),
           ),
@@ -118,9 +132,21 @@ headers_are_headers s is header =
     let parts = and_parts _ _ header in
     let at = λ (k : ℕ) (l : k < 10). passes_in (λ b. is_some (reading b)) s 0 10 k (omega (arith, is.size)) parts.0 (omega arith) l in
     let some = λ (k : ℕ) (l : k < 10). some_of (reading (slice_index s k)) (at k l) in
-    let reads : ReadsFrom 2 s (numbers_behind s) =
-    (some 2 (omega arith), (some 3 (omega arith), (some 4 (omega arith), (some 5 (omega arith), (some 6 (omega arith), (some 7 (omega arith), (some 8 (omega arith), (some 9 (omega arith), tt)))))))) in
-    kind_of_header s not_empty (at 0 (omega arith)) (at 1 (omega arith)) parts.1 (read_bytes_are_readable s 2 (numbers_behind s) (omega (arith, is.size)) reads)
+    let reads : ReadsFrom 2 s (numbers_behind s) = (
+      some 2 (omega arith),
+      (
+        some 3 (omega arith),
+        (
+          some 4 (omega arith),
+          (
+            some 5 (omega arith),
+            (some 6 (omega arith), (some 7 (omega arith), (some 8 (omega arith), (some 9 (omega arith), tt)))),
+          ),
+        ),
+      ),
+    ) in
+    kind_of_header s not_empty (at 0 (omega arith)) (at 1 (omega arith)) parts.1
+    (read_bytes_are_readable s 2 (numbers_behind s) (omega (arith, is.size)) reads)
   where
     not_empty : is_empty s ≡ false
     not_empty = elim (cases_Bool (is_empty s)) as (λ _. is_empty s ≡ false) [
@@ -232,8 +258,22 @@ module _ (numbers : ReadableBytesHaveNumbers) (kinds : HeadersAreHeaders) (range
 -- ---- a header that is written
 
 numbers_are_small : (h : HeaderFields) → IsHeaderFields h → AreNumbers (numbers_of h)
-numbers_are_small h is =
-    (omega arith, (omega arith, (omega arith, (omega (arith, is.id.page), (omega arith, (omega arith, (omega arith, (omega (arith, is.id.sub.top), (omega arith, (omega (arith, is.control), tt))))))))))
+numbers_are_small h is = (
+  omega arith,
+  (
+    omega arith,
+    (
+      omega arith,
+      (
+        omega (arith, is.id.page),
+        (
+          omega arith,
+          (omega arith, (omega arith, (omega (arith, is.id.sub.top), (omega arith, (omega (arith, is.control), tt))))),
+        ),
+      ),
+    ),
+  ),
+)
 
 zero_kind : (s : List ℕ) (mag : ℕ) → are_readable (slice_range s 2 10) ≡ true → packet_kind s mag 0 ≡ IsHeader mag
 unfolding packet_kind
@@ -258,13 +298,16 @@ module _ (address : AddressIsReadBack) (written : WrittenWordsAreRead) where
       let fields = said h s is (omega (arith, long)) reads in
       let rest = map hamming_word (drop 2 (numbers_of h)) ++ after in
       let back : IsReadBack h.id.mag 0 rest = address h.id.mag 0 rest is.id.mag_from is.id.mag_to (omega arith) in
-      let same : address_bytes h.id.mag 0 ++ rest ≡ s = ap (λ n. hamming_word n ∷ hamming_word 0 ∷ rest) (let e : h.id.mag % 8 + 8 * (0 % 2) ≡ h.id.mag % 8 = omega arith in e) in
+      let same : address_bytes h.id.mag 0 ++ rest ≡ s =
+      ap (λ n. hamming_word n ∷ hamming_word 0 ∷ rest) (let e : h.id.mag % 8 + 8 * (0 % 2) ≡ h.id.mag % 8 = omega arith in e)
+      in
       let text : slice_range s 10 34 ≡ h.text = take_at h.text h.clock 24 is.text in
       let clock : slice_range s 34 42 ≡ h.clock = ap (take 8) (drop_at h.text h.clock 24 is.text) ∙ take_all 8 h.clock (omega (arith, is.clock)) in
       let readable : are_readable (slice_range s 2 10) ≡ true = read_bytes_are_readable s 2 (drop 2 (numbers_of h)) (omega (arith, long)) reads.1.1 in
       record {
         kind = subst (λ t. kind_of t ≡ packet_kind t h.id.mag 0) same back.kind ∙ zero_kind s h.id.mag readable;
-        clean = clean_header s (written [] (take 2 (numbers_of h)) [] (n0, (n1, tt))).1 (subst (λ t. read_number t ≡ 0) same back.numbered) (written [] (drop 2 (numbers_of h)) [] small).1;
+        clean = clean_header s (written [] (take 2 (numbers_of h)) [] (n0, (n1, tt))).1
+            (subst (λ t. read_number t ≡ 0) same back.numbered) (written [] (drop 2 (numbers_of h)) [] small).1;
         says = record { numbers = reads; text = text; clock = clock };
         header = fields.header;
         fields = λ i. record { id = fields.id i; control = fields.control i; text = text i; clock = clock i };

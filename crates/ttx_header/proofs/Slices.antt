@@ -26,7 +26,8 @@ passes_at test (x ∷ xs) zero h l = (and_parts (test x) (list_all test xs) h).0
 passes_at test (x ∷ xs) (suc k) h l = passes_at test xs k (and_parts (test x) (list_all test xs) h).1 (omega arith)
 
 -- the test of one byte of a part
-pub passes_in : (test : ℕ → Bool) (s : List ℕ) (a b x : ℕ) → b ≤ length s → list_all test (slice_range s a b) ≡ true → a ≤ x → x < b → test (slice_index s x) ≡ true
+pub passes_in : (test : ℕ → Bool) (s : List ℕ) (a b x : ℕ) → b ≤ length s → list_all test (slice_range s a b) ≡ true → a ≤ x → x < b →
+    test (slice_index s x) ≡ true
 passes_in test s a b x l h low high =
     let inside : x - a < length (slice_range s a b) = omega (arith, length_range s a b l (omega arith)) in
     let there : get_or (slice_range s a b) (x - a) 0 ≡ get_or s x 0 =
@@ -40,18 +41,21 @@ module _ (corrected : WordsAreReadUnderOneWrongBit) where
 
 -- ---- bytes that read as numbers
 
-pub reads_at : (s : List ℕ) (k : ℕ) (ns : List ℕ) → ReadsFrom k s ns → (i : ℕ) → i < length ns → reading (slice_index s (k + i)) ≡ Some (slice_index ns i)
+pub reads_at : (s : List ℕ) (k : ℕ) (ns : List ℕ) → ReadsFrom k s ns → (i : ℕ) → i < length ns → reading (slice_index s (k + i))
+    ≡ Some (slice_index ns i)
 reads_at s k [] r i l = absurd (omega arith)
 reads_at s k (n ∷ ns) r zero l = subst (λ j. reading (slice_index s j) ≡ Some n) (let e : k ≡ k + 0 = omega arith in e) r.0
 reads_at s k (n ∷ ns) r (suc i) l =
-    subst (λ j. reading (slice_index s j) ≡ Some (slice_index ns i)) (let e : k + 1 + i ≡ k + suc i = omega arith in e) (reads_at s (k + 1) ns r.1 i (omega arith))
+    subst (λ j. reading (slice_index s j) ≡ Some (slice_index ns i)) (let e : k + 1 + i ≡ k + suc i = omega arith in e)
+    (reads_at s (k + 1) ns r.1 i (omega arith))
 
 pub read_bytes_are_readable : ReadBytesAreReadable
 read_bytes_are_readable s k ns l r =
     list_all-from_AllPass (λ b. is_some (reading b)) (slice_range s k (k + length ns)) (λ i d m.
     let long : length (slice_range s k (k + length ns)) ≡ length ns = length_range s k (k + length ns) l (omega arith) ∙ omega arith in
     let inside : k + i < length s = omega (arith, long, m) in
-    let there : get_or (slice_range s k (k + length ns)) i d ≡ get_or s (k + i) 0 = at_range s k (k + length ns) i d (omega (arith, long, m)) ∙ get_or_any s (k + i) d 0 inside in
+    let there : get_or (slice_range s k (k + length ns)) i d ≡ get_or s (k + i) 0 =
+    at_range s k (k + length ns) i d (omega (arith, long, m)) ∙ get_or_any s (k + i) d 0 inside in
     ap (λ b. is_some (reading b)) there ∙ ap is_some (reads_at s k ns r i (omega (arith, long, m))))
   where
     get_or_any : (xs : List ℕ) (i d e : ℕ) → i < length xs → get_or xs i d ≡ get_or xs i e

@@ -15,7 +15,9 @@ half_is_digit n unit = both (nat_le 1 (half_byte n unit)) (nat_le (half_byte n u
 
 pub date_is_digits : (mjd : ℕ) → list_all is_half_digit (date_halves mjd) ≡ true
 date_is_digits n =
-    both _ _ (half_is_digit n 10000) (both _ _ (half_is_digit n 1000) (both _ _ (half_is_digit n 100) (both _ _ (half_is_digit n 10) (both _ _ (half_is_digit n 1) refl))))
+    both _ _ (half_is_digit n 10000)
+    (both _ _ (half_is_digit n 1000)
+    (both _ _ (half_is_digit n 100) (both _ _ (half_is_digit n 10) (both _ _ (half_is_digit n 1) refl))))
 
 pub time_is_digits : (utc : ℕ) → list_all is_half_digit (time_halves utc) ≡ true
 time_is_digits n = both _ _ (half_is_digit n 100000) (date_is_digits n)

@@ -19,7 +19,8 @@ use Rattle.ttx_info.specs.Laws.{ReadInfosAreSaid}
 use Rattle.ttx_info.specs.declared.faults.InfoFault.{InfoFault}
 
 -- a test that didn't lead to a fault
-passed : (b : Bool) (fault : InfoFault) (rest : Result InfoFields InfoFault) (f : InfoFields) → (if b then Err fault else rest) ≡ Ok f → (b ≡ false) × (rest ≡ Ok f)
+passed : (b : Bool) (fault : InfoFault) (rest : Result InfoFields InfoFault) (f : InfoFields) → (if b then Err fault else rest) ≡ Ok f →
+    (b ≡ false) × (rest ≡ Ok f)
 passed true fault rest f e = cc
 passed false fault rest f e = (refl, e)
 
@@ -94,7 +95,8 @@ sends_its_code_table = refl
 byte_again : (b : ℕ) → b < 256 → is_odd b ≡ true → b ≡ odd_byte (b % 128)
 byte_again b l odd = sym (eqb-true _ _ (implied (is_odd b) _ (agree_below_at sends_its_code (λ _. true) 256 b sends_its_code_table l) odd))
 
-text_again : (text : List ℕ) → ((k : ℕ) → k < length text → get_or text k 0 < 256) → list_all is_odd text ≡ true → text ≡ map odd_byte (map (λ b. b % 128) text)
+text_again : (text : List ℕ) → ((k : ℕ) → k < length text → get_or text k 0 < 256) → list_all is_odd text ≡ true → text
+    ≡ map odd_byte (map (λ b. b % 128) text)
 text_again [] small odd = refl
 text_again (b ∷ text) small odd =
     let parts = and_parts (is_odd b) (list_all is_odd text) odd in
@@ -115,7 +117,8 @@ length_range s a b l m = length-take-le (b - a) (drop a s) (omega (arith, length
 
 module _ (link : ReadLinkIsSaid) where
   -- the fields that are read, where no test leads to a fault
-  said : (s : List ℕ) → IsSlot s → is_some (reading (slice_index s 2)) ≡ true → nat_lt 1 (number s 2) ≡ false → are_readable (slice_range s 3 9) ≡ true →
+  said : (s : List ℕ) → IsSlot s → is_some (reading (slice_index s 2)) ≡ true → nat_lt 1 (number s 2) ≡ false →
+      are_readable (slice_range s 3 9) ≡ true →
       list_all is_half_digit (date_digits s) ≡ true → list_all is_half_digit (time_digits s) ≡ true → list_all is_odd (slice_range s 22 42) ≡ true →
       IsInfoFields (info_fields s) × IsLink (info_fields s).initial × SaysInfo (info_fields s) s
   said s is first low linked date time odd =
@@ -123,7 +126,8 @@ module _ (link : ReadLinkIsSaid) where
       let (mjd, days) = date_again _ _ _ _ _ date in
       let (utc, seconds) = time_again _ _ _ _ _ _ time in
       let size : length (slice_range s 22 42) ≡ 20 = length_range s 22 42 (omega (arith, is.size)) (omega arith) in
-      let bytes = λ (k : ℕ) (l : k < length (slice_range s 22 42)). subst (λ b. b < 256) (sym (byte_at s 22 42 k (omega (arith, l, size)))) (is.bytes (22 + k)) in (
+      let bytes = λ (k : ℕ) (l : k < length (slice_range s 22 42)).
+      subst (λ b. b < 256) (sym (byte_at s 22 42 k (omega (arith, l, size)))) (is.bytes (22 + k)) in (
         record {
           range = record {
             designation = grind (arith, nat_tests, low);
@@ -157,7 +161,8 @@ module _ (link : ReadLinkIsSaid) where
       let (digits, e4) = passed _ _ _ f e3 in
       let (odd, e5) = passed _ _ _ f e4 in
       let both = and_parts (list_all is_half_digit (date_digits s)) (list_all is_half_digit (time_digits s)) (turned _ digits) in
-      subst (λ g. IsInfoFields g × IsLink g.initial × SaysInfo g s) (ap (λ r. the r) e5) (said s is (turned _ first) low (turned _ linked) both.0 both.1 (turned _ odd))
+      subst (λ g. IsInfoFields g × IsLink g.initial × SaysInfo g s) (ap (λ r. the r) e5)
+      (said s is (turned _ first) low (turned _ linked) both.0 both.1 (turned _ odd))
     where
       the : Result InfoFields InfoFault → InfoFields
       the (Ok g) = g

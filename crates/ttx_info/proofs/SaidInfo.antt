@@ -8,7 +8,8 @@ use Rattle.ttx_code.specs.Laws.{OddBytesHoldTheirCodes}
 use Rattle.ttx_header.specs.Headers.{number}
 use Rattle.ttx_links.specs.Sets.{IsLink}
 use Rattle.ttx_links.specs.Laws.{SaidLinkIsRead}
-use Rattle.ttx_info.specs.Infos.{InfoFields, IsInfoFields, info_at, is_half_digit, value_of, date_digits, time_digits, info_fields, info_of, info_behind_link, SaysInfo}
+use Rattle.ttx_info.specs.Infos.{InfoFields, IsInfoFields, info_at, is_half_digit, value_of, date_digits}
+use Rattle.ttx_info.specs.Infos.{time_digits, info_fields, info_of, info_behind_link, SaysInfo}
 use Rattle.ttx_info.proofs.Digits.{both, date_is_digits, time_is_digits, date_value, time_value, codes_of_bytes, bytes_are_odd}
 
 not_above_one : (n : ℕ) → n < 2 → nat_lt 1 n ≡ false

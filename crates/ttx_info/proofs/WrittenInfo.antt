@@ -54,7 +54,8 @@ digits_of_date s mjd a b c =
     let d4 : slice_index s 14 % 16 ≡ half_byte mjd 1 = omega (arith, c) in
     λ i. d0 i ∷ d1 i ∷ d2 i ∷ d3 i ∷ d4 i ∷ []
 
-digits_of_time : (s : List ℕ) (utc : ℕ) → slice_index s 15 ≡ 16 * half_byte utc 100000 + half_byte utc 10000 → slice_index s 16 ≡ 16 * half_byte utc 1000 + half_byte utc 100 →
+digits_of_time : (s : List ℕ) (utc : ℕ) → slice_index s 15 ≡ 16 * half_byte utc 100000 + half_byte utc 10000 → slice_index s 16
+    ≡ 16 * half_byte utc 1000 + half_byte utc 100 →
     slice_index s 17 ≡ 16 * half_byte utc 10 + half_byte utc 1 → time_digits s ≡ time_halves utc
 digits_of_time s utc a b c =
     let d0 : slice_index s 15 / 16 ≡ half_byte utc 100000 = omega (arith, a) in
@@ -65,7 +66,8 @@ digits_of_time s utc a b c =
     let d5 : slice_index s 17 % 16 ≡ half_byte utc 1 = omega (arith, c) in
     λ i. d0 i ∷ d1 i ∷ d2 i ∷ d3 i ∷ d4 i ∷ d5 i ∷ []
 
-module _ (read : WordsAreRead) (holds : OddBytesHoldTheirCodes) (address : AddressIsReadBack) (link : SaidLinkIsRead) (written : WrittenLinkIsSaid) where
+module _ (read : WordsAreRead) (holds : OddBytesHoldTheirCodes) (address : AddressIsReadBack) (link : SaidLinkIsRead)
+    (written : WrittenLinkIsSaid) where
   pub written_infos_are_read : WrittenInfosAreRead
   written_infos_are_read f is target =
       let s = info_bytes f in
@@ -85,11 +87,15 @@ module _ (read : WordsAreRead) (holds : OddBytesHoldTheirCodes) (address : Addre
       let l5 : length text ≡ 20 = length-map _ _ ∙ is.text in
       let size : length s ≡ 42 = omega (arith, length-append (front ++ initial ++ f.network ++ times) text, l4, l5) in
       let network : slice_range s 9 11 ≡ f.network =
-      subst (λ t. slice_range t 9 11 ≡ f.network) second (ap (take 2) (drop_at (front ++ initial) after 9 l2) ∙ take_at f.network (times ++ text) 2 is.network) in
+      subst (λ t. slice_range t 9 11 ≡ f.network) second
+      (ap (take 2) (drop_at (front ++ initial) after 9 l2) ∙ take_at f.network (times ++ text) 2 is.network) in
       let clock : slice_range s 11 22 ≡ times =
-      subst (λ t. slice_range t 11 22 ≡ times) third (ap (take 11) (drop_at (front ++ initial ++ f.network) (times ++ text) 11 l3) ∙ take_at times text 11 refl) in
-      let characters : slice_range s 22 42 ≡ text = ap (take 20) (drop_at (front ++ initial ++ f.network ++ times) text 22 l4) ∙ take_all 20 text (omega (arith, l5)) in
-      let at = λ (k : ℕ) (l : k < 11). (let e : get_or s (11 + k) 0 ≡ get_or times k 0 = at_range s 11 22 k l ∙ ap (λ xs. get_or xs k 0) clock in e) in
+      subst (λ t. slice_range t 11 22 ≡ times) third
+      (ap (take 11) (drop_at (front ++ initial ++ f.network) (times ++ text) 11 l3) ∙ take_at times text 11 refl) in
+      let characters : slice_range s 22 42 ≡ text = ap (take 20) (drop_at (front ++ initial ++ f.network ++ times) text 22 l4)
+      ∙ take_all 20 text (omega (arith, l5)) in
+      let at = λ (k : ℕ) (l : k < 11).
+      (let e : get_or s (11 + k) 0 ≡ get_or times k 0 = at_range s 11 22 k l ∙ ap (λ xs. get_or xs k 0) clock in e) in
       let third_byte : reading (slice_index s 2) ≡ Some f.designation =
       subst (λ t. reading (slice_index t 2) ≡ Some f.designation) first (read f.designation (omega (arith, is.range.designation))) in
       let says : SaysInfo f s = record {

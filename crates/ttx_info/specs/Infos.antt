@@ -5,7 +5,8 @@
 --   IsInfoRange, IsInfoFields       their ranges
 --   digits_of, is_half_digit, value_of   the half bytes of date and time, each a digit plus one
 --   info_fields, info_of      what the bytes of a packet say, or why they say nothing
---   are_clock_digits, info_behind_link, DecidesLink       the parts of that judgment: the clock, what stands behind the link, and what stands before it
+--   are_clock_digits, info_behind_link, DecidesLink       the parts of that judgment: the clock, what stands behind the link, and
+--                               what stands before it
 --   half_byte, offset_byte, date_bytes, time_bytes, info_bytes          the bytes that are written
 --   SaysInfo                    the packet that 42 bytes say
 use Rattle.std.specs.Prelude.{◌≡◌, ℕ, ◌+◌, ◌-◌, ◌*◌, ◌/◌, ◌%◌, ◌<◌, List, [], ◌∷◌, ◌++◌, All, Bool, nat_le, nat_lt, not, ◌==◌, ◌&&◌}

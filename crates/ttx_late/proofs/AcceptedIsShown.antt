@@ -18,14 +18,18 @@ use Rattle.ttx_late.specs.SeenLate.{SeenLate}
 use Rattle.ttx_certify.proofs.AcceptedIsSeen.{StreamLaws, fits_matches, steady_from, brought}
 use Rattle.ttx_late.proofs.RunsAreShown.{page_heads}
 
-module _ (laws : StreamLaws) (cycle : List (List ℕ)) (pages : List Page) (w : Certificate) (is_cycle : IsCycle cycle) (are_pages : ArePages pages) (is_certificate : IsCertificate w)
+module _ (laws : StreamLaws) (cycle : List (List ℕ)) (pages : List Page) (w : Certificate) (is_cycle : IsCycle cycle)
+    (are_pages : ArePages pages) (is_certificate : IsCertificate w)
     (accepts : Accepts cycle pages w) (n : ℕ) (p : Page) (here : slice_get pages n ≡ Some p) where
   shown : RunsAreShown → (gap : ℕ) → IsFollowedWithin (repeated cycle) p.id gap → SeenLate cycle pages p w gap
   shown runs gap followed = record {
     shown = λ sel fits tau former d received is_former permitted long run.
         let late : ((tau +ℤ pos (limit w)) +ℤ pos gap) ≤ℤ (tau +ℤ pos (length received)) = omega (arith, ints, long) in
-        runs (repeated cycle) p sel w.class w.lines w.repeat tau (tau +ℤ pos (limit w)) (are_pages n p here) is_certificate.few_lines (fits_matches pages p sel fits)
-        (steady_from laws cycle pages w is_cycle are_pages is_certificate accepts n p here sel fits tau) (brought laws cycle pages w is_cycle are_pages is_certificate accepts n p here tau) gap followed former d received is_former permitted run late;
+        runs (repeated cycle) p sel w.class w.lines w.repeat tau (tau +ℤ pos (limit w)) (are_pages n p here) is_certificate.few_lines
+        (fits_matches pages p sel fits)
+        (steady_from laws cycle pages w is_cycle are_pages is_certificate accepts n p here sel fits tau)
+        (brought laws cycle pages w is_cycle are_pages is_certificate accepts n p here tau) gap followed former d received
+        is_former permitted run late;
   }
 
 pub accepted_is_shown : RunsAreShown → StreamLaws → AcceptedIsShown
@@ -41,7 +45,9 @@ followed_is_within repeat cycle page some followed h head =
       f,
       elim (cases_ltz round f.slot) as (λ _. f.slot ≤ℤ round) [
         | inr le ↦ le
-        | inl lt ↦ absurd (both_ways _ (f.next.none_between round after lt) (page_heads page (packet_of (repeated cycle round)) (subst (λ slot. heads_page page (packet_of slot) ≡ true) (sym (repeat cycle some h)) head)))
+        | inl lt ↦ absurd (both_ways _ (f.next.none_between round after lt)
+            (page_heads page (packet_of (repeated cycle round))
+            (subst (λ slot. heads_page page (packet_of slot) ≡ true) (sym (repeat cycle some h)) head)))
       ],
     )
 
@@ -58,6 +64,17 @@ each_list_runs_late class lines sel d (slot ∷ received) =
           (rest.0, (mid, record { base = d.gathered; from = inl refl; step = record { choice = false; is = refl }; shown = inl refl }, rest.1))
       | inr stays ↦
           let mid : LateMemory = record { gathered = gathered; shown = d.shown } in
-          let rest = each_list_runs_late class lines sel mid received in
-          (rest.0, (mid, record { base = d.gathered; from = inl refl; step = record { choice = false; is = refl }; shown = inr (inr (refl, stays)) }, rest.1))
+          let rest = each_list_runs_late class lines sel mid received in (
+            rest.0,
+            (
+              mid,
+              record {
+                base = d.gathered;
+                from = inl refl;
+                step = record { choice = false; is = refl };
+                shown = inr (inr (refl, stays));
+              },
+              rest.1,
+            ),
+          )
     ]

@@ -32,7 +32,8 @@ pub number_is : (sel : Selection) (page : Id) → matches sel page ≡ true → 
 number_is (Exact own) page h = eqb-true own.page page.page ((and_parts (own.mag == page.mag) _ (and_parts _ _ h).0).1)
 number_is (AnySub mag number) page h = eqb-true number page.page ((and_parts (mag == page.mag) _ h).1)
 
-another_is : (sel : Selection) (page : Id) → selected_mag sel ≡ page.mag → selected_number sel ≡ page.page → (pkt : Packet) → heads_another page pkt ≡ true → IsAnother sel pkt
+another_is : (sel : Selection) (page : Id) → selected_mag sel ≡ page.mag → selected_number sel ≡ page.page → (pkt : Packet) →
+    heads_another page pkt ≡ true → IsAnother sel pkt
 another_is sel page mag number (Header id control text) h = (
   subst (λ m. (id.mag == m) ≡ true) (sym mag) ((and_parts (id.mag == page.mag) _ h).0),
   and_right (id.mag == selected_mag sel) _ (subst (λ n. (id.page == n) ≡ false) (sym number) (not-true _ ((and_parts (id.mag == page.mag) _ h).1))),
@@ -49,7 +50,8 @@ abbrev pub AreOf : Stream → ℤ → List (List ℕ) → Type 0
 AreOf s begin [] = Unit {0}
 AreOf s begin (slot ∷ rest) = SameTests (s begin) slot × AreOf s (begin +ℤ pos 1) rest
 
-pub of_received : KindIsKept → HeaderIsKept → (s : Stream) (begin : ℤ) (received : List (List ℕ)) → ((j : ℤ) → begin ≤ℤ j → IsSlot (s j) × (is_clean (s j) ≡ true)) →
+pub of_received : KindIsKept → HeaderIsKept → (s : Stream) (begin : ℤ) (received : List (List ℕ)) →
+    ((j : ℤ) → begin ≤ℤ j → IsSlot (s j) × (is_clean (s j) ≡ true)) →
     ((n : ℕ) → n < length received → MayBeReceivedAs (s (begin +ℤ pos n)) (get_or received n [])) → AreOf s begin received
 of_received kind header s begin [] clean each = tt
 of_received kind header s begin (slot ∷ rest) clean each =
@@ -58,12 +60,14 @@ of_received kind header s begin (slot ∷ rest) clean each =
     let c = clean begin here in (
       same_tests kind header (s begin) slot c.0 c.1 (subst (λ z. MayBeReceivedAs (s z) slot) zero_on (each 0 (omega arith))),
       of_received kind header s (begin +ℤ pos 1) rest (λ j le. clean j (omega (arith, ints)))
-          (λ n lt. let e : begin +ℤ pos (suc n) ≡ (begin +ℤ pos 1) +ℤ pos n = omega (arith, ints) in subst (λ z. MayBeReceivedAs (s z) (get_or rest n [])) e (each (suc n) (omega arith))),
+          (λ n lt. let e : begin +ℤ pos (suc n) ≡ (begin +ℤ pos 1) +ℤ pos n = omega (arith, ints)
+          in subst (λ z. MayBeReceivedAs (s z) (get_or rest n [])) e (each (suc n) (omega arith))),
     )
 
 module _ (s : Stream) (sel : Selection) where
   -- the next header of the magazine stands at slot j, and has another number
-  ends_at : (j : ℤ) → IsAnother sel (packet_of (s j)) → (rest : List (List ℕ)) (begin : ℤ) (k : ℕ) → AreOf s begin rest → begin ≤ℤ j → j ≤ℤ (begin +ℤ pos k) →
+  ends_at : (j : ℤ) → IsAnother sel (packet_of (s j)) → (rest : List (List ℕ)) (begin : ℤ) (k : ℕ) → AreOf s begin rest → begin ≤ℤ j →
+      j ≤ℤ (begin +ℤ pos k) →
       ((i : ℤ) → begin ≤ℤ i → i <ℤ j → heads (selected_mag sel) (packet_of (s i)) ≡ false) → Ends sel rest k
   ends_at j another [] begin k of from to none = tt
   ends_at j another (slot ∷ rest) begin k of from to none = elim (cases_ltz begin j) as (λ _. Ends sel (slot ∷ rest) k) [
@@ -77,12 +81,14 @@ module _ (s : Stream) (sel : Selection) where
         inr (
           of.0.heads (selected_mag sel) ∙ none begin self lt,
           some,
-          ends_at j another rest (begin +ℤ pos 1) (k - 1) of.1 (omega (arith, ints)) (omega (arith, ints)) (λ i low high. none i (omega (arith, ints)) high),
+          ends_at j another rest (begin +ℤ pos 1) (k - 1) of.1 (omega (arith, ints)) (omega (arith, ints))
+              (λ i low high. none i (omega (arith, ints)) high),
         )
   ]
 
   pub all_end : (page : Id) (gap : ℕ) → selected_mag sel ≡ page.mag → selected_number sel ≡ page.page → IsFollowedWithin s page gap →
-      (rest : List (List ℕ)) (begin : ℤ) → ((j : ℤ) → begin ≤ℤ j → heads_matched sel (packet_of (s j)) ≡ true → heads_page page (packet_of (s j)) ≡ true) →
+      (rest : List (List ℕ)) (begin : ℤ) →
+      ((j : ℤ) → begin ≤ℤ j → heads_matched sel (packet_of (s j)) ≡ true → heads_page page (packet_of (s j)) ≡ true) →
       AreOf s begin rest → AllEnd sel gap rest
   all_end page gap mag number followed [] begin own of = tt
   all_end page gap mag number followed (slot ∷ rest) begin own of = (
@@ -93,7 +99,8 @@ module _ (s : Stream) (sel : Selection) where
         let near = f.1 in
         let some : 0 < gap = omega (arith, ints) in (
           some,
-          ends_at f.0.slot (another_is sel page mag number (packet_of (s f.0.slot)) f.0.another) rest (begin +ℤ pos 1) (gap - 1) of.1 (omega (arith, ints)) (omega (arith, ints))
+          ends_at f.0.slot (another_is sel page mag number (packet_of (s f.0.slot)) f.0.another) rest (begin +ℤ pos 1) (gap - 1) of.1
+              (omega (arith, ints)) (omega (arith, ints))
               (λ i low high. subst (λ m. heads m (packet_of (s i)) ≡ false) (sym mag) (f.0.next.none_between i (omega (arith, ints)) high)),
         ),
     all_end page gap mag number followed rest (begin +ℤ pos 1) (λ j le. own j (omega (arith, ints))) of.1,
@@ -107,7 +114,8 @@ module _ (s : Stream) (page : Id) (repeat : ℕ) (tau : ℤ) (n : ℕ) (received
       let inside : a.index < n = omega (arith, ints) in
       record { index = a.index; place = a.place; right = ap (λ y. slice_index y x) (get_or-take n received a.index [] inside) ∙ a.right }
 
-  one_before : (x : ℕ) (slots : List ℤ) → AllByRecursion (λ j. (tau ≤ℤ j) × (j <ℤ (tau +ℤ pos (length (take n received))))) slots → OneIs (IsRight s tau received x) slots → OneIs (IsRight s tau (take n received) x) slots
+  one_before : (x : ℕ) (slots : List ℤ) → AllByRecursion (λ j. (tau ≤ℤ j) × (j <ℤ (tau +ℤ pos (length (take n received))))) slots →
+      OneIs (IsRight s tau received x) slots → OneIs (IsRight s tau (take n received) x) slots
   one_before x [] a b = b
   one_before x (j ∷ slots) a b = elim b as (λ _. OneIs (IsRight s tau (take n received) x) (j ∷ slots)) [
     | inl r ↦ let k = a.0.1 in let l = length-take-le n received le in inl (right_before x j (omega (arith, ints)) r)
@@ -121,9 +129,11 @@ module _ (s : Stream) (page : Id) (repeat : ℕ) (tau : ℤ) (n : ℕ) (received
         each = λ i lt.
             let inside : i < n = omega arith in
             subst (MayBeReceivedAs (s (tau +ℤ pos i))) (sym (get_or-take n received i [] inside)) (a.each i (omega arith));
-        one_right = λ item x text slots count successive all. one_before x slots all (a.one_right item x text slots count successive (wider slots all));
+        one_right = λ item x text slots count successive all.
+            one_before x slots all (a.one_right item x text slots count successive (wider slots all));
       }
     where
-      wider : (slots : List ℤ) → AllByRecursion (λ j. (tau ≤ℤ j) × (j <ℤ (tau +ℤ pos (length (take n received))))) slots → AllByRecursion (λ j. (tau ≤ℤ j) × (j <ℤ (tau +ℤ pos (length received)))) slots
+      wider : (slots : List ℤ) → AllByRecursion (λ j. (tau ≤ℤ j) × (j <ℤ (tau +ℤ pos (length (take n received))))) slots →
+          AllByRecursion (λ j. (tau ≤ℤ j) × (j <ℤ (tau +ℤ pos (length received)))) slots
       wider [] b = tt
       wider (j ∷ slots) b = ((b.0.0, (let k = b.0.1 in let l = length-take-le n received le in omega (arith, ints))), wider slots b.1)

@@ -25,10 +25,12 @@ unfolding packet_of
 packet_is slot k e = ap (packet_of_kind slot) e
 
 -- what is read of a header is what its packet says
-pub id_told : (slot : List ℕ) → IsSlot slot → HeadersHaveFields → HeadersAreHeaders → (o : Option HeaderFields) → SomeIff o (is_header slot ≡ true) (header_fields_of slot) →
+pub id_told : (slot : List ℕ) → IsSlot slot → HeadersHaveFields → HeadersAreHeaders → (o : Option HeaderFields) →
+    SomeIff o (is_header slot ≡ true) (header_fields_of slot) →
     MatchOption o (HoldsNoId (packet_of slot)) (λ h. HoldsId h.id (packet_of slot))
 id_told slot is fields headers (Some h) told =
-    subst (λ x. HoldsId x.id (packet_of slot)) (sym told.1) (subst (HoldsId (id_of slot)) (sym (packet_is slot (IsHeader (id_of slot).mag) (headers slot is told.0))) refl)
+    subst (λ x. HoldsId x.id (packet_of slot)) (sym told.1)
+    (subst (HoldsId (id_of slot)) (sym (packet_is slot (IsHeader (id_of slot).mag) (headers slot is told.0))) refl)
 id_told slot is fields headers None none = go (kind_of slot) refl
   where
     go : (k : Kind) → kind_of slot ≡ k → HoldsNoId (packet_of slot)
@@ -49,7 +51,8 @@ heads_told id mag (Links m c) h = absurd h
 heads_told id mag Info h = absurd h
 heads_told id mag Other h = absurd h
 
-pub another_told : (id page : Id) (packet : Packet) → HoldsId id packet → heads_another page packet ≡ ((id.mag == page.mag) && not (id.page == page.page))
+pub another_told : (id page : Id) (packet : Packet) → HoldsId id packet → heads_another page packet
+    ≡ ((id.mag == page.mag) && not (id.page == page.page))
 another_told id page (Header own control text) h = ap (λ x. (x.mag == page.mag) && not (x.page == page.page)) (sym h)
 another_told id page Empty h = absurd h
 another_told id page Unreadable h = absurd h
@@ -105,7 +108,8 @@ tested_is a b h =
     λ i. record { mag = mag i; page = page i; sub = sub i }
 
 pub tested_self : (a b : Id) → a ≡ b → tested a b ≡ true
-tested_self a b e = subst (λ x. tested a x ≡ true) e (and_from _ _ (eq-eqb a.mag a.mag refl) (and_from _ _ (eq-eqb a.page a.page refl) (eq-eqb a.sub a.sub refl)))
+tested_self a b e = subst (λ x. tested a x ≡ true) e
+    (and_from _ _ (eq-eqb a.mag a.mag refl) (and_from _ _ (eq-eqb a.page a.page refl) (eq-eqb a.sub a.sub refl)))
 
 self_is : (a : Id) → same_id a a ≡ true
 self_is a = and_from _ _ (and_from _ _ (eq-eqb a.mag a.mag refl) (eq-eqb a.page a.page refl)) (eq-eqb a.sub a.sub refl)
@@ -165,13 +169,15 @@ module _ (cycle : List (List ℕ)) (page : Id) (at : ℕ) (inside : at < length 
         subst (λ z. heads page.mag (packet_of (repeated cycle z)) ≡ false) (sym e) (none k lt)
 
     -- the next header of the magazine, if it has another number, stands there
-    place : (step : ℕ) → NoneTo step → heads page.mag (packet_of (slot_on step)) ≡ true → (f : IsFollowed (repeated cycle) page (pos at)) → f.slot ≡ pos (at + 1 + step)
+    place : (step : ℕ) → NoneTo step → heads page.mag (packet_of (slot_on step)) ≡ true →
+        (f : IsFollowed (repeated cycle) page (pos at)) → f.slot ≡ pos (at + 1 + step)
     place step none head f =
         let after = f.next.earlier in
         elim (cases_ltz f.slot (pos (at + 1 + step))) as (λ _. f.slot ≡ pos (at + 1 + step)) [
           | inl lt ↦ absurd (both_ways _ (between step none f.slot after lt) (another_heads page (packet_of (repeated cycle f.slot)) f.another))
           | inr ge ↦ elim (cases_ltz (pos (at + 1 + step)) f.slot) as (λ _. f.slot ≡ pos (at + 1 + step)) [
-            | inl lt ↦ let low : pos at <ℤ pos (at + 1 + step) = omega (arith, ints) in absurd (both_ways _ (f.next.none_between (pos (at + 1 + step)) low lt) head)
+            | inl lt ↦ let low : pos at <ℤ pos (at + 1 + step) = omega (arith, ints)
+                in absurd (both_ways _ (f.next.none_between (pos (at + 1 + step)) low lt) head)
             | inr le ↦ omega (arith, ints)
           ]
         ]
@@ -187,9 +193,11 @@ module _ (cycle : List (List ℕ)) (page : Id) (at : ℕ) (inside : at < length 
       (λ f. let e : at + 1 + step ≡ at + (step + 1) = omega arith in place step none head f ∙ ap (λ x. pos x) e),
     )
 
-    pub told_not : (step : ℕ) → NoneTo step → heads page.mag (packet_of (slot_on step)) ≡ true → heads_another page (packet_of (slot_on step)) ≡ false →
+    pub told_not : (step : ℕ) → NoneTo step → heads page.mag (packet_of (slot_on step)) ≡ true →
+        heads_another page (packet_of (slot_on step)) ≡ false →
         IsFollowed (repeated cycle) page (pos at) → ⊥
-    told_not step none head other f = both_ways _ other (subst (λ z. heads_another page (packet_of (repeated cycle z)) ≡ true) (place step none head f) f.another)
+    told_not step none head other f = both_ways _ other
+        (subst (λ z. heads_another page (packet_of (repeated cycle z)) ≡ true) (place step none head f) f.another)
 
     -- the header itself comes again
     pub never : NoneTo (length cycle) → ⊥
@@ -197,10 +205,13 @@ module _ (cycle : List (List ℕ)) (page : Id) (at : ℕ) (inside : at < length 
         let last = length cycle - 1 in
         let e : at + 1 + last ≡ at + length cycle = omega arith in
         let back : (at + 1 + last) % length cycle ≡ at = ap (λ x. x % length cycle) e ∙ add-mod_right at (length cycle) ∙ mod-eq_of_lt inside in
-        both_ways _ (subst (λ x. heads page.mag (packet_of (get_or cycle x [])) ≡ false) back (none last (omega arith))) (page_heads page (packet_of (get_or cycle at [])) mine)
+        both_ways _ (subst (λ x. heads page.mag (packet_of (get_or cycle x [])) ≡ false) back (none last (omega arith)))
+        (page_heads page (packet_of (get_or cycle at [])) mine)
 
   pub no_header_tells : HoldsNoId (packet_of (get_or cycle at [])) → TellsUnfollowed (repeated cycle) at None
-  no_header_tells none own head = absurd (both_ways _ (no_page own (packet_of (get_or cycle at [])) none) (subst (λ slot. heads_page own (packet_of slot) ≡ true) slot_here head))
+  no_header_tells none own head = absurd
+      (both_ways _ (no_page own (packet_of (get_or cycle at [])) none)
+      (subst (λ slot. heads_page own (packet_of slot) ≡ true) slot_here head))
 
   module _ (holds : HoldsId page (packet_of (get_or cycle at []))) where
     pub its_page : (own : Id) → heads_page own (packet_of (repeated cycle (pos at))) ≡ true → own ≡ page
@@ -210,13 +221,21 @@ module _ (cycle : List (List ℕ)) (page : Id) (at : ℕ) (inside : at < length 
     followed_tells f own head = subst (λ x. IsFollowed (repeated cycle) x (pos at)) (sym (its_page own head)) f
 
     pub unfollowed_tells : (IsFollowed (repeated cycle) page (pos at) → ⊥) → TellsUnfollowed (repeated cycle) at (Some page)
-    unfollowed_tells n = ((subst (λ slot. heads_page page (packet_of slot) ≡ true) (sym slot_here) (own_page page (packet_of (get_or cycle at [])) holds), n), its_page)
+    unfollowed_tells n = (
+      (
+        subst (λ slot. heads_page page (packet_of slot) ≡ true) (sym slot_here)
+            (own_page page (packet_of (get_or cycle at [])) holds),
+        n,
+      ),
+      its_page,
+    )
 
 module _ (cycle : List (List ℕ)) (pages : List Page) where
   abbrev pub FollowedBefore : ℕ → Type 0
   FollowedBefore slot = (i n : ℕ) (p : Page) → i < slot → slice_get pages n ≡ Some p → IsFollowedAt (repeated cycle) p.id i
 
-  pub one_more : (slot : ℕ) → FollowedBefore slot → ((n : ℕ) (p : Page) → slice_get pages n ≡ Some p → IsFollowedAt (repeated cycle) p.id slot) → FollowedBefore (slot + 1)
+  pub one_more : (slot : ℕ) → FollowedBefore slot →
+      ((n : ℕ) (p : Page) → slice_get pages n ≡ Some p → IsFollowedAt (repeated cycle) p.id slot) → FollowedBefore (slot + 1)
   one_more slot none here i n p lt at = elim (cases_lt i slot) as (λ _. IsFollowedAt (repeated cycle) p.id i) [
     | inl less ↦ none i n p less at
     | inr ge ↦ let e : slot ≡ i = omega arith in subst (IsFollowedAt (repeated cycle) p.id) e (here n p at)
@@ -224,7 +243,8 @@ module _ (cycle : List (List ℕ)) (pages : List Page) where
 
   -- a header that isn't followed is of no page of the list
   pub unlisted : (slot : ℕ) (own : Id) → ((page : Id) → heads_page page (packet_of (repeated cycle (pos slot))) ≡ true → page ≡ own) →
-      ((n : ℕ) (p : Page) → slice_get pages n ≡ Some p → p.id ≡ own → ⊥) → (n : ℕ) (p : Page) → slice_get pages n ≡ Some p → IsFollowedAt (repeated cycle) p.id slot
+      ((n : ℕ) (p : Page) → slice_get pages n ≡ Some p → p.id ≡ own → ⊥) → (n : ℕ) (p : Page) → slice_get pages n ≡ Some p →
+      IsFollowedAt (repeated cycle) p.id slot
   unlisted slot own its none n p at head = absurd (none n p at (its p.id head))
 
   -- what is told of each slot of the cycle is so of each slot of the stream
@@ -234,7 +254,8 @@ module _ (cycle : List (List ℕ)) (pages : List Page) where
       let i = turned (length cycle) h in
       let slots : (j : ℤ) → repeated cycle (j +ℤ t.by) ≡ repeated cycle j = λ j. ap (λ x. get_or cycle x []) (t.same j) in
       let first : heads_page p.id (packet_of (repeated cycle (pos i))) ≡ true =
-      subst (λ slot. heads_page p.id (packet_of slot) ≡ true) (slots (pos i)) (subst (λ z. heads_page p.id (packet_of (repeated cycle z)) ≡ true) t.place head) in
+      subst (λ slot. heads_page p.id (packet_of slot) ≡ true) (slots (pos i))
+      (subst (λ z. heads_page p.id (packet_of (repeated cycle z)) ≡ true) t.place head) in
       let f = before i n p t.inside at first in
       let moves = move (repeated cycle) t.by slots in
       record {
@@ -246,7 +267,8 @@ module _ (cycle : List (List ℕ)) (pages : List Page) where
 -- the most slots up to the next header, slot by slot
 module _ (cycle : List (List ℕ)) (page : Id) where
   abbrev pub IsNear : ℕ → ℕ → Type 0
-  IsNear gap i = heads_page page (packet_of (get_or cycle i [])) ≡ true → (f : IsFollowed (repeated cycle) page (pos i)) × (f.slot ≤ℤ (pos i +ℤ pos gap))
+  IsNear gap i = heads_page page (packet_of (get_or cycle i [])) ≡ true → (f : IsFollowed (repeated cycle) page (pos i))
+      × (f.slot ≤ℤ (pos i +ℤ pos gap))
 
   abbrev pub AreNear : ℕ → ℕ → Type 0
   AreNear count gap = (i : ℕ) → i < count → IsNear gap i
@@ -255,25 +277,30 @@ module _ (cycle : List (List ℕ)) (page : Id) where
   IsLeast gap = (other : ℕ) → IsFollowedWithin (repeated cycle) page other → gap ≤ other
 
   pub next_near : (count gap more : ℕ) → gap ≤ more → AreNear count gap → IsNear more count → AreNear (count + 1) more
-  next_near count gap more le near here i lt head = elim (cases_lt i count) as (λ _. (f : IsFollowed (repeated cycle) page (pos i)) × (f.slot ≤ℤ (pos i +ℤ pos more))) [
-    | inl less ↦ let f = near i less head in let at = f.1 in (f.0, omega (arith, ints))
-    | inr ge ↦ let e : count ≡ i = omega arith in subst (IsNear more) e here head
-  ]
+  next_near count gap more le near here i lt head =
+      elim (cases_lt i count) as (λ _. (f : IsFollowed (repeated cycle) page (pos i)) × (f.slot ≤ℤ (pos i +ℤ pos more))) [
+        | inl less ↦ let f = near i less head in let at = f.1 in (f.0, omega (arith, ints))
+        | inr ge ↦ let e : count ≡ i = omega arith in subst (IsNear more) e here head
+      ]
 
   pub near_in : (i distance gap : ℕ) → distance ≤ gap → IsFollowedIn (repeated cycle) page i distance → IsNear gap i
   near_in i distance gap le told head = (told.0, (let e = told.1 told.0 in omega (arith, ints)))
 
-  pub least_in : (i distance : ℕ) → i < length cycle → heads_page page (packet_of (get_or cycle i [])) ≡ true → IsFollowedIn (repeated cycle) page i distance → IsLeast distance
+  pub least_in : (i distance : ℕ) → i < length cycle → heads_page page (packet_of (get_or cycle i [])) ≡ true →
+      IsFollowedIn (repeated cycle) page i distance → IsLeast distance
   least_in i distance inside head told other within =
       let f = within (pos i) (subst (λ slot. heads_page page (packet_of slot) ≡ true) (sym (slot_here cycle page i inside)) head) in
       let e = told.1 f.0 in
       let le = f.1 in
       omega (arith, ints)
 
-  pub not_followed : (i : ℕ) → i < length cycle → heads_page page (packet_of (get_or cycle i [])) ≡ true → (IsFollowed (repeated cycle) page (pos i) → ⊥) → IsFollowedByAnother (repeated cycle) page → ⊥
-  not_followed i inside head none all = none (all (pos i) (subst (λ slot. heads_page page (packet_of slot) ≡ true) (sym (slot_here cycle page i inside)) head))
+  pub not_followed : (i : ℕ) → i < length cycle → heads_page page (packet_of (get_or cycle i [])) ≡ true →
+      (IsFollowed (repeated cycle) page (pos i) → ⊥) → IsFollowedByAnother (repeated cycle) page → ⊥
+  not_followed i inside head none all = none
+      (all (pos i) (subst (λ slot. heads_page page (packet_of slot) ≡ true) (sym (slot_here cycle page i inside)) head))
 
-  pub near_within : EachSlotTurns → StreamsMove → 0 < length cycle → (gap : ℕ) → AreNear (length cycle) gap → IsFollowedWithin (repeated cycle) page gap
+  pub near_within : EachSlotTurns → StreamsMove → 0 < length cycle → (gap : ℕ) → AreNear (length cycle) gap →
+      IsFollowedWithin (repeated cycle) page gap
   near_within turn move some gap near h head =
       let t = turn (length cycle) h some in
       let i = turned (length cycle) h in
@@ -283,7 +310,8 @@ module _ (cycle : List (List ℕ)) (page : Id) where
       let here = t.place in (
         record {
           slot = f.0.slot +ℤ t.by;
-          next = subst (λ z. IsLatestHeader (repeated cycle) page.mag z (f.0.slot +ℤ t.by)) (sym t.place) ((move (repeated cycle) t.by slots).latest page.mag (pos i) f.0.slot f.0.next);
+          next = subst (λ z. IsLatestHeader (repeated cycle) page.mag z (f.0.slot +ℤ t.by)) (sym t.place)
+              ((move (repeated cycle) t.by slots).latest page.mag (pos i) f.0.slot f.0.next);
           another = subst (λ slot. heads_another page (packet_of slot) ≡ true) (sym (slots f.0.slot)) f.0.another;
         },
         omega (arith, ints),
@@ -291,7 +319,9 @@ module _ (cycle : List (List ℕ)) (page : Id) where
 
 -- the places of a list of the program's pages
 -- the pages below a place have another id
-pub none_here : (pages : List Page) (id : Id) (index : ℕ) → ((n : ℕ) (p : Page) → n < index → slice_get pages n ≡ Some p → p.id ≡ id → ⊥) → (here : Page) → slice_get pages index ≡ Some here →
+pub none_here : (pages : List Page) (id : Id) (index : ℕ) →
+    ((n : ℕ) (p : Page) → n < index → slice_get pages n ≡ Some p → p.id ≡ id → ⊥) → (here : Page) → slice_get pages index
+    ≡ Some here →
     (here.id ≡ id → ⊥) → (n : ℕ) (p : Page) → n < index + 1 → slice_get pages n ≡ Some p → p.id ≡ id → ⊥
 none_here pages id index none here at other n p lt there e = elim (cases_lt n index) as (λ _. ⊥) [
   | inl less ↦ none n p less there e
@@ -302,6 +332,7 @@ none_here pages id index none here at other n p lt there e = elim (cases_lt n in
       other (subst (λ x. x.id ≡ id) page e)
 ]
 
-pub none_listed : (pages : List Page) (id : Id) (index : ℕ) → ((n : ℕ) (p : Page) → n < index → slice_get pages n ≡ Some p → p.id ≡ id → ⊥) → length pages ≤ index →
+pub none_listed : (pages : List Page) (id : Id) (index : ℕ) →
+    ((n : ℕ) (p : Page) → n < index → slice_get pages n ≡ Some p → p.id ≡ id → ⊥) → length pages ≤ index →
     (n : ℕ) (p : Page) → slice_get pages n ≡ Some p → p.id ≡ id → ⊥
 none_listed pages id index none past n p at e = none n p (let lt = slice_get_within pages n p at in omega arith) at e

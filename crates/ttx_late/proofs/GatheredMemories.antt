@@ -41,8 +41,10 @@ number_heads sel Other h = absurd (both_ways false refl h)
 -- a header that the selection matches has its number
 pub matched_number : (sel : Selection) (pkt : Packet) → heads_matched sel pkt ≡ true → heads_number sel pkt ≡ true
 matched_number (Exact own) (Header id control text) h =
-    and_from _ _ (eq_sym own.mag id.mag ((and_parts _ _ (and_parts _ _ h).0).0)) (eq_sym own.page id.page ((and_parts (own.mag == id.mag) _ (and_parts _ _ h).0).1))
-matched_number (AnySub mag page) (Header id control text) h = and_from _ _ (eq_sym mag id.mag ((and_parts _ _ h).0)) (eq_sym page id.page ((and_parts (mag == id.mag) _ h).1))
+    and_from _ _ (eq_sym own.mag id.mag ((and_parts _ _ (and_parts _ _ h).0).0))
+    (eq_sym own.page id.page ((and_parts (own.mag == id.mag) _ (and_parts _ _ h).0).1))
+matched_number (AnySub mag page) (Header id control text) h =
+    and_from _ _ (eq_sym mag id.mag ((and_parts _ _ h).0)) (eq_sym page id.page ((and_parts (mag == id.mag) _ h).1))
 matched_number sel (Row mag number text) h = absurd (both_ways false refl h)
 matched_number sel (Links mag content) h = absurd (both_ways false refl h)
 matched_number sel Empty h = absurd (both_ways false refl h)
@@ -51,7 +53,8 @@ matched_number sel Info h = absurd (both_ways false refl h)
 matched_number sel Other h = absurd (both_ways false refl h)
 
 -- where the next header has another number nothing is dropped
-pub no_number : (sel : Selection) (slot : List ℕ) (rest : List (List ℕ)) (k : ℕ) → Ends sel (slot ∷ rest) k → heads_number sel (packet_of slot) ≡ true → ⊥
+pub no_number : (sel : Selection) (slot : List ℕ) (rest : List (List ℕ)) (k : ℕ) → Ends sel (slot ∷ rest) k →
+    heads_number sel (packet_of slot) ≡ true → ⊥
 no_number sel slot rest k ends h = elim ends as (λ _. ⊥) [
   | inl a ↦ both_ways _ a.1 h
   | inr n ↦ both_ways _ n.0 (number_heads sel (packet_of slot) h)
@@ -68,7 +71,8 @@ module _ (class : Class) (lines : ℕ) (sel : Selection) where
 
 module _ (class : Class) (lines : ℕ) (sel : Selection) (gap : ℕ) where
   -- a page that is being gathered isn't dropped
-  pub settled : (received : List (List ℕ)) (d new : LateMemory) → AllEnd sel gap received → (d.gathered.storing ≡ true → (k : ℕ) × Ends sel received k) →
+  pub settled : (received : List (List ℕ)) (d new : LateMemory) → AllEnd sel gap received →
+      (d.gathered.storing ≡ true → (k : ℕ) × Ends sel received k) →
       LateRun class lines sel d received new → Run class lines sel d.gathered received new.gathered
   settled [] d new all ends run = ap (λ x. x.gathered) run
   settled (slot ∷ received) d new all ends run =
@@ -76,7 +80,8 @@ module _ (class : Class) (lines : ℕ) (sel : Selection) (gap : ℕ) where
       let step = run.1 in
       let is : step.base ≡ d.gathered = elim step.from as (λ _. step.base ≡ d.gathered) [
         | inl e ↦ e
-        | inr drop ↦ let st = (and_parts _ _ drop.0).0 in let e = ends st in absurd (no_number sel slot received e.0 e.1 ((and_parts d.gathered.storing _ drop.0).1))
+        | inr drop ↦ let st = (and_parts _ _ drop.0).0 in let e = ends st
+            in absurd (no_number sel slot received e.0 e.1 ((and_parts d.gathered.storing _ drop.0).1))
       ] in
       let taken : Step class lines sel d.gathered slot mid.gathered = subst (λ base. Step class lines sel base slot mid.gathered) is step.step in (
         mid.gathered,
@@ -101,7 +106,8 @@ module _ (class : Class) (lines : ℕ) (sel : Selection) (gap : ℕ) where
     pub none : (i : ℕ) → i < place → heads (selected_mag sel) (packet_of (get_or received i [])) ≡ false
     pub run : Run class lines sel base (drop place received) new
 
-  later : (slot : List ℕ) (received : List (List ℕ)) (new : Memory) → heads (selected_mag sel) (packet_of slot) ≡ false → Begins received new → Begins (slot ∷ received) new
+  later : (slot : List ℕ) (received : List (List ℕ)) (new : Memory) → heads (selected_mag sel) (packet_of slot) ≡ false →
+      Begins received new → Begins (slot ∷ received) new
   later slot received new none b = record {
     place = suc b.place;
     within = let w = b.within in omega arith;

@@ -13,7 +13,8 @@ use Rattle.ttx_late.proofs.FollowersOfCycles.{slot_here, its_page, own_page, no_
 
 module _ (cycle : List (List ℕ)) (pages : List Page) where
   abbrev pub IsEnough : ℕ → ℕ → Type 0
-  IsEnough gap i = (n : ℕ) (p : Page) → slice_get pages n ≡ Some p → HeadsAt (repeated cycle) p.id i → (f : IsFollowed (repeated cycle) p.id (pos i)) → f.slot ≤ℤ pos (i + gap)
+  IsEnough gap i = (n : ℕ) (p : Page) → slice_get pages n ≡ Some p → HeadsAt (repeated cycle) p.id i →
+      (f : IsFollowed (repeated cycle) p.id (pos i)) → f.slot ≤ℤ pos (i + gap)
 
   kept : (at gap : ℕ) → IsEnough gap at → IsWidened (repeated cycle) pages at gap gap
   kept at gap enough = record { grows = omega arith; enough = enough; needed = inl refl }
@@ -21,7 +22,9 @@ module _ (cycle : List (List ℕ)) (pages : List Page) where
   module _ (at gap : ℕ) (inside : at < length cycle) where
     pub no_header_widens : HoldsNoId (packet_of (get_or cycle at [])) → IsWidened (repeated cycle) pages at gap gap
     no_header_widens none =
-        kept at gap (λ n p listed head f. absurd (both_ways _ (no_page p.id (packet_of (get_or cycle at [])) none) (subst (λ slot. heads_page p.id (packet_of slot) ≡ true) (slot_here cycle p.id at inside) head)))
+        kept at gap (λ n p listed head f. absurd
+        (both_ways _ (no_page p.id (packet_of (get_or cycle at [])) none)
+        (subst (λ slot. heads_page p.id (packet_of slot) ≡ true) (slot_here cycle p.id at inside) head)))
 
     module _ (id : Id) (holds : HoldsId id (packet_of (get_or cycle at []))) where
       its : (own : Id) → HeadsAt (repeated cycle) own at → own ≡ id
@@ -29,7 +32,8 @@ module _ (cycle : List (List ℕ)) (pages : List Page) where
 
       -- the header isn't followed
       pub unfollowed_widens : (IsFollowed (repeated cycle) id (pos at) → ⊥) → IsWidened (repeated cycle) pages at gap gap
-      unfollowed_widens none = kept at gap (λ n p listed head f. absurd (none (subst (λ x. IsFollowed (repeated cycle) x (pos at)) (its p.id head) f)))
+      unfollowed_widens none = kept at gap
+          (λ n p listed head f. absurd (none (subst (λ x. IsFollowed (repeated cycle) x (pos at)) (its p.id head) f)))
 
       -- it is of no listed page
       pub unlisted_widens : ((n : ℕ) (p : Page) → slice_get pages n ≡ Some p → p.id ≡ id → ⊥) → IsWidened (repeated cycle) pages at gap gap
@@ -45,7 +49,8 @@ module _ (cycle : List (List ℕ)) (pages : List Page) where
         pub nearer_widens : distance ≤ gap → IsWidened (repeated cycle) pages at gap gap
         nearer_widens le = kept at gap (near gap le)
 
-        pub further_widens : gap ≤ distance → (n : ℕ) (p : Page) → slice_get pages n ≡ Some p → p.id ≡ id → IsWidened (repeated cycle) pages at gap distance
+        pub further_widens : gap ≤ distance → (n : ℕ) (p : Page) → slice_get pages n ≡ Some p → p.id ≡ id →
+            IsWidened (repeated cycle) pages at gap distance
         further_widens le n p listed is = record {
           grows = le;
           enough = near distance (omega arith);
@@ -54,7 +59,8 @@ module _ (cycle : List (List ℕ)) (pages : List Page) where
             p,
             listed,
             subst (λ x. HeadsAt (repeated cycle) x at) (sym is)
-                (subst (λ slot. heads_page id (packet_of slot) ≡ true) (sym (slot_here cycle id at inside)) (own_page id (packet_of (get_or cycle at [])) holds)),
+                (subst (λ slot. heads_page id (packet_of slot) ≡ true) (sym (slot_here cycle id at inside))
+                (own_page id (packet_of (get_or cycle at [])) holds)),
             subst (λ x. IsFollowedIn (repeated cycle) x at distance) (sym is) told,
           );
         }
@@ -83,7 +89,8 @@ module _ (cycle : List (List ℕ)) (pages : List Page) where
         omega (arith, ints)
   ]
 
-  pub greatest : EachSlotTurns → StreamsMove → 0 < length cycle → AllAreFollowed cycle pages → (gap : ℕ) → AreEnough (length cycle) gap → IsLeast gap → IsGreatestGap cycle pages gap
+  pub greatest : EachSlotTurns → StreamsMove → 0 < length cycle → AllAreFollowed cycle pages → (gap : ℕ) →
+      AreEnough (length cycle) gap → IsLeast gap → IsGreatestGap cycle pages gap
   greatest turn move some followed gap near least = record {
     within = λ n p listed. near_within cycle p.id turn move some gap (λ i lt here.
         let head : HeadsAt (repeated cycle) p.id i = subst (λ slot. heads_page p.id (packet_of slot) ≡ true) (sym (slot_here cycle p.id i lt)) here in

@@ -32,20 +32,23 @@ packet_empty slot e =
     packet_is slot ∙ ap (packet_of_kind slot) (cond_both (is_empty slot) IsEmpty _ (λ k. k ≡ IsEmpty) (λ _. refl) (λ f. absurd (both_ways _ f e)))
 
 -- bytes 0 to 9 of a header are not free
-near_header : (sent received : List ℕ) (mag : ℕ) → kind_of sent ≡ IsHeader mag → MayBeReceivedAs sent received → (x : ℕ) → x < 10 → Near (get_or sent x 0) (get_or received x 0)
+near_header : (sent received : List ℕ) (mag : ℕ) → kind_of sent ≡ IsHeader mag → MayBeReceivedAs sent received → (x : ℕ) → x < 10 →
+    Near (get_or sent x 0) (get_or received x 0)
 near_header sent received mag e h x lt = elim (h.near x (omega arith)) as (λ _. Near (get_or sent x 0) (get_or received x 0))
     [ inl f ↦ let k : 34 ≤ x = subst (λ kind. IsFree kind x) e f in absurd (omega arith) | inr near ↦ near ]
 
 -- what is received is a header of the same id and control bits, or it is none, as what was sent
 pub received_as : KindIsKept → HeaderIsKept → (sent received : List ℕ) → IsSlot sent → is_clean sent ≡ true → MayBeReceivedAs sent received →
     outline (packet_of received) ≡ outline (packet_of sent)
-received_as kind header sent received s clean h = elim (cases_Bool (is_empty sent)) as (λ _. outline (packet_of received) ≡ outline (packet_of sent)) [
-  | inl e ↦ ap outline (packet_empty received (h.empty e)) ∙ ap outline (sym (packet_empty sent e))
-  | inr e ↦ elim (kind sent received s clean e h) as (λ _. outline (packet_of received) ≡ outline (packet_of sent)) [
-    | inl same ↦ ap outline (packet_is received) ∙ ap (λ k. outline (packet_of_kind received k)) same ∙ same_outline (kind_of sent) refl ∙ ap outline (sym (packet_is sent))
-    | inr lost ↦ ap outline (packet_empty received lost.1) ∙ ap outline (sym (packet_is sent ∙ ap (packet_of_kind sent) lost.0))
-  ]
-]
+received_as kind header sent received s clean h =
+    elim (cases_Bool (is_empty sent)) as (λ _. outline (packet_of received) ≡ outline (packet_of sent)) [
+      | inl e ↦ ap outline (packet_empty received (h.empty e)) ∙ ap outline (sym (packet_empty sent e))
+      | inr e ↦ elim (kind sent received s clean e h) as (λ _. outline (packet_of received) ≡ outline (packet_of sent)) [
+        | inl same ↦ ap outline (packet_is received) ∙ ap (λ k. outline (packet_of_kind received k)) same ∙ same_outline (kind_of sent) refl
+            ∙ ap outline (sym (packet_is sent))
+        | inr lost ↦ ap outline (packet_empty received lost.1) ∙ ap outline (sym (packet_is sent ∙ ap (packet_of_kind sent) lost.0))
+      ]
+    ]
   where
     same_outline : (k : Kind) → kind_of sent ≡ k → outline (packet_of_kind received k) ≡ outline (packet_of_kind sent k)
     same_outline (IsHeader mag) e =
@@ -91,7 +94,8 @@ pub record SameTests (sent received : List ℕ) : Type 0 where
   pub matched : (sel : Selection) → heads_matched sel (packet_of received) ≡ heads_matched sel (packet_of sent)
   pub number : (sel : Selection) → heads_number sel (packet_of received) ≡ heads_number sel (packet_of sent)
 
-pub same_tests : KindIsKept → HeaderIsKept → (sent received : List ℕ) → IsSlot sent → is_clean sent ≡ true → MayBeReceivedAs sent received → SameTests sent received
+pub same_tests : KindIsKept → HeaderIsKept → (sent received : List ℕ) → IsSlot sent → is_clean sent ≡ true →
+    MayBeReceivedAs sent received → SameTests sent received
 same_tests kind header sent received s clean h =
     let e = received_as kind header sent received s clean h in
     record {

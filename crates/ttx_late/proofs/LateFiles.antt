@@ -27,13 +27,16 @@ refused NoMemory x y z known h = (h, keeps_same known)
 
 pub all_refused : (fault : FilesFault) (a b c known : Option (List ℕ)) → IfSome a (λ x. IfSome b (λ y. IfSome c (λ z. IsRefused x y z fault))) →
     IfSome a (λ x. IfSome b (λ y. IfSome c (λ z. CertifiesFilesLate x y z known known (Err fault))))
-all_refused fault a b c known = lifted (λ x y z. IsRefused x y z fault) (λ x y z. CertifiesFilesLate x y z known known (Err fault)) a b c (λ x y z h. refused fault x y z known h)
+all_refused fault a b c known = lifted (λ x y z. IsRefused x y z fault) (λ x y z. CertifiesFilesLate x y z known known (Err fault)) a b
+    c (λ x y z h. refused fault x y z known h)
 
 pub no_memory : (inputs : Inputs) (a b c known : Option (List ℕ)) → IfSome a (λ x. IfSome b (λ y. IfSome c (λ z. ReadsInputs x y z (Ok inputs)))) →
     IfSome a (λ x. IfSome b (λ y. IfSome c (λ z. CertifiesFilesLate x y z known known (Err NoMemory))))
-no_memory inputs a b c known = lifted (λ x y z. ReadsInputs x y z (Ok inputs)) (λ x y z. CertifiesFilesLate x y z known known (Err NoMemory)) a b c (λ x y z h. (tt, keeps_same known))
+no_memory inputs a b c known = lifted (λ x y z. ReadsInputs x y z (Ok inputs))
+    (λ x y z. CertifiesFilesLate x y z known known (Err NoMemory)) a b c (λ x y z h. (tt, keeps_same known))
 
-pub counts_refused : (fault : FilesFault) (a b c d e f old new : ℕ) → CountsReads {T = Inputs} (Err fault) a b c d e f → CountsFiles {T = LateVerdict} (Err fault) a b c d e f old new
+pub counts_refused : (fault : FilesFault) (a b c d e f old new : ℕ) → CountsReads {T = Inputs} (Err fault) a b c d e f →
+    CountsFiles {T = LateVerdict} (Err fault) a b c d e f old new
 counts_refused (Cycle cycle.Read) a b c d e f old new h = h
 counts_refused (Cycle (cycle.Truncated rest)) a b c d e f old new h = tt
 counts_refused (Cycle cycle.Empty) a b c d e f old new h = tt

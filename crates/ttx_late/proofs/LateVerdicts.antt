@@ -19,10 +19,12 @@ use Rattle.ttx_late.specs.declared.verdict.LateVerdict.{LateVerdict}
 use Rattle.ttx_late.specs.declared.verdict.LateVerdict.TheVariants.{Yes, No, NeverShown}
 use Rattle.ttx_certify.proofs.PageByPage.{page_at}
 
-pub never_shown : (cycle : List (List ℕ)) (pages : List PageValue) (u : Unshown) → IsFirstUnshown cycle (map page_of pages) u → (p : PageValue) → p ≡ get_or pages u.page p →
+pub never_shown : (cycle : List (List ℕ)) (pages : List PageValue) (u : Unshown) → IsFirstUnshown cycle (map page_of pages) u →
+    (p : PageValue) → p ≡ get_or pages u.page p →
     (id : Id) → id ≡ p.id → IsNeverShown cycle (map page_of pages) id u.slot
 never_shown cycle pages u first p at id is =
-    let lt : u.page < length pages = let k = slice_get_within (map page_of pages) u.page first.page first.listed in let l = length-map pages page_of in omega arith in
+    let lt : u.page < length pages = let k = slice_get_within (map page_of pages) u.page first.page first.listed in let l =
+    length-map pages page_of in omega arith in
     let there = page_at pages u.page p lt at in
     let listed = first.listed in
     let same : first.page ≡ page_of p = cc in

@@ -33,10 +33,13 @@ AllStay sel [] = Unit {0}
 AllStay sel (slot ∷ rest) = (heads_matched sel (packet_of slot) ≡ true → Stays sel rest) × AllStay sel rest
 
 -- a header of the magazine that has no other number has the page's own
-own_number : (sel : Selection) (page : Id) → selected_mag sel ≡ page.mag → selected_number sel ≡ page.page → (pkt : Packet) → heads page.mag pkt ≡ true →
+own_number : (sel : Selection) (page : Id) → selected_mag sel ≡ page.mag → selected_number sel ≡ page.page → (pkt : Packet) →
+    heads page.mag pkt ≡ true →
     heads_another page pkt ≡ false → heads_number sel pkt ≡ true
 own_number sel page mag number (Header id control text) head other =
-    and_from (id.mag == selected_mag sel) (id.page == selected_number sel) (subst (λ m. (id.mag == m) ≡ true) (sym mag) head) (subst (λ n. (id.page == n) ≡ true) (sym number) (elim (cases_Bool (id.page == page.page)) as (λ _. (id.page == page.page) ≡ true) [
+    and_from (id.mag == selected_mag sel) (id.page == selected_number sel) (subst (λ m. (id.mag == m) ≡ true) (sym mag) head)
+    (subst (λ n. (id.page == n) ≡ true) (sym number)
+    (elim (cases_Bool (id.page == page.page)) as (λ _. (id.page == page.page) ≡ true) [
       | inl e ↦ e
       | inr ne ↦ absurd (both_ways _ other (and_from (id.mag == page.mag) (not (id.page == page.page)) head (not_from_false _ ne)))
     ]))
@@ -47,29 +50,39 @@ own_number sel page mag number Unreadable head other = absurd (both_ways false r
 own_number sel page mag number Info head other = absurd (both_ways false refl head)
 own_number sel page mag number Other head other = absurd (both_ways false refl head)
 
-module _ (s : Stream) (page : Id) (sel : Selection) (mag : selected_mag sel ≡ page.mag) (number : selected_number sel ≡ page.page) (never : IsNeverFollowed s page) where
+module _ (s : Stream) (page : Id) (sel : Selection) (mag : selected_mag sel ≡ page.mag) (number : selected_number sel ≡ page.page)
+    (never : IsNeverFollowed s page) where
   stays : (h : ℤ) → heads_page page (packet_of (s h)) ≡ true → (rest : List (List ℕ)) (begin : ℤ) → h <ℤ begin →
       ((i : ℤ) → h <ℤ i → i <ℤ begin → heads page.mag (packet_of (s i)) ≡ false) → AreOf s begin rest → Stays sel rest
   stays h head [] begin after none of = tt
   stays h head (slot ∷ rest) begin after none of = elim (cases_Bool (heads page.mag (packet_of (s begin)))) as (λ _. Stays sel (slot ∷ rest)) [
-    | inl next ↦ inl (of.0.number sel ∙ own_number sel page mag number (packet_of (s begin)) next (elim (cases_Bool (heads_another page (packet_of (s begin)))) as (λ _. heads_another page (packet_of (s begin)) ≡ false) [
-      | inr f ↦ f
-      | inl another ↦ absurd (never h head (record { slot = begin; next = record { earlier = after; is_header = page_heads page (packet_of (s h)) head; none_between = none }; another = another }))
-    ]))
+    | inl next ↦ inl (of.0.number sel ∙ own_number sel page mag number (packet_of (s begin)) next
+        (elim (cases_Bool (heads_another page (packet_of (s begin)))) as (λ _. heads_another page (packet_of (s begin)) ≡ false) [
+          | inr f ↦ f
+          | inl another ↦ absurd (never h head
+              (record {
+                slot = begin;
+                next = record
+                    { earlier = after; is_header = page_heads page (packet_of (s h)) head; none_between = none };
+                another = another;
+              }))
+        ]))
     | inr other ↦ inr (
       of.0.heads (selected_mag sel) ∙ subst (λ m. heads m (packet_of (s begin)) ≡ false) (sym mag) other,
       stays h head rest (begin +ℤ pos 1) (omega (arith, ints)) (none_more h begin none other) of.1,
     )
   ]
     where
-      none_more : (h begin : ℤ) → ((i : ℤ) → h <ℤ i → i <ℤ begin → heads page.mag (packet_of (s i)) ≡ false) → heads page.mag (packet_of (s begin)) ≡ false →
+      none_more : (h begin : ℤ) → ((i : ℤ) → h <ℤ i → i <ℤ begin → heads page.mag (packet_of (s i)) ≡ false) →
+          heads page.mag (packet_of (s begin)) ≡ false →
           (i : ℤ) → h <ℤ i → i <ℤ (begin +ℤ pos 1) → heads page.mag (packet_of (s i)) ≡ false
       none_more h begin none other i low high = elim (cases_ltz i begin) as (λ _. heads page.mag (packet_of (s i)) ≡ false) [
         | inl lt ↦ none i low lt
         | inr ge ↦ let e : begin ≡ i = omega (arith, ints) in subst (λ z. heads page.mag (packet_of (s z)) ≡ false) e other
       ]
 
-  all_stay : (rest : List (List ℕ)) (begin : ℤ) → ((j : ℤ) → begin ≤ℤ j → heads_matched sel (packet_of (s j)) ≡ true → heads_page page (packet_of (s j)) ≡ true) →
+  all_stay : (rest : List (List ℕ)) (begin : ℤ) →
+      ((j : ℤ) → begin ≤ℤ j → heads_matched sel (packet_of (s j)) ≡ true → heads_page page (packet_of (s j)) ≡ true) →
       AreOf s begin rest → AllStay sel rest
   all_stay [] begin own of = tt
   all_stay (slot ∷ rest) begin own of = (
@@ -106,13 +119,29 @@ module _ (class : Class) (lines : ℕ) (sel : Selection) where
       let gathered = after class lines sel false (older d.gathered) (packet_of slot) in
       let mid : LateMemory = record { gathered = gathered; shown = d.shown } in
       let step : Step class lines sel d.gathered slot gathered = record { choice = false; is = refl } in
-      let rest = never_shows received mid all.1 (λ st. elim (step_storing class lines sel d.gathered gathered slot step st) as (λ _. Stays sel received) [
+      let rest = never_shows received mid all.1
+      (λ st. elim (step_storing class lines sel d.gathered gathered slot step st) as (λ _. Stays sel received) [
         | inl matched ↦ all.0 matched
-        | inr on ↦ elim (stay on.0) as (λ _. Stays sel received) [ inl own ↦ absurd (both_ways _ on.1 (number_heads sel (packet_of slot) own)) | inr n ↦ n.1 ]
-      ]) in
-      (rest.0, (mid, record { base = d.gathered; from = inl refl; step = step; shown = inr (inr (refl, silent d.gathered slot received stay)) }, rest.1), rest.2)
+        | inr on ↦ elim (stay on.0) as (λ _. Stays sel received)
+            [ inl own ↦ absurd (both_ways _ on.1 (number_heads sel (packet_of slot) own)) | inr n ↦ n.1 ]
+      ]) in (
+        rest.0,
+        (
+          mid,
+          record {
+            base = d.gathered;
+            from = inl refl;
+            step = step;
+            shown = inr (inr (refl, silent d.gathered slot received stay));
+          },
+          rest.1,
+        ),
+        rest.2,
+      )
 
 pub never_followed_is_unshown : KindIsKept → HeaderIsKept → NeverFollowedIsUnshown
 never_followed_is_unshown kind header s page sel class lines repeat begin fits clean own never former idle received r =
     let of = of_received kind header s begin received clean (λ n lt. r.each n lt) in
-    never_shows class lines sel received former (all_stay s page sel (mag_is sel page fits) (number_is sel page fits) never received begin own of) (λ on. absurd (both_ways _ idle on))
+    never_shows class lines sel received former
+    (all_stay s page sel (mag_is sel page fits) (number_is sel page fits) never received begin own of)
+    (λ on. absurd (both_ways _ idle on))

@@ -67,7 +67,8 @@ page_heads page Info h = absurd (both_ways false refl h)
 page_heads page Other h = absurd (both_ways false refl h)
 
 -- a run is cut and joined
-split : (class : Class) (lines : ℕ) (sel : Selection) (before rest : List (List ℕ)) (d new : LateMemory) → LateRun class lines sel d (before ++ rest) new →
+split : (class : Class) (lines : ℕ) (sel : Selection) (before rest : List (List ℕ)) (d new : LateMemory) →
+    LateRun class lines sel d (before ++ rest) new →
     (mid : LateMemory) × LateRun class lines sel d before mid × LateRun class lines sel mid rest new
 split class lines sel [] rest d new run = (d, refl, run)
 split class lines sel (slot ∷ before) rest d new run =
@@ -99,7 +100,8 @@ owner_heads s page TheHead h j o = let e = o.0 in (omega (arith, ints), subst (�
 owner_heads s page (TheRow r) h j o = let e = o.0.earlier in (omega (arith, ints), o.1)
 owner_heads s page TheLinks h j o = let e = o.0.earlier in (omega (arith, ints), o.1)
 
-brought_header : (s : Stream) (p : Page) (class : Class) (lines repeat : ℕ) (item : Item) (begin end : ℤ) → IsBrought s p class lines repeat item begin end → UnderHeader s p.id begin end
+brought_header : (s : Stream) (p : Page) (class : Class) (lines repeat : ℕ) (item : Item) (begin end : ℤ) →
+    IsBrought s p class lines repeat item begin end → UnderHeader s p.id begin end
 brought_header s p class lines repeat item begin end b = elim b as (λ _. UnderHeader s p.id begin end) [
   | inl sent ↦
       let o = owner_heads s p.id item sent.owner sent.first sent.owned in
@@ -111,7 +113,8 @@ brought_header s p class lines repeat item begin end b = elim b as (λ _. UnderH
 
 -- what comes at slot begin or later comes at a later slot or later, if no header of the page stands between
 brought_later : (s : Stream) (p : Page) (class : Class) (lines repeat : ℕ) (item : Item) (begin later end : ℤ) →
-    ((h : ℤ) → begin ≤ℤ h → heads_page p.id (packet_of (s h)) ≡ true → later ≤ℤ h) → IsBrought s p class lines repeat item begin end → IsBrought s p class lines repeat item later end
+    ((h : ℤ) → begin ≤ℤ h → heads_page p.id (packet_of (s h)) ≡ true → later ≤ℤ h) → IsBrought s p class lines repeat item begin end →
+    IsBrought s p class lines repeat item later end
 brought_later s p class lines repeat item begin later end none b = elim b as (λ _. IsBrought s p class lines repeat item later end) [
   | inl sent ↦ inl (record {
     first = sent.first;
@@ -135,7 +138,8 @@ brought_later s p class lines repeat item begin later end none b = elim b as (λ
   )
 ]
 
-comes_at : (s : Stream) (sel : Selection) (j : ℤ) → heads_matched sel (packet_of (s j)) ≡ true → (rest : List (List ℕ)) (begin : ℤ) → AreOf s begin rest →
+comes_at : (s : Stream) (sel : Selection) (j : ℤ) → heads_matched sel (packet_of (s j)) ≡ true → (rest : List (List ℕ)) (begin : ℤ) →
+    AreOf s begin rest →
     begin ≤ℤ j → j <ℤ (begin +ℤ pos (length rest)) → Comes sel rest
 comes_at s sel j here [] begin of low high = omega (arith, ints)
 comes_at s sel j here (slot ∷ rest) begin of low high = elim (cases_ltz begin j) as (λ _. Comes sel (slot ∷ rest)) [
@@ -143,15 +147,18 @@ comes_at s sel j here (slot ∷ rest) begin of low high = elim (cases_ltz begin 
   | inl lt ↦ inr (comes_at s sel j here rest (begin +ℤ pos 1) of.1 (omega (arith, ints)) (omega (arith, ints)))
 ]
 
-heads_at : (s : Stream) (mag : ℕ) (rest : List (List ℕ)) (begin : ℤ) → AreOf s begin rest → (i : ℕ) → i < length rest → heads mag (packet_of (get_or rest i [])) ≡ heads mag (packet_of (s (begin +ℤ pos i)))
+heads_at : (s : Stream) (mag : ℕ) (rest : List (List ℕ)) (begin : ℤ) → AreOf s begin rest → (i : ℕ) → i < length rest →
+    heads mag (packet_of (get_or rest i [])) ≡ heads mag (packet_of (s (begin +ℤ pos i)))
 heads_at s mag [] begin of i lt = absurd (omega arith)
-heads_at s mag (slot ∷ rest) begin of zero lt = let e : begin ≡ begin +ℤ pos 0 = omega (arith, ints) in subst (λ z. heads mag (packet_of slot) ≡ heads mag (packet_of (s z))) e (of.0.heads mag)
+heads_at s mag (slot ∷ rest) begin of zero lt = let e : begin ≡ begin +ℤ pos 0 = omega (arith, ints)
+    in subst (λ z. heads mag (packet_of slot) ≡ heads mag (packet_of (s z))) e (of.0.heads mag)
 heads_at s mag (slot ∷ rest) begin of (suc i) lt =
     let e : (begin +ℤ pos 1) +ℤ pos i ≡ begin +ℤ pos (suc i) = omega (arith, ints) in
     subst (λ z. heads mag (packet_of (get_or rest i [])) ≡ heads mag (packet_of (s z))) e (heads_at s mag rest (begin +ℤ pos 1) of.1 i (omega arith))
 
 module _ (runs : RunsAreSeen) (decide : ContentsDecide) (kind : KindIsKept) (header : HeaderIsKept)
-    (s : Stream) (p : Page) (sel : Selection) (class : Class) (lines repeat : ℕ) (begin end : ℤ) (page : IsPage p) (few : lines ≤ 32) (fits : matches sel p.id ≡ true)
+    (s : Stream) (p : Page) (sel : Selection) (class : Class) (lines repeat : ℕ) (begin end : ℤ) (page : IsPage p) (few : lines ≤ 32)
+    (fits : matches sel p.id ≡ true)
     (steady : IsSteadyFrom s p sel begin) (brought : (item : Item) → needed p item ≡ true → IsBrought s p class lines repeat item begin end)
     (gap : ℕ) (followed : IsFollowedWithin s p.id gap) (former : LateMemory) (is_former : IsFormer class former.gathered) where
   steady_later : (later : ℤ) → begin ≤ℤ later → IsSteadyFrom s p sel later
@@ -166,35 +173,41 @@ module _ (runs : RunsAreSeen) (decide : ContentsDecide) (kind : KindIsKept) (hea
   of_part received r = of_received kind header s begin received (λ j low. (steady.slots j low, steady.clean j low)) (λ n lt. r.each n lt)
 
   all_part : (received : List (List ℕ)) → Received s p.id repeat begin received → AllEnd sel gap received
-  all_part received r = all_end s sel p.id gap (mag_is sel p.id fits) (number_is sel p.id fits) followed received begin (λ j low. steady.selected j low) (of_part received r)
+  all_part received r = all_end s sel p.id gap (mag_is sel p.id fits) (number_is sel p.id fits) followed received begin
+      (λ j low. steady.selected j low) (of_part received r)
 
   -- what is gathered has the View from the deadline on
   gathered_view : (received : List (List ℕ)) (new : LateMemory) → Received s p.id repeat begin received → end ≤ℤ (begin +ℤ pos (length received)) →
       LateRun class lines sel former received new → HasView p new.gathered
-  gathered_view received new r long run = elim (gathers class lines sel gap received former new (all_part received r) run) as (λ _. HasView p new.gathered) [
-    | inl plain ↦ runs s p sel class lines repeat begin end page few fits steady brought former.gathered new.gathered received is_former r plain long
-    | inr b ↦
-        let later = begin +ℤ pos b.place in
-        let low : begin ≤ℤ later = omega (arith, ints) in
-        let within = b.within in
-        let size = length-drop b.place received in
-        let late : end ≤ℤ (later +ℤ pos (length (drop b.place received))) = omega (arith, ints) in
-        runs s p sel class lines repeat later end page few fits (steady_later later low)
-        (λ item need. brought_later s p class lines repeat item begin later end (no_header received r b.place within b.none) (brought item need))
-        b.base new.gathered (drop b.place received) b.former (received_later s p.id repeat begin later b.place refl received within r) b.run late
-  ]
+  gathered_view received new r long run = elim (gathers class lines sel gap received former new (all_part received r) run) as
+      (λ _. HasView p new.gathered) [
+        | inl plain ↦ runs s p sel class lines repeat begin end page few fits steady brought former.gathered new.gathered received
+            is_former r plain long
+        | inr b ↦
+            let later = begin +ℤ pos b.place in
+            let low : begin ≤ℤ later = omega (arith, ints) in
+            let within = b.within in
+            let size = length-drop b.place received in
+            let late : end ≤ℤ (later +ℤ pos (length (drop b.place received))) = omega (arith, ints) in
+            runs s p sel class lines repeat later end page few fits (steady_later later low)
+            (λ item need. brought_later s p class lines repeat item begin later end (no_header received r b.place within b.none) (brought item need))
+            b.base new.gathered (drop b.place received) b.former (received_later s p.id repeat begin later b.place refl received within r) b.run late
+      ]
     where
       no_header : (received : List (List ℕ)) → Received s p.id repeat begin received → (n : ℕ) → n ≤ length received →
-          ((i : ℕ) → i < n → heads (selected_mag sel) (packet_of (get_or received i [])) ≡ false) → (h : ℤ) → begin ≤ℤ h → heads_page p.id (packet_of (s h)) ≡ true → (begin +ℤ pos n) ≤ℤ h
+          ((i : ℕ) → i < n → heads (selected_mag sel) (packet_of (get_or received i [])) ≡ false) → (h : ℤ) → begin ≤ℤ h →
+          heads_page p.id (packet_of (s h)) ≡ true → (begin +ℤ pos n) ≤ℤ h
       no_header received r n within none h low head = elim (cases_ltz h (begin +ℤ pos n)) as (λ _. (begin +ℤ pos n) ≤ℤ h) [
         | inr ge ↦ ge
         | inl lt ↦
             let i = nat_abs (h -ℤ begin) in
             let e : h ≡ begin +ℤ pos i = omega (arith, ints) in
             let inside : i < n = omega (arith, ints) in
-            let mine : heads p.id.mag (packet_of (s (begin +ℤ pos i))) ≡ true = subst (λ z. heads p.id.mag (packet_of (s z)) ≡ true) e (page_heads p.id (packet_of (s h)) head) in
+            let mine : heads p.id.mag (packet_of (s (begin +ℤ pos i))) ≡ true =
+            subst (λ z. heads p.id.mag (packet_of (s z)) ≡ true) e (page_heads p.id (packet_of (s h)) head) in
             let other : heads p.id.mag (packet_of (s (begin +ℤ pos i))) ≡ false =
-            sym (heads_at s p.id.mag received begin (of_part received r) i (omega arith)) ∙ subst (λ m. heads m (packet_of (get_or received i [])) ≡ false) (mag_is sel p.id fits) (none i inside) in
+            sym (heads_at s p.id.mag received begin (of_part received r) i (omega arith))
+            ∙ subst (λ m. heads m (packet_of (get_or received i [])) ≡ false) (mag_is sel p.id fits) (none i inside) in
             absurd (both_ways _ other mine)
       ]
 
@@ -210,9 +223,11 @@ module _ (runs : RunsAreSeen) (decide : ContentsDecide) (kind : KindIsKept) (hea
       let size = length-take-le n received le in
       let left = length-drop n received in
       let early = received_before s p.id repeat begin n received le r in
-      let parts = split class lines sel (take n received) (drop n received) former d (subst (λ x. LateRun class lines sel former x d) (sym (take-append-drop n received)) run) in
+      let parts = split class lines sel (take n received) (drop n received) former d
+      (subst (λ x. LateRun class lines sel former x d) (sym (take-append-drop n received)) run) in
       let mid = parts.0 in
-      let comes = comes_at s sel u.slot (page_matched sel p.id fits (packet_of (s u.slot)) u.is_header) (take n received) begin (of_part (take n received) early) low (omega (arith, ints)) in
+      let comes = comes_at s sel u.slot (page_matched sel p.id fits (packet_of (s u.slot)) u.is_header) (take n received) begin
+      (of_part (take n received) early) low (omega (arith, ints)) in
       let ready = ready_after class lines sel gap (take n received) (drop n received) former mid
       (subst (AllEnd sel gap) (sym (take-append-drop n received)) (all_part received r)) parts.1 (inr comes) in
       let here : HasView p mid.gathered = gathered_view (take n received) mid early (omega (arith, ints)) parts.1 in
@@ -221,7 +236,8 @@ module _ (runs : RunsAreSeen) (decide : ContentsDecide) (kind : KindIsKept) (hea
       let m_le : n + k ≤ length received = omega arith in
       let m_size = length-take-le (n + k) received m_le in
       gathered_view (take (n + k) received) x (received_before s p.id repeat begin (n + k) received m_le r) (omega (arith, ints))
-      (subst (λ xs. LateRun class lines sel former xs x) (take_more n k received) (join class lines sel (take n received) (take k (drop n received)) former mid x parts.1 part)))
+      (subst (λ xs. LateRun class lines sel former xs x) (take_more n k received)
+      (join class lines sel (take n received) (take k (drop n received)) former mid x parts.1 part)))
       (elim ready as (λ _. IsDue class lines sel gap decide p mid (drop n received)) [
         | inl g ↦ let before = g.before in inr (record { storing = g.storing; place = g.place; before = omega (arith, ints); ends = g.ends })
         | inr settled ↦ inl (has_view_same decide p mid.gathered mid.shown (same_back mid.shown mid.gathered settled.same) here)
@@ -229,5 +245,7 @@ module _ (runs : RunsAreSeen) (decide : ContentsDecide) (kind : KindIsKept) (hea
       parts.2
 
 pub runs_are_shown : RunsAreSeen → ContentsDecide → KindIsKept → HeaderIsKept → RunsAreShown
-runs_are_shown runs decide kind header s p sel class lines repeat begin end page few fits steady brought gap followed former d received is_former r run long =
-    shown_view runs decide kind header s p sel class lines repeat begin end page few fits steady brought gap followed former is_former d received r run long
+runs_are_shown runs decide kind header s p sel class lines repeat begin end page few fits steady brought gap followed former d received
+    is_former r run long =
+    shown_view runs decide kind header s p sel class lines repeat begin end page few fits steady brought gap followed former is_former d
+    received r run long

@@ -43,17 +43,21 @@ module _ (class : Class) (lines : ℕ) (sel : Selection) (gap : ℕ) where
       let t = all.0 matched in
       let some = t.0 in
       inl (record {
-        storing = subst (λ x. x.storing ≡ true) (sym step.step.is) (after_matched class lines sel step.step.choice (older step.base) (packet_of slot) matched);
+        storing = subst (λ x. x.storing ≡ true) (sym step.step.is)
+            (after_matched class lines sel step.step.choice (older step.base) (packet_of slot) matched);
         place = gap - 1;
         before = omega arith;
         ends = t.1;
       })
 
   -- a slot that the selection doesn't match, after which nothing is gathered, leaves what was gathered
-  pub stopped : (m new : Memory) (slot : List ℕ) → Step class lines sel m slot new → heads_matched sel (packet_of slot) ≡ false → new.storing ≡ false → Same m new
+  pub stopped : (m new : Memory) (slot : List ℕ) → Step class lines sel m slot new → heads_matched sel (packet_of slot) ≡ false →
+      new.storing ≡ false → Same m new
   stopped m new slot step other idle =
       same_then m (older m) new (same_older m)
-      (subst (Same (older m)) (sym step.is) (after_stopped class lines sel step.choice (older m) (packet_of slot) other (subst (λ x. x.storing ≡ false) step.is idle)))
+      (subst (Same (older m)) (sym step.is)
+      (after_stopped class lines sel step.choice (older m) (packet_of slot) other
+      (subst (λ x. x.storing ≡ false) step.is idle)))
 
   -- then what is shown is what was gathered, if it was so before or has to be shown
   shown_same : (d new : LateMemory) (slot : List ℕ) → Same d.gathered new.gathered → MayShow sel d (packet_of slot) new →
@@ -74,14 +78,17 @@ module _ (class : Class) (lines : ℕ) (sel : Selection) (gap : ℕ) where
       [ inl h ↦ absurd (no_number sel slot rest k ends h) | inr f ↦ f ]
 
   pub must : (m new : Memory) (pkt : Packet) → m.storing ≡ true → new.storing ≡ false → heads_number sel pkt ≡ false → must_show sel m new pkt ≡ true
-  must m new pkt st idle other = and_from (m.storing && not new.storing) (not (heads_number sel pkt)) (and_from m.storing (not new.storing) st (not_from_false _ idle)) (not_from_false _ other)
+  must m new pkt st idle other = and_from (m.storing && not new.storing) (not (heads_number sel pkt))
+      (and_from m.storing (not new.storing) st (not_from_false _ idle)) (not_from_false _ other)
 
   -- what is gathered takes the slot
-  base_is : (d new : LateMemory) (slot : List ℕ) (rest : List (List ℕ)) (step : LateStep class lines sel d slot new) → IsReady sel gap d (slot ∷ rest) → step.base ≡ d.gathered
-  base_is d new slot rest step ready = kept_base class lines sel d.gathered step.base (packet_of slot) (elim ready as (λ _. may_forget sel d.gathered (packet_of slot) ≡ false) [
-    | inl g ↦ and_right d.gathered.storing (heads_number sel (packet_of slot)) (not_number slot rest g.place g.ends)
-    | inr s ↦ and_left d.gathered.storing (heads_number sel (packet_of slot)) s.idle
-  ]) step.from
+  base_is : (d new : LateMemory) (slot : List ℕ) (rest : List (List ℕ)) (step : LateStep class lines sel d slot new) →
+      IsReady sel gap d (slot ∷ rest) → step.base ≡ d.gathered
+  base_is d new slot rest step ready = kept_base class lines sel d.gathered step.base (packet_of slot)
+      (elim ready as (λ _. may_forget sel d.gathered (packet_of slot) ≡ false) [
+        | inl g ↦ and_right d.gathered.storing (heads_number sel (packet_of slot)) (not_number slot rest g.place g.ends)
+        | inr s ↦ and_left d.gathered.storing (heads_number sel (packet_of slot)) s.idle
+      ]) step.from
 
   pub ready_next : (d new : LateMemory) (slot : List ℕ) (rest : List (List ℕ)) → AllEnd sel gap (slot ∷ rest) → LateStep class lines sel d slot new →
       IsReady sel gap d (slot ∷ rest) → IsReady sel gap new rest
@@ -89,7 +96,8 @@ module _ (class : Class) (lines : ℕ) (sel : Selection) (gap : ℕ) where
       elim (cases_Bool (heads_matched sel (packet_of slot))) as (λ _. IsReady sel gap new rest) [
         | inl matched ↦ ready_matched d new slot rest all step matched
         | inr other ↦
-            let taken : Step class lines sel d.gathered slot new.gathered = subst (λ base. Step class lines sel base slot new.gathered) (base_is d new slot rest step ready) step.step in
+            let taken : Step class lines sel d.gathered slot new.gathered =
+            subst (λ base. Step class lines sel base slot new.gathered) (base_is d new slot rest step ready) step.step in
             elim (cases_Bool new.gathered.storing) as (λ _. IsReady sel gap new rest) [
               | inl on ↦ elim (step_storing class lines sel d.gathered new.gathered slot taken on) as (λ _. IsReady sel gap new rest) [
                 | inl matched ↦ absurd (both_ways _ other matched)
@@ -114,7 +122,8 @@ module _ (class : Class) (lines : ℕ) (sel : Selection) (gap : ℕ) where
 
   pub ready_after : (before rest : List (List ℕ)) (d mid : LateMemory) → AllEnd sel gap (before ++ rest) → LateRun class lines sel d before mid →
       (IsReady sel gap d (before ++ rest) ⊎ Comes sel before) → IsReady sel gap mid rest
-  ready_after [] rest d mid all run why = elim why as (λ _. IsReady sel gap mid rest) [ inl r ↦ subst (λ x. IsReady sel gap x rest) (sym run) r | inr c ↦ absurd c ]
+  ready_after [] rest d mid all run why = elim why as (λ _. IsReady sel gap mid rest)
+      [ inl r ↦ subst (λ x. IsReady sel gap x rest) (sym run) r | inr c ↦ absurd c ]
   ready_after (slot ∷ before) rest d mid all run why =
       ready_after before rest run.0 mid all.1 run.2 (elim why as (λ _. IsReady sel gap run.0 (before ++ rest) ⊎ Comes sel before) [
         | inl r ↦ inl (ready_next d run.0 slot (before ++ rest) all run.1 r)
@@ -133,7 +142,8 @@ module _ (class : Class) (lines : ℕ) (sel : Selection) (gap : ℕ) where
     abbrev pub IsDue : LateMemory → List (List ℕ) → Type 0
     IsDue d rest = HasView p d.shown ⊎ IsGathering sel (length rest) d.gathered rest
 
-    pub shown_has_view : (rest : List (List ℕ)) (d new : LateMemory) → AllHaveView d rest → IsDue d rest → LateRun class lines sel d rest new → HasView p new.shown
+    pub shown_has_view : (rest : List (List ℕ)) (d new : LateMemory) → AllHaveView d rest → IsDue d rest →
+        LateRun class lines sel d rest new → HasView p new.shown
     shown_has_view [] d new all due run = elim due as (λ _. HasView p new.shown) [
       | inl v ↦ subst (λ x. HasView p x.shown) (sym run) v
       | inr s ↦ let lt = s.before in absurd (omega arith)
@@ -143,7 +153,8 @@ module _ (class : Class) (lines : ℕ) (sel : Selection) (gap : ℕ) where
         let step = run.1 in
         let here : HasView p d.gathered = all 0 d (omega arith) refl in
         let next : HasView p mid.gathered = all 1 mid (omega arith) (mid, step, refl) in
-        let anew : ((mid.shown ≡ d.shown) × (must_show sel d.gathered mid.gathered (packet_of slot) ≡ false) → HasView p mid.shown) → HasView p mid.shown =
+        let anew : ((mid.shown ≡ d.shown) × (must_show sel d.gathered mid.gathered (packet_of slot) ≡ false) → HasView p mid.shown) →
+        HasView p mid.shown =
         λ left. elim step.shown as (λ _. HasView p mid.shown) [
           | inl e ↦ subst (HasView p) (sym e) here
           | inr other ↦ elim other as (λ _. HasView p mid.shown) [ inl e ↦ subst (HasView p) (sym e) next | inr l ↦ left l ]

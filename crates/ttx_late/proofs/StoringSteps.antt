@@ -41,16 +41,30 @@ module _ (class : Class) (lines : ℕ) (sel : Selection) where
   pub after_storing : (choice : Bool) (m : Memory) (pkt : Packet) → (after class lines sel choice m pkt).storing ≡ true →
       (heads_matched sel pkt ≡ true) ⊎ ((m.storing ≡ true) × (heads (selected_mag sel) pkt ≡ false))
   after_storing choice m (Header id control text) st =
-      cond_both (matches sel id) _ _ (λ (new : Memory). new.storing ≡ true → (matches sel id ≡ true) ⊎ ((m.storing ≡ true) × ((id.mag == selected_mag sel) ≡ false)))
+      cond_both (matches sel id) _ _
+      (λ (new : Memory). new.storing ≡ true → (matches sel id ≡ true)
+      ⊎ ((m.storing ≡ true) × ((id.mag == selected_mag sel) ≡ false)))
       (λ e _. inl e)
-      (λ _. cond_both (id.mag == selected_mag sel) _ _ (λ (new : Memory). new.storing ≡ true → (matches sel id ≡ true) ⊎ ((m.storing ≡ true) × ((id.mag == selected_mag sel) ≡ false))) (λ _ h. absurd (both_ways false refl h))
-      (λ e. cond_both (c11 control && choice) (with_storing m false) m (λ (new : Memory). new.storing ≡ true → (matches sel id ≡ true) ⊎ ((m.storing ≡ true) × ((id.mag == selected_mag sel) ≡ false))) (λ _ h. absurd (both_ways false refl h)) (λ _ h. inr (h, e)))) st
+      (λ _. cond_both (id.mag == selected_mag sel) _ _
+      (λ (new : Memory). new.storing ≡ true → (matches sel id ≡ true)
+      ⊎ ((m.storing ≡ true) × ((id.mag == selected_mag sel) ≡ false))) (λ _ h. absurd (both_ways false refl h))
+      (λ e. cond_both (c11 control && choice) (with_storing m false) m
+      (λ (new : Memory). new.storing ≡ true → (matches sel id ≡ true)
+      ⊎ ((m.storing ≡ true) × ((id.mag == selected_mag sel) ≡ false))) (λ _ h. absurd (both_ways false refl h))
+      (λ _ h. inr (h, e)))) st
   after_storing choice m (Row mag number text) st =
-      cond_both ((mag == selected_mag sel) && m.storing && not (misses lines choice m)) (with_row m number (stored_row (get_or m.rows number []) text)) m (λ (new : Memory). new.storing ≡ true → (false ≡ true) ⊎ ((m.storing ≡ true) × (false ≡ false))) (λ _ h. inr (h, refl)) (λ _ h. inr (h, refl)) st
+      cond_both ((mag == selected_mag sel) && m.storing && not (misses lines choice m))
+      (with_row m number (stored_row (get_or m.rows number []) text)) m
+      (λ (new : Memory). new.storing ≡ true → (false ≡ true) ⊎ ((m.storing ≡ true) × (false ≡ false))) (λ _ h. inr (h, refl))
+      (λ _ h. inr (h, refl)) st
   after_storing choice m (Links mag None) st =
-      cond_both ((mag == selected_mag sel) && m.storing && not (misses lines choice m)) m m (λ (new : Memory). new.storing ≡ true → (false ≡ true) ⊎ ((m.storing ≡ true) × (false ≡ false))) (λ _ h. inr (h, refl)) (λ _ h. inr (h, refl)) st
+      cond_both ((mag == selected_mag sel) && m.storing && not (misses lines choice m)) m m
+      (λ (new : Memory). new.storing ≡ true → (false ≡ true) ⊎ ((m.storing ≡ true) × (false ≡ false))) (λ _ h. inr (h, refl))
+      (λ _ h. inr (h, refl)) st
   after_storing choice m (Links mag (Some content)) st =
-      cond_both ((mag == selected_mag sel) && m.storing && not (misses lines choice m)) (with_links m (Some content)) m (λ (new : Memory). new.storing ≡ true → (false ≡ true) ⊎ ((m.storing ≡ true) × (false ≡ false))) (λ _ h. inr (h, refl)) (λ _ h. inr (h, refl)) st
+      cond_both ((mag == selected_mag sel) && m.storing && not (misses lines choice m)) (with_links m (Some content)) m
+      (λ (new : Memory). new.storing ≡ true → (false ≡ true) ⊎ ((m.storing ≡ true) × (false ≡ false))) (λ _ h. inr (h, refl))
+      (λ _ h. inr (h, refl)) st
   after_storing choice m Empty h = inr (h, refl)
   after_storing choice m Unreadable h = inr (h, refl)
   after_storing choice m Info h = inr (h, refl)
@@ -58,7 +72,8 @@ module _ (class : Class) (lines : ℕ) (sel : Selection) where
 
   -- a header that the selection matches begins storing
   pub after_matched : (choice : Bool) (m : Memory) (pkt : Packet) → heads_matched sel pkt ≡ true → (after class lines sel choice m pkt).storing ≡ true
-  after_matched choice m (Header id control text) h = cond_both (matches sel id) _ _ (λ (new : Memory). new.storing ≡ true) (λ _. refl) (λ e. absurd (both_ways _ e h))
+  after_matched choice m (Header id control text) h =
+      cond_both (matches sel id) _ _ (λ (new : Memory). new.storing ≡ true) (λ _. refl) (λ e. absurd (both_ways _ e h))
   after_matched choice m (Row mag number text) h = absurd (both_ways false refl h)
   after_matched choice m (Links mag content) h = absurd (both_ways false refl h)
   after_matched choice m Empty h = absurd (both_ways false refl h)
@@ -67,38 +82,53 @@ module _ (class : Class) (lines : ℕ) (sel : Selection) where
   after_matched choice m Other h = absurd (both_ways false refl h)
 
   -- a slot after which nothing is stored, and which the selection doesn't match, leaves what was held
-  pub after_stopped : (choice : Bool) (m : Memory) (pkt : Packet) → heads_matched sel pkt ≡ false → (after class lines sel choice m pkt).storing ≡ false → Same m (after class lines sel choice m pkt)
+  pub after_stopped : (choice : Bool) (m : Memory) (pkt : Packet) → heads_matched sel pkt ≡ false →
+      (after class lines sel choice m pkt).storing ≡ false → Same m (after class lines sel choice m pkt)
   after_stopped choice m (Header id control text) other st =
       cond_both (matches sel id) _ _ (λ (new : Memory). new.storing ≡ false → Same m new)
       (λ e _. absurd (both_ways _ other e))
-      (λ _. cond_both (id.mag == selected_mag sel) _ _ (λ (new : Memory). new.storing ≡ false → Same m new) (λ _ _. record { rows = refl; control = refl; links = refl })
+      (λ _. cond_both (id.mag == selected_mag sel) _ _ (λ (new : Memory). new.storing ≡ false → Same m new)
+      (λ _ _. record { rows = refl; control = refl; links = refl })
       (λ _. cond_both (c11 control && choice) (with_storing m false) m (λ (new : Memory). new.storing ≡ false → Same m new)
       (λ _ _. record { rows = refl; control = refl; links = refl }) (λ _ _. same_self m))) st
   after_stopped choice m (Row mag number text) other st =
-      cond_both ((mag == selected_mag sel) && m.storing && not (misses lines choice m)) (with_row m number (stored_row (get_or m.rows number []) text)) m (λ (new : Memory). new.storing ≡ false → Same m new)
-      (λ c k. absurd (both_ways m.storing k ((and_parts (mag == selected_mag sel) m.storing (and_parts ((mag == selected_mag sel) && m.storing) (not (misses lines choice m)) c).0).1))) (λ _ _. same_self m) st
+      cond_both ((mag == selected_mag sel) && m.storing && not (misses lines choice m))
+      (with_row m number (stored_row (get_or m.rows number []) text)) m (λ (new : Memory). new.storing ≡ false → Same m new)
+      (λ c k. absurd (both_ways m.storing k
+      ((and_parts (mag == selected_mag sel) m.storing
+      (and_parts ((mag == selected_mag sel) && m.storing) (not (misses lines choice m)) c).0).1))) (λ _ _. same_self m) st
   after_stopped choice m (Links mag None) other st =
-      cond_both ((mag == selected_mag sel) && m.storing && not (misses lines choice m)) m m (λ (new : Memory). new.storing ≡ false → Same m new) (λ _ _. same_self m) (λ _ _. same_self m) st
+      cond_both ((mag == selected_mag sel) && m.storing && not (misses lines choice m)) m m
+      (λ (new : Memory). new.storing ≡ false → Same m new) (λ _ _. same_self m) (λ _ _. same_self m) st
   after_stopped choice m (Links mag (Some content)) other st =
-      cond_both ((mag == selected_mag sel) && m.storing && not (misses lines choice m)) (with_links m (Some content)) m (λ (new : Memory). new.storing ≡ false → Same m new)
-      (λ c k. absurd (both_ways m.storing k ((and_parts (mag == selected_mag sel) m.storing (and_parts ((mag == selected_mag sel) && m.storing) (not (misses lines choice m)) c).0).1))) (λ _ _. same_self m) st
+      cond_both ((mag == selected_mag sel) && m.storing && not (misses lines choice m)) (with_links m (Some content)) m
+      (λ (new : Memory). new.storing ≡ false → Same m new)
+      (λ c k. absurd (both_ways m.storing k
+      ((and_parts (mag == selected_mag sel) m.storing
+      (and_parts ((mag == selected_mag sel) && m.storing) (not (misses lines choice m)) c).0).1))) (λ _ _. same_self m) st
   after_stopped choice m Empty other st = same_self m
   after_stopped choice m Unreadable other st = same_self m
   after_stopped choice m Info other st = same_self m
   after_stopped choice m Other other st = same_self m
 
   -- a slot that is no header of the magazine, where no choice is taken, leaves the receiver storing or not
-  pub after_quiet : (m : Memory) (pkt : Packet) → heads (selected_mag sel) pkt ≡ false → heads_matched sel pkt ≡ false → (after class lines sel false m pkt).storing ≡ m.storing
+  pub after_quiet : (m : Memory) (pkt : Packet) → heads (selected_mag sel) pkt ≡ false → heads_matched sel pkt ≡ false →
+      (after class lines sel false m pkt).storing ≡ m.storing
   after_quiet m (Header id control text) other none =
       cond_both (matches sel id) _ _ (λ (new : Memory). new.storing ≡ m.storing) (λ e. absurd (both_ways _ none e))
       (λ _. cond_both (id.mag == selected_mag sel) _ _ (λ (new : Memory). new.storing ≡ m.storing) (λ e. absurd (both_ways _ other e))
-      (λ _. cond_both (c11 control && false) (with_storing m false) m (λ (new : Memory). new.storing ≡ m.storing) (λ c. absurd (both_ways false refl ((and_parts (c11 control) false c).1))) (λ _. refl)))
+      (λ _. cond_both (c11 control && false) (with_storing m false) m (λ (new : Memory). new.storing ≡ m.storing)
+      (λ c. absurd (both_ways false refl ((and_parts (c11 control) false c).1))) (λ _. refl)))
   after_quiet m (Row mag number text) other none =
-      cond_both ((mag == selected_mag sel) && m.storing && not (misses lines false m)) (with_row m number (stored_row (get_or m.rows number []) text)) m (λ (new : Memory). new.storing ≡ m.storing) (λ _. refl) (λ _. refl)
+      cond_both ((mag == selected_mag sel) && m.storing && not (misses lines false m))
+      (with_row m number (stored_row (get_or m.rows number []) text)) m (λ (new : Memory). new.storing ≡ m.storing)
+      (λ _. refl) (λ _. refl)
   after_quiet m (Links mag None) other none =
-      cond_both ((mag == selected_mag sel) && m.storing && not (misses lines false m)) m m (λ (new : Memory). new.storing ≡ m.storing) (λ _. refl) (λ _. refl)
+      cond_both ((mag == selected_mag sel) && m.storing && not (misses lines false m)) m m (λ (new : Memory). new.storing ≡ m.storing)
+      (λ _. refl) (λ _. refl)
   after_quiet m (Links mag (Some content)) other none =
-      cond_both ((mag == selected_mag sel) && m.storing && not (misses lines false m)) (with_links m (Some content)) m (λ (new : Memory). new.storing ≡ m.storing) (λ _. refl) (λ _. refl)
+      cond_both ((mag == selected_mag sel) && m.storing && not (misses lines false m)) (with_links m (Some content)) m
+      (λ (new : Memory). new.storing ≡ m.storing) (λ _. refl) (λ _. refl)
   after_quiet m Empty other none = refl
   after_quiet m Unreadable other none = refl
   after_quiet m Info other none = refl

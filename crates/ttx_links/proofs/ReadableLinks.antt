@@ -55,7 +55,10 @@ module _ (mag : ℕ) (s : List ℕ) (k : ℕ) (read : AreRead s k (k + 6)) where
             reads_as 2 (k + 1 + 1) _ (omega arith) (omega arith) e2,
             (
               reads_as 3 (k + 1 + 1 + 1) _ (omega arith) (omega arith) e3,
-              (reads_as 4 (k + 1 + 1 + 1 + 1) _ (omega arith) (omega arith) e4, (reads_as 5 (k + 1 + 1 + 1 + 1 + 1) _ (omega arith) (omega arith) e5, tt)),
+              (
+                reads_as 4 (k + 1 + 1 + 1 + 1) _ (omega arith) (omega arith) e4,
+                (reads_as 5 (k + 1 + 1 + 1 + 1 + 1) _ (omega arith) (omega arith) e5, tt),
+              ),
             ),
           ),
         ),
@@ -68,8 +71,12 @@ module _ (mag : ℕ) (s : List ℕ) (k : ℕ) (read : AreRead s k (k + 6)) where
   none_said : is_time_filling (target_at mag s k) ≡ true → SaysLink mag None s k
   none_said filling =
       let page : (target_at mag s k).page ≡ 255 = grind (arith, nat_tests) in
-      let sub : (target_at mag s k).sub ≡ 16255 = grind (arith, nat_tests) in
-      (difference s k, small, subst (λ ns. ReadsFrom k s ns) (λ i. link_numbers (difference s k) (record { mag = 8; page = page i; sub = sub i })) six_numbers)
+      let sub : (target_at mag s k).sub ≡ 16255 = grind (arith, nat_tests) in (
+        difference s k,
+        small,
+        subst (λ ns. ReadsFrom k s ns)
+            (λ i. link_numbers (difference s k) (record { mag = 8; page = page i; sub = sub i })) six_numbers,
+      )
 
   some_said : SaysLink mag (Some (target_at mag s k)) s k
   some_said =
@@ -126,7 +133,8 @@ module _ (numbers : ReadableBytesHaveNumbers) where
   read_links_are_said mag s set is e =
       let (readable, same) = if_some (are_readable (slice_range s 3 40)) (set_of mag s) set e in
       let read = numbers s 3 40 is (omega arith) readable in
-      let link = λ (k : ℕ) (low : 3 ≤ k) (high : k + 6 ≤ 39). link_read mag s k (λ x from to. read x (omega (arith, low, from)) (omega (arith, high, to))) in
+      let link = λ (k : ℕ) (low : 3 ≤ k) (high : k + 6 ≤ 39).
+      link_read mag s k (λ x from to. read x (omega (arith, low, from)) (omega (arith, high, to))) in
       let (t1, s1) = link 3 (omega arith) (omega arith) in
       let (t2, s2) = link 9 (omega arith) (omega arith) in
       let (t3, s3) = link 15 (omega arith) (omega arith) in

@@ -47,7 +47,8 @@ module _ (numbers : WordsHaveNumbers) (kept : WordsAreKept) where
       word : (k : ℕ) → k < 37 → is_some (reading (slice_index sent (3 + k))) ≡ true
       word k l =
           let there : is_word (slice_index sent (3 + k)) ≡ true =
-          ap is_word (sym (at_range sent 3 40 k (omega arith))) ∙ passes_at is_word (slice_range sent 3 40) k exact (omega (arith, long sent s.size)) in
+          ap is_word (sym (at_range sent 3 40 k (omega arith)))
+          ∙ passes_at is_word (slice_range sent 3 40) k exact (omega (arith, long sent s.size)) in
           ap is_some (numbers _ (s.bytes (3 + k)) there).0
 
       readable_sent : are_readable (slice_range sent 3 40) ≡ true
@@ -70,7 +71,8 @@ module _ (numbers : WordsHaveNumbers) (kept : WordsAreKept) where
           let e3 = n (k + 3) (omega arith) (omega arith) in
           let e4 = n (k + 4) (omega arith) (omega arith) in
           let e5 = n (k + 5) (omega arith) (omega arith) in
-          λ i. linked (id_at (target_magazine mag (e3 i / 8 + 2 * (e5 i / 4))) (e0 i + 16 * e1 i) (e2 i + 16 * (e3 i % 8) + 256 * e4 i + 4096 * (e5 i % 4)))
+          λ i. linked (id_at (target_magazine mag (e3 i / 8 + 2 * (e5 i / 4))) (e0 i + 16 * e1 i)
+          (e2 i + 16 * (e3 i % 8) + 256 * e4 i + 4096 * (e5 i % 4)))
 
       set : set_of mag received ≡ set_of mag sent
       set =

@@ -13,19 +13,27 @@ use Rattle.ttx_links.proofs.Magazines.{xor_below_8, xor_back, magazine_back}
 
 reads_append : (s : List ℕ) (k : ℕ) (xs ys : List ℕ) → ReadsFrom k s xs → ReadsFrom (k + length xs) s ys → ReadsFrom k s (xs ++ ys)
 reads_append s k [] ys r q = subst (λ j. ReadsFrom j s ys) (let e : k + 0 ≡ k = omega arith in e) q
-reads_append s k (x ∷ xs) ys r q = (r.0, reads_append s (k + 1) xs ys r.1 (subst (λ j. ReadsFrom j s ys) (let e : k + suc (length xs) ≡ k + 1 + length xs = omega arith in e) q))
+reads_append s k (x ∷ xs) ys r q = (
+  r.0,
+  reads_append s (k + 1) xs ys r.1
+      (subst (λ j. ReadsFrom j s ys) (let e : k + suc (length xs) ≡ k + 1 + length xs = omega arith in e) q),
+)
 
 -- the numbers of bytes that say links
 link_reads : (mag : ℕ) (link : Option Id) (s : List ℕ) (k : ℕ) → SaysLink mag link s k → (ns : List ℕ) × (length ns ≡ 6) × ReadsFrom k s ns
 link_reads mag None s k (m, l, r) = (link_numbers m no_link, refl, r)
 link_reads mag (Some id) s k r = (numbers_for mag (Some id), refl, r)
 
-each_reads : (mag : ℕ) (links : List (Option Id)) (s : List ℕ) (k : ℕ) → SaysEach mag links s k → (ns : List ℕ) × (length ns ≡ 6 * length links) × ReadsFrom k s ns
+each_reads : (mag : ℕ) (links : List (Option Id)) (s : List ℕ) (k : ℕ) → SaysEach mag links s k → (ns : List ℕ)
+    × (length ns ≡ 6 * length links) × ReadsFrom k s ns
 each_reads mag [] s k r = ([], omega arith, tt)
 each_reads mag (link ∷ links) s k r =
     let (ms, e, q) = link_reads mag link s k r.0 in
-    let (ns, f, p) = each_reads mag links s (k + 6) r.1 in
-    (ms ++ ns, omega (arith, length-append ms ns, e, f), reads_append s k ms ns q (subst (λ j. ReadsFrom j s ns) (let g : k + 6 ≡ k + length ms = omega (arith, e) in g) p))
+    let (ns, f, p) = each_reads mag links s (k + 6) r.1 in (
+      ms ++ ns,
+      omega (arith, length-append ms ns, e, f),
+      reads_append s k ms ns q (subst (λ j. ReadsFrom j s ns) (let g : k + 6 ≡ k + length ms = omega (arith, e) in g) p),
+    )
 
 -- links as they are read, one after another
 abbrev links_from : ℕ → List ℕ → ℕ → ℕ → List (Option Id)
@@ -53,12 +61,15 @@ module _ (numbers : ReadNumbersAreNumbers) where
       ap linked (target_said mag m no_link s k (omega arith) (record { top = omega arith; gap = refl }) l r)
   link_said mag (Some id) s k is r =
       let m = bit_xor (mag % 8) (id.mag % 8) in
-      let same : target_magazine mag m ≡ id.mag = ap magazine (xor_back (mag % 8) (id.mag % 8) (omega arith) (omega arith)) ∙ magazine_back id.mag is.ranges.mag_from is.ranges.mag_to in
+      let same : target_magazine mag m ≡ id.mag = ap magazine (xor_back (mag % 8) (id.mag % 8) (omega arith) (omega arith))
+      ∙ magazine_back id.mag is.ranges.mag_from is.ranges.mag_to in
       let target : target_at mag s k ≡ id =
-      target_said mag m id s k is.ranges.page is.ranges.sub (xor_below_8 (mag % 8) (id.mag % 8) (omega arith) (omega arith)) r ∙ ap (λ n. id_at n id.page id.sub) same in
+      target_said mag m id s k is.ranges.page is.ranges.sub (xor_below_8 (mag % 8) (id.mag % 8) (omega arith) (omega arith)) r
+      ∙ ap (λ n. id_at n id.page id.sub) same in
       ap linked target ∙ rw is.link refl
 
-  each_said : (mag : ℕ) (links : List (Option Id)) (s : List ℕ) (k : ℕ) → AreLinks links → SaysEach mag links s k → links_from mag s k (length links) ≡ links
+  each_said : (mag : ℕ) (links : List (Option Id)) (s : List ℕ) (k : ℕ) → AreLinks links → SaysEach mag links s k →
+      links_from mag s k (length links) ≡ links
   each_said mag [] s k is r = refl
   each_said mag (link ∷ links) s k is r = ap₂ (λ x xs. x ∷ xs) (link_said mag link s k is.0 r.0) (each_said mag links s (k + 6) is.1 r.1)
 
@@ -70,12 +81,14 @@ module _ (numbers : ReadNumbersAreNumbers) where
           subst (λ n. are_readable (slice_range s k (k + n)) ≡ true) long (readable s k ns (omega (arith, long, inside)) reads),
         )
 
-    pub links_said : (mag : ℕ) (f : LinksFields) (s : List ℕ) → IsLinksFields f → AreLinks f.set.six → length s ≡ 42 → SaysLinks mag f s → links_of mag s ≡ Some f.set
+    pub links_said : (mag : ℕ) (f : LinksFields) (s : List ℕ) → IsLinksFields f → AreLinks f.set.six → length s ≡ 42 →
+        SaysLinks mag f s → links_of mag s ≡ Some f.set
     unfolding links_of
     links_said mag f s is targets size says =
         let (n, control, shows) = says.control in
         let (ns, long, reads) = each_reads mag f.set.six s 3 says.links in
-        let six : links_from mag s 3 6 ≡ f.set.six = subst (λ n. links_from mag s 3 n ≡ f.set.six) is.six (each_said mag f.set.six s 3 targets says.links) in
+        let six : links_from mag s 3 6 ≡ f.set.six =
+        subst (λ n. links_from mag s 3 n ≡ f.set.six) is.six (each_said mag f.set.six s 3 targets says.links) in
         let at : 39 ≡ 3 + length ns = omega (arith, long, is.six) in
         let all : ReadsFrom 3 s (ns ++ n ∷ []) = reads_append s 3 ns (n ∷ []) reads (subst (λ j. ReadsFrom j s (n ∷ [])) at (control, tt)) in
         let whole : 3 + length (ns ++ n ∷ []) ≡ 40 = omega (arith, length-append ns (n ∷ []), long, is.six) in

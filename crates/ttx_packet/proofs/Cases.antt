@@ -12,7 +12,8 @@ pub kind_when_empty : (slot : List ℕ) → is_empty slot ≡ true → kind_of s
 unfolding kind_of
 kind_when_empty slot e = cond_both (is_empty slot) IsEmpty _ (λ (k : Kind). k ≡ IsEmpty) (λ _. refl) (λ f. absurd (both_ways _ f e))
 
-pub kind_when_read : (slot : List ℕ) (low high : ℕ) → is_empty slot ≡ false → reading (slice_index slot 0) ≡ Some low → reading (slice_index slot 1) ≡ Some high →
+pub kind_when_read : (slot : List ℕ) (low high : ℕ) → is_empty slot ≡ false → reading (slice_index slot 0) ≡ Some low →
+    reading (slice_index slot 1) ≡ Some high →
     kind_of slot ≡ packet_kind slot (magazine low) (packet_number low high)
 unfolding kind_of
 kind_when_read slot low high e first second =
@@ -30,7 +31,8 @@ links_kind_is_packet mag (Some d) = cond_both (d == 0) (IsLinks mag) (IsOther ma
 packet_kind_is_packet : (slot : List ℕ) (mag number : ℕ) → IsPacketKind (packet_kind slot mag number)
 unfolding packet_kind
 packet_kind_is_packet slot mag number =
-    cond_both (number == 0) _ _ IsPacketKind (λ _. cond_both (are_readable (slice_range slot 2 10)) (IsHeader mag) IsUnreadable IsPacketKind (λ _. tt) (λ _. tt))
+    cond_both (number == 0) _ _ IsPacketKind
+    (λ _. cond_both (are_readable (slice_range slot 2 10)) (IsHeader mag) IsUnreadable IsPacketKind (λ _. tt) (λ _. tt))
     (λ _. cond_both (nat_le number 24) (IsRow mag number) _ IsPacketKind (λ _. tt)
     (λ _. cond_both (number == 27) _ _ IsPacketKind (λ _. links_kind_is_packet mag (reading (slice_index slot 2)))
     (λ _. cond_both ((number == 30) && (mag == 8)) IsInfo (IsOther mag number) IsPacketKind (λ _. tt) (λ _. tt))))
@@ -101,7 +103,8 @@ same_packet_kind mag number sent received header links =
             else if (number == 30) && (mag == 8) then IsInfo
             else IsOther mag number) (links l) ∙ cond-false (number == 0) _ _ n ∙ sym (cond-false (number == 0) _ _ n)
         | inr l ↦ cond-false (number == 0) _ _ n
-            ∙ ap (λ (k : Kind). if nat_le number 24 then IsRow mag number else k) (cond-false (number == 27) _ _ l ∙ sym (cond-false (number == 27) _ _ l))
+            ∙ ap (λ (k : Kind). if nat_le number 24 then IsRow mag number else k)
+            (cond-false (number == 27) _ _ l ∙ sym (cond-false (number == 27) _ _ l))
             ∙ sym (cond-false (number == 0) _ _ n)
       ]
     ]

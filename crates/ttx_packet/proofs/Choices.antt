@@ -9,7 +9,8 @@ pub each_passes : (test : ℕ → Bool) (xs : List ℕ) (k : ℕ) → list_all t
 each_passes test xs k h l = true_from_ne_false _ (λ e. both_ways _ (list_all_at test xs k 0 l e) h)
 
 -- lists of one length on whose elements two tests agree
-pub same_list_all : (test : ℕ → Bool) (xs ys : List ℕ) → length xs ≡ length ys → ((k : ℕ) → k < length xs → test (get_or ys k 0) ≡ test (get_or xs k 0)) → list_all test ys ≡ list_all test xs
+pub same_list_all : (test : ℕ → Bool) (xs ys : List ℕ) → length xs ≡ length ys →
+    ((k : ℕ) → k < length xs → test (get_or ys k 0) ≡ test (get_or xs k 0)) → list_all test ys ≡ list_all test xs
 same_list_all test [] [] e h = refl
 same_list_all test [] (y ∷ ys) e h = absurd (omega arith)
 same_list_all test (x ∷ xs) [] e h = absurd (omega arith)

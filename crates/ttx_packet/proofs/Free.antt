@@ -9,7 +9,8 @@ use Rattle.ttx_packet.proofs.Cases.{kind_when_empty}
 
 module _ (near : (b : ℕ) → Near b b) (sent received : List ℕ) (kind : Kind) (is : kind_of sent ≡ kind) (slot : IsSlot received) where
   -- what is received is as it was sent below byte n, from which on all are free
-  from_byte : (n : ℕ) → (kind ≡ IsEmpty → ⊥) → ((x : ℕ) → n ≤ x → IsFree kind x) → ((x : ℕ) → x < n → slice_index received x ≡ slice_index sent x) → MayBeReceivedAs sent received
+  from_byte : (n : ℕ) → (kind ≡ IsEmpty → ⊥) → ((x : ℕ) → n ≤ x → IsFree kind x) →
+      ((x : ℕ) → x < n → slice_index received x ≡ slice_index sent x) → MayBeReceivedAs sent received
   from_byte n some free same = record {
     slot = slot;
     empty = λ e. absurd (some (sym is ∙ kind_when_empty sent e));

@@ -39,7 +39,8 @@ numbered_address slot (Some low) (Some high) = numbered_packet slot _ _
 
 numbered_slot : (slot : List ℕ) → IsNumbered (kind_of slot)
 unfolding kind_of
-numbered_slot slot = cond_both (is_empty slot) IsEmpty _ IsNumbered (λ _. tt) (λ _. numbered_address slot (reading (get_or slot 0 0)) (reading (get_or slot 1 0)))
+numbered_slot slot = cond_both (is_empty slot) IsEmpty _ IsNumbered (λ _. tt)
+    (λ _. numbered_address slot (reading (get_or slot 0 0)) (reading (get_or slot 1 0)))
 
 pub row_number : (slot : List ℕ) (mag number : ℕ) → kind_of slot ≡ IsRow mag number → (1 ≤ number) × (number ≤ 24)
 row_number slot mag number e = subst IsNumbered e (numbered_slot slot)

@@ -35,7 +35,8 @@ clean_words slot s clean e =
     record {
       first = ap is_word (sym (get_or-range slot 0 2 0 (omega arith))) ∙ each_passes is_word (slice_range slot 0 2) 0 first.0 (omega (arith, l2));
       second = ap is_word (sym (get_or-range slot 0 2 1 (omega arith))) ∙ each_passes is_word (slice_range slot 0 2) 1 first.0 (omega (arith, l2));
-      header = λ n k l. ap is_word (sym (get_or-range slot 2 10 k l)) ∙ each_passes is_word (slice_range slot 2 10) k (implied _ _ first.1 n) (omega (arith, l8));
+      header = λ n k l. ap is_word (sym (get_or-range slot 2 10 k l))
+          ∙ each_passes is_word (slice_range slot 2 10) k (implied _ _ first.1 n) (omega (arith, l8));
       links = λ n. implied _ _ parts.1 n;
     }
 
@@ -50,7 +51,8 @@ row_of_zeros : (slot : List ℕ) → packet_kind slot (magazine 1) (packet_numbe
 unfolding packet_kind
 row_of_zeros slot = refl
 
-module _ (numbers : WordsHaveNumbers) (corrected : WordsAreReadUnderOneWrongBit) (sent received : List ℕ) (s : IsSlot sent) (clean : is_clean sent ≡ true) (some : is_empty sent ≡ false) (may : MayBeReceivedAs sent received) where
+module _ (numbers : WordsHaveNumbers) (corrected : WordsAreReadUnderOneWrongBit) (sent received : List ℕ) (s : IsSlot sent)
+    (clean : is_clean sent ≡ true) (some : is_empty sent ≡ false) (may : MayBeReceivedAs sent received) where
   abbrev low : ℕ
   low = number_of (slice_index sent 0)
 
@@ -58,10 +60,11 @@ module _ (numbers : WordsHaveNumbers) (corrected : WordsAreReadUnderOneWrongBit)
   high = number_of (slice_index sent 1)
 
   kept : (kind_of received ≡ kind_of sent) ⊎ ((kind_of sent ≡ IsRow 1 2) × (is_empty received ≡ true))
-  kept = elim (cases_Bool (is_empty received)) as (λ _. (kind_of received ≡ kind_of sent) ⊎ ((kind_of sent ≡ IsRow 1 2) × (is_empty received ≡ true))) [
-    | inl z ↦ inr (row z, z)
-    | inr z ↦ inl (same z)
-  ]
+  kept = elim (cases_Bool (is_empty received)) as
+      (λ _. (kind_of received ≡ kind_of sent) ⊎ ((kind_of sent ≡ IsRow 1 2) × (is_empty received ≡ true))) [
+        | inl z ↦ inr (row z, z)
+        | inr z ↦ inl (same z)
+      ]
     where
       words : CleanWords sent
       words = clean_words sent s clean some
@@ -79,7 +82,8 @@ module _ (numbers : WordsHaveNumbers) (corrected : WordsAreReadUnderOneWrongBit)
       free x f = free_bytes sent (magazine low) (packet_number low high) x (subst (λ k. IsFree k x) what f)
 
       -- a code word that isn't free reads as it was sent
-      reads : (x : ℕ) → x < 42 → (IsFree (kind_of sent) x → ⊥) → is_word (slice_index sent x) ≡ true → reading (slice_index received x) ≡ reading (slice_index sent x)
+      reads : (x : ℕ) → x < 42 → (IsFree (kind_of sent) x → ⊥) → is_word (slice_index sent x) ≡ true → reading (slice_index received x)
+          ≡ reading (slice_index sent x)
       reads x l fixed w = elim (may.near x l) as (λ _. reading (slice_index received x) ≡ reading (slice_index sent x))
           [ inl f ↦ absurd (fixed f) | inr near ↦ corrected _ _ (s.bytes x) (may.slot.bytes x) w near ]
 
@@ -95,14 +99,16 @@ module _ (numbers : WordsHaveNumbers) (corrected : WordsAreReadUnderOneWrongBit)
           let h : Some high ≡ Some 1 = sym second_read ∙ ap reading (zero_byte received 1 z (omega (arith, may.slot.size))) ∙ zero_reads in
           let el : low ≡ 1 = cc in
           let eh : high ≡ 1 = cc in
-          what ∙ ap (λ x. packet_kind sent (magazine x) (packet_number x high)) el ∙ ap (λ x. packet_kind sent (magazine 1) (packet_number 1 x)) eh ∙ row_of_zeros sent
+          what ∙ ap (λ x. packet_kind sent (magazine x) (packet_number x high)) el
+          ∙ ap (λ x. packet_kind sent (magazine 1) (packet_number 1 x)) eh ∙ row_of_zeros sent
 
       same : is_empty received ≡ false → kind_of received ≡ kind_of sent
       same z =
           kind_when_read received low high z first_read second_read
           ∙ same_packet_kind (magazine low) (packet_number low high) sent received
           (λ n. same_list_all (λ b. is_some (reading b)) (slice_range sent 2 10) (slice_range received 2 10)
-          (length-range sent 2 10 (omega (arith, s.size)) (omega arith) ∙ sym (length-range received 2 10 (omega (arith, may.slot.size)) (omega arith)))
+          (length-range sent 2 10 (omega (arith, s.size)) (omega arith)
+          ∙ sym (length-range received 2 10 (omega (arith, may.slot.size)) (omega arith)))
           (λ k l.
           let l8 : k < 8 = omega (arith, length-range sent 2 10 (omega (arith, s.size)) (omega arith)) in
           ap (λ b. is_some (reading b)) (get_or-range received 2 10 k l8)

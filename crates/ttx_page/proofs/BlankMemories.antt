@@ -67,7 +67,8 @@ erased_holds_blank p m TheLinks is need blank = sym blank
 
 spaces_from_test : (row : List ℕ) → list_all (λ c. c == 32) row ≡ true → row ≡ replicate (length row) 32
 spaces_from_test [] h = refl
-spaces_from_test (c ∷ row) h = let first : c ≡ 32 = eqb-true _ _ ((and_parts _ _ h).0) in ap (λ x. x ∷ row) first ∙ ap (λ r. 32 ∷ r) (spaces_from_test row ((and_parts _ _ h).1))
+spaces_from_test (c ∷ row) h = let first : c ≡ 32 = eqb-true _ _ ((and_parts _ _ h).0) in ap (λ x. x ∷ row) first
+    ∙ ap (λ r. 32 ∷ r) (spaces_from_test row ((and_parts _ _ h).1))
 
 test_of_spaces : (n : ℕ) → list_all (λ c. c == 32) (replicate n 32) ≡ true
 test_of_spaces zero = refl
@@ -81,7 +82,8 @@ none_from_test (Some id ∷ six) h = cc
 pub blank_is_tested : BlankIsTested
 blank_is_tested p TheHead is six need = ((λ h. cc), (λ b. absurd b))
 blank_is_tested p (TheRow number) is six need = (
-  (λ h. spaces_from_test (page_row p number) h ∙ ap (λ n. replicate n 32) (is.rows number (row_from_1 p number need) (row_to_24 p number need)).length),
+  (λ h. spaces_from_test (page_row p number) h ∙ ap (λ n. replicate n 32)
+      (is.rows number (row_from_1 p number need) (row_to_24 p number need)).length),
   (λ b. subst (λ row. list_all (λ c. c == 32) row ≡ true) (sym b) (test_of_spaces 40)),
 )
 blank_is_tested p TheLinks is six need = (

@@ -48,7 +48,8 @@ choices_are_choices Clearing lines sel m (Header id control text) h = header (ma
     header false h = other_kept m (id.mag == selected_mag sel) (c11 control) m.storing refl h
 choices_are_choices class lines sel m (Row mag number text) h =
     text_kept m (with_row m number (stored_row (memory_row m number) text)) (mag == selected_mag sel) m.storing (nat_le m.age lines) h
-choices_are_choices class lines sel m (Links mag content) h = text_kept m (with_links m content) (mag == selected_mag sel) m.storing (nat_le m.age lines) h
+choices_are_choices class lines sel m (Links mag content) h =
+    text_kept m (with_links m content) (mag == selected_mag sel) m.storing (nat_le m.age lines) h
 choices_are_choices class lines sel m _ h = refl
 
 pub each_list_runs : EachListRuns

@@ -1,5 +1,6 @@
 -- Tests and choices.
-use Rattle.std.proofs.Common.{◌≡◌, ◌⊎◌, ℕ, ◌==◌, eqb-true, eq-eqb, sym, Bool, true, false, ◌&&◌, if◌then◌else◌, List, [], ◌∷◌, Option, Some, None, refl, ap, inl, inr}
+use Rattle.std.proofs.Common.{◌≡◌, ◌⊎◌, ℕ, ◌==◌, eqb-true, eq-eqb, sym, Bool, true, false, ◌&&◌}
+use Rattle.std.proofs.Common.{if◌then◌else◌, List, [], ◌∷◌, Option, Some, None, refl, ap, inl, inr}
 
 pub eq_sym : (a b : ℕ) → (a == b) ≡ true → (b == a) ≡ true
 eq_sym a b h = eq-eqb b a (sym (eqb-true a b h))

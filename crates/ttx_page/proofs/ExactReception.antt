@@ -38,7 +38,8 @@ exact_is_received s page repeat tau n slots some =
       one_right = λ item x text places count run inside. first_right x places count inside;
     }
   where
-    first_right : (x : ℕ) (places : List ℤ) → length places ≡ repeat → AllByRecursion (λ j. (tau ≤ℤ j) × (j <ℤ (tau +ℤ pos (length (sent_from s tau n))))) places →
+    first_right : (x : ℕ) (places : List ℤ) → length places ≡ repeat →
+        AllByRecursion (λ j. (tau ≤ℤ j) × (j <ℤ (tau +ℤ pos (length (sent_from s tau n))))) places →
         OneIs (IsRight s tau (sent_from s tau n) x) places
     first_right x [] count inside = absurd (omega arith)
     first_right x (j ∷ places) count inside =

@@ -47,7 +47,11 @@ examples_hold = record {
       refl,
       refl,
     );
-    sure = (omega (arith, ints), λ i low high. none_back_is (λ i. ends_serial 1 (packet_of (repeated base_cycle i))) 2 (pos 3) refl i (omega (arith, ints)) high);
+    sure = (
+      omega (arith, ints),
+      λ i low high. none_back_is (λ i. ends_serial 1 (packet_of (repeated base_cycle i))) 2 (pos 3) refl i
+          (omega (arith, ints)) high,
+    );
   };
   unsure = λ s. let e = s.0 in omega (arith, ints);
   taken = refl;

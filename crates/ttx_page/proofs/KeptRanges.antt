@@ -20,7 +20,8 @@ stored_row-zip2 (c ∷ row) [] e = absurd (omega arith)
 stored_row-zip2 (c ∷ row) (b ∷ bytes) e = ap (λ r. stored b c ∷ r) (stored_row-zip2 row bytes (omega arith))
 
 -- zero bytes leave what is held
-pub stored_row-zeros : (n : ℕ) (row bytes : List ℕ) → n ≤ length row → stored_row row (replicate n 0 ++ bytes) ≡ take n row ++ stored_row (drop n row) bytes
+pub stored_row-zeros : (n : ℕ) (row bytes : List ℕ) → n ≤ length row → stored_row row (replicate n 0 ++ bytes) ≡ take n row
+    ++ stored_row (drop n row) bytes
 unfolding ones
 stored_row-zeros zero row bytes h = refl
 stored_row-zeros (suc n) [] bytes h = absurd (omega arith)
@@ -83,6 +84,7 @@ IsMemory-memory_of_page p is = record {
     rows (suc r) lt = let e : suc r - 1 ≡ r = omega arith in subst (λ k. IsRow (get_or p.rows k [])) e (is.rows (suc r) (omega arith) (omega arith))
 
 -- a memory whose rows below row 0 are spaces
-pub IsRow-erased : (rows : List (List ℕ)) → ((r : ℕ) → r < 25 → IsRow (get_or rows r [])) → (r : ℕ) → r < 25 → IsRow (get_or (set (replicate 25 blank_row) 0 (get_or rows 0 [])) r [])
+pub IsRow-erased : (rows : List (List ℕ)) → ((r : ℕ) → r < 25 → IsRow (get_or rows r [])) → (r : ℕ) → r < 25 →
+    IsRow (get_or (set (replicate 25 blank_row) 0 (get_or rows 0 [])) r [])
 IsRow-erased rows each zero lt = each 0 (omega arith)
 IsRow-erased rows each (suc r) lt = rows-blank 24 r (omega arith)

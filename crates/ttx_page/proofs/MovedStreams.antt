@@ -21,19 +21,29 @@ module _ (s : Stream) (d : ℤ) (same : IsSameOn s d) where
   latest_moved mag h j a = record {
     earlier = let e = a.earlier in omega (arith, ints);
     is_header = ap (λ x. heads mag (packet_of x)) (same h) ∙ a.is_header;
-    none_between = λ i low high. ap (λ x. heads mag (packet_of x)) (sym (before i)) ∙ a.none_between (i -ℤ d) (omega (arith, ints)) (omega (arith, ints));
+    none_between = λ i low high. ap (λ x. heads mag (packet_of x)) (sym (before i))
+        ∙ a.none_between (i -ℤ d) (omega (arith, ints)) (omega (arith, ints));
   }
 
   pub owned_moved : (page : Id) (item : Item) (h j : ℤ) → IsOwned s page item h j → IsOwned s page item (h +ℤ d) (j +ℤ d)
   owned_moved page TheHead h j a = (ap (λ x. x +ℤ d) a.0, ap (λ x. heads_page page (packet_of x)) (same j) ∙ a.1)
-  owned_moved page (TheRow r) h j a =
-      (latest_moved page.mag h j a.0, ap (λ x. heads_page page (packet_of x)) (same h) ∙ a.1, ap (λ x. carries page.mag (TheRow r) (packet_of x)) (same j) ∙ a.2)
-  owned_moved page TheLinks h j a =
-      (latest_moved page.mag h j a.0, ap (λ x. heads_page page (packet_of x)) (same h) ∙ a.1, ap (λ x. carries page.mag TheLinks (packet_of x)) (same j) ∙ a.2)
+  owned_moved page (TheRow r) h j a = (
+    latest_moved page.mag h j a.0,
+    ap (λ x. heads_page page (packet_of x)) (same h) ∙ a.1,
+    ap (λ x. carries page.mag (TheRow r) (packet_of x)) (same j) ∙ a.2,
+  )
+  owned_moved page TheLinks h j a = (
+    latest_moved page.mag h j a.0,
+    ap (λ x. heads_page page (packet_of x)) (same h) ∙ a.1,
+    ap (λ x. carries page.mag TheLinks (packet_of x)) (same j) ∙ a.2,
+  )
 
   kept_moved : (lines mag : ℕ) (h j : ℤ) → CannotBeMissed s lines mag h j → CannotBeMissed s lines mag (h +ℤ d) (j +ℤ d)
-  kept_moved lines mag h j a =
-      (let e = a.0 in omega (arith, ints), λ i low high. ap (λ x. ends_serial mag (packet_of x)) (sym (before i)) ∙ a.1 (i -ℤ d) (omega (arith, ints)) (omega (arith, ints)))
+  kept_moved lines mag h j a = (
+    let e = a.0 in omega (arith, ints),
+    λ i low high. ap (λ x. ends_serial mag (packet_of x)) (sym (before i))
+        ∙ a.1 (i -ℤ d) (omega (arith, ints)) (omega (arith, ints)),
+  )
 
   pub sure_moved : (lines mag : ℕ) (item : Item) (h j : ℤ) → IsSure s lines mag item h j → IsSure s lines mag item (h +ℤ d) (j +ℤ d)
   sure_moved lines mag TheHead h j a = a
@@ -46,10 +56,17 @@ module _ (s : Stream) (d : ℤ) (same : IsSameOn s d) where
   abbrev moved : List ℤ → List ℤ
   moved xs = map (λ x. x +ℤ d) xs
 
-  all_sure_moved : (page : Id) (lines : ℕ) (item : Item) (xs : List ℤ) → AllByRecursion (IsSureTransmission s page lines item) xs → AllByRecursion (IsSureTransmission s page lines item) (moved xs)
+  all_sure_moved : (page : Id) (lines : ℕ) (item : Item) (xs : List ℤ) → AllByRecursion (IsSureTransmission s page lines item) xs →
+      AllByRecursion (IsSureTransmission s page lines item) (moved xs)
   all_sure_moved page lines item [] a = tt
-  all_sure_moved page lines item (x ∷ xs) a =
-      (record { owner = a.0.owner +ℤ d; owned = owned_moved page item a.0.owner x a.0.owned; sure = sure_moved lines page.mag item a.0.owner x a.0.sure }, all_sure_moved page lines item xs a.1)
+  all_sure_moved page lines item (x ∷ xs) a = (
+    record {
+      owner = a.0.owner +ℤ d;
+      owned = owned_moved page item a.0.owner x a.0.owned;
+      sure = sure_moved lines page.mag item a.0.owner x a.0.sure;
+    },
+    all_sure_moved page lines item xs a.1,
+  )
 
   all_below_moved : (e : ℤ) (xs : List ℤ) → AllByRecursion (λ j. j <ℤ e) xs → AllByRecursion (λ j. j <ℤ (e +ℤ d)) (moved xs)
   all_below_moved e [] a = tt
@@ -67,7 +84,8 @@ module _ (s : Stream) (d : ℤ) (same : IsSameOn s d) where
     )
 
     pub run_moved : (repeat : ℕ) (i : ℤ) (rest : List ℤ) → IsRun s page repeat item i rest → IsRun s page repeat item (i +ℤ d) (moved rest)
-    run_moved repeat i rest r = record { count = ap suc (length-map rest (λ x. x +ℤ d)) ∙ r.count; successive = successive_moved (i ∷ rest) r.successive }
+    run_moved repeat i rest r = record
+        { count = ap suc (length-map rest (λ x. x +ℤ d)) ∙ r.count; successive = successive_moved (i ∷ rest) r.successive }
 
 pub streams_move : StreamsMove
 streams_move s d same = record {

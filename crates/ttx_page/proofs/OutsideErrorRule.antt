@@ -50,13 +50,17 @@ both_sendings : AreSuccessive (repeated base_cycle) id_100 (TheRow 1) (pos 3 ∷
 both_sendings = (first_sending, omega (arith, ints), λ x low high t. let f = none_between x low high in let h = t.owned.2 in cc, second_sending)
 
 spoilt : (n : ℕ) → slice_index (get_or (spoilt_base ++ spoilt_base) n []) 2 ≡ 0x20 → n ≡ 3 ⊎ n ≡ 31 → ⊥
-spoilt n e (inl is) = let f : slice_index (get_or (spoilt_base ++ spoilt_base) 3 []) 2 ≡ 0x20 = subst (λ m. slice_index (get_or (spoilt_base ++ spoilt_base) m []) 2 ≡ 0x20) is e in omega arith
-spoilt n e (inr is) = let f : slice_index (get_or (spoilt_base ++ spoilt_base) 31 []) 2 ≡ 0x20 = subst (λ m. slice_index (get_or (spoilt_base ++ spoilt_base) m []) 2 ≡ 0x20) is e in omega arith
+spoilt n e (inl is) = let f : slice_index (get_or (spoilt_base ++ spoilt_base) 3 []) 2 ≡ 0x20 =
+    subst (λ m. slice_index (get_or (spoilt_base ++ spoilt_base) m []) 2 ≡ 0x20) is e in omega arith
+spoilt n e (inr is) = let f : slice_index (get_or (spoilt_base ++ spoilt_base) 31 []) 2 ≡ 0x20 =
+    subst (λ m. slice_index (get_or (spoilt_base ++ spoilt_base) m []) 2 ≡ 0x20) is e in omega arith
 
-not_right : (j : ℤ) (k : ℕ) → j ≡ pos k → (k ≡ 3) ⊎ (k ≡ 31) → slice_index (repeated base_cycle j) 2 ≡ 0x20 → IsRight (repeated base_cycle) (pos 0) (spoilt_base ++ spoilt_base) 2 j → ⊥
+not_right : (j : ℤ) (k : ℕ) → j ≡ pos k → (k ≡ 3) ⊎ (k ≡ 31) → slice_index (repeated base_cycle j) 2 ≡ 0x20 →
+    IsRight (repeated base_cycle) (pos 0) (spoilt_base ++ spoilt_base) 2 j → ⊥
 not_right j k e which sent r =
     let same : r.index ≡ k = let p = r.place in omega (arith, ints) in
-    spoilt r.index (let q = r.right in cc) (elim which as (λ _. (r.index ≡ 3) ⊎ (r.index ≡ 31)) [ inl a ↦ inl (omega arith) | inr b ↦ inr (omega arith) ])
+    spoilt r.index (let q = r.right in cc)
+    (elim which as (λ _. (r.index ≡ 3) ⊎ (r.index ≡ 31)) [ inl a ↦ inl (omega arith) | inr b ↦ inr (omega arith) ])
 
 two_wrong_bits : Near 0x20 0x23 → ⊥
 unfolding distance ones
@@ -66,7 +70,8 @@ pub examples_are_outside : AreOutside
 unfolding kind_of packet_kind reading distance ones hamming_word
 examples_are_outside = record {
   both_wrong = λ r.
-      elim (r.one_right (TheRow 1) 2 (omega arith, omega arith) (pos 3 ∷ pos 31 ∷ []) refl both_sendings ((omega (arith, ints), omega (arith, ints)), ((omega (arith, ints), omega (arith, ints)), tt))) as (λ _. ⊥) [
+      elim (r.one_right (TheRow 1) 2 (omega arith, omega arith) (pos 3 ∷ pos 31 ∷ []) refl both_sendings
+      ((omega (arith, ints), omega (arith, ints)), ((omega (arith, ints), omega (arith, ints)), tt))) as (λ _. ⊥) [
         | inl first ↦ not_right (pos 3) 3 refl (inl refl) refl first
         | inr later ↦ elim later as (λ _. ⊥) [ inl second ↦ not_right (pos 31) 31 refl (inr refl) refl second | inr none ↦ none ]
       ];

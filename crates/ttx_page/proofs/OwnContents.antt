@@ -35,10 +35,14 @@ same_link_set a b = elim (both (same_list (same_option same_page_id) a.six b.six
 same_control : (a b : ℕ) → c4 a ≡ false → c4 b ≡ false → a / 2 ≡ b / 2 → a ≡ b
 same_control a b h k e = grind (arith, nat_tests)
 
-head_right : (p : Page) (packet : Packet) → IsPage p → heads_page p.id packet ≡ true → (erases_page packet ≡ true → ⊥) → ((IsLikeHead p packet → ⊥) → ⊥) → HeadIsRight p packet
+head_right : (p : Page) (packet : Packet) → IsPage p → heads_page p.id packet ≡ true → (erases_page packet ≡ true → ⊥) →
+    ((IsLikeHead p packet → ⊥) → ⊥) → HeadIsRight p packet
 head_right p (Header id control text) is h none like =
-    let k = by_refuting (both (same_nat (control / 2) (p.control / 2)) (same_text (take 24 text) (map odd_byte p.head))) like in
-    (same_control control p.control (elim (cases_Bool (c4 control)) as (λ _. c4 control ≡ false) [ inl e ↦ absurd (none e) | inr e ↦ e ]) is.no_erase k.0, k.1)
+    let k = by_refuting (both (same_nat (control / 2) (p.control / 2)) (same_text (take 24 text) (map odd_byte p.head))) like in (
+      same_control control p.control
+          (elim (cases_Bool (c4 control)) as (λ _. c4 control ≡ false) [ inl e ↦ absurd (none e) | inr e ↦ e ]) is.no_erase k.0,
+      k.1,
+    )
 head_right p Empty is h none like = cc
 head_right p Unreadable is h none like = cc
 head_right p (Row m number text) is h none like = cc
@@ -96,9 +100,12 @@ steady_sends_its_own s pages p is = (own, steady)
     }
       where
         items : (item : Item) → IsChecked p item → (h j : ℤ) → IsOwned s p.id item h j → IsTrueTo p item (s j)
-        items TheHead c h j o = head_right p (packet_of (s j)) is o.1 (λ e. t.not_erased j (record { header = o.1; erases = e })) (λ d. t.head j (record { header = o.1; differs = d }))
-        items (TheRow r) c h j o = row_right p r (packet_of (s j)) (λ d. t.rows j (record { row = r; needed = c; sent = record { owner = h; owned = o }; differs = d }))
-        items TheLinks c h j o = links_right p (s j) (packet_of (s j)) (λ d. t.links j (record { sent = record { owner = h; owned = o }; differs = d }))
+        items TheHead c h j o = head_right p (packet_of (s j)) is o.1 (λ e. t.not_erased j (record { header = o.1; erases = e }))
+            (λ d. t.head j (record { header = o.1; differs = d }))
+        items (TheRow r) c h j o = row_right p r (packet_of (s j))
+            (λ d. t.rows j (record { row = r; needed = c; sent = record { owner = h; owned = o }; differs = d }))
+        items TheLinks c h j o = links_right p (s j) (packet_of (s j))
+            (λ d. t.links j (record { sent = record { owner = h; owned = o }; differs = d }))
 
     steady : SendsItsOwn s pages p → Steady s pages p
     steady o = record {

@@ -58,13 +58,15 @@ latest_near s n some period mag h j a = elim (cases_ltz (h +ℤ pos n) j) as (λ
 ]
 
 -- a slot that is no header isn't the place of the owner a period later
-text_near : (s : Stream) (n : ℕ) → 0 < n → IsSameOn s (pos n) → (mag : ℕ) (item : Item) (h j : ℤ) → IsLatestHeader s mag h j → carries mag item (packet_of (s j)) ≡ true → j <ℤ (h +ℤ pos n)
+text_near : (s : Stream) (n : ℕ) → 0 < n → IsSameOn s (pos n) → (mag : ℕ) (item : Item) (h j : ℤ) → IsLatestHeader s mag h j →
+    carries mag item (packet_of (s j)) ≡ true → j <ℤ (h +ℤ pos n)
 text_near s n some period mag item h j a c = elim (cases_ltz j (h +ℤ pos n)) as (λ _. j <ℤ (h +ℤ pos n)) [
   | inl lt ↦ lt
   | inr ge ↦
       let le = latest_near s n some period mag h j a in
       let e : h +ℤ pos n ≡ j = omega (arith, ints) in
-      absurd (no_head mag item (packet_of (s j)) (subst (λ x. heads mag (packet_of (s x)) ≡ true) e (ap (λ x. heads mag (packet_of x)) (period h) ∙ a.is_header)) c)
+      absurd (no_head mag item (packet_of (s j))
+      (subst (λ x. heads mag (packet_of (s x)) ≡ true) e (ap (λ x. heads mag (packet_of x)) (period h) ∙ a.is_header)) c)
 ]
 
 pub owners_are_near : OwnersAreNear

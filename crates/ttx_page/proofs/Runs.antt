@@ -30,7 +30,8 @@ module _ (s : Stream) (page : Id) (item : Item) where
       ]
 
   -- a run that starts earlier ends earlier
-  all_earlier : (i j : ℤ) (a b : List ℤ) → length a ≡ length b → i <ℤ j → AreSuccessive s page item (i ∷ a) → AreSuccessive s page item (j ∷ b) → (end : ℤ) →
+  all_earlier : (i j : ℤ) (a b : List ℤ) → length a ≡ length b → i <ℤ j → AreSuccessive s page item (i ∷ a) →
+      AreSuccessive s page item (j ∷ b) → (end : ℤ) →
       AllByRecursion (λ x. x <ℤ (end +ℤ pos 1)) (j ∷ b) → AllByRecursion (λ x. x <ℤ end) (i ∷ a)
   all_earlier i j [] [] e lt h k end below = ((let w = below.0 in omega (arith, ints)), tt)
   all_earlier i j [] (y ∷ b) e lt h k end below = absurd (omega arith)
@@ -46,7 +47,8 @@ module _ (s : Stream) (page : Id) (item : Item) where
       ]
 
 pub runs_are_unique : RunsAreUnique
-runs_are_unique s page repeat item first a b r q = one_list s page item first a b (let e = r.count in let f = q.count in omega arith) r.successive q.successive
+runs_are_unique s page repeat item first a b r q =
+    one_list s page item first a b (let e = r.count in let f = q.count in omega arith) r.successive q.successive
 
 pub runs_rise : RunsRise
 runs_rise s page repeat item i j a b lt r q end below =

@@ -11,11 +11,13 @@ run_more {class} {lines} {sel} {mid} {new} {slot} m [] r s = (new, subst (λ x. 
 run_more m (first ∷ received) r s = (r.0, r.1, run_more r.0 received r.2 s)
 
 -- a step under equal settings
-same_step : {class class' : Class} {lines lines' : ℕ} {sel sel' : Selection} {m new : Memory} {slot : List ℕ} → class' ≡ class → lines' ≡ lines → sel' ≡ sel →
+same_step : {class class' : Class} {lines lines' : ℕ} {sel sel' : Selection} {m new : Memory} {slot : List ℕ} → class' ≡ class → lines'
+    ≡ lines → sel' ≡ sel →
     Step class' lines' sel' m slot new → Step class lines sel m slot new
 same_step {class} {class'} {lines} {lines'} {sel} {sel'} {m} {new} {slot} a b c s =
     subst (λ k. Step k lines sel m slot new) a (subst (λ k. Step class' k sel m slot new) b (subst (λ k. Step class' lines' k m slot new) c s))
 
 pub runs_go_on : (class class' : Class) (lines lines' : ℕ) (sel sel' : Selection) (m mid new : Memory) (received : List (List ℕ)) (slot : List ℕ) →
-    class' ≡ class → lines' ≡ lines → sel' ≡ sel → Run class lines sel m received mid → Step class' lines' sel' mid slot new → Run class lines sel m (received ++ slot ∷ []) new
+    class' ≡ class → lines' ≡ lines → sel' ≡ sel → Run class lines sel m received mid → Step class' lines' sel' mid slot new →
+    Run class lines sel m (received ++ slot ∷ []) new
 runs_go_on class class' lines lines' sel sel' m mid new received slot a b c run step = run_more m received run (same_step a b c step)

@@ -36,10 +36,11 @@ without n (w ∷ ws) = if w == n then ws else w ∷ without n ws
 shorter : (n : ℕ) (ws : List ℕ) → IsIn ws n → length ws ≡ suc (length (without n ws))
 unfolding IsIn without
 shorter n [] i = absurd i
-shorter n (w ∷ ws) i = cond_both (w == n) ws (w ∷ without n ws) (λ (xs : List ℕ). suc (length ws) ≡ suc (length xs)) (λ t. refl) (λ f. elim i as (λ _. suc (length ws) ≡ suc (suc (length (without n ws)))) [
-  | inl e ↦ let t : (w == n) ≡ true = eq-eqb w n e in cc
-  | inr r ↦ ap suc (shorter n ws r)
-])
+shorter n (w ∷ ws) i = cond_both (w == n) ws (w ∷ without n ws) (λ (xs : List ℕ). suc (length ws) ≡ suc (length xs)) (λ t. refl)
+    (λ f. elim i as (λ _. suc (length ws) ≡ suc (suc (length (without n ws)))) [
+      | inl e ↦ let t : (w == n) ≡ true = eq-eqb w n e in cc
+      | inr r ↦ ap suc (shorter n ws r)
+    ])
 
 stays : (n m : ℕ) (ws : List ℕ) → m ≢ n → IsIn ws m → IsIn (without n ws) m
 unfolding IsIn without
@@ -53,7 +54,8 @@ stays n m (w ∷ ws) ne i = cond_both (w == n) ws (w ∷ without n ws) (λ (xs :
 near_same : (sent received : List ℕ) (x : ℕ) → slice_index received x ≡ slice_index sent x → Near (slice_index sent x) (slice_index received x)
 near_same sent received x e = subst (λ b. Near (slice_index sent x) b) (sym e) (near_self (slice_index sent x))
 
-near_of : (kind : Kind) (sent received : List ℕ) → HasRightText kind sent received → (x : ℕ) → x < 42 → IsFree kind x ⊎ Near (slice_index sent x) (slice_index received x)
+near_of : (kind : Kind) (sent received : List ℕ) → HasRightText kind sent received → (x : ℕ) → x < 42 → IsFree kind x
+    ⊎ Near (slice_index sent x) (slice_index received x)
 near_of IsEmpty sent received right x lt = inr (near_same sent received x (ap (λ slot. slice_index slot x) right))
 near_of IsUnreadable sent received right x lt = inr (right x (omega arith) lt)
 near_of (IsHeader mag) sent received right x lt = elim (cases_lt x 34) as (λ _. (34 ≤ x) ⊎ Near (slice_index sent x) (slice_index received x)) [
@@ -74,7 +76,8 @@ near_of IsInfo sent received right x lt = elim (cases_lt x 2) as (λ _. (2 ≤ x
 ]
 near_of (IsOther mag number) sent received right x lt = inr (right x (omega arith) lt)
 
-head_text : (kind : Kind) (page : Id) (sent received : List ℕ) → heads_page page (packet_of_kind sent kind) ≡ true → HasRightText kind sent received → AreSame 10 34 sent received
+head_text : (kind : Kind) (page : Id) (sent received : List ℕ) → heads_page page (packet_of_kind sent kind) ≡ true →
+    HasRightText kind sent received → AreSame 10 34 sent received
 head_text IsEmpty page sent received h right = cc
 head_text IsUnreadable page sent received h right = cc
 head_text (IsHeader mag) page sent received h right = right.1
@@ -83,7 +86,8 @@ head_text (IsLinks mag) page sent received h right = cc
 head_text IsInfo page sent received h right = cc
 head_text (IsOther mag number) page sent received h right = cc
 
-row_text : (kind : Kind) (mag r : ℕ) (sent received : List ℕ) → carries mag (TheRow r) (packet_of_kind sent kind) ≡ true → HasRightText kind sent received → AreSame 2 42 sent received
+row_text : (kind : Kind) (mag r : ℕ) (sent received : List ℕ) → carries mag (TheRow r) (packet_of_kind sent kind) ≡ true →
+    HasRightText kind sent received → AreSame 2 42 sent received
 row_text IsEmpty mag r sent received h right = cc
 row_text IsUnreadable mag r sent received h right = cc
 row_text (IsHeader m) mag r sent received h right = cc
@@ -109,7 +113,8 @@ module _ (empty : EmptySlotsAreEmpty) (s : Stream) (page : Id) (tau : ℤ) (rece
   may_be_right : (sent slot : List ℕ) → IsSlot slot → HasRightText (kind_of sent) sent slot → MayBeReceivedAs sent slot
   may_be_right sent slot is right = record {
     slot = is;
-    empty = λ e. let same : slot ≡ sent = subst (λ k. HasRightText k sent slot) ((empty sent).1 e) right in subst (λ z. is_empty z ≡ true) (sym same) e;
+    empty = λ e. let same : slot ≡ sent = subst (λ k. HasRightText k sent slot) ((empty sent).1 e) right
+        in subst (λ z. is_empty z ≡ true) (sym same) e;
     near = near_of (kind_of sent) sent slot right;
   }
 
@@ -119,18 +124,21 @@ module _ (empty : EmptySlotsAreEmpty) (s : Stream) (page : Id) (tau : ℤ) (rece
   abbrev Inside : List ℤ → Type 0
   Inside = AllByRecursion (λ j. (tau ≤ℤ j) × (j <ℤ (tau +ℤ pos (length received))))
 
-  right_here : (item : Item) (x : ℕ) (j : ℤ) (n : ℕ) → j ≡ tau +ℤ pos n → IsTransmission s page item j → IsTextByte item x → Right n → IsRight s tau received x j
+  right_here : (item : Item) (x : ℕ) (j : ℤ) (n : ℕ) → j ≡ tau +ℤ pos n → IsTransmission s page item j → IsTextByte item x → Right n →
+      IsRight s tau received x j
   right_here item x j n e t text right = record {
     index = n;
     place = e;
-    right = text_right s page item x j (get_or received n []) t text (subst (λ i. HasRightText (kind_of (s i)) (s i) (get_or received n [])) (sym e) right);
+    right = text_right s page item x j (get_or received n []) t text
+        (subst (λ i. HasRightText (kind_of (s i)) (s i) (get_or received n [])) (sym e) right);
   }
 
   after_is_other : (j i : ℤ) (n k : ℕ) → j ≡ tau +ℤ pos k → j <ℤ i → i ≤ℤ (tau +ℤ pos n) → n ≡ k → ⊥
   after_is_other j i n k e lt past same = let p : tau +ℤ pos n ≡ tau +ℤ pos k = ap (λ m. tau +ℤ pos m) same in omega (arith, ints)
 
   -- the slots from the first place on have their text right, but for those of a list that is shorter than the places
-  one_is : (item : Item) (x : ℕ) → IsTextByte item x → (j : ℤ) (rest : List ℤ) (ws : List ℕ) → AreSuccessive s page item (j ∷ rest) → Inside (j ∷ rest) → length ws ≤ length rest →
+  one_is : (item : Item) (x : ℕ) → IsTextByte item x → (j : ℤ) (rest : List ℤ) (ws : List ℕ) → AreSuccessive s page item (j ∷ rest) →
+      Inside (j ∷ rest) → length ws ≤ length rest →
       ((n : ℕ) → n < length received → j ≤ℤ (tau +ℤ pos n) → Right n ⊎ IsIn ws n) → OneIs (IsRight s tau received x) (j ∷ rest)
   one_is item x text j [] ws t inside short each =
       let k = offset tau j inside.0.0 in
@@ -149,11 +157,13 @@ module _ (empty : EmptySlotsAreEmpty) (s : Stream) (page : Id) (tau : ℤ) (rece
             inr (one_is item x text i rest (without k.0 ws) t.3 inside.1 (omega arith)
             (λ n l past.
             let ne : n ≢ k.0 = λ e. after_is_other j i n k.0 k.1 t.1 past e in
-            elim (each n l (omega (arith, ints, t.1))) as (λ _. Right n ⊎ IsIn (without k.0 ws) n) [ inl right ↦ inl right | inr m ↦ inr (stays k.0 n ws ne m) ]))
+            elim (each n l (omega (arith, ints, t.1))) as
+            (λ _. Right n ⊎ IsIn (without k.0 ws) n) [ inl right ↦ inl right | inr m ↦ inr (stays k.0 n ws ne m) ]))
       ]
 
   pub received_within : (repeat : ℕ) (wrong : List ℕ) → length wrong < repeat →
-      ((n : ℕ) → n < length received → IsSlot (get_or received n []) × (Right n ⊎ (Contains wrong n × HasWrongText (s (tau +ℤ pos n)) (get_or received n [])))) →
+      ((n : ℕ) → n < length received → IsSlot (get_or received n [])
+      × (Right n ⊎ (Contains wrong n × HasWrongText (s (tau +ℤ pos n)) (get_or received n [])))) →
       Received s page repeat tau received
   received_within repeat wrong short each = record {
     each = λ n lt. let e = each n lt in elim e.1 as (λ _. MayBeReceivedAs (s (tau +ℤ pos n)) (get_or received n [])) [
@@ -163,7 +173,8 @@ module _ (empty : EmptySlotsAreEmpty) (s : Stream) (page : Id) (tau : ℤ) (rece
     one_right = λ item x text places count run inside. at_places item x text places count run inside;
   }
     where
-      at_places : (item : Item) (x : ℕ) → IsTextByte item x → (places : List ℤ) → length places ≡ repeat → AreSuccessive s page item places → Inside places → OneIs (IsRight s tau received x) places
+      at_places : (item : Item) (x : ℕ) → IsTextByte item x → (places : List ℤ) → length places ≡ repeat →
+          AreSuccessive s page item places → Inside places → OneIs (IsRight s tau received x) places
       at_places item x text [] count run inside = absurd (omega arith)
       at_places item x text (j ∷ rest) count run inside =
           one_is item x text j rest wrong run inside (omega arith)

@@ -69,7 +69,8 @@ lists f low (suc n) high (e ∷ es) size r h =
     (λ ne.
     let after : low + 1 ≤ e.0 = omega (arith, ne, r.0) in
     let none : f low ≡ None = h.same low (omega arith) ∙ missed low (low + 1) (e ∷ es) (omega arith) (after, r.1) in
-    let rest = lists f (low + 1) n high (e ∷ es) (omega (arith, size)) (after, r.1) (record { same = λ q l. h.same q (omega (arith, l)); bound = h.bound }) in
+    let rest = lists f (low + 1) n high (e ∷ es) (omega (arith, size)) (after, r.1)
+    (record { same = λ q l. h.same q (omega (arith, l)); bound = h.bound }) in
     rest ∙ ap (λ o. header_list o ++ flat_map (λ k. header_list (f k)) (range_with_len (low + 1) n)) (sym none))
     (cases_eq low e.0)
 
@@ -84,7 +85,8 @@ later : (x : ℕ) (ys : List ℕ) → AllByRecursion (λ y. nat_cmp x y ≡ Less
 later x [] h = tt
 later x (y ∷ ys) h = (omega (arith, less_lt x y h.0), later x ys h.1)
 
-rising : (low : ℕ) (es : Entries) → AllByRecursion (λ y. low ≤ y) (map (λ e. e.0) es) → IsStrictlySortedBy nat_cmp (map (λ e. e.0) es) → IsRising low es
+rising : (low : ℕ) (es : Entries) → AllByRecursion (λ y. low ≤ y) (map (λ e. e.0) es) → IsStrictlySortedBy nat_cmp (map (λ e. e.0) es) →
+    IsRising low es
 unfolding IsStrictlySortedBy
 rising low [] a s = tt
 rising low (e ∷ es) a s = (a.0, rising (e.0 + 1) es (later e.0 (map (λ e. e.0) es) s.0) s.1)

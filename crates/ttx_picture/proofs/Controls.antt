@@ -62,7 +62,8 @@ module _ (p : ℕ → Bool) where
 
   quiet_all : ((b : ℕ) → quiet b ≡ true → p b ≡ true) → (bytes : List ℕ) → list_all quiet bytes ≡ true → list_all p bytes ≡ true
   quiet_all h [] e = refl
-  quiet_all h (b ∷ bytes) e = both_true (p b) (list_all p bytes) (h b (left (quiet b) (list_all quiet bytes) e)) (quiet_all h bytes (right (quiet b) (list_all quiet bytes) e))
+  quiet_all h (b ∷ bytes) e = both_true (p b) (list_all p bytes) (h b (left (quiet b) (list_all quiet bytes) e))
+      (quiet_all h bytes (right (quiet b) (list_all quiet bytes) e))
     where
       left : (x y : Bool) → x && y ≡ true → x ≡ true
       left true y e = refl
@@ -102,13 +103,15 @@ module _ (p : ℕ → Bool) (admits : Admits p) where
   links_all (link ∷ links) = with_all p (link_all link) (links_all links)
 
   ending_all : {text : List ℕ} (links : List (Option Id)) → IsAll p text → IsAll p (text ++ codes "links" ++ link_names links ++ 10 ∷ [])
-  ending_all links h = with_all p {b = 10 ∷ []} (with_all p (with_all p {b = codes "links"} h (from_quiet (calm refl))) (links_all links)) (from_quiet (calm refl))
+  ending_all links h = with_all p {b = 10 ∷ []}
+      (with_all p (with_all p {b = codes "links"} h (from_quiet (calm refl))) (links_all links)) (from_quiet (calm refl))
 
   module _ (reveal : Bool) where
     cells_all : (cells : List Cell) → Printed cells → IsAll p (cells_text false reveal cells)
     cells_all [] h = all_of p refl
     cells_all (cell ∷ cells) h =
-        either_all p (are_blank reveal (cell ∷ cells)) (all_of p refl) (with_all p (utf8 (char_of reveal cell) (char_low reveal cell h.0)) (cells_all cells h.1))
+        either_all p (are_blank reveal (cell ∷ cells)) (all_of p refl)
+        (with_all p (utf8 (char_of reveal cell) (char_low reveal cell h.0)) (cells_all cells h.1))
 
     rows_all : (rows : List (List Cell)) → ArePrinted rows → IsAll p (rows_text false reveal rows)
     rows_all [] h = all_of p refl
@@ -125,14 +128,19 @@ module _ (p : ℕ → Bool) (admits : Admits p) where
       change_all before now = either_all p (before == now) (all_of p refl) (sgr_all now)
 
       changes_all : (before cell : Cell) → IsAll p (changes before cell)
-      changes_all before cell = with_all p (with_all p (change_all (foreground before) (foreground cell)) (change_all (background before) (background cell))) (change_all (blink before) (blink cell))
+      changes_all before cell = with_all p
+          (with_all p (change_all (foreground before) (foreground cell)) (change_all (background before) (background cell)))
+          (change_all (blink before) (blink cell))
 
       ansi_all : (before : Cell) (cells : List Cell) → Printed cells → IsAll p (cells_ansi reveal before cells)
       ansi_all before [] h = all_of p refl
-      ansi_all before (cell ∷ cells) h = with_all p (with_all p (changes_all before cell) (utf8 (char_of reveal cell) (char_low reveal cell h.0))) (ansi_all cell cells h.1)
+      ansi_all before (cell ∷ cells) h = with_all p
+          (with_all p (changes_all before cell) (utf8 (char_of reveal cell) (char_low reveal cell h.0))) (ansi_all cell cells h.1)
 
       row_all : (cells : List Cell) → Printed cells → IsAll p (row_ansi reveal cells)
-      row_all cells h = with_all p {b = 10 ∷ []} (with_all p (with_all p (with_all p (sgr_all 37) (sgr_all 40)) (ansi_all space_cell cells h)) (sgr_all 0)) (from_quiet (calm refl))
+      row_all cells h = with_all p {b = 10 ∷ []}
+          (with_all p (with_all p (with_all p (sgr_all 37) (sgr_all 40)) (ansi_all space_cell cells h)) (sgr_all 0))
+          (from_quiet (calm refl))
 
       rows_ansi_all : (rows : List (List Cell)) → ArePrinted rows → IsAll p (rows_ansi reveal rows)
       rows_ansi_all [] h = all_of p refl

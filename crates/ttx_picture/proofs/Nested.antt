@@ -77,7 +77,8 @@ module _ (w : List (List ℕ)) where
       let parts = and_parts (quiet b) (list_all quiet bytes) e in
       ap (λ r. fold read r bytes) (one_text w b (plain b parts.0)) ∙ fold_text bytes parts.1
 
-  fold_value : (name : List ℕ) (bytes : List ℕ) → list_all quiet bytes ≡ true → fold read (reading_at (InValue name) w) bytes ≡ reading_at (InValue name) w
+  fold_value : (name : List ℕ) (bytes : List ℕ) → list_all quiet bytes ≡ true → fold read (reading_at (InValue name) w) bytes
+      ≡ reading_at (InValue name) w
   fold_value name [] e = refl
   fold_value name (b ∷ bytes) e =
       let parts = and_parts (quiet b) (list_all quiet bytes) e in
@@ -93,7 +94,8 @@ module _ (w : List (List ℕ)) where
 
 pen_quiet : (pen : Pen) → IsQuiet (pen_text pen)
 pen_quiet pen =
-    with_quiet (with_quiet (with_quiet {a = codes "c"} (calm refl) (decimal_quiet pen.colour)) (either_quiet {a = codes " f"} pen.flash (calm refl) (calm refl)))
+    with_quiet (with_quiet (with_quiet {a = codes "c"} (calm refl) (decimal_quiet pen.colour))
+    (either_quiet {a = codes " f"} pen.flash (calm refl) (calm refl)))
     (either_quiet {a = codes " s"} pen.separated (calm refl) (calm refl))
 
 layer_quiet : (layer : Layer) → IsQuiet (layer_text layer)
@@ -153,7 +155,8 @@ module _ (w : List (List ℕ)) where
   all_strokes layer current down x (half ∷ rest) =
       join (one_stroke layer current down x half) (all_strokes layer (pen_after current half) (is_down half) (x + 10) rest)
 
-  all_drawn : (reveal tall : Bool) (layer : Layer) (cells : List Cell) → Reads (reading_at InText w) (drawn reveal tall layer cells) (reading_at InText w)
+  all_drawn : (reveal tall : Bool) (layer : Layer) (cells : List Cell) →
+      Reads (reading_at InText w) (drawn reveal tall layer cells) (reading_at InText w)
   all_drawn reveal tall layer cells = all_strokes layer None false 0 (cell_halves reveal tall layer cells)
 
 -- ---- letters
@@ -182,7 +185,8 @@ module _ (w : List (List ℕ)) where
   new_span current letter pen h = join (join (ends_span current) (starts_span pen)) (in_text (codes "tspan" ∷ w) h)
 
   in_span : (current : Option Pen) (letter : ℕ) (pen : Pen) → IsQuiet (escaped letter) →
-      Reads (span_at current) (if is_pen current pen then escaped letter else span_end current ++ span_start pen ++ escaped letter) (span_at (Some pen))
+      Reads (span_at current) (if is_pen current pen then escaped letter else span_end current ++ span_start pen ++ escaped letter)
+      (span_at (Some pen))
   in_span None letter pen h = new_span None letter pen h
   in_span (Some own) letter pen h = choose (is_pen (Some own) pen) (in_text (codes "tspan" ∷ w) h) (new_span (Some own) letter pen h)
 
@@ -196,11 +200,13 @@ module _ (w : List (List ℕ)) where
   one_letter current letter pen h = by_space (letter == 0x20) current pen (in_span current letter pen h)
 
   module _ (reveal tall : Bool) where
-    all_letters : (current : Option Pen) (cells : List Cell) → Printed cells → Reads (span_at current) (letters reveal tall current cells) (reading_at InText w)
+    all_letters : (current : Option Pen) (cells : List Cell) → Printed cells →
+        Reads (span_at current) (letters reveal tall current cells) (reading_at InText w)
     all_letters current [] h = ends_span current
     all_letters current (cell ∷ cells) h =
         choose (has_no_letters reveal tall (cell ∷ cells)) (ends_span current)
-        (join (one_letter current (letter_of reveal tall cell) (ink cell false) (escaped_quiet (letter_of reveal tall cell) (letter_low reveal tall cell h.0)))
+        (join (one_letter current (letter_of reveal tall cell) (ink cell false)
+        (escaped_quiet (letter_of reveal tall cell) (letter_low reveal tall cell h.0)))
         (all_letters (span_after current (letter_of reveal tall cell) (ink cell false)) cells h.1))
 
 -- ---- rows
@@ -226,7 +232,8 @@ module _ (w : List (List ℕ)) where
 module _ (w : List (List ℕ)) where
   starts_group : (number : ℕ) → Reads (reading_at InText w) (group_start number) (reading_at (InValue (codes "g")) w)
   starts_group number =
-      join (join {s = codes "<g transform=\"translate(0 "} (reads refl) (in_value w (decimal_quiet (24 * number)))) (in_value w {bytes = codes ")"} (calm refl))
+      join (join {s = codes "<g transform=\"translate(0 "} (reads refl) (in_value w (decimal_quiet (24 * number))))
+      (in_value w {bytes = codes ")"} (calm refl))
 
   ground_row : (number : ℕ) (cells : List Cell) → Stays w (row_ground number cells)
   ground_row number cells =
@@ -236,11 +243,13 @@ module _ (w : List (List ℕ)) where
     tall_row : (number : ℕ) (cells : List Cell) → Printed cells → Stays w (row_tall reveal number cells)
     tall_row number cells h =
         choose (has_upper cells)
-        (join (join (join {t = codes "scale(1 2)\">"} (starts_group number) (reads refl)) (one_pass (codes "g" ∷ w) reveal true cells h)) (reads refl)) (nothing _)
+        (join (join (join {t = codes "scale(1 2)\">"} (starts_group number) (reads refl))
+        (one_pass (codes "g" ∷ w) reveal true cells h)) (reads refl)) (nothing _)
 
     glyph_row : (number : ℕ) (cells : List Cell) → Printed cells → Stays w (row_glyphs reveal number cells)
     glyph_row number cells h =
-        join (join {t = codes "</g>"} (join (join {t = codes "\">"} (starts_group number) (reads refl)) (one_pass (codes "g" ∷ w) reveal false cells h)) (reads refl))
+        join (join {t = codes "</g>"} (join (join {t = codes "\">"} (starts_group number) (reads refl))
+        (one_pass (codes "g" ∷ w) reveal false cells h)) (reads refl))
         (tall_row number cells h)
 
     all_glyphs : (number : ℕ) (rows : List (List Cell)) → ArePrinted rows → Stays w (glyphs_from reveal number rows)
@@ -291,12 +300,15 @@ module _ (w : List (List ℕ)) where
   start_read : (colour : ℕ) (id : Id) → Reads (reading_at InText w) (key_start colour id) (reading_at (InValue (codes "a")) w)
   unfolding key_start
   start_read colour id =
-      join (join {t = codes "\" href=\"#"} (join {s = codes "<a"} (reads refl) (class_read (codes "a") colour)) (reads refl)) (in_value w (id_quiet id))
+      join (join {t = codes "\" href=\"#"} (join {s = codes "<a"} (reads refl) (class_read (codes "a") colour)) (reads refl))
+      (in_value w (id_quiet id))
 
-  title_read : (name : List ℕ) (id : Id) → IsQuiet name → Reads (reading_at (InValue (codes "a")) w) (key_title name id) (reading_at (InValue (codes "a")) w)
+  title_read : (name : List ℕ) (id : Id) → IsQuiet name →
+      Reads (reading_at (InValue (codes "a")) w) (key_title name id) (reading_at (InValue (codes "a")) w)
   unfolding key_title
   title_read name id h =
-      join (join (join {b = reading_at (InValue (codes "a")) w} {s = codes "\" title=\""} (reads refl) (in_value w h)) (in_value w {bytes = codes ": page "} (calm refl))) (in_value w (id_quiet id))
+      join (join (join {b = reading_at (InValue (codes "a")) w} {s = codes "\" title=\""} (reads refl) (in_value w h))
+      (in_value w {bytes = codes ": page "} (calm refl))) (in_value w (id_quiet id))
 
   end_read : (id : Id) → Reads (reading_at (InValue (codes "a")) w) (key_end id) (reading_at InText w)
   unfolding key_end
@@ -309,8 +321,11 @@ module _ (w : List (List ℕ)) where
   keys_read : (view : Screen) → Stays w (keys_html view)
   keys_read view =
       join (join (join
-      (join (join (key_read (codes "Red") 1 (coloured_link view 0) (calm refl)) (key_read (codes "Green") 2 (coloured_link view 1) (calm refl))) (key_read (codes "Yellow") 3 (coloured_link view 2) (calm refl)))
-      (key_read (codes "Cyan") 6 (coloured_link view 3) (calm refl))) (key_read (codes "Next") 7 (coloured_link view 4) (calm refl))) (key_read (codes "Index") 7 (coloured_link view 5) (calm refl))
+      (join (join (key_read (codes "Red") 1 (coloured_link view 0) (calm refl))
+      (key_read (codes "Green") 2 (coloured_link view 1) (calm refl)))
+      (key_read (codes "Yellow") 3 (coloured_link view 2) (calm refl)))
+      (key_read (codes "Cyan") 6 (coloured_link view 3) (calm refl))) (key_read (codes "Next") 7 (coloured_link view 4) (calm refl)))
+      (key_read (codes "Index") 7 (coloured_link view 5) (calm refl))
 
 -- ---- texts
 
@@ -330,7 +345,8 @@ starts_html : Reads (reading_at InText []) html_start (reading_at InText (codes 
 unfolding html_start
 starts_html = reads refl
 
-ends_head : Reads (reading_at InText (codes "style" ∷ codes "head" ∷ codes "html" ∷ [])) head_end (reading_at InText (codes "main" ∷ codes "body" ∷ codes "html" ∷ []))
+ends_head : Reads (reading_at InText (codes "style" ∷ codes "head" ∷ codes "html" ∷ [])) head_end
+    (reading_at InText (codes "main" ∷ codes "body" ∷ codes "html" ∷ []))
 unfolding head_end
 ends_head = reads refl
 
@@ -349,12 +365,15 @@ module _ (w : List (List ℕ)) where
   text_read : (reveal : Bool) (view : Screen) → ArePrinted view.cells → Stays w (text_html reveal view)
   text_read reveal view h =
       join {t = codes "</pre></details>"}
-      (join {s = codes "<details><summary>Text</summary><pre>"} (reads refl) (in_text (codes "pre" ∷ codes "details" ∷ w) (rows_quiet reveal view.cells h))) (reads refl)
+      (join {s = codes "<details><summary>Text</summary><pre>"} (reads refl)
+      (in_text (codes "pre" ∷ codes "details" ∷ w) (rows_quiet reveal view.cells h))) (reads refl)
 
 html_nested : (reveal : Bool) (view : Screen) → ArePrinted view.cells → IsNested (html_of reveal view)
 html_nested reveal view h =
     let w : List (List ℕ) = codes "main" ∷ codes "body" ∷ codes "html" ∷ [] in
-    (join {t = codes "</main></body></html>\n"} (join (join (join head_read (picture_read w reveal view h)) (nav_read w view)) (text_read w reveal view h)) (reads refl)).is
+    (join {t = codes "</main></body></html>\n"}
+    (join (join (join head_read (picture_read w reveal view h)) (nav_read w view)) (text_read w reveal view h))
+    (reads refl)).is
 
 pub tags_are_nested_lem : TagsAreNested
 tags_are_nested_lem reveal view h = (svg_nested reveal view h, html_nested reveal view h)

@@ -66,7 +66,8 @@ glyph_quiet n =
 onto_quiet : (k n : ℕ) (rest : List ℕ) → IsQuiet rest → IsQuiet (digits_onto k 10 false n rest)
 onto_quiet zero n rest h = h
 onto_quiet (suc k) n rest h =
-    let more : IsQuiet (digit_glyph false (n % 10) ∷ rest) = calm (both_true (quiet (digit_glyph false (n % 10))) (list_all quiet rest) (glyph_quiet (n % 10)) h.is) in
+    let more : IsQuiet (digit_glyph false (n % 10) ∷ rest) =
+    calm (both_true (quiet (digit_glyph false (n % 10))) (list_all quiet rest) (glyph_quiet (n % 10)) h.is) in
     either_quiet (n / 10 == 0) more (onto_quiet k (n / 10) (digit_glyph false (n % 10) ∷ rest) more)
 
 pub decimal_quiet : (n : ℕ) → IsQuiet (decimal n)
@@ -82,7 +83,8 @@ digit_quiet n =
     large_digit n e = grind (arith, nat_tests)
 
 two_quiet : (n : ℕ) → IsQuiet (hex_byte n)
-two_quiet n = calm (both_true (quiet (hex_digit (n / 16))) _ (digit_quiet (n / 16)) (both_true (quiet (hex_digit (n % 16))) true (digit_quiet (n % 16)) refl))
+two_quiet n = calm (both_true (quiet (hex_digit (n / 16))) _ (digit_quiet (n / 16))
+    (both_true (quiet (hex_digit (n % 16))) true (digit_quiet (n % 16)) refl))
 
 sub_quiet : (sub : ℕ) → IsQuiet (sub_text sub)
 sub_quiet sub = either_quiet (sub == 0x3f7f) (calm refl) (with_quiet {a = 47 ∷ hex_byte (sub / 256)} slash (two_quiet (sub % 256)))
@@ -104,7 +106,8 @@ by_index p (x ∷ xs) h = both_true (p x) (list_all p xs) (h zero (omega arith))
 
 -- what is true of a character and of each byte above 127 is true of all its bytes
 pub utf8_all : (p : ℕ → Bool) (c : ℕ) → p c ≡ true → ((b : ℕ) → 128 ≤ b → p b ≡ true) → list_all p (encode_utf8 c) ≡ true
-utf8_all p c own high = by_index p (encode_utf8 c) (λ k l. by_byte (get_or (encode_utf8 c) k 0) (inside_one c [] (encode_utf8 c) k (sym (append-nil _)) l))
+utf8_all p c own high = by_index p (encode_utf8 c)
+    (λ k l. by_byte (get_or (encode_utf8 c) k 0) (inside_one c [] (encode_utf8 c) k (sym (append-nil _)) l))
   where
     by_test : (b : ℕ) → (b < 128 → c ≡ b) → (t : Bool) → nat_lt b 128 ≡ t → p b ≡ true
     by_test b same true e = let low : b < 128 = grind (arith, nat_tests) in ap p (sym (same low)) ∙ own
@@ -138,7 +141,8 @@ AtLeast32 c = nat_lt c 32 ≡ false
 sextant_low : (blocks : ℕ) → AtLeast32 (sextant blocks)
 unfolding sextant
 sextant_low blocks =
-    by_if AtLeast32 (blocks == 0) _ _ (λ _. refl) (λ _. by_if AtLeast32 (blocks == 21) _ _ (λ _. refl) (λ _. by_if AtLeast32 (blocks == 42) _ _ (λ _. refl)
+    by_if AtLeast32 (blocks == 0) _ _ (λ _. refl)
+    (λ _. by_if AtLeast32 (blocks == 21) _ _ (λ _. refl) (λ _. by_if AtLeast32 (blocks == 42) _ _ (λ _. refl)
     (λ _. by_if AtLeast32 (blocks == 63) _ _ (λ _. refl)
     (λ _. le-ltb (0x1faff + blocks - over 21 blocks - over 42 blocks) 32 (omega (arith, over_low 21 blocks, over_low 42 blocks))))))
 
@@ -162,4 +166,5 @@ code_low (Char code) h = printed_low code h
 code_low (Mosaic blocks separated) h = refl
 
 pub letter_low : (reveal tall : Bool) (cell : Cell) → IsPrinted cell.glyph → AtLeast32 (letter_of reveal tall cell)
-letter_low reveal tall cell h = by_if AtLeast32 (is_drawn tall cell.part) _ _ (λ _. code_low (shown_glyph reveal cell) (shown_printed reveal cell h)) (λ _. refl)
+letter_low reveal tall cell h = by_if AtLeast32 (is_drawn tall cell.part) _ _
+    (λ _. code_low (shown_glyph reveal cell) (shown_printed reveal cell h)) (λ _. refl)

@@ -163,7 +163,8 @@ letters reveal tall current (cell ∷ cells) =
 
 -- each character stands in the middle of its cell
 unfoldable pub text_start : List ℕ
-text_start = codes "<text y=\"18\" x=\"10 30 50 70 90 110 130 150 170 190 210 230 250 270 290 310 330 350 370 390 410 430 450 470 490 510 530 550 570 590 610 630 650 670 690 710 730 750 770 790\">"
+text_start = codes "<text y=\"18\" x=\"10 30 50 70 90 110 130 150 170 190 210 230 250 270 290 310 330 350 370 390 410 430 450 "
+    ++ codes "470 490 510 530 550 570 590 610 630 650 670 690 710 730 750 770 790\">"
 
 abbrev pub row_letters : Bool → Bool → List Cell → List ℕ
 row_letters reveal tall cells =
@@ -221,7 +222,8 @@ gap_style = codes ".t .s{stroke-width:6;stroke-dasharray:0 1 8 1}"
 
 -- characters
 unfoldable pub text_style : List ℕ
-text_style = codes ".t text{font:24px Bedstead Extended,Bedstead,ui-monospace,Menlo,Consolas,DejaVu Sans Mono,monospace;text-anchor:middle;white-space:pre}.t tspan{fill:currentColor}"
+text_style = codes ".t text{font:24px Bedstead Extended,Bedstead,ui-monospace,Menlo,Consolas,DejaVu Sans Mono,monospace;"
+    ++ codes "text-anchor:middle;white-space:pre}.t tspan{fill:currentColor}"
 
 -- the colours of Level 1
 unfoldable pub ink_style : List ℕ
@@ -233,14 +235,16 @@ picture_style = codes ".t .c8{color:#456;stroke-dasharray:19 1}"
 
 -- off every other half second, but not where less motion is asked for
 unfoldable pub flash_style : List ℕ
-flash_style = codes ".f{animation:f 1s step-end infinite}@keyframes f{50%{color:transparent}}@media(prefers-reduced-motion:reduce){.f{animation:none}}"
+flash_style = codes ".f{animation:f 1s step-end infinite}@keyframes f{50%{color:transparent}}"
+    ++ codes "@media(prefers-reduced-motion:reduce){.f{animation:none}}"
 
 -- what the classes mean: g ground, s separated; c0 to c8 the colours; f flash
 unfoldable pub style : List ℕ
 style = (path_style ++ gap_style ++ text_style) ++ ink_style ++ picture_style ++ flash_style
 
 unfoldable pub svg_start : List ℕ
-svg_start = codes "<svg xmlns=\"http://www.w3.org/2000/svg\" class=\"t\" viewBox=\"0 0 800 600\" xml:space=\"preserve\" role=\"img\" aria-label=\"Teletext page\">"
+svg_start = codes "<svg xmlns=\"http://www.w3.org/2000/svg\" class=\"t\" viewBox=\"0 0 800 600\" xml:space=\"preserve\" "
+    ++ codes "role=\"img\" aria-label=\"Teletext page\">"
 
 abbrev pub svg_of : Bool → Screen → List ℕ
 svg_of reveal view = svg_start ++ codes "<style>" ++ style ++ codes "</style>" ++ body reveal view ++ codes "</svg>\n"

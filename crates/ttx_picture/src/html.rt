@@ -97,7 +97,8 @@ fn push_html_start(text: &mut String) -> Result<(), AllocError>
     ensures { OnOk result (string_bytes text.new ≡ string_bytes text.old ++ html_start) }
 {
     text.push_str(
-        "<!DOCTYPE html>\n<html lang=\"en\"><head><meta charset=\"utf-8\"/><meta name=\"viewport\" content=\"width=device-width\"/><title>Teletext page</title><style>",
+        "<!DOCTYPE html>\n<html lang=\"en\"><head><meta charset=\"utf-8\"/>\
+          <meta name=\"viewport\" content=\"width=device-width\"/><title>Teletext page</title><style>",
     )
 }
 
@@ -106,7 +107,8 @@ fn push_page_style(text: &mut String) -> Result<(), AllocError>
     ensures { OnOk result (string_bytes text.new ≡ string_bytes text.old ++ page_style) }
 {
     text.push_str(
-        "body{margin:0;background:#222;color:#ddd;font:16px sans-serif}main{max-width:800px;margin:auto}.t{display:block;width:100%;height:auto;aspect-ratio:4/3}",
+        "body{margin:0;background:#222;color:#ddd;font:16px sans-serif}main{max-width:800px;margin:auto}\
+          .t{display:block;width:100%;height:auto;aspect-ratio:4/3}",
     )
 }
 
@@ -115,7 +117,8 @@ fn push_key_style(text: &mut String) -> Result<(), AllocError>
     ensures { OnOk result (string_bytes text.new ≡ string_bytes text.old ++ key_style) }
 {
     text.push_str(
-        "nav{display:flex;background:#000}.k{flex:1;padding:.7em 0;text-align:center;text-decoration:none}.k:focus,a.k:hover{outline:2px solid}details{padding:.7em}",
+        "nav{display:flex;background:#000}.k{flex:1;padding:.7em 0;text-align:center;text-decoration:none}\
+          .k:focus,a.k:hover{outline:2px solid}details{padding:.7em}",
     )
 }
 

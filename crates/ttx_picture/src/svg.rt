@@ -143,7 +143,8 @@ pub(crate) fn push_svg_start(text: &mut String) -> Result<(), AllocError>
     ensures { OnOk result (string_bytes text.new ≡ string_bytes text.old ++ svg_start) }
 {
     text.push_str(
-        "<svg xmlns=\"http://www.w3.org/2000/svg\" class=\"t\" viewBox=\"0 0 800 600\" xml:space=\"preserve\" role=\"img\" aria-label=\"Teletext page\">",
+        "<svg xmlns=\"http://www.w3.org/2000/svg\" class=\"t\" viewBox=\"0 0 800 600\" xml:space=\"preserve\" role=\"img\" \
+          aria-label=\"Teletext page\">",
     )
 }
 

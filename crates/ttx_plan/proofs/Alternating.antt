@@ -42,9 +42,29 @@ header_number laws h ranges =
 
 filler_number : LawsBelow → (serial : Bool) (queue : ℕ) → queue < 8 → number (header_bytes (time_filling (suc queue) serial)) ≡ 255
 filler_number laws true queue lt = header_number laws (time_filling (suc queue) true)
-    (record { id = record { mag_from = omega arith; mag_to = omega (arith, lt); page = omega arith; sub = record { top = omega arith; gap = refl } }; control = omega arith; text = refl; clock = refl })
+    (record {
+      id = record {
+        mag_from = omega arith;
+        mag_to = omega (arith, lt);
+        page = omega arith;
+        sub = record { top = omega arith; gap = refl };
+      };
+      control = omega arith;
+      text = refl;
+      clock = refl;
+    })
 filler_number laws false queue lt = header_number laws (time_filling (suc queue) false)
-    (record { id = record { mag_from = omega arith; mag_to = omega (arith, lt); page = omega arith; sub = record { top = omega arith; gap = refl } }; control = omega arith; text = refl; clock = refl })
+    (record {
+      id = record {
+        mag_from = omega arith;
+        mag_to = omega (arith, lt);
+        page = omega arith;
+        sub = record { top = omega arith; gap = refl };
+      };
+      control = omega arith;
+      text = refl;
+      clock = refl;
+    })
 
 apart : true ≡ false → ⊥
 apart e = cc
@@ -85,11 +105,15 @@ module _ (laws : LawsBelow) (serial : Bool) (sent : List Block) (queue : ℕ) (l
   leads : (before blocks : List Block) → AllByRecursion (IsNumbered sent) blocks → has_pages sent queue ≡ true → (latest queue before ≡ 255 → ⊥) →
       Leads (latest queue before) (flat_map own (with_fillers true before blocks) ++ filling)
   leads before [] all used ne = filling_leads (has_pages sent queue) used (latest queue before) ne
-  leads before (block ∷ blocks) all used ne = by (eqb block.queue queue) (eqb (latest block.queue before) block.page) refl refl (λ more. leads (block ∷ before) blocks all.1 used more)
+  leads before (block ∷ blocks) all used ne = by (eqb block.queue queue) (eqb (latest block.queue before) block.page) refl refl
+      (λ more. leads (block ∷ before) blocks all.1 used more)
     where
       by : (mine filler : Bool) → eqb block.queue queue ≡ mine → eqb (latest block.queue before) block.page ≡ filler →
-          ((latest queue (block ∷ before) ≡ 255 → ⊥) → Leads (latest queue (block ∷ before)) (flat_map own (with_fillers true (block ∷ before) blocks) ++ filling)) →
-          Leads (latest queue before) ((cond mine (cond filler (time_filling_packet serial block.queue ∷ []) [] ++ header_packet block.header ∷ map rest_packet block.rest) [] ++ flat_map own (with_fillers true (block ∷ before) blocks)) ++ filling)
+          ((latest queue (block ∷ before) ≡ 255 → ⊥) → Leads (latest queue (block ∷ before))
+          (flat_map own (with_fillers true (block ∷ before) blocks) ++ filling)) →
+          Leads (latest queue before) ((cond mine
+          (cond filler (time_filling_packet serial block.queue ∷ []) [] ++ header_packet block.header
+          ∷ map rest_packet block.rest) [] ++ flat_map own (with_fillers true (block ∷ before) blocks)) ++ filling)
       by false filler e f again =
           let same : latest queue (block ∷ before) ≡ latest queue before = cond-false (eqb block.queue queue) block.page (latest queue before) e in
           subst (λ n. Leads n (flat_map own (with_fillers true (block ∷ before) blocks) ++ filling)) same (again (λ z. ne (sym same ∙ z)))
@@ -98,24 +122,37 @@ module _ (laws : LawsBelow) (serial : Bool) (sent : List Block) (queue : ℕ) (l
           let is : latest block.queue before ≡ block.page = ap (λ m. latest m before) (eqb-true block.queue queue e) ∙ sym q ∙ all.0.number_is in
           apart (sym (eq-eqb (latest block.queue before) block.page is) ∙ f)
 
-  pub alternates : (before blocks : List Block) → AllByRecursion (IsNumbered sent) blocks → Alternates (flat_map own (with_fillers true before blocks) ++ filling)
+  pub alternates : (before blocks : List Block) → AllByRecursion (IsNumbered sent) blocks →
+      Alternates (flat_map own (with_fillers true before blocks) ++ filling)
   alternates before [] all = filling_alternates (has_pages sent queue)
-  alternates before (block ∷ blocks) all = by (eqb block.queue queue) (eqb (latest block.queue before) block.page) refl (alternates (block ∷ before) blocks all.1)
+  alternates before (block ∷ blocks) all = by (eqb block.queue queue) (eqb (latest block.queue before) block.page) refl
+      (alternates (block ∷ before) blocks all.1)
     where
-      page : eqb block.queue queue ≡ true → Alternates (flat_map own (with_fillers true (block ∷ before) blocks) ++ filling) → Alternates (header_packet block.header ∷ (map rest_packet block.rest ++ (flat_map own (with_fillers true (block ∷ before) blocks) ++ filling)))
+      page : eqb block.queue queue ≡ true → Alternates (flat_map own (with_fillers true (block ∷ before) blocks) ++ filling) →
+          Alternates (header_packet block.header
+          ∷ (map rest_packet block.rest ++ (flat_map own (with_fillers true (block ∷ before) blocks) ++ filling)))
       page e again = (
         λ early ne.
-            let here : latest queue (block ∷ before) ≡ number block.header = cond-true (eqb block.queue queue) block.page (latest queue before) e ∙ sym all.0.number_is in
+            let here : latest queue (block ∷ before) ≡ number block.header =
+            cond-true (eqb block.queue queue) block.page (latest queue before) e ∙ sym all.0.number_is in
             let used : has_pages sent queue ≡ true = ap (has_pages sent) (sym (eqb-true block.queue queue e)) ∙ all.0.used in
-            rows_lead (number block.header) block.rest (flat_map own (with_fillers true (block ∷ before) blocks) ++ filling) (subst (λ n. Leads n (flat_map own (with_fillers true (block ∷ before) blocks) ++ filling)) here (leads (block ∷ before) blocks all.1 used (λ z. ne (sym here ∙ z)))),
+            rows_lead (number block.header) block.rest (flat_map own (with_fillers true (block ∷ before) blocks) ++ filling)
+            (subst (λ n. Leads n (flat_map own (with_fillers true (block ∷ before) blocks) ++ filling)) here
+            (leads (block ∷ before) blocks all.1 used (λ z. ne (sym here ∙ z)))),
         rows_alternate block.rest (flat_map own (with_fillers true (block ∷ before) blocks) ++ filling) again,
       )
 
       by : (mine filler : Bool) → eqb block.queue queue ≡ mine → Alternates (flat_map own (with_fillers true (block ∷ before) blocks) ++ filling) →
-          Alternates ((cond mine (cond filler (time_filling_packet serial block.queue ∷ []) [] ++ header_packet block.header ∷ map rest_packet block.rest) [] ++ flat_map own (with_fillers true (block ∷ before) blocks)) ++ filling)
+          Alternates ((cond mine (cond filler (time_filling_packet serial block.queue ∷ []) [] ++ header_packet block.header
+          ∷ map rest_packet block.rest) [] ++ flat_map own (with_fillers true (block ∷ before) blocks)) ++ filling)
       by false filler e again = again
       by true true e again = (
         λ early ne. absurd (ne (filler_number laws serial block.queue (subst (λ m. m < 8) (sym (eqb-true block.queue queue e)) lt))),
-        subst Alternates (ap (λ z. header_packet block.header ∷ z) (sym (append_assoc (map rest_packet block.rest) (flat_map own (with_fillers true (block ∷ before) blocks)) filling))) (page e again),
+        subst Alternates (ap (λ z. header_packet block.header ∷ z)
+            (sym (append_assoc (map rest_packet block.rest) (flat_map own (with_fillers true (block ∷ before) blocks)) filling)))
+            (page e again),
       )
-      by true false e again = subst Alternates (ap (λ z. header_packet block.header ∷ z) (sym (append_assoc (map rest_packet block.rest) (flat_map own (with_fillers true (block ∷ before) blocks)) filling))) (page e again)
+      by true false e again = subst Alternates
+          (ap (λ z. header_packet block.header ∷ z)
+          (sym (append_assoc (map rest_packet block.rest) (flat_map own (with_fillers true (block ∷ before) blocks)) filling)))
+          (page e again)

@@ -27,16 +27,19 @@ pub record Tracks (lines : ℕ) (cursors : Cursors) (before : List Slot) : Type 
   pub from : cursors.from ≡ turn_from before
   pub from_most : turn_from before ≤ 8
 
-free_recent : (lines m free : ℕ) (before : List Slot) → free - length before ≡ until (has_header m) lines before → ltb (length before) free ≡ list_any (has_header m) (take lines before)
+free_recent : (lines m free : ℕ) (before : List Slot) → free - length before ≡ until (has_header m) lines before →
+    ltb (length before) free ≡ list_any (has_header m) (take lines before)
 free_recent lines m free before e = sym (recent_until (has_header m) lines before ∙ ap (λ x. ltb 0 x) (sym e) ∙ pos free (length before))
   where
     pos : (a b : ℕ) → ltb 0 (a - b) ≡ ltb b a
     pos a b = grind (arith, nat_tests)
 
-pub free_is_ready : (lines : ℕ) (info : Option (List ℕ)) (queues : List (Vec Packet Global)) (cursors : Cursors) (before : List Slot) → Tracks lines cursors before →
+pub free_is_ready : (lines : ℕ) (info : Option (List ℕ)) (queues : List (Vec Packet Global)) (cursors : Cursors) (before : List Slot) →
+    Tracks lines cursors before →
     (m : ℕ) → m < 8 → is_free queues cursors (length before) m ≡ is_ready (magazines_of lines info queues) before m
 free_is_ready lines info queues cursors before t m lt =
-    let w : ltb (length before) (get_or cursors.free_at m 0) ≡ list_any (has_header m) (take lines before) = free_recent lines m (get_or cursors.free_at m 0) before (t.free m lt) in
+    let w : ltb (length before) (get_or cursors.free_at m 0) ≡ list_any (has_header m) (take lines before) =
+    free_recent lines m (get_or cursors.free_at m 0) before (t.free m lt) in
     ap (λ x. offered (slice_get (queue_at queues m) x) (ltb (length before) (get_or cursors.free_at m 0))) (t.sent m lt)
     ∙ same (slice_get (queue_at queues m) (sent_by m before)) w
   where
@@ -46,17 +49,21 @@ free_is_ready lines info queues cursors before t m lt =
     same (Some packet) w = ap (λ x. not (is_row_or_links packet.kind && x)) w
 
 -- the slot that the cursors say is the one that the rule says
-pub sends_turn : (lines : ℕ) (info : Option (List ℕ)) (queues : List (Vec Packet Global)) (cursors : Cursors) (before : List Slot) → Tracks lines cursors before →
-    or_info info (is_info_due lines (length before)) (slot_by_cursors queues cursors (length before)) ≡ slot_after (magazines_of lines info queues) before
+pub sends_turn : (lines : ℕ) (info : Option (List ℕ)) (queues : List (Vec Packet Global)) (cursors : Cursors) (before : List Slot) →
+    Tracks lines cursors before →
+    or_info info (is_info_due lines (length before)) (slot_by_cursors queues cursors (length before))
+    ≡ slot_after (magazines_of lines info queues) before
 sends_turn lines info queues cursors before t =
     ap (or_info info (is_info_due lines (length before))) (
     ap (λ o. picked queues cursors (find (is_free queues cursors (length before)) (order o))) t.from
     ∙ ap (picked queues cursors) (order_same _ _ (turn_from before) (free_is_ready lines info queues cursors before t))
     ∙ pick (find (is_ready (magazines_of lines info queues) before) (order (turn_from before))) refl)
   where
-    pick : (o : Option ℕ) → find (is_ready (magazines_of lines info queues) before) (order (turn_from before)) ≡ o → picked queues cursors o ≡ chosen (magazines_of lines info queues) before o
+    pick : (o : Option ℕ) → find (is_ready (magazines_of lines info queues) before) (order (turn_from before)) ≡ o →
+        picked queues cursors o ≡ chosen (magazines_of lines info queues) before o
     pick None e = refl
-    pick (Some m) e = ap (λ x. sending m (slice_get (queue_at queues m) x)) (t.sent m ((found_ready (is_ready (magazines_of lines info queues) before) (turn_from before) m e).1))
+    pick (Some m) e = ap (λ x. sending m (slice_get (queue_at queues m) x))
+        (t.sent m ((found_ready (is_ready (magazines_of lines info queues) before) (turn_from before) m e).1))
 
 -- no packet yet
 pub tracks_none : (lines : ℕ) (cursors : Cursors) → length cursors.sent ≡ 8 → length cursors.free_at ≡ 8 →
@@ -77,26 +84,30 @@ IsFrom mags before (Info bytes) = Unit {0}
 IsFrom mags before (Sent queue packet) = (queue < 8) × (next_of mags queue before ≡ Some packet)
 
 idle : (lines : ℕ) (cursors : Cursors) (before : List Slot) (slot : Slot) → Tracks lines cursors before →
-    ((m : ℕ) → sent_by m (slot ∷ before) ≡ sent_by m before) → ((m : ℕ) → has_header m slot ≡ false) → turn_from (slot ∷ before) ≡ turn_from before → Tracks lines cursors (slot ∷ before)
+    ((m : ℕ) → sent_by m (slot ∷ before) ≡ sent_by m before) → ((m : ℕ) → has_header m slot ≡ false) → turn_from (slot ∷ before)
+    ≡ turn_from before → Tracks lines cursors (slot ∷ before)
 idle lines cursors before slot t s o f = record {
   sent_size = t.sent_size;
   free_size = t.free_size;
   sent = λ m lt. t.sent m lt ∙ sym (s m);
   free = λ m lt.
       let e : get_or cursors.free_at m 0 - length before ≡ until (has_header m) lines before = t.free m lt in
-      let g : cond (has_header m slot) lines (until (has_header m) lines before - 1) ≡ until (has_header m) lines before - 1 = cond-false (has_header m slot) lines _ (o m) in
+      let g : cond (has_header m slot) lines (until (has_header m) lines before - 1) ≡ until (has_header m) lines before - 1 =
+      cond-false (has_header m slot) lines _ (o m) in
       omega arith;
   from = t.from ∙ sym f;
   from_most = subst (λ x. x ≤ 8) (sym f) t.from_most;
 }
 
-one_more : (xs : List ℕ) (queue m s : ℕ) → queue < length xs → get_or xs m 0 ≡ s → get_or (set xs queue (get_or xs queue 0 + 1)) m 0 ≡ cond (eqb queue m) (suc s) s
+one_more : (xs : List ℕ) (queue m s : ℕ) → queue < length xs → get_or xs m 0 ≡ s → get_or (set xs queue (get_or xs queue 0 + 1)) m 0
+    ≡ cond (eqb queue m) (suc s) s
 one_more xs queue m s lt was = elim (cases_eq m queue) as (λ _. get_or (set xs queue (get_or xs queue 0 + 1)) m 0 ≡ cond (eqb queue m) (suc s) s) [
   | inl e ↦
       let there : get_or xs m 0 ≡ get_or xs queue 0 = ap (λ x. get_or xs x 0) e in
       let up : get_or xs queue 0 + 1 ≡ suc s = omega arith in
       get_or-set_at xs queue m (get_or xs queue 0 + 1) 0 e lt ∙ up ∙ sym (cond-true (eqb queue m) (suc s) s (eq-eqb queue m (sym e)))
-  | inr ne ↦ get_or-set_other xs queue m (get_or xs queue 0 + 1) 0 ne ∙ was ∙ sym (cond-false (eqb queue m) (suc s) s (ne_eqb queue m (λ e. ne (sym e))))
+  | inr ne ↦ get_or-set_other xs queue m (get_or xs queue 0 + 1) 0 ne ∙ was
+      ∙ sym (cond-false (eqb queue m) (suc s) s (ne_eqb queue m (λ e. ne (sym e))))
 ]
 
 freed : (xs : List ℕ) (b : Bool) (queue m at lines u : ℕ) → queue < length xs → get_or xs m 0 - at ≡ u →
@@ -109,22 +120,24 @@ freed xs false queue m at lines u lt was =
     and_false : (c : Bool) → (c && false) ≡ false
     and_false true = refl
     and_false false = refl
-freed xs true queue m at lines u lt was = elim (cases_eq m queue) as (λ _. get_or (set xs queue (at + lines + 1)) m 0 - suc at ≡ cond (eqb queue m && true) lines (u - 1)) [
-  | inl e ↦
-      let now : get_or (set xs queue (at + lines + 1)) m 0 ≡ at + lines + 1 = get_or-set_at xs queue m (at + lines + 1) 0 e lt in
-      let up : get_or (set xs queue (at + lines + 1)) m 0 - suc at ≡ lines = omega arith in
-      up ∙ sym (cond-true (eqb queue m && true) lines (u - 1) (ap (λ c. c && true) (eq-eqb queue m (sym e))))
-  | inr ne ↦
-      let now : get_or (set xs queue (at + lines + 1)) m 0 ≡ get_or xs m 0 = get_or-set_other xs queue m (at + lines + 1) 0 ne in
-      let less : get_or (set xs queue (at + lines + 1)) m 0 - suc at ≡ u - 1 = omega arith in
-      less ∙ sym (cond-false (eqb queue m && true) lines (u - 1) (ap (λ c. c && true) (ne_eqb queue m (λ e. ne (sym e)))))
-]
+freed xs true queue m at lines u lt was = elim (cases_eq m queue) as
+    (λ _. get_or (set xs queue (at + lines + 1)) m 0 - suc at ≡ cond (eqb queue m && true) lines (u - 1)) [
+      | inl e ↦
+          let now : get_or (set xs queue (at + lines + 1)) m 0 ≡ at + lines + 1 = get_or-set_at xs queue m (at + lines + 1) 0 e lt in
+          let up : get_or (set xs queue (at + lines + 1)) m 0 - suc at ≡ lines = omega arith in
+          up ∙ sym (cond-true (eqb queue m && true) lines (u - 1) (ap (λ c. c && true) (eq-eqb queue m (sym e))))
+      | inr ne ↦
+          let now : get_or (set xs queue (at + lines + 1)) m 0 ≡ get_or xs m 0 = get_or-set_other xs queue m (at + lines + 1) 0 ne in
+          let less : get_or (set xs queue (at + lines + 1)) m 0 - suc at ≡ u - 1 = omega arith in
+          less ∙ sym (cond-false (eqb queue m && true) lines (u - 1) (ap (λ c. c && true) (ne_eqb queue m (λ e. ne (sym e)))))
+    ]
 
 cond_size : (b : Bool) (xs : List ℕ) (i y : ℕ) → length xs ≡ 8 → length (cond b (set xs i y) xs) ≡ 8
 cond_size true xs i y e = length-set xs i y ∙ e
 cond_size false xs i y e = e
 
-pub tracks_more : (lines : ℕ) (mags : Magazines) (cursors : Cursors) (before : List Slot) (slot : Slot) → Tracks lines cursors before → IsFrom mags before slot →
+pub tracks_more : (lines : ℕ) (mags : Magazines) (cursors : Cursors) (before : List Slot) (slot : Slot) → Tracks lines cursors before →
+    IsFrom mags before slot →
     Tracks lines (cursors_after cursors lines (length before) slot) (slot ∷ before)
 tracks_more lines mags cursors before Empty t h = idle lines cursors before Empty t (λ m. refl) (λ m. refl) refl
 tracks_more lines mags cursors before (Info bytes) t h = idle lines cursors before (Info bytes) t (λ m. refl) (λ m. refl) refl
@@ -134,7 +147,8 @@ tracks_more lines mags cursors before (Sent queue packet) t h =
       sent_size = length-set cursors.sent queue (get_or cursors.sent queue 0 + 1) ∙ t.sent_size;
       free_size = cond_size (is_page_header packet.kind) cursors.free_at queue (length before + lines + 1) t.free_size;
       sent = λ m small. one_more cursors.sent queue m (sent_by m before) (omega (arith, t.sent_size)) (t.sent m small);
-      free = λ m small. freed cursors.free_at (is_page_header packet.kind) queue m (length before) lines (until (has_header m) lines before) (omega (arith, t.free_size)) (t.free m small);
+      free = λ m small. freed cursors.free_at (is_page_header packet.kind) queue m (length before) lines
+          (until (has_header m) lines before) (omega (arith, t.free_size)) (t.free m small);
       from = omega arith;
       from_most = omega arith;
     }

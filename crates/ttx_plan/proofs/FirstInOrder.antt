@@ -5,7 +5,8 @@ use Rattle.std.specs.List.{find}
 use Rattle.std.proofs.lemmas.Bool.{cond-true, cond-false, cases_Bool}
 use Rattle.ttx_plan.specs.Turns.{steps, order}
 
-find_step : (p : ℕ → Bool) (f : ℕ → ℕ) (s n i : ℕ) → i < n → ((k : ℕ) → k < i → p (f (s + k)) ≡ false) → p (f (s + i)) ≡ true → find p (steps f s n) ≡ Some (f (s + i))
+find_step : (p : ℕ → Bool) (f : ℕ → ℕ) (s n i : ℕ) → i < n → ((k : ℕ) → k < i → p (f (s + k)) ≡ false) → p (f (s + i)) ≡ true →
+    find p (steps f s n) ≡ Some (f (s + i))
 find_step p f s zero i h none here = absurd (omega arith)
 find_step p f s (suc n) zero h none here =
     let e : s ≡ s + 0 = omega arith in
@@ -19,14 +20,17 @@ find_step p f s (suc n) (suc i) h none here =
     (ap (λ x. p (f x)) j ∙ here) in
     cond-false (p (f s)) _ _ first ∙ later ∙ ap (λ x. Some (f x)) j
 
-pub find_order : (p : ℕ → Bool) (from i : ℕ) → i < 8 → ((k : ℕ) → k < i → p ((from + k) % 8) ≡ false) → p ((from + i) % 8) ≡ true → find p (order from) ≡ Some ((from + i) % 8)
+pub find_order : (p : ℕ → Bool) (from i : ℕ) → i < 8 → ((k : ℕ) → k < i → p ((from + k) % 8) ≡ false) → p ((from + i) % 8) ≡ true →
+    find p (order from) ≡ Some ((from + i) % 8)
 find_order p from i h none here =
     let e : (k : ℕ) → 0 + k ≡ k = λ k. omega arith in
-    find_step p (λ k. (from + k) % 8) 0 8 i h (λ k lt. ap (λ x. p ((from + x) % 8)) (e k) ∙ none k lt) (ap (λ x. p ((from + x) % 8)) (e i) ∙ here) ∙ ap (λ x. Some ((from + x) % 8)) (e i)
+    find_step p (λ k. (from + k) % 8) 0 8 i h (λ k lt. ap (λ x. p ((from + x) % 8)) (e k) ∙ none k lt)
+    (ap (λ x. p ((from + x) % 8)) (e i) ∙ here) ∙ ap (λ x. Some ((from + x) % 8)) (e i)
 
 find_same : (p q : ℕ → Bool) (f : ℕ → ℕ) (s n : ℕ) → ((k : ℕ) → p (f k) ≡ q (f k)) → find p (steps f s n) ≡ find q (steps f s n)
 find_same p q f s zero h = refl
-find_same p q f s (suc n) h = ap (λ b. cond b (Some (f s)) (find p (steps f (suc s) n))) (h s) ∙ ap (λ r. cond (q (f s)) (Some (f s)) r) (find_same p q f (suc s) n h)
+find_same p q f s (suc n) h = ap (λ b. cond b (Some (f s)) (find p (steps f (suc s) n))) (h s)
+    ∙ ap (λ r. cond (q (f s)) (Some (f s)) r) (find_same p q f (suc s) n h)
 
 -- two tests that agree on the magazines find the same one
 pub order_same : (p q : ℕ → Bool) (from : ℕ) → ((m : ℕ) → m < 8 → p m ≡ q m) → find p (order from) ≡ find q (order from)

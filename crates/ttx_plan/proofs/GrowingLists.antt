@@ -12,13 +12,17 @@ use Rattle.ttx_plan.specs.Seen.{seen_sent}
 
 -- ---- a first element, the same some times, and then the others
 
-pub same_more : {B : Type 0} (list : List B) (first again : B) (n : ℕ) → (list ++ first ∷ replicate n again) ++ again ∷ [] ≡ list ++ first ∷ replicate (n + 1) again
+pub same_more : {B : Type 0} (list : List B) (first again : B) (n : ℕ) → (list ++ first ∷ replicate n again) ++ again ∷ [] ≡ list
+    ++ first ∷ replicate (n + 1) again
 same_more list first again n = append_assoc list (first ∷ replicate n again) (again ∷ []) ∙ ap (λ x. list ++ first ∷ x) (replicate_more n again)
 
-pub others_begin : {B : Type 0} (list : List B) (first again : B) (n m : ℕ) → n ≡ m → list ++ first ∷ replicate n again ≡ list ++ first ∷ (replicate m again ++ [])
-others_begin list first again n m e = ap (λ k. list ++ first ∷ replicate k again) e ∙ ap (λ x. list ++ first ∷ x) (sym (append-nil (replicate m again)))
+pub others_begin : {B : Type 0} (list : List B) (first again : B) (n m : ℕ) → n ≡ m → list ++ first ∷ replicate n again ≡ list ++ first
+    ∷ (replicate m again ++ [])
+others_begin list first again n m e = ap (λ k. list ++ first ∷ replicate k again) e
+    ∙ ap (λ x. list ++ first ∷ x) (sym (append-nil (replicate m again)))
 
-pub others_more : {A B : Type 0} (list : List B) (first : B) (between : List B) (sent : A → B) (xs ys : List A) (i : ℕ) (d : A) → ys ≡ xs → i < length ys →
+pub others_more : {A B : Type 0} (list : List B) (first : B) (between : List B) (sent : A → B) (xs ys : List A) (i : ℕ) (d : A) → ys
+    ≡ xs → i < length ys →
     (list ++ first ∷ (between ++ map sent (take i xs))) ++ sent (get_or ys i d) ∷ [] ≡ list ++ first ∷ (between ++ map sent (take (i + 1) xs))
 others_more list first between sent xs ys i d same here =
     ap (λ zs. (list ++ first ∷ (between ++ map sent (take i xs))) ++ sent (get_or zs i d) ∷ []) same
@@ -29,7 +33,8 @@ others_more list first between sent xs ys i d same here =
 
 pub others_end : {A B : Type 0} (list : List B) (first : B) (between : List B) (sent : A → B) (xs ys : List A) (i : ℕ) → ys ≡ xs → length ys ≤ i →
     list ++ first ∷ (between ++ map sent (take i xs)) ≡ list ++ first ∷ (between ++ map sent xs)
-others_end list first between sent xs ys i same past = ap (λ z. list ++ first ∷ (between ++ map sent z)) (take_all i xs (subst (λ zs. length zs ≤ i) same past))
+others_end list first between sent xs ys i same past =
+    ap (λ z. list ++ first ∷ (between ++ map sent z)) (take_all i xs (subst (λ zs. length zs ≤ i) same past))
 
 -- ---- the packets of a queue, block by block
 
@@ -37,7 +42,8 @@ abbrev pub of_queue : ℕ → Block → List Packet
 of_queue queue b = cond (eqb b.queue queue) (packets_of false b) []
 
 more : (queue : ℕ) (sent : List SentBlock) (i : ℕ) (b : SentBlock) → i < length sent → b ≡ get_or sent i b →
-    flat_map (of_queue queue) (map seen_sent (take i sent)) ++ of_queue queue (seen_sent b) ≡ flat_map (of_queue queue) (map seen_sent (take (i + 1) sent))
+    flat_map (of_queue queue) (map seen_sent (take i sent)) ++ of_queue queue (seen_sent b)
+    ≡ flat_map (of_queue queue) (map seen_sent (take (i + 1) sent))
 more queue sent i b here is =
     ap (λ x. flat_map (of_queue queue) (map seen_sent (take i sent)) ++ x) (sym (append-nil (of_queue queue (seen_sent b))))
     ∙ sym (flat_map-append (of_queue queue) (map seen_sent (take i sent)) (seen_sent b ∷ []))
@@ -46,14 +52,19 @@ more queue sent i b here is =
     ∙ ap (λ x. flat_map (of_queue queue) (map seen_sent x)) (sym (take_more sent i b here))
 
 pub own_more : (queue : ℕ) (sent : List SentBlock) (i : ℕ) (b : SentBlock) → i < length sent → b ≡ get_or sent i b → b.block.now.queue ≡ queue →
-    flat_map (of_queue queue) (map seen_sent (take i sent)) ++ packets_of false (seen_sent b) ≡ flat_map (of_queue queue) (map seen_sent (take (i + 1) sent))
+    flat_map (of_queue queue) (map seen_sent (take i sent)) ++ packets_of false (seen_sent b)
+    ≡ flat_map (of_queue queue) (map seen_sent (take (i + 1) sent))
 own_more queue sent i b here is own =
-    ap (λ x. flat_map (of_queue queue) (map seen_sent (take i sent)) ++ x) (sym (cond-true (eqb b.block.now.queue queue) (packets_of false (seen_sent b)) [] (eq-eqb b.block.now.queue queue own)))
+    ap (λ x. flat_map (of_queue queue) (map seen_sent (take i sent)) ++ x)
+    (sym (cond-true (eqb b.block.now.queue queue) (packets_of false (seen_sent b)) [] (eq-eqb b.block.now.queue queue own)))
     ∙ more queue sent i b here is
 
-pub other_more : (queue : ℕ) (sent : List SentBlock) (i : ℕ) (b : SentBlock) → i < length sent → b ≡ get_or sent i b → (b.block.now.queue ≡ queue → ⊥) →
+pub other_more : (queue : ℕ) (sent : List SentBlock) (i : ℕ) (b : SentBlock) → i < length sent → b ≡ get_or sent i b →
+    (b.block.now.queue ≡ queue → ⊥) →
     flat_map (of_queue queue) (map seen_sent (take i sent)) ≡ flat_map (of_queue queue) (map seen_sent (take (i + 1) sent))
 other_more queue sent i b here is other =
     sym (append-nil (flat_map (of_queue queue) (map seen_sent (take i sent))))
-    ∙ ap (λ x. flat_map (of_queue queue) (map seen_sent (take i sent)) ++ x) (sym (cond-false (eqb b.block.now.queue queue) (packets_of false (seen_sent b)) [] (ne_eqb b.block.now.queue queue other)))
+    ∙ ap (λ x. flat_map (of_queue queue) (map seen_sent (take i sent)) ++ x)
+    (sym (cond-false (eqb b.block.now.queue queue) (packets_of false (seen_sent b)) []
+    (ne_eqb b.block.now.queue queue other)))
     ∙ more queue sent i b here is

@@ -17,8 +17,10 @@ with_info_append lines info at [] ys = let e : at ≡ at + 0 = omega arith in ap
 with_info_append lines info at (x ∷ xs) ys =
     let first = info_if info (is_info_due lines at) in
     let next = at + length first + 1 in
-    let h : with_info lines info next (xs ++ ys) ≡ with_info lines info next xs ++ with_info lines info (next + length (with_info lines info next xs)) ys = with_info_append lines info next xs ys in
-    let n : next + length (with_info lines info next xs) ≡ at + length (first ++ x ∷ with_info lines info next xs) = omega (arith, length-append first (x ∷ with_info lines info next xs)) in
+    let h : with_info lines info next (xs ++ ys) ≡ with_info lines info next xs
+    ++ with_info lines info (next + length (with_info lines info next xs)) ys = with_info_append lines info next xs ys in
+    let n : next + length (with_info lines info next xs) ≡ at + length (first ++ x ∷ with_info lines info next xs) =
+    omega (arith, length-append first (x ∷ with_info lines info next xs)) in
     ap (λ z. first ++ x ∷ z) (h ∙ ap (λ m. with_info lines info next xs ++ with_info lines info m ys) n)
     ∙ sym (append_assoc first (x ∷ with_info lines info next xs) (with_info lines info (at + length (first ++ x ∷ with_info lines info next xs)) ys))
 
@@ -32,12 +34,15 @@ laid_more lines info list slot old new l e = record {
       let n : length old ≡ length (with_info lines info 0 list) = ap length l.slots_are ∙ length-map (with_info lines info 0 list) bytes_of in
       let z : 0 + length (with_info lines info 0 list) ≡ length old = omega arith in
       e ∙ ap (λ x. x ++ (map bytes_of (info_if info (is_info_due lines (length old))) ++ bytes_of slot ∷ [])) l.slots_are
-      ∙ ap (λ x. map bytes_of (with_info lines info 0 list) ++ x) (sym (map-append bytes_of (info_if info (is_info_due lines (length old))) (slot ∷ [])))
+      ∙ ap (λ x. map bytes_of (with_info lines info 0 list) ++ x)
+      (sym (map-append bytes_of (info_if info (is_info_due lines (length old))) (slot ∷ [])))
       ∙ sym (map-append bytes_of (with_info lines info 0 list) (info_if info (is_info_due lines (length old)) ++ slot ∷ []))
-      ∙ ap (map bytes_of) (ap (λ m. with_info lines info 0 list ++ with_info lines info m (slot ∷ [])) (sym z) ∙ sym (with_info_append lines info 0 list (slot ∷ [])));
+      ∙ ap (map bytes_of) (ap (λ m. with_info lines info 0 list ++ with_info lines info m (slot ∷ [])) (sym z)
+      ∙ sym (with_info_append lines info 0 list (slot ∷ [])));
 }
 
-pub laid_same : (lines : ℕ) (info : Option (List ℕ)) (a b : List Slot) (slots : List (List ℕ)) → a ≡ b → IsLaid lines info a slots → IsLaid lines info b slots
+pub laid_same : (lines : ℕ) (info : Option (List ℕ)) (a b : List Slot) (slots : List (List ℕ)) → a ≡ b → IsLaid lines info a slots →
+    IsLaid lines info b slots
 laid_same lines info a b slots e l = subst (λ x. IsLaid lines info x slots) e l
 
 with_info_length : (lines : ℕ) (info : Option (List ℕ)) (at : ℕ) (list : List Slot) → length (with_info lines info at list) ≤ 2 * length list
@@ -53,8 +58,10 @@ with_info_length lines info at (slot ∷ rest) =
     one (Some bytes) true = omega arith
     one (Some bytes) false = omega arith
 
-pub laid_length : (lines : ℕ) (info : Option (List ℕ)) (list : List Slot) (slots : List (List ℕ)) → IsLaid lines info list slots → length slots ≤ 2 * length list
-laid_length lines info list slots l = omega (arith, ap length l.slots_are, length-map (with_info lines info 0 list) bytes_of, with_info_length lines info 0 list)
+pub laid_length : (lines : ℕ) (info : Option (List ℕ)) (list : List Slot) (slots : List (List ℕ)) → IsLaid lines info list slots →
+    length slots ≤ 2 * length list
+laid_length lines info list slots l = omega
+    (arith, ap length l.slots_are, length-map (with_info lines info 0 list) bytes_of, with_info_length lines info 0 list)
 
 with_info_least : (lines : ℕ) (info : Option (List ℕ)) (at : ℕ) (list : List Slot) → length list ≤ length (with_info lines info at list)
 with_info_least lines info at [] = omega arith
@@ -63,8 +70,10 @@ with_info_least lines info at (slot ∷ rest) =
     let h : length rest ≤ length (with_info lines info (at + length first + 1) rest) = with_info_least lines info (at + length first + 1) rest in
     omega (arith, length-append first (slot ∷ with_info lines info (at + length first + 1) rest))
 
-pub laid_least : (lines : ℕ) (info : Option (List ℕ)) (list : List Slot) (slots : List (List ℕ)) → IsLaid lines info list slots → length list ≤ length slots
-laid_least lines info list slots l = omega (arith, ap length l.slots_are, length-map (with_info lines info 0 list) bytes_of, with_info_least lines info 0 list)
+pub laid_least : (lines : ℕ) (info : Option (List ℕ)) (list : List Slot) (slots : List (List ℕ)) → IsLaid lines info list slots →
+    length list ≤ length slots
+laid_least lines info list slots l = omega
+    (arith, ap length l.slots_are, length-map (with_info lines info 0 list) bytes_of, with_info_least lines info 0 list)
 
 -- ---- a block's page, behind a time-filling header or not
 
@@ -73,9 +82,13 @@ if_ok (Ok x) f p = f x p
 if_ok (Err e) f p = tt
 
 pub led_list : (list : List Slot) (queue : ℕ) (filler : Bool) (page : List Slot) → filler ≡ true →
-    (list ++ Sent queue (time_filling_packet true queue) ∷ []) ++ page ≡ list ++ (map (Sent queue) (cond filler (time_filling_packet true queue ∷ []) []) ++ page)
+    (list ++ Sent queue (time_filling_packet true queue) ∷ []) ++ page ≡ list
+    ++ (map (Sent queue) (cond filler (time_filling_packet true queue ∷ []) []) ++ page)
 led_list list queue filler page e =
-    append_assoc list (Sent queue (time_filling_packet true queue) ∷ []) page ∙ ap (λ ps. list ++ (map (Sent queue) ps ++ page)) (sym (cond-true filler (time_filling_packet true queue ∷ []) [] e))
+    append_assoc list (Sent queue (time_filling_packet true queue) ∷ []) page
+    ∙ ap (λ ps. list ++ (map (Sent queue) ps ++ page)) (sym (cond-true filler (time_filling_packet true queue ∷ []) [] e))
 
-pub unled_list : (list : List Slot) (queue : ℕ) (filler : Bool) (page : List Slot) → filler ≡ false → list ++ page ≡ list ++ (map (Sent queue) (cond filler (time_filling_packet true queue ∷ []) []) ++ page)
-unled_list list queue filler page e = ap (λ ps. list ++ (map (Sent queue) ps ++ page)) (sym (cond-false filler (time_filling_packet true queue ∷ []) [] e))
+pub unled_list : (list : List Slot) (queue : ℕ) (filler : Bool) (page : List Slot) → filler ≡ false → list ++ page ≡ list
+    ++ (map (Sent queue) (cond filler (time_filling_packet true queue ∷ []) []) ++ page)
+unled_list list queue filler page e = ap (λ ps. list ++ (map (Sent queue) ps ++ page))
+    (sym (cond-false filler (time_filling_packet true queue ∷ []) [] e))

@@ -33,7 +33,8 @@ queued_sent (b ∷ sent) = (b.block.now.queue_to, queued_sent sent)
 
 slots_for-append : (lines : ℕ) (xs ys : List Packet) → slots_for lines (xs ++ ys) ≡ slots_for lines xs + slots_for lines ys
 slots_for-append lines [] ys = omega arith
-slots_for-append lines (x ∷ xs) ys = let h : slots_for lines (xs ++ ys) ≡ slots_for lines xs + slots_for lines ys = slots_for-append lines xs ys in omega arith
+slots_for-append lines (x ∷ xs) ys = let h : slots_for lines (xs ++ ys) ≡ slots_for lines xs + slots_for lines ys =
+    slots_for-append lines xs ys in omega arith
 
 slots_for-rest : (lines : ℕ) (xs : List (List ℕ)) → slots_for lines (map rest_packet xs) ≡ length xs
 slots_for-rest lines [] = refl
@@ -75,50 +76,69 @@ own_slots lines block =
     one true = refl
     one false = refl
 
-blocks_slots : (lines : ℕ) (blocks : List Block) → AreQueued blocks → sum_to 8 (λ m. slots_for lines (flat_map (in_queue m) blocks)) ≡ sum_by size_of blocks + length blocks * lines
+blocks_slots : (lines : ℕ) (blocks : List Block) → AreQueued blocks → sum_to 8 (λ m. slots_for lines (flat_map (in_queue m) blocks))
+    ≡ sum_by size_of blocks + length blocks * lines
 blocks_slots lines [] a = sum_zero 8 ∙ omega arith
 blocks_slots lines (block ∷ blocks) a =
-    let h : sum_to 8 (λ m. slots_for lines (flat_map (in_queue m) blocks)) ≡ sum_by size_of blocks + length blocks * lines = blocks_slots lines blocks a.1 in
-    let k : sum_to 8 (λ m. slots_for lines (in_queue m block ++ flat_map (in_queue m) blocks)) ≡ (size_of block + lines) + sum_to 8 (λ m. slots_for lines (flat_map (in_queue m) blocks)) =
-    sum_less (λ m. slots_for lines (in_queue m block ++ flat_map (in_queue m) blocks)) (λ m. slots_for lines (flat_map (in_queue m) blocks)) (size_of block + lines) 8 block.queue a.0
-    (slots_for-append lines (in_queue block.queue block) (flat_map (in_queue block.queue) blocks) ∙ ap (λ n. n + slots_for lines (flat_map (in_queue block.queue) blocks)) (own block))
-    (λ m ne. ap (λ x. slots_for lines (x ++ flat_map (in_queue m) blocks)) (cond-false (eqb block.queue m) (packets_of false block) [] (ne_eqb block.queue m (λ e. ne (sym e))))) in
+    let h : sum_to 8 (λ m. slots_for lines (flat_map (in_queue m) blocks)) ≡ sum_by size_of blocks + length blocks * lines =
+    blocks_slots lines blocks a.1 in
+    let k : sum_to 8 (λ m. slots_for lines (in_queue m block ++ flat_map (in_queue m) blocks)) ≡ (size_of block + lines)
+    + sum_to 8 (λ m. slots_for lines (flat_map (in_queue m) blocks)) =
+    sum_less (λ m. slots_for lines (in_queue m block ++ flat_map (in_queue m) blocks))
+    (λ m. slots_for lines (flat_map (in_queue m) blocks)) (size_of block + lines) 8 block.queue a.0
+    (slots_for-append lines (in_queue block.queue block) (flat_map (in_queue block.queue) blocks)
+    ∙ ap (λ n. n + slots_for lines (flat_map (in_queue block.queue) blocks)) (own block))
+    (λ m ne. ap (λ x. slots_for lines (x ++ flat_map (in_queue m) blocks))
+    (cond-false (eqb block.queue m) (packets_of false block) [] (ne_eqb block.queue m (λ e. ne (sym e))))) in
     let z : suc (length blocks) * lines ≡ lines + length blocks * lines = omega arith in
     k ∙ omega (arith, h, z, sum_by-cons size_of block blocks)
   where
     own : (b : Block) → slots_for lines (in_queue b.queue b) ≡ size_of b + lines
     own b = ap (slots_for lines) (cond-true (eqb b.queue b.queue) (packets_of false b) [] (eq-eqb b.queue b.queue refl)) ∙ own_slots lines b
 
-fillings_slots : (lines : ℕ) (blocks : List Block) (n : ℕ) → sum_to n (λ m. slots_for lines (cond (has_pages blocks m) (time_filling_packet false m ∷ []) [])) ≡ length (used_to blocks n)
+fillings_slots : (lines : ℕ) (blocks : List Block) (n : ℕ) →
+    sum_to n (λ m. slots_for lines (cond (has_pages blocks m) (time_filling_packet false m ∷ []) [])) ≡ length (used_to blocks n)
 fillings_slots lines blocks zero = refl
 fillings_slots lines blocks (suc n) =
-    let h : sum_to n (λ m. slots_for lines (cond (has_pages blocks m) (time_filling_packet false m ∷ []) [])) ≡ length (used_to blocks n) = fillings_slots lines blocks n in
-    let k : slots_for lines (cond (has_pages blocks n) (time_filling_packet false n ∷ []) []) ≡ length (cond (has_pages blocks n) (n ∷ []) []) = one (has_pages blocks n) in
+    let h : sum_to n (λ m. slots_for lines (cond (has_pages blocks m) (time_filling_packet false m ∷ []) []))
+    ≡ length (used_to blocks n) = fillings_slots lines blocks n in
+    let k : slots_for lines (cond (has_pages blocks n) (time_filling_packet false n ∷ []) [])
+    ≡ length (cond (has_pages blocks n) (n ∷ []) []) = one (has_pages blocks n) in
     omega (arith, length-append (used_to blocks n) (cond (has_pages blocks n) (n ∷ []) []))
   where
     one : (b : Bool) → slots_for lines (cond b (time_filling_packet false n ∷ []) []) ≡ length (cond b (n ∷ []) [])
     one true = refl
     one false = refl
 
-pub queues_slots : (lines : ℕ) (blocks : List Block) → AreQueued blocks → sum_to 8 (λ m. slots_for lines (queue_packets false blocks m)) ≡ packets_in blocks + length blocks * lines + length (used_queues blocks)
+pub queues_slots : (lines : ℕ) (blocks : List Block) → AreQueued blocks → sum_to 8 (λ m. slots_for lines (queue_packets false blocks m))
+    ≡ packets_in blocks + length blocks * lines + length (used_queues blocks)
 queues_slots lines blocks a =
-    sum_same (λ m. slots_for lines (queue_packets false blocks m)) (λ m. slots_for lines (flat_map (in_queue m) blocks) + slots_for lines (cond (has_pages blocks m) (time_filling_packet false m ∷ []) [])) 8
+    sum_same (λ m. slots_for lines (queue_packets false blocks m))
+    (λ m. slots_for lines (flat_map (in_queue m) blocks)
+    + slots_for lines (cond (has_pages blocks m) (time_filling_packet false m ∷ []) [])) 8
     (λ m lt. slots_for-append lines (flat_map (in_queue m) blocks) (cond (has_pages blocks m) (time_filling_packet false m ∷ []) []))
-    ∙ sum_add (λ m. slots_for lines (flat_map (in_queue m) blocks)) (λ m. slots_for lines (cond (has_pages blocks m) (time_filling_packet false m ∷ []) [])) 8
+    ∙ sum_add (λ m. slots_for lines (flat_map (in_queue m) blocks))
+    (λ m. slots_for lines (cond (has_pages blocks m) (time_filling_packet false m ∷ []) [])) 8
     ∙ ap (λ n. n + sum_to 8 (λ m. slots_for lines (cond (has_pages blocks m) (time_filling_packet false m ∷ []) []))) (blocks_slots lines blocks a)
     ∙ ap (λ n. sum_by size_of blocks + length blocks * lines + n) (fillings_slots lines blocks 8)
 
 pub queues_some : (blocks : List Block) → AreQueued blocks → 0 < length blocks → 0 < sum_to 8 (λ m. length (queue_packets false blocks m))
 queues_some [] a h = absurd (omega arith)
 queues_some (block ∷ blocks) a h =
-    let own : has_pages (block ∷ blocks) block.queue ≡ true = or_left (eqb block.queue block.queue) (has_pages blocks block.queue) (eq-eqb block.queue block.queue refl) in
-    let one : length (cond (has_pages (block ∷ blocks) block.queue) (time_filling_packet false block.queue ∷ []) []) ≡ 1 = ap length (cond-true (has_pages (block ∷ blocks) block.queue) (time_filling_packet false block.queue ∷ []) [] own) in
-    let most : length (queue_packets false (block ∷ blocks) block.queue) ≤ sum_to 8 (λ m. length (queue_packets false (block ∷ blocks) m)) = sum_at (λ m. length (queue_packets false (block ∷ blocks) m)) 8 block.queue a.0 in
-    let size = length-append (flat_map (in_queue block.queue) (block ∷ blocks)) (cond (has_pages (block ∷ blocks) block.queue) (time_filling_packet false block.queue ∷ []) []) in
+    let own : has_pages (block ∷ blocks) block.queue ≡ true =
+    or_left (eqb block.queue block.queue) (has_pages blocks block.queue) (eq-eqb block.queue block.queue refl) in
+    let one : length (cond (has_pages (block ∷ blocks) block.queue) (time_filling_packet false block.queue ∷ []) []) ≡ 1 =
+    ap length (cond-true (has_pages (block ∷ blocks) block.queue) (time_filling_packet false block.queue ∷ []) [] own) in
+    let most : length (queue_packets false (block ∷ blocks) block.queue)
+    ≤ sum_to 8 (λ m. length (queue_packets false (block ∷ blocks) m)) =
+    sum_at (λ m. length (queue_packets false (block ∷ blocks) m)) 8 block.queue a.0 in
+    let size = length-append (flat_map (in_queue block.queue) (block ∷ blocks))
+    (cond (has_pages (block ∷ blocks) block.queue) (time_filling_packet false block.queue ∷ []) []) in
     omega (arith, one, most, size)
 
 -- the same over queues as lists
-pub over_queues : (f : List Packet → ℕ) (blocks : List Block) (lists : List (List Packet)) → lists ≡ queues_to blocks 8 → sum_to 8 (λ m. f (get_or lists m [])) ≡ sum_to 8 (λ m. f (queue_packets false blocks m))
+pub over_queues : (f : List Packet → ℕ) (blocks : List Block) (lists : List (List Packet)) → lists ≡ queues_to blocks 8 →
+    sum_to 8 (λ m. f (get_or lists m [])) ≡ sum_to 8 (λ m. f (queue_packets false blocks m))
 over_queues f blocks lists e = subst (λ x. sum_to 8 (λ m. f (get_or x m [])) ≡ sum_to 8 (λ m. f (queue_packets false blocks m))) (sym e) refl
 
 -- ---- serial transmission
@@ -128,7 +148,8 @@ empties zero = refl
 empties (suc n) = ap (λ x. replicate 42 0 ∷ x) (empties n)
 
 -- laid slots, filled
-pub serial_filled : (lines : ℕ) (info : Option (List ℕ)) (list : List Slot) (slots new : List (List ℕ)) → IsLaid lines info list slots → new ≡ slots ++ replicate (missing lines (length slots)) (replicate 42 0) →
+pub serial_filled : (lines : ℕ) (info : Option (List ℕ)) (list : List Slot) (slots new : List (List ℕ)) → IsLaid lines info list slots →
+    new ≡ slots ++ replicate (missing lines (length slots)) (replicate 42 0) →
     new ≡ map bytes_of (to_whole_field lines (with_info lines info 0 list))
 serial_filled lines info list slots new l e =
     let n : length slots ≡ length (with_info lines info 0 list) = ap length l.slots_are ∙ length-map (with_info lines info 0 list) bytes_of in
@@ -139,11 +160,22 @@ serial_filled lines info list slots new l e =
 
 page_length : (lines : ℕ) (block : Block) → length (serial_page lines block) ≡ suc lines + length block.rest
 page_length lines block =
-    omega (arith, length-append (replicate lines Empty) (map (λ bytes. Sent block.queue (rest_packet bytes)) block.rest), length-replicate lines Empty, length-map block.rest (λ bytes. Sent block.queue (rest_packet bytes)))
+    omega (
+      arith,
+      length-append (replicate lines Empty) (map (λ bytes. Sent block.queue (rest_packet bytes)) block.rest),
+      length-replicate lines Empty,
+      length-map block.rest (λ bytes. Sent block.queue (rest_packet bytes)),
+    )
 
 block_length : (lines : ℕ) (block : Block) → length (serial_block lines block) ≡ size_of block + lines
 block_length lines block =
-    omega (arith, length-append (map (Sent block.queue) (filler_of true block)) (serial_page lines block), length-map (filler_of true block) (Sent block.queue), one block.filler, page_length lines block)
+    omega (
+      arith,
+      length-append (map (Sent block.queue) (filler_of true block)) (serial_page lines block),
+      length-map (filler_of true block) (Sent block.queue),
+      one block.filler,
+      page_length lines block,
+    )
   where
     one : (b : Bool) → length (cond b (time_filling_packet true block.queue ∷ []) []) ≡ cond b 1 0
     one true = refl
@@ -154,21 +186,40 @@ blocks_length lines [] = omega arith
 blocks_length lines (block ∷ blocks) =
     let h : length (flat_map (serial_block lines) blocks) ≡ sum_by size_of blocks + length blocks * lines = blocks_length lines blocks in
     let z : suc (length blocks) * lines ≡ lines + length blocks * lines = omega arith in
-    omega (arith, h, z, sum_by-cons size_of block blocks, block_length lines block, length-append (serial_block lines block) (flat_map (serial_block lines) blocks))
+    omega (
+      arith,
+      h,
+      z,
+      sum_by-cons size_of block blocks,
+      block_length lines block,
+      length-append (serial_block lines block) (flat_map (serial_block lines) blocks),
+    )
 
-serial_length : (lines : ℕ) (blocks : List Block) → length (serial_list lines blocks) ≡ packets_in blocks + length blocks * lines + length (used_queues blocks)
+serial_length : (lines : ℕ) (blocks : List Block) → length (serial_list lines blocks) ≡ packets_in blocks + length blocks * lines
+    + length (used_queues blocks)
 serial_length lines blocks =
-    omega (arith, length-append (flat_map (serial_block lines) blocks) (map (λ queue. Sent queue (time_filling_packet true queue)) (used_queues blocks)), blocks_length lines blocks, length-map (used_queues blocks) (λ queue. Sent queue (time_filling_packet true queue)))
+    omega (
+      arith,
+      length-append (flat_map (serial_block lines) blocks)
+          (map (λ queue. Sent queue (time_filling_packet true queue)) (used_queues blocks)),
+      blocks_length lines blocks,
+      length-map (used_queues blocks) (λ queue. Sent queue (time_filling_packet true queue)),
+    )
 
-pub filled_most : (lines : ℕ) (info : Option (List ℕ)) (blocks : List Block) (slots new : List (List ℕ)) → 1 ≤ lines → IsLaid lines info (serial_list lines blocks) slots →
+pub filled_most : (lines : ℕ) (info : Option (List ℕ)) (blocks : List Block) (slots new : List (List ℕ)) → 1 ≤ lines →
+    IsLaid lines info (serial_list lines blocks) slots →
     new ≡ slots ++ replicate (missing lines (length slots)) (replicate 42 0) →
     2 * (packets_in blocks + length blocks * lines + length (used_queues blocks)) + 2 * lines ≤ 65536 → length new ≤ 65536
 filled_most lines info blocks slots new some l e few =
-    let size : length new ≡ length slots + missing lines (length slots) = ap length e ∙ length-append slots (replicate (missing lines (length slots)) (replicate 42 0)) ∙ ap (λ n. length slots + n) (length-replicate (missing lines (length slots)) (replicate 42 0)) in
+    let size : length new ≡ length slots + missing lines (length slots) = ap length e
+    ∙ length-append slots (replicate (missing lines (length slots)) (replicate 42 0))
+    ∙ ap (λ n. length slots + n) (length-replicate (missing lines (length slots)) (replicate 42 0)) in
     let rest : missing lines (length slots) ≤ lines = omega arith in
-    let q : length (serial_list lines blocks) ≡ packets_in blocks + length blocks * lines + length (used_queues blocks) = serial_length lines blocks in
+    let q : length (serial_list lines blocks) ≡ packets_in blocks + length blocks * lines + length (used_queues blocks) =
+    serial_length lines blocks in
     let two : length slots ≤ 2 * length (serial_list lines blocks) = laid_length lines info (serial_list lines blocks) slots l in
-    bound (length new) (length slots) (missing lines (length slots)) (length (serial_list lines blocks)) lines size rest two (subst (λ n. 2 * n + 2 * lines ≤ 65536) (sym q) few)
+    bound (length new) (length slots) (missing lines (length slots)) (length (serial_list lines blocks)) lines size rest two
+    (subst (λ n. 2 * n + 2 * lines ≤ 65536) (sym q) few)
   where
     bound : (n s m l lines : ℕ) → n ≡ s + m → m ≤ lines → s ≤ 2 * l → 2 * l + 2 * lines ≤ 65536 → n ≤ 65536
     bound n s m l lines a b c d = omega arith
@@ -193,11 +244,19 @@ used_some blocks (suc n) queue lt e = elim (cases_eq queue n) as (λ _. 0 < leng
 serial_some : (lines : ℕ) (blocks : List Block) → AreQueued blocks → 0 < length blocks → 0 < length (serial_list lines blocks)
 serial_some lines [] a h = absurd (omega arith)
 serial_some lines (block ∷ blocks) a h =
-    let own : has_pages (block ∷ blocks) block.queue ≡ true = or_left (eqb block.queue block.queue) (has_pages blocks block.queue) (eq-eqb block.queue block.queue refl) in
+    let own : has_pages (block ∷ blocks) block.queue ≡ true =
+    or_left (eqb block.queue block.queue) (has_pages blocks block.queue) (eq-eqb block.queue block.queue refl) in
     let used : 0 < length (used_queues (block ∷ blocks)) = used_some (block ∷ blocks) 8 block.queue a.0 own in
     omega (arith, used, serial_length lines (block ∷ blocks))
 
-pub filled_some : (lines : ℕ) (info : Option (List ℕ)) (blocks : List Block) (slots new : List (List ℕ)) → AreQueued blocks → 0 < length blocks → IsLaid lines info (serial_list lines blocks) slots →
+pub filled_some : (lines : ℕ) (info : Option (List ℕ)) (blocks : List Block) (slots new : List (List ℕ)) → AreQueued blocks →
+    0 < length blocks → IsLaid lines info (serial_list lines blocks) slots →
     new ≡ slots ++ replicate (missing lines (length slots)) (replicate 42 0) → 0 < length new
 filled_some lines info blocks slots new a some l e =
-    omega (arith, serial_some lines blocks a some, laid_least lines info (serial_list lines blocks) slots l, ap length e, length-append slots (replicate (missing lines (length slots)) (replicate 42 0)))
+    omega (
+      arith,
+      serial_some lines blocks a some,
+      laid_least lines info (serial_list lines blocks) slots l,
+      ap length e,
+      length-append slots (replicate (missing lines (length slots)) (replicate 42 0)),
+    )

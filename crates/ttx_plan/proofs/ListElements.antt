@@ -27,7 +27,8 @@ all_filter P test (x ∷ xs) a = elim (cases_Bool (test x)) as (λ _. AllByRecur
   | inr y ↦ subst (AllByRecursion P) (sym (cond-false (test x) _ _ y)) (all_filter P test xs a.1)
 ]
 
-pub all_flat_map : {A B : Type 0} (P : B → Type 0) (Q : A → Type 0) (f : A → List B) → ((x : A) → Q x → AllByRecursion P (f x)) → (xs : List A) → AllByRecursion Q xs → AllByRecursion P (flat_map f xs)
+pub all_flat_map : {A B : Type 0} (P : B → Type 0) (Q : A → Type 0) (f : A → List B) → ((x : A) → Q x → AllByRecursion P (f x)) →
+    (xs : List A) → AllByRecursion Q xs → AllByRecursion P (flat_map f xs)
 all_flat_map P Q f each [] a = tt
 all_flat_map P Q f each (x ∷ xs) a = all_append P (f x) (flat_map f xs) (each x a.0) (all_flat_map P Q f each xs a.1)
 

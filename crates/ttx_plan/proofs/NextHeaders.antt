@@ -26,7 +26,8 @@ queue_append queue (Empty ∷ xs) ys = queue_append queue xs ys
 queue_append queue (Info bytes ∷ xs) ys = queue_append queue xs ys
 queue_append queue (Sent n p ∷ xs) ys = ap (λ z. cond (eqb n queue) (p ∷ z) z) (queue_append queue xs ys) ∙ by (eqb n queue)
   where
-    by : (b : Bool) → cond b (p ∷ (of_queue queue xs ++ of_queue queue ys)) (of_queue queue xs ++ of_queue queue ys) ≡ cond b (p ∷ of_queue queue xs) (of_queue queue xs) ++ of_queue queue ys
+    by : (b : Bool) → cond b (p ∷ (of_queue queue xs ++ of_queue queue ys)) (of_queue queue xs ++ of_queue queue ys)
+        ≡ cond b (p ∷ of_queue queue xs) (of_queue queue xs) ++ of_queue queue ys
     by true = refl
     by false = refl
 
@@ -36,9 +37,11 @@ queue_empty queue (suc n) = queue_empty queue n
 
 -- filling adds none
 pub queue_filled : (queue n : ℕ) (slots : List Slot) → of_queue queue (slots ++ replicate n Empty) ≡ of_queue queue slots
-queue_filled queue n slots = queue_append queue slots (replicate n Empty) ∙ ap (λ z. of_queue queue slots ++ z) (queue_empty queue n) ∙ append-nil (of_queue queue slots)
+queue_filled queue n slots = queue_append queue slots (replicate n Empty) ∙ ap (λ z. of_queue queue slots ++ z) (queue_empty queue n)
+    ∙ append-nil (of_queue queue slots)
 
-queue_info : (queue lines : ℕ) (info : Option (List ℕ)) (at : ℕ) (slots : List Slot) → of_queue queue (with_info lines info at slots) ≡ of_queue queue slots
+queue_info : (queue lines : ℕ) (info : Option (List ℕ)) (at : ℕ) (slots : List Slot) → of_queue queue (with_info lines info at slots)
+    ≡ of_queue queue slots
 queue_info queue lines info at [] = refl
 queue_info queue lines info at (slot ∷ slots) =
     let first = info_if info (is_info_due lines at) in
@@ -66,27 +69,33 @@ queue_own queue m (p ∷ ps) = ap (λ z. cond (eqb m queue) (p ∷ z) z) (queue_
     by true = refl
     by false = refl
 
-queue_rest : (queue m : ℕ) (rows : List (List ℕ)) → of_queue queue (map (λ bytes. Sent m (rest_packet bytes)) rows) ≡ of_queue queue (map (Sent m) (map rest_packet rows))
+queue_rest : (queue m : ℕ) (rows : List (List ℕ)) → of_queue queue (map (λ bytes. Sent m (rest_packet bytes)) rows)
+    ≡ of_queue queue (map (Sent m) (map rest_packet rows))
 queue_rest queue m [] = refl
 queue_rest queue m (bytes ∷ rows) = ap (λ z. cond (eqb m queue) (rest_packet bytes ∷ z) z) (queue_rest queue m rows)
 
-queue_page : (queue lines : ℕ) (block : Block) → of_queue queue (serial_page lines block) ≡ of_queue queue (map (Sent block.queue) (page_packets block))
+queue_page : (queue lines : ℕ) (block : Block) → of_queue queue (serial_page lines block)
+    ≡ of_queue queue (map (Sent block.queue) (page_packets block))
 queue_page queue lines block =
     ap (λ z. cond (eqb block.queue queue) (header_packet block.header ∷ z) z)
     (queue_append queue (replicate lines Empty) (map (λ bytes. Sent block.queue (rest_packet bytes)) block.rest)
-    ∙ ap (λ z. z ++ of_queue queue (map (λ bytes. Sent block.queue (rest_packet bytes)) block.rest)) (queue_empty queue lines) ∙ queue_rest queue block.queue block.rest)
+    ∙ ap (λ z. z ++ of_queue queue (map (λ bytes. Sent block.queue (rest_packet bytes)) block.rest)) (queue_empty queue lines)
+    ∙ queue_rest queue block.queue block.rest)
 
 queue_block : (queue lines : ℕ) (block : Block) → of_queue queue (serial_block lines block) ≡ cond (eqb block.queue queue) (packets_of true block) []
 queue_block queue lines block =
     queue_append queue (map (Sent block.queue) (filler_of true block)) (serial_page lines block)
-    ∙ ap (λ z. of_queue queue (map (Sent block.queue) (filler_of true block)) ++ z) (queue_page queue lines block ∙ queue_own queue block.queue (page_packets block))
-    ∙ ap (λ z. z ++ cond (eqb block.queue queue) (page_packets block) []) (queue_own queue block.queue (filler_of true block)) ∙ by (eqb block.queue queue)
+    ∙ ap (λ z. of_queue queue (map (Sent block.queue) (filler_of true block)) ++ z)
+    (queue_page queue lines block ∙ queue_own queue block.queue (page_packets block))
+    ∙ ap (λ z. z ++ cond (eqb block.queue queue) (page_packets block) []) (queue_own queue block.queue (filler_of true block))
+    ∙ by (eqb block.queue queue)
   where
     by : (b : Bool) → cond b (filler_of true block) [] ++ cond b (page_packets block) [] ≡ cond b (packets_of true block) []
     by true = refl
     by false = refl
 
-queue_blocks : (queue lines : ℕ) (sent : List Block) → of_queue queue (flat_map (serial_block lines) sent) ≡ flat_map (λ block. cond (eqb block.queue queue) (packets_of true block) []) sent
+queue_blocks : (queue lines : ℕ) (sent : List Block) → of_queue queue (flat_map (serial_block lines) sent)
+    ≡ flat_map (λ block. cond (eqb block.queue queue) (packets_of true block) []) sent
 queue_blocks queue lines [] = refl
 queue_blocks queue lines (block ∷ sent) =
     queue_append queue (serial_block lines block) (flat_map (serial_block lines) sent)
@@ -115,32 +124,40 @@ used_other queue sent (suc n) lt =
     ap (of_queue queue) (map-append fill (used_to sent n) (cond (has_pages sent n) (n ∷ []) []))
     ∙ queue_append queue (map fill (used_to sent n)) (map fill (cond (has_pages sent n) (n ∷ []) []))
     ∙ ap (λ z. z ++ of_queue queue (map fill (cond (has_pages sent n) (n ∷ []) []))) (used_other queue sent n (omega arith))
-    ∙ used_one queue n (has_pages sent n) ∙ ap (λ b. cond (b && has_pages sent n) (time_filling_packet true n ∷ []) []) (ne_eqb n queue (λ e. omega (arith, e)))
+    ∙ used_one queue n (has_pages sent n) ∙ ap (λ b. cond (b && has_pages sent n) (time_filling_packet true n ∷ []) [])
+    (ne_eqb n queue (λ e. omega (arith, e)))
 
-used_queue : (queue : ℕ) (sent : List Block) (n : ℕ) → queue < n → of_queue queue (map fill (used_to sent n)) ≡ cond (has_pages sent queue) (time_filling_packet true queue ∷ []) []
+used_queue : (queue : ℕ) (sent : List Block) (n : ℕ) → queue < n → of_queue queue (map fill (used_to sent n))
+    ≡ cond (has_pages sent queue) (time_filling_packet true queue ∷ []) []
 used_queue queue sent zero lt = absurd (omega arith)
 used_queue queue sent (suc n) lt =
     ap (of_queue queue) (map-append fill (used_to sent n) (cond (has_pages sent n) (n ∷ []) []))
     ∙ queue_append queue (map fill (used_to sent n)) (map fill (cond (has_pages sent n) (n ∷ []) []))
-    ∙ elim (cases_eq n queue) as (λ _. of_queue queue (map fill (used_to sent n)) ++ of_queue queue (map fill (cond (has_pages sent n) (n ∷ []) [])) ≡ cond (has_pages sent queue) (time_filling_packet true queue ∷ []) []) [
+    ∙ elim (cases_eq n queue) as (λ _. of_queue queue (map fill (used_to sent n))
+    ++ of_queue queue (map fill (cond (has_pages sent n) (n ∷ []) []))
+    ≡ cond (has_pages sent queue) (time_filling_packet true queue ∷ []) []) [
       | inl e ↦
           ap (λ z. z ++ of_queue queue (map fill (cond (has_pages sent n) (n ∷ []) []))) (used_other queue sent n (omega (arith, e)))
           ∙ used_one queue n (has_pages sent n) ∙ ap (λ b. cond (b && has_pages sent n) (time_filling_packet true n ∷ []) []) (eq-eqb n queue e)
           ∙ ap (λ m. cond (has_pages sent m) (time_filling_packet true m ∷ []) []) e
       | inr ne ↦
-          ap (λ z. of_queue queue (map fill (used_to sent n)) ++ z) (used_one queue n (has_pages sent n) ∙ ap (λ b. cond (b && has_pages sent n) (time_filling_packet true n ∷ []) []) (ne_eqb n queue ne))
+          ap (λ z. of_queue queue (map fill (used_to sent n)) ++ z)
+          (used_one queue n (has_pages sent n)
+          ∙ ap (λ b. cond (b && has_pages sent n) (time_filling_packet true n ∷ []) []) (ne_eqb n queue ne))
           ∙ append-nil (of_queue queue (map fill (used_to sent n))) ∙ used_queue queue sent n (strict ne)
     ]
   where
     strict : (n ≡ queue → ⊥) → queue < n
     strict ne = grind arith
 
-pub serial_queue : (queue : ℕ) → queue < 8 → (lines : ℕ) (info : Option (List ℕ)) (sent : List Block) → of_queue queue (serial_slots lines info sent) ≡ queue_packets true sent queue
+pub serial_queue : (queue : ℕ) → queue < 8 → (lines : ℕ) (info : Option (List ℕ)) (sent : List Block) →
+    of_queue queue (serial_slots lines info sent) ≡ queue_packets true sent queue
 serial_queue queue lt lines info sent =
     let laid = with_info lines info 0 (serial_list lines sent) in
     let blocks = flat_map (serial_block lines) sent in
     let fillings = map fill (used_queues sent) in
-    queue_filled queue (missing lines (length laid)) laid ∙ queue_info queue lines info 0 (serial_list lines sent) ∙ queue_append queue blocks fillings
+    queue_filled queue (missing lines (length laid)) laid ∙ queue_info queue lines info 0 (serial_list lines sent)
+    ∙ queue_append queue blocks fillings
     ∙ ap (λ z. z ++ of_queue queue fillings) (queue_blocks queue lines sent)
     ∙ ap (λ z. flat_map (λ block. cond (eqb block.queue queue) (packets_of true block) []) sent ++ z) (used_queue queue sent 8 lt)
 
@@ -176,11 +193,22 @@ finds queue n (Empty ∷ slots) l = one_on queue n Empty slots refl (finds queue
 finds queue n (Info bytes ∷ slots) l = one_on queue n (Info bytes) slots refl (finds queue n slots l)
 finds queue n (Sent m p ∷ slots) l = by (eqb m queue) refl l (λ k. finds queue n slots k)
   where
-    own : eqb m queue ≡ true → (late : Bool) → is_row_or_links p.kind ≡ late → MatchBool late (Leads n (of_queue queue slots)) (number p.bytes ≡ n → ⊥) → (Leads n (of_queue queue slots) → HasNext queue n slots) → HasNext queue n (Sent m p ∷ slots)
+    own : eqb m queue ≡ true → (late : Bool) → is_row_or_links p.kind ≡ late →
+        MatchBool late (Leads n (of_queue queue slots)) (number p.bytes ≡ n → ⊥) →
+        (Leads n (of_queue queue slots) → HasNext queue n slots) → HasNext queue n (Sent m p ∷ slots)
     own e true late l again = one_on queue n (Sent m p) slots (ap (λ b. eqb m queue && not b) late ∙ and-false (eqb m queue)) (again l)
-    own e false early l again = record { place = 0; packet = p; within = omega arith; at = ap (λ q. Sent q p) (eqb-true m queue e); early = early; other = l; none_before = λ i lt. absurd (omega arith) }
+    own e false early l again = record {
+      place = 0;
+      packet = p;
+      within = omega arith;
+      at = ap (λ q. Sent q p) (eqb-true m queue e);
+      early = early;
+      other = l;
+      none_before = λ i lt. absurd (omega arith);
+    }
 
-    by : (mine : Bool) → eqb m queue ≡ mine → Leads n (cond mine (p ∷ of_queue queue slots) (of_queue queue slots)) → (Leads n (of_queue queue slots) → HasNext queue n slots) → HasNext queue n (Sent m p ∷ slots)
+    by : (mine : Bool) → eqb m queue ≡ mine → Leads n (cond mine (p ∷ of_queue queue slots) (of_queue queue slots)) →
+        (Leads n (of_queue queue slots) → HasNext queue n slots) → HasNext queue n (Sent m p ∷ slots)
     by true e l again = own e (is_row_or_links p.kind) refl l again
     by false e l again = one_on queue n (Sent m p) slots (ap (λ b. b && not (is_row_or_links p.kind)) e) (again l)
 
@@ -204,22 +232,44 @@ rest_alternates queue (Sent m p) slots a = by (eqb m queue) a
     by true a = a.1
     by false a = a
 
-pub has_after : (queue : ℕ) (slots : List Slot) (i : ℕ) (packet : Packet) → Alternates (of_queue queue slots) → i < length slots → get_or slots i Empty ≡ Sent queue packet → is_row_or_links packet.kind ≡ false →
+pub has_after : (queue : ℕ) (slots : List Slot) (i : ℕ) (packet : Packet) → Alternates (of_queue queue slots) → i < length slots →
+    get_or slots i Empty ≡ Sent queue packet → is_row_or_links packet.kind ≡ false →
     (number packet.bytes ≡ 255 → ⊥) → HasAfter queue i (number packet.bytes) slots
 has_after queue [] i packet a lt e early ne = absurd (omega arith)
 has_after queue (slot ∷ slots) zero packet a lt e early ne =
     let first : Alternates (of_queue queue (Sent queue packet ∷ slots)) = subst (λ s. Alternates (of_queue queue (s ∷ slots))) e a in
-    let own : Alternates (packet ∷ of_queue queue slots) = subst Alternates (cond-true (eqb queue queue) (packet ∷ of_queue queue slots) (of_queue queue slots) (eq-eqb queue queue refl)) first in
+    let own : Alternates (packet ∷ of_queue queue slots) =
+    subst Alternates (cond-true (eqb queue queue) (packet ∷ of_queue queue slots) (of_queue queue slots)
+    (eq-eqb queue queue refl)) first in
     let h = finds queue (number packet.bytes) slots (own.0 early ne) in
-    record { place = suc h.place; packet = h.packet; later = omega arith; within = omega (arith, h.within); at = h.at; early = h.early; other = h.other; none_between = none h }
+    record {
+      place = suc h.place;
+      packet = h.packet;
+      later = omega arith;
+      within = omega (arith, h.within);
+      at = h.at;
+      early = h.early;
+      other = h.other;
+      none_between = none h;
+    }
   where
     none : (h : HasNext queue (number packet.bytes) slots) (k : ℕ) → 0 < k → k < suc h.place → heads queue (get_or (slot ∷ slots) k Empty) ≡ false
     none h zero low high = absurd (omega arith)
     none h (suc k) low high = h.none_before k (omega arith)
 has_after queue (slot ∷ slots) (suc i) packet a lt e early ne =
     let h = has_after queue slots i packet (rest_alternates queue slot slots a) (omega arith) e early ne in
-    record { place = suc h.place; packet = h.packet; later = omega (arith, h.later); within = omega (arith, h.within); at = h.at; early = h.early; other = h.other; none_between = none h }
+    record {
+      place = suc h.place;
+      packet = h.packet;
+      later = omega (arith, h.later);
+      within = omega (arith, h.within);
+      at = h.at;
+      early = h.early;
+      other = h.other;
+      none_between = none h;
+    }
   where
-    none : (h : HasAfter queue i (number packet.bytes) slots) (k : ℕ) → suc i < k → k < suc h.place → heads queue (get_or (slot ∷ slots) k Empty) ≡ false
+    none : (h : HasAfter queue i (number packet.bytes) slots) (k : ℕ) → suc i < k → k < suc h.place →
+        heads queue (get_or (slot ∷ slots) k Empty) ≡ false
     none h zero low high = absurd (omega arith)
     none h (suc k) low high = h.none_between k (omega arith) (omega arith)

@@ -21,14 +21,16 @@ packets_by mag (Empty ∷ before) = packets_by mag before
 packets_by mag (Info bytes ∷ before) = packets_by mag before
 packets_by mag (Sent m packet ∷ before) = cond (eqb m mag) (packets_by mag before ++ packet ∷ []) (packets_by mag before)
 
-pub in_order : (mags : Magazines) (before : List Slot) → KeepsTurns mags before → (m : ℕ) → packets_by m before ≡ take (sent_by m before) (queue_of mags m)
+pub in_order : (mags : Magazines) (before : List Slot) → KeepsTurns mags before → (m : ℕ) → packets_by m before
+    ≡ take (sent_by m before) (queue_of mags m)
 in_order mags [] t m = refl
 in_order mags (Empty ∷ before) t m = in_order mags before t.1 m
 in_order mags (Info bytes ∷ before) t m = in_order mags before t.1 m
 in_order mags (Sent mag packet ∷ before) t m =
     let from : IsFrom mags before (Sent mag packet) = subst (IsFrom mags before) (sym t.0) (turn_from_queues mags before) in
     let h : packets_by m before ≡ take (sent_by m before) (queue_of mags m) = in_order mags before t.1 m in
-    elim (cases_eq mag m) as (λ _. cond (eqb mag m) (packets_by m before ++ packet ∷ []) (packets_by m before) ≡ take (cond (eqb mag m) (suc (sent_by m before)) (sent_by m before)) (queue_of mags m)) [
+    elim (cases_eq mag m) as (λ _. cond (eqb mag m) (packets_by m before ++ packet ∷ []) (packets_by m before)
+    ≡ take (cond (eqb mag m) (suc (sent_by m before)) (sent_by m before)) (queue_of mags m)) [
       | inl e ↦
           cond-true (eqb mag m) _ _ (eq-eqb mag m e)
           ∙ ap (λ z. z ++ packet ∷ []) h
@@ -40,10 +42,12 @@ in_order mags (Sent mag packet ∷ before) t m =
     ]
 
 -- a row or X/27/0 is sent only where no block of its magazine was opened in the last field
-pub aged : (mags : Magazines) (before : List Slot) (mag : ℕ) (packet : Packet) → Sent mag packet ≡ slot_after mags before → is_row_or_links packet.kind ≡ true → list_any (has_header mag) (take mags.lines before) ≡ false
+pub aged : (mags : Magazines) (before : List Slot) (mag : ℕ) (packet : Packet) → Sent mag packet ≡ slot_after mags before →
+    is_row_or_links packet.kind ≡ true → list_any (has_header mag) (take mags.lines before) ≡ false
 aged mags before mag packet h late = at_info mags.info (is_info_due mags.lines (length before)) h
   where
-    at_next : (m : ℕ) (o : Option Packet) → next_of mags m before ≡ o → is_ready mags before m ≡ true → Sent mag packet ≡ sending m o → list_any (has_header mag) (take mags.lines before) ≡ false
+    at_next : (m : ℕ) (o : Option Packet) → next_of mags m before ≡ o → is_ready mags before m ≡ true → Sent mag packet ≡ sending m o →
+        list_any (has_header mag) (take mags.lines before) ≡ false
     at_next m None e ready s = cc
     at_next m (Some p) e ready s =
         let same_mag : mag ≡ m = cc in
@@ -51,14 +55,18 @@ aged mags before mag packet h late = at_info mags.info (is_info_due mags.lines (
         let g : not (waits mags m before p) ≡ true = ap (may_go mags m before) (sym e) ∙ ready in
         let w : waits mags m before p ≡ false = not-true (waits mags m before p) g in
         let l : is_row_or_links p.kind ≡ true = ap (λ x. is_row_or_links x.kind) (sym same) ∙ late in
-        let r : (is_row_or_links p.kind && list_any (has_header m) (take mags.lines before)) ≡ list_any (has_header m) (take mags.lines before) = ap (λ b. b && list_any (has_header m) (take mags.lines before)) l in
+        let r : (is_row_or_links p.kind && list_any (has_header m) (take mags.lines before))
+        ≡ list_any (has_header m) (take mags.lines before) = ap (λ b. b && list_any (has_header m) (take mags.lines before)) l
+        in
         ap (λ x. list_any (has_header x) (take mags.lines before)) same_mag ∙ sym r ∙ w
 
-    at : (o : Option ℕ) → find (is_ready mags before) (order (turn_from before)) ≡ o → Sent mag packet ≡ chosen mags before o → list_any (has_header mag) (take mags.lines before) ≡ false
+    at : (o : Option ℕ) → find (is_ready mags before) (order (turn_from before)) ≡ o → Sent mag packet ≡ chosen mags before o →
+        list_any (has_header mag) (take mags.lines before) ≡ false
     at None e s = cc
     at (Some m) e s = at_next m (next_of mags m before) refl ((found_ready (is_ready mags before) (turn_from before) m e).0) s
 
-    at_info : (info : Option (List ℕ)) (due : Bool) → Sent mag packet ≡ or_info info due (next_slot mags before) → list_any (has_header mag) (take mags.lines before) ≡ false
+    at_info : (info : Option (List ℕ)) (due : Bool) → Sent mag packet ≡ or_info info due (next_slot mags before) →
+        list_any (has_header mag) (take mags.lines before) ≡ false
     at_info None due s = at (find (is_ready mags before) (order (turn_from before))) refl s
     at_info (Some b) false s = at (find (is_ready mags before) (order (turn_from before))) refl s
     at_info (Some b) true s = let e : Sent mag packet ≡ Info b = s in cc
@@ -79,7 +87,8 @@ abbrev pub last_header : List Packet → Option Packet → Option Packet
 last_header [] found = found
 last_header (packet ∷ rest) found = last_header rest (cond (is_row_or_links packet.kind) found (Some packet))
 
-pub last_header_push : (packets : List Packet) (packet : Packet) (found : Option Packet) → last_header (packets ++ packet ∷ []) found ≡ cond (is_row_or_links packet.kind) (last_header packets found) (Some packet)
+pub last_header_push : (packets : List Packet) (packet : Packet) (found : Option Packet) → last_header (packets ++ packet ∷ []) found
+    ≡ cond (is_row_or_links packet.kind) (last_header packets found) (Some packet)
 last_header_push [] packet found = refl
 last_header_push (p ∷ rest) packet found = last_header_push rest packet (cond (is_row_or_links p.kind) found (Some p))
 
@@ -96,9 +105,11 @@ older : (slot : Slot) (before : List Slot) (i : ℕ) → i < length before → s
 older slot before i lt = cond-false (eqb i (length before)) slot (slot_at before i) (ne_eqb i (length before) (λ e. omega arith))
 
 newest : (slot : Slot) (before : List Slot) → slot_at (slot ∷ before) (length before) ≡ slot
-newest slot before = cond-true (eqb (length before) (length before)) slot (slot_at before (length before)) (eq-eqb (length before) (length before) refl)
+newest slot before = cond-true (eqb (length before) (length before)) slot (slot_at before (length before))
+    (eq-eqb (length before) (length before) refl)
 
-behind : (mag : ℕ) (before : List Slot) (slot : Slot) (header : Packet) → heads mag slot ≡ false → IsLatest mag before header → IsLatest mag (slot ∷ before) header
+behind : (mag : ℕ) (before : List Slot) (slot : Slot) (header : Packet) → heads mag slot ≡ false → IsLatest mag before header →
+    IsLatest mag (slot ∷ before) header
 behind mag before slot header off l = record {
   place = l.place;
   within = omega (arith, l.within);
@@ -106,14 +117,17 @@ behind mag before slot header off l = record {
   heads_it = ap (heads mag) (older slot before l.place l.within) ∙ l.heads_it;
   none_between = λ i low high. elim (cases_lt i (length before)) as (λ _. heads mag (slot_at (slot ∷ before) i) ≡ false) [
     | inl lt ↦ ap (heads mag) (older slot before i lt) ∙ l.none_between i low lt
-    | inr ge ↦ let e : i ≡ length before = omega arith in ap (λ x. heads mag (slot_at (slot ∷ before) x)) e ∙ ap (heads mag) (newest slot before) ∙ off
+    | inr ge ↦ let e : i ≡ length before = omega arith in ap (λ x. heads mag (slot_at (slot ∷ before) x)) e
+        ∙ ap (heads mag) (newest slot before) ∙ off
   ];
   age = λ o lines h. age_of o lines h;
 }
   where
-    age_of : is_page_header header.kind ≡ true → (lines : ℕ) → list_any (has_header mag) (take lines (slot ∷ before)) ≡ false → l.place + lines < suc (length before)
+    age_of : is_page_header header.kind ≡ true → (lines : ℕ) → list_any (has_header mag) (take lines (slot ∷ before)) ≡ false → l.place
+        + lines < suc (length before)
     age_of o zero h = omega (arith, l.within)
-    age_of o (suc n) h = let k : l.place + n < length before = l.age o n ((or_parts (has_header mag slot) (list_any (has_header mag) (take n before)) h).1) in omega arith
+    age_of o (suc n) h = let k : l.place + n < length before =
+        l.age o n ((or_parts (has_header mag slot) (list_any (has_header mag) (take n before)) h).1) in omega arith
 
 front : (mag : ℕ) (before : List Slot) (header : Packet) → is_row_or_links header.kind ≡ false → IsLatest mag (Sent mag header ∷ before) header
 front mag before header early =
@@ -127,9 +141,11 @@ front mag before header early =
       age = λ o lines h. age_of lines h (ap (λ b. b && is_page_header header.kind) (eq-eqb mag mag refl) ∙ o);
     }
   where
-    age_of : (lines : ℕ) → list_any (has_header mag) (take lines (Sent mag header ∷ before)) ≡ false → has_header mag (Sent mag header) ≡ true → length before + lines < suc (length before)
+    age_of : (lines : ℕ) → list_any (has_header mag) (take lines (Sent mag header ∷ before)) ≡ false → has_header mag (Sent mag header)
+        ≡ true → length before + lines < suc (length before)
     age_of zero h on = omega arith
-    age_of (suc n) h on = let f : true ≡ false = sym on ∙ (or_parts (has_header mag (Sent mag header)) (list_any (has_header mag) (take n before)) h).0 in cc
+    age_of (suc n) h on = let f : true ≡ false = sym on
+        ∙ (or_parts (has_header mag (Sent mag header)) (list_any (has_header mag) (take n before)) h).0 in cc
 
 -- the latest header of the magazine is the latest header among its packets
 pub owner_is : (mag : ℕ) (before : List Slot) (header : Packet) → last_header (packets_by mag before) None ≡ Some header → IsLatest mag before header
@@ -140,20 +156,29 @@ owner_is mag (Sent m packet ∷ before) header h =
     elim (cases_eq m mag) as (λ _. IsLatest mag (Sent m packet ∷ before) header) [
       | inl e ↦
           let k : cond (is_row_or_links packet.kind) (last_header (packets_by mag before) None) (Some packet) ≡ Some header =
-          sym (last_header_push (packets_by mag before) packet None) ∙ ap (λ z. last_header z None) (sym (cond-true (eqb m mag) (packets_by mag before ++ packet ∷ []) (packets_by mag before) (eq-eqb m mag e))) ∙ h in
+          sym (last_header_push (packets_by mag before) packet None)
+          ∙ ap (λ z. last_header z None)
+          (sym (cond-true (eqb m mag) (packets_by mag before ++ packet ∷ []) (packets_by mag before) (eq-eqb m mag e))) ∙ h in
           own e k (λ q. owner_is mag before header q)
       | inr ne ↦
           behind mag before (Sent m packet) header (ap (λ b. b && not (is_row_or_links packet.kind)) (ne_eqb m mag ne))
-          (owner_is mag before header (ap (λ z. last_header z None) (sym (cond-false (eqb m mag) (packets_by mag before ++ packet ∷ []) (packets_by mag before) (ne_eqb m mag ne))) ∙ h))
+          (owner_is mag before header (ap (λ z. last_header z None)
+          (sym (cond-false (eqb m mag) (packets_by mag before ++ packet ∷ []) (packets_by mag before) (ne_eqb m mag ne)))
+          ∙ h))
     ]
   where
-    own : m ≡ mag → cond (is_row_or_links packet.kind) (last_header (packets_by mag before) None) (Some packet) ≡ Some header → (last_header (packets_by mag before) None ≡ Some header → IsLatest mag before header) → IsLatest mag (Sent m packet ∷ before) header
+    own : m ≡ mag → cond (is_row_or_links packet.kind) (last_header (packets_by mag before) None) (Some packet) ≡ Some header →
+        (last_header (packets_by mag before) None ≡ Some header → IsLatest mag before header) →
+        IsLatest mag (Sent m packet ∷ before) header
     own e k back = elim (cases_Bool (is_row_or_links packet.kind)) as (λ _. IsLatest mag (Sent m packet ∷ before) header) [
       | inl late ↦ behind mag before (Sent m packet) header (off late) (back (sym (cond-true (is_row_or_links packet.kind) _ _ late) ∙ k))
       | inr early ↦
-          let same : Some packet ≡ Some header = sym (cond-false (is_row_or_links packet.kind) (last_header (packets_by mag before) None) (Some packet) early) ∙ k in
+          let same : Some packet ≡ Some header =
+          sym (cond-false (is_row_or_links packet.kind) (last_header (packets_by mag before) None) (Some packet) early) ∙ k in
           let g : packet ≡ header = cc in
-          subst (λ x. IsLatest mag (Sent x packet ∷ before) header) (sym e) (subst (λ x. IsLatest mag (Sent mag x ∷ before) header) (sym g) (front mag before header (ap (λ x. is_row_or_links x.kind) (sym g) ∙ early)))
+          subst (λ x. IsLatest mag (Sent x packet ∷ before) header) (sym e)
+          (subst (λ x. IsLatest mag (Sent mag x ∷ before) header) (sym g)
+          (front mag before header (ap (λ x. is_row_or_links x.kind) (sym g) ∙ early)))
     ]
       where
         off : is_row_or_links packet.kind ≡ true → (eqb m mag && not (is_row_or_links packet.kind)) ≡ false

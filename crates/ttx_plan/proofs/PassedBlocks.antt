@@ -22,9 +22,11 @@ passed_next before (b ∷ blocks) block = passed_next (b ∷ before) blocks bloc
 abbrev pub is_again : List Block → Block → Bool
 is_again blocks block = eqb (latest block.queue (passed [] blocks)) block.page
 
-fillers_next : (late : Bool) (before blocks : List Block) (block : Block) → with_fillers late before (blocks ++ block ∷ []) ≡ with_fillers late before blocks ++ led (late && eqb (latest block.queue (passed before blocks)) block.page) block ∷ []
+fillers_next : (late : Bool) (before blocks : List Block) (block : Block) → with_fillers late before (blocks ++ block ∷ [])
+    ≡ with_fillers late before blocks ++ led (late && eqb (latest block.queue (passed before blocks)) block.page) block ∷ []
 fillers_next late before [] block = refl
-fillers_next late before (b ∷ blocks) block = ap (λ z. led (late && eqb (latest b.queue before) b.page) b ∷ z) (fillers_next late (b ∷ before) blocks block)
+fillers_next late before (b ∷ blocks) block = ap (λ z. led (late && eqb (latest b.queue before) b.page) b ∷ z)
+    (fillers_next late (b ∷ before) blocks block)
 
 -- ---- what is kept of the blocks that are passed
 
@@ -43,26 +45,33 @@ keeps_none pages e = record { size = ap length e; kept = λ queue lt. ap (λ x. 
     all : (queue : ℕ) → queue < 8 → ◌≡◌ {A = ℕ} (get_or (replicate 8 255) queue 0) 255
     all queue lt = same 8 queue lt
 
-pub keeps_next : (pages : List ℕ) (blocks : List Block) (block : Block) → block.queue < 8 → KeepsLatest pages blocks → KeepsLatest (set pages block.queue block.page) (blocks ++ block ∷ [])
+pub keeps_next : (pages : List ℕ) (blocks : List Block) (block : Block) → block.queue < 8 → KeepsLatest pages blocks →
+    KeepsLatest (set pages block.queue block.page) (blocks ++ block ∷ [])
 keeps_next pages blocks block lt k = record {
   size = length-set pages block.queue block.page ∙ k.size;
   kept = λ queue below. ap_latest queue (one queue below);
 }
   where
-    ap_latest : (queue : ℕ) → get_or (set pages block.queue block.page) queue 0 ≡ latest queue (block ∷ passed [] blocks) → get_or (set pages block.queue block.page) queue 0 ≡ latest queue (passed [] (blocks ++ block ∷ []))
+    ap_latest : (queue : ℕ) → get_or (set pages block.queue block.page) queue 0 ≡ latest queue (block ∷ passed [] blocks) →
+        get_or (set pages block.queue block.page) queue 0 ≡ latest queue (passed [] (blocks ++ block ∷ []))
     ap_latest queue e = e ∙ ap (latest queue) (sym (passed_next [] blocks block))
 
-    one : (queue : ℕ) → queue < 8 → get_or (set pages block.queue block.page) queue 0 ≡ cond (eqb block.queue queue) block.page (latest queue (passed [] blocks))
-    one queue below = elim (cases_eq block.queue queue) as (λ _. get_or (set pages block.queue block.page) queue 0 ≡ cond (eqb block.queue queue) block.page (latest queue (passed [] blocks))) [
-      | inl e ↦
-          ap (λ q. get_or (set pages block.queue block.page) q 0) (sym e) ∙ get_or-set_same pages block.queue block.page 0 (omega (arith, k.size, lt))
-          ∙ sym (cond-true (eqb block.queue queue) block.page (latest queue (passed [] blocks)) (eq-eqb block.queue queue e))
-      | inr ne ↦
-          get_or-set_other pages block.queue queue block.page 0 (λ q. ne (sym q)) ∙ k.kept queue below
-          ∙ sym (cond-false (eqb block.queue queue) block.page (latest queue (passed [] blocks)) (ne_eqb block.queue queue ne))
-    ]
+    one : (queue : ℕ) → queue < 8 → get_or (set pages block.queue block.page) queue 0
+        ≡ cond (eqb block.queue queue) block.page (latest queue (passed [] blocks))
+    one queue below = elim (cases_eq block.queue queue) as
+        (λ _. get_or (set pages block.queue block.page) queue 0
+        ≡ cond (eqb block.queue queue) block.page (latest queue (passed [] blocks))) [
+          | inl e ↦
+              ap (λ q. get_or (set pages block.queue block.page) q 0) (sym e)
+              ∙ get_or-set_same pages block.queue block.page 0 (omega (arith, k.size, lt))
+              ∙ sym (cond-true (eqb block.queue queue) block.page (latest queue (passed [] blocks)) (eq-eqb block.queue queue e))
+          | inr ne ↦
+              get_or-set_other pages block.queue queue block.page 0 (λ q. ne (sym q)) ∙ k.kept queue below
+              ∙ sym (cond-false (eqb block.queue queue) block.page (latest queue (passed [] blocks)) (ne_eqb block.queue queue ne))
+        ]
 
-pub again_is : (pages : List ℕ) (blocks : List Block) (block : Block) → block.queue < 8 → KeepsLatest pages blocks → eqb (get_or pages block.queue 0) block.page ≡ is_again blocks block
+pub again_is : (pages : List ℕ) (blocks : List Block) (block : Block) → block.queue < 8 → KeepsLatest pages blocks →
+    eqb (get_or pages block.queue 0) block.page ≡ is_again blocks block
 again_is pages blocks block lt k = ap (λ n. eqb n block.page) (k.kept block.queue lt)
 
 -- ---- a round goes on
@@ -70,25 +79,35 @@ again_is pages blocks block lt k = ap (λ n. eqb n block.page) (k.kept block.que
 abbrev pub in_round : ℕ → Block → Bool
 in_round round block = eqb (round % (8 / block.often)) 0
 
-pub sent_more : (all some : List Block) (round : ℕ) (block : Block) → in_round round block ≡ true → rounds_to all round ++ round_of (some ++ block ∷ []) round ≡ (rounds_to all round ++ round_of some round) ++ block ∷ []
+pub sent_more : (all some : List Block) (round : ℕ) (block : Block) → in_round round block ≡ true → rounds_to all round
+    ++ round_of (some ++ block ∷ []) round ≡ (rounds_to all round ++ round_of some round) ++ block ∷ []
 sent_more all some round block e =
-    ap (λ z. rounds_to all round ++ z) (filter-append (in_round round) some (block ∷ []) ∙ ap (λ z. round_of some round ++ z) (cond-true (in_round round block) (block ∷ []) [] e))
+    ap (λ z. rounds_to all round ++ z)
+    (filter-append (in_round round) some (block ∷ [])
+    ∙ ap (λ z. round_of some round ++ z) (cond-true (in_round round block) (block ∷ []) [] e))
     ∙ sym (append_assoc (rounds_to all round) (round_of some round) (block ∷ []))
 
-pub sent_same : (all some : List Block) (round : ℕ) (block : Block) → in_round round block ≡ false → rounds_to all round ++ round_of (some ++ block ∷ []) round ≡ rounds_to all round ++ round_of some round
+pub sent_same : (all some : List Block) (round : ℕ) (block : Block) → in_round round block ≡ false → rounds_to all round
+    ++ round_of (some ++ block ∷ []) round ≡ rounds_to all round ++ round_of some round
 sent_same all some round block e =
-    ap (λ z. rounds_to all round ++ z) (filter-append (in_round round) some (block ∷ []) ∙ ap (λ z. round_of some round ++ z) (cond-false (in_round round block) (block ∷ []) [] e) ∙ append-nil (round_of some round))
+    ap (λ z. rounds_to all round ++ z)
+    (filter-append (in_round round) some (block ∷ [])
+    ∙ ap (λ z. round_of some round ++ z) (cond-false (in_round round block) (block ∷ []) [] e)
+    ∙ append-nil (round_of some round))
 
 -- ---- the blocks that are sent, and how many go behind a time-filling header
 
 pub list_next : (late : Bool) (all some : List Block) (round : ℕ) (block : Block) → in_round round block ≡ true →
     with_fillers late [] (rounds_to all round ++ round_of (some ++ block ∷ []) round)
-    ≡ with_fillers late [] (rounds_to all round ++ round_of some round) ++ led (late && is_again (rounds_to all round ++ round_of some round) block) block ∷ []
-list_next late all some round block e = ap (with_fillers late []) (sent_more all some round block e) ∙ fillers_next late [] (rounds_to all round ++ round_of some round) block
+    ≡ with_fillers late [] (rounds_to all round ++ round_of some round)
+    ++ led (late && is_again (rounds_to all round ++ round_of some round) block) block ∷ []
+list_next late all some round block e = ap (with_fillers late []) (sent_more all some round block e)
+    ∙ fillers_next late [] (rounds_to all round ++ round_of some round) block
 
 pub count_next : (late : Bool) (all some : List Block) (round : ℕ) (block : Block) → in_round round block ≡ true →
     fillers_in (with_fillers late [] (rounds_to all round ++ round_of (some ++ block ∷ []) round))
-    ≡ fillers_in (with_fillers late [] (rounds_to all round ++ round_of some round)) + cond (late && is_again (rounds_to all round ++ round_of some round) block) 1 0
+    ≡ fillers_in (with_fillers late [] (rounds_to all round ++ round_of some round))
+    + cond (late && is_again (rounds_to all round ++ round_of some round) block) 1 0
 count_next late all some round block e =
     let first = with_fillers late [] (rounds_to all round ++ round_of some round) in
     let last = led (late && is_again (rounds_to all round ++ round_of some round) block) block in
@@ -99,35 +118,50 @@ count_next late all some round block e =
     one x = omega (arith, sum_by-cons (λ (y : Block). cond y.filler 1 0) x [])
 
 -- the lists are those after one block more: `next` is `some` with the block
-pub sent_then : (late : Bool) (all some next : List Block) (round : ℕ) (block : Block) (filler : Bool) (pages : List ℕ) (sent : List Block) → next ≡ some ++ block ∷ [] → block.queue < 8 → round % (8 / block.often) ≡ 0 →
-    KeepsLatest pages (rounds_to all round ++ round_of some round) → filler ≡ (late && eqb (get_or pages block.queue 0) block.page) → sent ≡ with_fillers late [] (rounds_to all round ++ round_of some round) →
+pub sent_then : (late : Bool) (all some next : List Block) (round : ℕ) (block : Block) (filler : Bool) (pages : List ℕ)
+    (sent : List Block) → next ≡ some ++ block ∷ [] → block.queue < 8 → round % (8 / block.often) ≡ 0 →
+    KeepsLatest pages (rounds_to all round ++ round_of some round) → filler ≡ (late && eqb (get_or pages block.queue 0) block.page) →
+    sent ≡ with_fillers late [] (rounds_to all round ++ round_of some round) →
     sent ++ led filler block ∷ [] ≡ with_fillers late [] (rounds_to all round ++ round_of next round)
 sent_then late all some next round block filler pages sent more lt due k f s =
     let e : in_round round block ≡ true = eq-eqb (round % (8 / block.often)) 0 due in
     ap (λ x. x ++ led filler block ∷ []) s
-    ∙ ap (λ b. with_fillers late [] (rounds_to all round ++ round_of some round) ++ led b block ∷ []) (f ∙ ap (λ b. late && b) (again_is pages (rounds_to all round ++ round_of some round) block lt k))
+    ∙ ap (λ b. with_fillers late [] (rounds_to all round ++ round_of some round) ++ led b block ∷ [])
+    (f ∙ ap (λ b. late && b) (again_is pages (rounds_to all round ++ round_of some round) block lt k))
     ∙ sym (list_next late all some round block e) ∙ ap (λ x. with_fillers late [] (rounds_to all round ++ round_of x round)) (sym more)
 
-pub count_then : (late : Bool) (all some next : List Block) (round : ℕ) (block : Block) (filler : Bool) (pages : List ℕ) (count : ℕ) → next ≡ some ++ block ∷ [] → block.queue < 8 → round % (8 / block.often) ≡ 0 →
-    KeepsLatest pages (rounds_to all round ++ round_of some round) → filler ≡ (late && eqb (get_or pages block.queue 0) block.page) → count ≡ fillers_in (with_fillers late [] (rounds_to all round ++ round_of some round)) →
+pub count_then : (late : Bool) (all some next : List Block) (round : ℕ) (block : Block) (filler : Bool) (pages : List ℕ) (count : ℕ) →
+    next ≡ some ++ block ∷ [] → block.queue < 8 → round % (8 / block.often) ≡ 0 →
+    KeepsLatest pages (rounds_to all round ++ round_of some round) → filler ≡ (late && eqb (get_or pages block.queue 0) block.page) →
+    count ≡ fillers_in (with_fillers late [] (rounds_to all round ++ round_of some round)) →
     count + cond filler 1 0 ≡ fillers_in (with_fillers late [] (rounds_to all round ++ round_of next round))
 count_then late all some next round block filler pages count more lt due k f s =
     let e : in_round round block ≡ true = eq-eqb (round % (8 / block.often)) 0 due in
     ap (λ x. x + cond filler 1 0) s
-    ∙ ap (λ b. fillers_in (with_fillers late [] (rounds_to all round ++ round_of some round)) + cond b 1 0) (f ∙ ap (λ b. late && b) (again_is pages (rounds_to all round ++ round_of some round) block lt k))
+    ∙ ap (λ b. fillers_in (with_fillers late [] (rounds_to all round ++ round_of some round)) + cond b 1 0)
+    (f ∙ ap (λ b. late && b) (again_is pages (rounds_to all round ++ round_of some round) block lt k))
     ∙ sym (count_next late all some round block e) ∙ ap (λ x. fillers_in (with_fillers late [] (rounds_to all round ++ round_of x round))) (sym more)
 
-pub keeps_then : (all some next : List Block) (round : ℕ) (block : Block) (pages : List ℕ) → next ≡ some ++ block ∷ [] → block.queue < 8 → round % (8 / block.often) ≡ 0 →
-    KeepsLatest pages (rounds_to all round ++ round_of some round) → KeepsLatest (set pages block.queue block.page) (rounds_to all round ++ round_of next round)
+pub keeps_then : (all some next : List Block) (round : ℕ) (block : Block) (pages : List ℕ) → next ≡ some ++ block ∷ [] →
+    block.queue < 8 → round % (8 / block.often) ≡ 0 →
+    KeepsLatest pages (rounds_to all round ++ round_of some round) →
+    KeepsLatest (set pages block.queue block.page) (rounds_to all round ++ round_of next round)
 keeps_then all some next round block pages more lt due k =
     let e : in_round round block ≡ true = eq-eqb (round % (8 / block.often)) 0 due in
-    subst (KeepsLatest (set pages block.queue block.page)) (sym (sent_more all some round block e) ∙ ap (λ x. rounds_to all round ++ round_of x round) (sym more)) (keeps_next pages (rounds_to all round ++ round_of some round) block lt k)
+    subst (KeepsLatest (set pages block.queue block.page))
+    (sym (sent_more all some round block e) ∙ ap (λ x. rounds_to all round ++ round_of x round) (sym more))
+    (keeps_next pages (rounds_to all round ++ round_of some round) block lt k)
 
 -- and where the block isn't sent in the round they stay
-pub list_else : (all some next : List Block) (round : ℕ) (block : Block) → next ≡ some ++ block ∷ [] → (round % (8 / block.often) ≡ 0 → ⊥) → rounds_to all round ++ round_of some round ≡ rounds_to all round ++ round_of next round
-list_else all some next round block more off = sym (ap (λ x. rounds_to all round ++ round_of x round) more ∙ sent_same all some round block (ne_eqb (round % (8 / block.often)) 0 off))
+pub list_else : (all some next : List Block) (round : ℕ) (block : Block) → next ≡ some ++ block ∷ [] →
+    (round % (8 / block.often) ≡ 0 → ⊥) → rounds_to all round ++ round_of some round ≡ rounds_to all round ++ round_of next round
+list_else all some next round block more off = sym
+    (ap (λ x. rounds_to all round ++ round_of x round) more
+    ∙ sent_same all some round block (ne_eqb (round % (8 / block.often)) 0 off))
 
 -- the program's blocks, one more
-pub seen_next : (blocks : List PageBlock) (i : ℕ) (block : PageBlock) → i < length blocks → block ≡ get_or blocks i block → map seen (take (i + 1) blocks) ≡ map seen (take i blocks) ++ seen block ∷ []
+pub seen_next : (blocks : List PageBlock) (i : ℕ) (block : PageBlock) → i < length blocks → block ≡ get_or blocks i block →
+    map seen (take (i + 1) blocks) ≡ map seen (take i blocks) ++ seen block ∷ []
 seen_next blocks i block lt is =
-    ap (map seen) (take_more blocks i block lt) ∙ map-append seen (take i blocks) (get_or blocks i block ∷ []) ∙ ap (λ x. map seen (take i blocks) ++ seen x ∷ []) (sym is)
+    ap (map seen) (take_more blocks i block lt) ∙ map-append seen (take i blocks) (get_or blocks i block ∷ [])
+    ∙ ap (λ x. map seen (take i blocks) ++ seen x ∷ []) (sym is)

@@ -40,12 +40,14 @@ empty_alike values [] same e = ap (λ _. []) same
 empty_alike [] (p ∷ pages) same e = absurd (omega (arith, same))
 empty_alike (v ∷ values) (p ∷ pages) same e = absurd (omega (arith, eqb-true (length (v ∷ values)) 0 (sym e)))
 
-pub some_alike : {A : Type 0} (values : List A) (pages : List Authored) → length values ≡ length pages → false ≡ eqb (length values) 0 → pages ≡ [] → ⊥
+pub some_alike : {A : Type 0} (values : List A) (pages : List Authored) → length values ≡ length pages → false ≡ eqb (length values) 0 →
+    pages ≡ [] → ⊥
 some_alike values (p ∷ pages) same e none = cc
 some_alike [] [] same e none = let f : false ≡ true = e in cc
 some_alike (v ∷ values) [] same e none = omega (arith, same)
 
 -- without pages the bound is two fields
-pub bound_of_none : (late : Bool) (class : Class) (lines : ℕ) (pages : List Authored) → lines ≤ 32 → pages ≡ [] → 65536 < length_bound lines (blocks_sent late class pages) → ⊥
+pub bound_of_none : (late : Bool) (class : Class) (lines : ℕ) (pages : List Authored) → lines ≤ 32 → pages ≡ [] →
+    65536 < length_bound lines (blocks_sent late class pages) → ⊥
 bound_of_none late class lines [] few none long = omega arith
 bound_of_none late class lines (p ∷ pages) few none long = cc

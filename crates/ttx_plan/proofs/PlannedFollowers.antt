@@ -37,9 +37,13 @@ use Rattle.ttx_plan.proofs.UnderHeaders.{authored_at}
 
 -- ---- the queues of a service
 
-have_own : (all some : List Block) → ((queue : ℕ) → has_pages some queue ≡ true → has_pages all queue ≡ true) → AllByRecursion (λ b. has_pages all b.queue ≡ true) some
+have_own : (all some : List Block) → ((queue : ℕ) → has_pages some queue ≡ true → has_pages all queue ≡ true) →
+    AllByRecursion (λ b. has_pages all b.queue ≡ true) some
 have_own all [] more = tt
-have_own all (b ∷ some) more = (more b.queue (or_left (eqb b.queue b.queue) (has_pages some b.queue) (eq-eqb b.queue b.queue refl)), have_own all some (λ queue e. more queue (or_right (eqb b.queue queue) (has_pages some queue) e)))
+have_own all (b ∷ some) more = (
+  more b.queue (or_left (eqb b.queue b.queue) (has_pages some b.queue) (eq-eqb b.queue b.queue refl)),
+  have_own all some (λ queue e. more queue (or_right (eqb b.queue queue) (has_pages some queue) e)),
+)
 
 numbered : LawsBelow → (serial : Bool) (class : Class) (pages : List Authored) → All (IsAuthored serial) pages → (sent : List Block) →
     AllByRecursion (λ b. has_pages sent b.queue ≡ true) (blocks_of class pages) → AllByRecursion (IsNumbered sent) (blocks_of class pages)
@@ -48,20 +52,27 @@ numbered laws serial class (p ∷ pages) a sent used =
     let first : IsAuthored serial p = a 0 p (omega arith) in (
       record {
         number_is = header_number laws (fields_at p.page.id p.page.control (map odd_byte p.page.head) (replicate 8 32))
-            (record { id = first.page.id; control = first.page.control; text = length-map p.page.head odd_byte ∙ first.page.head_length; clock = refl });
+            (record {
+              id = first.page.id;
+              control = first.page.control;
+              text = length-map p.page.head odd_byte ∙ first.page.head_length;
+              clock = refl;
+            });
         used = used.0;
       },
       numbered laws serial class pages (λ k d lt. a (suc k) d (omega arith)) sent used.1,
     )
 
-queue_alternates : LawsBelow → (serial : Bool) (class : Class) (pages : List Authored) → All (IsAuthored serial) pages → (cycle : List (List ℕ)) (l : IsLaidOut pages serial true class cycle) →
+queue_alternates : LawsBelow → (serial : Bool) (class : Class) (pages : List Authored) → All (IsAuthored serial) pages →
+    (cycle : List (List ℕ)) (l : IsLaidOut pages serial true class cycle) →
     (queue : ℕ) → queue < 8 → Alternates (of_queue queue l.slots)
 queue_alternates laws serial class pages a cycle l queue lt =
     let blocks = blocks_of class pages in
     let sent = blocks_sent true class pages in
     let used : AllByRecursion (λ b. has_pages sent b.queue ≡ true) blocks = have_own sent blocks (λ q e. same_queues true blocks q ∙ e) in
     subst Alternates (sym (l.in_queue queue lt))
-    (alternates laws serial sent queue lt [] (rounds_to blocks 8) (rounds_all (IsNumbered sent) blocks 8 (numbered laws serial class pages a sent used)))
+    (alternates laws serial sent queue lt [] (rounds_to blocks 8)
+    (rounds_all (IsNumbered sent) blocks 8 (numbered laws serial class pages a sent used)))
 
 -- ---- headers, by their slots and by how they are read
 
@@ -80,7 +91,9 @@ header_of queue (Sent m packet) e =
 its_number : (page : Id) (x : P.Packet) → S.heads_page page x ≡ true → number_in x ≡ page.page
 its_number page P.Empty e = cc
 its_number page P.Unreadable e = cc
-its_number page (P.Header id control text) e = sym (eqb-true page.page id.page (and_parts (eqb page.mag id.mag) (eqb page.page id.page) (and_parts (eqb page.mag id.mag && eqb page.page id.page) (eqb page.sub id.sub) e).0).1)
+its_number page (P.Header id control text) e = sym
+    (eqb-true page.page id.page (and_parts (eqb page.mag id.mag) (eqb page.page id.page)
+    (and_parts (eqb page.mag id.mag && eqb page.page id.page) (eqb page.sub id.sub) e).0).1)
 its_number page (P.Row mag number text) e = cc
 its_number page (P.Links mag content) e = cc
 its_number page P.Info e = cc
@@ -126,7 +139,8 @@ module _ (laws : LawsBelow) (class : Class) (service : ServiceFields) (cycle : L
   at i lt = ap (λ x. get_or x i []) l.cycle_is ∙ get_or-map bytes_of l.slots i Empty [] lt
 
   heads_at : (i : ℕ) → i < length l.slots → S.heads own.page.id.mag (packet_of (get_or cycle i [])) ≡ heads queue (slot i)
-  heads_at i lt = ap (λ m. S.heads m (packet_of (get_or cycle i []))) mag_is ∙ ap (λ x. S.heads (suc queue) (packet_of x)) (at i lt) ∙ (l.reads i).heads_is queue
+  heads_at i lt = ap (λ m. S.heads m (packet_of (get_or cycle i []))) mag_is ∙ ap (λ x. S.heads (suc queue) (packet_of x)) (at i lt)
+      ∙ (l.reads i).heads_is queue
 
   abbrev place : ℕ
   place = turned (length cycle) h
@@ -141,7 +155,9 @@ module _ (laws : LawsBelow) (class : Class) (service : ServiceFields) (cycle : L
   own_number = ap number (sym (at place within ∙ ap bytes_of here.is)) ∙ its_number own.page.id (packet_of (repeated cycle h)) is
 
   after : HasAfter queue place (number here.packet.bytes) l.slots
-  after = has_after queue l.slots place here.packet (queue_alternates laws service.serial class service.pages c.service_is.pages cycle l queue below) within here.is here.early (λ e. a.page.page (sym own_number ∙ e))
+  after = has_after queue l.slots place here.packet
+      (queue_alternates laws service.serial class service.pages c.service_is.pages cycle l queue below) within here.is here.early
+      (λ e. a.page.page (sym own_number ∙ e))
 
   pub followed : IsFollowed (repeated cycle) own.page.id h
   followed =
@@ -164,7 +180,8 @@ module _ (laws : LawsBelow) (class : Class) (service : ServiceFields) (cycle : L
             (λ e. after.other (ap number (sym (at after.place after.within ∙ ap bytes_of after.at)) ∙ e ∙ sym own_number));
       }
     where
-      back : (by : ℤ) → ((j : ℤ) → turned (length cycle) (j +ℤ by) ≡ turned (length cycle) j) → (k : ℕ) → k < length l.slots → repeated cycle (pos k +ℤ by) ≡ get_or cycle k []
+      back : (by : ℤ) → ((j : ℤ) → turned (length cycle) (j +ℤ by) ≡ turned (length cycle) j) → (k : ℕ) → k < length l.slots →
+          repeated cycle (pos k +ℤ by) ≡ get_or cycle k []
       back by same k lt =
           let small : k < length cycle = omega (arith, size, lt) in
           ap (λ x. get_or cycle x []) (same (pos k) ∙ mod-eq_of_lt small)

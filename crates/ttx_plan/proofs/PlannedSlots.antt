@@ -36,11 +36,13 @@ pub record IsLaidOut (pages : List Authored) (serial late : Bool) (class : Class
   pub reads : (i : ℕ) → Reads pages serial (get_or slots i Empty)
   pub in_queue : (queue : ℕ) → queue < 8 → of_queue queue slots ≡ queue_packets serial (blocks_sent late class pages) queue
   pub head : (i : ℕ) (authored : Authored) → slice_get pages i ≡ Some authored → HoldsHead (block_at class authored) slots
-  pub holds : (i : ℕ) (authored : Authored) → slice_get pages i ≡ Some authored → (bytes : List ℕ) → Splits bytes (rest_of class authored.page) → Holds (block_at class authored) bytes slots
+  pub holds : (i : ℕ) (authored : Authored) → slice_get pages i ≡ Some authored → (bytes : List ℕ) →
+      Splits bytes (rest_of class authored.page) → Holds (block_at class authored) bytes slots
 
 -- ---- blocks of pages
 
-queues_below : (class : Class) (serial : Bool) (pages : List Authored) → All (IsAuthored serial) pages → AllByRecursion (λ block. block.queue < 8) (blocks_of class pages)
+queues_below : (class : Class) (serial : Bool) (pages : List Authored) → All (IsAuthored serial) pages →
+    AllByRecursion (λ block. block.queue < 8) (blocks_of class pages)
 queues_below class serial [] a = tt
 queues_below class serial (p ∷ pages) a =
     let first : IsAuthored serial p = a 0 p (omega arith) in
@@ -48,9 +50,11 @@ queues_below class serial (p ∷ pages) a =
     let high = first.page.id.mag_to in
     (omega arith, queues_below class serial pages (λ k d lt. a (suc k) d (omega arith)))
 
-queue_below : (late : Bool) (class : Class) (serial : Bool) (pages : List Authored) → All (IsAuthored serial) pages → (k : ℕ) (block : Block) → slice_get (blocks_sent late class pages) k ≡ Some block → block.queue < 8
+queue_below : (late : Bool) (class : Class) (serial : Bool) (pages : List Authored) → All (IsAuthored serial) pages →
+    (k : ℕ) (block : Block) → slice_get (blocks_sent late class pages) k ≡ Some block → block.queue < 8
 queue_below late class serial pages a k block e =
-    all_get (λ b. b.queue < 8) (blocks_sent late class pages) k block (order_all (λ b. b.queue < 8) (λ filler b lt. lt) late (blocks_of class pages) (queues_below class serial pages a)) e
+    all_get (λ b. b.queue < 8) (blocks_sent late class pages) k block
+    (order_all (λ b. b.queue < 8) (λ filler b lt. lt) late (blocks_of class pages) (queues_below class serial pages a)) e
 
 -- ---- each page has a block among those that are sent
 
@@ -68,13 +72,16 @@ in_rounds : (blocks : List Block) (n k : ℕ) (block : Block) → slice_get bloc
 in_rounds blocks zero k block e = ap (λ z. slice_get z k) (first_round blocks) ∙ e
 in_rounds blocks (suc n) k block e = get_left (rounds_to blocks (suc n)) (round_of blocks (suc n)) k block (in_rounds blocks n k block e)
 
-pub sent_block : (late : Bool) (class : Class) (pages : List Authored) (i : ℕ) (authored : Authored) → slice_get pages i ≡ Some authored → (filler : Bool) × (slice_get (blocks_sent late class pages) i ≡ Some (led filler (block_at class authored)))
+pub sent_block : (late : Bool) (class : Class) (pages : List Authored) (i : ℕ) (authored : Authored) → slice_get pages i
+    ≡ Some authored → (filler : Bool) × (slice_get (blocks_sent late class pages) i ≡ Some (led filler (block_at class authored)))
 sent_block late class pages i authored e =
     let blocks = blocks_of class pages in
-    led_get late [] (rounds_to blocks 8) i (block_at class authored) (in_rounds blocks 7 i (block_at class authored) (get_map (block_at class) pages i authored e))
+    led_get late [] (rounds_to blocks 8) i (block_at class authored)
+    (in_rounds blocks 7 i (block_at class authored) (get_map (block_at class) pages i authored e))
 
 -- a service with pages has a block that is sent
-pub some_sent : (late : Bool) (class : Class) (pages : List Authored) (sent : List SentBlock) → map seen_sent sent ≡ blocks_sent late class pages → (pages ≡ [] → ⊥) → 0 < length sent
+pub some_sent : (late : Bool) (class : Class) (pages : List Authored) (sent : List SentBlock) → map seen_sent sent
+    ≡ blocks_sent late class pages → (pages ≡ [] → ⊥) → 0 < length sent
 some_sent late class [] sent e some = absurd (some refl)
 some_sent late class (p ∷ pages) sent e some =
     let one = get_within (blocks_sent late class (p ∷ pages)) 0 _ (sent_block late class (p ∷ pages) 0 p refl).1 in
@@ -89,7 +96,8 @@ unled_head filler block slots h = record { before = h.before; after = h.after; i
 unled : (filler : Bool) (block : Block) (bytes : List ℕ) (slots : List Slot) → Holds (led filler block) bytes slots → Holds block bytes slots
 unled filler block bytes slots h = record { before = h.before; between = h.between; after = h.after; is = h.is; quiet = h.quiet }
 
-pub laid_out : LawsBelow → (serial : Bool) (lines : ℕ) (info : Option InfoFields) (late : Bool) (class : Class) (pages : List Authored) (cycle : List (List ℕ)) → IsSaid info → All (IsAuthored serial) pages →
+pub laid_out : LawsBelow → (serial : Bool) (lines : ℕ) (info : Option InfoFields) (late : Bool) (class : Class) (pages : List Authored)
+    (cycle : List (List ℕ)) → IsSaid info → All (IsAuthored serial) pages →
     CarriesBlocks serial lines (option_map info_bytes info) (blocks_sent late class pages) cycle → IsLaidOut pages serial late class cycle
 laid_out laws true lines info late class pages cycle said a carries =
     let sent = option_map info_bytes info in
@@ -100,8 +108,12 @@ laid_out laws true lines info late class pages cycle said a carries =
       cycle_is = carries;
       in_queue = λ queue lt. serial_queue queue lt lines sent blocks;
       reads = read_there laws pages true slots (serial_read laws lines info late class pages said a);
-      head = λ i authored e. let k = sent_block late class pages i authored e in unled_head k.0 (block_at class authored) slots (serial_head lines sent blocks i (led k.0 (block_at class authored)) k.1);
-      holds = λ i authored e bytes split. let k = sent_block late class pages i authored e in unled k.0 (block_at class authored) bytes slots (serial_holds lines sent blocks i (led k.0 (block_at class authored)) k.1 bytes split);
+      head = λ i authored e. let k = sent_block late class pages i authored e
+          in unled_head k.0 (block_at class authored) slots
+          (serial_head lines sent blocks i (led k.0 (block_at class authored)) k.1);
+      holds = λ i authored e bytes split. let k = sent_block late class pages i authored e
+          in unled k.0 (block_at class authored) bytes slots
+          (serial_holds lines sent blocks i (led k.0 (block_at class authored)) k.1 bytes split);
     }
 laid_out laws false lines info late class pages cycle said a carries =
     let sent = option_map info_bytes info in
@@ -110,19 +122,26 @@ laid_out laws false lines info late class pages cycle said a carries =
     let slots = timed carries.before ++ replicate n Empty in
     record {
       slots = timed carries.before ++ replicate n Empty;
-      cycle_is = carries.cycle_is ∙ ap (λ z. z ++ replicate n (replicate 42 0)) (timed_bytes carries.before) ∙ ap (λ z. map bytes_of (timed carries.before) ++ z) (empties n) ∙ sym (map-append bytes_of (timed carries.before) (replicate n Empty));
+      cycle_is = carries.cycle_is ∙ ap (λ z. z ++ replicate n (replicate 42 0)) (timed_bytes carries.before)
+          ∙ ap (λ z. map bytes_of (timed carries.before) ++ z) (empties n)
+          ∙ sym (map-append bytes_of (timed carries.before) (replicate n Empty));
       in_queue = λ queue lt. queue_filled queue n (timed carries.before) ∙ all_of_queue lines sent blocks cycle carries queue lt;
       reads = read_there laws pages false (timed carries.before ++ replicate n Empty)
-          (all_append (Reads pages false) (timed carries.before) (replicate n Empty) (timed_all (Reads pages false) carries.before (parallel_read laws lines info late class pages said a carries.before carries.turns))
+          (all_append (Reads pages false) (timed carries.before) (replicate n Empty)
+          (timed_all (Reads pages false) carries.before
+          (parallel_read laws lines info late class pages said a carries.before carries.turns))
           (all_replicate (Reads pages false) n Empty (empty_slot laws pages false)));
       head = λ i authored e.
           let k = sent_block late class pages i authored e in
           let block = led k.0 (block_at class authored) in
-          unled_head k.0 (block_at class authored) slots (parallel_head lines sent blocks cycle carries i block k.1 (queue_below late class false pages a i block k.1) n);
+          unled_head k.0 (block_at class authored) slots
+          (parallel_head lines sent blocks cycle carries i block k.1 (queue_below late class false pages a i block k.1) n);
       holds = λ i authored e bytes split.
           let k = sent_block late class pages i authored e in
           let block = led k.0 (block_at class authored) in
-          unled k.0 (block_at class authored) bytes slots (parallel_holds lines sent blocks cycle carries i block k.1 (queue_below late class false pages a i block k.1) bytes split n);
+          unled k.0 (block_at class authored) bytes slots
+          (parallel_holds lines sent blocks cycle carries i block k.1
+          (queue_below late class false pages a i block k.1) bytes split n);
     }
   where
     empties : (n : ℕ) → replicate n (bytes_of Empty) ≡ map bytes_of (replicate n Empty)
@@ -135,12 +154,14 @@ splits_left : {A : Type 0} (x : A) (xs ys : List A) → Splits x xs → Splits x
 splits_left x xs ys s = record { before = s.before; after = s.after ++ ys; is = ap (λ z. z ++ ys) s.is ∙ append_assoc s.before (x ∷ s.after) ys }
 
 splits_right : {A : Type 0} (x : A) (xs ys : List A) → Splits x ys → Splits x (xs ++ ys)
-splits_right x xs ys s = record { before = xs ++ s.before; after = s.after; is = ap (λ z. xs ++ z) s.is ∙ sym (append_assoc xs s.before (x ∷ s.after)) }
+splits_right x xs ys s = record
+    { before = xs ++ s.before; after = s.after; is = ap (λ z. xs ++ z) s.is ∙ sym (append_assoc xs s.before (x ∷ s.after)) }
 
 splits_if : {A : Type 0} (b : Bool) (x : A) → b ≡ true → Splits x (cond b (x ∷ []) [])
 splits_if b x e = record { before = []; after = []; is = cond-true b (x ∷ []) [] e }
 
-in_rows : (class : Class) (p : Page) (n r : ℕ) → 1 ≤ r → r ≤ n → is_sent_to class p (TheRow r) ≡ true → Splits (page_row_bytes p r) (sent_rows class p n)
+in_rows : (class : Class) (p : Page) (n r : ℕ) → 1 ≤ r → r ≤ n → is_sent_to class p (TheRow r) ≡ true →
+    Splits (page_row_bytes p r) (sent_rows class p n)
 in_rows class p zero r from to e = absurd (omega arith)
 in_rows class p (suc n) r from to e =
     let last = cond (is_sent_to class p (TheRow (suc n))) (page_row_bytes p (suc n) ∷ []) [] in
@@ -149,11 +170,17 @@ in_rows class p (suc n) r from to e =
       | inr ge ↦
           let q : r ≡ suc n = omega arith in
           splits_right (page_row_bytes p r) (sent_rows class p n) last
-          (subst (λ x. Splits (page_row_bytes p x) last) (sym q) (splits_if (is_sent_to class p (TheRow (suc n))) (page_row_bytes p (suc n)) (ap (λ x. is_sent_to class p (TheRow x)) (sym q) ∙ e)))
+          (subst (λ x. Splits (page_row_bytes p x) last) (sym q)
+          (splits_if (is_sent_to class p (TheRow (suc n))) (page_row_bytes p (suc n))
+          (ap (λ x. is_sent_to class p (TheRow x)) (sym q) ∙ e)))
     ]
 
-pub row_in_rest : (class : Class) (p : Page) (r : ℕ) → 1 ≤ r → r ≤ 24 → is_sent_to class p (TheRow r) ≡ true → Splits (page_row_bytes p r) (rest_of class p)
-row_in_rest class p r from to e = splits_left (page_row_bytes p r) (sent_rows class p 24) (cond (is_sent_to class p TheLinks) (page_links_bytes p ∷ []) []) (in_rows class p 24 r from to e)
+pub row_in_rest : (class : Class) (p : Page) (r : ℕ) → 1 ≤ r → r ≤ 24 → is_sent_to class p (TheRow r) ≡ true →
+    Splits (page_row_bytes p r) (rest_of class p)
+row_in_rest class p r from to e = splits_left (page_row_bytes p r) (sent_rows class p 24)
+    (cond (is_sent_to class p TheLinks) (page_links_bytes p ∷ []) []) (in_rows class p 24 r from to e)
 
 pub links_in_rest : (class : Class) (p : Page) → is_sent_to class p TheLinks ≡ true → Splits (page_links_bytes p) (rest_of class p)
-links_in_rest class p e = splits_right (page_links_bytes p) (sent_rows class p 24) (cond (is_sent_to class p TheLinks) (page_links_bytes p ∷ []) []) (splits_if (is_sent_to class p TheLinks) (page_links_bytes p) e)
+links_in_rest class p e = splits_right (page_links_bytes p) (sent_rows class p 24)
+    (cond (is_sent_to class p TheLinks) (page_links_bytes p ∷ []) [])
+    (splits_if (is_sent_to class p TheLinks) (page_links_bytes p) e)

@@ -93,7 +93,8 @@ links_no_header : (mag : ℕ) (content : Option LinkSet) (id : Id) (control : �
 links_no_header mag content id control text e = cc
 
 -- the fields of a header are told by its packet
-same_header : (pages : List Authored) (id other : Id) (control bits : ℕ) (text characters : List ℕ) → P.Header id control text ≡ P.Header other bits characters → IsHeadOf pages id control text → IsHeadOf pages other bits characters
+same_header : (pages : List Authored) (id other : Id) (control bits : ℕ) (text characters : List ℕ) → P.Header id control text
+    ≡ P.Header other bits characters → IsHeadOf pages id control text → IsHeadOf pages other bits characters
 same_header pages id other control bits text characters e h =
     let a : id ≡ other = cc in
     let b : control ≡ bits = cc in
@@ -109,10 +110,12 @@ not_or true b e = absurd (apart (sym e))
 not_or false b e = refl
 
 -- a slot of an address of code words whose number isn't that of a header, nor of a packet 27 without a code word in byte 2
-addressed_clean : (slot : List ℕ) (number : ℕ) → are_words (slice_range slot 0 2) ≡ true → read_number slot ≡ number → (number ≡ 0 → ⊥) → (not (eqb (read_number slot) 27) || is_word (slice_index slot 2)) ≡ true → is_clean slot ≡ true
+addressed_clean : (slot : List ℕ) (number : ℕ) → are_words (slice_range slot 0 2) ≡ true → read_number slot ≡ number →
+    (number ≡ 0 → ⊥) → (not (eqb (read_number slot) 27) || is_word (slice_index slot 2)) ≡ true → is_clean slot ≡ true
 unfolding is_clean
 addressed_clean slot number words e ne links =
-    or_right (is_empty slot) _ (and_from _ _ (and_from _ _ words (not_or (eqb (read_number slot) 0) _ (ne_eqb (read_number slot) 0 (λ z. ne (sym e ∙ z))))) links)
+    or_right (is_empty slot) _ (and_from _ _
+    (and_from _ _ words (not_or (eqb (read_number slot) 0) _ (ne_eqb (read_number slot) 0 (λ z. ne (sym e ∙ z))))) links)
 
 pub empty_slot : LawsBelow → (pages : List Authored) (serial : Bool) → Reads pages serial Empty
 empty_slot laws pages serial =
@@ -126,7 +129,8 @@ empty_slot laws pages serial =
       parallel = λ p mag. ap (S.ends_serial mag) e;
     }
 
-pub info_slot : LawsBelow → (pages : List Authored) (serial : Bool) (f : InfoFields) → IsInfoFields f → IsLink f.initial → Reads pages serial (Info (info_bytes f))
+pub info_slot : LawsBelow → (pages : List Authored) (serial : Bool) (f : InfoFields) → IsInfoFields f → IsLink f.initial →
+    Reads pages serial (Info (info_bytes f))
 info_slot laws pages serial f ranges link =
     let e : packet_of (info_bytes f) ≡ P.Info = packet_from (info_bytes f) IsInfo ((laws.info f ranges link).kind) in
     record {
@@ -138,8 +142,10 @@ info_slot laws pages serial f ranges link =
       parallel = λ p mag. ap (S.ends_serial mag) e;
     }
 
-header_reads : (pages : List Authored) (serial : Bool) (queue : ℕ) (packet : Packet) (id : Id) (control : ℕ) (text : List ℕ) → is_row_or_links packet.kind ≡ false → id.mag ≡ suc queue → c11 control ≡ serial →
-    packet_of packet.bytes ≡ P.Header id control text → is_clean packet.bytes ≡ true → IsHeadOf pages id control text → Reads pages serial (Sent queue packet)
+header_reads : (pages : List Authored) (serial : Bool) (queue : ℕ) (packet : Packet) (id : Id) (control : ℕ) (text : List ℕ) →
+    is_row_or_links packet.kind ≡ false → id.mag ≡ suc queue → c11 control ≡ serial →
+    packet_of packet.bytes ≡ P.Header id control text → is_clean packet.bytes ≡ true → IsHeadOf pages id control text →
+    Reads pages serial (Sent queue packet)
 header_reads pages serial queue packet id control text early mag_is c e clean own = record {
   clean = clean;
   head_is = λ other bits characters h. same_header pages id other control bits text characters (sym e ∙ h) own;
@@ -161,13 +167,20 @@ header_reads pages serial queue packet id control text early mag_is c e clean ow
 late_heads : (queue m : ℕ) (packet : Packet) → is_row_or_links packet.kind ≡ true → (eqb queue m && not (is_row_or_links packet.kind)) ≡ false
 late_heads queue m packet late = ap (λ b. eqb queue m && not b) late ∙ and-false (eqb queue m)
 
-row_reads : (pages : List Authored) (serial : Bool) (queue : ℕ) (packet : Packet) (mag number : ℕ) (text : List ℕ) → is_row_or_links packet.kind ≡ true → mag ≡ suc queue →
+row_reads : (pages : List Authored) (serial : Bool) (queue : ℕ) (packet : Packet) (mag number : ℕ) (text : List ℕ) →
+    is_row_or_links packet.kind ≡ true → mag ≡ suc queue →
     packet_of packet.bytes ≡ P.Row mag number text → is_clean packet.bytes ≡ true → Reads pages serial (Sent queue packet)
 row_reads pages serial queue packet mag number text late mag_is e clean = record {
   clean = clean;
   head_is = λ id control characters h. absurd (row_no_header mag number text id control characters (sym e ∙ h));
   heads_is = λ m. ap (S.heads (suc m)) e ∙ sym (late_heads queue m packet late);
-  late_is = λ m item c. record { queue = queue; packet = packet; mag_is = carried m item (sym (ap (S.carries m item) e) ∙ c); slot_is = refl; late = late };
+  late_is = λ m item c. record {
+    queue = queue;
+    packet = packet;
+    mag_is = carried m item (sym (ap (S.carries m item) e) ∙ c);
+    slot_is = refl;
+    late = late;
+  };
   quiet = λ m off. ap (S.ends_serial m) e;
   parallel = λ p m. ap (S.ends_serial m) e;
 }
@@ -177,13 +190,20 @@ row_reads pages serial queue packet mag number text late mag_is e clean = record
     carried m (TheRow r) c = sym (eqb-true mag m ((and_parts (eqb mag m) (eqb number r) c).0)) ∙ mag_is
     carried m TheLinks c = absurd (apart c)
 
-links_reads : (pages : List Authored) (serial : Bool) (queue : ℕ) (packet : Packet) (mag : ℕ) (content : Option LinkSet) → is_row_or_links packet.kind ≡ true → mag ≡ suc queue →
+links_reads : (pages : List Authored) (serial : Bool) (queue : ℕ) (packet : Packet) (mag : ℕ) (content : Option LinkSet) →
+    is_row_or_links packet.kind ≡ true → mag ≡ suc queue →
     packet_of packet.bytes ≡ P.Links mag content → is_clean packet.bytes ≡ true → Reads pages serial (Sent queue packet)
 links_reads pages serial queue packet mag content late mag_is e clean = record {
   clean = clean;
   head_is = λ id control characters h. absurd (links_no_header mag content id control characters (sym e ∙ h));
   heads_is = λ m. ap (S.heads (suc m)) e ∙ sym (late_heads queue m packet late);
-  late_is = λ m item c. record { queue = queue; packet = packet; mag_is = carried m item (sym (ap (S.carries m item) e) ∙ c); slot_is = refl; late = late };
+  late_is = λ m item c. record {
+    queue = queue;
+    packet = packet;
+    mag_is = carried m item (sym (ap (S.carries m item) e) ∙ c);
+    slot_is = refl;
+    late = late;
+  };
   quiet = λ m off. ap (S.ends_serial m) e;
   parallel = λ p m. ap (S.ends_serial m) e;
 }
@@ -193,27 +213,34 @@ links_reads pages serial queue packet mag content late mag_is e clean = record {
     carried m (TheRow r) c = absurd (apart c)
     carried m TheLinks c = sym (eqb-true mag m c) ∙ mag_is
 
-pub header_slot : LawsBelow → (pages : List Authored) (serial : Bool) (queue : ℕ) (packet : Packet) (h : HeaderFields) → IsHeaderFields h → packet.bytes ≡ header_bytes h → is_row_or_links packet.kind ≡ false →
-    h.id.mag ≡ suc queue → c11 h.control ≡ serial → ((text : List ℕ) → take 24 text ≡ h.text → IsHeadOf pages h.id h.control text) → Reads pages serial (Sent queue packet)
+pub header_slot : LawsBelow → (pages : List Authored) (serial : Bool) (queue : ℕ) (packet : Packet) (h : HeaderFields) →
+    IsHeaderFields h → packet.bytes ≡ header_bytes h → is_row_or_links packet.kind ≡ false →
+    h.id.mag ≡ suc queue → c11 h.control ≡ serial → ((text : List ℕ) → take 24 text ≡ h.text → IsHeadOf pages h.id h.control text) →
+    Reads pages serial (Sent queue packet)
 header_slot laws pages serial queue packet h ranges bytes early mag_is c own =
     let w = laws.header h ranges in
     header_reads pages serial queue packet (id_of (header_bytes h)) (control_of (header_bytes h)) (drop 10 (header_bytes h)) early
     (ap (λ f. f.id.mag) w.fields ∙ mag_is) (ap (λ f. c11 f.control) w.fields ∙ c)
     (ap packet_of bytes ∙ packet_from (header_bytes h) (IsHeader h.id.mag) w.kind) (ap is_clean bytes ∙ w.clean)
-    (subst (λ f. IsHeadOf pages f.id f.control (drop 10 (header_bytes h))) (sym w.fields) (own (drop 10 (header_bytes h)) (ap (λ f. f.text) w.fields)))
+    (subst (λ f. IsHeadOf pages f.id f.control (drop 10 (header_bytes h))) (sym w.fields)
+    (own (drop 10 (header_bytes h)) (ap (λ f. f.text) w.fields)))
 
 pub row_kind : (slot : List ℕ) (mag number : ℕ) → 1 ≤ number → number ≤ 24 → packet_kind slot mag number ≡ IsRow mag number
 unfolding packet_kind
-row_kind slot mag number from to = cond-false (eqb number 0) _ _ (ne_eqb number 0 (λ e. omega (arith, e, from))) ∙ cond-true (leb number 24) _ _ (le-leb number 24 to)
+row_kind slot mag number from to = cond-false (eqb number 0) _ _ (ne_eqb number 0 (λ e. omega (arith, e, from)))
+    ∙ cond-true (leb number 24) _ _ (le-leb number 24 to)
 
-pub row_slot : LawsBelow → (pages : List Authored) (serial : Bool) (queue : ℕ) (packet : Packet) (mag number : ℕ) (rest : List ℕ) → 1 ≤ mag → mag ≤ 8 → 1 ≤ number → number ≤ 24 →
+pub row_slot : LawsBelow → (pages : List Authored) (serial : Bool) (queue : ℕ) (packet : Packet) (mag number : ℕ) (rest : List ℕ) → 1
+    ≤ mag → mag ≤ 8 → 1 ≤ number → number ≤ 24 →
     packet.bytes ≡ address_bytes mag number ++ rest → is_row_or_links packet.kind ≡ true → mag ≡ suc queue → Reads pages serial (Sent queue packet)
 row_slot laws pages serial queue packet mag number rest low high from to bytes late mag_is =
     let a = laws.address mag number rest low high (omega (arith, to)) in
     row_reads pages serial queue packet mag number (drop 2 (address_bytes mag number ++ rest)) late mag_is
-    (ap packet_of bytes ∙ packet_from (address_bytes mag number ++ rest) (IsRow mag number) (a.kind ∙ row_kind (address_bytes mag number ++ rest) mag number from to))
+    (ap packet_of bytes ∙ packet_from (address_bytes mag number ++ rest) (IsRow mag number)
+    (a.kind ∙ row_kind (address_bytes mag number ++ rest) mag number from to))
     (ap is_clean bytes ∙ addressed_clean (address_bytes mag number ++ rest) number a.words a.numbered (λ z. omega (arith, z, from))
-    (not_or (eqb (read_number (address_bytes mag number ++ rest)) 27) _ (ne_eqb (read_number (address_bytes mag number ++ rest)) 27 (λ z. omega (arith, z, a.numbered, to)))))
+    (not_or (eqb (read_number (address_bytes mag number ++ rest)) 27) _
+    (ne_eqb (read_number (address_bytes mag number ++ rest)) 27 (λ z. omega (arith, z, a.numbered, to)))))
 
 pub links_kind_is : (slot : List ℕ) (mag : ℕ) → reading (slice_index slot 2) ≡ Some 0 → packet_kind slot mag 27 ≡ IsLinks mag
 unfolding packet_kind

@@ -12,13 +12,15 @@ in_rounds often (suc n) w = in_rounds often n w + cond (eqb (n % (8 / often)) 0)
 
 sum_same : (f g : Block → ℕ) (blocks : List Block) → ((b : Block) → f b ≡ g b) → sum_by f blocks ≡ sum_by g blocks
 sum_same f g [] h = refl
-sum_same f g (b ∷ blocks) h = let k : sum_by f blocks ≡ sum_by g blocks = sum_same f g blocks h in omega (arith, h b, sum_by-cons f b blocks, sum_by-cons g b blocks)
+sum_same f g (b ∷ blocks) h = let k : sum_by f blocks ≡ sum_by g blocks = sum_same f g blocks h
+    in omega (arith, h b, sum_by-cons f b blocks, sum_by-cons g b blocks)
 
 sum_filter : (f : Block → ℕ) (p : Block → Bool) (blocks : List Block) → sum_by f (filter p blocks) ≡ sum_by (λ b. cond (p b) (f b) 0) blocks
 sum_filter f p [] = refl
 sum_filter f p (b ∷ blocks) =
     let h : sum_by f (filter p blocks) ≡ sum_by (λ b. cond (p b) (f b) 0) blocks = sum_filter f p blocks in
-    let k : sum_by (λ b. cond (p b) (f b) 0) (b ∷ blocks) ≡ cond (p b) (f b) 0 + sum_by (λ b. cond (p b) (f b) 0) blocks = sum_by-cons (λ b. cond (p b) (f b) 0) b blocks in
+    let k : sum_by (λ b. cond (p b) (f b) 0) (b ∷ blocks) ≡ cond (p b) (f b) 0 + sum_by (λ b. cond (p b) (f b) 0) blocks =
+    sum_by-cons (λ b. cond (p b) (f b) 0) b blocks in
     one (p b) ∙ ap (λ x. cond (p b) (f b) 0 + x) h ∙ sym k
   where
     one : (c : Bool) → sum_by f (cond c (b ∷ filter p blocks) (filter p blocks)) ≡ cond c (f b) 0 + sum_by f (filter p blocks)
@@ -73,7 +75,8 @@ sum_sent f blocks a = sum_rounds f blocks 8 ∙ each blocks a
 
 length_sum : (blocks : List Block) → length blocks ≡ sum_by (λ b. 1) blocks
 length_sum [] = refl
-length_sum (b ∷ blocks) = let h : length blocks ≡ sum_by (λ b. 1) blocks = length_sum blocks in omega (arith, h, sum_by-cons (λ (b : Block). 1) b blocks)
+length_sum (b ∷ blocks) = let h : length blocks ≡ sum_by (λ b. 1) blocks = length_sum blocks
+    in omega (arith, h, sum_by-cons (λ (b : Block). 1) b blocks)
 
 pub count_sent : (blocks : List Block) → AreOften blocks → length (rounds_to blocks 8) ≡ sum_by (λ b. b.often) blocks
 count_sent blocks a =

@@ -38,20 +38,24 @@ of_queue queue (Empty ∷ slots) = of_queue queue slots
 of_queue queue (Info bytes ∷ slots) = of_queue queue slots
 of_queue queue (Sent n packet ∷ slots) = cond (eqb n queue) (packet ∷ of_queue queue slots) (of_queue queue slots)
 
-of_queue_push : (queue : ℕ) (slots : List Slot) (n : ℕ) (packet : Packet) → of_queue queue (slots ++ Sent n packet ∷ []) ≡ cond (eqb n queue) (of_queue queue slots ++ packet ∷ []) (of_queue queue slots)
+of_queue_push : (queue : ℕ) (slots : List Slot) (n : ℕ) (packet : Packet) → of_queue queue (slots ++ Sent n packet ∷ [])
+    ≡ cond (eqb n queue) (of_queue queue slots ++ packet ∷ []) (of_queue queue slots)
 of_queue_push queue [] n packet = refl
 of_queue_push queue (Empty ∷ slots) n packet = of_queue_push queue slots n packet
 of_queue_push queue (Info bytes ∷ slots) n packet = of_queue_push queue slots n packet
-of_queue_push queue (Sent m p ∷ slots) n packet = ap (λ z. cond (eqb m queue) (p ∷ z) z) (of_queue_push queue slots n packet) ∙ by (eqb m queue) (eqb n queue)
+of_queue_push queue (Sent m p ∷ slots) n packet = ap (λ z. cond (eqb m queue) (p ∷ z) z) (of_queue_push queue slots n packet)
+    ∙ by (eqb m queue) (eqb n queue)
   where
-    by : (b c : Bool) → cond b (p ∷ cond c (of_queue queue slots ++ packet ∷ []) (of_queue queue slots)) (cond c (of_queue queue slots ++ packet ∷ []) (of_queue queue slots))
+    by : (b c : Bool) → cond b (p ∷ cond c (of_queue queue slots ++ packet ∷ []) (of_queue queue slots))
+        (cond c (of_queue queue slots ++ packet ∷ []) (of_queue queue slots))
         ≡ cond c (cond b (p ∷ of_queue queue slots) (of_queue queue slots) ++ packet ∷ []) (cond b (p ∷ of_queue queue slots) (of_queue queue slots))
     by true true = refl
     by true false = refl
     by false true = refl
     by false false = refl
 
-of_queue_idle : (queue : ℕ) (slots : List Slot) (slot : Slot) → of_queue queue (slot ∷ []) ≡ [] → of_queue queue (slots ++ slot ∷ []) ≡ of_queue queue slots
+of_queue_idle : (queue : ℕ) (slots : List Slot) (slot : Slot) → of_queue queue (slot ∷ []) ≡ [] → of_queue queue (slots ++ slot ∷ [])
+    ≡ of_queue queue slots
 of_queue_idle queue [] slot e = e
 of_queue_idle queue (Empty ∷ slots) slot e = of_queue_idle queue slots slot e
 of_queue_idle queue (Info bytes ∷ slots) slot e = of_queue_idle queue slots slot e
@@ -61,7 +65,8 @@ packets_timed : (queue : ℕ) (before : List Slot) → packets_by queue before �
 packets_timed queue [] = refl
 packets_timed queue (Empty ∷ before) = packets_timed queue before ∙ sym (of_queue_idle queue (timed before) Empty refl)
 packets_timed queue (Info bytes ∷ before) = packets_timed queue before ∙ sym (of_queue_idle queue (timed before) (Info bytes) refl)
-packets_timed queue (Sent n packet ∷ before) = ap (λ z. cond (eqb n queue) (z ++ packet ∷ []) z) (packets_timed queue before) ∙ sym (of_queue_push queue (timed before) n packet)
+packets_timed queue (Sent n packet ∷ before) = ap (λ z. cond (eqb n queue) (z ++ packet ∷ []) z) (packets_timed queue before)
+    ∙ sym (of_queue_push queue (timed before) n packet)
 
 -- the slot of a packet of a queue
 pub record SplitsSlots (queue : ℕ) (xs : List Packet) (x : Packet) (ys : List Packet) (slots : List Slot) : Type 0 where
@@ -71,10 +76,19 @@ pub record SplitsSlots (queue : ℕ) (xs : List Packet) (x : Packet) (ys : List 
   pub before_is : of_queue queue before ≡ xs
   pub after_is : of_queue queue after ≡ ys
 
-idle_more : (queue : ℕ) (xs : List Packet) (x : Packet) (ys : List Packet) (slot : Slot) (slots : List Slot) → ((more : List Slot) → of_queue queue (slot ∷ more) ≡ of_queue queue more) → SplitsSlots queue xs x ys slots → SplitsSlots queue xs x ys (slot ∷ slots)
-idle_more queue xs x ys slot slots idle s = record { before = slot ∷ s.before; after = s.after; is = ap (λ z. slot ∷ z) s.is; before_is = idle s.before ∙ s.before_is; after_is = s.after_is }
+idle_more : (queue : ℕ) (xs : List Packet) (x : Packet) (ys : List Packet) (slot : Slot) (slots : List Slot) →
+    ((more : List Slot) → of_queue queue (slot ∷ more) ≡ of_queue queue more) → SplitsSlots queue xs x ys slots →
+    SplitsSlots queue xs x ys (slot ∷ slots)
+idle_more queue xs x ys slot slots idle s = record {
+  before = slot ∷ s.before;
+  after = s.after;
+  is = ap (λ z. slot ∷ z) s.is;
+  before_is = idle s.before ∙ s.before_is;
+  after_is = s.after_is;
+}
 
-pub split_slots : (queue : ℕ) (slots : List Slot) (xs : List Packet) (x : Packet) (ys : List Packet) → of_queue queue slots ≡ xs ++ x ∷ ys → SplitsSlots queue xs x ys slots
+pub split_slots : (queue : ℕ) (slots : List Slot) (xs : List Packet) (x : Packet) (ys : List Packet) → of_queue queue slots ≡ xs ++ x
+    ∷ ys → SplitsSlots queue xs x ys slots
 split_slots queue [] xs x ys e = none xs e
   where
     none : (xs : List Packet) → [] ≡ xs ++ x ∷ ys → SplitsSlots queue xs x ys []
@@ -84,11 +98,19 @@ split_slots queue (Empty ∷ slots) xs x ys e = idle_more queue xs x ys Empty sl
 split_slots queue (Info bytes ∷ slots) xs x ys e = idle_more queue xs x ys (Info bytes) slots (λ more. refl) (split_slots queue slots xs x ys e)
 split_slots queue (Sent n p ∷ slots) xs x ys e = by (eqb n queue) refl e (λ zs g. split_slots queue slots zs x ys g)
   where
-    first : eqb n queue ≡ true → (zs : List Packet) → p ∷ of_queue queue slots ≡ zs ++ x ∷ ys → ((ws : List Packet) → of_queue queue slots ≡ ws ++ x ∷ ys → SplitsSlots queue ws x ys slots) → SplitsSlots queue zs x ys (Sent n p ∷ slots)
+    first : eqb n queue ≡ true → (zs : List Packet) → p ∷ of_queue queue slots ≡ zs ++ x ∷ ys →
+        ((ws : List Packet) → of_queue queue slots ≡ ws ++ x ∷ ys → SplitsSlots queue ws x ys slots) →
+        SplitsSlots queue zs x ys (Sent n p ∷ slots)
     first y [] e again =
         let h : p ≡ x = cc in
         let t : of_queue queue slots ≡ ys = cc in
-        record { before = []; after = slots; is = ap (λ m. Sent m p ∷ slots) (eqb-true n queue y) ∙ ap (λ q. Sent queue q ∷ slots) h; before_is = refl; after_is = t }
+        record {
+          before = [];
+          after = slots;
+          is = ap (λ m. Sent m p ∷ slots) (eqb-true n queue y) ∙ ap (λ q. Sent queue q ∷ slots) h;
+          before_is = refl;
+          after_is = t;
+        }
     first y (z ∷ zs) e again =
         let h : p ≡ z = cc in
         let t : of_queue queue slots ≡ zs ++ x ∷ ys = cc in
@@ -97,15 +119,20 @@ split_slots queue (Sent n p ∷ slots) xs x ys e = by (eqb n queue) refl e (λ z
           before = Sent n p ∷ s.before;
           after = s.after;
           is = ap (λ w. Sent n p ∷ w) s.is;
-          before_is = cond-true (eqb n queue) (p ∷ of_queue queue s.before) (of_queue queue s.before) y ∙ ap (λ w. p ∷ w) s.before_is ∙ ap (λ w. w ∷ zs) h;
+          before_is = cond-true (eqb n queue) (p ∷ of_queue queue s.before) (of_queue queue s.before) y ∙ ap (λ w. p ∷ w) s.before_is
+              ∙ ap (λ w. w ∷ zs) h;
           after_is = s.after_is;
         }
 
-    by : (b : Bool) → eqb n queue ≡ b → cond b (p ∷ of_queue queue slots) (of_queue queue slots) ≡ xs ++ x ∷ ys → ((ws : List Packet) → of_queue queue slots ≡ ws ++ x ∷ ys → SplitsSlots queue ws x ys slots) → SplitsSlots queue xs x ys (Sent n p ∷ slots)
+    by : (b : Bool) → eqb n queue ≡ b → cond b (p ∷ of_queue queue slots) (of_queue queue slots) ≡ xs ++ x ∷ ys →
+        ((ws : List Packet) → of_queue queue slots ≡ ws ++ x ∷ ys → SplitsSlots queue ws x ys slots) →
+        SplitsSlots queue xs x ys (Sent n p ∷ slots)
     by true y e again = first y xs e again
-    by false y e again = idle_more queue xs x ys (Sent n p) slots (λ more. ap (λ b. cond b (p ∷ of_queue queue more) (of_queue queue more)) y) (again xs e)
+    by false y e again = idle_more queue xs x ys (Sent n p) slots
+        (λ more. ap (λ b. cond b (p ∷ of_queue queue more) (of_queue queue more)) y) (again xs e)
 
-late_quiet : (queue : ℕ) (slots : List Slot) → AllByRecursion (λ p. is_row_or_links p.kind ≡ true) (of_queue queue slots) → AllByRecursion (λ slot. heads queue slot ≡ false) slots
+late_quiet : (queue : ℕ) (slots : List Slot) → AllByRecursion (λ p. is_row_or_links p.kind ≡ true) (of_queue queue slots) →
+    AllByRecursion (λ slot. heads queue slot ≡ false) slots
 late_quiet queue [] a = tt
 late_quiet queue (Empty ∷ slots) a = (refl, late_quiet queue slots a)
 late_quiet queue (Info bytes ∷ slots) a = (refl, late_quiet queue slots a)
@@ -123,7 +150,8 @@ all_rest : (rows : List (List ℕ)) → AllByRecursion (λ p. is_row_or_links p.
 all_rest [] = tt
 all_rest (bytes ∷ rows) = (refl, all_rest rows)
 
-queue_stands : (blocks : List Block) (k : ℕ) (block : Block) → slice_get blocks k ≡ Some block → Stands (page_packets block) (queue_packets false blocks block.queue)
+queue_stands : (blocks : List Block) (k : ℕ) (block : Block) → slice_get blocks k ≡ Some block →
+    Stands (page_packets block) (queue_packets false blocks block.queue)
 queue_stands blocks k block e =
     let queue = block.queue in
     let s = stands_in (in_queue queue) blocks k block e in
@@ -134,38 +162,51 @@ queue_stands blocks k block e =
     record {
       before = s.before ++ filler;
       after = s.after ++ filling;
-      is = ap (λ z. z ++ filling) (s.is ∙ ap (λ z. s.before ++ (z ++ s.after)) own ∙ ap (λ z. s.before ++ z) (append_assoc filler page s.after) ∙ sym (append_assoc s.before filler (page ++ s.after)))
+      is = ap (λ z. z ++ filling) (s.is ∙ ap (λ z. s.before ++ (z ++ s.after)) own
+          ∙ ap (λ z. s.before ++ z) (append_assoc filler page s.after) ∙ sym (append_assoc s.before filler (page ++ s.after)))
           ∙ append_assoc (s.before ++ filler) (page ++ s.after) filling ∙ ap (λ z. (s.before ++ filler) ++ z) (append_assoc page s.after filling);
     }
 
-module _ (lines : ℕ) (info : Option (List ℕ)) (blocks : List Block) (cycle : List (List ℕ)) (p : IsParallel (magazines_for lines info blocks) cycle) where
+module _ (lines : ℕ) (info : Option (List ℕ)) (blocks : List Block) (cycle : List (List ℕ))
+    (p : IsParallel (magazines_for lines info blocks) cycle) where
   pub all_of_queue : (queue : ℕ) → queue < 8 → of_queue queue (timed p.before) ≡ queue_packets false blocks queue
   all_of_queue queue lt =
       let q = queue_at_is blocks queue lt in
       sym (packets_timed queue p.before) ∙ in_order (magazines_for lines info blocks) p.before p.turns queue
-      ∙ ap (λ n. take n (queue_of (magazines_for lines info blocks) queue)) (p.all_sent queue lt) ∙ take-length (queue_of (magazines_for lines info blocks) queue) ∙ q
+      ∙ ap (λ n. take n (queue_of (magazines_for lines info blocks) queue)) (p.all_sent queue lt)
+      ∙ take-length (queue_of (magazines_for lines info blocks) queue) ∙ q
 
-  split_head : (k : ℕ) (block : Block) → slice_get blocks k ≡ Some block → block.queue < 8 → (xs ys : List Packet) × SplitsSlots block.queue xs (head_of block) (map rest_packet block.rest ++ ys) (timed p.before)
+  split_head : (k : ℕ) (block : Block) → slice_get blocks k ≡ Some block → block.queue < 8 → (xs ys : List Packet)
+      × SplitsSlots block.queue xs (head_of block) (map rest_packet block.rest ++ ys) (timed p.before)
   split_head k block e lt =
-      let s = queue_stands blocks k block e in
-      (s.before, s.after, split_slots block.queue (timed p.before) s.before (head_of block) (map rest_packet block.rest ++ s.after) (all_of_queue block.queue lt ∙ s.is))
+      let s = queue_stands blocks k block e in (
+        s.before,
+        s.after,
+        split_slots block.queue (timed p.before) s.before (head_of block) (map rest_packet block.rest ++ s.after)
+            (all_of_queue block.queue lt ∙ s.is),
+      )
 
-  pub parallel_head : (k : ℕ) (block : Block) → slice_get blocks k ≡ Some block → block.queue < 8 → (n : ℕ) → HoldsHead block (timed p.before ++ replicate n Empty)
+  pub parallel_head : (k : ℕ) (block : Block) → slice_get blocks k ≡ Some block → block.queue < 8 → (n : ℕ) →
+      HoldsHead block (timed p.before ++ replicate n Empty)
   parallel_head k block e lt n =
       let s = (split_head k block e lt).2 in
       head_more block [] (timed p.before) (replicate n Empty) (record { before = s.before; after = s.after; is = s.is })
 
-  pub parallel_holds : (k : ℕ) (block : Block) → slice_get blocks k ≡ Some block → block.queue < 8 → (bytes : List ℕ) → Splits bytes block.rest → (n : ℕ) → Holds block bytes (timed p.before ++ replicate n Empty)
+  pub parallel_holds : (k : ℕ) (block : Block) → slice_get blocks k ≡ Some block → block.queue < 8 → (bytes : List ℕ) →
+      Splits bytes block.rest → (n : ℕ) → Holds block bytes (timed p.before ++ replicate n Empty)
   parallel_holds k block e lt bytes split n =
       let r = split_head k block e lt in
       let s = r.2 in
       let list : map rest_packet block.rest ++ r.1 ≡ map rest_packet split.before ++ rest_packet bytes ∷ (map rest_packet split.after ++ r.1) =
-      ap (λ z. z ++ r.1) (ap (map rest_packet) split.is ∙ map-append rest_packet split.before (bytes ∷ split.after)) ∙ append_assoc (map rest_packet split.before) (rest_packet bytes ∷ map rest_packet split.after) r.1 in
-      let t = split_slots block.queue s.after (map rest_packet split.before) (rest_packet bytes) (map rest_packet split.after ++ r.1) (s.after_is ∙ list) in
+      ap (λ z. z ++ r.1) (ap (map rest_packet) split.is ∙ map-append rest_packet split.before (bytes ∷ split.after))
+      ∙ append_assoc (map rest_packet split.before) (rest_packet bytes ∷ map rest_packet split.after) r.1 in
+      let t = split_slots block.queue s.after (map rest_packet split.before) (rest_packet bytes) (map rest_packet split.after ++ r.1)
+      (s.after_is ∙ list) in
       holds_more block bytes [] (timed p.before) (replicate n Empty) (record {
         before = s.before;
         between = t.before;
         after = t.after;
         is = s.is ∙ ap (λ z. s.before ++ Sent block.queue (head_of block) ∷ z) t.is;
-        quiet = late_quiet block.queue t.before (subst (AllByRecursion (λ p. is_row_or_links p.kind ≡ true)) (sym t.before_is) (all_rest split.before));
+        quiet = late_quiet block.queue t.before
+            (subst (AllByRecursion (λ p. is_row_or_links p.kind ≡ true)) (sym t.before_is) (all_rest split.before));
       })

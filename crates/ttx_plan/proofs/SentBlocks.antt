@@ -16,19 +16,23 @@ pub rounds_all : (P : Block → Type 0) (blocks : List Block) (n : ℕ) → AllB
 rounds_all P blocks zero a = tt
 rounds_all P blocks (suc n) a = all_append P (rounds_to blocks n) (round_of blocks n) (rounds_all P blocks n a) (all_filter P _ blocks a)
 
-pub led_all : (P : Block → Type 0) → ((filler : Bool) (block : Block) → P block → P (led filler block)) → (late : Bool) (before blocks : List Block) → AllByRecursion P blocks → AllByRecursion P (with_fillers late before blocks)
+pub led_all : (P : Block → Type 0) → ((filler : Bool) (block : Block) → P block → P (led filler block)) →
+    (late : Bool) (before blocks : List Block) → AllByRecursion P blocks → AllByRecursion P (with_fillers late before blocks)
 led_all P keeps late before [] a = tt
 led_all P keeps late before (block ∷ blocks) a = (keeps _ block a.0, led_all P keeps late (block ∷ before) blocks a.1)
 
 -- what a time-filling header doesn't change holds of the blocks that are sent
-pub order_all : (P : Block → Type 0) → ((filler : Bool) (block : Block) → P block → P (led filler block)) → (late : Bool) (blocks : List Block) → AllByRecursion P blocks → AllByRecursion P (sent_blocks late blocks)
+pub order_all : (P : Block → Type 0) → ((filler : Bool) (block : Block) → P block → P (led filler block)) →
+    (late : Bool) (blocks : List Block) → AllByRecursion P blocks → AllByRecursion P (sent_blocks late blocks)
 order_all P keeps late blocks a = led_all P keeps late [] (rounds_to blocks 8) (rounds_all P blocks 8 a)
 
 -- ---- a block by its place
 
-pub led_get : (late : Bool) (before blocks : List Block) (k : ℕ) (block : Block) → slice_get blocks k ≡ Some block → (filler : Bool) × (slice_get (with_fillers late before blocks) k ≡ Some (led filler block))
+pub led_get : (late : Bool) (before blocks : List Block) (k : ℕ) (block : Block) → slice_get blocks k ≡ Some block → (filler : Bool)
+    × (slice_get (with_fillers late before blocks) k ≡ Some (led filler block))
 led_get late before [] k block e = let f : None ≡ Some block = e in cc
-led_get late before (b ∷ blocks) zero block e = let f : Some b ≡ Some block = e in let g : b ≡ block = cc in let filler = late && eqb (latest b.queue before) b.page in (filler, ap (λ x. Some (led (late && eqb (latest b.queue before) b.page) x)) g)
+led_get late before (b ∷ blocks) zero block e = let f : Some b ≡ Some block = e in let g : b ≡ block = cc in let filler = late
+    && eqb (latest b.queue before) b.page in (filler, ap (λ x. Some (led (late && eqb (latest b.queue before) b.page) x)) g)
 led_get late before (b ∷ blocks) (suc k) block e = led_get late (b ∷ before) blocks k block e
 
 -- ---- the first round has all
@@ -57,7 +61,8 @@ any_filter : (p test : Block → Bool) (xs : List Block) → list_any p (filter 
 any_filter p test [] e = e
 any_filter p test (x ∷ xs) e = by (test x) (p x) e (any_filter p test xs)
   where
-    by : (t b : Bool) → list_any p (cond t (x ∷ filter test xs) (filter test xs)) ≡ true → (list_any p (filter test xs) ≡ true → list_any p xs ≡ true) → (p x || list_any p xs) ≡ true
+    by : (t b : Bool) → list_any p (cond t (x ∷ filter test xs) (filter test xs)) ≡ true →
+        (list_any p (filter test xs) ≡ true → list_any p xs ≡ true) → (p x || list_any p xs) ≡ true
     by true b e again = head (p x) e
       where
         head : (c : Bool) → (c || list_any p (filter test xs)) ≡ true → (c || list_any p xs) ≡ true
@@ -89,7 +94,8 @@ same_queues late blocks queue = any_led late [] (rounds_to blocks 8) queue ∙ a
 
 pub same_used : (late : Bool) (blocks : List Block) (n : ℕ) → used_to (sent_blocks late blocks) n ≡ used_to blocks n
 same_used late blocks zero = refl
-same_used late blocks (suc n) = ap (λ x. x ++ cond (has_pages (sent_blocks late blocks) n) (n ∷ []) []) (same_used late blocks n) ∙ ap (λ b. used_to blocks n ++ cond b (n ∷ []) []) (same_queues late blocks n)
+same_used late blocks (suc n) = ap (λ x. x ++ cond (has_pages (sent_blocks late blocks) n) (n ∷ []) []) (same_used late blocks n)
+    ∙ ap (λ b. used_to blocks n ++ cond b (n ∷ []) []) (same_queues late blocks n)
 
 -- ---- how many there are
 
@@ -97,9 +103,17 @@ pub led_length : (late : Bool) (before blocks : List Block) → length (with_fil
 led_length late before [] = refl
 led_length late before (b ∷ blocks) = ap suc (led_length late (b ∷ before) blocks)
 
-pub led_packets : (late : Bool) (before blocks : List Block) → packets_in (with_fillers late before blocks) ≡ sum_by (λ b. length b.rest + 1) blocks + fillers_in (with_fillers late before blocks)
+pub led_packets : (late : Bool) (before blocks : List Block) → packets_in (with_fillers late before blocks)
+    ≡ sum_by (λ b. length b.rest + 1) blocks + fillers_in (with_fillers late before blocks)
 led_packets late before [] = refl
 led_packets late before (b ∷ blocks) =
-    let h : packets_in (with_fillers late (b ∷ before) blocks) ≡ sum_by (λ b. length b.rest + 1) blocks + fillers_in (with_fillers late (b ∷ before) blocks) = led_packets late (b ∷ before) blocks in
+    let h : packets_in (with_fillers late (b ∷ before) blocks) ≡ sum_by (λ b. length b.rest + 1) blocks
+    + fillers_in (with_fillers late (b ∷ before) blocks) = led_packets late (b ∷ before) blocks in
     let first : Block = led (late && eqb (latest b.queue before) b.page) b in
-    omega (arith, h, sum_by-cons (λ (b : Block). length b.rest + 1) b blocks, sum_by-cons (λ (x : Block). cond x.filler 1 0 + (length x.rest + 1)) first (with_fillers late (b ∷ before) blocks), sum_by-cons (λ (x : Block). cond x.filler 1 0) first (with_fillers late (b ∷ before) blocks))
+    omega (
+      arith,
+      h,
+      sum_by-cons (λ (b : Block). length b.rest + 1) b blocks,
+      sum_by-cons (λ (x : Block). cond x.filler 1 0 + (length x.rest + 1)) first (with_fillers late (b ∷ before) blocks),
+      sum_by-cons (λ (x : Block). cond x.filler 1 0) first (with_fillers late (b ∷ before) blocks),
+    )

@@ -33,7 +33,8 @@ use Rattle.ttx_plan.proofs.UnderHeaders.{head_says, row_is, authored_at}
 use Rattle.ttx_plan.proofs.Readable.{LawsBelow}
 
 -- the page at an index of the service
-pub page_there : (pages : List Authored) (n : ℕ) (p : Page) → slice_get (map (λ authored. authored.page) pages) n ≡ Some p → (authored : Authored) × (slice_get pages n ≡ Some authored) × (authored.page ≡ p)
+pub page_there : (pages : List Authored) (n : ℕ) (p : Page) → slice_get (map (λ authored. authored.page) pages) n ≡ Some p →
+    (authored : Authored) × (slice_get pages n ≡ Some authored) × (authored.page ≡ p)
 page_there [] n p e = let f : None ≡ Some p = e in cc
 page_there (a ∷ pages) zero p e = let f : Some a.page ≡ Some p = e in let g : a.page ≡ p = cc in (a, refl, g)
 page_there (a ∷ pages) (suc n) p e = page_there pages n p e
@@ -65,10 +66,13 @@ first_two false b c d e = cc
 
 pub row_numbers : (p : Page) (r : ℕ) → needed p (TheRow r) ≡ true → (1 ≤ r) × (r ≤ 24)
 row_numbers p r e =
-    let two : (leb 1 r ≡ true) × (leb r 24 ≡ true) = first_two (leb 1 r) (leb r 24) (not (c10 p.control)) (cond (eqb r 24) p.links.show24 (not (is_hidden (page_row p) r))) e in
+    let two : (leb 1 r ≡ true) × (leb r 24 ≡ true) =
+    first_two (leb 1 r) (leb r 24) (not (c10 p.control)) (cond (eqb r 24) p.links.show24 (not (is_hidden (page_row p) r))) e
+    in
     (leb-true 1 r two.0, leb-true r 24 two.1)
 
-module _ (laws : LawsBelow) (pages : List Authored) (serial late : Bool) (class : Class) (cycle : List (List ℕ)) (l : IsLaidOut pages serial late class cycle) where
+module _ (laws : LawsBelow) (pages : List Authored) (serial late : Bool) (class : Class) (cycle : List (List ℕ))
+    (l : IsLaidOut pages serial late class cycle) where
   size : length cycle ≡ length l.slots
   size = ap length l.cycle_is ∙ length-map l.slots bytes_of
 
@@ -78,7 +82,9 @@ module _ (laws : LawsBelow) (pages : List Authored) (serial late : Bool) (class 
       ap (λ x. get_or cycle x []) (mod-eq_of_lt small) ∙ ap (λ x. get_or x i []) l.cycle_is ∙ get_or-map bytes_of l.slots i Empty [] lt
 
   module _ (authored : Authored) (a : IsAuthored serial authored) where
-    header_there : (i : ℕ) → i < length l.slots → get_or l.slots i Empty ≡ Sent (authored.page.id.mag - 1) (head_of (block_at class authored)) → heads_page authored.page.id (packet_of (repeated cycle (pos i))) ≡ true
+    header_there : (i : ℕ) → i < length l.slots → get_or l.slots i Empty
+        ≡ Sent (authored.page.id.mag - 1) (head_of (block_at class authored)) →
+        heads_page authored.page.id (packet_of (repeated cycle (pos i))) ≡ true
     header_there i lt e = ap (λ x. heads_page authored.page.id (packet_of x)) (at i lt ∙ ap bytes_of e) ∙ head_says laws serial authored a class
 
     has_header : HoldsHead (block_at class authored) l.slots → HasHeader (repeated cycle) authored.page.id
@@ -87,10 +93,12 @@ module _ (laws : LawsBelow) (pages : List Authored) (serial late : Bool) (class 
         let long = ap length h.is ∙ length-append h.before (head ∷ h.after) in
         record {
           slot = pos (length h.before);
-          is_header = header_there (length h.before) (omega arith) (ap (λ z. get_or z (length h.before) Empty) h.is ∙ get_or_at h.before head h.after Empty (length h.before) refl);
+          is_header = header_there (length h.before) (omega arith)
+              (ap (λ z. get_or z (length h.before) Empty) h.is ∙ get_or_at h.before head h.after Empty (length h.before) refl);
         }
 
-    latest : (bytes : List ℕ) (h : HasPlace (block_at class authored) bytes l.slots) → IsLatestHeader (repeated cycle) authored.page.id.mag (pos h.place) (pos h.slot)
+    latest : (bytes : List ℕ) (h : HasPlace (block_at class authored) bytes l.slots) →
+        IsLatestHeader (repeated cycle) authored.page.id.mag (pos h.place) (pos h.slot)
     latest bytes h = record {
       earlier = omega (arith, ints, h.earlier);
       is_header = heads_its authored.page.id _ (header_there h.place (omega (arith, h.earlier, h.within)) h.header_at);
@@ -109,41 +117,51 @@ module _ (laws : LawsBelow) (pages : List Authored) (serial late : Bool) (class 
     packet_there : (bytes : List ℕ) (h : HasPlace (block_at class authored) bytes l.slots) → repeated cycle (pos h.slot) ≡ bytes
     packet_there bytes h = at h.slot h.within ∙ ap bytes_of h.packet_at
 
-    row_sent : (r : ℕ) (h : HasPlace (block_at class authored) (page_row_bytes authored.page r) l.slots) → 1 ≤ r → r ≤ 24 → IsTransmission (repeated cycle) authored.page.id (TheRow r) (pos h.slot)
+    row_sent : (r : ℕ) (h : HasPlace (block_at class authored) (page_row_bytes authored.page r) l.slots) → 1 ≤ r → r ≤ 24 →
+        IsTransmission (repeated cycle) authored.page.id (TheRow r) (pos h.slot)
     row_sent r h from to = record {
       owner = pos h.place;
       owned = (
         latest (page_row_bytes authored.page r) h,
         header_there h.place (omega (arith, h.earlier, h.within)) h.header_at,
-        ap (λ x. carries authored.page.id.mag (TheRow r) (packet_of x)) (packet_there (page_row_bytes authored.page r) h) ∙ ap (carries authored.page.id.mag (TheRow r)) (row_is laws authored.page a.page r from to)
+        ap (λ x. carries authored.page.id.mag (TheRow r) (packet_of x)) (packet_there (page_row_bytes authored.page r) h)
+            ∙ ap (carries authored.page.id.mag (TheRow r)) (row_is laws authored.page a.page r from to)
             ∙ row_carried authored.page.id.mag r (map odd_byte (page_row authored.page r)),
       );
     }
 
-    links_sent : WrittenLinksAreRead → HasLinks authored.page → (h : HasPlace (block_at class authored) (page_links_bytes authored.page) l.slots) → IsTransmission (repeated cycle) authored.page.id TheLinks (pos h.slot)
+    links_sent : WrittenLinksAreRead → HasLinks authored.page →
+        (h : HasPlace (block_at class authored) (page_links_bytes authored.page) l.slots) →
+        IsTransmission (repeated cycle) authored.page.id TheLinks (pos h.slot)
     links_sent written linked h = record {
       owner = pos h.place;
       owned = (
         latest (page_links_bytes authored.page) h,
         header_there h.place (omega (arith, h.earlier, h.within)) h.header_at,
-        ap (λ x. carries authored.page.id.mag TheLinks (packet_of x)) (packet_there (page_links_bytes authored.page) h) ∙ ap (carries authored.page.id.mag TheLinks) (links_are written authored.page a.page linked).0
+        ap (λ x. carries authored.page.id.mag TheLinks (packet_of x)) (packet_there (page_links_bytes authored.page) h)
+            ∙ ap (carries authored.page.id.mag TheLinks) (links_are written authored.page a.page linked).0
             ∙ eq-eqb authored.page.id.mag authored.page.id.mag refl,
       );
     }
 
-    pub transmitted : WrittenLinksAreRead → HasLinks authored.page → (i : ℕ) → slice_get pages i ≡ Some authored → IsTransmitted class cycle authored.page
+    pub transmitted : WrittenLinksAreRead → HasLinks authored.page → (i : ℕ) → slice_get pages i ≡ Some authored →
+        IsTransmitted class cycle authored.page
     transmitted written linked i listed =
         let header = has_header (l.head i authored listed) in
         record { header = header; items = λ item e. items header i listed item e }
       where
-        items : HasHeader (repeated cycle) authored.page.id → (k : ℕ) → slice_get pages k ≡ Some authored → (item : Item) → is_sent_to class authored.page item ≡ true → (j : ℤ) × IsTransmission (repeated cycle) authored.page.id item j
+        items : HasHeader (repeated cycle) authored.page.id → (k : ℕ) → slice_get pages k ≡ Some authored → (item : Item) →
+            is_sent_to class authored.page item ≡ true → (j : ℤ) × IsTransmission (repeated cycle) authored.page.id item j
         items header k e TheHead sent = (header.slot, record { owner = header.slot; owned = (refl, header.is_header) })
         items header k e (TheRow r) sent =
             let numbers = row_numbers authored.page r (sent_needed class authored.page (TheRow r) sent) in
-            let h = has_place (block_at class authored) (page_row_bytes authored.page r) l.slots (l.holds k authored e (page_row_bytes authored.page r) (row_in_rest class authored.page r numbers.0 numbers.1 sent)) in
+            let h = has_place (block_at class authored) (page_row_bytes authored.page r) l.slots
+            (l.holds k authored e (page_row_bytes authored.page r)
+            (row_in_rest class authored.page r numbers.0 numbers.1 sent)) in
             (pos h.slot, row_sent r h numbers.0 numbers.1)
         items header k e TheLinks sent =
-            let h = has_place (block_at class authored) (page_links_bytes authored.page) l.slots (l.holds k authored e (page_links_bytes authored.page) (links_in_rest class authored.page sent)) in
+            let h = has_place (block_at class authored) (page_links_bytes authored.page) l.slots
+            (l.holds k authored e (page_links_bytes authored.page) (links_in_rest class authored.page sent)) in
             (pos h.slot, links_sent written linked h)
 
 pub planned_items_are_sent : LawsBelow → WrittenLinksAreRead → PlannedItemsAreSent
@@ -151,4 +169,6 @@ planned_items_are_sent laws written late class service cycle c n p e =
     let there = page_there service.pages n p e in
     let l = laid_out laws service.serial service.lines service.info late class service.pages cycle c.said c.service_is.pages c.carries in
     let a = authored_at service.serial service.pages c.service_is.pages n there.0 there.1 in
-    subst (IsTransmitted class cycle) there.2 (transmitted laws service.pages service.serial late class cycle l there.0 a written (c.linked n there.0 there.1) n there.1)
+    subst (IsTransmitted class cycle) there.2
+    (transmitted laws service.pages service.serial late class cycle l there.0 a written
+    (c.linked n there.0 there.1) n there.1)

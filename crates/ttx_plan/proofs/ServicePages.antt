@@ -51,7 +51,8 @@ get_there (y ∷ xs) zero x d lt e = ap Some (sym e)
 get_there (y ∷ xs) (suc i) x d lt e = get_there xs i x d (omega arith) e
 
 -- the page at an index, of values that a function shows as pages
-at_index : {A : Type 0} (view : A → Page) (values : List A) (pages : List Authored) (i often : ℕ) (value : A) → map view values ≡ map (λ p. p.page) pages → slice_get values i ≡ Some value →
+at_index : {A : Type 0} (view : A → Page) (values : List A) (pages : List Authored) (i often : ℕ) (value : A) → map view values
+    ≡ map (λ p. p.page) pages → slice_get values i ≡ Some value →
     option_map (λ p. p.often) (slice_get pages i) ≡ Some often → slice_get pages i ≡ Some (authored_at (view value) often)
 at_index view [] pages i often value same v o = let e : None ≡ Some value = v in cc
 at_index view (x ∷ values) [] i often value same v o = let e : None ≡ Some often = o in cc
@@ -62,13 +63,15 @@ at_index view (x ∷ values) (p ∷ pages) zero often value same v o =
     let so_often : p.often ≡ often = cc in
     let e : view x ∷ map view values ≡ p.page ∷ map (λ p. p.page) pages = same in
     let page : view x ≡ p.page = cc in
-    ap (λ q. Some (authored_at q p.often)) (sym page) ∙ ap (λ q. Some (authored_at (view q) p.often)) is ∙ ap (λ n. Some (authored_at (view value) n)) so_often
+    ap (λ q. Some (authored_at q p.often)) (sym page) ∙ ap (λ q. Some (authored_at (view q) p.often)) is
+    ∙ ap (λ n. Some (authored_at (view value) n)) so_often
 at_index view (x ∷ values) (p ∷ pages) (suc i) often value same v o =
     let e : view x ∷ map view values ≡ p.page ∷ map (λ p. p.page) pages = same in
     let rest : map view values ≡ map (λ p. p.page) pages = cc in
     at_index view values pages i often value rest v o
 
-pub page_at_index : (values : List PageValue) (pages : List Authored) (i often : ℕ) (value : PageValue) → map page_of values ≡ map (λ p. p.page) pages → slice_get values i ≡ Some value →
+pub page_at_index : (values : List PageValue) (pages : List Authored) (i often : ℕ) (value : PageValue) → map page_of values
+    ≡ map (λ p. p.page) pages → slice_get values i ≡ Some value →
     option_map (λ p. p.often) (slice_get pages i) ≡ Some often → slice_get pages i ≡ Some (authored_at (page_of value) often)
 page_at_index = at_index page_of
 
@@ -77,13 +80,15 @@ there [] i x d e = let f : None ≡ Some x = e in cc
 there (y ∷ xs) zero x d e = let f : Some y ≡ Some x = e in let g : y ≡ x = cc in (omega arith, g)
 there (y ∷ xs) (suc i) x d e = let r = there xs i x d e in (omega (arith, r.0), r.1)
 
-pub often_at : (serial : Bool) (pages : List Authored) (i : ℕ) (page : Authored) → All (IsAuthored serial) pages → slice_get pages i ≡ Some page → IsOften page.often
+pub often_at : (serial : Bool) (pages : List Authored) (i : ℕ) (page : Authored) → All (IsAuthored serial) pages → slice_get pages i
+    ≡ Some page → IsOften page.often
 often_at serial pages i page a e =
     let r = there pages i page page e in
     let one : IsAuthored serial page = subst (IsAuthored serial) r.1 (a i page r.0) in
     often_ranges page.often one.often
 
-pub often_there : (serial : Bool) (pages : List Authored) (i often : ℕ) → All (IsAuthored serial) pages → option_map (λ p. p.often) (slice_get pages i) ≡ Some often → IsOften often
+pub often_there : (serial : Bool) (pages : List Authored) (i often : ℕ) → All (IsAuthored serial) pages →
+    option_map (λ p. p.often) (slice_get pages i) ≡ Some often → IsOften often
 often_there serial [] i often a e = let f : None ≡ Some often = e in cc
 often_there serial (p ∷ pages) zero often a e =
     let f : Some p.often ≡ Some often = e in
@@ -104,10 +109,12 @@ take_next [] n x h = let e : None ≡ Some x = h in cc
 take_next (y ∷ ys) zero x h = let e : Some y ≡ Some x = h in let g : y ≡ x = cc in ap (λ z. z ∷ []) g
 take_next (y ∷ ys) (suc n) x h = ap (λ z. y ∷ z) (take_next ys n x h)
 
-pub blocks_next : (class : Class) (pages : List Authored) (i : ℕ) (page : Authored) → slice_get pages i ≡ Some page → blocks_of class (take (i + 1) pages) ≡ blocks_of class (take i pages) ++ block_at class page ∷ []
+pub blocks_next : (class : Class) (pages : List Authored) (i : ℕ) (page : Authored) → slice_get pages i ≡ Some page →
+    blocks_of class (take (i + 1) pages) ≡ blocks_of class (take i pages) ++ block_at class page ∷ []
 blocks_next class pages i page e =
     let n : i + 1 ≡ suc i = omega arith in
-    ap (λ k. blocks_of class (take k pages)) n ∙ ap (blocks_of class) (take_next pages i page e) ∙ map-append (block_at class) (take i pages) (page ∷ [])
+    ap (λ k. blocks_of class (take k pages)) n ∙ ap (blocks_of class) (take_next pages i page e)
+    ∙ map-append (block_at class) (take i pages) (page ∷ [])
 
 pub sum_next : (f : Block → ℕ) (class : Class) (pages : List Authored) (i : ℕ) (page : Authored) → slice_get pages i ≡ Some page →
     sum_by f (blocks_of class (take (i + 1) pages)) ≡ sum_by f (blocks_of class (take i pages)) + f (block_at class page)
@@ -120,19 +127,23 @@ sum_next f class pages i page e =
 
 -- ---- the queues that have pages
 
-any_value : (n : ℕ) (values : List PageValue) → list_any (λ p. eqb ((page_of p).id.mag - 1) n) values ≡ list_any (λ p. eqb (p.id.mag - 1) n) (map page_of values)
+any_value : (n : ℕ) (values : List PageValue) → list_any (λ p. eqb ((page_of p).id.mag - 1) n) values
+    ≡ list_any (λ p. eqb (p.id.mag - 1) n) (map page_of values)
 any_value n [] = refl
 any_value n (x ∷ values) = ap (λ b. eqb ((page_of x).id.mag - 1) n || b) (any_value n values)
 
-any_page : (class : Class) (n : ℕ) (pages : List Authored) → list_any (λ p. eqb (p.id.mag - 1) n) (map (λ p. p.page) pages) ≡ has_pages (blocks_of class pages) n
+any_page : (class : Class) (n : ℕ) (pages : List Authored) → list_any (λ p. eqb (p.id.mag - 1) n) (map (λ p. p.page) pages)
+    ≡ has_pages (blocks_of class pages) n
 any_page class n [] = refl
 any_page class n (p ∷ pages) = ap (λ b. eqb (p.page.id.mag - 1) n || b) (any_page class n pages)
 
-pub used_same : (class : Class) (values : List PageValue) (pages : List Authored) (n : ℕ) → map page_of values ≡ map (λ p. p.page) pages → used_by values n ≡ used_to (blocks_of class pages) n
+pub used_same : (class : Class) (values : List PageValue) (pages : List Authored) (n : ℕ) → map page_of values
+    ≡ map (λ p. p.page) pages → used_by values n ≡ used_to (blocks_of class pages) n
 used_same class values pages zero same = refl
 used_same class values pages (suc n) same =
     ap (λ x. x ++ cond (list_any (λ p. eqb ((page_of p).id.mag - 1) n) values) (n ∷ []) []) (used_same class values pages n same)
-    ∙ ap (λ b. used_to (blocks_of class pages) n ++ cond b (n ∷ []) []) (any_value n values ∙ ap (list_any (λ p. eqb (p.id.mag - 1) n)) same ∙ any_page class n pages)
+    ∙ ap (λ b. used_to (blocks_of class pages) n ++ cond b (n ∷ []) [])
+    (any_value n values ∙ ap (list_any (λ p. eqb (p.id.mag - 1) n)) same ∙ any_page class n pages)
 
 pub same_lengths : (values : List PageValue) (pages : List Authored) → map page_of values ≡ map (λ p. p.page) pages → length values ≡ length pages
 same_lengths values pages e = sym (length-map values page_of) ∙ ap length e ∙ length-map pages (λ p. p.page)

@@ -37,7 +37,8 @@ pub same_is : (a b : Id) → same_id a b ≡ true → a ≡ b
 same_is a b e =
     let two = and_parts (eqb a.mag b.mag && eqb a.page b.page) (eqb a.sub b.sub) e in
     let one = and_parts (eqb a.mag b.mag) (eqb a.page b.page) two.0 in
-    ap (λ m. id_at m a.page a.sub) (eqb-true a.mag b.mag one.0) ∙ ap (λ g. id_at b.mag g a.sub) (eqb-true a.page b.page one.1) ∙ ap (λ s. id_at b.mag b.page s) (eqb-true a.sub b.sub two.1)
+    ap (λ m. id_at m a.page a.sub) (eqb-true a.mag b.mag one.0) ∙ ap (λ g. id_at b.mag g a.sub) (eqb-true a.page b.page one.1)
+    ∙ ap (λ s. id_at b.mag b.page s) (eqb-true a.sub b.sub two.1)
 
 -- one header has one id
 one_id : (a b : Id) (x : Packet) → heads_page a x ≡ true → heads_page b x ≡ true → a ≡ b
@@ -50,11 +51,14 @@ one_id a b P.Info e f = cc
 one_id a b P.Other e f = cc
 
 -- a page of a service by its id
-one_page : (pages : List Authored) → AllPairs (λ a b. a ≡ b → ⊥) (authored_ids pages) → (i j : ℕ) (a b : Authored) → slice_get pages i ≡ Some a → slice_get pages j ≡ Some b → a.page.id ≡ b.page.id → a ≡ b
+one_page : (pages : List Authored) → AllPairs (λ a b. a ≡ b → ⊥) (authored_ids pages) → (i j : ℕ) (a b : Authored) → slice_get pages i
+    ≡ Some a → slice_get pages j ≡ Some b → a.page.id ≡ b.page.id → a ≡ b
 one_page pages distinct i j a b e f same = elim (cases_lt i j) as (λ _. a ≡ b) [
-  | inl lt ↦ absurd (distinct i j a.page.id lt (slice_get_within (authored_ids pages) j b.page.id (at j b f)) (id_is i a e a.page.id ∙ same ∙ sym (id_is j b f a.page.id)))
+  | inl lt ↦ absurd (distinct i j a.page.id lt (slice_get_within (authored_ids pages) j b.page.id (at j b f))
+      (id_is i a e a.page.id ∙ same ∙ sym (id_is j b f a.page.id)))
   | inr ge ↦ elim (cases_lt j i) as (λ _. a ≡ b) [
-    | inl lt ↦ absurd (distinct j i a.page.id lt (slice_get_within (authored_ids pages) i a.page.id (at i a e)) (id_is j b f a.page.id ∙ sym same ∙ sym (id_is i a e a.page.id)))
+    | inl lt ↦ absurd (distinct j i a.page.id lt (slice_get_within (authored_ids pages) i a.page.id (at i a e))
+        (id_is j b f a.page.id ∙ sym same ∙ sym (id_is i a e a.page.id)))
     | inr le ↦
         let q : i ≡ j = omega arith in
         let g : Some a ≡ Some b = sym e ∙ ap (slice_get pages) q ∙ f in
@@ -73,7 +77,8 @@ not_filling p is e = is.page (eqb-true p.id.page 255 (and_parts (eqb p.id.page 2
 
 -- ---- the header of a slot
 
-latest_here : EachSlotTurns → (cycle : List (List ℕ)) (mag : ℕ) (j : ℤ) → 1 ≤ length cycle → (t : Turn (length cycle) j) (header : ℕ) → header < turned (length cycle) j → heads mag (packet_of (get_or cycle header [])) ≡ true →
+latest_here : EachSlotTurns → (cycle : List (List ℕ)) (mag : ℕ) (j : ℤ) → 1 ≤ length cycle → (t : Turn (length cycle) j) (header : ℕ) →
+    header < turned (length cycle) j → heads mag (packet_of (get_or cycle header [])) ≡ true →
     ((i : ℕ) → header < i → i < turned (length cycle) j → heads mag (packet_of (get_or cycle i [])) ≡ false) →
     IsLatestHeader (repeated cycle) mag (pos header +ℤ t.by) j × (repeated cycle (pos header +ℤ t.by) ≡ get_or cycle header [])
 latest_here turns cycle mag j some t header lt is none =
@@ -83,7 +88,8 @@ latest_here turns cycle mag j some t header lt is none =
         is_header = ap (λ x. heads mag (packet_of x)) (at header (omega (arith, inside))) ∙ is;
         none_between = λ i low high.
             let k = between t.by i header (turned (length cycle) j) low (subst (λ x. i <ℤ x) t.place high) in
-            ap (λ x. heads mag (packet_of (repeated cycle x))) k.1 ∙ ap (λ x. heads mag (packet_of x)) (at k.0 (omega (arith, k.3, inside))) ∙ none k.0 k.2 k.3;
+            ap (λ x. heads mag (packet_of (repeated cycle x))) k.1
+            ∙ ap (λ x. heads mag (packet_of x)) (at k.0 (omega (arith, k.3, inside))) ∙ none k.0 k.2 k.3;
       },
       at header (omega (arith, inside)),
     )
@@ -91,7 +97,8 @@ latest_here turns cycle mag j some t header lt is none =
     at : (k : ℕ) → k < length cycle → repeated cycle (pos k +ℤ t.by) ≡ get_or cycle k []
     at k lt = ap (λ x. get_or cycle x []) (t.same (pos k) ∙ mod-eq_of_lt lt)
 
-module _ (laws : LawsBelow) (written : WrittenLinksAreRead) (late : Bool) (class : Class) (service : ServiceFields) (cycle : List (List ℕ)) (c : IsPlanned late class service cycle)
+module _ (laws : LawsBelow) (written : WrittenLinksAreRead) (late : Bool) (class : Class) (service : ServiceFields)
+    (cycle : List (List ℕ)) (c : IsPlanned late class service cycle)
     (n : ℕ) (own : Authored) (listed : slice_get service.pages n ≡ Some own) where
   is_page : IsPage own.page
   is_page = (authored_at service.serial service.pages c.service_is.pages n own listed).page
@@ -103,15 +110,20 @@ module _ (laws : LawsBelow) (written : WrittenLinksAreRead) (late : Bool) (class
   same_page i other at e = one_page service.pages c.service_is.distinct i n other own at listed (sym e)
 
   -- the page of a late packet is the page of its owner
-  under_own : (h j : ℤ) → IsLatestHeader (repeated cycle) own.page.id.mag h j → heads_page own.page.id (packet_of (repeated cycle h)) ≡ true → (header : ℕ) → header < turned (length cycle) j →
-      (i : ℕ) (other : Authored) → slice_get service.pages i ≡ Some other → heads_page other.page.id (packet_of (get_or cycle header [])) ≡ true → own.page.id.mag ≡ other.page.id.mag →
+  under_own : (h j : ℤ) → IsLatestHeader (repeated cycle) own.page.id.mag h j → heads_page own.page.id (packet_of (repeated cycle h))
+      ≡ true → (header : ℕ) → header < turned (length cycle) j →
+      (i : ℕ) (other : Authored) → slice_get service.pages i ≡ Some other →
+      heads_page other.page.id (packet_of (get_or cycle header [])) ≡ true → own.page.id.mag ≡ other.page.id.mag →
       ((k : ℕ) → header < k → k < turned (length cycle) j → heads own.page.id.mag (packet_of (get_or cycle k [])) ≡ false) → other ≡ own
   under_own h j latest is header lt i other at page mag none =
       let t = laws.turn (length cycle) j c.some in
-      let l = latest_here laws.turn cycle own.page.id.mag j c.some t header lt (ap (λ m. heads m (packet_of (get_or cycle header []))) mag ∙ heads_its other.page.id (packet_of (get_or cycle header [])) page) none in
+      let l = latest_here laws.turn cycle own.page.id.mag j c.some t header lt
+      (ap (λ m. heads m (packet_of (get_or cycle header []))) mag
+      ∙ heads_its other.page.id (packet_of (get_or cycle header [])) page) none in
       let e : h ≡ pos header +ℤ t.by = one_latest (repeated cycle) own.page.id.mag h (pos header +ℤ t.by) j latest l.0 in
       let slot : repeated cycle h ≡ get_or cycle header [] = ap (repeated cycle) e ∙ l.1 in
-      same_page i other at (one_id own.page.id other.page.id (packet_of (get_or cycle header [])) (ap (λ x. heads_page own.page.id (packet_of x)) (sym slot) ∙ is) page)
+      same_page i other at (one_id own.page.id other.page.id (packet_of (get_or cycle header []))
+      (ap (λ x. heads_page own.page.id (packet_of x)) (sym slot) ∙ is) page)
 
   -- headers of the page's number
   sub_own : (alone : IsAlone (pages_of service) own.page) (id : Id) (control : ℕ) (text : List ℕ) → IsHeadOf service.pages id control text →
@@ -122,10 +134,12 @@ module _ (laws : LawsBelow) (written : WrittenLinksAreRead) (late : Bool) (class
   sub_own alone id control text (inr h) m =
       let two = and_parts (eqb own.page.id.mag id.mag) (eqb own.page.id.page id.page) m in
       let q = h.authored.page in
-      let other : is_other_subpage own.page h.authored.page ≡ false = alone h.index h.authored.page (get_map (λ a. a.page) service.pages h.index h.authored h.listed) in
+      let other : is_other_subpage own.page h.authored.page ≡ false =
+      alone h.index h.authored.page (get_map (λ a. a.page) service.pages h.index h.authored h.listed) in
       let mag : h.authored.page.id.mag ≡ own.page.id.mag = sym (eqb-true own.page.id.mag id.mag two.0 ∙ ap (λ x. x.mag) h.id_is) in
       let page : h.authored.page.id.page ≡ own.page.id.page = sym (eqb-true own.page.id.page id.page two.1 ∙ ap (λ x. x.page) h.id_is) in
-      let sub = same_sub (eqb h.authored.page.id.mag own.page.id.mag) (eqb h.authored.page.id.page own.page.id.page) (eqb h.authored.page.id.sub own.page.id.sub) (eq-eqb _ _ mag) (eq-eqb _ _ page) other in
+      let sub = same_sub (eqb h.authored.page.id.mag own.page.id.mag) (eqb h.authored.page.id.page own.page.id.page)
+      (eqb h.authored.page.id.sub own.page.id.sub) (eq-eqb _ _ mag) (eq-eqb _ _ page) other in
       let subs : own.page.id.sub ≡ id.sub = sym (ap (λ x. x.sub) h.id_is ∙ eqb-true h.authored.page.id.sub own.page.id.sub sub) in
       and_from (eqb own.page.id.mag id.mag && eqb own.page.id.page id.page) (eqb own.page.id.sub id.sub) m (eq-eqb own.page.id.sub id.sub subs)
     where
@@ -135,20 +149,27 @@ module _ (laws : LawsBelow) (written : WrittenLinksAreRead) (late : Bool) (class
       same_sub true false d e f g = cc
       same_sub false b d e f g = cc
 
-  only_subpage : IsAlone (pages_of service) own.page → (j : ℤ) → heads_matched (AnySub own.page.id.mag own.page.id.page) (packet_of (repeated cycle j)) ≡ true → heads_page own.page.id (packet_of (repeated cycle j)) ≡ true
+  only_subpage : IsAlone (pages_of service) own.page → (j : ℤ) →
+      heads_matched (AnySub own.page.id.mag own.page.id.page) (packet_of (repeated cycle j)) ≡ true →
+      heads_page own.page.id (packet_of (repeated cycle j)) ≡ true
   only_subpage alone j m = by (packet_of (repeated cycle j)) refl m
     where
-      by : (x : Packet) → packet_of (repeated cycle j) ≡ x → heads_matched (AnySub own.page.id.mag own.page.id.page) x ≡ true → heads_page own.page.id x ≡ true
+      by : (x : Packet) → packet_of (repeated cycle j) ≡ x → heads_matched (AnySub own.page.id.mag own.page.id.page) x ≡ true →
+          heads_page own.page.id x ≡ true
       by P.Empty e m = m
       by P.Unreadable e m = m
-      by (P.Header id control text) e m = sub_own alone id control text (planned_headers_are_own laws late class service cycle c.service_is c.said c.carries (turned (length cycle) j) (inside j) id control text e) m
+      by (P.Header id control text) e m = sub_own alone id control text
+          (planned_headers_are_own laws late class service cycle c.service_is c.said c.carries (turned (length cycle) j)
+          (inside j) id control text e) m
       by (P.Row mag number text) e m = m
       by (P.Links mag content) e m = m
       by P.Info e m = m
       by P.Other e m = m
 
-  head_own : (id : Id) (control : ℕ) (text : List ℕ) → IsHeadOf service.pages id control text → same_id own.page.id id ≡ true → HeadIsRight own.page (P.Header id control text)
-  head_own id control text (inl filling) e = absurd (not_filling own.page is_page (subst (λ x. is_time_filling x ≡ true) (sym (same_is own.page.id id e)) filling))
+  head_own : (id : Id) (control : ℕ) (text : List ℕ) → IsHeadOf service.pages id control text → same_id own.page.id id ≡ true →
+      HeadIsRight own.page (P.Header id control text)
+  head_own id control text (inl filling) e = absurd
+      (not_filling own.page is_page (subst (λ x. is_time_filling x ≡ true) (sym (same_is own.page.id id e)) filling))
   head_own id control text (inr h) e =
       let same : h.authored ≡ own = same_page h.index h.authored h.listed (same_is own.page.id id e ∙ h.id_is) in
       (h.control_is ∙ ap (λ a. a.page.control) same, h.text_is ∙ ap (λ a. map odd_byte a.page.head) same)
@@ -156,13 +177,17 @@ module _ (laws : LawsBelow) (written : WrittenLinksAreRead) (late : Bool) (class
   true_head : (j : ℤ) (x : Packet) → packet_of (repeated cycle j) ≡ x → heads_page own.page.id x ≡ true → HeadIsRight own.page x
   true_head j P.Empty e h = cc
   true_head j P.Unreadable e h = cc
-  true_head j (P.Header id control text) e h = head_own id control text (planned_headers_are_own laws late class service cycle c.service_is c.said c.carries (turned (length cycle) j) (inside j) id control text e) h
+  true_head j (P.Header id control text) e h = head_own id control text
+      (planned_headers_are_own laws late class service cycle c.service_is c.said c.carries (turned (length cycle) j)
+      (inside j) id control text e) h
   true_head j (P.Row mag number text) e h = cc
   true_head j (P.Links mag content) e h = cc
   true_head j P.Info e h = cc
   true_head j P.Other e h = cc
 
-  true_row : (r : ℕ) (h j : ℤ) → IsLatestHeader (repeated cycle) own.page.id.mag h j → heads_page own.page.id (packet_of (repeated cycle h)) ≡ true → (x : Packet) → packet_of (repeated cycle j) ≡ x → carries own.page.id.mag (TheRow r) x ≡ true → RowIsRight own.page r x
+  true_row : (r : ℕ) (h j : ℤ) → IsLatestHeader (repeated cycle) own.page.id.mag h j →
+      heads_page own.page.id (packet_of (repeated cycle h)) ≡ true → (x : Packet) → packet_of (repeated cycle j) ≡ x →
+      carries own.page.id.mag (TheRow r) x ≡ true → RowIsRight own.page r x
   true_row r h j latest is P.Empty e k = cc
   true_row r h j latest is P.Unreadable e k = cc
   true_row r h j latest is (P.Header id control text) e k = cc
@@ -170,14 +195,19 @@ module _ (laws : LawsBelow) (written : WrittenLinksAreRead) (late : Bool) (class
       let two = and_parts (eqb mag own.page.id.mag) (eqb number r) k in
       let mags : mag ≡ own.page.id.mag = eqb-true mag own.page.id.mag two.0 in
       let numbers : number ≡ r = eqb-true number r two.1 in
-      let u = planned_rows_are_own laws late class service cycle c.service_is c.said c.carries (turned (length cycle) j) (inside j) mag number text e in
-      let same : u.authored ≡ own = under_own h j latest is u.header (omega (arith, u.later)) u.index u.authored u.listed u.is_header (sym mags ∙ u.mag_is) (λ i low high. ap (λ m. heads m (packet_of (get_or cycle i []))) (sym mags) ∙ u.none_between i low high) in
+      let u = planned_rows_are_own laws late class service cycle c.service_is c.said c.carries (turned (length cycle) j)
+      (inside j) mag number text e in
+      let same : u.authored ≡ own = under_own h j latest is u.header (omega (arith, u.later)) u.index u.authored u.listed u.is_header
+      (sym mags ∙ u.mag_is) (λ i low high. ap (λ m. heads m (packet_of (get_or cycle i []))) (sym mags)
+      ∙ u.none_between i low high) in
       u.text_is ∙ ap (λ a. map odd_byte (page_row a.page number)) same ∙ ap (λ k. map odd_byte (page_row own.page k)) numbers
   true_row r h j latest is (P.Links mag content) e k = cc
   true_row r h j latest is P.Info e k = cc
   true_row r h j latest is P.Other e k = cc
 
-  true_links : (h j : ℤ) → IsLatestHeader (repeated cycle) own.page.id.mag h j → heads_page own.page.id (packet_of (repeated cycle h)) ≡ true → (x : Packet) → packet_of (repeated cycle j) ≡ x → carries own.page.id.mag TheLinks x ≡ true → LinksAreRight own.page (repeated cycle j) x
+  true_links : (h j : ℤ) → IsLatestHeader (repeated cycle) own.page.id.mag h j → heads_page own.page.id (packet_of (repeated cycle h))
+      ≡ true → (x : Packet) → packet_of (repeated cycle j) ≡ x → carries own.page.id.mag TheLinks x ≡ true →
+      LinksAreRight own.page (repeated cycle j) x
   true_links h j latest is P.Empty e k = cc
   true_links h j latest is P.Unreadable e k = cc
   true_links h j latest is (P.Header id control text) e k = cc
@@ -185,12 +215,15 @@ module _ (laws : LawsBelow) (written : WrittenLinksAreRead) (late : Bool) (class
   true_links h j latest is (P.Links mag content) e k =
       let mags : mag ≡ own.page.id.mag = eqb-true mag own.page.id.mag k in
       let u = planned_links_are_own laws written late class service cycle c (turned (length cycle) j) (inside j) mag content e in
-      let same : u.authored ≡ own = under_own h j latest is u.header (omega (arith, u.later)) u.index u.authored u.listed u.is_header (sym mags ∙ u.mag_is) (λ i low high. ap (λ m. heads m (packet_of (get_or cycle i []))) (sym mags) ∙ u.none_between i low high) in
+      let same : u.authored ≡ own = under_own h j latest is u.header (omega (arith, u.later)) u.index u.authored u.listed u.is_header
+      (sym mags ∙ u.mag_is) (λ i low high. ap (λ m. heads m (packet_of (get_or cycle i []))) (sym mags)
+      ∙ u.none_between i low high) in
       (u.exact, u.content_is ∙ ap (λ a. Some a.page.links) same)
   true_links h j latest is P.Info e k = cc
   true_links h j latest is P.Other e k = cc
 
-  all_true : (item : Item) → IsChecked own.page item → (h j : ℤ) → IsOwned (repeated cycle) own.page.id item h j → IsTrueTo own.page item (repeated cycle j)
+  all_true : (item : Item) → IsChecked own.page item → (h j : ℤ) → IsOwned (repeated cycle) own.page.id item h j →
+      IsTrueTo own.page item (repeated cycle j)
   all_true TheHead checked h j o = true_head j (packet_of (repeated cycle j)) refl o.1
   all_true (TheRow r) checked h j o = true_row r h j o.0 o.1 (packet_of (repeated cycle j)) refl o.2
   all_true TheLinks checked h j o = true_links h j o.0 o.1 (packet_of (repeated cycle j)) refl o.2

@@ -39,7 +39,8 @@ one_latest s mag g h j a b = elim (cases_ltz g h) as (λ _. g ≡ h) [
 pub between : (by i : ℤ) (place j : ℕ) → (pos place +ℤ by) <ℤ i → i <ℤ (pos j +ℤ by) → (k : ℕ) × (i ≡ pos k +ℤ by) × (place < k) × (k < j)
 between by i place j low high = (nat_abs (i -ℤ by), omega (arith, ints), omega (arith, ints), omega (arith, ints))
 
-sure_here : EachSlotTurns → (lines : ℕ) (cycle : List (List ℕ)) (mag : ℕ) (h j : ℤ) → 0 < length cycle → IsPlaced lines cycle mag (turned (length cycle) j) → IsLatestHeader (repeated cycle) mag h j →
+sure_here : EachSlotTurns → (lines : ℕ) (cycle : List (List ℕ)) (mag : ℕ) (h j : ℤ) → 0 < length cycle →
+    IsPlaced lines cycle mag (turned (length cycle) j) → IsLatestHeader (repeated cycle) mag h j →
     ((h +ℤ pos lines) <ℤ j) × ((i : ℤ) → h <ℤ i → i <ℤ j → ends_serial mag (packet_of (repeated cycle i)) ≡ false)
 sure_here turns lines cycle mag h j some p latest =
     let n = length cycle in
@@ -50,21 +51,26 @@ sure_here turns lines cycle mag h j some p latest =
       is_header = ap (λ x. heads mag (packet_of x)) (at t p.place (omega (arith, p.late))) ∙ p.is_header;
       none_between = λ i low high.
           let k = between t.by i p.place (turned (length cycle) j) low (subst (λ x. i <ℤ x) t.place high) in
-          ap (λ x. heads mag (packet_of (repeated cycle x))) k.1 ∙ ap (λ x. heads mag (packet_of x)) (at t k.0 (omega (arith, k.3))) ∙ p.none_between k.0 k.2 k.3;
+          ap (λ x. heads mag (packet_of (repeated cycle x))) k.1 ∙ ap (λ x. heads mag (packet_of x)) (at t k.0 (omega (arith, k.3)))
+          ∙ p.none_between k.0 k.2 k.3;
     } in
     let same : h ≡ pos p.place +ℤ t.by = one_latest (repeated cycle) mag h (pos p.place +ℤ t.by) j latest own in (
       omega (arith, ints, same, t.place, p.late),
       λ i low high.
           let k = between t.by i p.place (turned (length cycle) j) (subst (λ x. x <ℤ i) same low) (subst (λ x. i <ℤ x) t.place high) in
-          ap (λ x. ends_serial mag (packet_of (repeated cycle x))) k.1 ∙ ap (λ x. ends_serial mag (packet_of x)) (at t k.0 (omega (arith, k.3))) ∙ p.untainted k.0 k.2 k.3,
+          ap (λ x. ends_serial mag (packet_of (repeated cycle x))) k.1
+          ∙ ap (λ x. ends_serial mag (packet_of x)) (at t k.0 (omega (arith, k.3))) ∙ p.untainted k.0 k.2 k.3,
     )
   where
     at : (t : Turn (length cycle) j) (k : ℕ) → k < length cycle → repeated cycle (pos k +ℤ t.by) ≡ get_or cycle k []
     at t k lt = ap (λ x. get_or cycle x []) (t.same (pos k) ∙ mod-eq_of_lt lt)
 
-pub all_sure : EachSlotTurns → (lines : ℕ) (cycle : List (List ℕ)) → ArePlaced lines cycle → (page : Id) (item : Item) (h j : ℤ) → IsOwned (repeated cycle) page item h j → IsSure (repeated cycle) lines page.mag item h j
+pub all_sure : EachSlotTurns → (lines : ℕ) (cycle : List (List ℕ)) → ArePlaced lines cycle → (page : Id) (item : Item) (h j : ℤ) →
+    IsOwned (repeated cycle) page item h j → IsSure (repeated cycle) lines page.mag item h j
 all_sure turns lines cycle a page TheHead h j o = tt
 all_sure turns lines cycle a page (TheRow r) h j o =
-    sure_here turns lines cycle page.mag h j a.some (a.placed page.mag (turned (length cycle) j) (TheRow r) ((turns (length cycle) j a.some).inside) o.2) o.0
+    sure_here turns lines cycle page.mag h j a.some
+    (a.placed page.mag (turned (length cycle) j) (TheRow r) ((turns (length cycle) j a.some).inside) o.2) o.0
 all_sure turns lines cycle a page TheLinks h j o =
-    sure_here turns lines cycle page.mag h j a.some (a.placed page.mag (turned (length cycle) j) TheLinks ((turns (length cycle) j a.some).inside) o.2) o.0
+    sure_here turns lines cycle page.mag h j a.some
+    (a.placed page.mag (turned (length cycle) j) TheLinks ((turns (length cycle) j a.some).inside) o.2) o.0

@@ -65,29 +65,51 @@ record IsBlockOf (pages : List Authored) (serial : Bool) (class : Class) (block 
   pub filler : Bool
   pub is : block ≡ led filler (block_at class authored)
 
-are_blocks : (pages : List Authored) (serial : Bool) (class : Class) (some : List Authored) (at : ℕ) → ((k : ℕ) (p : Authored) → slice_get some k ≡ Some p → slice_get pages (at + k) ≡ Some p) → All (IsAuthored serial) some →
+are_blocks : (pages : List Authored) (serial : Bool) (class : Class) (some : List Authored) (at : ℕ) →
+    ((k : ℕ) (p : Authored) → slice_get some k ≡ Some p → slice_get pages (at + k) ≡ Some p) → All (IsAuthored serial) some →
     AllByRecursion (IsBlockOf pages serial class) (blocks_of class some)
 are_blocks pages serial class [] at listed a = tt
 are_blocks pages serial class (p ∷ some) at listed a =
     let here : at + 0 ≡ at = omega arith in (
-      record { index = at; authored = p; listed = ap (slice_get pages) (sym here) ∙ listed 0 p refl; kept = a 0 p (omega arith); filler = false; is = refl },
-      are_blocks pages serial class some (suc at) (λ k q e. let next : suc at + k ≡ at + suc k = omega arith in ap (slice_get pages) next ∙ listed (suc k) q e) (λ k d lt. a (suc k) d (omega arith)),
+      record {
+        index = at;
+        authored = p;
+        listed = ap (slice_get pages) (sym here) ∙ listed 0 p refl;
+        kept = a 0 p (omega arith);
+        filler = false;
+        is = refl;
+      },
+      are_blocks pages serial class some (suc at)
+          (λ k q e. let next : suc at + k ≡ at + suc k = omega arith in ap (slice_get pages) next ∙ listed (suc k) q e)
+          (λ k d lt. a (suc k) d (omega arith)),
     )
 
-pub head_says : LawsBelow → (serial : Bool) (authored : Authored) → IsAuthored serial authored → (class : Class) → S.heads_page authored.page.id (packet_of (block_at class authored).header) ≡ true
+pub head_says : LawsBelow → (serial : Bool) (authored : Authored) → IsAuthored serial authored → (class : Class) →
+    S.heads_page authored.page.id (packet_of (block_at class authored).header) ≡ true
 head_says laws serial authored a class =
     header_says laws (fields_at authored.page.id authored.page.control (map odd_byte authored.page.head) (replicate 8 32))
     (record { id = a.page.id; control = a.page.control; text = length-map authored.page.head odd_byte ∙ a.page.head_length; clock = refl })
 
-under_at : LawsBelow → (serial : Bool) (lines : ℕ) (late : Bool) (class : Class) (pages : List Authored) → All (IsAuthored serial) pages → (cycle : List (List ℕ)) (at : ℕ → Slot) →
-    ((i : ℕ) → i < length cycle → get_or cycle i [] ≡ bytes_of (at i)) → ((i : ℕ) → Reads pages serial (at i)) → (n queue : ℕ) (packet : Packet) → n < length cycle → at n ≡ Sent queue packet →
+under_at : LawsBelow → (serial : Bool) (lines : ℕ) (late : Bool) (class : Class) (pages : List Authored) →
+    All (IsAuthored serial) pages → (cycle : List (List ℕ)) (at : ℕ → Slot) →
+    ((i : ℕ) → i < length cycle → get_or cycle i [] ≡ bytes_of (at i)) → ((i : ℕ) → Reads pages serial (at i)) →
+    (n queue : ℕ) (packet : Packet) → n < length cycle → at n ≡ Sent queue packet →
     HasOwner lines (blocks_sent late class pages) at queue packet n → (mag : ℕ) → mag ≡ suc queue → IsUnder pages class cycle lines n mag
 under_at laws serial lines late class pages a cycle at bytes reads n queue packet lt here o mag mag_is =
     let z : (k : ℕ) → 0 + k ≡ k = λ k. omega arith in
     let all : AllByRecursion (IsBlockOf pages serial class) (blocks_sent late class pages) =
-    order_all (IsBlockOf pages serial class) (λ filler x q. record { index = q.index; authored = q.authored; listed = q.listed; kept = q.kept; filler = filler; is = ap (led filler) q.is })
+    order_all (IsBlockOf pages serial class)
+    (λ filler x q. record {
+      index = q.index;
+      authored = q.authored;
+      listed = q.listed;
+      kept = q.kept;
+      filler = filler;
+      is = ap (led filler) q.is;
+    })
     late (blocks_of class pages) (are_blocks pages serial class pages 0 (λ k p q. ap (slice_get pages) (z k) ∙ q) a) in
-    let b : IsBlockOf pages serial class o.own.block = all_get (IsBlockOf pages serial class) (blocks_sent late class pages) o.own.index o.own.block all o.own.listed in
+    let b : IsBlockOf pages serial class o.own.block =
+    all_get (IsBlockOf pages serial class) (blocks_sent late class pages) o.own.index o.own.block all o.own.listed in
     let before : o.place < length cycle = omega (arith, o.late) in
     let low = b.kept.page.id.mag_from in
     let queue_is : b.authored.page.id.mag - 1 ≡ queue = sym (ap (λ x. x.queue) b.is) ∙ o.own.in_mag in
@@ -100,11 +122,16 @@ under_at laws serial lines late class pages a cycle at bytes reads n queue packe
       item_is = ap (λ x. slice_get x.rest o.own.item) (sym b.is) ∙ o.own.item_is ∙ ap Some (sym (bytes n lt ∙ ap bytes_of here));
       header = o.place;
       later = o.late;
-      is_header = ap (λ x. S.heads_page b.authored.page.id (packet_of x)) (bytes o.place before ∙ ap bytes_of o.header_at ∙ ap (λ h. h.bytes) o.own.header_is ∙ ap (λ x. x.header) b.is) ∙ head_says laws serial b.authored b.kept class;
-      none_between = λ i low high. ap (λ m. S.heads m (packet_of (get_or cycle i []))) mag_is ∙ ap (λ x. S.heads (suc queue) (packet_of x)) (bytes i (omega arith)) ∙ (reads i).heads_is queue ∙ o.none_between i low high;
+      is_header = ap (λ x. S.heads_page b.authored.page.id (packet_of x))
+          (bytes o.place before ∙ ap bytes_of o.header_at ∙ ap (λ h. h.bytes) o.own.header_is ∙ ap (λ x. x.header) b.is)
+          ∙ head_says laws serial b.authored b.kept class;
+      none_between = λ i low high. ap (λ m. S.heads m (packet_of (get_or cycle i []))) mag_is
+          ∙ ap (λ x. S.heads (suc queue) (packet_of x)) (bytes i (omega arith)) ∙ (reads i).heads_is queue
+          ∙ o.none_between i low high;
     }
 
-pub under : LawsBelow → (serial : Bool) (lines : ℕ) (info : Option InfoFields) (late : Bool) (class : Class) (pages : List Authored) (cycle : List (List ℕ)) → IsSaid info → All (IsAuthored serial) pages →
+pub under : LawsBelow → (serial : Bool) (lines : ℕ) (info : Option InfoFields) (late : Bool) (class : Class) (pages : List Authored)
+    (cycle : List (List ℕ)) → IsSaid info → All (IsAuthored serial) pages →
     CarriesBlocks serial lines (option_map info_bytes info) (blocks_sent late class pages) cycle → (n : ℕ) → n < length cycle →
     (mag : ℕ) (item : Item) → S.carries mag item (packet_of (get_or cycle n [])) ≡ true → IsUnder pages class cycle lines n mag
 under laws true lines info late class pages cycle said a known n lt mag item c =
@@ -113,24 +140,37 @@ under laws true lines info late class pages cycle said a known n lt mag item c =
     let reads = read_there laws pages true (serial_slots lines sent blocks) (serial_read laws lines info late class pages said a) in
     let l = (reads n).late_is mag item (ap (λ x. S.carries mag item (packet_of x)) (sym (serial_at lines sent blocks cycle known n lt)) ∙ c) in
     let q = serial_quiet lines sent blocks n l.queue l.packet l.slot_is l.late in
-    under_at laws true lines late class pages a cycle (places lines sent blocks) (serial_at lines sent blocks cycle known) reads n l.queue l.packet lt l.slot_is
-    (record { place = q.place; header = q.header; late = q.late; header_at = q.header_at; none_between = λ i low high. q.none_between i low high l.queue; own = q.own }) mag l.mag_is
+    under_at laws true lines late class pages a cycle (places lines sent blocks)
+    (serial_at lines sent blocks cycle known) reads n l.queue l.packet lt l.slot_is
+    (record {
+      place = q.place;
+      header = q.header;
+      late = q.late;
+      header_at = q.header_at;
+      none_between = λ i low high.
+          q.none_between i low high l.queue;
+      own = q.own;
+    }) mag l.mag_is
 under laws false lines info late class pages cycle said a known n lt mag item c =
     let sent = option_map info_bytes info in
     let blocks = blocks_sent late class pages in
     let reads = read_at laws pages false known.before (parallel_read laws lines info late class pages said a known.before known.turns) in
     let l = (reads n).late_is mag item (ap (λ x. S.carries mag item (packet_of x)) (sym (parallel_at lines sent blocks cycle known n lt)) ∙ c) in
-    under_at laws false lines late class pages a cycle (slot_at known.before) (parallel_at lines sent blocks cycle known) reads n l.queue l.packet lt l.slot_is
+    under_at laws false lines late class pages a cycle (slot_at known.before)
+    (parallel_at lines sent blocks cycle known) reads n l.queue l.packet lt l.slot_is
     (parallel_owner lines sent blocks cycle known n l.queue l.packet l.slot_is l.late) mag l.mag_is
 
 -- ---- the packets of a page
 
-pub row_is : LawsBelow → (p : Page) → IsPage p → (r : ℕ) → 1 ≤ r → r ≤ 24 → packet_of (page_row_bytes p r) ≡ P.Row p.id.mag r (map odd_byte (page_row p r))
+pub row_is : LawsBelow → (p : Page) → IsPage p → (r : ℕ) → 1 ≤ r → r ≤ 24 → packet_of (page_row_bytes p r)
+    ≡ P.Row p.id.mag r (map odd_byte (page_row p r))
 row_is laws p is r from to =
     let a = laws.address p.id.mag r (map odd_byte (page_row p r)) is.id.mag_from is.id.mag_to (omega (arith, to)) in
     packet_from (page_row_bytes p r) (IsRow p.id.mag r) (a.kind ∙ row_kind (page_row_bytes p r) p.id.mag r from to)
 
-pub authored_at : (serial : Bool) (pages : List Authored) → All (IsAuthored serial) pages → (i : ℕ) (authored : Authored) → slice_get pages i ≡ Some authored → IsAuthored serial authored
+pub authored_at : (serial : Bool) (pages : List Authored) → All (IsAuthored serial) pages → (i : ℕ) (authored : Authored) →
+    slice_get pages i ≡ Some authored → IsAuthored serial authored
 authored_at serial [] a i authored e = let f : None ≡ Some authored = e in cc
-authored_at serial (p ∷ pages) a zero authored e = let f : Some p ≡ Some authored = e in let g : p ≡ authored = cc in subst (IsAuthored serial) g (a 0 p (omega arith))
+authored_at serial (p ∷ pages) a zero authored e = let f : Some p ≡ Some authored = e in let g : p ≡ authored = cc
+    in subst (IsAuthored serial) g (a 0 p (omega arith))
 authored_at serial (p ∷ pages) a (suc i) authored e = authored_at serial pages (λ k d lt. a (suc k) d (omega arith)) i authored e

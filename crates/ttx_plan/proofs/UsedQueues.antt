@@ -13,14 +13,18 @@ any_seen queue [] = refl
 any_seen queue (b ∷ sent) = ap (λ x. eqb b.block.now.queue queue || x) (any_seen queue sent)
 
 pub used_more : (front : List Slot) (blocks : List Block) (queue : ℕ) (b : Bool) → has_pages blocks queue ≡ b →
-    (front ++ map (λ n. Sent n (time_filling_packet true n)) (used_to blocks queue)) ++ cond b (Sent queue (time_filling_packet true queue) ∷ []) [] ≡ front ++ map (λ n. Sent n (time_filling_packet true n)) (used_to blocks (queue + 1))
+    (front ++ map (λ n. Sent n (time_filling_packet true n)) (used_to blocks queue))
+    ++ cond b (Sent queue (time_filling_packet true queue) ∷ []) [] ≡ front
+    ++ map (λ n. Sent n (time_filling_packet true n)) (used_to blocks (queue + 1))
 used_more front blocks queue b e =
-    append_assoc front (map (λ n. Sent n (time_filling_packet true n)) (used_to blocks queue)) (cond b (Sent queue (time_filling_packet true queue) ∷ []) [])
+    append_assoc front (map (λ n. Sent n (time_filling_packet true n)) (used_to blocks queue))
+    (cond b (Sent queue (time_filling_packet true queue) ∷ []) [])
     ∙ ap (λ x. front ++ (map (λ n. Sent n (time_filling_packet true n)) (used_to blocks queue) ++ x)) (one b)
     ∙ ap (λ x. front ++ x) (sym (map-append (λ n. Sent n (time_filling_packet true n)) (used_to blocks queue) (cond b (queue ∷ []) [])))
     ∙ ap (λ x. front ++ map (λ n. Sent n (time_filling_packet true n)) (used_to blocks queue ++ cond x (queue ∷ []) [])) (sym e)
     ∙ ap (λ n. front ++ map (λ n. Sent n (time_filling_packet true n)) (used_to blocks n)) (sym (add-one queue))
   where
-    one : (x : Bool) → cond x (Sent queue (time_filling_packet true queue) ∷ []) [] ≡ map (λ n. Sent n (time_filling_packet true n)) (cond x (queue ∷ []) [])
+    one : (x : Bool) → cond x (Sent queue (time_filling_packet true queue) ∷ []) []
+        ≡ map (λ n. Sent n (time_filling_packet true n)) (cond x (queue ∷ []) [])
     one true = refl
     one false = refl

@@ -16,7 +16,8 @@ until_most counts lines (slot ∷ before) =
     let h : until counts lines before ≤ lines = until_most counts lines before in
     cond_both (counts slot) lines (until counts lines before - 1) (λ x. x ≤ lines) (λ _. omega arith) (λ _. omega arith)
 
-recent : (counts : Slot → Bool) (lines k : ℕ) (before : List Slot) → k ≤ lines → list_any counts (take k before) ≡ ltb (lines - k) (until counts lines before)
+recent : (counts : Slot → Bool) (lines k : ℕ) (before : List Slot) → k ≤ lines → list_any counts (take k before)
+    ≡ ltb (lines - k) (until counts lines before)
 recent counts lines zero before le = let h : until counts lines before ≤ lines = until_most counts lines before in sym (le-ltb _ _ (omega arith))
 recent counts lines (suc k) [] le = sym (le-ltb _ _ (omega arith))
 recent counts lines (suc k) (slot ∷ before) le =
@@ -35,7 +36,8 @@ recent_until counts lines before =
     recent counts lines lines before (omega arith) ∙ ap (λ x. ltb x (until counts lines before)) e
 
 -- fewer that count wait less
-pub until_more : (some all : Slot → Bool) (lines : ℕ) (before : List Slot) → ((slot : Slot) → some slot ≡ true → all slot ≡ true) → until some lines before ≤ until all lines before
+pub until_more : (some all : Slot → Bool) (lines : ℕ) (before : List Slot) → ((slot : Slot) → some slot ≡ true → all slot ≡ true) →
+    until some lines before ≤ until all lines before
 until_more some all lines [] h = omega arith
 until_more some all lines (slot ∷ before) h =
     let m : until some lines before ≤ until all lines before = until_more some all lines before h in
@@ -44,7 +46,8 @@ until_more some all lines (slot ∷ before) h =
       | inl y ↦ rw (cond-true (all slot) lines (until all lines before - 1) y)
           (cond_both (some slot) lines (until some lines before - 1) (λ x. x ≤ lines) (λ _. omega arith) (λ _. omega arith))
       | inr y ↦ rw (cond-false (all slot) lines (until all lines before - 1) y)
-          (cond_both (some slot) lines (until some lines before - 1) (λ x. x ≤ until all lines before - 1) (λ z. absurd (contra y (h slot z))) (λ _. omega arith))
+          (cond_both (some slot) lines (until some lines before - 1) (λ x. x ≤ until all lines before - 1)
+          (λ z. absurd (contra y (h slot z))) (λ _. omega arith))
     ]
   where
     contra : all slot ≡ false → all slot ≡ true → ⊥

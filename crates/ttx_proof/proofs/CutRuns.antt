@@ -13,9 +13,12 @@ pub record GoesOn (class : Class) (lines : ℕ) (sel : Selection) (rest : List (
   pub is_memory : IsMemory mid
   pub run : Run class lines sel mid rest m
 
-pub run_goes_on : StepsKeepMemories → (class : Class) (lines : ℕ) (sel : Selection) (n : ℕ) (received : List (List ℕ)) (former m : Memory) → IsMemory former →
-    ((i : ℕ) → i < length received → IsSlot (get_or received i [])) → Run class lines sel former received m → GoesOn class lines sel (drop n received) m
+pub run_goes_on : StepsKeepMemories → (class : Class) (lines : ℕ) (sel : Selection) (n : ℕ) (received : List (List ℕ))
+    (former m : Memory) → IsMemory former →
+    ((i : ℕ) → i < length received → IsSlot (get_or received i [])) → Run class lines sel former received m →
+    GoesOn class lines sel (drop n received) m
 run_goes_on law class lines sel zero received former m is slots run = record { mid = former; is_memory = is; run = run }
 run_goes_on law class lines sel (suc n) [] former m is slots run = record { mid = former; is_memory = is; run = run }
 run_goes_on law class lines sel (suc n) (slot ∷ received) former m is slots run =
-    run_goes_on law class lines sel n received run.0 m (law class lines sel former run.0 slot (slots 0 (omega arith)) is run.1) (λ i lt. slots (suc i) (omega arith)) run.2
+    run_goes_on law class lines sel n received run.0 m (law class lines sel former run.0 slot (slots 0 (omega arith)) is run.1)
+    (λ i lt. slots (suc i) (omega arith)) run.2

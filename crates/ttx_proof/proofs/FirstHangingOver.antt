@@ -41,7 +41,8 @@ no_header_carries mag TheLinks Other h e = cc
 
 -- a row carries itself alone
 its_row : (mag r m n : ℕ) (text : List ℕ) (packet : Packet) → packet ≡ Row m n text → carries mag (TheRow r) packet ≡ true → r ≡ n
-its_row mag r m n text packet e h = let k : carries mag (TheRow r) (Row m n text) ≡ true = subst (λ x. carries mag (TheRow r) x ≡ true) e h in sym (eqb-true n r ((and_parts (m == mag) _ k).1))
+its_row mag r m n text packet e h = let k : carries mag (TheRow r) (Row m n text) ≡ true =
+    subst (λ x. carries mag (TheRow r) x ≡ true) e h in sym (eqb-true n r ((and_parts (m == mag) _ k).1))
 
 -- what isn't a row carries none
 no_row : (mag r : ℕ) (packet : Packet) → HoldsNoRow packet → carries mag (TheRow r) packet ≡ true → ⊥
@@ -54,7 +55,8 @@ no_row mag r Info h e = cc
 no_row mag r Other h e = cc
 
 -- a slot that is a row is wrong by this row, if its links aren't
-pub only_row : (p : Page) (slot : List ℕ) (m n : ℕ) (text : List ℕ) → packet_of slot ≡ Row m n text → (IsWrongAs p slot TheLinks → ⊥) → IsWrongSlot p slot → IsWrongAs p slot (TheRow n)
+pub only_row : (p : Page) (slot : List ℕ) (m n : ℕ) (text : List ℕ) → packet_of slot ≡ Row m n text → (IsWrongAs p slot TheLinks → ⊥) →
+    IsWrongSlot p slot → IsWrongAs p slot (TheRow n)
 only_row p slot m n text e links w = go w.0 w.1
   where
     go : (item : Item) → IsWrongAs p slot item → IsWrongAs p slot (TheRow n)
@@ -85,7 +87,8 @@ module _ (cycle : List (List ℕ)) (p : Page) where
   not_earlier j i lt right below o = right i below (subst (IsWrongSlot p) (at_is i (omega arith)) o.wrong)
 
   -- a header ends it
-  pub ended : (j : ℕ) → j < length cycle → heads p.id.mag (packet_of (get_or cycle j [])) ≡ true → RightTo j → (z : ℤ) → HangsOver (repeated cycle) p z → ⊥
+  pub ended : (j : ℕ) → j < length cycle → heads p.id.mag (packet_of (get_or cycle j [])) ≡ true → RightTo j → (z : ℤ) →
+      HangsOver (repeated cycle) p z → ⊥
   ended j lt here right (negsuc m) o = let a = o.not_before in omega (arith, ints)
   ended j lt here right (pos m) o = elim (cases_lt m j) as (λ _. ⊥) [
     | inl below ↦ not_earlier j m lt right below o
@@ -100,7 +103,8 @@ module _ (cycle : List (List ℕ)) (p : Page) where
       above : (m : ℕ) → j ≤ m → (m ≡ j → ⊥) → pos j <ℤ pos m
       above m ge ne = elim (cases_lt j m) as (λ _. pos j <ℤ pos m) [ inl lt ↦ omega (arith, ints) | inr le ↦ absurd (ne (omega arith)) ]
 
-  pub first_is : (j : ℕ) → j < length cycle → NoneTo j → RightTo j → IsWrongSlot p (get_or cycle j []) → HangsOver (repeated cycle) p (pos j) × ((i : ℕ) → i < j → HangsOver (repeated cycle) p (pos i) → ⊥)
+  pub first_is : (j : ℕ) → j < length cycle → NoneTo j → RightTo j → IsWrongSlot p (get_or cycle j []) →
+      HangsOver (repeated cycle) p (pos j) × ((i : ℕ) → i < j → HangsOver (repeated cycle) p (pos i) → ⊥)
   first_is j lt none right wrong = (
     record {
       not_before = omega (arith, ints);

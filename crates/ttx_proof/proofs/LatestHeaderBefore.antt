@@ -28,7 +28,8 @@ module _ (cycle : List (List ℕ)) (mag : ℕ) where
   NoneSince back = (i : ℕ) → i < back → heads mag (packet_of (get_or cycle (length cycle - 1 - i) [])) ≡ false
 
   -- the first header that is met is the latest
-  pub latest_at : (back : ℕ) → back < length cycle → heads mag (packet_of (get_or cycle (length cycle - 1 - back) [])) ≡ true → NoneSince back → IsLatestHeader (repeated cycle) mag (negsuc back) (pos 0)
+  pub latest_at : (back : ℕ) → back < length cycle → heads mag (packet_of (get_or cycle (length cycle - 1 - back) [])) ≡ true →
+      NoneSince back → IsLatestHeader (repeated cycle) mag (negsuc back) (pos 0)
   latest_at back lt here none = record {
     earlier = omega (arith, ints);
     is_header = ap (λ x. heads mag (packet_of x)) (back_is back lt) ∙ here;
@@ -48,12 +49,15 @@ module _ (cycle : List (List ℕ)) (mag : ℕ) where
       both_ways _ (ap (λ m. heads mag (packet_of (get_or cycle m []))) (sym e) ∙ none (length cycle - 1 - at) (omega arith)) l.is_header
 
 -- the latest header tells to which page a magazine is left
-pub left_by : (cycle : List (List ℕ)) (page : Id) (h : ℤ) → IsLatestHeader (repeated cycle) page.mag h (pos 0) → (answer : Bool) → answer ≡ heads_page page (packet_of (repeated cycle h)) →
+pub left_by : (cycle : List (List ℕ)) (page : Id) (h : ℤ) → IsLatestHeader (repeated cycle) page.mag h (pos 0) → (answer : Bool) →
+    answer ≡ heads_page page (packet_of (repeated cycle h)) →
     (answer ≡ true) ↔ IsLeftTo (repeated cycle) page
 left_by cycle page h latest answer e = (
   (λ y. record { owner = h; latest = latest; mine = sym e ∙ y }),
-  (λ l. e ∙ subst (λ z. heads_page page (packet_of (repeated cycle z)) ≡ true) (latest_same (repeated cycle) page.mag l.owner h (pos 0) l.latest latest) l.mine),
+  (λ l. e ∙ subst (λ z. heads_page page (packet_of (repeated cycle z)) ≡ true)
+      (latest_same (repeated cycle) page.mag l.owner h (pos 0) l.latest latest) l.mine),
 )
 
-pub left_to_none : (cycle : List (List ℕ)) (page : Id) → ((h : ℤ) → IsLatestHeader (repeated cycle) page.mag h (pos 0) → ⊥) → (false ≡ true) ↔ IsLeftTo (repeated cycle) page
+pub left_to_none : (cycle : List (List ℕ)) (page : Id) → ((h : ℤ) → IsLatestHeader (repeated cycle) page.mag h (pos 0) → ⊥) →
+    (false ≡ true) ↔ IsLeftTo (repeated cycle) page
 left_to_none cycle page none = ((λ y. let h : false ≡ true = y in cc), (λ l. absurd (none l.owner l.latest)))

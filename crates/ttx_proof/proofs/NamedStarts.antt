@@ -19,10 +19,11 @@ or_both false b h = inr h
 
 pub found : (starts : List ℕ) (start : ℕ) → is_start_among starts start ≡ true → (k : ℕ) × (k < length starts) × (get_or starts k 0 ≡ start)
 found [] start h = cc
-found (s ∷ starts) start h = elim (or_both (s == start) (is_start_among starts start) h) as (λ _. (k : ℕ) × (k < length (s ∷ starts)) × (get_or (s ∷ starts) k 0 ≡ start)) [
-  | inl e ↦ (0, omega arith, eqb-true s start e)
-  | inr e ↦ let r = found starts start e in (suc r.0, omega (arith, r.1), r.2)
-]
+found (s ∷ starts) start h = elim (or_both (s == start) (is_start_among starts start) h) as
+    (λ _. (k : ℕ) × (k < length (s ∷ starts)) × (get_or (s ∷ starts) k 0 ≡ start)) [
+      | inl e ↦ (0, omega arith, eqb-true s start e)
+      | inr e ↦ let r = found starts start e in (suc r.0, omega (arith, r.1), r.2)
+    ]
 
 pub among : (starts : List ℕ) (start k : ℕ) → k < length starts → get_or starts k 0 ≡ start → is_start_among starts start ≡ true
 among [] start k lt e = absurd (omega arith)
@@ -39,11 +40,13 @@ pub named_is : (c : Splice) (p : Page) (item : Item) (i : ℤ) → (is_named c p
 named_is c p item (pos i) = is_start_among-Contains (c.new_certificate.starts p.id item) (turned (length c.new) (pos i))
 named_is c p item (negsuc i) = is_start_among-Contains (c.old_certificate.starts p.id item) (turned (length c.old) (negsuc i))
 
-pub named_below : (c : Splice) (p : Page) (item : Item) (i : ℤ) → i <ℤ pos 0 → Contains (c.old_certificate.starts p.id item) (turned (length c.old) i) → IsNamedStart c p item i
+pub named_below : (c : Splice) (p : Page) (item : Item) (i : ℤ) → i <ℤ pos 0 →
+    Contains (c.old_certificate.starts p.id item) (turned (length c.old) i) → IsNamedStart c p item i
 named_below c p item (pos i) lt h = absurd (omega (arith, ints))
 named_below c p item (negsuc i) lt h = h
 
-pub named_above : (c : Splice) (p : Page) (item : Item) (i : ℤ) → pos 0 ≤ℤ i → Contains (c.new_certificate.starts p.id item) (turned (length c.new) i) → IsNamedStart c p item i
+pub named_above : (c : Splice) (p : Page) (item : Item) (i : ℤ) → pos 0 ≤ℤ i →
+    Contains (c.new_certificate.starts p.id item) (turned (length c.new) i) → IsNamedStart c p item i
 named_above c p item (pos i) le h = h
 named_above c p item (negsuc i) le h = absurd (omega (arith, ints))
 

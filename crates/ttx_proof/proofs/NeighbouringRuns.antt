@@ -75,7 +75,8 @@ module _ (Owned Sure : ℤ → ℤ → Type 0) (k limit : ℕ) (named : ℤ → 
   starts_below a = a.ends.ends.0
 
   -- behind the owner of a run of the list each slot is served by the next run, and behind the last one without it
-  from_run : (last : Inside) → ((tau : ℤ) → last.owner <ℤ tau → Served tau) → (from : ℤ) (r : Run) (rs : List Run) → AreListed from (r ∷ rs) → FollowInTime limit r rs →
+  from_run : (last : Inside) → ((tau : ℤ) → last.owner <ℤ tau → Served tau) → (from : ℤ) (r : Run) (rs : List Run) →
+      AreListed from (r ∷ rs) → FollowInTime limit r rs →
       (tau : ℤ) → r.owner <ℤ tau → Served tau
   from_run last after from r [] l f tau lt = elim (cases_ltz r.start last.start) as (λ _. Served tau) [
     | inl up ↦ absurd (l.4 last.start (omega (arith, ints)) (starts_below last) (here_of last))
@@ -91,7 +92,8 @@ module _ (Owned Sure : ℤ → ℤ → Type 0) (k limit : ℕ) (named : ℤ → 
   served first last before after [] l f tau = absurd (l first.start first.from (starts_below first) (here_of first))
   served first last before after (r ∷ rs) l f tau = elim (cases_ltz r.owner tau) as (λ _. Served tau) [
     | inl behind ↦ from_run last after low r rs l f tau behind
-    | inr ge ↦ before tau (let k = first_low low r rs l first.start first.owner first.from (starts_below first) (here_of first) first.owned in omega (arith, ints))
+    | inr ge ↦ before tau (let k = first_low low r rs l first.start first.owner first.from (starts_below first)
+        (here_of first) first.owned in omega (arith, ints))
   ]
 
   holds : (x : ℤ) (xs : List ℤ) → Successive (IsSentAt Owned) (x ∷ xs) → IsSentAt Owned x
@@ -99,12 +101,14 @@ module _ (Owned Sure : ℤ → ℤ → Type 0) (k limit : ℕ) (named : ℤ → 
   holds x (y ∷ xs) a = a.0
 
   -- a later run ends later
-  ends_rise : (i j e : ℤ) (xs ys : List ℤ) → length xs ≡ length ys → i ≤ℤ j → Successive (IsSentAt Owned) (i ∷ xs) → Successive (IsSentAt Owned) (j ∷ ys) →
+  ends_rise : (i j e : ℤ) (xs ys : List ℤ) → length xs ≡ length ys → i ≤ℤ j → Successive (IsSentAt Owned) (i ∷ xs) →
+      Successive (IsSentAt Owned) (j ∷ ys) →
       AllByRecursion (λ x. x <ℤ e) (j ∷ ys) → AllByRecursion (λ x. x <ℤ e) (i ∷ xs)
   ends_rise i j e [] ys len le a b c = let k = c.0 in (omega (arith, ints), tt)
   ends_rise i j e (x ∷ xs) [] len le a b c = absurd (omega arith)
   ends_rise i j e (x ∷ xs) (y ∷ ys) len le a b c =
-      let order : x ≤ℤ y = elim (cases_ltz y x) as (λ _. x ≤ℤ y) [ inl lt ↦ absurd (a.2 y (let k = b.1 in omega (arith, ints)) lt (holds y ys b.3)) | inr ge ↦ ge ] in
+      let order : x ≤ℤ y = elim (cases_ltz y x) as
+      (λ _. x ≤ℤ y) [ inl lt ↦ absurd (a.2 y (let k = b.1 in omega (arith, ints)) lt (holds y ys b.3)) | inr ge ↦ ge ] in
       ((let k = c.0 in omega (arith, ints)), ends_rise x y e xs ys (omega arith) order a.3 b.3 c.1)
 
   earlier_ends : (i j e f : ℤ) → i ≤ℤ j → RunEndsBelow Owned (suc k) i f → RunEndsBelow Owned (suc k) j e → RunEndsBelow Owned (suc k) i e
@@ -115,16 +119,23 @@ module _ (Owned Sure : ℤ → ℤ → Type 0) (k limit : ℕ) (named : ℤ → 
   }
 
   -- where the next run comes too late, the slot after the owner isn't served
-  unserved : (r q : Run) → Counted r → Counted q → ((x : ℤ) → r.start <ℤ x → x <ℤ q.start → Here x → ⊥) → (r.owner +ℤ pos limit) <ℤ q.end → Served (r.owner +ℤ pos 1) → ⊥
+  unserved : (r q : Run) → Counted r → Counted q → ((x : ℤ) → r.start <ℤ x → x <ℤ q.start → Here x → ⊥) →
+      (r.owner +ℤ pos limit) <ℤ q.end → Served (r.owner +ℤ pos 1) → ⊥
   unserved r q a b none late t =
       let after : r.start <ℤ t.start = elim (cases_ltz r.start t.start) as (λ _. r.start <ℤ t.start) [
         | inl up ↦ up
         | inr dn ↦ let g = t.not_before in let o = law.order t.owner r.owner t.start r.start dn t.owned a.run.owned in absurd (omega (arith, ints))
       ] in
       elim (cases_ltz t.start q.start) as (λ _. ⊥) [
-        | inl before ↦ none t.start after before (t.counts, earlier_ends t.start q.start high ((r.owner +ℤ pos 1) +ℤ pos limit) (let g = before in omega (arith, ints)) t.ends ((b.run.ends high).0 b.inside))
+        | inl before ↦ none t.start after before (
+          t.counts,
+          earlier_ends t.start q.start high ((r.owner +ℤ pos 1) +ℤ pos limit)
+              (let g = before in omega (arith, ints)) t.ends ((b.run.ends high).0 b.inside),
+        )
         | inr from ↦
-            let e = (b.run.ends ((r.owner +ℤ pos 1) +ℤ pos limit)).1 (earlier_ends q.start t.start ((r.owner +ℤ pos 1) +ℤ pos limit) high from ((b.run.ends high).0 b.inside) t.ends) in
+            let e = (b.run.ends ((r.owner +ℤ pos 1) +ℤ pos limit)).1
+            (earlier_ends q.start t.start ((r.owner +ℤ pos 1) +ℤ pos limit) high from ((b.run.ends high).0 b.inside) t.ends)
+            in
             omega (arith, ints)
       ]
 
@@ -144,7 +155,8 @@ module _ (Owned Sure : ℤ → ℤ → Type 0) (k limit : ℕ) (named : ℤ → 
 
   -- one walk over the part decides
   pub decides : (ts : List Transmission) → AreSent Owned Sure low high ts → (first last : Inside) →
-      ((tau : ℤ) → tau ≤ℤ first.owner → Served tau) → ((tau : ℤ) → last.owner <ℤ tau → Served tau) → AllFollow limit (counted named k ts) ↔ ((tau : ℤ) → Served tau)
+      ((tau : ℤ) → tau ≤ℤ first.owner → Served tau) → ((tau : ℤ) → last.owner <ℤ tau → Served tau) →
+      AllFollow limit (counted named k ts) ↔ ((tau : ℤ) → Served tau)
   decides ts l first last before after =
       let listed = W.counted_lists Owned Sure law.one_owner named k high low ts l in
       (served first last before after (counted named k ts) listed, (λ all. all_follow all (counted named k ts) listed))

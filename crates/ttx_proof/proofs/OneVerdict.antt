@@ -28,7 +28,8 @@ module _ (c : Splice) where
   -- two first common pages are one
   one_page : (P : Page → Type 0) (p q : Page) → IsFirstCommon c P p → IsFirstCommon c P q → p ≡ q
   one_page P p q a b =
-      let same = one_number a.index b.index (λ lt. b.none_before a.index p lt a.place a.common a.here) (λ lt. a.none_before b.index q lt b.place b.common b.here) in
+      let same = one_number a.index b.index (λ lt. b.none_before a.index p lt a.place a.common a.here)
+      (λ lt. a.none_before b.index q lt b.place b.common b.here) in
       let there : slice_get c.new_pages b.index ≡ Some p = subst (λ n. slice_get c.new_pages n ≡ Some p) same a.place in
       let here = b.place in
       cc
@@ -44,11 +45,17 @@ module _ (c : Splice) where
   reason_of a b e = cc
 
   module _ (is : IsSplice c) (one : VerdictsAreOne) where
-    one_old : (a b : Reason) → IsVerdict c.old c.old_pages c.old_certificate (verdict.No a) → IsVerdict c.old c.old_pages c.old_certificate (verdict.No b) → a ≡ b
-    one_old a b h k = reason_of a b (one c.old c.old_pages c.old_certificate (let s = is.old.some in omega arith) is.old_certificate (verdict.No a) (verdict.No b) h k)
+    one_old : (a b : Reason) → IsVerdict c.old c.old_pages c.old_certificate (verdict.No a) →
+        IsVerdict c.old c.old_pages c.old_certificate (verdict.No b) → a ≡ b
+    one_old a b h k = reason_of a b
+        (one c.old c.old_pages c.old_certificate (let s = is.old.some in omega arith) is.old_certificate (verdict.No a)
+        (verdict.No b) h k)
 
-    one_new : (a b : Reason) → IsVerdict c.new c.new_pages c.new_certificate (verdict.No a) → IsVerdict c.new c.new_pages c.new_certificate (verdict.No b) → a ≡ b
-    one_new a b h k = reason_of a b (one c.new c.new_pages c.new_certificate (let s = is.new.some in omega arith) is.new_certificate (verdict.No a) (verdict.No b) h k)
+    one_new : (a b : Reason) → IsVerdict c.new c.new_pages c.new_certificate (verdict.No a) →
+        IsVerdict c.new c.new_pages c.new_certificate (verdict.No b) → a ≡ b
+    one_new a b h k = reason_of a b
+        (one c.new c.new_pages c.new_certificate (let s = is.new.some in omega arith) is.new_certificate (verdict.No a)
+        (verdict.No b) h k)
 
     one_reason : (a b : SpliceReason) → IsSpliceRefusal c a → IsSpliceRefusal c b → a ≡ b
     one_reason (Old a) (Old b) h k = ap Old (one_old a b h k)

@@ -44,8 +44,16 @@ abbrev pub AllBefore : Splice → (Page → Type 0) → ℕ → Type 0
 AllBefore c Q index = (i : ℕ) (q : Page) → i < index → slice_get c.new_pages i ≡ Some q → IsCommon c q → Q q
 
 module _ (c : Splice) (Q : Page → Type 0) (index : ℕ) where
-  pub first_common : (P : Page → Type 0) → ((q : Page) → Q q → P q → ⊥) → (p : Page) → slice_get c.new_pages index ≡ Some p → IsCommon c p → P p → AllBefore c Q index → IsFirstCommon c P p
-  first_common P clash p e common here all = record { index = index; place = e; common = common; here = here; none_before = λ i q lt at among h. clash q (all i q lt at among) h }
+  pub first_common : (P : Page → Type 0) → ((q : Page) → Q q → P q → ⊥) → (p : Page) → slice_get c.new_pages index ≡ Some p →
+      IsCommon c p → P p → AllBefore c Q index → IsFirstCommon c P p
+  first_common P clash p e common here all = record {
+    index = index;
+    place = e;
+    common = common;
+    here = here;
+    none_before = λ i q lt at among h.
+        clash q (all i q lt at among) h;
+  }
 
   pub one_more : (p : Page) → slice_get c.new_pages index ≡ Some p → (IsCommon c p → Q p) → AllBefore c Q index → AllBefore c Q (index + 1)
   one_more p e here all = λ i q lt at common. elim (cases_lt i index) as (λ _. Q q) [
@@ -85,7 +93,8 @@ found pages p answer f among =
 pub not_found : (pages : List PageValue) (p : Page) → Finds (ids_of pages) p.id None → Contains (map page_of pages) p → ⊥
 not_found pages p f among = let w = found pages p None f among in let e = w.1 in cc
 
-pub found_at : (pages : List PageValue) (p : Page) (place : ℕ) → Finds (ids_of pages) p.id (Some place) → (answer : Option ℕ) → TellsPlaceAt (map page_of pages) p place answer → TellsPlace (map page_of pages) p answer
+pub found_at : (pages : List PageValue) (p : Page) (place : ℕ) → Finds (ids_of pages) p.id (Some place) → (answer : Option ℕ) →
+    TellsPlaceAt (map page_of pages) p place answer → TellsPlace (map page_of pages) p answer
 found_at pages p place f None told = λ among.
     let w = found pages p (Some place) f among in
     let e : place ≡ w.0 = let q = w.1 in cc in

@@ -36,8 +36,12 @@ module _ (Owned Sure : ℤ → ℤ → Type 0) (one_owner : (h k j : ℤ) → Ow
   taken (suc k) low high [] l = tt
   taken (suc zero) low high (t ∷ ts) l = told_sent t l.0
   taken (suc (suc k)) low high (t ∷ []) l = told_sent t l.0
-  taken (suc (suc k)) low high (t ∷ u ∷ ts) l =
-      (told_sent t l.0, let g = l.4.1 in omega (arith, ints), (λ x a b p. l.4.3 x (omega (arith, ints)) b p), taken (suc k) (t.slot +ℤ pos 1) high (u ∷ ts) l.4)
+  taken (suc (suc k)) low high (t ∷ u ∷ ts) l = (
+    told_sent t l.0,
+    let g = l.4.1 in omega (arith, ints),
+    (λ x a b p. l.4.3 x (omega (arith, ints)) b p),
+    taken (suc k) (t.slot +ℤ pos 1) high (u ∷ ts) l.4,
+  )
 
   each_taken : (k : ℕ) (low high : ℤ) (ts : List Transmission) → AreSent Owned Sure low high ts → AllByRecursion Told (take k ts)
   each_taken zero low high ts l = tt
@@ -50,7 +54,8 @@ module _ (Owned Sure : ℤ → ℤ → Type 0) (one_owner : (h k j : ℤ) → Ow
   last_below (suc k) low high (t ∷ ts) z lt l = last_below k (t.slot +ℤ pos 1) high ts t.slot l.2 l.4
 
   -- successive transmissions between two slots aren't more than those of the list
-  few : (low high : ℤ) (ts : List Transmission) (xs : List ℤ) → AreSent Owned Sure low high ts → Successive Sent xs → AllByRecursion (λ j. low ≤ℤ j) xs → AllByRecursion (λ j. j <ℤ high) xs → length xs ≤ length ts
+  few : (low high : ℤ) (ts : List Transmission) (xs : List ℤ) → AreSent Owned Sure low high ts → Successive Sent xs →
+      AllByRecursion (λ j. low ≤ℤ j) xs → AllByRecursion (λ j. j <ℤ high) xs → length xs ≤ length ts
   few low high ts [] l s a b = omega arith
   few low high [] (x ∷ xs) l s a b = absurd (l x a.0 b.0 (first x xs s))
     where
@@ -98,30 +103,57 @@ module _ (Owned Sure : ℤ → ℤ → Type 0) (one_owner : (h k j : ℤ) → Ow
         first x (y ∷ xs) s = s.0
 
     -- nothing below the first
-    lower : (low mid : ℤ) (rs : List Run) → low ≤ℤ mid → mid ≤ℤ high → ((x : ℤ) → low ≤ℤ x → x <ℤ mid → Here x → ⊥) → Lists start_of Here IsCounted mid high rs → Lists start_of Here IsCounted low high rs
+    lower : (low mid : ℤ) (rs : List Run) → low ≤ℤ mid → mid ≤ℤ high → ((x : ℤ) → low ≤ℤ x → x <ℤ mid → Here x → ⊥) →
+        Lists start_of Here IsCounted mid high rs → Lists start_of Here IsCounted low high rs
     lower low mid [] a b none l = λ x c d p. elim (cases_ltz x mid) as (λ _. ⊥) [ inl lt ↦ none x c lt p | inr ge ↦ l x ge d p ]
-    lower low mid (r ∷ rs) a b none l =
-        (l.0, let g = l.1 in omega (arith, ints), l.2, (λ x c d p. elim (cases_ltz x mid) as (λ _. ⊥) [ inl lt ↦ none x c lt p | inr ge ↦ l.3 x ge d p ]), l.4)
+    lower low mid (r ∷ rs) a b none l = (
+      l.0,
+      let g = l.1 in omega (arith, ints),
+      l.2,
+      (λ x c d p. elim (cases_ltz x mid) as (λ _. ⊥) [ inl lt ↦ none x c lt p | inr ge ↦ l.3 x ge d p ]),
+      l.4,
+    )
 
-    pub counted_lists : (low : ℤ) (ts : List Transmission) → AreSent Owned Sure low high ts → Lists start_of Here IsCounted low high (counted named k ts)
+    pub counted_lists : (low : ℤ) (ts : List Transmission) → AreSent Owned Sure low high ts →
+        Lists start_of Here IsCounted low high (counted named k ts)
     unfolding windows
     counted_lists low [] l = λ x a b h. l x a b (here_sent x h)
-    counted_lists low (t ∷ ts) l = elim (cases_lt (suc (length ts)) (suc k)) as (λ _. Lists start_of Here IsCounted low high (counted named k (t ∷ ts))) [
-      | inl lt ↦ subst (λ ws. Lists start_of Here IsCounted low high (filter (λ r. named r.start && r.sure) (map run_of ws))) (sym (windows_no (suc k) t ts lt))
-          (λ x a b h.
-          let ends = h.1 in
-          let size = few low high (t ∷ ts) (x ∷ ends.rest) l ends.run.successive (after_first low x ends.rest ends.run.successive a) ends.ends in
-          let count = ends.run.count in omega arith)
-      | inr ge ↦ subst (λ ws. Lists start_of Here IsCounted low high (filter (λ r. named r.start && r.sure) (map run_of ws))) (sym (windows_yes (suc k) t ts ge)) (one_more (counted_lists (t.slot +ℤ pos 1) ts l.4) ge)
-    ]
+    counted_lists low (t ∷ ts) l = elim (cases_lt (suc (length ts)) (suc k)) as
+        (λ _. Lists start_of Here IsCounted low high (counted named k (t ∷ ts))) [
+          | inl lt ↦ subst (λ ws. Lists start_of Here IsCounted low high (filter (λ r. named r.start && r.sure) (map run_of ws)))
+              (sym (windows_no (suc k) t ts lt))
+              (λ x a b h.
+              let ends = h.1 in
+              let size = few low high (t ∷ ts) (x ∷ ends.rest) l ends.run.successive (after_first low x ends.rest ends.run.successive a) ends.ends in
+              let count = ends.run.count in omega arith)
+          | inr ge ↦ subst (λ ws. Lists start_of Here IsCounted low high (filter (λ r. named r.start && r.sure) (map run_of ws)))
+              (sym (windows_yes (suc k) t ts ge)) (one_more (counted_lists (t.slot +ℤ pos 1) ts l.4) ge)
+        ]
       where
-        one_more : Lists start_of Here IsCounted (t.slot +ℤ pos 1) high (counted named k ts) → suc k ≤ suc (length ts) → Lists start_of Here IsCounted low high (filter (λ r. named r.start && r.sure) (run_of (t ∷ take k ts) ∷ map run_of (windows (suc k) ts)))
+        one_more : Lists start_of Here IsCounted (t.slot +ℤ pos 1) high (counted named k ts) → suc k ≤ suc (length ts) →
+            Lists start_of Here IsCounted low high
+            (filter (λ r. named r.start && r.sure) (run_of (t ∷ take k ts) ∷ map run_of (windows (suc k) ts)))
         one_more rest_lists ge =
             let r = run_of (t ∷ take k ts) in
             let is = R.window_is Owned Sure one_owner k (t ∷ take k ts)
-            (record { count = length-take-le (suc k) (t ∷ ts) ge; successive = taken (suc k) low high (t ∷ ts) l; each = each_taken (suc k) low high (t ∷ ts) l }) in
+            (record {
+              count = length-take-le (suc k) (t ∷ ts) ge;
+              successive = taken (suc k) low high (t ∷ ts) l;
+              each = each_taken (suc k) low high (t ∷ ts) l;
+            }) in
             cond_both (named r.start && r.sure) (r ∷ counted named k ts) (counted named k ts) (λ x. Lists start_of Here IsCounted low high x)
-            (λ e. (record { named_start = (and_parts (named r.start) r.sure e).0; sure = (and_parts (named r.start) r.sure e).1; inside = last_below k (t.slot +ℤ pos 1) high ts t.slot l.2 l.4; run = is }, l.1, l.2, (λ x a b h. l.3 x a b (here_sent x h)), rest_lists))
+            (λ e. (
+              record {
+                named_start = (and_parts (named r.start) r.sure e).0;
+                sure = (and_parts (named r.start) r.sure e).1;
+                inside = last_below k (t.slot +ℤ pos 1) high ts t.slot l.2 l.4;
+                run = is;
+              },
+              l.1,
+              l.2,
+              (λ x a b h. l.3 x a b (here_sent x h)),
+              rest_lists,
+            ))
             (λ e. lower low (t.slot +ℤ pos 1) (counted named k ts) (let a = l.1 in omega (arith, ints)) (let b = l.2 in omega (arith, ints))
             (λ x a b h. elim (cases_ltz x t.slot) as (λ _. ⊥) [
               | inl lt ↦ l.3 x a lt (here_sent x h)

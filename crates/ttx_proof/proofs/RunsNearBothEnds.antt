@@ -63,8 +63,10 @@ module _ (s : Stream) (page : Id) (lines repeat : ℕ) (item : Item) (k : ℕ) (
   run_from i rest r = record { count = r.count ∙ sym len; successive = successive_from (i ∷ rest) r.successive }
 
 -- the members of a run of a stream of period n lie at most a period apart
-run_short : (s : Stream) (page : Id) (item : Item) (n : ℕ) → 1 ≤ n → ((j : ℤ) → IsTransmission s page item j → IsTransmission s page item (j +ℤ pos n)) →
-    (first : ℤ) (rest : List ℤ) → AreSuccessive s page item (first ∷ rest) → (bound : ℤ) → (first +ℤ pos (length rest * n)) ≤ℤ bound → AllByRecursion (λ j. j ≤ℤ bound) (first ∷ rest)
+run_short : (s : Stream) (page : Id) (item : Item) (n : ℕ) → 1 ≤ n →
+    ((j : ℤ) → IsTransmission s page item j → IsTransmission s page item (j +ℤ pos n)) →
+    (first : ℤ) (rest : List ℤ) → AreSuccessive s page item (first ∷ rest) → (bound : ℤ) → (first +ℤ pos (length rest * n)) ≤ℤ bound →
+    AllByRecursion (λ j. j ≤ℤ bound) (first ∷ rest)
 run_short s page item n some again first [] a bound le = (omega (arith, ints), tt)
 run_short s page item n some again first (x ∷ rest) a bound le =
     let near : x ≤ℤ (first +ℤ pos n) = elim (cases_ltz (first +ℤ pos n) x) as (λ _. x ≤ℤ (first +ℤ pos n)) [
@@ -74,12 +76,14 @@ run_short s page item n some again first (x ∷ rest) a bound le =
     (omega (arith, ints), run_short s page item n some again x rest a.3 bound (omega (arith, ints)))
 
 -- a later run ends later
-ends_rise : (s : Stream) (page : Id) (item : Item) (i j e : ℤ) (xs ys : List ℤ) → length xs ≡ length ys → i ≤ℤ j → AreSuccessive s page item (i ∷ xs) → AreSuccessive s page item (j ∷ ys) →
+ends_rise : (s : Stream) (page : Id) (item : Item) (i j e : ℤ) (xs ys : List ℤ) → length xs ≡ length ys → i ≤ℤ j →
+    AreSuccessive s page item (i ∷ xs) → AreSuccessive s page item (j ∷ ys) →
     AllByRecursion (λ x. x <ℤ e) (j ∷ ys) → AllByRecursion (λ x. x <ℤ e) (i ∷ xs)
 ends_rise s page item i j e [] ys len le a b c = let k = c.0 in (omega (arith, ints), tt)
 ends_rise s page item i j e (x ∷ xs) [] len le a b c = absurd (omega arith)
 ends_rise s page item i j e (x ∷ xs) (y ∷ ys) len le a b c =
-    let order : x ≤ℤ y = elim (cases_ltz y x) as (λ _. x ≤ℤ y) [ inl lt ↦ absurd (a.2 y (let k = b.1 in omega (arith, ints)) lt (holds y ys b.3)) | inr ge ↦ ge ] in
+    let order : x ≤ℤ y = elim (cases_ltz y x) as
+    (λ _. x ≤ℤ y) [ inl lt ↦ absurd (a.2 y (let k = b.1 in omega (arith, ints)) lt (holds y ys b.3)) | inr ge ↦ ge ] in
     ((let k = c.0 in omega (arith, ints)), ends_rise s page item x y e xs ys (omega arith) order a.3 b.3 c.1)
   where
     holds : (x : ℤ) (xs : List ℤ) → AreSuccessive s page item (x ∷ xs) → IsTransmission s page item x
@@ -98,15 +102,27 @@ further (x ∷ xs) a b le h = (let k = h.0 in omega (arith, ints), further xs a 
 abbrev alike_to : Certificate → Certificate → Certificate
 alike_to w v = record { lines = w.lines; repeat = w.repeat; deadline = w.deadline; class = w.class; starts = v.starts }
 
-covered_alike : (cycle : List (List ℕ)) (p : Page) (v w : Certificate) (item : Item) → NumbersAgree v w → IsCovered cycle p v item → IsCovered cycle p (alike_to w v) item
+covered_alike : (cycle : List (List ℕ)) (p : Page) (v w : Certificate) (item : Item) → NumbersAgree v w → IsCovered cycle p v item →
+    IsCovered cycle p (alike_to w v) item
 covered_alike cycle p v w item alike covered =
-    subst (λ class. IsCovered cycle p (record { lines = w.lines; repeat = w.repeat; deadline = w.deadline; class = class; starts = v.starts }) item) (alike.old_class ∙ sym alike.new_class)
-    (subst (λ deadline. IsCovered cycle p (record { lines = w.lines; repeat = w.repeat; deadline = deadline; class = v.class; starts = v.starts }) item) alike.deadline
-    (subst (λ repeat. IsCovered cycle p (record { lines = w.lines; repeat = repeat; deadline = v.deadline; class = v.class; starts = v.starts }) item) alike.repeat
-    (subst (λ lines. IsCovered cycle p (record { lines = lines; repeat = v.repeat; deadline = v.deadline; class = v.class; starts = v.starts }) item) alike.lines covered)))
+    subst (λ class. IsCovered cycle p
+    (record { lines = w.lines; repeat = w.repeat; deadline = w.deadline; class = class; starts = v.starts }) item)
+    (alike.old_class ∙ sym alike.new_class)
+    (subst (λ deadline. IsCovered cycle p
+    (record { lines = w.lines; repeat = w.repeat; deadline = deadline; class = v.class; starts = v.starts }) item)
+    alike.deadline
+    (subst (λ repeat. IsCovered cycle p
+    (record { lines = w.lines; repeat = repeat; deadline = v.deadline; class = v.class; starts = v.starts }) item)
+    alike.repeat
+    (subst (λ lines. IsCovered cycle p
+    (record { lines = lines; repeat = v.repeat; deadline = v.deadline; class = v.class; starts = v.starts }) item) alike.lines
+    covered)))
 
-module _ (laws : StreamLaws) (near : OwnersAreNear) (again : CyclesRepeat) (c : Splice) (p : Page) (item : Item) (k : ℕ) (len : run_length c.new_certificate.repeat item ≡ suc k)
-    (some_old : 1 ≤ length c.old) (some_new : 1 ≤ length c.new) (old : IsCovered c.old p (alike_to c.new_certificate c.old_certificate) item) (new : IsCovered c.new p c.new_certificate item) where
+module _ (laws : StreamLaws) (near : OwnersAreNear) (again : CyclesRepeat) (c : Splice) (p : Page) (item : Item) (k : ℕ)
+    (len : run_length c.new_certificate.repeat item ≡ suc k)
+    (some_old : 1 ≤ length c.old) (some_new : 1 ≤ length c.new)
+    (old : IsCovered c.old p (alike_to c.new_certificate c.old_certificate) item)
+    (new : IsCovered c.new p c.new_certificate item) where
   abbrev w : Certificate
   w = c.new_certificate
 
@@ -143,15 +159,19 @@ module _ (laws : StreamLaws) (near : OwnersAreNear) (again : CyclesRepeat) (c : 
     (named_is c p item first).1 (named_below c p item first a.ends.0 a.named),
     record {
       rest = rest;
-      run = run_to (stream c) page w.lines w.repeat item (suc k) len first rest (J.old_run laws c.old c.new page w.lines item w.repeat first rest a.ends a.run);
-      all_sure = sures_to (stream c) page w.lines w.repeat item (suc k) len (first ∷ rest) (J.old_sures laws c.old c.new page w.lines item (first ∷ rest) a.ends a.sure);
+      run = run_to (stream c) page w.lines w.repeat item (suc k) len first rest
+          (J.old_run laws c.old c.new page w.lines item w.repeat first rest a.ends a.run);
+      all_sure = sures_to (stream c) page w.lines w.repeat item (suc k) len (first ∷ rest)
+          (J.old_sures laws c.old c.new page w.lines item (first ∷ rest) a.ends a.sure);
     },
   )
 
-  old_ends : (first : ℤ) (rest : List ℤ) → IsOldRun first rest → (end : ℤ) → AllByRecursion (λ j. j <ℤ end) (first ∷ rest) → R.RunEndsBelow JOwned (suc k) first end
+  old_ends : (first : ℤ) (rest : List ℤ) → IsOldRun first rest → (end : ℤ) → AllByRecursion (λ j. j <ℤ end) (first ∷ rest) →
+      R.RunEndsBelow JOwned (suc k) first end
   old_ends first rest a end b = record {
     rest = rest;
-    run = run_to (stream c) page w.lines w.repeat item (suc k) len first rest (J.old_run laws c.old c.new page w.lines item w.repeat first rest a.ends a.run);
+    run = run_to (stream c) page w.lines w.repeat item (suc k) len first rest
+        (J.old_run laws c.old c.new page w.lines item w.repeat first rest a.ends a.run);
     ends = b;
   }
 
@@ -163,26 +183,32 @@ module _ (laws : StreamLaws) (near : OwnersAreNear) (again : CyclesRepeat) (c : 
     run : S.IsRun (repeated c.new) page w.repeat item first rest
     sure : AllByRecursion (IsSureTransmission (repeated c.new) page w.lines item) (first ∷ rest)
 
-  new_counts : (owner first : ℤ) (rest : List ℤ) → IsNewRun owner first rest → (is_named c p item first ≡ true) × R.BeginsSureRun JOwned JSure (suc k) first
+  new_counts : (owner first : ℤ) (rest : List ℤ) → IsNewRun owner first rest → (is_named c p item first ≡ true)
+      × R.BeginsSureRun JOwned JSure (suc k) first
   new_counts owner first rest a =
       let l = laws.first (repeated c.new) page item owner first a.owned in
       let b = a.behind in (
         (named_is c p item first).1 (named_above c p item first (omega (arith, ints)) a.named),
         record {
           rest = rest;
-          run = run_to (stream c) page w.lines w.repeat item (suc k) len first rest (J.new_run laws c.old c.new page w.lines item owner first a.behind a.owned w.repeat rest a.run);
-          all_sure = sures_to (stream c) page w.lines w.repeat item (suc k) len (first ∷ rest) (J.new_sures laws c.old c.new page w.lines item owner first a.behind a.owned w.repeat rest a.run a.sure);
+          run = run_to (stream c) page w.lines w.repeat item (suc k) len first rest
+              (J.new_run laws c.old c.new page w.lines item owner first a.behind a.owned w.repeat rest a.run);
+          all_sure = sures_to (stream c) page w.lines w.repeat item (suc k) len (first ∷ rest)
+              (J.new_sures laws c.old c.new page w.lines item owner first a.behind a.owned w.repeat rest a.run a.sure);
         },
       )
 
-  new_ends : (owner first : ℤ) (rest : List ℤ) → IsNewRun owner first rest → (end : ℤ) → AllByRecursion (λ j. j <ℤ end) (first ∷ rest) → R.RunEndsBelow JOwned (suc k) first end
+  new_ends : (owner first : ℤ) (rest : List ℤ) → IsNewRun owner first rest → (end : ℤ) → AllByRecursion (λ j. j <ℤ end) (first ∷ rest) →
+      R.RunEndsBelow JOwned (suc k) first end
   new_ends owner first rest a end b = record {
     rest = rest;
-    run = run_to (stream c) page w.lines w.repeat item (suc k) len first rest (J.new_run laws c.old c.new page w.lines item owner first a.behind a.owned w.repeat rest a.run);
+    run = run_to (stream c) page w.lines w.repeat item (suc k) len first rest
+        (J.new_run laws c.old c.new page w.lines item owner first a.behind a.owned w.repeat rest a.run);
     ends = b;
   }
 
-  transmission_on : (cycle : List (List ℕ)) → 1 ≤ length cycle → (j : ℤ) → IsTransmission (repeated cycle) page item j → IsTransmission (repeated cycle) page item (j +ℤ pos (length cycle))
+  transmission_on : (cycle : List (List ℕ)) → 1 ≤ length cycle → (j : ℤ) → IsTransmission (repeated cycle) page item j →
+      IsTransmission (repeated cycle) page item (j +ℤ pos (length cycle))
   transmission_on cycle some j a = (laws.move (repeated cycle) (pos (length cycle)) (again cycle (omega arith))).transmission page item j a
 
   -- the first anchor: a named start of the old cycle, as many periods before slot 0 as a run has transmissions
@@ -194,7 +220,8 @@ module _ (laws : StreamLaws) (near : OwnersAreNear) (again : CyclesRepeat) (c : 
       let s = repeated c.old in
       let same = same_more s (length c.old) (suc k) (again c.old (omega arith)) in
       let back = (laws.move s (pos (suc k * length c.old)) same).back in
-      let moved = (laws.move s (pos 0 -ℤ pos (suc k * length c.old)) back).run page w.lines w.repeat item (pos old.named.0) (old.sure old.named.0 old.named.1).1 in
+      let moved = (laws.move s (pos 0 -ℤ pos (suc k * length c.old)) back).run page w.lines w.repeat item (pos old.named.0)
+      (old.sure old.named.0 old.named.1).1 in
       let e : pos old.named.0 +ℤ (pos 0 -ℤ pos (suc k * length c.old)) ≡ pos old.named.0 -ℤ pos (suc k * length c.old) = omega (arith, ints) in
       subst (λ z. S.HasSureRun s page w.lines w.repeat item z) e moved
 
@@ -205,11 +232,13 @@ module _ (laws : StreamLaws) (near : OwnersAreNear) (again : CyclesRepeat) (c : 
       let count = r.run.count ∙ len in
       let size : length r.rest ≡ k = omega arith in
       record {
-        named = subst (Contains (c.old_certificate.starts page item)) (sym (turned_back (length c.old) (suc k) (pos old.named.0) ∙ turned_start (length c.old) old.named.0 lt)) old.named.1;
+        named = subst (Contains (c.old_certificate.starts page item))
+            (sym (turned_back (length c.old) (suc k) (pos old.named.0) ∙ turned_start (length c.old) old.named.0 lt)) old.named.1;
         run = r.run;
         sure = r.all_sure;
         ends = bounds (first_start ∷ r.rest) (pos old.named.0 -ℤ pos (length c.old)) (pos 0) (omega (arith, ints))
-            (run_short (repeated c.old) page item (length c.old) some_old (transmission_on c.old some_old) first_start r.rest r.run.successive (pos old.named.0 -ℤ pos (length c.old))
+            (run_short (repeated c.old) page item (length c.old) some_old
+            (transmission_on c.old some_old) first_start r.rest r.run.successive (pos old.named.0 -ℤ pos (length c.old))
             (subst (λ m. (first_start +ℤ pos (m * length c.old)) ≤ℤ (pos old.named.0 -ℤ pos (length c.old))) (sym size) (omega (arith, ints))));
       }
 
@@ -246,7 +275,8 @@ module _ (laws : StreamLaws) (near : OwnersAreNear) (again : CyclesRepeat) (c : 
               named = t.1;
               run = a.run;
               sure = a.all_sure;
-              ends = ends_rise (repeated c.old) page item a.first first_start (pos 0) a.rest r.rest same early a.run.successive r.run.successive f.ends;
+              ends = ends_rise (repeated c.old) page item a.first first_start
+                  (pos 0) a.rest r.rest same early a.run.successive r.run.successive f.ends;
             } in
             record {
               start = a.first;
@@ -263,7 +293,8 @@ module _ (laws : StreamLaws) (near : OwnersAreNear) (again : CyclesRepeat) (c : 
           owned = J.old_owned laws c.old c.new page item r.all_sure.0.owner first_start f.ends.0 r.all_sure.0.owned;
           not_before = le;
           ends = old_ends first_start r.rest f (tau +ℤ pos (limit w))
-              (ends_rise (repeated c.old) page item first_start a.first (tau +ℤ pos (limit w)) r.rest a.rest (sym same) (omega (arith, ints)) r.run.successive a.run.successive a.ends);
+              (ends_rise (repeated c.old) page item first_start a.first (tau +ℤ pos (limit w)) r.rest a.rest (sym same)
+              (omega (arith, ints)) r.run.successive a.run.successive a.ends);
         }
       ]
 
@@ -272,18 +303,22 @@ module _ (laws : StreamLaws) (near : OwnersAreNear) (again : CyclesRepeat) (c : 
   last_start = pos new.named.0 +ℤ pos (length c.new)
 
   last_run : S.HasSureRun (repeated c.new) page w.lines w.repeat item last_start
-  last_run = (laws.move (repeated c.new) (pos (length c.new)) (again c.new (omega arith))).run page w.lines w.repeat item (pos new.named.0) (new.sure new.named.0 new.named.1).1
+  last_run = (laws.move (repeated c.new) (pos (length c.new)) (again c.new (omega arith))).run page w.lines w.repeat item
+      (pos new.named.0) (new.sure new.named.0 new.named.1).1
 
   last_new : IsNewRun last_run.all_sure.0.owner last_start last_run.rest
   last_new =
       let r = last_run in
       let lt = (new.sure new.named.0 new.named.1).0 in
-      let close = near (repeated c.new) (length c.new) (omega arith) (again c.new (omega arith)) page item r.all_sure.0.owner last_start r.all_sure.0.owned in
+      let close = near (repeated c.new) (length c.new) (omega arith)
+      (again c.new (omega arith)) page item r.all_sure.0.owner last_start r.all_sure.0.owned in
       let e : pos new.named.0 +ℤ pos (length c.new) ≡ pos new.named.0 +ℤ pos (1 * length c.new) = omega (arith, ints) in
       record {
         behind = omega (arith, ints);
         owned = r.all_sure.0.owned;
-        named = subst (Contains (w.starts page item)) (sym (ap (turned (length c.new)) e ∙ turned_more (length c.new) 1 (pos new.named.0) ∙ turned_start (length c.new) new.named.0 lt)) new.named.1;
+        named = subst (Contains (w.starts page item))
+            (sym (ap (turned (length c.new)) e ∙ turned_more (length c.new) 1 (pos new.named.0)
+            ∙ turned_start (length c.new) new.named.0 lt)) new.named.1;
         run = r.run;
         sure = r.all_sure;
       }
@@ -300,8 +335,10 @@ module _ (laws : StreamLaws) (near : OwnersAreNear) (again : CyclesRepeat) (c : 
         from = last_low;
         counts = new_counts r.all_sure.0.owner last_start r.rest a;
         owned = J.new_owned laws c.old c.new page item r.all_sure.0.owner last_start a.behind r.all_sure.0.owned;
-        ends = new_ends r.all_sure.0.owner last_start r.rest a (high c k) (bounds (last_start ∷ r.rest) (last_start +ℤ pos (k * length c.new)) (high c k) last_high
-            (run_short (repeated c.new) page item (length c.new) some_new (transmission_on c.new some_new) last_start r.rest r.run.successive (last_start +ℤ pos (k * length c.new))
+        ends = new_ends r.all_sure.0.owner last_start r.rest a (high c k)
+            (bounds (last_start ∷ r.rest) (last_start +ℤ pos (k * length c.new)) (high c k) last_high
+            (run_short (repeated c.new) page item (length c.new) some_new
+            (transmission_on c.new some_new) last_start r.rest r.run.successive (last_start +ℤ pos (k * length c.new))
             (subst (λ m. (last_start +ℤ pos (m * length c.new)) ≤ℤ (last_start +ℤ pos (k * length c.new))) (sym size) (omega (arith, ints)))));
       }
     where
@@ -319,7 +356,8 @@ module _ (laws : StreamLaws) (near : OwnersAreNear) (again : CyclesRepeat) (c : 
       let a = t.0 in
       let b = last_new.behind in
       let g = a.not_before in
-      let is : IsNewRun a.owner a.first a.rest = record { behind = omega (arith, ints); owned = a.owned; named = t.1; run = a.run; sure = a.all_sure } in
+      let is : IsNewRun a.owner a.first a.rest =
+      record { behind = omega (arith, ints); owned = a.owned; named = t.1; run = a.run; sure = a.all_sure } in
       record {
         start = a.first;
         owner = a.owner;
@@ -344,7 +382,11 @@ module _ (laws : StreamLaws) (near : OwnersAreNear) (again : CyclesRepeat) (c : 
         ),
         t.owned,
         t.not_before,
-        record { rest = t.ends.rest; run = run_from (stream c) page w.lines w.repeat item (suc k) len t.start t.ends.rest t.ends.run; ends = t.ends.ends },
+        record {
+          rest = t.ends.rest;
+          run = run_from (stream c) page w.lines w.repeat item (suc k) len t.start t.ends.rest t.ends.run;
+          ends = t.ends.ends;
+        },
       )
 
   bridged_then : IsBridged c p item → (tau : ℤ) → Served tau
@@ -369,7 +411,8 @@ module _ (laws : StreamLaws) (near : OwnersAreNear) (again : CyclesRepeat) (c : 
 
   pub walk_decides : (ts : List Transmission) → AreJoined c p item k ts → AllFollow (limit w) (counted (is_named c p item) k ts) ↔ IsBridged c p item
   walk_decides ts told =
-      let d = N.decides JOwned JSure k (limit w) (is_named c p item) (low c k) (high c k) ordered ts told first_anchor last_anchor first_serves last_serves in
+      let d = N.decides JOwned JSure k (limit w) (is_named c p item) (low c k)
+      (high c k) ordered ts told first_anchor last_anchor first_serves last_serves in
       ((λ f. bridged_if (d.0 f)), (λ b. d.1 (bridged_then b)))
 
 pub walks_decide : StreamLaws → OwnersAreNear → CyclesRepeat → WalksDecide
@@ -377,5 +420,6 @@ walks_decide laws near again c is both alike p common item need k len ts told =
     let before = place_of c.old_pages p common.0 in
     let after = place_of c.new_pages p common.1 in
     walk_decides laws near again c p item k len (let s = is.old.some in omega arith) (let s = is.new.some in omega arith)
-    (covered_alike c.old p c.old_certificate c.new_certificate item alike (covered_of c.old c.old_pages c.old_certificate both.old alike.old_class before.0 p before.1 item need))
+    (covered_alike c.old p c.old_certificate c.new_certificate item alike
+    (covered_of c.old c.old_pages c.old_certificate both.old alike.old_class before.0 p before.1 item need))
     (covered_of c.new c.new_pages c.new_certificate both.new alike.new_class after.0 p after.1 item need) ts told

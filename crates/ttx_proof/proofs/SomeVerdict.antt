@@ -51,11 +51,18 @@ use Rattle.ttx_proof.proofs.BridgedIsSeen.{place_of}
 
 same_page : (a b : Page) → Decided (a ≡ b)
 same_page a b =
-    elim (both (same_id a.id b.id) (both (same_nat a.control b.control) (both (same_numbers a.head b.head) (both (same_list same_numbers a.rows b.rows) (both (same_links a.links b.links) (same_numbers a.crc b.crc)))))) as (λ _. Decided (a ≡ b)) [
+    elim (both (same_id a.id b.id)
+    (both (same_nat a.control b.control)
+    (both (same_numbers a.head b.head)
+    (both (same_list same_numbers a.rows b.rows) (both (same_links a.links b.links) (same_numbers a.crc b.crc)))))) as
+    (λ _. Decided (a ≡ b)) [
       | inl e ↦
           let id = e.0 in let control = e.1.0 in let head = e.1.1.0 in let rows = e.1.1.1.0 in let links = e.1.1.1.1.0 in let crc = e.1.1.1.1.1 in
           inl (λ i. record { id = id i; control = control i; head = head i; rows = rows i; links = links i; crc = crc i })
-      | inr ne ↦ inr (λ e. ne (ap (λ x. x.id) e, (ap (λ x. x.control) e, (ap (λ x. x.head) e, (ap (λ x. x.rows) e, (ap (λ x. x.links) e, ap (λ x. x.crc) e))))))
+      | inr ne ↦ inr (λ e. ne (
+        ap (λ x. x.id) e,
+        (ap (λ x. x.control) e, (ap (λ x. x.head) e, (ap (λ x. x.rows) e, (ap (λ x. x.links) e, ap (λ x. x.crc) e)))),
+      ))
     ]
 
 holds : (pages : List Page) (p : Page) → Decided (Contains pages p)
@@ -76,7 +83,8 @@ abbrev IsAt : Splice → (Page → Type 0) → ℕ → Type 0
 IsAt c P i = (p : Page) × (slice_get c.new_pages i ≡ Some p) × (IsCommon c p × P p)
 
 -- the first common page of which something is true, or there is none
-some_common : (c : Splice) (P : Page → Type 0) → ((p : Page) → Decided (IsCommon c p × P p)) → ((p : Page) × IsFirstCommon c P p) ⊎ ((p : Page) → IsCommon c p → P p → ⊥)
+some_common : (c : Splice) (P : Page → Type 0) → ((p : Page) → Decided (IsCommon c p × P p)) → ((p : Page) × IsFirstCommon c P p)
+    ⊎ ((p : Page) → IsCommon c p → P p → ⊥)
 some_common c P each = let r = least_below (IsAt c P) (length c.new_pages) decide in told r.0 r.1
   where
     decide : (i : ℕ) → i < length c.new_pages → Decided (IsAt c P i)
@@ -85,9 +93,21 @@ some_common c P each = let r = least_below (IsAt c P) (length c.new_pages) decid
         alike (λ h. (here.0, here.1, h))
         (λ a. let at = a.1 in let place = here.1 in let same : a.0 ≡ here.0 = cc in subst (λ q. IsCommon c q × P q) same a.2) (each here.0)
 
-    told : (first : Option ℕ) → FirstBelow (IsAt c P) (length c.new_pages) first → ((p : Page) × IsFirstCommon c P p) ⊎ ((p : Page) → IsCommon c p → P p → ⊥)
-    told (Some i) f = inl (f.1.0, record { index = i; place = f.1.1; common = f.1.2.0; here = f.1.2.1; none_before = λ j q lt at common h. f.2 j lt (q, at, (common, h)) })
-    told None none = inr (λ p common h. let at = place_of c.new_pages p common.1 in none at.0 (slice_get_within c.new_pages at.0 p at.1) (p, at.1, (common, h)))
+    told : (first : Option ℕ) → FirstBelow (IsAt c P) (length c.new_pages) first → ((p : Page) × IsFirstCommon c P p)
+        ⊎ ((p : Page) → IsCommon c p → P p → ⊥)
+    told (Some i) f = inl (
+      f.1.0,
+      record {
+        index = i;
+        place = f.1.1;
+        common = f.1.2.0;
+        here = f.1.2.1;
+        none_before = λ j q lt at common h.
+            f.2 j lt (q, at, (common, h));
+      },
+    )
+    told None none = inr (λ p common h. let at = place_of c.new_pages p common.1
+        in none at.0 (slice_get_within c.new_pages at.0 p at.1) (p, at.1, (common, h)))
 
 -- ---- seams
 
@@ -97,12 +117,15 @@ true_to p (TheRow r) slot = row_right p r (packet_of slot)
 true_to p TheLinks slot = links_right p slot (packet_of slot)
 
 wrong_as : (p : Page) (slot : List ℕ) (item : Item) → Decided (IsWrongAs p slot item)
-wrong_as p slot item = alike (λ e. (e.0, e.1.0, e.1.1)) (λ w. (w.0, (w.1, w.2))) (both (same_bool (needed p item) true) (both (same_bool (carries p.id.mag item (packet_of slot)) true) (refuted (true_to p item slot))))
+wrong_as p slot item = alike (λ e. (e.0, e.1.0, e.1.1)) (λ w. (w.0, (w.1, w.2)))
+    (both (same_bool (needed p item) true)
+    (both (same_bool (carries p.id.mag item (packet_of slot)) true) (refuted (true_to p item slot))))
 
 wrong_slot : (p : Page) (slot : List ℕ) → Decided (IsWrongSlot p slot)
 wrong_slot p slot = elim (wrong_as p slot TheLinks) as (λ _. Decided (IsWrongSlot p slot)) [
   | inl wrong ↦ inl (TheLinks, wrong)
-  | inr right ↦ alike (λ h. (TheRow h.0, h.2)) (λ w. a_row right w.0 w.1) (any_below (λ r. IsWrongAs p slot (TheRow r)) 25 (λ r lt. wrong_as p slot (TheRow r)))
+  | inr right ↦ alike (λ h. (TheRow h.0, h.2)) (λ w. a_row right w.0 w.1)
+      (any_below (λ r. IsWrongAs p slot (TheRow r)) 25 (λ r lt. wrong_as p slot (TheRow r)))
 ]
   where
     a_row : (IsWrongAs p slot TheLinks → ⊥) → (item : Item) → IsWrongAs p slot item → (r : ℕ) × (r < 25) × IsWrongAs p slot (TheRow r)
@@ -127,7 +150,8 @@ is_left turn cycle some page = let r = least_below (IsBack cycle page.mag) (leng
         let latest = latest_at cycle page.mag back f.0 f.1 (λ i lt. is_false _ (f.2 i lt)) in
         let decides = left_by cycle page (negsuc back) latest (heads_page page (packet_of (repeated cycle (negsuc back)))) refl in
         alike decides.0 decides.1 (same_bool _ true)
-    told None none = let never = left_to_none cycle page (none_met cycle page.mag turn some (λ i lt. is_false _ (none i lt))) in inr (λ l. let h = never.1 l in cc)
+    told None none = let never = left_to_none cycle page (none_met cycle page.mag turn some (λ i lt. is_false _ (none i lt)))
+        in inr (λ l. let h = never.1 l in cc)
 
 -- a header of the magazine, or a slot that isn't the page's
 abbrev Ends : List (List ℕ) → Page → ℕ → Type 0
@@ -146,9 +170,14 @@ first_over turn cycle some p = let r = least_below (Ends cycle p) (length cycle)
       ]
     ]
 
-    ended_at : (j : ℕ) → j < length cycle → ((i : ℕ) → i < j → Ends cycle p i → ⊥) → Ends cycle p j → (first : Option ℕ) × TellsOver (repeated cycle) p first
+    ended_at : (j : ℕ) → j < length cycle → ((i : ℕ) → i < j → Ends cycle p i → ⊥) → Ends cycle p j → (first : Option ℕ)
+        × TellsOver (repeated cycle) p first
     ended_at j lt before (inl header) = (None, ended cycle p j lt header (λ i below w. before i below (inr w)))
-    ended_at j lt before (inr wrong) = (Some j, first_is cycle p j lt (λ i below. is_false _ (λ h. before i below (inl h))) (λ i below w. before i below (inr w)) wrong)
+    ended_at j lt before (inr wrong) = (
+      Some j,
+      first_is cycle p j lt (λ i below. is_false _ (λ h. before i below (inl h)))
+          (λ i below w. before i below (inr w)) wrong,
+    )
 
     told : (first : Option ℕ) → FirstBelow (Ends cycle p) (length cycle) first → (first : Option ℕ) × TellsOver (repeated cycle) p first
     told (Some j) f = ended_at j f.0 f.2 f.1
@@ -188,7 +217,8 @@ module _ (laws : SpliceLaws) (c : Splice) where
   module _ (known : AreKnown c) where
     seam_of : (p : Page) → (slot : Option ℕ) × TellsSeam c p slot
     seam_of p = elim (is_left laws.turn c.old known.splice.old.some p.id) as (λ _. (slot : Option ℕ) × TellsSeam c p slot) [
-      | inl left ↦ let over = first_over laws.turn c.new known.splice.new.some p in (over.0, seam_told laws.left c p c.old c.new refl refl left over.0 over.1)
+      | inl left ↦ let over = first_over laws.turn c.new known.splice.new.some p
+          in (over.0, seam_told laws.left c p c.old c.new refl refl left over.0 over.1)
       | inr not_left ↦ (None, no_seam_told laws.left c p c.old refl not_left)
     ]
 
@@ -209,7 +239,8 @@ module _ (laws : SpliceLaws) (c : Splice) where
           let old_some : 1 ≤ length c.old = let s = known.splice.old.some in omega arith in
           let new_some : 1 ≤ length c.new = let s = known.splice.new.some in omega arith in
           let at = place_of c.new_pages p common.1 in
-          let given : AreGiven c p item (sent_in c.old p.id w.lines item) (sent_after c.old c.new p.id w.lines item) (sent_in c.new p.id w.lines item) = record {
+          let given : AreGiven c p item (sent_in c.old p.id w.lines item) (sent_after c.old c.new p.id w.lines item)
+          (sent_in c.new p.id w.lines item) = record {
             old = (laws.list c.old old_some known.splice.old.most p.id w.lines item).0;
             middle = laws.first c.old c.new old_some p.id w.lines item;
             new = (laws.list c.new new_some known.splice.new.most p.id w.lines item).0;
@@ -229,10 +260,13 @@ module _ (laws : SpliceLaws) (c : Splice) where
         | inr before ↦ let own = item_with count (omega arith) in next own.0 own.1 own.2 before (same_bool (needed p own.0) true)
       ]
         where
-          more : (own : Item) → IsItem own → item_number own ≡ count → (needed p own ≡ true → IsBridged c p own) → AreBridgedBelow c p count → LateBelow (suc count)
-          more own is place here before = let e : count + 1 ≡ suc count = omega arith in inr (subst (AreBridgedBelow c p) e (bridged_more c p count own is place here before))
+          more : (own : Item) → IsItem own → item_number own ≡ count → (needed p own ≡ true → IsBridged c p own) →
+              AreBridgedBelow c p count → LateBelow (suc count)
+          more own is place here before = let e : count + 1 ≡ suc count = omega arith
+              in inr (subst (AreBridgedBelow c p) e (bridged_more c p count own is place here before))
 
-          next : (own : Item) → IsItem own → item_number own ≡ count → AreBridgedBelow c p count → Decided (needed p own ≡ true) → LateBelow (suc count)
+          next : (own : Item) → IsItem own → item_number own ≡ count → AreBridgedBelow c p count → Decided (needed p own ≡ true) →
+              LateBelow (suc count)
           next own is place before (inr unseen) = more own is place (λ need. absurd (unseen need)) before
           next own is place before (inl need) = elim (bridged own need) as (λ _. LateBelow (suc count)) [
             | inl b ↦ more own is place (λ _. b) before
@@ -287,7 +321,9 @@ module _ (laws : SpliceLaws) (c : Splice) where
   are_alike v w =
       alike (λ e. record { lines = e.0; repeat = e.1.0; deadline = e.1.1.0; old_class = e.1.1.1.0; new_class = e.1.1.1.1 })
       (λ a. (a.lines, (a.repeat, (a.deadline, (a.old_class, a.new_class)))))
-      (both (same_nat v.lines w.lines) (both (same_nat v.repeat w.repeat) (both (same_nat v.deadline w.deadline) (both (same_class v.class Any) (same_class w.class Any)))))
+      (both (same_nat v.lines w.lines)
+      (both (same_nat v.repeat w.repeat)
+      (both (same_nat v.deadline w.deadline) (both (same_class v.class Any) (same_class w.class Any)))))
 
   module _ (is : IsSplice c) where
     abbrev SomeFor : Type 0

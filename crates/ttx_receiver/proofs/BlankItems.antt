@@ -25,20 +25,26 @@ module _ (lines : ℕ) (sel : Selection) where
       (λ _. cond_both (id.mag == selected_mag sel) _ _ (λ (new : Memory). new.fresh ≡ m.fresh) (λ _. refl)
       (λ _. cond_both (c11 control && choice) (with_storing m false) m (λ (new : Memory). new.fresh ≡ m.fresh) (λ _. refl) (λ _. refl)))
   after_fresh choice m (Row mag number text) h =
-      cond_both ((mag == selected_mag sel) && m.storing && not (misses lines choice m)) (with_row m number (stored_row (get_or m.rows number []) text)) m (λ (new : Memory). new.fresh ≡ m.fresh) (λ _. refl) (λ _. refl)
+      cond_both ((mag == selected_mag sel) && m.storing && not (misses lines choice m))
+      (with_row m number (stored_row (get_or m.rows number []) text)) m (λ (new : Memory). new.fresh ≡ m.fresh) (λ _. refl)
+      (λ _. refl)
   after_fresh choice m (Links mag None) h =
-      cond_both ((mag == selected_mag sel) && m.storing && not (misses lines choice m)) m m (λ (new : Memory). new.fresh ≡ m.fresh) (λ _. refl) (λ _. refl)
+      cond_both ((mag == selected_mag sel) && m.storing && not (misses lines choice m)) m m (λ (new : Memory). new.fresh ≡ m.fresh)
+      (λ _. refl) (λ _. refl)
   after_fresh choice m (Links mag (Some content)) h =
-      cond_both ((mag == selected_mag sel) && m.storing && not (misses lines choice m)) (with_links m (Some content)) m (λ (new : Memory). new.fresh ≡ m.fresh) (λ _. refl) (λ _. refl)
+      cond_both ((mag == selected_mag sel) && m.storing && not (misses lines choice m)) (with_links m (Some content)) m
+      (λ (new : Memory). new.fresh ≡ m.fresh) (λ _. refl) (λ _. refl)
   after_fresh choice m _ h = refl
 
   -- a matching header blanks the rows and links of a fresh one
-  blanks_row : (r c : ℕ) → 1 ≤ r → r < 25 → c < 40 → (choice : Bool) (m : Memory) (pkt : Packet) → Shape m → m.fresh ≡ true → heads_matched sel pkt ≡ true →
+  blanks_row : (r c : ℕ) → 1 ≤ r → r < 25 → c < 40 → (choice : Bool) (m : Memory) (pkt : Packet) → Shape m → m.fresh ≡ true →
+      heads_matched sel pkt ≡ true →
       char_at (after Clearing lines sel choice m pkt) r c ≡ get_or blank_row c 0
   blanks_row zero c low high col choice m pkt s f h = absurd (omega arith)
   blanks_row (suc r) c low high col choice m (Header id control text) s f h =
       cond_both (matches sel id) _ _ (λ (new : Memory). char_at new (suc r) c ≡ get_or blank_row c 0)
-      (λ _. cond_both {A = Memory} (erases Clearing choice m control) (erased m) m (λ x. char_at (begun x control text) (suc r) c ≡ get_or blank_row c 0)
+      (λ _. cond_both {A = Memory} (erases Clearing choice m control) (erased m) m
+      (λ x. char_at (begun x control text) (suc r) c ≡ get_or blank_row c 0)
       (λ _.
       let ne : suc r ≢ 0 = omega arith in
       let lt : r < 24 = omega arith in
@@ -49,7 +55,8 @@ module _ (lines : ℕ) (sel : Selection) where
   blanks_row (suc r) c low high col choice m (Links mag content) s f h = absurd (both_ways _ refl h)
   blanks_row (suc r) c low high col choice m _ s f h = absurd (both_ways _ refl h)
 
-  blanks_links : (choice : Bool) (m : Memory) (pkt : Packet) → m.fresh ≡ true → heads_matched sel pkt ≡ true → (after Clearing lines sel choice m pkt).links ≡ no_links
+  blanks_links : (choice : Bool) (m : Memory) (pkt : Packet) → m.fresh ≡ true → heads_matched sel pkt ≡ true →
+      (after Clearing lines sel choice m pkt).links ≡ no_links
   blanks_links choice m (Header id control text) f h =
       cond_both (matches sel id) _ _ (λ (new : Memory). new.links ≡ no_links)
       (λ _. cond_both {A = Memory} (erases Clearing choice m control) (erased m) m (λ x. (begun x control text).links ≡ no_links)
@@ -59,7 +66,8 @@ module _ (lines : ℕ) (sel : Selection) where
   blanks_links choice m (Links mag content) f h = absurd (both_ways _ refl h)
   blanks_links choice m _ f h = absurd (both_ways _ refl h)
 
-module _ (lines : ℕ) (sel : Selection) (p : Page) (page : IsPage p) (received : List (List ℕ)) (receives_page : ReceivesPage sel p (packet_at received) (length received)) where
+module _ (lines : ℕ) (sel : Selection) (p : Page) (page : IsPage p) (received : List (List ℕ))
+    (receives_page : ReceivesPage sel p (packet_at received) (length received)) where
   abbrev g : ℕ → Packet
   g = packet_at received
 
@@ -84,7 +92,8 @@ module _ (lines : ℕ) (sel : Selection) (p : Page) (page : IsPage p) (received 
           let s = shape_after Clearing lines sel choice (older x) (g t) (record { count = v.0.count; width = v.0.width }) in
           elim v.1 as (λ _. Inv (suc t) (next choice x t)) [
             | inl f ↦ elim (cases_Bool (heads_matched sel (g t))) as (λ _. Inv (suc t) (next choice x t)) [
-              | inl h ↦ let b = (tuned_begin Clearing lines sel p g (length received) receives_page t lt h choice x).0 in (s, inr (b, brings t choice x v.0 f h), (λ _. b.settled))
+              | inl h ↦ let b = (tuned_begin Clearing lines sel p g (length received) receives_page t lt h choice x).0
+                  in (s, inr (b, brings t choice x v.0 f h), (λ _. b.settled))
               | inr h ↦ let e = after_fresh lines sel choice (older x) (g t) h in (
                 s,
                 inl (e ∙ f),
@@ -98,20 +107,26 @@ module _ (lines : ℕ) (sel : Selection) (p : Page) (page : IsPage p) (received 
                 (s, inr (b, keeps t lt choice x v.0 w.0 w.1), (λ _. b.settled))
           ]
 
-      step : (k : ℕ) → k < length received → (choice : Bool) (x : Memory) → Inv (0 + k) x → Inv (suc (0 + k)) (after Clearing lines sel choice (older x) (packet_at received k))
+      step : (k : ℕ) → k < length received → (choice : Bool) (x : Memory) → Inv (0 + k) x →
+          Inv (suc (0 + k)) (after Clearing lines sel choice (older x) (packet_at received k))
       step k lt choice x v =
           let e : k ≡ 0 + k = omega arith in
-          subst (λ t. Inv (suc t) (after Clearing lines sel choice (older x) (packet_at received k))) e (stepped k lt choice x (subst (λ t. Inv t x) (sym e) v))
+          subst (λ t. Inv (suc t) (after Clearing lines sel choice (older x) (packet_at received k))) e
+          (stepped k lt choice x (subst (λ t. Inv t x) (sym e) v))
 
-  pub blank_row_held : (r c : ℕ) → needed p (TheRow r) ≡ true → c < 40 → page_row p r ≡ blank_row → (i : ℕ) → i < length received → heads_matched sel (g i) ≡ true →
-      (m new : Memory) → Shape m → m.fresh ≡ true → Run Clearing lines sel m received new → (new.control ≡ p.control) × (char_at new r c ≡ get_or (page_row p r) c 0)
+  pub blank_row_held : (r c : ℕ) → needed p (TheRow r) ≡ true → c < 40 → page_row p r ≡ blank_row → (i : ℕ) → i < length received →
+      heads_matched sel (g i) ≡ true →
+      (m new : Memory) → Shape m → m.fresh ≡ true → Run Clearing lines sel m received new → (new.control ≡ p.control)
+      × (char_at new r c ≡ get_or (page_row p r) c 0)
   blank_row_held r c need col blank i inside here m new shape fresh run =
       let range = needed_row p r need in
       blank_held (λ x. char_at x r c ≡ get_or (page_row p r) c 0) i inside here
       (λ t choice x s f h.
-      blanks_row lines sel r c range.0 (omega (arith, range.1)) col choice (older x) (g t) (record { count = s.count; width = s.width }) f h ∙ ap (λ row. get_or row c 0) (sym blank))
+      blanks_row lines sel r c range.0 (omega (arith, range.1)) col choice (older x) (g t)
+      (record { count = s.count; width = s.width }) f h ∙ ap (λ row. get_or row c 0) (sym blank))
       (λ t lt choice x s tuned good.
-      keep_row Clearing lines sel p page.no_erase r c range.0 (omega (arith, range.1)) col choice (older x) (g t) (record { count = s.count; width = s.width }) tuned.settled
+      keep_row Clearing lines sel p page.no_erase r c range.0 (omega (arith, range.1)) col choice (older x) (g t)
+      (record { count = s.count; width = s.width }) tuned.settled
       (receives_page.heads t lt) (λ st carry. receives_page.rows t lt (tuned.owned st) r need carry) good)
       m new shape fresh run
 

@@ -34,19 +34,25 @@ module _ (k m n : Memory) where
   }
 
 -- a step leaves what is kept behind in what it touches, and in what was touched before
-pub behind_more : (t : Touched) (touch : Touch) (kept held new : Memory) → IsRowBelow 25 touch → IsBehind t kept held → LeavesOthers touch held new → IsBehind (with_touch t touch) kept new
+pub behind_more : (t : Touched) (touch : Touch) (kept held new : Memory) → IsRowBelow 25 touch → IsBehind t kept held →
+    LeavesOthers touch held new → IsBehind (with_touch t touch) kept new
 behind_more t Nothing kept held new low b l = record { inside = b.inside; alike = λ e. AreAlikeBut-none kept held new t.begin t.end (b.alike e) l }
 behind_more t (Row number) kept held new low b l = record {
   inside = omega arith;
-  alike = λ e. AreAlikeBut-trans kept held new t.begin t.end number (number + 1) (min t.begin number) (max t.end (number + 1)) (omega arith) (omega arith) (omega arith) (omega arith) (b.alike e) l;
+  alike = λ e. AreAlikeBut-trans kept held new t.begin t.end number (number + 1) (min t.begin number) (max t.end (number + 1))
+      (omega arith) (omega arith) (omega arith) (omega arith) (b.alike e) l;
 }
 behind_more t Everything kept held new low b l = record { inside = b.inside; alike = λ e. cc }
 
-module _ (class : Class) (lines : ℕ) (sel : Selection) (kept held new : Memory) (received : List ℕ) (law : StepTouches) (step : Step class lines sel held received new) where
-  pub behind_step : (t u : Touched) (touch : Touch) (own : Selection) (storing : Bool) → touch ≡ touch_of own storing (packet_of received) → own ≡ sel → storing ≡ held.storing
+module _ (class : Class) (lines : ℕ) (sel : Selection) (kept held new : Memory) (received : List ℕ) (law : StepTouches)
+    (step : Step class lines sel held received new) where
+  pub behind_step : (t u : Touched) (touch : Touch) (own : Selection) (storing : Bool) → touch
+      ≡ touch_of own storing (packet_of received) → own ≡ sel → storing ≡ held.storing
       → IsRowBelow 25 touch → u ≡ with_touch t touch → IsBehind t kept held → IsBehind u kept new
   behind_step t u touch own storing is same stored low after behind =
-      let touches : touch_of sel held.storing (packet_of received) ≡ touch = ap (λ s. touch_of s held.storing (packet_of received)) (sym same) ∙ ap (λ b. touch_of own b (packet_of received)) (sym stored) ∙ sym is in
+      let touches : touch_of sel held.storing (packet_of received) ≡ touch =
+      ap (λ s. touch_of s held.storing (packet_of received)) (sym same)
+      ∙ ap (λ b. touch_of own b (packet_of received)) (sym stored) ∙ sym is in
       let leaves : LeavesOthers touch held new = subst (λ x. LeavesOthers x held new) touches (law class lines sel held received new step) in
       subst (λ x. IsBehind x kept new) (sym after) (behind_more t touch kept held new low behind leaves)
 

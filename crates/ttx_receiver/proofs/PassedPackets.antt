@@ -21,12 +21,14 @@ none_stored false storing wanted e = refl
 
 -- a row or an X/27/0 that isn't stored changes nothing
 module _ (class : Class) (lines : ℕ) (sel : Selection) (choice : Bool) (m : Memory) where
-  pub passed_row : (mag number : ℕ) (text : List ℕ) → (m.storing && (mag == selected_mag sel)) ≡ false → m ≡ after class lines sel choice m (Row mag number text)
+  pub passed_row : (mag number : ℕ) (text : List ℕ) → (m.storing && (mag == selected_mag sel)) ≡ false → m
+      ≡ after class lines sel choice m (Row mag number text)
   passed_row mag number text none =
       subst (λ b. m ≡ (if b then with_row m number (stored_row (memory_row m number) text) else m))
       (sym (none_stored (mag == selected_mag sel) m.storing (not (misses lines choice m)) none)) refl
 
-  pub passed_links : (mag : ℕ) (content : Option LinkSet) → (m.storing && (mag == selected_mag sel)) ≡ false → m ≡ after class lines sel choice m (Links mag content)
+  pub passed_links : (mag : ℕ) (content : Option LinkSet) → (m.storing && (mag == selected_mag sel)) ≡ false → m
+      ≡ after class lines sel choice m (Links mag content)
   passed_links mag content none =
       subst (λ b. m ≡ (if b then with_links m content else m))
       (sym (none_stored (mag == selected_mag sel) m.storing (not (misses lines choice m)) none)) refl
@@ -54,7 +56,8 @@ module _ (class : Class) (lines : ℕ) (sel : Selection) (choice : Bool) (m : Me
     ])
   ])
 
-  passed_address : (slot : List ℕ) (low high : Option ℕ) → names_packet_0 low high ≡ false → (m.storing && names_magazine (selected_mag sel) low) ≡ false
+  passed_address : (slot : List ℕ) (low high : Option ℕ) → names_packet_0 low high ≡ false →
+      (m.storing && names_magazine (selected_mag sel) low) ≡ false
       → m ≡ after class lines sel choice m (packet_of_kind slot (addressed_kind slot low high))
   passed_address slot None high some none = refl
   passed_address slot (Some low) None some none = refl

@@ -122,24 +122,28 @@ pub record IsLost (sent received : List ℕ) : Type 0 where
   pub zeros : is_empty received ≡ true
 
 -- bytes 0 to 9 of a header are not free
-near_header : (sent received : List ℕ) (mag : ℕ) → kind_of sent ≡ IsHeader mag → MayBeReceivedAs sent received → (x : ℕ) → x < 10 → Near (get_or sent x 0) (get_or received x 0)
+near_header : (sent received : List ℕ) (mag : ℕ) → kind_of sent ≡ IsHeader mag → MayBeReceivedAs sent received → (x : ℕ) → x < 10 →
+    Near (get_or sent x 0) (get_or received x 0)
 near_header sent received mag e h x lt = elim (h.near x (omega arith)) as (λ _. Near (get_or sent x 0) (get_or received x 0))
     [ inl f ↦ let k : 34 ≤ x = subst (λ kind. IsFree kind x) e f in absurd (omega arith) | inr near ↦ near ]
 
 -- what is received is the packet that was sent, but for text and links; or a row is lost
 pub received_as : LawsBelow → (sent received : List ℕ) → IsSlot sent → is_clean sent ≡ true → MayBeReceivedAs sent received →
     (outline (packet_of received) ≡ outline (packet_of sent)) ⊎ IsLost sent received
-received_as laws sent received s clean h = elim (cases_Bool (is_empty sent)) as (λ _. (outline (packet_of received) ≡ outline (packet_of sent)) ⊎ IsLost sent received) [
-  | inl e ↦ inl (ap outline (packet_empty received (h.empty e)) ∙ ap outline (sym (packet_empty sent e)))
-  | inr e ↦ elim (laws.kind sent received s clean e h) as (λ _. (outline (packet_of received) ≡ outline (packet_of sent)) ⊎ IsLost sent received) [
-    | inl same ↦ inl (ap outline (packet_is received) ∙ ap (λ k. outline (packet_of_kind received k)) same ∙ same_outline (kind_of sent) refl ∙ ap outline (sym (packet_is sent)))
-    | inr lost ↦ inr (record {
-      row = subst IsRowPacket (sym (packet_is sent ∙ ap (packet_of_kind sent) lost.0)) tt;
-      silent = packet_empty received lost.1;
-      zeros = lost.1;
-    })
-  ]
-]
+received_as laws sent received s clean h = elim (cases_Bool (is_empty sent)) as
+    (λ _. (outline (packet_of received) ≡ outline (packet_of sent)) ⊎ IsLost sent received) [
+      | inl e ↦ inl (ap outline (packet_empty received (h.empty e)) ∙ ap outline (sym (packet_empty sent e)))
+      | inr e ↦ elim (laws.kind sent received s clean e h) as
+          (λ _. (outline (packet_of received) ≡ outline (packet_of sent)) ⊎ IsLost sent received) [
+            | inl same ↦ inl (ap outline (packet_is received) ∙ ap (λ k. outline (packet_of_kind received k)) same
+                ∙ same_outline (kind_of sent) refl ∙ ap outline (sym (packet_is sent)))
+            | inr lost ↦ inr (record {
+              row = subst IsRowPacket (sym (packet_is sent ∙ ap (packet_of_kind sent) lost.0)) tt;
+              silent = packet_empty received lost.1;
+              zeros = lost.1;
+            })
+          ]
+    ]
   where
     same_outline : (k : Kind) → kind_of sent ≡ k → outline (packet_of_kind received k) ≡ outline (packet_of_kind sent k)
     same_outline (IsHeader mag) e =
@@ -184,12 +188,14 @@ links_outline mag (Links m content) = refl
 links_outline mag _ = refl
 
 -- a test that looks at no text and holds of no row and of no empty slot is the same of what is sent and received
-same_test : LawsBelow → (test : Packet → Bool) → ((pkt : Packet) → test (outline pkt) ≡ test pkt) → ((pkt : Packet) → IsRowPacket pkt → test pkt ≡ false) → test Empty ≡ false →
+same_test : LawsBelow → (test : Packet → Bool) → ((pkt : Packet) → test (outline pkt) ≡ test pkt) →
+    ((pkt : Packet) → IsRowPacket pkt → test pkt ≡ false) → test Empty ≡ false →
     (sent received : List ℕ) → IsSlot sent → is_clean sent ≡ true → MayBeReceivedAs sent received → test (packet_of received) ≡ test (packet_of sent)
-same_test laws test plain rows silent sent received s clean h = elim (received_as laws sent received s clean h) as (λ _. test (packet_of received) ≡ test (packet_of sent)) [
-  | inl e ↦ sym (plain (packet_of received)) ∙ ap test e ∙ plain (packet_of sent)
-  | inr l ↦ ap test l.silent ∙ silent ∙ sym (rows (packet_of sent) l.row)
-]
+same_test laws test plain rows silent sent received s clean h =
+    elim (received_as laws sent received s clean h) as (λ _. test (packet_of received) ≡ test (packet_of sent)) [
+      | inl e ↦ sym (plain (packet_of received)) ∙ ap test e ∙ plain (packet_of sent)
+      | inr l ↦ ap test l.silent ∙ silent ∙ sym (rows (packet_of sent) l.row)
+    ]
 
 row_heads_none : (mag : ℕ) (pkt : Packet) → IsRowPacket pkt → heads mag pkt ≡ false
 row_heads_none mag (Row m number text) r = refl
@@ -236,7 +242,8 @@ module _ (laws : LawsBelow) (sent received : List ℕ) (s : IsSlot sent) (clean 
   ]
 
   -- bytes of odd parity are received right or of even parity
-  good_text : (base n : ℕ) (chars : List ℕ) → base + n ≤ 42 → ((c : ℕ) → get_or chars c 0 < 128) → ((x : ℕ) → base ≤ x → x < base + n → IsFreeIn (packet_of sent) x → ⊥) →
+  good_text : (base n : ℕ) (chars : List ℕ) → base + n ≤ 42 → ((c : ℕ) → get_or chars c 0 < 128) →
+      ((x : ℕ) → base ≤ x → x < base + n → IsFreeIn (packet_of sent) x → ⊥) →
       ((c : ℕ) → c < n → get_or sent (base + c) 0 ≡ odd_byte (get_or chars c 0)) → GoodText chars n (drop base received)
   good_text base n chars fits codes fixed right c lt good =
       let x = base + c in
@@ -251,7 +258,8 @@ module _ (laws : LawsBelow) (sent received : List ℕ) (s : IsSlot sent) (clean 
 
   -- a byte that is received as sent is right
   right_at : (base n : ℕ) (chars : List ℕ) → base + n ≤ 42 → ((c : ℕ) → get_or chars c 0 < 128) → (c : ℕ) → c < n →
-      get_or sent (base + c) 0 ≡ odd_byte (get_or chars c 0) → get_or received (base + c) 0 ≡ get_or sent (base + c) 0 → IsRightAt chars (drop base received) c
+      get_or sent (base + c) 0 ≡ odd_byte (get_or chars c 0) → get_or received (base + c) 0 ≡ get_or sent (base + c) 0 →
+      IsRightAt chars (drop base received) c
   right_at base n chars fits codes c lt right same =
       let at : get_or (drop base received) c 0 ≡ odd_byte (get_or chars c 0) = get_or-drop base received c 0 ∙ same ∙ right in
       record {
@@ -260,15 +268,18 @@ module _ (laws : LawsBelow) (sent received : List ℕ) (s : IsSlot sent) (clean 
         right = ap (λ b. b % 128) at ∙ odd_code laws _ (codes c);
       }
 
-  sent_head : (p : Page) → IsPage p → (text : List ℕ) → take 24 text ≡ map odd_byte p.head → text ≡ drop 10 sent → (c : ℕ) → c < 24 → get_or sent (10 + c) 0 ≡ odd_byte (get_or p.head c 0)
+  sent_head : (p : Page) → IsPage p → (text : List ℕ) → take 24 text ≡ map odd_byte p.head → text ≡ drop 10 sent → (c : ℕ) → c < 24 →
+      get_or sent (10 + c) 0 ≡ odd_byte (get_or p.head c 0)
   sent_head p page text e t c lt =
       sym (get_or-drop 10 sent c 0) ∙ ap (λ x. get_or x c 0) (sym t) ∙ sym (get_or-take 24 text c 0 lt) ∙ ap (λ x. get_or x c 0) e
       ∙ get_or-map odd_byte p.head c 0 0 (omega (arith, page.head_length))
 
-  sent_row : (p : Page) → IsPage p → (r : ℕ) → 1 ≤ r → r ≤ 24 → (text : List ℕ) → text ≡ map odd_byte (page_row p r) → text ≡ drop 2 sent → (c : ℕ) → c < 40 →
+  sent_row : (p : Page) → IsPage p → (r : ℕ) → 1 ≤ r → r ≤ 24 → (text : List ℕ) → text ≡ map odd_byte (page_row p r) → text
+      ≡ drop 2 sent → (c : ℕ) → c < 40 →
       get_or sent (2 + c) 0 ≡ odd_byte (get_or (page_row p r) c 0)
   sent_row p page r low high text e t c lt =
-      sym (get_or-drop 2 sent c 0) ∙ ap (λ x. get_or x c 0) (sym t ∙ e) ∙ get_or-map odd_byte (page_row p r) c 0 0 (omega (arith, (page.rows r low high).length))
+      sym (get_or-drop 2 sent c 0) ∙ ap (λ x. get_or x c 0) (sym t ∙ e)
+      ∙ get_or-map odd_byte (page_row p r) c 0 0 (omega (arith, (page.rows r low high).length))
 
   -- what is received of a header of the page
   pub received_head : (p : Page) → IsPage p → HeadIsRight p (packet_of sent) → IsHeadOf p (packet_of received)
@@ -277,7 +288,8 @@ module _ (laws : LawsBelow) (sent received : List ℕ) (s : IsSlot sent) (clean 
     | inr l ↦ subst (IsHeadOf p) (sym l.silent) tt
   ]
     where
-      go : (S R : Packet) → outline R ≡ outline S → IsOfSlot sent S → IsOfSlot received R → HeadIsRight p S → ((x : ℕ) → IsFreeIn (packet_of sent) x → IsFreeIn S x) → IsHeadOf p R
+      go : (S R : Packet) → outline R ≡ outline S → IsOfSlot sent S → IsOfSlot received R → HeadIsRight p S →
+          ((x : ℕ) → IsFreeIn (packet_of sent) x → IsFreeIn S x) → IsHeadOf p R
       go (Header id control text) (Header id' control' text') e os or right free =
           let k : control' ≡ control = cc in (
             k ∙ right.0,
@@ -299,10 +311,12 @@ module _ (laws : LawsBelow) (sent received : List ℕ) (s : IsSlot sent) (clean 
     | inr l ↦ subst (IsRowOf p r) (sym l.silent) tt
   ]
     where
-      go : (S R : Packet) → outline R ≡ outline S → IsOfSlot sent S → IsOfSlot received R → RowIsRight p r S → ((x : ℕ) → IsFreeIn (packet_of sent) x → IsFreeIn S x) → IsRowOf p r R
+      go : (S R : Packet) → outline R ≡ outline S → IsOfSlot sent S → IsOfSlot received R → RowIsRight p r S →
+          ((x : ℕ) → IsFreeIn (packet_of sent) x → IsFreeIn S x) → IsRowOf p r R
       go (Row mag number text) (Row m n t) e os or right free =
           subst (GoodText (page_row p r) 40) (sym or.0)
-          (good_text 2 40 (page_row p r) (omega arith) (page.rows r low high).codes (λ x a b f. free x f) (sent_row p page r low high text right os.0))
+          (good_text 2 40 (page_row p r) (omega arith) (page.rows r low high).codes (λ x a b f. free x f)
+          (sent_row p page r low high text right os.0))
       go (Row mag number text) (Header id control t) e os or right free = tt
       go (Row mag number text) (Links m content) e os or right free = tt
       go (Row mag number text) _ e os or right free = tt
@@ -320,9 +334,12 @@ module _ (laws : LawsBelow) (sent received : List ℕ) (s : IsSlot sent) (clean 
       same : (mag : ℕ) → is_exact sent ≡ true → ((x : ℕ) → IsFreeIn (packet_of sent) x → ⊥) → links_of mag received ≡ links_of mag sent
       same mag exact fixed =
           laws.links sent received mag s h.slot exact
-          (λ x low high. elim (h.near x (omega arith)) as (λ _. Near (get_or sent x 0) (get_or received x 0)) [ inl f ↦ absurd (fixed x (free_in sent x f)) | inr near ↦ near ])
+          (λ x low high. elim (h.near x (omega arith)) as
+          (λ _. Near (get_or sent x 0) (get_or received x 0))
+          [ inl f ↦ absurd (fixed x (free_in sent x f)) | inr near ↦ near ])
 
-      go : (S R : Packet) → outline R ≡ outline S → IsOfSlot sent S → IsOfSlot received R → LinksAreRight p sent S → ((x : ℕ) → IsFreeIn (packet_of sent) x → IsFreeIn S x) → AreLinksOf p R
+      go : (S R : Packet) → outline R ≡ outline S → IsOfSlot sent S → IsOfSlot received R → LinksAreRight p sent S →
+          ((x : ℕ) → IsFreeIn (packet_of sent) x → IsFreeIn S x) → AreLinksOf p R
       go (Links mag content) (Links m c) e os or right free =
           let k : m ≡ mag = cc in
           or ∙ ap (λ x. links_of x received) k ∙ same mag right.0 free ∙ sym os ∙ right.1
@@ -334,7 +351,8 @@ module _ (laws : LawsBelow) (sent received : List ℕ) (s : IsSlot sent) (clean 
       go _ R e os or right free = absurd right
 
   -- a character of a header that is received as sent
-  pub head_received_at : (p : Page) → IsPage p → HeadIsRight p (packet_of sent) → (c : ℕ) → c < 24 → get_or received (10 + c) 0 ≡ get_or sent (10 + c) 0 → HeadRightAt p c (packet_of received)
+  pub head_received_at : (p : Page) → IsPage p → HeadIsRight p (packet_of sent) → (c : ℕ) → c < 24 → get_or received (10 + c) 0
+      ≡ get_or sent (10 + c) 0 → HeadRightAt p c (packet_of received)
   head_received_at p page right c lt same = elim (received_as laws sent received s clean h) as (λ _. HeadRightAt p c (packet_of received)) [
     | inl e ↦ go (packet_of sent) (packet_of received) e (of_slot laws sent) (of_slot laws received) right
     | inr l ↦ absurd (no_head (packet_of sent) l.row right)
@@ -348,7 +366,8 @@ module _ (laws : LawsBelow) (sent received : List ℕ) (s : IsSlot sent) (clean 
 
       go : (S R : Packet) → outline R ≡ outline S → IsOfSlot sent S → IsOfSlot received R → HeadIsRight p S → HeadRightAt p c R
       go (Header id control text) (Header id' control' text') e os or right =
-          subst (λ t. IsRightAt p.head t c) (sym or) (right_at 10 24 p.head (omega arith) page.head_codes c lt (sent_head p page text right.1 os c lt) same)
+          subst (λ t. IsRightAt p.head t c) (sym or)
+          (right_at 10 24 p.head (omega arith) page.head_codes c lt (sent_head p page text right.1 os c lt) same)
       go (Header id control text) (Row m n t) e os or right = cc
       go (Header id control text) (Links m content) e os or right = cc
       go (Header id control text) _ e os or right = cc
@@ -357,10 +376,14 @@ module _ (laws : LawsBelow) (sent received : List ℕ) (s : IsSlot sent) (clean 
       go _ R e os or right = absurd right
 
   -- a character of a row that is received as sent: so the row is received
-  pub row_received_at : (p : Page) → IsPage p → (r : ℕ) → 1 ≤ r → r ≤ 24 → RowIsRight p r (packet_of sent) → (c : ℕ) → c < 40 → get_or received (2 + c) 0 ≡ get_or sent (2 + c) 0 →
-      RowRightAt p r c (packet_of received) × ((mag : ℕ) → carries mag (TheRow r) (packet_of sent) ≡ true → carries mag (TheRow r) (packet_of received) ≡ true)
+  pub row_received_at : (p : Page) → IsPage p → (r : ℕ) → 1 ≤ r → r ≤ 24 → RowIsRight p r (packet_of sent) → (c : ℕ) → c < 40 →
+      get_or received (2 + c) 0 ≡ get_or sent (2 + c) 0 →
+      RowRightAt p r c (packet_of received) ×
+      ((mag : ℕ) → carries mag (TheRow r) (packet_of sent) ≡ true → carries mag (TheRow r) (packet_of received) ≡ true)
   row_received_at p page r low high right c lt same =
-      elim (received_as laws sent received s clean h) as (λ _. RowRightAt p r c (packet_of received) × ((mag : ℕ) → carries mag (TheRow r) (packet_of sent) ≡ true → carries mag (TheRow r) (packet_of received) ≡ true)) [
+      elim (received_as laws sent received s clean h) as
+      (λ _. RowRightAt p r c (packet_of received)
+      × ((mag : ℕ) → carries mag (TheRow r) (packet_of sent) ≡ true → carries mag (TheRow r) (packet_of received) ≡ true)) [
         | inl e ↦ (
           go (packet_of sent) (packet_of received) e (of_slot laws sent) (of_slot laws received) right,
           (λ mag k. sym (row_outline mag r (packet_of received)) ∙ ap (carries mag (TheRow r)) e ∙ row_outline mag r (packet_of sent) ∙ k),
@@ -370,7 +393,9 @@ module _ (laws : LawsBelow) (sent received : List ℕ) (s : IsSlot sent) (clean 
     where
       go : (S R : Packet) → outline R ≡ outline S → IsOfSlot sent S → IsOfSlot received R → RowIsRight p r S → RowRightAt p r c R
       go (Row mag number text) (Row m n t) e os or right =
-          subst (λ t. IsRightAt (page_row p r) t c) (sym or.0) (right_at 2 40 (page_row p r) (omega arith) (page.rows r low high).codes c lt (sent_row p page r low high text right os.0 c lt) same)
+          subst (λ t. IsRightAt (page_row p r) t c) (sym or.0)
+          (right_at 2 40 (page_row p r) (omega arith) (page.rows r low high).codes c lt
+          (sent_row p page r low high text right os.0 c lt) same)
       go (Row mag number text) (Header id control t) e os or right = cc
       go (Row mag number text) (Links m content) e os or right = cc
       go (Row mag number text) _ e os or right = cc
@@ -381,7 +406,8 @@ module _ (laws : LawsBelow) (sent received : List ℕ) (s : IsSlot sent) (clean 
       lost : (S : Packet) → IsOfSlot sent S → RowIsRight p r S → is_empty received ≡ true → ⊥
       lost (Row mag number text) os right z =
           let zero_byte : get_or received (2 + c) 0 ≡ 0 = no_empty received (2 + c) z (omega (arith, h.slot.size)) in
-          let o : is_odd (get_or sent (2 + c) 0) ≡ true = ap is_odd (sent_row p page r low high text right os.0 c lt) ∙ odd_is_odd laws _ ((page.rows r low high).codes c) in
+          let o : is_odd (get_or sent (2 + c) 0) ≡ true = ap is_odd (sent_row p page r low high text right os.0 c lt)
+          ∙ odd_is_odd laws _ ((page.rows r low high).codes c) in
           both_ways _ even_zero (sym (ap is_odd (sym same ∙ zero_byte)) ∙ o)
       lost (Header id control text) os right z = right
       lost (Links m content) os right z = right

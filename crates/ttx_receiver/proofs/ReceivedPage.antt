@@ -20,7 +20,8 @@ use Rattle.ttx_receiver.proofs.SlotDistances.{offset, not_before, offset_lt, lt_
 
 -- the page's headers are of its magazine, and the selection matches them
 pub page_heads : (id : Id) (pkt : Packet) → heads_page id pkt ≡ true → heads id.mag pkt ≡ true
-page_heads id (Header other control text) h = let e : id.mag ≡ other.mag = eqb-true _ _ ((and_parts _ _ (and_parts _ _ h).0).0) in eq-eqb other.mag id.mag (sym e)
+page_heads id (Header other control text) h = let e : id.mag ≡ other.mag = eqb-true _ _ ((and_parts _ _ (and_parts _ _ h).0).0)
+    in eq-eqb other.mag id.mag (sym e)
 page_heads id (Row m n t) h = h
 page_heads id (Links m content) h = h
 page_heads id _ h = h
@@ -56,7 +57,8 @@ no_row_zero laws mag slot = go (packet_of slot) (of_slot laws slot)
     go (Links m content) o = refl
     go _ o = refl
 
-module _ (laws : LawsBelow) (s : Stream) (p : Page) (page : IsPage p) (sel : Selection) (fits : matches sel p.id ≡ true) (begin : ℤ) (steady : IsSteadyFrom s p sel begin)
+module _ (laws : LawsBelow) (s : Stream) (p : Page) (page : IsPage p) (sel : Selection) (fits : matches sel p.id ≡ true) (begin : ℤ)
+    (steady : IsSteadyFrom s p sel begin)
     (repeat : ℕ) (received : List (List ℕ)) (permitted : Received s p.id repeat begin received) where
   abbrev place : ℕ → ℤ
   place t = begin +ℤ pos t
@@ -68,13 +70,15 @@ module _ (laws : LawsBelow) (s : Stream) (p : Page) (page : IsPage p) (sel : Sel
   got t = get_or received t []
 
   heads_sent : (t : ℕ) → t < length received → (mag : ℕ) → heads mag (packet_of (got t)) ≡ heads mag (packet_of (sent t))
-  heads_sent t lt mag = same_heads laws (sent t) (got t) (steady.slots _ (not_before begin t)) (steady.clean _ (not_before begin t)) (permitted.each t lt) mag
+  heads_sent t lt mag = same_heads laws (sent t) (got t) (steady.slots _ (not_before begin t)) (steady.clean _ (not_before begin t))
+      (permitted.each t lt) mag
 
   -- a header that is received as matching is the page's
   page_sent : (t : ℕ) → t < length received → heads_matched sel (packet_at received t) ≡ true → heads_page p.id (packet_of (sent t)) ≡ true
   page_sent t lt here =
       steady.selected _ (not_before begin t)
-      (sym (same_matched laws (sent t) (got t) (steady.slots _ (not_before begin t)) (steady.clean _ (not_before begin t)) (permitted.each t lt) sel) ∙ here)
+      (sym (same_matched laws (sent t) (got t) (steady.slots _ (not_before begin t)) (steady.clean _ (not_before begin t))
+      (permitted.each t lt) sel) ∙ here)
 
   -- the owner of what is received is the owner of what is sent
   latest_sent : (t : ℕ) → t < length received → (o : IsOwnedAt sel (packet_at received) t) → IsLatestHeader s p.id.mag (place o.place) (place t)
@@ -88,7 +92,8 @@ module _ (laws : LawsBelow) (s : Stream) (p : Page) (page : IsPage p) (sel : Sel
             let after' : o.place < k.0 = offset_lt begin o.place k.0 (subst (λ x. place o.place <ℤ x) k.1 low) in
             let before' : k.0 < t = offset_lt begin k.0 t (subst (λ x. x <ℤ place t) k.1 high) in
             let e : heads p.id.mag (packet_of (sent k.0)) ≡ false =
-            sym (heads_sent k.0 (omega arith) p.id.mag) ∙ ap (λ m. heads m (packet_at received k.0)) (same_mag sel p.id fits) ∙ o.none k.0 after' before' in
+            sym (heads_sent k.0 (omega arith) p.id.mag) ∙ ap (λ m. heads m (packet_at received k.0)) (same_mag sel p.id fits)
+            ∙ o.none k.0 after' before' in
             subst (λ x. heads p.id.mag (packet_of (s x)) ≡ false) (sym k.1) e;
       }
     where
@@ -104,14 +109,19 @@ module _ (laws : LawsBelow) (s : Stream) (p : Page) (page : IsPage p) (sel : Sel
     rows = λ t lt o r need c.
         let range = needed_row p r need in
         let mine = page_sent o.place (omega (arith, o.before)) o.matched in
-        let c' : carries p.id.mag (TheRow r) (packet_at received t) ≡ true = ap (λ m. carries m (TheRow r) (packet_at received t)) (same_mag sel p.id fits) ∙ c in
-        let c'' = row_was_sent laws (sent t) (got t) (steady.slots _ (not_before begin t)) (steady.clean _ (not_before begin t)) (permitted.each t lt) p.id.mag r c' in
-        received_row laws (sent t) (got t) (steady.slots _ (not_before begin t)) (steady.clean _ (not_before begin t)) (permitted.each t lt) p page r range.0 range.1
+        let c' : carries p.id.mag (TheRow r) (packet_at received t) ≡ true =
+        ap (λ m. carries m (TheRow r) (packet_at received t)) (same_mag sel p.id fits) ∙ c in
+        let c'' = row_was_sent laws (sent t) (got t) (steady.slots _ (not_before begin t)) (steady.clean _ (not_before begin t))
+        (permitted.each t lt) p.id.mag r c' in
+        received_row laws (sent t) (got t) (steady.slots _ (not_before begin t)) (steady.clean _ (not_before begin t))
+        (permitted.each t lt) p page r range.0 range.1
         (steady.items (TheRow r) need (place o.place) (place t) (not_before begin o.place) (latest_sent t lt o, mine, c''));
     links = λ t lt o c.
         let mine = page_sent o.place (omega (arith, o.before)) o.matched in
-        let c' : carries p.id.mag TheLinks (packet_at received t) ≡ true = ap (λ m. carries m TheLinks (packet_at received t)) (same_mag sel p.id fits) ∙ c in
-        let c'' = sym (same_links laws (sent t) (got t) (steady.slots _ (not_before begin t)) (steady.clean _ (not_before begin t)) (permitted.each t lt) p.id.mag) ∙ c' in
+        let c' : carries p.id.mag TheLinks (packet_at received t) ≡ true =
+        ap (λ m. carries m TheLinks (packet_at received t)) (same_mag sel p.id fits) ∙ c in
+        let c'' = sym (same_links laws (sent t) (got t) (steady.slots _ (not_before begin t)) (steady.clean _ (not_before begin t))
+        (permitted.each t lt) p.id.mag) ∙ c' in
         received_links laws (sent t) (got t) (steady.slots _ (not_before begin t)) (steady.clean _ (not_before begin t)) (permitted.each t lt) p
         (steady.items TheLinks tt (place o.place) (place t) (not_before begin o.place) (latest_sent t lt o, mine, c''));
     no_row_0 = λ t lt. no_row_zero laws (selected_mag sel) (got t);

@@ -19,7 +19,8 @@ packet_at received t = packet_of (get_or received t [])
 
 -- what each slot keeps is kept by a run
 pub run_keeps : (class : Class) (lines : ℕ) (sel : Selection) (Inv : ℕ → Memory → Type 0) (received : List (List ℕ)) (t : ℕ) →
-    ((k : ℕ) → k < length received → (choice : Bool) (m : Memory) → Inv (t + k) m → Inv (suc (t + k)) (after class lines sel choice (older m) (packet_at received k))) →
+    ((k : ℕ) → k < length received → (choice : Bool) (m : Memory) → Inv (t + k) m → Inv (suc (t + k))
+    (after class lines sel choice (older m) (packet_at received k))) →
     (m new : Memory) → Run class lines sel m received new → Inv t m → Inv (t + length received) new
 run_keeps class lines sel Inv [] t step m new r i =
     let e : t ≡ t + 0 = omega arith in subst (λ x. Inv x new) e (subst (λ x. Inv t x) (sym r) i)
@@ -27,14 +28,16 @@ run_keeps class lines sel Inv (slot ∷ received) t step m new r i =
     let mid = r.0 in
     let e0 : t ≡ t + 0 = omega arith in
     let e1 : suc (t + 0) ≡ suc t = omega arith in
-    let first : Inv (suc t) mid = subst (λ x. Inv (suc t) x) (sym r.1.is) (subst (λ x. Inv x (after class lines sel r.1.choice (older m) (packet_of slot))) e1
+    let first : Inv (suc t) mid = subst (λ x. Inv (suc t) x) (sym r.1.is)
+    (subst (λ x. Inv x (after class lines sel r.1.choice (older m) (packet_of slot))) e1
     (step 0 (omega arith) r.1.choice m (subst (λ x. Inv x m) e0 i))) in
     let e2 : suc t + length received ≡ t + suc (length received) = omega arith in
     subst (λ x. Inv x new) e2 (run_keeps class lines sel Inv received (suc t)
     (λ k lt choice x ix.
     let e3 : suc t + k ≡ t + suc k = omega arith in
     let e4 : suc (t + suc k) ≡ suc (suc t + k) = omega arith in
-    subst (λ y. Inv y (after class lines sel choice (older x) (packet_at received k))) e4 (step (suc k) (omega arith) choice x (subst (λ y. Inv y x) e3 ix)))
+    subst (λ y. Inv y (after class lines sel choice (older x) (packet_at received k))) e4
+    (step (suc k) (omega arith) choice x (subst (λ y. Inv y x) e3 ix)))
     mid new r.2 first)
 
 -- the latest header of the magazine before place t is one that the selection matches
@@ -47,7 +50,8 @@ pub record IsOwnedAt (sel : Selection) (g : ℕ → Packet) (t : ℕ) : Type 0 w
 -- what is received of the first n places
 pub record ReceivesPage (sel : Selection) (p : Page) (g : ℕ → Packet) (n : ℕ) : Type 0 where
   pub heads : (t : ℕ) → t < n → heads_matched sel (g t) ≡ true → IsHeadOf p (g t)
-  pub rows : (t : ℕ) → t < n → IsOwnedAt sel g t → (r : ℕ) → needed p (TheRow r) ≡ true → carries (selected_mag sel) (TheRow r) (g t) ≡ true → IsRowOf p r (g t)
+  pub rows : (t : ℕ) → t < n → IsOwnedAt sel g t → (r : ℕ) → needed p (TheRow r) ≡ true → carries (selected_mag sel) (TheRow r) (g t)
+      ≡ true → IsRowOf p r (g t)
   pub links : (t : ℕ) → t < n → IsOwnedAt sel g t → carries (selected_mag sel) TheLinks (g t) ≡ true → AreLinksOf p (g t)
   pub no_row_0 : (t : ℕ) → t < n → carries (selected_mag sel) (TheRow 0) (g t) ≡ false
 
@@ -78,7 +82,8 @@ module _ (class : Class) (lines : ℕ) (sel : Selection) (p : Page) (g : ℕ →
         record { storing = b.0; age = b.1 ∙ omega arith },
       )
 
-  owned_next : (t : ℕ) → (choice : Bool) (m : Memory) → (m.storing ≡ true → IsOwnedAt sel g t) → (next choice m t).storing ≡ true → IsOwnedAt sel g (suc t)
+  owned_next : (t : ℕ) → (choice : Bool) (m : Memory) → (m.storing ≡ true → IsOwnedAt sel g t) → (next choice m t).storing ≡ true →
+      IsOwnedAt sel g (suc t)
   owned_next t choice m owned st = elim (after_storing class lines sel choice (older m) (g t) st) as (λ _. IsOwnedAt sel g (suc t)) [
     | inl here ↦ record { place = t; before = omega arith; matched = here; none = λ i h k. absurd (omega arith) }
     | inr w ↦ let o = owned w.0 in record {
@@ -95,7 +100,8 @@ module _ (class : Class) (lines : ℕ) (sel : Selection) (p : Page) (g : ℕ →
       let k = after_settled class lines sel p choice (older m) (g t) (receives_page.heads t lt) c.settled c.control in
       record { settled = k.0; control = k.1; owned = owned_next t choice m c.owned }
 
-  pub storing_next : (h t : ℕ) → h < t → heads (selected_mag sel) (g t) ≡ false → ends_serial (selected_mag sel) (g t) ≡ false → (choice : Bool) (m : Memory) →
+  pub storing_next : (h t : ℕ) → h < t → heads (selected_mag sel) (g t) ≡ false → ends_serial (selected_mag sel) (g t) ≡ false →
+      (choice : Bool) (m : Memory) →
       IsStoring h t m → IsStoring h (suc t) (next choice m t)
   storing_next h t lt other on choice m s =
       let k = after_ready class lines sel choice (older m) (g t) other on s.storing in

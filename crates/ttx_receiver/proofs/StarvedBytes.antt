@@ -44,9 +44,11 @@ module _ (slot : List ℕ) (s : IsSlot slot) where
   pub flipped_byte : (x : ℕ) → x < 42 → get_or (spoilt slot x) x 0 ≡ bit_xor (get_or slot x 0) 1
   flipped_byte x lt = get_or-set_same slot x (bit_xor (get_or slot x 0) 1) 0 (omega (arith, s.size))
 
-  each_byte : (P : ℕ → ℕ → Type 0) (x : ℕ) → x < 42 → ((y : ℕ) → P y (get_or slot y 0)) → P x (bit_xor (get_or slot x 0) 1) → (y : ℕ) → P y (get_or (spoilt slot x) y 0)
+  each_byte : (P : ℕ → ℕ → Type 0) (x : ℕ) → x < 42 → ((y : ℕ) → P y (get_or slot y 0)) → P x (bit_xor (get_or slot x 0) 1) → (y : ℕ) →
+      P y (get_or (spoilt slot x) y 0)
   each_byte P x lt others flipped y = elim (cases_Bool (y == x)) as (λ _. P y (get_or (spoilt slot x) y 0)) [
-    | inl e ↦ let same : y ≡ x = eqb-true y x e in subst (λ z. P z (get_or (spoilt slot x) z 0)) (sym same) (subst (P x) (sym (flipped_byte x lt)) flipped)
+    | inl e ↦ let same : y ≡ x = eqb-true y x e in subst (λ z. P z (get_or (spoilt slot x) z 0)) (sym same)
+        (subst (P x) (sym (flipped_byte x lt)) flipped)
     | inr e ↦ subst (P y) (sym (kept_byte x y (λ q. both_ways _ e (eq-eqb y x q)))) (others y)
   ]
 
@@ -61,7 +63,8 @@ module _ (slot : List ℕ) (s : IsSlot slot) where
   spoilt_received x lt some = record {
     slot = spoilt_slot x lt;
     empty = λ e. absurd (some (packet_empty slot e));
-    near = λ y ylt. inr (each_byte (λ y b. Near (get_or slot y 0) b) x lt (λ y. near_self (get_or slot y 0) (s.bytes y)) (flip_near (get_or slot x 0) (s.bytes x)) y);
+    near = λ y ylt. inr (each_byte (λ y b. Near (get_or slot y 0) b) x lt (λ y. near_self (get_or slot y 0) (s.bytes y))
+        (flip_near (get_or slot x 0) (s.bytes x)) y);
   }
 
   pub received_as_sent : MayBeReceivedAs slot slot

@@ -16,7 +16,8 @@ use Rattle.ttx_page.specs.Memories.{Memory}
 use Rattle.ttx_page.specs.Receivers.{older, after, has_choice, next_choice, later_choices, scripted}
 use Rattle.ttx_page.specs.Streams.{Stream}
 use Rattle.ttx_page.specs.Laws.{ChoicesAreChoices}
-use Rattle.ttx_receiver.specs.Starving.{spoilt, takes, heard, is_received_wrong, first_byte, starved_memory, starved_slots, starved_hits, starved_choices}
+use Rattle.ttx_receiver.specs.Starving.{spoilt, takes, heard, is_received_wrong, first_byte}
+use Rattle.ttx_receiver.specs.Starving.{starved_memory, starved_slots, starved_hits, starved_choices}
 use Rattle.ttx_receiver.specs.Starving.{StarvedIsScripted}
 use Rattle.ttx_receiver.proofs.ReceivedPackets.{packet_empty}
 use Rattle.ttx_receiver.proofs.StarvedUnder.{slot_at, takes_something}
@@ -32,7 +33,8 @@ module _ (lines : ℕ) (sel : Selection) where
   scripted_more : (script : List Bool) (m : Memory) (slots : List (List ℕ)) (slot : List ℕ) →
       let held = scripted Any lines sel script m slots in
       let has = has_choice Any lines sel (older held) (packet_of slot) in
-      (scripted Any lines sel script m (slots ++ slot ∷ []) ≡ after Any lines sel (next_choice has (left lines sel script m slots)) (older held) (packet_of slot))
+      (scripted Any lines sel script m (slots ++ slot ∷ [])
+      ≡ after Any lines sel (next_choice has (left lines sel script m slots)) (older held) (packet_of slot))
       × (left lines sel script m (slots ++ slot ∷ []) ≡ later_choices has (left lines sel script m slots))
   scripted_more script m [] slot = (refl, refl)
   scripted_more script m (first ∷ slots) slot =
@@ -42,25 +44,33 @@ module _ (lines : ℕ) (sel : Selection) where
 hit_heard : (lines : ℕ) (sel : Selection) (item : Item) (m : Memory) (slot : List ℕ) → is_received_wrong lines sel item m slot ≡ true →
     (heard lines sel item m slot ≡ spoilt slot (first_byte item)) × (is_empty slot ≡ false)
 hit_heard lines sel TheHead m slot h = (
-  cond_both (takes lines sel TheHead (older m) (packet_of slot)) (spoilt slot 10) slot (λ y. y ≡ spoilt slot 10) (λ _. refl) (λ e. absurd (both_ways _ e h)),
-  elim (cases_Bool (is_empty slot)) as (λ _. is_empty slot ≡ false) [ inl e ↦ absurd (takes_something lines sel TheHead (older m) (packet_of slot) h (packet_empty slot e)) | inr e ↦ e ],
+  cond_both (takes lines sel TheHead (older m) (packet_of slot)) (spoilt slot 10) slot (λ y. y ≡ spoilt slot 10) (λ _. refl)
+      (λ e. absurd (both_ways _ e h)),
+  elim (cases_Bool (is_empty slot)) as (λ _. is_empty slot ≡ false)
+      [ inl e ↦ absurd (takes_something lines sel TheHead (older m) (packet_of slot) h (packet_empty slot e)) | inr e ↦ e ],
 )
 hit_heard lines sel (TheRow r) m slot h = (
-  cond_both (takes lines sel (TheRow r) (older m) (packet_of slot)) (spoilt slot 2) slot (λ y. y ≡ spoilt slot 2) (λ _. refl) (λ e. absurd (both_ways _ e h)),
-  elim (cases_Bool (is_empty slot)) as (λ _. is_empty slot ≡ false) [ inl e ↦ absurd (takes_something lines sel (TheRow r) (older m) (packet_of slot) h (packet_empty slot e)) | inr e ↦ e ],
+  cond_both (takes lines sel (TheRow r) (older m) (packet_of slot)) (spoilt slot 2) slot (λ y. y ≡ spoilt slot 2) (λ _. refl)
+      (λ e. absurd (both_ways _ e h)),
+  elim (cases_Bool (is_empty slot)) as (λ _. is_empty slot ≡ false)
+      [ inl e ↦ absurd (takes_something lines sel (TheRow r) (older m) (packet_of slot) h (packet_empty slot e)) | inr e ↦ e ],
 )
 hit_heard lines sel TheLinks m slot h = absurd (both_ways false refl h)
 
-unhit_heard : (lines : ℕ) (sel : Selection) (item : Item) (m : Memory) (slot : List ℕ) → is_received_wrong lines sel item m slot ≡ false → heard lines sel item m slot ≡ slot
-unhit_heard lines sel TheHead m slot h = cond_both (takes lines sel TheHead (older m) (packet_of slot)) (spoilt slot 10) slot (λ y. y ≡ slot) (λ e. absurd (both_ways _ h e)) (λ _. refl)
-unhit_heard lines sel (TheRow r) m slot h = cond_both (takes lines sel (TheRow r) (older m) (packet_of slot)) (spoilt slot 2) slot (λ y. y ≡ slot) (λ e. absurd (both_ways _ h e)) (λ _. refl)
+unhit_heard : (lines : ℕ) (sel : Selection) (item : Item) (m : Memory) (slot : List ℕ) → is_received_wrong lines sel item m slot
+    ≡ false → heard lines sel item m slot ≡ slot
+unhit_heard lines sel TheHead m slot h = cond_both (takes lines sel TheHead (older m) (packet_of slot)) (spoilt slot 10) slot
+    (λ y. y ≡ slot) (λ e. absurd (both_ways _ h e)) (λ _. refl)
+unhit_heard lines sel (TheRow r) m slot h = cond_both (takes lines sel (TheRow r) (older m) (packet_of slot)) (spoilt slot 2) slot
+    (λ y. y ≡ slot) (λ e. absurd (both_ways _ h e)) (λ _. refl)
 unhit_heard lines sel TheLinks m slot h = refl
 
 only_one : (n a : ℕ) → Contains (n ∷ []) a → n ≡ a
 only_one n a (zero, lt, e) = e
 only_one n a (suc k, lt, e) = absurd (omega arith)
 
-rising_more : (xs : List ℕ) (n : ℕ) → ((i j : ℕ) → i < j → j < length xs → get_or xs i 0 < get_or xs j 0) → ((j : ℕ) → j < length xs → get_or xs j 0 < n) →
+rising_more : (xs : List ℕ) (n : ℕ) → ((i j : ℕ) → i < j → j < length xs → get_or xs i 0 < get_or xs j 0) →
+    ((j : ℕ) → j < length xs → get_or xs j 0 < n) →
     (i j : ℕ) → i < j → j < length (xs ++ n ∷ []) → get_or (xs ++ n ∷ []) i 0 < get_or (xs ++ n ∷ []) j 0
 rising_more xs n rising below i j lt inside =
     let long : length (xs ++ n ∷ []) ≡ length xs + 1 = length-append xs (n ∷ []) in
@@ -120,19 +130,25 @@ module _ (lines : ℕ) (sel : Selection) (item : Item) (s : Stream) (tau : ℤ) 
   hits_rise zero i j lt inside = absurd (omega arith)
   hits_rise (suc n) i j lt inside =
       cond_both (hit_at n) (hits n ++ n ∷ []) (hits n) (λ z. j < length z → get_or z i 0 < get_or z j 0)
-      (λ e in_list. rising_more (hits n) n (hits_rise n) (λ k kt. (hits_are n (get_or (hits n) k 0) (Contains-get_or (hits n) k 0 kt)).0) i j lt in_list)
+      (λ e in_list. rising_more (hits n) n (hits_rise n)
+      (λ k kt. (hits_are n (get_or (hits n) k 0) (Contains-get_or (hits n) k 0 kt)).0) i j lt in_list)
       (λ e in_list. hits_rise n i j lt in_list) inside
 
   -- the script makes the memory, and what follows it in a longer one is left
-  script_is : ChoicesAreChoices → (n : ℕ) (more : List Bool) → let script = starved_choices lines sel item s tau former n ++ more in let slots = starved_slots lines sel item s tau former n in
+  script_is : ChoicesAreChoices → (n : ℕ) (more : List Bool) → let script = starved_choices lines sel item s tau former n ++ more
+      in let slots = starved_slots lines sel item s tau former n in
       (scripted Any lines sel script former slots ≡ mem n) × (left lines sel script former slots ≡ more)
   unfolding starved_choices starved_slots starved_memory
   script_is plain zero more = (refl, refl)
   script_is plain (suc n) more =
-      cond_both has (before ++ true ∷ []) before (λ (z : List Bool). (scripted Any lines sel (z ++ more) former (slots ++ now ∷ []) ≡ new) × (left lines sel (z ++ more) former (slots ++ now ∷ []) ≡ more))
-      (λ e. subst (λ z. (scripted Any lines sel z former (slots ++ now ∷ []) ≡ new) × (left lines sel z former (slots ++ now ∷ []) ≡ more)) (sym (append_assoc before (true ∷ []) more))
+      cond_both has (before ++ true ∷ []) before
+      (λ (z : List Bool). (scripted Any lines sel (z ++ more) former (slots ++ now ∷ []) ≡ new)
+      × (left lines sel (z ++ more) former (slots ++ now ∷ []) ≡ more))
+      (λ e. subst (λ z. (scripted Any lines sel z former (slots ++ now ∷ []) ≡ new)
+      × (left lines sel z former (slots ++ now ∷ []) ≡ more)) (sym (append_assoc before (true ∷ []) more))
       (let i = script_is plain n (true ∷ more) in one_more true e (before ++ true ∷ more) (true ∷ more) i.0 i.1 refl refl))
-      (λ e. let i = script_is plain n more in one_more false e (before ++ more) more i.0 i.1 (sym (plain Any lines sel (older (mem n)) (packet_of now) e)) refl)
+      (λ e. let i = script_is plain n more in one_more false e (before ++ more) more i.0 i.1
+      (sym (plain Any lines sel (older (mem n)) (packet_of now) e)) refl)
     where
       before : List Bool
       before = starved_choices lines sel item s tau former n
@@ -149,14 +165,16 @@ module _ (lines : ℕ) (sel : Selection) (item : Item) (s : Stream) (tau : ℤ) 
       has : Bool
       has = has_choice Any lines sel (older (mem n)) (packet_of now)
 
-      one_more : (b : Bool) → has ≡ b → (script rest : List Bool) → scripted Any lines sel script former slots ≡ mem n → left lines sel script former slots ≡ rest →
+      one_more : (b : Bool) → has ≡ b → (script rest : List Bool) → scripted Any lines sel script former slots ≡ mem n →
+          left lines sel script former slots ≡ rest →
           after Any lines sel (next_choice b rest) (older (mem n)) (packet_of now) ≡ new → later_choices b rest ≡ more →
           (scripted Any lines sel script former (slots ++ now ∷ []) ≡ new) × (left lines sel script former (slots ++ now ∷ []) ≡ more)
       one_more b e script rest held over is later =
           let w = scripted_more lines sel script former slots now in
           let choice : has_choice Any lines sel (older (scripted Any lines sel script former slots)) (packet_of now) ≡ b =
           ap (λ x. has_choice Any lines sel (older x) (packet_of now)) held ∙ e in (
-            w.0 ∙ ap (λ c. after Any lines sel (next_choice c (left lines sel script former slots)) (older (scripted Any lines sel script former slots)) (packet_of now)) choice
+            w.0 ∙ ap (λ c. after Any lines sel (next_choice c (left lines sel script former slots))
+                (older (scripted Any lines sel script former slots)) (packet_of now)) choice
                 ∙ ap (λ x. after Any lines sel (next_choice b x) (older (scripted Any lines sel script former slots)) (packet_of now)) over
                 ∙ ap (λ x. after Any lines sel (next_choice b rest) (older x) (packet_of now)) held ∙ is,
             w.1 ∙ ap (λ c. later_choices c (left lines sel script former slots)) choice ∙ ap (later_choices b) over ∙ later,
@@ -169,7 +187,8 @@ starved_is_scripted plain lines sel item s tau former n = record {
   hit = λ t c. let h = hits_are lines sel item s tau former n t c in
       slot_at lines sel item s tau former n t h.0 ∙ (hit_heard lines sel item (mem lines sel item s tau former t) (s (tau +ℤ pos t)) h.1).0;
   other = λ t lt no. slot_at lines sel item s tau former n t lt
-      ∙ elim (cases_Bool (is_received_wrong lines sel item (mem lines sel item s tau former t) (s (tau +ℤ pos t)))) as (λ _. heard lines sel item (mem lines sel item s tau former t) (s (tau +ℤ pos t)) ≡ s (tau +ℤ pos t)) [
+      ∙ elim (cases_Bool (is_received_wrong lines sel item (mem lines sel item s tau former t) (s (tau +ℤ pos t)))) as
+      (λ _. heard lines sel item (mem lines sel item s tau former t) (s (tau +ℤ pos t)) ≡ s (tau +ℤ pos t)) [
         | inl e ↦ absurd (no (hits_have lines sel item s tau former n t lt e))
         | inr e ↦ unhit_heard lines sel item (mem lines sel item s tau former t) (s (tau +ℤ pos t)) e
       ];

@@ -33,13 +33,15 @@ use Rattle.ttx_receiver.proofs.StarvedReceived.{permitted}
 use Rattle.ttx_receiver.proofs.StarvedFormer.{wrong_is_memory, wrong_is_idle, wrong_is_wrong, others_are_right}
 
 -- the first byte of a header's or a row's text
-row_even : (slot : List ℕ) (pkt : Packet) → IsOfSlot slot pkt → (mag r : ℕ) → carries mag (TheRow r) pkt ≡ true → is_odd (get_or slot 2 0) ≡ false → IsFirstEven pkt
+row_even : (slot : List ℕ) (pkt : Packet) → IsOfSlot slot pkt → (mag r : ℕ) → carries mag (TheRow r) pkt ≡ true →
+    is_odd (get_or slot 2 0) ≡ false → IsFirstEven pkt
 row_even slot (Row m n text) o mag r h even = ap (λ x. is_odd (get_or x 0 0)) o.0 ∙ ap is_odd (get_or-drop 2 slot 0 0) ∙ even
 row_even slot (Header id control text) o mag r h even = absurd (both_ways false refl h)
 row_even slot (Links m c) o mag r h even = tt
 row_even slot _ o mag r h even = tt
 
-head_even : (slot : List ℕ) (pkt : Packet) → IsOfSlot slot pkt → (sel : Selection) → heads_matched sel pkt ≡ true → is_odd (get_or slot 10 0) ≡ false → IsFirstEven pkt
+head_even : (slot : List ℕ) (pkt : Packet) → IsOfSlot slot pkt → (sel : Selection) → heads_matched sel pkt ≡ true →
+    is_odd (get_or slot 10 0) ≡ false → IsFirstEven pkt
 head_even slot (Header id control text) o sel h even = ap (λ x. is_odd (get_or x 0 0)) o ∙ ap is_odd (get_or-drop 10 slot 0 0) ∙ even
 head_even slot (Row m n text) o sel h even = absurd (both_ways false refl h)
 head_even slot (Links m c) o sel h even = tt
@@ -90,8 +92,10 @@ pub record StarvingLaws : Type 0 where
   pub shown : PageIsShown
   pub goes_on : RunsGoOn
 
-module _ (all : StarvingLaws) (s : Stream) (p : Page) (page : IsPage p) (sel : Selection) (fits : matches sel p.id ≡ true) (lines repeat : ℕ) (few : lines ≤ 32) (some : 1 ≤ repeat)
-    (item : Item) (need : needed p item ≡ true) (tau : ℤ) (steady : IsSteadyFrom s p sel tau) (n : ℕ) (starving : IsSent s p.id lines repeat item tau (tau +ℤ pos n) → ⊥) where
+module _ (all : StarvingLaws) (s : Stream) (p : Page) (page : IsPage p) (sel : Selection) (fits : matches sel p.id ≡ true)
+    (lines repeat : ℕ) (few : lines ≤ 32) (some : 1 ≤ repeat)
+    (item : Item) (need : needed p item ≡ true) (tau : ℤ) (steady : IsSteadyFrom s p sel tau) (n : ℕ)
+    (starving : IsSent s p.id lines repeat item tau (tau +ℤ pos n) → ⊥) where
   abbrev laws : LawsBelow
   laws = all.below
 
@@ -123,39 +127,50 @@ module _ (all : StarvingLaws) (s : Stream) (p : Page) (page : IsPage p) (sel : S
   taken t h = taken_at laws s p sel fits lines few item tau steady former (wrong_is_idle p item).0 t h
 
   -- each row or header that is taken has a wrong first byte; no links are taken
-  even_row : (r : ℕ) → item ≡ TheRow r → (t : ℕ) → takes lines sel (TheRow r) (older (mem t)) (packet_of (hears t)) ≡ true → IsFirstEven (packet_of (hears t))
+  even_row : (r : ℕ) → item ≡ TheRow r → (t : ℕ) → takes lines sel (TheRow r) (older (mem t)) (packet_of (hears t)) ≡ true →
+      IsFirstEven (packet_of (hears t))
   even_row r is t h =
       let range = needed_row p r (subst (λ i. needed p i ≡ true) is need) in
       let m = mem t in
       let carried = (and_parts _ _ h).0 in
       let mine = ap (λ mag. carries mag (TheRow r) (packet_of (hears t))) (same_mag sel p.id fits) ∙ carried in
-      let was = row_was_sent laws (sent t) (hears t) (slots_are t) (steady.clean _ (not_before tau t)) (may laws s p sel fits lines few item tau steady former (wrong_is_idle p item).0 t) p.id.mag r mine in
+      let was = row_was_sent laws (sent t) (hears t) (slots_are t) (steady.clean _ (not_before tau t))
+      (may laws s p sel fits lines few item tau steady former (wrong_is_idle p item).0 t) p.id.mag r mine in
       let was' : takes lines sel (TheRow r) (older m) (packet_of (sent t)) ≡ true =
       and_from (carries (selected_mag sel) (TheRow r) (packet_of (sent t))) (is_bound lines (older m))
-      (ap (λ mag. carries mag (TheRow r) (packet_of (sent t))) (sym (same_mag sel p.id fits)) ∙ was) ((and_parts (carries (selected_mag sel) (TheRow r) (packet_of (hears t))) _ h).1) in
+      (ap (λ mag. carries mag (TheRow r) (packet_of (sent t))) (sym (same_mag sel p.id fits)) ∙ was)
+      ((and_parts (carries (selected_mag sel) (TheRow r) (packet_of (hears t))) _ h).1) in
       let k = taken t (subst (λ i. takes lines sel i (older m) (packet_of (sent t)) ≡ true) (sym is) was') in
       let own : RowIsRight p r (packet_of (sent t)) =
-      steady.items (TheRow r) (subst (λ i. needed p i ≡ true) is need) k.owner (tau +ℤ pos t) k.not_before (subst (λ i. IsOwned s p.id i k.owner (tau +ℤ pos t)) is k.owned) in
-      let right = (row_received_at laws (sent t) (sent t) (slots_are t) (steady.clean _ (not_before tau t)) (received_as_sent (sent t) (slots_are t)) p page r range.0 range.1 own 0 (omega arith) refl).0 in
+      steady.items (TheRow r) (subst (λ i. needed p i ≡ true) is need) k.owner (tau +ℤ pos t) k.not_before
+      (subst (λ i. IsOwned s p.id i k.owner (tau +ℤ pos t)) is k.owned) in
+      let right = (row_received_at laws (sent t) (sent t) (slots_are t) (steady.clean _ (not_before tau t))
+      (received_as_sent (sent t) (slots_are t)) p page r range.0 range.1 own 0 (omega arith) refl).0 in
       let odd : is_odd (get_or (sent t) 2 0) ≡ true = row_odd (sent t) (packet_of (sent t)) (of_slot laws (sent t)) p r right in
       let now : hears t ≡ spoilt (sent t) 2 =
-      ap (λ i. heard lines sel i m (sent t)) is ∙ cond-true (takes lines sel (TheRow r) (older m) (packet_of (sent t))) (spoilt (sent t) 2) (sent t) was' in
+      ap (λ i. heard lines sel i m (sent t)) is ∙ cond-true (takes lines sel (TheRow r) (older m) (packet_of (sent t)))
+      (spoilt (sent t) 2) (sent t) was' in
       row_even (hears t) (packet_of (hears t)) (of_slot laws (hears t)) (selected_mag sel) r carried
-      (ap (λ x. is_odd (get_or x 2 0)) now ∙ ap is_odd (flipped_byte (sent t) (slots_are t) 2 (omega arith)) ∙ flip_even (get_or (sent t) 2 0) ((slots_are t).bytes 2) odd)
+      (ap (λ x. is_odd (get_or x 2 0)) now ∙ ap is_odd (flipped_byte (sent t) (slots_are t) 2 (omega arith))
+      ∙ flip_even (get_or (sent t) 2 0) ((slots_are t).bytes 2) odd)
 
   even_head : item ≡ TheHead → (t : ℕ) → takes lines sel TheHead (older (mem t)) (packet_of (hears t)) ≡ true → IsFirstEven (packet_of (hears t))
   even_head is t h =
       let m = mem t in
       let was : heads_matched sel (packet_of (sent t)) ≡ true =
-      sym (same_matched laws (sent t) (hears t) (slots_are t) (steady.clean _ (not_before tau t)) (may laws s p sel fits lines few item tau steady former (wrong_is_idle p item).0 t) sel) ∙ h in
+      sym (same_matched laws (sent t) (hears t) (slots_are t) (steady.clean _ (not_before tau t))
+      (may laws s p sel fits lines few item tau steady former (wrong_is_idle p item).0 t) sel) ∙ h in
       let own : HeadIsRight p (packet_of (sent t)) =
       steady.items TheHead tt (tau +ℤ pos t) (tau +ℤ pos t) (not_before tau t) (refl, steady.selected _ (not_before tau t) was) in
-      let right = head_received_at laws (sent t) (sent t) (slots_are t) (steady.clean _ (not_before tau t)) (received_as_sent (sent t) (slots_are t)) p page own 0 (omega arith) refl in
+      let right = head_received_at laws (sent t) (sent t) (slots_are t) (steady.clean _ (not_before tau t))
+      (received_as_sent (sent t) (slots_are t)) p page own 0 (omega arith) refl in
       let odd : is_odd (get_or (sent t) 10 0) ≡ true = head_odd (sent t) (packet_of (sent t)) (of_slot laws (sent t)) p right in
       let now : hears t ≡ spoilt (sent t) 10 =
-      ap (λ i. heard lines sel i m (sent t)) is ∙ cond-true (takes lines sel TheHead (older m) (packet_of (sent t))) (spoilt (sent t) 10) (sent t) was in
+      ap (λ i. heard lines sel i m (sent t)) is ∙ cond-true (takes lines sel TheHead (older m) (packet_of (sent t)))
+      (spoilt (sent t) 10) (sent t) was in
       head_even (hears t) (packet_of (hears t)) (of_slot laws (hears t)) sel h
-      (ap (λ x. is_odd (get_or x 10 0)) now ∙ ap is_odd (flipped_byte (sent t) (slots_are t) 10 (omega arith)) ∙ flip_even (get_or (sent t) 10 0) ((slots_are t).bytes 10) odd)
+      (ap (λ x. is_odd (get_or x 10 0)) now ∙ ap is_odd (flipped_byte (sent t) (slots_are t) 10 (omega arith))
+      ∙ flip_even (get_or (sent t) 10 0) ((slots_are t).bytes 10) odd)
 
   no_links : item ≡ TheLinks → (t : ℕ) → t < n → takes lines sel TheLinks (older (mem t)) (packet_of (hears t)) ≡ true → ⊥
   no_links is t lt h =
@@ -194,7 +209,8 @@ module _ (all : StarvingLaws) (s : Stream) (p : Page) (page : IsPage p) (sel : S
   led zero le = begins
   led (suc t) le =
       let lt : t < n = omega arith in
-      subst (IsLed (suc t)) (ap (λ x. after Any lines sel true (older (mem t)) x) (heard_at t lt) ∙ sym (memory_next lines sel item s tau former t)) (step t lt (led t (omega arith)))
+      subst (IsLed (suc t)) (ap (λ x. after Any lines sel true (older (mem t)) x) (heard_at t lt)
+      ∙ sym (memory_next lines sel item s tau former t)) (step t lt (led t (omega arith)))
     where
       step : (t : ℕ) → t < n → IsLed t (mem t) → IsLed (suc t) (after Any lines sel true (older (mem t)) (packet_at got t))
       step t lt l =
@@ -208,24 +224,34 @@ module _ (all : StarvingLaws) (s : Stream) (p : Page) (page : IsPage p) (sel : S
             wrong = wrong_next item refl in_list shape;
           }
         where
-          others_next : (other : Item) → needed p other ≡ true → t < length got → Shape (older (mem t)) → HoldsEach p (mem t) other → HoldsEach p (after Any lines sel true (older (mem t)) (packet_at got t)) other
-          others_next TheHead need' inside shape was = λ c col. keep_head Any lines sel p c col true (older (mem t)) (packet_at got t) shape (given.heads t inside) (given.no_row_0 t inside) (was c col)
+          others_next : (other : Item) → needed p other ≡ true → t < length got → Shape (older (mem t)) → HoldsEach p (mem t) other →
+              HoldsEach p (after Any lines sel true (older (mem t)) (packet_at got t)) other
+          others_next TheHead need' inside shape was = λ c col.
+              keep_head Any lines sel p c col true (older (mem t)) (packet_at got t) shape (given.heads t inside)
+              (given.no_row_0 t inside) (was c col)
           others_next (TheRow r) need' inside shape was =
               let range = needed_row p r need' in
-              λ c col. keep_row Any lines sel p page.no_erase r c range.0 (omega (arith, range.1)) col true (older (mem t)) (packet_at got t) shape l.tuned.settled (given.heads t inside)
+              λ c col. keep_row Any lines sel p page.no_erase r c range.0 (omega (arith, range.1)) col true (older (mem t))
+              (packet_at got t) shape l.tuned.settled (given.heads t inside)
               (λ st carry. given.rows t inside (l.tuned.owned st) r need' carry) (was c col)
           others_next TheLinks need' inside shape was =
-              keep_links Any lines sel p page.no_erase true (older (mem t)) (packet_at got t) l.tuned.settled (given.heads t inside) (λ st carry. given.links t inside (l.tuned.owned st) carry) was
+              keep_links Any lines sel p page.no_erase true (older (mem t)) (packet_at got t) l.tuned.settled (given.heads t inside)
+              (λ st carry. given.links t inside (l.tuned.owned st) carry) was
 
-          wrong_next : (i : Item) → item ≡ i → t < length got → Shape (older (mem t)) → HoldsWrong p (after Any lines sel true (older (mem t)) (packet_at got t)) i
+          wrong_next : (i : Item) → item ≡ i → t < length got → Shape (older (mem t)) →
+              HoldsWrong p (after Any lines sel true (older (mem t)) (packet_at got t)) i
           wrong_next TheHead is inside shape =
               wrong_head lines sel (older (mem t)) (packet_at got t) shape
-              (λ h. subst IsFirstEven (sym (heard_at t lt)) (even_head is t (subst (λ x. takes lines sel TheHead (older (mem t)) x ≡ true) (heard_at t lt) h))) (given.no_row_0 t inside)
+              (λ h. subst IsFirstEven (sym (heard_at t lt))
+              (even_head is t (subst (λ x. takes lines sel TheHead (older (mem t)) x ≡ true) (heard_at t lt) h)))
+              (given.no_row_0 t inside)
               ∙ subst (HoldsWrong p (mem t)) is l.wrong
           wrong_next (TheRow r) is inside shape =
               let range = needed_row p r (subst (λ i. needed p i ≡ true) is need) in
-              wrong_row lines sel r range.0 (omega (arith, range.1)) p page.no_erase (older (mem t)) (packet_at got t) shape l.tuned.settled (given.heads t inside)
-              (λ h. subst IsFirstEven (sym (heard_at t lt)) (even_row r is t (subst (λ x. takes lines sel (TheRow r) (older (mem t)) x ≡ true) (heard_at t lt) h)))
+              wrong_row lines sel r range.0 (omega (arith, range.1)) p page.no_erase (older (mem t))
+              (packet_at got t) shape l.tuned.settled (given.heads t inside)
+              (λ h. subst IsFirstEven (sym (heard_at t lt))
+              (even_row r is t (subst (λ x. takes lines sel (TheRow r) (older (mem t)) x ≡ true) (heard_at t lt) h)))
               ∙ subst (HoldsWrong p (mem t)) is l.wrong
           wrong_next TheLinks is inside shape =
               wrong_links lines sel p page.no_erase (older (mem t)) (packet_at got t) l.tuned.settled (given.heads t inside)
@@ -246,4 +272,5 @@ module _ (all : StarvingLaws) (s : Stream) (p : Page) (page : IsPage p) (sel : S
       }
 
 pub starved_stays_wrong : StarvingLaws → StarvedStaysWrong
-starved_stays_wrong all s p sel lines repeat item tau n page few some fits steady need starving = starved all s p page sel fits lines repeat few some item need tau steady n starving
+starved_stays_wrong all s p sel lines repeat item tau n page few some fits steady need starving =
+    starved all s p page sel fits lines repeat few some item need tau steady n starving

@@ -44,13 +44,15 @@ abbrev pub StoresSince : Memory → Memory → Selection → Packet → Type 0
 StoresSince m new sel pkt = ((heads_matched sel pkt ≡ true) × (new.age ≡ 0)) ⊎ HasGoneOn m new sel pkt
 
 module _ (lines : ℕ) (sel : Selection) where
-  pub stores_since : (m : Memory) (pkt : Packet) → (after Any lines sel true m pkt).storing ≡ true → StoresSince m (after Any lines sel true m pkt) sel pkt
+  pub stores_since : (m : Memory) (pkt : Packet) → (after Any lines sel true m pkt).storing ≡ true →
+      StoresSince m (after Any lines sel true m pkt) sel pkt
   stores_since m (Header id control text) st =
       cond_both (matches sel id) _ _ (λ (new : Memory). new.storing ≡ true → StoresSince m new sel (Header id control text))
       (λ e _. inl (e, refl))
       (λ _. cond_both (id.mag == selected_mag sel) _ _ (λ (new : Memory). new.storing ≡ true → StoresSince m new sel (Header id control text))
       (λ _ h. absurd (both_ways false refl h))
-      (λ e. cond_both (c11 control && true) (with_storing m false) m (λ (new : Memory). new.storing ≡ true → StoresSince m new sel (Header id control text))
+      (λ e. cond_both (c11 control && true) (with_storing m false) m
+      (λ (new : Memory). new.storing ≡ true → StoresSince m new sel (Header id control text))
       (λ _ h. absurd (both_ways false refl h))
       (λ k h. inr (record { was = h; no_header = e; no_end = no_taint (id.mag == selected_mag sel) (c11 control) k; same_age = refl })))) st
     where
@@ -59,13 +61,21 @@ module _ (lines : ℕ) (sel : Selection) where
       no_taint false true k = k
       no_taint false false k = refl
   stores_since m (Row mag number text) st =
-      cond_both ((mag == selected_mag sel) && m.storing && not (misses lines true m)) (with_row m number (stored_row (get_or m.rows number []) text)) m (λ (new : Memory). new.storing ≡ true → StoresSince m new sel (Row mag number text))
-      (λ _ h. inr (record { was = h; no_header = refl; no_end = refl; same_age = refl })) (λ _ h. inr (record { was = h; no_header = refl; no_end = refl; same_age = refl })) st
+      cond_both ((mag == selected_mag sel) && m.storing && not (misses lines true m))
+      (with_row m number (stored_row (get_or m.rows number []) text)) m
+      (λ (new : Memory). new.storing ≡ true → StoresSince m new sel (Row mag number text))
+      (λ _ h. inr (record { was = h; no_header = refl; no_end = refl; same_age = refl }))
+      (λ _ h. inr (record { was = h; no_header = refl; no_end = refl; same_age = refl })) st
   stores_since m (Links mag None) st =
-      cond_both ((mag == selected_mag sel) && m.storing && not (misses lines true m)) m m (λ (new : Memory). new.storing ≡ true → StoresSince m new sel (Links mag None)) (λ _ h. inr (record { was = h; no_header = refl; no_end = refl; same_age = refl })) (λ _ h. inr (record { was = h; no_header = refl; no_end = refl; same_age = refl })) st
+      cond_both ((mag == selected_mag sel) && m.storing && not (misses lines true m)) m m
+      (λ (new : Memory). new.storing ≡ true → StoresSince m new sel (Links mag None))
+      (λ _ h. inr (record { was = h; no_header = refl; no_end = refl; same_age = refl }))
+      (λ _ h. inr (record { was = h; no_header = refl; no_end = refl; same_age = refl })) st
   stores_since m (Links mag (Some content)) st =
-      cond_both ((mag == selected_mag sel) && m.storing && not (misses lines true m)) (with_links m (Some content)) m (λ (new : Memory). new.storing ≡ true → StoresSince m new sel (Links mag (Some content)))
-      (λ _ h. inr (record { was = h; no_header = refl; no_end = refl; same_age = refl })) (λ _ h. inr (record { was = h; no_header = refl; no_end = refl; same_age = refl })) st
+      cond_both ((mag == selected_mag sel) && m.storing && not (misses lines true m)) (with_links m (Some content)) m
+      (λ (new : Memory). new.storing ≡ true → StoresSince m new sel (Links mag (Some content)))
+      (λ _ h. inr (record { was = h; no_header = refl; no_end = refl; same_age = refl }))
+      (λ _ h. inr (record { was = h; no_header = refl; no_end = refl; same_age = refl })) st
   stores_since m _ h = inr (record { was = h; no_header = refl; no_end = refl; same_age = refl })
 
   abbrev taken_by : Memory → ℕ → Bool
@@ -79,7 +89,8 @@ module _ (lines : ℕ) (sel : Selection) where
 
   -- the first character of row r stays as it is where each row r that is taken has a wrong first byte
   pub wrong_row : (r : ℕ) → 1 ≤ r → r < 25 → (p : Page) → c4 p.control ≡ false → (m : Memory) (pkt : Packet) → Shape m → m.fresh ≡ false →
-      (heads_matched sel pkt ≡ true → IsHeadOf p pkt) → (takes lines sel (TheRow r) m pkt ≡ true → IsFirstEven pkt) → char_at (after Any lines sel true m pkt) r 0 ≡ char_at m r 0
+      (heads_matched sel pkt ≡ true → IsHeadOf p pkt) → (takes lines sel (TheRow r) m pkt ≡ true → IsFirstEven pkt) →
+      char_at (after Any lines sel true m pkt) r 0 ≡ char_at m r 0
   wrong_row r low high p k4 m (Header id control text) s f hh even =
       let P : Memory → Type 0 = λ new. char_at new r 0 ≡ char_at m r 0 in
       cond_both {A = Memory} (matches sel id) _ _ P
@@ -115,7 +126,8 @@ module _ (lines : ℕ) (sel : Selection) where
   wrong_row r low high p k4 m _ s f hh even = refl
 
   -- so does column 8 of row 0 where each matching header has a wrong first byte
-  pub wrong_head : (m : Memory) (pkt : Packet) → Shape m → (takes lines sel TheHead m pkt ≡ true → IsFirstEven pkt) → carries (selected_mag sel) (TheRow 0) pkt ≡ false →
+  pub wrong_head : (m : Memory) (pkt : Packet) → Shape m → (takes lines sel TheHead m pkt ≡ true → IsFirstEven pkt) →
+      carries (selected_mag sel) (TheRow 0) pkt ≡ false →
       char_at (after Any lines sel true m pkt) 0 8 ≡ char_at m 0 8
   wrong_head m (Header id control text) s even none =
       let P : Memory → Type 0 = λ new. char_at new 0 8 ≡ char_at m 0 8 in
@@ -133,7 +145,8 @@ module _ (lines : ℕ) (sel : Selection) where
           let lt : 0 < length x.rows = omega (arith, s.count) in
           let w : length row ≡ 40 = s.width 0 (omega arith) in
           let w' : length (drop 8 row) ≡ 32 = length-drop 8 row ∙ ap (λ n. n - 8) w in
-          ap (λ z. get_or z 8 0) (get_or-set_same x.rows 0 new [] lt) ∙ head_char row text 0 w ∙ even_kept (drop 8 row) text (omega arith) ev ∙ get_or-drop 8 row 0 0
+          ap (λ z. get_or z 8 0) (get_or-set_same x.rows 0 new [] lt) ∙ head_char row text 0 w
+          ∙ even_kept (drop 8 row) text (omega arith) ev ∙ get_or-drop 8 row 0 0
   wrong_head m (Row mag number text) s even none =
       let P : Memory → Type 0 = λ new. char_at new 0 8 ≡ char_at m 0 8 in
       let row = stored_row (get_or m.rows number []) text in
@@ -149,7 +162,8 @@ module _ (lines : ℕ) (sel : Selection) where
   wrong_head m _ s even none = refl
 
   -- so do the links where no links are taken
-  pub wrong_links : (p : Page) → c4 p.control ≡ false → (m : Memory) (pkt : Packet) → m.fresh ≡ false → (heads_matched sel pkt ≡ true → IsHeadOf p pkt) →
+  pub wrong_links : (p : Page) → c4 p.control ≡ false → (m : Memory) (pkt : Packet) → m.fresh ≡ false →
+      (heads_matched sel pkt ≡ true → IsHeadOf p pkt) →
       (takes lines sel TheLinks m pkt ≡ true → ⊥) → (after Any lines sel true m pkt).links ≡ m.links
   wrong_links p k4 m (Header id control text) f hh none =
       let P : Memory → Type 0 = λ new. new.links ≡ m.links in
@@ -161,7 +175,8 @@ module _ (lines : ℕ) (sel : Selection) where
       (λ _. cond_both {A = Memory} (id.mag == selected_mag sel) _ _ P (λ _. refl)
       (λ _. cond_both {A = Memory} (c11 control && true) (with_storing m false) m P (λ _. refl) (λ _. refl)))
   wrong_links p k4 m (Row mag number text) f hh none =
-      cond_both {A = Memory} (taken_by m mag) (with_row m number (stored_row (get_or m.rows number []) text)) m (λ new. new.links ≡ m.links) (λ _. refl) (λ _. refl)
+      cond_both {A = Memory} (taken_by m mag) (with_row m number (stored_row (get_or m.rows number []) text)) m
+      (λ new. new.links ≡ m.links) (λ _. refl) (λ _. refl)
   wrong_links p k4 m (Links mag content) f hh none =
       cond_both {A = Memory} (taken_by m mag) (with_links m content) m (λ new. new.links ≡ m.links)
       (λ e. absurd (none (and_from (mag == selected_mag sel) (is_bound lines m) ((and_parts _ _ (and_parts _ _ e).0).0)

@@ -33,16 +33,19 @@ far : (tau : ℤ) (h lines t : ℕ) → h + lines < t → ((tau +ℤ pos h) +ℤ
 far tau h lines t k = omega (arith, ints)
 
 -- the memory and the list, one slot on
-pub memory_begins : (lines : ℕ) (sel : Selection) (item : Item) (s : Stream) (tau : ℤ) (former : Memory) → starved_memory lines sel item s tau former 0 ≡ former
+pub memory_begins : (lines : ℕ) (sel : Selection) (item : Item) (s : Stream) (tau : ℤ) (former : Memory) →
+    starved_memory lines sel item s tau former 0 ≡ former
 unfolding starved_memory
 memory_begins lines sel item s tau former = refl
 
-pub memory_next : (lines : ℕ) (sel : Selection) (item : Item) (s : Stream) (tau : ℤ) (former : Memory) (t : ℕ) → let m = starved_memory lines sel item s tau former t in
+pub memory_next : (lines : ℕ) (sel : Selection) (item : Item) (s : Stream) (tau : ℤ) (former : Memory) (t : ℕ) → let m =
+    starved_memory lines sel item s tau former t in
     starved_memory lines sel item s tau former (suc t) ≡ after Any lines sel true (older m) (packet_of (heard lines sel item m (s (tau +ℤ pos t))))
 unfolding starved_memory
 memory_next lines sel item s tau former t = refl
 
-pub length_slots : (lines : ℕ) (sel : Selection) (item : Item) (s : Stream) (tau : ℤ) (former : Memory) (n : ℕ) → length (starved_slots lines sel item s tau former n) ≡ n
+pub length_slots : (lines : ℕ) (sel : Selection) (item : Item) (s : Stream) (tau : ℤ) (former : Memory) (n : ℕ) →
+    length (starved_slots lines sel item s tau former n) ≡ n
 unfolding starved_slots
 length_slots lines sel item s tau former zero = refl
 length_slots lines sel item s tau former (suc n) =
@@ -56,7 +59,8 @@ slot_at lines sel item s tau former (suc n) t lt =
     let now = heard lines sel item (starved_memory lines sel item s tau former n) (s (tau +ℤ pos n)) in
     let before = starved_slots lines sel item s tau former n in
     let long : length before ≡ n = length_slots lines sel item s tau former n in
-    elim (cases_lt t n) as (λ _. get_or (before ++ now ∷ []) t [] ≡ heard lines sel item (starved_memory lines sel item s tau former t) (s (tau +ℤ pos t))) [
+    elim (cases_lt t n) as (λ _. get_or (before ++ now ∷ []) t []
+    ≡ heard lines sel item (starved_memory lines sel item s tau former t) (s (tau +ℤ pos t))) [
       | inl less ↦ get_or_append_left before (now ∷ []) [] t (omega arith) ∙ slot_at lines sel item s tau former n t less
       | inr ge ↦
           let e : n ≡ t = omega arith in
@@ -71,11 +75,13 @@ and_no false b h k = cc
 
 pub takes_something : (lines : ℕ) (sel : Selection) (item : Item) (m : Memory) (pkt : Packet) → takes lines sel item m pkt ≡ true → pkt ≡ Empty → ⊥
 takes_something lines sel TheHead m pkt h e = both_ways _ refl (subst (λ x. heads_matched sel x ≡ true) e h)
-takes_something lines sel (TheRow r) m pkt h e = both_ways _ refl (subst (λ x. (carries (selected_mag sel) (TheRow r) x && is_bound lines m) ≡ true) e h)
+takes_something lines sel (TheRow r) m pkt h e =
+    both_ways _ refl (subst (λ x. (carries (selected_mag sel) (TheRow r) x && is_bound lines m) ≡ true) e h)
 takes_something lines sel TheLinks m pkt h e = both_ways _ refl (subst (λ x. (carries (selected_mag sel) TheLinks x && is_bound lines m) ≡ true) e h)
 
 -- what is heard may be received
-pub heard_received : (lines : ℕ) (sel : Selection) (item : Item) (m : Memory) (slot : List ℕ) → IsSlot slot → MayBeReceivedAs slot (heard lines sel item m slot)
+pub heard_received : (lines : ℕ) (sel : Selection) (item : Item) (m : Memory) (slot : List ℕ) → IsSlot slot →
+    MayBeReceivedAs slot (heard lines sel item m slot)
 heard_received lines sel TheHead m slot s =
     cond_both (takes lines sel TheHead (older m) (packet_of slot)) (spoilt slot 10) slot (MayBeReceivedAs slot)
     (λ e. spoilt_received slot s 10 (omega arith) (takes_something lines sel TheHead (older m) (packet_of slot) e)) (λ _. received_as_sent slot s)
@@ -91,7 +97,8 @@ pub record IsTaken (s : Stream) (p : Page) (lines : ℕ) (item : Item) (tau j : 
   pub not_before : tau ≤ℤ owner
   pub sure : IsSure s lines p.id.mag item owner j
 
-module _ (laws : LawsBelow) (s : Stream) (p : Page) (sel : Selection) (fits : matches sel p.id ≡ true) (lines : ℕ) (few : lines ≤ 32) (item : Item) (tau : ℤ)
+module _ (laws : LawsBelow) (s : Stream) (p : Page) (sel : Selection) (fits : matches sel p.id ≡ true) (lines : ℕ) (few : lines ≤ 32)
+    (item : Item) (tau : ℤ)
     (steady : IsSteadyFrom s p sel tau) (former : Memory) (idle : former.storing ≡ false) where
   abbrev place : ℕ → ℤ
   place t = tau +ℤ pos t
@@ -129,29 +136,32 @@ module _ (laws : LawsBelow) (s : Stream) (p : Page) (sel : Selection) (fits : ma
 
   -- what holds of all places up to t and of place t
   up_to : (P : ℕ → Type 0) (h t : ℕ) → ((i : ℕ) → h < i → i < t → P i) → P t → (i : ℕ) → h < i → i < suc t → P i
-  up_to P h t below here i low high = elim (cases_lt i t) as (λ _. P i) [ inl lt ↦ below i low lt | inr ge ↦ let e : t ≡ i = omega arith in subst P e here ]
+  up_to P h t below here i low high = elim (cases_lt i t) as (λ _. P i)
+      [ inl lt ↦ below i low lt | inr ge ↦ let e : t ≡ i = omega arith in subst P e here ]
 
   under : (t : ℕ) → (mem t).storing ≡ true → IsUnder t (mem t)
   under zero st = absurd (both_ways _ (ap (λ m. m.storing) (memory_begins lines sel item s tau former) ∙ idle) st)
-  under (suc t) st = subst (IsUnder (suc t)) (sym next) (elim (stores_since lines sel (older (mem t)) (packet_of (hears t)) st') as (λ _. IsUnder (suc t) new) [
-    | inl here ↦ record {
-      header = t;
-      before = omega arith;
-      mine = steady.selected _ (not_before tau t)
-          (sym (same_matched laws (sent t) (hears t) (steady.slots _ (not_before tau t)) (steady.clean _ (not_before tau t)) (may t) sel) ∙ here.0);
-      no_header = λ i low high. absurd (omega arith);
-      no_end = λ i low high. absurd (omega arith);
-      age = here.1 ∙ omega arith;
-    }
-    | inr w ↦ let u = under t w.was in record {
-      header = u.header;
-      before = omega (arith, u.before);
-      mine = u.mine;
-      no_header = up_to (λ i. heads p.id.mag (packet_of (sent i)) ≡ false) u.header t u.no_header (heads_sent t w.no_header);
-      no_end = up_to (λ i. ends_serial p.id.mag (packet_of (sent i)) ≡ false) u.header t u.no_end (ends_sent t w.no_end);
-      age = w.same_age ∙ omega (arith, u.age, u.before);
-    }
-  ])
+  under (suc t) st = subst (IsUnder (suc t)) (sym next)
+      (elim (stores_since lines sel (older (mem t)) (packet_of (hears t)) st') as (λ _. IsUnder (suc t) new) [
+        | inl here ↦ record {
+          header = t;
+          before = omega arith;
+          mine = steady.selected _ (not_before tau t)
+              (sym (same_matched laws (sent t) (hears t) (steady.slots _ (not_before tau t)) (steady.clean _ (not_before tau t))
+              (may t) sel) ∙ here.0);
+          no_header = λ i low high. absurd (omega arith);
+          no_end = λ i low high. absurd (omega arith);
+          age = here.1 ∙ omega arith;
+        }
+        | inr w ↦ let u = under t w.was in record {
+          header = u.header;
+          before = omega (arith, u.before);
+          mine = u.mine;
+          no_header = up_to (λ i. heads p.id.mag (packet_of (sent i)) ≡ false) u.header t u.no_header (heads_sent t w.no_header);
+          no_end = up_to (λ i. ends_serial p.id.mag (packet_of (sent i)) ≡ false) u.header t u.no_end (ends_sent t w.no_end);
+          age = w.same_age ∙ omega (arith, u.age, u.before);
+        }
+      ])
     where
       new : Memory
       new = after Any lines sel true (older (mem t)) (packet_of (hears t))
@@ -178,7 +188,8 @@ module _ (laws : LawsBelow) (s : Stream) (p : Page) (sel : Selection) (fits : ma
       let k : u.header + lines < t = old_enough t u.header (mem t) u.age u.before (not-true _ ((and_parts (mem t).storing _ b).1)) in
       let inside = λ (P : ℤ → Type 0) (each : (i : ℕ) → u.header < i → i < t → P (place i)) (i : ℤ) (low : place u.header <ℤ i) (high : i <ℤ place t).
       let o = offset tau i (le_lt _ _ _ (not_before tau u.header) low) in
-      subst P (sym o.1) (each o.0 (offset_lt tau u.header o.0 (subst (λ x. place u.header <ℤ x) o.1 low)) (offset_lt tau o.0 t (subst (λ x. x <ℤ place t) o.1 high))) in
+      subst P (sym o.1) (each o.0 (offset_lt tau u.header o.0 (subst (λ x. place u.header <ℤ x) o.1 low))
+      (offset_lt tau o.0 t (subst (λ x. x <ℤ place t) o.1 high))) in
       record {
         header = u.header;
         latest = record {
@@ -202,7 +213,8 @@ module _ (laws : LawsBelow) (s : Stream) (p : Page) (sel : Selection) (fits : ma
         sure = tt;
       }
       go (TheRow r) e =
-          let k : (carries (selected_mag sel) (TheRow r) (packet_of (sent t)) && is_bound lines (older (mem t))) ≡ true = subst (λ y. takes lines sel y (older (mem t)) (packet_of (sent t)) ≡ true) (sym e) h in
+          let k : (carries (selected_mag sel) (TheRow r) (packet_of (sent t)) && is_bound lines (older (mem t))) ≡ true =
+          subst (λ y. takes lines sel y (older (mem t)) (packet_of (sent t)) ≡ true) (sym e) h in
           let b = bound_at t ((and_parts _ _ k).1) in
           record {
             owner = place b.header;
@@ -211,7 +223,8 @@ module _ (laws : LawsBelow) (s : Stream) (p : Page) (sel : Selection) (fits : ma
             sure = b.sure;
           }
       go TheLinks e =
-          let k : (carries (selected_mag sel) TheLinks (packet_of (sent t)) && is_bound lines (older (mem t))) ≡ true = subst (λ y. takes lines sel y (older (mem t)) (packet_of (sent t)) ≡ true) (sym e) h in
+          let k : (carries (selected_mag sel) TheLinks (packet_of (sent t)) && is_bound lines (older (mem t))) ≡ true =
+          subst (λ y. takes lines sel y (older (mem t)) (packet_of (sent t)) ≡ true) (sym e) h in
           let b = bound_at t ((and_parts _ _ k).1) in
           record {
             owner = place b.header;

@@ -38,11 +38,14 @@ slot_of s tau (suc n) (suc k) h =
     slot_of s (tau +ℤ pos 1) n k (omega arith) ∙ ap s e
 
 -- bytes of characters hold them
-good : LawsBelow → (chars text : List ℕ) (n : ℕ) → n ≤ length chars → ((c : ℕ) → get_or chars c 0 < 128) → take n text ≡ map odd_byte chars → GoodText chars n text
+good : LawsBelow → (chars text : List ℕ) (n : ℕ) → n ≤ length chars → ((c : ℕ) → get_or chars c 0 < 128) → take n text
+    ≡ map odd_byte chars → GoodText chars n text
 good laws chars text n long low is c lt odd =
-    ap (λ b. b % 128) (sym (get_or-take n text c 0 lt) ∙ ap (λ x. get_or x c 0) is ∙ get_or-map odd_byte chars c 0 0 (omega arith)) ∙ (laws.codes (get_or chars c 0) (low c)).1
+    ap (λ b. b % 128) (sym (get_or-take n text c 0 lt) ∙ ap (λ x. get_or x c 0) is ∙ get_or-map odd_byte chars c 0 0 (omega arith))
+    ∙ (laws.codes (get_or chars c 0) (low c)).1
 
-good_row : LawsBelow → (chars text : List ℕ) (n : ℕ) → n ≤ length chars → ((c : ℕ) → get_or chars c 0 < 128) → text ≡ map odd_byte chars → GoodText chars n text
+good_row : LawsBelow → (chars text : List ℕ) (n : ℕ) → n ≤ length chars → ((c : ℕ) → get_or chars c 0 < 128) → text
+    ≡ map odd_byte chars → GoodText chars n text
 good_row laws chars text n long low is c lt odd =
     ap (λ b. b % 128) (ap (λ x. get_or x c 0) is ∙ get_or-map odd_byte chars c 0 0 (omega arith)) ∙ (laws.codes (get_or chars c 0) (low c)).1
 
@@ -68,7 +71,8 @@ links_are p slot _ h = absurd h
 lt_is_le : (a b : ℤ) → a <ℤ b → a ≤ℤ b
 lt_is_le a b h = omega (arith, ints)
 
-module _ (laws : LawsBelow) (s : Stream) (p : Page) (page : IsPage p) (sel : Selection) (fits : matches sel p.id ≡ true) (only : SendsOnly s p sel) (tau : ℤ) (n : ℕ) where
+module _ (laws : LawsBelow) (s : Stream) (p : Page) (page : IsPage p) (sel : Selection) (fits : matches sel p.id ≡ true)
+    (only : SendsOnly s p sel) (tau : ℤ) (n : ℕ) where
   abbrev got : List (List ℕ)
   got = sent_from s tau n
 
@@ -93,14 +97,16 @@ module _ (laws : LawsBelow) (s : Stream) (p : Page) (page : IsPage p) (sel : Sel
             let after' : o.place < k.0 = offset_lt tau o.place k.0 (subst (λ x. place o.place <ℤ x) k.1 low) in
             let before' : k.0 < t = offset_lt tau k.0 t (subst (λ x. x <ℤ place t) k.1 high) in
             let e : heads p.id.mag (packet_of (s (place k.0))) ≡ false =
-            ap (heads p.id.mag) (sym (at k.0 (omega arith))) ∙ ap (λ m. heads m (packet_at got k.0)) (same_mag sel p.id fits) ∙ o.none k.0 after' before' in
+            ap (heads p.id.mag) (sym (at k.0 (omega arith))) ∙ ap (λ m. heads m (packet_at got k.0)) (same_mag sel p.id fits)
+            ∙ o.none k.0 after' before' in
             subst (λ x. heads p.id.mag (packet_of (s x)) ≡ false) (sym k.1) e;
       }
 
   given : ReceivesPage sel p (packet_at got) (length got)
   given = record {
     heads = λ t lt here.
-        subst (IsHeadOf p) (sym (at t lt)) (head_is laws p page (packet_of (s (place t))) (only.items TheHead tt (place t) (place t) (refl, mine t lt here)));
+        subst (IsHeadOf p) (sym (at t lt))
+        (head_is laws p page (packet_of (s (place t))) (only.items TheHead tt (place t) (place t) (refl, mine t lt here)));
     rows = λ t lt o r need c.
         let own = mine o.place (omega (arith, o.before)) o.matched in
         let c' : carries p.id.mag (TheRow r) (packet_of (s (place t))) ≡ true =
@@ -122,7 +128,8 @@ module _ (laws : LawsBelow) (s : Stream) (p : Page) (page : IsPage p) (sel : Sel
     tuned : IsTuned sel p (packet_at got) t m
     items : (item : Item) → needed p item ≡ true → HoldsEach p m item
 
-  shows_next : (class : Class) (lines t : ℕ) → t < length got → (choice : Bool) (m : Memory) → IsShowing t m → IsShowing (suc t) (after class lines sel choice (older m) (packet_at got t))
+  shows_next : (class : Class) (lines t : ℕ) → t < length got → (choice : Bool) (m : Memory) → IsShowing t m →
+      IsShowing (suc t) (after class lines sel choice (older m) (packet_at got t))
   shows_next class lines t lt choice m is = record {
     shape = shape_after class lines sel choice (older m) (packet_at got t) shape;
     tuned = tuned_next class lines sel p (packet_at got) (length got) given t lt choice m is.tuned;
@@ -132,14 +139,18 @@ module _ (laws : LawsBelow) (s : Stream) (p : Page) (page : IsPage p) (sel : Sel
       shape : Shape (older m)
       shape = record { count = is.shape.count; width = is.shape.width }
 
-      items_next : (item : Item) → needed p item ≡ true → HoldsEach p m item → HoldsEach p (after class lines sel choice (older m) (packet_at got t)) item
-      items_next TheHead need was = λ c col. keep_head class lines sel p c col choice (older m) (packet_at got t) shape (given.heads t lt) (given.no_row_0 t lt) (was c col)
+      items_next : (item : Item) → needed p item ≡ true → HoldsEach p m item →
+          HoldsEach p (after class lines sel choice (older m) (packet_at got t)) item
+      items_next TheHead need was = λ c col. keep_head class lines sel p c col choice (older m) (packet_at got t) shape
+          (given.heads t lt) (given.no_row_0 t lt) (was c col)
       items_next (TheRow r) need was =
           let range = needed_row p r need in
-          λ c col. keep_row class lines sel p page.no_erase r c range.0 (omega (arith, range.1)) col choice (older m) (packet_at got t) shape is.tuned.settled (given.heads t lt)
+          λ c col. keep_row class lines sel p page.no_erase r c range.0 (omega (arith, range.1)) col choice (older m)
+          (packet_at got t) shape is.tuned.settled (given.heads t lt)
           (λ st carry. given.rows t lt (is.tuned.owned st) r need carry) (was c col)
       items_next TheLinks need was =
-          keep_links class lines sel p page.no_erase choice (older m) (packet_at got t) is.tuned.settled (given.heads t lt) (λ st carry. given.links t lt (is.tuned.owned st) carry) was
+          keep_links class lines sel p page.no_erase choice (older m) (packet_at got t) is.tuned.settled (given.heads t lt)
+          (λ st carry. given.links t lt (is.tuned.owned st) carry) was
 
   begins : (former : Memory) → IsMemory former → former.storing ≡ false → former.fresh ≡ false → Shows p former → IsShowing 0 former
   begins former known off settled shows = record {
@@ -154,12 +165,14 @@ module _ (laws : LawsBelow) (s : Stream) (p : Page) (page : IsPage p) (sel : Sel
       subst (λ t. IsShowing t m) end (run_keeps class lines sel IsShowing got 0
       (λ k lt choice x i.
       let e : k ≡ 0 + k = omega arith in
-      subst (λ t. IsShowing (suc t) (after class lines sel choice (older x) (packet_at got k))) e (shows_next class lines k lt choice x (subst (λ t. IsShowing t x) (sym e) i)))
+      subst (λ t. IsShowing (suc t) (after class lines sel choice (older x) (packet_at got k))) e
+      (shows_next class lines k lt choice x (subst (λ t. IsShowing t x) (sym e) i)))
       former m run first)
 
 pub shown_stays_shown : LawsBelow → ShownStaysShown
 shown_stays_shown laws s p sel class lines n tau page fits only former m known off settled shows run =
-    let last = runs laws s p page sel fits only tau n class lines former m run (begins laws s p page sel fits only tau n former known off settled shows) in record {
+    let last = runs laws s p page sel fits only tau n class lines former m run
+    (begins laws s p page sel fits only tau n former known off settled shows) in record {
       control = last.tuned.control;
       items = λ item need. each_to p page m last.shape item need (last.items item need);
     }

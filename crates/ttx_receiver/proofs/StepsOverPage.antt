@@ -96,7 +96,8 @@ shape_erased m s = record { count = erased_count m.rows s.count; width = width_a
 
 head_width : (row text : List ℕ) → length row ≡ 40 → length (take 8 row ++ stored_row (drop 8 row) text) ≡ 40
 head_width row text w =
-    length-append (take 8 row) (stored_row (drop 8 row) text) ∙ omega (arith, length-take-le 8 row (omega arith), length-stored_row (drop 8 row) text, length-drop 8 row)
+    length-append (take 8 row) (stored_row (drop 8 row) text)
+    ∙ omega (arith, length-take-le 8 row (omega arith), length-stored_row (drop 8 row) text, length-drop 8 row)
 
 shape_begun : (m : Memory) (control : ℕ) (text : List ℕ) → Shape m → Shape (begun m control text)
 shape_begun m control text s =
@@ -120,7 +121,8 @@ module _ (class : Class) (lines : ℕ) (sel : Selection) where
       (λ _. cond_both {A = Memory} (c11 control && choice) (with_storing m false) m Shape (λ _. shape_same m (with_storing m false) refl s) (λ _. s)))
   shape_after choice m (Row mag number text) s =
       cond_both {A = Memory} ((mag == selected_mag sel) && m.storing && not (misses lines choice m)) _ m Shape
-      (λ _. shape_row m number (stored_row (get_or m.rows number []) text) s (λ lt. length-stored_row (get_or m.rows number []) text ∙ s.width number lt)) (λ _. s)
+      (λ _. shape_row m number (stored_row (get_or m.rows number []) text) s
+      (λ lt. length-stored_row (get_or m.rows number []) text ∙ s.width number lt)) (λ _. s)
   shape_after choice m (Links mag None) s =
       cond_both {A = Memory} ((mag == selected_mag sel) && m.storing && not (misses lines choice m)) m m Shape (λ _. s) (λ _. s)
   shape_after choice m (Links mag (Some content)) s =
@@ -132,16 +134,30 @@ module _ (class : Class) (lines : ℕ) (sel : Selection) where
   pub after_storing : (choice : Bool) (m : Memory) (pkt : Packet) → (after class lines sel choice m pkt).storing ≡ true →
       (heads_matched sel pkt ≡ true) ⊎ ((m.storing ≡ true) × (heads (selected_mag sel) pkt ≡ false))
   after_storing choice m (Header id control text) st =
-      cond_both (matches sel id) _ _ (λ (new : Memory). new.storing ≡ true → (matches sel id ≡ true) ⊎ ((m.storing ≡ true) × ((id.mag == selected_mag sel) ≡ false)))
+      cond_both (matches sel id) _ _
+      (λ (new : Memory). new.storing ≡ true → (matches sel id ≡ true)
+      ⊎ ((m.storing ≡ true) × ((id.mag == selected_mag sel) ≡ false)))
       (λ e _. inl e)
-      (λ _. cond_both (id.mag == selected_mag sel) _ _ (λ (new : Memory). new.storing ≡ true → (matches sel id ≡ true) ⊎ ((m.storing ≡ true) × ((id.mag == selected_mag sel) ≡ false))) (λ _ h. absurd (both_ways false refl h))
-      (λ e. cond_both (c11 control && choice) (with_storing m false) m (λ (new : Memory). new.storing ≡ true → (matches sel id ≡ true) ⊎ ((m.storing ≡ true) × ((id.mag == selected_mag sel) ≡ false))) (λ _ h. absurd (both_ways false refl h)) (λ _ h. inr (h, e)))) st
+      (λ _. cond_both (id.mag == selected_mag sel) _ _
+      (λ (new : Memory). new.storing ≡ true → (matches sel id ≡ true)
+      ⊎ ((m.storing ≡ true) × ((id.mag == selected_mag sel) ≡ false))) (λ _ h. absurd (both_ways false refl h))
+      (λ e. cond_both (c11 control && choice) (with_storing m false) m
+      (λ (new : Memory). new.storing ≡ true → (matches sel id ≡ true)
+      ⊎ ((m.storing ≡ true) × ((id.mag == selected_mag sel) ≡ false))) (λ _ h. absurd (both_ways false refl h))
+      (λ _ h. inr (h, e)))) st
   after_storing choice m (Row mag number text) st =
-      cond_both ((mag == selected_mag sel) && m.storing && not (misses lines choice m)) (with_row m number (stored_row (get_or m.rows number []) text)) m (λ (new : Memory). new.storing ≡ true → (false ≡ true) ⊎ ((m.storing ≡ true) × (false ≡ false))) (λ _ h. inr (h, refl)) (λ _ h. inr (h, refl)) st
+      cond_both ((mag == selected_mag sel) && m.storing && not (misses lines choice m))
+      (with_row m number (stored_row (get_or m.rows number []) text)) m
+      (λ (new : Memory). new.storing ≡ true → (false ≡ true) ⊎ ((m.storing ≡ true) × (false ≡ false))) (λ _ h. inr (h, refl))
+      (λ _ h. inr (h, refl)) st
   after_storing choice m (Links mag None) st =
-      cond_both ((mag == selected_mag sel) && m.storing && not (misses lines choice m)) m m (λ (new : Memory). new.storing ≡ true → (false ≡ true) ⊎ ((m.storing ≡ true) × (false ≡ false))) (λ _ h. inr (h, refl)) (λ _ h. inr (h, refl)) st
+      cond_both ((mag == selected_mag sel) && m.storing && not (misses lines choice m)) m m
+      (λ (new : Memory). new.storing ≡ true → (false ≡ true) ⊎ ((m.storing ≡ true) × (false ≡ false))) (λ _ h. inr (h, refl))
+      (λ _ h. inr (h, refl)) st
   after_storing choice m (Links mag (Some content)) st =
-      cond_both ((mag == selected_mag sel) && m.storing && not (misses lines choice m)) (with_links m (Some content)) m (λ (new : Memory). new.storing ≡ true → (false ≡ true) ⊎ ((m.storing ≡ true) × (false ≡ false))) (λ _ h. inr (h, refl)) (λ _ h. inr (h, refl)) st
+      cond_both ((mag == selected_mag sel) && m.storing && not (misses lines choice m)) (with_links m (Some content)) m
+      (λ (new : Memory). new.storing ≡ true → (false ≡ true) ⊎ ((m.storing ≡ true) × (false ≡ false))) (λ _ h. inr (h, refl))
+      (λ _ h. inr (h, refl)) st
   after_storing choice m _ h = inr (h, refl)
 
   -- without a header of the magazine and without an end in serial transmission the page goes on being stored_row
@@ -155,11 +171,15 @@ module _ (class : Class) (lines : ℕ) (sel : Selection) where
       (λ e. cond_both (c11 control && choice) (with_storing m false) m (λ (new : Memory). (new.storing ≡ true) × (new.age ≡ m.age))
       (λ c. absurd (both_ways _ on (and_from _ _ (not_from_false _ e) ((and_parts _ _ c).0)))) (λ _. (st, refl))))
   after_ready choice m (Row mag number text) other on st =
-      cond_both ((mag == selected_mag sel) && m.storing && not (misses lines choice m)) (with_row m number (stored_row (get_or m.rows number []) text)) m (λ (new : Memory). (new.storing ≡ true) × (new.age ≡ m.age)) (λ _. (st, refl)) (λ _. (st, refl))
+      cond_both ((mag == selected_mag sel) && m.storing && not (misses lines choice m))
+      (with_row m number (stored_row (get_or m.rows number []) text)) m
+      (λ (new : Memory). (new.storing ≡ true) × (new.age ≡ m.age)) (λ _. (st, refl)) (λ _. (st, refl))
   after_ready choice m (Links mag None) other on st =
-      cond_both ((mag == selected_mag sel) && m.storing && not (misses lines choice m)) m m (λ (new : Memory). (new.storing ≡ true) × (new.age ≡ m.age)) (λ _. (st, refl)) (λ _. (st, refl))
+      cond_both ((mag == selected_mag sel) && m.storing && not (misses lines choice m)) m m
+      (λ (new : Memory). (new.storing ≡ true) × (new.age ≡ m.age)) (λ _. (st, refl)) (λ _. (st, refl))
   after_ready choice m (Links mag (Some content)) other on st =
-      cond_both ((mag == selected_mag sel) && m.storing && not (misses lines choice m)) (with_links m (Some content)) m (λ (new : Memory). (new.storing ≡ true) × (new.age ≡ m.age)) (λ _. (st, refl)) (λ _. (st, refl))
+      cond_both ((mag == selected_mag sel) && m.storing && not (misses lines choice m)) (with_links m (Some content)) m
+      (λ (new : Memory). (new.storing ≡ true) × (new.age ≡ m.age)) (λ _. (st, refl)) (λ _. (st, refl))
   after_ready choice m _ other on st = (st, refl)
 
 module _ (class : Class) (lines : ℕ) (sel : Selection) (p : Page) where
@@ -178,16 +198,22 @@ module _ (class : Class) (lines : ℕ) (sel : Selection) (p : Page) where
 
   -- a receiver that isn't fresh keeps the page's control bits
   pub after_settled : (choice : Bool) (m : Memory) (pkt : Packet) → (heads_matched sel pkt ≡ true → IsHeadOf p pkt) →
-      m.fresh ≡ false → m.control ≡ p.control → ((after class lines sel choice m pkt).fresh ≡ false) × ((after class lines sel choice m pkt).control ≡ p.control)
+      m.fresh ≡ false → m.control ≡ p.control → ((after class lines sel choice m pkt).fresh ≡ false)
+      × ((after class lines sel choice m pkt).control ≡ p.control)
   after_settled choice m (Header id control text) r f k =
       cond_both (matches sel id) _ _ (λ (new : Memory). (new.fresh ≡ false) × (new.control ≡ p.control))
       (λ e. (refl, (r e).0))
       (λ _. cond_both (id.mag == selected_mag sel) _ _ (λ (new : Memory). (new.fresh ≡ false) × (new.control ≡ p.control)) (λ _. (f, k))
-      (λ _. cond_both (c11 control && choice) (with_storing m false) m (λ (new : Memory). (new.fresh ≡ false) × (new.control ≡ p.control)) (λ _. (f, k)) (λ _. (f, k))))
+      (λ _. cond_both (c11 control && choice) (with_storing m false) m
+      (λ (new : Memory). (new.fresh ≡ false) × (new.control ≡ p.control)) (λ _. (f, k)) (λ _. (f, k))))
   after_settled choice m (Row mag number text) r f k =
-      cond_both ((mag == selected_mag sel) && m.storing && not (misses lines choice m)) (with_row m number (stored_row (get_or m.rows number []) text)) m (λ (new : Memory). (new.fresh ≡ false) × (new.control ≡ p.control)) (λ _. (f, k)) (λ _. (f, k))
+      cond_both ((mag == selected_mag sel) && m.storing && not (misses lines choice m))
+      (with_row m number (stored_row (get_or m.rows number []) text)) m
+      (λ (new : Memory). (new.fresh ≡ false) × (new.control ≡ p.control)) (λ _. (f, k)) (λ _. (f, k))
   after_settled choice m (Links mag None) r f k =
-      cond_both ((mag == selected_mag sel) && m.storing && not (misses lines choice m)) m m (λ (new : Memory). (new.fresh ≡ false) × (new.control ≡ p.control)) (λ _. (f, k)) (λ _. (f, k))
+      cond_both ((mag == selected_mag sel) && m.storing && not (misses lines choice m)) m m
+      (λ (new : Memory). (new.fresh ≡ false) × (new.control ≡ p.control)) (λ _. (f, k)) (λ _. (f, k))
   after_settled choice m (Links mag (Some content)) r f k =
-      cond_both ((mag == selected_mag sel) && m.storing && not (misses lines choice m)) (with_links m (Some content)) m (λ (new : Memory). (new.fresh ≡ false) × (new.control ≡ p.control)) (λ _. (f, k)) (λ _. (f, k))
+      cond_both ((mag == selected_mag sel) && m.storing && not (misses lines choice m)) (with_links m (Some content)) m
+      (λ (new : Memory). (new.fresh ≡ false) × (new.control ≡ p.control)) (λ _. (f, k)) (λ _. (f, k))
   after_settled choice m _ r f k = (f, k)

@@ -17,20 +17,25 @@ use Rattle.ttx_page.specs.Streams.{heads_matched, carries}
 use Rattle.ttx_receiver.proofs.StoredRows.{stored_row_at, stored_row_good}
 use Rattle.ttx_receiver.proofs.StepsOverPage.{Shape, GoodText, IsHeadOf, IsRowOf, AreLinksOf, erased_first, shape_erased}
 
-pub erases_not : (class : Class) (choice : Bool) (m : Memory) (control : ℕ) → c4 control ≡ false → m.fresh ≡ false → erases class choice m control ≡ false
+pub erases_not : (class : Class) (choice : Bool) (m : Memory) (control : ℕ) → c4 control ≡ false → m.fresh ≡ false →
+    erases class choice m control ≡ false
 erases_not Any choice m control k f = or_from (c4 control) (m.fresh && choice) k (subst (λ b. (b && choice) ≡ false) (sym f) refl)
 erases_not Clearing choice m control k f = or_from (c4 control) m.fresh k f
 
 -- the stored_row row is the old one, but where the byte is good
-kept_char : (old text chars : List ℕ) (c n : ℕ) → length old ≡ n → c < n → GoodText chars n text → get_or old c 0 ≡ get_or chars c 0 → get_or (stored_row old text) c 0 ≡ get_or chars c 0
-kept_char old text chars c n w h good was = elim (stored_row_at old text c (omega arith)) as (λ _. get_or (stored_row old text) c 0 ≡ get_or chars c 0)
+kept_char : (old text chars : List ℕ) (c n : ℕ) → length old ≡ n → c < n → GoodText chars n text → get_or old c 0 ≡ get_or chars c 0 →
+    get_or (stored_row old text) c 0 ≡ get_or chars c 0
+kept_char old text chars c n w h good was = elim (stored_row_at old text c (omega arith)) as
+    (λ _. get_or (stored_row old text) c 0 ≡ get_or chars c 0)
     [ inl e ↦ e ∙ was | inr t ↦ t.is ∙ good c h t.good ]
 
 -- column 8 + c of row 0
-pub head_char : (row text : List ℕ) (c : ℕ) → length row ≡ 40 → get_or (take 8 row ++ stored_row (drop 8 row) text) (8 + c) 0 ≡ get_or (stored_row (drop 8 row) text) c 0
+pub head_char : (row text : List ℕ) (c : ℕ) → length row ≡ 40 → get_or (take 8 row ++ stored_row (drop 8 row) text) (8 + c) 0
+    ≡ get_or (stored_row (drop 8 row) text) c 0
 head_char row text c w =
     let k : length (take 8 row) ≡ 8 = length-take-le 8 row (omega arith) in
-    ap (λ n. get_or (take 8 row ++ stored_row (drop 8 row) text) (n + c) 0) (sym k) ∙ get_or-append-add (take 8 row) (stored_row (drop 8 row) text) c 0
+    ap (λ n. get_or (take 8 row ++ stored_row (drop 8 row) text) (n + c) 0) (sym k)
+    ∙ get_or-append-add (take 8 row) (stored_row (drop 8 row) text) c 0
 
 -- byte c of the text is the right character
 pub record IsRightAt (chars text : List ℕ) (c : ℕ) : Type 0 where
@@ -59,7 +64,8 @@ module _ (class : Class) (lines : ℕ) (sel : Selection) (p : Page) where
   takes choice m mag = (mag == selected_mag sel) && m.storing && not (misses lines choice m)
 
   -- a character of row r stays right
-  pub keep_row : c4 p.control ≡ false → (r c : ℕ) → 1 ≤ r → r < 25 → c < 40 → (choice : Bool) (m : Memory) (pkt : Packet) → Shape m → m.fresh ≡ false →
+  pub keep_row : c4 p.control ≡ false → (r c : ℕ) → 1 ≤ r → r < 25 → c < 40 → (choice : Bool) (m : Memory) (pkt : Packet) → Shape m →
+      m.fresh ≡ false →
       (heads_matched sel pkt ≡ true → IsHeadOf p pkt) → (m.storing ≡ true → carries (selected_mag sel) (TheRow r) pkt ≡ true → IsRowOf p r pkt) →
       char_at m r c ≡ get_or (page_row p r) c 0 → char_at (after class lines sel choice m pkt) r c ≡ get_or (page_row p r) c 0
   keep_row k4 r c low high col choice m (Header id control text) s f hh hr was =
@@ -94,7 +100,8 @@ module _ (class : Class) (lines : ℕ) (sel : Selection) (p : Page) where
   keep_row k4 r c low high col choice m (Links mag None) s f hh hr was =
       cond_both {A = Memory} (takes choice m mag) m m (λ new. char_at new r c ≡ get_or (page_row p r) c 0) (λ _. was) (λ _. was)
   keep_row k4 r c low high col choice m (Links mag (Some content)) s f hh hr was =
-      cond_both {A = Memory} (takes choice m mag) (with_links m (Some content)) m (λ new. char_at new r c ≡ get_or (page_row p r) c 0) (λ _. was) (λ _. was)
+      cond_both {A = Memory} (takes choice m mag) (with_links m (Some content)) m (λ new. char_at new r c ≡ get_or (page_row p r) c 0)
+      (λ _. was) (λ _. was)
   keep_row k4 r c low high col choice m _ s f hh hr was = was
 
   -- a character of row 0 stays right
@@ -132,7 +139,8 @@ module _ (class : Class) (lines : ℕ) (sel : Selection) (p : Page) where
   keep_head c col choice m (Links mag None) s hh none was =
       cond_both {A = Memory} (takes choice m mag) m m (λ new. char_at new 0 (8 + c) ≡ get_or p.head c 0) (λ _. was) (λ _. was)
   keep_head c col choice m (Links mag (Some content)) s hh none was =
-      cond_both {A = Memory} (takes choice m mag) (with_links m (Some content)) m (λ new. char_at new 0 (8 + c) ≡ get_or p.head c 0) (λ _. was) (λ _. was)
+      cond_both {A = Memory} (takes choice m mag) (with_links m (Some content)) m (λ new. char_at new 0 (8 + c) ≡ get_or p.head c 0)
+      (λ _. was) (λ _. was)
   keep_head c col choice m _ s hh none was = was
 
   -- the links stay right
@@ -149,7 +157,8 @@ module _ (class : Class) (lines : ℕ) (sel : Selection) (p : Page) where
       (λ _. cond_both {A = Memory} (id.mag == selected_mag sel) _ _ P (λ _. was)
       (λ _. cond_both {A = Memory} (c11 control && choice) (with_storing m false) m P (λ _. was) (λ _. was)))
   keep_links k4 choice m (Row mag number text) f hh hl was =
-      cond_both {A = Memory} (takes choice m mag) (with_row m number (stored_row (get_or m.rows number []) text)) m (λ new. new.links ≡ p.links) (λ _. was) (λ _. was)
+      cond_both {A = Memory} (takes choice m mag) (with_row m number (stored_row (get_or m.rows number []) text)) m
+      (λ new. new.links ≡ p.links) (λ _. was) (λ _. was)
   keep_links k4 choice m (Links mag None) f hh hl was =
       cond_both {A = Memory} (takes choice m mag) m m (λ new. new.links ≡ p.links) (λ _. was) (λ _. was)
   keep_links k4 choice m (Links mag (Some content)) f hh hl was =
@@ -157,7 +166,8 @@ module _ (class : Class) (lines : ℕ) (sel : Selection) (p : Page) where
       (λ e. let q = hl ((and_parts _ _ (and_parts _ _ e).0).1) ((and_parts _ _ (and_parts _ _ e).0).0) in cc) (λ _. was)
   keep_links k4 choice m _ f hh hl was = was
 
-  ready_takes : (choice : Bool) (m : Memory) (mag : ℕ) → m.storing ≡ true → lines < m.age → (mag == selected_mag sel) ≡ true → takes choice m mag ≡ true
+  ready_takes : (choice : Bool) (m : Memory) (mag : ℕ) → m.storing ≡ true → lines < m.age → (mag == selected_mag sel) ≡ true →
+      takes choice m mag ≡ true
   ready_takes choice m mag st old here =
       and_from _ _ (and_from _ _ here st) (not_from_false _ (misses_not choice))
     where
@@ -167,7 +177,8 @@ module _ (class : Class) (lines : ℕ) (sel : Selection) (p : Page) where
 
   -- a byte that is received right is stored_row
   pub take_row : (r c : ℕ) → r < 25 → c < 40 → (choice : Bool) (m : Memory) (pkt : Packet) → Shape m → m.storing ≡ true → lines < m.age →
-      carries (selected_mag sel) (TheRow r) pkt ≡ true → RowRightAt p r c pkt → char_at (after class lines sel choice m pkt) r c ≡ get_or (page_row p r) c 0
+      carries (selected_mag sel) (TheRow r) pkt ≡ true → RowRightAt p r c pkt → char_at (after class lines sel choice m pkt) r c
+      ≡ get_or (page_row p r) c 0
   take_row r c high col choice m (Row mag number text) s st old here right =
       let row = stored_row (get_or m.rows number []) text in
       let same : number ≡ r = eqb-true number r ((and_parts _ _ here).1) in
@@ -199,7 +210,8 @@ module _ (class : Class) (lines : ℕ) (sel : Selection) (p : Page) where
       (λ _. begun_takes (erased m) control text (shape_erased m s) right) (λ _. begun_takes m control text s right))
       (λ e. absurd (both_ways _ e here))
     where
-      begun_takes : (m : Memory) (control : ℕ) (text : List ℕ) → Shape m → IsRightAt p.head text c → char_at (begun m control text) 0 (8 + c) ≡ get_or p.head c 0
+      begun_takes : (m : Memory) (control : ℕ) (text : List ℕ) → Shape m → IsRightAt p.head text c →
+          char_at (begun m control text) 0 (8 + c) ≡ get_or p.head c 0
       begun_takes m control text s right =
           let row = get_or m.rows 0 [] in
           let new : List ℕ = take 8 row ++ stored_row (drop 8 row) text in

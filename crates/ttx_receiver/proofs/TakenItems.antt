@@ -26,15 +26,18 @@ needed_row p r h =
     let b = (and_parts _ _ (and_parts _ _ (and_parts _ _ h).0).0).1 in
     (leb-true 1 r a, leb-true r 24 b)
 
-module _ (class : Class) (lines : ℕ) (sel : Selection) (p : Page) (page : IsPage p) (few : lines ≤ 32) (received : List (List ℕ)) (receives_page : ReceivesPage sel p (packet_at received) (length received)) where
+module _ (class : Class) (lines : ℕ) (sel : Selection) (p : Page) (page : IsPage p) (few : lines ≤ 32) (received : List (List ℕ))
+    (receives_page : ReceivesPage sel p (packet_at received) (length received)) where
   abbrev g : ℕ → Packet
   g = packet_at received
 
   -- what is taken at place j, and kept, is there in the end
   held : (Before : ℕ → Memory → Type 0) (Good : Memory → Type 0) (j : ℕ) → j < length received →
       ((t : ℕ) → t < j → (choice : Bool) (m : Memory) → Shape m → Before t m → Before (suc t) (after class lines sel choice (older m) (g t))) →
-      ((choice : Bool) (m : Memory) → Shape m → Before j m → IsTuned sel p g (suc j) (after class lines sel choice (older m) (g j)) × Good (after class lines sel choice (older m) (g j))) →
-      ((t : ℕ) → t < length received → (choice : Bool) (m : Memory) → Shape m → IsTuned sel p g t m → Good m → Good (after class lines sel choice (older m) (g t))) →
+      ((choice : Bool) (m : Memory) → Shape m → Before j m → IsTuned sel p g (suc j) (after class lines sel choice (older m) (g j))
+      × Good (after class lines sel choice (older m) (g j))) →
+      ((t : ℕ) → t < length received → (choice : Bool) (m : Memory) → Shape m → IsTuned sel p g t m → Good m → Good
+      (after class lines sel choice (older m) (g t))) →
       (m new : Memory) → Shape m → Before 0 m → Run class lines sel m received new → (new.control ≡ p.control) × Good new
   held Before Good j inside earlier begins keeps m new shape before run =
       let Inv : ℕ → Memory → Type 0 = λ t x. Shape x × (t ≤ j → Before t x) × (j < t → IsTuned sel p g t x × Good x) in
@@ -42,7 +45,8 @@ module _ (class : Class) (lines : ℕ) (sel : Selection) (p : Page) (page : IsPa
       (λ k lt choice x i.
       let e : k ≡ 0 + k = omega arith in
       subst (λ t. Inv (suc t) (after class lines sel choice (older x) (g k))) e
-      (lasting class lines sel p g (length received) receives_page Before Good j inside earlier begins keeps k lt choice x (subst (λ t. Inv t x) (sym e) i)))
+      (lasting class lines sel p g (length received) receives_page Before Good j inside earlier begins keeps k lt choice x
+      (subst (λ t. Inv t x) (sym e) i)))
       m new run (shape, (λ _. before), (λ lt. absurd (omega arith))) in
       let w = last.2 (omega arith) in
       (w.0.control, w.1)
@@ -53,16 +57,19 @@ module _ (class : Class) (lines : ℕ) (sel : Selection) (p : Page) (page : IsPa
   before_next : (h j : ℕ) → j < length received → IsSureAt sel g lines h j →
       (t : ℕ) → t < j → (choice : Bool) (m : Memory) → Before h t m → Before h (suc t) (after class lines sel choice (older m) (g t))
   before_next h j inside sure t lt choice m i le =
-      elim (cases_lt h t) as (λ _. IsTuned sel p g (suc t) (after class lines sel choice (older m) (g t)) × IsStoring h (suc t) (after class lines sel choice (older m) (g t))) [
+      elim (cases_lt h t) as (λ _. IsTuned sel p g (suc t) (after class lines sel choice (older m) (g t))
+      × IsStoring h (suc t) (after class lines sel choice (older m) (g t))) [
         | inl later ↦
             let w = i later in (
               tuned_next class lines sel p g (length received) receives_page t (omega arith) choice m w.0,
-              storing_next class lines sel p g (length received) receives_page h t later (sure.no_header t later lt) (sure.no_end t later lt) choice m w.1,
+              storing_next class lines sel p g (length received) receives_page h t later (sure.no_header t later lt)
+                  (sure.no_end t later lt) choice m w.1,
             )
         | inr ge ↦
             let e : h ≡ t = omega arith in
             let here : heads_matched sel (g t) ≡ true = subst (λ x. heads_matched sel (g x) ≡ true) e sure.matched in
-            subst (λ x. IsTuned sel p g (suc t) (after class lines sel choice (older m) (g t)) × IsStoring x (suc t) (after class lines sel choice (older m) (g t))) (sym e)
+            subst (λ x. IsTuned sel p g (suc t) (after class lines sel choice (older m) (g t))
+            × IsStoring x (suc t) (after class lines sel choice (older m) (g t))) (sym e)
             (tuned_begin class lines sel p g (length received) receives_page t (omega arith) here choice m)
       ]
 
@@ -83,7 +90,8 @@ module _ (class : Class) (lines : ℕ) (sel : Selection) (p : Page) (page : IsPa
             (old_enough h j x sure.late w.1) here right,
       ))
       (λ t lt choice x s tuned good.
-      keep_row class lines sel p page.no_erase r c range.0 (omega (arith, range.1)) col choice (older x) (g t) (record { count = s.count; width = s.width }) tuned.settled
+      keep_row class lines sel p page.no_erase r c range.0 (omega (arith, range.1)) col choice (older x) (g t)
+      (record { count = s.count; width = s.width }) tuned.settled
       (receives_page.heads t lt) (λ st carry. receives_page.rows t lt (tuned.owned st) r need carry) good)
       m new shape (λ lt. absurd (omega arith)) run
 
@@ -95,7 +103,8 @@ module _ (class : Class) (lines : ℕ) (sel : Selection) (p : Page) (page : IsPa
       (λ choice x s b.
       let w = b (omega (arith, sure.late)) in (
         tuned_next class lines sel p g (length received) receives_page j inside choice x w.0,
-        take_links class lines sel p choice (older x) (g j) w.1.storing (old_enough h j x sure.late w.1) here (receives_page.links j inside (w.0.owned w.1.storing) here),
+        take_links class lines sel p choice (older x) (g j) w.1.storing (old_enough h j x sure.late w.1) here
+            (receives_page.links j inside (w.0.owned w.1.storing) here),
       ))
       (λ t lt choice x s tuned good.
       keep_links class lines sel p page.no_erase choice (older x) (g t) tuned.settled
@@ -112,5 +121,6 @@ module _ (class : Class) (lines : ℕ) (sel : Selection) (p : Page) (page : IsPa
         take_head class lines sel p c col choice (older x) (g j) (record { count = s.count; width = s.width }) here right,
       ))
       (λ t lt choice x s tuned good.
-      keep_head class lines sel p c col choice (older x) (g t) (record { count = s.count; width = s.width }) (receives_page.heads t lt) (receives_page.no_row_0 t lt) good)
+      keep_head class lines sel p c col choice (older x) (g t) (record { count = s.count; width = s.width }) (receives_page.heads t lt)
+      (receives_page.no_row_0 t lt) good)
       m new shape tt run

@@ -17,10 +17,12 @@ value_from-at Leaves before = refl
 value_from-at (SetAt value) before = refl
 value_from-at (SetAfter value) before = refl
 
-pub attributes_in-left : (tall : Bool) (row : List ℕ) (c : ℕ) → attributes_in (spacing_at tall row c) (attributes_left tall row c) ≡ attributes_at tall row c
+pub attributes_in-left : (tall : Bool) (row : List ℕ) (c : ℕ) → attributes_in (spacing_at tall row c) (attributes_left tall row c)
+    ≡ attributes_at tall row c
 attributes_in-left tall row c = refl
 
-pub attributes_after-at : (tall : Bool) (row : List ℕ) (c : ℕ) → attributes_after (spacing_at tall row c) (attributes_at tall row c) ≡ attributes_left tall row (suc c)
+pub attributes_after-at : (tall : Bool) (row : List ℕ) (c : ℕ) → attributes_after (spacing_at tall row c) (attributes_at tall row c)
+    ≡ attributes_left tall row (suc c)
 attributes_after-at tall row c = simp value_from-at
 
 if-same : (b : Bool) (g : Glyph) → (if b then g else g) ≡ g
@@ -31,13 +33,16 @@ pub held_in-left : (tall : Bool) (row : List ℕ) (c : ℕ) → held_in (held_le
 held_in-left tall row zero = if-same _ (Char 0x20)
 held_in-left tall row (suc d) = refl
 
-pub held_after-at : (tall : Bool) (row : List ℕ) (c : ℕ) → held_after (attributes_at tall row c) (get_or row c 0) (held_at tall row c) ≡ held_left tall row (suc c)
+pub held_after-at : (tall : Bool) (row : List ℕ) (c : ℕ) → held_after (attributes_at tall row c) (get_or row c 0) (held_at tall row c)
+    ≡ held_left tall row (suc c)
 held_after-at tall row c = refl
 
-pub attributes_after-more : (tall : Bool) (row : List ℕ) (c : ℕ) → attributes_after (spacing_at tall row c) (attributes_at tall row c) ≡ attributes_left tall row (c + 1)
+pub attributes_after-more : (tall : Bool) (row : List ℕ) (c : ℕ) → attributes_after (spacing_at tall row c) (attributes_at tall row c)
+    ≡ attributes_left tall row (c + 1)
 attributes_after-more tall row c = attributes_after-at tall row c ∙ ap (attributes_left tall row) (sym (add-one c))
 
-pub held_after-more : (tall : Bool) (row : List ℕ) (c : ℕ) → held_after (attributes_at tall row c) (get_or row c 0) (held_at tall row c) ≡ held_left tall row (c + 1)
+pub held_after-more : (tall : Bool) (row : List ℕ) (c : ℕ) → held_after (attributes_at tall row c) (get_or row c 0) (held_at tall row c)
+    ≡ held_left tall row (c + 1)
 held_after-more tall row c = ap (held_left tall row) (sym (add-one c))
 
 -- ---- the cells of a row

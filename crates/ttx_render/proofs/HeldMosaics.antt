@@ -29,11 +29,13 @@ module _ (tall : Bool) (row : List ℕ) where
   Stayed : ℕ → Type 0
   Stayed e = (mosaic_at tall row (e + 1) ≡ mosaic_at tall row e) × (double_at tall row (e + 1) ≡ double_at tall row e)
 
-  stays-from : (e : ℕ) → (mosaic_at tall row (e + 1) ≡ mosaic_at tall row e) × (double_at tall row (e + 1) ≡ double_at tall row e) → stays tall row e ≡ true
+  stays-from : (e : ℕ) → (mosaic_at tall row (e + 1) ≡ mosaic_at tall row e) × (double_at tall row (e + 1) ≡ double_at tall row e) →
+      stays tall row e ≡ true
   stays-from e h =
       both _ _ (same-refl _ _ (ap (mosaic_at tall row) (sym (add-one e)) ∙ h.0)) (same-refl _ _ (ap (double_at tall row) (sym (add-one e)) ∙ h.1))
 
-  stays-to : (e : ℕ) → stays tall row e ≡ true → (mosaic_at tall row (e + 1) ≡ mosaic_at tall row e) × (double_at tall row (e + 1) ≡ double_at tall row e)
+  stays-to : (e : ℕ) → stays tall row e ≡ true → (mosaic_at tall row (e + 1) ≡ mosaic_at tall row e)
+      × (double_at tall row (e + 1) ≡ double_at tall row e)
   stays-to e h =
       let parts = and-true (same (mosaic_at tall row (suc e)) (mosaic_at tall row e)) (same (double_at tall row (suc e)) (double_at tall row e)) h in
       (ap (mosaic_at tall row) (add-one e) ∙ same-true _ _ parts.0, ap (double_at tall row) (add-one e) ∙ same-true _ _ parts.1)
@@ -42,7 +44,8 @@ module _ (tall : Bool) (row : List ℕ) where
   held-none : (d : ℕ) → stays tall row d ≡ false → held_at tall row (suc d) ≡ Char 0x20
   held-none d e = rw e
 
-  held-here : (d : ℕ) → stays tall row d ≡ true → shows_mosaic tall row d ≡ true → held_at tall row (suc d) ≡ mosaic_of (get_or row d 0) (separated_at tall row d)
+  held-here : (d : ℕ) → stays tall row d ≡ true → shows_mosaic tall row d ≡ true → held_at tall row (suc d)
+      ≡ mosaic_of (get_or row d 0) (separated_at tall row d)
   held-here d e f = rw (e, f)
 
   held-past : (d : ℕ) → stays tall row d ≡ true → shows_mosaic tall row d ≡ false → held_at tall row (suc d) ≡ held_at tall row d
@@ -69,16 +72,21 @@ module _ (tall : Bool) (row : List ℕ) where
         | inl low ↦
             held-past b s (is.2 b low (omega arith))
             ∙ before (low, is.1, λ e l h. is.2 e l (omega arith))
-            (λ stayed. not_stayed (λ e l h. below_more (λ e. d ≤ e → (mosaic_at tall row (e + 1) ≡ mosaic_at tall row e) × (double_at tall row (e + 1) ≡ double_at tall row e)) b (λ e h l. stayed e l h) (λ _. stays-to b s) e (omega arith) l))
+            (λ stayed. not_stayed (λ e l h. below_more
+            (λ e. d ≤ e → (mosaic_at tall row (e + 1) ≡ mosaic_at tall row e)
+            × (double_at tall row (e + 1) ≡ double_at tall row e)) b (λ e h l. stayed e l h) (λ _. stays-to b s) e
+            (omega arith) l))
         | inr q ↦ absurd (not_stayed (λ e l h. let here : e ≡ b = omega arith in
-            subst (λ (k : ℕ). (mosaic_at tall row (k + 1) ≡ mosaic_at tall row k) × (double_at tall row (k + 1) ≡ double_at tall row k)) (sym here) (stays-to b s)))
+            subst (λ (k : ℕ). (mosaic_at tall row (k + 1) ≡ mosaic_at tall row k) × (double_at tall row (k + 1) ≡ double_at tall row k))
+            (sym here) (stays-to b s)))
       ]
 
   lost : (c d : ℕ) → IsLatestMosaic tall row d c → ¬ HasStayed tall row d c → held_at tall row c ≡ Char 0x20
   lost zero d is not_stayed = refl
   lost (suc b) d is not_stayed = lost-by b d (stays tall row b) refl is not_stayed (lost b d)
 
-  bare-by : (b : ℕ) (s : Bool) → stays tall row b ≡ s → shows_mosaic tall row b ≡ false → held_at tall row b ≡ Char 0x20 → held_at tall row (suc b) ≡ Char 0x20
+  bare-by : (b : ℕ) (s : Bool) → stays tall row b ≡ s → shows_mosaic tall row b ≡ false → held_at tall row b ≡ Char 0x20 →
+      held_at tall row (suc b) ≡ Char 0x20
   bare-by b false s none before = held-none b s
   bare-by b true s none before = held-past b s none ∙ before
 

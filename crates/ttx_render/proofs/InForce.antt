@@ -23,7 +23,8 @@ module _ {A : Type 0} (acts : ℕ → Effect A) (start : A) where
       inl (e, omega arith, is, λ k low high. below_more (λ k. e < k → acts k ≡ Leaves) d (λ k h low. after k low h) (λ _. none) k (omega arith) low)
   more d value none (inr (same, all)) = inr (same, λ k high. below_more (λ k. acts k ≡ Leaves) d all none k (omega arith))
 
-  step : (d : ℕ) (x : Effect A) → acts d ≡ x → LastBefore acts start d (value_left acts start d) → LastBefore acts start (suc d) (value_after x (value_left acts start d))
+  step : (d : ℕ) (x : Effect A) → acts d ≡ x → LastBefore acts start d (value_left acts start d) →
+      LastBefore acts start (suc d) (value_after x (value_left acts start d))
   step d Leaves e last = more d (value_left acts start d) e last
   step d (SetAt value) e last = inl (d, omega arith, inl e, λ k low high. absurd (omega arith))
   step d (SetAfter value) e last = inl (d, omega arith, inr e, λ k low high. absurd (omega arith))

@@ -43,15 +43,19 @@ letter_is_shown_lem alone m number c letter is own l =
     let code = own-code m number c own in
     let cell = own-cell m number c own in
     let small : get_or (codes_of m number) c 0 < 128 = rw code l in (
-      λ e. sym code ∙ glyph_of-letter alone (attributes_at (is_tall number) (codes_of m number) c) (held_at (is_tall number) (codes_of m number) c) (option_of m.control)
+      λ e. sym code ∙ glyph_of-letter alone (attributes_at (is_tall number) (codes_of m number) c)
+          (held_at (is_tall number) (codes_of m number) c) (option_of m.control)
           (get_or (codes_of m number) c 0) letter is (option_of-lt m.control) small (held-letter (is_tall number) (codes_of m number) letter c)
           (sym (ap (λ (x : Cell). x.glyph) cell) ∙ e),
       λ e. ap (λ (x : Cell). x.glyph) cell
-          ∙ ap (λ (k : ℕ). (glyph_of (attributes_at (is_tall number) (codes_of m number) c) (held_at (is_tall number) (codes_of m number) c) (option_of m.control) k)) (code ∙ e)
-          ∙ letter-glyph_of alone (attributes_at (is_tall number) (codes_of m number) c) (held_at (is_tall number) (codes_of m number) c) (option_of m.control) letter is (option_of-lt m.control),
+          ∙ ap (λ (k : ℕ). (glyph_of (attributes_at (is_tall number) (codes_of m number) c)
+          (held_at (is_tall number) (codes_of m number) c) (option_of m.control) k)) (code ∙ e)
+          ∙ letter-glyph_of alone (attributes_at (is_tall number) (codes_of m number) c)
+          (held_at (is_tall number) (codes_of m number) c) (option_of m.control) letter is (option_of-lt m.control),
     )
 
 pub letter_is_seen_lem : LettersStandAlone → LetterIsSeen
 letter_is_seen_lem alone m n number c letter is own_m own_n small_m small_n there elsewhere same =
     let first = (letter_is_shown_lem alone m number c letter is own_m small_m).1 there in
-    elsewhere ((letter_is_shown_lem alone n number c letter is own_n small_n).0 (sym (ap (λ (x : Cell). x.glyph) (same.cells number c own_m.0)) ∙ first))
+    elsewhere ((letter_is_shown_lem alone n number c letter is own_n small_n).0
+    (sym (ap (λ (x : Cell). x.glyph) (same.cells number c own_m.0)) ∙ first))

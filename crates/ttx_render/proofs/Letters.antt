@@ -56,10 +56,12 @@ no-mosaic : (b : Bool) (x y : Glyph) → (if b && false then x else y) ≡ y
 no-mosaic true x y = refl
 no-mosaic false x y = refl
 
-shown-by : (letter option : ℕ) (now : Attributes) (g : Glyph) → nat_lt letter 0x20 ≡ false → has_blocks letter ≡ false → glyph option letter ≡ letter → glyph_of now g option letter ≡ Char letter
+shown-by : (letter option : ℕ) (now : Attributes) (g : Glyph) → nat_lt letter 0x20 ≡ false → has_blocks letter ≡ false →
+    glyph option letter ≡ letter → glyph_of now g option letter ≡ Char letter
 shown-by letter option now g low bit same = rw (low, bit, same) (no-mosaic now.mosaic _ _)
 
-pub letter-glyph_of : LettersStandAlone → (now : Attributes) (g : Glyph) (option letter : ℕ) → IsLetter letter → option < 8 → glyph_of now g option letter ≡ Char letter
+pub letter-glyph_of : LettersStandAlone → (now : Attributes) (g : Glyph) (option letter : ℕ) → IsLetter letter → option < 8 →
+    glyph_of now g option letter ≡ Char letter
 letter-glyph_of alone now g option letter (inl a) o =
     rw a (shown-by 0x41 option now g refl refl ((alone.0 option 0x41 o (omega arith)).1 refl))
 letter-glyph_of alone now g option letter (inr b) o =

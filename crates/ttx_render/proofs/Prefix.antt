@@ -38,7 +38,8 @@ module _ (tall : Bool) (xs ys : List ℕ) (n : ℕ) (agree : (k : ℕ) → k < n
   now-from_left c l e =
       let here : get_or xs c 0 ≡ get_or ys c 0 = agree c l in
       sym (attributes_in-left tall xs c)
-      ∙ at_of-box tall (get_or xs c 0 == get_or xs (c + 1) 0) (get_or ys c 0 == get_or ys (c + 1) 0) (spacing_of (get_or xs c 0)) (attributes_left tall xs c)
+      ∙ at_of-box tall (get_or xs c 0 == get_or xs (c + 1) 0) (get_or ys c 0 == get_or ys (c + 1) 0) (spacing_of (get_or xs c 0))
+      (attributes_left tall xs c)
       ∙ ap (λ (k : ℕ). attributes_in (spacing_in tall (get_or ys c 0 == get_or ys (c + 1) 0) (spacing_of k)) (attributes_left tall xs c)) here
       ∙ ap (attributes_in (spacing_at tall ys c)) e
       ∙ attributes_in-left tall ys c
@@ -47,7 +48,8 @@ module _ (tall : Bool) (xs ys : List ℕ) (n : ℕ) (agree : (k : ℕ) → k < n
   left-same zero l = refl
   left-same (suc d) l =
       let e : attributes_at tall xs d ≡ attributes_at tall ys d = now-from_left d (omega arith) (left-same d (omega arith)) in
-      sym (attributes_after-at tall xs d) ∙ ap (λ (s : Spacing). attributes_after s (attributes_at tall xs d)) (sets-same d l) ∙ ap (attributes_after (spacing_at tall ys d)) e ∙ attributes_after-at tall ys d
+      sym (attributes_after-at tall xs d) ∙ ap (λ (s : Spacing). attributes_after s (attributes_at tall xs d)) (sets-same d l)
+      ∙ ap (attributes_after (spacing_at tall ys d)) e ∙ attributes_after-at tall ys d
 
   pub now-same : (c : ℕ) → c < n → attributes_at tall xs c ≡ attributes_at tall ys c
   now-same c l = now-from_left c l (left-same c l)

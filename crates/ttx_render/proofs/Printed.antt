@@ -53,7 +53,8 @@ held_printed tall row zero = refl
 held_printed tall row (suc d) =
     by_if IsPrinted (stays tall row d) _ _ (λ _. by_if IsPrinted (shows_mosaic tall row d) _ _ (λ _. tt) (λ _. held_printed tall row d)) (λ _. refl)
 
-shown_printed : (now : Attributes) (held : Glyph) (option code : ℕ) → IsPrinted held → option < 8 → code < 128 → IsPrinted (glyph_of now held option code)
+shown_printed : (now : Attributes) (held : Glyph) (option code : ℕ) → IsPrinted held → option < 8 → code < 128 →
+    IsPrinted (glyph_of now held option code)
 shown_printed now held option code h o c =
     by_if IsPrinted (nat_lt code 0x20) _ _ (λ _. by_if IsPrinted now.hold _ _ (λ _. h) (λ _. refl))
     (λ low. by_if IsPrinted (now.mosaic && has_blocks code) _ _ (λ _. tt) (λ _. glyph_printed option code o c low))
@@ -82,7 +83,8 @@ codes_row m is number l =
 own_printed : (m : Memory) → IsMemory m → (number : ℕ) → number < 25 → Printed (own_cells m number)
 unfolding own_cells
 own_printed m is number l =
-    cells_printed (is_tall number) (codes_of m number) 40 (option_of m.control) (has_boxes m.control) (option_of-lt m.control) (codes_row m is number l)
+    cells_printed (is_tall number) (codes_of m number) 40 (option_of m.control) (has_boxes m.control) (option_of-lt m.control)
+    (codes_row m is number l)
 
 lower_printed : (cell : Cell) → IsPrinted cell.glyph → IsPrinted (lower cell).glyph
 lower_printed cell h = by_part cell.part
@@ -99,7 +101,9 @@ lowered_printed (cell ∷ cells) h = (lower_printed cell h.0, lowered_printed ce
 row_printed : (m : Memory) → IsMemory m → (number : ℕ) → number < 25 → Printed (view_row m number)
 unfolding view_row
 row_printed m is number l =
-    by_if Printed (is_below m number) _ _ (λ _. lowered_printed (own_cells m (number - 1)) (own_printed m is (number - 1) (omega (arith, l)))) (λ _. own_printed m is number l)
+    by_if Printed (is_below m number) _ _
+    (λ _. lowered_printed (own_cells m (number - 1)) (own_printed m is (number - 1) (omega (arith, l))))
+    (λ _. own_printed m is number l)
 
 rows_printed : (m : Memory) → IsMemory m → (low n : ℕ) → low + n ≤ 25 → ArePrinted (map (λ number. view_row m number) (range_with_len low n))
 rows_printed m is low zero l = tt

@@ -24,13 +24,15 @@ module _ (p : Page) where
   -- where rows are shown, those that the displayed codes hide are those that the page's rows hide
   open-row : (k : ℕ) → not (c10 p.control) ≡ true → is_tall k ≡ true → codes_of (memory_of_page p) k ≡ page_row p k
   open-row zero o t = cc
-  open-row (suc d) o t = codes_of-shown (memory_of_page p) d (is_shown-suc (memory_of_page p) d ∙ shown-bool _ _ _ o (tall-not24 (suc d) t)) ∙ page_row-suc p d
+  open-row (suc d) o t = codes_of-shown (memory_of_page p) d
+      (is_shown-suc (memory_of_page p) d ∙ shown-bool _ _ _ o (tall-not24 (suc d) t)) ∙ page_row-suc p d
 
   pub hidden-same : (n : ℕ) → not (c10 p.control) ≡ true → is_below (memory_of_page p) n ≡ is_hidden (page_row p) n
   hidden-same n o = is_hidden-same (codes_of (memory_of_page p)) (page_row p) n (λ k t. open-row k o t)
 
   -- a row of the page that is shown and isn't hidden is needed
-  pub row-needed : (d : ℕ) → d < 24 → is_shown (memory_of_page p) (suc d) ≡ true → is_below (memory_of_page p) (suc d) ≡ false → needed p (TheRow (suc d)) ≡ true
+  pub row-needed : (d : ℕ) → d < 24 → is_shown (memory_of_page p) (suc d) ≡ true → is_below (memory_of_page p) (suc d) ≡ false →
+      needed p (TheRow (suc d)) ≡ true
   row-needed d l shown e =
       let s = sym (is_shown-suc (memory_of_page p) d) ∙ shown in
       needed-bool (nat_le 1 (suc d)) (nat_le (suc d) 24) (not (c10 p.control)) (suc d == 24) p.links.show24 (is_hidden (page_row p) (suc d))
@@ -44,11 +46,13 @@ module _ (p : Page) (m : Memory) (control : m.control ≡ p.control) (links : m.
   pub is_shown-same : (n : ℕ) → is_shown m n ≡ is_shown (memory_of_page p) n
   is_shown-same n = rw (control, links)
 
-  codes-by : (d : ℕ) (b : Bool) → suc d < top → is_shown (memory_of_page p) (suc d) ≡ b → is_below (memory_of_page p) (suc d) ≡ false → codes_of m (suc d) ≡ codes_of (memory_of_page p) (suc d)
+  codes-by : (d : ℕ) (b : Bool) → suc d < top → is_shown (memory_of_page p) (suc d) ≡ b → is_below (memory_of_page p) (suc d) ≡ false →
+      codes_of m (suc d) ≡ codes_of (memory_of_page p) (suc d)
   codes-by d false l s e =
       codes_of-not_shown m (suc d) (is_shown-same (suc d) ∙ s) ∙ sym (codes_of-not_shown (memory_of_page p) (suc d) s)
   codes-by d true l s e =
-      codes_of-shown m d (is_shown-same (suc d) ∙ s) ∙ rows (suc d) l (row-needed p d (omega arith) s e) ∙ sym (page_row-suc p d) ∙ sym (codes_of-shown (memory_of_page p) d s)
+      codes_of-shown m d (is_shown-same (suc d) ∙ s) ∙ rows (suc d) l (row-needed p d (omega arith) s e) ∙ sym (page_row-suc p d)
+      ∙ sym (codes_of-shown (memory_of_page p) d s)
 
   pub codes-same : (d : ℕ) → suc d < top → is_below (memory_of_page p) (suc d) ≡ false → codes_of m (suc d) ≡ codes_of (memory_of_page p) (suc d)
   codes-same d l e = codes-by d (is_shown (memory_of_page p) (suc d)) l refl e
@@ -61,7 +65,8 @@ module _ (p : Page) (m : Memory) (control : m.control ≡ p.control) (links : m.
   pub is_below-same : (n : ℕ) → n ≤ top → is_below m n ≡ is_below (memory_of_page p) n
   is_below-same zero l = refl
   is_below-same (suc k) l =
-      step-shut (is_tall k) (is_below m k) (is_below (memory_of_page p) k) (has_double_height (codes_of m k)) (has_double_height (codes_of (memory_of_page p) k))
+      step-shut (is_tall k) (is_below m k) (is_below (memory_of_page p) k) (has_double_height (codes_of m k))
+      (has_double_height (codes_of (memory_of_page p) k))
       (is_below-same k (omega arith)) (λ t e. ap has_double_height (open-codes k (omega arith) t e))
 
 -- ---- a memory that shows the page
@@ -105,8 +110,10 @@ module _ (p : Page) (m : Memory) (shows : Shows p m) where
   row-same d l = row-by d (is_below (memory_of_page p) (suc d)) l refl
 
   -- ---- row 0
-  head-by : (b : Bool) → length p.head ≡ 24 → is_shown (memory_of_page p) 0 ≡ b → (k : ℕ) → k < 32 → get_or (codes_of m 0) k 0 ≡ get_or (codes_of (memory_of_page p) 0) k 0
-  head-by false long s k l = ap (λ (row : List ℕ). get_or row k 0) (codes_of-not_shown m 0 (shown 0 ∙ s) ∙ sym (codes_of-not_shown (memory_of_page p) 0 s))
+  head-by : (b : Bool) → length p.head ≡ 24 → is_shown (memory_of_page p) 0 ≡ b → (k : ℕ) → k < 32 → get_or (codes_of m 0) k 0
+      ≡ get_or (codes_of (memory_of_page p) 0) k 0
+  head-by false long s k l = ap (λ (row : List ℕ). get_or row k 0)
+      (codes_of-not_shown m 0 (shown 0 ∙ s) ∙ sym (codes_of-not_shown (memory_of_page p) 0 s))
   head-by true long s k l =
       let held = shows.items TheHead s in
       ap (λ (row : List ℕ). get_or row k 0) (codes_of-head m (shown 0 ∙ s))
@@ -119,16 +126,19 @@ module _ (p : Page) (m : Memory) (shows : Shows p m) where
   head-same long c d l =
       ap (λ (row : List Cell). get_or row c d) (view_row-own m 0 refl)
       ∙ cells_to-at false (codes_of m 0) (option_of m.control) (has_boxes m.control) 40 c d (omega arith)
-      ∙ cell_at-same false (codes_of m 0) (codes_of (memory_of_page p) 0) 32 (head-by (is_shown (memory_of_page p) 0) long refl) (option_of m.control) (has_boxes m.control) c l
+      ∙ cell_at-same false (codes_of m 0) (codes_of (memory_of_page p) 0) 32 (head-by (is_shown (memory_of_page p) 0) long refl)
+      (option_of m.control) (has_boxes m.control) c l
       ∙ ap (λ (k : ℕ). cell_at false (codes_of (memory_of_page p) 0) (option_of k) (has_boxes k) c) shows.control
       ∙ sym (cells_to-at false (codes_of (memory_of_page p) 0) (option_of p.control) (has_boxes p.control) 40 c d (omega arith))
       ∙ ap (λ (row : List Cell). get_or row c d) (sym (view_row-own (memory_of_page p) 0 refl))
 
-  by_number : (long : length p.head ≡ 24) (number c : ℕ) → IsCompared number c → get_or (view_row m number) c space_cell ≡ get_or (view_row (memory_of_page p) number) c space_cell
+  by_number : (long : length p.head ≡ 24) (number c : ℕ) → IsCompared number c → get_or (view_row m number) c space_cell
+      ≡ get_or (view_row (memory_of_page p) number) c space_cell
   by_number long zero c is = head-same long c space_cell (is.2 refl).1
   by_number long (suc d) c is = ap (λ (row : List Cell). get_or row c space_cell) (row-same d is.0)
 
-  cells-same : length p.head ≡ 24 → (number c : ℕ) → IsCompared number c → cell_in (view_of m) number c ≡ cell_in (view_of (memory_of_page p)) number c
+  cells-same : length p.head ≡ 24 → (number c : ℕ) → IsCompared number c → cell_in (view_of m) number c
+      ≡ cell_in (view_of (memory_of_page p)) number c
   cells-same long number c is =
       ap (λ (row : List Cell). get_or row c space_cell) (rows_to-at m 25 number [] is.0)
       ∙ by_number long number c is

@@ -28,7 +28,8 @@ step-same false a b x y e f = refl
 pub is_hidden-same : (f g : ℕ → List ℕ) (n : ℕ) → ((k : ℕ) → is_tall k ≡ true → f k ≡ g k) → is_hidden f n ≡ is_hidden g n
 is_hidden-same f g zero same = refl
 is_hidden-same f g (suc k) same =
-    step-same (is_tall k) (is_hidden f k) (is_hidden g k) (has_double_height (f k)) (has_double_height (g k)) (is_hidden-same f g k same) (λ t. ap has_double_height (same k t))
+    step-same (is_tall k) (is_hidden f k) (is_hidden g k) (has_double_height (f k)) (has_double_height (g k))
+    (is_hidden-same f g k same) (λ t. ap has_double_height (same k t))
 
 -- a hidden row's own codes don't matter
 pub step-shut : (t a b x y : Bool) → a ≡ b → (t ≡ true → b ≡ false → x ≡ y) → t && not a && x ≡ t && not b && y
@@ -69,13 +70,15 @@ pub codes_of-head : (m : Memory) → is_shown m 0 ≡ true → codes_of m 0 ≡ 
 unfolding codes_of
 codes_of-head m e = rw e
 
-pub front-same : (n : ℕ) (xs ys : List ℕ) (k : ℕ) → ((i : ℕ) → n + i ≡ k → get_or xs i 0 ≡ get_or ys i 0) → get_or (replicate n 0x20 ++ xs) k 0 ≡ get_or (replicate n 0x20 ++ ys) k 0
+pub front-same : (n : ℕ) (xs ys : List ℕ) (k : ℕ) → ((i : ℕ) → n + i ≡ k → get_or xs i 0 ≡ get_or ys i 0) →
+    get_or (replicate n 0x20 ++ xs) k 0 ≡ get_or (replicate n 0x20 ++ ys) k 0
 front-same zero xs ys k h = h k (omega arith)
 front-same (suc n) xs ys zero h = refl
 front-same (suc n) xs ys (suc k) h = front-same n xs ys k (λ i e. h i (omega arith))
 
 -- a row that is shown and that no row hides is needed
-pub needed-bool : (a le shut last s hid : Bool) → a ≡ true → le ≡ true → shut && (not last || s) ≡ true → (last ≡ false → hid ≡ false) → a && le && shut && (if last then s else not hid) ≡ true
+pub needed-bool : (a le shut last s hid : Bool) → a ≡ true → le ≡ true → shut && (not last || s) ≡ true → (last ≡ false → hid ≡ false) →
+    a && le && shut && (if last then s else not hid) ≡ true
 needed-bool true true true true true hid a le e h = refl
 needed-bool true true true true false hid a le e h = cc
 needed-bool true true true false s hid a le e h = rw (h refl)

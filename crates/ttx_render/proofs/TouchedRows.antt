@@ -20,14 +20,16 @@ module _ (m n : Memory) (r : ℕ) (control : m.control ≡ n.control) (others : 
   own-local k away = rw (others k away, control)
 
   step : (k : ℕ) → (k ≡ r → ⊥) → is_below m k ≡ is_below n k → is_below m (suc k) ≡ is_below n (suc k)
-  step k away e = step-same (is_tall k) (is_below m k) (is_below n k) (has_double_height (codes_of m k)) (has_double_height (codes_of n k)) e (λ _. ap has_double_height (others k away))
+  step k away e = step-same (is_tall k) (is_below m k) (is_below n k) (has_double_height (codes_of m k))
+      (has_double_height (codes_of n k)) e (λ _. ap has_double_height (others k away))
 
   -- rows down to the touched one are hidden as before
   pub below-upper : (k : ℕ) → k ≤ r → is_below m k ≡ is_below n k
   below-upper zero l = refl
   below-upper (suc k) l = step k (λ e. omega arith) (below-upper k (omega arith))
 
-  row-by : (k : ℕ) (b : Bool) → is_below n k ≡ b → is_below m k ≡ is_below n k → (k ≡ r → ⊥) → (b ≡ true → k - 1 ≡ r → ⊥) → view_row m k ≡ view_row n k
+  row-by : (k : ℕ) (b : Bool) → is_below n k ≡ b → is_below m k ≡ is_below n k → (k ≡ r → ⊥) → (b ≡ true → k - 1 ≡ r → ⊥) → view_row m k
+      ≡ view_row n k
   row-by k false e same away up = view_row-own m k (same ∙ e) ∙ own-local k away ∙ sym (view_row-own n k e)
   row-by k true e same away up = view_row-below m k (same ∙ e) ∙ ap (map lower) (own-local (k - 1) (up refl)) ∙ sym (view_row-below n k e)
 
@@ -88,5 +90,6 @@ IsView-rows_to m cells e = record {
   rows = λ k l. ap (λ (rs : List (List Cell)). get_or rs k []) e ∙ rows_to-at m 25 k [] l;
 }
 
-pub view_of-IsView : (m : Memory) (cells : List (List Cell)) (links : List (Option Id)) → IsView m cells → links ≡ m.links.six → record { cells = cells; links = links } ≡ view_of m
+pub view_of-IsView : (m : Memory) (cells : List (List Cell)) (links : List (Option Id)) → IsView m cells → links ≡ m.links.six →
+    record { cells = cells; links = links } ≡ view_of m
 view_of-IsView m cells links is same = λ i. record { cells = rows_to-IsView m cells is i; links = same i }

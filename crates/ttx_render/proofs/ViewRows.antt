@@ -47,7 +47,11 @@ module _ (m : Memory) where
   -- the row above a hidden row isn't hidden, and there is one
   pub above : (n : ℕ) → is_below m n ≡ true → (0 < n) × (is_below m (n - 1) ≡ false)
   above zero e = cc
-  above (suc d) e = (omega arith, let i : suc d - 1 ≡ d = omega arith in rw i (not-both (is_tall d) (is_below m d) (has_double_height (codes_of m d)) e))
+  above (suc d) e = (
+    omega arith,
+    let i : suc d - 1 ≡ d = omega arith
+        in rw i (not-both (is_tall d) (is_below m d) (has_double_height (codes_of m d)) e),
+  )
 
   -- so a hidden row is made of the row above it
   pub view_row-lower : (n : ℕ) → is_below m n ≡ true → view_row m n ≡ map lower (view_row m (n - 1))
@@ -73,10 +77,12 @@ module _ (m : Memory) where
       let low : n - 1 < n = omega arith in
       sym (get_or-take n rows (n - 1) [] low) ∙ ap (λ rs. get_or rs (n - 1) []) e ∙ rows_to-at n (n - 1) [] low
 
-  pub done-more : (rows : List (List Cell)) (n : ℕ) (x : List Cell) → n < length rows → take n rows ≡ rows_to m n → x ≡ view_row m n → take (n + 1) (set rows n x) ≡ rows_to m (n + 1)
+  pub done-more : (rows : List (List Cell)) (n : ℕ) (x : List Cell) → n < length rows → take n rows ≡ rows_to m n → x ≡ view_row m n →
+      take (n + 1) (set rows n x) ≡ rows_to m (n + 1)
   done-more rows n x l e i = take_more_set rows n x l ∙ rw (e, i) (sym (rows_to-more n))
 
-  pub own-row : (n : ℕ) (codes : List ℕ) (tall : Bool) (option : ℕ) (boxes : Bool) → is_below m n ≡ false → codes ≡ codes_of m n → tall ≡ is_tall n → option ≡ option_of m.control → boxes ≡ has_boxes m.control
+  pub own-row : (n : ℕ) (codes : List ℕ) (tall : Bool) (option : ℕ) (boxes : Bool) → is_below m n ≡ false → codes ≡ codes_of m n → tall
+      ≡ is_tall n → option ≡ option_of m.control → boxes ≡ has_boxes m.control
       → cells_to tall codes 40 option boxes ≡ view_row m n
   unfolding own_cells
   own-row n codes tall option boxes e i j k h = rw (i, j, k, h) (sym (view_row-own n e))

@@ -49,7 +49,8 @@ module _ (p : Page) where
   below-by : (d : ℕ) (last : Bool) → (suc d == 24) ≡ last → needed p (TheRow (suc d)) ≡ true → is_below (memory_of_page p) (suc d) ≡ false
   below-by d true e n = ap (is_below (memory_of_page p)) (eqb-true (suc d) 24 e) ∙ last-seen
   below-by d false e n =
-      hidden-same p (suc d) (uninhibited-from (nat_le 1 (suc d)) (nat_le (suc d) 24) (not (c10 p.control)) (suc d == 24) p.links.show24 (is_hidden (page_row p) (suc d)) n)
+      hidden-same p (suc d) (uninhibited-from (nat_le 1 (suc d)) (nat_le (suc d) 24) (not (c10 p.control)) (suc d == 24) p.links.show24
+      (is_hidden (page_row p) (suc d)) n)
       ∙ seen-from (nat_le 1 (suc d)) (nat_le (suc d) 24) (not (c10 p.control)) (suc d == 24) p.links.show24 (is_hidden (page_row p) (suc d)) n e
 
   needed-seen : (number : ℕ) → needed p (row_item number) ≡ true → is_below (memory_of_page p) number ≡ false
@@ -57,14 +58,16 @@ module _ (p : Page) where
   needed-seen (suc d) n = below-by d (suc d == 24) refl n
 
   -- the needed rows above the one that isn't held
-  rows-above : (m : Memory) (number : ℕ) → ShowsBut p m (row_item number) → (k : ℕ) → k < number → needed p (TheRow k) ≡ true → memory_row m k ≡ page_row p k
+  rows-above : (m : Memory) (number : ℕ) → ShowsBut p m (row_item number) → (k : ℕ) → k < number → needed p (TheRow k) ≡ true →
+      memory_row m k ≡ page_row p k
   rows-above m zero but k l n = absurd (omega arith)
   rows-above m (suc d) but k l n = but.items (TheRow k) (λ e. let same : k ≡ suc d = cc in absurd (omega arith)) n
 
   pub own-page : (number c : ℕ) → IsCompared number c → needed p (row_item number) ≡ true → IsOwn (memory_of_page p) number c
   own-page number c is n = (is, needed-shown number n, needed-seen number n)
 
-  pub own-memory : (m : Memory) (number c : ℕ) → IsCompared number c → needed p (row_item number) ≡ true → ShowsBut p m (row_item number) → IsOwn m number c
+  pub own-memory : (m : Memory) (number c : ℕ) → IsCompared number c → needed p (row_item number) ≡ true →
+      ShowsBut p m (row_item number) → IsOwn m number c
   own-memory m number c is n but =
       let fits : number ≤ 25 = let low : number < 25 = is.0 in omega arith in
       let rows = rows-above m number but in (

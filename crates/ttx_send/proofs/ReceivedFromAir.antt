@@ -37,12 +37,14 @@ sent_is_received itself empty slot sent s may = record {
 
 one_of : (P Q R : ℤ → Type 0) (places : List ℤ) → AllByRecursion R places → ((j : ℤ) → R j → P j → Q j) → OneIs P places → OneIs Q places
 one_of P Q R [] all step one = one
-one_of P Q R (j ∷ rest) all step one = elim one as (λ _. Q j ⊎ OneIs Q rest) [ inl p ↦ inl (step j all.0 p) | inr o ↦ inr (one_of P Q R rest all.1 step o) ]
+one_of P Q R (j ∷ rest) all step one = elim one as (λ _. Q j ⊎ OneIs Q rest)
+    [ inl p ↦ inl (step j all.0 p) | inr o ↦ inr (one_of P Q R rest all.1 step o) ]
 
 module _ (itself : EachByteIsNearItself) (empty : EmptySlotsAreEmpty) where
   pub air_is_received : AirIsReceived
   air_is_received s air slots may page repeat tau received r = record {
-    each = λ n l. (sent_is_received itself empty (s (tau +ℤ pos n)) (air (tau +ℤ pos n)) (slots (tau +ℤ pos n)) (may (tau +ℤ pos n))).received _ (r.each n l);
+    each = λ n l. (sent_is_received itself empty (s (tau +ℤ pos n)) (air (tau +ℤ pos n)) (slots (tau +ℤ pos n))
+        (may (tau +ℤ pos n))).received _ (r.each n l);
     one_right = λ item x text places count run inside.
         one_of (IsRight air tau received x) (IsRight s tau received x) (IsTransmission s page item) places (all_sent s page item places run)
         (λ j t right. let q = text_is_fixed s page item x j text t in

@@ -33,7 +33,8 @@ file_more s first n =
     ∙ ap (λ l. file_of (sent_from s (pos first) n) ++ l) (append-nil (s (pos (first + n))))
 
 -- streams that agree on n slots
-pub same_from : (s s' : Stream) (first n : ℕ) → ((k : ℕ) → k < n → s (pos (first + k)) ≡ s' (pos (first + k))) → sent_from s (pos first) n ≡ sent_from s' (pos first) n
+pub same_from : (s s' : Stream) (first n : ℕ) → ((k : ℕ) → k < n → s (pos (first + k)) ≡ s' (pos (first + k))) →
+    sent_from s (pos first) n ≡ sent_from s' (pos first) n
 same_from s s' first zero same = refl
 same_from s s' first (suc n) same =
     let z : first + 0 ≡ first = omega arith in
@@ -88,11 +89,13 @@ module _ (s : Broadcast) where
         file_of (sent_from (on_air s) (pos (s.phase * s.lines + field * s.lines)) ((fields - field) * s.lines)),
         ap (λ n. file_of (sent_from (on_air s) (pos (s.phase * s.lines)) n)) (sym count)
             ∙ ap file_of (sent_both (on_air s) (pos (s.phase * s.lines)) (field * s.lines) ((fields - field) * s.lines))
-            ∙ flat_map-append (λ slot. slot) (sent_slots s field) (sent_from (on_air s) (pos (s.phase * s.lines + field * s.lines)) ((fields - field) * s.lines)),
+            ∙ flat_map-append (λ slot. slot) (sent_slots s field)
+            (sent_from (on_air s) (pos (s.phase * s.lines + field * s.lines)) ((fields - field) * s.lines)),
       )
 
 -- the front of a list whose parts are known
-pub take_parts : (whole front part rest : List ℕ) (at n : ℕ) → whole ≡ (front ++ part) ++ rest → length front ≡ at → n ≤ length part → take (at + n) whole ≡ front ++ take n part
+pub take_parts : (whole front part rest : List ℕ) (at n : ℕ) → whole ≡ (front ++ part) ++ rest → length front ≡ at → n ≤ length part →
+    take (at + n) whole ≡ front ++ take n part
 take_parts whole front part rest at n e size fits =
     ap (take (at + n)) (e ∙ append_assoc front part rest) ∙ ap (λ m. take (m + n) (front ++ (part ++ rest))) (sym size)
     ∙ take-append-add front (part ++ rest) n ∙ ap (λ l. front ++ l) (take-append-le n part rest fits)

@@ -57,7 +57,10 @@ module _ (holds : OddBytesHoldTheirCodes) (t : Moment) where
             odd 58 (omega arith),
             (
               odd (48 + s / 600 % 6) (omega arith),
-              (odd (48 + s / 60 % 10) (omega arith), (odd 58 (omega arith), (odd (48 + s / 10 % 6) (omega arith), (odd (48 + s % 10) (omega arith), tt)))),
+              (
+                odd (48 + s / 60 % 10) (omega arith),
+                (odd 58 (omega arith), (odd (48 + s / 10 % 6) (omega arith), (odd (48 + s % 10) (omega arith), tt))),
+              ),
             ),
           ),
         ),
@@ -94,7 +97,8 @@ module _ (holds : OddBytesHoldTheirCodes) (empty : EmptySlotsAreEmpty) (t : Mome
       record {
         is_slot = record {
           size = omega (arith, length-append (take 34 slot) (clock_bytes t), length-take-le 34 slot (omega (arith, s.size)));
-          bytes = byte_in (take 34 slot ++ clock_bytes t) (both_bytes (take 34 slot) (clock_bytes t) (front_bytes 34 slot all_bytes) (clock_is_bytes holds t));
+          bytes = byte_in (take 34 slot ++ clock_bytes t)
+              (both_bytes (take 34 slot) (clock_bytes t) (front_bytes 34 slot all_bytes) (clock_is_bytes holds t));
         };
         empty = λ z. absurd (n empty z);
         same = λ x l. elim (cases_lt x 34) as (λ _. IsFree (kind_of slot) x ⊎ (slice_index (take 34 slot ++ clock_bytes t) x ≡ slice_index slot x)) [
@@ -116,11 +120,13 @@ module _ (holds : OddBytesHoldTheirCodes) (empty : EmptySlotsAreEmpty) (t : Mome
         is_slot = record {
           size = omega (arith, length-append (take 12 slot ++ date) (drop 18 slot), l18, length-drop 18 slot, s.size);
           bytes = byte_in dated (both_bytes (take 12 slot ++ date) (drop 18 slot)
-              (both_bytes (take 12 slot) date (front_bytes 12 slot all_bytes) (date_is_bytes t (slice_index slot 12 / 16) high)) (back_bytes 18 slot all_bytes));
+              (both_bytes (take 12 slot) date (front_bytes 12 slot all_bytes) (date_is_bytes t (slice_index slot 12 / 16) high))
+              (back_bytes 18 slot all_bytes));
         };
         empty = λ z. absurd (not_empty empty slot IsInfo e (λ h. cc) z);
         same = λ x l. elim (cases_lt x 2) as (λ _. IsFree (kind_of slot) x ⊎ (slice_index dated x ≡ slice_index slot x)) [
-          | inl lt ↦ inr (get_or_append_left (take 12 slot ++ date) (drop 18 slot) 0 x (omega (arith, l18, lt)) ∙ front_stays 12 slot date (omega (arith, s.size)) x (omega (arith, lt)))
+          | inl lt ↦ inr (get_or_append_left (take 12 slot ++ date) (drop 18 slot) 0 x (omega (arith, l18, lt))
+              ∙ front_stays 12 slot date (omega (arith, s.size)) x (omega (arith, lt)))
           | inr ge ↦ inl (subst (λ k. IsFree k x) (sym e) ge)
         ];
       }

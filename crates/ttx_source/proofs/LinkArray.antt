@@ -16,7 +16,8 @@ count-view [] = refl
 count-view (v ∷ vs) = ap suc (count-view vs)
 
 -- one more link, or the fault that ends them
-pub links_more : (done : List (Option Id)) (vs : List Value) (i : ℕ) (d : Value) (target : Option Id) → i < length vs → link_of (view (get_or vs i d)) ≡ Ok target
+pub links_more : (done : List (Option Id)) (vs : List Value) (i : ℕ) (d : Value) (target : Option Id) → i < length vs →
+    link_of (view (get_or vs i d)) ≡ Ok target
     → then done (links_in (items_view (drop i vs))) ≡ then (done ++ target ∷ []) (links_in (items_view (drop (i + 1) vs)))
 unfolding links_in
 links_more done vs i d target here h = rw (drop_more vs i d here, h) (then-more done target (links_in (items_view (drop (i + 1) vs))))

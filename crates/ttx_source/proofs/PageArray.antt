@@ -13,12 +13,14 @@ are_tables-view [] = refl
 are_tables-view (v ∷ vs) = ap (λ b. is_some (as_table (view v)) && b) (are_tables-view vs)
 
 -- one page more, or the fault that ends them
-pub after_more : (s : ServiceFields) (vs : List Value) (i : ℕ) (d : Value) (page : Authored) → i < length vs → next_page s (view (get_or vs i d)) ≡ Ok page
+pub after_more : (s : ServiceFields) (vs : List Value) (i : ℕ) (d : Value) (page : Authored) → i < length vs →
+    next_page s (view (get_or vs i d)) ≡ Ok page
     → with_pages s (items_view (drop i vs)) ≡ with_pages (with_page s page) (items_view (drop (i + 1) vs))
 unfolding with_pages
 after_more s vs i d page here h = rw (drop_more vs i d here, h)
 
-pub after_fault : (s : ServiceFields) (vs : List Value) (i : ℕ) (d : Value) (e : Fault × ℕ) → i < length vs → next_page s (view (get_or vs i d)) ≡ Err e
+pub after_fault : (s : ServiceFields) (vs : List Value) (i : ℕ) (d : Value) (e : Fault × ℕ) → i < length vs →
+    next_page s (view (get_or vs i d)) ≡ Err e
     → with_pages s (items_view (drop i vs)) ≡ Err e
 unfolding with_pages
 after_fault s vs i d e here h = rw (drop_more vs i d here, h)

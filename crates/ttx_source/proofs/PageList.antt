@@ -43,7 +43,8 @@ authored_pages-pages [] es same = refl
 authored_pages-pages (p ∷ ps) [] same = cc
 authored_pages-pages (p ∷ ps) (e ∷ es) same = ap (λ rest. page_of p ∷ rest) (authored_pages-pages ps es (cc))
 
-pub authored_pages-ids : (ps : List Page) (es : List (Id × ℕ)) → length es ≡ length ps → authored_ids (authored_pages ps es) ≡ map (λ p. (page_of p).id) ps
+pub authored_pages-ids : (ps : List Page) (es : List (Id × ℕ)) → length es ≡ length ps → authored_ids (authored_pages ps es)
+    ≡ map (λ p. (page_of p).id) ps
 authored_pages-ids [] es same = refl
 authored_pages-ids (p ∷ ps) [] same = cc
 authored_pages-ids (p ∷ ps) (e ∷ es) same = ap (λ rest. (page_of p).id ∷ rest) (authored_pages-ids ps es (cc))
@@ -81,7 +82,8 @@ found_any q (e ∷ es) =
     ]
 
 -- a new id at the end keeps ids distinct
-pub distinct_push : (ids : List Id) (id : Id) → AllPairs (λ a b. a ≢ b) ids → list_any (same_id id) ids ≡ false → AllPairs (λ a b. a ≢ b) (ids ++ id ∷ [])
+pub distinct_push : (ids : List Id) (id : Id) → AllPairs (λ a b. a ≢ b) ids → list_any (same_id id) ids ≡ false →
+    AllPairs (λ a b. a ≢ b) (ids ++ id ∷ [])
 distinct_push ids id h new =
     all_pairs_push (λ a b. a ≢ b) ids id h
     (λ k d within same. false≢true (sym new ∙ list_any_at (same_id id) ids k d within (ap (same_id id) same ∙ same_self id)))
@@ -95,7 +97,8 @@ keys_of-push [] id n = refl
 keys_of-push (e ∷ es) id n = ap (λ ids. e.0 ∷ ids) (keys_of-push es id n)
 
 -- one page more, with an id of its own
-pub IsService-push : (s : ServiceFields) (a : Authored) → IsService s → length s.pages < 2000 → IsAuthored s.serial a → has_id s.pages a.page.id ≡ false
+pub IsService-push : (s : ServiceFields) (a : Authored) → IsService s → length s.pages < 2000 → IsAuthored s.serial a →
+    has_id s.pages a.page.id ≡ false
     → IsService (with_page s a)
 IsService-push s a was room one new = record {
   lines_from = was.lines_from;

@@ -1,6 +1,8 @@
 -- The values of a table of rows, entry by entry: its keys ascend, so that no later entry has the key of an earlier one.
-use Rattle.std.proofs.Common.{◌≡◌, ◌≢◌, ◌∙◌, ◌==◌, ◌<◌, ◌+◌, ℕ, List, [], ◌∷◌, length, map, Option, Some, None, String, string_bytes, Global, nat_cmp, Bool, false}
-use Rattle.std.proofs.Common.{Ordering, Less, Equal, Greater, is_eq, ap, sym, refl, true, if◌then◌else◌, get_or, set, get_or-set_same, get_or-set_other}
+use Rattle.std.proofs.Common.{◌≡◌, ◌≢◌, ◌∙◌, ◌==◌, ◌<◌, ◌+◌, ℕ, List, [], ◌∷◌, length}
+use Rattle.std.proofs.Common.{map, Option, Some, None, String, string_bytes, Global, nat_cmp, Bool, false}
+use Rattle.std.proofs.Common.{Ordering, Less, Equal, Greater, is_eq, ap, sym}
+use Rattle.std.proofs.Common.{refl, true, if◌then◌else◌, get_or, set, get_or-set_same, get_or-set_other}
 use Rattle.std.proofs.Common.{inl, inr, arith, is_some, Bor, subst, IfSome}
 use Rattle.std.specs.Cmp.Lexicographic.{slice_cmp}
 use Rattle.std.specs.List.{AllByRecursion, list_any, position, position_from}
@@ -34,12 +36,14 @@ same_is : (k l : List ℕ) → same_key k l ≡ true → k ≡ l
 same_is k l h = (bytes_eq-Decides k l).0 (sym (is_eq-slice_cmp k l) ∙ h)
 
 -- keys above a key are others
-above_are_others : (key : String Global) (es : List (String Global × Value)) (found : Option Data) → AllByRecursion (λ k. string_cmp key k ≡ Less) (keys_of es)
+above_are_others : (key : String Global) (es : List (String Global × Value)) (found : Option Data) →
+    AllByRecursion (λ k. string_cmp key k ≡ Less) (keys_of es)
     → last_member (string_bytes key) (members_view es) found ≡ found
 above_are_others key [] found above = refl
 above_are_others key (e ∷ es) found above = rw (last_member, above.0) (above_are_others key es found above.1)
 
-first_is_last : (o : Ordering) (key : List ℕ) (e : String Global × Value) (es : List (String Global × Value)) → slice_cmp nat_cmp key (string_bytes e.0) ≡ o
+first_is_last : (o : Ordering) (key : List ℕ) (e : String Global × Value) (es : List (String Global × Value)) →
+    slice_cmp nat_cmp key (string_bytes e.0) ≡ o
     → AllByRecursion (λ k. string_cmp e.0 k ≡ Less) (keys_of es) → (rest : Option Data) → last_member key (members_view es) None ≡ rest
     → last_member key (members_view es) (if is_eq o then Some (view e.1) else None) ≡ match_ordering o rest (Some (view e.1)) rest
 first_is_last Less key e es order above rest h = h
@@ -67,8 +71,10 @@ one_place r i here there same =
     omega (arith, numbers)
 
 -- the value at each row's number, once one more was found
-pub one_more : (values : List (Option (Bor Value))) (i r : ℕ) (key : List ℕ) (value : Bor Value) → length values ≡ 24 → i < 24 → get_or row_keys i [] ≡ key → r < 24
-    → seen (get_or (set values i (Some value)) r None) ≡ (if same_key (get_or row_keys r []) key then Some (view value.now) else seen (get_or values r None))
+pub one_more : (values : List (Option (Bor Value))) (i r : ℕ) (key : List ℕ) (value : Bor Value) → length values ≡ 24 → i < 24 →
+    get_or row_keys i [] ≡ key → r < 24
+    → seen (get_or (set values i (Some value)) r None)
+    ≡ (if same_key (get_or row_keys r []) key then Some (view value.now) else seen (get_or values r None))
 one_more values i r key value long there at here =
     elim (cases_Bool (r == i)) [
       | inl same ↦
@@ -97,7 +103,8 @@ row_here : (r : ℕ) → r < 24 → r < length row_keys
 unfolding row_keys
 row_here r here = here
 
-pub all_values : (values : List (Option (Bor Value))) (es : List (String Global × Value)) → length values ≡ 24 → IsStrictlySortedBy string_cmp (keys_of es)
+pub all_values : (values : List (Option (Bor Value))) (es : List (String Global × Value)) → length values ≡ 24 →
+    IsStrictlySortedBy string_cmp (keys_of es)
     → ((r : ℕ) → r < 24 → seen (get_or values r None) ≡ last_member (get_or row_keys r []) (members_view es) None)
     → map seen values ≡ map (λ key. get_member key (members_view es)) row_keys
 all_values values es long ascend found =

@@ -48,7 +48,8 @@ fn length_of(alloc: Global, text: &str) -> Option<Result<usize, PlanFault>> {
 #[test]
 fn between_subpages_in_serial_transmission(rt: HostRuntime) -> Result<(), Fail> {
     let text =
-        "lines = 2\nserial = true\n[[page]]\nnumber = \"100\"\nsub = \"0001\"\n[[page]]\nnumber = \"200\"\n[[page]]\nnumber = \"100\"\nsub = \"0002\"\n";
+        "lines = 2\nserial = true\n[[page]]\nnumber = \"100\"\nsub = \"0001\"\n[[page]]\nnumber = \"200\"\n[[page]]\n\
+          number = \"100\"\nsub = \"0002\"\n";
     let late = [
         (1, 0),
         (0, 0),

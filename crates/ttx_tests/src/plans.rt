@@ -152,7 +152,8 @@ fn pages_without_rows(rt: HostRuntime) -> Result<(), Fail> {
     ];
     assert!(rt; held_by(rt.alloc(), one, Class::Any)?.as_slice() == wanted.as_slice());
     let two =
-        "lines = 2\nserial = false\n[[page]]\nnumber = \"100\"\nsuppress = true\ninhibit = true\n[[page]]\nnumber = \"200\"\nsuppress = true\ninhibit = true\n";
+        "lines = 2\nserial = false\n[[page]]\nnumber = \"100\"\nsuppress = true\ninhibit = true\n[[page]]\nnumber = \"200\"\n\
+          suppress = true\ninhibit = true\n";
     let wanted = [
         Held::Header(1, 0),
         Held::Header(2, 0),

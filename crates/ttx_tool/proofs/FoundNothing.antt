@@ -9,7 +9,8 @@ use Rattle.ttx_witness.specs.Coverage.{IsCertificate}
 use Rattle.ttx_witness.specs.Entries.{CertificateFields, certificate_at}
 use Rattle.ttx_witness.specs.finding.Finding.{IsFoundFor}
 
-module _ (cycle : List (List ℕ)) (service : ServiceFields) (repeat : ℕ) (class : Class) (w : CertificateFields) (is : IsCertificate (certificate_at w))
+module _ (cycle : List (List ℕ)) (service : ServiceFields) (repeat : ℕ) (class : Class) (w : CertificateFields)
+    (is : IsCertificate (certificate_at w))
     (found : IsFoundFor cycle (pages_of service) repeat service.lines class (certificate_at w) None) (file line : List ℕ) (status : ℕ) where
   no_of : (verdict : Verdict) → file ≡ [] → IsVerdictLine cycle service w verdict line → status ≡ 1 → TellsNo cycle service w file line status
   no_of Yes nothing told one =

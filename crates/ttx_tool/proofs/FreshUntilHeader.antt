@@ -42,9 +42,11 @@ fresh_after class lines sel choice m (Header id control text) =
     let kept : Memory = if c11 control && choice then with_storing m false else m in
     let other : Memory = if id.mag == selected_mag sel then with_storing m false else kept in
     matched (matches sel id) (begun (if erases class choice m control then erased m else m) control text) other m.fresh refl
-    (either (id.mag == selected_mag sel) (with_storing m false) kept m.fresh refl (either (c11 control && choice) (with_storing m false) m m.fresh refl refl))
+    (either (id.mag == selected_mag sel) (with_storing m false) kept m.fresh refl
+    (either (c11 control && choice) (with_storing m false) m m.fresh refl refl))
 fresh_after class lines sel choice m (Row mag number text) =
-    either ((mag == selected_mag sel) && m.storing && not (misses lines choice m)) (with_row m number (stored_row (memory_row m number) text)) m m.fresh refl refl
+    either ((mag == selected_mag sel) && m.storing && not (misses lines choice m))
+    (with_row m number (stored_row (memory_row m number) text)) m m.fresh refl refl
     ∙ and_true m.fresh
 fresh_after class lines sel choice m (Links mag content) =
     either ((mag == selected_mag sel) && m.storing && not (misses lines choice m)) (with_links m content) m m.fresh (fresh_links m content) refl
@@ -57,4 +59,5 @@ fresh_run class lines sel m new [] run = ap (λ (x : Memory). x.fresh) run ∙ a
 fresh_run class lines sel m new (slot ∷ rest) run =
     let first : (run.0).fresh ≡ (m.fresh && not (heads_matched sel (packet_of slot))) =
     ap (λ (x : Memory). x.fresh) run.1.is ∙ fresh_after class lines sel run.1.choice (older m) (packet_of slot) in
-    fresh_run class lines sel run.0 new rest run.2 ∙ ap (λ b. b && not (has_matching_header sel rest)) first ∙ and_not_or m.fresh (heads_matched sel (packet_of slot)) (has_matching_header sel rest)
+    fresh_run class lines sel run.0 new rest run.2 ∙ ap (λ b. b && not (has_matching_header sel rest)) first
+    ∙ and_not_or m.fresh (heads_matched sel (packet_of slot)) (has_matching_header sel rest)

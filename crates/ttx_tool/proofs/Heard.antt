@@ -18,7 +18,8 @@ sent_more s a (suc n) =
     ap (λ rest. s (pos a) ∷ rest) (sent_more s (a + 1) n ∙ ap (λ i. sent_from s (pos (a + 1)) n ++ s (pos i) ∷ []) later)
 
 -- the receiver hears the slot where the cycle stands
-pub hears_more : RunsGoOn → {class class' : Class} {lines lines' : ℕ} {sel sel' : Selection} {mid new : Memory} (old : Memory) (slots : List (List ℕ)) (start count at : ℕ) →
+pub hears_more : RunsGoOn → {class class' : Class} {lines lines' : ℕ} {sel sel' : Selection} {mid new : Memory} (old : Memory)
+    (slots : List (List ℕ)) (start count at : ℕ) →
     class' ≡ class → lines' ≡ lines → sel' ≡ sel → at ≡ (start + count) % length slots →
     Hears (tuned_as class lines sel) slots start count old mid → Step class' lines' sel' mid (get_or slots at []) new →
     Hears (tuned_as class lines sel) slots start (count + 1) old new
@@ -27,7 +28,8 @@ hears_more law {class} {class'} {lines} {lines'} {sel} {sel'} {mid} {new} old sl
     let next : count + 1 ≡ suc count = omega arith in
     let more = ap (sent_from (repeated slots) (pos start)) next ∙ sent_more (repeated slots) start count in
     subst (λ list. Run class lines sel old list new) (sym more)
-    (law class class' lines lines' sel sel' old mid new (sent_from (repeated slots) (pos start) count) (get_or slots ((start + count) % length slots) []) a b c run heard)
+    (law class class' lines lines' sel sel' old mid new (sent_from (repeated slots) (pos start) count)
+    (get_or slots ((start + count) % length slots) []) a b c run heard)
 
 -- the next place, inside the cycle and at its end
 pub next_inside : (a n at : ℕ) → at ≡ a % n → at + 1 < n → at + 1 ≡ (a + 1) % n

@@ -16,7 +16,8 @@ not_links mag None h = h
 not_links mag (Some d) h = cond_both (d == 0) (IsLinks mag) (IsOther mag 27) (λ k. IsHeaderKind k → ⊥) (λ _ f. f) (λ _ f. f) h
 
 -- the packet number is 0, and bytes 2 to 9 are readable
-header_packet : (slot : List ℕ) (mag number : ℕ) → IsHeaderKind (packet_kind slot mag number) → ((number == 0) ≡ true) × (are_readable (slice_range slot 2 10) ≡ true)
+header_packet : (slot : List ℕ) (mag number : ℕ) → IsHeaderKind (packet_kind slot mag number) → ((number == 0) ≡ true)
+    × (are_readable (slice_range slot 2 10) ≡ true)
 unfolding packet_kind
 header_packet slot mag number =
     let Q : Type 0 = ((number == 0) ≡ true) × (are_readable (slice_range slot 2 10) ≡ true) in
@@ -29,7 +30,8 @@ header_packet slot mag number =
 
 -- and_from bytes of the address are readable too
 header_address : (slot : List ℕ) (low high : Option ℕ) → IsHeaderKind (addressed_kind slot low high) →
-    (is_some low ≡ true) × (is_some high ≡ true) × ((packet_number (unwrap_or low 0) (unwrap_or high 0) == 0) ≡ true) × (are_readable (slice_range slot 2 10) ≡ true)
+    (is_some low ≡ true) × (is_some high ≡ true) × ((packet_number (unwrap_or low 0) (unwrap_or high 0) == 0) ≡ true)
+    × (are_readable (slice_range slot 2 10) ≡ true)
 header_address slot None high h = absurd h
 header_address slot (Some low) None h = absurd h
 header_address slot (Some low) (Some high) h =
@@ -52,6 +54,8 @@ pub kind_is_header : (slot : List ℕ) (mag : ℕ) → length slot ≡ 42 → ki
 unfolding kind_of
 kind_is_header slot mag size same =
     let k : IsHeaderKind (kind_of slot) = subst IsHeaderKind (sym same) tt in
-    let p = cond_both (is_empty slot) IsEmpty _ (λ k. IsHeaderKind k → IsHeaderKind (addressed_kind slot (reading (slice_index slot 0)) (reading (slice_index slot 1)))) (λ _ h. absurd h) (λ _ h. h) k in
+    let p = cond_both (is_empty slot) IsEmpty _
+    (λ k. IsHeaderKind k → IsHeaderKind (addressed_kind slot (reading (slice_index slot 0)) (reading (slice_index slot 1))))
+    (λ _ h. absurd h) (λ _ h. h) k in
     let a = header_address slot (reading (slice_index slot 0)) (reading (slice_index slot 1)) p in
     and_from _ _ (ap are_readable (ten_bytes slot size) ∙ all_three _ _ _ a.0 a.1 a.3) a.2

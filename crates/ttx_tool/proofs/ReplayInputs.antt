@@ -14,7 +14,8 @@ both_of P Q T (Err e) f p q = tt
 
 module _ (slots : List (List ℕ)) (service : ServiceFields) (run : CounterRun) (is_cycle : IsCycle slots) (text : List ℕ) (status : ℕ)
     (told : IsReplay slots (pages_of service) run text status) where
-  pub replaying_of : (a b c : Option (List ℕ)) → IfSome a (λ x. x ≡ file_of slots) → IfSome b (λ y. IsServiceText y service) → IfSome c (λ z. IsCounterText z run) →
+  pub replaying_of : (a b c : Option (List ℕ)) → IfSome a (λ x. x ≡ file_of slots) → IfSome b (λ y. IsServiceText y service) →
+      IfSome c (λ z. IsCounterText z run) →
       IfSome a (λ x. IfSome b (λ y. IfSome c (λ z. IsReplaying x y z text status)))
   replaying_of (Some a) (Some b) (Some c) p q r = record {
     slots = slots;

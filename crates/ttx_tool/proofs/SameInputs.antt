@@ -16,8 +16,10 @@ same_slots [] [] a b e = refl
 same_slots [] (y ∷ ys) a b e = absurd (some_bytes y ys (b 0 y (omega arith)) e)
 same_slots (x ∷ xs) [] a b e = absurd (some_bytes x xs (a 0 x (omega arith)) (sym e))
 same_slots (x ∷ xs) (y ∷ ys) a b e =
-    let first : x ≡ y = sym (take_at x (file_of xs) 42 ((a 0 x (omega arith)).size)) ∙ ap (take 42) e ∙ take_at y (file_of ys) 42 ((b 0 y (omega arith)).size) in
-    let rest : file_of xs ≡ file_of ys = sym (drop_at x (file_of xs) 42 ((a 0 x (omega arith)).size)) ∙ ap (drop 42) e ∙ drop_at y (file_of ys) 42 ((b 0 y (omega arith)).size) in
+    let first : x ≡ y = sym (take_at x (file_of xs) 42 ((a 0 x (omega arith)).size)) ∙ ap (take 42) e
+    ∙ take_at y (file_of ys) 42 ((b 0 y (omega arith)).size) in
+    let rest : file_of xs ≡ file_of ys = sym (drop_at x (file_of xs) 42 ((a 0 x (omega arith)).size)) ∙ ap (drop 42) e
+    ∙ drop_at y (file_of ys) 42 ((b 0 y (omega arith)).size) in
     ap (λ z. z ∷ xs) first ∙ ap (λ zs. y ∷ zs) (same_slots xs ys (λ k d lt. a (suc k) d (omega arith)) (λ k d lt. b (suc k) d (omega arith)) rest)
 
 -- two answers for the same bytes

@@ -35,7 +35,8 @@ all_three P Q R T (Ok a) f p q r = f a p q r
 all_three P Q R T (Err e) f p q r = tt
 
 -- what is told of the pages of a service
-pub refutation : (slots : List (List ℕ)) (pages : List Page) (service : ServiceFields) (w : CertificateFields) (save : Bool) → pages ≡ pages_of service → w.class ≡ Any →
+pub refutation : (slots : List (List ℕ)) (pages : List Page) (service : ServiceFields) (w : CertificateFields) (save : Bool) → pages
+    ≡ pages_of service → w.class ≡ Any →
     (answer : Option CounterRun) →
     (IsSentUnchanged slots pages → (is_some answer ≡ true) ↔ (CanBeAccepted slots pages Any w.lines w.repeat w.deadline → ⊥)) →
     (file line : List ℕ) (status : ℕ) → TellsAnswer slots pages w save answer file line status → IsRefutation slots service w save file line status
@@ -46,7 +47,8 @@ refutation slots pages service w save same any answer exact file line status tol
   exact = subst (λ q. IsSentUnchanged slots q → (is_some answer ≡ true) ↔ (CanBeAccepted slots q Any w.lines w.repeat w.deadline → ⊥)) same exact;
 }
 
-pub refuting_of : (slots : List (List ℕ)) (service : ServiceFields) (w : CertificateFields) (a b c : Option (List ℕ)) (save : Bool) (file line : List ℕ) (status : ℕ) →
+pub refuting_of : (slots : List (List ℕ)) (service : ServiceFields) (w : CertificateFields) (a b c : Option (List ℕ)) (save : Bool)
+    (file line : List ℕ) (status : ℕ) →
     IsRefutation slots service w save file line status →
     IfSome a (λ x. IfSome b (λ y. IfSome c (λ z. IsPacketFile x slots × IsServiceText y service × IsCertificateText z w))) →
     IfSome a (λ x. IfSome b (λ y. IfSome c (λ z. IsRefutingFiles x y z save file line status)))

@@ -9,6 +9,7 @@ pub planned_is_not_too_long : PlannedIsNotTooLong
 planned_is_not_too_long bytes late class slots planned refused =
     let both : Ok refused.0 ≡ Ok planned.service = sym refused.1.says ∙ planned.text.says in
     let same : refused.0 ≡ planned.service = cc in
-    let long : 65536 < length_bound planned.service.lines (blocks_sent late class planned.service.pages) = subst (λ (s : ServiceFields). 65536 < length_bound s.lines (blocks_sent late class s.pages)) same refused.2 in
+    let long : 65536 < length_bound planned.service.lines (blocks_sent late class planned.service.pages) =
+    subst (λ (s : ServiceFields). 65536 < length_bound s.lines (blocks_sent late class s.pages)) same refused.2 in
     let few = planned.few in
     omega arith

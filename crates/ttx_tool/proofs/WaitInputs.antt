@@ -8,7 +8,8 @@ use Rattle.ttx_source.specs.Services.{ServiceFields}
 use Rattle.ttx_tool.specs.WaitingFiles.{IsWaitOf, IsWaiting}
 use Rattle.ttx_wait.specs.declared.reports.Detail.{Detail}
 
-module _ (slots : List (List ℕ)) (service : ServiceFields) (is_cycle : IsCycle slots) (repeat : ℕ) (class : Class) (detail : Detail) (text : List ℕ) (status : ℕ)
+module _ (slots : List (List ℕ)) (service : ServiceFields) (is_cycle : IsCycle slots) (repeat : ℕ) (class : Class) (detail : Detail)
+    (text : List ℕ) (status : ℕ)
     (told : IsWaitOf slots service repeat class detail text status) where
   pub waiting_of : (a b : Option (List ℕ)) → IfSome a (λ x. x ≡ file_of slots) → IfSome b (λ y. IsServiceText y service) →
       IfSome a (λ x. IfSome b (λ y. IsWaiting x y repeat class detail text status))

@@ -42,8 +42,12 @@ module _ {A : Type 0} (at : A → ℤ) (P : ℤ → Type 0) (Is : A → Type 0) 
   taken (suc k) low high [] l = tt
   taken (suc zero) low high (t ∷ ts) l = is_p t l.0
   taken (suc (suc k)) low high (t ∷ []) l = is_p t l.0
-  taken (suc (suc k)) low high (t ∷ u ∷ ts) l =
-      (is_p t l.0, let g = l.4.1 in omega (arith, ints), (λ x a b p. l.4.3 x (omega (arith, ints)) b p), taken (suc k) ((at t) +ℤ pos 1) high (u ∷ ts) l.4)
+  taken (suc (suc k)) low high (t ∷ u ∷ ts) l = (
+    is_p t l.0,
+    let g = l.4.1 in omega (arith, ints),
+    (λ x a b p. l.4.3 x (omega (arith, ints)) b p),
+    taken (suc k) ((at t) +ℤ pos 1) high (u ∷ ts) l.4,
+  )
 
   each_taken : (k : ℕ) (low high : ℤ) (ts : List A) → Lists at P Is low high ts → AllByRecursion Is (take k ts)
   each_taken zero low high ts l = tt
@@ -62,18 +66,26 @@ module _ {A : Type 0} (at : A → ℤ) (P : ℤ → Type 0) (Is : A → Type 0) 
   ]
 
   -- no transmission below the first
-  pub lists_lower : (low mid high : ℤ) (bs : List A) → low ≤ℤ mid → mid ≤ℤ high → ((x : ℤ) → low ≤ℤ x → x <ℤ mid → P x → ⊥) → Lists at P Is mid high bs → Lists at P Is low high bs
+  pub lists_lower : (low mid high : ℤ) (bs : List A) → low ≤ℤ mid → mid ≤ℤ high → ((x : ℤ) → low ≤ℤ x → x <ℤ mid → P x → ⊥) →
+      Lists at P Is mid high bs → Lists at P Is low high bs
   lists_lower low mid high [] a b none l = λ x c d p. elim (cases_ltz x mid) as (λ _. ⊥) [ inl lt ↦ none x c lt p | inr ge ↦ l x ge d p ]
-  lists_lower low mid high (t ∷ ts) a b none l =
-      (l.0, let g = l.1 in omega (arith, ints), l.2, (λ x c d p. elim (cases_ltz x mid) as (λ _. ⊥) [ inl lt ↦ none x c lt p | inr ge ↦ l.3 x ge d p ]), l.4)
+  lists_lower low mid high (t ∷ ts) a b none l = (
+    l.0,
+    let g = l.1 in omega (arith, ints),
+    l.2,
+    (λ x c d p. elim (cases_ltz x mid) as (λ _. ⊥) [ inl lt ↦ none x c lt p | inr ge ↦ l.3 x ge d p ]),
+    l.4,
+  )
 
-  pub lists_join : (low mid high : ℤ) (ts bs : List A) → low ≤ℤ mid → mid ≤ℤ high → Lists at P Is low mid ts → Lists at P Is mid high bs → Lists at P Is low high (ts ++ bs)
+  pub lists_join : (low mid high : ℤ) (ts bs : List A) → low ≤ℤ mid → mid ≤ℤ high → Lists at P Is low mid ts →
+      Lists at P Is mid high bs → Lists at P Is low high (ts ++ bs)
   lists_join low mid high [] bs a b l m = lists_lower low mid high bs a b l m
   lists_join low mid high (t ∷ ts) bs a b l m =
       (l.0, l.1, (let g = l.2 in omega (arith, ints)), l.3, lists_join ((at t) +ℤ pos 1) mid high ts bs (let g = l.2 in omega (arith, ints)) b l.4 m)
 
   -- one more transmission
-  pub lists_more : (low here : ℤ) (ts : List A) (t : A) → low ≤ℤ here → (at t) ≡ here → Is t → Lists at P Is low here ts → Lists at P Is low (here +ℤ pos 1) (ts ++ t ∷ [])
+  pub lists_more : (low here : ℤ) (ts : List A) (t : A) → low ≤ℤ here → (at t) ≡ here → Is t → Lists at P Is low here ts →
+      Lists at P Is low (here +ℤ pos 1) (ts ++ t ∷ [])
   lists_more low here ts t a e i l =
       lists_join low here (here +ℤ pos 1) ts (t ∷ []) a (omega (arith, ints)) l
       (i, omega (arith, ints), omega (arith, ints), (λ x c d p. absurd (omega (arith, ints))), (λ x c d p. absurd (omega (arith, ints))))
@@ -97,7 +109,8 @@ module _ (P : ℤ → Type 0) (Is : Transmission → Type 0) (is_p : (t : Transm
     p_back : (x : ℤ) → P x → P (x -ℤ pos n)
     p_back x p = let e : x ≡ (x -ℤ pos n) +ℤ pos n = omega (arith, ints) in p_earlier (x -ℤ pos n) (subst P e p)
 
-    pub lists_later : (low high : ℤ) (ts : List Transmission) → Lists slot_of P Is low high ts → Lists slot_of P Is (low +ℤ pos n) (high +ℤ pos n) (map (later n) ts)
+    pub lists_later : (low high : ℤ) (ts : List Transmission) → Lists slot_of P Is low high ts →
+        Lists slot_of P Is (low +ℤ pos n) (high +ℤ pos n) (map (later n) ts)
     lists_later low high [] l = λ x a b p. l (x -ℤ pos n) (omega (arith, ints)) (omega (arith, ints)) (p_back x p)
     lists_later low high (t ∷ ts) l = (
       is_later t l.0,

@@ -32,7 +32,8 @@ module _ (Owned Sure : ℤ → ℤ → Type 0) where
         let i = all_sure_of ts a.1 in
         ((λ e. ((sure_of t a.0).0 ((and_parts _ _ e).0), i.0 ((and_parts _ _ e).1))), (λ b. and_from _ _ ((sure_of t a.0).1 b.0) (i.1 b.1)))
 
-    ends_of : (t : Transmission) (ts : List Transmission) (e : ℤ) → Successive Sent (slots (t ∷ ts)) → (last_slot t.slot ts <ℤ e) ↔ AllByRecursion (λ j. j <ℤ e) (slots (t ∷ ts))
+    ends_of : (t : Transmission) (ts : List Transmission) (e : ℤ) → Successive Sent (slots (t ∷ ts)) → (last_slot t.slot ts <ℤ e)
+        ↔ AllByRecursion (λ j. j <ℤ e) (slots (t ∷ ts))
     ends_of t [] e a = ((λ l. (l, tt)), (λ l. l.0))
     ends_of t (u ∷ ts) e a =
         let i = ends_of u ts e a.3 in
@@ -64,7 +65,8 @@ module _ (Owned Sure : ℤ → ℤ → Type 0) where
           );
         }
 
-    all_windows : (k : ℕ) (ws : List (List Transmission)) → AllByRecursion (IsWindow slot_of Sent Told told_sent (suc k)) ws → AllByRecursion (IsRunOf Owned Sure (suc k)) (map run_of ws)
+    all_windows : (k : ℕ) (ws : List (List Transmission)) → AllByRecursion (IsWindow slot_of Sent Told told_sent (suc k)) ws →
+        AllByRecursion (IsRunOf Owned Sure (suc k)) (map run_of ws)
     all_windows k [] a = tt
     all_windows k (w ∷ ws) a = (window_is k w a.0, all_windows k ws a.1)
 
@@ -77,13 +79,20 @@ module _ (Owned Sure : ℤ → ℤ → Type 0) where
       owned = law.owned_later t.owner t.slot a.owned;
       sure = (
         (λ e. law.sure_later t.owner t.slot (a.sure.0 e)),
-        (λ b. a.sure.1 (subst (λ h. Sure h t.slot) (back t.owner) (subst (λ j. Sure ((t.owner +ℤ pos n) -ℤ pos n) j) (back t.slot) (law.sure_earlier (t.owner +ℤ pos n) (t.slot +ℤ pos n) b)))),
+        (λ b. a.sure.1 (subst (λ h. Sure h t.slot) (back t.owner)
+            (subst (λ j. Sure ((t.owner +ℤ pos n) -ℤ pos n) j) (back t.slot)
+            (law.sure_earlier (t.owner +ℤ pos n) (t.slot +ℤ pos n) b)))),
       );
     }
 
     pub sent_earlier : (x : ℤ) → Sent (x +ℤ pos n) → Sent x
-    sent_earlier x a = record { owner = a.owner -ℤ pos n; owned = subst (Owned (a.owner -ℤ pos n)) (back x) (law.owned_earlier a.owner (x +ℤ pos n) a.owned) }
+    sent_earlier x a = record {
+      owner = a.owner -ℤ pos n;
+      owned = subst (Owned (a.owner -ℤ pos n)) (back x) (law.owned_earlier a.owner (x +ℤ pos n) a.owned);
+    }
 
     -- the runs of a period are the stream's
-    pub runs_are : (k : ℕ) (ts : List Transmission) → AreSent Owned Sure (pos 0) (pos n) ts → AllByRecursion (IsRunOf Owned Sure (suc k)) (runs n k ts)
-    runs_are k ts l = all_windows law.one_owner k (windows (suc k) (extended n k ts)) (extended_windows Sent Told told_sent n told_later sent_earlier k ts l)
+    pub runs_are : (k : ℕ) (ts : List Transmission) → AreSent Owned Sure (pos 0) (pos n) ts →
+        AllByRecursion (IsRunOf Owned Sure (suc k)) (runs n k ts)
+    runs_are k ts l = all_windows law.one_owner k (windows (suc k) (extended n k ts))
+        (extended_windows Sent Told told_sent n told_later sent_earlier k ts l)

@@ -14,7 +14,8 @@ pub tail_same : {A : Type 0} {x y : A} {xs ys : List A} → x ∷ xs ≡ y ∷ y
 tail_same e = cc
 
 -- what follows is what stands there in a list that repeats
-pub further_is : (n k : ℕ) (ts ys zs : List Transmission) → 1 ≤ length ts → map (later n) (ts ++ ys) ≡ ys ++ zs → k ≤ length ys → further n k ts ≡ take k ys
+pub further_is : (n k : ℕ) (ts ys zs : List Transmission) → 1 ≤ length ts → map (later n) (ts ++ ys) ≡ ys ++ zs → k ≤ length ys →
+    further n k ts ≡ take k ys
 unfolding further
 further_is n zero ts ys zs some e le = refl
 further_is n (suc k) [] ys zs some e le = absurd (omega arith)
@@ -46,15 +47,18 @@ further_agree n (suc k) (t ∷ ts) (u ∷ us) le le' e =
     cc
 
 pub further_few : (n k : ℕ) (ts us : List Transmission) → k ≤ length ts → further n k (ts ++ us) ≡ further n k ts
-further_few n k ts us le = let m : length (ts ++ us) ≡ length ts + length us = length-append ts us in further_agree n k (ts ++ us) ts (omega arith) le (take-append-le k ts us le)
+further_few n k ts us le = let m : length (ts ++ us) ≡ length ts + length us = length-append ts us
+    in further_agree n k (ts ++ us) ts (omega arith) le (take-append-le k ts us le)
 
 pub windows_yes : {A : Type 0} (k : ℕ) (t : A) (ts : List A) → k ≤ suc (length ts) → windows k (t ∷ ts) ≡ take k (t ∷ ts) ∷ windows k ts
 unfolding windows
-windows_yes k t ts le = cond_both (nat_le k (suc (length ts))) _ _ (λ x. x ≡ take k (t ∷ ts) ∷ windows k ts) (λ e. refl) (λ e. absurd (let h : k ≤ suc (length ts) = le in grind (arith, nat_tests)))
+windows_yes k t ts le = cond_both (nat_le k (suc (length ts))) _ _ (λ x. x ≡ take k (t ∷ ts) ∷ windows k ts) (λ e. refl)
+    (λ e. absurd (let h : k ≤ suc (length ts) = le in grind (arith, nat_tests)))
 
 pub windows_no : {A : Type 0} (k : ℕ) (t : A) (ts : List A) → suc (length ts) < k → windows k (t ∷ ts) ≡ []
 unfolding windows
-windows_no k t ts lt = cond_both (nat_le k (suc (length ts))) _ _ (λ x. x ≡ []) (λ e. absurd (let h : suc (length ts) < k = lt in grind (arith, nat_tests))) (λ e. refl)
+windows_no k t ts lt = cond_both (nat_le k (suc (length ts))) _ _ (λ x. x ≡ [])
+    (λ e. absurd (let h : suc (length ts) < k = lt in grind (arith, nat_tests))) (λ e. refl)
 
 pub windows_short : {A : Type 0} (k : ℕ) (ts : List A) → length ts < k → windows k ts ≡ []
 unfolding windows
@@ -72,16 +76,20 @@ unfolding windows
 windows_step {A} k [] t h le =
     let e : k ≡ 1 = omega arith in
     subst (λ k. windows k (t ∷ []) ≡ windows k [] ++ drop (1 - k) (t ∷ []) ∷ []) (sym e) refl
-windows_step {A} k (x ∷ ts) t h le = elim (cases_lt k (suc (suc (length ts)))) as (λ _. windows k (x ∷ (ts ++ t ∷ [])) ≡ windows k (x ∷ ts) ++ drop (suc (suc (length ts)) - k) (x ∷ (ts ++ t ∷ [])) ∷ []) [
-  | inl lt ↦
-      let l = length-append ts (t ∷ []) in
-      let d : suc (suc (length ts)) - k ≡ suc (suc (length ts) - k) = omega arith in
-      rw (windows_yes k x (ts ++ t ∷ []) (omega arith), windows_yes k x ts (omega arith), windows_step k ts t h (omega arith), d) (ap (λ y. y ∷ (windows k ts ++ drop (suc (length ts) - k) (ts ++ t ∷ []) ∷ [])) (take-append-le k (x ∷ ts) (t ∷ []) (omega arith)))
-  | inr ge ↦
-      let l = length-append ts (t ∷ []) in
-      let e : k ≡ suc (suc (length ts)) = omega arith in
-      let d : suc (suc (length ts)) - k ≡ 0 = omega arith in
-      let q : length (ts ++ t ∷ []) < k = omega arith in
-      let e2 : k ≡ length (x ∷ (ts ++ t ∷ [])) = omega arith in
-      rw (windows_yes k x (ts ++ t ∷ []) (omega arith), windows_no k x ts (omega arith), windows_short k (ts ++ t ∷ []) q, d) (ap (λ y. y ∷ []) (ap (λ m. take m (x ∷ (ts ++ t ∷ []))) e2 ∙ take-length (x ∷ (ts ++ t ∷ []))))
-]
+windows_step {A} k (x ∷ ts) t h le = elim (cases_lt k (suc (suc (length ts)))) as
+    (λ _. windows k (x ∷ (ts ++ t ∷ [])) ≡ windows k (x ∷ ts) ++ drop (suc (suc (length ts)) - k) (x ∷ (ts ++ t ∷ [])) ∷ []) [
+      | inl lt ↦
+          let l = length-append ts (t ∷ []) in
+          let d : suc (suc (length ts)) - k ≡ suc (suc (length ts) - k) = omega arith in
+          rw (windows_yes k x (ts ++ t ∷ []) (omega arith), windows_yes k x ts (omega arith), windows_step k ts t h (omega arith), d)
+          (ap (λ y. y ∷ (windows k ts ++ drop (suc (length ts) - k) (ts ++ t ∷ []) ∷ []))
+          (take-append-le k (x ∷ ts) (t ∷ []) (omega arith)))
+      | inr ge ↦
+          let l = length-append ts (t ∷ []) in
+          let e : k ≡ suc (suc (length ts)) = omega arith in
+          let d : suc (suc (length ts)) - k ≡ 0 = omega arith in
+          let q : length (ts ++ t ∷ []) < k = omega arith in
+          let e2 : k ≡ length (x ∷ (ts ++ t ∷ [])) = omega arith in
+          rw (windows_yes k x (ts ++ t ∷ []) (omega arith), windows_no k x ts (omega arith), windows_short k (ts ++ t ∷ []) q, d)
+          (ap (λ y. y ∷ []) (ap (λ m. take m (x ∷ (ts ++ t ∷ []))) e2 ∙ take-length (x ∷ (ts ++ t ∷ []))))
+    ]

@@ -26,7 +26,8 @@ fn push_text_style(text: &mut String) -> Result<(), AllocError>
     ensures { OnOk result (string_bytes text.new ≡ string_bytes text.old ++ text_style) }
 {
     text.push_str(
-        ".t text{font:24px Bedstead Extended,Bedstead,ui-monospace,Menlo,Consolas,DejaVu Sans Mono,monospace;text-anchor:middle;white-space:pre}.t tspan{fill:currentColor}",
+        ".t text{font:24px Bedstead Extended,Bedstead,ui-monospace,Menlo,Consolas,DejaVu Sans Mono,monospace;\
+          text-anchor:middle;white-space:pre}.t tspan{fill:currentColor}",
     )
 }
 

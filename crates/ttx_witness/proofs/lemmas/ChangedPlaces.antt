@@ -16,9 +16,11 @@ set_other (x ∷ xs) (suc at) zero v d = refl
 set_other (x ∷ xs) (suc at) (suc n) v d = set_other xs at n v (λ e. d (ap suc e))
 
 -- a list whose first places are done
-pub set_below : {A : Type 0} (xs : List A) (n : ℕ) (v d : A) (Q : ℕ → A → Type 0) → n < length xs → ((m : ℕ) → m < n → Q m (get_or xs m d)) → Q n v → (m : ℕ) → m < n + 1 → Q m (get_or (set xs n v) m d)
+pub set_below : {A : Type 0} (xs : List A) (n : ℕ) (v d : A) (Q : ℕ → A → Type 0) → n < length xs →
+    ((m : ℕ) → m < n → Q m (get_or xs m d)) → Q n v → (m : ℕ) → m < n + 1 → Q m (get_or (set xs n v) m d)
 set_below xs n v d Q lt done here m below = elim (cases_Bool (m == n)) as (λ _. Q m (get_or (set xs n v) m d)) [
-  | inl e ↦ let q : m ≡ n = eqb-true m n e in subst (λ k. Q k (get_or (set xs n v) k d)) (sym q) (subst (Q n) (sym (get_or-set_same xs n v d lt)) here)
+  | inl e ↦ let q : m ≡ n = eqb-true m n e in subst (λ k. Q k (get_or (set xs n v) k d)) (sym q)
+      (subst (Q n) (sym (get_or-set_same xs n v d lt)) here)
   | inr e ↦
       let d' : (m ≡ n → ⊥) = λ q. let h : (m == n) ≡ true = eq-eqb m n q in cc in
       subst (Q m) (sym (get_or-set_other xs n m v d d')) (done m (before m n below d'))

@@ -8,7 +8,8 @@ pub loop-at-init : goal.loop-at-init
 loop-at-init c =
     let slots = c.args.slots.now in let pages = c.args.pages.now in let key = c.args.key in
     record {
-      rest = ap (λ n. hears key c.args.receiver.now (drop n slots) (drop n pages)) c.first-at.ensures ∙ from_first key slots pages c.requires 0 c.args.receiver.now;
+      rest = ap (λ n. hears key c.args.receiver.now (drop n slots) (drop n pages)) c.first-at.ensures
+          ∙ from_first key slots pages c.requires 0 c.args.receiver.now;
       own = λ l. ap (λ n. get_or pages n 0) c.first-at.ensures ∙ place_hits key slots pages c.requires 0 (omega (arith, l, c.first-at.ensures));
     }
 

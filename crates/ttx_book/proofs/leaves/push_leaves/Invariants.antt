@@ -4,4 +4,5 @@ use Rattle.ttx_book.proofs.leaves.push_leaves.Given as goal
 
 abbrev pub invariant-loop-id : goal.invariant-loop-id
 invariant-loop-id l =
-    string_bytes l.text ++ leaves_html l.slots l.pages l.former (drop l.id-index l.ids) ≡ string_bytes l.initial.text ++ leaves_html l.slots l.pages 0 l.ids
+    string_bytes l.text ++ leaves_html l.slots l.pages l.former (drop l.id-index l.ids) ≡ string_bytes l.initial.text
+    ++ leaves_html l.slots l.pages 0 l.ids

@@ -9,6 +9,7 @@ use Rattle.ttx_certificate.proofs.entry_lines.shape.Goals as goal
 pub returns-in-Some-2 : goal.returns-in-Some-2
 returns-in-Some-2 c =
     let page : Some (id_at c.in-Some.mag c.in-Some.page c.in-Some.sub) ≡ id_in_word c.next_word.result.0.now = search rules in
-    let item : Some (written_item c.in-Some-default-Some.item, words_in c.in-Some-default-Some.text.now) ≡ item_in (words_after (option_map (λ t. t.now) c.next_word.result.1)) = search rules in
+    let item : Some (written_item c.in-Some-default-Some.item, words_in c.in-Some-default-Some.text.now)
+    ≡ item_in (words_after (option_map (λ t. t.now) c.next_word.result.1)) = search rules in
     let starts : Some c.in-Some-2.starts.items ≡ numbers_in (words_in c.in-Some-default-Some.text.now) = search rules in
     entry_shape (words_in c.args.line.now) _ c.next_word.result.0.now c.in-Some-default-Some.text.now _ _ _ c.next_word.ensures.words page item starts

@@ -9,7 +9,8 @@ loop-i-preserved c =
     let i = c.loop-i.i in
     let e : i + 1 ≡ suc i = omega arith in
     record {
-      stands = λ begun. subst (Stands c.second.new.self slots) (sym (ap (λ n. take n slots) e ∙ take-suc slots i _ c.loop-i-test.true)) (c.second.ensures.stands slots (take i slots) (c.loop-i.invariant.stands begun));
+      stands = λ begun. subst (Stands c.second.new.self slots) (sym (ap (λ n. take n slots) e ∙ take-suc slots i _ c.loop-i-test.true))
+          (c.second.ensures.stands slots (take i slots) (c.loop-i.invariant.stands begun));
       pages = search rules;
       certificate = search rules;
     }

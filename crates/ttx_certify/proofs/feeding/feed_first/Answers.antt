@@ -10,12 +10,16 @@ loop-walk-preserved g c =
     let known = g.R.Read.remaining in
     let given = c.loop-walk.slots.given in
     let start = c.args.walk.now in
-    let answer = subst (λ b. AnswersNext given (known c.loop-walk.reader.inner) (known c.next.new.reader.inner) c.next.new.slot (Ok b)) c.if-branch.true (c.in_ok-next.ensures.answer c.loop-walk.invariant.goes_on) in
+    let answer = subst (λ b. AnswersNext given (known c.loop-walk.reader.inner) (known c.next.new.reader.inner) c.next.new.slot (Ok b))
+    c.if-branch.true (c.in_ok-next.ensures.answer c.loop-walk.invariant.goes_on) in
     let next : c.next.new.self.given ≡ given + 1 = search rules in
     record {
       goes_on = search rules;
-      gave = subst (λ n. Gave (λ x. Starts start [] → Starts c.first.new.self x) n (known c.args.reader.now.inner) (known c.next.new.reader.inner)) (sym next)
-          (gave_more (λ x. Starts start [] → Starts c.loop-walk.walk x) given (known c.args.reader.now.inner) (known c.loop-walk.reader.inner) (known c.next.new.reader.inner) c.next.new.slot c.loop-walk.invariant.gave c.slots_are_given.ensures.more
+      gave = subst (λ n. Gave (λ x. Starts start [] → Starts c.first.new.self x) n (known c.args.reader.now.inner)
+          (known c.next.new.reader.inner)) (sym next)
+          (gave_more (λ x. Starts start [] → Starts c.loop-walk.walk x) given (known c.args.reader.now.inner)
+          (known c.loop-walk.reader.inner)
+          (known c.next.new.reader.inner) c.next.new.slot c.loop-walk.invariant.gave c.slots_are_given.ensures.more
           (λ x. Starts start [] → Starts c.first.new.self x) answer (c.in_ok-next.ensures.slot (ap Ok c.if-branch.true))
           (λ x few stands start. taken _ _ (length x) c.first.result few (c.first.ensures.stands x (stands start))));
       pages = search rules;

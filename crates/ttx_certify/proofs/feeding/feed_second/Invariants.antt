@@ -9,7 +9,8 @@ decreases-loop-second g l = 65536 - l.slots.given
 abbrev pub invariant-loop-second : goal.invariant-loop-second
 invariant-loop-second g l = record {
   goes_on : l.slots.is_over ≡ false;
-  gave : Gave (λ y. (x : List (List ℕ)) → Stands l.initial.second x [] → Stands l.second x y) l.slots.given (g.R.Read.remaining l.initial.reader.inner) (g.R.Read.remaining l.reader.inner);
+  gave : Gave (λ y. (x : List (List ℕ)) → Stands l.initial.second x [] → Stands l.second x y) l.slots.given
+      (g.R.Read.remaining l.initial.reader.inner) (g.R.Read.remaining l.reader.inner);
   pages : second_pages l.second ≡ second_pages l.initial.second;
   certificate : second_certificate l.second ≡ second_certificate l.initial.second;
   faults : l.reader.faults ≡ l.initial.reader.faults;

@@ -5,4 +5,5 @@ use Rattle.ttx_witness.specs.passes.Passing.{IsEnded, ended_pages, ended_certifi
 use Rattle.ttx_certify.proofs.judging.first_fault.Given as goal
 
 abbrev pub invariant-loop-index : goal.invariant-loop-index
-invariant-loop-index l = (y : List (List ℕ)) → IsEnded l.ended y → (n : ℕ) (p : Page) → n < l.index → slice_get (ended_pages l.ended) n ≡ Some p → IsFault y (ended_pages l.ended) p (ended_certificate l.ended) None
+invariant-loop-index l = (y : List (List ℕ)) → IsEnded l.ended y → (n : ℕ) (p : Page) → n < l.index → slice_get (ended_pages l.ended) n
+    ≡ Some p → IsFault y (ended_pages l.ended) p (ended_certificate l.ended) None

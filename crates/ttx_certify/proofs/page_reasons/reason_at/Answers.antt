@@ -15,5 +15,6 @@ returns c = λ y at.
       place = is.number;
       first = c.item_reason.ensures y at.ready
           (subst (λ w. IsProgress y p w item c.progress-progress.result) (sym at.certificate)
-          (c.progress-progress.ensures y p item at.ended_is at.page is.item is.number (subst (λ w. c.in-Some.starts.now ≡ w.starts p.id item) at.certificate named)));
+          (c.progress-progress.ensures y p item at.ended_is at.page is.item is.number
+          (subst (λ w. c.in-Some.starts.now ≡ w.starts p.id item) at.certificate named)));
     }

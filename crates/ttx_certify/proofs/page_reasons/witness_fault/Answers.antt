@@ -13,7 +13,9 @@ returns c = λ y p is at header.
     let ended = c.args.ended.now in let w = ended_certificate ended in
     let r = c.index-ended-index.result in
     let q = page_of (get_or ended.pages.now c.args.index r) in
-    let here : slice_get (ended_pages ended) c.args.index ≡ Some q = page_at ended.pages.now c.args.index r c.requires c.index-ended-index.is ∙ ap (λ z. Some (page_of z)) c.index-ended-index.is in
+    let here : slice_get (ended_pages ended) c.args.index ≡ Some q =
+    page_at ended.pages.now c.args.index r c.requires c.index-ended-index.is
+    ∙ ap (λ z. Some (page_of z)) c.index-ended-index.is in
     let same : q ≡ p = same_page q p here at in
     let some : 1 ≤ length y = let s = is.cycle.some in omega arith in
     subst (λ x. IsWitnessFault y x w c.first_reason.result) same

@@ -16,9 +16,11 @@ b-alone : agree_below (alone_in 0x42) (λ _. true) 8 ≡ true
 unfolding glyph national_set
 b-alone = refl
 
-same-test : (letter : ℕ) → agree_below (alone_in letter) (λ _. true) 8 ≡ true → (option code : ℕ) → option < 8 → code < 128 → eqb (glyph option code) letter ≡ eqb code letter
+same-test : (letter : ℕ) → agree_below (alone_in letter) (λ _. true) 8 ≡ true → (option code : ℕ) → option < 8 → code < 128 →
+    eqb (glyph option code) letter ≡ eqb code letter
 same-test letter all option code o c =
-    agree_below_at (λ code. eqb (glyph option code) letter) (λ code. eqb code letter) 128 code (agree_below_at (alone_in letter) (λ _. true) 8 option all o) c
+    agree_below_at (λ code. eqb (glyph option code) letter) (λ code. eqb code letter) 128 code
+    (agree_below_at (alone_in letter) (λ _. true) 8 option all o) c
 
 shows-only : (letter : ℕ) → agree_below (alone_in letter) (λ _. true) 8 ≡ true → ShowsOnly letter
 shows-only letter all option code o c =

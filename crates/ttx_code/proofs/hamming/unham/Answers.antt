@@ -7,7 +7,8 @@ pub returns-then-n-lt16-clause-near : goal.returns-then-n-lt16-clause-near
 returns-then-n-lt16-clause-near c = Reads-at_number c.args.b _ (omega arith) c.if-n-lt16.true (ap (λ i. get_or NUMBERS i 0) (sym c.from.ensures))
 
 pub returns-then-n-lt16-clause-value : goal.returns-then-n-lt16-clause-value
-returns-then-n-lt16-clause-value c = (reading_by_table c.args.b _ (omega arith) (ap (λ i. get_or NUMBERS i 0) (sym c.from.ensures))).0 c.if-n-lt16.true
+returns-then-n-lt16-clause-value c = (reading_by_table c.args.b _ (omega arith) (ap (λ i. get_or NUMBERS i 0) (sym c.from.ensures))).0
+    c.if-n-lt16.true
 
 pub returns-else-n-lt16-clause-near : goal.returns-else-n-lt16-clause-near
 returns-else-n-lt16-clause-near c = λ n r.
@@ -18,4 +19,5 @@ returns-else-n-lt16-clause-near c = λ n r.
     omega arith
 
 pub returns-else-n-lt16-clause-value : goal.returns-else-n-lt16-clause-value
-returns-else-n-lt16-clause-value c = (reading_by_table c.args.b _ (omega arith) (ap (λ i. get_or NUMBERS i 0) (sym c.from.ensures))).1 c.if-n-lt16.false
+returns-else-n-lt16-clause-value c = (reading_by_table c.args.b _ (omega arith) (ap (λ i. get_or NUMBERS i 0) (sym c.from.ensures))).1
+    c.if-n-lt16.false

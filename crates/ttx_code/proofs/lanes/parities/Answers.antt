@@ -16,9 +16,11 @@ returns c =
     let s : (k : ℕ) → replicate 32 k ≡ map (λ _. k) v = λ k. splat_is_map v 32 k long in
     (zip2_of_maps _ _ _ v
     (zip2_of_maps _ _ _ v
-    (zip2_of_maps _ _ _ v (zip2_of_maps _ _ _ v (itself v) (zip2_of_maps _ _ _ v (itself v) (s 4))) (zip2_of_maps _ _ _ v (zip2_of_maps _ _ _ v (itself v) (zip2_of_maps _ _ _ v (itself v) (s 4))) (s 2)))
+    (zip2_of_maps _ _ _ v (zip2_of_maps _ _ _ v (itself v) (zip2_of_maps _ _ _ v (itself v) (s 4)))
+    (zip2_of_maps _ _ _ v (zip2_of_maps _ _ _ v (itself v) (zip2_of_maps _ _ _ v (itself v) (s 4))) (s 2)))
     (zip2_of_maps _ _ _ v
-    (zip2_of_maps _ _ _ v (zip2_of_maps _ _ _ v (itself v) (zip2_of_maps _ _ _ v (itself v) (s 4))) (zip2_of_maps _ _ _ v (zip2_of_maps _ _ _ v (itself v) (zip2_of_maps _ _ _ v (itself v) (s 4))) (s 2)))
+    (zip2_of_maps _ _ _ v (zip2_of_maps _ _ _ v (itself v) (zip2_of_maps _ _ _ v (itself v) (s 4)))
+    (zip2_of_maps _ _ _ v (zip2_of_maps _ _ _ v (itself v) (zip2_of_maps _ _ _ v (itself v) (s 4))) (s 2)))
     (s 1)))
     (s 1))
     ∙ same_maps _ (λ b. ones b % 2) v refl (chunk-fits w8 0 32 c.args.bytes.now c.type_inv.bytes)

@@ -7,5 +7,7 @@ differ e = cc
 
 pub returns-in-None : goal.returns-in-None
 returns-in-None c =
-    absurd (differ (c.in-None.ensures.some.1 (memory_fits c.read_rows-rows.result c.after_first.result.now c.control_of-control.result.0 c.small-age.result c.number_at.result _ _ _
+    absurd (differ (c.in-None.ensures.some.1
+    (memory_fits c.read_rows-rows.result c.after_first.result.now c.control_of-control.result.0 c.small-age.result
+    c.number_at.result _ _ _
     c.read_rows-rows.ensures c.control_of-control.ensures c.small-age.ensures.small)))

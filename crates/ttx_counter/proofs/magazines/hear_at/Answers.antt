@@ -14,4 +14,5 @@ returns-else-magazine_at-selected-clause-value c =
     let slot = slice_index_or (slots_of c.args.sorted.now.cycle.now) c.args.at [] in
     let foreign : magazine_of slot ≡ selected_mag r.selection → ⊥ =
     λ e. c.if-magazine_at-selected.false (c.magazine_at.ensures ∙ e ∙ sym (c.selected.ensures ∙ ap selected_mag c.selection.ensures)) in
-    c.step-else-magazine_at-selected.ensures.value ∙ ap (tuned_at r.selection r.lines) (as_empty r.lines r.selection (older r.memory) (packet_of slot) foreign)
+    c.step-else-magazine_at-selected.ensures.value
+    ∙ ap (tuned_at r.selection r.lines) (as_empty r.lines r.selection (older r.memory) (packet_of slot) foreign)

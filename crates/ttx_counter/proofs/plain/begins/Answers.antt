@@ -13,7 +13,8 @@ returns-in-Header c =
     ∙ ap (heads_matched c.args.selection.now) (sym (packet_from c.args.slot.now (IsHeader c.in-Header.field-0.mag) c.in-Header.ensures.0))
 
 pub returns-in-Row : goal.returns-in-Row
-returns-in-Row c = ap (heads_matched c.args.selection.now) (sym (packet_from c.args.slot.now (IsRow c.in-Row.field-0.mag c.in-Row.field-0.number) c.in-Row.ensures.0))
+returns-in-Row c = ap (heads_matched c.args.selection.now)
+    (sym (packet_from c.args.slot.now (IsRow c.in-Row.field-0.mag c.in-Row.field-0.number) c.in-Row.ensures.0))
 
 pub returns-in-Links : goal.returns-in-Links
 returns-in-Links c = ap (heads_matched c.args.selection.now) (sym (packet_from c.args.slot.now (IsLinks c.in-Links.field-0.mag) c.in-Links.ensures.0))
@@ -28,4 +29,5 @@ pub returns-in-Info : goal.returns-in-Info
 returns-in-Info c = ap (heads_matched c.args.selection.now) (sym (packet_from c.args.slot.now IsInfo c.in-Info.ensures.0))
 
 pub returns-in-Other : goal.returns-in-Other
-returns-in-Other c = ap (heads_matched c.args.selection.now) (sym (packet_from c.args.slot.now (IsOther c.in-Other.field-0.mag c.in-Other.field-0.number) c.in-Other.ensures))
+returns-in-Other c = ap (heads_matched c.args.selection.now)
+    (sym (packet_from c.args.slot.now (IsOther c.in-Other.field-0.mag c.in-Other.field-0.number) c.in-Other.ensures))

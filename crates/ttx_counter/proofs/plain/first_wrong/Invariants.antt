@@ -14,7 +14,10 @@ invariant-loop-n l = record {
   lines : l.receiver.lines ≡ l.initial.receiver.lines;
   wrong : (l.wrong ≡ true) ↔ (SameButClock (view_of l.receiver.memory) l.own → ⊥);
   memory : (p : Page) (former : Memory) → l.own ≡ view_of (memory_of_page p) →
-      l.initial.receiver.memory ≡ plain_from l.initial.receiver.lines l.initial.receiver.selection former (repeated (slots_of l.sorted.cycle.now)) (pos 0) l.low →
-      (l.receiver.memory ≡ plain_from l.initial.receiver.lines l.initial.receiver.selection former (repeated (slots_of l.sorted.cycle.now)) (pos 0) l.n)
-      × ((k : ℕ) → l.low ≤ k → k < l.n → IsWrongAfter (slots_of l.sorted.cycle.now) p l.initial.receiver.lines l.initial.receiver.selection former k → ⊥);
+      l.initial.receiver.memory ≡ plain_from l.initial.receiver.lines l.initial.receiver.selection former
+      (repeated (slots_of l.sorted.cycle.now)) (pos 0) l.low →
+      (l.receiver.memory ≡ plain_from l.initial.receiver.lines l.initial.receiver.selection former
+      (repeated (slots_of l.sorted.cycle.now)) (pos 0) l.n)
+      × ((k : ℕ) → l.low ≤ k → k < l.n → IsWrongAfter
+      (slots_of l.sorted.cycle.now) p l.initial.receiver.lines l.initial.receiver.selection former k → ⊥);
 }

@@ -23,4 +23,5 @@ pub returns-in-Info : goal.returns-in-Info
 returns-in-Info c = ap (is_under c.args.mag) (sym (packet_from c.args.slot.now IsInfo c.in-Info.ensures.0))
 
 pub returns-in-Other : goal.returns-in-Other
-returns-in-Other c = ap (is_under c.args.mag) (sym (packet_from c.args.slot.now (IsOther c.in-Other.field-0.mag c.in-Other.field-0.number) c.in-Other.ensures))
+returns-in-Other c = ap (is_under c.args.mag)
+    (sym (packet_from c.args.slot.now (IsOther c.in-Other.field-0.mag c.in-Other.field-0.number) c.in-Other.ensures))

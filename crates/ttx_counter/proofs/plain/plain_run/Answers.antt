@@ -18,9 +18,13 @@ returns c =
     let p = page_of c.args.page.now in
     let low = c.args.low in
     let result = c.first_wrong.result in
-    runs_on (λ lines sel former. TellsWrong cycle p lines sel former low (low + 2 * length cycle) result) c.args.lines c.args.selection (memory_of_page p)
+    runs_on (λ lines sel former. TellsWrong cycle p lines sel former low (low + 2 * length cycle) result) c.args.lines c.args.selection
+    (memory_of_page p)
     c.new-receiver.result c.settle.new.receiver c.advance.new.receiver (repeated cycle) _ _ low
     (c.new-receiver.ensures ∙ ap (tuned_at c.args.selection c.args.lines) c.of-own.ensures)
-    c.settle.ensures.memory c.settle.ensures.selection c.settle.ensures.lines c.advance.ensures.memory c.advance.ensures.selection c.advance.ensures.lines
+    c.settle.ensures.memory c.settle.ensures.selection c.settle.ensures.lines c.advance.ensures.memory c.advance.ensures.selection
+    c.advance.ensures.lines
     (whole_rest low (length c.slots.result.now) c.slots.ensures.cycle.some)
-    (λ e. subst (λ z. TellsWrong cycle p c.advance.new.receiver.lines c.advance.new.receiver.selection (memory_of_page p) low (low + 2 * length z) result) c.slots.ensures.slots (c.first_wrong.ensures p (memory_of_page p) (c.render.ensures ∙ ap view_of c.of-own.ensures) e))
+    (λ e. subst (λ z. TellsWrong cycle p c.advance.new.receiver.lines c.advance.new.receiver.selection (memory_of_page p) low
+    (low + 2 * length z) result) c.slots.ensures.slots
+    (c.first_wrong.ensures p (memory_of_page p) (c.render.ensures ∙ ap view_of c.of-own.ensures) e))

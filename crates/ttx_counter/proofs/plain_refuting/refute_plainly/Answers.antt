@@ -20,22 +20,33 @@ returns-in-Some c =
     let pages = map page_of c.args.claim.now.pages.now in
     let here = c.page_at-page.ensures in
     let e = c.in-Some.ensures in
-    plain_to (slots_of c.args.claim.now.cycle.now) pages w c.args.index c.args.any_sub (memory_of c.of-former.result) c.in-Some.slots (counter_run_of c.plain_counter.result) c.plain_counter.ensures
-    (found c.plain_runs_are_counter_runs.ensures (slots_of c.args.claim.now.cycle.now) (slots_of-IsCycle c.args.claim.now.cycle.now) pages p c.args.index c.args.any_sub c.selection_for-selection.result (memory_of c.of-former.result)
-    w.lines w.repeat w.deadline c.in-Some.slots (counter_run_of c.plain_counter.result) here (c.selection_for-selection.ensures ∙ ap (selection_for c.args.any_sub) c.id.ensures)
-    ((c.fits.ensures p here).0 c.if-not-fits.false) (c.memories_keep_their_rules.ensures c.of-former.result) c.of-former.ensures (numbers_of w (c.certificates_keep_their_rules.ensures c.args.claim.now.certificate.now).1)
+    plain_to (slots_of c.args.claim.now.cycle.now) pages w c.args.index c.args.any_sub (memory_of c.of-former.result) c.in-Some.slots
+    (counter_run_of c.plain_counter.result) c.plain_counter.ensures
+    (found c.plain_runs_are_counter_runs.ensures (slots_of c.args.claim.now.cycle.now)
+    (slots_of-IsCycle c.args.claim.now.cycle.now) pages p c.args.index c.args.any_sub c.selection_for-selection.result
+    (memory_of c.of-former.result)
+    w.lines w.repeat w.deadline c.in-Some.slots (counter_run_of c.plain_counter.result) here
+    (c.selection_for-selection.ensures ∙ ap (selection_for c.args.any_sub) c.id.ensures)
+    ((c.fits.ensures p here).0 c.if-not-fits.false) (c.memories_keep_their_rules.ensures c.of-former.result) c.of-former.ensures
+    (numbers_of w (c.certificates_keep_their_rules.ensures c.args.claim.now.certificate.now).1)
     (subst (λ z. z ≤ c.in-Some.slots) c.limit-low.ensures.value e.0)
-    (subst (λ l. IsWrongAfter (slots_of c.args.claim.now.cycle.now) p l c.selection_for-selection.result (memory_of_page p) c.in-Some.slots) c.lines.ensures e.2) c.plain_counter.ensures)
+    (subst (λ l. IsWrongAfter (slots_of c.args.claim.now.cycle.now) p l c.selection_for-selection.result
+    (memory_of_page p) c.in-Some.slots) c.lines.ensures e.2) c.plain_counter.ensures)
 
 pub returns-in-None : goal.returns-in-None
 returns-in-None c =
     let p = page_of c.page_at-page.result.now in
     let w = certificate_of c.args.claim.now.certificate.now in
     let here = c.page_at-page.ensures in
-    not_found (slots_of c.args.claim.now.cycle.now) (map page_of c.args.claim.now.pages.now) p c.args.index c.args.any_sub c.selection_for-selection.result w.lines (limit w) here
+    not_found (slots_of c.args.claim.now.cycle.now)
+    (map page_of c.args.claim.now.pages.now) p c.args.index c.args.any_sub c.selection_for-selection.result w.lines
+    (limit w) here
     (c.selection_for-selection.ensures ∙ ap (selection_for c.args.any_sub) c.id.ensures)
-    (subst (λ z. TellsWrong (slots_of c.args.claim.now.cycle.now) p w.lines c.selection_for-selection.result (memory_of_page p) z (z + 2 * length (slots_of c.args.claim.now.cycle.now)) None) c.limit-low.ensures.value
-    (subst (λ l. TellsWrong (slots_of c.args.claim.now.cycle.now) p l c.selection_for-selection.result (memory_of_page p) c.limit-low.result (c.limit-low.result + 2 * length (slots_of c.args.claim.now.cycle.now)) None) c.lines.ensures c.in-None.ensures))
+    (subst (λ z. TellsWrong (slots_of c.args.claim.now.cycle.now) p w.lines c.selection_for-selection.result (memory_of_page p) z
+    (z + 2 * length (slots_of c.args.claim.now.cycle.now)) None) c.limit-low.ensures.value
+    (subst (λ l. TellsWrong (slots_of c.args.claim.now.cycle.now) p l c.selection_for-selection.result
+    (memory_of_page p) c.limit-low.result (c.limit-low.result + 2 * length (slots_of c.args.claim.now.cycle.now)) None)
+    c.lines.ensures c.in-None.ensures))
 
 pub returns-then-steady : goal.returns-then-steady
 returns-then-steady c = λ q at fits n from to wrong.
@@ -43,6 +54,8 @@ returns-then-steady c = λ q at fits n from to wrong.
     let p = page_of c.page_at-page.result.now in
     let here = c.page_at-page.ensures in
     let same = same_page pages c.args.index p q here at in
-    wrong (c.steady_pages_stay.ensures (repeated (slots_of c.args.claim.now.cycle.now)) pages q (selection_for c.args.any_sub q.id) (certificate_of c.args.claim.now.certificate.now).lines n (pos 0)
+    wrong (c.steady_pages_stay.ensures (repeated (slots_of c.args.claim.now.cycle.now)) pages q (selection_for c.args.any_sub q.id)
+    (certificate_of c.args.claim.now.certificate.now).lines n (pos 0)
     (subst IsPage same (c.pages_keep_their_rules.ensures c.page_at-page.result.now))
-    (subst IsMemory (c.of-former.ensures ∙ ap memory_of_page same) (c.memories_keep_their_rules.ensures c.of-former.result)) fits (c.requires.steady c.if-steady.true q at))
+    (subst IsMemory (c.of-former.ensures ∙ ap memory_of_page same) (c.memories_keep_their_rules.ensures c.of-former.result)) fits
+    (c.requires.steady c.if-steady.true q at))

@@ -34,5 +34,6 @@ returns c = λ q at.
     let law = c.steady_has_no_fault.ensures cycle pages p c.fault_of-fault.result fault in
     let same = same_page pages c.args.index p q here at in (
       (λ e. subst (Steady (repeated cycle) pages) same (law.0 (none_is c.fault_of-fault.result c.is_none.result c.is_none.ensures e))),
-      (λ steady. none_told c.fault_of-fault.result c.is_none.result c.is_none.ensures (law.1 (subst (Steady (repeated cycle) pages) (sym same) steady))),
+      (λ steady. none_told c.fault_of-fault.result c.is_none.result c.is_none.ensures
+          (law.1 (subst (Steady (repeated cycle) pages) (sym same) steady))),
     )

@@ -7,4 +7,6 @@ use Rattle.ttx_counter.specs.Sources.{IsPlainlyRight}
 use Rattle.ttx_counter.proofs.refutation.refute_all_plainly.Given as goal
 
 abbrev pub invariant-loop-index : goal.invariant-loop-index
-invariant-loop-index l = (n : ℕ) (any_sub : Bool) → n < l.index → IsPlainlyRight (slots_of l.claim.cycle.now) (map page_of l.claim.pages.now) n any_sub (certificate_of l.claim.certificate.now).lines (limit (certificate_of l.claim.certificate.now))
+invariant-loop-index l = (n : ℕ) (any_sub : Bool) → n < l.index →
+    IsPlainlyRight (slots_of l.claim.cycle.now) (map page_of l.claim.pages.now) n any_sub
+    (certificate_of l.claim.certificate.now).lines (limit (certificate_of l.claim.certificate.now))

@@ -15,5 +15,6 @@ returns-in-None c =
     let pages = map page_of c.args.claim.now.pages.now in
     let p = page_of c.page_at-page.result.now in
     let w = certificate_of c.args.claim.now.certificate.now in
-    let none = subst (TellsFirst cycle (OtherSubpageAt (repeated cycle) pages p)) c.in-None.is (c.first.ensures cycle pages c.args.index p c.requires.others c.page_at-page.ensures c.id.ensures) in
+    let none = subst (TellsFirst cycle (OtherSubpageAt (repeated cycle) pages p)) c.in-None.is
+    (c.first.ensures cycle pages c.args.index p c.requires.others c.page_at-page.ensures c.id.ensures) in
     right_by_number cycle pages p c.args.index w.lines (limit w) c.page_at-page.ensures none c.requires.exactly

@@ -18,9 +18,13 @@ returns-then-is_absent c = λ q at.
     let w = certificate_of c.args.claim.now.certificate.now in
     let p = page_of c.page_at-page.result.now in
     let here = c.page_at-page.ensures in
-    let fault = c.fault_of-fault.ensures pages w.lines c.requires.prepared.sent here (c.first-other_subpage.ensures cycle pages c.args.index p c.requires.others here c.id.ensures) in
-    absent_to cycle pages w c.absent_pages_are_wrong.ensures c.plain_runs_are_counter_runs.ensures (slots_of-IsCycle c.args.claim.now.cycle.now) (c.certificates_keep_their_rules.ensures c.args.claim.now.certificate.now).1 p c.args.index here
-    (absent_none cycle pages w p c.fault_of-fault.result fault (sym c.is_absent.ensures ∙ c.if-is_absent.true)) c.absent_counter.ensures.former (counter_run_of c.absent_counter.result) c.absent_counter.ensures.run
+    let fault = c.fault_of-fault.ensures pages w.lines c.requires.prepared.sent here
+    (c.first-other_subpage.ensures cycle pages c.args.index p c.requires.others here c.id.ensures) in
+    absent_to cycle pages w c.absent_pages_are_wrong.ensures c.plain_runs_are_counter_runs.ensures
+    (slots_of-IsCycle c.args.claim.now.cycle.now)
+    (c.certificates_keep_their_rules.ensures c.args.claim.now.certificate.now).1 p c.args.index here
+    (absent_none cycle pages w p c.fault_of-fault.result fault (sym c.is_absent.ensures ∙ c.if-is_absent.true))
+    c.absent_counter.ensures.former (counter_run_of c.absent_counter.result) c.absent_counter.ensures.run
 
 pub returns-then-not-clean : goal.returns-then-not-clean
 returns-then-not-clean c = λ q at.
@@ -29,8 +33,10 @@ returns-then-not-clean c = λ q at.
     let w = certificate_of c.args.claim.now.certificate.now in
     let p = page_of c.page_at-page.result.now in
     let here = c.page_at-page.ensures in
-    let fault = c.fault_of-fault.ensures pages w.lines c.requires.prepared.sent here (c.first-other_subpage.ensures cycle pages c.args.index p c.requires.others here c.id.ensures) in
-    well_unless cycle pages w c.steady_has_no_fault.ensures p c.fault_of-fault.result fault (sym c.is_absent.ensures ∙ c.if-is_absent.false) c.args.prepared.now.clean c.requires.clean
+    let fault = c.fault_of-fault.ensures pages w.lines c.requires.prepared.sent here
+    (c.first-other_subpage.ensures cycle pages c.args.index p c.requires.others here c.id.ensures) in
+    well_unless cycle pages w c.steady_has_no_fault.ensures p c.fault_of-fault.result fault
+    (sym c.is_absent.ensures ∙ c.if-is_absent.false) c.args.prepared.now.clean c.requires.clean
     (elim c.then-not-clean.branch as (λ _. (c.args.prepared.now.clean ≡ false) ⊎ (is_some c.fault_of-fault.result ≡ true)) [
       | then-not-clean-via-then-not-clean b ↦ inl b.if-not-clean.true
       | then-not-clean-via-else-not-clean+then-is_some b ↦ inr (sym b.is_some.ensures ∙ b.if-is_some.true)
@@ -44,8 +50,11 @@ starve_page-requires-clause-steady c = λ q at.
     let w = certificate_of c.args.claim.now.certificate.now in
     let p = page_of c.page_at-page.result.now in
     let here = c.page_at-page.ensures in
-    let fault = c.fault_of-fault.ensures pages w.lines c.requires.prepared.sent here (c.first-other_subpage.ensures cycle pages c.args.index p c.requires.others here c.id.ensures) in
-    steady_if cycle pages w c.steady_has_no_fault.ensures p c.fault_of-fault.result fault (sym c.is_absent.ensures ∙ c.if-is_absent.false) (sym c.is_some.ensures ∙ c.if-is_some.false) q (same_page pages c.args.index p q here at)
+    let fault = c.fault_of-fault.ensures pages w.lines c.requires.prepared.sent here
+    (c.first-other_subpage.ensures cycle pages c.args.index p c.requires.others here c.id.ensures) in
+    steady_if cycle pages w c.steady_has_no_fault.ensures p c.fault_of-fault.result fault
+    (sym c.is_absent.ensures ∙ c.if-is_absent.false) (sym c.is_some.ensures ∙ c.if-is_some.false) q
+    (same_page pages c.args.index p q here at)
 
 pub returns : goal.returns
 returns c =
@@ -54,8 +63,11 @@ returns c =
     let w = certificate_of c.args.claim.now.certificate.now in
     let p = page_of c.page_at-page.result.now in
     let here = c.page_at-page.ensures in
-    let fault = c.fault_of-fault.ensures pages w.lines c.requires.prepared.sent here (c.first-other_subpage.ensures cycle pages c.args.index p c.requires.others here c.id.ensures) in
+    let fault = c.fault_of-fault.ensures pages w.lines c.requires.prepared.sent here
+    (c.first-other_subpage.ensures cycle pages c.args.index p c.requires.others here c.id.ensures) in
     ok_map (λ o. (q : Page) → slice_get pages c.args.index ≡ Some q → TellsCovered counter_run_of cycle pages q w o) _ c.starve_page.result
-    (λ o t q at. page_told cycle pages w c.steady_has_no_fault.ensures p c.fault_of-fault.result fault (sym c.is_absent.ensures ∙ c.if-is_absent.false) c.fullest_names_all.ensures (slots_of-IsCycle c.args.claim.now.cycle.now) (c.certificates_keep_their_rules.ensures c.args.claim.now.certificate.now).1
+    (λ o t q at. page_told cycle pages w c.steady_has_no_fault.ensures p c.fault_of-fault.result fault
+    (sym c.is_absent.ensures ∙ c.if-is_absent.false) c.fullest_names_all.ensures (slots_of-IsCycle c.args.claim.now.cycle.now)
+    (c.certificates_keep_their_rules.ensures c.args.claim.now.certificate.now).1
     counter_run_of o q (same_page pages c.args.index p q here at) (t q at))
     c.starve_page.ensures

@@ -12,7 +12,9 @@ starving_start-requires-clause-named c =
     let w = certificate_of c.args.claim.now.certificate.now in
     let p = page_of c.page_at-page.result.now in
     let here = c.page_at-page.ensures in
-    named_for cycle pages w (certificate_of c.args.prepared.now.found.now) c.args.prepared.now.collected.now c.requires.prepared c.args.index p here c.args.item.now c.requires.item (sym c.needed.ensures ∙ c.if-not-needed.false) c.starts-starts.result.now
+    named_for cycle pages w (certificate_of c.args.prepared.now.found.now) c.args.prepared.now.collected.now c.requires.prepared
+    c.args.index p here c.args.item.now c.requires.item
+    (sym c.needed.ensures ∙ c.if-not-needed.false) c.starts-starts.result.now
     (c.starts-starts.ensures ∙ ap (λ x. (certificate_of c.args.prepared.now.found.now).starts x c.args.item.now) c.id.ensures)
 
 pub starving_start-requires-clause-sent : goal.starving_start-requires-clause-sent
@@ -31,4 +33,5 @@ returns c =
     let w = certificate_of c.args.claim.now.certificate.now in
     let p = page_of c.page_at-page.result.now in
     let here = c.page_at-page.ensures in
-    needed_told cycle pages w c.args.index p here c.args.item.now (sym c.needed.ensures ∙ c.if-not-needed.false) c.starving_start.result c.starving_start.ensures
+    needed_told cycle pages w c.args.index p here c.args.item.now
+    (sym c.needed.ensures ∙ c.if-not-needed.false) c.starving_start.result c.starving_start.ensures

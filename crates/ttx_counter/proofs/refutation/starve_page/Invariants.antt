@@ -10,5 +10,6 @@ use Rattle.ttx_counter.specs.Starving.{fullest}
 use Rattle.ttx_counter.proofs.refutation.starve_page.Given as goal
 
 abbrev pub invariant-loop-number : goal.invariant-loop-number
-invariant-loop-number l = (p : Page) → slice_get (map page_of l.claim.pages.now) l.fn.index ≡ Some p → (item : Item) → IsItem item → item_number item < l.number → needed p item ≡ true →
+invariant-loop-number l = (p : Page) → slice_get (map page_of l.claim.pages.now) l.fn.index ≡ Some p → (item : Item) → IsItem item →
+    item_number item < l.number → needed p item ≡ true →
     IsCovered (slots_of l.claim.cycle.now) p (fullest (slots_of l.claim.cycle.now) (certificate_of l.claim.certificate.now)) item

@@ -15,7 +15,9 @@ returns c =
     let p = page_of c.page_at-page.result.now in
     let here = c.page_at-page.ensures in
     ok_map (λ k. counter_run_of k ≡ starving_run cycle c.args.index p c.args.item.now c.args.start w.lines w.repeat w.deadline) _ c.counter_for.result
-    (λ k made. starved_to cycle pages w c.starving_is_counter_run.ensures p c.args.index here (slots_of-IsCycle c.args.claim.now.cycle.now) (c.pages_keep_their_rules.ensures c.page_at-page.result.now)
-    (c.certificates_keep_their_rules.ensures c.args.claim.now.certificate.now).1 c.requires.clean (c.requires.steady p here) c.args.item.now c.args.start (c.requires.starved p here)
+    (λ k made. starved_to cycle pages w c.starving_is_counter_run.ensures p c.args.index here
+    (slots_of-IsCycle c.args.claim.now.cycle.now) (c.pages_keep_their_rules.ensures c.page_at-page.result.now)
+    (c.certificates_keep_their_rules.ensures c.args.claim.now.certificate.now).1 c.requires.clean
+    (c.requires.steady p here) c.args.item.now c.args.start (c.requires.starved p here)
     w.lines w.repeat w.deadline refl refl refl (counter_run_of k) made)
     c.counter_for.ensures

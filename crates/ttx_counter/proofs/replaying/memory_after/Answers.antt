@@ -12,6 +12,7 @@ returns c =
     let k = c.args.counter.now in
     let p = page_of c.args.page.now in
     left (repeated (slots_of c.args.cycle.now)) c.args.keys.now p (counter_run_of k) _ c.new-receiver.result c.hear.new.receiver c.hear.ensures
-    (c.new-receiver.ensures ∙ ap (λ sel. script_at (tuned_at sel k.lines (memory_of k.former)) c.deref.result.now) (c.selection_for-selection.ensures ∙ ap (selection_for k.any_sub) c.id.ensures)
+    (c.new-receiver.ensures ∙ ap (λ sel. script_at (tuned_at sel k.lines (memory_of k.former)) c.deref.result.now)
+    (c.selection_for-selection.ensures ∙ ap (selection_for k.any_sub) c.id.ensures)
     ∙ ap (script_at (tuned_at (selection_for k.any_sub p.id) k.lines (memory_of k.former))) c.deref.ensures.value)
     c.memory.ensures

@@ -22,13 +22,23 @@ page_at-page-requires c =
 
 pub memory_after-requires-clause-apart : goal.memory_after-requires-clause-apart
 memory_after-requires-clause-apart c =
-    apart (slots_of c.args.cycle.now) (map page_of c.args.pages.now) (counter_run_of c.args.counter.now) c.deref-2.result.now (c.in_ok-is.ensures.0 c.if-not-is.false) (subst (λ ks. IsPermutation (map hit_key c.args.counter.now.hits.items) ks) (sym c.deref-2.ensures.value) (subst (λ hs. IsPermutation (map hit_key hs) c.in_ok-keys.keys.items) c.deref.ensures.value c.in_ok-keys.ensures.same))
+    apart (slots_of c.args.cycle.now) (map page_of c.args.pages.now) (counter_run_of c.args.counter.now) c.deref-2.result.now
+    (c.in_ok-is.ensures.0 c.if-not-is.false)
+    (subst (λ ks. IsPermutation (map hit_key c.args.counter.now.hits.items) ks) (sym c.deref-2.ensures.value)
+    (subst (λ hs. IsPermutation (map hit_key hs) c.in_ok-keys.keys.items) c.deref.ensures.value c.in_ok-keys.ensures.same))
 
 pub memory_after-requires-clause-keys : goal.memory_after-requires-clause-keys
 memory_after-requires-clause-keys c =
-    each (slots_of c.args.cycle.now) (map page_of c.args.pages.now) (counter_run_of c.args.counter.now) c.deref-2.result.now (c.in_ok-is.ensures.0 c.if-not-is.false) (subst (λ ks. IsPermutation (map hit_key c.args.counter.now.hits.items) ks) (sym c.deref-2.ensures.value) (subst (λ hs. IsPermutation (map hit_key hs) c.in_ok-keys.keys.items) c.deref.ensures.value c.in_ok-keys.ensures.same))
+    each (slots_of c.args.cycle.now) (map page_of c.args.pages.now) (counter_run_of c.args.counter.now) c.deref-2.result.now
+    (c.in_ok-is.ensures.0 c.if-not-is.false)
+    (subst (λ ks. IsPermutation (map hit_key c.args.counter.now.hits.items) ks) (sym c.deref-2.ensures.value)
+    (subst (λ hs. IsPermutation (map hit_key hs) c.in_ok-keys.keys.items) c.deref.ensures.value c.in_ok-keys.ensures.same))
 
 pub returns : goal.returns
 returns c =
-    replayed (slots_of c.args.cycle.now) (map page_of c.args.pages.now) (counter_run_of c.args.counter.now) c.deref-2.result.now (c.in_ok-is.ensures.0 c.if-not-is.false) (subst (λ ks. IsPermutation (map hit_key c.args.counter.now.hits.items) ks) (sym c.deref-2.ensures.value) (subst (λ hs. IsPermutation (map hit_key hs) c.in_ok-keys.keys.items) c.deref.ensures.value c.in_ok-keys.ensures.same))
-    c.each_slot_turns.ensures (slots_of-IsCycle c.args.cycle.now) (page_of c.page_at-page.result.now) (memory_of c.memory_after.result) c.page_at-page.ensures c.memory_after.ensures
+    replayed (slots_of c.args.cycle.now) (map page_of c.args.pages.now) (counter_run_of c.args.counter.now) c.deref-2.result.now
+    (c.in_ok-is.ensures.0 c.if-not-is.false)
+    (subst (λ ks. IsPermutation (map hit_key c.args.counter.now.hits.items) ks) (sym c.deref-2.ensures.value)
+    (subst (λ hs. IsPermutation (map hit_key hs) c.in_ok-keys.keys.items) c.deref.ensures.value c.in_ok-keys.ensures.same))
+    c.each_slot_turns.ensures (slots_of-IsCycle c.args.cycle.now) (page_of c.page_at-page.result.now)
+    (memory_of c.memory_after.result) c.page_at-page.ensures c.memory_after.ensures

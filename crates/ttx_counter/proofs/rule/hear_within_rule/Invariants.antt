@@ -12,7 +12,8 @@ invariant-loop-i l = record {
   mine : l.mine ≡ mine_from l.page (repeated l.slots) (pos l.run.start) l.initial.mine l.i;
   rows : length l.streaks.latest.items ≡ 25;
   places : length l.streaks.cells.items ≡ 1050;
-  streaks : AreStreaks (sends_row l.page (repeated l.slots) (pos l.run.start) l.initial.mine) (is_hit l.keys) l.repeat l.i l.streaks.latest.items l.streaks.cells.items;
+  streaks : AreStreaks (sends_row l.page (repeated l.slots) (pos l.run.start) l.initial.mine)
+      (is_hit l.keys) l.repeat l.i l.streaks.latest.items l.streaks.cells.items;
   cursor : IsCursor l.keys l.i l.from;
   heard : IsHeard (repeated l.slots) l.run.start l.i l.keys l.initial.receiver l.receiver;
 }

@@ -8,7 +8,11 @@ use Rattle.ttx_counter.proofs.starving.starve_over.Given as goal
 
 abbrev pub invariant-loop-i : goal.invariant-loop-i
 invariant-loop-i l = record {
-  memory : memory_of l.memory ≡ starved_memory l.receiver.lines l.receiver.selection l.receiver.item.now (repeated (slots_of l.cycle)) (pos l.start) (memory_of l.receiver.former) l.i;
-  hits : l.hits.items ≡ map (hit_at l.receiver.item.now) (starved_hits l.receiver.lines l.receiver.selection l.receiver.item.now (repeated (slots_of l.cycle)) (pos l.start) (memory_of l.receiver.former) l.i);
-  choices : l.choices.items ≡ starved_choices l.receiver.lines l.receiver.selection l.receiver.item.now (repeated (slots_of l.cycle)) (pos l.start) (memory_of l.receiver.former) l.i;
+  memory : memory_of l.memory ≡ starved_memory l.receiver.lines l.receiver.selection l.receiver.item.now (repeated (slots_of l.cycle))
+      (pos l.start) (memory_of l.receiver.former) l.i;
+  hits : l.hits.items ≡ map (hit_at l.receiver.item.now)
+      (starved_hits l.receiver.lines l.receiver.selection l.receiver.item.now (repeated (slots_of l.cycle)) (pos l.start)
+      (memory_of l.receiver.former) l.i);
+  choices : l.choices.items ≡ starved_choices l.receiver.lines l.receiver.selection l.receiver.item.now (repeated (slots_of l.cycle))
+      (pos l.start) (memory_of l.receiver.former) l.i;
 }

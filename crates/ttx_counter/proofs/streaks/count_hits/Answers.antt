@@ -16,13 +16,17 @@ loop-i-preserved c =
           let h = inv.places in let b = (c.requires.keys c.loop-i.i (omega arith)).byte in omega arith in
           record {
             places = ap length same ∙ length-set _ _ _ ∙ inv.places;
-            counted = counted_set _ _ _ _ keys _ _ _ _ c.byte_in-x.result w.running-count.result w.index.result.now _ c.byte_in-x.ensures c.loop-i.auto.i (sym c.is_text.ensures ∙ w.if-is_text.true)
-                inside (λ j low high. c.requires.apart j c.loop-i.i low high c.loop-i-test.true) (get_or_read c.loop-i.cells.items _ _ inside w.index.ensures (streak_of 0 0)) w.running-count.ensures (omega arith) same inv.counted;
+            counted = counted_set _ _ _ _ keys _ _ _ _ c.byte_in-x.result w.running-count.result w.index.result.now _
+                c.byte_in-x.ensures c.loop-i.auto.i (sym c.is_text.ensures ∙ w.if-is_text.true)
+                inside (λ j low high. c.requires.apart j c.loop-i.i low high c.loop-i-test.true)
+                (get_or_read c.loop-i.cells.items _ _ inside w.index.ensures (streak_of 0 0)) w.running-count.ensures
+                (omega arith) same inv.counted;
           }
       | else-is_text w ↦
           let same = ap (λ v. v.items) w.cells-is in
           record {
             places = ap length same ∙ inv.places;
-            counted = counted_same _ _ _ _ keys _ _ _ _ c.byte_in-x.result c.byte_in-x.ensures (sym c.is_text.ensures ∙ w.if-is_text.false) _ same inv.counted;
+            counted = counted_same _ _ _ _ keys _ _ _ _ c.byte_in-x.result c.byte_in-x.ensures
+                (sym c.is_text.ensures ∙ w.if-is_text.false) _ same inv.counted;
           }
     ]

@@ -3,7 +3,8 @@ use Rattle.ttx_digits.proofs.Words.{number_fits}
 use Rattle.ttx_digits.proofs.decimals.value_of.Goals as goal
 
 pub overflow_mul-value : goal.overflow_mul-value
-overflow_mul-value c = let small : c.loop-digit.value < 1000000 = number_fits c.loop-digit.value c.loop-digit.digit-index c.loop-digit.invariant.small (omega arith) in omega arith
+overflow_mul-value c = let small : c.loop-digit.value < 1000000 =
+    number_fits c.loop-digit.value c.loop-digit.digit-index c.loop-digit.invariant.small (omega arith) in omega arith
 
 pub overflow_add-value : goal.overflow_add-value
 overflow_add-value c =

@@ -7,10 +7,11 @@ use Rattle.ttx_digits.proofs.page_ids.id.Goals as goal
 use Rattle.ttx_digits.proofs.page_ids.id.Goals.{then-word-ne8-via-then-word-ne8, then-word-ne8-via-else-word-ne8+then-word-ne47}
 
 pub returns-then-word-ne8 : goal.returns-then-word-ne8
-returns-then-word-ne8 c = no_id c.args.word.now (λ is. let p = id_word c.args.word.now is in let long = p.length in let stroke = p.stroke in elim c.then-word-ne8.branch [
-  | then-word-ne8-via-then-word-ne8 w ↦ let other = w.if-word-ne8 in grind (arith, nat_tests)
-  | then-word-ne8-via-else-word-ne8+then-word-ne47 w ↦ let other = w.if-word-ne47 in grind (arith, nat_tests)
-])
+returns-then-word-ne8 c = no_id c.args.word.now
+    (λ is. let p = id_word c.args.word.now is in let long = p.length in let stroke = p.stroke in elim c.then-word-ne8.branch [
+      | then-word-ne8-via-then-word-ne8 w ↦ let other = w.if-word-ne8 in grind (arith, nat_tests)
+      | then-word-ne8-via-else-word-ne8+then-word-ne47 w ↦ let other = w.if-word-ne47 in grind (arith, nat_tests)
+    ])
 
 pub returns-in_err-page : goal.returns-in_err-page
 returns-in_err-page c = let two = two_by_tests c.args.word.now 1 in grind (arith, common_steps)

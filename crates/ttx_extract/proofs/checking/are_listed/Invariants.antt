@@ -8,4 +8,5 @@ use Rattle.ttx_extract.proofs.Lists.{Before}
 use Rattle.ttx_extract.proofs.checking.are_listed.Given as goal
 
 abbrev pub invariant-loop-slot : goal.invariant-loop-slot
-invariant-loop-slot l = (ids : List Id) → IsIndex ids l.index → l.count ≡ length ids → Before (λ slot. IsOfPages ids (packet_of slot)) (slots_of l.cycle) l.slot
+invariant-loop-slot l = (ids : List Id) → IsIndex ids l.index → l.count ≡ length ids →
+    Before (λ slot. IsOfPages ids (packet_of slot)) (slots_of l.cycle) l.slot

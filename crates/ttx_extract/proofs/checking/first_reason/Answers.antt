@@ -26,7 +26,8 @@ loop-index-preserved c = λ lines sent others.
     let at = page_at c.args.pages.now c.loop-index.index c.index-pages-index.result c.loop-index-test.true c.index-pages-index.is in
     let fault = c.fault_of.ensures pages lines sent at (c.first-other_subpage.ensures cycle pages c.loop-index.index p others at c.id.ensures) in
     let steady = subst (IsPageFault cycle pages p) c.in_default.is fault in
-    one_more (Steady (repeated cycle) pages) pages c.loop-index.index (c.loop-index.invariant lines sent others) (λ q here. subst (Steady (repeated cycle) pages) (same_page p q at here) steady)
+    one_more (Steady (repeated cycle) pages) pages c.loop-index.index (c.loop-index.invariant lines sent others)
+    (λ q here. subst (Steady (repeated cycle) pages) (same_page p q at here) steady)
 
 pub returns : goal.returns
 returns c = λ lines sent others.

@@ -9,5 +9,6 @@ use Rattle.ttx_extract.proofs.Lists.{Before}
 use Rattle.ttx_extract.proofs.checking.first_reason.Given as goal
 
 abbrev pub invariant-loop-index : goal.invariant-loop-index
-invariant-loop-index l = (lines : ℕ) → AreAllSent (slots_of l.cycle) (map page_of l.pages) lines l.collected → AreOtherSubpages (slots_of l.cycle) (map page_of l.pages) l.others →
+invariant-loop-index l = (lines : ℕ) → AreAllSent (slots_of l.cycle) (map page_of l.pages) lines l.collected →
+    AreOtherSubpages (slots_of l.cycle) (map page_of l.pages) l.others →
     Before (Steady (repeated (slots_of l.cycle)) (map page_of l.pages)) (map page_of l.pages) l.index

@@ -10,4 +10,5 @@ pub returns-in-Some-place_of : goal.returns-in-Some-place_of
 returns-in-Some-place_of c = λ ids is count t.
     let finds = subst (Finds ids c.id-2.result) c.in-Some-place_of.is (c.place_of.ensures ids is) in
     let lt : c.in-Some-place_of.place < length ids = let less = ltb-true _ _ t in omega arith in
-    listed ids c.in-Some.header (packet_of c.args.slot.now) c.in-Some.ensures (subst (Contains ids) c.id-2.ensures.value (contains ids c.id-2.result c.in-Some-place_of.place finds lt))
+    listed ids c.in-Some.header (packet_of c.args.slot.now) c.in-Some.ensures
+    (subst (Contains ids) c.id-2.ensures.value (contains ids c.id-2.result c.in-Some-place_of.place finds lt))

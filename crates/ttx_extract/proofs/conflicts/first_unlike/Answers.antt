@@ -16,10 +16,15 @@ returns-then-differ c = λ page lines item is.
     let b = c.args.slot in
     let lt_a : a < length slots = let t = c.if-place-slots.false in omega arith in
     let lt_b : b < length slots = let t = c.if-slot-slots.false in omega arith in
-    let sent = subst (AreSent (IsOwned (repeated slots) page item) (IsSure (repeated slots) lines page.mag item) (pos 0) (pos (length slots))) (sym is)
+    let sent = subst (AreSent (IsOwned (repeated slots) page item) (IsSure (repeated slots) lines page.mag item) (pos 0)
+    (pos (length slots))) (sym is)
     (c.transmissions_are_listed.ensures slots cycle.some cycle.most page lines item).0 in
     let some = some_of c.args.sent.now (sym c.is_empty.ensures ∙ c.if-is_empty.false) in
-    let first = subst (λ n. IsTransmission (repeated slots) page item (pos n)) (sym c.slot_of_first-place.ensures) (first_sent slots page lines item c.args.sent.now sent some _) in
+    let first = subst (λ n. IsTransmission (repeated slots) page item (pos n)) (sym c.slot_of_first-place.ensures)
+    (first_sent slots page lines item c.args.sent.now sent some _) in
     let unlike : Differs (packet_of (get_or slots a [])) (packet_of (get_or slots b [])) =
-    subst (λ s. Differs (packet_of (get_or s a [])) (packet_of (get_or s b []))) c.slots-slots.ensures.slots (c.differ.ensures c.if-differ.true) in
-    (first, subst (λ x. Differs (packet_of x) (packet_of (repeated slots (pos b)))) (sym (slot_is slots a lt_a)) (subst (λ x. Differs (packet_of (get_or slots a [])) (packet_of x)) (sym (slot_is slots b lt_b)) unlike))
+    subst (λ s. Differs (packet_of (get_or s a [])) (packet_of (get_or s b []))) c.slots-slots.ensures.slots (c.differ.ensures c.if-differ.true) in (
+      first,
+      subst (λ x. Differs (packet_of x) (packet_of (repeated slots (pos b)))) (sym (slot_is slots a lt_a))
+          (subst (λ x. Differs (packet_of (get_or slots a [])) (packet_of x)) (sym (slot_is slots b lt_b)) unlike),
+    )

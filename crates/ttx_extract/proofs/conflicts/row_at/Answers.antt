@@ -15,4 +15,5 @@ returns-in-Some c =
     let lt : i < length slots = let l = ap length same in let t = c.if-slot-slots.false in omega arith in
     let here : packet_of (get_or slots i []) ≡ Row at.mag at.number (drop 2 (get_or slots i [])) =
     subst (λ s. packet_of (get_or s i []) ≡ Row at.mag at.number (drop 2 (get_or s i []))) same c.in-Some.ensures in
-    row_is c.new.result _ at.number c.new.ensures (packet_of (repeated slots (pos i))) at.mag (drop 2 (get_or slots i [])) (ap packet_of (slot_is slots i lt) ∙ here)
+    row_is c.new.result _ at.number c.new.ensures (packet_of (repeated slots (pos i))) at.mag (drop 2 (get_or slots i []))
+    (ap packet_of (slot_is slots i lt) ∙ here)

@@ -3,7 +3,8 @@ use Rattle.ttx_extract.proofs.Answered.{answered}
 use Rattle.ttx_extract.proofs.extracting.check.Goals as goal
 
 pub returns-in-Some : goal.returns-in-Some
-returns-in-Some c = answered (slots_of c.args.cycle.now) c.in-Some.fault (c.in-Some.ensures c.args.lines c.in-Ok.ensures.collected c.in-Ok.ensures.others)
+returns-in-Some c = answered (slots_of c.args.cycle.now) c.in-Some.fault
+    (c.in-Some.ensures c.args.lines c.in-Ok.ensures.collected c.in-Ok.ensures.others)
 
 pub returns-in-Ok-true : goal.returns-in-Ok-true
 returns-in-Ok-true c =

@@ -7,7 +7,10 @@ use Rattle.ttx_extract.proofs.AuthoredIds.{distinct_ids, same_ids}
 use Rattle.ttx_extract.proofs.extracting.has_pages.Goals as goal
 
 pub index_of-requires : goal.index_of-requires
-index_of-requires c = record { distinct = distinct_ids c.pages-pages.result.now c.args.service.now.pages c.pages-pages.ensures.value c.pages-pages.ensures.ranges.distinct }
+index_of-requires c = record {
+  distinct = distinct_ids c.pages-pages.result.now c.args.service.now.pages c.pages-pages.ensures.value
+      c.pages-pages.ensures.ranges.distinct;
+}
 
 pub returns : goal.returns
 returns c = λ t.

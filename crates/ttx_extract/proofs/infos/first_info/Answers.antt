@@ -10,7 +10,8 @@ returns-in-Some c =
     let i = c.loop-slot.slot in
     let same = c.slots-slots.ensures.slots in
     let lt : i < length slots = subst (λ s. i < length s) same c.loop-slot-test.true in
-    let is : slot_info (get_or slots i []) ≡ Some c.in-Some.info = subst (λ s. slot_info (get_or s i []) ≡ Some c.in-Some.info) same (sym c.slot_info.ensures ∙ c.in-Some.is) in
+    let is : slot_info (get_or slots i []) ≡ Some c.in-Some.info =
+    subst (λ s. slot_info (get_or s i []) ≡ Some c.in-Some.info) same (sym c.slot_info.ensures ∙ c.in-Some.is) in
     (found slots i c.loop-slot.invariant lt c.in-Some.info is, is)
 
 pub loop-slot-preserved : goal.loop-slot-preserved

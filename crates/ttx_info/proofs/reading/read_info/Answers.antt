@@ -12,8 +12,11 @@ part_length s from size l =
 
 pub invariant_of-result : goal.invariant_of-result
 invariant_of-result c =
-    let text : All (λ b. b < 128) c.text_of.result = rw c.text_of.ensures (All-map (λ b. b < 128) (λ b. b % 128) (slice_range c.args.bytes.now 22 42) (λ k d l. omega arith)) in
-    let clock : (c.in-Some.mjd < 100000) × (c.in-Some.utc < 1000000) = subst (λ o. IfSome o (λ clock. (clock.0 < 100000) × (clock.1 < 1000000))) c.in-Some.is c.date_and_time.ensures.range in
+    let text : All (λ b. b < 128) c.text_of.result =
+    rw c.text_of.ensures (All-map (λ b. b < 128) (λ b. b % 128) (slice_range c.args.bytes.now 22 42) (λ k d l. omega arith))
+    in
+    let clock : (c.in-Some.mjd < 100000) × (c.in-Some.utc < 1000000) =
+    subst (λ o. IfSome o (λ clock. (clock.0 < 100000) × (clock.1 < 1000000))) c.in-Some.is c.date_and_time.ensures.range in
     record {
       range = record { designation = c.in_ok-designation.ensures.range; halves = omega arith; mjd = clock.0; utc = clock.1; text = text };
       network = ap length c.network_of.ensures ∙ part_length c.args.bytes.now 9 2 (omega (arith, c.told-bytes));

@@ -17,6 +17,7 @@ returns-in-Yes-clause-seen c =
     let same = c.pages-pages.ensures.value in
     let told = c.in_ok-certify_service.ensures in
     late_means cycle pages w (subst (IsVerdict cycle pages w) c.in-Yes.is told.exact) c.accepted_is_shown.ensures (slots_of-IsCycle c.args.cycle.now)
-    (subst ArePages same (are_pages c.pages_keep_their_rules.ensures c.pages-pages.result.now)) (c.certificates_keep_their_rules.ensures c.args.certificate.now).1
+    (subst ArePages same (are_pages c.pages_keep_their_rules.ensures c.pages-pages.result.now))
+    (c.certificates_keep_their_rules.ensures c.args.certificate.now).1
     (subst (Means cycle pages w) c.in-Yes.is told.seen) c.followed_verdict.result
     (subst (λ ps. IsFollowedVerdict cycle ps c.followed_verdict.result) same c.followed_verdict.ensures)

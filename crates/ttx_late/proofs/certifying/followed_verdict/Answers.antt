@@ -10,5 +10,6 @@ returns-in-Some c =
     let slots = slots_of c.args.cycle.now in
     let pages = c.args.pages.now in
     never_shown slots pages c.in-Some.unshown
-    (subst (λ o. MatchOption o (AllAreFollowed slots (map page_of pages)) (IsFirstUnshown slots (map page_of pages))) c.in-Some.is c.first_unshown.ensures)
+    (subst (λ o. MatchOption o (AllAreFollowed slots (map page_of pages)) (IsFirstUnshown slots (map page_of pages))) c.in-Some.is
+    c.first_unshown.ensures)
     c.index-pages-unshown.result c.index-pages-unshown.is c.id.result c.id.ensures

@@ -7,5 +7,6 @@ pub returns-in-Ok-line_of-clause-judged : goal.returns-in-Ok-line_of-clause-judg
 returns-in-Ok-line_of-clause-judged c = record {
   exact = c.in-Ok.ensures.exact;
   seen = c.in-Ok.ensures.seen;
-  line_is = c.in-Ok-line_of.ensures.line ∙ ap (λ n. late_verdict_line (fields_of c.args.inputs.now.certificate) n c.in-Ok.verdict) c.pages.ensures.count;
+  line_is = c.in-Ok-line_of.ensures.line ∙ ap (λ n. late_verdict_line (fields_of c.args.inputs.now.certificate) n c.in-Ok.verdict)
+      c.pages.ensures.count;
 }

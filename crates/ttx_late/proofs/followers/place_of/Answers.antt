@@ -7,16 +7,22 @@ use Rattle.ttx_late.proofs.FollowersOfCycles.{tested_is, tested_self, none_here,
 use Rattle.ttx_late.proofs.followers.place_of.Goals as goal
 
 pub returns-then-eq : goal.returns-then-eq
-returns-then-eq c =
-    (page_of c.index-pages-index.result, page_at c.args.pages.now c.loop-index.index c.index-pages-index.result c.loop-index-test.true c.index-pages-index.is, sym c.id.ensures ∙ tested_is c.id.result c.args.id (sym c.eq.ensures ∙ c.if-eq.true))
+returns-then-eq c = (
+  page_of c.index-pages-index.result,
+  page_at c.args.pages.now c.loop-index.index c.index-pages-index.result c.loop-index-test.true
+      c.index-pages-index.is,
+  sym c.id.ensures ∙ tested_is c.id.result c.args.id (sym c.eq.ensures ∙ c.if-eq.true),
+)
 
 pub loop-index-preserved : goal.loop-index-preserved
 loop-index-preserved c = record {
   none = none_here (map page_of c.args.pages.now) c.args.id c.loop-index.index c.loop-index.invariant.none (page_of c.index-pages-index.result)
-      (page_at c.args.pages.now c.loop-index.index c.index-pages-index.result c.loop-index-test.true c.index-pages-index.is) (λ e. both_ways _ c.if-eq.false (c.eq.ensures ∙ tested_self c.id.result c.args.id (c.id.ensures ∙ e)));
+      (page_at c.args.pages.now c.loop-index.index c.index-pages-index.result c.loop-index-test.true c.index-pages-index.is)
+      (λ e. both_ways _ c.if-eq.false (c.eq.ensures ∙ tested_self c.id.result c.args.id (c.id.ensures ∙ e)));
 }
 
 pub returns : goal.returns
 returns c =
-    let past : length (map page_of c.args.pages.now) ≤ c.loop-index.index = let l = length-map c.args.pages.now page_of in let t = c.loop-index-test.false in omega arith in
+    let past : length (map page_of c.args.pages.now) ≤ c.loop-index.index = let l = length-map c.args.pages.now page_of in let t =
+    c.loop-index-test.false in omega arith in
     none_listed (map page_of c.args.pages.now) c.args.id c.loop-index.index c.loop-index.invariant.none past

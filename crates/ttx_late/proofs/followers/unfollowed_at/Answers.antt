@@ -12,7 +12,8 @@ returns-in-Some-follower c =
     let packet = packet_of (slice_index_or slots c.args.at []) in
     followed_tells slots c.in-Some.page c.args.at c.requires.at
     (subst (λ o. MatchOption o (HoldsNoId packet) (λ id. HoldsId id packet)) c.in-Some.is c.id_in.ensures)
-    (subst (λ o. MatchOption o (IsFollowed (repeated slots) c.in-Some.page (pos c.args.at) → ⊥) (λ distance. IsFollowedIn (repeated slots) c.in-Some.page c.args.at distance)) c.in-Some-follower.is c.follower.ensures).0
+    (subst (λ o. MatchOption o (IsFollowed (repeated slots) c.in-Some.page (pos c.args.at) → ⊥)
+    (λ distance. IsFollowedIn (repeated slots) c.in-Some.page c.args.at distance)) c.in-Some-follower.is c.follower.ensures).0
 
 pub returns-in-None-follower : goal.returns-in-None-follower
 returns-in-None-follower c =
@@ -20,7 +21,8 @@ returns-in-None-follower c =
     let packet = packet_of (slice_index_or slots c.args.at []) in
     unfollowed_tells slots c.in-Some.page c.args.at c.requires.at
     (subst (λ o. MatchOption o (HoldsNoId packet) (λ id. HoldsId id packet)) c.in-Some.is c.id_in.ensures)
-    (subst (λ o. MatchOption o (IsFollowed (repeated slots) c.in-Some.page (pos c.args.at) → ⊥) (λ distance. IsFollowedIn (repeated slots) c.in-Some.page c.args.at distance)) c.in-None-follower.is c.follower.ensures)
+    (subst (λ o. MatchOption o (IsFollowed (repeated slots) c.in-Some.page (pos c.args.at) → ⊥)
+    (λ distance. IsFollowedIn (repeated slots) c.in-Some.page c.args.at distance)) c.in-None-follower.is c.follower.ensures)
 
 pub returns-in-None : goal.returns-in-None
 returns-in-None c =

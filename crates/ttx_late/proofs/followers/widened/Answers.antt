@@ -16,7 +16,8 @@ returns-then-distance-gap c =
     nearer_widens slots (map page_of c.args.pages.now) c.args.at c.args.gap c.requires.at c.in-Some.id
     (subst (λ o. MatchOption o (HoldsNoId packet) (λ id. HoldsId id packet)) c.in-Some.is c.id_in.ensures)
     c.in-Some-follower.distance
-    (subst (λ o. MatchOption o (IsFollowed (repeated slots) c.in-Some.id (pos c.args.at) → ⊥) (λ distance. IsFollowedIn (repeated slots) c.in-Some.id c.args.at distance)) c.in-Some-follower.is c.follower.ensures)
+    (subst (λ o. MatchOption o (IsFollowed (repeated slots) c.in-Some.id (pos c.args.at) → ⊥)
+    (λ distance. IsFollowedIn (repeated slots) c.in-Some.id c.args.at distance)) c.in-Some-follower.is c.follower.ensures)
     (omega arith)
 
 pub returns-in-Some-place_of : goal.returns-in-Some-place_of
@@ -26,11 +27,13 @@ returns-in-Some-place_of c =
     let id = c.in-Some.id in
     let packet = packet_of (slice_index_or slots c.args.at []) in
     let more = c.if-distance-gap.false in
-    let place = subst (λ o. MatchOption o ((n : ℕ) (p : definitions.Page) → slice_get pages n ≡ Some p → p.id ≡ id → ⊥) (λ n. (p : definitions.Page) × (slice_get pages n ≡ Some p) × (p.id ≡ id))) c.in-Some-place_of.is c.place_of.ensures in
+    let place = subst (λ o. MatchOption o ((n : ℕ) (p : definitions.Page) → slice_get pages n ≡ Some p → p.id ≡ id → ⊥)
+    (λ n. (p : definitions.Page) × (slice_get pages n ≡ Some p) × (p.id ≡ id))) c.in-Some-place_of.is c.place_of.ensures in
     further_widens slots pages c.args.at c.args.gap c.requires.at id
     (subst (λ o. MatchOption o (HoldsNoId packet) (λ own. HoldsId own packet)) c.in-Some.is c.id_in.ensures)
     c.in-Some-follower.distance
-    (subst (λ o. MatchOption o (IsFollowed (repeated slots) id (pos c.args.at) → ⊥) (λ distance. IsFollowedIn (repeated slots) id c.args.at distance)) c.in-Some-follower.is c.follower.ensures)
+    (subst (λ o. MatchOption o (IsFollowed (repeated slots) id (pos c.args.at) → ⊥)
+    (λ distance. IsFollowedIn (repeated slots) id c.args.at distance)) c.in-Some-follower.is c.follower.ensures)
     (omega arith) c.in-Some-place_of.field-0 place.0 place.1 place.2
 
 pub returns-in-None-place_of : goal.returns-in-None-place_of
@@ -41,7 +44,8 @@ returns-in-None-place_of c =
     let packet = packet_of (slice_index_or slots c.args.at []) in
     unlisted_widens slots pages c.args.at c.args.gap c.requires.at id
     (subst (λ o. MatchOption o (HoldsNoId packet) (λ own. HoldsId own packet)) c.in-Some.is c.id_in.ensures)
-    (subst (λ o. MatchOption o ((n : ℕ) (p : definitions.Page) → slice_get pages n ≡ Some p → p.id ≡ id → ⊥) (λ n. (p : definitions.Page) × (slice_get pages n ≡ Some p) × (p.id ≡ id))) c.in-None-place_of.is c.place_of.ensures)
+    (subst (λ o. MatchOption o ((n : ℕ) (p : definitions.Page) → slice_get pages n ≡ Some p → p.id ≡ id → ⊥)
+    (λ n. (p : definitions.Page) × (slice_get pages n ≡ Some p) × (p.id ≡ id))) c.in-None-place_of.is c.place_of.ensures)
 
 pub returns-in-None-follower : goal.returns-in-None-follower
 returns-in-None-follower c =
@@ -50,7 +54,8 @@ returns-in-None-follower c =
     let packet = packet_of (slice_index_or slots c.args.at []) in
     unfollowed_widens slots (map page_of c.args.pages.now) c.args.at c.args.gap c.requires.at id
     (subst (λ o. MatchOption o (HoldsNoId packet) (λ own. HoldsId own packet)) c.in-Some.is c.id_in.ensures)
-    (subst (λ o. MatchOption o (IsFollowed (repeated slots) id (pos c.args.at) → ⊥) (λ distance. IsFollowedIn (repeated slots) id c.args.at distance)) c.in-None-follower.is c.follower.ensures)
+    (subst (λ o. MatchOption o (IsFollowed (repeated slots) id (pos c.args.at) → ⊥)
+    (λ distance. IsFollowedIn (repeated slots) id c.args.at distance)) c.in-None-follower.is c.follower.ensures)
 
 pub returns-in-None : goal.returns-in-None
 returns-in-None c =

@@ -15,6 +15,7 @@ find_more p xs i d old new h e f =
 
 pub loop-slot-preserved : goal.loop-slot-preserved
 loop-slot-preserved c = record {
-  first = λ q. find_more (is_header_of q) c.args.slots.now c.loop-slot.slot-index _ _ _ c.loop-slot-test.true (c.in_ok-keep_first.ensures.first q) (c.loop-slot.invariant.first q);
+  first = λ q. find_more (is_header_of q) c.args.slots.now c.loop-slot.slot-index _ _ _ c.loop-slot-test.true
+      (c.in_ok-keep_first.ensures.first q) (c.loop-slot.invariant.first q);
   pages = c.in_ok-keep_first.ensures.pages c.loop-slot.invariant.pages;
 }

@@ -4,4 +4,5 @@ use Rattle.ttx_pages.specs.Counting.{counted_line}
 use Rattle.ttx_pages.proofs.listing.push_lines.Given as goal
 
 abbrev pub invariant-loop-header : goal.invariant-loop-header
-invariant-loop-header l = string_bytes l.text ++ flat_map (counted_line l.all) (drop l.header-index l.headers) ≡ string_bytes l.initial.text ++ flat_map (counted_line l.all) l.headers
+invariant-loop-header l = string_bytes l.text ++ flat_map (counted_line l.all) (drop l.header-index l.headers)
+    ≡ string_bytes l.initial.text ++ flat_map (counted_line l.all) l.headers

@@ -12,4 +12,5 @@ returns c =
     let same : flat_map (counted_line c.args.all.now) headers ≡ listed_lines slots =
     lines_are slots c.args.all.now headers (record { heads = c.requires.heads; rows = c.requires.rows; links = c.requires.links })
     ∙ ap (λ (hs : List (List ℕ)). flat_map (header_line slots) hs) (c.as_slice.ensures.value ∙ c.in_ok-headers.ensures) in
-    subst (λ (t : List ℕ). OnOk c.push_lines.result (string_bytes c.push_lines.new.text ≡ string_bytes c.args.text.now ++ t)) same c.push_lines.ensures
+    subst (λ (t : List ℕ). OnOk c.push_lines.result (string_bytes c.push_lines.new.text ≡ string_bytes c.args.text.now ++ t)) same
+    c.push_lines.ensures

@@ -27,8 +27,10 @@ returns-clause-steady c = planned_is_steady (below c) c.written_links_are_read.e
 
 pub returns-clause-accepted : goal.returns-clause-accepted
 returns-clause-accepted c =
-    planned_is_accepted (below c) c.written_links_are_read.ensures c.steady_sends_its_own.ensures c.blank_is_tested.ensures c.all_sure_have_starts.ensures c.sure_items_are_accepted.ensures
+    planned_is_accepted (below c) c.written_links_are_read.ensures c.steady_sends_its_own.ensures c.blank_is_tested.ensures
+    c.all_sure_have_starts.ensures c.sure_items_are_accepted.ensures
 
 pub returns-clause-found : goal.returns-clause-found
 returns-clause-found c =
-    planned_is_found (below c) c.written_links_are_read.ensures c.steady_sends_its_own.ensures c.blank_is_tested.ensures c.all_sure_have_starts.ensures c.sure_items_are_accepted.ensures
+    planned_is_found (below c) c.written_links_are_read.ensures c.steady_sends_its_own.ensures c.blank_is_tested.ensures
+    c.all_sure_have_starts.ensures c.sure_items_are_accepted.ensures

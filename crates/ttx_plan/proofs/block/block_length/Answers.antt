@@ -10,7 +10,8 @@ pub returns-else-are_links_sent_to-clause-length : goal.returns-else-are_links_s
 returns-else-are_links_sent_to-clause-length c =
     let last : c.loop-above.above ≡ 24 = omega arith in
     let page = page_of c.args.page.now in
-    let none = cond-false (is_sent_to c.args.class page TheLinks) (page_links_bytes page ∷ []) [] (sym c.are_links_sent_to.ensures ∙ c.if-are_links_sent_to.false) in
+    let none = cond-false (is_sent_to c.args.class page TheLinks) (page_links_bytes page ∷ []) []
+    (sym c.are_links_sent_to.ensures ∙ c.if-are_links_sent_to.false) in
     c.loop-above.invariant.count
     ∙ ap (λ n. length (sent_rows c.args.class page n) + 1) last
     ∙ ap (λ x. length x + 1) (sym (append-nil (sent_rows c.args.class page 24)) ∙ ap (λ x. sent_rows c.args.class page 24 ++ x) (sym none))
@@ -19,7 +20,8 @@ pub returns-then-are_links_sent_to-clause-length : goal.returns-then-are_links_s
 returns-then-are_links_sent_to-clause-length c =
     let last : c.loop-above.above ≡ 24 = omega arith in
     let page = page_of c.args.page.now in
-    let sent = cond-true (is_sent_to c.args.class page TheLinks) (page_links_bytes page ∷ []) [] (sym c.are_links_sent_to.ensures ∙ c.if-are_links_sent_to.true) in
+    let sent = cond-true (is_sent_to c.args.class page TheLinks) (page_links_bytes page ∷ []) []
+    (sym c.are_links_sent_to.ensures ∙ c.if-are_links_sent_to.true) in
     ap (λ n. n + 1)
     (c.loop-above.invariant.count
     ∙ ap (λ n. length (sent_rows c.args.class page n) + 1) last

@@ -14,9 +14,14 @@ returns-clause-rest c =
     let rows : c.loop-above.rest.items ≡ sent_rows c.args.class page 24 = c.loop-above.invariant.rest ∙ ap (sent_rows c.args.class page) last in
     elim c.if-are_links_sent_to.branch [
       | then-are_links_sent_to+in_ok-push-2 w ↦
-          ap (λ x. x.items) w.rest-is ∙ w.in_ok-push-2.ensures.items ∙ ap (λ x. x ++ w.links_packet.result ∷ []) rows ∙ ap (λ x. sent_rows c.args.class page 24 ++ x ∷ []) w.links_packet.ensures
-          ∙ ap (λ x. sent_rows c.args.class page 24 ++ x) (sym (cond-true (is_sent_to c.args.class page TheLinks) (page_links_bytes page ∷ []) [] (sym c.are_links_sent_to.ensures ∙ w.if-are_links_sent_to.true)))
+          ap (λ x. x.items) w.rest-is ∙ w.in_ok-push-2.ensures.items ∙ ap (λ x. x ++ w.links_packet.result ∷ []) rows
+          ∙ ap (λ x. sent_rows c.args.class page 24 ++ x ∷ []) w.links_packet.ensures
+          ∙ ap (λ x. sent_rows c.args.class page 24 ++ x)
+          (sym (cond-true (is_sent_to c.args.class page TheLinks) (page_links_bytes page ∷ []) []
+          (sym c.are_links_sent_to.ensures ∙ w.if-are_links_sent_to.true)))
       | else-are_links_sent_to w ↦
           ap (λ x. x.items) w.rest-is ∙ rows ∙ sym (append-nil (sent_rows c.args.class page 24))
-          ∙ ap (λ x. sent_rows c.args.class page 24 ++ x) (sym (cond-false (is_sent_to c.args.class page TheLinks) (page_links_bytes page ∷ []) [] (sym c.are_links_sent_to.ensures ∙ w.if-are_links_sent_to.false)))
+          ∙ ap (λ x. sent_rows c.args.class page 24 ++ x)
+          (sym (cond-false (is_sent_to c.args.class page TheLinks) (page_links_bytes page ∷ []) []
+          (sym c.are_links_sent_to.ensures ∙ w.if-are_links_sent_to.false)))
     ]

@@ -17,8 +17,10 @@ loop-index-preserved c =
     let some = blocks_of c.args.receivers.class (take c.loop-index.index c.args.service.now.pages) in
     let round = c.loop-round.round in
     let latest = c.loop-index.fillers.latest in
-    let value = get_there c.pages-pages.result.now c.loop-index.index c.index-pages-index.result c.index-pages-index.result (omega arith) c.index-pages-index.is in
-    let page = page_at_index c.pages-pages.result.now c.args.service.now.pages c.loop-index.index c.times.result c.index-pages-index.result c.pages-pages.ensures.value value c.times.ensures.value in
+    let value = get_there c.pages-pages.result.now c.loop-index.index c.index-pages-index.result c.index-pages-index.result
+    (omega arith) c.index-pages-index.is in
+    let page = page_at_index c.pages-pages.result.now c.args.service.now.pages c.loop-index.index c.times.result
+    c.index-pages-index.result c.pages-pages.ensures.value value c.times.ensures.value in
     let authored = authored_at (page_of c.index-pages-index.result) c.times.result in
     let block = block_at c.args.receivers.class authored in
     let more = blocks_next c.args.receivers.class c.args.service.now.pages c.loop-index.index authored page in
@@ -31,11 +33,16 @@ loop-index-preserved c =
           let below : block.queue < 8 = omega (arith, w.mag.ensures.ranges.mag_from, w.mag.ensures.ranges.mag_to, ap (λ x. x.mag) c.id-id.ensures) in
           let filler = w.pass.ensures.filler ∙ ap (λ b. b && eqb (get_or latest (w.from.result - 1) 0) w.page.result) c.loop-index.invariant.late
           ∙ ap (λ n. late && eqb (get_or latest n 0) w.page.result) queue ∙ ap (λ n. late && eqb (get_or latest block.queue 0) n) number in
-          let passed = ap (λ x. x.latest) w.fillers-is ∙ ap (λ x. x.latest) w.pass.ensures.passed ∙ ap (λ n. set latest n w.page.result) queue ∙ ap (λ n. set latest block.queue n) number in
+          let passed = ap (λ x. x.latest) w.fillers-is ∙ ap (λ x. x.latest) w.pass.ensures.passed
+          ∙ ap (λ n. set latest n w.page.result) queue ∙ ap (λ n. set latest block.queue n) number in
           record {
-            count = w.count-is ∙ count_then c.args.receivers.late all some _ round block true latest c.loop-index.count more below w.if-round-times-eq0.true c.loop-index.invariant.latest (sym w.if-pass.true ∙ filler) c.loop-index.invariant.count;
+            count = w.count-is ∙ count_then c.args.receivers.late all some _ round block true latest c.loop-index.count more below
+                w.if-round-times-eq0.true c.loop-index.invariant.latest
+                (sym w.if-pass.true ∙ filler) c.loop-index.invariant.count;
             late = ap (λ x. x.late) w.fillers-is ∙ ap (λ x. x.late) w.pass.ensures.passed ∙ c.loop-index.invariant.late;
-            latest = subst (λ x. KeepsLatest x (rounds_to all round ++ round_of (blocks_of c.args.receivers.class (take (c.loop-index.index + 1) c.args.service.now.pages)) round)) (sym passed)
+            latest = subst (λ x. KeepsLatest x
+                (rounds_to all round ++ round_of
+                (blocks_of c.args.receivers.class (take (c.loop-index.index + 1) c.args.service.now.pages)) round)) (sym passed)
                 (keeps_then all some _ round block latest more below w.if-round-times-eq0.true c.loop-index.invariant.latest);
             few = omega (arith, w.count-is, c.loop-index.invariant.few);
           }
@@ -46,11 +53,16 @@ loop-index-preserved c =
           let below : block.queue < 8 = omega (arith, w.mag.ensures.ranges.mag_from, w.mag.ensures.ranges.mag_to, ap (λ x. x.mag) c.id-id.ensures) in
           let filler = w.pass.ensures.filler ∙ ap (λ b. b && eqb (get_or latest (w.from.result - 1) 0) w.page.result) c.loop-index.invariant.late
           ∙ ap (λ n. late && eqb (get_or latest n 0) w.page.result) queue ∙ ap (λ n. late && eqb (get_or latest block.queue 0) n) number in
-          let passed = ap (λ x. x.latest) w.fillers-is ∙ ap (λ x. x.latest) w.pass.ensures.passed ∙ ap (λ n. set latest n w.page.result) queue ∙ ap (λ n. set latest block.queue n) number in
+          let passed = ap (λ x. x.latest) w.fillers-is ∙ ap (λ x. x.latest) w.pass.ensures.passed
+          ∙ ap (λ n. set latest n w.page.result) queue ∙ ap (λ n. set latest block.queue n) number in
           record {
-            count = w.count-is ∙ sym none ∙ count_then c.args.receivers.late all some _ round block false latest c.loop-index.count more below w.if-round-times-eq0.true c.loop-index.invariant.latest (sym w.if-pass.false ∙ filler) c.loop-index.invariant.count;
+            count = w.count-is ∙ sym none ∙ count_then c.args.receivers.late all some _ round block false latest c.loop-index.count more
+                below w.if-round-times-eq0.true c.loop-index.invariant.latest
+                (sym w.if-pass.false ∙ filler) c.loop-index.invariant.count;
             late = ap (λ x. x.late) w.fillers-is ∙ ap (λ x. x.late) w.pass.ensures.passed ∙ c.loop-index.invariant.late;
-            latest = subst (λ x. KeepsLatest x (rounds_to all round ++ round_of (blocks_of c.args.receivers.class (take (c.loop-index.index + 1) c.args.service.now.pages)) round)) (sym passed)
+            latest = subst (λ x. KeepsLatest x
+                (rounds_to all round ++ round_of
+                (blocks_of c.args.receivers.class (take (c.loop-index.index + 1) c.args.service.now.pages)) round)) (sym passed)
                 (keeps_then all some _ round block latest more below w.if-round-times-eq0.true c.loop-index.invariant.latest);
             few = omega (arith, w.count-is, c.loop-index.invariant.few);
           }
@@ -59,7 +71,10 @@ loop-index-preserved c =
           record {
             count = w.count-is ∙ c.loop-index.invariant.count ∙ ap (λ x. fillers_in (with_fillers c.args.receivers.late [] x)) same;
             late = ap (λ x. x.late) w.fillers-is ∙ c.loop-index.invariant.late;
-            latest = subst (λ x. KeepsLatest x.latest (rounds_to all round ++ round_of (blocks_of c.args.receivers.class (take (c.loop-index.index + 1) c.args.service.now.pages)) round)) (sym w.fillers-is)
+            latest = subst (λ x. KeepsLatest x.latest
+                (rounds_to all round ++ round_of
+                (blocks_of c.args.receivers.class (take (c.loop-index.index + 1) c.args.service.now.pages)) round))
+                (sym w.fillers-is)
                 (subst (KeepsLatest latest) same c.loop-index.invariant.latest);
             few = omega (arith, w.count-is, c.loop-index.invariant.few);
           }

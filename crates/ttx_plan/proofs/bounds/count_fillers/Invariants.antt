@@ -15,8 +15,12 @@ invariant-loop-round l = record {
 
 abbrev pub invariant-loop-index : goal.invariant-loop-index
 invariant-loop-index l = record {
-  count : l.count ≡ fillers_in (with_fillers l.fn.receivers.late [] (rounds_to (blocks_of l.fn.receivers.class l.service.pages) l.round ++ round_of (blocks_of l.fn.receivers.class (take l.index l.service.pages)) l.round));
+  count : l.count ≡ fillers_in (with_fillers l.fn.receivers.late []
+      (rounds_to (blocks_of l.fn.receivers.class l.service.pages) l.round
+      ++ round_of (blocks_of l.fn.receivers.class (take l.index l.service.pages)) l.round));
   late : l.fillers.late ≡ l.fn.receivers.late;
-  latest : KeepsLatest l.fillers.latest (rounds_to (blocks_of l.fn.receivers.class l.service.pages) l.round ++ round_of (blocks_of l.fn.receivers.class (take l.index l.service.pages)) l.round);
+  latest : KeepsLatest l.fillers.latest
+      (rounds_to (blocks_of l.fn.receivers.class l.service.pages) l.round
+      ++ round_of (blocks_of l.fn.receivers.class (take l.index l.service.pages)) l.round);
   few : l.count ≤ 2000 * l.round + l.index;
 }

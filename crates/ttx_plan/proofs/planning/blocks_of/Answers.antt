@@ -9,16 +9,22 @@ use Rattle.ttx_plan.proofs.planning.blocks_of.Goals as goal
 
 pub new-requires : goal.new-requires
 new-requires c =
-    let value = get_there c.pages-pages.result.now c.loop-index.index c.index-pages-index.result c.index-pages-index.result (omega arith) c.index-pages-index.is in
-    let page = page_at_index c.pages-pages.result.now c.args.service.now.pages c.loop-index.index c.often-often.result c.index-pages-index.result c.pages-pages.ensures.value value c.often-often.ensures in
-    often_at c.args.service.now.serial c.args.service.now.pages c.loop-index.index (authored_at (page_of c.index-pages-index.result) c.often-often.result) c.pages-pages.ensures.ranges.pages page
+    let value = get_there c.pages-pages.result.now c.loop-index.index c.index-pages-index.result c.index-pages-index.result
+    (omega arith) c.index-pages-index.is in
+    let page = page_at_index c.pages-pages.result.now c.args.service.now.pages c.loop-index.index c.often-often.result
+    c.index-pages-index.result c.pages-pages.ensures.value value c.often-often.ensures in
+    often_at c.args.service.now.serial c.args.service.now.pages c.loop-index.index
+    (authored_at (page_of c.index-pages-index.result) c.often-often.result) c.pages-pages.ensures.ranges.pages page
 
 pub loop-index-preserved : goal.loop-index-preserved
 loop-index-preserved c =
-    let value = get_there c.pages-pages.result.now c.loop-index.index c.index-pages-index.result c.index-pages-index.result (omega arith) c.index-pages-index.is in
-    let page = page_at_index c.pages-pages.result.now c.args.service.now.pages c.loop-index.index c.often-often.result c.index-pages-index.result c.pages-pages.ensures.value value c.often-often.ensures in
+    let value = get_there c.pages-pages.result.now c.loop-index.index c.index-pages-index.result c.index-pages-index.result
+    (omega arith) c.index-pages-index.is in
+    let page = page_at_index c.pages-pages.result.now c.args.service.now.pages c.loop-index.index c.often-often.result
+    c.index-pages-index.result c.pages-pages.ensures.value value c.often-often.ensures in
     ap (map seen) c.in_ok-push.ensures.items
     ∙ map-append seen c.loop-index.blocks.items (c.in_ok-new.field-0 ∷ [])
     ∙ ap (λ x. x ++ seen c.in_ok-new.field-0 ∷ []) c.loop-index.invariant
     ∙ ap (λ x. blocks_of c.args.class (take c.loop-index.index c.args.service.now.pages) ++ x ∷ []) c.in_ok-new.ensures
-    ∙ sym (blocks_next c.args.class c.args.service.now.pages c.loop-index.index (authored_at (page_of c.index-pages-index.result) c.often-often.result) page)
+    ∙ sym (blocks_next c.args.class c.args.service.now.pages c.loop-index.index
+    (authored_at (page_of c.index-pages-index.result) c.often-often.result) page)

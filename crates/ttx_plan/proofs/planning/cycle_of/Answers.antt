@@ -7,7 +7,8 @@ use Rattle.ttx_plan.proofs.planning.cycle_of.Goals as goal
 
 pub cycle_slots-requires : goal.cycle_slots-requires
 cycle_slots-requires c =
-    let blocks : map seen c.deref.result.now ≡ blocks_of c.args.receivers.class c.args.service.now.pages = ap (map seen) c.deref.ensures.value ∙ c.in_ok-blocks.ensures in
+    let blocks : map seen c.deref.result.now ≡ blocks_of c.args.receivers.class c.args.service.now.pages =
+    ap (map seen) c.deref.ensures.value ∙ c.in_ok-blocks.ensures in
     let sent : map seen_sent c.deref-2.result.now ≡ blocks_sent c.args.receivers.late c.args.receivers.class c.args.service.now.pages =
     ap (map seen_sent) c.deref-2.ensures.value ∙ c.in_ok-sent.ensures ∙ ap (sent_blocks c.args.receivers.late) blocks in
     let lines : c.from-lines.result ≡ c.args.service.now.lines = c.from-lines.ensures ∙ c.lines.ensures.value in
@@ -19,7 +20,8 @@ cycle_slots-requires c =
 
 pub is_planned-requires : goal.is_planned-requires
 is_planned-requires c =
-    let blocks : map seen c.deref.result.now ≡ blocks_of c.args.receivers.class c.args.service.now.pages = ap (map seen) c.deref.ensures.value ∙ c.in_ok-blocks.ensures in
+    let blocks : map seen c.deref.result.now ≡ blocks_of c.args.receivers.class c.args.service.now.pages =
+    ap (map seen) c.deref.ensures.value ∙ c.in_ok-blocks.ensures in
     let sent : map seen_sent c.deref-2.result.now ≡ blocks_sent c.args.receivers.late c.args.receivers.class c.args.service.now.pages =
     ap (map seen_sent) c.deref-2.ensures.value ∙ c.in_ok-sent.ensures ∙ ap (sent_blocks c.args.receivers.late) blocks in
     let lines : c.from-lines.result ≡ c.args.service.now.lines = c.from-lines.ensures ∙ c.lines.ensures.value in

@@ -16,26 +16,38 @@ cycle_of-requires c = record {
 
 pub returns-in-Err : goal.returns-in-Err
 returns-in-Err c =
-    let few : length_bound c.args.service.now.lines (blocks_sent c.args.receivers.late c.args.receivers.class c.args.service.now.pages) ≤ 65536 = subst (λ n. n ≤ 65536) c.length_bound.ensures c.if-length_bound-gt-MOST.false in
+    let few : length_bound c.args.service.now.lines (blocks_sent c.args.receivers.late c.args.receivers.class c.args.service.now.pages)
+    ≤ 65536 = subst (λ n. n ≤ 65536) c.length_bound.ensures c.if-length_bound-gt-MOST.false in
     record {
       carries = tt;
       planned = tt;
       accepted = tt;
       followed = tt;
-      no_pages = is_not_told (Err NoMemory) (Err NoPages) memory_is_not_pages (some_alike c.pages.result.now c.args.service.now.pages c.pages.ensures.count (sym c.if-is_empty.false ∙ c.is_empty.ensures));
-      too_long = is_not_told (Err NoMemory) (Err TooLong) memory_is_not_long (λ (long : 65536 < length_bound c.args.service.now.lines (blocks_sent c.args.receivers.late c.args.receivers.class c.args.service.now.pages)). omega (arith, few, long));
+      no_pages = is_not_told (Err NoMemory) (Err NoPages) memory_is_not_pages
+          (some_alike c.pages.result.now c.args.service.now.pages c.pages.ensures.count
+          (sym c.if-is_empty.false ∙ c.is_empty.ensures));
+      too_long = is_not_told (Err NoMemory) (Err TooLong) memory_is_not_long
+          (λ (long : 65536 < length_bound c.args.service.now.lines
+          (blocks_sent c.args.receivers.late c.args.receivers.class c.args.service.now.pages)). omega (arith, few, long));
     }
 
 pub returns-in-Ok : goal.returns-in-Ok
 returns-in-Ok c =
-    let few : length_bound c.args.service.now.lines (blocks_sent c.args.receivers.late c.args.receivers.class c.args.service.now.pages) ≤ 65536 = subst (λ n. n ≤ 65536) c.length_bound.ensures c.if-length_bound-gt-MOST.false in
+    let few : length_bound c.args.service.now.lines (blocks_sent c.args.receivers.late c.args.receivers.class c.args.service.now.pages)
+    ≤ 65536 = subst (λ n. n ≤ 65536) c.length_bound.ensures c.if-length_bound-gt-MOST.false in
     record {
       carries = c.in-Ok.ensures.carries;
       planned = c.in-Ok.ensures;
-      accepted = c.planned_cycles_are_accepted.ensures.accepted c.args.receivers.late c.args.receivers.class c.args.service.now (slots_of c.in-Ok.cycle) c.in-Ok.ensures;
-      followed = λ late. c.late_cycles_are_followed.ensures c.args.receivers.class c.args.service.now (slots_of c.in-Ok.cycle) (subst (λ b. IsPlanned b c.args.receivers.class c.args.service.now (slots_of c.in-Ok.cycle)) late c.in-Ok.ensures);
-      no_pages = is_not_told (Ok c.in-Ok.cycle) (Err NoPages) (ok_is_other c.in-Ok.cycle NoPages) (some_alike c.pages.result.now c.args.service.now.pages c.pages.ensures.count (sym c.if-is_empty.false ∙ c.is_empty.ensures));
-      too_long = is_not_told (Ok c.in-Ok.cycle) (Err TooLong) (ok_is_other c.in-Ok.cycle TooLong) (λ (long : 65536 < length_bound c.args.service.now.lines (blocks_sent c.args.receivers.late c.args.receivers.class c.args.service.now.pages)). omega (arith, few, long));
+      accepted = c.planned_cycles_are_accepted.ensures.accepted c.args.receivers.late c.args.receivers.class c.args.service.now
+          (slots_of c.in-Ok.cycle) c.in-Ok.ensures;
+      followed = λ late. c.late_cycles_are_followed.ensures c.args.receivers.class c.args.service.now (slots_of c.in-Ok.cycle)
+          (subst (λ b. IsPlanned b c.args.receivers.class c.args.service.now (slots_of c.in-Ok.cycle)) late c.in-Ok.ensures);
+      no_pages = is_not_told (Ok c.in-Ok.cycle) (Err NoPages) (ok_is_other c.in-Ok.cycle NoPages)
+          (some_alike c.pages.result.now c.args.service.now.pages c.pages.ensures.count
+          (sym c.if-is_empty.false ∙ c.is_empty.ensures));
+      too_long = is_not_told (Ok c.in-Ok.cycle) (Err TooLong) (ok_is_other c.in-Ok.cycle TooLong)
+          (λ (long : 65536 < length_bound c.args.service.now.lines
+          (blocks_sent c.args.receivers.late c.args.receivers.class c.args.service.now.pages)). omega (arith, few, long));
     }
 
 pub returns-then-is_empty : goal.returns-then-is_empty
@@ -47,7 +59,9 @@ returns-then-is_empty c =
       accepted = tt;
       followed = tt;
       no_pages = is_told (Err NoPages) (Err NoPages) refl none;
-      too_long = is_not_told (Err NoPages) (Err TooLong) pages_are_not_long (bound_of_none c.args.receivers.late c.args.receivers.class c.args.service.now.lines c.args.service.now.pages c.pages.ensures.ranges.lines_to none);
+      too_long = is_not_told (Err NoPages) (Err TooLong) pages_are_not_long
+          (bound_of_none c.args.receivers.late c.args.receivers.class c.args.service.now.lines c.args.service.now.pages
+          c.pages.ensures.ranges.lines_to none);
     }
 
 pub returns-then-length_bound-gt-MOST : goal.returns-then-length_bound-gt-MOST
@@ -56,6 +70,8 @@ returns-then-length_bound-gt-MOST c = record {
   planned = tt;
   accepted = tt;
   followed = tt;
-  no_pages = is_not_told (Err TooLong) (Err NoPages) long_is_not_pages (some_alike c.pages.result.now c.args.service.now.pages c.pages.ensures.count (sym c.if-is_empty.false ∙ c.is_empty.ensures));
+  no_pages = is_not_told (Err TooLong) (Err NoPages) long_is_not_pages
+      (some_alike c.pages.result.now c.args.service.now.pages c.pages.ensures.count
+      (sym c.if-is_empty.false ∙ c.is_empty.ensures));
   too_long = is_told (Err TooLong) (Err TooLong) refl (subst (λ n. 65536 < n) c.length_bound.ensures c.if-length_bound-gt-MOST.true);
 }

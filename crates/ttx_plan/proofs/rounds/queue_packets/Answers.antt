@@ -15,22 +15,32 @@ returns c =
     let of_blocks : List Packet = flat_map (λ b. if b.queue == c.args.queue then packets_of false b else []) (map seen_sent c.args.sent.now) in
     let sent : c.loop-block.packets.items ≡ of_blocks =
     c.loop-block.invariant
-    ∙ ap (λ x. flat_map (λ b. if b.queue == c.args.queue then packets_of false b else []) (map seen_sent x)) (take_all c.loop-block.block-index c.args.sent.now (omega arith)) in
+    ∙ ap (λ x. flat_map (λ b. if b.queue == c.args.queue then packets_of false b else []) (map seen_sent x))
+    (take_all c.loop-block.block-index c.args.sent.now (omega arith)) in
     elim c.if-has_pages.branch [
       | then-has_pages+in_ok-push w ↦
-          ap (λ x. x.items) w.packets-is ∙ w.in_ok-push.ensures.items ∙ ap (λ x. x ++ w.time_filling.result ∷ []) sent ∙ ap (λ x. of_blocks ++ x ∷ []) w.time_filling.ensures
-          ∙ ap (λ x. of_blocks ++ x) (sym (cond-true (has_pages (map seen_sent c.args.sent.now) c.args.queue) (time_filling_packet false c.args.queue ∷ []) [] (sym (any_seen _ c.args.sent.now) ∙ sym c.has_pages.ensures ∙ w.if-has_pages.true)))
+          ap (λ x. x.items) w.packets-is ∙ w.in_ok-push.ensures.items ∙ ap (λ x. x ++ w.time_filling.result ∷ []) sent
+          ∙ ap (λ x. of_blocks ++ x ∷ []) w.time_filling.ensures
+          ∙ ap (λ x. of_blocks ++ x) (sym
+          (cond-true (has_pages (map seen_sent c.args.sent.now) c.args.queue) (time_filling_packet false c.args.queue ∷ []) []
+          (sym (any_seen _ c.args.sent.now) ∙ sym c.has_pages.ensures ∙ w.if-has_pages.true)))
       | else-has_pages w ↦
           ap (λ x. x.items) w.packets-is ∙ sent ∙ sym (append-nil of_blocks)
-          ∙ ap (λ x. of_blocks ++ x) (sym (cond-false (has_pages (map seen_sent c.args.sent.now) c.args.queue) (time_filling_packet false c.args.queue ∷ []) [] (sym (any_seen _ c.args.sent.now) ∙ sym c.has_pages.ensures ∙ w.if-has_pages.false)))
+          ∙ ap (λ x. of_blocks ++ x) (sym
+          (cond-false (has_pages (map seen_sent c.args.sent.now) c.args.queue)
+          (time_filling_packet false c.args.queue ∷ []) []
+          (sym (any_seen _ c.args.sent.now) ∙ sym c.has_pages.ensures ∙ w.if-has_pages.false)))
     ]
 
 pub loop-block-preserved : goal.loop-block-preserved
 loop-block-preserved c = elim c.if-block-queue.branch [
   | then-block-queue+in_ok-push_block w ↦
-      ap (λ x. x.items) w.packets-is ∙ w.in_ok-push_block.ensures ∙ ap (λ x. x ++ packets_of false (seen_sent c.block-item.result)) c.loop-block.invariant
-      ∙ own_more c.args.queue c.args.sent.now c.loop-block.block-index c.block-item.result c.loop-block-test.true c.block-item.is w.if-block-queue.true
+      ap (λ x. x.items) w.packets-is ∙ w.in_ok-push_block.ensures
+      ∙ ap (λ x. x ++ packets_of false (seen_sent c.block-item.result)) c.loop-block.invariant
+      ∙ own_more c.args.queue c.args.sent.now c.loop-block.block-index c.block-item.result c.loop-block-test.true c.block-item.is
+      w.if-block-queue.true
   | else-block-queue w ↦
       ap (λ x. x.items) w.packets-is ∙ c.loop-block.invariant
-      ∙ other_more c.args.queue c.args.sent.now c.loop-block.block-index c.block-item.result c.loop-block-test.true c.block-item.is w.if-block-queue.false
+      ∙ other_more c.args.queue c.args.sent.now c.loop-block.block-index c.block-item.result c.loop-block-test.true c.block-item.is
+      w.if-block-queue.false
 ]

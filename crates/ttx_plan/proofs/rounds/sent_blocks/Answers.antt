@@ -17,17 +17,25 @@ loop-block-preserved c =
       | then-round-block-eq0+in_ok-push w ↦ record {
         sent = ap (λ x. map seen_sent x.items) w.sent-is ∙ ap (map seen_sent) w.in_ok-push.ensures.items
             ∙ map-append seen_sent c.loop-block.sent.items (_ ∷ [])
-            ∙ sent_then c.args.late all some _ round (seen block) w.pass-filler.result c.loop-block.fillers.latest (map seen_sent c.loop-block.sent.items) more block.queue_to w.if-round-block-eq0.true
-            c.loop-block.invariant.latest (w.pass-filler.ensures.filler ∙ ap (λ b. b && eqb (get_or c.loop-block.fillers.latest block.queue 0) block.page) c.loop-block.invariant.late) c.loop-block.invariant.sent;
+            ∙ sent_then c.args.late all some _ round (seen block) w.pass-filler.result c.loop-block.fillers.latest
+            (map seen_sent c.loop-block.sent.items) more block.queue_to w.if-round-block-eq0.true
+            c.loop-block.invariant.latest (w.pass-filler.ensures.filler
+            ∙ ap (λ b. b && eqb (get_or c.loop-block.fillers.latest block.queue 0) block.page) c.loop-block.invariant.late)
+            c.loop-block.invariant.sent;
         late = ap (λ x. x.late) w.fillers-is ∙ ap (λ x. x.late) w.pass-filler.ensures.passed ∙ c.loop-block.invariant.late;
-        latest = subst (λ x. KeepsLatest x (rounds_to all round ++ round_of (map seen (take (c.loop-block.block-index + 1) c.args.blocks.now)) round)) (sym (ap (λ x. x.latest) w.fillers-is ∙ ap (λ x. x.latest) w.pass-filler.ensures.passed))
-            (keeps_then all some _ round (seen block) c.loop-block.fillers.latest more block.queue_to w.if-round-block-eq0.true c.loop-block.invariant.latest);
+        latest = subst (λ x. KeepsLatest x
+            (rounds_to all round ++ round_of (map seen (take (c.loop-block.block-index + 1) c.args.blocks.now)) round))
+            (sym (ap (λ x. x.latest) w.fillers-is ∙ ap (λ x. x.latest) w.pass-filler.ensures.passed))
+            (keeps_then all some _ round (seen block) c.loop-block.fillers.latest more block.queue_to w.if-round-block-eq0.true
+            c.loop-block.invariant.latest);
       }
       | else-round-block-eq0 w ↦
           let same = list_else all some _ round (seen block) more w.if-round-block-eq0.false in
           record {
             sent = ap (λ x. map seen_sent x.items) w.sent-is ∙ c.loop-block.invariant.sent ∙ ap (with_fillers c.args.late []) same;
             late = ap (λ x. x.late) w.fillers-is ∙ c.loop-block.invariant.late;
-            latest = subst (λ x. KeepsLatest x.latest (rounds_to all round ++ round_of (map seen (take (c.loop-block.block-index + 1) c.args.blocks.now)) round)) (sym w.fillers-is) (subst (KeepsLatest c.loop-block.fillers.latest) same c.loop-block.invariant.latest);
+            latest = subst (λ x. KeepsLatest x.latest
+                (rounds_to all round ++ round_of (map seen (take (c.loop-block.block-index + 1) c.args.blocks.now)) round))
+                (sym w.fillers-is) (subst (KeepsLatest c.loop-block.fillers.latest) same c.loop-block.invariant.latest);
           }
     ]

@@ -13,7 +13,8 @@ invariant-loop-round l = record {
 
 abbrev pub invariant-loop-block : goal.invariant-loop-block
 invariant-loop-block l = record {
-  sent : map seen_sent l.sent.items ≡ with_fillers l.late [] (rounds_to (map seen l.blocks) l.round ++ round_of (map seen (take l.block-index l.blocks)) l.round);
+  sent : map seen_sent l.sent.items ≡ with_fillers l.late []
+      (rounds_to (map seen l.blocks) l.round ++ round_of (map seen (take l.block-index l.blocks)) l.round);
   late : l.fillers.late ≡ l.late;
   latest : KeepsLatest l.fillers.latest (rounds_to (map seen l.blocks) l.round ++ round_of (map seen (take l.block-index l.blocks)) l.round);
 }

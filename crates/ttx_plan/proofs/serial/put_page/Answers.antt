@@ -21,11 +21,15 @@ loop-bytes-init c = λ list laid.
 pub loop-bytes-preserved : goal.loop-bytes-preserved
 loop-bytes-preserved c = λ list laid.
     laid_same c.args.lines c.args.info _ _ c.put-in-loop-bytes.new.slots.items
-    (others_more list (Sent c.args.block.now.queue (header_packet c.args.block.now.header)) (replicate c.args.lines Empty) (λ bytes. Sent c.args.block.now.queue (rest_packet bytes)) c.args.block.now.rest.items c.deref-bytes-items.result.now c.loop-bytes.bytes-index [] c.deref-bytes-items.ensures.value c.loop-bytes-test.true)
+    (others_more list (Sent c.args.block.now.queue (header_packet c.args.block.now.header)) (replicate c.args.lines Empty)
+    (λ bytes. Sent c.args.block.now.queue (rest_packet bytes)) c.args.block.now.rest.items c.deref-bytes-items.result.now
+    c.loop-bytes.bytes-index [] c.deref-bytes-items.ensures.value c.loop-bytes-test.true)
     (c.in_ok-put-3.ensures _ (c.loop-bytes.invariant list laid))
 
 pub returns : goal.returns
 returns c = λ list laid.
     laid_same c.args.lines c.args.info _ _ c.loop-bytes.slots.items
-    (others_end list (Sent c.args.block.now.queue (header_packet c.args.block.now.header)) (replicate c.args.lines Empty) (λ bytes. Sent c.args.block.now.queue (rest_packet bytes)) c.args.block.now.rest.items c.deref-bytes-items.result.now c.loop-bytes.bytes-index c.deref-bytes-items.ensures.value c.loop-bytes-test.false)
+    (others_end list (Sent c.args.block.now.queue (header_packet c.args.block.now.header)) (replicate c.args.lines Empty)
+    (λ bytes. Sent c.args.block.now.queue (rest_packet bytes)) c.args.block.now.rest.items c.deref-bytes-items.result.now
+    c.loop-bytes.bytes-index c.deref-bytes-items.ensures.value c.loop-bytes-test.false)
     (c.loop-bytes.invariant list laid)

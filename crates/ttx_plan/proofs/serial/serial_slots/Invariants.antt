@@ -10,4 +10,6 @@ abbrev pub invariant-loop-block : goal.invariant-loop-block
 invariant-loop-block l = IsLaid l.lines l.info (flat_map (serial_block l.lines) (map seen_sent (take l.block-index l.sent))) l.slots.items
 
 abbrev pub invariant-loop-queue : goal.invariant-loop-queue
-invariant-loop-queue l = IsLaid l.lines l.info (flat_map (serial_block l.lines) (map seen_sent l.sent) ++ map (λ queue. Sent queue (time_filling_packet true queue)) (used_to (map seen_sent l.sent) l.queue)) l.slots.items
+invariant-loop-queue l = IsLaid l.lines l.info
+    (flat_map (serial_block l.lines) (map seen_sent l.sent)
+    ++ map (λ queue. Sent queue (time_filling_packet true queue)) (used_to (map seen_sent l.sent) l.queue)) l.slots.items

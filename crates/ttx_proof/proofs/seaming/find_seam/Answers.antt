@@ -23,10 +23,17 @@ returns-in-Some c =
     let s = splice_between c.args.sides.now in
     let p = page_of c.index-pages-place.result in
     let at = page_at c.args.sides.now.new.pages.now c.loop-place.place c.index-pages-place.result c.loop-place-test.true c.index-pages-place.is in
-    let told = subst (TellsSeamOf s p) c.in-Some.is (c.seam_of.ensures (contains_at s.new_pages c.loop-place.place p at)) in
-    (p, c.id-page.ensures, first_common s (λ q. HasSeam s q → ⊥) c.loop-place.place (HasSeam s) (λ q f h. f h) p at told.0 (pos c.in-Some.slot, told.1.here) c.loop-place.invariant, told.1)
+    let told = subst (TellsSeamOf s p) c.in-Some.is (c.seam_of.ensures (contains_at s.new_pages c.loop-place.place p at)) in (
+      p,
+      c.id-page.ensures,
+      first_common s (λ q. HasSeam s q → ⊥) c.loop-place.place (HasSeam s) (λ q f h. f h) p at told.0
+          (pos c.in-Some.slot, told.1.here) c.loop-place.invariant,
+      told.1,
+    )
 
 pub returns : goal.returns
 returns c =
     let s = splice_between c.args.sides.now in
-    all_common s (λ q. HasSeam s q → ⊥) c.loop-place.place (let l = length-map c.args.sides.now.new.pages.now page_of in let t = c.loop-place-test.false in omega arith) c.loop-place.invariant
+    all_common s (λ q. HasSeam s q → ⊥) c.loop-place.place
+    (let l = length-map c.args.sides.now.new.pages.now page_of in let t = c.loop-place-test.false in omega arith)
+    c.loop-place.invariant

@@ -9,4 +9,5 @@ returns c =
     let cycle = c.slots-slots.result.now in
     let e = c.slots-slots.ensures.slots in
     let lt = subst (λ s. c.args.back < length s) (sym e) c.requires in
-    c.heads_page.ensures ∙ ap (λ x. heads_page c.args.page (packet_of x)) (sym (back_is cycle c.args.page.mag c.args.back lt)) ∙ ap (λ s. heads_page c.args.page (packet_of (repeated s (negsuc c.args.back)))) e
+    c.heads_page.ensures ∙ ap (λ x. heads_page c.args.page (packet_of x)) (sym (back_is cycle c.args.page.mag c.args.back lt))
+    ∙ ap (λ s. heads_page c.args.page (packet_of (repeated s (negsuc c.args.back)))) e

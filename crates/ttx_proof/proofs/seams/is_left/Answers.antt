@@ -19,4 +19,5 @@ returns-in-None c =
     let is = c.mag.ensures.ranges in
     let m : page.mag ≡ c.from.result = sym (c.from.ensures ∙ c.mag.ensures.value) in
     let at : get_or c.args.latest.now (page.mag - 1) None ≡ None = ap (λ n. get_or c.args.latest.now (n - 1) None) m ∙ c.in-None.is in
-    left_to_none (slots_of c.args.old.now) page (subst (TellsLatest (slots_of c.args.old.now) page.mag) at (c.requires page.mag is.mag_from is.mag_to))
+    left_to_none (slots_of c.args.old.now) page
+    (subst (TellsLatest (slots_of c.args.old.now) page.mag) at (c.requires page.mag is.mag_from is.mag_to))

@@ -11,12 +11,15 @@ returns-then-are_wrong_links c = ((λ y. (TheLinks, c.are_wrong_links.ensures.0 
 
 pub returns-in-Some : goal.returns-in-Some
 returns-in-Some c =
-    let none : IsWrongAs (page_of c.args.page.now) c.args.slot.now TheLinks → ⊥ = λ v. both_ways _ c.if-are_wrong_links.false (c.are_wrong_links.ensures.1 v) in (
+    let none : IsWrongAs (page_of c.args.page.now) c.args.slot.now TheLinks → ⊥ = λ v.
+    both_ways _ c.if-are_wrong_links.false (c.are_wrong_links.ensures.1 v) in (
       (λ y. (TheRow c.in-Some.at.number, c.is_wrong_row.ensures.0 y)),
-      (λ w. c.is_wrong_row.ensures.1 (only_row (page_of c.args.page.now) c.args.slot.now c.in-Some.at.mag c.in-Some.at.number _ c.in-Some.ensures none w)),
+      (λ w. c.is_wrong_row.ensures.1
+          (only_row (page_of c.args.page.now) c.args.slot.now c.in-Some.at.mag c.in-Some.at.number _ c.in-Some.ensures none w)),
     )
 
 pub returns-in-None : goal.returns-in-None
 returns-in-None c =
-    let none : IsWrongAs (page_of c.args.page.now) c.args.slot.now TheLinks → ⊥ = λ v. both_ways _ c.if-are_wrong_links.false (c.are_wrong_links.ensures.1 v) in
+    let none : IsWrongAs (page_of c.args.page.now) c.args.slot.now TheLinks → ⊥ = λ v.
+    both_ways _ c.if-are_wrong_links.false (c.are_wrong_links.ensures.1 v) in
     ((λ y. absurd (both_ways false refl y)), (λ w. absurd (only_links (page_of c.args.page.now) c.args.slot.now c.in-None.ensures none w)))

@@ -11,7 +11,8 @@ returns-in-Some c = λ known.
 pub returns-in-Some-2 : goal.returns-in-Some-2
 returns-in-Some-2 c = λ known.
     let s = splice_between c.args.sides.now in
-    late_refused s known (subst (TellsSeams s) c.in_default.is c.find_seam.ensures) c.in-Some-2.reason (subst (TellsLates s) c.in-Some-2.is (c.in_ok-reason.ensures known))
+    late_refused s known (subst (TellsSeams s) c.in_default.is c.find_seam.ensures) c.in-Some-2.reason
+    (subst (TellsLates s) c.in-Some-2.is (c.in_ok-reason.ensures known))
 
 pub returns-in-None : goal.returns-in-None
 returns-in-None c = λ known.

@@ -40,4 +40,5 @@ module _ (class : Class) (lines : ℕ) (sel : Selection) (choice : Bool) (m : Me
 
 pub returns : goal.returns
 unfolding IsIdle
-returns c = λ class lines sel m received new step. subst (IsIdle class lines sel step.choice m) (sym step.is) (packet_idle class lines sel step.choice m (packet_of received))
+returns c = λ class lines sel m received new step.
+    subst (IsIdle class lines sel step.choice m) (sym step.is) (packet_idle class lines sel step.choice m (packet_of received))

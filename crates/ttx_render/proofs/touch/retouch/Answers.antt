@@ -26,6 +26,7 @@ returns-then-not-now c =
       size = c.loop-number.invariant.size;
       rows = λ k l. elim (cut k c.loop-number.number) [
         | inl low ↦ c.loop-number.invariant.made k low
-        | inr high ↦ c.loop-number.invariant.left k high l ∙ touched-lower m n c.args.row c.requires.differs c.loop-number.number k c.if-number-row.true e f high
+        | inr high ↦ c.loop-number.invariant.left k high l
+            ∙ touched-lower m n c.args.row c.requires.differs c.loop-number.number k c.if-number-row.true e f high
       ];
     }

@@ -24,7 +24,8 @@ piece_is cycle lines phase field m first slots start moment bytes e t f n =
 
 -- at a fault in a piece
 module _ (s : Broadcast) (field fields at n m : ℕ) (part : List ℕ) (some : 0 < s.lines) (second : (k : ℕ) → k < m → (field + k) / 50 ≡ field / 50)
-    (inside : field + m ≤ fields) (size : length (file_of (sent_slots s field)) ≡ at) (is : part ≡ file_of (piece_slots s field m)) (fits : n < length part) where
+    (inside : field + m ≤ fields) (size : length (file_of (sent_slots s field)) ≡ at) (is : part ≡ file_of (piece_slots s field m))
+    (fits : n < length part) where
   abbrev rest : List ℕ
   rest = (bytes_after s (field + m) fields inside).0
 
@@ -35,7 +36,14 @@ module _ (s : Broadcast) (field fields at n m : ℕ) (part : List ℕ) (some : 0
 
   within : at + n < length (file_of (sent_slots s fields))
   within =
-      omega (arith, ap length whole, length-append (file_of (sent_slots s field) ++ part) rest, length-append (file_of (sent_slots s field)) part, size, fits)
+      omega (
+        arith,
+        ap length whole,
+        length-append (file_of (sent_slots s field) ++ part) rest,
+        length-append (file_of (sent_slots s field)) part,
+        size,
+        fits,
+      )
 
   front : take (at + n) (file_of (sent_slots s fields)) ≡ file_of (sent_slots s field) ++ take n part
   front = take_parts _ (file_of (sent_slots s field)) part rest at n whole size (omega (arith, fits))
@@ -53,16 +61,21 @@ returns-in-Err-clause-bytes g c =
     let some : 0 < lines = omega (arith, c.from-lines.ensures, c.requires.some) in
     let part = take (42 * piece.slots) c.piece_bytes-bytes.result in
     let is : part ≡ file_of (piece_slots s field piece.fields) =
-    piece_is slots lines c.args.phase field piece.fields c.loop-field.first piece.slots c.args.start.now c.stamp_of-stamp.result.moment c.piece_bytes-bytes.result
+    piece_is slots lines c.args.phase field piece.fields c.loop-field.first piece.slots c.args.start.now c.stamp_of-stamp.result.moment
+    c.piece_bytes-bytes.result
     c.piece_bytes-bytes.ensures.bytes (c.stamp_of-stamp.ensures ∙ c.later.ensures) c.loop-field.invariant.first c.next_piece-piece.ensures.slots in
     let out = c.in-Err.ensures.bytes in
-    let w : file_of (sent_slots s c.args.fields) ≡ file_of (sent_slots (broadcast_of (slots_of c.args.cycle.now) c.args.lines c.args.phase c.args.start.now) c.args.fields) =
+    let w : file_of (sent_slots s c.args.fields)
+    ≡ file_of (sent_slots (broadcast_of (slots_of c.args.cycle.now) c.args.lines c.args.phase c.args.start.now) c.args.fields)
+    =
     ap (λ t. file_of (sent_slots t c.args.fields)) same in
     let second = c.next_piece-piece.ensures.second in
     let inside = c.next_piece-piece.ensures.inside in
     let size = c.loop-field.invariant.sent in (
-      subst (λ l. c.loop-field.sent + n < length l) w (within s field c.args.fields c.loop-field.sent n piece.fields part some second inside size is out.0),
-      subst (Appends _ _) (sym (ap (take (c.loop-field.sent + n)) (sym w) ∙ front s field c.args.fields c.loop-field.sent n piece.fields part some second inside size is out.0))
+      subst (λ l. c.loop-field.sent + n < length l) w
+          (within s field c.args.fields c.loop-field.sent n piece.fields part some second inside size is out.0),
+      subst (Appends _ _) (sym (ap (take (c.loop-field.sent + n)) (sym w)
+          ∙ front s field c.args.fields c.loop-field.sent n piece.fields part some second inside size is out.0))
           (Appends-trans _ _ _ _ _ c.loop-field.invariant.bytes out.1),
     )
 
@@ -78,15 +91,23 @@ loop-field-preserved g c =
     let few : lines ≤ 32 = omega (arith, c.from-lines.ensures, c.requires.most) in
     let part = take (42 * piece.slots) c.piece_bytes-bytes.result in
     let is : part ≡ file_of (piece_slots s field m) =
-    piece_is slots lines c.args.phase field m c.loop-field.first piece.slots c.args.start.now c.stamp_of-stamp.result.moment c.piece_bytes-bytes.result
+    piece_is slots lines c.args.phase field m c.loop-field.first piece.slots c.args.start.now c.stamp_of-stamp.result.moment
+    c.piece_bytes-bytes.result
     c.piece_bytes-bytes.ensures.bytes (c.stamp_of-stamp.ensures ∙ c.later.ensures) c.loop-field.invariant.first c.next_piece-piece.ensures.slots in
-    let long : length part ≡ 42 * piece.slots = piece_long c.piece_bytes-bytes.result piece.slots c.piece_bytes-bytes.ensures.long c.next_piece-piece.ensures.fits in
+    let long : length part ≡ 42 * piece.slots = piece_long c.piece_bytes-bytes.result piece.slots c.piece_bytes-bytes.ensures.long
+    c.next_piece-piece.ensures.fits in
     let more : file_of (sent_slots s field) ++ part ≡ file_of (sent_slots s (field + m)) =
     ap (λ l. file_of (sent_slots s field) ++ l) is ∙ sym (bytes_more s field m some c.next_piece-piece.ensures.second) in
     let e : c.args.phase + (field + m) ≡ (c.args.phase + field) + m = omega arith in
     let wide : m * lines ≤ m * 32 = mul-le-mul_left m few in
     record {
-      first = omega (arith, c.loop-field.invariant.first, ap (λ n. n * lines) e, add-mul (c.args.phase + field) m lines, c.next_piece-piece.ensures.slots);
+      first = omega (
+        arith,
+        c.loop-field.invariant.first,
+        ap (λ n. n * lines) e,
+        add-mul (c.args.phase + field) m lines,
+        c.next_piece-piece.ensures.slots,
+      );
       low = omega (arith, c.loop-field.invariant.low, wide, c.next_piece-piece.ensures.slots);
       sent = omega (arith, sym (ap length more), length-append (file_of (sent_slots s field)) part, c.loop-field.invariant.sent, long);
       few = omega (arith, c.loop-field.invariant.few, wide, c.next_piece-piece.ensures.slots);

@@ -11,7 +11,8 @@ invariant-loop-field g l = record {
   sent : length (file_of (sent_slots (broadcast_of l.slots l.lines l.phase l.start) l.field)) ≡ l.sent;
   few : l.sent ≤ 5376 * l.field;
   inside : l.field ≤ l.fields;
-  bytes : Appends (g.W.Write.contents l.initial.writer.inner) (g.W.Write.contents l.writer.inner) (file_of (sent_slots (broadcast_of l.slots l.lines l.phase l.start) l.field));
+  bytes : Appends (g.W.Write.contents l.initial.writer.inner) (g.W.Write.contents l.writer.inner)
+      (file_of (sent_slots (broadcast_of l.slots l.lines l.phase l.start) l.field));
   faults : l.writer.faults ≡ l.initial.writer.faults;
 }
 

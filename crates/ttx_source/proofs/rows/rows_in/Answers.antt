@@ -13,7 +13,8 @@ loop-key-init c =
       long = refl;
       keys = rw start refl;
       found = λ r within.
-          rw start (ap (λ v. last_member (get_or row_keys r []) (members_view c.args.table.now.entries) (seen v)) (get_or-replicate 24 r None None within));
+          rw start (ap (λ v. last_member (get_or row_keys r []) (members_view c.args.table.now.entries) (seen v))
+          (get_or-replicate 24 r None None within));
     }
 
 pub loop-key-preserved : goal.loop-key-preserved
@@ -36,8 +37,10 @@ loop-key-preserved c =
 pub returns-in-None-row_index-clause-value : goal.returns-in-None-row_index-clause-value
 returns-in-None-row_index-clause-value c =
     let here : c.loop-key.key-iterator ≡ (c.in-Some.key.now, c.in-Some.value.now) ∷ c.next.new.self = c.in-Some.ensures.steps in
-    let other : is_row_key (string_bytes c.in-Some.key.now) ≡ false = ap is_row_key (sym c.as_str.ensures.value) ∙ sym c.in-None-row_index.ensures.among in
-    let refused : keys_pass is_row_key (table_view c.args.table.now) ≡ false = c.loop-key.invariant.keys ∙ rw here (keys_fault _ (view c.in-Some.value.now) _ other) in
+    let other : is_row_key (string_bytes c.in-Some.key.now) ≡ false = ap is_row_key (sym c.as_str.ensures.value)
+    ∙ sym c.in-None-row_index.ensures.among in
+    let refused : keys_pass is_row_key (table_view c.args.table.now) ≡ false = c.loop-key.invariant.keys
+    ∙ rw here (keys_fault _ (view c.in-Some.value.now) _ other) in
     rw refused refl
 
 pub returns-clause-value : goal.returns-clause-value
@@ -45,5 +48,6 @@ returns-clause-value c =
     let over : c.loop-key.key-iterator ≡ [] = c.in-None.ensures.steps.0 in
     let was = c.loop-key.invariant in
     let known : keys_pass is_row_key (table_view c.args.table.now) ≡ true = was.keys ∙ rw over refl in
-    let values = all_values c.loop-key.values c.args.table.now.entries was.long c.iter-key-items.ensures.ordered (λ r within. rw over at (was.found r within)) in
+    let values = all_values c.loop-key.values c.args.table.now.entries was.long c.iter-key-items.ensures.ordered
+    (λ r within. rw over at (was.found r within)) in
     rw known (c.rows_of.ensures.value ∙ ap rows_of values)

@@ -11,5 +11,6 @@ invariant-loop-key l = record {
   long : length l.values ≡ 24;
   keys : keys_pass is_row_key (members_view l.table.entries) ≡ keys_pass is_row_key (members_view l.key-iterator);
   found : (r : ℕ) → r < 24
-      → last_member (get_or row_keys r []) (members_view l.key-iterator) (seen (get_or l.values r None)) ≡ last_member (get_or row_keys r []) (members_view l.table.entries) None;
+      → last_member (get_or row_keys r []) (members_view l.key-iterator) (seen (get_or l.values r None))
+      ≡ last_member (get_or row_keys r []) (members_view l.table.entries) None;
 }

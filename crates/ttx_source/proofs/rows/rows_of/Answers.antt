@@ -14,7 +14,8 @@ returns-in_err-rows-clause-value c =
 pub loop-index-preserved : goal.loop-index-preserved
 loop-index-preserved c = record {
   long = search rules;
-  rows = rows_set c.loop-index.rows c.loop-index.index c.in_ok-rows.field-0 c.loop-index.invariant.long c.loop-index.invariant.rows c.in_ok-rows.ensures.row;
+  rows = rows_set c.loop-index.rows c.loop-index.index c.in_ok-rows.field-0 c.loop-index.invariant.long c.loop-index.invariant.rows
+      c.in_ok-rows.ensures.row;
   so_far =
       let here : c.loop-index.index < length c.args.values.now = omega arith in
       let rest = values_drop c.args.values.now c.loop-index.index c.index-values-index.result here in
@@ -25,4 +26,6 @@ loop-index-preserved c = record {
 pub returns-clause-value : goal.returns-clause-value
 returns-clause-value c =
     let all : length c.args.values.now ≤ c.loop-index.index = omega arith in
-    sym (c.loop-index.invariant.so_far ∙ rw (values_end c.args.values.now c.loop-index.index all, take_all c.loop-index.index c.loop-index.rows (omega arith)) (rows_end _))
+    sym (c.loop-index.invariant.so_far ∙ rw
+    (values_end c.args.values.now c.loop-index.index all, take_all c.loop-index.index c.loop-index.rows (omega arith))
+    (rows_end _))

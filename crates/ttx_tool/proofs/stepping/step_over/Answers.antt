@@ -16,7 +16,8 @@ loop-preserved g c =
       | else-at-slots w ↦ w.at-is ∙ next_inside before n c.loop.at i.at (let e = w.if-at-slots.false in omega arith)
     ] in
     record {
-      run = hears_more c.runs_go_on.ensures (g.X.Receiver.held c.args.receiver.now) c.args.slots.now c.args.start c.loop.counter c.loop.at i.class i.lines i.selection i.at i.run c.step.ensures.step;
+      run = hears_more c.runs_go_on.ensures (g.X.Receiver.held c.args.receiver.now) c.args.slots.now c.args.start c.loop.counter
+          c.loop.at i.class i.lines i.selection i.at i.run c.step.ensures.step;
       at = place ∙ ap (λ z. z % n) one_more;
       class = c.step.ensures.class ∙ i.class;
       lines = c.step.ensures.lines ∙ i.lines;

@@ -4,7 +4,8 @@ use Rattle.ttx_tool.proofs.stepping.step_over.Given as goal
 
 abbrev pub invariant-loop : goal.invariant-loop
 invariant-loop g l = record {
-  run : Hears (tuned_as (g.X.Receiver.kind l.initial.receiver) (g.X.Receiver.field l.initial.receiver) (g.X.Receiver.tuned l.initial.receiver)) l.slots l.start l.counter
+  run : Hears (tuned_as (g.X.Receiver.kind l.initial.receiver) (g.X.Receiver.field l.initial.receiver)
+      (g.X.Receiver.tuned l.initial.receiver)) l.slots l.start l.counter
       (g.X.Receiver.held l.initial.receiver) (g.X.Receiver.held l.receiver);
   at : l.at ≡ (l.start + l.counter) % length l.slots;
   class : g.X.Receiver.kind l.receiver ≡ g.X.Receiver.kind l.initial.receiver;

@@ -18,10 +18,12 @@ use Rattle.ttx_witness.specs.faults.Faults.{IsFirstAt, TellsFirst, earlier}
 -- the same for what is as true
 pub tells_same : (cycle : List (List ℕ)) (P Q : ℤ → Type 0) → ((j : ℤ) → P j ↔ Q j) → (o : Option ℕ) → TellsFirst cycle P o → TellsFirst cycle Q o
 tells_same cycle P Q same None f = λ j q. f j ((same j).1 q)
-tells_same cycle P Q same (Some slot) f = record { within = f.within; here = (same (pos slot)).0 f.here; none_before = λ i lt q. f.none_before i lt ((same (pos i)).1 q) }
+tells_same cycle P Q same (Some slot) f = record
+    { within = f.within; here = (same (pos slot)).0 f.here; none_before = λ i lt q. f.none_before i lt ((same (pos i)).1 q) }
 
 -- of two
-module _ (cycle : List (List ℕ)) (P Q R : ℤ → Type 0) (left : (j : ℤ) → P j → R j) (right : (j : ℤ) → Q j → R j) (either : (j : ℤ) → R j → P j ⊎ Q j) where
+module _ (cycle : List (List ℕ)) (P Q R : ℤ → Type 0) (left : (j : ℤ) → P j → R j) (right : (j : ℤ) → Q j → R j)
+    (either : (j : ℤ) → R j → P j ⊎ Q j) where
   pub earlier_is : (a b : Option ℕ) → TellsFirst cycle P a → TellsFirst cycle Q b → TellsFirst cycle R (earlier a b)
   earlier_is None None f g = λ j r. elim (either j r) as (λ _. ⊥) [ inl p ↦ f j p | inr q ↦ g j q ]
   earlier_is None (Some b) f g = record {
@@ -38,20 +40,28 @@ module _ (cycle : List (List ℕ)) (P Q R : ℤ → Type 0) (left : (j : ℤ) �
       (λ e. record {
         within = f.within;
         here = left (pos a) f.here;
-        none_before = λ i lt r. elim (either (pos i) r) as (λ _. ⊥) [ inl p ↦ f.none_before i lt p | inr q ↦ g.none_before i (grind (arith, nat_tests)) q ];
+        none_before = λ i lt r. elim (either (pos i) r) as
+            (λ _. ⊥) [ inl p ↦ f.none_before i lt p | inr q ↦ g.none_before i (grind (arith, nat_tests)) q ];
       })
       (λ e. record {
         within = g.within;
         here = right (pos b) g.here;
-        none_before = λ i lt r. elim (either (pos i) r) as (λ _. ⊥) [ inl p ↦ f.none_before i (grind (arith, nat_tests)) p | inr q ↦ g.none_before i lt q ];
+        none_before = λ i lt r. elim (either (pos i) r) as
+            (λ _. ⊥) [ inl p ↦ f.none_before i (grind (arith, nat_tests)) p | inr q ↦ g.none_before i lt q ];
       })
 
 module _ (s : Stream) (p : Page) where
   pub erased_is : (j : ℤ) → WrongAt s p EraseBit j ↔ ErasedAt s p j
-  erased_is j = ((λ w. record { header = w.sent.owned.1; erases = w.wrong }), (λ e. record { sent = record { owner = j; owned = (refl, e.header) }; wrong = e.erases }))
+  erased_is j = (
+    (λ w. record { header = w.sent.owned.1; erases = w.wrong }),
+    (λ e. record { sent = record { owner = j; owned = (refl, e.header) }; wrong = e.erases }),
+  )
 
   pub head_is : (j : ℤ) → WrongAt s p CheckHead j ↔ HeadDiffersAt s p j
-  head_is j = ((λ w. record { header = w.sent.owned.1; differs = w.wrong }), (λ e. record { sent = record { owner = j; owned = (refl, e.header) }; wrong = e.differs }))
+  head_is j = (
+    (λ w. record { header = w.sent.owned.1; differs = w.wrong }),
+    (λ e. record { sent = record { owner = j; owned = (refl, e.header) }; wrong = e.differs }),
+  )
 
   pub links_are : (j : ℤ) → WrongAt s p CheckLinks j ↔ LinksDifferAt s p j
   links_are j = ((λ w. record { sent = w.sent; differs = w.wrong }), (λ e. record { sent = e.sent; wrong = e.differs }))
@@ -84,12 +94,18 @@ module _ (s : Stream) (p : Page) where
   pub rows_are : (n : ℕ) → 25 ≤ n → (j : ℤ) → RowsWrongAt n j ↔ RowDiffersAt s p j
   rows_are n all j = (
     (λ w. record { row = w.row; needed = w.wrong.needed; sent = w.wrong.wrong.sent; differs = w.wrong.wrong.wrong }),
-    (λ d. record { row = d.row; below = let k = few d.row d.needed in omega arith; wrong = record { needed = d.needed; wrong = record { sent = d.sent; wrong = d.differs } } }),
+    (λ d. record {
+      row = d.row;
+      below = let k = few d.row d.needed in omega arith;
+      wrong = record { needed = d.needed; wrong = record { sent = d.sent; wrong = d.differs } };
+    }),
   )
     where
       few : (r : ℕ) → needed p (TheRow r) ≡ true → r ≤ 24
       few r e =
-          let a : (nat_le 1 r && nat_le r 24) ≡ true = (and_parts _ (not (c10 p.control)) (and_parts _ (if r == 24 then p.links.show24 else not (is_hidden (page_row p) r)) e).0).0 in
+          let a : (nat_le 1 r && nat_le r 24) ≡ true =
+          (and_parts _ (not (c10 p.control))
+          (and_parts _ (if r == 24 then p.links.show24 else not (is_hidden (page_row p) r)) e).0).0 in
           let b : nat_le r 24 ≡ true = (and_parts (nat_le 1 r) (nat_le r 24) a).1 in grind (arith, nat_tests)
 
 -- the page in a place of the list
@@ -97,10 +113,13 @@ pub placed : {A : Type 0} (o : Option A) (p q : A) → o ≡ Some p → o ≡ So
 placed None p q e f = cc
 placed (Some a) p q e f = cc
 
-pub page_here : (pages : List PageValue) (i : ℕ) (q : PageValue) → i < length pages → q ≡ get_or pages i q → slice_get (map page_of pages) i ≡ Some (page_of q)
-page_here pages i q lt e = slice_get-map page_of pages i ∙ ap (option_map page_of) (slice_get-get_or pages i q lt) ∙ ap (λ x. Some (page_of x)) (sym e)
+pub page_here : (pages : List PageValue) (i : ℕ) (q : PageValue) → i < length pages → q ≡ get_or pages i q →
+    slice_get (map page_of pages) i ≡ Some (page_of q)
+page_here pages i q lt e = slice_get-map page_of pages i ∙ ap (option_map page_of) (slice_get-get_or pages i q lt)
+    ∙ ap (λ x. Some (page_of x)) (sym e)
 
 -- a row that a viewer sees
-pub row_wrong : (s : Stream) (p : Page) (row number : ℕ) → row ≡ number → needed p (TheRow row) ≡ true → (j : ℤ) → WrongAt s p (CheckRow row) j ↔ RowWrongAt s p number j
+pub row_wrong : (s : Stream) (p : Page) (row number : ℕ) → row ≡ number → needed p (TheRow row) ≡ true → (j : ℤ) →
+    WrongAt s p (CheckRow row) j ↔ RowWrongAt s p number j
 row_wrong s p row number e sees j =
     subst (λ r. WrongAt s p (CheckRow row) j ↔ RowWrongAt s p r j) e ((λ w. record { needed = sees; wrong = w }), (λ w. w.wrong))

@@ -52,7 +52,8 @@ module _ (cycle : List (List ℕ)) (some : 1 ≤ length cycle) (p : Page) (check
     to : t.slot <ℤ pos n
     none : (x : ℤ) → low ≤ℤ x → x <ℤ t.slot → IsSentAt (IsOwned s p.id item) x → In x → ⊥
 
-  found : (low : ℤ) (done : List Transmission) (t : Transmission) (rest : List Transmission) → Listed low (done ++ t ∷ rest) → AllByRecursion (λ d. In d.slot → ⊥) done → Found low t
+  found : (low : ℤ) (done : List Transmission) (t : Transmission) (rest : List Transmission) → Listed low (done ++ t ∷ rest) →
+      AllByRecursion (λ d. In d.slot → ⊥) done → Found low t
   found low [] t rest l a = record { owned = l.0.owned; from = l.1; to = l.2; none = λ x lo hi sent w. l.3 x lo hi sent }
   found low (d ∷ done) t rest l a =
       let f = found (d.slot +ℤ pos 1) done t rest l.4 a.1 in
@@ -69,7 +70,8 @@ module _ (cycle : List (List ℕ)) (some : 1 ≤ length cycle) (p : Page) (check
         ];
       }
 
-  none_listed : (low : ℤ) (ts : List Transmission) → Listed low ts → AllByRecursion (λ t. In t.slot → ⊥) ts → (x : ℤ) → low ≤ℤ x → x <ℤ pos n → IsSentAt (IsOwned s p.id item) x → In x → ⊥
+  none_listed : (low : ℤ) (ts : List Transmission) → Listed low ts → AllByRecursion (λ t. In t.slot → ⊥) ts → (x : ℤ) → low ≤ℤ x →
+      x <ℤ pos n → IsSentAt (IsOwned s p.id item) x → In x → ⊥
   none_listed low [] l a x lo hi sent w = l x lo hi sent
   none_listed low (t ∷ ts) l a x lo hi sent w = elim (cases_ltz x t.slot) as (λ _. ⊥) [
     | inl lt ↦ l.3 x lo lt sent
@@ -86,7 +88,8 @@ module _ (cycle : List (List ℕ)) (some : 1 ≤ length cycle) (p : Page) (check
     listed : Listed (pos 0) ts
     listed = subst (Listed (pos 0)) (sym is) (sent_told cycle some p.id lines item)
 
-    pub first_sent : (i : ℕ) (d : Transmission) → i < length ts → AllByRecursion (λ t. In t.slot → ⊥) (take i ts) → In (get_or ts i d).slot → IsFirstAt cycle (WrongAt s p check) (unsigned_abs (get_or ts i d).slot)
+    pub first_sent : (i : ℕ) (d : Transmission) → i < length ts → AllByRecursion (λ t. In t.slot → ⊥) (take i ts) →
+        In (get_or ts i d).slot → IsFirstAt cycle (WrongAt s p check) (unsigned_abs (get_or ts i d).slot)
     first_sent i d lt none w =
         let t = get_or ts i d in
         let f = found (pos 0) (take i ts) t (drop (suc i) ts) (subst (Listed (pos 0)) (split_at ts i d lt) listed) none in
@@ -94,24 +97,43 @@ module _ (cycle : List (List ℕ)) (some : 1 ≤ length cycle) (p : Page) (check
         let lt : unsigned_abs t.slot < n = let g = w.to in omega (arith, ints, e) in
         record {
           within = lt;
-          here = subst (WrongAt s p check) (sym e) (record { sent = record { owner = t.owner; owned = f.owned }; wrong = subst (λ x. IsWrong p check (s x)) e (subst (IsWrong p check) (sym (slot_is cycle (unsigned_abs t.slot) lt)) w.wrong) });
-          none_before = λ j less v. f.none (pos j) (omega (arith, ints)) (omega (arith, ints, e)) (sent_is (pos j) v.sent) (in_period j (omega arith) v.wrong);
+          here = subst (WrongAt s p check) (sym e)
+              (record {
+                sent = record { owner = t.owner; owned = f.owned };
+                wrong = subst (λ x. IsWrong p check (s x)) e
+                    (subst (IsWrong p check) (sym (slot_is cycle (unsigned_abs t.slot) lt)) w.wrong);
+              });
+          none_before = λ j less v. f.none (pos j) (omega (arith, ints)) (omega (arith, ints, e)) (sent_is (pos j) v.sent)
+              (in_period j (omega arith) v.wrong);
         }
 
     pub never_sent : AllByRecursion (λ t. In t.slot → ⊥) ts → Never (WrongAt s p check)
-    never_sent none = never_wrong cycle some p check (λ j lt v. none_listed (pos 0) ts listed none (pos j) (omega (arith, ints)) (omega (arith, ints)) (sent_is (pos j) v.sent) (in_period j lt v.wrong))
+    never_sent none = never_wrong cycle some p check
+        (λ j lt v. none_listed (pos 0) ts listed none (pos j) (omega (arith, ints)) (omega (arith, ints)) (sent_is (pos j) v.sent)
+        (in_period j lt v.wrong))
 
 -- a page has a header where its list has one
-pub headers_sent : (cycle : List (List ℕ)) → 1 ≤ length cycle → (page : Id) (lines : ℕ) (ts : List Transmission) → ts ≡ sent_in cycle page lines TheHead → (0 < length ts) ↔ HasHeader (repeated cycle) page
-headers_sent cycle some page lines ts is = go ts (subst (AreSent (IsOwned (repeated cycle) page TheHead) (IsSure (repeated cycle) lines page.mag TheHead) (pos 0) (pos (length cycle))) (sym is) (sent_told cycle some page lines TheHead))
+pub headers_sent : (cycle : List (List ℕ)) → 1 ≤ length cycle → (page : Id) (lines : ℕ) (ts : List Transmission) → ts
+    ≡ sent_in cycle page lines TheHead → (0 < length ts) ↔ HasHeader (repeated cycle) page
+headers_sent cycle some page lines ts is = go ts
+    (subst (AreSent (IsOwned (repeated cycle) page TheHead) (IsSure (repeated cycle) lines page.mag TheHead) (pos 0)
+    (pos (length cycle))) (sym is) (sent_told cycle some page lines TheHead))
   where
-    go : (us : List Transmission) → AreSent (IsOwned (repeated cycle) page TheHead) (IsSure (repeated cycle) lines page.mag TheHead) (pos 0) (pos (length cycle)) us → (0 < length us) ↔ HasHeader (repeated cycle) page
+    go : (us : List Transmission) → AreSent (IsOwned (repeated cycle) page TheHead) (IsSure (repeated cycle) lines page.mag TheHead)
+        (pos 0) (pos (length cycle)) us → (0 < length us) ↔ HasHeader (repeated cycle) page
     go [] l = (
       (λ lt. absurd (omega arith)),
-      (λ h. absurd (never_heads cycle some page (λ i lt e. l (pos i) (omega (arith, ints)) (omega (arith, ints)) (record { owner = pos i; owned = (refl, e) })) h)),
+      (λ h. absurd (never_heads cycle some page
+          (λ i lt e. l (pos i) (omega (arith, ints)) (omega (arith, ints)) (record { owner = pos i; owned = (refl, e) })) h)),
     )
     go (t ∷ us) l = ((λ lt. record { slot = t.slot; is_header = l.0.owned.1 }), (λ h. omega arith))
 
 pub by_length : {A : Type 0} (ts : List A) (P : Type 0) (b : Bool) → b ≡ (length ts == 0) → ((0 < length ts) ↔ P) → IsTrue (not b) ↔ P
 by_length [] P b e h = ((λ t. absurd (both_ways b (not-true b t) e)), (λ p. let y = h.1 p in absurd (omega arith)))
-by_length (t ∷ ts) P b e h = ((λ _. h.0 (omega arith)), (λ p. elim (cases_Bool b) as (λ _. IsTrue (not b)) [ inl t ↦ let z : suc (length ts) ≡ 0 = eqb-true (suc (length ts)) 0 (sym e ∙ t) in absurd (omega arith) | inr f ↦ not_from_false b f ]))
+by_length (t ∷ ts) P b e h = (
+  (λ _. h.0 (omega arith)),
+  (λ p. elim (cases_Bool b) as (λ _. IsTrue (not b)) [
+    | inl t ↦ let z : suc (length ts) ≡ 0 = eqb-true (suc (length ts)) 0 (sym e ∙ t) in absurd (omega arith)
+    | inr f ↦ not_from_false b f
+  ]),
+)

@@ -9,7 +9,8 @@ use Rattle.ttx_witness.specs.declared.faults.reason.Reason.{Reason}
 use Rattle.ttx_witness.specs.declared.faults.reason.Reason.TheVariants.{BadSlot, NoHeader, OtherSubpage, Erased, HeadDiffers, RowDiffers, LinksDiffer}
 use Rattle.ttx_witness.specs.declared.faults.reason.Reason.TheVariants.{NoWitness, WitnessBad, Late, Unsteady, LateBlank}
 
-not_steady : (cycle : List (List ℕ)) (pages : List Page) (p : Page) (reason : Reason) → IsPageFault cycle pages p (Some reason) → Steady (repeated cycle) pages p → ⊥
+not_steady : (cycle : List (List ℕ)) (pages : List Page) (p : Page) (reason : Reason) → IsPageFault cycle pages p (Some reason) →
+    Steady (repeated cycle) pages p → ⊥
 not_steady cycle pages p (BadSlot slot) f y = f
 not_steady cycle pages p (NoHeader page) f y = both_ways _ (f.1 y.header.slot) y.header.is_header
 not_steady cycle pages p (OtherSubpage page slot) f y = y.only_subpage (pos slot) f.2.here

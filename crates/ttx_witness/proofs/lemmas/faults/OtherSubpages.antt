@@ -20,10 +20,13 @@ use Rattle.std.proofs.lemmas.Int.{ints}
 
 -- a header whose subcode isn't the page's
 unlike : (p : Page) (id : Id) → (p.id.mag == id.mag) && (p.id.page == id.page) ≡ true → same_id p.id id ≡ false → (p.id.sub == id.sub) ≡ false
-unlike p id a b = elim (cases_Bool (p.id.sub == id.sub)) as (λ _. (p.id.sub == id.sub) ≡ false) [ inl e ↦ absurd (both_ways _ b (and_from _ _ a e)) | inr e ↦ e ]
+unlike p id a b = elim (cases_Bool (p.id.sub == id.sub)) as
+    (λ _. (p.id.sub == id.sub) ≡ false) [ inl e ↦ absurd (both_ways _ b (and_from _ _ a e)) | inr e ↦ e ]
 
 differs : (p : Page) (id : Id) → (p.id.sub == id.sub) ≡ false → same_id p.id id ≡ false
-differs p id a = elim (cases_Bool (same_id p.id id)) as (λ _. same_id p.id id ≡ false) [ inl e ↦ absurd (both_ways _ a ((and_parts ((p.id.mag == id.mag) && (p.id.page == id.page)) _ e).1)) | inr e ↦ e ]
+differs p id a = elim (cases_Bool (same_id p.id id)) as
+    (λ _. same_id p.id id ≡ false)
+    [ inl e ↦ absurd (both_ways _ a ((and_parts ((p.id.mag == id.mag) && (p.id.page == id.page)) _ e).1)) | inr e ↦ e ]
 
 module _ (pages : List Page) (p : Page) (n : ℕ) (at : slice_get pages n ≡ Some p) (inside : n < length pages) where
   listed : IsListed pages (length pages) p.id.mag p.id.page p
@@ -50,7 +53,8 @@ module _ (pages : List Page) (p : Page) (n : ℕ) (at : slice_get pages n ≡ So
           in_magazine = eqb-true _ _ ((and_parts _ _ a).0);
           numbered = eqb-true _ _ ((and_parts (q.id.mag == p.id.mag) _ a).1);
         } in
-        absurd (both_ways _ (not-true _ ((and_parts ((q.id.mag == p.id.mag) && (q.id.page == p.id.page)) _ e).1)) (eq-eqb q.id.sub p.id.sub (all q l ∙ sym (all p listed))))
+        absurd (both_ways _ (not-true _ ((and_parts ((q.id.mag == p.id.mag) && (q.id.page == p.id.page)) _ e).1))
+        (eq-eqb q.id.sub p.id.sub (all q l ∙ sym (all p listed))))
     | inr e ↦ e
   ]
 
@@ -58,7 +62,8 @@ module _ (pages : List Page) (p : Page) (n : ℕ) (at : slice_get pages n ≡ So
   same_sub : IsAlone pages p → (q : Page) → IsListed pages (length pages) p.id.mag p.id.page q → q.id.sub ≡ p.id.sub
   same_sub alone q l = elim (cases_Bool (q.id.sub == p.id.sub)) as (λ _. q.id.sub ≡ p.id.sub) [
     | inl e ↦ eqb-true _ _ e
-    | inr e ↦ absurd (both_ways _ (alone l.index q l.here) (and_from _ _ (and_from _ _ (eq-eqb _ _ l.in_magazine) (eq-eqb _ _ l.numbered)) (not_from_false _ e)))
+    | inr e ↦ absurd (both_ways _ (alone l.index q l.here)
+        (and_from _ _ (and_from _ _ (eq-eqb _ _ l.in_magazine) (eq-eqb _ _ l.numbered)) (not_from_false _ e)))
   ]
 
   other_to : (t : Subcodes) → AreSubcodes pages (length pages) p.id.mag p.id.page t → (packet : Packet) → HeadsOther t packet → OtherPage packet
@@ -77,7 +82,8 @@ module _ (pages : List Page) (p : Page) (n : ℕ) (at : slice_get pages n ≡ So
 
   other_from : (t : Subcodes) → AreSubcodes pages (length pages) p.id.mag p.id.page t → (packet : Packet) → OtherPage packet → HeadsOther t packet
   other_from Unlisted a (Header id control text) o = absurd (a p listed)
-  other_from (One sub) a (Header id control text) o = and_from _ _ o.number (not_from_false _ (ap (λ x. x == id.sub) (sym (a.1 p listed)) ∙ unlike p id o.number o.other))
+  other_from (One sub) a (Header id control text) o =
+      and_from _ _ o.number (not_from_false _ (ap (λ x. x == id.sub) (sym (a.1 p listed)) ∙ unlike p id o.number o.other))
   other_from Several a (Header id control text) o = absurd (a.4 (same_sub o.alone a.0 a.2 ∙ sym (same_sub o.alone a.1 a.3)))
   other_from t a Empty o = both_ways _ refl o.number
   other_from t a Unreadable o = both_ways _ refl o.number
@@ -87,7 +93,8 @@ module _ (pages : List Page) (p : Page) (n : ℕ) (at : slice_get pages n ≡ So
   other_from t a Other o = both_ways _ refl o.number
 
   module _ (table : List Subcodes) where
-    to_other : (packet : Packet) → heads_other table p.id.mag p.id.page packet ≡ true → HeadsOther (get_or table (place p.id.mag p.id.page) Unlisted) packet
+    to_other : (packet : Packet) → heads_other table p.id.mag p.id.page packet ≡ true →
+        HeadsOther (get_or table (place p.id.mag p.id.page) Unlisted) packet
     to_other (Header id control text) h = h
     to_other Empty h = both_ways _ refl h
     to_other Unreadable h = both_ways _ refl h
@@ -96,7 +103,8 @@ module _ (pages : List Page) (p : Page) (n : ℕ) (at : slice_get pages n ≡ So
     to_other Info h = both_ways _ refl h
     to_other Other h = both_ways _ refl h
 
-    from_other : (packet : Packet) → HeadsOther (get_or table (place p.id.mag p.id.page) Unlisted) packet → heads_other table p.id.mag p.id.page packet ≡ true
+    from_other : (packet : Packet) → HeadsOther (get_or table (place p.id.mag p.id.page) Unlisted) packet →
+        heads_other table p.id.mag p.id.page packet ≡ true
     from_other (Header id control text) h = h
     from_other Empty h = absurd h
     from_other Unreadable h = absurd h
@@ -105,14 +113,20 @@ module _ (pages : List Page) (p : Page) (n : ℕ) (at : slice_get pages n ≡ So
     from_other Info h = absurd h
     from_other Other h = absurd h
 
-    pub other_is : (s : Stream) → AreSubcodes pages (length pages) p.id.mag p.id.page (get_or table (place p.id.mag p.id.page) Unlisted) → (j : ℤ) → HeadsOtherAt table s p.id.mag p.id.page j ↔ OtherSubpageAt s pages p j
+    pub other_is : (s : Stream) → AreSubcodes pages (length pages) p.id.mag p.id.page
+        (get_or table (place p.id.mag p.id.page) Unlisted) → (j : ℤ) → HeadsOtherAt table s p.id.mag p.id.page j
+        ↔ OtherSubpageAt s pages p j
     other_is s a j = (
-      (λ h. let o = other_to (get_or table (place p.id.mag p.id.page) Unlisted) a (packet_of (s j)) (to_other (packet_of (s j)) h) in record { alone = o.alone; number = o.number; other = o.other }),
-      (λ o. from_other (packet_of (s j)) (other_from (get_or table (place p.id.mag p.id.page) Unlisted) a (packet_of (s j)) (record { alone = o.alone; number = o.number; other = o.other }))),
+      (λ h. let o = other_to (get_or table (place p.id.mag p.id.page) Unlisted) a (packet_of (s j)) (to_other (packet_of (s j)) h)
+          in record { alone = o.alone; number = o.number; other = o.other }),
+      (λ o. from_other (packet_of (s j))
+          (other_from (get_or table (place p.id.mag p.id.page) Unlisted) a (packet_of (s j))
+          (record { alone = o.alone; number = o.number; other = o.other }))),
     )
 
 -- the first slots, slot by slot
-pub first_more : (P : ℤ → Type 0) (j : ℕ) (is : Bool) → ((is ≡ true) ↔ P (pos j)) → (o : Option ℕ) → TellsBelow P j o → TellsBelow P (j + 1) (first_of o is j)
+pub first_more : (P : ℤ → Type 0) (j : ℕ) (is : Bool) → ((is ≡ true) ↔ P (pos j)) → (o : Option ℕ) → TellsBelow P j o →
+    TellsBelow P (j + 1) (first_of o is j)
 first_more P j is e None t = cond_both is (Some j) None (TellsBelow P (j + 1))
     (λ yes. (omega arith, e.0 yes, t))
     (λ n. one_more (λ i. P (pos i)) j t (λ p. both_ways _ n (e.1 p)))
@@ -136,5 +150,6 @@ first_all cycle some table mag number None t = nowhere cycle some (HeadsOtherAt 
     (λ i. subst (λ x. heads_other table mag number (packet_of x) ≡ true) (back i)) t
   where
     back : (i : ℤ) → repeated cycle (i -ℤ pos (length cycle)) ≡ repeated cycle i
-    back i = let e : (i -ℤ pos (length cycle)) +ℤ pos (length cycle) ≡ i = omega (arith, ints) in sym (period_of cycle (i -ℤ pos (length cycle))) ∙ ap (repeated cycle) e
+    back i = let e : (i -ℤ pos (length cycle)) +ℤ pos (length cycle) ≡ i = omega (arith, ints)
+        in sym (period_of cycle (i -ℤ pos (length cycle))) ∙ ap (repeated cycle) e
 first_all cycle some table mag number (Some j) t = record { within = t.0; here = t.1; none_before = t.2 }

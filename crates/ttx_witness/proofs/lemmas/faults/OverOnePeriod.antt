@@ -38,20 +38,25 @@ mine_step page j packet o = cond_both (heads page.mag packet) _ _ (λ x. mine_af
     (λ e. ap (λ b. if b then heads_page page packet else is_mine o) e)
     (λ e. ap (λ b. if b then heads_page page packet else is_mine o) e ∙ sym (mine_tainted (ends_serial page.mag packet) o))
 
-pub mine_scan : (page : Id) (s : Stream) (entry : Option PageOwner) (j : ℕ) → mine_after page (packet_of (s (pos j))) (is_mine (owner_scan page s entry j)) ≡ is_mine (owner_scan page s entry (j + 1))
+pub mine_scan : (page : Id) (s : Stream) (entry : Option PageOwner) (j : ℕ) →
+    mine_after page (packet_of (s (pos j))) (is_mine (owner_scan page s entry j)) ≡ is_mine (owner_scan page s entry (j + 1))
 unfolding owner_scan
-mine_scan page s entry j = let e : suc j ≡ j + 1 = omega arith in mine_step page (pos j) (packet_of (s (pos j))) (owner_scan page s entry j) ∙ ap (λ n. is_mine (owner_scan page s entry n)) e
+mine_scan page s entry j = let e : suc j ≡ j + 1 = omega arith
+    in mine_step page (pos j) (packet_of (s (pos j))) (owner_scan page s entry j)
+    ∙ ap (λ n. is_mine (owner_scan page s entry n)) e
 
 -- whether a slot sends the item, by its owner
 module _ (page : Id) (s : Stream) (j : ℤ) where
-  by_owner : (o : Option PageOwner) → O.IsOwnerAt page s o j → (is_mine o ≡ true) ↔ ((h : ℤ) × IsLatestHeader s page.mag h j × (heads_page page (packet_of (s h)) ≡ true))
+  by_owner : (o : Option PageOwner) → O.IsOwnerAt page s o j → (is_mine o ≡ true)
+      ↔ ((h : ℤ) × IsLatestHeader s page.mag h j × (heads_page page (packet_of (s h)) ≡ true))
   by_owner None a = ((λ e. cc), (λ t. absurd (both_ways _ (a t.0 t.1.earlier) t.1.is_header)))
   by_owner (Some o) a = (
     (λ e. (o.slot, a.latest, sym a.mine ∙ e)),
     (λ t. a.mine ∙ subst (λ h. heads_page page (packet_of (s h)) ≡ true) (latest_same s page.mag t.0 o.slot j t.1 a.latest) t.2),
   )
 
-  pub sends_is : (item : Item) (o : Option PageOwner) → O.IsOwnerAt page s o j → (sends page item (packet_of (s j)) (is_mine o) ≡ true) ↔ IsTransmission s page item j
+  pub sends_is : (item : Item) (o : Option PageOwner) → O.IsOwnerAt page s o j → (sends page item (packet_of (s j)) (is_mine o) ≡ true)
+      ↔ IsTransmission s page item j
   sends_is TheHead o a = ((λ e. record { owner = j; owned = (refl, e) }), (λ t. t.owned.1))
   sends_is (TheRow r) o a = (
     (λ e. let h = (by_owner o a).0 ((and_parts _ _ e).1) in record { owner = h.0; owned = (h.1, h.2, (and_parts _ _ e).0) }),
@@ -85,12 +90,20 @@ module _ (cycle : List (List ℕ)) (some : 1 ≤ length cycle) where
   pub sent_down : (page : Id) (item : Item) (i : ℤ) → IsTransmission s page item (i +ℤ pos n) → IsTransmission s page item i
   sent_down page item i t =
       let e : (i +ℤ pos n) -ℤ pos n ≡ i = omega (arith, ints) in
-      record { owner = t.owner -ℤ pos n; owned = subst (IsOwned s page item (t.owner -ℤ pos n)) e ((law cycle some page 0 item).owned_earlier t.owner (i +ℤ pos n) t.owned) }
+      record {
+        owner = t.owner -ℤ pos n;
+        owned = subst (IsOwned s page item (t.owner -ℤ pos n)) e
+            ((law cycle some page 0 item).owned_earlier t.owner (i +ℤ pos n) t.owned);
+      }
 
   pub sent_up : (page : Id) (item : Item) (i : ℤ) → IsTransmission s page item (i -ℤ pos n) → IsTransmission s page item i
   sent_up page item i t =
       let e : (i -ℤ pos n) +ℤ pos n ≡ i = omega (arith, ints) in
-      record { owner = t.owner +ℤ pos n; owned = subst (IsOwned s page item (t.owner +ℤ pos n)) e ((law cycle some page 0 item).owned_later t.owner (i -ℤ pos n) t.owned) }
+      record {
+        owner = t.owner +ℤ pos n;
+        owned = subst (IsOwned s page item (t.owner +ℤ pos n)) e
+            ((law cycle some page 0 item).owned_later t.owner (i -ℤ pos n) t.owned);
+      }
 
   pub never_wrong : (p : Page) (check : Check) → ((i : ℕ) → i < n → WrongAt s p check (pos i) → ⊥) → Never (WrongAt s p check)
   never_wrong p check = nowhere (WrongAt s p check)
@@ -99,12 +112,19 @@ module _ (cycle : List (List ℕ)) (some : 1 ≤ length cycle) where
 
   pub never_other : (page : Id) → ((i : ℕ) → i < n → OtherHeaderAt s page (pos i) → ⊥) → Never (OtherHeaderAt s page)
   never_other page = nowhere (OtherHeaderAt s page)
-      (λ i w. record { number = subst (λ x. heads_matched (AnySub page.mag page.page) (packet_of x) ≡ true) (period i) w.number; other = subst (λ x. heads_page page (packet_of x) ≡ false) (period i) w.other })
-      (λ i w. record { number = subst (λ x. heads_matched (AnySub page.mag page.page) (packet_of x) ≡ true) (back i) w.number; other = subst (λ x. heads_page page (packet_of x) ≡ false) (back i) w.other })
+      (λ i w. record {
+        number = subst (λ x. heads_matched (AnySub page.mag page.page) (packet_of x) ≡ true) (period i) w.number;
+        other = subst (λ x. heads_page page (packet_of x) ≡ false) (period i) w.other;
+      })
+      (λ i w. record {
+        number = subst (λ x. heads_matched (AnySub page.mag page.page) (packet_of x) ≡ true) (back i) w.number;
+        other = subst (λ x. heads_page page (packet_of x) ≡ false) (back i) w.other;
+      })
 
   pub never_heads : (page : Id) → ((i : ℕ) → i < n → heads_page page (packet_of (s (pos i))) ≡ true → ⊥) → HasHeader s page → ⊥
   never_heads page none h = nowhere (λ i. heads_page page (packet_of (s i)) ≡ true)
-      (λ i. subst (λ x. heads_page page (packet_of x) ≡ true) (period i)) (λ i. subst (λ x. heads_page page (packet_of x) ≡ true) (back i)) none h.slot h.is_header
+      (λ i. subst (λ x. heads_page page (packet_of x) ≡ true) (period i))
+      (λ i. subst (λ x. heads_page page (packet_of x) ≡ true) (back i)) none h.slot h.is_header
 
   -- the owner at each slot of the period
   pub owner_at : (page : Id) (j : ℕ) → O.IsOwnerAt page s (owner_scan page s (entry_owner cycle page) j) (pos j)
@@ -118,18 +138,22 @@ other_is s page j = (
 
 -- none among the first j, nor the next
 pub one_more : (P : ℕ → Type 0) (j : ℕ) → ((i : ℕ) → i < j → P i → ⊥) → (P j → ⊥) → (i : ℕ) → i < j + 1 → P i → ⊥
-one_more P j none not i lt q = elim (cases_lt i j) as (λ _. ⊥) [ inl less ↦ none i less q | inr ge ↦ let e : i ≡ j = omega arith in not (subst P e q) ]
+one_more P j none not i lt q = elim (cases_lt i j) as (λ _. ⊥)
+    [ inl less ↦ none i less q | inr ge ↦ let e : i ≡ j = omega arith in not (subst P e q) ]
 
 -- a slot of the period that sends what differs
 pub wrong_is : (cycle : List (List ℕ)) → 1 ≤ length cycle → (p : Page) (check : Check) (j : ℕ) → j < length cycle → (mine : Bool) →
     mine ≡ is_mine (owner_scan p.id (repeated cycle) (entry_owner cycle p.id) j) →
-    ((sends p.id (compared_item check) (packet_of (slice_index_or cycle j [])) mine ≡ true) × IsWrong p check (slice_index_or cycle j [])) ↔ WrongAt (repeated cycle) p check (pos j)
+    ((sends p.id (compared_item check) (packet_of (slice_index_or cycle j [])) mine ≡ true)
+    × IsWrong p check (slice_index_or cycle j [])) ↔ WrongAt (repeated cycle) p check (pos j)
 wrong_is cycle some p check j lt mine e =
     let at = slot_is cycle j lt in
     let o = owner_scan p.id (repeated cycle) (entry_owner cycle p.id) j in
     let r = sends_is p.id (repeated cycle) (pos j) (compared_item check) o (owner_at cycle some p.id j) in
-    let same : sends p.id (compared_item check) (packet_of (slice_index_or cycle j [])) mine ≡ sends p.id (compared_item check) (packet_of (repeated cycle (pos j))) (is_mine o) =
-    ap (λ x. sends p.id (compared_item check) (packet_of x) mine) (sym at) ∙ ap (λ m. sends p.id (compared_item check) (packet_of (repeated cycle (pos j))) m) e in (
+    let same : sends p.id (compared_item check) (packet_of (slice_index_or cycle j [])) mine
+    ≡ sends p.id (compared_item check) (packet_of (repeated cycle (pos j))) (is_mine o) =
+    ap (λ x. sends p.id (compared_item check) (packet_of x) mine) (sym at)
+    ∙ ap (λ m. sends p.id (compared_item check) (packet_of (repeated cycle (pos j))) m) e in (
       (λ h. record { sent = r.0 (sym same ∙ h.0); wrong = subst (IsWrong p check) (sym at) h.1 }),
       (λ w. (same ∙ r.1 w.sent, subst (IsWrong p check) at w.wrong)),
     )

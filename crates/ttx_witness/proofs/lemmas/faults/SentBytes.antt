@@ -32,7 +32,9 @@ small = refl
 -- a union with a difference has no bit where the union has none and the bytes are the same
 pub union_more : (u a b : ℕ) → u < 256 → a < 256 → b < 256 → (bit_or u (bit_xor a b) == 0) ≡ ((u == 0) && (a == b))
 union_more u a b lu la lb =
-    let fits : bit_xor a b < 256 = ltb-true _ _ (agree_below_at (λ b. ltb (bit_xor a b) 256) (λ _. true) 256 b (agree_below_at (λ a. agree_below (λ b. ltb (bit_xor a b) 256) (λ _. true) 256) (λ _. true) 256 a small la) lb) in
+    let fits : bit_xor a b < 256 = ltb-true _ _
+    (agree_below_at (λ b. ltb (bit_xor a b) 256) (λ _. true) 256 b
+    (agree_below_at (λ a. agree_below (λ b. ltb (bit_xor a b) 256) (λ _. true) 256) (λ _. true) 256 a small la) lb) in
     no_bit u (bit_xor a b) lu fits
     ∙ ap (λ t. (u == 0) && t) (agree_below_at (λ b. bit_xor a b == 0) (λ b. a == b) 256 b
     (agree_below_at (λ a. agree_below (λ b. bit_xor a b == 0) (λ b. a == b) 256) (λ _. true) 256 a differences la) lb)
@@ -59,7 +61,8 @@ sent_more bytes characters i lt e =
     let next : i + 1 ≡ suc i = omega arith in
     ap (λ n. are_sent n bytes characters) next ∙ sent_suc bytes characters i lt e
 
-pub sent_whole : (bytes characters : List ℕ) (n : ℕ) → length bytes ≡ length characters → length bytes ≤ n → (are_sent n bytes characters ≡ true) ↔ (bytes ≡ map odd_byte characters)
+pub sent_whole : (bytes characters : List ℕ) (n : ℕ) → length bytes ≡ length characters → length bytes ≤ n →
+    (are_sent n bytes characters ≡ true) ↔ (bytes ≡ map odd_byte characters)
 sent_whole [] [] zero e le = ((λ t. refl), (λ q. refl))
 sent_whole [] [] (suc n) e le = ((λ t. refl), (λ q. refl))
 sent_whole [] (c ∷ characters) n e le = absurd (omega arith)
@@ -67,6 +70,7 @@ sent_whole (b ∷ bytes) [] n e le = absurd (omega arith)
 sent_whole (b ∷ bytes) (c ∷ characters) zero e le = absurd (omega arith)
 sent_whole (b ∷ bytes) (c ∷ characters) (suc n) e le =
     let rest = sent_whole bytes characters n (omega arith) (omega arith) in (
-      (λ t. ap (λ x. x ∷ bytes) (eqb-true b (odd_byte c) ((and_parts _ _ t).0)) ∙ ap (λ xs. odd_byte c ∷ xs) (rest.0 ((and_parts (b == odd_byte c) _ t).1))),
+      (λ t. ap (λ x. x ∷ bytes) (eqb-true b (odd_byte c) ((and_parts _ _ t).0))
+          ∙ ap (λ xs. odd_byte c ∷ xs) (rest.0 ((and_parts (b == odd_byte c) _ t).1))),
       (λ q. and_from _ _ (eq-eqb _ _ (ap (λ xs. get_or xs 0 0) q)) (rest.1 (ap (drop 1) q))),
     )

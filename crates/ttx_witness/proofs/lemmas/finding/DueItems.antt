@@ -28,13 +28,15 @@ AreApart pages = (i j : ℕ) (p q : Page) → slice_get pages i ≡ Some p → s
 pub pages_apart : (pages : List PageValue) → AllPairs (λ a b. a ≢ b) (ids_of pages) → AreApart (map page_of pages)
 pages_apart pages distinct i j p q e f same = elim (cases_lt i j) as (λ _. i ≡ j) [
   | inl low ↦ absurd (differ i j p q low e f same)
-  | inr le ↦ elim (cases_lt j i) as (λ _. i ≡ j) [ inl high ↦ absurd (differ j i q p high f e (sym same)) | inr ge ↦ (let g : i ≡ j = omega arith in g) ]
+  | inr le ↦ elim (cases_lt j i) as (λ _. i ≡ j)
+      [ inl high ↦ absurd (differ j i q p high f e (sym same)) | inr ge ↦ (let g : i ≡ j = omega arith in g) ]
 ]
   where
     differ : (i j : ℕ) (p q : Page) → i < j → slice_get (map page_of pages) i ≡ Some p → slice_get (map page_of pages) j ≡ Some q → p.id ≡ q.id → ⊥
     differ i j p q lt e f same =
         let a = id_of_page pages i p e in let b = id_of_page pages j q f in
-        distinct i j p.id lt (slice_get_within (ids_of pages) j q.id b) (get_or_from_slice_get (ids_of pages) i p.id p.id a ∙ same ∙ sym (get_or_from_slice_get (ids_of pages) j q.id p.id b))
+        distinct i j p.id lt (slice_get_within (ids_of pages) j q.id b)
+        (get_or_from_slice_get (ids_of pages) i p.id p.id a ∙ same ∙ sym (get_or_from_slice_get (ids_of pages) j q.id p.id b))
 
 pub item_one : (a b : Item) → IsItem a → IsItem b → item_number a ≡ item_number b → a ≡ b
 item_one TheHead TheHead x y e = refl
@@ -72,7 +74,8 @@ all_append P (y ∷ ys) x a p = (a.0, all_append P ys x a.1 p)
 all_push : {A : Type 0} (P : A → Type 0) (xs : List A) (x : A) → All P xs → P x → All P (xs ++ x ∷ [])
 all_push P xs x a p = all_by_place P (xs ++ x ∷ []) (all_append P xs x (all_by_recursion P xs a) p)
 
-module _ (pages : List Page) (class : Class) (m j : ℕ) (q : Page) (given : Item) (at : slice_get pages j ≡ Some q) (is : IsItem given) (here : place_of_item j given ≡ m) where
+module _ (pages : List Page) (class : Class) (m j : ℕ) (q : Page) (given : Item) (at : slice_get pages j ≡ Some q) (is : IsItem given)
+    (here : place_of_item j given ≡ m) where
   pub done_more : (i : ℕ) (p : Page) (item : Item) → IsDone pages m i p item → IsDone pages (m + 1) i p item
   done_more i p item d = record { at = d.at; is = d.is; seen = d.seen; before = let b = d.before in omega arith }
 
@@ -95,7 +98,8 @@ module _ (pages : List Page) (class : Class) (m j : ℕ) (q : Page) (given : Ite
 
   module _ (cycle : List (List ℕ)) (lines repeat : ℕ) where
     -- no earlier entry stands in the place of one of this item
-    new_place : AreApart pages → (e n : Entry) → NamesStarts cycle pages class lines repeat m e → n.page ≡ q.id → n.item ≡ given → same_place e n ≡ false
+    new_place : AreApart pages → (e n : Entry) → NamesStarts cycle pages class lines repeat m e → n.page ≡ q.id → n.item ≡ given →
+        same_place e n ≡ false
     new_place apart e n t page item = elim (cases_Bool (same_place e n)) as (λ _. same_place e n ≡ false) [
       | inl same ↦
           let one = same_entry n.page n.item n.kept.id n.kept.item e (eqb-true _ _ same) in
@@ -110,7 +114,8 @@ module _ (pages : List Page) (class : Class) (m j : ℕ) (q : Page) (given : Ite
     told_more : (e : Entry) → NamesStarts cycle pages class lines repeat m e → NamesStarts cycle pages class lines repeat (m + 1) e
     told_more e t = record { index = t.index; p = t.p; done = done_more t.index t.p e.item t.done; page = t.page; starts = t.starts }
 
-    pub nothing_named : (entries : List Entry) (least : Option ℕ) → needed q given ≡ false → AreNamed cycle pages class lines repeat m entries least → AreNamed cycle pages class lines repeat (m + 1) entries least
+    pub nothing_named : (entries : List Entry) (least : Option ℕ) → needed q given ≡ false →
+        AreNamed cycle pages class lines repeat m entries least → AreNamed cycle pages class lines repeat (m + 1) entries least
     nothing_named entries least not_seen a = record {
       told = all_more (NamesStarts cycle pages class lines repeat m) (NamesStarts cycle pages class lines repeat (m + 1)) told_more entries a.told;
       apart = a.apart;
@@ -122,18 +127,27 @@ module _ (pages : List Page) (class : Class) (m j : ℕ) (q : Page) (given : Ite
     }
       where
         not_last : (i : ℕ) (p : Page) (item : Item) → IsDone pages (m + 1) i p item → IsLast i p item → ⊥
-        not_last i p item d l = both_ways (needed q given) not_seen (subst (λ x. needed q x ≡ true) l.of_item (subst (λ x. needed x item ≡ true) l.of_page d.seen))
+        not_last i p item d l = both_ways (needed q given) not_seen
+            (subst (λ x. needed q x ≡ true) l.of_item (subst (λ x. needed x item ≡ true) l.of_page d.seen))
 
-    pub one_named : AreApart pages → (old new : List Entry) (least limit_here : Option ℕ) → needed q given ≡ true → AddsEntry old new q.id given (starts_for cycle class lines repeat q given) →
-        limit_here ≡ limit_for cycle class lines repeat q given → AreNamed cycle pages class lines repeat m old least → AreNamed cycle pages class lines repeat (m + 1) new (wider least limit_here)
+    pub one_named : AreApart pages → (old new : List Entry) (least limit_here : Option ℕ) → needed q given ≡ true →
+        AddsEntry old new q.id given (starts_for cycle class lines repeat q given) →
+        limit_here ≡ limit_for cycle class lines repeat q given → AreNamed cycle pages class lines repeat m old least →
+        AreNamed cycle pages class lines repeat (m + 1) new (wider least limit_here)
     one_named distinct old new least limit_here seen adds e a = record {
       told = told_now adds;
       apart = apart_now adds;
-      kept = λ i p item d. elim (done_cases i p item d) as (λ _. (starts_for cycle class lines repeat p item ≡ []) ⊎ HasEntry new p.id item)
-          [ inl b ↦ kept_before adds p item (a.kept i p item b) | inr l ↦ subst (λ x. (starts_for cycle class lines repeat p x ≡ []) ⊎ HasEntry new p.id x) (sym l.of_item) (subst (λ x. (starts_for cycle class lines repeat x given ≡ []) ⊎ HasEntry new x.id given) (sym l.of_page) (kept_now adds)) ];
+      kept = λ i p item d. elim (done_cases i p item d) as (λ _. (starts_for cycle class lines repeat p item ≡ []) ⊎ HasEntry new p.id item) [
+        | inl b ↦ kept_before adds p item (a.kept i p item b)
+        | inr l ↦ subst (λ x. (starts_for cycle class lines repeat p x ≡ []) ⊎ HasEntry new p.id x) (sym l.of_item)
+            (subst (λ x. (starts_for cycle class lines repeat x given ≡ []) ⊎ HasEntry new x.id given) (sym l.of_page)
+            (kept_now adds))
+      ];
       least_to = λ limit f i p item d. elim (done_cases i p item d) as (λ _. IsEnough (limit_for cycle class lines repeat p item) limit) [
         | inl b ↦ a.least_to limit (fits_left least limit_here limit f) i p item b
-        | inr l ↦ subst (λ x. IsEnough (limit_for cycle class lines repeat p x) limit) (sym l.of_item) (subst (λ x. IsEnough (limit_for cycle class lines repeat x given) limit) (sym l.of_page) (subst (λ x. IsEnough x limit) e (fits_right least limit_here limit f)))
+        | inr l ↦ subst (λ x. IsEnough (limit_for cycle class lines repeat p x) limit) (sym l.of_item)
+            (subst (λ x. IsEnough (limit_for cycle class lines repeat x given) limit) (sym l.of_page)
+            (subst (λ x. IsEnough x limit) e (fits_right least limit_here limit f)))
       ];
       least_from = λ limit f. fits_both least limit_here limit (a.least_from limit (λ i p item d. f i p item (done_more i p item d)))
           (subst (λ x. IsEnough x limit) (sym e) (f j q given done_here));
@@ -142,24 +156,46 @@ module _ (pages : List Page) (class : Class) (m j : ℕ) (q : Page) (given : Ite
         done_here : IsDone pages (m + 1) j q given
         done_here = record { at = at; is = is; seen = seen; before = omega arith }
 
-        told_now : AddsEntry old new q.id given (starts_for cycle class lines repeat q given) → All (NamesStarts cycle pages class lines repeat (m + 1)) new
-        told_now (inl n) = subst (All (NamesStarts cycle pages class lines repeat (m + 1))) (sym n.1) (all_more (NamesStarts cycle pages class lines repeat m) (NamesStarts cycle pages class lines repeat (m + 1)) told_more old a.told)
+        told_now : AddsEntry old new q.id given (starts_for cycle class lines repeat q given) →
+            All (NamesStarts cycle pages class lines repeat (m + 1)) new
+        told_now (inl n) = subst (All (NamesStarts cycle pages class lines repeat (m + 1))) (sym n.1)
+            (all_more (NamesStarts cycle pages class lines repeat m)
+            (NamesStarts cycle pages class lines repeat (m + 1)) told_more old a.told)
         told_now (inr n) = subst (All (NamesStarts cycle pages class lines repeat (m + 1))) (sym n.1)
-            (all_push (NamesStarts cycle pages class lines repeat (m + 1)) old n.0 (all_more (NamesStarts cycle pages class lines repeat m) (NamesStarts cycle pages class lines repeat (m + 1)) told_more old a.told)
-            (record { index = j; p = q; done = subst (IsDone pages (m + 1) j q) (sym n.3) done_here; page = n.2; starts = n.4 ∙ ap (starts_for cycle class lines repeat q) (sym n.3) }))
+            (all_push (NamesStarts cycle pages class lines repeat (m + 1)) old n.0
+            (all_more (NamesStarts cycle pages class lines repeat m)
+            (NamesStarts cycle pages class lines repeat (m + 1)) told_more old a.told)
+            (record {
+              index = j;
+              p = q;
+              done = subst (IsDone pages (m + 1) j q) (sym n.3) done_here;
+              page = n.2;
+              starts = n.4
+                  ∙ ap (starts_for cycle class lines repeat q) (sym n.3);
+            }))
 
         apart_now : AddsEntry old new q.id given (starts_for cycle class lines repeat q given) → AllPairs (λ x y. same_place x y ≡ false) new
         apart_now (inl n) = subst (AllPairs (λ x y. same_place x y ≡ false)) (sym n.1) a.apart
         apart_now (inr n) = subst (AllPairs (λ x y. same_place x y ≡ false)) (sym n.1)
-            (all_pairs_push (λ x y. same_place x y ≡ false) old n.0 a.apart (λ k d lt. new_place distinct (get_or old k d) n.0 (a.told k d lt) n.2 n.3))
+            (all_pairs_push (λ x y. same_place x y ≡ false) old n.0 a.apart
+            (λ k d lt. new_place distinct (get_or old k d) n.0 (a.told k d lt) n.2 n.3))
 
-        kept_before : AddsEntry old new q.id given (starts_for cycle class lines repeat q given) → (p : Page) (item : Item) → (starts_for cycle class lines repeat p item ≡ []) ⊎ HasEntry old p.id item →
+        kept_before : AddsEntry old new q.id given (starts_for cycle class lines repeat q given) → (p : Page) (item : Item) →
+            (starts_for cycle class lines repeat p item ≡ []) ⊎ HasEntry old p.id item →
             (starts_for cycle class lines repeat p item ≡ []) ⊎ HasEntry new p.id item
         kept_before adds p item (inl e) = inl e
         kept_before (inl n) p item (inr h) = inr (subst (λ x. HasEntry x p.id item) (sym n.1) h)
-        kept_before (inr n) p item (inr h) = inr (record { entry = h.entry; among = subst (λ x. Contains x h.entry) (sym n.1) (Contains-append_left old (n.0 ∷ []) h.entry h.among); of_page = h.of_page; of_item = h.of_item })
+        kept_before (inr n) p item (inr h) = inr
+            (record {
+              entry = h.entry;
+              among = subst (λ x. Contains x h.entry) (sym n.1)
+                  (Contains-append_left old (n.0 ∷ []) h.entry h.among);
+              of_page = h.of_page;
+              of_item = h.of_item;
+            })
 
-        kept_now : AddsEntry old new q.id given (starts_for cycle class lines repeat q given) → (starts_for cycle class lines repeat q given ≡ []) ⊎ HasEntry new q.id given
+        kept_now : AddsEntry old new q.id given (starts_for cycle class lines repeat q given) →
+            (starts_for cycle class lines repeat q given ≡ []) ⊎ HasEntry new q.id given
         kept_now (inl n) = inl n.0
         kept_now (inr n) = inr (record {
           entry = n.0;

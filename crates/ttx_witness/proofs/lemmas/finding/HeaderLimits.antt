@@ -27,14 +27,16 @@ owner_heads s page (TheRow r) h j o = o.1
 owner_heads s page TheLinks h j o = o.1
 
 -- where any item is covered, the headers come in time
-pub next_covered : (cycle : List (List ℕ)) (p : Page) (v : Certificate) (item : Item) → IsCovered cycle p v item → (tau : ℤ) → Next cycle p (limit v) tau
+pub next_covered : (cycle : List (List ℕ)) (p : Page) (v : Certificate) (item : Item) → IsCovered cycle p v item → (tau : ℤ) →
+    Next cycle p (limit v) tau
 next_covered cycle p v item c tau =
     let t = c.in_time tau in
     let before : t.1 ≤ℤ t.0 = owned_before (repeated cycle) p.id item t.1 t.0 t.3 in
     let high : t.0 <ℤ (tau +ℤ pos (limit v)) = t.5.ends.0 in
     (t.1, t.4, omega (arith, ints), owner_heads (repeated cycle) p.id item t.1 t.0 t.3)
 
-module _ (turn : EachSlotTurns) (found : SureStartsAreFound) (law : LeastLimitIsFound) (cycle : List (List ℕ)) (some : 1 ≤ length cycle) (p : Page) (lines d : ℕ) where
+module _ (turn : EachSlotTurns) (found : SureStartsAreFound) (law : LeastLimitIsFound) (cycle : List (List ℕ)) (some : 1 ≤ length cycle)
+    (p : Page) (lines d : ℕ) where
   -- a certificate that names each header
   abbrev w : Certificate
   w = record { lines = lines; repeat = 1; deadline = d; class = Clearing; starts = λ id item. found_starts cycle id lines item 0 }
@@ -49,17 +51,22 @@ module _ (turn : EachSlotTurns) (found : SureStartsAreFound) (law : LeastLimitIs
   named_head i h =
       let j = pos (turned (length cycle) i) in
       let here : Head (pos (turned (length cycle) i)) = subst (λ x. heads_page p.id (packet_of x) ≡ true) (sym (turned_back turn cycle some i)) h in
-      (found cycle some p.id lines 1 TheHead 0 refl (turned (length cycle) i)).1
-      ((turn (length cycle) i some).inside, record { rest = []; run = single j here; all_sure = (record { owner = j; owned = (refl, here); sure = tt }, tt) })
+      (found cycle some p.id lines 1 TheHead 0 refl (turned (length cycle) i)).1 (
+        (turn (length cycle) i some).inside,
+        record
+            { rest = []; run = single j here; all_sure = (record { owner = j; owned = (refl, here); sure = tt }, tt) },
+      )
 
   covered_next : ((tau : ℤ) → Next cycle p (d * lines) tau) → IsCovered cycle p w TheHead
   covered_next next = record {
     named = let i = next (pos 0) in (turned (length cycle) i.0, named_head i.0 i.3);
     sure = λ start. (found cycle some p.id lines 1 TheHead 0 refl start).0;
-    in_time = λ tau. let i = next tau in (i.0, i.0, named_head i.0 i.3, (refl, i.3), i.1, record { rest = []; run = single i.0 i.3; ends = (i.2, tt) });
+    in_time = λ tau. let i = next tau in
+        (i.0, i.0, named_head i.0 i.3, (refl, i.3), i.1, record { rest = []; run = single i.0 i.3; ends = (i.2, tt) });
   }
 
-  pub next_fits : (o : Option Spread) → found_spread cycle p.id lines TheHead 0 ≡ o → ((tau : ℤ) → Next cycle p (d * lines) tau) ↔ IsEnough (limit_of (length cycle) o) (d * lines)
+  pub next_fits : (o : Option Spread) → found_spread cycle p.id lines TheHead 0 ≡ o → ((tau : ℤ) → Next cycle p (d * lines) tau)
+      ↔ IsEnough (limit_of (length cycle) o) (d * lines)
   next_fits None e = ((λ next. (law cycle some p w TheHead 0 refl).0 e (covered_next next)), (λ f. absurd f))
   next_fits (Some s) e =
       let l = (law cycle some p w TheHead 0 refl).1 s e in

@@ -46,29 +46,40 @@ use Rattle.ttx_witness.proofs.lemmas.sent.RunLengths.{run_some}
 abbrev NamesFor : Id → Item → List ℕ → Entry → Type 0
 NamesFor id item x e = e.page ≡ id → item_number e.item ≡ item_number item → e.starts.items ≡ x
 
-starts_at : (id : Id) (item : Item) (x : List ℕ) (es : List Entry) → AllByRecursion (NamesFor id item x) es → (x ≡ []) ⊎ HasEntry es id item → starts_in (entries_of es) id item ≡ x
+starts_at : (id : Id) (item : Item) (x : List ℕ) (es : List Entry) → AllByRecursion (NamesFor id item x) es → (x ≡ [])
+    ⊎ HasEntry es id item → starts_in (entries_of es) id item ≡ x
 starts_at id item x [] a (inl e) = sym e
 starts_at id item x [] a (inr h) = absurd (let lt = h.among.1 in omega arith)
-starts_at id item x (e ∷ es) a h = elim (cases_Bool (same_id e.page id && same_item e.item item)) as (λ _. (if same_id e.page id && same_item e.item item then e.starts.items else starts_in (entries_of es) id item) ≡ x) [
-  | inl t ↦ cond-true (same_id e.page id && same_item e.item item) _ _ t ∙ a.0 (same_one e.page id ((and_parts _ _ t).0)) (eqb-true _ _ ((and_parts (same_id e.page id) _ t).1))
-  | inr f ↦ cond-false (same_id e.page id && same_item e.item item) _ _ f ∙ starts_at id item x es a.1 (rest f h)
-]
+starts_at id item x (e ∷ es) a h = elim (cases_Bool (same_id e.page id && same_item e.item item)) as
+    (λ _. (if same_id e.page id && same_item e.item item then e.starts.items else starts_in (entries_of es) id item) ≡ x) [
+      | inl t ↦ cond-true (same_id e.page id && same_item e.item item) _ _ t
+          ∙ a.0 (same_one e.page id ((and_parts _ _ t).0)) (eqb-true _ _ ((and_parts (same_id e.page id) _ t).1))
+      | inr f ↦ cond-false (same_id e.page id && same_item e.item item) _ _ f ∙ starts_at id item x es a.1 (rest f h)
+    ]
   where
     here : (f : Entry) → e ≡ f → f.page ≡ id → f.item ≡ item → (same_id e.page id && same_item e.item item) ≡ true
-    here f same page number = and_from _ _ (subst (λ y. same_id y id ≡ true) (sym (ap (λ y. y.page) same ∙ page)) (same_self id)) (eq-eqb _ _ (ap (λ y. item_number y.item) same ∙ ap item_number number))
+    here f same page number = and_from _ _ (subst (λ y. same_id y id ≡ true) (sym (ap (λ y. y.page) same ∙ page)) (same_self id))
+        (eq-eqb _ _ (ap (λ y. item_number y.item) same ∙ ap item_number number))
 
-    later_one : (f : Entry) (k : ℕ) → (same_id e.page id && same_item e.item item) ≡ false → k < length (e ∷ es) → get_or (e ∷ es) k f ≡ f → f.page ≡ id → f.item ≡ item → Contains es f
+    later_one : (f : Entry) (k : ℕ) → (same_id e.page id && same_item e.item item) ≡ false → k < length (e ∷ es) → get_or (e ∷ es) k f
+        ≡ f → f.page ≡ id → f.item ≡ item → Contains es f
     later_one f zero other lt is page number = absurd (both_ways _ other (here f is page number))
     later_one f (suc k) other lt is page number = (k, (omega arith), is)
 
     rest : (same_id e.page id && same_item e.item item) ≡ false → (x ≡ []) ⊎ HasEntry (e ∷ es) id item → (x ≡ []) ⊎ HasEntry es id item
     rest other (inl q) = inl q
-    rest other (inr h) = inr (record { entry = h.entry; among = later_one h.entry h.among.0 other h.among.1 h.among.2 h.of_page h.of_item; of_page = h.of_page; of_item = h.of_item })
+    rest other (inr h) = inr (record {
+      entry = h.entry;
+      among = later_one h.entry h.among.0 other h.among.1 h.among.2 h.of_page h.of_item;
+      of_page = h.of_page;
+      of_item = h.of_item;
+    })
 
 pub item_needed : (p : Page) (item : Item) → needed p item ≡ true → IsItem item
 item_needed p TheHead n = tt
 item_needed p (TheRow r) n =
-    let range = (and_parts (nat_le 1 r && nat_le r 24) (not (c10 p.control)) (and_parts (nat_le 1 r && nat_le r 24 && not (c10 p.control)) _ n).0).0 in
+    let range = (and_parts (nat_le 1 r && nat_le r 24) (not (c10 p.control))
+    (and_parts (nat_le 1 r && nat_le r 24 && not (c10 p.control)) _ n).0).0 in
     (leb-true 1 r ((and_parts (nat_le 1 r) (nat_le r 24) range).0), leb-true r 24 ((and_parts (nat_le 1 r) (nat_le r 24) range).1))
 item_needed p TheLinks n = tt
 
@@ -81,7 +92,8 @@ not_is true e = cc
 not_is false e = refl
 
 pub due_not_blank : (class : Class) (p : Page) (item : Item) → class ≡ Clearing → is_due class p item ≡ true → is_blank p item ≡ false
-due_not_blank class p item clearing due = not_is (is_blank p item) ((and_parts (needed p item) (not (is_blank p item)) (subst (λ c. is_due c p item ≡ true) clearing due)).1)
+due_not_blank class p item clearing due = not_is (is_blank p item)
+    ((and_parts (needed p item) (not (is_blank p item)) (subst (λ c. is_due c p item ≡ true) clearing due)).1)
 
 blank_if : (a b : Bool) → a ≡ true → (a && not b) ≡ false → b ≡ true
 blank_if true true n e = refl
@@ -89,7 +101,8 @@ blank_if true false n e = cc
 blank_if false b n e = cc
 
 -- an item that a viewer sees isn't due only where receivers clear and it is blank
-pub not_due_is : (class : Class) (p : Page) (item : Item) → needed p item ≡ true → is_due class p item ≡ false → (class ≡ Clearing) × (is_blank p item ≡ true)
+pub not_due_is : (class : Class) (p : Page) (item : Item) → needed p item ≡ true → is_due class p item ≡ false → (class ≡ Clearing)
+    × (is_blank p item ≡ true)
 not_due_is Any p item n e = absurd (both_ways (needed p item) e n)
 not_due_is Clearing p item n e = (refl, blank_if (needed p item) (is_blank p item) n e)
 
@@ -107,9 +120,11 @@ pages_tested keep six tested pages n p at item seen = go pages n at
         tested p item (subst IsPage h (keep q)) (subst (λ x. length x.links.six ≡ 6) h (six q)) seen
     go (q ∷ qs) (suc n) e = go qs n e
 
-module _ (cycle : List (List ℕ)) (some : 1 ≤ length cycle) (pages : List Page) (apart : AreApart pages) (class : Class) (lines repeat : ℕ) (repeats : 1 ≤ repeat) (es : List Entry) (least : Option ℕ)
+module _ (cycle : List (List ℕ)) (some : 1 ≤ length cycle) (pages : List Page) (apart : AreApart pages) (class : Class)
+    (lines repeat : ℕ) (repeats : 1 ≤ repeat) (es : List Entry) (least : Option ℕ)
     (named : AreNamed cycle pages class lines repeat (26 * length pages) es least) where
-  done : (i : ℕ) (p : Page) (item : Item) → slice_get pages i ≡ Some p → IsItem item → needed p item ≡ true → IsDone pages (26 * length pages) i p item
+  done : (i : ℕ) (p : Page) (item : Item) → slice_get pages i ≡ Some p → IsItem item → needed p item ≡ true →
+      IsDone pages (26 * length pages) i p item
   done i p item at is seen = record { at = at; is = is; seen = seen; before = place_below i item (length pages) (slice_get_within pages i p at) is }
 
   abbrev Told : Entry → Type 0
@@ -124,29 +139,39 @@ module _ (cycle : List (List ℕ)) (some : 1 ≤ length cycle) (pages : List Pag
       let there : slice_get pages i ≡ Some t.p = subst (λ n. slice_get pages n ≡ Some t.p) index t.done.at in
       cc
 
-  seen_starts : (i : ℕ) (p : Page) (item : Item) → slice_get pages i ≡ Some p → IsItem item → needed p item ≡ true → starts_in (entries_of es) p.id item ≡ starts_for cycle class lines repeat p item
+  seen_starts : (i : ℕ) (p : Page) (item : Item) → slice_get pages i ≡ Some p → IsItem item → needed p item ≡ true →
+      starts_in (entries_of es) p.id item ≡ starts_for cycle class lines repeat p item
   seen_starts i p item at is seen = starts_at p.id item (starts_for cycle class lines repeat p item) es
       (by_told (NamesFor p.id item (starts_for cycle class lines repeat p item)) (λ e t page number.
-      t.starts ∙ ap (λ x. starts_for cycle class lines repeat x e.item) (page_one i p at e t page) ∙ ap (starts_for cycle class lines repeat p) (item_one e.item item t.done.is is number)))
+      t.starts ∙ ap (λ x. starts_for cycle class lines repeat x e.item) (page_one i p at e t page)
+      ∙ ap (starts_for cycle class lines repeat p) (item_one e.item item t.done.is is number)))
       (named.kept i p item (done i p item at is seen))
 
-  unseen_starts : (i : ℕ) (p : Page) (item : Item) → slice_get pages i ≡ Some p → IsItem item → needed p item ≡ false → starts_in (entries_of es) p.id item ≡ []
+  unseen_starts : (i : ℕ) (p : Page) (item : Item) → slice_get pages i ≡ Some p → IsItem item → needed p item ≡ false →
+      starts_in (entries_of es) p.id item ≡ []
   unseen_starts i p item at is unseen = starts_at p.id item [] es
       (by_told (NamesFor p.id item []) (λ e t page number. absurd (
-      both_ways (needed p item) unseen (subst (λ x. needed p x ≡ true) (item_one e.item item t.done.is is number) (subst (λ x. needed x e.item ≡ true) (page_one i p at e t page) t.done.seen)))))
+      both_ways (needed p item) unseen
+      (subst (λ x. needed p x ≡ true) (item_one e.item item t.done.is is number)
+      (subst (λ x. needed x e.item ≡ true) (page_one i p at e t page) t.done.seen)))))
       (inl refl)
 
-  pub due_starts : (i : ℕ) (p : Page) (item : Item) → slice_get pages i ≡ Some p → IsItem item → is_due class p item ≡ true → starts_in (entries_of es) p.id item ≡ starts_of cycle lines repeat p.id item
-  due_starts i p item at is due = seen_starts i p item at is (due_needed class p item due) ∙ cond-true (is_due class p item) (starts_of cycle lines repeat p.id item) [] due
+  pub due_starts : (i : ℕ) (p : Page) (item : Item) → slice_get pages i ≡ Some p → IsItem item → is_due class p item ≡ true →
+      starts_in (entries_of es) p.id item ≡ starts_of cycle lines repeat p.id item
+  due_starts i p item at is due = seen_starts i p item at is (due_needed class p item due)
+      ∙ cond-true (is_due class p item) (starts_of cycle lines repeat p.id item) [] due
 
-  pub other_starts : (i : ℕ) (p : Page) (item : Item) → slice_get pages i ≡ Some p → IsItem item → is_due class p item ≡ false → starts_in (entries_of es) p.id item ≡ []
+  pub other_starts : (i : ℕ) (p : Page) (item : Item) → slice_get pages i ≡ Some p → IsItem item → is_due class p item ≡ false →
+      starts_in (entries_of es) p.id item ≡ []
   other_starts i p item at is not_due = elim (cases_Bool (needed p item)) as (λ _. starts_in (entries_of es) p.id item ≡ []) [
     | inl seen ↦ seen_starts i p item at is seen ∙ cond-false (is_due class p item) (starts_of cycle lines repeat p.id item) [] not_due
     | inr unseen ↦ unseen_starts i p item at is unseen
   ]
 
-  pub no_page_starts : (id : Id) → ((n : ℕ) (p : Page) → slice_get pages n ≡ Some p → p.id ≡ id → ⊥) → (item : Item) → starts_in (entries_of es) id item ≡ []
-  no_page_starts id none item = starts_at id item [] es (by_told (NamesFor id item []) (λ e t page number. absurd (none t.index t.p t.done.at (sym t.page ∙ page)))) (inl refl)
+  pub no_page_starts : (id : Id) → ((n : ℕ) (p : Page) → slice_get pages n ≡ Some p → p.id ≡ id → ⊥) → (item : Item) →
+      starts_in (entries_of es) id item ≡ []
+  no_page_starts id none item = starts_at id item [] es
+      (by_told (NamesFor id item []) (λ e t page number. absurd (none t.index t.p t.done.at (sym t.page ∙ page)))) (inl refl)
 
   module _ (d : ℕ) where
     abbrev pub w : Certificate
@@ -169,59 +194,86 @@ module _ (cycle : List (List ℕ)) (some : 1 ≤ length cycle) (pages : List Pag
         from h = subst (λ x. Contains x start) (sym (due_starts n p item at is h.0)) (law.1 h.1)
 
     -- with a limit that is enough each item is covered
-    pub due_covered : LeastLimitIsFound → IsEnough least (d * lines) → (n : ℕ) (p : Page) → slice_get pages n ≡ Some p → (item : Item) → IsItem item → is_due class p item ≡ true → IsCovered cycle p w item
+    pub due_covered : LeastLimitIsFound → IsEnough least (d * lines) → (n : ℕ) (p : Page) → slice_get pages n ≡ Some p → (item : Item) →
+        IsItem item → is_due class p item ≡ true → IsCovered cycle p w item
     due_covered law fits n p at item is due =
-        go (spread_at cycle lines repeat p.id item) refl (subst (λ x. IsEnough x (d * lines)) (cond-true (is_due class p item) (least_limit cycle lines repeat p.id item) (least_limit cycle lines 1 p.id TheHead) due)
+        go (spread_at cycle lines repeat p.id item) refl
+        (subst (λ x. IsEnough x (d * lines))
+        (cond-true (is_due class p item) (least_limit cycle lines repeat p.id item)
+        (least_limit cycle lines 1 p.id TheHead) due)
         (named.least_to (d * lines) fits n p item (done n p item at is (due_needed class p item due))))
       where
-        go : (sp : Option Spread) → spread_at cycle lines repeat p.id item ≡ sp → IsEnough (limit_of (length cycle) sp) (d * lines) → IsCovered cycle p w item
+        go : (sp : Option Spread) → spread_at cycle lines repeat p.id item ≡ sp → IsEnough (limit_of (length cycle) sp) (d * lines) →
+            IsCovered cycle p w item
         go None e f = absurd f
-        go (Some s) e f = ((law cycle some p w item (run_length repeat item - 1) (run_some repeat item repeats)).1 s e).1 (due_starts n p item at is due) f
+        go (Some s) e f = ((law cycle some p w item (run_length repeat item - 1) (run_some repeat item repeats)).1 s e).1
+            (due_starts n p item at is due) f
 
     -- and the headers of a page with an item that isn't due come in time
-    pub left_in_time : EachSlotTurns → SureStartsAreFound → LeastLimitIsFound → IsEnough least (d * lines) → (n : ℕ) (p : Page) → slice_get pages n ≡ Some p → (item : Item) → IsItem item →
+    pub left_in_time : EachSlotTurns → SureStartsAreFound → LeastLimitIsFound → IsEnough least (d * lines) → (n : ℕ) (p : Page) →
+        slice_get pages n ≡ Some p → (item : Item) → IsItem item →
         needed p item ≡ true → is_due class p item ≡ false → (tau : ℤ) → Next cycle p (d * lines) tau
     left_in_time turn found law fits n p at item is seen not_due =
         (next_fits turn found law cycle some p lines d (spread_at cycle lines 1 p.id TheHead) refl).1
-        (subst (λ x. IsEnough x (d * lines)) (cond-false (is_due class p item) (least_limit cycle lines repeat p.id item) (least_limit cycle lines 1 p.id TheHead) not_due)
+        (subst (λ x. IsEnough x (d * lines))
+        (cond-false (is_due class p item) (least_limit cycle lines repeat p.id item)
+        (least_limit cycle lines 1 p.id TheHead) not_due)
         (named.least_to (d * lines) fits n p item (done n p item at is seen)))
 
   -- a limit with which each item that is due is covered, and headers come in time where one isn't, is enough
-  module _ (turn : EachSlotTurns) (found : SureStartsAreFound) (law : LeastLimitIsFound) (v : Certificate) (same_lines : v.lines ≡ lines) (same_repeat : v.repeat ≡ repeat)
-      (covered : (n : ℕ) (p : Page) → slice_get pages n ≡ Some p → (item : Item) → IsItem item → is_due class p item ≡ true → IsCovered cycle p v item)
-      (left : (n : ℕ) (p : Page) → slice_get pages n ≡ Some p → (item : Item) → IsItem item → needed p item ≡ true → is_due class p item ≡ false → (tau : ℤ) → Next cycle p (limit v) tau) where
+  module _ (turn : EachSlotTurns) (found : SureStartsAreFound) (law : LeastLimitIsFound) (v : Certificate)
+      (same_lines : v.lines ≡ lines) (same_repeat : v.repeat ≡ repeat)
+      (covered : (n : ℕ) (p : Page) → slice_get pages n ≡ Some p → (item : Item) → IsItem item → is_due class p item
+      ≡ true → IsCovered cycle p v item)
+      (left : (n : ℕ) (p : Page) → slice_get pages n ≡ Some p → (item : Item) → IsItem item → needed p item ≡ true → is_due class p item
+      ≡ false → (tau : ℤ) → Next cycle p (limit v) tau) where
     repeats_some : 1 ≤ v.repeat
     repeats_some = subst (λ r. 1 ≤ r) (sym same_repeat) repeats
 
-    due_fits : (n : ℕ) (p : Page) → slice_get pages n ≡ Some p → (item : Item) → IsItem item → is_due class p item ≡ true → (sp : Option Spread) → spread_at cycle v.lines v.repeat p.id item ≡ sp →
+    due_fits : (n : ℕ) (p : Page) → slice_get pages n ≡ Some p → (item : Item) → IsItem item → is_due class p item ≡ true →
+        (sp : Option Spread) → spread_at cycle v.lines v.repeat p.id item ≡ sp →
         IsEnough (limit_of (length cycle) sp) (limit v)
-    due_fits n p at item is due None e = absurd ((law cycle some p v item (run_length v.repeat item - 1) (run_some v.repeat item repeats_some)).0 e (covered n p at item is due))
-    due_fits n p at item is due (Some s) e = ((law cycle some p v item (run_length v.repeat item - 1) (run_some v.repeat item repeats_some)).1 s e).0 (covered n p at item is due)
+    due_fits n p at item is due None e = absurd
+        ((law cycle some p v item (run_length v.repeat item - 1) (run_some v.repeat item repeats_some)).0 e
+        (covered n p at item is due))
+    due_fits n p at item is due (Some s) e =
+        ((law cycle some p v item (run_length v.repeat item - 1) (run_some v.repeat item repeats_some)).1 s e).0
+        (covered n p at item is due)
 
-    seen_fits : (n : ℕ) (p : Page) → slice_get pages n ≡ Some p → (item : Item) → IsItem item → needed p item ≡ true → IsEnough (limit_for cycle class v.lines v.repeat p item) (limit v)
+    seen_fits : (n : ℕ) (p : Page) → slice_get pages n ≡ Some p → (item : Item) → IsItem item → needed p item ≡ true →
+        IsEnough (limit_for cycle class v.lines v.repeat p item) (limit v)
     seen_fits n p at item is seen =
         let due_limit = least_limit cycle v.lines v.repeat p.id item in
         let left_limit = least_limit cycle v.lines 1 p.id TheHead in
         elim (cases_Bool (is_due class p item)) as (λ _. IsEnough (limit_for cycle class v.lines v.repeat p item) (limit v)) [
-          | inl due ↦ subst (λ x. IsEnough x (limit v)) (sym (cond-true (is_due class p item) due_limit left_limit due)) (due_fits n p at item is due (spread_at cycle v.lines v.repeat p.id item) refl)
+          | inl due ↦ subst (λ x. IsEnough x (limit v)) (sym (cond-true (is_due class p item) due_limit left_limit due))
+              (due_fits n p at item is due (spread_at cycle v.lines v.repeat p.id item) refl)
           | inr not_due ↦ subst (λ x. IsEnough x (limit v)) (sym (cond-false (is_due class p item) due_limit left_limit not_due))
-              ((next_fits turn found law cycle some p v.lines v.deadline (spread_at cycle v.lines 1 p.id TheHead) refl).0 (left n p at item is seen not_due))
+              ((next_fits turn found law cycle some p v.lines v.deadline (spread_at cycle v.lines 1 p.id TheHead) refl).0
+              (left n p at item is seen not_due))
         ]
 
     pub all_fit : IsEnough least (limit v)
     all_fit = named.least_from (limit v) (λ i p item d.
-        subst (λ l. IsEnough (limit_for cycle class l repeat p item) (limit v)) same_lines (subst (λ r. IsEnough (limit_for cycle class v.lines r p item) (limit v)) same_repeat (seen_fits i p d.at item d.is d.seen)))
+        subst (λ l. IsEnough (limit_for cycle class l repeat p item) (limit v)) same_lines
+        (subst (λ r. IsEnough (limit_for cycle class v.lines r p item) (limit v)) same_repeat
+        (seen_fits i p d.at item d.is d.seen)))
 
-  module _ (blank : AreTested pages) (few : lines ≤ 32) (some_lines : 1 ≤ lines) (deadline : Option ℕ) (is : IsDeadline cycle pages lines least deadline)
+  module _ (blank : AreTested pages) (few : lines ≤ 32) (some_lines : 1 ≤ lines) (deadline : Option ℕ)
+      (is : IsDeadline cycle pages lines least deadline)
       (turn : EachSlotTurns) (found : SureStartsAreFound) (law : LeastLimitIsFound) where
     -- a certificate that is accepted covers each item that is due, and has the headers in time where one isn't
-    accepted_covered : (v : Certificate) → v.class ≡ class → Accepts cycle pages v → (n : ℕ) (p : Page) → slice_get pages n ≡ Some p → (item : Item) → IsItem item → is_due class p item ≡ true → IsCovered cycle p v item
-    accepted_covered v same a n p at item is_item due = elim (a.covered n p at item (due_needed class p item due)) as (λ _. IsCovered cycle p v item) [
-      | inl c ↦ c
-      | inr l ↦ absurd (both_ways (is_blank p item) (due_not_blank class p item (sym same ∙ l.clearing) due) ((blank n p at item (due_needed class p item due)).1 l.blank))
-    ]
+    accepted_covered : (v : Certificate) → v.class ≡ class → Accepts cycle pages v → (n : ℕ) (p : Page) → slice_get pages n ≡ Some p →
+        (item : Item) → IsItem item → is_due class p item ≡ true → IsCovered cycle p v item
+    accepted_covered v same a n p at item is_item due =
+        elim (a.covered n p at item (due_needed class p item due)) as (λ _. IsCovered cycle p v item) [
+          | inl c ↦ c
+          | inr l ↦ absurd (both_ways (is_blank p item) (due_not_blank class p item (sym same ∙ l.clearing) due)
+              ((blank n p at item (due_needed class p item due)).1 l.blank))
+        ]
 
-    accepted_left : (v : Certificate) → Accepts cycle pages v → (n : ℕ) (p : Page) → slice_get pages n ≡ Some p → (item : Item) → IsItem item → needed p item ≡ true → is_due class p item ≡ false →
+    accepted_left : (v : Certificate) → Accepts cycle pages v → (n : ℕ) (p : Page) → slice_get pages n ≡ Some p → (item : Item) →
+        IsItem item → needed p item ≡ true → is_due class p item ≡ false →
         (tau : ℤ) → Next cycle p (limit v) tau
     accepted_left v a n p at item is_item seen not_due = elim (a.covered n p at item seen) as (λ _. (tau : ℤ) → Next cycle p (limit v) tau)
         [ inl c ↦ next_covered cycle p v item c | inr l ↦ l.in_time ]
@@ -251,7 +303,11 @@ module _ (cycle : List (List ℕ)) (some : 1 ≤ length cycle) (pages : List Pag
     }
 
     least_is : (r : Option ℕ) → IsDeadline cycle pages lines least r → IsLeastDeadline cycle pages (w (unwrap_or r 1000000)) r
-    least_is None h = (refl, λ d c. h d (subst (λ x. 1 ≤ x) c.same_deadline c.is.some_fields) (subst (λ x. x ≤ 1000000) c.same_deadline c.is.few_fields) (unchanged c.w c.accepted) (fits_accepted d c))
+    least_is None h = (
+      refl,
+      λ d c. h d (subst (λ x. 1 ≤ x) c.same_deadline c.is.some_fields)
+          (subst (λ x. x ≤ 1000000) c.same_deadline c.is.few_fields) (unchanged c.w c.accepted) (fits_accepted d c),
+    )
     least_is (Some d) h = (refl, accepts_found d h.0 h.3, λ e c. h.4 e (subst (λ x. 1 ≤ x) c.same_deadline c.is.some_fields) (fits_accepted e c))
 
     pub is_found : IsFoundFor cycle pages repeat lines class (w (unwrap_or deadline 1000000)) deadline
@@ -264,17 +320,20 @@ module _ (cycle : List (List ℕ)) (some : 1 ≤ length cycle) (pages : List Pag
       least = least_is deadline is;
     }
 
-pub deadline_sent : (cycle : List (List ℕ)) (pages : List Page) (lines slots : ℕ) (r : Option ℕ) → IsSentUnchanged cycle pages → IsLeastField slots lines r → IsDeadline cycle pages lines (Some slots) r
+pub deadline_sent : (cycle : List (List ℕ)) (pages : List Page) (lines slots : ℕ) (r : Option ℕ) → IsSentUnchanged cycle pages →
+    IsLeastField slots lines r → IsDeadline cycle pages lines (Some slots) r
 deadline_sent cycle pages lines slots None u h = λ d a b v f. h d a b f
 deadline_sent cycle pages lines slots (Some d) u h = (u, h.0, h.1, h.2, h.3)
 
 -- the numbers of what is found are in their ranges
-pub numbers_found : (cycle : List (List ℕ)) (pages : List Page) (lines repeat : ℕ) (least deadline : Option ℕ) → 1 ≤ lines → lines ≤ 32 → 1 ≤ repeat → repeat ≤ 8 →
+pub numbers_found : (cycle : List (List ℕ)) (pages : List Page) (lines repeat : ℕ) (least deadline : Option ℕ) → 1 ≤ lines → lines
+    ≤ 32 → 1 ≤ repeat → repeat ≤ 8 →
     IsDeadline cycle pages lines least deadline → are_numbers lines repeat (unwrap_or deadline 1000000) ≡ true
 numbers_found cycle pages lines repeat least None a b c d h = grind (arith, nat_tests)
 numbers_found cycle pages lines repeat least (Some n) a b c d h = let low = h.1 in let high = h.2 in grind (arith, nat_tests)
 
-pub none_named : (cycle : List (List ℕ)) (pages : List Page) (class : Class) (lines repeat : ℕ) → AreNamed cycle pages class lines repeat 0 [] (Some 0)
+pub none_named : (cycle : List (List ℕ)) (pages : List Page) (class : Class) (lines repeat : ℕ) →
+    AreNamed cycle pages class lines repeat 0 [] (Some 0)
 none_named cycle pages class lines repeat = record {
   told = λ k d lt. absurd (omega arith);
   apart = λ x y d lt in_range. absurd (omega arith);
@@ -302,11 +361,14 @@ pairs_sorted xs ys perm alone =
     let d = IsDistinct-IsPermutation same_place same_place_flips xs ys perm (IsDistinct-from_apart same_place xs alone) in
     λ i j e lt in_range. apart_from_distinct same_place ys i j e d lt in_range
 
-rises_apart : (low : Option ℕ) (es : List Entry) → Lower low es → IsNonDecreasingBy place_in es → AreAlone es → rises_above low (entry_places (entries_of es)) ≡ true
+rises_apart : (low : Option ℕ) (es : List Entry) → Lower low es → IsNonDecreasingBy place_in es → AreAlone es →
+    rises_above low (entry_places (entries_of es)) ≡ true
 rises_apart low [] l up alone = refl
 rises_apart low (e ∷ es) l up alone = and_from _ _ (first low l) (rises_apart (Some (place_in e)) es
-    (λ k d lt. let le = up zero (suc k) d (omega arith) (omega arith) in let other = alone zero (suc k) d (omega arith) (omega arith) in above (place_in e) (place_in (get_or es k d)) le other)
-    (λ i j d le in_range. up (suc i) (suc j) d (omega arith) (omega arith)) (λ i j d lt in_range. alone (suc i) (suc j) d (omega arith) (omega arith)))
+    (λ k d lt. let le = up zero (suc k) d (omega arith) (omega arith) in let other = alone zero (suc k) d (omega arith) (omega arith)
+    in above (place_in e) (place_in (get_or es k d)) le other)
+    (λ i j d le in_range. up (suc i) (suc j) d (omega arith) (omega arith))
+    (λ i j d lt in_range. alone (suc i) (suc j) d (omega arith) (omega arith)))
   where
     first : (low : Option ℕ) → Lower low (e ∷ es) → is_above low (place_in e) ≡ true
     first None l = refl
@@ -316,10 +378,12 @@ rises_apart low (e ∷ es) l up alone = and_from _ _ (first low l) (rises_apart 
     above m n le other = grind (arith, nat_tests)
 
 -- entries of distinct items that are sorted rise strictly
-pub places_rise : (es : List Entry) → IsNonDecreasingBy place_in es → AllPairs (λ a b. same_place a b ≡ false) es → rises (entry_places (entries_of es)) ≡ true
+pub places_rise : (es : List Entry) → IsNonDecreasingBy place_in es → AllPairs (λ a b. same_place a b ≡ false) es →
+    rises (entry_places (entries_of es)) ≡ true
 places_rise es up alone = rises_apart None es tt up alone
 
-pub named_sorted : (cycle : List (List ℕ)) (pages : List Page) (class : Class) (lines repeat m : ℕ) (xs ys : List Entry) (least : Option ℕ) → IsPermutation xs ys →
+pub named_sorted : (cycle : List (List ℕ)) (pages : List Page) (class : Class) (lines repeat m : ℕ) (xs ys : List Entry)
+    (least : Option ℕ) → IsPermutation xs ys →
     AreNamed cycle pages class lines repeat m xs least → AreNamed cycle pages class lines repeat m ys least
 named_sorted cycle pages class lines repeat m xs ys least perm a = record {
   told = All-permutation (NamesStarts cycle pages class lines repeat m) xs ys perm a.told;
@@ -336,28 +400,33 @@ named_sorted cycle pages class lines repeat m xs ys least perm a = record {
 abbrev pub TellsSteady : List (List ℕ) → List Page → ℕ → Bool → Type 0
 TellsSteady cycle pages index b = (p : Page) → slice_get pages index ≡ Some p → IsTrue b ↔ Steady (repeated cycle) pages p
 
-pub not_unchanged : (cycle : List (List ℕ)) (pages : List PageValue) (index : ℕ) (b : Bool) → index < length pages → TellsSteady cycle (map page_of pages) index b → b ≡ false → IsSentUnchanged cycle (map page_of pages) → ⊥
+pub not_unchanged : (cycle : List (List ℕ)) (pages : List PageValue) (index : ℕ) (b : Bool) → index < length pages →
+    TellsSteady cycle (map page_of pages) index b → b ≡ false → IsSentUnchanged cycle (map page_of pages) → ⊥
 not_unchanged cycle pages index b lt tells e u = elim (slice_get_cases (map page_of pages) index).1 as (λ _. ⊥) [
   | inl w ↦ both_ways b e ((tells w.0 w.2).1 (u.steady index w.0 w.2))
   | inr past ↦ let l = length-map pages page_of in let p = past.0 in omega arith
 ]
 
 pub steady_more : (cycle : List (List ℕ)) (pages : List Page) (index : ℕ) (b : Bool) → TellsSteady cycle pages index b → b ≡ true →
-    ((n : ℕ) (p : Page) → n < index → slice_get pages n ≡ Some p → Steady (repeated cycle) pages p) → (n : ℕ) (p : Page) → n < index + 1 → slice_get pages n ≡ Some p → Steady (repeated cycle) pages p
+    ((n : ℕ) (p : Page) → n < index → slice_get pages n ≡ Some p → Steady (repeated cycle) pages p) → (n : ℕ) (p : Page) → n < index
+    + 1 → slice_get pages n ≡ Some p → Steady (repeated cycle) pages p
 steady_more cycle pages index b tells e before n p lt at = elim (cases_lt n index) as (λ _. Steady (repeated cycle) pages p) [
   | inl low ↦ before n p low at
   | inr ge ↦ let q : n ≡ index = omega arith in (tells p (subst (λ k. slice_get pages k ≡ Some p) q at)).0 e
 ]
 
-pub clean_all : (cycle : List (List ℕ)) (P : ℕ → Type 0) (o : Option ℕ) → MatchOption o ((j : ℕ) → BadSlotAt cycle j → ⊥) P → is_some o ≡ false → (n : ℕ) → n < length cycle → is_clean (slice_index_or cycle n []) ≡ true
+pub clean_all : (cycle : List (List ℕ)) (P : ℕ → Type 0) (o : Option ℕ) → MatchOption o ((j : ℕ) → BadSlotAt cycle j → ⊥) P → is_some o
+    ≡ false → (n : ℕ) → n < length cycle → is_clean (slice_index_or cycle n []) ≡ true
 clean_all cycle P None m e n lt = elim (cases_Bool (is_clean (slice_index_or cycle n []))) as (λ _. is_clean (slice_index_or cycle n []) ≡ true)
     [ inl c ↦ c | inr f ↦ absurd (m n (record { within = lt; bad = f })) ]
 clean_all cycle P (Some j) m e n lt = cc
 
-pub tells_of : (cycle : List (List ℕ)) (pages : List Page) (index : ℕ) (b : Bool) (q : Page) → slice_get pages index ≡ Some q → IsTrue b ↔ Steady (repeated cycle) pages q → TellsSteady cycle pages index b
+pub tells_of : (cycle : List (List ℕ)) (pages : List Page) (index : ℕ) (b : Bool) (q : Page) → slice_get pages index ≡ Some q → IsTrue b
+    ↔ Steady (repeated cycle) pages q → TellsSteady cycle pages index b
 tells_of cycle pages index b q at h p there = let same : q ≡ p = cc in subst (λ x. IsTrue b ↔ Steady (repeated cycle) pages x) same h
 
-pub bad_not_unchanged : (cycle : List (List ℕ)) (pages : List Page) (A : Type 0) (R : ℕ → Type 0) (o : Option ℕ) → MatchOption o A (λ j. BadSlotAt cycle j × R j) → is_some o ≡ true → IsSentUnchanged cycle pages → ⊥
+pub bad_not_unchanged : (cycle : List (List ℕ)) (pages : List Page) (A : Type 0) (R : ℕ → Type 0) (o : Option ℕ) →
+    MatchOption o A (λ j. BadSlotAt cycle j × R j) → is_some o ≡ true → IsSentUnchanged cycle pages → ⊥
 bad_not_unchanged cycle pages A R None m e u = cc
 bad_not_unchanged cycle pages A R (Some j) m e u = both_ways _ m.0.bad (u.clean j m.0.within)
 

@@ -50,7 +50,8 @@ module _ (cycle : List (List ℕ)) (p : Page) (lines bound : ℕ) where
   next_from : (end : ℤ) → P end → (t : Transmission) (us : List Transmission) → Are (t.slot +ℤ pos 1) us → late_before bound end (t ∷ us) ≡ None →
       (x : ℤ) → t.slot <ℤ x → x ≤ℤ end → Next x
   next_from end here t [] a e x low high =
-      let n : end ≤ℤ (t.slot +ℤ pos bound) = not_lt (t.slot +ℤ pos bound) end (none_is (int_lt (t.slot +ℤ pos bound) end) (unsigned_abs t.slot) None e).0 in
+      let n : end ≤ℤ (t.slot +ℤ pos bound) = not_lt (t.slot +ℤ pos bound) end
+      (none_is (int_lt (t.slot +ℤ pos bound) end) (unsigned_abs t.slot) None e).0 in
       (end, high, omega (arith, ints), here)
   next_from end here t (u ∷ us) a e x low high =
       let n = none_is (int_lt (t.slot +ℤ pos bound) u.slot) (unsigned_abs t.slot) (late_before bound end (u ∷ us)) e in
@@ -80,14 +81,17 @@ module _ (cycle : List (List ℕ)) (p : Page) (lines bound : ℕ) where
     none_after : (x : ℤ) → pos (length cycle) ≤ℤ x → x <ℤ (first +ℤ pos (length cycle)) → P x → ⊥
     none_after x low high h =
         let back : (x -ℤ pos (length cycle)) +ℤ pos (length cycle) ≡ x = omega (arith, ints) in
-        let same : repeated cycle x ≡ repeated cycle (x -ℤ pos (length cycle)) = sym (ap (repeated cycle) back) ∙ period_of cycle (x -ℤ pos (length cycle)) in
+        let same : repeated cycle x ≡ repeated cycle (x -ℤ pos (length cycle)) = sym (ap (repeated cycle) back)
+        ∙ period_of cycle (x -ℤ pos (length cycle)) in
         none_first (x -ℤ pos (length cycle)) (omega (arith, ints)) (omega (arith, ints)) (subst (λ z. heads_page p.id (packet_of z) ≡ true) same h)
 
-    gap_from : (t : Transmission) (us : List Transmission) → pos 0 ≤ℤ t.slot → t.slot <ℤ pos (length cycle) → P t.slot → Are (t.slot +ℤ pos 1) us → (h : ℕ) →
+    gap_from : (t : Transmission) (us : List Transmission) → pos 0 ≤ℤ t.slot → t.slot <ℤ pos (length cycle) → P t.slot →
+        Are (t.slot +ℤ pos 1) us → (h : ℕ) →
         late_before bound (first +ℤ pos (length cycle)) (t ∷ us) ≡ Some h → IsGap t.slot h
     gap_from t [] low high here a h e = go (int_lt (t.slot +ℤ pos bound) (first +ℤ pos (length cycle))) refl e
       where
-        go : (b : Bool) → int_lt (t.slot +ℤ pos bound) (first +ℤ pos (length cycle)) ≡ b → (if b then Some (unsigned_abs t.slot) else None) ≡ Some h → IsGap t.slot h
+        go : (b : Bool) → int_lt (t.slot +ℤ pos bound) (first +ℤ pos (length cycle)) ≡ b →
+            (if b then Some (unsigned_abs t.slot) else None) ≡ Some h → IsGap t.slot h
         go false q e = cc
         go true q e =
             let same : unsigned_abs t.slot ≡ h = cc in
@@ -96,7 +100,8 @@ module _ (cycle : List (List ℕ)) (p : Page) (lines bound : ℕ) where
               | inl less ↦ a x (omega (arith, ints)) less (sent x hx)
               | inr more ↦ none_after x more (omega (arith, ints)) hx
             ]))
-    gap_from t (u ∷ us) low high here a h e = go (int_lt (t.slot +ℤ pos bound) u.slot) refl e (λ f. gap_from u us (omega (arith, ints, a.1)) a.2 (header_of u a.0) a.4 h f)
+    gap_from t (u ∷ us) low high here a h e = go (int_lt (t.slot +ℤ pos bound) u.slot) refl e
+        (λ f. gap_from u us (omega (arith, ints, a.1)) a.2 (header_of u a.0) a.4 h f)
       where
         on : IsGap u.slot h → u.slot ≤ℤ (t.slot +ℤ pos bound) → IsGap t.slot h
         on g near = record {
@@ -112,7 +117,8 @@ module _ (cycle : List (List ℕ)) (p : Page) (lines bound : ℕ) where
           ];
         }
 
-        go : (b : Bool) → int_lt (t.slot +ℤ pos bound) u.slot ≡ b → (if b then Some (unsigned_abs t.slot) else late_before bound (first +ℤ pos (length cycle)) (u ∷ us)) ≡ Some h →
+        go : (b : Bool) → int_lt (t.slot +ℤ pos bound) u.slot ≡ b →
+            (if b then Some (unsigned_abs t.slot) else late_before bound (first +ℤ pos (length cycle)) (u ∷ us)) ≡ Some h →
             (late_before bound (first +ℤ pos (length cycle)) (u ∷ us) ≡ Some h → IsGap u.slot h) → IsGap t.slot h
         go true q e again =
             let same : unsigned_abs t.slot ≡ h = cc in
@@ -121,7 +127,8 @@ module _ (cycle : List (List ℕ)) (p : Page) (lines bound : ℕ) where
         go false q e again = on (again e) (not_lt (t.slot +ℤ pos bound) u.slot q)
 
 -- a slot of the stream in its first period
-pub turned_back : EachSlotTurns → (cycle : List (List ℕ)) → 1 ≤ length cycle → (j : ℤ) → repeated cycle (pos (turned (length cycle) j)) ≡ repeated cycle j
+pub turned_back : EachSlotTurns → (cycle : List (List ℕ)) → 1 ≤ length cycle → (j : ℤ) → repeated cycle (pos (turned (length cycle) j))
+    ≡ repeated cycle j
 turned_back turn cycle some j =
     let t = turn (length cycle) j some in
     ap (λ x. slice_index_or cycle x []) (sym (t.same (pos (turned (length cycle) j))) ∙ ap (turned (length cycle)) (sym t.place))
@@ -147,26 +154,31 @@ module _ (turn : EachSlotTurns) (cycle : List (List ℕ)) (some : 1 ≤ length c
       (i.0 +ℤ k.by, omega (arith, ints), omega (arith, ints), subst (λ z. heads_page p.id (packet_of z) ≡ true) (sym same) i.3)
 
   -- a late header is none where one comes in time
-  none_late : ((tau : ℤ) → Next cycle p w.lines (limit w) tau) → (h : ℕ) → ((i : ℤ) → pos h <ℤ i → i ≤ℤ (pos h +ℤ pos (limit w)) → heads_page p.id (packet_of (repeated cycle i)) ≡ false) → ⊥
+  none_late : ((tau : ℤ) → Next cycle p w.lines (limit w) tau) → (h : ℕ) →
+      ((i : ℤ) → pos h <ℤ i → i ≤ℤ (pos h +ℤ pos (limit w)) → heads_page p.id (packet_of (repeated cycle i)) ≡ false) → ⊥
   none_late next h late =
       let i = next (pos h +ℤ pos 1) in
       let low : (pos h +ℤ pos 1) ≤ℤ i.0 = i.1 in
       let high : i.0 <ℤ ((pos h +ℤ pos 1) +ℤ pos (limit w)) = i.2 in
       both_ways _ (late i.0 (omega (arith, ints)) (omega (arith, ints))) i.3
 
-  judged : HasHeader (repeated cycle) p.id → (ts : List Transmission) → Are cycle p w.lines (limit w) (pos 0) ts → (o : Option ℕ) → late_header (limit w) (length cycle) ts ≡ o → IsHeaderAnswer cycle p w o
+  judged : HasHeader (repeated cycle) p.id → (ts : List Transmission) → Are cycle p w.lines (limit w) (pos 0) ts → (o : Option ℕ) →
+      late_header (limit w) (length cycle) ts ≡ o → IsHeaderAnswer cycle p w o
   unfolding late_header
   judged has [] a o e =
       let inside : turned (length cycle) has.slot < length cycle = (turn (length cycle) has.slot some).inside in
       absurd (a (pos (turned (length cycle) has.slot)) (omega (arith, ints)) (omega (arith, ints))
-      (sent cycle p w.lines (limit w) (pos (turned (length cycle) has.slot)) (subst (λ z. heads_page p.id (packet_of z) ≡ true) (sym (turned_back turn cycle some has.slot)) has.is_header)))
+      (sent cycle p w.lines (limit w) (pos (turned (length cycle) has.slot))
+      (subst (λ z. heads_page p.id (packet_of z) ≡ true) (sym (turned_back turn cycle some has.slot)) has.is_header)))
   judged has (t ∷ ts) a None e =
       let here : Head t.slot = header_of cycle p w.lines (limit w) t a.0 in
       let again : Head (t.slot +ℤ pos (length cycle)) = subst (λ z. heads_page p.id (packet_of z) ≡ true) (sym (period_of cycle t.slot)) here in
       let next = in_time t here (next_from cycle p w.lines (limit w) (t.slot +ℤ pos (length cycle)) again t ts a.4 e) in
       (next, (λ item header l. none_late next header l.late))
   judged has (t ∷ ts) a (Some h) e = λ item need clearing blank none.
-      let g = gap_from cycle p w.lines (limit w) some t.slot (λ x low lt hx. a.3 x low lt (sent cycle p w.lines (limit w) x hx)) t ts a.1 a.2 (header_of cycle p w.lines (limit w) t a.0) a.4 h e in
+      let g = gap_from cycle p w.lines (limit w) some t.slot
+      (λ x low lt hx. a.3 x low lt (sent cycle p w.lines (limit w) x hx)) t ts a.1 a.2
+      (header_of cycle p w.lines (limit w) t a.0) a.4 h e in
       let within : pos h <ℤ pos (length cycle) = g.within in (
         record {
           needed = need;
@@ -187,4 +199,5 @@ module _ (turn : EachSlotTurns) (cycle : List (List ℕ)) (some : 1 ≤ length c
 
 pub headers_are_judged : EachSlotTurns → HeadersAreJudged
 headers_are_judged turn cycle some p w has =
-    judged turn cycle some p w has (sent_in cycle p.id w.lines TheHead) (sent_told cycle some p.id w.lines TheHead) (late_header (limit w) (length cycle) (sent_in cycle p.id w.lines TheHead)) refl
+    judged turn cycle some p w has (sent_in cycle p.id w.lines TheHead) (sent_told cycle some p.id w.lines TheHead)
+    (late_header (limit w) (length cycle) (sent_in cycle p.id w.lines TheHead)) refl

@@ -75,7 +75,8 @@ module _ (cycle : List (List ℕ)) (some : 1 ≤ length cycle) (p : Page) (w : C
           within = a.1;
           bad = λ s. b.bad (
             subst (λ x. x < length cycle) e s.0,
-            sure_run_from (repeated cycle) p.id w.lines w.repeat item (suc k) len (pos start) (subst (λ x. R.BeginsSureRun Owned Sure (suc k) (pos x)) e s.1),
+            sure_run_from (repeated cycle) p.id w.lines w.repeat item (suc k) len (pos start)
+                (subst (λ x. R.BeginsSureRun Owned Sure (suc k) (pos x)) e s.1),
           );
         },
       )
@@ -111,12 +112,16 @@ module _ (cycle : List (List ℕ)) (some : 1 ≤ length cycle) (p : Page) (w : C
   judged_none : m.next ≡ length starts → (start : ℕ) → WitnessBadAt cycle p w item start → ⊥
   judged_none all start b =
       let a = bad_from start b in
-      L.none_bad Owned Sure (length cycle) k (limit w) (law cycle some p.id w.lines item) starts rising (sent_in cycle p.id w.lines item) (sent_told cycle some p.id w.lines item) all a.0 a.3
+      L.none_bad Owned Sure (length cycle) k (limit w) (law cycle some p.id w.lines item) starts rising
+      (sent_in cycle p.id w.lines item) (sent_told cycle some p.id w.lines item) all a.0 a.3
 
-  judged_late : m.next ≡ length starts → 0 < length starts → IsLateAnswer cycle p w item (late_after (limit w) starts m (m.first_end +ℤ pos (length cycle)))
-  judged_late all any = go (late_after (limit w) starts m (m.first_end +ℤ pos (length cycle))) refl ((C.firsts_are_found cycle some p w item k len rising).2 all any)
+  judged_late : m.next ≡ length starts → 0 < length starts →
+      IsLateAnswer cycle p w item (late_after (limit w) starts m (m.first_end +ℤ pos (length cycle)))
+  judged_late all any = go (late_after (limit w) starts m (m.first_end +ℤ pos (length cycle))) refl
+      ((C.firsts_are_found cycle some p w item k len rising).2 all any)
     where
-      go : (o : Option ℕ) → late_after (limit w) starts m (m.first_end +ℤ pos (length cycle)) ≡ o → R.IsFirst Late starts o → IsLateAnswer cycle p w item o
+      go : (o : Option ℕ) → late_after (limit w) starts m (m.first_end +ℤ pos (length cycle)) ≡ o → R.IsFirst Late starts o →
+          IsLateAnswer cycle p w item o
       go None e f = (
         (C.coverage_is_decided cycle some p w item k len rising).0 (record { some_named = any; all_confirmed = all; none_late = e }),
         (λ start l. f l.index (late_from start l)),

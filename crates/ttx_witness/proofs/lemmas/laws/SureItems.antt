@@ -48,7 +48,9 @@ unfolding further
 all_sure_further n zero ts a = refl
 all_sure_further n (suc k) [] a = refl
 all_sure_further n (suc k) (t ∷ ts) a =
-    and_from _ _ (and_parts t.sure _ a).0 (all_sure_further n k (ts ++ later n t ∷ []) (all_sure_append ts (later n t ∷ []) ((and_parts t.sure _ a).1) (and_from t.sure true (and_parts t.sure _ a).0 refl)))
+    and_from _ _ (and_parts t.sure _ a).0
+    (all_sure_further n k (ts ++ later n t ∷ [])
+    (all_sure_append ts (later n t ∷ []) ((and_parts t.sure _ a).1) (and_from t.sure true (and_parts t.sure _ a).0 refl)))
 
 all_sure_take : (k : ℕ) (ts : List Transmission) → all_sure ts ≡ true → all_sure (take k ts) ≡ true
 all_sure_take zero ts a = refl
@@ -60,7 +62,8 @@ unfolding sure_runs
 first_found r rs e = cond_both r.sure (r ∷ sure_runs rs) (sure_runs rs) (λ qs. Contains (map (λ q. unsigned_abs q.start) qs) (unsigned_abs r.start))
     (λ y. (0, omega arith, refl)) (λ f. absurd (both_ways _ f e))
 
-some_found : (n k : ℕ) (t : Transmission) (ts : List Transmission) → all_sure (t ∷ ts) ≡ true → (start : ℕ) × Contains (sure_starts (runs n k (t ∷ ts))) start
+some_found : (n k : ℕ) (t : Transmission) (ts : List Transmission) → all_sure (t ∷ ts) ≡ true → (start : ℕ)
+    × Contains (sure_starts (runs n k (t ∷ ts))) start
 some_found n k t ts a =
     let more = further n k (t ∷ ts) in
     let size : length (further n k (t ∷ ts)) ≡ k = length_further n k (t ∷ ts) (omega arith) in
@@ -68,15 +71,18 @@ some_found n k t ts a =
     let list : runs n k (t ∷ ts) ≡ run_of (t ∷ take k (ts ++ further n k (t ∷ ts))) ∷ map run_of (windows (suc k) (ts ++ further n k (t ∷ ts))) =
     ap (map run_of) (windows_yes (suc k) t (ts ++ further n k (t ∷ ts)) (omega arith)) in
     let sure : all_sure (t ∷ take k (ts ++ further n k (t ∷ ts))) ≡ true =
-    all_sure_take (suc k) (t ∷ (ts ++ further n k (t ∷ ts))) (all_sure_append (t ∷ ts) (further n k (t ∷ ts)) a (all_sure_further n k (t ∷ ts) a)) in (
+    all_sure_take (suc k) (t ∷ (ts ++ further n k (t ∷ ts)))
+    (all_sure_append (t ∷ ts) (further n k (t ∷ ts)) a (all_sure_further n k (t ∷ ts) a)) in (
       unsigned_abs t.slot,
       subst (λ rs. Contains (sure_starts rs) (unsigned_abs t.slot)) (sym list)
           (first_found (run_of (t ∷ take k (ts ++ further n k (t ∷ ts)))) (map run_of (windows (suc k) (ts ++ further n k (t ∷ ts)))) sure),
     )
 
-told_sure : (Owned Sure : ℤ → ℤ → Type 0) → ((h j : ℤ) → Owned h j → Sure h j) → (low high : ℤ) (ts : List Transmission) → AreSent Owned Sure low high ts → all_sure ts ≡ true
+told_sure : (Owned Sure : ℤ → ℤ → Type 0) → ((h j : ℤ) → Owned h j → Sure h j) → (low high : ℤ) (ts : List Transmission) →
+    AreSent Owned Sure low high ts → all_sure ts ≡ true
 told_sure Owned Sure all low high [] l = refl
-told_sure Owned Sure all low high (t ∷ ts) l = and_from _ _ (l.0.sure.1 (all t.owner t.slot l.0.owned)) (told_sure Owned Sure all (t.slot +ℤ pos 1) high ts l.4)
+told_sure Owned Sure all low high (t ∷ ts) l = and_from _ _ (l.0.sure.1 (all t.owner t.slot l.0.owned))
+    (told_sure Owned Sure all (t.slot +ℤ pos 1) high ts l.4)
 
 -- ---- periods
 
@@ -85,28 +91,38 @@ module _ (turns : EachSlotTurns) (move : StreamsMove) (cycle : List (List ℕ)) 
   same_on i t j = ap (λ x. slice_index_or cycle x []) (t.same j)
 
   -- a transmission has its place in the first period
-  placed : (page : Id) (item : Item) (h j : ℤ) → IsOwned (repeated cycle) page item h j → IsSentAt (IsOwned (repeated cycle) page item) (pos (turned (length cycle) j))
+  placed : (page : Id) (item : Item) (h j : ℤ) → IsOwned (repeated cycle) page item h j →
+      IsSentAt (IsOwned (repeated cycle) page item) (pos (turned (length cycle) j))
   placed page item h j o =
       let t = turns (length cycle) j some in
       let back : IsSameOn (repeated cycle) (pos 0 -ℤ t.by) = (move (repeated cycle) t.by (same_on j t)).back in
       let m = move (repeated cycle) (pos 0 -ℤ t.by) back in
       let here : j +ℤ (pos 0 -ℤ t.by) ≡ pos (turned (length cycle) j) = omega (arith, ints, t.place) in
-      record { owner = h +ℤ (pos 0 -ℤ t.by); owned = subst (λ x. IsOwned (repeated cycle) page item (h +ℤ (pos 0 -ℤ t.by)) x) here (m.owned page item h j o) }
+      record {
+        owner = h +ℤ (pos 0 -ℤ t.by);
+        owned = subst (λ x. IsOwned (repeated cycle) page item (h +ℤ (pos 0 -ℤ t.by)) x) here
+            (m.owned page item h j o);
+      }
 
   has_start : (page : Id) (lines repeat : ℕ) (item : Item) → 1 ≤ repeat → (h j : ℤ) → IsOwned (repeated cycle) page item h j →
-      ((h j : ℤ) → IsOwned (repeated cycle) page item h j → IsSure (repeated cycle) lines page.mag item h j) → HasSureStart cycle page lines repeat item
+      ((h j : ℤ) → IsOwned (repeated cycle) page item h j → IsSure (repeated cycle) lines page.mag item h j) →
+      HasSureStart cycle page lines repeat item
   has_start page lines repeat item one h j o all = from (sent_in cycle page lines item) refl (sent_told cycle some page lines item)
     where
       k : ℕ
       k = run_length repeat item - 1
 
-      from : (ts : List Transmission) → sent_in cycle page lines item ≡ ts → AreSent (IsOwned (repeated cycle) page item) (IsSure (repeated cycle) lines page.mag item) (pos 0) (pos (length cycle)) ts → HasSureStart cycle page lines repeat item
+      from : (ts : List Transmission) → sent_in cycle page lines item ≡ ts →
+          AreSent (IsOwned (repeated cycle) page item) (IsSure (repeated cycle) lines page.mag item) (pos 0)
+          (pos (length cycle)) ts → HasSureStart cycle page lines repeat item
       from [] e told =
           let t = turns (length cycle) j some in
           let inside : turned (length cycle) j < length cycle = t.inside in
           absurd (told (pos (turned (length cycle) j)) (omega (arith, ints)) (omega (arith, ints, inside)) (placed page item h j o))
       from (t ∷ ts) e told =
-          let f = some_found (length cycle) (run_length repeat item - 1) t ts (told_sure (IsOwned (repeated cycle) page item) (IsSure (repeated cycle) lines page.mag item) all (pos 0) (pos (length cycle)) (t ∷ ts) told) in (
+          let f = some_found (length cycle) (run_length repeat item - 1) t ts
+          (told_sure (IsOwned (repeated cycle) page item) (IsSure (repeated cycle) lines page.mag item) all (pos 0)
+          (pos (length cycle)) (t ∷ ts) told) in (
             f.0,
             (sure_starts_are_found cycle some page lines repeat item (run_length repeat item - 1) (run_some repeat item one) f.0).0
                 (subst (λ us. Contains (sure_starts (runs (length cycle) (run_length repeat item - 1) us)) f.0) (sym e) f.1),
@@ -135,7 +151,8 @@ module _ (turns : EachSlotTurns) (move : StreamsMove) (near : OwnersAreNear) (cy
   s = repeated cycle
 
   -- the next transmission comes within a period
-  ends_near : (page : Id) (item : Item) (e i : ℤ) (rest : List ℤ) → AreSuccessive s page item (i ∷ rest) → (i +ℤ pos (length rest * n)) <ℤ e → AllByRecursion (λ j. j <ℤ e) (i ∷ rest)
+  ends_near : (page : Id) (item : Item) (e i : ℤ) (rest : List ℤ) → AreSuccessive s page item (i ∷ rest) →
+      (i +ℤ pos (length rest * n)) <ℤ e → AllByRecursion (λ j. j <ℤ e) (i ∷ rest)
   ends_near page item e i [] a lt = ((let z : 0 * n ≡ 0 = omega arith in omega (arith, ints)), tt)
   ends_near page item e i (j ∷ rest) a lt =
       let m : suc (length rest) * n ≡ n + length rest * n = omega arith in
@@ -170,7 +187,8 @@ module _ (turns : EachSlotTurns) (move : StreamsMove) (near : OwnersAreNear) (cy
         to = omega (arith, ints, t.place);
       }
 
-  one_covers : (p : Page) (class : Class) (lines repeat deadline : ℕ) (item : Item) → 1 ≤ repeat → repeat ≤ 8 → IsLongEnough cycle lines deadline → (start : ℕ) → IsSureStart cycle p.id lines repeat item start →
+  one_covers : (p : Page) (class : Class) (lines repeat deadline : ℕ) (item : Item) → 1 ≤ repeat → repeat ≤ 8 →
+      IsLongEnough cycle lines deadline → (start : ℕ) → IsSureStart cycle p.id lines repeat item start →
       IsCovered cycle p (numbered class lines repeat deadline (λ id i. start ∷ [])) item
   one_covers p class lines repeat deadline item one eight long start sure = record {
     named = (start, (0, omega arith, refl));
@@ -182,7 +200,8 @@ module _ (turns : EachSlotTurns) (move : StreamsMove) (near : OwnersAreNear) (cy
         let m = move s a.by a.same in
         let e = (tau +ℤ pos (deadline * lines)) -ℤ a.by in
         let back : e +ℤ a.by ≡ tau +ℤ pos (deadline * lines) = omega (arith, ints) in
-        let seven : length run.rest ≤ 7 = let c : suc (length run.rest) ≡ run_length repeat item = run.run.count in omega (arith, c, few_length repeat item eight) in
+        let seven : length run.rest ≤ 7 = let c : suc (length run.rest) ≡ run_length repeat item = run.run.count
+        in omega (arith, c, few_length repeat item eight) in
         let most : length run.rest * n ≤ 7 * n = mul-le-mul seven (omega arith) in
         let close : pos start <ℤ (first.owner +ℤ pos n) = near s n some (period_of cycle) p.id item first.owner (pos start) first.owned in
         let soon : (pos start +ℤ pos (length run.rest * n)) <ℤ e = omega (arith, ints, a.to, most, close, long) in (
@@ -192,40 +211,59 @@ module _ (turns : EachSlotTurns) (move : StreamsMove) (near : OwnersAreNear) (cy
           m.owned p.id item first.owner (pos start) first.owned,
           a.from,
           subst (λ x. EndsBelow s p.id repeat item (pos start +ℤ a.by) x) back
-              (m.ends p.id repeat item (pos start) e (record { rest = run.rest; run = run.run; ends = ends_near p.id item e (pos start) run.rest run.run.successive soon })),
+              (m.ends p.id repeat item (pos start) e
+              (record {
+                rest = run.rest;
+                run = run.run;
+                ends = ends_near p.id item e (pos start) run.rest run.run.successive soon;
+              })),
         );
   }
 
   -- and the certificate that names all starts of sure runs does
-  all_cover : (p : Page) (class : Class) (lines repeat deadline : ℕ) (item : Item) → 1 ≤ repeat → repeat ≤ 8 → IsLongEnough cycle lines deadline → HasSureStart cycle p.id lines repeat item →
+  all_cover : (p : Page) (class : Class) (lines repeat deadline : ℕ) (item : Item) → 1 ≤ repeat → repeat ≤ 8 →
+      IsLongEnough cycle lines deadline → HasSureStart cycle p.id lines repeat item →
       IsCovered cycle p (numbered class lines repeat deadline (starts_of cycle lines repeat)) item
   all_cover p class lines repeat deadline item one eight long start =
       let found = sure_starts_are_found cycle some p.id lines repeat item (run_length repeat item - 1) (run_some repeat item one) in
-      further_starts_cover cycle p (numbered class lines repeat deadline (λ id i. start.0 ∷ [])) (numbered class lines repeat deadline (starts_of cycle lines repeat)) item refl refl refl
+      further_starts_cover cycle p (numbered class lines repeat deadline (λ id i. start.0 ∷ []))
+      (numbered class lines repeat deadline (starts_of cycle lines repeat)) item refl refl refl
       (λ x h. subst (Contains (starts_of cycle lines repeat p.id item)) (only_one start.0 x h) ((found start.0).1 start.1))
       (λ x h. (found x).0 h)
       (one_covers p class lines repeat deadline item one eight long start.0 start.1)
 
-  left_out : (p : Page) (class : Class) (lines repeat deadline : ℕ) (item : Item) → IsLongEnough cycle lines deadline → HasHeader s p.id → class ≡ Clearing → IsBlank p item → starts_of cycle lines repeat p.id item ≡ [] →
+  left_out : (p : Page) (class : Class) (lines repeat deadline : ℕ) (item : Item) → IsLongEnough cycle lines deadline →
+      HasHeader s p.id → class ≡ Clearing → IsBlank p item → starts_of cycle lines repeat p.id item ≡ [] →
       IsLeftOut cycle p (numbered class lines repeat deadline (starts_of cycle lines repeat)) item
   left_out p class lines repeat deadline item long header clearing blank none = record {
     clearing = clearing;
     blank = blank;
     no_line = none;
-    in_time = λ tau. let a = again header.slot tau in (header.slot +ℤ a.by, a.from, omega (arith, ints, a.to, long, some), ap (λ x. heads_page p.id (packet_of x)) (a.same header.slot) ∙ header.is_header);
+    in_time = λ tau. let a = again header.slot tau
+        in (
+          header.slot +ℤ a.by,
+          a.from,
+          omega (arith, ints, a.to, long, some),
+          ap (λ x. heads_page p.id (packet_of x)) (a.same header.slot) ∙ header.is_header,
+        );
   }
 
   rising_all : length cycle ≤ 65536 → (lines repeat : ℕ) (page : Id) (item : Item) → Rising (starts_of cycle lines repeat page item)
   rising_all few lines repeat page item i j lt in_range =
       let ts = sent_in cycle page lines item in
       rising_pairs None (starts_of cycle lines repeat page item) i j 0
-      (starts_rise n (run_length repeat item - 1) ts (told_in_order cycle some page lines item few ts (sent_told cycle some page lines item))) lt in_range
+      (starts_rise n (run_length repeat item - 1) ts
+      (told_in_order cycle some page lines item few ts (sent_told cycle some page lines item))) lt in_range
 
-  either : (p : Page) (class : Class) (lines repeat deadline : ℕ) (item : Item) → 1 ≤ repeat → repeat ≤ 8 → IsLongEnough cycle lines deadline → HasHeader s p.id →
-      HasSureStart cycle p.id lines repeat item ⊎ ((class ≡ Clearing) × IsBlank p item) → (starts : List ℕ) → starts_of cycle lines repeat p.id item ≡ starts →
+  either : (p : Page) (class : Class) (lines repeat deadline : ℕ) (item : Item) → 1 ≤ repeat → repeat ≤ 8 →
+      IsLongEnough cycle lines deadline → HasHeader s p.id →
+      HasSureStart cycle p.id lines repeat item ⊎ ((class ≡ Clearing) × IsBlank p item) → (starts : List ℕ) →
+      starts_of cycle lines repeat p.id item ≡ starts →
       let w = numbered class lines repeat deadline (starts_of cycle lines repeat) in IsCovered cycle p w item ⊎ IsLeftOut cycle p w item
-  either p class lines repeat deadline item one eight long header (inl start) starts e = inl (all_cover p class lines repeat deadline item one eight long start)
-  either p class lines repeat deadline item one eight long header (inr blank) [] e = inr (left_out p class lines repeat deadline item long header blank.0 blank.1 e)
+  either p class lines repeat deadline item one eight long header (inl start) starts e =
+      inl (all_cover p class lines repeat deadline item one eight long start)
+  either p class lines repeat deadline item one eight long header (inr blank) [] e =
+      inr (left_out p class lines repeat deadline item long header blank.0 blank.1 e)
   either p class lines repeat deadline item one eight long header (inr blank) (x ∷ xs) e =
       let named : Contains (starts_of cycle lines repeat p.id item) x = subst (λ l. Contains l x) (sym e) (0, omega arith, refl) in
       inl (all_cover p class lines repeat deadline item one eight long
@@ -234,7 +272,15 @@ module _ (turns : EachSlotTurns) (move : StreamsMove) (near : OwnersAreNear) (cy
 pub sure_items_are_accepted : EachSlotTurns → StreamsMove → OwnersAreNear → SureItemsAreAccepted
 sure_items_are_accepted turns move near cycle pages class lines repeat deadline some few l1 l32 one eight d1 dm long unchanged sent = record {
   w = numbered class lines repeat deadline (starts_of cycle lines repeat);
-  is = record { some_lines = l1; few_lines = l32; some_repeats = one; few_repeats = eight; some_fields = d1; few_fields = dm; rising = rising_all turns move near cycle some few lines repeat };
+  is = record {
+    some_lines = l1;
+    few_lines = l32;
+    some_repeats = one;
+    few_repeats = eight;
+    some_fields = d1;
+    few_fields = dm;
+    rising = rising_all turns move near cycle some few lines repeat;
+  };
   same_class = refl;
   same_lines = refl;
   same_repeat = refl;
@@ -242,6 +288,7 @@ sure_items_are_accepted turns move near cycle pages class lines repeat deadline 
   accepted = record {
     clean = unchanged.clean;
     steady = unchanged.steady;
-    covered = λ i p at item need. either turns move near cycle some p class lines repeat deadline item one eight long ((unchanged.steady i p at).header) (sent i p at item need) (starts_of cycle lines repeat p.id item) refl;
+    covered = λ i p at item need. either turns move near cycle some p class lines repeat deadline item one eight long
+        ((unchanged.steady i p at).header) (sent i p at item need) (starts_of cycle lines repeat p.id item) refl;
   };
 }

@@ -64,7 +64,8 @@ module _ (n : ℕ) (starts : List ℕ) (rising : Rising starts) (within : (i : �
             let same : m % n ≡ m = rem_small m n inside in
             let later : i < a.0 = place_after i a.0 lt (omega arith) in
             let next = not_falling (i + 1) a.0 (omega arith) a.1 in
-            cond_both (nat_lt (i + 1) (length starts)) _ _ (λ x. x ≤ℤ pos m) (λ t. omega (arith, ints)) (λ f. let l : length starts ≤ i + 1 = grind (arith, nat_tests) in absurd (let b = a.1 in omega arith))
+            cond_both (nat_lt (i + 1) (length starts)) _ _ (λ x. x ≤ℤ pos m) (λ t. omega (arith, ints))
+            (λ f. let l : length starts ≤ i + 1 = grind (arith, nat_tests) in absurd (let b = a.1 in omega arith))
         | inr past ↦
             cond_both (nat_lt (i + 1) (length starts)) _ _ (λ x. x ≤ℤ pos m)
             (λ t. let l : i + 1 < length starts = grind (arith, nat_tests) in let b = within (i + 1) l in omega (arith, ints))
@@ -90,7 +91,8 @@ all_below : (end later : ℤ) → end ≤ℤ later → (xs : List ℤ) → AllBy
 all_below end later le [] all = tt
 all_below end later le (x ∷ xs) all = (let lt = all.0 in omega (arith, ints), all_below end later le xs all.1)
 
-module _ (laws : StartLaws) (cycle : List (List ℕ)) (some : 1 ≤ length cycle) (p : Page) (w : Certificate) (item : Item) (repeats : 1 ≤ w.repeat) (rising : Rising (w.starts p.id item))
+module _ (laws : StartLaws) (cycle : List (List ℕ)) (some : 1 ≤ length cycle) (p : Page) (w : Certificate) (item : Item)
+    (repeats : 1 ≤ w.repeat) (rising : Rising (w.starts p.id item))
     (need : needed p item ≡ true) (named : (start : ℕ) × Contains (w.starts p.id item) start)
     (sure : (start : ℕ) → Contains (w.starts p.id item) start → IsSureStart cycle p.id w.lines w.repeat item start) where
   abbrev starts : List ℕ
@@ -111,19 +113,23 @@ module _ (laws : StartLaws) (cycle : List (List ℕ)) (some : 1 ≤ length cycle
 
   run_again : (i : ℕ) → i < length starts → HasRun (pos (slice_index_or starts i 0) +ℤ pos n)
   run_again i lt =
-      let moved = (laws.move (repeated cycle) (pos n) (laws.period cycle some)).run p.id w.lines w.repeat item (pos (slice_index_or starts i 0)) (sure (slice_index_or starts i 0) (Contains-get_or starts i 0 lt)).1 in
+      let moved = (laws.move (repeated cycle) (pos n) (laws.period cycle some)).run p.id w.lines w.repeat item
+      (pos (slice_index_or starts i 0)) (sure (slice_index_or starts i 0) (Contains-get_or starts i 0 lt)).1 in
       (moved.rest, moved.run)
 
   next_run : (i : ℕ) → i < length starts → HasRun (next_start n starts i)
-  next_run i lt = cond_both (nat_lt (i + 1) (length starts)) _ _ HasRun (λ t. run_at (i + 1) (grind (arith, nat_tests))) (λ f. run_again 0 (omega arith))
+  next_run i lt = cond_both (nat_lt (i + 1) (length starts)) _ _ HasRun (λ t. run_at (i + 1) (grind (arith, nat_tests)))
+      (λ f. run_again 0 (omega arith))
 
   -- a run that starts no earlier than another ends no earlier
-  ends_by : (i j end : ℤ) → i ≤ℤ j → HasRun i → EndsBelow (repeated cycle) p.id w.repeat item j (end +ℤ pos 1) → EndsBelow (repeated cycle) p.id w.repeat item i (end +ℤ pos 1)
+  ends_by : (i j end : ℤ) → i ≤ℤ j → HasRun i → EndsBelow (repeated cycle) p.id w.repeat item j (end +ℤ pos 1) →
+      EndsBelow (repeated cycle) p.id w.repeat item i (end +ℤ pos 1)
   ends_by i j end le run later = elim (cases_ltz i j) as (λ _. EndsBelow (repeated cycle) p.id w.repeat item i (end +ℤ pos 1)) [
     | inl lt ↦ record {
       rest = run.0;
       run = run.1;
-      ends = all_below end (end +ℤ pos 1) (omega (arith, ints)) (i ∷ run.0) (laws.rise (repeated cycle) p.id w.repeat item i j run.0 later.rest lt run.1 later.run end later.ends);
+      ends = all_below end (end +ℤ pos 1) (omega (arith, ints)) (i ∷ run.0)
+          (laws.rise (repeated cycle) p.id w.repeat item i j run.0 later.rest lt run.1 later.run end later.ends);
     }
     | inr ge ↦ let e : j ≡ i = omega (arith, ints) in subst (λ x. EndsBelow (repeated cycle) p.id w.repeat item x (end +ℤ pos 1)) e later
   ]
@@ -136,21 +142,25 @@ module _ (laws : StartLaws) (cycle : List (List ℕ)) (some : 1 ≤ length cycle
         let first : pos start <ℤ s.0 = elim (cases_ltz (pos start) s.0) as (λ _. pos start <ℤ s.0) [
           | inl lt ↦ lt
           | inr ge ↦ absurd (elim (cases_ltz s.0 (pos start)) as (λ _. ⊥) [
-            | inl before ↦ let o = laws.owners (repeated cycle) p.id item item s.1 l.owner s.0 (pos start) before s.3 l.owned in let b = s.4 in omega (arith, ints)
+            | inl before ↦ let o = laws.owners (repeated cycle) p.id item item s.1 l.owner s.0 (pos start) before s.3 l.owned in let b =
+                s.4 in omega (arith, ints)
             | inr after ↦
                 let e : s.0 ≡ pos start = omega (arith, ints) in
-                let o = laws.one_owner (repeated cycle) p.id item s.1 l.owner (pos start) (subst (λ x. IsOwned (repeated cycle) p.id item s.1 x) e s.3) l.owned in
+                let o = laws.one_owner (repeated cycle) p.id item s.1 l.owner (pos start)
+                (subst (λ x. IsOwned (repeated cycle) p.id item s.1 x) e s.3) l.owned in
                 let b = s.4 in
                 omega (arith, ints)
           ])
         ] in
         let next = from_next l.index l.within (subst (λ x. pos x <ℤ s.0) l.is first) s.2 in
         let ends : EndsBelow (repeated cycle) p.id w.repeat item s.0 ((l.owner +ℤ pos (limit w)) +ℤ pos 1) =
-        let e : (l.owner +ℤ pos 1) +ℤ pos (limit w) ≡ (l.owner +ℤ pos (limit w)) +ℤ pos 1 = omega (arith, ints) in subst (λ x. EndsBelow (repeated cycle) p.id w.repeat item s.0 x) e s.5 in
+        let e : (l.owner +ℤ pos 1) +ℤ pos (limit w) ≡ (l.owner +ℤ pos (limit w)) +ℤ pos 1 = omega (arith, ints)
+        in subst (λ x. EndsBelow (repeated cycle) p.id w.repeat item s.0 x) e s.5 in
         l.late (ends_by (next_start n starts l.index) s.0 (l.owner +ℤ pos (limit w)) next (next_run l.index l.within) ends),
   )
     where
-      from_next : (i : ℕ) → i < length starts → {x : ℤ} → pos (slice_index_or starts i 0) <ℤ x → Contains starts (turned n x) → next_start n starts i ≤ℤ x
+      from_next : (i : ℕ) → i < length starts → {x : ℤ} → pos (slice_index_or starts i 0) <ℤ x → Contains starts (turned n x) →
+          next_start n starts i ≤ℤ x
       from_next i lt {x = pos m} more c = next_is_least n starts rising inside i m lt (omega (arith, ints)) c
       from_next i lt {x = negsuc m} more c = absurd (omega (arith, ints))
 

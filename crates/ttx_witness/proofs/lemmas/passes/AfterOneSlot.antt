@@ -38,7 +38,9 @@ short_run w is TheLinks k e = omega arith
 -- a needed row is 1 to 24
 pub row_is_item : (p : Page) (r : ℕ) → needed p (TheRow r) ≡ true → IsItem (TheRow r)
 row_is_item p r e =
-    let a : (nat_le 1 r && nat_le r 24) ≡ true = (and_parts _ (not (c10 p.control)) (and_parts _ (if r == 24 then p.links.show24 else not (is_hidden (page_row p) r)) e).0).0 in
+    let a : (nat_le 1 r && nat_le r 24) ≡ true =
+    (and_parts _ (not (c10 p.control))
+    (and_parts _ (if r == 24 then p.links.show24 else not (is_hidden (page_row p) r)) e).0).0 in
     let b : nat_le 1 r ≡ true = (and_parts _ (nat_le r 24) a).0 in
     let c : nat_le r 24 ≡ true = (and_parts (nat_le 1 r) (nat_le r 24) a).1 in
     (grind (arith, nat_tests), grind (arith, nat_tests))
@@ -67,7 +69,8 @@ carried_some : (c : Bool) (ts : List Transmission) (mine : Bool) → some_of ts 
 carried_some true ts mine e = e
 carried_some false ts mine e = refl
 
-sends_some : (id : Id) (lines : ℕ) (item : Item) (j : ℤ) (packet : Packet) (o : Option PageOwner) → some_of (sent_at id lines item j packet o) ≡ sends id item packet (is_mine o)
+sends_some : (id : Id) (lines : ℕ) (item : Item) (j : ℤ) (packet : Packet) (o : Option PageOwner) →
+    some_of (sent_at id lines item j packet o) ≡ sends id item packet (is_mine o)
 sends_some id lines TheHead j packet o = go (heads_page id packet)
   where
     go : (b : Bool) → some_of (if b then record { slot = j; owner = j; sure = true } ∷ [] else []) ≡ b
@@ -77,37 +80,46 @@ sends_some id lines (TheRow r) j packet o = carried_some (carries id.mag (TheRow
 sends_some id lines TheLinks j packet o = carried_some (carries id.mag TheLinks packet) (sent_under lines j o) (is_mine o) (under_some lines j o)
 
 -- the headers after one more
-heads_more : (lim : ℕ) (h : Option Heads) (ts : List Transmission) (j : ℤ) (b : Bool) → heads_of lim h (ts ++ (if b then record { slot = j; owner = j; sure = true } ∷ [] else [])) ≡ heads_after lim j b (heads_of lim h ts)
+heads_more : (lim : ℕ) (h : Option Heads) (ts : List Transmission) (j : ℤ) (b : Bool) →
+    heads_of lim h (ts ++ (if b then record { slot = j; owner = j; sure = true } ∷ [] else []))
+    ≡ heads_after lim j b (heads_of lim h ts)
 unfolding heads_of
 heads_more lim h [] j true = refl
 heads_more lim h [] j false = refl
 heads_more lim h (t ∷ ts) j b = heads_more lim (heads_after lim t.slot true h) ts j b
 
-module _ (w : Certificate) (is : IsCertificate w) (p : Page) (i : ℕ) (sent : Option Sent) (y : List (List ℕ)) (z : List ℕ) (entry owner : Option PageOwner) (k : ℤ) (at_end : k ≡ pos (length y))
+module _ (w : Certificate) (is : IsCertificate w) (p : Page) (i : ℕ) (sent : Option Sent) (y : List (List ℕ)) (z : List ℕ)
+    (entry owner : Option PageOwner) (k : ℤ) (at_end : k ≡ pos (length y))
     (right : owner ≡ owner_scan p.id (repeated y) entry (length y))
-    (lines : ℕ) (same_lines : lines ≡ w.lines) (says : (item : Item) → IsItem item → sent_of i item sent ≡ sent_at p.id lines item k (packet_of z) owner) where
+    (lines : ℕ) (same_lines : lines ≡ w.lines)
+    (says : (item : Item) → IsItem item → sent_of i item sent ≡ sent_at p.id lines item k (packet_of z) owner) where
   told : (item : Item) → IsItem item → sent_of i item sent ≡ sent_at p.id w.lines item k (packet_of z) owner
   told item it = says item it ∙ ap (λ l. sent_at p.id l item k (packet_of z) owner) same_lines
 
   abbrev more : List (List ℕ)
   more = y ++ z ∷ []
 
-  grown : (item : Item) → IsItem item → sent_scan p.id w.lines item (repeated y) entry (length y) ++ sent_of i item sent ≡ sent_scan p.id w.lines item (repeated more) entry (length more)
+  grown : (item : Item) → IsItem item → sent_scan p.id w.lines item (repeated y) entry (length y) ++ sent_of i item sent
+      ≡ sent_scan p.id w.lines item (repeated more) entry (length more)
   grown item it = sent_grown y z p.id w.lines item entry owner (sent_of i item sent) k at_end right (told item it)
 
   -- what the slots send, once one more is taken
-  pub listed_more : (item : Item) → IsItem item → (old new : List (Option Sent)) → new ≡ old ++ sent ∷ [] → placed_in (place_of_item i item) old ≡ sent_scan p.id w.lines item (repeated y) entry (length y) →
+  pub listed_more : (item : Item) → IsItem item → (old new : List (Option Sent)) → new ≡ old ++ sent ∷ [] →
+      placed_in (place_of_item i item) old ≡ sent_scan p.id w.lines item (repeated y) entry (length y) →
       placed_in (place_of_item i item) new ≡ sent_scan p.id w.lines item (repeated more) entry (length more)
   listed_more item it old new e h =
-      ap (placed_in (place_of_item i item)) e ∙ placed_more (place_of_item i item) old sent ∙ ap (λ ts. placed_in (place_of_item i item) old ++ ts) (placed_item i item it sent)
+      ap (placed_in (place_of_item i item)) e ∙ placed_more (place_of_item i item) old sent
+      ∙ ap (λ ts. placed_in (place_of_item i item) old ++ ts) (placed_item i item it sent)
       ∙ ap (λ ts. ts ++ sent_of i item sent) h ∙ grown item it
 
   -- whether the slot sends an item
-  sends_is : (item : Item) → IsItem item → is_sent i item sent ≡ sends p.id item (packet_of (repeated more (pos (length y)))) (is_mine (owner_scan p.id (repeated more) entry (length y)))
+  sends_is : (item : Item) → IsItem item → is_sent i item sent
+      ≡ sends p.id item (packet_of (repeated more (pos (length y)))) (is_mine (owner_scan p.id (repeated more) entry (length y)))
   sends_is item it =
       sent_some i item sent ∙ ap some_of (told item it) ∙ sends_some p.id w.lines item k (packet_of z) owner
       ∙ ap (λ x. sends p.id item (packet_of x) (is_mine owner)) (sym (here y z))
-      ∙ ap (λ o. sends p.id item (packet_of (repeated more (pos (length y)))) (is_mine o)) (right ∙ sym (owner_before y z p.id entry (length y) (omega arith)))
+      ∙ ap (λ o. sends p.id item (packet_of (repeated more (pos (length y)))) (is_mine o))
+      (right ∙ sym (owner_before y z p.id entry (length y) (omega arith)))
 
   -- what was wrong below stays
   wrong_before : (check : Check) (j : ℕ) → j < length y → SendsWrong p (repeated y) entry check j ↔ SendsWrong p (repeated more) entry check j
@@ -115,16 +127,20 @@ module _ (w : Certificate) (is : IsCertificate w) (p : Page) (i : ℕ) (sent : O
       let s = same_before y z j lt in
       let o = owner_before y z p.id entry j (omega arith) in (
         (λ a. record {
-          sent = ap (λ x. sends p.id (compared_item check) (packet_of x) (is_mine (owner_scan p.id (repeated more) entry j))) s ∙ ap (λ m. sends p.id (compared_item check) (packet_of (repeated y (pos j))) (is_mine m)) o ∙ a.sent;
+          sent = ap (λ x. sends p.id (compared_item check) (packet_of x) (is_mine (owner_scan p.id (repeated more) entry j))) s
+              ∙ ap (λ m. sends p.id (compared_item check) (packet_of (repeated y (pos j))) (is_mine m)) o ∙ a.sent;
           wrong = subst (IsWrong p check) (sym s) a.wrong;
         }),
         (λ a. record {
-          sent = ap (λ m. sends p.id (compared_item check) (packet_of (repeated y (pos j))) (is_mine m)) (sym o) ∙ ap (λ x. sends p.id (compared_item check) (packet_of x) (is_mine (owner_scan p.id (repeated more) entry j))) (sym s) ∙ a.sent;
+          sent = ap (λ m. sends p.id (compared_item check) (packet_of (repeated y (pos j))) (is_mine m)) (sym o)
+              ∙ ap (λ x. sends p.id (compared_item check) (packet_of x) (is_mine (owner_scan p.id (repeated more) entry j)))
+              (sym s) ∙ a.sent;
           wrong = subst (IsWrong p check) s a.wrong;
         }),
       )
 
-  wrong_here : (check : Check) → IsItem (compared_item check) → ((is_sent i (compared_item check) sent ≡ true) × IsWrong p check z) ↔ SendsWrong p (repeated more) entry check (length y)
+  wrong_here : (check : Check) → IsItem (compared_item check) → ((is_sent i (compared_item check) sent ≡ true) × IsWrong p check z)
+      ↔ SendsWrong p (repeated more) entry check (length y)
   wrong_here check it = (
     (λ a. record { sent = sym (sends_is (compared_item check) it) ∙ a.0; wrong = subst (IsWrong p check) (sym (here y z)) a.1 }),
     (λ a. (sends_is (compared_item check) it ∙ a.sent, subst (IsWrong p check) (here y z) a.wrong)),
@@ -133,18 +149,23 @@ module _ (w : Certificate) (is : IsCertificate w) (p : Page) (i : ℕ) (sent : O
   longer : (P : ℕ → Type 0) (o : Option ℕ) → FirstBelow P (suc (length y)) o → FirstBelow P (length more) o
   longer P o = subst (λ n. FirstBelow P n o) (sym (one_longer y z))
 
-  noted_more : (P Q : ℕ → Type 0) (H : Type 0) → ((j : ℕ) → j < length y → P j ↔ Q j) → (H ↔ Q (length y)) → (j : ℕ) → j ≡ length y → (old new : Option ℕ) → IsNoted H j old new → FirstBelow P (length y) old → FirstBelow Q (length more) new
+  noted_more : (P Q : ℕ → Type 0) (H : Type 0) → ((j : ℕ) → j < length y → P j ↔ Q j) → (H ↔ Q (length y)) → (j : ℕ) → j ≡ length y →
+      (old new : Option ℕ) → IsNoted H j old new → FirstBelow P (length y) old → FirstBelow Q (length more) new
   noted_more P Q H before now j e old new n f =
       longer Q new (subst (FirstBelow Q (suc (length y))) (sym (n.first ∙ ap (first_of old n.holds) e))
       (below_more Q (length y) n.holds ((λ h. now.0 (n.exact.0 h)), (λ q. n.exact.1 (now.1 q))) old (below_same P Q (length y) before old f)))
 
-  pub facts_more : (lim : ℕ) → lim ≡ limit w → (j : ℕ) → j ≡ length y → (old new : Facts) → AreFacts w p (repeated y) entry (length y) old → Noted lim p (λ item. is_sent i item sent) z j old new → AreFacts w p (repeated more) entry (length more) new
+  pub facts_more : (lim : ℕ) → lim ≡ limit w → (j : ℕ) → j ≡ length y → (old new : Facts) →
+      AreFacts w p (repeated y) entry (length y) old → Noted lim p (λ item. is_sent i item sent) z j old new →
+      AreFacts w p (repeated more) entry (length more) new
   facts_more lim e j ej old new f n = record {
     heads =
         n.heads ∙ ap (λ l. heads_after l (pos j) (is_sent i TheHead sent) old.heads) e
         ∙ ap (λ h. heads_after (limit w) (pos j) (is_sent i TheHead sent) h) f.heads
-        ∙ ap (λ q. heads_after (limit w) q (is_sent i TheHead sent) (heads_of (limit w) None (sent_scan p.id w.lines TheHead (repeated y) entry (length y)))) (ap pos ej ∙ sym at_end)
-        ∙ ap (λ b. heads_after (limit w) k b (heads_of (limit w) None (sent_scan p.id w.lines TheHead (repeated y) entry (length y)))) (sent_some i TheHead sent ∙ ap some_of (told TheHead tt) ∙ sends_some p.id w.lines TheHead k (packet_of z) owner)
+        ∙ ap (λ q. heads_after (limit w) q (is_sent i TheHead sent)
+        (heads_of (limit w) None (sent_scan p.id w.lines TheHead (repeated y) entry (length y)))) (ap pos ej ∙ sym at_end)
+        ∙ ap (λ b. heads_after (limit w) k b (heads_of (limit w) None (sent_scan p.id w.lines TheHead (repeated y) entry (length y))))
+        (sent_some i TheHead sent ∙ ap some_of (told TheHead tt) ∙ sends_some p.id w.lines TheHead k (packet_of z) owner)
         ∙ sym (heads_more (limit w) None (sent_scan p.id w.lines TheHead (repeated y) entry (length y)) k (heads_page p.id (packet_of z)))
         ∙ ap (λ us. heads_of (limit w) None (sent_scan p.id w.lines TheHead (repeated y) entry (length y) ++ us)) (sym (told TheHead tt))
         ∙ ap (heads_of (limit w) None) (grown TheHead tt);
@@ -157,7 +178,8 @@ module _ (w : Certificate) (is : IsCertificate w) (p : Page) (i : ℕ) (sent : O
           (λ h. record { row = h.row; needed = h.needed; wrong = (wrong_before (CheckRow h.row) a lt).1 h.wrong }),
         )) (
           (λ h. record { row = h.row; needed = h.needed; wrong = (wrong_here (CheckRow h.row) (row_is_item p h.row h.needed)).0 (h.sent, h.wrong) }),
-          (λ h. let a = (wrong_here (CheckRow h.row) (row_is_item p h.row h.needed)).1 h.wrong in record { row = h.row; needed = h.needed; sent = a.0; wrong = a.1 }),
+          (λ h. let a = (wrong_here (CheckRow h.row) (row_is_item p h.row h.needed)).1 h.wrong
+              in record { row = h.row; needed = h.needed; sent = a.0; wrong = a.1 }),
         )
         j ej old.row new.row n.row f.row;
   }

@@ -13,7 +13,8 @@ use Rattle.ttx_witness.specs.passes.PageFacts.{AreFacts, heads_of}
 abbrev pub none_noted : Facts
 none_noted = record { heads = None; erased = None; head = None; row = None; links = None }
 
-pub nothing_noted : (w : Certificate) (p : Page) (s : Stream) (all : List Facts) (count n : ℕ) → all ≡ replicate count none_noted → n < count → HoldsAt Facts all n (AreFacts w p s None 0)
+pub nothing_noted : (w : Certificate) (p : Page) (s : Stream) (all : List Facts) (count n : ℕ) → all ≡ replicate count none_noted →
+    n < count → HoldsAt Facts all n (AreFacts w p s None 0)
 unfolding sent_scan heads_of
 nothing_noted w p s all count n e lt = record {
   value = none_noted;

@@ -27,7 +27,8 @@ not_noted : (P : Type 0) (j : ℕ) (o : Option ℕ) → (P → ⊥) → IsNoted 
 not_noted P j o not = record { holds = false; exact = ((λ e. cc), (λ p. absurd (not p))); first = none_of o j }
 
 -- a slot that sends nothing of the page
-pub noted_none : (limit : ℕ) (p : Page) (sends : Item → Bool) (slot : List ℕ) (j : ℕ) (x : Facts) → ((item : Item) → sends item ≡ false) → Noted limit p sends slot j x x
+pub noted_none : (limit : ℕ) (p : Page) (sends : Item → Bool) (slot : List ℕ) (j : ℕ) (x : Facts) →
+    ((item : Item) → sends item ≡ false) → Noted limit p sends slot j x x
 noted_none limit p sends slot j x none = record {
   heads = ap (λ b. heads_after limit (pos j) b x.heads) (sym (none TheHead));
   erased = not_noted _ j x.erased (λ h. both_ways _ (none TheHead) h.0);
@@ -47,27 +48,39 @@ and_false false b e = refl
 module _ (limit : ℕ) (pages : List PageValue) (s : Sent) (slot : List ℕ) (j : ℕ) (all : List Facts) where
   -- another page
   pub noted_other : (i : ℕ) (p : Page) (x : Facts) → (s.page ≡ i → ⊥) → Noted limit p (λ item. is_sent i item (Some s)) slot j x x
-  noted_other i p x d = noted_none limit p (λ item. is_sent i item (Some s)) slot j x (λ item. and_false (item_number item == s.number) (s.page == i) (elim (cases_Bool (s.page == i)) as (λ _. (s.page == i) ≡ false) [ inl e ↦ absurd (d (eqb-true _ _ e)) | inr e ↦ e ]))
+  noted_other i p x d = noted_none limit p (λ item. is_sent i item (Some s)) slot j x
+      (λ item. and_false (item_number item == s.number) (s.page == i)
+      (elim (cases_Bool (s.page == i)) as (λ _. (s.page == i) ≡ false) [ inl e ↦ absurd (d (eqb-true _ _ e)) | inr e ↦ e ]))
 
   -- the page itself
-  pub noted_here : (q : Page) (old new : Facts) → slice_get (map page_of pages) s.page ≡ Some q → slice_get all s.page ≡ Some old → s.page < length all → Noted limit q (λ item. item_number item == s.number) slot j old new →
-      (i : ℕ) (p : Page) (x : Facts) → slice_get (map page_of pages) i ≡ Some p → slice_get all i ≡ Some x → HoldsAt Facts (set all s.page new) i (Noted limit p (λ item. is_sent i item (Some s)) slot j x)
-  noted_here q old new at_q at_old lt n i p x at here = elim (cases_Bool (s.page == i)) as (λ _. HoldsAt Facts (set all s.page new) i (Noted limit p (λ item. is_sent i item (Some s)) slot j x)) [
-    | inl e ↦
-        let same : s.page ≡ i = eqb-true _ _ e in
-        let page : q ≡ p = placed _ q p at_q (ap (slice_get (map page_of pages)) same ∙ at) in
-        let fact : old ≡ x = placed _ old x at_old (ap (slice_get all) same ∙ here) in
-        record {
-          value = new;
-          here = ap (slice_get (set all s.page new)) (sym same) ∙ set_here all s.page new lt;
-          is = subst (λ sends. Noted limit p sends slot j x new) (λ k item. and_true (item_number item == s.number) (s.page == i) e k)
-              (subst (λ y. Noted limit p (λ item. item_number item == s.number) slot j y new) fact (subst (λ y. Noted limit y (λ item. item_number item == s.number) slot j old new) page n));
+  pub noted_here : (q : Page) (old new : Facts) → slice_get (map page_of pages) s.page ≡ Some q → slice_get all s.page ≡ Some old →
+      s.page < length all → Noted limit q (λ item. item_number item == s.number) slot j old new →
+      (i : ℕ) (p : Page) (x : Facts) → slice_get (map page_of pages) i ≡ Some p → slice_get all i ≡ Some x →
+      HoldsAt Facts (set all s.page new) i (Noted limit p (λ item. is_sent i item (Some s)) slot j x)
+  noted_here q old new at_q at_old lt n i p x at here =
+      elim (cases_Bool (s.page == i)) as
+      (λ _. HoldsAt Facts (set all s.page new) i (Noted limit p (λ item. is_sent i item (Some s)) slot j x)) [
+        | inl e ↦
+            let same : s.page ≡ i = eqb-true _ _ e in
+            let page : q ≡ p = placed _ q p at_q (ap (slice_get (map page_of pages)) same ∙ at) in
+            let fact : old ≡ x = placed _ old x at_old (ap (slice_get all) same ∙ here) in
+            record {
+              value = new;
+              here = ap (slice_get (set all s.page new)) (sym same) ∙ set_here all s.page new lt;
+              is = subst (λ sends. Noted limit p sends slot j x new) (λ k item. and_true (item_number item == s.number) (s.page == i) e k)
+                  (subst (λ y. Noted limit p (λ item. item_number item == s.number) slot j y new) fact
+                  (subst (λ y. Noted limit y (λ item. item_number item == s.number) slot j old new) page n));
+            }
+        | inr e ↦ record {
+          value = x;
+          here = set_other all s.page i new (λ q. both_ways _ e (eq-eqb s.page i (sym q))) ∙ here;
+          is = noted_other i p x (λ q. both_ways _ e (eq-eqb s.page i q));
         }
-    | inr e ↦ record { value = x; here = set_other all s.page i new (λ q. both_ways _ e (eq-eqb s.page i (sym q))) ∙ here; is = noted_other i p x (λ q. both_ways _ e (eq-eqb s.page i q)) }
-  ]
+      ]
 
   -- no page of the list
-  pub noted_past : (length all ≤ s.page) ⊎ (length pages ≤ s.page) → (i : ℕ) (p : Page) (x : Facts) → slice_get (map page_of pages) i ≡ Some p → slice_get all i ≡ Some x →
+  pub noted_past : (length all ≤ s.page) ⊎ (length pages ≤ s.page) → (i : ℕ) (p : Page) (x : Facts) → slice_get (map page_of pages) i
+      ≡ Some p → slice_get all i ≡ Some x →
       HoldsAt Facts all i (Noted limit p (λ item. is_sent i item (Some s)) slot j x)
   noted_past past i p x at here = record {
     value = x;

@@ -18,7 +18,8 @@ use Rattle.ttx_witness.proofs.lemmas.passes.ReturningOwners.{steady_entry, own_e
 
 pub progress_told : (y : List (List ℕ)) (p : Page) (w : Certificate) (item : Item) (starts : List ℕ) (lim period repeat : ℕ) (progress : Progress) →
     starts ≡ w.starts p.id item → lim ≡ limit w → period ≡ length y → repeat ≡ run_length w.repeat item →
-    progress ≡ after_runs lim starts not_begun (runs period (repeat - 1) (sent_in y p.id w.lines item)) → progress ≡ progress_of y p w item (run_length w.repeat item - 1)
+    progress ≡ after_runs lim starts not_begun (runs period (repeat - 1) (sent_in y p.id w.lines item)) → progress
+    ≡ progress_of y p w item (run_length w.repeat item - 1)
 progress_told y p w item starts lim period repeat progress e f g h told =
     let ts = sent_in y p.id w.lines item in
     told ∙ ap (λ ss. after_runs lim ss not_begun (runs period (repeat - 1) ts)) e
@@ -31,7 +32,9 @@ empty_is [] e = refl
 empty_is (z ∷ y) e = absurd (omega arith)
 
 -- the owners before a list that is the first one again
-module _ (entry owners : List (Option Owner)) (x y : List (List ℕ)) (i : ℕ) (id : Id) (seen : owner_for owners i id ≡ owner_scan id (repeated y) (entry_owner x id) (length y)) (begun : owner_for entry i id ≡ entry_owner x id) (count : ℕ) (is : count ≡ length y) where
+module _ (entry owners : List (Option Owner)) (x y : List (List ℕ)) (i : ℕ) (id : Id)
+    (seen : owner_for owners i id ≡ owner_scan id (repeated y) (entry_owner x id) (length y))
+    (begun : owner_for entry i id ≡ entry_owner x id) (count : ℕ) (is : count ≡ length y) where
   pub again : x ≡ y → owner_moved (pos 0 -ℤ pos count) (owner_for owners i id) ≡ owner_for entry i id
   again e =
       ap (λ n. owner_moved (pos 0 -ℤ pos n) (owner_for owners i id)) is ∙ ap (owner_moved (pos 0 -ℤ pos (length y))) seen
@@ -40,4 +43,5 @@ module _ (entry owners : List (Option Owner)) (x y : List (List ℕ)) (i : ℕ) 
 
   pub own : 1 ≤ length y → owner_moved (pos 0 -ℤ pos count) (owner_for owners i id) ≡ owner_for entry i id → entry_owner x id ≡ entry_owner y id
   own some steady = steady_entry y some id (entry_owner x id)
-      (sym (ap (owner_moved (pos 0 -ℤ pos (length y))) seen) ∙ sym (ap (λ n. owner_moved (pos 0 -ℤ pos n) (owner_for owners i id)) is) ∙ steady ∙ begun)
+      (sym (ap (owner_moved (pos 0 -ℤ pos (length y))) seen) ∙ sym (ap (λ n. owner_moved (pos 0 -ℤ pos n) (owner_for owners i id)) is)
+      ∙ steady ∙ begun)

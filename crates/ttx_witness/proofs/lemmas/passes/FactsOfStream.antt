@@ -37,7 +37,8 @@ unfolding heads_of
 heads_are lim [] P e = ((λ t. absurd (let h : false ≡ true = t in cc)), (λ p. let h = e.1 p in absurd (omega arith)))
 heads_are lim (t ∷ ts) P e = ((λ _. e.0 (omega arith)), (λ _. some_heads lim (next_head lim t.slot None) ts))
 
-module _ (ended : EndedPass) (y : List (List ℕ)) (kept : IsEnded ended y) (n : ℕ) (p : Page) (at : slice_get (ended_pages ended) n ≡ Some p) (is : IsId p.id) where
+module _ (ended : EndedPass) (y : List (List ℕ)) (kept : IsEnded ended y) (n : ℕ) (p : Page)
+    (at : slice_get (ended_pages ended) n ≡ Some p) (is : IsId p.id) where
   some : 1 ≤ length y
   some = let s = kept.cycle.some in omega arith
 
@@ -48,16 +49,29 @@ module _ (ended : EndedPass) (y : List (List ℕ)) (kept : IsEnded ended y) (n :
   other_first =
       let table = ended.others.subcodes.items in
       let here : AreSubcodes (ended_pages ended) (length (ended_pages ended)) p.id.mag p.id.page (get_or table (place p.id.mag p.id.page) Unlisted) =
-      subst (λ k. AreAllSubcodes (ended_pages ended) k table) (sym (length-map ended.pages.now page_of)) kept.subcodes p.id.mag p.id.page is.mag_from is.mag_to is.page in
-      tells_same y (HeadsOtherAt table (repeated y) p.id.mag p.id.page) (OtherSubpageAt (repeated y) (ended_pages ended) p) (other_is (ended_pages ended) p n at (slice_get_within (ended_pages ended) n p at) table (repeated y) here) other
+      subst (λ k. AreAllSubcodes (ended_pages ended) k table)
+      (sym (length-map ended.pages.now page_of)) kept.subcodes p.id.mag p.id.page is.mag_from is.mag_to is.page in
+      tells_same y (HeadsOtherAt table (repeated y) p.id.mag p.id.page) (OtherSubpageAt (repeated y) (ended_pages ended) p)
+      (other_is (ended_pages ended) p n at (slice_get_within (ended_pages ended) n p at) table (repeated y) here) other
       (first_all y some table p.id.mag p.id.page other (kept.others p.id.mag p.id.page is.mag_from is.mag_to is.page))
 
   pub facts_first : (f : Facts) → AreFacts (ended_certificate ended) p (repeated y) (entry_owner y p.id) (length y) f →
-      AreFirst y (ended_pages ended) p (record { has_header = is_some f.heads; other_subpage = other; erased = f.erased; head = f.head; row = f.row; links = f.links })
+      AreFirst y (ended_pages ended) p
+      (record {
+        has_header = is_some f.heads;
+        other_subpage = other;
+        erased = f.erased;
+        head = f.head;
+        row = f.row;
+        links = f.links;
+      })
   facts_first f a =
       let s = repeated y in
       record {
-        has_header = subst (λ h. IsTrue (is_some h) ↔ HasHeader s p.id) (sym a.heads) (heads_are _ (sent_in y p.id (ended_certificate ended).lines TheHead) (HasHeader s p.id) (headers_sent y some p.id (ended_certificate ended).lines (sent_in y p.id (ended_certificate ended).lines TheHead) refl));
+        has_header = subst (λ h. IsTrue (is_some h) ↔ HasHeader s p.id) (sym a.heads)
+            (heads_are _ (sent_in y p.id (ended_certificate ended).lines TheHead) (HasHeader s p.id)
+            (headers_sent y some p.id (ended_certificate ended).lines
+            (sent_in y p.id (ended_certificate ended).lines TheHead) refl));
         other_subpage = other_first;
         erased = tells_same y (WrongAt s p EraseBit) (ErasedAt s p) (erased_is s p) f.erased (wrong_first y some p EraseBit f.erased a.erased);
         head = tells_same y (WrongAt s p CheckHead) (HeadDiffersAt s p) (head_is s p) f.head (wrong_first y some p CheckHead f.head a.head);

@@ -28,9 +28,12 @@ from_tainted b (Some o) h = h
 pub scan_from_zero : (id : Id) (s : Stream) (n : ℕ) → FromZero (owner_scan id s None n)
 unfolding owner_scan
 scan_from_zero id s zero = tt
-scan_from_zero id s (suc n) = cond_both (heads id.mag (packet_of (s (pos n)))) _ _ FromZero (λ e. let h : pos 0 ≤ℤ pos n = omega (arith, ints) in h) (λ e. from_tainted _ (owner_scan id s None n) (scan_from_zero id s n))
+scan_from_zero id s (suc n) = cond_both (heads id.mag (packet_of (s (pos n)))) _ _ FromZero
+    (λ e. let h : pos 0 ≤ℤ pos n = omega (arith, ints) in h)
+    (λ e. from_tainted _ (owner_scan id s None n) (scan_from_zero id s n))
 
-pub moved_seen : (i by : ℕ) (o r : Option Owner) → by ≤ 65536 → IsMoved by o r → FromZero (seen_by i o) → seen_by i r ≡ owner_moved (pos 0 -ℤ pos by) (seen_by i o)
+pub moved_seen : (i by : ℕ) (o r : Option Owner) → by ≤ 65536 → IsMoved by o r → FromZero (seen_by i o) → seen_by i r
+    ≡ owner_moved (pos 0 -ℤ pos by) (seen_by i o)
 moved_seen i by None r few m low = ap (seen_by i) m
 moved_seen i by (Some o) r few m low =
     let e : o.slot -ℤ pos by ≡ o.slot +ℤ (pos 0 -ℤ pos by) = omega (arith, ints) in

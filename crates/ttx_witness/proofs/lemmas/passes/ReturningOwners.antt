@@ -32,8 +32,10 @@ scan_forgets id s entry zero = inr (same_refl entry, refl)
 scan_forgets id s entry (suc n) = go (heads id.mag (packet_of (s (pos n)))) (scan_forgets id s entry n)
   where
     go : (b : Bool) → Forgets entry (owner_scan id s entry n) (owner_scan id s None n) →
-        Forgets entry (if b then Some (record { slot = pos n; mine = heads_page id (packet_of (s (pos n))); tainted = false }) else tainted_by (ends_serial id.mag (packet_of (s (pos n)))) (owner_scan id s entry n))
-        (if b then Some (record { slot = pos n; mine = heads_page id (packet_of (s (pos n))); tainted = false }) else tainted_by (ends_serial id.mag (packet_of (s (pos n)))) (owner_scan id s None n))
+        Forgets entry (if b then Some (record { slot = pos n; mine = heads_page id (packet_of (s (pos n))); tainted = false })
+        else tainted_by (ends_serial id.mag (packet_of (s (pos n)))) (owner_scan id s entry n))
+        (if b then Some (record { slot = pos n; mine = heads_page id (packet_of (s (pos n))); tainted = false })
+        else tainted_by (ends_serial id.mag (packet_of (s (pos n)))) (owner_scan id s None n))
     go true f = inl refl
     go false (inl e) = inl (ap (tainted_by (ends_serial id.mag (packet_of (s (pos n))))) e)
     go false (inr h) = inr (same_tainted _ entry (owner_scan id s entry n) h.0, ap (tainted_by (ends_serial id.mag (packet_of (s (pos n))))) h.1)
@@ -50,47 +52,65 @@ not_later n some (Some o) None h e = absurd h
 not_later n some (Some o) (Some p) h e = let s : (p.slot +ℤ (pos 0 -ℤ pos n)) ≡ o.slot = ap slot_in e in absurd (omega (arith, ints))
 
 -- an entry that a pass leaves as it was is the list's own
-pub steady_entry : (y : List (List ℕ)) → 1 ≤ length y → (id : Id) (entry : Option PageOwner) → owner_moved (pos 0 -ℤ pos (length y)) (owner_scan id (repeated y) entry (length y)) ≡ entry → entry ≡ entry_owner y id
+pub steady_entry : (y : List (List ℕ)) → 1 ≤ length y → (id : Id) (entry : Option PageOwner) →
+    owner_moved (pos 0 -ℤ pos (length y)) (owner_scan id (repeated y) entry (length y)) ≡ entry → entry ≡ entry_owner y id
 steady_entry y some id entry steady = elim (scan_forgets id (repeated y) entry (length y)) as (λ _. entry ≡ entry_owner y id) [
   | inl e ↦ sym steady ∙ ap (owner_moved (pos 0 -ℤ pos (length y))) e
-  | inr h ↦ not_later (length y) some entry (owner_scan id (repeated y) entry (length y)) h.0 steady ∙ sym (ap (owner_moved (pos 0 -ℤ pos (length y))) h.1)
+  | inr h ↦ not_later (length y) some entry (owner_scan id (repeated y) entry (length y)) h.0 steady
+      ∙ sym (ap (owner_moved (pos 0 -ℤ pos (length y))) h.1)
 ]
 
 -- and the list's own is one
-pub own_entry : (y : List (List ℕ)) (id : Id) → owner_moved (pos 0 -ℤ pos (length y)) (owner_scan id (repeated y) (entry_owner y id) (length y)) ≡ entry_owner y id
-own_entry y id = elim (scan_forgets id (repeated y) (entry_owner y id) (length y)) as (λ _. owner_moved (pos 0 -ℤ pos (length y)) (owner_scan id (repeated y) (entry_owner y id) (length y)) ≡ entry_owner y id) [
-  | inl e ↦ ap (owner_moved (pos 0 -ℤ pos (length y))) e
-  | inr h ↦
-      let none : entry_owner y id ≡ None = ap (owner_moved (pos 0 -ℤ pos (length y))) h.1 in
-      ap (λ e. owner_moved (pos 0 -ℤ pos (length y)) (owner_scan id (repeated y) e (length y))) none
-]
+pub own_entry : (y : List (List ℕ)) (id : Id) → owner_moved (pos 0 -ℤ pos (length y))
+    (owner_scan id (repeated y) (entry_owner y id) (length y)) ≡ entry_owner y id
+own_entry y id = elim (scan_forgets id (repeated y) (entry_owner y id) (length y)) as
+    (λ _. owner_moved (pos 0 -ℤ pos (length y)) (owner_scan id (repeated y) (entry_owner y id) (length y)) ≡ entry_owner y id) [
+      | inl e ↦ ap (owner_moved (pos 0 -ℤ pos (length y))) e
+      | inr h ↦
+          let none : entry_owner y id ≡ None = ap (owner_moved (pos 0 -ℤ pos (length y))) h.1 in
+          ap (λ e. owner_moved (pos 0 -ℤ pos (length y)) (owner_scan id (repeated y) e (length y))) none
+    ]
 
 -- what is kept under equal entries
-pub kept_same : (pass : Pass) (a b : Id → Option PageOwner) (y : List (List ℕ)) → ((i : ℕ) (p : Page) → slice_get (pass_pages pass) i ≡ Some p → a p.id ≡ b p.id) → AreKept pass a y → AreKept pass b y
+pub kept_same : (pass : Pass) (a b : Id → Option PageOwner) (y : List (List ℕ)) →
+    ((i : ℕ) (p : Page) → slice_get (pass_pages pass) i ≡ Some p → a p.id ≡ b p.id) → AreKept pass a y → AreKept pass b y
 kept_same pass a b y same k = record {
   sent = record {
     count = k.sent.count;
     places = k.sent.places;
     unlinked = k.sent.unlinked;
-    each = λ i p item at it. k.sent.each i p item at it ∙ ap (λ e. sent_scan p.id (certificate pass).lines item (repeated y) e (length y)) (same i p at);
+    each = λ i p item at it. k.sent.each i p item at it
+        ∙ ap (λ e. sent_scan p.id (certificate pass).lines item (repeated y) e (length y)) (same i p at);
   };
-  facts = λ i p at. subst (λ e. HoldsAt Facts pass.facts.items i (AreFacts (certificate pass) p (repeated y) e (length y))) (same i p at) (k.facts i p at);
+  facts = λ i p at. subst (λ e. HoldsAt Facts pass.facts.items i (AreFacts (certificate pass) p (repeated y) e (length y)))
+      (same i p at) (k.facts i p at);
   others = k.others;
 }
 
 -- the first wrong slot of a period is the stream's
-pub wrong_first : (y : List (List ℕ)) → 1 ≤ length y → (p : Page) (check : Check) (o : Option ℕ) → FirstBelow (SendsWrong p (repeated y) (entry_owner y p.id) check) (length y) o → TellsFirst y (WrongAt (repeated y) p check) o
+pub wrong_first : (y : List (List ℕ)) → 1 ≤ length y → (p : Page) (check : Check) (o : Option ℕ) →
+    FirstBelow (SendsWrong p (repeated y) (entry_owner y p.id) check) (length y) o → TellsFirst y (WrongAt (repeated y) p check) o
 wrong_first y some p check o f = go o f
   where
     is : (j : ℕ) → j < length y → SendsWrong p (repeated y) (entry_owner y p.id) check j ↔ WrongAt (repeated y) p check (pos j)
     is j lt =
         let at = slot_is y j lt in
         let w = wrong_is y some p check j lt (is_mine (owner_scan p.id (repeated y) (entry_owner y p.id) j)) refl in (
-          (λ a. w.0 (ap (λ x. sends p.id (compared_item check) (packet_of x) (is_mine (owner_scan p.id (repeated y) (entry_owner y p.id) j))) (sym at) ∙ a.sent, subst (IsWrong p check) at a.wrong)),
-          (λ a. let b = w.1 a in record { sent = ap (λ x. sends p.id (compared_item check) (packet_of x) (is_mine (owner_scan p.id (repeated y) (entry_owner y p.id) j))) at ∙ b.0; wrong = subst (IsWrong p check) (sym at) b.1 }),
+          (λ a. w.0 (
+            ap (λ x. sends p.id (compared_item check) (packet_of x)
+                (is_mine (owner_scan p.id (repeated y) (entry_owner y p.id) j))) (sym at) ∙ a.sent,
+            subst (IsWrong p check) at a.wrong,
+          )),
+          (λ a. let b = w.1 a in record {
+            sent = ap
+                (λ x. sends p.id (compared_item check) (packet_of x)
+                (is_mine (owner_scan p.id (repeated y) (entry_owner y p.id) j))) at ∙ b.0;
+            wrong = subst (IsWrong p check) (sym at) b.1;
+          }),
         )
 
-    go : (o : Option ℕ) → FirstBelow (SendsWrong p (repeated y) (entry_owner y p.id) check) (length y) o → TellsFirst y (WrongAt (repeated y) p check) o
+    go : (o : Option ℕ) → FirstBelow (SendsWrong p (repeated y) (entry_owner y p.id) check) (length y) o →
+        TellsFirst y (WrongAt (repeated y) p check) o
     go None g = never_wrong y some p check (λ j lt v. g j lt ((is j lt).1 v))
     go (Some j) g = record { within = g.0; here = (is j g.0).0 g.1; none_before = λ i lt v. let l = g.0 in g.2 i lt ((is i (omega arith)).1 v) }
 
@@ -98,20 +118,25 @@ back : (y : List (List ℕ)) (i : ℤ) → repeated y (i -ℤ pos (length y)) �
 back y i = let e : (i -ℤ pos (length y)) +ℤ pos (length y) ≡ i = omega (arith, ints) in sym (period_of y (i -ℤ pos (length y))) ∙ ap (repeated y) e
 
 -- the first wrong row
-pub row_first : (y : List (List ℕ)) → 1 ≤ length y → (p : Page) (o : Option ℕ) → FirstBelow (SendsWrongRow p (repeated y) (entry_owner y p.id)) (length y) o → TellsFirst y (RowDiffersAt (repeated y) p) o
+pub row_first : (y : List (List ℕ)) → 1 ≤ length y → (p : Page) (o : Option ℕ) →
+    FirstBelow (SendsWrongRow p (repeated y) (entry_owner y p.id)) (length y) o → TellsFirst y (RowDiffersAt (repeated y) p) o
 row_first y some p o f = go o f
   where
     to : (j : ℕ) → j < length y → SendsWrongRow p (repeated y) (entry_owner y p.id) j → RowDiffersAt (repeated y) p (pos j)
     to j lt a =
         let at = slot_is y j lt in
-        let w = (wrong_is y some p (CheckRow a.row) j lt (is_mine (owner_scan p.id (repeated y) (entry_owner y p.id) j)) refl).0
-        (ap (λ x. sends p.id (TheRow a.row) (packet_of x) (is_mine (owner_scan p.id (repeated y) (entry_owner y p.id) j))) (sym at) ∙ a.wrong.sent, subst (IsWrong p (CheckRow a.row)) at a.wrong.wrong) in
+        let w = (wrong_is y some p (CheckRow a.row) j lt (is_mine (owner_scan p.id (repeated y) (entry_owner y p.id) j)) refl).0 (
+          ap (λ x. sends p.id (TheRow a.row) (packet_of x) (is_mine (owner_scan p.id (repeated y) (entry_owner y p.id) j))) (sym at)
+              ∙ a.wrong.sent,
+          subst (IsWrong p (CheckRow a.row)) at a.wrong.wrong,
+        ) in
         record { row = a.row; needed = a.needed; sent = w.sent; differs = w.wrong }
 
     from : (j : ℕ) → j < length y → RowDiffersAt (repeated y) p (pos j) → SendsWrongRow p (repeated y) (entry_owner y p.id) j
     from j lt d =
         let at = slot_is y j lt in
-        let b = (wrong_is y some p (CheckRow d.row) j lt (is_mine (owner_scan p.id (repeated y) (entry_owner y p.id) j)) refl).1 (record { sent = d.sent; wrong = d.differs }) in
+        let b = (wrong_is y some p (CheckRow d.row) j lt (is_mine (owner_scan p.id (repeated y) (entry_owner y p.id) j)) refl).1
+        (record { sent = d.sent; wrong = d.differs }) in
         record {
           row = d.row;
           needed = d.needed;
@@ -123,7 +148,17 @@ row_first y some p o f = go o f
 
     go : (o : Option ℕ) → FirstBelow (SendsWrongRow p (repeated y) (entry_owner y p.id)) (length y) o → TellsFirst y (RowDiffersAt (repeated y) p) o
     go None g = nowhere y some (RowDiffersAt (repeated y) p)
-        (λ i d. record { row = d.row; needed = d.needed; sent = sent_down y some p.id (TheRow d.row) i d.sent; differs = subst (λ x. RowIsRight p d.row (packet_of x) → ⊥) (period_of y i) d.differs })
-        (λ i d. record { row = d.row; needed = d.needed; sent = sent_up y some p.id (TheRow d.row) i d.sent; differs = subst (λ x. RowIsRight p d.row (packet_of x) → ⊥) (back y i) d.differs })
+        (λ i d. record {
+          row = d.row;
+          needed = d.needed;
+          sent = sent_down y some p.id (TheRow d.row) i d.sent;
+          differs = subst (λ x. RowIsRight p d.row (packet_of x) → ⊥) (period_of y i) d.differs;
+        })
+        (λ i d. record {
+          row = d.row;
+          needed = d.needed;
+          sent = sent_up y some p.id (TheRow d.row) i d.sent;
+          differs = subst (λ x. RowIsRight p d.row (packet_of x) → ⊥) (back y i) d.differs;
+        })
         (λ j lt d. g j lt (from j lt d))
     go (Some j) g = record { within = g.0; here = to j g.0 g.1; none_before = λ i lt d. let l = g.0 in g.2 i lt (from i (omega arith) d) }

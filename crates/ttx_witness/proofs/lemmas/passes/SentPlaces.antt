@@ -13,7 +13,8 @@ use Rattle.std.proofs.lemmas.List.{append-nil}
 pub placed_more : (n : ℕ) (slots : List (Option Sent)) (sent : Option Sent) → placed_in n (slots ++ sent ∷ []) ≡ placed_in n slots ++ placed_at n sent
 unfolding placed_in
 placed_more n [] sent = append-nil (placed_at n sent)
-placed_more n (s ∷ slots) sent = ap (λ ts. placed_at n s ++ ts) (placed_more n slots sent) ∙ sym (append_assoc (placed_at n s) (placed_in n slots) (placed_at n sent))
+placed_more n (s ∷ slots) sent = ap (λ ts. placed_at n s ++ ts) (placed_more n slots sent)
+    ∙ sym (append_assoc (placed_at n s) (placed_in n slots) (placed_at n sent))
 
 take_none : (n : ℕ) → take {A = Option Sent} n [] ≡ []
 take_none zero = refl
@@ -25,10 +26,12 @@ nothing_placed n [] = refl
 nothing_placed n (s ∷ slots) = refl
 
 not_here : (n : ℕ) (sent : Option Sent) → (sends_place n sent ≡ true → ⊥) → placed_at n sent ≡ []
-not_here n sent never = elim (cases_Bool (sends_place n sent)) as (λ _. placed_at n sent ≡ []) [ inl e ↦ absurd (never e) | inr e ↦ ap (λ b. if b then told sent else []) e ]
+not_here n sent never = elim (cases_Bool (sends_place n sent)) as
+    (λ _. placed_at n sent ≡ []) [ inl e ↦ absurd (never e) | inr e ↦ ap (λ b. if b then told sent else []) e ]
 
 -- slots that don't send the item
-placed_skip : (n : ℕ) (slots : List (Option Sent)) (from to : ℕ) → from ≤ to → ((j : ℕ) → from ≤ j → j < to → SendsAt slots n j → ⊥) → placed_in n (take to slots) ≡ placed_in n (take from slots)
+placed_skip : (n : ℕ) (slots : List (Option Sent)) (from to : ℕ) → from ≤ to → ((j : ℕ) → from ≤ j → j < to → SendsAt slots n j → ⊥) →
+    placed_in n (take to slots) ≡ placed_in n (take from slots)
 unfolding placed_in
 placed_skip n [] from to le never = ap (placed_in n) (take_none to ∙ sym (take_none from))
 placed_skip n (s ∷ slots) zero zero le never = refl
@@ -36,11 +39,14 @@ placed_skip n (s ∷ slots) (suc from) zero le never = absurd (omega arith)
 placed_skip n (s ∷ slots) zero (suc to) le never =
     ap (λ ts. ts ++ placed_in n (take to slots)) (not_here n s (never 0 (omega arith) (omega arith)))
     ∙ placed_skip n slots zero to (omega arith) (λ j low high. never (suc j) (omega arith) (omega arith))
-placed_skip n (s ∷ slots) (suc from) (suc to) le never = ap (λ ts. placed_at n s ++ ts) (placed_skip n slots from to (omega arith) (λ j low high. never (suc j) (omega arith) (omega arith)))
+placed_skip n (s ∷ slots) (suc from) (suc to) le never =
+    ap (λ ts. placed_at n s ++ ts)
+    (placed_skip n slots from to (omega arith) (λ j low high. never (suc j) (omega arith) (omega arith)))
 
 module _ (n : ℕ) (slots : List (Option Sent)) (from : ℕ) where
   -- up to the next slot that sends it
-  pub placed_next : (j : ℕ) → IsNext (SendsAt slots n) from (length slots) (Some j) → placed_in n (take (j + 1) slots) ≡ placed_in n (take from slots) ++ told (get_or slots j None)
+  pub placed_next : (j : ℕ) → IsNext (SendsAt slots n) from (length slots) (Some j) → placed_in n (take (j + 1) slots)
+      ≡ placed_in n (take from slots) ++ told (get_or slots j None)
   placed_next j next =
       ap (placed_in n) (sym (take_more slots j None next.1)) ∙ placed_more n (take j slots) (get_or slots j None)
       ∙ ap (λ ts. ts ++ placed_at n (get_or slots j None)) (placed_skip n slots from j next.0 next.3)

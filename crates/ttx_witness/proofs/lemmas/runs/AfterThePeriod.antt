@@ -26,10 +26,18 @@ further_take n k ts = elim (cases_lt (length ts) k) as (λ _. further n k (take 
 
 pub within_more : (a b : ℕ) (ts : List Transmission) → a ≤ b → AllByRecursion (IsWithin a) ts → AllByRecursion (IsWithin b) ts
 within_more a b [] le h = tt
-within_more a b (t ∷ ts) le h =
-    (record { slot_low = h.0.slot_low; slot_high = let k = h.0.slot_high in omega (arith, ints); owner_low = h.0.owner_low; owner_high = let k = h.0.owner_high in omega (arith, ints) }, within_more a b ts le h.1)
+within_more a b (t ∷ ts) le h = (
+  record {
+    slot_low = h.0.slot_low;
+    slot_high = let k = h.0.slot_high in omega (arith, ints);
+    owner_low = h.0.owner_low;
+    owner_high = let k = h.0.owner_high in omega (arith, ints);
+  },
+  within_more a b ts le h.1,
+)
 
-within_end : (b : ℕ) (ts : List Transmission) (t : Transmission) → AllByRecursion (IsWithin b) ts → IsWithin b t → AllByRecursion (IsWithin b) (ts ++ t ∷ [])
+within_end : (b : ℕ) (ts : List Transmission) (t : Transmission) → AllByRecursion (IsWithin b) ts → IsWithin b t →
+    AllByRecursion (IsWithin b) (ts ++ t ∷ [])
 within_end b [] t h w = (w, tt)
 within_end b (u ∷ ts) t h w = (h.0, within_end b ts t h.1 w)
 
@@ -37,7 +45,8 @@ pub turn_length : (n : ℕ) (xs ys : List Transmission) (t : Transmission) → I
 turn_length n [] ys t h = absurd h
 turn_length n (x ∷ xs) ys t h = ap length h.1 ∙ length-append xs (later n x ∷ []) ∙ omega arith
 
-pub turn_within : (n b c : ℕ) (xs ys : List Transmission) (t : Transmission) → n ≤ 65536 → b + 65536 ≡ c → IsTurn n xs t ys → AllByRecursion (IsWithin b) xs → AllByRecursion (IsWithin c) ys
+pub turn_within : (n b c : ℕ) (xs ys : List Transmission) (t : Transmission) → n ≤ 65536 → b + 65536 ≡ c → IsTurn n xs t ys →
+    AllByRecursion (IsWithin b) xs → AllByRecursion (IsWithin c) ys
 turn_within n b c [] ys t short e h w = absurd h
 turn_within n b c (x ∷ xs) ys t short e h w =
     subst (AllByRecursion (IsWithin c)) (sym h.1) (within_end c xs (later n x) (within_more b c xs (omega arith) w.1) (record {
@@ -53,7 +62,8 @@ turn_further n k [] ys t h = absurd h
 turn_further n k (x ∷ xs) ys t h = ap (λ z. z ∷ further n k (xs ++ later n x ∷ [])) (sym h.0) ∙ ap (λ z. t ∷ further n k z) (sym h.1)
 
 module _ (k n i : ℕ) (ts : List Transmission) (rs : List Run) where
-  pub round_step : (old new : Recent) (t : Transmission) (result : Option Run) → i < k → IsRound k n i ts rs old → IsTurn n old.firsts.items t new.firsts.items → new.repeat ≡ old.repeat →
+  pub round_step : (old new : Recent) (t : Transmission) (result : Option Run) → i < k → IsRound k n i ts rs old →
+      IsTurn n old.firsts.items t new.firsts.items → new.repeat ≡ old.repeat →
       (1 ≤ old.repeat → length old.window.items ≤ old.repeat → new.window.items ≡ keep_last old.repeat (old.window.items ++ t ∷ [])) →
       result ≡ (if length new.window.items == old.repeat then Some (run_of new.window.items) else None) →
       IsRound k n (i + 1) ts (rs ++ listed result) new
@@ -65,7 +75,8 @@ module _ (k n i : ℕ) (ts : List Transmission) (rs : List Run) where
       let some : 1 ≤ old.repeat = let e = r.repeat in omega arith in
       let few : length old.window.items ≤ old.repeat = let e = r.repeat in omega arith in
       let win : new.window.items ≡ keep_last (suc k) (xs ++ t ∷ []) =
-      w some few ∙ ap (λ n. keep_last n (old.window.items ++ t ∷ [])) r.repeat ∙ ap (λ x. keep_last (suc k) (x ++ t ∷ [])) r.window ∙ keep_step (suc k) xs t (omega arith) in
+      w some few ∙ ap (λ n. keep_last n (old.window.items ++ t ∷ [])) r.repeat ∙ ap (λ x. keep_last (suc k) (x ++ t ∷ [])) r.window
+      ∙ keep_step (suc k) xs t (omega arith) in
       let c : k - i ≡ suc (k - (i + 1)) = omega arith in
       record {
         more = r.more ++ t ∷ [];
@@ -84,7 +95,8 @@ module _ (k n i : ℕ) (ts : List Transmission) (rs : List Run) where
   unfolding further
   round_done recent le r =
       let z : k - i ≡ 0 = omega arith in
-      let e : r.more ≡ further n k ts = sym (append-nil r.more) ∙ ap (λ x. r.more ++ further n x recent.firsts.items) (sym z) ∙ r.rest ∙ further_take n k ts in
+      let e : r.more ≡ further n k ts = sym (append-nil r.more) ∙ ap (λ x. r.more ++ further n x recent.firsts.items) (sym z) ∙ r.rest
+      ∙ further_take n k ts in
       r.runs ∙ ap (λ x. ended k (ts ++ x)) e
 
 -- before the first of them
@@ -98,7 +110,8 @@ round_begins k n ts recent i = record {
 }
 
 -- where there is none, none follows
-pub round_empty : (k n : ℕ) (ts : List Transmission) (recent : Recent) → IsRecent k ts recent → length recent.firsts.items ≡ 0 → ended k ts ≡ runs n k ts
+pub round_empty : (k n : ℕ) (ts : List Transmission) (recent : Recent) → IsRecent k ts recent → length recent.firsts.items ≡ 0 →
+    ended k ts ≡ runs n k ts
 round_empty k n ts recent i e =
     let z : further n k ts ≡ [] = further_none n k ts (ap length (sym i.firsts) ∙ e) in
     ap (ended k) (sym (append-nil ts) ∙ ap (λ x. ts ++ x) (sym z))

@@ -30,7 +30,8 @@ pub named_up : (n : ℕ) (starts : List ℕ) (i : ℤ) → IsNamed n starts i �
 named_up n starts i h = subst (Contains starts) (sym (turned_once n i)) h
 
 pub named_down : (n : ℕ) (starts : List ℕ) (i : ℤ) → IsNamed n starts i → IsNamed n starts (i -ℤ pos n)
-named_down n starts i h = let e : (i -ℤ pos n) +ℤ pos n ≡ i = omega (arith, ints) in subst (Contains starts) (sym (ap (turned n) e) ∙ turned_once n (i -ℤ pos n)) h
+named_down n starts i h = let e : (i -ℤ pos n) +ℤ pos n ≡ i = omega (arith, ints)
+    in subst (Contains starts) (sym (ap (turned n) e) ∙ turned_once n (i -ℤ pos n)) h
 
 turned_start : (n v : ℕ) → v < n → turned n (pos v) ≡ v
 turned_start n v lt = mod-eq_of_lt lt
@@ -52,12 +53,14 @@ module _ (Owned Sure : ℤ → ℤ → Type 0) (n k limit : ℕ) (law : Repeats 
 
   late_is : ((i : ℕ) → i < length starts → slice_index_or starts i 0 < n) → final.next ≡ length starts → 0 < length starts →
       (late_after limit starts final (final.first_end +ℤ pos n) ≡ None) ↔ ((tau : ℤ) → IsInTime Owned (IsNamed n starts) (suc k) limit tau)
-  late_is below = D.in_time Owned Sure n k law starts rising limit ts told (IsNamed n starts) (named_up n starts) (named_down n starts) (named_is n starts below) (named_in n starts)
+  late_is below = D.in_time Owned Sure n k law starts rising limit ts told (IsNamed n starts) (named_up n starts) (named_down n starts)
+      (named_is n starts below) (named_in n starts)
 
   passes_covers : Passes n k limit starts ts → Covers Owned Sure n (suc k) limit starts
   passes_covers c =
       let each = D.complete Owned Sure n k law starts rising limit ts told c.all_confirmed in
-      let below = λ (i : ℕ) (lt : i < length starts). let h : named_at starts i <ℤ pos n = (each i lt).0 in let g : slice_index_or starts i 0 < n = omega (arith, ints) in g in
+      let below = λ (i : ℕ) (lt : i < length starts). let h : named_at starts i <ℤ pos n = (each i lt).0
+      in let g : slice_index_or starts i 0 < n = omega (arith, ints) in g in
       record {
         named = (slice_index_or starts 0 0, Contains-get_or starts 0 0 c.some_named);
         sure = λ start h.
@@ -78,7 +81,8 @@ module _ (Owned Sure : ℤ → ℤ → Type 0) (n k limit : ℕ) (law : Repeats 
         none_late = (late_is (λ i lt. (sure_at i lt).0) full any).1 c.in_time;
       }
     where
-      full_if : ((i : ℕ) → i < length starts → slice_index_or starts i 0 < n) → ((i : ℕ) → i < length starts → BeginsSureRun Owned Sure (suc k) (named_at starts i)) → final.next ≡ length starts
+      full_if : ((i : ℕ) → i < length starts → slice_index_or starts i 0 < n) →
+          ((i : ℕ) → i < length starts → BeginsSureRun Owned Sure (suc k) (named_at starts i)) → final.next ≡ length starts
       full_if below sure = elim (cases_lt final.next (length starts)) as (λ _. final.next ≡ length starts) [
         | inl lt ↦ absurd (D.stops Owned Sure n k law starts rising limit ts told final.next refl lt
             (let b = below final.next lt in omega (arith, ints)) (sure final.next lt))
@@ -98,5 +102,12 @@ more_cover Owned Sure n k limit starts more further sure c = record {
   named = (c.named.0, further c.named.0 c.named.1);
   sure = sure;
   in_time = λ tau. let t = c.in_time tau in
-      record { start = t.start; owner = t.owner; named = further (turned n t.start) t.named; owned = t.owned; not_before = t.not_before; ends = t.ends };
+      record {
+        start = t.start;
+        owner = t.owner;
+        named = further (turned n t.start) t.named;
+        owned = t.owned;
+        not_before = t.not_before;
+        ends = t.ends;
+      };
 }

@@ -9,13 +9,15 @@ module _ (n : ℕ) (some : 1 ≤ n) (Q : ℤ → Type 0) (base : (i : ℤ) → p
   from_zero zero i a b = absurd (omega (arith, ints))
   from_zero (suc fuel) i a b = elim (cases_ltz i (pos n)) as (λ _. Q i) [
     | inl lt ↦ base i a lt
-    | inr ge ↦ let e : (i -ℤ pos n) +ℤ pos n ≡ i = omega (arith, ints) in subst Q e (up (i -ℤ pos n) (from_zero fuel (i -ℤ pos n) (omega (arith, ints)) (omega (arith, ints))))
+    | inr ge ↦ let e : (i -ℤ pos n) +ℤ pos n ≡ i = omega (arith, ints)
+        in subst Q e (up (i -ℤ pos n) (from_zero fuel (i -ℤ pos n) (omega (arith, ints)) (omega (arith, ints))))
   ]
 
   below_zero : (fuel : ℕ) (i : ℤ) → pos 0 ≤ℤ (i +ℤ pos fuel) → Q i
   below_zero zero i a = from_zero (suc (nat_abs i)) i (omega (arith, ints)) (omega (arith, ints))
   below_zero (suc fuel) i a = elim (cases_ltz i (pos 0)) as (λ _. Q i) [
-    | inl lt ↦ let e : (i +ℤ pos n) -ℤ pos n ≡ i = omega (arith, ints) in subst Q e (down (i +ℤ pos n) (below_zero fuel (i +ℤ pos n) (omega (arith, ints))))
+    | inl lt ↦ let e : (i +ℤ pos n) -ℤ pos n ≡ i = omega (arith, ints)
+        in subst Q e (down (i +ℤ pos n) (below_zero fuel (i +ℤ pos n) (omega (arith, ints))))
     | inr ge ↦ from_zero (suc (nat_abs i)) i ge (omega (arith, ints))
   ]
 

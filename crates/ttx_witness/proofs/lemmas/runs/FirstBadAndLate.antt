@@ -26,32 +26,45 @@ module _ (Owned Sure : ℤ → ℤ → Type 0) (n k limit : ℕ) (law : Repeats 
   Chain i r (q ∷ qs) = (i < length starts) × Is r × (r.start ≡ named_at starts i) × Is q × (q.start ≡ next_start n starts i) × Chain (i + 1) q qs
 
   next_before : (i : ℕ) → i + 1 < length starts → next_start n starts i ≡ named_at starts (i + 1)
-  next_before i lt = cond_both (nat_lt (i + 1) (length starts)) _ _ (λ x. x ≡ named_at starts (i + 1)) (λ _. refl) (λ e. absurd (grind (arith, nat_tests)))
+  next_before i lt = cond_both (nat_lt (i + 1) (length starts)) _ _ (λ x. x ≡ named_at starts (i + 1)) (λ _. refl)
+      (λ e. absurd (grind (arith, nat_tests)))
 
   next_last : (i : ℕ) → length starts ≤ i + 1 → next_start n starts i ≡ named_at starts 0 +ℤ pos n
-  next_last i le = cond_both (nat_lt (i + 1) (length starts)) _ _ (λ x. x ≡ named_at starts 0 +ℤ pos n) (λ e. absurd (grind (arith, nat_tests))) (λ _. refl)
+  next_last i le = cond_both (nat_lt (i + 1) (length starts)) _ _ (λ x. x ≡ named_at starts 0 +ℤ pos n)
+      (λ e. absurd (grind (arith, nat_tests))) (λ _. refl)
 
-  chain_of : (i : ℕ) (r : Run) (rs : List Run) (z : Run) → i < length starts → Is r → r.start ≡ named_at starts i → Matches starts (i + 1) rs → (i + 1) + length rs ≡ length starts →
+  chain_of : (i : ℕ) (r : Run) (rs : List Run) (z : Run) → i < length starts → Is r → r.start ≡ named_at starts i →
+      Matches starts (i + 1) rs → (i + 1) + length rs ≡ length starts →
       AllByRecursion Is rs → Is z → z.start ≡ named_at starts 0 +ℤ pos n → Chain i r (rs ++ z ∷ [])
   unfolding Chain
   chain_of i r [] z lt a at m len each b e = (lt, a, at, b, e ∙ sym (next_last i (omega arith)), omega arith)
   chain_of i r (q ∷ rs) z lt a at m len each b e =
-      let x = next_is starts (i + 1) q m.0 in
-      (lt, a, at, each.0, sym x.start ∙ sym (next_before i x.within), chain_of (i + 1) q rs z x.within each.0 (sym x.start) m.1 (omega arith) each.1 b e)
+      let x = next_is starts (i + 1) q m.0 in (
+        lt,
+        a,
+        at,
+        each.0,
+        sym x.start ∙ sym (next_before i x.within),
+        chain_of (i + 1) q rs z x.within each.0 (sym x.start) m.1 (omega arith) each.1 b e,
+      )
 
   -- one pair
-  is_late : (i : ℕ) (r q : Run) → i < length starts → Is r → r.start ≡ named_at starts i → Is q → q.start ≡ next_start n starts i → int_lt (r.owner +ℤ pos limit) q.end ≡ true → Late i
+  is_late : (i : ℕ) (r q : Run) → i < length starts → Is r → r.start ≡ named_at starts i → Is q → q.start ≡ next_start n starts i →
+      int_lt (r.owner +ℤ pos limit) q.end ≡ true → Late i
   is_late i r q lt a at b next e = record {
     within = lt;
     owner = r.owner;
     owned = subst (Owned r.owner) at a.owned;
-    late = λ h. let g = (b.ends ((r.owner +ℤ pos limit) +ℤ pos 1)).1 (subst (λ x. RunEndsBelow Owned (suc k) x ((r.owner +ℤ pos limit) +ℤ pos 1)) (sym next) h) in omega (arith, ints);
+    late = λ h. let g = (b.ends ((r.owner +ℤ pos limit) +ℤ pos 1)).1
+        (subst (λ x. RunEndsBelow Owned (suc k) x ((r.owner +ℤ pos limit) +ℤ pos 1)) (sym next) h) in omega (arith, ints);
   }
 
-  not_late : (i : ℕ) (r q : Run) → Is r → r.start ≡ named_at starts i → Is q → q.start ≡ next_start n starts i → int_lt (r.owner +ℤ pos limit) q.end ≡ false → Late i → ⊥
+  not_late : (i : ℕ) (r q : Run) → Is r → r.start ≡ named_at starts i → Is q → q.start ≡ next_start n starts i →
+      int_lt (r.owner +ℤ pos limit) q.end ≡ false → Late i → ⊥
   not_late i r q a at b next e l =
       let same : r.owner ≡ l.owner = law.one_owner r.owner l.owner r.start a.owned (subst (Owned l.owner) (sym at) l.owned) in
-      l.late (subst (λ x. RunEndsBelow Owned (suc k) x ((l.owner +ℤ pos limit) +ℤ pos 1)) next ((b.ends ((l.owner +ℤ pos limit) +ℤ pos 1)).0 (omega (arith, ints))))
+      l.late (subst (λ x. RunEndsBelow Owned (suc k) x ((l.owner +ℤ pos limit) +ℤ pos 1)) next
+      ((b.ends ((l.owner +ℤ pos limit) +ℤ pos 1)).0 (omega (arith, ints))))
 
   -- from the i-th on
   FirstFrom : ℕ → Option ℕ → Type 0
@@ -61,7 +74,8 @@ module _ (Owned Sure : ℤ → ℤ → Type 0) (n k limit : ℕ) (law : Repeats 
   first_from : (i : ℕ) (r : Run) (qs : List Run) → Chain i r qs → FirstFrom i (first_late limit starts i r qs)
   unfolding Chain FirstFrom first_late
   first_from i r [] c = λ j le l. let w = l.within in omega arith
-  first_from i r (q ∷ qs) c = cond_both (int_lt (r.owner +ℤ pos limit) q.end) (Some (slice_index_or starts i 0)) (first_late limit starts (i + 1) q qs) (FirstFrom i)
+  first_from i r (q ∷ qs) c = cond_both (int_lt (r.owner +ℤ pos limit) q.end) (Some (slice_index_or starts i 0))
+      (first_late limit starts (i + 1) q qs) (FirstFrom i)
       (λ e. (i, omega arith, refl, is_late i r q c.0 c.1 c.2 c.3 c.4 e, (λ m le lt l. absurd (omega arith))))
       (λ e. on (first_late limit starts (i + 1) q qs) (first_from (i + 1) q qs c.5) (not_late i r q c.1 c.2 c.3 c.4 e))
     where
@@ -93,7 +107,11 @@ module _ (Owned Sure : ℤ → ℤ → Type 0) (n k limit : ℕ) (law : Repeats 
     -- the cursor stops at the first bad start
     pub stops_at_first : final.next < length starts → Bad final.next × ((j : ℕ) → j < final.next → Bad j → ⊥)
     stops_at_first lt = (
-      record { within = lt; bad = λ b. D.stops Owned Sure n k law starts rising limit ts told final.next refl lt (let l = b.0 in omega (arith, ints)) b.1 },
+      record {
+        within = lt;
+        bad = λ b. D.stops Owned Sure n k law starts rising limit ts told final.next refl lt
+            (let l = b.0 in omega (arith, ints)) b.1;
+      },
       (λ j less b. let g = D.before_stop Owned Sure n k law starts rising limit ts told j less in
           b.bad ((let h : named_at starts j <ℤ pos n = g.0 in let m : slice_index_or starts j 0 < n = omega (arith, ints) in m), g.1)),
     )
@@ -112,10 +130,13 @@ module _ (Owned Sure : ℤ → ℤ → Type 0) (n k limit : ℕ) (law : Repeats 
     -- where none is bad, what is late at the end is the first late start
     pub late_first : final.next ≡ length starts → 0 < length starts → IsFirst Late starts (late_after limit starts final (final.first_end +ℤ pos n))
     unfolding after_runs
-    late_first all one = go (confirmed_runs starts 0 (runs n k ts)) (chosen_match starts 0 (runs n k ts)) (sym all ∙ marked_next limit starts not_begun (runs n k ts))
-        (D.all_chosen Is starts 0 (runs n k ts) (D.are Owned Sure n k law starts rising limit ts told)) (marked_chosen limit starts not_begun (runs n k ts))
+    late_first all one = go (confirmed_runs starts 0 (runs n k ts)) (chosen_match starts 0 (runs n k ts))
+        (sym all ∙ marked_next limit starts not_begun (runs n k ts))
+        (D.all_chosen Is starts 0 (runs n k ts) (D.are Owned Sure n k law starts rising limit ts told))
+        (marked_chosen limit starts not_begun (runs n k ts))
       where
-        go : (rs : List Run) → Matches starts 0 rs → length starts ≡ 0 + length rs → AllByRecursion Is rs → final ≡ after_runs limit starts not_begun rs →
+        go : (rs : List Run) → Matches starts 0 rs → length starts ≡ 0 + length rs → AllByRecursion Is rs → final
+            ≡ after_runs limit starts not_begun rs →
             IsFirst Late starts (late_after limit starts final (final.first_end +ℤ pos n))
         go [] m e a f = absurd (omega arith)
         go (g ∷ rs) m e a f =
@@ -126,7 +147,10 @@ module _ (Owned Sure : ℤ → ℤ → Type 0) (n k limit : ℕ) (law : Repeats 
             let fe : (after_runs limit starts m1 rs).first_end ≡ g.end = first_end_kept limit starts m1 rs (omega arith) m.1 in
             let r = late_is_first limit starts m1 g rs z 0 refl refl refl m.1 in
             let x = next_is starts 0 g m.0 in
-            let ch = chain_of 0 g rs z x.within a.0 (sym x.start) m.1 (omega arith) a.1 (run_later Owned Sure n (suc k) law g a.0) (ap (λ y. y +ℤ pos n) (sym x.start)) in
-            let e1 : late_after limit starts final (final.first_end +ℤ pos n) ≡ late_after limit starts (after_runs limit starts m1 rs) (g.end +ℤ pos n) =
-            ap (λ y. late_after limit starts y (y.first_end +ℤ pos n)) c' ∙ ap (λ y. late_after limit starts (after_runs limit starts m1 rs) (y +ℤ pos n)) fe in
+            let ch = chain_of 0 g rs z x.within a.0 (sym x.start) m.1 (omega arith) a.1 (run_later Owned Sure n (suc k) law g a.0)
+            (ap (λ y. y +ℤ pos n) (sym x.start)) in
+            let e1 : late_after limit starts final (final.first_end +ℤ pos n)
+            ≡ late_after limit starts (after_runs limit starts m1 rs) (g.end +ℤ pos n) =
+            ap (λ y. late_after limit starts y (y.first_end +ℤ pos n)) c'
+            ∙ ap (λ y. late_after limit starts (after_runs limit starts m1 rs) (y +ℤ pos n)) fe in
             subst (IsFirst Late starts) (sym (e1 ∙ r)) (first_is (first_late limit starts 0 g (rs ++ z ∷ [])) (first_from 0 g (rs ++ z ∷ []) ch))

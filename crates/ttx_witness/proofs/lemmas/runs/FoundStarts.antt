@@ -17,12 +17,14 @@ abbrev Climbs : ℤ → List ℤ → Type 0
 Climbs low [] = Unit {0}
 Climbs low (z ∷ zs) = (low ≤ℤ z) × (z <ℤ pos 65536) × Climbs (z +ℤ pos 1) zs
 
-slots_climb : (low : ℤ) (ts : List Transmission) → All (λ t. low ≤ℤ t.slot) ts → All (λ t. t.slot <ℤ pos 65536) ts → AllPairs (λ t u. t.slot <ℤ u.slot) ts → Climbs low (slots ts)
+slots_climb : (low : ℤ) (ts : List Transmission) → All (λ t. low ≤ℤ t.slot) ts → All (λ t. t.slot <ℤ pos 65536) ts →
+    AllPairs (λ t u. t.slot <ℤ u.slot) ts → Climbs low (slots ts)
 slots_climb low [] l h r = tt
 slots_climb low (t ∷ ts) l h r = (
   l zero t (omega arith),
   h zero t (omega arith),
-  slots_climb (t.slot +ℤ pos 1) ts (λ k d lt. let up = r zero (suc k) d (omega arith) (omega arith) in omega (arith, ints)) (λ k d lt. h (suc k) d (omega arith)) (λ i j d lt in_range. r (suc i) (suc j) d (omega arith) (omega arith)),
+  slots_climb (t.slot +ℤ pos 1) ts (λ k d lt. let up = r zero (suc k) d (omega arith) (omega arith) in omega (arith, ints))
+      (λ k d lt. h (suc k) d (omega arith)) (λ i j d lt in_range. r (suc i) (suc j) d (omega arith) (omega arith)),
 )
 
 climb_more : (low high : ℤ) (zs : List ℤ) → low ≤ℤ high → Climbs high zs → Climbs low zs
@@ -32,7 +34,8 @@ climb_more low high (z ∷ zs) le c = ((let h = c.0 in omega (arith, ints)), c.1
 sure_climb : (low : ℤ) (rs : List Run) → Climbs low (map start_of rs) → Climbs low (map start_of (sure_runs rs))
 unfolding sure_runs
 sure_climb low [] c = tt
-sure_climb low (r ∷ rs) c = cond_both r.sure (r ∷ sure_runs rs) (sure_runs rs) (λ qs. Climbs low (map start_of qs)) (λ e. (c.0, c.1, sure_climb (r.start +ℤ pos 1) rs c.2))
+sure_climb low (r ∷ rs) c = cond_both r.sure (r ∷ sure_runs rs) (sure_runs rs) (λ qs. Climbs low (map start_of qs))
+    (λ e. (c.0, c.1, sure_climb (r.start +ℤ pos 1) rs c.2))
     (λ e. climb_more low (r.start +ℤ pos 1) (map start_of (sure_runs rs)) (let h = c.0 in omega (arith, ints)) (sure_climb (r.start +ℤ pos 1) rs c.2))
 
 abbrev numbers : List Run → List ℕ
@@ -65,7 +68,8 @@ unfolding further windows
 runs_climb n zero [] c = tt
 runs_climb n (suc k) [] c = tt
 runs_climb n k (t ∷ ts) c =
-    subst (Climbs (pos 0)) (sym (map_again (windows (suc k) (extended n k (t ∷ ts))) ∙ starts_of k (t ∷ ts) (further n k (t ∷ ts)) (length_further n k (t ∷ ts) (omega arith)))) c
+    subst (Climbs (pos 0)) (sym (map_again (windows (suc k) (extended n k (t ∷ ts)))
+    ∙ starts_of k (t ∷ ts) (further n k (t ∷ ts)) (length_further n k (t ∷ ts) (omega arith)))) c
 
 sure_ones : (n k : ℕ) (ts : List Transmission) → AreInOrder ts → Climbs (pos 0) (map start_of (sure_runs (runs n k ts)))
 sure_ones n k ts o = sure_climb (pos 0) (runs n k ts) (runs_climb n k ts (slots_climb (pos 0) ts o.low o.high o.rising))

@@ -17,7 +17,8 @@ module _ (Owned Sure : ℤ → ℤ → Type 0) (k : ℕ) (d b : ℤ) (other : d 
   sent_d j a = record { owner = a.owner +ℤ d; owned = owned_d a.owner j a.owned }
 
   sent_b : (j : ℤ) → IsSentAt Owned j → IsSentAt Owned (j -ℤ d)
-  sent_b j a = let e : j +ℤ b ≡ j -ℤ d = omega (arith, ints) in subst (IsSentAt Owned) e (record { owner = a.owner +ℤ b; owned = owned_b a.owner j a.owned })
+  sent_b j a = let e : j +ℤ b ≡ j -ℤ d = omega (arith, ints)
+      in subst (IsSentAt Owned) e (record { owner = a.owner +ℤ b; owned = owned_b a.owner j a.owned })
 
   sures_d : (xs : List ℤ) → AllByRecursion (IsSureSent Owned Sure) xs → AllByRecursion (IsSureSent Owned Sure) (on d xs)
   sures_d [] a = tt
@@ -59,9 +60,12 @@ module _ (Owned Sure : ℤ → ℤ → Type 0) (k : ℕ) (d b : ℤ) (other : d 
     );
     ends = λ e. (
       (λ l. let q : (e -ℤ d) +ℤ d ≡ e = omega (arith, ints) in
-          subst (RunEndsBelow Owned k (r.start +ℤ d)) q (ends_d Owned Sure k d b other owned_d owned_b sure_d r.start (e -ℤ d) ((a.ends (e -ℤ d)).0 (omega (arith, ints))))),
+          subst (RunEndsBelow Owned k (r.start +ℤ d)) q
+          (ends_d Owned Sure k d b other owned_d owned_b sure_d r.start (e -ℤ d)
+          ((a.ends (e -ℤ d)).0 (omega (arith, ints))))),
       (λ h. let q : (r.start +ℤ d) +ℤ b ≡ r.start = omega (arith, ints) in
-          let l = (a.ends (e +ℤ b)).1 (subst (λ z. RunEndsBelow Owned k z (e +ℤ b)) q (ends_d Owned Sure k b d other' owned_b owned_d sure_b (r.start +ℤ d) e h)) in
+          let l = (a.ends (e +ℤ b)).1 (subst (λ z. RunEndsBelow Owned k z (e +ℤ b)) q
+          (ends_d Owned Sure k b d other' owned_b owned_d sure_b (r.start +ℤ d) e h)) in
           omega (arith, ints)),
     );
   }
@@ -78,7 +82,9 @@ module _ (Owned Sure : ℤ → ℤ → Type 0) (n k : ℕ) (law : Repeats n Owne
   earlier P e h j a = subst (λ x. P x (j +ℤ minus)) (minus_is h) (subst (P (h -ℤ pos n)) (minus_is j) (e h j a))
 
   pub run_later : (r : Run) → IsRunOf Owned Sure k r → IsRunOf Owned Sure k (moved_run (pos n) r)
-  run_later = run_moved Owned Sure k (pos n) minus (omega (arith, ints)) (omega (arith, ints)) law.owned_later (earlier Owned law.owned_earlier) law.sure_later (earlier Sure law.sure_earlier)
+  run_later = run_moved Owned Sure k (pos n) minus (omega (arith, ints)) (omega (arith, ints)) law.owned_later
+      (earlier Owned law.owned_earlier) law.sure_later (earlier Sure law.sure_earlier)
 
   pub run_earlier : (r : Run) → IsRunOf Owned Sure k r → IsRunOf Owned Sure k (moved_run minus r)
-  run_earlier = run_moved Owned Sure k minus (pos n) (omega (arith, ints)) (omega (arith, ints)) (earlier Owned law.owned_earlier) law.owned_later (earlier Sure law.sure_earlier) law.sure_later
+  run_earlier = run_moved Owned Sure k minus (pos n) (omega (arith, ints)) (omega (arith, ints))
+      (earlier Owned law.owned_earlier) law.owned_later (earlier Sure law.sure_earlier) law.sure_later

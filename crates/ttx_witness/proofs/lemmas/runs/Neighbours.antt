@@ -44,7 +44,8 @@ module _ (Owned Sure : ℤ → ℤ → Type 0) (n k limit : ℕ) (law : Repeats 
     later : i <ℤ next.start
     in_time : next.end ≤ℤ (run.owner +ℤ pos limit)
 
-  next_in : (low high : ℤ) (r : Run) (rest : List Run) (last : Run) → Lists start_of Named IsOne low high (r ∷ rest ++ last ∷ []) → FollowInTime limit r (rest ++ last ∷ []) →
+  next_in : (low high : ℤ) (r : Run) (rest : List Run) (last : Run) → Lists start_of Named IsOne low high (r ∷ rest ++ last ∷ []) →
+      FollowInTime limit r (rest ++ last ∷ []) →
       (i : ℤ) → Named i → low ≤ℤ i → i <ℤ last.start → HasNext i
   next_in low high r [] last l st i p a b = elim (cases_ltz i r.start) as (λ _. HasNext i) [
     | inl lt ↦ absurd (l.3 i a lt p)
@@ -57,7 +58,16 @@ module _ (Owned Sure : ℤ → ℤ → Type 0) (n k limit : ℕ) (law : Repeats 
     | inl lt ↦ absurd (l.3 i a lt p)
     | inr ge ↦ elim (cases_ltz r.start i) as (λ _. HasNext i) [
       | inl gt ↦ next_in (r.start +ℤ pos 1) high q rest last l.4 st.1 i p (omega (arith, ints)) b
-      | inr le ↦ record { run = r; here = omega (arith, ints); is = l.0; next = q; next_is = l.4.0; later = let g = l.4.1 in omega (arith, ints); in_time = st.0 }
+      | inr le ↦ record {
+        run = r;
+        here = omega (arith, ints);
+        is = l.0;
+        next = q;
+        next_is = l.4.0;
+        later = let g = l.4.1
+            in omega (arith, ints);
+        in_time = st.0;
+      }
     ]
   ]
 
@@ -67,7 +77,8 @@ module _ (Owned Sure : ℤ → ℤ → Type 0) (n k limit : ℕ) (law : Repeats 
   ends_rise P i j e [] ys len le a b c = let k = c.0 in (omega (arith, ints), tt)
   ends_rise P i j e (x ∷ xs) [] len le a b c = absurd (omega arith)
   ends_rise P i j e (x ∷ xs) (y ∷ ys) len le a b c =
-      let order : x ≤ℤ y = elim (cases_ltz y x) as (λ _. x ≤ℤ y) [ inl lt ↦ absurd (a.2 y (let k = b.1 in omega (arith, ints)) lt (holds y ys b.3)) | inr ge ↦ ge ] in
+      let order : x ≤ℤ y = elim (cases_ltz y x) as
+      (λ _. x ≤ℤ y) [ inl lt ↦ absurd (a.2 y (let k = b.1 in omega (arith, ints)) lt (holds y ys b.3)) | inr ge ↦ ge ] in
       ((let k = c.0 in omega (arith, ints)), ends_rise P x y e xs ys (omega arith) order a.3 b.3 c.1)
     where
       holds : (x : ℤ) (xs : List ℤ) → Successive P (x ∷ xs) → P x
@@ -114,7 +125,8 @@ module _ (Owned Sure : ℤ → ℤ → Type 0) (n k limit : ℕ) (law : Repeats 
   early tau (suc fuel) r a lt = early tau fuel (moved_run back r) (named_back r a) (omega (arith, ints))
 
   -- named runs of one period, and the first of the next
-  module _ (first : Run) (rest : List Run) (high : ℤ) (lists : Lists start_of Named IsOne (pos 0) high (first ∷ rest ++ moved_run (pos n) first ∷ [])) where
+  module _ (first : Run) (rest : List Run) (high : ℤ)
+      (lists : Lists start_of Named IsOne (pos 0) high (first ∷ rest ++ moved_run (pos n) first ∷ [])) where
     all_next : FollowInTime limit first (rest ++ moved_run (pos n) first ∷ []) → (i : ℤ) → Named i → HasNext i
     all_next st = everywhere n law.some (λ i. Named i → HasNext i)
         (λ i a b p. next_in (pos 0) high first rest (moved_run (pos n) first) lists st i p a (let l = lists.1 in omega (arith, ints)))
@@ -153,7 +165,9 @@ module _ (Owned Sure : ℤ → ℤ → Type 0) (n k limit : ℕ) (law : Repeats 
         | inl dn ↦ absurd (none t.start after dn t.named)
         | inr up ↦ up
       ] in
-      let k = (b.run.ends ((r.owner +ℤ pos 1) +ℤ pos limit)).1 (earlier_ends next.start t.start ((r.owner +ℤ pos 1) +ℤ pos limit) from ((b.run.ends (next.end +ℤ pos 1)).0 (omega (arith, ints))) t.ends) in
+      let k = (b.run.ends ((r.owner +ℤ pos 1) +ℤ pos limit)).1
+      (earlier_ends next.start t.start ((r.owner +ℤ pos 1) +ℤ pos limit) from
+      ((b.run.ends (next.end +ℤ pos 1)).0 (omega (arith, ints))) t.ends) in
       omega (arith, ints)
     where
       earlier_ends : (i j e : ℤ) {f : ℤ} → i ≤ℤ j → RunEndsBelow Owned k i f → RunEndsBelow Owned k j e → RunEndsBelow Owned k i e
@@ -164,11 +178,13 @@ module _ (Owned Sure : ℤ → ℤ → Type 0) (n k limit : ℕ) (law : Repeats 
             x.run.successive y.run.successive y.ends;
       }
 
-  in_step_of : ((tau : ℤ) → InTime tau) → (low high : ℤ) (r : Run) (rest : List Run) → Lists start_of Named IsOne low high (r ∷ rest) → FollowInTime limit r rest
+  in_step_of : ((tau : ℤ) → InTime tau) → (low high : ℤ) (r : Run) (rest : List Run) → Lists start_of Named IsOne low high (r ∷ rest) →
+      FollowInTime limit r rest
   in_step_of all low high r [] l = tt
   in_step_of all low high r (q ∷ rest) l = (
     elim (cases_ltz (r.owner +ℤ pos limit) q.end) as (λ _. q.end ≤ℤ (r.owner +ℤ pos limit)) [
-      | inl late ↦ absurd (unserved r q l.0 l.4.0 (let g = l.4.1 in omega (arith, ints)) (λ x a b p. l.4.3 x (omega (arith, ints)) b p) late (all (r.owner +ℤ pos 1)))
+      | inl late ↦ absurd (unserved r q l.0 l.4.0 (let g = l.4.1 in omega (arith, ints))
+          (λ x a b p. l.4.3 x (omega (arith, ints)) b p) late (all (r.owner +ℤ pos 1)))
       | inr ge ↦ ge
     ],
     in_step_of all (r.start +ℤ pos 1) high q rest l.4,
@@ -179,7 +195,8 @@ module _ (Owned Sure : ℤ → ℤ → Type 0) (n k limit : ℕ) (law : Repeats 
       Lists start_of Named IsOne (pos 0) ((first.start +ℤ pos n) +ℤ pos 1) (first ∷ rest ++ moved_run (pos n) first ∷ [])
   chain first rest l =
       let a = l.1 in let b = l.2 in
-      lists_join start_of Named IsOne is_at (pos 0) (pos n) ((first.start +ℤ pos n) +ℤ pos 1) (first ∷ rest) (moved_run (pos n) first ∷ []) (omega (arith, ints)) (omega (arith, ints)) l (
+      lists_join start_of Named IsOne is_at (pos 0) (pos n) ((first.start +ℤ pos n) +ℤ pos 1) (first ∷ rest)
+      (moved_run (pos n) first ∷ []) (omega (arith, ints)) (omega (arith, ints)) l (
         named_on first l.0,
         omega (arith, ints),
         omega (arith, ints),

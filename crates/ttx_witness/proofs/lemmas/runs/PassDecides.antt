@@ -22,10 +22,12 @@ unfolding further windows
 runs_none n zero = refl
 runs_none n (suc k) = refl
 
-pub all_chosen : (P : Run → Type 0) (starts : List ℕ) (next : ℕ) (rs : List Run) → AllByRecursion P rs → AllByRecursion P (confirmed_runs starts next rs)
+pub all_chosen : (P : Run → Type 0) (starts : List ℕ) (next : ℕ) (rs : List Run) → AllByRecursion P rs →
+    AllByRecursion P (confirmed_runs starts next rs)
 unfolding confirmed_runs
 all_chosen P starts next [] a = tt
-all_chosen P starts next (r ∷ rs) a = cond_both (is_next starts next r) _ _ (AllByRecursion P) (λ e. (a.0, all_chosen P starts (next + 1) rs a.1)) (λ e. all_chosen P starts next rs a.1)
+all_chosen P starts next (r ∷ rs) a = cond_both (is_next starts next r) _ _ (AllByRecursion P)
+    (λ e. (a.0, all_chosen P starts (next + 1) rs a.1)) (λ e. all_chosen P starts next rs a.1)
 
 module _ (Owned Sure : ℤ → ℤ → Type 0) (n k : ℕ) (law : Repeats n Owned Sure) where
   rises_windows : (low high : ℤ) (ts : List Transmission) → AreSent Owned Sure low high ts → RisesFrom low (map run_of (windows (suc k) ts))
@@ -54,23 +56,26 @@ module _ (Owned Sure : ℤ → ℤ → Type 0) (n k : ℕ) (law : Repeats n Owne
         ]
       ]
 
-  below_windows : (low high : ℤ) (ts us : List Transmission) → length us ≡ k → AreSent Owned Sure low high ts → AllByRecursion (λ r. r.start <ℤ high) (map run_of (windows (suc k) (ts ++ us)))
+  below_windows : (low high : ℤ) (ts us : List Transmission) → length us ≡ k → AreSent Owned Sure low high ts →
+      AllByRecursion (λ r. r.start <ℤ high) (map run_of (windows (suc k) (ts ++ us)))
   below_windows low high [] us len l = rw (windows_short (suc k) us (omega arith)) tt
   below_windows low high (t ∷ ts) us len l =
       let m = length-append ts us in
       rw (windows_yes (suc k) t (ts ++ us) (omega arith)) (l.2, below_windows (t.slot +ℤ pos 1) high ts us len l.4)
 
-  pub good_at : (starts : List ℕ) (next : ℕ) (rs : List Run) → Matches starts next rs → AllByRecursion (IsRunOf Owned Sure (suc k)) rs → AllByRecursion (λ r. r.start <ℤ pos n) rs →
+  pub good_at : (starts : List ℕ) (next : ℕ) (rs : List Run) → Matches starts next rs → AllByRecursion (IsRunOf Owned Sure (suc k)) rs →
+      AllByRecursion (λ r. r.start <ℤ pos n) rs →
       (i : ℕ) → next ≤ i → i < next + length rs → (named_at starts i <ℤ pos n) × BeginsSureRun Owned Sure (suc k) (named_at starts i)
   good_at starts next [] m a b i low high = absurd (omega arith)
-  good_at starts next (r ∷ rs) m a b i low high = elim (cases_lt next i) as (λ _. (named_at starts i <ℤ pos n) × BeginsSureRun Owned Sure (suc k) (named_at starts i)) [
-    | inl lt ↦ good_at starts (next + 1) rs m.1 a.1 b.1 i (omega arith) (omega arith)
-    | inr ge ↦
-        let e : next ≡ i = omega arith in
-        let q = next_is starts next r m.0 in
-        let w : r.start ≡ named_at starts i = sym q.start ∙ ap (named_at starts) e in
-        (subst (λ x. x <ℤ pos n) w b.0, subst (BeginsSureRun Owned Sure (suc k)) w (a.0.sure.0 q.sure))
-  ]
+  good_at starts next (r ∷ rs) m a b i low high =
+      elim (cases_lt next i) as (λ _. (named_at starts i <ℤ pos n) × BeginsSureRun Owned Sure (suc k) (named_at starts i)) [
+        | inl lt ↦ good_at starts (next + 1) rs m.1 a.1 b.1 i (omega arith) (omega arith)
+        | inr ge ↦
+            let e : next ≡ i = omega arith in
+            let q = next_is starts next r m.0 in
+            let w : r.start ≡ named_at starts i = sym q.start ∙ ap (named_at starts) e in
+            (subst (λ x. x <ℤ pos n) w b.0, subst (BeginsSureRun Owned Sure (suc k)) w (a.0.sure.0 q.sure))
+      ]
 
   -- what the starts of the list below n name in the stream
   module _ (starts : List ℕ) (rising : Rising starts) (limit : ℕ) (ts : List Transmission) (told : AreSent Owned Sure (pos 0) (pos n) ts) where
@@ -84,7 +89,8 @@ module _ (Owned Sure : ℤ → ℤ → Type 0) (n k : ℕ) (law : Repeats n Owne
     are = runs_are Owned Sure n law k ts told
 
     pub rise : RisesFrom (pos 0) all_runs
-    rise = let m = extended_lists (Sent Owned Sure) (Told Owned Sure) (told_sent Owned Sure) n (told_later Owned Sure n law) (sent_earlier Owned Sure n law) k ts told in
+    rise = let m = extended_lists (Sent Owned Sure) (Told Owned Sure) (told_sent Owned Sure) n (told_later Owned Sure n law)
+        (sent_earlier Owned Sure n law) k ts told in
         rises_windows (pos 0) m.0 (extended n k ts) m.2
 
     sent_of : (x : ℤ) → BeginsSureRun Owned Sure (suc k) x → IsSentAt Owned x
@@ -98,12 +104,15 @@ module _ (Owned Sure : ℤ → ℤ → Type 0) (n k : ℕ) (law : Repeats n Owne
     pub not_missing : (x : ℤ) → pos 0 ≤ℤ x → x <ℤ pos n → BeginsSureRun Owned Sure (suc k) x → NoneFor x all_runs → ⊥
     not_missing x from below h none = go ts told are none
       where
-        go : (ts : List Transmission) → AreSent Owned Sure (pos 0) (pos n) ts → AllByRecursion (IsRunOf Owned Sure (suc k)) (runs n k ts) → NoneFor x (runs n k ts) → ⊥
+        go : (ts : List Transmission) → AreSent Owned Sure (pos 0) (pos n) ts →
+            AllByRecursion (IsRunOf Owned Sure (suc k)) (runs n k ts) → NoneFor x (runs n k ts) → ⊥
         go [] l a none = l x from below (sent_of x h)
-        go (t ∷ ts) l a none = missing (pos 0) (pos n) x (t ∷ ts) (further n k (t ∷ ts)) (length_further n k (t ∷ ts) (omega arith)) l from below h (sent_of x h) a none
+        go (t ∷ ts) l a none = missing (pos 0) (pos n) x (t ∷ ts) (further n k (t ∷ ts))
+            (length_further n k (t ∷ ts) (omega arith)) l from below h (sent_of x h) a none
 
     -- where the cursor stops short, its start has no sure run
-    pub stops : (at : ℕ) → at ≡ final.next → at < length starts → named_at starts at <ℤ pos n → BeginsSureRun Owned Sure (suc k) (named_at starts at) → ⊥
+    pub stops : (at : ℕ) → at ≡ final.next → at < length starts → named_at starts at <ℤ pos n →
+        BeginsSureRun Owned Sure (suc k) (named_at starts at) → ⊥
     stops at is lt below h = not_missing (named_at starts at) (omega (arith, ints)) below h
         (stuck starts rising 0 (pos 0) all_runs rise (λ _. omega (arith, ints)) at (is ∙ marked_next limit starts not_begun all_runs) lt)
 
@@ -125,14 +134,17 @@ module _ (Owned Sure : ℤ → ℤ → Type 0) (n k : ℕ) (law : Repeats n Owne
     unfolding picked
     before_stop i lt =
         let c = marked_next limit starts not_begun all_runs in
-        good_at starts 0 picked (chosen_match starts 0 all_runs) (all_chosen (IsRunOf Owned Sure (suc k)) starts 0 all_runs are) (all_chosen (λ r. r.start <ℤ pos n) starts 0 all_runs runs_below) i (omega arith) (omega arith)
+        good_at starts 0 picked (chosen_match starts 0 all_runs) (all_chosen (IsRunOf Owned Sure (suc k)) starts 0 all_runs are)
+        (all_chosen (λ r. r.start <ℤ pos n) starts 0 all_runs runs_below) i (omega arith) (omega arith)
 
     -- where it comes to the end, each start is that of a good run
-    pub complete : final.next ≡ length starts → (i : ℕ) → i < length starts → (named_at starts i <ℤ pos n) × BeginsSureRun Owned Sure (suc k) (named_at starts i)
+    pub complete : final.next ≡ length starts → (i : ℕ) → i < length starts → (named_at starts i <ℤ pos n)
+        × BeginsSureRun Owned Sure (suc k) (named_at starts i)
     unfolding picked
     complete all i lt =
         let c = marked_next limit starts not_begun all_runs in
-        good_at starts 0 picked (chosen_match starts 0 all_runs) (all_chosen (IsRunOf Owned Sure (suc k)) starts 0 all_runs are) (all_chosen (λ r. r.start <ℤ pos n) starts 0 all_runs runs_below) i (omega arith) (omega arith)
+        good_at starts 0 picked (chosen_match starts 0 all_runs) (all_chosen (IsRunOf Owned Sure (suc k)) starts 0 all_runs are)
+        (all_chosen (λ r. r.start <ℤ pos n) starts 0 all_runs runs_below) i (omega arith) (omega arith)
 
     -- the named slots are the starts, round the cycle
     module _ (Named : ℤ → Type 0) (up : (i : ℤ) → Named i → Named (i +ℤ pos n)) (down : (i : ℤ) → Named i → Named (i -ℤ pos n))
@@ -159,13 +171,15 @@ module _ (Owned Sure : ℤ → ℤ → Type 0) (n k : ℕ) (law : Repeats n Owne
                   | inl lt ↦ let k = before w.0 lt w.1 in omega (arith, ints)
                   | inr ge ↦ elim (cases_lt next w.0) as (λ _. ⊥) [
                     | inl gt ↦ let k : slice_index_or starts next 0 < slice_index_or starts w.0 0 = rising next w.0 gt w.1 in omega (arith, ints)
-                    | inr le ↦ let k : named_at starts w.0 ≡ named_at starts next = ap (named_at starts) (let h : w.0 ≡ next = omega arith in h) in omega (arith, ints)
+                    | inr le ↦ let k : named_at starts w.0 ≡ named_at starts next =
+                        ap (named_at starts) (let h : w.0 ≡ next = omega arith in h) in omega (arith, ints)
                   ]
                 ]),
             lists_from (next + 1) (r.start +ℤ pos 1) rs m.1 (omega arith) (omega (arith, ints))
                 (λ i lt l. elim (cases_lt i next) as (λ _. named_at starts i <ℤ (r.start +ℤ pos 1)) [
                   | inl lower ↦ let k : slice_index_or starts i 0 < slice_index_or starts next 0 = rising i next lower q.within in omega (arith, ints)
-                  | inr ge ↦ let k : named_at starts i ≡ named_at starts next = ap (named_at starts) (let h : i ≡ next = omega arith in h) in omega (arith, ints)
+                  | inr ge ↦ let k : named_at starts i ≡ named_at starts next =
+                      ap (named_at starts) (let h : i ≡ next = omega arith in h) in omega (arith, ints)
                 ])
                 (λ i le l. let k : slice_index_or starts next 0 < slice_index_or starts i 0 = rising next i (omega arith) l in omega (arith, ints))
                 a.1 b.1,
@@ -181,16 +195,20 @@ module _ (Owned Sure : ℤ → ℤ → Type 0) (n k : ℕ) (law : Repeats n Owne
       -- where all starts are confirmed, none is late exactly where every tuning slot is served
       pub in_time : final.next ≡ length starts → 0 < length starts →
           (late_after limit starts final (final.first_end +ℤ pos n) ≡ None) ↔ ((tau : ℤ) → IsInTime Owned Named (suc k) limit tau)
-      in_time all one = go (confirmed_runs starts 0 all_runs) (chosen_match starts 0 all_runs) (sym all ∙ marked_next limit starts not_begun all_runs) (all_chosen (IsRunOf Owned Sure (suc k)) starts 0 all_runs are)
+      in_time all one = go (confirmed_runs starts 0 all_runs) (chosen_match starts 0 all_runs)
+          (sym all ∙ marked_next limit starts not_begun all_runs) (all_chosen (IsRunOf Owned Sure (suc k)) starts 0 all_runs are)
           (all_chosen (λ r. r.start <ℤ pos n) starts 0 all_runs runs_below) (marked_chosen limit starts not_begun all_runs)
         where
-          go : (rs : List Run) → Matches starts 0 rs → length starts ≡ 0 + length rs → AllByRecursion (IsRunOf Owned Sure (suc k)) rs → AllByRecursion (λ r. r.start <ℤ pos n) rs →
+          go : (rs : List Run) → Matches starts 0 rs → length starts ≡ 0 + length rs → AllByRecursion (IsRunOf Owned Sure (suc k)) rs →
+              AllByRecursion (λ r. r.start <ℤ pos n) rs →
               final ≡ after_runs limit starts not_begun rs →
               (late_after limit starts final (final.first_end +ℤ pos n) ≡ None) ↔ ((tau : ℤ) → IsInTime Owned Named (suc k) limit tau)
           go [] m e a b f = absurd (omega arith)
           go (g ∷ rs) m e a b f =
               let r = late_round limit starts n g rs m in
               let q = follow_in_time g rs m e a b in
-              let same : late_after limit starts final (final.first_end +ℤ pos n) ≡ late_after limit starts (after_runs limit starts not_begun (g ∷ rs)) ((after_runs limit starts not_begun (g ∷ rs)).first_end +ℤ pos n) =
+              let same : late_after limit starts final (final.first_end +ℤ pos n)
+              ≡ late_after limit starts (after_runs limit starts not_begun (g ∷ rs))
+              ((after_runs limit starts not_begun (g ∷ rs)).first_end +ℤ pos n) =
               ap (λ x. late_after limit starts x (x.first_end +ℤ pos n)) f in
               ((λ d. q.0 (r.0 (sym same ∙ d))), (λ t. same ∙ r.1 (q.1 t)))

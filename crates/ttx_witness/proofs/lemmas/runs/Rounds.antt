@@ -26,8 +26,11 @@ rounds_more : (n r : ℕ) (ts : List Transmission) → (zs : List Transmission) 
 unfolding rounds
 rounds_more n zero ts = (map (later n) ts, refl)
 rounds_more n (suc r) ts =
-    let i = rounds_more n r ts in
-    (map (later n) i.0, ap (λ x. ts ++ map (later n) x) i.1 ∙ ap (λ x. ts ++ x) (map-append (later n) (rounds n r ts) i.0) ∙ sym (append_assoc ts (map (later n) (rounds n r ts)) (map (later n) i.0)))
+    let i = rounds_more n r ts in (
+      map (later n) i.0,
+      ap (λ x. ts ++ map (later n) x) i.1 ∙ ap (λ x. ts ++ x) (map-append (later n) (rounds n r ts) i.0)
+          ∙ sym (append_assoc ts (map (later n) (rounds n r ts)) (map (later n) i.0)),
+    )
 
 rounds_long : (n r : ℕ) (ts : List Transmission) → 1 ≤ length ts → suc r ≤ length (rounds n r ts)
 unfolding rounds
@@ -69,12 +72,14 @@ module _ (P : ℤ → Type 0) (Is : Transmission → Type 0) (is_p : (t : Transm
   lists_rounds (suc r) ts l =
       let e : pos 0 +ℤ pos n ≡ pos n = omega (arith, ints) in
       let g = round_end_pos n r in
-      lists_join slot_of P Is is_p (pos 0) (pos n) (round_end n r +ℤ pos n) ts (map (later n) (rounds n r ts)) (omega (arith, ints)) (omega (arith, ints)) l
+      lists_join slot_of P Is is_p (pos 0) (pos n) (round_end n r +ℤ pos n) ts (map (later n) (rounds n r ts)) (omega (arith, ints))
+      (omega (arith, ints)) l
       (subst (λ z. Lists slot_of P Is z (round_end n r +ℤ pos n) (map (later n) (rounds n r ts))) e
       (lists_later P Is is_p n is_later p_earlier (pos 0) (round_end n r) (rounds n r ts) (lists_rounds r ts l)))
 
   -- the extended list lists the stream's transmissions
-  pub extended_lists : (k : ℕ) (ts : List Transmission) → Lists slot_of P Is (pos 0) (pos n) ts → (mid : ℤ) × (pos 0 ≤ℤ mid) × Lists slot_of P Is (pos 0) mid (extended n k ts)
+  pub extended_lists : (k : ℕ) (ts : List Transmission) → Lists slot_of P Is (pos 0) (pos n) ts → (mid : ℤ) × (pos 0 ≤ℤ mid)
+      × Lists slot_of P Is (pos 0) mid (extended n k ts)
   unfolding rounds further
   extended_lists zero [] l = (pos 0, omega (arith, ints), λ x a b p. absurd (omega (arith, ints)))
   extended_lists (suc k) [] l = (pos 0, omega (arith, ints), λ x a b p. absurd (omega (arith, ints)))
@@ -83,10 +88,12 @@ module _ (P : ℤ → Type 0) (Is : Transmission → Type 0) (is_p : (t : Transm
       let r : Lists slot_of P Is (pos 0) (round_end n (suc k)) ((t ∷ ts) ++ map (later n) (rounds n k (t ∷ ts))) = lists_rounds (suc k) (t ∷ ts) l in
       let ys = map (later n) (rounds n k (t ∷ ts)) in
       let q : (t ∷ ts) ++ ys ≡ ((t ∷ ts) ++ further n k (t ∷ ts)) ++ drop k ys =
-      ap (λ x. (t ∷ ts) ++ x) (sym (take-append-drop k ys)) ∙ sym (append_assoc (t ∷ ts) (take k ys) (drop k ys)) ∙ ap (λ x. ((t ∷ ts) ++ x) ++ drop k ys) (sym e) in
+      ap (λ x. (t ∷ ts) ++ x) (sym (take-append-drop k ys)) ∙ sym (append_assoc (t ∷ ts) (take k ys) (drop k ys))
+      ∙ ap (λ x. ((t ∷ ts) ++ x) ++ drop k ys) (sym e) in
       lists_prefix slot_of P Is is_p (pos 0) (round_end n (suc k)) ((t ∷ ts) ++ further n k (t ∷ ts)) (drop k ys)
       (subst (λ z. Lists slot_of P Is (pos 0) (round_end n (suc k)) z) q r)
 
   -- its windows are windows of the stream
-  pub extended_windows : (k : ℕ) (ts : List Transmission) → Lists slot_of P Is (pos 0) (pos n) ts → AllByRecursion (IsWindow slot_of P Is is_p (suc k)) (windows (suc k) (extended n k ts))
+  pub extended_windows : (k : ℕ) (ts : List Transmission) → Lists slot_of P Is (pos 0) (pos n) ts →
+      AllByRecursion (IsWindow slot_of P Is is_p (suc k)) (windows (suc k) (extended n k ts))
   extended_windows k ts l = let m = extended_lists k ts l in windows_are slot_of P Is is_p (suc k) (pos 0) m.0 (extended n k ts) m.2

@@ -58,40 +58,51 @@ rising_starts low (r ∷ qs) z u zero (suc j) lt l =
     let i = above_all (r.start +ℤ pos 1) qs (let k = u.0 in omega (arith, ints)) u.1 j (omega arith) in
     let k = u.0 in
     let e = abs_is r.start (omega (arith, ints)) in omega (arith, ints)
-rising_starts low (r ∷ qs) z u (suc i) (suc j) lt l = rising_starts (r.start +ℤ pos 1) qs (let k = u.0 in omega (arith, ints)) u.1 i j (omega arith) (omega arith)
+rising_starts low (r ∷ qs) z u (suc i) (suc j) lt l =
+    rising_starts (r.start +ℤ pos 1) qs (let k = u.0 in omega (arith, ints)) u.1 i j (omega arith) (omega arith)
 
 -- each run is the next of its own starts
-matches_own : (starts : List ℕ) (next : ℕ) (low : ℤ) (qs : List Run) → pos 0 ≤ℤ low → RisesFrom low qs → AllSure qs → next + length qs ≡ length starts →
+matches_own : (starts : List ℕ) (next : ℕ) (low : ℤ) (qs : List Run) → pos 0 ≤ℤ low → RisesFrom low qs → AllSure qs → next + length qs
+    ≡ length starts →
     ((j : ℕ) → j < length qs → slice_index_or starts (next + j) 0 ≡ slice_index_or (starts_of qs) j 0) → Matches starts next qs
 matches_own starts next low [] z u s len same = tt
 matches_own starts next low (r ∷ qs) z u s len same =
     let e : slice_index_or starts (next + 0) 0 ≡ unsigned_abs r.start = same 0 (omega arith) in
-    let e' : slice_index_or starts next 0 ≡ unsigned_abs r.start = ap (λ x. slice_index_or starts x 0) (let h : next ≡ next + 0 = omega arith in h) ∙ e in (
+    let e' : slice_index_or starts next 0 ≡ unsigned_abs r.start =
+    ap (λ x. slice_index_or starts x 0) (let h : next ≡ next + 0 = omega arith in h) ∙ e in (
       is_next_of starts next r (omega arith) (ap pos e' ∙ abs_is r.start (let k = u.0 in omega (arith, ints))) s.0,
       matches_own starts (next + 1) (r.start +ℤ pos 1) qs (let k = u.0 in omega (arith, ints)) u.1 s.1 (omega arith)
           (λ j lt. ap (λ x. slice_index_or starts x 0) (let h : (next + 1) + j ≡ next + suc j = omega arith in h) ∙ same (suc j) (omega arith)),
     )
 
 -- a slot that is no start of a sure run of the list
-found_or : (x : ℕ) (low : ℤ) (rs : List Run) → pos 0 ≤ℤ low → RisesFrom low rs → ((i : ℕ) × (i < length (sure_starts rs)) × (slice_index_or (sure_starts rs) i 0 ≡ x)) ⊎ NoneFor (pos x) rs
+found_or : (x : ℕ) (low : ℤ) (rs : List Run) → pos 0 ≤ℤ low → RisesFrom low rs →
+    ((i : ℕ) × (i < length (sure_starts rs)) × (slice_index_or (sure_starts rs) i 0 ≡ x)) ⊎ NoneFor (pos x) rs
 unfolding sure_runs
 found_or x low [] z u = inr tt
 found_or x low (r ∷ rs) z u =
     let rest = found_or x (r.start +ℤ pos 1) rs (let k = u.0 in omega (arith, ints)) u.1 in
     let e = abs_is r.start (let k = u.0 in omega (arith, ints)) in
-    cond_both r.sure (r ∷ sure_runs rs) (sure_runs rs) (λ qs. ((i : ℕ) × (i < length (starts_of qs)) × (slice_index_or (starts_of qs) i 0 ≡ x)) ⊎ NoneFor (pos x) (r ∷ rs))
-    (λ sure. elim (cases_lt (unsigned_abs r.start) x) as (λ _. ((i : ℕ) × (i < length (starts_of (r ∷ sure_runs rs))) × (slice_index_or (starts_of (r ∷ sure_runs rs)) i 0 ≡ x)) ⊎ NoneFor (pos x) (r ∷ rs)) [
-      | inl lt ↦ elim rest as (λ _. ((i : ℕ) × (i < length (starts_of (r ∷ sure_runs rs))) × (slice_index_or (starts_of (r ∷ sure_runs rs)) i 0 ≡ x)) ⊎ NoneFor (pos x) (r ∷ rs)) [
-        | inl f ↦ inl (suc f.0, (let k = f.1 in omega arith), f.2)
-        | inr n ↦ inr ((λ q g. omega (arith, ints)), n)
-      ]
-      | inr ge ↦ elim (cases_lt x (unsigned_abs r.start)) as (λ _. ((i : ℕ) × (i < length (starts_of (r ∷ sure_runs rs))) × (slice_index_or (starts_of (r ∷ sure_runs rs)) i 0 ≡ x)) ⊎ NoneFor (pos x) (r ∷ rs)) [
-        | inl gt ↦ elim rest as (λ _. ((i : ℕ) × (i < length (starts_of (r ∷ sure_runs rs))) × (slice_index_or (starts_of (r ∷ sure_runs rs)) i 0 ≡ x)) ⊎ NoneFor (pos x) (r ∷ rs)) [
-          | inl f ↦ inl (suc f.0, (let k = f.1 in omega arith), f.2)
-          | inr n ↦ inr ((λ q g. omega (arith, ints)), n)
-        ]
-        | inr le ↦ inl (0, omega arith, omega arith)
-      ]
+    cond_both r.sure (r ∷ sure_runs rs) (sure_runs rs)
+    (λ qs. ((i : ℕ) × (i < length (starts_of qs)) × (slice_index_or (starts_of qs) i 0 ≡ x)) ⊎ NoneFor (pos x) (r ∷ rs))
+    (λ sure. elim (cases_lt (unsigned_abs r.start) x) as
+    (λ _. ((i : ℕ) × (i < length (starts_of (r ∷ sure_runs rs))) × (slice_index_or (starts_of (r ∷ sure_runs rs)) i 0 ≡ x))
+    ⊎ NoneFor (pos x) (r ∷ rs)) [
+      | inl lt ↦ elim rest as (λ _. ((i : ℕ) × (i < length (starts_of (r ∷ sure_runs rs)))
+          × (slice_index_or (starts_of (r ∷ sure_runs rs)) i 0 ≡ x)) ⊎ NoneFor (pos x) (r ∷ rs)) [
+            | inl f ↦ inl (suc f.0, (let k = f.1 in omega arith), f.2)
+            | inr n ↦ inr ((λ q g. omega (arith, ints)), n)
+          ]
+      | inr ge ↦ elim (cases_lt x (unsigned_abs r.start)) as
+          (λ _. ((i : ℕ) × (i < length (starts_of (r ∷ sure_runs rs))) × (slice_index_or (starts_of (r ∷ sure_runs rs)) i 0 ≡ x))
+          ⊎ NoneFor (pos x) (r ∷ rs)) [
+            | inl gt ↦ elim rest as (λ _. ((i : ℕ) × (i < length (starts_of (r ∷ sure_runs rs)))
+                × (slice_index_or (starts_of (r ∷ sure_runs rs)) i 0 ≡ x)) ⊎ NoneFor (pos x) (r ∷ rs)) [
+                  | inl f ↦ inl (suc f.0, (let k = f.1 in omega arith), f.2)
+                  | inr n ↦ inr ((λ q g. omega (arith, ints)), n)
+                ]
+            | inr le ↦ inl (0, omega arith, omega arith)
+          ]
     ])
     (λ unsure. elim rest as (λ _. ((i : ℕ) × (i < length (sure_starts rs)) × (slice_index_or (sure_starts rs) i 0 ≡ x)) ⊎ NoneFor (pos x) (r ∷ rs)) [
       | inl f ↦ inl f
@@ -103,9 +114,11 @@ spread_sure : (s : Option Spread) (rs : List Run) → spread_of s rs ≡ spread_
 unfolding spread_of sure_runs
 spread_sure s [] = refl
 spread_sure s (r ∷ rs) = elim (cases_Bool r.sure) as (λ _. spread_of s (r ∷ rs) ≡ spread_of s (sure_runs (r ∷ rs))) [
-  | inl e ↦ spread_sure (spread_after s r) rs ∙ cond_both r.sure (r ∷ sure_runs rs) (sure_runs rs) (λ qs. spread_of (spread_after s r) (sure_runs rs) ≡ spread_of s qs) (λ _. refl) (λ f. absurd (both_ways _ f e))
+  | inl e ↦ spread_sure (spread_after s r) rs ∙ cond_both r.sure (r ∷ sure_runs rs) (sure_runs rs)
+      (λ qs. spread_of (spread_after s r) (sure_runs rs) ≡ spread_of s qs) (λ _. refl) (λ f. absurd (both_ways _ f e))
   | inr e ↦ ap (λ x. spread_of x rs) (cond_both r.sure _ s (λ x. x ≡ s) (λ f. absurd (both_ways _ e f)) (λ _. refl)) ∙ spread_sure s rs
-      ∙ cond_both r.sure (r ∷ sure_runs rs) (sure_runs rs) (λ qs. spread_of s (sure_runs rs) ≡ spread_of s qs) (λ f. absurd (both_ways _ e f)) (λ _. refl)
+      ∙ cond_both r.sure (r ∷ sure_runs rs) (sure_runs rs) (λ qs. spread_of s (sure_runs rs) ≡ spread_of s qs)
+      (λ f. absurd (both_ways _ e f)) (λ _. refl)
 ]
 
 -- the greatest distance, once the run after the last is looked at
@@ -115,7 +128,8 @@ pub record IsClosed (first_end end : ℤ) (width : ℕ) (s : Option Spread) : Ty
   pub first_is : spread.first_end ≡ first_end
   pub width_is : max spread.widest (above_zero (end -ℤ spread.previous)) ≡ width
 
-closes : (s : Spread) (r : Run) (qs : List Run) (z : Run) → AllSure qs → s.previous ≡ r.owner → IsClosed s.first_end z.end (max s.widest (widest r (qs ++ z ∷ []))) (spread_of (Some s) qs)
+closes : (s : Spread) (r : Run) (qs : List Run) (z : Run) → AllSure qs → s.previous ≡ r.owner →
+    IsClosed s.first_end z.end (max s.widest (widest r (qs ++ z ∷ []))) (spread_of (Some s) qs)
 unfolding spread_of widest
 closes s r [] z a e = record {
   spread = s;
@@ -125,7 +139,8 @@ closes s r [] z a e = record {
 }
 closes s r (q ∷ qs) z a e =
     let s' : Spread = record { first_end = s.first_end; previous = q.owner; widest = max s.widest (above_zero (q.end -ℤ s.previous)) } in
-    let after : spread_after (Some s) q ≡ Some s' = cond_both q.sure (Some s') (Some s) (λ x. x ≡ Some s') (λ _. refl) (λ f. absurd (both_ways _ f a.0)) in
+    let after : spread_after (Some s) q ≡ Some s' =
+    cond_both q.sure (Some s') (Some s) (λ x. x ≡ Some s') (λ _. refl) (λ f. absurd (both_ways _ f a.0)) in
     let i = closes s' q qs z a.1 refl in
     record {
       spread = i.spread;
@@ -142,7 +157,8 @@ found_closed g qs z a =
     let i = closes s g qs z a.1 refl in
     record { spread = i.spread; is = ap (λ x. spread_of x qs) after ∙ i.is; first_is = i.first_is; width_is = i.width_is ∙ omega arith }
 
-module _ (Owned Sure : ℤ → ℤ → Type 0) (n k : ℕ) (law : Repeats n Owned Sure) (ts : List Transmission) (told : AreSent Owned Sure (pos 0) (pos n) ts) where
+module _ (Owned Sure : ℤ → ℤ → Type 0) (n k : ℕ) (law : Repeats n Owned Sure) (ts : List Transmission)
+    (told : AreSent Owned Sure (pos 0) (pos n) ts) where
   abbrev rs : List Run
   rs = runs n k ts
 
@@ -188,7 +204,8 @@ module _ (Owned Sure : ℤ → ℤ → Type 0) (n k : ℕ) (law : Repeats n Owne
         (subst (λ x. x < n) e (each_below a.0 a.1), subst (λ x. BeginsSureRun Owned Sure (suc k) (pos x)) e (each a.0 a.1).1)),
     (λ b. elim (found_or start (pos 0) rs (omega (arith, ints)) risen) as (λ _. Contains starts start) [
       | inl f ↦ subst (Contains starts) f.2 (Contains-get_or starts f.0 0 f.1)
-      | inr none ↦ absurd (D.not_missing Owned Sure n k law [] none_rise 0 ts told (pos start) (omega (arith, ints)) (let lt = b.0 in omega (arith, ints)) b.1 none)
+      | inr none ↦ absurd (D.not_missing Owned Sure n k law [] none_rise 0 ts told (pos start) (omega (arith, ints))
+          (let lt = b.0 in omega (arith, ints)) b.1 none)
     ]),
   )
 
@@ -207,7 +224,8 @@ module _ (Owned Sure : ℤ → ℤ → Type 0) (n k : ℕ) (law : Repeats n Owne
 
   -- a further sure start leaves covered what was covered
   pub found_more : (limit : ℕ) (others : List ℕ) → Covers Owned Sure n (suc k) limit others → Covers Owned Sure n (suc k) limit starts
-  found_more limit others c = more_cover Owned Sure n (suc k) limit others starts (λ s h. (found_starts s).1 (c.sure s h)) (λ s h. (found_starts s).0 h) c
+  found_more limit others c = more_cover Owned Sure n (suc k) limit others starts (λ s h. (found_starts s).1 (c.sure s h))
+      (λ s h. (found_starts s).0 h) c
 
   -- the least limit is the spread's width
   pub found_some : (s : Spread) → spread_of None rs ≡ Some s → (limit : ℕ) → (width n s ≤ limit) ↔ Covers Owned Sure n (suc k) limit starts
@@ -228,8 +246,11 @@ module _ (Owned Sure : ℤ → ℤ → Type 0) (n k : ℕ) (law : Repeats n Owne
           let w : width n s ≡ widest g (xs ++ moved_run (pos n) g ∷ []) =
           ap (width n) (sym h) ∙ ap (λ f. max z.spread.widest (above_zero ((f +ℤ pos n) -ℤ z.spread.previous))) z.first_is ∙ z.width_is in
           let l = in_step_widest limit g (xs ++ moved_run (pos n) g ∷ []) in
-          let f = D.follow_in_time Owned Sure n k law starts rising limit ts told (IsNamed n starts) (named_up n starts) (named_down n starts) (named_is n starts each_below) (named_in n starts)
-          g xs (subst (Matches starts 0) q matches) (let c : length starts ≡ length (g ∷ xs) = sym count ∙ ap length q in omega arith) (subst (AllByRecursion (IsRunOf Owned Sure (suc k))) q are) (subst (AllByRecursion (λ r. r.start <ℤ pos n)) q below) in
+          let f = D.follow_in_time Owned Sure n k law starts rising limit ts told (IsNamed n starts) (named_up n starts)
+          (named_down n starts) (named_is n starts each_below) (named_in n starts)
+          g xs (subst (Matches starts 0) q matches) (let c : length starts ≡ length (g ∷ xs) = sym count ∙ ap length q in omega arith)
+          (subst (AllByRecursion (IsRunOf Owned Sure (suc k))) q are) (subst (AllByRecursion (λ r. r.start <ℤ pos n)) q below)
+          in
           let first : Contains starts (slice_index_or starts 0 0) = Contains-get_or starts 0 0 (let c = sym count ∙ ap length q in omega arith) in (
             (λ le. record {
               named = (slice_index_or starts 0 0, first);

@@ -17,14 +17,16 @@ all_append : {A : Type 0} (P : A → Type 0) (xs ys : List A) → AllByRecursion
 all_append P [] ys a b = b
 all_append P (x ∷ xs) ys a b = (a.0, all_append P xs ys a.1 b)
 
-further_within : (n k b : ℕ) (ts : List Transmission) → n ≤ 65536 → AllByRecursion (IsWithin b) ts → AllByRecursion (IsWithin (b + 65536 * k)) (further n k ts)
+further_within : (n k b : ℕ) (ts : List Transmission) → n ≤ 65536 → AllByRecursion (IsWithin b) ts →
+    AllByRecursion (IsWithin (b + 65536 * k)) (further n k ts)
 unfolding further
 further_within n zero b ts short w = tt
 further_within n (suc k) b [] short w = tt
 further_within n (suc k) b (t ∷ ts) short w =
     let first = w.0 in
     let low = first.slot_low in let high = first.slot_high in let owner_low = first.owner_low in let owner_high = first.owner_high in
-    let rest = further_within n k (b + 65536) (ts ++ later n t ∷ []) short (turn_within n b (b + 65536) (t ∷ ts) (ts ++ later n t ∷ []) (later n t) short refl (refl, refl) w) in
+    let rest = further_within n k (b + 65536) (ts ++ later n t ∷ []) short
+    (turn_within n b (b + 65536) (t ∷ ts) (ts ++ later n t ∷ []) (later n t) short refl (refl, refl) w) in
     let same : (b + 65536) + 65536 * k ≡ b + 65536 * suc k = omega arith in (
       record { slot_low = omega (arith, ints); slot_high = omega (arith, ints); owner_low = omega (arith, ints); owner_high = omega (arith, ints) },
       subst (λ c. AllByRecursion (IsWithin c) (further n k (ts ++ later n t ∷ []))) same rest,
@@ -43,7 +45,8 @@ last_within c (suc k) z (t ∷ ts) le w = last_within c k t.slot ts w.0.slot_hig
 runs_within : (c k : ℕ) (ts : List Transmission) → AllByRecursion (IsWithin c) ts → AllByRecursion (IsRunWithin c) (map run_of (windows (suc k) ts))
 unfolding windows
 runs_within c k [] w = tt
-runs_within c k (t ∷ ts) w = cond_both (nat_le (suc k) (suc (length ts))) (take (suc k) (t ∷ ts) ∷ windows (suc k) ts) [] (λ ws. AllByRecursion (IsRunWithin c) (map run_of ws))
+runs_within c k (t ∷ ts) w = cond_both (nat_le (suc k) (suc (length ts))) (take (suc k) (t ∷ ts) ∷ windows (suc k) ts) []
+    (λ ws. AllByRecursion (IsRunWithin c) (map run_of ws))
     (λ _. (record { owner_low = w.0.owner_low; end_high = last_within c k t.slot ts w.0.slot_high w.1 }, runs_within c k ts w.1)) (λ _. tt)
 
 above_most : (z : ℤ) (w : ℕ) → z ≤ℤ pos w → above_zero z ≤ w
@@ -69,19 +72,25 @@ widened_within c (Some s) r w a =
 spread_within : (c : ℕ) (s : Option Spread) (rs : List Run) → Within c s → AllByRecursion (IsRunWithin c) rs → Within c (spread_of s rs)
 unfolding spread_of
 spread_within c s [] w a = w
-spread_within c s (r ∷ rs) w a = spread_within c (spread_after s r) rs (cond_both r.sure (Some (widened s r)) s (Within c) (λ _. widened_within c s r w a.0) (λ _. w)) a.1
+spread_within c s (r ∷ rs) w a = spread_within c (spread_after s r) rs
+    (cond_both r.sure (Some (widened s r)) s (Within c) (λ _. widened_within c s r w a.0) (λ _. w)) a.1
 
 -- the least limit of the sure runs of at most 8 transmissions
-pub width_most : (n k : ℕ) (ts : List Transmission) (s : Spread) → n ≤ 65536 → k ≤ 7 → AllByRecursion (IsWithin 65536) ts → spread_of None (runs n k ts) ≡ Some s → width n s ≤ 655360
+pub width_most : (n k : ℕ) (ts : List Transmission) (s : Spread) → n ≤ 65536 → k ≤ 7 → AllByRecursion (IsWithin 65536) ts →
+    spread_of None (runs n k ts) ≡ Some s → width n s ≤ 655360
 width_most n k ts s short few w e =
     let c = 65536 + 65536 * k in
-    let all = all_append (IsWithin (65536 + 65536 * k)) ts (further n k ts) (within_more 65536 (65536 + 65536 * k) ts (omega arith) w) (further_within n k 65536 ts short w) in
-    let within : IsSpreadWithin (65536 + 65536 * k) s = subst (Within (65536 + 65536 * k)) e (spread_within (65536 + 65536 * k) None (runs n k ts) tt (runs_within (65536 + 65536 * k) k (extended n k ts) all)) in
+    let all = all_append (IsWithin (65536 + 65536 * k)) ts (further n k ts) (within_more 65536 (65536 + 65536 * k) ts (omega arith) w)
+    (further_within n k 65536 ts short w) in
+    let within : IsSpreadWithin (65536 + 65536 * k) s =
+    subst (Within (65536 + 65536 * k)) e
+    (spread_within (65536 + 65536 * k) None (runs n k ts) tt (runs_within (65536 + 65536 * k) k (extended n k ts) all)) in
     let a = within.first_high in let b = within.previous_low in let d = within.widest_high in
     let last = above_most ((s.first_end +ℤ pos n) -ℤ s.previous) (65536 + 65536 * k + 131072) (omega (arith, ints)) in
     omega arith
 
-pub limit_most : (n k : ℕ) (ts : List Transmission) (o : Option Spread) (limit : ℕ) → n ≤ 65536 → k ≤ 7 → AllByRecursion (IsWithin 65536) ts → o ≡ spread_of None (runs n k ts) → limit_of n o ≡ Some limit → limit ≤ 655360
+pub limit_most : (n k : ℕ) (ts : List Transmission) (o : Option Spread) (limit : ℕ) → n ≤ 65536 → k ≤ 7 →
+    AllByRecursion (IsWithin 65536) ts → o ≡ spread_of None (runs n k ts) → limit_of n o ≡ Some limit → limit ≤ 655360
 limit_most n k ts None limit short few w e l = let h : None ≡ Some limit = l in cc
 limit_most n k ts (Some s) limit short few w e l = let h : width n s ≡ limit = cc in let m = width_most n k ts s short few w (sym e) in omega arith
 

@@ -35,7 +35,8 @@ held_push (x ∷ vs) v e h zero = h zero
 held_push (x ∷ vs) v e h (suc n) = held_push vs v e (λ m. h (suc m)) n
 
 -- the owner after one more slot
-pub owner_more : (id : Id) (cycle : List (List ℕ)) (entry old new : Option PageOwner) (j : ℕ) (k : ℤ) (d : List ℕ) → j < length cycle → k ≡ pos j → old ≡ owner_scan id (repeated cycle) entry j →
+pub owner_more : (id : Id) (cycle : List (List ℕ)) (entry old new : Option PageOwner) (j : ℕ) (k : ℤ) (d : List ℕ) → j < length cycle →
+    k ≡ pos j → old ≡ owner_scan id (repeated cycle) entry j →
     new ≡ owner_after id k (packet_of (get_or cycle j d)) old → new ≡ owner_scan id (repeated cycle) entry (j + 1)
 unfolding owner_scan
 owner_more id cycle entry old new j k d lt e h g =
@@ -44,7 +45,8 @@ owner_more id cycle entry old new j k d lt e h g =
     ∙ ap (owner_scan id (repeated cycle) entry) (let q : suc j ≡ j + 1 = omega arith in q)
 
 -- the transmissions after one more slot
-pub sent_more : (id : Id) (lines : ℕ) (item : Item) (cycle : List (List ℕ)) (entry old : Option PageOwner) (ts us : List Transmission) (j : ℕ) (k : ℤ) (d : List ℕ) → j < length cycle → k ≡ pos j →
+pub sent_more : (id : Id) (lines : ℕ) (item : Item) (cycle : List (List ℕ)) (entry old : Option PageOwner) (ts us : List Transmission)
+    (j : ℕ) (k : ℤ) (d : List ℕ) → j < length cycle → k ≡ pos j →
     old ≡ owner_scan id (repeated cycle) entry j → ts ≡ sent_scan id lines item (repeated cycle) entry j →
     us ≡ ts ++ sent_at id lines item k (packet_of (get_or cycle j d)) old → us ≡ sent_scan id lines item (repeated cycle) entry (j + 1)
 unfolding sent_scan
@@ -78,11 +80,19 @@ all_by_place P (x ∷ xs) h zero d lt = h.0
 all_by_place P (x ∷ xs) h (suc k) d lt = all_by_place P xs h.1 k d (omega arith)
 
 pub none_in_order : AreInOrder []
-none_in_order = record { low = λ k d lt. absurd (omega arith); high = λ k d lt. absurd (omega arith); rising = λ i j d lt in_range. absurd (omega arith) }
+none_in_order = record {
+  low = λ k d lt. absurd (omega arith);
+  high = λ k d lt. absurd (omega arith);
+  rising = λ i j d lt in_range.
+      absurd (omega arith);
+}
 
-module _ (ids : List Id) (are : (i : ℕ) (id : Id) → slice_get ids i ≡ Some id → IsId id) (before : List (List ℕ)) (before_is : IsCycle before) (cycle : List (List ℕ)) (is : IsCycle cycle) (lines : ℕ) where
+module _ (ids : List Id) (are : (i : ℕ) (id : Id) → slice_get ids i ≡ Some id → IsId id) (before : List (List ℕ))
+    (before_is : IsCycle before) (cycle : List (List ℕ)) (is : IsCycle cycle) (lines : ℕ) where
   -- what holds of the transmissions of each item holds of each list that is kept
-  all_kept : (Keeps : List Transmission → Type 0) → Keeps [] → ((id : Id) (item : Item) → Keeps (sent_after before cycle id lines item)) → (lists : Lists) → AreCollected ids before cycle lines (length cycle) lists →
+  all_kept : (Keeps : List Transmission → Type 0) → Keeps [] →
+      ((id : Id) (item : Item) → Keeps (sent_after before cycle id lines item)) → (lists : Lists) →
+      AreCollected ids before cycle lines (length cycle) lists →
       (n : ℕ) → Keeps (held lists n)
   all_kept Keeps none each lists a n = elim (cases_lt n (length lists)) as (λ _. Keeps (held lists n)) [
     | inl below ↦
@@ -91,7 +101,8 @@ module _ (ids : List Id) (are : (i : ℕ) (id : Id) → slice_get ids i ≡ Some
           | inl w ↦
               let r = item_for (n % 26) (mod-lt n (omega arith)) in
               let place_is : place_of_item (n / 26) r.0 ≡ n = let e = r.2 in omega arith in
-              let list_is : held lists n ≡ sent_after before cycle w.0 lines r.0 = ap (held lists) (sym place_is) ∙ a.each (n / 26) w.0 r.0 w.2 (are (n / 26) w.0 w.2) r.1 in
+              let list_is : held lists n ≡ sent_after before cycle w.0 lines r.0 = ap (held lists) (sym place_is)
+              ∙ a.each (n / 26) w.0 r.0 w.2 (are (n / 26) w.0 w.2) r.1 in
               subst Keeps (sym list_is) (each w.0 r.0)
           | inr past ↦ let p = past.0 in absurd (omega arith)
         ]
@@ -111,7 +122,8 @@ module _ (ids : List Id) (are : (i : ℕ) (id : Id) → slice_get ids i ≡ Some
   all_in_order = all_kept AreInOrder none_in_order (λ id item. after_in_order before cycle some is.most id lines item)
 
 -- as kept for pages
-pub all_sent : (pages : List PageValue) → ((i : ℕ) (id : Id) → slice_get (ids_of pages) i ≡ Some id → IsId id) → (before cycle : List (List ℕ)) (lines : ℕ) (c : Collected) →
+pub all_sent : (pages : List PageValue) → ((i : ℕ) (id : Id) → slice_get (ids_of pages) i ≡ Some id → IsId id) →
+    (before cycle : List (List ℕ)) (lines : ℕ) (c : Collected) →
     AreCollected (ids_of pages) before cycle lines (length cycle) c.lists.items → AreSentAfter before cycle (map page_of pages) lines c
 all_sent pages are before cycle lines c a = record {
   count = let l = length-map pages (λ p. (page_of p).id) in let m = length-map pages page_of in let n = a.count in omega arith;
@@ -123,7 +135,8 @@ all_by_recursion P [] h = tt
 all_by_recursion P (x ∷ xs) h = (h zero x (omega arith), all_by_recursion P xs (λ k d lt. h (suc k) d (omega arith)))
 
 -- the list that is read in a place
-pub held_read : (vs : Lists) (i n : ℕ) (item : Item) (v : Vec Transmission Global) (ts : List Transmission) → ts ≡ v.items → n ≡ item_number item → IsItem item → i < length vs / 26 →
+pub held_read : (vs : Lists) (i n : ℕ) (item : Item) (v : Vec Transmission Global) (ts : List Transmission) → ts ≡ v.items → n
+    ≡ item_number item → IsItem item → i < length vs / 26 →
     v ≡ get_or vs (26 * i + n) v → ts ≡ held vs (place_of_item i item)
 held_read vs i n item v ts t e is below read =
     let p = place_below i item (i + 1) (omega arith) is in

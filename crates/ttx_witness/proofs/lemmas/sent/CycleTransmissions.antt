@@ -81,12 +81,15 @@ module _ (cycle : List (List ℕ)) (some : 1 ≤ length cycle) (page : Id) (line
   law = repeats (repeated cycle) (length cycle) some (period_of cycle) page lines item
 
   -- the scan of a period lists its transmissions
-  pub sent_told : AreSent (IsOwned (repeated cycle) page item) (IsSure (repeated cycle) lines page.mag item) (pos 0) (pos (length cycle)) (sent_in cycle page lines item)
-  sent_told = O.scan_told page (repeated cycle) lines item (entry_owner cycle page) (O.first_entry page (repeated cycle) (length cycle) some (period_of cycle)) (length cycle)
+  pub sent_told : AreSent (IsOwned (repeated cycle) page item) (IsSure (repeated cycle) lines page.mag item) (pos 0)
+      (pos (length cycle)) (sent_in cycle page lines item)
+  sent_told = O.scan_told page (repeated cycle) lines item (entry_owner cycle page)
+      (O.first_entry page (repeated cycle) (length cycle) some (period_of cycle)) (length cycle)
 
   -- whose numbers are small
   pub told_within : length cycle ≤ 65536 → (low : ℤ) → pos 0 ≤ℤ low → (ts : List Transmission) →
-      AreSent (IsOwned (repeated cycle) page item) (IsSure (repeated cycle) lines page.mag item) low (pos (length cycle)) ts → AllByRecursion (IsWithin 65536) ts
+      AreSent (IsOwned (repeated cycle) page item) (IsSure (repeated cycle) lines page.mag item) low (pos (length cycle)) ts →
+      AllByRecursion (IsWithin 65536) ts
   told_within few low from [] l = tt
   told_within few low from (t ∷ ts) l =
       let a = law.near t.owner t.slot l.0.owned in

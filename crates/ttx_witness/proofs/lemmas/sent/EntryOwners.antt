@@ -12,10 +12,12 @@ moved_taint : (d : ℤ) (b : Bool) (o : Option PageOwner) → owner_moved d (tai
 moved_taint d b None = refl
 moved_taint d b (Some o) = refl
 
-pub moved_after : (d j k : ℤ) (id : Id) (p : Packet) (o : Option PageOwner) → k ≡ j +ℤ d → owner_moved d (owner_after id j p o) ≡ owner_after id k p (owner_moved d o)
+pub moved_after : (d j k : ℤ) (id : Id) (p : Packet) (o : Option PageOwner) → k ≡ j +ℤ d → owner_moved d (owner_after id j p o)
+    ≡ owner_after id k p (owner_moved d o)
 moved_after d j k id p o e = go (heads id.mag p)
   where
-    go : (b : Bool) → owner_moved d (if b then Some (record { slot = j; mine = heads_page id p; tainted = false }) else tainted_by (ends_serial id.mag p) o)
+    go : (b : Bool) → owner_moved d
+        (if b then Some (record { slot = j; mine = heads_page id p; tainted = false }) else tainted_by (ends_serial id.mag p) o)
         ≡ (if b then Some (record { slot = k; mine = heads_page id p; tainted = false }) else tainted_by (ends_serial id.mag p) (owner_moved d o))
     go true = ap (λ z. Some (record { slot = z; mine = heads_page id p; tainted = false })) (sym e)
     go false = moved_taint d (ends_serial id.mag p) o
@@ -29,7 +31,8 @@ pub scan_moved : (d : ℤ) (id : Id) (s : Stream) (j : ℕ) (k : ℤ) (slot : Li
 unfolding owner_scan
 scan_moved d id s j k slot old new e f g h =
     g ∙ ap (owner_after id k (packet_of slot)) h ∙ ap (λ x. owner_after id k (packet_of x) (owner_moved d (owner_scan id s None j))) (sym f)
-    ∙ sym (moved_after d (pos j) k id (packet_of (s (pos j))) (owner_scan id s None j) e) ∙ ap (λ n. owner_moved d (owner_scan id s None n)) (let q : suc j ≡ j + 1 = omega arith in q)
+    ∙ sym (moved_after d (pos j) k id (packet_of (s (pos j))) (owner_scan id s None j) e)
+    ∙ ap (λ n. owner_moved d (owner_scan id s None n)) (let q : suc j ≡ j + 1 = omega arith in q)
 
 pub scan_none : (d : ℤ) (id : Id) (s : Stream) → None ≡ owner_moved d (owner_scan id s None 0)
 unfolding owner_scan

@@ -28,7 +28,8 @@ higher : (low high : ℤ) (b : Bool) (o : Option PageOwner) → IsBetween low hi
 higher low high b None h = tt
 higher low high b (Some o) h = let a = h.1 in (h.0, omega (arith, ints))
 
-scan_between : (page : Id) (s : Stream) (entry : Option PageOwner) (low : ℤ) → low ≤ℤ pos 0 → IsBetween low (pos 0) entry → (n : ℕ) → IsBetween low (pos n) (owner_scan page s entry n)
+scan_between : (page : Id) (s : Stream) (entry : Option PageOwner) (low : ℤ) → low ≤ℤ pos 0 → IsBetween low (pos 0) entry → (n : ℕ) →
+    IsBetween low (pos n) (owner_scan page s entry n)
 unfolding owner_scan
 scan_between page s entry low le h zero = h
 scan_between page s entry low le h (suc n) =
@@ -42,29 +43,52 @@ moved_between n None h = tt
 moved_between n (Some o) h = let a = h.0 in let b = h.1 in (omega (arith, ints), omega (arith, ints))
 
 entry_between : (before : List (List ℕ)) (page : Id) → IsBetween (pos 0 -ℤ pos (length before)) (pos 0) (entry_owner before page)
-entry_between before page = moved_between (length before) (owner_scan page (repeated before) None (length before)) (scan_between page (repeated before) None (pos 0) (omega (arith, ints)) tt (length before))
+entry_between before page = moved_between (length before) (owner_scan page (repeated before) None (length before))
+    (scan_between page (repeated before) None (pos 0) (omega (arith, ints)) tt (length before))
 
 abbrev Within : List Transmission → Type 0
 Within = AllByRecursion (IsWithin 65536)
 
-under_within : (lines n : ℕ) → n ≤ 65536 → (low : ℤ) → pos 0 ≤ℤ (low +ℤ pos 65536) → (o : Option PageOwner) → IsBetween low (pos n) o → Within (sent_under lines (pos n) o)
+under_within : (lines n : ℕ) → n ≤ 65536 → (low : ℤ) → pos 0 ≤ℤ (low +ℤ pos 65536) → (o : Option PageOwner) → IsBetween low (pos n) o →
+    Within (sent_under lines (pos n) o)
 under_within lines n few low le None h = tt
 under_within lines n few low le (Some o) h =
     let a = h.0 in let b = h.1 in
-    cond_both o.mine _ _ Within (λ _. (record { slot_low = omega (arith, ints); slot_high = omega (arith, ints); owner_low = omega (arith, ints); owner_high = omega (arith, ints) }, tt)) (λ _. tt)
+    cond_both o.mine _ _ Within (λ _. (
+      record {
+        slot_low = omega (arith, ints);
+        slot_high = omega (arith, ints);
+        owner_low = omega (arith, ints);
+        owner_high = omega (arith, ints);
+      },
+      tt,
+    )) (λ _. tt)
 
-at_within : (page : Id) (lines : ℕ) (item : Item) (n : ℕ) → n ≤ 65536 → (low : ℤ) → pos 0 ≤ℤ (low +ℤ pos 65536) → (p : Packet) (o : Option PageOwner) → IsBetween low (pos n) o →
+at_within : (page : Id) (lines : ℕ) (item : Item) (n : ℕ) → n ≤ 65536 → (low : ℤ) → pos 0 ≤ℤ (low +ℤ pos 65536) →
+    (p : Packet) (o : Option PageOwner) → IsBetween low (pos n) o →
     Within (sent_at page lines item (pos n) p o)
 at_within page lines TheHead n few low le p o h =
-    cond_both (heads_page page p) _ _ Within (λ _. (record { slot_low = omega (arith, ints); slot_high = omega (arith, ints); owner_low = omega (arith, ints); owner_high = omega (arith, ints) }, tt)) (λ _. tt)
-at_within page lines (TheRow r) n few low le p o h = cond_both (carries page.mag (TheRow r) p) _ _ Within (λ _. under_within lines n few low le o h) (λ _. tt)
-at_within page lines TheLinks n few low le p o h = cond_both (carries page.mag TheLinks p) _ _ Within (λ _. under_within lines n few low le o h) (λ _. tt)
+    cond_both (heads_page page p) _ _ Within
+    (λ _. (
+      record {
+        slot_low = omega (arith, ints);
+        slot_high = omega (arith, ints);
+        owner_low = omega (arith, ints);
+        owner_high = omega (arith, ints);
+      },
+      tt,
+    )) (λ _. tt)
+at_within page lines (TheRow r) n few low le p o h =
+    cond_both (carries page.mag (TheRow r) p) _ _ Within (λ _. under_within lines n few low le o h) (λ _. tt)
+at_within page lines TheLinks n few low le p o h =
+    cond_both (carries page.mag TheLinks p) _ _ Within (λ _. under_within lines n few low le o h) (λ _. tt)
 
 both_within : (ts us : List Transmission) → Within ts → Within us → Within (ts ++ us)
 both_within [] us a b = b
 both_within (t ∷ ts) us a b = (a.0, both_within ts us a.1 b)
 
-scan_within : (page : Id) (lines : ℕ) (item : Item) (s : Stream) (entry : Option PageOwner) (low : ℤ) → low ≤ℤ pos 0 → pos 0 ≤ℤ (low +ℤ pos 65536) → IsBetween low (pos 0) entry → (n : ℕ) → n ≤ 65536 →
+scan_within : (page : Id) (lines : ℕ) (item : Item) (s : Stream) (entry : Option PageOwner) (low : ℤ) → low ≤ℤ pos 0 →
+    pos 0 ≤ℤ (low +ℤ pos 65536) → IsBetween low (pos 0) entry → (n : ℕ) → n ≤ 65536 →
     Within (sent_scan page lines item s entry n)
 unfolding sent_scan
 scan_within page lines item s entry low le some h zero few = tt
@@ -110,21 +134,28 @@ module _ (before cycle : List (List ℕ)) where
       same_sent entry zero = refl
       same_sent entry (suc n) =
           ap (λ x. x ++ sent_at page lines item (pos n) (packet_of (repeated cycle (pos n))) (owner_scan page s entry n)) (same_sent entry n)
-          ∙ ap (λ o. sent_scan page lines item (repeated cycle) entry n ++ sent_at page lines item (pos n) (packet_of (repeated cycle (pos n))) o) (same_owner entry n)
+          ∙ ap (λ o. sent_scan page lines item (repeated cycle) entry n
+          ++ sent_at page lines item (pos n) (packet_of (repeated cycle (pos n))) o) (same_owner entry n)
 
       pub after_told : 1 ≤ length before →
           AreSent (IsOwned s page item) (IsSure s lines page.mag item) (pos 0) (pos (length cycle)) (sent_after before cycle page lines item)
       after_told some =
-          subst (AreSent (IsOwned s page item) (IsSure s lines page.mag item) (pos 0) (pos (length cycle))) (same_sent (entry_owner before page) (length cycle))
-          (O.scan_told page s lines item (entry_owner before page) (carried (entry_owner before page) (O.first_entry page (repeated before) (length before) some (period_of before))) (length cycle))
+          subst (AreSent (IsOwned s page item) (IsSure s lines page.mag item) (pos 0) (pos (length cycle)))
+          (same_sent (entry_owner before page) (length cycle))
+          (O.scan_told page s lines item (entry_owner before page)
+          (carried (entry_owner before page) (O.first_entry page (repeated before) (length before) some (period_of before)))
+          (length cycle))
 
 -- the numbers are small
-pub after_within : (before cycle : List (List ℕ)) → length before ≤ 65536 → length cycle ≤ 65536 → (page : Id) (lines : ℕ) (item : Item) → Within (sent_after before cycle page lines item)
+pub after_within : (before cycle : List (List ℕ)) → length before ≤ 65536 → length cycle ≤ 65536 →
+    (page : Id) (lines : ℕ) (item : Item) → Within (sent_after before cycle page lines item)
 after_within before cycle few few_new page lines item =
-    scan_within page lines item (repeated cycle) (entry_owner before page) (pos 0 -ℤ pos (length before)) (omega (arith, ints)) (omega (arith, ints)) (entry_between before page) (length cycle) few_new
+    scan_within page lines item (repeated cycle) (entry_owner before page) (pos 0 -ℤ pos (length before)) (omega (arith, ints))
+    (omega (arith, ints)) (entry_between before page) (length cycle) few_new
 
 -- and the slots rise
-pub after_in_order : (before cycle : List (List ℕ)) → 1 ≤ length before → length cycle ≤ 65536 → (page : Id) (lines : ℕ) (item : Item) → AreInOrder (sent_after before cycle page lines item)
+pub after_in_order : (before cycle : List (List ℕ)) → 1 ≤ length before → length cycle ≤ 65536 → (page : Id) (lines : ℕ) (item : Item) →
+    AreInOrder (sent_after before cycle page lines item)
 after_in_order before cycle some few page lines item =
     let l = after_told before cycle page lines item some in
     let ts = sent_after before cycle page lines item in

@@ -22,7 +22,8 @@ bool_same true false f g = sym (f refl)
 bool_same false true f g = g refl
 bool_same false false f g = refl
 
-pub same_place : (i page number : ℕ) (item : Item) → IsItem item → number < 26 → (place_of_item i item == 26 * page + number) ≡ ((item_number item == number) && (page == i))
+pub same_place : (i page number : ℕ) (item : Item) → IsItem item → number < 26 → (place_of_item i item == 26 * page + number)
+    ≡ ((item_number item == number) && (page == i))
 same_place i page number item is lt = bool_same _ _
     (λ e.
     let q : place_of_item i item ≡ 26 * page + number = eqb-true _ _ e in
@@ -56,7 +57,8 @@ placed_item i item is (Some s) = elim (cases_lt s.number 26) as (λ _. placed_at
 ]
   where
     differ : (m n : ℕ) → m < n → (m == n) ≡ false
-    differ m n lt = elim (cases_Bool (m == n)) as (λ _. (m == n) ≡ false) [ inl e ↦ (let q : m ≡ n = eqb-true m n e in absurd (omega arith)) | inr e ↦ e ]
+    differ m n lt = elim (cases_Bool (m == n)) as
+        (λ _. (m == n) ≡ false) [ inl e ↦ (let q : m ≡ n = eqb-true m n e in absurd (omega arith)) | inr e ↦ e ]
 
 -- two places of one slot
 pub one_place : (m n : ℕ) (sent : Option Sent) → sends_place m sent ≡ true → sends_place n sent ≡ true → m ≡ n
@@ -64,15 +66,17 @@ one_place m n None e f = cc
 one_place m n (Some s) e f = eqb-true _ _ ((and_parts (nat_lt s.number 26) _ e).1) ∙ sym (eqb-true _ _ ((and_parts (nat_lt s.number 26) _ f).1))
 
 -- a list that grows by what is sent, where this is the item of its place
-pub placed_added : (place n : ℕ) (s : Sent) (ts : List Transmission) → sends_place place (Some s) ≡ true → (if n == place then ts ++ s.transmission ∷ [] else ts) ≡ ts ++ placed_at n (Some s)
-placed_added place n s ts here = elim (cases_Bool (n == place)) as (λ _. (if n == place then ts ++ s.transmission ∷ [] else ts) ≡ ts ++ placed_at n (Some s)) [
-  | inl e ↦
-      let sends : sends_place n (Some s) ≡ true = ap (λ m. sends_place m (Some s)) (eqb-true n place e) ∙ here in
-      rw e (ap (λ b. ts ++ (if b then s.transmission ∷ [] else [])) (sym sends))
-  | inr e ↦
-      let silent = never n (λ sends. both_ways (n == place) e (eq-eqb n place (one_place n place (Some s) sends here))) in
-      rw e (sym (append-nil ts) ∙ ap (λ b. ts ++ (if b then s.transmission ∷ [] else [])) (sym silent))
-]
+pub placed_added : (place n : ℕ) (s : Sent) (ts : List Transmission) → sends_place place (Some s) ≡ true →
+    (if n == place then ts ++ s.transmission ∷ [] else ts) ≡ ts ++ placed_at n (Some s)
+placed_added place n s ts here = elim (cases_Bool (n == place)) as
+    (λ _. (if n == place then ts ++ s.transmission ∷ [] else ts) ≡ ts ++ placed_at n (Some s)) [
+      | inl e ↦
+          let sends : sends_place n (Some s) ≡ true = ap (λ m. sends_place m (Some s)) (eqb-true n place e) ∙ here in
+          rw e (ap (λ b. ts ++ (if b then s.transmission ∷ [] else [])) (sym sends))
+      | inr e ↦
+          let silent = never n (λ sends. both_ways (n == place) e (eq-eqb n place (one_place n place (Some s) sends here))) in
+          rw e (sym (append-nil ts) ∙ ap (λ b. ts ++ (if b then s.transmission ∷ [] else [])) (sym silent))
+    ]
   where
     never : (n : ℕ) → (sends_place n (Some s) ≡ true → ⊥) → sends_place n (Some s) ≡ false
     never n f = elim (cases_Bool (sends_place n (Some s))) as (λ _. sends_place n (Some s) ≡ false) [ inl e ↦ absurd (f e) | inr e ↦ e ]

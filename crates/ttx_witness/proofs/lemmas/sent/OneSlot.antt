@@ -28,21 +28,31 @@ foreign : (lines i : ℕ) (j : ℤ) (o : Option Owner) → IsForeign i o → sen
 foreign lines i j None f = refl
 foreign lines i j (Some o) f = cond-false (is_page i o.page) _ _ f
 
-module _ (ids : List Id) (lines : ℕ) (j : ℤ) (owners : List (Option Owner)) (apart : AreApart ids owners) (mag : ℕ) (from : 1 ≤ mag) (to : mag ≤ 8) (i : ℕ) (id : Id) (at : slice_get ids i ≡ Some id) where
+module _ (ids : List Id) (lines : ℕ) (j : ℤ) (owners : List (Option Owner)) (apart : AreApart ids owners) (mag : ℕ) (from : 1 ≤ mag)
+    (to : mag ≤ 8) (i : ℕ) (id : Id) (at : slice_get ids i ≡ Some id) where
   -- under the owner of its magazine
   under : sent_under lines j (seen_by i (get_or owners (mag - 1) None)) ≡ (if mag == id.mag then sent_under lines j (owner_for owners i id) else [])
   under = cond_both (mag == id.mag) _ _ (λ x. sent_under lines j (seen_by i (get_or owners (mag - 1) None)) ≡ x)
       (λ e. ap (λ m. sent_under lines j (seen_by i (get_or owners (m - 1) None))) (eqb-true mag id.mag e))
-      (λ e. foreign lines i j (get_or owners (mag - 1) None) (apart (mag - 1) i id (omega arith) at (λ q. both_ways _ e (eq-eqb mag id.mag (let k : mag ≡ id.mag = omega arith in k)))))
+      (λ e. foreign lines i j (get_or owners (mag - 1) None)
+      (apart (mag - 1) i id (omega arith) at
+      (λ q. both_ways _ e (eq-eqb mag id.mag (let k : mag ≡ id.mag = omega arith in k)))))
 
   row_sent : (number : ℕ) (text : List ℕ) → 1 ≤ number → number ≤ 24 → (item : Item) → IsItem item →
-      (if item_number item == number then sent_under lines j (seen_by i (get_or owners (mag - 1) None)) else []) ≡ sent_at id lines item j (Row mag number text) (owner_for owners i id)
+      (if item_number item == number then sent_under lines j (seen_by i (get_or owners (mag - 1) None)) else [])
+      ≡ sent_at id lines item j (Row mag number text) (owner_for owners i id)
   row_sent number text low high TheHead is = cond-false (0 == number) _ _ (not_equal 0 number (λ e. omega arith))
   row_sent number text low high TheLinks is = cond-false (25 == number) _ _ (not_equal 25 number (λ e. omega arith))
-  row_sent number text low high (TheRow r) is = elim (cases_Bool (r == number)) as (λ _. (if r == number then sent_under lines j (seen_by i (get_or owners (mag - 1) None)) else []) ≡ sent_at id lines (TheRow r) j (Row mag number text) (owner_for owners i id)) [
-    | inl e ↦ cond-true (r == number) _ _ e ∙ under ∙ both (mag == id.mag) (number == r) (sent_under lines j (owner_for owners i id)) (eq-eqb number r (sym (eqb-true r number e)))
-    | inr e ↦ cond-false (r == number) _ _ e ∙ sym (none (mag == id.mag) (number == r) (sent_under lines j (owner_for owners i id)) (not_equal number r (λ q. both_ways _ e (eq-eqb r number (sym q)))))
-  ]
+  row_sent number text low high (TheRow r) is = elim (cases_Bool (r == number)) as
+      (λ _. (if r == number then sent_under lines j (seen_by i (get_or owners (mag - 1) None)) else [])
+      ≡ sent_at id lines (TheRow r) j (Row mag number text) (owner_for owners i id)) [
+        | inl e ↦ cond-true (r == number) _ _ e ∙ under
+            ∙ both (mag == id.mag) (number == r) (sent_under lines j (owner_for owners i id))
+            (eq-eqb number r (sym (eqb-true r number e)))
+        | inr e ↦ cond-false (r == number) _ _ e ∙ sym
+            (none (mag == id.mag) (number == r) (sent_under lines j (owner_for owners i id))
+            (not_equal number r (λ q. both_ways _ e (eq-eqb r number (sym q)))))
+      ]
     where
       both : (a b : Bool) (x : List Transmission) → b ≡ true → (if a then x else []) ≡ (if a && b then x else [])
       both true true x e = refl
@@ -55,13 +65,16 @@ module _ (ids : List Id) (lines : ℕ) (j : ℤ) (owners : List (Option Owner)) 
       none false b x e = refl
 
   links_sent : (content : Option LinkSet) (item : Item) → IsItem item →
-      (if item_number item == 25 then sent_under lines j (seen_by i (get_or owners (mag - 1) None)) else []) ≡ sent_at id lines item j (Links mag content) (owner_for owners i id)
+      (if item_number item == 25 then sent_under lines j (seen_by i (get_or owners (mag - 1) None)) else [])
+      ≡ sent_at id lines item j (Links mag content) (owner_for owners i id)
   links_sent content TheHead is = refl
   links_sent content TheLinks is = under
   links_sent content (TheRow r) is = cond-false (r == 25) _ _ (not_equal r 25 (λ e. let h = is.1 in omega arith))
 
-  pub row_slot_sent : (slot : List ℕ) (number : ℕ) → (1 ≤ number) × (number ≤ 24) → kind_of slot ≡ IsRow mag number → (m n : ℕ) (k : ℤ) → m ≡ mag → n ≡ number → k ≡ j → (item : Item) → IsItem item →
-      (if item_number item == n then sent_under lines k (seen_by i (get_or owners (m - 1) None)) else []) ≡ sent_at id lines item j (packet_of slot) (owner_for owners i id)
+  pub row_slot_sent : (slot : List ℕ) (number : ℕ) → (1 ≤ number) × (number ≤ 24) → kind_of slot ≡ IsRow mag number →
+      (m n : ℕ) (k : ℤ) → m ≡ mag → n ≡ number → k ≡ j → (item : Item) → IsItem item →
+      (if item_number item == n then sent_under lines k (seen_by i (get_or owners (m - 1) None)) else [])
+      ≡ sent_at id lines item j (packet_of slot) (owner_for owners i id)
   row_slot_sent slot number h kind m n k em en ek item is =
       ap (λ x. if item_number item == x then sent_under lines k (seen_by i (get_or owners (m - 1) None)) else []) en
       ∙ ap (λ x. if item_number item == number then sent_under lines x (seen_by i (get_or owners (m - 1) None)) else []) ek
@@ -69,20 +82,26 @@ module _ (ids : List Id) (lines : ℕ) (j : ℤ) (owners : List (Option Owner)) 
       ∙ row_sent number _ h.0 h.1 item is ∙ ap (λ p. sent_at id lines item j p (owner_for owners i id)) (sym (packet_is slot (IsRow mag number) kind))
 
   pub links_slot_sent : (slot : List ℕ) → kind_of slot ≡ IsLinks mag → (m : ℕ) (k : ℤ) → m ≡ mag → k ≡ j → (item : Item) → IsItem item →
-      (if item_number item == 25 then sent_under lines k (seen_by i (get_or owners (m - 1) None)) else []) ≡ sent_at id lines item j (packet_of slot) (owner_for owners i id)
+      (if item_number item == 25 then sent_under lines k (seen_by i (get_or owners (m - 1) None)) else [])
+      ≡ sent_at id lines item j (packet_of slot) (owner_for owners i id)
   links_slot_sent slot kind m k em ek item is =
       ap (λ x. if item_number item == 25 then sent_under lines x (seen_by i (get_or owners (m - 1) None)) else []) ek
       ∙ ap (λ x. if item_number item == 25 then sent_under lines j (seen_by i (get_or owners (x - 1) None)) else []) em
       ∙ links_sent _ item is ∙ ap (λ p. sent_at id lines item j p (owner_for owners i id)) (sym (packet_is slot (IsLinks mag) kind))
 
 -- a header
-pub head_slot_sent : (ids : List Id) (lines : ℕ) (j : ℤ) (o : Option PageOwner) (slot : List ℕ) (mag : ℕ) (hid : Id) (page : Option ℕ) → kind_of slot ≡ IsHeader mag → hid ≡ id_of slot → Finds ids hid page → (z : ℤ) → z ≡ j →
+pub head_slot_sent : (ids : List Id) (lines : ℕ) (j : ℤ) (o : Option PageOwner) (slot : List ℕ) (mag : ℕ) (hid : Id) (page : Option ℕ) →
+    kind_of slot ≡ IsHeader mag → hid ≡ id_of slot → Finds ids hid page → (z : ℤ) → z ≡ j →
     (i : ℕ) (id : Id) → slice_get ids i ≡ Some id → (item : Item) → IsItem item →
-    (if (item_number item == 0) && is_page i page then record { slot = z; owner = z; sure = true } ∷ [] else []) ≡ sent_at id lines item j (packet_of slot) o
+    (if (item_number item == 0) && is_page i page then record { slot = z; owner = z; sure = true } ∷ [] else [])
+    ≡ sent_at id lines item j (packet_of slot) o
 head_slot_sent ids lines j o slot mag hid page k same finds z ez i id at item is =
-    ap (λ x. if (item_number item == 0) && is_page i page then record { slot = x; owner = x; sure = true } ∷ [] else []) ez ∙ go item is ∙ ap (λ p. sent_at id lines item j p o) (sym (packet_is slot (IsHeader mag) k))
+    ap (λ x. if (item_number item == 0) && is_page i page then record { slot = x; owner = x; sure = true } ∷ [] else []) ez ∙ go item is
+    ∙ ap (λ p. sent_at id lines item j p o) (sym (packet_is slot (IsHeader mag) k))
   where
-    go : (item : Item) → IsItem item → (if (item_number item == 0) && is_page i page then record { slot = j; owner = j; sure = true } ∷ [] else []) ≡ sent_at id lines item j (packet_of_kind slot (IsHeader mag)) o
+    go : (item : Item) → IsItem item →
+        (if (item_number item == 0) && is_page i page then record { slot = j; owner = j; sure = true } ∷ [] else [])
+        ≡ sent_at id lines item j (packet_of_kind slot (IsHeader mag)) o
     go TheHead is = ap (λ b. if b then record { slot = j; owner = j; sure = true } ∷ [] else []) (finds i id at ∙ ap (same_id id) same)
     go (TheRow r) is = cond-false ((r == 0) && is_page i page) _ _ (first (not_equal r 0 (λ e. let h = is.0 in omega arith)))
       where
@@ -100,9 +119,11 @@ IsSilent IsUnreadable = Unit {0}
 IsSilent IsInfo = Unit {0}
 IsSilent (IsOther mag number) = Unit {0}
 
-pub silent : (slot : List ℕ) (k : Kind) → kind_of slot ≡ k → IsSilent k → (ts : List Transmission) (id : Id) (lines : ℕ) (item : Item) (j : ℤ) (o : Option PageOwner) →
+pub silent : (slot : List ℕ) (k : Kind) → kind_of slot ≡ k → IsSilent k →
+    (ts : List Transmission) (id : Id) (lines : ℕ) (item : Item) (j : ℤ) (o : Option PageOwner) →
     ts ≡ ts ++ sent_at id lines item j (packet_of slot) o
-silent slot k e s ts id lines item j o = sym (append-nil ts) ∙ ap (λ x. ts ++ x) (sym (go k s item) ∙ ap (λ p. sent_at id lines item j p o) (sym (packet_is slot k e)))
+silent slot k e s ts id lines item j o = sym (append-nil ts)
+    ∙ ap (λ x. ts ++ x) (sym (go k s item) ∙ ap (λ p. sent_at id lines item j p o) (sym (packet_is slot k e)))
   where
     go : (k : Kind) → IsSilent k → (item : Item) → sent_at id lines item j (packet_of_kind slot k) o ≡ []
     go (IsHeader mag) s item = absurd s
@@ -121,7 +142,8 @@ silent slot k e s ts id lines item j o = sym (append-nil ts) ∙ ap (λ x. ts ++
     go (IsOther mag number) s (TheRow r) = refl
     go (IsOther mag number) s TheLinks = refl
 
-pub quiet : (s : Slot) (k : Kind) (bytes : List ℕ) → ShowsAs s k bytes → ((at : Address) (b : Bor (List ℕ)) → s ≡ SHeader at b → ⊥) → ((at : Address) (b : Bor (List ℕ)) → s ≡ SRow at b → ⊥) →
+pub quiet : (s : Slot) (k : Kind) (bytes : List ℕ) → ShowsAs s k bytes → ((at : Address) (b : Bor (List ℕ)) → s ≡ SHeader at b → ⊥) →
+    ((at : Address) (b : Bor (List ℕ)) → s ≡ SRow at b → ⊥) →
     ((at : Address) (b : Bor (List ℕ)) → s ≡ SLinks at b → ⊥) → IsSilent k
 quiet SEmpty k bytes e h r l = subst IsSilent (sym e) tt
 quiet SUnreadable k bytes e h r l = subst IsSilent (sym e) tt

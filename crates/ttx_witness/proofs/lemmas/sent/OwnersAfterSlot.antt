@@ -37,7 +37,8 @@ other_kind slot id j o (IsLinks mag) n = sym (tainted_none o)
 other_kind slot id j o IsInfo n = sym (tainted_none o)
 other_kind slot id j o (IsOther mag number) n = sym (tainted_none o)
 
-pub owner_stays : (slot : List ℕ) (k : Kind) → kind_of slot ≡ k → IsNoHeader k → (id : Id) (j : ℤ) (o : Option PageOwner) → o ≡ owner_after id j (packet_of slot) o
+pub owner_stays : (slot : List ℕ) (k : Kind) → kind_of slot ≡ k → IsNoHeader k → (id : Id) (j : ℤ) (o : Option PageOwner) → o
+    ≡ owner_after id j (packet_of slot) o
 owner_stays slot k e n id j o = other_kind slot id j o k n ∙ ap (λ p. owner_after id j p o) (sym (packet_is slot k e))
 
 -- a slot that isn't readable as a header is none
@@ -58,59 +59,81 @@ seen_taint i b None = refl
 seen_taint i b (Some o) = refl
 
 -- after a header
-module _ (slot : List ℕ) (mag : ℕ) (kind : kind_of slot ≡ IsHeader mag) (same_mag : (id_of slot).mag ≡ mag) (from : 1 ≤ mag) (to : mag ≤ 8) (j : ℤ) (page : Option ℕ)
+module _ (slot : List ℕ) (mag : ℕ) (kind : kind_of slot ≡ IsHeader mag) (same_mag : (id_of slot).mag ≡ mag) (from : 1 ≤ mag)
+    (to : mag ≤ 8) (j : ℤ) (page : Option ℕ)
     (old new : List (Option Owner))
-    (noted : (m : ℕ) → m < 8 → get_or new m None ≡ (if m == mag - 1 then Some (record { slot = j; page = page; tainted = false }) else taint (c11 (control_of slot)) (get_or old m None)))
+    (noted : (m : ℕ) → m < 8 → get_or new m None
+    ≡ (if m == mag - 1 then Some (record { slot = j; page = page; tainted = false })
+    else taint (c11 (control_of slot)) (get_or old m None)))
     (ids : List Id) (finds : Finds ids (id_of slot) page) where
   new_here : (m : ℕ) → m < 8 → m ≡ mag - 1 → get_or new m None ≡ Some (record { slot = j; page = page; tainted = false })
-  new_here m lt e = noted m lt ∙ cond_both (m == mag - 1) _ _ (λ x. x ≡ Some (record { slot = j; page = page; tainted = false })) (λ _. refl) (λ f. absurd (both_ways _ f (eq-eqb m (mag - 1) e)))
+  new_here m lt e = noted m lt ∙ cond_both (m == mag - 1) _ _ (λ x. x ≡ Some (record { slot = j; page = page; tainted = false }))
+      (λ _. refl) (λ f. absurd (both_ways _ f (eq-eqb m (mag - 1) e)))
 
   new_other : (m : ℕ) → m < 8 → (m ≡ mag - 1 → ⊥) → get_or new m None ≡ taint (c11 (control_of slot)) (get_or old m None)
-  new_other m lt d = noted m lt ∙ cond_both (m == mag - 1) _ _ (λ x. x ≡ taint (c11 (control_of slot)) (get_or old m None)) (λ e. absurd (d (eqb-true m (mag - 1) e))) (λ _. refl)
+  new_other m lt d = noted m lt ∙ cond_both (m == mag - 1) _ _ (λ x. x ≡ taint (c11 (control_of slot)) (get_or old m None))
+      (λ e. absurd (d (eqb-true m (mag - 1) e))) (λ _. refl)
 
-  pub owner_comes : (i : ℕ) (id : Id) → slice_get ids i ≡ Some id → IsId id → owner_for new i id ≡ owner_after id j (packet_of slot) (owner_for old i id)
-  owner_comes i id at is = rw (packet_is slot (IsHeader mag) kind) (elim (cases_Bool ((id_of slot).mag == id.mag)) as (λ _. owner_for new i id ≡ owner_after id j (packet_of_kind slot (IsHeader mag)) (owner_for old i id)) [
-    | inl e ↦
-        let q : (id_of slot).mag ≡ id.mag = eqb-true (id_of slot).mag id.mag e in
-        let h = is.mag_from in let g = is.mag_to in
-        ap (seen_by i) (new_here (id.mag - 1) (omega arith) (omega arith)) ∙ ap (λ b. Some (record { slot = j; mine = b; tainted = false })) (finds i id at)
-        ∙ cond_both ((id_of slot).mag == id.mag) _ _ (λ x. Some (record { slot = j; mine = same_id id (id_of slot); tainted = false }) ≡ x) (λ _. refl) (λ f. absurd (both_ways _ f e))
-    | inr e ↦
-        let h = is.mag_from in let g = is.mag_to in
-        let d : (id.mag - 1 ≡ mag - 1 → ⊥) = λ p. both_ways _ e (eq-eqb (id_of slot).mag id.mag (omega arith)) in
-        ap (seen_by i) (new_other (id.mag - 1) (omega arith) d) ∙ seen_taint i (c11 (control_of slot)) (get_or old (id.mag - 1) None)
-        ∙ ap (λ b. tainted_by (not b && c11 (control_of slot)) (owner_for old i id)) (sym e)
-        ∙ cond_both ((id_of slot).mag == id.mag) _ _ (λ x. tainted_by (not ((id_of slot).mag == id.mag) && c11 (control_of slot)) (owner_for old i id) ≡ x) (λ f. absurd (both_ways _ e f)) (λ _. refl)
-  ])
+  pub owner_comes : (i : ℕ) (id : Id) → slice_get ids i ≡ Some id → IsId id → owner_for new i id
+      ≡ owner_after id j (packet_of slot) (owner_for old i id)
+  owner_comes i id at is = rw (packet_is slot (IsHeader mag) kind)
+      (elim (cases_Bool ((id_of slot).mag == id.mag)) as
+      (λ _. owner_for new i id ≡ owner_after id j (packet_of_kind slot (IsHeader mag)) (owner_for old i id)) [
+        | inl e ↦
+            let q : (id_of slot).mag ≡ id.mag = eqb-true (id_of slot).mag id.mag e in
+            let h = is.mag_from in let g = is.mag_to in
+            ap (seen_by i) (new_here (id.mag - 1) (omega arith) (omega arith))
+            ∙ ap (λ b. Some (record { slot = j; mine = b; tainted = false })) (finds i id at)
+            ∙ cond_both ((id_of slot).mag == id.mag) _ _
+            (λ x. Some (record { slot = j; mine = same_id id (id_of slot); tainted = false }) ≡ x) (λ _. refl)
+            (λ f. absurd (both_ways _ f e))
+        | inr e ↦
+            let h = is.mag_from in let g = is.mag_to in
+            let d : (id.mag - 1 ≡ mag - 1 → ⊥) = λ p. both_ways _ e (eq-eqb (id_of slot).mag id.mag (omega arith)) in
+            ap (seen_by i) (new_other (id.mag - 1) (omega arith) d) ∙ seen_taint i (c11 (control_of slot)) (get_or old (id.mag - 1) None)
+            ∙ ap (λ b. tainted_by (not b && c11 (control_of slot)) (owner_for old i id)) (sym e)
+            ∙ cond_both ((id_of slot).mag == id.mag) _ _
+            (λ x. tainted_by (not ((id_of slot).mag == id.mag) && c11 (control_of slot)) (owner_for old i id) ≡ x)
+            (λ f. absurd (both_ways _ e f)) (λ _. refl)
+      ])
 
   foreign_taint : (i : ℕ) (b : Bool) (o : Option Owner) → IsForeign i o → IsForeign i (taint b o)
   foreign_taint i b None f = f
   foreign_taint i b (Some o) f = f
 
   other_mag : (a b : Id) → (a.mag ≡ b.mag → ⊥) → same_id a b ≡ false
-  other_mag a b d = elim (cases_Bool (same_id a b)) as (λ _. same_id a b ≡ false) [ inl e ↦ absurd (d (eqb-true a.mag b.mag ((and_parts _ _ (and_parts _ _ e).0).0))) | inr e ↦ e ]
+  other_mag a b d = elim (cases_Bool (same_id a b)) as
+      (λ _. same_id a b ≡ false) [ inl e ↦ absurd (d (eqb-true a.mag b.mag ((and_parts _ _ (and_parts _ _ e).0).0))) | inr e ↦ e ]
 
   pub apart_comes : AreApart ids old → AreApart ids new
   apart_comes a m i id lt at d = elim (cases_Bool (m == mag - 1)) as (λ _. IsForeign i (get_or new m None)) [
     | inl e ↦ let q : m ≡ mag - 1 = eqb-true m (mag - 1) e in
         subst (IsForeign i) (sym (new_here m lt q)) (finds i id at ∙ other_mag id (id_of slot) (λ p. d (omega arith)))
-    | inr e ↦ subst (IsForeign i) (sym (new_other m lt (λ q. both_ways _ e (eq-eqb m (mag - 1) q)))) (foreign_taint i (c11 (control_of slot)) (get_or old m None) (a m i id lt at d))
+    | inr e ↦ subst (IsForeign i) (sym (new_other m lt (λ q. both_ways _ e (eq-eqb m (mag - 1) q))))
+        (foreign_taint i (c11 (control_of slot)) (get_or old m None) (a m i id lt at d))
   ]
 
 -- the same for a header as it is read
-module _ (slot : List ℕ) (kind : kind_of slot ≡ IsHeader (id_of slot).mag) (is : IsId (id_of slot)) (hid : Id) (same : hid ≡ id_of slot) (mag : ℕ) (same_mag : mag ≡ hid.mag)
+module _ (slot : List ℕ) (kind : kind_of slot ≡ IsHeader (id_of slot).mag) (is : IsId (id_of slot)) (hid : Id) (same : hid ≡ id_of slot)
+    (mag : ℕ) (same_mag : mag ≡ hid.mag)
     (ends : Bool) (same_ends : ends ≡ c11 (control_of slot)) (j : ℤ) (page : Option ℕ) (old new : List (Option Owner))
-    (noted : (m : ℕ) → m < 8 → get_or new m None ≡ (if m == mag - 1 then Some (record { slot = j; page = page; tainted = false }) else taint ends (get_or old m None)))
+    (noted : (m : ℕ) → m < 8 → get_or new m None
+    ≡ (if m == mag - 1 then Some (record { slot = j; page = page; tainted = false }) else taint ends (get_or old m None)))
     (ids : List Id) (finds : Finds ids hid page) where
-  as_noted : (m : ℕ) → m < 8 → get_or new m None ≡ (if m == (id_of slot).mag - 1 then Some (record { slot = j; page = page; tainted = false }) else taint (c11 (control_of slot)) (get_or old m None))
+  as_noted : (m : ℕ) → m < 8 → get_or new m None
+      ≡ (if m == (id_of slot).mag - 1 then Some (record { slot = j; page = page; tainted = false })
+      else taint (c11 (control_of slot)) (get_or old m None))
   as_noted m lt = noted m lt
-      ∙ ap (λ x. if m == x - 1 then Some (record { slot = j; page = page; tainted = false }) else taint ends (get_or old m None)) (same_mag ∙ ap (λ x. x.mag) same)
-      ∙ ap (λ x. if m == (id_of slot).mag - 1 then Some (record { slot = j; page = page; tainted = false }) else taint x (get_or old m None)) same_ends
+      ∙ ap (λ x. if m == x - 1 then Some (record { slot = j; page = page; tainted = false }) else taint ends (get_or old m None))
+      (same_mag ∙ ap (λ x. x.mag) same)
+      ∙ ap (λ x. if m == (id_of slot).mag - 1 then Some (record { slot = j; page = page; tainted = false })
+      else taint x (get_or old m None)) same_ends
 
   as_found : Finds ids (id_of slot) page
   as_found = subst (λ x. Finds ids x page) same finds
 
-  pub header_noted : (i : ℕ) (id : Id) → slice_get ids i ≡ Some id → IsId id → owner_for new i id ≡ owner_after id j (packet_of slot) (owner_for old i id)
+  pub header_noted : (i : ℕ) (id : Id) → slice_get ids i ≡ Some id → IsId id → owner_for new i id
+      ≡ owner_after id j (packet_of slot) (owner_for old i id)
   header_noted = owner_comes slot (id_of slot).mag kind refl is.mag_from is.mag_to j page old new as_noted ids as_found
 
   pub header_apart : AreApart ids old → AreApart ids new

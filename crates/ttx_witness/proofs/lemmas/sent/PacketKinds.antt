@@ -84,14 +84,17 @@ no_links mag Info n = refl
 no_links mag Other n = refl
 
 -- what is read of a header is what its packet says
-pub header_told : (slot : List ℕ) → IsSlot slot → HeadersHaveFields → HeadersAreHeaders → (o : Option HeaderFields) → SomeIff o (is_header slot ≡ true) (header_fields_of slot) →
+pub header_told : (slot : List ℕ) → IsSlot slot → HeadersHaveFields → HeadersAreHeaders → (o : Option HeaderFields) →
+    SomeIff o (is_header slot ≡ true) (header_fields_of slot) →
     MatchOption o (HoldsNoHeader (packet_of slot)) (λ h. HoldsHeader h (packet_of slot))
 header_told slot is fields headers None none = holds_none slot (kind_of slot) (no_header slot (λ mag e. none (fields slot mag is e).header)) refl
 header_told slot is fields headers (Some h) told =
-    subst (λ x. HoldsHeader x (packet_of slot)) (sym told.1) (record { text = drop 10 slot; is = packet_is slot (IsHeader (id_of slot).mag) (headers slot is told.0); same = refl })
+    subst (λ x. HoldsHeader x (packet_of slot)) (sym told.1)
+    (record { text = drop 10 slot; is = packet_is slot (IsHeader (id_of slot).mag) (headers slot is told.0); same = refl })
 
 -- a row is right where its text is
-pub row_right : (p : Page) (r mag number : ℕ) (text : List ℕ) (packet : Packet) → packet ≡ Row mag number text → RowIsRight p r packet ↔ (text ≡ map odd_byte (page_row p r))
+pub row_right : (p : Page) (r mag number : ℕ) (text : List ℕ) (packet : Packet) → packet ≡ Row mag number text → RowIsRight p r packet
+    ↔ (text ≡ map odd_byte (page_row p r))
 row_right p r mag number text packet e =
     subst (λ x. RowIsRight p r x ↔ (text ≡ map odd_byte (page_row p r))) (sym e) ((λ h. h), (λ h. h))
 

@@ -27,7 +27,8 @@ key_one a b ia ib e =
 pub same_one : (a b : Id) → same_id a b ≡ true → a ≡ b
 same_one a b e =
     let l = (and_parts _ _ e).0 in
-    id_same a b (eqb-true _ _ ((and_parts _ _ l).0)) (eqb-true _ _ ((and_parts (a.mag == b.mag) _ l).1)) (eqb-true _ _ ((and_parts ((a.mag == b.mag) && (a.page == b.page)) _ e).1))
+    id_same a b (eqb-true _ _ ((and_parts _ _ l).0)) (eqb-true _ _ ((and_parts (a.mag == b.mag) _ l).1))
+    (eqb-true _ _ ((and_parts ((a.mag == b.mag) && (a.page == b.page)) _ e).1))
 
 pub same_self : (a : Id) → same_id a a ≡ true
 same_self a = and_from _ _ (and_from _ _ (eq-eqb a.mag a.mag refl) (eq-eqb a.page a.page refl)) (eq-eqb a.sub a.sub refl)
@@ -35,7 +36,8 @@ same_self a = and_from _ _ (and_from _ _ (eq-eqb a.mag a.mag refl) (eq-eqb a.pag
 key_below : (id : Id) → IsId id → key_of id < 37748736
 key_below id is = let m = is.mag_to in let p = is.page in let s = is.sub.top in omega arith
 
-keys_below : (ids : List Id) → ((i : ℕ) (id : Id) → slice_get ids i ≡ Some id → IsId id) → (q : ℕ) → list_any (eqb q) (map key_of ids) ≡ true → q < 37748736
+keys_below : (ids : List Id) → ((i : ℕ) (id : Id) → slice_get ids i ≡ Some id → IsId id) → (q : ℕ) → list_any (eqb q) (map key_of ids)
+    ≡ true → q < 37748736
 keys_below [] are q e = absurd (let h : false ≡ true = e in cc)
 keys_below (id ∷ ids) are q e = elim (cases_Bool (eqb q (key_of id))) as (λ _. q < 37748736) [
   | inl h ↦ subst (λ x. x < 37748736) (sym (eqb-true q (key_of id) h)) (key_below id (are zero id refl))
@@ -76,7 +78,8 @@ module _ (ids : List Id) (are : (i : ℕ) (id : Id) → slice_get ids i ≡ Some
   pub few_ids : length ids < 2 ^ 32
   few_ids =
       let l = length-map ids key_of in
-      let n = length-le_from_distinct_below (map key_of ids) 37748736 (IsDistinct-from_AllPairs Decides-eqb (map key_of ids) keys_apart) (keys_below ids are) in
+      let n = length-le_from_distinct_below (map key_of ids) 37748736 (IsDistinct-from_AllPairs Decides-eqb (map key_of ids) keys_apart)
+      (keys_below ids are) in
       omega arith
 
   pub one_indexed : (n : ℕ) (own : Id) (at new : ℕ → Option ℕ) → slice_get ids n ≡ Some own →
@@ -129,8 +132,10 @@ ids_are rules (p ∷ pages) zero id e = subst IsId (let h : (page_of p).id ≡ i
 ids_are rules (p ∷ pages) (suc i) id e = ids_are rules pages i id e
 ids_are rules [] i id e = let h : None ≡ Some id = e in cc
 
-pub id_at : (pages : List PageValue) (i : ℕ) (p : PageValue) → i < length pages → p ≡ get_or pages i p → slice_get (ids_of pages) i ≡ Some (page_of p).id
-id_at pages i p lt e = slice_get-map (λ q. (page_of q).id) pages i ∙ ap (option_map (λ q. (page_of q).id)) (slice_get_read pages (length pages) i p refl lt e)
+pub id_at : (pages : List PageValue) (i : ℕ) (p : PageValue) → i < length pages → p ≡ get_or pages i p → slice_get (ids_of pages) i
+    ≡ Some (page_of p).id
+id_at pages i p lt e = slice_get-map (λ q. (page_of q).id) pages i
+    ∙ ap (option_map (λ q. (page_of q).id)) (slice_get_read pages (length pages) i p refl lt e)
 
 -- the id of the page in the same place
 pub id_of_page : (pages : List PageValue) (i : ℕ) (p : Page) → slice_get (map page_of pages) i ≡ Some p → slice_get (ids_of pages) i ≡ Some p.id

@@ -50,39 +50,60 @@ module _ (s : Stream) (n : ℕ) (period : (i : ℤ) → s (i +ℤ pos n) ≡ s i
   latest_later mag h j a = record {
     earlier = let e = a.earlier in omega (arith, ints);
     is_header = ap (λ x. heads mag (packet_of x)) (period h) ∙ a.is_header;
-    none_between = λ i low high. ap (λ x. heads mag (packet_of x)) (sym (back i)) ∙ a.none_between (i -ℤ pos n) (omega (arith, ints)) (omega (arith, ints));
+    none_between = λ i low high. ap (λ x. heads mag (packet_of x)) (sym (back i))
+        ∙ a.none_between (i -ℤ pos n) (omega (arith, ints)) (omega (arith, ints));
   }
 
   pub latest_earlier : (mag : ℕ) (h j : ℤ) → IsLatestHeader s mag h j → IsLatestHeader s mag (h -ℤ pos n) (j -ℤ pos n)
   latest_earlier mag h j a = record {
     earlier = let e = a.earlier in omega (arith, ints);
     is_header = ap (λ x. heads mag (packet_of x)) (back h) ∙ a.is_header;
-    none_between = λ i low high. ap (λ x. heads mag (packet_of x)) (sym (period i)) ∙ a.none_between (i +ℤ pos n) (omega (arith, ints)) (omega (arith, ints));
+    none_between = λ i low high. ap (λ x. heads mag (packet_of x)) (sym (period i))
+        ∙ a.none_between (i +ℤ pos n) (omega (arith, ints)) (omega (arith, ints));
   }
 
   pub owned_later : (page : Id) (item : Item) (h j : ℤ) → IsOwned s page item h j → IsOwned s page item (h +ℤ pos n) (j +ℤ pos n)
   owned_later page TheHead h j a = (ap (λ x. x +ℤ pos n) a.0, ap (λ x. heads_page page (packet_of x)) (period j) ∙ a.1)
-  owned_later page (TheRow r) h j a =
-      (latest_later page.mag h j a.0, ap (λ x. heads_page page (packet_of x)) (period h) ∙ a.1, ap (λ x. carries page.mag (TheRow r) (packet_of x)) (period j) ∙ a.2)
-  owned_later page TheLinks h j a =
-      (latest_later page.mag h j a.0, ap (λ x. heads_page page (packet_of x)) (period h) ∙ a.1, ap (λ x. carries page.mag TheLinks (packet_of x)) (period j) ∙ a.2)
+  owned_later page (TheRow r) h j a = (
+    latest_later page.mag h j a.0,
+    ap (λ x. heads_page page (packet_of x)) (period h) ∙ a.1,
+    ap (λ x. carries page.mag (TheRow r) (packet_of x)) (period j) ∙ a.2,
+  )
+  owned_later page TheLinks h j a = (
+    latest_later page.mag h j a.0,
+    ap (λ x. heads_page page (packet_of x)) (period h) ∙ a.1,
+    ap (λ x. carries page.mag TheLinks (packet_of x)) (period j) ∙ a.2,
+  )
 
   pub owned_earlier : (page : Id) (item : Item) (h j : ℤ) → IsOwned s page item h j → IsOwned s page item (h -ℤ pos n) (j -ℤ pos n)
   owned_earlier page TheHead h j a = (ap (λ x. x -ℤ pos n) a.0, ap (λ x. heads_page page (packet_of x)) (back j) ∙ a.1)
-  owned_earlier page (TheRow r) h j a =
-      (latest_earlier page.mag h j a.0, ap (λ x. heads_page page (packet_of x)) (back h) ∙ a.1, ap (λ x. carries page.mag (TheRow r) (packet_of x)) (back j) ∙ a.2)
-  owned_earlier page TheLinks h j a =
-      (latest_earlier page.mag h j a.0, ap (λ x. heads_page page (packet_of x)) (back h) ∙ a.1, ap (λ x. carries page.mag TheLinks (packet_of x)) (back j) ∙ a.2)
+  owned_earlier page (TheRow r) h j a = (
+    latest_earlier page.mag h j a.0,
+    ap (λ x. heads_page page (packet_of x)) (back h) ∙ a.1,
+    ap (λ x. carries page.mag (TheRow r) (packet_of x)) (back j) ∙ a.2,
+  )
+  owned_earlier page TheLinks h j a = (
+    latest_earlier page.mag h j a.0,
+    ap (λ x. heads_page page (packet_of x)) (back h) ∙ a.1,
+    ap (λ x. carries page.mag TheLinks (packet_of x)) (back j) ∙ a.2,
+  )
 
   sure_row_later : (lines mag : ℕ) (h j : ℤ) → ((h +ℤ pos lines) <ℤ j) × ((i : ℤ) → h <ℤ i → i <ℤ j → ends_serial mag (packet_of (s i)) ≡ false) →
       (((h +ℤ pos n) +ℤ pos lines) <ℤ (j +ℤ pos n)) × ((i : ℤ) → (h +ℤ pos n) <ℤ i → i <ℤ (j +ℤ pos n) → ends_serial mag (packet_of (s i)) ≡ false)
-  sure_row_later lines mag h j a =
-      (let e = a.0 in omega (arith, ints), λ i low high. ap (λ x. ends_serial mag (packet_of x)) (sym (back i)) ∙ a.1 (i -ℤ pos n) (omega (arith, ints)) (omega (arith, ints)))
+  sure_row_later lines mag h j a = (
+    let e = a.0 in omega (arith, ints),
+    λ i low high. ap (λ x. ends_serial mag (packet_of x)) (sym (back i))
+        ∙ a.1 (i -ℤ pos n) (omega (arith, ints)) (omega (arith, ints)),
+  )
 
-  sure_row_earlier : (lines mag : ℕ) (h j : ℤ) → (((h +ℤ pos n) +ℤ pos lines) <ℤ (j +ℤ pos n)) × ((i : ℤ) → (h +ℤ pos n) <ℤ i → i <ℤ (j +ℤ pos n) → ends_serial mag (packet_of (s i)) ≡ false) →
+  sure_row_earlier : (lines mag : ℕ) (h j : ℤ) → (((h +ℤ pos n) +ℤ pos lines) <ℤ (j +ℤ pos n))
+      × ((i : ℤ) → (h +ℤ pos n) <ℤ i → i <ℤ (j +ℤ pos n) → ends_serial mag (packet_of (s i)) ≡ false) →
       ((h +ℤ pos lines) <ℤ j) × ((i : ℤ) → h <ℤ i → i <ℤ j → ends_serial mag (packet_of (s i)) ≡ false)
-  sure_row_earlier lines mag h j a =
-      (let e = a.0 in omega (arith, ints), λ i low high. ap (λ x. ends_serial mag (packet_of x)) (sym (period i)) ∙ a.1 (i +ℤ pos n) (omega (arith, ints)) (omega (arith, ints)))
+  sure_row_earlier lines mag h j a = (
+    let e = a.0 in omega (arith, ints),
+    λ i low high. ap (λ x. ends_serial mag (packet_of x)) (sym (period i))
+        ∙ a.1 (i +ℤ pos n) (omega (arith, ints)) (omega (arith, ints)),
+  )
 
   pub sure_later : (lines mag : ℕ) (item : Item) (h j : ℤ) → IsSure s lines mag item h j ↔ IsSure s lines mag item (h +ℤ pos n) (j +ℤ pos n)
   sure_later lines mag TheHead h j = (λ a. a, λ a. a)
@@ -113,7 +134,8 @@ module _ (s : Stream) (d : ℤ) (same : (i : ℤ) → s (i +ℤ d) ≡ s i) wher
   latest_moved mag h j a = record {
     earlier = let e = a.earlier in omega (arith, ints);
     is_header = ap (λ x. heads mag (packet_of x)) (same h) ∙ a.is_header;
-    none_between = λ i low high. ap (λ x. heads mag (packet_of x)) (sym (back_d i)) ∙ a.none_between (i -ℤ d) (omega (arith, ints)) (omega (arith, ints));
+    none_between = λ i low high. ap (λ x. heads mag (packet_of x)) (sym (back_d i))
+        ∙ a.none_between (i -ℤ d) (omega (arith, ints)) (omega (arith, ints));
   }
 
 -- the transmissions of an item in a stream that repeats
@@ -130,7 +152,9 @@ repeats s n some period page lines item = record {
   sure_later = λ h j. (sure_later s n period lines page.mag item h j).0;
   sure_earlier = λ h j a.
       let e = back_z h in let f = back_z j in
-      (sure_later s n period lines page.mag item (h -ℤ pos n) (j -ℤ pos n)).1 (subst (λ x. IsSure s lines page.mag item x ((j -ℤ pos n) +ℤ pos n)) (sym e) (subst (IsSure s lines page.mag item h) (sym f) a));
+      (sure_later s n period lines page.mag item (h -ℤ pos n) (j -ℤ pos n)).1
+      (subst (λ x. IsSure s lines page.mag item x ((j -ℤ pos n) +ℤ pos n)) (sym e)
+      (subst (IsSure s lines page.mag item h) (sym f) a));
 }
   where
     back_z : (x : ℤ) → (x -ℤ pos n) +ℤ pos n ≡ x

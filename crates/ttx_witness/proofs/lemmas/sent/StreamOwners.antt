@@ -19,7 +19,10 @@ use Rattle.ttx_witness.proofs.lemmas.sent.Periods.{latest_same, latest_moved}
 use Rattle.ttx_witness.proofs.lemmas.runs.EveryPeriod.{everywhere}
 
 int_lt_is : (a b : ℤ) → (int_lt a b ≡ true) ↔ (a <ℤ b)
-int_lt_is a b = ((λ e. omega (arith, ints)), (λ lt. elim (cases_Bool (int_lt a b)) as (λ _. int_lt a b ≡ true) [ inl e ↦ e | inr e ↦ absurd (omega (arith, ints)) ]))
+int_lt_is a b = (
+  (λ e. omega (arith, ints)),
+  (λ lt. elim (cases_Bool (int_lt a b)) as (λ _. int_lt a b ≡ true) [ inl e ↦ e | inr e ↦ absurd (omega (arith, ints)) ]),
+)
 
 -- two owners have the same slot
 abbrev pub SameSlot : Option PageOwner → Option PageOwner → Type 0
@@ -54,15 +57,19 @@ module _ (page : Id) (s : Stream) where
   IsOwnerAt (Some o) j = IsOwner o j
 
   -- a slot that is no header
-  pub owner_other : (o : Option PageOwner) (j : ℤ) → heads page.mag (packet_of (s j)) ≡ false → IsOwnerAt o j → IsOwnerAt (tainted_by (ends_serial page.mag (packet_of (s j))) o) (j +ℤ pos 1)
+  pub owner_other : (o : Option PageOwner) (j : ℤ) → heads page.mag (packet_of (s j)) ≡ false → IsOwnerAt o j →
+      IsOwnerAt (tainted_by (ends_serial page.mag (packet_of (s j))) o) (j +ℤ pos 1)
   owner_other None j none a = λ i lt. elim (cases_ltz i j) as (λ _. heads page.mag (packet_of (s i)) ≡ false)
       [ inl low ↦ a i low | inr ge ↦ let e : j ≡ i = omega (arith, ints) in subst (λ x. heads page.mag (packet_of (s x)) ≡ false) e none ]
   owner_other (Some o) j none a = record {
     latest = record {
       earlier = let e = a.latest.earlier in omega (arith, ints);
       is_header = a.latest.is_header;
-      none_between = λ i low high. elim (cases_ltz i j) as (λ _. heads page.mag (packet_of (s i)) ≡ false)
-          [ inl lt ↦ a.latest.none_between i low lt | inr ge ↦ let e : j ≡ i = omega (arith, ints) in subst (λ x. heads page.mag (packet_of (s x)) ≡ false) e none ];
+      none_between = λ i low high. elim (cases_ltz i j) as (λ _. heads page.mag (packet_of (s i)) ≡ false) [
+        | inl lt ↦ a.latest.none_between i low lt
+        | inr ge ↦ let e : j ≡ i = omega (arith, ints)
+            in subst (λ x. heads page.mag (packet_of (s x)) ≡ false) e none
+      ];
     };
     mine = a.mine;
     untainted = (
@@ -83,7 +90,8 @@ module _ (page : Id) (s : Stream) where
       or_right false b h = h
 
   -- a header
-  pub owner_new : (j : ℤ) → heads page.mag (packet_of (s j)) ≡ true → IsOwner (record { slot = j; mine = heads_page page (packet_of (s j)); tainted = false }) (j +ℤ pos 1)
+  pub owner_new : (j : ℤ) → heads page.mag (packet_of (s j)) ≡ true →
+      IsOwner (record { slot = j; mine = heads_page page (packet_of (s j)); tainted = false }) (j +ℤ pos 1)
   owner_new j here = record {
     latest = record { earlier = omega (arith, ints); is_header = here; none_between = λ i low high. absurd (omega (arith, ints)) };
     mine = refl;
@@ -109,12 +117,20 @@ module _ (page : Id) (s : Stream) where
   scanned entry (suc j) =
       let e1 : pos j +ℤ pos 1 ≡ pos (suc j) = omega (arith, ints) in
       cond_both (heads page.mag (packet_of (s (pos j)))) _ _ (λ x. IsNone entry x (suc j) ⊎ IsSome x (suc j))
-      (λ e. inr (record { owner = record { slot = pos j; mine = heads_page page (packet_of (s (pos j))); tainted = false }; is = refl; right = subst (IsOwner _) e1 (owner_new (pos j) e) }))
-      (λ e. elim (scanned entry j) as (λ _. IsNone entry (tainted_by (ends_serial page.mag (packet_of (s (pos j)))) (owner_scan page s entry j)) (suc j)
+      (λ e. inr (record {
+        owner = record { slot = pos j; mine = heads_page page (packet_of (s (pos j))); tainted = false };
+        is = refl;
+        right = subst (IsOwner _) e1 (owner_new (pos j) e);
+      }))
+      (λ e. elim (scanned entry j) as
+      (λ _. IsNone entry (tainted_by (ends_serial page.mag (packet_of (s (pos j)))) (owner_scan page s entry j)) (suc j)
       ⊎ IsSome (tainted_by (ends_serial page.mag (packet_of (s (pos j)))) (owner_scan page s entry j)) (suc j)) [
         | inl n ↦ inl (record {
-          none = λ i a b. elim (cases_ltz i (pos j)) as (λ _. heads page.mag (packet_of (s i)) ≡ false)
-              [ inl lt ↦ n.none i a lt | inr ge ↦ let q : pos j ≡ i = omega (arith, ints) in subst (λ x. heads page.mag (packet_of (s x)) ≡ false) q e ];
+          none = λ i a b. elim (cases_ltz i (pos j)) as (λ _. heads page.mag (packet_of (s i)) ≡ false) [
+            | inl lt ↦ n.none i a lt
+            | inr ge ↦ let q : pos j ≡ i = omega (arith, ints)
+                in subst (λ x. heads page.mag (packet_of (s x)) ≡ false) q e
+          ];
           same = same_tainted _ entry (owner_scan page s entry j) n.same;
         })
         | inr w ↦ inr (record {
@@ -128,7 +144,9 @@ module _ (page : Id) (s : Stream) where
   pub scan_right : (entry : Option PageOwner) → IsOwnerAt entry (pos 0) → (j : ℕ) → IsOwnerAt (owner_scan page s entry j) (pos j)
   unfolding owner_scan
   scan_right entry a zero = a
-  scan_right entry a (suc j) = let e1 : pos j +ℤ pos 1 ≡ pos (suc j) = omega (arith, ints) in subst (IsOwnerAt (owner_scan page s entry (suc j))) e1 (owner_step (owner_scan page s entry j) (pos j) (scan_right entry a j))
+  scan_right entry a (suc j) = let e1 : pos j +ℤ pos 1 ≡ pos (suc j) = omega (arith, ints)
+      in subst (IsOwnerAt (owner_scan page s entry (suc j))) e1
+      (owner_step (owner_scan page s entry j) (pos j) (scan_right entry a j))
 
   module _ (n : ℕ) (some : 1 ≤ n) (period : (i : ℤ) → s (i +ℤ pos n) ≡ s i) where
     abbrev pub minus : ℤ
@@ -144,15 +162,19 @@ module _ (page : Id) (s : Stream) where
           latest = subst (IsLatestHeader s page.mag (o.slot +ℤ minus)) e0 (latest_moved s minus period_back page.mag o.slot (pos n) a.latest);
           mine = a.mine ∙ ap (λ x. heads_page page (packet_of x)) (sym (period_back o.slot));
           untainted = (
-            (λ e i low high. ap (λ x. ends_serial page.mag (packet_of x)) (sym (period i)) ∙ a.untainted.0 e (i +ℤ pos n) (omega (arith, ints)) (omega (arith, ints))),
-            (λ u. a.untainted.1 (λ i low high. ap (λ x. ends_serial page.mag (packet_of x)) (sym (period_back i)) ∙ u (i +ℤ minus) (omega (arith, ints)) (omega (arith, ints)))),
+            (λ e i low high. ap (λ x. ends_serial page.mag (packet_of x)) (sym (period i))
+                ∙ a.untainted.0 e (i +ℤ pos n) (omega (arith, ints)) (omega (arith, ints))),
+            (λ u. a.untainted.1 (λ i low high. ap (λ x. ends_serial page.mag (packet_of x)) (sym (period_back i))
+                ∙ u (i +ℤ minus) (omega (arith, ints)) (omega (arith, ints)))),
           );
         }
 
-    none_anywhere : ((i : ℤ) → pos 0 ≤ℤ i → i <ℤ pos n → heads page.mag (packet_of (s i)) ≡ false) → (i : ℤ) → heads page.mag (packet_of (s i)) ≡ false
+    none_anywhere : ((i : ℤ) → pos 0 ≤ℤ i → i <ℤ pos n → heads page.mag (packet_of (s i)) ≡ false) → (i : ℤ) →
+        heads page.mag (packet_of (s i)) ≡ false
     none_anywhere none = everywhere n some (λ i. heads page.mag (packet_of (s i)) ≡ false) none
         (λ i h. ap (λ x. heads page.mag (packet_of x)) (period i) ∙ h)
-        (λ i h. let e : i +ℤ minus ≡ i -ℤ pos n = omega (arith, ints) in ap (λ x. heads page.mag (packet_of (s x))) (sym e) ∙ ap (λ x. heads page.mag (packet_of x)) (period_back i) ∙ h)
+        (λ i h. let e : i +ℤ minus ≡ i -ℤ pos n = omega (arith, ints) in ap (λ x. heads page.mag (packet_of (s x))) (sym e)
+        ∙ ap (λ x. heads page.mag (packet_of x)) (period_back i) ∙ h)
 
     -- the owner at slot 0 is that of a scan from none, a period earlier
     pub first_entry : IsOwnerAt (owner_moved minus (owner_scan page s None n)) (pos 0)
@@ -166,7 +188,8 @@ module _ (page : Id) (s : Stream) where
         from_none (Some b) w = absurd w.same
 
   -- a sure transmission under an owner
-  sure_under : (lines : ℕ) (o : PageOwner) (j : ℤ) → IsOwner o j → (int_lt (o.slot +ℤ pos lines) j && not o.tainted ≡ true) ↔ (((o.slot +ℤ pos lines) <ℤ j) × Untainted o.slot j)
+  sure_under : (lines : ℕ) (o : PageOwner) (j : ℤ) → IsOwner o j → (int_lt (o.slot +ℤ pos lines) j && not o.tainted ≡ true)
+      ↔ (((o.slot +ℤ pos lines) <ℤ j) × Untainted o.slot j)
   sure_under lines o j a = (
     (λ e. ((int_lt_is _ _).0 ((and_parts _ _ e).0), a.untainted.0 (not-true _ ((and_parts _ _ e).1)))),
     (λ b. and_from _ _ ((int_lt_is _ _).1 b.0) (not_from_false _ (a.untainted.1 b.1))),
@@ -179,28 +202,44 @@ module _ (page : Id) (s : Stream) where
     Says j (t ∷ []) = (t.slot ≡ j) × Tells (IsOwned s page item) (IsSure s lines page.mag item) t
     Says j (t ∷ u ∷ ts) = ⊥
 
-    pub appended : (j : ℤ) (ts us : List Transmission) → pos 0 ≤ℤ j → Says j us → AreSent (IsOwned s page item) (IsSure s lines page.mag item) (pos 0) j ts → AreSent (IsOwned s page item) (IsSure s lines page.mag item) (pos 0) (j +ℤ pos 1) (ts ++ us)
+    pub appended : (j : ℤ) (ts us : List Transmission) → pos 0 ≤ℤ j → Says j us →
+        AreSent (IsOwned s page item) (IsSure s lines page.mag item) (pos 0) j ts →
+        AreSent (IsOwned s page item) (IsSure s lines page.mag item) (pos 0) (j +ℤ pos 1) (ts ++ us)
     unfolding Says
     appended j ts [] low a l =
-        subst (λ z. AreSent (IsOwned s page item) (IsSure s lines page.mag item) (pos 0) (j +ℤ pos 1) z) (sym (append-nil ts)) (lists_same slot_of (IsSentAt (IsOwned s page item)) (Tells (IsOwned s page item) (IsSure s lines page.mag item)) (told_sent (IsOwned s page item) (IsSure s lines page.mag item)) (pos 0) j ts low a l)
-    appended j ts (t ∷ []) low a l = lists_more slot_of (IsSentAt (IsOwned s page item)) (Tells (IsOwned s page item) (IsSure s lines page.mag item)) (told_sent (IsOwned s page item) (IsSure s lines page.mag item)) (pos 0) j ts t low a.0 a.1 l
+        subst (λ z. AreSent (IsOwned s page item) (IsSure s lines page.mag item) (pos 0) (j +ℤ pos 1) z) (sym (append-nil ts))
+        (lists_same slot_of (IsSentAt (IsOwned s page item)) (Tells (IsOwned s page item) (IsSure s lines page.mag item))
+        (told_sent (IsOwned s page item) (IsSure s lines page.mag item)) (pos 0) j ts low a l)
+    appended j ts (t ∷ []) low a l = lists_more slot_of (IsSentAt (IsOwned s page item))
+        (Tells (IsOwned s page item) (IsSure s lines page.mag item))
+        (told_sent (IsOwned s page item) (IsSure s lines page.mag item)) (pos 0) j ts t low a.0 a.1 l
     appended j ts (t ∷ u ∷ us) low a l = absurd a
 
   module _ (lines r : ℕ) where
-    under_row : (o : Option PageOwner) (j : ℤ) → carries page.mag (TheRow r) (packet_of (s j)) ≡ true → IsOwnerAt o j → Says lines (TheRow r) j (sent_under lines j o)
+    under_row : (o : Option PageOwner) (j : ℤ) → carries page.mag (TheRow r) (packet_of (s j)) ≡ true → IsOwnerAt o j →
+        Says lines (TheRow r) j (sent_under lines j o)
     unfolding Says
     under_row None j c a = λ t. let l = t.owned.0 in both_ways _ (a t.owner l.earlier) l.is_header
-    under_row (Some o) j c a = cond_both o.mine (record { slot = j; owner = o.slot; sure = int_lt (o.slot +ℤ pos lines) j && not o.tainted } ∷ []) [] (Says lines (TheRow r) j)
+    under_row (Some o) j c a = cond_both o.mine
+        (record { slot = j; owner = o.slot; sure = int_lt (o.slot +ℤ pos lines) j && not o.tainted } ∷ []) []
+        (Says lines (TheRow r) j)
         (λ e. (refl, record { owned = (a.latest, sym a.mine ∙ e, c); sure = sure_under lines o j a }))
-        (λ e t. both_ways _ (sym a.mine ∙ e) (subst (λ h. heads_page page (packet_of (s h)) ≡ true) (latest_same s page.mag t.owner o.slot j t.owned.0 a.latest) t.owned.1))
+        (λ e t. both_ways _ (sym a.mine ∙ e)
+        (subst (λ h. heads_page page (packet_of (s h)) ≡ true)
+        (latest_same s page.mag t.owner o.slot j t.owned.0 a.latest) t.owned.1))
 
   module _ (lines : ℕ) where
-    under_links : (o : Option PageOwner) (j : ℤ) → carries page.mag TheLinks (packet_of (s j)) ≡ true → IsOwnerAt o j → Says lines TheLinks j (sent_under lines j o)
+    under_links : (o : Option PageOwner) (j : ℤ) → carries page.mag TheLinks (packet_of (s j)) ≡ true → IsOwnerAt o j →
+        Says lines TheLinks j (sent_under lines j o)
     unfolding Says
     under_links None j c a = λ t. let l = t.owned.0 in both_ways _ (a t.owner l.earlier) l.is_header
-    under_links (Some o) j c a = cond_both o.mine (record { slot = j; owner = o.slot; sure = int_lt (o.slot +ℤ pos lines) j && not o.tainted } ∷ []) [] (Says lines TheLinks j)
+    under_links (Some o) j c a = cond_both o.mine
+        (record { slot = j; owner = o.slot; sure = int_lt (o.slot +ℤ pos lines) j && not o.tainted } ∷ []) []
+        (Says lines TheLinks j)
         (λ e. (refl, record { owned = (a.latest, sym a.mine ∙ e, c); sure = sure_under lines o j a }))
-        (λ e t. both_ways _ (sym a.mine ∙ e) (subst (λ h. heads_page page (packet_of (s h)) ≡ true) (latest_same s page.mag t.owner o.slot j t.owned.0 a.latest) t.owned.1))
+        (λ e t. both_ways _ (sym a.mine ∙ e)
+        (subst (λ h. heads_page page (packet_of (s h)) ≡ true)
+        (latest_same s page.mag t.owner o.slot j t.owned.0 a.latest) t.owned.1))
 
     pub says : (item : Item) (o : Option PageOwner) (j : ℤ) → IsOwnerAt o j → Says lines item j (sent_at page lines item j (packet_of (s j)) o)
     unfolding Says
@@ -213,11 +252,13 @@ module _ (page : Id) (s : Stream) where
         (λ e. under_links o j e a) (λ e t. both_ways _ e t.owned.2)
 
     -- the scan lists the transmissions of the first n slots
-    pub scan_told : (item : Item) (entry : Option PageOwner) → IsOwnerAt entry (pos 0) → (n : ℕ) → AreSent (IsOwned s page item) (IsSure s lines page.mag item) (pos 0) (pos n) (sent_scan page lines item s entry n)
+    pub scan_told : (item : Item) (entry : Option PageOwner) → IsOwnerAt entry (pos 0) → (n : ℕ) →
+        AreSent (IsOwned s page item) (IsSure s lines page.mag item) (pos 0) (pos n) (sent_scan page lines item s entry n)
     unfolding sent_scan
     scan_told item entry a zero = λ x low high. absurd (omega (arith, ints))
     scan_told item entry a (suc n) =
         let e1 : pos n +ℤ pos 1 ≡ pos (suc n) = omega (arith, ints) in
         subst (λ z. AreSent (IsOwned s page item) (IsSure s lines page.mag item) (pos 0) z (sent_scan page lines item s entry (suc n))) e1
-        (appended lines item (pos n) (sent_scan page lines item s entry n) (sent_at page lines item (pos n) (packet_of (s (pos n))) (owner_scan page s entry n)) (omega (arith, ints))
+        (appended lines item (pos n) (sent_scan page lines item s entry n)
+        (sent_at page lines item (pos n) (packet_of (s (pos n))) (owner_scan page s entry n)) (omega (arith, ints))
         (says item (owner_scan page s entry n) (pos n) (scan_right entry a n)) (scan_told item entry a n))

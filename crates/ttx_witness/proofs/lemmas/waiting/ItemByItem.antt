@@ -25,7 +25,8 @@ item_is (TheRow (suc r)) is = elim (cases_Bool (r == 24)) as (λ _. (if r == 24 
 ]
 item_is TheLinks is = refl
 
-seen_step : (p : Page) (n : ℕ) (item : Item) → IsItem item → item_number item ≡ n → seen_below p (n + 1) ≡ seen_below p n ++ (if needed p item then item ∷ [] else [])
+seen_step : (p : Page) (n : ℕ) (item : Item) → IsItem item → item_number item ≡ n → seen_below p (n + 1) ≡ seen_below p n
+    ++ (if needed p item then item ∷ [] else [])
 unfolding seen_below
 seen_step p n item is e =
     let next : n + 1 ≡ suc n = omega arith in
@@ -37,14 +38,17 @@ module _ (cycle : List (List ℕ)) (p : Page) (class : Class) (repeat lines : �
   unfolding seen_below
   nothing_told told e = subst (AreItemsTold cycle p class repeat lines 0) (sym e) (record { items = refl; each = tt })
 
-  module _ (n : ℕ) (item : Item) (is : IsItem item) (number : item_number item ≡ n) (told : List ItemWait) (h : AreItemsTold cycle p class repeat lines n told) where
+  module _ (n : ℕ) (item : Item) (is : IsItem item) (number : item_number item ≡ n) (told : List ItemWait)
+      (h : AreItemsTold cycle p class repeat lines n told) where
     pub item_unseen : needed p item ≡ false → AreItemsTold cycle p class repeat lines (n + 1) told
     item_unseen unseen = record {
-      items = h.items ∙ sym (append-nil (seen_below p n)) ∙ ap (λ b. seen_below p n ++ (if b then item ∷ [] else [])) (sym unseen) ∙ sym (seen_step p n item is number);
+      items = h.items ∙ sym (append-nil (seen_below p n)) ∙ ap (λ b. seen_below p n ++ (if b then item ∷ [] else [])) (sym unseen)
+          ∙ sym (seen_step p n item is number);
       each = h.each;
     }
 
-    pub item_told : (wait : OwnWait) → IsItemWait cycle p class repeat lines item wait → AreItemsTold cycle p class repeat lines (n + 1) (told ++ record { item = item; wait = wait } ∷ [])
+    pub item_told : (wait : OwnWait) → IsItemWait cycle p class repeat lines item wait →
+        AreItemsTold cycle p class repeat lines (n + 1) (told ++ record { item = item; wait = wait } ∷ [])
     item_told wait w =
         let one : ItemWait = record { item = item; wait = wait } in
         record {
@@ -62,22 +66,29 @@ pub take_next : {A : Type 0} (xs : List A) (n : ℕ) (x : A) → slice_get xs n 
 take_next xs n x e = take_one xs n x e ∙ ap (λ m. take m xs) (let s : suc n ≡ n + 1 = omega arith in s)
 
 -- the items of one more page
-pub page_told : (cycle : List (List ℕ)) (pages : List Page) (p : Page) (class : Class) (repeat lines : ℕ) (all : List (List ItemWait)) (told : List ItemWait) →
-    AreItemWaits cycle pages class repeat lines all → AreItemsTold cycle p class repeat lines 26 told → AreItemWaits cycle (pages ++ p ∷ []) class repeat lines (all ++ told ∷ [])
+pub page_told : (cycle : List (List ℕ)) (pages : List Page) (p : Page) (class : Class) (repeat lines : ℕ) (all : List (List ItemWait))
+    (told : List ItemWait) →
+    AreItemWaits cycle pages class repeat lines all → AreItemsTold cycle p class repeat lines 26 told →
+    AreItemWaits cycle (pages ++ p ∷ []) class repeat lines (all ++ told ∷ [])
 page_told cycle pages p class repeat lines all told h t = record {
   count = length-append all (told ∷ []) ∙ ap (λ n. n + 1) h.count ∙ sym (length-append pages (p ∷ []));
-  each = λ index q at. elim (cases_lt index (length pages)) as (λ _. HoldsAt (List ItemWait) (all ++ told ∷ []) index (AreItemsTold cycle q class repeat lines 26)) [
-    | inl low ↦
-        let o = h.each index q (sym (before_here pages (p ∷ []) index low) ∙ at) in
-        record { value = o.value; here = before_here all (told ∷ []) index (let c = h.count in omega arith) ∙ o.here; is = o.is }
-    | inr high ↦
-        let w = slice_get_within (pages ++ p ∷ []) index q at in
-        let l = length-append pages (p ∷ []) in
-        let end : index ≡ length pages = omega arith in
-        let last : index ≡ length all = (let c = h.count in omega arith) in
-        let same : p ≡ q = some_same (sym (last_here pages p) ∙ ap (slice_get (pages ++ p ∷ [])) (sym end) ∙ at) in
-        record { value = told; here = ap (slice_get (all ++ told ∷ [])) last ∙ last_here all told; is = subst (λ x. AreItemsTold cycle x class repeat lines 26 told) same t }
-  ];
+  each = λ index q at. elim (cases_lt index (length pages)) as
+      (λ _. HoldsAt (List ItemWait) (all ++ told ∷ []) index (AreItemsTold cycle q class repeat lines 26)) [
+        | inl low ↦
+            let o = h.each index q (sym (before_here pages (p ∷ []) index low) ∙ at) in
+            record { value = o.value; here = before_here all (told ∷ []) index (let c = h.count in omega arith) ∙ o.here; is = o.is }
+        | inr high ↦
+            let w = slice_get_within (pages ++ p ∷ []) index q at in
+            let l = length-append pages (p ∷ []) in
+            let end : index ≡ length pages = omega arith in
+            let last : index ≡ length all = (let c = h.count in omega arith) in
+            let same : p ≡ q = some_same (sym (last_here pages p) ∙ ap (slice_get (pages ++ p ∷ [])) (sym end) ∙ at) in
+            record {
+              value = told;
+              here = ap (slice_get (all ++ told ∷ [])) last ∙ last_here all told;
+              is = subst (λ x. AreItemsTold cycle x class repeat lines 26 told) same t;
+            }
+      ];
 }
   where
     some_same : {a b : Page} → Some a ≡ Some b → a ≡ b

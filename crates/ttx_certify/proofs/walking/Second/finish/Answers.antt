@@ -10,18 +10,22 @@ pub returns-in-Some : goal.returns-in-Some
 returns-in-Some c =
     let self = c.args.self in
     let ended = c.in-Some.ended in
-    let pages : ended_pages ended ≡ second_pages self = subst (λ o. IfSome o (λ e. ended_pages e ≡ second_pages self)) c.in-Some.is c.end.ensures.pages in
-    let same : ended_certificate ended ≡ second_certificate self = subst (λ o. IfSome o (λ e. ended_certificate e ≡ second_certificate self)) c.in-Some.is c.end.ensures.certificate in
+    let pages : ended_pages ended ≡ second_pages self =
+    subst (λ o. IfSome o (λ e. ended_pages e ≡ second_pages self)) c.in-Some.is c.end.ensures.pages in
+    let same : ended_certificate ended ≡ second_certificate self =
+    subst (λ o. IfSome o (λ e. ended_certificate e ≡ second_certificate self)) c.in-Some.is c.end.ensures.certificate in
     record {
       verdict = λ x y st.
           let is = subst (EndsAs x y) c.in-Some.is (c.end.ensures.ended x y st) in
           as_walked x y (second_pages self) (second_certificate self) c.judge.result
-          (subst (λ w. IsVerdict y (second_pages self) w c.judge.result) same (subst (λ ps. IsVerdict y ps (ended_certificate ended) c.judge.result) pages (c.judge.ensures y is)));
+          (subst (λ w. IsVerdict y (second_pages self) w c.judge.result) same
+          (subst (λ ps. IsVerdict y ps (ended_certificate ended) c.judge.result) pages (c.judge.ensures y is)));
       seen = λ x y st.
           let is = subst (EndsAs x y) c.in-Some.is (c.end.ensures.ended x y st) in
           subst (λ w. Means y (second_pages self) w c.judge.result) same
           (subst (λ ps. Means y ps (ended_certificate ended) c.judge.result) pages
-          (seen_by_all c.accepted_is_seen.ensures y is.cycle (ended_pages ended) (are_pages c.pages_keep_their_rules.ensures ended.pages.now) (ended_certificate ended)
+          (seen_by_all c.accepted_is_seen.ensures y is.cycle (ended_pages ended)
+          (are_pages c.pages_keep_their_rules.ensures ended.pages.now) (ended_certificate ended)
           (c.certificates_keep_their_rules.ensures ended.certificate.now).1 c.judge.result (c.judge.ensures y is)));
     }
 

@@ -23,7 +23,8 @@ returns-else-is_page_id-clause-some c = (λ e. cc, λ p. refuted (passes_from_Is
   where
     refuted : PassesAsPage c.args.id c.args.control.0 c.args.head c.args.rows → false ≡ true
     refuted t = elim c.else-is_page_id.branch as (λ _. false ≡ true) [
-      | else-is_page_id-via-then-is_page_id+then-is_page_control+then-is_head+else-are_rows w ↦ let e = w.are_rows.ensures.rows.1 t.rows in search rules
+      | else-is_page_id-via-then-is_page_id+then-is_page_control+then-is_head+else-are_rows w ↦ let e = w.are_rows.ensures.rows.1 t.rows
+          in search rules
       | else-is_page_id-via-then-is_page_id+then-is_page_control+else-is_head w ↦ let e = w.is_head.ensures.codes.1 t.head in search rules
       | else-is_page_id-via-then-is_page_id+else-is_page_control w ↦ let e = w.is_page_control.ensures.1 t.control in search rules
       | else-is_page_id-via-else-is_page_id w ↦ let e = c.is_page_id.ensures.not_filling.1 t.filling in search rules

@@ -26,10 +26,14 @@ loop-other-preserved c = λ n q below at. elim (cases_lt n c.loop-other.other-in
       let other = c.other-item.result in
       let here : slice_get (map page_of c.args.pages.now) c.loop-other.other-index ≡ Some (page_of other) =
       slice_get-page_of c.args.pages.now c.loop-other.other-index other (omega arith) ∙ ap (λ x. Some (page_of x)) (sym c.other-item.is) in
-      let there : slice_get (map page_of c.args.pages.now) n ≡ Some (page_of other) = subst (λ k. slice_get (map page_of c.args.pages.now) k ≡ Some (page_of other)) e here in
+      let there : slice_get (map page_of c.args.pages.now) n ≡ Some (page_of other) =
+      subst (λ k. slice_get (map page_of c.args.pages.now) k ≡ Some (page_of other)) e here in
       let same : page_of other ≡ q = cc in
       subst (λ p. is_other_subpage (page_of c.args.page.now) p ≡ false) same (sym c.is_other_subpage.ensures ∙ c.if-is_other_subpage.false)
 ]
 
 pub returns : goal.returns
-returns c = ((λ e n q at. c.loop-other.invariant n q (let inside = inside_from_slice_get c.args.pages.now n q at in omega arith) at), (λ alone. search rules))
+returns c = (
+  (λ e n q at. c.loop-other.invariant n q (let inside = inside_from_slice_get c.args.pages.now n q at in omega arith) at),
+  (λ alone. search rules),
+)

@@ -5,4 +5,5 @@ use Rattle.ttx_plan.proofs.cursors.Cursors.turn.Goals as goal
 
 pub returns-then-is_ready-clause-turn : goal.returns-then-is_ready-clause-turn
 returns-then-is_ready-clause-turn c =
-    sym (find_order (is_free c.args.queues.now c.args.self.now c.args.at) c.args.self.now.from c.loop-step.step c.loop-step-test.true c.loop-step.invariant (sym c.is_ready.ensures ∙ c.if-is_ready.true))
+    sym (find_order (is_free c.args.queues.now c.args.self.now c.args.at) c.args.self.now.from c.loop-step.step c.loop-step-test.true
+    c.loop-step.invariant (sym c.is_ready.ensures ∙ c.if-is_ready.true))

@@ -10,5 +10,8 @@ returns g c =
     let held = memory_of c.memory.result.now in
     let shows = c.contents_decide.ensures kept held (rows_alike kept held c.follow.ensures) c.follow.ensures.control c.follow.ensures.links in (
       (refl, λ _. tt, c.self.view_is),
-      record { value = c.view.ensures ∙ shows ∙ ap view_of c.memory.ensures ∙ ap (λ r. view_of (g.R.Receiver.held r)) c.self.view_is; after_borrow = tt },
+      record {
+        value = c.view.ensures ∙ shows ∙ ap view_of c.memory.ensures ∙ ap (λ r. view_of (g.R.Receiver.held r)) c.self.view_is;
+        after_borrow = tt;
+      },
     )

@@ -12,5 +12,7 @@ invariant_of-self g c =
     let bytes = c.bytes_of-bytes.result.now in
     let step = step_of (tr.kind r) (tr.field r) (tr.tuned r) held new c.args.slot bytes c.bytes_of-bytes.ensures c.step.ensures.step in
     let storing = c.storing-storing.ensures ∙ ap (λ (m : Memory). m.storing) c.memory.ensures in
-    behind_step (tr.kind r) (tr.field r) (tr.tuned r) c.self.inside.cache held new bytes c.step_touches.ensures step c.self.inside.touched c.add.new.self c.touch_of-touch.result c.selection.result c.storing-storing.result
-    c.touch_of-touch.ensures.value (c.selection.ensures ∙ c.step.ensures.selection) storing c.touch_of-touch.ensures.row c.add.ensures c.self.invariant
+    behind_step (tr.kind r) (tr.field r) (tr.tuned r) c.self.inside.cache held new bytes c.step_touches.ensures step
+    c.self.inside.touched c.add.new.self c.touch_of-touch.result c.selection.result c.storing-storing.result
+    c.touch_of-touch.ensures.value (c.selection.ensures ∙ c.step.ensures.selection) storing c.touch_of-touch.ensures.row c.add.ensures
+    c.self.invariant

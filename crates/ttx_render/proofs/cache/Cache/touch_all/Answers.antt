@@ -11,5 +11,6 @@ invariant_of-self c =
     let kept = c.loop-row.self in
     let held = memory_of c.args.memory.now in
     let like = c.loop-row.invariant in
-    let rows : kept.rows ≡ held.rows = ext_get_or [] kept.rows held.rows (like.size ∙ sym c.args.memory.now.kept.row_count) (λ k l. like.rows k (omega arith)) in
+    let rows : kept.rows ≡ held.rows = ext_get_or [] kept.rows held.rows (like.size ∙ sym c.args.memory.now.kept.row_count)
+    (λ k l. like.rows k (omega arith)) in
     self.invariant ∙ ap view_of self.view_is ∙ contents_decide_lem kept held rows like.settings.control like.settings.links

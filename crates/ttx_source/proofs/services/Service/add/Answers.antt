@@ -24,7 +24,9 @@ invariant_of-self-2 c =
     let room : is_ok c.push.result ≡ true = search rules in
     let pushed : c.push.new.self.items ≡ ps ++ c.args.page ∷ [] = c.push.ensures.items ∙ rw (room, c.reserve.ensures.items) refl in
     record {
-      same_order = rw (added, pushed) (keys_of-push es c.id.result c.args.often ∙ rw (order, key) (sym (map-append (λ p. (page_of p).id) ps (c.args.page ∷ []))));
+      same_order = rw (added, pushed)
+          (keys_of-push es c.id.result c.args.often
+          ∙ rw (order, key) (sym (map-append (λ p. (page_of p).id) ps (c.args.page ∷ []))));
       ranges =
           rw (added, pushed, authored_pages-push ps es c.args.page (c.id.result, c.args.often) same)
           (IsService-push _ (authored_at (page_of c.args.page) c.args.often) c.self.invariant.ranges
@@ -47,7 +49,8 @@ returns-clause-ok c =
     c.in-Ok.ensures.entries ∙ insert_entry-new _ c.self.inside.often c.id.result c.args.often absent in
     let room : is_ok c.push.result ≡ true = search rules in
     let pushed : c.push.new.self.items ≡ ps ++ c.args.page ∷ [] = c.push.ensures.items ∙ rw (room, c.reserve.ensures.items) refl in
-    let pages : authored_pages c.push.new.self.items c.insert.new.self.entries ≡ authored_pages ps es ++ authored_at (page_of c.args.page) c.args.often ∷ [] =
+    let pages : authored_pages c.push.new.self.items c.insert.new.self.entries ≡ authored_pages ps es
+    ++ authored_at (page_of c.args.page) c.args.often ∷ [] =
     rw (added, pushed) (authored_pages-push ps es c.args.page (c.id.result, c.args.often) same) in
     ap (service_at c.self.inside.lines c.self.inside.serial c.self.inside.info) pages
     ∙ ap (λ v. with_page v (authored_at (page_of c.args.page) c.args.often)) c.self.view_is

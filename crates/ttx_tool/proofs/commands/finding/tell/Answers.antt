@@ -16,7 +16,8 @@ returns-in-Some-clause-told c =
       fields = (c.certificates_keep_their_rules.ensures c.in-Ok.found.certificate).0;
       deadline = c.in-Ok.found.deadline;
       found = c.in-Ok.ensures;
-      told = subst (λ d. TellsFound (slots_of c.args.cycle.now) c.args.service.now w d t.file.items (string_bytes t.line) t.status) (sym c.in-Some.is) h;
+      told = subst (λ d. TellsFound (slots_of c.args.cycle.now) c.args.service.now w d t.file.items (string_bytes t.line) t.status)
+          (sym c.in-Some.is) h;
     }) c.tell_deadline.ensures.told
 
 pub returns-clause-told : goal.returns-clause-told
@@ -25,7 +26,8 @@ returns-clause-told c =
     let slots = slots_of c.args.cycle.now in
     let service = c.args.service.now in
     let is = (c.certificates_keep_their_rules.ensures c.in-Ok.found.certificate).1 in
-    let found = subst (λ d. IsFoundFor slots (pages_of service) c.args.repeat service.lines c.args.class (certificate_of c.in-Ok.found.certificate) d) c.in-None.is c.in-Ok.ensures in
+    let found = subst (λ d. IsFoundFor slots (pages_of service) c.args.repeat service.lines c.args.class
+    (certificate_of c.in-Ok.found.certificate) d) c.in-None.is c.in-Ok.ensures in
     IfOk-weaker c.tell_verdict.result _ _ (λ t h. record {
       w = w;
       fields = (c.certificates_keep_their_rules.ensures c.in-Ok.found.certificate).0;

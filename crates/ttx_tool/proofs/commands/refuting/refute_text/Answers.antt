@@ -8,6 +8,7 @@ use Rattle.ttx_tool.proofs.commands.refuting.refute_text.Goals as goal
 pub returns-in-Ok-tell-clause-bytes : goal.returns-in-Ok-tell-clause-bytes
 returns-in-Ok-tell-clause-bytes g c =
     let told = c.in-Ok-tell.told in
-    refuting_of (slots_of c.in-Ok.inputs.cycle) c.in-Ok.inputs.service (fields_of c.in-Ok.inputs.certificate) (g.A.Read.remaining (inner_of c.args.cycle.now))
+    refuting_of (slots_of c.in-Ok.inputs.cycle) c.in-Ok.inputs.service (fields_of c.in-Ok.inputs.certificate)
+    (g.A.Read.remaining (inner_of c.args.cycle.now))
     (g.B.Read.remaining (inner_of c.args.service.now)) (g.C.Read.remaining (inner_of c.args.certificate.now)) c.args.save told.file.items
     (string_bytes told.line) told.status c.in-Ok-tell.ensures.told c.in-Ok.ensures.bytes

@@ -14,8 +14,11 @@ returns c = λ pages lines all at other.
     record {
       has_header = c.has_header.ensures cycle p.id lines (slots_of-IsCycle c.args.cycle.now).some headers;
       other_subpage = other;
-      erased = tells_same cycle (WrongAt s p EraseBit) (ErasedAt s p) (erased_is s p) c.first_wrong_sent.result (c.first_wrong_sent.ensures lines headers);
-      head = tells_same cycle (WrongAt s p CheckHead) (HeadDiffersAt s p) (head_is s p) c.first_wrong_sent-2.result (c.first_wrong_sent-2.ensures lines headers);
+      erased = tells_same cycle (WrongAt s p EraseBit) (ErasedAt s p) (erased_is s p) c.first_wrong_sent.result
+          (c.first_wrong_sent.ensures lines headers);
+      head = tells_same cycle (WrongAt s p CheckHead) (HeadDiffersAt s p) (head_is s p) c.first_wrong_sent-2.result
+          (c.first_wrong_sent-2.ensures lines headers);
       row = c.first_wrong_row.ensures pages lines all at;
-      links = tells_same cycle (WrongAt s p CheckLinks) (LinksDifferAt s p) (links_are s p) c.first_wrong_sent-3.result (c.first_wrong_sent-3.ensures lines (c.sent.ensures.listed cycle pages lines p all at));
+      links = tells_same cycle (WrongAt s p CheckLinks) (LinksDifferAt s p) (links_are s p) c.first_wrong_sent-3.result
+          (c.first_wrong_sent-3.ensures lines (c.sent.ensures.listed cycle pages lines p all at));
     }

@@ -17,10 +17,13 @@ loop-number-preserved c =
     record {
       first = λ pages lines all at. subst (TellsFirst cycle (RowsWrongAt s p (n + 1))) (sym c.earlier-first.ensures)
           (earlier_is cycle (RowsWrongAt s p n) (RowWrongAt s p n) (RowsWrongAt s p (n + 1)) (rows_left s p n) (rows_right s p n) (rows_either s p n)
-          c.loop-number.first c.first_wrong_in.result (c.loop-number.invariant.first pages lines all at) (c.first_wrong_in.ensures pages lines all at));
+          c.loop-number.first c.first_wrong_in.result (c.loop-number.invariant.first pages lines all at)
+          (c.first_wrong_in.ensures pages lines all at));
     }
 
 pub returns : goal.returns
 returns c = λ pages lines all at.
     let cycle = slots_of c.args.cycle.now in let s = repeated cycle in let p = page_of c.args.page.now in
-    tells_same cycle (RowsWrongAt s p c.loop-number.number) (RowDiffersAt s p) (rows_are s p c.loop-number.number (omega (arith, c.loop-number-test.false))) c.loop-number.first (c.loop-number.invariant.first pages lines all at)
+    tells_same cycle (RowsWrongAt s p c.loop-number.number) (RowDiffersAt s p)
+    (rows_are s p c.loop-number.number (omega (arith, c.loop-number-test.false))) c.loop-number.first
+    (c.loop-number.invariant.first pages lines all at)

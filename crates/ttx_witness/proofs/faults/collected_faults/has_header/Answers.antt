@@ -5,4 +5,5 @@ use Rattle.ttx_witness.proofs.faults.collected_faults.has_header.Goals as goal
 
 pub returns : goal.returns
 returns c = λ cycle page lines some is.
-    by_length c.args.sent.now (HasHeader (repeated cycle) page) c.is_empty.result c.is_empty.ensures (headers_sent cycle some page lines c.args.sent.now is)
+    by_length c.args.sent.now (HasHeader (repeated cycle) page) c.is_empty.result c.is_empty.ensures
+    (headers_sent cycle some page lines c.args.sent.now is)

@@ -6,5 +6,6 @@ use Rattle.ttx_witness.proofs.faults.other_subpages.first_other_headers.Given as
 abbrev pub invariant-loop-j : goal.invariant-loop-j
 invariant-loop-j l = record {
   size : length l.first.items ≡ 2048;
-  told : (mag number : ℕ) → 1 ≤ mag → mag ≤ 8 → number < 256 → TellsBelow (HeadsOtherAt l.subcodes (repeated l.slots) mag number) l.j (get_or l.first.items (place mag number) None);
+  told : (mag number : ℕ) → 1 ≤ mag → mag ≤ 8 → number < 256 →
+      TellsBelow (HeadsOtherAt l.subcodes (repeated l.slots) mag number) l.j (get_or l.first.items (place mag number) None);
 }

@@ -9,17 +9,25 @@ use Rattle.ttx_witness.proofs.faults.page_faults.first_other_header.Goals as goa
 
 pub returns-then-heads_other_subpage : goal.returns-then-heads_other_subpage
 returns-then-heads_other_subpage c =
-    let here = ap (λ x. heads_other_subpage c.args.page (packet_of x)) (slot_is c.slots-slots.result.now c.loop-j.j c.loop-j-test.true) ∙ sym c.heads_other_subpage.ensures ∙ c.if-heads_other_subpage.true in
+    let here = ap (λ x. heads_other_subpage c.args.page (packet_of x)) (slot_is c.slots-slots.result.now c.loop-j.j c.loop-j-test.true)
+    ∙ sym c.heads_other_subpage.ensures ∙ c.if-heads_other_subpage.true in
     subst (λ x. IsFirstAt x (OtherHeaderAt (repeated x) c.args.page) c.loop-j.j) c.slots-slots.ensures.slots
-    (record { within = c.loop-j-test.true; here = (other_is (repeated c.slots-slots.result.now) c.args.page (pos c.loop-j.j)).0 here; none_before = c.loop-j.invariant.none })
+    (record {
+      within = c.loop-j-test.true;
+      here = (other_is (repeated c.slots-slots.result.now) c.args.page (pos c.loop-j.j)).0 here;
+      none_before = c.loop-j.invariant.none;
+    })
 
 pub loop-j-preserved : goal.loop-j-preserved
 loop-j-preserved c = record {
   none = one_more (λ i. OtherHeaderAt (repeated c.slots-slots.result.now) c.args.page (pos i)) c.loop-j.j c.loop-j.invariant.none
-      (λ h. both_ways _ c.if-heads_other_subpage.false (c.heads_other_subpage.ensures ∙ ap (λ x. heads_other_subpage c.args.page (packet_of x)) (sym (slot_is c.slots-slots.result.now c.loop-j.j c.loop-j-test.true))
+      (λ h. both_ways _ c.if-heads_other_subpage.false
+      (c.heads_other_subpage.ensures ∙ ap (λ x. heads_other_subpage c.args.page (packet_of x))
+      (sym (slot_is c.slots-slots.result.now c.loop-j.j c.loop-j-test.true))
       ∙ (other_is (repeated c.slots-slots.result.now) c.args.page (pos c.loop-j.j)).1 h));
 }
 
 pub returns : goal.returns
 returns c = subst (λ x. Never (OtherHeaderAt (repeated x) c.args.page)) c.slots-slots.ensures.slots
-    (never_other c.slots-slots.result.now c.slots-slots.ensures.cycle.some c.args.page (λ i lt. c.loop-j.invariant.none i (omega (arith, c.loop-j-test.false))))
+    (never_other c.slots-slots.result.now c.slots-slots.ensures.cycle.some c.args.page
+    (λ i lt. c.loop-j.invariant.none i (omega (arith, c.loop-j-test.false))))

@@ -22,7 +22,8 @@ returns-then-differs c =
     subst (λ x. IsFirstAt x (WrongAt (repeated x) p c.args.check.now) c.loop-j.j) c.slots-slots.ensures.slots
     (record {
       within = c.loop-j-test.true;
-      here = (wrong_is c.slots-slots.result.now c.slots-slots.ensures.cycle.some p c.args.check.now c.loop-j.j c.loop-j-test.true c.loop-j.mine c.loop-j.invariant.mine).0 (c.differs.ensures.0 c.if-differs.true);
+      here = (wrong_is c.slots-slots.result.now c.slots-slots.ensures.cycle.some p c.args.check.now c.loop-j.j c.loop-j-test.true
+          c.loop-j.mine c.loop-j.invariant.mine).0 (c.differs.ensures.0 c.if-differs.true);
       none_before = c.loop-j.invariant.none;
     })
 
@@ -37,11 +38,14 @@ loop-j-preserved c =
           ∙ ap (λ m. mine_after p.id (packet_of (repeated x (pos c.loop-j.j))) m) c.loop-j.invariant.mine
           ∙ mine_scan p.id (repeated x) (entry_owner x p.id) c.loop-j.j;
       none = one_more (λ i. WrongAt (repeated x) p c.args.check.now (pos i)) c.loop-j.j c.loop-j.invariant.none
-          (λ w. both_ways _ c.if-differs.false (c.differs.ensures.1 ((wrong_is x c.slots-slots.ensures.cycle.some p c.args.check.now c.loop-j.j c.loop-j-test.true c.loop-j.mine c.loop-j.invariant.mine).1 w)));
+          (λ w. both_ways _ c.if-differs.false
+          (c.differs.ensures.1 ((wrong_is x c.slots-slots.ensures.cycle.some p c.args.check.now c.loop-j.j c.loop-j-test.true
+          c.loop-j.mine c.loop-j.invariant.mine).1 w)));
     }
 
 pub returns : goal.returns
 returns c =
     let p = page_of c.args.page.now in
     subst (λ x. Never (WrongAt (repeated x) p c.args.check.now)) c.slots-slots.ensures.slots
-    (never_wrong c.slots-slots.result.now c.slots-slots.ensures.cycle.some p c.args.check.now (λ i lt. c.loop-j.invariant.none i (omega (arith, c.loop-j-test.false))))
+    (never_wrong c.slots-slots.result.now c.slots-slots.ensures.cycle.some p c.args.check.now
+    (λ i lt. c.loop-j.invariant.none i (omega (arith, c.loop-j-test.false))))

@@ -20,4 +20,6 @@ loop-number-preserved c =
 pub returns : goal.returns
 returns c =
     let cycle = slots_of c.args.cycle.now in let s = repeated cycle in let p = page_of c.args.page.now in
-    tells_same cycle (RowsWrongAt s p c.loop-number.number) (RowDiffersAt s p) (rows_are s p c.loop-number.number (omega (arith, c.loop-number-test.false))) c.loop-number.first c.loop-number.invariant.first
+    tells_same cycle (RowsWrongAt s p c.loop-number.number) (RowDiffersAt s p)
+    (rows_are s p c.loop-number.number (omega (arith, c.loop-number-test.false))) c.loop-number.first
+    c.loop-number.invariant.first

@@ -6,4 +6,5 @@ use Rattle.ttx_witness.proofs.lemmas.faults.FirstSlots.{RowsWrongAt}
 use Rattle.ttx_witness.proofs.faults.page_faults.first_wrong_row.Given as goal
 
 abbrev pub invariant-loop-number : goal.invariant-loop-number
-invariant-loop-number l = record { first : TellsFirst (slots_of l.cycle) (RowsWrongAt (repeated (slots_of l.cycle)) (page_of l.page) l.number) l.first }
+invariant-loop-number l = record
+    { first : TellsFirst (slots_of l.cycle) (RowsWrongAt (repeated (slots_of l.cycle)) (page_of l.page) l.number) l.first }

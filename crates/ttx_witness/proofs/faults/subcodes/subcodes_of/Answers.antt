@@ -21,8 +21,10 @@ loop-i-preserved c =
       size = c.note_page.ensures.size;
       subcodes = λ mag number low high small. subst (AreSubcodes pages (i + 1) mag number)
           (sym (c.note_page.ensures.noted mag number low high small
-          ∙ ap (λ (id : Id). if (mag == id.mag) && (number == id.page) then with_subcode (get_or old (place mag number) Unlisted) id.sub else get_or old (place mag number) Unlisted) c.id.ensures))
-          (one_page pages i mag number p (page_here c.args.pages.now i c.index-pages-i.result c.loop-i-test.true c.index-pages-i.is) (get_or old (place mag number) Unlisted) (c.loop-i.invariant.subcodes mag number low high small));
+          ∙ ap (λ (id : Id). if (mag == id.mag) && (number == id.page) then with_subcode (get_or old (place mag number) Unlisted) id.sub
+          else get_or old (place mag number) Unlisted) c.id.ensures))
+          (one_page pages i mag number p (page_here c.args.pages.now i c.index-pages-i.result c.loop-i-test.true c.index-pages-i.is)
+          (get_or old (place mag number) Unlisted) (c.loop-i.invariant.subcodes mag number low high small));
     }
 
 pub returns-clause-subcodes : goal.returns-clause-subcodes

@@ -8,5 +8,6 @@ pub returns : goal.returns
 returns c = λ others.
     let v = c.args.surveyed.now.survey.now in
     let e : c.is_none.result ≡ is_none c.fault.result = search rules in
-    let law = c.steady_has_no_fault.ensures (survey_slots v) (survey_pages v) (surveyed_page c.args.surveyed.now) c.fault.result (c.fault.ensures others) in
+    let law = c.steady_has_no_fault.ensures (survey_slots v) (survey_pages v) (surveyed_page c.args.surveyed.now) c.fault.result
+    (c.fault.ensures others) in
     ((λ t. law.0 (none_of c.fault.result (sym e ∙ t))), (λ s. e ∙ ap is_none (law.1 s)))

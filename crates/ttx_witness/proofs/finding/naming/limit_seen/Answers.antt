@@ -12,7 +12,8 @@ returns-then-is_due-clause-least c =
     let item = c.args.item.now in
     let due : is_due s.survey.now.class (surveyed_page s) item ≡ true = search rules in
     IfOk-weaker c.item_limit.result _ _ (λ least tells.
-    tells ∙ sym (cond-true (is_due s.survey.now.class (surveyed_page s) item) (surveyed_least s s.survey.now.repeat item) (surveyed_least s 1 TheHead) due)) c.item_limit.ensures.least
+    tells ∙ sym (cond-true (is_due s.survey.now.class (surveyed_page s) item) (surveyed_least s s.survey.now.repeat item)
+    (surveyed_least s 1 TheHead) due)) c.item_limit.ensures.least
 
 pub returns-else-is_due-clause-least : goal.returns-else-is_due-clause-least
 returns-else-is_due-clause-least c =
@@ -20,4 +21,5 @@ returns-else-is_due-clause-least c =
     let item = c.args.item.now in
     let due : is_due s.survey.now.class (surveyed_page s) item ≡ false = search rules in
     IfOk-weaker c.header_limit.result _ _ (λ least tells.
-    tells ∙ sym (cond-false (is_due s.survey.now.class (surveyed_page s) item) (surveyed_least s s.survey.now.repeat item) (surveyed_least s 1 TheHead) due)) c.header_limit.ensures.least
+    tells ∙ sym (cond-false (is_due s.survey.now.class (surveyed_page s) item) (surveyed_least s s.survey.now.repeat item)
+    (surveyed_least s 1 TheHead) due)) c.header_limit.ensures.least

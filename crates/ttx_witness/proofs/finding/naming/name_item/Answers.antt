@@ -7,4 +7,5 @@ pub returns-clause-entries : goal.returns-clause-entries
 returns-clause-entries c =
     let s = c.args.surveyed.now in
     subst (AddsEntry c.args.entries.now.items c.add_entry.new.entries.items (surveyed_page s).id c.args.item.now) c.in_ok-starts.ensures.starts
-    (subst (λ id. AddsEntry c.args.entries.now.items c.add_entry.new.entries.items id c.args.item.now c.in_ok-starts.field-0.starts.items) c.id.ensures c.in_ok-add_entry.ensures)
+    (subst (λ id. AddsEntry c.args.entries.now.items c.add_entry.new.entries.items id c.args.item.now
+    c.in_ok-starts.field-0.starts.items) c.id.ensures c.in_ok-add_entry.ensures)

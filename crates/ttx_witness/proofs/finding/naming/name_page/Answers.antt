@@ -22,12 +22,15 @@ loop-number-preserved c = record {
             let new = w.name_seen.new.entries.items in
             subst (λ es. AreNamedIn v (m + 1) es.items c.if-needed.least) (sym w.entries-is)
             (subst (λ l. AreNamedIn v (m + 1) new l) (sym (w.least-is ∙ w.wider-least.ensures))
-            (one_named (survey_pages v) v.class m s.index (surveyed_page s) item s.at c.item_of-item.ensures.item here (survey_slots v) v.lines v.repeat (pages_apart v.pages.now v.distinct) old new c.loop-number.least w.in_ok-limit.limit
+            (one_named (survey_pages v) v.class m s.index (surveyed_page s) item s.at c.item_of-item.ensures.item here
+            (survey_slots v) v.lines v.repeat
+            (pages_apart v.pages.now v.distinct) old new c.loop-number.least w.in_ok-limit.limit
             (sym c.needed.ensures ∙ w.if-needed.true) w.in_ok-limit.ensures.entries w.in_ok-limit.ensures.least a))
         | else-needed w ↦
             subst (λ es. AreNamedIn v (m + 1) es.items c.if-needed.least) (sym w.entries-is)
             (subst (λ l. AreNamedIn v (m + 1) c.loop-number.entries.items l) (sym w.least-is)
-            (nothing_named (survey_pages v) v.class m s.index (surveyed_page s) item s.at c.item_of-item.ensures.item here (survey_slots v) v.lines v.repeat c.loop-number.entries.items c.loop-number.least
+            (nothing_named (survey_pages v) v.class m s.index (surveyed_page s) item s.at c.item_of-item.ensures.item here
+            (survey_slots v) v.lines v.repeat c.loop-number.entries.items c.loop-number.least
             (sym c.needed.ensures ∙ w.if-needed.false) a))
       ]);
 }
@@ -35,5 +38,6 @@ loop-number-preserved c = record {
 pub returns : goal.returns
 returns c = λ before.
     let s = c.args.surveyed.now in
-    let next : 26 * s.index + c.loop-number.number ≡ 26 * (s.index + 1) = let t = c.loop-number-test.false in let e = c.loop-number.auto in omega arith in
+    let next : 26 * s.index + c.loop-number.number ≡ 26 * (s.index + 1) = let t = c.loop-number-test.false in let e = c.loop-number.auto
+    in omega arith in
     subst (λ n. AreNamedIn s.survey.now n c.loop-number.entries.items c.loop-number.least) next (c.loop-number.invariant.named before)

@@ -12,7 +12,8 @@ returns-then-not-is_due-clause-least c =
     let item = c.args.item.now in
     let due : is_due s.survey.now.class (surveyed_page s) item ≡ false = search rules in
     IfOk-weaker c.header_limit.result _ _ (λ least tells.
-    tells ∙ sym (cond-false (is_due s.survey.now.class (surveyed_page s) item) (surveyed_least s s.survey.now.repeat item) (surveyed_least s 1 TheHead) due)) c.header_limit.ensures.least
+    tells ∙ sym (cond-false (is_due s.survey.now.class (surveyed_page s) item) (surveyed_least s s.survey.now.repeat item)
+    (surveyed_least s 1 TheHead) due)) c.header_limit.ensures.least
 
 pub returns-clause-entries : goal.returns-clause-entries
 returns-clause-entries c =
@@ -21,7 +22,8 @@ returns-clause-entries c =
     let due : is_due s.survey.now.class (surveyed_page s) item ≡ true = search rules in
     on_ok_weaker c.name_item.result (λ tells.
     subst (AddsEntry c.args.entries.now.items c.name_item.new.entries.items (surveyed_page s).id item)
-    (sym (cond-true (is_due s.survey.now.class (surveyed_page s) item) (surveyed_starts s s.survey.now.repeat item) [] due)) tells) c.name_item.ensures.entries
+    (sym (cond-true (is_due s.survey.now.class (surveyed_page s) item) (surveyed_starts s s.survey.now.repeat item) [] due)) tells)
+    c.name_item.ensures.entries
 
 pub returns-clause-least : goal.returns-clause-least
 returns-clause-least c =
@@ -29,4 +31,5 @@ returns-clause-least c =
     let item = c.args.item.now in
     let due : is_due s.survey.now.class (surveyed_page s) item ≡ true = search rules in
     IfOk-weaker c.name_item.result _ _ (λ least tells.
-    tells ∙ sym (cond-true (is_due s.survey.now.class (surveyed_page s) item) (surveyed_least s s.survey.now.repeat item) (surveyed_least s 1 TheHead) due)) c.name_item.ensures.least
+    tells ∙ sym (cond-true (is_due s.survey.now.class (surveyed_page s) item) (surveyed_least s s.survey.now.repeat item)
+    (surveyed_least s 1 TheHead) due)) c.name_item.ensures.least

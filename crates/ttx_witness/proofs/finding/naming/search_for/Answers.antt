@@ -35,14 +35,21 @@ returns-clause-spread c =
     ∙ ap (runs (length (survey_slots v)) (run_length c.args.repeat c.args.item.now - 1)) listed)) c.search_item.ensures
 
 pub returns-clause-slots : goal.returns-clause-slots
-returns-clause-slots c = IfOk-weaker c.search_item.result _ _ (λ s found. ap are_slots found.starts ∙ starts_below _ (c.run_length.result - 1) c.sent.result.now c.sent.ensures.in_order) c.search_item.ensures
+returns-clause-slots c = IfOk-weaker c.search_item.result _ _
+    (λ s found. ap are_slots found.starts ∙ starts_below _ (c.run_length.result - 1) c.sent.result.now c.sent.ensures.in_order)
+    c.search_item.ensures
 
 pub returns-clause-rising : goal.returns-clause-rising
-returns-clause-rising c = IfOk-weaker c.search_item.result _ _ (λ s found. ap rises found.starts ∙ starts_rise _ (c.run_length.result - 1) c.sent.result.now c.sent.ensures.in_order) c.search_item.ensures
+returns-clause-rising c = IfOk-weaker c.search_item.result _ _
+    (λ s found. ap rises found.starts ∙ starts_rise _ (c.run_length.result - 1) c.sent.result.now c.sent.ensures.in_order)
+    c.search_item.ensures
 
 pub returns-clause-small : goal.returns-clause-small
 returns-clause-small c =
     let i = slots_of-IsCycle c.args.surveyed.now.survey.now.cycle.now in
     let same : c.slots.result.now ≡ survey_slots c.args.surveyed.now.survey.now = search rules in
     IfOk-weaker c.search_item.result _ _ (λ s found limit is.
-    limit_most _ (c.run_length.result - 1) c.sent.result.now s.spread limit i.most (run_most c.args.repeat c.args.item.now c.run_length.result c.requires.few c.run_length.ensures) c.sent.ensures.within (found.spread ∙ ap (λ x. spread_of None (runs (length x) (c.run_length.result - 1) c.sent.result.now)) same) is) c.search_item.ensures
+    limit_most _ (c.run_length.result - 1) c.sent.result.now s.spread limit i.most
+    (run_most c.args.repeat c.args.item.now c.run_length.result c.requires.few c.run_length.ensures) c.sent.ensures.within
+    (found.spread ∙ ap (λ x. spread_of None (runs (length x) (c.run_length.result - 1) c.sent.result.now)) same) is)
+    c.search_item.ensures

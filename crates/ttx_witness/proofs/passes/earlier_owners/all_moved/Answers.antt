@@ -13,8 +13,10 @@ loop-m-preserved c =
     let size = l.invariant.size in
     record {
       size = length-set l.earlier l.m v ∙ size;
-      moved = set_below l.earlier l.m v None (λ m r. IsMoved c.args.by (get_or owners m None) r) (omega (arith, c.loop-m-test.true)) l.invariant.moved c.moved.ensures.moved;
-      foreign = λ m i lt. set_below l.earlier l.m v None (λ m r. IsForeign i (get_or owners m None) → IsForeign i r) (omega (arith, c.loop-m-test.true)) (λ n less. l.invariant.foreign n i less) (c.moved.ensures.foreign i) m lt;
+      moved = set_below l.earlier l.m v None (λ m r. IsMoved c.args.by (get_or owners m None) r)
+          (omega (arith, c.loop-m-test.true)) l.invariant.moved c.moved.ensures.moved;
+      foreign = λ m i lt. set_below l.earlier l.m v None (λ m r. IsForeign i (get_or owners m None) → IsForeign i r)
+          (omega (arith, c.loop-m-test.true)) (λ n less. l.invariant.foreign n i less) (c.moved.ensures.foreign i) m lt;
     }
 
 pub returns-clause-foreign : goal.returns-clause-foreign

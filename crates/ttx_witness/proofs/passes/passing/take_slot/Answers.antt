@@ -12,7 +12,11 @@ use Rattle.ttx_witness.proofs.passes.passing.take_slot.Goals as goal
 pub returns-clause-ready : goal.returns-clause-ready
 returns-clause-ready c = λ ready.
     let pass = c.args.pass.now in
-    record { index = ready.index; subcodes = subst (λ v. AreAllSubcodes (pass_pages pass) (length pass.pages.now) v.items) (sym c.note_other_header.ensures.subcodes) ready.subcodes }
+    record {
+      index = ready.index;
+      subcodes = subst (λ v. AreAllSubcodes (pass_pages pass) (length pass.pages.now) v.items)
+          (sym c.note_other_header.ensures.subcodes) ready.subcodes;
+    }
 
 pub returns-clause-taken : goal.returns-clause-taken
 returns-clause-taken c = λ entry y ready count seen kept.
@@ -24,19 +28,23 @@ returns-clause-taken c = λ entry y ready count seen kept.
     let room : length pass.sent.slots.items < 65536 = (let k = kept.sent.count in let f = c.requires.few in omega arith) in
     let grows = c.note.ensures.slots room in (
       record {
-        each = λ i id at is_id. owner_grown y z id (entry id) (owner_for pass.owners i id) (owner_for c.note_owner.new.owners i id) _ (search (rules, end)) (seen.each i id at is_id)
+        each = λ i id at is_id. owner_grown y z id (entry id) (owner_for pass.owners i id) (owner_for c.note_owner.new.owners i id) _
+            (search (rules, end)) (seen.each i id at is_id)
             (c.note_owner.ensures.after (ids pass) ready.index i id at is_id);
         apart = c.note_owner.ensures.apart (ids pass) ready.index seen.apart;
       },
       record {
         sent = record {
-          count = ap length grows ∙ length-append pass.sent.slots.items (c.sent_in_slot-sent.result ∷ []) ∙ ap (λ n. n + 1) kept.sent.count ∙ sym (length-append y (z ∷ []));
+          count = ap length grows ∙ length-append pass.sent.slots.items (c.sent_in_slot-sent.result ∷ [])
+              ∙ ap (λ n. n + 1) kept.sent.count ∙ sym (length-append y (z ∷ []));
           places = ap (λ v. length v.items) c.note.ensures.firsts ∙ kept.sent.places;
           unlinked = λ n. ap (λ v. get_or v.items n None) c.note.ensures.firsts ∙ kept.sent.unlinked n;
           each = λ i p item at it.
               let at_id = id_of_page pass.pages.now i p at in
-              listed_more w is p i c.sent_in_slot-sent.result y z (entry p.id) (owner_for pass.owners i p.id) _ (search (rules, end)) (seen.each i p.id at_id (ids_are c.pages_keep_their_rules.ensures pass.pages.now i p.id at_id))
-              c.lines-lines.result c.lines-lines.ensures (λ item it. c.sent_in_slot-sent.ensures.sent (ids pass) ready.index seen.apart i p.id item at_id it)
+              listed_more w is p i c.sent_in_slot-sent.result y z (entry p.id) (owner_for pass.owners i p.id) _ (search (rules, end))
+              (seen.each i p.id at_id (ids_are c.pages_keep_their_rules.ensures pass.pages.now i p.id at_id))
+              c.lines-lines.result c.lines-lines.ensures
+              (λ item it. c.sent_in_slot-sent.ensures.sent (ids pass) ready.index seen.apart i p.id item at_id it)
               item it pass.sent.slots.items c.note.new.self.slots.items grows (kept.sent.each i p item at it);
         };
         facts = λ i p at.
@@ -46,12 +54,18 @@ returns-clause-taken c = λ entry y ready count seen kept.
             record {
               value = t.value;
               here = t.here;
-              is = facts_more w is p i c.sent_in_slot-sent.result y z (entry p.id) (owner_for pass.owners i p.id) _ (search (rules, end)) (seen.each i p.id at_id (ids_are c.pages_keep_their_rules.ensures pass.pages.now i p.id at_id))
-                  c.lines-lines.result c.lines-lines.ensures (λ item it. c.sent_in_slot-sent.ensures.sent (ids pass) ready.index seen.apart i p.id item at_id it)
+              is = facts_more w is p i c.sent_in_slot-sent.result y z (entry p.id) (owner_for pass.owners i p.id) _
+                  (search (rules, end)) (seen.each i p.id at_id
+                  (ids_are c.pages_keep_their_rules.ensures pass.pages.now i p.id at_id))
+                  c.lines-lines.result c.lines-lines.ensures
+                  (λ item it. c.sent_in_slot-sent.ensures.sent (ids pass) ready.index seen.apart i p.id item at_id it)
                   c.limit-limit.result c.limit-limit.ensures pass.count end h.value t.value h.is t.is;
             };
         others = λ mag number low high small.
-            subst (λ v. TellsBelow (HeadsOtherAt v.items (repeated (y ++ z ∷ [])) mag number) (length (y ++ z ∷ [])) (get_or c.note_other_header.new.others.first.items (place mag number) None)) (sym c.note_other_header.ensures.subcodes)
-            (others_more pass.others.subcodes.items mag number y z _ _ pass.count end (c.note_other_header.ensures.noted mag number low high small) (kept.others mag number low high small));
+            subst (λ v. TellsBelow (HeadsOtherAt v.items (repeated (y ++ z ∷ [])) mag number) (length (y ++ z ∷ []))
+            (get_or c.note_other_header.new.others.first.items (place mag number) None))
+            (sym c.note_other_header.ensures.subcodes)
+            (others_more pass.others.subcodes.items mag number y z _ _ pass.count end
+            (c.note_other_header.ensures.noted mag number low high small) (kept.others mag number low high small));
       },
     )

@@ -12,7 +12,8 @@ loop-i-init c = record {
     0,
     (omega arith),
     (omega arith),
-    subst (IsNext (SendsAt c.args.sent.now.slots.items c.args.place) 0 (length c.args.sent.now.slots.items)) (sym c.first-at.ensures) (linked.first c.args.place within),
+    subst (IsNext (SendsAt c.args.sent.now.slots.items c.args.place) 0 (length c.args.sent.now.slots.items)) (sym c.first-at.ensures)
+        (linked.first c.args.place within),
     subst (λ ts. IsTrack k c.args.limit c.args.starts.now ts c.args.track.now) (sym (nothing_placed c.args.place c.args.sent.now.slots.items)) track,
   );
 }
@@ -21,7 +22,8 @@ pub returns-in_default : goal.returns-in_default
 returns-in_default c = λ k lt linked within track.
     let slots = c.args.sent.now.slots.items in
     let h = c.loop-i.invariant.held k lt linked within track in
-    let none : IsNext (SendsAt slots c.args.place) h.0 (length slots) None = subst (IsNext (SendsAt slots c.args.place) h.0 (length slots)) c.in_default.is h.3 in
+    let none : IsNext (SendsAt slots c.args.place) h.0 (length slots) None =
+    subst (IsNext (SendsAt slots c.args.place) h.0 (length slots)) c.in_default.is h.3 in
     subst (λ ts. IsTrack k c.args.limit c.args.starts.now ts c.loop-i.track) (placed_last c.args.place slots h.0 h.2 none) h.4
 
 pub loop-i-preserved : goal.loop-i-preserved
@@ -36,9 +38,12 @@ loop-i-preserved c = record {
         slot + 1,
         (let a = h.1 in let b = next.0 in omega arith),
         (let a = next.1 in omega arith),
-        subst (IsNext (SendsAt slots c.args.place) (slot + 1) (length slots)) (sym (c.next-at.ensures ∙ ap (λ n. get_or c.args.sent.now.nexts.items n None) c.from-slot.ensures))
+        subst (IsNext (SendsAt slots c.args.place) (slot + 1) (length slots))
+            (sym (c.next-at.ensures ∙ ap (λ n. get_or c.args.sent.now.nexts.items n None) c.from-slot.ensures))
             (linked.next c.args.place slot within (omega arith) next.1 next.2),
-        subst (λ ts. IsTrack k c.args.limit c.args.starts.now ts c.take_sent.new.track) (ap (λ s. placed_in c.args.place (take h.0 slots) ++ told s) sent ∙ sym (placed_next c.args.place slots h.0 slot next)) one,
+        subst (λ ts. IsTrack k c.args.limit c.args.starts.now ts c.take_sent.new.track)
+            (ap (λ s. placed_in c.args.place (take h.0 slots) ++ told s) sent
+            ∙ sym (placed_next c.args.place slots h.0 slot next)) one,
       );
 }
 

@@ -8,7 +8,8 @@ use Rattle.ttx_witness.proofs.runs.named_starts.finish.Goals as goal
 
 pub returns-then-is_empty : goal.returns-then-is_empty
 returns-then-is_empty c = λ k ts i.
-    i.progress ∙ ap (after_runs c.args.limit c.args.starts.now not_begun) (round_empty k c.args.period ts c.args.track.now.recent i.recent (eqb-true _ _ (sym c.if-is_empty.ensures)))
+    i.progress ∙ ap (after_runs c.args.limit c.args.starts.now not_begun)
+    (round_empty k c.args.period ts c.args.track.now.recent i.recent (eqb-true _ _ (sym c.if-is_empty.ensures)))
 
 pub loop-i-init : goal.loop-i-init
 loop-i-init c = record {
@@ -20,7 +21,8 @@ loop-i-init c = record {
 }
 
 pub push_further-run-requires-clause-small : goal.push_further-run-requires-clause-small
-push_further-run-requires-clause-small c = within_more ((c.loop-i.i + 1) * 65536) 524288 c.loop-i.track.recent.firsts.items (omega (arith, c.loop-i-test.true, c.requires.room)) c.loop-i.invariant.small
+push_further-run-requires-clause-small c = within_more ((c.loop-i.i + 1) * 65536) 524288 c.loop-i.track.recent.firsts.items
+    (omega (arith, c.loop-i-test.true, c.requires.room)) c.loop-i.invariant.small
 
 pub loop-i-preserved : goal.loop-i-preserved
 loop-i-preserved c =

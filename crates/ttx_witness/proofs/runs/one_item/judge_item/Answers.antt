@@ -9,11 +9,13 @@ loop-i-init c = record { held = c.nothing_confirmed-track.ensures c.args.limit c
 
 pub loop-i-preserved : goal.loop-i-preserved
 loop-i-preserved c = record {
-  held = subst (λ ts. IsTrack (c.args.repeat - 1) c.args.limit c.args.starts.now ts c.note.new.track) (take_more c.args.sent.now c.loop-i.i _ c.loop-i-test.true)
+  held = subst (λ ts. IsTrack (c.args.repeat - 1) c.args.limit c.args.starts.now ts c.note.new.track)
+      (take_more c.args.sent.now c.loop-i.i _ c.loop-i-test.true)
       (c.note.ensures (c.args.repeat - 1) (take c.loop-i.i c.args.sent.now) c.loop-i.invariant.held);
 }
 
 pub returns : goal.returns
 returns c =
     c.finish.ensures (c.args.repeat - 1) c.args.sent.now
-    (subst (λ ts. IsTrack (c.args.repeat - 1) c.args.limit c.args.starts.now ts c.loop-i.track) (take_whole c.loop-i.i c.args.sent.now (omega (arith, c.loop-i-test.false))) c.loop-i.invariant.held)
+    (subst (λ ts. IsTrack (c.args.repeat - 1) c.args.limit c.args.starts.now ts c.loop-i.track)
+    (take_whole c.loop-i.i c.args.sent.now (omega (arith, c.loop-i-test.false))) c.loop-i.invariant.held)

@@ -5,7 +5,11 @@ use Rattle.ttx_witness.proofs.lemmas.runs.OneMore.{take_whole}
 use Rattle.ttx_witness.proofs.runs.one_item.search_item.Goals as goal
 
 pub loop-i-init : goal.loop-i-init
-loop-i-init c = record { held = search_begins (c.args.repeat - 1) (record { recent = c.nothing_sent.result; starts = c.new.result; spread = None }) c.nothing_sent.ensures c.new.ensures.items refl }
+loop-i-init c = record {
+  held = search_begins (c.args.repeat - 1)
+      (record { recent = c.nothing_sent.result; starts = c.new.result; spread = None }) c.nothing_sent.ensures c.new.ensures.items
+      refl;
+}
 
 pub loop-i-preserved : goal.loop-i-preserved
 loop-i-preserved c = record {
@@ -16,4 +20,5 @@ loop-i-preserved c = record {
 pub returns : goal.returns
 returns c =
     c.in_ok-finish.ensures (c.args.repeat - 1) c.args.sent.now
-    (subst (λ ts. IsSearch (c.args.repeat - 1) ts c.loop-i.search) (take_whole c.loop-i.i c.args.sent.now (omega (arith, c.loop-i-test.false))) c.loop-i.invariant.held)
+    (subst (λ ts. IsSearch (c.args.repeat - 1) ts c.loop-i.search)
+    (take_whole c.loop-i.i c.args.sent.now (omega (arith, c.loop-i-test.false))) c.loop-i.invariant.held)

@@ -8,7 +8,9 @@ use Rattle.ttx_witness.proofs.runs.sure_starts.finish.Goals as goal
 
 pub returns-then-is_empty : goal.returns-then-is_empty
 returns-then-is_empty c = λ k ts i.
-    subst (λ rs. IsFound rs c.args.search.now.starts.items c.args.search.now.spread) (round_empty k c.args.period ts c.args.search.now.recent i.recent (eqb-true _ _ (sym c.if-is_empty.ensures))) (record { starts = i.starts; spread = i.spread })
+    subst (λ rs. IsFound rs c.args.search.now.starts.items c.args.search.now.spread)
+    (round_empty k c.args.period ts c.args.search.now.recent i.recent (eqb-true _ _ (sym c.if-is_empty.ensures)))
+    (record { starts = i.starts; spread = i.spread })
 
 pub loop-i-init : goal.loop-i-init
 loop-i-init c = record {
@@ -20,7 +22,8 @@ loop-i-init c = record {
 }
 
 pub push_further-run-requires-clause-small : goal.push_further-run-requires-clause-small
-push_further-run-requires-clause-small c = within_more ((c.loop-i.i + 1) * 65536) 524288 c.loop-i.search.recent.firsts.items (omega (arith, c.loop-i-test.true, c.requires.room)) c.loop-i.invariant.small
+push_further-run-requires-clause-small c = within_more ((c.loop-i.i + 1) * 65536) 524288 c.loop-i.search.recent.firsts.items
+    (omega (arith, c.loop-i-test.true, c.requires.room)) c.loop-i.invariant.small
 
 pub loop-i-preserved : goal.loop-i-preserved
 loop-i-preserved c =
@@ -37,7 +40,9 @@ loop-i-preserved c =
           let lt : c.loop-i.i < k = let cap : c.args.search.now.recent.repeat ≡ suc k = i.recent.repeat in omega (arith, c.loop-i-test.true) in (
             r.0 ++ listed c.push_further-run.result,
             p.round k c.loop-i.i ts r.0 lt r.1,
-            found_more r.0 (listed c.push_further-run.result) c.loop-i.search.starts.items c.loop-i.search.spread c.keep_start.new.starts.items c.in_ok-search.field-0 r.2 c.in_ok-search.ensures.starts c.in_ok-search.ensures.spread,
+            found_more r.0 (listed c.push_further-run.result) c.loop-i.search.starts.items c.loop-i.search.spread
+                c.keep_start.new.starts.items c.in_ok-search.field-0 r.2 c.in_ok-search.ensures.starts
+                c.in_ok-search.ensures.spread,
           );
     }
 
@@ -45,4 +50,5 @@ pub returns : goal.returns
 returns c = λ k ts i.
     let r = c.loop-i.invariant.round k ts i in
     let le : k ≤ c.loop-i.i = let cap : c.args.search.now.recent.repeat ≡ suc k = i.recent.repeat in omega (arith, c.loop-i-test.false) in
-    subst (λ rs. IsFound rs c.loop-i.search.starts.items c.loop-i.search.spread) (round_done k c.args.period c.loop-i.i ts r.0 c.loop-i.search.recent le r.1) r.2
+    subst (λ rs. IsFound rs c.loop-i.search.starts.items c.loop-i.search.spread)
+    (round_done k c.args.period c.loop-i.i ts r.0 c.loop-i.search.recent le r.1) r.2

@@ -7,8 +7,11 @@ returns-clause-count c = turn_length c.args.period c.args.recent.now.firsts.item
 
 pub returns-clause-within : goal.returns-clause-within
 returns-clause-within c = λ bound w.
-    turn_within c.args.period bound (bound + 65536) c.args.recent.now.firsts.items c.turn-t.new.firsts.items c.turn-t.result c.requires.short refl c.turn-t.ensures w
+    turn_within c.args.period bound (bound + 65536) c.args.recent.now.firsts.items c.turn-t.new.firsts.items c.turn-t.result
+    c.requires.short refl c.turn-t.ensures w
 
 pub returns-clause-round : goal.returns-clause-round
 returns-clause-round c = λ k i ts rs lt r.
-    round_step k c.args.period i ts rs c.args.recent.now (record { repeat = c.args.recent.now.repeat; window = c.take_next.new.window; firsts = c.turn-t.new.firsts }) c.turn-t.result c.take_next.result lt r c.turn-t.ensures refl c.take_next.ensures.kept c.take_next.ensures.run
+    round_step k c.args.period i ts rs c.args.recent.now
+    (record { repeat = c.args.recent.now.repeat; window = c.take_next.new.window; firsts = c.turn-t.new.firsts })
+    c.turn-t.result c.take_next.result lt r c.turn-t.ensures refl c.take_next.ensures.kept c.take_next.ensures.run

@@ -20,12 +20,16 @@ invariant_of-result c =
     let count : 26 * length c.args.pages.now ≡ 26 * length ids = let l = length-map c.args.pages.now (λ p. (page_of p).id) in omega arith in
     let lists = c.in_ok-fill_lists.ensures ids c.in_ok-index.ensures (c.in_ok-lists.ensures.count ∙ count) in
     record {
-      within = all_within ids are (slots_of c.args.before.now) (slots_of-IsCycle c.args.before.now) (slots_of c.args.cycle.now) (slots_of-IsCycle c.args.cycle.now) c.args.lines c.fill_lists.new.lists.items lists;
-      in_order = all_in_order ids are (slots_of c.args.before.now) (slots_of-IsCycle c.args.before.now) (slots_of c.args.cycle.now) (slots_of-IsCycle c.args.cycle.now) c.args.lines c.fill_lists.new.lists.items lists;
+      within = all_within ids are (slots_of c.args.before.now) (slots_of-IsCycle c.args.before.now) (slots_of c.args.cycle.now)
+          (slots_of-IsCycle c.args.cycle.now) c.args.lines c.fill_lists.new.lists.items lists;
+      in_order = all_in_order ids are (slots_of c.args.before.now) (slots_of-IsCycle c.args.before.now) (slots_of c.args.cycle.now)
+          (slots_of-IsCycle c.args.cycle.now) c.args.lines c.fill_lists.new.lists.items lists;
     }
 
 pub returns : goal.returns
 returns c =
     let ids = ids_of c.args.pages.now in
     let count : 26 * length c.args.pages.now ≡ 26 * length ids = let l = length-map c.args.pages.now (λ p. (page_of p).id) in omega arith in
-    all_sent c.args.pages.now (ids_are c.pages_keep_their_rules.ensures c.args.pages.now) (slots_of c.args.before.now) (slots_of c.args.cycle.now) c.args.lines _ (c.in_ok-fill_lists.ensures ids c.in_ok-index.ensures (c.in_ok-lists.ensures.count ∙ count))
+    all_sent c.args.pages.now (ids_are c.pages_keep_their_rules.ensures c.args.pages.now) (slots_of c.args.before.now)
+    (slots_of c.args.cycle.now) c.args.lines _
+    (c.in_ok-fill_lists.ensures ids c.in_ok-index.ensures (c.in_ok-lists.ensures.count ∙ count))

@@ -8,5 +8,6 @@ loop-i-preserved c =
     let e : c.push.new.self.items ≡ c.loop-i.lists.items ++ c.new.result ∷ [] = search rules in
     record {
       count = ap length e ∙ (let l = length-append c.loop-i.lists.items (c.new.result ∷ []) in let k = c.loop-i.invariant.count in omega arith);
-      empty = subst (λ vs. (n : ℕ) → held vs n ≡ []) (sym e) (held_push c.loop-i.lists.items c.new.result c.new.ensures.items c.loop-i.invariant.empty);
+      empty = subst (λ vs. (n : ℕ) → held vs n ≡ []) (sym e)
+          (held_push c.loop-i.lists.items c.new.result c.new.ensures.items c.loop-i.invariant.empty);
     }

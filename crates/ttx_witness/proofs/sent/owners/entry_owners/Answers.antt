@@ -7,7 +7,8 @@ use Rattle.ttx_witness.proofs.sent.owners.entry_owners.Goals as goal
 
 pub loop-j-init : goal.loop-j-init
 loop-j-init c = record {
-  owners = λ ids index i id at is. ap (seen_by i) (none_at (id.mag - 1)) ∙ scan_none (pos 0 -ℤ pos (length c.slots-slots.result.now)) id (repeated c.slots-slots.result.now);
+  owners = λ ids index i id at is. ap (seen_by i) (none_at (id.mag - 1))
+      ∙ scan_none (pos 0 -ℤ pos (length c.slots-slots.result.now)) id (repeated c.slots-slots.result.now);
   apart = λ ids index m i id lt at d. subst (IsForeign i) (sym (none_at m)) tt;
 }
 
@@ -17,7 +18,8 @@ loop-j-preserved c =
     record {
       owners = λ ids index i id at is.
           scan_moved (pos 0 -ℤ pos (length slots)) id (repeated slots) c.loop-j.j _ _ _ _ (search rules)
-          (slot_here slots c.loop-j.j _ c.loop-j-test.true) (c.note_owner.ensures.after ids index i id at is) (c.loop-j.invariant.owners ids index i id at is);
+          (slot_here slots c.loop-j.j _ c.loop-j-test.true) (c.note_owner.ensures.after ids index i id at is)
+          (c.loop-j.invariant.owners ids index i id at is);
       apart = λ ids index. c.note_owner.ensures.apart ids index (c.loop-j.invariant.apart ids index);
     }
 

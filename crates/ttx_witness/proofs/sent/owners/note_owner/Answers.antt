@@ -16,16 +16,28 @@ pub returns-in-Some-clause-after : goal.returns-in-Some-clause-after
 returns-in-Some-clause-after c = λ ids index.
     let h = c.in-Some.ensures in
     let kind = c.headers_are_headers.ensures c.args.slot.now c.requires h.0 in
-    header_noted c.args.slot.now kind (c.headers_have_fields.ensures c.args.slot.now _ c.requires kind).id c.id-id.result (c.id-id.ensures.value ∙ ap (λ x. x.id) h.1) c.from.result (c.from.ensures ∙ c.mag.ensures.value)
-    c.is_serial.result (c.is_serial.ensures ∙ ap c11 (c.control.ensures ∙ ap (λ x. x.control) h.1)) c.args.j c.place_of-page.result c.args.owners.now c.note_header.new.owners (noted c.from.result c.is_serial.result c.args.owners.now c.note_header.new.owners _ (record { slot = c.args.j; page = c.place_of-page.result; tainted = false }) c.note_header.ensures (c.owner_at.ensures ∙ ap (λ z. record { slot = z; page = c.place_of-page.result; tainted = false }) (to_z-of_z w32 c.args.j c.ranges.j)))
+    header_noted c.args.slot.now kind (c.headers_have_fields.ensures c.args.slot.now _ c.requires kind).id c.id-id.result
+    (c.id-id.ensures.value ∙ ap (λ x. x.id) h.1) c.from.result (c.from.ensures ∙ c.mag.ensures.value)
+    c.is_serial.result (c.is_serial.ensures ∙ ap c11 (c.control.ensures ∙ ap (λ x. x.control) h.1)) c.args.j c.place_of-page.result
+    c.args.owners.now c.note_header.new.owners
+    (noted c.from.result c.is_serial.result c.args.owners.now c.note_header.new.owners _
+    (record { slot = c.args.j; page = c.place_of-page.result; tainted = false }) c.note_header.ensures
+    (c.owner_at.ensures ∙ ap (λ z. record { slot = z; page = c.place_of-page.result; tainted = false })
+    (to_z-of_z w32 c.args.j c.ranges.j)))
     ids (c.place_of-page.ensures ids index)
 
 pub returns-in-Some-clause-apart : goal.returns-in-Some-clause-apart
 returns-in-Some-clause-apart c = λ ids index.
     let h = c.in-Some.ensures in
     let kind = c.headers_are_headers.ensures c.args.slot.now c.requires h.0 in
-    header_apart c.args.slot.now kind (c.headers_have_fields.ensures c.args.slot.now _ c.requires kind).id c.id-id.result (c.id-id.ensures.value ∙ ap (λ x. x.id) h.1) c.from.result (c.from.ensures ∙ c.mag.ensures.value)
-    c.is_serial.result (c.is_serial.ensures ∙ ap c11 (c.control.ensures ∙ ap (λ x. x.control) h.1)) c.args.j c.place_of-page.result c.args.owners.now c.note_header.new.owners (noted c.from.result c.is_serial.result c.args.owners.now c.note_header.new.owners _ (record { slot = c.args.j; page = c.place_of-page.result; tainted = false }) c.note_header.ensures (c.owner_at.ensures ∙ ap (λ z. record { slot = z; page = c.place_of-page.result; tainted = false }) (to_z-of_z w32 c.args.j c.ranges.j)))
+    header_apart c.args.slot.now kind (c.headers_have_fields.ensures c.args.slot.now _ c.requires kind).id c.id-id.result
+    (c.id-id.ensures.value ∙ ap (λ x. x.id) h.1) c.from.result (c.from.ensures ∙ c.mag.ensures.value)
+    c.is_serial.result (c.is_serial.ensures ∙ ap c11 (c.control.ensures ∙ ap (λ x. x.control) h.1)) c.args.j c.place_of-page.result
+    c.args.owners.now c.note_header.new.owners
+    (noted c.from.result c.is_serial.result c.args.owners.now c.note_header.new.owners _
+    (record { slot = c.args.j; page = c.place_of-page.result; tainted = false }) c.note_header.ensures
+    (c.owner_at.ensures ∙ ap (λ z. record { slot = z; page = c.place_of-page.result; tainted = false })
+    (to_z-of_z w32 c.args.j c.ranges.j)))
     ids (c.place_of-page.ensures ids index)
 
 pub returns-in_default-clause-after : goal.returns-in_default-clause-after

@@ -19,7 +19,8 @@ loop-i-preserved c =
     let p = c.index-pages-i.result in
     let e : c.key.result ≡ key_of (page_of p).id = c.key.ensures ∙ ap key_of c.id.ensures in
     record {
-      indexed = one_indexed (ids_of pages) (ids_are c.pages_keep_their_rules.ensures pages) c.requires.distinct c.loop-i.i (page_of p).id (get nat_eq c.loop-i.by_key) (get nat_eq c.insert.new.by_key)
+      indexed = one_indexed (ids_of pages) (ids_are c.pages_keep_their_rules.ensures pages) c.requires.distinct c.loop-i.i
+          (page_of p).id (get nat_eq c.loop-i.by_key) (get nat_eq c.insert.new.by_key)
           (id_at pages c.loop-i.i p (omega arith) c.index-pages-i.is)
           (λ q. c.in_ok-insert.ensures q ∙ ap (λ k. if k == q then Some c.loop-i.i else get nat_eq c.loop-i.by_key q) e)
           c.loop-i.invariant.indexed;

@@ -16,9 +16,11 @@ loop-index-preserved c =
     let told = c.in_ok-told.told in
     let pushed : c.push.new.self.items ≡ c.loop-index.all.items ++ told ∷ [] = search rules in
     record {
-      told = subst (λ xs. AreItemWaits (survey_slots v) xs v.class v.repeat v.lines (map (λ told. told.items) c.push.new.self.items)) (take_next (survey_pages v) index (surveyed_page s) at)
+      told = subst (λ xs. AreItemWaits (survey_slots v) xs v.class v.repeat v.lines (map (λ told. told.items) c.push.new.self.items))
+          (take_next (survey_pages v) index (surveyed_page s) at)
           (subst (AreItemWaits (survey_slots v) (take index (survey_pages v) ++ surveyed_page s ∷ []) v.class v.repeat v.lines)
           (sym (ap (map (λ told. told.items)) pushed ∙ map-append (λ told. told.items) c.loop-index.all.items (told ∷ [])))
-          (page_told (survey_slots v) (take index (survey_pages v)) (surveyed_page s) v.class v.repeat v.lines (map (λ told. told.items) c.loop-index.all.items) told.items c.loop-index.invariant.told
+          (page_told (survey_slots v) (take index (survey_pages v)) (surveyed_page s) v.class v.repeat v.lines
+          (map (λ told. told.items) c.loop-index.all.items) told.items c.loop-index.invariant.told
           (items_here v index s c.surveyed_at.ensures.survey c.surveyed_at.ensures.index (surveyed_page s) at 26 told.items c.in_ok-told.ensures)));
     }

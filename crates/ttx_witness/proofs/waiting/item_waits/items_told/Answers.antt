@@ -7,7 +7,9 @@ use Rattle.ttx_witness.proofs.waiting.item_waits.items_told.Goals.{then-needed+i
 
 pub loop-number-init : goal.loop-number-init
 loop-number-init c = record {
-  told = let s = c.args.surveyed.now in let v = s.survey.now in nothing_told (survey_slots v) (surveyed_page s) v.class v.repeat v.lines c.new-told.result.items c.new-told.ensures.items;
+  told = let s = c.args.surveyed.now in let v = s.survey.now
+      in nothing_told (survey_slots v) (surveyed_page s) v.class v.repeat v.lines c.new-told.result.items
+      c.new-told.ensures.items;
 }
 
 pub loop-number-preserved : goal.loop-number-preserved
@@ -24,9 +26,11 @@ loop-number-preserved c = record {
             let wait = w.in_ok-wait.wait in
             let pushed : w.push.new.self.items ≡ old ++ record { item = item; wait = wait } ∷ [] = search rules in
             subst (AreItemsToldIn s (n + 1)) (sym (ap (λ v. v.items) w.told-is ∙ pushed))
-            (item_told (survey_slots v) (surveyed_page s) v.class v.repeat v.lines n item c.item_of-item.ensures.item c.item_of-item.ensures.number old h wait w.in_ok-wait.ensures)
+            (item_told (survey_slots v) (surveyed_page s) v.class v.repeat v.lines n item c.item_of-item.ensures.item
+            c.item_of-item.ensures.number old h wait w.in_ok-wait.ensures)
         | else-needed w ↦
             subst (λ v. AreItemsToldIn s (n + 1) v.items) (sym w.told-is)
-            (item_unseen (survey_slots v) (surveyed_page s) v.class v.repeat v.lines n item c.item_of-item.ensures.item c.item_of-item.ensures.number old h (sym c.needed.ensures ∙ w.if-needed.false))
+            (item_unseen (survey_slots v) (surveyed_page s) v.class v.repeat v.lines n item c.item_of-item.ensures.item
+            c.item_of-item.ensures.number old h (sym c.needed.ensures ∙ w.if-needed.false))
       ];
 }

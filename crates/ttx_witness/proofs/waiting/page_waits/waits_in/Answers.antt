@@ -24,6 +24,7 @@ loop-index-preserved c =
       told = λ others.
           subst (AreTold (survey_slots v) v.pages.now v.class v.repeat v.lines (index + 1)) (sym pushed)
           (one_told (survey_slots v) v.pages.now v.class v.repeat v.lines index c.loop-index.waits.items told (surveyed_page s) at c.id-page.ensures
-          (wait_here v index s c.surveyed_at-surveyed.ensures.survey c.surveyed_at-surveyed.ensures.index (surveyed_page s) at c.args.others.now c.in_ok-wait.wait c.in_ok-wait.ensures others)
+          (wait_here v index s c.surveyed_at-surveyed.ensures.survey c.surveyed_at-surveyed.ensures.index
+          (surveyed_page s) at c.args.others.now c.in_ok-wait.wait c.in_ok-wait.ensures others)
           (c.loop-index.invariant.told others));
     }

@@ -4,5 +4,6 @@ use Rattle.ttx_witness.proofs.waiting.page_waits.waits_in.Given as goal
 
 abbrev pub invariant-loop-index : goal.invariant-loop-index
 invariant-loop-index l = record {
-  told : AreOthersIn l.survey l.others → AreTold (survey_slots l.survey) l.survey.pages.now l.survey.class l.survey.repeat l.survey.lines l.index l.waits.items;
+  told : AreOthersIn l.survey l.others → AreTold (survey_slots l.survey) l.survey.pages.now l.survey.class l.survey.repeat
+      l.survey.lines l.index l.waits.items;
 }

@@ -19,7 +19,9 @@ returns c = λ n p at is.
     let table : List Subcodes = c.in_ok-subcodes.subcodes.items in
     let same : table ≡ c.deref.result.now = sym c.deref.ensures.value in
     let here : AreSubcodes pages (length pages) p.id.mag p.id.page (get_or table (place p.id.mag p.id.page) Unlisted) =
-    subst (λ k. AreAllSubcodes pages k table) (sym (length-map c.args.pages.now page_of)) c.in_ok-subcodes.ensures.subcodes p.id.mag p.id.page is.mag_from is.mag_to is.page in
+    subst (λ k. AreAllSubcodes pages k table) (sym (length-map c.args.pages.now page_of)) c.in_ok-subcodes.ensures.subcodes p.id.mag
+    p.id.page is.mag_from is.mag_to is.page in
     let there = subst (λ t. AreSubcodes pages (length pages) p.id.mag p.id.page (get_or t (place p.id.mag p.id.page) Unlisted)) same here in
-    tells_same cycle (HeadsOtherAt c.deref.result.now s p.id.mag p.id.page) (OtherSubpageAt s pages p) (other_is pages p n at (slice_get_within pages n p at) c.deref.result.now s there)
+    tells_same cycle (HeadsOtherAt c.deref.result.now s p.id.mag p.id.page) (OtherSubpageAt s pages p)
+    (other_is pages p n at (slice_get_within pages n p at) c.deref.result.now s there)
     (get_or c.in_ok-first.first.items (place p.id.mag p.id.page) None) (c.in_ok-first.ensures.first p.id.mag p.id.page is.mag_from is.mag_to is.page)

@@ -5,4 +5,5 @@ pub returns : goal.returns
 returns c = λ others.
     let s = c.args.self.now in
     let v = s.survey.now in
-    c.fault_of.ensures (survey_pages v) v.lines v.sent s.at (c.first-other_subpage.ensures (survey_slots v) (survey_pages v) s.index (surveyed_page s) others s.at c.id.ensures)
+    c.fault_of.ensures (survey_pages v) v.lines v.sent s.at
+    (c.first-other_subpage.ensures (survey_slots v) (survey_pages v) s.index (surveyed_page s) others s.at c.id.ensures)

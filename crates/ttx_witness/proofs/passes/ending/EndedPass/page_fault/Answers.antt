@@ -13,7 +13,8 @@ pub returns-in_default : goal.returns-in_default
 returns-in_default c = λ y p kept at.
     let h = kept.facts c.args.index p at in
     let e : c.as_slice.result.now ≡ c.args.self.now.facts.items = search rules in
-    absurd (nowhere (slice_get c.args.self.now.facts.items c.args.index) h.value (ap (λ l. slice_get l c.args.index) (sym e) ∙ sym c.facts_at.ensures ∙ c.in_default.is) h.here)
+    absurd (nowhere (slice_get c.args.self.now.facts.items c.args.index) h.value
+    (ap (λ l. slice_get l c.args.index) (sym e) ∙ sym c.facts_at.ensures ∙ c.in_default.is) h.here)
 
 pub returns : goal.returns
 returns c = λ y p kept at.
@@ -24,12 +25,29 @@ returns c = λ y p kept at.
     let same : page_of q ≡ p = placed _ (page_of q) p here at in
     let id : c.id-page.result ≡ p.id = c.id-page.ensures ∙ ap (λ x. x.id) (sym c.index-self-index.is) ∙ ap (λ x. x.id) same in
     let e : c.as_slice.result.now ≡ self.facts.items = search rules in
-    let fact : c.in-Some.facts ≡ h.value = placed _ c.in-Some.facts h.value (ap (λ l. slice_get l c.args.index) (sym e) ∙ sym c.facts_at.ensures ∙ c.in-Some.is) h.here in
+    let fact : c.in-Some.facts ≡ h.value = placed _ c.in-Some.facts h.value
+    (ap (λ l. slice_get l c.args.index) (sym e) ∙ sym c.facts_at.ensures ∙ c.in-Some.is) h.here in
     let at_id = id_of_page self.pages.now c.args.index p at in
-    let first = facts_first self y kept c.args.index p at (ids_are c.pages_keep_their_rules.ensures self.pages.now c.args.index p.id at_id) h.value h.is in
+    let first = facts_first self y kept c.args.index p at
+    (ids_are c.pages_keep_their_rules.ensures self.pages.now c.args.index p.id at_id) h.value h.is in
     c.least_fault.ensures y (ended_pages self) p id
     (subst (AreFirst y (ended_pages self) p)
     (sym (c.first_slots-first.ensures
-    ∙ ap (λ f. record { has_header = is_some f.heads; other_subpage = c.first_other_header_of.result; erased = f.erased; head = f.head; row = f.row; links = f.links }) fact
-    ∙ ap (λ o. record { has_header = is_some h.value.heads; other_subpage = o; erased = h.value.erased; head = h.value.head; row = h.value.row; links = h.value.links }) (c.first_other_header_of.ensures ∙ ap (λ i. get_or self.others.first.items (place i.mag i.page) None) id)))
+    ∙ ap (λ f. record {
+      has_header = is_some f.heads;
+      other_subpage = c.first_other_header_of.result;
+      erased = f.erased;
+      head = f.head;
+      row = f.row;
+      links = f.links;
+    }) fact
+    ∙ ap (λ o. record {
+      has_header = is_some h.value.heads;
+      other_subpage = o;
+      erased = h.value.erased;
+      head = h.value.head;
+      row = h.value.row;
+      links = h.value.links;
+    })
+    (c.first_other_header_of.ensures ∙ ap (λ i. get_or self.others.first.items (place i.mag i.page) None) id)))
     first)

@@ -13,7 +13,8 @@ returns-clause-stands c = λ x old.
     let entry = λ (i : ℕ) (id : Id) (at : slice_get (ids pass) i ≡ Some id) (is : IsId id).
     (let e = old.owners.each i id at is in
     let h = is.mag_from in let g = is.mag_to in
-    moved_seen i pass.count (get_or pass.owners (id.mag - 1) None) (get_or c.all_moved-entry.result (id.mag - 1) None) (omega (arith, old.few, old.count))
+    moved_seen i pass.count (get_or pass.owners (id.mag - 1) None) (get_or c.all_moved-entry.result (id.mag - 1) None)
+    (omega (arith, old.few, old.count))
     (c.all_moved-entry.ensures.moved (id.mag - 1) (omega arith)) (subst FromZero (sym e) (scan_from_zero id (repeated x) (length x)))
     ∙ ap (owner_moved (pos 0 -ℤ pos pass.count)) e ∙ ap (λ n. owner_moved (pos 0 -ℤ pos n) (owner_scan id (repeated x) None (length x))) old.count) in
     record {
@@ -25,8 +26,18 @@ returns-clause-stands c = λ x old.
         count = refl;
         owners = record { each = entry; apart = λ m i id lt at d. c.all_moved-entry.ensures.foreign m i lt (old.owners.apart m i id lt at d) };
         kept = record {
-          sent = record { count = old.nothing.sent.count; places = old.nothing.sent.places; unlinked = old.nothing.sent.unlinked; each = old.nothing.sent.each };
-          facts = λ i p at. let f = old.nothing.facts i p at in record { value = f.value; here = f.here; is = facts_none _ p (repeated []) None (entry_owner x p.id) f.value f.is };
+          sent = record {
+            count = old.nothing.sent.count;
+            places = old.nothing.sent.places;
+            unlinked = old.nothing.sent.unlinked;
+            each = old.nothing.sent.each;
+          };
+          facts = λ i p at. let f = old.nothing.facts i p at
+              in record {
+                value = f.value;
+                here = f.here;
+                is = facts_none _ p (repeated []) None (entry_owner x p.id) f.value f.is;
+              };
           others = old.nothing.others;
         };
         slots = λ k d lt. absurd (omega arith);

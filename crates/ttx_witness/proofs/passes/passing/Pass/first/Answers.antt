@@ -15,7 +15,8 @@ returns-clause-stands c = λ x old.
       count = omega (arith, old.count);
       owners = record {
         each = λ i id at is. owner_grown x z id None (owner_for pass.owners i id) (owner_for c.note_owner.new.owners i id) _
-            (let e : pass.count ≡ length x = old.count in search (rules, e)) (old.owners.each i id at is) (c.note_owner.ensures.after (ids pass) old.ready.index i id at is);
+            (let e : pass.count ≡ length x = old.count in search (rules, e)) (old.owners.each i id at is)
+            (c.note_owner.ensures.after (ids pass) old.ready.index i id at is);
         apart = c.note_owner.ensures.apart (ids pass) old.ready.index old.owners.apart;
       };
       nothing = record { sent = old.nothing.sent; facts = old.nothing.facts; others = old.nothing.others };

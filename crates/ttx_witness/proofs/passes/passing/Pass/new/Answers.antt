@@ -35,7 +35,9 @@ returns-clause-stands c =
         facts = λ i p at.
             let lt = slice_get_within (map page_of pages) i p at in
             let l = length-map pages page_of in
-            nothing_noted (certificate_of c.args.certificate.now) p (repeated []) c.in_ok-facts.facts.items (length pages) i c.in_ok-facts.ensures (omega arith);
-        others = λ mag number low high small. first_none (HeadsOtherAt c.in_ok-subcodes.subcodes.items (repeated []) mag number) c.in_ok-first.first.items c.in_ok-first.ensures (place mag number);
+            nothing_noted (certificate_of c.args.certificate.now) p (repeated []) c.in_ok-facts.facts.items
+            (length pages) i c.in_ok-facts.ensures (omega arith);
+        others = λ mag number low high small. first_none (HeadsOtherAt c.in_ok-subcodes.subcodes.items (repeated []) mag number)
+            c.in_ok-first.first.items c.in_ok-first.ensures (place mag number);
       };
     }

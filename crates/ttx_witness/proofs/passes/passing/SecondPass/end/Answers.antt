@@ -30,14 +30,16 @@ returns-then-self-clause-ended c = λ x y st e.
 pub returns-clause-ended : goal.returns-clause-ended
 returns-clause-ended c = λ x y st.
     let pass = c.args.self.pass in
-    let short : length y ≤ 65536 = elim (cases_lt 65536 (length y)) as (λ _. length y ≤ 65536) [ inl long ↦ (let o = st.over.1 long in let f = c.if-self.false in absurd cc) | inr le ↦ le ] in
+    let short : length y ≤ 65536 = elim (cases_lt 65536 (length y)) as (λ _. length y ≤ 65536)
+    [ inl long ↦ (let o = st.over.1 long in let f = c.if-self.false in absurd cc) | inr le ↦ le ] in
     let v = st.passed short in
     let some : 1 ≤ length y = (let k = v.count in let n = c.if-period-eq0.false in omega arith) in
     let steady = c.are_steady-is_steady.ensures.0 c.if-not-is_steady.false in
     let kept = kept_same pass (entry_owner x) (entry_owner y) y (λ i p at.
     let at_id = id_of_page pass.pages.now i p at in
     let is = ids_are c.pages_keep_their_rules.ensures pass.pages.now i p.id at_id in
-    own c.args.self.entry pass.owners x y i p.id (v.owners.each i p.id at_id is) (st.entry i p.id at_id is) pass.count v.count some (steady i p.id at_id)) v.kept in
+    own c.args.self.entry pass.owners x y i p.id (v.owners.each i p.id at_id is) (st.entry i p.id at_id is) pass.count v.count some
+    (steady i p.id at_id)) v.kept in
     record {
       cycle = record { some = omega arith; most = short; each = v.slots };
       bad = v.bad;

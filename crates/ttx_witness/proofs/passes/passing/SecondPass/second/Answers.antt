@@ -23,7 +23,12 @@ returns-clause-stands c = λ x y old.
       entry = λ i id at is. old.entry i id (ap (λ ids. slice_get ids i) (sym same) ∙ at) is;
       over = (
         (λ e. let o = old.over.0 e in omega arith),
-        (λ lt. old.over.1 (elim (cases_lt 65536 (length y)) as (λ _. 65536 < length y) [ inl more ↦ more | inr le ↦ let e : length y ≡ 65536 = omega arith in absurd (not_full e) ])),
+        (λ lt. old.over.1 (elim (cases_lt 65536 (length y)) as
+            (λ _. 65536 < length y) [
+              | inl more ↦ more
+              | inr le ↦ let e : length y ≡ 65536 = omega arith
+                  in absurd (not_full e)
+            ])),
       );
       passed = λ few.
           let v = old.passed (omega arith) in
@@ -34,7 +39,9 @@ returns-clause-stands c = λ x y old.
             kept = taken.1;
             slots = all_more IsSlot y z v.slots c.requires;
             bad = subst (λ n. FirstBelow (λ j. is_clean (slice_index_or (y ++ z ∷ []) j []) ≡ false) n c.first_of-self.result) (sym l)
-                (subst (FirstBelow (λ j. is_clean (slice_index_or (y ++ z ∷ []) j []) ≡ false) (suc (length y))) (sym (c.first_of-self.ensures ∙ ap (λ b. first_of second.bad (not b) second.pass.count) c.clean.ensures ∙ ap (first_of second.bad (not (is_clean z))) v.count))
+                (subst (FirstBelow (λ j. is_clean (slice_index_or (y ++ z ∷ []) j []) ≡ false) (suc (length y)))
+                (sym (c.first_of-self.ensures ∙ ap (λ b. first_of second.bad (not b) second.pass.count) c.clean.ensures
+                ∙ ap (first_of second.bad (not (is_clean z))) v.count))
                 (below_more (λ j. is_clean (slice_index_or (y ++ z ∷ []) j []) ≡ false) (length y) (not (is_clean z))
                 (let e = ap is_clean (index_last y z) in ((λ h. e ∙ not-true (is_clean z) h), (λ h. not_from_false (is_clean z) (sym e ∙ h))))
                 second.bad

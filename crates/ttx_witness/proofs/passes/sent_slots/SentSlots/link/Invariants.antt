@@ -6,5 +6,6 @@ abbrev pub invariant-loop-i : goal.invariant-loop-i
 invariant-loop-i l = record {
   slots : l.self.slots ≡ l.initial.self.slots;
   places : length l.self.firsts.items ≡ length l.initial.self.firsts.items;
-  linked : ((place : ℕ) → get_or l.initial.self.firsts.items place None ≡ None) → IsLinked l.self.slots.items l.self.firsts.items l.self.nexts.items (l.count - l.i);
+  linked : ((place : ℕ) → get_or l.initial.self.firsts.items place None ≡ None) →
+      IsLinked l.self.slots.items l.self.firsts.items l.self.nexts.items (l.count - l.i);
 }
