@@ -12,6 +12,7 @@ import shutil
 import subprocess
 import sys
 import tempfile
+from concurrent.futures import ThreadPoolExecutor
 from pathlib import Path
 
 sys.dont_write_bytecode = True
@@ -157,24 +158,35 @@ def build(folder):
     subprocess.run(words, check=True)
 
 
+def refuse_all(program, folder, words, growths_alone):
+    """All runs of one command in a folder of its own, and how many growths, reads and writes were refused."""
+    runs = Runs(program, folder, words)
+    growths = runs.refuse_growths()
+    ample = runs.run()
+    pieces = () if growths_alone else PIECES
+    reads = sum(runs.fail_reads(ample, piece) for piece in pieces)
+    writes = sum(runs.fail_writes(ample, piece) for piece in pieces)
+    return runs, (growths, reads, writes)
+
+
 def main():
     program = str(Path(sys.argv[1]).resolve())
     failures, made = [], 0
     with tempfile.TemporaryDirectory() as name:
-        folder = Path(name)
-        build(folder)
-        make_inputs(folder)
+        inputs = Path(name, "inputs")
+        inputs.mkdir()
+        build(inputs)
+        make_inputs(inputs)
+
+        def in_own_folder(number):
+            return refuse_all(program, shutil.copytree(inputs, Path(name, str(number))), *COMMANDS[number])
+
         print(f"{'refused, one at a time':<58} {'growths':>8} {'reads':>8} {'writes':>8}")
-        for words, growths_alone in COMMANDS:
-            runs = Runs(program, folder, words)
-            growths = runs.refuse_growths()
-            ample = runs.run()
-            pieces = () if growths_alone else PIECES
-            reads = sum(runs.fail_reads(ample, piece) for piece in pieces)
-            writes = sum(runs.fail_writes(ample, piece) for piece in pieces)
-            print(f"{words:<58} {growths:>8} {reads:>8} {writes:>8}", flush=True)
-            failures += runs.failures
-            made += runs.made
+        with ThreadPoolExecutor(len(os.sched_getaffinity(0))) as workers:
+            for runs, (growths, reads, writes) in workers.map(in_own_folder, range(len(COMMANDS))):
+                print(f"{runs.words:<58} {growths:>8} {reads:>8} {writes:>8}", flush=True)
+                failures += runs.failures
+                made += runs.made
     for failure in failures[:20]:
         print(f"FAILED {failure}")
     print(f"refused calls: {made} runs, {len(failures)} failed")

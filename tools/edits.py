@@ -5,7 +5,7 @@ An edit of the gate holds several wrong bodies, parted by a blank line, each und
 it turns; the gate wants such an edit refused as a whole. Here the prover has to refuse each. First all bodies of an edit that turn
 code alone are tried together, over the crate's kept work: such a body is done with where each function that it turns, and no other
 body does, is refused for its own sake. What is left is tried by itself, as an edit of its own. The crate's files come back as they
-were.
+were. Before all that it looks whether each heading names what its body turns.
 """
 import collections
 import contextlib
@@ -17,6 +17,8 @@ import sys
 import tempfile
 
 CLAUSE = re.compile(r"(old|new): .*\b(ensures|requires|keeps|invariant)\b")
+ITEM = re.compile(r"\s*(?:pub(?:\([a-z]+\))? )?(?:const |unsafe )?(?:fn|struct|enum|const|static|trait|type)\s+(\w+)")
+DEFINITION = re.compile(r"(?:pub )?(?:record |data )?(?!where\b|unfolding\b|use\b|mod\b|--)([^\s:{})]+)")
 REFUSED = re.compile(r"^fn (\S+): no proof: expected answers", re.M)
 
 
@@ -27,6 +29,32 @@ def bodies(text):
         heading, _, lines = part.partition("\n")
         told.append((heading.removeprefix("# ").split(", "), lines.split("\n")))
     return told
+
+
+def name_above(path, text, at):
+    """The function or definition in which a place of a file stands: that of the nearest line above which begins one."""
+    begins = ITEM if path.endswith(".rt") else DEFINITION
+    found = (begins.match(line) for line in reversed(text[: text.find("\n", at)].split("\n")))
+    return next((it[1] for it in found if it), "")
+
+
+def turned_names(crate, lines):
+    """The functions and definitions that a body turns, in their order."""
+    names, path = [], ""
+    for line in lines:
+        word, _, rest = line.partition(": ")
+        if word == "file":
+            path = rest
+        elif word == "old" and not rest.startswith("use "):
+            text = (crate / path).read_text()
+            names.append(name_above(path, text, text.find(rest)))
+    return list(dict.fromkeys(names))
+
+
+def misnamed(crate, edits):
+    """What to say of each body whose heading doesn't name what it turns."""
+    told = [(edit, names, turned_names(crate, lines)) for edit in edits for names, lines in bodies(edit.read_text())]
+    return [f"{edit}: a body under '{', '.join(names)}' turns {', '.join(turned)}" for edit, names, turned in told if names != turned]
 
 
 def turned(folder, told):
@@ -112,6 +140,9 @@ def main():
         folder = crate / "must-fail"
         edits = sorted(folder.glob("*.edit"))
         if edits:
+            wrong = misnamed(crate, edits)
+            print("\n".join(wrong), end="\n" if wrong else "")
+            failed += len(wrong)
             count = sum(len(bodies(edit.read_text())) for edit in edits)
             left = [body for edit in edits for body in left_alone(crate, edit)]
             print(f"{name}: {count - len(left)} of {count} wrong bodies refused together; the others by themselves:", flush=True)

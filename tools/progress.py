@@ -13,9 +13,6 @@ import time
 LAST_LINES = 40
 MOST_FAULTS = 60
 FAULT = re.compile(r"NOT PROVED|NOT REFUSED|BAD EDIT|\berror\b")
-# A crate's first file of edits is tried from nothing, as the crate itself; a further one, and the crate once more at their end,
-# over what is kept, as much as so many lines of source and proofs.
-LINES_OF_AN_EDIT = 300
 
 
 def lines_of(folder, endings):
@@ -23,15 +20,15 @@ def lines_of(folder, endings):
 
 
 def weights(with_edits):
-    """What there is to do by name, in lines: each crate, and its edits where edits are tried."""
+    """What there is to do by name, in lines: each crate, and its wrong bodies where they are tried."""
     told = {}
     for line in open("crates.txt"):
         name = line.split(":")[0].strip()
         folder = pathlib.Path("crates", name)
         told[name] = lines_of(folder, {".rt", ".antt"})
         if with_edits:
-            edits = len(list(folder.glob("must-fail/*.edit")))
-            told[f"{name} edits"] = (told[name] + LINES_OF_AN_EDIT * (edits if edits > 1 else 0)) * (edits > 0)
+            # with its wrong bodies in it a crate takes as long as without
+            told[f"{name} edits"] = told[name] * any(folder.glob("must-fail/*.edit"))
     return told
 
 
@@ -71,8 +68,8 @@ class Progress:
         elif line.startswith("logic=proved") and self.current:
             self.note(self.current, "proved")
             self.current = None
-        elif tried := re.match(r"rt: (\w+): trying its must-fail edits \((\d+)\)", line):
-            self.note(f"{tried[1]} edits", f"tries {tried[2]} edits")
+        elif tried := re.match(r"rt: (\w+): trying its must-fail edits", line):
+            self.note(f"{tried[1]} edits", "begins its wrong bodies")
 
 
 def main():

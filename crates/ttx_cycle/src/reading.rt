@@ -66,7 +66,7 @@ fn add_block<R: Read>(
     ensures size { length block.new ≡ 1344 }
     ensures count { IfOk result (λ n. vec_len slots.new ≡ vec_len slots.old + n / 42) }
     ensures read { IfOk result (λ n. Consumes (R.remaining (inner_of reader.old)) (R.remaining (inner_of reader.new)) (take n block.new)) }
-    ensures bytes { IfOk result (λ n. file_of slots.new.items ++ drop (42 * (n / 42)) (take n block.new) ≡ file_of slots.old.items ++ take n block.new) }
+    ensures is { IfOk result (λ n. file_of slots.new.items ++ drop (42 * (n / 42)) (take n block.new) ≡ file_of slots.old.items ++ take n block.new) }
     ensures end { IfOk result (λ n. n < 1344 → IsAtEnd (R.remaining (inner_of reader.new))) }
     ensures judged { IfErr result (λ fault. (file : List ℕ) → Judged file (Err fault)) }
     ensures faults { CountsRead result (faults_of reader.old) (faults_of reader.new) }

@@ -91,24 +91,28 @@ fn received(cycle: &Cycle, at: u32, repeat: u8) -> [u8; 42] {
     )
 }
 
-// Whether the receiver shows the page after so many slots, and after each of the next 28.
-fn is_seen<R: Receiver>(
-    receiver: &mut R,
-    page: &Page,
-    cycle: &Cycle,
+// A page of a cycle, and how it is received: from which slot on, after how many slots it is to be seen, and of how many successive
+// transmissions of an item one is right.
+#[derive(Clone, Copy)]
+struct Reception<'a> {
+    page: &'a Page,
+    cycle: &'a Cycle,
     tuning: u16,
     slots: u16,
     repeat: u8,
-) -> bool {
-    let wanted = render(&PageMemory::of(page));
-    let begin = u32::from(tuning);
-    for i in 0..u32::from(slots) {
-        receiver.step(Some(&received(cycle, begin + i, repeat)));
+}
+
+// Whether the receiver shows the page in time, and after each of the next 28 slots.
+fn is_seen<R: Receiver>(receiver: &mut R, of: Reception) -> bool {
+    let wanted = render(&PageMemory::of(of.page));
+    let begin = u32::from(of.tuning);
+    for i in 0..u32::from(of.slots) {
+        receiver.step(Some(&received(of.cycle, begin + i, of.repeat)));
     }
-    let deadline = begin + u32::from(slots);
+    let deadline = begin + u32::from(of.slots);
     let mut is_shown = same_but_clock(&render(receiver.memory()), &wanted);
     for i in 0..28u32 {
-        receiver.step(Some(&received(cycle, deadline + i, repeat)));
+        receiver.step(Some(&received(of.cycle, deadline + i, of.repeat)));
         is_shown = is_shown && same_but_clock(&render(receiver.memory()), &wanted);
     }
     is_shown
@@ -125,41 +129,30 @@ fn any_subpage() -> Selection {
     Selection::AnySub(1, 0)
 }
 
-// Whether each kind of receiver shows the page, tuned at this slot, out of memories that store and that don't.
-fn are_served(page: &Page, cycle: &Cycle, tuning: u16, slots: u16, repeat: u8) -> bool {
-    are_served_from(false, page, cycle, tuning, slots, repeat)
-        && are_served_from(true, page, cycle, tuning, slots, repeat)
+// Whether each kind of receiver shows the page, out of memories that store and that don't.
+fn are_served(of: Reception) -> bool {
+    are_served_from(false, of) && are_served_from(true, of)
 }
 
-fn are_served_from(
-    storing: bool,
-    page: &Page,
-    cycle: &Cycle,
-    tuning: u16,
-    slots: u16,
-    repeat: u8,
-) -> bool {
+fn are_served_from(storing: bool, of: Reception) -> bool {
     let mut eager = Eager::new(any_subpage(), 2, former(storing, 0, false));
-    let mut careful = Careful::new(Selection::Exact(page.id()), 2, former(storing, 2, true));
+    let mut careful = Careful::new(Selection::Exact(of.page.id()), 2, former(storing, 2, true));
     let mut scripted = Scripted::new(
         any_subpage(),
         2,
         former(storing, 64, true),
         &[false, true, true, false, true],
     );
-    is_seen(&mut eager, page, cycle, tuning, slots, repeat)
-        && is_seen(&mut careful, page, cycle, tuning, slots, repeat)
-        && is_seen(&mut scripted, page, cycle, tuning, slots, repeat)
+    is_seen(&mut eager, of) && is_seen(&mut careful, of) && is_seen(&mut scripted, of)
 }
 
-// Whether the cycle is certified, and the page seen from each tuning slot of a period.
+// Whether the cycle is certified, and the page seen so many slots after each tuning slot of a period.
 fn is_right(
     alloc: Global,
     slots: Vec<[u8; 42]>,
     page: Option<Page>,
     text: &str,
     deadline: u16,
-    repeat: u8,
 ) -> bool {
     let (Some(page), Some(cycle)) = (page, Cycle::of(slots)) else {
         return false;
@@ -174,7 +167,16 @@ fn is_right(
     ) {
         return false;
     }
-    (0..28u16).all(|tuning| are_served(&page, &cycle, tuning, deadline, repeat))
+    let repeat = certificate.repeat();
+    (0..28u16).all(|tuning| {
+        are_served(Reception {
+            page: &page,
+            cycle: &cycle,
+            tuning,
+            slots: deadline,
+            repeat,
+        })
+    })
 }
 
 #[test]
@@ -186,8 +188,7 @@ fn each_item_once(rt: HostRuntime) -> Result<(), Fail> {
             base::slots(rt.alloc())?,
             page(0x20),
             text.as_str(),
-            54,
-            1
+            54
         )
     );
     Ok(())
@@ -202,8 +203,7 @@ fn one_of_two_is_right(rt: HostRuntime) -> Result<(), Fail> {
             base::slots(rt.alloc())?,
             page(0x20),
             text.as_str(),
-            82,
-            2
+            82
         )
     );
     Ok(())
@@ -215,7 +215,7 @@ fn a_parallel_header_between(rt: HostRuntime) -> Result<(), Fail> {
     let header = beginning(&[0x49, 0x15, 0x15, 0x15, 0x15, 0x15, 0x15, 0x15, 0x15, 0x15]);
     let slots = base::edited(rt.alloc(), 1, 0, &header)?;
     let text = certificate(rt.alloc(), 1, 27, 0, true)?;
-    assert!(rt; is_right(rt.alloc(), slots, page(0x20), text.as_str(), 54, 1));
+    assert!(rt; is_right(rt.alloc(), slots, page(0x20), text.as_str(), 54));
     Ok(())
 }
 
@@ -224,7 +224,7 @@ fn a_parallel_header_between(rt: HostRuntime) -> Result<(), Fail> {
 fn an_info_packet_between(rt: HostRuntime) -> Result<(), Fail> {
     let slots = base::edited(rt.alloc(), 1, 0, &beginning(&[0x15, 0xea, 0x15]))?;
     let text = certificate(rt.alloc(), 1, 27, 0, true)?;
-    assert!(rt; is_right(rt.alloc(), slots, page(0x20), text.as_str(), 54, 1));
+    assert!(rt; is_right(rt.alloc(), slots, page(0x20), text.as_str(), 54));
     Ok(())
 }
 
@@ -236,7 +236,7 @@ fn a_hidden_row_is_left_out(rt: HostRuntime) -> Result<(), Fail> {
         *row_6 = [0; 42];
     }
     let text = certificate(rt.alloc(), 1, 27, 0, false)?;
-    assert!(rt; is_right(rt.alloc(), slots, page(0x0d), text.as_str(), 54, 1));
+    assert!(rt; is_right(rt.alloc(), slots, page(0x0d), text.as_str(), 54));
     Ok(())
 }
 
@@ -247,6 +247,6 @@ fn a_cycle_that_begins_within_the_page(rt: HostRuntime) -> Result<(), Fail> {
         slots.rotate_left(10);
     }
     let text = certificate(rt.alloc(), 1, 27, 10, true)?;
-    assert!(rt; is_right(rt.alloc(), slots, page(0x20), text.as_str(), 54, 1));
+    assert!(rt; is_right(rt.alloc(), slots, page(0x20), text.as_str(), 54));
     Ok(())
 }
