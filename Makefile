@@ -15,7 +15,11 @@ PREFIX = /usr/local
 # so many crates are proved at a time, each in 1 to 4 GB
 JOBS = 4
 
-.PHONY: all ttx test demo bench edits compare helpers install dist
+# what runs the built program, the longest first
+SCRIPTS = $(addprefix tests/, refused_calls.py refute.py memory.sh cli.sh large.py planned.py waits.py spliced.py turns.sh sent.py \
+	pages.py checked.py packed.sh extracted.py documents.py)
+
+.PHONY: all ttx test demo bench edits compare helpers install dist $(SCRIPTS)
 
 all: ttx
 
@@ -26,21 +30,15 @@ ttx:
 
 test:
 	python3 tools/progress.py out/test.log rt ci
-	sh tests/cli.sh $(BUILT)
-	python3 tests/large.py $(BUILT)
-	sh tests/memory.sh $(BUILT)
-	python3 tests/refused_calls.py $(BUILT)
-	python3 tests/planned.py $(BUILT)
-	python3 tests/waits.py $(BUILT)
-	python3 tests/spliced.py $(BUILT)
-	sh tests/turns.sh $(BUILT)
-	python3 tests/sent.py $(BUILT)
-	python3 tests/pages.py $(BUILT)
-	python3 tests/checked.py $(BUILT)
-	python3 tests/refute.py $(BUILT) 300
-	sh tests/packed.sh $(BUILT)
-	python3 tests/extracted.py $(BUILT)
-	python3 tests/documents.py $(BUILT)
+	$(MAKE) --no-print-directory --jobs $$(nproc) --output-sync $(SCRIPTS)
+
+$(filter %.py,$(SCRIPTS)):
+	python3 $@ $(BUILT) $(CASES)
+
+$(filter %.sh,$(SCRIPTS)):
+	sh $@ $(BUILT)
+
+tests/refute.py: CASES = 300
 
 demo: ttx
 	sh demo/demo.sh ./ttx
