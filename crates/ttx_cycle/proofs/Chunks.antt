@@ -1,12 +1,12 @@
 -- Slots that are added one by one from the bytes of many.
-use Rattle.std.proofs.Common.{◌≡◌, ◌∙◌, ℕ, ◌+◌, ◌*◌, ◌-◌, ◌<◌, ◌≤◌, List, [], ◌∷◌, ◌++◌, Option, Some, None, Result, IfSome, length, take, drop}
-use Rattle.std.proofs.Common.{take_all, length-drop, length-append, sym, ap, subst, arith, append_assoc}
+use Rattle.std.proofs.Common.{◌≡◌, ◌∙◌, ℕ, ◌+◌, ◌*◌, ◌-◌, ◌/◌, ◌%◌, ◌<◌, ◌≤◌, List, [], ◌∷◌, ◌++◌, Option, Some, None, Result, IfSome}
+use Rattle.std.proofs.Common.{length, take, drop, take_all, length-drop, length-append, sym, ap, subst, arith, append_assoc}
 use Rattle.std.specs.Io.KnownBytes.{Consumes, IsAtEnd}
 use Rattle.ttx_cycle.specs.Reading.{Judged}
 use Rattle.ttx_cycle.specs.declared.cycles.Cycle.{Cycle}
 use Rattle.ttx_cycle.specs.declared.faults.CycleFault.{CycleFault}
 use Rattle.std.proofs.lemmas.Grind.{flat_map-append}
-use Rattle.std.proofs.lemmas.List.{append-nil, take-append-drop, drop-drop}
+use Rattle.std.proofs.lemmas.List.{append-nil, drop_all, take-append-drop, drop-drop}
 use Rattle.ttx_cycle.specs.Files.{file_of}
 
 pub one_more_slot : (done : List (List ℕ)) (slot bytes whole : List ℕ) (i : ℕ) → slot ≡ take 42 (drop (42 * i) bytes)
@@ -45,3 +45,23 @@ pub judged_long : (old mid : Option (List ℕ)) (file : List ℕ) → Consumes o
 judged_long None mid file a some long = tt
 judged_long (Some xs) None file a some long = absurd a
 judged_long (Some xs) (Some ys) file a some long = omega (arith, ap length a, length-append file ys, some, long)
+
+-- whole slots that were added leave none of their bytes
+pub whole_slots : (old new : List (List ℕ)) (bytes : List ℕ) (n : ℕ) → length bytes ≤ n → n % 42 ≡ 0
+    → file_of new ++ drop (42 * (n / 42)) bytes ≡ file_of old ++ bytes → file_of new ≡ file_of old ++ bytes
+whole_slots old new bytes n few whole added =
+    let past : length bytes ≤ 42 * (n / 42) = omega arith in
+    let none : drop (42 * (n / 42)) bytes ≡ [] = drop_all (42 * (n / 42)) bytes past in
+    sym (append-nil (file_of new)) ∙ ap (λ rest. file_of new ++ rest) (sym none) ∙ added
+
+-- a file that ends inside a slot
+pub judged_cut : (old mid new : Option (List ℕ)) (file rest : List ℕ) (i n : ℕ) → Consumes old mid file → Consumes mid new rest → IsAtEnd new
+    → length file ≡ 1344 * i → i < 2048 → length rest ≡ n → n < 1344 → 0 < n % 42
+    → IfSome old (λ bytes. (length bytes ≤ 2752512) × (length bytes % 42 ≡ n % 42) × (0 < n % 42))
+judged_cut None mid new file rest i n a b end long few size small cut = tt
+judged_cut (Some xs) None new file rest i n a b end long few size small cut = absurd a
+judged_cut (Some xs) (Some ys) None file rest i n a b end long few size small cut = absurd b
+judged_cut (Some xs) (Some ys) (Some zs) file rest i n a b end long few size small cut =
+    let all : length xs ≡ 1344 * i + n =
+    omega (arith, ap length a, length-append file ys, ap length b, length-append rest zs, ap length end) in
+    (omega arith, omega arith, cut)
