@@ -1,9 +1,7 @@
-use Rattle.std.proofs.Common.{◌↔◌, true, false, map, sym, ap, ◌∙◌, subst}
+use Rattle.std.proofs.Common.{map, ap, ◌∙◌, subst}
 use Rattle.std.proofs.lemmas.Bool.{both_ways}
-use Rattle.ttx_header.specs.Ids.{Id}
 use Rattle.ttx_cycle.specs.Cycles.{slots_of}
-use Rattle.ttx_page.specs.Pages.{Page, IsAlone}
-use Rattle.ttx_page.specs.Streams.{Stream, repeated}
+use Rattle.ttx_page.specs.Streams.{repeated}
 use Rattle.ttx_page.specs.Steady.{OtherSubpageAt}
 use Rattle.ttx_page.specs.Views.{page_of}
 use Rattle.ttx_witness.specs.faults.Comparing.{OtherHeaderAt}

@@ -1,5 +1,5 @@
 use Rattle.std.proofs.Common.{rules, ◌≡◌, ℕ, ℤ, pos, ◌+ℤ◌, int_lt, unsigned_abs, true, false, Option, Some, None, is_some, if◌then◌else◌}
-use Rattle.std.proofs.Common.{refl, sym, ap, ◌∙◌, arith}
+use Rattle.std.proofs.Common.{refl, sym, ap, ◌∙◌}
 use Rattle.std.proofs.lemmas.Bool.{cond-true, cond-false}
 use Rattle.ttx_witness.specs.declared.passes.page_facts.Heads.{Heads}
 use Rattle.ttx_witness.specs.passes.PageFacts.{late_in, late_of}

@@ -43,6 +43,7 @@ loop-i-preserved c =
 pub returns : goal.returns
 returns c = (
   (λ t i id at. c.loop-i.invariant.same i id
-      (let within = slice_get_within (ids_of c.args.pages.now) i id at in let l = length-map c.args.pages.now (λ p. (page_of p).id) in omega arith) at),
+      (let within = slice_get_within (ids_of c.args.pages.now) i id at in
+      let l = length-map c.args.pages.now (λ p. (page_of p).id) in omega arith) at),
   (λ all. refl),
 )
