@@ -19,8 +19,7 @@ type Outcome = io::Result<Result<u8, ToolFault>>;
 // Tells which program this is.
 fn version(rt: &HostRuntime) -> Result<u8, ToolFault> {
     let mut writer = Counted::new(io::writer(rt));
-    commands::version(&mut writer)?;
-    Ok(0)
+    commands::version(&mut writer).map(|()| 0)
 }
 
 /// Opens the inputs in the order of the arguments, makes the output file anew where it is none of them, and runs the command. An

@@ -30,7 +30,9 @@ fn certify_readers(rt: &HostRuntime, readers: &mut ClaimReaders) -> Result<u8, T
 }
 
 fn certify_claim(rt: &HostRuntime, claim: Claim) -> Result<u8, ToolFault> {
-    let mut readers = claim.readers(rt)?;
+    let Ok(mut readers) = claim.readers(rt) else {
+        return Err(ToolFault::NoMemory);
+    };
     certify_readers(rt, &mut readers)
 }
 
@@ -56,8 +58,12 @@ fn certify_readers_twice(
 }
 
 fn certify_twice(rt: &HostRuntime, first: Input, claim: Claim) -> Result<u8, ToolFault> {
-    let mut first = buffered(rt, first)?;
-    let mut readers = claim.readers(rt)?;
+    let Ok(mut first) = buffered(rt, first) else {
+        return Err(ToolFault::NoMemory);
+    };
+    let Ok(mut readers) = claim.readers(rt) else {
+        return Err(ToolFault::NoMemory);
+    };
     certify_readers_twice(rt, &mut first, &mut readers)
 }
 
@@ -78,7 +84,9 @@ fn certify_readers_late(rt: &HostRuntime, readers: &mut ClaimReaders) -> Result<
 }
 
 fn certify_late(rt: &HostRuntime, claim: Claim) -> Result<u8, ToolFault> {
-    let mut readers = claim.readers(rt)?;
+    let Ok(mut readers) = claim.readers(rt) else {
+        return Err(ToolFault::NoMemory);
+    };
     certify_readers_late(rt, &mut readers)
 }
 
@@ -125,7 +133,9 @@ fn find_to(
     out: File,
 ) -> Result<u8, ToolFault> {
     let mut file = Counted::new(out);
-    let mut readers = inputs.readers(rt)?;
+    let Ok(mut readers) = inputs.readers(rt) else {
+        return Err(ToolFault::NoMemory);
+    };
     find_in(rt, &mut readers, order, &mut file)
 }
 
@@ -164,7 +174,9 @@ fn wait_in(
 }
 
 fn wait_for(rt: &HostRuntime, inputs: SentService, order: &WaitOrder<'_>) -> Result<u8, ToolFault> {
-    let mut readers = inputs.readers(rt)?;
+    let Ok(mut readers) = inputs.readers(rt) else {
+        return Err(ToolFault::NoMemory);
+    };
     wait_in(rt, &mut readers, order)
 }
 

@@ -35,7 +35,9 @@ fn refute_claim<O: Write + Drop>(
     out: O,
 ) -> Result<u8, ToolFault> {
     let mut file = Counted::new(out);
-    let mut readers = claim.readers(rt)?;
+    let Ok(mut readers) = claim.readers(rt) else {
+        return Err(ToolFault::NoMemory);
+    };
     refute_readers(rt, &mut readers, save, &mut file)
 }
 
@@ -65,7 +67,9 @@ fn replay_readers(rt: &HostRuntime, readers: &mut ClaimReaders) -> Result<u8, To
 }
 
 fn replay_claim(rt: &HostRuntime, claim: Claim) -> Result<u8, ToolFault> {
-    let mut readers = claim.readers(rt)?;
+    let Ok(mut readers) = claim.readers(rt) else {
+        return Err(ToolFault::NoMemory);
+    };
     replay_readers(rt, &mut readers)
 }
 

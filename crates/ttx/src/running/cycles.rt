@@ -12,10 +12,11 @@ use ttx_send::Moment;
 use ttx_tool::{ExtractionFault, ToolFault, commands};
 
 fn inspect_input(rt: &HostRuntime, input: Input) -> Result<u8, ToolFault> {
-    let mut reader = buffered(rt, input)?;
+    let Ok(mut reader) = buffered(rt, input) else {
+        return Err(ToolFault::NoMemory);
+    };
     let mut writer = Counted::new(io::writer(rt));
-    commands::inspect(rt.alloc(), &mut reader, &mut writer)?;
-    Ok(0)
+    commands::inspect(rt.alloc(), &mut reader, &mut writer).map(|()| 0)
 }
 
 /// Shows the slots of a packet file.
@@ -33,10 +34,13 @@ fn from_pages(fault: PagesFault) -> ToolFault {
 }
 
 fn pages_of(rt: &HostRuntime, input: Input) -> Result<u8, ToolFault> {
-    let mut reader = buffered(rt, input)?;
+    let Ok(mut reader) = buffered(rt, input) else {
+        return Err(ToolFault::NoMemory);
+    };
     let mut writer = Counted::new(io::writer(rt));
-    ttx_pages::pages(rt.alloc(), &mut reader, &mut writer).map_err(from_pages)?;
-    Ok(0)
+    ttx_pages::pages(rt.alloc(), &mut reader, &mut writer)
+        .map(|()| 0)
+        .map_err(from_pages)
 }
 
 /// Tells which pages a cycle has.
@@ -45,10 +49,13 @@ pub fn pages(rt: &HostRuntime, cycle: &str) -> Outcome {
 }
 
 fn book_of(rt: &HostRuntime, input: Input, out: File) -> Result<u8, ToolFault> {
-    let mut reader = buffered(rt, input)?;
+    let Ok(mut reader) = buffered(rt, input) else {
+        return Err(ToolFault::NoMemory);
+    };
     let mut file = Counted::new(out);
-    ttx_book::book(rt.alloc(), &mut reader, &mut file).map_err(from_pages)?;
-    Ok(0)
+    ttx_book::book(rt.alloc(), &mut reader, &mut file)
+        .map(|()| 0)
+        .map_err(from_pages)
 }
 
 /// Opens the cycle, makes the book's file anew, and writes all pages of the cycle to it.
@@ -61,7 +68,9 @@ pub fn book(rt: &HostRuntime, cycle: &str, out: &str) -> Outcome {
 }
 
 fn extract_from(rt: &HostRuntime, input: Input, lines: u8, out: File) -> Result<u8, ToolFault> {
-    let mut reader = buffered(rt, input)?;
+    let Ok(mut reader) = buffered(rt, input) else {
+        return Err(ToolFault::NoMemory);
+    };
     let mut file = Counted::new(out);
     let mut writer = Counted::new(io::writer(rt));
     match commands::extract(rt.alloc(), &mut reader, lines, &mut file, &mut writer) {
@@ -89,7 +98,9 @@ fn send_input(rt: &HostRuntime, input: Input, sending: &Sending) -> Result<u8, T
         let mut errors = Counted::new(rt.stderr());
         return commands::report_words(rt.alloc(), &WordsFault::Time, &mut errors);
     };
-    let mut reader = buffered(rt, input)?;
+    let Ok(mut reader) = buffered(rt, input) else {
+        return Err(ToolFault::NoMemory);
+    };
     let mut writer = Counted::new(io::writer(rt));
     // The arguments have it in this range.
     let lines = sending.lines.clamp(1, 32);
@@ -101,8 +112,8 @@ fn send_input(rt: &HostRuntime, input: Input, sending: &Sending) -> Result<u8, T
         sending.phase,
         sending.fields,
         &mut writer,
-    )?;
-    Ok(0)
+    )
+    .map(|()| 0)
 }
 
 /// Opens the cycle, and sends it again and again, with the time.

@@ -18,7 +18,9 @@ fn receive_by<X: Receiver + Drop>(
     tuning: &Tuning,
     look: Option<&Look<'_>>,
 ) -> Result<u8, ToolFault> {
-    let mut reader = buffered(rt, input)?;
+    let Ok(mut reader) = buffered(rt, input) else {
+        return Err(ToolFault::NoMemory);
+    };
     let mut writer = Counted::new(io::writer(rt));
     match look {
         Some(look) => commands::show(rt.alloc(), &mut reader, receiver, tuning, look, &mut writer),
@@ -77,7 +79,9 @@ fn preview_input(
     selection: &Selection,
     look: &Look<'_>,
 ) -> Result<u8, ToolFault> {
-    let mut reader = buffered(rt, input)?;
+    let Ok(mut reader) = buffered(rt, input) else {
+        return Err(ToolFault::NoMemory);
+    };
     let mut writer = Counted::new(io::writer(rt));
     commands::preview(rt.alloc(), &mut reader, selection, look, &mut writer)
 }

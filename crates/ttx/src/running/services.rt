@@ -25,7 +25,9 @@ fn from_check(fault: CheckFault) -> ToolFault {
 }
 
 fn check_input(rt: &HostRuntime, input: Input) -> Result<u8, ToolFault> {
-    let mut reader = buffered(rt, input)?;
+    let Ok(mut reader) = buffered(rt, input) else {
+        return Err(ToolFault::NoMemory);
+    };
     let mut writer = Counted::new(io::writer(rt));
     ttx_check::check(rt.alloc(), &mut reader, &mut writer).map_err(from_check)
 }
@@ -52,7 +54,9 @@ fn plan_input(
     out: File,
 ) -> Result<u8, ToolFault> {
     let mut file = Counted::new(out);
-    let mut reader = buffered(rt, input)?;
+    let Ok(mut reader) = buffered(rt, input) else {
+        return Err(ToolFault::NoMemory);
+    };
     plan_to(rt, &mut reader, receivers, &mut file)
 }
 

@@ -3,6 +3,7 @@
 use super::Outcome;
 use super::inputs::buffered;
 use crate::devices::{Input, open_input};
+use std::alloc::AllocError;
 use std::io;
 use std::io::BufReader;
 use ttx_arguments::SpliceOrder;
@@ -33,13 +34,13 @@ struct SpliceReaders {
     certificates: TwoReaders,
 }
 
-fn buffered_two(rt: &HostRuntime, inputs: (Input, Input)) -> Result<TwoReaders, ToolFault> {
+fn buffered_two(rt: &HostRuntime, inputs: (Input, Input)) -> Result<TwoReaders, AllocError> {
     let old = buffered(rt, inputs.0)?;
     let new = buffered(rt, inputs.1)?;
     Ok(TwoReaders { old, new })
 }
 
-fn buffered_all(rt: &HostRuntime, inputs: SpliceInputs) -> Result<SpliceReaders, ToolFault> {
+fn buffered_all(rt: &HostRuntime, inputs: SpliceInputs) -> Result<SpliceReaders, AllocError> {
     let cycles = buffered_two(rt, inputs.cycles)?;
     let services = buffered_two(rt, inputs.services)?;
     let certificates = buffered_two(rt, inputs.certificates)?;
@@ -70,7 +71,9 @@ fn splice_readers(rt: &HostRuntime, readers: &mut SpliceReaders) -> Result<u8, T
 }
 
 fn splice_inputs(rt: &HostRuntime, inputs: SpliceInputs) -> Result<u8, ToolFault> {
-    let mut readers = buffered_all(rt, inputs)?;
+    let Ok(mut readers) = buffered_all(rt, inputs) else {
+        return Err(ToolFault::NoMemory);
+    };
     splice_readers(rt, &mut readers)
 }
 
