@@ -1,7 +1,6 @@
 -- The faults of the program as those of the definitions.
 --
 --   fault_of       a fault
---   source_outcome        a value, seen by a function, or its fault
 --   outcome_in_page         a value, seen by a function, or its fault and the page that it is in
 --   IsSourceUnlessMemory     a fact, but where an allocation failed
 use Rattle.std.specs.Prelude.{◌≡◌, ◌⊎◌, ℕ, Result, Ok, Err}
@@ -25,11 +24,7 @@ fault_of Often = wrong_often
 fault_of (Range key) = out_of_range key.now
 fault_of NoMemory = no_memory
 
--- a value under a view, or its fault
-abbrev pub source_outcome : {A B : Type 0} → (A → B) → Result A SourceFault → Result B Fault
-source_outcome seen (Ok a) = Ok (seen a)
-source_outcome seen (Err e) = Err (fault_of e)
-
+-- a value under a view, or its fault and page
 abbrev pub outcome_in_page : {A B : Type 0} → (A → B) → Result A SourceError → Result B (Fault × ℕ)
 outcome_in_page seen (Ok a) = Ok (seen a)
 outcome_in_page seen (Err e) = Err (fault_of e.fault, e.page)

@@ -3,3 +3,4 @@ pub mod Keys
 pub mod Services
 pub mod Views
 pub mod Faults
+pub mod KeyFaults

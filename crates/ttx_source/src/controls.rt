@@ -4,19 +4,20 @@ ghost use Rattle.std.specs.Prelude.{◌≡◌, ◌≤◌, ◌%◌, codes, false,
 ghost use Rattle.ttx_header.specs.Control.{IsControl, c4, c11};
 ghost use Rattle.toml.specs.View.{table_view};
 ghost use Rattle.ttx_source.specs.Keys as rule;
-ghost use Rattle.ttx_source.specs.Faults.{source_outcome};
+ghost use Rattle.ttx_source.specs.KeyFaults.{key_outcome};
 
-use crate::faults::SourceFault;
+use crate::key_faults::KeyFault;
+use crate::keys::Key;
 use crate::values::{flag, integer_or, within};
 use toml::Table;
 use ttx_header::Control;
 
 // The national option.
-fn option(page: &Table) -> Result<u32, SourceFault>
-    ensures value { source_outcome (λ n. n) result ≡ rule.option (table_view page.now) }
+fn option(page: &Table) -> Result<u32, KeyFault>
+    ensures value { key_outcome (λ n. n) result ≡ rule.option (table_view page.now) }
     ensures most { IfOk result (λ n. n ≤ 7) }
 {
-    within(integer_or(page, "option", 0)?, "option", 0, 7)
+    within(integer_or(page, Key::Option, 0)?, Key::Option, 0, 7)
 }
 
 // The value of a control bit.
@@ -40,14 +41,14 @@ fn national(option: u32) -> u16
 
 // The control bits C5 to C7 of a page.
 #[tactic(auto, unfolding(crate::specs::Keys::lower_flags_of))]
-fn lower_flags(page: &Table) -> Result<u16, SourceFault>
-    ensures value { source_outcome (λ n. n) result ≡ rule.lower_flags_of (table_view page.now) }
+fn lower_flags(page: &Table) -> Result<u16, KeyFault>
+    ensures value { key_outcome (λ n. n) result ≡ rule.lower_flags_of (table_view page.now) }
     ensures place { IfOk result (λ n. n % 2 ≡ 0) }
     ensures most { IfOk result (λ n. n ≤ 14) }
 {
-    let newsflash = flag(page, "newsflash")?;
-    let subtitle = flag(page, "subtitle")?;
-    let suppress = flag(page, "suppress")?;
+    let newsflash = flag(page, Key::Newsflash)?;
+    let subtitle = flag(page, Key::Subtitle)?;
+    let suppress = flag(page, Key::Suppress)?;
     Ok(
         bit_at(Control::C5, newsflash)
             + bit_at(Control::C6, subtitle)
@@ -57,14 +58,14 @@ fn lower_flags(page: &Table) -> Result<u16, SourceFault>
 
 // The control bits C8 to C10 of a page.
 #[tactic(auto, unfolding(crate::specs::Keys::upper_flags_of))]
-fn upper_flags(page: &Table) -> Result<u16, SourceFault>
-    ensures value { source_outcome (λ n. n) result ≡ rule.upper_flags_of (table_view page.now) }
+fn upper_flags(page: &Table) -> Result<u16, KeyFault>
+    ensures value { key_outcome (λ n. n) result ≡ rule.upper_flags_of (table_view page.now) }
     ensures place { IfOk result (λ n. n % 16 ≡ 0) }
     ensures most { IfOk result (λ n. n ≤ 112) }
 {
-    let update = flag(page, "update")?;
-    let interrupted = flag(page, "interrupted")?;
-    let inhibit = flag(page, "inhibit")?;
+    let update = flag(page, Key::Update)?;
+    let interrupted = flag(page, Key::Interrupted)?;
+    let inhibit = flag(page, Key::Inhibit)?;
     Ok(
         bit_at(Control::C8, update)
             + bit_at(Control::C9, interrupted)
@@ -74,8 +75,8 @@ fn upper_flags(page: &Table) -> Result<u16, SourceFault>
 
 /// The control bits of a page, with C11 as the service has it.
 #[tactic(auto, unfolding(crate::specs::Keys::control_of_table))]
-pub fn control(page: &Table, serial: bool) -> Result<Control, SourceFault>
-    ensures value { source_outcome (λ c. c.0) result ≡ rule.control_of_table serial (table_view page.now) }
+pub fn control(page: &Table, serial: bool) -> Result<Control, KeyFault>
+    ensures value { key_outcome (λ c. c.0) result ≡ rule.control_of_table serial (table_view page.now) }
     ensures ranges { IfOk result (λ c. IsControl c.0 × (c4 c.0 ≡ false) × (c11 c.0 ≡ serial)) }
 {
     let option = option(page)?;

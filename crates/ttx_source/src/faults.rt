@@ -1,56 +1,8 @@
 //! Why a service definition is refused.
 
+use crate::keys::accepted;
 use std::fmt;
 use thiserror::Error;
-
-// What each key takes.
-static ACCEPTED: [(&str, &str); 26] = [
-    ("lines", "an integer from 1 to 32"),
-    ("serial", "true or false"),
-    ("info", "a table"),
-    ("designation", "0 or 1"),
-    (
-        "initial",
-        "a text: a page as \"100\" or \"100/0001\", or nothing",
-    ),
-    ("network", "a text of four hexadecimal digits"),
-    ("halves", "an integer from -31 to 31"),
-    ("mjd", "an integer from 0 to 99999"),
-    ("utc", "an integer from 0 to 999999, the digits hhmmss"),
-    ("text", "a text of at most 20 characters"),
-    ("page", "an array of at most 2000 tables"),
-    ("number", "a text: a page number as \"100\""),
-    ("sub", "a text: a subcode as \"0001\""),
-    ("often", "1, 2, 4 or 8"),
-    ("option", "an integer from 0 to 7"),
-    ("newsflash", "true or false"),
-    ("subtitle", "true or false"),
-    ("suppress", "true or false"),
-    ("update", "true or false"),
-    ("interrupted", "true or false"),
-    ("inhibit", "true or false"),
-    ("head", "a text of at most 24 characters"),
-    (
-        "rows",
-        "a table of texts of at most 40 characters at keys from \"1\" to \"24\"",
-    ),
-    (
-        "links",
-        "an array of at most six texts, each a page as \"100\" or \"100/0001\", or nothing",
-    ),
-    ("row24", "true or false"),
-    ("crc", "a text of four hexadecimal digits"),
-];
-
-// What a key takes.
-fn accepted(key: &str) -> &'static str {
-    for (name, values) in ACCEPTED.as_slice() {
-        if *name == key {
-            return *values;
-        }
-    }
-    "no value"
-}
 
 /// A fault of a service definition. Where it names a key, this is the last part of the key's name; the texts in the
 /// table `rows` and in the array `links` have the names `rows` and `links`.

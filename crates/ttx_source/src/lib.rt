@@ -4,6 +4,8 @@
 mod controls;
 pub mod faults;
 mod info_table;
+mod key_faults;
+mod keys;
 mod links;
 mod page_table;
 mod reading;

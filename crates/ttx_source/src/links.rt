@@ -4,25 +4,26 @@ ghost use Rattle.std.specs.Prelude.{◌≡◌, ◌≤◌, length, codes, Ok};
 ghost use Rattle.toml.specs.Data.{no_items};
 ghost use Rattle.toml.specs.View.{table_view, items_view, view};
 ghost use Rattle.ttx_source.specs.Keys as rule;
-ghost use Rattle.ttx_source.specs.Faults.{source_outcome};
+ghost use Rattle.ttx_source.specs.KeyFaults.{key_outcome};
 
-use crate::faults::SourceFault;
+use crate::key_faults::KeyFault;
+use crate::keys::Key;
 use crate::texts::{byte_pair, link};
 use crate::values::{array_of, flag, member, text_of, text_or};
 use toml::{Table, Value};
 use ttx_links::{Links, Target};
 
 // The link that a value of the array is.
-fn link_of(value: &Value) -> Result<Option<Target>, SourceFault>
-    ensures { source_outcome (λ l. l) result ≡ rule.link_of (view value.now) }
+fn link_of(value: &Value) -> Result<Option<Target>, KeyFault>
+    ensures { key_outcome (λ l. l) result ≡ rule.link_of (view value.now) }
 {
-    link(text_of(value, "links")?)
+    link(text_of(value, Key::Links)?)
 }
 
 // The six links of an array of at most six.
-fn six_of(values: &[Value]) -> Result<[Option<Target>; 6], SourceFault>
+fn six_of(values: &[Value]) -> Result<[Option<Target>; 6], KeyFault>
     requires { length values.now ≤ 6 }
-    ensures { source_outcome (λ l. l) result ≡ rule.six_of (items_view values.now) }
+    ensures { key_outcome (λ l. l) result ≡ rule.six_of (items_view values.now) }
 {
     let mut six = [None; 6];
     for (place, value) in values.iter().enumerate() {
@@ -49,35 +50,35 @@ fn no_links() -> [Option<Target>; 6]
 }
 
 // The six links of a page.
-fn six_links(page: &Table) -> Result<[Option<Target>; 6], SourceFault>
-    ensures { source_outcome (λ l. l) result ≡ rule.six_links (table_view page.now) }
+fn six_links(page: &Table) -> Result<[Option<Target>; 6], KeyFault>
+    ensures { key_outcome (λ l. l) result ≡ rule.six_links (table_view page.now) }
 {
-    let Some(value) = member(page, "links") else {
+    let Some(value) = member(page, Key::Links) else {
         return Ok(no_links());
     };
-    let values = array_of(value, "links")?.as_slice();
+    let values = array_of(value, Key::Links)?.as_slice();
     if count(values) > 6 {
-        return Err(SourceFault::Range { key: "links" });
+        return Err(KeyFault::Range { key: Key::Links });
     }
     six_of(values)
 }
 
-fn crc(page: &Table) -> Result<[u8; 2], SourceFault>
-    ensures { source_outcome (λ b. b) result ≡ rule.crc (table_view page.now) }
+fn crc(page: &Table) -> Result<[u8; 2], KeyFault>
+    ensures { key_outcome (λ b. b) result ≡ rule.crc (table_view page.now) }
 {
-    byte_pair(text_or(page, "crc", "0000")?, "crc")
+    byte_pair(text_or(page, Key::Crc, "0000")?, Key::Crc)
 }
 
 /// The links of a page, show24 and the bytes of the page CRC.
 #[tactic(auto, unfolding(crate::specs::Keys::links_of_table))]
-pub fn links(page: &Table) -> Result<Links, SourceFault>
-    ensures { source_outcome (λ l. l) result ≡ rule.links_of_table (table_view page.now) }
+pub fn links(page: &Table) -> Result<Links, KeyFault>
+    ensures { key_outcome (λ l. l) result ≡ rule.links_of_table (table_view page.now) }
 {
     let six = match six_links(page) {
         Ok(six) => six,
         Err(fault) => return Err(fault),
     };
-    let show24 = flag(page, "row24")?;
+    let show24 = flag(page, Key::Row24)?;
     let crc = crc(page)?;
     Ok(Links::new(six, show24, crc))
 }

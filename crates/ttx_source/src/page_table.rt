@@ -8,10 +8,11 @@ ghost use Rattle.ttx_page.specs.Pages.{IsPage, page_at};
 ghost use Rattle.ttx_page.specs.Views.{page_of};
 ghost use Rattle.ttx_source.specs.Keys as rule;
 ghost use Rattle.ttx_source.specs.Services.{id_of_table, authored_at, authored_of, has_id};
-ghost use Rattle.ttx_source.specs.Faults.{source_outcome};
+ghost use Rattle.ttx_source.specs.KeyFaults.{key_outcome};
 
 use crate::controls::control;
-use crate::faults::SourceFault;
+use crate::key_faults::KeyFault;
+use crate::keys::Key;
 use crate::links::links;
 use crate::rows::rows;
 use crate::services::Service;
@@ -24,39 +25,39 @@ use ttx_page::Page;
 
 // The id of a page, which no earlier page has.
 #[tactic(auto, unfolding(crate::specs::Services::id_of_table))]
-fn id(page: &Table, service: &Service) -> Result<PageId, SourceFault>
-    ensures value { source_outcome (λ id. id) result ≡ id_of_table service.now.pages (table_view page.now) }
+fn id(page: &Table, service: &Service) -> Result<PageId, KeyFault>
+    ensures value { key_outcome (λ id. id) result ≡ id_of_table service.now.pages (table_view page.now) }
     ensures new { IfOk result (λ id. has_id service.now.pages id ≡ false) }
     ensures ranges { IfOk result (λ id. IsId id × (id.page ≢ 0xff) × (id.sub ≢ 0x3f7f)) }
 {
-    let (mag, number) = page_number(text(page, "number")?)?;
-    let sub = subcode(text_or(page, "sub", "0000")?)?;
+    let (mag, number) = page_number(text(page, Key::Number)?)?;
+    let sub = subcode(text_or(page, Key::Sub, "0000")?)?;
     let id = PageId::new(mag, number, sub).unwrap();
     if service.contains(id) {
-        return Err(SourceFault::Duplicate);
+        return Err(KeyFault::Duplicate);
     }
     Ok(id)
 }
 
 // How often a page is sent.
-fn often(page: &Table) -> Result<u8, SourceFault>
-    ensures value { source_outcome (λ n. n) result ≡ rule.often (table_view page.now) }
+fn often(page: &Table) -> Result<u8, KeyFault>
+    ensures value { key_outcome (λ n. n) result ≡ rule.often (table_view page.now) }
     ensures range { IfOk result (λ n. rule.is_often n ≡ true) }
 {
-    match integer_or(page, "often", 1)? {
+    match integer_or(page, Key::Often, 1)? {
         1 => Ok(1),
         2 => Ok(2),
         4 => Ok(4),
         8 => Ok(8),
-        _ => Err(SourceFault::Often),
+        _ => Err(KeyFault::Often),
     }
 }
 
-fn head(page: &Table) -> Result<[u8; 24], SourceFault>
-    ensures value { source_outcome (λ t. t) result ≡ rule.head (table_view page.now) }
+fn head(page: &Table) -> Result<[u8; 24], KeyFault>
+    ensures value { key_outcome (λ t. t) result ≡ rule.head (table_view page.now) }
     ensures codes { IfOk result (λ t. (c : ℕ) → slice_index t c < 128) }
 {
-    characters::<24>(text_or(page, "head", "")?)
+    characters::<24>(text_or(page, Key::Head, "")?)
 }
 
 fn page_with(
@@ -74,8 +75,8 @@ fn page_with(
 
 /// The page that a table is, after the pages of the service, and how often it is sent.
 #[tactic(auto, unfolding(crate::specs::Services::authored_of))]
-pub fn page(table: &Table, service: &Service) -> Result<(Page, u8), SourceFault>
-    ensures value { source_outcome (λ p. authored_at (page_of p.0) p.1) result
+pub fn page(table: &Table, service: &Service) -> Result<(Page, u8), KeyFault>
+    ensures value { key_outcome (λ p. authored_at (page_of p.0) p.1) result
         ≡ authored_of service.now.serial service.now.pages (table_view table.now) }
     ensures new { IfOk result (λ p. has_id service.now.pages (page_of p.0).id ≡ false) }
     ensures c11 { IfOk result (λ p. c11 (page_of p.0).control ≡ service.now.serial) }

@@ -9,10 +9,13 @@ ghost use Rattle.ttx_page.specs.Views.{page_of};
 ghost use Rattle.ttx_source.specs.Keys.{is_often};
 ghost use Rattle.ttx_source.specs.Services.{authored_at, has_id};
 ghost use Rattle.ttx_source.specs.Services as rule;
-ghost use Rattle.ttx_source.specs.Faults.{source_outcome, outcome_in_page, IsSourceUnlessMemory};
+ghost use Rattle.ttx_source.specs.Faults.{outcome_in_page, IsSourceUnlessMemory};
+ghost use Rattle.ttx_source.specs.KeyFaults.{key_outcome, read_outcome, IsReadUnlessMemory};
 
-use crate::faults::{SourceError, SourceFault};
+use crate::faults::SourceError;
 use crate::info_table::info;
+use crate::key_faults::{KeyFault, ReadFault};
+use crate::keys::Key;
 use crate::links::count;
 use crate::page_table::page;
 use crate::services::Service;
@@ -21,19 +24,14 @@ use std::alloc::Global;
 use toml::{Table, Value};
 use ttx_page::Page;
 
-const NO_MEMORY: SourceError = SourceError {
-    fault: SourceFault::NoMemory,
-    page: 0,
-};
-
 // The service of a table without its pages.
 #[tactic(auto, unfolding(crate::specs::Services::settings_of))]
-fn settings(alloc: Global, table: &Table) -> Result<Service, SourceFault>
-    ensures value { source_outcome (λ s. s) result ≡ rule.settings_of (table_view table.now) }
+fn settings(alloc: Global, table: &Table) -> Result<Service, KeyFault>
+    ensures value { key_outcome (λ s. s) result ≡ rule.settings_of (table_view table.now) }
     ensures none { IfOk result (λ s. s.pages ≡ []) }
 {
-    let lines = integer(table, "lines", 1, 32)?;
-    let serial = boolean(table, "serial")?;
+    let lines = integer(table, Key::Lines, 1, 32)?;
+    let serial = boolean(table, Key::Serial)?;
     match info(table) {
         Ok(info) => Ok(Service::new(alloc, lines as u8, serial, info)),
         Err(fault) => Err(fault),
@@ -53,58 +51,58 @@ fn are_tables(values: &[Value]) -> bool
 }
 
 // The tables of the pages.
-fn page_tables<'a>(table: &'a Table) -> Result<&'a [Value], SourceFault>
-    ensures value { source_outcome (λ v. items_view v.now) result ≡ rule.page_tables (table_view table.now) }
+fn page_tables<'a>(table: &'a Table) -> Result<&'a [Value], KeyFault>
+    ensures value { key_outcome (λ v. items_view v.now) result ≡ rule.page_tables (table_view table.now) }
     ensures most { IfOk result (λ v. length v.now ≤ 2000) }
 {
-    let Some(value) = member(table, "page") else {
+    let Some(value) = member(table, Key::Page) else {
         return Ok(&[]);
     };
-    let values = array_of(value, "page")?.as_slice();
+    let values = array_of(value, Key::Page)?.as_slice();
     if count(values) > 2000 {
-        return Err(SourceFault::Range { key: "page" });
+        return Err(KeyFault::Range { key: Key::Page });
     }
     if !are_tables(values) {
-        return Err(SourceFault::Kind { key: "page" });
+        return Err(KeyFault::Kind { key: Key::Page });
     }
     Ok(values)
 }
 
 // The page of a value, after the pages of the service; `number` counts it from 1.
-fn next_page(value: &Value, number: usize, service: &Service) -> Result<(Page, u8), SourceError>
+fn next_page(value: &Value, number: usize, service: &Service) -> Result<(Page, u8), ReadFault>
     requires { number ≡ length service.now.pages + 1 }
-    ensures value { outcome_in_page (λ p. authored_at (page_of p.0) p.1) result ≡ rule.next_page service.now (view value.now) }
+    ensures value { read_outcome (λ p. authored_at (page_of p.0) p.1) result ≡ rule.next_page service.now (view value.now) }
     ensures new { IfOk result (λ p. has_id service.now.pages (page_of p.0).id ≡ false) }
     ensures c11 { IfOk result (λ p. c11 (page_of p.0).control ≡ service.now.serial) }
     ensures often { IfOk result (λ p. is_often p.1 ≡ true) }
 {
-    let table = match table_of(value, "page") {
+    let table = match table_of(value, Key::Page) {
         Ok(table) => table,
-        Err(fault) => return Err(SourceError { fault, page: 0 }),
+        Err(fault) => return Err(ReadFault::InPage { page: 0, fault }),
     };
     match page(table, service) {
         Ok(page) => Ok(page),
-        Err(fault) => Err(SourceError {
-            fault,
+        Err(fault) => Err(ReadFault::InPage {
             page: number,
+            fault,
         }),
     }
 }
 
 // The service with the pages of some values.
-fn with_pages(mut service: Service, values: &[Value]) -> Result<Service, SourceError>
+fn with_pages(mut service: Service, values: &[Value]) -> Result<Service, ReadFault>
     requires none { service.pages ≡ [] }
     requires most { length values.now ≤ 2000 }
-    ensures { IsSourceUnlessMemory result (outcome_in_page (λ s. s) result ≡ rule.with_pages service (items_view values.now)) }
+    ensures { IsReadUnlessMemory result (read_outcome (λ s. s) result ≡ rule.with_pages service (items_view values.now)) }
 {
     for (index, value) in values.iter().enumerate() {
         let (page, often) = match next_page(value, index + 1, &service) {
             Ok(page) => page,
-            Err(error) => return Err(error),
+            Err(fault) => return Err(fault),
         };
         match service.add(page, often) {
             Ok(()) => {}
-            Err(_) => return Err(NO_MEMORY),
+            Err(_) => return Err(ReadFault::NoMemory),
         }
     }
     Ok(service)
@@ -112,16 +110,30 @@ fn with_pages(mut service: Service, values: &[Value]) -> Result<Service, SourceE
 
 // The service that a table is, or its first fault.
 #[tactic(auto, unfolding(crate::specs::Services::service_of))]
-fn service_of(alloc: Global, table: &Table) -> Result<Service, SourceError>
-    ensures { IsSourceUnlessMemory result (outcome_in_page (λ s. s) result ≡ rule.service_of (table_view table.now)) }
+fn service_of(alloc: Global, table: &Table) -> Result<Service, ReadFault>
+    ensures { IsReadUnlessMemory result (read_outcome (λ s. s) result ≡ rule.service_of (table_view table.now)) }
 {
     let service = match settings(alloc, table) {
         Ok(service) => service,
-        Err(fault) => return Err(SourceError { fault, page: 0 }),
+        Err(fault) => return Err(ReadFault::InPage { page: 0, fault }),
     };
     match page_tables(table) {
         Ok(values) => with_pages(service, values),
-        Err(fault) => Err(SourceError { fault, page: 0 }),
+        Err(fault) => Err(ReadFault::InPage { page: 0, fault }),
+    }
+}
+
+// The service of a text, or its first fault.
+fn read(alloc: Global, bytes: &[u8]) -> Result<Service, ReadFault>
+    ensures { IsReadUnlessMemory result (read_outcome (λ s. s) result ≡ rule.read_bytes bytes.now) }
+{
+    let Ok(text) = std::str::from_utf8(bytes) else {
+        return Err(ReadFault::NotToml);
+    };
+    match toml::table_from_str(alloc, text) {
+        Ok(table) => service_of(alloc, &table),
+        Err(error) if error.is_memory() => Err(ReadFault::NoMemory),
+        Err(_) => Err(ReadFault::NotToml),
     }
 }
 
@@ -129,18 +141,8 @@ fn service_of(alloc: Global, table: &Table) -> Result<Service, SourceError>
 pub fn read_service(alloc: Global, bytes: &[u8]) -> Result<Service, SourceError>
     ensures { IsSourceUnlessMemory result (outcome_in_page (λ s. s) result ≡ rule.read_bytes bytes.now) }
 {
-    let Ok(text) = std::str::from_utf8(bytes) else {
-        return Err(SourceError {
-            fault: SourceFault::NotToml,
-            page: 0,
-        });
-    };
-    match toml::table_from_str(alloc, text) {
-        Ok(table) => service_of(alloc, &table),
-        Err(error) if error.is_memory() => Err(NO_MEMORY),
-        Err(_) => Err(SourceError {
-            fault: SourceFault::NotToml,
-            page: 0,
-        }),
+    match read(alloc, bytes) {
+        Ok(service) => Ok(service),
+        Err(fault) => Err(fault.source_error()),
     }
 }

@@ -7,9 +7,10 @@ ghost use Rattle.toml.specs.View.{table_view, view};
 ghost use Rattle.ttx_page.specs.Pages.{IsRow};
 ghost use Rattle.ttx_source.specs.Keys as rule;
 ghost use Rattle.ttx_source.specs.Keys.{AreRows};
-ghost use Rattle.ttx_source.specs.Faults.{source_outcome};
+ghost use Rattle.ttx_source.specs.KeyFaults.{key_outcome};
 
-use crate::faults::SourceFault;
+use crate::key_faults::KeyFault;
+use crate::keys::Key;
 use crate::texts::characters;
 use crate::values::{member, table_of, text_of};
 use toml::{Table, Value};
@@ -41,13 +42,13 @@ fn blank_row() -> [u8; 40]
 }
 
 // The row of a value: spaces where there is none.
-fn row_of(value: Option<&Value>) -> Result<[u8; 40], SourceFault>
-    ensures value { source_outcome (λ r. r) result ≡ rule.row_of (option_map (λ v. view v.now) value.entry) }
+fn row_of(value: Option<&Value>) -> Result<[u8; 40], KeyFault>
+    ensures value { key_outcome (λ r. r) result ≡ rule.row_of (option_map (λ v. view v.now) value.entry) }
     ensures row { IfOk result IsRow }
 {
     match value {
         None => Ok(blank_row()),
-        Some(value) => characters(text_of(value, "rows")?),
+        Some(value) => characters(text_of(value, Key::Rows)?),
     }
 }
 
@@ -59,8 +60,8 @@ fn blank_rows() -> [[u8; 40]; 24]
 }
 
 // The rows of these values.
-fn rows_of(values: &[Option<&Value>; 24]) -> Result<[[u8; 40]; 24], SourceFault>
-    ensures value { source_outcome (λ r. r) result ≡ rule.rows_of (map (option_map (λ v. view v.now)) values.now) }
+fn rows_of(values: &[Option<&Value>; 24]) -> Result<[[u8; 40]; 24], KeyFault>
+    ensures value { key_outcome (λ r. r) result ≡ rule.rows_of (map (option_map (λ v. view v.now)) values.now) }
     ensures rows { IfOk result AreRows }
 {
     let mut rows = blank_rows();
@@ -71,14 +72,14 @@ fn rows_of(values: &[Option<&Value>; 24]) -> Result<[[u8; 40]; 24], SourceFault>
 }
 
 // The rows of a table of rows.
-fn rows_in(table: &Table) -> Result<[[u8; 40]; 24], SourceFault>
-    ensures value { source_outcome (λ r. r) result ≡ rule.rows_in (table_view table.now) }
+fn rows_in(table: &Table) -> Result<[[u8; 40]; 24], KeyFault>
+    ensures value { key_outcome (λ r. r) result ≡ rule.rows_in (table_view table.now) }
     ensures rows { IfOk result AreRows }
 {
     let mut values = [None; 24];
     for (key, value) in table.iter() {
         match row_index(key.as_str()) {
-            None => return Err(SourceFault::Range { key: "rows" }),
+            None => return Err(KeyFault::Range { key: Key::Rows }),
             Some(index) => values[index] = Some(value),
         }
     }
@@ -86,12 +87,12 @@ fn rows_in(table: &Table) -> Result<[[u8; 40]; 24], SourceFault>
 }
 
 /// Rows 1 to 24 of a page.
-pub fn rows(page: &Table) -> Result<[[u8; 40]; 24], SourceFault>
-    ensures value { source_outcome (λ r. r) result ≡ rule.rows (table_view page.now) }
+pub fn rows(page: &Table) -> Result<[[u8; 40]; 24], KeyFault>
+    ensures value { key_outcome (λ r. r) result ≡ rule.rows (table_view page.now) }
     ensures rows { IfOk result AreRows }
 {
-    match member(page, "rows") {
+    match member(page, Key::Rows) {
         None => Ok(blank_rows()),
-        Some(value) => rows_in(table_of(value, "rows")?),
+        Some(value) => rows_in(table_of(value, Key::Rows)?),
     }
 }

@@ -5,9 +5,10 @@ ghost use Rattle.std.specs.List.{list_all};
 ghost use Rattle.std.specs.Str.{chars};
 ghost use Rattle.ttx_header.specs.Ids.{IsSubcode};
 ghost use Rattle.ttx_source.specs.Values as rule;
-ghost use Rattle.ttx_source.specs.Faults.{source_outcome, fault_of};
+ghost use Rattle.ttx_source.specs.KeyFaults.{key_outcome, key_fault_of, key_name};
 
-use crate::faults::SourceFault;
+use crate::key_faults::KeyFault;
+use crate::keys::Key;
 use ttx_digits::{first_number, four_digits, two_digits};
 use ttx_links::Target;
 
@@ -33,14 +34,14 @@ fn is_plain(bytes: &[u8]) -> bool
 }
 
 // The fault of a text of more bytes than characters may be.
-fn long_fault(text: &str, most: usize) -> SourceFault
+fn long_fault(text: &str, most: usize) -> KeyFault
     requires { most < length text.now }
-    ensures { Err (fault_of result) ≡ rule.characters most text.now }
+    ensures { Err (key_fault_of result) ≡ rule.characters most text.now }
 {
     if char_count(text) > most {
-        SourceFault::RowTooLong
+        KeyFault::RowTooLong
     } else {
-        SourceFault::Character
+        KeyFault::Character
     }
 }
 
@@ -55,8 +56,8 @@ fn padded<const N: usize>(bytes: &[u8]) -> [u8; N]
 }
 
 /// The codes of a text of at most `N` characters, with spaces at the end.
-pub fn characters<const N: usize>(text: &str) -> Result<[u8; N], SourceFault>
-    ensures value { source_outcome (λ r. r) result ≡ rule.characters N text.now }
+pub fn characters<const N: usize>(text: &str) -> Result<[u8; N], KeyFault>
+    ensures value { key_outcome (λ r. r) result ≡ rule.characters N text.now }
     ensures codes { IfOk result (λ row. (c : ℕ) → slice_index row c < 128) }
 {
     let bytes = text.as_bytes();
@@ -67,22 +68,22 @@ pub fn characters<const N: usize>(text: &str) -> Result<[u8; N], SourceFault>
     if is_plain(&codes) {
         Ok(codes)
     } else {
-        Err(SourceFault::Character)
+        Err(KeyFault::Character)
     }
 }
 
 /// The magazine and the page number that `MPP` names.
 #[tactic(auto, unfolding(crate::specs::Values::page_number))]
-pub fn page_number(text: &str) -> Result<(u8, u8), SourceFault>
-    ensures value { source_outcome (λ n. n) result ≡ rule.page_number text.now }
+pub fn page_number(text: &str) -> Result<(u8, u8), KeyFault>
+    ensures value { key_outcome (λ n. n) result ≡ rule.page_number text.now }
     ensures ranges { IfOk result (λ n. (1 ≤ n.0) × (n.0 ≤ 8) × (n.1 ≢ 0xff)) }
 {
     let text = text.as_bytes();
     if text.len() != 3 {
-        return Err(SourceFault::PageNumber);
+        return Err(KeyFault::PageNumber);
     }
     match first_number(text) {
-        None => Err(SourceFault::PageNumber),
+        None => Err(KeyFault::PageNumber),
         Some(number) => Ok(number),
     }
 }
@@ -96,59 +97,59 @@ fn is_inside_mask(sub: u16) -> bool
 
 /// The subcode of a page, as four digits.
 #[tactic(auto, unfolding(crate::specs::Values::subcode))]
-pub fn subcode(text: &str) -> Result<u16, SourceFault>
-    ensures value { source_outcome (λ n. n) result ≡ rule.subcode text.now }
+pub fn subcode(text: &str) -> Result<u16, KeyFault>
+    ensures value { key_outcome (λ n. n) result ≡ rule.subcode text.now }
     ensures ranges { IfOk result (λ sub. IsSubcode sub × (sub ≢ 0x3f7f)) }
 {
     let text = text.as_bytes();
     if text.len() != 4 {
-        return Err(SourceFault::Subcode);
+        return Err(KeyFault::Subcode);
     }
     match four_digits(text, 0) {
         Some(sub) if is_inside_mask(sub) && sub != ANY_SUBCODE => Ok(sub),
-        _ => Err(SourceFault::Subcode),
+        _ => Err(KeyFault::Subcode),
     }
 }
 
 /// Two bytes, as four digits.
 #[tactic(auto, unfolding(crate::specs::Values::byte_pair))]
-pub fn byte_pair(text: &str, key: &'static str) -> Result<[u8; 2], SourceFault>
-    ensures { source_outcome (λ b. b) result ≡ rule.byte_pair key.now text.now }
+pub fn byte_pair(text: &str, key: Key) -> Result<[u8; 2], KeyFault>
+    ensures { key_outcome (λ b. b) result ≡ rule.byte_pair (key_name key) text.now }
 {
     let text = text.as_bytes();
     if text.len() != 4 {
-        return Err(SourceFault::Range { key });
+        return Err(KeyFault::Range { key });
     }
     match (two_digits(text, 0), two_digits(text, 2)) {
         (Some(high), Some(low)) => Ok([high, low]),
-        _ => Err(SourceFault::Range { key }),
+        _ => Err(KeyFault::Range { key }),
     }
 }
 
 // The target of a link, if both parts of its text are numbers.
-fn target(number: Option<(u8, u8)>, sub: Option<u16>) -> Result<Option<Target>, SourceFault>
+fn target(number: Option<(u8, u8)>, sub: Option<u16>) -> Result<Option<Target>, KeyFault>
     requires { IfSome number (λ n. (1 ≤ n.0) × (n.0 ≤ 8) × (n.1 ≢ 0xff)) }
-    ensures { source_outcome (λ l. l) result ≡ rule.link_to number sub }
+    ensures { key_outcome (λ l. l) result ≡ rule.link_to number sub }
 {
     let (Some((mag, page)), Some(sub)) = (number, sub) else {
-        return Err(SourceFault::PageNumber);
+        return Err(KeyFault::PageNumber);
     };
     match Target::new(mag, page, sub) {
-        None => Err(SourceFault::Subcode),
+        None => Err(KeyFault::Subcode),
         Some(target) => Ok(Some(target)),
     }
 }
 
 /// A link: none in an empty text, else `MPP` for any subpage or `MPP/SSSS`.
 #[tactic(auto, unfolding(crate::specs::Values::link))]
-pub fn link(text: &str) -> Result<Option<Target>, SourceFault>
-    ensures { source_outcome (λ l. l) result ≡ rule.link text.now }
+pub fn link(text: &str) -> Result<Option<Target>, KeyFault>
+    ensures { key_outcome (λ l. l) result ≡ rule.link text.now }
 {
     let text = text.as_bytes();
     match text.len() {
         0 => Ok(None),
         3 => target(first_number(text), Some(ANY_SUBCODE)),
         8 if text[3] == b'/' => target(first_number(text), four_digits(text, 4)),
-        _ => Err(SourceFault::PageNumber),
+        _ => Err(KeyFault::PageNumber),
     }
 }

@@ -5,90 +5,91 @@ ghost use Rattle.toml.specs.Data.{as_integer, as_bool, as_str, as_array, as_tabl
 ghost use Rattle.toml.specs.View.{table_view, array_view, view};
 ghost use Rattle.ttx_source.specs.Values as rule;
 ghost use Rattle.ttx_source.specs.Values.{or_fault, missing, of_kind, with_default, integer_at, integer_at_or, integer_within};
-ghost use Rattle.ttx_source.specs.Faults.{source_outcome};
+ghost use Rattle.ttx_source.specs.KeyFaults.{key_outcome, key_name};
 
-use crate::faults::SourceFault;
+use crate::key_faults::KeyFault;
+use crate::keys::Key;
 use toml::{Table, Value};
 
 /// The value at a key.
-pub fn member<'a>(table: &'a Table, key: &str) -> Option<&'a Value>
-    ensures { option_map (λ x. view x.now) result ≡ get_member key.now (table_view table.now) }
+pub fn member<'a>(table: &'a Table, key: Key) -> Option<&'a Value>
+    ensures { option_map (λ x. view x.now) result ≡ get_member (key_name key) (table_view table.now) }
 {
-    table.get(key)
+    table.get(key.name())
 }
 
 // The value at a key that must be there.
-fn required<'a>(table: &'a Table, key: &'static str) -> Result<&'a Value, SourceFault>
-    ensures { source_outcome (λ x. view x.now) result ≡ or_fault (missing key.now) (get_member key.now (table_view table.now)) }
+fn required<'a>(table: &'a Table, key: Key) -> Result<&'a Value, KeyFault>
+    ensures { key_outcome (λ x. view x.now) result ≡ or_fault (missing (key_name key)) (get_member (key_name key) (table_view table.now)) }
 {
     match member(table, key) {
-        None => Err(SourceFault::Missing { key }),
+        None => Err(KeyFault::Missing { key }),
         Some(value) => Ok(value),
     }
 }
 
-fn integer_of(value: &Value, key: &'static str) -> Result<i64, SourceFault>
-    ensures { source_outcome (λ z. z) result ≡ of_kind key.now as_integer (view value.now) }
+fn integer_of(value: &Value, key: Key) -> Result<i64, KeyFault>
+    ensures { key_outcome (λ z. z) result ≡ of_kind (key_name key) as_integer (view value.now) }
 {
     match value.as_integer() {
-        None => Err(SourceFault::Kind { key }),
+        None => Err(KeyFault::Kind { key }),
         Some(number) => Ok(number),
     }
 }
 
-fn boolean_of(value: &Value, key: &'static str) -> Result<bool, SourceFault>
-    ensures { source_outcome (λ b. b) result ≡ of_kind key.now as_bool (view value.now) }
+fn boolean_of(value: &Value, key: Key) -> Result<bool, KeyFault>
+    ensures { key_outcome (λ b. b) result ≡ of_kind (key_name key) as_bool (view value.now) }
 {
     match value.as_bool() {
-        None => Err(SourceFault::Kind { key }),
+        None => Err(KeyFault::Kind { key }),
         Some(answer) => Ok(answer),
     }
 }
 
 /// The text that a value is.
-pub fn text_of<'a>(value: &'a Value, key: &'static str) -> Result<&'a str, SourceFault>
-    ensures { source_outcome (λ t. t.now) result ≡ of_kind key.now as_str (view value.now) }
+pub fn text_of<'a>(value: &'a Value, key: Key) -> Result<&'a str, KeyFault>
+    ensures { key_outcome (λ t. t.now) result ≡ of_kind (key_name key) as_str (view value.now) }
 {
     match value.as_str() {
-        None => Err(SourceFault::Kind { key }),
+        None => Err(KeyFault::Kind { key }),
         Some(text) => Ok(text),
     }
 }
 
 /// The array that a value is.
-pub fn array_of<'a>(value: &'a Value, key: &'static str) -> Result<&'a Vec<Value>, SourceFault>
-    ensures { source_outcome (λ a. array_view a.now) result ≡ of_kind key.now as_array (view value.now) }
+pub fn array_of<'a>(value: &'a Value, key: Key) -> Result<&'a Vec<Value>, KeyFault>
+    ensures { key_outcome (λ a. array_view a.now) result ≡ of_kind (key_name key) as_array (view value.now) }
 {
     match value.as_array() {
-        None => Err(SourceFault::Kind { key }),
+        None => Err(KeyFault::Kind { key }),
         Some(values) => Ok(values),
     }
 }
 
 /// The table that a value is.
-pub fn table_of<'a>(value: &'a Value, key: &'static str) -> Result<&'a Table, SourceFault>
-    ensures { source_outcome (λ t. table_view t.now) result ≡ of_kind key.now as_table (view value.now) }
+pub fn table_of<'a>(value: &'a Value, key: Key) -> Result<&'a Table, KeyFault>
+    ensures { key_outcome (λ t. table_view t.now) result ≡ of_kind (key_name key) as_table (view value.now) }
 {
     match value.as_table() {
-        None => Err(SourceFault::Kind { key }),
+        None => Err(KeyFault::Kind { key }),
         Some(table) => Ok(table),
     }
 }
 
 /// An integer in a range.
-pub fn within(number: i64, key: &'static str, low: u32, high: u32) -> Result<u32, SourceFault>
-    ensures value { source_outcome (λ n. n) result ≡ integer_within key.now low high number }
+pub fn within(number: i64, key: Key, low: u32, high: u32) -> Result<u32, KeyFault>
+    ensures value { key_outcome (λ n. n) result ≡ integer_within (key_name key) low high number }
     ensures range { IfOk result (λ n. (low ≤ n) × (n ≤ high)) }
 {
     if number < i64::from(low) || number > i64::from(high) {
-        return Err(SourceFault::Range { key });
+        return Err(KeyFault::Range { key });
     }
     Ok(number as u32)
 }
 
 /// The integer at a key that must be there, in a range.
-pub fn integer(table: &Table, key: &'static str, low: u32, high: u32) -> Result<u32, SourceFault>
-    ensures value { source_outcome (λ n. n) result ≡ integer_at key.now low high (table_view table.now) }
+pub fn integer(table: &Table, key: Key, low: u32, high: u32) -> Result<u32, KeyFault>
+    ensures value { key_outcome (λ n. n) result ≡ integer_at (key_name key) low high (table_view table.now) }
     ensures range { IfOk result (λ n. (low ≤ n) × (n ≤ high)) }
 {
     let number = integer_of(required(table, key)?, key)?;
@@ -96,8 +97,8 @@ pub fn integer(table: &Table, key: &'static str, low: u32, high: u32) -> Result<
 }
 
 /// The integer at a key, or a default.
-pub fn integer_or(table: &Table, key: &'static str, default: i64) -> Result<i64, SourceFault>
-    ensures { source_outcome (λ z. z) result ≡ with_default key.now as_integer default (table_view table.now) }
+pub fn integer_or(table: &Table, key: Key, default: i64) -> Result<i64, KeyFault>
+    ensures { key_outcome (λ z. z) result ≡ with_default (key_name key) as_integer default (table_view table.now) }
 {
     match member(table, key) {
         None => Ok(default),
@@ -106,15 +107,15 @@ pub fn integer_or(table: &Table, key: &'static str, default: i64) -> Result<i64,
 }
 
 /// The boolean at a key that must be there.
-pub fn boolean(table: &Table, key: &'static str) -> Result<bool, SourceFault>
-    ensures { source_outcome (λ b. b) result ≡ rule.required key.now as_bool (table_view table.now) }
+pub fn boolean(table: &Table, key: Key) -> Result<bool, KeyFault>
+    ensures { key_outcome (λ b. b) result ≡ rule.required (key_name key) as_bool (table_view table.now) }
 {
     boolean_of(required(table, key)?, key)
 }
 
 /// The boolean at a key; false where there is none.
-pub fn flag(table: &Table, key: &'static str) -> Result<bool, SourceFault>
-    ensures { source_outcome (λ b. b) result ≡ with_default key.now as_bool false (table_view table.now) }
+pub fn flag(table: &Table, key: Key) -> Result<bool, KeyFault>
+    ensures { key_outcome (λ b. b) result ≡ with_default (key_name key) as_bool false (table_view table.now) }
 {
     match member(table, key) {
         None => Ok(false),
@@ -123,19 +124,15 @@ pub fn flag(table: &Table, key: &'static str) -> Result<bool, SourceFault>
 }
 
 /// The text at a key that must be there.
-pub fn text<'a>(table: &'a Table, key: &'static str) -> Result<&'a str, SourceFault>
-    ensures { source_outcome (λ t. t.now) result ≡ rule.required key.now as_str (table_view table.now) }
+pub fn text<'a>(table: &'a Table, key: Key) -> Result<&'a str, KeyFault>
+    ensures { key_outcome (λ t. t.now) result ≡ rule.required (key_name key) as_str (table_view table.now) }
 {
     text_of(required(table, key)?, key)
 }
 
 /// The text at a key, or a default.
-pub fn text_or<'a>(
-    table: &'a Table,
-    key: &'static str,
-    default: &'static str,
-) -> Result<&'a str, SourceFault>
-    ensures { source_outcome (λ t. t.now) result ≡ with_default key.now as_str default.now (table_view table.now) }
+pub fn text_or<'a>(table: &'a Table, key: Key, default: &'static str) -> Result<&'a str, KeyFault>
+    ensures { key_outcome (λ t. t.now) result ≡ with_default (key_name key) as_str default.now (table_view table.now) }
 {
     match member(table, key) {
         None => Ok(default),

@@ -1,14 +1,18 @@
-use Rattle.std.proofs.Common.{◌≡◌, inr, true}
-use Rattle.std.specs.Str.{is_utf8}
-use Rattle.std.proofs.lemmas.Str.{is_utf8-from_IsUtf8}
-use Rattle.ttx_source.proofs.Plain.{not_utf8}
+use Rattle.std.proofs.Common.{◌≡◌, ◌∙◌, ◌⊎◌, ℕ, ap, inl, inr, Result, Err}
+use Rattle.ttx_source.specs.Values.{Fault}
+use Rattle.ttx_source.specs.Services.{ServiceFields}
+use Rattle.ttx_source.specs.Faults.{fault_of}
+use Rattle.ttx_source.specs.KeyFaults.{in_no_memory, out_of_memory, read_fault_of}
+use Rattle.ttx_source.specs.declared.faults.SourceError.{SourceError}
+use Rattle.ttx_source.specs.declared.key_faults.ReadFault.{ReadFault}
 use Rattle.ttx_source.proofs.reading.read_service.Goals as goal
 
-pub returns-in_default : goal.returns-in_default
-returns-in_default c = inr (rw (not_utf8 c.args.bytes.now c.in_default.ensures.cases.0))
+-- an error that tells a fault is the one that is due, unless memory ran out
+told : (e : ReadFault) (error : SourceError) (due : Result ServiceFields (Fault × ℕ)) → (fault_of error.fault, error.page) ≡ read_fault_of e
+    → (e ≡ in_no_memory → error ≡ out_of_memory) → (e ≡ in_no_memory) ⊎ (Err (read_fault_of e) ≡ due)
+    → (error ≡ out_of_memory) ⊎ (Err (fault_of error.fault, error.page) ≡ due)
+told e error due same memory (inl is) = inl (memory is)
+told e error due same memory (inr is) = inr (ap Err same ∙ is)
 
-pub returns-in-Ok-table_from_str : goal.returns-in-Ok-table_from_str
-returns-in-Ok-table_from_str c =
-    let text : is_utf8 c.args.bytes.now ≡ true = is_utf8-from_IsUtf8 c.args.bytes.now c.in-Ok.ensures.cases.1 in
-    let read = rw c.in-Ok.ensures.cases.0 at c.in-Ok-table_from_str.ensures.ok in
-    rw (text, read) c.service_of.ensures
+pub returns-in-Err : goal.returns-in-Err
+returns-in-Err c = told c.in-Err.fault c.source_error.result _ c.source_error.ensures.fault c.source_error.ensures.memory c.in-Err.ensures

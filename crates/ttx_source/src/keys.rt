@@ -1,0 +1,93 @@
+//! The keys of a service definition.
+
+ghost use Rattle.std.specs.Prelude.{◌≡◌};
+ghost use Rattle.ttx_source.specs.KeyFaults.{key_name};
+
+/// A key by the last part of its name.
+#[derive(Clone, Copy)]
+pub enum Key {
+    Lines,
+    Serial,
+    Info,
+    Designation,
+    Initial,
+    Network,
+    Halves,
+    Mjd,
+    Utc,
+    Text,
+    Page,
+    Number,
+    Sub,
+    Often,
+    Option,
+    Newsflash,
+    Subtitle,
+    Suppress,
+    Update,
+    Interrupted,
+    Inhibit,
+    Head,
+    Rows,
+    Links,
+    Row24,
+    Crc,
+}
+
+// The name of each key, in their order, and what the key takes.
+static KEYS: [(&str, &str); 26] = [
+    ("lines", "an integer from 1 to 32"),
+    ("serial", "true or false"),
+    ("info", "a table"),
+    ("designation", "0 or 1"),
+    (
+        "initial",
+        "a text: a page as \"100\" or \"100/0001\", or nothing",
+    ),
+    ("network", "a text of four hexadecimal digits"),
+    ("halves", "an integer from -31 to 31"),
+    ("mjd", "an integer from 0 to 99999"),
+    ("utc", "an integer from 0 to 999999, the digits hhmmss"),
+    ("text", "a text of at most 20 characters"),
+    ("page", "an array of at most 2000 tables"),
+    ("number", "a text: a page number as \"100\""),
+    ("sub", "a text: a subcode as \"0001\""),
+    ("often", "1, 2, 4 or 8"),
+    ("option", "an integer from 0 to 7"),
+    ("newsflash", "true or false"),
+    ("subtitle", "true or false"),
+    ("suppress", "true or false"),
+    ("update", "true or false"),
+    ("interrupted", "true or false"),
+    ("inhibit", "true or false"),
+    ("head", "a text of at most 24 characters"),
+    (
+        "rows",
+        "a table of texts of at most 40 characters at keys from \"1\" to \"24\"",
+    ),
+    (
+        "links",
+        "an array of at most six texts, each a page as \"100\" or \"100/0001\", or nothing",
+    ),
+    ("row24", "true or false"),
+    ("crc", "a text of four hexadecimal digits"),
+];
+
+impl Key {
+    /// The name of the key.
+    pub fn name(self) -> &'static str
+        ensures { result.now ≡ key_name self }
+    {
+        KEYS[self as usize].0
+    }
+}
+
+/// What a key takes.
+pub fn accepted(key: &str) -> &'static str {
+    for entry in KEYS.as_slice() {
+        if entry.0 == key {
+            return entry.1;
+        }
+    }
+    "no value"
+}
