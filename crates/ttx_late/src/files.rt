@@ -1,6 +1,6 @@
 //! Certifying files for receivers that show pages late: a packet file, a service definition and a certificate.
 
-ghost use Rattle.std.specs.Prelude.{◌≡◌, IfSome, IfOk, IfErr, string_bytes};
+ghost use Rattle.std.specs.Prelude.{◌≡◌, IfSome, IfOk, string_bytes};
 ghost use Rattle.ttx_cycle.specs.Counters.{inner_of, faults_of};
 ghost use Rattle.ttx_cycle.specs.Cycles.{slots_of};
 ghost use Rattle.ttx_witness.specs.Certificates.{fields_of};
@@ -15,7 +15,7 @@ use std::alloc::Global;
 use std::io::{Read, Write};
 use ttx_certify::{FilesFault, Inputs, read_inputs, write_line};
 use ttx_cycle::Counted;
-use ttx_witness::Certificate;
+use ttx_witness::{Certificate, NoMemory};
 
 // The verdict on what is read, and its line.
 #[derive(Drop)]
@@ -29,29 +29,24 @@ fn line_of(
     certificate: &Certificate,
     pages: usize,
     verdict: &LateVerdict,
-) -> Result<String, FilesFault>
-    ensures line { IfOk result (λ line. string_bytes line ≡ late_verdict_line (fields_of certificate.now) pages verdict.now) }
-    ensures memory { IfErr result (λ fault. fault ≡ FilesFault.NoMemory) }
+) -> Result<String, NoMemory>
+    ensures { IfOk result (λ line. string_bytes line ≡ late_verdict_line (fields_of certificate.now) pages verdict.now) }
 {
-    match late_verdict_line(alloc, certificate, pages, *verdict) {
-        Ok(line) => Ok(line),
-        Err(_) => Err(FilesFault::NoMemory),
-    }
+    late_verdict_line(alloc, certificate, pages, *verdict)
 }
 
 // The verdict on what was read, and its line.
-fn judge(alloc: Global, inputs: &Inputs) -> Result<Told, FilesFault>
-    ensures judged { IfOk result (λ told. IsJudgedLate (slots_of inputs.now.cycle) inputs.now.service (fields_of inputs.now.certificate)
+fn judge(alloc: Global, inputs: &Inputs) -> Result<Told, NoMemory>
+    ensures { IfOk result (λ told. IsJudgedLate (slots_of inputs.now.cycle) inputs.now.service (fields_of inputs.now.certificate)
         told.verdict (string_bytes told.line)) }
-    ensures memory { IfErr result (λ fault. fault ≡ FilesFault.NoMemory) }
 {
     let (service, certificate) = (&inputs.service, &inputs.certificate);
     let Ok(verdict) = certify_late(alloc, &inputs.cycle, service, certificate) else {
-        return Err(FilesFault::NoMemory);
+        return Err(NoMemory);
     };
     match line_of(alloc, certificate, service.pages().len(), &verdict) {
         Ok(line) => Ok(Told { verdict, line }),
-        Err(_) => Err(FilesFault::NoMemory),
+        Err(_) => Err(NoMemory),
     }
 }
 

@@ -17,14 +17,14 @@ returns-in-Err-judge-clause-bytes g c = no_memory c.in-Ok.inputs (g.A.Read.remai
 
 pub returns-in-Ok-write_line-clause-bytes : goal.returns-in-Ok-write_line-clause-bytes
 returns-in-Ok-write_line-clause-bytes g c =
-    all_written c.in-Ok.inputs c.in-Ok-judge.told.verdict _ _ c.as_bytes.ensures.value c.in-Ok-judge.ensures.judged
+    all_written c.in-Ok.inputs c.in-Ok-judge.told.verdict _ _ c.as_bytes.ensures.value c.in-Ok-judge.ensures
     (g.A.Read.remaining (inner_of c.args.cycle.now)) (g.B.Read.remaining (inner_of c.args.service.now))
     (g.C.Read.remaining (inner_of c.args.certificate.now)) _ _
     c.in-Ok.ensures.bytes c.in-Ok-write_line.ensures.bytes
 
 pub returns-clause-bytes : goal.returns-clause-bytes
 returns-clause-bytes g c =
-    partly_written c.in-Ok.inputs c.in-Ok-judge.told.verdict _ _ c.as_bytes.ensures.value c.in-Ok-judge.ensures.judged
+    partly_written c.in-Ok.inputs c.in-Ok-judge.told.verdict _ _ c.as_bytes.ensures.value c.in-Ok-judge.ensures
     (g.A.Read.remaining (inner_of c.args.cycle.now)) (g.B.Read.remaining (inner_of c.args.service.now))
     (g.C.Read.remaining (inner_of c.args.certificate.now)) _ _
     c.in-Ok.ensures.bytes c.in-Err-write_line.fault c.in-Err-write_line.ensures.bytes
