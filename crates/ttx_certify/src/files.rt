@@ -1,6 +1,6 @@
 //! Certifying files: a packet file, a service definition and a certificate.
 
-ghost use Rattle.std.specs.Prelude.{◌≡◌, IfSome, IfOk, IfErr, string_bytes};
+ghost use Rattle.std.specs.Prelude.{◌≡◌, IfSome, IfOk, string_bytes};
 ghost use Rattle.ttx_cycle.specs.Counters.{inner_of, faults_of};
 ghost use Rattle.ttx_cycle.specs.Cycles.{slots_of};
 ghost use Rattle.ttx_witness.specs.Certificates.{fields_of};
@@ -17,7 +17,7 @@ use std::alloc::Global;
 use std::io::{Read, Write};
 use ttx_cycle::{Counted, Cycle, MOST_BYTES, TextFault, read_cycle, read_text, write_bytes};
 use ttx_source::{Service, read_service};
-use ttx_witness::{Certificate, read_certificate};
+use ttx_witness::{Certificate, NoMemory, read_certificate};
 
 /// What is read of a packet file, the text of a service and that of a certificate.
 #[derive(Drop)]
@@ -82,14 +82,10 @@ pub fn line_of(
     certificate: &Certificate,
     pages: usize,
     verdict: &Verdict,
-) -> Result<String, FilesFault>
-    ensures line { IfOk result (λ line. string_bytes line ≡ verdict_line (fields_of certificate.now) pages verdict.now) }
-    ensures memory { IfErr result (λ fault. fault ≡ FilesFault.NoMemory) }
+) -> Result<String, NoMemory>
+    ensures { IfOk result (λ line. string_bytes line ≡ verdict_line (fields_of certificate.now) pages verdict.now) }
 {
-    match verdict_line(alloc, certificate, pages, *verdict) {
-        Ok(line) => Ok(line),
-        Err(_) => Err(FilesFault::NoMemory),
-    }
+    verdict_line(alloc, certificate, pages, *verdict)
 }
 
 /// Writes the line of a verdict. At `Write` exactly its first `written` bytes went out.
@@ -137,18 +133,17 @@ pub fn read_inputs<A: Read, B: Read, C: Read>(
 }
 
 // The verdict on what was read, and its line.
-fn judge(alloc: Global, inputs: &Inputs) -> Result<Told, FilesFault>
-    ensures judged { IfOk result (λ judged. IsJudged (slots_of inputs.now.cycle) inputs.now.service (fields_of inputs.now.certificate)
+fn judge(alloc: Global, inputs: &Inputs) -> Result<Told, NoMemory>
+    ensures { IfOk result (λ judged. IsJudged (slots_of inputs.now.cycle) inputs.now.service (fields_of inputs.now.certificate)
         judged.verdict (string_bytes judged.line)) }
-    ensures memory { IfErr result (λ fault. fault ≡ FilesFault.NoMemory) }
 {
     let (service, certificate) = (&inputs.service, &inputs.certificate);
     let Ok(verdict) = certify_service(alloc, &inputs.cycle, service, certificate) else {
-        return Err(FilesFault::NoMemory);
+        return Err(NoMemory);
     };
     match line_of(alloc, certificate, service.pages().len(), &verdict) {
         Ok(line) => Ok(Told { verdict, line }),
-        Err(_) => Err(FilesFault::NoMemory),
+        Err(_) => Err(NoMemory),
     }
 }
 

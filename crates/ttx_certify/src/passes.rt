@@ -1,6 +1,6 @@
 //! Certifying two readings of a packet file with a service definition and a certificate. No slot is kept.
 
-ghost use Rattle.std.specs.Prelude.{◌≡◌, IfSome};
+ghost use Rattle.std.specs.Prelude.{IfSome};
 ghost use Rattle.ttx_cycle.specs.Counters.{inner_of, faults_of};
 ghost use Rattle.ttx_witness.specs.Certificates.{fields_of};
 ghost use Rattle.ttx_certify.specs.CertifyingFiles.{IsUntouched, is_write};

@@ -3,9 +3,9 @@ use Rattle.ttx_witness.specs.Certificates.{fields_of}
 use Rattle.ttx_certify.specs.VerdictLines.{verdict_line}
 use Rattle.ttx_certify.proofs.files.judge.Goals as goal
 
-pub returns-in-Ok-line_of-clause-judged : goal.returns-in-Ok-line_of-clause-judged
-returns-in-Ok-line_of-clause-judged c = record {
+pub returns-in-Ok-line_of : goal.returns-in-Ok-line_of
+returns-in-Ok-line_of c = record {
   exact = c.in-Ok.ensures.exact;
   seen = c.in-Ok.ensures.seen;
-  line_is = c.in-Ok-line_of.ensures.line ∙ ap (λ n. verdict_line (fields_of c.args.inputs.now.certificate) n c.in-Ok.verdict) c.pages.ensures.count;
+  line_is = c.in-Ok-line_of.ensures ∙ ap (λ n. verdict_line (fields_of c.args.inputs.now.certificate) n c.in-Ok.verdict) c.pages.ensures.count;
 }
