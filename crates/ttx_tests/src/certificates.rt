@@ -1,7 +1,8 @@
 //! Texts of certificates by worked examples.
 
-use crate::base::CERTIFICATE;
+use crate::base::{self, CERTIFICATE};
 use std::alloc::Global;
+use std::process::Abort;
 use ttx_header::PageId;
 use ttx_page::{Class, Item, RowNumber};
 use ttx_witness::{CertFault, Certificate, read_certificate, write_certificate};
@@ -9,12 +10,50 @@ use ttx_witness::{CertFault, Certificate, read_certificate, write_certificate};
 static CLEARING: &[u8] =
     b"ttx certificate 2\nclass clearing\nlines 2\nrepeat 1\ndeadline 2\n100/0000 head 0\n";
 
+#[rattlefmt::skip]
+static NOT_ENDED: [(&str, CertFault); 3] = [
+    ("", CertFault::Title),
+    ("ttx certificate 1", CertFault::Title),
+    ("ttx certificate 1\nlines 2\n", CertFault::Line { line: 3 }),
+];
+
+#[rattlefmt::skip]
+static NOT_RISING: [(&str, CertFault); 3] = [
+    (
+        "ttx certificate 1\nlines 2\nrepeat 1\ndeadline 27\n100/0000 head 0\n100/0000 row 1 5 3\n",
+        CertFault::Order { line: 6 },
+    ),
+    (
+        "ttx certificate 1\nlines 2\nrepeat 1\ndeadline 27\n100/0000 head 0\n100/0000 row 1 3 3\n",
+        CertFault::Order { line: 6 },
+    ),
+    (
+        "ttx certificate 1\nlines 2\nrepeat 1\ndeadline 27\n100/0000 head 0\n100/0000 head 1\n",
+        CertFault::Order { line: 6 },
+    ),
+];
+
+#[rattlefmt::skip]
+static OUT_OF_RANGE: [(&str, CertFault); 3] = [
+    (
+        "ttx certificate 1\nlines 2\nrepeat 1\ndeadline 27\n100/0000 head 0\n100/0000 row 1 65536\n",
+        CertFault::Range { line: 6 },
+    ),
+    ("ttx certificate 1\nlines 2\nrepeat 1\ndeadline 1000001\n", CertFault::Range { line: 4 }),
+    ("ttx certificate 1\nlines 2\nrepeat 9\n", CertFault::Range { line: 3 }),
+];
+
+#[rattlefmt::skip]
+static SHAPELESS: [(&str, CertFault); 3] = [
+    ("ttx certificate 1\nlines 2\nrepeat 1\ndeadline 10000000\n", CertFault::Line { line: 4 }),
+    ("ttx certificate 1\nlines 2\nrepeat 1\ndeadline 01\n", CertFault::Line { line: 4 }),
+    ("ttx certificate 2\nclass any\nlines 2\nrepeat 1\ndeadline 27\n", CertFault::Line { line: 2 }),
+];
+
 // What is written of the certificate that the text is.
 fn written_back(alloc: Global, text: &[u8]) -> Option<Vec<u8>> {
-    match read_certificate(alloc, text) {
-        Ok(certificate) => write_certificate(alloc, &certificate).ok(),
-        Err(_) => None,
-    }
+    let certificate = base::certificate(alloc, text)?;
+    write_certificate(alloc, &certificate).ok()
 }
 
 fn is_written_back(alloc: Global, text: &[u8]) -> bool {
@@ -40,22 +79,14 @@ fn numbers(certificate: &Certificate) -> (u8, u8, u32, Class) {
 }
 
 fn numbers_of(alloc: Global, text: &[u8]) -> Option<(u8, u8, u32, Class)> {
-    match read_certificate(alloc, text) {
-        Ok(certificate) => Some(numbers(&certificate)),
-        Err(_) => None,
-    }
+    let certificate = base::certificate(alloc, text)?;
+    Some(numbers(&certificate))
 }
 
 #[test]
 fn numbers_are_read(rt: HostRuntime) {
-    assert_eq!(rt;
-        numbers_of(rt.alloc(), CERTIFICATE),
-        Some((2, 1, 27, Class::Any))
-    );
-    assert_eq!(rt;
-        numbers_of(rt.alloc(), CLEARING),
-        Some((2, 1, 2, Class::Clearing))
-    );
+    assert!(rt; numbers_of(rt.alloc(), CERTIFICATE) == Some((2, 1, 27, Class::Any)));
+    assert!(rt; numbers_of(rt.alloc(), CLEARING) == Some((2, 1, 2, Class::Clearing)));
 }
 
 // The first start of row 23 of page 100, and of page 101.
@@ -67,15 +98,13 @@ fn starts(certificate: &Certificate) -> Option<(Option<u32>, Option<u32>)> {
 }
 
 fn starts_of(alloc: Global, text: &[u8]) -> Option<(Option<u32>, Option<u32>)> {
-    match read_certificate(alloc, text) {
-        Ok(certificate) => starts(&certificate),
-        Err(_) => None,
-    }
+    let certificate = base::certificate(alloc, text)?;
+    starts(&certificate)
 }
 
 #[test]
 fn starts_are_found(rt: HostRuntime) {
-    assert_eq!(rt; starts_of(rt.alloc(), CERTIFICATE), Some((Some(25), None)));
+    assert!(rt; starts_of(rt.alloc(), CERTIFICATE) == Some((Some(25), None)));
 }
 
 fn fault(alloc: Global, text: &[u8]) -> Option<CertFault> {
@@ -89,71 +118,31 @@ fn fault_without_last_byte(alloc: Global, text: &[u8]) -> Option<CertFault> {
     }
 }
 
+// Asserts that each of these texts is refused for its fault.
+fn assert_refused(rt: &impl Abort, alloc: Global, cases: &[(&str, CertFault)]) {
+    for (text, wanted) in cases {
+        assert_eq!(*rt; fault(alloc, text.as_bytes()), Some(*wanted));
+    }
+}
+
 #[test]
 fn lines_are_ended(rt: HostRuntime) {
-    assert_eq!(rt;
-        fault_without_last_byte(rt.alloc(), CERTIFICATE),
-        Some(CertFault::Line { line: 29 })
-    );
-    assert_eq!(rt; fault(rt.alloc(), b""), Some(CertFault::Title));
-    assert_eq!(rt;
-        fault(rt.alloc(), b"ttx certificate 1"),
-        Some(CertFault::Title)
-    );
-    assert_eq!(rt;
-        fault(rt.alloc(), b"ttx certificate 1\nlines 2\n"),
-        Some(CertFault::Line { line: 3 })
-    );
+    let cut = fault_without_last_byte(rt.alloc(), CERTIFICATE);
+    assert!(rt; cut == Some(CertFault::Line { line: 29 }));
+    assert_refused(&rt, rt.alloc(), &NOT_ENDED);
 }
 
 #[test]
 fn starts_and_entries_rise(rt: HostRuntime) {
-    let falling =
-        b"ttx certificate 1\nlines 2\nrepeat 1\ndeadline 27\n100/0000 head 0\n100/0000 row 1 5 3\n";
-    assert_eq!(rt;
-        fault(rt.alloc(), falling),
-        Some(CertFault::Order { line: 6 })
-    );
-    let equal =
-        b"ttx certificate 1\nlines 2\nrepeat 1\ndeadline 27\n100/0000 head 0\n100/0000 row 1 3 3\n";
-    assert_eq!(rt;
-        fault(rt.alloc(), equal),
-        Some(CertFault::Order { line: 6 })
-    );
-    let twice =
-        b"ttx certificate 1\nlines 2\nrepeat 1\ndeadline 27\n100/0000 head 0\n100/0000 head 1\n";
-    assert_eq!(rt;
-        fault(rt.alloc(), twice),
-        Some(CertFault::Order { line: 6 })
-    );
+    assert_refused(&rt, rt.alloc(), &NOT_RISING);
 }
 
 #[test]
 fn numbers_are_in_range(rt: HostRuntime) {
-    let start =
-        b"ttx certificate 1\nlines 2\nrepeat 1\ndeadline 27\n100/0000 head 0\n100/0000 row 1 65536\n";
-    assert_eq!(rt;
-        fault(rt.alloc(), start),
-        Some(CertFault::Range { line: 6 })
-    );
-    let deadline = b"ttx certificate 1\nlines 2\nrepeat 1\ndeadline 1000001\n";
-    assert_eq!(rt;
-        fault(rt.alloc(), deadline),
-        Some(CertFault::Range { line: 4 })
-    );
-    let repeat = b"ttx certificate 1\nlines 2\nrepeat 9\n";
-    assert_eq!(rt;
-        fault(rt.alloc(), repeat),
-        Some(CertFault::Range { line: 3 })
-    );
+    assert_refused(&rt, rt.alloc(), &OUT_OF_RANGE);
 }
 
 #[test]
 fn lines_have_a_shape(rt: HostRuntime) {
-    let long = b"ttx certificate 1\nlines 2\nrepeat 1\ndeadline 10000000\n";
-    assert_eq!(rt; fault(rt.alloc(), long), Some(CertFault::Line { line: 4 }));
-    let zero = b"ttx certificate 1\nlines 2\nrepeat 1\ndeadline 01\n";
-    assert_eq!(rt; fault(rt.alloc(), zero), Some(CertFault::Line { line: 4 }));
-    let any = b"ttx certificate 2\nclass any\nlines 2\nrepeat 1\ndeadline 27\n";
-    assert_eq!(rt; fault(rt.alloc(), any), Some(CertFault::Line { line: 2 }));
+    assert_refused(&rt, rt.alloc(), &SHAPELESS);
 }

@@ -7,8 +7,7 @@ use ttx_certify::{FilesFault, TextFile, Verdict, certify_files, verdict_line};
 use ttx_cycle::faulty::{Failure, FaultyReader, FaultyWriter};
 use ttx_cycle::{Counted, Cycle};
 use ttx_header::time_fill;
-use ttx_source::read_service;
-use ttx_witness::{page_fault, read_certificate};
+use ttx_witness::{Reason, page_fault};
 
 pub(crate) const YES: &str = "yes lines 2 repeat 1 deadline 27 pages 1\n";
 
@@ -84,11 +83,10 @@ fn edits_of_the_worked_cycle(rt: HostRuntime) -> Result<(), Fail> {
 
 // Whether `page_fault` tells the page's fault as this line does, where the line tells of one of its reasons, and else none.
 fn is_told(alloc: Global, slots: Vec<[u8; 42]>, line: &str) -> bool {
-    let (Some(cycle), Ok(service), Ok(certificate)) = (
-        Cycle::of(slots),
-        read_service(alloc, SERVICE),
-        read_certificate(alloc, CERTIFICATE),
-    ) else {
+    let Some(cycle) = Cycle::of(slots) else {
+        return false;
+    };
+    let Some(service) = base::service(alloc, SERVICE) else {
         return false;
     };
     let pages = service.pages();
@@ -97,10 +95,18 @@ fn is_told(alloc: Global, slots: Vec<[u8; 42]>, line: &str) -> bool {
     }
     match page_fault(&cycle, pages, 0) {
         None => !matches!(line.as_bytes().get(3), Some(b'2'..=b'7')),
-        Some(reason) => match verdict_line(alloc, &certificate, 1, Verdict::No(reason)) {
-            Ok(told) => told.as_str() == line,
-            Err(_) => false,
-        },
+        Some(reason) => is_no(alloc, reason, line),
+    }
+}
+
+// Whether this is the line of the worked certificate for a No of this reason.
+fn is_no(alloc: Global, reason: Reason, line: &str) -> bool {
+    let Some(certificate) = base::certificate(alloc, CERTIFICATE) else {
+        return false;
+    };
+    match verdict_line(alloc, &certificate, 1, Verdict::No(reason)) {
+        Ok(told) => told.as_str() == line,
+        Err(_) => false,
     }
 }
 
@@ -123,9 +129,8 @@ fn a_write_that_fails(rt: HostRuntime) -> Result<(), Fail> {
     let mut room = [0; 100];
     let failure = Some(Failure::Error { at: 2 });
     let (verdict, written) = answer(rt.alloc(), all, None, failure, &mut room);
-    assert!(rt; verdict == Err(FilesFault::Write { written: 7 }));
-    assert_eq!(rt; written, 7);
-    assert!(rt; room.as_slice().starts_with(b"yes lin".as_slice()));
+    assert!(rt; matches!(verdict, Err(FilesFault::Write { written: 7 })));
+    assert!(rt; written == 7 && room.starts_with(b"yes lin"));
     Ok(())
 }
 
@@ -135,9 +140,15 @@ fn a_read_that_fails(rt: HostRuntime) -> Result<(), Fail> {
     let all = (slots.as_slice().as_flattened(), SERVICE, CERTIFICATE);
     let mut room = [0; 100];
     let (verdict, written) = answer(rt.alloc(), all, Some(1), None, &mut room);
-    let which = TextFile::Service;
-    assert!(rt; verdict == Err(FilesFault::Read { which }));
-    assert_eq!(rt; written, 0);
+    assert!(rt;
+        matches!(
+            verdict,
+            Err(FilesFault::Read {
+                which: TextFile::Service
+            })
+        )
+    );
+    assert!(rt; written == 0);
     Ok(())
 }
 
@@ -150,9 +161,8 @@ fn as_many_slots_as_there_may_be(rt: HostRuntime) -> Result<(), Fail> {
     let all = (slots.as_slice().as_flattened(), NO_PAGES, NO_ENTRIES);
     let mut room = [0; 100];
     let (verdict, written) = answer(rt.alloc(), all, None, None, &mut room);
-    assert!(rt; verdict == Ok(Verdict::Yes));
-    let line = b"yes lines 1 repeat 1 deadline 1 pages 0\n";
-    assert!(rt; room.as_slice().starts_with(line.as_slice()));
-    assert_eq!(rt; written, line.len());
+    assert!(rt; matches!(verdict, Ok(Verdict::Yes)));
+    let line = "yes lines 1 repeat 1 deadline 1 pages 0\n";
+    assert!(rt; room.get(..written) == Some(line.as_bytes()));
     Ok(())
 }

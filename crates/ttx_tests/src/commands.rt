@@ -21,11 +21,10 @@ fn inspected(
 
 #[test]
 fn devices_that_fail(rt: HostRuntime) -> Result<(), Fail> {
-    let read = Err(ToolFault::Cycle(CycleFault::Read));
-    assert_eq!(rt; inspected(rt.alloc(), Some(3), None)?, read);
-    let third = Some(Failure::Error { at: 3 });
-    let write = Err(ToolFault::Write { written: 6 });
-    assert_eq!(rt; inspected(rt.alloc(), None, third)?, write);
+    let read = inspected(rt.alloc(), Some(3), None)?;
+    assert!(rt; matches!(read, Err(ToolFault::Cycle(CycleFault::Read))));
+    let written = inspected(rt.alloc(), None, Some(Failure::Error { at: 3 }))?;
+    assert!(rt; matches!(written, Err(ToolFault::Write { written: 6 })));
     Ok(())
 }
 
@@ -34,12 +33,32 @@ fn reports(rt: HostRuntime) {
     let alloc = rt.alloc();
     let mut writer = Counted::new(Vec::new(alloc));
     let too_long = ToolFault::Cycle(CycleFault::TooLong);
-    assert_eq!(rt; commands::report(alloc, &too_long, &mut writer), Ok(2));
-    let twice = commands::report_words(alloc, &WordsFault::Twice, &mut writer);
-    assert_eq!(rt; twice, Ok(2));
+    assert!(rt; matches!(commands::report(alloc, &too_long, &mut writer), Ok(2)));
+    assert!(rt;
+        matches!(
+            commands::report_words(alloc, &WordsFault::Twice, &mut writer),
+            Ok(2)
+        )
+    );
     let text = b"refused: cycle 4 too-long\nrefused: twice\n".as_slice();
-    assert_eq!(rt; writer.into_inner().as_slice(), text);
+    assert!(rt; writer.into_inner().as_slice() == text);
 }
+
+// Words, and what they ask for or why they are refused.
+#[rattlefmt::skip]
+static ORDERS: [(&[&str], &str); 5] = [
+    (&[], "Inspect { file: \"-\" }"),
+    (
+        &["receive", "a", "8FE", "--start=7", "--kind", "careful"],
+        "Receive { cycle: \"a\", tuning: Tuning { selection: AnySub(8, 254), lines: 16, start: 7, slots: 5000, kind: Careful } }",
+    ),
+    (
+        &["plan", "a", "b", "--class", "clearing"],
+        "Plan(PlanOrder { service: \"a\", out: \"b\", class: Clearing, late: false })",
+    ),
+    (&["receive", "a", "100", "--lines", "33"], "ValueValidation"),
+    (&["receive", "a", "100", "--kind", "slow"], "InvalidValue"),
+];
 
 // What the words ask for, or why they are refused, as a text.
 fn asked(alloc: Global, texts: &'static [&'static str]) -> Result<String, AllocError> {
@@ -53,29 +72,19 @@ fn asked(alloc: Global, texts: &'static [&'static str]) -> Result<String, AllocE
     }
 }
 
+// Whether the words ask for this, or are refused for it.
+fn is_asked(
+    alloc: Global,
+    texts: &'static [&'static str],
+    wanted: &str,
+) -> Result<bool, AllocError> {
+    Ok(asked(alloc, texts)?.as_str() == wanted)
+}
+
 #[test]
 fn orders(rt: HostRuntime) -> Result<(), Fail> {
-    let alloc = rt.alloc();
-    assert_eq!(rt; asked(alloc, &[])?.as_str(), "Inspect { file: \"-\" }");
-    assert_eq!(rt;
-        asked(
-            alloc,
-            &["receive", "a", "8FE", "--start=7", "--kind", "careful"]
-        )?
-        .as_str(),
-        "Receive { cycle: \"a\", tuning: Tuning { selection: AnySub(8, 254), lines: 16, start: 7, slots: 5000, kind: Careful } }"
-    );
-    assert_eq!(rt;
-        asked(alloc, &["plan", "a", "b", "--class", "clearing"])?.as_str(),
-        "Plan(PlanOrder { service: \"a\", out: \"b\", class: Clearing, late: false })"
-    );
-    assert_eq!(rt;
-        asked(alloc, &["receive", "a", "100", "--lines", "33"])?.as_str(),
-        "ValueValidation"
-    );
-    assert_eq!(rt;
-        asked(alloc, &["receive", "a", "100", "--kind", "slow"])?.as_str(),
-        "InvalidValue"
-    );
+    for (texts, wanted) in &ORDERS {
+        assert!(rt; is_asked(rt.alloc(), texts, wanted)?, "{wanted}");
+    }
     Ok(())
 }

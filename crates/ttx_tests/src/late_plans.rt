@@ -1,12 +1,36 @@
 //! Cycles that are planned for receivers that show a page late.
 
+use crate::base;
 use std::alloc::{AllocError, Global};
 use std::test::Fail;
 use ttx_header::read_header;
 use ttx_packet::{Slot, slot_of};
 use ttx_page::Class;
 use ttx_plan::{PlanFault, Receivers, plan_with};
-use ttx_source::read_service;
+
+const SUBPAGES: &str =
+    "lines = 2\nserial = true\n[[page]]\nnumber = \"100\"\nsub = \"0001\"\n[[page]]\nnumber = \"200\"\n[[page]]\n\
+      number = \"100\"\nsub = \"0002\"\n";
+
+// The headers in its slots, for receivers that show a page late and for others.
+#[rattlefmt::skip]
+static LATE_SUBPAGES: [(u8, u8); 12] = [
+    (1, 0), (0, 0), (0, 0), (2, 0), (0, 0), (0, 0), (1, 0xFF), (1, 0), (0, 0), (0, 0), (1, 0xFF), (2, 0xFF),
+];
+
+#[rattlefmt::skip]
+static PLAIN_SUBPAGES: [(u8, u8); 12] = [
+    (1, 0), (0, 0), (0, 0), (2, 0), (0, 0), (0, 0), (1, 0), (0, 0), (0, 0), (1, 0xFF), (2, 0xFF), (0, 0),
+];
+
+const LONE_PAGE: &str =
+    "lines = 2\nserial = false\n[[page]]\nnumber = \"100\"\noften = 2\n[[page]]\nnumber = \"200\"\n[[page]]\nnumber = \"201\"\n";
+
+// The headers in its slots, for receivers that show a page late.
+#[rattlefmt::skip]
+static LATE_ROUNDS: [(u8, u8); 8] = [
+    (1, 0), (2, 0), (1, 0xFF), (2, 1), (1, 0), (2, 0xFF), (1, 0xFF), (0, 0),
+];
 
 // Magazine and page number of the header in a slot; 0 and 0 where there is none.
 fn header_in(bytes: &[u8; 42]) -> (u8, u8) {
@@ -25,7 +49,7 @@ fn headers_by(alloc: Global, text: &str, late: bool) -> Result<Vec<(u8, u8)>, Al
         class: Class::Clearing,
         late,
     };
-    if let Ok(service) = read_service(alloc, text.as_bytes())
+    if let Some(service) = base::service(alloc, text.as_bytes())
         && let Ok(cycle) = plan_with(alloc, &service, receivers)
     {
         for slot in cycle.slots() {
@@ -37,7 +61,7 @@ fn headers_by(alloc: Global, text: &str, late: bool) -> Result<Vec<(u8, u8)>, Al
 
 // How many slots are planned of a text, in place of them.
 fn length_of(alloc: Global, text: &str) -> Option<Result<usize, PlanFault>> {
-    let service = read_service(alloc, text.as_bytes()).ok()?;
+    let service = base::service(alloc, text.as_bytes())?;
     let receivers = Receivers {
         class: Class::Any,
         late: true,
@@ -47,72 +71,23 @@ fn length_of(alloc: Global, text: &str) -> Option<Result<usize, PlanFault>> {
 
 #[test]
 fn between_subpages_in_serial_transmission(rt: HostRuntime) -> Result<(), Fail> {
-    let text =
-        "lines = 2\nserial = true\n[[page]]\nnumber = \"100\"\nsub = \"0001\"\n[[page]]\nnumber = \"200\"\n[[page]]\n\
-          number = \"100\"\nsub = \"0002\"\n";
-    let late = [
-        (1, 0),
-        (0, 0),
-        (0, 0),
-        (2, 0),
-        (0, 0),
-        (0, 0),
-        (1, 0xFF),
-        (1, 0),
-        (0, 0),
-        (0, 0),
-        (1, 0xFF),
-        (2, 0xFF),
-    ];
-    assert!(rt; headers_by(rt.alloc(), text, true)?.as_slice() == late.as_slice());
-    let plain = [
-        (1, 0),
-        (0, 0),
-        (0, 0),
-        (2, 0),
-        (0, 0),
-        (0, 0),
-        (1, 0),
-        (0, 0),
-        (0, 0),
-        (1, 0xFF),
-        (2, 0xFF),
-        (0, 0),
-    ];
-    assert!(rt; headers_by(rt.alloc(), text, false)?.as_slice() == plain.as_slice());
+    assert!(rt; headers_by(rt.alloc(), SUBPAGES, true)?.as_slice() == LATE_SUBPAGES.as_slice());
+    assert!(rt; headers_by(rt.alloc(), SUBPAGES, false)?.as_slice() == PLAIN_SUBPAGES.as_slice());
     Ok(())
 }
 
 #[test]
 fn between_rounds_of_a_lone_page_in_parallel_transmission(rt: HostRuntime) -> Result<(), Fail> {
-    let text =
-        "lines = 2\nserial = false\n[[page]]\nnumber = \"100\"\noften = 2\n[[page]]\nnumber = \"200\"\n[[page]]\nnumber = \"201\"\n";
-    let late = [
-        (1, 0),
-        (2, 0),
-        (1, 0xFF),
-        (2, 1),
-        (1, 0),
-        (2, 0xFF),
-        (1, 0xFF),
-        (0, 0),
-    ];
-    assert!(rt; headers_by(rt.alloc(), text, true)?.as_slice() == late.as_slice());
+    assert!(rt; headers_by(rt.alloc(), LONE_PAGE, true)?.as_slice() == LATE_ROUNDS.as_slice());
     Ok(())
 }
 
 #[test]
 fn as_many_subpages_as_fit(rt: HostRuntime) -> Result<(), Fail> {
-    let mut text = String::new(rt.alloc());
-    text.push_str("lines = 2\nserial = true\n")?;
-    assert!(rt; length_of(rt.alloc(), text.as_str()) == Some(Err(PlanFault::NoPages)));
-    for index in 0..1170 {
-        let (high, low) = (index / 128, index % 128);
-        let page = format!(in rt.alloc();
-            "[[page]]\nnumber = \"100\"\nsub = \"{high:02X}{low:02X}\"\n"
-        )?;
-        text.push_str(page.as_str())?;
-    }
+    assert!(rt;
+        length_of(rt.alloc(), "lines = 2\nserial = true\n") == Some(Err(PlanFault::NoPages))
+    );
+    let mut text = base::subpages(rt.alloc(), 1170)?;
     assert!(rt; length_of(rt.alloc(), text.as_str()) == Some(Ok(32_760)));
     text.push_str("[[page]]\nnumber = \"100\"\nsub = \"3F7E\"\n")?;
     assert!(rt; length_of(rt.alloc(), text.as_str()) == Some(Err(PlanFault::TooLong)));

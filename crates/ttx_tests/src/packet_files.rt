@@ -2,7 +2,7 @@
 
 use crate::base;
 use std::alloc::{AllocError, Global};
-use std::io::{BufWriter, Write};
+use std::io::{BufWriter, Read, Write};
 use std::test::Fail;
 use ttx_cycle::faulty::{Failure, FaultyReader, FaultyWriter};
 use ttx_cycle::{Counted, Cycle, CycleFault, SlotReader, WriteFault, read_cycle, write_cycle};
@@ -27,7 +27,7 @@ fn is_judged(alloc: Global, bytes: &[u8], piece: usize) -> bool {
 fn each_prefix_in_pieces(rt: HostRuntime) -> Result<(), Fail> {
     let slots = base::slots(rt.alloc())?;
     let bytes = slots.as_slice().as_flattened();
-    assert_eq!(rt; bytes.len(), 1176);
+    assert!(rt; bytes.len() == 1176);
     for piece in 1..44 {
         for end in 0..bytes.len() {
             assert!(rt; is_judged(rt.alloc(), &bytes[..end], piece));
@@ -39,15 +39,10 @@ fn each_prefix_in_pieces(rt: HostRuntime) -> Result<(), Fail> {
 
 #[test]
 fn files_of_no_slot(rt: HostRuntime) {
-    let truncated = CycleFault::Truncated { rest: 41 };
-    assert_eq!(rt;
-        read_in_pieces(rt.alloc(), &[0; 83], 100).err(),
-        Some(truncated)
-    );
-    assert_eq!(rt;
-        read_in_pieces(rt.alloc(), &[], 100).err(),
-        Some(CycleFault::Empty)
-    );
+    let cut = read_in_pieces(rt.alloc(), &[0; 83], 100);
+    assert!(rt; matches!(cut, Err(CycleFault::Truncated { rest: 41 })));
+    let empty = read_in_pieces(rt.alloc(), &[], 100);
+    assert!(rt; matches!(empty, Err(CycleFault::Empty)));
 }
 
 #[test]
@@ -56,12 +51,17 @@ fn longest_file(rt: HostRuntime) -> Result<(), Fail> {
     for _ in 0..65_536 {
         bytes.extend_from_slice(&[0x20; 42])?;
     }
-    let cycle = read_in_pieces(rt.alloc(), bytes.as_slice(), 4096);
-    assert_eq!(rt; cycle.map(|cycle| cycle.slots().len()), Ok(65_536));
+    assert!(rt; is_judged(rt.alloc(), bytes.as_slice(), 4096));
     bytes.push(0x20)?;
-    let outcome = read_in_pieces(rt.alloc(), bytes.as_slice(), 4096);
-    assert_eq!(rt; outcome.err(), Some(CycleFault::TooLong));
+    let longer = read_in_pieces(rt.alloc(), bytes.as_slice(), 4096);
+    assert!(rt; matches!(longer, Err(CycleFault::TooLong)));
     Ok(())
+}
+
+// Whether the next slot is one of bytes that are all this one.
+fn is_next<R: Read>(slots: &mut SlotReader, reader: &mut Counted<R>, wanted: u8) -> bool {
+    let mut slot = [0; 42];
+    matches!(slots.next(reader, &mut slot), Ok(true)) && slot == [wanted; 42]
 }
 
 #[test]
@@ -72,15 +72,12 @@ fn slots_one_by_one(rt: HostRuntime) -> Result<(), Fail> {
     bytes.push(3)?;
     let mut reader = Counted::new(FaultyReader::new(bytes.as_slice(), 42, Some(3)));
     let mut slots = SlotReader::new();
+    assert!(rt; is_next(&mut slots, &mut reader, 1));
+    assert!(rt; is_next(&mut slots, &mut reader, 2));
     let mut slot = [0; 42];
-    assert_eq!(rt; slots.next(&mut reader, &mut slot), Ok(true));
-    assert!(rt; slot.iter().all(|byte| *byte == 1));
-    assert_eq!(rt; slots.next(&mut reader, &mut slot), Ok(true));
-    assert!(rt; slot.iter().all(|byte| *byte == 2));
-    assert_eq!(rt; slots.next(&mut reader, &mut slot), Err(CycleFault::Read));
-    assert_eq!(rt; slots.next(&mut reader, &mut slot), Ok(false));
-    assert_eq!(rt; reader.calls(), 3);
-    assert_eq!(rt; reader.faults(), 1);
+    assert!(rt; matches!(slots.next(&mut reader, &mut slot), Err(CycleFault::Read)));
+    assert!(rt; matches!(slots.next(&mut reader, &mut slot), Ok(false)));
+    assert!(rt; reader.calls() == 3 && reader.faults() == 1);
     Ok(())
 }
 
@@ -116,24 +113,28 @@ fn writes_in_pieces(rt: HostRuntime) -> Result<(), Fail> {
         panic!(rt; "there is no cycle");
     };
     let whole = write_in_pieces(rt.alloc(), &cycle, None)?;
-    assert_eq!(rt; whole, Some((236, Ok(()))));
+    assert!(rt; matches!(whole, Some((236, Ok(())))));
     let fourth = write_in_pieces(rt.alloc(), &cycle, Some(Failure::Error { at: 4 }))?;
-    assert_eq!(rt; fourth, Some((4, Err(WriteFault { written: 15 }))));
+    assert!(rt; matches!(fourth, Some((4, Err(WriteFault { written: 15 })))));
     let first = write_in_pieces(rt.alloc(), &cycle, Some(Failure::Nothing { at: 1 }))?;
-    assert_eq!(rt; first, Some((1, Err(WriteFault { written: 0 }))));
+    assert!(rt; matches!(first, Some((1, Err(WriteFault { written: 0 })))));
     Ok(())
+}
+
+// Whether a writer takes so many of these bytes.
+fn takes<W: Write>(writer: &mut W, bytes: &[u8], count: usize) -> bool {
+    matches!(writer.write(bytes), Ok(taken) if taken == count)
 }
 
 #[test]
 fn a_full_slice_takes_nothing(rt: HostRuntime) {
     let mut room = [0; 3];
     let mut writer = Counted::new(FaultyWriter::new(&mut room, 9, None));
-    assert_eq!(rt; writer.write(b"abcd").ok(), Some(3));
-    assert_eq!(rt; writer.write(b"d").ok(), Some(0));
-    assert_eq!(rt; writer.write(b"").ok(), Some(0));
-    assert_eq!(rt; writer.calls(), 3);
-    assert_eq!(rt; writer.faults(), 1);
-    assert_eq!(rt; writer.into_inner().taken(), b"abc".as_slice());
+    assert!(rt; takes(&mut writer, b"abcd", 3));
+    assert!(rt; takes(&mut writer, b"d", 0));
+    assert!(rt; takes(&mut writer, b"", 0));
+    assert!(rt; writer.calls() == 3 && writer.faults() == 1);
+    assert!(rt; writer.into_inner().taken() == b"abc".as_slice());
 }
 
 // A buffer above the slice keeps what is written until it is flushed.
@@ -145,11 +146,11 @@ fn flush_reaches_the_inner_writer(rt: HostRuntime) -> Result<(), Fail> {
         panic!(rt; "there is no buffer");
     };
     let mut writer = Counted::new(buffer);
-    assert_eq!(rt; writer.write(b"abc").ok(), Some(3));
-    assert_eq!(rt; writer.get_ref().get_ref().taken(), b"".as_slice());
+    assert!(rt; takes(&mut writer, b"abc", 3));
+    assert!(rt; writer.get_ref().get_ref().taken().is_empty());
     assert!(rt; writer.flush().is_ok());
-    assert_eq!(rt; writer.get_ref().get_ref().taken(), b"abc".as_slice());
-    assert_eq!(rt; writer.calls(), 1);
+    assert!(rt; writer.get_ref().get_ref().taken() == b"abc".as_slice());
+    assert!(rt; writer.calls() == 1);
     Ok(())
 }
 
@@ -158,7 +159,6 @@ fn cycles_of_lists(rt: HostRuntime) -> Result<(), Fail> {
     let mut slots = Vec::new(rt.alloc());
     assert!(rt; Cycle::of(Vec::new(rt.alloc())).is_none());
     slots.push([0x20; 42])?;
-    let cycle = Cycle::of(slots);
-    assert_eq!(rt; cycle.map(|cycle| cycle.slots().len()), Some(1));
+    assert!(rt; matches!(&Cycle::of(slots), Some(cycle) if cycle.slots().len() == 1));
     Ok(())
 }

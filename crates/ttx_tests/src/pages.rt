@@ -2,7 +2,31 @@
 
 use ttx_header::{Control, PageId};
 use ttx_links::Links;
-use ttx_page::{Class, Item, Page, PageMemory, RowNumber, Selection, is_blank, needed};
+use ttx_page::{Item, Page, PageMemory, RowNumber, Selection, needed};
+
+// Control bits, rows in double height, whether row 24 is shown, a row, and whether it is needed.
+static NEEDED: [(u16, [usize; 2], bool, u8, bool); 8] = [
+    (0x80, [22, 22], false, 22, true),
+    (0x80, [22, 22], false, 23, false),
+    (0x80, [23, 23], true, 24, true),
+    (0x80, [23, 23], false, 24, false),
+    (0x80, [5, 6], false, 6, false),
+    (0x80, [5, 6], false, 7, true),
+    (0x40, [0, 0], true, 1, false),
+    (0x40, [0, 0], true, 24, false),
+];
+
+// Control bits, and whether the head is needed.
+static HEADS: [(u16, bool); 3] = [(0x00, true), (0x40, true), (0x08, false)];
+
+// Page number, subcode and control bits, and whether they are of a page.
+static PAGES: [(u8, u16, u16, bool); 5] = [
+    (0xfe, 0, 0x7fe, true),
+    (0xff, 0, 0, false),
+    (0, 0x3f7f, 0, false),
+    (0, 0, 1, false),
+    (0, 0, 0x800, false),
+];
 
 fn spaces() -> [u8; 40] {
     [b' '; 40]
@@ -34,14 +58,10 @@ fn is_row_needed(control: u16, tall: [usize; 2], show24: bool, number: u8) -> Op
 
 #[test]
 fn needed_rows(rt: HostRuntime) {
-    assert_eq!(rt; is_row_needed(0x80, [22, 22], false, 22), Some(true));
-    assert_eq!(rt; is_row_needed(0x80, [22, 22], false, 23), Some(false));
-    assert_eq!(rt; is_row_needed(0x80, [23, 23], true, 24), Some(true));
-    assert_eq!(rt; is_row_needed(0x80, [23, 23], false, 24), Some(false));
-    assert_eq!(rt; is_row_needed(0x80, [5, 6], false, 6), Some(false));
-    assert_eq!(rt; is_row_needed(0x80, [5, 6], false, 7), Some(true));
-    assert_eq!(rt; is_row_needed(0x40, [0, 0], true, 1), Some(false));
-    assert_eq!(rt; is_row_needed(0x40, [0, 0], true, 24), Some(false));
+    for (control, tall, show24, number, wanted) in &NEEDED {
+        let is_needed = is_row_needed(*control, *tall, *show24, *number);
+        assert!(rt; is_needed == Some(*wanted), "row {number}");
+    }
 }
 
 fn are_head_and_links_needed(control: u16) -> Option<(bool, bool)> {
@@ -51,9 +71,12 @@ fn are_head_and_links_needed(control: u16) -> Option<(bool, bool)> {
 
 #[test]
 fn needed_head_and_links(rt: HostRuntime) {
-    assert_eq!(rt; are_head_and_links_needed(0x00), Some((true, true)));
-    assert_eq!(rt; are_head_and_links_needed(0x40), Some((true, true)));
-    assert_eq!(rt; are_head_and_links_needed(0x08), Some((false, true)));
+    for (control, is_head_needed) in &HEADS {
+        assert!(rt;
+            are_head_and_links_needed(*control) == Some((*is_head_needed, true)),
+            "{control}"
+        );
+    }
 }
 
 fn is_page(page_number: u8, sub: u16, control: u16) -> Option<bool> {
@@ -62,11 +85,12 @@ fn is_page(page_number: u8, sub: u16, control: u16) -> Option<bool> {
 
 #[test]
 fn pages_refused(rt: HostRuntime) {
-    assert_eq!(rt; is_page(0xfe, 0, 0x7fe), Some(true));
-    assert_eq!(rt; is_page(0xff, 0, 0), Some(false));
-    assert_eq!(rt; is_page(0, 0x3f7f, 0), Some(false));
-    assert_eq!(rt; is_page(0, 0, 1), Some(false));
-    assert_eq!(rt; is_page(0, 0, 0x800), Some(false));
+    for (page_number, sub, control, wanted) in &PAGES {
+        assert!(rt;
+            is_page(*page_number, *sub, *control) == Some(*wanted),
+            "{page_number} {sub} {control}"
+        );
+    }
 }
 
 // Which of two subpages of page 100 and a page 200 the selections of 100/0001, of page 100 and of page 200 fit.
@@ -89,7 +113,7 @@ fn fitting() -> Option<[bool; 4]> {
 
 #[test]
 fn selections_fit(rt: HostRuntime) {
-    assert_eq!(rt; fitting(), Some([true, false, false, true]));
+    assert!(rt; fitting() == Some([true, false, false, true]));
 }
 
 fn matching(sub: u16) -> Option<(bool, bool)> {
@@ -103,8 +127,8 @@ fn matching(sub: u16) -> Option<(bool, bool)> {
 
 #[test]
 fn selections_match(rt: HostRuntime) {
-    assert_eq!(rt; matching(0), Some((true, true)));
-    assert_eq!(rt; matching(0x3f7f), Some((false, true)));
+    assert!(rt; matching(0) == Some((true, true)));
+    assert!(rt; matching(0x3f7f) == Some((false, true)));
 }
 
 #[test]
@@ -112,19 +136,19 @@ fn wrong_parity_leaves_a_character(rt: HostRuntime) {
     let mut memory = PageMemory::blank();
     memory.store_row(5, &marked(0xc1));
     memory.store_row(5, &marked(0xc0));
-    assert_eq!(rt; memory.rows()[5][0], 0x41);
+    assert!(rt; memory.rows()[5][0] == 0x41);
     memory.erase();
-    assert_eq!(rt; memory.rows()[5][0], 0x20);
+    assert!(rt; memory.rows()[5][0] == 0x20);
 }
 
 #[test]
 fn a_memory_grows_no_older_than_64(rt: HostRuntime) {
     let blank = PageMemory::blank();
-    assert_eq!(rt; blank.age(), 64);
+    assert!(rt; blank.age() == 64);
     assert!(rt; blank.fresh());
     let mut memory = blank;
     memory.grow_older();
-    assert_eq!(rt; memory.age(), 64);
+    assert!(rt; memory.age() == 64);
     let again = PageMemory::new(
         *memory.rows(),
         memory.control(),

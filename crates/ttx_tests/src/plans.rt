@@ -10,7 +10,6 @@ use ttx_header::read_header;
 use ttx_packet::{Slot, slot_of};
 use ttx_page::Class;
 use ttx_plan::{PlanFault, plan, plan_for};
-use ttx_source::read_service;
 
 // What a slot holds.
 #[derive(Clone, Copy, PartialEq, Eq)]
@@ -52,10 +51,39 @@ impl Held {
     }
 }
 
+// A page without rows, and what its slots hold.
+const NO_ROWS: &str =
+    "lines = 2\nserial = true\n[[page]]\nnumber = \"100\"\nsuppress = true\ninhibit = true\n";
+
+static NO_ROWS_HELD: [Held; 6] = [
+    Held::Header(1, 0),
+    Held::Empty,
+    Held::Empty,
+    Held::Row(1, 27),
+    Held::Header(1, 0xFF),
+    Held::Empty,
+];
+
+// Two in parallel, and what their slots hold.
+const NO_ROWS_TWICE: &str =
+    "lines = 2\nserial = false\n[[page]]\nnumber = \"100\"\nsuppress = true\ninhibit = true\n[[page]]\nnumber = \"200\"\n\
+      suppress = true\ninhibit = true\n";
+
+static NO_ROWS_TWICE_HELD: [Held; 8] = [
+    Held::Header(1, 0),
+    Held::Header(2, 0),
+    Held::Empty,
+    Held::Row(1, 27),
+    Held::Row(2, 27),
+    Held::Header(1, 0xFF),
+    Held::Header(2, 0xFF),
+    Held::Empty,
+];
+
 // The slots of the cycle that is planned of a text.
 fn held_by(alloc: Global, text: &str, class: Class) -> Result<Vec<Held>, AllocError> {
     let mut slots = Vec::new(alloc);
-    if let Ok(service) = read_service(alloc, text.as_bytes())
+    if let Some(service) = base::service(alloc, text.as_bytes())
         && let Ok(cycle) = plan_for(alloc, &service, class)
     {
         for slot in cycle.slots() {
@@ -67,13 +95,13 @@ fn held_by(alloc: Global, text: &str, class: Class) -> Result<Vec<Held>, AllocEr
 
 // How many slots are planned of a text, in place of them.
 fn length_of(alloc: Global, text: &str) -> Option<Result<usize, PlanFault>> {
-    let service = read_service(alloc, text.as_bytes()).ok()?;
+    let service = base::service(alloc, text.as_bytes())?;
     Some(plan(alloc, &service).map(|cycle| cycle.slots().len()))
 }
 
 #[test]
 fn one_page_byte_for_byte(rt: HostRuntime) -> Result<(), Fail> {
-    let Ok(service) = read_service(rt.alloc(), base::SERVICE) else {
+    let Some(service) = base::service(rt.alloc(), base::SERVICE) else {
         panic!(rt; "the service is refused");
     };
     let Ok(cycle) = plan(rt.alloc(), &service) else {
@@ -85,16 +113,10 @@ fn one_page_byte_for_byte(rt: HostRuntime) -> Result<(), Fail> {
 
 #[test]
 fn as_many_pages_as_fit(rt: HostRuntime) -> Result<(), Fail> {
-    let mut text = String::new(rt.alloc());
-    text.push_str("lines = 2\nserial = true\n")?;
-    assert!(rt; length_of(rt.alloc(), text.as_str()) == Some(Err(PlanFault::NoPages)));
-    for index in 0..1213 {
-        let (high, low) = (index / 128, index % 128);
-        let page = format!(in rt.alloc();
-            "[[page]]\nnumber = \"100\"\nsub = \"{high:02X}{low:02X}\"\n"
-        )?;
-        text.push_str(page.as_str())?;
-    }
+    assert!(rt;
+        length_of(rt.alloc(), "lines = 2\nserial = true\n") == Some(Err(PlanFault::NoPages))
+    );
+    let mut text = base::subpages(rt.alloc(), 1213)?;
     assert!(rt; length_of(rt.alloc(), text.as_str()) == Some(Ok(32_752)));
     text.push_str("[[page]]\nnumber = \"100\"\nsub = \"3F7E\"\n")?;
     assert!(rt; length_of(rt.alloc(), text.as_str()) == Some(Err(PlanFault::TooLong)));
@@ -120,7 +142,7 @@ fn a_page_twice_a_cycle(rt: HostRuntime) -> Result<(), Fail> {
     let text =
         "lines = 2\nserial = true\n[[page]]\nnumber = \"100\"\noften = 2\n[[page]]\nnumber = \"200\"\n";
     let slots = held_by(rt.alloc(), text, Class::Any)?;
-    assert_eq!(rt; slots.len(), 84);
+    assert!(rt; slots.len() == 84);
     for (at, slot) in slots.iter().enumerate() {
         let wanted = match at {
             0 | 54 => Some(Held::Header(1, 0)),
@@ -140,31 +162,10 @@ fn a_page_twice_a_cycle(rt: HostRuntime) -> Result<(), Fail> {
 
 #[test]
 fn pages_without_rows(rt: HostRuntime) -> Result<(), Fail> {
-    let one =
-        "lines = 2\nserial = true\n[[page]]\nnumber = \"100\"\nsuppress = true\ninhibit = true\n";
-    let wanted = [
-        Held::Header(1, 0),
-        Held::Empty,
-        Held::Empty,
-        Held::Row(1, 27),
-        Held::Header(1, 0xFF),
-        Held::Empty,
-    ];
-    assert!(rt; held_by(rt.alloc(), one, Class::Any)?.as_slice() == wanted.as_slice());
-    let two =
-        "lines = 2\nserial = false\n[[page]]\nnumber = \"100\"\nsuppress = true\ninhibit = true\n[[page]]\nnumber = \"200\"\n\
-          suppress = true\ninhibit = true\n";
-    let wanted = [
-        Held::Header(1, 0),
-        Held::Header(2, 0),
-        Held::Empty,
-        Held::Row(1, 27),
-        Held::Row(2, 27),
-        Held::Header(1, 0xFF),
-        Held::Header(2, 0xFF),
-        Held::Empty,
-    ];
-    assert!(rt; held_by(rt.alloc(), two, Class::Any)?.as_slice() == wanted.as_slice());
+    assert!(rt; held_by(rt.alloc(), NO_ROWS, Class::Any)?.as_slice() == NO_ROWS_HELD.as_slice());
+    assert!(rt;
+        held_by(rt.alloc(), NO_ROWS_TWICE, Class::Any)?.as_slice() == NO_ROWS_TWICE_HELD.as_slice()
+    );
     Ok(())
 }
 

@@ -27,47 +27,46 @@ fn first_of_row_1<R: Receiver>(receiver: &mut R) -> u8 {
 #[test]
 fn a_row_within_a_field_may_be_missed(rt: HostRuntime) {
     let mut eager = Eager::new(page_100(), 2, holding_an_x(false));
-    assert_eq!(rt; first_of_row_1(&mut eager), 0x20);
+    assert!(rt; first_of_row_1(&mut eager) == 0x20);
     let mut careful = Careful::new(page_100(), 2, holding_an_x(false));
-    assert_eq!(rt; first_of_row_1(&mut careful), 0x58);
+    assert!(rt; first_of_row_1(&mut careful) == 0x58);
     let mut in_time = Careful::new(page_100(), 1, holding_an_x(false));
-    assert_eq!(rt; first_of_row_1(&mut in_time), 0x20);
+    assert!(rt; first_of_row_1(&mut in_time) == 0x20);
 }
 
 #[test]
 fn a_receiver_that_clears_begins_anew(rt: HostRuntime) {
     let mut cleared = Cleared::new(page_100(), 2, holding_an_x(true));
     cleared.step(Some(&header()));
-    assert_eq!(rt; cleared.memory().rows()[1][0], 0x20);
+    assert!(rt; cleared.memory().rows()[1][0] == 0x20);
     let mut settled = Cleared::new(page_100(), 2, holding_an_x(false));
     settled.step(Some(&header()));
-    assert_eq!(rt; settled.memory().rows()[1][0], 0x58);
+    assert!(rt; settled.memory().rows()[1][0] == 0x58);
+}
+
+// What stands at the begin of row 1 after two periods, by a script of choices.
+fn first_by_script(choices: &[bool]) -> u8 {
+    let mut scripted = Scripted::new(page_100(), 2, holding_an_x(false), choices);
+    first_of_row_1(&mut scripted)
 }
 
 // The slots with a choice are those of row 1, two slots after the header in each period.
 #[test]
 fn a_script_is_asked_at_each_choice(rt: HostRuntime) {
-    let mut once = Scripted::new(page_100(), 2, holding_an_x(false), &[true]);
-    assert_eq!(rt; first_of_row_1(&mut once), 0x20);
-    let mut twice = Scripted::new(page_100(), 2, holding_an_x(false), &[true, true]);
-    assert_eq!(rt; first_of_row_1(&mut twice), 0x58);
-    let mut never = Scripted::new(page_100(), 2, holding_an_x(false), &[]);
-    assert_eq!(rt; first_of_row_1(&mut never), 0x20);
+    assert!(rt; first_by_script(&[true]) == 0x20);
+    assert!(rt; first_by_script(&[true, true]) == 0x58);
+    assert!(rt; first_by_script(&[]) == 0x20);
 }
 
 // An A, sent as C1, is received as C0: it has even parity, and what is held stays.
 #[test]
 fn a_character_with_a_wrong_bit_is_not_stored(rt: HostRuntime) {
-    let mut right = row_1();
-    right[2] = 0xc1;
-    let mut wrong = row_1();
-    wrong[2] = 0xc0;
     let mut eager = Eager::new(page_100(), 2, holding_an_x(false));
     eager.step(Some(&header()));
-    eager.step(Some(&right));
-    assert_eq!(rt; eager.memory().rows()[1][0], 0x41);
-    eager.step(Some(&wrong));
-    assert_eq!(rt; eager.memory().rows()[1][0], 0x41);
+    for first in [0xc1, 0xc0] {
+        eager.step(Some(&beginning(&[0xc7, 0x15, first])));
+        assert!(rt; eager.memory().rows()[1][0] == 0x41);
+    }
 }
 
 // Clocks that change with each header, of right and wrong parity.
@@ -80,8 +79,7 @@ fn a_wild_clock_leaves_the_head(rt: HostRuntime) {
         slot[33] = 0xc2;
         slot[34..].fill(clock);
         careful.step(Some(&slot));
-        let row = careful.memory().rows()[0];
-        assert_eq!(rt; row[8], 0x41);
-        assert_eq!(rt; row[31], 0x42);
+        let row = &careful.memory().rows()[0];
+        assert!(rt; row[8] == 0x41 && row[31] == 0x42, "{clock}");
     }
 }

@@ -17,18 +17,12 @@ fn received<R: Receiver>(receiver: &mut R) -> u8 {
 
 #[test]
 fn each_kind_receives(rt: HostRuntime) {
-    assert_eq!(rt;
-        received(&mut Eager::new(page_100(), 2, holding_an_x(true))),
-        0x20
-    );
+    let mut eager = Eager::new(page_100(), 2, holding_an_x(true));
+    assert!(rt; received(&mut eager) == 0x20);
     let mut misses = Scripted::new(page_100(), 2, holding_an_x(true), &[false, true]);
-    assert_eq!(rt; received(&mut misses), 0x58);
-    assert_eq!(rt;
-        received(&mut Careful::new(page_100(), 2, holding_an_x(true))),
-        0x20
-    );
-    assert_eq!(rt;
-        received(&mut Cleared::new(page_100(), 2, holding_an_x(true))),
-        0x20
-    );
+    assert!(rt; received(&mut misses) == 0x58);
+    let mut careful = Careful::new(page_100(), 2, holding_an_x(true));
+    assert!(rt; received(&mut careful) == 0x20);
+    let mut cleared = Cleared::new(page_100(), 2, holding_an_x(true));
+    assert!(rt; received(&mut cleared) == 0x20);
 }

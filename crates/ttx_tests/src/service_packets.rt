@@ -10,6 +10,26 @@ const SENT: [u8; 42] = [
     0x20, 0x20, 0x20, 0x20, 0x20, 0x20, 0x20, 0x20, 0x20, 0x20,
 ];
 
+// Designation and time, and whether they are in their ranges.
+static RANGES: [(u8, u32, bool); 4] = [
+    (0, 123_045, true),
+    (1, 999_999, true),
+    (2, 123_045, false),
+    (0, 1_000_000, false),
+];
+
+// Bytes with other bits that aren't read.
+static IGNORED: [(usize, u8); 4] = [(11, 0x04), (12, 0xf5), (18, 0xff), (0, 0x00)];
+
+static FAULTS: [(usize, u8, InfoFault); 6] = [
+    (2, 0x49, InfoFault::Designation),
+    (2, 0x16, InfoFault::Hamming),
+    (3, 0x16, InfoFault::Hamming),
+    (13, 0x70, InfoFault::Digit),
+    (13, 0xb1, InfoFault::Digit),
+    (22, 0x55, InfoFault::Parity),
+];
+
 fn info(designation: u8, utc: u32) -> Option<Info> {
     let initial = Target::new(1, 0x00, 0x3f7f);
     let text = *b"TEST                ";
@@ -36,37 +56,35 @@ fn read_with(at: usize, byte: u8) -> Result<Info, InfoFault> {
 
 #[test]
 fn ranges_of_fields(rt: HostRuntime) {
-    assert_eq!(rt; info(0, 123_045).is_some(), true);
-    assert_eq!(rt; info(1, 999_999).is_some(), true);
-    assert_eq!(rt; info(2, 123_045).is_none(), true);
-    assert_eq!(rt; info(0, 1_000_000).is_none(), true);
-}
-
-#[test]
-fn info_of_a_service(rt: HostRuntime) {
-    assert_eq!(rt; read_info(&SENT).ok(), info(0, 123_045));
-    match info(0, 123_045) {
-        Some(info) => assert_eq!(rt; write_info(&info), SENT),
-        None => assert_eq!(rt; true, false),
+    for (designation, utc, is_info) in &RANGES {
+        assert!(rt;
+            info(*designation, *utc).is_some() == *is_info,
+            "{designation} {utc}"
+        );
     }
 }
 
 #[test]
+fn info_of_a_service(rt: HostRuntime) {
+    let Some(info) = info(0, 123_045) else {
+        panic!(rt; "there is no info");
+    };
+    assert!(rt; write_info(&info) == SENT);
+    assert!(rt; read_info(&SENT) == Ok(info));
+}
+
+#[test]
 fn ignored_bits(rt: HostRuntime) {
-    assert_eq!(rt; read_with(11, 0x04).ok(), info(0, 123_045));
-    assert_eq!(rt; read_with(12, 0xf5).ok(), info(0, 123_045));
-    assert_eq!(rt; read_with(18, 0xff).ok(), info(0, 123_045));
-    assert_eq!(rt; read_with(0, 0x00).ok(), info(0, 123_045));
+    for (at, byte) in &IGNORED {
+        assert_eq!(rt; read_with(*at, *byte).ok(), info(0, 123_045), "byte {at}");
+    }
 }
 
 #[test]
 fn faults(rt: HostRuntime) {
-    assert_eq!(rt; read_with(2, 0x49), Err(InfoFault::Designation));
-    assert_eq!(rt; read_with(2, 0x16), Err(InfoFault::Hamming));
-    assert_eq!(rt; read_with(3, 0x16), Err(InfoFault::Hamming));
-    assert_eq!(rt; read_with(13, 0x70), Err(InfoFault::Digit));
-    assert_eq!(rt; read_with(13, 0xb1), Err(InfoFault::Digit));
-    assert_eq!(rt; read_with(22, 0x55), Err(InfoFault::Parity));
+    for (at, byte, fault) in &FAULTS {
+        assert_eq!(rt; read_with(*at, *byte).err(), Some(*fault));
+    }
 }
 
 #[test]
@@ -74,8 +92,8 @@ fn the_first_fault(rt: HostRuntime) {
     let mut bytes = SENT;
     bytes[3] = 0x16;
     bytes[22] = 0x55;
-    assert_eq!(rt; read_info(&bytes), Err(InfoFault::Hamming));
+    assert!(rt; matches!(read_info(&bytes), Err(InfoFault::Hamming)));
     bytes[3] = 0x15;
     bytes[17] = 0x5f;
-    assert_eq!(rt; read_info(&bytes), Err(InfoFault::Digit));
+    assert!(rt; matches!(read_info(&bytes), Err(InfoFault::Digit)));
 }

@@ -1,5 +1,6 @@
 //! Service definitions that are accepted, and the faults of those that aren't.
 
+use crate::base;
 use std::alloc::{AllocError, Global};
 use std::test::Fail;
 use ttx_info::Info;
@@ -193,7 +194,7 @@ fn a_page_of_texts(rt: HostRuntime) {
     let text =
         "lines = 2\nserial = true\n[[page]]\nnumber = \"1E7\"\nsub = \"0012\"\noption = 1\nsubtitle = true\nhead = \"News\"\n\
           rows = {\"1\" = \"\\u0007A\"}\nlinks = [\"205\", \"\", \"8AB/3F7E\"]\nrow24 = true\ncrc = \"12AF\"\nother = 1\n";
-    let Ok(service) = read_service(rt.alloc(), text.as_bytes()) else {
+    let Some(service) = base::service(rt.alloc(), text.as_bytes()) else {
         panic!(rt; "the service is refused");
     };
     let [page] = service.pages() else {
@@ -217,7 +218,7 @@ fn a_packet_8_30(rt: HostRuntime) {
     let text =
         "lines = 32\nserial = false\n[info]\ndesignation = 1\ninitial = \"100\"\nnetwork = \"1234\"\nhalves = -2\n\
           mjd = 46000\nutc = 123045\ntext = \"TEST\"\n[[page]]\nnumber = \"100\"\noften = 8\n";
-    let Ok(service) = read_service(rt.alloc(), text.as_bytes()) else {
+    let Some(service) = base::service(rt.alloc(), text.as_bytes()) else {
         panic!(rt; "the service is refused");
     };
     assert!(rt; service.lines() == 32 && !service.serial());

@@ -31,60 +31,44 @@ fn words(view: &View, number: usize) -> [u32; 3]
     ]
 }
 
+// The words of columns 0 to 2 of a row of an A and spaces, of one that begins double height, and of one below such a row.
+const AN_A: [u32; 3] = [0x00e00041, 0x00e00020, 0x00e00020];
+
+const TALL: [u32; 3] = [0x00e00020, 0x40e00020, 0x40e00020];
+
+const HIDDEN: [u32; 3] = [0x00e00020, 0x80e00020, 0x80e00020];
+
 // 0D is sent as itself, an A as C1: row 5 becomes double height above the A of row 6, then row 4 above both.
 #[test]
 fn a_row_of_double_height_changes_the_next_one(rt: HostRuntime) {
     let mut watched = Watched::new(Eager::new(page_100(), 2, PageMemory::blank()));
     watched.step(Some(&beginning(&HEADER)));
     watched.step(Some(&row(6, 0xc1, 0x20)));
-    assert_eq!(rt;
-        words(watched.view(), 6),
-        [0x00e00041, 0x00e00020, 0x00e00020]
-    );
-
+    assert!(rt; words(watched.view(), 6) == AN_A);
     watched.step(Some(&row(5, 0x0d, 0x20)));
-    assert_eq!(rt;
-        words(watched.view(), 5),
-        [0x00e00020, 0x40e00020, 0x40e00020]
-    );
-    assert_eq!(rt;
-        words(watched.view(), 6),
-        [0x00e00020, 0x80e00020, 0x80e00020]
-    );
-
+    assert!(rt; words(watched.view(), 5) == TALL);
+    assert!(rt; words(watched.view(), 6) == HIDDEN);
     watched.step(Some(&row(4, 0x0d, 0x20)));
-    assert_eq!(rt;
-        words(watched.view(), 5),
-        [0x00e00020, 0x80e00020, 0x80e00020]
-    );
-    assert_eq!(rt;
-        words(watched.view(), 6),
-        [0x00e00041, 0x00e00020, 0x00e00020]
-    );
+    assert!(rt; words(watched.view(), 5) == HIDDEN);
+    assert!(rt; words(watched.view(), 6) == AN_A);
+}
+
+// What a slot touches for a receiver that shows page 100, where it stores rows or doesn't.
+fn touched(storing: bool, slot: &[u8; 42]) -> Touch {
+    touch_of(&page_100(), storing, slot)
 }
 
 #[test]
 fn what_a_slot_touches(rt: HostRuntime) {
-    let page = page_100();
-    assert_eq!(rt;
-        touch_of(&page, false, &beginning(&HEADER)),
-        Touch::Everything
-    );
-    assert_eq!(rt;
-        touch_of(&Selection::AnySub(1, 1), true, &beginning(&HEADER)),
-        Touch::Nothing
-    );
-    assert_eq!(rt; touch_of(&page, true, &row(7, 0x20, 0x20)), Touch::Row(7));
-    assert_eq!(rt; touch_of(&page, false, &row(7, 0x20, 0x20)), Touch::Nothing);
-    assert_eq!(rt;
-        touch_of(&Selection::AnySub(2, 0), true, &row(7, 0x20, 0x20)),
-        Touch::Nothing
-    );
-    assert_eq!(rt;
-        touch_of(&page, true, &row(27, 0x15, 0x15)),
-        Touch::Everything
-    );
-    assert_eq!(rt; touch_of(&page, true, &[0; 42]), Touch::Nothing);
+    assert!(rt; touched(false, &beginning(&HEADER)) == Touch::Everything);
+    assert!(rt; touched(true, &row(7, 0x20, 0x20)) == Touch::Row(7));
+    assert!(rt; touched(false, &row(7, 0x20, 0x20)) == Touch::Nothing);
+    assert!(rt; touched(true, &row(27, 0x15, 0x15)) == Touch::Everything);
+    assert!(rt; touched(true, &[0; 42]) == Touch::Nothing);
+    let subpage = Selection::AnySub(1, 1);
+    assert!(rt; touch_of(&subpage, true, &beginning(&HEADER)) == Touch::Nothing);
+    let magazine = Selection::AnySub(2, 0);
+    assert!(rt; touch_of(&magazine, true, &row(7, 0x20, 0x20)) == Touch::Nothing);
 }
 
 // Numbers by a linear congruence.
