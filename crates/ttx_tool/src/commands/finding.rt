@@ -1,6 +1,6 @@
 //! `find`: the certificate of a cycle for the pages of a service.
 
-ghost use Rattle.std.specs.Prelude.{◌≡◌, ◌≤◌, IfSome, IfOk, IfErr, string_bytes};
+ghost use Rattle.std.specs.Prelude.{◌≡◌, ◌≤◌, IfSome, IfOk, string_bytes};
 ghost use Rattle.ttx_cycle.specs.Counters.{inner_of, faults_of};
 ghost use Rattle.ttx_cycle.specs.Cycles.{slots_of};
 ghost use Rattle.ttx_witness.specs.Certificates.{fields_of};
@@ -19,7 +19,7 @@ use ttx_certify::{certify_service, find_service, verdict_line};
 use ttx_cycle::{Counted, Cycle, read_cycle, write_bytes};
 use ttx_page::Class;
 use ttx_source::Service;
-use ttx_witness::{Certificate, write_certificate};
+use ttx_witness::{Certificate, NoMemory, write_certificate};
 
 // What goes out: the bytes of the certificate's file, the line, and the status.
 #[derive(Drop)]
@@ -37,15 +37,12 @@ fn found_line(alloc: Global, deadline: u32) -> Result<String, AllocError>
 }
 
 // What goes out where there is a deadline.
-fn tell_deadline(alloc: Global, certificate: &Certificate, deadline: u32) -> Result<Told, ToolFault>
-    ensures told { IfOk result (λ told. TellsDeadline (fields_of certificate.now) deadline told.file.items (string_bytes told.line) told.status) }
-    ensures memory { IfErr result (λ fault. fault ≡ ToolFault.NoMemory) }
+fn tell_deadline(alloc: Global, certificate: &Certificate, deadline: u32) -> Result<Told, NoMemory>
+    ensures { IfOk result (λ told. TellsDeadline (fields_of certificate.now) deadline told.file.items (string_bytes told.line) told.status) }
 {
-    let Ok(file) = write_certificate(alloc, certificate) else {
-        return Err(ToolFault::NoMemory);
-    };
+    let file = write_certificate(alloc, certificate)?;
     let Ok(line) = found_line(alloc, deadline) else {
-        return Err(ToolFault::NoMemory);
+        return Err(NoMemory);
     };
     Ok(Told {
         file,
@@ -60,17 +57,14 @@ fn tell_verdict(
     cycle: &Cycle,
     service: &Service,
     certificate: &Certificate,
-) -> Result<Told, ToolFault>
-    ensures told { IfOk result (λ told. TellsVerdict (slots_of cycle.now) service.now (fields_of certificate.now) told.file.items
+) -> Result<Told, NoMemory>
+    ensures { IfOk result (λ told. TellsVerdict (slots_of cycle.now) service.now (fields_of certificate.now) told.file.items
         (string_bytes told.line) told.status) }
-    ensures memory { IfErr result (λ fault. fault ≡ ToolFault.NoMemory) }
 {
     let Ok(verdict) = certify_service(alloc, cycle, service, certificate) else {
-        return Err(ToolFault::NoMemory);
+        return Err(NoMemory);
     };
-    let Ok(line) = verdict_line(alloc, certificate, service.pages().len(), verdict) else {
-        return Err(ToolFault::NoMemory);
-    };
+    let line = verdict_line(alloc, certificate, service.pages().len(), verdict)?;
     Ok(Told {
         file: Vec::new(alloc),
         line,
@@ -85,17 +79,14 @@ fn tell(
     service: &Service,
     repeat: u8,
     class: Class,
-) -> Result<Told, ToolFault>
+) -> Result<Told, NoMemory>
     requires some { 1 ≤ repeat }
     requires few { repeat ≤ 8 }
-    ensures told { IfOk result (λ told. IsFoundAndTold (slots_of cycle.now) service.now repeat class told.file.items
+    ensures { IfOk result (λ told. IsFoundAndTold (slots_of cycle.now) service.now repeat class told.file.items
         (string_bytes told.line) told.status) }
-    ensures memory { IfErr result (λ fault. fault ≡ ToolFault.NoMemory) }
 {
     ttx_witness::certificate_laws::certificates_keep_their_rules();
-    let Ok(found) = find_service(alloc, cycle, service, repeat, class) else {
-        return Err(ToolFault::NoMemory);
-    };
+    let found = find_service(alloc, cycle, service, repeat, class)?;
     match found.deadline {
         Some(deadline) => tell_deadline(alloc, &found.certificate, deadline),
         None => tell_verdict(alloc, cycle, service, &found.certificate),

@@ -1,7 +1,7 @@
 //! `inspect`: the slots of a packet file.
 
 ghost use Rattle.std.specs.Prelude.{IfSome};
-ghost use Rattle.ttx_cycle.specs.Counters.{inner_of, calls_of, faults_of};
+ghost use Rattle.ttx_cycle.specs.Counters.{inner_of, faults_of};
 ghost use Rattle.ttx_certify.specs.CertifyingFiles.{IsUntouched};
 ghost use Rattle.ttx_tool.specs.FilesFaults.{is_tool_write};
 ghost use Rattle.ttx_tool.specs.Inspecting.{Inspects, CountsInspect};
@@ -26,7 +26,12 @@ pub fn inspect<R: Read, W: Write>(
     ensures faults { CountsInspect result (faults_of reader.old) (faults_of reader.new) (faults_of writer.old) (faults_of writer.new) }
     ensures untouched { IsUntouched is_tool_write result writer.old writer.new }
 {
-    let cycle = read_cycle(alloc, reader).map_err(ToolFault::Cycle)?;
-    let text = lines(alloc, cycle.slots()).map_err(|_| ToolFault::NoMemory)?;
+    let cycle = match read_cycle(alloc, reader) {
+        Ok(cycle) => cycle,
+        Err(fault) => return Err(ToolFault::Cycle(fault)),
+    };
+    let Ok(text) = lines(alloc, cycle.slots()) else {
+        return Err(ToolFault::NoMemory);
+    };
     write_bytes(writer, text.as_bytes()).map_err(ToolFault::from_write)
 }

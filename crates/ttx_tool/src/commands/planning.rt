@@ -92,7 +92,9 @@ pub fn plan<R: Read, O: Write, W: Write>(
     ensures untouched { IsUntouched is_tool_write result file.old file.new × IsUntouched is_tool_write result writer.old writer.new }
 {
     let cycle = plan_text(alloc, reader, receivers)?;
-    let line = planned_line(alloc, cycle.slots().len()).map_err(|_| ToolFault::NoMemory)?;
+    let Ok(line) = planned_line(alloc, cycle.slots().len()) else {
+        return Err(ToolFault::NoMemory);
+    };
     write_both(file, &cycle, writer, line.as_bytes())?;
     Ok(0)
 }

@@ -113,6 +113,7 @@ pub fn preview<R: Read, W: Write>(
     ensures untouched { IsUntouched is_tool_write result writer.old writer.new }
 {
     let preview = preview_service(alloc, reader, selection, look)?;
-    write_bytes(writer, preview.text.as_bytes()).map_err(ToolFault::from_write)?;
-    Ok(preview.status)
+    write_bytes(writer, preview.text.as_bytes())
+        .map(|()| preview.status)
+        .map_err(ToolFault::from_write)
 }

@@ -35,9 +35,15 @@ pub fn receive<R: Read, X: Receiver + Drop, W: Write>(
     ensures untouched { IsUntouched is_tool_write result writer.old writer.new }
 {
     let mut receiver = Watched::new(receiver);
-    let cycle = read_cycle(alloc, reader).map_err(ToolFault::Cycle)?;
+    let cycle = match read_cycle(alloc, reader) {
+        Ok(cycle) => cycle,
+        Err(fault) => return Err(ToolFault::Cycle(fault)),
+    };
     step_over(&mut receiver, cycle.slots(), usize::from(start), count);
-    let text = view_lines(alloc, receiver.view()).map_err(|_| ToolFault::NoMemory)?;
-    write_bytes(writer, text.as_bytes()).map_err(ToolFault::from_write)?;
-    Ok(0)
+    let Ok(text) = view_lines(alloc, receiver.view()) else {
+        return Err(ToolFault::NoMemory);
+    };
+    write_bytes(writer, text.as_bytes())
+        .map(|()| 0)
+        .map_err(ToolFault::from_write)
 }

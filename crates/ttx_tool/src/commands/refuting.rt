@@ -22,7 +22,7 @@ use ttx_cycle::{Counted, Cycle};
 use ttx_header::PageId;
 use ttx_page::{Class, Page};
 use ttx_source::Service;
-use ttx_witness::{Certificate, push_id};
+use ttx_witness::{Certificate, NoMemory, push_id};
 
 // What goes out: the bytes of the counter-run's file, the line, and the status.
 #[derive(Drop)]
@@ -51,17 +51,13 @@ pub(super) fn counter_line(
 }
 
 // The text of a counter-run, where it is asked for.
-fn saved(alloc: Global, counter: &Counter, save: bool) -> Result<Vec<u8>, ToolFault>
+fn saved(alloc: Global, counter: &Counter, save: bool) -> Result<Vec<u8>, NoMemory>
     ensures text { IfOk result (λ file. file.items ≡ saved save (counter_run_of counter.now)) }
-    ensures memory { IfErr result (λ fault. fault ≡ ToolFault.NoMemory) }
 {
     if !save {
         return Ok(Vec::new(alloc));
     }
-    match write_counter(alloc, counter) {
-        Ok(text) => Ok(text),
-        Err(_) => Err(ToolFault::NoMemory),
-    }
+    write_counter(alloc, counter)
 }
 
 // The id of the page in a place of the list.
@@ -78,33 +74,28 @@ fn tell_counter(
     pages: &[Page],
     counter: &Counter,
     save: bool,
-) -> Result<Told, ToolFault>
+) -> Result<Told, NoMemory>
     requires { counter.now.page < length pages.now }
     ensures line { IfOk result (λ told. (p : definitions.Page) → slice_get (map page_of pages.now) counter.now.page ≡ Some p →
         string_bytes told.line ≡ counter_line p.id (counter_run_of counter.now)) }
     ensures file { IfOk result (λ told. told.file.items ≡ saved save (counter_run_of counter.now)) }
     ensures status { IfOk result (λ told. told.status ≡ 1) }
-    ensures memory { IfErr result (λ fault. fault ≡ ToolFault.NoMemory) }
 {
     let Ok(line) = counter_line(alloc, id_at(pages, counter.page), counter) else {
-        return Err(ToolFault::NoMemory);
+        return Err(NoMemory);
     };
-    match saved(alloc, counter, save) {
-        Ok(file) => Ok(Told {
-            file,
-            line,
-            status: 1,
-        }),
-        Err(_) => Err(ToolFault::NoMemory),
-    }
+    Ok(Told {
+        file: saved(alloc, counter, save)?,
+        line,
+        status: 1,
+    })
 }
 
 // What goes out where there is none.
-fn tell_none(alloc: Global) -> Result<Told, ToolFault>
+fn tell_none(alloc: Global) -> Result<Told, NoMemory>
     ensures line { IfOk result (λ told. string_bytes told.line ≡ codes "none" ++ 10 ∷ []) }
     ensures file { IfOk result (λ told. told.file.items ≡ []) }
     ensures status { IfOk result (λ told. told.status ≡ 0) }
-    ensures memory { IfErr result (λ fault. fault ≡ ToolFault.NoMemory) }
 {
     match String::from_str(alloc, "none\n") {
         Ok(line) => Ok(Told {
@@ -112,7 +103,7 @@ fn tell_none(alloc: Global) -> Result<Told, ToolFault>
             line,
             status: 0,
         }),
-        Err(_) => Err(ToolFault::NoMemory),
+        Err(_) => Err(NoMemory),
     }
 }
 
@@ -123,16 +114,13 @@ fn tell_any(
     service: &Service,
     certificate: &Certificate,
     save: bool,
-) -> Result<Told, ToolFault>
+) -> Result<Told, NoMemory>
     requires { (fields_of certificate.now).class ≡ Any }
-    ensures told { IfOk result (λ told. IsRefutation (slots_of cycle.now) service.now (fields_of certificate.now) save told.file.items
+    ensures { IfOk result (λ told. IsRefutation (slots_of cycle.now) service.now (fields_of certificate.now) save told.file.items
         (string_bytes told.line) told.status) }
-    ensures memory { IfErr result (λ fault. fault ≡ ToolFault.NoMemory) }
 {
     let pages = service.pages();
-    let Ok(counter) = counter_to(alloc, cycle, pages, certificate) else {
-        return Err(ToolFault::NoMemory);
-    };
+    let counter = counter_to(alloc, cycle, pages, certificate)?;
     match counter {
         Some(counter) => tell_counter(alloc, pages, &counter, save),
         None => tell_none(alloc),

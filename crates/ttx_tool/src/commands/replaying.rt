@@ -1,6 +1,6 @@
 //! `replay`: what a viewer sees after a counter-run.
 
-ghost use Rattle.std.specs.Prelude.{◌≡◌, ◌<◌, Some, IfSome, IfOk, IfErr, length, map, slice_get, string_bytes};
+ghost use Rattle.std.specs.Prelude.{◌≡◌, ◌<◌, Some, IfSome, IfOk, length, map, slice_get, string_bytes};
 ghost use Rattle.ttx_certify.specs.CertifyingFiles.{IsUntouched};
 ghost use Rattle.ttx_counter.specs.Counters.{counter_run_of};
 ghost use Rattle.ttx_cycle.specs.Counters.{inner_of, faults_of};
@@ -23,6 +23,7 @@ use ttx_cycle::{Counted, Cycle, MOST_BYTES, TextFault, read_cycle, read_text, wr
 use ttx_page::{Page, PageMemory};
 use ttx_render::render;
 use ttx_source::Service;
+use ttx_witness::NoMemory;
 
 // What goes out, and the status.
 #[derive(Drop)]
@@ -73,28 +74,26 @@ fn tell_shown(
     pages: &[Page],
     counter: &Counter,
     memory: &PageMemory,
-) -> Result<Told, ToolFault>
+) -> Result<Told, NoMemory>
     requires { counter.now.page < length pages.now }
     ensures text { IfOk result (λ told. (p : definitions.Page) → slice_get (map page_of pages.now) counter.now.page ≡ Some p →
         string_bytes told.text ≡ replay_text p (counter_run_of counter.now) (memory_of memory.now)) }
     ensures status { IfOk result (λ told. told.status ≡ 0) }
-    ensures memory { IfErr result (λ fault. fault ≡ ToolFault.NoMemory) }
 {
     match replay_text(alloc, &pages[counter.page as usize], counter, memory) {
         Ok(text) => Ok(Told { text, status: 0 }),
-        Err(_) => Err(ToolFault::NoMemory),
+        Err(_) => Err(NoMemory),
     }
 }
 
 // What goes out where there is no counter-run.
-fn tell_none(alloc: Global) -> Result<Told, ToolFault>
+fn tell_none(alloc: Global) -> Result<Told, NoMemory>
     ensures text { IfOk result (λ told. string_bytes told.text ≡ none_text) }
     ensures status { IfOk result (λ told. told.status ≡ 1) }
-    ensures memory { IfErr result (λ fault. fault ≡ ToolFault.NoMemory) }
 {
     match String::from_str(alloc, "not a counter-run\n") {
         Ok(text) => Ok(Told { text, status: 1 }),
-        Err(_) => Err(ToolFault::NoMemory),
+        Err(_) => Err(NoMemory),
     }
 }
 
@@ -104,15 +103,12 @@ fn tell(
     cycle: &Cycle,
     service: &Service,
     counter: &Counter,
-) -> Result<Told, ToolFault>
-    ensures told { IfOk result (λ told. IsReplay (slots_of cycle.now) (pages_of service.now) (counter_run_of counter.now)
+) -> Result<Told, NoMemory>
+    ensures { IfOk result (λ told. IsReplay (slots_of cycle.now) (pages_of service.now) (counter_run_of counter.now)
         (string_bytes told.text) told.status) }
-    ensures memory { IfErr result (λ fault. fault ≡ ToolFault.NoMemory) }
 {
     let pages = service.pages();
-    let Ok(held) = replay_counter(alloc, cycle, pages, counter) else {
-        return Err(ToolFault::NoMemory);
-    };
+    let held = replay_counter(alloc, cycle, pages, counter)?;
     match held {
         Some(memory) => tell_shown(alloc, pages, counter, &memory),
         None => tell_none(alloc),
@@ -172,6 +168,7 @@ pub fn replay<A: Read, B: Read, C: Read, W: Write>(
     ensures untouched { IsUntouched is_tool_write result writer.old writer.new }
 {
     let told = replay_files(alloc, cycle, service, counter)?;
-    write_bytes(writer, told.text.as_bytes()).map_err(ToolFault::from_write)?;
-    Ok(told.status)
+    write_bytes(writer, told.text.as_bytes())
+        .map(|()| told.status)
+        .map_err(ToolFault::from_write)
 }

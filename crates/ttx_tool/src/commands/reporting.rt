@@ -26,25 +26,28 @@ fn keyed_line(alloc: Global, name: &str, key: &str, page: usize) -> Result<Strin
     format!(in alloc; "refused: service {name} {key} page {page}\n")
 }
 
+// The line of a refused service definition whose fault names no key.
+fn unkeyed_line(alloc: Global, name: &str, page: usize) -> Result<String, AllocError>
+    ensures { IfOk result (λ line. string_bytes line ≡ refused_service name.now page ++ 10 ∷ []) }
+{
+    format!(in alloc; "refused: service {name} page {page}\n")
+}
+
 // The line of a refused service definition.
 fn service_line(alloc: Global, error: &SourceError) -> Result<String, AllocError>
     ensures { IfOk result (λ line. string_bytes line ≡ service_text (fault_of error.now.fault) error.now.page ++ 10 ∷ []) }
 {
     let page = error.page;
     match error.fault {
-        SourceFault::NotToml => format!(in alloc; "refused: service 1 not-toml page {page}\n"),
+        SourceFault::NotToml => unkeyed_line(alloc, "1 not-toml", page),
         SourceFault::Missing { key } => keyed_line(alloc, "2 missing", key, page),
         SourceFault::Kind { key } => keyed_line(alloc, "3 kind", key, page),
-        SourceFault::PageNumber => format!(in alloc;
-            "refused: service 4 page-number page {page}\n"
-        ),
-        SourceFault::Subcode => format!(in alloc; "refused: service 5 subcode page {page}\n"),
-        SourceFault::Duplicate => format!(in alloc; "refused: service 6 duplicate page {page}\n"),
-        SourceFault::RowTooLong => format!(in alloc;
-            "refused: service 7 row-too-long page {page}\n"
-        ),
-        SourceFault::Character => format!(in alloc; "refused: service 8 character page {page}\n"),
-        SourceFault::Often => format!(in alloc; "refused: service 9 often page {page}\n"),
+        SourceFault::PageNumber => unkeyed_line(alloc, "4 page-number", page),
+        SourceFault::Subcode => unkeyed_line(alloc, "5 subcode", page),
+        SourceFault::Duplicate => unkeyed_line(alloc, "6 duplicate", page),
+        SourceFault::RowTooLong => unkeyed_line(alloc, "7 row-too-long", page),
+        SourceFault::Character => unkeyed_line(alloc, "8 character", page),
+        SourceFault::Often => unkeyed_line(alloc, "9 often", page),
         SourceFault::Range { key } => keyed_line(alloc, "10 range", key, page),
         SourceFault::NoMemory => String::from_str(alloc, "fault: memory\n"),
     }
@@ -209,9 +212,12 @@ pub fn report<W: Write>(
     ensures line { Reports (fault_line fault.now) (status_of fault.now) (W.contents (inner_of writer.old)) (W.contents (inner_of writer.new)) result }
     ensures faults { CountsReport result (faults_of writer.old) (faults_of writer.new) }
 {
-    let line = line_of(alloc, fault).map_err(|_| ToolFault::NoMemory)?;
-    write_bytes(writer, line.as_bytes()).map_err(ToolFault::from_write)?;
-    Ok(status(fault))
+    let Ok(line) = line_of(alloc, fault) else {
+        return Err(ToolFault::NoMemory);
+    };
+    write_bytes(writer, line.as_bytes())
+        .map(|()| status(fault))
+        .map_err(ToolFault::from_write)
 }
 
 /// Writes the line that says why no service text is made of a cycle and answers the status of the program.
@@ -224,9 +230,12 @@ pub fn report_extraction<W: Write>(
         (W.contents (inner_of writer.new)) result }
     ensures faults { CountsReport result (faults_of writer.old) (faults_of writer.new) }
 {
-    let line = extract_line(alloc, fault).map_err(|_| ToolFault::NoMemory)?;
-    write_bytes(writer, line.as_bytes()).map_err(ToolFault::from_write)?;
-    Ok(extract_status(fault))
+    let Ok(line) = extract_line(alloc, fault) else {
+        return Err(ToolFault::NoMemory);
+    };
+    write_bytes(writer, line.as_bytes())
+        .map(|()| extract_status(fault))
+        .map_err(ToolFault::from_write)
 }
 
 // Writes a text that is the whole report, and answers the status of a refusal.
@@ -234,8 +243,9 @@ fn refuse<W: Write>(text: &str, writer: &mut Counted<W>) -> Result<u8, ToolFault
     ensures line { Reports text.now 2 (W.contents (inner_of writer.old)) (W.contents (inner_of writer.new)) result }
     ensures faults { CountsReport result (faults_of writer.old) (faults_of writer.new) }
 {
-    write_bytes(writer, text.as_bytes()).map_err(ToolFault::from_write)?;
-    Ok(2)
+    write_bytes(writer, text.as_bytes())
+        .map(|()| 2)
+        .map_err(ToolFault::from_write)
 }
 
 /// Writes why words are refused and answers the status of the program. Of what `clap` refuses its own text is written.
@@ -249,7 +259,9 @@ pub fn report_words<W: Write>(
 {
     match fault {
         WordsFault::Refused(error) => {
-            let text = error.to_string(alloc).map_err(|_| ToolFault::NoMemory)?;
+            let Ok(text) = error.to_string(alloc) else {
+                return Err(ToolFault::NoMemory);
+            };
             refuse(text.as_str(), writer)
         }
         WordsFault::Page => refuse("refused: page\n", writer),

@@ -34,6 +34,9 @@ pub fn send<R: Read, W: Write>(
     ensures faults { CountsInspect result (faults_of reader.old) (faults_of reader.new) (faults_of writer.old) (faults_of writer.new) }
     ensures untouched { IsUntouched is_tool_write result writer.old writer.new }
 {
-    let cycle = read_cycle(alloc, reader).map_err(ToolFault::Cycle)?;
+    let cycle = match read_cycle(alloc, reader) {
+        Ok(cycle) => cycle,
+        Err(fault) => return Err(ToolFault::Cycle(fault)),
+    };
     ttx_send::send(&cycle, start, lines, phase, fields, writer).map_err(ToolFault::from_write)
 }

@@ -90,7 +90,10 @@ fn show_by<R: Read, X: Receiver, W: Write>(
     ensures untouched { IsUntouched is_tool_write result writer.old writer.new }
 {
     let (tuning, look) = (request.tuning, request.look);
-    let cycle = read_cycle(alloc, reader).map_err(ToolFault::Cycle)?;
+    let cycle = match read_cycle(alloc, reader) {
+        Ok(cycle) => cycle,
+        Err(fault) => return Err(ToolFault::Cycle(fault)),
+    };
     hear(
         receiver,
         cycle.slots(),
@@ -98,9 +101,12 @@ fn show_by<R: Read, X: Receiver, W: Write>(
         tuning.slots,
     );
     let memory = receiver.memory();
-    let text = shown_text(alloc, look, memory).map_err(|_| ToolFault::NoMemory)?;
-    write_bytes(writer, text.as_bytes()).map_err(ToolFault::from_write)?;
-    Ok(shown_status(memory))
+    let Ok(text) = shown_text(alloc, look, memory) else {
+        return Err(ToolFault::NoMemory);
+    };
+    write_bytes(writer, text.as_bytes())
+        .map(|()| shown_status(memory))
+        .map_err(ToolFault::from_write)
 }
 
 /// Reads a packet file, gives the receiver the slots that the tuning says, counted round the cycle, and writes the View of what

@@ -1,6 +1,6 @@
 //! `wait`: how long viewers of each page of a service wait.
 
-ghost use Rattle.std.specs.Prelude.{◌≡◌, ◌≤◌, IfSome, IfOk, IfErr, string_bytes};
+ghost use Rattle.std.specs.Prelude.{◌≡◌, ◌≤◌, IfSome, IfOk, string_bytes};
 ghost use Rattle.ttx_cycle.specs.Counters.{inner_of, faults_of};
 ghost use Rattle.ttx_cycle.specs.Cycles.{slots_of};
 ghost use Rattle.ttx_certify.specs.CertifyingFiles.{IsUntouched};
@@ -16,6 +16,7 @@ use ttx_cycle::{Counted, Cycle, read_cycle, write_bytes};
 use ttx_page::Class;
 use ttx_source::Service;
 use ttx_wait::{Detail, report_with};
+use ttx_witness::NoMemory;
 
 // The lines, and the status.
 #[derive(Drop)]
@@ -47,14 +48,13 @@ fn tell(
     cycle: &Cycle,
     service: &Service,
     question: Question,
-) -> Result<Told, ToolFault>
+) -> Result<Told, NoMemory>
     requires some { 1 ≤ question.repeat }
     requires few { question.repeat ≤ 8 }
-    ensures told { IfOk result (λ told. IsWaitOf (slots_of cycle.now) service.now question.repeat question.class question.detail
+    ensures { IfOk result (λ told. IsWaitOf (slots_of cycle.now) service.now question.repeat question.class question.detail
         (string_bytes told.text) told.status) }
-    ensures memory { IfErr result (λ fault. fault ≡ ToolFault.NoMemory) }
 {
-    let Ok(report) = report_with(
+    let report = report_with(
         alloc,
         cycle,
         service.pages(),
@@ -62,9 +62,7 @@ fn tell(
         question.repeat,
         service.lines(),
         question.detail,
-    ) else {
-        return Err(ToolFault::NoMemory);
-    };
+    )?;
     let status = wait_status(report.deadline);
     Ok(Told {
         text: report.text,
@@ -128,6 +126,7 @@ pub fn wait<A: Read, B: Read, W: Write>(
         detail,
     };
     let told = wait_text(alloc, cycle, service, question)?;
-    write_bytes(writer, told.text.as_bytes()).map_err(ToolFault::from_write)?;
-    Ok(told.status)
+    write_bytes(writer, told.text.as_bytes())
+        .map(|()| told.status)
+        .map_err(ToolFault::from_write)
 }

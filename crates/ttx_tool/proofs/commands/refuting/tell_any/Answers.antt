@@ -22,20 +22,20 @@ pub tell_counter-requires : goal.tell_counter-requires
 tell_counter-requires c =
     let pages = map page_of c.pages-pages.result.now in
     let told = subst (TellsCounter counter_run_of (slots_of c.args.cycle.now) pages (certificate_of c.args.certificate.now))
-    c.in-Some.is c.in-Ok.ensures.tells in
+    c.in-Some.is c.in_ok-counter.ensures.tells in
     let inside = slice_get_within pages c.in-Some.counter.page told.is.page told.is.here in
     let same = length-map c.pages-pages.result.now page_of in
     omega (arith, inside, same)
 
-pub returns-in-Some-clause-told : goal.returns-in-Some-clause-told
-returns-in-Some-clause-told c =
+pub returns-in-Some : goal.returns-in-Some
+returns-in-Some c =
     let slots = slots_of c.args.cycle.now in
     let pages = map page_of c.pages-pages.result.now in
     let w = certificate_of c.args.certificate.now in
     let run = counter_run_of c.in-Some.counter in
-    let told = subst (TellsCounter counter_run_of slots pages w) c.in-Some.is c.in-Ok.ensures.tells in
+    let told = subst (TellsCounter counter_run_of slots pages w) c.in-Some.is c.in_ok-counter.ensures.tells in
     let exact = subst (λ o. IsSentUnchanged slots pages → (is_some o ≡ true)
-    ↔ (CanBeAccepted slots pages Any w.lines w.repeat w.deadline → ⊥)) c.in-Some.is c.in-Ok.ensures.exact in
+    ↔ (CanBeAccepted slots pages Any w.lines w.repeat w.deadline → ⊥)) c.in-Some.is c.in_ok-counter.ensures.exact in
     all_three (λ t. (p : definitions.Page) → slice_get pages run.page ≡ Some p → string_bytes t.line ≡ counter_line p.id run)
     (λ t. t.file.items ≡ saved c.args.save run) (λ t. t.status ≡ 1)
     (λ t. IsRefutation slots c.args.service.now (fields_of c.args.certificate.now) c.args.save t.file.items (string_bytes t.line) t.status)
@@ -46,14 +46,14 @@ returns-in-Some-clause-told c =
     (record { is = told; page = told.is.page; here = told.is.here; same = line told.is.page told.is.here }, file, status))
     c.tell_counter.ensures.line c.tell_counter.ensures.file c.tell_counter.ensures.status
 
-pub returns-in-None-clause-told : goal.returns-in-None-clause-told
-returns-in-None-clause-told c =
+pub returns-in-None : goal.returns-in-None
+returns-in-None c =
     let slots = slots_of c.args.cycle.now in
     let pages = map page_of c.pages-pages.result.now in
     let w = certificate_of c.args.certificate.now in
-    let told = subst (TellsCounter counter_run_of slots pages w) c.in-None.is c.in-Ok.ensures.tells in
+    let told = subst (TellsCounter counter_run_of slots pages w) c.in-None.is c.in_ok-counter.ensures.tells in
     let exact = subst (λ o. IsSentUnchanged slots pages → (is_some o ≡ true)
-    ↔ (CanBeAccepted slots pages Any w.lines w.repeat w.deadline → ⊥)) c.in-None.is c.in-Ok.ensures.exact in
+    ↔ (CanBeAccepted slots pages Any w.lines w.repeat w.deadline → ⊥)) c.in-None.is c.in_ok-counter.ensures.exact in
     all_three (λ t. string_bytes t.line ≡ codes "none" ++ 10 ∷ []) (λ t. t.file.items ≡ []) (λ t. t.status ≡ 0)
     (λ t. IsRefutation slots c.args.service.now (fields_of c.args.certificate.now) c.args.save t.file.items (string_bytes t.line) t.status)
     c.tell_none.result

@@ -8,4 +8,4 @@ returns-in-Ok-tell-clause-bytes g c =
     let told = c.in-Ok-tell.told in
     waiting_of (slots_of c.in-Ok.cycle) c.in-Ok-read_definition.service
     (slots_of-IsCycle c.in-Ok.cycle) c.args.question.repeat c.args.question.class c.args.question.detail
-    (string_bytes told.text) told.status c.in-Ok-tell.ensures.told _ _ c.in-Ok.ensures.bytes c.in-Ok-read_definition.ensures.bytes
+    (string_bytes told.text) told.status c.in-Ok-tell.ensures _ _ c.in-Ok.ensures.bytes c.in-Ok-read_definition.ensures.bytes
