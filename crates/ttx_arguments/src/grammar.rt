@@ -12,32 +12,62 @@ use crate::help;
 use clap::builder::ValueParser;
 use clap::{Arg, ArgAction, Command};
 use std::alloc::{AllocError, Global};
+use std::mem;
 
-// A command that is being put together. Each function below passes want of memory on.
+// A command that is being put together: each function below that adds to one leaves want of memory in its place.
 type Building<'a> = Result<Command<'a>, AllocError>;
 
-fn with_arg<'a>(command: Building<'a>, arg: Arg<'a>) -> Building<'a>
+fn add_arg<'a>(command: &mut Building<'a>, arg: Arg<'a>)
     requires { arg.global ≡ false }
-    ensures { (app : App) → Builds command.entry app → Builds result (with_rule app (rule_of arg.entry)) }
+    ensures { (app : App) → Builds command.old app → Builds command.new (with_rule app (rule_of arg.entry)) }
 {
-    command?.arg(arg)
+    if let Ok(whole) = mem::replace(command, Err(AllocError)) {
+        *command = whole.arg(arg);
+    }
 }
 
 // An operand that has to be there.
-fn with_operand<'a>(
+fn add_operand<'a>(
     alloc: Global,
-    command: Building<'a>,
+    command: &mut Building<'a>,
     id: &'a str,
     name: &'a str,
     help: &'a str,
-) -> Building<'a>
-    ensures { (app : App) (text : Text) → id.entry.now ≡ text → Builds command.entry app → Builds result (with_rule app (operand_rule text)) }
+)
+    ensures { (app : App) (text : Text) → id.entry.now ≡ text → Builds command.old app → Builds command.new (with_rule app (operand_rule text)) }
 {
     let operand = Arg::new(alloc, id)
         .value_name(name)
         .help(help)
         .required(true);
-    with_arg(command, operand)
+    add_arg(command, operand);
+}
+
+// `CYCLE`
+fn add_cycle<'a>(alloc: Global, command: &mut Building<'a>)
+    ensures { (app : App) → Builds command.old app → Builds command.new (with_rule app (operand_rule (codes "cycle"))) }
+{
+    add_operand(alloc, command, "cycle", "CYCLE", help::CYCLE_OPERAND);
+}
+
+// `SERVICE`
+fn add_service<'a>(alloc: Global, command: &mut Building<'a>)
+    ensures { (app : App) → Builds command.old app → Builds command.new (with_rule app (operand_rule (codes "service"))) }
+{
+    add_operand(alloc, command, "service", "SERVICE", help::SERVICE_OPERAND);
+}
+
+// `CERT`
+fn add_certificate<'a>(alloc: Global, command: &mut Building<'a>)
+    ensures { (app : App) → Builds command.old app → Builds command.new (with_rule app (operand_rule (codes "certificate"))) }
+{
+    add_operand(
+        alloc,
+        command,
+        "certificate",
+        "CERT",
+        help::CERTIFICATE_OPERAND,
+    );
 }
 
 // An option with a number: its name, what help calls its value and says of it, and the range of the number.
@@ -50,16 +80,16 @@ struct NumberOption<'a> {
     high: u64,
 }
 
-fn with_number<'a>(alloc: Global, command: Building<'a>, option: NumberOption<'a>) -> Building<'a>
-    ensures { (app : App) (text : Text) → option.entry.id.now ≡ text → Builds command.entry app →
-        Builds result (with_rule app (number_rule text option.entry.low option.entry.high)) }
+fn add_number<'a>(alloc: Global, command: &mut Building<'a>, option: NumberOption<'a>)
+    ensures { (app : App) (text : Text) → option.entry.id.now ≡ text → Builds command.old app →
+        Builds command.new (with_rule app (number_rule text option.entry.low option.entry.high)) }
 {
     let number = Arg::new(alloc, option.id)
         .long(option.id)
         .value_name(option.name)
         .help(option.help)
         .value_parser(ValueParser::unsigned(option.low, option.high));
-    with_arg(command, number)
+    add_arg(command, number);
 }
 
 // An option with one of these names.
@@ -81,22 +111,24 @@ fn choice<'a>(
 }
 
 // An option without a value.
-fn with_flag<'a>(alloc: Global, command: Building<'a>, id: &'a str, help: &'a str) -> Building<'a>
-    ensures { (app : App) (text : Text) → id.entry.now ≡ text → Builds command.entry app → Builds result (with_rule app (flag_rule text)) }
+fn add_flag<'a>(alloc: Global, command: &mut Building<'a>, id: &'a str, help: &'a str)
+    ensures { (app : App) (text : Text) → id.entry.now ≡ text → Builds command.old app → Builds command.new (with_rule app (flag_rule text)) }
 {
     let flag = Arg::new(alloc, id)
         .long(id)
         .help(help)
         .action(ArgAction::SetTrue);
-    with_arg(command, flag)
+    add_arg(command, flag);
 }
 
-fn with_command<'a>(command: Building<'a>, below: Building<'a>) -> Building<'a>
-    ensures { (app sub : App) → Builds command.entry app → Builds below.entry sub → Builds result (with_subcommand app sub.top) }
+fn add_command<'a>(command: &mut Building<'a>, below: Building<'a>)
+    ensures { (app sub : App) → Builds command.old app → Builds below.entry sub → Builds command.new (with_subcommand app sub.top) }
 {
-    match below {
-        Ok(below) => command?.subcommand(below),
-        Err(error) => Err(error),
+    let Ok(whole) = mem::replace(command, Err(AllocError)) else {
+        return;
+    };
+    if let Ok(below) = below {
+        *command = whole.subcommand(below);
     }
 }
 
@@ -108,59 +140,36 @@ fn command<'a>(alloc: Global, name: &'a str, above: &'a str, below: &'a str) -> 
 }
 
 // `--class any|clearing`
-fn with_class<'a>(alloc: Global, command: Building<'a>, classes: &'a [&'a str]) -> Building<'a>
-    ensures { (app : App) → Builds command.entry app → Builds result (with_rule app (name_rule (codes "class") classes.entry)) }
+fn add_class<'a>(alloc: Global, command: &mut Building<'a>, classes: &'a [&'a str])
+    ensures { (app : App) → Builds command.old app → Builds command.new (with_rule app (name_rule (codes "class") classes.entry)) }
 {
     let class = choice(alloc, "class", "CLASS", help::CLASS_OPTION, classes);
-    with_arg(command, class)
+    add_arg(command, class);
 }
 
 // `--kind eager|careful|cleared`
-fn with_kind<'a>(alloc: Global, command: Building<'a>, kinds: &'a [&'a str]) -> Building<'a>
-    ensures { (app : App) → Builds command.entry app → Builds result (with_rule app (name_rule (codes "kind") kinds.entry)) }
+fn add_kind<'a>(alloc: Global, command: &mut Building<'a>, kinds: &'a [&'a str])
+    ensures { (app : App) → Builds command.old app → Builds command.new (with_rule app (name_rule (codes "kind") kinds.entry)) }
 {
     let kind = choice(alloc, "kind", "KIND", help::KIND_OPTION, kinds);
-    with_arg(command, kind)
+    add_arg(command, kind);
 }
 
 // `--as text|ansi|svg|html`
-fn with_form<'a>(alloc: Global, command: Building<'a>, forms: &'a [&'a str]) -> Building<'a>
-    ensures { (app : App) → Builds command.entry app → Builds result (with_rule app (name_rule (codes "as") forms.entry)) }
+fn add_form<'a>(alloc: Global, command: &mut Building<'a>, forms: &'a [&'a str])
+    ensures { (app : App) → Builds command.old app → Builds command.new (with_rule app (name_rule (codes "as") forms.entry)) }
 {
     let form = choice(alloc, "as", "FORM", help::FORM_OPTION, forms);
-    with_arg(command, form)
+    add_arg(command, form);
 }
 
-// `inspect FILE`
-fn inspect<'a>(alloc: Global) -> Building<'a>
-    ensures { Builds result inspect_app }
+// `--repeat K`
+fn add_repeat<'a>(alloc: Global, command: &mut Building<'a>)
+    ensures { (app : App) → Builds command.old app → Builds command.new (with_rule app (number_rule (codes "repeat") 1 8)) }
 {
-    let inspect = command(alloc, "inspect", help::INSPECT, help::INSPECT_MORE);
-    with_operand(alloc, inspect, "file", "FILE", help::CYCLE_OPERAND)
-}
-
-// `plan SERVICE OUT [--class any|clearing] [--late]`
-fn plan<'a>(alloc: Global, classes: &'a [&'a str]) -> Building<'a>
-    ensures { Builds result (plan_app classes.entry) }
-{
-    let plan = command(alloc, "plan", help::PLAN, help::PLAN_MORE);
-    let plan = with_operand(alloc, plan, "service", "SERVICE", help::SERVICE_OPERAND);
-    let plan = with_operand(alloc, plan, "out", "OUT", help::PLANNED_OPERAND);
-    let plan = with_class(alloc, plan, classes);
-    with_flag(alloc, plan, "late", help::PLANNED_LATE_OPTION)
-}
-
-// `find CYCLE SERVICE OUT [--repeat K] [--class any|clearing]`
-fn find<'a>(alloc: Global, classes: &'a [&'a str]) -> Building<'a>
-    ensures { Builds result (find_app classes.entry) }
-{
-    let find = command(alloc, "find", help::FIND, help::FIND_MORE);
-    let find = with_operand(alloc, find, "cycle", "CYCLE", help::CYCLE_OPERAND);
-    let find = with_operand(alloc, find, "service", "SERVICE", help::SERVICE_OPERAND);
-    let find = with_operand(alloc, find, "out", "OUT", help::FOUND_OPERAND);
-    let find = with_number(
+    add_number(
         alloc,
-        find,
+        command,
         NumberOption {
             id: "repeat",
             name: "K",
@@ -169,75 +178,105 @@ fn find<'a>(alloc: Global, classes: &'a [&'a str]) -> Building<'a>
             high: 8,
         },
     );
-    with_class(alloc, find, classes)
+}
+
+// `inspect FILE`
+fn add_inspect<'a>(alloc: Global, ttx: &mut Building<'a>)
+    ensures { (app : App) → Builds ttx.old app → Builds ttx.new (with_subcommand app inspect_app.top) }
+{
+    let mut inspect = command(alloc, "inspect", help::INSPECT, help::INSPECT_MORE);
+    add_operand(alloc, &mut inspect, "file", "FILE", help::CYCLE_OPERAND);
+    add_command(ttx, inspect);
+}
+
+// `plan SERVICE OUT [--class any|clearing] [--late]`
+fn add_plan<'a>(alloc: Global, ttx: &mut Building<'a>, classes: &'a [&'a str])
+    ensures { (app : App) → Builds ttx.old app → Builds ttx.new (with_subcommand app (plan_app classes.entry).top) }
+{
+    let mut plan = command(alloc, "plan", help::PLAN, help::PLAN_MORE);
+    add_service(alloc, &mut plan);
+    add_operand(alloc, &mut plan, "out", "OUT", help::PLANNED_OPERAND);
+    add_class(alloc, &mut plan, classes);
+    add_flag(alloc, &mut plan, "late", help::PLANNED_LATE_OPTION);
+    add_command(ttx, plan);
+}
+
+// `find CYCLE SERVICE OUT [--repeat K] [--class any|clearing]`
+fn add_find<'a>(alloc: Global, ttx: &mut Building<'a>, classes: &'a [&'a str])
+    ensures { (app : App) → Builds ttx.old app → Builds ttx.new (with_subcommand app (find_app classes.entry).top) }
+{
+    let mut find = command(alloc, "find", help::FIND, help::FIND_MORE);
+    add_cycle(alloc, &mut find);
+    add_service(alloc, &mut find);
+    add_operand(alloc, &mut find, "out", "OUT", help::FOUND_OPERAND);
+    add_repeat(alloc, &mut find);
+    add_class(alloc, &mut find, classes);
+    add_command(ttx, find);
 }
 
 // `certify CYCLE SERVICE CERT [--late] [--twice]`
-fn certify<'a>(alloc: Global) -> Building<'a>
-    ensures { Builds result certify_app }
+fn add_certify<'a>(alloc: Global, ttx: &mut Building<'a>)
+    ensures { (app : App) → Builds ttx.old app → Builds ttx.new (with_subcommand app certify_app.top) }
 {
-    let certify = command(alloc, "certify", help::CERTIFY, help::CERTIFY_MORE);
-    let certify = with_operand(alloc, certify, "cycle", "CYCLE", help::CYCLE_OPERAND);
-    let certify = with_operand(alloc, certify, "service", "SERVICE", help::SERVICE_OPERAND);
-    let certify = with_operand(
-        alloc,
-        certify,
-        "certificate",
-        "CERT",
-        help::CERTIFICATE_OPERAND,
-    );
-    let certify = with_flag(alloc, certify, "late", help::LATE_OPTION);
-    with_flag(alloc, certify, "twice", help::TWICE_OPTION)
+    let mut certify = command(alloc, "certify", help::CERTIFY, help::CERTIFY_MORE);
+    add_cycle(alloc, &mut certify);
+    add_service(alloc, &mut certify);
+    add_certificate(alloc, &mut certify);
+    add_flag(alloc, &mut certify, "late", help::LATE_OPTION);
+    add_flag(alloc, &mut certify, "twice", help::TWICE_OPTION);
+    add_command(ttx, certify);
 }
 
 // An option with any text.
-fn with_text<'a>(
+fn add_text<'a>(
     alloc: Global,
-    command: Building<'a>,
+    command: &mut Building<'a>,
     id: &'a str,
     name: &'a str,
     help: &'a str,
-) -> Building<'a>
-    ensures { (app : App) (text : Text) → id.entry.now ≡ text → Builds command.entry app → Builds result (with_rule app (text_rule text)) }
+)
+    ensures { (app : App) (text : Text) → id.entry.now ≡ text → Builds command.old app → Builds command.new (with_rule app (text_rule text)) }
 {
     let option = Arg::new(alloc, id).long(id).value_name(name).help(help);
-    with_arg(command, option)
+    add_arg(command, option);
 }
 
 // `refute CYCLE SERVICE CERT [--save OUT]`
-fn refute<'a>(alloc: Global) -> Building<'a>
-    ensures { Builds result refute_app }
+fn add_refute<'a>(alloc: Global, ttx: &mut Building<'a>)
+    ensures { (app : App) → Builds ttx.old app → Builds ttx.new (with_subcommand app refute_app.top) }
 {
-    let refute = command(alloc, "refute", help::REFUTE, help::REFUTE_MORE);
-    let refute = with_operand(alloc, refute, "cycle", "CYCLE", help::CYCLE_OPERAND);
-    let refute = with_operand(alloc, refute, "service", "SERVICE", help::SERVICE_OPERAND);
-    let refute = with_operand(
-        alloc,
-        refute,
-        "certificate",
-        "CERT",
-        help::CERTIFICATE_OPERAND,
-    );
-    with_text(alloc, refute, "save", "OUT", help::SAVE_OPTION)
+    let mut refute = command(alloc, "refute", help::REFUTE, help::REFUTE_MORE);
+    add_cycle(alloc, &mut refute);
+    add_service(alloc, &mut refute);
+    add_certificate(alloc, &mut refute);
+    add_text(alloc, &mut refute, "save", "OUT", help::SAVE_OPTION);
+    add_command(ttx, refute);
 }
 
 // `replay CYCLE SERVICE COUNTER`
-fn replay<'a>(alloc: Global) -> Building<'a>
-    ensures { Builds result replay_app }
+fn add_replay<'a>(alloc: Global, ttx: &mut Building<'a>)
+    ensures { (app : App) → Builds ttx.old app → Builds ttx.new (with_subcommand app replay_app.top) }
 {
-    let replay = command(alloc, "replay", help::REPLAY, help::REPLAY_MORE);
-    let replay = with_operand(alloc, replay, "cycle", "CYCLE", help::CYCLE_OPERAND);
-    let replay = with_operand(alloc, replay, "service", "SERVICE", help::SERVICE_OPERAND);
-    with_operand(alloc, replay, "counter", "COUNTER", help::COUNTER_OPERAND)
+    let mut replay = command(alloc, "replay", help::REPLAY, help::REPLAY_MORE);
+    add_cycle(alloc, &mut replay);
+    add_service(alloc, &mut replay);
+    add_operand(
+        alloc,
+        &mut replay,
+        "counter",
+        "COUNTER",
+        help::COUNTER_OPERAND,
+    );
+    add_command(ttx, replay);
 }
 
 // `CYCLE PAGE [--lines L] [--start S] [--slots N] [--kind eager|careful|cleared]`
-fn with_tuning<'a>(alloc: Global, command: Building<'a>, kinds: &'a [&'a str]) -> Building<'a>
-    ensures { (app : App) → Builds command.entry app → Builds result (with_tuning kinds.entry app) }
+fn add_tuning<'a>(alloc: Global, command: &mut Building<'a>, kinds: &'a [&'a str])
+    ensures { (app : App) → Builds command.old app → Builds command.new (with_tuning kinds.entry app) }
 {
-    let command = with_operand(alloc, command, "cycle", "CYCLE", help::CYCLE_OPERAND);
-    let command = with_operand(alloc, command, "page", "PAGE", help::PAGE_OPERAND);
-    let command = with_number(
+    add_cycle(alloc, command);
+    add_operand(alloc, command, "page", "PAGE", help::PAGE_OPERAND);
+    add_number(
         alloc,
         command,
         NumberOption {
@@ -248,7 +287,7 @@ fn with_tuning<'a>(alloc: Global, command: Building<'a>, kinds: &'a [&'a str]) -
             high: 32,
         },
     );
-    let command = with_number(
+    add_number(
         alloc,
         command,
         NumberOption {
@@ -259,7 +298,7 @@ fn with_tuning<'a>(alloc: Global, command: Building<'a>, kinds: &'a [&'a str]) -
             high: 65_535,
         },
     );
-    let command = with_number(
+    add_number(
         alloc,
         command,
         NumberOption {
@@ -270,101 +309,96 @@ fn with_tuning<'a>(alloc: Global, command: Building<'a>, kinds: &'a [&'a str]) -
             high: 1_000_000,
         },
     );
-    with_kind(alloc, command, kinds)
+    add_kind(alloc, command, kinds);
 }
 
 // `receive`, with these.
-fn receive<'a>(alloc: Global, kinds: &'a [&'a str]) -> Building<'a>
-    ensures { Builds result (receive_app kinds.entry) }
+fn add_receive<'a>(alloc: Global, ttx: &mut Building<'a>, kinds: &'a [&'a str])
+    ensures { (app : App) → Builds ttx.old app → Builds ttx.new (with_subcommand app (receive_app kinds.entry).top) }
 {
-    let receive = command(alloc, "receive", help::RECEIVE, help::RECEIVE_MORE);
-    with_tuning(alloc, receive, kinds)
+    let mut receive = command(alloc, "receive", help::RECEIVE, help::RECEIVE_MORE);
+    add_tuning(alloc, &mut receive, kinds);
+    add_command(ttx, receive);
 }
 
 // `[--as text|ansi|svg|html] [--reveal]`
-fn with_look<'a>(alloc: Global, command: Building<'a>, forms: &'a [&'a str]) -> Building<'a>
-    ensures { (app : App) → Builds command.entry app → Builds result (with_look forms.entry app) }
+fn add_look<'a>(alloc: Global, command: &mut Building<'a>, forms: &'a [&'a str])
+    ensures { (app : App) → Builds command.old app → Builds command.new (with_look forms.entry app) }
 {
-    let command = with_form(alloc, command, forms);
-    with_flag(alloc, command, "reveal", help::REVEAL_OPTION)
+    add_form(alloc, command, forms);
+    add_flag(alloc, command, "reveal", help::REVEAL_OPTION);
 }
 
 // `show`, with all of these.
-fn show<'a>(alloc: Global, kinds: &'a [&'a str], forms: &'a [&'a str]) -> Building<'a>
-    ensures { Builds result (show_app kinds.entry forms.entry) }
+fn add_show<'a>(alloc: Global, ttx: &mut Building<'a>, kinds: &'a [&'a str], forms: &'a [&'a str])
+    ensures { (app : App) → Builds ttx.old app → Builds ttx.new (with_subcommand app (show_app kinds.entry forms.entry).top) }
 {
-    let show = command(alloc, "show", help::SHOW, help::SHOW_MORE);
-    let show = with_tuning(alloc, show, kinds);
-    with_look(alloc, show, forms)
+    let mut show = command(alloc, "show", help::SHOW, help::SHOW_MORE);
+    add_tuning(alloc, &mut show, kinds);
+    add_look(alloc, &mut show, forms);
+    add_command(ttx, show);
 }
 
 // `preview SERVICE PAGE [--as text|ansi|svg|html] [--reveal]`
-fn preview<'a>(alloc: Global, forms: &'a [&'a str]) -> Building<'a>
-    ensures { Builds result (preview_app forms.entry) }
+fn add_preview<'a>(alloc: Global, ttx: &mut Building<'a>, forms: &'a [&'a str])
+    ensures { (app : App) → Builds ttx.old app → Builds ttx.new (with_subcommand app (preview_app forms.entry).top) }
 {
-    let preview = command(alloc, "preview", help::PREVIEW, help::PREVIEW_MORE);
-    let preview = with_operand(alloc, preview, "service", "SERVICE", help::SERVICE_OPERAND);
-    let preview = with_operand(alloc, preview, "page", "PAGE", help::PAGE_OPERAND);
-    with_look(alloc, preview, forms)
+    let mut preview = command(alloc, "preview", help::PREVIEW, help::PREVIEW_MORE);
+    add_service(alloc, &mut preview);
+    add_operand(alloc, &mut preview, "page", "PAGE", help::PAGE_OPERAND);
+    add_look(alloc, &mut preview, forms);
+    add_command(ttx, preview);
 }
 
 // `splice OLD NEW OLDSERVICE NEWSERVICE OLDCERT NEWCERT`
-fn splice<'a>(alloc: Global) -> Building<'a>
-    ensures { Builds result splice_app }
+fn add_splice<'a>(alloc: Global, ttx: &mut Building<'a>)
+    ensures { (app : App) → Builds ttx.old app → Builds ttx.new (with_subcommand app splice_app.top) }
 {
-    let splice = command(alloc, "splice", help::SPLICE, help::SPLICE_MORE);
-    let splice = with_operand(alloc, splice, "old", "OLD", help::OLD_OPERAND);
-    let splice = with_operand(alloc, splice, "new", "NEW", help::NEW_OPERAND);
-    let splice = with_operand(
+    let mut splice = command(alloc, "splice", help::SPLICE, help::SPLICE_MORE);
+    add_operand(alloc, &mut splice, "old", "OLD", help::OLD_OPERAND);
+    add_operand(alloc, &mut splice, "new", "NEW", help::NEW_OPERAND);
+    add_operand(
         alloc,
-        splice,
+        &mut splice,
         "old_service",
         "OLDSERVICE",
         help::OLD_SERVICE_OPERAND,
     );
-    let splice = with_operand(
+    add_operand(
         alloc,
-        splice,
+        &mut splice,
         "new_service",
         "NEWSERVICE",
         help::NEW_SERVICE_OPERAND,
     );
-    let splice = with_operand(
+    add_operand(
         alloc,
-        splice,
+        &mut splice,
         "old_certificate",
         "OLDCERT",
         help::OLD_CERTIFICATE_OPERAND,
     );
-    with_operand(
+    add_operand(
         alloc,
-        splice,
+        &mut splice,
         "new_certificate",
         "NEWCERT",
         help::NEW_CERTIFICATE_OPERAND,
-    )
+    );
+    add_command(ttx, splice);
 }
 
 // `wait CYCLE SERVICE [--repeat K] [--class any|clearing] [--items]`
-fn wait<'a>(alloc: Global, classes: &'a [&'a str]) -> Building<'a>
-    ensures { Builds result (wait_app classes.entry) }
+fn add_wait<'a>(alloc: Global, ttx: &mut Building<'a>, classes: &'a [&'a str])
+    ensures { (app : App) → Builds ttx.old app → Builds ttx.new (with_subcommand app (wait_app classes.entry).top) }
 {
-    let wait = command(alloc, "wait", help::WAIT, help::WAIT_MORE);
-    let wait = with_operand(alloc, wait, "cycle", "CYCLE", help::CYCLE_OPERAND);
-    let wait = with_operand(alloc, wait, "service", "SERVICE", help::SERVICE_OPERAND);
-    let wait = with_number(
-        alloc,
-        wait,
-        NumberOption {
-            id: "repeat",
-            name: "K",
-            help: help::REPEAT_OPTION,
-            low: 1,
-            high: 8,
-        },
-    );
-    let wait = with_class(alloc, wait, classes);
-    with_flag(alloc, wait, "items", help::ITEMS_OPTION)
+    let mut wait = command(alloc, "wait", help::WAIT, help::WAIT_MORE);
+    add_cycle(alloc, &mut wait);
+    add_service(alloc, &mut wait);
+    add_repeat(alloc, &mut wait);
+    add_class(alloc, &mut wait, classes);
+    add_flag(alloc, &mut wait, "items", help::ITEMS_OPTION);
+    add_command(ttx, wait);
 }
 
 // An option with any text that has to be there.
@@ -380,16 +414,16 @@ fn needed<'a>(alloc: Global, id: &'a str, name: &'a str, help: &'a str) -> Arg<'
 }
 
 // `--at MJD/HHMMSS`
-fn with_moment<'a>(alloc: Global, command: Building<'a>) -> Building<'a>
-    ensures { (app : App) → Builds command.entry app → Builds result (with_rule app (needed_rule (codes "at"))) }
+fn add_moment<'a>(alloc: Global, command: &mut Building<'a>)
+    ensures { (app : App) → Builds command.old app → Builds command.new (with_rule app (needed_rule (codes "at"))) }
 {
     let at = needed(alloc, "at", "MJD/HHMMSS", help::AT_OPTION);
-    with_arg(command, at)
+    add_arg(command, at);
 }
 
 // `--fields N`
-fn with_fields<'a>(alloc: Global, command: Building<'a>) -> Building<'a>
-    ensures { (app : App) → Builds command.entry app → Builds result (with_rule app (needed_number_rule (codes "fields") 0 4294967295)) }
+fn add_fields<'a>(alloc: Global, command: &mut Building<'a>)
+    ensures { (app : App) → Builds command.old app → Builds command.new (with_rule app (needed_number_rule (codes "fields") 0 4294967295)) }
 {
     let fields = Arg::new(alloc, "fields")
         .long("fields")
@@ -397,20 +431,20 @@ fn with_fields<'a>(alloc: Global, command: Building<'a>) -> Building<'a>
         .help(help::FIELDS_OPTION)
         .required(true)
         .value_parser(ValueParser::unsigned(0, 4_294_967_295));
-    with_arg(command, fields)
+    add_arg(command, fields);
 }
 
 // `send CYCLE --at MJD/HHMMSS --fields N [--lines L] [--phase F] [--offset HALVES]`
-fn send<'a>(alloc: Global) -> Building<'a>
-    ensures { Builds result send_app }
+fn add_send<'a>(alloc: Global, ttx: &mut Building<'a>)
+    ensures { (app : App) → Builds ttx.old app → Builds ttx.new (with_subcommand app send_app.top) }
 {
-    let send = command(alloc, "send", help::SEND, help::SEND_MORE);
-    let send = with_operand(alloc, send, "cycle", "CYCLE", help::CYCLE_OPERAND);
-    let send = with_moment(alloc, send);
-    let send = with_fields(alloc, send);
-    let send = with_number(
+    let mut send = command(alloc, "send", help::SEND, help::SEND_MORE);
+    add_cycle(alloc, &mut send);
+    add_moment(alloc, &mut send);
+    add_fields(alloc, &mut send);
+    add_number(
         alloc,
-        send,
+        &mut send,
         NumberOption {
             id: "lines",
             name: "L",
@@ -419,9 +453,9 @@ fn send<'a>(alloc: Global) -> Building<'a>
             high: 32,
         },
     );
-    let send = with_number(
+    add_number(
         alloc,
-        send,
+        &mut send,
         NumberOption {
             id: "phase",
             name: "F",
@@ -430,9 +464,9 @@ fn send<'a>(alloc: Global) -> Building<'a>
             high: 4_294_967_295,
         },
     );
-    with_number(
+    add_number(
         alloc,
-        send,
+        &mut send,
         NumberOption {
             id: "offset",
             name: "HALVES",
@@ -440,29 +474,32 @@ fn send<'a>(alloc: Global) -> Building<'a>
             low: 0,
             high: 47,
         },
-    )
+    );
+    add_command(ttx, send);
 }
 
 // `pages CYCLE`
-fn pages<'a>(alloc: Global) -> Building<'a>
-    ensures { Builds result pages_app }
+fn add_pages<'a>(alloc: Global, ttx: &mut Building<'a>)
+    ensures { (app : App) → Builds ttx.old app → Builds ttx.new (with_subcommand app pages_app.top) }
 {
-    let pages = command(alloc, "pages", help::PAGES, help::PAGES_MORE);
-    with_operand(alloc, pages, "cycle", "CYCLE", help::CYCLE_OPERAND)
+    let mut pages = command(alloc, "pages", help::PAGES, help::PAGES_MORE);
+    add_cycle(alloc, &mut pages);
+    add_command(ttx, pages);
 }
 
 // `book CYCLE OUT`
-fn book<'a>(alloc: Global) -> Building<'a>
-    ensures { Builds result book_app }
+fn add_book<'a>(alloc: Global, ttx: &mut Building<'a>)
+    ensures { (app : App) → Builds ttx.old app → Builds ttx.new (with_subcommand app book_app.top) }
 {
-    let book = command(alloc, "book", help::BOOK, help::BOOK_MORE);
-    let book = with_operand(alloc, book, "cycle", "CYCLE", help::CYCLE_OPERAND);
-    with_operand(alloc, book, "out", "OUT", help::BOOK_OPERAND)
+    let mut book = command(alloc, "book", help::BOOK, help::BOOK_MORE);
+    add_cycle(alloc, &mut book);
+    add_operand(alloc, &mut book, "out", "OUT", help::BOOK_OPERAND);
+    add_command(ttx, book);
 }
 
 // `--lines L`, which has to be there
-fn with_lines<'a>(alloc: Global, command: Building<'a>) -> Building<'a>
-    ensures { (app : App) → Builds command.entry app → Builds result (with_rule app (needed_number_rule (codes "lines") 1 32)) }
+fn add_lines<'a>(alloc: Global, command: &mut Building<'a>)
+    ensures { (app : App) → Builds command.old app → Builds command.new (with_rule app (needed_number_rule (codes "lines") 1 32)) }
 {
     let lines = Arg::new(alloc, "lines")
         .long("lines")
@@ -470,32 +507,37 @@ fn with_lines<'a>(alloc: Global, command: Building<'a>) -> Building<'a>
         .help(help::NEEDED_LINES_OPTION)
         .required(true)
         .value_parser(ValueParser::unsigned(1, 32));
-    with_arg(command, lines)
+    add_arg(command, lines);
 }
 
 // `extract CYCLE OUT --lines L`
-fn extract<'a>(alloc: Global) -> Building<'a>
-    ensures { Builds result extract_app }
+fn add_extract<'a>(alloc: Global, ttx: &mut Building<'a>)
+    ensures { (app : App) → Builds ttx.old app → Builds ttx.new (with_subcommand app extract_app.top) }
 {
-    let extract = command(alloc, "extract", help::EXTRACT, help::EXTRACT_MORE);
-    let extract = with_operand(alloc, extract, "cycle", "CYCLE", help::CYCLE_OPERAND);
-    let extract = with_operand(alloc, extract, "out", "OUT", help::EXTRACTED_OPERAND);
-    with_lines(alloc, extract)
+    let mut extract = command(alloc, "extract", help::EXTRACT, help::EXTRACT_MORE);
+    add_cycle(alloc, &mut extract);
+    add_operand(alloc, &mut extract, "out", "OUT", help::EXTRACTED_OPERAND);
+    add_lines(alloc, &mut extract);
+    add_command(ttx, extract);
 }
 
 // `check SERVICE`
-fn check<'a>(alloc: Global) -> Building<'a>
-    ensures { Builds result check_app }
+fn add_check<'a>(alloc: Global, ttx: &mut Building<'a>)
+    ensures { (app : App) → Builds ttx.old app → Builds ttx.new (with_subcommand app check_app.top) }
 {
-    let check = command(alloc, "check", help::CHECK, help::CHECK_MORE);
-    with_operand(alloc, check, "service", "SERVICE", help::SERVICE_OPERAND)
+    let mut check = command(alloc, "check", help::CHECK, help::CHECK_MORE);
+    add_service(alloc, &mut check);
+    add_command(ttx, check);
 }
 
 // `version`
-fn version<'a>(alloc: Global) -> Building<'a>
-    ensures { Builds result version_app }
+fn add_version<'a>(alloc: Global, ttx: &mut Building<'a>)
+    ensures { (app : App) → Builds ttx.old app → Builds ttx.new (with_subcommand app version_app.top) }
 {
-    command(alloc, "version", help::VERSION, help::VERSION_MORE)
+    add_command(
+        ttx,
+        command(alloc, "version", help::VERSION, help::VERSION_MORE),
+    );
 }
 
 // `ttx` alone, which is given the words after its name.
@@ -541,21 +583,23 @@ pub(crate) fn ttx<'a>(
 ) -> Building<'a>
     ensures { Builds result (ttx_app kinds.entry classes.entry forms.entry) }
 {
-    let ttx = with_command(bare(alloc), inspect(alloc));
-    let ttx = with_command(ttx, plan(alloc, classes));
-    let ttx = with_command(ttx, find(alloc, classes));
-    let ttx = with_command(ttx, certify(alloc));
-    let ttx = with_command(ttx, refute(alloc));
-    let ttx = with_command(ttx, replay(alloc));
-    let ttx = with_command(ttx, receive(alloc, kinds));
-    let ttx = with_command(ttx, show(alloc, kinds, forms));
-    let ttx = with_command(ttx, preview(alloc, forms));
-    let ttx = with_command(ttx, splice(alloc));
-    let ttx = with_command(ttx, wait(alloc, classes));
-    let ttx = with_command(ttx, send(alloc));
-    let ttx = with_command(ttx, pages(alloc));
-    let ttx = with_command(ttx, book(alloc));
-    let ttx = with_command(ttx, extract(alloc));
-    let ttx = with_command(ttx, check(alloc));
-    with_command(ttx, version(alloc))
+    let mut ttx = bare(alloc);
+    add_inspect(alloc, &mut ttx);
+    add_plan(alloc, &mut ttx, classes);
+    add_find(alloc, &mut ttx, classes);
+    add_certify(alloc, &mut ttx);
+    add_refute(alloc, &mut ttx);
+    add_replay(alloc, &mut ttx);
+    add_receive(alloc, &mut ttx, kinds);
+    add_show(alloc, &mut ttx, kinds, forms);
+    add_preview(alloc, &mut ttx, forms);
+    add_splice(alloc, &mut ttx);
+    add_wait(alloc, &mut ttx, classes);
+    add_send(alloc, &mut ttx);
+    add_pages(alloc, &mut ttx);
+    add_book(alloc, &mut ttx);
+    add_extract(alloc, &mut ttx);
+    add_check(alloc, &mut ttx);
+    add_version(alloc, &mut ttx);
+    ttx
 }

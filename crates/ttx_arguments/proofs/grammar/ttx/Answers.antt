@@ -4,20 +4,20 @@ use Rattle.ttx_arguments.proofs.grammar.ttx.Goals as goal
 pub returns : goal.returns
 unfolding ttx_app
 returns c =
-    let inspecting = c.with_command-ttx.ensures _ _ c.bare.ensures c.inspect.ensures in
-    let planning = c.with_command-ttx-2.ensures _ _ inspecting c.plan.ensures in
-    let finding = c.with_command-ttx-3.ensures _ _ planning c.find.ensures in
-    let certifying = c.with_command-ttx-4.ensures _ _ finding c.certify.ensures in
-    let refuting = c.with_command-ttx-5.ensures _ _ certifying c.refute.ensures in
-    let replaying = c.with_command-ttx-6.ensures _ _ refuting c.replay.ensures in
-    let receiving = c.with_command-ttx-7.ensures _ _ replaying c.receive.ensures in
-    let showing = c.with_command-ttx-8.ensures _ _ receiving c.show.ensures in
-    let previewing = c.with_command-ttx-9.ensures _ _ showing c.preview.ensures in
-    let splicing = c.with_command-ttx-10.ensures _ _ previewing c.splice.ensures in
-    let waiting = c.with_command-ttx-11.ensures _ _ splicing c.wait.ensures in
-    let sending = c.with_command-ttx-12.ensures _ _ waiting c.send.ensures in
-    let paging = c.with_command-ttx-13.ensures _ _ sending c.pages.ensures in
-    let booking = c.with_command-ttx-14.ensures _ _ paging c.book.ensures in
-    let extracting = c.with_command-ttx-15.ensures _ _ booking c.extract.ensures in
-    let checking = c.with_command-ttx-16.ensures _ _ extracting c.check.ensures in
-    c.with_command.ensures _ _ checking c.version.ensures
+    let inspecting = c.add_inspect.ensures _ c.bare-ttx.ensures in
+    let planning = c.add_plan.ensures _ inspecting in
+    let finding = c.add_find.ensures _ planning in
+    let certifying = c.add_certify.ensures _ finding in
+    let refuting = c.add_refute.ensures _ certifying in
+    let replaying = c.add_replay.ensures _ refuting in
+    let receiving = c.add_receive.ensures _ replaying in
+    let showing = c.add_show.ensures _ receiving in
+    let previewing = c.add_preview.ensures _ showing in
+    let splicing = c.add_splice.ensures _ previewing in
+    let waiting = c.add_wait.ensures _ splicing in
+    let sending = c.add_send.ensures _ waiting in
+    let paging = c.add_pages.ensures _ sending in
+    let booking = c.add_book.ensures _ paging in
+    let extracting = c.add_extract.ensures _ booking in
+    let checking = c.add_check.ensures _ extracting in
+    c.add_version.ensures _ checking

@@ -1,0 +1,12 @@
+use Rattle.std.proofs.Common.{rules}
+use Rattle.ttx_arguments.proofs.grammar.add_wait.Goals as goal
+
+pub returns : goal.returns
+returns c app builds =
+    let named = c.command-wait.ensures _ (search rules) in
+    let cycle = c.add_cycle.ensures _ named in
+    let service = c.add_service.ensures _ cycle in
+    let repeat = c.add_repeat.ensures _ service in
+    let class = c.add_class.ensures _ repeat in
+    let items = c.add_flag.ensures _ _ (search rules) class in
+    c.add_command.ensures _ _ builds items

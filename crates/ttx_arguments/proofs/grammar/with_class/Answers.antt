@@ -1,9 +1,0 @@
-use Rattle.std.proofs.Common.{rules, ◌∙◌, ap, subst}
-use Rattle.clap.specs.Words.{Rule, Text, with_rule}
-use Rattle.ttx_arguments.specs.Grammar.{Builds, name_rule}
-use Rattle.ttx_arguments.proofs.grammar.with_class.Goals as goal
-
-pub returns : goal.returns
-returns c app builds =
-    let rule = c.choice-class.ensures.rule ∙ ap (λ (t : Text). name_rule t c.args.classes) (search rules) in
-    subst (λ (r : Rule). Builds c.with_arg.result (with_rule app r)) rule (c.with_arg.ensures app builds)
