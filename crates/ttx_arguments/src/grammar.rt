@@ -121,22 +121,28 @@ fn add_flag<'a>(alloc: Global, command: &mut Building<'a>, id: &'a str, help: &'
     add_arg(command, flag);
 }
 
-fn add_command<'a>(command: &mut Building<'a>, below: Building<'a>)
-    ensures { (app sub : App) → Builds command.old app → Builds below.entry sub → Builds command.new (with_subcommand app sub.top) }
+fn add_command<'a>(command: &mut Building<'a>, below: &mut Building<'a>)
+    ensures { (app sub : App) → Builds command.old app → Builds below.old sub → Builds command.new (with_subcommand app sub.top) }
 {
     let Ok(whole) = mem::replace(command, Err(AllocError)) else {
         return;
     };
-    if let Ok(below) = below {
+    if let Ok(below) = mem::replace(below, Err(AllocError)) {
         *command = whole.subcommand(below);
     }
 }
 
-// A command with what help says of it, above and below its operands.
-fn command<'a>(alloc: Global, name: &'a str, above: &'a str, below: &'a str) -> Building<'a>
-    ensures { (text : Text) → name.entry.now ≡ text → Builds result (new_app text) }
+// Begins a command, in the place of the one before it, with what help says of it above and below its operands.
+fn begin<'a>(
+    alloc: Global,
+    command: &mut Building<'a>,
+    name: &'a str,
+    above: &'a str,
+    below: &'a str,
+)
+    ensures { (text : Text) → name.entry.now ≡ text → Builds command.new (new_app text) }
 {
-    Ok(Command::new(alloc, name).about(above).after_help(below))
+    *command = Ok(Command::new(alloc, name).about(above).after_help(below));
 }
 
 // `--class any|clearing`
@@ -181,49 +187,59 @@ fn add_repeat<'a>(alloc: Global, command: &mut Building<'a>)
 }
 
 // `inspect FILE`
-fn add_inspect<'a>(alloc: Global, ttx: &mut Building<'a>)
+fn add_inspect<'a>(alloc: Global, ttx: &mut Building<'a>, inspect: &mut Building<'a>)
     ensures { (app : App) → Builds ttx.old app → Builds ttx.new (with_subcommand app inspect_app.top) }
 {
-    let mut inspect = command(alloc, "inspect", help::INSPECT, help::INSPECT_MORE);
-    add_operand(alloc, &mut inspect, "file", "FILE", help::CYCLE_OPERAND);
+    begin(alloc, inspect, "inspect", help::INSPECT, help::INSPECT_MORE);
+    add_operand(alloc, inspect, "file", "FILE", help::CYCLE_OPERAND);
     add_command(ttx, inspect);
 }
 
 // `plan SERVICE OUT [--class any|clearing] [--late]`
-fn add_plan<'a>(alloc: Global, ttx: &mut Building<'a>, classes: &'a [&'a str])
+fn add_plan<'a>(
+    alloc: Global,
+    ttx: &mut Building<'a>,
+    plan: &mut Building<'a>,
+    classes: &'a [&'a str],
+)
     ensures { (app : App) → Builds ttx.old app → Builds ttx.new (with_subcommand app (plan_app classes.entry).top) }
 {
-    let mut plan = command(alloc, "plan", help::PLAN, help::PLAN_MORE);
-    add_service(alloc, &mut plan);
-    add_operand(alloc, &mut plan, "out", "OUT", help::PLANNED_OPERAND);
-    add_class(alloc, &mut plan, classes);
-    add_flag(alloc, &mut plan, "late", help::PLANNED_LATE_OPTION);
+    begin(alloc, plan, "plan", help::PLAN, help::PLAN_MORE);
+    add_service(alloc, plan);
+    add_operand(alloc, plan, "out", "OUT", help::PLANNED_OPERAND);
+    add_class(alloc, plan, classes);
+    add_flag(alloc, plan, "late", help::PLANNED_LATE_OPTION);
     add_command(ttx, plan);
 }
 
 // `find CYCLE SERVICE OUT [--repeat K] [--class any|clearing]`
-fn add_find<'a>(alloc: Global, ttx: &mut Building<'a>, classes: &'a [&'a str])
+fn add_find<'a>(
+    alloc: Global,
+    ttx: &mut Building<'a>,
+    find: &mut Building<'a>,
+    classes: &'a [&'a str],
+)
     ensures { (app : App) → Builds ttx.old app → Builds ttx.new (with_subcommand app (find_app classes.entry).top) }
 {
-    let mut find = command(alloc, "find", help::FIND, help::FIND_MORE);
-    add_cycle(alloc, &mut find);
-    add_service(alloc, &mut find);
-    add_operand(alloc, &mut find, "out", "OUT", help::FOUND_OPERAND);
-    add_repeat(alloc, &mut find);
-    add_class(alloc, &mut find, classes);
+    begin(alloc, find, "find", help::FIND, help::FIND_MORE);
+    add_cycle(alloc, find);
+    add_service(alloc, find);
+    add_operand(alloc, find, "out", "OUT", help::FOUND_OPERAND);
+    add_repeat(alloc, find);
+    add_class(alloc, find, classes);
     add_command(ttx, find);
 }
 
 // `certify CYCLE SERVICE CERT [--late] [--twice]`
-fn add_certify<'a>(alloc: Global, ttx: &mut Building<'a>)
+fn add_certify<'a>(alloc: Global, ttx: &mut Building<'a>, certify: &mut Building<'a>)
     ensures { (app : App) → Builds ttx.old app → Builds ttx.new (with_subcommand app certify_app.top) }
 {
-    let mut certify = command(alloc, "certify", help::CERTIFY, help::CERTIFY_MORE);
-    add_cycle(alloc, &mut certify);
-    add_service(alloc, &mut certify);
-    add_certificate(alloc, &mut certify);
-    add_flag(alloc, &mut certify, "late", help::LATE_OPTION);
-    add_flag(alloc, &mut certify, "twice", help::TWICE_OPTION);
+    begin(alloc, certify, "certify", help::CERTIFY, help::CERTIFY_MORE);
+    add_cycle(alloc, certify);
+    add_service(alloc, certify);
+    add_certificate(alloc, certify);
+    add_flag(alloc, certify, "late", help::LATE_OPTION);
+    add_flag(alloc, certify, "twice", help::TWICE_OPTION);
     add_command(ttx, certify);
 }
 
@@ -242,31 +258,25 @@ fn add_text<'a>(
 }
 
 // `refute CYCLE SERVICE CERT [--save OUT]`
-fn add_refute<'a>(alloc: Global, ttx: &mut Building<'a>)
+fn add_refute<'a>(alloc: Global, ttx: &mut Building<'a>, refute: &mut Building<'a>)
     ensures { (app : App) → Builds ttx.old app → Builds ttx.new (with_subcommand app refute_app.top) }
 {
-    let mut refute = command(alloc, "refute", help::REFUTE, help::REFUTE_MORE);
-    add_cycle(alloc, &mut refute);
-    add_service(alloc, &mut refute);
-    add_certificate(alloc, &mut refute);
-    add_text(alloc, &mut refute, "save", "OUT", help::SAVE_OPTION);
+    begin(alloc, refute, "refute", help::REFUTE, help::REFUTE_MORE);
+    add_cycle(alloc, refute);
+    add_service(alloc, refute);
+    add_certificate(alloc, refute);
+    add_text(alloc, refute, "save", "OUT", help::SAVE_OPTION);
     add_command(ttx, refute);
 }
 
 // `replay CYCLE SERVICE COUNTER`
-fn add_replay<'a>(alloc: Global, ttx: &mut Building<'a>)
+fn add_replay<'a>(alloc: Global, ttx: &mut Building<'a>, replay: &mut Building<'a>)
     ensures { (app : App) → Builds ttx.old app → Builds ttx.new (with_subcommand app replay_app.top) }
 {
-    let mut replay = command(alloc, "replay", help::REPLAY, help::REPLAY_MORE);
-    add_cycle(alloc, &mut replay);
-    add_service(alloc, &mut replay);
-    add_operand(
-        alloc,
-        &mut replay,
-        "counter",
-        "COUNTER",
-        help::COUNTER_OPERAND,
-    );
+    begin(alloc, replay, "replay", help::REPLAY, help::REPLAY_MORE);
+    add_cycle(alloc, replay);
+    add_service(alloc, replay);
+    add_operand(alloc, replay, "counter", "COUNTER", help::COUNTER_OPERAND);
     add_command(ttx, replay);
 }
 
@@ -313,11 +323,16 @@ fn add_tuning<'a>(alloc: Global, command: &mut Building<'a>, kinds: &'a [&'a str
 }
 
 // `receive`, with these.
-fn add_receive<'a>(alloc: Global, ttx: &mut Building<'a>, kinds: &'a [&'a str])
+fn add_receive<'a>(
+    alloc: Global,
+    ttx: &mut Building<'a>,
+    receive: &mut Building<'a>,
+    kinds: &'a [&'a str],
+)
     ensures { (app : App) → Builds ttx.old app → Builds ttx.new (with_subcommand app (receive_app kinds.entry).top) }
 {
-    let mut receive = command(alloc, "receive", help::RECEIVE, help::RECEIVE_MORE);
-    add_tuning(alloc, &mut receive, kinds);
+    begin(alloc, receive, "receive", help::RECEIVE, help::RECEIVE_MORE);
+    add_tuning(alloc, receive, kinds);
     add_command(ttx, receive);
 }
 
@@ -330,57 +345,68 @@ fn add_look<'a>(alloc: Global, command: &mut Building<'a>, forms: &'a [&'a str])
 }
 
 // `show`, with all of these.
-fn add_show<'a>(alloc: Global, ttx: &mut Building<'a>, kinds: &'a [&'a str], forms: &'a [&'a str])
+fn add_show<'a>(
+    alloc: Global,
+    ttx: &mut Building<'a>,
+    show: &mut Building<'a>,
+    kinds: &'a [&'a str],
+    forms: &'a [&'a str],
+)
     ensures { (app : App) → Builds ttx.old app → Builds ttx.new (with_subcommand app (show_app kinds.entry forms.entry).top) }
 {
-    let mut show = command(alloc, "show", help::SHOW, help::SHOW_MORE);
-    add_tuning(alloc, &mut show, kinds);
-    add_look(alloc, &mut show, forms);
+    begin(alloc, show, "show", help::SHOW, help::SHOW_MORE);
+    add_tuning(alloc, show, kinds);
+    add_look(alloc, show, forms);
     add_command(ttx, show);
 }
 
 // `preview SERVICE PAGE [--as text|ansi|svg|html] [--reveal]`
-fn add_preview<'a>(alloc: Global, ttx: &mut Building<'a>, forms: &'a [&'a str])
+fn add_preview<'a>(
+    alloc: Global,
+    ttx: &mut Building<'a>,
+    preview: &mut Building<'a>,
+    forms: &'a [&'a str],
+)
     ensures { (app : App) → Builds ttx.old app → Builds ttx.new (with_subcommand app (preview_app forms.entry).top) }
 {
-    let mut preview = command(alloc, "preview", help::PREVIEW, help::PREVIEW_MORE);
-    add_service(alloc, &mut preview);
-    add_operand(alloc, &mut preview, "page", "PAGE", help::PAGE_OPERAND);
-    add_look(alloc, &mut preview, forms);
+    begin(alloc, preview, "preview", help::PREVIEW, help::PREVIEW_MORE);
+    add_service(alloc, preview);
+    add_operand(alloc, preview, "page", "PAGE", help::PAGE_OPERAND);
+    add_look(alloc, preview, forms);
     add_command(ttx, preview);
 }
 
 // `splice OLD NEW OLDSERVICE NEWSERVICE OLDCERT NEWCERT`
-fn add_splice<'a>(alloc: Global, ttx: &mut Building<'a>)
+fn add_splice<'a>(alloc: Global, ttx: &mut Building<'a>, splice: &mut Building<'a>)
     ensures { (app : App) → Builds ttx.old app → Builds ttx.new (with_subcommand app splice_app.top) }
 {
-    let mut splice = command(alloc, "splice", help::SPLICE, help::SPLICE_MORE);
-    add_operand(alloc, &mut splice, "old", "OLD", help::OLD_OPERAND);
-    add_operand(alloc, &mut splice, "new", "NEW", help::NEW_OPERAND);
+    begin(alloc, splice, "splice", help::SPLICE, help::SPLICE_MORE);
+    add_operand(alloc, splice, "old", "OLD", help::OLD_OPERAND);
+    add_operand(alloc, splice, "new", "NEW", help::NEW_OPERAND);
     add_operand(
         alloc,
-        &mut splice,
+        splice,
         "old_service",
         "OLDSERVICE",
         help::OLD_SERVICE_OPERAND,
     );
     add_operand(
         alloc,
-        &mut splice,
+        splice,
         "new_service",
         "NEWSERVICE",
         help::NEW_SERVICE_OPERAND,
     );
     add_operand(
         alloc,
-        &mut splice,
+        splice,
         "old_certificate",
         "OLDCERT",
         help::OLD_CERTIFICATE_OPERAND,
     );
     add_operand(
         alloc,
-        &mut splice,
+        splice,
         "new_certificate",
         "NEWCERT",
         help::NEW_CERTIFICATE_OPERAND,
@@ -389,62 +415,76 @@ fn add_splice<'a>(alloc: Global, ttx: &mut Building<'a>)
 }
 
 // `wait CYCLE SERVICE [--repeat K] [--class any|clearing] [--items]`
-fn add_wait<'a>(alloc: Global, ttx: &mut Building<'a>, classes: &'a [&'a str])
+fn add_wait<'a>(
+    alloc: Global,
+    ttx: &mut Building<'a>,
+    wait: &mut Building<'a>,
+    classes: &'a [&'a str],
+)
     ensures { (app : App) → Builds ttx.old app → Builds ttx.new (with_subcommand app (wait_app classes.entry).top) }
 {
-    let mut wait = command(alloc, "wait", help::WAIT, help::WAIT_MORE);
-    add_cycle(alloc, &mut wait);
-    add_service(alloc, &mut wait);
-    add_repeat(alloc, &mut wait);
-    add_class(alloc, &mut wait, classes);
-    add_flag(alloc, &mut wait, "items", help::ITEMS_OPTION);
+    begin(alloc, wait, "wait", help::WAIT, help::WAIT_MORE);
+    add_cycle(alloc, wait);
+    add_service(alloc, wait);
+    add_repeat(alloc, wait);
+    add_class(alloc, wait, classes);
+    add_flag(alloc, wait, "items", help::ITEMS_OPTION);
     add_command(ttx, wait);
 }
 
 // An option with any text that has to be there.
-fn needed<'a>(alloc: Global, id: &'a str, name: &'a str, help: &'a str) -> Arg<'a>
-    ensures rule { rule_of result ≡ needed_rule id.entry.now }
-    ensures local { result.global ≡ false }
+fn add_needed_text<'a>(
+    alloc: Global,
+    command: &mut Building<'a>,
+    id: &'a str,
+    name: &'a str,
+    help: &'a str,
+)
+    ensures { (app : App) (text : Text) → id.entry.now ≡ text → Builds command.old app → Builds command.new (with_rule app (needed_rule text)) }
 {
-    Arg::new(alloc, id)
+    let option = Arg::new(alloc, id)
         .long(id)
         .value_name(name)
         .help(help)
-        .required(true)
+        .required(true);
+    add_arg(command, option);
 }
 
-// `--at MJD/HHMMSS`
-fn add_moment<'a>(alloc: Global, command: &mut Building<'a>)
-    ensures { (app : App) → Builds command.old app → Builds command.new (with_rule app (needed_rule (codes "at"))) }
+// An option with a number that has to be there.
+fn add_needed_number<'a>(alloc: Global, command: &mut Building<'a>, option: NumberOption<'a>)
+    ensures { (app : App) (text : Text) → option.entry.id.now ≡ text → Builds command.old app →
+        Builds command.new (with_rule app (needed_number_rule text option.entry.low option.entry.high)) }
 {
-    let at = needed(alloc, "at", "MJD/HHMMSS", help::AT_OPTION);
-    add_arg(command, at);
-}
-
-// `--fields N`
-fn add_fields<'a>(alloc: Global, command: &mut Building<'a>)
-    ensures { (app : App) → Builds command.old app → Builds command.new (with_rule app (needed_number_rule (codes "fields") 0 4294967295)) }
-{
-    let fields = Arg::new(alloc, "fields")
-        .long("fields")
-        .value_name("N")
-        .help(help::FIELDS_OPTION)
+    let number = Arg::new(alloc, option.id)
+        .long(option.id)
+        .value_name(option.name)
+        .help(option.help)
         .required(true)
-        .value_parser(ValueParser::unsigned(0, 4_294_967_295));
-    add_arg(command, fields);
+        .value_parser(ValueParser::unsigned(option.low, option.high));
+    add_arg(command, number);
 }
 
 // `send CYCLE --at MJD/HHMMSS --fields N [--lines L] [--phase F] [--offset HALVES]`
-fn add_send<'a>(alloc: Global, ttx: &mut Building<'a>)
+fn add_send<'a>(alloc: Global, ttx: &mut Building<'a>, send: &mut Building<'a>)
     ensures { (app : App) → Builds ttx.old app → Builds ttx.new (with_subcommand app send_app.top) }
 {
-    let mut send = command(alloc, "send", help::SEND, help::SEND_MORE);
-    add_cycle(alloc, &mut send);
-    add_moment(alloc, &mut send);
-    add_fields(alloc, &mut send);
+    begin(alloc, send, "send", help::SEND, help::SEND_MORE);
+    add_cycle(alloc, send);
+    add_needed_text(alloc, send, "at", "MJD/HHMMSS", help::AT_OPTION);
+    add_needed_number(
+        alloc,
+        send,
+        NumberOption {
+            id: "fields",
+            name: "N",
+            help: help::FIELDS_OPTION,
+            low: 0,
+            high: 4_294_967_295,
+        },
+    );
     add_number(
         alloc,
-        &mut send,
+        send,
         NumberOption {
             id: "lines",
             name: "L",
@@ -455,7 +495,7 @@ fn add_send<'a>(alloc: Global, ttx: &mut Building<'a>)
     );
     add_number(
         alloc,
-        &mut send,
+        send,
         NumberOption {
             id: "phase",
             name: "F",
@@ -466,7 +506,7 @@ fn add_send<'a>(alloc: Global, ttx: &mut Building<'a>)
     );
     add_number(
         alloc,
-        &mut send,
+        send,
         NumberOption {
             id: "offset",
             name: "HALVES",
@@ -479,65 +519,60 @@ fn add_send<'a>(alloc: Global, ttx: &mut Building<'a>)
 }
 
 // `pages CYCLE`
-fn add_pages<'a>(alloc: Global, ttx: &mut Building<'a>)
+fn add_pages<'a>(alloc: Global, ttx: &mut Building<'a>, pages: &mut Building<'a>)
     ensures { (app : App) → Builds ttx.old app → Builds ttx.new (with_subcommand app pages_app.top) }
 {
-    let mut pages = command(alloc, "pages", help::PAGES, help::PAGES_MORE);
-    add_cycle(alloc, &mut pages);
+    begin(alloc, pages, "pages", help::PAGES, help::PAGES_MORE);
+    add_cycle(alloc, pages);
     add_command(ttx, pages);
 }
 
 // `book CYCLE OUT`
-fn add_book<'a>(alloc: Global, ttx: &mut Building<'a>)
+fn add_book<'a>(alloc: Global, ttx: &mut Building<'a>, book: &mut Building<'a>)
     ensures { (app : App) → Builds ttx.old app → Builds ttx.new (with_subcommand app book_app.top) }
 {
-    let mut book = command(alloc, "book", help::BOOK, help::BOOK_MORE);
-    add_cycle(alloc, &mut book);
-    add_operand(alloc, &mut book, "out", "OUT", help::BOOK_OPERAND);
+    begin(alloc, book, "book", help::BOOK, help::BOOK_MORE);
+    add_cycle(alloc, book);
+    add_operand(alloc, book, "out", "OUT", help::BOOK_OPERAND);
     add_command(ttx, book);
 }
 
-// `--lines L`, which has to be there
-fn add_lines<'a>(alloc: Global, command: &mut Building<'a>)
-    ensures { (app : App) → Builds command.old app → Builds command.new (with_rule app (needed_number_rule (codes "lines") 1 32)) }
-{
-    let lines = Arg::new(alloc, "lines")
-        .long("lines")
-        .value_name("L")
-        .help(help::NEEDED_LINES_OPTION)
-        .required(true)
-        .value_parser(ValueParser::unsigned(1, 32));
-    add_arg(command, lines);
-}
-
 // `extract CYCLE OUT --lines L`
-fn add_extract<'a>(alloc: Global, ttx: &mut Building<'a>)
+fn add_extract<'a>(alloc: Global, ttx: &mut Building<'a>, extract: &mut Building<'a>)
     ensures { (app : App) → Builds ttx.old app → Builds ttx.new (with_subcommand app extract_app.top) }
 {
-    let mut extract = command(alloc, "extract", help::EXTRACT, help::EXTRACT_MORE);
-    add_cycle(alloc, &mut extract);
-    add_operand(alloc, &mut extract, "out", "OUT", help::EXTRACTED_OPERAND);
-    add_lines(alloc, &mut extract);
+    begin(alloc, extract, "extract", help::EXTRACT, help::EXTRACT_MORE);
+    add_cycle(alloc, extract);
+    add_operand(alloc, extract, "out", "OUT", help::EXTRACTED_OPERAND);
+    add_needed_number(
+        alloc,
+        extract,
+        NumberOption {
+            id: "lines",
+            name: "L",
+            help: help::NEEDED_LINES_OPTION,
+            low: 1,
+            high: 32,
+        },
+    );
     add_command(ttx, extract);
 }
 
 // `check SERVICE`
-fn add_check<'a>(alloc: Global, ttx: &mut Building<'a>)
+fn add_check<'a>(alloc: Global, ttx: &mut Building<'a>, check: &mut Building<'a>)
     ensures { (app : App) → Builds ttx.old app → Builds ttx.new (with_subcommand app check_app.top) }
 {
-    let mut check = command(alloc, "check", help::CHECK, help::CHECK_MORE);
-    add_service(alloc, &mut check);
+    begin(alloc, check, "check", help::CHECK, help::CHECK_MORE);
+    add_service(alloc, check);
     add_command(ttx, check);
 }
 
 // `version`
-fn add_version<'a>(alloc: Global, ttx: &mut Building<'a>)
+fn add_version<'a>(alloc: Global, ttx: &mut Building<'a>, version: &mut Building<'a>)
     ensures { (app : App) → Builds ttx.old app → Builds ttx.new (with_subcommand app version_app.top) }
 {
-    add_command(
-        ttx,
-        command(alloc, "version", help::VERSION, help::VERSION_MORE),
-    );
+    begin(alloc, version, "version", help::VERSION, help::VERSION_MORE);
+    add_command(ttx, version);
 }
 
 // `ttx` alone, which is given the words after its name.
@@ -574,6 +609,42 @@ pub(crate) fn form_names<'a>() -> &'a [&'a str]
     &["text", "ansi", "svg", "html"]
 }
 
+// The names that `--kind`, `--class` and `--as` take.
+#[derive(Clone, Copy)]
+struct Names<'a> {
+    kinds: &'a [&'a str],
+    classes: &'a [&'a str],
+    forms: &'a [&'a str],
+}
+
+// The commands of `ttx`, put together one after the other in one place.
+fn add_commands<'a>(
+    alloc: Global,
+    ttx: &mut Building<'a>,
+    command: &mut Building<'a>,
+    names: Names<'a>,
+)
+    ensures { Builds ttx.old bare_app → Builds ttx.new (ttx_app names.entry.kinds names.entry.classes names.entry.forms) }
+{
+    add_inspect(alloc, ttx, command);
+    add_plan(alloc, ttx, command, names.classes);
+    add_find(alloc, ttx, command, names.classes);
+    add_certify(alloc, ttx, command);
+    add_refute(alloc, ttx, command);
+    add_replay(alloc, ttx, command);
+    add_receive(alloc, ttx, command, names.kinds);
+    add_show(alloc, ttx, command, names.kinds, names.forms);
+    add_preview(alloc, ttx, command, names.forms);
+    add_splice(alloc, ttx, command);
+    add_wait(alloc, ttx, command, names.classes);
+    add_send(alloc, ttx, command);
+    add_pages(alloc, ttx, command);
+    add_book(alloc, ttx, command);
+    add_extract(alloc, ttx, command);
+    add_check(alloc, ttx, command);
+    add_version(alloc, ttx, command);
+}
+
 /// `ttx` with its commands, and the names that `--kind`, `--class` and `--as` take.
 pub(crate) fn ttx<'a>(
     alloc: Global,
@@ -584,22 +655,12 @@ pub(crate) fn ttx<'a>(
     ensures { Builds result (ttx_app kinds.entry classes.entry forms.entry) }
 {
     let mut ttx = bare(alloc);
-    add_inspect(alloc, &mut ttx);
-    add_plan(alloc, &mut ttx, classes);
-    add_find(alloc, &mut ttx, classes);
-    add_certify(alloc, &mut ttx);
-    add_refute(alloc, &mut ttx);
-    add_replay(alloc, &mut ttx);
-    add_receive(alloc, &mut ttx, kinds);
-    add_show(alloc, &mut ttx, kinds, forms);
-    add_preview(alloc, &mut ttx, forms);
-    add_splice(alloc, &mut ttx);
-    add_wait(alloc, &mut ttx, classes);
-    add_send(alloc, &mut ttx);
-    add_pages(alloc, &mut ttx);
-    add_book(alloc, &mut ttx);
-    add_extract(alloc, &mut ttx);
-    add_check(alloc, &mut ttx);
-    add_version(alloc, &mut ttx);
+    let mut command = Err(AllocError);
+    let names = Names {
+        kinds,
+        classes,
+        forms,
+    };
+    add_commands(alloc, &mut ttx, &mut command, names);
     ttx
 }

@@ -3,7 +3,7 @@ use Rattle.ttx_arguments.proofs.grammar.add_book.Goals as goal
 
 pub returns : goal.returns
 returns c app builds =
-    let named = c.command-book.ensures _ (search rules) in
+    let named = c.begin.ensures _ (search rules) in
     let cycle = c.add_cycle.ensures _ named in
     let out = c.add_operand.ensures _ _ (search rules) cycle in
     c.add_command.ensures _ _ builds out

@@ -3,7 +3,7 @@ use Rattle.ttx_arguments.proofs.grammar.add_find.Goals as goal
 
 pub returns : goal.returns
 returns c app builds =
-    let named = c.command-find.ensures _ (search rules) in
+    let named = c.begin.ensures _ (search rules) in
     let cycle = c.add_cycle.ensures _ named in
     let service = c.add_service.ensures _ cycle in
     let out = c.add_operand.ensures _ _ (search rules) service in

@@ -3,6 +3,6 @@ use Rattle.ttx_arguments.proofs.grammar.add_pages.Goals as goal
 
 pub returns : goal.returns
 returns c app builds =
-    let named = c.command-pages.ensures _ (search rules) in
+    let named = c.begin.ensures _ (search rules) in
     let cycle = c.add_cycle.ensures _ named in
     c.add_command.ensures _ _ builds cycle

@@ -3,6 +3,6 @@ use Rattle.ttx_arguments.proofs.grammar.add_receive.Goals as goal
 
 pub returns : goal.returns
 returns c app builds =
-    let named = c.command-receive.ensures _ (search rules) in
+    let named = c.begin.ensures _ (search rules) in
     let tuning = c.add_tuning.ensures _ named in
     c.add_command.ensures _ _ builds tuning

@@ -3,7 +3,7 @@ use Rattle.ttx_arguments.proofs.grammar.add_splice.Goals as goal
 
 pub returns : goal.returns
 returns c app builds =
-    let named = c.command-splice.ensures _ (search rules) in
+    let named = c.begin.ensures _ (search rules) in
     let old = c.add_operand.ensures _ _ (search rules) named in
     let new = c.add_operand-2.ensures _ _ (search rules) old in
     let old_service = c.add_operand-3.ensures _ _ (search rules) new in

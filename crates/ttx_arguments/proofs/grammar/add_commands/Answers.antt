@@ -1,10 +1,10 @@
 use Rattle.ttx_arguments.specs.Grammar.{ttx_app}
-use Rattle.ttx_arguments.proofs.grammar.ttx.Goals as goal
+use Rattle.ttx_arguments.proofs.grammar.add_commands.Goals as goal
 
 pub returns : goal.returns
 unfolding ttx_app
-returns c =
-    let inspecting = c.add_inspect.ensures _ c.bare-ttx.ensures in
+returns c builds =
+    let inspecting = c.add_inspect.ensures _ builds in
     let planning = c.add_plan.ensures _ inspecting in
     let finding = c.add_find.ensures _ planning in
     let certifying = c.add_certify.ensures _ finding in
