@@ -464,16 +464,13 @@ fn add_needed_number<'a>(alloc: Global, command: &mut Building<'a>, option: Numb
     add_arg(command, number);
 }
 
-// `send CYCLE --at MJD/HHMMSS --fields N [--lines L] [--phase F] [--offset HALVES]`
-fn add_send<'a>(alloc: Global, ttx: &mut Building<'a>, send: &mut Building<'a>)
-    ensures { (app : App) → Builds ttx.old app → Builds ttx.new (with_subcommand app send_app.top) }
+// `--fields N`
+fn add_fields<'a>(alloc: Global, command: &mut Building<'a>)
+    ensures { (app : App) → Builds command.old app → Builds command.new (with_rule app (needed_number_rule (codes "fields") 0 4294967295)) }
 {
-    begin(alloc, send, "send", help::SEND, help::SEND_MORE);
-    add_cycle(alloc, send);
-    add_needed_text(alloc, send, "at", "MJD/HHMMSS", help::AT_OPTION);
     add_needed_number(
         alloc,
-        send,
+        command,
         NumberOption {
             id: "fields",
             name: "N",
@@ -482,6 +479,16 @@ fn add_send<'a>(alloc: Global, ttx: &mut Building<'a>, send: &mut Building<'a>)
             high: 4_294_967_295,
         },
     );
+}
+
+// `send CYCLE --at MJD/HHMMSS --fields N [--lines L] [--phase F] [--offset HALVES]`
+fn add_send<'a>(alloc: Global, ttx: &mut Building<'a>, send: &mut Building<'a>)
+    ensures { (app : App) → Builds ttx.old app → Builds ttx.new (with_subcommand app send_app.top) }
+{
+    begin(alloc, send, "send", help::SEND, help::SEND_MORE);
+    add_cycle(alloc, send);
+    add_needed_text(alloc, send, "at", "MJD/HHMMSS", help::AT_OPTION);
+    add_fields(alloc, send);
     add_number(
         alloc,
         send,
