@@ -1,11 +1,10 @@
 //! What words ask for, and why they are refused.
 
-use thiserror::Error;
 use ttx_page::{Class, Selection};
 use ttx_picture::Form;
 
 /// How a receiver takes its choices, and whether it surely clears.
-#[derive(Clone, Copy, PartialEq, Eq, Debug)]
+#[derive(Clone, Copy, PartialEq, Eq)]
 pub enum ReceiverKind {
     Eager,
     Careful,
@@ -13,7 +12,7 @@ pub enum ReceiverKind {
 }
 
 /// What `receive` is told beside the cycle.
-#[derive(Clone, Copy, Debug)]
+#[derive(Clone, Copy)]
 pub struct Tuning {
     pub selection: Selection,
     /// Lines of a field, 1 to 32.
@@ -26,7 +25,7 @@ pub struct Tuning {
 }
 
 /// How a page is shown.
-#[derive(Clone, Copy, Debug)]
+#[derive(Clone, Copy)]
 pub struct Look<'a> {
     /// The name by which it is asked for.
     pub page: &'a str,
@@ -36,7 +35,7 @@ pub struct Look<'a> {
 }
 
 /// What `send` is told beside the cycle.
-#[derive(Clone, Copy, Debug)]
+#[derive(Clone, Copy)]
 pub struct Sending {
     /// The Modified Julian Date of the first field.
     pub mjd: u32,
@@ -53,7 +52,7 @@ pub struct Sending {
 }
 
 /// What `plan` is asked for.
-#[derive(Clone, Copy, Debug)]
+#[derive(Clone, Copy)]
 pub struct PlanOrder<'a> {
     pub service: &'a str,
     pub out: &'a str,
@@ -63,7 +62,7 @@ pub struct PlanOrder<'a> {
 }
 
 /// What `find` is asked for.
-#[derive(Clone, Copy, Debug)]
+#[derive(Clone, Copy)]
 pub struct FindOrder<'a> {
     pub cycle: &'a str,
     pub service: &'a str,
@@ -74,7 +73,7 @@ pub struct FindOrder<'a> {
 }
 
 /// What `certify` is asked for.
-#[derive(Clone, Copy, Debug)]
+#[derive(Clone, Copy)]
 pub struct CertifyOrder<'a> {
     pub cycle: &'a str,
     pub service: &'a str,
@@ -86,7 +85,7 @@ pub struct CertifyOrder<'a> {
 }
 
 /// What `refute` is asked for.
-#[derive(Clone, Copy, Debug)]
+#[derive(Clone, Copy)]
 pub struct RefuteOrder<'a> {
     pub cycle: &'a str,
     pub service: &'a str,
@@ -96,7 +95,7 @@ pub struct RefuteOrder<'a> {
 }
 
 /// What `replay` is asked for.
-#[derive(Clone, Copy, Debug)]
+#[derive(Clone, Copy)]
 pub struct ReplayOrder<'a> {
     pub cycle: &'a str,
     pub service: &'a str,
@@ -104,7 +103,7 @@ pub struct ReplayOrder<'a> {
 }
 
 /// What `splice` is asked for.
-#[derive(Clone, Copy, Debug)]
+#[derive(Clone, Copy)]
 pub struct SpliceOrder<'a> {
     pub old: &'a str,
     pub new: &'a str,
@@ -115,7 +114,7 @@ pub struct SpliceOrder<'a> {
 }
 
 /// What `wait` is asked for.
-#[derive(Clone, Copy, Debug)]
+#[derive(Clone, Copy)]
 pub struct WaitOrder<'a> {
     pub cycle: &'a str,
     pub service: &'a str,
@@ -127,7 +126,7 @@ pub struct WaitOrder<'a> {
 }
 
 /// A command with its values.
-#[derive(Clone, Copy, Debug)]
+#[derive(Clone, Copy)]
 pub enum Order<'a> {
     /// Show the slots of a packet file.
     Inspect {
@@ -194,21 +193,16 @@ pub enum Order<'a> {
 }
 
 /// Why words are refused.
-#[derive(Debug, Drop, Error)]
+#[derive(Drop)]
 pub enum WordsFault {
     /// 1. `clap` refuses them, or they ask for help.
-    #[error("{0}")]
     Refused(clap::Error),
     /// 2. A page isn't `MPP` or `MPP/SSSS`, or can't be shown.
-    #[error("no page has this name")]
     Page,
     /// 3. More than one input is standard input.
-    #[error("standard input is named twice")]
     Twice,
     /// 4. A growth was refused.
-    #[error("out of memory")]
     NoMemory,
     /// 5. A moment isn't `MJD/HHMMSS`.
-    #[error("no moment has this name")]
     Time,
 }

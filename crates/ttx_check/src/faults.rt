@@ -3,23 +3,18 @@
 ghost use Rattle.std.specs.Prelude.{◌≡◌};
 ghost use Rattle.ttx_check.specs.Checking.{check_fault};
 
-use thiserror::Error;
 use ttx_cycle::{TextFault, WriteFault};
 
 /// Why a service text isn't checked.
-#[derive(Clone, Copy, Debug, PartialEq, Eq, Error)]
+#[derive(Clone, Copy, PartialEq, Eq)]
 pub enum CheckFault {
     /// A read failed.
-    #[error("a text isn't read")]
     Read,
     /// The text is longer than 4,194,304 bytes.
-    #[error("a text is longer than 4194304 bytes")]
     TooLong,
     /// A write failed. The first `written` bytes went out, and no more.
-    #[error("a write failed after {written} bytes")]
     Write { written: usize },
     /// A growth was refused.
-    #[error("out of memory")]
     NoMemory,
 }
 

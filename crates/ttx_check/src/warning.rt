@@ -3,7 +3,7 @@
 use ttx_header::PageId;
 
 /// What in a service that is read is likely a mistake.
-#[derive(Clone, Copy, PartialEq, Eq, Debug)]
+#[derive(Clone, Copy, PartialEq, Eq)]
 pub enum Warning {
     /// The page to show first isn't in the service.
     DeadInitial,

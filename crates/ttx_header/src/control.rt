@@ -6,7 +6,7 @@ ghost use Rattle.ttx_header.specs.Control.{control_table, c4, c5, c6, c7, c10, c
 use bitflags::{Flag, Flags};
 
 /// The control bits C4 to C14 of a page header: bit 0 is C4, bit 10 is C14 (EN 300 706, 9.3.1.3).
-#[derive(Clone, Copy, PartialEq, Eq, Debug)]
+#[derive(Clone, Copy, PartialEq, Eq)]
 pub struct Control(pub u16);
 
 impl Control {

@@ -9,7 +9,7 @@ use crate::ids::PageId;
 use std::marker::Model;
 
 /// A page header: the page's id, its control bits, and the 24 characters and the 8 of the clock as the bytes that are sent.
-#[derive(Clone, Copy, PartialEq, Eq, Debug)]
+#[derive(Clone, Copy, PartialEq, Eq)]
 pub struct Header {
     id: PageId,
     control: Control,

@@ -6,7 +6,7 @@ ghost use Rattle.ttx_header.specs.Ids.{IsId, id_at};
 use std::marker::Model;
 
 /// The id of a page: its magazine, 1 to 8, its two digits as one number, and its subcode inside 3F7F.
-#[derive(Clone, Copy, PartialEq, Eq, Hash, Debug)]
+#[derive(Clone, Copy, PartialEq, Eq, Hash)]
 pub struct PageId {
     mag: u8,
     page: u8,

@@ -7,7 +7,7 @@ use std::marker::Model;
 use ttx_links::Target;
 
 /// The fields of packet 8/30 format 1 (EN 300 706, 9.8.1).
-#[derive(Clone, Copy, PartialEq, Eq, Debug)]
+#[derive(Clone, Copy, PartialEq, Eq)]
 pub struct Info {
     pub(crate) designation: u8,
     pub(crate) initial: Option<Target>,

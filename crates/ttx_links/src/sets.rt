@@ -7,7 +7,7 @@ use crate::targets::Target;
 use std::marker::Model;
 
 /// Six links, whether row 24 is shown, and the two bytes of the page's check word as they are sent.
-#[derive(Clone, Copy, PartialEq, Eq, Debug)]
+#[derive(Clone, Copy, PartialEq, Eq)]
 pub struct Links {
     six: [Option<Target>; 6],
     show24: bool,

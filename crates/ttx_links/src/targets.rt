@@ -7,7 +7,7 @@ ghost use Rattle.ttx_links.specs.Sets.{IsTarget};
 use std::marker::Model;
 
 /// The page that a link leads to, in the ranges of a page's id. Subcode 3F7F is any subpage; page FF has another subcode.
-#[derive(Clone, Copy, PartialEq, Eq, Hash, Debug)]
+#[derive(Clone, Copy, PartialEq, Eq)]
 pub struct Target {
     mag: u8,
     page: u8,

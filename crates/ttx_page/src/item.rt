@@ -5,7 +5,7 @@ ghost use Rattle.std.specs.Prelude.{◌≡◌, ◌≤◌, SomeIff};
 use std::marker::Model;
 
 /// The number of a row below row 0: 1 to 24.
-#[derive(Clone, Copy, PartialEq, Eq, Debug)]
+#[derive(Clone, Copy, PartialEq, Eq)]
 pub struct RowNumber {
     number: u8,
 }
@@ -45,7 +45,7 @@ impl RowNumber {
 }
 
 /// A part of a page: the characters of row 0, a row, or the links.
-#[derive(Clone, Copy, PartialEq, Eq, Debug)]
+#[derive(Clone, Copy, PartialEq, Eq)]
 pub enum Item {
     Head,
     Row(RowNumber),

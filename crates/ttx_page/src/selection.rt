@@ -3,7 +3,7 @@
 use ttx_header::PageId;
 
 /// What a receiver is set to: one subpage by its id, or any subpage of a page number (magazine and two digits).
-#[derive(Clone, Copy, PartialEq, Eq, Debug)]
+#[derive(Clone, Copy, PartialEq, Eq)]
 pub enum Selection {
     Exact(PageId),
     AnySub(u8, u8),

@@ -2,20 +2,16 @@
 
 ghost use Rattle.std.specs.Prelude.{◌≡◌};
 
-use thiserror::Error;
 use ttx_cycle::{CycleFault, WriteFault};
 
 /// Why the pages of a packet file aren't told.
-#[derive(Clone, Copy, Debug, PartialEq, Eq, Error)]
+#[derive(Clone, Copy, PartialEq, Eq)]
 pub enum PagesFault {
     /// The packet file isn't read.
-    #[error("{0}")]
     Cycle(CycleFault),
     /// A write failed. The first `written` bytes went out, and no more.
-    #[error("a write failed after {written} bytes")]
     Write { written: usize },
     /// A growth was refused.
-    #[error("out of memory")]
     NoMemory,
 }
 

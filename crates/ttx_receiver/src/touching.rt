@@ -12,7 +12,7 @@ use crate::steps::magazine_of;
 use ttx_page::Selection;
 
 /// What a slot may change of what a receiver shows: nothing, a row, or everything.
-#[derive(Clone, Copy, PartialEq, Eq, Debug)]
+#[derive(Clone, Copy, PartialEq, Eq)]
 pub enum Touch {
     Nothing,
     Row(u8),

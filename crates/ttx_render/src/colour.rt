@@ -4,7 +4,7 @@ ghost use Rattle.std.specs.Prelude.{◌≡◌, ◌<◌};
 ghost use Rattle.ttx_render.specs.Colours.{colour_of, colour_number};
 
 /// The colours of Level 1, in the order of their numbers 0 to 7.
-#[derive(Clone, Copy, PartialEq, Eq, Debug)]
+#[derive(Clone, Copy, PartialEq, Eq)]
 pub enum Colour {
     Black,
     Red,

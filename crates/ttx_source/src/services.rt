@@ -15,7 +15,7 @@ use ttx_page::Page;
 
 /// A service: the slots in a field, serial or parallel transmission, its packet 8/30 and its pages, each with how often it
 /// is sent. Lines are 1 to 32, there are at most 2,000 pages with ids of their own, and C11 of each page says `serial`.
-#[derive(Debug, Drop)]
+#[derive(Drop)]
 pub struct Service {
     lines: u8,
     serial: bool,

@@ -5,7 +5,8 @@ use std::alloc::{AllocError, Global};
 use std::test::Fail;
 use ttx_cycle::faulty::{Failure, FaultyReader, FaultyWriter};
 use ttx_cycle::{Counted, CycleFault};
-use ttx_tool::{ToolFault, WordsFault, commands, words};
+use ttx_page::Selection;
+use ttx_tool::{Order, ReceiverKind, ToolFault, WordsFault, commands, words};
 
 // What `inspect` of one empty slot answers on devices that fail.
 fn inspected(
@@ -44,47 +45,38 @@ fn reports(rt: HostRuntime) {
     assert!(rt; writer.into_inner().as_slice() == text);
 }
 
-// Words, and what they ask for or why they are refused.
-#[rattlefmt::skip]
-static ORDERS: [(&[&str], &str); 5] = [
-    (&[], "Inspect { file: \"-\" }"),
-    (
-        &["receive", "a", "8FE", "--start=7", "--kind", "careful"],
-        "Receive { cycle: \"a\", tuning: Tuning { selection: AnySub(8, 254), lines: 16, start: 7, slots: 5000, kind: Careful } }",
-    ),
-    (
-        &["plan", "a", "b", "--class", "clearing"],
-        "Plan(PlanOrder { service: \"a\", out: \"b\", class: Clearing, late: false })",
-    ),
-    (&["receive", "a", "100", "--lines", "33"], "ValueValidation"),
-    (&["receive", "a", "100", "--kind", "slow"], "InvalidValue"),
-];
-
-// What the words ask for, or why they are refused, as a text.
-fn asked(alloc: Global, texts: &'static [&'static str]) -> Result<String, AllocError> {
+// Why words are refused, where `clap` refuses them.
+fn refusal(alloc: Global, texts: &[&str]) -> Result<String, AllocError> {
     match words(alloc, texts) {
-        Ok(order) => format!(in alloc; "{order:?}"),
         Err(WordsFault::Refused(error)) => {
             let kind = error.kind();
             format!(in alloc; "{kind:?}")
         }
-        Err(fault) => format!(in alloc; "{fault}"),
+        _ => Ok(String::new(alloc)),
     }
 }
 
-// Whether the words ask for this, or are refused for it.
-fn is_asked(
-    alloc: Global,
-    texts: &'static [&'static str],
-    wanted: &str,
-) -> Result<bool, AllocError> {
-    Ok(asked(alloc, texts)?.as_str() == wanted)
+// Whether these words ask for page 8FE by a careful receiver, from slot 7 on.
+fn is_careful(alloc: Global, texts: &[&str]) -> bool {
+    match words(alloc, texts) {
+        Ok(Order::Receive { cycle, tuning }) => {
+            cycle == "a"
+                && tuning.selection == Selection::AnySub(8, 0xFE)
+                && tuning.kind == ReceiverKind::Careful
+                && (tuning.lines, tuning.start, tuning.slots) == (16, 7, 5000)
+        }
+        _ => false,
+    }
 }
 
 #[test]
 fn orders(rt: HostRuntime) -> Result<(), Fail> {
-    for (texts, wanted) in &ORDERS {
-        assert!(rt; is_asked(rt.alloc(), texts, wanted)?, "{wanted}");
-    }
+    let alloc = rt.alloc();
+    assert!(rt; matches!(words(alloc, &[]), Ok(Order::Inspect { file: "-" })));
+    assert!(rt; is_careful(alloc, &["receive", "a", "8FE", "--start=7", "--kind", "careful"]));
+    let lines = refusal(alloc, &["receive", "a", "100", "--lines", "33"])?;
+    assert!(rt; lines.as_str() == "ValueValidation");
+    let kind = refusal(alloc, &["receive", "a", "100", "--kind", "slow"])?;
+    assert!(rt; kind.as_str() == "InvalidValue");
     Ok(())
 }

@@ -58,7 +58,7 @@ fn control_bits_by_name(rt: HostRuntime) {
 #[test]
 fn header_of_a_page(rt: HostRuntime) {
     for (bytes, control) in &HEADERS {
-        assert_eq!(rt; read_header(&beginning(bytes)), header(1, 0, 0, *control));
+        assert!(rt; read_header(&beginning(bytes)) == header(1, 0, 0, *control));
     }
 }
 

@@ -42,7 +42,7 @@ fn ignored_bits(rt: HostRuntime) {
     bytes[12] = 0xea;
     bytes[14] = 0xea;
     bytes[39] = 0x15;
-    assert_eq!(rt; read_links(1, &bytes), Some(one_link(false)));
+    assert!(rt; read_links(1, &bytes) == Some(one_link(false)));
 }
 
 #[test]

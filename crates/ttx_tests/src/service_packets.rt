@@ -76,7 +76,7 @@ fn info_of_a_service(rt: HostRuntime) {
 #[test]
 fn ignored_bits(rt: HostRuntime) {
     for (at, byte) in &IGNORED {
-        assert_eq!(rt; read_with(*at, *byte).ok(), info(0, 123_045), "byte {at}");
+        assert!(rt; read_with(*at, *byte).ok() == info(0, 123_045), "byte {at}");
     }
 }
 

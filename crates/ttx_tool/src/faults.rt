@@ -3,7 +3,6 @@
 ghost use Rattle.std.specs.Prelude.{◌≡◌};
 ghost use Rattle.ttx_tool.specs.FilesFaults.{tool_fault};
 
-use thiserror::Error;
 use ttx_certify::{FilesFault, TextFile};
 use ttx_counter::CounterFault;
 use ttx_cycle::{CycleFault, WriteFault};
@@ -13,7 +12,7 @@ use ttx_source::SourceError;
 use ttx_witness::CertFault;
 
 /// Why the text of a counter-run isn't read.
-#[derive(Clone, Copy, Debug, PartialEq, Eq)]
+#[derive(Clone, Copy, PartialEq, Eq)]
 pub enum CounterFileFault {
     /// A read failed.
     Read,
@@ -25,52 +24,39 @@ pub enum CounterFileFault {
 
 /// Why a command fails. The numbers of faults: 1 `Cycle`, 2 `Service`, 3 `Certificate`, 4 `Read`, 5 `TooLong`, 6 `Write`,
 /// 7 `NoMemory`, 8 `Plan`, 9 `Class`, 10 `Same`, 11 `Counter`.
-#[derive(Clone, Copy, Debug, PartialEq, Eq, Error)]
+#[derive(Clone, Copy, PartialEq, Eq)]
 pub enum ToolFault {
     /// 1. The packet file isn't read.
-    #[error("{0}")]
     Cycle(CycleFault),
     /// 2. The text isn't a service definition.
-    #[error("{0}")]
     Service(SourceError),
     /// 3. The text isn't a certificate.
-    #[error("{0}")]
     Certificate(CertFault),
     /// 4. A read of a text failed.
-    #[error("a text isn't read")]
     Read { which: TextFile },
     /// 5. A text is longer than 4,194,304 bytes.
-    #[error("a text is longer than 4194304 bytes")]
     TooLong { which: TextFile },
     /// 6. A write failed. The first `written` bytes of all that a command writes went out, and no more; where it writes a
     /// file, the file's bytes come before those of the output.
-    #[error("a write failed after {written} bytes")]
     Write { written: usize },
     /// 7. A growth of the command's own was refused.
-    #[error("out of memory")]
     NoMemory,
     /// 8. There is no plan.
-    #[error("{0}")]
     Plan(PlanFault),
     /// 9. The certificate is for receivers that surely clear, to which there are no counter-runs.
-    #[error("the certificate isn't for receivers of any class")]
     Class,
     /// 10. The file to write is one of the inputs.
-    #[error("the file to write is an input")]
     Same,
     /// 11. The text of a counter-run isn't read.
-    #[error("the text of a counter-run isn't read")]
     Counter(CounterFileFault),
 }
 
 /// Why `extract` writes nothing. The refusals of a cycle stand apart from all other faults.
-#[derive(Clone, Copy, Debug, PartialEq, Eq, Error)]
+#[derive(Clone, Copy, PartialEq, Eq)]
 pub enum ExtractionFault {
     /// The cycle isn't read, a write failed, or a growth was refused.
-    #[error("{0}")]
     Tool(ToolFault),
     /// The cycle has no service text.
-    #[error("{0}")]
     Refused(ExtractFault),
 }
 
