@@ -4,7 +4,7 @@ use ttx_page::{Class, Selection};
 use ttx_picture::Form;
 
 /// How a receiver takes its choices, and whether it surely clears.
-#[derive(Clone, Copy, PartialEq, Eq)]
+#[derive(Clone, Copy)]
 pub enum ReceiverKind {
     Eager,
     Careful,

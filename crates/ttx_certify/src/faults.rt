@@ -6,7 +6,7 @@ use ttx_source::SourceError;
 use ttx_witness::CertFault;
 
 /// The texts that are read beside a cycle.
-#[derive(Clone, Copy, Debug, PartialEq, Eq)]
+#[derive(Clone, Copy, Debug)]
 pub enum TextFile {
     /// 2. The service definition.
     Service,
@@ -15,7 +15,7 @@ pub enum TextFile {
 }
 
 /// Why files aren't certified, numbered from 1 in this order.
-#[derive(Clone, Copy, Debug, PartialEq, Eq, Error)]
+#[derive(Clone, Copy, Debug, Error)]
 pub enum FilesFault {
     /// 1. The packet file isn't read.
     #[error("{0}")]

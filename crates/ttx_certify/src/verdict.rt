@@ -3,7 +3,7 @@
 use ttx_witness::Reason;
 
 /// Whether a cycle is accepted with a certificate, and if not, the first reason.
-#[derive(Clone, Copy, PartialEq, Eq)]
+#[derive(Clone, Copy)]
 pub enum Verdict {
     Yes,
     No(Reason),

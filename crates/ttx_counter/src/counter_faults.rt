@@ -1,7 +1,7 @@
 //! Why the text of a counter-run isn't read.
 
 /// The fault of the text of a counter-run. Lines are counted from 1.
-#[derive(Clone, Copy, PartialEq, Eq)]
+#[derive(Clone, Copy)]
 pub enum CounterFault {
     /// The first line is no counter-run's.
     Title,

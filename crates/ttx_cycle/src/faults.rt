@@ -23,14 +23,14 @@ pub enum CycleFault {
 }
 
 /// A write failed. The first `written` bytes went out, and no more.
-#[derive(Clone, Copy, Debug, PartialEq, Eq, Error)]
+#[derive(Clone, Copy, Debug, Error)]
 #[error("a write failed after {written} bytes")]
 pub struct WriteFault {
     pub written: usize,
 }
 
 /// Why a text isn't read.
-#[derive(Clone, Copy, Debug, PartialEq, Eq, Error)]
+#[derive(Clone, Copy, Debug, Error)]
 pub enum TextFault {
     /// A call of `read` failed.
     #[error("the text can't be read")]

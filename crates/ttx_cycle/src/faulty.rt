@@ -15,7 +15,7 @@ pub struct FaultyReader<'a> {
 }
 
 /// How a call of `write` fails. Calls are counted from 1.
-#[derive(Clone, Copy, PartialEq, Eq)]
+#[derive(Clone, Copy)]
 pub enum Failure {
     /// Call `at` answers an error.
     Error { at: u64 },

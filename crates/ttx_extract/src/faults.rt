@@ -6,7 +6,7 @@ use ttx_source::SourceError;
 use ttx_witness::Reason;
 
 /// Why a cycle has no service text.
-#[derive(Clone, Copy, PartialEq, Eq)]
+#[derive(Clone, Copy)]
 pub enum ExtractFault {
     /// Two slots send an item of a page with different contents.
     Conflict {

@@ -4,7 +4,7 @@ use ttx_header::PageId;
 use ttx_witness::Reason;
 
 /// Whether a cycle is accepted with a certificate and each page is followed by another page number, and if not, the first reason.
-#[derive(Clone, Copy, PartialEq, Eq)]
+#[derive(Clone, Copy)]
 pub enum LateVerdict {
     /// Both. The next header of its magazine comes at most `gap` slots after a header of a page.
     Yes { gap: usize },

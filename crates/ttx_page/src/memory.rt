@@ -8,7 +8,7 @@ use ttx_links::Target;
 
 /// What a receiver holds of the page that it is set to: rows 0 to 24, control bits and links; whether it is storing, how many
 /// slots ago its header came (at most 64), and whether none came since it was set to the page. Every character is below 128.
-#[derive(Clone, Copy, PartialEq, Eq)]
+#[derive(Clone, Copy)]
 pub struct PageMemory {
     rows: [[u8; 40]; 25],
     control: Control,

@@ -12,7 +12,7 @@ use ttx_links::Links;
 
 /// A page as authored: the characters of row 0 from column 8 to 31, and rows 1 to 24 (`rows[0]` is row 1). Every character is
 /// below 128, C4 is clear, the page number isn't FF and the subcode isn't 3F7F.
-#[derive(Clone, Copy, PartialEq, Eq)]
+#[derive(Clone, Copy)]
 pub struct Page {
     id: PageId,
     control: Control,

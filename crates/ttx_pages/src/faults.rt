@@ -5,7 +5,7 @@ ghost use Rattle.std.specs.Prelude.{◌≡◌};
 use ttx_cycle::{CycleFault, WriteFault};
 
 /// Why the pages of a packet file aren't told.
-#[derive(Clone, Copy, PartialEq, Eq)]
+#[derive(Clone, Copy)]
 pub enum PagesFault {
     /// The packet file isn't read.
     Cycle(CycleFault),

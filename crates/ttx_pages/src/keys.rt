@@ -10,7 +10,7 @@ use ttx_header::{PageId, read_header};
 use ttx_packet::{Slot, slot_of};
 
 /// The packets of a page.
-#[derive(Clone, Copy, PartialEq, Eq)]
+#[derive(Clone, Copy)]
 pub enum Part {
     /// Its page headers.
     Head,

@@ -11,7 +11,7 @@ use std::alloc::AllocError;
 use ttx_render::View;
 
 /// A form in which a View is written.
-#[derive(Clone, Copy, PartialEq, Eq)]
+#[derive(Clone, Copy)]
 pub enum Form {
     /// Lines of characters.
     Text,

@@ -62,7 +62,7 @@ fn is_careful(alloc: Global, texts: &[&str]) -> bool {
         Ok(Order::Receive { cycle, tuning }) => {
             cycle == "a"
                 && tuning.selection == Selection::AnySub(8, 0xFE)
-                && tuning.kind == ReceiverKind::Careful
+                && matches!(tuning.kind, ReceiverKind::Careful)
                 && (tuning.lines, tuning.start, tuning.slots) == (16, 7, 5000)
         }
         _ => false,

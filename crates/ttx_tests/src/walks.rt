@@ -172,7 +172,7 @@ fn no_first_list(rt: HostRuntime) -> Result<(), Fail> {
     for slot in slots.as_slice() {
         next(&mut second, slot);
     }
-    assert!(rt; second.finish() == Verdict::No(Reason::Unsteady));
+    assert!(rt; matches!(second.finish(), Verdict::No(Reason::Unsteady)));
     Ok(())
 }
 
@@ -233,7 +233,7 @@ fn a_first_list_of_65537_slots(rt: HostRuntime) -> Result<(), Fail> {
     for _ in 0..65_536u32 {
         next(&mut second, &slot);
     }
-    assert!(rt; second.finish() == Verdict::Yes);
+    assert!(rt; matches!(second.finish(), Verdict::Yes));
     Ok(())
 }
 
@@ -246,7 +246,7 @@ fn a_second_list_of_65537_slots(rt: HostRuntime) -> Result<(), Fail> {
     for _ in 0..65_537u32 {
         next(&mut second, &slot);
     }
-    assert!(rt; second.finish() == Verdict::No(Reason::Unsteady));
+    assert!(rt; matches!(second.finish(), Verdict::No(Reason::Unsteady)));
     Ok(())
 }
 

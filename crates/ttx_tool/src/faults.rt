@@ -12,7 +12,7 @@ use ttx_source::SourceError;
 use ttx_witness::CertFault;
 
 /// Why the text of a counter-run isn't read.
-#[derive(Clone, Copy, PartialEq, Eq)]
+#[derive(Clone, Copy)]
 pub enum CounterFileFault {
     /// A read failed.
     Read,
@@ -24,7 +24,7 @@ pub enum CounterFileFault {
 
 /// Why a command fails. The numbers of faults: 1 `Cycle`, 2 `Service`, 3 `Certificate`, 4 `Read`, 5 `TooLong`, 6 `Write`,
 /// 7 `NoMemory`, 8 `Plan`, 9 `Class`, 10 `Same`, 11 `Counter`.
-#[derive(Clone, Copy, PartialEq, Eq)]
+#[derive(Clone, Copy)]
 pub enum ToolFault {
     /// 1. The packet file isn't read.
     Cycle(CycleFault),
@@ -52,7 +52,7 @@ pub enum ToolFault {
 }
 
 /// Why `extract` writes nothing. The refusals of a cycle stand apart from all other faults.
-#[derive(Clone, Copy, PartialEq, Eq)]
+#[derive(Clone, Copy)]
 pub enum ExtractionFault {
     /// The cycle isn't read, a write failed, or a growth was refused.
     Tool(ToolFault),

@@ -5,7 +5,7 @@ use ttx_page::Item;
 
 /// Why a cycle isn't accepted with a certificate. Slots and starts are counted from 0. The reasons are numbered
 /// from 1 in this order.
-#[derive(Clone, Copy, PartialEq, Eq)]
+#[derive(Clone, Copy)]
 pub enum Reason {
     /// A slot that one wrong bit in each byte can turn into another packet.
     BadSlot {

@@ -6,7 +6,7 @@ use ttx_page::Item;
 
 /// How many transmissions of an item a period has: how many of them come too near their header, and how many a header of
 /// another magazine cuts off that come later.
-#[derive(Clone, Copy, PartialEq, Eq)]
+#[derive(Clone, Copy)]
 pub struct Losses {
     pub sent: usize,
     pub near: usize,
@@ -14,7 +14,7 @@ pub struct Losses {
 }
 
 /// How long a viewer of a page waits at the most.
-#[derive(Clone, Copy, PartialEq, Eq)]
+#[derive(Clone, Copy)]
 pub enum Wait {
     /// The least deadline in fields, and the first item that needs so many.
     Fields { fields: u32, item: Item },
@@ -25,14 +25,14 @@ pub enum Wait {
 }
 
 /// A page, and how long its viewer waits.
-#[derive(Clone, Copy, PartialEq, Eq)]
+#[derive(Clone, Copy)]
 pub struct PageWait {
     pub page: PageId,
     pub wait: Wait,
 }
 
 /// How long a viewer of an item of a page waits at the most.
-#[derive(Clone, Copy, PartialEq, Eq)]
+#[derive(Clone, Copy)]
 pub enum OwnWait {
     /// The least deadline in fields.
     Least { fields: u32 },
@@ -41,7 +41,7 @@ pub enum OwnWait {
 }
 
 /// An item of a page, and how long its viewer waits.
-#[derive(Clone, Copy, PartialEq, Eq)]
+#[derive(Clone, Copy)]
 pub struct ItemWait {
     pub item: Item,
     pub wait: OwnWait,
