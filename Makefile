@@ -17,7 +17,7 @@ JOBS = 4
 
 # what runs the built program, the longest first
 SCRIPTS = $(addprefix tests/, refused_calls.py refute.py memory.sh cli.sh large.py planned.py waits.py spliced.py turns.sh sent.py \
-	pages.py checked.py packed.sh extracted.py documents.py)
+	pages.py checked.py packed.sh extracted.py documents.py refused_texts.py)
 
 .PHONY: all ttx test demo bench edits compare helpers install dist $(SCRIPTS)
 

@@ -7,8 +7,10 @@ The services are serial and parallel, with and without packet 8/30, of lines and
 1, 2, 4 or 8 times a cycle, and some have subpages, blank rows, rows in double height, boxes, links, or a suppressed header.
 For both classes of receivers and repeat counts 1, 2 and 8: `find` on the plan ends with a deadline D, `certify` says yes to
 what it found, and no to the same with D - 1, where that is at least 1; and of the items of each page that `wait --items` tells,
-the first that needs the most is the page's.
+the first that needs the most is the page's. And parallel cycles of one to eight magazines are slot by slot those of a plain
+program of the rule of turns.
 """
+import collections
 import itertools
 import os
 import random
@@ -106,6 +108,70 @@ def failures(program, name, kind):
     return [f"{name}, class {kind}, repeat {repeat}: {what}" for repeat, what in found if what]
 
 
+def often(magazine):
+    """How often page 00 of a magazine is sent; page 01 is sent once. Magazines 2, 4, 6 and 8 have no rows in page 00."""
+    return (1, 2, 4, 8)[magazine % 4]
+
+
+def parallel_text(lines, most):
+    """The pages of magazines 1 to `most`, with packet 8/30."""
+    text = f"lines = {lines}\nserial = false\n" + INFO
+    for magazine in range(1, most + 1):
+        inhibit = "true" if magazine % 2 == 0 else "false"
+        text += f'[[page]]\nnumber = "{magazine}00"\noften = {often(magazine)}\ninhibit = {inhibit}\n[[page]]\nnumber = "{magazine}01"\n'
+    return text
+
+
+def packets(magazine):
+    """The packets of a magazine, in their order, as `inspect` names them."""
+    rows = [f"{magazine}/{row} row" for row in range(1, 24)]
+    block = lambda number, has_rows: [f"{magazine}/0 header {magazine}{number}", *(rows if has_rows else []), f"{magazine}/27 links"]
+    told = []
+    for turn in range(8):
+        told += block("00", magazine % 2 == 1) if turn * often(magazine) % 8 == 0 else []
+        told += block("01", True) if turn == 0 else []
+    return collections.deque([*told, f"{magazine}/0 header {magazine}FF"])
+
+
+def by_turns(lines, most):
+    """The slots of the cycle. It is the turn of the first magazine that has a packet left which doesn't wait, looked for rising
+    from the one after the magazine that sent last; a row, or X/27/0, waits while one of the last slots of a field has a page
+    header of its magazine. Packet 8/30 stands at each multiple of 50 fields."""
+    left = {magazine: packets(magazine) for magazine in range(1, most + 1)}
+    slots, latest, headed = [], 0, {}
+    while any(left.values()):
+        place = len(slots)
+        if place % (50 * lines) == 0:
+            slots.append("8/30 info")
+            continue
+        for above in range(8):
+            magazine = (latest + above) % 8 + 1
+            queue = left.get(magazine)
+            if queue and (" header " in queue[0] or place - headed.get(magazine, -lines - 1) > lines):
+                break
+        else:
+            slots.append("empty")
+            continue
+        packet, latest = queue.popleft(), magazine
+        if " header " in packet and not packet.endswith("FF"):
+            headed[magazine] = place
+        slots.append(packet)
+    return slots + ["empty"] * (-len(slots) % lines)
+
+
+def wrong_turns(program, lines, most):
+    """The first slot of such a cycle that isn't as the rule has it, or None."""
+    with open("service", "w", encoding="ascii") as file:
+        file.write(parallel_text(lines, most))
+    run(program, "plan", "service", "cycle")
+    shown = [re.sub(r"^\d+ ", "", line) for line in run(program, "inspect", "cycle")[1].splitlines()]
+    wanted = by_turns(lines, most)
+    if len(shown) != len(wanted):
+        return f"{len(shown)} slots and not {len(wanted)}"
+    pairs = zip(shown, wanted)
+    return next((f"slot {at} has {has} and not {want}" for at, (has, want) in enumerate(pairs) if not has.startswith(want)), None)
+
+
 def main():
     program = os.path.realpath(sys.argv[1])
     draw = random.Random(1)
@@ -120,6 +186,10 @@ def main():
             for kind in ["any", "clearing"]:
                 cases += 3
                 told += failures(program, name, kind)
+        for most, lines in itertools.product(range(1, 9), range(1, 4)):
+            what = wrong_turns(program, lines, most)
+            cases += 1
+            told += [f"turns of {most} magazines, {lines} lines: {what}"] if what else []
         os.chdir("/")
     for line in told:
         print(f"FAILED {line.strip()}")

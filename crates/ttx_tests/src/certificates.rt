@@ -1,54 +1,13 @@
-//! Texts of certificates by worked examples.
+//! Texts of certificates by worked examples; tests/refused_texts.py has those that are refused.
 
 use crate::base::{self, CERTIFICATE};
 use std::alloc::Global;
-use std::process::Abort;
 use ttx_header::PageId;
 use ttx_page::{Class, Item, RowNumber};
-use ttx_witness::{CertFault, Certificate, read_certificate, write_certificate};
+use ttx_witness::{Certificate, write_certificate};
 
 static CLEARING: &[u8] =
     b"ttx certificate 2\nclass clearing\nlines 2\nrepeat 1\ndeadline 2\n100/0000 head 0\n";
-
-#[rattlefmt::skip]
-static NOT_ENDED: [(&str, CertFault); 3] = [
-    ("", CertFault::Title),
-    ("ttx certificate 1", CertFault::Title),
-    ("ttx certificate 1\nlines 2\n", CertFault::Line { line: 3 }),
-];
-
-#[rattlefmt::skip]
-static NOT_RISING: [(&str, CertFault); 3] = [
-    (
-        "ttx certificate 1\nlines 2\nrepeat 1\ndeadline 27\n100/0000 head 0\n100/0000 row 1 5 3\n",
-        CertFault::Order { line: 6 },
-    ),
-    (
-        "ttx certificate 1\nlines 2\nrepeat 1\ndeadline 27\n100/0000 head 0\n100/0000 row 1 3 3\n",
-        CertFault::Order { line: 6 },
-    ),
-    (
-        "ttx certificate 1\nlines 2\nrepeat 1\ndeadline 27\n100/0000 head 0\n100/0000 head 1\n",
-        CertFault::Order { line: 6 },
-    ),
-];
-
-#[rattlefmt::skip]
-static OUT_OF_RANGE: [(&str, CertFault); 3] = [
-    (
-        "ttx certificate 1\nlines 2\nrepeat 1\ndeadline 27\n100/0000 head 0\n100/0000 row 1 65536\n",
-        CertFault::Range { line: 6 },
-    ),
-    ("ttx certificate 1\nlines 2\nrepeat 1\ndeadline 1000001\n", CertFault::Range { line: 4 }),
-    ("ttx certificate 1\nlines 2\nrepeat 9\n", CertFault::Range { line: 3 }),
-];
-
-#[rattlefmt::skip]
-static SHAPELESS: [(&str, CertFault); 3] = [
-    ("ttx certificate 1\nlines 2\nrepeat 1\ndeadline 10000000\n", CertFault::Line { line: 4 }),
-    ("ttx certificate 1\nlines 2\nrepeat 1\ndeadline 01\n", CertFault::Line { line: 4 }),
-    ("ttx certificate 2\nclass any\nlines 2\nrepeat 1\ndeadline 27\n", CertFault::Line { line: 2 }),
-];
 
 // What is written of the certificate that the text is.
 fn written_back(alloc: Global, text: &[u8]) -> Option<Vec<u8>> {
@@ -105,44 +64,4 @@ fn starts_of(alloc: Global, text: &[u8]) -> Option<(Option<u32>, Option<u32>)> {
 #[test]
 fn starts_are_found(rt: HostRuntime) {
     assert!(rt; starts_of(rt.alloc(), CERTIFICATE) == Some((Some(25), None)));
-}
-
-fn fault(alloc: Global, text: &[u8]) -> Option<CertFault> {
-    read_certificate(alloc, text).err()
-}
-
-fn fault_without_last_byte(alloc: Global, text: &[u8]) -> Option<CertFault> {
-    match text.split_last() {
-        Some((_, text)) => fault(alloc, text),
-        None => None,
-    }
-}
-
-// Asserts that each of these texts is refused for its fault.
-fn assert_refused(rt: &impl Abort, alloc: Global, cases: &[(&str, CertFault)]) {
-    for (text, wanted) in cases {
-        assert_eq!(*rt; fault(alloc, text.as_bytes()), Some(*wanted));
-    }
-}
-
-#[test]
-fn lines_are_ended(rt: HostRuntime) {
-    let cut = fault_without_last_byte(rt.alloc(), CERTIFICATE);
-    assert!(rt; cut == Some(CertFault::Line { line: 29 }));
-    assert_refused(&rt, rt.alloc(), &NOT_ENDED);
-}
-
-#[test]
-fn starts_and_entries_rise(rt: HostRuntime) {
-    assert_refused(&rt, rt.alloc(), &NOT_RISING);
-}
-
-#[test]
-fn numbers_are_in_range(rt: HostRuntime) {
-    assert_refused(&rt, rt.alloc(), &OUT_OF_RANGE);
-}
-
-#[test]
-fn lines_have_a_shape(rt: HostRuntime) {
-    assert_refused(&rt, rt.alloc(), &SHAPELESS);
 }

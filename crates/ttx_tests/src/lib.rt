@@ -7,21 +7,15 @@ mod base;
 #[cfg(test)]
 mod certificates;
 #[cfg(test)]
-mod certified_files;
-#[cfg(test)]
 mod characters;
 #[cfg(test)]
 mod codes;
-#[cfg(test)]
-mod commands;
 #[cfg(test)]
 mod counters;
 #[cfg(test)]
 mod display;
 #[cfg(test)]
 mod headers;
-#[cfg(test)]
-mod late_plans;
 #[cfg(test)]
 mod packet_files;
 #[cfg(test)]
@@ -30,8 +24,6 @@ mod packets;
 mod page_links;
 #[cfg(test)]
 mod pages;
-#[cfg(test)]
-mod plans;
 #[cfg(test)]
 mod receivers;
 #[cfg(test)]

@@ -1,7 +1,7 @@
 //! Packet files read and written in pieces, with faults in the middle.
 
 use crate::base;
-use std::alloc::{AllocError, Global};
+use std::alloc::Global;
 use std::io::{BufWriter, Read, Write};
 use std::test::Fail;
 use ttx_cycle::faulty::{Failure, FaultyReader, FaultyWriter};
@@ -37,27 +37,6 @@ fn each_prefix_in_pieces(rt: HostRuntime) -> Result<(), Fail> {
     Ok(())
 }
 
-#[test]
-fn files_of_no_slot(rt: HostRuntime) {
-    let cut = read_in_pieces(rt.alloc(), &[0; 83], 100);
-    assert!(rt; matches!(cut, Err(CycleFault::Truncated { rest: 41 })));
-    let empty = read_in_pieces(rt.alloc(), &[], 100);
-    assert!(rt; matches!(empty, Err(CycleFault::Empty)));
-}
-
-#[test]
-fn longest_file(rt: HostRuntime) -> Result<(), Fail> {
-    let mut bytes = Vec::new(rt.alloc());
-    for _ in 0..65_536 {
-        bytes.extend_from_slice(&[0x20; 42])?;
-    }
-    assert!(rt; is_judged(rt.alloc(), bytes.as_slice(), 4096));
-    bytes.push(0x20)?;
-    let longer = read_in_pieces(rt.alloc(), bytes.as_slice(), 4096);
-    assert!(rt; matches!(longer, Err(CycleFault::TooLong)));
-    Ok(())
-}
-
 // Whether the next slot is one of bytes that are all this one.
 fn is_next<R: Read>(slots: &mut SlotReader, reader: &mut Counted<R>, wanted: u8) -> bool {
     let mut slot = [0; 42];
@@ -83,27 +62,22 @@ fn slots_one_by_one(rt: HostRuntime) -> Result<(), Fail> {
 
 // Writes a cycle in pieces of 5 bytes and answers the calls made, where what went out is the front of the file.
 fn write_in_pieces(
-    alloc: Global,
     cycle: &Cycle,
     failure: Option<Failure>,
-) -> Result<Option<(u64, Result<(), WriteFault>)>, AllocError> {
+) -> Option<(u64, Result<(), WriteFault>)> {
     let file = cycle.slots().as_flattened();
-    let mut room = Vec::new(alloc);
-    for _ in 0..1200 {
-        room.push(0xff)?;
-    }
-    let mut writer = Counted::new(FaultyWriter::new(room.as_mut_slice(), 5, failure));
+    let mut room = [0xff; 1200];
+    let mut writer = Counted::new(FaultyWriter::new(&mut room, 5, failure));
     let outcome = write_cycle(&mut writer, cycle);
-    let calls = writer.calls();
     let sent = writer.get_ref().taken();
     let wanted = match outcome {
         Ok(()) => file.len(),
         Err(fault) => fault.written,
     };
     if file.starts_with(sent) && sent.len() == wanted {
-        Ok(Some((calls, outcome)))
+        Some((writer.calls(), outcome))
     } else {
-        Ok(None)
+        None
     }
 }
 
@@ -112,11 +86,10 @@ fn writes_in_pieces(rt: HostRuntime) -> Result<(), Fail> {
     let Some(cycle) = Cycle::of(base::slots(rt.alloc())?) else {
         panic!(rt; "there is no cycle");
     };
-    let whole = write_in_pieces(rt.alloc(), &cycle, None)?;
-    assert!(rt; matches!(whole, Some((236, Ok(())))));
-    let fourth = write_in_pieces(rt.alloc(), &cycle, Some(Failure::Error { at: 4 }))?;
+    assert!(rt; matches!(write_in_pieces(&cycle, None), Some((236, Ok(())))));
+    let fourth = write_in_pieces(&cycle, Some(Failure::Error { at: 4 }));
     assert!(rt; matches!(fourth, Some((4, Err(WriteFault { written: 15 })))));
-    let first = write_in_pieces(rt.alloc(), &cycle, Some(Failure::Nothing { at: 1 }))?;
+    let first = write_in_pieces(&cycle, Some(Failure::Nothing { at: 1 }));
     assert!(rt; matches!(first, Some((1, Err(WriteFault { written: 0 })))));
     Ok(())
 }

@@ -62,7 +62,7 @@ fn addresses_as_sent(rt: HostRuntime) {
 #[test]
 fn kinds_of_slots(rt: HostRuntime) {
     for (bytes, kind, mag, number) in &KINDS {
-        assert_eq!(rt; shown(&beginning(bytes)), (*kind, *mag, *number));
+        assert!(rt; shown(&beginning(bytes)) == (*kind, *mag, *number));
     }
 }
 

@@ -83,7 +83,7 @@ fn ignored_bits(rt: HostRuntime) {
 #[test]
 fn faults(rt: HostRuntime) {
     for (at, byte, fault) in &FAULTS {
-        assert_eq!(rt; read_with(*at, *byte).err(), Some(*fault));
+        assert!(rt; read_with(*at, *byte).err() == Some(*fault));
     }
 }
 

@@ -2,7 +2,7 @@
 //! slots and more.
 
 use crate::base::{self, CERTIFICATE, SERVICE, TIME_FILLING, beginning};
-use crate::certified_files::{EDITS, NO_ENTRIES, NO_PAGES, YES};
+use crate::seen;
 use std::alloc::{AllocError, Global};
 use std::test::Fail;
 use ttx_certify::{FilesFault, Second, Verdict, Walk, WalkFault, certify_passes};
@@ -12,6 +12,38 @@ use ttx_header::time_fill;
 use ttx_witness::Reason;
 
 const UNSTEADY: &str = "no 11 unsteady\n";
+
+const YES: &str = "yes lines 2 repeat 1 deadline 27 pages 1\n";
+
+// Edits of the worked cycle: a slot, the place from which these bytes stand in it, and the line of the verdict.
+#[rattlefmt::skip]
+static EDITS: [(usize, usize, &[u8], &str); 15] = [
+    (4, 0, &[0x03], "no 1 bad-slot 4\n"),
+    (1, 0, &[0xff; 42], "no 1 bad-slot 1\n"),
+    (26, 2, &[0x14], "no 1 bad-slot 26\n"),
+    (0, 0, &[0; 42], "no 2 no-header 100/0000\n"),
+    // the header 100/0001
+    (27, 0, &[0x02, 0x15, 0x15, 0x15, 0x02, 0x15, 0x15, 0x15, 0x15, 0x02], "no 3 other-subpage 100/0000 27\n"),
+    (0, 5, &[0xd0], "no 4 erased 100/0000 0\n"),
+    (0, 33, &[0xc1], "no 5 head-differs 100/0000 0\n"),
+    (7, 2, &[0xc1], "no 6 row-differs 100/0000 7\n"),
+    // the link 205/3F7F
+    (26, 3, &[0x73, 0x15, 0xea, 0xea, 0xea, 0x2f], "no 7 links-differ 100/0000 26\n"),
+    // the header 200/0000, with C11 and without
+    (1, 0, &[0x49, 0x15, 0x15, 0x15, 0x15, 0x15, 0x15, 0x15, 0x15, 0x02], "no 9 witness-bad 100/0000 row 1 3\n"),
+    (1, 0, &[0x49, 0x15, 0x15, 0x15, 0x15, 0x15, 0x15, 0x15, 0x15, 0x15], YES),
+    (27, 0, &[0x49, 0x15, 0x15, 0x15, 0x15, 0x15, 0x15, 0x15, 0x15, 0x02], YES),
+    // no C11
+    (27, 9, &[0x15], YES),
+    // packet 26
+    (1, 0, &[0x02, 0xb6, 0xff, 0x16, 0x00, 0x9d], YES),
+    // nothing
+    (0, 0, &[], YES),
+];
+
+static NO_PAGES: &[u8] = b"lines = 1\nserial = true\n";
+
+static NO_ENTRIES: &[u8] = b"ttx certificate 1\nlines 1\nrepeat 1\ndeadline 1\n";
 
 // What is answered for two packet files, a service and a certificate, and how many bytes went out.
 fn answer(
@@ -159,20 +191,29 @@ fn next(second: &mut Second, slot: &[u8; 42]) {
     second.second(slot);
 }
 
+// Whether the worked cycle is unsteady where no first list was given.
+fn is_unsteady(alloc: Global, slots: &[[u8; 42]]) -> bool {
+    let Some(certificate) = base::certificate(alloc, CERTIFICATE) else {
+        return false;
+    };
+    let Some(page) = seen::page(0x20) else {
+        return false;
+    };
+    let Ok(walk) = Walk::new(alloc, std::slice::from_ref(&page), &certificate) else {
+        return false;
+    };
+    let mut second = walk.begin_second();
+    for slot in slots {
+        next(&mut second, slot);
+    }
+    matches!(second.finish(), Verdict::No(Reason::Unsteady))
+}
+
 // Without a first list nothing stands before slot 0.
 #[test]
 fn no_first_list(rt: HostRuntime) -> Result<(), Fail> {
-    let certificate = base::certificate(rt.alloc(), CERTIFICATE).expect(&rt, "a certificate");
-    let service = base::service(rt.alloc(), SERVICE).expect(&rt, "a service");
-    let page = service.pages().first().expect(&rt, "a page");
-    let pages = std::slice::from_ref(page);
-    let walk = Walk::new(rt.alloc(), pages, &certificate).expect(&rt, "room");
     let slots = base::slots(rt.alloc())?;
-    let mut second = walk.begin_second();
-    for slot in slots.as_slice() {
-        next(&mut second, slot);
-    }
-    assert!(rt; matches!(second.finish(), Verdict::No(Reason::Unsteady)));
+    assert!(rt; is_unsteady(rt.alloc(), slots.as_slice()));
     Ok(())
 }
 
@@ -222,8 +263,12 @@ fn second_passes_of_another_length(rt: HostRuntime) -> Result<(), Fail> {
 
 #[test]
 fn a_first_list_of_65537_slots(rt: HostRuntime) -> Result<(), Fail> {
-    let certificate = base::certificate(rt.alloc(), NO_ENTRIES).expect(&rt, "a certificate");
-    let mut walk = Walk::new(rt.alloc(), &[], &certificate).expect(&rt, "room");
+    let Some(certificate) = base::certificate(rt.alloc(), NO_ENTRIES) else {
+        panic!(rt; "the certificate is refused");
+    };
+    let Ok(mut walk) = Walk::new(rt.alloc(), &[], &certificate) else {
+        panic!(rt; "there is no room");
+    };
     let slot = beginning(&TIME_FILLING);
     for _ in 0..65_536u32 {
         assert!(rt; first(&mut walk, &slot) == Ok(()));
@@ -239,8 +284,12 @@ fn a_first_list_of_65537_slots(rt: HostRuntime) -> Result<(), Fail> {
 
 #[test]
 fn a_second_list_of_65537_slots(rt: HostRuntime) -> Result<(), Fail> {
-    let certificate = base::certificate(rt.alloc(), NO_ENTRIES).expect(&rt, "a certificate");
-    let walk = Walk::new(rt.alloc(), &[], &certificate).expect(&rt, "room");
+    let Some(certificate) = base::certificate(rt.alloc(), NO_ENTRIES) else {
+        panic!(rt; "the certificate is refused");
+    };
+    let Ok(walk) = Walk::new(rt.alloc(), &[], &certificate) else {
+        panic!(rt; "there is no room");
+    };
     let slot = beginning(&TIME_FILLING);
     let mut second = walk.begin_second();
     for _ in 0..65_537u32 {

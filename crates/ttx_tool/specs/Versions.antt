@@ -9,7 +9,7 @@ use Rattle.ttx_tool.specs.declared.faults.ToolFault.TheVariants.{Write}
 
 -- three lines
 abbrev pub version_text : List ℕ
-version_text = codes "ttx 1.0.0" ++ 10 ∷ codes "kit rattle-kit-13b" ++ 10 ∷ codes "logic dac8208d650f15bf" ++ 10 ∷ []
+version_text = codes "ttx 1.0.0" ++ 10 ∷ codes "kit rattle-kit-13f" ++ 10 ∷ codes "logic dac8208d650f15bf" ++ 10 ∷ []
 
 -- the text went out, or its first `written` bytes
 abbrev pub TellsVersion : {U : Type 0} → List ℕ → Option (List ℕ) → Option (List ℕ) → Result U ToolFault → Type 0
