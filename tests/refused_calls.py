@@ -5,7 +5,8 @@ of what it was to write; or it does what it does otherwise.
 
 usage: refused_calls.py PROGRAM
 
-The calls are refused by refusing.c, which is built with the clang of the kit that `rt` belongs to and loaded before the program.
+The calls are refused by refusing.c, which is built with the clang of the kit that `rt` belongs to and loaded before the program. It
+runs a command as often as it is asked to, each time from the begin of main, in a process of its own.
 """
 import os
 import shutil
@@ -99,25 +100,31 @@ class Runs:
 
     def __init__(self, program, folder, words):
         self.folder, self.words, self.made = folder, words, 0
-        self.command = [program, *words.split()]
+        environment = {"LD_PRELOAD": str(folder / "refusing.so")}
+        self.server = subprocess.Popen(
+            [program, *words.split()], cwd=folder, env=environment, stdin=subprocess.PIPE, stdout=subprocess.PIPE, bufsize=0
+        )
         self.failures = []
 
-    def run(self, **calls):
+    def run(self, growth=0, read=0, write=0, piece=0, counted=0):
         """Status, standard output, standard error and OUT."""
         out = self.folder / "out"
         out.unlink(missing_ok=True)
-        told = [self.folder / "stdout", self.folder / "stderr"]
-        environment = {"LD_PRELOAD": str(self.folder / "refusing.so")} | {name: str(value) for name, value in calls.items()}
-        with told[0].open("wb") as stdout, told[1].open("wb") as stderr:
-            done = subprocess.run(self.command, cwd=self.folder, env=environment, stdin=subprocess.DEVNULL, stdout=stdout, stderr=stderr, timeout=60)
+        self.server.stdin.write(f"{growth} {read} {write} {piece} {counted}\n".encode())
+        status = os.waitstatus_to_exitcode(int(self.server.stdout.readline()))
         self.made += 1
-        return done.returncode, told[0].read_bytes(), told[1].read_bytes(), out.read_bytes() if out.exists() else b""
+        told = [(self.folder / name).read_bytes() for name in ("stdout", "stderr")]
+        return status, *told, out.read_bytes() if out.exists() else b""
 
     def counted(self, **calls):
         """The same, and how many growths, reads and writes there were."""
-        counts = self.folder / "counts"
-        answer = self.run(COUNTS=counts, **calls)
-        return answer, [int(count) for count in counts.read_text().split()]
+        answer = self.run(counted=1, **calls)
+        return answer, [int(count) for count in (self.folder / "counts").read_text().split()]
+
+    def end(self):
+        self.server.stdin.close()
+        self.server.wait()
+        self.server.stdout.close()
 
     def expect(self, is_right, answer, call):
         if not is_right:
@@ -126,26 +133,26 @@ class Runs:
     def refuse_growths(self):
         ample, (growths, _, _) = self.counted()
         for n in range(1, growths + 2):
-            answer = self.run(REFUSE_GROWTH=n)
+            answer = self.run(growth=n)
             want = (3, b"", b"fault: memory\n", b"")
             self.expect(answer == ample or (answer == want and n <= growths), answer, f"growth {n} of {growths}")
         return growths
 
     def fail_reads(self, ample, piece):
-        answer, (_, reads, _) = self.counted(PIECE=piece)
+        answer, (_, reads, _) = self.counted(piece=piece)
         self.expect(answer == ample, answer, f"pieces of {piece}")
         for n in range(1, reads + 1):
-            answer = self.run(PIECE=piece, FAIL_READ=n)
+            answer = self.run(piece=piece, read=n)
             self.expect(answer == (3, b"", b"fault: read\n", b""), answer, f"pieces of {piece}, read {n} of {reads}")
         return reads
 
     def fail_writes(self, ample, piece):
         _, stdout, _, out = ample
         sizes = [min(piece, len(text) - at) for text in (out, stdout) for at in range(0, len(text), piece)]
-        answer, (_, _, writes) = self.counted(PIECE=piece)
+        answer, (_, _, writes) = self.counted(piece=piece)
         self.expect(writes == len(sizes), answer, f"pieces of {piece}, {writes} writes and not {len(sizes)}")
         for n in range(1, writes + 1):
-            answer = self.run(PIECE=piece, FAIL_WRITE=n)
+            answer = self.run(piece=piece, write=n)
             written = sum(sizes[: n - 1])
             want = (3, stdout[: max(written - len(out), 0)], b"fault: write\n", out[:written])
             self.expect(answer == want, answer, f"pieces of {piece}, write {n} of {writes}")
@@ -166,6 +173,7 @@ def refuse_all(program, folder, words, growths_alone):
     pieces = () if growths_alone else PIECES
     reads = sum(runs.fail_reads(ample, piece) for piece in pieces)
     writes = sum(runs.fail_writes(ample, piece) for piece in pieces)
+    runs.end()
     return runs, (growths, reads, writes)
 
 

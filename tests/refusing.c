@@ -1,21 +1,31 @@
-/* Loaded before the program (LD_PRELOAD): one growth is refused, one read or write fails, or all of them move few bytes.
+/* Loaded before the program (LD_PRELOAD): it runs the program again and again, and in each run one growth is refused, one read or
+ * write fails, or all of them move few bytes.
  *
- *   REFUSE_GROWTH=N   call N of malloc and realloc, counted from 1 when main begins, answers no memory
- *   FAIL_READ=N       call N of read fails
- *   FAIL_WRITE=N      call N of write fails
- *   PIECE=P           reads and writes move at most P bytes a call
- *   COUNTS=FILE       at the end FILE holds how many growths, reads and writes there were
+ * It takes orders from standard input, a line of five numbers each:
+ *
+ *   GROWTH    this call of malloc and realloc, counted from 1 when main begins, answers no memory (0: none)
+ *   READ      this call of read fails (0: none)
+ *   WRITE     this call of write fails (0: none)
+ *   PIECE     reads and writes move at most so many bytes a call (0: as many as they are asked to)
+ *   COUNTED   not 0: at the end the file counts holds how many growths, reads and writes there were
+ *
+ * For each the program runs once, from the begin of main, with nothing on standard input and with standard output and standard error
+ * in the files stdout and stderr. Then its status, as wait gives it, goes to standard output in a line.
  *
  * It needs no header, so that a compiler alone builds it. */
 typedef unsigned long size;
 
 extern void *__libc_malloc(size);
 extern void *__libc_realloc(void *, size);
-extern char *getenv(const char *);
 extern int *__errno_location(void);
 extern long syscall(long, ...);
+extern int fork(void);
+extern int waitpid(int, int *, int);
+extern unsigned alarm(unsigned);
+extern void _exit(int);
 
-enum { READ = 0, WRITE = 1, OPEN = 2, CLOSE = 3, CREATE_ANEW = 01101, NO_MEMORY = 12, INPUT_OUTPUT = 5 };
+enum { READ = 0, WRITE = 1, OPEN = 2, CLOSE = 3, DUP2 = 33, READ_ALONE = 0, CREATE_ANEW = 01101, NO_MEMORY = 12, INPUT_OUTPUT = 5 };
+enum { MOST_SECONDS = 60 };
 
 struct calls {
     unsigned long made;
@@ -23,22 +33,15 @@ struct calls {
 };
 
 static int begun;
-static unsigned long piece;
+static unsigned long piece, counted;
 static struct calls growths, reads, writes;
 
-static unsigned long number(const char *name) {
+/* The number at a place of a line; the place is then behind it. */
+static unsigned long number(const char **at) {
     unsigned long n = 0;
-    const char *text = getenv(name);
-    while (text && *text) n = 10 * n + (unsigned long)(*text++ - '0');
+    while (**at == ' ') ++*at;
+    while (**at >= '0' && **at <= '9') n = 10 * n + (unsigned long)(*(*at)++ - '0');
     return n;
-}
-
-__attribute__((constructor)) static void begin(void) {
-    growths.at = number("REFUSE_GROWTH");
-    reads.at = number("FAIL_READ");
-    writes.at = number("FAIL_WRITE");
-    piece = number("PIECE");
-    begun = 1;
 }
 
 static char *put(char *end, unsigned long n) {
@@ -51,12 +54,47 @@ static char *put(char *end, unsigned long n) {
     return end;
 }
 
+static void stream(int number, const char *name, int how) {
+    long file = syscall(OPEN, name, how, 0600);
+    syscall(DUP2, file, number);
+    syscall(CLOSE, file);
+}
+
+static void begin(const char *order) {
+    growths.at = number(&order);
+    reads.at = number(&order);
+    writes.at = number(&order);
+    piece = number(&order);
+    counted = number(&order);
+    stream(0, "/dev/null", READ_ALONE);
+    stream(1, "stdout", CREATE_ANEW);
+    stream(2, "stderr", CREATE_ANEW);
+    alarm(MOST_SECONDS);
+    begun = 1;
+}
+
+/* Comes back in the process of each run, and nowhere else. */
+__attribute__((constructor)) static void serve(void) {
+    char order[120], answer[24];
+    for (;;) {
+        long length = syscall(READ, 0, order, sizeof order - 1);
+        if (length <= 0) _exit(0);
+        order[length] = 0;
+        if (fork() == 0) {
+            begin(order);
+            return;
+        }
+        int status = 0;
+        waitpid(-1, &status, 0);
+        syscall(WRITE, 1, answer, put(answer, (unsigned long)status) - answer);
+    }
+}
+
 __attribute__((destructor)) static void tell(void) {
-    const char *name = getenv("COUNTS");
-    if (!name) return;
+    if (!counted) return;
     char text[80];
     char *end = put(put(put(text, growths.made), reads.made), writes.made);
-    long file = syscall(OPEN, name, CREATE_ANEW, 0600);
+    long file = syscall(OPEN, "counts", CREATE_ANEW, 0600);
     syscall(WRITE, file, text, end - text);
     syscall(CLOSE, file);
 }
