@@ -24,14 +24,20 @@ fn first_of_row_1<R: Receiver>(receiver: &mut R) -> u8 {
     receiver.memory().rows()[1][0]
 }
 
+fn first_by_an_eager_one() -> u8 {
+    first_of_row_1(&mut Eager::new(page_100(), 2, holding_an_x(false)))
+}
+
+// The same by a careful one, in fields of so many slots.
+fn first_by_a_careful_one(lines: u8) -> u8 {
+    first_of_row_1(&mut Careful::new(page_100(), lines, holding_an_x(false)))
+}
+
 #[test]
 fn a_row_within_a_field_may_be_missed(rt: HostRuntime) {
-    let mut eager = Eager::new(page_100(), 2, holding_an_x(false));
-    assert!(rt; first_of_row_1(&mut eager) == 0x20);
-    let mut careful = Careful::new(page_100(), 2, holding_an_x(false));
-    assert!(rt; first_of_row_1(&mut careful) == 0x58);
-    let mut in_time = Careful::new(page_100(), 1, holding_an_x(false));
-    assert!(rt; first_of_row_1(&mut in_time) == 0x20);
+    assert!(rt; first_by_an_eager_one() == 0x20);
+    assert!(rt; first_by_a_careful_one(2) == 0x58);
+    assert!(rt; first_by_a_careful_one(1) == 0x20);
 }
 
 #[test]

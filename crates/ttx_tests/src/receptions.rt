@@ -15,14 +15,27 @@ fn received<R: Receiver>(receiver: &mut R) -> u8 {
     receiver.memory().rows()[1][0]
 }
 
+fn by_an_eager_one() -> u8 {
+    received(&mut Eager::new(page_100(), 2, holding_an_x(true)))
+}
+
+fn by_one_that_misses_the_row() -> u8 {
+    let mut misses = Scripted::new(page_100(), 2, holding_an_x(true), &[false, true]);
+    received(&mut misses)
+}
+
+fn by_a_careful_one() -> u8 {
+    received(&mut Careful::new(page_100(), 2, holding_an_x(true)))
+}
+
+fn by_one_that_clears() -> u8 {
+    received(&mut Cleared::new(page_100(), 2, holding_an_x(true)))
+}
+
 #[test]
 fn each_kind_receives(rt: HostRuntime) {
-    let mut eager = Eager::new(page_100(), 2, holding_an_x(true));
-    assert!(rt; received(&mut eager) == 0x20);
-    let mut misses = Scripted::new(page_100(), 2, holding_an_x(true), &[false, true]);
-    assert!(rt; received(&mut misses) == 0x58);
-    let mut careful = Careful::new(page_100(), 2, holding_an_x(true));
-    assert!(rt; received(&mut careful) == 0x20);
-    let mut cleared = Cleared::new(page_100(), 2, holding_an_x(true));
-    assert!(rt; received(&mut cleared) == 0x20);
+    assert!(rt; by_an_eager_one() == 0x20);
+    assert!(rt; by_one_that_misses_the_row() == 0x58);
+    assert!(rt; by_a_careful_one() == 0x20);
+    assert!(rt; by_one_that_clears() == 0x20);
 }
