@@ -6,7 +6,9 @@
 --   with_arguments           a command with arguments
 --   name_of, arguments_of, app_of_command              a command's name and arguments, and the command as `clap` reads it
 --   with_commands            a program with commands
-use Rattle.std.specs.Prelude.{Bool, true, false, List, [], ◌∷◌, fold, Option, Some, None, codes}
+--   named_in                 the first command of a name, or `inspect`
+use Rattle.std.specs.Prelude.{Bool, true, false, List, [], ◌∷◌, fold, Option, Some, None, codes, if◌then◌else◌}
+use Rattle.std.specs.Str.{bytes_eq}
 use Rattle.clap.specs.Words.{App, Rule, Text, new_app, new_rule, with_rule, with_subcommand}
 use Rattle.clap.specs.declared.builder.value_parser.ValueParser.{ValueParser}
 use Rattle.clap.specs.declared.builder.value_parser.ValueParser.TheVariants as parser
@@ -181,9 +183,11 @@ arguments_of command.Certify = argument.Cycle ∷ argument.Service ∷ argument.
 arguments_of command.Refute = argument.Cycle ∷ argument.Service ∷ argument.Certificate ∷ argument.Save ∷ []
 arguments_of command.Replay = argument.Cycle ∷ argument.Service ∷ argument.Counter ∷ []
 arguments_of command.Receive = argument.Cycle ∷ argument.Page ∷ argument.Lines ∷ argument.Start ∷ argument.Slots ∷ argument.Kind ∷ []
-arguments_of command.Show = argument.Cycle ∷ argument.Page ∷ argument.Lines ∷ argument.Start ∷ argument.Slots ∷ argument.Kind ∷ argument.Form ∷ argument.Reveal ∷ []
+arguments_of command.Show =
+    argument.Cycle ∷ argument.Page ∷ argument.Lines ∷ argument.Start ∷ argument.Slots ∷ argument.Kind ∷ argument.Form ∷ argument.Reveal ∷ []
 arguments_of command.Preview = argument.Service ∷ argument.Page ∷ argument.Form ∷ argument.Reveal ∷ []
-arguments_of command.Splice = argument.Old ∷ argument.New ∷ argument.OldService ∷ argument.NewService ∷ argument.OldCertificate ∷ argument.NewCertificate ∷ []
+arguments_of command.Splice =
+    argument.Old ∷ argument.New ∷ argument.OldService ∷ argument.NewService ∷ argument.OldCertificate ∷ argument.NewCertificate ∷ []
 arguments_of command.Wait = argument.Cycle ∷ argument.Service ∷ argument.Repeat ∷ argument.Class ∷ argument.Items ∷ []
 arguments_of command.Send = argument.Cycle ∷ argument.At ∷ argument.Fields ∷ argument.Lines ∷ argument.Phase ∷ argument.Offset ∷ []
 arguments_of command.Pages = argument.Cycle ∷ []
@@ -197,3 +201,7 @@ app_of_command names command = with_arguments names (arguments_of command) (new_
 
 abbrev pub with_commands : Names → List CommandName → App → App
 with_commands names commands app = fold (λ app command. with_subcommand app (app_of_command names command).top) app commands
+
+abbrev pub named_in : Text → List CommandName → CommandName
+named_in name [] = command.Inspect
+named_in name (command ∷ commands) = if bytes_eq name (name_of command) then command else named_in name commands
