@@ -1,2 +1,3 @@
 mod CommandLine
 mod Numerals
+mod Building

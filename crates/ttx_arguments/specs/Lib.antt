@@ -2,3 +2,4 @@ pub mod Grammar
 pub mod Orders
 pub mod PageNames
 pub mod Moments
+pub mod Arguments

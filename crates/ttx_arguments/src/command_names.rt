@@ -1,4 +1,10 @@
-//! The names of the commands.
+//! The commands.
+
+ghost use Rattle.std.specs.Prelude.{◌≡◌};
+ghost use Rattle.ttx_arguments.specs.Arguments.{name_of, arguments_of};
+
+use crate::arguments::Argument;
+use crate::help;
 
 /// A command by its name.
 #[derive(Clone, Copy)]
@@ -20,4 +26,186 @@ pub enum CommandName {
     Extract,
     Check,
     Version,
+}
+
+/// The commands, as help lists them.
+pub static COMMANDS: [CommandName; 17] = [
+    CommandName::Inspect,
+    CommandName::Plan,
+    CommandName::Find,
+    CommandName::Certify,
+    CommandName::Refute,
+    CommandName::Replay,
+    CommandName::Receive,
+    CommandName::Show,
+    CommandName::Preview,
+    CommandName::Splice,
+    CommandName::Wait,
+    CommandName::Send,
+    CommandName::Pages,
+    CommandName::Book,
+    CommandName::Extract,
+    CommandName::Check,
+    CommandName::Version,
+];
+
+impl CommandName {
+    /// Its name.
+    pub(crate) fn name<'a>(self) -> &'a str
+        ensures { result.now ≡ name_of self }
+    {
+        match self {
+            CommandName::Inspect => "inspect",
+            CommandName::Plan => "plan",
+            CommandName::Find => "find",
+            CommandName::Certify => "certify",
+            CommandName::Refute => "refute",
+            CommandName::Replay => "replay",
+            CommandName::Receive => "receive",
+            CommandName::Show => "show",
+            CommandName::Preview => "preview",
+            CommandName::Splice => "splice",
+            CommandName::Wait => "wait",
+            CommandName::Send => "send",
+            CommandName::Pages => "pages",
+            CommandName::Book => "book",
+            CommandName::Extract => "extract",
+            CommandName::Check => "check",
+            CommandName::Version => "version",
+        }
+    }
+
+    /// What help says of it above its arguments.
+    pub(crate) fn about<'a>(self) -> &'a str {
+        match self {
+            CommandName::Inspect => help::INSPECT,
+            CommandName::Plan => help::PLAN,
+            CommandName::Find => help::FIND,
+            CommandName::Certify => help::CERTIFY,
+            CommandName::Refute => help::REFUTE,
+            CommandName::Replay => help::REPLAY,
+            CommandName::Receive => help::RECEIVE,
+            CommandName::Show => help::SHOW,
+            CommandName::Preview => help::PREVIEW,
+            CommandName::Splice => help::SPLICE,
+            CommandName::Wait => help::WAIT,
+            CommandName::Send => help::SEND,
+            CommandName::Pages => help::PAGES,
+            CommandName::Book => help::BOOK,
+            CommandName::Extract => help::EXTRACT,
+            CommandName::Check => help::CHECK,
+            CommandName::Version => help::VERSION,
+        }
+    }
+
+    /// What help says of it below them.
+    pub(crate) fn after_help<'a>(self) -> &'a str {
+        match self {
+            CommandName::Inspect => help::INSPECT_MORE,
+            CommandName::Plan => help::PLAN_MORE,
+            CommandName::Find => help::FIND_MORE,
+            CommandName::Certify => help::CERTIFY_MORE,
+            CommandName::Refute => help::REFUTE_MORE,
+            CommandName::Replay => help::REPLAY_MORE,
+            CommandName::Receive => help::RECEIVE_MORE,
+            CommandName::Show => help::SHOW_MORE,
+            CommandName::Preview => help::PREVIEW_MORE,
+            CommandName::Splice => help::SPLICE_MORE,
+            CommandName::Wait => help::WAIT_MORE,
+            CommandName::Send => help::SEND_MORE,
+            CommandName::Pages => help::PAGES_MORE,
+            CommandName::Book => help::BOOK_MORE,
+            CommandName::Extract => help::EXTRACT_MORE,
+            CommandName::Check => help::CHECK_MORE,
+            CommandName::Version => help::VERSION_MORE,
+        }
+    }
+
+    /// Its arguments.
+    pub(crate) fn arguments<'a>(self) -> &'a [Argument]
+        ensures { result.now ≡ arguments_of self }
+    {
+        match self {
+            CommandName::Inspect => &[Argument::File],
+            CommandName::Plan => &[
+                Argument::Service,
+                Argument::Planned,
+                Argument::Class,
+                Argument::PlannedLate,
+            ],
+            CommandName::Find => &[
+                Argument::Cycle,
+                Argument::Service,
+                Argument::Found,
+                Argument::Repeat,
+                Argument::Class,
+            ],
+            CommandName::Certify => &[
+                Argument::Cycle,
+                Argument::Service,
+                Argument::Certificate,
+                Argument::Late,
+                Argument::Twice,
+            ],
+            CommandName::Refute => &[
+                Argument::Cycle,
+                Argument::Service,
+                Argument::Certificate,
+                Argument::Save,
+            ],
+            CommandName::Replay => &[Argument::Cycle, Argument::Service, Argument::Counter],
+            CommandName::Receive => &[
+                Argument::Cycle,
+                Argument::Page,
+                Argument::Lines,
+                Argument::Start,
+                Argument::Slots,
+                Argument::Kind,
+            ],
+            CommandName::Show => &[
+                Argument::Cycle,
+                Argument::Page,
+                Argument::Lines,
+                Argument::Start,
+                Argument::Slots,
+                Argument::Kind,
+                Argument::Form,
+                Argument::Reveal,
+            ],
+            CommandName::Preview => &[
+                Argument::Service,
+                Argument::Page,
+                Argument::Form,
+                Argument::Reveal,
+            ],
+            CommandName::Splice => &[
+                Argument::Old,
+                Argument::New,
+                Argument::OldService,
+                Argument::NewService,
+                Argument::OldCertificate,
+                Argument::NewCertificate,
+            ],
+            CommandName::Wait => &[
+                Argument::Cycle,
+                Argument::Service,
+                Argument::Repeat,
+                Argument::Class,
+                Argument::Items,
+            ],
+            CommandName::Send => &[
+                Argument::Cycle,
+                Argument::At,
+                Argument::Fields,
+                Argument::Lines,
+                Argument::Phase,
+                Argument::Offset,
+            ],
+            CommandName::Pages => &[Argument::Cycle],
+            CommandName::Book => &[Argument::Cycle, Argument::Book],
+            CommandName::Extract => &[Argument::Cycle, Argument::Extracted, Argument::NeededLines],
+            CommandName::Check => &[Argument::Service],
+            CommandName::Version => &[],
+        }
+    }
 }

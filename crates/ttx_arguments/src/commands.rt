@@ -1,10 +1,11 @@
 //! The orders of the commands.
 
-ghost use Rattle.std.specs.Prelude.{◌≡◌, [], ◌∷◌, if◌then◌else◌, nat_lt, count_by, codes};
+ghost use Rattle.std.specs.Prelude.{◌≡◌, nat_lt, count_by, codes};
 ghost use Rattle.std.specs.Str.{bytes_eq};
 ghost use Rattle.clap.specs.Words.{rows_of, found_of};
 ghost use Rattle.ttx_arguments.specs.Orders.{order_view, inspect_at, plan_at, find_at, certify_at, refute_at, replay_at, receive_at, show_at};
 ghost use Rattle.ttx_arguments.specs.Orders.{preview_at, splice_asked, wait_at, send_at, pages_at, book_at, extract_at, check_at, once, IsOrderOf};
+ghost use Rattle.ttx_arguments.specs.Orders.{text_at};
 
 use crate::moments::moment;
 use crate::orders::{
@@ -17,31 +18,17 @@ use crate::values::{
 };
 use clap::ArgMatches;
 
-fn is_standard(name: &str) -> bool
-    ensures { result ≡ bytes_eq name.now (codes "-") }
+// Whether more than one of these inputs is standard input.
+fn is_twice(values: &ArgMatches<'_>, inputs: &[&str]) -> bool
+    ensures { result ≡ nat_lt 1 (count_by (λ id. bytes_eq (text_at id.now (rows_of (found_of values.now))) (codes "-")) inputs.now) }
 {
-    name == "-"
-}
-
-// Whether more than one is true.
-fn are_both(first: bool, second: bool) -> bool
-    ensures { result ≡ nat_lt 1 (count_by (λ b. b) (first ∷ second ∷ [])) }
-{
-    first && second
-}
-
-// The same where the first counts again.
-fn has_two(first: bool, second: bool, third: bool, again: bool) -> bool
-    ensures { result ≡ nat_lt 1 (count_by (λ b. b) (first ∷ second ∷ third ∷ (if again then first ∷ [] else []))) }
-{
-    (first && (second || third || again)) || (second && third)
-}
-
-// Whether more than one of them is true.
-fn are_many(standard: &[bool]) -> bool
-    ensures { result ≡ nat_lt 1 (count_by (λ b. b) standard.now) }
-{
-    standard.iter().filter(|b| **b).count() > 1
+    let mut count: usize = 0;
+    for id in inputs {
+        if text_of(values, id) == "-" {
+            count += 1;
+        }
+    }
+    count > 1
 }
 
 pub(crate) fn receive_of<'a>(values: &ArgMatches<'a>) -> Result<Order<'a>, WordsFault>
@@ -116,9 +103,7 @@ fn find_order<'a>(values: &ArgMatches<'a>) -> Order<'a>
 pub(crate) fn find_of<'a>(values: &ArgMatches<'a>) -> Result<Order<'a>, WordsFault>
     ensures { IsOrderOf result (once (find_at (rows_of (found_of values.now)))) }
 {
-    let cycle = is_standard(text_of(values, "cycle"));
-    let service = is_standard(text_of(values, "service"));
-    if are_both(cycle, service) {
+    if is_twice(values, &["cycle", "service"]) {
         return Err(WordsFault::Twice);
     }
     Ok(find_order(values))
@@ -139,10 +124,12 @@ fn certify_order<'a>(values: &ArgMatches<'a>) -> Order<'a>
 pub(crate) fn certify_of<'a>(values: &ArgMatches<'a>) -> Result<Order<'a>, WordsFault>
     ensures { IsOrderOf result (once (certify_at (rows_of (found_of values.now)))) }
 {
-    let cycle = is_standard(text_of(values, "cycle"));
-    let service = is_standard(text_of(values, "service"));
-    let certificate = is_standard(text_of(values, "certificate"));
-    if has_two(cycle, service, certificate, is_set(values, "twice")) {
+    let inputs: &[&str] = if is_set(values, "twice") {
+        &["cycle", "service", "certificate", "cycle"]
+    } else {
+        &["cycle", "service", "certificate"]
+    };
+    if is_twice(values, inputs) {
         return Err(WordsFault::Twice);
     }
     Ok(certify_order(values))
@@ -162,12 +149,7 @@ fn refute_order<'a>(values: &ArgMatches<'a>) -> Order<'a>
 pub(crate) fn refute_of<'a>(values: &ArgMatches<'a>) -> Result<Order<'a>, WordsFault>
     ensures { IsOrderOf result (once (refute_at (rows_of (found_of values.now)))) }
 {
-    let standard = [
-        is_standard(text_of(values, "cycle")),
-        is_standard(text_of(values, "service")),
-        is_standard(text_of(values, "certificate")),
-    ];
-    if are_many(&standard) {
+    if is_twice(values, &["cycle", "service", "certificate"]) {
         return Err(WordsFault::Twice);
     }
     Ok(refute_order(values))
@@ -186,12 +168,7 @@ fn replay_order<'a>(values: &ArgMatches<'a>) -> Order<'a>
 pub(crate) fn replay_of<'a>(values: &ArgMatches<'a>) -> Result<Order<'a>, WordsFault>
     ensures { IsOrderOf result (once (replay_at (rows_of (found_of values.now)))) }
 {
-    let standard = [
-        is_standard(text_of(values, "cycle")),
-        is_standard(text_of(values, "service")),
-        is_standard(text_of(values, "counter")),
-    ];
-    if are_many(&standard) {
+    if is_twice(values, &["cycle", "service", "counter"]) {
         return Err(WordsFault::Twice);
     }
     Ok(replay_order(values))
@@ -213,15 +190,17 @@ fn splice_order<'a>(values: &ArgMatches<'a>) -> Order<'a>
 pub(crate) fn splice_of<'a>(values: &ArgMatches<'a>) -> Result<Order<'a>, WordsFault>
     ensures { IsOrderOf result (once (splice_asked (rows_of (found_of values.now)))) }
 {
-    let standard = [
-        is_standard(text_of(values, "old")),
-        is_standard(text_of(values, "new")),
-        is_standard(text_of(values, "old_service")),
-        is_standard(text_of(values, "new_service")),
-        is_standard(text_of(values, "old_certificate")),
-        is_standard(text_of(values, "new_certificate")),
-    ];
-    if are_many(&standard) {
+    if is_twice(
+        values,
+        &[
+            "old",
+            "new",
+            "old_service",
+            "new_service",
+            "old_certificate",
+            "new_certificate",
+        ],
+    ) {
         return Err(WordsFault::Twice);
     }
     Ok(splice_order(values))
@@ -242,9 +221,7 @@ fn wait_order<'a>(values: &ArgMatches<'a>) -> Order<'a>
 pub(crate) fn wait_of<'a>(values: &ArgMatches<'a>) -> Result<Order<'a>, WordsFault>
     ensures { IsOrderOf result (once (wait_at (rows_of (found_of values.now)))) }
 {
-    let cycle = is_standard(text_of(values, "cycle"));
-    let service = is_standard(text_of(values, "service"));
-    if are_both(cycle, service) {
+    if is_twice(values, &["cycle", "service"]) {
         return Err(WordsFault::Twice);
     }
     Ok(wait_order(values))

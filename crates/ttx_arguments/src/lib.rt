@@ -1,6 +1,7 @@
 //! The words after the name of the program `ttx`: what they ask for, and why they are refused.
 #![tactic(auto)]
 
+mod arguments;
 mod command_names;
 mod commands;
 mod grammar;

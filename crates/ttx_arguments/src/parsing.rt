@@ -4,9 +4,10 @@ ghost use Rattle.std.specs.Prelude.{◌≡◌, [], true, IfOk, IfErr, Some, Resu
 ghost use Rattle.clap.specs.Words.{rows_of, found_of, subcommand_rows_of, subcommand_of, fault_of};
 ghost use Rattle.ttx_arguments.specs.Grammar.{ttx_app};
 ghost use Rattle.ttx_arguments.specs.Orders.{OrderView, Unfit, command_named, order_by, order_at, IsOrderOf, AnswersBy, Answers, IsFaultOf};
-ghost use Rattle.ttx_arguments.specs.Orders.{IsRefusalOf, file_command_named, viewing_command_named};
+ghost use Rattle.ttx_arguments.specs.Orders.{IsRefusalOf};
+ghost use Rattle.ttx_arguments.specs.Arguments.{named_in};
 
-use crate::command_names::CommandName;
+use crate::command_names::{COMMANDS, CommandName};
 use crate::commands::{
     book_of, certify_of, check_of, extract_of, find_of, inspect_of, pages_of, plan_of, preview_of,
     receive_of, refute_of, replay_of, send_of, show_of, splice_of, wait_of,
@@ -17,66 +18,24 @@ use clap::ArgMatches;
 use clap::error::ErrorKind;
 use std::alloc::Global;
 
-// The command of this name, of those that take one file as it is, or none.
-#[tactic(auto, unfolding(crate::specs::Orders::file_command_named))]
-fn file_command_of(name: &str) -> CommandName
-    ensures { result ≡ file_command_named name.now }
+// The first of these commands that has this name, or `inspect`.
+fn named<'a>(commands: &[CommandName], name: &'a str) -> CommandName
+    ensures { result ≡ named_in name.now commands.now }
 {
-    if name == "send" {
-        CommandName::Send
-    } else if name == "pages" {
-        CommandName::Pages
-    } else if name == "book" {
-        CommandName::Book
-    } else if name == "extract" {
-        CommandName::Extract
-    } else if name == "check" {
-        CommandName::Check
-    } else if name == "version" {
-        CommandName::Version
-    } else {
-        CommandName::Inspect
+    for command in commands {
+        let own: &'a str = command.name();
+        if name == own {
+            return *command;
+        }
     }
-}
-
-// The command of this name, of those that tell what viewers get, or of these.
-#[tactic(auto, unfolding(crate::specs::Orders::viewing_command_named))]
-fn viewing_command_of(name: &str) -> CommandName
-    ensures { result ≡ viewing_command_named name.now }
-{
-    if name == "receive" {
-        CommandName::Receive
-    } else if name == "show" {
-        CommandName::Show
-    } else if name == "preview" {
-        CommandName::Preview
-    } else if name == "splice" {
-        CommandName::Splice
-    } else if name == "wait" {
-        CommandName::Wait
-    } else {
-        file_command_of(name)
-    }
+    CommandName::Inspect
 }
 
 // The command of this name; `clap` takes no others.
-#[tactic(auto, unfolding(crate::specs::Orders::command_named))]
 fn command_of(name: &str) -> CommandName
     ensures { result ≡ command_named name.now }
 {
-    if name == "plan" {
-        CommandName::Plan
-    } else if name == "find" {
-        CommandName::Find
-    } else if name == "certify" {
-        CommandName::Certify
-    } else if name == "refute" {
-        CommandName::Refute
-    } else if name == "replay" {
-        CommandName::Replay
-    } else {
-        viewing_command_of(name)
-    }
+    named(COMMANDS.as_slice(), name)
 }
 
 // The order of a command with its values.

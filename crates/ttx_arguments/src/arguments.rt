@@ -1,0 +1,222 @@
+//! The arguments of commands.
+
+ghost use Rattle.std.specs.Prelude.{◌≡◌};
+ghost use Rattle.ttx_arguments.specs.Arguments as rule;
+
+use crate::help;
+
+/// What an argument takes: it is an operand, or an option with any text, a number from low to high, a name of a list, or nothing.
+#[derive(Clone, Copy)]
+pub enum Takes {
+    Operand,
+    Text,
+    Number(u64, u64),
+    Kind,
+    Class,
+    Form,
+    Nothing,
+}
+
+/// An argument of a command.
+#[derive(Clone, Copy)]
+pub enum Argument {
+    File,
+    Cycle,
+    Service,
+    Certificate,
+    Counter,
+    Page,
+    Planned,
+    Found,
+    Book,
+    Extracted,
+    Old,
+    New,
+    OldService,
+    NewService,
+    OldCertificate,
+    NewCertificate,
+    Class,
+    Kind,
+    Form,
+    Repeat,
+    Lines,
+    NeededLines,
+    Start,
+    Slots,
+    Fields,
+    Phase,
+    Offset,
+    Save,
+    At,
+    PlannedLate,
+    Late,
+    Twice,
+    Reveal,
+    Items,
+}
+
+impl Argument {
+    /// Its name.
+    pub(crate) fn id<'a>(self) -> &'a str
+        ensures { result.now ≡ rule.id_of self }
+    {
+        match self {
+            Argument::File => "file",
+            Argument::Cycle => "cycle",
+            Argument::Service => "service",
+            Argument::Certificate => "certificate",
+            Argument::Counter => "counter",
+            Argument::Page => "page",
+            Argument::Planned | Argument::Found | Argument::Book | Argument::Extracted => "out",
+            Argument::Old => "old",
+            Argument::New => "new",
+            Argument::OldService => "old_service",
+            Argument::NewService => "new_service",
+            Argument::OldCertificate => "old_certificate",
+            Argument::NewCertificate => "new_certificate",
+            Argument::Class => "class",
+            Argument::Kind => "kind",
+            Argument::Form => "as",
+            Argument::Repeat => "repeat",
+            Argument::Lines | Argument::NeededLines => "lines",
+            Argument::Start => "start",
+            Argument::Slots => "slots",
+            Argument::Fields => "fields",
+            Argument::Phase => "phase",
+            Argument::Offset => "offset",
+            Argument::Save => "save",
+            Argument::At => "at",
+            Argument::PlannedLate | Argument::Late => "late",
+            Argument::Twice => "twice",
+            Argument::Reveal => "reveal",
+            Argument::Items => "items",
+        }
+    }
+
+    /// What help calls its value.
+    pub(crate) fn value_name<'a>(self) -> &'a str {
+        match self {
+            Argument::File => "FILE",
+            Argument::Cycle => "CYCLE",
+            Argument::Service => "SERVICE",
+            Argument::Certificate => "CERT",
+            Argument::Counter => "COUNTER",
+            Argument::Page => "PAGE",
+            Argument::Planned
+            | Argument::Found
+            | Argument::Book
+            | Argument::Extracted
+            | Argument::Save => "OUT",
+            Argument::Old => "OLD",
+            Argument::New => "NEW",
+            Argument::OldService => "OLDSERVICE",
+            Argument::NewService => "NEWSERVICE",
+            Argument::OldCertificate => "OLDCERT",
+            Argument::NewCertificate => "NEWCERT",
+            Argument::Class => "CLASS",
+            Argument::Kind => "KIND",
+            Argument::Form => "FORM",
+            Argument::Repeat => "K",
+            Argument::Lines | Argument::NeededLines => "L",
+            Argument::Start => "S",
+            Argument::Slots | Argument::Fields => "N",
+            Argument::Phase => "F",
+            Argument::Offset => "HALVES",
+            Argument::At => "MJD/HHMMSS",
+            Argument::PlannedLate
+            | Argument::Late
+            | Argument::Twice
+            | Argument::Reveal
+            | Argument::Items => "",
+        }
+    }
+
+    /// What help says of it.
+    pub(crate) fn help<'a>(self) -> &'a str {
+        match self {
+            Argument::File | Argument::Cycle => help::CYCLE_OPERAND,
+            Argument::Service => help::SERVICE_OPERAND,
+            Argument::Certificate => help::CERTIFICATE_OPERAND,
+            Argument::Counter => help::COUNTER_OPERAND,
+            Argument::Page => help::PAGE_OPERAND,
+            Argument::Planned => help::PLANNED_OPERAND,
+            Argument::Found => help::FOUND_OPERAND,
+            Argument::Book => help::BOOK_OPERAND,
+            Argument::Extracted => help::EXTRACTED_OPERAND,
+            Argument::Old => help::OLD_OPERAND,
+            Argument::New => help::NEW_OPERAND,
+            Argument::OldService => help::OLD_SERVICE_OPERAND,
+            Argument::NewService => help::NEW_SERVICE_OPERAND,
+            Argument::OldCertificate => help::OLD_CERTIFICATE_OPERAND,
+            Argument::NewCertificate => help::NEW_CERTIFICATE_OPERAND,
+            Argument::Class => help::CLASS_OPTION,
+            Argument::Kind => help::KIND_OPTION,
+            Argument::Form => help::FORM_OPTION,
+            Argument::Repeat => help::REPEAT_OPTION,
+            Argument::Lines => help::LINES_OPTION,
+            Argument::NeededLines => help::NEEDED_LINES_OPTION,
+            Argument::Start => help::START_OPTION,
+            Argument::Slots => help::SLOTS_OPTION,
+            Argument::Fields => help::FIELDS_OPTION,
+            Argument::Phase => help::PHASE_OPTION,
+            Argument::Offset => help::OFFSET_OPTION,
+            Argument::Save => help::SAVE_OPTION,
+            Argument::At => help::AT_OPTION,
+            Argument::PlannedLate => help::PLANNED_LATE_OPTION,
+            Argument::Late => help::LATE_OPTION,
+            Argument::Twice => help::TWICE_OPTION,
+            Argument::Reveal => help::REVEAL_OPTION,
+            Argument::Items => help::ITEMS_OPTION,
+        }
+    }
+
+    /// What it takes.
+    pub(crate) fn takes(self) -> Takes
+        ensures { result ≡ rule.takes_of self }
+    {
+        match self {
+            Argument::File
+            | Argument::Cycle
+            | Argument::Service
+            | Argument::Certificate
+            | Argument::Counter
+            | Argument::Page
+            | Argument::Planned
+            | Argument::Found
+            | Argument::Book
+            | Argument::Extracted
+            | Argument::Old
+            | Argument::New
+            | Argument::OldService
+            | Argument::NewService
+            | Argument::OldCertificate
+            | Argument::NewCertificate => Takes::Operand,
+            Argument::Class => Takes::Class,
+            Argument::Kind => Takes::Kind,
+            Argument::Form => Takes::Form,
+            Argument::Repeat => Takes::Number(1, 8),
+            Argument::Lines | Argument::NeededLines => Takes::Number(1, 32),
+            Argument::Start => Takes::Number(0, 65_535),
+            Argument::Slots => Takes::Number(0, 1_000_000),
+            Argument::Fields | Argument::Phase => Takes::Number(0, 4_294_967_295),
+            Argument::Offset => Takes::Number(0, 47),
+            Argument::Save | Argument::At => Takes::Text,
+            Argument::PlannedLate
+            | Argument::Late
+            | Argument::Twice
+            | Argument::Reveal
+            | Argument::Items => Takes::Nothing,
+        }
+    }
+
+    /// Whether it has to be there.
+    pub(crate) fn is_needed(self) -> bool
+        ensures { result ≡ rule.is_needed self }
+    {
+        match self {
+            Argument::At | Argument::Fields | Argument::NeededLines => true,
+            _ => false,
+        }
+    }
+}
