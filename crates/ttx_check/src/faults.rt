@@ -6,7 +6,7 @@ ghost use Rattle.ttx_check.specs.Checking.{check_fault};
 use ttx_cycle::{TextFault, WriteFault};
 
 /// Why a service text isn't checked.
-#[derive(Clone, Copy, PartialEq, Eq)]
+#[derive(Clone, Copy)]
 pub enum CheckFault {
     /// A read failed.
     Read,

@@ -3,7 +3,7 @@
 use ttx_header::PageId;
 
 /// What in a service that is read is likely a mistake.
-#[derive(Clone, Copy, PartialEq, Eq)]
+#[derive(Clone, Copy)]
 pub enum Warning {
     /// The page to show first isn't in the service.
     DeadInitial,
