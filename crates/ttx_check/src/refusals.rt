@@ -66,11 +66,34 @@ fn push_meant(
 }
 
 // The text of a place: the line and the column, where there are any, and the name.
-fn place_text(alloc: Global, position: Option<Position>, name: &str) -> Result<String, AllocError> {
-    match position {
-        Some(Position { line, column }) => format!(in alloc; "line {line} column {column}{name}"),
+fn place_text(
+    alloc: Global,
+    bytes: &[u8],
+    place: Option<usize>,
+    name: &str,
+) -> Result<String, AllocError> {
+    match place {
+        Some(place) => {
+            let Position { line, column } = position_of(bytes, place);
+            format!(in alloc; "line {line} column {column}{name}")
+        }
         None => String::from_str(alloc, name.trim_start()),
     }
+}
+
+// The line of a fault at a place.
+fn line_of(
+    alloc: Global,
+    bytes: &[u8],
+    place: Option<usize>,
+    spot: &Spot,
+    fault: SourceFault,
+) -> Result<String, AllocError>
+    ensures { IfOk result (λ line. IsErrorLine (fault_of fault) (string_bytes line)) }
+{
+    let mut line = place_text(alloc, bytes, place, spot.name.as_str())?;
+    push_fault(&mut line, fault, spot.detail.as_str())?;
+    Ok(line)
 }
 
 /// The line of a fault of a text. Its place is only tested.
@@ -79,8 +102,5 @@ pub fn error_line(alloc: Global, bytes: &[u8], error: &SourceError) -> Result<St
 {
     let mut spot = Spot::new(alloc);
     let place = push_meant(alloc, &mut spot, bytes, error)?;
-    let position = place.map(|place| position_of(bytes, place));
-    let mut line = place_text(alloc, position, spot.name.as_str())?;
-    push_fault(&mut line, error.fault, spot.detail.as_str())?;
-    Ok(line)
+    line_of(alloc, bytes, place, &spot, error.fault)
 }

@@ -166,25 +166,50 @@ fn push_bad_link(path: &mut String, page: &Table) -> Result<(), AllocError> {
     path.push_str("/links")
 }
 
+// Adds the path to the number of a page, or to a link that is none.
+fn push_bad_number(path: &mut String, page: &Table) -> Result<(), AllocError> {
+    if is_number(text_or(page, "number", "")) {
+        push_bad_link(path, page)
+    } else {
+        path.push_str("/number")
+    }
+}
+
+// Adds the path to the subcode of a page, or to a link that is none.
+fn push_bad_subcode(path: &mut String, page: &Table) -> Result<(), AllocError> {
+    if is_subcode(text_or(page, "sub", "0000")) {
+        push_bad_link(path, page)
+    } else {
+        path.push_str("/sub")
+    }
+}
+
+// Adds the path to a key whose value is of another kind; in `rows` and `links` to the value.
+fn push_bad_kind(path: &mut String, page: &Table, key: &str) -> Result<(), AllocError> {
+    match key {
+        "rows" => push_bad_text(path, page),
+        "links" => push_bad_link(path, page),
+        _ => push_both(path, "/", key),
+    }
+}
+
+// Adds the path to a key whose value is out of range; in `rows` to the key that is.
+fn push_bad_range(path: &mut String, page: &Table, key: &str) -> Result<(), AllocError> {
+    match table_at(page, key) {
+        Some(rows) => push_bad_key(path, rows),
+        None => push_both(path, "/", key),
+    }
+}
+
 // Adds the path in the table of a page to what a fault means: none where a key is missing.
 fn push_part(path: &mut String, page: &Table, fault: SourceFault) -> Result<(), AllocError> {
     match fault {
         SourceFault::Missing { .. } => Ok(()),
-        SourceFault::RowTooLong | SourceFault::Character | SourceFault::Kind { key: "rows" } => {
-            push_bad_text(path, page)
-        }
-        SourceFault::Range { key: "rows" } => match table_at(page, "rows") {
-            Some(rows) => push_bad_key(path, rows),
-            None => path.push_str("/rows"),
-        },
-        SourceFault::PageNumber if !is_number(text_or(page, "number", "")) => path.push_str(
-            "/number",
-        ),
-        SourceFault::Subcode if !is_subcode(text_or(page, "sub", "0000")) => path.push_str("/sub"),
-        SourceFault::PageNumber | SourceFault::Subcode | SourceFault::Kind { key: "links" } => {
-            push_bad_link(path, page)
-        }
-        SourceFault::Kind { key } | SourceFault::Range { key } => push_both(path, "/", key),
+        SourceFault::Kind { key } => push_bad_kind(path, page, key),
+        SourceFault::Range { key } => push_bad_range(path, page, key),
+        SourceFault::PageNumber => push_bad_number(path, page),
+        SourceFault::Subcode => push_bad_subcode(path, page),
+        SourceFault::RowTooLong | SourceFault::Character => push_bad_text(path, page),
         SourceFault::Often => path.push_str("/often"),
         SourceFault::Duplicate | SourceFault::NotToml | SourceFault::NoMemory => path.push_str(
             "/number",
