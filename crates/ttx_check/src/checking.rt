@@ -23,8 +23,15 @@ pub fn check<R: Read, W: Write>(
         (λ bytes. Checks bytes (W.contents (inner_of writer.old)) (W.contents (inner_of writer.new)) result) }
     ensures faults { CountsCheck result (faults_of reader.old) (faults_of reader.new) (faults_of writer.old) (faults_of writer.new) }
 {
-    let text = read_text(alloc, reader, MOST_BYTES).map_err(CheckFault::from_text)?;
-    let report = report(alloc, text.as_slice()).map_err(|_| CheckFault::NoMemory)?;
-    write_bytes(writer, report.text.as_bytes()).map_err(CheckFault::from_write)?;
-    Ok(report.status)
+    let text = match read_text(alloc, reader, MOST_BYTES) {
+        Ok(text) => text,
+        Err(fault) => return Err(CheckFault::from_text(fault)),
+    };
+    let Ok(report) = report(alloc, text.as_slice()) else {
+        return Err(CheckFault::NoMemory);
+    };
+    match write_bytes(writer, report.text.as_bytes()) {
+        Ok(()) => Ok(report.status),
+        Err(fault) => Err(CheckFault::from_write(fault)),
+    }
 }

@@ -6,7 +6,7 @@ use itoa::Buffer;
 use std::alloc::{AllocError, Global};
 
 // What is awaited.
-#[derive(Clone, Copy, PartialEq, Eq)]
+#[derive(Clone, Copy)]
 enum Awaited {
     /// A key, or a part of one.
     Key,
@@ -75,9 +75,14 @@ impl<'a> Walk<'a> {
         self.push_part(Buffer::new().format(number).as_bytes())
     }
 
-    // A part of a key or of the name of a table. Below `page` the name of a table goes through the latest page.
-    fn take_part(&mut self, part: &[u8]) -> Result<(), AllocError> {
-        if self.awaited != Awaited::Key && self.path.as_slice() == b"/page".as_slice() {
+    // Whether the path is that of the tables `[[page]]`.
+    fn is_at_pages(&self) -> bool {
+        is_path(self.path.as_slice(), "/page")
+    }
+
+    // A part of the name of a table. Below `page` it goes through the latest page.
+    fn take_name(&mut self, part: &[u8]) -> Result<(), AllocError> {
+        if self.is_at_pages() {
             self.push_number(self.pages)?;
         }
         self.push_part(part)
@@ -85,7 +90,8 @@ impl<'a> Walk<'a> {
 
     fn take_word(&mut self, word: &[u8], place: usize) -> Result<(), AllocError> {
         match self.awaited {
-            Awaited::Key | Awaited::Name(_) => self.take_part(word),
+            Awaited::Key => self.push_part(word),
+            Awaited::Name(_) => self.take_name(word),
             Awaited::Value => {
                 self.note(place);
                 self.awaited = Awaited::Next;
@@ -95,14 +101,17 @@ impl<'a> Walk<'a> {
         }
     }
 
-    fn open(&mut self, place: usize, element: Option<usize>) -> Result<(), AllocError> {
-        self.note(place);
+    // An element of an array, or a key of an inline table.
+    fn begin_element(&mut self, element: Option<usize>) -> Result<(), AllocError> {
         self.levels.push(Level {
             path: self.path.len(),
             element,
         })?;
         match element {
-            Some(number) => self.push_number(number),
+            Some(number) => {
+                self.awaited = Awaited::Value;
+                self.push_number(number)
+            }
             None => {
                 self.awaited = Awaited::Key;
                 Ok(())
@@ -110,11 +119,16 @@ impl<'a> Walk<'a> {
         }
     }
 
+    fn open(&mut self, place: usize, element: Option<usize>) -> Result<(), AllocError> {
+        self.note(place);
+        self.begin_element(element)
+    }
+
     fn close(&mut self) {
         if let Some(level) = self.levels.pop() {
             self.path.truncate(level.path);
+            self.awaited = Awaited::Next;
         }
-        self.awaited = Awaited::Next;
     }
 
     // The next element of an array, or the next key of an inline table.
@@ -124,20 +138,8 @@ impl<'a> Walk<'a> {
         };
         self.path.truncate(level.path);
         match level.element {
-            Some(number) => {
-                let number = number.saturating_add(1);
-                self.awaited = Awaited::Value;
-                self.levels.push(Level {
-                    path: level.path,
-                    element: Some(number),
-                })?;
-                self.push_number(number)
-            }
-            None => {
-                self.awaited = Awaited::Key;
-                self.levels.push(level)?;
-                Ok(())
-            }
+            Some(number) => self.begin_element(Some(number.saturating_add(1))),
+            None => self.begin_element(None),
         }
     }
 
@@ -149,7 +151,7 @@ impl<'a> Walk<'a> {
     }
 
     fn end_name(&mut self, brackets: u8) -> Result<(), AllocError> {
-        if brackets > 1 && self.path.as_slice() == b"/page".as_slice() {
+        if brackets > 1 && self.is_at_pages() {
             self.pages = self.pages.saturating_add(1);
             self.push_number(self.pages)?;
         }
@@ -166,31 +168,27 @@ impl<'a> Walk<'a> {
         }
     }
 
+    // A mark that changes what is awaited, and adds nothing to the path.
+    fn take_sign(&mut self, mark: u8, place: usize) {
+        match (self.awaited, mark) {
+            (Awaited::Key, b'[') => self.begin_name(place),
+            (Awaited::Name(_), b'[') => self.awaited = Awaited::Name(2),
+            (Awaited::Key, b'=') => self.awaited = Awaited::Value,
+            (_, b']' | b'}') => self.close(),
+            _ => {}
+        }
+    }
+
     fn take_mark(&mut self, mark: u8, place: usize) -> Result<(), AllocError> {
         match (self.awaited, mark) {
-            (Awaited::Key, b'[') => {
-                self.begin_name(place);
-                Ok(())
-            }
-            (Awaited::Name(_), b'[') => {
-                self.awaited = Awaited::Name(2);
-                Ok(())
-            }
             (Awaited::Name(brackets), b']') => self.end_name(brackets),
-            (Awaited::Key, b'=') => {
-                self.awaited = Awaited::Value;
-                Ok(())
-            }
             (Awaited::Value, b'[') => self.open(place, Some(1)),
             (Awaited::Value, b'{') => self.open(place, None),
             (Awaited::Next, b',') => self.next_element(),
-            (_, b']' | b'}') => {
-                if !self.levels.is_empty() {
-                    self.close();
-                }
+            _ => {
+                self.take_sign(mark, place);
                 Ok(())
             }
-            _ => Ok(()),
         }
     }
 

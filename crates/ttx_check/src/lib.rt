@@ -15,6 +15,7 @@ mod rows;
 mod service_warnings;
 mod spots;
 mod tallies;
+mod texts;
 mod tokens;
 mod traffic;
 mod unknown_keys;

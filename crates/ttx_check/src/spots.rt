@@ -1,8 +1,9 @@
 //! Which value or key of a service text a fault means.
 
+use crate::texts::push_both;
 use std::alloc::{AllocError, Global};
 use toml::{Table, Value};
-use ttx_digits::{first_number, four_digits};
+use ttx_digits::{first_number, four_digits, id, push_decimal};
 use ttx_links::Target;
 use ttx_source::{SourceError, SourceFault};
 
@@ -11,7 +12,8 @@ static ROWS: [&str; 24] = [
     "18", "19", "20", "21", "22", "23", "24",
 ];
 
-static KEYS_OF_SERVICE: [&str; 4] = ["lines", "serial", "info", "page"];
+// What the parts of a page are called, by how the paths to them begin.
+static PART_NAMES: [(&str, &str); 3] = [("/rows/", " row "), ("/links/", " link "), ("/", " ")];
 
 /// What a fault means: the path to it in the text, its name for people, and what is said in detail.
 #[derive(Drop)]
@@ -21,25 +23,26 @@ pub struct Spot {
     pub detail: String,
 }
 
-// A part of the table of a page.
-#[derive(Clone, Copy)]
-enum Part<'a> {
-    /// The table, where the key is missing.
-    Missing(&'a str),
-    Key(&'a str),
-    Row(&'a str),
-    /// A link, counted from 1.
-    Link(usize),
+impl Spot {
+    pub fn new(alloc: Global) -> Spot {
+        Spot {
+            path: String::new(alloc),
+            name: String::new(alloc),
+            detail: String::new(alloc),
+        }
+    }
 }
 
-fn is_one_of(names: &[&str], key: &str) -> bool {
-    names.iter().any(|name| *name == key)
+fn is_row_number(key: &str) -> bool {
+    ROWS.iter().any(|number| *number == key)
 }
 
-fn text_at<'a>(table: &'a Table, key: &str) -> Option<&'a str> {
+// The text at a key: this one where the key is missing, and none where its value is no text.
+fn text_or<'a>(table: &'a Table, key: &str, missing: &'a str) -> &'a str {
     match table.get(key) {
-        Some(value) => value.as_str(),
-        None => None,
+        Some(Value::String(text)) => text.as_str(),
+        Some(_) => "",
+        None => missing,
     }
 }
 
@@ -50,13 +53,18 @@ fn table_at<'a>(table: &'a Table, key: &str) -> Option<&'a Table> {
     }
 }
 
+// The text at a key of an inner table, or none.
+fn inner_text<'a>(table: &'a Table, inner: &str, key: &str) -> &'a str {
+    match table_at(table, inner) {
+        Some(inner) => text_or(inner, key, ""),
+        None => "",
+    }
+}
+
 fn values_at<'a>(table: &'a Table, key: &str) -> &'a [Value] {
     match table.get(key) {
-        Some(value) => match value.as_array() {
-            Some(values) => values.as_slice(),
-            None => &[],
-        },
-        None => &[],
+        Some(Value::Array(values)) => values.as_slice(),
+        _ => &[],
     }
 }
 
@@ -87,234 +95,222 @@ fn is_subcode(text: &str) -> bool {
 
 // Whether a text is nothing, MPP or MPP/SSSS.
 fn is_link(text: &str) -> bool {
-    let bytes = text.as_bytes();
-    if bytes.len() == 0 || is_number(text) {
-        return true;
-    }
-    if bytes.len() != 8 || bytes[3] != b'/' {
-        return false;
-    }
-    match (first_number(bytes), four_digits(bytes, 4)) {
-        (Some((mag, page)), Some(sub)) => Target::new(mag, page, sub).is_some(),
-        _ => false,
+    match id(text.as_bytes()) {
+        Some((mag, page, sub)) => page != 0xff && Target::new(mag, page, sub).is_some(),
+        None => text.is_empty() || is_number(text),
     }
 }
 
 fn is_link_value(value: &Value) -> bool {
-    match value.as_str() {
-        Some(text) => is_link(text),
+    match value {
+        Value::String(text) => is_link(text.as_str()),
+        _ => false,
+    }
+}
+
+// Whether the value at a key, if there is one, is no text, or one that is too long or has a character that can't be sent.
+fn is_bad_at(table: &Table, key: &str, most: usize) -> bool {
+    match table.get(key) {
+        Some(Value::String(text)) => {
+            text.as_str().chars().count() > most || !text.as_str().is_ascii()
+        }
+        Some(_) => true,
         None => false,
     }
 }
 
-// Whether a value is a text that a row takes.
-fn is_row(value: &Value) -> bool {
-    match value.as_str() {
-        Some(text) => text.chars().count() <= 40 && text.is_ascii(),
-        None => false,
-    }
-}
-
-// The first row that isn't one.
-fn bad_row(rows: &Table) -> Option<&'static str> {
+// Adds the path to the first of these rows that is bad, or to the rows.
+fn push_bad_row(path: &mut String, rows: &Table) -> Result<(), AllocError> {
     for number in ROWS.as_slice() {
-        if let Some(value) = rows.get(*number) {
-            if !is_row(value) {
-                return Some(*number);
-            }
+        if is_bad_at(rows, *number, 40) {
+            return push_both(path, "/rows/", *number);
         }
     }
-    None
+    path.push_str("/rows")
 }
 
-// The first key of rows that isn't the number of one.
-fn bad_row_key(rows: &Table) -> Option<&str> {
+// Adds the path to the first text of `head` and `rows` that is bad, or to the rows.
+fn push_bad_text(path: &mut String, page: &Table) -> Result<(), AllocError> {
+    if is_bad_at(page, "head", 24) {
+        return path.push_str("/head");
+    }
+    match table_at(page, "rows") {
+        Some(rows) => push_bad_row(path, rows),
+        None => path.push_str("/rows"),
+    }
+}
+
+// Adds the path to the first key of rows that isn't the number of one, or to the rows.
+fn push_bad_key(path: &mut String, rows: &Table) -> Result<(), AllocError> {
     for (key, _value) in rows.iter() {
-        if !is_one_of(ROWS.as_slice(), key.as_str()) {
-            return Some(key.as_str());
+        if !is_row_number(key.as_str()) {
+            return push_both(path, "/rows/", key.as_str());
         }
     }
-    None
+    path.push_str("/rows")
 }
 
-// The first link that isn't one, or the links.
-fn bad_link<'a>(page: &Table) -> Part<'a> {
+// Adds the path to a link, counted from 1.
+fn push_link(path: &mut String, number: usize) -> Result<(), AllocError> {
+    path.push_str("/links/")?;
+    push_decimal(path, number)
+}
+
+// Adds the path to the first link that isn't one, or to the links.
+fn push_bad_link(path: &mut String, page: &Table) -> Result<(), AllocError> {
     for (index, value) in values_at(page, "links").iter().enumerate() {
         if !is_link_value(value) {
-            return Part::Link(index.saturating_add(1));
+            return push_link(path, index.saturating_add(1));
         }
     }
-    Part::Key("links")
+    path.push_str("/links")
 }
 
-// The first text of `head` and `rows` that is too long or has a character that can't be sent, or the rows.
-fn bad_text<'a>(page: &Table) -> Part<'a> {
-    if let Some(head) = text_at(page, "head") {
-        if head.chars().count() > 24 || !head.is_ascii() {
-            return Part::Key("head");
-        }
-    }
-    match table_at(page, "rows") {
-        Some(rows) => match bad_row(rows) {
-            Some(number) => Part::Row(number),
-            None => Part::Key("rows"),
-        },
-        None => Part::Key("rows"),
+// Adds the path to the number of a page, or to a link that is none.
+fn push_bad_number(path: &mut String, page: &Table) -> Result<(), AllocError> {
+    if is_number(text_or(page, "number", "")) {
+        push_bad_link(path, page)
+    } else {
+        path.push_str("/number")
     }
 }
 
-// The number of the page, or a link.
-fn bad_number<'a>(page: &Table) -> Part<'a> {
-    match text_at(page, "number") {
-        Some(text) if is_number(text) => bad_link(page),
-        _ => Part::Key("number"),
+// Adds the path to the subcode of a page, or to a link that is none.
+fn push_bad_subcode(path: &mut String, page: &Table) -> Result<(), AllocError> {
+    if is_subcode(text_or(page, "sub", "0000")) {
+        push_bad_link(path, page)
+    } else {
+        path.push_str("/sub")
     }
 }
 
-// The subcode of the page, or a link.
-fn bad_subcode<'a>(page: &Table) -> Part<'a> {
-    match text_at(page, "sub") {
-        Some(text) if !is_subcode(text) => Part::Key("sub"),
-        _ => bad_link(page),
-    }
-}
-
-// The key of rows that is none, or the rows.
-fn bad_rows(page: &Table) -> Part<'_> {
-    match table_at(page, "rows") {
-        Some(rows) => match bad_row_key(rows) {
-            Some(key) => Part::Row(key),
-            None => Part::Key("rows"),
-        },
-        None => Part::Key("rows"),
-    }
-}
-
-// A key whose value is of another kind; in `rows` and `links` the value.
-fn bad_kind<'a>(page: &Table, key: &'a str) -> Part<'a> {
+// Adds the path to a key whose value is of another kind; in `rows` and `links` to the value.
+fn push_bad_kind(path: &mut String, page: &Table, key: &str) -> Result<(), AllocError> {
     match key {
-        "rows" => bad_text(page),
-        "links" => bad_link(page),
-        _ => Part::Key(key),
+        "rows" => push_bad_text(path, page),
+        "links" => push_bad_link(path, page),
+        _ => push_both(path, "/", key),
     }
 }
 
-// The part of a page's table that a fault means.
-fn part_of<'a>(page: &'a Table, fault: SourceFault) -> Part<'a> {
+// Adds the path to a key whose value is out of range; in `rows` to the key that is.
+fn push_bad_range(path: &mut String, page: &Table, key: &str) -> Result<(), AllocError> {
+    match table_at(page, key) {
+        Some(rows) => push_bad_key(path, rows),
+        None => push_both(path, "/", key),
+    }
+}
+
+// Adds the path in the table of a page to what a fault means: none where a key is missing.
+fn push_part(path: &mut String, page: &Table, fault: SourceFault) -> Result<(), AllocError> {
     match fault {
-        SourceFault::Missing { key } => Part::Missing(key),
-        SourceFault::Kind { key } => bad_kind(page, key),
-        SourceFault::Range { key: "rows" } => bad_rows(page),
-        SourceFault::Range { key } => Part::Key(key),
-        SourceFault::PageNumber => bad_number(page),
-        SourceFault::Subcode => bad_subcode(page),
-        SourceFault::RowTooLong | SourceFault::Character => bad_text(page),
-        SourceFault::Often => Part::Key("often"),
-        SourceFault::Duplicate | SourceFault::NotToml | SourceFault::NoMemory => Part::Key(
-            "number",
+        SourceFault::Missing { .. } => Ok(()),
+        SourceFault::Kind { key } => push_bad_kind(path, page, key),
+        SourceFault::Range { key } => push_bad_range(path, page, key),
+        SourceFault::PageNumber => push_bad_number(path, page),
+        SourceFault::Subcode => push_bad_subcode(path, page),
+        SourceFault::RowTooLong | SourceFault::Character => push_bad_text(path, page),
+        SourceFault::Often => path.push_str("/often"),
+        SourceFault::Duplicate | SourceFault::NotToml | SourceFault::NoMemory => path.push_str(
+            "/number",
         ),
     }
 }
 
-// Adds the name of a page: its id where it has one, else its number in order.
-fn push_page_name(text: &mut String, page: &Table, number: usize) -> Result<(), AllocError> {
-    let sub = match page.get("sub") {
-        None => Some("0000"),
-        Some(value) => value.as_str(),
-    };
-    match (text_at(page, "number"), sub) {
-        (Some(mpp), Some(sub)) if is_number(mpp) && is_subcode(sub) => {
-            write!(text, " page {mpp}/{sub}")
+// Adds the path to a part of a page.
+fn push_page_path(path: &mut String, order: usize, part: &str) -> Result<(), AllocError> {
+    path.push_str("/page/")?;
+    push_decimal(path, order)?;
+    path.push_str(part)
+}
+
+// Adds the id of a page, or where it has none its number in order.
+fn push_page_id(name: &mut String, page: &Table, order: usize) -> Result<(), AllocError> {
+    let number = text_or(page, "number", "");
+    let sub = text_or(page, "sub", "0000");
+    if !is_number(number) || !is_subcode(sub) {
+        return push_decimal(name, order);
+    }
+    push_both(name, number, "/")?;
+    name.push_str(sub)
+}
+
+// Adds the name of a part of a page by the path to it: nothing where there is none.
+fn push_part_name(name: &mut String, part: &str) -> Result<(), AllocError> {
+    for (start, words) in PART_NAMES.as_slice() {
+        if let Some(key) = part.strip_prefix(*start) {
+            return push_both(name, *words, key);
         }
-        _ => write!(text, " page {number}"),
     }
+    Ok(())
 }
 
-fn push_part_name(text: &mut String, part: Part<'_>) -> Result<(), AllocError> {
-    match part {
-        Part::Missing(_) => Ok(()),
-        Part::Key(key) => write!(text, " {key}"),
-        Part::Row(key) => write!(text, " row {key}"),
-        Part::Link(number) => write!(text, " link {number}"),
-    }
-}
-
-fn push_part_path(text: &mut String, part: Part<'_>) -> Result<(), AllocError> {
-    match part {
-        Part::Missing(_) => Ok(()),
-        Part::Key(key) => write!(text, "/{key}"),
-        Part::Row(key) => write!(text, "/rows/{key}"),
-        Part::Link(number) => write!(text, "/links/{number}"),
-    }
+// Adds the name of a part of a page, with that of the page.
+fn push_page_name(
+    name: &mut String,
+    page: &Table,
+    order: usize,
+    part: &str,
+) -> Result<(), AllocError> {
+    name.push_str(" page ")?;
+    push_page_id(name, page, order)?;
+    push_part_name(name, part)
 }
 
 // Adds how many characters a text has, and how many fit.
-fn push_count(detail: &mut String, text: Option<&str>, most: usize) -> Result<(), AllocError> {
-    match text {
-        Some(text) => {
-            let count = text.chars().count();
-            write!(detail, ": {count} characters, {most} fit")
-        }
-        None => Ok(()),
+fn push_count(detail: &mut String, text: &str, most: usize) -> Result<(), AllocError> {
+    let count = text.chars().count();
+    write!(detail, ": {count} characters, {most} fit")
+}
+
+// Adds those of a text of a page that is too long.
+fn push_page_count(
+    detail: &mut String,
+    page: &Table,
+    part: &str,
+    fault: SourceFault,
+) -> Result<(), AllocError> {
+    if !matches!(fault, SourceFault::RowTooLong) {
+        return Ok(());
+    }
+    match part.strip_prefix("/rows/") {
+        Some(number) => push_count(detail, inner_text(page, "rows", number), 40),
+        None => push_count(detail, text_or(page, "head", ""), 24),
     }
 }
 
 // Adds what the words of a fault say after their first colon, which is what a key takes.
 fn push_taken(alloc: Global, detail: &mut String, fault: SourceFault) -> Result<(), AllocError> {
-    match fault {
-        SourceFault::Missing { .. } | SourceFault::Kind { .. } | SourceFault::Range { .. } => {}
-        _ => return Ok(()),
-    }
-    let words = format!(in alloc; "{fault}")?;
-    match words.as_str().split_once(": ") {
-        Some((_before, taken)) => {
-            detail.push_str(": ")?;
-            detail.push_str(taken)
+    let words = match fault {
+        SourceFault::Missing { .. } | SourceFault::Kind { .. } | SourceFault::Range { .. } => {
+            format!(in alloc; "{fault}")?
         }
+        _ => return Ok(()),
+    };
+    match words.as_str().split_once(": ") {
+        Some((_before, taken)) => push_both(detail, ": ", taken),
         None => Ok(()),
     }
 }
 
-// The text of a part, and how many characters fit.
-fn part_text<'a>(page: &'a Table, part: Part<'_>) -> (Option<&'a str>, usize) {
-    match part {
-        Part::Row(key) => match table_at(page, "rows") {
-            Some(rows) => (text_at(rows, key), 40),
-            None => (None, 40),
-        },
-        Part::Key(key) => (text_at(page, key), 24),
-        _ => (None, 0),
-    }
-}
-
-fn page_spot(
+fn push_page_spot(
     alloc: Global,
+    spot: &mut Spot,
     page: &Table,
-    number: usize,
-    fault: SourceFault,
-) -> Result<Spot, AllocError> {
-    let part = part_of(page, fault);
-    let mut path = String::new(alloc);
-    write!(&mut path, "/page/{number}")?;
-    push_part_path(&mut path, part)?;
-    let mut name = String::new(alloc);
-    push_page_name(&mut name, page, number)?;
-    push_part_name(&mut name, part)?;
-    let mut detail = String::new(alloc);
-    push_taken(alloc, &mut detail, fault)?;
-    if fault == SourceFault::RowTooLong {
-        let (text, most) = part_text(page, part);
-        push_count(&mut detail, text, most)?;
-    }
-    Ok(Spot { path, name, detail })
+    error: &SourceError,
+) -> Result<(), AllocError> {
+    let mut part = String::new(alloc);
+    push_part(&mut part, page, error.fault)?;
+    push_page_path(&mut spot.path, error.page, part.as_str())?;
+    push_page_name(&mut spot.name, page, error.page, part.as_str())?;
+    push_page_count(&mut spot.detail, page, part.as_str(), error.fault)
 }
 
 // The key outside pages that a fault means.
 fn service_key(fault: SourceFault) -> &'static str {
     match fault {
-        SourceFault::Missing { key } => key,
-        SourceFault::Kind { key } => key,
-        SourceFault::Range { key } => key,
+        SourceFault::Missing { key } | SourceFault::Kind { key } | SourceFault::Range { key } =>
+            key,
         SourceFault::PageNumber | SourceFault::Subcode => "initial",
         SourceFault::RowTooLong | SourceFault::Character => "text",
         SourceFault::Often | SourceFault::Duplicate => "page",
@@ -322,43 +318,55 @@ fn service_key(fault: SourceFault) -> &'static str {
     }
 }
 
-// Adds the path to a key outside pages.
+// Whether a key stands in the table of the service, and not in `info`.
+fn is_service_key(key: &str) -> bool {
+    matches!(key, "lines" | "serial" | "info" | "page")
+}
+
+// Adds the path to a key outside pages, or where it is missing to its table.
 fn push_service_path(path: &mut String, key: &str, fault: SourceFault) -> Result<(), AllocError> {
-    if !is_one_of(KEYS_OF_SERVICE.as_slice(), key) {
+    if !is_service_key(key) {
         path.push_str("/info")?;
     }
     match fault {
         SourceFault::Missing { .. } => Ok(()),
-        _ => write!(path, "/{key}"),
+        _ => push_both(path, "/", key),
     }
 }
 
-fn service_spot(alloc: Global, table: &Table, fault: SourceFault) -> Result<Spot, AllocError> {
-    let key = service_key(fault);
-    let mut path = String::new(alloc);
-    push_service_path(&mut path, key, fault)?;
-    let mut name = String::new(alloc);
-    if is_one_of(KEYS_OF_SERVICE.as_slice(), key) {
-        write!(&mut name, " {key}")?;
+// Adds the name of a key outside pages.
+fn push_service_name(name: &mut String, key: &str) -> Result<(), AllocError> {
+    if is_service_key(key) {
+        push_both(name, " ", key)
     } else {
-        write!(&mut name, " info {key}")?;
+        push_both(name, " info ", key)
     }
-    let mut detail = String::new(alloc);
-    push_taken(alloc, &mut detail, fault)?;
-    if fault == SourceFault::RowTooLong {
-        let text = match table_at(table, "info") {
-            Some(info) => text_at(info, "text"),
-            None => None,
-        };
-        push_count(&mut detail, text, 20)?;
-    }
-    Ok(Spot { path, name, detail })
 }
 
-/// What the fault of a text with this table means.
-pub fn spot_of(alloc: Global, table: &Table, error: &SourceError) -> Result<Spot, AllocError> {
+fn push_service_spot(spot: &mut Spot, table: &Table, fault: SourceFault) -> Result<(), AllocError> {
+    let key = service_key(fault);
+    push_service_path(&mut spot.path, key, fault)?;
+    push_service_name(&mut spot.name, key)?;
+    match fault {
+        SourceFault::RowTooLong => push_count(
+            &mut spot.detail,
+            inner_text(table, "info", "text"),
+            20,
+        ),
+        _ => Ok(()),
+    }
+}
+
+/// Adds what the fault of a text with this table means.
+pub fn push_spot(
+    alloc: Global,
+    spot: &mut Spot,
+    table: &Table,
+    error: &SourceError,
+) -> Result<(), AllocError> {
+    push_taken(alloc, &mut spot.detail, error.fault)?;
     match page_table(table, error.page) {
-        Some(page) => page_spot(alloc, page, error.page, error.fault),
-        None => service_spot(alloc, table, error.fault),
+        Some(page) => push_page_spot(alloc, spot, page, error),
+        None => push_service_spot(spot, table, error.fault),
     }
 }

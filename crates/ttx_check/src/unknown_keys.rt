@@ -10,6 +10,7 @@ ghost use Rattle.ttx_page.specs.Views.{page_of};
 ghost use Rattle.ttx_check.specs.UnknownKeys as rule;
 ghost use Rattle.ttx_check.specs.WarningLines.{page_text};
 
+use crate::texts::push_both;
 use crate::warning_lines::push_place;
 use std::alloc::{AllocError, Global};
 use strsim::levenshtein;
@@ -121,14 +122,13 @@ fn push_shown(text: &mut String, key: &str) -> Result<(), AllocError>
 }
 
 // Adds the name that is meant.
-fn push_meant(text: &mut String, name: Option<&str>) -> Result<(), AllocError>
-    ensures { OnOk result (string_bytes text.new ≡ string_bytes text.old ++ rule.meant_text (option_map (λ n. n.now) name.entry)) }
+fn push_meant(alloc: Global, text: &mut String, names: &[&str], key: &str) -> Result<(), AllocError>
+    ensures { OnOk result (string_bytes text.new ≡ string_bytes text.old ++ rule.meant_text (rule.meant (map (λ n. n.now) names.now) key.now)) }
 {
-    match name {
+    match meant(alloc, key, names)? {
         None => Ok(()),
         Some(name) => {
-            text.push_str(": is it ")?;
-            text.push_str(name)?;
+            push_both(text, ": is it ", name)?;
             text.push('?')
         }
     }
@@ -145,12 +145,10 @@ fn push_key_line(
 ) -> Result<(), AllocError>
     ensures { OnOk result (string_bytes text.new ≡ string_bytes text.old ++ rule.key_line place.now (map (λ n. n.now) names.now) key.now) }
 {
-    let name = meant(alloc, key, names)?;
-    text.push_str("warning ")?;
-    text.push_str(place)?;
+    push_both(text, "warning ", place)?;
     text.push_str(": no key ")?;
     push_shown(text, key)?;
-    push_meant(text, name)?;
+    push_meant(alloc, text, names, key)?;
     text.push('\n')
 }
 

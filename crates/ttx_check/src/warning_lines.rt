@@ -7,7 +7,7 @@ ghost use Rattle.ttx_check.specs.WarningLines.{warning_lines};
 
 use crate::warning::Warning;
 use std::alloc::AllocError;
-use ttx_certificate::push_id;
+use ttx_digits::{push_decimal, push_id};
 use ttx_header::PageId;
 
 // What is said of warnings, after their places.
@@ -26,6 +26,8 @@ const NO_BOX: &str = ": a newsflash or subtitle without a box shows nothing";
 const BEHIND_SUBPAGE: &str =
     ": sent directly behind another subpage, which receivers that show late then miss, but for plan --late";
 
+const BEHIND_ITSELF: &str = ": often doesn't help: it is sent directly behind itself ";
+
 const MOST_TRAFFIC: &str =
     ": it has more than half of all packets: serial = false would shorten the wait";
 
@@ -37,14 +39,27 @@ pub(crate) fn push_place(text: &mut String, page: PageId) -> Result<(), AllocErr
     push_id(text, page)
 }
 
+// Adds a number between two texts.
+fn push_counted(
+    text: &mut String,
+    before: &str,
+    number: usize,
+    after: &str,
+) -> Result<(), AllocError>
+    ensures { OnOk result (string_bytes text.new ≡ string_bytes text.old ++ before.now ++ decimal number ++ after.now) }
+{
+    text.push_str(before)?;
+    push_decimal(text, number)?;
+    text.push_str(after)
+}
+
 // Adds the place of a row, and what is said of it.
 #[tactic(auto, unfolding(crate::specs::WarningLines::row_text))]
 fn push_row(text: &mut String, page: PageId, row: u8, says: &str) -> Result<(), AllocError>
     ensures { OnOk result (string_bytes text.new ≡ string_bytes text.old ++ row_text page row ++ says.now) }
 {
     push_place(text, page)?;
-    write!(text, " row {row}")?;
-    text.push_str(says)
+    push_counted(text, " row ", usize::from(row), says)
 }
 
 // Adds the place of a page, and what is said of it.
@@ -60,7 +75,7 @@ fn push_link(text: &mut String, page: PageId, link: usize) -> Result<(), AllocEr
     ensures { OnOk result (string_bytes text.new ≡ string_bytes text.old ++ dead_link_text page link) }
 {
     push_place(text, page)?;
-    write!(text, " link {link}: the service has no such page")
+    push_counted(text, " link ", link, ": the service has no such page")
 }
 
 #[tactic(auto, unfolding(crate::specs::WarningLines::itself_text))]
@@ -68,8 +83,7 @@ fn push_itself(text: &mut String, page: PageId, times: usize) -> Result<(), Allo
     ensures { OnOk result (string_bytes text.new ≡ string_bytes text.old ++ itself_text page times) }
 {
     push_place(text, page)?;
-    text.push_str(": often doesn't help: it is sent directly behind itself ")?;
-    write!(text, "{times} times")
+    push_counted(text, BEHIND_ITSELF, times, " times")
 }
 
 // Adds the place of a magazine, and what is said of it.
@@ -77,8 +91,7 @@ fn push_itself(text: &mut String, page: PageId, times: usize) -> Result<(), Allo
 fn push_magazine(text: &mut String, mag: u8, says: &str) -> Result<(), AllocError>
     ensures { OnOk result (string_bytes text.new ≡ string_bytes text.old ++ magazine_text mag ++ says.now) }
 {
-    write!(text, "magazine {mag}")?;
-    text.push_str(says)
+    push_counted(text, "magazine ", usize::from(mag), says)
 }
 
 // Adds what is said of a warning.
