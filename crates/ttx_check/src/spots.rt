@@ -34,7 +34,7 @@ impl Spot {
 }
 
 fn is_row_number(key: &str) -> bool {
-    ROWS.iter().any(|number| *number == key)
+    ROWS.contains(&key)
 }
 
 // The text at a key: this one where the key is missing, and none where its value is no text.
