@@ -6,10 +6,13 @@
 --   with_arguments           a command with arguments
 --   name_of, arguments_of, app_of_command              a command's name and arguments, and the command as `clap` reads it
 --   with_commands            a program with commands
+--   IsBuiltAs                a command that is built of one
 --   named_in                 the first command of a name, or `inspect`
-use Rattle.std.specs.Prelude.{Bool, true, false, List, [], ◌∷◌, fold, Option, Some, None, codes, if◌then◌else◌}
+use Rattle.std.specs.Prelude.{◌≡◌, Bool, true, false, List, [], ◌∷◌, fold, Option, Some, None, codes, if◌then◌else◌}
 use Rattle.std.specs.Str.{bytes_eq}
-use Rattle.clap.specs.Words.{App, Rule, Text, new_app, new_rule, with_rule, with_subcommand}
+use Rattle.clap.specs.Words.{App, Rule, Text, app_of, new_app, new_rule, with_rule, with_subcommand}
+use Rattle.clap.specs.declared.builder.command.Command.{Command}
+use Rattle.clap.specs.declared.builder.command.Command.TheViews.{out-Command}
 use Rattle.clap.specs.declared.builder.value_parser.ValueParser.{ValueParser}
 use Rattle.clap.specs.declared.builder.value_parser.ValueParser.TheVariants as parser
 use Rattle.ttx_arguments.specs.Grammar.{operand_rule, flag_rule}
@@ -201,6 +204,9 @@ app_of_command names command = with_arguments names (arguments_of command) (new_
 
 abbrev pub with_commands : Names → List CommandName → App → App
 with_commands names commands app = fold (λ app command. with_subcommand app (app_of_command names command).top) app commands
+
+abbrev pub IsBuiltAs : Command → App → Type 0
+IsBuiltAs c app = (app_of c ≡ app) × ((out-Command c).has_globals ≡ false)
 
 abbrev pub named_in : Text → List CommandName → CommandName
 named_in name [] = command.Inspect

@@ -1,10 +1,10 @@
 //! The commands and their arguments, as `clap` reads them.
 
 ghost use Rattle.std.specs.Prelude.{◌≡◌, false};
-ghost use Rattle.clap.specs.Words.{App, rule_of, with_rule, with_subcommand};
+ghost use Rattle.clap.specs.Words.{rule_of};
 ghost use Rattle.ttx_arguments.specs.Grammar as rule;
 ghost use Rattle.ttx_arguments.specs.Grammar.{AreNames, Builds, bare_app, ttx_app};
-ghost use Rattle.ttx_arguments.specs.Arguments.{id_of, is_needed, parser_taking, option_rule, rule_of_argument, with_arguments, with_commands};
+ghost use Rattle.ttx_arguments.specs.Arguments.{id_of, is_needed, parser_taking, option_rule, rule_of_argument, app_of_command, with_commands};
 
 use crate::arguments::{Argument, Takes};
 use crate::command_names::{COMMANDS, CommandName};
@@ -12,9 +12,8 @@ use crate::help;
 use clap::builder::ValueParser;
 use clap::{Arg, ArgAction, Command};
 use std::alloc::{AllocError, Global};
-use std::mem;
 
-// A command that is being put together: what adds to one leaves want of memory in its place.
+// A command, where memory doesn't run out.
 type Building<'a> = Result<Command<'a>, AllocError>;
 
 /// The names that `--kind`, `--class` and `--as` take.
@@ -75,56 +74,18 @@ fn argument_of<'a>(alloc: Global, argument: Argument, names: Names<'a>) -> Arg<'
     }
 }
 
-fn add_argument<'a>(command: &mut Building<'a>, argument: Arg<'a>)
-    requires { argument.global ≡ false }
-    ensures { (app : App) → Builds command.old app → Builds command.new (with_rule app (rule_of argument.entry)) }
+// A command with its arguments.
+fn command_of<'a>(alloc: Global, name: CommandName, names: Names<'a>) -> Building<'a>
+    ensures { Builds result (app_of_command names.entry name) }
 {
-    if let Ok(whole) = mem::replace(command, Err(AllocError)) {
-        *command = whole.arg(argument);
-    }
-}
-
-fn add_arguments<'a>(
-    alloc: Global,
-    command: &mut Building<'a>,
-    arguments: &[Argument],
-    names: Names<'a>,
-)
-    ensures { (app : App) → Builds command.old app → Builds command.new (with_arguments names.entry arguments.now app) }
-{
+    let arguments = name.arguments();
+    let mut command = Command::new(alloc, name.name())
+        .about(name.about())
+        .after_help(name.after_help());
     for argument in arguments {
-        add_argument(command, argument_of(alloc, *argument, names));
+        command = command.arg(argument_of(alloc, *argument, names))?;
     }
-}
-
-fn add_command<'a>(command: &mut Building<'a>, below: Building<'a>)
-    ensures { (app sub : App) → Builds command.old app → Builds below.entry sub → Builds command.new (with_subcommand app sub.top) }
-{
-    let Ok(whole) = mem::replace(command, Err(AllocError)) else {
-        return;
-    };
-    if let Ok(below) = below {
-        *command = whole.subcommand(below);
-    }
-}
-
-fn add_commands<'a>(
-    alloc: Global,
-    ttx: &mut Building<'a>,
-    commands: &[CommandName],
-    names: Names<'a>,
-)
-    ensures { (app : App) → Builds ttx.old app → Builds ttx.new (with_commands names.entry commands.now app) }
-{
-    for name in commands {
-        let mut command = Ok(
-            Command::new(alloc, name.name())
-                .about(name.about())
-                .after_help(name.after_help()),
-        );
-        add_arguments(alloc, &mut command, name.arguments(), names);
-        add_command(ttx, command);
-    }
+    Ok(command)
 }
 
 // `ttx` alone, which is given the words after its name.
@@ -161,6 +122,17 @@ pub(crate) fn form_names<'a>() -> &'a [&'a str]
     &["text", "ansi", "svg", "html"]
 }
 
+// `ttx` with these commands.
+fn with_commands<'a>(alloc: Global, commands: &[CommandName], names: Names<'a>) -> Building<'a>
+    ensures { Builds result (with_commands names.entry commands.now bare_app) }
+{
+    let mut ttx = bare(alloc)?;
+    for name in commands {
+        ttx = ttx.subcommand(command_of(alloc, *name, names)?)?;
+    }
+    Ok(ttx)
+}
+
 /// `ttx` with its commands, and the names that `--kind`, `--class` and `--as` take.
 pub(crate) fn ttx<'a>(
     alloc: Global,
@@ -170,12 +142,10 @@ pub(crate) fn ttx<'a>(
 ) -> Building<'a>
     ensures { Builds result (ttx_app kinds.entry classes.entry forms.entry) }
 {
-    let mut ttx = bare(alloc);
     let names = Names {
         kinds,
         classes,
         forms,
     };
-    add_commands(alloc, &mut ttx, COMMANDS.as_slice(), names);
-    ttx
+    with_commands(alloc, COMMANDS.as_slice(), names)
 }

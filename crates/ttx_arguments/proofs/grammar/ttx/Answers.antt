@@ -11,4 +11,4 @@ pub returns : goal.returns
 returns c =
     let names : Names = record { kinds = c.args.kinds; classes = c.args.classes; forms = c.args.forms } in
     let same = ap (λ (list : List CommandName). with_commands names list bare_app) c.as_slice.ensures ∙ all_commands names in
-    subst (λ (a : App). Builds c.add_commands.new.ttx a) same (c.add_commands.ensures bare_app c.bare-ttx.ensures)
+    subst (λ (a : App). Builds c.with_commands.result a) same c.with_commands.ensures
