@@ -5,14 +5,14 @@ ghost use Rattle.ttx_tool.specs.FilesFaults.{tool_fault};
 
 use ttx_certify::{FilesFault, TextFile};
 use ttx_counter::CounterFault;
-use ttx_cycle::{CycleFault, WriteFault};
+use ttx_cycle::CycleFault;
 use ttx_extract::ExtractFault;
 use ttx_plan::PlanFault;
 use ttx_source::SourceError;
 use ttx_witness::CertFault;
 
 /// Why the text of a counter-run isn't read.
-#[derive(Clone, Copy, PartialEq, Eq)]
+#[derive(Clone, Copy)]
 pub enum CounterFileFault {
     /// A read failed.
     Read,
@@ -24,7 +24,7 @@ pub enum CounterFileFault {
 
 /// Why a command fails. The numbers of faults: 1 `Cycle`, 2 `Service`, 3 `Certificate`, 4 `Read`, 5 `TooLong`, 6 `Write`,
 /// 7 `NoMemory`, 8 `Plan`, 9 `Class`, 10 `Same`, 11 `Counter`.
-#[derive(Clone, Copy, PartialEq, Eq)]
+#[derive(Clone, Copy)]
 pub enum ToolFault {
     /// 1. The packet file isn't read.
     Cycle(CycleFault),
@@ -52,7 +52,7 @@ pub enum ToolFault {
 }
 
 /// Why `extract` writes nothing. The refusals of a cycle stand apart from all other faults.
-#[derive(Clone, Copy, PartialEq, Eq)]
+#[derive(Clone, Copy)]
 pub enum ExtractionFault {
     /// The cycle isn't read, a write failed, or a growth was refused.
     Tool(ToolFault),
@@ -73,15 +73,6 @@ impl ToolFault {
             FilesFault::TooLong { which } => ToolFault::TooLong { which },
             FilesFault::Write { written } => ToolFault::Write { written },
             FilesFault::NoMemory => ToolFault::NoMemory,
-        }
-    }
-
-    // The same fault of a command that wrote nothing else.
-    pub(crate) fn from_write(fault: WriteFault) -> ToolFault
-        ensures { result ≡ ToolFault.Write fault.written }
-    {
-        ToolFault::Write {
-            written: fault.written,
         }
     }
 }
