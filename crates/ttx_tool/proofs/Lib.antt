@@ -9,7 +9,7 @@ mod PlannedFiles
 mod TooLong
 mod ThreeInputs
 mod ServiceIds
-mod WaitInputs
 mod ExtractInputs
 mod ReplayInputs
-mod ShownMemory
+mod ReadingBoth
+mod ShownFile

@@ -1,5 +1,5 @@
 -- A slot of the kind of a page header is readable as one.
-use Rattle.std.proofs.Common.{◌≡◌, ℕ, ◌==◌, ◌&&◌, List, [], ◌∷◌, length, Bool, true, false, Option, Some, None, nat_le, if◌then◌else◌, is_some}
+use Rattle.std.proofs.Common.{◌≡◌, ℕ, ◌==◌, ◌&&◌, List, [], ◌∷◌, length, Bool, true, false, Option, Some, None, nat_le, is_some}
 use Rattle.std.proofs.Common.{unwrap_or, slice_index, slice_range, refl, sym, ap, ◌∙◌, subst, arith}
 use Rattle.std.proofs.lemmas.Bool.{and_from, cond_both}
 use Rattle.ttx_code.specs.Words.{reading}

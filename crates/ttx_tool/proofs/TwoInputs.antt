@@ -1,22 +1,30 @@
--- What is found once the cycle and the service are read.
-use Rattle.std.proofs.Common.{◌≡◌, ℕ, List, Option, Some, None}
+-- What is told once the cycle and the service are read.
+use Rattle.std.proofs.Common.{ℕ, List, Option, Some, None}
 use Rattle.std.specs.Prelude.{IfSome}
 use Rattle.ttx_certify.specs.CertifyingFiles.{IsServiceText}
-use Rattle.ttx_cycle.specs.Files.{IsCycle, file_of}
+use Rattle.ttx_cycle.specs.Files.{IsPacketFile}
 use Rattle.ttx_page.specs.declared.class.Class.{Class}
 use Rattle.ttx_source.specs.Services.{ServiceFields}
 use Rattle.ttx_tool.specs.FindingFiles.{IsFoundAndTold, IsFinding}
+use Rattle.ttx_tool.specs.WaitingFiles.{IsWaitOf, IsWaiting}
+use Rattle.ttx_wait.specs.declared.reports.Detail.{Detail}
 
-module _ (slots : List (List ℕ)) (service : ServiceFields) (is_cycle : IsCycle slots) (repeat : ℕ) (class : Class) (file line : List ℕ) (status : ℕ)
-    (told : IsFoundAndTold slots service repeat class file line status) where
-  pub found_of : (a b : Option (List ℕ)) → IfSome a (λ x. x ≡ file_of slots) → IfSome b (λ y. IsServiceText y service) →
+-- what follows of two inputs whose bytes are known
+pub lifted : (P Q : List ℕ → List ℕ → Type 0) (a b : Option (List ℕ)) → ((x y : List ℕ) → P x y → Q x y) → IfSome a (λ x. IfSome b (λ y. P x y)) →
+    IfSome a (λ x. IfSome b (λ y. Q x y))
+lifted P Q (Some a) (Some b) f h = f a b h
+lifted P Q (Some a) None f h = tt
+lifted P Q None b f h = tt
+
+module _ (slots : List (List ℕ)) (service : ServiceFields) (repeat : ℕ) (class : Class) (status : ℕ) (a b : Option (List ℕ))
+    (read : IfSome a (λ x. IfSome b (λ y. IsPacketFile x slots × IsServiceText y service))) where
+  pub found_of : (file line : List ℕ) → IsFoundAndTold slots service repeat class file line status →
       IfSome a (λ x. IfSome b (λ y. IsFinding x y repeat class file line status))
-  found_of (Some a) (Some b) p q = record {
-    slots = slots;
-    service = service;
-    cycle_is = record { is_cycle = is_cycle; same = p };
-    service_is = q;
-    told = told;
-  }
-  found_of (Some a) None p q = tt
-  found_of None b p q = tt
+  found_of file line told = lifted (λ x y. IsPacketFile x slots × IsServiceText y service) (λ x y. IsFinding x y repeat class file line status) a b
+      (λ x y is. record { slots = slots; service = service; cycle_is = is.0; service_is = is.1; told = told }) read
+
+  pub waiting_of : (detail : Detail) (text : List ℕ) → IsWaitOf slots service repeat class detail text status →
+      IfSome a (λ x. IfSome b (λ y. IsWaiting x y repeat class detail text status))
+  waiting_of detail text told = lifted (λ x y. IsPacketFile x slots × IsServiceText y service)
+      (λ x y. IsWaiting x y repeat class detail text status) a b
+      (λ x y is. record { slots = slots; service = service; cycle_is = is.0; service_is = is.1; told = told }) read

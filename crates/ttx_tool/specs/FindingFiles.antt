@@ -4,7 +4,7 @@
 --   TellsDeadline, TellsNo, TellsFound    what goes out where there is a deadline, and where there is none
 --   TellsVerdict            the same, whatever the verdict
 --   IsFoundAndTold, IsFinding    what is found of a cycle and a service, and of their texts, and what goes out
---   IsNoFinding, FindsText    why nothing is found; what is answered
+--   IsNoFinding, ReadsBoth, FindsText    why nothing is found; what is read of both, what is answered
 --   FindsFiles              what was written to the certificate's file and to the output, at each answer
 --   CountsInputs, CountsFind        faults of devices are answered only where they were counted
 use Rattle.std.specs.Prelude.{◌≡◌, ℕ, List, [], ◌∷◌, ◌++◌, length, codes, string_bytes, ⊤, Option, Some, None, Result, Ok, Err}
@@ -17,14 +17,16 @@ use Rattle.ttx_certify.specs.Verdicts.{IsVerdict}
 use Rattle.ttx_certify.specs.declared.verdict.Verdict.{Verdict}
 use Rattle.ttx_certify.specs.declared.verdict.Verdict.TheVariants.{No}
 use Rattle.ttx_cycle.specs.Counts.{HasRisen}
+use Rattle.ttx_cycle.specs.Cycles.{slots_of}
 use Rattle.ttx_cycle.specs.Reading.{Judged}
 use Rattle.ttx_cycle.specs.declared.faults.CycleFault.TheVariants as cycle
 use Rattle.ttx_page.specs.declared.class.Class.{Class}
 use Rattle.ttx_source.specs.Services.{ServiceFields, pages_of}
 use Rattle.ttx_tool.specs.Planning.{IsNoText, WritesBoth, CountsBoth}
 use Rattle.ttx_tool.specs.declared.commands.finding.Told.{Told}
+use Rattle.ttx_tool.specs.declared.commands.inputs.Inputs.{Inputs}
 use Rattle.ttx_tool.specs.declared.faults.ToolFault.{ToolFault}
-use Rattle.ttx_tool.specs.declared.faults.ToolFault.TheVariants.{Cycle, Read, Write, NoMemory}
+use Rattle.ttx_tool.specs.declared.faults.ToolFault.TheVariants.{Cycle, Read, Write, NoMemory, Counter}
 use Rattle.ttx_witness.specs.CertificateTexts.{certificate_text}
 use Rattle.ttx_witness.specs.Entries.{CertificateFields, IsCertificateFields, certificate_at}
 use Rattle.ttx_witness.specs.finding.Finding.{IsFoundFor}
@@ -77,6 +79,11 @@ IsNoFinding a b (Cycle fault) = Judged a (Err fault)
 IsNoFinding a b NoMemory = ⊤
 IsNoFinding a b fault = (slots : List (List ℕ)) × IsPacketFile a slots × IsNoText b fault
 
+-- the two inputs, once they are read
+abbrev pub ReadsBoth : List ℕ → List ℕ → Result Inputs ToolFault → Type 0
+ReadsBoth a b (Ok inputs) = IsPacketFile a (slots_of inputs.cycle) × IsServiceText b inputs.service
+ReadsBoth a b (Err fault) = IsNoFinding a b fault
+
 abbrev pub FindsText : List ℕ → List ℕ → ℕ → Class → Result Told ToolFault → Type 0
 FindsText a b repeat class (Ok told) = IsFinding a b repeat class told.file.items (string_bytes told.line) told.status
 FindsText a b repeat class (Err fault) = IsNoFinding a b fault
@@ -96,6 +103,7 @@ abbrev pub CountsInputs : {T : Type 0} → Result T ToolFault → ℕ → ℕ �
 CountsInputs (Err (Cycle cycle.Read)) cycle_old cycle_new service_old service_new = HasRisen cycle_old cycle_new
 CountsInputs (Err (Read which)) cycle_old cycle_new service_old service_new = HasRisen service_old service_new
 CountsInputs (Err (Write written)) cycle_old cycle_new service_old service_new = ⊥
+CountsInputs (Err (Counter fault)) cycle_old cycle_new service_old service_new = ⊥
 CountsInputs result cycle_old cycle_new service_old service_new = ⊤
 
 -- and those of all four

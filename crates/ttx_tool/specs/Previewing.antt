@@ -19,7 +19,7 @@ use Rattle.ttx_tool.specs.Planning.{IsNoText}
 use Rattle.ttx_tool.specs.Showing.{no_page_line}
 use Rattle.ttx_tool.specs.declared.faults.ToolFault.{ToolFault}
 use Rattle.ttx_tool.specs.declared.faults.ToolFault.TheVariants.{Read, Write}
-use Rattle.ttx_tool.specs.declared.commands.previewing.Told.{Told}
+use Rattle.ttx_tool.specs.declared.commands.writing.Told.{Told}
 use Rattle.ttx_arguments.specs.declared.orders.Look.{Look}
 
 abbrev pub first_match : Selection → List Page → Option Page

@@ -1,6 +1,6 @@
 -- What `refute` writes for a packet file, the text of a service and that of a certificate.
 --
---   counter_line            the line of a counter-run
+--   counter_line, counter_numbers    the line of a counter-run, and what it says after the page
 --   saved                   the text that is kept of it, where it is asked for
 --   TellsAnswer             what goes out where there is a counter-run, and where there is none
 --   IsRefutation, IsRefutingFiles    what is found of a cycle, a service and a certificate, and of their texts, and what goes out
@@ -40,6 +40,12 @@ counter_line id c =
     codes "counter " ++ id_text id ++ codes " start " ++ decimal c.start ++ codes " slots " ++ decimal c.slots ++ codes " hits "
     ++ decimal (length c.hits)
     ++ codes " choices " ++ decimal (length c.choices) ++ 10 ∷ []
+
+-- the same but the page
+abbrev pub counter_numbers : CounterRun → List ℕ
+counter_numbers c =
+    codes " start " ++ decimal c.start ++ codes " slots " ++ decimal c.slots ++ codes " hits " ++ decimal (length c.hits)
+    ++ codes " choices " ++ decimal (length c.choices)
 
 abbrev pub saved : Bool → CounterRun → List ℕ
 saved save c = if save then counter_text c else []

@@ -25,7 +25,7 @@ use Rattle.ttx_source.specs.Services.{ServiceFields, pages_of}
 use Rattle.ttx_tool.specs.FindingFiles.{IsNoFinding}
 use Rattle.ttx_tool.specs.RefutingFiles.{counter_line}
 use Rattle.ttx_tool.specs.UnlikeViews.{unlike_lines}
-use Rattle.ttx_tool.specs.declared.commands.replaying.Told.{Told}
+use Rattle.ttx_tool.specs.declared.commands.writing.Told.{Told}
 use Rattle.ttx_tool.specs.declared.faults.CounterFileFault.{CounterFileFault}
 use Rattle.ttx_tool.specs.declared.faults.CounterFileFault.TheVariants as counter
 use Rattle.ttx_tool.specs.declared.faults.ToolFault.{ToolFault}

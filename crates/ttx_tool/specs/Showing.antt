@@ -4,12 +4,14 @@
 --   no_page_line            the line where none came
 --   shown_text, shown_status        what is shown of a memory, and the status
 --   IsShownFile                 the slots of a packet file, over which the memory became the new one
+--   HearsFile               the same, or why there are none
 --   ShowsAfter, ShowsFile    what was written at each answer, of the memory that the receiver then holds, and of some such memory
 use Rattle.std.specs.Prelude.{◌≡◌, ℕ, ◌<◌, pos, Bool, not, ◌&&◌, if◌then◌else◌, List, [], ◌∷◌, ◌++◌, length, take, codes, Option, Result, Ok, Err}
 use Rattle.std.specs.Io.KnownBytes.{Appends, Keeps}
 use Rattle.std.specs.List.{list_any}
 use Rattle.ttx_cycle.specs.Files.{IsPacketFile}
 use Rattle.ttx_cycle.specs.Reading.{Judged}
+use Rattle.ttx_cycle.specs.declared.faults.CycleFault.{CycleFault}
 use Rattle.ttx_page.specs.Laws.{sent_from}
 use Rattle.ttx_page.specs.Memories.{Memory}
 use Rattle.ttx_page.specs.Packets.{packet_of}
@@ -46,6 +48,11 @@ pub record IsShownFile (t : Tuning) (start count : ℕ) (bytes : List ℕ) (old 
   pub file : IsPacketFile bytes slots
   pub run : Hears t slots start count old new
   pub fresh : new.fresh ≡ stays_fresh t.selection old (sent_from (repeated slots) (pos start) count)
+
+-- the same, or why the file is refused
+abbrev pub HearsFile : {U : Type 0} → Tuning → ℕ → ℕ → List ℕ → Memory → Memory → Result U CycleFault → Type 0
+HearsFile t start count bytes old new (Ok _) = IsShownFile t start count bytes old new
+HearsFile t start count bytes old new (Err fault) = Judged bytes (Err fault) × (new ≡ old)
 
 -- Ok: the View of the memory went out, or that no header of the page came. A write fault: the first `written` bytes of that. Else
 -- nothing, and the file is refused as it is judged.

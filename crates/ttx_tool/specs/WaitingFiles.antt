@@ -14,7 +14,7 @@ use Rattle.ttx_cycle.specs.declared.faults.CycleFault.TheVariants as cycle
 use Rattle.ttx_page.specs.declared.class.Class.{Class}
 use Rattle.ttx_source.specs.Services.{ServiceFields, pages_of}
 use Rattle.ttx_tool.specs.FindingFiles.{IsNoFinding}
-use Rattle.ttx_tool.specs.declared.commands.waiting.Told.{Told}
+use Rattle.ttx_tool.specs.declared.commands.writing.Told.{Told}
 use Rattle.ttx_tool.specs.declared.faults.ToolFault.{ToolFault}
 use Rattle.ttx_tool.specs.declared.faults.ToolFault.TheVariants.{Cycle, Read, Write}
 use Rattle.ttx_wait.specs.Reports.{IsReportWith}

@@ -2,6 +2,7 @@
 
 mod extracting;
 mod finding;
+mod inputs;
 mod inspecting;
 mod planning;
 mod previewing;
@@ -13,6 +14,7 @@ mod sending;
 mod showing;
 mod versions;
 mod waiting;
+mod writing;
 
 pub use extracting::extract;
 pub use finding::find;

@@ -5,7 +5,7 @@ ghost use Rattle.ttx_tool.specs.FilesFaults.{tool_fault};
 
 use ttx_certify::{FilesFault, TextFile};
 use ttx_counter::CounterFault;
-use ttx_cycle::{CycleFault, WriteFault};
+use ttx_cycle::CycleFault;
 use ttx_extract::ExtractFault;
 use ttx_plan::PlanFault;
 use ttx_source::SourceError;
@@ -73,15 +73,6 @@ impl ToolFault {
             FilesFault::TooLong { which } => ToolFault::TooLong { which },
             FilesFault::Write { written } => ToolFault::Write { written },
             FilesFault::NoMemory => ToolFault::NoMemory,
-        }
-    }
-
-    // The same fault of a command that wrote nothing else.
-    pub(crate) fn from_write(fault: WriteFault) -> ToolFault
-        ensures { result ≡ ToolFault.Write fault.written }
-    {
-        ToolFault::Write {
-            written: fault.written,
         }
     }
 }

@@ -1,12 +1,20 @@
 //! A receiver over the slots of a cycle that is sent again and again.
 
-ghost use Rattle.std.specs.Prelude.{◌<◌, length};
+ghost use Rattle.std.specs.Prelude.{◌≡◌, ◌<◌, IfSome, length, pos};
+ghost use Rattle.ttx_cycle.specs.Counters.{inner_of, faults_of};
+ghost use Rattle.ttx_cycle.specs.Reading.{CountsRead};
+ghost use Rattle.ttx_page.specs.Laws.{sent_from};
+ghost use Rattle.ttx_page.specs.Streams.{repeated};
 ghost use Rattle.ttx_tool.specs.Receiving.{tuned_as, Hears};
+ghost use Rattle.ttx_tool.specs.Showing.{stays_fresh, HearsFile};
 
+use std::alloc::Global;
+use std::io::Read;
+use ttx_cycle::{Counted, CycleFault, read_cycle};
 use ttx_receiver::Receiver;
 
-/// Steps a receiver over `count` slots from slot `start` on, which counts round the cycle.
-pub(crate) fn step_over<X: Receiver>(receiver: &mut X, slots: &[[u8; 42]], start: usize, count: u32)
+// Steps a receiver over `count` slots from slot `start` on, which counts round the cycle.
+fn step_over<X: Receiver>(receiver: &mut X, slots: &[[u8; 42]], start: usize, count: u32)
     requires { 0 < length slots.now }
     ensures { Hears (tuned_as (X.kind receiver.old) (X.field receiver.old) (X.tuned receiver.old)) slots.now start count (X.held receiver.old)
         (X.held receiver.new) }
@@ -19,5 +27,38 @@ pub(crate) fn step_over<X: Receiver>(receiver: &mut X, slots: &[[u8; 42]], start
         if at == slots.len() {
             at = 0;
         }
+    }
+}
+
+// The same; whether the receiver stays fresh is told, too.
+fn hear<X: Receiver>(receiver: &mut X, slots: &[[u8; 42]], start: usize, count: u32)
+    requires { 0 < length slots.now }
+    ensures heard { Hears (tuned_as (X.kind receiver.old) (X.field receiver.old) (X.tuned receiver.old)) slots.now start count (X.held receiver.old)
+        (X.held receiver.new) }
+    ensures fresh { (X.held receiver.new).fresh ≡ stays_fresh (X.tuned receiver.old) (X.held receiver.old)
+        (sent_from (repeated slots.now) (pos start) count) }
+{
+    step_over(receiver, slots, start, count);
+}
+
+/// Reads a packet file, and steps a receiver over `count` slots of it from slot `start` on, which counts round the cycle.
+pub(crate) fn hear_file<R: Read, X: Receiver>(
+    alloc: Global,
+    reader: &mut Counted<R>,
+    receiver: &mut X,
+    start: u16,
+    count: u32,
+) -> Result<(), CycleFault>
+    ensures bytes { IfSome (R.remaining (inner_of reader.old))
+        (λ bytes. HearsFile (tuned_as (X.kind receiver.old) (X.field receiver.old) (X.tuned receiver.old)) start count bytes
+        (X.held receiver.old) (X.held receiver.new) result) }
+    ensures faults { CountsRead result (faults_of reader.old) (faults_of reader.new) }
+{
+    match read_cycle(alloc, reader) {
+        Ok(cycle) => {
+            hear(receiver, cycle.slots(), usize::from(start), count);
+            Ok(())
+        }
+        Err(fault) => Err(fault),
     }
 }

@@ -1,11 +1,20 @@
-//! Texts of links, dates and times.
+//! Texts of numbers, links, dates and times.
 
+ghost use Rattle.std.specs.Fmt.{decimal};
 ghost use Rattle.std.specs.Prelude.{◌≡◌, ◌++◌, OnOk, string_bytes};
 ghost use Rattle.ttx_tool.specs.Texts.{link_id_text, link_ids_text, last_two_digits, date_text, time_text};
 
 use std::alloc::AllocError;
-use ttx_digits::{digit, push_numbers};
+use ttx_digits::{digit, push_decimal, push_numbers};
 use ttx_links::Target;
+
+/// Adds a text, and then a number.
+pub(crate) fn push_numbered(text: &mut String, name: &str, number: usize) -> Result<(), AllocError>
+    ensures { OnOk result (string_bytes text.new ≡ string_bytes text.old ++ name.now ++ decimal number) }
+{
+    text.push_str(name)?;
+    push_decimal(text, number)
+}
 
 // Adds a space and where a link leads.
 fn push_link(text: &mut String, link: &Option<Target>) -> Result<(), AllocError>

@@ -7,7 +7,7 @@ ghost use Rattle.ttx_certify.specs.CertifyingFiles.{IsUntouched};
 ghost use Rattle.ttx_tool.specs.ExtractingFiles.{extracted_line, IsExtracted, IsExtractFault, ExtractsText, ExtractsFile, is_extraction_write};
 ghost use Rattle.ttx_tool.specs.ExtractingFiles.{CountsCycle, CountsExtract};
 
-use super::finding::write_told;
+use super::writing::write_both;
 use crate::faults::{ExtractionFault, ToolFault};
 use std::alloc::{AllocError, Global};
 use std::io::{Read, Write};
@@ -89,7 +89,7 @@ pub fn extract<R: Read, O: Write, W: Write>(
         Ok(told) => told,
         Err(fault) => return Err(fault),
     };
-    match write_told(file, told.text.as_bytes(), writer, told.line.as_bytes()) {
+    match write_both(file, told.text.as_bytes(), writer, told.line.as_str()) {
         Ok(()) => Ok(0),
         Err(fault) => Err(ExtractionFault::Tool(fault)),
     }

@@ -9,14 +9,14 @@ ghost use Rattle.ttx_tool.specs.FilesFaults.{is_tool_write};
 ghost use Rattle.ttx_tool.specs.FindingFiles.{found_line, TellsDeadline, TellsVerdict, IsFoundAndTold, FindsText, FindsFiles, CountsInputs};
 ghost use Rattle.ttx_tool.specs.FindingFiles.{CountsFind};
 ghost use Rattle.ttx_tool.specs.PlannedFiles.{FindsDeadline, MakesCertified};
-ghost use Rattle.ttx_tool.specs.Planning.{WritesBoth, CountsBoth};
 
-use super::planning::read_definition;
+use super::inputs::read_inputs;
+use super::writing::write_both;
 use crate::faults::ToolFault;
 use std::alloc::{AllocError, Global};
 use std::io::{Read, Write};
 use ttx_certify::{certify_service, find_service, verdict_line};
-use ttx_cycle::{Counted, Cycle, read_cycle, write_bytes};
+use ttx_cycle::{Counted, Cycle};
 use ttx_page::Class;
 use ttx_source::Service;
 use ttx_witness::{Certificate, NoMemory, write_certificate};
@@ -107,35 +107,14 @@ fn find_text<A: Read, B: Read>(
         (λ a. IfSome (B.remaining (inner_of service.old)) (λ b. FindsText a b repeat class result)) }
     ensures faults { CountsInputs result (faults_of cycle.old) (faults_of cycle.new) (faults_of service.old) (faults_of service.new) }
 {
-    let cycle = match read_cycle(alloc, cycle) {
-        Ok(cycle) => cycle,
-        Err(fault) => return Err(ToolFault::Cycle(fault)),
-    };
-    let service = match read_definition(alloc, service) {
-        Ok(service) => service,
+    let inputs = match read_inputs(alloc, cycle, service) {
+        Ok(inputs) => inputs,
         Err(fault) => return Err(fault),
     };
-    match tell(alloc, &cycle, &service, repeat, class) {
+    match tell(alloc, &inputs.cycle, &inputs.service, repeat, class) {
         Ok(told) => Ok(told),
         Err(_) => Err(ToolFault::NoMemory),
     }
-}
-
-// Writes the bytes of a file, and then the line. At a fault the first `written` bytes of both went out.
-pub(super) fn write_told<O: Write, W: Write>(
-    file: &mut Counted<O>,
-    bytes: &[u8],
-    writer: &mut Counted<W>,
-    line: &[u8],
-) -> Result<(), ToolFault>
-    ensures bytes { WritesBoth bytes.now line.now (O.contents (inner_of file.old)) (O.contents (inner_of file.new))
-        (W.contents (inner_of writer.old)) (W.contents (inner_of writer.new)) result }
-    ensures faults { CountsBoth result (faults_of file.old) (faults_of file.new) (faults_of writer.old) (faults_of writer.new) }
-{
-    write_bytes(file, bytes).map_err(ToolFault::from_write)?;
-    write_bytes(writer, line).map_err(|fault| ToolFault::Write {
-        written: bytes.len() + fault.written,
-    })
 }
 
 /// Reads a packet file and the text of a service, and finds the certificate of the cycle for the pages of the service and
@@ -172,7 +151,12 @@ pub fn find<A: Read, B: Read, O: Write, W: Write>(
 {
     crate::laws::planned_is_found();
     crate::laws::found_is_certified();
-    let told = find_text(alloc, cycle, service, repeat, class)?;
-    write_told(file, told.file.as_slice(), writer, told.line.as_bytes())?;
-    Ok(told.status)
+    let told = match find_text(alloc, cycle, service, repeat, class) {
+        Ok(told) => told,
+        Err(fault) => return Err(fault),
+    };
+    match write_both(file, told.file.as_slice(), writer, told.line.as_str()) {
+        Ok(()) => Ok(told.status),
+        Err(fault) => Err(fault),
+    }
 }

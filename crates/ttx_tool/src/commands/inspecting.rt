@@ -33,5 +33,10 @@ pub fn inspect<R: Read, W: Write>(
     let Ok(text) = lines(alloc, cycle.slots()) else {
         return Err(ToolFault::NoMemory);
     };
-    write_bytes(writer, text.as_bytes()).map_err(ToolFault::from_write)
+    match write_bytes(writer, text.as_bytes()) {
+        Ok(()) => Ok(()),
+        Err(fault) => Err(ToolFault::Write {
+            written: fault.written,
+        }),
+    }
 }

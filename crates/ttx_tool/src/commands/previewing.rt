@@ -9,23 +9,17 @@ ghost use Rattle.ttx_tool.specs.FilesFaults.{is_tool_write};
 ghost use Rattle.ttx_tool.specs.Previewing.{first_match, preview_text, preview_status, PreviewsText, Previews, CountsPreview};
 ghost use Rattle.ttx_tool.specs.Planning.{CountsDefinition};
 
-use super::planning::read_definition;
+use super::inputs::read_definition;
 use super::showing::{no_page_line, picture};
+use super::writing::{Told, write_text};
 use crate::faults::ToolFault;
 use std::alloc::{AllocError, Global};
 use std::io::{Read, Write};
 use ttx_arguments::Look;
-use ttx_cycle::{Counted, write_bytes};
+use ttx_cycle::Counted;
 use ttx_page::{Page, PageMemory, Selection};
 use ttx_render::render;
 use ttx_source::Service;
-
-// What goes out, and the status.
-#[derive(Drop)]
-struct Told {
-    text: String,
-    status: u8,
-}
 
 // The first page that the selection matches.
 fn first_match<'a>(pages: &'a [Page], selection: &Selection) -> Option<&'a Page>
@@ -112,8 +106,9 @@ pub fn preview<R: Read, W: Write>(
     ensures faults { CountsPreview result (faults_of reader.old) (faults_of reader.new) (faults_of writer.old) (faults_of writer.new) }
     ensures untouched { IsUntouched is_tool_write result writer.old writer.new }
 {
-    let preview = preview_service(alloc, reader, selection, look)?;
-    write_bytes(writer, preview.text.as_bytes())
-        .map(|()| preview.status)
-        .map_err(ToolFault::from_write)
+    let preview = match preview_service(alloc, reader, selection, look) {
+        Ok(preview) => preview,
+        Err(fault) => return Err(fault),
+    };
+    write_text(writer, preview.text.as_str(), preview.status)
 }

@@ -7,12 +7,13 @@ ghost use Rattle.ttx_tool.specs.FilesFaults.{is_tool_write};
 ghost use Rattle.ttx_tool.specs.Inspecting.{CountsInspect};
 ghost use Rattle.ttx_tool.specs.Receiving.{tuned_as, Receives};
 
+use super::writing::write_text;
 use crate::faults::ToolFault;
-use crate::stepping::step_over;
+use crate::stepping::hear_file;
 use crate::views::view_lines;
 use std::alloc::Global;
 use std::io::{Read, Write};
-use ttx_cycle::{Counted, read_cycle, write_bytes};
+use ttx_cycle::Counted;
 use ttx_receiver::{Receiver, Watched};
 
 /// Reads a packet file, gives the receiver `count` slots of it from slot `start` on (both counted round the cycle), and writes
@@ -35,15 +36,11 @@ pub fn receive<R: Read, X: Receiver + Drop, W: Write>(
     ensures untouched { IsUntouched is_tool_write result writer.old writer.new }
 {
     let mut receiver = Watched::new(receiver);
-    let cycle = match read_cycle(alloc, reader) {
-        Ok(cycle) => cycle,
-        Err(fault) => return Err(ToolFault::Cycle(fault)),
-    };
-    step_over(&mut receiver, cycle.slots(), usize::from(start), count);
+    if let Err(fault) = hear_file(alloc, reader, &mut receiver, start, count) {
+        return Err(ToolFault::Cycle(fault));
+    }
     let Ok(text) = view_lines(alloc, receiver.view()) else {
         return Err(ToolFault::NoMemory);
     };
-    write_bytes(writer, text.as_bytes())
-        .map(|()| 0)
-        .map_err(ToolFault::from_write)
+    write_text(writer, text.as_str(), 0)
 }

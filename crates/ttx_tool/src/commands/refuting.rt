@@ -1,6 +1,7 @@
 //! `refute`: a viewer whom a cycle fails, by the numbers of a certificate.
 
-ghost use Rattle.std.specs.Prelude.{◌≡◌, ◌<◌, ◌∷◌, ◌++◌, [], Some, IfSome, IfOk, IfErr, codes, length, map, slice_get, string_bytes};
+ghost use Rattle.std.specs.Prelude.{◌≡◌, ◌<◌, ◌∷◌, ◌++◌, [], Some, IfSome, IfOk, IfErr, OnOk};
+ghost use Rattle.std.specs.Prelude.{codes, length, map, slice_get, string_bytes};
 ghost use Rattle.ttx_counter.specs.Counters.{counter_run_of};
 ghost use Rattle.ttx_cycle.specs.Counters.{inner_of, faults_of};
 ghost use Rattle.ttx_cycle.specs.Cycles.{slots_of};
@@ -10,19 +11,22 @@ ghost use Rattle.ttx_page.specs.declared.class.Class.TheVariants.{Any};
 ghost use Rattle.ttx_page.specs.Views.{page_of};
 ghost use Rattle.ttx_certify.specs.CertifyingFiles.{IsUntouched};
 ghost use Rattle.ttx_tool.specs.FilesFaults.{is_tool_write};
-ghost use Rattle.ttx_tool.specs.RefutingFiles.{counter_line, saved, IsRefutation, IsClassFault, RefutesText, RefutesFiles, CountsThree, CountsRefute};
+ghost use Rattle.ttx_tool.specs.RefutingFiles.{counter_line, counter_numbers, saved, IsRefutation, IsClassFault, RefutesText, RefutesFiles};
+ghost use Rattle.ttx_tool.specs.RefutingFiles.{CountsThree, CountsRefute};
 
-use super::finding::write_told;
+use super::writing::write_both;
 use crate::faults::ToolFault;
+use crate::texts::push_numbered;
 use std::alloc::{AllocError, Global};
 use std::io::{Read, Write};
 use ttx_certify::{Inputs, read_inputs};
 use ttx_counter::{Counter, refute as counter_to, write_counter};
 use ttx_cycle::{Counted, Cycle};
+use ttx_digits::push_id;
 use ttx_header::PageId;
 use ttx_page::{Class, Page};
 use ttx_source::Service;
-use ttx_witness::{Certificate, NoMemory, push_id};
+use ttx_witness::{Certificate, NoMemory};
 
 // What goes out: the bytes of the counter-run's file, the line, and the status.
 #[derive(Drop)]
@@ -30,6 +34,16 @@ struct Told {
     file: Vec<u8>,
     line: String,
     status: u8,
+}
+
+// Adds the numbers of a counter-run.
+fn push_counter(line: &mut String, counter: &Counter) -> Result<(), AllocError>
+    ensures { OnOk result (string_bytes line.new ≡ string_bytes line.old ++ counter_numbers (counter_run_of counter.now)) }
+{
+    push_numbered(line, " start ", counter.start as usize)?;
+    push_numbered(line, " slots ", counter.slots as usize)?;
+    push_numbered(line, " hits ", counter.hits.len())?;
+    push_numbered(line, " choices ", counter.choices.len())
 }
 
 // The line of a counter-run.
@@ -40,13 +54,10 @@ pub(super) fn counter_line(
 ) -> Result<String, AllocError>
     ensures { IfOk result (λ line. string_bytes line ≡ counter_line id (counter_run_of counter.now)) }
 {
-    let (start, slots) = (counter.start, counter.slots);
-    let (hits, choices) = (counter.hits.len(), counter.choices.len());
-    let mut line = String::new(alloc);
-    line.push_str("counter ")?;
+    let mut line = String::from_str(alloc, "counter ")?;
     push_id(&mut line, id)?;
-    write!(line, " start {start} slots {slots}")?;
-    write!(line, " hits {hits} choices {choices}\n")?;
+    push_counter(&mut line, counter)?;
+    line.push('\n')?;
     Ok(line)
 }
 
@@ -203,7 +214,12 @@ pub fn refute<A: Read, B: Read, C: Read, O: Write, W: Write>(
         (faults_of file.old) (faults_of file.new) (faults_of writer.old) (faults_of writer.new) }
     ensures untouched { IsUntouched is_tool_write result file.old file.new × IsUntouched is_tool_write result writer.old writer.new }
 {
-    let told = refute_text(alloc, cycle, service, certificate, save)?;
-    write_told(file, told.file.as_slice(), writer, told.line.as_bytes())?;
-    Ok(told.status)
+    let told = match refute_text(alloc, cycle, service, certificate, save) {
+        Ok(told) => told,
+        Err(fault) => return Err(fault),
+    };
+    match write_both(file, told.file.as_slice(), writer, told.line.as_str()) {
+        Ok(()) => Ok(told.status),
+        Err(fault) => Err(fault),
+    }
 }

@@ -12,25 +12,19 @@ ghost use Rattle.ttx_tool.specs.FilesFaults.{is_tool_write};
 ghost use Rattle.ttx_tool.specs.ReplayingFiles.{replay_text, none_text, IsReplay, ReadsCounter, ReplaysText, Replays, CountsCounter};
 ghost use Rattle.ttx_tool.specs.ReplayingFiles.{CountsReplayInputs, CountsReplay};
 
-use super::planning::read_definition;
+use super::inputs::read_inputs;
 use super::refuting::counter_line;
+use super::writing::{Told, write_text};
 use crate::faults::{CounterFileFault, ToolFault};
 use crate::unlike_views::push_unlike_lines;
 use std::alloc::{AllocError, Global};
 use std::io::{Read, Write};
 use ttx_counter::{Counter, read_counter, replay as replay_counter};
-use ttx_cycle::{Counted, Cycle, MOST_BYTES, TextFault, read_cycle, read_text, write_bytes};
+use ttx_cycle::{Counted, Cycle, MOST_BYTES, TextFault, read_text};
 use ttx_page::{Page, PageMemory};
 use ttx_render::render;
 use ttx_source::Service;
 use ttx_witness::NoMemory;
-
-// What goes out, and the status.
-#[derive(Drop)]
-struct Told {
-    text: String,
-    status: u8,
-}
 
 // Reads the text of a counter-run.
 fn read_run<R: Read>(alloc: Global, reader: &mut Counted<R>) -> Result<Counter, ToolFault>
@@ -128,19 +122,15 @@ fn replay_files<A: Read, B: Read, C: Read>(
     ensures faults { CountsReplayInputs result (faults_of cycle.old) (faults_of cycle.new) (faults_of service.old) (faults_of service.new)
         (faults_of counter.old) (faults_of counter.new) }
 {
-    let cycle = match read_cycle(alloc, cycle) {
-        Ok(cycle) => cycle,
-        Err(fault) => return Err(ToolFault::Cycle(fault)),
-    };
-    let service = match read_definition(alloc, service) {
-        Ok(service) => service,
+    let inputs = match read_inputs(alloc, cycle, service) {
+        Ok(inputs) => inputs,
         Err(fault) => return Err(fault),
     };
     let counter = match read_run(alloc, counter) {
         Ok(counter) => counter,
         Err(fault) => return Err(fault),
     };
-    match tell(alloc, &cycle, &service, &counter) {
+    match tell(alloc, &inputs.cycle, &inputs.service, &counter) {
         Ok(told) => Ok(told),
         Err(_) => Err(ToolFault::NoMemory),
     }
@@ -167,8 +157,9 @@ pub fn replay<A: Read, B: Read, C: Read, W: Write>(
         (faults_of writer.old) (faults_of writer.new) }
     ensures untouched { IsUntouched is_tool_write result writer.old writer.new }
 {
-    let told = replay_files(alloc, cycle, service, counter)?;
-    write_bytes(writer, told.text.as_bytes())
-        .map(|()| told.status)
-        .map_err(ToolFault::from_write)
+    let told = match replay_files(alloc, cycle, service, counter) {
+        Ok(told) => told,
+        Err(fault) => return Err(fault),
+    };
+    write_text(writer, told.text.as_str(), told.status)
 }

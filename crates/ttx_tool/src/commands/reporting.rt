@@ -7,13 +7,14 @@ ghost use Rattle.ttx_source.specs.Faults.{fault_of};
 ghost use Rattle.ttx_tool.specs.Reports.{service_text, service_status, certificate_refusal, extract_text, extract_status, run_text, run_status};
 ghost use Rattle.ttx_tool.specs.Reports.{refused_service, fault_line, status_of, Reports, ReportsWords, CountsReport};
 
+use super::writing::write_text;
 use crate::faults::{CounterFileFault, ToolFault};
 use std::alloc::{AllocError, Global};
 use std::io::Write;
 use ttx_arguments::WordsFault;
 use ttx_certify::TextFile;
 use ttx_counter::CounterFault;
-use ttx_cycle::{Counted, CycleFault, write_bytes};
+use ttx_cycle::{Counted, CycleFault};
 use ttx_extract::{ExtractFault, push_refusal};
 use ttx_plan::PlanFault;
 use ttx_source::{SourceError, SourceFault};
@@ -215,9 +216,7 @@ pub fn report<W: Write>(
     let Ok(line) = line_of(alloc, fault) else {
         return Err(ToolFault::NoMemory);
     };
-    write_bytes(writer, line.as_bytes())
-        .map(|()| status(fault))
-        .map_err(ToolFault::from_write)
+    write_text(writer, line.as_str(), status(fault))
 }
 
 /// Writes the line that says why no service text is made of a cycle and answers the status of the program.
@@ -233,19 +232,7 @@ pub fn report_extraction<W: Write>(
     let Ok(line) = extract_line(alloc, fault) else {
         return Err(ToolFault::NoMemory);
     };
-    write_bytes(writer, line.as_bytes())
-        .map(|()| extract_status(fault))
-        .map_err(ToolFault::from_write)
-}
-
-// Writes a text that is the whole report, and answers the status of a refusal.
-fn refuse<W: Write>(text: &str, writer: &mut Counted<W>) -> Result<u8, ToolFault>
-    ensures line { Reports text.now 2 (W.contents (inner_of writer.old)) (W.contents (inner_of writer.new)) result }
-    ensures faults { CountsReport result (faults_of writer.old) (faults_of writer.new) }
-{
-    write_bytes(writer, text.as_bytes())
-        .map(|()| 2)
-        .map_err(ToolFault::from_write)
+    write_text(writer, line.as_str(), extract_status(fault))
 }
 
 /// Writes why words are refused and answers the status of the program. Of what `clap` refuses its own text is written.
@@ -262,11 +249,11 @@ pub fn report_words<W: Write>(
             let Ok(text) = error.to_string(alloc) else {
                 return Err(ToolFault::NoMemory);
             };
-            refuse(text.as_str(), writer)
+            write_text(writer, text.as_str(), 2)
         }
-        WordsFault::Page => refuse("refused: page\n", writer),
-        WordsFault::Time => refuse("refused: time\n", writer),
-        WordsFault::Twice => refuse("refused: twice\n", writer),
+        WordsFault::Page => write_text(writer, "refused: page\n", 2),
+        WordsFault::Time => write_text(writer, "refused: time\n", 2),
+        WordsFault::Twice => write_text(writer, "refused: twice\n", 2),
         WordsFault::NoMemory => report(alloc, &ToolFault::NoMemory, writer),
     }
 }

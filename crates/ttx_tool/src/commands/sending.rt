@@ -38,5 +38,10 @@ pub fn send<R: Read, W: Write>(
         Ok(cycle) => cycle,
         Err(fault) => return Err(ToolFault::Cycle(fault)),
     };
-    ttx_send::send(&cycle, start, lines, phase, fields, writer).map_err(ToolFault::from_write)
+    match ttx_send::send(&cycle, start, lines, phase, fields, writer) {
+        Ok(()) => Ok(()),
+        Err(fault) => Err(ToolFault::Write {
+            written: fault.written,
+        }),
+    }
 }

@@ -16,5 +16,10 @@ pub fn version<W: Write>(writer: &mut Counted<W>) -> Result<(), ToolFault>
     ensures bytes { TellsVersion version_text (W.contents (inner_of writer.old)) (W.contents (inner_of writer.new)) result }
     ensures faults { CountsReport result (faults_of writer.old) (faults_of writer.new) }
 {
-    write_bytes(writer, VERSION.as_bytes()).map_err(ToolFault::from_write)
+    match write_bytes(writer, VERSION.as_bytes()) {
+        Ok(()) => Ok(()),
+        Err(fault) => Err(ToolFault::Write {
+            written: fault.written,
+        }),
+    }
 }

@@ -8,22 +8,16 @@ ghost use Rattle.ttx_tool.specs.FilesFaults.{is_tool_write};
 ghost use Rattle.ttx_tool.specs.FindingFiles.{CountsInputs};
 ghost use Rattle.ttx_tool.specs.WaitingFiles.{wait_status, IsWaitOf, WaitsText, Waits, CountsWait};
 
-use super::planning::read_definition;
+use super::inputs::read_inputs;
+use super::writing::{Told, write_text};
 use crate::faults::ToolFault;
 use std::alloc::Global;
 use std::io::{Read, Write};
-use ttx_cycle::{Counted, Cycle, read_cycle, write_bytes};
+use ttx_cycle::{Counted, Cycle};
 use ttx_page::Class;
 use ttx_source::Service;
 use ttx_wait::{Detail, report_with};
 use ttx_witness::NoMemory;
-
-// The lines, and the status.
-#[derive(Drop)]
-struct Told {
-    text: String,
-    status: u8,
-}
 
 // For receivers of which class, with which repeat count, and in which lines it is told.
 #[derive(Clone, Copy)]
@@ -83,15 +77,11 @@ fn wait_text<A: Read, B: Read>(
         (λ a. IfSome (B.remaining (inner_of service.old)) (λ b. WaitsText a b question.repeat question.class question.detail result)) }
     ensures faults { CountsInputs result (faults_of cycle.old) (faults_of cycle.new) (faults_of service.old) (faults_of service.new) }
 {
-    let cycle = match read_cycle(alloc, cycle) {
-        Ok(cycle) => cycle,
-        Err(fault) => return Err(ToolFault::Cycle(fault)),
-    };
-    let service = match read_definition(alloc, service) {
-        Ok(service) => service,
+    let inputs = match read_inputs(alloc, cycle, service) {
+        Ok(inputs) => inputs,
         Err(fault) => return Err(fault),
     };
-    match tell(alloc, &cycle, &service, question) {
+    match tell(alloc, &inputs.cycle, &inputs.service, question) {
         Ok(told) => Ok(told),
         Err(_) => Err(ToolFault::NoMemory),
     }
@@ -125,8 +115,9 @@ pub fn wait<A: Read, B: Read, W: Write>(
         class,
         detail,
     };
-    let told = wait_text(alloc, cycle, service, question)?;
-    write_bytes(writer, told.text.as_bytes())
-        .map(|()| told.status)
-        .map_err(ToolFault::from_write)
+    let told = match wait_text(alloc, cycle, service, question) {
+        Ok(told) => told,
+        Err(fault) => return Err(fault),
+    };
+    write_text(writer, told.text.as_str(), told.status)
 }
