@@ -122,85 +122,29 @@ impl CommandName {
     }
 
     /// Its arguments.
+    #[rattlefmt::skip]
     pub(crate) fn arguments<'a>(self) -> &'a [Argument]
         ensures { result.now ≡ arguments_of self }
     {
         match self {
             CommandName::Inspect => &[Argument::File],
-            CommandName::Plan => &[
-                Argument::Service,
-                Argument::Planned,
-                Argument::Class,
-                Argument::PlannedLate,
-            ],
-            CommandName::Find => &[
-                Argument::Cycle,
-                Argument::Service,
-                Argument::Found,
-                Argument::Repeat,
-                Argument::Class,
-            ],
-            CommandName::Certify => &[
-                Argument::Cycle,
-                Argument::Service,
-                Argument::Certificate,
-                Argument::Late,
-                Argument::Twice,
-            ],
-            CommandName::Refute => &[
-                Argument::Cycle,
-                Argument::Service,
-                Argument::Certificate,
-                Argument::Save,
-            ],
+            CommandName::Plan => &[Argument::Service, Argument::Planned, Argument::Class, Argument::PlannedLate],
+            CommandName::Find => &[Argument::Cycle, Argument::Service, Argument::Found, Argument::Repeat, Argument::Class],
+            CommandName::Certify => &[Argument::Cycle, Argument::Service, Argument::Certificate, Argument::Late, Argument::Twice],
+            CommandName::Refute => &[Argument::Cycle, Argument::Service, Argument::Certificate, Argument::Save],
             CommandName::Replay => &[Argument::Cycle, Argument::Service, Argument::Counter],
-            CommandName::Receive => &[
-                Argument::Cycle,
-                Argument::Page,
-                Argument::Lines,
-                Argument::Start,
-                Argument::Slots,
-                Argument::Kind,
-            ],
+            CommandName::Receive => &[Argument::Cycle, Argument::Page, Argument::Lines, Argument::Start, Argument::Slots, Argument::Kind],
             CommandName::Show => &[
-                Argument::Cycle,
-                Argument::Page,
-                Argument::Lines,
-                Argument::Start,
-                Argument::Slots,
-                Argument::Kind,
-                Argument::Form,
-                Argument::Reveal,
+                Argument::Cycle, Argument::Page, Argument::Lines, Argument::Start,
+                Argument::Slots, Argument::Kind, Argument::Form, Argument::Reveal,
             ],
-            CommandName::Preview => &[
-                Argument::Service,
-                Argument::Page,
-                Argument::Form,
-                Argument::Reveal,
-            ],
+            CommandName::Preview => &[Argument::Service, Argument::Page, Argument::Form, Argument::Reveal],
             CommandName::Splice => &[
-                Argument::Old,
-                Argument::New,
-                Argument::OldService,
-                Argument::NewService,
-                Argument::OldCertificate,
-                Argument::NewCertificate,
+                Argument::Old, Argument::New, Argument::OldService,
+                Argument::NewService, Argument::OldCertificate, Argument::NewCertificate,
             ],
-            CommandName::Wait => &[
-                Argument::Cycle,
-                Argument::Service,
-                Argument::Repeat,
-                Argument::Class,
-                Argument::Items,
-            ],
-            CommandName::Send => &[
-                Argument::Cycle,
-                Argument::At,
-                Argument::Fields,
-                Argument::Lines,
-                Argument::Phase,
-                Argument::Offset,
-            ],
+            CommandName::Wait => &[Argument::Cycle, Argument::Service, Argument::Repeat, Argument::Class, Argument::Items],
+            CommandName::Send => &[Argument::Cycle, Argument::At, Argument::Fields, Argument::Lines, Argument::Phase, Argument::Offset],
             CommandName::Pages => &[Argument::Cycle],
             CommandName::Book => &[Argument::Cycle, Argument::Book],
             CommandName::Extract => &[Argument::Cycle, Argument::Extracted, Argument::NeededLines],
