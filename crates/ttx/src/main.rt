@@ -2,9 +2,11 @@
 #![tactic(auto)]
 
 mod devices;
+mod reports;
 mod running;
 
 use devices::hold_streams;
+use reports::{file_fault, memory_fault, status_of};
 use running::run_order;
 use std::process::ExitCode;
 use std::{env, io};
@@ -12,46 +14,13 @@ use ttx_arguments::{Order, WordsFault, words};
 use ttx_cycle::Counted;
 use ttx_tool::{ToolFault, commands};
 
-// The status of a fault, also where standard error takes no line.
-const FAULT: u8 = 3;
-
 // The status of refused words.
 const REFUSED: u8 = 2;
-
-// Says that a file can't be opened, and answers the status.
-fn file_fault(rt: &HostRuntime) -> u8 {
-    let _ = rt.eprintln("fault: file");
-    FAULT
-}
-
-// Says that memory is wanting, with no growth, and answers the status.
-fn memory_fault(rt: &HostRuntime) -> u8 {
-    let _ = rt.eprintln("fault: memory");
-    FAULT
-}
-
-// Reports a fault of a command, and answers the status.
-fn report(rt: &HostRuntime, fault: &ToolFault) -> u8 {
-    let mut errors = Counted::new(rt.stderr());
-    match commands::report(rt.alloc(), fault, &mut errors) {
-        Ok(status) => status,
-        Err(ToolFault::NoMemory) => memory_fault(rt),
-        Err(_) => FAULT,
-    }
-}
-
-// The status of what a command answers, whose fault is reported.
-fn status_of(rt: &HostRuntime, outcome: Result<u8, ToolFault>) -> u8 {
-    match outcome {
-        Ok(status) => status,
-        Err(fault) => report(rt, &fault),
-    }
-}
 
 // Runs an order, and answers the status of the program.
 fn execute(rt: &HostRuntime, order: &Order<'_>) -> u8 {
     match run_order(rt, order) {
-        Ok(outcome) => status_of(rt, outcome),
+        Ok(status) => status,
         Err(_) => file_fault(rt),
     }
 }

@@ -8,13 +8,14 @@ mod screens;
 mod services;
 mod splices;
 
+use crate::reports::status_of;
 use std::io;
 use ttx_arguments::Order;
 use ttx_cycle::Counted;
 use ttx_tool::{ToolFault, commands};
 
-// What a command answers: the status, or a fault. An error is that of a file that can't be opened.
-type Outcome = io::Result<Result<u8, ToolFault>>;
+// The status of a command, whose fault has been reported. An error is that of a file that can't be opened.
+type Outcome = io::Result<u8>;
 
 // Tells which program this is.
 fn version(rt: &HostRuntime) -> Result<u8, ToolFault> {
@@ -50,6 +51,6 @@ pub fn run_order(rt: &HostRuntime, order: &Order<'_>) -> Outcome {
         Order::Book { cycle, out } => cycles::book(rt, cycle, out),
         Order::Extract { cycle, out, lines } => cycles::extract(rt, cycle, out, *lines),
         Order::Check { service } => services::check(rt, service),
-        Order::Version => Ok(version(rt)),
+        Order::Version => Ok(status_of(rt, version(rt))),
     }
 }

@@ -3,6 +3,7 @@
 use super::Outcome;
 use super::inputs::{Claim, ClaimReaders, SentService, SentServiceReaders, buffered};
 use crate::devices::{Input, create_out, open_input};
+use crate::reports::{report, status_of};
 use std::fs::File;
 use std::io;
 use std::io::BufReader;
@@ -95,13 +96,13 @@ pub fn certify(rt: &HostRuntime, order: &CertifyOrder<'_>) -> Outcome {
     if order.twice && !order.late {
         let first = open_input(rt, order.cycle)?;
         let claim = Claim::open(rt, order.cycle, order.service, order.certificate)?;
-        return Ok(certify_twice(rt, first, claim));
+        return Ok(status_of(rt, certify_twice(rt, first, claim)));
     }
     let claim = Claim::open(rt, order.cycle, order.service, order.certificate)?;
     if order.late {
-        Ok(certify_late(rt, claim))
+        Ok(status_of(rt, certify_late(rt, claim)))
     } else {
-        Ok(certify_claim(rt, claim))
+        Ok(status_of(rt, certify_claim(rt, claim)))
     }
 }
 
@@ -143,8 +144,8 @@ fn find_to(
 pub fn find(rt: &HostRuntime, order: &FindOrder<'_>) -> Outcome {
     let inputs = SentService::open(rt, order.cycle, order.service)?;
     match create_out(rt, &[&inputs.cycle, &inputs.service], order.out)? {
-        Some(file) => Ok(find_to(rt, inputs, order, file)),
-        None => Ok(Err(ToolFault::Same)),
+        Some(file) => Ok(status_of(rt, find_to(rt, inputs, order, file))),
+        None => Ok(report(rt, &ToolFault::Same)),
     }
 }
 
@@ -183,5 +184,5 @@ fn wait_for(rt: &HostRuntime, inputs: SentService, order: &WaitOrder<'_>) -> Res
 /// Opens the cycle and the service, and tells how long viewers of each page wait.
 pub fn wait(rt: &HostRuntime, order: &WaitOrder<'_>) -> Outcome {
     let inputs = SentService::open(rt, order.cycle, order.service)?;
-    Ok(wait_for(rt, inputs, order))
+    Ok(status_of(rt, wait_for(rt, inputs, order)))
 }

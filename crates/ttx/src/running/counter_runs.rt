@@ -3,6 +3,7 @@
 use super::Outcome;
 use super::inputs::{Claim, ClaimReaders};
 use crate::devices::create_out;
+use crate::reports::{report, status_of};
 use std::io;
 use std::io::Write;
 use ttx_arguments::{RefuteOrder, ReplayOrder};
@@ -45,12 +46,12 @@ fn refute_claim<O: Write + Drop>(
 pub fn refute(rt: &HostRuntime, order: &RefuteOrder<'_>) -> Outcome {
     let claim = Claim::open(rt, order.cycle, order.service, order.certificate)?;
     let Some(out) = order.save else {
-        return Ok(refute_claim(rt, claim, false, io::sink()));
+        return Ok(status_of(rt, refute_claim(rt, claim, false, io::sink())));
     };
     let inputs = [&claim.cycle, &claim.service, &claim.text];
     match create_out(rt, &inputs, out)? {
-        Some(file) => Ok(refute_claim(rt, claim, true, file)),
-        None => Ok(Err(ToolFault::Same)),
+        Some(file) => Ok(status_of(rt, refute_claim(rt, claim, true, file))),
+        None => Ok(report(rt, &ToolFault::Same)),
     }
 }
 
@@ -76,5 +77,5 @@ fn replay_claim(rt: &HostRuntime, claim: Claim) -> Result<u8, ToolFault> {
 /// Opens the cycle, the service and the counter-run, and shows what is shown after it.
 pub fn replay(rt: &HostRuntime, order: &ReplayOrder<'_>) -> Outcome {
     let claim = Claim::open(rt, order.cycle, order.service, order.counter)?;
-    Ok(replay_claim(rt, claim))
+    Ok(status_of(rt, replay_claim(rt, claim)))
 }

@@ -3,6 +3,7 @@
 use super::Outcome;
 use super::inputs::buffered;
 use crate::devices::{Input, create_out, open_input};
+use crate::reports::{report, status_of};
 use std::fs::File;
 use std::io;
 use ttx_arguments::{Sending, WordsFault};
@@ -21,7 +22,7 @@ fn inspect_input(rt: &HostRuntime, input: Input) -> Result<u8, ToolFault> {
 
 /// Shows the slots of a packet file.
 pub fn inspect(rt: &HostRuntime, file: &str) -> Outcome {
-    Ok(inspect_input(rt, open_input(rt, file)?))
+    Ok(status_of(rt, inspect_input(rt, open_input(rt, file)?)))
 }
 
 // The fault of the same name.
@@ -45,7 +46,7 @@ fn pages_of(rt: &HostRuntime, input: Input) -> Result<u8, ToolFault> {
 
 /// Tells which pages a cycle has.
 pub fn pages(rt: &HostRuntime, cycle: &str) -> Outcome {
-    Ok(pages_of(rt, open_input(rt, cycle)?))
+    Ok(status_of(rt, pages_of(rt, open_input(rt, cycle)?)))
 }
 
 fn book_of(rt: &HostRuntime, input: Input, out: File) -> Result<u8, ToolFault> {
@@ -62,8 +63,8 @@ fn book_of(rt: &HostRuntime, input: Input, out: File) -> Result<u8, ToolFault> {
 pub fn book(rt: &HostRuntime, cycle: &str, out: &str) -> Outcome {
     let cycle = open_input(rt, cycle)?;
     match create_out(rt, &[&cycle], out)? {
-        Some(file) => Ok(book_of(rt, cycle, file)),
-        None => Ok(Err(ToolFault::Same)),
+        Some(file) => Ok(status_of(rt, book_of(rt, cycle, file))),
+        None => Ok(report(rt, &ToolFault::Same)),
     }
 }
 
@@ -87,8 +88,8 @@ fn extract_from(rt: &HostRuntime, input: Input, lines: u8, out: File) -> Result<
 pub fn extract(rt: &HostRuntime, cycle: &str, out: &str, lines: u8) -> Outcome {
     let cycle = open_input(rt, cycle)?;
     match create_out(rt, &[&cycle], out)? {
-        Some(file) => Ok(extract_from(rt, cycle, lines, file)),
-        None => Ok(Err(ToolFault::Same)),
+        Some(file) => Ok(status_of(rt, extract_from(rt, cycle, lines, file))),
+        None => Ok(report(rt, &ToolFault::Same)),
     }
 }
 
@@ -118,5 +119,5 @@ fn send_input(rt: &HostRuntime, input: Input, sending: &Sending) -> Result<u8, T
 
 /// Opens the cycle, and sends it again and again, with the time.
 pub fn send(rt: &HostRuntime, cycle: &str, sending: &Sending) -> Outcome {
-    Ok(send_input(rt, open_input(rt, cycle)?, sending))
+    Ok(status_of(rt, send_input(rt, open_input(rt, cycle)?, sending)))
 }

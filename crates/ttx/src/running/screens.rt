@@ -3,6 +3,7 @@
 use super::Outcome;
 use super::inputs::buffered;
 use crate::devices::{Input, open_input};
+use crate::reports::status_of;
 use std::io;
 use ttx_arguments::{Look, ReceiverKind, Tuning};
 use ttx_cycle::Counted;
@@ -70,7 +71,7 @@ fn receive_input(
 
 /// Opens the cycle, and shows a page as a receiver shows it; with no look what is held of it, word by word.
 pub fn receive(rt: &HostRuntime, cycle: &str, tuning: &Tuning, look: Option<&Look<'_>>) -> Outcome {
-    Ok(receive_input(rt, open_input(rt, cycle)?, tuning, look))
+    Ok(status_of(rt, receive_input(rt, open_input(rt, cycle)?, tuning, look)))
 }
 
 fn preview_input(
@@ -88,5 +89,8 @@ fn preview_input(
 
 /// Opens the service, and shows a page of it before it is sent.
 pub fn preview(rt: &HostRuntime, service: &str, selection: &Selection, look: &Look<'_>) -> Outcome {
-    Ok(preview_input(rt, open_input(rt, service)?, selection, look))
+    Ok(status_of(
+        rt,
+        preview_input(rt, open_input(rt, service)?, selection, look),
+    ))
 }

@@ -3,6 +3,7 @@
 use super::Outcome;
 use super::inputs::buffered;
 use crate::devices::{Input, create_out, open_input};
+use crate::reports::{report, status_of};
 use std::fs::File;
 use std::io;
 use std::io::BufReader;
@@ -34,7 +35,7 @@ fn check_input(rt: &HostRuntime, input: Input) -> Result<u8, ToolFault> {
 
 /// Opens the service, and tells what is wrong, or likely wrong, in its text.
 pub fn check(rt: &HostRuntime, service: &str) -> Outcome {
-    Ok(check_input(rt, open_input(rt, service)?))
+    Ok(status_of(rt, check_input(rt, open_input(rt, service)?)))
 }
 
 fn plan_to(
@@ -68,7 +69,7 @@ pub fn plan(rt: &HostRuntime, order: &PlanOrder<'_>) -> Outcome {
         late: order.late,
     };
     match create_out(rt, &[&service], order.out)? {
-        Some(file) => Ok(plan_input(rt, service, receivers, file)),
-        None => Ok(Err(ToolFault::Same)),
+        Some(file) => Ok(status_of(rt, plan_input(rt, service, receivers, file))),
+        None => Ok(report(rt, &ToolFault::Same)),
     }
 }

@@ -3,6 +3,7 @@
 use super::Outcome;
 use super::inputs::buffered;
 use crate::devices::{Input, open_input};
+use crate::reports::status_of;
 use std::alloc::AllocError;
 use std::io;
 use std::io::BufReader;
@@ -94,5 +95,5 @@ pub fn splice(rt: &HostRuntime, order: &SpliceOrder<'_>) -> Outcome {
         services,
         certificates,
     };
-    Ok(splice_inputs(rt, inputs))
+    Ok(status_of(rt, splice_inputs(rt, inputs)))
 }

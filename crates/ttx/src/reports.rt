@@ -1,0 +1,37 @@
+//! What a fault says on standard error, and the status that it has.
+
+use ttx_cycle::Counted;
+use ttx_tool::{ToolFault, commands};
+
+// The status of a fault, also where standard error takes no line.
+const FAULT: u8 = 3;
+
+/// Says that a file can't be opened, and answers the status.
+pub fn file_fault(rt: &HostRuntime) -> u8 {
+    let _ = rt.eprintln("fault: file");
+    FAULT
+}
+
+/// Says that memory is wanting, with no growth, and answers the status.
+pub fn memory_fault(rt: &HostRuntime) -> u8 {
+    let _ = rt.eprintln("fault: memory");
+    FAULT
+}
+
+/// Reports a fault of a command, and answers the status.
+pub fn report(rt: &HostRuntime, fault: &ToolFault) -> u8 {
+    let mut errors = Counted::new(rt.stderr());
+    match commands::report(rt.alloc(), fault, &mut errors) {
+        Ok(status) => status,
+        Err(ToolFault::NoMemory) => memory_fault(rt),
+        Err(_) => FAULT,
+    }
+}
+
+/// The status of what a command answers, whose fault is reported.
+pub fn status_of(rt: &HostRuntime, outcome: Result<u8, ToolFault>) -> u8 {
+    match outcome {
+        Ok(status) => status,
+        Err(fault) => report(rt, &fault),
+    }
+}
