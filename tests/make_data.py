@@ -198,6 +198,8 @@ def edits_of_base():
     hidden = with_slot(with_slot(base(), 7, row(1, 5, b"\x0d" + SPACES[1:])), 8, EMPTY)
     return {
         "other-subpage.t42": with_slot(base(), 27, header(1, 0, 1)),
+        "time-filling-parallel.t42": with_slot(base(), 27, time_filling(1, 0)),
+        "packet-26.t42": with_slot(base(), 1, packet(1, 26, bytes([0xFF, 0x16, 0x00, 0x9D]) + bytes(36))),
         "row-6-hidden.t42": hidden,
         "suppressed-clearing.t42": [header(1, 0, 0, 1 << 3), EMPTY, EMPTY, time_filling(1)],
     }

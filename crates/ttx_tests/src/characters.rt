@@ -31,13 +31,3 @@ fn national_sets(rt: HostRuntime) {
         }
     }
 }
-
-#[test]
-fn other_places_are_ascii(rt: HostRuntime) {
-    for option in 0..8u8 {
-        assert!(rt; glyph(option, b' ') == ' ');
-        assert!(rt; glyph(option, b'A') == 'A');
-        assert!(rt; glyph(option, b'z') == 'z');
-        assert!(rt; glyph(option, 0x7f) == '■');
-    }
-}

@@ -1,4 +1,5 @@
-//! Counter-runs: receptions that end in a wrong View, and the same with one thing changed.
+//! Counter-runs with characters that are received wrong: receptions that end in a wrong View, and the same with one thing changed.
+//! Those in which a row is missed are cases of `replay`.
 
 use crate::base;
 use crate::seen::page;
@@ -9,56 +10,17 @@ use ttx_cycle::Cycle;
 use ttx_header::Control;
 use ttx_page::PageMemory;
 
-// Whether it is a counter-run of these slots.
-fn is_counter_run(alloc: Global, slots: Vec<[u8; 42]>, counter: &Counter) -> bool {
-    let (Some(page), Some(cycle)) = (page(0x20), Cycle::of(slots)) else {
-        return false;
-    };
-    let pages = std::slice::from_ref(&page);
-    matches!(check_counter(alloc, &cycle, pages, counter), Ok(true))
-}
-
-// A counter-run of page 100 without hits and choices.
-fn plain(alloc: Global, former: PageMemory, start: u32, slots: u32) -> Counter {
-    Counter {
-        page: 0,
-        any_sub: false,
-        start,
-        slots,
-        former,
-        choices: Vec::new(alloc),
-        hits: Vec::new(alloc),
-        lines: 2,
-        repeat: 1,
-        deadline: 27,
-    }
-}
-
-// Row 1 two slots after its header, so that it may be missed; slot 3 is empty.
-fn near_header(alloc: Global) -> Result<Vec<[u8; 42]>, AllocError> {
-    let mut slots = base::slots(alloc)?;
-    if slots.len() > 3 {
-        slots.swap(2, 3);
-    }
-    Ok(slots)
-}
-
-fn misses(alloc: Global, slots: u32, choices: &[bool]) -> Result<bool, AllocError> {
-    let mut counter = plain(alloc, base::holding_an_x(false), 0, slots);
-    for choice in choices {
-        counter.choices.push(*choice)?;
-    }
-    Ok(is_counter_run(alloc, near_header(alloc)?, &counter))
-}
-
-#[test]
-fn a_row_that_is_missed_twice(rt: HostRuntime) -> Result<(), Fail> {
-    assert!(rt; misses(rt.alloc(), 54, &[true, true])?);
-    assert!(rt; !misses(rt.alloc(), 54, &[true, false])?);
-    assert!(rt; !misses(rt.alloc(), 54, &[])?);
-    assert!(rt; !misses(rt.alloc(), 53, &[true, true])?);
-    Ok(())
-}
+// The slots of the run, of how many transmissions one is right, and in which slots a character is hit, or in which one, said twice;
+// whether it is a counter-run.
+static RUNS: [(u32, u8, [u32; 2], bool); 4] = [
+    (80, 2, [52, 52], true),
+    // and where it was hit before, one of two isn't right
+    (80, 2, [52, 24], false),
+    // one slot later it has come again
+    (81, 2, [52, 52], false),
+    // where each transmission is to be right, none may be hit
+    (80, 1, [52, 52], false),
+];
 
 // A memory of spaces, but for an X at the begin of row 23.
 fn an_x_in_row_23() -> PageMemory {
@@ -68,29 +30,52 @@ fn an_x_in_row_23() -> PageMemory {
     memory.unwrap_or(PageMemory::blank())
 }
 
-// A run from slot 1 on, in which the first character of row 23 is received wrong in these slots of the run.
-fn hit_in(alloc: Global, slots: u32, repeat: u8, places: &[u32]) -> Result<bool, AllocError> {
-    let mut counter = plain(alloc, an_x_in_row_23(), 1, slots);
-    counter.repeat = repeat;
-    counter.deadline = 40;
-    for place in places {
-        counter.hits.push(Hit {
-            index: *place,
-            byte: 2,
-            bit: 1,
-        })?;
+// The first character of row 23 is received wrong in these slots, or in the one that is said twice.
+fn hits(alloc: Global, places: [u32; 2]) -> Result<Vec<Hit>, AllocError> {
+    let mut hits = Vec::new(alloc);
+    for index in places {
+        if hits.is_empty() || index != places[0] {
+            hits.push(Hit {
+                index,
+                byte: 2,
+                bit: 1,
+            })?;
+        }
     }
-    Ok(is_counter_run(alloc, base::slots(alloc)?, &counter))
+    Ok(hits)
+}
+
+// A run of page 100 from slot 1 on, without choices.
+fn run(alloc: Global, slots: u32, repeat: u8, hits: Vec<Hit>) -> Counter {
+    Counter {
+        page: 0,
+        any_sub: false,
+        start: 1,
+        slots,
+        former: an_x_in_row_23(),
+        choices: Vec::new(alloc),
+        hits,
+        lines: 2,
+        repeat,
+        deadline: 40,
+    }
+}
+
+// Whether it is a counter-run of these slots.
+fn is_counter_run(alloc: Global, slots: Vec<[u8; 42]>, counter: &Counter) -> bool {
+    let (Some(page), Some(cycle)) = (page(0x20), Cycle::of(slots)) else {
+        return false;
+    };
+    let pages = std::slice::from_ref(&page);
+    matches!(check_counter(alloc, &cycle, pages, counter), Ok(true))
 }
 
 #[test]
 fn a_character_that_is_hit_once(rt: HostRuntime) -> Result<(), Fail> {
-    assert!(rt; hit_in(rt.alloc(), 80, 2, &[52])?);
-    // and where it was hit before, one of two isn't right
-    assert!(rt; !hit_in(rt.alloc(), 80, 2, &[52, 24])?);
-    // one slot later it has come again
-    assert!(rt; !hit_in(rt.alloc(), 81, 2, &[52])?);
-    // where each transmission is to be right, none may be hit
-    assert!(rt; !hit_in(rt.alloc(), 80, 1, &[52])?);
+    for (slots, repeat, places, wanted) in &RUNS {
+        let run = run(rt.alloc(), *slots, *repeat, hits(rt.alloc(), *places)?);
+        let is_run = is_counter_run(rt.alloc(), base::slots(rt.alloc())?, &run);
+        assert!(rt; is_run == *wanted, "{slots} {repeat}");
+    }
     Ok(())
 }

@@ -5,8 +5,6 @@
 #[cfg(test)]
 mod base;
 #[cfg(test)]
-mod certificates;
-#[cfg(test)]
 mod characters;
 #[cfg(test)]
 mod codes;
@@ -14,8 +12,6 @@ mod codes;
 mod counters;
 #[cfg(test)]
 mod display;
-#[cfg(test)]
-mod headers;
 #[cfg(test)]
 mod packet_files;
 #[cfg(test)]
@@ -25,18 +21,10 @@ mod page_links;
 #[cfg(test)]
 mod pages;
 #[cfg(test)]
-mod receivers;
-#[cfg(test)]
-mod receptions;
-#[cfg(test)]
 mod seen;
 #[cfg(test)]
 mod service_packets;
 #[cfg(test)]
 mod services;
 #[cfg(test)]
-mod splices;
-#[cfg(test)]
 mod walks;
-#[cfg(test)]
-mod watched;

@@ -1,10 +1,8 @@
 //! What is certified is seen: worked cycles, received from each tuning slot by each kind of receiver, out of bad memories and
-//! with errors within the error rule.
-
-ghost use Rattle.std.specs.Prelude.{◌≤◌};
+//! with errors within the error rule. Turned and spliced ones tests/spliced.py shows.
 
 use crate::base::{self, beginning};
-use std::alloc::{AllocError, Global};
+use std::alloc::Global;
 use std::test::Fail;
 use ttx_certify::{Verdict, certify};
 use ttx_cycle::Cycle;
@@ -12,62 +10,97 @@ use ttx_header::{Control, PageId};
 use ttx_links::Links;
 use ttx_packet::{Slot, slot_of};
 use ttx_page::{Page, PageMemory, Selection};
-use ttx_receiver::{Careful, Eager, Receiver, Scripted};
+use ttx_receiver::{Careful, Eager, Receiver, Scripted, Watched};
 use ttx_render::{render, same_but_clock};
-use ttx_witness::read_certificate;
+use ttx_witness::find;
+
+// Two slots of the worked cycle, each with the bytes that it begins with instead, how row 5 of the page begins, whether one of two
+// transmissions is right or each, and the least deadline. There is no slot 28.
+#[rattlefmt::skip]
+static CYCLES: [(usize, [u8; 10], usize, [u8; 10], u8, bool, u32); 4] = [
+    (28, [0; 10], 28, [0; 10], 0x20, true, 41),
+    // in parallel transmission a header of another magazine doesn't end the page
+    (1, [0x49, 0x15, 0x15, 0x15, 0x15, 0x15, 0x15, 0x15, 0x15, 0x15], 28, [0; 10], 0x20, false, 27),
+    // a packet 8/30 right after the page header
+    (1, [0x15, 0xea, 0x15, 0x20, 0x20, 0x20, 0x20, 0x20, 0x20, 0x20], 28, [0; 10], 0x20, false, 27),
+    // row 5 is in double height, so that row 6 isn't needed; packet 26 is sent instead of it
+    (7, [0xc7, 0x49, 0x0d, 0x20, 0x20, 0x20, 0x20, 0x20, 0x20, 0x20],
+        8, [0x02, 0xb6, 0x15, 0x20, 0x20, 0x20, 0x20, 0x20, 0x20, 0x20], 0x0d, false, 27),
+];
+
+// A page of a cycle, and how it is received: after how many slots it is to be seen, and whether one of two successive transmissions
+// of an item is right or each.
+#[derive(Drop)]
+struct Sent {
+    page: Page,
+    cycle: Cycle,
+    is_half_right: bool,
+    slots: u32,
+}
 
 // Page 100 with C11; its row 5 begins with a character.
 pub(crate) fn page(first_of_row_5: u8) -> Option<Page> {
     let mut rows = [[0x20; 40]; 24];
     rows[4][0] = first_of_row_5;
-    let id = PageId::new(1, 0, 0)?;
     let links = Links::new([None; 6], false, [0, 0]);
-    Page::new(id, Control::C11, [0x20; 24], rows, links)
-}
-
-// The starts of each item of the page, in a cycle that is turned by some slots; row 6 may be left out.
-pub(crate) fn certificate(
-    alloc: Global,
-    repeat: u8,
-    deadline: u8,
-    turn: u8,
-    has_row_6: bool,
-) -> Result<String, AllocError>
-    requires { turn ≤ 28 }
-{
-    let head = (28 - turn) % 28;
-    let mut text = format!(in alloc;
-        "ttx certificate 1\nlines 2\nrepeat {repeat}\ndeadline {deadline}\n100/0000 head {head}\n"
-    )?;
-    for row in 1..24u8 {
-        if row != 6 || has_row_6 {
-            let start = (row + 30 - turn) % 28;
-            writeln!(text, "100/0000 row {row} {start}")?;
-        }
+    match PageId::new(1, 0, 0) {
+        Some(id) => Page::new(id, Control::C11, [0x20; 24], rows, links),
+        None => None,
     }
-    let last = (54 - turn) % 28;
-    writeln!(text, "100/0000 links {last}")?;
-    Ok(text)
 }
 
-// Whether a byte of a slot is text, of which one in so many successive transmissions is received right.
-fn is_text(slot: &[u8; 42], at: usize) -> bool {
+// Makes a slot begin with other bytes, where there is such a slot.
+fn edit(slots: &mut Vec<[u8; 42]>, at: usize, first: &[u8; 10]) {
+    if let Some(slot) = slots.get_mut(at) {
+        *slot = beginning(first);
+    }
+}
+
+// Whether what is found for the page has this deadline and is certified.
+fn is_certified(
+    alloc: Global,
+    cycle: &Cycle,
+    page: &Page,
+    is_half_right: bool,
+    fields: u32,
+) -> bool {
+    let pages = std::slice::from_ref(page);
+    let found = match is_half_right {
+        true => find(alloc, cycle, pages, 2, 2),
+        false => find(alloc, cycle, pages, 1, 2),
+    };
+    match found {
+        Ok(found) => {
+            found.deadline == Some(fields)
+                && matches!(
+                    certify(alloc, cycle, pages, &found.certificate),
+                    Ok(Verdict::Yes)
+                )
+        }
+        Err(_) => false,
+    }
+}
+
+// From which byte of a slot on and before which other one there is text, of which one in so many successive transmissions is received
+// right.
+fn text_in(slot: &[u8; 42]) -> (usize, usize) {
     match slot_of(slot) {
-        Slot::Header(_, _) => at >= 10 && at < 34,
-        Slot::Row(_, _) => at >= 2,
-        _ => false,
+        Slot::Header(_, _) => (10, 34),
+        Slot::Row(_, _) => (2, 42),
+        _ => (42, 42),
     }
 }
 
 // One wrong bit in each byte, but for text where it is to be right; the same byte all over a clock and behind the address of a
 // packet 8/30.
-pub(crate) fn with_errors(sent: &[u8; 42], text_is_right: bool, wild: u8) -> [u8; 42] {
+fn with_errors(sent: &[u8; 42], text_is_right: bool, wild: u8) -> [u8; 42] {
     let mut bytes = *sent;
     if *sent == [0; 42] {
         return bytes;
     }
+    let (begin, end) = text_in(sent);
     for at in 0..42usize {
-        if !text_is_right || !is_text(sent, at) {
+        if !text_is_right || at < begin || at >= end {
             bytes[at] = bytes[at] ^ 1u8 << (at % 8);
         }
     }
@@ -81,172 +114,101 @@ pub(crate) fn with_errors(sent: &[u8; 42], text_is_right: bool, wild: u8) -> [u8
 
 // What is received of slot `at` of the stream. Where one of two transmissions is right, it is that of every other period. Clocks and
 // packets 8/30 are other bytes each time, of right and of wrong parity.
-fn received(cycle: &Cycle, at: u32, repeat: u8) -> [u8; 42] {
-    let slots = cycle.slots();
+fn received(sent: &Sent, at: u32) -> [u8; 42] {
+    let slots = sent.cycle.slots();
     let place = at as usize;
     with_errors(
         &slots[place % slots.len()],
-        repeat == 1 || place / slots.len() % 2 == 0,
+        !sent.is_half_right || place / slots.len() % 2 == 0,
         (at % 251) as u8,
     )
 }
 
-// A page of a cycle, and how it is received: from which slot on, after how many slots it is to be seen, and of how many successive
-// transmissions of an item one is right.
-#[derive(Clone, Copy)]
-struct Reception<'a> {
-    page: &'a Page,
-    cycle: &'a Cycle,
-    tuning: u16,
-    slots: u16,
-    repeat: u8,
-}
-
-// Whether the receiver shows the page in time, and after each of the next 28 slots.
-fn is_seen<R: Receiver>(receiver: &mut R, of: Reception) -> bool {
-    let wanted = render(&PageMemory::of(of.page));
-    let begin = u32::from(of.tuning);
-    for i in 0..u32::from(of.slots) {
-        receiver.step(Some(&received(of.cycle, begin + i, of.repeat)));
+// Whether the receiver, tuned at this slot, shows the page in time, and after each of the next 28 slots.
+fn is_seen<R: Receiver + Drop>(receiver: R, sent: &Sent, tuning: u16) -> bool {
+    let wanted = render(&PageMemory::of(&sent.page));
+    let mut watched = Watched::new(receiver);
+    let mut is_shown = true;
+    for i in 0..sent.slots.saturating_add(28) {
+        if i >= sent.slots {
+            is_shown = is_shown && same_but_clock(watched.view(), &wanted);
+        }
+        watched.step(Some(&received(sent, i.saturating_add(u32::from(tuning)))));
     }
-    let deadline = begin + u32::from(of.slots);
-    let mut is_shown = same_but_clock(&render(receiver.memory()), &wanted);
-    for i in 0..28u32 {
-        receiver.step(Some(&received(of.cycle, deadline + i, of.repeat)));
-        is_shown = is_shown && same_but_clock(&render(receiver.memory()), &wanted);
-    }
-    is_shown
+    is_shown && same_but_clock(watched.view(), &wanted)
 }
 
 // A memory full of 7F.
-pub(crate) fn former(storing: bool, age: u8, fresh: bool) -> PageMemory {
+fn former(storing: bool, age: u8, fresh: bool) -> PageMemory {
     let rows = [[0x7f; 40]; 25];
     let memory = PageMemory::new(rows, Control::C7, [None; 6], true, storing, age, fresh);
     memory.unwrap_or(PageMemory::blank())
 }
 
-fn any_subpage() -> Selection {
-    Selection::AnySub(1, 0)
+fn by_eager(sent: &Sent, tuning: u16, storing: bool) -> bool {
+    let any = Selection::AnySub(1, 0);
+    is_seen(Eager::new(any, 2, former(storing, 0, false)), sent, tuning)
 }
 
-// Whether each kind of receiver shows the page, out of memories that store and that don't.
-fn are_served(of: Reception) -> bool {
-    are_served_from(false, of) && are_served_from(true, of)
+fn by_careful(sent: &Sent, tuning: u16, storing: bool) -> bool {
+    let own = Selection::Exact(sent.page.id());
+    is_seen(Careful::new(own, 2, former(storing, 2, true)), sent, tuning)
 }
 
-fn are_served_from(storing: bool, of: Reception) -> bool {
-    let mut eager = Eager::new(any_subpage(), 2, former(storing, 0, false));
-    let mut careful = Careful::new(Selection::Exact(of.page.id()), 2, former(storing, 2, true));
-    let mut scripted = Scripted::new(
-        any_subpage(),
-        2,
-        former(storing, 64, true),
-        &[false, true, true, false, true],
-    );
-    is_seen(&mut eager, of) && is_seen(&mut careful, of) && is_seen(&mut scripted, of)
+fn by_scripted(sent: &Sent, tuning: u16, storing: bool) -> bool {
+    let memory = former(storing, 64, true);
+    let script = [false, true, true, false, true];
+    is_seen(
+        Scripted::new(Selection::AnySub(1, 0), 2, memory, &script),
+        sent,
+        tuning,
+    )
 }
 
-// Whether the cycle is certified, and the page seen so many slots after each tuning slot of a period.
-fn is_right(
-    alloc: Global,
-    slots: Vec<[u8; 42]>,
-    page: Option<Page>,
-    text: &str,
-    deadline: u16,
-) -> bool {
-    let (Some(page), Some(cycle)) = (page, Cycle::of(slots)) else {
-        return false;
-    };
-    let Ok(certificate) = read_certificate(alloc, text.as_bytes()) else {
-        return false;
-    };
-    let pages = std::slice::from_ref(&page);
-    if !matches!(
-        certify(alloc, &cycle, pages, &certificate),
-        Ok(Verdict::Yes)
-    ) {
-        return false;
+// Whether each kind of receiver shows the page, out of a memory that stores or doesn't.
+fn are_served(sent: &Sent, tuning: u16, storing: bool) -> bool {
+    by_eager(sent, tuning, storing)
+        && by_careful(sent, tuning, storing)
+        && by_scripted(sent, tuning, storing)
+}
+
+fn is_seen_by_all(sent: &Sent) -> bool {
+    for tuning in 0..28u16 {
+        if !are_served(sent, tuning, false) || !are_served(sent, tuning, true) {
+            return false;
+        }
     }
-    let repeat = certificate.repeat();
-    (0..28u16).all(|tuning| {
-        are_served(Reception {
-            page: &page,
-            cycle: &cycle,
-            tuning,
-            slots: deadline,
-            repeat,
-        })
-    })
+    true
 }
 
 #[test]
-fn each_item_once(rt: HostRuntime) -> Result<(), Fail> {
-    let text = certificate(rt.alloc(), 1, 27, 0, true)?;
-    assert!(rt;
-        is_right(
-            rt.alloc(),
-            base::slots(rt.alloc())?,
-            page(0x20),
-            text.as_str(),
-            54
-        )
-    );
-    Ok(())
-}
-
-#[test]
-fn one_of_two_is_right(rt: HostRuntime) -> Result<(), Fail> {
-    let text = certificate(rt.alloc(), 2, 41, 0, true)?;
-    assert!(rt;
-        is_right(
-            rt.alloc(),
-            base::slots(rt.alloc())?,
-            page(0x20),
-            text.as_str(),
-            82
-        )
-    );
-    Ok(())
-}
-
-// In parallel transmission a header of another magazine doesn't end the page.
-#[test]
-fn a_parallel_header_between(rt: HostRuntime) -> Result<(), Fail> {
-    let header = beginning(&[0x49, 0x15, 0x15, 0x15, 0x15, 0x15, 0x15, 0x15, 0x15, 0x15]);
-    let slots = base::edited(rt.alloc(), 1, 0, &header)?;
-    let text = certificate(rt.alloc(), 1, 27, 0, true)?;
-    assert!(rt; is_right(rt.alloc(), slots, page(0x20), text.as_str(), 54));
-    Ok(())
-}
-
-// A packet 8/30 right after the page header.
-#[test]
-fn an_info_packet_between(rt: HostRuntime) -> Result<(), Fail> {
-    let slots = base::edited(rt.alloc(), 1, 0, &beginning(&[0x15, 0xea, 0x15]))?;
-    let text = certificate(rt.alloc(), 1, 27, 0, true)?;
-    assert!(rt; is_right(rt.alloc(), slots, page(0x20), text.as_str(), 54));
-    Ok(())
-}
-
-// Row 5 is in double height, so that row 6 isn't needed and isn't sent.
-#[test]
-fn a_hidden_row_is_left_out(rt: HostRuntime) -> Result<(), Fail> {
-    let mut slots = base::edited(rt.alloc(), 7, 2, &[0x0d])?;
-    if let Some(row_6) = slots.get_mut(8) {
-        *row_6 = [0; 42];
+fn what_is_certified_is_seen(rt: HostRuntime) -> Result<(), Fail> {
+    for (
+        one,
+        first_of_one,
+        other,
+        first_of_other,
+        first_of_row_5,
+        is_half_right,
+        fields,
+    ) in &CYCLES {
+        let mut slots = base::slots(rt.alloc())?;
+        edit(&mut slots, *one, first_of_one);
+        edit(&mut slots, *other, first_of_other);
+        let (Some(page), Some(cycle)) = (page(*first_of_row_5), Cycle::of(slots)) else {
+            panic!(rt; "there is no page or cycle");
+        };
+        assert!(rt;
+            is_certified(rt.alloc(), &cycle, &page, *is_half_right, *fields),
+            "{one}"
+        );
+        let sent = Sent {
+            page,
+            cycle,
+            is_half_right: *is_half_right,
+            slots: fields.saturating_mul(2),
+        };
+        assert!(rt; is_seen_by_all(&sent), "{one}");
     }
-    let text = certificate(rt.alloc(), 1, 27, 0, false)?;
-    assert!(rt; is_right(rt.alloc(), slots, page(0x0d), text.as_str(), 54));
-    Ok(())
-}
-
-#[test]
-fn a_cycle_that_begins_within_the_page(rt: HostRuntime) -> Result<(), Fail> {
-    let mut slots = base::slots(rt.alloc())?;
-    if slots.len() >= 10 {
-        slots.rotate_left(10);
-    }
-    let text = certificate(rt.alloc(), 1, 27, 10, true)?;
-    assert!(rt; is_right(rt.alloc(), slots, page(0x20), text.as_str(), 54));
     Ok(())
 }
