@@ -28,3 +28,5 @@ mod service_packets;
 mod services;
 #[cfg(test)]
 mod walks;
+#[cfg(test)]
+mod watched;
