@@ -24,6 +24,27 @@ refute_pages-requires-clause-prepared c = record {
       (c.in_ok-found.ensures.named n p here item is));
 }
 
+pub refute_all_plainly-requires-clause-sent : goal.refute_all_plainly-requires-clause-sent
+refute_all_plainly-requires-clause-sent c =
+    subst (λ l. AreAllSent (slots_of c.args.cycle.now) (map page_of c.args.pages.now) l c.in_ok-collected.collected)
+    c.lines-lines.ensures c.in_ok-collected.ensures
+
+pub returns-then-is_some-clause-tells : goal.returns-then-is_some-clause-tells
+returns-then-is_some-clause-tells c =
+    let cycle = slots_of c.args.cycle.now in
+    let pages = map page_of c.args.pages.now in
+    let w = certificate_of c.args.certificate.now in
+    counter_told cycle pages w counter_run_of c.in_ok-counter.counter (sym c.is_some.ensures ∙ c.if-is_some.true) c.in_ok-counter.ensures
+
+pub returns-clause-tells : goal.returns-clause-tells
+returns-clause-tells c =
+    let cycle = slots_of c.args.cycle.now in
+    let pages = map page_of c.args.pages.now in
+    let w = certificate_of c.args.certificate.now in
+    both_told cycle pages w counter_run_of c.in_ok-counter.counter
+    (sym c.is_some.ensures ∙ c.if-is_some.false) c.in_ok-counter.ensures c.refute_all_plainly.result
+    c.refute_all_plainly.ensures
+
 pub returns-then-is_some-clause-exact : goal.returns-then-is_some-clause-exact
 returns-then-is_some-clause-exact c =
     let cycle = slots_of c.args.cycle.now in
