@@ -18,3 +18,4 @@ mod Examples
 mod WrongText
 mod OutsideErrorRule
 mod Targets
+mod Fitting

@@ -1,4 +1,4 @@
-use Rattle.std.proofs.Common.{◌<◌, arith, rules}
+use Rattle.std.proofs.Common.{◌<◌, refl, arith, rules}
 use Rattle.ttx_digits.proofs.Words.{number_fits}
 use Rattle.ttx_digits.proofs.decimals.value_of.Goals as goal
 
@@ -11,3 +11,6 @@ overflow_add-value c =
     let small : c.loop-digit.value < 1000000 = number_fits c.loop-digit.value c.loop-digit.digit-index c.loop-digit.invariant.small (omega arith) in
     let digit : c.from.result < 10 = search rules in
     omega arith
+
+pub loop-digit-init : goal.loop-digit-init
+loop-digit-init c = record { value = refl; small = omega arith }

@@ -1,4 +1,6 @@
-use Rattle.std.proofs.Common.{[], ap, length, get_or, sym, subst, arith}
+use Rattle.std.proofs.Common.{[], true, false, ap, length, get_or, sym, subst, arith}
+use Rattle.ttx_links.specs.Sets.{no_links}
+use Rattle.ttx_page.specs.Memories.{memory_at}
 use Rattle.ttx_page.specs.Pages.{IsRow}
 use Rattle.ttx_page.proofs.KeptRanges.{rows-blank}
 use Rattle.ttx_page.proofs.memory.PageMemory.blank.Goals as goal
@@ -12,3 +14,6 @@ invariant_of-result c = record {
     at_most = omega arith;
   };
 }
+
+pub returns : goal.returns
+returns c = ap (λ rows. memory_at rows 0 no_links false 64 true) c.blank_rows.ensures
