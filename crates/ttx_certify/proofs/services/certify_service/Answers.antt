@@ -1,3 +1,7 @@
+use Rattle.std.proofs.Common.{IfOk, subst}
+use Rattle.ttx_cycle.specs.Cycles.{slots_of}
+use Rattle.ttx_witness.specs.Certificates.{certificate_of}
+use Rattle.ttx_certify.specs.Verdicts.{IsVerdict, Means}
 use Rattle.ttx_certify.proofs.AuthoredIds.{distinct_ids}
 use Rattle.ttx_certify.proofs.services.certify_service.Goals as goal
 
@@ -6,3 +10,13 @@ certify-requires c = record {
   distinct = distinct_ids c.pages.result.now c.args.service.now.pages c.pages.ensures.value
       c.pages.ensures.ranges.distinct;
 }
+
+pub returns-clause-exact : goal.returns-clause-exact
+returns-clause-exact c =
+    subst (λ ps. IfOk c.certify.result (IsVerdict (slots_of c.args.cycle.now) ps (certificate_of c.args.certificate.now)))
+    c.pages.ensures.value c.certify.ensures.exact
+
+pub returns-clause-seen : goal.returns-clause-seen
+returns-clause-seen c =
+    subst (λ ps. IfOk c.certify.result (Means (slots_of c.args.cycle.now) ps (certificate_of c.args.certificate.now)))
+    c.pages.ensures.value c.certify.ensures.seen

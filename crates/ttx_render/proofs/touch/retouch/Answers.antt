@@ -30,3 +30,6 @@ returns-then-not-now c =
             ∙ touched-lower m n c.args.row c.requires.differs c.loop-number.number k c.if-number-row.true e f high
       ];
     }
+
+pub view_row-requires-clause-hidden : goal.view_row-requires-clause-hidden
+view_row-requires-clause-hidden c = c.loop-number.invariant.now

@@ -1,0 +1,10 @@
+use Rattle.std.proofs.Common.{◌≡◌, false, replicate, subst}
+use Rattle.std.specs.Prelude.{MatchOption}
+use Rattle.ttx_page.specs.declared.class.Class.TheVariants.{Any}
+use Rattle.ttx_receiver.specs.Tuning.{Tuned, stepped}
+use Rattle.ttx_receiver.proofs.eager.EagerReceiver.step.Goals as goal
+
+pub returns-clause-value : goal.returns-clause-value
+returns-clause-value c =
+    subst (λ (t : Tuned). MatchOption c.args.slot (c.step.new.self ≡ stepped Any false t (replicate 42 0))
+    (λ s. c.step.new.self ≡ stepped Any false t s.now)) c.self.view_is c.step.ensures.value
