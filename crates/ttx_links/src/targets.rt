@@ -33,8 +33,12 @@ impl Target {
     pub fn new(mag: u8, page: u8, sub: u16) -> Option<Target>
         ensures { SomeIff result (IsTarget (id_at mag page sub)) (id_at mag page sub) }
     {
-        let in_range = 1 <= mag && mag <= 8 && sub < 0x4000 && sub / 128 % 2 == 0;
-        if in_range && !(page == 0xff && sub == 0x3f7f) {
+        if 1 <= mag
+            && mag <= 8
+            && sub < 0x4000
+            && sub / 128 % 2 == 0
+            && !(page == 0xff && sub == 0x3f7f)
+        {
             Some(Target { mag, page, sub })
         } else {
             None
