@@ -6,7 +6,8 @@ one_by_one : (words text clock first second third : List ℕ) → length words �
     take (34 + length clock) third ≡ take 34 second ++ clock → third ≡ (words ++ text) ++ clock
 one_by_one words text clock first second third w t c long one two three =
     let front : take 10 first ≡ words = ap (λ n. take n first) (let e : 10 ≡ 0 + length words = omega (arith, w) in e) ∙ one in
-    let both : take 34 second ≡ words ++ text = ap (λ n. take n second) (let e : 34 ≡ 10 + length text = omega (arith, t) in e) ∙ two ∙ ap (λ xs. xs ++ text) front in
+    let both : take 34 second ≡ words ++ text =
+    ap (λ n. take n second) (let e : 34 ≡ 10 + length text = omega (arith, t) in e) ∙ two ∙ ap (λ xs. xs ++ text) front in
     sym (take_all (34 + length clock) third (omega (arith, c, long))) ∙ three ∙ ap (λ xs. xs ++ clock) both
 
 pub returns : goal.returns

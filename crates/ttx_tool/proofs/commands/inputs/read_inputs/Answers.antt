@@ -18,4 +18,5 @@ returns-in-Err-read_definition-clause-bytes g c =
     c.in-Ok.ensures.bytes c.in-Err-read_definition.ensures.bytes
 
 pub returns-in-Err-read_definition-clause-faults : goal.returns-in-Err-read_definition-clause-faults
-returns-in-Err-read_definition-clause-faults g c = counts_both ServiceFields Inputs c.in-Err-read_definition.fault _ _ _ _ c.in-Err-read_definition.ensures.faults
+returns-in-Err-read_definition-clause-faults g c =
+    counts_both ServiceFields Inputs c.in-Err-read_definition.fault _ _ _ _ c.in-Err-read_definition.ensures.faults

@@ -11,5 +11,6 @@ returns-in-Ok-clause-bytes g c =
 pub returns-in-Err-clause-bytes : goal.returns-in-Err-clause-bytes
 returns-in-Err-clause-bytes g c =
     subst (λ text. (c.in-Err.fault.written < length text)
-    × Appends (g.W.Write.contents (inner_of c.args.writer.now)) (g.W.Write.contents (inner_of c.write_bytes.new.writer)) (take c.in-Err.fault.written text))
+    × Appends (g.W.Write.contents (inner_of c.args.writer.now)) (g.W.Write.contents (inner_of c.write_bytes.new.writer))
+    (take c.in-Err.fault.written text))
     c.as_bytes.ensures.value c.in-Err.ensures.bytes
