@@ -19,7 +19,10 @@ import tempfile
 CLAUSE = re.compile(r"(old|new): .*\b(ensures|requires|keeps|invariant)\b")
 ITEM = re.compile(r"\s*(?:pub(?:\([a-z]+\))? )?(?:const |unsafe )?(?:fn|struct|enum|const|static|trait|type)\s+(\w+)")
 DEFINITION = re.compile(r"(?:pub )?(?:record |data )?(?!where\b|unfolding\b|use\b|mod\b|--)([^\s:{})]+)")
-REFUSED = re.compile(r"^fn (\S+): no proof: expected answers", re.M)
+LACKING = re.compile(r"^fn (\S+): no proof: expected answers", re.M)
+NOT_PROVED = re.compile(r"^fn (\w+)::(\S+): not proved$", re.M)
+ANSWER = re.compile(r"^(?:\./)?proofs/(\S+)/Answers\.antt:\d+:\d+: error: (.*)", re.M)
+NAME_GONE = re.compile(r"has no field|is not in scope|has no `|was not admitted")
 
 
 def bodies(text):
@@ -99,6 +102,13 @@ def is_of_code(lines):
     return all(line.startswith("file: src/") for line in lines if line.startswith("file: ")) and not any(CLAUSE.match(line) for line in lines)
 
 
+def refused_in(told):
+    """The functions that a check refuses for their own sake: no answer is found, or a written one shows something else than what is
+    asked now. One that only names what is gone says nothing of the contract."""
+    wrong = {path.replace("/", "::") for path, why in ANSWER.findall(told) if not NAME_GONE.search(why)}
+    return LACKING.findall(told) + [f"{crate}::{path}" for crate, path in NOT_PROVED.findall(told) if path in wrong]
+
+
 def left_alone(folder, edit):
     """The bodies of an edit that are to be tried by themselves, since together with the others it isn't seen that each is refused."""
     every = bodies(edit.read_text())
@@ -108,7 +118,7 @@ def left_alone(folder, edit):
         return every
     with in_place(texts):
         ran = subprocess.run(["rt", "check"], cwd=folder, stdout=subprocess.PIPE, stderr=subprocess.STDOUT, text=True, errors="replace", check=False)
-    refused = REFUSED.findall(ran.stdout)
+    refused = refused_in(ran.stdout)
     counts = collections.Counter(it for names, lines in told for it in functions(names, lines))
     is_seen = lambda it: counts[it] == 1 and any(re.fullmatch(it, path) for path in refused)
     return [(names, lines) for names, lines in every if not is_of_code(lines) or not all(map(is_seen, functions(names, lines)))]
