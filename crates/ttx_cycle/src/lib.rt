@@ -1,7 +1,7 @@
 //! Packet files: the slots of a cycle end to end, 42 bytes each.
 #![tactic(auto)]
 
-mod arrays;
+pub mod arrays;
 pub mod counted;
 pub mod cycles;
 pub mod faults;

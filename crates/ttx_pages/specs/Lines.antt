@@ -6,7 +6,7 @@
 use Rattle.std.specs.Prelude.{ℕ, ◌||◌, ◌==◌, ◌%◌, List, [], ◌∷◌, ◌++◌, codes, nat_lt, if◌then◌else◌}
 use Rattle.std.specs.Fmt.{decimal}
 use Rattle.ttx_code.specs.Words.{is_odd}
-use Rattle.ttx_header.specs.Control.{control_text}
+use Rattle.ttx_digits.specs.ControlNames.{control_text}
 use Rattle.ttx_header.specs.Ids.{Id}
 use Rattle.ttx_digits.specs.Digits.{hex_byte}
 use Rattle.ttx_digits.specs.PageIds.{id_text}

@@ -5,8 +5,8 @@ ghost use Rattle.ttx_pages.specs.Lines.{character, quoted, quoted_text, counts_t
 
 use std::alloc::AllocError;
 use ttx_code::odd_of;
-use ttx_digits::{push_byte, push_id};
-use ttx_header::{Header, push_control};
+use ttx_digits::{push_byte, push_control, push_id};
+use ttx_header::Header;
 
 // Adds a character as it stands between quotation marks.
 fn push_character(text: &mut String, code: u8) -> Result<(), AllocError>
