@@ -1,3 +1,4 @@
 pub mod Digits
 pub mod PageIds
+pub mod ControlNames
 pub mod Laws

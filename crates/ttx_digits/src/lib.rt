@@ -1,11 +1,13 @@
-//! Numbers and the ids of pages in texts: decimal digits, and hexadecimal ones, 0 to 9 and A to F.
+//! Numbers, the ids of pages and the names of control bits in texts: decimal digits, and hexadecimal ones, 0 to 9 and A to F.
 #![tactic(auto)]
 
+mod control_names;
 mod decimals;
 mod hexadecimals;
 pub mod laws;
 mod page_ids;
 
+pub use control_names::push_control;
 pub use decimals::{decimal_in, number, push_decimal, push_digit, two_decimals};
 pub use hexadecimals::{digit, four_digits, push_byte, push_subcode, two_digits};
 pub use page_ids::{first_number, id, push_id, push_numbers};

@@ -1,12 +1,10 @@
 -- The control bits of a page header, C4 to C14, as one number (EN 300 706, 9.3.1.3). Bit 0 of the number is C4, bit 10 is C14.
 --
---   IsControl               no bit above bit 10
---   c4 .. c11               single bits
---   option_of               the national option, 0 to 7
---   control_table           the name and the value of each bit
---   set_names, control_text the names of the bits that are set
-use Rattle.std.specs.Prelude.{ℕ, ◌+◌, ◌*◌, ◌<◌, ◌^◌, List, [], ◌∷◌, ◌++◌, Bool, ◌==◌, codes, if◌then◌else◌}
-use Rattle.std.specs.Int.RustNames.{bit_and}
+--   IsControl       no bit above bit 10
+--   c4 .. c11       single bits
+--   option_of       the national option, 0 to 7
+--   control_table   the name and the value of each bit
+use Rattle.std.specs.Prelude.{ℕ, ◌+◌, ◌*◌, ◌<◌, ◌^◌, List, [], ◌∷◌, Bool, ◌==◌, codes}
 use Rattle.ttx_code.specs.Words.{bit}
 
 -- nothing but the eleven control bits
@@ -46,12 +44,3 @@ abbrev pub control_table : List (List ℕ × ℕ)
 control_table =
     (codes "C4", 1) ∷ (codes "C5", 2) ∷ (codes "C6", 4) ∷ (codes "C7", 8) ∷ (codes "C8", 16) ∷ (codes "C9", 32) ∷ (codes "C10", 64)
     ∷ (codes "C11", 128) ∷ (codes "C12", 256) ∷ (codes "C13", 512) ∷ (codes "C14", 1024) ∷ []
-
--- the names of the bits that are set, in the order of the table, each after a space
-abbrev pub set_names : ℕ → List (List ℕ × ℕ) → List ℕ
-set_names control [] = []
-set_names control (row ∷ rest) = (if bit_and control row.1 == row.1 then 32 ∷ row.0 else []) ++ set_names control rest
-
--- the names of all control bits that are set, C4 first
-unfoldable pub control_text : ℕ → List ℕ
-control_text control = set_names control control_table

@@ -2,7 +2,6 @@
 #![tactic(auto)]
 
 pub mod control;
-mod control_names;
 pub mod headers;
 pub mod ids;
 pub mod laws;
@@ -11,7 +10,6 @@ mod reading;
 mod writing;
 
 pub use control::Control;
-pub use control_names::push_control;
 pub use headers::Header;
 pub use ids::PageId;
 pub use reading::read_header;

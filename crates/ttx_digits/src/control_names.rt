@@ -1,11 +1,11 @@
 //! The names of the control bits of a page header.
 
 ghost use Rattle.std.specs.Prelude.{◌≡◌, ◌++◌, OnOk, map, string_bytes};
-ghost use Rattle.ttx_header.specs.Control.{set_names, control_text};
+ghost use Rattle.ttx_digits.specs.ControlNames.{set_names, control_text};
 
-use crate::control::Control;
 use bitflags::{Flag, Flags};
 use std::alloc::AllocError;
+use ttx_header::Control;
 
 // Adds the names of the set flags, each after a space.
 fn push_flags(
@@ -25,7 +25,7 @@ fn push_flags(
 }
 
 /// Adds the names of the control bits that are set, each after a space, C4 first.
-#[tactic(auto, unfolding(crate::specs::Control::control_text))]
+#[tactic(auto, unfolding(crate::specs::ControlNames::control_text))]
 pub fn push_control(text: &mut String, control: Control) -> Result<(), AllocError>
     ensures { OnOk result (string_bytes text.new ≡ string_bytes text.old ++ control_text control.0) }
 {

@@ -1,6 +1,6 @@
 use Rattle.std.proofs.Common.{◌≡◌, ◌++◌, map, drop, string_bytes}
-use Rattle.ttx_header.specs.Control.{set_names}
-use Rattle.ttx_header.proofs.control_names.push_flags.Given as goal
+use Rattle.ttx_digits.specs.ControlNames.{set_names}
+use Rattle.ttx_digits.proofs.control_names.push_flags.Given as goal
 
 abbrev pub invariant-loop-flag : goal.invariant-loop-flag
 invariant-loop-flag l =
