@@ -45,6 +45,8 @@ impl Receiver for Careful {
 
     ghost kind = { λ r. Any };
 
+    ghost next = { λ r slot. stepped Any true r slot };
+
     fn selection(&self) -> Selection {
         self.tuned.selection()
     }

@@ -45,6 +45,8 @@ impl Receiver for Cleared {
 
     ghost kind = { λ r. Clearing };
 
+    ghost next = { λ r slot. stepped Clearing false r slot };
+
     fn selection(&self) -> Selection {
         self.tuned.selection()
     }

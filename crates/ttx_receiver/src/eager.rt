@@ -45,6 +45,8 @@ impl Receiver for Eager {
 
     ghost kind = { λ r. Any };
 
+    ghost next = { λ r slot. stepped Any false r slot };
+
     fn selection(&self) -> Selection {
         self.tuned.selection()
     }

@@ -1,6 +1,6 @@
 //! The law of receivers.
 
-ghost use Rattle.std.specs.Prelude.{◌≡◌, ℕ, MatchOption, replicate};
+ghost use Rattle.std.specs.Prelude.{◌≡◌, ℕ, List, MatchOption, replicate};
 ghost use Rattle.ttx_page.specs.Memories.{Memory};
 ghost use Rattle.ttx_page.specs.Receivers.{Step};
 ghost use Rattle.ttx_page.specs.Views.{memory_of};
@@ -10,7 +10,7 @@ ghost use Rattle.ttx_page.specs.declared.selection.Selection.{Selection as Selec
 use ttx_page::{Class, PageMemory, Selection};
 
 /// Whatever receives a page. Each step is one that a receiver of its class may make for its selection and lines, which it
-/// leaves as they are.
+/// leaves as they are. `next` is what a slot makes of the receiver.
 pub trait Receiver {
     ghost held: { Self → Memory };
 
@@ -19,6 +19,8 @@ pub trait Receiver {
     ghost field: { Self → ℕ };
 
     ghost kind: { Self → ClassValue };
+
+    ghost next: { Self → List ℕ → Self };
 
     /// What the receiver is set to.
     fn selection(&self) -> Selection
@@ -38,6 +40,7 @@ pub trait Receiver {
 
     /// Takes one slot. `None` is an empty slot.
     fn step(&mut self, slot: Option<&[u8; 42]>)
+        ensures value { MatchOption slot.entry (self.new ≡ next self.old (replicate 42 0)) (λ s. self.new ≡ next self.old s.now) }
         ensures step { MatchOption slot.entry
             (Step (kind self.old) (field self.old) (tuned self.old) (held self.old) (replicate 42 0) (held self.new))
             (λ s. Step (kind self.old) (field self.old) (tuned self.old) (held self.old) s.now (held self.new)) }

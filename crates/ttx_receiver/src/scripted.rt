@@ -86,6 +86,8 @@ impl<'a> Receiver for Scripted<'a> {
 
     ghost kind = { λ r. Any };
 
+    ghost next = { λ r slot. script_step r slot };
+
     fn selection(&self) -> Selection {
         self.tuned.selection()
     }

@@ -93,6 +93,8 @@ impl<R: Receiver> Receiver for Watched<R> {
 
     ghost kind = { λ w. R.kind w };
 
+    ghost next = { λ w slot. R.next w slot };
+
     fn selection(&self) -> Selection {
         self.receiver.selection()
     }
