@@ -3,6 +3,7 @@
 pub mod confirming;
 pub mod named_starts;
 pub mod one_item;
+pub mod ring;
 pub mod sure_starts;
 pub mod transmissions;
 pub mod window;

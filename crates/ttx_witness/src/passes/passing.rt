@@ -10,7 +10,7 @@ ghost use Rattle.ttx_witness.specs.sent.ItemTransmissions.{PageOwner};
 use crate::faults::other_subpages::first_of;
 use crate::passes::earlier_owners::all_moved;
 use crate::passes::ending::EndedPass;
-use crate::passes::numbered_slot::NumberedSlot;
+use crate::passes::numbered_slot::{NumberedSlot, is_slot};
 use crate::passes::other_headers::{OtherHeaders, note_other_header};
 use crate::passes::page_facts::{Facts, note_sent};
 use crate::passes::returning_owners::are_steady;
@@ -84,21 +84,21 @@ fn take_slot(pass: &mut Pass, slot: &[u8; 42])
 }
 
 impl<'a> Pass<'a> {
-    ghost use Rattle.std.specs.Prelude.{◌≡◌, ◌++◌, ◌∷◌, [], ℕ, List, MatchResult, length};
-    ghost use Rattle.ttx_packet.specs.Slots.{IsSlot};
+    ghost use Rattle.std.specs.Prelude.{◌≡◌, ◌++◌, ◌∷◌, [], ℕ, List, IfErr, MatchResult, length};
     ghost use Rattle.ttx_witness.specs.passes.Passing.{IsFirstPass, IsSecondPass, pass_pages, pages_in, certificate, certificate_in};
 
     /// The next slot of the first list. After `TooLong` the pass is as it was.
     pub fn first(&mut self, slot: &[u8; 42]) -> Result<(), WalkFault>
-        requires { IsSlot slot.now }
+        ensures kept { IfErr result (λ _. self.new ≡ self.old) }
         ensures stands { (x : List (List ℕ)) → IsFirstPass self.old x →
-            MatchResult result (λ u. IsFirstPass self.new (x ++ slot.now ∷ [])) (λ f. (self.new ≡ self.old) × (length x ≡ 65536)) }
+            MatchResult result (λ u. IsFirstPass self.new (x ++ slot.now ∷ [])) (λ f. length x ≡ 65536) }
         ensures pages { pass_pages self.new ≡ pass_pages self.old }
         ensures certificate { certificate self.new ≡ certificate self.old }
     {
         if self.count >= 65536 {
             return Err(WalkFault::TooLong);
         }
+        is_slot(slot);
         note_owner(&mut self.owners, &self.index, slot, self.count as i32);
         self.count += 1;
         Ok(())
@@ -125,12 +125,10 @@ impl<'a> Pass<'a> {
 
 impl<'a> SecondPass<'a> {
     ghost use Rattle.std.specs.Prelude.{◌≡◌, ◌++◌, ◌∷◌, [], ℕ, List, IfSome};
-    ghost use Rattle.ttx_packet.specs.Slots.{IsSlot};
     ghost use Rattle.ttx_witness.specs.passes.Passing.{IsSecondPass, EndsAs, pages_in, certificate_in, ended_pages, ended_certificate};
 
     /// The next slot of the second list.
     pub fn second(&mut self, slot: &[u8; 42])
-        requires { IsSlot slot.now }
         ensures stands { (x y : List (List ℕ)) → IsSecondPass self.old x y → IsSecondPass self.new x (y ++ slot.now ∷ []) }
         ensures pages { pages_in self.new ≡ pages_in self.old }
         ensures certificate { certificate_in self.new ≡ certificate_in self.old }
@@ -139,6 +137,7 @@ impl<'a> SecondPass<'a> {
             self.over = true;
             return;
         }
+        is_slot(slot);
         self.bad = first_of(self.bad, !clean(slot), self.pass.count);
         take_slot(&mut self.pass, slot);
     }

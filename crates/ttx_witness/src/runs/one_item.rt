@@ -5,10 +5,11 @@ ghost use Rattle.std.specs.List.{AllByRecursion};
 ghost use Rattle.ttx_witness.specs.runs.Transmissions.{runs};
 ghost use Rattle.ttx_witness.specs.runs.Confirming.{after_runs, not_begun};
 ghost use Rattle.ttx_witness.specs.runs.SureStarts.{IsFound};
-ghost use Rattle.ttx_witness.specs.runs.Tracks.{IsRecent, IsTrack, IsWithin};
+ghost use Rattle.ttx_witness.specs.runs.Tracks.{held_in, IsRecent, IsTrack, IsWithin};
 
 use crate::runs::confirming::Progress;
 use crate::runs::named_starts::{self, Track};
+use crate::runs::ring::empty_ring;
 use crate::runs::sure_starts::{self, Search, SureRuns};
 use crate::runs::transmissions::Transmission;
 use crate::runs::window::Recent;
@@ -19,7 +20,7 @@ use ttx_certificate::NoMemory;
 // Nothing taken yet of an item whose runs have so many transmissions.
 fn nothing_sent(repeat: usize) -> Recent
     requires some { 1 ≤ repeat }
-    ensures { IsRecent (repeat - 1) [] result }
+    ensures { IsRecent (repeat - 1) [] (held_in result) }
 {
     Recent {
         repeat,
@@ -58,8 +59,9 @@ pub fn search_item(
     requires short { period ≤ 65536 }
     ensures { IfOk result (λ s. IsFound (runs period (repeat - 1) sent.now) s.starts.items s.spread) }
 {
+    let ring = empty_ring(alloc, repeat)?;
     let mut search = Search {
-        recent: nothing_sent(repeat),
+        ring,
         starts: Vec::new(alloc),
         spread: None,
     };
@@ -68,7 +70,7 @@ pub fn search_item(
     }
     sure_starts::finish(&mut search, period)?;
     let Search {
-        recent: _,
+        ring: _,
         starts,
         spread,
     } = search;

@@ -6,8 +6,8 @@ ghost use Rattle.ttx_witness.specs.runs.Transmissions.{Transmission, runs};
 ghost use Rattle.ttx_witness.specs.runs.SureStarts.{above_zero, widened, sure_starts, spread_of, IsFound};
 ghost use Rattle.ttx_witness.specs.runs.Tracks.{listed, IsSearch, IsWithin};
 
+use crate::runs::ring::{Ring, push, push_further};
 use crate::runs::transmissions::{Run, Transmission};
-use crate::runs::window::{Recent, push, push_further};
 use ttx_certificate::NoMemory;
 
 /// What is kept of the sure runs: the end of the first, the owner of the last, and the greatest distance in
@@ -22,7 +22,7 @@ pub struct Spread {
 /// What is held of the transmissions of an item, the starts of its sure runs, and what is kept of these.
 #[derive(Drop)]
 pub struct Search {
-    pub recent: Recent,
+    pub ring: Ring,
     pub starts: Vec<u32>,
     pub spread: Option<Spread>,
 }
@@ -96,30 +96,30 @@ fn keep_start(
 
 /// Takes the next transmission of the period.
 pub fn note(search: &mut Search, t: Transmission) -> Result<(), NoMemory>
-    requires room { search.old.recent.repeat ≤ 8 }
+    requires room { search.old.ring.window.capacity ≤ 8 }
     ensures { OnOk result ((k : ℕ) (ts : List Transmission) → IsSearch k ts search.old → IsSearch k (ts ++ t ∷ []) search.new) }
 {
-    let run = push(&mut search.recent, t);
+    let run = push(&mut search.ring, t);
     search.spread = keep_start(&mut search.starts, search.spread, run)?;
     Ok(())
 }
 
 /// Takes the transmissions that follow the period, round the cycle.
 pub fn finish(search: &mut Search, period: u32) -> Result<(), NoMemory>
-    requires some { 1 ≤ search.old.recent.repeat }
-    requires room { search.old.recent.repeat ≤ 8 }
-    requires firsts { length search.old.recent.firsts.items ≤ 7 }
-    requires small { AllByRecursion (IsWithin 65536) search.old.recent.firsts.items }
+    requires some { 1 ≤ search.old.ring.window.capacity }
+    requires room { search.old.ring.window.capacity ≤ 8 }
+    requires firsts { length search.old.ring.firsts.items ≤ 7 }
+    requires small { AllByRecursion (IsWithin 65536) search.old.ring.firsts.items }
     requires short { period ≤ 65536 }
     ensures { OnOk result ((k : ℕ) (ts : List Transmission) → IsSearch k ts search.old →
         IsFound (runs period k ts) search.new.starts.items search.new.spread) }
 {
-    if search.recent.firsts.is_empty() {
+    if search.ring.firsts.is_empty() {
         return Ok(());
     }
-    let count = search.recent.repeat - 1;
+    let count = search.ring.window.capacity() - 1;
     for i in 0..count {
-        let run = push_further(&mut search.recent, period);
+        let run = push_further(&mut search.ring, period);
         search.spread = keep_start(&mut search.starts, search.spread, run)?;
     }
     Ok(())

@@ -21,15 +21,15 @@ pub struct Run {
     pub sure: bool,
 }
 
-// Whether each of them is sure.
-fn each_sure(transmissions: &[Transmission]) -> bool
+/// Whether each of them is sure.
+pub fn each_sure(transmissions: &[Transmission]) -> bool
     ensures { result ≡ list_all (λ t. t.sure) transmissions.now }
 {
     transmissions.iter().all(|t| t.sure)
 }
 
-// The run from one transmission to another.
-fn run_from(first: Transmission, last: Transmission, sure: bool) -> Run
+/// The run from one transmission to another.
+pub fn run_from(first: Transmission, last: Transmission, sure: bool) -> Run
     ensures { result ≡ run_between first last sure }
 {
     Run {

@@ -4,7 +4,7 @@ ghost use Rattle.std.specs.Prelude.{◌≡◌, ◌≤◌, ◌<◌, ◌+◌, ◌*
 ghost use Rattle.std.specs.Prelude.{◌==◌, Option, Some, None};
 ghost use Rattle.std.specs.List.{AllByRecursion};
 ghost use Rattle.ttx_witness.specs.runs.Transmissions.{later, run_of};
-ghost use Rattle.ttx_witness.specs.runs.Tracks.{ended, keep_last, listed, IsRecent, IsRound, IsWithin, IsTurn};
+ghost use Rattle.ttx_witness.specs.runs.Tracks.{ended, held_in, keep_last, listed, IsRecent, IsRound, IsWithin, IsTurn};
 
 use crate::runs::transmissions::{Run, Transmission, run_in};
 use arrayvec::ArrayVec;
@@ -42,8 +42,8 @@ fn take_next(window: &mut ArrayVec<Transmission, 8>, repeat: usize, t: Transmiss
     }
 }
 
-// Keeps the transmission, where it is one of the first of the period.
-fn keep_first(firsts: &mut ArrayVec<Transmission, 7>, repeat: usize, t: Transmission)
+/// Keeps the transmission, where it is one of the first of the period.
+pub fn keep_first(firsts: &mut ArrayVec<Transmission, 7>, repeat: usize, t: Transmission)
     requires { repeat ≤ 8 }
     ensures { firsts.new.items ≡ (if nat_lt (length firsts.old.items + 1) repeat then firsts.old.items ++ t ∷ [] else firsts.old.items) }
 {
@@ -55,8 +55,8 @@ fn keep_first(firsts: &mut ArrayVec<Transmission, 7>, repeat: usize, t: Transmis
 /// Takes the next transmission of the period: the run that ends with it, where one does.
 pub fn push(recent: &mut Recent, t: Transmission) -> Option<Run>
     requires room { recent.old.repeat ≤ 8 }
-    ensures held { (k : ℕ) (ts : List Transmission) → IsRecent k ts recent.old → IsRecent k (ts ++ t ∷ []) recent.new }
-    ensures run { (k : ℕ) (ts : List Transmission) → IsRecent k ts recent.old → ended k (ts ++ t ∷ []) ≡ ended k ts ++ listed result }
+    ensures held { (k : ℕ) (ts : List Transmission) → IsRecent k ts (held_in recent.old) → IsRecent k (ts ++ t ∷ []) (held_in recent.new) }
+    ensures run { (k : ℕ) (ts : List Transmission) → IsRecent k ts (held_in recent.old) → ended k (ts ++ t ∷ []) ≡ ended k ts ++ listed result }
 {
     keep_first(&mut recent.firsts, recent.repeat, t);
     take_next(&mut recent.window, recent.repeat, t)
@@ -75,8 +75,8 @@ fn later(t: Transmission, period: u32) -> Transmission
     }
 }
 
-// Takes the first, and puts it at the end a period later.
-fn turn(firsts: &mut ArrayVec<Transmission, 7>, period: u32) -> Transmission
+/// Takes the first, and puts it at the end a period later.
+pub fn turn(firsts: &mut ArrayVec<Transmission, 7>, period: u32) -> Transmission
     requires some { 1 ≤ length firsts.old.items }
     requires room { length firsts.old.items ≤ 7 }
     requires small { AllByRecursion (IsWithin (8 * 65536)) firsts.old.items }
@@ -99,8 +99,8 @@ pub fn push_further(recent: &mut Recent, period: u32) -> Option<Run>
     ensures count { length recent.new.firsts.items ≡ length recent.old.firsts.items }
     ensures within { (bound : ℕ) → AllByRecursion (IsWithin bound) recent.old.firsts.items →
         AllByRecursion (IsWithin (bound + 65536)) recent.new.firsts.items }
-    ensures round { (k i : ℕ) (ts : List Transmission) (rs : List Run) → i < k → IsRound k period i ts rs recent.old →
-        IsRound k period (i + 1) ts (rs ++ listed result) recent.new }
+    ensures round { (k i : ℕ) (ts : List Transmission) (rs : List Run) → i < k → IsRound k period i ts rs (held_in recent.old) →
+        IsRound k period (i + 1) ts (rs ++ listed result) (held_in recent.new) }
 {
     let t = turn(&mut recent.firsts, period);
     take_next(&mut recent.window, recent.repeat, t)

@@ -6,8 +6,7 @@ use Rattle.std.proofs.lemmas.List.{append-nil, length-take-le, take-append-drop}
 use Rattle.std.proofs.lemmas.Int.{ints}
 use Rattle.std.proofs.lemmas.Bool.{cases_lt}
 use Rattle.ttx_witness.specs.runs.Transmissions.{Transmission, Run, later, further, run_of, runs}
-use Rattle.ttx_witness.specs.runs.Tracks.{ended, keep_last, listed, IsRecent, IsWithin, IsTurn, IsRound}
-use Rattle.ttx_witness.specs.declared.runs.window.Recent.{Recent}
+use Rattle.ttx_witness.specs.runs.Tracks.{ended, keep_last, listed, Held, IsRecent, IsWithin, IsTurn, IsRound}
 use Rattle.ttx_witness.proofs.Windows.{further_few}
 use Rattle.ttx_witness.proofs.lemmas.runs.OneMore.{keep_step, few_kept, take_whole, run_at_end, ended_step}
 
@@ -62,20 +61,20 @@ turn_further n k [] ys t h = absurd h
 turn_further n k (x ∷ xs) ys t h = ap (λ z. z ∷ further n k (xs ++ later n x ∷ [])) (sym h.0) ∙ ap (λ z. t ∷ further n k z) (sym h.1)
 
 module _ (k n i : ℕ) (ts : List Transmission) (rs : List Run) where
-  pub round_step : (old new : Recent) (t : Transmission) (result : Option Run) → i < k → IsRound k n i ts rs old →
-      IsTurn n old.firsts.items t new.firsts.items → new.repeat ≡ old.repeat →
-      (1 ≤ old.repeat → length old.window.items ≤ old.repeat → new.window.items ≡ keep_last old.repeat (old.window.items ++ t ∷ [])) →
-      result ≡ (if length new.window.items == old.repeat then Some (run_of new.window.items) else None) →
+  pub round_step : (old new : Held) (t : Transmission) (result : Option Run) → i < k → IsRound k n i ts rs old →
+      IsTurn n old.firsts t new.firsts → new.repeat ≡ old.repeat →
+      (1 ≤ old.repeat → length old.window ≤ old.repeat → new.window ≡ keep_last old.repeat (old.window ++ t ∷ [])) →
+      result ≡ (if length new.window == old.repeat then Some (run_of new.window) else None) →
       IsRound k n (i + 1) ts (rs ++ listed result) new
   unfolding run_at_end
   round_step old new t result lt r h q w e =
       let xs = ts ++ r.more in
       let same : xs ++ t ∷ [] ≡ ts ++ (r.more ++ t ∷ []) = append_assoc ts r.more (t ∷ []) in
-      let short : length old.window.items ≤ suc k = few_kept (suc k) xs old.window.items r.window in
+      let short : length old.window ≤ suc k = few_kept (suc k) xs old.window r.window in
       let some : 1 ≤ old.repeat = let e = r.repeat in omega arith in
-      let few : length old.window.items ≤ old.repeat = let e = r.repeat in omega arith in
-      let win : new.window.items ≡ keep_last (suc k) (xs ++ t ∷ []) =
-      w some few ∙ ap (λ n. keep_last n (old.window.items ++ t ∷ [])) r.repeat ∙ ap (λ x. keep_last (suc k) (x ++ t ∷ [])) r.window
+      let few : length old.window ≤ old.repeat = let e = r.repeat in omega arith in
+      let win : new.window ≡ keep_last (suc k) (xs ++ t ∷ []) =
+      w some few ∙ ap (λ n. keep_last n (old.window ++ t ∷ [])) r.repeat ∙ ap (λ x. keep_last (suc k) (x ++ t ∷ [])) r.window
       ∙ keep_step (suc k) xs t (omega arith) in
       let c : k - i ≡ suc (k - (i + 1)) = omega arith in
       record {
@@ -83,36 +82,36 @@ module _ (k n i : ℕ) (ts : List Transmission) (rs : List Run) where
         repeat = q ∙ r.repeat;
         window = win ∙ ap (keep_last (suc k)) same;
         runs = ap (λ x. x ++ listed result) r.runs
-            ∙ ap (λ x. ended k xs ++ listed x) (e ∙ ap (λ n. if length new.window.items == n then Some (run_of new.window.items) else None) r.repeat
+            ∙ ap (λ x. ended k xs ++ listed x) (e ∙ ap (λ n. if length new.window == n then Some (run_of new.window) else None) r.repeat
             ∙ ap (λ ys. if length ys == suc k then Some (run_of ys) else None) win)
             ∙ sym (ended_step k xs t) ∙ ap (ended k) same;
-        rest = append_assoc r.more (t ∷ []) (further n (k - (i + 1)) new.firsts.items)
-            ∙ ap (λ x. r.more ++ x) (sym (turn_further n (k - (i + 1)) old.firsts.items new.firsts.items t h))
-            ∙ ap (λ x. r.more ++ further n x old.firsts.items) (sym c) ∙ r.rest;
+        rest = append_assoc r.more (t ∷ []) (further n (k - (i + 1)) new.firsts)
+            ∙ ap (λ x. r.more ++ x) (sym (turn_further n (k - (i + 1)) old.firsts new.firsts t h))
+            ∙ ap (λ x. r.more ++ further n x old.firsts) (sym c) ∙ r.rest;
       }
 
-  pub round_done : (recent : Recent) → k ≤ i → IsRound k n i ts rs recent → rs ≡ runs n k ts
+  pub round_done : (held : Held) → k ≤ i → IsRound k n i ts rs held → rs ≡ runs n k ts
   unfolding further
-  round_done recent le r =
+  round_done held le r =
       let z : k - i ≡ 0 = omega arith in
-      let e : r.more ≡ further n k ts = sym (append-nil r.more) ∙ ap (λ x. r.more ++ further n x recent.firsts.items) (sym z) ∙ r.rest
+      let e : r.more ≡ further n k ts = sym (append-nil r.more) ∙ ap (λ x. r.more ++ further n x held.firsts) (sym z) ∙ r.rest
       ∙ further_take n k ts in
       r.runs ∙ ap (λ x. ended k (ts ++ x)) e
 
 -- before the first of them
-pub round_begins : (k n : ℕ) (ts : List Transmission) (recent : Recent) → IsRecent k ts recent → IsRound k n 0 ts (ended k ts) recent
-round_begins k n ts recent i = record {
+pub round_begins : (k n : ℕ) (ts : List Transmission) (held : Held) → IsRecent k ts held → IsRound k n 0 ts (ended k ts) held
+round_begins k n ts held i = record {
   more = [];
   repeat = i.repeat;
   window = i.window ∙ ap (keep_last (suc k)) (sym (append-nil ts));
   runs = ap (ended k) (sym (append-nil ts));
-  rest = let z : k - 0 ≡ k = omega arith in ap (λ x. further n x recent.firsts.items) z ∙ ap (further n k) i.firsts;
+  rest = let z : k - 0 ≡ k = omega arith in ap (λ x. further n x held.firsts) z ∙ ap (further n k) i.firsts;
 }
 
 -- where there is none, none follows
-pub round_empty : (k n : ℕ) (ts : List Transmission) (recent : Recent) → IsRecent k ts recent → length recent.firsts.items ≡ 0 →
+pub round_empty : (k n : ℕ) (ts : List Transmission) (held : Held) → IsRecent k ts held → length held.firsts ≡ 0 →
     ended k ts ≡ runs n k ts
-round_empty k n ts recent i e =
+round_empty k n ts held i e =
     let z : further n k ts ≡ [] = further_none n k ts (ap length (sym i.firsts) ∙ e) in
     ap (ended k) (sym (append-nil ts) ∙ ap (λ x. ts ++ x) (sym z))
 

@@ -7,8 +7,7 @@ use Rattle.std.proofs.lemmas.Bool.Decides.{nat_tests}
 use Rattle.ttx_witness.specs.runs.Transmissions.{Transmission, Run, run_of, run_between, windows, last_slot, all_sure}
 use Rattle.ttx_witness.specs.runs.Confirming.{Progress, confirmed, after_runs}
 use Rattle.ttx_witness.specs.runs.SureStarts.{Spread, sure_runs, sure_starts, spread_after, spread_of, IsFound}
-use Rattle.ttx_witness.specs.runs.Tracks.{ended, keep_last, listed, IsRecent}
-use Rattle.ttx_witness.specs.declared.runs.window.Recent.{Recent}
+use Rattle.ttx_witness.specs.runs.Tracks.{ended, keep_last, listed, IsRecent, Held}
 use Rattle.ttx_witness.proofs.Windows.{windows_step, windows_none, windows_short}
 
 some_same : {A : Type 0} {x y : A} → Some x ≡ Some y → x ≡ y
@@ -95,18 +94,18 @@ ended_step k ts t = elim (cases_lt (length ts) k) as (λ _. ended k (ts ++ t ∷
 ]
 
 -- what is held after one more, by the equations of the two steps
-module _ (k : ℕ) (ts : List Transmission) (t : Transmission) (old new : Recent) (held : IsRecent k ts old)
-    (w : 1 ≤ old.repeat → length old.window.items ≤ old.repeat → new.window.items ≡ keep_last old.repeat (old.window.items ++ t ∷ [])) where
-  pub window_step : new.window.items ≡ keep_last (suc k) (ts ++ t ∷ [])
+module _ (k : ℕ) (ts : List Transmission) (t : Transmission) (old new : Held) (held : IsRecent k ts old)
+    (w : 1 ≤ old.repeat → length old.window ≤ old.repeat → new.window ≡ keep_last old.repeat (old.window ++ t ∷ [])) where
+  pub window_step : new.window ≡ keep_last (suc k) (ts ++ t ∷ [])
   window_step =
-      let short : length old.window.items ≤ suc k = few_kept (suc k) ts old.window.items held.window in
+      let short : length old.window ≤ suc k = few_kept (suc k) ts old.window held.window in
       let some : 1 ≤ old.repeat = let e = held.repeat in omega arith in
-      let few : length old.window.items ≤ old.repeat = let e = held.repeat in omega arith in
-      w some few ∙ ap (λ n. keep_last n (old.window.items ++ t ∷ [])) held.repeat
+      let few : length old.window ≤ old.repeat = let e = held.repeat in omega arith in
+      w some few ∙ ap (λ n. keep_last n (old.window ++ t ∷ [])) held.repeat
       ∙ ap (λ x. keep_last (suc k) (x ++ t ∷ [])) held.window ∙ keep_step (suc k) ts t (omega arith)
 
-  pub recent_step : new.repeat ≡ old.repeat → new.firsts.items
-      ≡ (if nat_lt (length old.firsts.items + 1) old.repeat then old.firsts.items ++ t ∷ [] else old.firsts.items) →
+  pub recent_step : new.repeat ≡ old.repeat → new.firsts
+      ≡ (if nat_lt (length old.firsts + 1) old.repeat then old.firsts ++ t ∷ [] else old.firsts) →
       IsRecent k (ts ++ t ∷ []) new
   recent_step r f = record {
     repeat = r ∙ held.repeat;
@@ -116,11 +115,11 @@ module _ (k : ℕ) (ts : List Transmission) (t : Transmission) (old new : Recent
   }
 
   pub run_step : (result : Option Run) → result ≡
-      (if length new.window.items == old.repeat then Some (run_of new.window.items) else None) → ended k (ts ++ t ∷ [])
+      (if length new.window == old.repeat then Some (run_of new.window) else None) → ended k (ts ++ t ∷ [])
       ≡ ended k ts ++ listed result
   unfolding run_at_end
   run_step result e = ended_step k ts t ∙ ap (λ x. ended k ts ++ listed x)
-      (sym (e ∙ ap (λ n. if length new.window.items == n then Some (run_of new.window.items) else None) held.repeat
+      (sym (e ∙ ap (λ n. if length new.window == n then Some (run_of new.window) else None) held.repeat
       ∙ ap (λ xs. if length xs == suc k then Some (run_of xs) else None) window_step))
 
 pub after_more : (limit : ℕ) (starts : List ℕ) (m : Progress) (rs qs : List Run) → after_runs limit starts m (rs ++ qs)

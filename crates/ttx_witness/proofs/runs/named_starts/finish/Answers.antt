@@ -1,7 +1,7 @@
 use Rattle.std.proofs.Common.{◌≡◌, ◌+◌, ◌*◌, ◌<◌, ◌≤◌, suc, length, ◌++◌, refl, sym, ap, ◌∙◌, subst, arith, eqb-true}
 use Rattle.std.specs.List.{AllByRecursion}
 use Rattle.ttx_witness.specs.runs.Confirming.{after_runs, not_begun}
-use Rattle.ttx_witness.specs.runs.Tracks.{ended, listed, IsWithin}
+use Rattle.ttx_witness.specs.runs.Tracks.{ended, held_in, listed, IsWithin}
 use Rattle.ttx_witness.proofs.lemmas.runs.OneMore.{after_more}
 use Rattle.ttx_witness.proofs.lemmas.runs.AfterThePeriod.{round_empty, round_begins, round_done, within_more, some_of}
 use Rattle.ttx_witness.proofs.runs.named_starts.finish.Goals as goal
@@ -9,7 +9,7 @@ use Rattle.ttx_witness.proofs.runs.named_starts.finish.Goals as goal
 pub returns-then-is_empty : goal.returns-then-is_empty
 returns-then-is_empty c = λ k ts i.
     i.progress ∙ ap (after_runs c.args.limit c.args.starts.now not_begun)
-    (round_empty k c.args.period ts c.args.track.now.recent i.recent (eqb-true _ _ (sym c.if-is_empty.ensures)))
+    (round_empty k c.args.period ts (held_in c.args.track.now.recent) i.recent (eqb-true _ _ (sym c.if-is_empty.ensures)))
 
 pub loop-i-init : goal.loop-i-init
 loop-i-init c = record {
@@ -17,7 +17,7 @@ loop-i-init c = record {
   some = some_of (length c.args.track.now.recent.firsts.items) c.if-is_empty.ensures;
   firsts = c.requires.firsts;
   small = c.requires.small;
-  round = λ k ts i. (ended k ts, round_begins k c.args.period ts c.args.track.now.recent i.recent, i.progress);
+  round = λ k ts i. (ended k ts, round_begins k c.args.period ts (held_in c.args.track.now.recent) i.recent, i.progress);
 }
 
 pub push_further-run-requires-clause-small : goal.push_further-run-requires-clause-small
@@ -48,4 +48,4 @@ pub returns : goal.returns
 returns c = λ k ts i.
     let r = c.loop-i.invariant.round k ts i in
     let le : k ≤ c.loop-i.i = let cap : c.args.track.now.recent.repeat ≡ suc k = i.recent.repeat in omega (arith, c.loop-i-test.false) in
-    r.2 ∙ ap (after_runs c.args.limit c.args.starts.now not_begun) (round_done k c.args.period c.loop-i.i ts r.0 c.loop-i.track.recent le r.1)
+    r.2 ∙ ap (after_runs c.args.limit c.args.starts.now not_begun) (round_done k c.args.period c.loop-i.i ts r.0 (held_in c.loop-i.track.recent) le r.1)

@@ -7,7 +7,7 @@ use Rattle.ttx_witness.proofs.runs.one_item.search_item.Goals as goal
 pub loop-i-init : goal.loop-i-init
 loop-i-init c = record {
   held = search_begins (c.args.repeat - 1)
-      (record { recent = c.nothing_sent.result; starts = c.new.result; spread = None }) c.nothing_sent.ensures c.new.ensures.items
+      (record { ring = c.in_ok-ring.ring; starts = c.new.result; spread = None }) c.in_ok-ring.ensures.held c.new.ensures.items
       refl;
 }
 

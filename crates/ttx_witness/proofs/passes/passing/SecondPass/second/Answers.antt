@@ -37,7 +37,7 @@ returns-clause-stands c = λ x y old.
             count = t.count ∙ (let k = v.count in omega arith);
             owners = taken.0;
             kept = taken.1;
-            slots = all_more IsSlot y z v.slots c.requires;
+            slots = all_more IsSlot y z v.slots c.is_slot.ensures;
             bad = subst (λ n. FirstBelow (λ j. is_clean (slice_index_or (y ++ z ∷ []) j []) ≡ false) n c.first_of-self.result) (sym l)
                 (subst (FirstBelow (λ j. is_clean (slice_index_or (y ++ z ∷ []) j []) ≡ false) (suc (length y)))
                 (sym (c.first_of-self.ensures ∙ ap (λ b. first_of second.bad (not b) second.pass.count) c.clean.ensures
