@@ -4,7 +4,8 @@
 --   Told                    the report on a text that isn't too long
 --   Checks                  what was written at each answer
 --   CountsCheck             faults of devices are answered only where they were counted
-use Rattle.std.specs.Prelude.{ℕ, ◌<◌, ◌≤◌, List, length, take, ⊤, Option, Result, Ok, Err}
+--   IsUntouchedByCheck      at each fault but that of a write, what could be written to is as it was
+use Rattle.std.specs.Prelude.{ℕ, ◌≡◌, ◌<◌, ◌≤◌, List, length, take, ⊤, Option, Result, Ok, Err}
 use Rattle.std.specs.Io.KnownBytes.{Appends, Keeps}
 use Rattle.ttx_cycle.specs.Bounded.{most_bytes}
 use Rattle.ttx_cycle.specs.Counts.{HasRisen}
@@ -40,3 +41,9 @@ CountsCheck (Err (Write written)) read_old read_new write_old write_new = HasRis
 CountsCheck (Err TooLong) read_old read_new write_old write_new = ⊤
 CountsCheck (Err NoMemory) read_old read_new write_old write_new = ⊤
 CountsCheck (Ok answer) read_old read_new write_old write_new = ⊤
+
+-- also where the writer doesn't tell what was written
+abbrev pub IsUntouchedByCheck : {T W : Type 0} → Result T CheckFault → W → W → Type 0
+IsUntouchedByCheck (Ok answer) old new = ⊤
+IsUntouchedByCheck (Err (Write written)) old new = ⊤
+IsUntouchedByCheck (Err _) old new = new ≡ old

@@ -5,5 +5,6 @@ pub mod PageWarnings
 pub mod Warnings
 pub mod WarningLines
 pub mod UnknownKeys
+pub mod Refusals
 pub mod Reports
 pub mod Checking

@@ -40,7 +40,7 @@ warning_text (BehindSubpage page) =
     page_text page ++ codes ": sent directly behind another subpage, which receivers that show late then miss, but for plan --late"
 warning_text (BehindItself page times) = itself_text page times
 warning_text (MostTraffic mag) =
-    magazine_text mag ++ codes ": it has more than half of all packets: serial = false would shorten the wait"
+    magazine_text mag ++ codes ": it has more than half of all packets: compare ttx wait with serial = false"
 
 abbrev pub warning_line : Warning → List ℕ
 warning_line warning = codes "warning " ++ warning_text warning ++ 10 ∷ []

@@ -2,7 +2,7 @@
 
 ghost use Rattle.std.specs.Prelude.{◌≡◌, IfSome, IfOk, string_bytes};
 ghost use Rattle.ttx_cycle.specs.Counters.{inner_of, faults_of};
-ghost use Rattle.ttx_check.specs.Checking.{Checks, CountsCheck};
+ghost use Rattle.ttx_check.specs.Checking.{Checks, CountsCheck, IsUntouchedByCheck};
 
 use crate::faults::CheckFault;
 use crate::reports::report;
@@ -13,7 +13,8 @@ use ttx_cycle::{Counted, MOST_BYTES, read_text, write_bytes};
 /// Reads the text of a service, of at most 4,194,304 bytes, and writes the report on it: the status is 2 where the text is
 /// refused, else 0.
 ///
-/// Nothing is written before the text is read. At `Write` exactly the first `written` bytes went out.
+/// Nothing is written before the text is read. At `Write` exactly the first `written` bytes went out; at each other fault the
+/// writer is as it was.
 pub fn check<R: Read, W: Write>(
     alloc: Global,
     reader: &mut Counted<R>,
@@ -22,6 +23,7 @@ pub fn check<R: Read, W: Write>(
     ensures bytes { IfSome (R.remaining (inner_of reader.old))
         (λ bytes. Checks bytes (W.contents (inner_of writer.old)) (W.contents (inner_of writer.new)) result) }
     ensures faults { CountsCheck result (faults_of reader.old) (faults_of reader.new) (faults_of writer.old) (faults_of writer.new) }
+    ensures untouched { IsUntouchedByCheck result writer.old writer.new }
 {
     let text = match read_text(alloc, reader, MOST_BYTES) {
         Ok(text) => text,

@@ -4,10 +4,8 @@
 mod checking;
 mod entries;
 pub mod faults;
-mod finding;
 mod links;
 mod page_warnings;
-mod positions;
 mod queues;
 mod refusals;
 mod reports;
@@ -16,7 +14,6 @@ mod service_warnings;
 mod spots;
 mod tallies;
 mod texts;
-mod tokens;
 mod traffic;
 mod unknown_keys;
 pub mod warning;

@@ -1,14 +1,15 @@
 //! The line of a text that is refused.
 
-ghost use Rattle.std.specs.Prelude.{◌≡◌, ◌++◌, IfOk, OnOk, string_bytes};
+ghost use Rattle.std.specs.Prelude.{◌≡◌, ◌++◌, IfOk, OnOk, Some, string_bytes};
 ghost use Rattle.ttx_source.specs.Faults.{fault_of};
-ghost use Rattle.ttx_check.specs.Reports.{fault_words, error_line, IsErrorLine};
+ghost use Rattle.ttx_places.specs.Places.{place_of};
+ghost use Rattle.ttx_check.specs.Refusals.{fault_words, error_line, is_toml, after_space, position_text, place_text, IsPlace, IsWithinText, IsErrorLine};
 
-use crate::finding::find;
-use crate::positions::{Position, position_of};
 use crate::spots::{Spot, push_spot};
 use crate::texts::push_both;
 use std::alloc::{AllocError, Global};
+use ttx_digits::push_decimal;
+use ttx_places::{Position, place_of, position_of};
 use ttx_source::{SourceError, SourceFault};
 
 // Adds the words of a fault.
@@ -40,13 +41,51 @@ fn push_fault(line: &mut String, fault: SourceFault, detail: &str) -> Result<(),
     line.push('\n')
 }
 
-// What is meant in a text that isn't TOML, and where.
-fn push_toml_spot(spot: &mut Spot, error: &toml::de::Error) -> Result<usize, AllocError> {
+// Whether a fault is one of a text that is TOML.
+fn is_toml(fault: SourceFault) -> bool
+    ensures { result ≡ is_toml (fault_of fault) }
+{
+    !matches!(fault, SourceFault::NotToml)
+}
+
+// Where a text isn't TOML, and what is said of it.
+fn push_toml_spot(alloc: Global, spot: &mut Spot, bytes: &[u8]) -> Result<Option<usize>, AllocError>
+    ensures { IfOk result (IsWithinText bytes.now) }
+{
+    let Err(error) = toml::table_from_slice(alloc, bytes) else {
+        return Err(AllocError);
+    };
     push_both(&mut spot.detail, ": ", error.message())?;
     match error.span() {
-        Some(span) => Ok(span.start),
+        Some(span) => Ok(Some(span.start)),
         None => Err(AllocError),
     }
+}
+
+// Where in a text a path leads to.
+fn place_in(alloc: Global, bytes: &[u8], path: &str) -> Result<Option<usize>, AllocError>
+    ensures { IfOk result (λ place. place_of path.now bytes.now ≡ Some place) }
+{
+    match std::str::from_utf8(bytes) {
+        Ok(text) => place_of(alloc, text, path),
+        Err(_) => Err(AllocError),
+    }
+}
+
+// What a fault of a text that is TOML means, and where it begins.
+fn push_table_spot(
+    alloc: Global,
+    spot: &mut Spot,
+    bytes: &[u8],
+    error: &SourceError,
+) -> Result<Option<usize>, AllocError>
+    ensures { IfOk result (λ place. place_of (string_bytes spot.new.path) bytes.now ≡ Some place) }
+{
+    let Ok(table) = toml::table_from_slice(alloc, bytes) else {
+        return Err(AllocError);
+    };
+    push_spot(alloc, spot, &table, error)?;
+    place_in(alloc, bytes, spot.path.as_str())
 }
 
 // What a fault means, and where in the text it begins.
@@ -55,14 +94,36 @@ fn push_meant(
     spot: &mut Spot,
     bytes: &[u8],
     error: &SourceError,
-) -> Result<Option<usize>, AllocError> {
-    match toml::table_from_slice(alloc, bytes) {
-        Err(error) => Ok(Some(push_toml_spot(spot, &error)?)),
-        Ok(table) => {
-            push_spot(alloc, spot, &table, error)?;
-            find(alloc, bytes, spot.path.as_str())
-        }
+) -> Result<Option<usize>, AllocError>
+    ensures { IfOk result (IsPlace (is_toml (fault_of error.now.fault)) bytes.now (string_bytes spot.new.path)) }
+{
+    if is_toml(error.fault) {
+        push_table_spot(alloc, spot, bytes, error)
+    } else {
+        push_toml_spot(alloc, spot, bytes)
     }
+}
+
+// Adds the name of what is meant, if it has one.
+fn push_name(text: &mut String, name: &str) -> Result<(), AllocError>
+    ensures { OnOk result (string_bytes text.new ≡ string_bytes text.old ++ after_space name.now) }
+{
+    if name.is_empty() {
+        Ok(())
+    } else {
+        push_both(text, " ", name)
+    }
+}
+
+// The text of a position.
+fn position_text(alloc: Global, at: Position) -> Result<String, AllocError>
+    ensures { IfOk result (λ text. string_bytes text ≡ position_text at.line at.column) }
+{
+    let mut text = String::from_str(alloc, "line ")?;
+    push_decimal(&mut text, at.line)?;
+    text.push_str(" column ")?;
+    push_decimal(&mut text, at.column)?;
+    Ok(text)
 }
 
 // The text of a place: the line and the column, where there are any, and the name.
@@ -71,13 +132,16 @@ fn place_text(
     bytes: &[u8],
     place: Option<usize>,
     name: &str,
-) -> Result<String, AllocError> {
+) -> Result<String, AllocError>
+    ensures { IfOk result (λ text. string_bytes text ≡ place_text bytes.now place name.now) }
+{
     match place {
         Some(place) => {
-            let Position { line, column } = position_of(bytes, place);
-            format!(in alloc; "line {line} column {column}{name}")
+            let mut text = position_text(alloc, position_of(bytes, place))?;
+            push_name(&mut text, name)?;
+            Ok(text)
         }
-        None => String::from_str(alloc, name.trim_start()),
+        None => String::from_str(alloc, name),
     }
 }
 
@@ -89,16 +153,17 @@ fn line_of(
     spot: &Spot,
     fault: SourceFault,
 ) -> Result<String, AllocError>
-    ensures { IfOk result (λ line. IsErrorLine (fault_of fault) (string_bytes line)) }
+    ensures { IfOk result (λ line. string_bytes line
+        ≡ error_line (place_text bytes.now place (string_bytes spot.now.name)) (fault_of fault) (string_bytes spot.now.detail)) }
 {
     let mut line = place_text(alloc, bytes, place, spot.name.as_str())?;
     push_fault(&mut line, fault, spot.detail.as_str())?;
     Ok(line)
 }
 
-/// The line of a fault of a text. Its place is only tested.
+/// The line of a fault of a text.
 pub fn error_line(alloc: Global, bytes: &[u8], error: &SourceError) -> Result<String, AllocError>
-    ensures { IfOk result (λ line. IsErrorLine (fault_of error.now.fault) (string_bytes line)) }
+    ensures { IfOk result (λ line. IsErrorLine bytes.now (fault_of error.now.fault) (string_bytes line)) }
 {
     let mut spot = Spot::new(alloc);
     let place = push_meant(alloc, &mut spot, bytes, error)?;

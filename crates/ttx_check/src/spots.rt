@@ -252,7 +252,7 @@ fn push_page_name(
     order: usize,
     part: &str,
 ) -> Result<(), AllocError> {
-    name.push_str(" page ")?;
+    name.push_str("page ")?;
     push_page_id(name, page, order)?;
     push_part_name(name, part)
 }
@@ -337,9 +337,9 @@ fn push_service_path(path: &mut String, key: &str, fault: SourceFault) -> Result
 // Adds the name of a key outside pages.
 fn push_service_name(name: &mut String, key: &str) -> Result<(), AllocError> {
     if is_service_key(key) {
-        push_both(name, " ", key)
+        name.push_str(key)
     } else {
-        push_both(name, " info ", key)
+        push_both(name, "info ", key)
     }
 }
 

@@ -29,7 +29,7 @@ const BEHIND_SUBPAGE: &str =
 const BEHIND_ITSELF: &str = ": often doesn't help: it is sent directly behind itself ";
 
 const MOST_TRAFFIC: &str =
-    ": it has more than half of all packets: serial = false would shorten the wait";
+    ": it has more than half of all packets: compare ttx wait with serial = false";
 
 // Adds the place of a page.
 pub(crate) fn push_place(text: &mut String, page: PageId) -> Result<(), AllocError>

@@ -1,0 +1,4 @@
+pub mod Paths
+pub mod Places
+pub mod Positions
+pub mod Tables

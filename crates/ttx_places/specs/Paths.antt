@@ -1,0 +1,30 @@
+-- Paths of values in a TOML text, as texts: a stroke before each key and before the number of each element, as /page/3/rows/4.
+--
+--   below                   a part more
+--   under, key_path         what stands at a key, which may have dots
+--   named, all_named, table_path      the table that a header names
+use Rattle.std.specs.Prelude.{ℕ, List, [], ◌∷◌, ◌++◌, codes, if◌then◌else◌}
+use Rattle.std.specs.Fmt.{decimal}
+use Rattle.std.specs.Str.{bytes_eq}
+use Rattle.toml_parser.specs.Strings.{Key}
+
+abbrev pub below : List ℕ → List ℕ → List ℕ
+below path part = path ++ 47 ∷ part
+
+abbrev pub under : List ℕ → List (List ℕ) → List ℕ
+under path [] = path
+under path (part ∷ parts) = under (below path part) parts
+
+abbrev pub key_path : List ℕ → Key → List ℕ
+key_path path key = below (under path key.0) key.1
+
+-- a part of the name of a table after so many tables [[page]]: page stands for the latest of them
+abbrev pub named : ℕ → List ℕ → List ℕ → List ℕ
+named pages path part = below (if bytes_eq path (codes "/page") then below path (decimal pages) else path) part
+
+abbrev pub all_named : ℕ → List ℕ → List (List ℕ) → List ℕ
+all_named pages path [] = path
+all_named pages path (part ∷ parts) = all_named pages (named pages path part) parts
+
+abbrev pub table_path : ℕ → Key → List ℕ
+table_path pages key = named pages (all_named pages [] key.0) key.1
