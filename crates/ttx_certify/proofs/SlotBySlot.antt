@@ -37,6 +37,6 @@ module _ (P : List (List ℕ) → Type 0) (given : ℕ) (old mid new : Option (L
   gave_fault law fault answer = law given old mid new gave.slots z fault gave.given_are answer
 
 -- a list of fewer than 65,536 slots takes one more
-pub taken : {U E : Type 0} (A B : Type 0) (n : ℕ) (r : Result U E) → n < 65536 → MatchResult r (λ _. A) (λ _. B × (n ≡ 65536)) → A
-taken A B n (Ok u) few h = h
-taken A B n (Err e) few h = (let full = h.1 in absurd (omega arith))
+pub taken : {U E : Type 0} (A : Type 0) (n : ℕ) (r : Result U E) → n < 65536 → MatchResult r (λ _. A) (λ _. n ≡ 65536) → A
+taken A n (Ok u) few h = h
+taken A n (Err e) few h = absurd (omega arith)

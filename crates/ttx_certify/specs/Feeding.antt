@@ -5,8 +5,9 @@
 --   IsRefusedCycle  why the first of two packet files that isn't one isn't
 --   WalkedFiles     the verdict of a walk over two packet files
 --   WalksTwice      what is answered for two files: the verdict of a walk over two packet files
---   CountsTwice     a read fault is answered only where one was counted
-use Rattle.std.specs.Prelude.{◌⊎◌, ℕ, List, Option, Result, Ok, Err, ⊤}
+--   IsFile, RisesInOrder    what a reader gives is a packet file
+--   CountsTwice     a read fault is answered only where one was counted: by the first reader, or by the second after a packet file
+use Rattle.std.specs.Prelude.{◌⊎◌, ℕ, List, Option, IfSome, Result, Ok, Err, ⊤}
 use Rattle.ttx_cycle.specs.Counts.{HasRisen}
 use Rattle.ttx_cycle.specs.Reading.{Judged}
 use Rattle.ttx_cycle.specs.SlotLaws.{IsGiven}
@@ -45,6 +46,14 @@ abbrev pub WalksTwice : List ℕ → List ℕ → List Page → Certificate → 
 WalksTwice a b pages w (Ok verdict) = WalkedFiles a b pages w verdict
 WalksTwice a b pages w (Err fault) = IsRefusedCycle a b fault
 
-abbrev pub CountsTwice : {T : Type 0} → Result T CycleFault → ℕ → ℕ → ℕ → ℕ → Type 0
-CountsTwice (Err Read) first_old first_new old new = HasRisen first_old first_new ⊎ HasRisen old new
-CountsTwice result first_old first_new old new = ⊤
+-- the bytes that a reader gives, where they are known, are a packet file
+abbrev pub IsFile : Option (List ℕ) → Type 0
+IsFile known = IfSome known (λ bytes. (slots : List (List ℕ)) × IsPacketFile bytes slots)
+
+-- a fault of the first reader, or one of the second after a first packet file
+abbrev pub RisesInOrder : Option (List ℕ) → ℕ → ℕ → ℕ → ℕ → Type 0
+RisesInOrder first first_old first_new old new = HasRisen first_old first_new ⊎ (IsFile first × HasRisen old new)
+
+abbrev pub CountsTwice : {T : Type 0} → Result T CycleFault → Option (List ℕ) → ℕ → ℕ → ℕ → ℕ → Type 0
+CountsTwice (Err Read) first first_old first_new old new = RisesInOrder first first_old first_new old new
+CountsTwice result first first_old first_new old new = ⊤

@@ -5,7 +5,7 @@
 --   WalksFiles      the verdict on two packet files, with the pages of a service and a certificate
 --   JudgesPasses    the verdict on four inputs, and its line
 --   CountsTexts, CountsCycles       a fault of a device is answered only where one was counted
-use Rattle.std.specs.Prelude.{ℕ, ◌⊎◌, List, string_bytes, ⊤, Result, Ok, Err}
+use Rattle.std.specs.Prelude.{ℕ, List, string_bytes, ⊤, Option, Result, Ok, Err}
 use Rattle.ttx_cycle.specs.Counts.{HasRisen}
 use Rattle.ttx_cycle.specs.declared.faults.CycleFault.TheVariants as cycle
 use Rattle.ttx_source.specs.Services.{ServiceFields, pages_of}
@@ -13,7 +13,7 @@ use Rattle.ttx_witness.specs.Certificates.{fields_of}
 use Rattle.ttx_witness.specs.Entries.{CertificateFields, certificate_at}
 use Rattle.ttx_certify.specs.CertifyingFiles.{IsServiceText, IsCertificateText}
 use Rattle.ttx_certify.specs.CertifyingPasses.{IsRefusedText, CertifiesTwice, IsRefusedTwice}
-use Rattle.ttx_certify.specs.Feeding.{IsRefusedCycle, WalkedFiles}
+use Rattle.ttx_certify.specs.Feeding.{IsRefusedCycle, RisesInOrder, WalkedFiles}
 use Rattle.ttx_certify.specs.declared.faults.FilesFault.{FilesFault}
 use Rattle.ttx_certify.specs.declared.faults.FilesFault.TheVariants.{Cycle, Read, Write, NoMemory}
 use Rattle.ttx_certify.specs.declared.faults.TextFile.TheVariants as text
@@ -45,8 +45,8 @@ CountsTexts (Err (Write written)) service_old service_new old new = ⊥
 CountsTexts result service_old service_new old new = ⊤
 
 -- and by those of the first and the second packet file
-abbrev pub CountsCycles : {T : Type 0} → Result T FilesFault → ℕ → ℕ → ℕ → ℕ → Type 0
-CountsCycles (Err (Cycle cycle.Read)) first_old first_new old new = HasRisen first_old first_new ⊎ HasRisen old new
-CountsCycles (Err (Read which)) first_old first_new old new = ⊥
-CountsCycles (Err (Write written)) first_old first_new old new = ⊥
-CountsCycles result first_old first_new old new = ⊤
+abbrev pub CountsCycles : {T : Type 0} → Result T FilesFault → Option (List ℕ) → ℕ → ℕ → ℕ → ℕ → Type 0
+CountsCycles (Err (Cycle cycle.Read)) first first_old first_new old new = RisesInOrder first first_old first_new old new
+CountsCycles (Err (Read which)) first first_old first_new old new = ⊥
+CountsCycles (Err (Write written)) first first_old first_new old new = ⊥
+CountsCycles result first first_old first_new old new = ⊤

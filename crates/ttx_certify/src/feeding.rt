@@ -54,7 +54,7 @@ pub fn walk_twice<A: Read, B: Read>(
 ) -> Result<Verdict, CycleFault>
     ensures walked { Starts walk.entry [] → IfSome (A.remaining (inner_of first.old)) (λ a.
         IfSome (B.remaining (inner_of second.old)) (λ b. WalksTwice a b (walk_pages walk.entry) (walk_certificate walk.entry) result)) }
-    ensures faults { CountsTwice result (faults_of first.old) (faults_of first.new) (faults_of second.old) (faults_of second.new) }
+    ensures faults { CountsTwice result (A.remaining (inner_of first.old)) (faults_of first.old) (faults_of first.new) (faults_of second.old) (faults_of second.new) }
 {
     let mut walk = walk;
     match feed_first(&mut walk, first) {

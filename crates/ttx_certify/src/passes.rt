@@ -56,7 +56,7 @@ fn walk_files<A: Read, B: Read>(
 ) -> Result<Verdict, FilesFault>
     ensures bytes { IfSome (A.remaining (inner_of first.old)) (λ a.
         IfSome (B.remaining (inner_of second.old)) (λ b. WalksFiles a b texts.now.service (fields_of texts.now.certificate) result)) }
-    ensures faults { CountsCycles result (faults_of first.old) (faults_of first.new) (faults_of second.old) (faults_of second.new) }
+    ensures faults { CountsCycles result (A.remaining (inner_of first.old)) (faults_of first.old) (faults_of first.new) (faults_of second.old) (faults_of second.new) }
 {
     let walk = match Walk::new(alloc, texts.service.pages(), &texts.certificate) {
         Ok(walk) => walk,
@@ -80,8 +80,8 @@ fn judge_passes<A: Read, B: Read, C: Read, D: Read>(
         IfSome (B.remaining (inner_of second.old)) (λ b.
         IfSome (C.remaining (inner_of service.old)) (λ c.
         IfSome (D.remaining (inner_of certificate.old)) (λ d. JudgesPasses a b c d result)))) }
-    ensures faults { CountsFour result (faults_of first.old) (faults_of first.new) (faults_of second.old) (faults_of second.new)
-        (faults_of service.old) (faults_of service.new) (faults_of certificate.old) (faults_of certificate.new) }
+    ensures faults { CountsFour result (A.remaining (inner_of first.old)) (faults_of first.old) (faults_of first.new)
+        (faults_of second.old) (faults_of second.new) (faults_of service.old) (faults_of service.new) (faults_of certificate.old) (faults_of certificate.new) }
 {
     let texts = match read_texts(alloc, service, certificate) {
         Ok(texts) => texts,
@@ -117,8 +117,8 @@ pub fn certify_passes<A: Read, B: Read, C: Read, D: Read, W: Write>(
         IfSome (C.remaining (inner_of service.old)) (λ c.
         IfSome (D.remaining (inner_of certificate.old)) (λ d.
         CertifiesPasses a b c d (W.contents (inner_of writer.old)) (W.contents (inner_of writer.new)) result)))) }
-    ensures faults { CountsPasses result (faults_of first.old) (faults_of first.new) (faults_of second.old) (faults_of second.new)
-        (faults_of service.old) (faults_of service.new) (faults_of certificate.old) (faults_of certificate.new) (faults_of writer.old)
+    ensures faults { CountsPasses result (A.remaining (inner_of first.old)) (faults_of first.old) (faults_of first.new)
+        (faults_of second.old) (faults_of second.new) (faults_of service.old) (faults_of service.new) (faults_of certificate.old) (faults_of certificate.new) (faults_of writer.old)
         (faults_of writer.new) }
     ensures untouched { IsUntouched is_write result writer.old writer.new }
 {

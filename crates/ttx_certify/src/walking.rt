@@ -20,9 +20,8 @@ pub struct Second<'a> {
 }
 
 impl<'a> Walk<'a> {
-    ghost use Rattle.std.specs.Prelude.{◌≡◌, ◌≢◌, ◌++◌, ◌∷◌, [], ℕ, List, IfOk, MatchResult, length, map};
+    ghost use Rattle.std.specs.Prelude.{◌≡◌, ◌≢◌, ◌++◌, ◌∷◌, [], ℕ, List, IfOk, IfErr, MatchResult, length, map};
     ghost use Rattle.std.specs.List.{AllPairs};
-    ghost use Rattle.ttx_packet.specs.Slots.{IsSlot};
     ghost use Rattle.ttx_page.specs.Views.{page_of};
     ghost use Rattle.ttx_witness.specs.Certificates.{certificate_of};
     ghost use Rattle.ttx_page.specs.Views.{ids_of};
@@ -46,9 +45,9 @@ impl<'a> Walk<'a> {
 
     /// The next slot of the first list, of at most 65,536: after `TooLong` the walk is as it was. Takes no memory.
     pub fn first(&mut self, slot: &[u8; 42]) -> Result<(), WalkFault>
-        requires { IsSlot slot.now }
+        ensures kept { IfErr result (λ _. self.new ≡ self.old) }
         ensures stands { (x : List (List ℕ)) → Starts self.old x →
-            MatchResult result (λ u. Starts self.new (x ++ slot.now ∷ [])) (λ f. (self.new ≡ self.old) × (length x ≡ 65536)) }
+            MatchResult result (λ u. Starts self.new (x ++ slot.now ∷ [])) (λ f. length x ≡ 65536) }
         ensures pages { walk_pages self.new ≡ walk_pages self.old }
         ensures certificate { walk_certificate self.new ≡ walk_certificate self.old }
     {
@@ -69,13 +68,11 @@ impl<'a> Walk<'a> {
 
 impl<'a> Second<'a> {
     ghost use Rattle.std.specs.Prelude.{◌≡◌, ◌++◌, ◌∷◌, [], ℕ, List};
-    ghost use Rattle.ttx_packet.specs.Slots.{IsSlot};
     ghost use Rattle.ttx_certify.specs.Verdicts.{Means};
     ghost use Rattle.ttx_certify.specs.Walking.{Stands, IsWalkVerdict, second_pages, second_certificate};
 
     /// The next slot of the second list, of any length. Takes no memory.
     pub fn second(&mut self, slot: &[u8; 42])
-        requires { IsSlot slot.now }
         ensures stands { (x y : List (List ℕ)) → Stands self.old x y → Stands self.new x (y ++ slot.now ∷ []) }
         ensures pages { second_pages self.new ≡ second_pages self.old }
         ensures certificate { second_certificate self.new ≡ second_certificate self.old }

@@ -22,7 +22,7 @@ loop-walk-preserved g c =
           (known c.loop-walk.reader.inner)
           (known c.next.new.reader.inner) c.next.new.slot c.loop-walk.invariant.gave c.slots_are_given.ensures.more
           (λ x. Starts start [] → Starts c.first.new.self x) answer (c.in_ok-next.ensures.slot (ap Ok c.if-branch.true))
-          (λ x few stands start. taken _ _ (length x) c.first.result few (c.first.ensures.stands x (stands start))));
+          (λ x few stands start. taken _ (length x) c.first.result few (c.first.ensures.stands x (stands start))));
       pages = c.first.ensures.pages ∙ c.loop-walk.invariant.pages;
       certificate = c.first.ensures.certificate ∙ c.loop-walk.invariant.certificate;
       faults = c.in_ok-next.ensures.faults ∙ c.loop-walk.invariant.faults;

@@ -17,7 +17,7 @@ returns-in-Some c =
     record {
       verdict = λ x y st.
           let is = subst (EndsAs x y) c.in-Some.is (c.end.ensures.ended x y st) in
-          as_walked x y (second_pages self) (second_certificate self) c.judge.result
+          as_walked x y is.cycle.most (second_pages self) (second_certificate self) c.judge.result
           (subst (λ w. IsVerdict y (second_pages self) w c.judge.result) same
           (subst (λ ps. IsVerdict y ps (ended_certificate ended) c.judge.result) pages (c.judge.ensures y is)));
       seen = λ x y st.
