@@ -1,5 +1,5 @@
 -- Of a clean cycle, a steady page that is seen is covered.
-use Rattle.std.proofs.Common.{◌≡◌, ℕ, ◌*◌, ℤ, Bool, true, false, ◌&&◌, List, [], length, refl, sym, ap, ◌∙◌, subst, inl, inr, arith, eq-eqb}
+use Rattle.std.proofs.Common.{◌≡◌, ℕ, ◌*◌, ◌≤◌, ℤ, Bool, true, false, ◌&&◌, List, [], length, refl, sym, ap, ◌∙◌, subst, inl, inr, arith, eq-eqb}
 use Rattle.std.proofs.lemmas.List.Elements.{All-get_or}
 use Rattle.std.proofs.lemmas.Bool.{and_from}
 use Rattle.ttx_packet.specs.Slots.{IsSlot}
@@ -24,7 +24,7 @@ use Rattle.ttx_certify.specs.Laws.{AcceptedIsSeen}
 use Rattle.ttx_counter.specs.Starving.{fullest}
 use Rattle.ttx_certify.specs.Verdicts.{IsClean}
 use Rattle.ttx_counter.specs.Completeness.{CoveredOrStarved, StarvedIsUnseen, StarvedHasCounter, CounterIsUnseen, FullestNamesAll}
-use Rattle.ttx_counter.specs.Completeness.{SeenIsCovered, SeenExactlyWhereAccepted, FoundIsLeastSeen}
+use Rattle.ttx_counter.specs.Completeness.{SeenIsCovered, SeenExactlyWhereAccepted, FoundIsLeastSeen, NoneFoundIsUnseen}
 
 pub exact_matches : (id : Id) → matches (Exact id) id ≡ true
 exact_matches id = let e = λ (n : ℕ). eq-eqb n n refl in and_from _ _ (and_from _ _ (e id.mag) (e id.page)) (e id.sub)
@@ -142,20 +142,26 @@ seen_exactly_where_accepted laws headline cycle pages w is_cycle are_pages is an
       (headline cycle pages can.w is_cycle are_pages can.is can.accepted n p here)),
 )
 
+-- a certificate, with another deadline
+with_deadline : (w : Certificate) (d : ℕ) → IsCertificate w → 1 ≤ d → d ≤ 1000000 → IsCertificate (record w { deadline = d })
+with_deadline w d is some few = record {
+  some_lines = is.some_lines;
+  few_lines = is.few_lines;
+  some_repeats = is.some_repeats;
+  few_repeats = is.few_repeats;
+  some_fields = some;
+  few_fields = few;
+  rising = is.rising;
+}
+
 pub found_is_least_seen : SeenExactlyWhereAccepted → AcceptedIsSeen → FoundIsLeastSeen
 found_is_least_seen exactly headline cycle pages w d is_cycle are_pages is any unchanged least = (
   headline cycle pages w is_cycle are_pages is least.1,
   least.0,
-  (λ e some few seen.
-      let v : Certificate = record w { deadline = e } in
-      let is' : IsCertificate v = record {
-        some_lines = is.some_lines;
-        few_lines = is.few_lines;
-        some_repeats = is.some_repeats;
-        few_repeats = is.few_repeats;
-        some_fields = some;
-        few_fields = few;
-        rising = is.rising;
-      } in
-      least.2 e ((exactly cycle pages v is_cycle are_pages is' any unchanged).0 seen)),
+  (λ e some few seen. least.2 e
+      ((exactly cycle pages (record w { deadline = e }) is_cycle are_pages (with_deadline w e is some few) any unchanged).0 seen)),
 )
+
+pub none_found_is_unseen : SeenExactlyWhereAccepted → NoneFoundIsUnseen
+none_found_is_unseen exactly cycle pages w is_cycle are_pages is any unchanged none d some few seen =
+    none.1 d ((exactly cycle pages (record w { deadline = d }) is_cycle are_pages (with_deadline w d is some few) any unchanged).0 seen)

@@ -55,7 +55,7 @@ module _ (s : Stream) (page : Id) where
   IsMine j mine = (mine ≡ true) ↔ HasOwner s page j
 
   -- a header of the magazine
-  here : (j : ℤ) → heads page.mag (pk j) ≡ true → (heads_page page (pk j) ≡ true) ↔ HasOwner s page (j +ℤ pos 1)
+  pub here : (j : ℤ) → heads page.mag (pk j) ≡ true → (heads_page page (pk j) ≡ true) ↔ HasOwner s page (j +ℤ pos 1)
   here j is = (
     (λ own. record {
       slot = j;
@@ -70,7 +70,7 @@ module _ (s : Stream) (page : Id) where
   )
 
   -- no header of it
-  later : (j : ℤ) → heads page.mag (pk j) ≡ false → HasOwner s page j ↔ HasOwner s page (j +ℤ pos 1)
+  pub later : (j : ℤ) → heads page.mag (pk j) ≡ false → HasOwner s page j ↔ HasOwner s page (j +ℤ pos 1)
   later j isnt = (
     (λ o. record {
       slot = o.slot;
@@ -98,7 +98,7 @@ module _ (s : Stream) (page : Id) where
         in absurd (both_ways _ isnt (subst (λ x. heads page.mag (pk x) ≡ true) e o.latest.is_header)))),
   )
 
-  mine_step : (j : ℤ) (mine : Bool) → IsMine j mine → IsMine (j +ℤ pos 1) (mine_after page (pk j) mine)
+  pub mine_step : (j : ℤ) (mine : Bool) → IsMine j mine → IsMine (j +ℤ pos 1) (mine_after page (pk j) mine)
   mine_step j mine a = cond_both (heads page.mag (pk j)) _ _ (λ x. IsMine (j +ℤ pos 1) x)
       (λ e. here j e)
       (λ e. ((λ m. (later j e).0 (a.0 m)), (λ o. a.1 ((later j e).1 o))))

@@ -10,6 +10,7 @@
 --   SeenIsCovered           a steady page of a clean cycle that is seen is covered by a certificate of these numbers
 --   SeenExactlyWhereAccepted        where no reason 1 to 7 is true: all pages are seen exactly where some certificate is accepted
 --   AllSeen, FoundIsLeastSeen       so the deadline that is found is the least for which all pages are seen
+--   NoneFoundIsUnseen       and where none is found, there is none for which all pages are seen
 use Rattle.std.specs.Prelude.{◌≡◌, ◌⊎◌, ◌↔◌, ℕ, ◌-◌, ◌<◌, ◌≤◌, ℤ, pos, ◌+ℤ◌, true, List, [], length, slice_get, slice_index_or, Option, Some, None}
 use Rattle.ttx_page.specs.Pages.{Page, IsPage, needed}
 use Rattle.ttx_page.specs.declared.selection.Selection.{Selection}
@@ -111,3 +112,10 @@ FoundIsLeastSeen = (cycle : List (List ℕ)) (pages : List Page) (w : Certificat
     w.class ≡ Any →
     IsSentUnchanged cycle pages → IsLeastDeadline cycle pages w (Some d) →
     AllSeen cycle pages w × (w.deadline ≡ d) × ((e : ℕ) → 1 ≤ e → e ≤ 1000000 → AllSeen cycle pages (record w { deadline = e }) → d ≤ e)
+
+-- where no deadline is found, some page isn't seen, whatever the deadline
+abbrev pub NoneFoundIsUnseen : Type 0
+NoneFoundIsUnseen = (cycle : List (List ℕ)) (pages : List Page) (w : Certificate) → IsCycle cycle → ArePages pages → IsCertificate w →
+    w.class ≡ Any →
+    IsSentUnchanged cycle pages → IsLeastDeadline cycle pages w None →
+    (d : ℕ) → 1 ≤ d → d ≤ 1000000 → AllSeen cycle pages (record w { deadline = d }) → ⊥

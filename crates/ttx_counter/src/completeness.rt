@@ -2,7 +2,7 @@
 
 ghost use Rattle.ttx_counter.specs.Completeness.{CoveredOrStarved, StartsAreJudged, StarvedIsUnseen, StarvedHasCounter, StarvesInPeriod};
 ghost use Rattle.ttx_counter.specs.Completeness.{StarvingIsCounterRun, CounterIsUnseen, FullestNamesAll, SeenIsCovered, SeenExactlyWhereAccepted};
-ghost use Rattle.ttx_counter.specs.Completeness.{FoundIsLeastSeen};
+ghost use Rattle.ttx_counter.specs.Completeness.{FoundIsLeastSeen, NoneFoundIsUnseen};
 
 /// An item is covered by its sure runs, or from some tuning slot on none of them comes in time.
 pub fn covered_or_starved()
@@ -108,4 +108,11 @@ pub fn found_is_least_seen()
 {
     seen_exactly_where_accepted();
     ttx_certify::laws::accepted_is_seen();
+}
+
+/// Where no deadline is found, none shows all pages.
+pub fn none_found_is_unseen()
+    ensures { NoneFoundIsUnseen }
+{
+    seen_exactly_where_accepted();
 }

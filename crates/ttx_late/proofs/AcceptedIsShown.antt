@@ -28,7 +28,7 @@ module _ (laws : StreamLaws) (cycle : List (List ℕ)) (pages : List Page) (w : 
         runs (repeated cycle) p sel w.class w.lines w.repeat tau (tau +ℤ pos (limit w)) (are_pages n p here) is_certificate.few_lines
         (fits_matches pages p sel fits)
         (steady_from laws cycle pages w is_cycle are_pages is_certificate accepts n p here sel fits tau)
-        (brought laws cycle pages w is_cycle are_pages is_certificate accepts n p here tau) gap followed former d received
+        (brought laws cycle pages w is_cycle are_pages is_certificate accepts n p here tau) gap (λ h _ head. followed h head) former d received
         is_former permitted run late;
   }
 

@@ -18,7 +18,8 @@ use Rattle.ttx_page.specs.declared.selection.Selection.TheVariants.{Exact, AnySu
 use Rattle.ttx_page.specs.Streams.{Stream, heads, heads_page, heads_matched}
 use Rattle.ttx_page.specs.Receptions.{Received, IsRight, OneIs}
 use Rattle.ttx_late.specs.LateReceivers.{selected_number}
-use Rattle.ttx_page.specs.Followers.{heads_another, IsFollowedWithin}
+use Rattle.ttx_page.specs.Followers.{heads_another}
+use Rattle.ttx_late.specs.Laws.{IsFollowedFrom}
 pub use Rattle.ttx_page.proofs.SlotDistances.{cases_ltz}
 use Rattle.ttx_late.proofs.KeptSlots.{SameTests, same_tests}
 use Rattle.ttx_late.proofs.GatheredMemories.{IsAnother, Ends, AllEnd}
@@ -86,15 +87,15 @@ module _ (s : Stream) (sel : Selection) where
         )
   ]
 
-  pub all_end : (page : Id) (gap : ℕ) → selected_mag sel ≡ page.mag → selected_number sel ≡ page.page → IsFollowedWithin s page gap →
-      (rest : List (List ℕ)) (begin : ℤ) →
+  pub all_end : (page : Id) (gap : ℕ) → selected_mag sel ≡ page.mag → selected_number sel ≡ page.page → (rest : List (List ℕ)) (begin : ℤ) →
+      IsFollowedFrom s page gap begin →
       ((j : ℤ) → begin ≤ℤ j → heads_matched sel (packet_of (s j)) ≡ true → heads_page page (packet_of (s j)) ≡ true) →
       AreOf s begin rest → AllEnd sel gap rest
-  all_end page gap mag number followed [] begin own of = tt
-  all_end page gap mag number followed (slot ∷ rest) begin own of = (
+  all_end page gap mag number [] begin followed own of = tt
+  all_end page gap mag number (slot ∷ rest) begin followed own of = (
     λ matched.
         let self : begin ≤ℤ begin = omega (arith, ints) in
-        let f = followed begin (own begin self (sym (of.0.matched sel) ∙ matched)) in
+        let f = followed begin self (own begin self (sym (of.0.matched sel) ∙ matched)) in
         let after = f.0.next.earlier in
         let near = f.1 in
         let some : 0 < gap = omega (arith, ints) in (
@@ -103,7 +104,7 @@ module _ (s : Stream) (sel : Selection) where
               (omega (arith, ints)) (omega (arith, ints))
               (λ i low high. subst (λ m. heads m (packet_of (s i)) ≡ false) (sym mag) (f.0.next.none_between i (omega (arith, ints)) high)),
         ),
-    all_end page gap mag number followed rest (begin +ℤ pos 1) (λ j le. own j (omega (arith, ints))) of.1,
+    all_end page gap mag number rest (begin +ℤ pos 1) (λ h le head. followed h (omega (arith, ints)) head) (λ j le. own j (omega (arith, ints))) of.1,
   )
 
 -- the first n slots of a reception are received within the error rule too

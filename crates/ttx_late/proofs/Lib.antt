@@ -8,5 +8,5 @@ mod AcceptedIsShown
 mod FollowersOfCycles
 mod GreatestGap
 mod NeverFollowed
-mod LateVerdicts
+pub mod LateVerdicts
 mod LateFiles

@@ -23,8 +23,7 @@ use Rattle.ttx_render.specs.Laws.{ContentsDecide}
 use Rattle.ttx_certify.specs.Seen.{HasView}
 use Rattle.ttx_certify.specs.Laws.{RunsAreSeen}
 use Rattle.ttx_late.specs.LateReceivers.{LateMemory, LateRun}
-use Rattle.ttx_page.specs.Followers.{IsFollowedWithin}
-use Rattle.ttx_late.specs.Laws.{RunsAreShown}
+use Rattle.ttx_late.specs.Laws.{IsFollowedFrom, RunsAreShown}
 use Rattle.ttx_late.proofs.StoringSteps.{same_back, has_view_same}
 use Rattle.ttx_late.proofs.GatheredMemories.{AllEnd, gathers}
 use Rattle.ttx_late.proofs.ShownIsGathered.{Comes, ready_after, IsDue, shown_has_view}
@@ -160,7 +159,7 @@ module _ (runs : RunsAreSeen) (decide : ContentsDecide) (kind : KindIsKept) (hea
     (s : Stream) (p : Page) (sel : Selection) (class : Class) (lines repeat : ℕ) (begin end : ℤ) (page : IsPage p) (few : lines ≤ 32)
     (fits : matches sel p.id ≡ true)
     (steady : IsSteadyFrom s p sel begin) (brought : (item : Item) → needed p item ≡ true → IsBrought s p class lines repeat item begin end)
-    (gap : ℕ) (followed : IsFollowedWithin s p.id gap) (former : LateMemory) (is_former : IsFormer class former.gathered) where
+    (gap : ℕ) (followed : IsFollowedFrom s p.id gap begin) (former : LateMemory) (is_former : IsFormer class former.gathered) where
   steady_later : (later : ℤ) → begin ≤ℤ later → IsSteadyFrom s p sel later
   steady_later later le = record {
     slots = λ j low. steady.slots j (omega (arith, ints));
@@ -173,7 +172,7 @@ module _ (runs : RunsAreSeen) (decide : ContentsDecide) (kind : KindIsKept) (hea
   of_part received r = of_received kind header s begin received (λ j low. (steady.slots j low, steady.clean j low)) (λ n lt. r.each n lt)
 
   all_part : (received : List (List ℕ)) → Received s p.id repeat begin received → AllEnd sel gap received
-  all_part received r = all_end s sel p.id gap (mag_is sel p.id fits) (number_is sel p.id fits) followed received begin
+  all_part received r = all_end s sel p.id gap (mag_is sel p.id fits) (number_is sel p.id fits) received begin followed
       (λ j low. steady.selected j low) (of_part received r)
 
   -- what is gathered has the View from the deadline on

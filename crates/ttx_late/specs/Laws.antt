@@ -16,7 +16,7 @@ use Rattle.ttx_page.specs.declared.class.Class.{Class}
 use Rattle.ttx_page.specs.Memories.{IsFormer}
 use Rattle.ttx_page.specs.Streams.{Stream, repeated, heads_page, heads_matched}
 use Rattle.ttx_page.specs.Receptions.{Received}
-use Rattle.ttx_page.specs.Followers.{IsFollowedByAnother, IsFollowedWithin, IsNeverFollowed}
+use Rattle.ttx_page.specs.Followers.{IsFollowed, IsFollowedByAnother, IsFollowedWithin, IsNeverFollowed}
 use Rattle.ttx_receiver.specs.Laws.{IsSteadyFrom, IsBrought}
 use Rattle.ttx_cycle.specs.Files.{IsCycle}
 use Rattle.ttx_witness.specs.Coverage.{Certificate, IsCertificate, Accepts}
@@ -25,6 +25,11 @@ use Rattle.ttx_certify.specs.Laws.{ArePages}
 use Rattle.ttx_late.specs.LateReceivers.{LateMemory, LateRun}
 use Rattle.ttx_late.specs.SeenLate.{SeenLate}
 
+-- each header of the page from slot begin on is followed by one of another page number, at most so many slots on
+abbrev pub IsFollowedFrom : Stream → Id → ℕ → ℤ → Type 0
+IsFollowedFrom s page gap begin = (h : ℤ) → begin ≤ℤ h → heads_page page (packet_of (s h)) ≡ true →
+    (f : IsFollowed s page h) × (f.slot ≤ℤ (h +ℤ pos gap))
+
 -- As RunsAreSeen of the headline, with what is shown in place of what is gathered: it has the page's View once the next header of the
 -- magazine has surely come, that is, `gap` slots after the deadline.
 abbrev pub RunsAreShown : Type 0
@@ -32,7 +37,7 @@ RunsAreShown =
     (s : Stream) (p : Page) (sel : Selection) (class : Class) (lines repeat : ℕ) (begin end : ℤ) →
     IsPage p → lines ≤ 32 → matches sel p.id ≡ true → IsSteadyFrom s p sel begin →
     ((item : Item) → needed p item ≡ true → IsBrought s p class lines repeat item begin end) →
-    (gap : ℕ) → IsFollowedWithin s p.id gap →
+    (gap : ℕ) → IsFollowedFrom s p.id gap begin →
     (former d : LateMemory) (received : List (List ℕ)) → IsFormer class former.gathered → Received s p.id repeat begin received →
     LateRun class lines sel former received d → (end +ℤ pos gap) ≤ℤ (begin +ℤ pos (length received)) → HasView p d.shown
 

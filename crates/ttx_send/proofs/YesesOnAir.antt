@@ -1,0 +1,42 @@
+-- A yes of `certify --late` and one of `splice`, on the air.
+use Rattle.std.proofs.Common.{ℕ, ℤ, pos, negsuc, List, [], length}
+use Rattle.std.proofs.lemmas.List.Elements.{All-get_or}
+use Rattle.ttx_packet.specs.Slots.{IsSlot}
+use Rattle.ttx_page.specs.Streams.{turned, repeated}
+use Rattle.ttx_page.specs.Laws.{EachSlotTurns}
+use Rattle.ttx_cycle.specs.Files.{IsCycle}
+use Rattle.ttx_late.specs.Laws.{AcceptedIsShown}
+use Rattle.ttx_proof.specs.Laws.{IsSplice}
+use Rattle.ttx_proof.specs.Meaning.{VerdictsMean}
+use Rattle.ttx_proof.specs.Splices.{Splice, stream}
+use Rattle.ttx_send.specs.Laws.{AirIsReceived, AcceptedIsSeenOnAir}
+use Rattle.ttx_send.specs.YesOnAir.{LateYesIsSeenOnAir, SplicedIsSeenOnAir}
+
+repeated_slots : EachSlotTurns → (cycle : List (List ℕ)) → IsCycle cycle → (j : ℤ) → IsSlot (repeated cycle j)
+repeated_slots turn cycle is j = All-get_or IsSlot cycle (turned (length cycle) j) [] (turn (length cycle) j is.some).inside is.each
+
+joined_slots : EachSlotTurns → (c : Splice) → IsSplice c → (j : ℤ) → IsSlot (stream c j)
+joined_slots turn c is (pos n) = repeated_slots turn c.new is.new (pos n)
+joined_slots turn c is (negsuc n) = repeated_slots turn c.old is.old (negsuc n)
+
+pub late_yes_is_seen_on_air : EachSlotTurns → AirIsReceived → AcceptedIsSeenOnAir → AcceptedIsShown → LateYesIsSeenOnAir
+late_yes_is_seen_on_air turn back seen late cycle air pages w gap is_cycle are_pages is_certificate told may n p here =
+    let shown = (late cycle pages w is_cycle are_pages is_certificate told.0 n p here gap (told.2.within n p here)).shown in (
+      seen cycle air pages w is_cycle are_pages is_certificate told.0 may n p here,
+      record {
+        shown = λ sel fits tau former d received is_former permitted long run. shown sel fits tau former d received is_former
+            (back (repeated cycle) air (repeated_slots turn cycle is_cycle) may p.id w.repeat tau received permitted) long run;
+      },
+    )
+
+pub spliced_is_seen_on_air : EachSlotTurns → AirIsReceived → VerdictsMean → SplicedIsSeenOnAir
+spliced_is_seen_on_air turn back mean c air is told may =
+    let seen = (mean c is).0 told in let slots = joined_slots turn c is in let k = c.new_certificate.repeat in
+    record {
+      common = λ p common sel fits_old fits_new tau former m received is_former permitted long run.
+          seen.common p common sel fits_old fits_new tau former m received is_former
+          (back (stream c) air slots may p.id k tau received permitted) long run;
+      new = λ p among sel fits tau begin after change former m received is_former permitted long run.
+          seen.new p among sel fits tau begin after change former m received is_former
+          (back (stream c) air slots may p.id k tau received permitted) long run;
+    }
