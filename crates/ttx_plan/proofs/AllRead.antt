@@ -17,9 +17,9 @@ use Rattle.ttx_source.specs.Services.{Authored, IsAuthored}
 use Rattle.ttx_plan.specs.declared.packet.Packet.{Packet}
 use Rattle.ttx_plan.specs.declared.packet.Slot.{Slot}
 use Rattle.ttx_plan.specs.declared.packet.Slot.TheVariants.{Empty, Info, Sent}
-use Rattle.ttx_plan.specs.Blocks.{Block, header_packet, rest_packet, page_packets, filler_of, packets_of, has_pages, used_to, used_queues}
+use Rattle.ttx_plan.specs.Blocks.{Block, placed, header_packet, rest_packet, page_packets, filler_of, packets_of, has_pages, used_to, used_queues}
 use Rattle.ttx_plan.specs.Blocks.{time_filling_packet, queue_packets}
-use Rattle.ttx_plan.specs.Carries.{magazines_for, block_at, blocks_of, blocks_sent}
+use Rattle.ttx_plan.specs.Carries.{magazines_for, block_at, blocks_of, blocks_sent_at}
 use Rattle.ttx_plan.specs.Contents.{page_header_bytes, page_row_bytes, page_links_bytes, is_sent_to, sent_rows}
 use Rattle.ttx_plan.specs.Laws.{IsSaid}
 use Rattle.ttx_plan.specs.Serial.{serial_page, serial_block, serial_list, info_if, with_info, serial_slots}
@@ -30,6 +30,7 @@ use Rattle.ttx_plan.proofs.InQueues.{queue_at_is}
 use Rattle.ttx_plan.proofs.ListElements.{all_append, all_map, all_replicate, all_if, all_flat_map, all_get}
 use Rattle.ttx_plan.proofs.Owners.{slot_at}
 use Rattle.ttx_plan.proofs.SentBlocks.{order_all}
+use Rattle.ttx_plan.proofs.PlacedBlocks.{placed_all}
 use Rattle.ttx_plan.proofs.Readable.{LawsBelow, Reads, empty_slot, info_slot, header_slot, row_slot, links_slot}
 use Rattle.ttx_plan.proofs.CursorsLookBack.{IsFrom, turn_from_queues}
 
@@ -90,11 +91,13 @@ page_blocks laws pages serial class (p ∷ some) at listed a =
     )
 
 -- the blocks that are sent
-pub sent_read : LawsBelow → (serial late : Bool) (class : Class) (pages : List Authored) → All (IsAuthored serial) pages →
-    AllByRecursion (IsReadable pages serial) (blocks_sent late class pages)
-sent_read laws serial late class pages a = order_all (IsReadable pages serial)
-    (λ filler b r. record { below = r.below; header = r.header; rest = r.rest }) late (blocks_of class pages)
-    (page_blocks laws pages serial class pages 0 (λ k p e. let z : 0 + k ≡ k = omega arith in ap (slice_get pages) z ∙ e) a)
+pub sent_read : LawsBelow → (serial : Bool) (spread : List ℕ) (late : Bool) (class : Class) (pages : List Authored) → All (IsAuthored serial) pages →
+    AllByRecursion (IsReadable pages serial) (blocks_sent_at spread late class pages)
+sent_read laws serial spread late class pages a = order_all (IsReadable pages serial)
+    (λ filler b r. record { below = r.below; header = r.header; rest = r.rest }) late
+    (placed spread (blocks_of class pages))
+    (placed_all (IsReadable pages serial) (λ place b r. record { below = r.below; header = r.header; rest = r.rest }) spread (blocks_of class pages)
+    (page_blocks laws pages serial class pages 0 (λ k p e. let z : 0 + k ≡ k = omega arith in ap (slice_get pages) z ∙ e) a))
 
 filling_slot : LawsBelow → (pages : List Authored) (serial : Bool) (queue : ℕ) → queue < 8 →
     Reads pages serial (Sent queue (time_filling_packet serial queue))
@@ -177,16 +180,16 @@ with_info_read pages lines info i at (slot ∷ rest) a =
     due (Some bytes) true i = (i bytes refl, tt)
     due (Some bytes) false i = tt
 
-pub serial_read : LawsBelow → (lines : ℕ) (info : Option InfoFields) (late : Bool) (class : Class) (pages : List Authored) →
+pub serial_read : LawsBelow → (lines : ℕ) (info : Option InfoFields) (spread : List ℕ) (late : Bool) (class : Class) (pages : List Authored) →
     IsSaid info → All (IsAuthored true) pages →
-    AllByRecursion (Reads pages true) (serial_slots lines (option_map info_bytes info) (blocks_sent late class pages))
-serial_read laws lines info late class pages said a =
-    let blocks = blocks_sent late class pages in
+    AllByRecursion (Reads pages true) (serial_slots lines (option_map info_bytes info) (blocks_sent_at spread late class pages))
+serial_read laws lines info spread late class pages said a =
+    let blocks = blocks_sent_at spread late class pages in
     let list : AllByRecursion (Reads pages true) (serial_list lines blocks) =
     all_append (Reads pages true) (flat_map (serial_block lines) blocks)
     (map (λ queue. Sent queue (time_filling_packet true queue)) (used_queues blocks))
     (all_flat_map (Reads pages true) (IsReadable pages true) (serial_block lines) (block_read laws pages lines) blocks
-    (sent_read laws true late class pages a))
+    (sent_read laws true spread late class pages a))
     (fillings_read laws pages (used_queues blocks) (used_below blocks 8 (omega arith))) in
     let laid = with_info lines (option_map info_bytes info) 0 (serial_list lines blocks) in
     all_append (Reads pages true) laid (replicate (missing lines (length laid)) Empty)
@@ -209,17 +212,17 @@ in_queue_read laws pages queue block b = elim (cases_Bool (eqb block.queue queue
           (sym (cond-false (eqb block.queue queue) (packets_of false block) [] y)) tt
     ]
 
-queue_read : LawsBelow → (late : Bool) (class : Class) (pages : List Authored) → All (IsAuthored false) pages → (queue : ℕ) →
+queue_read : LawsBelow → (spread : List ℕ) (late : Bool) (class : Class) (pages : List Authored) → All (IsAuthored false) pages → (queue : ℕ) →
     queue < 8 → AllByRecursion (λ packet. Reads pages false (Sent queue packet))
-    (queue_packets false (blocks_sent late class pages) queue)
-queue_read laws late class pages a queue lt =
-    let blocks = blocks_sent late class pages in
+    (queue_packets false (blocks_sent_at spread late class pages) queue)
+queue_read laws spread late class pages a queue lt =
+    let blocks = blocks_sent_at spread late class pages in
     all_append (λ packet. Reads pages false (Sent queue packet))
     (flat_map (λ block. cond (eqb block.queue queue) (packets_of false block) []) blocks)
     (cond (has_pages blocks queue) (time_filling_packet false queue ∷ []) [])
     (all_flat_map (λ packet. Reads pages false (Sent queue packet)) (IsReadable pages false)
     (λ block. cond (eqb block.queue queue) (packets_of false block) []) (in_queue_read laws pages queue) blocks
-    (sent_read laws false late class pages a))
+    (sent_read laws false spread late class pages a))
     (all_if (λ packet. Reads pages false (Sent queue packet)) (has_pages blocks queue) (time_filling_packet false queue)
     (λ _. filling_slot laws pages false queue lt))
 
@@ -240,26 +243,27 @@ info_from mags before bytes e = at_info mags.info (is_info_due mags.lines (lengt
     at_info (Some b) false e = absurd (at (find (is_ready mags before) (order (turn_from before))) e)
     at_info (Some b) true e = let f : Info bytes ≡ Info b = e in let g : b ≡ bytes = cc in ap Some g
 
-pub parallel_read : LawsBelow → (lines : ℕ) (info : Option InfoFields) (late : Bool) (class : Class) (pages : List Authored) →
+pub parallel_read : LawsBelow → (lines : ℕ) (info : Option InfoFields) (spread : List ℕ) (late : Bool) (class : Class) (pages : List Authored) →
     IsSaid info → All (IsAuthored false) pages →
-    (before : List Slot) → KeepsTurns (magazines_for lines (option_map info_bytes info) (blocks_sent late class pages)) before →
+    (before : List Slot) → KeepsTurns (magazines_for lines (option_map info_bytes info) (blocks_sent_at spread late class pages)) before →
     AllByRecursion (Reads pages false) before
-parallel_read laws lines info late class pages said a [] t = tt
-parallel_read laws lines info late class pages said a (slot ∷ before) t =
-    (one slot t.0, parallel_read laws lines info late class pages said a before t.1)
+parallel_read laws lines info spread late class pages said a [] t = tt
+parallel_read laws lines info spread late class pages said a (slot ∷ before) t =
+    (one slot t.0, parallel_read laws lines info spread late class pages said a before t.1)
   where
-    one : (x : Slot) → x ≡ slot_after (magazines_for lines (option_map info_bytes info) (blocks_sent late class pages)) before → Reads pages false x
+    one : (x : Slot) → x ≡ slot_after (magazines_for lines (option_map info_bytes info) (blocks_sent_at spread late class pages)) before →
+        Reads pages false x
     one Empty e = empty_slot laws pages false
     one (Info bytes) e = info_read laws pages false info said bytes
-        (info_from (magazines_for lines (option_map info_bytes info) (blocks_sent late class pages)) before bytes e)
+        (info_from (magazines_for lines (option_map info_bytes info) (blocks_sent_at spread late class pages)) before bytes e)
     one (Sent queue packet) e =
-        let mags = magazines_for lines (option_map info_bytes info) (blocks_sent late class pages) in
+        let mags = magazines_for lines (option_map info_bytes info) (blocks_sent_at spread late class pages) in
         let from : IsFrom mags before (Sent queue packet) = subst (IsFrom mags before) (sym e) (turn_from_queues mags before) in
-        let next : slice_get (queue_packets false (blocks_sent late class pages) queue) (sent_by queue before) ≡ Some packet =
+        let next : slice_get (queue_packets false (blocks_sent_at spread late class pages) queue) (sent_by queue before) ≡ Some packet =
         subst (λ x. slice_get x (sent_by queue before) ≡ Some packet)
-        (queue_at_is (blocks_sent late class pages) queue from.0) from.1 in
-        all_get (λ p. Reads pages false (Sent queue p)) (queue_packets false (blocks_sent late class pages) queue)
-        (sent_by queue before) packet (queue_read laws late class pages a queue from.0) next
+        (queue_at_is (blocks_sent_at spread late class pages) queue from.0) from.1 in
+        all_get (λ p. Reads pages false (Sent queue p)) (queue_packets false (blocks_sent_at spread late class pages) queue)
+        (sent_by queue before) packet (queue_read laws spread late class pages a queue from.0) next
 
 -- the slot at each place
 pub read_at : LawsBelow → (pages : List Authored) (serial : Bool) (before : List Slot) → AllByRecursion (Reads pages serial) before →

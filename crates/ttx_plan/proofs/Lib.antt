@@ -1,4 +1,5 @@
 mod WaitingBound
+mod PlacedBlocks
 mod SentBlocks
 mod PassedBlocks
 mod Alternating

@@ -53,7 +53,7 @@ rest_says laws written p is l class =
 
 pub planned_links_are_own : LawsBelow → WrittenLinksAreRead → PlannedLinksAreOwn
 planned_links_are_own laws written late class service cycle c n lt mag content e =
-    let u = under laws service.serial service.lines service.info late class service.pages cycle c.said c.service_is.pages c.carries n lt
+    let u = under laws service.serial service.lines service.info c.places late class service.pages cycle c.said c.service_is.pages c.carries n lt
     mag TheLinks (ap (S.carries mag TheLinks) e ∙ eq-eqb mag mag refl) in
     let a = authored_at service.serial service.pages c.service_is.pages u.index u.authored u.listed in
     let says = all_get (SaysLinks u.authored.page) (rest_of class u.authored.page) u.item (get_or cycle n [])

@@ -67,8 +67,8 @@ row_carried : (slot : List ℕ) (mag number : ℕ) (text : List ℕ) → packet_
 row_carried slot mag number text e = ap (S.carries mag (TheRow number)) e ∙ and_from _ _ (eq-eqb mag mag refl) (eq-eqb number number refl)
 
 pub planned_rows_are_own : LawsBelow → PlannedRowsAreOwn
-planned_rows_are_own laws late class service cycle is_service said known n lt mag number text e =
-    let u = under laws service.serial service.lines service.info late class service.pages cycle said is_service.pages known n lt mag
+planned_rows_are_own laws spread late class service cycle is_service said known n lt mag number text e =
+    let u = under laws service.serial service.lines service.info spread late class service.pages cycle said is_service.pages known n lt mag
     (TheRow number) (row_carried (get_or cycle n []) mag number text e) in
     let a = authored_at service.serial service.pages is_service.pages u.index u.authored u.listed in
     let says : SaysRow u.authored.page (get_or cycle n []) =

@@ -77,7 +77,7 @@ again_is pages blocks block lt k = ap (λ n. eqb n block.page) (k.kept block.que
 -- ---- a round goes on
 
 abbrev pub in_round : ℕ → Block → Bool
-in_round round block = eqb (round % (8 / block.often)) 0
+in_round round block = eqb (round % (8 / block.often)) block.place
 
 pub sent_more : (all some : List Block) (round : ℕ) (block : Block) → in_round round block ≡ true → rounds_to all round
     ++ round_of (some ++ block ∷ []) round ≡ (rounds_to all round ++ round_of some round) ++ block ∷ []
@@ -119,45 +119,45 @@ count_next late all some round block e =
 
 -- the lists are those after one block more: `next` is `some` with the block
 pub sent_then : (late : Bool) (all some next : List Block) (round : ℕ) (block : Block) (filler : Bool) (pages : List ℕ)
-    (sent : List Block) → next ≡ some ++ block ∷ [] → block.queue < 8 → round % (8 / block.often) ≡ 0 →
+    (sent : List Block) → next ≡ some ++ block ∷ [] → block.queue < 8 → round % (8 / block.often) ≡ block.place →
     KeepsLatest pages (rounds_to all round ++ round_of some round) → filler ≡ (late && eqb (get_or pages block.queue 0) block.page) →
     sent ≡ with_fillers late [] (rounds_to all round ++ round_of some round) →
     sent ++ led filler block ∷ [] ≡ with_fillers late [] (rounds_to all round ++ round_of next round)
 sent_then late all some next round block filler pages sent more lt due k f s =
-    let e : in_round round block ≡ true = eq-eqb (round % (8 / block.often)) 0 due in
+    let e : in_round round block ≡ true = eq-eqb (round % (8 / block.often)) block.place due in
     ap (λ x. x ++ led filler block ∷ []) s
     ∙ ap (λ b. with_fillers late [] (rounds_to all round ++ round_of some round) ++ led b block ∷ [])
     (f ∙ ap (λ b. late && b) (again_is pages (rounds_to all round ++ round_of some round) block lt k))
     ∙ sym (list_next late all some round block e) ∙ ap (λ x. with_fillers late [] (rounds_to all round ++ round_of x round)) (sym more)
 
 pub count_then : (late : Bool) (all some next : List Block) (round : ℕ) (block : Block) (filler : Bool) (pages : List ℕ) (count : ℕ) →
-    next ≡ some ++ block ∷ [] → block.queue < 8 → round % (8 / block.often) ≡ 0 →
+    next ≡ some ++ block ∷ [] → block.queue < 8 → round % (8 / block.often) ≡ block.place →
     KeepsLatest pages (rounds_to all round ++ round_of some round) → filler ≡ (late && eqb (get_or pages block.queue 0) block.page) →
     count ≡ fillers_in (with_fillers late [] (rounds_to all round ++ round_of some round)) →
     count + cond filler 1 0 ≡ fillers_in (with_fillers late [] (rounds_to all round ++ round_of next round))
 count_then late all some next round block filler pages count more lt due k f s =
-    let e : in_round round block ≡ true = eq-eqb (round % (8 / block.often)) 0 due in
+    let e : in_round round block ≡ true = eq-eqb (round % (8 / block.often)) block.place due in
     ap (λ x. x + cond filler 1 0) s
     ∙ ap (λ b. fillers_in (with_fillers late [] (rounds_to all round ++ round_of some round)) + cond b 1 0)
     (f ∙ ap (λ b. late && b) (again_is pages (rounds_to all round ++ round_of some round) block lt k))
     ∙ sym (count_next late all some round block e) ∙ ap (λ x. fillers_in (with_fillers late [] (rounds_to all round ++ round_of x round))) (sym more)
 
 pub keeps_then : (all some next : List Block) (round : ℕ) (block : Block) (pages : List ℕ) → next ≡ some ++ block ∷ [] →
-    block.queue < 8 → round % (8 / block.often) ≡ 0 →
+    block.queue < 8 → round % (8 / block.often) ≡ block.place →
     KeepsLatest pages (rounds_to all round ++ round_of some round) →
     KeepsLatest (set pages block.queue block.page) (rounds_to all round ++ round_of next round)
 keeps_then all some next round block pages more lt due k =
-    let e : in_round round block ≡ true = eq-eqb (round % (8 / block.often)) 0 due in
+    let e : in_round round block ≡ true = eq-eqb (round % (8 / block.often)) block.place due in
     subst (KeepsLatest (set pages block.queue block.page))
     (sym (sent_more all some round block e) ∙ ap (λ x. rounds_to all round ++ round_of x round) (sym more))
     (keeps_next pages (rounds_to all round ++ round_of some round) block lt k)
 
 -- and where the block isn't sent in the round they stay
 pub list_else : (all some next : List Block) (round : ℕ) (block : Block) → next ≡ some ++ block ∷ [] →
-    (round % (8 / block.often) ≡ 0 → ⊥) → rounds_to all round ++ round_of some round ≡ rounds_to all round ++ round_of next round
+    (round % (8 / block.often) ≡ block.place → ⊥) → rounds_to all round ++ round_of some round ≡ rounds_to all round ++ round_of next round
 list_else all some next round block more off = sym
     (ap (λ x. rounds_to all round ++ round_of x round) more
-    ∙ sent_same all some round block (ne_eqb (round % (8 / block.often)) 0 off))
+    ∙ sent_same all some round block (ne_eqb (round % (8 / block.often)) block.place off))
 
 -- the program's blocks, one more
 pub seen_next : (blocks : List PageBlock) (i : ℕ) (block : PageBlock) → i < length blocks → block ≡ get_or blocks i block →

@@ -7,7 +7,7 @@ use Rattle.ttx_page.specs.declared.class.Class.{Class}
 use Rattle.ttx_plan.specs.declared.faults.PlanFault.{PlanFault}
 use Rattle.ttx_plan.specs.declared.faults.PlanFault.TheVariants.{NoPages, TooLong, NoMemory}
 use Rattle.ttx_plan.specs.Blocks.{length_bound}
-use Rattle.ttx_plan.specs.Carries.{blocks_sent}
+use Rattle.ttx_plan.specs.Carries.{blocks_sent_at}
 use Rattle.ttx_source.specs.Services.{Authored}
 
 abbrev pub Answer : Type 0
@@ -47,7 +47,8 @@ some_alike [] [] same e none = let f : false ≡ true = e in cc
 some_alike (v ∷ values) [] same e none = omega (arith, same)
 
 -- without pages the bound is two fields
-pub bound_of_none : (late : Bool) (class : Class) (lines : ℕ) (pages : List Authored) → lines ≤ 32 → pages ≡ [] →
-    65536 < length_bound lines (blocks_sent late class pages) → ⊥
-bound_of_none late class lines [] few none long = omega arith
-bound_of_none late class lines (p ∷ pages) few none long = cc
+pub bound_of_none : (spread : List ℕ) (late : Bool) (class : Class) (lines : ℕ) (pages : List Authored) → lines ≤ 32 → pages ≡ [] →
+    65536 < length_bound lines (blocks_sent_at spread late class pages) → ⊥
+bound_of_none [] late class lines [] few none long = omega arith
+bound_of_none (place ∷ spread) late class lines [] few none long = omega arith
+bound_of_none spread late class lines (p ∷ pages) few none long = cc

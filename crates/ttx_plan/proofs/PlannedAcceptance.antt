@@ -42,7 +42,7 @@ module _ (laws : LawsBelow) (written : WrittenLinksAreRead) (own : SteadySendsIt
   has_start late class service cycle c repeat one p t item sent =
       let j = t.items item sent in
       starts cycle c.some p.id service.lines repeat item one j.1.owner j.0 j.1.owned
-      (λ h k o. planned_is_sure laws late class service cycle c.service_is c.said c.carries c.some p.id item h k o)
+      (λ h k o. planned_is_sure laws c.places late class service cycle c.service_is c.said c.carries c.some p.id item h k o)
 
   pub planned_is_accepted : PlannedIsAccepted
   planned_is_accepted late class service cycle c repeat one eight =
@@ -50,7 +50,7 @@ module _ (laws : LawsBelow) (written : WrittenLinksAreRead) (own : SteadySendsIt
       eight (omega arith) (omega arith)
       (omega (arith, c.few, c.service_is.lines_from))
       (record {
-        clean = planned_is_clean laws late class service cycle c.service_is c.said c.carries;
+        clean = planned_is_clean laws c.places late class service cycle c.service_is c.said c.carries;
         steady = planned_is_steady laws written own late class service cycle c;
       })
       (λ n p at item need.

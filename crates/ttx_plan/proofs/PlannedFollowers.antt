@@ -20,10 +20,11 @@ use Rattle.ttx_plan.specs.declared.packet.Packet.{Packet}
 use Rattle.ttx_plan.specs.declared.packet.Slot.{Slot}
 use Rattle.ttx_plan.specs.declared.packet.Slot.TheVariants.{Empty, Info, Sent}
 use Rattle.ttx_plan.specs.Acceptance.{IsPlanned}
-use Rattle.ttx_plan.specs.Blocks.{Block, rounds_to, has_pages}
-use Rattle.ttx_plan.specs.Carries.{blocks_of, blocks_sent}
+use Rattle.ttx_plan.specs.Blocks.{Block, placed, rounds_to, has_pages}
+use Rattle.ttx_plan.specs.Carries.{blocks_of, blocks_sent_at}
 use Rattle.ttx_plan.specs.Following.{PlannedIsFollowed}
 use Rattle.ttx_plan.specs.Packets.{is_row_or_links, bytes_of}
+use Rattle.ttx_plan.specs.Ranges.{ArePlaces}
 use Rattle.ttx_plan.proofs.Alternating.{number_in, number, Alternates, IsNumbered, header_number, alternates}
 use Rattle.ttx_plan.proofs.NextHeaders.{HasAfter, has_after}
 use Rattle.ttx_plan.proofs.Owners.{heads}
@@ -31,7 +32,9 @@ use Rattle.ttx_plan.proofs.SurePlaces.{between}
 use Rattle.ttx_plan.proofs.PlannedSlots.{IsLaidOut, laid_out}
 use Rattle.ttx_plan.proofs.Readable.{LawsBelow}
 use Rattle.ttx_plan.proofs.SendingOrder.{of_queue}
+use Rattle.ttx_plan.proofs.PlacedBlocks.{placed_all, placed_any}
 use Rattle.ttx_plan.proofs.SentBlocks.{rounds_all, same_queues}
+use Rattle.ttx_plan.proofs.ServicePages.{blocks_in_rounds}
 use Rattle.ttx_plan.proofs.SentItems.{page_there, heads_its}
 use Rattle.ttx_plan.proofs.UnderHeaders.{authored_at}
 
@@ -63,16 +66,22 @@ numbered laws serial class (p ∷ pages) a sent used =
       numbered laws serial class pages (λ k d lt. a (suc k) d (omega arith)) sent used.1,
     )
 
-queue_alternates : LawsBelow → (serial : Bool) (class : Class) (pages : List Authored) → All (IsAuthored serial) pages →
-    (cycle : List (List ℕ)) (l : IsLaidOut pages serial true class cycle) →
+queue_alternates : LawsBelow → (serial : Bool) (spread : List ℕ) (class : Class) (pages : List Authored) → All (IsAuthored serial) pages →
+    ArePlaces spread pages → (cycle : List (List ℕ)) (l : IsLaidOut pages serial spread true class cycle) →
     (queue : ℕ) → queue < 8 → Alternates (of_queue queue l.slots)
-queue_alternates laws serial class pages a cycle l queue lt =
-    let blocks = blocks_of class pages in
-    let sent = blocks_sent true class pages in
-    let used : AllByRecursion (λ b. has_pages sent b.queue ≡ true) blocks = have_own sent blocks (λ q e. same_queues true blocks q ∙ e) in
+queue_alternates laws serial spread class pages a range cycle l queue lt =
+    let blocks = placed spread (blocks_of class pages) in
+    let sent = blocks_sent_at spread true class pages in
+    let same : (q : ℕ) → has_pages (blocks_sent_at spread true class pages) q ≡ has_pages (blocks_of class pages) q = λ q. same_queues true
+    (placed spread (blocks_of class pages)) (blocks_in_rounds class serial spread pages a range) q
+    ∙ placed_any (λ b. eqb b.queue q) (λ place b. refl) spread (blocks_of class pages) in
+    let used : AllByRecursion (λ b. has_pages sent b.queue ≡ true) (blocks_of class pages) =
+    have_own sent (blocks_of class pages) (λ q e. same q ∙ e) in
     subst Alternates (sym (l.in_queue queue lt))
     (alternates laws serial sent queue lt [] (rounds_to blocks 8)
-    (rounds_all (IsNumbered sent) blocks 8 (numbered laws serial class pages a sent used)))
+    (rounds_all (IsNumbered sent) blocks 8
+    (placed_all (IsNumbered sent) (λ place b n. record { number_is = n.number_is; used = n.used }) spread (blocks_of class pages)
+    (numbered laws serial class pages a sent used))))
 
 -- ---- headers, by their slots and by how they are read
 
@@ -117,8 +126,9 @@ another_is page P.Other e ne = e
 
 module _ (laws : LawsBelow) (class : Class) (service : ServiceFields) (cycle : List (List ℕ)) (c : IsPlanned true class service cycle)
     (own : Authored) (a : IsAuthored service.serial own) (h : ℤ) (is : S.heads_page own.page.id (packet_of (repeated cycle h)) ≡ true) where
-  l : IsLaidOut service.pages service.serial true class cycle
-  l = laid_out laws service.serial service.lines service.info true class service.pages cycle c.said c.service_is.pages c.carries
+  l : IsLaidOut service.pages service.serial c.places true class cycle
+  l = laid_out laws service.serial service.lines service.info c.places true class service.pages cycle c.said c.service_is.pages
+      c.in_range c.carries
 
   abbrev queue : ℕ
   queue = own.page.id.mag - 1
@@ -156,7 +166,7 @@ module _ (laws : LawsBelow) (class : Class) (service : ServiceFields) (cycle : L
 
   after : HasAfter queue place (number here.packet.bytes) l.slots
   after = has_after queue l.slots place here.packet
-      (queue_alternates laws service.serial class service.pages c.service_is.pages cycle l queue below) within here.is here.early
+      (queue_alternates laws service.serial c.places class service.pages c.service_is.pages c.in_range cycle l queue below) within here.is here.early
       (λ e. a.page.page (sym own_number ∙ e))
 
   pub followed : IsFollowed (repeated cycle) own.page.id h

@@ -1,14 +1,14 @@
 -- The blocks that are sent are those of the rounds, behind time-filling headers or not.
-use Rattle.std.proofs.Common.{◌≡◌, ℕ, zero, suc, ◌+◌, ◌/◌, ◌%◌, Bool, true, false, ◌&&◌, ◌||◌, cond, eqb, List, [], ◌∷◌, ◌++◌, length, Some, None}
-use Rattle.std.proofs.Common.{refl, sym, ap, ◌∙◌, arith}
+use Rattle.std.proofs.Common.{◌≡◌, ℕ, zero, suc, ◌+◌, Bool, true, false, ◌&&◌, ◌||◌, cond, eqb, List, [], ◌∷◌, ◌++◌, length, Some, None}
+use Rattle.std.proofs.Common.{refl, sym, ap, ◌∙◌, arith, inl, inr}
 use Rattle.std.specs.Prelude.{slice_get, filter, sum_by}
 use Rattle.std.specs.List.{AllByRecursion, list_any}
-use Rattle.std.proofs.Math.Nat.{zero-mod}
-use Rattle.std.proofs.lemmas.Bool.{cond-true, eq-eqb}
+use Rattle.std.proofs.lemmas.Bool.{or_cases}
 use Rattle.std.proofs.lemmas.List.Sums.{sum_by-cons}
 use Rattle.ttx_plan.specs.Blocks.{Block, led, round_of, rounds_to, latest, with_fillers, sent_blocks, has_pages, used_to, packets_in}
 use Rattle.ttx_plan.specs.Seen.{fillers_in}
 use Rattle.ttx_plan.proofs.ListElements.{all_append, all_filter}
+use Rattle.ttx_plan.proofs.PlacedBlocks.{IsInRounds, any_sent}
 
 -- ---- what holds of each
 
@@ -34,15 +34,6 @@ led_get late before [] k block e = let f : None ≡ Some block = e in cc
 led_get late before (b ∷ blocks) zero block e = let f : Some b ≡ Some block = e in let g : b ≡ block = cc in let filler = late
     && eqb (latest b.queue before) b.page in (filler, ap (λ x. Some (led (late && eqb (latest b.queue before) b.page) x)) g)
 led_get late before (b ∷ blocks) (suc k) block e = led_get late (b ∷ before) blocks k block e
-
--- ---- the first round has all
-
-every : (test : Block → Bool) (blocks : List Block) → ((b : Block) → test b ≡ true) → filter test blocks ≡ blocks
-every test [] all = refl
-every test (b ∷ blocks) all = cond-true (test b) (b ∷ filter test blocks) (filter test blocks) (all b) ∙ ap (λ z. b ∷ z) (every test blocks all)
-
-pub first_round : (blocks : List Block) → round_of blocks 0 ≡ blocks
-first_round blocks = every (λ b. eqb (0 % (8 / b.often)) 0) blocks (λ b. eq-eqb (0 % (8 / b.often)) 0 (zero-mod (8 / b.often)))
 
 -- ---- the queues that have pages
 
@@ -74,28 +65,36 @@ any_filter p test (x ∷ xs) e = by (test x) (p x) e (any_filter p test xs)
         tail true e = refl
         tail false e = e
 
-any_rounds : (p : Block → Bool) (blocks : List Block) (n : ℕ) → list_any p (rounds_to blocks (suc n)) ≡ list_any p blocks
-any_rounds p blocks zero = ap (list_any p) (first_round blocks)
-any_rounds p blocks (suc n) =
-    any_append p (rounds_to blocks (suc n)) (round_of blocks (suc n)) ∙ ap (λ b. b || list_any p (round_of blocks (suc n))) (any_rounds p blocks n)
-    ∙ absorb (list_any p blocks) (list_any p (round_of blocks (suc n))) (any_filter p _ blocks)
+-- those of the rounds are some of the blocks
+any_of_rounds : (p : Block → Bool) (blocks : List Block) (n : ℕ) → list_any p (rounds_to blocks n) ≡ true → list_any p blocks ≡ true
+any_of_rounds p blocks zero e = cc
+any_of_rounds p blocks (suc n) e = elim (or_cases (list_any p (rounds_to blocks n)) (list_any p (round_of blocks n))
+    (sym (any_append p (rounds_to blocks n) (round_of blocks n)) ∙ e)) as (λ _. list_any p blocks ≡ true) [
+      | inl before ↦ any_of_rounds p blocks n before
+      | inr last ↦ any_filter p _ blocks last
+    ]
+
+any_rounds : (p : Block → Bool) (blocks : List Block) → AllByRecursion IsInRounds blocks → list_any p (rounds_to blocks 8) ≡ list_any p blocks
+any_rounds p blocks a = same_truth (list_any p (rounds_to blocks 8)) (list_any p blocks) (any_of_rounds p blocks 8) (any_sent p blocks a)
   where
-    absorb : (a b : Bool) → (b ≡ true → a ≡ true) → (a || b) ≡ a
-    absorb true b h = refl
-    absorb false true h = sym (h refl)
-    absorb false false h = refl
+    same_truth : (a b : Bool) → (a ≡ true → b ≡ true) → (b ≡ true → a ≡ true) → a ≡ b
+    same_truth true b there back = sym (there refl)
+    same_truth false true there back = back refl
+    same_truth false false there back = refl
 
 any_led : (late : Bool) (before blocks : List Block) (queue : ℕ) → has_pages (with_fillers late before blocks) queue ≡ has_pages blocks queue
 any_led late before [] queue = refl
 any_led late before (b ∷ blocks) queue = ap (λ x. eqb b.queue queue || x) (any_led late (b ∷ before) blocks queue)
 
-pub same_queues : (late : Bool) (blocks : List Block) (queue : ℕ) → has_pages (sent_blocks late blocks) queue ≡ has_pages blocks queue
-same_queues late blocks queue = any_led late [] (rounds_to blocks 8) queue ∙ any_rounds (of_queue queue) blocks 7
+pub same_queues : (late : Bool) (blocks : List Block) → AllByRecursion IsInRounds blocks → (queue : ℕ) →
+    has_pages (sent_blocks late blocks) queue ≡ has_pages blocks queue
+same_queues late blocks a queue = any_led late [] (rounds_to blocks 8) queue ∙ any_rounds (of_queue queue) blocks a
 
-pub same_used : (late : Bool) (blocks : List Block) (n : ℕ) → used_to (sent_blocks late blocks) n ≡ used_to blocks n
-same_used late blocks zero = refl
-same_used late blocks (suc n) = ap (λ x. x ++ cond (has_pages (sent_blocks late blocks) n) (n ∷ []) []) (same_used late blocks n)
-    ∙ ap (λ b. used_to blocks n ++ cond b (n ∷ []) []) (same_queues late blocks n)
+pub same_used : (late : Bool) (blocks : List Block) → AllByRecursion IsInRounds blocks → (n : ℕ) →
+    used_to (sent_blocks late blocks) n ≡ used_to blocks n
+same_used late blocks a zero = refl
+same_used late blocks a (suc n) = ap (λ x. x ++ cond (has_pages (sent_blocks late blocks) n) (n ∷ []) []) (same_used late blocks a n)
+    ∙ ap (λ b. used_to blocks n ++ cond b (n ∷ []) []) (same_queues late blocks a n)
 
 -- ---- how many there are
 

@@ -71,8 +71,8 @@ row_numbers p r e =
     in
     (leb-true 1 r two.0, leb-true r 24 two.1)
 
-module _ (laws : LawsBelow) (pages : List Authored) (serial late : Bool) (class : Class) (cycle : List (List ℕ))
-    (l : IsLaidOut pages serial late class cycle) where
+module _ (laws : LawsBelow) (pages : List Authored) (serial : Bool) (spread : List ℕ) (late : Bool) (class : Class) (cycle : List (List ℕ))
+    (l : IsLaidOut pages serial spread late class cycle) where
   size : length cycle ≡ length l.slots
   size = ap length l.cycle_is ∙ length-map l.slots bytes_of
 
@@ -167,8 +167,9 @@ module _ (laws : LawsBelow) (pages : List Authored) (serial late : Bool) (class 
 pub planned_items_are_sent : LawsBelow → WrittenLinksAreRead → PlannedItemsAreSent
 planned_items_are_sent laws written late class service cycle c n p e =
     let there = page_there service.pages n p e in
-    let l = laid_out laws service.serial service.lines service.info late class service.pages cycle c.said c.service_is.pages c.carries in
+    let l = laid_out laws service.serial service.lines service.info c.places late class service.pages cycle c.said c.service_is.pages
+    c.in_range c.carries in
     let a = authored_at service.serial service.pages c.service_is.pages n there.0 there.1 in
     subst (IsTransmitted class cycle) there.2
-    (transmitted laws service.pages service.serial late class cycle l there.0 a written
+    (transmitted laws service.pages service.serial c.places late class cycle l there.0 a written
     (c.linked n there.0 there.1) n there.1)

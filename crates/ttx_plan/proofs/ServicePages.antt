@@ -2,7 +2,7 @@
 use Rattle.std.proofs.Common.{◌≡◌, ℕ, zero, suc, ◌+◌, ◌-◌, ◌*◌, ◌<◌, ◌≤◌, Bool, true, cond, List, [], ◌∷◌, ◌++◌, ◌||◌, map, length, take}
 use Rattle.std.proofs.Common.{Some, None, refl, sym, ap, ◌∙◌, subst, arith, inl, inr, eqb, get_or, mul-le-mul}
 use Rattle.std.specs.Prelude.{All, slice_get, option_map, sum_by}
-use Rattle.std.specs.List.{list_any}
+use Rattle.std.specs.List.{AllByRecursion, list_any}
 use Rattle.std.proofs.lemmas.Bool.{eqb-true, or_cases}
 use Rattle.std.proofs.lemmas.List.{map-append, length-map}
 use Rattle.std.proofs.lemmas.List.Sums.{sum_by-cons, sum_by-append}
@@ -12,11 +12,11 @@ use Rattle.ttx_page.specs.Pages.{Page}
 use Rattle.ttx_page.specs.Views.{page_of}
 use Rattle.ttx_source.specs.Keys.{is_often}
 use Rattle.ttx_source.specs.Services.{Authored, authored_at, IsAuthored}
-use Rattle.ttx_plan.specs.Blocks.{Block, has_pages, used_to}
+use Rattle.ttx_plan.specs.Blocks.{Block, at_place, placed, has_pages, used_to}
 use Rattle.ttx_plan.specs.Carries.{block_at, blocks_of}
-use Rattle.ttx_plan.specs.Ranges.{IsOften}
+use Rattle.ttx_plan.specs.Ranges.{ArePlaces, IsOften}
 use Rattle.ttx_plan.specs.Seen.{used_by}
-use Rattle.ttx_plan.proofs.RepeatedBlocks.{AreOften}
+use Rattle.ttx_plan.proofs.PlacedBlocks.{IsInRounds, placed_any, placed_next}
 
 once : IsOften 1
 once = record { some = omega arith; most = omega arith; divides = refl }
@@ -97,11 +97,20 @@ often_there serial (p ∷ pages) zero often a e =
     subst IsOften g (often_ranges p.often first.often)
 often_there serial (p ∷ pages) (suc i) often a e = often_there serial pages i often (λ k d lt. a (suc k) d (omega arith)) e
 
-pub blocks_often : (class : Class) (serial : Bool) (pages : List Authored) → All (IsAuthored serial) pages → AreOften (blocks_of class pages)
-blocks_often class serial [] a = tt
-blocks_often class serial (p ∷ pages) a =
-    let first : IsAuthored serial p = a 0 p (omega arith) in
-    (often_ranges p.often first.often, blocks_often class serial pages (λ k d lt. a (suc k) d (omega arith)))
+pub blocks_in_rounds : (class : Class) (serial : Bool) (spread : List ℕ) (pages : List Authored) → All (IsAuthored serial) pages →
+    ArePlaces spread pages → AllByRecursion IsInRounds (placed spread (blocks_of class pages))
+blocks_in_rounds class serial [] [] a range = tt
+blocks_in_rounds class serial [] (p ∷ pages) a range =
+    let first : IsAuthored serial p = a 0 p (omega arith) in (
+      record { often = often_ranges p.often first.often; place = range 0 p refl },
+      blocks_in_rounds class serial [] pages (λ k d lt. a (suc k) d (omega arith)) (λ i q e. range (suc i) q e),
+    )
+blocks_in_rounds class serial (place ∷ spread) [] a range = tt
+blocks_in_rounds class serial (place ∷ spread) (p ∷ pages) a range =
+    let first : IsAuthored serial p = a 0 p (omega arith) in (
+      record { often = often_ranges p.often first.often; place = range 0 p refl },
+      blocks_in_rounds class serial spread pages (λ k d lt. a (suc k) d (omega arith)) (λ i q e. range (suc i) q e),
+    )
 
 -- one page more
 pub take_next : {A : Type 0} (xs : List A) (n : ℕ) (x : A) → slice_get xs n ≡ Some x → take (suc n) xs ≡ take n xs ++ x ∷ []
@@ -115,6 +124,20 @@ blocks_next class pages i page e =
     let n : i + 1 ≡ suc i = omega arith in
     ap (λ k. blocks_of class (take k pages)) n ∙ ap (blocks_of class) (take_next pages i page e)
     ∙ map-append (block_at class) (take i pages) (page ∷ [])
+
+-- the same with places
+pub placed_blocks_next : (spread : List ℕ) (class : Class) (pages : List Authored) (i : ℕ) (page : Authored) → slice_get pages i ≡ Some page →
+    placed spread (blocks_of class (take (i + 1) pages))
+    ≡ placed spread (blocks_of class (take i pages)) ++ at_place (get_or spread i 0) (block_at class page) ∷ []
+placed_blocks_next spread class pages i page e =
+    ap (placed spread) (blocks_next class pages i page e) ∙ placed_next spread (blocks_of class (take i pages)) (block_at class page)
+    ∙ ap (λ n. placed spread (blocks_of class (take i pages)) ++ at_place (get_or spread n 0) (block_at class page) ∷ [])
+    (length-map (take i pages) (block_at class) ∙ taken pages i page e)
+  where
+    taken : {A : Type 0} (xs : List A) (n : ℕ) (x : A) → slice_get xs n ≡ Some x → length (take n xs) ≡ n
+    taken [] n x h = let e : None ≡ Some x = h in cc
+    taken (y ∷ ys) zero x h = refl
+    taken (y ∷ ys) (suc n) x h = ap suc (taken ys n x h)
 
 pub sum_next : (f : Block → ℕ) (class : Class) (pages : List Authored) (i : ℕ) (page : Authored) → slice_get pages i ≡ Some page →
     sum_by f (blocks_of class (take (i + 1) pages)) ≡ sum_by f (blocks_of class (take i pages)) + f (block_at class page)
@@ -144,6 +167,13 @@ used_same class values pages (suc n) same =
     ap (λ x. x ++ cond (list_any (λ p. eqb ((page_of p).id.mag - 1) n) values) (n ∷ []) []) (used_same class values pages n same)
     ∙ ap (λ b. used_to (blocks_of class pages) n ++ cond b (n ∷ []) [])
     (any_value n values ∙ ap (list_any (λ p. eqb (p.id.mag - 1) n)) same ∙ any_page class n pages)
+
+-- places leave the queues that are used as they are
+pub same_used_by : (blocks : List Block) (spread : List ℕ) (n : ℕ) → used_to blocks n ≡ used_to (placed spread blocks) n
+same_used_by blocks spread zero = refl
+same_used_by blocks spread (suc n) =
+    ap (λ x. x ++ cond (has_pages blocks n) (n ∷ []) []) (same_used_by blocks spread n)
+    ∙ ap (λ b. used_to (placed spread blocks) n ++ cond b (n ∷ []) []) (sym (placed_any (λ b. eqb b.queue n) (λ place b. refl) spread blocks))
 
 pub same_lengths : (values : List PageValue) (pages : List Authored) → map page_of values ≡ map (λ p. p.page) pages → length values ≡ length pages
 same_lengths values pages e = sym (length-map values page_of) ∙ ap length e ∙ length-map pages (λ p. p.page)

@@ -159,7 +159,7 @@ module _ (laws : LawsBelow) (written : WrittenLinksAreRead) (late : Bool) (class
       by P.Empty e m = m
       by P.Unreadable e m = m
       by (P.Header id control text) e m = sub_own alone id control text
-          (planned_headers_are_own laws late class service cycle c.service_is c.said c.carries (turned (length cycle) j)
+          (planned_headers_are_own laws c.places late class service cycle c.service_is c.said c.carries (turned (length cycle) j)
           (inside j) id control text e) m
       by (P.Row mag number text) e m = m
       by (P.Links mag content) e m = m
@@ -178,7 +178,7 @@ module _ (laws : LawsBelow) (written : WrittenLinksAreRead) (late : Bool) (class
   true_head j P.Empty e h = cc
   true_head j P.Unreadable e h = cc
   true_head j (P.Header id control text) e h = head_own id control text
-      (planned_headers_are_own laws late class service cycle c.service_is c.said c.carries (turned (length cycle) j)
+      (planned_headers_are_own laws c.places late class service cycle c.service_is c.said c.carries (turned (length cycle) j)
       (inside j) id control text e) h
   true_head j (P.Row mag number text) e h = cc
   true_head j (P.Links mag content) e h = cc
@@ -195,7 +195,7 @@ module _ (laws : LawsBelow) (written : WrittenLinksAreRead) (late : Bool) (class
       let two = and_parts (eqb mag own.page.id.mag) (eqb number r) k in
       let mags : mag ≡ own.page.id.mag = eqb-true mag own.page.id.mag two.0 in
       let numbers : number ≡ r = eqb-true number r two.1 in
-      let u = planned_rows_are_own laws late class service cycle c.service_is c.said c.carries (turned (length cycle) j)
+      let u = planned_rows_are_own laws c.places late class service cycle c.service_is c.said c.carries (turned (length cycle) j)
       (inside j) mag number text e in
       let same : u.authored ≡ own = under_own h j latest is u.header (omega (arith, u.later)) u.index u.authored u.listed u.is_header
       (sym mags ∙ u.mag_is) (λ i low high. ap (λ m. heads m (packet_of (get_or cycle i []))) (sym mags)

@@ -21,8 +21,8 @@ use Rattle.ttx_source.specs.Services.{Authored, IsAuthored}
 use Rattle.ttx_plan.specs.declared.packet.Packet.{Packet}
 use Rattle.ttx_plan.specs.declared.packet.Slot.{Slot}
 use Rattle.ttx_plan.specs.declared.packet.Slot.TheVariants.{Sent}
-use Rattle.ttx_plan.specs.Blocks.{Block, led}
-use Rattle.ttx_plan.specs.Carries.{CarriesBlocks, block_at, blocks_of, blocks_sent}
+use Rattle.ttx_plan.specs.Blocks.{Block, led, at_place, placed}
+use Rattle.ttx_plan.specs.Carries.{CarriesBlocks, block_at, blocks_of, blocks_sent_at}
 use Rattle.ttx_plan.specs.Contents.{page_row_bytes, rest_of}
 use Rattle.ttx_plan.specs.Laws.{IsSaid}
 use Rattle.ttx_plan.specs.Packets.{bytes_of}
@@ -33,6 +33,7 @@ use Rattle.ttx_plan.proofs.ListElements.{all_get}
 use Rattle.ttx_plan.proofs.Owners.{slot_at}
 use Rattle.ttx_plan.proofs.PlacesByKind.{places, serial_at, serial_quiet, parallel_at, parallel_owner}
 use Rattle.ttx_plan.proofs.Readable.{LawsBelow, Reads, packet_from, row_kind}
+use Rattle.ttx_plan.proofs.PlacedBlocks.{placed_all}
 use Rattle.ttx_plan.proofs.SentBlocks.{order_all}
 
 same : (id : Id) → same_id id id ≡ true
@@ -56,14 +57,15 @@ pub record IsUnder (pages : List Authored) (class : Class) (cycle : List (List �
   pub is_header : S.heads_page authored.page.id (packet_of (get_or cycle header [])) ≡ true
   pub none_between : (i : ℕ) → header < i → i < n → S.heads mag (packet_of (get_or cycle i [])) ≡ false
 
--- the block is that of a page of the list, behind a time-filling header or not
+-- the block is that of a page of the list, behind a time-filling header or not, at some place among the rounds
 record IsBlockOf (pages : List Authored) (serial : Bool) (class : Class) (block : Block) : Type 0 where
   pub index : ℕ
   pub authored : Authored
   pub listed : slice_get pages index ≡ Some authored
   pub kept : IsAuthored serial authored
   pub filler : Bool
-  pub is : block ≡ led filler (block_at class authored)
+  pub place : ℕ
+  pub is : block ≡ led filler (at_place place (block_at class authored))
 
 are_blocks : (pages : List Authored) (serial : Bool) (class : Class) (some : List Authored) (at : ℕ) →
     ((k : ℕ) (p : Authored) → slice_get some k ≡ Some p → slice_get pages (at + k) ≡ Some p) → All (IsAuthored serial) some →
@@ -77,6 +79,7 @@ are_blocks pages serial class (p ∷ some) at listed a =
         listed = ap (slice_get pages) (sym here) ∙ listed 0 p refl;
         kept = a 0 p (omega arith);
         filler = false;
+        place = 0;
         is = refl;
       },
       are_blocks pages serial class some (suc at)
@@ -90,14 +93,14 @@ head_says laws serial authored a class =
     header_says laws (fields_at authored.page.id authored.page.control (map odd_byte authored.page.head) (replicate 8 32))
     (record { id = a.page.id; control = a.page.control; text = length-map authored.page.head odd_byte ∙ a.page.head_length; clock = refl })
 
-under_at : LawsBelow → (serial : Bool) (lines : ℕ) (late : Bool) (class : Class) (pages : List Authored) →
+under_at : LawsBelow → (serial : Bool) (lines : ℕ) (spread : List ℕ) (late : Bool) (class : Class) (pages : List Authored) →
     All (IsAuthored serial) pages → (cycle : List (List ℕ)) (at : ℕ → Slot) →
     ((i : ℕ) → i < length cycle → get_or cycle i [] ≡ bytes_of (at i)) → ((i : ℕ) → Reads pages serial (at i)) →
     (n queue : ℕ) (packet : Packet) → n < length cycle → at n ≡ Sent queue packet →
-    HasOwner lines (blocks_sent late class pages) at queue packet n → (mag : ℕ) → mag ≡ suc queue → IsUnder pages class cycle lines n mag
-under_at laws serial lines late class pages a cycle at bytes reads n queue packet lt here o mag mag_is =
+    HasOwner lines (blocks_sent_at spread late class pages) at queue packet n → (mag : ℕ) → mag ≡ suc queue → IsUnder pages class cycle lines n mag
+under_at laws serial lines spread late class pages a cycle at bytes reads n queue packet lt here o mag mag_is =
     let z : (k : ℕ) → 0 + k ≡ k = λ k. omega arith in
-    let all : AllByRecursion (IsBlockOf pages serial class) (blocks_sent late class pages) =
+    let all : AllByRecursion (IsBlockOf pages serial class) (blocks_sent_at spread late class pages) =
     order_all (IsBlockOf pages serial class)
     (λ filler x q. record {
       index = q.index;
@@ -105,11 +108,24 @@ under_at laws serial lines late class pages a cycle at bytes reads n queue packe
       listed = q.listed;
       kept = q.kept;
       filler = filler;
+      place = q.place;
       is = ap (led filler) q.is;
     })
-    late (blocks_of class pages) (are_blocks pages serial class pages 0 (λ k p q. ap (slice_get pages) (z k) ∙ q) a) in
+    late (placed spread (blocks_of class pages))
+    (placed_all (IsBlockOf pages serial class)
+    (λ place x q. record {
+      index = q.index;
+      authored = q.authored;
+      listed = q.listed;
+      kept = q.kept;
+      filler = q.filler;
+      place = place;
+      is = ap (at_place place) q.is;
+    })
+    spread (blocks_of class pages)
+    (are_blocks pages serial class pages 0 (λ k p q. ap (slice_get pages) (z k) ∙ q) a)) in
     let b : IsBlockOf pages serial class o.own.block =
-    all_get (IsBlockOf pages serial class) (blocks_sent late class pages) o.own.index o.own.block all o.own.listed in
+    all_get (IsBlockOf pages serial class) (blocks_sent_at spread late class pages) o.own.index o.own.block all o.own.listed in
     let before : o.place < length cycle = omega (arith, o.late) in
     let low = b.kept.page.id.mag_from in
     let queue_is : b.authored.page.id.mag - 1 ≡ queue = sym (ap (λ x. x.queue) b.is) ∙ o.own.in_mag in
@@ -130,17 +146,17 @@ under_at laws serial lines late class pages a cycle at bytes reads n queue packe
           ∙ o.none_between i low high;
     }
 
-pub under : LawsBelow → (serial : Bool) (lines : ℕ) (info : Option InfoFields) (late : Bool) (class : Class) (pages : List Authored)
+pub under : LawsBelow → (serial : Bool) (lines : ℕ) (info : Option InfoFields) (spread : List ℕ) (late : Bool) (class : Class) (pages : List Authored)
     (cycle : List (List ℕ)) → IsSaid info → All (IsAuthored serial) pages →
-    CarriesBlocks serial lines (option_map info_bytes info) (blocks_sent late class pages) cycle → (n : ℕ) → n < length cycle →
+    CarriesBlocks serial lines (option_map info_bytes info) (blocks_sent_at spread late class pages) cycle → (n : ℕ) → n < length cycle →
     (mag : ℕ) (item : Item) → S.carries mag item (packet_of (get_or cycle n [])) ≡ true → IsUnder pages class cycle lines n mag
-under laws true lines info late class pages cycle said a known n lt mag item c =
+under laws true lines info spread late class pages cycle said a known n lt mag item c =
     let sent = option_map info_bytes info in
-    let blocks = blocks_sent late class pages in
-    let reads = read_there laws pages true (serial_slots lines sent blocks) (serial_read laws lines info late class pages said a) in
+    let blocks = blocks_sent_at spread late class pages in
+    let reads = read_there laws pages true (serial_slots lines sent blocks) (serial_read laws lines info spread late class pages said a) in
     let l = (reads n).late_is mag item (ap (λ x. S.carries mag item (packet_of x)) (sym (serial_at lines sent blocks cycle known n lt)) ∙ c) in
     let q = serial_quiet lines sent blocks n l.queue l.packet l.slot_is l.late in
-    under_at laws true lines late class pages a cycle (places lines sent blocks)
+    under_at laws true lines spread late class pages a cycle (places lines sent blocks)
     (serial_at lines sent blocks cycle known) reads n l.queue l.packet lt l.slot_is
     (record {
       place = q.place;
@@ -151,12 +167,12 @@ under laws true lines info late class pages cycle said a known n lt mag item c =
           q.none_between i low high l.queue;
       own = q.own;
     }) mag l.mag_is
-under laws false lines info late class pages cycle said a known n lt mag item c =
+under laws false lines info spread late class pages cycle said a known n lt mag item c =
     let sent = option_map info_bytes info in
-    let blocks = blocks_sent late class pages in
-    let reads = read_at laws pages false known.before (parallel_read laws lines info late class pages said a known.before known.turns) in
+    let blocks = blocks_sent_at spread late class pages in
+    let reads = read_at laws pages false known.before (parallel_read laws lines info spread late class pages said a known.before known.turns) in
     let l = (reads n).late_is mag item (ap (λ x. S.carries mag item (packet_of x)) (sym (parallel_at lines sent blocks cycle known n lt)) ∙ c) in
-    under_at laws false lines late class pages a cycle (slot_at known.before)
+    under_at laws false lines spread late class pages a cycle (slot_at known.before)
     (parallel_at lines sent blocks cycle known) reads n l.queue l.packet lt l.slot_is
     (parallel_owner lines sent blocks cycle known n l.queue l.packet l.slot_is l.late) mag l.mag_is
 

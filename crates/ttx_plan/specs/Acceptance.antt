@@ -15,9 +15,10 @@ use Rattle.ttx_page.specs.Pages.{Page}
 use Rattle.ttx_page.specs.Packets.{Links, packet_of}
 use Rattle.ttx_page.specs.Steady.{HasHeader, Steady}
 use Rattle.ttx_page.specs.Streams.{repeated, heads, heads_page, IsTransmission}
-use Rattle.ttx_plan.specs.Carries.{Carries}
+use Rattle.ttx_plan.specs.Carries.{CarriesAt}
 use Rattle.ttx_plan.specs.Contents.{is_sent_to}
 use Rattle.ttx_plan.specs.Laws.{IsSaid}
+use Rattle.ttx_plan.specs.Ranges.{ArePlaces}
 use Rattle.ttx_source.specs.Services.{Authored, ServiceFields, pages_of, IsService}
 use Rattle.ttx_witness.specs.Coverage.{Certificate, Accepts}
 use Rattle.ttx_witness.specs.finding.Finding.{CanBeAccepted, IsFoundFor}
@@ -26,12 +27,14 @@ use Rattle.ttx_witness.specs.finding.Finding.{CanBeAccepted, IsFoundFor}
 abbrev pub AreLinked : List Authored → Type 0
 AreLinked pages = (i : ℕ) (authored : Authored) → slice_get pages i ≡ Some authored → HasLinks authored.page
 
--- 1 to 65,536 slots that carry a service in its ranges
+-- 1 to 65,536 slots that carry a service in its ranges, each page at a place in range
 pub record IsPlanned (late : Bool) (class : Class) (service : ServiceFields) (cycle : List (List ℕ)) : Type 0 where
   pub service_is : IsService service
   pub said : IsSaid service.info
   pub linked : AreLinked service.pages
-  pub carries : Carries late class service cycle
+  pub places : List ℕ
+  pub in_range : ArePlaces places service.pages
+  pub carries : CarriesAt places late class service cycle
   pub some : 1 ≤ length cycle
   pub few : length cycle ≤ 65536
 

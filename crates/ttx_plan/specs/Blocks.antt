@@ -1,6 +1,7 @@
 -- The blocks of a cycle, and the magazine queues that they make (profile).
 --
 --   Block, led              a page's block, and behind a time-filling header or not
+--   at_place, placed        a block with its place among the rounds, and blocks with theirs
 --   round_of, rounds_to     the blocks that are sent, over eight rounds
 --   latest, with_fillers    a time-filling header between two headers of one page number
 --   sent_blocks             the blocks of a cycle in the order of sending
@@ -16,11 +17,12 @@ use Rattle.ttx_plan.specs.declared.packet.Packet.{Packet}
 use Rattle.ttx_plan.specs.declared.packet.Kind.TheVariants.{PageHeader, RowOrLinks, TimeFilling}
 use Rattle.ttx_header.specs.Headers.{header_bytes, time_filling}
 
--- A page's block: the queue of its magazine, how often it is sent, its page number, whether a time-filling header of the magazine goes
--- before it, the bytes of its page header and of its rows and X/27/0.
+-- A page's block: the queue of its magazine, how often it is sent, its place among the rounds, its page number, whether a time-filling
+-- header of the magazine goes before it, the bytes of its page header and of its rows and X/27/0.
 pub record Block : Type 0 where
   pub queue : ℕ
   pub often : ℕ
+  pub place : ℕ
   pub page : ℕ
   pub filler : Bool
   pub header : List ℕ
@@ -28,11 +30,37 @@ pub record Block : Type 0 where
 
 -- the block, behind a time-filling header or not
 abbrev pub led : Bool → Block → Block
-led filler block = record { queue = block.queue; often = block.often; page = block.page; filler = filler; header = block.header; rest = block.rest }
+led filler block = record {
+  queue = block.queue;
+  often = block.often;
+  place = block.place;
+  page = block.page;
+  filler = filler;
+  header = block.header;
+  rest = block.rest;
+}
 
--- the blocks of a round, in authored order
+-- the block with this place
+abbrev pub at_place : ℕ → Block → Block
+at_place place block = record {
+  queue = block.queue;
+  often = block.often;
+  place = place;
+  page = block.page;
+  filler = block.filler;
+  header = block.header;
+  rest = block.rest;
+}
+
+-- the blocks with these places; those behind the last place keep theirs
+abbrev pub placed : List ℕ → List Block → List Block
+placed [] blocks = blocks
+placed (place ∷ places) [] = []
+placed (place ∷ places) (block ∷ blocks) = at_place place block ∷ placed places blocks
+
+-- the blocks of a round, in authored order: a block that is sent o times stands in every (8 / o)th round, from its place on
 abbrev pub round_of : List Block → ℕ → List Block
-round_of blocks round = filter (λ block. round % (8 / block.often) == 0) blocks
+round_of blocks round = filter (λ block. round % (8 / block.often) == block.place) blocks
 
 -- the blocks of the first n rounds
 abbrev pub rounds_to : List Block → ℕ → List Block

@@ -3,12 +3,13 @@
 --   magazines_for           what the magazines send in parallel transmission
 --   CarriesBlocks           a cycle of blocks, in serial or in parallel transmission
 --   blocks_of, blocks_sent  the blocks of a service's pages, for receivers of a class, and as they are sent
---   Carries                 a cycle that carries a service
-use Rattle.std.specs.Prelude.{◌≡◌, ℕ, Bool, true, false, List, map, Option, option_map}
+--   blocks_sent_at          the same with these places among the rounds
+--   CarriesAt, Carries      a cycle that carries a service, with these places and with place 0 for each page
+use Rattle.std.specs.Prelude.{◌≡◌, ℕ, Bool, true, false, List, [], map, Option, option_map}
 use Rattle.ttx_info.specs.Infos.{info_bytes}
 use Rattle.ttx_page.specs.declared.class.Class.{Class}
 use Rattle.ttx_source.specs.Services.{Authored, ServiceFields}
-use Rattle.ttx_plan.specs.Blocks.{Block, sent_blocks, queues_to}
+use Rattle.ttx_plan.specs.Blocks.{Block, placed, sent_blocks, queues_to}
 use Rattle.ttx_plan.specs.Contents.{block_of}
 use Rattle.ttx_plan.specs.Packets.{bytes_of}
 use Rattle.ttx_plan.specs.Serial.{serial_slots}
@@ -35,7 +36,15 @@ blocks_of class pages = map (block_at class) pages
 abbrev pub blocks_sent : Bool → Class → List Authored → List Block
 blocks_sent late class pages = sent_blocks late (blocks_of class pages)
 
--- the cycle carries the service to receivers of the class; late: also to those that show a page late
+-- the same where the pages have these places among the rounds, in authored order
+abbrev pub blocks_sent_at : List ℕ → Bool → Class → List Authored → List Block
+blocks_sent_at places late class pages = sent_blocks late (placed places (blocks_of class pages))
+
+-- the cycle carries the service, its pages at these places, to receivers of the class; late: also to those that show a page late
+abbrev pub CarriesAt : List ℕ → Bool → Class → ServiceFields → List (List ℕ) → Type 0
+CarriesAt places late class service cycle =
+    CarriesBlocks service.serial service.lines (option_map info_bytes service.info) (blocks_sent_at places late class service.pages) cycle
+
+-- the same with each page at place 0
 abbrev pub Carries : Bool → Class → ServiceFields → List (List ℕ) → Type 0
-Carries late class service cycle =
-    CarriesBlocks service.serial service.lines (option_map info_bytes service.info) (blocks_sent late class service.pages) cycle
+Carries late class service cycle = CarriesAt [] late class service cycle

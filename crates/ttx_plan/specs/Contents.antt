@@ -48,6 +48,7 @@ abbrev pub block_of : Class → Page → ℕ → Block
 block_of class p often = record {
   queue = p.id.mag - 1;
   often = often;
+  place = 0;
   page = p.id.page;
   filler = false;
   header = page_header_bytes p;

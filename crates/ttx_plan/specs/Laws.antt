@@ -16,7 +16,7 @@ use Rattle.ttx_page.specs.declared.item.Item.{Item}
 use Rattle.ttx_page.specs.Pages.{page_row}
 use Rattle.ttx_page.specs.Packets.{Header, Row, packet_of}
 use Rattle.ttx_page.specs.Streams.{repeated, heads, heads_page, IsOwned, IsSure}
-use Rattle.ttx_plan.specs.Carries.{Carries}
+use Rattle.ttx_plan.specs.Carries.{CarriesAt}
 use Rattle.ttx_source.specs.Services.{Authored, ServiceFields, IsService}
 
 -- packet 8/30, where there is one, is in its ranges
@@ -27,8 +27,8 @@ IsSaid (Some info) = IsInfoFields info × IsLink info.initial
 -- each slot of a cycle that carries a service is clean
 abbrev pub PlannedIsClean : Type 0
 PlannedIsClean =
-    (late : Bool) (class : Class) (service : ServiceFields) (cycle : List (List ℕ)) → IsService service → IsSaid service.info →
-    Carries late class service cycle →
+    (places : List ℕ) (late : Bool) (class : Class) (service : ServiceFields) (cycle : List (List ℕ)) → IsService service → IsSaid service.info →
+    CarriesAt places late class service cycle →
     (n : ℕ) → n < length cycle → is_clean (slice_index_or cycle n []) ≡ true
 
 -- a header of a page of the list, with the page's control bits and characters
@@ -46,8 +46,8 @@ IsHeadOf pages id control text = (is_time_filling id ≡ true) ⊎ IsOwnHeader p
 -- each header in a cycle that carries a service is of one of its pages, or a time-filling one
 abbrev pub PlannedHeadersAreOwn : Type 0
 PlannedHeadersAreOwn =
-    (late : Bool) (class : Class) (service : ServiceFields) (cycle : List (List ℕ)) → IsService service → IsSaid service.info →
-    Carries late class service cycle →
+    (places : List ℕ) (late : Bool) (class : Class) (service : ServiceFields) (cycle : List (List ℕ)) → IsService service → IsSaid service.info →
+    CarriesAt places late class service cycle →
     (n : ℕ) → n < length cycle → (id : Id) (control : ℕ) (text : List ℕ) → packet_of (slice_index_or cycle n []) ≡ Header id control text →
     IsHeadOf service.pages id control text
 
@@ -66,8 +66,8 @@ pub record IsOwnRow (pages : List Authored) (cycle : List (List ℕ)) (lines n m
 -- so it is with each row in a cycle that carries a service
 abbrev pub PlannedRowsAreOwn : Type 0
 PlannedRowsAreOwn =
-    (late : Bool) (class : Class) (service : ServiceFields) (cycle : List (List ℕ)) → IsService service → IsSaid service.info →
-    Carries late class service cycle →
+    (places : List ℕ) (late : Bool) (class : Class) (service : ServiceFields) (cycle : List (List ℕ)) → IsService service → IsSaid service.info →
+    CarriesAt places late class service cycle →
     (n : ℕ) → n < length cycle → (mag number : ℕ) (text : List ℕ) → packet_of (slice_index_or cycle n []) ≡ Row mag number text →
     IsOwnRow service.pages cycle service.lines n mag number text
 
@@ -75,6 +75,6 @@ PlannedRowsAreOwn =
 -- and no header between ends the page.
 abbrev pub PlannedIsSure : Type 0
 PlannedIsSure =
-    (late : Bool) (class : Class) (service : ServiceFields) (cycle : List (List ℕ)) → IsService service → IsSaid service.info →
-    Carries late class service cycle → 0 < length cycle →
+    (places : List ℕ) (late : Bool) (class : Class) (service : ServiceFields) (cycle : List (List ℕ)) → IsService service → IsSaid service.info →
+    CarriesAt places late class service cycle → 0 < length cycle →
     (page : Id) (item : Item) (h j : ℤ) → IsOwned (repeated cycle) page item h j → IsSure (repeated cycle) service.lines page.mag item h j

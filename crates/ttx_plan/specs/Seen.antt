@@ -13,7 +13,15 @@ use Rattle.ttx_plan.specs.Blocks.{Block, led}
 
 -- a block
 abbrev pub seen : PageBlock → Block
-seen block = record { queue = block.queue; often = block.often; page = block.page; filler = false; header = block.header; rest = block.rest.items }
+seen block = record {
+  queue = block.queue;
+  often = block.often;
+  place = block.place;
+  page = block.page;
+  filler = false;
+  header = block.header;
+  rest = block.rest.items;
+}
 
 -- a block as it is sent
 abbrev pub seen_sent : SentBlock → Block

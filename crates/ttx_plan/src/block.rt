@@ -16,6 +16,8 @@ pub struct PageBlock {
     pub queue: usize,
     /// In how many of the eight rounds the block is sent.
     pub often: usize,
+    /// The first of these rounds.
+    pub place: usize,
     /// The page number in its page header.
     pub page: u8,
     /// The page header.
@@ -62,16 +64,24 @@ fn rest_packets(alloc: Global, class: Class, page: &Page) -> Result<Vec<[u8; 42]
 }
 
 impl PageBlock {
+    ghost use Rattle.ttx_plan.specs.Blocks.{at_place};
     ghost use Rattle.ttx_plan.specs.Seen.{seen};
 
-    /// The block of a page that is sent so often, for receivers of the class.
-    pub fn new(alloc: Global, class: Class, page: &Page, often: u8) -> Result<PageBlock, AllocError>
+    /// The block of a page that is sent so often, from this round on, for receivers of the class.
+    pub fn new(
+        alloc: Global,
+        class: Class,
+        page: &Page,
+        often: u8,
+        place: usize,
+    ) -> Result<PageBlock, AllocError>
         requires { IsOften often }
-        ensures { IfOk result (λ block. seen block ≡ block_of class (page_of page.now) often) }
+        ensures { IfOk result (λ block. seen block ≡ at_place place (block_of class (page_of page.now) often)) }
     {
         Ok(PageBlock {
             queue: usize::from(page.id().mag()) - 1,
             often: usize::from(often),
+            place,
             page: page.id().page(),
             header: header_packet(page),
             rest: rest_packets(alloc, class, page)?,

@@ -1,11 +1,11 @@
 //! What the length of a cycle is judged by, before anything is laid out.
 
-ghost use Rattle.std.specs.Prelude.{◌≡◌, ◌-◌, ◌<◌, ◌≤◌, ◌*◌, ◌==◌, length, option_map, slice_get, Some};
+ghost use Rattle.std.specs.Prelude.{◌≡◌, ◌-◌, ◌<◌, ◌≤◌, ◌*◌, ◌==◌, length, option_map, slice_get, slice_index_or, Some};
 ghost use Rattle.std.specs.List.{list_any};
 ghost use Rattle.ttx_page.specs.Views.{page_of};
 ghost use Rattle.ttx_plan.specs.Blocks.{length_bound};
-ghost use Rattle.ttx_plan.specs.Carries.{blocks_sent};
-ghost use Rattle.ttx_plan.specs.Ranges.{IsOften};
+ghost use Rattle.ttx_plan.specs.Carries.{blocks_sent_at};
+ghost use Rattle.ttx_plan.specs.Ranges.{ArePlaces, IsOften};
 ghost use Rattle.ttx_plan.specs.Seen.{fillers_in, used_by};
 
 use crate::asked::Receivers;
@@ -48,9 +48,20 @@ fn times(service: &Service, index: usize) -> usize
     usize::from(service.often(index))
 }
 
+/// The place of the page at an index among the rounds, 0 where the list has none for it.
+pub fn place_at(places: &[usize], index: usize) -> usize
+    ensures { result ≡ slice_index_or places.now index 0 }
+{
+    if index < places.len() {
+        places[index]
+    } else {
+        0
+    }
+}
+
 // How many blocks go behind a time-filling header.
-fn count_fillers(receivers: Receivers, service: &Service) -> usize
-    ensures count { result ≡ fillers_in (blocks_sent receivers.late receivers.class service.now.pages) }
+fn count_fillers(receivers: Receivers, service: &Service, places: &[usize]) -> usize
+    ensures count { result ≡ fillers_in (blocks_sent_at places.now receivers.late receivers.class service.now.pages) }
     ensures few { result ≤ 8 * 2000 }
 {
     let pages = service.pages();
@@ -59,7 +70,7 @@ fn count_fillers(receivers: Receivers, service: &Service) -> usize
     for round in 0..8 {
         for index in 0..pages.len() {
             let id = pages[index].id();
-            if round % (8 / times(service, index)) == 0 {
+            if round % (8 / times(service, index)) == place_at(places, index) {
                 if fillers.pass(usize::from(id.mag()) - 1, id.page()) {
                     count += 1;
                 }
@@ -71,8 +82,9 @@ fn count_fillers(receivers: Receivers, service: &Service) -> usize
 
 /// Twice the slots of all packets, with a field for each block and a time-filling header for each magazine, and two fields
 /// more. No memory is taken.
-pub fn length_bound(receivers: Receivers, service: &Service) -> usize
-    ensures { result ≡ length_bound service.now.lines (blocks_sent receivers.late receivers.class service.now.pages) }
+pub fn length_bound(receivers: Receivers, service: &Service, places: &[usize]) -> usize
+    requires { ArePlaces places.now service.now.pages }
+    ensures { result ≡ length_bound service.now.lines (blocks_sent_at places.now receivers.late receivers.class service.now.pages) }
 {
     let pages = service.pages();
     let lines = usize::from(service.lines());
@@ -83,6 +95,6 @@ pub fn length_bound(receivers: Receivers, service: &Service) -> usize
         blocks += often;
         packets += often * block_length(receivers.class, &pages[index]);
     }
-    packets += count_fillers(receivers, service);
+    packets += count_fillers(receivers, service, places);
     2 * (packets + blocks * lines + count_used(pages)) + 2 * lines
 }

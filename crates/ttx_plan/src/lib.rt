@@ -22,4 +22,4 @@ mod slots;
 
 pub use asked::Receivers;
 pub use faults::PlanFault;
-pub use planning::{plan, plan_for, plan_with};
+pub use planning::{plan, plan_at, plan_for, plan_with};

@@ -5,15 +5,16 @@ ghost use Rattle.ttx_cycle.specs.Cycles.{slots_of};
 ghost use Rattle.ttx_info.specs.Infos.{info_bytes};
 ghost use Rattle.ttx_page.specs.declared.class.Class.TheVariants.{Any};
 ghost use Rattle.ttx_plan.specs.Acceptance.{IsAcceptedForEach, IsPlanned};
-ghost use Rattle.ttx_plan.specs.Blocks.{length_bound};
-ghost use Rattle.ttx_plan.specs.Carries.{Carries, blocks_of, blocks_sent};
+ghost use Rattle.ttx_plan.specs.Blocks.{length_bound, placed};
+ghost use Rattle.ttx_plan.specs.Carries.{Carries, CarriesAt, blocks_of, blocks_sent, blocks_sent_at};
+ghost use Rattle.ttx_plan.specs.Ranges.{ArePlaces};
 ghost use Rattle.ttx_plan.specs.Following.{AreFollowed};
 ghost use Rattle.ttx_plan.specs.Seen.{seen};
 ghost use Rattle.ttx_source.specs.Services.{pages_of};
 
 use crate::asked::Receivers;
 use crate::block::PageBlock;
-use crate::bounds::length_bound;
+use crate::bounds::{length_bound, place_at};
 use crate::cycle::cycle_slots;
 use crate::faults::PlanFault;
 use crate::ranges::is_planned;
@@ -24,19 +25,20 @@ use ttx_info::write_info;
 use ttx_page::Class;
 use ttx_source::Service;
 
-/// The blocks of the service's pages, in authored order.
+/// The blocks of the service's pages, at these places, in authored order.
 pub fn blocks_of(
     alloc: Global,
     class: Class,
     service: &Service,
+    places: &[usize],
 ) -> Result<Vec<PageBlock>, AllocError>
-    ensures { IfOk result (λ blocks. map seen blocks.items ≡ blocks_of class service.now.pages) }
+    ensures { IfOk result (λ blocks. map seen blocks.items ≡ placed places.now (blocks_of class service.now.pages)) }
 {
     let pages = service.pages();
     let mut blocks = Vec::new(alloc);
     for index in 0..pages.len() {
         let often = service.often(index);
-        blocks.push(PageBlock::new(alloc, class, &pages[index], often)?)?;
+        blocks.push(PageBlock::new(alloc, class, &pages[index], often, place_at(places, index))?)?;
     }
     Ok(blocks)
 }
@@ -51,20 +53,66 @@ pub fn info_packet(service: &Service) -> Option<[u8; 42]>
     }
 }
 
-// The cycle that carries a service of at least one page.
-fn cycle_of(alloc: Global, receivers: Receivers, service: &Service) -> Result<Cycle, AllocError>
+// The cycle that carries a service of at least one page, each at its place.
+fn cycle_of(
+    alloc: Global,
+    receivers: Receivers,
+    service: &Service,
+    places: &[usize],
+) -> Result<Cycle, AllocError>
     requires some { service.now.pages ≢ [] }
-    requires few { length_bound service.now.lines (blocks_sent receivers.late receivers.class service.now.pages) ≤ 65536 }
-    ensures { IfOk result (λ cycle. IsPlanned receivers.late receivers.class service.now (slots_of cycle)) }
+    requires places { ArePlaces places.now service.now.pages }
+    requires few { length_bound service.now.lines (blocks_sent_at places.now receivers.late receivers.class service.now.pages) ≤ 65536 }
+    ensures carries { IfOk result (λ cycle. CarriesAt places.now receivers.late receivers.class service.now (slots_of cycle)) }
+    ensures planned { IfOk result (λ cycle. IsPlanned receivers.late receivers.class service.now (slots_of cycle)) }
 {
-    let blocks = blocks_of(alloc, receivers.class, service)?;
+    let _pages = service.pages();
+    let blocks = blocks_of(alloc, receivers.class, service, places)?;
     let sent = sent_blocks(alloc, receivers.late, &blocks)?;
     let lines = usize::from(service.lines());
     let info = info_packet(service);
     let slots = cycle_slots(alloc, service.serial(), lines, info, &sent)?;
     let cycle = Cycle::of(slots).unwrap();
-    is_planned(receivers, service, &cycle);
+    is_planned(receivers, service, places, &cycle);
     Ok(cycle)
+}
+
+/// The cycle that carries a service to these receivers, each page at its place among the rounds (0 where the list has none for it):
+/// a page that is sent `often` times stands in every (8 / often)th round, from the round of its place on. Else as `plan_with`.
+pub fn plan_at(
+    alloc: Global,
+    service: &Service,
+    receivers: Receivers,
+    places: &[usize],
+) -> Result<Cycle, PlanFault>
+    requires { ArePlaces places.now service.now.pages }
+    ensures carries { IfOk result (λ cycle. CarriesAt places.now receivers.late receivers.class service.now (slots_of cycle)) }
+    ensures planned { IfOk result (λ cycle. IsPlanned receivers.late receivers.class service.now (slots_of cycle)) }
+    ensures accepted { IfOk result (λ cycle. IsAcceptedForEach receivers.class service.now (slots_of cycle)) }
+    ensures followed { IfOk result (λ cycle. receivers.late ≡ true → AreFollowed (slots_of cycle) (pages_of service.now)) }
+    ensures no_pages { (result ≡ Err PlanFault.NoPages) ↔ (service.now.pages ≡ []) }
+    ensures too_long { (result ≡ Err PlanFault.TooLong) ↔ (65536 < length_bound service.now.lines
+        (blocks_sent_at places.now receivers.late receivers.class service.now.pages)) }
+{
+    crate::acceptance::planned_cycles_are_accepted();
+    crate::following::late_cycles_are_followed();
+    if service.pages().is_empty() {
+        return Err(PlanFault::NoPages);
+    }
+    if length_bound(receivers, service, places) > Cycle::MOST {
+        return Err(PlanFault::TooLong);
+    }
+    match cycle_of(alloc, receivers, service, places) {
+        Ok(cycle) => Ok(cycle),
+        Err(_) => Err(PlanFault::NoMemory),
+    }
+}
+
+// Place 0 is in range for each page.
+fn first_places(service: &Service)
+    ensures { ArePlaces [] service.now.pages }
+{
+    let _pages = service.pages();
 }
 
 /// The cycle that carries a service to these receivers: to those that surely clear a page no blank row and no empty X/27/0 is
@@ -80,18 +128,8 @@ pub fn plan_with(alloc: Global, service: &Service, receivers: Receivers) -> Resu
     ensures too_long { (result ≡ Err PlanFault.TooLong) ↔ (65536 < length_bound service.now.lines
         (blocks_sent receivers.late receivers.class service.now.pages)) }
 {
-    crate::acceptance::planned_cycles_are_accepted();
-    crate::following::late_cycles_are_followed();
-    if service.pages().is_empty() {
-        return Err(PlanFault::NoPages);
-    }
-    if length_bound(receivers, service) > Cycle::MOST {
-        return Err(PlanFault::TooLong);
-    }
-    match cycle_of(alloc, receivers, service) {
-        Ok(cycle) => Ok(cycle),
-        Err(_) => Err(PlanFault::NoMemory),
-    }
+    first_places(service);
+    plan_at(alloc, service, receivers, &[])
 }
 
 /// The cycle that carries a service to receivers of a class: `plan_with`, and pages aren't shown late.

@@ -2,8 +2,9 @@
 
 ghost use Rattle.ttx_cycle.specs.Cycles.{slots_of};
 ghost use Rattle.ttx_plan.specs.Acceptance.{IsPlanned};
-ghost use Rattle.ttx_plan.specs.Carries.{Carries};
+ghost use Rattle.ttx_plan.specs.Carries.{CarriesAt};
 ghost use Rattle.ttx_plan.specs.Laws.{IsSaid};
+ghost use Rattle.ttx_plan.specs.Ranges.{ArePlaces};
 
 use crate::asked::Receivers;
 use ttx_cycle::Cycle;
@@ -19,9 +20,10 @@ fn is_said(service: &Service)
     }
 }
 
-/// A cycle that carries a service is a planned one.
-pub fn is_planned(receivers: Receivers, service: &Service, cycle: &Cycle)
-    requires { Carries receivers.late receivers.class service.now (slots_of cycle.now) }
+/// A cycle that carries a service, each page at a place in range, is a planned one.
+pub fn is_planned(receivers: Receivers, service: &Service, places: &[usize], cycle: &Cycle)
+    requires places { ArePlaces places.now service.now.pages }
+    requires carries { CarriesAt places.now receivers.late receivers.class service.now (slots_of cycle.now) }
     ensures { IsPlanned receivers.late receivers.class service.now (slots_of cycle.now) }
 {
     ttx_page::laws::pages_have_links();

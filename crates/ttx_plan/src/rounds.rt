@@ -20,8 +20,8 @@ pub struct SentBlock<'a> {
     pub block: &'a PageBlock,
 }
 
-/// The blocks in the order of sending, over eight rounds. For receivers that show a page late a time-filling header goes before
-/// each block whose page number its magazine's latest header has.
+/// The blocks in the order of sending, over eight rounds, each from the round of its place on. For receivers that show a page late a
+/// time-filling header goes before each block whose page number its magazine's latest header has.
 pub fn sent_blocks<'a>(
     alloc: Global,
     late: bool,
@@ -33,7 +33,7 @@ pub fn sent_blocks<'a>(
     let mut fillers = Fillers::new(late);
     for round in 0..8 {
         for block in blocks {
-            if round % (8 / block.often) == 0 {
+            if round % (8 / block.often) == block.place {
                 let filler = fillers.pass(block.queue, block.page);
                 sent.push(SentBlock { filler, block })?;
             }

@@ -1,20 +1,21 @@
 use Rattle.std.proofs.Common.{◌≡◌, ◌+◌, ◌-◌, ◌<◌, ◌++◌, [], ◌&&◌, true, false, eqb, get_or, set, take, ap, sym, subst, ◌∙◌, arith}
 use Rattle.ttx_page.specs.Views.{page_of}
 use Rattle.ttx_source.specs.Services.{authored_at}
-use Rattle.ttx_plan.specs.Blocks.{rounds_to, round_of, with_fillers}
+use Rattle.ttx_plan.specs.Blocks.{at_place, placed, rounds_to, round_of, with_fillers}
 use Rattle.ttx_plan.specs.Carries.{block_at, blocks_of}
 use Rattle.ttx_plan.specs.Seen.{fillers_in}
 use Rattle.ttx_plan.proofs.PassedBlocks.{KeepsLatest, count_then, keeps_then, list_else}
-use Rattle.ttx_plan.proofs.ServicePages.{get_there, page_at_index, blocks_next}
+use Rattle.ttx_plan.proofs.PlacedBlocks.{round_starts}
+use Rattle.ttx_plan.proofs.ServicePages.{get_there, page_at_index, placed_blocks_next}
 use Rattle.ttx_plan.proofs.bounds.count_fillers.Goals as goal
-use Rattle.ttx_plan.proofs.bounds.count_fillers.Goals.{then-round-times-eq0+then-pass, then-round-times-eq0+else-pass, else-round-times-eq0}
+use Rattle.ttx_plan.proofs.bounds.count_fillers.Goals.{then-round-times+then-pass, then-round-times+else-pass, else-round-times}
 
 pub loop-index-preserved : goal.loop-index-preserved
 loop-index-preserved c =
     let class = c.args.receivers.class in
     let late = c.args.receivers.late in
-    let all = blocks_of c.args.receivers.class c.args.service.now.pages in
-    let some = blocks_of c.args.receivers.class (take c.loop-index.index c.args.service.now.pages) in
+    let all = placed c.args.places.now (blocks_of c.args.receivers.class c.args.service.now.pages) in
+    let some = placed c.args.places.now (blocks_of c.args.receivers.class (take c.loop-index.index c.args.service.now.pages)) in
     let round = c.loop-round.round in
     let latest = c.loop-index.fillers.latest in
     let value = get_there c.pages-pages.result.now c.loop-index.index c.index-pages-index.result c.index-pages-index.result
@@ -22,11 +23,11 @@ loop-index-preserved c =
     let page = page_at_index c.pages-pages.result.now c.args.service.now.pages c.loop-index.index c.times.result
     c.index-pages-index.result c.pages-pages.ensures.value value c.times.ensures.value in
     let authored = authored_at (page_of c.index-pages-index.result) c.times.result in
-    let block = block_at c.args.receivers.class authored in
-    let more = blocks_next c.args.receivers.class c.args.service.now.pages c.loop-index.index authored page in
+    let block = at_place (get_or c.args.places.now c.loop-index.index 0) (block_at c.args.receivers.class authored) in
+    let more = placed_blocks_next c.args.places.now c.args.receivers.class c.args.service.now.pages c.loop-index.index authored page in
     let none : c.loop-index.count + 0 ≡ c.loop-index.count = omega arith in
-    elim c.if-round-times-eq0.branch [
-      | then-round-times-eq0+then-pass w ↦
+    elim c.if-round-times.branch [
+      | then-round-times+then-pass w ↦
           let mag = w.from.ensures ∙ w.mag.ensures.value ∙ ap (λ x. x.mag) c.id-id.ensures in
           let queue : w.from.result - 1 ≡ block.queue = ap (λ n. n - 1) mag in
           let number : w.page.result ≡ block.page = w.page.ensures ∙ ap (λ x. x.page) c.id-id.ensures in
@@ -37,16 +38,17 @@ loop-index-preserved c =
           ∙ ap (λ n. set latest n w.page.result) queue ∙ ap (λ n. set latest block.queue n) number in
           record {
             count = w.count-is ∙ count_then c.args.receivers.late all some _ round block true latest c.loop-index.count more below
-                w.if-round-times-eq0.true c.loop-index.invariant.latest
+                (w.if-round-times.true ∙ c.place_at.ensures) c.loop-index.invariant.latest
                 (sym w.if-pass.true ∙ filler) c.loop-index.invariant.count;
             late = ap (λ x. x.late) w.fillers-is ∙ ap (λ x. x.late) w.pass.ensures.passed ∙ c.loop-index.invariant.late;
             latest = subst (λ x. KeepsLatest x
                 (rounds_to all round ++ round_of
-                (blocks_of c.args.receivers.class (take (c.loop-index.index + 1) c.args.service.now.pages)) round)) (sym passed)
-                (keeps_then all some _ round block latest more below w.if-round-times-eq0.true c.loop-index.invariant.latest);
+                (placed c.args.places.now (blocks_of c.args.receivers.class (take (c.loop-index.index + 1) c.args.service.now.pages))) round))
+                (sym passed)
+                (keeps_then all some _ round block latest more below (w.if-round-times.true ∙ c.place_at.ensures) c.loop-index.invariant.latest);
             few = omega (arith, w.count-is, c.loop-index.invariant.few);
           }
-      | then-round-times-eq0+else-pass w ↦
+      | then-round-times+else-pass w ↦
           let mag = w.from.ensures ∙ w.mag.ensures.value ∙ ap (λ x. x.mag) c.id-id.ensures in
           let queue : w.from.result - 1 ≡ block.queue = ap (λ n. n - 1) mag in
           let number : w.page.result ≡ block.page = w.page.ensures ∙ ap (λ x. x.page) c.id-id.ensures in
@@ -57,25 +59,37 @@ loop-index-preserved c =
           ∙ ap (λ n. set latest n w.page.result) queue ∙ ap (λ n. set latest block.queue n) number in
           record {
             count = w.count-is ∙ sym none ∙ count_then c.args.receivers.late all some _ round block false latest c.loop-index.count more
-                below w.if-round-times-eq0.true c.loop-index.invariant.latest
+                below (w.if-round-times.true ∙ c.place_at.ensures) c.loop-index.invariant.latest
                 (sym w.if-pass.false ∙ filler) c.loop-index.invariant.count;
             late = ap (λ x. x.late) w.fillers-is ∙ ap (λ x. x.late) w.pass.ensures.passed ∙ c.loop-index.invariant.late;
             latest = subst (λ x. KeepsLatest x
                 (rounds_to all round ++ round_of
-                (blocks_of c.args.receivers.class (take (c.loop-index.index + 1) c.args.service.now.pages)) round)) (sym passed)
-                (keeps_then all some _ round block latest more below w.if-round-times-eq0.true c.loop-index.invariant.latest);
+                (placed c.args.places.now (blocks_of c.args.receivers.class (take (c.loop-index.index + 1) c.args.service.now.pages))) round))
+                (sym passed)
+                (keeps_then all some _ round block latest more below (w.if-round-times.true ∙ c.place_at.ensures) c.loop-index.invariant.latest);
             few = omega (arith, w.count-is, c.loop-index.invariant.few);
           }
-      | else-round-times-eq0 w ↦
-          let same = list_else all some _ round block more w.if-round-times-eq0.false in
+      | else-round-times w ↦
+          let same = list_else all some _ round block more (λ e. w.if-round-times.false (e ∙ sym c.place_at.ensures)) in
           record {
             count = w.count-is ∙ c.loop-index.invariant.count ∙ ap (λ x. fillers_in (with_fillers c.args.receivers.late [] x)) same;
             late = ap (λ x. x.late) w.fillers-is ∙ c.loop-index.invariant.late;
             latest = subst (λ x. KeepsLatest x.latest
                 (rounds_to all round ++ round_of
-                (blocks_of c.args.receivers.class (take (c.loop-index.index + 1) c.args.service.now.pages)) round))
+                (placed c.args.places.now (blocks_of c.args.receivers.class (take (c.loop-index.index + 1) c.args.service.now.pages))) round))
                 (sym w.fillers-is)
                 (subst (KeepsLatest latest) same c.loop-index.invariant.latest);
             few = omega (arith, w.count-is, c.loop-index.invariant.few);
           }
     ]
+
+pub loop-index-init : goal.loop-index-init
+loop-index-init c =
+    let all = placed c.args.places.now (blocks_of c.args.receivers.class c.args.service.now.pages) in
+    let none = round_starts c.args.places.now all c.loop-round.round in
+    record {
+      count = c.loop-round.invariant.count ∙ ap (λ x. fillers_in (with_fillers c.args.receivers.late [] x)) none;
+      late = c.loop-round.invariant.late;
+      latest = subst (KeepsLatest c.loop-round.fillers.latest) none c.loop-round.invariant.latest;
+      few = omega (arith, c.loop-round.invariant.few);
+    }

@@ -1,11 +1,13 @@
-use Rattle.std.proofs.Common.{◌≡◌, ◌+◌, ◌*◌, ◌≤◌, [], length, take, take_all, sym, ap, ◌∙◌, arith}
+use Rattle.std.proofs.Common.{◌≡◌, ◌+◌, ◌*◌, ◌≤◌, [], length, take, take_all, refl, sym, ap, ◌∙◌, arith}
 use Rattle.std.specs.Prelude.{sum_by}
 use Rattle.ttx_page.specs.Views.{page_of}
 use Rattle.ttx_source.specs.Services.{authored_at}
-use Rattle.ttx_plan.specs.Blocks.{Block, packets_in, rounds_to, used_queues}
-use Rattle.ttx_plan.specs.Carries.{blocks_of, blocks_sent}
+use Rattle.ttx_plan.specs.Blocks.{Block, placed, packets_in, rounds_to, used_queues}
+use Rattle.ttx_plan.specs.Carries.{blocks_of, blocks_sent_at}
 use Rattle.ttx_plan.specs.Ranges.{IsOften}
-use Rattle.ttx_plan.proofs.ServicePages.{get_there, page_at_index, blocks_often, sum_next, used_same, same_lengths, product_most}
+use Rattle.ttx_plan.proofs.ServicePages.{get_there, page_at_index, blocks_in_rounds, sum_next, used_same, same_lengths, product_most}
+use Rattle.ttx_plan.proofs.PlacedBlocks.{placed_sum}
+use Rattle.ttx_plan.proofs.ServicePages.{same_used_by}
 use Rattle.ttx_plan.proofs.SentBlocks.{led_length, led_packets, same_used}
 use Rattle.ttx_plan.proofs.RepeatedBlocks.{sum_sent, count_sent}
 use Rattle.ttx_plan.proofs.bounds.length_bound.Goals as goal
@@ -38,20 +40,24 @@ loop-index-preserved c =
 pub returns : goal.returns
 returns c =
     let pages = c.args.service.now.pages in
-    let all = blocks_of c.args.receivers.class c.args.service.now.pages in
-    let sent = blocks_sent c.args.receivers.late c.args.receivers.class c.args.service.now.pages in
-    let rounds = rounds_to (blocks_of c.args.receivers.class c.args.service.now.pages) 8 in
-    let often = blocks_often c.args.receivers.class c.args.service.now.serial c.args.service.now.pages c.pages-pages.ensures.ranges.pages in
+    let plain = blocks_of c.args.receivers.class c.args.service.now.pages in
+    let all = placed c.args.places.now (blocks_of c.args.receivers.class c.args.service.now.pages) in
+    let sent = blocks_sent_at c.args.places.now c.args.receivers.late c.args.receivers.class c.args.service.now.pages in
+    let rounds = rounds_to (placed c.args.places.now (blocks_of c.args.receivers.class c.args.service.now.pages)) 8 in
+    let often = blocks_in_rounds c.args.receivers.class c.args.service.now.serial c.args.places.now c.args.service.now.pages
+    c.pages-pages.ensures.ranges.pages c.requires in
     let size : length c.pages-pages.result.now ≡ length c.args.service.now.pages =
     same_lengths c.pages-pages.result.now c.args.service.now.pages c.pages-pages.ensures.value in
     let whole : take c.loop-index.index c.args.service.now.pages ≡ c.args.service.now.pages =
     take_all c.loop-index.index c.args.service.now.pages (omega arith) in
     let blocks : c.loop-index.blocks ≡ length sent =
     c.loop-index.invariant.blocks ∙ ap (λ x. sum_by (λ (b : Block). b.often) (blocks_of c.args.receivers.class x)) whole
+    ∙ sym (placed_sum (λ b. b.often) (λ place b. refl) c.args.places.now plain)
     ∙ sym (count_sent all often) ∙ sym (led_length c.args.receivers.late [] rounds) in
     let rest : c.loop-index.packets ≡ sum_by (λ (b : Block). length b.rest + 1) rounds =
     c.loop-index.invariant.packets ∙ ap
     (λ x. sum_by (λ (b : Block). b.often * (length b.rest + 1)) (blocks_of c.args.receivers.class x)) whole
+    ∙ sym (placed_sum (λ b. b.often * (length b.rest + 1)) (λ place b. refl) c.args.places.now plain)
     ∙ sym (sum_sent (λ b. length b.rest + 1) all often) in
     let packets : c.loop-index.packets + c.count_fillers-packets.result ≡ packets_in sent =
     ap (λ n. n + c.count_fillers-packets.result) rest
@@ -60,7 +66,8 @@ returns c =
     let used : c.count_used.result ≡ length (used_queues sent) =
     c.count_used.ensures.count ∙ ap length
     (used_same c.args.receivers.class c.pages-pages.result.now c.args.service.now.pages 8 c.pages-pages.ensures.value
-    ∙ sym (same_used c.args.receivers.late all 8)) in
+    ∙ same_used_by plain c.args.places.now 8
+    ∙ sym (same_used c.args.receivers.late all often 8)) in
     let lines : c.from-lines.result ≡ c.args.service.now.lines = c.from-lines.ensures ∙ c.lines.ensures.value in
     ap (λ n. 2 * (n + c.loop-index.blocks * c.from-lines.result + c.count_used.result) + 2 * c.from-lines.result) packets
     ∙ ap (λ n. 2 * (packets_in sent + n * c.from-lines.result + c.count_used.result) + 2 * c.from-lines.result) blocks

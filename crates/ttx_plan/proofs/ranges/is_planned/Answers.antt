@@ -7,7 +7,9 @@ returns c = record {
   service_is = c.pages-pages.ensures.ranges;
   said = c.is_said.ensures;
   linked = linked_from c.pages-pages.result.now c.args.service.now.pages c.pages_have_links.ensures c.pages-pages.ensures.value;
-  carries = c.requires;
+  places = c.args.places.now;
+  in_range = c.requires.places;
+  carries = c.requires.carries;
   some = (slots_of-IsCycle c.args.cycle.now).some;
   few = (slots_of-IsCycle c.args.cycle.now).most;
 }

@@ -4,7 +4,7 @@ use Rattle.ttx_plan.specs.Blocks.{rounds_to, round_of, with_fillers}
 use Rattle.ttx_plan.specs.Seen.{seen, seen_sent}
 use Rattle.ttx_plan.proofs.PassedBlocks.{KeepsLatest, sent_then, keeps_then, list_else, seen_next}
 use Rattle.ttx_plan.proofs.rounds.sent_blocks.Goals as goal
-use Rattle.ttx_plan.proofs.rounds.sent_blocks.Goals.{then-round-block-eq0+in_ok-push, else-round-block-eq0}
+use Rattle.ttx_plan.proofs.rounds.sent_blocks.Goals.{then-round-block+in_ok-push, else-round-block}
 
 pub loop-block-preserved : goal.loop-block-preserved
 loop-block-preserved c =
@@ -13,12 +13,12 @@ loop-block-preserved c =
     let some = map seen (take c.loop-block.block-index c.args.blocks.now) in
     let block = c.block-item.result in
     let more = seen_next c.args.blocks.now c.loop-block.block-index c.block-item.result c.loop-block-test.true c.block-item.is in
-    elim c.if-round-block-eq0.branch [
-      | then-round-block-eq0+in_ok-push w ↦ record {
+    elim c.if-round-block.branch [
+      | then-round-block+in_ok-push w ↦ record {
         sent = ap (λ x. map seen_sent x.items) w.sent-is ∙ ap (map seen_sent) w.in_ok-push.ensures.items
             ∙ map-append seen_sent c.loop-block.sent.items (_ ∷ [])
             ∙ sent_then c.args.late all some _ round (seen block) w.pass-filler.result c.loop-block.fillers.latest
-            (map seen_sent c.loop-block.sent.items) more block.queue_to w.if-round-block-eq0.true
+            (map seen_sent c.loop-block.sent.items) more block.queue_to w.if-round-block.true
             c.loop-block.invariant.latest (w.pass-filler.ensures.filler
             ∙ ap (λ b. b && eqb (get_or c.loop-block.fillers.latest block.queue 0) block.page) c.loop-block.invariant.late)
             c.loop-block.invariant.sent;
@@ -26,11 +26,11 @@ loop-block-preserved c =
         latest = subst (λ x. KeepsLatest x
             (rounds_to all round ++ round_of (map seen (take (c.loop-block.block-index + 1) c.args.blocks.now)) round))
             (sym (ap (λ x. x.latest) w.fillers-is ∙ ap (λ x. x.latest) w.pass-filler.ensures.passed))
-            (keeps_then all some _ round (seen block) c.loop-block.fillers.latest more block.queue_to w.if-round-block-eq0.true
+            (keeps_then all some _ round (seen block) c.loop-block.fillers.latest more block.queue_to w.if-round-block.true
             c.loop-block.invariant.latest);
       }
-      | else-round-block-eq0 w ↦
-          let same = list_else all some _ round (seen block) more w.if-round-block-eq0.false in
+      | else-round-block w ↦
+          let same = list_else all some _ round (seen block) more w.if-round-block.false in
           record {
             sent = ap (λ x. map seen_sent x.items) w.sent-is ∙ c.loop-block.invariant.sent ∙ ap (with_fillers c.args.late []) same;
             late = ap (λ x. x.late) w.fillers-is ∙ c.loop-block.invariant.late;
