@@ -10,7 +10,7 @@ use Rattle.ttx_page.specs.Streams.{Stream, repeated, turned, heads, heads_page, 
 use Rattle.ttx_page.specs.Laws.{EachSlotTurns}
 use Rattle.ttx_proof.specs.Seams.{IsLeftTo}
 
-latest_same : (s : Stream) (mag : ℕ) (h k j : ℤ) → IsLatestHeader s mag h j → IsLatestHeader s mag k j → h ≡ k
+pub latest_same : (s : Stream) (mag : ℕ) (h k j : ℤ) → IsLatestHeader s mag h j → IsLatestHeader s mag k j → h ≡ k
 latest_same s mag h k j a b = elim (cases_ltz h k) as (λ _. h ≡ k) [
   | inl lt ↦ absurd (both_ways _ (a.none_between k lt b.earlier) b.is_header)
   | inr ge ↦ elim (cases_ltz k h) as (λ _. h ≡ k) [

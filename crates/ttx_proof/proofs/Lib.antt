@@ -1,11 +1,11 @@
 mod KeptMemories
 mod RightWhereNotRefuted
-mod StreamsOfSides
-mod CutRuns
-mod BridgedIsSeen
+pub mod StreamsOfSides
+pub mod CutRuns
+pub mod BridgedIsSeen
 mod RunsInWindows
 mod NeighbouringRuns
-mod NamedStarts
+pub mod NamedStarts
 mod RunsNearBothEnds
 mod CountingRuns
 mod JoinedPeriods
@@ -13,12 +13,12 @@ mod ShiftedTransmissions
 mod WalkDecides
 mod VerdictMeanings
 mod HangingOver
-mod LatestHeaderBefore
+pub mod LatestHeaderBefore
 mod FirstHangingOver
 mod SeamAnswers
 mod PlacesOfPages
 mod BridgedItems
 mod VerdictOfFindings
-mod SixFiles
+pub mod SixFiles
 mod OneVerdict
 mod SomeVerdict

@@ -6,6 +6,7 @@
 --   RefusesSix              the first of the six files that is refused
 --   Splices                 the verdict on the six files, and its line
 --   SplicesFiles            what was written at each answer
+--   IsRight, RisesInOrder   the second file of a kind is read only where the first is right
 --   CountsPackets, CountsTwoCycles, CountsTwoTexts, CountsSix, CountsSplice       a fault of a device is answered only where one was counted
 use Rattle.std.specs.Prelude.{◌≡◌, ◌⊎◌, ℕ, ◌<◌, List, length, take, ⊤, Option, IfSome, Result, Ok, Err}
 use Rattle.std.specs.Io.KnownBytes.{Appends, Keeps}
@@ -105,35 +106,41 @@ SplicesFiles a b c d e f old new (Err (Write written)) =
     (line : List ℕ) × (verdict : SpliceVerdict) × Splices a b c d e f verdict line × (written < length line) × Appends old new (take written line)
 SplicesFiles a b c d e f old new (Err fault) = IsSixRefused a b c d e f fault × Keeps old new
 
--- one of two readers of a kind has counted a fault
-abbrev pub EitherRises : ℕ → ℕ → ℕ → ℕ → Type 0
-EitherRises a a' b b' = HasRisen a a' ⊎ HasRisen b b'
+-- the first of two files of a kind is as it should be
+abbrev pub IsRight : {T : Type 0} → (List ℕ → Result T FilesFault → Type 0) → Option (List ℕ) → Type 0
+IsRight {T} Reads a = (t : T) × IfSome a (λ x. Reads x (Ok t))
+
+-- The first of two readers of a kind has counted a fault, or the first file is right and the second has.
+abbrev pub RisesInOrder : Type 0 → ℕ → ℕ → ℕ → ℕ → Type 0
+RisesInOrder first a a' b b' = HasRisen a a' ⊎ (first × HasRisen b b')
 
 abbrev pub CountsPackets : FilesFault → ℕ → ℕ → Type 0
 CountsPackets (Cycle cycle.Read) a a' = HasRisen a a'
 CountsPackets (Cycle fault) a a' = ⊤
 CountsPackets fault a a' = ⊥
 
-abbrev pub CountsTwoCycles : FilesFault → ℕ → ℕ → ℕ → ℕ → Type 0
-CountsTwoCycles (Cycle cycle.Read) a a' b b' = EitherRises a a' b b'
-CountsTwoCycles (Cycle fault) a a' b b' = ⊤
-CountsTwoCycles fault a a' b b' = ⊥
+abbrev pub CountsTwoCycles : FilesFault → Option (List ℕ) → ℕ → ℕ → ℕ → ℕ → Type 0
+CountsTwoCycles (Cycle cycle.Read) old a a' b b' = RisesInOrder (IsRight ReadsCycle old) a a' b b'
+CountsTwoCycles (Cycle fault) old a a' b b' = ⊤
+CountsTwoCycles fault old a a' b b' = ⊥
 
-abbrev pub CountsTwoTexts : TextFile → FilesFault → ℕ → ℕ → ℕ → ℕ → Type 0
-CountsTwoTexts which (Read text) a a' b b' = (text ≡ which) × EitherRises a a' b b'
-CountsTwoTexts which (Cycle fault) a a' b b' = ⊥
-CountsTwoTexts which (Write written) a a' b b' = ⊥
-CountsTwoTexts which fault a a' b b' = ⊤
+-- `first` says that the first of the two texts is right
+abbrev pub CountsTwoTexts : TextFile → FilesFault → Type 0 → ℕ → ℕ → ℕ → ℕ → Type 0
+CountsTwoTexts which (Read text) first a a' b b' = (text ≡ which) × RisesInOrder first a a' b b'
+CountsTwoTexts which (Cycle fault) first a a' b b' = ⊥
+CountsTwoTexts which (Write written) first a a' b b' = ⊥
+CountsTwoTexts which fault first a a' b b' = ⊤
 
--- before and after, of the six readers
-abbrev pub CountsSix : FilesFault → ℕ → ℕ → ℕ → ℕ → ℕ → ℕ → ℕ → ℕ → ℕ → ℕ → ℕ → ℕ → Type 0
-CountsSix (Cycle cycle.Read) a a' b b' c c' d d' e e' f f' = EitherRises a a' b b'
-CountsSix (Read text.Service) a a' b b' c c' d d' e e' f f' = EitherRises c c' d d'
-CountsSix (Read text.Certificate) a a' b b' c c' d d' e e' f f' = EitherRises e e' f f'
-CountsSix (Write written) a a' b b' c c' d d' e e' f f' = ⊥
-CountsSix fault a a' b b' c c' d d' e e' f f' = ⊤
+-- The faults counted by the six readers, before and after. The old file of each kind comes first.
+abbrev pub CountsSix : FilesFault → Option (List ℕ) → Option (List ℕ) → Option (List ℕ) → ℕ → ℕ → ℕ → ℕ → ℕ → ℕ → ℕ → ℕ → ℕ → ℕ → ℕ → ℕ → Type 0
+CountsSix (Cycle cycle.Read) old service certificate a a' b b' c c' d d' e e' f f' = RisesInOrder (IsRight ReadsCycle old) a a' b b'
+CountsSix (Read text.Service) old service certificate a a' b b' c c' d d' e e' f f' = RisesInOrder (IsRight ReadsService service) c c' d d'
+CountsSix (Read text.Certificate) old service certificate a a' b b' c c' d d' e e' f f' = RisesInOrder (IsRight ReadsWitness certificate) e e' f f'
+CountsSix (Write written) old service certificate a a' b b' c c' d d' e e' f f' = ⊥
+CountsSix fault old service certificate a a' b b' c c' d d' e e' f f' = ⊤
 
--- and of the writer
-abbrev pub CountsSplice : FilesFault → ℕ → ℕ → ℕ → ℕ → ℕ → ℕ → ℕ → ℕ → ℕ → ℕ → ℕ → ℕ → ℕ → ℕ → Type 0
-CountsSplice (Write written) a a' b b' c c' d d' e e' f f' w w' = HasRisen w w'
-CountsSplice fault a a' b b' c c' d d' e e' f f' w w' = CountsSix fault a a' b b' c c' d d' e e' f f'
+-- and by the writer
+abbrev pub CountsSplice : FilesFault → Option (List ℕ) → Option (List ℕ) → Option (List ℕ) →
+    ℕ → ℕ → ℕ → ℕ → ℕ → ℕ → ℕ → ℕ → ℕ → ℕ → ℕ → ℕ → ℕ → ℕ → Type 0
+CountsSplice (Write written) old service certificate a a' b b' c c' d d' e e' f f' w w' = HasRisen w w'
+CountsSplice fault old service certificate a a' b b' c c' d d' e e' f f' w w' = CountsSix fault old service certificate a a' b b' c c' d d' e e' f f'

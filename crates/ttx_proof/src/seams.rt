@@ -29,8 +29,8 @@ fn heads(mag: u8, slot: &[u8; 42]) -> bool
     }
 }
 
-// The latest header of the magazine before slot 0, counted back from the last slot of the period.
-fn latest_header(old: &Cycle, mag: u8) -> Option<usize>
+/// The latest header of the magazine before slot 0, counted back from the last slot of the period.
+pub fn latest_header(old: &Cycle, mag: u8) -> Option<usize>
     ensures { TellsLatest (slots_of old.now) mag result }
 {
     ttx_page::laws::each_slot_turns();

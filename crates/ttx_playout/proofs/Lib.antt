@@ -1,0 +1,18 @@
+mod AgreeingStreams
+mod CarriedPages
+mod Changes
+mod SentEditions
+mod ReceivedAlike
+mod CarriedThrough
+mod SeenWhileOn
+pub mod SeenOnAir
+mod HandedFurther
+mod EditionValues
+mod FollowedThrough
+mod LateRunsGoOn
+mod ShownWhileOn
+mod SentSoFar
+mod FollowedAcross
+mod AcrossOneChange
+mod HeadEndIsSeen
+mod FollowedEditions

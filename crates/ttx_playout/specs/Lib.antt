@@ -1,0 +1,5 @@
+pub mod Schedules
+pub mod LateSchedules
+pub mod LateChanges
+pub mod Laws
+pub mod Takeovers

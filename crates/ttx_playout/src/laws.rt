@@ -1,0 +1,142 @@
+//! The laws of schedules. A call costs nothing and gives the caller's proof the law.
+
+ghost use Rattle.ttx_playout.specs.Laws.{SentSoFarIsSeen, HeadEndIsSeen, HandedOnIsSeen, AlwaysSeen, LatestIsSeen, HandedOnIsSeenOnAir, TimedIsSeen};
+ghost use Rattle.ttx_playout.specs.Laws.{ThroughIsWhile, ThroughGoesOn, SentSoFarIsShown, HeadEndIsShown, HandedOnIsShown, HandedOnIsShownOnAir, AcrossIsDecided, CountedIsHandedOn, EachScheduleRuns, MoreIsSame, PastStays};
+
+/// What a head-end sends of a schedule, from some slot on and up to now, is seen a deadline later, whatever was sent before.
+pub fn sent_so_far_is_seen()
+    ensures { SentSoFarIsSeen }
+{
+    ttx_certify::laws::runs_are_seen();
+    ttx_proof::laws::steps_keep_memories();
+    ttx_page::laws::each_slot_turns();
+    ttx_page::laws::streams_move();
+    ttx_page::laws::runs_are_unique();
+    ttx_page::laws::steady_sends_its_own();
+    ttx_page::laws::owners_are_unique();
+    ttx_page::laws::owners_come_first();
+    ttx_page::laws::owners_dont_fall();
+}
+
+/// All that a head-end has sent is seen.
+pub fn head_end_is_seen()
+    ensures { HeadEndIsSeen }
+{
+    sent_so_far_is_seen();
+}
+
+/// A page that stays is seen as long as it stays, by each permitted receiver, through each change.
+pub fn handed_on_is_seen()
+    ensures { HandedOnIsSeen }
+{
+    sent_so_far_is_seen();
+}
+
+/// A page of all editions is seen by the deadline after tuning, and ever after.
+pub fn always_seen()
+    ensures { AlwaysSeen }
+{
+    handed_on_is_seen();
+}
+
+/// Each page of the last edition is seen by the deadline after tuning or after its begin, and ever after.
+pub fn latest_is_seen()
+    ensures { LatestIsSeen }
+{
+    handed_on_is_seen();
+}
+
+/// A page that stays is seen from the air, whatever the clock of the head-end says.
+pub fn handed_on_is_seen_on_air()
+    ensures { HandedOnIsSeenOnAir }
+{
+    ttx_page::laws::each_slot_turns();
+    ttx_send::laws::air_is_received();
+    handed_on_is_seen();
+}
+
+/// So is what a schedule sends with the time of each slot.
+pub fn timed_is_seen()
+    ensures { TimedIsSeen }
+{
+    ttx_page::laws::each_slot_turns();
+    ttx_send::laws::timed_is_sent_as();
+    handed_on_is_seen_on_air();
+}
+
+/// What a head-end sends of a schedule is shown by receivers that show it late, where the page is followed by another page number in time.
+pub fn sent_so_far_is_shown()
+    ensures { SentSoFarIsShown }
+{
+    ttx_late::laws::runs_are_shown();
+    ttx_proof::laws::steps_keep_memories();
+    ttx_page::laws::each_slot_turns();
+    ttx_page::laws::streams_move();
+    ttx_page::laws::runs_are_unique();
+    ttx_page::laws::steady_sends_its_own();
+    ttx_page::laws::owners_are_unique();
+    ttx_page::laws::owners_come_first();
+    ttx_page::laws::owners_dont_fall();
+}
+
+/// So is all that a head-end has sent.
+pub fn head_end_is_shown()
+    ensures { HeadEndIsShown }
+{
+    sent_so_far_is_shown();
+}
+
+/// A page that stays, and whose headers are followed by another page number in time, is shown by receivers that show it late.
+pub fn handed_on_is_shown()
+    ensures { HandedOnIsShown }
+{
+    sent_so_far_is_shown();
+}
+
+/// And so from the air.
+pub fn handed_on_is_shown_on_air()
+    ensures { HandedOnIsShownOnAir }
+{
+    ttx_page::laws::each_slot_turns();
+    ttx_send::laws::air_is_received();
+    handed_on_is_shown();
+}
+
+/// Of each schedule something is received within the error rule, and each receiver makes something of it.
+pub fn each_schedule_runs()
+    ensures { EachScheduleRuns }
+{
+    ttx_page::laws::each_slot_turns();
+    ttx_page::laws::each_list_runs();
+    ttx_page::laws::exact_is_received();
+}
+
+/// One more period of the last edition changes nothing of what is sent.
+pub fn more_is_same()
+    ensures { MoreIsSame }
+{}
+
+/// A further edition changes nothing of what was sent before.
+pub fn past_stays()
+    ensures { PastStays }
+{}
+
+/// The two headers of the magazine round a change decide whether a page is followed across it.
+pub fn across_is_decided()
+    ensures { AcrossIsDecided }
+{}
+
+/// Where each edition and each change is as late receivers need it, each page is followed in time while it stays.
+pub fn through_is_while()
+    ensures { ThroughIsWhile }
+{}
+
+/// An accepted change to a next edition keeps a schedule so.
+pub fn through_goes_on()
+    ensures { ThroughGoesOn }
+{}
+
+/// An edition that is accepted once the one before has been sent for so many periods keeps a schedule handed on.
+pub fn counted_is_handed_on()
+    ensures { CountedIsHandedOn }
+{}

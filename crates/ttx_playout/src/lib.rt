@@ -1,0 +1,16 @@
+//! Editions of a service that follow one another on the air, and what each receiver sees of them.
+#![tactic(auto)]
+
+mod edition;
+mod faults;
+mod following;
+mod late_change;
+pub mod laws;
+mod on_air;
+mod state;
+
+pub use edition::Edition;
+pub use faults::{ChangeFault, StartFault};
+pub use following::is_followed_across;
+pub use late_change::LateChange;
+pub use state::OnAir;
