@@ -9,7 +9,7 @@ use Rattle.std.specs.Prelude.{ℕ, ◌+◌, List, [], ◌∷◌, ◌++◌, codes
 use Rattle.std.specs.Fmt.{decimal}
 use Rattle.ttx_packet.specs.Slots.{Kind, kind_of, is_clean, IsEmpty, IsUnreadable, IsHeader, IsRow, IsLinks, IsInfo, IsOther}
 use Rattle.ttx_header.specs.Ids.{Id}
-use Rattle.ttx_header.specs.Control.{control_text}
+use Rattle.ttx_digits.specs.ControlNames.{control_text}
 use Rattle.ttx_header.specs.Headers.{id_of, control_of}
 use Rattle.ttx_links.specs.Sets.{LinkSet, links_of}
 use Rattle.ttx_info.specs.Infos.{InfoFields, info_of}

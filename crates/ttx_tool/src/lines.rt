@@ -11,8 +11,8 @@ ghost use Rattle.ttx_tool.specs.Lines.{packet_line, slot_line, lines_from};
 
 use crate::texts::{push_date, push_links, push_time};
 use std::alloc::{AllocError, Global};
-use ttx_digits::{push_decimal, push_digit, push_id};
-use ttx_header::{Header, push_control, read_header};
+use ttx_digits::{push_control, push_decimal, push_digit, push_id};
+use ttx_header::{Header, read_header};
 use ttx_info::{Info, InfoFault, read_info};
 use ttx_links::{Links, read_links};
 use ttx_packet::place::Address;

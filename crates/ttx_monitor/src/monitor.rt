@@ -1,0 +1,202 @@
+//! Monitors: whether a feed of received slots keeps the error rule for each page of a service, with no slot kept.
+
+ghost use Rattle.std.specs.Prelude.{◌≡◌, ◌<◌, ℕ, length, slice_index_or, None, [], ◌+◌, ◌-◌, ◌%◌, ◌^◌, min};
+ghost use Rattle.ttx_packet.specs.Slots.{IsSlot};
+ghost use Rattle.ttx_cycle.specs.Cycles.{slots_of};
+ghost use Rattle.ttx_monitor.specs.Breaches.{first_told};
+
+use crate::breach::{Breach, TextByte};
+use crate::comparing::slot_breach;
+use crate::counting::{Pair, no_streaks, note};
+use crate::places::RowPlace;
+use crate::table::table_of;
+use std::alloc::Global;
+use ttx_cycle::Cycle;
+use ttx_cycle::arrays::is_slot;
+use ttx_page::Page;
+use ttx_source::Service;
+use ttx_witness::{Certificate, NoMemory, limit};
+
+/// What is kept of a feed: where it stands in the cycle, the streak of each text byte, and whether all was within the error rule.
+#[derive(Drop)]
+pub struct Monitor<'a> {
+    cycle: &'a Cycle,
+    table: Vec<Option<RowPlace>>,
+    cells: Vec<u8>,
+    repeat: u8,
+    at: usize,
+    within: bool,
+    count: u64,
+}
+
+// The slot of a cycle in a place, and its first one where there is none.
+fn slot_at(cycle: &Cycle, at: usize) -> &[u8; 42]
+    ensures slot { IsSlot result.now }
+    ensures is { at < length (slots_of cycle.now) → result.now ≡ slice_index_or (slots_of cycle.now) at [] }
+{
+    let slots = cycle.slots();
+    if at < slots.len() {
+        &slots[at]
+    } else {
+        &slots[0]
+    }
+}
+
+// The row in a place of a table.
+fn place_at(table: &[Option<RowPlace>], at: usize) -> Option<RowPlace>
+    ensures { result ≡ slice_index_or table.now at None }
+{
+    if at < table.len() { table[at] } else { None }
+}
+
+/// The place after one of so many.
+pub fn next(at: usize, count: usize) -> usize
+    ensures { at < count → result ≡ (at + 1) % count }
+{
+    if at < count && at + 1 < count {
+        at + 1
+    } else {
+        0
+    }
+}
+
+// One more slot, up to the largest count.
+fn one_more(count: u64) -> u64
+    ensures { result ≡ min (count + 1) (2 ^ 64 - 1) }
+{
+    count.saturating_add(1)
+}
+
+// What is told of a slot: what breaks the rule in it by itself, or else what it makes repeated.
+fn first_told(alone: Option<Breach>, repeated: Option<TextByte>) -> Option<Breach>
+    ensures { result ≡ first_told alone repeated }
+{
+    match alone {
+        Some(breach) => Some(breach),
+        None => match repeated {
+            Some(byte) => Some(Breach::Repeated(byte)),
+            None => None,
+        },
+    }
+}
+
+impl<'a> Monitor<'a> {
+    ghost use Rattle.std.specs.Prelude.{◌≡◌, ◌≢◌, ◌↔◌, ◌<◌, ◌≤◌, ◌-◌, ◌^◌, min, ◌++◌, ◌∷◌, [], ℕ, List, IfOk, IsTrue, None, length, map};
+    ghost use Rattle.std.specs.List.{AllPairs};
+    ghost use Rattle.ttx_packet.specs.Slots.{IsSlot};
+    ghost use Rattle.ttx_page.specs.Views.{page_of, ids_of};
+    ghost use Rattle.ttx_cycle.specs.Cycles.{slots_of};
+    ghost use Rattle.ttx_monitor.specs.Watching.{Watched, watched, AllReceived, IsWithin};
+    ghost use Rattle.ttx_witness.specs.Coverage.{Accepts, limit};
+    ghost use Rattle.ttx_source.specs.Services.{pages_of};
+    ghost use Rattle.ttx_witness.specs.Certificates.{certificate_of};
+    ghost use Rattle.ttx_certify.specs.Laws.{ArePages};
+    ghost use Rattle.ttx_monitor.specs.Laws.{IsSeenIn};
+    ghost use Rattle.ttx_monitor.specs.Breaches.{IsHeard};
+    ghost use Rattle.ttx_monitor.specs.Standing.{Stands};
+
+    /// A monitor of a feed that begins with slot `start` of the cycle, for the pages of a service, with the certificate's repeat count.
+    /// All memory is taken here.
+    pub fn new(
+        alloc: Global,
+        cycle: &'a Cycle,
+        service: &Service,
+        certificate: &Certificate,
+        start: u32,
+    ) -> Result<Monitor<'a>, NoMemory>
+        ensures { IfOk result (λ m. Stands m
+            (watched (slots_of cycle.entry.now) (pages_of service.now) (certificate_of certificate.now).repeat start) []) }
+    {
+        ttx_witness::certificate_laws::certificates_keep_their_rules();
+        Monitor::over(alloc, cycle, service.pages(), certificate.repeat(), start)
+    }
+
+    // A monitor for pages whose ids are distinct.
+    fn over(
+        alloc: Global,
+        cycle: &'a Cycle,
+        pages: &[Page],
+        repeat: u8,
+        start: u32,
+    ) -> Result<Monitor<'a>, NoMemory>
+        requires some { 1 ≤ repeat }
+        requires distinct { AllPairs (λ a b. a ≢ b) (ids_of pages.now) }
+        ensures { IfOk result (λ m. Stands m (watched (slots_of cycle.entry.now) (map page_of pages.now) repeat start) []) }
+    {
+        ttx_page::laws::pages_keep_their_rules();
+        let table = table_of(alloc, cycle, pages)?;
+        let cells = no_streaks(alloc, pages.len())?;
+        let at = start as usize % cycle.slots().len();
+        Ok(Monitor {
+            cycle,
+            table,
+            cells,
+            repeat,
+            at,
+            within: true,
+            count: 0,
+        })
+    }
+
+    /// The next slot of the feed: what breaks the error rule in it. Takes no memory.
+    pub fn hear(&mut self, slot: &[u8; 42]) -> Option<Breach>
+        ensures stands { (w : Watched) (feed : List (List ℕ)) → Stands self.old w feed → Stands self.new w (feed ++ slot.now ∷ []) }
+        ensures heard { (w : Watched) (feed : List (List ℕ)) → Stands self.old w feed → IsHeard w feed slot.now result }
+        ensures first { (w : Watched) (feed : List (List ℕ)) → Stands self.old w feed → IsWithin w feed →
+            (result ≡ None) ↔ IsWithin w (feed ++ slot.now ∷ []) }
+    {
+        ttx_packet::laws::rows_are_numbered();
+        ttx_page::laws::each_slot_turns();
+        ttx_page::laws::streams_move();
+        ttx_counter::laws::streaks_decide();
+        is_slot(slot);
+        let sent = slot_at(self.cycle, self.at);
+        let place = place_at(self.table.as_slice(), self.at);
+        let pair = Pair {
+            sent,
+            received: slot,
+        };
+        let repeated = note(&mut self.cells, place, &pair, self.repeat);
+        self.at = next(self.at, self.cycle.slots().len());
+        let breach = first_told(slot_breach(sent, slot), repeated);
+        self.within = self.within && breach.is_none();
+        self.count = one_more(self.count);
+        breach
+    }
+
+    /// Whether the feed is within the error rule for each page. Takes no memory.
+    pub fn within(&self) -> bool
+        ensures within { (w : Watched) (feed : List (List ℕ)) → Stands self.now w feed → IsTrue result ↔ IsWithin w feed }
+        ensures received { (w : Watched) (feed : List (List ℕ)) → Stands self.now w feed → 0 < length w.pages → IsTrue result ↔ AllReceived w feed }
+    {
+        ttx_packet::laws::rows_are_numbered();
+        ttx_page::laws::each_slot_turns();
+        ttx_page::laws::streams_move();
+        ttx_counter::laws::streaks_decide();
+        self.within
+    }
+
+    /// How many slots the feed has; from 2^64 - 1 on no more are counted. Takes no memory.
+    pub fn count(&self) -> u64
+        ensures { (w : Watched) (feed : List (List ℕ)) → Stands self.now w feed → result ≡ min (length feed) (2 ^ 64 - 1) }
+    {
+        self.count
+    }
+
+    /// Whether the feed is within the error rule and has lasted to the certificate's deadline. If so, and the cycle is accepted with the
+    /// certificate, each permitted receiver that got this feed has the View of each page. Takes no memory.
+    pub fn lasts(&self, certificate: &Certificate) -> bool
+        ensures exact { (w : Watched) (feed : List (List ℕ)) → Stands self.now w feed →
+            IsTrue result ↔ (IsWithin w feed × (limit (certificate_of certificate.now) ≤ length feed)) }
+        ensures seen { (w : Watched) (feed : List (List ℕ)) → Stands self.now w feed → IsTrue result → ArePages w.pages →
+            (certificate_of certificate.now).repeat ≡ w.repeat → Accepts w.cycle w.pages (certificate_of certificate.now) →
+            IsSeenIn w feed (certificate_of certificate.now) }
+    {
+        crate::laws::within_is_seen();
+        ttx_witness::certificate_laws::certificates_keep_their_rules();
+        if !self.within() {
+            return false;
+        }
+        u64::from(limit(certificate)) <= self.count
+    }
+}

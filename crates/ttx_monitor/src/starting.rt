@@ -1,0 +1,67 @@
+//! Where in the cycle a feed begins.
+
+ghost use Rattle.std.specs.Prelude.{◌≡◌, ◌<◌, ◌≤◌, ℕ, true, false, All, MatchOption, IsSome, length, ◌^◌};
+ghost use Rattle.ttx_packet.specs.Slots.{IsSlot};
+ghost use Rattle.ttx_packet.specs.Receptions.{MayBeReceivedAs};
+ghost use Rattle.ttx_cycle.specs.Cycles.{slots_of};
+ghost use Rattle.ttx_monitor.specs.Starting.{Misfits, judged_slots, IsBestStart};
+
+use crate::comparing::slot_breach;
+use crate::monitor::next;
+use ttx_cycle::Cycle;
+use ttx_cycle::arrays::are_slots;
+
+// Whether a slot may be received of what was sent.
+fn fits(sent: &[u8; 42], received: &[u8; 42]) -> bool
+    requires { IsSlot received.now }
+    ensures fit { result ≡ true → MayBeReceivedAs sent.now received.now }
+    ensures misfit { result ≡ false → MayBeReceivedAs sent.now received.now → ⊥ }
+{
+    slot_breach(sent, received).is_none()
+}
+
+// How many slots can't be received where the feed begins with this slot of the cycle; `None` where they are not below a limit.
+fn misfits_below(cycle: &Cycle, head: &[[u8; 42]], start: usize, limit: usize) -> Option<usize>
+    requires inside { start < length (slots_of cycle.now) }
+    requires slots { All IsSlot head.now }
+    ensures some { length head.now < limit → IsSome result }
+    ensures count { MatchOption result
+        ((c : ℕ) → Misfits (slots_of cycle.now) head.now start (judged_slots (slots_of cycle.now) head.now) c → limit ≤ c)
+        (λ c. (c < limit) × Misfits (slots_of cycle.now) head.now start (judged_slots (slots_of cycle.now) head.now) c) }
+{
+    let slots = cycle.slots();
+    if limit == 0 {
+        return None;
+    }
+    let mut misfits = 0;
+    let mut at = start;
+    for n in 0..slots.len().min(head.len()) {
+        if !fits(&slots[at], &head[n]) {
+            misfits += 1;
+            if misfits >= limit {
+                return None;
+            }
+        }
+        at = next(at, slots.len());
+    }
+    Some(misfits)
+}
+
+/// The slot of the cycle with which a feed begins, by its first slots, as many as the cycle has or as there are: the least of those
+/// with the fewest slots that can't be received.
+pub fn find_start(cycle: &Cycle, head: &[[u8; 42]]) -> u32
+    requires few { length head.now < 2 ^ 32 }
+    ensures { IsBestStart (slots_of cycle.now) head.now result }
+{
+    are_slots(head);
+    let count = cycle.slots().len();
+    let mut fewest = head.len() + 1;
+    let mut best = 0;
+    for start in 0..count {
+        if let Some(misfits) = misfits_below(cycle, head, start, fewest) {
+            fewest = misfits;
+            best = start;
+        }
+    }
+    best as u32
+}

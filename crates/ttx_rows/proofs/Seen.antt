@@ -1,0 +1,200 @@
+-- What is accepted is seen by receivers that take rows whole or not at all.
+use Rattle.std.proofs.Common.{◌≡◌, ℕ, ◌≤◌, ℤ, pos, ◌+ℤ◌, ◌≤ℤ◌, true, false, List, length, sym, subst, arith}
+use Rattle.std.proofs.lemmas.Int.{ints}
+use Rattle.ttx_code.specs.Laws.{OddBytesHoldTheirCodes}
+use Rattle.ttx_packet.specs.Slots.{IsSlot, is_clean}
+use Rattle.ttx_packet.specs.Laws.{RowsAreNumbered}
+use Rattle.ttx_page.specs.Pages.{Page, IsPage, matches, needed}
+use Rattle.ttx_page.specs.declared.selection.Selection.{Selection}
+use Rattle.ttx_page.specs.declared.item.Item.{Item}
+use Rattle.ttx_page.specs.declared.class.Class.{Class}
+use Rattle.ttx_page.specs.Memories.{Memory, IsFormer}
+use Rattle.ttx_page.specs.Streams.{Stream, repeated}
+use Rattle.ttx_page.specs.Receptions.{Received}
+use Rattle.ttx_page.specs.Followers.{IsFollowedWithin}
+use Rattle.ttx_cycle.specs.Files.{IsCycle}
+use Rattle.ttx_witness.specs.Coverage.{Certificate, IsCertificate, limit}
+use Rattle.ttx_receiver.specs.Laws.{IsSteadyFrom, IsBrought}
+use Rattle.ttx_certify.specs.Seen.{HasView}
+use Rattle.ttx_certify.specs.Laws.{ArePages, RunsAreSeen}
+use Rattle.ttx_certify.proofs.AcceptedIsSeen.{StreamLaws, fits_matches, steady_from, brought}
+use Rattle.ttx_late.specs.Laws.{RunsAreShown}
+use Rattle.ttx_late.specs.LateReceivers.{LateMemory}
+use Rattle.ttx_rows.specs.RowReceptions.{ReceivedByRows, HeadsArrive}
+use Rattle.ttx_rows.specs.RowReceivers.{Manner, plain, RowRun, RowLateRun}
+use Rattle.ttx_rows.specs.SeenByRows.{HasViewBelowHead}
+use Rattle.ttx_rows.specs.Laws.{RowRunsAreSeen, RowRunsAreShown, AcceptedIsSeenByRows}
+use Rattle.ttx_rows.specs.Laws.{AcceptedIsShownByRows, SeenByRowsIsSeen, SeenLateByRowsIsSeenLate}
+use Rattle.ttx_late.specs.LateVerdicts.{IsLateVerdict}
+use Rattle.ttx_late.specs.declared.verdict.LateVerdict.{LateVerdict}
+use Rattle.ttx_late.specs.declared.verdict.LateVerdict.TheVariants.{Yes, No, NeverShown}
+use Rattle.ttx_certify.specs.Verdicts.{IsVerdict}
+use Rattle.ttx_certify.specs.declared.verdict.Verdict.{Verdict}
+use Rattle.ttx_certify.specs.declared.verdict.Verdict.TheVariants as certify
+use Rattle.ttx_rows.specs.RowVerdicts.{MeansByRows, MeansLateByRows}
+use Rattle.ttx_rows.proofs.OneSlot.{LawsBelow}
+use Rattle.ttx_rows.proofs.OtherStream.{MayDiffer, HaveSameTests, same_tests, moved_steady, moved_brought, moved_followed}
+use Rattle.ttx_rows.proofs.ManySlots.{received_is_by_rows, runs_are_row_runs, late_row_run, mag_is, head_bytes}
+use Rattle.ttx_rows.proofs.ManySlots.{AreHeard, AllGiven, all_given, heard_run, heard_late}
+use Rattle.ttx_rows.proofs.ManySlots.{other, other_differs, other_good, other_received}
+use Rattle.ttx_rows.proofs.Alike.{alike_self, alike_view}
+use Rattle.ttx_rows.proofs.Mended.{AllArrived, mended_run, mended_late, mended_rule, mended_text}
+
+-- the laws that are cited
+pub record LawsOfRows : Type 0 where
+  pub below : LawsBelow
+  pub numbered : RowsAreNumbered
+  pub codes : OddBytesHoldTheirCodes
+
+module _ (laws : LawsOfRows) (s : Stream) (p : Page) (sel : Selection) (class : Class) (lines repeat : ℕ) (begin end : ℤ) (page : IsPage p)
+    (few : lines ≤ 32) (some : 1 ≤ repeat) (fits : matches sel p.id ≡ true) (steady : IsSteadyFrom s p sel begin)
+    (brings : (item : Item) → needed p item ≡ true → IsBrought s p class lines repeat item begin end) (how : Manner) where
+  slots_are : (j : ℤ) → begin ≤ℤ j → IsSlot (s j) × (is_clean (s j) ≡ true)
+  slots_are j low = (steady.slots j low, steady.clean j low)
+
+  all_arrived : (received : List (List ℕ)) → ReceivedByRows how s p repeat begin received → AllArrived p.id s begin received
+  all_arrived received rule n lt =
+      let low : begin ≤ℤ (begin +ℤ pos n) = omega (arith, ints) in
+      record { slot = steady.slots _ low; clean = steady.clean _ low; arrives = rule.each n lt }
+
+  module _ (received : List (List ℕ)) (rule : ReceivedByRows how s p repeat begin received)
+      (heads : HeadsArrive how.spaces s p.id repeat begin received) where
+    text : HeadsArrive false s p.id repeat begin received
+    text = head_bytes how.spaces s p.id repeat begin received some heads
+
+    given : AllGiven how sel p.id s begin received
+    given = all_given laws.codes s p sel repeat begin page steady how received rule heads
+
+    module _ (heard : List (List ℕ)) (size : length heard ≡ length received) (are : AreHeard how.refuses p.id s begin received heard) where
+      abbrev sends : Stream
+      sends = other how laws.below laws.numbered s p repeat some begin slots_are received heard size rule text are
+
+      differs : (j : ℤ) → MayDiffer p (s j) (sends j)
+      differs = other_differs how laws.below laws.numbered s p repeat some begin slots_are received heard size rule text are
+
+      sends_tests : HaveSameTests s sends
+      sends_tests = same_tests p s sends differs
+
+      sends_steady : IsSteadyFrom sends p sel begin
+      sends_steady = moved_steady p s sends sel begin differs
+          (other_good how laws.below laws.numbered s p repeat some begin slots_are received heard size rule text are) steady
+
+      sends_brings : (item : Item) → needed p item ≡ true → IsBrought sends p class lines repeat item begin end
+      sends_brings item need = moved_brought s sends sends_tests p class lines repeat item begin end (brings item need)
+
+      permitted : Received sends p.id repeat begin heard
+      permitted = other_received how laws.below laws.numbered s p repeat some begin slots_are received heard size rule text are
+
+    -- where the headers' text arrives
+    seen : RunsAreSeen → (former m : Memory) → IsFormer class former → RowRun how class lines sel former received m →
+        end ≤ℤ (begin +ℤ pos (length received)) → HasView p m
+    seen runs former m is_former run long =
+        let h = heard_run laws.below class lines sel p.id (mag_is sel p.id fits) how s received begin given former m run in
+        runs (sends h.heard h.size h.are) p sel class lines repeat begin end page few fits (sends_steady h.heard h.size h.are)
+        (sends_brings h.heard h.size h.are) former m h.heard is_former (permitted h.heard h.size h.are) h.run
+        (subst (λ n. end ≤ℤ (begin +ℤ pos n)) (sym h.size) long)
+
+    shown : RunsAreShown → (gap : ℕ) → IsFollowedWithin s p.id gap → (former d : LateMemory) → IsFormer class former.gathered →
+        RowLateRun how class lines sel former received d → (end +ℤ pos gap) ≤ℤ (begin +ℤ pos (length received)) → HasView p d.shown
+    shown runs gap followed former d is_former run long =
+        let h = heard_late laws.below class lines sel p.id (mag_is sel p.id fits) how s received begin given former d run in
+        runs (sends h.heard h.size h.are) p sel class lines repeat begin end page few fits (sends_steady h.heard h.size h.are)
+        (sends_brings h.heard h.size h.are) gap
+        (moved_followed s (sends h.heard h.size h.are) (sends_tests h.heard h.size h.are) p gap followed) former d h.heard is_former
+        (permitted h.heard h.size h.are) h.run
+        (subst (λ n. (end +ℤ pos gap) ≤ℤ (begin +ℤ pos n)) (sym h.size) long)
+
+  -- and whatever becomes of it
+  both_seen : RunsAreSeen → (received : List (List ℕ)) → ReceivedByRows how s p repeat begin received → (former m : Memory) → IsFormer class former →
+      RowRun how class lines sel former received m → end ≤ℤ (begin +ℤ pos (length received)) →
+      HasViewBelowHead p m × (HeadsArrive how.spaces s p.id repeat begin received → HasView p m)
+  both_seen runs received rule former m is_former run long =
+      let arrived = all_arrived received rule in
+      let h = mended_run laws.below class lines sel p.id how s received begin arrived former former m (alike_self former) run in
+      let right = mended_rule how laws.below p s begin repeat some received h.mended h.size arrived rule h.are in
+      let text = mended_text how laws.below p s begin repeat some received h.mended h.size arrived rule h.are how.spaces in (
+        alike_view m h.left h.alike p
+            (seen h.mended right text runs former h.left is_former h.run (subst (λ n. end ≤ℤ (begin +ℤ pos n)) (sym h.size) long)),
+        λ heads. seen received rule heads runs former m is_former run long,
+      )
+
+  both_shown : RunsAreShown → (gap : ℕ) → IsFollowedWithin s p.id gap → (received : List (List ℕ)) → ReceivedByRows how s p repeat begin received →
+      (former d : LateMemory) → IsFormer class former.gathered → RowLateRun how class lines sel former received d →
+      (end +ℤ pos gap) ≤ℤ (begin +ℤ pos (length received)) →
+      HasViewBelowHead p d.shown × (HeadsArrive how.spaces s p.id repeat begin received → HasView p d.shown)
+  both_shown runs gap followed received rule former d is_former run long =
+      let arrived = all_arrived received rule in
+      let h = mended_late laws.below class lines sel p.id how s received begin arrived former former d
+      (alike_self former.gathered, alike_self former.shown) run in
+      let right = mended_rule how laws.below p s begin repeat some received h.mended h.size arrived rule h.are in
+      let text = mended_text how laws.below p s begin repeat some received h.mended h.size arrived rule h.are how.spaces in (
+        alike_view d.shown h.left.shown h.alike.1 p
+            (shown h.mended right text runs gap followed former h.left is_former h.run
+            (subst (λ n. (end +ℤ pos gap) ≤ℤ (begin +ℤ pos n)) (sym h.size) long)),
+        λ heads. shown received rule heads runs gap followed former d is_former run long,
+      )
+
+pub row_runs_are_seen : LawsOfRows → RunsAreSeen → RowRunsAreSeen
+row_runs_are_seen laws runs s p sel class lines repeat begin end page few some fits steady brings how former m received is_former rule run long =
+    both_seen laws s p sel class lines repeat begin end page few some fits steady brings how runs received rule former m is_former run long
+
+pub row_runs_are_shown : LawsOfRows → RunsAreShown → RowRunsAreShown
+row_runs_are_shown laws runs s p sel class lines repeat begin end page few some fits steady brings gap followed how former d received is_former
+    rule run long =
+    both_shown laws s p sel class lines repeat begin end page few some fits steady brings how runs gap followed received rule former d is_former
+    run long
+
+pub accepted_is_seen_by_rows : RowRunsAreSeen → StreamLaws → AcceptedIsSeenByRows
+accepted_is_seen_by_rows runs laws cycle pages w is_cycle are_pages is_certificate accepts n p here = record {
+  shown = λ how sel fits tau former m received is_former rule long run.
+      let late : (tau +ℤ pos (limit w)) ≤ℤ (tau +ℤ pos (length received)) = omega (arith, ints, long) in
+      runs (repeated cycle) p sel w.class w.lines w.repeat tau (tau +ℤ pos (limit w))
+      (are_pages n p here) is_certificate.few_lines is_certificate.some_repeats
+      (fits_matches pages p sel fits)
+      (steady_from laws cycle pages w is_cycle are_pages is_certificate accepts n p here sel fits tau)
+      (brought laws cycle pages w is_cycle are_pages is_certificate accepts n p here tau) how former m received is_former rule run late;
+}
+
+pub accepted_is_shown_by_rows : RowRunsAreShown → StreamLaws → AcceptedIsShownByRows
+accepted_is_shown_by_rows runs laws cycle pages w is_cycle are_pages is_certificate accepts n p here gap followed = record {
+  shown = λ how sel fits tau former d received is_former rule long run.
+      let late : ((tau +ℤ pos (limit w)) +ℤ pos gap) ≤ℤ (tau +ℤ pos (length received)) = omega (arith, ints, long) in
+      runs (repeated cycle) p sel w.class w.lines w.repeat tau (tau +ℤ pos (limit w))
+      (are_pages n p here) is_certificate.few_lines is_certificate.some_repeats
+      (fits_matches pages p sel fits)
+      (steady_from laws cycle pages w is_cycle are_pages is_certificate accepts n p here sel fits tau)
+      (brought laws cycle pages w is_cycle are_pages is_certificate accepts n p here tau) gap followed how former d received is_former rule
+      run late;
+}
+
+-- ---- the headline is a case
+
+pub seen_by_rows_is_seen : SeenByRowsIsSeen
+seen_by_rows_is_seen cycle pages p w seen = record {
+  shown = λ sel fits tau former m received is_former rule long run.
+      let r = received_is_by_rows (repeated cycle) p w.repeat tau received rule in
+      (seen.shown plain sel fits tau former m received is_former r.0 long (runs_are_row_runs plain w.class w.lines sel former m received run)).1 r.1;
+}
+
+pub seen_late_by_rows_is_seen_late : SeenLateByRowsIsSeenLate
+seen_late_by_rows_is_seen_late cycle pages p w gap seen = record {
+  shown = λ sel fits tau former d received is_former rule long run.
+      let r = received_is_by_rows (repeated cycle) p w.repeat tau received rule in
+      (seen.shown plain sel fits tau former d received is_former r.0 long (late_row_run plain w.class w.lines sel former d received run)).1 r.1;
+}
+
+pub means_by_rows : AcceptedIsSeenByRows → (cycle : List (List ℕ)) (pages : List Page) (w : Certificate) →
+    IsCycle cycle → ArePages pages → IsCertificate w → (verdict : Verdict) → IsVerdict cycle pages w verdict → MeansByRows cycle pages w verdict
+means_by_rows seen cycle pages w is_cycle are_pages is_certificate certify.Yes v = λ n p here.
+    seen cycle pages w is_cycle are_pages is_certificate v n p here
+means_by_rows seen cycle pages w is_cycle are_pages is_certificate (certify.No reason) v = tt
+
+pub means_late_by_rows : AcceptedIsSeenByRows → AcceptedIsShownByRows → (cycle : List (List ℕ)) (pages : List Page) (w : Certificate) →
+    IsCycle cycle → ArePages pages → IsCertificate w → (verdict : LateVerdict) → IsLateVerdict cycle pages w verdict →
+    MeansLateByRows cycle pages w verdict
+means_late_by_rows seen shown cycle pages w is_cycle are_pages is_certificate (Yes gap) v = λ n p here. (
+  seen cycle pages w is_cycle are_pages is_certificate v.0 n p here,
+  shown cycle pages w is_cycle are_pages is_certificate v.0 n p here gap (v.2.within n p here),
+)
+means_late_by_rows seen shown cycle pages w is_cycle are_pages is_certificate (No reason) v = tt
+means_late_by_rows seen shown cycle pages w is_cycle are_pages is_certificate (NeverShown page slot) v = tt
