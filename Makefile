@@ -1,5 +1,6 @@
 # make            builds the program and leaves it as ./ttx
 # make test       the gate: every proof from nothing, every test, and the program over real files
+# make try        the main job on a shipped example without any proof, in a few minutes
 # make demo       the main job on a shipped example
 # make install    puts program, man page and completions under PREFIX (/usr/local)
 # make dist       dist/ttx-VERSION-x86_64-linux.tar.gz: program, man page, completions and documents, and its checksum
@@ -16,10 +17,10 @@ PREFIX = /usr/local
 JOBS = 4
 
 # what runs the built program, the longest first
-SCRIPTS = $(addprefix tests/, refused_calls.py refute.py memory.sh cli.sh large.py planned.py waits.py spliced.py turns.sh sent.py \
+SCRIPTS = $(addprefix tests/, refused_calls.py refute.py memory.sh cli.sh large.py planned.py waits.py spliced.py schedules.py turns.sh sent.py \
 	pages.py checked.py packed.sh extracted.py documents.py refused_texts.py)
 
-.PHONY: all ttx test demo bench edits compare helpers install dist $(SCRIPTS)
+.PHONY: all ttx try test demo bench edits compare helpers install dist $(SCRIPTS)
 
 all: ttx
 
@@ -39,6 +40,9 @@ $(filter %.sh,$(SCRIPTS)):
 	sh $@ $(BUILT)
 
 tests/refute.py: CASES = 300
+
+try:
+	sh demo/try.sh
 
 demo: ttx
 	sh demo/demo.sh ./ttx

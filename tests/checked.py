@@ -227,7 +227,7 @@ def lines(service):
         for magazine in "12345678":
             own = sum(packets(page) for page in pages if page["number"][0] == magazine)
             if total < 2 * own and own < total:
-                yield f"warning magazine {magazine}: it has more than half of all packets: serial = false would shorten the wait\n"
+                yield f"warning magazine {magazine}: it has more than half of all packets: compare ttx wait with serial = false\n"
 
 
 def report(service):

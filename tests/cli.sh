@@ -10,7 +10,7 @@
 #   repeated  lines 'NAME FROM SIZE': the same, with FROM again and again up to SIZE bytes
 #   stdin     standard input, a name of tests/data or - for nothing (no such file: nothing)
 #   stdout    what it must print (no such file: nothing)
-#   stderr    what it must print to standard error (no such file: nothing; a file of one line '*': anything)
+#   stderr    what it must print to standard error (no such file: nothing; a file of one line '*': anything, but something)
 #   status    the exit status (no such file: 0)
 #   out       pairs 'NAME WANTED': afterwards the file NAME must hold the bytes of WANTED of tests/data
 #   absent    names of files that mustn't be there afterwards, one a line
@@ -92,11 +92,14 @@ for case in "$here"/cases/*/; do
         [ -f "$place/$stream" ] || continue
         expected=/dev/null
         [ -f "$case/$stream" ] && expected=$case/$stream
-        [ "$(head -c 2 "$expected")" = "*" ] && continue
+        if [ "$(head -c 2 "$expected")" = "*" ]; then
+            [ -s "$place/$stream" ] || fail "nothing on $stream"
+            continue
+        fi
         cmp -s "$expected" "$place/$stream" || fail "$stream: $(head -c 300 "$place/$stream")"
     done
-    # what certify says of a cycle it says of two equal readings of it
-    if [ "${1:-}" = certify ] && [ "$wanted" -lt 2 ] && [ ! -f "$case/stdin" ] && [ ! -f "$case/to" ]; then
+    # what certify says of a cycle it says of two equal readings of it; with --late it reads the cycle once
+    if [ "${1:-}" = certify ] && [ "$wanted" -lt 2 ] && [ ! -f "$case/stdin" ] && [ ! -f "$case/to" ] && ! grep -qx -e --late "$case/args"; then
         count=$((count + 1))
         open_output "$place/twice"
         (run "$@" --twice)
@@ -135,10 +138,14 @@ sh "$here/recipes.sh" "$program" > "$work/recipes" 2>&1 || fail "$(tail -n 3 "$w
 
 name=logic
 count=$((count + 1))
-if command -v rt > /dev/null; then
-    # a kit of another name may have the same logic
-    rt version | head -n 1 | grep -q " logic $("$program" version | sed -n 's/^logic //p')$" || fail "it is proved by another logic"
-fi
+# a kit of another name may have the same logic
+logic=$("$program" version | sed -n 's/^logic //p')
+[ -n "$logic" ] || fail "version names no logic"
+rt version | head -n 1 | grep -q " logic $logic$" || fail "it is proved by another logic, or there is no rt"
+
+name=cases
+cases=$(find "$here/cases" -mindepth 1 -maxdepth 1 -type d | wc -l)
+[ "$count" -ge "$cases" ] && [ "$cases" -ge 450 ] || fail "only $cases cases"
 
 echo "cli: $count cases, $failed failed"
-[ "$count" -gt 0 ] && [ "$failed" = 0 ]
+[ "$failed" = 0 ]

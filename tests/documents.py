@@ -1,5 +1,6 @@
 #!/usr/bin/env python3
-"""Runs each example of README.md, as it stands there, and compares what it prints; and looks whether each link of the documents leads to a file.
+"""Runs each example of README.md and of docs/, as it stands there, and compares what it prints; and looks whether the
+links, files, calls, commands and options that the documents name are there, and each figure that they take from docs/MEASURED.md. The blocks of docs/RECIPES.md recipes.sh runs, and the loop of docs/SPLICES.md turns.sh.
 
 usage: documents.py PROGRAM
 """
@@ -15,6 +16,7 @@ TOP = Path(__file__).resolve().parent.parent
 
 # what `make demo` does to its files, so far as the examples need it
 BEFORE = """
+set -e
 ttx plan broadcast.toml broadcast.t42
 ttx find broadcast.t42 broadcast.toml broadcast.cert
 ttx plan broadcast.toml late.t42 --late
@@ -55,8 +57,7 @@ def made(folder, program):
 
 
 def run(command, folder, words):
-    done = subprocess.run(["sh", "-c", command], cwd=folder, env=words, capture_output=True, text=True, timeout=60)
-    return done.stdout + done.stderr
+    return subprocess.run(["sh", "-c", command], cwd=folder, env=words, capture_output=True, text=True, timeout=60)
 
 
 def dead_links(document):
@@ -65,24 +66,95 @@ def dead_links(document):
     return [link for link in links if "://" not in link and not (document.parent / link).exists()]
 
 
+def named_files(document):
+    """The files that a document names in backticks: of the repository, of a crate, or definitions as `ttx_page/specs/Pages`."""
+    for name in re.findall(r"`([A-Za-z_0-9./-]+)`", document.read_text()):
+        if "NAME" in name or "CRATE" in name:
+            continue
+        if re.match(r"(tests|docs|examples|bench|tools|demo|crates)/", name):
+            yield name, TOP / name
+        elif re.match(r"ttx_[a-z_]+/specs/", name):
+            yield name, TOP / "crates" / f"{name.removesuffix('.antt')}.antt"
+        elif re.match(r"ttx_[a-z_]+/src/", name):
+            yield name, TOP / "crates" / name
+
+
+def named_calls(document):
+    """The calls that a document names as `ttx_certify::certify`, or `ttx_certify::laws::runs_are_seen`: crate and last name."""
+    for crate, name in re.findall(r"`(ttx_[a-z_]+)::(?:[a-z_]+::)*([A-Za-z_0-9]+)`", document.read_text()):
+        yield crate, name
+
+
+def is_defined(crate, name):
+    """Whether a crate has a function, type, module or file of definitions of this name."""
+    item = re.compile(rf"\b(?:fn|struct|enum|trait|mod|const|use .*::)\s*{name}\b")
+    return any(item.search(file.read_text()) for file in (TOP / "crates" / crate / "src").rglob("*.rt"))
+
+
+def named_options(document):
+    """The commands of ttx that a document shows, each with its options."""
+    for words in re.findall(r"\bttx ([a-z]+(?:[^`\n|#;&]|\\\|)*)", document.read_text()):
+        command, *rest = words.split()
+        for option in re.findall(r"--[a-z-]+", " ".join(rest)):
+            yield command, option
+
+
+def unknown_names(document, helps):
+    """What a document names that isn't there."""
+    told = [f"no file {name}" for name, path in named_files(document) if not path.exists()]
+    told += [f"no call {crate}::{name}" for crate, name in named_calls(document) if not is_defined(crate, name)]
+    told += [f"{command} has no {option}" for command, option in named_options(document)
+             if command in helps and option not in helps[command]]
+    return told
+
+
+def unmeasured(document):
+    """The figures of a line that refers to MEASURED.md which aren't there."""
+    measured = (TOP / "docs/MEASURED.md").read_text()
+    for line in document.read_text().splitlines():
+        if "(docs/MEASURED.md)" in line or "](MEASURED.md)" in line:
+            for figure in re.findall(r"\b\d[\d,]*\d{2}\b", re.sub(r"EN 300 706|`[^`]*`", "", line)):
+                if figure not in measured:
+                    yield figure
+
+
+def help_texts(program):
+    """Of each command its help."""
+    def told(words):
+        return subprocess.run([program, *words, "--help"], capture_output=True, text=True, timeout=60).stdout
+    commands = re.findall(r"^  ([a-z]+)  ", told([]), re.M)
+    return {command: told([command]) for command in commands if command != "help"}
+
+
 def main():
     program, failed, count = Path(sys.argv[1]).resolve(), 0, 0
+    documents = [TOP / "README.md", *sorted((TOP / "docs").glob("*.md")), TOP / "tests/README.md"]
+    helps = help_texts(program)
     with tempfile.TemporaryDirectory() as name:
         folder = Path(name)
         words = made(folder, program)
-        run(BEFORE, folder, words)
-        for command, lines in examples((TOP / "README.md").read_text()):
-            count += 1
-            printed = run(command, folder, words).splitlines()
-            if printed != lines:
-                failed += 1
-                print(f"FAILED {command}: it prints {printed[:3]}, and README has {lines[:3]}")
-    for document in [TOP / "README.md", *sorted((TOP / "docs").glob("*.md"))]:
-        for link in dead_links(document):
+        before = run(BEFORE, folder, words)
+        if before.returncode or before.stderr:
             failed += 1
-            print(f"FAILED {document.name}: no file {link}")
+            print(f"FAILED what the examples need: {before.stderr[-200:]}")
+        for document in documents:
+            for command, lines in examples(document.read_text()):
+                count += 1
+                done = run(command, folder, words)
+                printed = (done.stdout + done.stderr).splitlines()
+                # an answer that is no has status 1, a mistake that check reports status 2: each has a line
+                if printed != lines or done.returncode > 2 or (done.returncode and not lines) or (done.returncode == 2 and "check" not in command):
+                    failed += 1
+                    print(f"FAILED {command}: status {done.returncode}, it prints {printed[:3]}, and {document.name} has {lines[:3]}")
+    for document in documents:
+        faults = [f"no file {link}" for link in dead_links(document)]
+        faults += unknown_names(document, helps)
+        faults += [f"{figure} isn't in MEASURED.md" for figure in unmeasured(document)]
+        for fault in faults:
+            failed += 1
+            print(f"FAILED {document.name}: {fault}")
     print(f"documents: {count} examples, {failed} failed")
-    return 1 if failed or count < 15 else 0
+    return 1 if failed or count < 18 else 0
 
 
 if __name__ == "__main__":

@@ -202,6 +202,7 @@ def edits_of_base():
         "packet-26.t42": with_slot(base(), 1, packet(1, 26, bytes([0xFF, 0x16, 0x00, 0x9D]) + bytes(36))),
         "row-6-hidden.t42": hidden,
         "suppressed-clearing.t42": [header(1, 0, 0, 1 << 3), EMPTY, EMPTY, time_filling(1)],
+        "two-headers-clearing.t42": [*[header(1, 0, 0, 1 << 3), EMPTY, EMPTY, time_filling(1)], header(1, 0, 0, 1 << 3), *[EMPTY] * 4, time_filling(1)],
     }
 
 
@@ -327,6 +328,7 @@ def certifying_texts():
         "clearing-base.cert": clearing_certificate(14),
         "clearing-no-entries.cert": clearing_certificate(2, entries=""),
         "clearing-no-entries-1.cert": clearing_certificate(1, entries=""),
+        "clearing-no-entries-3.cert": clearing_certificate(3, entries=""),
         "two-subpages.toml": page + '[[page]]\nnumber = "100"\nsub = "0001"\n',
         "row-6-hidden.toml": page + 'rows = {"5" = "\\u000D"}\n',
         "option-1.toml": page + "option = 1\n",
@@ -437,6 +439,7 @@ def main():
         "subpages.t42": two_subpages([]),
         "subpages-apart.t42": two_subpages([time_filling(1)]),
         "row-5-wrong.t42": with_byte(base(), 7, 2, 0xC1),
+        "row-5-wrong-again.t42": with_byte([*base(), *base()], 35, 2, 0xC1),
         "bad-slot.t42": with_byte(base(), 4, 0, 0x03),
         "book.t42": book_cycle(),
         "near-text.t42": with_slot(near_row, 2, row(1, 1, b"\xc1" + SPACES[1:])),
@@ -453,6 +456,7 @@ def main():
         "often-3.toml": 'lines = 2\nserial = true\n[[page]]\nnumber = "100"\noften = 3\n',
         "base.cert": certificate(27),
         "base-26.cert": certificate(26),
+        "base-41.cert": certificate(41),
         "subpages.cert": subpages_certificate(41, 27),
         "subpages-apart.cert": subpages_certificate(42, 28),
         "base-repeat-2.cert": certificate(41, 2),

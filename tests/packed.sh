@@ -8,11 +8,15 @@ name=packed
 
 python3 "$top/tools/helpers.py" "$program" "$work" || fail "helpers.py: status $?"
 
+# the text of find, laid out where there is a groff
 if command -v groff > /dev/null; then
-    groff -man -ww -Tutf8 "$work/ttx.1" > "$work/page" 2> "$work/said"
+    groff -man -ww -Tutf8 "$work/ttx.1" > "$work/page" 2> "$work/said" || fail "the man page: groff, status $?"
     [ -s "$work/said" ] && fail "the man page: $(head -n 3 "$work/said")"
-    grep -q 'Reads CYCLE and SERVICE, in this order' "$work/page" || fail "the man page: no text of find"
+else
+    echo "packed: there is no groff, so the man page isn't laid out"
+    cp "$work/ttx.1" "$work/page"
 fi
+grep -q 'Reads CYCLE and SERVICE, in this order' "$work/page" || fail "the man page: no text of find"
 
 # what bash offers after these words
 offered() {

@@ -16,6 +16,8 @@ awk -v folder="$work/blocks" '
 cp "$top/examples/broadcast.toml" "$work/news/news.toml"
 cd "$work/news" || exit 1
 count=0
+name=blocks
+[ "$(find "$work/blocks" -type f | wc -l)" = 8 ] || fail "docs/RECIPES.md has other blocks than these eight"
 
 # a block of the document, and what it has to print
 expect() {

@@ -1,7 +1,8 @@
 #!/usr/bin/env python3
 """Runs the built program while one of its calls of the C library is refused: each growth in turn, and each read and each write, in
-pieces of some bytes. Then it ends with `fault: memory`, `fault: read` or `fault: write`, and with no byte written but the first ones
-of what it was to write; or it does what it does otherwise.
+pieces of some bytes. Then it ends with `fault: memory`, `fault: read` or `fault: write`, and with no byte written except the first
+ones of what it was to write. Where a growth is refused it may also do what it does otherwise, but not at each growth of a command:
+one at least ends in `fault: memory`. A command that makes no growth, no read or no write fails the test, except where it is said.
 
 usage: refused_calls.py PROGRAM
 
@@ -21,6 +22,9 @@ from make_data import counter  # noqa: E402
 
 TOP = Path(__file__).resolve().parent.parent
 PIECES = (1, 7, 41, 42, 43)
+
+# what reads no file
+WITHOUT_READS = {"version"}
 
 # words, and whether their growths alone are refused
 COMMANDS = [
@@ -131,16 +135,21 @@ class Runs:
             self.failures.append(f"{self.words}, {call}: status {answer[0]}, {answer[1][:80]!r}, {answer[2][:80]!r}, OUT of {len(answer[3])} bytes")
 
     def refuse_growths(self):
+        """How many growths there are, and how many of them, refused, end in want of memory."""
         ample, (growths, _, _) = self.counted()
+        told = 0
         for n in range(1, growths + 2):
             answer = self.run(growth=n)
-            want = (3, b"", b"fault: memory\n", b"")
-            self.expect(answer == ample or (answer == want and n <= growths), answer, f"growth {n} of {growths}")
-        return growths
+            is_told = answer == (3, b"", b"fault: memory\n", b"")
+            told += is_told
+            self.expect(answer == ample or (is_told and n <= growths), answer, f"growth {n} of {growths}")
+        self.expect(told > 0, ample, f"none of {growths} growths ends in fault: memory")
+        return growths, told
 
     def fail_reads(self, ample, piece):
         answer, (_, reads, _) = self.counted(piece=piece)
         self.expect(answer == ample, answer, f"pieces of {piece}")
+        self.expect((reads > 0) != (self.words in WITHOUT_READS), answer, f"{reads} reads")
         for n in range(1, reads + 1):
             answer = self.run(piece=piece, read=n)
             self.expect(answer == (3, b"", b"fault: read\n", b""), answer, f"pieces of {piece}, read {n} of {reads}")
@@ -150,7 +159,7 @@ class Runs:
         _, stdout, _, out = ample
         sizes = [min(piece, len(text) - at) for text in (out, stdout) for at in range(0, len(text), piece)]
         answer, (_, _, writes) = self.counted(piece=piece)
-        self.expect(writes == len(sizes), answer, f"pieces of {piece}, {writes} writes and not {len(sizes)}")
+        self.expect(writes == len(sizes) > 0, answer, f"pieces of {piece}, {writes} writes and not {len(sizes)}")
         for n in range(1, writes + 1):
             answer = self.run(piece=piece, write=n)
             written = sum(sizes[: n - 1])
@@ -166,15 +175,15 @@ def build(folder):
 
 
 def refuse_all(program, folder, words, growths_alone):
-    """All runs of one command in a folder of its own, and how many growths, reads and writes were refused."""
+    """All runs of one command in a folder of its own, and how many growths, answers of want of memory, reads and writes there were."""
     runs = Runs(program, folder, words)
-    growths = runs.refuse_growths()
+    growths, told = runs.refuse_growths()
     ample = runs.run()
     pieces = () if growths_alone else PIECES
     reads = sum(runs.fail_reads(ample, piece) for piece in pieces)
     writes = sum(runs.fail_writes(ample, piece) for piece in pieces)
     runs.end()
-    return runs, (growths, reads, writes)
+    return runs, (growths, told, reads, writes)
 
 
 def main():
@@ -189,10 +198,10 @@ def main():
         def in_own_folder(number):
             return refuse_all(program, shutil.copytree(inputs, Path(name, str(number))), *COMMANDS[number])
 
-        print(f"{'refused, one at a time':<58} {'growths':>8} {'reads':>8} {'writes':>8}")
+        print(f"{'refused, one at a time':<62} {'growths':>8} {'told':>8} {'reads':>8} {'writes':>8}")
         with ThreadPoolExecutor(len(os.sched_getaffinity(0))) as workers:
-            for runs, (growths, reads, writes) in workers.map(in_own_folder, range(len(COMMANDS))):
-                print(f"{runs.words:<58} {growths:>8} {reads:>8} {writes:>8}", flush=True)
+            for runs, (growths, told, reads, writes) in workers.map(in_own_folder, range(len(COMMANDS))):
+                print(f"{runs.words:<62} {growths:>8} {told:>8} {reads:>8} {writes:>8}", flush=True)
                 failures += runs.failures
                 made += runs.made
     for failure in failures[:20]:

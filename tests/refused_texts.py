@@ -96,6 +96,17 @@ PLANS = [
 ]
 
 
+def fails(done, line, out):
+    """What is wrong with how it ends: a refusal is told on standard error, with status 2, and leaves OUT empty or not made; else the
+    line is told on standard output, and OUT holds as many slots as it says."""
+    if line.startswith("refused: "):
+        wanted, size = (2, "", f"{line}\n"), 0
+    else:
+        wanted, size = (0, f"{line}\n", ""), 42 * int(line.split(" ")[1])
+    told = (done.returncode, done.stdout, done.stderr)
+    return None if told == wanted and len(out) == size else f"{told} and not {wanted}, OUT of {len(out)} bytes and not {size}"
+
+
 def cases():
     """Words, the text that stands in the file `text`, and the line."""
     services = [(text, f"{fault} page 0") for text, fault in SERVICES]
@@ -114,13 +125,16 @@ def main():
             Path(place, name).write_bytes((DATA / name).read_bytes())
         for words, text, line in cases():
             Path(place, "text").write_text(text, encoding="utf-8", errors="surrogateescape")
+            out = Path(place, "out")
+            out.unlink(missing_ok=True)
             done = subprocess.run([program, *words.split()], cwd=place, capture_output=True, text=True, timeout=60, check=False)
             count += 1
-            if (done.stdout + done.stderr).rstrip("\n") != line:
+            why = fails(done, line, out.read_bytes() if out.exists() else b"")
+            if why:
                 failed += 1
-                print(f"FAILED {words}: {done.stdout}{done.stderr} and not {line}, for {text[-200:]!r}")
+                print(f"FAILED {words}: {why}, for {text[-200:]!r}")
     print(f"refused texts: {count} cases, {failed} failed")
-    return 1 if failed else 0
+    return 1 if failed or not count else 0
 
 
 if __name__ == "__main__":

@@ -3,7 +3,8 @@
  *
  * It takes orders from standard input, a line of five numbers each:
  *
- *   GROWTH    this call of malloc and realloc, counted from 1 when main begins, answers no memory (0: none)
+ *   GROWTH    this call of malloc, calloc, realloc, aligned_alloc, memalign and posix_memalign, counted from 1 when main begins,
+ *             answers no memory (0: none)
  *   READ      this call of read fails (0: none)
  *   WRITE     this call of write fails (0: none)
  *   PIECE     reads and writes move at most so many bytes a call (0: as many as they are asked to)
@@ -16,7 +17,9 @@
 typedef unsigned long size;
 
 extern void *__libc_malloc(size);
+extern void *__libc_calloc(size, size);
 extern void *__libc_realloc(void *, size);
+extern void *__libc_memalign(size, size);
 extern int *__errno_location(void);
 extern long syscall(long, ...);
 extern int fork(void);
@@ -110,7 +113,19 @@ static size few(size count) { return piece && count > piece ? piece : count; }
 
 void *malloc(size count) { return is_refused(&growths, NO_MEMORY) ? 0 : __libc_malloc(count); }
 
+void *calloc(size count, size each) { return is_refused(&growths, NO_MEMORY) ? 0 : __libc_calloc(count, each); }
+
 void *realloc(void *old, size count) { return is_refused(&growths, NO_MEMORY) ? 0 : __libc_realloc(old, count); }
+
+void *memalign(size line, size count) { return is_refused(&growths, NO_MEMORY) ? 0 : __libc_memalign(line, count); }
+
+void *aligned_alloc(size line, size count) { return memalign(line, count); }
+
+int posix_memalign(void **to, size line, size count) {
+    void *room = memalign(line, count);
+    if (room) *to = room;
+    return room ? 0 : NO_MEMORY;
+}
 
 long read(int file, void *to, size count) {
     return is_refused(&reads, INPUT_OUTPUT) ? -1 : syscall(READ, file, to, few(count));

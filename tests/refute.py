@@ -3,6 +3,7 @@
 
 usage: refute.py PROGRAM [CASES]
 
+What find says, a deadline or a reason, is what the plain certifier of tests/plain_certifier.py says.
 With the deadline of find there is no counter-run, with one field less there is one. Where find finds nothing and each slot is clean
 and each page sent unchanged, there is one. Each counter-run is replayed: its wrong bits keep the error rule, and what is then shown
 isn't the page; and so says replay, row by row. Pages hold letters and spaces alone, so that what is shown is what is held.
@@ -16,11 +17,8 @@ from pathlib import Path
 
 sys.dont_write_bytecode = True
 from make_data import EMPTY, WORDS, header, links, row, time_filling  # noqa: E402
+from plain_certifier import first_reason, is_clean, least_deadline, odd  # noqa: E402
 from plain_receiver import SPACES, Receiver, packet_in, shown  # noqa: E402
-
-
-def odd(codes):
-    return bytes(c if bin(c).count("1") % 2 else c | 0x80 for c in codes)
 
 
 def read_counter(text):
@@ -123,15 +121,6 @@ def replay_fails(program, names, line, counter, cycle, page):
         return f"replay says {status} {text[:80]!r} {errors!r}"
     wanted = unlike(*both_shown(counter, received, hits, page))
     return None if [replayed(told) for told in lines[1:]] == wanted else f"replay says {text[:200]!r}"
-
-
-def is_clean(slot):
-    if not any(slot):
-        return True
-    if slot[0] not in WORDS or slot[1] not in WORDS:
-        return False
-    number = WORDS.index(slot[0]) // 8 + 2 * WORDS.index(slot[1])
-    return all(b in WORDS for b in (slot[2:10] if number == 0 else slot[2:3] if number == 27 else b""))
 
 
 def is_unchanged(cycle, pages):
@@ -271,6 +260,10 @@ def judged(program, folder, case, repeat):
     status, line, errors = run(program, "find", *names, "--repeat", str(repeat))
     if errors:
         return f"find says {errors!r}", ""
+    reason = first_reason(cycle, pages, lines, repeat)
+    wanted = (1, f"no {reason}") if reason else (0, f"found deadline {least_deadline(cycle, pages, lines, repeat)}")
+    if (status, line) != wanted:
+        return f"find says {status} {line!r} and not {wanted}", ""
     unchanged = is_unchanged(cycle, pages)
     deadline = int(line.split()[-1]) if status == 0 else 30
     given, why = refuted(program, folder, case, repeat, deadline)

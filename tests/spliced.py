@@ -96,7 +96,11 @@ class Spliced:
         self.verdict = self.run("splice", "old.t42", "new.t42", *words, "old.cert", "new.cert")
 
     def run(self, *words):
-        return subprocess.run([self.program, *words], cwd=self.folder, capture_output=True, text=True, check=False).stdout
+        """What the program prints; a status or an error ends the test."""
+        done = subprocess.run([self.program, *words], cwd=self.folder, capture_output=True, text=True, check=False)
+        if done.returncode or done.stderr:
+            sys.exit(f"FAILED {self.names}: {' '.join(map(str, words))}: status {done.returncode}, {done.stdout[:80]!r} {done.stderr[:200]!r}")
+        return done.stdout
 
     def sent(self, at):
         """The slot of the joined stream; of two transmissions of a text byte every other one is right."""
@@ -105,7 +109,9 @@ class Spliced:
 
     def view(self, name, page, slots, kind):
         """What is displayed after so many slots, without the receiver's own columns and the clock."""
-        lines = self.run("receive", name, page, "--lines", str(LINES), "--slots", str(slots), "--kind", kind).split("\n")
+        lines = self.run("receive", name, page, "--lines", str(LINES), "--slots", str(slots), "--kind", kind).splitlines()
+        if [line.split(" ")[0] for line in lines] != ["row"] * 25 + ["links"]:
+            sys.exit(f"FAILED {self.names}: receive {page} prints {lines[:2]}")
         first = lines[0].split(" ")
         return [first[:2] + first[10:34], *lines[1:]]
 
