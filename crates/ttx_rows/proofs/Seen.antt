@@ -11,14 +11,13 @@ use Rattle.ttx_page.specs.declared.class.Class.{Class}
 use Rattle.ttx_page.specs.Memories.{Memory, IsFormer}
 use Rattle.ttx_page.specs.Streams.{Stream, repeated}
 use Rattle.ttx_page.specs.Receptions.{Received}
-use Rattle.ttx_page.specs.Followers.{IsFollowedWithin}
 use Rattle.ttx_cycle.specs.Files.{IsCycle}
 use Rattle.ttx_witness.specs.Coverage.{Certificate, IsCertificate, limit}
 use Rattle.ttx_receiver.specs.Laws.{IsSteadyFrom, IsBrought}
 use Rattle.ttx_certify.specs.Seen.{HasView}
 use Rattle.ttx_certify.specs.Laws.{ArePages, RunsAreSeen}
 use Rattle.ttx_certify.proofs.AcceptedIsSeen.{StreamLaws, fits_matches, steady_from, brought}
-use Rattle.ttx_late.specs.Laws.{RunsAreShown}
+use Rattle.ttx_late.specs.Laws.{IsFollowedFrom, RunsAreShown}
 use Rattle.ttx_late.specs.LateReceivers.{LateMemory}
 use Rattle.ttx_rows.specs.RowReceptions.{ReceivedByRows, HeadsArrive}
 use Rattle.ttx_rows.specs.RowReceivers.{Manner, plain, RowRun, RowLateRun}
@@ -94,13 +93,13 @@ module _ (laws : LawsOfRows) (s : Stream) (p : Page) (sel : Selection) (class : 
         (sends_brings h.heard h.size h.are) former m h.heard is_former (permitted h.heard h.size h.are) h.run
         (subst (λ n. end ≤ℤ (begin +ℤ pos n)) (sym h.size) long)
 
-    shown : RunsAreShown → (gap : ℕ) → IsFollowedWithin s p.id gap → (former d : LateMemory) → IsFormer class former.gathered →
+    shown : RunsAreShown → (gap : ℕ) → IsFollowedFrom s p.id gap begin → (former d : LateMemory) → IsFormer class former.gathered →
         RowLateRun how class lines sel former received d → (end +ℤ pos gap) ≤ℤ (begin +ℤ pos (length received)) → HasView p d.shown
     shown runs gap followed former d is_former run long =
         let h = heard_late laws.below class lines sel p.id (mag_is sel p.id fits) how s received begin given former d run in
         runs (sends h.heard h.size h.are) p sel class lines repeat begin end page few fits (sends_steady h.heard h.size h.are)
         (sends_brings h.heard h.size h.are) gap
-        (moved_followed s (sends h.heard h.size h.are) (sends_tests h.heard h.size h.are) p gap followed) former d h.heard is_former
+        (moved_followed s (sends h.heard h.size h.are) (sends_tests h.heard h.size h.are) p gap begin followed) former d h.heard is_former
         (permitted h.heard h.size h.are) h.run
         (subst (λ n. (end +ℤ pos gap) ≤ℤ (begin +ℤ pos n)) (sym h.size) long)
 
@@ -118,7 +117,7 @@ module _ (laws : LawsOfRows) (s : Stream) (p : Page) (sel : Selection) (class : 
         λ heads. seen received rule heads runs former m is_former run long,
       )
 
-  both_shown : RunsAreShown → (gap : ℕ) → IsFollowedWithin s p.id gap → (received : List (List ℕ)) → ReceivedByRows how s p repeat begin received →
+  both_shown : RunsAreShown → (gap : ℕ) → IsFollowedFrom s p.id gap begin → (received : List (List ℕ)) → ReceivedByRows how s p repeat begin received →
       (former d : LateMemory) → IsFormer class former.gathered → RowLateRun how class lines sel former received d →
       (end +ℤ pos gap) ≤ℤ (begin +ℤ pos (length received)) →
       HasViewBelowHead p d.shown × (HeadsArrive how.spaces s p.id repeat begin received → HasView p d.shown)
@@ -163,7 +162,7 @@ accepted_is_shown_by_rows runs laws cycle pages w is_cycle are_pages is_certific
       (are_pages n p here) is_certificate.few_lines is_certificate.some_repeats
       (fits_matches pages p sel fits)
       (steady_from laws cycle pages w is_cycle are_pages is_certificate accepts n p here sel fits tau)
-      (brought laws cycle pages w is_cycle are_pages is_certificate accepts n p here tau) gap followed how former d received is_former rule
+      (brought laws cycle pages w is_cycle are_pages is_certificate accepts n p here tau) gap (λ h low head. followed h head) how former d received is_former rule
       run late;
 }
 
