@@ -15,7 +15,7 @@ use Rattle.ttx_page.specs.Memories.{Memory, IsMemory, memory_row}
 use Rattle.ttx_page.specs.Receivers.{stored_row, with_row, with_storing, with_links, older, erased, begun, after}
 use Rattle.ttx_links.specs.Sets.{LinkSet}
 
-length-stored_row : (row bytes : List ℕ) → length (stored_row row bytes) ≡ length row
+pub length-stored_row : (row bytes : List ℕ) → length (stored_row row bytes) ≡ length row
 length-stored_row [] bytes = refl
 length-stored_row (c ∷ row) [] = refl
 length-stored_row (c ∷ row) (b ∷ bytes) = ap suc (length-stored_row row bytes)

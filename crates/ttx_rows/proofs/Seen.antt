@@ -1,5 +1,6 @@
 -- What is accepted is seen by receivers that take rows whole or not at all.
-use Rattle.std.proofs.Common.{◌≡◌, ℕ, ◌≤◌, ℤ, pos, ◌+ℤ◌, ◌≤ℤ◌, true, false, List, length, sym, subst, arith}
+use Rattle.std.proofs.Common.{◌≡◌, ℕ, ◌<◌, ◌≤◌, ℤ, pos, ◌+ℤ◌, ◌≤ℤ◌, ◌||◌, Bool, true, false, List, length, refl, sym, subst, inl, inr, arith}
+use Rattle.std.proofs.lemmas.Bool.{cases_Bool}
 use Rattle.std.proofs.lemmas.Int.{ints}
 use Rattle.ttx_code.specs.Laws.{OddBytesHoldTheirCodes}
 use Rattle.ttx_packet.specs.Slots.{IsSlot, is_clean}
@@ -7,6 +8,7 @@ use Rattle.ttx_packet.specs.Laws.{RowsAreNumbered}
 use Rattle.ttx_page.specs.Pages.{Page, IsPage, matches, needed}
 use Rattle.ttx_page.specs.declared.selection.Selection.{Selection}
 use Rattle.ttx_page.specs.declared.item.Item.{Item}
+use Rattle.ttx_page.specs.declared.item.Item.TheVariants.{Head as TheHead}
 use Rattle.ttx_page.specs.declared.class.Class.{Class}
 use Rattle.ttx_page.specs.Memories.{Memory, IsFormer}
 use Rattle.ttx_page.specs.Streams.{Stream, repeated}
@@ -14,13 +16,14 @@ use Rattle.ttx_page.specs.Receptions.{Received}
 use Rattle.ttx_cycle.specs.Files.{IsCycle}
 use Rattle.ttx_witness.specs.Coverage.{Certificate, IsCertificate, limit}
 use Rattle.ttx_receiver.specs.Laws.{IsSteadyFrom, IsBrought}
+use Rattle.ttx_render.specs.Laws.{ShowingIsSeeing}
 use Rattle.ttx_certify.specs.Seen.{HasView}
 use Rattle.ttx_certify.specs.Laws.{ArePages, RunsAreSeen}
 use Rattle.ttx_certify.proofs.AcceptedIsSeen.{StreamLaws, fits_matches, steady_from, brought}
 use Rattle.ttx_late.specs.Laws.{IsFollowedFrom, RunsAreShown}
 use Rattle.ttx_late.specs.LateReceivers.{LateMemory}
-use Rattle.ttx_rows.specs.RowReceptions.{ReceivedByRows, HeadsArrive}
-use Rattle.ttx_rows.specs.RowReceivers.{Manner, plain, RowRun, RowLateRun}
+use Rattle.ttx_rows.specs.RowReceptions.{NoRowIsTorn, ReceivedByRows, HeadsArrive}
+use Rattle.ttx_rows.specs.RowReceivers.{Manner, plain, spoils_heads, RowRun, RowLateRun}
 use Rattle.ttx_rows.specs.SeenByRows.{HasViewBelowHead}
 use Rattle.ttx_rows.specs.Laws.{RowRunsAreSeen, RowRunsAreShown, AcceptedIsSeenByRows}
 use Rattle.ttx_rows.specs.Laws.{AcceptedIsShownByRows, SeenByRowsIsSeen, SeenLateByRowsIsSeenLate}
@@ -32,11 +35,15 @@ use Rattle.ttx_certify.specs.declared.verdict.Verdict.{Verdict}
 use Rattle.ttx_certify.specs.declared.verdict.Verdict.TheVariants as certify
 use Rattle.ttx_rows.specs.RowVerdicts.{MeansByRows, MeansLateByRows}
 use Rattle.ttx_rows.proofs.OneSlot.{LawsBelow}
-use Rattle.ttx_rows.proofs.OtherStream.{MayDiffer, HaveSameTests, same_tests, moved_steady, moved_brought, moved_followed}
+use Rattle.ttx_rows.proofs.OtherStream.{MayDiffer, HaveSameTests, same_texts, same_tests, kept_steady, moved_steady, moved_brought, moved_followed}
 use Rattle.ttx_rows.proofs.ManySlots.{received_is_by_rows, runs_are_row_runs, late_row_run, mag_is, head_bytes}
-use Rattle.ttx_rows.proofs.ManySlots.{AreHeard, AllGiven, all_given, heard_run, heard_late}
+use Rattle.ttx_rows.proofs.ManySlots.{AreHeard, AllGiven, all_given, odd_text, heard_run, heard_late}
 use Rattle.ttx_rows.proofs.ManySlots.{other, other_differs, other_good, other_received}
-use Rattle.ttx_rows.proofs.Alike.{alike_self, alike_view}
+use Rattle.ttx_rows.proofs.Alike.{alike_self, alike_below, alike_view}
+use Rattle.ttx_rows.proofs.SameHeads.{same_view}
+use Rattle.ttx_rows.proofs.Storing.{unstored}
+use Rattle.ttx_rows.proofs.StoredRuns.{AllPlaced, AreReread, Like, LateLike, like_self, stored_run, stored_late, free_rows, needed_row}
+use Rattle.ttx_rows.proofs.StoredRuns.{sends_stream, Differs, may_differ, differs_row, differs_free, new_good, came_rule, came_heads}
 use Rattle.ttx_rows.proofs.Mended.{AllArrived, mended_run, mended_late, mended_rule, mended_text}
 
 -- the laws that are cited
@@ -44,10 +51,11 @@ pub record LawsOfRows : Type 0 where
   pub below : LawsBelow
   pub numbered : RowsAreNumbered
   pub codes : OddBytesHoldTheirCodes
+  pub sees : ShowingIsSeeing
 
 module _ (laws : LawsOfRows) (s : Stream) (p : Page) (sel : Selection) (class : Class) (lines repeat : ℕ) (begin end : ℤ) (page : IsPage p)
     (few : lines ≤ 32) (some : 1 ≤ repeat) (fits : matches sel p.id ≡ true) (steady : IsSteadyFrom s p sel begin)
-    (brings : (item : Item) → needed p item ≡ true → IsBrought s p class lines repeat item begin end) (how : Manner) where
+    (brings : (item : Item) → needed p item ≡ true → IsBrought s p class lines repeat item begin end) (how : Manner) (off : how.stores ≡ false) where
   slots_are : (j : ℤ) → begin ≤ℤ j → IsSlot (s j) × (is_clean (s j) ≡ true)
   slots_are j low = (steady.slots j low, steady.clean j low)
 
@@ -62,7 +70,7 @@ module _ (laws : LawsOfRows) (s : Stream) (p : Page) (sel : Selection) (class : 
     text = head_bytes how.spaces s p.id repeat begin received some heads
 
     given : AllGiven how sel p.id s begin received
-    given = all_given laws.codes s p sel repeat begin page steady how received rule heads
+    given = all_given laws.codes s p sel repeat begin page steady how off received rule heads
 
     module _ (heard : List (List ℕ)) (size : length heard ≡ length received) (are : AreHeard how.refuses p.id s begin received heard) where
       abbrev sends : Stream
@@ -109,9 +117,9 @@ module _ (laws : LawsOfRows) (s : Stream) (p : Page) (sel : Selection) (class : 
       HasViewBelowHead p m × (HeadsArrive how.spaces s p.id repeat begin received → HasView p m)
   both_seen runs received rule former m is_former run long =
       let arrived = all_arrived received rule in
-      let h = mended_run laws.below class lines sel p.id how s received begin arrived former former m (alike_self former) run in
-      let right = mended_rule how laws.below p s begin repeat some received h.mended h.size arrived rule h.are in
-      let text = mended_text how laws.below p s begin repeat some received h.mended h.size arrived rule h.are how.spaces in (
+      let h = mended_run laws.below class lines sel p.id how off s received begin arrived former former m (alike_self former) run in
+      let right = mended_rule how off laws.below p s begin repeat some received h.mended h.size arrived rule h.are in
+      let text = mended_text how off laws.below p s begin repeat some received h.mended h.size arrived rule h.are how.spaces in (
         alike_view m h.left h.alike p
             (seen h.mended right text runs former h.left is_former h.run (subst (λ n. end ≤ℤ (begin +ℤ pos n)) (sym h.size) long)),
         λ heads. seen received rule heads runs former m is_former run long,
@@ -123,25 +131,135 @@ module _ (laws : LawsOfRows) (s : Stream) (p : Page) (sel : Selection) (class : 
       HasViewBelowHead p d.shown × (HeadsArrive how.spaces s p.id repeat begin received → HasView p d.shown)
   both_shown runs gap followed received rule former d is_former run long =
       let arrived = all_arrived received rule in
-      let h = mended_late laws.below class lines sel p.id how s received begin arrived former former d
+      let h = mended_late laws.below class lines sel p.id how off s received begin arrived former former d
       (alike_self former.gathered, alike_self former.shown) run in
-      let right = mended_rule how laws.below p s begin repeat some received h.mended h.size arrived rule h.are in
-      let text = mended_text how laws.below p s begin repeat some received h.mended h.size arrived rule h.are how.spaces in (
+      let right = mended_rule how off laws.below p s begin repeat some received h.mended h.size arrived rule h.are in
+      let text = mended_text how off laws.below p s begin repeat some received h.mended h.size arrived rule h.are how.spaces in (
         alike_view d.shown h.left.shown h.alike.1 p
             (shown h.mended right text runs gap followed former h.left is_former h.run
             (subst (λ n. (end +ℤ pos gap) ≤ℤ (begin +ℤ pos n)) (sym h.size) long)),
         λ heads. shown received rule heads runs gap followed former d is_former run long,
       )
 
+-- ---- receivers that store characters as they come
+
+spoiled : (spaces stores : Bool) → stores ≡ true → (spaces || stores) ≡ true
+spoiled true stores on = refl
+spoiled false stores on = on
+
+unspoiled : (spaces stores : Bool) → stores ≡ false → (spaces || stores) ≡ spaces
+unspoiled true stores off = refl
+unspoiled false stores off = off
+
+module _ (laws : LawsOfRows) (s : Stream) (p : Page) (sel : Selection) (class : Class) (lines repeat : ℕ) (begin end : ℤ) (page : IsPage p)
+    (few : lines ≤ 32) (some : 1 ≤ repeat) (fits : matches sel p.id ≡ true) (steady : IsSteadyFrom s p sel begin)
+    (brings : (item : Item) → needed p item ≡ true → IsBrought s p class lines repeat item begin end) (how : Manner) (on : how.stores ≡ true)
+    (received : List (List ℕ)) (rule : ReceivedByRows how s p repeat begin received) where
+  -- the condition of row 0
+  abbrev Heads : Type 0
+  Heads = HeadsArrive true s p.id repeat begin received
+
+  placed : AllPlaced Heads sel p.id (free_rows p s begin) s begin received
+  placed n lt =
+      let low : begin ≤ℤ (begin +ℤ pos n) = omega (arith, ints) in
+      record {
+        slot = steady.slots _ low;
+        clean = steady.clean _ low;
+        arrives = rule.each n lt;
+        untorn = λ mag number kind none.
+            let row = needed_row p s begin (begin +ℤ pos n) mag number kind none in
+            untorn number row.needs n lt row.sent;
+        text = λ heads matched x text.
+            let mine = steady.selected _ low matched in
+            (heads n lt mine x text, odd_text laws.codes p page (s (begin +ℤ pos n)) (steady.items TheHead tt _ _ low (refl, mine)) x text);
+      }
+    where
+      untorn : NoRowIsTorn true s p begin received
+      untorn = subst (λ stores. NoRowIsTorn stores s p begin received) on rule.untorn
+
+  module _ (sends came : List (List ℕ)) (send_size : length sends ≡ length received) (size : length came ≡ length received)
+      (are : AreReread (free_rows p s begin) s begin received sends came) where
+    abbrev other_stream : Stream
+    other_stream = sends_stream s begin sends
+
+    other_tests : HaveSameTests s other_stream
+    other_tests = same_texts s other_stream (Differs p s begin received sends came send_size size are)
+        (differs_row p s begin received sends came send_size size are) (may_differ p s begin received sends came send_size size are)
+
+    other_steady : IsSteadyFrom other_stream p sel begin
+    other_steady = kept_steady p s other_stream sel begin (Differs p s begin received sends came send_size size are) other_tests
+        (may_differ p s begin received sends came send_size size are) (differs_free p s begin received sends came send_size size are)
+        (new_good p s begin received sends came send_size size are (λ j low. (steady.slots j low, steady.clean j low))) steady
+
+    other_brings : (item : Item) → needed p item ≡ true → IsBrought other_stream p class lines repeat item begin end
+    other_brings item need = moved_brought s other_stream other_tests p class lines repeat item begin end (brings item need)
+
+    other_rule : ReceivedByRows (unstored how) other_stream p repeat begin came
+    other_rule = came_rule p s begin received sends came send_size size are laws.below other_tests how repeat rule
+
+    other_heads : (spaces : Bool) → Heads → HeadsArrive spaces other_stream p.id repeat begin came
+    other_heads true heads = came_heads p s begin received sends came send_size size are laws.below other_tests how repeat rule heads
+    other_heads false heads = head_bytes true other_stream p.id repeat begin came some
+        (came_heads p s begin received sends came send_size size are laws.below other_tests how repeat rule heads)
+
+  stored_seen : RunsAreSeen → (former m : Memory) → IsFormer class former → RowRun how class lines sel former received m →
+      end ≤ℤ (begin +ℤ pos (length received)) → HasViewBelowHead p m × (Heads → HasView p m)
+  stored_seen runs former m is_former run long =
+      let h = stored_run Heads laws.below laws.numbered class lines sel p how (free_rows p s begin) s received begin placed former former m
+      (like_self Heads former) run in
+      let seen_left = both_seen laws (other_stream h.sends h.came h.send_size h.size h.are) p sel class lines repeat begin end page few some fits
+      (other_steady h.sends h.came h.send_size h.size h.are) (other_brings h.sends h.came h.send_size h.size h.are) (unstored how) refl runs h.came
+      (other_rule h.sends h.came h.send_size h.size h.are) former h.left is_former h.run
+      (subst (λ n. end ≤ℤ (begin +ℤ pos n)) (sym h.size) long) in (
+        alike_below m h.left h.like.0 p seen_left.0,
+        λ heads. same_view laws.sees p m h.left h.like.0 (h.like.1 heads)
+            (seen_left.1 (other_heads h.sends h.came h.send_size h.size h.are how.spaces heads)),
+      )
+
+  stored_shown : RunsAreShown → (gap : ℕ) → IsFollowedFrom s p.id gap begin → (former d : LateMemory) → IsFormer class former.gathered →
+      RowLateRun how class lines sel former received d → (end +ℤ pos gap) ≤ℤ (begin +ℤ pos (length received)) →
+      HasViewBelowHead p d.shown × (Heads → HasView p d.shown)
+  stored_shown runs gap followed former d is_former run long =
+      let h = stored_late Heads laws.below laws.numbered class lines sel p how (free_rows p s begin) s received begin placed former former d
+      (like_self Heads former.gathered, like_self Heads former.shown) run in
+      let seen_left = both_shown laws (other_stream h.sends h.came h.send_size h.size h.are) p sel class lines repeat begin end page few some fits
+      (other_steady h.sends h.came h.send_size h.size h.are) (other_brings h.sends h.came h.send_size h.size h.are) (unstored how) refl runs gap
+      (moved_followed s (other_stream h.sends h.came h.send_size h.size h.are) (other_tests h.sends h.came h.send_size h.size h.are) p gap begin followed)
+      h.came (other_rule h.sends h.came h.send_size h.size h.are) former h.left is_former h.run
+      (subst (λ n. (end +ℤ pos gap) ≤ℤ (begin +ℤ pos n)) (sym h.size) long) in (
+        alike_below d.shown h.left.shown h.like.1.0 p seen_left.0,
+        λ heads. same_view laws.sees p d.shown h.left.shown h.like.1.0 (h.like.1.1 heads)
+            (seen_left.1 (other_heads h.sends h.came h.send_size h.size h.are how.spaces heads)),
+      )
+
 pub row_runs_are_seen : LawsOfRows → RunsAreSeen → RowRunsAreSeen
 row_runs_are_seen laws runs s p sel class lines repeat begin end page few some fits steady brings how former m received is_former rule run long =
-    both_seen laws s p sel class lines repeat begin end page few some fits steady brings how runs received rule former m is_former run long
+    elim (cases_Bool how.stores) as
+    (λ _. HasViewBelowHead p m × (HeadsArrive (spoils_heads how) s p.id repeat begin received → HasView p m)) [
+      | inl on ↦
+          let r = stored_seen laws s p sel class lines repeat begin end page few some fits steady brings how on received rule runs former m is_former
+          run long in
+          (r.0, λ heads. r.1 (subst (λ b. HeadsArrive b s p.id repeat begin received) (spoiled how.spaces how.stores on) heads))
+      | inr off ↦
+          let r = both_seen laws s p sel class lines repeat begin end page few some fits steady brings how off runs received rule former m is_former
+          run long in
+          (r.0, λ heads. r.1 (subst (λ b. HeadsArrive b s p.id repeat begin received) (unspoiled how.spaces how.stores off) heads))
+    ]
 
 pub row_runs_are_shown : LawsOfRows → RunsAreShown → RowRunsAreShown
 row_runs_are_shown laws runs s p sel class lines repeat begin end page few some fits steady brings gap followed how former d received is_former
     rule run long =
-    both_shown laws s p sel class lines repeat begin end page few some fits steady brings how runs gap followed received rule former d is_former
-    run long
+    elim (cases_Bool how.stores) as
+    (λ _. HasViewBelowHead p d.shown × (HeadsArrive (spoils_heads how) s p.id repeat begin received → HasView p d.shown)) [
+      | inl on ↦
+          let r = stored_shown laws s p sel class lines repeat begin end page few some fits steady brings how on received rule runs gap followed
+          former d is_former run long in
+          (r.0, λ heads. r.1 (subst (λ b. HeadsArrive b s p.id repeat begin received) (spoiled how.spaces how.stores on) heads))
+      | inr off ↦
+          let r = both_shown laws s p sel class lines repeat begin end page few some fits steady brings how off runs gap followed received rule
+          former d is_former run long in
+          (r.0, λ heads. r.1 (subst (λ b. HeadsArrive b s p.id repeat begin received) (unspoiled how.spaces how.stores off) heads))
+    ]
 
 pub accepted_is_seen_by_rows : RowRunsAreSeen → StreamLaws → AcceptedIsSeenByRows
 accepted_is_seen_by_rows runs laws cycle pages w is_cycle are_pages is_certificate accepts n p here = record {
