@@ -6,6 +6,7 @@ mod TwoInputs
 mod FreshUntilHeader
 mod SameInputs
 mod PlannedFiles
+mod PlanOfText
 mod TooLong
 mod ThreeInputs
 mod ServiceIds
