@@ -1,4 +1,4 @@
--- What a true disjunction or implication leaves.
+-- What follows from a true disjunction or implication.
 use Rattle.std.proofs.Common.{◌≡◌, Bool, true, false, not, ◌||◌}
 
 pub implied : (a b : Bool) → (not a || b) ≡ true → a ≡ true → b ≡ true

@@ -1,4 +1,4 @@
--- From lanes that were computed from bytes to the test of each byte.
+-- From lanes computed from bytes to the test of each byte.
 use Rattle.std.proofs.Common.{◌≡◌, ℕ, ◌+◌, ◌%◌, ◌^◌, Bool, true, cond, eqb, ◌*◌, not, ◌&&◌, false, List, [], ◌∷◌, map, length, Fits, w8, refl, ap}
 use Rattle.std.proofs.Common.{ap₂, ◌∙◌, arith}
 use Rattle.std.proofs.lemmas.Bool.{agree_below, agree_below_at, eqb-true}
@@ -23,7 +23,7 @@ same_maps f g (x ∷ xs) e fits =
     ap₂ (λ (a : ℕ) (r : List ℕ). a ∷ r) (eqb-true _ _ (agree_below_at (λ x. eqb (f x) (g x)) (λ _. true) 256 x e fits.0.fits))
     (same_maps f g xs e fits.1)
 
--- the mask of the lanes that were computed from the bytes
+-- the mask of lanes that were computed from the bytes
 pub mask_from_lanes : (z : List ℕ) (f : ℕ → ℕ) (q : ℕ → Bool) (v : List ℕ) → length v ≡ 32 → Each1 (Fits w8) v
     → z ≡ map f v → agree_below (λ x. top 7 (f x)) q 256 ≡ true → mask_l (map (top 7) z) % 2 ^ 64 ≡ mask_l (map q v)
 mask_from_lanes z f q v long fits lanes same =

@@ -1,4 +1,4 @@
--- The tables of words and numbers hold what the definitions say, computed over all their entries.
+-- The tables of code words and numbers hold what the definitions say. Computed over all their entries.
 use Rattle.std.proofs.Common.{◌≡◌, ℕ, ◌<◌, ◌≤◌, Bool, true, refl, leb, eqb, get_or, arith, sym, ◌∙◌, ap, ◌&&◌, ltb, Option, Some, None, ◌||◌, not}
 use Rattle.std.proofs.Common.{false, inl, inr, subst}
 use Rattle.std.proofs.lemmas.Bool.{cases_lt, agree_below, agree_below_at, eqb-true, eq-eqb, leb-true, le-leb, ltb-true, and_parts}
@@ -13,7 +13,7 @@ pub word_at : (n : ℕ) → n < 16 → get_or WORDS n 0 ≡ hamming_word n
 unfolding hamming_word
 word_at n l = eqb-true _ _ (agree_below_at (λ n. eqb (get_or WORDS n 0) (hamming_word n)) (λ _. true) 16 n refl l)
 
--- each byte is at most one bit from the word of exactly the number that the table has for it
+-- each byte is at most one bit from the code word of exactly the number that the table gives for it
 pub near : ℕ → ℕ → Bool
 near b n = leb (distance b (hamming_word n)) 1
 
@@ -28,11 +28,11 @@ pub near_exactly : (b n : ℕ) → b < 256 → n < 16 → leb (distance b (hammi
 unfolding near agrees
 near_exactly b n lb ln = agree_below_at (near b) (λ n. eqb (get_or NUMBERS b 0) n) 16 n (agree_below_at agrees (λ _. true) 256 b all_agree lb) ln
 
--- what a byte reads as is the table's number
+-- a byte reads as the number in the table
 pub number_from_Reads : (b n : ℕ) → b < 256 → Reads b n → get_or NUMBERS b 0 ≡ n
 number_from_Reads b n lb r = eqb-true _ _ (sym (near_exactly b n lb r.number) ∙ le-leb _ _ r.near)
 
--- a byte reads as the table's number, where that is one
+-- a byte reads as the number in the table, if that is one
 pub Reads-at_number : (b n : ℕ) → b < 256 → n < 16 → get_or NUMBERS b 0 ≡ n → Reads b n
 Reads-at_number b n lb ln e = record { number = ln; near = leb-true _ _ (near_exactly b n lb ln ∙ eq-eqb _ _ e) }
 
@@ -59,7 +59,7 @@ reading_by_table b t l e = from_same_reading (reading b) t
     (ap (same_reading (reading b)) (sym e)
     ∙ agree_below_at (λ b. same_reading (reading b) (get_or NUMBERS b 0)) (λ _. true) 256 b readings l)
 
--- ---- words
+---- code words
 
 pub near_itself : agree_below (λ n. leb (distance (hamming_word n) (hamming_word n)) 1) (λ _. true) 16 ≡ true
 unfolding ones distance hamming_word
@@ -72,11 +72,11 @@ Reads-word b n l e = record {
       (leb-true _ _ (agree_below_at (λ n. leb (distance (hamming_word n) (hamming_word n)) 1) (λ _. true) 16 n near_itself l));
 }
 
--- a byte is read as one number at most
+-- a byte reads as at most one number
 pub Reads-one : (b m n : ℕ) → b < 256 → Reads b m → Reads b n → m ≡ n
 Reads-one b m n l r s = sym (number_from_Reads b m l r) ∙ number_from_Reads b n l s
 
--- ---- readings and words
+---- readings and code words
 
 pub reading-from_Reads : (b n : ℕ) → b < 256 → Reads b n → reading b ≡ Some n
 reading-from_Reads b n l r = sym ((reading_by_table b n l (number_from_Reads b n l r)).0 r.number)
@@ -88,7 +88,7 @@ words_are_bytes = refl
 pub hamming_word-lt : (n : ℕ) → n < 16 → hamming_word n < 256
 hamming_word-lt n l = ltb-true _ _ (agree_below_at (λ n. ltb (hamming_word n) 256) (λ _. true) 16 n words_are_bytes l)
 
--- a word is read as its number
+-- a code word reads as its number
 pub reading-word : (n : ℕ) → n < 16 → reading (hamming_word n) ≡ Some n
 reading-word n l = reading-from_Reads (hamming_word n) n (hamming_word-lt n l) (Reads-word (hamming_word n) n l refl)
 

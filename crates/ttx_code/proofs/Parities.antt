@@ -13,7 +13,7 @@ use Rattle.ttx_code.specs.Words.{ones, distance, IsOdd, is_odd, odd_byte}
 use Rattle.ttx_code.specs.Laws.{OddBytesUnderOneWrongBit, OddBytesHoldTheirCodes}
 use Rattle.ttx_code.specs.declared.parity.TheConstants.{ODD_BYTES}
 
--- the library counts ones as the definition does
+-- the standard library counts the ones as the definition does
 pub ones_agree : agree_below (λ b. eqb (count_ones b) (ones b)) (λ _. true) 256 ≡ true
 unfolding ones count_ones ones_in
 ones_agree = refl

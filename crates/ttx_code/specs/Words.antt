@@ -1,11 +1,11 @@
 -- The two codes of teletext bytes: odd parity (EN 300 706, 8.1) and Hamming 8/4 (8.2). Bit 0 is the lowest.
 --
---   ones, distance          how many bits are 1, and in how many two bytes differ
+--   ones, distance              how many bits of a byte are 1, and in how many bits two bytes differ
 --   IsOdd, odd_byte, stored     odd parity: the test, the byte of a character, what a received byte leaves in memory
---   hamming_word            the code word of a number below 16
---   Reads, reading          what a byte reads as, as a relation and as a function
---   IsWord, is_word         the code words themselves
---   Near                    at most one wrong bit
+--   hamming_word                the code word of a number below 16
+--   Reads, reading              the number that a byte reads as, as a relation and as a function
+--   IsWord, is_word             the code words themselves
+--   Near                        at most one wrong bit
 use Rattle.std.specs.Prelude.{◌≡◌, ℕ, ◌+◌, ◌*◌, ◌/◌, ◌%◌, ◌^◌, ◌<◌, ◌≤◌, bit_xor, List, [], ◌∷◌, Bool, nat_le, ◌==◌, Option, if◌then◌else◌, unwrap_or}
 use Rattle.std.specs.List.{find}
 
@@ -21,7 +21,7 @@ ones b = bit b 0 + bit b 1 + bit b 2 + bit b 3 + bit b 4 + bit b 5 + bit b 6 + b
 unfoldable pub distance : ℕ → ℕ → ℕ
 distance a b = ones (bit_xor a b)
 
--- at most one bit of the sent byte is wrong as it is received
+-- the byte is received with at most one wrong bit
 abbrev pub Near : ℕ → ℕ → Type 0
 Near sent received = distance sent received ≤ 1
 
@@ -36,11 +36,11 @@ is_odd b = ones b % 2 == 1
 abbrev pub odd_byte : ℕ → ℕ
 odd_byte c = if is_odd c then c else c + 128
 
--- the character that is held once a byte is received where one was held before: a byte of even parity leaves it
+-- the character in memory after a byte is received where `former` was stored: a byte of even parity does not change it
 abbrev pub stored : ℕ → ℕ → ℕ
 stored b former = if is_odd b then b % 128 else former
 
--- the Hamming 8/4 word of a number below 16 (8.2): bits 0 to 7 are P1 D1 P2 D2 P3 D3 P4 D4
+-- the Hamming 8/4 code word of a number below 16 (8.2): bits 0 to 7 are P1 D1 P2 D2 P3 D3 P4 D4
 unfoldable pub hamming_word : ℕ → ℕ
 hamming_word n =
     let d1 : ℕ = bit n 0 in
@@ -53,7 +53,7 @@ hamming_word n =
     let p4 : ℕ = (1 + p1 + d1 + p2 + d2 + p3 + d3 + d4) % 2 in
     p1 + 2 * d1 + 4 * p2 + 8 * d2 + 16 * p3 + 32 * d3 + 64 * p4 + 128 * d4
 
--- a byte reads as n where it differs from the word of n in at most one bit
+-- a byte reads as n if it differs from the code word of n in at most one bit
 pub record Reads (b n : ℕ) : Type 0 where
   pub number : n < 16
   pub near : distance b (hamming_word n) ≤ 1
@@ -62,15 +62,15 @@ pub record Reads (b n : ℕ) : Type 0 where
 abbrev pub numbers : List ℕ
 numbers = 0 ∷ 1 ∷ 2 ∷ 3 ∷ 4 ∷ 5 ∷ 6 ∷ 7 ∷ 8 ∷ 9 ∷ 10 ∷ 11 ∷ 12 ∷ 13 ∷ 14 ∷ 15 ∷ []
 
--- the number that a byte reads as; None where the byte is unreadable
+-- the number that a byte reads as; None if the byte is unreadable
 unfoldable pub reading : ℕ → Option ℕ
 reading b = find (λ n. nat_le (distance b (hamming_word n)) 1) numbers
 
--- the number that a byte reads as, and 0 where it is unreadable
+-- the number that a byte reads as, or 0 if the byte is unreadable
 abbrev pub number_of : ℕ → ℕ
 number_of b = unwrap_or (reading b) 0
 
--- a byte that is the word of some number
+-- a byte that is the code word of some number
 abbrev pub IsWord : ℕ → Type 0
 IsWord b = (n : ℕ) × (n < 16) × (b ≡ hamming_word n)
 

@@ -1,14 +1,14 @@
-//! The Hamming 8/4 code (EN 300 706, 8.2): four bits in a byte, of which one may be received wrong.
+//! The Hamming 8/4 code (EN 300 706, 8.2): four bits in a byte. One wrong bit in the byte is corrected.
 
 ghost use Rattle.std.specs.Prelude.{◌≡◌, ℕ, ◌<◌, ◌↔◌, IsTrue, MatchOption};
 ghost use Rattle.ttx_code.specs.Words.{hamming_word, Reads, IsWord, is_word, reading};
 
-// The code word of each number.
+// The code word of each number from 0 to 15.
 static WORDS: [u8; 16] = [
     0x15, 0x02, 0x49, 0x5e, 0x64, 0x73, 0x38, 0x2f, 0xd0, 0xc7, 0x8c, 0x9b, 0xa1, 0xb6, 0xfd, 0xea,
 ];
 
-// The number that each byte reads as, and 16 where it is unreadable.
+// The number that each byte reads as; 16 marks an unreadable byte.
 #[rattlefmt::skip]
 static NUMBERS: [u8; 256] = [
      1, 16,  1,  1, 16,  0,  1, 16, 16,  2,  1, 16, 10, 16, 16,  7,
@@ -29,7 +29,7 @@ static NUMBERS: [u8; 256] = [
      8, 16, 16,  5, 16, 14, 13, 16, 16, 14, 15, 16, 14, 14, 16, 14,
 ];
 
-/// The code word of a number below 16.
+/// The Hamming 8/4 code word of a number below 16.
 pub fn ham(n: u8) -> u8
     requires { n < 16 }
     ensures { result ≡ hamming_word n }
@@ -37,8 +37,8 @@ pub fn ham(n: u8) -> u8
     WORDS[usize::from(n)]
 }
 
-/// The number whose code word differs from the byte in at most one bit. Any two code words differ in at least four
-/// bits, so there is one such number or none, and `None` says that at least two bits are wrong.
+/// Decodes a byte: the number, 0 to 15, whose code word differs from the byte in at most one bit. Any two code words
+/// differ in at least four bits, so at most one number fits. `None` means that at least two bits are wrong.
 pub fn unham(b: u8) -> Option<u8>
     ensures near { MatchOption result ((n : ℕ) → Reads b n → ⊥) (λ n. Reads b n) }
     ensures value { result ≡ reading b }
@@ -47,7 +47,7 @@ pub fn unham(b: u8) -> Option<u8>
     if n < 16 { Some(n) } else { None }
 }
 
-/// Whether the byte is a code word: each of its bits is right.
+/// Whether the byte is a code word, that is, none of its bits is wrong.
 pub fn is_word(b: u8) -> bool
     ensures word { IsTrue result ↔ IsWord b }
     ensures value { result ≡ is_word b }

@@ -1,4 +1,4 @@
-//! Odd parity of 32 bytes at once.
+//! Odd parity, 32 bytes at once.
 
 ghost use Rattle.std.specs.Prelude.{◌≡◌, ◌%◌, length, map, not};
 ghost use Rattle.std.specs.List.{list_all};
@@ -7,7 +7,7 @@ ghost use Rattle.ttx_code.specs.Words.{ones, is_odd, stored};
 
 use std::simd::prelude::*;
 
-// The parity of each of 32 bytes: the halves of its bits are put together, then the quarters, then the eighths.
+// The parity of each of 32 bytes. Each step folds the bits of a byte: to four, to two, to one.
 fn parities(bytes: &[u8]) -> u8x32
     requires { length bytes.now ≡ 32 }
     ensures { result ≡ map (λ b. ones b % 2) bytes.now }
@@ -19,7 +19,7 @@ fn parities(bytes: &[u8]) -> u8x32
     eighths & u8x32::splat(1)
 }
 
-// A bit for each of 32 bytes, which is 1 where the byte is of even parity.
+// One bit for each of 32 bytes: 1 if the byte has even parity.
 fn even_mask(bytes: &[u8]) -> u64
     requires { length bytes.now ≡ 32 }
     ensures { result ≡ mask_l (map (λ b. not (is_odd b)) bytes.now) }
@@ -27,7 +27,7 @@ fn even_mask(bytes: &[u8]) -> u64
     parities(bytes).simd_eq(u8x32::splat(0)).to_bitmask()
 }
 
-// Whether each of 32 bytes is of odd parity.
+// Whether all 32 bytes have odd parity.
 pub(crate) fn all_odd(bytes: &[u8]) -> bool
     requires { length bytes.now ≡ 32 }
     ensures { result ≡ list_all is_odd bytes.now }
@@ -35,7 +35,7 @@ pub(crate) fn all_odd(bytes: &[u8]) -> bool
     even_mask(bytes) == 0
 }
 
-// Writes the character of each of 32 bytes that is of odd parity, and leaves the places of the others as they are.
+// Stores the character of each of the 32 bytes that has odd parity, and leaves the places of the others unchanged.
 pub(crate) fn strip(bytes: &[u8], codes: &mut [u8])
     requires bytes { length bytes.now ≡ 32 }
     requires codes { length codes.old ≡ 32 }

@@ -1,49 +1,49 @@
-//! Laws of the codes. A call costs nothing and gives the caller's proof the law.
+//! Laws of the codes. Calling one does nothing at run time; it gives the caller's proof the law.
 
 ghost use Rattle.ttx_code.specs.Laws.{OneWrongBitIsCorrected, WordsAreRead, WordsAreBytes, WordsAreWords, WordsHaveNumbers, ReadingsAreNumbers};
 ghost use Rattle.ttx_code.specs.Laws.{WordsAreReadUnderOneWrongBit, OddBytesUnderOneWrongBit, OddBytesHoldTheirCodes, EachByteIsNearItself};
 
-/// A byte at most one bit from the word of a number reads as this number, and as no other.
+/// A byte that differs in at most one bit from the code word of a number reads as this number, and as no other.
 pub fn one_wrong_bit_is_corrected()
     ensures { OneWrongBitIsCorrected }
 {}
 
-/// Each word reads as its number.
+/// Each code word reads as its number.
 pub fn words_are_read()
     ensures { WordsAreRead }
 {}
 
-/// Each word is below 256.
+/// Each code word is below 256.
 pub fn words_are_bytes()
     ensures { WordsAreBytes }
 {}
 
-/// Each word passes the test for code words.
+/// Each code word passes the test for code words.
 pub fn words_are_words()
     ensures { WordsAreWords }
 {}
 
-/// A byte that passes the test for code words is the word of the number that it reads as.
+/// A byte that passes the test for code words is the code word of the number that it reads as.
 pub fn words_have_numbers()
     ensures { WordsHaveNumbers }
 {}
 
-/// What a byte reads as is below 16.
+/// The number that a byte reads as is below 16.
 pub fn readings_are_numbers()
     ensures { ReadingsAreNumbers }
 {}
 
-/// What is received of a code word with at most one wrong bit reads as the code word does.
+/// A code word that is received with at most one wrong bit reads as it was sent.
 pub fn words_are_read_under_one_wrong_bit()
     ensures { WordsAreReadUnderOneWrongBit }
 {}
 
-/// What is received of a byte of odd parity with at most one wrong bit is the byte itself or is of even parity.
+/// A byte of odd parity that is received with at most one wrong bit is the byte sent, or has even parity.
 pub fn odd_bytes_under_one_wrong_bit()
     ensures { OddBytesUnderOneWrongBit }
 {}
 
-/// The byte of a character is of odd parity and holds the character.
+/// The byte of a character has odd parity and holds the character.
 pub fn odd_bytes_hold_their_codes()
     ensures { OddBytesHoldTheirCodes }
 {}

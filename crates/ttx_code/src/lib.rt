@@ -1,4 +1,4 @@
-//! The two codes of teletext bytes: odd parity for characters, Hamming 8/4 for all else.
+//! The two codes of teletext bytes: odd parity for characters, Hamming 8/4 for everything else.
 #![tactic(auto)]
 
 mod hamming;

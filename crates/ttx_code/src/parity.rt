@@ -19,7 +19,7 @@ static ODD_BYTES: [u8; 128] = [
     112, 241, 242, 115, 244, 117, 118, 247, 248, 121, 122, 251, 124, 253, 254, 127,
 ];
 
-/// The byte that sends a character below 128: the character in bits 0 to 6, and bit 7 makes the parity odd.
+/// The byte that sends a character below 128: bits 0 to 6 hold the character, and bit 7 makes the parity odd.
 pub fn odd(c: u8) -> u8
     requires { c < 128 }
     ensures { result ≡ odd_byte c }
@@ -27,7 +27,7 @@ pub fn odd(c: u8) -> u8
     ODD_BYTES[usize::from(c)]
 }
 
-/// The character that the byte sends; `None` where its parity is even.
+/// The character that the byte sends; `None` if its parity is even.
 pub fn odd_of(b: u8) -> Option<u8>
     ensures { SomeIff result (IsOdd b) (b % 128) }
 {
@@ -38,16 +38,16 @@ pub fn odd_of(b: u8) -> Option<u8>
     }
 }
 
-/// Whether each of the 40 bytes is of odd parity.
+/// Whether all 40 bytes have odd parity.
 pub fn all_odd(bytes: &[u8; 40]) -> bool
     ensures { IsTrue result ↔ All IsOdd bytes.now }
 {
-    // 32 bytes at once, and the last eight one by one
+    // 32 bytes at once, then the last eight one by one
     let (block, rest) = bytes.split_at(32);
     lanes::all_odd(block) && plain::all_odd(rest)
 }
 
-/// Writes the character of each byte of odd parity in its place, and leaves the places of the others as they are.
+/// Stores the character of each byte that has odd parity, and leaves the places of the others unchanged.
 pub fn strip(bytes: &[u8; 40], codes: &mut [u8; 40])
     ensures { codes.new ≡ zip2 stored bytes.now codes.old }
 {

@@ -1,4 +1,4 @@
--- A packet that begins with a written address.
+-- A packet that begins with the address written for it.
 use Rattle.std.proofs.Common.{◌≡◌, ℕ, ◌+◌, ◌*◌, ◌/◌, ◌%◌, ◌<◌, ◌≤◌, ◌==◌, ◌&&◌, Bool, true, false, if◌then◌else◌, ◌++◌, Some, refl, ap, ap₂, ◌∙◌}
 use Rattle.std.proofs.Common.{arith, inl, inr, eqb, eqb-true}
 use Rattle.std.specs.Prelude.{unwrap_or}

@@ -1,4 +1,4 @@
--- The kind of a slot by its cases.
+-- The kind of a slot, case by case.
 use Rattle.std.proofs.Common.{◌≡◌, ℕ, ◌≤◌, true, false, ◌&&◌, ◌==◌, if◌then◌else◌, List, Option, Some, None, nat_le, refl, sym, ap, ◌∙◌, inl}
 use Rattle.std.proofs.Common.{inr, arith, eqb-true, slice_index}
 use Rattle.std.specs.List.{slice_range}
@@ -59,7 +59,7 @@ empty_when_kind slot e =
 
 -- ---- bytes that may be anything
 
--- bytes that may be anything stand behind the address, behind the first ten bytes where the number is 0, and in no packet 27
+-- free bytes come after the address, after byte 33 where the packet number is 0, and not at all in packet 27
 pub record FreeBytes (number x : ℕ) : Type 0 where
   pub behind_address : 2 ≤ x
   pub behind_header : (number == 0) ≡ true → 34 ≤ x
@@ -86,7 +86,7 @@ free_bytes slot mag number x =
 
 -- ---- equal kinds
 
--- the kind of a packet looks at bytes 2 to 9 where the number is 0, at byte 2 where it is 27, and at no others
+-- the kind of a packet depends on bytes 2 to 9 if the number is 0, on byte 2 if it is 27, and on no others
 pub same_packet_kind : (mag number : ℕ) (sent received : List ℕ) →
     ((number == 0) ≡ true → are_readable (slice_range received 2 10) ≡ are_readable (slice_range sent 2 10)) →
     ((number == 27) ≡ true → reading (slice_index received 2) ≡ reading (slice_index sent 2)) →

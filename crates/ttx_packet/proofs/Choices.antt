@@ -4,11 +4,11 @@ use Rattle.std.specs.List.{list_all}
 use Rattle.std.proofs.lemmas.Bool.{true_from_ne_false, both_ways}
 use Rattle.std.proofs.lemmas.List.Folds.{list_all_at}
 
--- what is true of all is true of one
+-- a test that all elements pass is passed by each
 pub each_passes : (test : ℕ → Bool) (xs : List ℕ) (k : ℕ) → list_all test xs ≡ true → k < length xs → test (get_or xs k 0) ≡ true
 each_passes test xs k h l = true_from_ne_false _ (λ e. both_ways _ (list_all_at test xs k 0 l e) h)
 
--- lists of one length on whose elements two tests agree
+-- two lists of equal length pass a test alike if it gives the same answer for each pair of elements
 pub same_list_all : (test : ℕ → Bool) (xs ys : List ℕ) → length xs ≡ length ys →
     ((k : ℕ) → k < length xs → test (get_or ys k 0) ≡ test (get_or xs k 0)) → list_all test ys ≡ list_all test xs
 same_list_all test [] [] e h = refl

@@ -8,7 +8,7 @@ use Rattle.ttx_packet.specs.Laws.{ClocksAreFree, InfosAreFree}
 use Rattle.ttx_packet.proofs.Cases.{kind_when_empty}
 
 module _ (near : (b : ℕ) → Near b b) (sent received : List ℕ) (kind : Kind) (is : kind_of sent ≡ kind) (slot : IsSlot received) where
-  -- what is received is as it was sent below byte n, from which on all are free
+  -- the slot is received as sent below byte n, and all bytes from n on are free
   from_byte : (n : ℕ) → (kind ≡ IsEmpty → ⊥) → ((x : ℕ) → n ≤ x → IsFree kind x) →
       ((x : ℕ) → x < n → slice_index received x ≡ slice_index sent x) → MayBeReceivedAs sent received
   from_byte n some free same = record {

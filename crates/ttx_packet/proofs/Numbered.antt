@@ -1,4 +1,4 @@
--- The numbers of rows.
+-- The packet numbers of rows.
 use Rattle.std.proofs.Common.{◌≡◌, ℕ, ◌≤◌, false, ◌&&◌, ◌==◌, List, get_or, Option, Some, None, subst, arith}
 use Rattle.std.proofs.lemmas.Bool.{leb-true, cond_both}
 use Rattle.std.proofs.lemmas.Bool.Decides.{nat_tests}
@@ -7,7 +7,7 @@ use Rattle.ttx_code.specs.Words.{reading}
 use Rattle.ttx_packet.specs.Slots.{Kind, IsEmpty, IsUnreadable, IsHeader, IsRow, IsLinks, IsInfo, IsOther, is_empty, packet_kind, links_kind}
 use Rattle.ttx_packet.specs.Slots.{addressed_kind, kind_of}
 
--- the number of a row is 1 to 24
+-- the packet number of a row is 1 to 24
 abbrev IsNumbered : Kind → Type 0
 IsNumbered (IsRow mag number) = (1 ≤ number) × (number ≤ 24)
 IsNumbered (IsHeader mag) = Unit {0}

@@ -1,4 +1,4 @@
--- One wrong bit in each byte leaves the kind of a clean slot.
+-- One wrong bit in each byte leaves the kind of a clean slot unchanged.
 use Rattle.std.proofs.Common.{◌≡◌, ◌⊎◌, ℕ, ◌+◌, ◌-◌, subst, ◌<◌, ◌≤◌, ◌==◌, true, false, List, Some, length, get_or, drop, is_some, refl, sym, ap}
 use Rattle.std.proofs.Common.{◌∙◌, inl, inr, arith, eqb-true, slice_index, get_or-take, get_or-drop, length-take-le, length-drop}
 use Rattle.std.specs.List.{slice_range}
@@ -18,7 +18,7 @@ get_or-range slot a b k l = get_or-take (b - a) (drop a slot) k 0 l ∙ get_or-d
 length-range : (slot : List ℕ) (a b : ℕ) → b ≤ length slot → a ≤ b → length (slice_range slot a b) ≡ b - a
 length-range slot a b l m = length-take-le (b - a) (drop a slot) (omega (arith, length-drop a slot))
 
--- the code words of a clean slot that isn't empty
+-- the code words of a clean slot that is not empty
 record CleanWords (slot : List ℕ) : Type 0 where
   pub first : is_word (slice_index slot 0) ≡ true
   pub second : is_word (slice_index slot 1) ≡ true
@@ -81,7 +81,7 @@ module _ (numbers : WordsHaveNumbers) (corrected : WordsAreReadUnderOneWrongBit)
       free : (x : ℕ) → IsFree (kind_of sent) x → FreeBytes (packet_number low high) x
       free x f = free_bytes sent (magazine low) (packet_number low high) x (subst (λ k. IsFree k x) what f)
 
-      -- a code word that isn't free reads as it was sent
+      -- a code word that is not free reads as it was sent
       reads : (x : ℕ) → x < 42 → (IsFree (kind_of sent) x → ⊥) → is_word (slice_index sent x) ≡ true → reading (slice_index received x)
           ≡ reading (slice_index sent x)
       reads x l fixed w = elim (may.near x l) as (λ _. reading (slice_index received x) ≡ reading (slice_index sent x))

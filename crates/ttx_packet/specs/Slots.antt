@@ -1,11 +1,11 @@
--- What the 42 bytes of a slot are (EN 300 706, 9.3.1 for page headers, 9.3.2 for rows, 9.6.1 for X/27, 9.8.1 for 8/30).
+-- The kind of a slot, by its 42 bytes (EN 300 706, 9.3.1 for page headers, 9.3.2 for rows, 9.6.1 for X/27, 9.8.1 for 8/30).
 -- Bytes are counted from 0, after clock run-in and framing code.
 --
 --   IsSlot                      42 bytes
 --   Kind, kind_of, packet_kind  the kind of a slot, with the magazine and the packet number: the first case that fits
---   is_empty, are_readable, are_words   tests of its bytes
---   magazine, packet_number, read_number, address_bytes   the address: as it is read, and the two bytes that send it
---   is_clean                    one wrong bit in each byte can't turn the slot into another packet
+--   is_empty, are_readable, are_words   tests of bytes
+--   magazine, packet_number, read_number, address_bytes   the address: how it is read, and the two bytes that send it
+--   is_clean                    one wrong bit in each byte cannot turn the slot into another packet
 use Rattle.std.specs.Prelude.{◌≡◌, ℕ, ◌+◌, ◌*◌, ◌/◌, ◌%◌, ◌<◌, ◌^◌, List, [], ◌∷◌, Bool, nat_le, not, ◌==◌, ◌&&◌}
 use Rattle.std.specs.Prelude.{◌||◌, Option, Some, None, if◌then◌else◌, is_some, length, slice_index, slice_range}
 use Rattle.std.specs.List.{list_all}
@@ -16,7 +16,7 @@ pub record IsSlot (slot : List ℕ) : Type 0 where
   pub size : length slot ≡ 42
   pub bytes : (x : ℕ) → slice_index slot x < 2 ^ 8
 
--- A slot is empty, unreadable, or a packet of a kind, with its magazine (1 to 8) and, where the kind leaves it open, its number.
+-- A slot is empty, unreadable, or a packet of a kind, with its magazine (1 to 8) and, if the kind leaves it open, its packet number.
 pub data Kind : Type 0 where
   IsEmpty : Kind
   IsUnreadable : Kind
@@ -36,15 +36,15 @@ are_readable bytes = list_all (λ b. is_some (reading b)) bytes
 abbrev pub are_words : List ℕ → Bool
 are_words bytes = list_all is_word bytes
 
--- the magazine in the number of byte 0: its lowest three bits, where 0 is magazine 8
+-- the magazine, from the number in byte 0: its lowest three bits, where 0 means magazine 8
 abbrev pub magazine : ℕ → ℕ
 magazine low = if low % 8 == 0 then 8 else low % 8
 
--- the packet number in the numbers of bytes 0 and 1
+-- the packet number, from the numbers in bytes 0 and 1
 abbrev pub packet_number : ℕ → ℕ → ℕ
 packet_number low high = low / 8 + 2 * high
 
--- packet 27 by its designation
+-- the kind of packet 27, by its designation
 abbrev pub links_kind : ℕ → Option ℕ → Kind
 links_kind mag None = IsUnreadable
 links_kind mag (Some designation) = if designation == 0 then IsLinks mag else IsOther mag 27
@@ -63,7 +63,7 @@ addressed_kind slot None high = IsUnreadable
 addressed_kind slot (Some low) None = IsUnreadable
 addressed_kind slot (Some low) (Some high) = packet_kind slot (magazine low) (packet_number low high)
 
--- the kind of a slot: empty before all else, since a zero byte alone would be read as 1
+-- the kind of a slot; empty comes first, because a single zero byte would read as 1
 unfoldable pub kind_of : List ℕ → Kind
 kind_of slot =
     if is_empty slot then IsEmpty else addressed_kind slot (reading (slice_index slot 0)) (reading (slice_index slot 1))

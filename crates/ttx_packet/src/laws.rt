@@ -1,10 +1,10 @@
-//! Laws of slots. A call costs nothing and gives the caller's proof the law.
+//! Laws of slots. Calling one does nothing at run time; it gives the caller's proof the law.
 
 ghost use Rattle.ttx_packet.specs.Laws.{KindIsKept, EachSlotMayBeReceivedAsSent, ClocksAreFree, InfosAreFree};
 ghost use Rattle.ttx_packet.specs.Laws.{EmptySlotsAreEmpty, AddressIsReadBack, RowsAreNumbered};
 
-/// One wrong bit in each byte leaves the kind, the magazine and the number of a clean slot, with one exception: row 2
-/// of magazine 1 may be received as 42 zero bytes, and then no character of it is received.
+/// One wrong bit in each byte leaves the kind, the magazine and the packet number of a clean slot unchanged, with one
+/// exception: row 2 of magazine 1 may be received as 42 zero bytes. Then no character of it is received.
 pub fn kind_is_kept()
     ensures { KindIsKept }
 {
@@ -19,7 +19,7 @@ pub fn each_slot_may_be_received_as_sent()
     ttx_code::laws::each_byte_is_near_itself();
 }
 
-/// A page header may be received with anything in its clock, bytes 34 to 41, and packet 8/30 with anything behind its address.
+/// A page header may be received with any bytes in its clock (34 to 41), and packet 8/30 with any bytes after its address.
 pub fn free_bytes_are_anything()
     ensures clocks { ClocksAreFree }
     ensures infos { InfosAreFree }
@@ -27,12 +27,12 @@ pub fn free_bytes_are_anything()
     ttx_code::laws::each_byte_is_near_itself();
 }
 
-/// 42 zero bytes have the kind of an empty slot, and nothing else has.
+/// 42 zero bytes have the kind of an empty slot, and no other bytes have it.
 pub fn empty_slots_are_empty()
     ensures { EmptySlotsAreEmpty }
 {}
 
-/// The two bytes of an address are code words, and a packet that begins with them has this magazine and this number.
+/// Both bytes of an address are code words, and a packet that begins with them has this magazine and packet number.
 pub fn address_is_read_back()
     ensures { AddressIsReadBack }
 {
@@ -40,7 +40,7 @@ pub fn address_is_read_back()
     ttx_code::laws::words_are_words();
 }
 
-/// The number of a row is 1 to 24.
+/// The packet number of a row is 1 to 24.
 pub fn rows_are_numbered()
     ensures { RowsAreNumbered }
 {}

@@ -1,4 +1,4 @@
-//! Packets of 42 bytes: what a slot is, its address, and whether one wrong bit in each byte can change what it is.
+//! Packets of 42 bytes: the kind of a slot, its address, and whether one wrong bit in each byte can change its kind.
 #![tactic(auto)]
 
 pub mod laws;

@@ -1,9 +1,9 @@
-//! Where a packet belongs. `Address` stands in a module of its own, since names of one module must differ in more than
-//! case, and the crate has the function `address`.
+//! The address of a packet. `Address` has a module of its own because names of one module must differ in more than case,
+//! and the crate has the function `address`.
 
 ghost use Rattle.std.specs.Prelude.{◌<◌, ◌≤◌};
 
-/// The magazine and the number of a packet.
+/// The magazine and the packet number of a packet.
 #[derive(Clone, Copy)]
 pub struct Address {
     /// 1 to 8

@@ -1,4 +1,4 @@
-//! What the 42 bytes of a slot are. Bytes are counted from 0, after clock run-in and framing code.
+//! The kinds of slots. Bytes are counted from 0, after clock run-in and framing code.
 
 ghost use Rattle.std.specs.Prelude.{◌≡◌, drop};
 ghost use Rattle.ttx_packet.specs.Slots.{is_empty, are_readable, are_words, packet_kind, read_number, is_clean};
@@ -7,20 +7,20 @@ ghost use Rattle.ttx_packet.specs.Lent.{Lends, ShowsAs};
 use crate::place::Address;
 use ttx_code::{is_word, unham};
 
-/// What the 42 bytes of a slot are, with the address, and the bytes where more is to be read from them.
+/// What the 42 bytes of a slot are: the kind of packet, its address, and the bytes from which more can be read.
 #[derive(Clone, Copy)]
 pub enum Slot<'a> {
     /// 42 zero bytes: nothing was sent.
     Empty,
-    /// A byte that says what the packet is has two wrong bits or more.
+    /// A byte that decides what the packet is has two or more wrong bits.
     Unreadable,
-    /// Packet 0, with all its bytes.
+    /// Packet 0, a page header, with all 42 bytes.
     Header(Address, &'a [u8; 42]),
-    /// Packets 1 to 24, with bytes 2 to 41: the characters of a row.
+    /// Packets 1 to 24, rows, with bytes 2 to 41: the 40 characters.
     Row(Address, &'a [u8; 40]),
-    /// Packet 27 with designation 0, with all its bytes.
+    /// Packet 27 with designation 0, with all 42 bytes.
     Links(Address, &'a [u8; 42]),
-    /// Packet 30 of magazine 8, with all its bytes.
+    /// Packet 30 of magazine 8, with all 42 bytes.
     Info(Address, &'a [u8; 42]),
     /// Any other packet.
     Other(Address),
@@ -33,7 +33,7 @@ fn text_of(bytes: &[u8; 42]) -> &[u8; 40]
     bytes.last_chunk::<40>().unwrap()
 }
 
-// Whether all bytes are zero: no bit is set in their union.
+// Whether all bytes are zero. No bit is set in their union.
 fn is_zero(bytes: &[u8]) -> bool
     ensures { result ≡ is_empty bytes.now }
 {
@@ -44,14 +44,14 @@ fn is_zero(bytes: &[u8]) -> bool
     union == 0
 }
 
-// Whether each byte is readable.
+// Whether all bytes are readable as Hamming 8/4.
 fn is_readable(bytes: &[u8]) -> bool
     ensures { result ≡ are_readable bytes.now }
 {
     bytes.iter().all(|b| unham(*b).is_some())
 }
 
-// What a packet with this address is.
+// The kind of a packet with this address.
 #[tactic(auto, unfolding(crate::specs::Slots::packet_kind))]
 fn packet_of<'a>(bytes: &'a [u8; 42], at: Address) -> Slot<'a>
     ensures { ShowsAs result (packet_kind bytes.now at.mag at.number) bytes.now }
@@ -75,11 +75,11 @@ fn packet_of<'a>(bytes: &'a [u8; 42], at: Address) -> Slot<'a>
     }
 }
 
-/// What the 42 bytes of a slot are: the first case that fits.
+/// Reads the kind and the address of the 42 bytes of a slot. The first case that fits holds:
 ///
-/// 1. 42 zero bytes are an empty slot. (A zero byte alone would be read as 1, with one bit corrected.)
-/// 2. The slot is unreadable where a byte among 0 and 1, among 2 to 9 of packet 0, or byte 2 of packet 27 is.
-/// 3. Else its magazine and packet number say what it is, and for packet 27 the designation in byte 2.
+/// 1. 42 zero bytes are an empty slot. (A single zero byte would read as 1, with one bit corrected.)
+/// 2. The slot is unreadable if byte 0 or 1, one of bytes 2 to 9 of packet 0, or byte 2 of packet 27 is unreadable.
+/// 3. Otherwise the magazine and packet number give the kind, for packet 27 together with the designation in byte 2.
 #[tactic(auto, unfolding(crate::specs::Slots::kind_of))]
 pub fn slot_of<'a>(bytes: &'a [u8; 42]) -> Slot<'a>
     ensures { Lends result bytes.now }
@@ -98,22 +98,22 @@ pub fn slot_of<'a>(bytes: &'a [u8; 42]) -> Slot<'a>
     packet_of(bytes, Address { mag, number })
 }
 
-// Whether each byte is a code word.
+// Whether all bytes are code words.
 fn are_code_words(bytes: &[u8]) -> bool
     ensures { result ≡ are_words bytes.now }
 {
     bytes.iter().all(|b| is_word(*b))
 }
 
-// The packet number that the address reads as, where an unreadable byte counts as 0.
+// The packet number that the address reads as. An unreadable byte counts as 0.
 fn number_of(bytes: &[u8; 42]) -> u8
     ensures { result ≡ read_number bytes.now }
 {
     unham(bytes[0]).unwrap_or(0) / 8 + 2 * unham(bytes[1]).unwrap_or(0)
 }
 
-/// Whether one wrong bit in each byte can't make another packet of the slot: it is empty, or the bytes that say what
-/// it is are code words. These are bytes 0 and 1, bytes 2 to 9 of packet 0, and byte 2 of packet 27.
+/// Whether the slot is clean: one wrong bit in each byte cannot turn it into another packet. It is empty, or the bytes
+/// that decide its kind are code words: bytes 0 and 1, bytes 2 to 9 of packet 0, and byte 2 of packet 27.
 #[tactic(auto, unfolding(crate::specs::Slots::is_clean))]
 pub fn clean(bytes: &[u8; 42]) -> bool
     ensures { result ≡ is_clean bytes.now }

@@ -1,4 +1,4 @@
--- the table holds the words
+-- the table holds the code words
 use Rattle.std.proofs.Common.{◌∙◌, ap, get_or}
 use Rattle.ttx_code.specs.declared.hamming.TheConstants.{WORDS}
 use Rattle.ttx_code.proofs.Numbers.{word_at}
