@@ -1,9 +1,9 @@
--- National characters (profile): the character that each code 20 to 7F shows under each national option.
--- An option is 4*C12 + 2*C13 + C14. Characters are numbers of Unicode.
+-- National characters (profile): the character that each code from 20 to 7F shows under each national option.
+-- An option is 4*C12 + 2*C13 + C14. Characters are Unicode code points.
 --
 --   places          the codes that a national set replaces
---   english ..      each set: its characters at these places, in their order
---   national_set          the set of an option
+--   english ..      each set: its characters at these places, in order
+--   national_set    the set of an option
 --   base            what the other codes show
 --   glyph           what a code shows under an option
 use Rattle.std.specs.Prelude.{ℕ, List, [], ◌∷◌, Option, Some, None, ◌==◌, if◌then◌else◌, slice_index, slice_index_or, position}
@@ -39,12 +39,12 @@ spanish = 0xe7 ∷ 0x24 ∷ 0xa1 ∷ 0xe1 ∷ 0xe9 ∷ 0xed ∷ 0xf3 ∷ 0xfa �
 abbrev pub czech : List ℕ
 czech = 0x23 ∷ 0x16f ∷ 0x10d ∷ 0x165 ∷ 0x17e ∷ 0xfd ∷ 0xed ∷ 0x159 ∷ 0xe9 ∷ 0xe1 ∷ 0x11b ∷ 0xfa ∷ 0x161 ∷ []
 
--- the sets of options 0 to 7, of which the last is English again
+-- the sets of options 0 to 7; option 7 is English again
 unfoldable pub national_set : ℕ → List ℕ
 national_set option =
     slice_index_or (english ∷ german ∷ swedish ∷ italian ∷ french ∷ spanish ∷ czech ∷ english ∷ []) option []
 
--- at all other places a code is its own number, but 7F is a black square
+-- every other code is its own character, except 7F, which is a black square
 abbrev pub base : ℕ → ℕ
 base code = if code == 0x7f then 0x25a0 else code
 
@@ -52,6 +52,6 @@ abbrev pub placed : List ℕ → ℕ → Option ℕ → ℕ
 placed set code (Some place) = slice_index set place
 placed set code None = base code
 
--- what a code shows
+-- the character that a code shows under an option
 unfoldable pub glyph : ℕ → ℕ → ℕ
 glyph option code = placed (national_set option) code (position (λ place. place == code) places)

@@ -1,6 +1,6 @@
--- What the laws of the national characters say.
+-- Laws of the national characters.
 --
---   ShowsOnly           each option shows a letter at its own code, and at no other
+--   ShowsOnly           under each option a letter is shown by its own code and by no other
 --   LettersStandAlone   A and B are such letters
 use Rattle.std.specs.Prelude.{◌≡◌, ◌<◌, ◌↔◌, ℕ}
 use Rattle.ttx_charset.specs.Glyphs.{glyph}

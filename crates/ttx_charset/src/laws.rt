@@ -2,7 +2,7 @@
 
 ghost use Rattle.ttx_charset.specs.Laws.{LettersStandAlone};
 
-/// Under each option A and B are shown at their own codes, and at no others.
+/// Under every national option, the letters A and B are shown by their own codes and by no others.
 pub fn letters_stand_alone()
     ensures { LettersStandAlone }
 {}

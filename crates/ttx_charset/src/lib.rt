@@ -1,4 +1,4 @@
-//! National characters: what the codes 20 to 7F show under each national option.
+//! National characters: the characters that codes 20 to 7F show under each national option.
 #![tactic(auto)]
 
 ghost use Rattle.std.specs.Prelude.{◌≡◌, ◌<◌, ◌≤◌, ◌==◌, position};
@@ -6,7 +6,7 @@ ghost use Rattle.ttx_charset.specs.Glyphs.{glyph, places};
 
 pub mod laws;
 
-// The characters of each option at the places of a national set.
+// For each option, the characters at the places of the national set.
 #[rattlefmt::skip]
 static SETS: [[char; 13]; 8] = [
     ['£', '$', '@', '←', '½', '→', '↑', '#', '\u{2015}', '¼', '\u{2016}', '¾', '÷'],
@@ -19,7 +19,7 @@ static SETS: [[char; 13]; 8] = [
     ['£', '$', '@', '←', '½', '→', '↑', '#', '\u{2015}', '¼', '\u{2016}', '¾', '÷'],
 ];
 
-// Where in a national set the code stands.
+// The index of a code among the places of a national set.
 fn place_of(code: u8) -> Option<usize>
     ensures { result ≡ position (λ place. place == code) places }
 {
@@ -33,9 +33,9 @@ fn place_of(code: u8) -> Option<usize>
     }
 }
 
-/// The character that a code 20 to 7F shows under a national option 0 to 7.
+/// The character that a code, 20 to 7F, shows under a national option, 0 to 7.
 ///
-/// The table of the national sets is the profile's own.
+/// The table of national sets is a choice of this project (profile).
 #[tactic(auto, unfolding(crate::specs::Glyphs::glyph, crate::specs::Glyphs::national_set))]
 pub fn glyph(option: u8, code: u8) -> char
     requires option { option < 8 }

@@ -1,4 +1,4 @@
--- Ids are read as they are written.
+-- Page ids are read as they are written.
 use Rattle.std.proofs.Common.{◌≡◌, ℕ, ◌+◌, ◌-◌, ◌*◌, ◌/◌, ◌%◌, ◌<◌, ◌≤◌, ◌==◌, true, ◌++◌, List, [], ◌∷◌, length}
 use Rattle.std.proofs.Common.{slice_index, Some, None, nat_le, refl, sym, ap, ◌∙◌, arith, eqb-true}
 use Rattle.std.specs.List.{list_all}
@@ -36,7 +36,7 @@ as_eight (a ∷ b ∷ c ∷ d ∷ e ∷ f ∷ g ∷ []) n = absurd (omega arith)
 as_eight (a ∷ b ∷ c ∷ d ∷ e ∷ f ∷ g ∷ h ∷ []) n = refl
 as_eight (a ∷ b ∷ c ∷ d ∷ e ∷ f ∷ g ∷ h ∷ i ∷ w) n = absurd (omega arith)
 
--- the word of an id is the text of the id
+-- a word that is an id is the text of that id
 id_word_text : (w : List ℕ) → is_id_word w ≡ true → id_text (id_at (slice_index w 0 - 48) (hex_pair w 1) (256 * hex_pair w 4 + hex_pair w 6)) ≡ w
 id_word_text w is =
     let parts = id_word w is in
@@ -84,7 +84,7 @@ pair_value a b pa pb = ap (λ x. 16 * x + hex_value (hex_digit b)) (hex_there a 
 abbrev id_word_of : ℕ → ℕ → ℕ → ℕ → ℕ → ℕ → ℕ → List ℕ
 id_word_of m a b c d e f = (48 + m) ∷ hex_digit a ∷ hex_digit b ∷ 47 ∷ hex_digit c ∷ hex_digit d ∷ hex_digit e ∷ hex_digit f ∷ []
 
--- the word of a magazine and six digits
+-- the word made of a magazine and six digits is read as their id
 id_word_read : (m a b c d e f : ℕ) → 1 ≤ m → m ≤ 8 → a < 16 → b < 16 → c < 16 → d < 16 → e < 16 → f < 16 →
     id_in_word (id_word_of m a b c d e f) ≡ Some (id_at m (16 * a + b) (256 * (16 * c + d) + (16 * e + f)))
 id_word_read m a b c d e f low high pa pb pc pd pe pf =
@@ -142,7 +142,7 @@ word_high m a b c d e f pa pb pc pd pe pf =
     (high_cons (hex_digit b) (47 ∷ hex_digit c ∷ hex_digit d ∷ hex_digit e ∷ hex_digit f ∷ []) (hex_high b pb)
     (high_cons 47 (hex_digit c ∷ hex_digit d ∷ hex_digit e ∷ hex_digit f ∷ []) refl digits)))
 
--- an id's digits and stroke are no separators
+-- the digits and the slash of an id are not separators
 pub ids_free : IdsHoldNoSeparator
 ids_free id is =
     let small : id.page < 256 = is.page in

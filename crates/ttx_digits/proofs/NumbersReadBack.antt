@@ -64,6 +64,6 @@ digits_high (d ∷ ds) are =
     let here : nat_le 47 d ≡ true = grind (arith, nat_tests) in
     and_from (nat_le 47 d) (list_all (nat_le 47) ds) here (digits_high ds parts.1)
 
--- digits are no separators
+-- digits are not separators
 pub numbers_free : NumbersHoldNoSeparator
 numbers_free n small = digits_high (decimal n) (decimal_digits n small)

@@ -1,4 +1,4 @@
--- What calls add to a text, each of which may lack memory.
+-- What calls append to a text, where each may run out of memory.
 use Rattle.std.proofs.Common.{◌≡◌, ℕ, ◌+◌, ◌<◌, ◌≤◌, Bool, true, false, List, [], ◌∷◌, ◌++◌, Result, Ok, Err, OnOk, is_ok, if◌then◌else◌, nat_lt}
 use Rattle.std.proofs.Common.{encode_utf8, append_assoc, ap, ap₂, sym, subst, ◌∙◌, arith}
 use Rattle.std.proofs.lemmas.Bool.{lt-ltb}
@@ -10,7 +10,7 @@ pub added : {T E : Type 0} (r : Result T E) (new old more text : List ℕ) → n
 added (Ok x) new old more text e is = e ∙ ap (λ m. old ++ m) is
 added (Err y) new old more text e is = tt
 
--- a call after another one
+-- a call after another
 pub added_after : {T E : Type 0} (r : Result T E) (new mid old a b text : List ℕ) → mid ≡ old ++ a → OnOk r (new ≡ mid ++ b) → a ++ b ≡ text
     → OnOk r (new ≡ old ++ text)
 added_after (Ok x) new mid old a b text first e is = e ∙ ap (λ m. m ++ b) first ∙ append_assoc old a b ∙ ap (λ t. old ++ t) is

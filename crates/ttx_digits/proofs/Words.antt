@@ -1,4 +1,4 @@
--- The numbers that words of digits are, and the digits in the word of an id.
+-- The numbers that words of digits stand for, and the digits in the word of an id.
 use Rattle.std.proofs.Common.{◌≡◌, ℕ, zero, suc, ◌^◌, ◌<◌, ◌≤◌, Bool, true, false, ◌&&◌, List, length}
 use Rattle.std.proofs.Common.{◌==◌, ◌+◌, ◌-◌, ◌*◌, slice_index, Some, None, if◌then◌else◌, refl, sym, ap, ◌∙◌, inl, inr, arith}
 use Rattle.std.proofs.lemmas.Bool.{and_from, and_parts, cases_Bool}
@@ -18,7 +18,7 @@ power_le (suc (suc (suc (suc (suc zero))))) lt = omega arith
 power_le (suc (suc (suc (suc (suc (suc zero)))))) lt = omega arith
 power_le (suc (suc (suc (suc (suc (suc (suc i))))))) lt = absurd (omega arith)
 
--- 10 times a number of fewer than seven digits, and a digit, is a number of seven digits
+-- ten times a number of fewer than seven digits, plus a digit, has at most seven digits
 pub number_fits : (n i : ℕ) → n < 10 ^ i → i < 7 → n < 1000000
 number_fits n i small lt = let p = power_le i lt in omega arith
 
@@ -77,7 +77,7 @@ id_word word is =
 pub magazine_digit : (word : List ℕ) → is_id_word word ≡ true → 48 ≤ slice_index word 0
 magazine_digit word is = let here = (id_word word is).magazine in grind (arith, nat_tests)
 
--- a word that isn't an id's
+-- a word that is not an id
 pub no_id : (word : List ℕ) → (is_id_word word ≡ true → ⊥) → None ≡ id_in_word word
 no_id word is_none = elim (cases_Bool (is_id_word word)) [
   | inl is ↦ absurd (is_none is)
@@ -90,14 +90,14 @@ both weight x y true true = refl
 both weight x y true false = refl
 both weight x y false b = refl
 
--- two hexadecimal digits, by their tests
+-- two hexadecimal digits, from the tests of each
 pub two_by_tests : (text : List ℕ) (at : ℕ) → two_digits text at
     ≡ (if is_hex (slice_index text at) && is_hex (slice_index text (at + 1)) then Some (hex_pair text at) else None)
 unfolding two_digits hex_in
 two_by_tests text at = both 16 (hex_value (slice_index text at)) (hex_value (slice_index text (at + 1))) (is_hex (slice_index text at))
     (is_hex (slice_index text (at + 1)))
 
--- and four
+-- four hexadecimal digits, from the tests of each
 pub four_by_tests : (text : List ℕ) (at : ℕ) → four_digits text at ≡
     (if (is_hex (slice_index text at) && is_hex (slice_index text (at + 1)))
     && (is_hex (slice_index text (at + 2)) && is_hex (slice_index text (at + 2 + 1)))
@@ -110,7 +110,7 @@ four_by_tests text at = ap (λ high. joined_digits 256 high (two_digits text (at
     ∙ both 256 (hex_pair text at) (hex_pair text (at + 2)) (is_hex (slice_index text at) && is_hex (slice_index text (at + 1)))
     (is_hex (slice_index text (at + 2)) && is_hex (slice_index text (at + 2 + 1)))
 
--- the number of the four digits of an id's word
+-- the number in the four digits of the word of an id
 pub four_of_id : (word : List ℕ) → is_id_word word ≡ true → four_digits word 4 ≡ Some (256 * hex_pair word 4 + hex_pair word 6)
 four_of_id word is = let parts = id_word word is in four_by_tests word 4 ∙ rw (parts.first, parts.second, parts.third, parts.fourth) refl
 
@@ -121,7 +121,7 @@ nine a b c d e f g h i pa pb pc pd pe pf pg ph pi =
     (and_from (a && b && c && d && e && f && g) h (and_from (a && b && c && d && e && f) g (and_from (a && b && c && d && e) f
     (and_from (a && b && c && d) e (and_from (a && b && c) d (and_from (a && b) c (and_from a b pa pb) pc) pd) pe) pf) pg) ph) pi
 
--- the id of a word, by its digits
+-- the id of a word, from its digits
 pub id_of_digits : (word : List ℕ) (page sub : ℕ) → (length word == 8) ≡ true → is_between 49 56 (slice_index word 0) ≡ true →
     (slice_index word 3 == 47) ≡ true → Some page ≡ two_digits word 1 → Some sub ≡ four_digits word 4 →
     Some (id_at (slice_index word 0 - 48) page sub) ≡ id_in_word word

@@ -1,11 +1,11 @@
--- Digits in texts (profile): decimal ones, and hexadecimal ones, 0 to 9 and A to F. Texts are lists of bytes.
+-- Digits in texts (profile): decimal, and hexadecimal, 0 to 9 and A to F. Texts are lists of bytes.
 --
 --   hex_digit, hex_byte               the digit of a number below 16, and the two digits of a byte
 --   are_digits, is_number, decimal_after, number_in_word      a decimal number
---   decimal_in, two_decimals          a decimal digit, and the number of two of them from a place on
---   joined_digits                     the number of a higher and a lower part
+--   decimal_in, two_decimals          a decimal digit, and the number in two of them from one position on
+--   joined_digits                     the number with this higher and this lower part
 --   is_hex, hex_value, hex_pair, hex_in      a hexadecimal digit, and two of them
---   two_digits, four_digits           the number of so many hexadecimal digits from a place on
+--   two_digits, four_digits           the number in two or four hexadecimal digits from one position on
 use Rattle.std.specs.Prelude.{ℕ, ◌+◌, ◌-◌, ◌*◌, ◌/◌, ◌%◌, Bool, not, ◌&&◌, ◌||◌, ◌==◌, nat_lt, nat_le, List, [], ◌∷◌, length, slice_index}
 use Rattle.std.specs.Prelude.{Option, Some, None, if◌then◌else◌}
 use Rattle.std.specs.List.{list_all}
@@ -14,7 +14,7 @@ use Rattle.std.specs.List.{list_all}
 abbrev pub hex_digit : ℕ → ℕ
 hex_digit n = if nat_lt n 10 then 48 + n else 55 + n
 
--- the digits of a byte, the high one first
+-- the two hexadecimal digits of a byte, the high one first
 abbrev pub hex_byte : ℕ → List ℕ
 hex_byte b = hex_digit (b / 16) ∷ hex_digit (b % 16) ∷ []
 

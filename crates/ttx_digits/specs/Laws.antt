@@ -1,8 +1,8 @@
--- The laws of numbers and of ids of pages in texts.
+-- Laws of numbers and page ids in texts.
 --
 --   WrittenNumbersAreRead, ReadNumbersAreWritten      each number below 10,000,000 has one word
 --   WrittenIdsAreRead, ReadIdsAreWritten  each id has one word
---   HoldsNoSeparator, NumbersHoldNoSeparator, IdsHoldNoSeparator      these words have no space and no end of a line in them
+--   HoldsNoSeparator, NumbersHoldNoSeparator, IdsHoldNoSeparator      these words contain no space and no line break
 use Rattle.std.specs.Prelude.{◌≡◌, ℕ, ◌<◌, true, nat_le, List, Some}
 use Rattle.std.specs.Fmt.{decimal}
 use Rattle.std.specs.List.{list_all}
@@ -22,7 +22,7 @@ WrittenIdsAreRead = (id : Id) → IsId id → id_in_word (id_text id) ≡ Some i
 abbrev pub ReadIdsAreWritten : Type 0
 ReadIdsAreWritten = (word : List ℕ) (id : Id) → id_in_word word ≡ Some id → word ≡ id_text id
 
--- each byte is the stroke, 2F, or above it
+-- each byte is a slash (2F) or above it
 abbrev pub HoldsNoSeparator : List ℕ → Type 0
 HoldsNoSeparator text = list_all (nat_le 0x2f) text ≡ true
 

@@ -7,7 +7,7 @@ use bitflags::{Flag, Flags};
 use std::alloc::AllocError;
 use ttx_header::Control;
 
-// Adds the names of the set flags, each after a space.
+// Appends the names of the set flags, each after a space.
 fn push_flags(
     text: &mut String,
     control: Control,
@@ -24,7 +24,7 @@ fn push_flags(
     Ok(())
 }
 
-/// Adds the names of the control bits that are set, each after a space, C4 first.
+/// Appends the names of the control bits that are set, each after a space, C4 first. `Err` if memory runs out.
 #[tactic(auto, unfolding(crate::specs::ControlNames::control_text))]
 pub fn push_control(text: &mut String, control: Control) -> Result<(), AllocError>
     ensures { OnOk result (string_bytes text.new ≡ string_bytes text.old ++ control_text control.0) }

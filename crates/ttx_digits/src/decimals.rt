@@ -8,14 +8,14 @@ ghost use Rattle.ttx_digits.specs.Digits.{are_digits, decimal_after, number_in_w
 use itoa::Buffer;
 use std::alloc::AllocError;
 
-/// Adds a number.
+/// Appends a number in decimal digits. `Err` if memory runs out.
 pub fn push_decimal(text: &mut String, number: usize) -> Result<(), AllocError>
     ensures { OnOk result (string_bytes text.new ≡ string_bytes text.old ++ decimal number) }
 {
     text.push_str(Buffer::new().format(number))
 }
 
-/// Adds a number of one digit.
+/// Appends a number below 10 as one digit. `Err` if memory runs out.
 #[tactic(auto, using(std::proofs::lemmas::Fmt::decimal_digit))]
 pub fn push_digit(text: &mut String, digit: u8) -> Result<(), AllocError>
     requires { digit < 10 }
@@ -24,7 +24,7 @@ pub fn push_digit(text: &mut String, digit: u8) -> Result<(), AllocError>
     text.push(char::from(b'0' + digit))
 }
 
-/// The number of a digit; None where the byte isn't one.
+/// The value of a decimal digit, 0 to 9; `None` if the byte is not a digit.
 #[tactic(auto, unfolding(crate::specs::Digits::decimal_in))]
 pub fn decimal_in(byte: u8) -> Option<u8>
     ensures value { result ≡ rule.decimal_in byte }
@@ -36,7 +36,7 @@ pub fn decimal_in(byte: u8) -> Option<u8>
     }
 }
 
-/// The number of the two digits from a place on; None where one of them isn't a digit.
+/// The number, 0 to 99, in the two decimal digits at bytes `at` and `at + 1`; `None` if one of them is not a digit.
 #[tactic(auto, unfolding(crate::specs::Digits::two_decimals))]
 pub fn two_decimals(text: &[u8], at: usize) -> Option<u8>
     requires { at + 2 ≤ length text.now }
@@ -48,7 +48,7 @@ pub fn two_decimals(text: &[u8], at: usize) -> Option<u8>
     Some(10 * high + low)
 }
 
-// The number of which these are the digits; None where one isn't a digit.
+// The number with these digits; `None` if a byte is not a digit.
 #[tactic(auto, unfolding(crate::specs::Digits::decimal_in))]
 fn value_of(digits: &[u8]) -> Option<u32>
     requires few { length digits.now ≤ 7 }
@@ -61,7 +61,7 @@ fn value_of(digits: &[u8]) -> Option<u32>
     Some(value)
 }
 
-/// The number that the word is, below 10,000,000. None where it isn't 1 to 7 digits without a leading zero.
+/// Reads a decimal number below 10,000,000. `None` if the word is not 1 to 7 digits without a leading zero.
 pub fn number(word: &[u8]) -> Option<u32>
     ensures value { result ≡ number_in_word word.now }
 {

@@ -6,7 +6,7 @@ ghost use Rattle.ttx_digits.specs.Digits.{hex_digit, hex_byte};
 
 use std::alloc::AllocError;
 
-/// The digit of a number below 16.
+/// The hexadecimal digit of a number below 16, in capitals.
 pub fn digit(number: u8) -> char
     requires { number < 16 }
     ensures { result ≡ hex_digit number }
@@ -18,7 +18,7 @@ pub fn digit(number: u8) -> char
     }
 }
 
-/// Adds the two digits of a byte.
+/// Appends the two digits of a byte. `Err` if memory runs out.
 pub fn push_byte(text: &mut String, byte: u8) -> Result<(), AllocError>
     ensures { OnOk result (string_bytes text.new ≡ string_bytes text.old ++ hex_byte byte) }
 {
@@ -26,7 +26,7 @@ pub fn push_byte(text: &mut String, byte: u8) -> Result<(), AllocError>
     text.push(digit(byte % 16))
 }
 
-/// Adds the four digits of a subcode.
+/// Appends the four digits of a subcode. `Err` if memory runs out.
 pub fn push_subcode(text: &mut String, sub: u16) -> Result<(), AllocError>
     ensures { OnOk result (string_bytes text.new ≡ string_bytes text.old ++ hex_byte (sub / 256) ++ hex_byte (sub % 256)) }
 {
@@ -34,7 +34,7 @@ pub fn push_subcode(text: &mut String, sub: u16) -> Result<(), AllocError>
     push_byte(text, (sub % 256) as u8)
 }
 
-// The value of a digit.
+// The value of a hexadecimal digit in capitals.
 #[tactic(auto, unfolding(crate::specs::Digits::hex_in))]
 fn hex_in(byte: u8) -> Option<u8>
     ensures value { result ≡ rule.hex_in byte }
@@ -47,7 +47,7 @@ fn hex_in(byte: u8) -> Option<u8>
     }
 }
 
-/// The number of the two digits from a place on; None where one of them isn't a digit.
+/// The number in the two digits at bytes `at` and `at + 1`, high digit first; `None` if one of them is not a digit 0 to 9 or A to F.
 #[tactic(auto, unfolding(crate::specs::Digits::two_digits))]
 pub fn two_digits(text: &[u8], at: usize) -> Option<u8>
     requires { at + 2 ≤ length text.now }
@@ -58,7 +58,7 @@ pub fn two_digits(text: &[u8], at: usize) -> Option<u8>
     Some(16 * high + low)
 }
 
-/// The number of the four digits from a place on; None where one of them isn't a digit.
+/// The number in the four digits from byte `at` on, high digit first; `None` if one of them is not a digit 0 to 9 or A to F.
 #[tactic(auto, unfolding(crate::specs::Digits::four_digits))]
 pub fn four_digits(text: &[u8], at: usize) -> Option<u16>
     requires { at + 4 ≤ length text.now }

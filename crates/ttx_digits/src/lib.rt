@@ -1,4 +1,4 @@
-//! Numbers, the ids of pages and the names of control bits in texts: decimal digits, and hexadecimal ones, 0 to 9 and A to F.
+//! Numbers, page ids and the names of control bits as text. Hexadecimal digits are 0 to 9 and A to F.
 #![tactic(auto)]
 
 mod control_names;

@@ -1,4 +1,4 @@
-//! The numbers and ids of pages.
+//! Page numbers and page ids as text.
 
 ghost use Rattle.std.specs.Prelude.{◌≡◌, ◌≢◌, ◌≤◌, ◌<◌, ◌+◌, ◌++◌, length, option_map, IfSome, OnOk, string_bytes};
 ghost use Rattle.ttx_header.specs.Ids.{id_at};
@@ -9,8 +9,8 @@ use crate::hexadecimals::{digit, four_digits, push_byte, push_subcode, two_digit
 use std::alloc::AllocError;
 use ttx_header::PageId;
 
-/// Adds an id by its numbers, of a page or of a link's target: magazine and two digits, a stroke, and the four digits of
-/// the subcode.
+/// Appends the id of a page or of a link's target, given by its numbers: magazine and two digits, a slash, and the four
+/// digits of the subcode, as in `100/3F7F`. `Err` if memory runs out.
 pub fn push_numbers(text: &mut String, mag: u8, page: u8, sub: u16) -> Result<(), AllocError>
     requires { mag < 10 }
     ensures { OnOk result (string_bytes text.new ≡ string_bytes text.old ++ id_text (id_at mag page sub)) }
@@ -21,15 +21,15 @@ pub fn push_numbers(text: &mut String, mag: u8, page: u8, sub: u16) -> Result<()
     push_subcode(text, sub)
 }
 
-/// Adds the id of a page.
+/// Appends the id of a page, as in `100/0000`. `Err` if memory runs out.
 pub fn push_id(text: &mut String, id: PageId) -> Result<(), AllocError>
     ensures { OnOk result (string_bytes text.new ≡ string_bytes text.old ++ id_text id) }
 {
     push_numbers(text, id.mag(), id.page(), id.sub())
 }
 
-/// The magazine, 1 to 8, and the page number in the first three characters; None where they are no such digits, or the page
-/// is FF.
+/// The magazine, 1 to 8, and the page number from the first three characters. `None` if they are not a digit 1 to 8 and two
+/// hexadecimal digits, or the page is FF.
 #[tactic(auto, unfolding(crate::specs::PageIds::first_number))]
 pub fn first_number(text: &[u8]) -> Option<(u8, u8)>
     requires { 3 ≤ length text.now }
@@ -43,8 +43,8 @@ pub fn first_number(text: &[u8]) -> Option<(u8, u8)>
     Some((text[0] - b'0', page))
 }
 
-/// Magazine, page number and subcode of an id, as 100/3F7F. None where the word has another shape; the subcode may have any
-/// bits.
+/// Reads magazine, page number and subcode of an id such as `100/3F7F`. `None` if the word has another shape. The subcode
+/// may have any bits.
 pub fn id(word: &[u8]) -> Option<(u8, u8, u16)>
     ensures { option_map (λ id. id_at id.0 id.1 id.2) result ≡ id_in_word word.now }
 {

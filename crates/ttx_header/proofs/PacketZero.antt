@@ -8,7 +8,7 @@ use Rattle.ttx_packet.specs.Slots.{Kind, IsEmpty, IsUnreadable, IsHeader, IsRow,
 use Rattle.ttx_packet.specs.Slots.{packet_number, links_kind, packet_kind, addressed_kind, kind_of, read_number}
 use Rattle.ttx_header.proofs.Slices.{some_of}
 
--- the magazine of a header, and 0 for all else
+-- the magazine of a header; 0 for every other kind
 abbrev header_mag : Kind → ℕ
 header_mag (IsHeader mag) = mag
 header_mag _ = 0
@@ -20,7 +20,7 @@ IsOne _ = ⊥
 is_one : (k : Kind) (mag : ℕ) → k ≡ IsHeader mag → IsOne k
 is_one k mag e = subst IsOne (sym e) tt
 
--- a slot of the kind header isn't empty, its address is readable, its number is 0, and bytes 2 to 9 are readable
+-- a slot of the kind header is not empty, its address is readable, its packet number is 0, and bytes 2 to 9 are readable
 pub record HeaderCase (s : List ℕ) (mag : ℕ) : Type 0 where
   pub some : is_empty s ≡ false
   pub low : is_some (reading (slice_index s 0)) ≡ true

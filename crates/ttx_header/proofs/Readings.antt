@@ -1,4 +1,4 @@
--- The fields of a page header by the numbers of its bytes.
+-- The fields of a page header, from the numbers of its bytes.
 use Rattle.std.proofs.Common.{◌≡◌, ℕ, ◌+◌, ◌*◌, ◌/◌, ◌%◌, ◌<◌, ◌≤◌, ◌==◌, ◌&&◌, ◌||◌, Bool, true, false, List, [], ◌∷◌, ◌++◌, Option, Some, None}
 use Rattle.std.proofs.Common.{is_some, length, take, take_all, take_at, drop, drop_at, length-append, map, refl, sym, ap, subst, ◌∙◌, inl, inr}
 use Rattle.std.proofs.Common.{arith, eqb-true, eq-eqb, slice_index, slice_range}
@@ -158,7 +158,7 @@ headers_are_headers s is header =
       | inr z ↦ z
     ]
 
--- ---- a header that is said
+---- a header that is encoded
 
 magazine_back : (low mag : ℕ) → low ≡ mag % 8 → 1 ≤ mag → mag ≤ 8 → magazine low ≡ mag
 magazine_back low mag e from to =

@@ -19,13 +19,13 @@ at_range s a b k d l = get_or-take (b - a) (drop a s) k d l ∙ get_or-drop a s 
 pub length_range : (s : List ℕ) (a b : ℕ) → b ≤ length s → a ≤ b → length (slice_range s a b) ≡ b - a
 length_range s a b l m = length-take-le (b - a) (drop a s) (omega (arith, length-drop a s))
 
--- the test of one element
+-- a test that all elements pass is passed by the element at k
 pub passes_at : (test : ℕ → Bool) (xs : List ℕ) (k : ℕ) → list_all test xs ≡ true → k < length xs → test (get_or xs k 0) ≡ true
 passes_at test [] k h l = absurd (omega arith)
 passes_at test (x ∷ xs) zero h l = (and_parts (test x) (list_all test xs) h).0
 passes_at test (x ∷ xs) (suc k) h l = passes_at test xs k (and_parts (test x) (list_all test xs) h).1 (omega arith)
 
--- the test of one byte of a part
+-- a test that all bytes of a part pass is passed by each
 pub passes_in : (test : ℕ → Bool) (s : List ℕ) (a b x : ℕ) → b ≤ length s → list_all test (slice_range s a b) ≡ true → a ≤ x → x < b →
     test (slice_index s x) ≡ true
 passes_in test s a b x l h low high =

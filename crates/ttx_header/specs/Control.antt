@@ -7,7 +7,7 @@
 use Rattle.std.specs.Prelude.{ℕ, ◌+◌, ◌*◌, ◌<◌, ◌^◌, List, [], ◌∷◌, Bool, ◌==◌, codes}
 use Rattle.ttx_code.specs.Words.{bit}
 
--- nothing but the eleven control bits
+-- only the eleven control bits
 abbrev pub IsControl : ℕ → Type 0
 IsControl control = control < 2 ^ 11
 
@@ -35,11 +35,11 @@ c10 control = bit control 6 == 1
 abbrev pub c11 : ℕ → Bool
 c11 control = bit control 7 == 1
 
--- the national option, of which C12 is the upper bit and C14 the lower
+-- the national option; C12 is its upper bit, C14 its lower one
 abbrev pub option_of : ℕ → ℕ
 option_of control = 4 * bit control 8 + 2 * bit control 9 + bit control 10
 
--- each control bit by its name and its value, C4 first
+-- the name and the value of each control bit, C4 first
 abbrev pub control_table : List (List ℕ × ℕ)
 control_table =
     (codes "C4", 1) ∷ (codes "C5", 2) ∷ (codes "C6", 4) ∷ (codes "C7", 8) ∷ (codes "C8", 16) ∷ (codes "C9", 32) ∷ (codes "C10", 64)

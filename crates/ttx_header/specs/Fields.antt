@@ -6,7 +6,7 @@ use Rattle.std.specs.Prelude.{◌≡◌, ℕ, List, length}
 use Rattle.ttx_header.specs.Ids.{Id, IsId}
 use Rattle.ttx_header.specs.Control.{IsControl}
 
--- the page's id, the control bits, and the 24 and 8 bytes of text and clock as they are sent
+-- the id of the page, the control bits, and the 24 bytes of text and 8 bytes of clock as they are sent
 pub record HeaderFields : Type 0 where
   pub id : Id
   pub control : ℕ

@@ -3,10 +3,10 @@
 --   Id, id_at               a magazine, a page number and a subcode
 --   IsSubcode, IsId         the ranges of these numbers
 --   same_id                 whether two ids are equal
---   is_time_filling         page FF with subcode 3F7F: no page and no target
+--   is_time_filling         page FF with subcode 3F7F: neither a page nor a target
 use Rattle.std.specs.Prelude.{◌≡◌, ℕ, ◌/◌, ◌%◌, ◌<◌, ◌≤◌, Bool, ◌==◌, ◌&&◌}
 
--- A page of a magazine by its two hexadecimal digits and its subcode. Subcode 3F7F in a link stands for any subpage.
+-- A page: its magazine, its two hexadecimal digits and its subcode. Subcode 3F7F in a link means any subpage.
 pub record Id : Type 0 where
   pub mag : ℕ
   pub page : ℕ
@@ -20,7 +20,7 @@ pub record IsSubcode (sub : ℕ) : Type 0 where
   pub top : sub < 0x4000
   pub gap : sub / 0x80 % 2 ≡ 0
 
--- magazine 1 to 8, two digits, and a subcode
+-- magazine 1 to 8, two hexadecimal digits, and a subcode
 pub record IsId (id : Id) : Type 0 where
   pub mag_from : 1 ≤ id.mag
   pub mag_to : id.mag ≤ 8

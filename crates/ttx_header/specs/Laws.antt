@@ -1,13 +1,13 @@
--- Laws of page headers and of Hamming bytes in packets, which the layers above may use. Each is proved by the function of its
--- name in `laws`.
+-- Laws of page headers and of Hamming bytes in packets, for the layers above. Each is proved by the function of its name in
+-- `laws`.
 --
---   HeaderIsKept            wrong bits leave the id and the control bits of a clean header as they are
---   HasFields, HeadersHaveFields            what a slot of the kind header says is in range
+--   HeaderIsKept            wrong bits leave the id and the control bits of a clean header unchanged
+--   HasFields, HeadersHaveFields            the fields of a slot of the kind header are in range
 --   HeadersAreHeaders       a readable packet 0 has the kind header
---   SaidHeadersAreRead      the header that 42 bytes say is the one that is read
---   ReadHeadersAreSaid      the header that is read is one that the 42 bytes say
---   IsWritten, WrittenHeadersAreRead        what is written is read again as the same header
---   AreNumbers              numbers of four bits
+--   SaidHeadersAreRead      the header that 42 bytes encode is the one that is read
+--   ReadHeadersAreSaid      the header that is read is one that the 42 bytes encode
+--   IsWritten, WrittenHeadersAreRead        a written header is read as the same header
+--   AreNumbers              four-bit numbers
 --   WordsAreKept, ReadBytesAreReadable, ReadableBytesHaveNumbers, ReadNumbersAreNumbers, WrittenWordsAreRead    the same for any part of a packet
 use Rattle.std.specs.Prelude.{◌≡◌, ℕ, ◌+◌, ◌<◌, ◌≤◌, List, [], ◌∷◌, ◌++◌, Some, true, length, map, slice_index, slice_range}
 use Rattle.ttx_code.specs.Words.{reading, hamming_word, Near}
@@ -17,14 +17,14 @@ use Rattle.ttx_header.specs.Fields.{HeaderFields, IsHeaderFields}
 use Rattle.ttx_header.specs.Headers.{ReadsFrom, Says, number, id_of, control_of, header_fields_of, is_header, header_bytes}
 use Rattle.ttx_header.specs.Ids.{IsId}
 
--- what is received of a clean page header, with at most one wrong bit in each of bytes 0 to 9, has its id and its control bits
+-- a clean page header received with at most one wrong bit in each of bytes 0 to 9 keeps its id and its control bits
 abbrev pub HeaderIsKept : Type 0
 HeaderIsKept =
     (sent received : List ℕ) (mag : ℕ) → IsSlot sent → IsSlot received → is_clean sent ≡ true → kind_of sent ≡ IsHeader mag →
     ((x : ℕ) → x < 10 → Near (slice_index sent x) (slice_index received x)) →
     (id_of received ≡ id_of sent) × (control_of received ≡ control_of sent)
 
--- a slot of the kind header is a readable packet 0 of its magazine, with an id and control bits in range
+-- a slot whose kind is a page header is a readable packet 0 of that magazine, with its id and its control bits in range
 pub record HasFields (s : List ℕ) (mag : ℕ) : Type 0 where
   pub header : is_header s ≡ true
   pub magazine : (id_of s).mag ≡ mag
@@ -38,15 +38,15 @@ HeadersHaveFields = (s : List ℕ) (mag : ℕ) → IsSlot s → kind_of s ≡ Is
 abbrev pub HeadersAreHeaders : Type 0
 HeadersAreHeaders = (s : List ℕ) → IsSlot s → is_header s ≡ true → kind_of s ≡ IsHeader (id_of s).mag
 
--- 42 bytes that say a header are read as this header
+-- 42 bytes that encode a header are read as that header
 abbrev pub SaidHeadersAreRead : Type 0
 SaidHeadersAreRead = (h : HeaderFields) (s : List ℕ) → IsHeaderFields h → IsSlot s → Says h s → (is_header s ≡ true) × (header_fields_of s ≡ h)
 
--- a readable packet 0 says the header that is read of it, and its fields are in range
+-- a readable packet 0 encodes the header that is read from it, and its fields are in range
 abbrev pub ReadHeadersAreSaid : Type 0
 ReadHeadersAreSaid = (s : List ℕ) → IsSlot s → is_header s ≡ true → IsHeaderFields (header_fields_of s) × Says (header_fields_of s) s
 
--- what is written of a header is clean, has the kind header, says the header and is read as the same header
+-- the bytes written for a header are clean, have the kind of a page header, encode the header, and are read as the same header
 pub record IsWritten (h : HeaderFields) : Type 0 where
   pub kind : kind_of (header_bytes h) ≡ IsHeader h.id.mag
   pub clean : is_clean (header_bytes h) ≡ true
@@ -57,14 +57,14 @@ pub record IsWritten (h : HeaderFields) : Type 0 where
 abbrev pub WrittenHeadersAreRead : Type 0
 WrittenHeadersAreRead = (h : HeaderFields) → IsHeaderFields h → IsWritten h
 
--- bytes of which each is a code word, with at most one wrong bit in each, read as they were sent
+-- code words received with at most one wrong bit in each byte read as they were sent
 abbrev pub WordsAreKept : Type 0
 WordsAreKept =
     (sent received : List ℕ) (from to : ℕ) → IsSlot sent → IsSlot received → to ≤ 42 → are_words (slice_range sent from to) ≡ true →
     ((x : ℕ) → from ≤ x → x < to → Near (slice_index sent x) (slice_index received x)) →
     (x : ℕ) → from ≤ x → x < to → reading (slice_index received x) ≡ reading (slice_index sent x)
 
--- numbers of four bits
+-- four-bit numbers
 abbrev pub AreNumbers : List ℕ → Type 0
 AreNumbers [] = Unit {0}
 AreNumbers (n ∷ ns) = (n < 16) × AreNumbers ns
@@ -74,18 +74,18 @@ abbrev pub ReadBytesAreReadable : Type 0
 ReadBytesAreReadable =
     (s : List ℕ) (k : ℕ) (ns : List ℕ) → k + length ns ≤ length s → ReadsFrom k s ns → are_readable (slice_range s k (k + length ns)) ≡ true
 
--- readable bytes read as numbers of four bits
+-- readable bytes read as four-bit numbers
 abbrev pub ReadableBytesHaveNumbers : Type 0
 ReadableBytesHaveNumbers =
     (s : List ℕ) (from to : ℕ) → IsSlot s → to ≤ 42 → are_readable (slice_range s from to) ≡ true →
     (x : ℕ) → from ≤ x → x < to → (reading (slice_index s x) ≡ Some (number s x)) × (number s x < 16)
 
--- bytes that read as numbers have these numbers
+-- bytes that read as a list of numbers have these numbers one by one
 abbrev pub ReadNumbersAreNumbers : Type 0
 ReadNumbersAreNumbers =
     (s : List ℕ) (k : ℕ) (ns : List ℕ) → ReadsFrom k s ns → (i : ℕ) → i < length ns → number s (k + i) ≡ slice_index ns i
 
--- the words of numbers, wherever they stand, are code words and read as these numbers
+-- the code words written for a list of numbers are code words and read as these numbers, wherever they are placed
 abbrev pub WrittenWordsAreRead : Type 0
 WrittenWordsAreRead =
     (before ns after : List ℕ) → AreNumbers ns →

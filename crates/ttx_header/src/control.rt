@@ -34,16 +34,16 @@ impl Control {
     /// Magazine serial.
     pub const C11: Control = Control(128);
 
-    /// National option, its upper bit.
+    /// National option, upper bit.
     pub const C12: Control = Control(256);
 
-    /// National option, its middle bit.
+    /// National option, middle bit.
     pub const C13: Control = Control(512);
 
-    /// National option, its lower bit.
+    /// National option, lower bit.
     pub const C14: Control = Control(1024);
 
-    /// The named bits, C4 first.
+    /// The control bits by name, C4 first.
     pub const FLAGS: &'static [Flag<Control>] = &[
         Flag {
             name: "C4",
@@ -93,7 +93,7 @@ impl Control {
 }
 
 impl Control {
-    /// Whether a receiver erases the page's former contents (C4).
+    /// Whether a receiver erases the page's former contents (C4, erase page).
     pub fn erases_page(self) -> bool
         ensures { result ≡ c4 self.0 }
     {
@@ -114,14 +114,14 @@ impl Control {
         self.contains(Control::C6)
     }
 
-    /// Whether row 0 isn't shown (C7).
+    /// Whether row 0 is not shown (C7).
     pub fn suppresses_header(self) -> bool
         ensures { result ≡ c7 self.0 }
     {
         self.contains(Control::C7)
     }
 
-    /// Whether rows 1 to 24 aren't shown (C10).
+    /// Whether rows 1 to 24 are not shown (C10).
     pub fn inhibits_display(self) -> bool
         ensures { result ≡ c10 self.0 }
     {

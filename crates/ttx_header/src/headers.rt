@@ -8,7 +8,8 @@ use crate::control::Control;
 use crate::ids::PageId;
 use std::marker::Model;
 
-/// A page header: the page's id, its control bits, and the 24 characters and the 8 of the clock as the bytes that are sent.
+/// A page header: the id of the page, its control bits, its 24 characters and the 8 characters of the clock. Both texts are
+/// the bytes as they are sent.
 #[derive(Clone, Copy, PartialEq, Eq)]
 pub struct Header {
     id: PageId,
@@ -30,7 +31,7 @@ impl Model for Header {
 }
 
 impl Header {
-    /// The header of these fields. None where a control bit above C14 is set.
+    /// A header of these fields. `None` if a bit above C14 is set in `control`.
     pub fn new(id: PageId, control: Control, text: [u8; 24], clock: [u8; 8]) -> Option<Header>
         ensures { SomeIff result (IsControl control.0) (fields_at id control.0 text clock) }
     {
@@ -61,14 +62,14 @@ impl Header {
         self.control
     }
 
-    /// Bytes 10 to 33, as they are sent.
+    /// Bytes 10 to 33 (columns 8 to 31 of row 0), as they are sent.
     pub fn text(&self) -> &[u8; 24]
         ensures { result.now ≡ self.now.text }
     {
         &self.text
     }
 
-    /// Bytes 34 to 41, as they are sent.
+    /// Bytes 34 to 41 (the clock), as they are sent.
     pub fn clock(&self) -> &[u8; 8]
         ensures { result.now ≡ self.now.clock }
     {

@@ -5,7 +5,8 @@ ghost use Rattle.ttx_header.specs.Ids.{IsId, id_at};
 
 use std::marker::Model;
 
-/// The id of a page: its magazine, 1 to 8, its two digits as one number, and its subcode inside 3F7F.
+/// The id of a page: its magazine, 1 to 8, its page number as two hexadecimal digits in one byte, and its subcode inside the
+/// mask 3F7F.
 #[derive(Clone, Copy, PartialEq, Eq, Hash)]
 pub struct PageId {
     mag: u8,
@@ -26,7 +27,7 @@ impl Model for PageId {
 }
 
 impl PageId {
-    /// The id of these numbers. None where the magazine isn't 1 to 8, or the subcode has a bit outside 3F7F.
+    /// An id of these numbers. `None` if the magazine is not 1 to 8, or the subcode has a bit outside 3F7F.
     pub fn new(mag: u8, page: u8, sub: u16) -> Option<PageId>
         ensures { SomeIff result (IsId (id_at mag page sub)) (id_at mag page sub) }
     {
@@ -45,7 +46,7 @@ impl PageId {
         self.mag
     }
 
-    /// The page number inside the magazine: two hexadecimal digits.
+    /// The page number within the magazine: two hexadecimal digits.
     pub fn page(&self) -> u8
         ensures { result ≡ self.now.page }
     {

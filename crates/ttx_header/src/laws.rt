@@ -1,10 +1,11 @@
-//! Laws of page headers and of Hamming bytes in packets. A call costs nothing and gives the caller's proof the law.
+//! Laws of page headers, and of Hamming bytes in packets. Calling one does nothing at run time; it gives the caller's proof the
+//! law.
 
 ghost use Rattle.ttx_header.specs.Laws.{HeaderIsKept, HeadersHaveFields, HeadersAreHeaders, SaidHeadersAreRead, ReadHeadersAreSaid};
 ghost use Rattle.ttx_header.specs.Laws.{WrittenHeadersAreRead, WordsAreKept, ReadBytesAreReadable, ReadableBytesHaveNumbers};
 ghost use Rattle.ttx_header.specs.Laws.{ReadNumbersAreNumbers, WrittenWordsAreRead};
 
-/// Bytes of which each is a code word, with at most one wrong bit in each, read as they were sent.
+/// Code words that are received with at most one wrong bit in each byte read as they were sent.
 pub fn words_are_kept()
     ensures { WordsAreKept }
 {
@@ -16,19 +17,19 @@ pub fn read_bytes_are_readable()
     ensures { ReadBytesAreReadable }
 {}
 
-/// Readable bytes read as numbers of four bits.
+/// Readable bytes read as four-bit numbers.
 pub fn readable_bytes_have_numbers()
     ensures { ReadableBytesHaveNumbers }
 {
     ttx_code::laws::readings_are_numbers();
 }
 
-/// Bytes that read as numbers have these numbers.
+/// Bytes that read as a list of numbers have these numbers one by one.
 pub fn read_numbers_are_numbers()
     ensures { ReadNumbersAreNumbers }
 {}
 
-/// The words of numbers, wherever they stand, are code words and read as these numbers.
+/// The code words written for a list of numbers read as these numbers, wherever they are placed in a packet.
 pub fn written_words_are_read()
     ensures { WrittenWordsAreRead }
 {
@@ -36,14 +37,14 @@ pub fn written_words_are_read()
     ttx_code::laws::words_are_words();
 }
 
-/// One wrong bit in each byte leaves the id and the control bits of a clean page header.
+/// One wrong bit in each byte leaves the id and the control bits of a clean page header unchanged.
 pub fn header_is_kept()
     ensures { HeaderIsKept }
 {
     words_are_kept();
 }
 
-/// A slot of the kind header is a readable packet 0 of its magazine, with an id and control bits in range.
+/// A slot whose kind is a page header is a readable packet 0 of that magazine, with its id and its control bits in range.
 pub fn headers_have_fields()
     ensures { HeadersHaveFields }
 {
@@ -55,12 +56,12 @@ pub fn headers_are_headers()
     ensures { HeadersAreHeaders }
 {}
 
-/// 42 bytes that say a header are read as this header.
+/// 42 bytes that encode a header are read as that header.
 pub fn said_headers_are_read()
     ensures { SaidHeadersAreRead }
 {}
 
-/// A readable packet 0 says the header that is read of it.
+/// A readable packet 0 encodes the header that is read from it.
 pub fn read_headers_are_said()
     ensures { ReadHeadersAreSaid }
 {
@@ -69,7 +70,7 @@ pub fn read_headers_are_said()
     headers_have_fields();
 }
 
-/// What is written of a header is clean, has the kind header, says the header and is read as the same header.
+/// The bytes written for a header are clean, have the kind of a page header, encode the header, and are read as the same header.
 pub fn written_headers_are_read()
     ensures { WrittenHeadersAreRead }
 {

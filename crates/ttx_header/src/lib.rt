@@ -1,4 +1,4 @@
-//! Page headers: the ids of pages, the control bits, and what the 42 bytes of a page header say.
+//! Page headers: the ids of pages, the control bits, and the 42 bytes of a page header.
 #![tactic(auto)]
 
 pub mod control;

@@ -1,4 +1,4 @@
-//! Parts of a packet, as the readers and writers of packets need them.
+//! Reads and writes parts of a packet, for all readers and writers of packets.
 
 ghost use Rattle.std.specs.Prelude.{◌≡◌, ◌+◌, ◌<◌, ◌≤◌, ◌++◌, length, take};
 ghost use Rattle.ttx_packet.specs.Slots.{are_readable};
@@ -6,14 +6,14 @@ ghost use Rattle.ttx_header.specs.Headers.{number};
 
 use ttx_code::unham;
 
-/// Whether each of the bytes is readable as a Hamming 8/4 word.
+/// Whether all bytes are readable as Hamming 8/4.
 pub fn is_readable(bytes: &[u8]) -> bool
     ensures { result ≡ are_readable bytes.now }
 {
     bytes.iter().all(|b| unham(*b).is_some())
 }
 
-/// The number that byte `at` of a packet reads as, 0 to 15; 0 where it is unreadable.
+/// The number, 0 to 15, that byte `at` of a packet reads as; 0 if the byte is unreadable.
 pub fn number_at(bytes: &[u8; 42], at: usize) -> u8
     requires { at < 42 }
     ensures value { result ≡ number bytes.now at }
@@ -22,7 +22,7 @@ pub fn number_at(bytes: &[u8; 42], at: usize) -> u8
     unham(bytes[at]).unwrap_or(0)
 }
 
-/// Writes a part of a packet, from byte `at` on. The bytes before it stay.
+/// Overwrites a part of a packet, from byte `at` on. The bytes before it are unchanged.
 #[tactic(auto, using(std::proofs::lemmas::Slice::overwrites))]
 pub fn put(bytes: &mut [u8; 42], at: usize, part: &[u8])
     requires { at + length part.now ≤ 42 }

@@ -12,7 +12,7 @@ use crate::headers::Header;
 use crate::parts::put;
 use ttx_code::ham;
 
-// The words of bytes 0 to 9.
+// The code words of bytes 0 to 9.
 fn words_of(mag: u8, page: u8, sub: u16, control: u16) -> [u8; 10]
     requires id { IsId (id_at mag page sub) }
     requires control { IsControl control }
@@ -32,7 +32,7 @@ fn words_of(mag: u8, page: u8, sub: u16, control: u16) -> [u8; 10]
     ]
 }
 
-// A packet of these three parts.
+// A packet made of these three parts.
 fn joined(words: &[u8; 10], text: &[u8; 24], clock: &[u8; 8]) -> [u8; 42]
     ensures { result ≡ words.now ++ text.now ++ clock.now }
 {
@@ -52,7 +52,8 @@ pub fn write_header(header: &Header) -> [u8; 42]
     joined(&words, header.text(), header.clock())
 }
 
-/// The time-filling header of a magazine: page FF, subcode 3F7F, no control bit but C11, which is `serial`, and 32 spaces.
+/// The time-filling header of a magazine, 42 bytes: page FF, subcode 3F7F, 32 spaces, and no control bit except C11, which is
+/// `serial`.
 pub fn time_fill(mag: u8, serial: bool) -> [u8; 42]
     requires low { 1 ≤ mag }
     requires high { mag ≤ 8 }

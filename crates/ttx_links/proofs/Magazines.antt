@@ -1,4 +1,4 @@
--- Magazines, of which 8 is written 0, and the difference of two.
+-- Magazines, where 8 is written as 0, and the difference (XOR) of two.
 use Rattle.std.proofs.Common.{◌≡◌, ℕ, ◌<◌, ◌≤◌, ◌%◌, ◌==◌, true, false, refl, arith, bit_xor, ltb, eqb, inl, inr, eqb-true}
 use Rattle.std.proofs.lemmas.Bool.{agree_below, agree_below_at, ltb-true, cases_Bool}
 use Rattle.std.proofs.lemmas.Bool.Decides.{nat_tests}
@@ -16,7 +16,7 @@ xor_below_8 a b p q =
 twice : agree_below (λ a. agree_below (λ b. eqb (bit_xor a (bit_xor a b)) b) (λ _. true) 8) (λ _. true) 8 ≡ true
 twice = refl
 
--- the difference gives the other magazine back
+-- the difference from one magazine gives the other back
 pub xor_back : (a b : ℕ) → a < 8 → b < 8 → bit_xor a (bit_xor a b) ≡ b
 xor_back a b p q =
     eqb-true _ _ (agree_below_at (λ b. eqb (bit_xor a (bit_xor a b)) b) (λ _. true) 8 b

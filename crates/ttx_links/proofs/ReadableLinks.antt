@@ -1,4 +1,4 @@
--- A readable packet X/27/0 says what is read of it.
+-- A readable packet X/27/0 encodes what is read from it.
 use Rattle.std.proofs.Common.{◌≡◌, ℕ, ◌+◌, ◌*◌, ◌/◌, ◌%◌, ◌<◌, ◌≤◌, Bool, true, false, List, Option, Some, None, if◌then◌else◌, drop, refl, sym, ap}
 use Rattle.std.proofs.Common.{subst, ◌∙◌, inl, inr, arith, bit_xor, slice_index, slice_range}
 use Rattle.std.proofs.lemmas.Bool.{cases_Bool}
@@ -28,7 +28,7 @@ module _ (mag : ℕ) (s : List ℕ) (k : ℕ) (read : AreRead s k (k + 6)) where
   n : (i : ℕ) → i < 6 → (reading (slice_index s (k + i)) ≡ Some (number s (k + i))) × (number s (k + i) < 16)
   n i l = read (k + i) (omega arith) (omega (arith, l))
 
-  -- the byte at one place reads as this number
+  -- the byte at one position reads as this number
   reads_as : (i j m : ℕ) → i < 6 → k + i ≡ j → number s (k + i) ≡ m → reading (slice_index s j) ≡ Some m
   reads_as i j m l place same = subst (λ x. reading (slice_index s x) ≡ Some m) place ((n i l).0 ∙ ap Some same)
 

@@ -1,4 +1,4 @@
--- What is received of a packet X/27/0.
+-- A packet X/27/0 as it is received.
 use Rattle.std.proofs.Common.{◌≡◌, ℕ, zero, suc, ◌+◌, ◌-◌, ◌*◌, ◌/◌, ◌%◌, ◌<◌, ◌≤◌, ◌==◌, ◌&&◌, Bool, true, false, List, [], ◌∷◌, Some, is_some}
 use Rattle.std.proofs.Common.{length, get_or, drop, refl, sym, ap, ◌∙◌, arith, slice_index, slice_range}
 use Rattle.std.specs.List.{list_all}

@@ -1,4 +1,4 @@
--- A packet X/27/0 that is said by its bytes.
+-- A packet X/27/0 that its bytes encode.
 use Rattle.std.proofs.Common.{◌≡◌, ℕ, zero, suc, ◌+◌, ◌*◌, ◌/◌, ◌%◌, ◌<◌, ◌==◌, List, [], ◌∷◌, ◌++◌, Option, Some, None, length, length-append, refl}
 use Rattle.std.proofs.Common.{ap, ap₂, subst, ◌∙◌, arith, true, bit_xor, slice_range}
 use Rattle.std.specs.Prelude.{unwrap_or}
@@ -19,7 +19,7 @@ reads_append s k (x ∷ xs) ys r q = (
       (subst (λ j. ReadsFrom j s ys) (let e : k + suc (length xs) ≡ k + 1 + length xs = omega arith in e) q),
 )
 
--- the numbers of bytes that say links
+-- the numbers of bytes that encode a link
 link_reads : (mag : ℕ) (link : Option Id) (s : List ℕ) (k : ℕ) → SaysLink mag link s k → (ns : List ℕ) × (length ns ≡ 6) × ReadsFrom k s ns
 link_reads mag None s k (m, l, r) = (link_numbers m no_link, refl, r)
 link_reads mag (Some id) s k r = (numbers_for mag (Some id), refl, r)
@@ -35,7 +35,7 @@ each_reads mag (link ∷ links) s k r =
       reads_append s k ms ns q (subst (λ j. ReadsFrom j s ns) (let g : k + 6 ≡ k + length ms = omega (arith, e) in g) p),
     )
 
--- links as they are read, one after another
+-- links read one after another
 abbrev links_from : ℕ → List ℕ → ℕ → ℕ → List (Option Id)
 links_from mag s k zero = []
 links_from mag s k (suc n) = link_at mag s k ∷ links_from mag s (k + 6) n

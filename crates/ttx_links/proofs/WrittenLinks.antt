@@ -1,4 +1,4 @@
--- A packet X/27/0 that is written.
+-- A packet X/27/0 as it is written.
 use Rattle.std.proofs.Common.{◌≡◌, ℕ, ◌+◌, ◌*◌, ◌/◌, ◌%◌, ◌<◌, ◌==◌, ◌&&◌, ◌||◌, Bool, true, false, if◌then◌else◌, List, [], ◌∷◌, ◌++◌, Option, Some}
 use Rattle.std.proofs.Common.{None, length, length-append, append_assoc, take, take_at, take_all, drop_at, flat_map, refl, sym, ap, subst, ◌∙◌, arith}
 use Rattle.std.proofs.Common.{bit_xor, slice_index, slice_range}

@@ -1,4 +1,4 @@
-//! Laws of packets X/27/0. A call costs nothing and gives the caller's proof the law.
+//! Laws of packets X/27/0. Calling one does nothing at run time; it gives the caller's proof the law.
 
 ghost use Rattle.ttx_links.specs.Sets.{IsLink, AreLinks};
 ghost use Rattle.ttx_links.specs.Laws.{LinksAreKept, SaidLinkIsRead, ReadLinkIsSaid, WrittenLinkIsSaid};
@@ -16,7 +16,7 @@ pub fn link_leads_to_a_target(link: &Option<Target>)
     }
 }
 
-/// Each of six links that leads somewhere leads to a target in range.
+/// Each of six links leads nowhere or to a target in range.
 pub fn links_lead_to_targets(links: &Links)
     ensures { AreLinks links.now.set.six }
 {
@@ -26,7 +26,7 @@ pub fn links_lead_to_targets(links: &Links)
     }
 }
 
-/// One wrong bit in each byte leaves the links and show24 of a packet X/27/0 whose bytes 3 to 39 are code words.
+/// One wrong bit in each byte leaves the links and `show24` of a packet X/27/0 unchanged if its bytes 3 to 39 are code words.
 pub fn links_are_kept()
     ensures { LinksAreKept }
 {
@@ -34,7 +34,7 @@ pub fn links_are_kept()
     ttx_header::laws::words_are_kept();
 }
 
-/// Six readable bytes that say a link are read as this link.
+/// Six readable bytes that encode a link are read as that link.
 pub fn said_link_is_read()
     ensures { SaidLinkIsRead }
 {
@@ -42,21 +42,21 @@ pub fn said_link_is_read()
     ttx_header::laws::read_bytes_are_readable();
 }
 
-/// Six readable bytes say the link that is read of them.
+/// Six readable bytes encode the link that is read from them.
 pub fn read_link_is_said()
     ensures { ReadLinkIsSaid }
 {
     ttx_header::laws::readable_bytes_have_numbers();
 }
 
-/// The bytes that are written for a link, wherever they stand, say the link.
+/// The bytes written for a link encode that link, wherever they are placed in a packet.
 pub fn written_link_is_said()
     ensures { WrittenLinkIsSaid }
 {
     ttx_header::laws::written_words_are_read();
 }
 
-/// 42 bytes that say a packet of the magazine are read as this packet.
+/// 42 bytes that encode a packet of this magazine are read as that packet.
 pub fn said_links_are_read()
     ensures { SaidLinksAreRead }
 {
@@ -64,14 +64,14 @@ pub fn said_links_are_read()
     ttx_header::laws::read_bytes_are_readable();
 }
 
-/// A packet whose bytes 3 to 39 are readable says what is read of it.
+/// A packet whose bytes 3 to 39 are readable encodes what is read from it.
 pub fn read_links_are_said()
     ensures { ReadLinksAreSaid }
 {
     ttx_header::laws::readable_bytes_have_numbers();
 }
 
-/// What is written of a packet is clean and exact, has the kind links, says the packet and is read as the same packet.
+/// The bytes written for a packet are clean and exact, have the kind links, encode the packet, and are read as the same packet.
 pub fn written_links_are_read()
     ensures { WrittenLinksAreRead }
 {

@@ -1,4 +1,4 @@
-//! Packets X/27/0: the six links of a page.
+//! Packets X/27/0 (EN 300 706, 9.6.1): the six links of a page.
 #![tactic(auto)]
 
 pub mod laws;

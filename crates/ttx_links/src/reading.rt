@@ -1,4 +1,4 @@
-//! Reads packets X/27/0, and links wherever they stand.
+//! Reads packets X/27/0, and single links in other packets.
 
 ghost use Rattle.std.specs.Prelude.{◌≡◌, ◌+◌, ◌≤◌, true, SomeIff, slice_range, option_map};
 ghost use Rattle.ttx_packet.specs.Slots.{are_readable};
@@ -8,7 +8,7 @@ use crate::sets::Links;
 use crate::targets::Target;
 use ttx_header::parts::{is_readable, number_at};
 
-// The link whose six bytes begin at byte `at`, where these are readable.
+// The link in the six bytes from byte `at` on, if they are readable.
 fn link_at(mag: u8, bytes: &[u8; 42], at: usize) -> Option<Target>
     requires low { 1 ≤ mag }
     requires high { mag ≤ 8 }
@@ -27,8 +27,8 @@ fn link_at(mag: u8, bytes: &[u8; 42], at: usize) -> Option<Target>
     Target::new(target_mag, page, sub)
 }
 
-/// The link whose six bytes begin at byte `at`, in a packet of the magazine. None where one of the six is unreadable;
-/// `Some(None)` where they are page FF with subcode 3F7F, which is no link.
+/// Reads the link in the six bytes from byte `at` on, in a packet of magazine `mag` (EN 300 706, 9.6.1). `None` if one of the
+/// six bytes is unreadable; `Some(None)` if they name page FF with subcode 3F7F, which is no link.
 pub fn read_link(mag: u8, bytes: &[u8; 42], at: usize) -> Option<Option<Target>>
     requires low { 1 ≤ mag }
     requires high { mag ≤ 8 }
@@ -50,7 +50,8 @@ fn crc_of(bytes: &[u8; 42]) -> [u8; 2]
     crc
 }
 
-/// What a packet X/27/0 of the magazine says: bytes 3 to 41 are looked at. None where one of bytes 3 to 39 is unreadable.
+/// Reads a packet X/27/0 of magazine `mag` from bytes 3 to 41; the first three bytes are not looked at. `None` if one of bytes 3
+/// to 39 is unreadable.
 #[tactic(auto, unfolding(crate::specs::Sets::links_of))]
 pub fn read_links(mag: u8, bytes: &[u8; 42]) -> Option<Links>
     requires low { 1 ≤ mag }

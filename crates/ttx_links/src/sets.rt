@@ -6,7 +6,7 @@ ghost use Rattle.ttx_links.specs.Sets.{IsLinksFields, links_at};
 use crate::targets::Target;
 use std::marker::Model;
 
-/// Six links, whether row 24 is shown, and the two bytes of the page's check word as they are sent.
+/// The contents of a packet X/27/0: six links, whether row 24 is shown, and the two bytes of the page CRC as they are sent.
 #[derive(Clone, Copy, PartialEq, Eq)]
 pub struct Links {
     six: [Option<Target>; 6],
@@ -27,14 +27,14 @@ impl Model for Links {
 }
 
 impl Links {
-    /// Links of these fields.
+    /// The links with these fields.
     pub fn new(six: [Option<Target>; 6], show24: bool, crc: [u8; 2]) -> Links
         ensures { result ≡ links_at six show24 crc }
     {
         Links { six, show24, crc }
     }
 
-    /// The six links, those of the four coloured keys first.
+    /// The six links. The first four belong to the coloured keys.
     pub fn six(&self) -> &[Option<Target>; 6]
         ensures value { result.now ≡ self.now.set.six }
         ensures ranges { IsLinksFields self.now }
@@ -42,14 +42,14 @@ impl Links {
         &self.six
     }
 
-    /// Whether row 24 is shown.
+    /// Whether row 24 is shown (bit D4 of the link control).
     pub fn show24(&self) -> bool
         ensures { result ≡ self.now.set.show24 }
     {
         self.show24
     }
 
-    /// Bytes 40 and 41, as they are sent.
+    /// The page CRC: bytes 40 and 41, as they are sent.
     pub fn crc(&self) -> [u8; 2]
         ensures { result ≡ self.now.crc }
     {

@@ -6,7 +6,7 @@ ghost use Rattle.ttx_links.specs.Sets.{IsTarget};
 
 use std::marker::Model;
 
-/// The page that a link leads to, in the ranges of a page's id. Subcode 3F7F is any subpage; page FF has another subcode.
+/// The page that a link leads to. Subcode 3F7F means any subpage; with page FF the subcode is never 3F7F.
 #[derive(Clone, Copy, PartialEq, Eq)]
 pub struct Target {
     mag: u8,
@@ -28,8 +28,8 @@ impl Model for Target {
 }
 
 impl Target {
-    /// The target of these numbers. None where the magazine isn't 1 to 8, the subcode has a bit outside 3F7F, or they are
-    /// page FF with subcode 3F7F, which is no link.
+    /// The target with these numbers. `None` if the magazine is not 1 to 8, the subcode has a bit outside 3F7F, or the target would
+    /// be page FF with subcode 3F7F, which is no link.
     pub fn new(mag: u8, page: u8, sub: u16) -> Option<Target>
         ensures { SomeIff result (IsTarget (id_at mag page sub)) (id_at mag page sub) }
     {
@@ -53,14 +53,14 @@ impl Target {
         self.mag
     }
 
-    /// The page number inside the magazine: two hexadecimal digits.
+    /// The page number within the magazine: two hexadecimal digits.
     pub fn page(&self) -> u8
         ensures { result ≡ self.now.page }
     {
         self.page
     }
 
-    /// The subcode, with no bit outside 3F7F.
+    /// The subcode. It has no bit outside 3F7F.
     pub fn sub(&self) -> u16
         ensures { result ≡ self.now.sub }
     {

@@ -1,4 +1,4 @@
-//! Writes packets X/27/0, and links wherever they stand.
+//! Writes packets X/27/0, and single links in other packets.
 
 ghost use Rattle.std.specs.Prelude.{◌≡◌, ◌<◌, ◌≤◌, ◌++◌, [], ◌∷◌, map};
 ghost use Rattle.ttx_code.specs.Words.{hamming_word};
@@ -12,7 +12,7 @@ use ttx_code::ham;
 use ttx_header::parts::put;
 use ttx_packet::address;
 
-// The words of a link; `m` is M1 + 2 M2 + 4 M3.
+// The code words of a link; `m` is M1 + 2 M2 + 4 M3.
 fn link_words(m: u8, page: u8, sub: u16) -> [u8; 6]
     requires m { m < 8 }
     requires sub { IsSubcode sub }
@@ -28,7 +28,7 @@ fn link_words(m: u8, page: u8, sub: u16) -> [u8; 6]
     ]
 }
 
-/// The six bytes of a link in a packet of the magazine. No link is page FF with subcode 3F7F, and M1 to M3 zero.
+/// The six bytes of a link in a packet of magazine `mag`. No link is sent as page FF, subcode 3F7F, with M1 to M3 zero.
 pub fn write_link(mag: u8, link: &Option<Target>) -> [u8; 6]
     requires low { 1 ≤ mag }
     requires high { mag ≤ 8 }
@@ -40,7 +40,7 @@ pub fn write_link(mag: u8, link: &Option<Target>) -> [u8; 6]
     }
 }
 
-// Bytes 0 to 2: the address, and designation 0.
+// Bytes 0 to 2: the address and designation 0.
 fn front(mag: u8) -> [u8; 3]
     requires low { 1 ≤ mag }
     requires high { mag ≤ 8 }
@@ -50,7 +50,7 @@ fn front(mag: u8) -> [u8; 3]
     [low, high, ham(0)]
 }
 
-// Bytes 39 to 41: the link control and the check word.
+// Bytes 39 to 41: the link control and the page CRC.
 fn back(links: &Links) -> [u8; 3]
     ensures { result ≡ control_byte links.now.set.show24 ∷ links.now.crc }
 {
@@ -59,7 +59,7 @@ fn back(links: &Links) -> [u8; 3]
     [control, first, second]
 }
 
-/// The 42 bytes of a packet X/27/0 of the magazine.
+/// The 42 bytes of a packet X/27/0 of magazine `mag`.
 pub fn write_links(mag: u8, links: &Links) -> [u8; 42]
     requires low { 1 ≤ mag }
     requires high { mag ≤ 8 }

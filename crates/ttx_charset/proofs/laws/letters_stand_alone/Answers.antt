@@ -4,7 +4,7 @@ use Rattle.ttx_charset.specs.Glyphs.{glyph, national_set}
 use Rattle.ttx_charset.specs.Laws.{ShowsOnly}
 use Rattle.ttx_charset.proofs.laws.letters_stand_alone.Goals as goal
 
--- the test over all codes of an option
+-- the letter is tested against all codes under one option
 abbrev alone_in : ℕ → ℕ → Bool
 alone_in letter option = agree_below (λ code. eqb (glyph option code) letter) (λ code. eqb code letter) 128
 

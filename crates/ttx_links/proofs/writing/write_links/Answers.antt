@@ -4,7 +4,7 @@ use Rattle.ttx_packet.specs.Slots.{address_bytes}
 use Rattle.ttx_links.specs.Sets.{link_bytes}
 use Rattle.ttx_links.proofs.writing.write_links.Goals as goal
 
--- what is written last ends the packet
+-- the part that is written last ends the packet
 joined : (n : ℕ) (new old front links back : List ℕ) → length new ≡ 42 → 42 ≤ n → take n new ≡ take 39 old ++ back → take 39 old ≡ front ++ links →
     new ≡ front ++ (links ++ back)
 joined n new old front links back size long end begin =
