@@ -18,7 +18,7 @@ pub blank_is_former : BlankIsFormer
 blank_is_former Any = IsMemory-blank
 blank_is_former Clearing = (IsMemory-blank, refl)
 
--- behind n spaces
+-- the characters after n spaces
 behind : (n : ℕ) (rest : List ℕ) (c : ℕ) → get_or (replicate n 32 ++ rest) (n + c) 0 ≡ get_or rest c 0
 behind zero rest c = let e : 0 + c ≡ c = omega arith in ap (λ k. get_or rest k 0) e
 behind (suc n) rest c = let e : suc n + c ≡ suc (n + c) = omega arith in ap (λ k. get_or (32 ∷ (replicate n 32 ++ rest)) k 0) e ∙ behind n rest c
@@ -53,7 +53,7 @@ spaces_at zero r h = absurd (omega arith)
 spaces_at (suc n) zero h = refl
 spaces_at (suc n) (suc r) h = spaces_at n r (omega arith)
 
--- below row 0 stand spaces
+-- the rows below row 0 are spaces
 erased_at : (rows : List (List ℕ)) → 0 < length rows → (r : ℕ) → r < 24 → get_or (take 1 rows ++ replicate 24 blank_row) (suc r) [] ≡ blank_row
 erased_at [] some r h = absurd (omega arith)
 erased_at (x ∷ rows) some r h = spaces_at 24 r h

@@ -5,7 +5,7 @@ use Rattle.std.proofs.Common.{if◌then◌else◌, List, [], ◌∷◌, Option, 
 pub eq_sym : (a b : ℕ) → (a == b) ≡ true → (b == a) ≡ true
 eq_sym a b h = eq-eqb b a (sym (eqb-true a b h))
 
--- a fact, or its refutation
+-- a fact or its refutation
 abbrev pub Decided : Type 0 → Type 0
 Decided P = P ⊎ (P → ⊥)
 

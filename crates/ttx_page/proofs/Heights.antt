@@ -1,4 +1,4 @@
--- Rows below rows in double height, from below.
+-- Hidden rows below rows in double height, going upwards.
 use Rattle.std.proofs.Common.{◌≡◌, ◌∙◌, ℕ, suc, ◌-◌, ◌<◌, ◌≤◌, Bool, true, false, not, ◌&&◌, if◌then◌else◌, List, nat_le, refl, ap, subst, arith}
 use Rattle.std.proofs.lemmas.Bool.Decides.{nat_tests}
 use Rattle.ttx_page.specs.Pages.{has_double_height, is_hidden}
@@ -7,7 +7,7 @@ both : (b : Bool) → (b && true) ≡ b
 both true = refl
 both false = refl
 
--- the row below a row 1 to 22 in double height is hidden where that one isn't
+-- the row below a row 1 to 22 in double height is hidden if and only if that row is not
 below_tall : (row : ℕ → List ℕ) (above : ℕ) → 1 ≤ above → above ≤ 22 → has_double_height (row above) ≡ true
     → is_hidden row (suc above) ≡ not (is_hidden row above)
 below_tall row above low high tall =

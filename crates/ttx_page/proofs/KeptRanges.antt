@@ -1,4 +1,4 @@
--- What keeps rows and memories in their ranges.
+-- Rows and memories stay in their ranges.
 use Rattle.std.proofs.Common.{◌≡◌, ℕ, zero, suc, ◌-◌, ◌%◌, ◌<◌, ◌≤◌, Bool, true, false, if◌then◌else◌, List, [], ◌∷◌, ◌++◌, length, get_or, take}
 use Rattle.std.proofs.Common.{drop, set, replicate, refl, ap, ◌∙◌, subst, arith, lit<, length-append}
 use Rattle.std.specs.Simd.Lanes.{zip2}
@@ -12,14 +12,14 @@ length-stored_row [] bytes = refl
 length-stored_row (c ∷ row) [] = refl
 length-stored_row (c ∷ row) (b ∷ bytes) = ap suc (length-stored_row row bytes)
 
--- on rows and bytes of one length, the code of each byte beside its place
+-- for a row and bytes of equal length, each byte acts on the character at its place
 pub stored_row-zip2 : (row bytes : List ℕ) → length bytes ≡ length row → zip2 stored bytes row ≡ stored_row row bytes
 stored_row-zip2 [] [] e = refl
 stored_row-zip2 [] (b ∷ bytes) e = absurd (omega arith)
 stored_row-zip2 (c ∷ row) [] e = absurd (omega arith)
 stored_row-zip2 (c ∷ row) (b ∷ bytes) e = ap (λ r. stored b c ∷ r) (stored_row-zip2 row bytes (omega arith))
 
--- zero bytes leave what is held
+-- zero bytes leave what is held unchanged
 pub stored_row-zeros : (n : ℕ) (row bytes : List ℕ) → n ≤ length row → stored_row row (replicate n 0 ++ bytes) ≡ take n row
     ++ stored_row (drop n row) bytes
 unfolding ones
@@ -83,7 +83,7 @@ IsMemory-memory_of_page p is = record {
     rows zero lt = IsRow-top p.head is.head_length is.head_codes
     rows (suc r) lt = let e : suc r - 1 ≡ r = omega arith in subst (λ k. IsRow (get_or p.rows k [])) e (is.rows (suc r) (omega arith) (omega arith))
 
--- a memory whose rows below row 0 are spaces
+-- a memory in which the rows below row 0 are spaces
 pub IsRow-erased : (rows : List (List ℕ)) → ((r : ℕ) → r < 25 → IsRow (get_or rows r [])) → (r : ℕ) → r < 25 →
     IsRow (get_or (set (replicate 25 blank_row) 0 (get_or rows 0 [])) r [])
 IsRow-erased rows each zero lt = each 0 (omega arith)

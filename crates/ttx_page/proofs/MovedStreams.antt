@@ -1,4 +1,4 @@
--- A stream that is the same d slots on: its owners, transmissions and runs are too.
+-- If a stream is the same d slots on, then so are its owners, transmissions and runs.
 use Rattle.std.proofs.Common.{◌≡◌, ℕ, suc, ℤ, pos, ◌+ℤ◌, ◌-ℤ◌, ◌<ℤ◌, List, [], ◌∷◌, map, sym, ap, ◌∙◌, subst, arith}
 use Rattle.std.specs.List.{AllByRecursion}
 use Rattle.std.proofs.lemmas.List.{length-map}

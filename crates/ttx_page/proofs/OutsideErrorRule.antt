@@ -1,4 +1,4 @@
--- The examples outside of the error rule.
+-- The examples outside the error rule.
 use Rattle.std.proofs.Common.{◌≡◌, ◌⊎◌, ℕ, ℤ, pos, ◌<ℤ◌, false, [], ◌∷◌, ◌++◌, get_or, slice_index, refl, subst, inl, inr, arith}
 use Rattle.std.proofs.lemmas.Int.{ints}
 use Rattle.ttx_code.specs.Words.{Near, reading, distance, ones, hamming_word}

@@ -1,4 +1,4 @@
--- No reason is true exactly where the page's own contents are sent.
+-- No reason is true if and only if the page's own contents are sent.
 use Rattle.std.proofs.Common.{◌≡◌, ℕ, ◌/◌, ℤ, true, false, List, Some, map, take, refl, sym, ap, ◌∙◌, inl, inr, arith}
 use Rattle.std.proofs.lemmas.Bool.{cases_eq, cases_Bool, both_ways}
 use Rattle.std.proofs.lemmas.Bool.Decides.{nat_tests}
@@ -31,7 +31,7 @@ same_link_set a b = elim (both (same_list (same_option same_page_id) a.six b.six
   | inr ne ↦ inr (λ e. ne (ap (λ x. x.six) e, ap (λ x. x.show24) e))
 ]
 
--- control bits without C4 are equal where the others are
+-- two sets of control bits without C4 are equal if their other bits are
 same_control : (a b : ℕ) → c4 a ≡ false → c4 b ≡ false → a / 2 ≡ b / 2 → a ≡ b
 same_control a b h k e = grind (arith, nat_tests)
 

@@ -28,7 +28,7 @@ owners_come_first s page TheHead h j a = let e = a.0 in omega (arith, ints)
 owners_come_first s page (TheRow r) h j a = let e = a.0.earlier in omega (arith, ints)
 owners_come_first s page TheLinks h j a = let e = a.0.earlier in omega (arith, ints)
 
--- a row or an X/27/0 is no header
+-- a row or an X/27/0 is not a header
 no_head : (mag : ℕ) (item : Item) (packet : Packet) → heads mag packet ≡ true → carries mag item packet ≡ true → ⊥
 no_head mag TheHead (Header id control text) h k = cc
 no_head mag (TheRow r) (Header id control text) h k = cc
@@ -57,7 +57,7 @@ latest_near s n some period mag h j a = elim (cases_ltz (h +ℤ pos n) j) as (λ
   | inr ge ↦ ge
 ]
 
--- a slot that is no header isn't the place of the owner a period later
+-- a slot that is not a header is not one period after its owner
 text_near : (s : Stream) (n : ℕ) → 0 < n → IsSameOn s (pos n) → (mag : ℕ) (item : Item) (h j : ℤ) → IsLatestHeader s mag h j →
     carries mag item (packet_of (s j)) ≡ true → j <ℤ (h +ℤ pos n)
 text_near s n some period mag item h j a c = elim (cases_ltz j (h +ℤ pos n)) as (λ _. j <ℤ (h +ℤ pos n)) [
@@ -74,7 +74,7 @@ owners_are_near s n some period page TheHead h j a = let e = a.0 in omega (arith
 owners_are_near s n some period page (TheRow r) h j a = text_near s n some period page.mag (TheRow r) h j a.0 a.2
 owners_are_near s n some period page TheLinks h j a = text_near s n some period page.mag TheLinks h j a.0 a.2
 
--- the latest header before a later slot isn't earlier
+-- the latest header before a later slot is not earlier
 latest_rises : (s : Stream) (mag : ℕ) (h k j : ℤ) → h <ℤ j → heads mag (packet_of (s h)) ≡ true → IsLatestHeader s mag k j → h ≤ℤ k
 latest_rises s mag h k j before is b = elim (cases_ltz k h) as (λ _. h ≤ℤ k) [
   | inl lt ↦ absurd (both_ways _ (b.none_between h lt before) is)

@@ -5,7 +5,7 @@ use Rattle.ttx_header.specs.Control.{IsControl, c4}
 use Rattle.ttx_links.specs.Sets.{LinkSet}
 use Rattle.ttx_page.specs.Pages.{IsRow, IsPage, page_at}
 
--- what the tests of `Page::new` say
+-- what the tests of `Page::new` check
 pub record PassesAsPage (id : Id) (bits : ℕ) (top : List ℕ) (lower : List (List ℕ)) : Type 0 where
   pub filling : (id.page ≢ 255) × (id.sub ≢ 16255)
   pub control : IsControl bits × (c4 bits ≡ false)

@@ -1,4 +1,4 @@
--- Runs of one item: that from a slot is one, and they end in the order in which they start.
+-- Runs of one item: there is one from each slot, and they end in the order in which they start.
 use Rattle.std.proofs.Common.{◌≡◌, ℤ, pos, ◌+ℤ◌, ◌<ℤ◌, List, [], ◌∷◌, length, refl, sym, subst, inl, inr, arith}
 use Rattle.std.specs.List.{AllByRecursion}
 use Rattle.std.proofs.lemmas.Int.{ints}
@@ -39,7 +39,7 @@ module _ (s : Stream) (page : Id) (item : Item) where
   all_earlier i j (x ∷ a) (y ∷ b) e lt h k end below =
       ((let w = below.0 in omega (arith, ints)), all_earlier x y a b (omega arith) x_first h.3 k.3 end below.1)
     where
-      -- no transmission stands between i and x, so x isn't after j
+      -- no transmission is between i and x, so x is not after j
       x_first : x <ℤ y
       x_first = elim (cases_ltz j x) as (λ _. x <ℤ y) [
         | inl after ↦ absurd (h.2 j lt after (begins j (y ∷ b) k))

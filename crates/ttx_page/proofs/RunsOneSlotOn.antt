@@ -1,4 +1,4 @@
--- A run goes on by one slot.
+-- A run extended by one slot.
 use Rattle.std.proofs.Common.{◌≡◌, ℕ, List, [], ◌∷◌, ◌++◌, refl, subst}
 use Rattle.ttx_page.specs.declared.class.Class.{Class}
 use Rattle.ttx_page.specs.declared.selection.Selection.{Selection}
@@ -10,7 +10,7 @@ run_more : {class : Class} {lines : ℕ} {sel : Selection} {mid new : Memory} {s
 run_more {class} {lines} {sel} {mid} {new} {slot} m [] r s = (new, subst (λ x. Step class lines sel x slot new) r s, refl)
 run_more m (first ∷ received) r s = (r.0, r.1, run_more r.0 received r.2 s)
 
--- a step under equal settings
+-- a step with equal settings
 same_step : {class class' : Class} {lines lines' : ℕ} {sel sel' : Selection} {m new : Memory} {slot : List ℕ} → class' ≡ class → lines'
     ≡ lines → sel' ≡ sel →
     Step class' lines' sel' m slot new → Step class lines sel m slot new

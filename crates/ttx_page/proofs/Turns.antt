@@ -1,4 +1,4 @@
--- A cycle's stream is the same in each period.
+-- The stream of a cycle is the same in each period.
 use Rattle.std.proofs.Common.{◌≡◌, ℕ, zero, suc, ◌+◌, ◌-◌, ◌*◌, ◌/◌, ◌%◌, ◌<◌, ℤ, pos, negsuc, ◌+ℤ◌, ◌-ℤ◌, [], get_or, refl, sym, ap, ◌∙◌, inl, inr}
 use Rattle.std.proofs.Common.{arith, mod-eq_of_lt, mul-suc, mul-zero, mod-lt}
 use Rattle.std.proofs.Math.Nat.{add-mod_right, div-add-mod}

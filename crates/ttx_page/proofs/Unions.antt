@@ -7,7 +7,7 @@ use Rattle.std.proofs.lemmas.Bool.Decides.{nat_tests}
 unions : agree_below (λ a. agree_below (λ b. nat_lt (bit_or a b) 128) (λ b. nat_lt a 128 && nat_lt b 128) 256) (λ _. true) 256 ≡ true
 unions = refl
 
--- it isn't set in a union where it isn't set in both parts
+-- bit 7 is clear in a union exactly if it is clear in both parts
 small_union : (a b : ℕ) → a < 256 → b < 256 → nat_lt (bit_or a b) 128 ≡ (nat_lt a 128 && nat_lt b 128)
 small_union a b la lb =
     agree_below_at (λ b. nat_lt (bit_or a b) 128) (λ b. nat_lt a 128 && nat_lt b 128) 256 b

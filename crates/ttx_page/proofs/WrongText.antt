@@ -136,7 +136,7 @@ module _ (empty : EmptySlotsAreEmpty) (s : Stream) (page : Id) (tau : ℤ) (rece
   after_is_other : (j i : ℤ) (n k : ℕ) → j ≡ tau +ℤ pos k → j <ℤ i → i ≤ℤ (tau +ℤ pos n) → n ≡ k → ⊥
   after_is_other j i n k e lt past same = let p : tau +ℤ pos n ≡ tau +ℤ pos k = ap (λ m. tau +ℤ pos m) same in omega (arith, ints)
 
-  -- the slots from the first place on have their text right, but for those of a list that is shorter than the places
+  -- the slots from `j` on have their text right, except those of a list that is shorter than the slots
   one_is : (item : Item) (x : ℕ) → IsTextByte item x → (j : ℤ) (rest : List ℤ) (ws : List ℕ) → AreSuccessive s page item (j ∷ rest) →
       Inside (j ∷ rest) → length ws ≤ length rest →
       ((n : ℕ) → n < length received → j ≤ℤ (tau +ℤ pos n) → Right n ⊎ IsIn ws n) → OneIs (IsRight s tau received x) (j ∷ rest)

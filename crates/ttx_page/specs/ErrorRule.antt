@@ -1,11 +1,11 @@
--- What is within the error rule, with its bytes and bits written out, and what isn't.
+-- What is within the error rule, with its bytes and bits written out, and what is not.
 --
---   AreSame, AreNear        bytes that are received as they were sent; with at most one wrong bit each
---   HasRightText            a slot whose text is received as it was sent
---   HasWrongText            one that may have a wrong bit in each byte
---   WrongTextIsReceived     of k sendings fewer than k with wrong text, and other wrong bits everywhere, are within the rule
---   MemoriesAreFormer       the former memories
---   spoilt_base, AreOutside examples outside of the rule: both sendings wrong at repeat 2; two wrong bits in a byte
+--   AreSame, AreNear        bytes received as sent; bytes received with at most one wrong bit each
+--   HasRightText            a slot whose text is received as sent
+--   HasWrongText            a slot that may have a wrong bit in each byte
+--   WrongTextIsReceived     wrong text in fewer than k slots, and other wrong bits everywhere, are within the rule for repeat k
+--   MemoriesAreFormer       which memories are former memories
+--   spoilt_base, AreOutside examples outside the rule: wrong text in both transmissions at repeat 2; two wrong bits in a byte
 use Rattle.std.specs.Prelude.{◌≡◌, ◌⊎◌, ℕ, ◌<◌, ◌≤◌, ℤ, pos, ◌+ℤ◌, true, false, List, [], ◌++◌}
 use Rattle.std.specs.Prelude.{length, slice_index, slice_index_or, slice_set, Contains}
 use Rattle.ttx_code.specs.Words.{distance}
@@ -20,15 +20,15 @@ use Rattle.ttx_page.specs.Streams.{Stream, repeated}
 use Rattle.ttx_page.specs.Receptions.{Received}
 use Rattle.ttx_page.specs.Examples.{id_100, base_cycle, row_slot}
 
--- the bytes from first on and before end
+-- the bytes from `first` to before `end`
 abbrev pub AreSame : ℕ → ℕ → List ℕ → List ℕ → Type 0
 AreSame first end sent received = (x : ℕ) → first ≤ x → x < end → slice_index received x ≡ slice_index sent x
 
 abbrev pub AreNear : ℕ → ℕ → List ℕ → List ℕ → Type 0
 AreNear first end sent received = (x : ℕ) → first ≤ x → x < end → distance (slice_index sent x) (slice_index received x) ≤ 1
 
--- The text of headers and rows is right. Else each byte has at most one wrong bit; a clock, bytes 34 to 41 of a header, and what follows
--- the address of a packet 8/30 may be anything.
+-- The text of headers and rows is right. Every other byte has at most one wrong bit, except that a clock (bytes 34 to 41 of a
+-- header) and what follows the address of packet 8/30 may be anything.
 abbrev pub HasRightText : Kind → List ℕ → List ℕ → Type 0
 HasRightText IsEmpty sent received = received ≡ sent
 HasRightText (IsHeader mag) sent received = AreNear 0 10 sent received × AreSame 10 34 sent received
@@ -36,11 +36,11 @@ HasRightText (IsRow mag number) sent received = AreNear 0 2 sent received × Are
 HasRightText IsInfo sent received = AreNear 0 2 sent received
 HasRightText _ sent received = AreNear 0 42 sent received
 
--- any byte of a slot that isn't empty has at most one wrong bit
+-- each byte of a slot that is not empty has at most one wrong bit
 abbrev pub HasWrongText : List ℕ → List ℕ → Type 0
 HasWrongText sent received = (is_empty sent ≡ false) × AreNear 0 42 sent received
 
--- Each slot is received with its text right, but for those of a list, of which there are fewer than the repeat count.
+-- Each slot is received with its text right, except the slots of a list, and the list is shorter than the repeat count.
 abbrev pub WrongTextIsReceived : Type 0
 WrongTextIsReceived =
     (s : Stream) (page : Id) (repeat : ℕ) (tau : ℤ) (received : List (List ℕ)) (wrong : List ℕ) → length wrong < repeat →
@@ -48,7 +48,7 @@ WrongTextIsReceived =
     IsSlot slot × (HasRightText (kind_of sent) sent slot ⊎ (Contains wrong n × HasWrongText sent slot))) →
     Received s page repeat tau received
 
--- Each memory of the program is a former memory of receivers of class any, and each fresh one of those that surely clear.
+-- Every memory is a former memory for receivers of class any, and every fresh one for receivers that surely clear.
 abbrev pub MemoriesAreFormer : Type 0
 MemoriesAreFormer = (m : PageMemory) → IsFormer Any (memory_of m) × ((memory_of m).fresh ≡ true → IsFormer Clearing (memory_of m))
 

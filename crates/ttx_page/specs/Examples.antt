@@ -1,7 +1,7 @@
 -- Worked examples of the definitions: a cycle of 28 slots that sends one blank page, with two lines in a field.
 --
 --   base_cycle                    page header 100/0000, two empty slots, rows 1 to 23, X/27/0, the time-filling header
---   Examples                what the definitions say of it
+--   Examples                      what the definitions say about it
 use Rattle.std.specs.Prelude.{◌≡◌, ℕ, pos, negsuc, Bool, true, false, List, [], ◌∷◌, ◌++◌, slice_set, take, drop, replicate}
 use Rattle.ttx_header.specs.Ids.{Id, id_at}
 use Rattle.ttx_links.specs.Sets.{no_links}
@@ -47,15 +47,15 @@ turned_base = drop 10 base_cycle ++ take 10 base_cycle
 abbrev pub early_base : List (List ℕ)
 early_base = slice_set (slice_set base_cycle 2 (row_slot 1)) 3 empty_slot
 
--- blank but for a character in row 1, and not fresh
+-- blank except for a character in row 1, and not fresh
 abbrev pub marked_memory : Memory
 marked_memory = memory_at (slice_set (replicate 25 blank_row) 1 (0x58 ∷ replicate 39 32)) 0 no_links false 64 false
 
--- what row 1 begins with after two periods of the early cycle
+-- the first character of row 1 after two periods of the early cycle
 abbrev pub held_by : List Bool → ℕ
 held_by script = char_at (scripted Any 2 (AnySub 1 0) script marked_memory (early_base ++ early_base)) 1 0
 
--- a page with these control bits that is blank but for double height at the beginning of rows 5 and 6
+-- a page with these control bits, blank except for double height at the beginning of rows 5 and 6
 abbrev pub tall_page : ℕ → Page
 tall_page control =
     page_at id_100 control (replicate 24 32) (replicate 4 blank_row ++ tall_row ∷ tall_row ∷ replicate 18 blank_row) no_links (0 ∷ 0 ∷ [])
@@ -63,7 +63,7 @@ tall_page control =
     tall_row : List ℕ
     tall_row = 0x0d ∷ replicate 39 32
 
--- what the definitions say
+-- what the definitions say about these examples
 pub record Examples : Type 0 where
   pub owner : IsLatestHeader (repeated base_cycle) 1 (pos 28) (pos 31)
   pub owner_round : IsLatestHeader (repeated turned_base) 1 (negsuc 9) (pos 0)

@@ -1,4 +1,4 @@
--- What a slot says to a receiver: the kind of its packet, with the fields that readers look at.
+-- What a slot means to a receiver: the kind of its packet, with the fields that receivers use.
 --
 --   Packet, packet_of       the packet in the 42 bytes of a slot
 use Rattle.std.specs.Prelude.{ℕ, List, Option, drop}
@@ -7,8 +7,8 @@ use Rattle.ttx_header.specs.Ids.{Id}
 use Rattle.ttx_header.specs.Headers.{id_of, control_of}
 use Rattle.ttx_links.specs.Sets.{LinkSet, links_of}
 
--- An empty line, an unreadable slot, or a packet. The text is the bytes from the first character on, as they are sent; the content
--- of an X/27/0 is None where one of its bytes is unreadable.
+-- An empty slot, an unreadable slot, or a packet. The text is the bytes from the first character on, as they are sent. The content
+-- of an X/27/0 is None if one of bytes 3 to 39 is unreadable.
 pub data Packet : Type 0 where
   Empty : Packet
   Unreadable : Packet

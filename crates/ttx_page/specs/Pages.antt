@@ -1,13 +1,13 @@
 -- Pages as authored, the selections of receivers, and the items of a page that a viewer sees (EN 300 706; hidden rows: profile).
 --
 --   Page, IsPage            a page and the ranges of its fields
---   page_row, IsRow         a row of a page by its number; 40 characters
---   Selection, matches, selected_mag        what a receiver is set to, and the headers that it takes
+--   page_row, IsRow         a row of a page, by its number; 40 characters
+--   Selection, matches, selected_mag        what a receiver is set to, and the headers that it matches
 --   is_other_subpage, IsAlone, Fits         the pages of a list that a selection fits
 --   Item, needed            the parts of a page, and those that a viewer sees
 --   has_double_height, is_tall, is_hidden           rows below a row in double height
 --   Class                   the classes of receivers
---   IsBlank, is_blank       what a cleared page holds already
+--   IsBlank, is_blank       what a cleared memory holds already
 use Rattle.std.specs.Prelude.{◌≡◌, ◌≢◌, ℕ, zero, suc, ◌-◌, ◌<◌, ◌≤◌, Bool, true, false, not, ◌&&◌, if◌then◌else◌, List}
 use Rattle.std.specs.Prelude.{[], Some, is_none, nat_le, ◌==◌, slice_get, slice_index, slice_index_or, replicate, length}
 use Rattle.std.specs.List.{list_all, list_any}
@@ -21,7 +21,7 @@ pub use Rattle.ttx_page.specs.declared.item.Item.TheVariants.{Head as TheHead, R
 pub use Rattle.ttx_page.specs.declared.class.Class.{Class}
 pub use Rattle.ttx_page.specs.declared.class.Class.TheVariants.{Any, Clearing}
 
--- A page: its id and control bits, the characters of row 0 from column 8 to 31, rows 1 to 24, links, and the bytes of the page CRC.
+-- A page: its id and control bits, columns 8 to 31 of row 0, rows 1 to 24, the links, and the two bytes of the page CRC.
 pub record Page : Type 0 where
   pub id : Id
   pub control : ℕ
@@ -33,7 +33,7 @@ pub record Page : Type 0 where
 abbrev pub page_at : Id → ℕ → List ℕ → List (List ℕ) → LinkSet → List ℕ → Page
 page_at id control head rows links crc = record { id = id; control = control; head = head; rows = rows; links = links; crc = crc }
 
--- the characters of row 1 to 24
+-- the characters of a row, 1 to 24
 abbrev pub page_row : Page → ℕ → List ℕ
 page_row p number = slice_index_or p.rows (number - 1) []
 
@@ -42,7 +42,7 @@ pub record IsRow (row : List ℕ) : Type 0 where
   pub length : length row ≡ 40
   pub codes : (c : ℕ) → slice_index row c < 128
 
--- 24 characters of row 0 and 24 rows of 40, all below 128; no page FF, no subcode 3F7F, and no erase bit (C4)
+-- 24 characters of row 0 and 24 rows of 40, all below 128; not page FF, not subcode 3F7F, and no erase bit (C4)
 pub record IsPage (p : Page) : Type 0 where
   pub id : IsId p.id
   pub page : p.id.page ≢ 0xff
@@ -64,7 +64,7 @@ abbrev pub matches : Selection → Id → Bool
 matches (Exact id) other = same_id id other
 matches (AnySub mag page) other = (mag == other.mag) && (page == other.page)
 
--- a page of the same number, with another subcode
+-- a page of the same number with another subcode
 abbrev pub is_other_subpage : Page → Page → Bool
 is_other_subpage p q = (q.id.mag == p.id.mag) && (q.id.page == p.id.page) && not (q.id.sub == p.id.sub)
 
@@ -72,16 +72,16 @@ is_other_subpage p q = (q.id.mag == p.id.mag) && (q.id.page == p.id.page) && not
 abbrev pub IsAlone : List Page → Page → Type 0
 IsAlone pages p = (n : ℕ) (q : Page) → slice_get pages n ≡ Some q → is_other_subpage p q ≡ false
 
--- the selection fits a page of the list
+-- the selection fits this page of the list
 abbrev pub Fits : List Page → Page → Selection → Type 0
 Fits pages p (Exact id) = id ≡ p.id
 Fits pages p (AnySub mag page) = (mag ≡ p.id.mag) × (page ≡ p.id.page) × IsAlone pages p
 
--- rows of spaces
+-- a row of spaces
 abbrev pub blank_row : List ℕ
 blank_row = replicate 40 32
 
--- the row holds the code of double height, 0D (12.2)
+-- the row holds the code for double height, 0D (12.2)
 abbrev pub has_double_height : List ℕ → Bool
 has_double_height row = list_any (λ c. c == 13) row
 
@@ -89,13 +89,13 @@ has_double_height row = list_any (λ c. c == 13) row
 abbrev pub is_tall : ℕ → Bool
 is_tall number = nat_le 1 number && nat_le number 22
 
--- A row 1 to 22 that isn't hidden itself and holds the code of double height hides the next one.
+-- A row 1 to 22 that is not hidden itself and holds the code for double height hides the next row.
 abbrev pub is_hidden : (ℕ → List ℕ) → ℕ → Bool
 is_hidden row zero = false
 is_hidden row (suc above) = is_tall above && not (is_hidden row above) && has_double_height (row above)
 
--- What a viewer sees: the links; row 0 unless the header is suppressed (C7); rows that aren't hidden, unless display is inhibited
--- (C10), row 24 only where the links ask for it.
+-- What a viewer sees: the links; row 0 unless the header is suppressed (C7); rows that are not hidden, unless display is inhibited
+-- (C10); row 24 only where the links show it.
 abbrev pub needed : Page → Item → Bool
 needed p TheLinks = true
 needed p TheHead = not (c7 p.control)
@@ -103,7 +103,7 @@ needed p (TheRow number) =
     nat_le 1 number && nat_le number 24 && not (c10 p.control)
     && (if number == 24 then p.links.show24 else not (is_hidden (page_row p) number))
 
--- rows of spaces, and no links: what a receiver that clears the page needn't be sent
+-- a row of spaces, or no links and no row 24: what need not be sent to a receiver that clears the page
 abbrev pub IsBlank : Page → Item → Type 0
 IsBlank p TheHead = ⊥
 IsBlank p (TheRow number) = page_row p number ≡ blank_row

@@ -1,4 +1,4 @@
--- A page that a stream sends unchanged, and the reasons why it doesn't (profile). In each reason but the first, the slot is told.
+-- A page that a stream sends unchanged, and the reasons why it is not (profile). Each reason except the first names the slot.
 --
 --   HasHeader, HasNoHeader          a header of the page; none (reason 2)
 --   OtherSubpageAt          another subpage of a page that is the only one of its number (3)
@@ -7,7 +7,7 @@
 --   RowDiffersAt            other characters in a needed row (6)
 --   LinksDifferAt           other links, or a corrected byte in them (7)
 --   Steady                  none of these reasons is true
---   IsChecked, IsTrueTo, SendsItsOwn        the same, told by what the page's headers, rows and links carry
+--   IsChecked, IsTrueTo, SendsItsOwn        the same, from what the page's headers, rows and links carry
 use Rattle.std.specs.Prelude.{◌≡◌, ℕ, ◌/◌, ℤ, Bool, true, false, List, Some, map, take}
 use Rattle.ttx_code.specs.Words.{odd_byte}
 use Rattle.ttx_header.specs.Ids.{Id}
@@ -89,14 +89,14 @@ IsTrueTo p TheHead slot = HeadIsRight p (packet_of slot)
 IsTrueTo p (TheRow r) slot = RowIsRight p r (packet_of slot)
 IsTrueTo p TheLinks slot = LinksAreRight p slot (packet_of slot)
 
--- the items whose contents are compared: row 0 and the links always, a row where it is needed
+-- the items whose contents are compared: row 0 and the links always, a row if it is needed
 abbrev pub IsChecked : Page → Item → Type 0
 IsChecked p TheHead = Unit {0}
 IsChecked p (TheRow r) = needed p (TheRow r) ≡ true
 IsChecked p TheLinks = Unit {0}
 
--- The page has a header; where it is the only one of its number, each header of that number is its own; and each transmission of
--- what is compared carries the page's own contents.
+-- The page has a header; if it is the only one of its number, each header of that number is its own; and each transmission of
+-- an item that is compared carries the page's own contents.
 pub record SendsItsOwn (s : Stream) (pages : List Page) (p : Page) : Type 0 where
   pub header : HasHeader s p.id
   pub only_subpage : IsAlone pages p → (j : ℤ) →

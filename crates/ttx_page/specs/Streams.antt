@@ -1,13 +1,13 @@
 -- Streams of slots: a slot for every whole number; owners, transmissions and runs (EN 300 706 for headers, magazines and serial
 -- transmission; sure transmissions and runs: profile).
 --
---   Stream, repeated, joined        a cycle sent again and again; one cycle below slot 0 and another from it on
+--   Stream, repeated, joined        a cycle sent again and again; one cycle below slot 0 and another from slot 0 on
 --   heads, heads_page, heads_matched        headers of a magazine, of a page, of a selection
 --   ends_serial             headers that end a page in serial transmission
 --   carries                 the packets of an item
 --   IsLatestHeader, IsOwned         the header to which a packet belongs
---   IsTransmission, IsSure, IsSureTransmission      an item is sent; no receiver may miss it
---   AreSuccessive, IsRun    transmissions that follow one another; as many as one of which is received right
+--   IsTransmission, IsSure, IsSureTransmission      an item is sent; no permitted receiver misses it
+--   AreSuccessive, IsRun    successive transmissions; as many of them as one of which is received right
 --   EndsBelow, HasSureRun, IsSent           where a run ends, and whether it is sure
 use Rattle.std.specs.Prelude.{◌≡◌, ℕ, ◌-◌, ◌%◌, ℤ, pos, negsuc, ◌+ℤ◌, ◌<ℤ◌, ◌≤ℤ◌, Bool, true}
 use Rattle.std.specs.Prelude.{false, not, ◌&&◌, ◌==◌, List, [], ◌∷◌, length, slice_index_or}
@@ -20,7 +20,7 @@ use Rattle.ttx_page.specs.Pages.{Item, TheHead, TheRow, TheLinks, Selection, mat
 abbrev pub Stream : Type 0
 Stream = ℤ → List ℕ
 
--- which slot of a cycle of n slots stands at i: i mod n
+-- the slot of a cycle of n slots at position i: i mod n
 abbrev pub turned : ℕ → ℤ → ℕ
 turned n (pos i) = i % n
 turned n (negsuc i) = n - 1 - i % n
@@ -29,7 +29,7 @@ turned n (negsuc i) = n - 1 - i % n
 abbrev pub repeated : List (List ℕ) → Stream
 repeated cycle i = slice_index_or cycle (turned (length cycle) i) []
 
--- the old cycle below slot 0, the new one from it on
+-- the old cycle below slot 0, the new one from slot 0 on
 abbrev pub joined : List (List ℕ) → List (List ℕ) → Stream
 joined old new (pos i) = repeated new (pos i)
 joined old new (negsuc i) = repeated old (negsuc i)
@@ -54,7 +54,7 @@ abbrev pub ends_serial : ℕ → Packet → Bool
 ends_serial mag (Header id control text) = not (id.mag == mag) && c11 control
 ends_serial mag _ = false
 
--- the row, or an X/27/0, of the magazine
+-- the row, or X/27/0, of the magazine
 abbrev pub carries : ℕ → Item → Packet → Bool
 carries mag (TheRow r) (Row m number text) = (m == mag) && (number == r)
 carries mag TheLinks (Links m content) = m == mag
@@ -66,7 +66,7 @@ pub record IsLatestHeader (s : Stream) (mag : ℕ) (h j : ℤ) : Type 0 where
   pub is_header : heads mag (packet_of (s h)) ≡ true
   pub none_between : (i : ℤ) → h <ℤ i → i <ℤ j → heads mag (packet_of (s i)) ≡ false
 
--- slot j sends the item under the page's header at h; a header is its own
+-- slot j sends the item under the page's header at h; a header is its own owner
 abbrev pub IsOwned : Stream → Id → Item → ℤ → ℤ → Type 0
 IsOwned s page TheHead h j = (h ≡ j) × (heads_page page (packet_of (s j)) ≡ true)
 IsOwned s page (TheRow r) h j =
@@ -79,11 +79,11 @@ pub record IsTransmission (s : Stream) (page : Id) (item : Item) (j : ℤ) : Typ
   pub owner : ℤ
   pub owned : IsOwned s page item owner j
 
--- more than L slots after its header, and no header since then ended the page
+-- the slot is more than L slots after its header, and no header in between ends the page
 abbrev pub CannotBeMissed : Stream → ℕ → ℕ → ℤ → ℤ → Type 0
 CannotBeMissed s lines mag h j = ((h +ℤ pos lines) <ℤ j) × ((i : ℤ) → h <ℤ i → i <ℤ j → ends_serial mag (packet_of (s i)) ≡ false)
 
--- no receiver may miss slot j under the header at h; a header is never missed
+-- no permitted receiver misses slot j under the header at h; a header is never missed
 abbrev pub IsSure : Stream → ℕ → ℕ → Item → ℤ → ℤ → Type 0
 IsSure s lines mag TheHead h j = Unit {0}
 IsSure s lines mag (TheRow r) h j = CannotBeMissed s lines mag h j
@@ -94,7 +94,7 @@ pub record IsSureTransmission (s : Stream) (page : Id) (lines : ℕ) (item : Ite
   pub owned : IsOwned s page item owner j
   pub sure : IsSure s lines page.mag item owner j
 
--- these slots are transmissions of the item, with none between two of them
+-- these slots are transmissions of the item, with no other transmission between two of them
 abbrev pub AreSuccessive : Stream → Id → Item → List ℤ → Type 0
 AreSuccessive s page item [] = Unit {0}
 AreSuccessive s page item (i ∷ []) = IsTransmission s page item i
@@ -104,30 +104,30 @@ AreSuccessive s page item (i ∷ j ∷ rest) =
     × ((x : ℤ) → i <ℤ x → x <ℤ j → IsTransmission s page item x → ⊥)
     × AreSuccessive s page item (j ∷ rest)
 
--- how many transmissions a run has: the repeat count, and one of the links
+-- how many transmissions a run has: the repeat count; for links, one
 abbrev pub run_length : ℕ → Item → ℕ
 run_length repeat TheHead = repeat
 run_length repeat (TheRow r) = repeat
 run_length repeat TheLinks = 1
 
--- the run from slot first: that many successive transmissions
+-- the run from slot `first`: that many successive transmissions
 pub record IsRun (s : Stream) (page : Id) (repeat : ℕ) (item : Item) (first : ℤ) (rest : List ℤ) : Type 0 where
   pub count : length (first ∷ rest) ≡ run_length repeat item
   pub successive : AreSuccessive s page item (first ∷ rest)
 
--- the run from slot first ends below slot end
+-- the run from slot `first` ends below slot `end`
 pub record EndsBelow (s : Stream) (page : Id) (repeat : ℕ) (item : Item) (first end : ℤ) : Type 0 where
   pub rest : List ℤ
   pub run : IsRun s page repeat item first rest
   pub ends : AllByRecursion (λ j. j <ℤ end) (first ∷ rest)
 
--- each transmission of the run from slot first is sure
+-- each transmission of the run from slot `first` is sure
 pub record HasSureRun (s : Stream) (page : Id) (lines repeat : ℕ) (item : Item) (first : ℤ) : Type 0 where
   pub rest : List ℤ
   pub run : IsRun s page repeat item first rest
   pub all_sure : AllByRecursion (IsSureTransmission s page lines item) (first ∷ rest)
 
--- a sure run of the item under a header at slot begin or later, which ends below slot end
+-- a sure run of the item under a header at slot `begin` or later, which ends below slot `end`
 pub record IsSent (s : Stream) (page : Id) (lines repeat : ℕ) (item : Item) (begin end : ℤ) : Type 0 where
   pub first : ℤ
   pub rest : List ℤ

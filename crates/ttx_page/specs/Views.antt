@@ -1,4 +1,4 @@
--- Pages and memories of the program as the plain records of the definitions.
+-- Pages and memories of the program, as the plain records of the definitions.
 --
 --   page_of, memory_of      a `Page` and a `PageMemory` as records
 --   ids_of                  the ids of pages

@@ -1,6 +1,7 @@
 //! The classes of receivers.
 
-/// The classes of receivers: those that may clear the page when they are set to it, and those that surely do.
+/// The classes of receivers. A receiver of class `Any` may keep the page that it showed when it is set to another one; a
+/// receiver of class `Clearing` surely erases it at the first header.
 #[derive(Clone, Copy, PartialEq, Eq)]
 pub enum Class {
     Any,

@@ -4,7 +4,7 @@ ghost use Rattle.std.specs.Prelude.{◌≡◌, ◌≤◌, SomeIff};
 
 use std::marker::Model;
 
-/// The number of a row below row 0: 1 to 24.
+/// The number of a row other than row 0: 1 to 24.
 #[derive(Clone, Copy, PartialEq, Eq)]
 pub struct RowNumber {
     number: u8,
@@ -23,7 +23,7 @@ impl Model for RowNumber {
 }
 
 impl RowNumber {
-    /// The row of this number. None where it isn't 1 to 24.
+    /// The row with this number. `None` if it is not 1 to 24.
     pub fn new(number: u8) -> Option<RowNumber>
         ensures { SomeIff result ((1 ≤ number) × (number ≤ 24)) number }
     {
@@ -44,7 +44,7 @@ impl RowNumber {
     }
 }
 
-/// A part of a page: the characters of row 0, a row, or the links.
+/// An item, a part of a page that is sent by itself: the header's characters in row 0, a row, or the links (X/27/0).
 #[derive(Clone, Copy, PartialEq, Eq)]
 pub enum Item {
     Head,

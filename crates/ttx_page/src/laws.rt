@@ -1,4 +1,4 @@
-//! Laws of pages, receivers and streams.
+//! Laws of pages, receivers and streams. Calling one does nothing at run time; it gives the caller's proof the law.
 
 ghost use Rattle.ttx_page.specs.ErrorRule.{AreOutside, MemoriesAreFormer, WrongTextIsReceived};
 ghost use Rattle.ttx_page.specs.Examples.{Examples};
@@ -7,37 +7,37 @@ ghost use Rattle.ttx_page.specs.Laws.{ErasedHoldsBlank, BlankIsTested, EachListR
 ghost use Rattle.ttx_page.specs.Laws.{CyclesRepeat, EachSlotTurns, JoinedIsOldThenNew, StreamsMove, OwnersAreUnique, OwnersComeFirst};
 ghost use Rattle.ttx_page.specs.Laws.{OwnersAreNear, OwnersDontFall, RunsAreUnique, RunsRise, NoHeaderIsNone, SteadySendsItsOwn};
 
-/// Each page of the program is in the ranges of its fields.
+/// The fields of every `Page` are in their ranges.
 pub fn pages_keep_their_rules()
     ensures { PagesKeepTheirRules }
 {}
 
-/// Each page of the program has six links, of which some may lead nowhere.
+/// Every `Page` has six links, some of which may lead nowhere.
 pub fn pages_have_six_links()
     ensures { PagesHaveSixLinks }
 {}
 
-/// Each page of the program has six links, which lead to targets, and two bytes of check word.
+/// Every `Page` has six links that lead to targets or nowhere, and two CRC bytes.
 pub fn pages_have_links()
     ensures { PagesHaveLinks }
 {}
 
-/// Each memory of the program is in the ranges of its fields.
+/// The fields of every `PageMemory` are in their ranges.
 pub fn memories_keep_their_rules()
     ensures { MemoriesKeepTheirRules }
 {}
 
-/// A blank memory is a former memory of both classes of receivers.
+/// A blank memory is a former memory for both classes of receivers.
 pub fn blank_is_former()
     ensures { BlankIsFormer }
 {}
 
-/// Each memory of the program is a former memory of receivers of class any, and each fresh one of those that surely clear.
+/// Every `PageMemory` is a former memory for receivers of class any, and every fresh one for receivers that surely clear.
 pub fn memories_are_former()
     ensures { MemoriesAreFormer }
 {}
 
-/// The memory of a page received whole shows it.
+/// The memory of a page that was received whole shows that page.
 pub fn page_is_shown()
     ensures { PageIsShown }
 {}
@@ -47,27 +47,27 @@ pub fn erased_holds_blank()
     ensures { ErasedHoldsBlank }
 {}
 
-/// The test of blank items says what is blank.
+/// The test for blank items is true exactly for blank items.
 pub fn blank_is_tested()
     ensures { BlankIsTested }
 {}
 
-/// A receiver has a run over each list of slots.
+/// Over every list of slots a receiver has a run.
 pub fn each_list_runs()
     ensures { EachListRuns }
 {}
 
-/// A run goes on by one slot.
+/// A run can be extended by one slot.
 pub fn runs_go_on()
     ensures { RunsGoOn }
 {}
 
-/// What a receiver makes that takes its choices from a script is a run.
+/// A receiver that takes its choices from a script makes a run.
 pub fn scripted_runs()
     ensures { ScriptedRuns }
 {}
 
-/// Where a receiver has no choice, choosing changes nothing.
+/// Where a receiver has no choice, its answer makes no difference.
 pub fn choices_are_choices()
     ensures { ChoicesAreChoices }
 {}
@@ -77,35 +77,35 @@ pub fn exact_is_received()
     ensures { ExactIsReceived }
 {}
 
-/// Wrong bits that the error rule permits, with their numbers: anything in clocks and behind the addresses of packets 8/30, one wrong
-/// bit in each other byte that isn't text, and wrong text in fewer slots than the repeat count.
+/// Which wrong bits the error rule permits: anything in clocks and after the addresses of packets 8/30, one wrong bit in each
+/// other byte that is not text, and wrong text in fewer slots than the repeat count.
 pub fn wrong_text_is_received()
     ensures { WrongTextIsReceived }
 {
     ttx_packet::laws::empty_slots_are_empty();
 }
 
-/// Two wrong bits in a byte, and wrong text in both of two sendings, are outside of the error rule.
+/// Two wrong bits in a byte, and wrong text in both of two transmissions, are outside the error rule.
 pub fn examples_are_outside()
     ensures { AreOutside }
 {}
 
-/// The stream of a cycle has the length of the cycle as its period.
+/// The stream of a cycle repeats with the length of the cycle.
 pub fn cycles_repeat()
     ensures { CyclesRepeat }
 {}
 
-/// Each slot of a stream of a period has its place in the first one.
+/// Each slot of a repeating stream has its place in the first period.
 pub fn each_slot_turns()
     ensures { EachSlotTurns }
 {}
 
-/// A joined stream is the old cycle's below slot 0, and the new one's from it on.
+/// A joined stream is the old cycle below slot 0 and the new cycle from slot 0 on.
 pub fn joined_is_old_then_new()
     ensures { JoinedIsOldThenNew }
 {}
 
-/// In a stream that is the same some slots on, so are its owners, transmissions and runs.
+/// If a stream is the same a number of slots on, then so are its owners, transmissions and runs.
 pub fn streams_move()
     ensures { StreamsMove }
 {}
@@ -115,37 +115,37 @@ pub fn owners_are_unique()
     ensures { OwnersAreUnique }
 {}
 
-/// An owner isn't later than its slot.
+/// An owner is not later than its slot.
 pub fn owners_come_first()
     ensures { OwnersComeFirst }
 {}
 
-/// In a stream of a period an owner lies less than a period back.
+/// In a stream with a period, an owner is less than one period before its slot.
 pub fn owners_are_near()
     ensures { OwnersAreNear }
 {}
 
-/// Owners don't fall as slots rise.
+/// A later slot does not have an earlier owner.
 pub fn owners_dont_fall()
     ensures { OwnersDontFall }
 {}
 
-/// The run from a slot is one.
+/// There is only one run from a slot.
 pub fn runs_are_unique()
     ensures { RunsAreUnique }
 {}
 
-/// Of two runs of an item, that which starts earlier ends earlier.
+/// Of two runs of an item, the one that starts earlier ends earlier.
 pub fn runs_rise()
     ensures { RunsRise }
 {}
 
-/// No slot is a header of a page exactly where the stream has no header of it.
+/// No slot is a header of the page if and only if the stream has no header of it.
 pub fn no_header_is_none()
     ensures { NoHeaderIsNone }
 {}
 
-/// A page is steady exactly where the stream sends its own contents.
+/// A page is steady if and only if the stream sends the page's own contents.
 pub fn steady_sends_its_own()
     ensures { SteadySendsItsOwn }
 {}

@@ -1,4 +1,4 @@
-//! Pages, page memories and the items that a viewer needs; and, in specs/, what receivers may do and what a stream of slots sends.
+//! Pages, page memories and the items that a viewer needs. `specs/` defines what receivers may do and what a stream of slots sends.
 #![tactic(auto)]
 
 pub mod class;

@@ -1,4 +1,4 @@
-//! What a receiver holds of the page that it is set to.
+//! The memory of a receiver.
 
 ghost use Rattle.std.specs.Prelude.{◌≡◌};
 ghost use Rattle.ttx_page.specs.Memories.{IsMemory, memory_at};
@@ -6,8 +6,9 @@ ghost use Rattle.ttx_page.specs.Memories.{IsMemory, memory_at};
 use ttx_header::Control;
 use ttx_links::Target;
 
-/// What a receiver holds of the page that it is set to: rows 0 to 24, control bits and links; whether it is storing, how many
-/// slots ago its header came (at most 64), and whether none came since it was set to the page. Every character is below 128.
+/// What a receiver holds of the page that it is set to: rows 0 to 24, control bits and links; whether it is storing, the age
+/// (slots since the page's latest header, at most 64), and whether it is fresh (no header has come since it was set to the page).
+/// Every character is below 128.
 #[derive(Clone, Copy)]
 pub struct PageMemory {
     rows: [[u8; 40]; 25],

@@ -10,8 +10,8 @@ use crate::codes::{are_rows, is_head};
 use ttx_header::{Control, PageId};
 use ttx_links::Links;
 
-/// A page as authored: the characters of row 0 from column 8 to 31, and rows 1 to 24 (`rows[0]` is row 1). Every character is
-/// below 128, C4 is clear, the page number isn't FF and the subcode isn't 3F7F.
+/// A page as authored: the characters of row 0, columns 8 to 31, and rows 1 to 24 (`rows[0]` is row 1). Every character is
+/// below 128, C4 is clear, the page number is not FF and the subcode is not 3F7F.
 #[derive(Clone, Copy)]
 pub struct Page {
     id: PageId,
@@ -23,7 +23,7 @@ pub struct Page {
     ghost linked: { HasLinks (page_at id control.0 head rows links.set links.crc) },
 }
 
-// Whether the id is a page's: no page FF, and no subcode 3F7F.
+// Whether the id can be that of a page: not page FF, and not subcode 3F7F.
 fn is_page_id(id: PageId) -> bool
     ensures not_filling { IsTrue result ↔ (id.page ≢ 0xff) × (id.sub ≢ 0x3f7f) }
     ensures ranges { IsId id }
@@ -32,7 +32,7 @@ fn is_page_id(id: PageId) -> bool
     id.page() != 0xff && id.sub() != 0x3f7f
 }
 
-// Whether the bits are control bits, and C4 is clear.
+// Whether only control bits are set, and C4 is clear.
 fn is_page_control(control: Control) -> bool
     ensures { IsTrue result ↔ IsControl control.0 × (c4 control.0 ≡ false) }
 {
@@ -42,7 +42,7 @@ fn is_page_control(control: Control) -> bool
 impl Page {
     ghost use Rattle.ttx_page.specs.Views.{page_of};
 
-    /// The page of these fields. None where one of the type's rules fails.
+    /// A page with these fields. `None` if one of the rules of the type fails.
     pub fn new(
         id: PageId,
         control: Control,
@@ -68,35 +68,35 @@ impl Page {
         }
     }
 
-    /// The page's id.
+    /// The id of the page.
     pub fn id(&self) -> PageId
         ensures { result ≡ (page_of self.now).id }
     {
         self.id
     }
 
-    /// The control bits, of which C4 is clear.
+    /// The control bits. C4 is clear.
     pub fn control(&self) -> Control
         ensures { result.0 ≡ (page_of self.now).control }
     {
         self.control
     }
 
-    /// The characters of row 0 from column 8 to 31.
+    /// The characters of row 0, columns 8 to 31.
     pub fn head(&self) -> &[u8; 24]
         ensures { result.now ≡ (page_of self.now).head }
     {
         &self.head
     }
 
-    /// Rows 1 to 24: the first is row 1.
+    /// Rows 1 to 24; index 0 is row 1.
     pub fn rows(&self) -> &[[u8; 40]; 24]
         ensures { result.now ≡ (page_of self.now).rows }
     {
         &self.rows
     }
 
-    /// The links and the bytes of the page CRC.
+    /// The links and the two bytes of the page CRC.
     pub fn links(&self) -> &Links
         ensures set { result.now.set ≡ (page_of self.now).links }
         ensures crc { result.now.crc ≡ (page_of self.now).crc }

@@ -2,7 +2,7 @@
 
 use ttx_header::PageId;
 
-/// What a receiver is set to: one subpage by its id, or any subpage of a page number (magazine and two digits).
+/// What a receiver is set to: one subpage, by its id, or any subpage of a page number (magazine, and two hexadecimal digits).
 #[derive(Clone, Copy, PartialEq, Eq)]
 pub enum Selection {
     Exact(PageId),

@@ -9,10 +9,10 @@ use crate::item::Item;
 use crate::page::Page;
 use ttx_links::Links;
 
-// The code of double height.
+// The code for double height.
 const DOUBLE_HEIGHT: u8 = 0x0d;
 
-// Whether row 1 to 24 holds the code of double height.
+// Whether a row, 1 to 24, holds the code for double height.
 fn has_double_height(page: &Page, number: u8) -> bool
     requires from { 1 ≤ number }
     requires to { number ≤ 24 }
@@ -21,13 +21,13 @@ fn has_double_height(page: &Page, number: u8) -> bool
     page.rows()[usize::from(number) - 1].contains(&DOUBLE_HEIGHT)
 }
 
-// Whether a row in double height hides row 1 to 24.
+// Whether a row, 1 to 24, is hidden below a row in double height.
 fn is_hidden(page: &Page, number: u8) -> bool
     requires from { 1 ≤ number }
     requires to { number ≤ 24 }
     ensures { result ≡ is_hidden (page_row (page_of page.now)) number }
 {
-    // Of rows in double height that stand one below another every second one is hidden, so the row above decides first.
+    // In a stack of rows with double height every second one is hidden, so the answer depends on the top of the stack.
     let mut hidden = false;
     let mut at = number;
     while 1 < at && at <= 23 && has_double_height(page, at - 1) {
@@ -37,8 +37,8 @@ fn is_hidden(page: &Page, number: u8) -> bool
     hidden
 }
 
-/// Whether a viewer sees the item: the links always, row 0 unless C7 suppresses it, a row 1 to 23 unless C10 inhibits display or
-/// double height hides it, row 24 where the links ask for it and C10 is clear.
+/// Whether a viewer sees the item: the links always; row 0 unless C7 suppresses it; a row 1 to 23 unless C10 inhibits display or
+/// the row is hidden; row 24 if the links show it and C10 is clear (EN 300 706, 9.3.1.3; hidden rows: profile).
 pub fn needed(page: &Page, item: Item) -> bool
     ensures { result ≡ needed (page_of page.now) item }
 {
@@ -57,7 +57,7 @@ pub fn needed(page: &Page, item: Item) -> bool
     }
 }
 
-// Whether row 1 to 24 is spaces.
+// Whether a row, 1 to 24, is all spaces.
 fn is_blank_row(page: &Page, number: u8) -> bool
     requires from { 1 ≤ number }
     requires to { number ≤ 24 }
@@ -75,15 +75,15 @@ fn is_unlinked(links: &Links) -> bool
     links.six().iter().all(|link| link.is_none())
 }
 
-// Whether there are no links, and row 24 isn't shown.
+// Whether there are no links, and row 24 is not shown.
 fn is_blank_links(links: &Links) -> bool
     ensures { result ≡ (list_all is_none links.now.set.six && not links.now.set.show24) }
 {
     is_unlinked(links) && !links.show24()
 }
 
-/// Whether a receiver that clears the page when it is set to it holds the item already: a row of spaces, or no links. The
-/// characters of row 0 are never blank.
+/// Whether a receiver that has cleared the page holds the item without receiving it: a row of spaces, or no links and no row
+/// 24. The header is never blank.
 pub fn is_blank(page: &Page, item: Item) -> bool
     ensures { result ≡ is_blank (page_of page.now) item }
 {

@@ -17,14 +17,14 @@ impl PageMemory {
         &self.rows
     }
 
-    /// The control bits of the page's latest header.
+    /// The control bits of the page's latest header (EN 300 706, 9.3.1.3).
     pub fn control(&self) -> Control
         ensures { result.0 ≡ (memory_of self.now).control }
     {
         self.control
     }
 
-    /// The six links.
+    /// The six links, those of the four coloured keys first.
     pub fn links(&self) -> &[Option<Target>; 6]
         ensures { result.now ≡ (memory_of self.now).links.six }
     {
@@ -38,21 +38,21 @@ impl PageMemory {
         self.show24
     }
 
-    /// Whether rows and links of the magazine are stored.
+    /// Whether rows and links of the magazine are being stored.
     pub fn storing(&self) -> bool
         ensures { result ≡ (memory_of self.now).storing }
     {
         self.storing
     }
 
-    /// How many slots ago the page's header came, at most 64.
+    /// Slots since the page's latest header, at most 64.
     pub fn age(&self) -> u8
         ensures { result ≡ (memory_of self.now).age }
     {
         self.age
     }
 
-    /// Whether no header of the page came since the receiver was set to it.
+    /// Whether no header of the page has come since the receiver was set to it.
     pub fn fresh(&self) -> bool
         ensures { result ≡ (memory_of self.now).fresh }
     {

@@ -1,4 +1,4 @@
-//! Memories made: of their fields, blank, or of a page.
+//! Makes memories: from fields, blank, or of a page.
 
 ghost use Rattle.std.specs.Prelude.{◌≡◌, ◌↔◌, IsSome, IfSome, ◌++◌, ◌∷◌, replicate, length};
 ghost use Rattle.ttx_page.specs.Pages.{IsRow, blank_row};
@@ -25,7 +25,7 @@ pub(super) fn blank_rows() -> [[u8; 40]; 25]
     [spaces(); 25]
 }
 
-// Row 0: the characters of columns 8 to 31 between spaces.
+// Row 0: spaces, the characters of columns 8 to 31, spaces.
 fn top_row(head: &[u8; 24]) -> [u8; 40]
     ensures { result ≡ replicate 8 32 ++ head.now ++ replicate 8 32 }
 {
@@ -43,7 +43,7 @@ fn below_top(top: &[u8; 40], lower: &[[u8; 40]; 24]) -> [[u8; 40]; 25]
     rows
 }
 
-// The same six links.
+// A copy of the six links.
 pub(super) fn same_links(six: &[Option<Target>; 6]) -> [Option<Target>; 6]
     ensures { result ≡ six.now }
 {
@@ -53,8 +53,8 @@ pub(super) fn same_links(six: &[Option<Target>; 6]) -> [Option<Target>; 6]
 }
 
 impl PageMemory {
-    /// The memory of these fields: rows 0 to 24, control bits, links, whether row 24 is shown, whether it is storing, its age in
-    /// slots, and whether it is fresh. None where a character is above 127, a control bit above C14 is set, or the age is above 64.
+    /// A memory with these fields: rows 0 to 24, control bits, links, whether row 24 is shown, whether it is storing, its age in
+    /// slots, and whether it is fresh. `None` if a character is above 127, a control bit above C14 is set, or the age is above 64.
     pub fn new(
         rows: [[u8; 40]; 25],
         control: Control,
@@ -82,7 +82,7 @@ impl PageMemory {
         }
     }
 
-    /// Nothing received yet: spaces, no control bits, no links, not storing, age 64, fresh.
+    /// A memory that has received nothing: spaces, no control bits, no links, not storing, age 64, fresh.
     pub fn blank() -> PageMemory
         ensures { memory_of result ≡ blank_memory }
     {
@@ -97,8 +97,8 @@ impl PageMemory {
         }
     }
 
-    /// The page received whole: its contents, with spaces for the clock and in columns 0 to 7 of row 0; not storing, age 64, not
-    /// fresh.
+    /// The memory of a page that was received whole. The clock and columns 0 to 7 of row 0 are spaces; it is not storing, its age
+    /// is 64, and it is not fresh.
     pub fn of(page: &Page) -> PageMemory
         ensures { memory_of result ≡ memory_of_page (page_of page.now) }
     {

@@ -1,4 +1,4 @@
-//! What slots do to a memory.
+//! The changes that slots make to a memory.
 
 ghost use Rattle.std.specs.Prelude.{◌≡◌, ◌<◌, ◌≤◌, ◌+◌, ◌++◌, length, take, drop, replicate, false, Some, None};
 ghost use Rattle.ttx_header.specs.Control.{IsControl};
@@ -13,7 +13,7 @@ use ttx_code::strip;
 use ttx_header::{Control, Header};
 use ttx_links::{Links, Target};
 
-// The row once bytes are received in its place.
+// The row after bytes are received in its place.
 fn received_row(row: &[u8; 40], bytes: &[u8; 40]) -> [u8; 40]
     requires { IsRow row.now }
     ensures value { result ≡ stored_row row.now bytes.now }
@@ -24,7 +24,7 @@ fn received_row(row: &[u8; 40], bytes: &[u8; 40]) -> [u8; 40]
     codes
 }
 
-// Writes a part of the bytes.
+// Overwrites a part of the bytes.
 #[tactic(auto, using(std::proofs::lemmas::Slice::overwrites))]
 fn put(bytes: &mut [u8; 40], at: usize, part: &[u8])
     requires { at + length part.now ≤ 40 }
@@ -33,7 +33,7 @@ fn put(bytes: &mut [u8; 40], at: usize, part: &[u8])
     bytes[at..at + part.len()].copy_from_slice(part);
 }
 
-// The bytes that a header sends for row 0. Zero bytes have even parity: they leave columns 0 to 7.
+// The bytes of a header for row 0. Zero bytes have even parity, so they leave columns 0 to 7 unchanged.
 fn top_bytes(header: &Header) -> [u8; 40]
     ensures { result ≡ replicate 8 0 ++ header.now.text ++ header.now.clock }
 {
@@ -43,7 +43,7 @@ fn top_bytes(header: &Header) -> [u8; 40]
     bytes
 }
 
-// Row 0 with the characters of right parity of a header in columns 8 to 39.
+// Row 0 after a header: characters with odd parity go to columns 8 to 39.
 fn received_top(row: &[u8; 40], header: &Header) -> [u8; 40]
     requires { IsRow row.now }
     ensures value { result ≡ take 8 row.now ++ stored_row (drop 8 row.now) (header.now.text ++ header.now.clock) }
@@ -68,7 +68,7 @@ fn no_targets() -> [Option<Target>; 6]
 }
 
 impl PageMemory {
-    /// One slot more: the age grows by 1, at most to 64.
+    /// One more slot: the age grows by 1, up to 64.
     pub fn grow_older(&mut self)
         ensures { memory_of self.new ≡ older (memory_of self.old) }
     {
@@ -82,7 +82,7 @@ impl PageMemory {
         self.storing = false;
     }
 
-    /// Clears rows 1 to 24 and the links.
+    /// Clears rows 1 to 24 and the links, and hides row 24.
     pub fn erase(&mut self)
         ensures { memory_of self.new ≡ erased (memory_of self.old) }
     {
@@ -93,8 +93,8 @@ impl PageMemory {
         self.show24 = false;
     }
 
-    /// Takes a header that the selection matches: its characters of right parity go to columns 8 to 39 of row 0, its control
-    /// bits are taken, and storing begins at age 0.
+    /// Takes a header that the selection matches. Its characters with odd parity go to columns 8 to 39 of row 0, its control bits
+    /// are taken, and storing begins at age 0 (EN 300 706, 9.3.1).
     pub fn begin(&mut self, header: &Header)
         ensures { memory_of self.new ≡ begun (memory_of self.old) header.now.control (header.now.text ++ header.now.clock) }
     {
@@ -106,7 +106,7 @@ impl PageMemory {
         self.fresh = false;
     }
 
-    /// Stores the characters of right parity of a row, 0 to 24, and leaves the others.
+    /// Stores the characters of a row, 0 to 24, that have odd parity, and leaves the others unchanged (8.1).
     pub fn store_row(&mut self, number: u8, bytes: &[u8; 40])
         requires { number < 25 }
         ensures { memory_of self.new ≡ with_row (memory_of self.old) number (stored_row (memory_row (memory_of self.old) number) bytes.now) }
@@ -115,7 +115,7 @@ impl PageMemory {
         self.rows[usize::from(number)] = received_row(&row, bytes);
     }
 
-    /// Stores links, and whether row 24 is shown.
+    /// Stores the links, and whether row 24 is shown.
     pub fn store_links(&mut self, links: &Links)
         ensures { memory_of self.new ≡ with_links (memory_of self.old) (Some links.now.set) }
     {
@@ -123,7 +123,7 @@ impl PageMemory {
         self.show24 = links.show24();
     }
 
-    /// The memory with another row in the place of row `number`, 0 to 24.
+    /// The memory with row `number`, 0 to 24, replaced.
     pub fn with_row(self, number: usize, row: &[u8; 40]) -> PageMemory
         requires number { number < 25 }
         requires row { IsRow row.now }

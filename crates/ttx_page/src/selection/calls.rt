@@ -9,7 +9,7 @@ use super::Selection;
 use crate::page::Page;
 use ttx_header::PageId;
 
-// Whether the other page has the page's number and another subcode.
+// Whether `other` has the page number of `page` and another subcode.
 fn is_other_subpage(page: &Page, other: &Page) -> bool
     ensures { result ≡ is_other_subpage (page_of page.now) (page_of other.now) }
 {
@@ -18,7 +18,7 @@ fn is_other_subpage(page: &Page, other: &Page) -> bool
     other_id.mag() == id.mag() && other_id.page() == id.page() && other_id.sub() != id.sub()
 }
 
-// Whether no other page of the list has the page's number.
+// Whether no other page of the list has the number of this page.
 fn is_alone(pages: &[Page], page: &Page) -> bool
     ensures { IsTrue result ↔ IsAlone (map page_of pages.now) (page_of page.now) }
 {
@@ -31,7 +31,7 @@ fn is_alone(pages: &[Page], page: &Page) -> bool
 }
 
 impl Selection {
-    /// Whether a header of this id is one that the selection matches.
+    /// Whether the selection takes a header with this id.
     pub fn matches(&self, id: PageId) -> bool
         ensures { result ≡ matches self.now id }
     {
@@ -41,8 +41,8 @@ impl Selection {
         }
     }
 
-    /// Whether the selection fits the page at `index`: it is the page's own id, or the page's number where no other page of the
-    /// list has it.
+    /// Whether the selection fits the page at `index`: it is the page's own id, or the page's number and no other page of the list
+    /// has that number.
     pub fn fits(&self, pages: &[Page], index: usize) -> bool
         requires { index < length pages.now }
         ensures { (p : definitions.Page) → slice_get (map page_of pages.now) index ≡ Some p →

@@ -6,7 +6,7 @@ use Rattle.ttx_page.proofs.shown.is_hidden.Given as goal
 abbrev pub decreases-loop-at : goal.decreases-loop-at
 decreases-loop-at l = l.at
 
--- the row is hidden where the row reached is, turned once for each row in double height that was passed
+-- the row is hidden if the row reached is, negated once for each row in double height that was passed
 abbrev pub invariant-loop-at : goal.invariant-loop-at
 invariant-loop-at l = record {
   from : 1 ≤ l.at;
