@@ -1,4 +1,4 @@
--- Slots that are added one by one from the bytes of many.
+-- Slots appended one by one from a block of bytes.
 use Rattle.std.proofs.Common.{◌≡◌, ◌∙◌, ℕ, ◌+◌, ◌*◌, ◌-◌, ◌/◌, ◌%◌, ◌<◌, ◌≤◌, List, [], ◌∷◌, ◌++◌, Option, Some, None, Result, IfSome}
 use Rattle.std.proofs.Common.{length, take, drop, take_all, length-drop, length-append, sym, ap, subst, arith, append_assoc}
 use Rattle.std.specs.Io.KnownBytes.{Consumes, IsAtEnd}
@@ -26,12 +26,12 @@ one_more_slot done slot bytes whole i is so_far =
 pub take_whole : (n at : ℕ) (xs : List ℕ) → length xs ≤ n → take (n - at) (drop at xs) ≡ drop at xs
 take_whole n at xs le = take_all (n - at) (drop at xs) (omega (arith, length-drop at xs))
 
--- an answer that any file may have
+-- an answer that is right for any file
 pub judged_any : (old : Option (List ℕ)) (r : Result Cycle CycleFault) → ((file : List ℕ) → Judged file r) → IfSome old (λ bytes. Judged bytes r)
 judged_any None r j = tt
 judged_any (Some xs) r j = j xs
 
--- a file that was read to its end
+-- a file that has been read to its end
 pub judged_end : (old mid : Option (List ℕ)) (file : List ℕ) (r : Result Cycle CycleFault) → Consumes old mid file → IsAtEnd mid → Judged file r
     → IfSome old (λ bytes. Judged bytes r)
 judged_end None mid file r a end j = tt
@@ -46,7 +46,7 @@ judged_long None mid file a some long = tt
 judged_long (Some xs) None file a some long = absurd a
 judged_long (Some xs) (Some ys) file a some long = omega (arith, ap length a, length-append file ys, some, long)
 
--- whole slots that were added leave none of their bytes
+-- whole slots leave no bytes over
 pub whole_slots : (old new : List (List ℕ)) (bytes : List ℕ) (n : ℕ) → length bytes ≤ n → n % 42 ≡ 0
     → file_of new ++ drop (42 * (n / 42)) bytes ≡ file_of old ++ bytes → file_of new ≡ file_of old ++ bytes
 whole_slots old new bytes n few whole added =

@@ -1,4 +1,4 @@
--- The slots that a slot reader gives are those of the packet file, and its fault is the one that the whole file is answered.
+-- The slots that a slot reader returns are those of the packet file, and its fault is the fault of the whole file.
 use Rattle.std.proofs.Common.{◌≡◌, ℕ, zero, suc, ◌+◌, ◌<◌, List, [], ◌∷◌, ◌++◌, length, All, Option, Some, None, IfSome, Err, refl, sym, ap, ◌∙◌}
 use Rattle.std.proofs.Common.{subst, arith, length-append, append-nil}
 use Rattle.std.specs.Io.KnownBytes.{Consumes, IsAtEnd}
@@ -45,7 +45,7 @@ all_are_given given old mid new slots slot gave answer =
     Consumes-whole old mid (file_of slots) (λ bytes. IsCycle slots × (bytes ≡ file_of slots)) gave.bytes answer.1
     (record { some = omega arith; most = omega arith; each = gave.each }, refl)
 
--- what is left over
+-- the bytes that are left
 left_over : (a b : Option (List ℕ)) (bs : List ℕ) (R S : List ℕ → Type 0) → Consumes a b bs → IfSome b R →
     ((r : List ℕ) → R r → S (bs ++ r)) → IfSome a S
 left_over None b bs R S c h f = tt

@@ -1,4 +1,4 @@
--- Answers about the same bytes are alike.
+-- Two answers about the same bytes agree.
 use Rattle.std.proofs.Common.{◌≡◌, ℕ, suc, ◌*◌, ◌<◌, ◌≤◌, List, [], ◌∷◌, ◌++◌, length, get_or, take, drop, Ok, Err, refl, sym, ap, ◌∙◌, arith}
 use Rattle.std.proofs.Common.{length-append}
 use Rattle.std.proofs.Math.Seq.{take-append_seam, drop-append_seam}
@@ -29,7 +29,7 @@ length-file_of (slot ∷ rest) are =
     let others = length-file_of rest (λ n lt. are (suc n) (omega arith)) in
     ap length (file_cons slot rest) ∙ length-append slot (file_of rest) ∙ omega arith
 
--- a packet file is that of one list of slots
+-- a packet file belongs to one list of slots
 one_list : (a b : List (List ℕ)) → Are42 a → Are42 b → file_of a ≡ file_of b → a ≡ b
 one_list [] [] p q e = refl
 one_list [] (y ∷ ys) p q e = let l = length-file_of (y ∷ ys) q in let z : 0 ≡ length (file_of (y ∷ ys)) = ap length e in absurd (omega arith)
@@ -44,7 +44,7 @@ one_list (x ∷ xs) (y ∷ ys) p q e =
     let rest : xs ≡ ys = one_list xs ys (λ n lt. p (suc n) (omega arith)) (λ n lt. q (suc n) (omega arith)) others in
     cc
 
--- the length of a cycle's file
+-- the length of the file of a cycle
 record HasLength (bytes : List ℕ) : Type 0 where
   count : ℕ
   some : 0 < count
@@ -62,7 +62,7 @@ has_length bytes cycle e =
           ∙ length-file_of (slots_of cycle) (are_42 (slots_of cycle) is);
     }
 
--- a cycle is no fault
+-- bytes that are the file of a cycle have no fault
 not_fault : (bytes : List ℕ) → HasLength bytes → (fault : CycleFault) → SpeaksOfBytes (Err fault) → Judged bytes (Err fault) → ⊥
 not_fault bytes h Read speaks j = speaks
 not_fault bytes h (Truncated rest) speaks j = let s = h.is in let r = j.1 in let p = j.2 in omega arith

@@ -1,4 +1,4 @@
--- What a counted reader or writer shows: `inner_of`, `calls_of`, `faults_of`.
+-- The contents of a counted reader or writer: `inner_of`, `calls_of`, `faults_of`.
 use Rattle.std.specs.Prelude.{ℕ}
 use Rattle.ttx_cycle.specs.declared.counted.Counted.{Counted}
 

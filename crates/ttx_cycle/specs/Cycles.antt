@@ -1,4 +1,4 @@
--- What a cycle shows: `slots_of`.
+-- The slots of a cycle: `slots_of`.
 use Rattle.std.specs.Prelude.{ℕ, List}
 use Rattle.ttx_cycle.specs.Files.{IsCycle}
 use Rattle.ttx_cycle.specs.declared.cycles.Cycle.{Cycle}
@@ -7,6 +7,6 @@ use Rattle.ttx_cycle.specs.declared.cycles.Cycle.{Cycle}
 abbrev pub slots_of : Cycle → List (List ℕ)
 slots_of cycle = cycle.slots.items
 
--- which are 1 to 65,536 slots of 42 bytes
+-- they are 1 to 65,536 slots of 42 bytes
 pub slots_of-IsCycle : (cycle : Cycle) → IsCycle (slots_of cycle)
 slots_of-IsCycle cycle = cycle.is_cycle

@@ -1,8 +1,8 @@
 -- What a faulty reader and a faulty writer do.
 --
 --   Source, source_of    a reader: the bytes it has left, the most bytes of a call, the call that fails, the calls made
---   Sink, sink_of        a writer: the bytes it took, its free room, the most bytes of a call, the call that fails, the calls made
---   Gives, Takes         what a call answers, and what it leaves
+--   Sink, sink_of        a writer: the bytes written, its free room, the most bytes of a call, the call that fails, the calls made
+--   Gives, Takes         what a call returns, and the state after it
 use Rattle.std.specs.Prelude.{◌≡◌, ℕ, ◌-◌, ◌==◌, ◌≢◌, List, ◌++◌, length, take, drop, min, max, Option, Some, None, Result, Ok, Err, if◌then◌else◌}
 use Rattle.ttx_cycle.specs.Counts.{next_count}
 use Rattle.ttx_cycle.specs.declared.faulty.Failure.{Failure}
@@ -35,11 +35,11 @@ sink_of writer = record {
   calls = writer.calls;
 }
 
--- how many bytes a call moves: at least one of some
+-- how many bytes a call moves: at least one if there are any
 abbrev pub moved : ℕ → ℕ → ℕ → ℕ
 moved piece here there = min (min (max piece 1) here) there
 
--- a call of `read` with this room
+-- a call of `read` with room for `room` bytes
 abbrev pub Gives : {E : Type 0} → Source → Source → ℕ → Result ℕ E → Type 0
 Gives old new room (Ok count) =
     (old.at ≢ Some (next_count old.calls))
@@ -48,7 +48,7 @@ Gives old new room (Ok count) =
 Gives old new room (Err _) =
     (old.at ≡ Some (next_count old.calls)) × (new ≡ record old { calls = next_count old.calls })
 
--- how many bytes a call of `write` takes of so many: none where it answers an error
+-- how many of `most` bytes a call of `write` takes; None if it returns an error
 abbrev pub taken_at : Option Failure → ℕ → ℕ → Option ℕ
 taken_at None call most = Some most
 taken_at (Some (Error at)) call most = if at == call then None else Some most

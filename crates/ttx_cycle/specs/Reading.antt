@@ -1,8 +1,8 @@
 -- How the bytes of a packet file are judged.
 --
---   Judged         what is answered for a whole file
---   AnswersNext    what is answered when the next slot is asked for
---   CountsRead     a read fault is answered only where one was counted
+--   Judged         the answer for a whole file
+--   AnswersNext    the answer when the next slot is asked for
+--   CountsRead     a read fault is answered only if one was counted
 --   has_slot       whether an answer is a slot
 use Rattle.std.specs.Prelude.{◌≡◌, ℕ, ◌%◌, ◌<◌, ◌≤◌, List, [], length, ⊤, Bool, true, false, Option, IfSome, Result, Ok, Err}
 use Rattle.std.specs.Io.KnownBytes.{Consumes, IsAtEnd}
@@ -13,7 +13,7 @@ use Rattle.ttx_cycle.specs.declared.cycles.Cycle.{Cycle}
 use Rattle.ttx_cycle.specs.declared.faults.CycleFault.{CycleFault}
 use Rattle.ttx_cycle.specs.declared.faults.CycleFault.TheVariants.{Read, Truncated, Empty, TooLong, NoMemory}
 
--- What is answered for these bytes. No two of the cases that speak of the bytes hold together, and one always does.
+-- The answer for these bytes. Of the cases that depend on the bytes, exactly one holds.
 abbrev pub Judged : List ℕ → Result Cycle CycleFault → Type 0
 Judged bytes (Ok cycle) = bytes ≡ file_of (slots_of cycle)
 Judged bytes (Err Read) = ⊤
@@ -22,7 +22,7 @@ Judged bytes (Err Empty) = bytes ≡ []
 Judged bytes (Err TooLong) = 2752512 < length bytes
 Judged bytes (Err NoMemory) = ⊤
 
--- What is answered when `given` slots were given before, with the bytes that were left at the call and after it.
+-- The answer after `given` slots, with the bytes left before the call (`old`) and after it (`new`).
 abbrev pub AnswersNext : ℕ → Option (List ℕ) → Option (List ℕ) → List ℕ → Result Bool CycleFault → Type 0
 AnswersNext given old new slot (Ok true) = (given < 65536) × Consumes old new slot
 AnswersNext given old new slot (Ok false) = (0 < given) × IsAtEnd old
@@ -32,7 +32,7 @@ AnswersNext given old new slot (Err Empty) = (given ≡ 0) × IsAtEnd old
 AnswersNext given old new slot (Err TooLong) = (given ≡ 65536) × IfSome old (λ bytes. 0 < length bytes)
 AnswersNext given old new slot (Err NoMemory) = ⊥
 
--- the faults counted before and after
+-- how the count of faults changes with each answer
 abbrev pub CountsRead : {T : Type 0} → Result T CycleFault → ℕ → ℕ → Type 0
 CountsRead (Ok _) old new = new ≡ old
 CountsRead (Err Read) old new = HasRisen old new

@@ -1,9 +1,9 @@
 -- Laws of how packet files are judged.
 --
 --   SpeaksOfBytes           an answer about the bytes: a cycle, or why there is none
---   AreAlike                two answers that say the same
---   FilesAreJudgedOnce      answers about the same bytes are alike
---   LongestIsNotTooLong     65,536 slots aren't too long a file
+--   AreAlike                two answers that agree
+--   FilesAreJudgedOnce      two answers about the same bytes agree
+--   LongestIsNotTooLong     a file of 65,536 slots is not too long
 use Rattle.std.specs.Prelude.{◌≡◌, ℕ, ◌*◌, ◌≤◌, List, length, Result, Ok, Err}
 use Rattle.ttx_cycle.specs.Cycles.{slots_of}
 use Rattle.ttx_cycle.specs.Reading.{Judged}
@@ -11,7 +11,7 @@ use Rattle.ttx_cycle.specs.declared.cycles.Cycle.{Cycle}
 use Rattle.ttx_cycle.specs.declared.faults.CycleFault.{CycleFault}
 use Rattle.ttx_cycle.specs.declared.faults.CycleFault.TheVariants.{Read, TooLong, NoMemory}
 
--- no fault of a device, and no allocation that failed
+-- neither a device fault nor a failed allocation
 abbrev pub SpeaksOfBytes : Result Cycle CycleFault → Type 0
 SpeaksOfBytes (Err Read) = ⊥
 SpeaksOfBytes (Err NoMemory) = ⊥

@@ -1,10 +1,10 @@
--- The laws of slots that a slot reader gives one by one.
+-- Laws of the slots that a slot reader returns one by one.
 --
---   IsGiven         the slots that were given, and how far their file is read
---   NoneIsGiven     at the front of a file
---   OneMoreIsGiven  after a slot
+--   IsGiven         the slots returned so far, and how far the file has been read
+--   NoneIsGiven     at the beginning of a file
+--   OneMoreIsGiven  after one more slot
 --   AllAreGiven     at the end of the file: the bytes are the packet file of the slots
---   FaultIsTheFiles         a fault is the one that the whole file is answered
+--   FaultIsTheFiles         a fault is the fault of the whole file
 use Rattle.std.specs.Prelude.{◌≡◌, ℕ, ◌+◌, ◌*◌, ◌≤◌, List, [], ◌∷◌, ◌++◌, length, All, Option, IfSome, true, false, Ok, Err}
 use Rattle.std.specs.Io.KnownBytes.{Consumes}
 use Rattle.ttx_packet.specs.Slots.{IsSlot}
@@ -12,7 +12,7 @@ use Rattle.ttx_cycle.specs.Files.{IsCycle, file_of}
 use Rattle.ttx_cycle.specs.Reading.{Judged, AnswersNext}
 use Rattle.ttx_cycle.specs.declared.faults.CycleFault.{CycleFault}
 
--- `given` slots were given, with the bytes that were left before the first and after the last
+-- `given` slots were returned; `old` are the bytes left before the first, `new` those after the last
 pub record IsGiven (given : ℕ) (old new : Option (List ℕ)) (slots : List (List ℕ)) : Type 0 where
   pub count : length slots ≡ given
   pub few : given ≤ 65536

@@ -1,4 +1,4 @@
-//! What is known of arrays of 42 bytes, handed to the proofs. These functions do nothing.
+//! Facts about arrays of 42 bytes, for proofs. These functions do nothing at run time.
 
 ghost use Rattle.std.specs.Prelude.{All};
 ghost use Rattle.ttx_packet.specs.Slots.{IsSlot};
@@ -8,7 +8,7 @@ fn told(slot: &[u8; 42])
     ensures { IsSlot slot.now }
 {}
 
-/// An array of 42 bytes is a slot. A call does nothing, and hands this to the caller's proof.
+/// An array of 42 bytes is a slot. Calling this does nothing at run time; it gives the caller's proof the fact.
 pub fn is_slot(slot: &[u8; 42])
     ensures { IsSlot slot.now }
 {

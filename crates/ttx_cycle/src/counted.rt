@@ -1,4 +1,4 @@
-//! Readers and writers whose calls and faults are counted.
+//! Readers and writers that count their calls and faults.
 
 ghost use Rattle.std.specs.Prelude.{◌≡◌, is_ok, if◌then◌else◌, OnErr, IsTrue};
 ghost use Rattle.std.specs.Io.{ReadsAtMost, WritesAtMost};
@@ -9,9 +9,9 @@ ghost use Rattle.ttx_cycle.specs.Counts.{next_count, is_write_fault, HasRisen};
 use std::io;
 use std::io::{Read, Write};
 
-/// A reader or a writer, with the count of its calls and of those that failed.
+/// A reader or a writer, with a count of its calls and of the calls that failed.
 ///
-/// Each count goes up to the largest `u64` and stays there. An interrupted call is an error like any other.
+/// Each count stops at the largest `u64`. An interrupted call counts as a failed one.
 #[derive(Drop)]
 pub struct Counted<T> {
     inner: T,
@@ -20,7 +20,7 @@ pub struct Counted<T> {
 }
 
 impl<T> Counted<T> {
-    /// Counts from 0.
+    /// Begins both counts at 0.
     pub fn new(inner: T) -> Counted<T>
         ensures inner { inner_of result ≡ inner }
         ensures calls { calls_of result ≡ 0 }
@@ -33,14 +33,14 @@ impl<T> Counted<T> {
         }
     }
 
-    /// The reader or writer.
+    /// The inner reader or writer.
     pub fn get_ref(&self) -> &T
         ensures { result.now ≡ inner_of self.now }
     {
         &self.inner
     }
 
-    /// The reader or writer, given back.
+    /// Gives back the inner reader or writer.
     pub fn into_inner(self) -> T
         ensures { result ≡ inner_of self }
     {
@@ -52,14 +52,14 @@ impl<T> Counted<T> {
         inner
     }
 
-    /// How often `read` or `write` was called.
+    /// How many times `read` or `write` has been called.
     pub fn calls(&self) -> u64
         ensures { result ≡ calls_of self.now }
     {
         self.calls
     }
 
-    /// How many of these calls answered an error, or took 0 of some bytes to write.
+    /// How many of these calls returned an error, or wrote 0 bytes where there were bytes to write.
     pub fn faults(&self) -> u64
         ensures { result ≡ faults_of self.now }
     {

@@ -1,10 +1,10 @@
-//! A cycle of slots.
+//! Cycles of slots.
 
 ghost use Rattle.ttx_cycle.specs.Files.{IsCycle};
 
 use crate::arrays::are_slots;
 
-/// 1 to 65,536 slots of 42 bytes, which are sent again and again.
+/// A cycle: 1 to 65,536 slots of 42 bytes that are sent again and again.
 #[derive(Drop)]
 pub struct Cycle {
     slots: Vec<[u8; 42]>,
@@ -15,10 +15,10 @@ impl Cycle {
     ghost use Rattle.std.specs.Prelude.{◌≡◌, vec_len, IfSome, is_some, ◌&&◌, nat_le};
     ghost use Rattle.ttx_cycle.specs.Cycles.{slots_of};
 
-    /// The most slots that a cycle has.
+    /// The most slots that a cycle may have.
     pub const MOST: usize = 65_536;
 
-    /// A cycle of these slots: `None` exactly where there is none, or more than 65,536.
+    /// A cycle of these slots. `None` if and only if there are none, or more than 65,536.
     pub fn of(slots: Vec<[u8; 42]>) -> Option<Cycle>
         ensures some { is_some result ≡ (nat_le 1 (vec_len slots) && nat_le (vec_len slots) 65536) }
         ensures slots { IfSome result (λ cycle. slots_of cycle ≡ slots.items) }
@@ -30,7 +30,7 @@ impl Cycle {
         Some(Cycle { slots })
     }
 
-    /// The slots, slot 0 first.
+    /// The slots of the cycle, slot 0 first.
     pub fn slots(&self) -> &[[u8; 42]]
         ensures slots { result.now ≡ slots_of self.now }
         ensures cycle { IsCycle result.now }

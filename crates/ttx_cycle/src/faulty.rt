@@ -1,11 +1,11 @@
-//! A reader and a writer over lent bytes that move little at a time and fail at one call, for tests.
+//! A reader and a writer over borrowed bytes that move a few bytes at a time and fail at one call, for tests.
 
 ghost use Rattle.std.specs.Prelude.{◌≤◌, length};
 
 use std::io;
 use std::io::{Read, Write};
 
-/// Gives lent bytes, at most `piece` a call (but never none of some), and fails at call `at`, counted from 1.
+/// Reads from borrowed bytes, at most `piece` a call (but at least one if any are left), and fails at call `at`, counted from 1.
 #[derive(Drop)]
 pub struct FaultyReader<'a> {
     rest: &'a [u8],
@@ -17,15 +17,15 @@ pub struct FaultyReader<'a> {
 /// How a call of `write` fails. Calls are counted from 1.
 #[derive(Clone, Copy)]
 pub enum Failure {
-    /// Call `at` answers an error.
+    /// Call `at` returns an error.
     Error { at: u64 },
-    /// Call `at` takes nothing and answers 0.
+    /// Call `at` writes nothing and returns 0.
     Nothing { at: u64 },
 }
 
-/// Takes bytes into a lent slice, at most `piece` a call (but never none of some), and fails as told.
+/// Writes into a borrowed slice, at most `piece` bytes a call (but at least one if there is room), and fails as `failure` says.
 ///
-/// Where the slice is full it answers 0. What it took stands at the front of the slice.
+/// Returns 0 when the slice is full. The bytes written are at the front of the slice.
 #[derive(Drop)]
 pub struct FaultyWriter<'a> {
     room: &'a mut [u8],
@@ -40,7 +40,7 @@ impl<'a> FaultyReader<'a> {
     ghost use Rattle.std.specs.Prelude.{◌≡◌};
     ghost use Rattle.ttx_cycle.specs.Faulty.{source_of};
 
-    /// Before its first call.
+    /// A reader before its first call.
     pub fn new(bytes: &'a [u8], piece: usize, at: Option<u64>) -> FaultyReader<'a>
         ensures { source_of result ≡ record { left = bytes.entry.now; piece = piece; at = at; calls = 0 } }
     {
@@ -82,7 +82,7 @@ impl<'a> FaultyWriter<'a> {
     ghost use Rattle.std.specs.Prelude.{◌≡◌, []};
     ghost use Rattle.ttx_cycle.specs.Faulty.{sink_of};
 
-    /// Before its first call.
+    /// A writer before its first call.
     pub fn new(room: &'a mut [u8], piece: usize, failure: Option<Failure>) -> FaultyWriter<'a>
         ensures { sink_of result ≡ record { taken = []; free = length room.entry.now; piece = piece; failure = failure; calls = 0 } }
     {
@@ -95,7 +95,7 @@ impl<'a> FaultyWriter<'a> {
         }
     }
 
-    /// What it took.
+    /// The bytes written so far.
     pub fn taken(&self) -> &[u8]
         ensures { result.now ≡ (sink_of self.now).taken }
     {

@@ -9,7 +9,7 @@ use crate::counted::Counted;
 use crate::faults::CycleFault;
 use std::io::Read;
 
-// Reads until the slot is full or the reader ends, and says how many bytes came.
+// Reads until the slot is full or the reader ends. Returns the number of bytes read.
 pub(crate) fn fill<R: Read>(
     reader: &mut Counted<R>,
     slot: &mut [u8; 42],
@@ -32,7 +32,7 @@ pub(crate) fn fill<R: Read>(
     Ok(at)
 }
 
-// Reads until the block is full or the reader ends, and says how many bytes came.
+// Reads until the block is full or the reader ends. Returns the number of bytes read.
 pub(crate) fn fill_block<R: Read>(
     reader: &mut Counted<R>,
     block: &mut [u8],
@@ -56,7 +56,7 @@ pub(crate) fn fill_block<R: Read>(
     Ok(at)
 }
 
-// Whether no byte is left. Where one is left it is read and dropped.
+// Whether no byte is left. If one is left, it is read and dropped.
 pub(crate) fn is_at_end<R: Read>(reader: &mut Counted<R>) -> Result<bool, CycleFault>
     ensures end { result ≡ Ok true → IsAtEnd (R.remaining (inner_of reader.old)) }
     ensures more { result ≡ Ok false → IfSome (R.remaining (inner_of reader.old)) (λ bytes. 0 < length bytes) }

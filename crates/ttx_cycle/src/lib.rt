@@ -1,4 +1,4 @@
-//! Packet files: the slots of a cycle end to end, 42 bytes each.
+//! Packet files: the slots of a cycle, 42 bytes each, end to end. Also bounded texts, and readers and writers that count.
 #![tactic(auto)]
 
 pub mod arrays;

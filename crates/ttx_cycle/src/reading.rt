@@ -13,14 +13,14 @@ use crate::filling::{fill_block, is_at_end};
 use std::alloc::{AllocError, Global};
 use std::io::Read;
 
-// Room for the 32 slots that are read at once.
+// A buffer for the 32 slots that are read at once.
 fn block_of_zeros() -> [u8; 1344]
     ensures { length result ≡ 1344 }
 {
     [0; 1344]
 }
 
-// The slot at the front of some bytes.
+// The first 42 bytes.
 fn first_slot(bytes: &[u8]) -> &[u8; 42]
     requires { 42 ≤ length bytes.now }
     ensures { result.now ≡ take 42 bytes.now }
@@ -28,7 +28,7 @@ fn first_slot(bytes: &[u8]) -> &[u8; 42]
     bytes.first_chunk::<42>().unwrap()
 }
 
-// Slot i of some bytes.
+// Slot `i`: 42 bytes from byte 42 * i on.
 fn slot_at(bytes: &[u8], i: usize) -> &[u8; 42]
     requires { 42 * i + 42 ≤ length bytes.now }
     ensures { result.now ≡ take 42 (drop (42 * i) bytes.now) }
@@ -36,7 +36,7 @@ fn slot_at(bytes: &[u8], i: usize) -> &[u8; 42]
     first_slot(&bytes[42 * i..])
 }
 
-// Adds the whole slots in some bytes.
+// Appends the whole slots in some bytes.
 fn add_slots(slots: &mut Vec<[u8; 42]>, bytes: &[u8]) -> Result<(), AllocError>
     ensures count { OnOk result (vec_len slots.new ≡ vec_len slots.old + length bytes.now / 42) }
     ensures bytes { OnOk result (file_of slots.new.items ++ drop (42 * (length bytes.now / 42)) bytes.now ≡ file_of slots.old.items ++ bytes.now) }
@@ -47,7 +47,7 @@ fn add_slots(slots: &mut Vec<[u8; 42]>, bytes: &[u8]) -> Result<(), AllocError>
     Ok(())
 }
 
-// The cycle of all the slots of a file.
+// The cycle of all slots of a file.
 fn cycle_of(slots: Vec<[u8; 42]>) -> Result<Cycle, CycleFault>
     requires { vec_len slots ≤ 65536 }
     ensures bytes { Judged (file_of slots.items) result }
@@ -56,7 +56,7 @@ fn cycle_of(slots: Vec<[u8; 42]>) -> Result<Cycle, CycleFault>
     Cycle::of(slots).ok_or(CycleFault::Empty)
 }
 
-// Reads a block and adds its whole slots, and says how many bytes came.
+// Reads a block and appends its whole slots. Returns the number of bytes read.
 fn add_block<R: Read>(
     reader: &mut Counted<R>,
     slots: &mut Vec<[u8; 42]>,
@@ -77,10 +77,10 @@ fn add_block<R: Read>(
     Ok(count)
 }
 
-/// Reads a packet file to its end.
+/// Reads a packet file to its end: slots of 42 bytes, end to end, with no header.
 ///
-/// Faults in this order: `TooLong`, `Truncated`, `Empty`. `Read` and `NoMemory` are answered where they come.
-/// Makes at most 2,752,514 calls of `read`.
+/// A file with several faults is refused in this order: `TooLong`, `Truncated`, `Empty`. `Read` and `NoMemory` are returned
+/// as soon as they occur. Makes at most 2,752,514 calls of `read`.
 pub fn read_cycle<R: Read>(alloc: Global, reader: &mut Counted<R>) -> Result<Cycle, CycleFault>
     ensures bytes { IfSome (R.remaining (inner_of reader.old)) (λ bytes. Judged bytes result) }
     ensures faults { CountsRead result (faults_of reader.old) (faults_of reader.new) }

@@ -1,4 +1,4 @@
-//! Gives the slots of a packet file one by one.
+//! Reads the slots of a packet file one by one.
 
 ghost use Rattle.std.specs.Prelude.{◌≤◌};
 
@@ -8,7 +8,7 @@ use crate::faults::CycleFault;
 use crate::filling::{fill, is_at_end};
 use std::io::Read;
 
-/// How far a packet file is read. It takes no memory.
+/// Reads a packet file slot by slot and keeps no slot. Allocates no memory.
 #[derive(Drop)]
 pub struct SlotReader {
     given: usize,
@@ -23,7 +23,7 @@ impl SlotReader {
     ghost use Rattle.ttx_cycle.specs.Reading.{AnswersNext, CountsRead, has_slot};
     ghost use Rattle.ttx_cycle.specs.SlotReaders.{given_of, is_over};
 
-    /// At the front of a packet file.
+    /// A reader at the beginning of a packet file.
     pub fn new() -> SlotReader
         ensures given { given_of result ≡ 0 }
         ensures over { is_over result ≡ false }
@@ -34,10 +34,10 @@ impl SlotReader {
         }
     }
 
-    /// Reads the next slot into `slot` and answers true, or answers false at the end of the file.
+    /// Reads the next slot into `slot` and returns true, or returns false at the end of the file.
     ///
-    /// After an answer that isn't true it answers false and reads nothing. `slot` may then hold anything.
-    /// Never answers `NoMemory`.
+    /// After false or an error, every further call returns false and reads nothing; `slot` may then hold anything. The faults are
+    /// those of `read_cycle`, except `NoMemory`.
     pub fn next<R: Read>(
         &mut self,
         reader: &mut Counted<R>,

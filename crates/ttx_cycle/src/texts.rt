@@ -9,17 +9,17 @@ use crate::faults::TextFault;
 use std::alloc::Global;
 use std::io::Read;
 
-/// The most bytes of a text: of a service definition, a certificate or a counter-run.
+/// The most bytes that a service definition, a certificate or a counter-run may have (4 MiB).
 pub const MOST_BYTES: usize = 4_194_304;
 
-// Room for the bytes that are read at once.
+// A buffer for the bytes that are read at once.
 fn piece_of_zeros() -> [u8; 1024]
     ensures { length result ≡ 1024 }
 {
     [0; 1024]
 }
 
-/// Reads a text of at most `most` bytes to its end. A longer one is `TooLong`, after at most 1,024 bytes more.
+/// Reads a text of at most `most` bytes to its end. A longer text is `TooLong`; at most 1,024 bytes beyond `most` are read.
 pub fn read_text<R: Read>(
     alloc: Global,
     reader: &mut Counted<R>,

@@ -1,4 +1,4 @@
-//! Writes bytes, and says at a fault how many went out.
+//! Writes bytes. A fault reports how many were written.
 
 ghost use Rattle.std.specs.Prelude.{◌≡◌, ◌+◌, ◌≤◌, length, MatchResult};
 ghost use Rattle.ttx_cycle.specs.Counters.{inner_of, calls_of, faults_of};
@@ -12,7 +12,7 @@ use crate::cycles::Cycle;
 use crate::faults::WriteFault;
 use std::io::Write;
 
-/// Writes all the bytes. At a fault exactly its first `written` bytes went out.
+/// Writes all bytes. If it fails, exactly the first `written` bytes have been written.
 pub fn write_bytes<W: Write>(writer: &mut Counted<W>, bytes: &[u8]) -> Result<(), WriteFault>
     ensures bytes { Writes bytes.now (W.contents (inner_of writer.old)) (W.contents (inner_of writer.new)) result }
     ensures faults { MatchResult result (λ _. faults_of writer.new ≡ faults_of writer.old)
@@ -29,7 +29,7 @@ pub fn write_bytes<W: Write>(writer: &mut Counted<W>, bytes: &[u8]) -> Result<()
     Ok(())
 }
 
-/// Writes the packet file of a cycle. At a fault exactly its first `written` bytes went out.
+/// Writes the packet file of a cycle. If it fails, exactly the first `written` bytes have been written.
 pub fn write_cycle<W: Write>(writer: &mut Counted<W>, cycle: &Cycle) -> Result<(), WriteFault>
     ensures bytes { Writes (file_of (slots_of cycle.now)) (W.contents (inner_of writer.old)) (W.contents (inner_of writer.new)) result }
     ensures faults { MatchResult result (λ _. faults_of writer.new ≡ faults_of writer.old)

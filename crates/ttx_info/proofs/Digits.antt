@@ -1,4 +1,4 @@
--- Numbers by their digits, each as a half byte, and characters by their bytes.
+-- Numbers from their digits, each as a half byte, and characters from their bytes.
 use Rattle.std.proofs.Common.{◌≡◌, ℕ, suc, ◌%◌, ◌<◌, ◌&&◌, Bool, true, false, nat_le, List, [], ◌∷◌, All, map, refl, ap₂, arith}
 use Rattle.std.specs.List.{list_all}
 use Rattle.std.proofs.lemmas.Bool.{le-leb}

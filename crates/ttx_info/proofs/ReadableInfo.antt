@@ -1,4 +1,4 @@
--- A readable packet 8/30 format 1 says what is read of it.
+-- A readable packet 8/30 format 1 encodes the fields that are read from it.
 use Rattle.std.proofs.Common.{◌≡◌, ℕ, zero, suc, ◌+◌, ◌-◌, ◌/◌, ◌%◌, ◌<◌, ◌≤◌, ◌||◌, Bool, true, false, not, nat_lt, nat_le, List, [], ◌∷◌, All}
 use Rattle.std.proofs.Common.{Option, Some, None, Result, Ok, Err, if◌then◌else◌, is_some, length, get_or, drop, map, refl, sym, ap, ap₂, subst, ◌∙◌}
 use Rattle.std.proofs.Common.{arith, eqb, slice_index, slice_range}
@@ -18,7 +18,7 @@ use Rattle.ttx_info.specs.Infos.{info_of, info_behind_link, SaysInfo}
 use Rattle.ttx_info.specs.Laws.{ReadInfosAreSaid}
 use Rattle.ttx_info.specs.declared.faults.InfoFault.{InfoFault}
 
--- a test that didn't lead to a fault
+-- a test that did not lead to a fault
 passed : (b : Bool) (fault : InfoFault) (rest : Result InfoFields InfoFault) (f : InfoFields) → (if b then Err fault else rest) ≡ Ok f →
     (b ≡ false) × (rest ≡ Ok f)
 passed true fault rest f e = cc
@@ -84,7 +84,7 @@ time_again a b c d e f h =
 
 -- ---- characters
 
--- a byte of odd parity is the one that sends its character
+-- a byte of odd parity is the byte that sends its character
 abbrev sends_its_code : ℕ → Bool
 sends_its_code b = not (is_odd b) || eqb (odd_byte (b % 128)) b
 
@@ -116,7 +116,7 @@ length_range s a b l m = length-take-le (b - a) (drop a s) (omega (arith, length
 -- ---- the packet
 
 module _ (link : ReadLinkIsSaid) where
-  -- the fields that are read, where no test leads to a fault
+  -- the fields that are read if no test leads to a fault
   said : (s : List ℕ) → IsSlot s → is_some (reading (slice_index s 2)) ≡ true → nat_lt 1 (number s 2) ≡ false →
       are_readable (slice_range s 3 9) ≡ true →
       list_all is_half_digit (date_digits s) ≡ true → list_all is_half_digit (time_digits s) ≡ true → list_all is_odd (slice_range s 22 42) ≡ true →

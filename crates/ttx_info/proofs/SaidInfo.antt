@@ -1,4 +1,4 @@
--- A packet 8/30 format 1 that is said by its bytes.
+-- A packet 8/30 format 1 whose bytes encode its fields.
 use Rattle.std.proofs.Common.{◌≡◌, ℕ, ◌<◌, ◌%◌, ◌&&◌, true, false, nat_lt, List, Ok, is_some, length, map, ap, ◌∙◌, arith, slice_index, slice_range}
 use Rattle.std.specs.Prelude.{unwrap_or}
 use Rattle.std.specs.List.{list_all}

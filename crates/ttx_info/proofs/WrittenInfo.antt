@@ -1,4 +1,4 @@
--- A packet 8/30 format 1 that is written.
+-- A packet 8/30 format 1 as it is written.
 use Rattle.std.proofs.Common.{◌≡◌, ℕ, ◌+◌, ◌*◌, ◌/◌, ◌%◌, ◌<◌, ◌==◌, ◌||◌, Bool, true, false, List, [], ◌∷◌, ◌++◌, Option, Some, None, length}
 use Rattle.std.proofs.Common.{length-append, append_assoc, take, drop, take_at, take_all, drop_at, map, refl, sym, ap, subst, ◌∙◌, arith, slice_index}
 use Rattle.std.proofs.Common.{slice_range, get_or, ◌-◌}

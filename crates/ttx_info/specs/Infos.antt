@@ -4,11 +4,11 @@
 --   InfoFields, info_at     the fields, as contracts see an `Info`
 --   IsInfoRange, IsInfoFields       their ranges
 --   digits_of, is_half_digit, value_of   the half bytes of date and time, each a digit plus one
---   info_fields, info_of      what the bytes of a packet say, or why they say nothing
---   are_clock_digits, info_behind_link, DecidesLink       the parts of that judgment: the clock, what stands behind the link, and
---                               what stands before it
+--   info_fields, info_of      the fields that the bytes of a packet encode, or the first fault
+--   are_clock_digits, info_behind_link, DecidesLink       the parts of that judgment: the clock, what comes after the link, and
+--                               what comes before it
 --   half_byte, offset_byte, date_bytes, time_bytes, info_bytes          the bytes that are written
---   SaysInfo                    the packet that 42 bytes say
+--   SaysInfo                    the bytes encode the fields
 use Rattle.std.specs.Prelude.{◌≡◌, ℕ, ◌+◌, ◌-◌, ◌*◌, ◌/◌, ◌%◌, ◌<◌, List, [], ◌∷◌, ◌++◌, All, Bool, nat_le, nat_lt, not, ◌==◌, ◌&&◌}
 use Rattle.std.specs.Prelude.{Option, Some, Result, Ok, Err, if◌then◌else◌, is_some, length, map, slice_index, slice_range}
 use Rattle.std.specs.List.{list_all}
@@ -20,7 +20,7 @@ use Rattle.ttx_links.specs.Sets.{link_at, link_bytes, SaysLink}
 use Rattle.ttx_info.specs.declared.faults.InfoFault.{InfoFault}
 use Rattle.ttx_info.specs.declared.faults.InfoFault.TheVariants.{Designation, Hamming, Digit, Parity}
 
--- The fields of packet 8/30 format 1. The offset is in half hours, negative where west; date and time are their digits.
+-- The fields of packet 8/30 format 1. The offset is in half hours, negative if west; date and time are numbers made of their digits.
 pub record InfoFields : Type 0 where
   pub designation : ℕ
   pub initial : Option Id
@@ -35,7 +35,7 @@ abbrev pub info_at : ℕ → Option Id → List ℕ → ℕ → Bool → ℕ →
 info_at designation initial network halves west mjd utc text =
     record { designation = designation; initial = initial; network = network; halves = halves; west = west; mjd = mjd; utc = utc; text = text }
 
--- designation 0 or 1, an offset of five bits, five and six digits, and characters below 128
+-- designation 0 or 1, an offset of five bits, a date of five digits, a time of six, and characters below 128
 pub record IsInfoRange (f : InfoFields) : Type 0 where
   pub designation : f.designation < 2
   pub halves : f.halves < 32
@@ -43,7 +43,7 @@ pub record IsInfoRange (f : InfoFields) : Type 0 where
   pub utc : f.utc < 1000000
   pub text : All (λ c. c < 128) f.text
 
--- these ranges, two bytes of network, and 20 characters
+-- these ranges, two bytes of network code, and 20 characters
 pub record IsInfoFields (f : InfoFields) : Type 0 where
   pub range : IsInfoRange f
   pub network : length f.network ≡ 2
@@ -63,7 +63,7 @@ time_digits s =
 abbrev pub is_half_digit : ℕ → Bool
 is_half_digit half = nat_le 1 half && nat_le half 10
 
--- the number whose decimal digits follow those of n, each as a digit plus one
+-- the number whose decimal digits are those of n and then these, each as a digit plus one
 abbrev pub followed_by : ℕ → List ℕ → ℕ
 followed_by n [] = n
 followed_by n (half ∷ halves) = followed_by (10 * n + (half - 1)) halves
@@ -75,13 +75,13 @@ value_of halves = followed_by 0 halves
 abbrev pub are_clock_digits : List ℕ → Bool
 are_clock_digits s = list_all is_half_digit (date_digits s) && list_all is_half_digit (time_digits s)
 
--- all fields of a packet that has no fault
+-- all fields of a packet without faults
 abbrev pub info_fields : List ℕ → InfoFields
 info_fields s =
     info_at (number s 2) (link_at 8 s 3) (slice_range s 9 11) (slice_index s 11 / 2 % 32) (slice_index s 11 / 64 % 2 == 1)
     (value_of (date_digits s)) (value_of (time_digits s)) (map (λ b. b % 128) (slice_range s 22 42))
 
--- what the clock and the characters decide where nothing before them has a fault
+-- what the clock and the characters decide if nothing before them has a fault
 unfoldable pub info_behind_link : List ℕ → Result InfoFields InfoFault
 info_behind_link s =
     if not (are_clock_digits s) then Err Digit
@@ -96,7 +96,7 @@ info_of s =
     else if not (are_readable (slice_range s 3 9)) then Err Hamming
     else info_behind_link s
 
--- what bytes 2 to 8 decide: the fault that is told; or the designation and the initial page, and then the rest decides
+-- what bytes 2 to 8 decide: the fault; or the designation and the initial page, and then the other bytes decide
 abbrev pub DecidesLink : List ℕ → Result (ℕ × Option Id) InfoFault → Type 0
 DecidesLink s (Err fault) = info_of s ≡ Err fault
 DecidesLink s (Ok link) = (info_of s ≡ info_behind_link s) × (link ≡ (number s 2, link_at 8 s 3))
@@ -113,11 +113,11 @@ abbrev pub time_halves : ℕ → List ℕ
 time_halves utc =
     half_byte utc 100000 ∷ half_byte utc 10000 ∷ half_byte utc 1000 ∷ half_byte utc 100 ∷ half_byte utc 10 ∷ half_byte utc 1 ∷ []
 
--- bits 2 to 6 are the half hours, bit 7 is set where west; bits 1 and 8 are written 1
+-- bits 2 to 6 are the half hours, bit 7 is set if west; bits 1 and 8 are written as 1
 abbrev pub offset_byte : ℕ → Bool → ℕ
 offset_byte halves west = 129 + 2 * halves + (if west then 64 else 0)
 
--- five digits; the high half of the first byte is written 0 (profile)
+-- five digits; the high half of the first byte is written as 0 (profile)
 abbrev pub date_bytes : ℕ → List ℕ
 date_bytes mjd =
     half_byte mjd 10000 ∷ (16 * half_byte mjd 1000 + half_byte mjd 100) ∷ (16 * half_byte mjd 10 + half_byte mjd 1) ∷ []
@@ -128,14 +128,14 @@ time_bytes utc =
     (16 * half_byte utc 100000 + half_byte utc 10000) ∷ (16 * half_byte utc 1000 + half_byte utc 100)
     ∷ (16 * half_byte utc 10 + half_byte utc 1) ∷ []
 
--- the bytes that are written; bytes 18 to 21 are written 0 (profile)
+-- the bytes of the packet; bytes 18 to 21 are written as 0 (profile)
 abbrev pub info_bytes : InfoFields → List ℕ
 info_bytes f =
     (address_bytes 8 30 ++ hamming_word f.designation ∷ []) ++ link_bytes 8 f.initial ++ f.network
     ++ (offset_byte f.halves f.west ∷ date_bytes f.mjd ++ time_bytes f.utc ++ 0 ∷ 0 ∷ 0 ∷ 0 ∷ []) ++ map odd_byte f.text
 
--- The bytes say the fields: byte 2, the link, the network, bits 2 to 7 of byte 11, eleven half bytes, and 20 characters. Bits 1
--- and 8 of byte 11, the high half of byte 12 and bytes 18 to 21 are any.
+-- The bytes encode the fields: byte 2, the link, the network code, bits 2 to 7 of byte 11, eleven half bytes, and 20 characters.
+-- Bits 1 and 8 of byte 11, the high half of byte 12 and bytes 18 to 21 may be anything.
 pub record SaysInfo (f : InfoFields) (s : List ℕ) : Type 0 where
   pub designation : reading (slice_index s 2) ≡ Some f.designation
   pub initial : SaysLink 8 f.initial s 3

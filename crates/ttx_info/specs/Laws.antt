@@ -1,22 +1,22 @@
--- Laws of packet 8/30 format 1, which the layers above may use. Each is proved by the function of its name in `laws`.
+-- Laws of packet 8/30 format 1, for the layers above. Each is proved by the function of its name in `laws`.
 --
---   SaidInfosAreRead        the fields that 42 bytes say are the ones that are read
---   ReadInfosAreSaid        the fields that are read are ones that the 42 bytes say
---   WrittenInfosAreRead     what is written is read again as the same fields
+--   SaidInfosAreRead        the fields that 42 bytes encode are the ones that are read
+--   ReadInfosAreSaid        the fields that are read are ones that the 42 bytes encode
+--   WrittenInfosAreRead     written fields are read as the same fields
 use Rattle.std.specs.Prelude.{◌≡◌, ℕ, List, Ok, true}
 use Rattle.ttx_packet.specs.Slots.{IsSlot, IsInfo, kind_of, is_clean}
 use Rattle.ttx_links.specs.Sets.{IsLink}
 use Rattle.ttx_info.specs.Infos.{InfoFields, IsInfoFields, SaysInfo, info_of, info_bytes}
 
--- 42 bytes that say fields are read as these fields
+-- 42 bytes that encode fields are read as these fields
 abbrev pub SaidInfosAreRead : Type 0
 SaidInfosAreRead = (f : InfoFields) (s : List ℕ) → IsInfoFields f → IsLink f.initial → IsSlot s → SaysInfo f s → info_of s ≡ Ok f
 
--- 42 bytes that are read as fields say these fields, which are in range
+-- 42 bytes that are read as fields encode these fields, which are in range
 abbrev pub ReadInfosAreSaid : Type 0
 ReadInfosAreSaid = (f : InfoFields) (s : List ℕ) → IsSlot s → info_of s ≡ Ok f → IsInfoFields f × IsLink f.initial × SaysInfo f s
 
--- what is written of fields is clean, has the kind info, says the fields and is read as the same fields
+-- the bytes written for fields are clean, have the kind of packet 8/30, encode the fields, and are read as the same fields
 pub record IsInfoWritten (f : InfoFields) : Type 0 where
   pub kind : kind_of (info_bytes f) ≡ IsInfo
   pub clean : is_clean (info_bytes f) ≡ true

@@ -1,21 +1,21 @@
-//! Why the bytes of a packet 8/30 aren't format 1.
+//! Why a packet 8/30 is not a readable format 1.
 
 use thiserror::Error;
 
-/// Why a packet 8/30 isn't read. With several faults the one that is told comes first in this order of tests: byte 2
-/// unreadable; designation; bytes 3 to 8 unreadable; digits; parity.
+/// Why a packet 8/30 format 1 cannot be read. If there are several faults, the first in this order of tests is reported: byte
+/// 2 unreadable; designation; bytes 3 to 8 unreadable; digits; parity.
 #[derive(Clone, Copy, PartialEq, Eq, Debug, Error)]
 pub enum InfoFault {
-    /// The designation is above 1: this isn't format 1.
+    /// The designation is above 1, so this is not format 1.
     #[error("the designation is above 1")]
     Designation,
-    /// Byte 2, or one of bytes 3 to 8, is unreadable.
+    /// Byte 2, or one of bytes 3 to 8, is unreadable as Hamming 8/4.
     #[error("a Hamming byte is unreadable")]
     Hamming,
-    /// A half byte of the date or the time is no digit plus one.
+    /// A half byte of the date or the time is not a digit plus one (1 to 10).
     #[error("a half byte of the date or the time is no digit")]
     Digit,
-    /// A character has even parity.
+    /// A character of the status display has even parity.
     #[error("a character has even parity")]
     Parity,
 }

@@ -40,7 +40,7 @@ impl Model for Info {
     ghost invariant = { λ i. IsInfoFields (info_at i.designation i.initial i.network i.halves i.west i.mjd i.utc i.text) };
 }
 
-// Whether each code is below 128.
+// Whether all codes are below 128.
 fn are_characters(text: &[u8; 20]) -> bool
     ensures { IsTrue result ↔ All (λ c. c < 128) text.now }
 {
@@ -48,9 +48,9 @@ fn are_characters(text: &[u8; 20]) -> bool
 }
 
 impl Info {
-    /// An info of these fields: the designation, 0 or 1; the initial page; the network code; the local offset in half
-    /// hours, 0 to 31, and whether it is negative; the Modified Julian Date, below 100,000; UTC, below 1,000,000, six
-    /// digits hhmmss; 20 characters. None where one of the five ranges is left, or a character isn't below 128.
+    /// An `Info` with these fields: the designation, 0 or 1; the initial page; the network code; the local offset in half hours,
+    /// 0 to 31, and whether it is negative; the Modified Julian Date, below 100,000; UTC, below 1,000,000, as the six digits
+    /// hhmmss; the 20 characters. `None` if one of these ranges is exceeded, or a character is not below 128.
     pub fn new(
         designation: u8,
         initial: Option<Target>,
@@ -85,7 +85,7 @@ impl Info {
         }
     }
 
-    /// The designation: 0 or 1.
+    /// The designation, 0 or 1.
     pub fn designation(&self) -> u8
         ensures value { result ≡ self.now.designation }
         ensures ranges { IsInfoFields self.now }
@@ -93,21 +93,21 @@ impl Info {
         self.designation
     }
 
-    /// The page that a receiver shows first.
+    /// The initial page, which a receiver shows first; `None` if there is none.
     pub fn initial(&self) -> &Option<Target>
         ensures { result.now ≡ self.now.initial }
     {
         &self.initial
     }
 
-    /// The network code, as it is sent.
+    /// The two bytes of the network code, as they are sent.
     pub fn network(&self) -> [u8; 2]
         ensures { result ≡ self.now.network }
     {
         self.network
     }
 
-    /// The local offset in half hours, 0 to 31.
+    /// The local offset in half hours, 0 to 31, without its sign.
     pub fn halves(&self) -> u8
         ensures value { result ≡ self.now.halves }
         ensures range { result < 32 }
@@ -115,28 +115,28 @@ impl Info {
         self.halves
     }
 
-    /// Whether the local offset is negative.
+    /// Whether the local offset is negative (west).
     pub fn west(&self) -> bool
         ensures { result ≡ self.now.west }
     {
         self.west
     }
 
-    /// The Modified Julian Date: five digits.
+    /// The Modified Julian Date, five digits.
     pub fn mjd(&self) -> u32
         ensures { result ≡ self.now.mjd }
     {
         self.mjd
     }
 
-    /// UTC: six digits hhmmss.
+    /// UTC as the six digits hhmmss.
     pub fn utc(&self) -> u32
         ensures { result ≡ self.now.utc }
     {
         self.utc
     }
 
-    /// 20 character codes.
+    /// The 20 character codes of the status display.
     pub fn text(&self) -> &[u8; 20]
         ensures { result.now ≡ self.now.text }
     {

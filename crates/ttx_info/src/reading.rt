@@ -25,7 +25,7 @@ fn digit(half: u8) -> u32
     u32::from(half.saturating_sub(1))
 }
 
-// The date. None where one of its half bytes is no digit plus one.
+// The Modified Julian Date. `None` if one of its half bytes is not a digit plus one.
 fn date_of(bytes: &[u8; 42]) -> Option<u32>
     ensures value { SomeIff result (list_all is_half_digit (date_digits bytes.now) ≡ true) (value_of (date_digits bytes.now)) }
     ensures range { IfSome result (λ mjd. mjd < 100000) }
@@ -38,7 +38,7 @@ fn date_of(bytes: &[u8; 42]) -> Option<u32>
     Some(high + 10 * digit(c / 16) + digit(c % 16))
 }
 
-// The time. None where one of its half bytes is no digit plus one.
+// UTC. `None` if one of its half bytes is not a digit plus one.
 fn time_of(bytes: &[u8; 42]) -> Option<u32>
     ensures value { SomeIff result (list_all is_half_digit (time_digits bytes.now) ≡ true) (value_of (time_digits bytes.now)) }
     ensures range { IfSome result (λ utc. utc < 1000000) }
@@ -51,14 +51,14 @@ fn time_of(bytes: &[u8; 42]) -> Option<u32>
     Some(high + 100 * digit(b % 16) + 10 * digit(c / 16) + digit(c % 16))
 }
 
-// Whether each byte has right parity.
+// Whether all bytes have odd parity.
 fn are_odd(bytes: &[u8]) -> bool
     ensures { result ≡ list_all is_odd bytes.now }
 {
     bytes.iter().all(|b| odd_of(*b).is_some())
 }
 
-// The codes of the characters.
+// The codes of the 20 characters.
 fn text_of(bytes: &[u8; 42]) -> [u8; 20]
     ensures { result ≡ map (λ b. b % 128) (slice_range bytes.now 22 42) }
 {
@@ -77,7 +77,7 @@ fn network_of(bytes: &[u8; 42]) -> [u8; 2]
     network
 }
 
-// The date and the time. None where one of their half bytes is no digit plus one.
+// The date and the time. `None` if one of their half bytes is not a digit plus one.
 fn date_and_time(bytes: &[u8; 42]) -> Option<(u32, u32)>
     ensures value { SomeIff result (are_clock_digits bytes.now ≡ true) (value_of (date_digits bytes.now), value_of (time_digits bytes.now)) }
     ensures range { IfSome result (λ clock. (clock.0 < 100000) × (clock.1 < 1000000)) }
@@ -106,11 +106,11 @@ fn designation_and_initial(bytes: &[u8; 42]) -> Result<(u8, Option<Target>), Inf
     }
 }
 
-/// The fields of packet 8/30 format 1: bytes 2 to 41 are looked at.
+/// Reads the fields of packet 8/30 format 1 from bytes 2 to 41 (EN 300 706, 9.8.1). The address is not looked at.
 ///
-/// The first of these faults is answered: byte 2 unreadable (`Hamming`), a designation above 1 (`Designation`), one of
-/// bytes 3 to 8 unreadable (`Hamming`), a half byte of date or time that isn't 1 to 10 (`Digit`), a character of even
-/// parity (`Parity`).
+/// The first of these faults is returned: byte 2 unreadable (`Hamming`), a designation above 1 (`Designation`), one of bytes
+/// 3 to 8 unreadable (`Hamming`), a half byte of date or time that is not 1 to 10 (`Digit`), a character with even parity
+/// (`Parity`).
 #[tactic(auto, unfolding(crate::specs::Infos::info_behind_link))]
 pub fn read_info(bytes: &[u8; 42]) -> Result<Info, InfoFault>
     ensures { result ≡ info_of bytes.now }

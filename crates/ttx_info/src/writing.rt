@@ -10,7 +10,7 @@ use ttx_header::parts::put;
 use ttx_links::write_link;
 use ttx_packet::address;
 
-// A decimal digit plus one.
+// A decimal digit plus one; `unit` is 1 for the last digit, 10 for the one before it.
 fn half_byte(n: u32, unit: u32) -> u8
     requires { 0 < unit }
     ensures value { result ≡ half_byte n unit }
@@ -19,7 +19,7 @@ fn half_byte(n: u32, unit: u32) -> u8
     (n / unit % 10) as u8 + 1
 }
 
-// Bytes 11 to 21: offset, date, time, and four bytes that are ignored.
+// Bytes 11 to 21: offset, date, time, and four bytes that readers ignore.
 fn clock_of(info: &Info) -> [u8; 11]
     ensures { result ≡ offset_byte info.now.halves info.now.west ∷ date_bytes info.now.mjd
         ++ time_bytes info.now.utc ++ 0 ∷ 0 ∷ 0 ∷ 0 ∷ [] }
@@ -42,7 +42,7 @@ fn clock_of(info: &Info) -> [u8; 11]
     ]
 }
 
-// The bytes of the characters.
+// The bytes of the 20 characters, with odd parity.
 fn characters(text: &[u8; 20]) -> [u8; 20]
     requires { All (λ c. c < 128) text.now }
     ensures { result ≡ map odd_byte text.now }
@@ -54,7 +54,7 @@ fn characters(text: &[u8; 20]) -> [u8; 20]
     bytes
 }
 
-/// The 42 bytes of packet 8/30 format 1.
+/// The 42 bytes of packet 8/30 format 1 (EN 300 706, 9.8.1).
 pub fn write_info(info: &Info) -> [u8; 42]
     ensures { result ≡ info_bytes info.now }
 {

@@ -1,4 +1,4 @@
--- The array of links, text by text.
+-- The array of links, one text at a time.
 use Rattle.std.proofs.Common.{◌≡◌, ◌<◌, ◌≤◌, ◌+◌, ◌-◌, ◌++◌, ℕ, suc, List, [], ◌∷◌, length, replicate, Option, None, Ok, Err, ap, refl, append-nil}
 use Rattle.std.proofs.Common.{drop, take, set, get_or, arith}
 use Rattle.std.proofs.lemmas.List.{drop_more, drop_all, drop-set-lt, drop-replicate, take-append-drop}
@@ -31,7 +31,7 @@ pub links_end : (done : List (Option Id)) (vs : List Value) (i : ℕ) → length
 unfolding links_in
 links_end done vs i past = rw (drop_all i vs past) (ap Ok (append-nil done))
 
--- the six links of links that are read
+-- six links from the links that were read
 pub six_is : (vs : List Value) (targets : List (Option Id)) → links_in (items_view vs) ≡ Ok targets → six_of (items_view vs) ≡ Ok (filled targets)
 unfolding six_of
 six_is vs targets h = rw h
@@ -40,7 +40,7 @@ pub six_fault : (vs : List Value) (e : Fault) → links_in (items_view vs) ≡ E
 unfolding six_of
 six_fault vs e h = rw h
 
--- the places up to one that was written, and those after it
+-- the places up to the one that was written, and those after it
 pub front_set : (six : List (Option Id)) (i : ℕ) (target : Option Id) → i < length six → take (i + 1) (set six i target) ≡ take i six ++ target ∷ []
 front_set six i target h = grind (arith, common_steps)
 
@@ -50,7 +50,7 @@ free_after six i target long free =
     let left : 6 - i - 1 ≡ 6 - (i + 1) = omega arith in
     rw (drop-set-lt (i + 1) six i target (omega arith), ← drop-drop 1 i six, free, drop-replicate {X = Option Id} 1 (6 - i) None, left) refl
 
--- six places of which those from a place on are free
+-- six places; those from position i on are free
 pub is_filled : (six : List (Option Id)) (i : ℕ) → i ≤ 6 → length six ≡ 6 → drop i six ≡ replicate (6 - i) None → filled (take i six) ≡ six
 is_filled six i few long free =
     let taken : length (take i six) ≡ i = grind (arith, common_steps) in

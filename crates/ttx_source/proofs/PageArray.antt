@@ -1,4 +1,4 @@
--- The array of pages, table by table.
+-- The array of pages, one table at a time.
 use Rattle.std.proofs.Common.{◌≡◌, ◌<◌, ◌≤◌, ◌+◌, ◌&&◌, ℕ, List, [], ◌∷◌, length, is_some, Ok, Err, ap, refl, drop, get_or}
 use Rattle.std.specs.List.{list_all}
 use Rattle.std.proofs.lemmas.List.{drop_more, drop_all}
@@ -12,7 +12,7 @@ pub are_tables-view : (vs : List Value) → list_all (λ v. is_some (as_table (v
 are_tables-view [] = refl
 are_tables-view (v ∷ vs) = ap (λ b. is_some (as_table (view v)) && b) (are_tables-view vs)
 
--- one page more, or the fault that ends them
+-- one more page, or the fault that ends them
 pub after_more : (s : ServiceFields) (vs : List Value) (i : ℕ) (d : Value) (page : Authored) → i < length vs →
     next_page s (view (get_or vs i d)) ≡ Ok page
     → with_pages s (items_view (drop i vs)) ≡ with_pages (with_page s page) (items_view (drop (i + 1) vs))

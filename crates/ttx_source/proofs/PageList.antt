@@ -1,4 +1,4 @@
--- Pages beside the map of their ids.
+-- The list of pages beside the map of their ids.
 use Rattle.std.proofs.Common.{◌≡◌, ◌≢◌, ◌∙◌, ◌<◌, ◌++◌, ℕ, zero, suc, List, [], ◌∷◌, true, false, Option, Some, None, is_some, option_map, length}
 use Rattle.std.proofs.Common.{map, slice_get, ap, refl, sym, subst, rules, arith, inl, inr}
 use Rattle.std.specs.List.{list_any, AllPairs}
@@ -16,7 +16,7 @@ use Rattle.ttx_page.specs.Views.{page_of}
 use Rattle.ttx_source.specs.Services.{Authored, authored_at, authored_ids, ServiceFields, IsService, IsAuthored, has_id, with_page}
 use Rattle.ttx_source.specs.Views.{authored_pages}
 
--- the map and the list have as many entries
+-- the map and the list have equally many entries
 pub same_length : (ps : List Page) (es : List (Id × ℕ)) → keys_of es ≡ map (λ p. (page_of p).id) ps → length es ≡ length ps
 same_length ps es same = sym (length-keys es) ∙ ap length same ∙ length-ids ps
   where
@@ -72,7 +72,7 @@ same_is x y h = search rules
 pub same_self : (x : Id) → same_id x x ≡ true
 same_self x = search rules
 
--- a look-up finds an id exactly where the list has it
+-- a look-up finds an id if and only if the list has it
 pub found_any : (q : Id) (es : List (Id × ℕ)) → is_some (lookup (eq-value.it q) es) ≡ list_any (same_id q) (keys_of es)
 found_any q [] = refl
 found_any q (e ∷ es) =
@@ -81,7 +81,7 @@ found_any q (e ∷ es) =
       | inr other ↦ rw (eq_is q e.0, other) (found_any q es)
     ]
 
--- a new id at the end keeps ids distinct
+-- appending a new id keeps the ids distinct
 pub distinct_push : (ids : List Id) (id : Id) → AllPairs (λ a b. a ≢ b) ids → list_any (same_id id) ids ≡ false →
     AllPairs (λ a b. a ≢ b) (ids ++ id ∷ [])
 distinct_push ids id h new =
@@ -96,7 +96,7 @@ pub keys_of-push : (es : List (Id × ℕ)) (id : Id) (n : ℕ) → keys_of (es +
 keys_of-push [] id n = refl
 keys_of-push (e ∷ es) id n = ap (λ ids. e.0 ∷ ids) (keys_of-push es id n)
 
--- one page more, with an id of its own
+-- one more page, with a new id
 pub IsService-push : (s : ServiceFields) (a : Authored) → IsService s → length s.pages < 2000 → IsAuthored s.serial a →
     has_id s.pages a.page.id ≡ false
     → IsService (with_page s a)

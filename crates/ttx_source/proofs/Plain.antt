@@ -1,4 +1,4 @@
--- Texts: those of codes below 128 have a byte for each character, and some bytes are no text.
+-- Texts: in a text of codes below 128 each character is one byte, and some bytes are not a text.
 use Rattle.std.proofs.Common.{◌≡◌, ◌∙◌, ◌<◌, ◌≤◌, ◌+◌, ◌-◌, ◌*◌, ◌++◌, ◌&&◌, Bool, true, length, List, ℕ, zero, suc, nat_lt, bit_or, replicate, []}
 use Rattle.std.proofs.Common.{◌∷◌, arith, ap, refl, false, inl, inr}
 use Rattle.std.specs.List.{list_all}
@@ -19,7 +19,7 @@ plain_ascii (b ∷ bs) h =
 pub plain_length : (bs : List ℕ) → list_all (λ b. nat_lt b 128) bs ≡ true → length (chars bs) ≡ length bs
 plain_length bs h = ap length (chars-IsAscii bs (plain_ascii bs h))
 
--- bit 7 isn't set in a union where it isn't set in both parts
+-- bit 7 is clear in a union exactly if it is clear in both parts
 unions : agree_below (λ a. agree_below (λ b. nat_lt (bit_or a b) 128) (λ b. nat_lt a 128 && nat_lt b 128) 256) (λ _. true) 256 ≡ true
 unions = refl
 
@@ -28,7 +28,7 @@ small_union a b la lb =
     agree_below_at (λ b. nat_lt (bit_or a b) 128) (λ b. nat_lt a 128 && nat_lt b 128) 256 b
     (agree_below_at (λ a. agree_below (λ b. nat_lt (bit_or a b) 128) (λ b. nat_lt a 128 && nat_lt b 128) 256) (λ _. true) 256 a unions la) lb
 
--- spaces at the end change no test of codes below 128
+-- spaces at the end do not change the test for codes below 128
 spaces_are_plain : (n : ℕ) → list_all (λ b. nat_lt b 128) (replicate n 32) ≡ true
 spaces_are_plain zero = refl
 spaces_are_plain (suc n) = spaces_are_plain n
@@ -43,7 +43,7 @@ plain_padded bs n =
     ∙ ap (λ t. list_all (λ b. nat_lt b 128) bs && t) (spaces_are_plain n)
     ∙ and_true _
 
--- no text has more characters than bytes
+-- a text does not have more characters than bytes
 chars_after_le : (n c : ℕ) (bs : List ℕ) → length (chars_after n c bs) ≤ length bs + 1
 chars_after_le zero c [] = omega arith
 chars_after_le zero c (b ∷ bs) = let rest = chars_after_le (continuation_len b) (lead_bits b) bs in omega arith
@@ -58,17 +58,17 @@ chars_le (b ∷ bs) = let rest = chars_after_le (continuation_len b) (lead_bits 
 pub not_more : (a b : ℕ) → b ≤ a → nat_lt a b ≡ false
 not_more a b le = grind (arith, nat_tests)
 
--- a text of few bytes isn't too long
+-- a text of few bytes is not too long
 pub few_bytes : (bs : List ℕ) (most : ℕ) → length bs ≤ most → nat_lt most (length (chars bs)) ≡ false
 few_bytes bs most few = let le = chars_le bs in grind (arith, nat_tests)
 
--- and one of many bytes but few characters has a code above 127
+-- a text of many bytes but few characters has a code above 127
 pub many_bytes : (bs : List ℕ) (most : ℕ) → most < length bs → length (chars bs) ≤ most → list_all (λ b. nat_lt b 128) bs ≡ false
 many_bytes bs most many few = elim (cases_Bool (list_all (λ b. nat_lt b 128) bs)) [
   | inl plain ↦ let same = plain_length bs plain in absurd (omega arith)
   | inr e ↦ e
 ]
 
--- bytes that are no text
+-- bytes that are not a text
 pub not_utf8 : (bs : List ℕ) → (IsUtf8 bs → ⊥) → is_utf8 bs ≡ false
 not_utf8 bs fails = elim (cases_Bool (is_utf8 bs)) [ inl t ↦ absurd (fails (IsUtf8-from_is_utf8 bs t)) | inr h ↦ h ]

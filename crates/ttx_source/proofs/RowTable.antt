@@ -1,4 +1,4 @@
--- The rows of a page, value by value.
+-- The rows of a page, one value at a time.
 use Rattle.std.proofs.Common.{◌≡◌, ◌≢◌, ◌==◌, ◌<◌, ◌≤◌, ◌+◌, ◌++◌, ℕ, zero, suc, List, [], ◌∷◌, length, Ok, Err, Option, option_map}
 use Rattle.std.proofs.Common.{Bor, ap, refl, append-nil, map, drop, take, set, get_or, slice_index, replicate, inl, inr, get_or-set_same}
 use Rattle.std.proofs.Common.{get_or-set_other, arith}
@@ -29,7 +29,7 @@ pub rows_end : (done : List (List ℕ)) → then done (rows_of []) ≡ Ok done
 unfolding rows_of
 rows_end done = ap Ok (append-nil done)
 
--- the values from here on
+-- the values from here on, under their views
 abbrev pub seen : Option (Bor Value) → Option Data
 seen = option_map (λ v. view v.now)
 
@@ -40,7 +40,7 @@ values_drop values i d h = rw (drop_more values i d h)
 pub values_end : (values : List (Option (Bor Value))) (i : ℕ) → length values ≤ i → map seen (drop i values) ≡ []
 values_end values i h = rw (drop_all i values h)
 
--- the rows up to one that was written
+-- the rows up to the one that was written
 pub front_set : (rows : List (List ℕ)) (i : ℕ) (row : List ℕ) → i < length rows → take (i + 1) (set rows i row) ≡ take i rows ++ row ∷ []
 front_set rows i row h = grind (arith, common_steps)
 
@@ -59,7 +59,7 @@ blank_is_row = record { length = refl; codes = spaces_below 40 }
 pub blank_are_rows : AreRows (replicate 24 blank)
 blank_are_rows r within = rw (get_or-replicate 24 r blank [] within) blank_is_row
 
--- rows of which one was written
+-- 24 rows after one was written
 pub rows_set : (rows : List (List ℕ)) (i : ℕ) (row : List ℕ) → length rows ≡ 24 → AreRows rows → IsRow row → AreRows (set rows i row)
 rows_set rows i row long are is r within =
     elim (cases_Bool (r == i)) [

@@ -1,4 +1,4 @@
--- The values of a table of rows, entry by entry: its keys ascend, so that no later entry has the key of an earlier one.
+-- The values of a table of rows, entry by entry. The keys ascend, so no later entry has the key of an earlier one.
 use Rattle.std.proofs.Common.{◌≡◌, ◌≢◌, ◌∙◌, ◌==◌, ◌<◌, ◌+◌, ℕ, List, [], ◌∷◌, length}
 use Rattle.std.proofs.Common.{map, Option, Some, None, String, string_bytes, Global, nat_cmp, Bool, false}
 use Rattle.std.proofs.Common.{Ordering, Less, Equal, Greater, is_eq, ap, sym}
@@ -27,7 +27,7 @@ use Rattle.ttx_digits.specs.Digits.{decimal_after}
 use Rattle.ttx_source.specs.Keys.{row_keys, is_row_key, keys_pass}
 use Rattle.ttx_source.proofs.RowTable.{seen}
 
--- the value at a key in the last entry that has it, or else what was found before
+-- the value at a key in the last entry that has it; otherwise what was found before
 abbrev pub last_member : List ℕ → Members → Option Data → Option Data
 last_member key no_members found = found
 last_member key (member k value table) found = last_member key table (if same_key key k then Some value else found)
@@ -35,7 +35,7 @@ last_member key (member k value table) found = last_member key table (if same_ke
 same_is : (k l : List ℕ) → same_key k l ≡ true → k ≡ l
 same_is k l h = (bytes_eq-Decides k l).0 (sym (is_eq-slice_cmp k l) ∙ h)
 
--- keys above a key are others
+-- keys above a key differ from it
 above_are_others : (key : String Global) (es : List (String Global × Value)) (found : Option Data) →
     AllByRecursion (λ k. string_cmp key k ≡ Less) (keys_of es)
     → last_member (string_bytes key) (members_view es) found ≡ found
@@ -52,7 +52,7 @@ first_is_last Equal key e es order above rest h =
     rw same (above_are_others e.0 es (Some (view e.1)) above)
 first_is_last Greater key e es order above rest h = h
 
--- a table has a key once
+-- a table has each key once
 pub last_is_only : (key : List ℕ) (es : List (String Global × Value)) → IsStrictlySortedBy string_cmp (keys_of es)
     → last_member key (members_view es) None ≡ get_member key (members_view es)
 unfolding IsStrictlySortedBy
@@ -70,7 +70,7 @@ one_place r i here there same =
     let numbers : 1 + r ≡ 1 + i = sym (number_at r here) ∙ ap (decimal_after 0) same ∙ number_at i there in
     omega (arith, numbers)
 
--- the value at each row's number, once one more was found
+-- the value at each row's number after one more was found
 pub one_more : (values : List (Option (Bor Value))) (i r : ℕ) (key : List ℕ) (value : Bor Value) → length values ≡ 24 → i < 24 →
     get_or row_keys i [] ≡ key → r < 24
     → seen (get_or (set values i (Some value)) r None)
@@ -115,7 +115,7 @@ all_values values es long ascend found =
     ∙ last_is_only (get_or row_keys r []) es ascend
     ∙ sym (get_or-map (λ key. get_member key (members_view es)) row_keys r [] None (row_here r here)))
 
--- a place is found where an element passes
+-- a position is found if and only if some element passes
 pub is_some-position : {A : Type 0} (p : A → Bool) (xs : List A) → is_some (position p xs) ≡ list_any p xs
 is_some-position {A = A} p xs = ap is_some (position_from-zero p xs) ∙ found 0 xs
   where
@@ -127,7 +127,7 @@ is_some-position {A = A} p xs = ap is_some (position_from-zero p xs) ∙ found 0
           | inr fails ↦ rw fails (found (n + 1) xs)
         ]
 
--- the row that a place among the keys is
+-- the row at a position among the keys
 pub row_placed : (keys : List (Bor (List ℕ))) (key : List ℕ) (place : Option ℕ) → map (λ name. name.now) keys ≡ row_keys
     → place ≡ position (λ name. bytes_eq name.now key) keys → IfSome place (λ i. (i < 24) × (get_or row_keys i [] ≡ key))
 row_placed keys key None same at = tt

@@ -1,12 +1,12 @@
--- The faults of the values at keys as those of the definitions.
+-- The faults of the values at keys, as faults of the definitions.
 --
 --   key_name         the name of a key
 --   key_fault_of     a fault of a key's value
---   key_outcome      a value, seen by a function, or its fault
+--   key_outcome      a value under a view, or its fault
 --   read_fault_of    a fault and its page
---   read_outcome     a value, seen by a function, or its fault and page
---   in_no_memory, out_of_memory    an allocation that failed, and its error
---   IsReadUnlessMemory    a fact, but where an allocation failed
+--   read_outcome     a value under a view, or its fault and page
+--   in_no_memory, out_of_memory    a failed allocation, and its error
+--   IsReadUnlessMemory    a fact that holds unless an allocation failed
 use Rattle.std.specs.Prelude.{◌≡◌, ◌⊎◌, ℕ, List, codes, Result, Ok, Err}
 use Rattle.ttx_source.specs.Values.{Fault, not_toml, missing, wrong_kind, wrong_page_number, wrong_subcode, duplicate}
 use Rattle.ttx_source.specs.Values.{too_long, wrong_character, wrong_often, out_of_range, no_memory}
@@ -64,7 +64,7 @@ abbrev pub key_outcome : {A B : Type 0} → (A → B) → Result A KeyFault → 
 key_outcome seen (Ok a) = Ok (seen a)
 key_outcome seen (Err e) = Err (key_fault_of e)
 
--- an allocation that failed, here and as an error of the program
+-- a failed allocation, here and as an error of the program
 abbrev pub in_no_memory : ReadFault
 in_no_memory = NoMemory
 

@@ -1,6 +1,6 @@
--- The keys of a service definition that stand for themselves, a line for each key (profile). Pages are in Services.
+-- The keys of a service definition, a line for each (profile). Pages are in Services.
 --
---   lines, serial                         the keys of the whole service
+--   lines, serial                         the keys of the service
 --   designation .. text, info_of_table          the keys of the table `info`: packet 8/30 format 1 (EN 300 706, 9.8.1)
 --   control_of_table                            the keys of a page that set control bits (EN 300 706, 9.3.1.3)
 --   head, rows                            the texts of a page
@@ -30,15 +30,15 @@ serial table = required (codes "serial") as_bool table
 abbrev pub designation : Members → Result ℕ Fault
 designation table = integer_at_or (codes "designation") 0 1 0 table
 
--- the page to show first
+-- the page that a receiver shows first
 abbrev pub initial : Members → Result (Option Id) Fault
 initial table = with_default (codes "initial") as_str [] table >>= link
 
--- the network's code
+-- the code of the network
 abbrev pub network : Members → Result (List ℕ) Fault
 network table = required (codes "network") as_str table >>= byte_pair (codes "network")
 
--- local time against UTC: so many half-hours, and whether they are negative (west)
+-- local time against UTC: the number of half hours, and whether it is negative (west)
 abbrev pub is_negative : ℤ → Bool
 is_negative (pos n) = false
 is_negative (negsuc n) = true
@@ -53,7 +53,7 @@ halves table = with_default (codes "halves") as_integer (pos 0) table >>= half_h
 abbrev pub mjd : Members → Result ℕ Fault
 mjd table = integer_at (codes "mjd") 0 99999 table
 
--- hours, minutes and seconds as six digits
+-- hours, minutes and seconds, as six digits
 abbrev pub utc : Members → Result ℕ Fault
 utc table = integer_at (codes "utc") 0 999999 table
 
@@ -69,7 +69,7 @@ clock_of table = do
 abbrev pub text : Members → Result (List ℕ) Fault
 text table = with_default (codes "text") as_str [] table >>= characters 20
 
--- the packet 8/30 of a table
+-- the packet 8/30 in a table
 unfoldable pub info_of_table : Members → Result InfoFields Fault
 info_of_table table = do
   number ← designation table
@@ -102,7 +102,7 @@ often table = with_default (codes "often") as_integer (pos 1) table >>= often_in
 abbrev pub option : Members → Result ℕ Fault
 option table = integer_at_or (codes "option") 0 7 0 table
 
--- a control bit that is set or not, C4 in the lowest bit; C12 is the upper bit of the national option
+-- the value of a control bit if it is set; C4 is the lowest bit, and C12 is the upper bit of the national option
 abbrev pub bit_at : ℕ → Bool → ℕ
 bit_at weight set = if set then weight else 0
 
@@ -128,7 +128,7 @@ upper_flags_of table = do
   inhibit ← flag_at (codes "inhibit") table
   Ok (bit_at 16 update + bit_at 32 interrupted + bit_at 64 inhibit)
 
--- all control bits of a page, with C11 as the service has it
+-- all control bits of a page; C11 is as the service has it
 unfoldable pub control_of_table : Bool → Members → Result ℕ Fault
 control_of_table is_serial table = do
   number ← option table
@@ -136,16 +136,16 @@ control_of_table is_serial table = do
   upper ← upper_flags_of table
   Ok (lower + upper + bit_at 128 is_serial + national number)
 
--- row 0 from column 8 to 31
+-- columns 8 to 31 of row 0
 abbrev pub head : Members → Result (List ℕ) Fault
 head table = with_default (codes "head") as_str [] table >>= characters 24
 
--- a row: spaces where there is none
+-- a row; spaces if there is none
 abbrev pub row_of : Option Data → Result (List ℕ) Fault
 row_of None = Ok (replicate 40 32)
 row_of (Some value) = of_kind (codes "rows") as_str value >>= characters 40
 
--- the rows of some values, in their order
+-- the rows in a list of values
 unfoldable pub rows_of : List (Option Data) → Result (List (List ℕ)) Fault
 rows_of [] = Ok []
 rows_of (value ∷ values) = row_of value >>= (λ row. rows_of values >>= (λ rows. Ok (row ∷ rows)))
@@ -160,16 +160,16 @@ row_keys =
 abbrev pub is_row_key : List ℕ → Bool
 is_row_key key = list_any (λ name. bytes_eq name key) row_keys
 
--- each key of a table passes a test
+-- every key of a table passes a test
 abbrev pub keys_pass : (List ℕ → Bool) → Members → Bool
 keys_pass test no_members = true
 keys_pass test (member key value table) = test key && keys_pass test table
 
--- the values of rows 1 to 24 in a table of rows; none where it has another key
+-- the values of rows 1 to 24 in a table of rows; None if it has another key
 abbrev pub row_values : Members → Option (List (Option Data))
 row_values table = if keys_pass is_row_key table then Some (map (λ key. get_member key table) row_keys) else None
 
--- the table of rows: its keys are looked at before its texts
+-- the table of rows: its keys are tested before its texts
 abbrev pub rows_in : Members → Result (List (List ℕ)) Fault
 rows_in table = or_fault (out_of_range (codes "rows")) (row_values table) >>= rows_of
 
@@ -184,12 +184,12 @@ rows table = rows_member (get_member (codes "rows") table)
 abbrev pub AreRows : List (List ℕ) → Type 0
 AreRows rows = (r : ℕ) → r < 24 → IsRow (slice_index_or rows r [])
 
--- how many items an array has
+-- the number of items in an array
 abbrev pub count : Items → ℕ
 count no_items = 0
 count (item value values) = suc (count values)
 
--- the links of an array, and none in the places that are left
+-- one link of an array
 abbrev pub link_of : Data → Result (Option Id) Fault
 link_of value = of_kind (codes "links") as_str value >>= link
 

@@ -1,11 +1,11 @@
--- The service that a TOML text is, or its first fault: the keys in the order in which they are looked at (profile).
+-- The service in a TOML text, or its first fault. The keys are tested in this order (profile).
 --
---   Authored, ServiceFields         a page with how often it is sent; a service, as contracts see it
+--   Authored, ServiceFields         a page with how often it is sent; a service as contracts see it
 --   pages_of                        its pages alone
 --   IsService                       the ranges of a service
---   id_of_table, authored_of              a page from its table
---   settings_of, with_pages              a service without its pages, and with the pages of some tables added
---   service_of, read_bytes          the service that a table is, and that a text is
+--   id_of_table, authored_of        a page from its table
+--   settings_of, with_pages         a service without its pages, and with the pages of some tables added
+--   service_of, read_bytes          the service in a table, and in a text
 use Rattle.std.specs.Prelude.{◌≡◌, ◌≢◌, ℕ, ◌+◌, ◌≤◌, ◌++◌, List, [], ◌∷◌, codes, length, map, Bool, true}
 use Rattle.std.specs.Prelude.{◌&&◌, Option, Some, None, Result, Ok, Err, if◌then◌else◌, nat_lt, is_some}
 use Rattle.std.specs.List.{list_any, All, AllPairs}
@@ -38,7 +38,7 @@ pub record ServiceFields : Type 0 where
 abbrev pub service_at : ℕ → Bool → Option InfoFields → List Authored → ServiceFields
 service_at lines serial info pages = record { lines = lines; serial = serial; info = info; pages = pages }
 
--- the service, and one page more at its end
+-- the service with one more page at its end
 abbrev pub with_page : ServiceFields → Authored → ServiceFields
 with_page service page = service_at service.lines service.serial service.info (service.pages ++ page ∷ [])
 
@@ -69,14 +69,14 @@ has_id pages id = list_any (same_id id) (authored_ids pages)
 abbrev pub new_id : List Authored → Id → Result Id Fault
 new_id earlier id = if has_id earlier id then Err duplicate else Ok id
 
--- a page's id, which no earlier page has
+-- the id of a page; no earlier page has it
 unfoldable pub id_of_table : List Authored → Members → Result Id Fault
 id_of_table earlier table = do
   number ← required (codes "number") as_str table >>= page_number
   sub ← with_default (codes "sub") as_str zeros table >>= subcode
   new_id earlier (id_at number.0 number.1 sub)
 
--- a page of a service, after its earlier pages
+-- a page of a service, given the earlier pages
 unfoldable pub authored_of : Bool → List Authored → Members → Result Authored Fault
 authored_of is_serial earlier table = do
   id ← id_of_table earlier table
@@ -87,7 +87,7 @@ authored_of is_serial earlier table = do
   links ← links_of_table table
   Ok (authored_at (page_at id control characters texts links.set links.crc) times)
 
--- a fault, and the page that it is in, counted from 1; 0 outside pages
+-- a fault and the page it is in, counted from 1; 0 outside pages
 abbrev pub in_page : {A : Type 0} → ℕ → Result A Fault → Result A (Fault × ℕ)
 in_page page (Ok a) = Ok a
 in_page page (Err fault) = Err (fault, page)
@@ -125,7 +125,7 @@ settings_of table = do
   packet ← info table
   Ok (service_at slots is_serial packet [])
 
--- the service that a table is, or its first fault
+-- the service in a table, or its first fault
 unfoldable pub service_of : Members → Result ServiceFields (Fault × ℕ)
 service_of table = do
   service ← in_page 0 (settings_of table)
@@ -136,6 +136,6 @@ abbrev pub service_in : Option Members → Result ServiceFields (Fault × ℕ)
 service_in None = Err (not_toml, 0)
 service_in (Some table) = service_of table
 
--- the service that a text is: it is UTF-8, and a TOML document
+-- the service in a text, which must be UTF-8 and a TOML document
 abbrev pub read_bytes : List ℕ → Result ServiceFields (Fault × ℕ)
 read_bytes bytes = if is_utf8 bytes then service_in (parse_document bytes) else Err (not_toml, 0)

@@ -1,4 +1,4 @@
--- The values of a service definition by kind, and the fault of what a kind refuses (profile). Texts are lists of bytes.
+-- The values of a service definition by kind, and the faults of values that are refused (profile). Texts are lists of bytes.
 --
 --   Fault                     why a service definition is refused, with the last part of the key's name where it matters
 --   required, with_default    the value at a key, which must be there or has a default
@@ -28,26 +28,26 @@ pub data Fault : Type 0 where
   out_of_range : (key : List ℕ) → Fault
   no_memory : Fault
 
--- the first fault, or what follows from the value
+-- the first fault, or what the function makes of the value
 infixl 10 ◌>>=◌
 abbrev pub ◌>>=◌ : {A B E : Type 0} → Result A E → (A → Result B E) → Result B E
 Ok a >>= f = f a
 Err e >>= f = Err e
 
--- a fault in the place of no value
+-- a fault if there is no value
 abbrev pub or_fault : {A : Type 0} → Fault → Option A → Result A Fault
 or_fault fault None = Err fault
 or_fault fault (Some a) = Ok a
 
--- a value of a kind
+-- a value of this kind, or a fault
 abbrev pub of_kind : {A : Type 0} → List ℕ → (Data → Option A) → Data → Result A Fault
 of_kind key kind value = or_fault (wrong_kind key) (kind value)
 
--- the value at a key that must be there
+-- the value at a required key
 abbrev pub required : {A : Type 0} → List ℕ → (Data → Option A) → Members → Result A Fault
 required key kind table = or_fault (missing key) (get_member key table) >>= of_kind key kind
 
--- the value at a key that has a default
+-- the value at a key with a default
 abbrev pub value_or : {A : Type 0} → List ℕ → (Data → Option A) → A → Option Data → Result A Fault
 value_or key kind default None = Ok default
 value_or key kind default (Some value) = of_kind key kind value
@@ -67,30 +67,30 @@ magnitude (negsuc n) = n + 1
 abbrev pub integer_within : List ℕ → ℕ → ℕ → ℤ → Result ℕ Fault
 integer_within key low high z = if is_within low high z then Ok (magnitude z) else Err (out_of_range key)
 
--- the integer at a key that must be there, in a range
+-- the integer at a required key, in a range
 abbrev pub integer_at : List ℕ → ℕ → ℕ → Members → Result ℕ Fault
 integer_at key low high table = required key as_integer table >>= integer_within key low high
 
--- the integer at a key that has a default, in a range
+-- the integer at a key with a default, in a range
 abbrev pub integer_at_or : List ℕ → ℕ → ℕ → ℕ → Members → Result ℕ Fault
 integer_at_or key low high default table = with_default key as_integer (pos default) table >>= integer_within key low high
 
--- at most so many characters, each of a code below 80 hexadecimal, then spaces
+-- at most so many characters, each with a code below 80 hexadecimal, filled with spaces
 unfoldable pub characters : ℕ → List ℕ → Result (List ℕ) Fault
 characters most text =
     if nat_lt most (length (chars text)) then Err too_long
     else if list_all (λ b. nat_lt b 128) text then Ok (text ++ replicate (most - length text) 32)
     else Err wrong_character
 
--- MPP: a magazine and a page number alone
+-- MPP: a magazine and a page number, without a subcode
 unfoldable pub page_number : List ℕ → Result (ℕ × ℕ) Fault
 page_number text = if length text == 3 then or_fault wrong_page_number (first_number text) else Err wrong_page_number
 
--- inside 3F7F hexadecimal (EN 300 706, 9.3.1.2)
+-- inside the mask 3F7F (EN 300 706, 9.3.1.2)
 abbrev pub is_inside_mask : ℕ → Bool
 is_inside_mask sub = nat_lt sub 0x4000 && (sub / 0x80 % 2 == 0)
 
--- 3F7F hexadecimal, which in a link is any subpage
+-- 3F7F: in a link it means any subpage
 abbrev pub any_subcode : ℕ
 any_subcode = 0x3f7f
 
@@ -109,7 +109,7 @@ link_to (Some number) None = Err wrong_page_number
 link_to (Some number) (Some sub) =
     if is_inside_mask sub then Ok (Some (id_at number.0 number.1 sub)) else Err wrong_subcode
 
--- nothing: no link; MPP: any subpage; MPP/SSSS
+-- an empty text is no link; MPP is any subpage; MPP/SSSS is one subpage
 unfoldable pub link : List ℕ → Result (Option Id) Fault
 link text =
     if length text == 0 then Ok None
@@ -117,7 +117,7 @@ link text =
     else if (length text == 8) && (slice_index text 3 == 47) then link_to (first_number text) (four_digits text 4)
     else Err wrong_page_number
 
--- two bytes, as four digits
+-- two bytes from four hexadecimal digits
 abbrev pub pair_of : Option ℕ → Option ℕ → Option (List ℕ)
 pair_of None low = None
 pair_of (Some high) None = None

@@ -1,6 +1,6 @@
 -- The pages of a `Service` as the records of the definitions.
 --
---   authored_pages       pages, and the entries of the map from their ids to how often they are sent
+--   authored_pages       pages, with how often each is sent from the map of their ids
 use Rattle.std.specs.Prelude.{◌≡◌, ℕ, List, [], ◌∷◌, map}
 use Rattle.std.specs.Map.{keys_of}
 use Rattle.ttx_header.specs.Ids.{Id}
@@ -13,7 +13,7 @@ authored_pages [] entries = []
 authored_pages (page ∷ pages) [] = []
 authored_pages (page ∷ pages) (entry ∷ entries) = authored_at (page_of page) entry.1 ∷ authored_pages pages entries
 
--- the map has the pages' ids in the pages' order, and the service is in its ranges
+-- the map has the ids of the pages in the same order, and the service is in its ranges
 pub record IsKept (service : ServiceFields) (pages : List Page) (entries : List (Id × ℕ)) : Type 0 where
   pub same_order : keys_of entries ≡ map (λ p. (page_of p).id) pages
   pub ranges : IsService service

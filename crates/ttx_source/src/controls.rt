@@ -1,4 +1,4 @@
-//! The keys of a page that set its control bits.
+//! The keys of a page that set control bits (EN 300 706, 9.3.1.3).
 
 ghost use Rattle.std.specs.Prelude.{◌≡◌, ◌≤◌, ◌%◌, codes, false, IfOk};
 ghost use Rattle.ttx_header.specs.Control.{IsControl, c4, c11};
@@ -12,7 +12,7 @@ use crate::values::{flag, integer_or, within};
 use toml::Table;
 use ttx_header::Control;
 
-// The national option.
+// The national option, 0 to 7.
 fn option(page: &Table) -> Result<u32, KeyFault>
     ensures value { key_outcome (λ n. n) result ≡ rule.option (table_view page.now) }
     ensures most { IfOk result (λ n. n ≤ 7) }
@@ -20,14 +20,14 @@ fn option(page: &Table) -> Result<u32, KeyFault>
     within(integer_or(page, Key::Option, 0)?, Key::Option, 0, 7)
 }
 
-// The value of a control bit.
+// The value of a control bit if it is set, otherwise 0.
 fn bit_at(bit: Control, set: bool) -> u16
     ensures { result ≡ rule.bit_at bit.0 set }
 {
     if set { bit.0 } else { 0 }
 }
 
-// The control bits of a national option, of which C12 is the upper bit.
+// The control bits of a national option. C12 is its upper bit.
 fn national(option: u32) -> u16
     requires { option ≤ 7 }
     ensures value { result ≡ rule.national option }
@@ -73,7 +73,7 @@ fn upper_flags(page: &Table) -> Result<u16, KeyFault>
     )
 }
 
-/// The control bits of a page, with C11 as the service has it.
+/// The control bits of a page. C11 is `serial`, as the service has it; C4 is clear.
 #[tactic(auto, unfolding(crate::specs::Keys::control_of_table))]
 pub fn control(page: &Table, serial: bool) -> Result<Control, KeyFault>
     ensures value { key_outcome (λ c. c.0) result ≡ rule.control_of_table serial (table_view page.now) }

@@ -38,7 +38,7 @@ fn network(info: &Table) -> Result<[u8; 2], KeyFault>
     byte_pair(text(info, Key::Network)?, Key::Network)
 }
 
-// The local offset in half-hours, and whether it is negative.
+// The local offset in half hours, and whether it is negative.
 fn halves(info: &Table) -> Result<(u8, bool), KeyFault>
     ensures value { key_outcome (λ h. h) result ≡ rule.halves (table_view info.now) }
     ensures range { IfOk result (λ h. h.0 < 32) }
@@ -54,7 +54,7 @@ fn halves(info: &Table) -> Result<(u8, bool), KeyFault>
     }
 }
 
-// The local offset as `halves` has it, and the date and the time.
+// The local offset, as `halves` returns it, then the date and the time.
 #[tactic(auto, unfolding(crate::specs::Keys::clock_of))]
 fn clock(info: &Table) -> Result<((u8, bool), (u32, u32)), KeyFault>
     ensures value { key_outcome (λ c. c) result ≡ rule.clock_of (table_view info.now) }
@@ -75,7 +75,7 @@ fn status(info: &Table) -> Result<[u8; 20], KeyFault>
     characters::<20>(text_or(info, Key::Text, "")?)
 }
 
-// The packet of a table.
+// The packet of an `info` table.
 #[tactic(auto, unfolding(crate::specs::Keys::info_of_table))]
 fn info_of(table: &Table) -> Result<Info, KeyFault>
     ensures { key_outcome (λ i. i) result ≡ rule.info_of_table (table_view table.now) }
@@ -92,7 +92,7 @@ fn info_of(table: &Table) -> Result<Info, KeyFault>
     Ok(info.unwrap())
 }
 
-/// The packet 8/30 of a service; none where the service has no table `info`.
+/// The packet 8/30 of a service; `None` if the service has no table `info`.
 pub fn info(service: &Table) -> Result<Option<Info>, KeyFault>
     ensures { key_outcome (λ i. i) result ≡ rule.info (table_view service.now) }
 {

@@ -1,4 +1,4 @@
-//! The faults of the values at keys, and of the pages that they are in.
+//! Faults of the values at keys, and the pages that they are in.
 
 ghost use Rattle.std.specs.Prelude.{◌≡◌};
 ghost use Rattle.ttx_source.specs.Faults.{fault_of};
@@ -7,7 +7,7 @@ ghost use Rattle.ttx_source.specs.KeyFaults.{key_fault_of, read_fault_of, in_no_
 use crate::faults::{SourceError, SourceFault};
 use crate::keys::Key;
 
-/// A fault of a service definition that lies in its keys: each is the `SourceFault` of the same name.
+/// A fault in the keys of a service definition. Each is the `SourceFault` of the same name.
 #[derive(Clone, Copy)]
 pub enum KeyFault {
     Missing { key: Key },
@@ -40,19 +40,19 @@ impl KeyFault {
     }
 }
 
-/// Why a service isn't read.
+/// Why a service definition cannot be read.
 #[derive(Clone, Copy)]
 pub enum ReadFault {
-    /// The bytes aren't a TOML document.
+    /// The bytes are not a TOML document.
     NotToml,
-    /// A fault in the keys of a page, counted from 1, or of the service at 0.
+    /// A fault in the keys of a page, counted from 1, or of the service (page 0).
     InPage { page: usize, fault: KeyFault },
     /// An allocation failed.
     NoMemory,
 }
 
 impl ReadFault {
-    /// The fault and the page as an error of a service definition.
+    /// The fault and its page as an error of a service definition.
     pub fn source_error(self) -> SourceError
         ensures fault { (fault_of result.fault, result.page) ≡ read_fault_of self }
         ensures memory { self ≡ in_no_memory → result ≡ out_of_memory }

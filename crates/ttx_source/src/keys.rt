@@ -3,7 +3,7 @@
 ghost use Rattle.std.specs.Prelude.{◌≡◌};
 ghost use Rattle.ttx_source.specs.KeyFaults.{key_name};
 
-/// A key by the last part of its name.
+/// A key, by the last part of its name.
 #[derive(Clone, Copy)]
 pub enum Key {
     Lines,
@@ -34,7 +34,7 @@ pub enum Key {
     Crc,
 }
 
-// The name of each key, in their order, and what the key takes.
+// The name of each key, in the order of `Key`, and what the key takes.
 static KEYS: [(&str, &str); 26] = [
     ("lines", "an integer from 1 to 32"),
     ("serial", "true or false"),
@@ -82,7 +82,7 @@ impl Key {
     }
 }
 
-/// What a key takes.
+/// What the key of this name takes, in words for an error message.
 pub fn accepted(key: &str) -> &'static str {
     for entry in KEYS.as_slice() {
         if entry.0 == key {

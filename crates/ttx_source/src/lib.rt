@@ -1,4 +1,4 @@
-//! Service definitions: the pages and settings of a service, read from TOML.
+//! Service definitions: the settings and pages of a service, read from TOML.
 #![tactic(auto)]
 
 mod controls;

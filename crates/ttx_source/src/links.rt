@@ -1,4 +1,4 @@
-//! The keys of a page for its packet X/27/0.
+//! The keys of a page for its packet X/27/0 (EN 300 706, 9.6.1).
 
 ghost use Rattle.std.specs.Prelude.{◌≡◌, ◌≤◌, length, codes, Ok};
 ghost use Rattle.toml.specs.Data.{no_items};
@@ -13,14 +13,14 @@ use crate::values::{array_of, flag, member, text_of, text_or};
 use toml::{Table, Value};
 use ttx_links::{Links, Target};
 
-// The link that a value of the array is.
+// The link in one value of the array.
 fn link_of(value: &Value) -> Result<Option<Target>, KeyFault>
     ensures { key_outcome (λ l. l) result ≡ rule.link_of (view value.now) }
 {
     link(text_of(value, Key::Links)?)
 }
 
-// The six links of an array of at most six.
+// The six links of an array of at most six values; missing ones lead nowhere.
 fn six_of(values: &[Value]) -> Result<[Option<Target>; 6], KeyFault>
     requires { length values.now ≤ 6 }
     ensures { key_outcome (λ l. l) result ≡ rule.six_of (items_view values.now) }
@@ -35,7 +35,7 @@ fn six_of(values: &[Value]) -> Result<[Option<Target>; 6], KeyFault>
     Ok(six)
 }
 
-/// How many values an array has.
+/// The number of values in an array.
 pub fn count(values: &[Value]) -> usize
     ensures count { result ≡ rule.count (items_view values.now) }
     ensures length { result ≡ length values.now }
@@ -69,7 +69,7 @@ fn crc(page: &Table) -> Result<[u8; 2], KeyFault>
     byte_pair(text_or(page, Key::Crc, "0000")?, Key::Crc)
 }
 
-/// The links of a page, show24 and the bytes of the page CRC.
+/// The links of a page, whether row 24 is shown, and the two bytes of the page CRC.
 #[tactic(auto, unfolding(crate::specs::Keys::links_of_table))]
 pub fn links(page: &Table) -> Result<Links, KeyFault>
     ensures { key_outcome (λ l. l) result ≡ rule.links_of_table (table_view page.now) }

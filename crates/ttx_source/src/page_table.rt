@@ -23,7 +23,7 @@ use ttx_header::{Control, PageId};
 use ttx_links::Links;
 use ttx_page::Page;
 
-// The id of a page, which no earlier page has.
+// The id of a page. No earlier page has it.
 #[tactic(auto, unfolding(crate::specs::Services::id_of_table))]
 fn id(page: &Table, service: &Service) -> Result<PageId, KeyFault>
     ensures value { key_outcome (λ id. id) result ≡ id_of_table service.now.pages (table_view page.now) }
@@ -39,7 +39,7 @@ fn id(page: &Table, service: &Service) -> Result<PageId, KeyFault>
     Ok(id)
 }
 
-// How often a page is sent.
+// How often a page is sent in a cycle: 1, 2, 4 or 8 times.
 fn often(page: &Table) -> Result<u8, KeyFault>
     ensures value { key_outcome (λ n. n) result ≡ rule.often (table_view page.now) }
     ensures range { IfOk result (λ n. rule.is_often n ≡ true) }
@@ -73,7 +73,7 @@ fn page_with(
     Page::new(id, control, head, rows, links).unwrap()
 }
 
-/// The page that a table is, after the pages of the service, and how often it is sent.
+/// The page in a table, and how often it is sent. The pages of `service` are the earlier ones.
 #[tactic(auto, unfolding(crate::specs::Services::authored_of))]
 pub fn page(table: &Table, service: &Service) -> Result<(Page, u8), KeyFault>
     ensures value { key_outcome (λ p. authored_at (page_of p.0) p.1) result

@@ -1,4 +1,4 @@
-//! Reads a service definition.
+//! Reads service definitions.
 
 ghost use Rattle.std.specs.Prelude.{◌≡◌, ◌≤◌, ◌+◌, [], length, codes, true, false, is_some, IfOk};
 ghost use Rattle.std.specs.List.{list_all};
@@ -24,7 +24,7 @@ use std::alloc::Global;
 use toml::{Table, Value};
 use ttx_page::Page;
 
-// The service of a table without its pages.
+// The service in a table, without its pages.
 #[tactic(auto, unfolding(crate::specs::Services::settings_of))]
 fn settings(alloc: Global, table: &Table) -> Result<Service, KeyFault>
     ensures value { key_outcome (λ s. s) result ≡ rule.settings_of (table_view table.now) }
@@ -50,7 +50,7 @@ fn are_tables(values: &[Value]) -> bool
     each_is_table(values)
 }
 
-// The tables of the pages.
+// The tables of the pages, at most 2,000.
 fn page_tables<'a>(table: &'a Table) -> Result<&'a [Value], KeyFault>
     ensures value { key_outcome (λ v. items_view v.now) result ≡ rule.page_tables (table_view table.now) }
     ensures most { IfOk result (λ v. length v.now ≤ 2000) }
@@ -68,7 +68,7 @@ fn page_tables<'a>(table: &'a Table) -> Result<&'a [Value], KeyFault>
     Ok(values)
 }
 
-// The page of a value, after the pages of the service; `number` counts it from 1.
+// The page in a value. The pages of `service` are the earlier ones; `number` counts this one from 1.
 fn next_page(value: &Value, number: usize, service: &Service) -> Result<(Page, u8), ReadFault>
     requires { number ≡ length service.now.pages + 1 }
     ensures value { read_outcome (λ p. authored_at (page_of p.0) p.1) result ≡ rule.next_page service.now (view value.now) }
@@ -89,7 +89,7 @@ fn next_page(value: &Value, number: usize, service: &Service) -> Result<(Page, u
     }
 }
 
-// The service with the pages of some values.
+// The service with the pages of these values added.
 fn with_pages(mut service: Service, values: &[Value]) -> Result<Service, ReadFault>
     requires none { service.pages ≡ [] }
     requires most { length values.now ≤ 2000 }
@@ -108,7 +108,7 @@ fn with_pages(mut service: Service, values: &[Value]) -> Result<Service, ReadFau
     Ok(service)
 }
 
-// The service that a table is, or its first fault.
+// The service in a table, or its first fault.
 #[tactic(auto, unfolding(crate::specs::Services::service_of))]
 fn service_of(alloc: Global, table: &Table) -> Result<Service, ReadFault>
     ensures { IsReadUnlessMemory result (read_outcome (λ s. s) result ≡ rule.service_of (table_view table.now)) }
@@ -123,7 +123,7 @@ fn service_of(alloc: Global, table: &Table) -> Result<Service, ReadFault>
     }
 }
 
-// The service of a text, or its first fault.
+// The service in a text, or its first fault.
 fn read(alloc: Global, bytes: &[u8]) -> Result<Service, ReadFault>
     ensures { IsReadUnlessMemory result (read_outcome (λ s. s) result ≡ rule.read_bytes bytes.now) }
 {
@@ -137,7 +137,8 @@ fn read(alloc: Global, bytes: &[u8]) -> Result<Service, ReadFault>
     }
 }
 
-/// The service that a TOML text says. Lines, serial and `info` are looked at before the pages, and the pages in their order.
+/// Reads a service from a TOML text, or returns its first fault. The order of tests: `lines`, `serial`, `info`, whether `page` is an
+/// array of at most 2,000 tables, then page after page.
 pub fn read_service(alloc: Global, bytes: &[u8]) -> Result<Service, SourceError>
     ensures { IsSourceUnlessMemory result (outcome_in_page (λ s. s) result ≡ rule.read_bytes bytes.now) }
 {

@@ -26,7 +26,7 @@ fn place_among(keys: &[&str], key: &str) -> Option<usize>
     keys.iter().position(|name| *name == key)
 }
 
-// The place of a key among the numbers of rows; None where it isn't the number of a row.
+// The index of a row's key, 0 to 23; `None` if the key is not the number of a row, 1 to 24.
 fn row_index(key: &str) -> Option<usize>
     ensures among { is_some result ≡ rule.is_row_key key.now }
     ensures place { IfSome result (λ i. (i < 24) × (slice_index_or rule.row_keys i [] ≡ key.now)) }
@@ -41,7 +41,7 @@ fn blank_row() -> [u8; 40]
     [b' '; 40]
 }
 
-// The row of a value: spaces where there is none.
+// The row in a value; spaces if there is none.
 fn row_of(value: Option<&Value>) -> Result<[u8; 40], KeyFault>
     ensures value { key_outcome (λ r. r) result ≡ rule.row_of (option_map (λ v. view v.now) value.entry) }
     ensures row { IfOk result IsRow }
@@ -59,7 +59,7 @@ fn blank_rows() -> [[u8; 40]; 24]
     [[b' '; 40]; 24]
 }
 
-// The rows of these values.
+// The 24 rows of these values.
 fn rows_of(values: &[Option<&Value>; 24]) -> Result<[[u8; 40]; 24], KeyFault>
     ensures value { key_outcome (λ r. r) result ≡ rule.rows_of (map (option_map (λ v. view v.now)) values.now) }
     ensures rows { IfOk result AreRows }
@@ -71,7 +71,7 @@ fn rows_of(values: &[Option<&Value>; 24]) -> Result<[[u8; 40]; 24], KeyFault>
     Ok(rows)
 }
 
-// The rows of a table of rows.
+// The rows in the table `rows`. Its keys are tested before its texts.
 fn rows_in(table: &Table) -> Result<[[u8; 40]; 24], KeyFault>
     ensures value { key_outcome (λ r. r) result ≡ rule.rows_in (table_view table.now) }
     ensures rows { IfOk result AreRows }
@@ -86,7 +86,7 @@ fn rows_in(table: &Table) -> Result<[[u8; 40]; 24], KeyFault>
     rows_of(&values)
 }
 
-/// Rows 1 to 24 of a page.
+/// Rows 1 to 24 of a page; index 0 is row 1.
 pub fn rows(page: &Table) -> Result<[[u8; 40]; 24], KeyFault>
     ensures value { key_outcome (λ r. r) result ≡ rule.rows (table_view page.now) }
     ensures rows { IfOk result AreRows }

@@ -13,8 +13,8 @@ use ttx_header::PageId;
 use ttx_info::Info;
 use ttx_page::Page;
 
-/// A service: the slots in a field, serial or parallel transmission, its packet 8/30 and its pages, each with how often it
-/// is sent. Lines are 1 to 32, there are at most 2,000 pages with ids of their own, and C11 of each page says `serial`.
+/// A service: the slots in a field, serial or parallel transmission, its packet 8/30, and its pages, each with how often it is
+/// sent. It has 1 to 32 lines and at most 2,000 pages with different ids; C11 of each page is `serial`.
 #[derive(Drop)]
 pub struct Service {
     lines: u8,
@@ -52,7 +52,7 @@ impl Service {
         }
     }
 
-    /// The slots in a field, 1 to 32.
+    /// The slots in a field (`lines`), 1 to 32.
     pub fn lines(&self) -> u8
         ensures value { result ≡ self.now.lines }
         ensures ranges { IsService self.now }
@@ -60,21 +60,21 @@ impl Service {
         self.lines
     }
 
-    /// Whether magazines are sent one after another, as C11 of every header says.
+    /// Whether magazines are sent one after another; C11 of every header says so.
     pub fn serial(&self) -> bool
         ensures { result ≡ self.now.serial }
     {
         self.serial
     }
 
-    /// The fields of packet 8/30 format 1; none where the service doesn't send it.
+    /// The fields of packet 8/30 format 1; `None` if the service does not send it.
     pub fn info(&self) -> Option<&Info>
         ensures { option_map (λ i. i.now) result ≡ self.now.info }
     {
         self.info.as_ref()
     }
 
-    /// The pages in authored order.
+    /// The pages, in authored order.
     pub fn pages(&self) -> &[Page]
         ensures value { map page_of result.now ≡ map (λ p. p.page) self.now.pages }
         ensures count { length result.now ≡ length self.now.pages }
@@ -83,7 +83,7 @@ impl Service {
         self.pages.as_slice()
     }
 
-    /// How often the page at an index is sent: 1, 2, 4 or 8 times.
+    /// How often the page at `index` is sent in a cycle: 1, 2, 4 or 8 times.
     pub fn often(&self, index: usize) -> u8
         requires { index < length self.now.pages }
         ensures { option_map (λ p. p.often) (slice_get self.now.pages index) ≡ Some result }
@@ -91,14 +91,14 @@ impl Service {
         *self.often.get_index(index).unwrap().1
     }
 
-    /// Whether a page has this id.
+    /// Whether a page of the service has this id.
     pub(crate) fn contains(&self, id: PageId) -> bool
         ensures { result ≡ has_id self.now.pages id }
     {
         self.often.contains_key(&id)
     }
 
-    /// Adds a page at the end. Without memory for it the service stays as it was.
+    /// Appends a page. If memory runs out, the service is unchanged.
     pub(crate) fn add(&mut self, page: Page, often: u8) -> Result<(), AllocError>
         requires room { length self.old.pages < 2000 }
         requires new { has_id self.old.pages (page_of page).id ≡ false }

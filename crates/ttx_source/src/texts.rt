@@ -12,17 +12,17 @@ use crate::keys::Key;
 use ttx_digits::{first_number, four_digits, two_digits};
 use ttx_links::Target;
 
-/// The subcode that in a link stands for any subpage.
+/// The subcode that means any subpage in a link.
 pub const ANY_SUBCODE: u16 = 0x3F7F;
 
-// How many characters a text has.
+// The number of characters in a text.
 fn char_count(text: &str) -> usize
     ensures { result ≡ length (chars text.now) }
 {
     text.chars().count()
 }
 
-// Whether each byte is a code below 128: bit 7, the highest, isn't set in their union.
+// Whether all bytes are below 128, that is, bit 7 is not set in their union.
 fn is_plain(bytes: &[u8]) -> bool
     ensures { result ≡ list_all (λ b. nat_lt b 128) bytes.now }
 {
@@ -33,7 +33,7 @@ fn is_plain(bytes: &[u8]) -> bool
     union < 128
 }
 
-// The fault of a text of more bytes than characters may be.
+// The fault of a text that has more bytes than it may have characters.
 fn long_fault(text: &str, most: usize) -> KeyFault
     requires { most < length text.now }
     ensures { Err (key_fault_of result) ≡ rule.characters most text.now }
@@ -45,7 +45,7 @@ fn long_fault(text: &str, most: usize) -> KeyFault
     }
 }
 
-// The bytes, with spaces at the end.
+// The bytes, filled with spaces at the end.
 fn padded<const N: usize>(bytes: &[u8]) -> [u8; N]
     requires { length bytes.now ≤ N }
     ensures { result ≡ bytes.now ++ replicate (N - length bytes.now) 32 }
@@ -55,7 +55,7 @@ fn padded<const N: usize>(bytes: &[u8]) -> [u8; N]
     codes
 }
 
-/// The codes of a text of at most `N` characters, with spaces at the end.
+/// The character codes of a text of at most `N` characters, filled with spaces. `RowTooLong` or `Character` otherwise.
 pub fn characters<const N: usize>(text: &str) -> Result<[u8; N], KeyFault>
     ensures value { key_outcome (λ r. r) result ≡ rule.characters N text.now }
     ensures codes { IfOk result (λ row. (c : ℕ) → slice_index row c < 128) }
@@ -72,7 +72,7 @@ pub fn characters<const N: usize>(text: &str) -> Result<[u8; N], KeyFault>
     }
 }
 
-/// The magazine and the page number that `MPP` names.
+/// The magazine and the page number of a text `MPP`; `PageNumber` if it is not one.
 #[tactic(auto, unfolding(crate::specs::Values::page_number))]
 pub fn page_number(text: &str) -> Result<(u8, u8), KeyFault>
     ensures value { key_outcome (λ n. n) result ≡ rule.page_number text.now }
@@ -88,14 +88,14 @@ pub fn page_number(text: &str) -> Result<(u8, u8), KeyFault>
     }
 }
 
-// Whether a number is inside 3F7F.
+// Whether a number is inside the mask 3F7F.
 fn is_inside_mask(sub: u16) -> bool
     ensures { result ≡ rule.is_inside_mask sub }
 {
     sub < 0x4000 && sub / 128 % 2 == 0
 }
 
-/// The subcode of a page, as four digits.
+/// The subcode of a page, four hexadecimal digits; `Subcode` if it is not one, is outside 3F7F, or is 3F7F.
 #[tactic(auto, unfolding(crate::specs::Values::subcode))]
 pub fn subcode(text: &str) -> Result<u16, KeyFault>
     ensures value { key_outcome (λ n. n) result ≡ rule.subcode text.now }
@@ -111,7 +111,7 @@ pub fn subcode(text: &str) -> Result<u16, KeyFault>
     }
 }
 
-/// Two bytes, as four digits.
+/// Two bytes from four hexadecimal digits; `Range` with the key if the text is not that.
 #[tactic(auto, unfolding(crate::specs::Values::byte_pair))]
 pub fn byte_pair(text: &str, key: Key) -> Result<[u8; 2], KeyFault>
     ensures { key_outcome (λ b. b) result ≡ rule.byte_pair (key_name key) text.now }
@@ -126,7 +126,7 @@ pub fn byte_pair(text: &str, key: Key) -> Result<[u8; 2], KeyFault>
     }
 }
 
-// The target of a link, if both parts of its text are numbers.
+// The target of a link, from both parts of its text, if they are numbers.
 fn target(number: Option<(u8, u8)>, sub: Option<u16>) -> Result<Option<Target>, KeyFault>
     requires { IfSome number (λ n. (1 ≤ n.0) × (n.0 ≤ 8) × (n.1 ≢ 0xff)) }
     ensures { key_outcome (λ l. l) result ≡ rule.link_to number sub }
@@ -140,7 +140,7 @@ fn target(number: Option<(u8, u8)>, sub: Option<u16>) -> Result<Option<Target>, 
     }
 }
 
-/// A link: none in an empty text, else `MPP` for any subpage or `MPP/SSSS`.
+/// A link: an empty text is no link, `MPP` is any subpage, `MPP/SSSS` is one subpage.
 #[tactic(auto, unfolding(crate::specs::Values::link))]
 pub fn link(text: &str) -> Result<Option<Target>, KeyFault>
     ensures { key_outcome (λ l. l) result ≡ rule.link text.now }

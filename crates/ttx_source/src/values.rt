@@ -1,4 +1,4 @@
-//! The values at the keys of a table, by kind.
+//! The values at the keys of a table, by their kind.
 
 ghost use Rattle.std.specs.Prelude.{◌≡◌, ◌≤◌, false, option_map, IfOk};
 ghost use Rattle.toml.specs.Data.{as_integer, as_bool, as_str, as_array, as_table, get_member};
@@ -11,14 +11,14 @@ use crate::key_faults::KeyFault;
 use crate::keys::Key;
 use toml::{Table, Value};
 
-/// The value at a key.
+/// The value at a key; `None` if the table does not have the key.
 pub fn member<'a>(table: &'a Table, key: Key) -> Option<&'a Value>
     ensures { option_map (λ x. view x.now) result ≡ get_member (key_name key) (table_view table.now) }
 {
     table.get(key.name())
 }
 
-// The value at a key that must be there.
+// The value at a required key.
 fn required<'a>(table: &'a Table, key: Key) -> Result<&'a Value, KeyFault>
     ensures { key_outcome (λ x. view x.now) result ≡ or_fault (missing (key_name key)) (get_member (key_name key) (table_view table.now)) }
 {
@@ -46,7 +46,7 @@ fn boolean_of(value: &Value, key: Key) -> Result<bool, KeyFault>
     }
 }
 
-/// The text that a value is.
+/// The text in a value; `Kind` if it is of another kind.
 pub fn text_of<'a>(value: &'a Value, key: Key) -> Result<&'a str, KeyFault>
     ensures { key_outcome (λ t. t.now) result ≡ of_kind (key_name key) as_str (view value.now) }
 {
@@ -56,7 +56,7 @@ pub fn text_of<'a>(value: &'a Value, key: Key) -> Result<&'a str, KeyFault>
     }
 }
 
-/// The array that a value is.
+/// The array in a value; `Kind` if it is of another kind.
 pub fn array_of<'a>(value: &'a Value, key: Key) -> Result<&'a Vec<Value>, KeyFault>
     ensures { key_outcome (λ a. array_view a.now) result ≡ of_kind (key_name key) as_array (view value.now) }
 {
@@ -66,7 +66,7 @@ pub fn array_of<'a>(value: &'a Value, key: Key) -> Result<&'a Vec<Value>, KeyFau
     }
 }
 
-/// The table that a value is.
+/// The table in a value; `Kind` if it is of another kind.
 pub fn table_of<'a>(value: &'a Value, key: Key) -> Result<&'a Table, KeyFault>
     ensures { key_outcome (λ t. table_view t.now) result ≡ of_kind (key_name key) as_table (view value.now) }
 {
@@ -76,7 +76,7 @@ pub fn table_of<'a>(value: &'a Value, key: Key) -> Result<&'a Table, KeyFault>
     }
 }
 
-/// An integer in a range.
+/// An integer from `low` to `high`; `Range` if it is outside.
 pub fn within(number: i64, key: Key, low: u32, high: u32) -> Result<u32, KeyFault>
     ensures value { key_outcome (λ n. n) result ≡ integer_within (key_name key) low high number }
     ensures range { IfOk result (λ n. (low ≤ n) × (n ≤ high)) }
@@ -87,7 +87,7 @@ pub fn within(number: i64, key: Key, low: u32, high: u32) -> Result<u32, KeyFaul
     Ok(number as u32)
 }
 
-/// The integer at a key that must be there, in a range.
+/// The integer at a required key, from `low` to `high`.
 pub fn integer(table: &Table, key: Key, low: u32, high: u32) -> Result<u32, KeyFault>
     ensures value { key_outcome (λ n. n) result ≡ integer_at (key_name key) low high (table_view table.now) }
     ensures range { IfOk result (λ n. (low ≤ n) × (n ≤ high)) }
@@ -96,7 +96,7 @@ pub fn integer(table: &Table, key: Key, low: u32, high: u32) -> Result<u32, KeyF
     within(number, key, low, high)
 }
 
-/// The integer at a key, or a default.
+/// The integer at a key, or a default if the key is missing.
 pub fn integer_or(table: &Table, key: Key, default: i64) -> Result<i64, KeyFault>
     ensures { key_outcome (λ z. z) result ≡ with_default (key_name key) as_integer default (table_view table.now) }
 {
@@ -106,14 +106,14 @@ pub fn integer_or(table: &Table, key: Key, default: i64) -> Result<i64, KeyFault
     }
 }
 
-/// The boolean at a key that must be there.
+/// The boolean at a required key.
 pub fn boolean(table: &Table, key: Key) -> Result<bool, KeyFault>
     ensures { key_outcome (λ b. b) result ≡ rule.required (key_name key) as_bool (table_view table.now) }
 {
     boolean_of(required(table, key)?, key)
 }
 
-/// The boolean at a key; false where there is none.
+/// The boolean at a key; false if the key is missing.
 pub fn flag(table: &Table, key: Key) -> Result<bool, KeyFault>
     ensures { key_outcome (λ b. b) result ≡ with_default (key_name key) as_bool false (table_view table.now) }
 {
@@ -123,14 +123,14 @@ pub fn flag(table: &Table, key: Key) -> Result<bool, KeyFault>
     }
 }
 
-/// The text at a key that must be there.
+/// The text at a required key.
 pub fn text<'a>(table: &'a Table, key: Key) -> Result<&'a str, KeyFault>
     ensures { key_outcome (λ t. t.now) result ≡ rule.required (key_name key) as_str (table_view table.now) }
 {
     text_of(required(table, key)?, key)
 }
 
-/// The text at a key, or a default.
+/// The text at a key, or a default if the key is missing.
 pub fn text_or<'a>(table: &'a Table, key: Key, default: &'static str) -> Result<&'a str, KeyFault>
     ensures { key_outcome (λ t. t.now) result ≡ with_default (key_name key) as_str default.now (table_view table.now) }
 {

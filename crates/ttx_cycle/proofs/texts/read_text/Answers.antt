@@ -4,7 +4,7 @@ use Rattle.ttx_cycle.specs.Counters.{faults_of}
 use Rattle.ttx_cycle.specs.Counts.{HasRisen}
 use Rattle.ttx_cycle.proofs.texts.read_text.Goals as goal
 
--- nothing is said of the bytes where the device failed
+-- after a device fault nothing is claimed about the bytes
 nothing : (bytes : Option (List ℕ)) → IfSome bytes (λ _. ⊤)
 nothing None = tt
 nothing (Some bytes) = tt

@@ -4,7 +4,7 @@ use Rattle.std.specs.Io.KnownBytes.{Appends}
 use Rattle.std.proofs.KnownBytes.{Appends-trans}
 use Rattle.ttx_cycle.proofs.writing.write_bytes.Goals as goal
 
--- what was sent, and the front of the rest
+-- the bytes written so far, and then the front of the rest
 more_sent : (bytes : List ℕ) (at n : ℕ) → at ≤ length bytes → take at bytes ++ take n (take (length bytes - at) (drop at bytes)) ≡ take (at + n) bytes
 more_sent bytes at n within =
     ap (λ l. take at bytes ++ take n l) (take_all (length bytes - at) (drop at bytes) (omega (arith, length-drop at bytes)))

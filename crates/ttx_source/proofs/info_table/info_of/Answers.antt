@@ -3,7 +3,7 @@ use Rattle.std.proofs.lemmas.List.Elements.{All-from_get_or}
 use Rattle.ttx_info.specs.Infos.{InfoFields}
 use Rattle.ttx_source.proofs.info_table.info_of.Goals as goal
 
--- an option has a value where its condition holds
+-- an option has a value if its condition holds
 has_value : (o : Option InfoFields) (P : Type 0) (value : InfoFields) → SomeIff o P value → P → IsSome o
 has_value None P value iff holds = absurd (iff holds)
 has_value (Some found) P value iff holds = refl

@@ -4,7 +4,7 @@ use Rattle.ttx_source.specs.Keys.{links_in}
 use Rattle.ttx_source.proofs.Sequences.{then}
 use Rattle.ttx_source.proofs.links.six_of.Given as goal
 
--- the links so far, and then those of the values that are left; the other places have none
+-- the links so far, and then those of the values left; the other places have none
 abbrev pub invariant-loop-place : goal.invariant-loop-place
 invariant-loop-place l = record {
   long : length l.six ≡ 6;

@@ -7,7 +7,7 @@ use Rattle.ttx_source.specs.declared.faults.SourceError.{SourceError}
 use Rattle.ttx_source.specs.declared.key_faults.ReadFault.{ReadFault}
 use Rattle.ttx_source.proofs.reading.read_service.Goals as goal
 
--- an error that tells a fault is the one that is due, unless memory ran out
+-- an error that reports a fault is the one that is due, unless memory ran out
 told : (e : ReadFault) (error : SourceError) (due : Result ServiceFields (Fault × ℕ)) → (fault_of error.fault, error.page) ≡ read_fault_of e
     → (e ≡ in_no_memory → error ≡ out_of_memory) → (e ≡ in_no_memory) ⊎ (Err (read_fault_of e) ≡ due)
     → (error ≡ out_of_memory) ⊎ (Err (fault_of error.fault, error.page) ≡ due)

@@ -3,7 +3,7 @@ use Rattle.toml.specs.View.{items_view}
 use Rattle.ttx_source.specs.Services.{with_pages}
 use Rattle.ttx_source.proofs.reading.with_pages.Given as goal
 
--- the service so far, and then the pages of the values that are left
+-- the service so far, and then the pages of the values left
 abbrev pub invariant-loop-index : goal.invariant-loop-index
 invariant-loop-index l = record {
   count : length l.service.pages ≡ l.index;

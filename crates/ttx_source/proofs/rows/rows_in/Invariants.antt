@@ -5,7 +5,7 @@ use Rattle.ttx_source.proofs.RowTable.{seen}
 use Rattle.ttx_source.proofs.RowValues.{last_member}
 use Rattle.ttx_source.proofs.rows.rows_in.Given as goal
 
--- the keys so far are numbers of rows, and the values so far stand unless the entries that are left have others
+-- the keys so far are numbers of rows, and the values so far are final unless one of the entries left has their key
 abbrev pub invariant-loop-key : goal.invariant-loop-key
 invariant-loop-key l = record {
   long : length l.values ≡ 24;

@@ -4,7 +4,7 @@ use Rattle.ttx_source.proofs.Sequences.{then}
 use Rattle.ttx_source.proofs.RowTable.{seen}
 use Rattle.ttx_source.proofs.rows.rows_of.Given as goal
 
--- the rows so far, and then those of the values that are left
+-- the rows so far, and then those of the values left
 abbrev pub invariant-loop-index : goal.invariant-loop-index
 invariant-loop-index l = record {
   long : length l.rows ≡ 24;
