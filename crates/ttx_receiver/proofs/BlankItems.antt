@@ -1,4 +1,4 @@
--- Receivers that surely clear: what is blank needn't be sent.
+-- Receivers that surely clear: blank items need not be sent.
 use Rattle.std.proofs.Common.{◌≡◌, ◌≢◌, ◌⊎◌, ℕ, zero, suc, ◌+◌, ◌<◌, ◌≤◌, Bool, true, false, not, ◌&&◌, ◌||◌, ◌==◌, List, [], Some, None, length}
 use Rattle.std.proofs.Common.{get_or, refl, sym, ap, ◌∙◌, subst, inl, inr, arith, get_or-set_other}
 use Rattle.std.proofs.lemmas.Bool.{cases_lt, cases_Bool, cond_both, or_right, both_ways}
@@ -36,7 +36,7 @@ module _ (lines : ℕ) (sel : Selection) where
       (λ (new : Memory). new.fresh ≡ m.fresh) (λ _. refl) (λ _. refl)
   after_fresh choice m _ h = refl
 
-  -- a matching header blanks the rows and links of a fresh one
+  -- a matching header blanks the rows and links of a fresh receiver
   blanks_row : (r c : ℕ) → 1 ≤ r → r < 25 → c < 40 → (choice : Bool) (m : Memory) (pkt : Packet) → Shape m → m.fresh ≡ true →
       heads_matched sel pkt ≡ true →
       char_at (after Clearing lines sel choice m pkt) r c ≡ get_or blank_row c 0
@@ -74,7 +74,7 @@ module _ (lines : ℕ) (sel : Selection) (p : Page) (page : IsPage p) (received 
   abbrev next : Bool → Memory → ℕ → Memory
   next choice m t = after Clearing lines sel choice (older m) (g t)
 
-  -- what a fresh receiver's first header brings, and each slot keeps, is there in the end
+  -- what the first header brings to a fresh receiver, and each slot keeps, is there in the end
   blank_held : (Good : Memory → Type 0) (i : ℕ) → i < length received → heads_matched sel (g i) ≡ true →
       ((t : ℕ) → (choice : Bool) (m : Memory) → Shape m → m.fresh ≡ true → heads_matched sel (g t) ≡ true → Good (next choice m t)) →
       ((t : ℕ) → t < length received → (choice : Bool) (m : Memory) → Shape m → IsTuned sel p g t m → Good m → Good (next choice m t)) →

@@ -1,4 +1,4 @@
--- What was touched, over steps; and rows that are followed one by one.
+-- What may have changed, over several steps; and rows that are updated one by one.
 use Rattle.std.proofs.Common.{◌≡◌, ◌∙◌, ℕ, ◌+◌, ◌≤◌, min, max, Bool, List, [], ap, sym, subst, inl, inr, arith, Option, Some, None, replicate, Bor}
 use Rattle.std.proofs.Common.{MatchOption}
 use Rattle.std.proofs.lemmas.List.{ext_get_or}
@@ -12,7 +12,7 @@ use Rattle.ttx_receiver.specs.declared.touching.Touch.{Touch}
 use Rattle.ttx_receiver.specs.declared.touching.Touch.TheVariants.{Nothing, Row, Everything}
 use Rattle.ttx_receiver.specs.declared.touching.Touched.{Touched}
 
--- differences add up, in a range that has both
+-- differences add up in a range that contains both
 module _ (k m n : Memory) where
   pub AreAlikeBut-trans : (a b c d e f : ℕ) → e ≤ a → b ≤ f → e ≤ c → d ≤ f → AreAlikeBut a b k m → AreAlikeBut c d m n → AreAlikeBut e f k n
   AreAlikeBut-trans a b c d e f p q s t x y = record {
@@ -33,7 +33,7 @@ module _ (k m n : Memory) where
     rows = λ r out. x.rows r out ∙ y.rows r (inr (omega arith));
   }
 
--- a step leaves what is kept behind in what it touches, and in what was touched before
+-- after a step, the copy is behind in what the step may change and in what it was behind before
 pub behind_more : (t : Touched) (touch : Touch) (kept held new : Memory) → IsRowBelow 25 touch → IsBehind t kept held →
     LeavesOthers touch held new → IsBehind (with_touch t touch) kept new
 behind_more t Nothing kept held new low b l = record { inside = b.inside; alike = λ e. AreAlikeBut-none kept held new t.begin t.end (b.alike e) l }
@@ -56,7 +56,7 @@ module _ (class : Class) (lines : ℕ) (sel : Selection) (kept held new : Memory
       let leaves : LeavesOthers touch held new = subst (λ x. LeavesOthers x held new) touches (law class lines sel held received new step) in
       subst (λ x. IsBehind x kept new) (sym after) (behind_more t touch kept held new low behind leaves)
 
--- the step of the bytes of a slot
+-- a step with the bytes of a slot
 pub step_of : (class : Class) (lines : ℕ) (sel : Selection) (m new : Memory) (slot : Option (Bor (List ℕ))) (bytes : List ℕ)
     → MatchOption slot (bytes ≡ replicate 42 0) (λ s. bytes ≡ s.now)
     → MatchOption slot (Step class lines sel m (replicate 42 0) new) (λ s. Step class lines sel m s.now new) → Step class lines sel m bytes new

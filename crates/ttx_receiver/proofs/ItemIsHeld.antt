@@ -30,7 +30,7 @@ use Rattle.ttx_receiver.proofs.SlotDistances.{offset, not_before, offset_lt, lt_
 lt_is_le : (a b : ℤ) → a <ℤ b → a ≤ℤ b
 lt_is_le a b h = omega (arith, ints)
 
--- one of the list that has one property has the other
+-- one element of the list that has one property has the other
 record IsOneOf (P Q : ℤ → Type 0) : Type 0 where
   slot : ℤ
   one : P slot
@@ -49,7 +49,7 @@ all_map : (P Q : ℤ → Type 0) → ((x : ℤ) → P x → Q x) → (xs : List 
 all_map P Q f [] a = tt
 all_map P Q f (x ∷ xs) a = (f x a.0, all_map P Q f xs a.1)
 
--- successive transmissions rise
+-- successive transmissions have rising slots
 rising : (s : Stream) (id : Id) (item : Item) (low first : ℤ) (rest : List ℤ) → low ≤ℤ first → AreSuccessive s id item (first ∷ rest) →
     AllByRecursion (λ j. low ≤ℤ j) (first ∷ rest)
 rising s id item low first [] h a = (h, tt)
@@ -71,7 +71,7 @@ module _ (laws : LawsBelow) (s : Stream) (p : Page) (page : IsPage p) (sel : Sel
   abbrev got : ℕ → List ℕ
   got t = get_or received t []
 
-  -- a later transmission has no earlier owner
+  -- a later transmission does not have an earlier owner
   later_owner : (mag : ℕ) (owner first h j : ℤ) → IsLatestHeader s mag owner first → IsLatestHeader s mag h j → first ≤ℤ j → owner ≤ℤ h
   later_owner mag owner first h j a b le = elim (cases_ltz h owner) as (λ _. owner ≤ℤ h)
       [ inl lt ↦ absurd (both_ways _ (b.none_between owner lt (lt_le _ _ _ a.earlier le)) a.is_header) | inr ge ↦ ge ]
@@ -105,7 +105,7 @@ module _ (laws : LawsBelow) (s : Stream) (p : Page) (page : IsPage p) (sel : Sel
             ∙ ends (place i) (lt_offset begin h i low) (lt_offset begin i j high);
       }
 
-  -- a slot of a run inside what is received
+  -- a slot of a run that is among the slots received
   record IsInside (j : ℤ) : Type 0 where
     index : ℕ
     at : j ≡ place index
@@ -218,7 +218,7 @@ shape_kept class lines sel received m new shape run =
     (λ k lt choice x i. shape_after class lines sel choice (older x) (packet_at received k)
     (record { count = i.count; width = i.width })) m new run shape
 
--- the width of a row from a run's end
+-- a row is held whole after a run
 row_held_whole : (p : Page) → IsPage p → (m : Memory) → Shape m → (r : ℕ) → 1 ≤ r → r ≤ 24 →
     ((c : ℕ) → c < 40 → char_at m r c ≡ get_or (page_row p r) c 0) → get_or m.rows r [] ≡ page_row p r
 row_held_whole p page m shape r low high each =

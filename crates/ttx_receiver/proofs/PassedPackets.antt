@@ -1,4 +1,4 @@
--- Packets whose address alone says that they change nothing.
+-- Packets whose address alone shows that they change nothing.
 use Rattle.std.proofs.Common.{◌≡◌, ℕ, ◌==◌, ◌&&◌, nat_le, slice_index, Some, None, Bool, true, false, not, if◌then◌else◌, List, Option, drop, refl}
 use Rattle.std.proofs.Common.{sym, subst, inl, inr}
 use Rattle.std.proofs.lemmas.Bool.{cases_Bool}
@@ -13,13 +13,13 @@ use Rattle.ttx_page.specs.Memories.{Memory, memory_row}
 use Rattle.ttx_page.specs.Receivers.{after, misses, with_row, with_links, stored_row}
 use Rattle.ttx_receiver.specs.Reading.{names_magazine, names_packet_0}
 
--- where no packet of the magazine is stored, none is that isn't missed
+-- if no packet of the magazine is stored, then none that is not missed is
 none_stored : (own storing wanted : Bool) → (storing && own) ≡ false → (own && storing && wanted) ≡ false
 none_stored true true wanted e = cc
 none_stored true false wanted e = refl
 none_stored false storing wanted e = refl
 
--- a row or an X/27/0 that isn't stored changes nothing
+-- a row or an X/27/0 that is not stored changes nothing
 module _ (class : Class) (lines : ℕ) (sel : Selection) (choice : Bool) (m : Memory) where
   pub passed_row : (mag number : ℕ) (text : List ℕ) → (m.storing && (mag == selected_mag sel)) ≡ false → m
       ≡ after class lines sel choice m (Row mag number text)
@@ -41,7 +41,7 @@ module _ (class : Class) (lines : ℕ) (sel : Selection) (choice : Bool) (m : Me
     | inr e ↦ rw e refl
   ]
 
-  -- nor does any other packet that is no page header
+  -- nor does any other packet that is not a page header
   passed_packet : (slot : List ℕ) (mag number : ℕ) → (m.storing && (mag == selected_mag sel)) ≡ false → (number == 0) ≡ false
       → m ≡ after class lines sel choice m (packet_of_kind slot (packet_kind slot mag number))
   unfolding packet_kind

@@ -1,4 +1,4 @@
--- What a receiver is given of the packets of a page, where each byte has at most one wrong bit.
+-- What a receiver gets of the packets of a page when each byte has at most one wrong bit.
 use Rattle.std.proofs.Common.{◌≡◌, ◌⊎◌, ℕ, ◌+◌, ◌%◌, ◌<◌, ◌≤◌, Bool, true, false, ◌==◌, List, [], None, length, get_or, take, drop, map, refl, sym}
 use Rattle.std.proofs.Common.{ap, ◌∙◌, subst, inl, inr, arith, eqb-true, length-drop, get_or-drop, get_or-take}
 use Rattle.std.proofs.lemmas.Bool.{cases_Bool, cond_both, both_ways, true_from_ne_false}
@@ -41,7 +41,7 @@ odd_code laws c h = (laws.codes c h).1
 near_odd : LawsBelow → (a b : ℕ) → a < 256 → b < 256 → is_odd a ≡ true → Near a b → is_odd b ≡ true → b ≡ a
 near_odd laws a b la lb oa near ob = elim (laws.odd a b la lb oa near) as (λ _. b ≡ a) [ inl same ↦ same | inr even ↦ absurd (both_ways _ even ob) ]
 
--- a zero byte is of even parity
+-- a zero byte has even parity
 even_zero : is_odd 0 ≡ false
 unfolding ones
 even_zero = refl
@@ -127,7 +127,7 @@ near_header : (sent received : List ℕ) (mag : ℕ) → kind_of sent ≡ IsHead
 near_header sent received mag e h x lt = elim (h.near x (omega arith)) as (λ _. Near (get_or sent x 0) (get_or received x 0))
     [ inl f ↦ let k : 34 ≤ x = subst (λ kind. IsFree kind x) e f in absurd (omega arith) | inr near ↦ near ]
 
--- what is received is the packet that was sent, but for text and links; or a row is lost
+-- the packet received is the packet sent, except for text and links; or a row is lost
 pub received_as : LawsBelow → (sent received : List ℕ) → IsSlot sent → is_clean sent ≡ true → MayBeReceivedAs sent received →
     (outline (packet_of received) ≡ outline (packet_of sent)) ⊎ IsLost sent received
 received_as laws sent received s clean h = elim (cases_Bool (is_empty sent)) as
@@ -156,7 +156,7 @@ received_as laws sent received s clean h = elim (cases_Bool (is_empty sent)) as
     same_outline IsInfo e = refl
     same_outline (IsOther mag number) e = refl
 
--- tests that look at no text
+-- tests that do not look at text
 matched_outline : (sel : Selection) (pkt : Packet) → heads_matched sel (outline pkt) ≡ heads_matched sel pkt
 matched_outline sel (Header id control text) = refl
 matched_outline sel (Row mag number text) = refl
@@ -187,7 +187,7 @@ links_outline mag (Row m number text) = refl
 links_outline mag (Links m content) = refl
 links_outline mag _ = refl
 
--- a test that looks at no text and holds of no row and of no empty slot is the same of what is sent and received
+-- a test that does not look at text and is false for rows and empty slots gives the same for what is sent and received
 same_test : LawsBelow → (test : Packet → Bool) → ((pkt : Packet) → test (outline pkt) ≡ test pkt) →
     ((pkt : Packet) → IsRowPacket pkt → test pkt ≡ false) → test Empty ≡ false →
     (sent received : List ℕ) → IsSlot sent → is_clean sent ≡ true → MayBeReceivedAs sent received → test (packet_of received) ≡ test (packet_of sent)
@@ -241,7 +241,7 @@ module _ (laws : LawsBelow) (sent received : List ℕ) (s : IsSlot sent) (clean 
     | inr l ↦ absurd (both_ways _ refl (ap (carries mag (TheRow r)) (sym l.silent) ∙ c))
   ]
 
-  -- bytes of odd parity are received right or of even parity
+  -- bytes of odd parity are received right or with even parity
   good_text : (base n : ℕ) (chars : List ℕ) → base + n ≤ 42 → ((c : ℕ) → get_or chars c 0 < 128) →
       ((x : ℕ) → base ≤ x → x < base + n → IsFreeIn (packet_of sent) x → ⊥) →
       ((c : ℕ) → c < n → get_or sent (base + c) 0 ≡ odd_byte (get_or chars c 0)) → GoodText chars n (drop base received)
@@ -281,7 +281,7 @@ module _ (laws : LawsBelow) (sent received : List ℕ) (s : IsSlot sent) (clean 
       sym (get_or-drop 2 sent c 0) ∙ ap (λ x. get_or x c 0) (sym t ∙ e)
       ∙ get_or-map odd_byte (page_row p r) c 0 0 (omega (arith, (page.rows r low high).length))
 
-  -- what is received of a header of the page
+  -- a header of the page as it is received
   pub received_head : (p : Page) → IsPage p → HeadIsRight p (packet_of sent) → IsHeadOf p (packet_of received)
   received_head p page right = elim (received_as laws sent received s clean h) as (λ _. IsHeadOf p (packet_of received)) [
     | inl e ↦ go (packet_of sent) (packet_of received) e (of_slot laws sent) (of_slot laws received) right (λ x f. f)
@@ -304,7 +304,7 @@ module _ (laws : LawsBelow) (sent received : List ℕ) (s : IsSlot sent) (clean 
       go (Links m content) R e os or right free = absurd right
       go _ R e os or right free = absurd right
 
-  -- what is received of a row of the page
+  -- a row of the page as it is received
   pub received_row : (p : Page) → IsPage p → (r : ℕ) → 1 ≤ r → r ≤ 24 → RowIsRight p r (packet_of sent) → IsRowOf p r (packet_of received)
   received_row p page r low high right = elim (received_as laws sent received s clean h) as (λ _. IsRowOf p r (packet_of received)) [
     | inl e ↦ go (packet_of sent) (packet_of received) e (of_slot laws sent) (of_slot laws received) right (λ x f. f)
@@ -324,7 +324,7 @@ module _ (laws : LawsBelow) (sent received : List ℕ) (s : IsSlot sent) (clean 
       go (Links m content) R e os or right free = absurd right
       go _ R e os or right free = absurd right
 
-  -- what is received of the links of the page
+  -- the links of the page as they are received
   pub received_links : (p : Page) → LinksAreRight p sent (packet_of sent) → AreLinksOf p (packet_of received)
   received_links p right = elim (received_as laws sent received s clean h) as (λ _. AreLinksOf p (packet_of received)) [
     | inl e ↦ go (packet_of sent) (packet_of received) e (of_slot laws sent) (of_slot laws received) right (λ x f. f)
@@ -375,7 +375,7 @@ module _ (laws : LawsBelow) (sent received : List ℕ) (s : IsSlot sent) (clean 
       go (Links m content) R e os or right = absurd right
       go _ R e os or right = absurd right
 
-  -- a character of a row that is received as sent: so the row is received
+  -- a character of a row that is received as sent; so the row is not lost
   pub row_received_at : (p : Page) → IsPage p → (r : ℕ) → 1 ≤ r → r ≤ 24 → RowIsRight p r (packet_of sent) → (c : ℕ) → c < 40 →
       get_or received (2 + c) 0 ≡ get_or sent (2 + c) 0 →
       RowRightAt p r c (packet_of received) ×

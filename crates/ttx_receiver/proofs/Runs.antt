@@ -13,11 +13,11 @@ use Rattle.ttx_page.specs.Streams.{heads, heads_matched, ends_serial, carries}
 use Rattle.ttx_receiver.proofs.StepsOverPage.{Shape, IsHeadOf, IsRowOf, AreLinksOf, shape_after, after_storing, after_ready, after_begin}
 use Rattle.ttx_receiver.proofs.StepsOverPage.{after_settled}
 
--- what is received at a place of the list
+-- the packet received at a position of the list
 abbrev pub packet_at : List (List ℕ) → ℕ → Packet
 packet_at received t = packet_of (get_or received t [])
 
--- what each slot keeps is kept by a run
+-- what each slot keeps, a run keeps
 pub run_keeps : (class : Class) (lines : ℕ) (sel : Selection) (Inv : ℕ → Memory → Type 0) (received : List (List ℕ)) (t : ℕ) →
     ((k : ℕ) → k < length received → (choice : Bool) (m : Memory) → Inv (t + k) m → Inv (suc (t + k))
     (after class lines sel choice (older m) (packet_at received k))) →
@@ -40,14 +40,14 @@ run_keeps class lines sel Inv (slot ∷ received) t step m new r i =
     (step (suc k) (omega arith) choice x (subst (λ y. Inv y x) e3 ix)))
     mid new r.2 first)
 
--- the latest header of the magazine before place t is one that the selection matches
+-- the latest header of the magazine before position t is one that the selection matches
 pub record IsOwnedAt (sel : Selection) (g : ℕ → Packet) (t : ℕ) : Type 0 where
   pub place : ℕ
   pub before : place < t
   pub matched : heads_matched sel (g place) ≡ true
   pub none : (i : ℕ) → place < i → i < t → heads (selected_mag sel) (g i) ≡ false
 
--- what is received of the first n places
+-- what the first n positions bring of the page
 pub record ReceivesPage (sel : Selection) (p : Page) (g : ℕ → Packet) (n : ℕ) : Type 0 where
   pub heads : (t : ℕ) → t < n → heads_matched sel (g t) ≡ true → IsHeadOf p (g t)
   pub rows : (t : ℕ) → t < n → IsOwnedAt sel g t → (r : ℕ) → needed p (TheRow r) ≡ true → carries (selected_mag sel) (TheRow r) (g t)
@@ -61,7 +61,7 @@ pub record IsTuned (sel : Selection) (p : Page) (g : ℕ → Packet) (t : ℕ) (
   pub control : m.control ≡ p.control
   pub owned : m.storing ≡ true → IsOwnedAt sel g t
 
--- since the header at place h the page is being stored_row
+-- since the header at position h the receiver has been storing the page
 pub record IsStoring (h t : ℕ) (m : Memory) : Type 0 where
   pub storing : m.storing ≡ true
   pub age : m.age ≡ min (t - suc h) 64
@@ -107,7 +107,7 @@ module _ (class : Class) (lines : ℕ) (sel : Selection) (p : Page) (g : ℕ →
       let k = after_ready class lines sel choice (older m) (g t) other on s.storing in
       record { storing = k.0; age = k.1 ∙ omega (arith, s.age) }
 
-  -- what is taken at place j, and kept by each slot from then on, is there in the end
+  -- what is taken at position j and kept by each slot from then on is there in the end
   pub lasting : (Before : ℕ → Memory → Type 0) (Good : Memory → Type 0) (j : ℕ) → j < n →
       ((t : ℕ) → t < j → (choice : Bool) (m : Memory) → Shape m → Before t m → Before (suc t) (next choice m t)) →
       ((choice : Bool) (m : Memory) → Shape m → Before j m → IsTuned sel p g (suc j) (next choice m j) × Good (next choice m j)) →

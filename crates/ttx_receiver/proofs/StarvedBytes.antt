@@ -10,7 +10,7 @@ use Rattle.ttx_page.specs.Packets.{Empty, packet_of}
 use Rattle.ttx_receiver.specs.Starving.{spoilt}
 use Rattle.ttx_receiver.proofs.ReceivedPackets.{packet_empty}
 
--- a byte with its lowest bit wrong is a byte, one bit from it, and of the other parity
+-- a byte with its lowest bit wrong is a byte, differs in one bit, and has the other parity
 abbrev is_flipped : ℕ → Bool
 is_flipped b = leb (bit_xor b 1) 255 && leb (distance b (bit_xor b 1)) 1 && leb (distance b b) 1 && not (is_odd b && is_odd (bit_xor b 1))
 

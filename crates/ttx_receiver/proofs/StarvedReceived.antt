@@ -1,4 +1,4 @@
--- What is heard of an item that never comes by an all-sure run is within the error rule.
+-- The reception of an item that never comes by a sure run is within the error rule.
 use Rattle.std.proofs.Common.{◌≡◌, ◌⊎◌, ℕ, ◌<◌, ◌≤◌, ℤ, pos, ◌+ℤ◌, ◌<ℤ◌, ◌≤ℤ◌, true, false, List, [], ◌∷◌, length, get_or, refl, sym, ap, ◌∙◌, subst}
 use Rattle.std.proofs.Common.{inl, inr, arith, eqb-true}
 use Rattle.std.specs.List.{AllByRecursion}
@@ -54,7 +54,7 @@ all_end : (tau end : ℤ) (xs : List ℤ) → AllByRecursion (λ j. (tau ≤ℤ 
 all_end tau end [] a = tt
 all_end tau end (x ∷ xs) a = (a.0.1, all_end tau end xs a.1)
 
--- one of the list has one property, or each has the other
+-- one element of the list has one property, or each has the other
 one_or_all : (P Q R : ℤ → Type 0) → ((j : ℤ) → R j → P j ⊎ Q j) → (xs : List ℤ) → AllByRecursion R xs → OneIs P xs ⊎ AllByRecursion Q xs
 one_or_all P Q R each [] a = inr tt
 one_or_all P Q R each (x ∷ xs) a = elim (each x a.0) as (λ _. OneIs P (x ∷ xs) ⊎ AllByRecursion Q (x ∷ xs)) [
@@ -81,7 +81,7 @@ module _ (laws : LawsBelow) (s : Stream) (p : Page) (sel : Selection) (fits : ma
   abbrev mem : ℕ → Memory
   mem t = starved_memory lines sel item s tau former t
 
-  -- the item that is taken is the one that is sent; links have no text bytes
+  -- the item that is taken is the item that is sent; links have no text bytes
   byte_item : (other : Item) (x t : ℕ) → IsTextByte other x → IsTransmission s p.id other (tau +ℤ pos t) →
       (get_or (heard lines sel item (mem t) (sent t)) x 0 ≡ get_or (sent t) x 0)
       ⊎ ((other ≡ item) × (takes lines sel item (older (mem t)) (packet_of (sent t)) ≡ true))

@@ -1,4 +1,4 @@
--- What a starved receiver hears and chooses, as hits and as a script.
+-- What a starved receiver receives and chooses, as hits and as a script.
 use Rattle.std.proofs.Common.{◌≡◌, ℕ, zero, suc, ◌+◌, ◌<◌, ℤ, pos, ◌+ℤ◌, Bool, true, false, List, [], ◌∷◌, ◌++◌, length, get_or, refl, sym, ap, ◌∙◌}
 use Rattle.std.proofs.Common.{subst, inl, inr, arith, length-append, append_assoc}
 use Rattle.std.specs.List.{Contains}
@@ -99,7 +99,7 @@ module _ (lines : ℕ) (sel : Selection) (item : Item) (s : Stream) (tau : ℤ) 
   abbrev hit_at : ℕ → Bool
   hit_at t = is_received_wrong lines sel item (mem t) (sent t)
 
-  -- the hits are the slots that are hit
+  -- the hits are the slots received with a wrong bit
   hits_are : (n t : ℕ) → Contains (hits n) t → (t < n) × (hit_at t ≡ true)
   unfolding starved_hits
   hits_are zero t c = absurd (let lt = c.1 in omega arith)
@@ -134,7 +134,7 @@ module _ (lines : ℕ) (sel : Selection) (item : Item) (s : Stream) (tau : ℤ) 
       (λ k kt. (hits_are n (get_or (hits n) k 0) (Contains-get_or (hits n) k 0 kt)).0) i j lt in_list)
       (λ e in_list. hits_rise n i j lt in_list) inside
 
-  -- the script makes the memory, and what follows it in a longer one is left
+  -- the script gives the memory, and leaves what follows it in a longer script
   script_is : ChoicesAreChoices → (n : ℕ) (more : List Bool) → let script = starved_choices lines sel item s tau former n ++ more
       in let slots = starved_slots lines sel item s tau former n in
       (scripted Any lines sel script former slots ≡ mem n) × (left lines sel script former slots ≡ more)

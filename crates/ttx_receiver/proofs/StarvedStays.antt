@@ -1,4 +1,4 @@
--- Where an item never comes by an all-sure run, a receiver that takes all its choices keeps it wrong, and all else right.
+-- If an item never comes by a sure run, a receiver that takes every choice keeps it wrong and everything else right.
 use Rattle.std.proofs.Common.{◌≡◌, ◌≢◌, ℕ, zero, suc, ◌+◌, ◌<◌, ◌≤◌, ℤ, pos, ◌+ℤ◌, true, false, List, [], length, get_or, refl}
 use Rattle.std.proofs.Common.{sym, ap, ◌∙◌, subst, arith, ext_get_or, get_or-drop}
 use Rattle.std.proofs.lemmas.Bool.{and_from, and_parts, both_ways, cond-true}
@@ -187,7 +187,7 @@ module _ (all : StarvingLaws) (s : Stream) (p : Page) (page : IsPage p) (sel : S
         ends = (lt_offset tau t n lt, tt);
       })
 
-  -- after t slots all but the item is the page's, and the item is wrong
+  -- after t slots everything except the item is the page's, and the item is wrong
   record IsLed (t : ℕ) (m : Memory) : Type 0 where
     shape : Shape m
     tuned : IsTuned sel p (packet_at got) t m

@@ -1,4 +1,4 @@
--- What one slot changes of a character or of the links, and when a receiver that takes all its choices is storing after it.
+-- What one slot changes of a character or of the links, and when a receiver that takes every choice is storing after it.
 use Rattle.std.proofs.Common.{◌≡◌, ◌≢◌, ◌⊎◌, ℕ, ◌-◌, ◌<◌, ◌≤◌, Bool, true, false, not, ◌&&◌, ◌==◌, List, [], ◌++◌, Some, None, length, get_or, take}
 use Rattle.std.proofs.Common.{drop, set, refl, sym, ap, ◌∙◌, subst, inl, inr, arith, eqb-true, eq-eqb, nat_le, get_or-set_same, get_or-set_other}
 use Rattle.std.proofs.Common.{length-drop, get_or-drop}
@@ -18,7 +18,7 @@ use Rattle.ttx_receiver.proofs.StoredRows.{stored_row_at}
 use Rattle.ttx_receiver.proofs.StepsOverPage.{Shape, IsHeadOf, erased_first, shape_erased}
 use Rattle.ttx_receiver.proofs.TakenAndKept.{erases_not, head_char}
 
--- the first byte of the text is of even parity
+-- the first byte of the text has even parity
 abbrev pub IsFirstEven : Packet → Type 0
 IsFirstEven (Header id control text) = is_odd (get_or text 0 0) ≡ false
 IsFirstEven (Row mag number text) = is_odd (get_or text 0 0) ≡ false
@@ -33,7 +33,7 @@ and_false : (a b : Bool) → a ≡ true → (a && b) ≡ false → b ≡ false
 and_false true b h k = k
 and_false false b h k = cc
 
--- a receiver that takes all its choices and is storing after a slot: since this slot, or as it was
+-- the receiver goes on storing: it was storing before, and the packet does not end this
 pub record HasGoneOn (m new : Memory) (sel : Selection) (pkt : Packet) : Type 0 where
   pub was : m.storing ≡ true
   pub no_header : heads (selected_mag sel) pkt ≡ false
@@ -87,7 +87,7 @@ module _ (lines : ℕ) (sel : Selection) where
       (and_from (mag == selected_mag sel) (number == r) ((and_parts _ _ (and_parts _ _ e).0).0) q)
       (and_from m.storing (not (nat_le m.age lines)) ((and_parts _ _ (and_parts _ _ e).0).1) ((and_parts _ _ e).1))
 
-  -- the first character of row r stays as it is where each row r that is taken has a wrong first byte
+  -- the first character of row r does not change if each row r that is taken has a wrong first byte
   pub wrong_row : (r : ℕ) → 1 ≤ r → r < 25 → (p : Page) → c4 p.control ≡ false → (m : Memory) (pkt : Packet) → Shape m → m.fresh ≡ false →
       (heads_matched sel pkt ≡ true → IsHeadOf p pkt) → (takes lines sel (TheRow r) m pkt ≡ true → IsFirstEven pkt) →
       char_at (after Any lines sel true m pkt) r 0 ≡ char_at m r 0
@@ -125,7 +125,7 @@ module _ (lines : ℕ) (sel : Selection) where
       cond_both {A = Memory} (taken_by m mag) (with_links m (Some content)) m (λ new. char_at new r 0 ≡ char_at m r 0) (λ _. refl) (λ _. refl)
   wrong_row r low high p k4 m _ s f hh even = refl
 
-  -- so does column 8 of row 0 where each matching header has a wrong first byte
+  -- nor does column 8 of row 0 if each matching header has a wrong first byte
   pub wrong_head : (m : Memory) (pkt : Packet) → Shape m → (takes lines sel TheHead m pkt ≡ true → IsFirstEven pkt) →
       carries (selected_mag sel) (TheRow 0) pkt ≡ false →
       char_at (after Any lines sel true m pkt) 0 8 ≡ char_at m 0 8
@@ -161,7 +161,7 @@ module _ (lines : ℕ) (sel : Selection) where
       cond_both {A = Memory} (taken_by m mag) (with_links m (Some content)) m (λ new. char_at new 0 8 ≡ char_at m 0 8) (λ _. refl) (λ _. refl)
   wrong_head m _ s even none = refl
 
-  -- so do the links where no links are taken
+  -- nor do the links if no links are taken
   pub wrong_links : (p : Page) → c4 p.control ≡ false → (m : Memory) (pkt : Packet) → m.fresh ≡ false →
       (heads_matched sel pkt ≡ true → IsHeadOf p pkt) →
       (takes lines sel TheLinks m pkt ≡ true → ⊥) → (after Any lines sel true m pkt).links ≡ m.links

@@ -1,4 +1,4 @@
--- A receiver that takes all its choices stores under the page's headers alone, and what it then takes is sure.
+-- A receiver that takes every choice stores only under the page's headers, and what it then takes is sure.
 use Rattle.std.proofs.Common.{◌≡◌, ℕ, zero, suc, ◌+◌, ◌-◌, ◌<◌, ◌≤◌, min, ℤ, pos, ◌+ℤ◌, ◌<ℤ◌, ◌≤ℤ◌, Bool, true, false, ◌&&◌, List, [], ◌∷◌, ◌++◌}
 use Rattle.std.proofs.Common.{length, get_or, refl, sym, ap, ◌∙◌, subst, inl, inr, arith, nat_le, length-append}
 use Rattle.std.proofs.lemmas.Int.{ints}
@@ -115,7 +115,7 @@ module _ (laws : LawsBelow) (s : Stream) (p : Page) (sel : Selection) (fits : ma
   pub may : (t : ℕ) → MayBeReceivedAs (sent t) (hears t)
   may t = heard_received lines sel item (mem t) (sent t) (steady.slots _ (not_before tau t))
 
-  -- under a header of the page since slot tau, which nothing has ended
+  -- under a header of the page at slot tau or later, which nothing has ended
   record IsUnder (t : ℕ) (m : Memory) : Type 0 where
     header : ℕ
     before : header < t
@@ -134,7 +134,7 @@ module _ (laws : LawsBelow) (s : Stream) (p : Page) (sel : Selection) (fits : ma
       sym (same_ends laws (sent t) (hears t) (steady.slots _ (not_before tau t)) (steady.clean _ (not_before tau t)) (may t) p.id.mag)
       ∙ ap (λ m. ends_serial m (packet_of (hears t))) (same_mag sel p.id fits) ∙ h
 
-  -- what holds of all places up to t and of place t
+  -- what holds at all positions up to t, and at position t
   up_to : (P : ℕ → Type 0) (h t : ℕ) → ((i : ℕ) → h < i → i < t → P i) → P t → (i : ℕ) → h < i → i < suc t → P i
   up_to P h t below here i low high = elim (cases_lt i t) as (λ _. P i)
       [ inl lt ↦ below i low lt | inr ge ↦ let e : t ≡ i = omega arith in subst P e here ]
@@ -172,7 +172,7 @@ module _ (laws : LawsBelow) (s : Stream) (p : Page) (sel : Selection) (fits : ma
       st' : new.storing ≡ true
       st' = ap (λ m. m.storing) (sym next) ∙ st
 
-  -- what a receiver that can't miss a packet stores under
+  -- the header under which a receiver that cannot miss a packet is storing
   record IsBoundAt (t : ℕ) : Type 0 where
     header : ℕ
     latest : IsLatestHeader s p.id.mag (place header) (place t)

@@ -1,4 +1,4 @@
--- A receiver that shows a page of which nothing else is sent goes on showing it.
+-- A receiver that shows a page goes on showing it if nothing else is sent of the page.
 use Rattle.std.proofs.Common.{◌≡◌, ℕ, zero, suc, ◌+◌, ◌%◌, ◌<◌, ◌≤◌, ℤ, pos, ◌+ℤ◌, ◌<ℤ◌, ◌≤ℤ◌, Bool, true, false, List, [], length, get_or, take, map}
 use Rattle.std.proofs.Common.{refl, sym, ap, ◌∙◌, subst, arith, get_or-take}
 use Rattle.std.proofs.lemmas.Int.{ints}
@@ -37,7 +37,7 @@ slot_of s tau (suc n) (suc k) h =
     let e : (tau +ℤ pos 1) +ℤ pos k ≡ tau +ℤ pos (suc k) = omega (arith, ints) in
     slot_of s (tau +ℤ pos 1) n k (omega arith) ∙ ap s e
 
--- bytes of characters hold them
+-- bytes with odd parity made from characters hold these characters
 good : LawsBelow → (chars text : List ℕ) (n : ℕ) → n ≤ length chars → ((c : ℕ) → get_or chars c 0 < 128) → take n text
     ≡ map odd_byte chars → GoodText chars n text
 good laws chars text n long low is c lt odd =

@@ -22,7 +22,7 @@ matches_mag : (sel : Selection) (id : Id) → matches sel id ≡ true → (id.ma
 matches_mag (Exact own) id h = eq_sym own.mag id.mag ((and_parts _ _ (and_parts _ _ h).0).0)
 matches_mag (AnySub mag page) id h = eq_sym mag id.mag ((and_parts _ _ h).0)
 
--- a byte of odd parity has the right character
+-- each byte of odd parity holds the right character
 abbrev pub GoodText : List ℕ → ℕ → List ℕ → Type 0
 GoodText chars n text = (c : ℕ) → c < n → is_odd (get_or text c 0) ≡ true → get_or text c 0 % 128 ≡ get_or chars c 0
 
@@ -50,7 +50,7 @@ AreLinksOf p (Header id control text) = Unit {0}
 AreLinksOf p (Row mag number text) = Unit {0}
 AreLinksOf p _ = Unit {0}
 
--- the rows of a memory have their lengths
+-- the rows of a memory have the right lengths
 pub record Shape (m : Memory) : Type 0 where
   pub count : length m.rows ≡ 25
   pub width : (r : ℕ) → r < 25 → length (get_or m.rows r []) ≡ 40
@@ -130,7 +130,7 @@ module _ (class : Class) (lines : ℕ) (sel : Selection) where
       (λ _. shape_same m (with_links m (Some content)) refl s) (λ _. s)
   shape_after choice m _ s = s
 
-  -- a page is stored_row after a slot only where the slot is a matching header, or the page was stored_row and the slot is no header of the magazine
+  -- a receiver is storing after a slot only if the slot is a matching header, or if it was storing and the slot is not a header of the magazine
   pub after_storing : (choice : Bool) (m : Memory) (pkt : Packet) → (after class lines sel choice m pkt).storing ≡ true →
       (heads_matched sel pkt ≡ true) ⊎ ((m.storing ≡ true) × (heads (selected_mag sel) pkt ≡ false))
   after_storing choice m (Header id control text) st =
@@ -160,7 +160,7 @@ module _ (class : Class) (lines : ℕ) (sel : Selection) where
       (λ _ h. inr (h, refl)) st
   after_storing choice m _ h = inr (h, refl)
 
-  -- without a header of the magazine and without an end in serial transmission the page goes on being stored_row
+  -- without a header of the magazine, and without an end in serial transmission, the receiver goes on storing
   pub after_ready : (choice : Bool) (m : Memory) (pkt : Packet) → heads (selected_mag sel) pkt ≡ false → ends_serial (selected_mag sel) pkt ≡ false →
       m.storing ≡ true → ((after class lines sel choice m pkt).storing ≡ true) × ((after class lines sel choice m pkt).age ≡ m.age)
   after_ready choice m (Header id control text) other on st =
@@ -183,7 +183,7 @@ module _ (class : Class) (lines : ℕ) (sel : Selection) where
   after_ready choice m _ other on st = (st, refl)
 
 module _ (class : Class) (lines : ℕ) (sel : Selection) (p : Page) where
-  -- what a matching header leaves
+  -- the memory after a matching header
   pub after_begin : (choice : Bool) (m : Memory) (pkt : Packet) → heads_matched sel pkt ≡ true → IsHeadOf p pkt →
       let new = after class lines sel choice m pkt in
       (new.storing ≡ true) × (new.age ≡ 0) × (new.fresh ≡ false) × (new.control ≡ p.control)
@@ -196,7 +196,7 @@ module _ (class : Class) (lines : ℕ) (sel : Selection) (p : Page) where
   after_begin choice m (Links mag content) h r = absurd (both_ways false refl h)
   after_begin choice m _ h r = absurd (both_ways false refl h)
 
-  -- a receiver that isn't fresh keeps the page's control bits
+  -- a receiver that is not fresh keeps the page's control bits
   pub after_settled : (choice : Bool) (m : Memory) (pkt : Packet) → (heads_matched sel pkt ≡ true → IsHeadOf p pkt) →
       m.fresh ≡ false → m.control ≡ p.control → ((after class lines sel choice m pkt).fresh ≡ false)
       × ((after class lines sel choice m pkt).control ≡ p.control)

@@ -9,7 +9,7 @@ length-stored_row [] text = refl
 length-stored_row (x ∷ row) [] = refl
 length-stored_row (x ∷ row) (b ∷ text) = ap suc (length-stored_row row text)
 
--- a stored_row character is the old one, or that of a good byte
+-- the stored character is that of a byte with odd parity
 pub record IsTaken (text : List ℕ) (c new : ℕ) : Type 0 where
   pub good : is_odd (get_or text c 0) ≡ true
   pub is : new ≡ get_or text c 0 % 128
@@ -25,7 +25,7 @@ stored_row_at (x ∷ row) (b ∷ text) (suc c) h =
     (λ _. (get_or (stored_row row text) c 0 ≡ get_or row c 0) ⊎ IsTaken (b ∷ text) (suc c) (get_or (stored_row row text) c 0))
     [ inl e ↦ inl e | inr t ↦ inr (record { good = t.good; is = t.is }) ]
 
--- a good byte is taken
+-- a byte with odd parity is taken
 pub stored_row_good : (row text : List ℕ) (c : ℕ) → c < length row → c < length text → is_odd (get_or text c 0) ≡ true →
     get_or (stored_row row text) c 0 ≡ get_or text c 0 % 128
 stored_row_good [] text c h k o = absurd (omega arith)

@@ -22,7 +22,7 @@ pub erases_not : (class : Class) (choice : Bool) (m : Memory) (control : ℕ) �
 erases_not Any choice m control k f = or_from (c4 control) (m.fresh && choice) k (subst (λ b. (b && choice) ≡ false) (sym f) refl)
 erases_not Clearing choice m control k f = or_from (c4 control) m.fresh k f
 
--- the stored_row row is the old one, but where the byte is good
+-- a stored row keeps its right characters if every byte with odd parity is right
 kept_char : (old text chars : List ℕ) (c n : ℕ) → length old ≡ n → c < n → GoodText chars n text → get_or old c 0 ≡ get_or chars c 0 →
     get_or (stored_row old text) c 0 ≡ get_or chars c 0
 kept_char old text chars c n w h good was = elim (stored_row_at old text c (omega arith)) as
@@ -175,7 +175,7 @@ module _ (class : Class) (lines : ℕ) (sel : Selection) (p : Page) where
       misses_not true = lt-leb m.age lines old
       misses_not false = refl
 
-  -- a byte that is received right is stored_row
+  -- a byte that is received right is stored
   pub take_row : (r c : ℕ) → r < 25 → c < 40 → (choice : Bool) (m : Memory) (pkt : Packet) → Shape m → m.storing ≡ true → lines < m.age →
       carries (selected_mag sel) (TheRow r) pkt ≡ true → RowRightAt p r c pkt → char_at (after class lines sel choice m pkt) r c
       ≡ get_or (page_row p r) c 0

@@ -1,4 +1,4 @@
--- Each needed item stays, once it was taken.
+-- Each needed item stays once it has been taken.
 use Rattle.std.proofs.Common.{◌≡◌, ℕ, suc, ◌+◌, ◌<◌, ◌≤◌, Bool, true, false, List, length, get_or, sym, subst, inl, inr, arith, leb-true}
 use Rattle.std.proofs.lemmas.Bool.{cases_lt, and_parts}
 use Rattle.ttx_page.specs.Packets.{Packet}
@@ -13,7 +13,7 @@ use Rattle.ttx_receiver.proofs.StepsOverPage.{Shape}
 use Rattle.ttx_receiver.proofs.TakenAndKept.{HeadRightAt, RowRightAt, keep_row, keep_head, keep_links, take_row, take_links, take_head}
 use Rattle.ttx_receiver.proofs.Runs.{packet_at, run_keeps, ReceivesPage, IsTuned, IsStoring, tuned_begin, tuned_next, storing_next, lasting}
 
--- a transmission under the header at place h that no receiver misses
+-- a transmission under the header at position h that no permitted receiver misses
 pub record IsSureAt (sel : Selection) (g : ℕ → Packet) (lines : ℕ) (h j : ℕ) : Type 0 where
   pub late : h + lines < j
   pub matched : heads_matched sel (g h) ≡ true
@@ -31,7 +31,7 @@ module _ (class : Class) (lines : ℕ) (sel : Selection) (p : Page) (page : IsPa
   abbrev g : ℕ → Packet
   g = packet_at received
 
-  -- what is taken at place j, and kept, is there in the end
+  -- what is taken at position j and kept is there in the end
   held : (Before : ℕ → Memory → Type 0) (Good : Memory → Type 0) (j : ℕ) → j < length received →
       ((t : ℕ) → t < j → (choice : Bool) (m : Memory) → Shape m → Before t m → Before (suc t) (after class lines sel choice (older m) (g t))) →
       ((choice : Bool) (m : Memory) → Shape m → Before j m → IsTuned sel p g (suc j) (after class lines sel choice (older m) (g j))

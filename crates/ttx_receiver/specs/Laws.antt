@@ -1,8 +1,8 @@
--- The law of receiving: what is sent between two slots of a stream is held from the second on.
+-- The law of receiving: what is sent between two slots of a stream is held from the second slot on.
 --
---   IsSteadyFrom            from a slot on, a receiver of the page is sent nothing but the page
+--   IsSteadyFrom            from a slot on, a receiver of the page is sent only the page
 --   HasHeaderBetween, IsBrought    a header of the page, or an item of it, comes between two slots
---   RunHoldsItsItem         an item that comes is held, by every receiver, after every reception within the error rule
+--   RunHoldsItsItem         an item that comes is held by every receiver, after every reception within the error rule
 use Rattle.std.specs.Prelude.{◌≡◌, ◌⊎◌, ℕ, ◌≤◌, ℤ, pos, ◌+ℤ◌, ◌<ℤ◌, ◌≤ℤ◌, true, List, length}
 use Rattle.ttx_packet.specs.Slots.{IsSlot, is_clean}
 use Rattle.ttx_page.specs.Packets.{packet_of}
@@ -17,27 +17,27 @@ use Rattle.ttx_page.specs.Streams.{Stream, IsOwned, IsSent, heads_page, heads_ma
 use Rattle.ttx_page.specs.Receptions.{Received}
 use Rattle.ttx_page.specs.Steady.{IsChecked, IsTrueTo}
 
--- From slot begin on each slot is clean, the headers that the selection matches are the page's, and what stands under them is the page's.
+-- From slot `begin` on each slot is clean, the headers that the selection matches are the page's, and what follows them is the page's.
 pub record IsSteadyFrom (s : Stream) (p : Page) (sel : Selection) (begin : ℤ) : Type 0 where
   pub slots : (j : ℤ) → begin ≤ℤ j → IsSlot (s j)
   pub clean : (j : ℤ) → begin ≤ℤ j → is_clean (s j) ≡ true
   pub selected : (j : ℤ) → begin ≤ℤ j → heads_matched sel (packet_of (s j)) ≡ true → heads_page p.id (packet_of (s j)) ≡ true
   pub items : (item : Item) → IsChecked p item → (h j : ℤ) → begin ≤ℤ h → IsOwned s p.id item h j → IsTrueTo p item (s j)
 
--- a header of the page at begin or later, and before end
+-- a header of the page at `begin` or later, and before `end`
 pub record HasHeaderBetween (s : Stream) (p : Page) (begin end : ℤ) : Type 0 where
   pub slot : ℤ
   pub not_before : begin ≤ℤ slot
   pub before : slot <ℤ end
   pub is_header : heads_page p.id (packet_of (s slot)) ≡ true
 
--- An item comes between two slots by an all-sure run; or, where receivers surely clear the page and the item is blank, by a header.
+-- An item comes between two slots by a sure run; or, if receivers surely clear the page and the item is blank, by a header.
 abbrev pub IsBrought : Stream → Page → Class → ℕ → ℕ → Item → ℤ → ℤ → Type 0
 IsBrought s p class lines repeat item begin end =
     IsSent s p.id lines repeat item begin end ⊎ ((class ≡ Clearing) × IsBlank p item × HasHeaderBetween s p begin end)
 
--- One item that comes between two slots is held from the second on, with the page's control bits: whatever the receiver held before,
--- whatever it chooses, and whatever it is given within the error rule.
+-- An item that comes between two slots is held from the second slot on, together with the page's control bits, whatever the receiver
+-- held before, whatever it chooses, and whatever it receives within the error rule.
 abbrev pub RunHoldsItsItem : Type 0
 RunHoldsItsItem =
     (s : Stream) (p : Page) (sel : Selection) (class : Class) (lines repeat : ℕ) (begin end : ℤ) →

@@ -1,8 +1,8 @@
 -- What a receiver reads in a slot.
 --
---   IsIgnored               a packet that changes nothing of what a receiver holds
---   LendsPacket                   what is lent of a slot is what its packet says
---   names_magazine, names_packet_0        what the numbers of bytes 0 and 1 name, where they are readable
+--   IsIgnored               a packet that does not change what a receiver holds
+--   LendsPacket             the bytes lent from a slot are those of its packet
+--   names_magazine, names_packet_0        the magazine and packet number in bytes 0 and 1, if they are readable
 use Rattle.std.specs.Prelude.{◌≡◌, ◌≤◌, ℕ, Bool, true, false, ◌==◌, drop, Option, Some, None}
 use Rattle.ttx_header.specs.Headers.{is_header, id_of, control_of}
 use Rattle.ttx_links.specs.Sets.{links_of}

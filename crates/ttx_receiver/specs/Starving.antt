@@ -1,16 +1,16 @@
--- A receiver that takes all its choices and never gets one item of a page right: whatever it can miss it misses, and of each
--- transmission of the item that it can't miss the first character is received with a wrong bit.
+-- A receiver that takes every choice and never gets one item of a page right: it misses what it may miss, and of each transmission
+-- of the item that it cannot miss, the first character is received with a wrong bit.
 --
 --   spoilt                  a slot with the lowest bit of a byte wrong
 --   is_bound, takes         whether such a receiver takes the item from a packet
---   first_byte, is_received_wrong, heard       what is received of a slot
---   careful_after           the memory after one slot, each choice taken
---   starved_memory, starved_slots       the memory after some slots of a stream, and what is received of them
---   starved_hits, starved_choices       which slots have a wrong bit; the choices as a script
---   IsScripted, StarvedIsScripted       hits and script make the slots and the memory
---   other_letter, other_link, other_links, wrong_memory         the former memory: the page's, but for one character or one link
+--   first_byte, is_received_wrong, heard       how a slot is received
+--   careful_after           the memory after one slot, with every choice taken
+--   starved_memory, starved_slots       the memory after some slots of a stream, and how these slots are received
+--   starved_hits, starved_choices       which slots have a wrong bit; the choices, as a script
+--   IsScripted, StarvedIsScripted       hits and script give the slots and the memory
+--   other_letter, other_link, other_links, wrong_memory         the former memory: the page's except for one character or one link
 --   HoldsWrong                 that character or that link is wrong
---   IsStarved, StarvedStaysWrong        where no all-sure run comes, it stays wrong, and all else is the page's
+--   IsStarved, StarvedStaysWrong        if no sure run comes, the item stays wrong, and all else is the page's
 use Rattle.std.specs.Prelude.{◌≡◌, ◌≢◌, ◌<◌, ◌≤◌, ℕ, zero, suc, ℤ, pos, ◌+ℤ◌, Bool, true, false, not, ◌&&◌, ◌==◌, if◌then◌else◌, nat_le, bit_xor}
 use Rattle.std.specs.Prelude.{Option, Some, None, List, [], ◌∷◌, ◌++◌, length, slice_index, slice_index_or, slice_set, Contains}
 use Rattle.ttx_packet.specs.Slots.{is_empty}
@@ -32,17 +32,17 @@ use Rattle.ttx_receiver.specs.Laws.{IsSteadyFrom}
 abbrev pub spoilt : List ℕ → ℕ → List ℕ
 spoilt slot x = slice_set slot x (bit_xor (slice_index slot x) 1)
 
--- the receiver is storing and can't miss a packet, its age grown already
+-- the receiver is storing and cannot miss a packet; its age has already grown
 abbrev pub is_bound : ℕ → Memory → Bool
 is_bound lines m = m.storing && not (nat_le m.age lines)
 
--- a receiver that misses what it can takes the item from the packet
+-- a receiver that misses what it may miss takes the item from the packet
 abbrev pub takes : ℕ → Selection → Item → Memory → Packet → Bool
 takes lines sel TheHead m packet = heads_matched sel packet
 takes lines sel (TheRow r) m packet = carries (selected_mag sel) (TheRow r) packet && is_bound lines m
 takes lines sel TheLinks m packet = carries (selected_mag sel) TheLinks packet && is_bound lines m
 
--- the byte of the item's first character; links aren't received wrong
+-- the byte of the item's first character; links are not received wrong
 abbrev pub first_byte : Item → ℕ
 first_byte TheHead = 10
 first_byte (TheRow r) = 2
@@ -54,11 +54,11 @@ is_received_wrong lines sel TheHead m slot = takes lines sel TheHead (older m) (
 is_received_wrong lines sel (TheRow r) m slot = takes lines sel (TheRow r) (older m) (packet_of slot)
 is_received_wrong lines sel TheLinks m slot = false
 
--- what is received of a slot: the first character of the item with a wrong bit, where it would be taken; links as they are sent
+-- how a slot is received: the item's first character with a wrong bit where it would be taken; links as they are sent
 abbrev pub heard : ℕ → Selection → Item → Memory → List ℕ → List ℕ
 heard lines sel item m slot = if is_received_wrong lines sel item m slot then spoilt slot (first_byte item) else slot
 
--- one slot, each choice taken
+-- the memory after one slot, with every choice taken
 abbrev pub careful_after : ℕ → Selection → Memory → List ℕ → Memory
 careful_after lines sel m slot = after Any lines sel true (older m) (packet_of slot)
 
@@ -69,7 +69,7 @@ starved_memory lines sel item s tau former (suc n) =
     let m = starved_memory lines sel item s tau former n in
     careful_after lines sel m (heard lines sel item m (s (tau +ℤ pos n)))
 
--- and what is received of them
+-- how these slots are received
 unfoldable pub starved_slots : ℕ → Selection → Item → Stream → ℤ → Memory → ℕ → List (List ℕ)
 starved_slots lines sel item s tau former zero = []
 starved_slots lines sel item s tau former (suc n) =
@@ -90,8 +90,8 @@ starved_choices lines sel item s tau former (suc n) =
     if has_choice Any lines sel (older m) (packet_of (heard lines sel item m (s (tau +ℤ pos n))))
     then starved_choices lines sel item s tau former n ++ true ∷ [] else starved_choices lines sel item s tau former n
 
--- The slots received are those of the stream with the first byte of the item wrong in those that are hit, none of which is empty; and
--- a receiver that takes its choices from the script makes the memory of them.
+-- The slots received are those of the stream, with the item's first byte wrong in the slots that are hit, none of which is empty. A
+-- receiver that takes its choices from the script ends with this memory.
 pub record IsScripted (lines : ℕ) (sel : Selection) (item : Item) (s : Stream) (tau : ℤ) (former m : Memory) (n : ℕ)
     (received : List (List ℕ)) (hits : List ℕ) (choices : List Bool) : Type 0 where
   pub inside : (t : ℕ) → Contains hits t → t < n
@@ -107,11 +107,11 @@ StarvedIsScripted =
     IsScripted lines sel item s tau former (starved_memory lines sel item s tau former n) n (starved_slots lines sel item s tau former n)
     (starved_hits lines sel item s tau former n) (starved_choices lines sel item s tau former n)
 
--- A, or B in the place of A
+-- A, or B in place of A
 abbrev pub other_letter : ℕ → ℕ
 other_letter c = if c == 0x41 then 0x42 else 0x41
 
--- none in the place of a link, and a link to page 00 of magazine 1 in the place of none
+-- no link in place of a link, and a link to page 00 of magazine 1 in place of no link
 abbrev pub other_link : Option Id → Option Id
 other_link None = Some (id_at 1 0 0x3f7f)
 other_link (Some id) = None
@@ -123,11 +123,11 @@ other_six (link ∷ rest) = other_link link ∷ rest
 abbrev pub other_links : LinkSet → LinkSet
 other_links links = record { six = other_six links.six; show24 = links.show24 }
 
--- the memory with another letter in a place
+-- the memory with another letter at a place
 abbrev pub with_letter : Memory → ℕ → ℕ → Memory
 with_letter m r c = with_row m r (slice_set (memory_row m r) c (other_letter (char_at m r c)))
 
--- the memory of the page, but for the first character of a row, or the first link
+-- the memory of the page, except for the first character of a row or the first link
 abbrev pub wrong_memory : Page → Item → Memory
 wrong_memory p TheHead = with_letter (memory_of_page p) 0 8
 wrong_memory p (TheRow r) = with_letter (memory_of_page p) r 0
@@ -138,7 +138,7 @@ HoldsWrong p m TheHead = char_at m 0 8 ≡ other_letter (slice_index p.head 0)
 HoldsWrong p m (TheRow r) = char_at m r 0 ≡ other_letter (slice_index (page_row p r) 0)
 HoldsWrong p m TheLinks = m.links ≡ other_links p.links
 
--- What is received of n slots from slot tau on is within the error rule, and the receiver's memory is the page's but for the item.
+-- The n slots from slot tau on are received within the error rule, and the receiver's memory is the page's except for the item.
 pub record IsStarved (s : Stream) (p : Page) (sel : Selection) (lines repeat : ℕ) (item : Item) (tau : ℤ) (n : ℕ)
     (former m : Memory) (received : List (List ℕ)) : Type 0 where
   pub is_former : IsFormer Any former
@@ -149,7 +149,7 @@ pub record IsStarved (s : Stream) (p : Page) (sel : Selection) (lines repeat : �
   pub others : (other : Item) → other ≢ item → needed p other ≡ true → Holds p m other
   pub wrong : HoldsWrong p m item
 
--- Where no all-sure run of an item comes between slot tau and n slots later, a receiver that once has it wrong is starved of it.
+-- If no sure run of an item comes between slot tau and n slots later, a receiver that has the item wrong once is starved of it.
 abbrev pub StarvedStaysWrong : Type 0
 StarvedStaysWrong =
     (s : Stream) (p : Page) (sel : Selection) (lines repeat : ℕ) (item : Item) (tau : ℤ) (n : ℕ) →

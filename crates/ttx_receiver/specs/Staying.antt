@@ -1,6 +1,6 @@
--- A page that a stream sends unchanged, and a receiver that has it already.
+-- A page that a stream sends unchanged, and a receiver that already has it.
 --
---   SendsOnly               the headers that a selection matches are the page's, and what stands under them is the page's own
+--   SendsOnly               the headers that a selection matches are the page's, and what follows them is the page's own
 --   ShownStaysShown         a receiver that shows the page goes on showing it, whatever it chooses
 use Rattle.std.specs.Prelude.{◌≡◌, ℕ, ℤ, true, false}
 use Rattle.ttx_page.specs.Packets.{packet_of}
@@ -18,7 +18,7 @@ pub record SendsOnly (s : Stream) (p : Page) (sel : Selection) : Type 0 where
   pub selected : (j : ℤ) → heads_matched sel (packet_of (s j)) ≡ true → heads_page p.id (packet_of (s j)) ≡ true
   pub items : (item : Item) → IsChecked p item → (h j : ℤ) → IsOwned s p.id item h j → IsTrueTo p item (s j)
 
--- a receiver that isn't storing, nor new to the page, and is given what is sent; slots may be bad
+-- a receiver that is not storing and not fresh receives what is sent; slots may be bad
 abbrev pub ShownStaysShown : Type 0
 ShownStaysShown =
     (s : Stream) (p : Page) (sel : Selection) (class : Class) (lines n : ℕ) (tau : ℤ) → IsPage p → matches sel p.id ≡ true → SendsOnly s p sel →

@@ -1,8 +1,8 @@
--- What contracts see of the receivers of the program.
+-- The receivers of the program, as contracts see them.
 --
---   tuned_after             a memory after a packet, by what the receiver is set to and its choice
+--   tuned_after             the memory after a packet, by what the receiver is set to and its choice
 --   Tuned, tuned_at         a receiver: what it is set to, the slots in a field, and what it holds
---   stepped                 a receiver after one slot, where it takes a choice or not
+--   stepped                 a receiver after one slot, with or without taking its choice
 --   Scripted, scripted_step         a receiver with the choices that are left of its script
 use Rattle.std.specs.Prelude.{ℕ, Bool, List}
 use Rattle.ttx_page.specs.Packets.{Packet, packet_of}
@@ -13,7 +13,7 @@ use Rattle.ttx_page.specs.Memories.{Memory}
 use Rattle.ttx_page.specs.Receivers.{after, older, has_choice, next_choice, later_choices}
 use Rattle.ttx_receiver.specs.declared.tuning.Tuning.{Tuning}
 
--- what a packet makes of a memory, its age grown already
+-- the memory after a packet; its age has already grown
 abbrev pub tuned_after : Tuning → Bool → Memory → Packet → Memory
 tuned_after t choice m packet = after t.class t.lines t.selection choice m packet
 
@@ -25,7 +25,7 @@ pub record Tuned : Type 0 where
 abbrev pub tuned_at : Selection → ℕ → Memory → Tuned
 tuned_at selection lines memory = record { selection = selection; lines = lines; memory = memory }
 
--- one slot, with the choice where there is one
+-- one slot, with this choice if there is one
 abbrev pub stepped : Class → Bool → Tuned → List ℕ → Tuned
 stepped class choice t slot = tuned_at t.selection t.lines (after class t.lines t.selection choice (older t.memory) (packet_of slot))
 
@@ -40,7 +40,7 @@ script_at tuned choices = record { tuned = tuned; choices = choices }
 abbrev pub chooses : Tuned → List ℕ → Bool
 chooses t slot = has_choice Any t.lines t.selection (older t.memory) (packet_of slot)
 
--- one slot, with the next choice of the script where there is one to make
+-- one slot, with the next choice of the script if there is one to make
 abbrev pub script_step : Script → List ℕ → Script
 script_step s slot =
     let has = chooses s.tuned slot in

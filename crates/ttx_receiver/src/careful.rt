@@ -1,4 +1,4 @@
-//! A receiver that takes all of its choices.
+//! A receiver that takes every choice.
 
 ghost use Rattle.std.specs.Prelude.{◌≡◌, MatchOption, replicate, true};
 ghost use Rattle.ttx_page.specs.Receivers.{Step};
@@ -11,7 +11,7 @@ use crate::tuned::Tuned;
 use std::marker::Model;
 use ttx_page::{Class, PageMemory, Selection};
 
-/// A receiver that erases where it may, ends storing where it may, and misses each packet that it may.
+/// A receiver of class any that erases where it may, ends storing where it may, and misses every packet that it may miss.
 #[derive(Drop)]
 pub struct Careful {
     tuned: Tuned,
@@ -26,7 +26,7 @@ impl Model for Careful {
 }
 
 impl Careful {
-    /// A receiver set to the selection, with `lines` slots in a field, that holds the memory.
+    /// A receiver set to `selection`, with `lines` slots in a field, that holds `memory`.
     pub fn new(selection: Selection, lines: u8, memory: PageMemory) -> Careful
         ensures { result ≡ tuned_at selection lines (memory_of memory) }
     {

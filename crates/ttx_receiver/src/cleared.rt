@@ -1,4 +1,4 @@
-//! A receiver that surely clears the page when it is set to it.
+//! A receiver that surely clears the page.
 
 ghost use Rattle.std.specs.Prelude.{◌≡◌, MatchOption, replicate, false};
 ghost use Rattle.ttx_page.specs.Receivers.{Step};
@@ -11,7 +11,7 @@ use crate::tuned::Tuned;
 use std::marker::Model;
 use ttx_page::{Class, PageMemory, Selection};
 
-/// A receiver that erases at the first header of its page, and takes no other choice.
+/// A receiver of class clearing: it erases at the first header of its page, and takes no choice.
 #[derive(Drop)]
 pub struct Cleared {
     tuned: Tuned,
@@ -26,7 +26,7 @@ impl Model for Cleared {
 }
 
 impl Cleared {
-    /// A receiver set to the selection, with `lines` slots in a field, that holds the memory.
+    /// A receiver set to `selection`, with `lines` slots in a field, that holds `memory`.
     pub fn new(selection: Selection, lines: u8, memory: PageMemory) -> Cleared
         ensures { result ≡ tuned_at selection lines (memory_of memory) }
     {

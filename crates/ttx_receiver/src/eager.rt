@@ -1,4 +1,4 @@
-//! A receiver that takes none of its choices.
+//! A receiver that takes no choice.
 
 ghost use Rattle.std.specs.Prelude.{◌≡◌, MatchOption, replicate, false};
 ghost use Rattle.ttx_page.specs.Receivers.{Step};
@@ -11,7 +11,7 @@ use crate::tuned::Tuned;
 use std::marker::Model;
 use ttx_page::{Class, PageMemory, Selection};
 
-/// A receiver that stores all that it may, never erases by choice, and goes on storing where it may end.
+/// A receiver of class any that stores all that it may, never erases by choice, and goes on storing where it may end.
 #[derive(Drop)]
 pub struct Eager {
     tuned: Tuned,
@@ -26,7 +26,7 @@ impl Model for Eager {
 }
 
 impl Eager {
-    /// A receiver set to the selection, with `lines` slots in a field, that holds the memory.
+    /// A receiver set to `selection`, with `lines` slots in a field, that holds `memory`.
     pub fn new(selection: Selection, lines: u8, memory: PageMemory) -> Eager
         ensures { result ≡ tuned_at selection lines (memory_of memory) }
     {

@@ -1,11 +1,11 @@
-//! Laws of receivers. A call costs nothing and gives the caller's proof the law.
+//! Laws of receivers. Calling one does nothing at run time; it gives the caller's proof the law.
 
 ghost use Rattle.ttx_receiver.specs.Laws.{RunHoldsItsItem};
 ghost use Rattle.ttx_receiver.specs.Starving.{StarvedStaysWrong, StarvedIsScripted};
 ghost use Rattle.ttx_receiver.specs.Staying.{ShownStaysShown};
 ghost use Rattle.ttx_receiver.specs.Touching.{StepTouches, IdleStepsTouchNothing};
 
-/// An item that comes between two slots is held from the second on.
+/// An item that comes between two slots is held from the second slot on.
 pub fn run_holds_its_item()
     ensures { RunHoldsItsItem }
 {
@@ -17,7 +17,7 @@ pub fn run_holds_its_item()
     ttx_code::laws::odd_bytes_hold_their_codes();
 }
 
-/// Where no all-sure run of an item comes, a receiver that takes all its choices never gets it right.
+/// If no sure run of an item comes, a receiver that takes every choice never gets the item right.
 pub fn starved_stays_wrong()
     ensures { StarvedStaysWrong }
 {
@@ -31,14 +31,14 @@ pub fn starved_stays_wrong()
     ttx_page::laws::runs_go_on();
 }
 
-/// What such a receiver is given and chooses, as hits and as a script.
+/// What such a receiver receives and chooses, as hits and as a script.
 pub fn starved_is_scripted()
     ensures { StarvedIsScripted }
 {
     ttx_page::laws::choices_are_choices();
 }
 
-/// A receiver that shows a page goes on showing it where nothing else is sent of it.
+/// A receiver that shows a page goes on showing it if nothing else is sent of the page.
 pub fn shown_stays_shown()
     ensures { ShownStaysShown }
 {
@@ -50,12 +50,12 @@ pub fn shown_stays_shown()
     ttx_code::laws::odd_bytes_hold_their_codes();
 }
 
-/// A permitted step changes no more of what is shown than its packet may touch.
+/// A permitted step changes no more of what is shown than its packet may change.
 pub fn step_touches()
     ensures { StepTouches }
 {}
 
-/// A permitted step after which the receiver isn't storing changes nothing of what is shown.
+/// A permitted step after which the receiver is not storing changes nothing of what is shown.
 pub fn idle_steps_touch_nothing()
     ensures { IdleStepsTouchNothing }
 {}

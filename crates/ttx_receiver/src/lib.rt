@@ -1,4 +1,4 @@
-//! Receivers: what a permitted receiver does with the slots that it is given, and the law that what is sent is held.
+//! Receivers: what permitted receivers do with the slots they are given, and the law that what is sent is held.
 #![tactic(auto)]
 
 mod careful;

@@ -1,4 +1,4 @@
-//! What a receiver reads in a slot.
+//! The packets that a receiver uses.
 
 ghost use Rattle.ttx_page.specs.Packets.{packet_of};
 ghost use Rattle.ttx_receiver.specs.Reading.{LendsPacket};
@@ -6,8 +6,8 @@ ghost use Rattle.ttx_receiver.specs.Reading.{LendsPacket};
 use ttx_packet::place::Address;
 use ttx_packet::slots::{Slot, slot_of};
 
-/// What a receiver reads in a slot: a page header and an X/27/0, with all the slot's bytes; a row, with its characters; or nothing
-/// that could change what it holds.
+/// What a receiver reads in a slot: a page header or an X/27/0, with all 42 bytes; a row, with its 40 characters; or nothing that
+/// could change what it holds.
 #[derive(Clone, Copy)]
 pub(crate) enum Packet<'a> {
     Header(&'a [u8; 42]),
@@ -16,7 +16,7 @@ pub(crate) enum Packet<'a> {
     Nothing,
 }
 
-/// What a receiver reads in a slot.
+/// Reads a slot.
 #[tactic(auto, unfolding(ttx_page::specs::Packets::packet_of))]
 pub(crate) fn packet_in<'a>(slot: &'a [u8; 42]) -> Packet<'a>
     ensures { LendsPacket result (packet_of slot.now) }

@@ -1,4 +1,4 @@
-//! The law of receivers.
+//! The trait of receivers, and their law.
 
 ghost use Rattle.std.specs.Prelude.{◌≡◌, ℕ, List, MatchOption, replicate};
 ghost use Rattle.ttx_page.specs.Memories.{Memory};
@@ -9,8 +9,8 @@ ghost use Rattle.ttx_page.specs.declared.selection.Selection.{Selection as Selec
 
 use ttx_page::{Class, PageMemory, Selection};
 
-/// Whatever receives a page. Each step is one that a receiver of its class may make for its selection and lines, which it
-/// leaves as they are. `next` is what a slot makes of the receiver.
+/// A receiver of one page. Each step is one that a receiver of its class may make for its selection and lines, and leaves
+/// these unchanged. `next` is the receiver after a slot.
 pub trait Receiver {
     ghost held: { Self → Memory };
 
@@ -22,23 +22,23 @@ pub trait Receiver {
 
     ghost next: { Self → List ℕ → Self };
 
-    /// What the receiver is set to.
+    /// The page or subpage that the receiver is set to.
     fn selection(&self) -> Selection
         ensures { result ≡ tuned self.now };
 
-    /// The number of slots in a field: a packet may be missed so many slots after its header.
+    /// The slots in a field. A row or X/27/0 may be missed up to this many slots after its header.
     fn lines(&self) -> u8
         ensures { result ≡ field self.now };
 
-    /// Whether the receiver surely clears the page when it is set to it.
+    /// The class of the receiver: whether it surely clears the page when it is set to it.
     fn class(&self) -> Class
         ensures { result ≡ kind self.now };
 
-    /// What the receiver holds.
+    /// The memory of the receiver.
     fn memory(&self) -> &PageMemory
         ensures { memory_of result.now ≡ held self.now };
 
-    /// Takes one slot. `None` is an empty slot.
+    /// Takes one slot of 42 bytes. `None` is an empty slot.
     fn step(&mut self, slot: Option<&[u8; 42]>)
         ensures value { MatchOption slot.entry (self.new ≡ next self.old (replicate 42 0)) (λ s. self.new ≡ next self.old s.now) }
         ensures step { MatchOption slot.entry

@@ -12,8 +12,8 @@ use crate::tuned::Tuned;
 use std::marker::Model;
 use ttx_page::{Class, PageMemory, Selection};
 
-/// A receiver that takes one bit of a script at each slot where it has a choice (true takes the choice), and after the
-/// script's end none.
+/// A receiver of class any that takes one bit of a script at each slot where it has a choice. True takes the choice; after the
+/// end of the script no choice is taken.
 #[derive(Drop)]
 pub struct Scripted<'a> {
     tuned: Tuned,
@@ -28,7 +28,7 @@ impl<'a> Model for Scripted<'a> {
     ghost view = { λ r. script_at r.tuned r.choices.now };
 }
 
-// The next choice of a script, where there is one to make.
+// The next choice of a script, if there is one to make.
 fn next_of(choices: &[bool], has: bool) -> bool
     ensures { result ≡ next_choice has choices.now }
 {
@@ -49,8 +49,8 @@ fn later_of<'a>(choices: &'a [bool], has: bool) -> &'a [bool]
 }
 
 impl<'a> Scripted<'a> {
-    /// A receiver set to the selection, with `lines` slots in a field, that holds the memory and takes its choices from
-    /// the script.
+    /// A receiver set to `selection`, with `lines` slots in a field, that holds `memory` and takes its choices from the script
+    /// `choices`.
     pub fn new(
         selection: Selection,
         lines: u8,
@@ -65,7 +65,7 @@ impl<'a> Scripted<'a> {
         }
     }
 
-    // One slot.
+    // Takes one slot.
     fn take(&mut self, bytes: &[u8; 42])
         ensures { self.new ≡ script_step self.old bytes.now }
     {

@@ -1,5 +1,5 @@
-//! One slot for a receiver that takes all its choices and is starved of an item: what it can miss it misses, and where it would
-//! take the item's first character, that is received with a wrong bit.
+//! One step of a receiver that takes every choice and is starved of an item: it misses what it may miss, and where it would take the
+//! item's first character, that character is received with a wrong bit.
 
 ghost use Rattle.std.specs.Prelude.{◌≡◌, ◌≤◌, ◌<◌, ◌==◌, ◌&&◌, true, if◌then◌else◌};
 ghost use Rattle.ttx_header.specs.Headers.{is_header, id_of};
@@ -19,7 +19,7 @@ use ttx_header::read_header;
 use ttx_packet::place::Address;
 use ttx_page::{Class, Item, PageMemory, Selection};
 
-// Whether a receiver can't miss the next packet.
+// Whether a receiver cannot miss the next packet.
 fn is_bound_next(memory: &PageMemory, lines: u8) -> bool
     requires { lines ≤ 32 }
     ensures { result ≡ is_bound lines (older (memory_of memory.now)) }
@@ -50,7 +50,7 @@ fn takes_head(selection: &Selection, slot: &[u8; 42]) -> bool
     }
 }
 
-// Whether it takes a row from a row of a magazine and number.
+// Whether it takes row `row` from a row with this address.
 fn takes_row_at(memory: &PageMemory, lines: u8, selection: &Selection, row: u8, at: Address) -> bool
     requires { lines ≤ 32 }
     ensures { result ≡ (((at.mag == selected_mag selection.now) && (at.number == row)) && is_bound lines (older (memory_of memory.now))) }
@@ -58,7 +58,7 @@ fn takes_row_at(memory: &PageMemory, lines: u8, selection: &Selection, row: u8, 
     at.mag == magazine_of(selection) && at.number == row && is_bound_next(memory, lines)
 }
 
-// Whether it takes a row from the next slot.
+// Whether it takes row `row` from the next slot.
 fn takes_row(
     memory: &PageMemory,
     lines: u8,
@@ -89,7 +89,7 @@ fn hits(memory: &PageMemory, lines: u8, selection: &Selection, item: &Item, slot
     }
 }
 
-/// The byte of an item's first character, and 0 for the links.
+/// The byte in the slot of an item's first character; 0 for the links.
 pub fn first_byte_of(item: &Item) -> u8
     ensures value { result ≡ first_byte item.now }
     ensures low { result < 42 }
@@ -101,7 +101,7 @@ pub fn first_byte_of(item: &Item) -> u8
     }
 }
 
-// A slot, with the lowest bit of a byte wrong where it is hit.
+// A slot; if it is hit, with the lowest bit of one byte wrong.
 fn spoil(slot: &[u8; 42], hit: bool, byte: usize) -> [u8; 42]
     requires { byte < 42 }
     ensures { result ≡ (if hit then spoilt slot.now byte else slot.now) }
@@ -113,8 +113,8 @@ fn spoil(slot: &[u8; 42], hit: bool, byte: usize) -> [u8; 42]
     bytes
 }
 
-/// One slot for a receiver that takes all its choices and is starved of the item: whether it is received with a wrong bit, and
-/// whether there was a choice.
+/// Takes one slot with a receiver that takes every choice and is starved of the item. Returns whether the slot is received with
+/// a wrong bit, and whether there was a choice.
 pub fn starve(
     memory: &mut PageMemory,
     lines: u8,

@@ -1,4 +1,4 @@
-//! What one slot does to a memory, by the receiver's choice.
+//! What a slot does to a memory, by the receiver's choice.
 
 ghost use Rattle.std.specs.Prelude.{◌≡◌, ◌≤◌, ◌++◌, ℕ, Bool, IsTrue, drop, slice_index, true, ◌==◌, ◌&&◌, nat_le};
 ghost use Rattle.ttx_code.specs.Words.{reading};
@@ -23,7 +23,7 @@ use ttx_links::read_links;
 use ttx_packet::place::Address;
 use ttx_page::{Class, PageMemory, Selection};
 
-// A slot in which nothing was sent.
+// The slot in which nothing is sent.
 pub(crate) const EMPTY: [u8; 42] = [0; 42];
 
 /// The magazine that a receiver listens to.
@@ -36,14 +36,14 @@ pub(crate) fn magazine_of(selection: &Selection) -> u8
     }
 }
 
-// The magazine in the number of byte 0.
+// The magazine, from the number in byte 0.
 fn magazine_in(low: u8) -> u8
     ensures { result ≡ magazine low }
 {
     if low % 8 == 0 { 8 } else { low % 8 }
 }
 
-// Whether the address names the magazine.
+// Whether the address is of this magazine.
 fn is_of(slot: &[u8; 42], mag: u8) -> bool
     ensures { result ≡ names_magazine mag (reading (slice_index slot.now 0)) }
 {
@@ -53,15 +53,15 @@ fn is_of(slot: &[u8; 42], mag: u8) -> bool
     }
 }
 
-// Whether the address names packet 0.
+// Whether the address is that of packet 0.
 fn is_packet_0(slot: &[u8; 42]) -> bool
     ensures { result ≡ names_packet_0 (reading (slice_index slot.now 0)) (reading (slice_index slot.now 1)) }
 {
     matches!(unham(slot[1]), Some(0)) && matches!(unham(slot[0]), Some(0..=7))
 }
 
-/// Whether the address alone says that the slot changes nothing of a memory that is storing, or isn't: the packet is no page
-/// header, and it is of another magazine or nothing is stored.
+/// Whether the address alone shows that the slot does not change the memory: the packet is not a page header, and it is of another
+/// magazine or the memory is not storing.
 pub(crate) fn is_passed(slot: &[u8; 42], selection: &Selection, storing: bool) -> bool
     ensures { IsTrue result → (class : ClassValue) (lines : ℕ) (choice : Bool) (m : Memory) → m.storing ≡ storing →
         m ≡ after class lines selection.now choice m (packet_of slot.now) }
@@ -104,7 +104,7 @@ impl Tuning {
         }
     }
 
-    // A page header, by its bytes.
+    // Takes a page header, given its bytes.
     fn take_header_bytes(&self, memory: &mut PageMemory, choice: bool, bytes: &[u8; 42])
         requires { is_header bytes.now ≡ true }
         ensures { memory_of memory.new ≡ tuned_after self.now choice (memory_of memory.old)
@@ -127,7 +127,7 @@ impl Tuning {
         }
     }
 
-    // An X/27/0, by its bytes.
+    // Takes an X/27/0, given its bytes.
     fn take_links(&self, memory: &mut PageMemory, choice: bool, at: Address, bytes: &[u8; 42])
         ensures { memory_of memory.new ≡ tuned_after self.now choice (memory_of memory.old) (LinksPacket at.mag (links_of at.mag bytes.now)) }
     {
@@ -141,7 +141,7 @@ impl Tuning {
         }
     }
 
-    /// One slot, the memory's age grown already: what it does by the receiver's choice.
+    /// Takes one slot by the receiver's choice. The age of the memory has already grown.
     #[inline(never)]
     pub(crate) fn take_slot(&self, memory: &mut PageMemory, choice: bool, slot: &[u8; 42])
         ensures { memory_of memory.new ≡ tuned_after self.now choice (memory_of memory.old) (packet_of slot.now) }
@@ -155,7 +155,7 @@ impl Tuning {
     }
 }
 
-// Whether a header leaves a choice: to erase, or to end storing.
+// Whether a header gives a choice: to erase, or to end storing.
 fn chooses_at_header(
     memory: &PageMemory,
     lines: u8,
@@ -181,14 +181,14 @@ fn chooses_at_header(
     }
 }
 
-// Whether a row or an X/27/0 of a magazine may be missed.
+// Whether a row or an X/27/0 of magazine `mag` may be missed.
 fn chooses_at_packet(memory: &PageMemory, lines: u8, selection: &Selection, mag: u8) -> bool
     ensures { result ≡ ((mag == selected_mag selection.now) && (memory_of memory.now).storing && nat_le (memory_of memory.now).age lines) }
 {
     mag == magazine_of(selection) && memory.storing() && memory.age() <= lines
 }
 
-/// Whether a receiver of class any has a choice at a slot, the memory's age grown already.
+/// Whether a receiver of class any has a choice at a slot. The age of the memory has already grown.
 pub(crate) fn chooses(
     memory: &PageMemory,
     lines: u8,

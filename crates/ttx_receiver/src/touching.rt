@@ -27,7 +27,7 @@ pub(crate) struct Touched {
     pub(crate) end: usize,
 }
 
-/// Nothing.
+/// Nothing has changed.
 pub(crate) const UNTOUCHED: Touched = Touched {
     everything: false,
     begin: 25,
@@ -45,7 +45,7 @@ fn if_matched(selection: &Selection, bytes: &[u8; 42]) -> Touch
     Touch::Nothing
 }
 
-// What a row or an X/27/0 of a magazine may change.
+// What a row or an X/27/0 of magazine `mag` may change.
 fn if_stored(selection: &Selection, storing: bool, mag: u8, touch: Touch) -> Touch
     ensures { result ≡ (if (mag == selected_mag selection.now) && storing then touch else Touch.Nothing) }
 {
@@ -56,7 +56,7 @@ fn if_stored(selection: &Selection, storing: bool, mag: u8, touch: Touch) -> Tou
     }
 }
 
-/// What a slot may change of what a receiver shows that is set to the selection and is storing, or isn't.
+/// What a slot may change of what a receiver shows. The receiver is set to `selection`, and is storing or not.
 pub fn touch_of(selection: &Selection, storing: bool, slot: &[u8; 42]) -> Touch
     ensures value { result ≡ touch_of selection.now storing (packet_of slot.now) }
     ensures row { IsRowBelow 25 result }
@@ -70,7 +70,7 @@ pub fn touch_of(selection: &Selection, storing: bool, slot: &[u8; 42]) -> Touch
 }
 
 impl Touched {
-    /// Adds what a slot touches.
+    /// Adds what a slot may change.
     pub(crate) fn add(&mut self, touch: Touch)
         requires { IsRowBelow 25 touch }
         ensures { self.new ≡ with_touch self.old touch }

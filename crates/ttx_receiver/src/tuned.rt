@@ -1,4 +1,4 @@
-//! The receiver that is in each receiver of the program, whatever it chooses.
+//! The receiver inside each receiver of the program, whatever its choices are.
 
 ghost use Rattle.std.specs.Prelude.{◌≡◌, MatchOption, replicate};
 ghost use Rattle.ttx_page.specs.Packets.{packet_of};
@@ -12,7 +12,7 @@ use crate::tuning::Tuning;
 use std::marker::Model;
 use ttx_page::{Class, PageMemory, Selection};
 
-/// A receiver's selection, the number of slots in a field, and what the receiver holds.
+/// A receiver: its selection, the slots in a field, and its memory.
 #[derive(Drop)]
 pub(crate) struct Tuned {
     selection: Selection,
@@ -58,21 +58,21 @@ impl Tuned {
         &self.memory
     }
 
-    /// One slot more: the age grows.
+    /// One more slot: the age grows.
     pub(crate) fn grow_older(&mut self)
         ensures { self.new ≡ tuned_at self.old.selection self.old.lines (older self.old.memory) }
     {
         self.memory.grow_older();
     }
 
-    /// Whether a receiver of class any has a choice at a slot, the age grown already.
+    /// Whether a receiver of class any has a choice at a slot. The age has already grown.
     pub(crate) fn chooses(&self, slot: &[u8; 42]) -> bool
         ensures { result ≡ has_choice Any self.now.lines self.now.selection self.now.memory (packet_of slot.now) }
     {
         chooses(&self.memory, self.lines, &self.selection, slot)
     }
 
-    /// Takes a slot by the receiver's choice, the age grown already. Most slots are passed over by their address.
+    /// Takes a slot by the receiver's choice. The age has already grown. Most slots are passed over by their address.
     pub(crate) fn take(&mut self, class: Class, choice: bool, slot: &[u8; 42])
         ensures { self.new ≡ tuned_at self.old.selection self.old.lines
             (after class self.old.lines self.old.selection choice self.old.memory (packet_of slot.now)) }

@@ -2,7 +2,7 @@
 
 use ttx_page::{Class, Selection};
 
-/// What a receiver is set to: its class, the number of slots in a field, and its selection.
+/// What a receiver is set to: its class, the slots in a field, and its selection.
 #[derive(Clone, Copy)]
 pub(crate) struct Tuning {
     pub(crate) class: Class,

@@ -1,4 +1,4 @@
-//! A receiver that is watched: its View follows what it holds.
+//! A receiver with a View that follows what it holds.
 
 ghost use Rattle.std.specs.Prelude.{◌≡◌, MatchOption, replicate};
 ghost use Rattle.std.specs.Borrow.{sem};
@@ -16,8 +16,9 @@ use std::marker::Model;
 use ttx_page::{Class, PageMemory, Selection};
 use ttx_render::{Cache, View};
 
-/// A receiver with the View of what it holds. A step notes what its packet may change, and `view` renders that alone. A packet is
-/// read for it only where the receiver is storing after the step, since else nothing has changed, and not everything is noted yet.
+/// A receiver with the View of what it holds. A step notes what its packet may change, and `view` renders only that. The packet
+/// is read for this only if the receiver is storing after the step, since otherwise nothing has changed, and if not everything is
+/// noted yet.
 #[derive(Drop)]
 pub struct Watched<R: Receiver> {
     receiver: R,
@@ -45,7 +46,7 @@ fn bytes_of<'a>(slot: Option<&'a [u8; 42]>) -> &'a [u8; 42]
     }
 }
 
-// Makes the memory that is kept show what the other one shows, where they differ in what was touched alone.
+// Updates the copy in `cache` so that it shows what `memory` shows. They differ only in what was noted.
 fn follow(cache: &mut Cache, memory: &PageMemory, touched: &Touched)
     requires { IsBehind touched.now cache.old (memory_of memory.now) }
     ensures { AreAlikeBut 0 0 cache.new (memory_of memory.now) }
@@ -72,7 +73,7 @@ impl<R: Receiver> Watched<R> {
         }
     }
 
-    /// The View of what the receiver holds, which stays as it is.
+    /// The View of what the receiver holds. The receiver itself is unchanged.
     pub fn view(&mut self) -> &View
         ensures value { result.now ≡ view_of (R.held self.old) }
         ensures* after_borrow { sem 𝓛 (Rests (the_row R.row R.Receiver) self.entry (λ new. new ≡ self.old)) }

@@ -11,7 +11,7 @@ use Rattle.ttx_render.specs.Columns.{value_from, attributes_left, attributes_in,
 use Rattle.ttx_render.specs.Mosaics.{held_at}
 use Rattle.ttx_render.specs.Spacing.{Effect, Leaves, SetAt, SetAfter}
 
--- what a column leaves of one attribute: from its own column or from the next, it is set
+-- the value of one attribute that a column leaves, whether it is set from this column or from the next
 pub value_from-at : {A : Type 0} (acts : Effect A) (before : A) → value_from acts (value_at acts before) ≡ value_after acts before
 value_from-at Leaves before = refl
 value_from-at (SetAt value) before = refl

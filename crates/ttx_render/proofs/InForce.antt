@@ -1,4 +1,4 @@
--- The value in force is that of the last code that sets it.
+-- The value in force comes from the last code that sets it.
 use Rattle.std.proofs.Common.{◌≡◌, ℕ, zero, suc, ◌<◌, ◌≤◌, refl, arith, inl, inr, ◌⊎◌, below_more, subst}
 use Rattle.ttx_render.specs.Attributes.{value_left, value_after, ActsAt, IsInForce, value_at, value_in_force}
 use Rattle.ttx_render.specs.Laws.{AttributesAreInForce}
@@ -8,7 +8,7 @@ use Rattle.ttx_render.specs.Spacing.{Effect, SetAt, SetAfter, Leaves}
 abbrev Sets : {A : Type 0} → (ℕ → Effect A) → ℕ → A → Type 0
 Sets acts d value = (acts d ≡ SetAt value) ⊎ (acts d ≡ SetAfter value)
 
--- the last of the columns before n that sets it, or none does
+-- the last column before n that sets the attribute, or none does
 abbrev LastBefore : {A : Type 0} → (ℕ → Effect A) → A → ℕ → A → Type 0
 LastBefore acts start n value =
     ((d : ℕ) × (d < n) × Sets acts d value × ((e : ℕ) → d < e → e < n → acts e ≡ Leaves))
@@ -33,7 +33,7 @@ module _ {A : Type 0} (acts : ℕ → Effect A) (start : A) where
   last-left_at zero = inr (refl, λ e l. absurd (omega arith))
   last-left_at (suc d) = step d (acts d) refl (last-left_at d)
 
-  -- a column that leaves it, or sets it only from the next, doesn't set it at c
+  -- a column that leaves the attribute, or sets it only from the next column on, does not set it at c
   none-sets : (c e : ℕ) (other : A) → (e < c → acts e ≡ Leaves) → ((value : A) → acts c ≡ SetAt value → ⊥) → ¬ ActsAt acts c e other
   none-sets c e other before here (inl (at, l)) =
       elim (split e c l) [

@@ -1,4 +1,4 @@
--- Letters in views.
+-- Letters in Views.
 use Rattle.std.proofs.Common.{◌≡◌, ℕ, zero, suc, ◌+◌, ◌-◌, ◌<◌, ◌≤◌, List, [], drop, replicate, get_or, refl, ap, sym, ◌∙◌, arith, get_or-drop}
 use Rattle.std.proofs.lemmas.List.{get_or-append_right}
 use Rattle.ttx_charset.specs.Laws.{LettersStandAlone}

@@ -1,4 +1,4 @@
--- A cell shows a letter exactly where its code is that letter's.
+-- A cell shows a letter if and only if its code is that of the letter.
 use Rattle.std.proofs.Common.{◌≡◌, ℕ, zero, suc, ◌<◌, Bool, true, false, ◌&&◌, if◌then◌else◌, nat_lt, List, refl, sym, arith, inl, inr, subst}
 use Rattle.ttx_charset.specs.Glyphs.{glyph}
 use Rattle.ttx_charset.specs.Laws.{ShowsOnly, LettersStandAlone}
@@ -15,7 +15,7 @@ only-of : LettersStandAlone → (letter : ℕ) → IsLetter letter → ShowsOnly
 only-of alone letter (inl a) = subst ShowsOnly (sym a) alone.0
 only-of alone letter (inr b) = subst ShowsOnly (sym b) alone.1
 
--- ---- held mosaics are no letters
+---- held mosaics are not letters
 
 by_if : {A : Type 0} (b : Bool) (x y g : Glyph) → (x ≡ g → A) → (y ≡ g → A) → (if b then x else y) ≡ g → A
 by_if true x y g f h e = f e
@@ -37,7 +37,7 @@ held-letter tall row letter (suc d) e =
 char-letter : (a b : ℕ) → Char a ≡ Char b → a ≡ b
 char-letter a b e = cc
 
--- where it is a letter's, the code is that letter
+-- if the glyph is a letter, the code is that letter
 pub glyph_of-letter : LettersStandAlone → (now : Attributes) (g : Glyph) (option code letter : ℕ) → IsLetter letter → option < 8 → code < 128 →
     (g ≡ Char letter → letter ≡ 0x20) → glyph_of now g option code ≡ Char letter → code ≡ letter
 glyph_of-letter alone now g option code letter is o l no_letter e =

@@ -1,4 +1,4 @@
--- Cells look back: a column's cell is fixed by the codes up to it.
+-- The cell of a column depends only on the codes up to that column.
 use Rattle.std.proofs.Common.{◌≡◌, ℕ, zero, suc, ◌+◌, ◌<◌, Bool, true, false, ◌==◌, List, refl, ap, get_or, arith, sym, ◌∙◌}
 use Rattle.ttx_render.specs.declared.spacing.Spacing.{Spacing}
 use Rattle.ttx_render.specs.declared.spacing.Spacing.TheVariants.{EndBox, StartBox, NormalHeight, DoubleHeight}
@@ -12,7 +12,7 @@ use Rattle.ttx_render.specs.Mosaics.{held_at}
 use Rattle.ttx_render.specs.Spacing.{spacing_in, spacing_of}
 use Rattle.ttx_render.proofs.Columns.{attributes_in-left, attributes_after-at, held_in-left, held_after-at}
 
--- a box code acts from the next column on, so its own column needn't know whether it counts
+-- a box code acts from the next column on, so its own column does not depend on whether it counts
 pub at_of-box : (tall b c : Bool) (s : Spacing) (a : Attributes) → attributes_in (spacing_in tall b s) a ≡ attributes_in (spacing_in tall c s) a
 at_of-box tall true true s a = refl
 at_of-box tall false false s a = refl

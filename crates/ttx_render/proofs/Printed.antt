@@ -33,7 +33,7 @@ is_right option code = nat_lt code 0x20 || not (is_control (glyph option code))
 abbrev are_right : ℕ → Bool
 are_right option = agree_below (is_right option) (λ _. true) 128
 
--- what is said of all codes of all options
+-- computed for all codes under all options
 all_right : agree_below are_right (λ _. true) 8 ≡ true
 unfolding glyph national_set
 all_right = refl

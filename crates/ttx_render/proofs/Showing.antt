@@ -1,4 +1,4 @@
--- A memory that holds what a page needs has the page's view.
+-- A memory that holds what a page needs has the page's View.
 use Rattle.std.proofs.Common.{◌≡◌, ℕ, zero, suc, ◌-◌, ◌<◌, ◌≤◌, Bool, true, false, not, ◌==◌, List, [], ◌++◌, length, map, drop, replicate, get_or}
 use Rattle.std.proofs.Common.{refl, ap, sym, ◌∙◌, arith, nat_le, get_or-drop}
 use Rattle.std.proofs.Math.ListN.{get_or-append}
@@ -18,10 +18,10 @@ use Rattle.ttx_render.proofs.Prefix.{cell_at-same}
 use Rattle.ttx_render.proofs.ShownRows.{and-left, step-shut, is_shown-suc, codes_of-shown, codes_of-not_shown, tall-not24, shown-bool, codes_of-head}
 use Rattle.ttx_render.proofs.ShownRows.{front-same, at_most, needed-bool, page_row-suc, is_hidden-same}
 
--- ---- rows of a page that are shown and that no row hides
+---- rows of a page that are shown and not hidden
 
 module _ (p : Page) where
-  -- where rows are shown, those that the displayed codes hide are those that the page's rows hide
+  -- where rows are shown, the rows hidden by the displayed codes are those hidden by the page's own rows
   open-row : (k : ℕ) → not (c10 p.control) ≡ true → is_tall k ≡ true → codes_of (memory_of_page p) k ≡ page_row p k
   open-row zero o t = cc
   open-row (suc d) o t = codes_of-shown (memory_of_page p) d
@@ -30,7 +30,7 @@ module _ (p : Page) where
   pub hidden-same : (n : ℕ) → not (c10 p.control) ≡ true → is_below (memory_of_page p) n ≡ is_hidden (page_row p) n
   hidden-same n o = is_hidden-same (codes_of (memory_of_page p)) (page_row p) n (λ k t. open-row k o t)
 
-  -- a row of the page that is shown and isn't hidden is needed
+  -- a row of the page that is shown and not hidden is needed
   pub row-needed : (d : ℕ) → d < 24 → is_shown (memory_of_page p) (suc d) ≡ true → is_below (memory_of_page p) (suc d) ≡ false →
       needed p (TheRow (suc d)) ≡ true
   row-needed d l shown e =
@@ -39,7 +39,7 @@ module _ (p : Page) where
       (at_most 1 (suc d) (omega arith)) (at_most (suc d) 24 (omega arith)) s
       (λ _. sym (hidden-same (suc d) (and-left _ _ s)) ∙ e)
 
--- ---- a memory that has the page's control bits, links and the needed rows above some row
+---- a memory that has the page's control bits, its links, and the needed rows above some row
 
 module _ (p : Page) (m : Memory) (control : m.control ≡ p.control) (links : m.links ≡ p.links) (top : ℕ) (fits : top ≤ 25)
     (rows : (k : ℕ) → k < top → needed p (TheRow k) ≡ true → memory_row m k ≡ page_row p k) where

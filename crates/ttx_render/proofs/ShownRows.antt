@@ -20,7 +20,7 @@ pub and-right : (a b : Bool) → a && b ≡ true → b ≡ true
 and-right true b e = e
 and-right false b e = cc
 
--- which rows are hidden depends on rows 1 to 22 alone
+-- which rows are hidden depends only on rows 1 to 22
 pub step-same : (t a b x y : Bool) → a ≡ b → (t ≡ true → x ≡ y) → t && not a && x ≡ t && not b && y
 step-same true a b x y e f = rw (e, f refl)
 step-same false a b x y e f = refl
@@ -31,7 +31,7 @@ is_hidden-same f g (suc k) same =
     step-same (is_tall k) (is_hidden f k) (is_hidden g k) (has_double_height (f k)) (has_double_height (g k))
     (is_hidden-same f g k same) (λ t. ap has_double_height (same k t))
 
--- a hidden row's own codes don't matter
+-- the codes of a hidden row itself do not matter
 pub step-shut : (t a b x y : Bool) → a ≡ b → (t ≡ true → b ≡ false → x ≡ y) → t && not a && x ≡ t && not b && y
 step-shut true a true x y e f = rw e
 step-shut true a false x y e f = rw (e, f refl refl)
@@ -76,7 +76,7 @@ front-same zero xs ys k h = h k (omega arith)
 front-same (suc n) xs ys zero h = refl
 front-same (suc n) xs ys (suc k) h = front-same n xs ys k (λ i e. h i (omega arith))
 
--- a row that is shown and that no row hides is needed
+-- a row that is shown and not hidden is needed
 pub needed-bool : (a le shut last s hid : Bool) → a ≡ true → le ≡ true → shut && (not last || s) ≡ true → (last ≡ false → hid ≡ false) →
     a && le && shut && (if last then s else not hid) ≡ true
 needed-bool true true true true true hid a le e h = refl

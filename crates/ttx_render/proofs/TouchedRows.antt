@@ -1,4 +1,4 @@
--- A row that is touched changes itself, and the rows below it as far as hidden rows go.
+-- Changing a row changes that row of the View, and the rows below it as far as the change of hidden rows reaches.
 use Rattle.std.proofs.Common.{◌≡◌, ℕ, zero, suc, ◌-◌, ◌<◌, ◌≤◌, Bool, true, false, Option, List, [], length, get_or, map, refl, ap, sym, ◌∙◌, arith}
 use Rattle.std.proofs.Common.{inl, inr, ◌⊎◌}
 use Rattle.ttx_header.specs.Ids.{Id}
@@ -23,7 +23,7 @@ module _ (m n : Memory) (r : ℕ) (control : m.control ≡ n.control) (others : 
   step k away e = step-same (is_tall k) (is_below m k) (is_below n k) (has_double_height (codes_of m k))
       (has_double_height (codes_of n k)) e (λ _. ap has_double_height (others k away))
 
-  -- rows down to the touched one are hidden as before
+  -- rows up to the changed one are hidden as before
   pub below-upper : (k : ℕ) → k ≤ r → is_below m k ≡ is_below n k
   below-upper zero l = refl
   below-upper (suc k) l = step k (λ e. omega arith) (below-upper k (omega arith))
@@ -33,7 +33,7 @@ module _ (m n : Memory) (r : ℕ) (control : m.control ≡ n.control) (others : 
   row-by k false e same away up = view_row-own m k (same ∙ e) ∙ own-local k away ∙ sym (view_row-own n k e)
   row-by k true e same away up = view_row-below m k (same ∙ e) ∙ ap (map lower) (own-local (k - 1) (up refl)) ∙ sym (view_row-below n k e)
 
-  -- rows above the touched one stay
+  -- rows above the changed one stay the same
   pub upper-stays : (k : ℕ) → k < r → view_row m k ≡ view_row n k
   upper-stays k l = row-by k (is_below n k) refl (below-upper k (omega arith)) (λ e. omega arith) (λ _ e. omega arith)
 
@@ -52,11 +52,11 @@ module _ (m n : Memory) (r : ℕ) (control : m.control ≡ n.control) (others : 
         let shows : is_below n k ≡ false = ap (is_below n) (sym here) ∙ now_shows in
         cc
 
-    -- and so do all rows from the first below it on that is hidden neither before nor after
+    -- so do all rows from the first one below it that is hidden neither before nor after
     pub lower-stays : (k : ℕ) → stop ≤ k → view_row m k ≡ view_row n k
     lower-stays k l = row-by k (is_below n k) refl (below-lower k l) (λ e. omega arith) (not-first k l)
 
--- ---- the same, of memories that differ in a row
+---- the same for memories that differ in one row
 
 module _ (m n : Memory) (r : ℕ) (differs : DiffersAt m n r) where
   codes-local : (k : ℕ) → (k ≡ r → ⊥) → codes_of m k ≡ codes_of n k
@@ -72,7 +72,7 @@ module _ (m n : Memory) (r : ℕ) (differs : DiffersAt m n r) where
   pub touched-lower : (stop k : ℕ) → r < stop → is_below m stop ≡ false → is_below n stop ≡ false → stop ≤ k → view_row m k ≡ view_row n k
   touched-lower stop k l e f h = lower-stays m n r differs.control codes-local stop l e f k h
 
--- ---- views as lists
+---- Views as lists
 
 pub cut : (k n : ℕ) → (k < n) ⊎ (n ≤ k)
 cut k zero = inr (omega arith)

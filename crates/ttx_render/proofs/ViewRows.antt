@@ -1,4 +1,4 @@
--- From one row of the view to the next.
+-- From one row of the View to the next.
 use Rattle.std.proofs.Common.{◌≡◌, ℕ, zero, suc, ◌+◌, ◌-◌, ◌<◌, Bool, true, false, not, ◌&&◌, List, [], ◌∷◌, ◌++◌, length, map, take, get_or, refl}
 use Rattle.std.proofs.Common.{ap, sym, ◌∙◌, arith, add-one, set}
 use Rattle.std.proofs.lemmas.List.{get_or-take, take_more_set}
@@ -44,7 +44,7 @@ module _ (m : Memory) where
   not-both true true c e = cc
   not-both false b c e = cc
 
-  -- the row above a hidden row isn't hidden, and there is one
+  -- there is a row above a hidden row, and it is not hidden
   pub above : (n : ℕ) → is_below m n ≡ true → (0 < n) × (is_below m (n - 1) ≡ false)
   above zero e = cc
   above (suc d) e = (
@@ -53,7 +53,7 @@ module _ (m : Memory) where
         in rw i (not-both (is_tall d) (is_below m d) (has_double_height (codes_of m d)) e),
   )
 
-  -- so a hidden row is made of the row above it
+  -- so a hidden row is made from the row above it
   pub view_row-lower : (n : ℕ) → is_below m n ≡ true → view_row m n ≡ map lower (view_row m (n - 1))
   view_row-lower n e = view_row-below n e ∙ ap (map lower) (sym (view_row-own (n - 1) (above n e).1))
 
@@ -71,7 +71,7 @@ module _ (m : Memory) where
   pub is_below-own : (n : ℕ) → is_below m n ≡ false → is_below m (n + 1) ≡ is_tall n && has_double_height (codes_of m n)
   is_below-own n e = ap (is_below m) (add-one n) ∙ and-own (is_tall n) (is_below m n) (has_double_height (codes_of m n)) e
 
-  -- the row above in what has been made
+  -- the row above, among the rows made so far
   pub made : (rows : List (List Cell)) (n : ℕ) → take n rows ≡ rows_to m n → 0 < n → get_or rows (n - 1) [] ≡ view_row m (n - 1)
   made rows n e l =
       let low : n - 1 < n = omega arith in
@@ -89,7 +89,7 @@ module _ (m : Memory) where
 
 -- ---- what a View depends on
 
--- the memory with nothing but what is shown
+-- the memory reduced to what is shown
 contents_of : Memory → Memory
 contents_of m = memory_at m.rows m.control m.links false 0 false
 

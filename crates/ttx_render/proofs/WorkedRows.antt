@@ -11,7 +11,7 @@ use Rattle.ttx_render.specs.Spacing.{spacing_of}
 use Rattle.ttx_render.specs.View.{view_row, own_cells, codes_of}
 use Rattle.ttx_render.specs.CellWords.{cell_word}
 
--- a memory of these control bits, blank but for the beginning of one row
+-- a memory with these control bits, blank except for the beginning of one row
 abbrev memory_with : ℕ → ℕ → List ℕ → Memory
 memory_with control number codes =
     with_row (memory_at (replicate 25 blank_row) control no_links false 64 false) number (codes ++ replicate (40 - length codes) 0x20)
@@ -25,7 +25,7 @@ held-mosaics : row_words (memory_with 0 1 (0x11 ∷ 0x1e ∷ 0x7f ∷ 0x13 ∷ 0
 unfolding glyph national_set spacing_of colour_of view_row own_cells codes_of cells_to
 held-mosaics = refl
 
--- double height that is undone before it acts never changes the height, so the held mosaic stays
+-- double height that is undone before it acts does not change the height, so the held mosaic stays
 undone-height : row_words (memory_with 0 1 (0x11 ∷ 0x1e ∷ 0x7f ∷ 0x0d ∷ 0x0c ∷ 0x12 ∷ [])) 1
     ≡ 0x00e00020 ∷ 0x00200020 ∷ 0x0031003f ∷ 0x0031003f ∷ 0x0031003f ∷ 0x0031003f ∷ replicate 34 0x00510000
 unfolding glyph national_set spacing_of colour_of view_row own_cells codes_of cells_to

@@ -1,4 +1,4 @@
--- A letter in the place of another character of a needed item is seen.
+-- A letter in place of another character of a needed item is seen.
 use Rattle.std.proofs.Common.{◌≡◌, ℕ, zero, suc, ◌<◌, ◌≤◌, Bool, true, false, not, ◌&&◌, ◌||◌, ◌==◌, if◌then◌else◌, nat_le, refl, ap, ◌∙◌, arith, inl}
 use Rattle.std.proofs.Common.{inr}
 use Rattle.std.proofs.lemmas.Bool.{eqb-true}
@@ -14,7 +14,7 @@ use Rattle.ttx_render.proofs.ShownRows.{is_shown-suc}
 use Rattle.ttx_render.proofs.Showing.{hidden-same, is_shown-same, is_below-same}
 use Rattle.ttx_render.proofs.LetterCells.{letter_is_seen_lem}
 
--- what a needed row tells: it is shown, and not hidden
+-- a needed row is shown and not hidden
 uninhibited-from : (a le shows last s hid : Bool) → a && le && shows && (if last then s else not hid) ≡ true → shows ≡ true
 uninhibited-from true true true last s hid e = refl
 uninhibited-from true true false last s hid e = cc
@@ -57,7 +57,7 @@ module _ (p : Page) where
   needed-seen zero n = refl
   needed-seen (suc d) n = below-by d (suc d == 24) refl n
 
-  -- the needed rows above the one that isn't held
+  -- the needed rows above the one that is not held
   rows-above : (m : Memory) (number : ℕ) → ShowsBut p m (row_item number) → (k : ℕ) → k < number → needed p (TheRow k) ≡ true →
       memory_row m k ≡ page_row p k
   rows-above m zero but k l n = absurd (omega arith)

@@ -1,4 +1,4 @@
--- The attributes in force at each column of a row (EN 300 706, 12.2). Each looks back, by itself, for the last code that sets it.
+-- The attributes in force at each column of a row (EN 300 706, 12.2). Each attribute looks back for the last code that sets it.
 --
 --   ActsAt, IsInForce               the value in force at a column, as a relation
 --   value_left, value_in_force      the same as functions
@@ -6,7 +6,7 @@
 --   spacing_at                      what the code at a column sets
 --   fore_at .. hold_at              each attribute at a column
 --   attributes_at                   all of them
---   EachIsInForce                   each of these functions gives the value in force
+--   IsEachInForce                   each of these functions returns the value in force
 use Rattle.std.specs.Prelude.{◌≡◌, ◌<◌, ◌≤◌, ◌⊎◌, ℕ, zero, suc, ◌+◌, Bool, false, ◌==◌, List, slice_index}
 use Rattle.ttx_render.specs.declared.colour.Colour.{Colour}
 use Rattle.ttx_render.specs.declared.colour.Colour.TheVariants.{Black, White}
@@ -15,11 +15,11 @@ use Rattle.ttx_render.specs.declared.attributes.Attributes.{Attributes}
 use Rattle.ttx_render.specs.Spacing.{Effect, Leaves, SetAt, SetAfter, spacing_of, spacing_in, on_fore, on_back, on_flash}
 use Rattle.ttx_render.specs.Spacing.{on_boxed, on_double, on_concealed, on_mosaic, on_separated, on_hold}
 
--- the code at column d sets the attribute to this value, and acts at column c already
+-- the code at column d sets the attribute to this value, and already acts at column c
 abbrev pub ActsAt : {A : Type 0} → (ℕ → Effect A) → ℕ → ℕ → A → Type 0
 ActsAt effects c d value = ((effects d ≡ SetAt value) × (d ≤ c)) ⊎ ((effects d ≡ SetAfter value) × (d < c))
 
--- the value of the last code, in column order, that acts at column c; with none, the row's start value
+-- the value of the last code that acts at column c; without one, the start value of the row
 abbrev pub IsInForce : {A : Type 0} → (ℕ → Effect A) → A → ℕ → A → Type 0
 IsInForce {A} effects start c value =
     ((d : ℕ) × ActsAt effects c d value × ((e : ℕ) (other : A) → d < e → ¬ ActsAt effects c e other))
@@ -35,7 +35,7 @@ value_at Leaves before = before
 value_at (SetAt value) before = value
 value_at (SetAfter value) before = before
 
--- the value that the columns before c leave: looking back, the first that is set, or the start value
+-- the value that the columns before c leave: going back, the first one that is set, or the start value
 abbrev pub value_left : {A : Type 0} → (ℕ → Effect A) → A → ℕ → A
 value_left effects start zero = start
 value_left effects start (suc d) = value_after (effects d) (value_left effects start d)
@@ -58,7 +58,7 @@ start = record {
   hold = false;
 }
 
--- A row of 40 codes, and whether it can be tall. Beyond column 39 the codes read as 0, so a box code there never counts.
+-- A row of 40 codes, and whether its height codes have an effect. Beyond column 39 codes read as 0, so a box code in column 39 never counts.
 module _ (tall : Bool) (row : List ℕ) where
   abbrev pub spacing_at : ℕ → Spacing
   spacing_at c = spacing_in tall (slice_index row c == slice_index row (c + 1)) (spacing_of (slice_index row c))
@@ -104,7 +104,7 @@ module _ (tall : Bool) (row : List ℕ) where
     hold = hold_at c;
   }
 
-  -- each attribute at column c is the value in force there
+  -- each attribute at column c has the value in force there
   pub record IsEachInForce (c : ℕ) : Type 0 where
     pub fore : IsInForce (λ d. on_fore (spacing_at d)) White c (fore_at c)
     pub back : IsInForce (λ d. on_back (fore_at d) (spacing_at d)) Black c (back_at c)

@@ -10,7 +10,7 @@ use Rattle.ttx_render.specs.Colours.{colour_number}
 abbrev pub flag : Bool → ℕ
 flag b = if b then 1 else 0
 
--- a character's number in Unicode, which ends at 10FFFF; a mosaic follows above, and 40 higher where it is separated
+-- a character is its Unicode code point, at most 10FFFF; mosaics follow above that, separated ones 40 higher
 abbrev pub glyph_word : Glyph → ℕ
 glyph_word (Char code) = code
 glyph_word (Mosaic blocks separated) = 0x110000 + blocks + 0x40 * flag separated

@@ -3,7 +3,7 @@ use Rattle.std.specs.Prelude.{ℕ, [], ◌∷◌, slice_index_or}
 use Rattle.ttx_render.specs.declared.colour.Colour.{Colour}
 use Rattle.ttx_render.specs.declared.colour.Colour.TheVariants.{Black, Red, Green, Yellow, Blue, Magenta, Cyan, White}
 
--- the colour of a number 0 to 7
+-- the colour with this number, 0 to 7
 unfoldable pub colour_of : ℕ → Colour
 colour_of number = slice_index_or (Black ∷ Red ∷ Green ∷ Yellow ∷ Blue ∷ Magenta ∷ Cyan ∷ []) number White
 

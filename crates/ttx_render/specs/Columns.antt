@@ -1,7 +1,7 @@
--- What the renderer carries from column to column: the one pass over a row that computes the attributes and the held mosaic.
+-- What the renderer carries from column to column: one pass over a row computes the attributes and the held mosaic.
 --
---   attributes_in, attributes_after     a column's attributes from those left before it, and those that it leaves
---   held_in, held_after                 the same of the held mosaic
+--   attributes_in, attributes_after     the attributes at a column from those left before it, and those that the column leaves
+--   held_in, held_after                 the same for the held mosaic
 --   attributes_left, held_left          what the columns before c leave
 use Rattle.std.specs.Prelude.{ℕ, zero, suc, Bool, ◌&&◌, if◌then◌else◌, List, slice_index}
 use Rattle.ttx_render.specs.declared.spacing.Spacing.{Spacing}
@@ -14,7 +14,7 @@ use Rattle.ttx_render.specs.Spacing.{on_double, on_concealed, on_mosaic, on_sepa
 use Rattle.ttx_render.specs.Attributes.{value_at, value_left, start, spacing_at, fore_at, mosaic_at, double_at, separated_at}
 use Rattle.ttx_render.specs.Mosaics.{same, has_blocks, mosaic_of, shows_mosaic, held_at}
 
--- the value that a column leaves, from the one in force at it
+-- the value that a column leaves, from the value in force at it
 abbrev pub value_from : {A : Type 0} → Effect A → A → A
 value_from Leaves now = now
 value_from (SetAt value) now = now

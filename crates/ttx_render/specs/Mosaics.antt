@@ -2,7 +2,7 @@
 --
 --   has_blocks, mosaic_of           which codes are mosaics, and which mosaic
 --   shows_mosaic                    whether a column shows one
---   IsLatestMosaic, HasStayed       where the held mosaic of a column comes from, as relations
+--   IsLatestMosaic, HasStayed       where the held mosaic at a column comes from, as relations
 --   held_at                         the held mosaic as a function
 --   IsHeldFromLatest                this function meets the relations
 use Rattle.std.specs.Prelude.{◌≡◌, ◌<◌, ◌≤◌, ℕ, zero, suc, ◌+◌, ◌*◌, ◌/◌, ◌%◌, Bool, true, false, not, ◌&&◌, ◌==◌, if◌then◌else◌, List, slice_index}
@@ -10,7 +10,7 @@ use Rattle.ttx_render.specs.declared.cells.Glyph.{Glyph}
 use Rattle.ttx_render.specs.declared.cells.Glyph.TheVariants.{Char, Mosaic}
 use Rattle.ttx_render.specs.Attributes.{mosaic_at, double_at, separated_at}
 
--- the codes whose bit 6, of value 20, is set: 20 to 3F and 60 to 7F
+-- the codes with bit 6 (value 20) set: 20 to 3F and 60 to 7F
 abbrev pub has_blocks : ℕ → Bool
 has_blocks code = code / 32 % 2 == 1
 
@@ -30,7 +30,7 @@ module _ (tall : Bool) (row : List ℕ) where
   abbrev pub IsLatestMosaic : ℕ → ℕ → Type 0
   IsLatestMosaic d c = (d < c) × (shows_mosaic d ≡ true) × ((e : ℕ) → d < e → e < c → shows_mosaic e ≡ false)
 
-  -- mode and height stay the same at each column after d up to c
+  -- mode and height are the same at all columns from d to c
   abbrev pub HasStayed : ℕ → ℕ → Type 0
   HasStayed d c =
       (e : ℕ) → d ≤ e → e < c → (mosaic_at tall row (e + 1) ≡ mosaic_at tall row e) × (double_at tall row (e + 1) ≡ double_at tall row e)
@@ -45,7 +45,7 @@ module _ (tall : Bool) (row : List ℕ) where
   held_at (suc d) =
       if stays d then (if shows_mosaic d then mosaic_of (slice_index row d) (separated_at tall row d) else held_at d) else Char 0x20
 
-  -- It is the latest mosaic, in the form in force there, if mode and height have stayed since then; else it is a space (profile).
+  -- It is the latest mosaic, contiguous or separated as it was there, if mode and height have stayed since; otherwise a space (profile).
   pub record IsHeldFromLatest (c : ℕ) : Type 0 where
     pub stayed : (d : ℕ) → IsLatestMosaic d c → HasStayed d c → held_at c ≡ mosaic_of (slice_index row d) (separated_at tall row d)
     pub changed : (d : ℕ) → IsLatestMosaic d c → ¬ HasStayed d c → held_at c ≡ Char 0x20

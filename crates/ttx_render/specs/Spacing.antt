@@ -1,9 +1,9 @@
--- Spacing attributes (EN 300 706, 12.2): what each code 00 to 1F sets, and from which column on.
+-- Spacing attributes (EN 300 706, 12.2): what each code from 00 to 1F sets, and from which column on.
 --
---   spacing_of              what a code sets by itself
+--   spacing_of              what a code sets in itself
 --   spacing_in              what it sets in its row and before its right neighbour
---   Effect                  what it does to one attribute
---   on_fore .. on_hold      what it does to each of the nine
+--   Effect                  its effect on one attribute
+--   on_fore .. on_hold      its effect on each of the nine attributes
 use Rattle.std.specs.Prelude.{ℕ, ◌-◌, Bool, true, false, ◌&&◌, ◌==◌, if◌then◌else◌, nat_le}
 use Rattle.ttx_render.specs.Colours.{colour_of}
 use Rattle.ttx_render.specs.declared.colour.Colour.{Colour}
@@ -13,7 +13,7 @@ use Rattle.ttx_render.specs.declared.spacing.Spacing.TheVariants.{Nothing, Alpha
 use Rattle.ttx_render.specs.declared.spacing.Spacing.TheVariants.{NormalHeight, DoubleHeight, Conceal, Contiguous, Separated, BlackBackground}
 use Rattle.ttx_render.specs.declared.spacing.Spacing.TheVariants.{NewBackground, HoldMosaics, ReleaseMosaics}
 
--- what a code sets by itself; 00, 0E, 0F, 10 and 1B set nothing (profile)
+-- what a code sets in itself; 00, 0E, 0F, 10 and 1B set nothing (profile)
 unfoldable pub spacing_of : ℕ → Spacing
 spacing_of code =
     if nat_le 0x01 code && nat_le code 0x07 then AlphaColour (colour_of code)
@@ -33,8 +33,8 @@ spacing_of code =
     else if code == 0x1f then ReleaseMosaics
     else Nothing
 
--- A box code counts only where the next column holds the same code.
--- A height code counts only in the rows that can be tall: 1 to 22 (profile).
+-- A box code counts only if the next column has the same code.
+-- A height code counts only in rows 1 to 22 (profile).
 abbrev pub spacing_in : (tall paired : Bool) → Spacing → Spacing
 spacing_in tall paired StartBox = if paired then StartBox else Nothing
 spacing_in tall paired EndBox = if paired then EndBox else Nothing
@@ -42,7 +42,7 @@ spacing_in tall paired NormalHeight = if tall then NormalHeight else Nothing
 spacing_in tall paired DoubleHeight = if tall then DoubleHeight else Nothing
 spacing_in tall paired other = other
 
--- A code leaves an attribute as it is, or sets it from its own column on (Set-At) or from the next one (Set-After).
+-- A code leaves an attribute unchanged, or sets it from its own column on (Set-At) or from the next column on (Set-After).
 pub data Effect (A : Type 0) : Type 0 where
   Leaves : Effect A
   SetAt : (value : A) → Effect A
@@ -54,7 +54,7 @@ on_fore (AlphaColour fore) = SetAfter fore
 on_fore (MosaicColour fore) = SetAfter fore
 on_fore _ = Leaves
 
--- the background colour, where this foreground is in force at the code's column
+-- the background colour; `fore` is the foreground in force at the code's column
 abbrev pub on_back : Colour → Spacing → Effect Colour
 on_back fore BlackBackground = SetAt Black
 on_back fore NewBackground = SetAt fore
@@ -84,19 +84,19 @@ on_concealed (AlphaColour _) = SetAfter false
 on_concealed (MosaicColour _) = SetAfter false
 on_concealed _ = Leaves
 
--- mosaic mode; else alphanumeric mode
+-- mosaic mode; otherwise alphanumeric mode
 abbrev pub on_mosaic : Spacing → Effect Bool
 on_mosaic (AlphaColour _) = SetAfter false
 on_mosaic (MosaicColour _) = SetAfter true
 on_mosaic _ = Leaves
 
--- separated mosaics; else contiguous ones
+-- separated mosaics; otherwise contiguous ones
 abbrev pub on_separated : Spacing → Effect Bool
 on_separated Separated = SetAt true
 on_separated Contiguous = SetAt false
 on_separated _ = Leaves
 
--- hold mosaics; else release
+-- hold mosaics; otherwise release
 abbrev pub on_hold : Spacing → Effect Bool
 on_hold HoldMosaics = SetAt true
 on_hold ReleaseMosaics = SetAfter false

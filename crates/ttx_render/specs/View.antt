@@ -1,11 +1,11 @@
--- The View of a memory: 25 rows of 40 cells, with hidden rows and rows that aren't shown, and its links.
+-- The View of a memory: 25 rows of 40 cells, with rows that are hidden or not shown, and its links.
 --
 --   is_shown, codes_of      the codes that a row shows
 --   has_boxes               whether cells outside a box show the picture
---   own_cells               the cells of a row by its own codes
---   is_below, lower         rows that double height hides, and what they show
+--   own_cells               the cells of a row from its own codes
+--   is_below, lower         rows hidden below double height, and what they show
 --   view_row                a row of the View
---   Screen, view_of         what a View is, and the View of a memory
+--   Screen, view_of         the type of a View, and the View of a memory
 use Rattle.std.specs.Prelude.{ℕ, ◌-◌, Bool, not, ◌&&◌, ◌||◌, ◌==◌, if◌then◌else◌, List, [], ◌++◌, replicate, drop, map, slice_index_or}
 use Rattle.std.specs.List.{range_with_len}
 use Rattle.ttx_header.specs.Control.{c7, c10, c5, c6, option_of}
@@ -18,11 +18,11 @@ use Rattle.ttx_render.specs.declared.cells.Cell.{Cell}
 use Rattle.ttx_render.specs.declared.view.View.{View}
 use Rattle.ttx_render.specs.Cells.{cells_to}
 
--- row 0 without C7, rows 1 to 24 without C10, and row 24 only with show24
+-- row 0 without C7, rows 1 to 24 without C10, row 24 only with show24
 abbrev pub is_shown : Memory → ℕ → Bool
 is_shown m number = if number == 0 then not (c7 m.control) else not (c10 m.control) && (not (number == 24) || m.links.show24)
 
--- the codes that a row shows: spaces where it isn't shown, and in columns 0 to 7 of row 0
+-- the codes that a row shows: spaces if the row is not shown, and in columns 0 to 7 of row 0
 unfoldable pub codes_of : Memory → ℕ → List ℕ
 codes_of m number =
     let row = slice_index_or m.rows number [] in
@@ -30,7 +30,7 @@ codes_of m number =
     else if number == 0 then replicate 8 0x20 ++ drop 8 row
     else row
 
--- in a newsflash (C5) or a subtitle (C6) cells outside a box show the picture
+-- in a newsflash (C5) or a subtitle (C6), cells outside a box show the picture
 abbrev pub has_boxes : ℕ → Bool
 has_boxes control = c5 control || c6 control
 

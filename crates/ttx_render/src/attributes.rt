@@ -7,7 +7,7 @@ ghost use Rattle.ttx_render.specs.Columns.{attributes_in, attributes_after};
 use crate::colour::Colour;
 use crate::spacing::Spacing;
 
-/// The attributes in force at a column, or left by the columns before it.
+/// The attributes in force at a column, or those that the columns before it leave.
 #[derive(Clone, Copy)]
 pub struct Attributes {
     pub fore: Colour,
@@ -22,7 +22,7 @@ pub struct Attributes {
 }
 
 impl Attributes {
-    /// Those in which a row starts.
+    /// The attributes at the start of a row.
     pub fn start() -> Attributes
         ensures { result ≡ start }
     {
@@ -39,7 +39,7 @@ impl Attributes {
         }
     }
 
-    /// In force at a column that sets this, from those left before it: the Set-At codes.
+    /// The attributes in force at a column with this code, from those that the columns before it leave: applies the Set-At codes.
     #[rattlefmt::skip]
     pub fn at(self, sets: Spacing) -> Attributes
         ensures { result ≡ attributes_in sets self }
@@ -57,7 +57,7 @@ impl Attributes {
         }
     }
 
-    /// Left by a column that sets this, from those in force at it: the Set-After codes.
+    /// The attributes that a column with this code leaves, from those in force at it: applies the Set-After codes.
     #[rattlefmt::skip]
     pub fn after(self, sets: Spacing) -> Attributes
         ensures { result ≡ attributes_after sets self }

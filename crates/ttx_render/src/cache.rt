@@ -1,4 +1,4 @@
-//! A memory that is kept with its View.
+//! A copy of a memory, kept with its View.
 
 ghost use Rattle.std.specs.Prelude.{◌≡◌, ◌<◌, ◌↔◌, IsTrue};
 ghost use Rattle.ttx_page.specs.Memories.{memory_row};
@@ -13,7 +13,7 @@ use crate::view::{View, render};
 use std::marker::Model;
 use ttx_page::PageMemory;
 
-/// A memory that is kept with its View, which follows it row by row.
+/// A copy of a memory, kept with its View. When the memory changes, only the rows that differ are rendered again.
 #[derive(Drop)]
 pub struct Cache {
     memory: PageMemory,
@@ -47,7 +47,7 @@ fn are_set_alike(a: &PageMemory, b: &PageMemory) -> bool
 }
 
 impl Cache {
-    /// Keeps a copy of a memory.
+    /// Copies a memory and renders its View.
     pub fn new(memory: &PageMemory) -> Cache
         ensures { result ≡ memory_of memory.now }
     {
@@ -57,15 +57,15 @@ impl Cache {
         }
     }
 
-    /// The View of the memory that is kept.
+    /// The View of the copy.
     pub fn view(&self) -> &View
         ensures { result.now ≡ view_of self.now }
     {
         &self.view
     }
 
-    /// Replaces a row of the memory that is kept by this memory's, and renders no other row but those that double height changes;
-    /// none where the rows are the same.
+    /// Copies one row, 0 to 24, from `memory`. Renders this row and those that its double height changes; nothing if the row is the
+    /// same.
     pub fn touch(&mut self, memory: &PageMemory, row: usize)
         requires { row < 25 }
         ensures { self.new ≡ with_row self.old row (memory_row (memory_of memory.now) row) }
@@ -78,8 +78,7 @@ impl Cache {
         self.memory = kept;
     }
 
-    /// Keeps a copy of another memory in place of the one that is kept. Where control bits and links stay, no more is rendered
-    /// than the rows that differ.
+    /// Replaces the copy by another memory. If control bits and links are the same, only the rows that differ are rendered.
     pub fn touch_all(&mut self, memory: &PageMemory)
         ensures { self.new ≡ memory_of memory.now }
     {

@@ -1,4 +1,4 @@
-//! Cells as words.
+//! Cells as 32-bit words.
 
 ghost use Rattle.std.specs.Prelude.{◌≡◌, ◌<◌, ◌^◌};
 ghost use Rattle.ttx_render.specs.CellWords.{glyph_word, part_number, cell_word};
@@ -6,7 +6,7 @@ ghost use Rattle.ttx_render.specs.CellWords.{glyph_word, part_number, cell_word}
 use crate::cells::{Cell, Glyph, Part};
 use crate::colour::colour_number;
 
-// 21 bits: a character's number, or 110000 and the blocks of a mosaic.
+// 21 bits: the code point of a character, or 110000 hexadecimal plus the blocks of a mosaic.
 fn glyph_word(glyph: Glyph) -> u32
     ensures word { result ≡ glyph_word glyph }
     ensures range { result < 2 ^ 21 }
@@ -30,10 +30,10 @@ fn part_number(part: Part) -> u32
     }
 }
 
-/// A cell as a word of 32 bits.
+/// A cell as a 32-bit word.
 ///
-/// From the lowest bit: 21 bits of glyph, three of foreground, three of background, then flash, concealed and picture,
-/// and two bits of part (0 single, 1 upper, 2 lower).
+/// From the lowest bit: 21 bits of glyph, three of foreground, three of background, one each for flash, concealed and picture,
+/// and two of part (0 single, 1 upper, 2 lower).
 pub fn cell_word(cell: &Cell) -> u32
     ensures { result ≡ cell_word cell.now }
 {

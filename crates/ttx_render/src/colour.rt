@@ -3,7 +3,7 @@
 ghost use Rattle.std.specs.Prelude.{◌≡◌, ◌<◌};
 ghost use Rattle.ttx_render.specs.Colours.{colour_of, colour_number};
 
-/// The colours of Level 1, in the order of their numbers 0 to 7.
+/// The eight colours of Level 1, in the order of their numbers 0 to 7 (EN 300 706, 12.2).
 #[derive(Clone, Copy, PartialEq, Eq)]
 pub enum Colour {
     Black,
@@ -16,7 +16,7 @@ pub enum Colour {
     White,
 }
 
-// The colour of a number 0 to 7.
+// The colour with this number, 0 to 7.
 #[tactic(auto, unfolding(crate::specs::Colours::colour_of))]
 pub fn colour_of(number: u8) -> Colour
     requires { number < 8 }

@@ -1,4 +1,4 @@
-//! Views compared.
+//! Compares Views.
 
 ghost use Rattle.std.specs.Prelude.{◌≡◌, ◌<◌, ◌≤◌, ◌↔◌, ℕ, IsTrue, slice_index_or};
 ghost use Rattle.ttx_render.specs.Cells.{space_cell};
@@ -45,7 +45,7 @@ fn same_link(a: Option<Target>, b: Option<Target>) -> bool
     a == b
 }
 
-// Whether the cells of columns from .. to are equal.
+// Whether the cells of columns `from` to before `to` are equal.
 fn same_cells(a: &[Cell; 40], b: &[Cell; 40], from: usize, to: usize) -> bool
     requires { to ≤ 40 }
     ensures { IsTrue result ↔ ((c : ℕ) → from ≤ c → c < to → slice_index_or a.now c space_cell ≡ slice_index_or b.now c space_cell) }
@@ -70,7 +70,8 @@ pub(crate) fn same_links(a: &[Option<Target>; 6], b: &[Option<Target>; 6]) -> bo
     true
 }
 
-/// Whether two Views have the same links and the same cells, columns 0 to 7 and 32 to 39 of row 0 aside.
+/// Whether two Views have the same links and the same cells, except columns 0 to 7 and 32 to 39 of row 0: the receiver's own
+/// columns and the clock.
 pub fn same_but_clock(a: &View, b: &View) -> bool
     ensures { IsTrue result ↔ SameButClock a.now b.now }
 {

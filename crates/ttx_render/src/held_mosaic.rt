@@ -7,7 +7,7 @@ ghost use Rattle.ttx_render.specs.Columns.{no_held, held_in, held_after};
 use crate::attributes::Attributes;
 use crate::cells::Glyph;
 
-/// The mosaic that a column leaves, with the mode and the height in force at it.
+/// The held mosaic that a column leaves, with the mode and the height in force at that column.
 #[derive(Clone, Copy)]
 pub struct Held {
     pub glyph: Glyph,
@@ -15,7 +15,7 @@ pub struct Held {
     pub double: bool,
 }
 
-/// The mosaic of a code: bits 1 to 5 and 7 are the blocks, where bit 1 is the lowest.
+/// The mosaic of a code. Bits 1 to 5 and 7 are its blocks; bit 1 is the lowest.
 pub fn mosaic_of(code: u8, separated: bool) -> Glyph
     requires { code < 128 }
     ensures { result ≡ mosaic_of code separated }
@@ -27,7 +27,7 @@ pub fn mosaic_of(code: u8, separated: bool) -> Glyph
 }
 
 impl Held {
-    /// None, where a row starts.
+    /// At the start of a row no mosaic is held.
     pub fn none() -> Held
         ensures { result ≡ no_held }
     {
@@ -38,7 +38,7 @@ impl Held {
         }
     }
 
-    /// The held mosaic at the next column: it is lost where the mode or the height changes.
+    /// The held mosaic at the next column. It becomes a space if the mode or the height changes.
     pub fn at(self, now: Attributes) -> Glyph
         ensures { result ≡ held_in self now }
     {
@@ -49,7 +49,7 @@ impl Held {
         }
     }
 
-    /// What a column with these attributes, this code and this held mosaic leaves.
+    /// The held mosaic that a column leaves, from its attributes, its code and the mosaic held at it.
     pub fn after(now: Attributes, code: u8, held: Glyph) -> Held
         requires { code < 128 }
         ensures { result ≡ held_after now code held }

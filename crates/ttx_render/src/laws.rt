@@ -1,45 +1,45 @@
-//! Laws of the display.
+//! Laws of the display. Calling one does nothing at run time; it gives the caller's proof the law.
 
 ghost use Rattle.ttx_render.specs.Laws.{AttributesAreInForce, HeldIsFromLatest, ContentsDecide, ShowingIsSeeing};
 ghost use Rattle.ttx_render.specs.Laws.{LetterIsShown, LetterIsSeen, WrongLetterIsSeen, ViewsArePrinted};
 
 use ttx_charset::laws::letters_stand_alone;
 
-/// Each attribute at a column has the value of the last code that sets it and acts there, or the row's start value.
+/// Each attribute at a column has the value of the last code that sets it and already acts there, or the start value of the row.
 pub fn attributes_are_in_force()
     ensures { AttributesAreInForce }
 {}
 
-/// The held mosaic is that of the latest column that shows one, if mode and height have stayed since then.
+/// The held mosaic is that of the latest column that shows one, if mode and height have stayed the same since then.
 pub fn held_is_from_latest()
     ensures { HeldIsFromLatest }
 {}
 
-/// A View depends on rows, control bits and links alone.
+/// A View depends only on rows, control bits and links.
 pub fn contents_decide()
     ensures { ContentsDecide }
 {}
 
-/// A memory that has a page's control bits and needed items has the page's View, the header clock aside.
+/// A memory with a page's control bits and needed items has the page's View, the receiver's own columns and the clock aside.
 pub fn showing_is_seeing()
     ensures { ShowingIsSeeing }
 {}
 
-/// In a row that is shown and isn't hidden a cell shows an A or a B exactly where its code is that letter's.
+/// In a row that is shown and not hidden, a cell shows an A or a B if and only if its code is that of the letter.
 pub fn letter_is_shown()
     ensures { LetterIsShown }
 {
     letters_stand_alone();
 }
 
-/// Two memories have different Views where one has a letter in such a cell and the other hasn't.
+/// Two memories have different Views if one has a letter in such a cell and the other does not.
 pub fn letter_is_seen()
     ensures { LetterIsSeen }
 {
     letters_stand_alone();
 }
 
-/// Where a memory has a letter in the place of another character of a needed row, it hasn't the page's View.
+/// A memory that has one of these letters in place of another character of a needed row does not have the page's View.
 pub fn wrong_letter_is_seen()
     ensures { WrongLetterIsSeen }
 {

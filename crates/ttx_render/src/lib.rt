@@ -1,4 +1,4 @@
-//! The Level 1 display: what a viewer sees of the memory of a page.
+//! The Level 1 display: what a viewer sees of the memory of a page (EN 300 706, 12.2).
 #![tactic(auto)]
 
 mod attributes;

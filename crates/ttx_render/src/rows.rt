@@ -11,7 +11,7 @@ use crate::held_mosaic::{Held, mosaic_of};
 use crate::spacing::Spacing;
 use ttx_charset::glyph;
 
-/// How a page shows its cells: its national option, and whether cells outside a box show the picture.
+/// How a page shows its cells: its national option, 0 to 7, and whether cells outside a box show the picture.
 #[derive(Clone, Copy)]
 pub struct Style {
     pub option: u8,
@@ -52,7 +52,7 @@ fn cell_of(now: Attributes, held: Glyph, style: Style, code: u8) -> Cell
     }
 }
 
-// The right neighbour's code; 0 beyond column 39.
+// The code to the right; 0 beyond column 39.
 fn next_code(row: &[u8; 40], c: usize) -> u8
     requires { c < 40 }
     ensures { result ≡ slice_index row.now (c + 1) }
@@ -60,7 +60,7 @@ fn next_code(row: &[u8; 40], c: usize) -> u8
     if c + 1 < 40 { row[c + 1] } else { 0 }
 }
 
-/// A row of spaces.
+/// The cells of a row of spaces.
 pub fn space_cells() -> [Cell; 40]
     ensures { result ≡ replicate 40 space_cell }
 {
@@ -76,7 +76,7 @@ pub fn space_cells() -> [Cell; 40]
     [space; 40]
 }
 
-/// The cells that a row of codes shows by itself. In a tall row the height codes have an effect.
+/// The cells of a row from its own codes. Height codes have an effect only if `tall` is true (rows 1 to 22).
 pub fn row_cells(row: &[u8; 40], tall: bool, style: Style) -> [Cell; 40]
     requires { IsRow row.now }
     ensures { result ≡ cells_to tall row.now 40 style.option style.boxes }

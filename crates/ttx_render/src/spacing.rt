@@ -5,7 +5,7 @@ ghost use Rattle.ttx_render.specs.Spacing.{spacing_of, spacing_in};
 
 use crate::colour::{Colour, colour_of};
 
-/// What a code 00 to 1F sets.
+/// What a code from 00 to 1F sets.
 #[derive(Clone, Copy)]
 pub enum Spacing {
     Nothing,
@@ -27,7 +27,7 @@ pub enum Spacing {
 }
 
 impl Spacing {
-    /// What a code sets by itself.
+    /// What a code sets in itself.
     #[tactic(auto, unfolding(crate::specs::Spacing::spacing_of))]
     pub fn of(code: u8) -> Spacing
         ensures { result ≡ spacing_of code }
@@ -52,7 +52,7 @@ impl Spacing {
         }
     }
 
-    /// What it sets in a row that can be tall or not, and beside an equal code (`paired`) or not.
+    /// What it sets in its row: height codes count only if `tall` is true, box codes only if the next column has the same code (`paired`).
     pub fn within(self, tall: bool, paired: bool) -> Spacing
         ensures { result ≡ spacing_in tall paired self }
     {

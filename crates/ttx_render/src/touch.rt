@@ -1,4 +1,4 @@
-//! The rows of a View that change with one row of the memory.
+//! Updates the rows of a View after one row of the memory has changed.
 
 ghost use Rattle.std.specs.Prelude.{◌≡◌, ◌<◌, ◌+◌};
 ghost use Rattle.ttx_page.specs.Views.{memory_of};
@@ -10,7 +10,7 @@ use crate::rows::row_cells;
 use crate::view::{below, codes_of, hides_next, is_tall, style_of};
 use ttx_page::PageMemory;
 
-// Whether the next row is hidden, where it is known whether this one is.
+// Whether the next row is hidden, given whether this one is.
 #[tactic(auto, using(crate::proofs::ViewRows::is_below_known))]
 fn next_below(memory: &PageMemory, number: usize, hidden: bool) -> bool
     requires number { number < 25 }
@@ -61,7 +61,8 @@ fn view_row(memory: &PageMemory, number: usize, hidden: bool) -> [Cell; 40]
     }
 }
 
-/// Makes the old memory's View that of the new one: the row in which they differ, and those below it as far as hidden rows go.
+/// Turns the View of the old memory into that of the new one: renders the row in which they differ, and the rows below it as far
+/// as the change of hidden rows reaches.
 pub fn retouch(old: &PageMemory, new: &PageMemory, row: usize, cells: &mut [[Cell; 40]; 25])
     requires row { row < 25 }
     requires differs { DiffersAt (memory_of old.now) (memory_of new.now) row }

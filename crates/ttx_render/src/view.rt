@@ -1,4 +1,4 @@
-//! The View of a memory.
+//! Renders the View of a memory.
 
 ghost use Rattle.std.specs.Prelude.{◌≡◌, ◌<◌, ◌&&◌, ◌++◌, drop, map, replicate};
 ghost use Rattle.ttx_header.specs.Control.{option_of};
@@ -14,14 +14,14 @@ use ttx_page::PageMemory;
 
 /// What a viewer sees of a page: 25 rows of 40 cells, and six links.
 ///
-/// The rows are a parameter only because the checker doesn't follow yet how a struct is made of nested arrays and of targets.
+/// `Rows` is a parameter only because the checker cannot yet follow how a struct is made of nested arrays and of targets.
 #[derive(Clone, Copy)]
 pub struct View<Rows = [[Cell; 40]; 25]> {
     pub cells: Rows,
     pub links: [Option<Target>; 6],
 }
 
-/// How a page of these control bits shows its cells.
+/// How a page with these control bits shows its cells. Cells outside a box show the picture in a newsflash (C5) or a subtitle (C6).
 pub fn style_of(control: Control) -> Style
     ensures option { result.option ≡ option_of control.0 }
     ensures boxes { result.boxes ≡ has_boxes control.0 }
@@ -32,7 +32,7 @@ pub fn style_of(control: Control) -> Style
     }
 }
 
-/// Whether the height codes have an effect in a row.
+/// Whether height codes have an effect in this row: rows 1 to 22.
 pub fn is_tall(number: usize) -> bool
     ensures { result ≡ is_tall number }
 {
@@ -71,7 +71,7 @@ fn space_codes() -> [u8; 40]
     [b' '; 40]
 }
 
-// Row 0 from column 8 on.
+// Row 0 with spaces in columns 0 to 7.
 fn head_codes(row: &[u8; 40]) -> [u8; 40]
     requires { IsRow row.now }
     ensures codes { result ≡ replicate 8 0x20 ++ drop 8 row.now }
@@ -82,7 +82,7 @@ fn head_codes(row: &[u8; 40]) -> [u8; 40]
     codes
 }
 
-/// The codes that a row shows.
+/// The codes that row `number`, 0 to 24, shows: spaces if the row is not shown (C7, C10, or row 24 without `show24`).
 #[tactic(auto, unfolding(crate::specs::View::codes_of))]
 pub fn codes_of(memory: &PageMemory, number: usize) -> [u8; 40]
     requires { number < 25 }
@@ -98,7 +98,7 @@ pub fn codes_of(memory: &PageMemory, number: usize) -> [u8; 40]
     }
 }
 
-/// The hidden row below these cells.
+/// The cells of the hidden row below these cells: lower halves, or spaces in the same attributes.
 pub fn below(above: &[Cell; 40]) -> [Cell; 40]
     ensures { result ≡ map lower above.now }
 {
@@ -115,14 +115,14 @@ fn has_double_height(codes: &[u8; 40]) -> bool
     codes.iter().any(|code| *code == 0x0d)
 }
 
-/// Whether a row of these codes, where it isn't hidden, hides the next.
+/// Whether a row with these codes hides the next row, if it is not hidden itself.
 pub fn hides_next(codes: &[u8; 40], number: usize) -> bool
     ensures { result ≡ is_tall number && has_double_height codes.now }
 {
     is_tall(number) && has_double_height(codes)
 }
 
-// Makes the rows in place, each of its codes or of the row above that hides it. Row 0 hides none.
+// Fills the rows in place, each from its own codes or from the row above that hides it. Row 0 hides no row.
 fn fill_rows(memory: &PageMemory, cells: &mut [[Cell; 40]; 25])
     ensures { cells.new ≡ rows_to (memory_of memory.now) 25 }
 {
@@ -153,7 +153,7 @@ fn six_of(links: &[Option<Target>; 6]) -> [Option<Target>; 6]
     [links[0], links[1], links[2], links[3], links[4], links[5]]
 }
 
-/// What a viewer sees of a memory, by the display rules of Level 1.
+/// The View of a memory: what a viewer sees, by the display rules of Level 1 (EN 300 706, 12.2).
 #[inline(never)]
 pub fn render(memory: &PageMemory) -> View
     ensures { result ≡ view_of (memory_of memory.now) }

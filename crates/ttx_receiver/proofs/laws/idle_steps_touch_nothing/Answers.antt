@@ -12,7 +12,7 @@ use Rattle.ttx_receiver.specs.Touching.{AreAlikeBut}
 use Rattle.ttx_receiver.proofs.laws.idle_steps_touch_nothing.Goals as goal
 
 module _ (class : Class) (lines : ℕ) (sel : Selection) (choice : Bool) (m : Memory) where
-  -- what is shown stays where storing is over
+  -- nothing of what is shown changes if storing has ended
   IsIdle : Memory → Type 0
   IsIdle new = new.storing ≡ false → AreAlikeBut 0 0 m new
 
