@@ -1,4 +1,4 @@
--- No form of a View has a control character but line feeds, and for a terminal ESC.
+-- No form of a View has control characters except line feeds and, for terminals, ESC.
 use Rattle.std.proofs.Common.{◌≡◌, ◌∙◌, ℕ, ◌≤◌, Bool, true, false, not, ◌||◌, ◌&&◌, ◌==◌, nat_lt, if◌then◌else◌, List, [], ◌∷◌, ◌++◌, codes, fold}
 use Rattle.std.proofs.Common.{encode_utf8, Option, Some, None, refl, sym, ap, arith}
 use Rattle.std.proofs.lemmas.Bool.{eqb-true, ltb-false}
@@ -20,13 +20,13 @@ use Rattle.ttx_picture.specs.Text.{cells_text, rows_text}
 use Rattle.ttx_picture.proofs.Quiet.{quiet, IsQuiet, calm, both_true, decimal_quiet, id_quiet, utf8_all, char_low}
 use Rattle.ttx_picture.proofs.Nested.{Printed, tags_are_nested_lem}
 
--- ---- what is nested has none
+---- a nested text has none
 
 same_if : {X : Type 0} (b : Bool) (x : X) → (if b then x else x) ≡ x
 same_if true x = refl
 same_if false x = refl
 
--- from nowhere no byte leads back
+-- from Nowhere no byte leads back
 lost : (bytes : List ℕ) (w : List (List ℕ)) → (fold read (reading_at Nowhere w) bytes).place ≡ Nowhere
 lost [] w = refl
 lost (b ∷ bytes) w = ap (λ (r : Reading). (fold read r bytes).place) (same_if (is_ruled b) (reading_at Nowhere w)) ∙ lost bytes w

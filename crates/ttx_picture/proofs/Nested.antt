@@ -49,7 +49,7 @@ neither true b e = cc
 neither false true e = cc
 neither false false e = (refl, refl)
 
--- a byte that is no markup and isn't ruled out: not < and not "
+-- a byte that is not markup and is allowed: neither < nor "
 record Plain (b : ℕ) : Type 0 where
   less : (b == 60) ≡ false
   quote : (b == 34) ≡ false
@@ -69,7 +69,7 @@ module _ (w : List (List ℕ)) where
   one_value : (name : List ℕ) (b : ℕ) → Plain b → read (reading_at (InValue name) w) b ≡ reading_at (InValue name) w
   one_value name b p = rw (p.ruled, p.less, p.quote) refl
 
--- such bytes leave the reading where it is, in a text and in a value
+-- such bytes leave the reading unchanged in a text and in a value
 module _ (w : List (List ℕ)) where
   fold_text : (bytes : List ℕ) → list_all quiet bytes ≡ true → fold read (reading_at InText w) bytes ≡ reading_at InText w
   fold_text [] e = refl
@@ -116,7 +116,7 @@ lowered_quiet layer x = with_quiet (with_quiet {a = codes "M"} (calm refl) (deci
 lifted_quiet : (down : Bool) (x : ℕ) → IsQuiet (lifted down x)
 lifted_quiet down x = either_quiet down (decimal_quiet x) (calm refl)
 
--- where strokes are written: in the value of a path, if one is begun
+-- where strokes are written: in the value of a path, if one is open
 abbrev path_place : Option Pen → Place
 path_place None = InText
 path_place (Some pen) = InValue (codes "path")
@@ -164,7 +164,7 @@ module _ (w : List (List ℕ)) where
 abbrev pub Printed : List Cell → Type 0
 Printed cells = AllByRecursion (λ (cell : Cell). IsPrinted cell.glyph) cells
 
--- where letters are written: in a span, if one is begun
+-- where letters are written: in a span, if one is open
 abbrev spans : Option Pen → List (List ℕ) → List (List ℕ)
 spans None w = w
 spans (Some pen) w = codes "tspan" ∷ w

@@ -1,4 +1,4 @@
--- Texts without markup and control characters: numbers, names of pages, and characters.
+-- Texts without markup and control characters: numbers, page numbers, and characters.
 use Rattle.std.proofs.Common.{◌≡◌, ◌∙◌, ℕ, zero, suc, ◌+◌, ◌-◌, ◌/◌, ◌%◌, ◌<◌, ◌≤◌, Bool, true, false, not, ◌||◌, ◌&&◌, ◌==◌, nat_lt, if◌then◌else◌}
 use Rattle.std.proofs.Common.{List, [], ◌∷◌, ◌++◌, length, get_or, encode_utf8, refl, sym, ap, arith}
 use Rattle.std.proofs.lemmas.Bool.{or_parts, le-ltb}
@@ -104,7 +104,7 @@ by_index : (p : ℕ → Bool) (xs : List ℕ) → ((k : ℕ) → k < length xs �
 by_index p [] h = refl
 by_index p (x ∷ xs) h = both_true (p x) (list_all p xs) (h zero (omega arith)) (by_index p xs (λ k l. h (suc k) (omega (arith, l))))
 
--- what is true of a character and of each byte above 127 is true of all its bytes
+-- a property of a character and of each byte above 127 holds for all bytes of its UTF-8
 pub utf8_all : (p : ℕ → Bool) (c : ℕ) → p c ≡ true → ((b : ℕ) → 128 ≤ b → p b ≡ true) → list_all p (encode_utf8 c) ≡ true
 utf8_all p c own high = by_index p (encode_utf8 c)
     (λ k l. by_byte (get_or (encode_utf8 c) k 0) (inside_one c [] (encode_utf8 c) k (sym (append-nil _)) l))
@@ -124,7 +124,7 @@ escaped_quiet c low = cases c IsQuiet
     (λ _. calm refl) (λ _. calm refl) (λ _. calm refl) (λ _. calm refl) (λ _. calm refl)
     (λ e. calm (utf8_all quiet c (not_reserved c e low) (λ b h. high_quiet b (omega (arith, h)))))
 
--- ---- what cells show is at least a space
+---- what cells show is a space or above
 
 printed_low : (code : ℕ) → is_control code ≡ false → nat_lt code 32 ≡ false
 printed_low code e = (or_parts _ _ e).0

@@ -1,11 +1,11 @@
 -- A View as a picture of 40 by 25 cells, each 20 by 24 units.
 --
---   Pen, class_text         what a stroke or a character is drawn with
---   half_of, cell_halves    what a layer of a row draws: half a cell each, or nothing
---   strokes                 the paths of a layer: a stroke as long as the pen stays, a path for each pen
---   letters, row_letters    the characters of a row, a span for each pen
+--   Pen, pen_text           what a stroke or a character is drawn with, and its classes
+--   half_of, cell_halves    what a layer draws of a row, in halves of cells
+--   strokes                 the paths of a layer: one stroke while the pen stays the same, one path for each pen
+--   letters, row_letters    the characters of a row, one span for each pen
 --   pass, row_glyphs        single height, and over it double height, drawn twice as high
---   body, svg_of            all grounds, then all glyphs; the whole picture
+--   body, svg_of            all backgrounds, then all glyphs; the whole picture
 use Rattle.std.specs.Prelude.{ℕ, ◌+◌, ◌*◌, ◌/◌, ◌%◌, ◌==◌, Bool, true, false, not, ◌&&◌, ◌||◌, List, [], ◌∷◌, ◌++◌, codes, Option, Some, None}
 use Rattle.std.specs.Prelude.{if◌then◌else◌}
 use Rattle.std.specs.Fmt.{decimal}
@@ -31,27 +31,27 @@ abbrev pub is_pen : Option Pen → Pen → Bool
 is_pen None pen = false
 is_pen (Some current) pen = (current.colour == pen.colour) && same_flag current.flash pen.flash && same_flag current.separated pen.separated
 
--- The style sheet says what the classes mean.
+-- The style sheet defines the classes.
 abbrev pub pen_text : Pen → List ℕ
 pen_text pen = codes "c" ++ decimal pen.colour ++ (if pen.flash then codes " f" else []) ++ (if pen.separated then codes " s" else [])
 
 abbrev pub ink : Cell → Bool → Pen
 ink cell separated = record { colour = colour_number cell.fore; flash = cell.flash; separated = separated }
 
--- colour 8 is the television picture; black isn't drawn
+-- colour 8 is the television picture; black is not drawn
 abbrev pub ground : Cell → Option Pen
 ground cell =
     if cell.picture then Some (record { colour = 8; flash = false; separated = false })
     else if colour_number cell.back == 0 then None
     else Some (record { colour = colour_number cell.back; flash = false; separated = false })
 
--- whether a cell's glyph is drawn in single height, or from its upper half twice as high
+-- whether a glyph is drawn: in single height, or from an upper half twice as high
 abbrev pub is_drawn : Bool → Part → Bool
 is_drawn tall Single = not tall
 is_drawn tall Upper = tall
 is_drawn tall Lower = false
 
--- the values of a layer's left and right block
+-- the bits of the left and right block of a layer
 abbrev pub left_block : Layer → ℕ
 left_block Middle = 4
 left_block Bottom = 16
@@ -72,7 +72,7 @@ abbrev pub half_of : Bool → Bool → Layer → ℕ → Cell → Option Pen
 half_of reveal tall Ground value cell = ground cell
 half_of reveal tall _ value cell = block cell tall value (shown_glyph reveal cell)
 
--- two halves a cell
+-- two halves for each cell
 abbrev pub cell_halves : Bool → Bool → Layer → List Cell → List (Option Pen)
 cell_halves reveal tall layer [] = []
 cell_halves reveal tall layer (cell ∷ cells) =
@@ -92,7 +92,7 @@ height_text _ = codes " 12H"
 abbrev pub lowered : Layer → ℕ → List ℕ
 lowered layer x = codes "M" ++ decimal x ++ height_text layer
 
--- a stroke, if there is one, ends at x
+-- a stroke that has begun ends at x
 abbrev pub lifted : Bool → ℕ → List ℕ
 lifted down x = if down then decimal x else []
 
@@ -129,7 +129,7 @@ abbrev pub code_of : Glyph → ℕ
 code_of (Char code) = code
 code_of _ = 0x20
 
--- the character that a cell has in this height, else a space
+-- the character that a cell shows in this height; otherwise a space
 abbrev pub letter_of : Bool → Bool → Cell → ℕ
 letter_of reveal tall cell = if is_drawn tall cell.part then code_of (shown_glyph reveal cell) else 0x20
 
@@ -144,7 +144,7 @@ abbrev pub span_end : Option Pen → List ℕ
 span_end None = []
 span_end (Some pen) = codes "</tspan>"
 
--- a character in a span of its pen; a space in any
+-- a character in a span of its pen; a space in any span
 abbrev pub letter_text : Option Pen → ℕ → Pen → List ℕ
 letter_text current letter pen =
     if letter == 0x20 then 32 ∷ []
@@ -161,7 +161,7 @@ letters reveal tall current (cell ∷ cells) =
     else letter_text current (letter_of reveal tall cell) (ink cell false)
     ++ letters reveal tall (span_after current (letter_of reveal tall cell) (ink cell false)) cells
 
--- each character stands in the middle of its cell
+-- each character is centred in its cell
 unfoldable pub text_start : List ℕ
 text_start = codes "<text y=\"18\" x=\"10 30 50 70 90 110 130 150 170 190 210 230 250 270 290 310 330 350 370 390 410 430 450 "
     ++ codes "470 490 510 530 550 570 590 610 630 650 670 690 710 730 750 770 790\">"
@@ -204,19 +204,19 @@ abbrev pub glyphs_from : Bool → ℕ → List (List Cell) → List ℕ
 glyphs_from reveal number [] = []
 glyphs_from reveal number (cells ∷ rows) = row_glyphs reveal number cells ++ glyphs_from reveal (number + 1) rows
 
--- black
+-- a black screen
 unfoldable pub black_screen : List ℕ
 black_screen = codes "<rect width=\"800\" height=\"600\"/>"
 
--- all grounds lie below all glyphs, since double height goes down into the next row
+-- all backgrounds are below all glyphs, since double height extends into the next row
 abbrev pub body : Bool → Screen → List ℕ
 body reveal view = black_screen ++ grounds_from 0 view.cells ++ glyphs_from reveal 0 view.cells
 
--- strokes as high as a row of blocks; those of grounds as high as a cell
+-- strokes are as high as a row of blocks, those of backgrounds as high as a cell
 unfoldable pub path_style : List ℕ
 path_style = codes ".t path{fill:none;stroke:currentColor;stroke-width:8;shape-rendering:crispEdges}.t .g{stroke-width:24}"
 
--- separated mosaics: a gap of a unit on each side of a block
+-- separated mosaics have a gap of one unit on each side of a block
 unfoldable pub gap_style : List ℕ
 gap_style = codes ".t .s{stroke-width:6;stroke-dasharray:0 1 8 1}"
 
@@ -229,16 +229,16 @@ text_style = codes ".t text{font:24px Bedstead Extended,Bedstead,ui-monospace,Me
 unfoldable pub ink_style : List ℕ
 ink_style = codes ".c0{color:#000}.c1{color:#f00}.c2{color:#0f0}.c3{color:#ff0}.c4{color:#00f}.c5{color:#f0f}.c6{color:#0ff}.c7{color:#fff}"
 
--- stripes in the place of the television picture
+-- stripes in place of the television picture
 unfoldable pub picture_style : List ℕ
 picture_style = codes ".t .c8{color:#456;stroke-dasharray:19 1}"
 
--- off every other half second, but not where less motion is asked for
+-- invisible every other half second, unless reduced motion is preferred
 unfoldable pub flash_style : List ℕ
 flash_style = codes ".f{animation:f 1s step-end infinite}@keyframes f{50%{color:transparent}}"
     ++ codes "@media(prefers-reduced-motion:reduce){.f{animation:none}}"
 
--- what the classes mean: g ground, s separated; c0 to c8 the colours; f flash
+-- the classes: g background, s separated, c0 to c8 colours, f flash
 unfoldable pub style : List ℕ
 style = (path_style ++ gap_style ++ text_style) ++ ink_style ++ picture_style ++ flash_style
 

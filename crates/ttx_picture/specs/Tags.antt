@@ -1,9 +1,9 @@
--- Tags of a text of SVG or HTML, as XML has them: read byte by byte, with the names of the elements that are not ended yet.
+-- The tags of a text in SVG or HTML, as XML has them, read byte by byte with the names of the elements that are still open.
 --
---   is_letter, is_ruled     what a name has; what stands nowhere: the control characters 00 to 1F but line feeds
---   Place, Reading          where the reading is, and the names of the elements round it, the innermost first
---   read                    one byte more
---   IsNested                each element that begins ends, in its place, by its name
+--   is_letter, is_ruled     the bytes of a name; bytes that are nowhere allowed: the control characters 00 to 1F except line feeds
+--   Place, Reading          where the reading is, and the names of the open elements, the innermost first
+--   read                    the reading after one more byte
+--   IsNested                every element that is opened is closed by its name, properly nested
 use Rattle.std.specs.Prelude.{◌≡◌, ℕ, Bool, not, ◌&&◌, ◌||◌, ◌==◌, nat_lt, nat_le, if◌then◌else◌, List, [], ◌∷◌, ◌++◌, fold}
 
 -- 0 to 9, A to Z, a to z
@@ -31,12 +31,12 @@ pub record Reading : Type 0 where
 abbrev pub reading_at : Place → List (List ℕ) → Reading
 reading_at place within = record { place = place; within = within }
 
--- an end tag has the name of the innermost element
+-- an end tag has the name of the innermost open element
 abbrev pub end_tag : List (List ℕ) → Reading
 end_tag [] = reading_at Nowhere []
 end_tag (name ∷ outer) = reading_at (InEnd name) outer
 
--- among the attributes of an element: > ends its tag, / its whole, a quote begins a value
+-- among the attributes of an element: > ends its opening tag, / makes it an empty element, a quote begins a value
 abbrev pub in_tag : List ℕ → List (List ℕ) → ℕ → Reading
 in_tag name within b =
     if b == 62 then reading_at InText (name ∷ within)
@@ -65,6 +65,6 @@ next Nowhere within b = reading_at Nowhere within
 abbrev pub read : Reading → ℕ → Reading
 read r b = if is_ruled b then reading_at Nowhere r.within else next r.place r.within b
 
--- read from outside all elements to outside all elements
+-- reading begins and ends outside all elements
 abbrev pub IsNested : List ℕ → Type 0
 IsNested bytes = fold read (reading_at InText []) bytes ≡ reading_at InText []

@@ -1,4 +1,4 @@
-//! A View for a terminal.
+//! A View as text with terminal codes.
 
 ghost use Rattle.std.specs.Prelude.{◌≡◌, ◌<◌, ◌++◌, OnOk, string_bytes};
 ghost use Rattle.ttx_render.specs.Cells.{space_cell};
@@ -55,7 +55,7 @@ fn push_changes(text: &mut String, before: &Cell, cell: &Cell) -> Result<(), All
     push_change(text, blink(before), blink(cell))
 }
 
-// A space in the attributes in which a row starts.
+// A space with the attributes at the start of a row.
 fn space_cell() -> Cell
     ensures { result ≡ space_cell }
 {
@@ -101,7 +101,7 @@ fn push_rows(text: &mut String, reveal: bool, rows: &[[Cell; 40]]) -> Result<(),
     Ok(())
 }
 
-/// Adds a View as lines of characters and codes of a terminal, concealed characters only where they are revealed.
+/// Appends a View as lines of characters with terminal codes. Concealed characters are shown only if `reveal` is true.
 pub(crate) fn push_ansi(text: &mut String, reveal: bool, view: &View) -> Result<(), AllocError>
     ensures { OnOk result (string_bytes text.new ≡ string_bytes text.old ++ ansi_of reveal view.now) }
 {

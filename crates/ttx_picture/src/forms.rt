@@ -1,4 +1,4 @@
-//! The forms of a View.
+//! The forms in which a View is written.
 
 ghost use Rattle.std.specs.Prelude.{◌≡◌, ◌++◌, OnOk, string_bytes};
 ghost use Rattle.ttx_picture.specs.Forms.{picture_of};
@@ -15,15 +15,15 @@ use ttx_render::View;
 pub enum Form {
     /// Lines of characters.
     Text,
-    /// Lines of characters, with a terminal's codes for colours and flashing.
+    /// Lines of characters with terminal codes for colours and flashing.
     Ansi,
-    /// A picture.
+    /// An SVG picture.
     Svg,
-    /// A page of HTML with the picture, its links and its text.
+    /// An HTML page with the picture, its links and its text.
     Html,
 }
 
-/// Adds a View in a form, concealed characters only where they are revealed. The error is want of memory.
+/// Appends a View in this form. Concealed characters are shown only if `reveal` is true. `Err` if memory runs out.
 #[tactic(auto, unfolding(crate::specs::Forms::picture_of))]
 pub fn push_picture(
     text: &mut String,

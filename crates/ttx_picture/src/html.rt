@@ -1,4 +1,4 @@
-//! A View as a page of HTML.
+//! A View as an HTML page.
 
 ghost use Rattle.std.specs.Prelude.{◌≡◌, ◌++◌, [], None, OnOk, codes, string_bytes};
 ghost use Rattle.ttx_picture.specs.Svg.{style};
@@ -55,7 +55,7 @@ fn push_key_end(text: &mut String, target: &Target) -> Result<(), AllocError>
     text.push_str("</a>")
 }
 
-// Adds a link under the name and in the colour of its key.
+// Appends a link, with the name and in the colour of its key.
 fn push_key(
     text: &mut String,
     name: &str,
@@ -177,7 +177,7 @@ fn push_page(text: &mut String, reveal: bool, view: &View) -> Result<(), AllocEr
     push_nav(text, view)
 }
 
-/// Adds a View as a page of HTML, concealed characters only where they are revealed.
+/// Appends a View as an HTML page. Concealed characters are shown only if `reveal` is true.
 pub(crate) fn push_html(text: &mut String, reveal: bool, view: &View) -> Result<(), AllocError>
     ensures { OnOk result (string_bytes text.new ≡ string_bytes text.old ++ html_of reveal view.now) }
 {
@@ -186,7 +186,7 @@ pub(crate) fn push_html(text: &mut String, reveal: bool, view: &View) -> Result<
     text.push_str("</main></body></html>\n")
 }
 
-/// Adds the style sheet of pages that have figures.
+/// Appends the style sheet for pages that contain figures. `Err` if memory runs out.
 #[tactic(auto, unfolding(crate::specs::Html::sheet))]
 pub fn push_sheet(text: &mut String) -> Result<(), AllocError>
     ensures { OnOk result (string_bytes text.new ≡ string_bytes text.old ++ sheet) }
@@ -196,7 +196,8 @@ pub fn push_sheet(text: &mut String) -> Result<(), AllocError>
     push_key_style(text)
 }
 
-/// Adds the picture of a View, its links and its text, concealed characters only where they are revealed.
+/// Appends the picture of a View, its links and its text, for a page with that style sheet. Concealed characters are shown only if
+/// `reveal` is true. `Err` if memory runs out.
 #[tactic(auto, unfolding(crate::specs::Html::figure_html))]
 pub fn push_figure(text: &mut String, reveal: bool, view: &View) -> Result<(), AllocError>
     ensures { OnOk result (string_bytes text.new ≡ string_bytes text.old ++ figure_html reveal view.now) }

@@ -1,4 +1,4 @@
-//! Pictures of Views: text, codes of a terminal, SVG and HTML.
+//! Pictures of Views: plain text, text with terminal codes, SVG and HTML.
 #![tactic(auto)]
 
 mod ansi;

@@ -1,4 +1,4 @@
-//! A View as a picture.
+//! A View as an SVG picture.
 
 ghost use Rattle.std.specs.Prelude.{◌≡◌, ◌<◌, ◌++◌, OnOk, string_bytes};
 ghost use Rattle.ttx_picture.specs.Svg.{group_start, row_ground, row_tall, row_glyphs, has_upper, is_upper, grounds_from, glyphs_from, pass};
@@ -16,7 +16,7 @@ use strokes::push_drawn;
 pub(crate) use styles::push_style;
 use ttx_render::{Cell, Part, View};
 
-// Adds the glyphs of a row in one height: mosaics, then characters.
+// Appends the glyphs of a row in single or double height: mosaics, then characters.
 fn push_pass(
     text: &mut String,
     reveal: bool,
@@ -51,7 +51,7 @@ fn has_upper(cells: &[Cell]) -> bool
     false
 }
 
-// Begins the group of a row.
+// Opens the group of a row.
 fn push_group_start(text: &mut String, number: usize) -> Result<(), AllocError>
     requires { number < 25 }
     ensures { OnOk result (string_bytes text.new ≡ string_bytes text.old ++ group_start number) }
@@ -129,7 +129,7 @@ fn push_base(text: &mut String) -> Result<(), AllocError>
     text.push_str("<rect width=\"800\" height=\"600\"/>")
 }
 
-// Adds what stands in the picture.
+// Appends the contents of the picture.
 pub(crate) fn push_body(text: &mut String, reveal: bool, view: &View) -> Result<(), AllocError>
     ensures { OnOk result (string_bytes text.new ≡ string_bytes text.old ++ body reveal view.now) }
 {
@@ -148,7 +148,7 @@ pub(crate) fn push_svg_start(text: &mut String) -> Result<(), AllocError>
     )
 }
 
-/// Adds a View as an SVG picture, concealed characters only where they are revealed.
+/// Appends a View as an SVG picture. Concealed characters are shown only if `reveal` is true.
 pub(crate) fn push_svg(text: &mut String, reveal: bool, view: &View) -> Result<(), AllocError>
     ensures { OnOk result (string_bytes text.new ≡ string_bytes text.old ++ svg_of reveal view.now) }
 {

@@ -1,4 +1,4 @@
-//! A View as text.
+//! A View as plain text.
 
 ghost use Rattle.std.specs.Prelude.{◌≡◌, ◌++◌, OnOk, string_bytes};
 ghost use Rattle.ttx_picture.specs.Text.{cells_text, rows_text, text_of};
@@ -9,7 +9,7 @@ use crate::shown::{are_blank, char_of};
 use std::alloc::AllocError;
 use ttx_render::{Cell, View};
 
-// Adds the characters of cells up to the last that isn't a space.
+// Appends the characters of cells up to the last one that is not a space.
 fn push_cells(
     text: &mut String,
     escapes: bool,
@@ -27,7 +27,7 @@ fn push_cells(
     Ok(())
 }
 
-/// Adds the rows as lines, which may stand in HTML.
+/// Appends the rows as lines, escaped if the text is part of HTML (`escapes`).
 pub(crate) fn push_rows(
     text: &mut String,
     escapes: bool,
@@ -43,7 +43,7 @@ pub(crate) fn push_rows(
     Ok(())
 }
 
-/// Adds a View as lines of characters, concealed ones only where they are revealed.
+/// Appends a View as lines of characters. Concealed characters are shown only if `reveal` is true.
 pub(crate) fn push_text(text: &mut String, reveal: bool, view: &View) -> Result<(), AllocError>
     ensures { OnOk result (string_bytes text.new ≡ string_bytes text.old ++ text_of reveal view.now) }
 {

@@ -19,7 +19,7 @@ fn code_of(glyph: Glyph) -> char
     }
 }
 
-// The character that a cell has in this height, else a space.
+// The character that a cell shows in this height; otherwise a space.
 fn letter_of(reveal: bool, tall: bool, cell: &Cell) -> char
     ensures { result ≡ letter_of reveal tall cell.now }
 {
@@ -58,7 +58,7 @@ fn push_span_end(text: &mut String, current: Option<Pen>) -> Result<(), AllocErr
     }
 }
 
-// Adds a character in a span of its pen.
+// Appends a character, in a span of its pen.
 fn push_letter(
     text: &mut String,
     current: Option<Pen>,
@@ -115,7 +115,7 @@ fn push_text_start(text: &mut String) -> Result<(), AllocError>
     )
 }
 
-/// Adds the characters that a row has in this height.
+/// Appends the characters of a row that have this height.
 pub fn push_row_letters(
     text: &mut String,
     reveal: bool,

@@ -1,4 +1,4 @@
-//! The paths of backgrounds and mosaics.
+//! The paths for backgrounds and mosaics.
 
 ghost use Rattle.std.specs.Prelude.{◌≡◌, ◌<◌, ◌≤◌, ◌++◌, OnOk, string_bytes};
 ghost use Rattle.ttx_picture.specs.Svg.{left_block, right_block, has_block, block, half_of, layer_text, height_text, lowered, lifted, path_start};
@@ -29,7 +29,7 @@ fn has_block(blocks: u8, value: u8) -> bool
     blocks / value % 2 == 1
 }
 
-// The pen of a block of a cell.
+// The pen for a block of a cell; `None` if the block is not drawn.
 fn block(reveal: bool, tall: bool, value: u8, cell: &Cell) -> Option<Pen>
     requires { 0 < value }
     ensures { result ≡ block cell.now tall value (seen reveal cell.now) }
@@ -46,7 +46,7 @@ fn block(reveal: bool, tall: bool, value: u8, cell: &Cell) -> Option<Pen>
     }
 }
 
-// The pen of a half of a cell.
+// The pen for one half of a cell; `None` if nothing is drawn.
 fn half_of(reveal: bool, tall: bool, layer: Layer, value: u8, cell: &Cell) -> Option<Pen>
     requires { 0 < value }
     ensures { result ≡ half_of reveal tall layer value cell.now }
@@ -107,7 +107,7 @@ fn push_path_end(text: &mut String, current: Option<Pen>) -> Result<(), AllocErr
     }
 }
 
-// Where a path stands: its pen, whether it is down, and how far to the right.
+// The state of a path: its pen, whether the pen is down, and its x coordinate.
 #[derive(Clone, Copy)]
 struct PathPoint {
     current: Option<Pen>,
@@ -115,7 +115,7 @@ struct PathPoint {
     x: usize,
 }
 
-// Begins a path of another pen.
+// Opens a path with another pen.
 fn push_other(text: &mut String, layer: Layer, at: PathPoint, pen: Pen) -> Result<(), AllocError>
     ensures { OnOk result (string_bytes text.new ≡ string_bytes text.old ++ lifted at.down at.x ++ path_end at.current
         ++ path_start layer pen ++ lowered layer at.x) }
@@ -126,7 +126,7 @@ fn push_other(text: &mut String, layer: Layer, at: PathPoint, pen: Pen) -> Resul
     push_lowered(text, layer, at.x)
 }
 
-// Adds what a half needs from this point on.
+// Appends the stroke for a half that begins at this point.
 fn push_stroke(
     text: &mut String,
     layer: Layer,
@@ -167,7 +167,7 @@ fn is_down(half: Option<Pen>) -> bool
     }
 }
 
-/// Adds the paths of a layer of a row.
+/// Appends the paths of one layer of a row.
 pub fn push_drawn(
     text: &mut String,
     reveal: bool,

@@ -1,4 +1,4 @@
-//! The style sheet of pictures.
+//! The style sheet for pictures.
 
 ghost use Rattle.std.specs.Prelude.{◌≡◌, ◌++◌, OnOk, string_bytes};
 ghost use Rattle.ttx_picture.specs.Svg.{path_style, gap_style, text_style, ink_style, picture_style, flash_style, style};
@@ -64,7 +64,7 @@ fn push_shapes(text: &mut String) -> Result<(), AllocError>
     push_text_style(text)
 }
 
-/// Adds what the classes mean.
+/// Appends the style rules for the classes of pictures.
 #[tactic(auto, unfolding(crate::specs::Svg::style))]
 pub fn push_style(text: &mut String) -> Result<(), AllocError>
     ensures { OnOk result (string_bytes text.new ≡ string_bytes text.old ++ style) }
