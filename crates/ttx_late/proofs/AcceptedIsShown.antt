@@ -36,7 +36,7 @@ pub accepted_is_shown : RunsAreShown → StreamLaws → AcceptedIsShown
 accepted_is_shown runs laws cycle pages w is_cycle are_pages is_certificate accepts n p here gap followed =
     shown laws cycle pages w is_cycle are_pages is_certificate accepts n p here runs gap followed
 
--- the header itself comes again a cycle later
+-- the header itself comes again one cycle later
 pub followed_is_within : CyclesRepeat → FollowedIsWithin
 followed_is_within repeat cycle page some followed h head =
     let f = followed h head in

@@ -1,4 +1,4 @@
--- What is received of a stream in which each header of the page is followed by another page number; and a part of a reception.
+-- Receptions of a stream in which each header of the page is followed by another page number; and parts of receptions.
 use Rattle.std.proofs.Common.{◌≡◌, ℕ, suc, ◌-◌, ◌<◌, ◌≤◌, ℤ, pos, ◌+ℤ◌, ◌<ℤ◌, ◌≤ℤ◌, true, false, ◌==◌, List, [], ◌∷◌, length, get_or, take, refl, sym}
 use Rattle.std.proofs.Common.{ap, ◌∙◌, subst, inl, inr, arith, eqb-true, get_or-take}
 use Rattle.std.proofs.lemmas.Int.{ints}
@@ -24,7 +24,7 @@ pub use Rattle.ttx_page.proofs.SlotDistances.{cases_ltz}
 use Rattle.ttx_late.proofs.KeptSlots.{SameTests, same_tests}
 use Rattle.ttx_late.proofs.GatheredMemories.{IsAnother, Ends, AllEnd}
 
--- a selection that matches a page has its magazine and its number
+-- a selection that matches a page has its magazine and its page number
 pub mag_is : (sel : Selection) (page : Id) → matches sel page ≡ true → selected_mag sel ≡ page.mag
 mag_is (Exact own) page h = eqb-true own.mag page.mag ((and_parts _ _ (and_parts _ _ h).0).0)
 mag_is (AnySub mag number) page h = eqb-true mag page.mag ((and_parts _ _ h).0)
@@ -46,7 +46,7 @@ another_is sel page mag number Unreadable h = absurd (both_ways false refl h)
 another_is sel page mag number Info h = absurd (both_ways false refl h)
 another_is sel page mag number Other h = absurd (both_ways false refl h)
 
--- each slot of a list has the tests of the stream's slots from one on
+-- each slot of a list passes the tests that the stream's slot passes
 abbrev pub AreOf : Stream → ℤ → List (List ℕ) → Type 0
 AreOf s begin [] = Unit {0}
 AreOf s begin (slot ∷ rest) = SameTests (s begin) slot × AreOf s (begin +ℤ pos 1) rest
@@ -66,7 +66,7 @@ of_received kind header s begin (slot ∷ rest) clean each =
     )
 
 module _ (s : Stream) (sel : Selection) where
-  -- the next header of the magazine stands at slot j, and has another number
+  -- the next header of the magazine is in slot j, and has another page number
   ends_at : (j : ℤ) → IsAnother sel (packet_of (s j)) → (rest : List (List ℕ)) (begin : ℤ) (k : ℕ) → AreOf s begin rest → begin ≤ℤ j →
       j ≤ℤ (begin +ℤ pos k) →
       ((i : ℤ) → begin ≤ℤ i → i <ℤ j → heads (selected_mag sel) (packet_of (s i)) ≡ false) → Ends sel rest k

@@ -1,4 +1,4 @@
--- Whether a header is followed by one of another page number, read round the cycle.
+-- Whether a header is followed by one with another page number, read round the cycle.
 use Rattle.std.proofs.Common.{◌+ℤ◌, ◌≤ℤ◌, ◌≡◌, ℕ, ◌+◌, ◌-◌, ◌%◌, ◌<◌, ◌≤◌, ℤ, pos, ◌-ℤ◌, ◌<ℤ◌, nat_abs, Bool, true, false, not, ◌&&◌, ◌==◌, List, []}
 use Rattle.std.proofs.Common.{length, get_or, slice_get, Option, Some, None, SomeIff, MatchOption, refl, sym, ap, ◌∙◌, subst, inl, inr, arith}
 use Rattle.std.proofs.Common.{eqb-true, eq-eqb, mod-eq_of_lt}
@@ -24,7 +24,7 @@ packet_is : (slot : List ℕ) (k : Kind) → kind_of slot ≡ k → packet_of sl
 unfolding packet_of
 packet_is slot k e = ap (packet_of_kind slot) e
 
--- what is read of a header is what its packet says
+-- what is read of a header is what its packet contains
 pub id_told : (slot : List ℕ) → IsSlot slot → HeadersHaveFields → HeadersAreHeaders → (o : Option HeaderFields) →
     SomeIff o (is_header slot ≡ true) (header_fields_of slot) →
     MatchOption o (HoldsNoId (packet_of slot)) (λ h. HoldsId h.id (packet_of slot))
@@ -114,7 +114,7 @@ tested_self a b e = subst (λ x. tested a x ≡ true) e
 self_is : (a : Id) → same_id a a ≡ true
 self_is a = and_from _ _ (and_from _ _ (eq-eqb a.mag a.mag refl) (eq-eqb a.page a.page refl)) (eq-eqb a.sub a.sub refl)
 
--- the page of a header is the one that it names
+-- the page of a header is the one whose id it contains
 pub page_told : (id page : Id) (packet : Packet) → HoldsId id packet → heads_page page packet ≡ true → page ≡ id
 page_told id page (Header own control text) h head = same_is page own head ∙ sym h
 page_told id page Empty h head = absurd h
@@ -143,7 +143,7 @@ another_heads page Info h = absurd (both_ways false refl h)
 another_heads page Other h = absurd (both_ways false refl h)
 
 module _ (cycle : List (List ℕ)) (page : Id) (at : ℕ) (inside : at < length cycle) where
-  -- the slot that stands so many on after the next one
+  -- the slot that is so many slots after the next one
   abbrev pub slot_on : ℕ → List ℕ
   slot_on k = get_or cycle ((at + 1 + k) % length cycle) []
 
@@ -168,7 +168,7 @@ module _ (cycle : List (List ℕ)) (page : Id) (at : ℕ) (inside : at < length 
         let lt : k < step = omega (arith, ints) in
         subst (λ z. heads page.mag (packet_of (repeated cycle z)) ≡ false) (sym e) (none k lt)
 
-    -- the next header of the magazine, if it has another number, stands there
+    -- the next header of the magazine, if it has another page number, is at this place
     place : (step : ℕ) → NoneTo step → heads page.mag (packet_of (slot_on step)) ≡ true →
         (f : IsFollowed (repeated cycle) page (pos at)) → f.slot ≡ pos (at + 1 + step)
     place step none head f =
@@ -241,13 +241,13 @@ module _ (cycle : List (List ℕ)) (pages : List Page) where
     | inr ge ↦ let e : slot ≡ i = omega arith in subst (IsFollowedAt (repeated cycle) p.id) e (here n p at)
   ]
 
-  -- a header that isn't followed is of no page of the list
+  -- a header that is not followed belongs to no page of the list
   pub unlisted : (slot : ℕ) (own : Id) → ((page : Id) → heads_page page (packet_of (repeated cycle (pos slot))) ≡ true → page ≡ own) →
       ((n : ℕ) (p : Page) → slice_get pages n ≡ Some p → p.id ≡ own → ⊥) → (n : ℕ) (p : Page) → slice_get pages n ≡ Some p →
       IsFollowedAt (repeated cycle) p.id slot
   unlisted slot own its none n p at head = absurd (none n p at (its p.id head))
 
-  -- what is told of each slot of the cycle is so of each slot of the stream
+  -- what holds at each slot of the cycle holds at each slot of the stream
   pub all_followed : EachSlotTurns → StreamsMove → 0 < length cycle → FollowedBefore (length cycle) → AllAreFollowed cycle pages
   all_followed turn move some before n p at h head =
       let t = turn (length cycle) h some in
@@ -317,8 +317,8 @@ module _ (cycle : List (List ℕ)) (page : Id) where
         omega (arith, ints),
       )
 
--- the places of a list of the program's pages
--- the pages below a place have another id
+-- the indexes of a list of the program's pages
+-- the pages below an index have another id
 pub none_here : (pages : List Page) (id : Id) (index : ℕ) →
     ((n : ℕ) (p : Page) → n < index → slice_get pages n ≡ Some p → p.id ≡ id → ⊥) → (here : Page) → slice_get pages index
     ≡ Some here →

@@ -1,4 +1,4 @@
--- What is gathered is what a permitted receiver makes: at most once, at the first header of the magazine, something else takes its place.
+-- What is gathered comes from a permitted receiver: at most once, at the first header of the magazine, it is replaced by something else.
 use Rattle.std.proofs.Common.{◌≡◌, ◌⊎◌, ℕ, zero, suc, ◌-◌, ◌<◌, ◌≤◌, true, false, ◌==◌, List, [], ◌∷◌, length, get_or, drop, refl, ap, subst, inl}
 use Rattle.std.proofs.Common.{inr, arith}
 use Rattle.std.proofs.lemmas.Bool.{and_from, and_parts, both_ways, cases_Bool}
@@ -14,21 +14,21 @@ use Rattle.ttx_page.specs.Streams.{heads, heads_matched}
 use Rattle.ttx_late.specs.LateReceivers.{LateMemory, heads_number, may_forget, TakesIn, LateRun}
 use Rattle.ttx_late.proofs.StoringSteps.{after_storing}
 
--- a header of the magazine with another number
+-- a header of the magazine with another page number
 abbrev pub IsAnother : Selection → Packet → Type 0
 IsAnother sel pkt = (heads (selected_mag sel) pkt ≡ true) × (heads_number sel pkt ≡ false)
 
--- the next header of the magazine, if it is received at all, has another number, and stands at place k at most
+-- the next header of the magazine, if it is received at all, has another page number, and is at position k at most
 abbrev pub Ends : Selection → List (List ℕ) → ℕ → Type 0
 Ends sel [] k = Unit {0}
 Ends sel (slot ∷ rest) k = IsAnother sel (packet_of slot) ⊎ ((heads (selected_mag sel) (packet_of slot) ≡ false) × (0 < k) × Ends sel rest (k - 1))
 
--- and so after each header that the selection matches
+-- this holds after each header that the selection matches
 abbrev pub AllEnd : Selection → ℕ → List (List ℕ) → Type 0
 AllEnd sel gap [] = Unit {0}
 AllEnd sel gap (slot ∷ rest) = (heads_matched sel (packet_of slot) ≡ true → (0 < gap) × Ends sel rest (gap - 1)) × AllEnd sel gap rest
 
--- a header of the number is one of the magazine
+-- a header with the page number is one of the magazine
 pub number_heads : (sel : Selection) (pkt : Packet) → heads_number sel pkt ≡ true → heads (selected_mag sel) pkt ≡ true
 number_heads sel (Header id control text) h = (and_parts _ _ h).0
 number_heads sel (Row mag number text) h = absurd (both_ways false refl h)
@@ -38,7 +38,7 @@ number_heads sel Unreadable h = absurd (both_ways false refl h)
 number_heads sel Info h = absurd (both_ways false refl h)
 number_heads sel Other h = absurd (both_ways false refl h)
 
--- a header that the selection matches has its number
+-- a header that the selection matches has its page number
 pub matched_number : (sel : Selection) (pkt : Packet) → heads_matched sel pkt ≡ true → heads_number sel pkt ≡ true
 matched_number (Exact own) (Header id control text) h =
     and_from _ _ (eq_sym own.mag id.mag ((and_parts _ _ (and_parts _ _ h).0).0))
@@ -52,7 +52,7 @@ matched_number sel Unreadable h = absurd (both_ways false refl h)
 matched_number sel Info h = absurd (both_ways false refl h)
 matched_number sel Other h = absurd (both_ways false refl h)
 
--- where the next header has another number nothing is dropped
+-- if the next header has another page number, nothing is forgotten
 pub no_number : (sel : Selection) (slot : List ℕ) (rest : List (List ℕ)) (k : ℕ) → Ends sel (slot ∷ rest) k →
     heads_number sel (packet_of slot) ≡ true → ⊥
 no_number sel slot rest k ends h = elim ends as (λ _. ⊥) [
@@ -65,12 +65,12 @@ module _ (class : Class) (lines : ℕ) (sel : Selection) where
       (heads_matched sel (packet_of slot) ≡ true) ⊎ ((m.storing ≡ true) × (heads (selected_mag sel) (packet_of slot) ≡ false))
   step_storing m new slot step st = after_storing class lines sel step.choice (older m) (packet_of slot) (subst (λ x. x.storing ≡ true) step.is st)
 
-  -- where nothing may be dropped, what was gathered takes the slot
+  -- where nothing may be forgotten, what was gathered takes the slot
   pub kept_base : (m base : Memory) (pkt : Packet) → may_forget sel m pkt ≡ false → TakesIn class sel m pkt base → base ≡ m
   kept_base m base pkt none from = elim from as (λ _. base ≡ m) [ inl e ↦ e | inr d ↦ absurd (both_ways _ none d.0) ]
 
 module _ (class : Class) (lines : ℕ) (sel : Selection) (gap : ℕ) where
-  -- a page that is being gathered isn't dropped
+  -- a page that is being gathered is not forgotten
   pub settled : (received : List (List ℕ)) (d new : LateMemory) → AllEnd sel gap received →
       (d.gathered.storing ≡ true → (k : ℕ) × Ends sel received k) →
       LateRun class lines sel d received new → Run class lines sel d.gathered received new.gathered
@@ -97,7 +97,7 @@ module _ (class : Class) (lines : ℕ) (sel : Selection) (gap : ℕ) where
             run.2,
       )
 
-  -- a run from place n on, from whatever a receiver may hold before it is tuned; no header of the magazine comes before
+  -- a run from position n on, from anything that a receiver may hold before it is tuned; no header of the magazine comes before
   pub record Begins (received : List (List ℕ)) (new : Memory) : Type 0 where
     pub place : ℕ
     pub within : place ≤ length received

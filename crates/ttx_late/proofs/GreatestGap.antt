@@ -30,12 +30,12 @@ module _ (cycle : List (List ℕ)) (pages : List Page) where
       its : (own : Id) → HeadsAt (repeated cycle) own at → own ≡ id
       its own head = its_page cycle id at inside holds own head
 
-      -- the header isn't followed
+      -- the header is not followed
       pub unfollowed_widens : (IsFollowed (repeated cycle) id (pos at) → ⊥) → IsWidened (repeated cycle) pages at gap gap
       unfollowed_widens none = kept at gap
           (λ n p listed head f. absurd (none (subst (λ x. IsFollowed (repeated cycle) x (pos at)) (its p.id head) f)))
 
-      -- it is of no listed page
+      -- the header belongs to no listed page
       pub unlisted_widens : ((n : ℕ) (p : Page) → slice_get pages n ≡ Some p → p.id ≡ id → ⊥) → IsWidened (repeated cycle) pages at gap gap
       unlisted_widens none = kept at gap (λ n p listed head f. absurd (none n p listed (its p.id head)))
 

@@ -1,4 +1,4 @@
--- What a slot is of a page, which no wrong bit changes: whether it is a header of the magazine, of the selection, of the page number.
+-- What wrong bits do not change about a slot: whether it is a header of the magazine, of the selection, of the page number.
 use Rattle.std.proofs.Common.{◌≡◌, ℕ, ◌<◌, ◌≤◌, true, List, [], get_or, refl, sym, ap, ◌∙◌, subst, inl, inr, arith}
 use Rattle.std.proofs.lemmas.Bool.{cond_both, both_ways, cases_Bool}
 use Rattle.ttx_code.specs.Words.{Near}
@@ -12,7 +12,7 @@ use Rattle.ttx_page.specs.declared.selection.Selection.{Selection}
 use Rattle.ttx_page.specs.Streams.{heads, heads_matched}
 use Rattle.ttx_late.specs.LateReceivers.{heads_number}
 
--- the header in a packet: all else is one
+-- the header in a packet; all other packets are the same
 abbrev pub outline : Packet → Packet
 outline (Header id control text) = Header id control []
 outline (Row mag number text) = Other
@@ -37,7 +37,7 @@ near_header : (sent received : List ℕ) (mag : ℕ) → kind_of sent ≡ IsHead
 near_header sent received mag e h x lt = elim (h.near x (omega arith)) as (λ _. Near (get_or sent x 0) (get_or received x 0))
     [ inl f ↦ let k : 34 ≤ x = subst (λ kind. IsFree kind x) e f in absurd (omega arith) | inr near ↦ near ]
 
--- what is received is a header of the same id and control bits, or it is none, as what was sent
+-- the packet received is a header with the same id and control bits as the one sent, or neither is a header
 pub received_as : KindIsKept → HeaderIsKept → (sent received : List ℕ) → IsSlot sent → is_clean sent ≡ true → MayBeReceivedAs sent received →
     outline (packet_of received) ≡ outline (packet_of sent)
 received_as kind header sent received s clean h =
@@ -88,7 +88,7 @@ number_outline sel Unreadable = refl
 number_outline sel Info = refl
 number_outline sel Other = refl
 
--- the tests of what is received are those of what was sent
+-- what is received passes the same tests as what was sent
 pub record SameTests (sent received : List ℕ) : Type 0 where
   pub heads : (mag : ℕ) → heads mag (packet_of received) ≡ heads mag (packet_of sent)
   pub matched : (sel : Selection) → heads_matched sel (packet_of received) ≡ heads_matched sel (packet_of sent)

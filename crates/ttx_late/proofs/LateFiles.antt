@@ -15,7 +15,7 @@ use Rattle.ttx_certify.proofs.ThreeInputs.{lifted, keeps_same}
 use Rattle.ttx_late.specs.CertifyingLate.{IsJudgedLate, CertifiesLate, CertifiesFilesLate}
 use Rattle.ttx_late.specs.declared.verdict.LateVerdict.{LateVerdict}
 
--- nothing is written where the inputs are refused
+-- nothing is written if the inputs are refused
 refused : (fault : FilesFault) (x y z : List ℕ) (known : Option (List ℕ)) → IsRefused x y z fault → CertifiesFilesLate x y z known known (Err fault)
 refused (Write written) x y z known h = absurd h
 refused (Cycle f) x y z known h = (h, keeps_same known)
@@ -50,7 +50,7 @@ counts_refused (TooLong which) a b c d e f old new h = tt
 counts_refused (Write written) a b c d e f old new h = absurd h
 counts_refused NoMemory a b c d e f old new h = tt
 
--- the bytes of the line go out
+-- the bytes of the line are written
 module _ (inputs : Inputs) (verdict : LateVerdict) (bytes line : List ℕ) (same : bytes ≡ line)
     (told : IsJudgedLate (slots_of inputs.cycle) inputs.service (fields_of inputs.certificate) verdict line) (a b c old new : Option (List ℕ))
     (h : IfSome a (λ x. IfSome b (λ y. IfSome c (λ z. ReadsInputs x y z (Ok inputs))))) where

@@ -1,4 +1,4 @@
--- The verdict on a cycle that is accepted, where receivers may show pages late.
+-- The verdict on an accepted cycle, for receivers that may show pages late.
 use Rattle.std.proofs.Common.{◌≡◌, ◌<◌, ℕ, List, length, map, get_or, sym, ap, ◌∙◌, arith}
 use Rattle.std.proofs.lemmas.List.{length-map}
 use Rattle.std.proofs.lemmas.Option.{slice_get_within}

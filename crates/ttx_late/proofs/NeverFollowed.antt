@@ -1,4 +1,4 @@
--- A page after whose headers none of another number comes is never shown.
+-- A page whose headers are never followed by another page number is never shown.
 use Rattle.std.proofs.Common.{◌≡◌, ◌⊎◌, ℕ, ℤ, pos, ◌+ℤ◌, ◌<ℤ◌, ◌≤ℤ◌, true, false, not, ◌&&◌, ◌==◌, List, [], ◌∷◌, refl, sym, ap, ◌∙◌, subst, inl, inr}
 use Rattle.std.proofs.Common.{arith}
 use Rattle.std.proofs.lemmas.Int.{ints}
@@ -22,17 +22,17 @@ use Rattle.ttx_late.proofs.GatheredMemories.{number_heads, matched_number, step_
 use Rattle.ttx_late.proofs.FollowedReceptions.{mag_is, number_is, AreOf, of_received}
 use Rattle.ttx_late.proofs.RunsAreShown.{page_heads}
 
--- the next header of the magazine, if it is received at all, has the selection's own number
+-- the next header of the magazine, if it is received at all, has the selection's own page number
 abbrev Stays : Selection → List (List ℕ) → Type 0
 Stays sel [] = Unit {0}
 Stays sel (slot ∷ rest) = (heads_number sel (packet_of slot) ≡ true) ⊎ ((heads (selected_mag sel) (packet_of slot) ≡ false) × Stays sel rest)
 
--- and so after each header that the selection matches
+-- this holds after each header that the selection matches
 abbrev AllStay : Selection → List (List ℕ) → Type 0
 AllStay sel [] = Unit {0}
 AllStay sel (slot ∷ rest) = (heads_matched sel (packet_of slot) ≡ true → Stays sel rest) × AllStay sel rest
 
--- a header of the magazine that has no other number has the page's own
+-- a header of the magazine that has no other page number has the page's own
 own_number : (sel : Selection) (page : Id) → selected_mag sel ≡ page.mag → selected_number sel ≡ page.page → (pkt : Packet) →
     heads page.mag pkt ≡ true →
     heads_another page pkt ≡ false → heads_number sel pkt ≡ true

@@ -1,4 +1,4 @@
--- What comes between two slots of a stream is shown soon after the second.
+-- What comes between two slots of a stream is shown soon after the second slot.
 use Rattle.std.proofs.Common.{◌≡◌, ℕ, zero, suc, ◌+◌, ◌<◌, ◌≤◌, ℤ, pos, ◌+ℤ◌, ◌-ℤ◌, ◌<ℤ◌, ◌≤ℤ◌, true, false, ◌&&◌, ◌==◌, List, [], ◌∷◌, ◌++◌, length}
 use Rattle.std.proofs.Common.{get_or, take, drop, refl, sym, ap, ◌∙◌, subst, inl, inr, arith, eqb-true, eq-eqb, nat_abs, length-drop}
 use Rattle.std.proofs.lemmas.Int.{ints}
@@ -65,7 +65,7 @@ page_heads page Unreadable h = absurd (both_ways false refl h)
 page_heads page Info h = absurd (both_ways false refl h)
 page_heads page Other h = absurd (both_ways false refl h)
 
--- a run is cut and joined
+-- a run can be cut and joined
 split : (class : Class) (lines : ℕ) (sel : Selection) (before rest : List (List ℕ)) (d new : LateMemory) →
     LateRun class lines sel d (before ++ rest) new →
     (mid : LateMemory) × LateRun class lines sel d before mid × LateRun class lines sel mid rest new
@@ -110,7 +110,7 @@ brought_header s p class lines repeat item begin end b = elim b as (λ _. UnderH
   | inr clear ↦ record { slot = clear.2.slot; not_before = clear.2.not_before; before = clear.2.before; is_header = clear.2.is_header }
 ]
 
--- what comes at slot begin or later comes at a later slot or later, if no header of the page stands between
+-- what comes at slot `begin` or later also comes from a later slot on, if no header of the page is between them
 brought_later : (s : Stream) (p : Page) (class : Class) (lines repeat : ℕ) (item : Item) (begin later end : ℤ) →
     ((h : ℤ) → begin ≤ℤ h → heads_page p.id (packet_of (s h)) ≡ true → later ≤ℤ h) → IsBrought s p class lines repeat item begin end →
     IsBrought s p class lines repeat item later end

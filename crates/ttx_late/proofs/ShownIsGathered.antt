@@ -1,4 +1,4 @@
--- What is shown: it is what was gathered, once storing has ended.
+-- What is shown is what was gathered, once storing has ended.
 use Rattle.std.proofs.Common.{◌≡◌, ◌⊎◌, ℕ, suc, ◌-◌, ◌<◌, ◌≤◌, true, false, not, ◌&&◌, List, [], ◌∷◌, ◌++◌, length, take, refl, sym, subst, inl, inr}
 use Rattle.std.proofs.Common.{arith}
 use Rattle.std.proofs.lemmas.Bool.{and_from, both_ways, not_from_false, and_left, and_right, cases_Bool}
@@ -15,14 +15,14 @@ use Rattle.ttx_late.specs.LateReceivers.{LateMemory, heads_number, may_forget, m
 use Rattle.ttx_late.proofs.StoringSteps.{Same, same_self, same_then, same_older, after_matched, after_stopped}
 use Rattle.ttx_late.proofs.GatheredMemories.{Ends, AllEnd, matched_number, no_number, step_storing, kept_base}
 
--- a page is gathered, and the header that ends it comes before `gap` slots
+-- a page is being gathered, and the header that ends it comes before `gap` slots
 pub record IsGathering (sel : Selection) (gap : ℕ) (m : Memory) (rest : List (List ℕ)) : Type 0 where
   pub storing : m.storing ≡ true
   pub place : ℕ
   pub before : place < gap
   pub ends : Ends sel rest place
 
--- none is gathered, and what is shown is what was
+-- no page is being gathered, and what is shown is what was gathered
 pub record IsSettled (d : LateMemory) : Type 0 where
   pub idle : d.gathered.storing ≡ false
   pub same : Same d.shown d.gathered
@@ -36,7 +36,7 @@ Comes sel [] = ⊥
 Comes sel (slot ∷ rest) = (heads_matched sel (packet_of slot) ≡ true) ⊎ Comes sel rest
 
 module _ (class : Class) (lines : ℕ) (sel : Selection) (gap : ℕ) where
-  -- after a header that the selection matches the page is gathered
+  -- after a header that the selection matches, the page is being gathered
   ready_matched : (d new : LateMemory) (slot : List ℕ) (rest : List (List ℕ)) → AllEnd sel gap (slot ∷ rest) → LateStep class lines sel d slot new →
       heads_matched sel (packet_of slot) ≡ true → IsReady sel gap new rest
   ready_matched d new slot rest all step matched =
@@ -50,7 +50,7 @@ module _ (class : Class) (lines : ℕ) (sel : Selection) (gap : ℕ) where
         ends = t.1;
       })
 
-  -- a slot that the selection doesn't match, after which nothing is gathered, leaves what was gathered
+  -- a slot that the selection does not match, and after which nothing is being gathered, leaves what was gathered unchanged
   pub stopped : (m new : Memory) (slot : List ℕ) → Step class lines sel m slot new → heads_matched sel (packet_of slot) ≡ false →
       new.storing ≡ false → Same m new
   stopped m new slot step other idle =
@@ -59,7 +59,7 @@ module _ (class : Class) (lines : ℕ) (sel : Selection) (gap : ℕ) where
       (after_stopped class lines sel step.choice (older m) (packet_of slot) other
       (subst (λ x. x.storing ≡ false) step.is idle)))
 
-  -- then what is shown is what was gathered, if it was so before or has to be shown
+  -- then what is shown is what was gathered, if it was so before or must be shown
   shown_same : (d new : LateMemory) (slot : List ℕ) → Same d.gathered new.gathered → MayShow sel d (packet_of slot) new →
       ((must_show sel d.gathered new.gathered (packet_of slot) ≡ true) ⊎ Same d.shown d.gathered) → Same new.shown new.gathered
   shown_same d new slot same shown why = elim shown as (λ _. Same new.shown new.gathered) [
@@ -133,12 +133,12 @@ module _ (class : Class) (lines : ℕ) (sel : Selection) (gap : ℕ) where
         ]
       ])
 
-  -- from a slot on what is gathered always has the View
+  -- from a slot on, what is gathered always has the View
   module _ (decide : ContentsDecide) (p : Page) where
     abbrev pub AllHaveView : LateMemory → List (List ℕ) → Type 0
     AllHaveView d rest = (k : ℕ) (new : LateMemory) → k ≤ length rest → LateRun class lines sel d (take k rest) new → HasView p new.gathered
 
-    -- what is shown has it too; or it is to be shown before the slots end
+    -- what is shown has it too, or must be shown before the slots end
     abbrev pub IsDue : LateMemory → List (List ℕ) → Type 0
     IsDue d rest = HasView p d.shown ⊎ IsGathering sel (length rest) d.gathered rest
 

@@ -1,4 +1,4 @@
--- What one slot makes of a memory: when storing begins, goes on and ends, and what is left where it has ended.
+-- What one slot does to a memory: when storing begins, goes on and ends, and what is left when it has ended.
 use Rattle.std.proofs.Common.{◌≡◌, ◌⊎◌, ℕ, Bool, true, false, not, ◌&&◌, ◌==◌, [], Some, None, get_or, refl, sym, ◌∙◌, subst, inl, inr}
 use Rattle.std.proofs.lemmas.Bool.{and_parts, cond_both, both_ways}
 use Rattle.ttx_header.specs.Control.{c11}
@@ -32,12 +32,12 @@ same_back a b s = record { rows = sym s.rows; control = sym s.control; links = s
 pub same_older : (m : Memory) → Same m (older m)
 same_older m = record { rows = refl; control = refl; links = refl }
 
--- a View is made of these alone
+-- a View depends only on these
 pub has_view_same : ContentsDecide → (p : Page) (a b : Memory) → Same a b → HasView p a → HasView p b
 has_view_same decide p a b s h = subst (λ v. SameButClock v (view_of (memory_of_page p))) (decide a b s.rows s.control s.links) h
 
 module _ (class : Class) (lines : ℕ) (sel : Selection) where
-  -- a page is stored after a slot only where the slot is a matching header, or the page was stored and the slot is no header of the magazine
+  -- a receiver is storing after a slot only if the slot is a matching header, or if it was storing and the slot is not a header of the magazine
   pub after_storing : (choice : Bool) (m : Memory) (pkt : Packet) → (after class lines sel choice m pkt).storing ≡ true →
       (heads_matched sel pkt ≡ true) ⊎ ((m.storing ≡ true) × (heads (selected_mag sel) pkt ≡ false))
   after_storing choice m (Header id control text) st =
@@ -81,7 +81,7 @@ module _ (class : Class) (lines : ℕ) (sel : Selection) where
   after_matched choice m Info h = absurd (both_ways false refl h)
   after_matched choice m Other h = absurd (both_ways false refl h)
 
-  -- a slot after which nothing is stored, and which the selection doesn't match, leaves what was held
+  -- a slot that the selection does not match, and after which nothing is being stored, leaves what was held unchanged
   pub after_stopped : (choice : Bool) (m : Memory) (pkt : Packet) → heads_matched sel pkt ≡ false →
       (after class lines sel choice m pkt).storing ≡ false → Same m (after class lines sel choice m pkt)
   after_stopped choice m (Header id control text) other st =
@@ -111,7 +111,7 @@ module _ (class : Class) (lines : ℕ) (sel : Selection) where
   after_stopped choice m Info other st = same_self m
   after_stopped choice m Other other st = same_self m
 
-  -- a slot that is no header of the magazine, where no choice is taken, leaves the receiver storing or not
+  -- a slot that is not a header of the magazine, without a choice taken, does not change whether the receiver is storing
   pub after_quiet : (m : Memory) (pkt : Packet) → heads (selected_mag sel) pkt ≡ false → heads_matched sel pkt ≡ false →
       (after class lines sel false m pkt).storing ≡ m.storing
   after_quiet m (Header id control text) other none =

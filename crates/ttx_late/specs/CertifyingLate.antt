@@ -1,8 +1,8 @@
--- What is answered and written where a packet file, a service definition and a certificate are certified for receivers that show late.
+-- What is answered and written when a packet file, a service definition and a certificate are certified for receivers that show pages late.
 --
 --   CertifiesLate           the verdict on three inputs, and its line
---   CertifiesFilesLate      what was written at each answer
---   IsJudgedLate            the verdict on what is read, with its line
+--   CertifiesFilesLate      what has been written, for each answer
+--   IsJudgedLate            the verdict on what was read, with its line
 use Rattle.std.specs.Prelude.{◌≡◌, ℕ, ◌<◌, List, length, take, Option, Result, Ok, Err}
 use Rattle.std.specs.Io.KnownBytes.{Appends, Keeps}
 use Rattle.ttx_source.specs.Services.{ServiceFields, pages_of}
@@ -22,7 +22,7 @@ pub record IsJudgedLate (slots : List (List ℕ)) (service : ServiceFields) (w :
   pub seen : MeansLate slots (pages_of service) (certificate_at w) verdict
   pub line_is : line ≡ late_verdict_line w (length service.pages) verdict
 
--- the three inputs are a packet file, a service and a certificate, and this is the verdict on them
+-- the three inputs are a packet file, a service definition and a certificate, and this is the verdict on them
 pub record CertifiesLate (a b c : List ℕ) (verdict : LateVerdict) (line : List ℕ) : Type 0 where
   pub slots : List (List ℕ)
   pub service : ServiceFields
@@ -32,7 +32,7 @@ pub record CertifiesLate (a b c : List ℕ) (verdict : LateVerdict) (line : List
   pub certificate_is : IsCertificateText c w
   pub judged : IsJudgedLate slots service w verdict line
 
--- Ok: the line of the verdict went out. A write fault: its first `written` bytes. Else nothing, and why the inputs are refused.
+-- Ok: the line of the verdict was written. A write fault: its first `written` bytes. Any other fault: nothing, and why the inputs are refused.
 abbrev pub CertifiesFilesLate : List ℕ → List ℕ → List ℕ → Option (List ℕ) → Option (List ℕ) → Result LateVerdict FilesFault → Type 0
 CertifiesFilesLate a b c old new (Ok verdict) = (line : List ℕ) × CertifiesLate a b c verdict line × Appends old new line
 CertifiesFilesLate a b c old new (Err (Write written)) =

@@ -1,15 +1,15 @@
 -- Which pages of a cycle are followed by another page number, and how soon.
 --
---   HoldsId, HoldsNoId      the id that a packet names, where it is a page header
+--   HoldsId, HoldsNoId      the id in a packet, if it is a page header
 --   IsFollowedAt            a header of the page, if the slot is one, is followed by another page number
 --   IsUnfollowedAt          a header of the page after which the next one of its magazine has the page's own number
---   IsFollowedIn            the next header of the magazine has another page number, and stands so many slots on
---   IsGap                   the most slots from a header of the page to the next of its magazine, which has another number
---   TellsUnfollowed         the page whose header stands at a slot, where it isn't followed
+--   IsFollowedIn            the next header of the magazine has another page number, and comes so many slots later
+--   IsGap                   the most slots from a header of the page to the next of its magazine, which has another page number
+--   TellsUnfollowed         the page whose header is in a slot, if it is not followed
 --   AllAreFollowed          each page of a list is followed by another page number
---   AreFollowedWithin, IsGreatestGap        and at most so many slots on; the most slots of all pages
+--   AreFollowedWithin, IsGreatestGap        and at most so many slots later; the most slots for all pages
 --   IsWidened               the same for the headers at one slot
---   IsFirstUnshown          the first slot at which a page isn't followed, with the page's place in the list
+--   IsFirstUnshown          the first slot at which a page is not followed, with the page's index in the list
 use Rattle.std.specs.Prelude.{◌+◌, ◌≤◌, ◌≡◌, ◌⊎◌, ℕ, ◌<◌, pos, ◌≤ℤ◌, List, length, slice_get, Option, Some, None, true}
 use Rattle.ttx_header.specs.Ids.{Id}
 use Rattle.ttx_page.specs.Packets.{Packet, Header, packet_of}
@@ -57,13 +57,13 @@ pub record IsGreatestGap (cycle : List (List ℕ)) (pages : List Page) (gap : �
   pub within : AreFollowedWithin cycle pages gap
   pub least : (other : ℕ) → AreFollowedWithin cycle pages other → gap ≤ other
 
--- a gap that is enough for the listed pages' headers at slot i too; it has grown only where one of them needs it
+-- a gap that is also enough for the listed pages' headers at slot i; it has grown only if one of them needs it
 pub record IsWidened (s : Stream) (pages : List Page) (i gap more : ℕ) : Type 0 where
   pub grows : gap ≤ more
   pub enough : (n : ℕ) (p : Page) → slice_get pages n ≡ Some p → HeadsAt s p.id i → (f : IsFollowed s p.id (pos i)) → f.slot ≤ℤ pos (i + more)
   pub needed : (more ≡ gap) ⊎ ((n : ℕ) × (p : Page) × (slice_get pages n ≡ Some p) × HeadsAt s p.id i × IsFollowedIn s p.id i more)
 
--- the page stands at this place of the list; the slot is such a header of it, and at each earlier slot of the cycle each page is followed
+-- the page is at this index of the list; the slot is such a header of it, and at each earlier slot of the cycle each page is followed
 pub record IsFirstUnshown (cycle : List (List ℕ)) (pages : List Page) (u : Unshown) : Type 0 where
   pub page : Page
   pub listed : slice_get pages u.page ≡ Some page

@@ -1,9 +1,9 @@
--- What a verdict says where receivers may show pages late (profile).
+-- What a verdict means for receivers that may show pages late (profile).
 --
---   IsNeverShown            a header of a listed page that isn't followed by another page number, the first of the cycle
---   IsFollowedVerdict       the answer to a cycle that is accepted
---   IsLateVerdict           the answer to a cycle, pages and a certificate
---   MeansLate               where the verdict is Yes, each page is seen on both kinds of receivers
+--   IsNeverShown            a header of a listed page that is not followed by another page number, the first in the cycle
+--   IsFollowedVerdict       the verdict on a cycle that is accepted
+--   IsLateVerdict           the verdict on a cycle, pages and a certificate
+--   MeansLate               if the verdict is Yes, each page is seen on both kinds of receivers
 use Rattle.std.specs.Prelude.{◌≡◌, ℕ, List, slice_get, Some}
 use Rattle.ttx_header.specs.Ids.{Id}
 use Rattle.ttx_page.specs.Pages.{Page}
@@ -30,7 +30,7 @@ IsLateVerdict cycle pages w (Yes gap) = Accepts cycle pages w × AllAreFollowed 
 IsLateVerdict cycle pages w (No reason) = IsRefusal cycle pages w reason × (Accepts cycle pages w → ⊥)
 IsLateVerdict cycle pages w (NeverShown page slot) = Accepts cycle pages w × IsNeverShown cycle pages page slot
 
--- seen by each permitted receiver from the deadline on, and by each that shows pages late from the deadline and the gap on
+-- seen on each permitted receiver from the deadline on, and on each that shows pages late from the deadline and the gap on
 abbrev pub MeansLate : List (List ℕ) → List Page → Certificate → LateVerdict → Type 0
 MeansLate cycle pages w (Yes gap) = (n : ℕ) (p : Page) → slice_get pages n ≡ Some p → Seen cycle pages p w × SeenLate cycle pages p w gap
 MeansLate cycle pages w (No reason) = Unit {0}

@@ -1,10 +1,10 @@
--- The laws of receivers that show a page late. Each is proved by the function of its name in `laws`.
+-- Laws of receivers that show a page late. Each is proved by the function of its name in `laws`.
 --
---   RunsAreShown            in any stream: where each needed item comes between two slots, the page is shown soon after the second
---   FollowedIsWithin        in a cycle's stream the next header of the magazine comes within the cycle's length
+--   RunsAreShown            in any stream: if each needed item comes between two slots, the page is shown soon after the second slot
+--   FollowedIsWithin        in the stream of a cycle, the next header of the magazine comes within the length of the cycle
 --   AcceptedIsShown         each page of an accepted cycle that is followed by another page number is seen on receivers that show it late
---   NeverFollowedIsUnshown  a page that is never followed is never shown, by some such receiver
---   EachListRunsLate        each such receiver makes something of each list
+--   NeverFollowedIsUnshown  a page that is never followed is never shown by some such receiver
+--   EachListRunsLate        such receivers have a run over every list of slots
 use Rattle.std.specs.Prelude.{◌≡◌, ℕ, ◌<◌, ◌≤◌, ℤ, pos, ◌+ℤ◌, ◌≤ℤ◌, true, false, List, length, slice_get, Some}
 use Rattle.ttx_packet.specs.Slots.{IsSlot, is_clean}
 use Rattle.ttx_header.specs.Ids.{Id}
@@ -25,13 +25,13 @@ use Rattle.ttx_certify.specs.Laws.{ArePages}
 use Rattle.ttx_late.specs.LateReceivers.{LateMemory, LateRun}
 use Rattle.ttx_late.specs.SeenLate.{SeenLate}
 
--- each header of the page from slot begin on is followed by one of another page number, at most so many slots on
+-- each header of the page from slot `begin` on is followed by one with another page number, at most `gap` slots later
 abbrev pub IsFollowedFrom : Stream → Id → ℕ → ℤ → Type 0
 IsFollowedFrom s page gap begin = (h : ℤ) → begin ≤ℤ h → heads_page page (packet_of (s h)) ≡ true →
     (f : IsFollowed s page h) × (f.slot ≤ℤ (h +ℤ pos gap))
 
--- As RunsAreSeen of the headline, with what is shown in place of what is gathered: it has the page's View once the next header of the
--- magazine has surely come, that is, `gap` slots after the deadline.
+-- The same as RunsAreSeen of the headline, for what is shown instead of what is gathered: it has the page's View once the next header of
+-- the magazine must have come, that is, `gap` slots after the deadline.
 abbrev pub RunsAreShown : Type 0
 RunsAreShown =
     (s : Stream) (p : Page) (sel : Selection) (class : Class) (lines repeat : ℕ) (begin end : ℤ) →
@@ -46,15 +46,15 @@ FollowedIsWithin =
     (cycle : List (List ℕ)) (page : Id) → 0 < length cycle → IsFollowedByAnother (repeated cycle) page →
     IsFollowedWithin (repeated cycle) page (length cycle)
 
--- What is accepted, and followed, is shown late: the second sentence of the headline.
+-- What is accepted and followed is shown late: the second sentence of the headline.
 abbrev pub AcceptedIsShown : Type 0
 AcceptedIsShown =
     (cycle : List (List ℕ)) (pages : List Page) (w : Certificate) → IsCycle cycle → ArePages pages → IsCertificate w →
     Accepts cycle pages w → (n : ℕ) (p : Page) → slice_get pages n ≡ Some p →
     (gap : ℕ) → IsFollowedWithin (repeated cycle) p.id gap → SeenLate cycle pages p w gap
 
--- The condition is needed. Where the headers that the selection matches are the page's and none of them is followed by another page
--- number, some receiver that shows pages late never shows anything anew, whatever is received of the page.
+-- The condition is needed. If the headers that the selection matches are the page's, and none of them is followed by another page
+-- number, then some receiver that shows pages late never shows anything new, whatever it receives of the page.
 abbrev pub NeverFollowedIsUnshown : Type 0
 NeverFollowedIsUnshown =
     (s : Stream) (page : Id) (sel : Selection) (class : Class) (lines repeat : ℕ) (begin : ℤ) → matches sel page ≡ true →

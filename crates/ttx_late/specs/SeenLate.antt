@@ -11,8 +11,8 @@ use Rattle.ttx_witness.specs.Coverage.{Certificate, limit}
 use Rattle.ttx_certify.specs.Seen.{HasView}
 use Rattle.ttx_late.specs.LateReceivers.{LateMemory, LateRun}
 
--- By each selection that fits the page, from each tuning slot, whatever was gathered and shown before, after each reception within the
--- error rule that lasts to the deadline and `gap` slots more, and by whatever run: what the receiver shows has the page's View.
+-- For each selection that fits the page, each tuning slot, whatever was gathered and shown before, each reception within the error rule
+-- that lasts until `gap` slots after the deadline, and each run: what the receiver shows has the page's View.
 pub record SeenLate (cycle : List (List ℕ)) (pages : List Page) (p : Page) (w : Certificate) (gap : ℕ) : Type 0 where
   pub shown : (sel : Selection) → Fits pages p sel → (tau : ℤ) (former d : LateMemory) (received : List (List ℕ)) → IsFormer w.class former.gathered →
       Received (repeated cycle) p.id w.repeat tau received → limit w + gap ≤ length received → LateRun w.class w.lines sel former received d →

@@ -16,7 +16,7 @@ use ttx_page::Page;
 use ttx_source::Service;
 use ttx_witness::{Certificate, NoMemory};
 
-// The verdict on a cycle that is accepted.
+// The verdict on a cycle that the certifier accepts.
 fn followed_verdict(cycle: &Cycle, pages: &[Page]) -> LateVerdict
     ensures { IsFollowedVerdict (slots_of cycle.now) (map page_of pages.now) result }
 {
@@ -31,10 +31,13 @@ fn followed_verdict(cycle: &Cycle, pages: &[Page]) -> LateVerdict
     }
 }
 
-/// The verdict of `certify` on the pages of a service; and where it is Yes, whether each page is followed by another page number, with
-/// the greatest gap, or else the first header that isn't. Where this says Yes, each page is seen on two kinds of receivers, by whoever
-/// tunes to it, at whatever slot and with whatever memory, under each reception within the error rule, the header clock aside: by every
-/// permitted receiver from the deadline on, and by every one that gathers pages so and shows them late from `gap` slots later on.
+/// Certifies a cycle also for receivers that show pages late: the verdict of `certify` on the pages of a service, and if it is Yes,
+/// whether each page is followed by another page number. `Yes` gives the greatest gap in slots, `NeverShown` the first header that is
+/// not followed.
+///
+/// If the verdict is Yes, each page is seen on two kinds of receivers, from any tuning slot, with any former memory and with any reception
+/// within the error rule, the header clock aside: on every permitted receiver from the deadline on, and on every receiver that
+/// gathers pages by permitted steps and shows them late from `gap` slots after the deadline on.
 pub fn certify_late(
     alloc: Global,
     cycle: &Cycle,

@@ -1,4 +1,4 @@
-//! Certifying files for receivers that show pages late: a packet file, a service definition and a certificate.
+//! Certifies files for receivers that show pages late: a packet file, a service definition and a certificate.
 
 ghost use Rattle.std.specs.Prelude.{◌≡◌, IfSome, IfOk, string_bytes};
 ghost use Rattle.ttx_cycle.specs.Counters.{inner_of, faults_of};
@@ -17,7 +17,7 @@ use ttx_certify::{FilesFault, Inputs, read_inputs, write_line};
 use ttx_cycle::Counted;
 use ttx_witness::{Certificate, NoMemory};
 
-// The verdict on what is read, and its line.
+// The verdict on the files, and its line.
 #[derive(Drop)]
 struct Told {
     verdict: LateVerdict,
@@ -35,7 +35,7 @@ fn line_of(
     late_verdict_line(alloc, certificate, pages, *verdict)
 }
 
-// The verdict on what was read, and its line.
+// Judges the files that were read, and makes the line.
 fn judge(alloc: Global, inputs: &Inputs) -> Result<Told, NoMemory>
     ensures { IfOk result (λ told. IsJudgedLate (slots_of inputs.now.cycle) inputs.now.service (fields_of inputs.now.certificate)
         told.verdict (string_bytes told.line)) }
@@ -50,12 +50,12 @@ fn judge(alloc: Global, inputs: &Inputs) -> Result<Told, NoMemory>
     }
 }
 
-/// Reads a packet file, the text of a service and that of a certificate, in this order, certifies the pages of the service for receivers
-/// that show pages late too, and writes the line of the verdict. Where the verdict is Yes each page is seen on both kinds of receivers,
-/// as `certify_late` says.
+/// Reads a packet file, a service definition and a certificate, in this order, certifies the pages of the service also for receivers
+/// that show pages late, and writes the line of the verdict. If the verdict is Yes, each page is seen on both kinds of receivers, as
+/// `certify_late` says.
 ///
-/// Nothing is written before all is judged. At `Write` exactly the first `written` bytes of the line went out; at each
-/// other fault the writer is as it was.
+/// Nothing is written before everything is judged. At a `Write` fault exactly the first `written` bytes of the line have been
+/// written; at any other fault the writer is unchanged.
 pub fn certify_files_late<A: Read, B: Read, C: Read, W: Write>(
     alloc: Global,
     cycle: &mut Counted<A>,

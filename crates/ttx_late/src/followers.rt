@@ -1,4 +1,4 @@
-//! Deciding whether the pages of a cycle are followed by other page numbers, and how soon.
+//! Decides whether the pages of a cycle are followed by other page numbers, and how soon.
 
 ghost use Rattle.std.specs.Prelude.{◌≡◌, ◌↔◌, ◌<◌, ◌≤◌, ℕ, pos, IsTrue, All, MatchOption, Some, length, map, slice_get, slice_index_or, [], true};
 ghost use Rattle.ttx_packet.specs.Slots.{IsSlot};
@@ -16,7 +16,7 @@ use ttx_cycle::Cycle;
 use ttx_header::{PageId, read_header};
 use ttx_page::Page;
 
-// The id that a page header names.
+// The id in a page header; `None` for other packets.
 fn id_in(slot: &[u8; 42]) -> Option<PageId>
     requires { IsSlot slot.now }
     ensures { MatchOption result (HoldsNoId (packet_of slot.now)) (λ id. HoldsId id (packet_of slot.now)) }
@@ -29,7 +29,7 @@ fn id_in(slot: &[u8; 42]) -> Option<PageId>
     }
 }
 
-// Whether the slot is a header of the magazine.
+// Whether the slot is a header of this magazine.
 fn heads(mag: u8, slot: &[u8; 42]) -> bool
     requires { IsSlot slot.now }
     ensures { result ≡ heads mag (packet_of slot.now) }
@@ -51,8 +51,8 @@ fn heads_another(page: PageId, slot: &[u8; 42]) -> bool
     }
 }
 
-// How many slots after the page's header at a slot the next one of its magazine stands, if this has another page number. The slots that are
-// read for one header of a magazine aren't read for the next one.
+// The number of slots from the page's header at slot `at` to the next header of its magazine, if that has another page number. The
+// slots read for one header of a magazine are not read again for the next.
 fn follower(slots: &[[u8; 42]], at: usize, page: PageId) -> Option<usize>
     requires at { at < length slots.now }
     requires most { length slots.now ≤ 65536 }
@@ -73,7 +73,7 @@ fn follower(slots: &[[u8; 42]], at: usize, page: PageId) -> Option<usize>
     None
 }
 
-// The page whose header stands at the slot, if it isn't followed by another page number.
+// The page whose header is in slot `at`, if it is not followed by another page number.
 fn unfollowed_at(slots: &[[u8; 42]], at: usize) -> Option<PageId>
     requires at { at < length slots.now }
     requires most { length slots.now ≤ 65536 }
@@ -100,8 +100,8 @@ fn heads_page(page: PageId, slot: &[u8; 42]) -> bool
     }
 }
 
-/// The most slots from a header of the page to the next header of its magazine; `None` where one of these has the page's own number.
-/// Receivers that show a page late show it so many slots after the deadline.
+/// The most slots from a header of the page to the next header of its magazine; `None` if one of these has the page's own number.
+/// Receivers that show a page late show it at most this many slots after the deadline.
 pub fn gap_after(cycle: &Cycle, page: PageId) -> Option<usize>
     ensures { MatchOption result (IsFollowedByAnother (repeated (slots_of cycle.now)) page → ⊥) (IsGap (repeated (slots_of cycle.now)) page) }
 {
@@ -124,7 +124,7 @@ pub fn gap_after(cycle: &Cycle, page: PageId) -> Option<usize>
     Some(gap)
 }
 
-// The place of the first page with this id.
+// The index of the first page with this id.
 fn place_of(pages: &[Page], id: PageId) -> Option<usize>
     ensures { MatchOption result ((n : ℕ) (p : definitions.Page) → slice_get (map page_of pages.now) n ≡ Some p → p.id ≡ id → ⊥)
         (λ n. (p : definitions.Page) × (slice_get (map page_of pages.now) n ≡ Some p) × (p.id ≡ id)) }
@@ -137,8 +137,8 @@ fn place_of(pages: &[Page], id: PageId) -> Option<usize>
     None
 }
 
-/// The first slot at which a header of one of the pages isn't followed by another page number; `None` where all of them always are. It
-/// reads each slot at most ten times, and looks a page up only for a header that isn't followed.
+/// The first slot with a header of one of the pages that is not followed by another page number; `None` if every header is followed.
+/// Reads each slot at most ten times, and looks a page up only for a header that is not followed.
 pub fn first_unshown(cycle: &Cycle, pages: &[Page]) -> Option<Unshown>
     ensures { MatchOption result (AllAreFollowed (slots_of cycle.now) (map page_of pages.now))
         (IsFirstUnshown (slots_of cycle.now) (map page_of pages.now)) }
@@ -156,7 +156,7 @@ pub fn first_unshown(cycle: &Cycle, pages: &[Page]) -> Option<Unshown>
     None
 }
 
-// The gap, or the slots from the header at the slot to the one that follows it, where these are more and the header is of a listed page.
+// The larger of `gap` and the slots from the header in slot `at` to the next header of its magazine, if the header is of a listed page.
 fn widened(slots: &[[u8; 42]], pages: &[Page], at: usize, gap: usize) -> usize
     requires at { at < length slots.now }
     requires most { length slots.now ≤ 65536 }
@@ -180,7 +180,7 @@ fn widened(slots: &[[u8; 42]], pages: &[Page], at: usize, gap: usize) -> usize
     }
 }
 
-/// The most slots from a header of one of the pages to the next header of its magazine, where each of them has another page number.
+/// The most slots from a header of one of the pages to the next header of its magazine. Each of these has another page number.
 pub fn greatest_gap(cycle: &Cycle, pages: &[Page]) -> usize
     requires { AllAreFollowed (slots_of cycle.now) (map page_of pages.now) }
     ensures { IsGreatestGap (slots_of cycle.now) (map page_of pages.now) result }

@@ -1,8 +1,8 @@
-//! The laws of receivers that show a page late. A call costs nothing and gives the caller's proof the law.
+//! Laws of receivers that show a page late. Calling one does nothing at run time; it gives the caller's proof the law.
 
 ghost use Rattle.ttx_late.specs.Laws.{RunsAreShown, FollowedIsWithin, AcceptedIsShown, NeverFollowedIsUnshown, EachListRunsLate};
 
-/// In any stream: where each needed item comes between two slots, the page is shown soon after the second.
+/// In any stream: if each needed item comes between two slots, the page is shown soon after the second slot.
 pub fn runs_are_shown()
     ensures { RunsAreShown }
 {
@@ -12,14 +12,15 @@ pub fn runs_are_shown()
     ttx_header::laws::header_is_kept();
 }
 
-/// In a cycle's stream the next header of the magazine comes within the cycle's length.
+/// In the stream of a cycle, the next header of the magazine comes within the length of the cycle.
 pub fn followed_is_within()
     ensures { FollowedIsWithin }
 {
     ttx_page::laws::cycles_repeat();
 }
 
-/// Each page of an accepted cycle that is followed by another page number is shown by the deadline and the slots up to the next header.
+/// Each page of an accepted cycle that is followed by another page number is shown by the deadline and the slots up to the next
+/// header.
 pub fn accepted_is_shown()
     ensures { AcceptedIsShown }
 {
@@ -38,7 +39,7 @@ pub fn never_followed_is_unshown()
     ttx_header::laws::header_is_kept();
 }
 
-/// Each receiver that shows a page late makes something of each list of slots.
+/// Over every list of slots, receivers that show a page late have a run.
 pub fn each_list_runs_late()
     ensures { EachListRunsLate }
 {}

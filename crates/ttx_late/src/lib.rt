@@ -1,5 +1,5 @@
-//! Receivers that show a page late, as most software decoders do: what a cycle has to send so that they show it, and the certifier's
-//! answer for them.
+//! Receivers that show a page late, as most software decoders do: what a cycle must send so that they show each page, and the
+//! certifier's verdict for them.
 #![tactic(auto)]
 
 mod certifying;

@@ -1,4 +1,4 @@
-//! The lines of verdicts where receivers may show pages late.
+//! The lines of verdicts for receivers that may show pages late.
 
 ghost use Rattle.std.specs.Prelude.{◌≡◌, ◌∷◌, ◌++◌, [], OnOk, IfOk, string_bytes};
 ghost use Rattle.ttx_witness.specs.Certificates.{fields_of};
@@ -70,7 +70,7 @@ fn slot_line(alloc: Global, name: &str, page: PageId, slot: usize) -> Result<Str
     }
 }
 
-/// The line of a verdict on so many pages, ended by 0A.
+/// The line of a verdict on so many pages. It ends with the byte 0A. `Err` if memory runs out.
 pub fn late_verdict_line(
     alloc: Global,
     certificate: &Certificate,

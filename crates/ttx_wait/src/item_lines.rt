@@ -1,4 +1,4 @@
-//! The lines of how long viewers of the items of pages wait.
+//! The lines that say how long viewers wait for the items of pages.
 
 ghost use Rattle.std.specs.Prelude.{◌≡◌, ◌+◌, ◌++◌, [], get_or, map, OnOk, IfOk, string_bytes};
 ghost use Rattle.ttx_wait.specs.WaitLines.{own_text, item_line, item_lines, lines_under, both_lines, item_wait_lines};
@@ -10,7 +10,7 @@ use ttx_digits::push_id;
 use ttx_header::PageId;
 use ttx_witness::{ItemWait, OwnWait, PageWait, Wait, push_item};
 
-// Adds how long a viewer waits for an item, or what becomes of its transmissions.
+// Appends how long a viewer waits for an item, or what happens to its transmissions.
 fn push_own(text: &mut String, wait: OwnWait) -> Result<(), AllocError>
     ensures { OnOk result (string_bytes text.new ≡ string_bytes text.old ++ own_text wait) }
 {
@@ -23,7 +23,7 @@ fn push_own(text: &mut String, wait: OwnWait) -> Result<(), AllocError>
     }
 }
 
-// Adds the line of an item of the page.
+// Appends the line of an item.
 fn push_line(text: &mut String, page: PageId, told: ItemWait) -> Result<(), AllocError>
     ensures { OnOk result (string_bytes text.new ≡ string_bytes text.old ++ item_line page told) }
 {
@@ -33,7 +33,7 @@ fn push_line(text: &mut String, page: PageId, told: ItemWait) -> Result<(), Allo
     text.push('\n')
 }
 
-// Adds the lines of items of the page.
+// Appends the lines of the items of a page.
 fn push_items(text: &mut String, page: PageId, items: &[ItemWait]) -> Result<(), AllocError>
     ensures { OnOk result (string_bytes text.new ≡ string_bytes text.old ++ item_lines page items.now) }
 {
@@ -43,7 +43,7 @@ fn push_items(text: &mut String, page: PageId, items: &[ItemWait]) -> Result<(),
     Ok(())
 }
 
-// Adds the lines of the items of a page, where it is sent unchanged.
+// Appends the lines of the items of a page, if the page is sent unchanged.
 fn push_under(text: &mut String, told: PageWait, items: &[ItemWait]) -> Result<(), AllocError>
     ensures { OnOk result (string_bytes text.new ≡ string_bytes text.old ++ lines_under told.wait told.page items.now) }
 {
@@ -54,7 +54,7 @@ fn push_under(text: &mut String, told: PageWait, items: &[ItemWait]) -> Result<(
     }
 }
 
-// What is told of the items of the page at the index.
+// The waits of the items of the page at `index`.
 fn items_of(all: &[Vec<ItemWait>], index: usize) -> &[ItemWait]
     ensures { result.now ≡ get_or (map (λ told. told.items) all.now) index [] }
 {
@@ -64,7 +64,7 @@ fn items_of(all: &[Vec<ItemWait>], index: usize) -> &[ItemWait]
     }
 }
 
-// Adds the line of each page with those of its items.
+// Appends the line of each page with the lines of its items.
 fn push_both(text: &mut String, told: &[PageWait], all: &[Vec<ItemWait>]) -> Result<(), AllocError>
     ensures { OnOk result (string_bytes text.new ≡ string_bytes text.old ++ both_lines told.now (map (λ told. told.items) all.now)) }
 {
@@ -75,7 +75,8 @@ fn push_both(text: &mut String, told: &[PageWait], all: &[Vec<ItemWait>]) -> Res
     Ok(())
 }
 
-/// The lines of the pages with those of their items, and that for all pages; `bad` is the first bad slot, if there is one.
+/// The lines of the pages with those of their items, and the line for all pages. `bad` is the first bad slot, if there is one. `Err` if
+/// memory runs out.
 pub fn item_wait_lines(
     alloc: Global,
     bad: Option<u32>,
