@@ -1,4 +1,4 @@
--- Slots that are found one after another are those of their page that a pass over all would meet.
+-- The slots found one after another are those of the page that a pass over all slots would meet.
 use Rattle.std.proofs.Common.{◌≡◌, ◌∙◌, ℕ, suc, ◌+◌, ◌<◌, ⊎_elim, ◌-◌, Bool, true, false, cond, ◌==◌, if◌then◌else◌, List, [], ◌∷◌, drop, get_or, set}
 use Rattle.std.proofs.Common.{length, Some, None, unwrap_or, refl, sym, ap, arith, eqb-true, eq-eqb, add-one, Less, Equal, Greater, ◌≢◌, drop-cons}
 use Rattle.std.proofs.Common.{drop-drop, get_or-drop, get_or-set_same, get_or-set_other, length-drop, length-set}
@@ -17,7 +17,7 @@ gap_here key page pages e = ap (λ b. if b then 0 else suc (gap key pages)) e
 gap_later : (key page : ℕ) (pages : List ℕ) → (page == key) ≡ false → gap key (page ∷ pages) ≡ suc (gap key pages)
 gap_later key page pages e = ap (λ b. if b then 0 else suc (gap key pages)) e
 
--- the slot that is found is of the page
+-- the slot that is found belongs to the page
 hits : (key : ℕ) (pages : List ℕ) → gap key pages < length pages → get_or pages (gap key pages) 0 ≡ key
 hits key [] h = absurd (omega arith)
 hits key (page ∷ pages) h = by_test (hits key pages) (page == key) refl
@@ -30,7 +30,7 @@ hits key (page ∷ pages) h = by_test (hits key pages) (page == key) refl
         let within : gap key pages < length pages = omega (arith, h, more) in
         ap (λ n. get_or (page ∷ pages) n 0) more ∙ later within
 
--- no slot before it is
+-- no slot before it belongs to the page
 skips : (key : ℕ) (t : Tuned) (slots : List (List ℕ)) (pages : List ℕ) → length pages ≡ length slots →
     hears key t (drop (gap key pages) slots) (drop (gap key pages) pages) ≡ hears key t slots pages
 skips key t [] [] e = refl
@@ -48,7 +48,7 @@ skips key t (slot ∷ slots) (page ∷ pages) e = by_test (skips key t slots pag
         ∙ sym (ap (λ b. hears key (if b then stepped Any false t slot else t) slots pages) is)
 
 module _ (key : ℕ) (slots : List (List ℕ)) (pages : List ℕ) (size : length pages ≡ length slots) where
-  -- from a slot on the first one of the page is next
+  -- from a slot on, the first slot of the page is the next one that matters
   pub from_first : (at : ℕ) (t : Tuned) → hears key t (drop (place_from at key pages) slots) (drop (place_from at key pages) pages)
       ≡ hears key t (drop at slots) (drop at pages)
   from_first at t =
@@ -58,14 +58,14 @@ module _ (key : ℕ) (slots : List (List ℕ)) (pages : List ℕ) (size : length
       ∙ ap (λ ps. hears key t (drop g (drop at slots)) ps) (sym (drop-drop g at pages))
       ∙ skips key t (drop at slots) (drop at pages) left
 
-  -- and it is of the page
+  -- and it belongs to the page
   pub place_hits : (at : ℕ) → place_from at key pages < length pages → get_or pages (place_from at key pages) 0 ≡ key
   place_hits at h =
       let g = gap key (drop at pages) in
       let within : g < length (drop at pages) = omega (arith, h, length-drop at pages) in
       sym (get_or-drop at pages g 0) ∙ hits key (drop at pages) within
 
-  -- a slot of the page is heard, and then the next one
+  -- a slot of the page is taken, and then the next one
   pub one_heard : (at : ℕ) (t : Tuned) → at < length slots → get_or pages at 0 ≡ key →
       hears key (stepped Any false t (get_or slots at [])) (drop (place_from (at + 1) key pages) slots)
       (drop (place_from (at + 1) key pages) pages) ≡ hears key t (drop at slots) (drop at pages)
@@ -86,7 +86,7 @@ module _ (key : ℕ) (slots : List (List ℕ)) (pages : List ℕ) (size : length
 
 -- ---- making an index
 
--- a map with one key more
+-- the map with one more key
 abbrev pub Adds : BTreeMap ℕ ℕ → ℕ → ℕ → BTreeMap ℕ ℕ → Type 0
 Adds old key at new = (q : ℕ) → get nat_cmp new q ≡ cond (is_at (nat_cmp key) q) (Some at) (get nat_cmp old q)
 
@@ -94,7 +94,7 @@ gap_none : (key : ℕ) (pages : List ℕ) → length pages ≡ 0 → gap key pag
 gap_none key [] e = refl
 gap_none key (page ∷ pages) e = absurd (omega (arith, e))
 
--- from the end on nothing stands
+-- from the end on there are no slots
 pub nothing_yet : (pages : List ℕ) (at : ℕ) (first : BTreeMap ℕ ℕ) (next : List ℕ) → at ≡ length pages → length next ≡ length pages →
     ((q : ℕ) → get nat_cmp first q ≡ None) → IsPlaceIndex pages at first next
 nothing_yet pages at first next e size none = record {

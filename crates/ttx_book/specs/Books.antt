@@ -1,4 +1,4 @@
--- All pages of a cycle as one HTML file, which needs nothing else.
+-- All pages of a cycle as one HTML file that needs no other file.
 --
 --   index_html              links to the pages
 --   leaf_html, leaves_html    a page: its picture, its links and its text
@@ -17,7 +17,7 @@ unfoldable pub book_start : List ℕ
 book_start = codes "<!DOCTYPE html>\n<html lang=\"en\"><head><meta charset=\"utf-8\"/>"
     ++ codes "<meta name=\"viewport\" content=\"width=device-width\"/><title>Teletext pages</title><style>"
 
--- pages that aren't seen aren't drawn
+-- pages outside the window are not rendered
 unfoldable pub book_style : List ℕ
 book_style = codes ".i{flex-wrap:wrap}.i a{padding:.4em;color:#fff}h2{font-size:1em;margin:0;padding:.7em}"
     ++ codes "section{content-visibility:auto;contain-intrinsic-size:auto 47em}"
@@ -27,7 +27,7 @@ book_style = codes ".i{flex-wrap:wrap}.i a{padding:.4em;color:#fff}h2{font-size:
 unfoldable pub index_start : List ℕ
 index_start = codes "</style></head><body><main><output id=\"n\"></output><nav class=\"i\" aria-label=\"Pages\">"
 
--- as the program names pages
+-- a page's name is its id, as everywhere in the program
 unfoldable pub name_of : Id → List ℕ
 name_of id = id_text id
 
@@ -41,7 +41,7 @@ index_html ids = flat_map index_entry ids
 abbrev pub full_number : Id → ℕ
 full_number id = id.mag * 256 + id.page
 
--- The first page of each number bears it as an id too, since a link may lead to any subpage.
+-- The first page of each number also gets that number as an anchor, since a link may lead to any subpage.
 unfoldable pub anchor : ℕ → Id → List ℕ
 anchor former id =
     if former == full_number id then [] else codes "<a id=\"" ++ (48 + id.mag) ∷ hex_byte id.page ++ codes "\"></a>"
@@ -59,12 +59,12 @@ unfoldable pub leaf_html : List (List ℕ) → List ℕ → ℕ → Id → List 
 leaf_html slots pages former id =
     (anchor former id ++ section_tag ++ name_of id ++ heading id) ++ figure_html false (view_of (page_memory slots pages id)) ++ leaf_end
 
--- pages, after one of this number
+-- the pages; `former` is the number of the previous one
 abbrev pub leaves_html : List (List ℕ) → List ℕ → ℕ → List Id → List ℕ
 leaves_html slots pages former [] = []
 leaves_html slots pages former (id ∷ ids) = leaf_html slots pages former id ++ leaves_html slots pages (full_number id) ids
 
--- Three digits lead to the page of this number.
+-- Three typed digits lead to the page with this number.
 unfoldable pub script : List ℕ
 script = codes "<script>var t='',n=document.getElementById('n');document.addEventListener('keydown',function(e){"
     ++ codes "if(e.ctrlKey||e.altKey||e.metaKey||!/^[0-9]$/.test(e.key))return;t=t.length==3?e.key:t+e.key;n.textContent=t;"

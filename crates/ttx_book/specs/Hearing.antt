@@ -1,9 +1,9 @@
--- What is shown of each page of a cycle.
+-- What a receiver shows of each page of a cycle.
 --
---   heard_of_page, hears    a receiver that takes no choice, after the packets of its page in a slot, and in some slots: its headers,
---                           and the rows and packets X/27/0 that are sent under them
---   page_memory             what it holds of the page after two cycles
---   leaf_id, leaf_ids       the pages that a cycle has, rising; a time-filling header is none
+--   heard_of_page, hears    a receiver that takes no choice, after a slot and after some slots of which it gets only the packets of its
+--                           page: its headers, and the rows and packets X/27/0 sent under them
+--   page_memory             what it holds of the page after two rounds of the cycle
+--   leaf_id, leaf_ids       the pages of a cycle, rising; time-filling headers are not pages
 use Rattle.std.specs.Prelude.{ℕ, Bool, false, not, ◌&&◌, ◌==◌, List, [], ◌∷◌, filter_map, Option, Some, None, if◌then◌else◌}
 use Rattle.ttx_header.specs.Headers.{id_of, is_header}
 use Rattle.ttx_header.specs.Ids.{Id, is_time_filling}
@@ -13,17 +13,17 @@ use Rattle.ttx_page.specs.declared.selection.Selection.TheVariants.{Exact}
 use Rattle.ttx_pages.specs.Keys.{page_key, owners, page_headers}
 use Rattle.ttx_receiver.specs.Tuning.{Tuned, tuned_at, stepped}
 
--- It stores all that it may, clears the page only where C4 says so, and is given the packets of its page alone.
+-- It stores all that it may, clears the page only at C4, and gets only the packets of its page.
 abbrev pub heard_of_page : ℕ → Tuned → List ℕ → ℕ → Tuned
 heard_of_page key t slot page = if page == key then stepped Any false t slot else t
 
--- after these slots, by their pages
+-- after these slots, given the page of each slot
 abbrev pub hears : ℕ → Tuned → List (List ℕ) → List ℕ → Tuned
 hears key t [] pages = t
 hears key t (slot ∷ slots) [] = t
 hears key t (slot ∷ slots) (page ∷ pages) = hears key (heard_of_page key t slot page) slots pages
 
--- Twice, since rows at the cycle's beginning may belong to a header at its end.
+-- Two rounds, since rows at the beginning of the cycle may belong to a header at its end.
 unfoldable pub page_memory : List (List ℕ) → List ℕ → Id → Memory
 page_memory slots pages id =
     let key = page_key id in

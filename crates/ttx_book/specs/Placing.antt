@@ -1,8 +1,8 @@
--- Where the packets of each page stand in a cycle, by the page of each slot.
+-- Where the packets of each page are in a cycle, given the page of each slot.
 --
---   gap                     how many slots come before the first of the page
---   place_from              where the first slot of the page stands from a slot on, or the end
---   IsPlaceIndex            where each page begins from a slot on, and for each slot from there on where its page goes on
+--   gap                     how many slots come before the first slot of the page
+--   place_from              the first slot of the page from a slot on, or the end
+--   IsPlaceIndex            the first slot of each page from a slot on, and for each slot from there on the next slot of its page
 use Rattle.std.specs.Prelude.{◌≡◌, ℕ, suc, ◌+◌, ◌<◌, ◌≤◌, ◌==◌, List, [], ◌∷◌, drop, get_or, length, unwrap_or, if◌then◌else◌}
 use Rattle.std.specs.BTreeMap.{BTreeMap, get}
 use Rattle.std.specs.Ordering.{nat_cmp}

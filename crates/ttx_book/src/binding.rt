@@ -1,4 +1,4 @@
-//! `book`: the pages of a packet file as one HTML file.
+//! The command `book`: the pages of a packet file as one HTML file.
 
 ghost use Rattle.std.specs.Prelude.{IfSome};
 ghost use Rattle.ttx_book.specs.Books.{book_text};
@@ -11,11 +11,11 @@ use std::io::{Read, Write};
 use ttx_cycle::{Counted, read_cycle, write_bytes};
 use ttx_pages::PagesFault;
 
-/// Reads a packet file and writes all its pages as one HTML file: an index, and each page as a receiver shows it that takes
-/// no choice and heard all packets of the page twice.
+/// Reads a packet file and writes all its pages as one HTML file: an index, and each page as it is shown by a receiver that takes
+/// no choice and has received all packets of the page twice.
 ///
-/// Nothing is written before the whole file is read. At `Write` exactly the first `written` bytes of the text went out; at each
-/// other fault the writer is as it was.
+/// Nothing is written before the whole file has been read. At a `Write` fault exactly the first `written` bytes of the text have
+/// been written; at any other fault the writer is unchanged.
 pub fn book<R: Read, W: Write>(
     alloc: Global,
     reader: &mut Counted<R>,

@@ -1,4 +1,4 @@
-//! A book: its head, its index, its pages, and the script that takes typed numbers.
+//! A book: its head, its index, its pages, and the script that handles typed page numbers.
 
 ghost use Rattle.std.specs.Prelude.{◌≡◌, ◌++◌, IfOk, OnOk, codes, length, string_bytes};
 ghost use Rattle.ttx_book.specs.Books.{book_start, book_style, index_start, script, book_end, head_of, book_of, book_text};
@@ -95,7 +95,7 @@ fn push_book(
     push_book_end(text)
 }
 
-/// The pages of a cycle as one HTML file. The error is want of memory.
+/// The pages of a cycle as one HTML file. `Err` if memory runs out.
 #[tactic(auto, unfolding(crate::specs::Books::book_text))]
 pub fn book_text(alloc: Global, slots: &[[u8; 42]]) -> Result<String, AllocError>
     ensures { IfOk result (λ text. string_bytes text ≡ book_text slots.now) }

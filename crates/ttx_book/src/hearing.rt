@@ -1,4 +1,4 @@
-//! What is shown of each page of a cycle.
+//! What a receiver shows of each page of a cycle.
 
 ghost use Rattle.std.specs.Prelude.{◌≡◌, IfOk, filter_map, length};
 ghost use Rattle.ttx_book.specs.Hearing.{hears, page_memory, leaf_id};
@@ -12,7 +12,7 @@ use ttx_pages::keys::page_key;
 use ttx_receiver::{Eager, Receiver};
 use ttx_render::{View, render};
 
-// Gives a receiver the packets of its page.
+// Gives the receiver the packets of its page.
 fn hear(receiver: &mut Eager, slots: &[[u8; 42]], pages: &Index, key: u32)
     requires { length pages.now ≡ length slots.now }
     ensures { receiver.new ≡ hears key receiver.old slots.now pages.now }
@@ -24,7 +24,7 @@ fn hear(receiver: &mut Eager, slots: &[[u8; 42]], pages: &Index, key: u32)
     }
 }
 
-/// What is shown of a page, by the pages of all slots.
+/// What is shown of a page after two rounds of the cycle, given the page of each slot.
 #[tactic(auto, unfolding(crate::specs::Hearing::page_memory))]
 pub(crate) fn page_view(slots: &[[u8; 42]], pages: &Index, id: PageId) -> View
     requires { length pages.now ≡ length slots.now }
@@ -37,7 +37,7 @@ pub(crate) fn page_view(slots: &[[u8; 42]], pages: &Index, id: PageId) -> View
     render(receiver.memory())
 }
 
-// The page of a header, unless it is time-filling.
+// The page of a header; `None` for a time-filling header.
 fn leaf_id(slot: &[u8; 42]) -> Option<PageId>
     ensures { result ≡ leaf_id slot.now }
 {
@@ -50,7 +50,7 @@ fn leaf_id(slot: &[u8; 42]) -> Option<PageId>
     }
 }
 
-/// The pages that these headers name.
+/// The pages of these headers.
 pub(crate) fn leaf_ids(alloc: Global, headers: &[[u8; 42]]) -> Result<Vec<PageId>, AllocError>
     ensures { IfOk result (λ ids. ids.items ≡ filter_map leaf_id headers.now) }
 {

@@ -28,7 +28,7 @@ fn push_index_entry(text: &mut String, id: PageId) -> Result<(), AllocError>
     text.push_str("</a>")
 }
 
-/// Adds links to the pages.
+/// Appends links to the pages.
 pub(crate) fn push_index(text: &mut String, ids: &[PageId]) -> Result<(), AllocError>
     ensures { OnOk result (string_bytes text.new ≡ string_bytes text.old ++ index_html ids.now) }
 {
@@ -38,14 +38,14 @@ pub(crate) fn push_index(text: &mut String, ids: &[PageId]) -> Result<(), AllocE
     Ok(())
 }
 
-// Magazine and page number.
+// Magazine and page number in one number.
 fn full_number(id: PageId) -> u32
     ensures { result ≡ full_number id }
 {
     u32::from(id.mag()) * 256 + u32::from(id.page())
 }
 
-// Adds the number of a page as an id, unless the page before had it.
+// Appends an anchor with the page number, unless the previous page had the same number.
 #[tactic(auto, unfolding(crate::specs::Books::anchor))]
 fn push_anchor(text: &mut String, former: u32, id: PageId) -> Result<(), AllocError>
     ensures { OnOk result (string_bytes text.new ≡ string_bytes text.old ++ anchor former id) }
@@ -82,7 +82,7 @@ fn push_leaf_end(text: &mut String) -> Result<(), AllocError>
     text.push_str("</section>")
 }
 
-// Begins a page, after one of this number.
+// Opens the section of a page; `former` is the number of the previous page.
 fn push_leaf_start(text: &mut String, former: u32, id: PageId) -> Result<(), AllocError>
     ensures { OnOk result (string_bytes text.new ≡ string_bytes text.old ++ (anchor former id ++ section_tag ++ name_of id ++ heading id)) }
 {
@@ -92,7 +92,7 @@ fn push_leaf_start(text: &mut String, former: u32, id: PageId) -> Result<(), All
     push_heading(text, id)
 }
 
-// Adds a page, after one of this number.
+// Appends a page; `former` is the number of the previous page.
 #[tactic(auto, unfolding(crate::specs::Books::leaf_html))]
 fn push_leaf(
     text: &mut String,
@@ -109,7 +109,7 @@ fn push_leaf(
     push_leaf_end(text)
 }
 
-/// Adds pages, by the pages of all slots.
+/// Appends the pages, given the page of each slot.
 pub(crate) fn push_leaves(
     text: &mut String,
     slots: &[[u8; 42]],

@@ -1,4 +1,4 @@
-//! Where the packets of each page stand in a cycle.
+//! Where the packets of each page are in a cycle.
 
 ghost use Rattle.std.specs.Prelude.{◌≡◌, ◌+◌, ◌<◌, IfOk, get_or, length, replicate, unwrap_or};
 ghost use Rattle.std.specs.BTreeMap as tree;
@@ -9,8 +9,8 @@ use std::alloc::{AllocError, Global};
 use std::collections::BTreeMap;
 use std::marker::Model;
 
-/// The page of each slot of a cycle, by its number, and where the slots of each page stand. So they are found one after another,
-/// and no other slot is looked at.
+/// The page of each slot of a cycle, by its number, and where the slots of each page are, so that they are found one after another
+/// without looking at other slots.
 #[derive(Drop)]
 pub(crate) struct Index {
     pages: Vec<u32>,
@@ -29,21 +29,21 @@ impl Model for Index {
     ghost invariant = { λ i. IsPlaceIndex i.pages.items 0 i.first i.next.items };
 }
 
-// Where the page begins, or the end.
+// The first slot of the page, or `end` if there is none.
 fn begin_of(first: &BTreeMap<u32, usize>, key: u32, end: usize) -> usize
     ensures { result ≡ unwrap_or (tree.get nat_cmp first.now key) end }
 {
     first.get(&key).copied().unwrap_or(end)
 }
 
-// For each slot the end.
+// `end` for each slot.
 fn ends(alloc: Global, end: usize) -> Result<Vec<usize>, AllocError>
     ensures { IfOk result (λ next. next.items ≡ replicate end end) }
 {
     vec![in alloc; end; end]
 }
 
-/// Notes where the slots of each page stand. The error is want of memory.
+/// Notes where the slots of each page are. `Err` if memory runs out.
 pub(crate) fn index_of(alloc: Global, pages: Vec<u32>) -> Result<Index, AllocError>
     ensures { IfOk result (λ index. index ≡ pages.items) }
 {
@@ -61,14 +61,14 @@ pub(crate) fn index_of(alloc: Global, pages: Vec<u32>) -> Result<Index, AllocErr
 }
 
 impl Index {
-    /// Where the first slot of the page stands, or the number of slots.
+    /// The first slot of the page, or the number of slots if there is none.
     pub(crate) fn first(&self, key: u32) -> usize
         ensures { result ≡ place_from 0 key self.now }
     {
         begin_of(&self.first, key, self.pages.len())
     }
 
-    /// Where the next slot of the page of this slot stands, or the number of slots.
+    /// The next slot that belongs to the page of slot `at`, or the number of slots if there is none.
     pub(crate) fn after(&self, at: usize) -> usize
         requires { at < length self.now }
         ensures { result ≡ place_from (at + 1) (get_or self.now at 0) self.now }

@@ -1,4 +1,4 @@
--- The lines of headers, by maps that have the counts of the slots.
+-- The lines of headers, from maps with the counts of the slots.
 use Rattle.std.proofs.Common.{◌≡◌, List, ℕ, [], if◌then◌else◌}
 use Rattle.std.specs.List.{flat_map}
 use Rattle.ttx_header.specs.Headers.{header_fields_of, is_header}

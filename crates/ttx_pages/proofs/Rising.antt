@@ -1,4 +1,4 @@
--- The values of a map are those that a function finds in all numbers, rising, where it finds in each what the map has at it.
+-- The values of a map, in order, are those that a function finds in all numbers, rising, if it finds at each number what the map has there.
 use Rattle.std.proofs.Common.{◌≡◌, ◌⊎◌, ⊎_elim, ℕ, ◌+◌, ◌<◌, ◌≤◌, Bool, true, false, cond, List, [], ◌∷◌, ◌++◌, Option, Some, None, zero, suc, refl}
 use Rattle.std.proofs.Common.{sym, ap, ◌∙◌, subst, map, Less, Equal, Greater, arith}
 use Rattle.std.proofs.lemmas.Bool.{cases_eq, cases_order}
@@ -30,7 +30,7 @@ at_more q k h = ap is_eq (sym (nat_cmp_is q k Greater h))
 at_same : (q k : ℕ) → q ≡ k → is_at (nat_cmp q) k ≡ true
 at_same q k h = ap is_eq (sym (nat_cmp_is q k Equal h))
 
--- an entry with another key isn't found
+-- an entry with another key is not found
 passed : (q : ℕ) (e : ℕ × List ℕ) (es : Entries) → is_at (nat_cmp q) e.0 ≡ false → found q (e ∷ es) ≡ found q es
 passed q e es h = ap (λ b. cond b (Some e.1) (found q es)) h
 

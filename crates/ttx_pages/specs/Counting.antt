@@ -1,4 +1,4 @@
--- Counts of packets in maps by the number of the page.
+-- Counts of packets, in maps by the number of the page.
 use Rattle.std.specs.Prelude.{◌≡◌, ℕ, List, [], unwrap_or, if◌then◌else◌}
 use Rattle.std.specs.BTreeMap.{BTreeMap, get}
 use Rattle.std.specs.Ordering.{nat_cmp}
@@ -16,7 +16,7 @@ count_in counts key = unwrap_or (get nat_cmp counts key) 0
 abbrev pub CountsByPage : Part → List (List ℕ) → BTreeMap ℕ ℕ → Type 0
 CountsByPage part slots counts = (q : ℕ) → count_in counts q ≡ times part slots q
 
--- the line of a page with the counts that maps have
+-- the line of a page, with the counts in the maps
 unfoldable pub counted_line : Sent → List ℕ → List ℕ
 counted_line all slot =
     let h = header_fields_of slot in

@@ -4,7 +4,7 @@ use Rattle.std.specs.BTreeMap.{BTreeMap, get}
 use Rattle.std.specs.Ordering.{nat_cmp}
 use Rattle.ttx_pages.specs.Keys.{is_header_of}
 
--- the slot, where it is a header of the page
+-- the slot, if it is a header of the page
 abbrev pub header_by_key : ℕ → List ℕ → Option (List ℕ)
 header_by_key key slot = if is_header_of key slot then Some slot else None
 

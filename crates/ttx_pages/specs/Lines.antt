@@ -1,7 +1,7 @@
 -- The lines of `pages`.
 --
---   quoted, quoted_text     characters as they stand between quotation marks
---   counts_text, quoted_line    the parts of a line: how often is sent what, the characters of a header
+--   quoted, quoted_text     characters in quotation marks
+--   counts_text, quoted_line    the parts of a line: how often each part is sent, and the characters of a header
 --   listed_line             the line of a page
 use Rattle.std.specs.Prelude.{ℕ, ◌||◌, ◌==◌, ◌%◌, List, [], ◌∷◌, ◌++◌, codes, nat_lt, if◌then◌else◌}
 use Rattle.std.specs.Fmt.{decimal}
@@ -11,14 +11,14 @@ use Rattle.ttx_header.specs.Ids.{Id}
 use Rattle.ttx_digits.specs.Digits.{hex_byte}
 use Rattle.ttx_digits.specs.PageIds.{id_text}
 
--- a character as itself; behind a backslash where it would end the text, and by its number where it is none that is seen
+-- a character as itself; after a backslash if it would end the text or begin an escape; as \x and its number if it is not visible
 abbrev pub character : ℕ → List ℕ
 character c =
     if (c == 34) || (c == 92) then 92 ∷ c ∷ []
     else if nat_lt c 32 || (c == 127) then codes "\\x" ++ hex_byte c
     else c ∷ []
 
--- a byte of even parity is no character
+-- a byte of even parity is not a character
 unfoldable pub quoted : ℕ → List ℕ
 quoted b = if is_odd b then character (b % 128) else codes "\\?"
 
@@ -32,6 +32,6 @@ counts_text times rows links = codes " sent " ++ decimal times ++ codes " rows "
 unfoldable pub quoted_line : List ℕ → List ℕ
 quoted_line bytes = codes " \"" ++ quoted_text bytes ++ codes "\"\n"
 
--- a page that is sent so many times, with so many rows and packets X/27/0, and the control bits and characters of a header of it
+-- a page that is sent so many times, with so many rows and packets X/27/0, and the control bits and characters of one of its headers
 unfoldable pub listed_line : Id → ℕ → ℕ → ℕ → ℕ → List ℕ → List ℕ
 listed_line id times rows links control text = id_text id ++ counts_text times rows links ++ control_text control ++ quoted_line text

@@ -1,10 +1,10 @@
--- What `pages` tells of the slots of a cycle.
+-- What `pages` reports on the slots of a cycle.
 --
 --   times                   how many packets of a part a page has
 --   header_line             the line of a page, with the control bits and characters of one of its headers
 --   listed_lines            the lines of all pages that have a header
 --   is_info, is_other_packet, is_empty_slot, is_unreadable, is_corrected    tests of slots
---   rest_line               the last line: what belongs to no page
+--   rest_line               the last line, for what belongs to no page
 --   pages_text              the whole text
 use Rattle.std.specs.Prelude.{ℕ, Bool, true, false, not, ◌&&◌, ◌==◌, List, [], ◌∷◌, ◌++◌, codes, count_by, if◌then◌else◌}
 use Rattle.std.specs.Fmt.{decimal}
@@ -20,14 +20,14 @@ use Rattle.ttx_pages.specs.declared.keys.Part.TheVariants.{Head, Row, Links}
 abbrev pub times : Part → List (List ℕ) → ℕ → ℕ
 times part slots key = count_by (λ k. k == key) (keys_sent part slots)
 
--- the line of the page that a header names; nothing for a slot that is none
+-- the line of the page of a header; nothing if the slot is not a header
 unfoldable pub header_line : List (List ℕ) → List ℕ → List ℕ
 header_line slots slot =
     let h = header_fields_of slot in
     let key = page_key h.id in
     if is_header slot then listed_line h.id (times Head slots key) (times Row slots key) (times Links slots key) h.control h.text else []
 
--- a line for each page that has a header, rising
+-- a line for each page that has a header, by rising page numbers
 abbrev pub listed_lines : List (List ℕ) → List ℕ
 listed_lines slots = flat_map (header_line slots) (page_headers slots)
 
@@ -61,11 +61,11 @@ is_empty_slot slot = empty_kind (kind_of slot)
 abbrev pub is_unreadable : List ℕ → Bool
 is_unreadable slot = unreadable_kind (kind_of slot)
 
--- a packet that is read, but isn't clean
+-- a packet that can be read but is not clean
 abbrev pub is_corrected : List ℕ → Bool
 is_corrected slot = not (is_unreadable slot) && not (is_clean slot)
 
--- rows and packets X/27/0 of magazines without a header; all other packets; empty and unreadable slots; of all packets those that aren't clean
+-- rows and packets X/27/0 of magazines without a header; then packets 8/30 and others; empty and unreadable slots; packets that are not clean
 unfoldable pub strays_text : List (List ℕ) → List ℕ
 strays_text slots = codes "rest rows " ++ decimal (times Row slots 0) ++ codes " links " ++ decimal (times Links slots 0)
 
@@ -84,6 +84,6 @@ slots_text slots = unread_text slots ++ corrected_text slots ++ 10 ∷ []
 abbrev pub rest_line : List (List ℕ) → List ℕ
 rest_line slots = strays_text slots ++ others_text slots ++ slots_text slots
 
--- a line for each page, and the line of the rest
+-- a line for each page, and the line for the rest
 abbrev pub pages_text : List (List ℕ) → List ℕ
 pages_text slots = listed_lines slots ++ rest_line slots

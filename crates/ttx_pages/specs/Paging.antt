@@ -1,8 +1,8 @@
 -- What `pages` writes for the bytes of a packet file.
 --
---   WritesTextOf            what was written at each answer
---   CountsPages             faults of devices are answered only where they were counted
---   IsUntouchedByPages      at each fault but that of a write, what could be written to is as it was
+--   WritesTextOf            what has been written, for each answer
+--   CountsPages             device faults are answered only if they were counted
+--   IsUntouchedByPages      at any fault except a write fault, the writer is unchanged
 use Rattle.std.specs.Prelude.{◌≡◌, ℕ, ◌<◌, List, length, take, ⊤, Option, Result, Ok, Err}
 use Rattle.std.specs.Io.KnownBytes.{Appends, Keeps}
 use Rattle.ttx_cycle.specs.Counts.{HasRisen}
@@ -12,7 +12,7 @@ use Rattle.ttx_cycle.specs.declared.faults.CycleFault.TheVariants as cycle
 use Rattle.ttx_pages.specs.declared.faults.PagesFault.{PagesFault}
 use Rattle.ttx_pages.specs.declared.faults.PagesFault.TheVariants.{Cycle, Write, NoMemory}
 
--- Ok: the text of the slots went out. A write fault: the first `written` bytes of it. Else nothing, and the file is refused as it is judged.
+-- Ok: the text of the slots was written. A write fault: its first `written` bytes. Any other fault: nothing, and the file is refused as judged.
 abbrev pub WritesTextOf : {U : Type 0} → (List (List ℕ) → List ℕ) → List ℕ → Option (List ℕ) → Option (List ℕ) → Result U PagesFault → Type 0
 WritesTextOf text bytes old new (Ok _) = (slots : List (List ℕ)) × IsPacketFile bytes slots × Appends old new (text slots)
 WritesTextOf text bytes old new (Err (Write written)) =
@@ -20,7 +20,7 @@ WritesTextOf text bytes old new (Err (Write written)) =
 WritesTextOf text bytes old new (Err (Cycle fault)) = Judged bytes (Err fault) × Keeps old new
 WritesTextOf text bytes old new (Err NoMemory) = Keeps old new
 
--- the faults counted by the reader and by the writer, before and after
+-- how the counts of faults of the reader and of the writer change with each answer
 abbrev pub CountsPages : {U : Type 0} → Result U PagesFault → ℕ → ℕ → ℕ → ℕ → Type 0
 CountsPages (Ok _) read_old read_new write_old write_new = ⊤
 CountsPages (Err (Cycle cycle.Read)) read_old read_new write_old write_new = HasRisen read_old read_new

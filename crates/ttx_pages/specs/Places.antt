@@ -1,4 +1,4 @@
--- The magazine of a packet of a part, counted from 0.
+-- The index of the magazine of a packet, counted from 0.
 use Rattle.std.specs.Prelude.{ℕ, ◌-◌, List, [], ◌∷◌, Option, Some, None, slice_index}
 use Rattle.ttx_packet.specs.Slots.{Kind, IsHeader, IsRow, IsLinks}
 use Rattle.ttx_pages.specs.declared.keys.Part.{Part}
@@ -10,7 +10,7 @@ magazine_place_in Row (IsRow mag number) = Some (mag - 1)
 magazine_place_in Links (IsLinks mag) = Some (mag - 1)
 magazine_place_in part kind = None
 
--- of a packet of any part
+-- for a packet of any part
 abbrev pub magazine_place : Kind → Option ℕ
 magazine_place (IsHeader mag) = Some (mag - 1)
 magazine_place (IsRow mag number) = Some (mag - 1)

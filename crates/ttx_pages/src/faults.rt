@@ -1,22 +1,22 @@
-//! Why the pages of a packet file aren't told.
+//! Why the pages of a packet file cannot be listed.
 
 ghost use Rattle.std.specs.Prelude.{◌≡◌};
 
 use ttx_cycle::{CycleFault, WriteFault};
 
-/// Why the pages of a packet file aren't told.
+/// Why the pages of a packet file cannot be listed.
 #[derive(Clone, Copy)]
 pub enum PagesFault {
-    /// The packet file isn't read.
+    /// The packet file cannot be read.
     Cycle(CycleFault),
-    /// A write failed. The first `written` bytes went out, and no more.
+    /// A write failed. Exactly the first `written` bytes were written.
     Write { written: usize },
-    /// A growth was refused.
+    /// An allocation failed.
     NoMemory,
 }
 
 impl PagesFault {
-    /// The same fault of a write.
+    /// The fault of a failed write.
     pub fn from_write(fault: WriteFault) -> PagesFault
         ensures { result ≡ PagesFault.Write fault.written }
     {

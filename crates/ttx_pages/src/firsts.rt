@@ -13,7 +13,7 @@ use std::alloc::{AllocError, Global};
 use std::collections::BTreeMap;
 use ttx_header::read_header;
 
-// Keeps a header, unless one of its page is kept already.
+// Keeps a header, unless one of the same page has been kept.
 fn keep_first(firsts: &mut BTreeMap<u32, [u8; 42]>, slot: &[u8; 42]) -> Result<(), AllocError>
     ensures first { OnOk result ((q : ℕ) → tree.get nat_cmp firsts.new q ≡ option_or (tree.get nat_cmp firsts.old q) (header_by_key q slot.now)) }
     ensures pages { OnOk result (ArePageKeys firsts.old → ArePageKeys firsts.new) }
@@ -40,7 +40,7 @@ fn first_headers(alloc: Global, slots: &[[u8; 42]]) -> Result<BTreeMap<u32, [u8;
     Ok(firsts)
 }
 
-// The headers of a map, by rising numbers.
+// The headers in a map, by rising numbers.
 fn headers_of(alloc: Global, firsts: &BTreeMap<u32, [u8; 42]>) -> Result<Vec<[u8; 42]>, AllocError>
     ensures values { IfOk result (λ headers. headers.items ≡ map (λ e. e.1) firsts.now.entries) }
     ensures ordered { tree.IsOrdered nat_cmp firsts.now }
@@ -52,7 +52,7 @@ fn headers_of(alloc: Global, firsts: &BTreeMap<u32, [u8; 42]>) -> Result<Vec<[u8
     Ok(headers)
 }
 
-/// The first header of each page that has one, by rising numbers of pages.
+/// The first header of each page that has one, by rising page numbers. `Err` if memory runs out.
 pub fn page_headers(alloc: Global, slots: &[[u8; 42]]) -> Result<Vec<[u8; 42]>, AllocError>
     ensures { IfOk result (λ headers. headers.items ≡ page_headers slots.now) }
 {

@@ -1,4 +1,4 @@
-//! Pages by number, and the pages under which packets are sent.
+//! Pages as numbers, and the pages to which packets belong.
 
 ghost use Rattle.std.specs.Prelude.{◌≡◌, ◌<◌, ◌-◌, IfOk, IfSome, length, fold, replicate};
 ghost use Rattle.ttx_packet.specs.Slots.{kind_of};
@@ -9,7 +9,7 @@ use std::alloc::{AllocError, Global};
 use ttx_header::{PageId, read_header};
 use ttx_packet::{Slot, slot_of};
 
-/// The packets of a page.
+/// The kinds of packets of a page.
 #[derive(Clone, Copy)]
 pub enum Part {
     /// Its page headers.
@@ -20,7 +20,7 @@ pub enum Part {
     Links,
 }
 
-/// A page as one number: these rise by magazine, page number and subcode.
+/// A page as one number. The numbers rise by magazine, page number and subcode; each is below 37,748,736.
 pub fn page_key(id: PageId) -> u32
     ensures value { result ≡ page_key id }
     ensures range { result < 37748736 }
@@ -28,7 +28,7 @@ pub fn page_key(id: PageId) -> u32
     (u32::from(id.mag()) * 256 + u32::from(id.page())) * 16384 + u32::from(id.sub())
 }
 
-/// Notes which page a header opens in its magazine.
+/// Notes the page that a header opens in its magazine.
 pub fn open_page(current: &mut [u32; 8], slot: &[u8; 42])
     ensures { current.new ≡ opened current.old slot.now }
 {
@@ -44,7 +44,7 @@ fn no_pages() -> [u32; 8]
     [0; 8]
 }
 
-// The page that each magazine has open after the slots.
+// The page that each magazine has open after these slots.
 fn open_pages(slots: &[[u8; 42]]) -> [u32; 8]
     ensures { result ≡ opens slots.now }
 {
@@ -55,7 +55,7 @@ fn open_pages(slots: &[[u8; 42]]) -> [u32; 8]
     current
 }
 
-// The magazine, counted from 0, of a packet of this part.
+// The index of the magazine, counted from 0, of a packet of this part.
 fn magazine_place_in(part: Part, slot: &[u8; 42]) -> Option<usize>
     ensures value { result ≡ magazine_place_in part (kind_of slot.now) }
     ensures range { IfSome result (λ place. place < 8) }
@@ -69,7 +69,7 @@ fn magazine_place_in(part: Part, slot: &[u8; 42]) -> Option<usize>
     Some(usize::from(at.mag) - 1)
 }
 
-/// The pages of a cycle's packets of this part, in their order.
+/// The pages of a cycle's packets of this part, in the order of their slots. `Err` if memory runs out.
 pub fn keys_sent(alloc: Global, part: Part, slots: &[[u8; 42]]) -> Result<Vec<u32>, AllocError>
     ensures { IfOk result (λ keys. keys.items ≡ keys_sent part slots.now) }
 {
@@ -84,7 +84,7 @@ pub fn keys_sent(alloc: Global, part: Part, slots: &[[u8; 42]]) -> Result<Vec<u3
     Ok(keys)
 }
 
-// The magazine, counted from 0, of a packet that belongs to a page.
+// The index of the magazine, counted from 0, of a packet that belongs to a page.
 fn magazine_place(slot: &[u8; 42]) -> Option<usize>
     ensures value { result ≡ magazine_place (kind_of slot.now) }
     ensures range { IfSome result (λ place. place < 8) }
@@ -98,7 +98,7 @@ fn magazine_place(slot: &[u8; 42]) -> Option<usize>
     Some(usize::from(at.mag) - 1)
 }
 
-// The page that the slot's magazine has open.
+// The page that the magazine of the slot has open.
 fn page_open_at(current: &[u32; 8], slot: &[u8; 42]) -> u32
     ensures { result ≡ page_open_at current.now (magazine_place (kind_of slot.now)) }
 {
@@ -108,7 +108,7 @@ fn page_open_at(current: &[u32; 8], slot: &[u8; 42]) -> u32
     }
 }
 
-/// The page that each slot of a cycle belongs to, by its number; 0 where it belongs to none.
+/// The page, as a number, to which each slot of a cycle belongs; 0 if it belongs to none. `Err` if memory runs out.
 pub fn owners(alloc: Global, slots: &[[u8; 42]]) -> Result<Vec<u32>, AllocError>
     ensures pages { IfOk result (λ pages. pages.items ≡ owners slots.now) }
     ensures size { IfOk result (λ pages. length pages.items ≡ length slots.now) }

@@ -1,4 +1,4 @@
-//! The pages of a cycle: which headers it has, and what is sent under them.
+//! The pages of a cycle: its headers, and what is sent under them.
 #![tactic(auto)]
 
 pub mod faults;

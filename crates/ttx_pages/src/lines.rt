@@ -8,7 +8,7 @@ use ttx_code::odd_of;
 use ttx_digits::{push_byte, push_control, push_id};
 use ttx_header::Header;
 
-// Adds a character as it stands between quotation marks.
+// Appends a character in quotation marks, escaped if necessary.
 fn push_character(text: &mut String, code: u8) -> Result<(), AllocError>
     requires { code < 128 }
     ensures { OnOk result (string_bytes text.new ≡ string_bytes text.old ++ character code) }
@@ -26,7 +26,7 @@ fn push_character(text: &mut String, code: u8) -> Result<(), AllocError>
     }
 }
 
-// Adds the character of a byte, if it is one.
+// Appends the character of a byte; `\?` if the byte has even parity.
 #[tactic(auto, unfolding(crate::specs::Lines::quoted))]
 fn push_quoted(text: &mut String, byte: u8) -> Result<(), AllocError>
     ensures { OnOk result (string_bytes text.new ≡ string_bytes text.old ++ quoted byte) }
@@ -66,7 +66,7 @@ fn push_text(text: &mut String, bytes: &[u8]) -> Result<(), AllocError>
     text.push_str("\"\n")
 }
 
-/// Adds the line of a page that has so many headers, rows and packets X/27/0.
+/// Appends the line of a page with so many headers, rows and packets X/27/0.
 #[tactic(auto, unfolding(crate::specs::Lines::listed_line))]
 pub(crate) fn push_page_line(
     text: &mut String,

@@ -22,7 +22,7 @@ struct Sent {
     links: BTreeMap<u32, usize>,
 }
 
-// How many packets of the part each page has.
+// How many packets of one part each page has.
 fn counts_of(
     alloc: Global,
     part: Part,
@@ -45,7 +45,7 @@ fn all_counts(alloc: Global, slots: &[[u8; 42]]) -> Result<Sent, AllocError>
     })
 }
 
-// Adds the line of the page that a header names.
+// Appends the line of the page of a header.
 #[tactic(auto, unfolding(crate::specs::Counting::counted_line))]
 fn push_header_line(text: &mut String, all: &Sent, slot: &[u8; 42]) -> Result<(), AllocError>
     ensures { OnOk result (string_bytes text.new ≡ string_bytes text.old ++ counted_line all.now slot.now) }
@@ -60,7 +60,7 @@ fn push_header_line(text: &mut String, all: &Sent, slot: &[u8; 42]) -> Result<()
     push_page_line(text, &header, times, rows, links)
 }
 
-// Adds the lines of the pages that these headers name.
+// Appends the lines of the pages of these headers.
 fn push_lines(text: &mut String, all: &Sent, headers: &[[u8; 42]]) -> Result<(), AllocError>
     ensures { OnOk result (string_bytes text.new ≡ string_bytes text.old ++ flat_map (counted_line all.now) headers.now) }
 {
@@ -70,7 +70,7 @@ fn push_lines(text: &mut String, all: &Sent, headers: &[[u8; 42]]) -> Result<(),
     Ok(())
 }
 
-// Adds the lines of the pages that have a header, rising.
+// Appends the lines of all pages that have a header, by rising page numbers.
 fn push_listed(
     alloc: Global,
     text: &mut String,
@@ -96,7 +96,7 @@ fn push_strays(text: &mut String, all: &Sent) -> Result<(), AllocError>
     write!(text, "rest rows {rows} links {links}")
 }
 
-/// The lines of the pages of a cycle, rising, and the line of what belongs to no page. The error is want of memory.
+/// The lines of the pages of a cycle, by rising page numbers, and the line for what belongs to no page. `Err` if memory runs out.
 pub fn pages_text(alloc: Global, slots: &[[u8; 42]]) -> Result<String, AllocError>
     ensures { IfOk result (λ text. string_bytes text ≡ pages_text slots.now) }
 {

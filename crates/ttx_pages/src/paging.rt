@@ -1,4 +1,4 @@
-//! `pages`: the pages of a packet file.
+//! The command `pages`: lists the pages of a packet file.
 
 ghost use Rattle.std.specs.Prelude.{IfSome};
 ghost use Rattle.ttx_cycle.specs.Counters.{inner_of, faults_of};
@@ -11,10 +11,11 @@ use std::alloc::Global;
 use std::io::{Read, Write};
 use ttx_cycle::{Counted, read_cycle, write_bytes};
 
-/// Reads a packet file and writes a line for each page that has a header in it, rising, and a line of what belongs to no page.
+/// Reads a packet file and writes a line for each page that has a header in it, by rising page numbers, and a line for what belongs to
+/// no page.
 ///
-/// Nothing is written before the whole file is read. At `Write` exactly the first `written` bytes of the text went out; at each
-/// other fault the writer is as it was.
+/// Nothing is written before the whole file has been read. At a `Write` fault exactly the first `written` bytes of the text have
+/// been written; at any other fault the writer is unchanged.
 pub fn pages<R: Read, W: Write>(
     alloc: Global,
     reader: &mut Counted<R>,

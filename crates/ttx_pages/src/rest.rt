@@ -80,7 +80,7 @@ fn correcteds(slots: &[[u8; 42]]) -> usize
     slots.iter().filter(|slot| is_corrected(slot)).count()
 }
 
-/// Adds how many packets 8/30 and other packets there are.
+/// Appends how many packets 8/30 and other packets there are.
 #[tactic(auto, unfolding(crate::specs::Listing::others_text))]
 pub(crate) fn push_others(text: &mut String, slots: &[[u8; 42]]) -> Result<(), AllocError>
     ensures { OnOk result (string_bytes text.new ≡ string_bytes text.old ++ others_text slots.now) }
@@ -90,7 +90,7 @@ pub(crate) fn push_others(text: &mut String, slots: &[[u8; 42]]) -> Result<(), A
     write!(text, " info {info} other {other}")
 }
 
-// Adds how many slots are empty, and how many are unreadable.
+// Appends how many slots are empty, and how many are unreadable.
 #[tactic(auto, unfolding(crate::specs::Listing::unread_text))]
 fn push_unread(text: &mut String, slots: &[[u8; 42]]) -> Result<(), AllocError>
     ensures { OnOk result (string_bytes text.new ≡ string_bytes text.old ++ unread_text slots.now) }
@@ -100,7 +100,7 @@ fn push_unread(text: &mut String, slots: &[[u8; 42]]) -> Result<(), AllocError>
     write!(text, " empty {empty} unreadable {unreadable}")
 }
 
-// Adds how many packets are corrected.
+// Appends how many packets are corrected.
 #[tactic(auto, unfolding(crate::specs::Listing::corrected_text))]
 fn push_corrected(text: &mut String, slots: &[[u8; 42]]) -> Result<(), AllocError>
     ensures { OnOk result (string_bytes text.new ≡ string_bytes text.old ++ corrected_text slots.now) }
@@ -109,7 +109,7 @@ fn push_corrected(text: &mut String, slots: &[[u8; 42]]) -> Result<(), AllocErro
     write!(text, " corrected {corrected}")
 }
 
-/// Adds how many slots are empty, unreadable and corrected, and ends the line.
+/// Appends how many slots are empty, unreadable and corrected, and ends the line.
 pub(crate) fn push_slots(text: &mut String, slots: &[[u8; 42]]) -> Result<(), AllocError>
     ensures { OnOk result (string_bytes text.new ≡ string_bytes text.old ++ slots_text slots.now) }
 {

@@ -1,4 +1,4 @@
-//! How often a number stands in a list.
+//! How often numbers occur in a list.
 
 ghost use Rattle.std.specs.Prelude.{◌≡◌, ℕ, ◌==◌, IfOk, count_by, unwrap_or};
 ghost use Rattle.std.specs.Ordering.{nat_cmp};
@@ -7,7 +7,7 @@ ghost use Rattle.std.specs.BTreeMap as tree;
 use std::alloc::{AllocError, Global};
 use std::collections::BTreeMap;
 
-/// How often each number stands in the list.
+/// How often each number occurs in the list. `Err` if memory runs out.
 #[tactic(auto, using(std::proofs::lemmas::Grind::common_steps))]
 pub(crate) fn tally(alloc: Global, keys: &[u32]) -> Result<BTreeMap<u32, usize>, AllocError>
     ensures { IfOk result (λ counts. (q : ℕ) → unwrap_or (tree.get nat_cmp counts q) 0 ≡ count_by (λ k. k == q) keys.now) }
