@@ -10,7 +10,7 @@ use Rattle.ttx_witness.specs.runs.Transmissions.{Transmission, slot_of, later, w
 use Rattle.ttx_witness.specs.runs.Repeating.{Lists, Successive}
 use Rattle.ttx_witness.proofs.Windows.{windows_yes, windows_no}
 
--- two successive lists of one length from one slot are one
+-- two successive lists of equal length from the same slot are equal
 pub successive_same : (P : ℤ → Type 0) (i : ℤ) (xs ys : List ℤ) → length xs ≡ length ys → Successive P (i ∷ xs) → Successive P (i ∷ ys) → xs ≡ ys
 successive_same P i [] [] e a b = refl
 successive_same P i (x ∷ xs) [] e a b = absurd (omega arith)
@@ -65,7 +65,7 @@ module _ {A : Type 0} (at : A → ℤ) (P : ℤ → Type 0) (Is : A → Type 0) 
     )
   ]
 
-  -- no transmission below the first
+  -- there is no transmission below the first
   pub lists_lower : (low mid high : ℤ) (bs : List A) → low ≤ℤ mid → mid ≤ℤ high → ((x : ℤ) → low ≤ℤ x → x <ℤ mid → P x → ⊥) →
       Lists at P Is mid high bs → Lists at P Is low high bs
   lists_lower low mid high [] a b none l = λ x c d p. elim (cases_ltz x mid) as (λ _. ⊥) [ inl lt ↦ none x c lt p | inr ge ↦ l x ge d p ]
@@ -90,14 +90,14 @@ module _ {A : Type 0} (at : A → ℤ) (P : ℤ → Type 0) (Is : A → Type 0) 
       lists_join low here (here +ℤ pos 1) ts (t ∷ []) a (omega (arith, ints)) l
       (i, omega (arith, ints), omega (arith, ints), (λ x c d p. absurd (omega (arith, ints))), (λ x c d p. absurd (omega (arith, ints))))
 
-  -- a slot that is none
+  -- a slot that is not a transmission
   pub lists_same : (low here : ℤ) (ts : List A) → low ≤ℤ here → (P here → ⊥) → Lists at P Is low here ts → Lists at P Is low (here +ℤ pos 1) ts
   lists_same low here [] a none l = λ x c d p. elim (cases_ltz x here) as (λ _. ⊥)
       [ inl lt ↦ l x c lt p | inr ge ↦ let e : x ≡ here = omega (arith, ints) in none (subst P e p) ]
   lists_same low here (t ∷ ts) a none l =
       (l.0, l.1, (let g = l.2 in omega (arith, ints)), l.3, lists_same ((at t) +ℤ pos 1) here ts (let g = l.2 in omega (arith, ints)) none l.4)
 
-  -- a prefix lists a part
+  -- a prefix lists the transmissions up to some slot
   pub lists_prefix : (low high : ℤ) (ts us : List A) → Lists at P Is low high (ts ++ us) → (mid : ℤ) × (low ≤ℤ mid) × Lists at P Is low mid ts
   lists_prefix low high [] us l = (low, omega (arith, ints), λ x a b p. absurd (omega (arith, ints)))
   lists_prefix low high (t ∷ ts) us l =
@@ -121,7 +121,7 @@ module _ (P : ℤ → Type 0) (Is : Transmission → Type 0) (is_p : (t : Transm
           subst (λ z. Lists slot_of P Is z (high +ℤ pos n) (map (later n) ts)) e (lists_later (t.slot +ℤ pos 1) high ts l.4)),
     )
 
--- where the members of a list lie
+-- where the elements of a list are
 module _ {A : Type 0} (at : A → ℤ) (P : ℤ → Type 0) (Is : A → Type 0) where
   pub lists_low : (low high : ℤ) (ts : List A) → Lists at P Is low high ts → All (λ t. low ≤ℤ at t) ts
   lists_low low high [] l k d lt = absurd (omega arith)

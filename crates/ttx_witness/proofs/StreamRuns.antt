@@ -91,7 +91,7 @@ module _ (Owned Sure : ℤ → ℤ → Type 0) where
       owned = subst (Owned (a.owner -ℤ pos n)) (back x) (law.owned_earlier a.owner (x +ℤ pos n) a.owned);
     }
 
-    -- the runs of a period are the stream's
+    -- the runs of a period are those of the stream
     pub runs_are : (k : ℕ) (ts : List Transmission) → AreSent Owned Sure (pos 0) (pos n) ts →
         AllByRecursion (IsRunOf Owned Sure (suc k)) (runs n k ts)
     runs_are k ts l = all_windows law.one_owner k (windows (suc k) (extended n k ts))

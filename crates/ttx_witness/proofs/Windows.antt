@@ -1,4 +1,4 @@
--- Lists: windows and what follows round the cycle.
+-- Windows of lists, and what follows round the cycle.
 use Rattle.std.proofs.Common.{◌≡◌, ℕ, zero, suc, ◌+◌, ◌-◌, ◌<◌, ◌≤◌, List, [], ◌∷◌, ◌++◌, map, take, drop, length, refl, sym, ap, ◌∙◌, subst, inl}
 use Rattle.std.proofs.Common.{inr, arith, nat_le, append_assoc, length-append}
 use Rattle.std.proofs.lemmas.List.{take-append-le}
@@ -13,7 +13,7 @@ head_same e = cc
 pub tail_same : {A : Type 0} {x y : A} {xs ys : List A} → x ∷ xs ≡ y ∷ ys → xs ≡ ys
 tail_same e = cc
 
--- what follows is what stands there in a list that repeats
+-- in a list that repeats, what follows is what the list has there
 pub further_is : (n k : ℕ) (ts ys zs : List Transmission) → 1 ≤ length ts → map (later n) (ts ++ ys) ≡ ys ++ zs → k ≤ length ys →
     further n k ts ≡ take k ys
 unfolding further
@@ -65,11 +65,11 @@ unfolding windows
 windows_short k [] lt = refl
 windows_short k (t ∷ ts) lt = windows_no k t ts (omega arith)
 
--- one more at the end makes no window of a list that is too short
+-- if a list is too short, one more element at its end makes no window
 pub windows_none : {A : Type 0} (k : ℕ) (ts : List A) (t : A) → suc (length ts) < k → windows k (ts ++ t ∷ []) ≡ []
 windows_none k ts t lt = let l = length-append ts (t ∷ []) in windows_short k (ts ++ t ∷ []) (omega arith)
 
--- and else one more, of the last k
+-- otherwise it makes one more, of the last k
 pub windows_step : {A : Type 0} (k : ℕ) (ts : List A) (t : A) → 1 ≤ k → k ≤ suc (length ts) →
     windows k (ts ++ t ∷ []) ≡ windows k ts ++ drop (suc (length ts) - k) (ts ++ t ∷ []) ∷ []
 unfolding windows

@@ -1,9 +1,9 @@
 -- When a cycle is accepted with a certificate (profile). Slots are counted from 0, deadlines in fields.
 --
---   Certificate, IsCertificate, limit       a certificate by the starts that it names; its ranges; the deadline in slots
+--   Certificate, IsCertificate, limit       a certificate as the starts that it names; its ranges; its deadline in slots
 --   IsSureStart             a slot of the period from which a sure run of the item begins
---   IsCovered               an item is seen in time from every tuning slot, by its named starts
---   IsLeftOut               a blank item that isn't sent: each header of the page is followed in time by the next
+--   IsCovered               the named starts bring the item in time from every tuning slot
+--   IsLeftOut               a blank item without named starts: each header of the page is followed in time by the next
 --   Accepts                 no slot is bad, each page is steady, and each item that a viewer sees is covered or left out
 use Rattle.std.specs.Prelude.{◌≡◌, ◌⊎◌, ℕ, ◌<◌, ℤ, pos, ◌+ℤ◌, ◌<ℤ◌, ◌≤ℤ◌, true, List, [], length, slice_get, slice_index_or, Contains, Some}
 use Rattle.ttx_packet.specs.Slots.{is_clean}
@@ -19,8 +19,8 @@ pub use Rattle.ttx_certificate.specs.NamedStarts.{Certificate, IsCertificate, li
 abbrev pub IsSureStart : List (List ℕ) → Id → ℕ → ℕ → Item → ℕ → Type 0
 IsSureStart cycle page lines repeat item start = (start < length cycle) × HasSureRun (repeated cycle) page lines repeat item (pos start)
 
--- A start is named, each named start has a sure run, and for each tuning slot tau one of these runs has its first owner at tau or
--- later and ends before the deadline.
+-- A start is named, each named start begins a sure run, and for each tuning slot tau one of these runs has its first owner at tau or
+-- later and ends before the deadline after tau.
 pub record IsCovered (cycle : List (List ℕ)) (p : Page) (w : Certificate) (item : Item) : Type 0 where
   pub named : (start : ℕ) × Contains (w.starts p.id item) start
   pub sure : (start : ℕ) → Contains (w.starts p.id item) start → IsSureStart cycle p.id w.lines w.repeat item start

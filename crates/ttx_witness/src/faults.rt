@@ -1,4 +1,4 @@
-//! Why a cycle isn't accepted: slots that aren't clean, and what differs from a page.
+//! Why a cycle is not accepted: bad slots, and slots that differ from a page.
 
 pub mod bad_slots;
 pub mod collected_faults;

@@ -1,4 +1,4 @@
-//! The laws: public calls with empty bodies. A call costs nothing and gives the caller's proof the law.
+//! The laws. Each is a public call with an empty body: calling it does nothing at run time; it gives the caller's proof the law.
 
 pub mod cycle_laws;
 pub mod fault_laws;

@@ -1,16 +1,16 @@
-//! When a cycle is accepted with a certificate, why it isn't, and the certificate with the least deadline.
+//! When a cycle is accepted with a certificate, why it is not, and the certificate with the least deadline.
 //!
-//! The way of the data: slots come in (of a whole cycle, or one by one in two passes); `sent` makes of them the transmissions of
-//! each item of each page in one period; `runs` makes runs of these, and holds them against named starts or finds all starts
-//! of sure runs; starts with a deadline (`finding`), waits (`waiting`) or what is wrong (`faults`, `passes`) go out.
+//! The path of the data: slots come in, of a whole cycle or one by one in two passes. `sent` turns them into the transmissions of
+//! each item of each page in one period. `runs` makes runs of these, and compares them with named starts or finds all starts of
+//! sure runs. The results are starts with a deadline (`finding`), waits (`waiting`) or what is wrong (`faults`, `passes`).
 //!
-//! - `runs`: transmissions of one item as numbers alone, the runs that they make, and which of them confirm a named start.
-//! - `sent`: what the slots of a period send, under which header, item by item of all pages.
-//! - `faults`: why a cycle isn't accepted; slots that aren't clean, and what differs from a page.
-//! - `passes`: the same where slots pass one by one, twice, and none is kept.
-//! - `finding`: the starts that are named, and the least deadline.
+//! - `runs`: transmissions of one item, as numbers; the runs they make, and which of them confirm a named start.
+//! - `sent`: what the slots of a period send, under which header, item by item for all pages.
+//! - `faults`: why a cycle is not accepted: bad slots, and slots that differ from a page.
+//! - `passes`: the same for slots that come one by one, twice, without keeping them.
+//! - `finding`: the starts to name, and the least deadline.
 //! - `waiting`: the least deadline of each page and of each item.
-//! - `laws`: what the others find of one period is so of the stream, without end. Each law is a public call with an empty body.
+//! - `laws`: what holds for one period holds for the endless stream. Each law is a public call with an empty body.
 #![tactic(auto)]
 
 mod faults;

@@ -1,4 +1,4 @@
-//! Two passes over the slots of a cycle, of which none is kept.
+//! Two passes over the slots of a cycle, without keeping them.
 
 pub mod beginning;
 pub mod earlier_owners;

@@ -1,4 +1,4 @@
-//! Transmissions of one item as numbers alone, the runs that they make, and the starts of runs. Nothing here knows of pages or packets.
+//! Transmissions of one item as numbers, the runs they make, and the starts of runs. Pages and packets are not known here.
 
 pub mod confirming;
 pub mod named_starts;

@@ -1,4 +1,4 @@
--- Lists of which one place is changed.
+-- Lists of which one element is changed.
 use Rattle.std.proofs.Common.{◌≡◌, ℕ, zero, suc, ◌+◌, ◌<◌, true, ◌==◌, List, [], ◌∷◌, ◌++◌, length, set, get_or, get_or-set_same, get_or-set_other}
 use Rattle.std.proofs.Common.{slice_get, Some, refl, sym, ap, subst, inl, inr, arith, eqb-true, eq-eqb}
 use Rattle.std.proofs.lemmas.Bool.{cases_lt, cases_Bool}
@@ -15,7 +15,7 @@ set_other (x ∷ xs) zero (suc n) v d = refl
 set_other (x ∷ xs) (suc at) zero v d = refl
 set_other (x ∷ xs) (suc at) (suc n) v d = set_other xs at n v (λ e. d (ap suc e))
 
--- a list whose first places are done
+-- a list in which the first elements are done
 pub set_below : {A : Type 0} (xs : List A) (n : ℕ) (v d : A) (Q : ℕ → A → Type 0) → n < length xs →
     ((m : ℕ) → m < n → Q m (get_or xs m d)) → Q n v → (m : ℕ) → m < n + 1 → Q m (get_or (set xs n v) m d)
 set_below xs n v d Q lt done here m below = elim (cases_Bool (m == n)) as (λ _. Q m (get_or (set xs n v) m d)) [

@@ -1,11 +1,11 @@
--- What of a page is compared with the slots that send it.
+-- How pages are compared with the slots that send them.
 --
---   HoldsHeader, HoldsNoHeader      the header that a packet is, if it is one
+--   HoldsHeader, HoldsNoHeader      the packet is this header; it is no header
 --   HoldsRow, HoldsNoRow, HoldsLinks, HoldsNoLinks  the same for rows and links
---   mine_after, sends       whether the page owns its magazine after a slot, and whether a slot sends an item
---   is_mine                 whether an owner is the page's header
+--   mine_after, sends       whether the magazine's latest header is the page's after a slot; whether a slot sends an item
+--   is_mine                 whether an owner is a header of the page
 --   heads_other_subpage        a header of the page's number with another subcode
---   Check, compared_item    what is compared, and the item whose transmissions show it
+--   Check, compared_item    what is compared, and the item in whose transmissions
 --   IsWrong, WrongAt, RowWrongAt, OtherHeaderAt, IsWrongIn  a slot that differs from the page
 use Rattle.std.specs.Prelude.{◌≡◌, ℕ, ℤ, pos, ◌<ℤ◌, ◌≤ℤ◌, unsigned_abs, [], length, slice_index_or, Bool, true, false, not, ◌&&◌}
 use Rattle.std.specs.Prelude.{if◌then◌else◌, List, Option, Some, None, take, drop}
@@ -34,7 +34,7 @@ abbrev pub HoldsNoHeader : Packet → Type 0
 HoldsNoHeader (Header id control text) = ⊥
 HoldsNoHeader _ = Unit {0}
 
--- the slot is the row of this address
+-- the slot is the row with this address
 abbrev pub HoldsRow : Address → List ℕ → Type 0
 HoldsRow at slot = packet_of slot ≡ Row at.mag at.number (drop 2 slot)
 
@@ -50,7 +50,7 @@ abbrev pub HoldsNoLinks : Packet → Type 0
 HoldsNoLinks (Links mag content) = ⊥
 HoldsNoLinks _ = Unit {0}
 
--- whether the latest header of the page's magazine is the page's, once the packet has come
+-- whether the latest header of the page's magazine is the page's after this packet
 abbrev pub mine_after : Id → Packet → Bool → Bool
 mine_after page packet mine = if heads page.mag packet then heads_page page packet else mine
 
@@ -89,12 +89,12 @@ pub record OtherHeaderAt (s : Stream) (page : Id) (j : ℤ) : Type 0 where
   pub number : heads_matched (AnySub page.mag page.page) (packet_of (s j)) ≡ true
   pub other : heads_page page (packet_of (s j)) ≡ false
 
--- row r is one that a viewer sees, and the slot sends another in its place
+-- a viewer sees row r, and the slot sends something else for it
 pub record RowWrongAt (s : Stream) (p : Page) (r : ℕ) (j : ℤ) : Type 0 where
   pub needed : needed p (TheRow r) ≡ true
   pub wrong : WrongAt s p (CheckRow r) j
 
--- the slot lies in the period, and differs from the page
+-- the slot is in the period and differs from the page
 pub record IsWrongIn (cycle : List (List ℕ)) (p : Page) (check : Check) (slot : ℤ) : Type 0 where
   pub from : pos 0 ≤ℤ slot
   pub to : slot <ℤ pos (length cycle)

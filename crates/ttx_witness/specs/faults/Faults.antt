@@ -1,12 +1,12 @@
 -- The first fault of a page, in the order of the reasons (profile). Slots are counted from 0.
 --
---   IsFirstAt, Never, TellsFirst    the first slot of the period of which something is true; it is true of no slot
---   IsPageFault             the first of the reasons that speak of a page and a cycle alone, 2 to 7
---   AreFirst, earlier       the first slots of the single reasons; the smaller of two
---   IsFirstItem, IsFirstStart       the least item, and in it the least start, of which something is true
---   IsWitnessFault          the first of the reasons that speak of named starts, 8 to 10 and 12
+--   IsFirstAt, Never, TellsFirst    the first slot of the period where a property holds; it holds at no slot
+--   IsPageFault             the first of reasons 2 to 7, which concern only a page and a cycle
+--   AreFirst, earlier       the first slot for each reason; the earlier of two slots
+--   IsFirstItem, IsFirstStart       the least item, and its least start, for which a property holds
+--   IsWitnessFault          the first of reasons 8 to 10 and 12, which concern named starts
 --   IsFault                 the first of all these
---   SteadyHasNoFault        no fault is told exactly where the page is steady
+--   SteadyHasNoFault        a page has no fault if and only if it is steady
 use Rattle.std.specs.Prelude.{◌≡◌, ◌⊎◌, ◌↔◌, ℕ, ◌<◌, ℤ, pos, true, if◌then◌else◌, nat_le, List, length, Option, Some, None, IsTrue}
 use Rattle.ttx_page.specs.Pages.{Page, needed}
 use Rattle.ttx_page.specs.declared.item.Item.{Item}
@@ -23,18 +23,18 @@ use Rattle.ttx_witness.specs.declared.faults.reason.Reason.TheVariants.{LinksDif
 abbrev pub Never : (ℤ → Type 0) → Type 0
 Never P = (j : ℤ) → P j → ⊥
 
--- P is true of the slot, and of no slot before it in the period
+-- P holds at the slot, and at no slot before it in the period
 pub record IsFirstAt (cycle : List (List ℕ)) (P : ℤ → Type 0) (slot : ℕ) : Type 0 where
   pub within : slot < length cycle
   pub here : P (pos slot)
   pub none_before : (i : ℕ) → i < slot → P (pos i) → ⊥
 
--- the answer is the first slot of which P is true, and None where there is none
+-- the answer is the first slot where P holds, or None if there is none
 abbrev pub TellsFirst : List (List ℕ) → (ℤ → Type 0) → Option ℕ → Type 0
 TellsFirst cycle P None = Never P
 TellsFirst cycle P (Some slot) = IsFirstAt cycle P slot
 
--- The reason is true, no reason of a smaller number is, and no smaller slot has it; None where none of them is true.
+-- This reason is true, no reason with a smaller number is, and the slot is the first one where it is true; None if no reason is true.
 abbrev pub IsPageFault : List (List ℕ) → List Page → Page → Option Reason → Type 0
 IsPageFault cycle pages p None = Steady (repeated cycle) pages p
 IsPageFault cycle pages p (Some (NoHeader page)) = (page ≡ p.id) × HasNoHeader (repeated cycle) p
@@ -65,7 +65,7 @@ IsPageFault cycle pages p (Some (LinksDiffer page slot)) =
     × IsFirstAt cycle (LinksDifferAt (repeated cycle) p) slot
 IsPageFault cycle pages p (Some reason) = ⊥
 
--- what is known of the first slots of the single reasons
+-- the first slot for each reason
 pub record AreFirst (cycle : List (List ℕ)) (pages : List Page) (p : Page) (first : FirstSlots) : Type 0 where
   pub has_header : IsTrue first.has_header ↔ HasHeader (repeated cycle) p.id
   pub other_subpage : TellsFirst cycle (OtherSubpageAt (repeated cycle) pages p) first.other_subpage
@@ -74,18 +74,18 @@ pub record AreFirst (cycle : List (List ℕ)) (pages : List Page) (p : Page) (fi
   pub row : TellsFirst cycle (RowDiffersAt (repeated cycle) p) first.row
   pub links : TellsFirst cycle (LinksDifferAt (repeated cycle) p) first.links
 
--- the smaller of two slots, where there are any
+-- the earlier of two slots, if there are any
 abbrev pub earlier : Option ℕ → Option ℕ → Option ℕ
 earlier None b = b
 earlier (Some a) None = Some a
 earlier (Some a) (Some b) = Some (if nat_le a b then a else b)
 
--- P is true of the item, and of no item before it
+-- P holds for the item, and for no item before it
 pub record IsFirstItem (P : Item → Type 0) (item : Item) : Type 0 where
   pub here : P item
   pub none_before : (other : Item) → item_number other < item_number item → P other → ⊥
 
--- P is true of the item's start, of no smaller start of the item, and of no start of an item before it
+-- P holds for this start of the item, for no smaller start of the item, and for no start of an item before it
 pub record IsFirstStart (P : Item → ℕ → Type 0) (item : Item) (start : ℕ) : Type 0 where
   pub here : P item start
   pub none_before : (other : ℕ) → other < start → P item other → ⊥
@@ -97,7 +97,7 @@ NoItem P = (item : Item) → P item → ⊥
 abbrev pub NoStart : (Item → ℕ → Type 0) → Type 0
 NoStart P = (item : Item) (start : ℕ) → P item start → ⊥
 
--- None where each item that a viewer sees is covered or left out
+-- None if each item that a viewer sees is covered or left out
 abbrev pub IsWitnessFault : List (List ℕ) → Page → Certificate → Option Reason → Type 0
 IsWitnessFault cycle p w None = (item : Item) → needed p item ≡ true → IsCovered cycle p w item ⊎ IsLeftOut cycle p w item
 IsWitnessFault cycle p w (Some (NoWitness page item)) = (page ≡ p.id) × IsFirstItem (HasNoWitness p w) item
@@ -115,13 +115,13 @@ IsWitnessFault cycle p w (Some (LateBlank page item header)) =
     × IsFirstStart (LateBlankAt cycle p w) item header
 IsWitnessFault cycle p w (Some reason) = ⊥
 
--- None where the page is steady and each item is covered or left out
+-- None if the page is steady and each item that a viewer sees is covered or left out
 abbrev pub IsFault : List (List ℕ) → List Page → Page → Certificate → Option Reason → Type 0
 IsFault cycle pages p w None = Steady (repeated cycle) pages p × IsWitnessFault cycle p w None
 IsFault cycle pages p w (Some reason) = IsPageFault cycle pages p (Some reason)
     ⊎ (Steady (repeated cycle) pages p × IsWitnessFault cycle p w (Some reason))
 
--- None: a page has no fault exactly where it is steady
+-- a page has no fault if and only if it is steady
 abbrev pub SteadyHasNoFault : Type 0
 SteadyHasNoFault = (cycle : List (List ℕ)) (pages : List Page) (p : Page) (answer : Option Reason) →
     IsPageFault cycle pages p answer → answer ≡ None ↔ Steady (repeated cycle) pages p

@@ -1,11 +1,11 @@
--- Headers of other subpages of the pages of a list, found for all pages at once in tables by page number.
+-- Headers of other subpages of listed pages, found for all pages at once in tables by page number.
 --
---   Subcodes, with_subcode  the subcodes of the pages of a number: none, one, or several
---   place                   the place of a magazine and two digits in a table of all
---   IsListed, AreSubcodes, AreAllSubcodes   a page of the first of a list; what they have of a number; of each number
---   heads_other, HeadsOtherAt     a header of a number whose one subcode is another
---   first_of, TellsBelow    the first slot of something so far
---   AreOtherHeaders, AreOtherSubpages     the first slots of each number, and those of each page
+--   Subcodes, with_subcode  the subcodes of the listed pages of a number: none, one, or several
+--   place                   the index of a page number in such a table
+--   IsListed, AreSubcodes, AreAllSubcodes   a page among the first ones of a list; their subcodes for a number, and for all numbers
+--   heads_other, HeadsOtherAt     a header of a number that has one listed subcode, with another subcode
+--   first_of, TellsBelow    the first slot so far where a property holds
+--   AreOtherHeaders, AreOtherSubpages     the first slots for each number, and for each page
 use Rattle.std.specs.Prelude.{◌≡◌, ℕ, ◌+◌, ◌-◌, ◌*◌, ◌<◌, ◌≤◌, ℤ, pos, Bool, true, false, not, ◌&&◌, ◌==◌, if◌then◌else◌, List, get_or}
 use Rattle.std.specs.Prelude.{slice_get, Option, Some, None}
 use Rattle.ttx_header.specs.Ids.{IsId}
@@ -26,7 +26,7 @@ with_subcode Several sub = Several
 abbrev pub place : ℕ → ℕ → ℕ
 place mag page = 256 * (mag - 1) + page
 
--- a page of this number among the first i of the list
+-- a page with this number among the first i pages of the list
 pub record IsListed (pages : List Page) (i mag number : ℕ) (q : Page) : Type 0 where
   pub index : ℕ
   pub below : index < i
@@ -34,7 +34,7 @@ pub record IsListed (pages : List Page) (i mag number : ℕ) (q : Page) : Type 0
   pub in_magazine : q.id.mag ≡ mag
   pub numbered : q.id.page ≡ number
 
--- the subcodes of the first i pages that have this number
+-- the subcodes of the first i pages, for this number
 abbrev pub AreSubcodes : List Page → ℕ → ℕ → ℕ → Subcodes → Type 0
 AreSubcodes pages i mag number Unlisted = (q : Page) → IsListed pages i mag number q → ⊥
 AreSubcodes pages i mag number (One sub) = ((q : Page) × IsListed pages i mag number q)
@@ -45,7 +45,7 @@ abbrev pub AreAllSubcodes : List Page → ℕ → List Subcodes → Type 0
 AreAllSubcodes pages i table = (mag number : ℕ) → 1 ≤ mag → mag ≤ 8 → number < 256 →
     AreSubcodes pages i mag number (get_or table (place mag number) Unlisted)
 
--- another subcode than the one of the number
+-- the number has one listed subcode, and this is another
 abbrev pub is_other : Subcodes → ℕ → Bool
 is_other Unlisted sub = false
 is_other (One own) sub = not (own == sub)
@@ -59,12 +59,12 @@ heads_other table mag number packet = false
 abbrev pub HeadsOtherAt : List Subcodes → Stream → ℕ → ℕ → ℤ → Type 0
 HeadsOtherAt table s mag number j = heads_other table mag number (packet_of (s j)) ≡ true
 
--- slot j, where it is one and none was before
+-- slot j if it is one and there was none before
 abbrev pub first_of : Option ℕ → Bool → ℕ → Option ℕ
 first_of None is j = if is then Some j else None
 first_of (Some i) is j = Some i
 
--- the first of the slots below n
+-- the first slot below n where P holds
 abbrev pub TellsBelow : (ℤ → Type 0) → ℕ → Option ℕ → Type 0
 TellsBelow P n None = (i : ℕ) → i < n → P (pos i) → ⊥
 TellsBelow P n (Some j) = (j < n) × P (pos j) × ((i : ℕ) → i < j → P (pos i) → ⊥)
@@ -73,7 +73,7 @@ abbrev pub AreOtherHeaders : List (List ℕ) → List Subcodes → List (Option 
 AreOtherHeaders cycle table first = (mag number : ℕ) → 1 ≤ mag → mag ≤ 8 → number < 256 →
     TellsFirst cycle (HeadsOtherAt table (repeated cycle) mag number) (get_or first (place mag number) None)
 
--- for each page of the list, the first header of another subpage where the page is the only one of its number
+-- for each page of the list, the first header of another subpage, if the page is the only one of its number
 abbrev pub AreOtherSubpages : List (List ℕ) → List Page → OtherSubpages → Type 0
 AreOtherSubpages cycle pages others = (n : ℕ) (p : Page) → slice_get pages n ≡ Some p → IsId p.id →
     TellsFirst cycle (OtherSubpageAt (repeated cycle) pages p) (get_or others.first.items (place p.id.mag p.id.page) None)

@@ -1,11 +1,11 @@
--- The reasons why a cycle isn't accepted that speak of single slots and of the starts of items. The reasons 2 to 7 stand beside the
--- pages that a stream sends unchanged.
+-- The reasons why a cycle is not accepted that concern single slots and the starts of items. Reasons 2 to 7 are defined in `Steady` of
+-- ttx_page.
 --
 --   BadSlotAt               a slot that one wrong bit in each byte can turn into another packet (reason 1)
 --   HasNoWitness            no start is named for an item that a viewer sees (8)
---   WitnessBadAt            a named start that has no sure run (9)
---   LateAt                  the run of the next named start ends too late (10)
---   LateBlankAt             the next header comes too late, for a blank item that isn't sent (12)
+--   WitnessBadAt            a named start without a sure run (9)
+--   LateAt                  the run from the next named start ends too late (10)
+--   LateBlankAt             the next header comes too late, for a blank item without named starts (12)
 use Rattle.std.specs.Prelude.{◌≡◌, ℕ, ◌<◌, ℤ, pos, ◌+ℤ◌, ◌<ℤ◌, ◌≤ℤ◌, true, false, List, [], length, slice_index_or, Contains}
 use Rattle.ttx_packet.specs.Slots.{is_clean}
 use Rattle.ttx_page.specs.Packets.{packet_of}
@@ -20,7 +20,7 @@ pub record BadSlotAt (cycle : List (List ℕ)) (slot : ℕ) : Type 0 where
   pub within : slot < length cycle
   pub bad : is_clean (slice_index_or cycle slot []) ≡ false
 
--- no start is named, and the item isn't one that a receiver which surely clears has already
+-- no start is named, and the item is not one that a receiver which surely clears holds already
 pub record HasNoWitness (p : Page) (w : Certificate) (item : Item) : Type 0 where
   pub needed : needed p item ≡ true
   pub none : w.starts p.id item ≡ []
@@ -31,7 +31,7 @@ pub record WitnessBadAt (cycle : List (List ℕ)) (p : Page) (w : Certificate) (
   pub named : Contains (w.starts p.id item) start
   pub bad : IsSureStart cycle p.id w.lines w.repeat item start → ⊥
 
--- The start is the i-th that is named; the run of the next one, round the cycle, ends more than the deadline after its owner.
+-- The start is the i-th named one; the run from the next one, round the cycle, ends later than the deadline after its owner.
 pub record LateAt (cycle : List (List ℕ)) (p : Page) (w : Certificate) (item : Item) (start : ℕ) : Type 0 where
   pub needed : needed p item ≡ true
   pub index : ℕ

@@ -1,11 +1,11 @@
 -- The certificate that names every start of a sure run, and the least deadline with which a cycle is accepted (profile).
 --
---   is_due                  the items for which starts are named: those that a viewer sees and a receiver of the class hasn't already
---   starts_of, spread_at    the starts of the sure runs of an item, and what is kept of these runs
---   IsEnough, least_limit   a limit in slots is enough; the least one in which sure runs of an item follow one another, None where there is none
---   starts_for, limit_for   what is named for an item that a viewer sees, and its least limit: that of the page's headers where it isn't due
---   IsDone, same_place, AreNamed    the items that have been looked at; what is known of entries and limits after them
---   CanBeAccepted           some certificate of these numbers and this deadline is accepted
+--   is_due                  the items for which starts are named: those that a viewer sees and a receiver of the class does not hold already
+--   starts_of, spread_at    the starts of the sure runs of an item, and how far apart these runs are
+--   IsEnough, least_limit   a limit in slots is enough; the least one within which sure runs follow one another, None if there is no sure run
+--   starts_for, limit_for   the starts named for an item that a viewer sees, and its least limit: that of the page's headers if it is not due
+--   IsDone, same_place, AreNamed    the items that have been handled; the entries and the limit after them
+--   CanBeAccepted           some certificate with these numbers and this deadline is accepted
 --   IsFoundFor              the certificate that is found, and the least deadline
 use Rattle.std.specs.Prelude.{◌≡◌, ◌⊎◌, ◌↔◌, ℕ, ◌-◌, ◌*◌, ◌<◌, ◌≤◌, max, Bool, true, false, not, ◌&&◌, ◌==◌, if◌then◌else◌, List, [], ◌∷◌}
 use Rattle.std.specs.Prelude.{◌++◌, length, slice_get, slice_index_or, Contains, Option, Some, None}
@@ -50,7 +50,7 @@ least_limit cycle lines repeat page item = limit_of (length cycle) (spread_at cy
 abbrev pub starts_for : List (List ℕ) → Class → ℕ → ℕ → Page → Item → List ℕ
 starts_for cycle class lines repeat p item = if is_due class p item then starts_of cycle lines repeat p.id item else []
 
--- an item that isn't due needs the next header of its page alone
+-- an item that is not due needs only the next header of its page
 abbrev pub limit_for : List (List ℕ) → Class → ℕ → ℕ → Page → Item → Option ℕ
 limit_for cycle class lines repeat p item =
     if is_due class p item then least_limit cycle lines repeat p.id item else least_limit cycle lines 1 p.id TheHead
@@ -61,14 +61,14 @@ wider None b = None
 wider (Some a) None = None
 wider (Some a) (Some b) = Some (max a b)
 
--- an item of a page that a viewer sees, in its place among the first m
+-- an item that a viewer sees, and whose place is among the first m
 pub record IsDone (pages : List Page) (m i : ℕ) (p : Page) (item : Item) : Type 0 where
   pub at : slice_get pages i ≡ Some p
   pub is : IsItem item
   pub seen : needed p item ≡ true
   pub before : place_of_item i item < m
 
--- the entry names the starts of an item that has been looked at
+-- the entry names the starts of an item that has been handled
 pub record NamesStarts (cycle : List (List ℕ)) (pages : List Page) (class : Class) (lines repeat m : ℕ) (e : Entry) : Type 0 where
   pub index : ℕ
   pub p : Page
@@ -76,18 +76,18 @@ pub record NamesStarts (cycle : List (List ℕ)) (pages : List Page) (class : Cl
   pub page : e.page ≡ p.id
   pub starts : e.starts.items ≡ starts_for cycle class lines repeat p e.item
 
--- one of the entries is of the item
+-- one of the entries belongs to the item
 pub record HasEntry (entries : List Entry) (page : Id) (item : Item) : Type 0 where
   pub entry : Entry
   pub among : Contains entries entry
   pub of_page : entry.page ≡ page
   pub of_item : entry.item ≡ item
 
--- whether two entries are of the same item of the same page
+-- whether two entries belong to the same item of the same page
 abbrev pub same_place : Entry → Entry → Bool
 same_place a b = place_of a.page a.item == place_of b.page b.item
 
--- after the first m items
+-- the entries and the least limit after the first m items
 pub record AreNamed (cycle : List (List ℕ)) (pages : List Page) (class : Class) (lines repeat m : ℕ)
     (entries : List Entry) (least : Option ℕ) : Type 0 where
   pub told : All (NamesStarts cycle pages class lines repeat m) entries
@@ -99,7 +99,7 @@ pub record AreNamed (cycle : List (List ℕ)) (pages : List Page) (class : Class
   pub least_from : (limit : ℕ) →
       ((i : ℕ) (p : Page) (item : Item) → IsDone pages m i p item → IsEnough (limit_for cycle class lines repeat p item) limit) → IsEnough least limit
 
--- there is no start and nothing is added, or an entry that names them is
+-- there is no start and nothing is appended, or an entry that names the starts is
 abbrev pub AddsEntry : List Entry → List Entry → Id → Item → List ℕ → Type 0
 AddsEntry old new page item starts =
     ((starts ≡ []) × (new ≡ old)) ⊎ ((e : Entry) × (new ≡ old ++ e ∷ []) × (e.page ≡ page) × (e.item ≡ item) × (e.starts.items ≡ starts))
@@ -109,18 +109,18 @@ pub record IsSentUnchanged (cycle : List (List ℕ)) (pages : List Page) : Type 
   pub clean : (n : ℕ) → n < length cycle → is_clean (slice_index_or cycle n []) ≡ true
   pub steady : (n : ℕ) (p : Page) → slice_get pages n ≡ Some p → Steady (repeated cycle) pages p
 
--- the least number of fields from 1 to 1,000,000 that has so many slots
+-- the least number of fields, from 1 to 1,000,000, that holds so many slots
 abbrev pub IsLeastField : ℕ → ℕ → Option ℕ → Type 0
 IsLeastField slots lines None = (d : ℕ) → 1 ≤ d → d ≤ 1000000 → slots ≤ d * lines → ⊥
 IsLeastField slots lines (Some d) = (1 ≤ d) × (d ≤ 1000000) × (slots ≤ d * lines) × ((e : ℕ) → 1 ≤ e → slots ≤ e * lines → d ≤ e)
 
--- the same where all is sent unchanged and the limit is enough
+-- the least number of fields that is enough, if all is sent unchanged
 abbrev pub IsDeadline : List (List ℕ) → List Page → ℕ → Option ℕ → Option ℕ → Type 0
 IsDeadline cycle pages lines least None = (d : ℕ) → 1 ≤ d → d ≤ 1000000 → IsSentUnchanged cycle pages → IsEnough least (d * lines) → ⊥
 IsDeadline cycle pages lines least (Some d) =
     IsSentUnchanged cycle pages × (1 ≤ d) × (d ≤ 1000000) × IsEnough least (d * lines) × ((e : ℕ) → 1 ≤ e → IsEnough least (e * lines) → d ≤ e)
 
--- some certificate of this class, lines, repeat count and deadline is accepted
+-- some certificate with this class, lines, repeat count and deadline is accepted
 pub record CanBeAccepted (cycle : List (List ℕ)) (pages : List Page) (class : Class) (lines repeat deadline : ℕ) : Type 0 where
   pub w : Certificate
   pub is : IsCertificate w
@@ -130,7 +130,7 @@ pub record CanBeAccepted (cycle : List (List ℕ)) (pages : List Page) (class : 
   pub same_deadline : w.deadline ≡ deadline
   pub accepted : Accepts cycle pages w
 
--- Some: the certificate has this deadline and is accepted, and none with a smaller one is. None: none is, and it has the largest.
+-- Some: the certificate has this deadline and is accepted, and none with a smaller deadline is. None: none is, and it has the largest.
 abbrev pub IsLeastDeadline : List (List ℕ) → List Page → Certificate → Option ℕ → Type 0
 IsLeastDeadline cycle pages w None = (w.deadline ≡ 1000000) × ((d : ℕ) → CanBeAccepted cycle pages w.class w.lines w.repeat d → ⊥)
 IsLeastDeadline cycle pages w (Some d) =

@@ -1,13 +1,13 @@
--- What is looked for in a survey: the words of `Finding` at the survey's cycle, pages and numbers.
+-- The definitions of `Finding`, for the cycle, pages and numbers of a survey.
 --
 --   survey_slots, survey_pages      the slots of the survey's cycle, and its pages
---   AreNamedIn              what is known of entries and limits after the first items of all pages
+--   AreNamedIn              the entries and the least limit after the first items of all pages
 --   AreOthersIn             the headers of other subpages of its pages
---   IsSteadyIn, IsFaultIn   a page is sent unchanged; the first of the reasons why it isn't
+--   IsSteadyIn, IsFaultIn   a page is sent unchanged; the first reason why it is not
 --   surveyed_page           the page
 --   surveyed_starts, surveyed_spread,
---   surveyed_least        the starts of the sure runs of an item of the page, what is kept of these runs, the least limit
---   surveyed_named, surveyed_limit  what is named for an item that a viewer of the page sees, and its least limit
+--   surveyed_least        the starts of the sure runs of an item of the page, how far apart these are, the least limit
+--   surveyed_named, surveyed_limit  the starts named for an item that a viewer of the page sees, and its least limit
 use Rattle.std.specs.Prelude.{ℕ, List, Option, map}
 use Rattle.ttx_cycle.specs.Cycles.{slots_of}
 use Rattle.ttx_page.specs.Pages.{Page}

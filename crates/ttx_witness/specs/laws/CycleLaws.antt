@@ -1,10 +1,10 @@
--- The laws of certificates over cycles. In each, a run of the item has k + 1 transmissions.
+-- Laws of certificates over cycles. In each, a run of the item has k + 1 transmissions.
 --
 --   CoverageIsDecided       one pass over a period decides whether an item is covered
---   FirstsAreFound          the start that a pass calls bad or late is the first such
---   FurtherStartsCover      a further start that has a sure run leaves covered what was covered
+--   FirstsAreFound          the start that a pass reports as bad or late is the first one
+--   FurtherStartsCover      naming a further start with a sure run keeps a covered item covered
 --   SureStartsAreFound      a search finds exactly the starts of sure runs
---   LeastLimitIsFound       and the least limit in which any named starts cover the item
+--   LeastLimitIsFound       and the least limit with which any named starts cover the item
 use Rattle.std.specs.Prelude.{◌≡◌, ◌↔◌, ℕ, suc, ◌<◌, ◌≤◌, pos, ◌+ℤ◌, List, length, Contains, Option, Some, None}
 use Rattle.ttx_header.specs.Ids.{Id}
 use Rattle.ttx_page.specs.Pages.{Page}
@@ -37,7 +37,7 @@ FirstsAreFound = (cycle : List (List ℕ)) → 1 ≤ length cycle → (p : Page)
     × (m.next ≡ length starts → 0 < length starts →
     IsFirst (IsLate Owned (length cycle) (suc k) (limit w) starts) starts (late_after (limit w) starts m (m.first_end +ℤ pos (length cycle))))
 
--- two certificates that differ in their starts alone
+-- two certificates that differ only in their starts
 abbrev pub FurtherStartsCover : Type 0
 FurtherStartsCover = (cycle : List (List ℕ)) (p : Page) (w v : Certificate) (item : Item) →
     w.lines ≡ v.lines → w.repeat ≡ v.repeat → w.deadline ≡ v.deadline →
@@ -45,7 +45,7 @@ FurtherStartsCover = (cycle : List (List ℕ)) (p : Page) (w v : Certificate) (i
     ((start : ℕ) → Contains (v.starts p.id item) start → IsSureStart cycle p.id v.lines v.repeat item start) →
     IsCovered cycle p w item → IsCovered cycle p v item
 
--- the starts that a search finds, and what it keeps of their runs
+-- the starts that a search finds, and how far apart their runs are
 abbrev pub found_starts : List (List ℕ) → Id → ℕ → Item → ℕ → List ℕ
 found_starts cycle page lines item k = sure_starts (runs (length cycle) k (sent_in cycle page lines item))
 
@@ -57,8 +57,8 @@ SureStartsAreFound = (cycle : List (List ℕ)) → 1 ≤ length cycle → (page 
     run_length repeat item ≡ suc k →
     (start : ℕ) → Contains (found_starts cycle page lines item k) start ↔ IsSureStart cycle page lines repeat item start
 
--- None: nothing covers the item. Else the starts that are found cover it exactly with a limit of the width at least, and no other
--- starts do with less.
+-- None: nothing covers the item. Otherwise the starts found cover it if and only if the limit is at least the width, and no other starts
+-- cover it with less.
 abbrev pub LeastLimitIsFound : Type 0
 LeastLimitIsFound = (cycle : List (List ℕ)) → 1 ≤ length cycle → (p : Page) (w : Certificate) (item : Item) (k : ℕ) →
     run_length w.repeat item ≡ suc k →

@@ -1,12 +1,12 @@
--- The laws of how an item of a page is judged by the list of its transmissions in a period.
+-- Laws of how an item of a page is judged from the list of its transmissions in a period.
 --
---   TransmissionsAreListed  the list of a period's transmissions: each of them, in their order, with small numbers
---   FirstPeriodIsListed     the list of those in a cycle's first period after another one
---   IsFirstOf               the first number of which something is true
---   IsLateAnswer            the first late start, or none where the item is covered
---   ItemsAreJudged          what one pass over the list tells of the named starts: the first bad one, or else the first late one
+--   TransmissionsAreListed  the list of a period's transmissions has each of them, in order, with small numbers
+--   FirstPeriodIsListed     the list of the transmissions in the first period of a cycle after another one
+--   IsFirstOf               the first number for which a property holds
+--   IsLateAnswer            the first late start, or None if the item is covered
+--   ItemsAreJudged          what one pass over the list finds about the named starts: the first bad one, or otherwise the first late one
 --   late_header             the first header that the next one follows too late
---   IsHeaderAnswer, HeadersAreJudged        what this tells of blank items that aren't sent
+--   IsHeaderAnswer, HeadersAreJudged        what this says about blank items without named starts
 use Rattle.std.specs.Prelude.{◌≡◌, ℕ, suc, ◌<◌, ◌≤◌, ℤ, pos, ◌+ℤ◌, ◌<ℤ◌, ◌≤ℤ◌, true, if◌then◌else◌, int_lt, unsigned_abs, List, [], ◌∷◌}
 use Rattle.std.specs.Prelude.{length, slice_index_or, Option, Some, None, ◌≢◌, ◌^◌}
 use Rattle.std.specs.List.{AllByRecursion, AllPairs}
@@ -40,7 +40,7 @@ FirstPeriodIsListed = (before cycle : List (List ℕ)) → 1 ≤ length before �
     AreSent (IsOwned (joined before cycle) page item) (IsSure (joined before cycle) lines page.mag item) (pos 0) (pos (length cycle))
     (sent_after before cycle page lines item)
 
--- P is true of n, and of no smaller number
+-- P holds for n, and for no smaller number
 abbrev pub IsFirstOf : (ℕ → Type 0) → ℕ → Type 0
 IsFirstOf P n = P n × ((m : ℕ) → m < n → P m → ⊥)
 
@@ -56,14 +56,14 @@ ItemsAreJudged = (cycle : List (List ℕ)) → 1 ≤ length cycle → (p : Page)
     × (m.next ≡ length starts → (start : ℕ) → WitnessBadAt cycle p w item start → ⊥)
     × (m.next ≡ length starts → 0 < length starts → IsLateAnswer cycle p w item (late_after (limit w) starts m (m.first_end +ℤ pos (length cycle))))
 
--- the first of the headers that is followed by the next one more than the limit later, where after the last one a header stands at end
+-- the first header that is followed by the next one more than `limit` slots later; the header after the last one is in slot `end`
 abbrev pub late_before : ℕ → ℤ → List Transmission → Option ℕ
 late_before limit end [] = None
 late_before limit end (t ∷ []) = if int_lt (t.slot +ℤ pos limit) end then Some (unsigned_abs t.slot) else None
 late_before limit end (t ∷ next ∷ ts) =
     if int_lt (t.slot +ℤ pos limit) next.slot then Some (unsigned_abs t.slot) else late_before limit end (next ∷ ts)
 
--- the first of a list, a period later
+-- the first of a list, one period later
 abbrev pub first_again : ℕ → List Transmission → ℤ
 first_again n [] = pos n
 first_again n (t ∷ ts) = t.slot +ℤ pos n
@@ -83,6 +83,6 @@ abbrev pub HeadersAreJudged : Type 0
 HeadersAreJudged = (cycle : List (List ℕ)) → 1 ≤ length cycle → (p : Page) (w : Certificate) → HasHeader (repeated cycle) p.id →
     IsHeaderAnswer cycle p w (late_header (limit w) (length cycle) (sent_in cycle p.id w.lines TheHead))
 
--- pages whose ids are distinct are fewer than 2^32
+-- fewer than 2^32 pages can have distinct ids
 abbrev pub PagesAreFew : Type 0
 PagesAreFew = (pages : List PageValue) → AllPairs (λ a b. a ≢ b) (ids_of pages) → length pages < 2 ^ 32

@@ -1,12 +1,12 @@
--- The laws of transmissions that repeat every n slots: each speaks of slots, owners and certainty alone.
+-- Laws of transmissions that repeat every n slots. They depend only on slots, owners and sureness.
 --
---   Sending, Schedule       what a slot is of one item: nothing, or a transmission with its owner and its certainty
---   RunsAreTheStreams       the windows of a period's list, taken round the cycle, are the stream's runs
---   NeighboursDecide        every tuning slot is served exactly where neighbouring named runs follow in time
+--   Sending, Schedule       what a slot sends of one item: nothing, or a transmission with its owner and whether it is sure
+--   RunsAreTheStreams       the windows of a period's list, taken round the cycle, are the runs of the stream
+--   NeighboursDecide        every tuning slot is served if and only if neighbouring named runs follow one another in time
 --   Passes, PassDecides     one pass over a period decides whether named starts cover an item
---   PassFindsTheFirst       the start that a pass calls bad, and the one that it calls late, are the first such
---   SearchIsLeast           a search finds all starts of sure runs, and the least limit in which any starts cover the item
---   MoreStartsCover         a further start that has a sure run leaves covered what was covered
+--   PassFindsTheFirst       the start that a pass reports as bad, and the one that it reports as late, are the first ones
+--   SearchIsLeast           a search finds all starts of sure runs, and the least limit with which any starts cover the item
+--   MoreStartsCover         naming a further start with a sure run keeps a covered item covered
 use Rattle.std.specs.Prelude.{◌≡◌, ◌↔◌, ℕ, suc, ◌<◌, ◌≤◌, ℤ, pos, ◌+ℤ◌, Bool, true, List, [], ◌∷◌, ◌++◌, length, Option, Some, None, Contains}
 use Rattle.std.specs.List.{AllByRecursion}
 use Rattle.ttx_witness.specs.runs.Transmissions.{Transmission, Run, runs, moved_run, start_of}
@@ -26,7 +26,7 @@ Schedule = ℤ → Option Sending
 abbrev pub OwnedIn : Schedule → ℤ → ℤ → Type 0
 OwnedIn s h j = (sure : Bool) × (s j ≡ Some (record { owner = h; sure = sure }))
 
--- and a sure one
+-- and the transmission is sure
 abbrev pub SureIn : Schedule → ℤ → ℤ → Type 0
 SureIn s h j = s j ≡ Some (record { owner = h; sure = true })
 
@@ -34,14 +34,14 @@ abbrev pub RunsAreTheStreams : Type 0
 RunsAreTheStreams = (n k : ℕ) (s : Schedule) → Repeats n (OwnedIn s) (SureIn s) → (ts : List Transmission) →
     AreSent (OwnedIn s) (SureIn s) (pos 0) (pos n) ts → AllByRecursion (IsRunOf (OwnedIn s) (SureIn s) (suc k)) (runs n k ts)
 
--- the named runs of a period, and the first of them a period later
+-- for the named runs of a period, and the first of them one period later
 abbrev pub NeighboursDecide : Type 0
 NeighboursDecide = (n k limit : ℕ) (s : Schedule) → Repeats n (OwnedIn s) (SureIn s) → (named : ℤ → Bool) → ((i : ℤ) → named (i +ℤ pos n) ≡ named i) →
     (first : Run) (rest : List Run) →
     Lists start_of (λ i. named i ≡ true) (IsNamedRun (OwnedIn s) (SureIn s) (λ i. named i ≡ true) k) (pos 0) (pos n) (first ∷ rest) →
     FollowInTime limit first (rest ++ moved_run (pos n) first ∷ []) ↔ ((tau : ℤ) → IsInTime (OwnedIn s) (λ i. named i ≡ true) k limit tau)
 
--- a start is named, each is confirmed, and none is late
+-- some start is named, each one is confirmed, and none is late
 pub record Passes (n k limit : ℕ) (starts : List ℕ) (ts : List Transmission) : Type 0 where
   pub some_named : 0 < length starts
   pub all_confirmed : (after_runs limit starts not_begun (runs n k ts)).next ≡ length starts
@@ -67,7 +67,7 @@ PassFindsTheFirst = (n k limit : ℕ) (s : Schedule) → Repeats n (OwnedIn s) (
     × (p.next ≡ length starts → 0 < length starts →
     IsFirst (IsLate (OwnedIn s) n (suc k) limit starts) starts (late_after limit starts p (p.first_end +ℤ pos n)))
 
--- with no sure run nothing covers the item
+-- without a sure run nothing covers the item
 abbrev pub IsLeastLimit : (ℕ → List ℕ → Type 0) → ℕ → List ℕ → Option Spread → Type 0
 IsLeastLimit Covered n starts None = (limit : ℕ) (others : List ℕ) → Covered limit others → ⊥
 IsLeastLimit Covered n starts (Some s) = ((limit : ℕ) → (width n s ≤ limit) ↔ Covered limit starts)

@@ -1,9 +1,9 @@
--- A cycle is accepted where each item has a sure run: the laws for those that lay out cycles.
+-- A cycle is accepted if each item has a sure run: laws for those who lay out cycles.
 --
 --   HasSureStart            a sure run of the item begins in a slot of the period
---   AllSureHaveStarts       an item that is sent, and never so that a receiver may miss it, has one
---   IsLongEnough            so many fields are nine periods
---   SureItemsAreAccepted    where all is sent unchanged and each item has one, some certificate is accepted
+--   AllSureHaveStarts       an item that is sent, and never such that a receiver may miss it, has one
+--   IsLongEnough            so many fields hold nine periods
+--   SureItemsAreAccepted    if all is sent unchanged and each item has a sure run, some certificate is accepted
 use Rattle.std.specs.Prelude.{◌≡◌, ◌⊎◌, ℕ, ◌*◌, ◌≤◌, ℤ, true, List, length, slice_get, Some}
 use Rattle.ttx_header.specs.Ids.{Id}
 use Rattle.ttx_page.specs.Pages.{Page, needed, IsBlank}
@@ -23,11 +23,11 @@ AllSureHaveStarts = (cycle : List (List ℕ)) → 1 ≤ length cycle → (page :
     ((h j : ℤ) → IsOwned (repeated cycle) page item h j → IsSure (repeated cycle) lines page.mag item h j) →
     HasSureStart cycle page lines repeat item
 
--- one sure run of eight transmissions at most ends within nine periods after each slot
+-- a sure run of at most eight transmissions ends within nine periods after each slot
 abbrev pub IsLongEnough : List (List ℕ) → ℕ → ℕ → Type 0
 IsLongEnough cycle lines deadline = 9 * length cycle ≤ deadline * lines
 
--- each item that a viewer sees has a sure run, or receivers surely clear and it is blank
+-- each item that a viewer sees has a sure run, or receivers surely clear and the item is blank
 abbrev pub SureItemsAreAccepted : Type 0
 SureItemsAreAccepted = (cycle : List (List ℕ)) (pages : List Page) (class : Class) (lines repeat deadline : ℕ) → 1 ≤ length cycle →
     length cycle ≤ 65536 → 1 ≤ lines → lines ≤ 32 → 1 ≤ repeat → repeat ≤ 8 → 1 ≤ deadline → deadline ≤ 1000000 →

@@ -1,9 +1,9 @@
--- The laws of how long viewers wait.
+-- Laws of how long viewers wait.
 --
---   greatest                the greatest of the deadlines that are told, 1 where no page is; None where a page has none
---   DeadlineIsGreatest      where no slot is bad, the deadline of the certificate that is found is the greatest
---   IsNear, IsCut           a transmission at most L slots after its header; one later that a header of another magazine cut off
---   LossesAreTold           what is counted as near or cut off is so in the stream
+--   greatest                the greatest of the pages' deadlines, 1 if there are no pages; None if a page has no deadline
+--   DeadlineIsGreatest      if no slot is bad, the deadline of the certificate that is found is the greatest
+--   IsNear, IsCut           a transmission at most L slots after its header; a later one that a header of another magazine cuts off
+--   LossesAreTold           a transmission that is counted as near or cut off is so in the stream
 use Rattle.std.specs.Prelude.{◌≡◌, ◌≢◌, ◌↔◌, ℕ, ◌<◌, ◌≤◌, ℤ, pos, ◌+ℤ◌, ◌<ℤ◌, ◌≤ℤ◌, true, List, [], ◌∷◌, length, map, slice_index_or, Option, Some}
 use Rattle.std.specs.List.{AllByRecursion, AllPairs}
 use Rattle.ttx_header.specs.Ids.{Id}
@@ -37,7 +37,7 @@ DeadlineIsGreatest = (cycle : List (List ℕ)) → 1 ≤ length cycle → length
 abbrev pub IsNear : ℕ → Transmission → Type 0
 IsNear lines t = t.slot ≤ℤ (t.owner +ℤ pos lines)
 
--- more than L slots after its header, and since then a header of another magazine with C11
+-- more than L slots after its header, with a header of another magazine with C11 in between
 pub record IsCut (s : Stream) (mag lines : ℕ) (t : Transmission) : Type 0 where
   pub far : (t.owner +ℤ pos lines) <ℤ t.slot
   pub header : ℤ
@@ -49,7 +49,7 @@ pub record IsLossTold (s : Stream) (mag lines : ℕ) (t : Transmission) : Type 0
   pub near : (is_near lines t ≡ true) ↔ IsNear lines t
   pub cut : (is_cut lines t ≡ true) ↔ IsCut s mag lines t
 
--- of each transmission of a row or of the links; a header is never missed
+-- for each transmission of a row or of the links; a header is never missed
 abbrev pub LossesAreTold : Type 0
 LossesAreTold = (cycle : List (List ℕ)) → 1 ≤ length cycle → (page : Id) (lines : ℕ) (item : Item) → (item ≡ TheHead → ⊥) →
     AllByRecursion (IsLossTold (repeated cycle) page.mag lines) (sent_in cycle page lines item)

@@ -1,4 +1,4 @@
--- An owner some slots earlier: `IsMoved`.
+-- An owner moved some slots back: `IsMoved`.
 use Rattle.std.specs.Prelude.{◌≡◌, ℕ, ◌≤◌, pos, ◌-ℤ◌, ◌≤ℤ◌, Option, Some, None}
 use Rattle.ttx_witness.specs.declared.sent.owners.Owner.{Owner}
 

@@ -1,8 +1,8 @@
--- The starts that are named for an item, once a period has passed.
+-- The progress of the starts named for an item after one period.
 --
---   HoldsAt                 a place of a list holds something of which P is true
---   IsIdle                  an item that isn't needed, or for which no start is named
---   IsProgress              what the named starts of an item come to, which isn't known where it is idle
+--   HoldsAt                 the element at an index of a list exists and has a property
+--   IsIdle                  an item that is not needed, or for which no start is named
+--   IsProgress              the progress of the named starts of an item; None only if the item is idle
 use Rattle.std.specs.Prelude.{◌≡◌, ℕ, ◌-◌, ◌<◌, true, List, length, slice_get, Option, Some, None}
 use Rattle.ttx_page.specs.Pages.{Page, needed}
 use Rattle.ttx_page.specs.Streams.{run_length}

@@ -1,13 +1,13 @@
--- The reasons that speak of single slots of a page, as they are noted while slots pass. Slots are counted from 0.
+-- The reasons that concern single slots of a page, noted slot by slot. Slots are counted from 0.
 --
---   IsNoted                 the first slot of something so far, once one more slot has come
---   RowWrong                a slot sends another row in the place of one that a viewer sees
---   heads_after, heads_of   the first and the last header, and the first that the next one followed too late: after one more slot; after a list
---   Noted                   the facts of a page after one more slot, of which `sends` says which items it sends
---   FirstBelow              the first of the slots below n of which something is true
---   SendsWrong, SendsWrongRow       slot j sends of a page what differs from it, under the owners that a scan from the entry gives
+--   IsNoted                 the first slot so far where a property holds, after one more slot
+--   RowWrong                a slot sends something else for a row that a viewer sees
+--   heads_after, heads_of   the first and last header and the first one that the next follows too late: after one more slot; after a list
+--   Noted                   the facts of a page after one more slot; `sends` says which items the slot sends
+--   FirstBelow              the first slot below n where a property holds
+--   SendsWrong, SendsWrongRow       slot j sends an item that differs from the page, with the owners of a scan from the entry
 --   AreFacts                the facts of a page after n slots
---   late_in, late_of        the first header that the next one follows too late, where after the last one the first comes again
+--   late_in, late_of        the first header that the next one follows too late; after the last header comes the first again
 use Rattle.std.specs.Prelude.{◌≡◌, ◌↔◌, ℕ, ◌<◌, ℤ, pos, ◌+ℤ◌, int_lt, unsigned_abs, Bool, true, ◌&&◌, if◌then◌else◌, List, [], ◌∷◌}
 use Rattle.std.specs.Prelude.{Option, Some, None, is_none}
 use Rattle.ttx_page.specs.Packets.{packet_of}
@@ -25,7 +25,7 @@ use Rattle.ttx_witness.specs.declared.runs.transmissions.Transmission.{Transmiss
 use Rattle.ttx_witness.specs.declared.passes.page_facts.Heads.{Heads}
 use Rattle.ttx_witness.specs.declared.passes.page_facts.Facts.{Facts}
 
--- slot j is noted where P is true of it and none was before
+-- slot j is noted if P holds and no slot was noted before
 pub record IsNoted (P : Type 0) (j : ℕ) (old new : Option ℕ) : Type 0 where
   pub holds : Bool
   pub exact : (holds ≡ true) ↔ P
@@ -37,7 +37,7 @@ pub record RowWrong (p : Page) (sends : Item → Bool) (slot : List ℕ) : Type 
   pub sent : sends (TheRow row) ≡ true
   pub wrong : IsWrong p (CheckRow row) slot
 
--- after a header in slot j
+-- the headers after one more in slot j
 abbrev pub next_head : ℕ → ℤ → Option Heads → Heads
 next_head limit j None = record { first = j; last = j; late = None }
 next_head limit j (Some h) = record {
@@ -69,7 +69,7 @@ pub record SendsWrongRow (p : Page) (s : Stream) (entry : Option PageOwner) (j :
   pub needed : needed p (TheRow row) ≡ true
   pub wrong : SendsWrong p s entry (CheckRow row) j
 
--- the headers after more
+-- the headers after a list of further ones
 unfoldable pub heads_of : ℕ → Option Heads → List Transmission → Option Heads
 heads_of limit heads [] = heads
 heads_of limit heads (t ∷ ts) = heads_of limit (heads_after limit t.slot true heads) ts

@@ -1,15 +1,15 @@
--- What two passes keep of the two lists of slots that they were given. Slots are counted from 0.
+-- What two passes keep of the two lists of slots they are given. Slots are counted from 0.
 --
 --   ids, pass_pages, certificate      the pages and the certificate of a pass
---   pages_in, certificate_in        of a second pass
---   ended_pages, ended_certificate  and of one that has ended
---   AreReady                what a pass keeps of its pages alone
+--   pages_in, certificate_in        those of a second pass
+--   ended_pages, ended_certificate  those of a pass that has ended
+--   AreReady                what a pass keeps that depends only on its pages
 --   AreSeen                 the owners after a list, as the pages see them
---   AreListed, AreNoted, AreTold, AreKept   what the slots send, facts and headers of other subpages after a list, with the owners before it
---   IsFirstPass             a pass that was given a first list
---   IsPassed, IsSecondPass  a second pass that was given a second list, after a first one
---   IsEnded                 a second pass that has ended as it began
---   EndsAs                  what the end of a second pass answers
+--   AreListed, AreNoted, AreTold, AreKept   what the slots of a list send, facts and headers of other subpages, given the owners before it
+--   IsFirstPass             a pass after a first list
+--   IsPassed, IsSecondPass  a second pass after a second list, which follows a first one
+--   IsEnded                 a second pass that has ended with the owners with which it began
+--   EndsAs                  the answer at the end of a second pass
 use Rattle.std.specs.Prelude.{◌≡◌, ◌↔◌, ℕ, ◌*◌, ◌<◌, ◌≤◌, false, List, [], length, map, get_or, slice_get, slice_index_or, Option, Some, None, IsTrue}
 use Rattle.std.specs.List.{All}
 use Rattle.ttx_packet.specs.Slots.{IsSlot, is_clean}
@@ -61,12 +61,12 @@ pub record AreReady (pass : Pass) : Type 0 where
   pub index : IsIndex (ids pass) pass.index
   pub subcodes : AreAllSubcodes (pass_pages pass) (length pass.pages.now) pass.others.subcodes.items
 
--- the owners after the list y, where those before it are the entry's
+-- the owners after the list y, given the owners before it
 pub record AreSeen (pass : Pass) (entry : Id → Option PageOwner) (y : List (List ℕ)) (owners : List (Option Owner)) : Type 0 where
   pub each : (i : ℕ) (id : Id) → slice_get (ids pass) i ≡ Some id → IsId id → owner_for owners i id ≡ owner_scan id (repeated y) (entry id) (length y)
   pub apart : AreApart (ids pass) owners
 
--- what the slots send of each item of each page; they aren't linked yet
+-- what the slots send of each item of each page; they are not linked yet
 pub record AreListed (pages : List Page) (w : Certificate) (entry : Id → Option PageOwner) (y : List (List ℕ)) (sent : SentSlots) : Type 0 where
   pub count : length sent.slots.items ≡ length y
   pub places : length sent.firsts.items ≡ 26 * length pages
@@ -89,7 +89,7 @@ pub record AreKept (pass : Pass) (entry : Id → Option PageOwner) (y : List (Li
   pub facts : AreNoted (pass_pages pass) (certificate pass) entry y pass.facts.items
   pub others : AreTold y pass.others
 
--- Of the first list a pass keeps how long it is, and the owners at its end.
+-- Of the first list a pass keeps its length and the owners at its end.
 pub record IsFirstPass (pass : Pass) (x : List (List ℕ)) : Type 0 where
   pub ready : AreReady pass
   pub few : length x ≤ 65536
@@ -97,7 +97,7 @@ pub record IsFirstPass (pass : Pass) (x : List (List ℕ)) : Type 0 where
   pub owners : AreSeen pass (λ id. None) x pass.owners
   pub nothing : AreKept pass (λ id. None) []
 
--- Of the second it keeps what its slots send and facts, as if the owners before it were those at the end of the first, and its own at its end.
+-- Of the second list it keeps what the slots send, facts, and its owners, as if the owners before it were those at the end of the first.
 pub record IsPassed (second : SecondPass) (x y : List (List ℕ)) : Type 0 where
   pub count : second.pass.count ≡ length y
   pub owners : AreSeen second.pass (entry_owner x) y second.pass.owners
@@ -112,7 +112,7 @@ pub record IsSecondPass (second : SecondPass) (x y : List (List ℕ)) : Type 0 w
   pub over : IsTrue second.over ↔ (65536 < length y)
   pub passed : length y ≤ 65536 → IsPassed second x y
 
--- The owners before the second list were its own, and the slots of each item are linked.
+-- The owners before the second list were the list's own, and the slots of each item are linked.
 pub record IsEnded (ended : EndedPass) (y : List (List ℕ)) : Type 0 where
   pub cycle : IsCycle y
   pub bad : FirstBelow (λ j. is_clean (slice_index_or y j []) ≡ false) (length y) ended.bad
@@ -125,7 +125,7 @@ pub record IsEnded (ended : EndedPass) (y : List (List ℕ)) : Type 0 where
   pub facts : AreNoted (ended_pages ended) (ended_certificate ended) (entry_owner y) y ended.facts.items
   pub others : AreTold y ended.others
 
--- None only where the lists differ or the second is empty
+-- None only if the lists differ or the second one is empty
 abbrev pub EndsAs : List (List ℕ) → List (List ℕ) → Option EndedPass → Type 0
 EndsAs x y None = x ≡ y → y ≡ []
 EndsAs x y (Some ended) = IsEnded ended y

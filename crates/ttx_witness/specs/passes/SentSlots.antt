@@ -1,8 +1,8 @@
 -- What the slots of a period send, item by item.
 --
---   placed_in                  the transmissions of the item in a place
---   IsNext                  the first number from one to below another of which something is true
---   IsLinked                from a slot on, the slots that send an item are linked: the first one is known, and of each the next
+--   placed_in               the transmissions of the item at a place
+--   IsNext                  the first number from m to below n for which a property holds
+--   IsLinked                from slot m on, the slots that send an item are linked: the first one is known, and for each the next one
 use Rattle.std.specs.Prelude.{◌≡◌, ℕ, ◌+◌, ◌<◌, ◌≤◌, true, List, [], ◌∷◌, ◌++◌, length, get_or, Option, Some, None}
 use Rattle.ttx_witness.specs.declared.runs.transmissions.Transmission.{Transmission}
 use Rattle.ttx_witness.specs.sent.OneSlot.{sends_place, placed_at}

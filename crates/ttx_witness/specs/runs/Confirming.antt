@@ -1,7 +1,7 @@
 -- How the named starts of an item are confirmed, run by run, and which of them are late.
 --
---   Progress                how many named starts are confirmed, and what of them is still needed
---   is_next                 the run is all sure and begins at the next named start
+--   Progress                how many named starts are confirmed, and what else must be remembered of them
+--   is_next                 the run is sure and begins at the next named start
 --   late_after              the least named start so far whose next one comes too late
 --   confirmed, after_runs   the progress after one run, and after a list of runs
 --   confirmed_runs          the runs that confirm a start
@@ -15,7 +15,7 @@ pub use Rattle.ttx_witness.specs.declared.runs.confirming.Progress.{Progress}
 abbrev pub same_slot : ℤ → ℤ → Bool
 same_slot a b = int_le a b && int_le b a
 
--- whether the run confirms the named start whose turn it is
+-- whether the run confirms the next named start
 abbrev pub is_next : List ℕ → ℕ → Run → Bool
 is_next starts next run = nat_lt next (length starts) && same_slot (pos (slice_index_or starts next 0)) run.start && run.sure
 
@@ -40,12 +40,12 @@ confirmed limit starts m run =
 abbrev pub not_begun : Progress
 not_begun = record { next = 0; previous = pos 0; first_end = pos 0; late = None }
 
--- the progress after runs in their order
+-- the progress after runs, in order
 unfoldable pub after_runs : ℕ → List ℕ → Progress → List Run → Progress
 after_runs limit starts m [] = m
 after_runs limit starts m (r ∷ rs) = after_runs limit starts (confirmed limit starts m r) rs
 
--- the runs that confirm a start, in their order
+-- the runs that confirm a start, in order
 unfoldable pub confirmed_runs : List ℕ → ℕ → List Run → List Run
 confirmed_runs starts next [] = []
 confirmed_runs starts next (r ∷ rs) = if is_next starts next r then r ∷ confirmed_runs starts (next + 1) rs else confirmed_runs starts next rs

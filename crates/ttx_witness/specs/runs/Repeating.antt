@@ -1,16 +1,16 @@
--- The transmissions of one item in a stream that repeats every n slots, and when named starts cover it.
--- The stream is given by two relations between a header's slot h and a slot j: j is a transmission under the
--- header at h (Owned h j), and no receiver may miss it (Sure h j).
+-- The transmissions of one item in a stream that repeats every n slots, and when named starts cover the item. The stream is given by
+-- two relations between the slot h of a header and a slot j: j is a transmission under the header at h (Owned h j), and no permitted
+-- receiver misses it (Sure h j).
 --
---   Lists                   a list of all that has a property, from one slot to below another
---   Successive              slots that rise, with none of the property between two of them
---   IsSentAt, IsSureSent    a slot is a transmission, or a sure one
---   Repeats                 what is asked of the two relations
+--   Lists                   a list of all slots with a property, from one slot to below another
+--   Successive              rising slots, with no other slot with the property between two of them
+--   IsSentAt, IsSureSent    a slot is a transmission; it is a sure one
+--   Repeats                 what the two relations must satisfy
 --   IsRunFrom, BeginsSureRun, RunEndsBelow  the run of k transmissions from a slot
---   IsRunOf, IsNamedRun     numbers that tell of a run of the stream, and of one from a named slot
+--   IsRunOf, IsNamedRun     numbers that describe a run of the stream; a run from a named slot
 --   turned, IsNamed         slots of a period, and named starts round the cycle
 --   Covers                  the named starts cover the item from every tuning slot
---   IsBad, IsLate, IsFirst  a named start without a sure run; one that the next follows too late; the first such
+--   IsBad, IsLate, IsFirst  a named start without a sure run; one that the next follows too late; the first such start
 --   FollowInTime            each run ends within the limit after the owner of the one before it
 use Rattle.std.specs.Prelude.{◌≡◌, ◌↔◌, ℕ, ◌<◌, ◌≤◌, ℤ, pos, ◌+ℤ◌, ◌-ℤ◌, ◌<ℤ◌, ◌≤ℤ◌, true, List, [], ◌∷◌, length}
 use Rattle.std.specs.Prelude.{Contains, slice_index_or, Option, Some, None}
@@ -19,7 +19,7 @@ pub use Rattle.ttx_page.specs.Streams.{turned}
 pub use Rattle.ttx_certificate.specs.NamedStarts.{next_start}
 use Rattle.ttx_witness.specs.runs.Transmissions.{Transmission, Run, slot_of}
 
--- ts are all that has the property P, from slot low to below slot high, each as Is tells
+-- ts has an element for every slot from `low` to below `high` with property P, in order, and each element satisfies Is
 abbrev pub Lists : {A : Type 0} → (A → ℤ) → (ℤ → Type 0) → (A → Type 0) → ℤ → ℤ → List A → Type 0
 Lists at P Is low high [] = (x : ℤ) → low ≤ℤ x → x <ℤ high → P x → ⊥
 Lists at P Is low high (t ∷ ts) =
@@ -34,7 +34,7 @@ Successive P [] = Unit {0}
 Successive P (i ∷ []) = P i
 Successive P (i ∷ j ∷ rest) = P i × (i <ℤ j) × ((x : ℤ) → i <ℤ x → x <ℤ j → P x → ⊥) × Successive P (j ∷ rest)
 
--- one owner a slot, not after it, at most a period before it, and not falling; and all is the same a period later
+-- each slot has one owner, not after it, at most one period before it, and not falling; and all is the same one period later
 pub record Repeats (n : ℕ) (Owned Sure : ℤ → ℤ → Type 0) : Type 0 where
   pub some : 1 ≤ n
   pub one_owner : (h k j : ℤ) → Owned h j → Owned k j → h ≡ k
@@ -60,38 +60,38 @@ pub record Tells (Owned Sure : ℤ → ℤ → Type 0) (t : Transmission) : Type
   pub owned : Owned t.owner t.slot
   pub sure : (t.sure ≡ true) ↔ Sure t.owner t.slot
 
--- ts are the stream's transmissions from slot low to below slot high
+-- ts are the stream's transmissions from slot `low` to below slot `high`
 abbrev pub AreSent : (ℤ → ℤ → Type 0) → (ℤ → ℤ → Type 0) → ℤ → ℤ → List Transmission → Type 0
 AreSent Owned Sure low high ts = Lists slot_of (IsSentAt Owned) (Tells Owned Sure) low high ts
 
--- the run from slot first: k successive transmissions
+-- the run from slot `first`: k successive transmissions
 pub record IsRunFrom (Owned : ℤ → ℤ → Type 0) (k : ℕ) (first : ℤ) (rest : List ℤ) : Type 0 where
   pub count : length (first ∷ rest) ≡ k
   pub successive : Successive (IsSentAt Owned) (first ∷ rest)
 
--- the run from slot first is all sure
+-- the run from slot `first` is sure
 pub record BeginsSureRun (Owned Sure : ℤ → ℤ → Type 0) (k : ℕ) (first : ℤ) : Type 0 where
   pub rest : List ℤ
   pub run : IsRunFrom Owned k first rest
   pub all_sure : AllByRecursion (IsSureSent Owned Sure) (first ∷ rest)
 
--- the run from slot first ends below slot end
+-- the run from slot `first` ends below slot `end`
 pub record RunEndsBelow (Owned : ℤ → ℤ → Type 0) (k : ℕ) (first end : ℤ) : Type 0 where
   pub rest : List ℤ
   pub run : IsRunFrom Owned k first rest
   pub ends : AllByRecursion (λ j. j <ℤ end) (first ∷ rest)
 
--- r tells of the stream's run from its start
+-- r describes the stream's run from its start
 pub record IsRunOf (Owned Sure : ℤ → ℤ → Type 0) (k : ℕ) (r : Run) : Type 0 where
   pub owned : Owned r.owner r.start
   pub sure : (r.sure ≡ true) ↔ BeginsSureRun Owned Sure k r.start
   pub ends : (e : ℤ) → (r.end <ℤ e) ↔ RunEndsBelow Owned k r.start e
 
--- a named start, or a slot some periods away from one
+-- a named start, or a slot a whole number of periods away from one
 abbrev pub IsNamed : ℕ → List ℕ → ℤ → Type 0
 IsNamed n starts i = Contains starts (turned n i)
 
--- r tells of a run of the stream from a named slot
+-- r describes the run of the stream from a named slot
 pub record IsNamedRun (Owned Sure : ℤ → ℤ → Type 0) (Named : ℤ → Type 0) (k : ℕ) (r : Run) : Type 0 where
   pub named : Named r.start
   pub run : IsRunOf Owned Sure k r
@@ -105,7 +105,7 @@ pub record IsInTime (Owned : ℤ → ℤ → Type 0) (Named : ℤ → Type 0) (k
   pub not_before : tau ≤ℤ owner
   pub ends : RunEndsBelow Owned k start (tau +ℤ pos limit)
 
--- a start is named, each named run is all sure, and from every tuning slot one of them is in time
+-- a start is named, each named run is sure, and for every tuning slot one of them is in time
 pub record Covers (Owned Sure : ℤ → ℤ → Type 0) (n k limit : ℕ) (starts : List ℕ) : Type 0 where
   pub named : (start : ℕ) × Contains starts start
   pub sure : (start : ℕ) → Contains starts start → (start < n) × BeginsSureRun Owned Sure k (pos start)
@@ -116,19 +116,19 @@ abbrev pub FollowInTime : ℕ → Run → List Run → Type 0
 FollowInTime limit r [] = Unit {0}
 FollowInTime limit r (next ∷ rest) = (next.end ≤ℤ (r.owner +ℤ pos limit)) × FollowInTime limit next rest
 
--- the next named run doesn't end within the limit after the owner of the i-th
+-- the run from the next named start does not end within the limit after the owner of the i-th
 pub record IsLate (Owned : ℤ → ℤ → Type 0) (n k limit : ℕ) (starts : List ℕ) (i : ℕ) : Type 0 where
   pub within : i < length starts
   pub owner : ℤ
   pub owned : Owned owner (pos (slice_index_or starts i 0))
   pub late : RunEndsBelow Owned k (next_start n starts i) ((owner +ℤ pos limit) +ℤ pos 1) → ⊥
 
--- a named start that lies outside the period or has no sure run
+-- a named start that is outside the period or has no sure run
 pub record IsBad (Owned Sure : ℤ → ℤ → Type 0) (n k : ℕ) (starts : List ℕ) (i : ℕ) : Type 0 where
   pub within : i < length starts
   pub bad : (slice_index_or starts i 0 < n) × BeginsSureRun Owned Sure k (pos (slice_index_or starts i 0)) → ⊥
 
--- the first start of which P is true, if one is
+-- the first start for which P holds, if there is one
 abbrev pub IsFirst : (ℕ → Type 0) → List ℕ → Option ℕ → Type 0
 IsFirst P starts None = (i : ℕ) → P i → ⊥
 IsFirst P starts (Some s) = (i : ℕ) × (s ≡ slice_index_or starts i 0) × P i × ((j : ℕ) → j < i → P j → ⊥)

@@ -1,11 +1,11 @@
--- The starts of all sure runs, and the least limit in which they follow one another.
+-- The starts of all sure runs, and the least limit within which they follow one another.
 --
---   sure_runs, sure_starts  the runs that are all sure, and their starts
---   above_zero              a distance in slots, and 0 for a negative one
+--   sure_runs, sure_starts  the runs that are sure, and their starts
+--   above_zero              a distance in slots; 0 for a negative one
 --   IsFound                 the starts and the spread of a list of runs
---   Spread, spread_of       what is kept of the sure runs so far: the end of the first, the owner of the last, and the
+--   Spread, spread_of       how far apart the sure runs so far are: the end of the first, the owner of the last, and the
 --                           greatest distance from an owner to the end of the next run
---   width                   the greatest distance, round the cycle: the least limit that does
+--   width                   the greatest distance, round the cycle: the least limit that is enough
 use Rattle.std.specs.Prelude.{◌≡◌, ℕ, max, ℤ, pos, negsuc, ◌+ℤ◌, ◌-ℤ◌, if◌then◌else◌, List, [], ◌∷◌, map, Option, Some, None, unsigned_abs}
 use Rattle.ttx_witness.specs.runs.Transmissions.{Run}
 pub use Rattle.ttx_witness.specs.declared.runs.sure_starts.Spread.{Spread}

@@ -1,13 +1,13 @@
 -- What is kept of the transmissions of one item while a period is read.
 --
---   keep_last               the last of a list, so many at most
---   ended                   the runs that have ended once some transmissions are read
+--   keep_last               the last elements of a list, at most so many
+--   ended                   the runs that have ended after some transmissions
 --   Held, held_in, held_in_ring   what is held: how many transmissions a run has, the last ones and the first ones
 --   IsRecent                what is held of a list of transmissions
 --   IsRound                 the same after some of the transmissions that follow the period
---   IsWithin, IsTurn        the numbers of a transmission are small; the first of a list goes to its end, a period later
+--   IsWithin, IsTurn        the numbers of a transmission are small; the first of a list moves to its end, one period later
 --   AreInOrder              transmissions slot by slot, in slots from 0 to below 65,536
---   IsTrack, IsSearch       a track, and a search for starts, after a list of transmissions
+--   IsTrack, IsSearch       the state of a track, and of a search for starts, after a list of transmissions
 use Rattle.std.specs.Prelude.{◌≡◌, ℕ, suc, ◌-◌, pos, ◌+ℤ◌, ◌<ℤ◌, ◌≤ℤ◌, List, [], ◌∷◌, ◌++◌, map, take, Option, Some, None}
 use Rattle.std.specs.List.{All, AllPairs}
 pub use Rattle.circular_buffer.specs.Buffer.{keep_last}
@@ -43,7 +43,7 @@ abbrev pub listed : Option Run → List Run
 listed None = []
 listed (Some r) = r ∷ []
 
--- from a cycle's length before the period to the bound
+-- from one longest cycle before the period up to the bound
 pub record IsWithin (bound : ℕ) (t : Transmission) : Type 0 where
   pub slot_low : pos 0 ≤ℤ (t.slot +ℤ pos 65536)
   pub slot_high : t.slot ≤ℤ pos bound
@@ -60,7 +60,7 @@ abbrev pub IsTurn : ℕ → List Transmission → Transmission → List Transmis
 IsTurn n [] result new = ⊥
 IsTurn n (t ∷ ts) result new = (result ≡ later n t) × (new ≡ ts ++ later n t ∷ [])
 
--- after i of the k transmissions that follow the period's ts; rs are the runs that have ended
+-- after i of the k transmissions that follow those of the period (ts); rs are the runs that have ended
 pub record IsRound (k n i : ℕ) (ts : List Transmission) (rs : List Run) (held : Held) : Type 0 where
   pub more : List Transmission
   pub repeat : held.repeat ≡ suc k

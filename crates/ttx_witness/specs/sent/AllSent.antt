@@ -1,6 +1,6 @@
 -- The transmissions of all items of all pages in one period of a cycle.
 --
---   AreSentAfter            for each item of each page, the list that is kept holds its transmissions after another cycle
+--   AreSentAfter            for each item of each page, the list kept has its transmissions in a first period after another cycle
 --   AreAllSent              the same after the cycle itself
 use Rattle.std.specs.Prelude.{◌≡◌, ℕ, ◌*◌, List, length, slice_get, Some}
 use Rattle.ttx_page.specs.Pages.{Page}

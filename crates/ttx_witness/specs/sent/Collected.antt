@@ -1,10 +1,10 @@
 -- The owners of the eight magazines, and the transmissions of all items of all pages, while the slots of a period are read.
 --
 --   taint, seen_by          an owner after a header of another magazine; an owner as one of the pages sees it
---   Finds                   a look-up that tells the place of an id among the ids of pages
+--   Finds                   the answer of a look-up is the index of an id among the ids of pages
 --   AreOwners               the owners are right for each page
---   IsItem, place_of_item   the items of a page, and where the transmissions of an item of a page are kept
---   held, AreCollected      the list in a place; the lists are the transmissions of all items in the first slots of a period
+--   IsItem, place_of_item   the items of a page, and the place where the transmissions of an item of a page are kept
+--   held, AreCollected      the list at a place; the lists are the transmissions of all items in the first slots of a period
 use Rattle.std.specs.Prelude.{◌≡◌, ℕ, ◌+◌, ◌-◌, ◌*◌, ◌<◌, Bool, false, ◌||◌, ◌==◌, List, [], slice_get, get_or, map, length, nat_eq}
 use Rattle.std.specs.Prelude.{Option, Some, None, Vec}
 use Rattle.std.specs.Global.{Global}
@@ -26,25 +26,25 @@ abbrev pub is_page : ℕ → Option ℕ → Bool
 is_page i None = false
 is_page i (Some j) = j == i
 
--- the owner as the i-th page sees it
+-- the owner, as the i-th page sees it
 abbrev pub seen_by : ℕ → Option Owner → Option PageOwner
 seen_by i None = None
 seen_by i (Some o) = Some (record { slot = o.slot; mine = is_page i o.page; tainted = o.tainted })
 
--- the answer for an id is the place of the page that has it
+-- the answer for an id is the index of the page that has it
 abbrev pub Finds : List Id → Id → Option ℕ → Type 0
 Finds ids id answer = (i : ℕ) (own : Id) → slice_get ids i ≡ Some own → is_page i answer ≡ same_id own id
 
--- the owner that the i-th page sees in its magazine
+-- the owner of the i-th page's magazine, as this page sees it
 abbrev pub owner_for : List (Option Owner) → ℕ → Id → Option PageOwner
 owner_for owners i id = seen_by i (get_or owners (id.mag - 1) None)
 
--- after j slots of the period of a cycle that comes after another one
+-- after j slots of the period of a cycle that follows another one
 abbrev pub AreOwners : List Id → List (List ℕ) → List (List ℕ) → ℕ → List (Option Owner) → Type 0
 AreOwners ids before cycle j owners = (i : ℕ) (id : Id) → slice_get ids i ≡ Some id → IsId id →
     owner_for owners i id ≡ owner_scan id (repeated cycle) (entry_owner before id) j
 
--- a page is never the owner's in another magazine than its own
+-- a page owns no magazine other than its own
 abbrev pub IsForeign : ℕ → Option Owner → Type 0
 IsForeign i None = Unit {0}
 IsForeign i (Some o) = is_page i o.page ≡ false
@@ -55,7 +55,7 @@ AreApart ids owners = (m i : ℕ) (id : Id) → m < 8 → slice_get ids i ≡ So
 abbrev pub place_of_item : ℕ → Item → ℕ
 place_of_item i item = 26 * i + item_number item
 
--- the list in a place
+-- the list at a place
 abbrev pub held : List (Vec Transmission Global) → ℕ → List Transmission
 held lists n = get_or (map (λ v. v.items) lists) n []
 
@@ -65,6 +65,6 @@ pub record AreCollected (ids : List Id) (before cycle : List (List ℕ)) (lines 
   pub each : (i : ℕ) (id : Id) (item : Item) → slice_get ids i ≡ Some id → IsId id → IsItem item →
       held lists (place_of_item i item) ≡ sent_scan id lines item (repeated cycle) (entry_owner before id) j
 
--- the index answers every id
+-- the index gives the right answer for every id
 abbrev pub IsIndex : List Id → PageIndex → Type 0
 IsIndex ids index = (id : Id) → IsId id → Finds ids id (get nat_eq index.by_key (key_of id))

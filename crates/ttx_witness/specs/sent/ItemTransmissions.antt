@@ -1,10 +1,10 @@
--- The owners of a magazine while slots pass, and the transmissions of an item that they make.
+-- The owner of a page's magazine, slot by slot, and the transmissions of an item that follow from it.
 --
---   PageOwner               the latest header of a magazine: its slot, whether it is the page's, and whether a header since then ended its page
+--   PageOwner               the latest header of a magazine: its slot, whether it is the page's, and whether a later header has ended its page
 --   owner_after, owner_scan the owner after one slot, and after a number of slots
 --   owner_moved             the same owner, some slots later
---   sent_at, sent_scan      the transmission in one slot, where it holds one, and those of a number of slots
---   sent_after, sent_in     those of the first period of a cycle after another one; those of one period of a cycle
+--   sent_at, sent_scan      the transmission in one slot, if there is one, and those in a number of slots
+--   sent_after, sent_in     those in the first period of a cycle after another one; those in one period of a cycle
 use Rattle.std.specs.Prelude.{ℕ, zero, suc, ℤ, pos, ◌+ℤ◌, ◌-ℤ◌, Bool, true, false, not, ◌&&◌, ◌||◌, if◌then◌else◌, int_lt, List, [], ◌∷◌}
 use Rattle.std.specs.Prelude.{◌++◌, length, Option, Some, None}
 use Rattle.ttx_header.specs.Ids.{Id}
@@ -23,7 +23,7 @@ abbrev pub tainted_by : Bool → Option PageOwner → Option PageOwner
 tainted_by ends None = None
 tainted_by ends (Some o) = Some (record { slot = o.slot; mine = o.mine; tainted = o.tainted || ends })
 
--- the owner in the page's magazine after the packet in slot j, and whether it is the page's
+-- the owner of the page's magazine after the packet in slot j, and whether it is the page's
 abbrev pub owner_after : Id → ℤ → Packet → Option PageOwner → Option PageOwner
 owner_after page j packet o =
     if heads page.mag packet then Some (record { slot = j; mine = heads_page page packet; tainted = false })
@@ -51,11 +51,11 @@ sent_scan page lines item s entry zero = []
 sent_scan page lines item s entry (suc n) =
     sent_scan page lines item s entry n ++ sent_at page lines item (pos n) (packet_of (s (pos n))) (owner_scan page s entry n)
 
--- the owner before slot 0: that of the period's end, a period earlier
+-- the owner before slot 0: the one at the end of the period, one period earlier
 abbrev pub entry_owner : List (List ℕ) → Id → Option PageOwner
 entry_owner cycle page = owner_moved (pos 0 -ℤ pos (length cycle)) (owner_scan page (repeated cycle) None (length cycle))
 
--- before slot 0 another cycle was sent, or the same one
+-- before slot 0 another cycle is sent, or the same one
 abbrev pub sent_after : List (List ℕ) → List (List ℕ) → Id → ℕ → Item → List Transmission
 sent_after before cycle page lines item = sent_scan page lines item (repeated cycle) (entry_owner before page) (length cycle)
 

@@ -1,20 +1,20 @@
--- What a slot sends. The items of all pages stand in places.
+-- What a slot sends. Each item of each page has a place.
 --
 --   sent_of, is_sent        the transmission of an item; whether there is one
---   sends_place             the slot sends the item in a place
---   told, placed_at         the transmission in the slot; that of the item in a place
+--   sends_place             the slot sends the item at a place
+--   told, placed_at         the transmission in the slot; that of the item at a place
 use Rattle.std.specs.Prelude.{ℕ, ◌+◌, ◌*◌, Bool, false, ◌&&◌, ◌==◌, nat_lt, if◌then◌else◌, List, [], ◌∷◌, Option, Some, None}
 use Rattle.ttx_page.specs.declared.item.Item.{Item}
 use Rattle.ttx_witness.specs.sent.Collected.{item_number}
 use Rattle.ttx_witness.specs.declared.runs.transmissions.Transmission.{Transmission}
 use Rattle.ttx_witness.specs.declared.sent.one_slot.Sent.{Sent}
 
--- the transmission of an item of the i-th page, where the slot sends it
+-- the transmission of an item of the i-th page, if the slot sends it
 abbrev pub sent_of : ℕ → Item → Option Sent → List Transmission
 sent_of i item None = []
 sent_of i item (Some s) = if (item_number item == s.number) && (s.page == i) then s.transmission ∷ [] else []
 
--- whether it does
+-- whether the slot sends the item
 abbrev pub is_sent : ℕ → Item → Option Sent → Bool
 is_sent i item None = false
 is_sent i item (Some s) = (item_number item == s.number) && (s.page == i)

@@ -1,8 +1,8 @@
--- What is told of the items of a page by their least limits, while they are looked at in order.
+-- The longest wait among the items of a page, from their least limits, item by item.
 --
---   IsOwnDeadline           the item's own least deadline
---   IsBelow                 an item whose own least deadline is at most, or below, a number
---   IsLongest               the greatest of the first m items that a viewer sees, and the first of them that has it
+--   IsOwnDeadline           the least deadline of an item by itself
+--   IsBelow                 an item whose own least deadline is below a number
+--   IsLongest               the greatest deadline among the first m items that a viewer sees, and the first item that has it
 --   IsByLimits              the answer for all of them
 use Rattle.std.specs.Prelude.{◌≡◌, ◌⊎◌, ℕ, ◌+◌, ◌<◌, true, List, Some, None}
 use Rattle.ttx_page.specs.Pages.{Page, needed}
@@ -34,7 +34,7 @@ pub record IsFirstLongest (cycle : List (List ℕ)) (p : Page) (class : Class) (
   pub own : IsOwnDeadline cycle p class repeat lines item deadline
   pub first : AllBelow cycle p class repeat lines (item_number item) deadline
 
--- none of the first m items is seen, or one of them is the first that needs most
+-- none of the first m items is seen, or this one is the first that needs the most fields
 pub record IsLongest (cycle : List (List ℕ)) (p : Page) (class : Class) (repeat lines m deadline : ℕ) (item : Item) : Type 0 where
   pub all : AllBelow cycle p class repeat lines m (deadline + 1)
   pub first : (deadline ≡ 0) ⊎ IsFirstLongest cycle p class repeat lines m deadline item

@@ -1,12 +1,12 @@
--- How long a viewer of one item of a page waits at the most.
+-- How long a viewer of one item of a page waits at most.
 --
---   item_at, seen_below     the item of a number; the items below a number that a viewer of the page sees, in their order
---   least_of                the least deadline that is told of an item
---   IsItemWait              the least deadline with which some certificate shows the item; where none does, what becomes of its transmissions
---   AreItemsTold            what is told of all items of a page below a number
---   AreItemWaits            of all items of each page of a list
---   IsToldOf, IsGreatest    an item is told with a deadline, or with none; the greatest of the deadlines that are told, None where an item has none
---   PageIsGreatest          the deadline of a page that is sent unchanged is the greatest of its items'
+--   item_at, seen_below     the item with a number; the items below a number that a viewer of the page sees, in order
+--   least_of                the least deadline of an item, if it has one
+--   IsItemWait              the least deadline with which some certificate shows the item; if there is none, what happens to its transmissions
+--   AreItemsTold            the waits for all items of a page below a number
+--   AreItemWaits            the waits for all items of each page of a list
+--   IsToldOf, IsGreatest    an item has this deadline, or none; the greatest deadline, None if an item has none
+--   PageIsGreatest          the deadline of a page that is sent unchanged is the greatest of its items' deadlines
 use Rattle.std.specs.Prelude.{◌≡◌, ℕ, zero, suc, ◌≤◌, true, if◌then◌else◌, List, [], ◌∷◌, ◌++◌, ◌==◌, length, map, slice_get, Option, Some, None, ⊤}
 use Rattle.std.specs.List.{AllByRecursion}
 use Rattle.ttx_page.specs.Pages.{Page, needed}
@@ -53,7 +53,7 @@ pub record AreItemWaits (cycle : List (List ℕ)) (pages : List Page) (class : C
   pub count : length all ≡ length pages
   pub each : (index : ℕ) (p : Page) → slice_get pages index ≡ Some p → HoldsAt (List ItemWait) all index (AreItemsTold cycle p class repeat lines 26)
 
--- one item is told with this deadline, or with none
+-- one item has this deadline, or none
 pub record IsToldOf (told : List ItemWait) (least : Option ℕ) : Type 0 where
   pub index : ℕ
   pub one : ItemWait

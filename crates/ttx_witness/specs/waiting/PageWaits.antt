@@ -1,15 +1,15 @@
--- How long a viewer of a page of a list waits at the most, and why there is no deadline (profile). The page is taken alone: the other
--- pages of the list say only whether it is the one page of its number.
+-- How long a viewer of a page of a list waits at most, and why there is no deadline (profile). The page is taken alone: the other
+-- pages of the list only decide whether it is the only page of its number.
 --
---   IsFor                   a certificate of this class, repeat count, lines and deadline
+--   IsFor                   a certificate with this class, repeat count, lines and deadline
 --   ShowsItem, AcceptsPage  an item is covered or left out; the page is steady, and each item that a viewer sees is shown
---   CanShow, CanAccept      some certificate of these numbers shows the item; some accepts the page
---   IsLeast                 the least number of which something is true, None where it is true of none
---   Needs                   an item that a viewer sees, and that no smaller deadline is enough for
---   HasNoSureStart          an item that a viewer sees, that a receiver of the class hasn't already, and that has no sure run
---   is_near, is_cut         a transmission at most L slots after its header; one after that, which a header of another magazine cut off
+--   CanShow, CanAccept      some certificate with these numbers shows the item; some accepts the page
+--   IsLeast                 the least number for which a property holds, None if there is none
+--   Needs                   an item that a viewer sees, and for which no smaller deadline is enough
+--   HasNoSureStart          an item that a viewer sees, that a receiver of the class does not hold already, and that has no sure run
+--   is_near, is_cut         a transmission at most L slots after its header; a later one that a header of another magazine cuts off
 --   AreLosses               how many transmissions a period has, how many of them are near, and how many are cut off
---   IsWait, AreWaits        what is told of a page, and of each page of the list
+--   IsWait, AreWaits        the wait for a page, and for each page of the list
 use Rattle.std.specs.Prelude.{◌≡◌, ◌⊎◌, ℕ, ◌≤◌, pos, ◌+ℤ◌, int_lt, Bool, true, not, ◌&&◌, List, length, filter, slice_get, Option, Some, None}
 use Rattle.ttx_header.specs.Ids.{Id}
 use Rattle.ttx_page.specs.Pages.{Page, needed}
@@ -37,7 +37,7 @@ pub record IsFor (class : Class) (repeat lines deadline : ℕ) (w : Certificate)
 abbrev pub ShowsItem : List (List ℕ) → Page → Certificate → Item → Type 0
 ShowsItem cycle p w item = IsCovered cycle p w item ⊎ IsLeftOut cycle p w item
 
--- what `Accepts` asks of one page
+-- what `Accepts` requires of one page
 pub record AcceptsPage (cycle : List (List ℕ)) (pages : List Page) (p : Page) (w : Certificate) : Type 0 where
   pub steady : Steady (repeated cycle) pages p
   pub shows : (item : Item) → needed p item ≡ true → ShowsItem cycle p w item
@@ -91,7 +91,7 @@ pub record IsWait (cycle : List (List ℕ)) (pages : List Page) (p : Page) (clas
   pub least : IsLeast (CanAccept cycle pages p class repeat lines) (fields_told wait)
   pub reason : IsReason cycle pages p class repeat lines wait
 
--- what is told of the page at the index
+-- the wait for the page at the index
 pub record IsPageTold (cycle : List (List ℕ)) (pages : List Page) (class : Class) (repeat lines index : ℕ)
     (p : Page) (told : List PageWait) : Type 0 where
   pub answer : PageWait

@@ -1,9 +1,9 @@
--- What is told of a page of a survey: the words of waits at the survey's cycle, pages and numbers.
+-- The definitions of waits, for the cycle, pages and numbers of a survey.
 --
---   IsLongestIn, IsByLimitsIn       what is told of the page by the least limits of its items
+--   IsLongestIn, IsByLimitsIn       the longest wait among the items of the page, from their least limits
 --   IsWaitIn                how long a viewer of the page waits
---   IsItemWaitIn, AreItemsToldIn    how long a viewer of an item of it waits; what is told of its items below a number
---   AreWaitsIn, AreItemWaitsIn      what is told of all pages of a survey, and of their items
+--   IsItemWaitIn, AreItemsToldIn    how long a viewer waits for an item of it; the waits for its items below a number
+--   AreWaitsIn, AreItemWaitsIn      the waits for all pages of a survey, and for their items
 use Rattle.std.specs.Prelude.{ℕ, List}
 use Rattle.ttx_page.specs.declared.item.Item.{Item}
 use Rattle.ttx_witness.specs.finding.Surveys.{survey_slots, survey_pages, surveyed_page}

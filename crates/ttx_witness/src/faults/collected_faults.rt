@@ -1,4 +1,4 @@
-//! The first fault of one page, by the transmissions of its items in a period.
+//! The first fault of a page, from the transmissions of its items in a period.
 
 ghost use Rattle.std.specs.Prelude.{◌≡◌, ◌≤◌, ◌↔◌, ℕ, IsTrue, Some, List, length, slice_get, unsigned_abs};
 ghost use Rattle.ttx_cycle.specs.Cycles.{slots_of};
@@ -28,7 +28,7 @@ fn slot_of(sent: Transmission) -> u32
     sent.slot.unsigned_abs()
 }
 
-// Whether the slot of the transmission lies in the period and differs from the page.
+// Whether the slot of the transmission is in the period and differs from the page.
 fn is_wrong_in(cycle: &Cycle, page: &Page, check: &Check, sent: Transmission) -> bool
     ensures { IsTrue result ↔ IsWrongIn (slots_of cycle.now) (page_of page.now) check.now sent.slot }
 {
@@ -39,7 +39,7 @@ fn is_wrong_in(cycle: &Cycle, page: &Page, check: &Check, sent: Transmission) ->
     j < slots.len() && is_wrong(page, check, &slots[j])
 }
 
-/// The first slot that differs from the page among the transmissions of the item in a period.
+/// The first slot that differs from the page, among the transmissions of the item in a period.
 pub fn first_wrong_sent(
     cycle: &Cycle,
     page: &Page,
@@ -57,7 +57,7 @@ pub fn first_wrong_sent(
     None
 }
 
-// Whether the list of the page's headers has one.
+// Whether the list of the page's headers is not empty.
 fn has_header(sent: &[Transmission]) -> bool
     ensures { (cycle : List (List ℕ)) (page : Id) (lines : ℕ) → 1 ≤ length cycle → sent.now ≡ sent_in cycle page lines TheHead →
         IsTrue result ↔ HasHeader (repeated cycle) page }
@@ -65,7 +65,7 @@ fn has_header(sent: &[Transmission]) -> bool
     !sent.is_empty()
 }
 
-// The first slot that sends another row in the place of this one, where a viewer sees the row.
+// The first slot that sends something else for this row, if a viewer sees the row.
 fn first_wrong_in(
     cycle: &Cycle,
     page: &Page,
@@ -87,7 +87,7 @@ fn first_wrong_in(
     first_wrong_sent(cycle, page, &check, collected.sent(index, Item::Row(row)))
 }
 
-// The first slot that sends another row in the place of one that a viewer sees.
+// The first slot that sends something else for a row that a viewer sees.
 fn first_wrong_row(cycle: &Cycle, page: &Page, collected: &Collected, index: usize) -> Option<u32>
     ensures { (pages : List definitions.Page) (lines : ℕ) → AreAllSent (slots_of cycle.now) pages lines collected.now →
         slice_get pages index ≡ Some (page_of page.now) →
@@ -100,7 +100,7 @@ fn first_wrong_row(cycle: &Cycle, page: &Page, collected: &Collected, index: usi
     first
 }
 
-// The first slot of each reason.
+// The first slot for each reason.
 fn first_slots(
     cycle: &Cycle,
     page: &Page,
@@ -125,9 +125,10 @@ fn first_slots(
     }
 }
 
-/// The first of the reasons why a cycle doesn't send the page unchanged, the `index`-th of those whose transmissions are collected:
-/// what `page_fault` answers, in time linear in the page's transmissions. `other_subpage` is the first slot of a header of the
-/// page's number with another subcode, where the page is the only one of its number.
+/// The first reason why the cycle does not send the page unchanged; `None` if the page is steady. `index` is the place of the page
+/// among those whose transmissions are collected. Returns what `page_fault` returns, in time linear in the page's transmissions.
+/// `other_subpage` is the first slot with a header of the page's number and another subcode, if the page is the only one of its
+/// number.
 pub fn fault_of(
     cycle: &Cycle,
     page: &Page,

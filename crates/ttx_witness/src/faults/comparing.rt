@@ -1,4 +1,4 @@
-//! What of a page is compared with the slots that send it.
+//! Compares pages with the slots that send them.
 
 ghost use Rattle.std.specs.Prelude.{◌≡◌, ◌<◌, ◌/◌, ◌↔◌, ℕ, IsTrue, true, drop, map, slice_index};
 ghost use Rattle.ttx_code.specs.Words.{odd_byte};
@@ -29,7 +29,7 @@ pub enum Check {
 }
 
 impl Check {
-    /// The item whose transmissions show it.
+    /// The item whose transmissions are compared.
     pub fn item(&self) -> Item
         ensures { result ≡ compared_item self.now }
     {
@@ -42,7 +42,7 @@ impl Check {
     }
 }
 
-// The byte that sends a character: bit 7 makes the parity odd.
+// The byte that sends a character; bit 7 makes the parity odd.
 fn sent_as(character: u8) -> u8
     requires { character < 128 }
     ensures { result ≡ odd_byte character }
@@ -68,7 +68,7 @@ fn are_sent(bytes: &[u8], characters: &[u8]) -> bool
     union == 0
 }
 
-// Whether the slot is a header with the erase bit.
+// Whether the slot is a header with the erase bit (C4).
 fn erases(slot: &[u8; 42]) -> bool
     requires { IsSlot slot.now }
     ensures { IsTrue result ↔ (erases_page (packet_of slot.now) ≡ true) }
@@ -79,14 +79,14 @@ fn erases(slot: &[u8; 42]) -> bool
     }
 }
 
-// Whether the control bits but C4 are equal.
+// Whether all control bits except C4 are equal.
 fn same_bits(a: Control, b: Control) -> bool
     ensures { IsTrue result ↔ (a.0 / 2 ≡ b.0 / 2) }
 {
     a.0 / 2 == b.0 / 2
 }
 
-// Whether the slot is a header with the page's control bits but C4, and its characters.
+// Whether the slot is a header with the page's control bits, C4 aside, and its characters.
 fn is_like_head(page: &Page, slot: &[u8; 42]) -> bool
     requires { IsSlot slot.now }
     ensures { IsTrue result ↔ IsLikeHead (page_of page.now) (packet_of slot.now) }
@@ -107,7 +107,7 @@ fn text_in(slot: &[u8; 42]) -> &[u8; 40]
     slot.last_chunk::<40>().unwrap()
 }
 
-// Whether the slot is a row with the characters of the page's row 1 to 24.
+// Whether the slot is a row with the characters of the page's row `row`.
 fn is_row_right(page: &Page, row: RowNumber, slot: &[u8; 42]) -> bool
     ensures { IsTrue result ↔ RowIsRight (page_of page.now) row (packet_of slot.now) }
 {
@@ -132,7 +132,7 @@ fn same_link(a: Option<Target>, b: Option<Target>) -> bool
     a == b
 }
 
-// Whether six links are the same.
+// Whether six links are the same as six others.
 fn same_six(a: &[Option<Target>; 6], b: &[Option<Target>; 6]) -> bool
     ensures { IsTrue result ↔ (a.now ≡ b.now) }
 {
@@ -144,14 +144,14 @@ fn same_six(a: &[Option<Target>; 6], b: &[Option<Target>; 6]) -> bool
     true
 }
 
-/// Whether the links are the same; the bytes of the page CRC aren't compared.
+/// Whether the links and the row 24 flag are the same. The page CRC is not compared.
 pub fn same_links(a: &Links, b: &Links) -> bool
     ensures { IsTrue result ↔ (a.now.set ≡ b.now.set) }
 {
     same_six(a.six(), b.six()) && a.show24() == b.show24()
 }
 
-// Whether the slot is an X/27/0 with the page's links, of which no byte needs correction.
+// Whether the slot is an X/27/0 with the page's links, and none of its bytes 3 to 39 needs correction.
 fn are_links_right(page: &Page, slot: &[u8; 42]) -> bool
     ensures { IsTrue result ↔ LinksAreRight (page_of page.now) slot.now (packet_of slot.now) }
 {

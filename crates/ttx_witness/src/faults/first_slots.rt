@@ -1,4 +1,4 @@
-//! The first slot of each reason, and the reason that comes first.
+//! The first slot for each reason, and the first of the reasons.
 
 ghost use Rattle.std.specs.Prelude.{◌≡◌, ℕ, List};
 ghost use Rattle.ttx_page.specs.Pages as definitions;
@@ -7,8 +7,8 @@ ghost use Rattle.ttx_witness.specs.faults.Faults.{AreFirst, IsPageFault, earlier
 use crate::faults::reason::Reason;
 use ttx_header::PageId;
 
-/// Whether a page has a header, and for each of the other reasons that speak of a page and a cycle alone the first
-/// slot of which it is true.
+/// Whether a page has a header, and for each of the other reasons that concern only a page and a cycle, the first slot where it
+/// is true.
 #[derive(Clone, Copy)]
 pub struct FirstSlots {
     pub has_header: bool,
@@ -19,7 +19,7 @@ pub struct FirstSlots {
     pub links: Option<u32>,
 }
 
-/// The earlier of two slots, where there are any.
+/// The earlier of two slots, if there are any.
 pub fn earlier(a: Option<u32>, b: Option<u32>) -> Option<u32>
     ensures { result ≡ earlier a b }
 {
@@ -30,7 +30,7 @@ pub fn earlier(a: Option<u32>, b: Option<u32>) -> Option<u32>
     }
 }
 
-/// The page's first fault in the order of the reasons.
+/// The first fault of the page, in the order of the reasons.
 pub fn least_fault(page: PageId, first: FirstSlots) -> Option<Reason>
     ensures { (cycle : List (List ℕ)) (pages : List definitions.Page) (p : definitions.Page) → page ≡ p.id → AreFirst cycle pages p first →
         IsPageFault cycle pages p result }

@@ -15,13 +15,13 @@ use ttx_cycle::Cycle;
 use ttx_header::PageId;
 use ttx_page::Page;
 
-/// For each page number the first header with another subcode, where the listed pages of the number have one.
+/// For each page number with only one listed page, the first header with another subcode.
 #[derive(Drop)]
 pub struct OtherSubpages {
     first: Vec<Option<u32>>,
 }
 
-/// Slot j, where it is one and none was before.
+/// Slot `j` if `is` is true and there was none before.
 pub fn first_of(first: Option<u32>, is: bool, j: u32) -> Option<u32>
     ensures { result ≡ first_of first is j }
 {
@@ -31,7 +31,7 @@ pub fn first_of(first: Option<u32>, is: bool, j: u32) -> Option<u32>
     }
 }
 
-/// Notes a slot, where it is a header.
+/// Notes slot `j` if it is a header.
 pub fn note_slot(first: &mut Vec<Option<u32>>, subcodes: &[Subcodes], slot: &[u8; 42], j: u32)
     requires slot { IsSlot slot.now }
     requires first { length first.old.items ≡ 2048 }
@@ -49,7 +49,7 @@ pub fn note_slot(first: &mut Vec<Option<u32>>, subcodes: &[Subcodes], slot: &[u8
     first[at] = first_of(first[at], is_other(subcodes[at], id.sub()), j);
 }
 
-/// A table in which no header is told.
+/// A table in which no header is noted.
 pub fn none_told(alloc: Global) -> Result<Vec<Option<u32>>, NoMemory>
     ensures { IfOk result (λ first. first.items ≡ replicate 2048 None) }
 {
@@ -62,7 +62,7 @@ pub fn none_told(alloc: Global) -> Result<Vec<Option<u32>>, NoMemory>
     Ok(first)
 }
 
-// The first header of each number with another subcode than its one.
+// For each number with one listed subcode, the first header with another subcode.
 fn first_other_headers(
     alloc: Global,
     cycle: &Cycle,
@@ -90,7 +90,7 @@ impl OtherSubpages {
     ghost use Rattle.ttx_witness.specs.faults.Faults.{TellsFirst};
     ghost use Rattle.ttx_witness.specs.faults.OtherSubpages.{AreOtherSubpages};
 
-    /// The headers of other subpages of the pages, in time linear in the slots and the pages.
+    /// Finds the headers of other subpages of these pages, in time linear in the slots and the pages. `Err` if memory runs out.
     pub fn of(alloc: Global, cycle: &Cycle, pages: &[Page]) -> Result<OtherSubpages, NoMemory>
         ensures { IfOk result (λ others. AreOtherSubpages (slots_of cycle.now) (map page_of pages.now) others) }
     {
@@ -99,7 +99,7 @@ impl OtherSubpages {
         Ok(OtherSubpages { first })
     }
 
-    /// The first header of another subpage of this page of the list, where it is the only one of its number.
+    /// The first header of another subpage of this listed page, if it is the only one of its number.
     pub fn first(&self, page: PageId) -> Option<u32>
         ensures { (cycle : List (List ℕ)) (pages : List definitions.Page) (n : ℕ) (p : definitions.Page) →
             AreOtherSubpages cycle pages self.now → slice_get pages n ≡ Some p → page ≡ p.id →

@@ -1,4 +1,4 @@
-//! The first fault of one page, with no memory.
+//! The first fault of a page, without allocating memory.
 
 ghost use Rattle.std.specs.Prelude.{◌≡◌, ◌<◌, ◌↔◌, IsTrue, true, Some, None, length, map, slice_get};
 ghost use Rattle.ttx_cycle.specs.Cycles.{slots_of};
@@ -33,7 +33,7 @@ fn has_header(cycle: &Cycle, page: PageId) -> bool
     false
 }
 
-// The first header of the page's number with another subcode.
+// The first header with the page's number and another subcode.
 fn first_other_header(cycle: &Cycle, page: PageId) -> Option<u32>
     ensures { TellsFirst (slots_of cycle.now) (OtherHeaderAt (repeated (slots_of cycle.now)) page) result }
 {
@@ -46,7 +46,7 @@ fn first_other_header(cycle: &Cycle, page: PageId) -> Option<u32>
     None
 }
 
-// The first header of another subpage, where the page is the only one of its number.
+// The first header of another subpage, if the page is the only one of its number.
 fn first_other_subpage(cycle: &Cycle, pages: &[Page], index: usize) -> Option<u32>
     requires { index < length pages.now }
     ensures { (p : definitions.Page) → slice_get (map page_of pages.now) index ≡ Some p →
@@ -60,7 +60,7 @@ fn first_other_subpage(cycle: &Cycle, pages: &[Page], index: usize) -> Option<u3
     }
 }
 
-// Whether the latest header of the page's magazine is the page's at the end of the period, and so before its start.
+// Whether the latest header of the page's magazine at the end of the period, and so before its start, is the page's.
 fn is_mine_at_end(cycle: &Cycle, page: PageId) -> bool
     ensures { result ≡ is_mine (owner_scan page (repeated (slots_of cycle.now)) None (length (slots_of cycle.now))) }
 {
@@ -72,7 +72,7 @@ fn is_mine_at_end(cycle: &Cycle, page: PageId) -> bool
     mine
 }
 
-// Whether the slot is a transmission that differs from the page, where `mine` says whether the page owns its magazine.
+// Whether the slot is a transmission that differs from the page. `mine` says whether the magazine's latest header is the page's.
 fn differs(page: &Page, check: &Check, slot: &[u8; 42], mine: bool) -> bool
     requires { IsSlot slot.now }
     ensures { IsTrue result ↔ ((sends (page_of page.now).id (compared_item check.now) (packet_of slot.now) mine ≡ true)
@@ -81,7 +81,7 @@ fn differs(page: &Page, check: &Check, slot: &[u8; 42], mine: bool) -> bool
     sends(page.id(), check.item(), slot, mine) && is_wrong(page, check, slot)
 }
 
-// The first transmission that differs from the page; `mine` says whether the page owns its magazine before the period.
+// The first transmission that differs from the page. `mine` says whether the magazine's latest header before the period is the page's.
 fn first_wrong(cycle: &Cycle, page: &Page, check: &Check, mine: bool) -> Option<u32>
     requires { mine ≡ is_mine (entry_owner (slots_of cycle.now) (page_of page.now).id) }
     ensures { TellsFirst (slots_of cycle.now) (WrongAt (repeated (slots_of cycle.now)) (page_of page.now) check.now) result }
@@ -97,7 +97,7 @@ fn first_wrong(cycle: &Cycle, page: &Page, check: &Check, mine: bool) -> Option<
     None
 }
 
-// The first slot that sends another row in the place of this one, where a viewer sees the row.
+// The first slot that sends something else for this row, if a viewer sees the row.
 fn first_wrong_in(cycle: &Cycle, page: &Page, number: u8, mine: bool) -> Option<u32>
     requires { mine ≡ is_mine (entry_owner (slots_of cycle.now) (page_of page.now).id) }
     ensures { TellsFirst (slots_of cycle.now) (RowWrongAt (repeated (slots_of cycle.now)) (page_of page.now) number) result }
@@ -112,7 +112,7 @@ fn first_wrong_in(cycle: &Cycle, page: &Page, number: u8, mine: bool) -> Option<
     first_wrong(cycle, page, &check, mine)
 }
 
-// The first slot that sends another row in the place of one that a viewer sees.
+// The first slot that sends something else for a row that a viewer sees.
 fn first_wrong_row(cycle: &Cycle, page: &Page, mine: bool) -> Option<u32>
     requires { mine ≡ is_mine (entry_owner (slots_of cycle.now) (page_of page.now).id) }
     ensures { TellsFirst (slots_of cycle.now) (RowDiffersAt (repeated (slots_of cycle.now)) (page_of page.now)) result }
@@ -124,7 +124,7 @@ fn first_wrong_row(cycle: &Cycle, page: &Page, mine: bool) -> Option<u32>
     first
 }
 
-// The first slot of each reason.
+// The first slot for each reason.
 fn first_slots(cycle: &Cycle, pages: &[Page], index: usize) -> FirstSlots
     requires { index < length pages.now }
     ensures { (p : definitions.Page) → slice_get (map page_of pages.now) index ≡ Some p →
@@ -143,8 +143,8 @@ fn first_slots(cycle: &Cycle, pages: &[Page], index: usize) -> FirstSlots
     }
 }
 
-/// The first of the reasons why a cycle doesn't send the page at `index` unchanged: the least number, and the least slot.
-/// `None` exactly where the page is steady. Takes no memory, and time linear in the slots of the cycle.
+/// The first reason why the cycle does not send the page at `index` unchanged: the least number, and its least slot. `None` if and
+/// only if the page is steady. Allocates no memory; takes time linear in the slots of the cycle.
 pub fn page_fault(cycle: &Cycle, pages: &[Page], index: usize) -> Option<Reason>
     requires { index < length pages.now }
     ensures { (p : definitions.Page) → slice_get (map page_of pages.now) index ≡ Some p →

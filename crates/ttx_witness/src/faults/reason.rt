@@ -1,17 +1,17 @@
-//! Why a cycle isn't accepted.
+//! The reasons why a cycle is not accepted.
 
 use ttx_header::PageId;
 use ttx_page::Item;
 
-/// Why a cycle isn't accepted with a certificate. Slots and starts are counted from 0. The reasons are numbered
-/// from 1 in this order.
+/// Why a cycle is not accepted with a certificate. Slots and starts are counted from 0. The reasons are numbered from 1 in this
+/// order.
 #[derive(Clone, Copy)]
 pub enum Reason {
-    /// A slot that one wrong bit in each byte can turn into another packet.
+    /// A bad slot: one wrong bit in each byte can turn it into another packet.
     BadSlot {
         slot: u32,
     },
-    /// No header has the page's id.
+    /// No header has the id of the page.
     NoHeader {
         page: PageId,
     },
@@ -25,41 +25,41 @@ pub enum Reason {
         page: PageId,
         slot: u32,
     },
-    /// A header of the page has other control bits or characters.
+    /// A header of the page has other control bits C5 to C14, or other characters.
     HeadDiffers {
         page: PageId,
         slot: u32,
     },
-    /// A transmission of a row that a viewer sees isn't the row's.
+    /// A transmission of a row that a viewer sees does not have the row's characters.
     RowDiffers {
         page: PageId,
         slot: u32,
     },
-    /// A transmission of the links isn't the page's, or needs correction.
+    /// A transmission of the links does not have the page's links, or needs correction.
     LinksDiffer {
         page: PageId,
         slot: u32,
     },
-    /// No start is named for an item that a viewer sees.
+    /// The certificate names no start for an item that a viewer sees.
     NoWitness {
         page: PageId,
         item: Item,
     },
-    /// A named start isn't a transmission of the item with a sure run.
+    /// A named start is not a transmission of the item with a sure run.
     WitnessBad {
         page: PageId,
         item: Item,
         start: u32,
     },
-    /// The run from the next named start ends too late after the owner of this one.
+    /// The run from the next named start ends too late after the owner of this start.
     Late {
         page: PageId,
         item: Item,
         start: u32,
     },
-    /// Two passes over the cycle differ.
+    /// The two passes over the cycle differ.
     Unsteady,
-    /// The next header comes too late after this one, for a blank item that isn't sent.
+    /// The next header comes too late after this one, for a blank item without named starts.
     LateBlank {
         page: PageId,
         item: Item,

@@ -1,4 +1,4 @@
-//! The subcodes of the pages of each number.
+//! The subcodes of the listed pages of each number.
 
 ghost use Rattle.std.specs.Prelude.{◌≡◌, ◌<◌, ◌≤◌, ◌&&◌, ◌==◌, ℕ, IfOk, get_or, if◌then◌else◌, length, map, replicate};
 ghost use Rattle.ttx_page.specs.Views.{page_of};
@@ -10,10 +10,10 @@ use ttx_certificate::NoMemory;
 use ttx_header::PageId;
 use ttx_page::Page;
 
-/// How many page numbers there are: eight magazines and two digits.
+/// The number of page numbers: eight magazines and two hexadecimal digits.
 pub const NUMBERS: usize = 2048;
 
-/// The subcodes of the listed pages of a number.
+/// The subcodes of the listed pages of a number: none, one, or several.
 #[derive(Clone, Copy)]
 pub enum Subcodes {
     Unlisted,
@@ -21,7 +21,7 @@ pub enum Subcodes {
     Several,
 }
 
-/// The place of the page's number in a table of all.
+/// The index of a page number in a table of all page numbers, 0 to 2047.
 pub fn place(page: PageId) -> usize
     ensures value { result ≡ place page.mag page.page }
     ensures range { result < 2048 }
@@ -46,7 +46,7 @@ fn with_subcode(subcodes: Subcodes, sub: u16) -> Subcodes
     }
 }
 
-/// Whether this is another subcode than the one of the number.
+/// Whether the number has one listed subcode, and `sub` is another.
 pub fn is_other(subcodes: Subcodes, sub: u16) -> bool
     ensures { result ≡ is_other subcodes sub }
 {
@@ -70,7 +70,7 @@ fn note_page(table: &mut Vec<Subcodes>, page: PageId)
     table[at] = with_subcode(table[at], page.sub());
 }
 
-// A table in which no page is listed.
+// A table without pages.
 fn unlisted(alloc: Global) -> Result<Vec<Subcodes>, NoMemory>
     ensures { IfOk result (λ table. table.items ≡ replicate 2048 Unlisted) }
 {
@@ -80,7 +80,7 @@ fn unlisted(alloc: Global) -> Result<Vec<Subcodes>, NoMemory>
     }
 }
 
-/// The subcodes of the pages of each number.
+/// The subcodes of the listed pages of each number. `Err` if memory runs out.
 pub fn subcodes_of(alloc: Global, pages: &[Page]) -> Result<Vec<Subcodes>, NoMemory>
     ensures size { IfOk result (λ table. length table.items ≡ 2048) }
     ensures subcodes { IfOk result (λ table. AreAllSubcodes (map page_of pages.now) (length pages.now) table.items) }

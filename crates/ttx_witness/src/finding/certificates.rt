@@ -1,4 +1,4 @@
-//! Finding certificates.
+//! Finds certificates.
 
 ghost use Rattle.std.specs.Prelude.{◌≡◌, ◌≢◌, [], ◌≤◌, ◌<◌, ◌*◌, ◌↔◌, ℕ, IfOk, OnOk, IsTrue, List, map, length, Some, true, false};
 ghost use Rattle.std.specs.List.{AllPairs};
@@ -23,15 +23,15 @@ use ttx_certificate::{Certificate, Entry, NoMemory};
 use ttx_cycle::Cycle;
 use ttx_page::{Class, Page};
 
-/// A certificate that names each start of a sure run, and its deadline in fields: the least with which a cycle is
-/// accepted. Where there is no such deadline the certificate has the largest one, 1,000,000.
+/// A certificate that names every start of a sure run, and the least deadline in fields with which the cycle is accepted. If there
+/// is none, `deadline` is `None` and the certificate has the largest deadline, 1,000,000.
 #[derive(Drop)]
 pub struct Found {
     pub certificate: Certificate,
     pub deadline: Option<u32>,
 }
 
-// The least number of fields from 1 to 1,000,000 that has so many slots.
+// The least number of fields, from 1 to 1,000,000, that holds so many slots.
 fn least_field(slots: u64, lines: u8) -> Option<u32>
     requires some { 1 ≤ lines }
     ensures { IsLeastField slots lines result }
@@ -67,7 +67,7 @@ fn is_sent_unchanged(survey: &Survey, others: &OtherSubpages) -> bool
     true
 }
 
-// The entries of all pages, and the least limit in slots that is enough for all of them.
+// Appends the entries of all pages, and returns the least limit in slots that is enough for all of them.
 fn name_pages(
     alloc: Global,
     survey: &Survey,
@@ -83,7 +83,7 @@ fn name_pages(
     Ok(least)
 }
 
-// The entries in the order of certificates, which is strict where no two entries are of one item.
+// Sorts the entries into the order of certificates. The order is strict if no two entries are of the same item.
 fn sort_entries(entries: &mut Vec<Entry>) -> Result<(), NoMemory>
     requires apart { AllPairs (λ a b. same_place a b ≡ false) entries.old.items }
     ensures same { IsPermutation entries.old.items entries.new.items }
@@ -95,7 +95,7 @@ fn sort_entries(entries: &mut Vec<Entry>) -> Result<(), NoMemory>
     }
 }
 
-// The deadline, where all is sent unchanged and there is a limit that is enough.
+// The deadline in fields, if all is sent unchanged and some limit is enough.
 fn deadline_of(unchanged: bool, lines: u8, least: Option<u64>) -> Option<u32>
     requires some { 1 ≤ lines }
     ensures { (cycle : List (List ℕ)) (pages : List definitions.Page) → IsTrue unchanged ↔ IsSentUnchanged cycle pages →
@@ -110,9 +110,9 @@ fn deadline_of(unchanged: bool, lines: u8, least: Option<u64>) -> Option<u32>
     }
 }
 
-/// The certificate that names each start of a sure run of each item that a viewer sees and that a receiver of the class
-/// hasn't already, and the least deadline in fields with which the cycle is accepted. `repeat` is 1 to 8, `lines` to a
-/// field 1 to 32.
+/// Finds the certificate that names every start of a sure run of every item that a viewer sees and that a receiver of the class does
+/// not hold already, with the least deadline in fields with which the cycle is accepted. `repeat` is 1 to 8, `lines` (slots in a
+/// field) 1 to 32. `Err` if memory runs out.
 pub fn find_for(
     alloc: Global,
     cycle: &Cycle,
@@ -157,7 +157,7 @@ pub fn find_for(
     })
 }
 
-/// The certificate that `find_for` finds for receivers of any class. `repeat` is 1 to 8, `lines` to a field 1 to 32.
+/// The certificate that `find_for` finds for receivers of class any. `repeat` is 1 to 8, `lines` 1 to 32.
 pub fn find(
     alloc: Global,
     cycle: &Cycle,

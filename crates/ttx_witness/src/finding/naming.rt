@@ -1,4 +1,4 @@
-//! The starts of sure runs, named for the items of pages.
+//! Names the starts of sure runs for the items of pages.
 
 ghost use Rattle.std.specs.Prelude.{◌≡◌, ◌-ℤ◌, ◌≤◌, ◌<◌, ◌+◌, ◌*◌, ℕ, IfOk, OnOk, length, Some, true};
 ghost use Rattle.ttx_page.specs.Views.{page_of};
@@ -18,7 +18,7 @@ use ttx_certificate::{Entry, NoMemory};
 use ttx_header::PageId;
 use ttx_page::{Class, Item, Page, is_blank, needed};
 
-// Whether starts are named for the item of the page.
+// Whether the certificate has to name starts for this item.
 fn is_due(class: Class, page: &Page, item: &Item) -> bool
     ensures { result ≡ is_due class (page_of page.now) item.now }
 {
@@ -28,14 +28,14 @@ fn is_due(class: Class, page: &Page, item: &Item) -> bool
     }
 }
 
-// The slots from an owner to the end of a run, none where the run ends before it.
+// The slots from an owner to the end of a run; 0 if the run ends before the owner.
 fn distance(owner: i64, end: i64) -> u64
     ensures { result ≡ above_zero (end -ℤ owner) }
 {
     if end < owner { 0 } else { end.abs_diff(owner) }
 }
 
-// The least limit, in slots, in which the sure runs follow one another round the cycle.
+// The least limit, in slots, within which the sure runs follow one another round the cycle.
 fn width(period: u32, spread: Spread) -> u64
     ensures { result ≡ width period spread }
 {
@@ -43,7 +43,7 @@ fn width(period: u32, spread: Spread) -> u64
     u64::from(spread.widest).max(distance(i64::from(spread.previous), end))
 }
 
-// The same, none where there is no sure run.
+// The same; `None` if there is no sure run.
 fn limit_of(period: u32, spread: Option<Spread>) -> Option<u64>
     ensures { result ≡ limit_of period spread }
 {
@@ -53,7 +53,7 @@ fn limit_of(period: u32, spread: Option<Spread>) -> Option<u64>
     }
 }
 
-// The least limit that is enough for both.
+// The least limit that is enough for both, if both exist.
 fn wider(a: Option<u64>, b: Option<u64>) -> Option<u64>
     ensures { result ≡ wider a b }
 {
@@ -63,7 +63,7 @@ fn wider(a: Option<u64>, b: Option<u64>) -> Option<u64>
     }
 }
 
-// Adds an entry for the item, where there is a start.
+// Appends an entry for the item, if it has a start.
 fn add_entry(
     entries: &mut Vec<Entry>,
     page: PageId,
@@ -84,7 +84,7 @@ fn add_entry(
     Ok(())
 }
 
-// The starts of the sure runs of an item, and what is kept of these runs.
+// The starts of the sure runs of an item, and how far apart these runs are.
 fn search_for(
     alloc: Global,
     surveyed: &SurveyedPage,
@@ -109,7 +109,7 @@ fn search_for(
     )
 }
 
-// Names the starts of an item's sure runs: the least limit in which they follow one another.
+// Names the starts of the sure runs of an item, and returns the least limit within which they follow one another.
 fn name_item(
     alloc: Global,
     surveyed: &SurveyedPage,
@@ -127,7 +127,7 @@ fn name_item(
     Ok(limit_of(period, spread))
 }
 
-// The least limit in which the sure runs of an item follow one another.
+// The least limit within which the sure runs of an item follow one another.
 fn item_limit(
     alloc: Global,
     surveyed: &SurveyedPage,
@@ -144,7 +144,7 @@ fn item_limit(
     Ok(limit_of(period, spread))
 }
 
-// The least limit in which the headers of the page follow one another.
+// The least limit within which the headers of the page follow one another.
 fn header_limit(alloc: Global, surveyed: &SurveyedPage) -> Result<Option<u64>, NoMemory>
     ensures least { IfOk result (λ least. least ≡ surveyed_least surveyed.now 1 TheHead) }
     ensures small { IfOk result (λ least. (limit : ℕ) → least ≡ Some limit → limit ≤ 655360) }
@@ -153,7 +153,7 @@ fn header_limit(alloc: Global, surveyed: &SurveyedPage) -> Result<Option<u64>, N
     item_limit(alloc, surveyed, &head, 1)
 }
 
-/// The least limit of an item that a viewer sees. A receiver that has the item already needs the next header of the page alone.
+/// The least limit for an item that a viewer sees. A receiver that holds the item already needs only the next header of the page.
 pub(crate) fn limit_seen(
     alloc: Global,
     surveyed: &SurveyedPage,
@@ -169,8 +169,8 @@ pub(crate) fn limit_seen(
     }
 }
 
-// Names the starts of an item that a viewer sees, where it is due: its least limit. A receiver that has the item already
-// needs the next header of the page alone.
+// Names the starts of an item that a viewer sees, if it is due, and returns its least limit. A receiver that holds the item already
+// needs only the next header of the page.
 fn name_seen(
     alloc: Global,
     surveyed: &SurveyedPage,
@@ -187,7 +187,8 @@ fn name_seen(
     name_item(alloc, surveyed, entries, item)
 }
 
-/// Names the starts of the items of one page; `least` is the least limit that is enough for the pages before it.
+/// Names the starts of the items of a page. `least` is the least limit that is enough for the pages before it, the result also for
+/// this page.
 pub(crate) fn name_page(
     alloc: Global,
     surveyed: &SurveyedPage,

@@ -1,4 +1,4 @@
-//! What is shared by all that look for starts and deadlines.
+//! The data shared by all searches for starts and deadlines.
 
 ghost use Rattle.std.specs.Prelude.{◌≡◌, ◌≢◌, ◌≤◌, ◌<◌, Some, length, map, slice_get};
 ghost use Rattle.std.specs.List.{AllPairs};
@@ -13,8 +13,8 @@ use crate::sent::collected::Collected;
 use ttx_cycle::Cycle;
 use ttx_page::{Class, Page};
 
-/// A cycle and the pages of a list with all that the cycle sends of them, and the numbers of the certificates that are looked
-/// for.
+/// A cycle, a list of pages with all transmissions of their items, and the numbers of the certificates that are searched: class,
+/// repeat (1 to 8) and lines (1 to 32).
 #[derive(Drop)]
 pub struct Survey<'a> {
     pub cycle: &'a Cycle,
@@ -31,7 +31,7 @@ pub struct Survey<'a> {
     ghost sent: { AreAllSent (slots_of cycle.now) (map page_of pages.now) lines collected },
 }
 
-/// One page of a survey, and its place among the pages.
+/// One page of a survey, and its index among the pages.
 #[derive(Clone, Copy)]
 pub struct SurveyedPage<'a> {
     pub survey: &'a Survey<'a>,
@@ -40,7 +40,7 @@ pub struct SurveyedPage<'a> {
     ghost at: { slice_get (map page_of survey.now.pages.now) index ≡ Some (page_of page.now) },
 }
 
-/// The page at the index.
+/// The page at `index`.
 pub fn surveyed_at<'a>(survey: &'a Survey<'a>, index: usize) -> SurveyedPage<'a>
     requires { index < length survey.now.pages.now }
     ensures survey { result.survey.now ≡ survey.now }
@@ -57,7 +57,7 @@ pub fn surveyed_at<'a>(survey: &'a Survey<'a>, index: usize) -> SurveyedPage<'a>
 impl<'a> SurveyedPage<'a> {
     ghost use Rattle.ttx_witness.specs.finding.Surveys.{surveyed_page, AreOthersIn, IsFaultIn};
 
-    /// The first of the reasons why the page isn't sent unchanged.
+    /// The first reason why the page is not sent unchanged.
     pub fn fault(&self, others: &OtherSubpages) -> Option<Reason>
         ensures { AreOthersIn self.now.survey.now others.now → IsFaultIn self.now.survey.now (surveyed_page self.now) result }
     {

@@ -7,12 +7,12 @@ pub fn coverage_is_decided()
     ensures { CoverageIsDecided }
 {}
 
-/// The start that a pass calls bad, and the one that it calls late, are the first such.
+/// The start that a pass reports as bad, and the one that it reports as late, are the first ones.
 pub fn firsts_are_found()
     ensures { FirstsAreFound }
 {}
 
-/// A further start that has a sure run leaves covered what was covered.
+/// Naming a further start with a sure run keeps a covered item covered.
 pub fn further_starts_cover()
     ensures { FurtherStartsCover }
 {}
@@ -22,7 +22,7 @@ pub fn sure_starts_are_found()
     ensures { SureStartsAreFound }
 {}
 
-/// A search finds the least limit in which any named starts cover the item.
+/// A search finds the least limit with which any named starts cover the item.
 pub fn least_limit_is_found()
     ensures { LeastLimitIsFound }
 {}

@@ -2,7 +2,7 @@
 
 ghost use Rattle.ttx_witness.specs.faults.Faults.{SteadyHasNoFault};
 
-/// No fault is told of a page exactly where the page is steady.
+/// A page has no fault if and only if it is steady.
 pub fn steady_has_no_fault()
     ensures { SteadyHasNoFault }
 {}

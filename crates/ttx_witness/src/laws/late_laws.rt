@@ -1,8 +1,8 @@
-//! Laws of late starts and late headers. A call costs nothing and gives the caller's proof the law.
+//! Laws of late starts and late headers.
 
 ghost use Rattle.ttx_witness.specs.laws.LateLaws.{LateBlankIsUnserved, LateIsUnserved};
 
-/// Where each named start of an item is sure, some start is late exactly where some tuning slot is served by none of their runs.
+/// If each named start of an item is sure: some start is late if and only if some tuning slot is served by none of their runs.
 pub fn late_is_unserved()
     ensures { LateIsUnserved }
 {
@@ -14,7 +14,7 @@ pub fn late_is_unserved()
     ttx_page::laws::streams_move();
 }
 
-/// For receivers that surely clear: some header is late exactly where after some tuning slot no header of the page comes in time.
+/// For receivers that surely clear: some header is late if and only if after some tuning slot no header of the page comes in time.
 pub fn late_blank_is_unserved()
     ensures { LateBlankIsUnserved }
 {

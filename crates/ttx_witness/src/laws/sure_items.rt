@@ -2,7 +2,7 @@
 
 ghost use Rattle.ttx_witness.specs.laws.SureItems.{AllSureHaveStarts, SureItemsAreAccepted};
 
-/// An item that is sent, and never so that a receiver may miss it, has a sure run.
+/// An item that is sent, and never such that a receiver may miss it, has a sure run.
 pub fn all_sure_have_starts()
     ensures { AllSureHaveStarts }
 {
@@ -10,7 +10,7 @@ pub fn all_sure_have_starts()
     ttx_page::laws::streams_move();
 }
 
-/// Where all is sent unchanged and each item that a viewer sees has a sure run, some certificate is accepted.
+/// If all is sent unchanged and each item that a viewer sees has a sure run, some certificate is accepted.
 pub fn sure_items_are_accepted()
     ensures { SureItemsAreAccepted }
 {

@@ -3,7 +3,7 @@
 ghost use Rattle.ttx_witness.specs.waiting.ItemWaits.{PageIsGreatest};
 ghost use Rattle.ttx_witness.specs.laws.WaitLaws.{DeadlineIsGreatest, LossesAreTold};
 
-/// Where no slot is bad, the deadline of the certificate that is found is the greatest of the pages' deadlines.
+/// If no slot is bad, the deadline of the certificate that is found is the greatest of the pages' deadlines.
 pub fn deadline_is_greatest()
     ensures { DeadlineIsGreatest }
 {
@@ -15,8 +15,8 @@ pub fn deadline_is_greatest()
     crate::laws::cycle_laws::least_limit_is_found();
 }
 
-/// The deadline of a page that is sent unchanged is the greatest of its items', and it has none exactly where one of them has
-/// none.
+/// The deadline of a page that is sent unchanged is the greatest of its items' deadlines, and it has none if and only if one of the
+/// items has none.
 pub fn page_is_greatest()
     ensures { PageIsGreatest }
 {
@@ -28,7 +28,7 @@ pub fn page_is_greatest()
     crate::laws::cycle_laws::least_limit_is_found();
 }
 
-/// What is counted as too near its header, or as cut off, is so in the stream.
+/// A transmission that is counted as near its header, or as cut off, is so in the stream.
 pub fn losses_are_told()
     ensures { LossesAreTold }
 {}

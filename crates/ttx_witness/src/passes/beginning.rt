@@ -1,4 +1,4 @@
-//! A pass before its first slot: all growths.
+//! Begins a pass. All memory is allocated here.
 
 ghost use Rattle.std.specs.Prelude.{◌≡◌, ◌<◌, ◌≢◌, ◌-◌, IfOk, None, [], map, replicate};
 ghost use Rattle.std.specs.List.{AllPairs};
@@ -16,7 +16,7 @@ use std::alloc::Global;
 use ttx_certificate::{Certificate, NoMemory};
 use ttx_page::Page;
 
-// No facts yet of so many pages.
+// No facts yet, for so many pages.
 fn no_facts(alloc: Global, count: usize) -> Result<Vec<Facts>, NoMemory>
     ensures { IfOk result (λ all. all.items ≡ replicate count (record { heads = None; erased = None; head = None; row = None; links = None })) }
 {
@@ -43,7 +43,7 @@ impl<'a> Pass<'a> {
     ghost use Rattle.ttx_witness.specs.passes.Passing as passing;
     ghost use Rattle.ttx_witness.specs.passes.Passing.{IsFirstPass, pass_pages};
 
-    /// A pass over the pages, whose ids are distinct, with the certificate. All its growths are made here.
+    /// A pass over the pages, whose ids are distinct, with the certificate. Allocates all the memory of both passes.
     pub fn new(
         alloc: Global,
         pages: &'a [Page],

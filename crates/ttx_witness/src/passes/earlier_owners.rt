@@ -1,4 +1,4 @@
-//! Owners, some slots earlier.
+//! Moves owners some slots back.
 
 ghost use Rattle.std.specs.Prelude.{◌<◌, ℕ, None, get_or};
 ghost use Rattle.ttx_witness.specs.sent.Collected.{IsForeign};
@@ -6,7 +6,7 @@ ghost use Rattle.ttx_witness.specs.passes.EarlierOwners.{IsMoved};
 
 use crate::sent::owners::Owner;
 
-// The owner so many slots earlier.
+// The owner, `by` slots earlier.
 fn moved(owner: Option<Owner>, by: u32) -> Option<Owner>
     ensures moved { IsMoved by owner result }
     ensures foreign { (i : ℕ) → IsForeign i owner → IsForeign i result }
@@ -22,7 +22,7 @@ fn moved(owner: Option<Owner>, by: u32) -> Option<Owner>
     }
 }
 
-/// The owners so many slots earlier.
+/// The owners of the eight magazines, `by` slots earlier.
 pub fn all_moved(owners: &[Option<Owner>; 8], by: u32) -> [Option<Owner>; 8]
     ensures moved { (m : ℕ) → m < 8 → IsMoved by (get_or owners.now m None) (get_or result m None) }
     ensures foreign { (m i : ℕ) → m < 8 → IsForeign i (get_or owners.now m None) → IsForeign i (get_or result m None) }

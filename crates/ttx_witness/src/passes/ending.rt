@@ -1,4 +1,4 @@
-//! What the second pass tells of the pages, once it has ended.
+//! The results for the pages once the second pass has ended.
 
 ghost use Rattle.std.specs.Prelude.{◌≡◌, Option, None, is_some, get_or, slice_get};
 ghost use Rattle.ttx_certificate.specs.Certificates.{certificate_of};
@@ -20,7 +20,7 @@ use ttx_certificate::{Certificate, limit};
 use ttx_header::PageId;
 use ttx_page::Page;
 
-/// What a cycle of `period` slots sends of the pages, with a certificate; `bad` is its first slot that isn't clean.
+/// What a cycle of `period` slots sends of the pages, with a certificate. `bad` is the first bad slot.
 #[derive(Drop)]
 pub struct EndedPass<'a> {
     pub pages: &'a [Page],
@@ -32,21 +32,21 @@ pub struct EndedPass<'a> {
     pub(crate) facts: Vec<Facts>,
 }
 
-// The first header of the page's number with another subcode than the one of the number.
+// The first header of the page's number with another subcode than the listed one.
 fn first_other_header_of(others: &OtherHeaders, page: PageId) -> Option<u32>
     ensures { result ≡ get_or others.now.first.items (tables.place page.mag page.page) None }
 {
     others.first[place(page)]
 }
 
-// The facts of the page at the index.
+// The facts about the page at `index`.
 fn facts_at(all: &[Facts], index: usize) -> Option<Facts>
     ensures { result ≡ slice_get all.now index }
 {
     all.get(index).copied()
 }
 
-// The first slots of the single reasons.
+// The first slot for each reason.
 fn first_slots(facts: Facts, other_subpage: Option<u32>) -> FirstSlots
     ensures { result ≡ record {
       has_header = is_some facts.heads;
@@ -79,7 +79,7 @@ impl<'a> EndedPass<'a> {
     ghost use Rattle.ttx_witness.specs.laws.JudgingLaws.{IsHeaderAnswer};
     ghost use Rattle.ttx_witness.specs.passes.Passing.{IsEnded, ended_pages, ended_certificate};
 
-    /// The first of the reasons why the page at the index isn't sent unchanged.
+    /// The first reason why the page at `index` is not sent unchanged.
     pub fn page_fault(&self, index: usize) -> Option<Reason>
         requires { index < length self.now.pages.now }
         ensures { (y : List (List ℕ)) (p : definitions.Page) → IsEnded self.now y → slice_get (ended_pages self.now) index ≡ Some p →
@@ -94,7 +94,7 @@ impl<'a> EndedPass<'a> {
         least_fault(page, first)
     }
 
-    /// The first header of the page at the index that the next one follows too late.
+    /// The first header of the page at `index` that the next one follows too late.
     pub fn late_header(&self, index: usize) -> Option<u32>
         ensures { (y : List (List ℕ)) (p : definitions.Page) → IsEnded self.now y → slice_get (ended_pages self.now) index ≡ Some p →
             HasHeader (repeated y) p.id →
@@ -107,8 +107,8 @@ impl<'a> EndedPass<'a> {
         late_of(facts.heads, self.period, limit(self.certificate))
     }
 
-    /// How far these starts, which are named for the item of this number of the page at the index, are confirmed. None only where
-    /// none is named.
+    /// How far `starts` are confirmed. They are the named starts of item `number`, 0 to 25, of the page at `index`. `None` only if there
+    /// are no starts.
     pub fn progress(&self, index: usize, number: u8, starts: &[u32]) -> Option<Progress>
         requires number { number < 26 }
         ensures { (y : List (List ℕ)) (p : definitions.Page) (item : Item) → IsEnded self.now y →

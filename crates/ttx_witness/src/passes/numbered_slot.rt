@@ -1,9 +1,9 @@
-//! A slot of a list, and its number.
+//! A slot with its number.
 
 ghost use Rattle.std.specs.Prelude.{◌<◌};
 ghost use Rattle.ttx_packet.specs.Slots.{IsSlot};
 
-/// One of the first 65,536 slots of a list, and its number from 0.
+/// One of the first 65,536 slots of a list, with its number, counted from 0.
 #[derive(Clone, Copy)]
 pub struct NumberedSlot<'a> {
     pub bytes: &'a [u8; 42],
@@ -17,7 +17,7 @@ fn told(slot: &[u8; 42])
     ensures { IsSlot slot.now }
 {}
 
-/// An array of 42 bytes is a slot. This does nothing; it hands that to a proof.
+/// An array of 42 bytes is a slot. Calling this does nothing at run time; it gives the caller's proof the fact.
 pub fn is_slot(slot: &[u8; 42])
     ensures { IsSlot slot.now }
 {

@@ -1,4 +1,4 @@
-//! Headers of other subpages, noted while slots pass.
+//! Headers of other subpages, noted slot by slot.
 
 ghost use Rattle.std.specs.Prelude.{◌≡◌, ◌≤◌, ◌<◌, ℕ, None, get_or, length};
 ghost use Rattle.ttx_packet.specs.Slots.{IsSlot};
@@ -8,7 +8,7 @@ ghost use Rattle.ttx_witness.specs.faults.OtherSubpages.{place, first_of, heads_
 use crate::faults::other_subpages::note_slot;
 use crate::faults::subcodes::Subcodes;
 
-/// The subcodes of the pages of each number, and the first header of each number with another one.
+/// The listed subcodes of each page number, and the first header of each number with another subcode.
 #[derive(Drop)]
 pub struct OtherHeaders {
     pub subcodes: Vec<Subcodes>,
@@ -17,7 +17,7 @@ pub struct OtherHeaders {
     ghost first_size: { length first.items ≡ 2048 },
 }
 
-/// Notes slot j, where it is a header.
+/// Notes slot `j` if it is a header.
 pub fn note_other_header(others: &mut OtherHeaders, slot: &[u8; 42], j: u32)
     requires slot { IsSlot slot.now }
     ensures subcodes { others.new.subcodes ≡ others.old.subcodes }

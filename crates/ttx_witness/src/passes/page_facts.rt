@@ -1,4 +1,4 @@
-//! The reasons that speak of single slots of a page, noted while slots pass.
+//! Facts about single slots of a page, noted slot by slot.
 
 ghost use Rattle.std.specs.Prelude.{◌≡◌, ◌↔◌, ◌<◌, ℕ, IsTrue, length, map, slice_get, Some, ◌==◌, true};
 ghost use Rattle.ttx_packet.specs.Slots.{IsSlot};
@@ -17,7 +17,7 @@ use crate::passes::numbered_slot::NumberedSlot;
 use crate::sent::one_slot::Sent;
 use ttx_page::{Item, Page, RowNumber, needed};
 
-/// The first and the last header of a page, and the first that the next one followed too late.
+/// The first and the last header of a page, and the first header that the next one followed too late.
 #[derive(Clone, Copy)]
 pub struct Heads {
     pub first: i32,
@@ -25,7 +25,7 @@ pub struct Heads {
     pub late: Option<u32>,
 }
 
-/// The headers of a page, and the first slot of each reason that speaks of what the page's slots carry.
+/// The headers of a page, and for each reason about the contents of its slots the first slot where it is true.
 #[derive(Clone, Copy)]
 pub struct Facts {
     pub heads: Option<Heads>,
@@ -35,7 +35,7 @@ pub struct Facts {
     pub links: Option<u32>,
 }
 
-// The headers after one in slot j.
+// The headers of a page after one more in slot `j`.
 fn next_head(heads: Option<Heads>, j: i32, limit: u32) -> Heads
     ensures { result ≡ next_head limit j heads }
 {
@@ -59,7 +59,7 @@ fn next_head(heads: Option<Heads>, j: i32, limit: u32) -> Heads
     }
 }
 
-// The headers after slot j.
+// The headers of a page after slot `j`, which is one of them if `sent` is true.
 fn heads_after(heads: Option<Heads>, j: i32, limit: u32, sent: bool) -> Option<Heads>
     ensures { result ≡ heads_after limit j sent heads }
 {
@@ -70,7 +70,7 @@ fn heads_after(heads: Option<Heads>, j: i32, limit: u32, sent: bool) -> Option<H
     }
 }
 
-// The first slot that differs from the page, where `sent` says whether the slot sends the item.
+// The first slot that differs from the page. `sent` says whether this slot sends the item.
 fn noted(
     first: Option<u32>,
     page: &Page,
@@ -83,7 +83,7 @@ fn noted(
     first_of(first, sent && is_wrong(page, check, slot.bytes), slot.at)
 }
 
-// Whether the slot sends another row in the place of the one of this number, where a viewer sees it.
+// Whether the slot sends something else for the row of this number, and a viewer sees the row.
 fn is_row_wrong(page: &Page, number: u8, slot: &[u8; 42]) -> bool
     requires { IsSlot slot.now }
     ensures { IsTrue result ↔ RowWrong (page_of page.now) (λ item. item_number item == number) slot.now }
@@ -94,7 +94,7 @@ fn is_row_wrong(page: &Page, number: u8, slot: &[u8; 42]) -> bool
     }
 }
 
-// The facts after a slot, which sends the page's item of this number.
+// The facts after a slot that sends item `number` of the page.
 fn facts_after(facts: Facts, page: &Page, number: u8, slot: &NumberedSlot, limit: u32) -> Facts
     ensures { Noted limit (page_of page.now) (λ item. item_number item == number) slot.now.bytes.now slot.now.at facts result }
 {
@@ -130,7 +130,7 @@ pub fn note_sent(
     }
 }
 
-/// The first header that the next one follows too late, where after the last one the first comes again, a period later.
+/// The first header that the next one follows too late. After the last header comes the first one, a period later.
 pub fn late_of(heads: Option<Heads>, period: u32, limit: u32) -> Option<u32>
     ensures { result ≡ late_of limit period heads }
 {

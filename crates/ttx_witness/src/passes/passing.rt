@@ -1,5 +1,5 @@
-//! Two passes over the slots of a cycle, of which none is kept. The first tells which headers stand before slot 0, the second
-//! what the cycle sends of the pages.
+//! Two passes over the slots of a cycle, without keeping them. The first finds the headers before slot 0, the second finds what the
+//! cycle sends of the pages.
 
 ghost use Rattle.std.specs.Prelude.{◌≡◌, ◌<◌, ◌+◌, ◌++◌, ◌∷◌, [], Option, List, ℕ, length};
 ghost use Rattle.ttx_header.specs.Ids.{Id};
@@ -23,16 +23,16 @@ use ttx_certificate::{Certificate, limit};
 use ttx_packet::clean;
 use ttx_page::Page;
 
-/// Why a slot isn't taken.
+/// Why a slot is not taken.
 #[derive(Clone, Copy, PartialEq, Eq, Debug, Error)]
 pub enum WalkFault {
-    /// 1. A first list has 65,536 slots at most.
+    /// Fault 1: the first list already has 65,536 slots.
     #[error("more than 65536 slots")]
     TooLong,
 }
 
-/// What is kept of the pages with a certificate while slots pass; in the first pass the owners of the magazines and a count
-/// are all that changes.
+/// What is kept about the pages and a certificate while slots are read. In the first pass only the owners of the magazines and the
+/// count change.
 #[derive(Drop)]
 pub struct Pass<'a> {
     pub(crate) pages: &'a [Page],
@@ -45,8 +45,8 @@ pub struct Pass<'a> {
     pub(crate) count: u32,
 }
 
-/// The second pass: besides, the owners before its slot 0, the first slot that isn't clean, and whether it was given more than
-/// 65,536 slots.
+/// The second pass. It also keeps the owners before its slot 0, the first bad slot, and whether it was given more than 65,536
+/// slots.
 #[derive(Drop)]
 pub struct SecondPass<'a> {
     pub(crate) pass: Pass<'a>,
@@ -55,7 +55,7 @@ pub struct SecondPass<'a> {
     pub(crate) over: bool,
 }
 
-// Takes one more slot: what it sends, facts, and the owners after it.
+// Takes one more slot: what it sends, the facts, and the owners after it.
 fn take_slot(pass: &mut Pass, slot: &[u8; 42])
     requires slot { IsSlot slot.now }
     requires few { pass.old.count < 65536 }
@@ -87,7 +87,7 @@ impl<'a> Pass<'a> {
     ghost use Rattle.std.specs.Prelude.{◌≡◌, ◌++◌, ◌∷◌, [], ℕ, List, IfErr, MatchResult, length};
     ghost use Rattle.ttx_witness.specs.passes.Passing.{IsFirstPass, IsSecondPass, pass_pages, pages_in, certificate, certificate_in};
 
-    /// The next slot of the first list. After `TooLong` the pass is as it was.
+    /// Takes the next slot of the first list. After `TooLong` the pass is unchanged.
     pub fn first(&mut self, slot: &[u8; 42]) -> Result<(), WalkFault>
         ensures kept { IfErr result (λ _. self.new ≡ self.old) }
         ensures stands { (x : List (List ℕ)) → IsFirstPass self.old x →
@@ -104,7 +104,7 @@ impl<'a> Pass<'a> {
         Ok(())
     }
 
-    /// Before the second list: the owners are those at the end of the first, as many slots earlier as it has.
+    /// Begins the second pass. Its owners are those at the end of the first list, moved back by the length of that list.
     pub fn begin_second(self) -> SecondPass<'a>
         ensures stands { (x : List (List ℕ)) → IsFirstPass self.entry x → IsSecondPass result x [] }
         ensures pages { pages_in result ≡ pass_pages self.entry }
@@ -127,7 +127,7 @@ impl<'a> SecondPass<'a> {
     ghost use Rattle.std.specs.Prelude.{◌≡◌, ◌++◌, ◌∷◌, [], ℕ, List, IfSome};
     ghost use Rattle.ttx_witness.specs.passes.Passing.{IsSecondPass, EndsAs, pages_in, certificate_in, ended_pages, ended_certificate};
 
-    /// The next slot of the second list.
+    /// Takes the next slot of the second list.
     pub fn second(&mut self, slot: &[u8; 42])
         ensures stands { (x y : List (List ℕ)) → IsSecondPass self.old x y → IsSecondPass self.new x (y ++ slot.now ∷ []) }
         ensures pages { pages_in self.new ≡ pages_in self.old }
@@ -142,8 +142,8 @@ impl<'a> SecondPass<'a> {
         take_slot(&mut self.pass, slot);
     }
 
-    /// What the second list sends of the pages, where it leaves the owners that it began with. None where it doesn't, is empty
-    /// or has more than 65,536 slots.
+    /// What the second list sends of the pages, if it leaves the owners with which it began. `None` if it does not, is empty, or has
+    /// more than 65,536 slots.
     pub fn end(self) -> Option<EndedPass<'a>>
         ensures ended { (x y : List (List ℕ)) → IsSecondPass self.entry x y → EndsAs x y result }
         ensures pages { IfSome result (λ ended. ended_pages ended ≡ pages_in self.entry) }

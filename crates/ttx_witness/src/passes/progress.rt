@@ -1,4 +1,4 @@
-//! The transmissions of an item among what the slots of a period send, held against the starts that are named for it.
+//! Compares the transmissions of an item in a period with the starts that are named for it.
 
 ghost use Rattle.std.specs.Prelude.{◌≡◌, ◌↔◌, IsTrue, ◌<◌, ◌≤◌, ◌++◌, ◌∷◌, [], ℕ, List, length};
 ghost use Rattle.std.specs.List.{All};
@@ -23,7 +23,7 @@ fn take(track: &mut Track, t: Transmission, starts: &[u32], limit: u32)
     }
 }
 
-// Takes the transmission in a slot.
+// Takes the transmission in a slot, if there is one.
 fn take_sent(track: &mut Track, sent: Option<Sent>, starts: &[u32], limit: u32)
     ensures { (k : ℕ) (ts : List Transmission) → k < 8 → IsTrack k limit starts.now ts track.old →
         IsTrack k limit starts.now (ts ++ told sent) track.new }
@@ -33,7 +33,7 @@ fn take_sent(track: &mut Track, sent: Option<Sent>, starts: &[u32], limit: u32)
     }
 }
 
-/// Takes the transmissions of the item in the place, in their order.
+/// Takes the transmissions of the item at `place`, in order.
 pub fn take_all(track: &mut Track, sent: &SentSlots, place: usize, starts: &[u32], limit: u32)
     ensures { (k : ℕ) → k < 8 → IsLinked sent.now.slots.items sent.now.firsts.items sent.now.nexts.items 0 →
         place < length sent.now.firsts.items → IsTrack k limit starts.now [] track.old →
@@ -57,7 +57,7 @@ fn is_small(t: Transmission) -> bool
     -65536 <= t.slot && t.slot <= 65536 && -65536 <= t.owner && t.owner <= 65536
 }
 
-// Whether the numbers of these transmissions are small.
+// Whether the numbers of all transmissions are small.
 fn are_small(ts: &[Transmission]) -> bool
     ensures { IsTrue result ↔ All (IsWithin 65536) ts.now }
 {

@@ -1,4 +1,4 @@
-//! Whether a second pass ends as it began.
+//! Whether a second pass ends with the owners with which it began.
 
 ghost use Rattle.std.specs.Prelude.{◌≡◌, ◌↔◌, IsTrue, ℕ, pos, ◌-ℤ◌, Some, slice_get};
 ghost use Rattle.ttx_header.specs.Ids.{Id};
@@ -9,7 +9,7 @@ ghost use Rattle.ttx_page.specs.Views.{ids_of};
 use crate::sent::owners::Owner;
 use ttx_page::Page;
 
-// Whether this is the page at the index.
+// Whether this is the page at `index`.
 fn is_page(page: Option<u32>, index: usize) -> bool
     ensures { result ≡ is_page index page }
 {
@@ -19,7 +19,7 @@ fn is_page(page: Option<u32>, index: usize) -> bool
     }
 }
 
-// Whether one owner is the other so many slots later, as the page at the index sees them.
+// Whether one owner is the other one `by` slots later, as seen by the page at `index`.
 fn is_later(entry: Option<Owner>, exit: Option<Owner>, index: usize, by: u32) -> bool
     ensures { IsTrue result ↔ (owner_moved (pos 0 -ℤ pos by) (seen_by index exit) ≡ seen_by index entry) }
 {
@@ -34,7 +34,7 @@ fn is_later(entry: Option<Owner>, exit: Option<Owner>, index: usize, by: u32) ->
     }
 }
 
-/// Whether the owners at the end are those before the list, so many slots later, as each page sees its magazine's.
+/// Whether the owners at the end are those at the beginning `by` slots later, as each page sees its magazine's owner.
 pub fn are_steady(
     pages: &[Page],
     entry: &[Option<Owner>; 8],

@@ -1,4 +1,4 @@
-//! What the slots of a period send of the items of pages, and the slots of each item from the first to the last.
+//! What the slots of a period send, with the slots of each item linked from first to last.
 
 ghost use Rattle.std.specs.Prelude.{◌≡◌, ◌≤◌, ◌<◌, ℕ, None, length, get_or, replicate, IfOk};
 ghost use Rattle.std.specs.Vec.{vec_capacity};
@@ -7,8 +7,8 @@ use crate::sent::one_slot::{Sent, place_in};
 use std::alloc::Global;
 use ttx_certificate::NoMemory;
 
-/// What each slot of a period sends, 65,536 slots at most. Once they are linked, `firsts` tells the first slot that sends the
-/// item in a place, and `nexts` after a slot the next one that sends the same item.
+/// What each slot of a period sends, at most 65,536 slots. After `link`, `firsts` has the first slot that sends the item at each
+/// place, and `nexts` has for each slot the next one that sends the same item.
 #[derive(Drop)]
 pub struct SentSlots {
     pub slots: Vec<Option<Sent>>,
@@ -19,7 +19,7 @@ pub struct SentSlots {
     ghost each: { 65536 ≤ length nexts.items },
 }
 
-// None, so many times.
+// `None`, `count` times.
 fn nothing(alloc: Global, count: usize) -> Result<Vec<Option<u16>>, NoMemory>
     ensures { IfOk result (λ list. list.items ≡ replicate count None) }
 {
@@ -29,7 +29,7 @@ fn nothing(alloc: Global, count: usize) -> Result<Vec<Option<u16>>, NoMemory>
     }
 }
 
-// What stands in this place of a list.
+// The element at this index of a list; `None` beyond its end.
 fn slot_in(list: &[Option<u16>], at: usize) -> Option<u16>
     ensures { result ≡ get_or list.now at None }
 {
@@ -43,7 +43,7 @@ impl SentSlots {
     ghost use Rattle.std.specs.Prelude.{◌≡◌, ◌<◌, ◌+◌, ◌*◌, ◌++◌, ◌∷◌, [], ℕ, None, length, get_or, IfOk};
     ghost use Rattle.ttx_witness.specs.passes.SentSlots.{IsLinked};
 
-    /// No slots yet, with the places of so many pages. All growths are made here.
+    /// No slots yet, with places for the items of so many pages. All memory is allocated here.
     pub fn new(alloc: Global, pages: usize) -> Result<SentSlots, NoMemory>
         ensures slots { IfOk result (λ sent. sent.slots.items ≡ []) }
         ensures places { IfOk result (λ sent. length sent.firsts.items ≡ 26 * pages) }
@@ -64,7 +64,7 @@ impl SentSlots {
         })
     }
 
-    /// Takes what the next slot sends, where fewer than 65,536 are taken.
+    /// Appends what the next slot sends, unless there are 65,536 slots already.
     pub fn note(&mut self, sent: Option<Sent>)
         ensures slots { length self.old.slots.items < 65536 → self.new.slots.items ≡ self.old.slots.items ++ sent ∷ [] }
         ensures firsts { self.new.firsts ≡ self.old.firsts }
@@ -74,7 +74,7 @@ impl SentSlots {
         }
     }
 
-    // Puts the slot before the later ones that send its item.
+    // Links a slot before the later slots that send the same item.
     fn link_slot(&mut self, at: usize)
         requires { at < length self.old.slots.items }
         ensures slots { self.new.slots ≡ self.old.slots }
@@ -115,14 +115,14 @@ impl SentSlots {
         }
     }
 
-    /// The first slot that sends the item in a place.
+    /// The first slot that sends the item at `place`.
     pub fn first(&self, place: usize) -> Option<u16>
         ensures { result ≡ get_or self.now.firsts.items place None }
     {
         slot_in(self.firsts.as_slice(), place)
     }
 
-    /// The next slot that sends the same item as a slot.
+    /// The next slot that sends the same item as `slot`.
     pub fn next(&self, slot: usize) -> Option<u16>
         ensures { result ≡ get_or self.now.nexts.items slot None }
     {

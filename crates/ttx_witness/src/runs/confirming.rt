@@ -1,12 +1,12 @@
-//! Named starts of an item, confirmed by the runs of a period in their order.
+//! The named starts of an item, confirmed by the runs of a period in their order.
 
 ghost use Rattle.std.specs.Prelude.{◌≡◌, ◌≤◌, ◌+ℤ◌, pos, int_lt, length};
 ghost use Rattle.ttx_witness.specs.runs.Confirming.{is_next, late_after, confirmed};
 
 use crate::runs::transmissions::Run;
 
-/// How far the named starts of an item are confirmed: how many, the owner of the latest, the end of the
-/// first one's run, and the least whose next one comes too late.
+/// How far the named starts of an item are confirmed: how many, the owner of the latest one, the end of the first one's run, and the
+/// least start whose next one comes too late.
 #[derive(Clone, Copy)]
 pub struct Progress {
     pub next: usize,
@@ -15,21 +15,21 @@ pub struct Progress {
     pub late: Option<u32>,
 }
 
-// Whether the run confirms the named start whose turn it is.
+// Whether the run confirms the next named start.
 fn is_next(starts: &[u32], next: usize, run: Run) -> bool
     ensures { result ≡ is_next starts.now next run }
 {
     next < starts.len() && i64::from(starts[next]) == i64::from(run.start) && run.sure
 }
 
-// Whether a run ends more than the limit after the slot.
+// Whether a run ends more than `limit` slots after the slot.
 fn is_past(slot: i32, limit: u32, end: i64) -> bool
     ensures { result ≡ int_lt (slot +ℤ pos limit) end }
 {
     i64::from(slot) + i64::from(limit) < end
 }
 
-// The least named start so far whose next run, which ends at `end`, ends more than the limit after its owner.
+// The least named start so far whose next run ends more than `limit` slots after its owner; the next run ends at `end`.
 fn late_after(limit: u32, starts: &[u32], progress: Progress, end: i64) -> Option<u32>
     requires { progress.next ≤ length starts.now }
     ensures { result ≡ late_after limit starts.now progress end }
@@ -44,7 +44,7 @@ fn late_after(limit: u32, starts: &[u32], progress: Progress, end: i64) -> Optio
     }
 }
 
-/// Confirms the next named start, where the run is all sure and begins there.
+/// Confirms the next named start if the run is sure and begins there.
 #[tactic(auto, unfolding(crate::specs::runs::Confirming::confirmed))]
 pub fn confirm(progress: Progress, run: Run, starts: &[u32], limit: u32) -> Progress
     ensures { result ≡ confirmed limit starts.now progress run }
@@ -66,8 +66,8 @@ pub fn confirm(progress: Progress, run: Run, starts: &[u32], limit: u32) -> Prog
     }
 }
 
-/// The least named start that the next one follows more than the limit later, where the last one is followed by the
-/// first a period later; all in slots.
+/// The least named start whose next run ends more than `limit` slots after its owner. After the last start comes the first one, a
+/// period later.
 pub fn late_at_end(progress: Progress, period: u32, starts: &[u32], limit: u32) -> Option<u32>
     requires { progress.next ≤ length starts.now }
     ensures { result ≡ late_after limit starts.now progress (progress.first_end +ℤ pos period) }

@@ -1,4 +1,4 @@
-//! The transmissions of one item against the starts that a certificate names.
+//! The transmissions of one item, compared with the starts that a certificate names.
 
 ghost use Rattle.std.specs.Prelude.{◌≡◌, ◌≤◌, ℕ, List, [], ◌∷◌, ◌++◌, length};
 ghost use Rattle.std.specs.List.{AllByRecursion};
@@ -10,14 +10,14 @@ use crate::runs::confirming::{Progress, confirm};
 use crate::runs::transmissions::{Run, Transmission};
 use crate::runs::window::{Recent, push, push_further};
 
-/// What is held of the transmissions of an item, and how far its named starts are confirmed.
+/// The transmissions of an item that are held, and how far its named starts are confirmed.
 #[derive(Drop)]
 pub struct Track {
     pub recent: Recent,
     pub progress: Progress,
 }
 
-// The progress after a run, where one has ended.
+// The progress after a run, if one has ended.
 #[tactic(auto, unfolding(crate::specs::runs::Confirming::after_runs))]
 fn progress_after(progress: Progress, run: Option<Run>, starts: &[u32], limit: u32) -> Progress
     ensures { result ≡ after_runs limit starts.now progress (listed run) }

@@ -1,4 +1,4 @@
-//! The transmissions of one item in a period, searched for starts or held against named ones.
+//! The transmissions of one item in a period: searched for starts, or compared with named ones.
 
 ghost use Rattle.std.specs.Prelude.{◌≡◌, ◌≤◌, ◌-◌, ℕ, List, [], IfOk};
 ghost use Rattle.std.specs.List.{AllByRecursion};
@@ -17,7 +17,7 @@ use arrayvec::ArrayVec;
 use std::alloc::Global;
 use ttx_certificate::NoMemory;
 
-// Nothing taken yet of an item whose runs have so many transmissions.
+// No transmissions taken yet, of an item whose runs have `repeat` transmissions.
 fn nothing_sent(repeat: usize) -> Recent
     requires some { 1 ≤ repeat }
     ensures { IsRecent (repeat - 1) [] (held_in result) }
@@ -29,7 +29,7 @@ fn nothing_sent(repeat: usize) -> Recent
     }
 }
 
-/// A track of an item whose runs have so many transmissions, none taken yet.
+/// A track of an item whose runs have `repeat` transmissions, with none taken yet.
 pub fn nothing_confirmed(repeat: usize) -> Track
     requires some { 1 ≤ repeat }
     ensures { (limit : ℕ) (starts : List ℕ) → IsTrack (repeat - 1) limit starts [] result }
@@ -46,7 +46,7 @@ pub fn nothing_confirmed(repeat: usize) -> Track
     }
 }
 
-/// The starts of all sure runs among the transmissions of a period, and what is kept of these runs.
+/// The starts of all sure runs among the transmissions of a period, and how far apart these runs are.
 pub fn search_item(
     alloc: Global,
     sent: &[Transmission],
@@ -77,7 +77,7 @@ pub fn search_item(
     Ok(SureRuns { starts, spread })
 }
 
-/// How far the named starts are confirmed by the transmissions of a period. No memory is taken.
+/// How far the named starts are confirmed by the transmissions of a period. Allocates no memory.
 pub fn judge_item(
     sent: &[Transmission],
     starts: &[u32],

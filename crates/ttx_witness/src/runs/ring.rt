@@ -1,4 +1,4 @@
-//! The transmissions of one item that are held while starts are looked for.
+//! The transmissions of one item that are held while starts are searched.
 
 ghost use Rattle.std.specs.Prelude.{◌≡◌, ◌≤◌, ◌<◌, ◌+◌, ◌-◌, ◌*◌, ℕ, List, [], ◌∷◌, ◌++◌, length, if◌then◌else◌, ◌==◌, Some, None, IfOk};
 ghost use Rattle.std.specs.List.{AllByRecursion, list_all};
@@ -12,14 +12,14 @@ use circular_buffer::HeapCircularBuffer;
 use std::alloc::Global;
 use ttx_certificate::NoMemory;
 
-/// The last transmissions, as many as a run has, and the first ones, fewer by one.
+/// The last transmissions, as many as a run has, and the first ones, one fewer.
 #[derive(Drop)]
 pub struct Ring {
     pub window: HeapCircularBuffer<Transmission>,
     pub firsts: ArrayVec<Transmission, 7>,
 }
 
-/// A ring for runs of so many transmissions, none taken yet. Its one growth is made here.
+/// A ring for runs of `repeat` transmissions, with none taken yet. All memory is allocated here.
 pub fn empty_ring(alloc: Global, repeat: usize) -> Result<Ring, NoMemory>
     requires some { 1 ≤ repeat }
     ensures held { IfOk result (λ ring. IsRecent (repeat - 1) [] (held_in_ring ring)) }
@@ -34,7 +34,7 @@ pub fn empty_ring(alloc: Global, repeat: usize) -> Result<Ring, NoMemory>
     })
 }
 
-// Whether each transmission in the window is sure.
+// Whether all transmissions in the window are sure.
 fn all_sure(window: &HeapCircularBuffer<Transmission>) -> bool
     ensures { result ≡ list_all (λ t. t.sure) window.now.items }
 {
@@ -58,7 +58,7 @@ fn run_held(window: &HeapCircularBuffer<Transmission>) -> Run
     run_from(*first, *last, sure)
 }
 
-// Takes the next transmission: the run that ends with it.
+// Takes the next transmission, and returns the run that ends with it.
 fn take_next(window: &mut HeapCircularBuffer<Transmission>, t: Transmission) -> Option<Run>
     ensures repeat { window.new.capacity ≡ window.old.capacity }
     ensures kept { window.new.items ≡ keep_last window.old.capacity (window.old.items ++ t ∷ []) }
@@ -72,7 +72,7 @@ fn take_next(window: &mut HeapCircularBuffer<Transmission>, t: Transmission) -> 
     }
 }
 
-/// Takes the next transmission of the period: the run that ends with it, where one does.
+/// Takes the next transmission of the period, and returns the run that ends with it, if there is one.
 pub fn push(ring: &mut Ring, t: Transmission) -> Option<Run>
     requires room { ring.old.window.capacity ≤ 8 }
     ensures repeat { ring.new.window.capacity ≡ ring.old.window.capacity }
@@ -85,7 +85,7 @@ pub fn push(ring: &mut Ring, t: Transmission) -> Option<Run>
     take_next(&mut ring.window, t)
 }
 
-/// Takes the next of the transmissions that follow the period, round the cycle: the run that ends with it.
+/// Takes the next of the transmissions that follow the period, round the cycle, and returns the run that ends with it.
 pub fn push_further(ring: &mut Ring, period: u32) -> Option<Run>
     requires some { 1 ≤ length ring.old.firsts.items }
     requires room { length ring.old.firsts.items ≤ 7 }

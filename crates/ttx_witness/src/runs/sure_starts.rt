@@ -10,8 +10,8 @@ use crate::runs::ring::{Ring, push, push_further};
 use crate::runs::transmissions::{Run, Transmission};
 use ttx_certificate::NoMemory;
 
-/// What is kept of the sure runs: the end of the first, the owner of the last, and the greatest distance in
-/// slots from an owner to the end of the next run.
+/// How far apart the sure runs are: the end of the first, the owner of the last, and the greatest distance in slots from an owner to
+/// the end of the next run.
 #[derive(Clone, Copy)]
 pub struct Spread {
     pub first_end: i32,
@@ -19,7 +19,7 @@ pub struct Spread {
     pub widest: u32,
 }
 
-/// What is held of the transmissions of an item, the starts of its sure runs, and what is kept of these.
+/// The transmissions of an item that are held, the starts of its sure runs, and how far apart these are.
 #[derive(Drop)]
 pub struct Search {
     pub ring: Ring,
@@ -27,14 +27,14 @@ pub struct Search {
     pub spread: Option<Spread>,
 }
 
-/// The starts of all sure runs of an item, and what is kept of these runs.
+/// The starts of all sure runs of an item, and how far apart these runs are.
 #[derive(Drop)]
 pub struct SureRuns {
     pub starts: Vec<u32>,
     pub spread: Option<Spread>,
 }
 
-// The slots from an owner to the end of a run, none where the run ends before it.
+// The slots from an owner to the end of a run; 0 if the run ends before the owner.
 fn distance(owner: i32, end: i32) -> u32
     ensures { result ≡ above_zero (end -ℤ owner) }
 {
@@ -59,7 +59,7 @@ fn widened(spread: Option<Spread>, run: Run) -> Spread
     }
 }
 
-// Keeps the start of a run, where it is all sure.
+// Keeps the start of a run if the run is sure.
 #[tactic(auto, unfolding(crate::specs::runs::SureStarts::sure_runs, crate::specs::runs::SureStarts::spread_of))]
 fn keep_sure(
     starts: &mut Vec<u32>,
@@ -78,7 +78,7 @@ fn keep_sure(
     Ok(Some(widened(spread, run)))
 }
 
-// Keeps the start of the run that has ended, where there is one.
+// Keeps the start of the run that has ended, if there is one.
 #[tactic(auto, unfolding(crate::specs::runs::SureStarts::sure_runs, crate::specs::runs::SureStarts::spread_of))]
 fn keep_start(
     starts: &mut Vec<u32>,

@@ -1,10 +1,10 @@
-//! The transmissions of one item of a page, and runs of them.
+//! The transmissions of one item of a page, and their runs.
 
 ghost use Rattle.std.specs.Prelude.{◌≡◌};
 ghost use Rattle.std.specs.List.{list_all};
 ghost use Rattle.ttx_witness.specs.runs.Transmissions.{run_between, run_of};
 
-/// A transmission: its slot, its owner's slot, and whether no receiver may miss it.
+/// A transmission: its slot, the slot of its owner, and whether it is sure, that is, no permitted receiver misses it.
 #[derive(Clone, Copy, Default)]
 pub struct Transmission {
     pub slot: i32,
@@ -12,7 +12,7 @@ pub struct Transmission {
     pub sure: bool,
 }
 
-/// A run: its first slot, that one's owner, its last slot, and whether all of it is sure.
+/// A run: its first slot, the owner of that transmission, its last slot, and whether all its transmissions are sure.
 #[derive(Clone, Copy)]
 pub struct Run {
     pub start: i32,
@@ -21,7 +21,7 @@ pub struct Run {
     pub sure: bool,
 }
 
-/// Whether each of them is sure.
+/// Whether all transmissions are sure.
 pub fn each_sure(transmissions: &[Transmission]) -> bool
     ensures { result ≡ list_all (λ t. t.sure) transmissions.now }
 {

@@ -9,7 +9,7 @@ ghost use Rattle.ttx_witness.specs.runs.Tracks.{ended, held_in, keep_last, liste
 use crate::runs::transmissions::{Run, Transmission, run_in};
 use arrayvec::ArrayVec;
 
-/// The last transmissions, as many as a run has (`repeat`), and the first ones, fewer by one.
+/// The last transmissions, as many as a run has (`repeat`), and the first ones, one fewer.
 #[derive(Drop)]
 pub struct Recent {
     pub repeat: usize,
@@ -28,7 +28,7 @@ fn slide(window: &mut ArrayVec<Transmission, 8>, repeat: usize, t: Transmission)
     window.push(t);
 }
 
-// Takes the next transmission: the run that ends with it.
+// Takes the next transmission, and returns the run that ends with it.
 fn take_next(window: &mut ArrayVec<Transmission, 8>, repeat: usize, t: Transmission) -> Option<Run>
     requires { repeat ≤ 8 }
     ensures kept { 1 ≤ repeat → length window.old.items ≤ repeat → window.new.items ≡ keep_last repeat (window.old.items ++ t ∷ []) }
@@ -42,7 +42,7 @@ fn take_next(window: &mut ArrayVec<Transmission, 8>, repeat: usize, t: Transmiss
     }
 }
 
-/// Keeps the transmission, where it is one of the first of the period.
+/// Keeps the transmission if it is one of the first of the period.
 pub fn keep_first(firsts: &mut ArrayVec<Transmission, 7>, repeat: usize, t: Transmission)
     requires { repeat ≤ 8 }
     ensures { firsts.new.items ≡ (if nat_lt (length firsts.old.items + 1) repeat then firsts.old.items ++ t ∷ [] else firsts.old.items) }
@@ -52,7 +52,7 @@ pub fn keep_first(firsts: &mut ArrayVec<Transmission, 7>, repeat: usize, t: Tran
     }
 }
 
-/// Takes the next transmission of the period: the run that ends with it, where one does.
+/// Takes the next transmission of the period, and returns the run that ends with it, if there is one.
 pub fn push(recent: &mut Recent, t: Transmission) -> Option<Run>
     requires room { recent.old.repeat ≤ 8 }
     ensures held { (k : ℕ) (ts : List Transmission) → IsRecent k ts (held_in recent.old) → IsRecent k (ts ++ t ∷ []) (held_in recent.new) }
@@ -62,7 +62,7 @@ pub fn push(recent: &mut Recent, t: Transmission) -> Option<Run>
     take_next(&mut recent.window, recent.repeat, t)
 }
 
-// The transmission a period later.
+// The transmission, one period later.
 fn later(t: Transmission, period: u32) -> Transmission
     requires small { IsWithin (8 * 65536) t }
     requires short { period ≤ 65536 }
@@ -75,7 +75,7 @@ fn later(t: Transmission, period: u32) -> Transmission
     }
 }
 
-/// Takes the first, and puts it at the end a period later.
+/// Removes the first transmission, moves it one period later, and appends it at the end.
 pub fn turn(firsts: &mut ArrayVec<Transmission, 7>, period: u32) -> Transmission
     requires some { 1 ≤ length firsts.old.items }
     requires room { length firsts.old.items ≤ 7 }
@@ -88,7 +88,7 @@ pub fn turn(firsts: &mut ArrayVec<Transmission, 7>, period: u32) -> Transmission
     t
 }
 
-/// Takes the next of the transmissions that follow the period, round the cycle: the run that ends with it.
+/// Takes the next of the transmissions that follow the period, round the cycle, and returns the run that ends with it.
 pub fn push_further(recent: &mut Recent, period: u32) -> Option<Run>
     requires some { 1 ≤ length recent.old.firsts.items }
     requires few { recent.old.repeat ≤ 8 }

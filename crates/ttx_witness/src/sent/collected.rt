@@ -7,7 +7,7 @@ ghost use Rattle.ttx_witness.specs.sent.Collected.{held};
 
 use crate::runs::transmissions::Transmission;
 
-/// The transmissions of each item of some pages in one period of a cycle.
+/// For each item of a list of pages, its transmissions in one period of a cycle.
 #[derive(Drop)]
 pub struct Collected {
     pub(crate) lists: Vec<Vec<Transmission>>,

@@ -1,4 +1,4 @@
-//! Collecting the transmissions of all items of all pages in one period of a cycle.
+//! Collects the transmissions of all items of all pages in one period of a cycle.
 
 ghost use Rattle.std.specs.Prelude.{◌≡◌, ◌≢◌, ◌<◌, ◌*◌, ℕ, IfOk, OnOk, List, [], ◌++◌, length, map};
 ghost use Rattle.std.specs.List.{AllPairs};
@@ -19,7 +19,7 @@ use ttx_certificate::{NoMemory, item_number};
 use ttx_cycle::Cycle;
 use ttx_page::{Item, Page};
 
-// So many lists, none of which has anything.
+// So many empty lists.
 fn empty_lists(alloc: Global, count: usize) -> Result<Vec<Vec<Transmission>>, NoMemory>
     ensures count { IfOk result (λ lists. length lists.items ≡ count) }
     ensures empty { IfOk result (λ lists. (n : ℕ) → held lists.items n ≡ []) }
@@ -33,7 +33,7 @@ fn empty_lists(alloc: Global, count: usize) -> Result<Vec<Vec<Transmission>>, No
     Ok(lists)
 }
 
-// Adds what a slot sends to the list of its item.
+// Appends what a slot sends to the list of its item.
 fn add_sent(lists: &mut Vec<Vec<Transmission>>, sent: Option<Sent>) -> Result<(), NoMemory>
     ensures count { length lists.new.items ≡ length lists.old.items }
     ensures added { OnOk result ((n : ℕ) → n < length lists.old.items → held lists.new.items n ≡ held lists.old.items n ++ placed_at n sent) }
@@ -50,7 +50,7 @@ fn add_sent(lists: &mut Vec<Vec<Transmission>>, sent: Option<Sent>) -> Result<()
     Ok(())
 }
 
-// Fills the empty lists of the items of the pages in the index with their transmissions.
+// Fills the lists, which are empty, with the transmissions of the items of the pages in the index.
 fn fill_lists(
     lists: &mut Vec<Vec<Transmission>>,
     before: &Cycle,
@@ -74,7 +74,8 @@ fn fill_lists(
     Ok(())
 }
 
-/// The transmissions of each item of the pages, whose ids are distinct, in the cycle's first period after another cycle.
+/// The transmissions of each item of the pages in the first period of a cycle after another cycle. The ids of the pages are distinct.
+/// `Err` if memory runs out.
 pub fn collect_after(
     alloc: Global,
     before: &Cycle,
@@ -93,7 +94,7 @@ pub fn collect_after(
     Ok(Collected { lists })
 }
 
-/// The transmissions of each item of the pages, whose ids are distinct, in one period of the cycle.
+/// The transmissions of each item of the pages in one period of the cycle. The ids of the pages are distinct. `Err` if memory runs out.
 pub fn collect(
     alloc: Global,
     cycle: &Cycle,
@@ -114,7 +115,7 @@ impl Collected {
     ghost use Rattle.ttx_witness.specs.sent.ItemTransmissions.{sent_after, sent_in};
     ghost use Rattle.ttx_witness.specs.sent.AllSent.{AreAllSent, AreSentAfter};
 
-    /// The transmissions of an item of the page at the index, slot by slot.
+    /// The transmissions of an item of the page at `index`, slot by slot.
     pub fn sent(&self, index: usize, item: Item) -> &[Transmission]
         ensures listed { (cycle : List (List ℕ)) (pages : List PageFields) (lines : ℕ) (p : PageFields) →
             AreAllSent cycle pages lines self.now → slice_get pages index ≡ Some p → result.now ≡ sent_in cycle p.id lines item }

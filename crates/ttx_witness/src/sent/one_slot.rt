@@ -16,7 +16,7 @@ use crate::sent::page_index::{PageIndex, place_of};
 use ttx_header::read_header;
 use ttx_packet::{Slot, slot_of};
 
-/// A transmission of an item: the place of its page in the list of pages, and the item's number.
+/// A transmission of an item: the index of its page in the list of pages, and the number of the item, 0 to 25.
 #[derive(Clone, Copy)]
 pub struct Sent {
     pub page: u32,
@@ -24,7 +24,7 @@ pub struct Sent {
     pub transmission: Transmission,
 }
 
-// The transmission in slot j under its owner.
+// The transmission in slot `j` under its owner.
 fn transmission_under(owner: Owner, j: i32, lines: u8) -> Transmission
     ensures { result ≡ record { slot = j; owner = owner.slot; sure = int_lt (owner.slot +ℤ pos lines) j && not owner.tainted } }
 {
@@ -35,7 +35,7 @@ fn transmission_under(owner: Owner, j: i32, lines: u8) -> Transmission
     }
 }
 
-// What slot j sends of the item of this number, where its owner is a page's header.
+// What slot `j` sends of item `number`, if its owner is a header of a page.
 fn sent_under(owner: Option<Owner>, number: u8, j: i32, lines: u8) -> Option<Sent>
     requires { number < 26 }
     ensures number { IfSome result (λ s. s.number < 26) }
@@ -50,7 +50,7 @@ fn sent_under(owner: Option<Owner>, number: u8, j: i32, lines: u8) -> Option<Sen
     })
 }
 
-// What a header in slot j sends, where it is a page's.
+// What a header in slot `j` sends, if it is a header of a page.
 fn sent_head(page: Option<u32>, j: i32) -> Option<Sent>
     ensures number { IfSome result (λ s. s.number < 26) }
     ensures sent { (i : ℕ) (item : Item) →
@@ -68,7 +68,7 @@ fn sent_head(page: Option<u32>, j: i32) -> Option<Sent>
     })
 }
 
-/// What slot j sends of the pages' items, under the owners before it.
+/// What slot `j` sends of the items of the pages, under the owners before it. `lines` is the number of slots in a field.
 pub fn sent_in_slot(
     owners: &[Option<Owner>; 8],
     index: &PageIndex,
@@ -95,7 +95,7 @@ pub fn sent_in_slot(
     }
 }
 
-/// The place of the item that is sent, where there are so many places.
+/// The place of the item that is sent, if it is below `places`.
 pub fn place_in(sent: Sent, places: usize) -> Option<usize>
     ensures { MatchOption result ((place : ℕ) → place < places → sends_place place (Some sent) ≡ false)
         (λ place. (place < places) × (sends_place place (Some sent) ≡ true)) }

@@ -12,8 +12,8 @@ use crate::sent::page_index::{PageIndex, place_of};
 use ttx_cycle::Cycle;
 use ttx_header::read_header;
 
-/// The latest header of a magazine: its slot, which of the pages it is of, and whether a header of another
-/// magazine has ended the page since then.
+/// The latest header of a magazine: its slot, the index of its page among the listed pages, and whether a header of another magazine
+/// has ended the page since then (`tainted`).
 #[derive(Clone, Copy)]
 pub struct Owner {
     pub slot: i32,
@@ -21,7 +21,7 @@ pub struct Owner {
     pub tainted: bool,
 }
 
-// The owner once its header has come.
+// The owner after its header has come.
 fn owner_at(slot: i32, page: Option<u32>) -> Owner
     ensures { result ≡ record { slot = slot; page = page; tainted = false } }
 {
@@ -46,7 +46,7 @@ fn taint(owner: Option<Owner>, ends: bool) -> Option<Owner>
     }
 }
 
-/// Notes a header: it is its magazine's owner, and it may end the pages of the other magazines.
+/// Notes a header: it becomes the owner of its magazine, and may end the pages of the other magazines.
 pub fn note_header(owners: &mut [Option<Owner>; 8], mag: usize, header: Owner, ends: bool)
     requires { mag < 8 }
     ensures { (m : ℕ) → m < 8 → get_or owners.new m None ≡ (if m == mag then Some header else taint ends (get_or owners.old m None)) }
@@ -60,7 +60,7 @@ pub fn note_header(owners: &mut [Option<Owner>; 8], mag: usize, header: Owner, e
     }
 }
 
-/// Notes what a slot says of the owners, where it is a page header.
+/// Notes slot `j` if it is a page header.
 pub fn note_owner(owners: &mut [Option<Owner>; 8], index: &PageIndex, slot: &[u8; 42], j: i32)
     requires { IsSlot slot.now }
     ensures after { (ids : List Id) → IsIndex ids index.now → (i : ℕ) (id : Id) → slice_get ids i ≡ Some id → IsId id →
@@ -81,7 +81,7 @@ pub fn note_owner(owners: &mut [Option<Owner>; 8], index: &PageIndex, slot: &[u8
     }
 }
 
-/// The owners before slot 0: those at the end of the cycle's period, a period earlier.
+/// The owners before slot 0: those at the end of the cycle's period, one period earlier.
 pub fn entry_owners(index: &PageIndex, cycle: &Cycle) -> [Option<Owner>; 8]
     ensures owners { (ids : List Id) (next : List (List ℕ)) → IsIndex ids index.now → AreOwners ids (slots_of cycle.now) next 0 result }
     ensures apart { (ids : List Id) → IsIndex ids index.now → AreApart ids result }

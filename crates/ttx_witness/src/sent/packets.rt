@@ -13,7 +13,7 @@ use ttx_packet::place::Address;
 use ttx_packet::{Slot, slot_of};
 use ttx_page::{Item, RowNumber};
 
-/// The page header in a slot.
+/// The page header in a slot, if there is one.
 pub fn header_in(slot: &[u8; 42]) -> Option<Header>
     requires { IsSlot slot.now }
     ensures { MatchOption result (HoldsNoHeader (packet_of slot.now)) (λ h. HoldsHeader h (packet_of slot.now)) }
@@ -23,7 +23,7 @@ pub fn header_in(slot: &[u8; 42]) -> Option<Header>
     read_header(slot)
 }
 
-/// The address of the row in a slot.
+/// The address of the row in a slot, if there is one.
 pub fn row_in(slot: &[u8; 42]) -> Option<Address>
     ensures { MatchOption result (HoldsNoRow (packet_of slot.now)) (λ at. HoldsRow at slot.now) }
 {
@@ -38,7 +38,7 @@ pub fn row_in(slot: &[u8; 42]) -> Option<Address>
     }
 }
 
-/// The address of the X/27/0 in a slot.
+/// The address of the X/27/0 in a slot, if there is one.
 pub fn links_in(slot: &[u8; 42]) -> Option<Address>
     ensures { MatchOption result (HoldsNoLinks (packet_of slot.now)) (λ at. HoldsLinks at slot.now) }
 {
@@ -64,7 +64,7 @@ pub fn heads_page(page: PageId, slot: &[u8; 42]) -> bool
     }
 }
 
-/// Whether the slot is a header of the page's number with another subcode.
+/// Whether the slot is a header with the page's number and another subcode.
 pub fn heads_other_subpage(page: PageId, slot: &[u8; 42]) -> bool
     requires { IsSlot slot.now }
     ensures { result ≡ heads_other_subpage page (packet_of slot.now) }
@@ -78,7 +78,7 @@ pub fn heads_other_subpage(page: PageId, slot: &[u8; 42]) -> bool
     }
 }
 
-/// Whether the latest header of the page's magazine is the page's, once the slot has come.
+/// Whether the latest header of the page's magazine is the page's after this slot; `mine` says whether it was before.
 pub fn mine_after(page: PageId, slot: &[u8; 42], mine: bool) -> bool
     requires { IsSlot slot.now }
     ensures { result ≡ mine_after page (packet_of slot.now) mine }
@@ -115,8 +115,8 @@ fn carries_links(mag: u8, slot: &[u8; 42]) -> bool
     }
 }
 
-/// Whether the slot is a transmission of the item, where `mine` says whether the latest header of the page's magazine is
-/// the page's.
+/// Whether the slot is a transmission of the item. `mine` says whether the latest header of the page's magazine before it is the
+/// page's.
 pub fn sends(page: PageId, item: Item, slot: &[u8; 42], mine: bool) -> bool
     requires { IsSlot slot.now }
     ensures { result ≡ sends page item (packet_of slot.now) mine }

@@ -1,4 +1,4 @@
-//! The places of pages in a list, by their ids.
+//! The indexes of pages in a list, by their ids.
 
 ghost use Rattle.std.specs.Prelude.{◌≡◌, ◌≢◌, ℕ, List, OnOk, IfOk, Some, if◌then◌else◌, ◌==◌, nat_eq};
 ghost use Rattle.std.specs.List.{AllPairs};
@@ -13,7 +13,7 @@ use ttx_certificate::NoMemory;
 use ttx_header::PageId;
 use ttx_page::Page;
 
-/// The places of pages in a list, by the numbers of their ids.
+/// The indexes of pages in a list, by their ids as numbers.
 #[derive(Drop)]
 pub struct PageIndex {
     pub by_key: HashMap<u32, u32>,
@@ -27,14 +27,14 @@ fn key(id: PageId) -> u32
     (u32::from(mag) * 256 + u32::from(id.page())) * 16384 + u32::from(id.sub())
 }
 
-/// The place of the page with this id.
+/// The index of the page with this id, if it is listed.
 pub fn place_of(index: &PageIndex, id: PageId) -> Option<u32>
     ensures { (ids : List Id) → IsIndex ids index.now → Finds ids id result }
 {
     index.by_key.get(&key(id)).copied()
 }
 
-// Puts a page's place at its key.
+// Stores the index of a page at its key.
 fn insert(by_key: &mut HashMap<u32, u32>, key: u32, place: u32) -> Result<(), NoMemory>
     ensures { OnOk result ((q : ℕ) → get nat_eq by_key.new q ≡ (if key == q then Some place else get nat_eq by_key.old q)) }
 {
@@ -44,7 +44,7 @@ fn insert(by_key: &mut HashMap<u32, u32>, key: u32, place: u32) -> Result<(), No
     Ok(())
 }
 
-/// The index of all these pages, whose ids are distinct.
+/// The index of all these pages, whose ids are distinct. `Err` if memory runs out.
 pub fn index_of(alloc: Global, pages: &[Page]) -> Result<PageIndex, NoMemory>
     requires distinct { AllPairs (λ a b. a ≢ b) (ids_of pages.now) }
     ensures { IfOk result (λ index. IsIndex (ids_of pages.now) index) }

@@ -1,4 +1,4 @@
-//! The items of a page by their numbers, and how often a run sends them.
+//! The items of a page as numbers, and how many transmissions a run of an item has.
 
 ghost use Rattle.std.specs.Prelude.{◌≡◌, ◌<◌};
 ghost use Rattle.ttx_page.specs.Streams.{run_length};
@@ -6,7 +6,7 @@ ghost use Rattle.ttx_witness.specs.sent.Collected.{IsItem, item_number};
 
 use ttx_page::{Item, RowNumber};
 
-/// The item of a number, 0 to 25, in its page.
+/// The item with this number: 0 is the header, 1 to 24 are rows, 25 the links.
 pub fn item_of(number: u8) -> Item
     requires { number < 26 }
     ensures number { item_number result ≡ number }
@@ -21,7 +21,7 @@ pub fn item_of(number: u8) -> Item
     }
 }
 
-/// How many transmissions a run of the item has: 1 for links, and else the repeat count.
+/// The number of transmissions in a run of the item: 1 for links, otherwise the repeat count.
 pub fn run_length(repeat: u8, item: &Item) -> usize
     ensures { result ≡ run_length repeat item.now }
 {

@@ -1,4 +1,4 @@
-//! How long a viewer of each item of each page of a list waits at the most.
+//! The longest wait for each item of each page of a list.
 
 ghost use Rattle.std.specs.Prelude.{◌≡◌, ◌≢◌, ◌≤◌, IfOk, map, true};
 ghost use Rattle.std.specs.List.{AllPairs};
@@ -20,7 +20,7 @@ use ttx_certificate::NoMemory;
 use ttx_cycle::Cycle;
 use ttx_page::{Class, Item, Page, needed};
 
-// How long a viewer of the item of the page waits.
+// How long a viewer waits for the item of the page.
 fn item_wait(alloc: Global, surveyed: &SurveyedPage, item: &Item) -> Result<OwnWait, NoMemory>
     requires seen { definitions.needed (surveyed_page surveyed.now) item.now ≡ true }
     ensures { IfOk result (λ wait. IsItemWaitIn surveyed.now item.now wait) }
@@ -42,7 +42,7 @@ fn item_wait(alloc: Global, surveyed: &SurveyedPage, item: &Item) -> Result<OwnW
     }
 }
 
-// How long a viewer of each item of the page waits, in the order of the items.
+// How long a viewer waits for each item of the page, in the order of the items.
 fn items_told(alloc: Global, surveyed: &SurveyedPage) -> Result<Vec<ItemWait>, NoMemory>
     ensures { IfOk result (λ told. AreItemsToldIn surveyed.now 26 told.items) }
 {
@@ -59,7 +59,7 @@ fn items_told(alloc: Global, surveyed: &SurveyedPage) -> Result<Vec<ItemWait>, N
     Ok(told)
 }
 
-// How long a viewer of each item of each page of the survey waits.
+// How long a viewer waits for each item of each page of the survey.
 fn item_waits_in(alloc: Global, survey: &Survey) -> Result<Vec<Vec<ItemWait>>, NoMemory>
     ensures { IfOk result (λ all. AreItemWaitsIn survey.now (map (λ told. told.items) all.items)) }
 {
@@ -73,9 +73,9 @@ fn item_waits_in(alloc: Global, survey: &Survey) -> Result<Vec<Vec<ItemWait>>, N
     Ok(all)
 }
 
-/// How long a viewer of each item of each page of the list waits, page by page and item by item in their order: the least
-/// deadline in fields with which some certificate shows the item, or what becomes of its transmissions where none does.
-/// `repeat` is 1 to 8, `lines` to a field 1 to 32.
+/// How long a viewer waits for each item of each page, page by page and item by item: the least deadline in fields with which some
+/// certificate covers the item, or what happens to its transmissions if there is none. `repeat` is 1 to 8, `lines` (slots in a
+/// field) 1 to 32. `Err` if memory runs out.
 pub fn item_waits(
     alloc: Global,
     cycle: &Cycle,

@@ -1,4 +1,4 @@
-//! How long a viewer of each page of a list waits at the most.
+//! The longest wait for each page of a list.
 
 ghost use Rattle.std.specs.Prelude.{◌≡◌, ◌≢◌, ◌≤◌, ◌<◌, ◌*◌, ℕ, IfOk, List, map, length, filter, Some, int_lt, ◌+ℤ◌, pos};
 ghost use Rattle.std.specs.List.{AllPairs};
@@ -23,14 +23,14 @@ use ttx_certificate::NoMemory;
 use ttx_cycle::Cycle;
 use ttx_page::{Class, Item, Page, needed};
 
-// Whether the transmission comes more than so many slots after its header.
+// Whether the transmission comes more than `lines` slots after its header.
 fn is_far(t: Transmission, lines: u8) -> bool
     ensures { result ≡ int_lt (t.owner +ℤ pos lines) t.slot }
 {
     i64::from(t.owner) + i64::from(lines) < i64::from(t.slot)
 }
 
-// How many transmissions come too near their header.
+// How many transmissions are near their header.
 fn near_ones(sent: &[Transmission], lines: u8) -> usize
     ensures { result ≡ length (filter (is_near lines) sent.now) }
 {
@@ -43,7 +43,7 @@ fn near_ones(sent: &[Transmission], lines: u8) -> usize
     count
 }
 
-// How many transmissions come later and are cut off.
+// How many transmissions are not near but cut off.
 fn cut_ones(sent: &[Transmission], lines: u8) -> usize
     ensures { result ≡ length (filter (is_cut lines) sent.now) }
 {
@@ -56,7 +56,7 @@ fn cut_ones(sent: &[Transmission], lines: u8) -> usize
     count
 }
 
-/// What becomes of the transmissions of the item.
+/// What happens to the transmissions of the item.
 pub(crate) fn losses_of(sent: &[Transmission], lines: u8) -> Losses
     ensures { (cycle : List (List ℕ)) (p : definitions.Page) (item : Item) → sent.now ≡ sent_in cycle p.id lines item →
         AreLosses cycle p.id lines item result }
@@ -68,7 +68,7 @@ pub(crate) fn losses_of(sent: &[Transmission], lines: u8) -> Losses
     }
 }
 
-/// The least number of fields that has so many slots.
+/// The least number of fields, at least 1, that holds so many slots.
 pub(crate) fn fields_for(slots: u64, lines: u8) -> u32
     requires some { 1 ≤ lines }
     requires small { slots ≤ 655360 }
@@ -104,7 +104,7 @@ fn longest_item(alloc: Global, surveyed: &SurveyedPage) -> Result<Wait, NoMemory
     })
 }
 
-// How long a viewer of the page waits.
+// How long a viewer waits for the page.
 fn page_wait(
     alloc: Global,
     surveyed: &SurveyedPage,
@@ -125,7 +125,7 @@ fn page_wait(
     }
 }
 
-// How long a viewer of each page of the survey waits.
+// How long a viewer waits for each page of the survey.
 fn waits_in(
     alloc: Global,
     survey: &Survey,
@@ -145,9 +145,9 @@ fn waits_in(
     Ok(waits)
 }
 
-/// How long a viewer of each page of the list waits, page by page in its order: the least deadline in fields with which the
-/// page alone is accepted, and the first item that needs so many; or why there is none. `repeat` is 1 to 8, `lines` to a
-/// field 1 to 32.
+/// How long a viewer waits for each page of the list: the least deadline in fields with which the page alone is accepted, and the
+/// first item that needs it; or why there is no deadline. `repeat` is 1 to 8, `lines` (slots in a field) 1 to 32. `Err` if memory
+/// runs out.
 pub fn waits(
     alloc: Global,
     cycle: &Cycle,

@@ -1,4 +1,4 @@
--- First slots of single reasons.
+-- First slots for single reasons.
 use Rattle.std.proofs.Common.{◌≡◌, ◌⊎◌, ◌↔◌, ℕ, zero, suc, ◌+◌, ◌<◌, ◌≤◌, ℤ, pos, true, not, ◌&&◌, ◌==◌, if◌then◌else◌, nat_le, List, length, map}
 use Rattle.std.proofs.Common.{get_or, slice_get, option_map, Option, Some, None, refl, sym, ap, ◌∙◌, subst, inl, inr, arith}
 use Rattle.std.proofs.lemmas.Bool.{cases_lt, and_parts, cond_both}
@@ -15,13 +15,13 @@ use Rattle.ttx_witness.specs.faults.Comparing.{WrongAt, RowWrongAt}
 use Rattle.ttx_witness.specs.declared.faults.comparing.Check.TheVariants.{EraseBit, Head as CheckHead, Row as CheckRow, Links as CheckLinks}
 use Rattle.ttx_witness.specs.faults.Faults.{IsFirstAt, TellsFirst, earlier}
 
--- the same for what is as true
+-- the same for an equivalent property
 pub tells_same : (cycle : List (List ℕ)) (P Q : ℤ → Type 0) → ((j : ℤ) → P j ↔ Q j) → (o : Option ℕ) → TellsFirst cycle P o → TellsFirst cycle Q o
 tells_same cycle P Q same None f = λ j q. f j ((same j).1 q)
 tells_same cycle P Q same (Some slot) f = record
     { within = f.within; here = (same (pos slot)).0 f.here; none_before = λ i lt q. f.none_before i lt ((same (pos i)).1 q) }
 
--- of two
+-- the first slot of two reasons
 module _ (cycle : List (List ℕ)) (P Q R : ℤ → Type 0) (left : (j : ℤ) → P j → R j) (right : (j : ℤ) → Q j → R j)
     (either : (j : ℤ) → R j → P j ⊎ Q j) where
   pub earlier_is : (a b : Option ℕ) → TellsFirst cycle P a → TellsFirst cycle Q b → TellsFirst cycle R (earlier a b)
@@ -108,7 +108,7 @@ module _ (s : Stream) (p : Page) where
           (and_parts _ (if r == 24 then p.links.show24 else not (is_hidden (page_row p) r)) e).0).0 in
           let b : nat_le r 24 ≡ true = (and_parts (nat_le 1 r) (nat_le r 24) a).1 in grind (arith, nat_tests)
 
--- the page in a place of the list
+-- the page at an index of the list
 pub placed : {A : Type 0} (o : Option A) (p q : A) → o ≡ Some p → o ≡ Some q → p ≡ q
 placed None p q e f = cc
 placed (Some a) p q e f = cc

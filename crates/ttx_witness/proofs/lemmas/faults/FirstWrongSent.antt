@@ -1,4 +1,4 @@
--- The first of a period's transmissions that differs.
+-- The first of a period's transmissions that differs from the page.
 use Rattle.std.proofs.Common.{◌≡◌, ◌↔◌, Bool, not, ◌==◌, IsTrue, ℕ, suc, ◌<◌, ◌≤◌, ℤ, pos, ◌+ℤ◌, ◌<ℤ◌, ◌≤ℤ◌, unsigned_abs, List, [], ◌∷◌, ◌++◌}
 use Rattle.std.proofs.Common.{length, take, drop, get_or, refl, sym, ◌∙◌, subst, inl, inr, arith, eqb-true}
 use Rattle.std.proofs.lemmas.Bool.{cases_Bool, both_ways, not-true, not_from_false}
@@ -45,7 +45,7 @@ module _ (cycle : List (List ℕ)) (some : 1 ≤ length cycle) (p : Page) (check
   in_period : (j : ℕ) → j < n → IsWrong p check (s (pos j)) → In (pos j)
   in_period j lt w = record { from = omega (arith, ints); to = omega (arith, ints); wrong = subst (IsWrong p check) (slot_is cycle j lt) w }
 
-  -- the transmission and what stands before it
+  -- the transmission, and what comes before it
   record Found (low : ℤ) (t : Transmission) : Type 0 where
     owned : IsOwned s p.id item t.owner t.slot
     from : low ≤ℤ t.slot
@@ -112,7 +112,7 @@ module _ (cycle : List (List ℕ)) (some : 1 ≤ length cycle) (p : Page) (check
         (λ j lt v. none_listed (pos 0) ts listed none (pos j) (omega (arith, ints)) (omega (arith, ints)) (sent_is (pos j) v.sent)
         (in_period j lt v.wrong))
 
--- a page has a header where its list has one
+-- a page has a header if and only if the list of its headers has one
 pub headers_sent : (cycle : List (List ℕ)) → 1 ≤ length cycle → (page : Id) (lines : ℕ) (ts : List Transmission) → ts
     ≡ sent_in cycle page lines TheHead → (0 < length ts) ↔ HasHeader (repeated cycle) page
 headers_sent cycle some page lines ts is = go ts

@@ -1,4 +1,4 @@
--- Headers with another subcode than the one of their number are those of other subpages of pages that are alone.
+-- Headers with another subcode than the listed one of their number are those of other subpages of pages that are alone.
 use Rattle.std.proofs.Common.{◌≡◌, ◌↔◌, ℕ, ◌+◌, ◌<◌, ◌≤◌, ℤ, pos, ◌+ℤ◌, ◌-ℤ◌, Bool, true, false, ◌&&◌, ◌==◌, List, length, get_or, slice_get}
 use Rattle.std.proofs.Common.{replicate, Option, Some, None, refl, sym, ap, ◌∙◌, subst, inl, inr, arith, eqb-true, eq-eqb}
 use Rattle.std.proofs.lemmas.Bool.{cases_lt, cases_Bool, and_from, and_parts, cond_both, both_ways, not-true, not_from_false}
@@ -18,7 +18,7 @@ use Rattle.ttx_witness.proofs.lemmas.faults.OverOnePeriod.{nowhere, one_more}
 use Rattle.ttx_witness.proofs.lemmas.sent.CycleTransmissions.{period_of}
 use Rattle.std.proofs.lemmas.Int.{ints}
 
--- a header whose subcode isn't the page's
+-- a header whose subcode is not the page's
 unlike : (p : Page) (id : Id) → (p.id.mag == id.mag) && (p.id.page == id.page) ≡ true → same_id p.id id ≡ false → (p.id.sub == id.sub) ≡ false
 unlike p id a b = elim (cases_Bool (p.id.sub == id.sub)) as
     (λ _. (p.id.sub == id.sub) ≡ false) [ inl e ↦ absurd (both_ways _ b (and_from _ _ a e)) | inr e ↦ e ]
@@ -41,7 +41,7 @@ module _ (pages : List Page) (p : Page) (n : ℕ) (at : slice_get pages n ≡ So
     number : heads_matched (AnySub p.id.mag p.id.page) packet ≡ true
     other : heads_page p.id packet ≡ false
 
-  -- pages of the number with one subcode
+  -- if the pages of the number have one subcode, the page is alone
   alone_of : (sub : ℕ) → ((q : Page) → IsListed pages (length pages) p.id.mag p.id.page q → q.id.sub ≡ sub) → IsAlone pages p
   alone_of sub all m q here = elim (cases_Bool (is_other_subpage p q)) as (λ _. is_other_subpage p q ≡ false) [
     | inl e ↦
@@ -58,7 +58,7 @@ module _ (pages : List Page) (p : Page) (n : ℕ) (at : slice_get pages n ≡ So
     | inr e ↦ e
   ]
 
-  -- which are alone have one subcode
+  -- if the page is alone, the pages of its number have one subcode
   same_sub : IsAlone pages p → (q : Page) → IsListed pages (length pages) p.id.mag p.id.page q → q.id.sub ≡ p.id.sub
   same_sub alone q l = elim (cases_Bool (q.id.sub == p.id.sub)) as (λ _. q.id.sub ≡ p.id.sub) [
     | inl e ↦ eqb-true _ _ e

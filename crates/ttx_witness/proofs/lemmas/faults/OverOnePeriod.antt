@@ -20,7 +20,7 @@ use Rattle.ttx_witness.proofs.lemmas.sent.Periods.{latest_same}
 use Rattle.ttx_witness.proofs.lemmas.sent.StreamOwners as O
 use Rattle.ttx_witness.proofs.lemmas.sent.CycleTransmissions.{period_of, law}
 
--- the slots of the first period are the cycle's
+-- the slots of the first period are those of the cycle
 pub slot_is : (cycle : List (List ℕ)) (j : ℕ) → j < length cycle → repeated cycle (pos j) ≡ slice_index_or cycle j []
 slot_is cycle j lt = ap (λ n. slice_index_or cycle n []) (mod-eq_of_lt lt)
 
@@ -80,7 +80,7 @@ module _ (cycle : List (List ℕ)) (some : 1 ≤ length cycle) where
   back : (i : ℤ) → s (i -ℤ pos n) ≡ s i
   back i = let e : (i -ℤ pos n) +ℤ pos n ≡ i = omega (arith, ints) in sym (period (i -ℤ pos n)) ∙ ap s e
 
-  -- what is true of no slot of a period is true of none
+  -- what holds at no slot of a period holds nowhere
   pub nowhere : (P : ℤ → Type 0) → ((i : ℤ) → P (i +ℤ pos n) → P i) → ((i : ℤ) → P (i -ℤ pos n) → P i) → ((i : ℕ) → i < n → P (pos i) → ⊥) → Never P
   nowhere P up down none = everywhere n some (λ i. P i → ⊥) base (λ i h q. h (up i q)) (λ i h q. h (down i q))
     where
@@ -136,12 +136,12 @@ other_is s page j = (
   (λ h. and_from _ _ h.number (not_from_false _ h.other)),
 )
 
--- none among the first j, nor the next
+-- not among the first j, nor the next
 pub one_more : (P : ℕ → Type 0) (j : ℕ) → ((i : ℕ) → i < j → P i → ⊥) → (P j → ⊥) → (i : ℕ) → i < j + 1 → P i → ⊥
 one_more P j none not i lt q = elim (cases_lt i j) as (λ _. ⊥)
     [ inl less ↦ none i less q | inr ge ↦ let e : i ≡ j = omega arith in not (subst P e q) ]
 
--- a slot of the period that sends what differs
+-- a slot of the period that sends something that differs
 pub wrong_is : (cycle : List (List ℕ)) → 1 ≤ length cycle → (p : Page) (check : Check) (j : ℕ) → j < length cycle → (mine : Bool) →
     mine ≡ is_mine (owner_scan p.id (repeated cycle) (entry_owner cycle p.id) j) →
     ((sends p.id (compared_item check) (packet_of (slice_index_or cycle j [])) mine ≡ true)

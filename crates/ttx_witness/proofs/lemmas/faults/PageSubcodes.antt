@@ -1,4 +1,4 @@
--- The subcodes of the pages of a number, page by page.
+-- The subcodes of the listed pages of a number, page by page.
 use Rattle.std.proofs.Common.{◌≡◌, ◌⊎◌, ℕ, ◌+◌, ◌&&◌, ◌==◌, if◌then◌else◌, List, get_or, slice_get, replicate, Some, sym, ap, ◌∙◌, subst, inl, inr}
 use Rattle.std.proofs.Common.{arith, eqb-true, eq-eqb}
 use Rattle.std.proofs.lemmas.Bool.{cases_lt, and_from, and_parts, cond_both, both_ways}
@@ -14,7 +14,7 @@ module _ (pages : List Page) (i mag number : ℕ) where
   later q l = record { index = l.index; below = omega (arith, l.below); here = l.here; in_magazine = l.in_magazine; numbered = l.numbered }
 
   module _ (p : Page) (at : slice_get pages i ≡ Some p) where
-    -- the pages up to p are those before it, and p
+    -- the pages up to p are those before it, and p itself
     either : (q : Page) → IsListed pages (i + 1) mag number q → IsListed pages i mag number q ⊎ (q ≡ p)
     either q l = elim (cases_lt l.index i) as (λ _. IsListed pages i mag number q ⊎ (q ≡ p)) [
       | inl lt ↦ inl (record { index = l.index; below = lt; here = l.here; in_magazine = l.in_magazine; numbered = l.numbered })

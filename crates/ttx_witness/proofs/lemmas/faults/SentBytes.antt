@@ -1,4 +1,4 @@
--- Bytes that send characters, found by the union of all differences.
+-- Bytes that send characters, tested by the union of all differences.
 use Rattle.std.proofs.Common.{◌≡◌, ◌↔◌, ℕ, zero, suc, ◌+◌, ◌-◌, ◌*◌, ◌/◌, ◌%◌, ◌<◌, ◌≤◌, ◌==◌, ◌&&◌, Bool, true, List, [], ◌∷◌, map, length, get_or}
 use Rattle.std.proofs.Common.{drop, bit_and, bit_or, refl, sym, ap, ◌∙◌, arith, eqb, ltb, eqb-true, eq-eqb}
 use Rattle.std.proofs.lemmas.Bool.{agree_below, agree_below_at, ltb-true, and_from, and_parts}
@@ -29,7 +29,7 @@ differences = refl
 small : agree_below (λ a. agree_below (λ b. ltb (bit_xor a b) 256) (λ _. true) 256) (λ _. true) 256 ≡ true
 small = refl
 
--- a union with a difference has no bit where the union has none and the bytes are the same
+-- a union with a difference is zero exactly if the union was and the bytes are the same
 pub union_more : (u a b : ℕ) → u < 256 → a < 256 → b < 256 → (bit_or u (bit_xor a b) == 0) ≡ ((u == 0) && (a == b))
 union_more u a b lu la lb =
     let fits : bit_xor a b < 256 = ltb-true _ _

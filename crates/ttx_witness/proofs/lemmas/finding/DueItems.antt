@@ -1,4 +1,4 @@
--- The items of pages in their places, and what is known of entries and limits after one more.
+-- The items of pages in their places, and the entries and limits after one more item.
 use Rattle.std.proofs.Common.{◌≡◌, ◌≢◌, ◌⊎◌, ℕ, zero, ◌+◌, ◌<◌, true, false, eqb-true, List, [], ◌∷◌, ◌++◌, map, get_or, slice_get, Option, Some}
 use Rattle.std.proofs.Common.{None, refl, sym, ap, ◌∙◌, subst, inl, inr, arith}
 use Rattle.std.specs.List.{All, AllByRecursion, AllPairs, Contains}
@@ -97,7 +97,7 @@ module _ (pages : List Page) (class : Class) (m j : ℕ) (q : Page) (given : Ite
   ]
 
   module _ (cycle : List (List ℕ)) (lines repeat : ℕ) where
-    -- no earlier entry stands in the place of one of this item
+    -- no earlier entry is in the place of an entry of this item
     new_place : AreApart pages → (e n : Entry) → NamesStarts cycle pages class lines repeat m e → n.page ≡ q.id → n.item ≡ given →
         same_place e n ≡ false
     new_place apart e n t page item = elim (cases_Bool (same_place e n)) as (λ _. same_place e n ≡ false) [

@@ -1,4 +1,4 @@
--- The least limit in which each header of a page is followed by the next, found as that of runs of one header.
+-- The least limit within which each header of a page is followed by the next, found as that of runs of one header.
 use Rattle.std.proofs.Common.{◌≡◌, ◌↔◌, ℕ, ◌*◌, ◌≤◌, ℤ, pos, ◌+ℤ◌, ◌<ℤ◌, ◌≤ℤ◌, true, List, [], length, Option, Some, None, refl, sym, subst, arith}
 use Rattle.std.proofs.lemmas.Int.{ints}
 use Rattle.std.specs.List.{Contains}
@@ -26,7 +26,7 @@ owner_heads s page TheHead h j o = subst (λ x. heads_page page (packet_of (s x)
 owner_heads s page (TheRow r) h j o = o.1
 owner_heads s page TheLinks h j o = o.1
 
--- where any item is covered, the headers come in time
+-- if any item is covered, the headers come in time
 pub next_covered : (cycle : List (List ℕ)) (p : Page) (v : Certificate) (item : Item) → IsCovered cycle p v item → (tau : ℤ) →
     Next cycle p (limit v) tau
 next_covered cycle p v item c tau =

@@ -42,7 +42,7 @@ use Rattle.ttx_witness.proofs.lemmas.finding.DueItems.{AreApart, item_one, all_m
 use Rattle.ttx_witness.proofs.lemmas.finding.HeaderLimits.{Next, next_covered, next_fits}
 use Rattle.ttx_witness.proofs.lemmas.sent.RunLengths.{run_some}
 
--- an entry of the item names these starts
+-- an entry of the item that names these starts
 abbrev NamesFor : Id → Item → List ℕ → Entry → Type 0
 NamesFor id item x e = e.page ≡ id → item_number e.item ≡ item_number item → e.starts.items ≡ x
 
@@ -100,13 +100,13 @@ blank_if true true n e = refl
 blank_if true false n e = cc
 blank_if false b n e = cc
 
--- an item that a viewer sees isn't due only where receivers clear and it is blank
+-- an item that a viewer sees is not due only if receivers clear and the item is blank
 pub not_due_is : (class : Class) (p : Page) (item : Item) → needed p item ≡ true → is_due class p item ≡ false → (class ≡ Clearing)
     × (is_blank p item ≡ true)
 not_due_is Any p item n e = absurd (both_ways (needed p item) e n)
 not_due_is Clearing p item n e = (refl, blank_if (needed p item) (is_blank p item) n e)
 
--- the test of blank items is right for the pages of a list
+-- the test for blank items is right for the pages of a list
 abbrev pub AreTested : List Page → Type 0
 AreTested pages = (n : ℕ) (p : Page) → slice_get pages n ≡ Some p → (item : Item) → needed p item ≡ true → is_blank p item ≡ true ↔ IsBlank p item
 
@@ -209,7 +209,7 @@ module _ (cycle : List (List ℕ)) (some : 1 ≤ length cycle) (pages : List Pag
         go (Some s) e f = ((law cycle some p w item (run_length repeat item - 1) (run_some repeat item repeats)).1 s e).1
             (due_starts n p item at is due) f
 
-    -- and the headers of a page with an item that isn't due come in time
+    -- and the headers of a page with an item that is not due come in time
     pub left_in_time : EachSlotTurns → SureStartsAreFound → LeastLimitIsFound → IsEnough least (d * lines) → (n : ℕ) (p : Page) →
         slice_get pages n ≡ Some p → (item : Item) → IsItem item →
         needed p item ≡ true → is_due class p item ≡ false → (tau : ℤ) → Next cycle p (d * lines) tau
@@ -220,7 +220,7 @@ module _ (cycle : List (List ℕ)) (some : 1 ≤ length cycle) (pages : List Pag
         (least_limit cycle lines 1 p.id TheHead) not_due)
         (named.least_to (d * lines) fits n p item (done n p item at is seen)))
 
-  -- a limit with which each item that is due is covered, and headers come in time where one isn't, is enough
+  -- a limit with which each due item is covered, and headers come in time for those that are not due, is enough
   module _ (turn : EachSlotTurns) (found : SureStartsAreFound) (law : LeastLimitIsFound) (v : Certificate)
       (same_lines : v.lines ≡ lines) (same_repeat : v.repeat ≡ repeat)
       (covered : (n : ℕ) (p : Page) → slice_get pages n ≡ Some p → (item : Item) → IsItem item → is_due class p item
@@ -262,7 +262,7 @@ module _ (cycle : List (List ℕ)) (some : 1 ≤ length cycle) (pages : List Pag
   module _ (blank : AreTested pages) (few : lines ≤ 32) (some_lines : 1 ≤ lines) (deadline : Option ℕ)
       (is : IsDeadline cycle pages lines least deadline)
       (turn : EachSlotTurns) (found : SureStartsAreFound) (law : LeastLimitIsFound) where
-    -- a certificate that is accepted covers each item that is due, and has the headers in time where one isn't
+    -- a certificate that is accepted covers each due item, and has the headers in time for those that are not due
     accepted_covered : (v : Certificate) → v.class ≡ class → Accepts cycle pages v → (n : ℕ) (p : Page) → slice_get pages n ≡ Some p →
         (item : Item) → IsItem item → is_due class p item ≡ true → IsCovered cycle p v item
     accepted_covered v same a n p at item is_item due =
@@ -355,7 +355,7 @@ abbrev Lower : Option ℕ → List Entry → Type 0
 Lower None es = Unit {0}
 Lower (Some low) es = All (λ e. low < place_in e) es
 
--- entries of distinct items stay so when they change places
+-- entries of distinct items stay so when they are reordered
 pub pairs_sorted : (xs ys : List Entry) → IsPermutation xs ys → AreAlone xs → AreAlone ys
 pairs_sorted xs ys perm alone =
     let d = IsDistinct-IsPermutation same_place same_place_flips xs ys perm (IsDistinct-from_apart same_place xs alone) in
@@ -377,7 +377,7 @@ rises_apart low (e ∷ es) l up alone = and_from _ _ (first low l) (rises_apart 
     above : (m n : ℕ) → m ≤ n → (m == n) ≡ false → m < n
     above m n le other = grind (arith, nat_tests)
 
--- entries of distinct items that are sorted rise strictly
+-- sorted entries of distinct items rise strictly
 pub places_rise : (es : List Entry) → IsNonDecreasingBy place_in es → AllPairs (λ a b. same_place a b ≡ false) es →
     rises (entry_places (entries_of es)) ≡ true
 places_rise es up alone = rises_apart None es tt up alone

@@ -1,4 +1,4 @@
--- The pages of a survey, in their places.
+-- The pages of a survey, by index.
 use Rattle.std.proofs.Common.{◌≡◌, ℕ, slice_get, Some, subst}
 use Rattle.ttx_witness.specs.finding.Surveys.{survey_pages, surveyed_page}
 use Rattle.ttx_witness.specs.declared.finding.survey.Survey.{Survey}

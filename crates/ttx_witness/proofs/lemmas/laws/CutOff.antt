@@ -1,4 +1,4 @@
--- Why the transmissions of an item aren't sure.
+-- Why transmissions of an item are not sure.
 use Rattle.std.proofs.Common.{◌≡◌, ◌⊎◌, ℕ, zero, suc, ℤ, pos, ◌+ℤ◌, ◌-ℤ◌, ◌<ℤ◌, ◌≤ℤ◌, unsigned_abs, int_lt, Bool, true, false, not, List, [], ◌∷◌}
 use Rattle.std.proofs.Common.{length, refl, subst, inl, inr, arith}
 use Rattle.std.proofs.lemmas.Bool.{cases_Bool, and_from, and_parts, both_ways, not-true, not_from_false}

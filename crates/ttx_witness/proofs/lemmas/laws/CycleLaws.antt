@@ -1,4 +1,4 @@
--- The laws of certificates over cycles, from those of transmissions that repeat.
+-- The laws of certificates over cycles, from the laws of repeating transmissions.
 use Rattle.std.proofs.Common.{◌≡◌, suc, ◌*◌, pos, ◌+ℤ◌, length, sym, ap, ◌∙◌, subst}
 use Rattle.ttx_page.specs.Streams as S
 use Rattle.ttx_page.specs.Streams.{repeated, IsOwned, IsSure}

@@ -43,7 +43,7 @@ module _ (cycle : List (List ℕ)) (p : Page) (lines bound : ℕ) where
   header_of : (t : Transmission) → Tells (IsOwned (repeated cycle) p.id TheHead) (IsSure (repeated cycle) lines p.id.mag TheHead) t → P t.slot
   header_of t a = a.owned.1
 
-  -- where no header is late, one comes in time after each slot from one header to end
+  -- if no header is late, one comes in time after each slot from one header to `end`
   abbrev Next : ℤ → Type 0
   Next x = (i : ℤ) × (x ≤ℤ i) × (i <ℤ (x +ℤ pos bound)) × P i
 
@@ -59,7 +59,7 @@ module _ (cycle : List (List ℕ)) (p : Page) (lines bound : ℕ) where
       elim (cases_ltz u.slot x) as (λ _. Next x)
       [ inl lt ↦ next_from end here u us a.4 n.1 x lt high | inr ge ↦ (u.slot, ge, omega (arith, ints), header_of u a.0) ]
 
-  -- a late header, of which each header from a on that comes before it is followed in time
+  -- a late header, before which each header from slot a on is followed in time
   record IsGap (a : ℤ) (h : ℕ) : Type 0 where
     within : pos h <ℤ pos (length cycle)
     is_header : P (pos h)
@@ -77,7 +77,7 @@ module _ (cycle : List (List ℕ)) (p : Page) (lines bound : ℕ) where
       }
 
   module _ (some : 1 ≤ length cycle) (first : ℤ) (none_first : (x : ℤ) → pos 0 ≤ℤ x → x <ℤ first → P x → ⊥) where
-    -- no header stands between the end of the period and the first one of the next
+    -- there is no header between the end of the period and the first header of the next period
     none_after : (x : ℤ) → pos (length cycle) ≤ℤ x → x <ℤ (first +ℤ pos (length cycle)) → P x → ⊥
     none_after x low high h =
         let back : (x -ℤ pos (length cycle)) +ℤ pos (length cycle) ≡ x = omega (arith, ints) in
@@ -126,7 +126,7 @@ module _ (cycle : List (List ℕ)) (p : Page) (lines bound : ℕ) where
             subst (IsGap t.slot) same (gap_at t.slot low high here (λ x above most hx. a.3 x (omega (arith, ints)) (omega (arith, ints)) (sent x hx)))
         go false q e again = on (again e) (not_lt (t.slot +ℤ pos bound) u.slot q)
 
--- a slot of the stream in its first period
+-- a slot of the stream has its place in the first period
 pub turned_back : EachSlotTurns → (cycle : List (List ℕ)) → 1 ≤ length cycle → (j : ℤ) → repeated cycle (pos (turned (length cycle) j))
     ≡ repeated cycle j
 turned_back turn cycle some j =
@@ -137,7 +137,7 @@ module _ (turn : EachSlotTurns) (cycle : List (List ℕ)) (some : 1 ≤ length c
   abbrev Head : ℤ → Type 0
   Head x = heads_page p.id (packet_of (repeated cycle x)) ≡ true
 
-  -- from each tuning slot on
+  -- a header comes in time from each tuning slot on
   in_time : (t : Transmission) → Head t.slot → ((x : ℤ) → t.slot <ℤ x → x ≤ℤ (t.slot +ℤ pos (length cycle)) → Next cycle p w.lines (limit w) x) →
       (tau : ℤ) → Next cycle p w.lines (limit w) tau
   in_time t here near tau =
@@ -153,7 +153,7 @@ module _ (turn : EachSlotTurns) (cycle : List (List ℕ)) (some : 1 ≤ length c
       let same : repeated cycle (i.0 +ℤ k.by) ≡ repeated cycle i.0 = ap (λ z. slice_index_or cycle z []) (k.same i.0) in
       (i.0 +ℤ k.by, omega (arith, ints), omega (arith, ints), subst (λ z. heads_page p.id (packet_of z) ≡ true) (sym same) i.3)
 
-  -- a late header is none where one comes in time
+  -- no header is late if one comes in time after each tuning slot
   none_late : ((tau : ℤ) → Next cycle p w.lines (limit w) tau) → (h : ℕ) →
       ((i : ℤ) → pos h <ℤ i → i ≤ℤ (pos h +ℤ pos (limit w)) → heads_page p.id (packet_of (repeated cycle i)) ≡ false) → ⊥
   none_late next h late =

@@ -1,4 +1,4 @@
--- How an item is judged by one pass over its transmissions, in the words of the reasons.
+-- How an item is judged by one pass over its transmissions, in terms of the reasons.
 use Rattle.std.proofs.Common.{◌≡◌, ℕ, suc, ◌<◌, ◌≤◌, ℤ, pos, ◌+ℤ◌, true, List, length, slice_index_or, Option, Some, None, refl, sym, ap, subst, inl}
 use Rattle.std.proofs.Common.{inr, arith}
 use Rattle.std.proofs.lemmas.Int.{ints}
@@ -46,7 +46,7 @@ module _ (cycle : List (List ℕ)) (some : 1 ≤ length cycle) (p : Page) (w : C
   abbrev Late : ℕ → Type 0
   Late = R.IsLate Owned (length cycle) (suc k) (limit w) starts
 
-  -- the place of a named start, which is below that of a greater one
+  -- a smaller named start has a smaller index
   below : (i j : ℕ) → i < length starts → at i < at j → i < j
   below i j within lt = elim (cases_lt i j) as (λ _. i < j) [
     | inl less ↦ less
@@ -63,7 +63,7 @@ module _ (cycle : List (List ℕ)) (some : 1 ≤ length cycle) (p : Page) (w : C
     bad = λ s. b.bad (s.0, sure_run_to (repeated cycle) p.id w.lines w.repeat item (suc k) len (pos (at i)) s.1);
   }
 
-  -- a bad start is one of those that are named
+  -- a bad start is one of the named starts
   bad_from : (start : ℕ) → WitnessBadAt cycle p w item start → (i : ℕ) × (i < length starts) × (at i ≡ start) × Bad i
   bad_from start b =
       let a = at_from_Contains starts start b.named in

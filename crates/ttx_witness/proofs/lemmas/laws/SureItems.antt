@@ -1,4 +1,4 @@
--- Where each item has a sure run, the certificate that names all starts of sure runs is accepted.
+-- If each item has a sure run, the certificate that names all starts of sure runs is accepted.
 use Rattle.std.proofs.Common.{◌≡◌, ◌⊎◌, ℕ, zero, suc, ◌+◌, ◌-◌, ◌*◌, ◌<◌, ◌≤◌, ℤ, pos, ◌+ℤ◌, ◌-ℤ◌, ◌<ℤ◌, ◌≤ℤ◌, true, List, [], ◌∷◌, ◌++◌, map, take}
 use Rattle.std.proofs.Common.{length, slice_index_or, None, unsigned_abs, refl, sym, ap, ◌∙◌, subst, inl, inr, arith, mul-le-mul, mod-eq_of_lt}
 use Rattle.std.proofs.Common.{length-append}
@@ -37,7 +37,7 @@ few_length repeat TheHead h = h
 few_length repeat (TheRow r) h = h
 few_length repeat TheLinks h = omega arith
 
--- ---- where all is sure, the first window of a period is a sure run
+---- if all is sure, the first window of a period is a sure run
 
 all_sure_append : (ts us : List Transmission) → all_sure ts ≡ true → all_sure us ≡ true → all_sure (ts ++ us) ≡ true
 all_sure_append [] us a b = b
@@ -220,7 +220,7 @@ module _ (turns : EachSlotTurns) (move : StreamsMove) (near : OwnersAreNear) (cy
         );
   }
 
-  -- and the certificate that names all starts of sure runs does
+  -- the certificate that names all starts of sure runs covers the item
   all_cover : (p : Page) (class : Class) (lines repeat deadline : ℕ) (item : Item) → 1 ≤ repeat → repeat ≤ 8 →
       IsLongEnough cycle lines deadline → HasSureStart cycle p.id lines repeat item →
       IsCovered cycle p (numbered class lines repeat deadline (starts_of cycle lines repeat)) item

@@ -1,4 +1,4 @@
--- Something is late exactly where some tuning slot is served by nothing.
+-- Something is late if and only if nothing serves some tuning slot.
 use Rattle.std.proofs.Common.{◌≡◌, ℕ, ◌+◌, ◌-◌, ◌*◌, ◌/◌, ◌%◌, ◌<◌, ◌≤◌, ℤ, pos, negsuc, ◌+ℤ◌, ◌<ℤ◌, ◌≤ℤ◌, true, nat_lt, List, [], ◌∷◌, length}
 use Rattle.std.proofs.Common.{slice_index_or, Option, Some, None, ap, subst, inl, inr, arith}
 use Rattle.std.specs.List.{AllByRecursion, Contains}
@@ -37,7 +37,7 @@ module _ (n : ℕ) (starts : List ℕ) (rising : Rising starts) (within : (i : �
   abbrev at : ℕ → ℕ
   at i = slice_index_or starts i 0
 
-  -- greater starts have greater places
+  -- greater starts have greater indexes
   place_after : (i j : ℕ) → i < length starts → at i < at j → i < j
   place_after i j lt more = elim (cases_lt i j) as (λ _. i < j) [
     | inl less ↦ less
@@ -53,7 +53,7 @@ module _ (n : ℕ) (starts : List ℕ) (rising : Rising starts) (within : (i : �
     | inr ge ↦ let e : i ≡ j = omega arith in let same : at i ≡ at j = ap at e in omega arith
   ]
 
-  -- no named slot stands between a named start and the next one
+  -- no named slot is between a named start and the next one
   next_is_least : (i m : ℕ) → i < length starts → at i < m → Contains starts (m % n) → next_start n starts i ≤ℤ pos m
   next_is_least i m lt more named =
       let a = at_from_Contains starts (m % n) named in
@@ -104,7 +104,7 @@ module _ (laws : StartLaws) (cycle : List (List ℕ)) (some : 1 ≤ length cycle
   inside : (i : ℕ) → i < length starts → slice_index_or starts i 0 < n
   inside i lt = (sure (slice_index_or starts i 0) (Contains-get_or starts i 0 lt)).0
 
-  -- the run from a named start, and from where it comes again
+  -- the run from a named start, and from its repetitions
   abbrev HasRun : ℤ → Type 0
   HasRun i = (rest : List ℤ) × IsRun (repeated cycle) p.id w.repeat item i rest
 
@@ -134,7 +134,7 @@ module _ (laws : StartLaws) (cycle : List (List ℕ)) (some : 1 ≤ length cycle
     | inr ge ↦ let e : j ≡ i = omega (arith, ints) in subst (λ x. EndsBelow (repeated cycle) p.id w.repeat item x (end +ℤ pos 1)) e later
   ]
 
-  -- the slot after the owner of a late start
+  -- the slot after the owner of a late start is not served
   unserved : (start : ℕ) → LateAt cycle p w item start → (tau : ℤ) × (IsServed cycle p w item tau → ⊥)
   unserved start l = (
     l.owner +ℤ pos 1,
@@ -164,7 +164,7 @@ module _ (laws : StartLaws) (cycle : List (List ℕ)) (some : 1 ≤ length cycle
       from_next i lt {x = pos m} more c = next_is_least n starts rising inside i m lt (omega (arith, ints)) c
       from_next i lt {x = negsuc m} more c = absurd (omega (arith, ints))
 
-  -- with each start sure, a tuning slot that isn't served tells a late one
+  -- if each start is sure, a tuning slot that is not served yields a late start
   late : (tau : ℤ) → (IsServed cycle p w item tau → ⊥) → (start : ℕ) × LateAt cycle p w item start
   late tau none =
       let one = some_run w.repeat item repeats in

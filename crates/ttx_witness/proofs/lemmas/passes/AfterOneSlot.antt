@@ -29,7 +29,7 @@ use Rattle.ttx_witness.proofs.lemmas.passes.SentPlaces.{placed_more}
 use Rattle.ttx_witness.proofs.lemmas.sent.ItemPlaces.{placed_item}
 use Rattle.ttx_witness.proofs.lemmas.passes.GrowingLists.{one_longer, here, same_before, owner_before, sent_grown, below_same, below_more}
 
--- a run has eight transmissions at most
+-- a run has at most eight transmissions
 pub short_run : (w : Certificate) → IsCertificate w → (item : Item) (k : ℕ) → run_length w.repeat item ≡ suc k → k < 8
 short_run w is TheHead k e = let r = is.few_repeats in omega arith
 short_run w is (TheRow r) k e = let r = is.few_repeats in omega arith
@@ -103,7 +103,7 @@ module _ (w : Certificate) (is : IsCertificate w) (p : Page) (i : ℕ) (sent : O
       ≡ sent_scan p.id w.lines item (repeated more) entry (length more)
   grown item it = sent_grown y z p.id w.lines item entry owner (sent_of i item sent) k at_end right (told item it)
 
-  -- what the slots send, once one more is taken
+  -- what the slots send after one more slot
   pub listed_more : (item : Item) → IsItem item → (old new : List (Option Sent)) → new ≡ old ++ sent ∷ [] →
       placed_in (place_of_item i item) old ≡ sent_scan p.id w.lines item (repeated y) entry (length y) →
       placed_in (place_of_item i item) new ≡ sent_scan p.id w.lines item (repeated more) entry (length more)
@@ -121,7 +121,7 @@ module _ (w : Certificate) (is : IsCertificate w) (p : Page) (i : ℕ) (sent : O
       ∙ ap (λ o. sends p.id item (packet_of (repeated more (pos (length y)))) (is_mine o))
       (right ∙ sym (owner_before y z p.id entry (length y) (omega arith)))
 
-  -- what was wrong below stays
+  -- what was wrong in the earlier slots stays wrong
   wrong_before : (check : Check) (j : ℕ) → j < length y → SendsWrong p (repeated y) entry check j ↔ SendsWrong p (repeated more) entry check j
   wrong_before check j lt =
       let s = same_before y z j lt in

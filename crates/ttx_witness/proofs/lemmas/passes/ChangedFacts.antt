@@ -1,4 +1,4 @@
--- Facts of pages, of which at most one changes.
+-- The facts of pages; one slot changes those of at most one page.
 use Rattle.std.proofs.Common.{◌≡◌, ◌⊎◌, ℕ, ◌<◌, ◌≤◌, pos, Bool, true, false, ◌&&◌, ◌==◌, List, length, map, set, slice_get, Option, Some, None, refl}
 use Rattle.std.proofs.Common.{sym, ap, ◌∙◌, subst, inl, inr, arith, eqb-true, eq-eqb}
 use Rattle.std.proofs.lemmas.Bool.{cases_Bool, both_ways}
@@ -46,13 +46,13 @@ and_false true b e = e
 and_false false b e = refl
 
 module _ (limit : ℕ) (pages : List PageValue) (s : Sent) (slot : List ℕ) (j : ℕ) (all : List Facts) where
-  -- another page
+  -- the facts of another page
   pub noted_other : (i : ℕ) (p : Page) (x : Facts) → (s.page ≡ i → ⊥) → Noted limit p (λ item. is_sent i item (Some s)) slot j x x
   noted_other i p x d = noted_none limit p (λ item. is_sent i item (Some s)) slot j x
       (λ item. and_false (item_number item == s.number) (s.page == i)
       (elim (cases_Bool (s.page == i)) as (λ _. (s.page == i) ≡ false) [ inl e ↦ absurd (d (eqb-true _ _ e)) | inr e ↦ e ]))
 
-  -- the page itself
+  -- the facts of the page itself
   pub noted_here : (q : Page) (old new : Facts) → slice_get (map page_of pages) s.page ≡ Some q → slice_get all s.page ≡ Some old →
       s.page < length all → Noted limit q (λ item. item_number item == s.number) slot j old new →
       (i : ℕ) (p : Page) (x : Facts) → slice_get (map page_of pages) i ≡ Some p → slice_get all i ≡ Some x →
@@ -78,7 +78,7 @@ module _ (limit : ℕ) (pages : List PageValue) (s : Sent) (slot : List ℕ) (j 
         }
       ]
 
-  -- no page of the list
+  -- the slot sends nothing of a listed page
   pub noted_past : (length all ≤ s.page) ⊎ (length pages ≤ s.page) → (i : ℕ) (p : Page) (x : Facts) → slice_get (map page_of pages) i
       ≡ Some p → slice_get all i ≡ Some x →
       HoldsAt Facts all i (Noted limit p (λ item. is_sent i item (Some s)) slot j x)

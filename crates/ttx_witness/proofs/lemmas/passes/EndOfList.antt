@@ -31,7 +31,7 @@ pub empty_is : (y : List (List ℕ)) → length y ≡ 0 → y ≡ []
 empty_is [] e = refl
 empty_is (z ∷ y) e = absurd (omega arith)
 
--- the owners before a list that is the first one again
+-- the owners before a list that is the first list again
 module _ (entry owners : List (Option Owner)) (x y : List (List ℕ)) (i : ℕ) (id : Id)
     (seen : owner_for owners i id ≡ owner_scan id (repeated y) (entry_owner x id) (length y))
     (begun : owner_for entry i id ≡ entry_owner x id) (count : ℕ) (is : count ≡ length y) where

@@ -1,4 +1,4 @@
--- What the facts of a page say of the stream, once its list has ended.
+-- What the facts of a page say about the stream after the whole list.
 use Rattle.std.proofs.Common.{◌≡◌, ◌↔◌, ℕ, ◌<◌, ◌≤◌, true, false, IsTrue, is_some, List, [], ◌∷◌, length, get_or, slice_get, Option, Some, None, refl}
 use Rattle.std.proofs.Common.{sym, subst, arith}
 use Rattle.std.proofs.lemmas.List.{length-map}

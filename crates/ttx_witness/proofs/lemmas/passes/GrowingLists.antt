@@ -1,4 +1,4 @@
--- A list of slots that grows by one: what was seen of its first slots stays.
+-- A list of slots that grows by one: what was seen of its first slots stays the same.
 use Rattle.std.proofs.Common.{◌≡◌, ◌↔◌, ℕ, zero, suc, ◌+◌, ◌<◌, ◌≤◌, ℤ, pos, Bool, true, false, List, [], ◌∷◌, ◌++◌, length, get_or, slice_index_or}
 use Rattle.std.proofs.Common.{Option, Some, None, refl, sym, ap, ◌∙◌, subst, inl, inr, arith, mod-eq_of_lt, length-append}
 use Rattle.std.proofs.lemmas.Bool.{cases_lt}
@@ -64,7 +64,7 @@ module _ (y : List (List ℕ)) (z : List ℕ) where
       let in_more : j < length more = omega arith in
       ap (λ n. slice_index_or more n []) (mod-eq_of_lt in_more) ∙ get_before y z [] j lt ∙ ap (λ n. slice_index_or y n []) (sym (mod-eq_of_lt lt))
 
-  -- where the new slot stands
+  -- the new slot is at the end
   pub here : repeated more (pos (length y)) ≡ z
   here = let l = one_longer in let in_more : length y < length more = omega arith
       in ap (λ n. slice_index_or more n []) (mod-eq_of_lt in_more) ∙ get_last y z []

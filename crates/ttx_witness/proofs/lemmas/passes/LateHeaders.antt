@@ -1,4 +1,4 @@
--- What the headers kept of a list tell, once the list has ended.
+-- What the headers kept of a list say after the whole list.
 use Rattle.std.proofs.Common.{◌≡◌, ℕ, ℤ, pos, ◌+ℤ◌, true, false, Bool, int_lt, unsigned_abs, if◌then◌else◌, List, [], ◌∷◌, Option, Some, None, refl}
 use Rattle.std.proofs.Common.{◌∙◌}
 use Rattle.ttx_witness.specs.laws.JudgingLaws.{late_before, late_header}
@@ -7,7 +7,7 @@ use Rattle.ttx_witness.specs.declared.passes.page_facts.Heads.{Heads}
 use Rattle.ttx_witness.specs.passes.PageFacts.{late_of, late_in}
 use Rattle.ttx_witness.specs.passes.PageFacts.{heads_of}
 
--- the headers kept tell the first late one
+-- the first late header, from the headers kept
 abbrev late_at_end : ℕ → ℤ → Option Heads → Option ℕ
 late_at_end lim end None = None
 late_at_end lim end (Some h) = late_in lim end h h.late

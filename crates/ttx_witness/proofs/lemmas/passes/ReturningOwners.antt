@@ -1,4 +1,4 @@
--- A second pass that ends as it began: the owners before it are the list's own.
+-- If a second pass ends with the owners with which it began, these are the list's own.
 use Rattle.std.proofs.Common.{◌≡◌, ◌⊎◌, ◌↔◌, ℕ, zero, suc, ◌<◌, ◌≤◌, ℤ, pos, ◌+ℤ◌, ◌-ℤ◌, Bool, true, false, if◌then◌else◌, List, length, slice_get}
 use Rattle.std.proofs.Common.{Option, Some, None, refl, sym, ap, ◌∙◌, subst, inl, inr, arith}
 use Rattle.std.proofs.lemmas.Int.{ints}
@@ -22,7 +22,7 @@ use Rattle.ttx_witness.specs.passes.PageFacts.{FirstBelow, SendsWrong, SendsWron
 use Rattle.ttx_witness.specs.passes.Passing.{AreKept, pass_pages, certificate}
 use Rattle.ttx_witness.specs.declared.passes.passing.Pass.{Pass}
 
--- a scan has met a header and forgotten its entry, or met none
+-- a scan has met a header and no longer depends on its entry, or has met none
 abbrev Forgets : Option PageOwner → Option PageOwner → Option PageOwner → Type 0
 Forgets entry from from_none = (from ≡ from_none) ⊎ (SameSlot entry from × (from_none ≡ None))
 
@@ -51,7 +51,7 @@ not_later n some None (Some p) h e = absurd h
 not_later n some (Some o) None h e = absurd h
 not_later n some (Some o) (Some p) h e = let s : (p.slot +ℤ (pos 0 -ℤ pos n)) ≡ o.slot = ap slot_in e in absurd (omega (arith, ints))
 
--- an entry that a pass leaves as it was is the list's own
+-- an entry that a pass leaves unchanged is the list's own
 pub steady_entry : (y : List (List ℕ)) → 1 ≤ length y → (id : Id) (entry : Option PageOwner) →
     owner_moved (pos 0 -ℤ pos (length y)) (owner_scan id (repeated y) entry (length y)) ≡ entry → entry ≡ entry_owner y id
 steady_entry y some id entry steady = elim (scan_forgets id (repeated y) entry (length y)) as (λ _. entry ≡ entry_owner y id) [
@@ -60,7 +60,7 @@ steady_entry y some id entry steady = elim (scan_forgets id (repeated y) entry (
       ∙ sym (ap (owner_moved (pos 0 -ℤ pos (length y))) h.1)
 ]
 
--- and the list's own is one
+-- and a pass leaves the list's own entry unchanged
 pub own_entry : (y : List (List ℕ)) (id : Id) → owner_moved (pos 0 -ℤ pos (length y))
     (owner_scan id (repeated y) (entry_owner y id) (length y)) ≡ entry_owner y id
 own_entry y id = elim (scan_forgets id (repeated y) (entry_owner y id) (length y)) as
@@ -71,7 +71,7 @@ own_entry y id = elim (scan_forgets id (repeated y) (entry_owner y id) (length y
           ap (λ e. owner_moved (pos 0 -ℤ pos (length y)) (owner_scan id (repeated y) e (length y))) none
     ]
 
--- what is kept under equal entries
+-- what is kept is the same for equal entries
 pub kept_same : (pass : Pass) (a b : Id → Option PageOwner) (y : List (List ℕ)) →
     ((i : ℕ) (p : Page) → slice_get (pass_pages pass) i ≡ Some p → a p.id ≡ b p.id) → AreKept pass a y → AreKept pass b y
 kept_same pass a b y same k = record {
@@ -87,7 +87,7 @@ kept_same pass a b y same k = record {
   others = k.others;
 }
 
--- the first wrong slot of a period is the stream's
+-- the first wrong slot of a period is that of the stream
 pub wrong_first : (y : List (List ℕ)) → 1 ≤ length y → (p : Page) (check : Check) (o : Option ℕ) →
     FirstBelow (SendsWrong p (repeated y) (entry_owner y p.id) check) (length y) o → TellsFirst y (WrongAt (repeated y) p check) o
 wrong_first y some p check o f = go o f

@@ -29,7 +29,7 @@ not_here : (n : ℕ) (sent : Option Sent) → (sends_place n sent ≡ true → �
 not_here n sent never = elim (cases_Bool (sends_place n sent)) as
     (λ _. placed_at n sent ≡ []) [ inl e ↦ absurd (never e) | inr e ↦ ap (λ b. if b then told sent else []) e ]
 
--- slots that don't send the item
+-- slots that do not send the item
 placed_skip : (n : ℕ) (slots : List (Option Sent)) (from to : ℕ) → from ≤ to → ((j : ℕ) → from ≤ j → j < to → SendsAt slots n j → ⊥) →
     placed_in n (take to slots) ≡ placed_in n (take from slots)
 unfolding placed_in
@@ -52,6 +52,6 @@ module _ (n : ℕ) (slots : List (Option Sent)) (from : ℕ) where
       ∙ ap (λ ts. ts ++ placed_at n (get_or slots j None)) (placed_skip n slots from j next.0 next.3)
       ∙ ap (λ b. placed_in n (take from slots) ++ (if b then told (get_or slots j None) else [])) next.2
 
-  -- or to the end, where there is none
+  -- or to the end, if there is none
   pub placed_last : from ≤ length slots → IsNext (SendsAt slots n) from (length slots) None → placed_in n (take from slots) ≡ placed_in n slots
   placed_last le none = sym (placed_skip n slots from (length slots) le none) ∙ ap (placed_in n) (take_whole (length slots) slots (omega arith))

@@ -1,4 +1,4 @@
--- The transmissions that follow a period, in what is held of them.
+-- The transmissions that follow a period, from what is held of the period.
 use Rattle.std.proofs.Common.{◌≡◌, ℕ, zero, suc, ◌+◌, ◌-◌, ◌<◌, ◌≤◌, false, if◌then◌else◌, ◌==◌, List, [], ◌∷◌, ◌++◌, take, drop, length, Option}
 use Rattle.std.proofs.Common.{Some, None, refl, sym, ap, ◌∙◌, subst, inl, inr, arith, append_assoc, length-append}
 use Rattle.std.specs.List.{AllByRecursion}
@@ -98,7 +98,7 @@ module _ (k n i : ℕ) (ts : List Transmission) (rs : List Run) where
       ∙ further_take n k ts in
       r.runs ∙ ap (λ x. ended k (ts ++ x)) e
 
--- before the first of them
+-- before the first of these transmissions
 pub round_begins : (k n : ℕ) (ts : List Transmission) (held : Held) → IsRecent k ts held → IsRound k n 0 ts (ended k ts) held
 round_begins k n ts held i = record {
   more = [];
@@ -108,7 +108,7 @@ round_begins k n ts held i = record {
   rest = let z : k - 0 ≡ k = omega arith in ap (λ x. further n x held.firsts) z ∙ ap (further n k) i.firsts;
 }
 
--- where there is none, none follows
+-- if none is held, none follows
 pub round_empty : (k n : ℕ) (ts : List Transmission) (held : Held) → IsRecent k ts held → length held.firsts ≡ 0 →
     ended k ts ≡ runs n k ts
 round_empty k n ts held i e =

@@ -43,7 +43,7 @@ unfolding confirmed_runs
 chosen_no starts next r rs e = cond_both (is_next starts next r) _ _ (λ x. x ≡ confirmed_runs starts next rs)
     (λ f. absurd (both_ways _ e f)) (λ _. refl)
 
--- only the confirmed_runs runs count
+-- only the runs that confirm a start count
 pub marked_chosen : (limit : ℕ) (starts : List ℕ) (m : Progress) (rs : List Run) → after_runs limit starts m rs
     ≡ after_runs limit starts m (confirmed_runs starts m.next rs)
 unfolding after_runs confirmed_runs
@@ -61,7 +61,7 @@ marked_chosen limit starts m (r ∷ rs) = elim (cases_Bool (is_next starts m.nex
           ∙ ap (after_runs limit starts m) (sym (chosen_no starts m.next r rs e))
     ]
 
--- each is the next in turn
+-- each run is the next in turn
 abbrev pub Matches : List ℕ → ℕ → List Run → Type 0
 Matches starts next [] = Unit {0}
 Matches starts next (r ∷ rs) = (is_next starts next r ≡ true) × Matches starts (next + 1) rs
@@ -72,7 +72,7 @@ chosen_match starts next [] = tt
 chosen_match starts next (r ∷ rs) = cond_both (is_next starts next r) _ _ (Matches starts next)
     (λ e. (e, chosen_match starts (next + 1) rs)) (λ e. chosen_match starts next rs)
 
--- how far the cursor comes
+-- how far the cursor goes
 pub marked_next : (limit : ℕ) (starts : List ℕ) (m : Progress) (rs : List Run) → (after_runs limit starts m rs).next ≡ m.next
     + length (confirmed_runs starts m.next rs)
 unfolding after_runs confirmed_runs
@@ -102,7 +102,7 @@ none_is (Some x) e = cc
 is_none_of : {A : Type 0} (o : Option A) → o ≡ None → is_none o ≡ true
 is_none_of o e = ap is_none e
 
--- one pair
+-- one pair of runs
 late_one : (limit : ℕ) (starts : List ℕ) (m : Progress) (end : ℤ) → 1 ≤ m.next → (late_after limit starts m end ≡ None)
     ↔ ((m.late ≡ None) × (end ≤ℤ (m.previous +ℤ pos limit)))
 late_one limit starts m end some = cond_both (m.next == 0) _ _ (λ x. (x ≡ None) ↔ ((m.late ≡ None) × (end ≤ℤ (m.previous +ℤ pos limit))))
@@ -122,7 +122,7 @@ late_one limit starts m end some = cond_both (m.next == 0) _ _ (λ x. (x ≡ Non
       | inr f ↦ omega (arith, ints)
     ]
 
--- a chain of runs that are taken, and the one after them: none is late exactly where they are in step
+-- a chain of confirming runs, and the one after them: none is late if and only if each follows in time
 pub late_chain : (limit : ℕ) (starts : List ℕ) (m : Progress) (r : Run) (rs : List Run) (z : Run) → 1 ≤ m.next → m.previous ≡ r.owner →
     Matches starts m.next rs →
     (late_after limit starts (after_runs limit starts m rs) z.end ≡ None) ↔ ((m.late ≡ None) × FollowInTime limit r (rs ++ z ∷ []))
@@ -151,7 +151,7 @@ first_end_kept limit starts m (q ∷ rs) some a =
     ∙ first_end_kept limit starts (taken limit starts m q) rs (omega arith) a.1
     ∙ cond_both (m.next == 0) q.end m.first_end (λ x. x ≡ m.first_end) (λ e. let z = eqb-true _ _ e in absurd (omega arith)) (λ e. refl)
 
--- all runs of a period and the first of the next are in step exactly where nothing is late at the end
+-- the runs of a period and the first of the next follow in time if and only if nothing is late at the end
 pub late_round : (limit : ℕ) (starts : List ℕ) (n : ℕ) (g : Run) (rs : List Run) → Matches starts 0 (g ∷ rs) → let m =
     after_runs limit starts not_begun (g ∷ rs) in
     (late_after limit starts m (m.first_end +ℤ pos n) ≡ None) ↔ FollowInTime limit g (rs ++ moved_run (pos n) g ∷ [])
@@ -168,7 +168,7 @@ late_round limit starts n g rs a =
     ∙ ap (λ x. late_after limit starts (after_runs limit starts m1 rs) (x +ℤ pos n)) f in
     ((λ q. (i.0 (sym e ∙ q)).1), (λ st. e ∙ i.1 (refl, st)))
 
--- what it is to be the next
+-- when a start is the next
 abbrev pub named_at : List ℕ → ℕ → ℤ
 named_at starts i = pos (slice_index_or starts i 0)
 
@@ -207,7 +207,7 @@ abbrev pub RisesFrom : ℤ → List Run → Type 0
 RisesFrom low [] = Unit {0}
 RisesFrom low (r ∷ rs) = (low ≤ℤ r.start) × RisesFrom (r.start +ℤ pos 1) rs
 
--- no run of the list is good and begins at the start
+-- no run of the list is sure and begins at the start
 abbrev pub NoneFor : ℤ → List Run → Type 0
 NoneFor x rs = AllByRecursion (λ r. r.start ≡ x → r.sure ≡ true → ⊥) rs
 
@@ -227,7 +227,7 @@ chosen_past starts next low (r ∷ rs) lt a = elim (cases_Bool (is_next starts n
   | inr e ↦ chosen_no starts next r rs e ∙ chosen_past starts next (r.start +ℤ pos 1) rs (let b = a.0 in omega (arith, ints)) a.1
 ]
 
--- where the cursor stops, its start has no good run
+-- the start at which the cursor stops has no sure run
 pub stuck : (starts : List ℕ) → Rising starts → (next : ℕ) (low : ℤ) (rs : List Run) → RisesFrom low rs →
     (next < length starts → low ≤ℤ named_at starts next) →
     (at : ℕ) → at ≡ next + length (confirmed_runs starts next rs) → at < length starts → NoneFor (named_at starts at) rs
@@ -309,7 +309,7 @@ late_not limit starts m end e = cond_both (m.next == 0) _ _ (λ z. z ≡ m.late)
     (λ _. cond_both (is_none m.late && int_lt (m.previous +ℤ pos limit) end) _ _ (λ z. z ≡ m.late)
     (λ t. absurd (both_ways _ e ((and_parts _ _ t).1))) (λ _. refl))
 
--- what is late is the first of the chain
+-- the late start is the first one of the chain
 pub late_is_first : (limit : ℕ) (starts : List ℕ) (m : Progress) (r : Run) (rs : List Run) (z : Run) (at : ℕ) → m.next ≡ at + 1 →
     m.previous ≡ r.owner → m.late ≡ None → Matches starts m.next rs →
     late_after limit starts (after_runs limit starts m rs) z.end ≡ first_late limit starts at r (rs ++ z ∷ [])

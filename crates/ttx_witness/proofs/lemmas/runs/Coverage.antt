@@ -1,4 +1,4 @@
--- The pass over one period decides what the named starts cover.
+-- One pass over a period decides what the named starts cover.
 use Rattle.std.proofs.Common.{◌≡◌, ◌↔◌, ℕ, suc, ◌+◌, ◌-◌, ◌%◌, ◌<◌, ℤ, pos, negsuc, ◌+ℤ◌, ◌-ℤ◌, ◌<ℤ◌, ◌≤ℤ◌, List, length, slice_index_or, None, refl}
 use Rattle.std.proofs.Common.{sym, ap, ◌∙◌, subst, inl, inr, arith, mod-eq_of_lt}
 use Rattle.std.specs.List.{Contains}
@@ -93,7 +93,7 @@ module _ (Owned Sure : ℤ → ℤ → Type 0) (n k limit : ℕ) (law : Repeats 
   pub decides : Passes n k limit starts ts ↔ Covers Owned Sure n (suc k) limit starts
   decides = (passes_covers, covers_passes)
 
--- a further start that is the start of a sure run leaves what is covered covered
+-- naming a further start of a sure run keeps covered what is covered
 pub more_cover : (Owned Sure : ℤ → ℤ → Type 0) (n k limit : ℕ) (starts more : List ℕ) →
     ((start : ℕ) → Contains starts start → Contains more start) →
     ((start : ℕ) → Contains more start → (start < n) × BeginsSureRun Owned Sure k (pos start)) →

@@ -1,4 +1,4 @@
--- What holds in one period and is kept by a step of a period either way holds everywhere.
+-- What holds in one period, and is kept by a step of one period either way, holds everywhere.
 use Rattle.std.proofs.Common.{◌≡◌, ℕ, zero, suc, ◌≤◌, ℤ, pos, ◌+ℤ◌, ◌-ℤ◌, ◌<ℤ◌, ◌≤ℤ◌, nat_abs, subst, inl, inr, arith}
 use Rattle.std.proofs.lemmas.Int.{ints}
 use Rattle.ttx_page.proofs.SlotDistances.{cases_ltz}

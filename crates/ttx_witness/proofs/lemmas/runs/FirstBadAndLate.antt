@@ -1,4 +1,4 @@
--- The start that a pass calls bad, and the one that it calls late, are the first such.
+-- The start that a pass reports as bad, and the one that it reports as late, are the first ones.
 use Rattle.std.proofs.Common.{◌≡◌, ◌⊎◌, ℕ, suc, ◌+◌, ◌<◌, ◌≤◌, ℤ, pos, ◌+ℤ◌, ◌<ℤ◌, true, false, int_lt, nat_lt, List, [], ◌∷◌, ◌++◌, length}
 use Rattle.std.proofs.Common.{slice_index_or, Option, Some, None, refl, sym, ap, ◌∙◌, subst, inl, inr, arith}
 use Rattle.std.specs.List.{AllByRecursion}
@@ -20,7 +20,7 @@ module _ (Owned Sure : ℤ → ℤ → Type 0) (n k limit : ℕ) (law : Repeats 
   abbrev Is : Run → Type 0
   Is = IsRunOf Owned Sure (suc k)
 
-  -- the runs of the starts from the i-th on, and that of the first a period later
+  -- the runs from the i-th start on, and from the first start one period later
   Chain : ℕ → Run → List Run → Type 0
   Chain i r [] = i ≡ length starts
   Chain i r (q ∷ qs) = (i < length starts) × Is r × (r.start ≡ named_at starts i) × Is q × (q.start ≡ next_start n starts i) × Chain (i + 1) q qs
@@ -48,7 +48,7 @@ module _ (Owned Sure : ℤ → ℤ → Type 0) (n k limit : ℕ) (law : Repeats 
         chain_of (i + 1) q rs z x.within each.0 (sym x.start) m.1 (omega arith) each.1 b e,
       )
 
-  -- one pair
+  -- one pair of runs
   is_late : (i : ℕ) (r q : Run) → i < length starts → Is r → r.start ≡ named_at starts i → Is q → q.start ≡ next_start n starts i →
       int_lt (r.owner +ℤ pos limit) q.end ≡ true → Late i
   is_late i r q lt a at b next e = record {
@@ -116,7 +116,7 @@ module _ (Owned Sure : ℤ → ℤ → Type 0) (n k limit : ℕ) (law : Repeats 
           b.bad ((let h : named_at starts j <ℤ pos n = g.0 in let m : slice_index_or starts j 0 < n = omega (arith, ints) in m), g.1)),
     )
 
-    -- or at the end, where none is bad
+    -- or at the end, if none is bad
     pub none_bad : final.next ≡ length starts → (j : ℕ) → Bad j → ⊥
     none_bad all j b =
         let g = D.complete Owned Sure n k law starts rising limit ts told all j b.within in
@@ -127,7 +127,7 @@ module _ (Owned Sure : ℤ → ℤ → Type 0) (n k limit : ℕ) (law : Repeats 
         let e = marked_next limit starts not_begun (runs n k ts) in
         let b = match_bound starts 0 (confirmed_runs starts 0 (runs n k ts)) (chosen_match starts 0 (runs n k ts)) (omega arith) in omega arith
 
-    -- where none is bad, what is late at the end is the first late start
+    -- if none is bad, the start that is late at the end is the first late one
     pub late_first : final.next ≡ length starts → 0 < length starts → IsFirst Late starts (late_after limit starts final (final.first_end +ℤ pos n))
     unfolding after_runs
     late_first all one = go (confirmed_runs starts 0 (runs n k ts)) (chosen_match starts 0 (runs n k ts))

@@ -6,7 +6,7 @@ use Rattle.ttx_page.proofs.SlotDistances.{cases_ltz}
 module _ (Start : ℤ → Type 0) (owner last : (i : ℤ) → Start i → ℤ) (period window : ℕ)
     -- a start's owner is at most a period before it
     (near : (i : ℤ) (a : Start i) → i ≤ℤ (owner i a +ℤ pos period)) where
-  -- a later start whose run ends a window after this start's owner at the latest
+  -- a later start whose run ends at most one window after this start's owner
   pub record HasNext (i : ℤ) (a : Start i) : Type 0 where
     pub next : ℤ
     pub start : Start next
@@ -29,6 +29,6 @@ module _ (Start : ℤ → Type 0) (owner last : (i : ℤ) → Start i → ℤ) (
           | inr ge ↦ record { at = g.next; start = g.start; not_before = ge; ends = let k = g.in_time in omega (arith, ints) }
         ]
 
-    -- an early start gives one in time
+    -- from an early start on, some start is in time
     pub in_time_from : (i : ℤ) (a : Start i) → owner i a <ℤ tau → IsInTime tau
     in_time_from i a early = from_early (nat_abs ((tau +ℤ pos period) -ℤ i)) i a early (omega (arith, ints))

@@ -1,4 +1,4 @@
--- The least limit in which runs follow in time, and the least deadline.
+-- The least limit within which runs follow one another in time, and the least deadline.
 use Rattle.std.proofs.Common.{◌↔◌, ℕ, ◌≤◌, max, ℤ, pos, negsuc, ◌+ℤ◌, ◌-ℤ◌, ◌≤ℤ◌, List, [], ◌∷◌, arith}
 use Rattle.std.proofs.lemmas.Int.{ints}
 use Rattle.ttx_witness.specs.runs.Transmissions.{Run}

@@ -1,4 +1,4 @@
--- A stream that is the same d slots later: its runs are too.
+-- If a stream is the same d slots later, then so are its runs.
 use Rattle.std.proofs.Common.{◌≡◌, ℕ, suc, ℤ, pos, ◌+ℤ◌, ◌-ℤ◌, ◌<ℤ◌, List, [], ◌∷◌, map, ap, ◌∙◌, subst, arith}
 use Rattle.std.specs.List.{AllByRecursion}
 use Rattle.std.proofs.lemmas.List.{length-map}
@@ -70,7 +70,7 @@ module _ (Owned Sure : ℤ → ℤ → Type 0) (k : ℕ) (d b : ℤ) (other : d 
     );
   }
 
--- a period later, and a period earlier
+-- one period later, and one period earlier
 module _ (Owned Sure : ℤ → ℤ → Type 0) (n k : ℕ) (law : Repeats n Owned Sure) where
   abbrev pub minus : ℤ
   minus = pos 0 -ℤ pos n

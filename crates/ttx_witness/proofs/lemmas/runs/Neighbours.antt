@@ -1,4 +1,4 @@
--- Every tuning slot is served exactly where named runs that are neighbours follow one another in time.
+-- Every tuning slot is served if and only if neighbouring named runs follow one another in time.
 use Rattle.std.proofs.Common.{◌≡◌, ◌↔◌, ℕ, zero, suc, ℤ, pos, ◌+ℤ◌, ◌-ℤ◌, ◌<ℤ◌, ◌≤ℤ◌, nat_abs, List, [], ◌∷◌, ◌++◌, length, refl, sym, ap, subst, inl}
 use Rattle.std.proofs.Common.{inr, arith}
 use Rattle.std.specs.List.{AllByRecursion}
@@ -119,12 +119,12 @@ module _ (Owned Sure : ℤ → ℤ → Type 0) (n k limit : ℕ) (law : Repeats 
   near : (i : ℤ) (a : Start i) → i ≤ℤ (start_owner i a +ℤ pos n)
   near i a = let k : a.0.start ≤ℤ (a.0.owner +ℤ pos n) = law.near a.0.owner a.0.start a.2.run.owned in subst (λ z. z ≤ℤ (a.0.owner +ℤ pos n)) a.1 k
 
-  -- some start is before any slot
+  -- some start is before any given slot
   early : (tau : ℤ) (fuel : ℕ) (r : Run) → IsOne r → r.owner <ℤ (tau +ℤ pos fuel) → (i : ℤ) × (a : Start i) × (start_owner i a <ℤ tau)
   early tau zero r a lt = let k : r.owner <ℤ tau = omega (arith, ints) in (r.start, (r, refl, a), k)
   early tau (suc fuel) r a lt = early tau fuel (moved_run back r) (named_back r a) (omega (arith, ints))
 
-  -- named runs of one period, and the first of the next
+  -- the named runs of one period, and the first of the next
   module _ (first : Run) (rest : List Run) (high : ℤ)
       (lists : Lists start_of Named IsOne (pos 0) high (first ∷ rest ++ moved_run (pos n) first ∷ [])) where
     all_next : FollowInTime limit first (rest ++ moved_run (pos n) first ∷ []) → (i : ℤ) → Named i → HasNext i
@@ -133,7 +133,7 @@ module _ (Owned Sure : ℤ → ℤ → Type 0) (n k limit : ℕ) (law : Repeats 
         (λ i h p. next_on i (h (let e : (i +ℤ pos n) -ℤ pos n ≡ i = omega (arith, ints) in subst Named e (down (i +ℤ pos n) p))))
         (λ i h p. next_back i (h (let e : (i -ℤ pos n) +ℤ pos n ≡ i = omega (arith, ints) in subst Named e (up (i -ℤ pos n) p))))
 
-    -- in step, every tuning slot is served
+    -- if each follows in time, every tuning slot is served
     pub served : FollowInTime limit first (rest ++ moved_run (pos n) first ∷ []) → (tau : ℤ) → InTime tau
     served st tau =
         let begin = early tau (suc (nat_abs (first.owner -ℤ tau))) first lists.0 (omega (arith, ints)) in
@@ -153,7 +153,7 @@ module _ (Owned Sure : ℤ → ℤ → Type 0) (n k limit : ℕ) (law : Repeats 
           ends = subst (λ z. RunEndsBelow Owned k z (tau +ℤ pos limit)) it.start.1 ((it.start.2.run.ends (tau +ℤ pos limit)).0 it.ends);
         }
 
-  -- out of step, the slot after the owner isn't served
+  -- if one does not, the slot after its owner is not served
   pub unserved : (r next : Run) → IsOne r → IsOne next → r.start <ℤ next.start → ((x : ℤ) → r.start <ℤ x → x <ℤ next.start → Named x → ⊥) →
       (r.owner +ℤ pos limit) <ℤ next.end → InTime (r.owner +ℤ pos 1) → ⊥
   unserved r next a b lt none late t =
@@ -204,7 +204,7 @@ module _ (Owned Sure : ℤ → ℤ → Type 0) (n k limit : ℕ) (law : Repeats 
         (λ x low high p. absurd (omega (arith, ints))),
       )
 
-  -- the neighbour law
+  -- the law of neighbours
   pub neighbours : (first : Run) (rest : List Run) → Lists start_of Named IsOne (pos 0) (pos n) (first ∷ rest) →
       FollowInTime limit first (rest ++ moved_run (pos n) first ∷ []) ↔ ((tau : ℤ) → InTime tau)
   neighbours first rest l =

@@ -1,4 +1,4 @@
--- One transmission more, in what is held of them.
+-- One more transmission, in what is held.
 use Rattle.std.proofs.Common.{◌≡◌, ℕ, zero, suc, ◌+◌, ◌-◌, ◌<◌, ◌≤◌, if◌then◌else◌, ◌==◌, nat_lt, List, [], ◌∷◌, ◌++◌, Option, Some, None, map, take}
 use Rattle.std.proofs.Common.{drop, length, refl, sym, ap, ◌∙◌, subst, inl, inr, arith, length-append, slice_get, eqb-true, eq-eqb, unsigned_abs}
 use Rattle.std.proofs.lemmas.List.{map-append, take-append-le, length-take-le, length-drop, drop-append-le, drop-drop}
@@ -67,7 +67,7 @@ take_step {A} k ts t = elim (cases_lt (length ts) k) as
           (λ e. refl))
     ]
 
--- the run that ends with one more, where one does
+-- the run that ends with one more transmission, if there is one
 unfoldable pub run_at_end : ℕ → List Transmission → Option Run
 run_at_end k ts = if length (keep_last (suc k) ts) == suc k then Some (run_of (keep_last (suc k) ts)) else None
 
@@ -93,7 +93,7 @@ ended_step k ts t = elim (cases_lt (length ts) k) as (λ _. ended k (ts ++ t ∷
       (λ e. absurd (both_ways _ e (eq-eqb _ _ l)))
 ]
 
--- what is held after one more, by the equations of the two steps
+-- what is held after one more, from the equations of the two steps
 module _ (k : ℕ) (ts : List Transmission) (t : Transmission) (old new : Held) (held : IsRecent k ts old)
     (w : 1 ≤ old.repeat → length old.window ≤ old.repeat → new.window ≡ keep_last old.repeat (old.window ++ t ∷ [])) where
   pub window_step : new.window ≡ keep_last (suc k) (ts ++ t ∷ [])
@@ -146,7 +146,7 @@ sure_more (r ∷ rs) qs = cond_both r.sure (r ∷ sure_runs (rs ++ qs)) (sure_ru
 pub starts_more : (rs qs : List Run) → sure_starts (rs ++ qs) ≡ sure_starts rs ++ sure_starts qs
 starts_more rs qs = ap (map (λ r. unsigned_abs r.start)) (sure_more rs qs) ∙ map-append (λ r. unsigned_abs r.start) (sure_runs rs) (sure_runs qs)
 
--- what is found once more runs have ended
+-- what is found after more runs have ended
 pub found_more : (rs qs : List Run) (starts : List ℕ) (spread : Option Spread) (starts' : List ℕ) (spread' : Option Spread) →
     IsFound rs starts spread →
     starts' ≡ starts ++ sure_starts qs → spread' ≡ spread_of spread qs → IsFound (rs ++ qs) starts' spread'

@@ -1,4 +1,4 @@
--- What a track tells at the end is what is asked of the named starts.
+-- The final state of a track decides what is required of the named starts.
 use Rattle.std.proofs.Common.{◌≡◌, ◌↔◌, ℕ, zero, suc, ◌+◌, ◌<◌, ◌≤◌, ℤ, pos, ◌+ℤ◌, ◌-ℤ◌, ◌<ℤ◌, ◌≤ℤ◌, List, [], ◌∷◌, ◌++◌, map, length, slice_index_or}
 use Rattle.std.proofs.Common.{None, refl, sym, ap, ◌∙◌, subst, inl, inr, arith}
 use Rattle.std.specs.List.{AllByRecursion}
@@ -38,7 +38,7 @@ module _ (Owned Sure : ℤ → ℤ → Type 0) (n k : ℕ) (law : Repeats n Owne
     | inr ge ↦ rw (windows_yes (suc k) t ts ge) (l.1, rises_windows (t.slot +ℤ pos 1) high ts l.4)
   ]
 
-  -- the slots of a period that hold a transmission each begin a run
+  -- each slot of a period that is a transmission begins a run
   missing : (low high x : ℤ) (ts us : List Transmission) → length us ≡ k → AreSent Owned Sure low high ts → low ≤ℤ x → x <ℤ high →
       BeginsSureRun Owned Sure (suc k) x → IsSentAt Owned x → AllByRecursion (IsRunOf Owned Sure (suc k)) (map run_of (windows (suc k) (ts ++ us))) →
       NoneFor x (map run_of (windows (suc k) (ts ++ us))) → ⊥
@@ -77,7 +77,7 @@ module _ (Owned Sure : ℤ → ℤ → Type 0) (n k : ℕ) (law : Repeats n Owne
             (subst (λ x. x <ℤ pos n) w b.0, subst (BeginsSureRun Owned Sure (suc k)) w (a.0.sure.0 q.sure))
       ]
 
-  -- what the starts of the list below n name in the stream
+  -- the starts of the list below n, as named starts of the stream
   module _ (starts : List ℕ) (rising : Rising starts) (limit : ℕ) (ts : List Transmission) (told : AreSent Owned Sure (pos 0) (pos n) ts) where
     abbrev all_runs : List Run
     all_runs = runs n k ts
@@ -110,7 +110,7 @@ module _ (Owned Sure : ℤ → ℤ → Type 0) (n k : ℕ) (law : Repeats n Owne
         go (t ∷ ts) l a none = missing (pos 0) (pos n) x (t ∷ ts) (further n k (t ∷ ts))
             (length_further n k (t ∷ ts) (omega arith)) l from below h (sent_of x h) a none
 
-    -- where the cursor stops short, its start has no sure run
+    -- if the cursor stops before the end, the start at which it stops has no sure run
     pub stops : (at : ℕ) → at ≡ final.next → at < length starts → named_at starts at <ℤ pos n →
         BeginsSureRun Owned Sure (suc k) (named_at starts at) → ⊥
     stops at is lt below h = not_missing (named_at starts at) (omega (arith, ints)) below h
@@ -129,7 +129,7 @@ module _ (Owned Sure : ℤ → ℤ → Type 0) (n k : ℕ) (law : Repeats n Owne
     pub picked : List Run
     picked = confirmed_runs starts 0 all_runs
 
-    -- each start before it is that of a sure run
+    -- each start before it has a sure run
     pub before_stop : (i : ℕ) → i < final.next → (named_at starts i <ℤ pos n) × BeginsSureRun Owned Sure (suc k) (named_at starts i)
     unfolding picked
     before_stop i lt =
@@ -137,7 +137,7 @@ module _ (Owned Sure : ℤ → ℤ → Type 0) (n k : ℕ) (law : Repeats n Owne
         good_at starts 0 picked (chosen_match starts 0 all_runs) (all_chosen (IsRunOf Owned Sure (suc k)) starts 0 all_runs are)
         (all_chosen (λ r. r.start <ℤ pos n) starts 0 all_runs runs_below) i (omega arith) (omega arith)
 
-    -- where it comes to the end, each start is that of a good run
+    -- if it reaches the end, each start has a sure run
     pub complete : final.next ≡ length starts → (i : ℕ) → i < length starts → (named_at starts i <ℤ pos n)
         × BeginsSureRun Owned Sure (suc k) (named_at starts i)
     unfolding picked
@@ -146,7 +146,7 @@ module _ (Owned Sure : ℤ → ℤ → Type 0) (n k : ℕ) (law : Repeats n Owne
         good_at starts 0 picked (chosen_match starts 0 all_runs) (all_chosen (IsRunOf Owned Sure (suc k)) starts 0 all_runs are)
         (all_chosen (λ r. r.start <ℤ pos n) starts 0 all_runs runs_below) i (omega arith) (omega arith)
 
-    -- the named slots are the starts, round the cycle
+    -- the named slots are the starts and their repetitions
     module _ (Named : ℤ → Type 0) (up : (i : ℤ) → Named i → Named (i +ℤ pos n)) (down : (i : ℤ) → Named i → Named (i -ℤ pos n))
         (named_is : (i : ℕ) → i < length starts → Named (named_at starts i))
         (named_in : (x : ℤ) → pos 0 ≤ℤ x → x <ℤ pos n → Named x → (i : ℕ) × (i < length starts) × (x ≡ named_at starts i)) where
@@ -185,14 +185,14 @@ module _ (Owned Sure : ℤ → ℤ → Type 0) (n k : ℕ) (law : Repeats n Owne
                 a.1 b.1,
           )
 
-      -- the runs of all starts follow in time exactly where every tuning slot is served
+      -- the runs of all starts follow one another in time if and only if every tuning slot is served
       pub follow_in_time : (g : Run) (rs : List Run) → Matches starts 0 (g ∷ rs) → length starts ≡ 0 + length (g ∷ rs) →
           AllByRecursion (IsRunOf Owned Sure (suc k)) (g ∷ rs) → AllByRecursion (λ r. r.start <ℤ pos n) (g ∷ rs) →
           FollowInTime limit g (rs ++ moved_run (pos n) g ∷ []) ↔ ((tau : ℤ) → IsInTime Owned Named (suc k) limit tau)
       follow_in_time g rs m e a b = N.neighbours Owned Sure n (suc k) limit law Named up down g rs
           (lists_from 0 (pos 0) (g ∷ rs) m (omega arith) (omega (arith, ints)) (λ i lt w. absurd (omega arith)) (λ i le w. omega (arith, ints)) a b)
 
-      -- where all starts are confirmed, none is late exactly where every tuning slot is served
+      -- if all starts are confirmed, none is late if and only if every tuning slot is served
       pub in_time : final.next ≡ length starts → 0 < length starts →
           (late_after limit starts final (final.first_end +ℤ pos n) ≡ None) ↔ ((tau : ℤ) → IsInTime Owned Named (suc k) limit tau)
       in_time all one = go (confirmed_runs starts 0 all_runs) (chosen_match starts 0 all_runs)

@@ -1,4 +1,4 @@
--- The stream's transmissions are a period's, round after round.
+-- The transmissions of the stream are those of a period, round after round.
 use Rattle.std.proofs.Common.{◌≡◌, ℕ, zero, suc, ◌≤◌, ℤ, pos, ◌+ℤ◌, ◌≤ℤ◌, List, [], ◌∷◌, ◌++◌, map, take, drop, length, refl, sym, ap, ◌∙◌, subst}
 use Rattle.std.proofs.Common.{arith, append_assoc, length-append}
 use Rattle.std.specs.List.{AllByRecursion}
@@ -77,7 +77,7 @@ module _ (P : ℤ → Type 0) (Is : Transmission → Type 0) (is_p : (t : Transm
       (subst (λ z. Lists slot_of P Is z (round_end n r +ℤ pos n) (map (later n) (rounds n r ts))) e
       (lists_later P Is is_p n is_later p_earlier (pos 0) (round_end n r) (rounds n r ts) (lists_rounds r ts l)))
 
-  -- the extended list lists the stream's transmissions
+  -- the extended list is a list of the stream's transmissions
   pub extended_lists : (k : ℕ) (ts : List Transmission) → Lists slot_of P Is (pos 0) (pos n) ts → (mid : ℤ) × (pos 0 ≤ℤ mid)
       × Lists slot_of P Is (pos 0) mid (extended n k ts)
   unfolding rounds further

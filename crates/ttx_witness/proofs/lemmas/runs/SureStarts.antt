@@ -1,4 +1,4 @@
--- The starts that a search finds, and the least limit in which they cover an item.
+-- The starts that a search finds, and the least limit with which they cover an item.
 use Rattle.std.proofs.Common.{◌≡◌, ◌⊎◌, ◌↔◌, ℕ, zero, suc, ◌+◌, ◌<◌, ◌≤◌, max, ℤ, pos, ◌+ℤ◌, ◌-ℤ◌, ◌<ℤ◌, ◌≤ℤ◌, true, List, [], ◌∷◌, ◌++◌, map, length}
 use Rattle.std.proofs.Common.{slice_index_or, Option, Some, None, unsigned_abs, refl, sym, ap, ◌∙◌, subst, inl, inr, arith}
 use Rattle.std.specs.List.{Contains, AllByRecursion}
@@ -43,7 +43,7 @@ rises_sure low (r ∷ rs) u = cond_both r.sure (r ∷ sure_runs rs) (sure_runs r
 abbrev starts_of : List Run → List ℕ
 starts_of qs = map (λ r. unsigned_abs r.start) qs
 
--- starts that rise as runs do
+-- starts rise as their runs do
 above_all : (low : ℤ) (qs : List Run) → pos 0 ≤ℤ low → RisesFrom low qs → (j : ℕ) → j < length (starts_of qs) → low ≤ℤ named_at (starts_of qs) j
 above_all low [] z u j lt = absurd (omega arith)
 above_all low (r ∷ qs) z u zero lt = let k = u.0 in let e = abs_is r.start (omega (arith, ints)) in omega (arith, ints)
@@ -61,7 +61,7 @@ rising_starts low (r ∷ qs) z u zero (suc j) lt l =
 rising_starts low (r ∷ qs) z u (suc i) (suc j) lt l =
     rising_starts (r.start +ℤ pos 1) qs (let k = u.0 in omega (arith, ints)) u.1 i j (omega arith) (omega arith)
 
--- each run is the next of its own starts
+-- each run is the next one for its own starts
 matches_own : (starts : List ℕ) (next : ℕ) (low : ℤ) (qs : List Run) → pos 0 ≤ℤ low → RisesFrom low qs → AllSure qs → next + length qs
     ≡ length starts →
     ((j : ℕ) → j < length qs → slice_index_or starts (next + j) 0 ≡ slice_index_or (starts_of qs) j 0) → Matches starts next qs
@@ -75,7 +75,7 @@ matches_own starts next low (r ∷ qs) z u s len same =
           (λ j lt. ap (λ x. slice_index_or starts x 0) (let h : (next + 1) + j ≡ next + suc j = omega arith in h) ∙ same (suc j) (omega arith)),
     )
 
--- a slot that is no start of a sure run of the list
+-- a slot that is not the start of a sure run of the list
 found_or : (x : ℕ) (low : ℤ) (rs : List Run) → pos 0 ≤ℤ low → RisesFrom low rs →
     ((i : ℕ) × (i < length (sure_starts rs)) × (slice_index_or (sure_starts rs) i 0 ≡ x)) ⊎ NoneFor (pos x) rs
 unfolding sure_runs
@@ -121,7 +121,7 @@ spread_sure s (r ∷ rs) = elim (cases_Bool r.sure) as (λ _. spread_of s (r ∷
       (λ f. absurd (both_ways _ e f)) (λ _. refl)
 ]
 
--- the greatest distance, once the run after the last is looked at
+-- the greatest distance, after the run that follows the last one is included
 pub record IsClosed (first_end end : ℤ) (width : ℕ) (s : Option Spread) : Type 0 where
   pub spread : Spread
   pub is : s ≡ Some spread
@@ -196,7 +196,7 @@ module _ (Owned Sure : ℤ → ℤ → Type 0) (n k : ℕ) (law : Repeats n Owne
   each_below : (i : ℕ) → i < length starts → slice_index_or starts i 0 < n
   each_below i lt = let h : named_at starts i <ℤ pos n = (each i lt).0 in let g : slice_index_or starts i 0 < n = omega (arith, ints) in g
 
-  -- the starts that are found are those of all sure runs of the period
+  -- the starts found are those of all sure runs of the period
   pub found_starts : (start : ℕ) → Contains starts start ↔ ((start < n) × BeginsSureRun Owned Sure (suc k) (pos start))
   found_starts start = (
     (λ h. let a = at_from_Contains starts start h in
@@ -209,7 +209,7 @@ module _ (Owned Sure : ℤ → ℤ → Type 0) (n k : ℕ) (law : Repeats n Owne
     ]),
   )
 
-  -- with no sure run nothing covers the item
+  -- without a sure run nothing covers the item
   pub found_none : spread_of None rs ≡ None → (limit : ℕ) (others : List ℕ) → Covers Owned Sure n (suc k) limit others → ⊥
   found_none e limit others c =
       let start = c.named.0 in
@@ -222,7 +222,7 @@ module _ (Owned Sure : ℤ → ℤ → Type 0) (n k : ℕ) (law : Repeats n Owne
           let z = found_closed g xs g (subst AllSure q (all_sure rs)) in
           let h : Some z.spread ≡ None = sym z.is ∙ ap (spread_of None) (sym q) ∙ sym (spread_sure None rs) ∙ e in cc
 
-  -- a further sure start leaves covered what was covered
+  -- naming all sure starts keeps covered what is covered
   pub found_more : (limit : ℕ) (others : List ℕ) → Covers Owned Sure n (suc k) limit others → Covers Owned Sure n (suc k) limit starts
   found_more limit others c = more_cover Owned Sure n (suc k) limit others starts (λ s h. (found_starts s).1 (c.sure s h))
       (λ s h. (found_starts s).0 h) c

@@ -1,4 +1,4 @@
--- The least limit of an item has an upper bound: a run of 8 transmissions spans 8 periods at the most.
+-- The least limit of an item has an upper bound: a run of 8 transmissions spans at most 8 periods.
 use Rattle.std.proofs.Common.{◌≡◌, ℕ, zero, suc, ◌+◌, ◌-◌, ◌*◌, ◌≤◌, ℤ, pos, negsuc, ◌+ℤ◌, ◌-ℤ◌, ◌≤ℤ◌, nat_le, List, [], ◌∷◌, ◌++◌, map, take, length}
 use Rattle.std.proofs.Common.{Option, Some, None, refl, sym, subst, arith}
 use Rattle.std.proofs.lemmas.Int.{ints}
@@ -32,7 +32,7 @@ further_within n (suc k) b (t ∷ ts) short w =
       subst (λ c. AllByRecursion (IsWithin c) (further n k (ts ++ later n t ∷ []))) same rest,
     )
 
--- a run's owner and end
+-- the owner and the end of a run are within a bound
 record IsRunWithin (c : ℕ) (r : Run) : Type 0 where
   owner_low : pos 0 ≤ℤ (r.owner +ℤ pos 65536)
   end_high : r.end ≤ℤ pos c
@@ -75,7 +75,7 @@ spread_within c s [] w a = w
 spread_within c s (r ∷ rs) w a = spread_within c (spread_after s r) rs
     (cond_both r.sure (Some (widened s r)) s (Within c) (λ _. widened_within c s r w a.0) (λ _. w)) a.1
 
--- the least limit of the sure runs of at most 8 transmissions
+-- the least limit for sure runs of at most 8 transmissions
 pub width_most : (n k : ℕ) (ts : List Transmission) (s : Spread) → n ≤ 65536 → k ≤ 7 → AllByRecursion (IsWithin 65536) ts →
     spread_of None (runs n k ts) ≡ Some s → width n s ≤ 655360
 width_most n k ts s short few w e =

@@ -66,7 +66,7 @@ place_below i TheHead n lt is = omega arith
 place_below i (TheRow r) n lt is = omega arith
 place_below i TheLinks n lt is = omega arith
 
--- the item in a place
+-- the item at a place
 item_for : (r : ℕ) → r < 26 → (item : Item) × IsItem item × (item_number item ≡ r)
 item_for r lt = elim (cases_lt 0 r) as (λ _. (item : Item) × IsItem item × (item_number item ≡ r)) [
   | inr low ↦ (TheHead, tt, (let e : 0 ≡ r = omega arith in e))
@@ -89,7 +89,7 @@ none_in_order = record {
 
 module _ (ids : List Id) (are : (i : ℕ) (id : Id) → slice_get ids i ≡ Some id → IsId id) (before : List (List ℕ))
     (before_is : IsCycle before) (cycle : List (List ℕ)) (is : IsCycle cycle) (lines : ℕ) where
-  -- what holds of the transmissions of each item holds of each list that is kept
+  -- what holds for the transmissions of each item holds for each list that is kept
   all_kept : (Keeps : List Transmission → Type 0) → Keeps [] →
       ((id : Id) (item : Item) → Keeps (sent_after before cycle id lines item)) → (lists : Lists) →
       AreCollected ids before cycle lines (length cycle) lists →
@@ -112,7 +112,7 @@ module _ (ids : List Id) (are : (i : ℕ) (id : Id) → slice_get ids i ≡ Some
   some : 1 ≤ length before
   some = let s = before_is.some in omega arith
 
-  -- the numbers of all that is kept are small
+  -- the numbers in all lists are small
   pub all_within : (lists : Lists) → AreCollected ids before cycle lines (length cycle) lists → (n : ℕ) → All (IsWithin 65536) (held lists n)
   all_within lists a n = all_by_place (IsWithin 65536) (held lists n) (all_kept (AllByRecursion (IsWithin 65536)) tt
       (λ id item. after_within before cycle before_is.most is.most id lines item) lists a n)
@@ -121,7 +121,7 @@ module _ (ids : List Id) (are : (i : ℕ) (id : Id) → slice_get ids i ≡ Some
   pub all_in_order : (lists : Lists) → AreCollected ids before cycle lines (length cycle) lists → (n : ℕ) → AreInOrder (held lists n)
   all_in_order = all_kept AreInOrder none_in_order (λ id item. after_in_order before cycle some is.most id lines item)
 
--- as kept for pages
+-- the lists kept for pages
 pub all_sent : (pages : List PageValue) → ((i : ℕ) (id : Id) → slice_get (ids_of pages) i ≡ Some id → IsId id) →
     (before cycle : List (List ℕ)) (lines : ℕ) (c : Collected) →
     AreCollected (ids_of pages) before cycle lines (length cycle) c.lists.items → AreSentAfter before cycle (map page_of pages) lines c
@@ -134,7 +134,7 @@ pub all_by_recursion : {A : Type 0} (P : A → Type 0) (xs : List A) → All P x
 all_by_recursion P [] h = tt
 all_by_recursion P (x ∷ xs) h = (h zero x (omega arith), all_by_recursion P xs (λ k d lt. h (suc k) d (omega arith)))
 
--- the list that is read in a place
+-- the list that is read at a place
 pub held_read : (vs : Lists) (i n : ℕ) (item : Item) (v : Vec Transmission Global) (ts : List Transmission) → ts ≡ v.items → n
     ≡ item_number item → IsItem item → i < length vs / 26 →
     v ≡ get_or vs (26 * i + n) v → ts ≡ held vs (place_of_item i item)

@@ -21,7 +21,7 @@ use Rattle.ttx_witness.proofs.lemmas.sent.StreamOwners as O
 pub period_of : (cycle : List (List ℕ)) (i : ℤ) → repeated cycle (i +ℤ pos (length cycle)) ≡ repeated cycle i
 period_of cycle i = ap (λ x. slice_index_or cycle x []) (turned_once (length cycle) i)
 
--- the words of streams are those of transmissions that repeat
+-- the definitions for streams agree with those for repeating transmissions
 module _ (s : Stream) (page : Id) (lines repeat : ℕ) (item : Item) where
   abbrev Owned : ℤ → ℤ → Type 0
   Owned = IsOwned s page item
@@ -80,13 +80,13 @@ module _ (cycle : List (List ℕ)) (some : 1 ≤ length cycle) (page : Id) (line
   pub law : Repeats (length cycle) (IsOwned (repeated cycle) page item) (IsSure (repeated cycle) lines page.mag item)
   law = repeats (repeated cycle) (length cycle) some (period_of cycle) page lines item
 
-  -- the scan of a period lists its transmissions
+  -- a scan of a period lists its transmissions
   pub sent_told : AreSent (IsOwned (repeated cycle) page item) (IsSure (repeated cycle) lines page.mag item) (pos 0)
       (pos (length cycle)) (sent_in cycle page lines item)
   sent_told = O.scan_told page (repeated cycle) lines item (entry_owner cycle page)
       (O.first_entry page (repeated cycle) (length cycle) some (period_of cycle)) (length cycle)
 
-  -- whose numbers are small
+  -- their numbers are small
   pub told_within : length cycle ≤ 65536 → (low : ℤ) → pos 0 ≤ℤ low → (ts : List Transmission) →
       AreSent (IsOwned (repeated cycle) page item) (IsSure (repeated cycle) lines page.mag item) low (pos (length cycle)) ts →
       AllByRecursion (IsWithin 65536) ts
@@ -99,7 +99,7 @@ module _ (cycle : List (List ℕ)) (some : 1 ≤ length cycle) (page : Id) (line
         told_within few (t.slot +ℤ pos 1) (omega (arith, ints)) ts l.4,
       )
 
-  -- and that come slot by slot
+  -- and they come slot by slot
   pub told_in_order : length cycle ≤ 65536 → (ts : List Transmission) →
       AreSent (IsOwned (repeated cycle) page item) (IsSure (repeated cycle) lines page.mag item) (pos 0) (pos (length cycle)) ts → AreInOrder ts
   told_in_order few ts l = record {
@@ -108,7 +108,7 @@ module _ (cycle : List (List ℕ)) (some : 1 ≤ length cycle) (page : Id) (line
     rising = lists_rise slot_of _ _ (pos 0) (pos (length cycle)) ts l;
   }
 
--- a cycle's coverage is that of its transmissions
+-- the coverage of a cycle is that of its transmissions
 module _ (cycle : List (List ℕ)) (p : Page) (w : Certificate) (item : Item) (k : ℕ) (len : run_length w.repeat item ≡ k) where
   abbrev s : Stream
   s = repeated cycle

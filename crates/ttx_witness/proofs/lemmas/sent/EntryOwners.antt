@@ -1,4 +1,4 @@
--- The owners before slot 0 are those at the end of the period, a period earlier.
+-- The owners before slot 0 are those at the end of the period, one period earlier.
 use Rattle.std.proofs.Common.{◌≡◌, ℕ, zero, suc, ◌+◌, ◌<◌, ℤ, pos, ◌+ℤ◌, Bool, true, false, if◌then◌else◌, List, [], ◌∷◌, length, get_or, Option}
 use Rattle.std.proofs.Common.{Some, None, refl, sym, ap, ◌∙◌, arith, mod-eq_of_lt}
 use Rattle.std.proofs.lemmas.List.{get_or_default}

@@ -1,4 +1,4 @@
--- The transmissions in a cycle's first period after another cycle.
+-- The transmissions in the first period of a cycle after another cycle.
 use Rattle.std.proofs.Common.{◌≡◌, ℕ, zero, suc, ◌≤◌, ℤ, pos, negsuc, ◌+ℤ◌, ◌-ℤ◌, ◌<ℤ◌, ◌≤ℤ◌, Bool, true, false, List, [], ◌∷◌, ◌++◌, length, Option}
 use Rattle.std.proofs.Common.{Some, None, refl, sym, ap, ◌∙◌, subst, arith}
 use Rattle.std.specs.List.{AllByRecursion}
@@ -19,7 +19,7 @@ use Rattle.ttx_witness.proofs.AllBetween.{lists_low, lists_high, lists_rise}
 use Rattle.ttx_witness.proofs.lemmas.sent.CycleTransmissions.{period_of}
 use Rattle.ttx_witness.proofs.lemmas.sent.StreamOwners as O
 
--- the owner's slot lies between two slots
+-- the slot of the owner is between two slots
 abbrev IsBetween : ℤ → ℤ → Option PageOwner → Type 0
 IsBetween low high None = Unit {0}
 IsBetween low high (Some o) = (low ≤ℤ o.slot) × (o.slot ≤ℤ high)
@@ -105,7 +105,7 @@ module _ (before cycle : List (List ℕ)) where
   below (negsuc i) lt = refl
 
   module _ (page : Id) where
-    -- the owner before slot 0 is the other cycle's
+    -- the owner before slot 0 is that of the other cycle
     carried : (o : Option PageOwner) → O.IsOwnerAt page (repeated before) o (pos 0) → O.IsOwnerAt page s o (pos 0)
     carried None a = λ i lt. subst (λ x. heads page.mag (packet_of x) ≡ false) (below i lt) (a i lt)
     carried (Some o) a =

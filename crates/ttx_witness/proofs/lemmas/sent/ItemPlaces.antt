@@ -40,7 +40,7 @@ same_place i page number item is lt = bool_same _ _
       | inr p ↦ absurd (both_ways _ p ((and_parts (item_number item == number) (page == i) e).0))
     ])
 
--- a slot, by page and number
+-- a place, from page and item number
 pub placed_item : (i : ℕ) (item : Item) → IsItem item → (sent : Option Sent) → placed_at (place_of_item i item) sent ≡ sent_of i item sent
 placed_item i item is None = refl
 placed_item i item is (Some s) = elim (cases_lt s.number 26) as (λ _. placed_at (place_of_item i item) (Some s) ≡ sent_of i item (Some s)) [
@@ -60,12 +60,12 @@ placed_item i item is (Some s) = elim (cases_lt s.number 26) as (λ _. placed_at
     differ m n lt = elim (cases_Bool (m == n)) as
         (λ _. (m == n) ≡ false) [ inl e ↦ (let q : m ≡ n = eqb-true m n e in absurd (omega arith)) | inr e ↦ e ]
 
--- two places of one slot
+-- a slot sends at most one place
 pub one_place : (m n : ℕ) (sent : Option Sent) → sends_place m sent ≡ true → sends_place n sent ≡ true → m ≡ n
 one_place m n None e f = cc
 one_place m n (Some s) e f = eqb-true _ _ ((and_parts (nat_lt s.number 26) _ e).1) ∙ sym (eqb-true _ _ ((and_parts (nat_lt s.number 26) _ f).1))
 
--- a list that grows by what is sent, where this is the item of its place
+-- a list that grows by what is sent, if this is the item of its place
 pub placed_added : (place n : ℕ) (s : Sent) (ts : List Transmission) → sends_place place (Some s) ≡ true →
     (if n == place then ts ++ s.transmission ∷ [] else ts) ≡ ts ++ placed_at n (Some s)
 placed_added place n s ts here = elim (cases_Bool (n == place)) as

@@ -1,4 +1,4 @@
--- Lists in their places.
+-- Lists at their places.
 use Rattle.std.proofs.Common.{◌≡◌, ℕ, zero, suc, ◌<◌, ◌==◌, if◌then◌else◌, List, [], ◌∷◌, ◌++◌, map, length, get_or, set, Vec, Global, refl, sym, ap}
 use Rattle.std.proofs.Common.{◌∙◌, arith, eqb-true, eq-eqb, get_or-set_same, get_or-set_other}
 use Rattle.std.proofs.lemmas.List.{length-map, map-set}

@@ -1,4 +1,4 @@
--- What one slot makes of the owners of the magazines, and of the lists of transmissions.
+-- What one slot does to the owners of the magazines, and to the lists of transmissions.
 use Rattle.std.proofs.Common.{◌≡◌, ℕ, ◌-◌, ◌<◌, ◌≤◌, ℤ, Bool, true, false, not, ◌&&◌, ◌||◌, ◌==◌, if◌then◌else◌, List, get_or, slice_get, Option}
 use Rattle.std.proofs.Common.{Some, None, refl, sym, ap, ◌∙◌, subst, inl, inr, arith, eqb-true, eq-eqb}
 use Rattle.std.proofs.lemmas.Bool.{cases_Bool, and_parts, cond_both, both_ways}
@@ -23,7 +23,7 @@ tainted_none : (o : Option PageOwner) → tainted_by false o ≡ o
 tainted_none None = refl
 tainted_none (Some o) = ap (λ t. Some (record { slot = o.slot; mine = o.mine; tainted = t })) (or_none o.tainted)
 
--- a slot that is no header leaves the owner
+-- a slot that is not a header leaves the owner unchanged
 abbrev pub IsNoHeader : Kind → Type 0
 IsNoHeader (IsHeader mag) = ⊥
 IsNoHeader _ = Unit {0}
@@ -41,7 +41,7 @@ pub owner_stays : (slot : List ℕ) (k : Kind) → kind_of slot ≡ k → IsNoHe
     ≡ owner_after id j (packet_of slot) o
 owner_stays slot k e n id j o = other_kind slot id j o k n ∙ ap (λ p. owner_after id j p o) (sym (packet_is slot k e))
 
--- a slot that isn't readable as a header is none
+-- a slot that is not readable as a header is not a header
 pub no_header : (slot : List ℕ) → ((mag : ℕ) → kind_of slot ≡ IsHeader mag → ⊥) → IsNoHeader (kind_of slot)
 no_header slot none = go (kind_of slot) none
   where
@@ -113,7 +113,7 @@ module _ (slot : List ℕ) (mag : ℕ) (kind : kind_of slot ≡ IsHeader mag) (s
         (foreign_taint i (c11 (control_of slot)) (get_or old m None) (a m i id lt at d))
   ]
 
--- the same for a header as it is read
+-- the same for a header as it was read
 module _ (slot : List ℕ) (kind : kind_of slot ≡ IsHeader (id_of slot).mag) (is : IsId (id_of slot)) (hid : Id) (same : hid ≡ id_of slot)
     (mag : ℕ) (same_mag : mag ≡ hid.mag)
     (ends : Bool) (same_ends : ends ≡ c11 (control_of slot)) (j : ℤ) (page : Option ℕ) (old new : List (Option Owner))

@@ -1,4 +1,4 @@
--- What is known of a packet from the kind of its slot.
+-- What the kind of a slot says about its packet.
 use Rattle.std.proofs.Common.{◌≡◌, ℕ, Bool, true, false, not, List, Option, Some, None, SomeIff, MatchOption, IsTrue, drop, map, ◌↔◌, refl, sym}
 use Rattle.std.proofs.Common.{subst}
 use Rattle.ttx_packet.specs.Slots.{IsSlot, Kind, IsEmpty, IsUnreadable, IsHeader, IsRow, IsLinks, IsInfo, IsOther, kind_of}
@@ -27,7 +27,7 @@ holds_none slot (IsLinks mag) n e = by_kind HoldsNoHeader slot (IsLinks mag) e t
 holds_none slot IsInfo n e = by_kind HoldsNoHeader slot IsInfo e tt
 holds_none slot (IsOther mag number) n e = by_kind HoldsNoHeader slot (IsOther mag number) e tt
 
--- a packet that is no header
+-- a packet that is not a header
 pub no_page : (page : Id) (packet : Packet) → HoldsNoHeader packet → heads_page page packet ≡ false
 no_page page Empty n = refl
 no_page page Unreadable n = refl
@@ -64,7 +64,7 @@ no_erasing (Links mag content) n = refl
 no_erasing Info n = refl
 no_erasing Other n = refl
 
--- a packet that is no row, or no X/27/0
+-- a packet that is not a row, or not an X/27/0
 pub no_row : (mag r : ℕ) (packet : Packet) → HoldsNoRow packet → carries mag (TheRow r) packet ≡ false
 no_row mag r Empty n = refl
 no_row mag r Unreadable n = refl
@@ -83,7 +83,7 @@ no_links mag (Links m content) n = absurd n
 no_links mag Info n = refl
 no_links mag Other n = refl
 
--- what is read of a header is what its packet says
+-- what is read of a header is what its packet contains
 pub header_told : (slot : List ℕ) → IsSlot slot → HeadersHaveFields → HeadersAreHeaders → (o : Option HeaderFields) →
     SomeIff o (is_header slot ≡ true) (header_fields_of slot) →
     MatchOption o (HoldsNoHeader (packet_of slot)) (λ h. HoldsHeader h (packet_of slot))
@@ -92,13 +92,13 @@ header_told slot is fields headers (Some h) told =
     subst (λ x. HoldsHeader x (packet_of slot)) (sym told.1)
     (record { text = drop 10 slot; is = packet_is slot (IsHeader (id_of slot).mag) (headers slot is told.0); same = refl })
 
--- a row is right where its text is
+-- a row is right if and only if its text is
 pub row_right : (p : Page) (r mag number : ℕ) (text : List ℕ) (packet : Packet) → packet ≡ Row mag number text → RowIsRight p r packet
     ↔ (text ≡ map odd_byte (page_row p r))
 row_right p r mag number text packet e =
     subst (λ x. RowIsRight p r x ↔ (text ≡ map odd_byte (page_row p r))) (sym e) ((λ h. h), (λ h. h))
 
--- the opposite of a test
+-- the negation of a test
 pub not_tested : (b : Bool) (P : Type 0) → (IsTrue b ↔ P) → IsTrue (not b) ↔ (P → ⊥)
 not_tested true P h = ((λ t p. cc), (λ n. absurd (n (h.0 refl))))
 not_tested false P h = ((λ t p. let e = h.1 p in cc), (λ n. refl))

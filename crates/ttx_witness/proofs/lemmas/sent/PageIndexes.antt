@@ -1,4 +1,4 @@
--- An index of pages, made one by one.
+-- An index of pages, built page by page.
 use Rattle.std.proofs.Common.{◌≡◌, ◌≢◌, ℕ, zero, suc, ◌+◌, ◌<◌, ◌^◌, Bool, true, false, ◌==◌, ◌&&◌, ◌||◌, if◌then◌else◌, List, [], ◌∷◌, map, length}
 use Rattle.std.proofs.Common.{get_or, slice_get, Option, Some, None, refl, sym, ap, ◌∙◌, subst, inl, inr, arith, eqb-true, eq-eqb}
 use Rattle.std.specs.List.{AllPairs, list_any}
@@ -74,7 +74,7 @@ module _ (ids : List Id) (are : (i : ℕ) (id : Id) → slice_get ids i ≡ Some
       let q = get_or-map key_of ids j b.0 d (omega arith) ∙ ap key_of (get_or_from_slice_get ids j b.0 b.0 b.1) in
       places_differ i j a.0 b.0 lt a.1 b.1 (key_one a.0 b.0 (are i a.0 a.1) (are j b.0 b.1) (sym p ∙ same ∙ q))
 
-  -- distinct ids are as many as there are keys at most
+  -- there are at most as many distinct ids as keys
   pub few_ids : length ids < 2 ^ 32
   few_ids =
       let l = length-map ids key_of in
@@ -137,7 +137,7 @@ pub id_at : (pages : List PageValue) (i : ℕ) (p : PageValue) → i < length pa
 id_at pages i p lt e = slice_get-map (λ q. (page_of q).id) pages i
     ∙ ap (option_map (λ q. (page_of q).id)) (slice_get_read pages (length pages) i p refl lt e)
 
--- the id of the page in the same place
+-- the id of the page at the same index
 pub id_of_page : (pages : List PageValue) (i : ℕ) (p : Page) → slice_get (map page_of pages) i ≡ Some p → slice_get (ids_of pages) i ≡ Some p.id
 id_of_page [] i p e = let h : None ≡ Some p = e in cc
 id_of_page (q ∷ pages) zero p e = let h : page_of q ≡ p = cc in ap (λ x. Some x.id) h

@@ -1,4 +1,4 @@
--- A stream that repeats after n slots: its owners and sure transmissions do too.
+-- If a stream repeats after n slots, then so do its owners and sure transmissions.
 use Rattle.std.proofs.Common.{◌≡◌, ◌↔◌, ℕ, ◌≤◌, ℤ, pos, ◌+ℤ◌, ◌-ℤ◌, ◌<ℤ◌, ◌≤ℤ◌, false, sym, ap, ◌∙◌, subst, inl, inr, arith}
 use Rattle.std.proofs.lemmas.Int.{ints}
 use Rattle.std.proofs.lemmas.Bool.{both_ways}
@@ -25,7 +25,7 @@ owned_same s page TheHead h k j a b = a.0 ∙ sym b.0
 owned_same s page (TheRow r) h k j a b = latest_same s page.mag h k j a.0 b.0
 owned_same s page TheLinks h k j a b = latest_same s page.mag h k j a.0 b.0
 
--- owners aren't later than their slots, and don't fall
+-- owners are not later than their slots, and do not fall
 pub owned_before : (s : Stream) (page : Id) (item : Item) (h j : ℤ) → IsOwned s page item h j → h ≤ℤ j
 owned_before s page TheHead h j a = let e = a.0 in omega (arith, ints)
 owned_before s page (TheRow r) h j a = let e = a.0.earlier in omega (arith, ints)
@@ -110,7 +110,7 @@ module _ (s : Stream) (n : ℕ) (period : (i : ℤ) → s (i +ℤ pos n) ≡ s i
   sure_later lines mag (TheRow r) h j = (sure_row_later lines mag h j, sure_row_earlier lines mag h j)
   sure_later lines mag TheLinks h j = (sure_row_later lines mag h j, sure_row_earlier lines mag h j)
 
-  -- an owner is at most a period back
+  -- an owner is at most one period before its slot
   latest_near : 1 ≤ n → (mag : ℕ) (h j : ℤ) → IsLatestHeader s mag h j → j ≤ℤ (h +ℤ pos n)
   latest_near some mag h j a = elim (cases_ltz (h +ℤ pos n) j) as (λ _. j ≤ℤ (h +ℤ pos n)) [
     | inl lt ↦ elim (cases_ltz h (h +ℤ pos n)) as (λ _. j ≤ℤ (h +ℤ pos n)) [

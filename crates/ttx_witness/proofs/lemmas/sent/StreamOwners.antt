@@ -1,4 +1,4 @@
--- Owners that are kept while slots pass are the stream's.
+-- Owners kept slot by slot are those of the stream.
 use Rattle.std.proofs.Common.{◌≡◌, ◌⊎◌, ◌↔◌, ℕ, zero, suc, ◌≤◌, ℤ, pos, ◌+ℤ◌, ◌-ℤ◌, ◌<ℤ◌, ◌≤ℤ◌, Bool, true, false, not, ◌&&◌, ◌||◌, int_lt, List, []}
 use Rattle.std.proofs.Common.{◌∷◌, ◌++◌, Option, Some, None, refl, sym, ap, ◌∙◌, subst, inl, inr, arith}
 use Rattle.std.proofs.lemmas.Bool.{cases_Bool, and_from, and_parts, cond_both, both_ways, or_from, not-true, not_from_false}
@@ -56,7 +56,7 @@ module _ (page : Id) (s : Stream) where
   IsOwnerAt None j = (i : ℤ) → i <ℤ j → heads page.mag (packet_of (s i)) ≡ false
   IsOwnerAt (Some o) j = IsOwner o j
 
-  -- a slot that is no header
+  -- a slot that is not a header
   pub owner_other : (o : Option PageOwner) (j : ℤ) → heads page.mag (packet_of (s j)) ≡ false → IsOwnerAt o j →
       IsOwnerAt (tainted_by (ends_serial page.mag (packet_of (s j))) o) (j +ℤ pos 1)
   owner_other None j none a = λ i lt. elim (cases_ltz i j) as (λ _. heads page.mag (packet_of (s i)) ≡ false)
@@ -101,7 +101,7 @@ module _ (page : Id) (s : Stream) where
   pub owner_step : (o : Option PageOwner) (j : ℤ) → IsOwnerAt o j → IsOwnerAt (owner_after page j (packet_of (s j)) o) (j +ℤ pos 1)
   owner_step o j a = cond_both (heads page.mag (packet_of (s j))) _ _ (λ x. IsOwnerAt x (j +ℤ pos 1)) (λ e. owner_new j e) (λ e. owner_other o j e a)
 
-  -- what is known of a scan from any entry: a header has come and the owner is right, or none has and the slot is the entry's
+  -- a scan from any entry: a header has come and the owner is right, or none has come and the slot is that of the entry
   pub record IsNone (entry o : Option PageOwner) (j : ℕ) : Type 0 where
     pub none : (i : ℤ) → pos 0 ≤ℤ i → i <ℤ pos j → heads page.mag (packet_of (s i)) ≡ false
     pub same : SameSlot entry o
@@ -176,7 +176,7 @@ module _ (page : Id) (s : Stream) where
         (λ i h. let e : i +ℤ minus ≡ i -ℤ pos n = omega (arith, ints) in ap (λ x. heads page.mag (packet_of (s x))) (sym e)
         ∙ ap (λ x. heads page.mag (packet_of x)) (period_back i) ∙ h)
 
-    -- the owner at slot 0 is that of a scan from none, a period earlier
+    -- the owner at slot 0 is that of a scan from no owner, one period earlier
     pub first_entry : IsOwnerAt (owner_moved minus (owner_scan page s None n)) (pos 0)
     first_entry = elim (scanned None n) as (λ _. IsOwnerAt (owner_moved minus (owner_scan page s None n)) (pos 0)) [
       | inl w ↦ from_none (owner_scan page s None n) w
@@ -196,7 +196,7 @@ module _ (page : Id) (s : Stream) where
   )
 
   module _ (lines : ℕ) (item : Item) where
-    -- one slot holds no transmission or the one that is told
+    -- one slot holds no transmission, or the one in the list
     pub Says : ℤ → List Transmission → Type 0
     Says j [] = IsSentAt (IsOwned s page item) j → ⊥
     Says j (t ∷ []) = (t.slot ≡ j) × Tells (IsOwned s page item) (IsSure s lines page.mag item) t

@@ -1,4 +1,4 @@
--- The deadline of a page is the greatest of its items'.
+-- The deadline of a page is the greatest of its items' deadlines.
 use Rattle.std.proofs.Common.{◌≡◌, ◌↔◌, ℕ, zero, suc, ◌<◌, ◌≤◌, true, List, [], ◌∷◌, ◌++◌, if◌then◌else◌, length, map, slice_get, Some, None, refl}
 use Rattle.std.proofs.Common.{sym, ap, ◌∙◌, subst, inl, inr, arith}
 use Rattle.std.specs.List.{AllByRecursion}
@@ -56,7 +56,7 @@ record IsOne (P : ItemWait → Type 0) (told : List ItemWait) (index : ℕ) (ite
   own : one.item ≡ item
   is : P one
 
--- what is told of it
+-- the wait for this item
 one_of : (P : ItemWait → Type 0) (told : List ItemWait) (index : ℕ) (item : Item) → AllByRecursion P told →
     slice_get (map (λ one. one.item) told) index ≡ Some item → IsOne P told index item
 one_of P [] index item all e = absurd (let h : None ≡ Some item = e in cc)
@@ -90,7 +90,7 @@ module _ (turn : EachSlotTurns) (found : SureStartsAreFound) (law : LeastLimitIs
       go (Least own) l = l.1 d shows
       go (Never losses) l = absurd (l d shows)
 
-  -- the item that needs the most
+  -- the item that needs the most fields
   most_of : (d : ℕ) (wait : OwnWait) (item : Item) → IsLeast (CanShow cycle p class repeat lines item) (least_of wait) →
       ((e : ℕ) → CanShow cycle p class repeat lines item e → d ≤ e) → IsUpTo d wait →
       least_of wait ≡ Some d

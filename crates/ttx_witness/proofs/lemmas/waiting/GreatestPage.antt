@@ -41,7 +41,7 @@ due_here class item (q ∷ pages) (suc n) p apart at =
           ∙ due_here class item pages n p (λ i j a b x y e. let s = apart (suc i) (suc j) a b x y e in omega arith) at
     ]
 
--- each answer that is told is at most e
+-- each answer is at most e
 record AllTo (told : List PageWait) (e index : ℕ) (answer : PageWait) : Type 0 where
   deadline : ℕ
   is : fields_told answer.wait ≡ Some deadline
@@ -93,7 +93,7 @@ module _ (turn : EachSlotTurns) (found : SureStartsAreFound) (law : LeastLimitIs
     (apart : AreApart pages) (tested : AreTested pages) (class : Class) (repeat lines : ℕ) (repeats : 1 ≤ repeat)
     (few_repeats : repeat ≤ 8) (some_lines : 1 ≤ lines) (few_lines : lines ≤ 32)
     (clean : (n : ℕ) → n < length cycle → is_clean (slice_index_or cycle n []) ≡ true) where
-  -- the certificate that names each start of a sure run of each page
+  -- the certificate that names every start of a sure run of every page
   abbrev names : Id → Item → List ℕ
   names id item = if due_among class pages id item then starts_of cycle lines repeat id item else []
 

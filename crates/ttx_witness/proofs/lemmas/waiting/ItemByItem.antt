@@ -1,4 +1,4 @@
--- What is told of the items of a page, one by one.
+-- The waits for the items of a page, one by one.
 use Rattle.std.proofs.Common.{◌≡◌, ℕ, zero, suc, ◌+◌, false, ◌==◌, if◌then◌else◌, List, [], ◌∷◌, ◌++◌, length, take, slice_get, Some, None, refl, sym}
 use Rattle.std.proofs.Common.{ap, ◌∙◌, subst, inl, inr, arith, eqb-true, length-append}
 use Rattle.std.proofs.lemmas.Bool.{cases_lt, cases_Bool}

@@ -39,7 +39,7 @@ module _ (cycle : List (List ℕ)) (p : Page) (class : Class) (repeat lines : �
 
   module _ (m : ℕ) (item : Item) (is : IsItem item) (here : item_number item ≡ m) (deadline : ℕ) (at : Item)
       (h : IsLongest cycle p class repeat lines m deadline at) where
-    -- an item that isn't seen
+    -- an item that is not seen
     pub longest_unseen : needed p item ≡ false → IsLongest cycle p class repeat lines (m + 1) deadline at
     longest_unseen unseen = record {
       all = below_one m (deadline + 1) item is here (λ seen. absurd (both_ways (needed p item) unseen seen)) h.all;
@@ -47,14 +47,14 @@ module _ (cycle : List (List ℕ)) (p : Page) (class : Class) (repeat lines : �
     }
 
     module _ (own : ℕ) (seen : needed p item ≡ true) (is_own : IsOwnDeadline cycle p class repeat lines item own) where
-      -- one that needs no more
+      -- an item that needs no more fields
       pub longest_kept : own ≤ deadline → IsLongest cycle p class repeat lines (m + 1) deadline at
       longest_kept le = record {
         all = below_one m (deadline + 1) item is here (λ s. record { deadline = own; own = is_own; below = omega arith }) h.all;
         first = first_more m deadline at h.first;
       }
 
-      -- one that needs more
+      -- an item that needs more fields
       pub longest_new : deadline < own → IsLongest cycle p class repeat lines (m + 1) own item
       longest_new lt = record {
         all = below_one m (own + 1) item is here (λ s. record { deadline = own; own = is_own; below = omega arith })

@@ -1,4 +1,4 @@
--- The least deadline of one page, and why there is none, by the least limits of its items.
+-- The least deadline of one page, and why there is none, from the least limits of its items.
 use Rattle.std.proofs.Common.{◌≡◌, ◌⊎◌, ◌↔◌, ℕ, zero, suc, ◌+◌, ◌-◌, ◌*◌, ◌<◌, ◌≤◌, ℤ, true, List, [], ◌∷◌, ◌++◌, length, slice_get, Option, Some}
 use Rattle.std.proofs.Common.{None, unsigned_abs, map, if◌then◌else◌, refl, sym, ap, ◌∙◌, subst, inl, inr, arith}
 use Rattle.std.specs.List.{Contains}
@@ -42,7 +42,7 @@ use Rattle.ttx_witness.proofs.lemmas.sent.RunLengths.{run_some}
 pub none_rise : Rising []
 none_rise i j lt in_range = absurd (omega arith)
 
--- where nothing is found there is no spread, and the other way round
+-- if nothing is found there is no spread, and vice versa
 no_spread : (rs : List Run) → sure_starts rs ≡ [] → spread_of None rs ≡ None
 unfolding sure_runs spread_of
 no_spread [] e = refl
@@ -58,7 +58,7 @@ no_spread (r ∷ rs) e = elim (cases_Bool r.sure) as (λ _. spread_of (if r.sure
     some_starts : (r : Run) (rs : List Run) → map (λ r. unsigned_abs r.start) (r ∷ rs) ≡ [] → ⊥
     some_starts r rs e = cc
 
--- a spread stays one
+-- a spread remains one
 spread_stays : (s : Spread) (rs : List Run) → spread_of (Some s) rs ≡ None → ⊥
 unfolding spread_of
 spread_stays s [] e = let h : Some s ≡ None = e in cc
@@ -95,7 +95,7 @@ longer zero e lines le = omega arith
 longer (suc d) zero lines le = absurd (omega arith)
 longer (suc d) (suc e) lines le = let h = longer d e lines (omega arith) in omega arith
 
--- the starts that are found rise
+-- the starts found rise
 pub found_rise : (cycle : List (List ℕ)) → 1 ≤ length cycle → length cycle ≤ 65536 → (id : Id) (lines repeat : ℕ) (item : Item) →
     Rising (starts_of cycle lines repeat id item)
 found_rise cycle some most id lines repeat item i j lt in_range = rising_pairs None (starts_of cycle lines repeat id item) i j 0
@@ -103,7 +103,7 @@ found_rise cycle some most id lines repeat item i j lt in_range = rising_pairs N
     (told_in_order cycle some id lines item most (sent_in cycle id lines item) (sent_told cycle some id lines item))) lt
     in_range
 
--- what accepts the page shows each of its items
+-- a certificate that accepts the page shows each of its items
 pub accepted_shows : (cycle : List (List ℕ)) (p : Page) (class : Class) (repeat lines : ℕ) (pages : List Page) (e : ℕ) →
     CanAccept cycle pages p class repeat lines e → (item : Item) → needed p item ≡ true →
     CanShow cycle p class repeat lines item e
@@ -112,7 +112,7 @@ accepted_shows cycle p class repeat lines pages e c item seen = record { w = c.w
 module _ (turn : EachSlotTurns) (found : SureStartsAreFound) (law : LeastLimitIsFound) (cycle : List (List ℕ)) (some : 1 ≤ length cycle)
     (most : length cycle ≤ 65536) (p : Page)
     (tested : (item : Item) → needed p item ≡ true → is_blank p item ≡ true ↔ IsBlank p item) where
-  -- what a certificate shows it shows within its limit
+  -- what a certificate shows, it shows within its limit
   covered_fits : (v : Certificate) → 1 ≤ v.repeat → (item : Item) → IsCovered cycle p v item →
       IsEnough (least_limit cycle v.lines v.repeat p.id item) (limit v)
   covered_fits v repeats item c = go (spread_at cycle v.lines v.repeat p.id item) refl
@@ -149,7 +149,7 @@ module _ (turn : EachSlotTurns) (found : SureStartsAreFound) (law : LeastLimitIs
         (subst (λ x. IsEnough (limit_for cycle c.w.class c.w.lines c.w.repeat p item) (x * c.w.lines)) c.is.same_deadline
         (shown_fits c.w c.is.is.some_repeats item c.shows))))
 
-    -- with a limit that is enough, a certificate that names each start of a sure run shows an item
+    -- with a limit that is enough, a certificate that names every start of a sure run shows an item
     pub named_shows : 1 ≤ repeat → (names : Id → Item → List ℕ) →
         ((item : Item) → names p.id item ≡ starts_for cycle class lines repeat p item) → (item : Item) → needed p item ≡ true →
         (d : ℕ) →
@@ -185,7 +185,7 @@ module _ (turn : EachSlotTurns) (found : SureStartsAreFound) (law : LeastLimitIs
             (named item ∙ cond-true (is_due class p item) (starts_of cycle lines repeat p.id item) [] due) f
 
     module _ (some_lines : 1 ≤ lines) (few_lines : lines ≤ 32) (repeats : 1 ≤ repeat) (few_repeats : repeat ≤ 8) where
-      -- the certificate that names each start of a sure run of the page
+      -- the certificate that names every start of a sure run of the page
       abbrev full : ℕ → Certificate
       full d = record { lines = lines; repeat = repeat; deadline = d; class = class; starts = λ id item. starts_for cycle class lines repeat p item }
 
@@ -214,7 +214,7 @@ module _ (turn : EachSlotTurns) (found : SureStartsAreFound) (law : LeastLimitIs
           ShowsItem cycle p (full d) item
       full_shows = named_shows repeats (λ id item. starts_for cycle class lines repeat p item) (λ item. refl)
 
-      -- an item's own least deadline is the least with which a certificate shows it
+      -- an item's own least deadline is the least with which a certificate shows the item
       own_fits : (item : Item) (d e : ℕ) → IsOwnDeadline cycle p class repeat lines item d → d ≤ e →
           IsEnough (limit_for cycle class lines repeat p item) (e * lines)
       own_fits item d e own le = subst (λ o. IsEnough o (e * lines)) (sym own.is) (let a = own.least.2 in let b = longer d e lines le in omega arith)
@@ -239,7 +239,7 @@ module _ (turn : EachSlotTurns) (found : SureStartsAreFound) (law : LeastLimitIs
       pub item_never : (item : Item) → limit_for cycle class lines repeat p item ≡ None → IsLeast (CanShow cycle p class repeat lines item) None
       item_never item e = λ d c. subst (λ o. IsEnough o (d * lines)) e (can_fits item d c)
 
-      -- an item that is due and has no sure start has no limit
+      -- an item that is due and has no sure start is never shown
       pub no_start_never : (item : Item) → HasNoSureStart cycle p class repeat lines item → IsLeast (CanShow cycle p class repeat lines item) None
       no_start_never item n =
           let none = nothing_in (starts_of cycle lines repeat p.id item)
@@ -291,7 +291,7 @@ module _ (turn : EachSlotTurns) (found : SureStartsAreFound) (law : LeastLimitIs
             (least_limit cycle lines 1 p.id TheHead) due) ∙ e)))
             ((found cycle some p.id lines repeat item (run_length repeat item - 1) (run_some repeat item repeats) start).1 is)
 
-        -- one that isn't due has one, as the page has a header
+        -- an item that is not due has a limit, since the page has a header
         head_limit : least_limit cycle lines 1 p.id TheHead ≡ None → ⊥
         head_limit e = none_in (found_starts cycle p.id lines TheHead 0) (turned (length cycle) steady.header.slot)
             (no_starts _ (no_limit (length cycle) (spread_at cycle lines 1 p.id TheHead) e))
@@ -305,7 +305,7 @@ module _ (turn : EachSlotTurns) (found : SureStartsAreFound) (law : LeastLimitIs
               (least_limit cycle lines 1 p.id TheHead) not_due) ∙ e))
         ]
 
-        -- one with a limit has a sure start
+        -- an item with a limit has a sure start
         sure_below : (other : Item) (bound : ℕ) → IsBelow cycle p class repeat lines other bound → HasNoSureStart cycle p class repeat lines other → ⊥
         sure_below other bound b n =
             let none = nothing_in (starts_of cycle lines repeat p.id other)
@@ -339,7 +339,7 @@ module _ (turn : EachSlotTurns) (found : SureStartsAreFound) (law : LeastLimitIs
         wait_limits (Faulty reason) h = absurd h
         wait_limits (Unsure item losses) h = wait_unsure item losses h
 
--- a page that isn't steady has no deadline
+-- a page that is not steady has no deadline
 pub wait_faulty : SteadyHasNoFault → (cycle : List (List ℕ)) (pages : List Page) (p : Page) (class : Class) (repeat lines : ℕ)
     (reason : Reason) → IsPageFault cycle pages p (Some reason) →
     IsWait cycle pages p class repeat lines (Faulty reason)
@@ -351,7 +351,7 @@ wait_faulty law cycle pages p class repeat lines reason fault = record {
     some_is_none : (reason : Reason) → Some reason ≡ None → ⊥
     some_is_none reason e = cc
 
--- what is told of the first m pages
+-- the waits for the first m pages
 pub record AreTold (cycle : List (List ℕ)) (pages : List PageValue) (class : Class) (repeat lines m : ℕ) (told : List PageWait) : Type 0 where
   pub count : length told ≡ m
   pub each : (index : ℕ) (p : Page) → index < m → slice_get (map page_of pages) index ≡ Some p →

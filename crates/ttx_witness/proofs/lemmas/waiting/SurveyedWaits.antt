@@ -1,4 +1,4 @@
--- What is told of the page of a survey at an index, as of the page in the list.
+-- The waits for the page of a survey at an index are those for the page in the list.
 use Rattle.std.proofs.Common.{◌≡◌, ℕ, Some, slice_get, List, subst}
 use Rattle.ttx_page.specs.Pages.{Page}
 use Rattle.ttx_witness.specs.finding.Surveys.{survey_slots, survey_pages, surveyed_page, AreOthersIn}
