@@ -61,7 +61,7 @@ fn follow(cache: &mut Cache, memory: &PageMemory, touched: &Touched)
 }
 
 impl<R: Receiver> Watched<R> {
-    /// Watches a receiver.
+    /// Watches a receiver: renders the View of what it holds.
     pub fn new(receiver: R) -> Watched<R>
         ensures { result ≡ receiver }
     {

@@ -16,7 +16,7 @@ pub enum Colour {
     White,
 }
 
-// The colour with this number, 0 to 7.
+/// The colour with this number, 0 to 7.
 #[tactic(auto, unfolding(crate::specs::Colours::colour_of))]
 pub fn colour_of(number: u8) -> Colour
     requires { number < 8 }
@@ -34,6 +34,7 @@ pub fn colour_of(number: u8) -> Colour
     }
 }
 
+/// The number of a colour, 0 to 7.
 pub fn colour_number(colour: Colour) -> u8
     ensures number { result ≡ colour_number colour }
     ensures range { result < 8 }

@@ -15,7 +15,7 @@ use ttx_cycle::Cycle;
 use ttx_header::PageId;
 use ttx_page::Page;
 
-/// For each page number with only one listed page, the first header with another subcode.
+/// For each page number with one listed subcode, the first header with another subcode.
 #[derive(Drop)]
 pub struct OtherSubpages {
     first: Vec<Option<u32>>,
