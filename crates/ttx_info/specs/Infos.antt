@@ -3,7 +3,7 @@
 --
 --   InfoFields, info_at     the fields, as contracts see an `Info`
 --   IsInfoRange, IsInfoFields       their ranges
---   digits_of, is_half_digit, value_of   the half bytes of date and time, each a digit plus one
+--   date_digits, time_digits, is_half_digit, value_of   the half bytes of date and time, each a digit plus one
 --   info_fields, info_of      the fields that the bytes of a packet encode, or the first fault
 --   are_clock_digits, info_behind_link, DecidesLink       the parts of that judgment: the clock, what comes after the link, and
 --                               what comes before it

@@ -3,7 +3,7 @@
 --   tuned_after             the memory after a packet, by what the receiver is set to and its choice
 --   Tuned, tuned_at         a receiver: what it is set to, the slots in a field, and what it holds
 --   stepped                 a receiver after one slot, with or without taking its choice
---   Scripted, scripted_step         a receiver with the choices that are left of its script
+--   Script, script_step             a receiver with the choices that are left of its script
 use Rattle.std.specs.Prelude.{ℕ, Bool, List}
 use Rattle.ttx_page.specs.Packets.{Packet, packet_of}
 use Rattle.ttx_page.specs.declared.class.Class.{Class}
