@@ -35,6 +35,19 @@ def help_of(program, words):
     return told.stdout.splitlines()
 
 
+def joined(lines):
+    """The same lines, each argument and option on one line."""
+    told, listed = [], False
+    for line in lines:
+        if line and not line.startswith(" "):
+            listed = line in ("Arguments:", "Options:")
+        if listed and line.startswith(" " * 10):
+            told[-1] += " " + line.strip()
+        else:
+            told.append(line)
+    return told
+
+
 def option_of(line):
     found = re.match(r"\s+(?:-h, )?--([a-z]+)(?: <(.+?)>)?\s{2,}(.*)", line)
     values = re.search(r"\[possible values: (.*?)\]", found[3])
@@ -43,7 +56,7 @@ def option_of(line):
 
 def command_of(program, name, text):
     command, part = Command(name, text), None
-    for line in help_of(program, [name])[1:]:
+    for line in joined(help_of(program, [name])[1:]):
         if line.startswith("Usage: "):
             command.usage = line.removeprefix("Usage: ")
         elif line in ("Arguments:", "Options:"):
@@ -64,7 +77,7 @@ def read(program):
     at = lines.index("Commands:") + 1
     end = lines.index("", at)
     commands = [command_of(program, *line.split(None, 1)) for line in lines[at:end]]
-    after = next(i for i in range(end, len(lines)) if lines[i].startswith("No words at all"))
+    after = lines.index("", lines.index("Options:", end)) + 1
     return lines[0], commands, lines[after:]
 
 
