@@ -1,9 +1,10 @@
 //! The classes of receivers.
 
-/// The classes of receivers. When it is set to a page, a receiver of class `Any` may keep what it showed before; a receiver of
-/// class `Clearing` surely erases it, at the first header of the page.
+/// The classes of receivers: what they do with the page that they showed before, at the first header of the page they are set to.
 #[derive(Clone, Copy, PartialEq, Eq)]
 pub enum Class {
+    /// May keep what was shown.
     Any,
+    /// Surely erases it.
     Clearing,
 }

@@ -44,10 +44,13 @@ impl RowNumber {
     }
 }
 
-/// An item, a part of a page that is sent by itself: the header's characters in row 0, a row, or the links (X/27/0).
+/// An item: a part of a page that is sent by itself.
 #[derive(Clone, Copy, PartialEq, Eq)]
 pub enum Item {
+    /// Columns 8 to 31 of row 0, sent in the page header.
     Head,
+    /// A row, 1 to 24.
     Row(RowNumber),
+    /// The links and whether row 24 is shown, sent in X/27/0.
     Links,
 }

@@ -11,11 +11,14 @@ use crate::starving::is_matched;
 use crate::steps::magazine_of;
 use ttx_page::Selection;
 
-/// What a slot may change of what a receiver shows: nothing, a row, or everything.
+/// What a slot may change of what a receiver shows.
 #[derive(Clone, Copy, PartialEq, Eq)]
 pub enum Touch {
+    /// Nothing.
     Nothing,
+    /// This row, 0 to 24.
     Row(u8),
+    /// All of it.
     Everything,
 }
 

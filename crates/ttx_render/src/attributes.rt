@@ -10,14 +10,23 @@ use crate::spacing::Spacing;
 /// The attributes in force at a column, or those that the columns before it leave.
 #[derive(Clone, Copy)]
 pub struct Attributes {
+    /// The foreground colour.
     pub fore: Colour,
+    /// The background colour.
     pub back: Colour,
+    /// Whether the foreground flashes.
     pub flash: bool,
+    /// Whether the column is inside a box.
     pub boxed: bool,
+    /// Double height; otherwise normal height.
     pub double: bool,
+    /// Whether the foreground is concealed until it is revealed.
     pub concealed: bool,
+    /// Mosaic mode; otherwise alphanumeric mode.
     pub mosaic: bool,
+    /// Separated mosaics; otherwise contiguous ones.
     pub separated: bool,
+    /// Whether spacing codes show the held mosaic.
     pub hold: bool,
 }
 

@@ -11,10 +11,12 @@ use crate::held_mosaic::{Held, mosaic_of};
 use crate::spacing::Spacing;
 use ttx_charset::glyph;
 
-/// How a page shows its cells: its national option, 0 to 7, and whether cells outside a box show the picture.
+/// How a page shows its cells.
 #[derive(Clone, Copy)]
 pub struct Style {
+    /// The national option, 0 to 7.
     pub option: u8,
+    /// Whether cells outside a box show the television picture.
     pub boxes: bool,
     ghost known: { option < 8 },
 }

@@ -23,11 +23,12 @@ use ttx_certificate::{Certificate, Entry, NoMemory};
 use ttx_cycle::Cycle;
 use ttx_page::{Class, Page};
 
-/// A certificate that names every start of a sure run, and the least deadline in fields with which the cycle is accepted. If there
-/// is none, `deadline` is `None` and the certificate has the largest deadline, 1,000,000.
+/// A certificate that is found.
 #[derive(Drop)]
 pub struct Found {
+    /// Names every start of a sure run. If there is no `deadline` it has the largest one, 1,000,000 fields.
     pub certificate: Certificate,
+    /// The least deadline, in fields, with which the cycle is accepted; `None` if there is none.
     pub deadline: Option<u32>,
 }
 

@@ -4,20 +4,27 @@ ghost use Rattle.std.specs.Prelude.{◌≡◌};
 ghost use Rattle.std.specs.List.{list_all};
 ghost use Rattle.ttx_witness.specs.runs.Transmissions.{run_between, run_of};
 
-/// A transmission: its slot, the slot of its owner, and whether it is sure, that is, no permitted receiver misses it.
+/// A transmission. Slots are counted from the first slot of the period and may be negative.
 #[derive(Clone, Copy, Default)]
 pub struct Transmission {
+    /// Its slot.
     pub slot: i32,
+    /// The slot of its owner, the page header that it belongs to.
     pub owner: i32,
+    /// Whether it is sure: no permitted receiver misses it.
     pub sure: bool,
 }
 
-/// A run: its first slot, the owner of that transmission, its last slot, and whether all its transmissions are sure.
+/// A run of successive transmissions.
 #[derive(Clone, Copy)]
 pub struct Run {
+    /// The slot of its first transmission.
     pub start: i32,
+    /// The slot of that transmission's owner.
     pub owner: i32,
+    /// The slot of its last transmission.
     pub end: i32,
+    /// Whether all its transmissions are sure.
     pub sure: bool,
 }
 

@@ -12,12 +12,14 @@ use crate::sent::page_index::{PageIndex, place_of};
 use ttx_cycle::Cycle;
 use ttx_header::read_header;
 
-/// The latest header of a magazine: its slot, the index of its page among the listed pages, and whether a header of another magazine
-/// has ended the page since then (`tainted`).
+/// The latest header of a magazine.
 #[derive(Clone, Copy)]
 pub struct Owner {
+    /// Its slot, counted from the first slot of the period; it may be negative.
     pub slot: i32,
+    /// The index of its page in the list of pages, if it is listed.
     pub page: Option<u32>,
+    /// Whether a header of another magazine has ended the page since then.
     pub tainted: bool,
 }
 

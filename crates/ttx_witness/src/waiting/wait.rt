@@ -4,12 +4,14 @@ use crate::faults::reason::Reason;
 use ttx_header::PageId;
 use ttx_page::Item;
 
-/// How many transmissions of an item a period has, how many of them are near their header, and how many others are cut off by a header
-/// of another magazine.
+/// What happens to the transmissions of an item in a period.
 #[derive(Clone, Copy)]
 pub struct Losses {
+    /// How many there are.
     pub sent: usize,
+    /// How many are near: at most as many slots after their header as a field has lines.
     pub near: usize,
+    /// How many of the others are cut off by a header of another magazine.
     pub cut: usize,
 }
 
