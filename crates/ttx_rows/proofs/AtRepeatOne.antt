@@ -11,7 +11,7 @@ use Rattle.ttx_page.specs.declared.item.Item.TheVariants.{Head as TheHead, Row a
 use Rattle.ttx_page.specs.Streams.{Stream, heads_page, repeated, IsTransmission, AreSuccessive}
 use Rattle.ttx_page.specs.Receptions.{IsTextByte, IsRight, OneIs, Received}
 use Rattle.ttx_page.proofs.SlotDistances.{offset}
-use Rattle.ttx_rows.specs.RowReceptions.{IsWhole, ArrivesWhole, AreAmong, RowsArrive, NoRowIsTorn, ReceivedByRows, HeadsArrive}
+use Rattle.ttx_rows.specs.RowReceptions.{IsWhole, ArrivesWhole, AreAmong, RowsArrive, NoRowIsTorn, ReceivedByRows, HeadsArrive, LateHeadsArrive}
 use Rattle.ttx_rows.specs.RowReceivers.{Manner, spoils_heads}
 use Rattle.ttx_rows.specs.Laws.{SentRowsAreOdd, AcceptedIsSeenByRows, OnceIsForAll, SeenOnceByAll}
 use Rattle.ttx_rows.proofs.ManySlots.{all_sent, whole_is_right}
@@ -68,13 +68,18 @@ module _ (s : Stream) (p : Page) (repeat : ℕ) (once : repeat ≡ 1) (tau : ℤ
   pub all_rows : (how : Manner) → ReceivedByRows how s p repeat tau received
   all_rows how = record { each = λ n lt. inl (rule.each n lt); rows = rows how.refuses; untorn = untorn how.stores }
 
-  pub all_heads : (spoils : Bool) → HeadsArrive spoils s p.id repeat tau received
+  pub last_heads : (spoils : Bool) → HeadsArrive spoils s p.id repeat tau received
+  last_heads true = λ n is x text. right TheHead x text n is.0 (record { owner = tau +ℤ pos n; owned = (refl, is.1) })
+  last_heads false = λ x text slots count run among. rule.one_right TheHead x text slots count run among
+
+  pub all_heads : (spoils : Bool) → LateHeadsArrive spoils s p.id repeat tau received
   all_heads true = λ n lt mine x text. right TheHead x text n lt (record { owner = tau +ℤ pos n; owned = (refl, mine) })
   all_heads false = λ x text slots count run among. rule.one_right TheHead x text slots count run among
 
 pub once_is_for_all : SentRowsAreOdd → OnceIsForAll
 once_is_for_all odd cycle pages w is_cycle are_pages accepts once n p here how tau received rule = (
   all_rows (repeated cycle) p w.repeat once tau received rule (odd cycle pages w is_cycle are_pages accepts n p here) how,
+  last_heads (repeated cycle) p w.repeat once tau received rule (odd cycle pages w is_cycle are_pages accepts n p here) (spoils_heads how),
   all_heads (repeated cycle) p w.repeat once tau received rule (odd cycle pages w is_cycle are_pages accepts n p here) (spoils_heads how),
 )
 

@@ -1,6 +1,6 @@
 -- What is accepted is seen by receivers that take rows whole or not at all.
-use Rattle.std.proofs.Common.{◌≡◌, ℕ, ◌<◌, ◌≤◌, ℤ, pos, ◌+ℤ◌, ◌≤ℤ◌, ◌||◌, Bool, true, false, List, length, refl, sym, subst, inl, inr, arith}
-use Rattle.std.proofs.lemmas.Bool.{cases_Bool}
+use Rattle.std.proofs.Common.{◌≡◌, ℕ, ◌<◌, ◌≤◌, ℤ, pos, ◌+ℤ◌, ◌≤ℤ◌, ◌||◌, Bool, true, false, List, [], length, get_or, refl, sym, subst, inl, inr, arith}
+use Rattle.std.proofs.lemmas.Bool.{cases_Bool, cases_lt, both_ways}
 use Rattle.std.proofs.lemmas.Int.{ints}
 use Rattle.ttx_code.specs.Laws.{OddBytesHoldTheirCodes}
 use Rattle.ttx_packet.specs.Slots.{IsSlot, is_clean}
@@ -8,21 +8,25 @@ use Rattle.ttx_packet.specs.Laws.{RowsAreNumbered}
 use Rattle.ttx_page.specs.Pages.{Page, IsPage, matches, needed}
 use Rattle.ttx_page.specs.declared.selection.Selection.{Selection}
 use Rattle.ttx_page.specs.declared.item.Item.{Item}
-use Rattle.ttx_page.specs.declared.item.Item.TheVariants.{Head as TheHead}
+use Rattle.ttx_page.specs.declared.item.Item.TheVariants.{Head as TheHead, Links as TheLinks}
 use Rattle.ttx_page.specs.declared.class.Class.{Class}
+use Rattle.ttx_page.specs.declared.class.Class.TheVariants.{Any, Clearing}
 use Rattle.ttx_page.specs.Memories.{Memory, IsFormer}
-use Rattle.ttx_page.specs.Streams.{Stream, repeated}
+use Rattle.ttx_page.specs.Streams.{Stream, repeated, heads_page}
 use Rattle.ttx_page.specs.Receptions.{Received}
 use Rattle.ttx_cycle.specs.Files.{IsCycle}
 use Rattle.ttx_witness.specs.Coverage.{Certificate, IsCertificate, limit}
-use Rattle.ttx_receiver.specs.Laws.{IsSteadyFrom, IsBrought}
+use Rattle.ttx_receiver.specs.Laws.{IsSteadyFrom, IsBrought, HasHeaderBetween}
+use Rattle.ttx_page.proofs.SlotDistances.{offset}
+use Rattle.ttx_page.specs.Packets.{packet_of}
+use Rattle.ttx_page.specs.Receptions.{IsTextByte}
 use Rattle.ttx_render.specs.Laws.{ShowingIsSeeing}
 use Rattle.ttx_certify.specs.Seen.{HasView}
 use Rattle.ttx_certify.specs.Laws.{ArePages, RunsAreSeen}
 use Rattle.ttx_certify.proofs.AcceptedIsSeen.{StreamLaws, fits_matches, steady_from, brought}
 use Rattle.ttx_late.specs.Laws.{IsFollowedFrom, RunsAreShown}
 use Rattle.ttx_late.specs.LateReceivers.{LateMemory}
-use Rattle.ttx_rows.specs.RowReceptions.{NoRowIsTorn, ReceivedByRows, HeadsArrive}
+use Rattle.ttx_rows.specs.RowReceptions.{NoRowIsTorn, ReceivedByRows, HeadsArrive, LateHeadsArrive}
 use Rattle.ttx_rows.specs.RowReceivers.{Manner, plain, spoils_heads, RowRun, RowLateRun}
 use Rattle.ttx_rows.specs.SeenByRows.{HasViewBelowHead}
 use Rattle.ttx_rows.specs.Laws.{RowRunsAreSeen, RowRunsAreShown, AcceptedIsSeenByRows}
@@ -41,6 +45,7 @@ use Rattle.ttx_rows.proofs.ManySlots.{AreHeard, AllGiven, all_given, odd_text, h
 use Rattle.ttx_rows.proofs.ManySlots.{other, other_differs, other_good, other_received}
 use Rattle.ttx_rows.proofs.Alike.{alike_self, alike_below, alike_view}
 use Rattle.ttx_rows.proofs.SameHeads.{same_view}
+use Rattle.ttx_rows.proofs.LastHead.{HasHead, Wide, AreRightFrom, AllOfPage, last_head, last_of, whole_view}
 use Rattle.ttx_rows.proofs.Storing.{unstored}
 use Rattle.ttx_rows.proofs.StoredRuns.{AllPlaced, AreReread, Like, LateLike, like_self, stored_run, stored_late, free_rows, needed_row}
 use Rattle.ttx_rows.proofs.StoredRuns.{sends_stream, Differs, may_differ, differs_row, differs_free, new_good, came_rule, came_heads}
@@ -65,8 +70,8 @@ module _ (laws : LawsOfRows) (s : Stream) (p : Page) (sel : Selection) (class : 
       record { slot = steady.slots _ low; clean = steady.clean _ low; arrives = rule.each n lt }
 
   module _ (received : List (List ℕ)) (rule : ReceivedByRows how s p repeat begin received)
-      (heads : HeadsArrive how.spaces s p.id repeat begin received) where
-    text : HeadsArrive false s p.id repeat begin received
+      (heads : LateHeadsArrive how.spaces s p.id repeat begin received) where
+    text : LateHeadsArrive false s p.id repeat begin received
     text = head_bytes how.spaces s p.id repeat begin received some heads
 
     given : AllGiven how sel p.id s begin received
@@ -114,7 +119,7 @@ module _ (laws : LawsOfRows) (s : Stream) (p : Page) (sel : Selection) (class : 
   -- and whatever becomes of it
   both_seen : RunsAreSeen → (received : List (List ℕ)) → ReceivedByRows how s p repeat begin received → (former m : Memory) → IsFormer class former →
       RowRun how class lines sel former received m → end ≤ℤ (begin +ℤ pos (length received)) →
-      HasViewBelowHead p m × (HeadsArrive how.spaces s p.id repeat begin received → HasView p m)
+      HasViewBelowHead p m × (LateHeadsArrive how.spaces s p.id repeat begin received → HasView p m)
   both_seen runs received rule former m is_former run long =
       let arrived = all_arrived received rule in
       let h = mended_run laws.below class lines sel p.id how off s received begin arrived former former m (alike_self former) run in
@@ -128,7 +133,7 @@ module _ (laws : LawsOfRows) (s : Stream) (p : Page) (sel : Selection) (class : 
   both_shown : RunsAreShown → (gap : ℕ) → IsFollowedFrom s p.id gap begin → (received : List (List ℕ)) → ReceivedByRows how s p repeat begin received →
       (former d : LateMemory) → IsFormer class former.gathered → RowLateRun how class lines sel former received d →
       (end +ℤ pos gap) ≤ℤ (begin +ℤ pos (length received)) →
-      HasViewBelowHead p d.shown × (HeadsArrive how.spaces s p.id repeat begin received → HasView p d.shown)
+      HasViewBelowHead p d.shown × (LateHeadsArrive how.spaces s p.id repeat begin received → HasView p d.shown)
   both_shown runs gap followed received rule former d is_former run long =
       let arrived = all_arrived received rule in
       let h = mended_late laws.below class lines sel p.id how off s received begin arrived former former d
@@ -157,7 +162,7 @@ module _ (laws : LawsOfRows) (s : Stream) (p : Page) (sel : Selection) (class : 
     (received : List (List ℕ)) (rule : ReceivedByRows how s p repeat begin received) where
   -- the condition of row 0
   abbrev Heads : Type 0
-  Heads = HeadsArrive true s p.id repeat begin received
+  Heads = LateHeadsArrive true s p.id repeat begin received
 
   placed : AllPlaced Heads sel p.id (free_rows p s begin) s begin received
   placed n lt =
@@ -197,7 +202,7 @@ module _ (laws : LawsOfRows) (s : Stream) (p : Page) (sel : Selection) (class : 
     other_rule : ReceivedByRows (unstored how) other_stream p repeat begin came
     other_rule = came_rule p s begin received sends came send_size size are laws.below other_tests how repeat rule
 
-    other_heads : (spaces : Bool) → Heads → HeadsArrive spaces other_stream p.id repeat begin came
+    other_heads : (spaces : Bool) → Heads → LateHeadsArrive spaces other_stream p.id repeat begin came
     other_heads true heads = came_heads p s begin received sends came send_size size are laws.below other_tests how repeat rule heads
     other_heads false heads = head_bytes true other_stream p.id repeat begin came some
         (came_heads p s begin received sends came send_size size are laws.below other_tests how repeat rule heads)
@@ -232,33 +237,102 @@ module _ (laws : LawsOfRows) (s : Stream) (p : Page) (sel : Selection) (class : 
             (seen_left.1 (other_heads h.sends h.came h.send_size h.size h.are how.spaces heads)),
       )
 
+-- ---- row 0 where the last header arrives
+
+module _ (laws : LawsOfRows) (s : Stream) (p : Page) (sel : Selection) (class : Class) (lines repeat : ℕ) (begin end : ℤ) (page : IsPage p)
+    (fits : matches sel p.id ≡ true) (steady : IsSteadyFrom s p sel begin)
+    (brings : (item : Item) → needed p item ≡ true → IsBrought s p class lines repeat item begin end) (how : Manner)
+    (received : List (List ℕ)) (rule : ReceivedByRows how s p repeat begin received) where
+  of_page : AllOfPage sel p s begin received
+  of_page n lt =
+      let low : begin ≤ℤ (begin +ℤ pos n) = omega (arith, ints) in
+      record {
+        arrived = record { slot = steady.slots _ low; clean = steady.clean _ low; arrives = rule.each n lt };
+        selected = steady.selected _ low;
+        head = λ mine. steady.items TheHead tt _ _ low (refl, mine);
+      }
+
+  -- a header of the page comes: its links do
+  some_header : HasHeaderBetween s p begin end
+  some_header = elim (brings TheLinks refl) as (λ _. HasHeaderBetween s p begin end) [
+    | inl sent ↦
+        let ends = sent.ends.0 in
+        let earlier = sent.owned.0.earlier in
+        record { slot = sent.owner; not_before = sent.not_before; before = omega (arith, ints); is_header = sent.owned.1 }
+    | inr clear ↦ clear.2
+  ]
+
+  head_seen : end ≤ℤ (begin +ℤ pos (length received)) → HeadsArrive true s p.id repeat begin received → (former m : Memory) →
+      IsFormer class former → RowRun how class lines sel former received m → HasHead p m
+  head_seen long heads former m is_former run =
+      let k = offset begin some_header.slot some_header.not_before in
+      let before = some_header.before in
+      let place = k.1 in
+      let inside : k.0 < length received = omega (arith, ints) in
+      let last = last_of (λ n. heads_page p.id (packet_of (s (begin +ℤ pos n)))) (length received) k.0 inside
+      (subst (λ j. heads_page p.id (packet_of (s j)) ≡ true) place some_header.is_header) in
+      last_head laws.below laws.numbered laws.codes p page sel fits class lines how s received begin last.place of_page last.below last.holds
+      (λ n low lt mine. right last.place last.below last.holds last.none n low lt mine) former m (wide class former is_former) run
+    where
+      wide : (class : Class) (m : Memory) → IsFormer class m → Wide m
+      wide Any m is = (is.rows 0 (omega arith)).length
+      wide Clearing m is = (is.0.rows 0 (omega arith)).length
+
+      right : (from : ℕ) → from < length received → heads_page p.id (packet_of (s (begin +ℤ pos from))) ≡ true →
+          ((k : ℕ) → from < k → k < length received → heads_page p.id (packet_of (s (begin +ℤ pos k))) ≡ false) →
+          AreRightFrom s p.id begin received from
+      right from below holds none n low lt mine = elim (cases_lt from n) as
+          (λ _. (x : ℕ) → IsTextByte TheHead x → get_or (get_or received n []) x 0 ≡ get_or (s (begin +ℤ pos n)) x 0) [
+            | inl after ↦ absurd (both_ways _ (none n after lt) mine)
+            | inr past ↦
+                let e : from ≡ n = omega arith in
+                subst (λ i. (x : ℕ) → IsTextByte TheHead x → get_or (get_or received i []) x 0 ≡ get_or (s (begin +ℤ pos i)) x 0) e
+                (heads from (below, holds, none))
+          ]
+
 pub row_runs_are_seen : LawsOfRows → RunsAreSeen → RowRunsAreSeen
-row_runs_are_seen laws runs s p sel class lines repeat begin end page few some fits steady brings how former m received is_former rule run long =
-    elim (cases_Bool how.stores) as
-    (λ _. HasViewBelowHead p m × (HeadsArrive (spoils_heads how) s p.id repeat begin received → HasView p m)) [
-      | inl on ↦
-          let r = stored_seen laws s p sel class lines repeat begin end page few some fits steady brings how on received rule runs former m is_former
-          run long in
-          (r.0, λ heads. r.1 (subst (λ b. HeadsArrive b s p.id repeat begin received) (spoiled how.spaces how.stores on) heads))
-      | inr off ↦
-          let r = both_seen laws s p sel class lines repeat begin end page few some fits steady brings how off runs received rule former m is_former
-          run long in
-          (r.0, λ heads. r.1 (subst (λ b. HeadsArrive b s p.id repeat begin received) (unspoiled how.spaces how.stores off) heads))
-    ]
+row_runs_are_seen laws runs s p sel class lines repeat begin end page few some fits steady brings how former m received is_former rule run long = (
+  below.0,
+  elim (cases_Bool (spoils_heads how)) as (λ _. HeadsArrive (spoils_heads how) s p.id repeat begin received → HasView p m) [
+    | inl spoils ↦ λ heads. whole_view laws.sees p page m
+        (head_seen laws s p sel class lines repeat begin end page fits steady brings how received rule long
+        (subst (λ b. HeadsArrive b s p.id repeat begin received) spoils heads) former m is_former run) below.0
+    | inr none ↦ λ heads. below.1 (kept none heads)
+  ],
+)
+  where
+    below : HasViewBelowHead p m × (LateHeadsArrive (spoils_heads how) s p.id repeat begin received → HasView p m)
+    below = elim (cases_Bool how.stores) as
+        (λ _. HasViewBelowHead p m × (LateHeadsArrive (spoils_heads how) s p.id repeat begin received → HasView p m)) [
+          | inl on ↦
+              let r = stored_seen laws s p sel class lines repeat begin end page few some fits steady brings how on received rule runs former m
+              is_former run long in
+              (r.0, λ heads. r.1 (subst (λ b. LateHeadsArrive b s p.id repeat begin received) (spoiled how.spaces how.stores on) heads))
+          | inr off ↦
+              let r = both_seen laws s p sel class lines repeat begin end page few some fits steady brings how off runs received rule former m
+              is_former run long in
+              (r.0, λ heads. r.1 (subst (λ b. LateHeadsArrive b s p.id repeat begin received) (unspoiled how.spaces how.stores off) heads))
+        ]
+
+    -- where no header is spoilt, both rules are one
+    kept : spoils_heads how ≡ false → HeadsArrive (spoils_heads how) s p.id repeat begin received →
+        LateHeadsArrive (spoils_heads how) s p.id repeat begin received
+    kept none heads = subst (λ b. LateHeadsArrive b s p.id repeat begin received) (sym none)
+        (subst (λ b. HeadsArrive b s p.id repeat begin received) none heads)
 
 pub row_runs_are_shown : LawsOfRows → RunsAreShown → RowRunsAreShown
 row_runs_are_shown laws runs s p sel class lines repeat begin end page few some fits steady brings gap followed how former d received is_former
     rule run long =
     elim (cases_Bool how.stores) as
-    (λ _. HasViewBelowHead p d.shown × (HeadsArrive (spoils_heads how) s p.id repeat begin received → HasView p d.shown)) [
+    (λ _. HasViewBelowHead p d.shown × (LateHeadsArrive (spoils_heads how) s p.id repeat begin received → HasView p d.shown)) [
       | inl on ↦
           let r = stored_shown laws s p sel class lines repeat begin end page few some fits steady brings how on received rule runs gap followed
           former d is_former run long in
-          (r.0, λ heads. r.1 (subst (λ b. HeadsArrive b s p.id repeat begin received) (spoiled how.spaces how.stores on) heads))
+          (r.0, λ heads. r.1 (subst (λ b. LateHeadsArrive b s p.id repeat begin received) (spoiled how.spaces how.stores on) heads))
       | inr off ↦
           let r = both_shown laws s p sel class lines repeat begin end page few some fits steady brings how off runs gap followed received rule
           former d is_former run long in
-          (r.0, λ heads. r.1 (subst (λ b. HeadsArrive b s p.id repeat begin received) (unspoiled how.spaces how.stores off) heads))
+          (r.0, λ heads. r.1 (subst (λ b. LateHeadsArrive b s p.id repeat begin received) (unspoiled how.spaces how.stores off) heads))
     ]
 
 pub accepted_is_seen_by_rows : RowRunsAreSeen → StreamLaws → AcceptedIsSeenByRows
