@@ -73,7 +73,7 @@ module _ (s : Stream) (p : Page) (repeat : ℕ) (once : repeat ≡ 1) (tau : ℤ
   last_heads false = λ x text slots count run among. rule.one_right TheHead x text slots count run among
 
   pub all_heads : (spoils : Bool) → LateHeadsArrive spoils s p.id repeat tau received
-  all_heads true = λ n lt mine x text. right TheHead x text n lt (record { owner = tau +ℤ pos n; owned = (refl, mine) })
+  all_heads true = λ n is x text. right TheHead x text n is.0 (record { owner = tau +ℤ pos n; owned = (refl, is.1) })
   all_heads false = λ x text slots count run among. rule.one_right TheHead x text slots count run among
 
 pub once_is_for_all : SentRowsAreOdd → OnceIsForAll

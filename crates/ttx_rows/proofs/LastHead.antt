@@ -3,7 +3,7 @@
 use Rattle.std.proofs.Common.{◌≡◌, ◌⊎◌, ℕ, zero, suc, ◌+◌, ◌-◌, ◌%◌, ◌<◌, ◌≤◌, ℤ, pos, ◌+ℤ◌, ◌==◌, ◌&&◌, not, Bool, true, false, if◌then◌else◌}
 use Rattle.std.proofs.Common.{List, [], ◌∷◌, ◌++◌, Option, Some, None, length, get_or, take, drop, map, replicate, set}
 use Rattle.std.proofs.Common.{refl, sym, ap, ◌∙◌, subst, inl, inr, arith, leb-true, eqb-true, eq-eqb, get_or-drop, get_or-take, length-drop}
-use Rattle.std.proofs.lemmas.Bool.{cases_Bool, cases_lt, both_ways, and_parts, and_from}
+use Rattle.std.proofs.lemmas.Bool.{cases_Bool, cases_lt, both_ways, and_parts, and_from, not-true}
 use Rattle.std.proofs.lemmas.Int.{ints}
 use Rattle.std.proofs.lemmas.List.{get_or-map}
 use Rattle.ttx_code.specs.Words.{Near, is_odd, odd_byte, stored}
@@ -24,7 +24,7 @@ use Rattle.ttx_page.specs.declared.selection.Selection.TheVariants.{Exact, AnySu
 use Rattle.ttx_page.specs.declared.class.Class.{Class}
 use Rattle.ttx_page.specs.Memories.{Memory, memory_row, char_at, Holds, Shows, memory_of_page}
 use Rattle.ttx_page.specs.Receivers.{after, older, erased, erases, begun, with_row, with_storing, with_links, stored_row, misses}
-use Rattle.ttx_page.specs.Streams.{Stream, heads_page, heads_matched}
+use Rattle.ttx_page.specs.Streams.{Stream, heads, heads_page, heads_matched}
 use Rattle.ttx_page.specs.Receptions.{IsTextByte}
 use Rattle.ttx_page.specs.Steady.{HeadIsRight}
 use Rattle.ttx_render.specs.declared.cells.Cell.{Cell}
@@ -37,7 +37,8 @@ use Rattle.ttx_rows.specs.SeenByRows.{HasViewBelowHead}
 use Rattle.ttx_rows.specs.RowReceivers.{Manner, may_refuse, blank_byte, blanked, AreTakenAs, IsTakenAs, RowStep, RowRun}
 use Rattle.ttx_rows.proofs.OtherBytes.{blank_odd, even_zero}
 use Rattle.ttx_rows.proofs.OneSlot.{LawsBelow, packet_is, packet_at, IsHeaderKind, header_of}
-use Rattle.ttx_rows.proofs.Mended.{Arrived, not_lost, page_kind}
+use Rattle.ttx_rows.specs.RowReceptions.{may_be_lost}
+use Rattle.ttx_rows.proofs.Mended.{Arrived}
 use Rattle.ttx_receiver.specs.Reading.{IsIgnored}
 use Rattle.ttx_rows.proofs.KeptMemories.{length-stored_row}
 use Rattle.ttx_rows.proofs.StoredText.{taken_odd, taken_at}
@@ -115,7 +116,7 @@ wide_step how class lines sel m received new w step = elim step as (λ _. Wide n
 -- ---- what other packets leave
 
 -- a packet that no receiver of the selection takes into row 0
-abbrev IsElsewhere : Selection → Packet → Type 0
+abbrev pub IsElsewhere : Selection → Packet → Type 0
 IsElsewhere sel (Header id control t) = matches sel id ≡ false
 IsElsewhere sel (Row mag number t) = 1 ≤ number
 IsElsewhere sel (Links mag content) = Unit {0}
@@ -209,6 +210,36 @@ head_set codes p page class lines sel choice m id control t here is text w =
 
 -- ---- headers
 
+pub page_of_mag : (page : Id) (pkt : Packet) → heads_page page pkt ≡ true → heads page.mag pkt ≡ true
+page_of_mag page (Header id control t) h =
+    let e : page.mag ≡ id.mag = eqb-true _ _ ((and_parts _ _ (and_parts _ _ h).0).0) in
+    eq-eqb id.mag page.mag (sym e)
+page_of_mag page (Row mag number t) h = h
+page_of_mag page (Links mag content) h = h
+page_of_mag page Empty h = h
+page_of_mag page Unreadable h = h
+page_of_mag page Info h = h
+page_of_mag page Other h = h
+
+mag_kind : (mag : ℕ) (slot : List ℕ) (k : Kind) → heads mag (packet_of_kind slot k) ≡ true → IsHeaderKind k
+mag_kind mag slot (IsHeader m) h = tt
+mag_kind mag slot (IsRow m number) h = absurd (both_ways false refl h)
+mag_kind mag slot (IsLinks m) h = absurd (both_ways false refl h)
+mag_kind mag slot IsEmpty h = absurd (both_ways false refl h)
+mag_kind mag slot IsUnreadable h = absurd (both_ways false refl h)
+mag_kind mag slot IsInfo h = absurd (both_ways false refl h)
+mag_kind mag slot (IsOther m number) h = absurd (both_ways false refl h)
+
+-- a header of the magazine isn't lost
+header_arrives : (mag : ℕ) (pkt : Packet) → heads mag pkt ≡ true → may_be_lost mag pkt ≡ true → ⊥
+header_arrives mag (Header id control t) h lost = both_ways _ (not-true _ lost) h
+header_arrives mag (Row m number t) h lost = both_ways false refl h
+header_arrives mag (Links m content) h lost = both_ways false refl h
+header_arrives mag Empty h lost = both_ways false refl h
+header_arrives mag Unreadable h lost = both_ways false refl h
+header_arrives mag Info h lost = both_ways false refl h
+header_arrives mag Other h lost = both_ways false refl h
+
 -- a header is received as one of the same id and control bits
 pub record HeaderReceived (page : Id) (sent received : List ℕ) : Type 0 where
   pub may : MayBeReceivedAs sent received
@@ -249,11 +280,11 @@ module _ (laws : LawsBelow) (page : Id) (sent received : List ℕ) (arrived : Ar
     ]
   ]
 
-  pub page_header_received : heads_page page (packet_of sent) ≡ true → HeaderReceived page sent received
-  page_header_received mine =
-      let k = header_of (kind_of sent) (page_kind page sent (kind_of sent) (ap (heads_page page) (sym (packet_is sent)) ∙ mine)) in
+  pub mag_header_received : heads page.mag (packet_of sent) ≡ true → HeaderReceived page sent received
+  mag_header_received mine =
+      let k = header_of (kind_of sent) (mag_kind page.mag sent (kind_of sent) (ap (heads page.mag) (sym (packet_is sent)) ∙ mine)) in
       elim arrived.arrives as (λ _. HeaderReceived page sent received) [
-        | inr nothing ↦ absurd (not_lost page (packet_of sent) mine nothing.0)
+        | inr nothing ↦ absurd (header_arrives page.mag (packet_of sent) mine nothing.0)
         | inl may ↦ elim (cases_Bool (is_empty sent)) as (λ _. HeaderReceived page sent received) [
           | inl empty ↦ absurd (some_header sent k.0 k.1 empty)
           | inr some ↦ elim (laws.kind sent received arrived.slot arrived.clean some may) as (λ _. HeaderReceived page sent received) [
@@ -263,8 +294,11 @@ module _ (laws : LawsBelow) (page : Id) (sent received : List ℕ) (arrived : Ar
         ]
       ]
 
+  pub page_header_received : heads_page page (packet_of sent) ≡ true → HeaderReceived page sent received
+  page_header_received mine = mag_header_received (page_of_mag page (packet_of sent) mine)
+
 -- the selection matches the page's own id
-page_id_matches : (sel : Selection) (page id : Id) → matches sel page ≡ true → same_id page id ≡ true → matches sel id ≡ true
+pub page_id_matches : (sel : Selection) (page id : Id) → matches sel page ≡ true → same_id page id ≡ true → matches sel id ≡ true
 page_id_matches (Exact own) page id h k =
     let a = eqb-true _ _ ((and_parts _ _ (and_parts _ _ h).0).0) ∙ eqb-true _ _ ((and_parts _ _ (and_parts _ _ k).0).0) in
     let b = eqb-true _ _ ((and_parts _ _ (and_parts _ _ h).0).1) ∙ eqb-true _ _ ((and_parts _ _ (and_parts _ _ k).0).1) in
@@ -292,7 +326,7 @@ pub record OfPage (sel : Selection) (p : Page) (sent received : List ℕ) : Type
 module _ (laws : LawsBelow) (numbered : RowsAreNumbered) (codes : OddBytesHoldTheirCodes) (p : Page) (page : IsPage p) (sel : Selection)
     (fits : matches sel p.id ≡ true) (class : Class) (lines : ℕ) (how : Manner) (sent received : List ℕ) (of : OfPage sel p sent received) where
   -- a slot that doesn't send a header of the page
-  elsewhere : heads_page p.id (packet_of sent) ≡ false → IsElsewhere sel (packet_of received)
+  pub elsewhere : heads_page p.id (packet_of sent) ≡ false → IsElsewhere sel (packet_of received)
   elsewhere other = subst (IsElsewhere sel) (sym (packet_is received)) (go (kind_of received) refl)
     where
       go : (k : Kind) → kind_of received ≡ k → IsElsewhere sel (packet_of_kind received k)
@@ -409,20 +443,20 @@ module _ (laws : LawsBelow) (numbered : RowsAreNumbered) (codes : OddBytesHoldTh
 abbrev pub AllOfPage : Selection → Page → Stream → ℤ → List (List ℕ) → Type 0
 AllOfPage sel p s tau received = (n : ℕ) → n < length received → OfPage sel p (s (tau +ℤ pos n)) (get_or received n [])
 
-later : (sel : Selection) (p : Page) (s : Stream) (tau : ℤ) (slot : List ℕ) (received : List (List ℕ)) → AllOfPage sel p s tau (slot ∷ received) →
+pub later : (sel : Selection) (p : Page) (s : Stream) (tau : ℤ) (slot : List ℕ) (received : List (List ℕ)) → AllOfPage sel p s tau (slot ∷ received) →
     AllOfPage sel p s (tau +ℤ pos 1) received
 later sel p s tau slot received all n lt =
     let e : tau +ℤ pos (suc n) ≡ (tau +ℤ pos 1) +ℤ pos n = omega (arith, ints) in
     subst (λ j. OfPage sel p (s j) (get_or received n [])) e (all (suc n) (omega arith))
 
-right_later : (s : Stream) (page : Id) (tau : ℤ) (slot : List ℕ) (received : List (List ℕ)) (from : ℕ) →
+pub right_later : (s : Stream) (page : Id) (tau : ℤ) (slot : List ℕ) (received : List (List ℕ)) (from : ℕ) →
     AreRightFrom s page tau (slot ∷ received) (suc from) → AreRightFrom s page (tau +ℤ pos 1) received from
 right_later s page tau slot received from right n le lt =
     let e : tau +ℤ pos (suc n) ≡ (tau +ℤ pos 1) +ℤ pos n = omega (arith, ints) in
     subst (λ j. heads_page page (packet_of (s j)) ≡ true → (x : ℕ) → IsTextByte TheHead x → get_or (get_or received n []) x 0 ≡ get_or (s j) x 0) e
     (right (suc n) (omega arith) (omega arith))
 
-right_next : (s : Stream) (page : Id) (tau : ℤ) (slot : List ℕ) (received : List (List ℕ)) →
+pub right_next : (s : Stream) (page : Id) (tau : ℤ) (slot : List ℕ) (received : List (List ℕ)) →
     AreRightFrom s page tau (slot ∷ received) 0 → AreRightFrom s page (tau +ℤ pos 1) received 0
 right_next s page tau slot received right = right_later s page tau slot received 0 (λ n le lt. right n (omega arith) lt)
 

@@ -20,6 +20,7 @@ use Rattle.ttx_receiver.specs.Laws.{IsSteadyFrom, IsBrought, HasHeaderBetween}
 use Rattle.ttx_page.proofs.SlotDistances.{offset}
 use Rattle.ttx_page.specs.Packets.{packet_of}
 use Rattle.ttx_page.specs.Receptions.{IsTextByte}
+use Rattle.ttx_page.specs.Followers.{heads_another}
 use Rattle.ttx_render.specs.Laws.{ShowingIsSeeing}
 use Rattle.ttx_certify.specs.Seen.{HasView}
 use Rattle.ttx_certify.specs.Laws.{ArePages, RunsAreSeen}
@@ -40,12 +41,13 @@ use Rattle.ttx_certify.specs.declared.verdict.Verdict.TheVariants as certify
 use Rattle.ttx_rows.specs.RowVerdicts.{MeansByRows, MeansLateByRows}
 use Rattle.ttx_rows.proofs.OneSlot.{LawsBelow}
 use Rattle.ttx_rows.proofs.OtherStream.{MayDiffer, HaveSameTests, same_texts, same_tests, kept_steady, moved_steady, moved_brought, moved_followed}
-use Rattle.ttx_rows.proofs.ManySlots.{received_is_by_rows, runs_are_row_runs, late_row_run, mag_is, head_bytes}
+use Rattle.ttx_rows.proofs.ManySlots.{EachHeadArrives, received_is_by_rows, runs_are_row_runs, late_row_run, mag_is, head_bytes}
 use Rattle.ttx_rows.proofs.ManySlots.{AreHeard, AllGiven, all_given, odd_text, heard_run, heard_late}
 use Rattle.ttx_rows.proofs.ManySlots.{other, other_differs, other_good, other_received}
 use Rattle.ttx_rows.proofs.Alike.{alike_self, alike_below, alike_view}
 use Rattle.ttx_rows.proofs.SameHeads.{same_view}
-use Rattle.ttx_rows.proofs.LastHead.{HasHead, Wide, AreRightFrom, AllOfPage, last_head, last_of, whole_view}
+use Rattle.ttx_rows.proofs.LastHead.{HasHead, Wide, AreRightFrom, AllOfPage, last_head, Last, last_of, whole_view}
+use Rattle.ttx_rows.proofs.LateHead.{former_is_wide, late_head}
 use Rattle.ttx_rows.proofs.Storing.{unstored}
 use Rattle.ttx_rows.proofs.StoredRuns.{AllPlaced, AreReread, Like, LateLike, like_self, stored_run, stored_late, free_rows, needed_row}
 use Rattle.ttx_rows.proofs.StoredRuns.{sends_stream, Differs, may_differ, differs_row, differs_free, new_good, came_rule, came_heads}
@@ -70,8 +72,8 @@ module _ (laws : LawsOfRows) (s : Stream) (p : Page) (sel : Selection) (class : 
       record { slot = steady.slots _ low; clean = steady.clean _ low; arrives = rule.each n lt }
 
   module _ (received : List (List ℕ)) (rule : ReceivedByRows how s p repeat begin received)
-      (heads : LateHeadsArrive how.spaces s p.id repeat begin received) where
-    text : LateHeadsArrive false s p.id repeat begin received
+      (heads : EachHeadArrives how.spaces s p.id repeat begin received) where
+    text : EachHeadArrives false s p.id repeat begin received
     text = head_bytes how.spaces s p.id repeat begin received some heads
 
     given : AllGiven how sel p.id s begin received
@@ -119,7 +121,7 @@ module _ (laws : LawsOfRows) (s : Stream) (p : Page) (sel : Selection) (class : 
   -- and whatever becomes of it
   both_seen : RunsAreSeen → (received : List (List ℕ)) → ReceivedByRows how s p repeat begin received → (former m : Memory) → IsFormer class former →
       RowRun how class lines sel former received m → end ≤ℤ (begin +ℤ pos (length received)) →
-      HasViewBelowHead p m × (LateHeadsArrive how.spaces s p.id repeat begin received → HasView p m)
+      HasViewBelowHead p m × (EachHeadArrives how.spaces s p.id repeat begin received → HasView p m)
   both_seen runs received rule former m is_former run long =
       let arrived = all_arrived received rule in
       let h = mended_run laws.below class lines sel p.id how off s received begin arrived former former m (alike_self former) run in
@@ -133,7 +135,7 @@ module _ (laws : LawsOfRows) (s : Stream) (p : Page) (sel : Selection) (class : 
   both_shown : RunsAreShown → (gap : ℕ) → IsFollowedFrom s p.id gap begin → (received : List (List ℕ)) → ReceivedByRows how s p repeat begin received →
       (former d : LateMemory) → IsFormer class former.gathered → RowLateRun how class lines sel former received d →
       (end +ℤ pos gap) ≤ℤ (begin +ℤ pos (length received)) →
-      HasViewBelowHead p d.shown × (LateHeadsArrive how.spaces s p.id repeat begin received → HasView p d.shown)
+      HasViewBelowHead p d.shown × (EachHeadArrives how.spaces s p.id repeat begin received → HasView p d.shown)
   both_shown runs gap followed received rule former d is_former run long =
       let arrived = all_arrived received rule in
       let h = mended_late laws.below class lines sel p.id how off s received begin arrived former former d
@@ -162,7 +164,7 @@ module _ (laws : LawsOfRows) (s : Stream) (p : Page) (sel : Selection) (class : 
     (received : List (List ℕ)) (rule : ReceivedByRows how s p repeat begin received) where
   -- the condition of row 0
   abbrev Heads : Type 0
-  Heads = LateHeadsArrive true s p.id repeat begin received
+  Heads = EachHeadArrives true s p.id repeat begin received
 
   placed : AllPlaced Heads sel p.id (free_rows p s begin) s begin received
   placed n lt =
@@ -202,7 +204,7 @@ module _ (laws : LawsOfRows) (s : Stream) (p : Page) (sel : Selection) (class : 
     other_rule : ReceivedByRows (unstored how) other_stream p repeat begin came
     other_rule = came_rule p s begin received sends came send_size size are laws.below other_tests how repeat rule
 
-    other_heads : (spaces : Bool) → Heads → LateHeadsArrive spaces other_stream p.id repeat begin came
+    other_heads : (spaces : Bool) → Heads → EachHeadArrives spaces other_stream p.id repeat begin came
     other_heads true heads = came_heads p s begin received sends came send_size size are laws.below other_tests how repeat rule heads
     other_heads false heads = head_bytes true other_stream p.id repeat begin came some
         (came_heads p s begin received sends came send_size size are laws.below other_tests how repeat rule heads)
@@ -301,39 +303,123 @@ row_runs_are_seen laws runs s p sel class lines repeat begin end page few some f
   ],
 )
   where
-    below : HasViewBelowHead p m × (LateHeadsArrive (spoils_heads how) s p.id repeat begin received → HasView p m)
+    below : HasViewBelowHead p m × (EachHeadArrives (spoils_heads how) s p.id repeat begin received → HasView p m)
     below = elim (cases_Bool how.stores) as
-        (λ _. HasViewBelowHead p m × (LateHeadsArrive (spoils_heads how) s p.id repeat begin received → HasView p m)) [
+        (λ _. HasViewBelowHead p m × (EachHeadArrives (spoils_heads how) s p.id repeat begin received → HasView p m)) [
           | inl on ↦
               let r = stored_seen laws s p sel class lines repeat begin end page few some fits steady brings how on received rule runs former m
               is_former run long in
-              (r.0, λ heads. r.1 (subst (λ b. LateHeadsArrive b s p.id repeat begin received) (spoiled how.spaces how.stores on) heads))
+              (r.0, λ heads. r.1 (subst (λ b. EachHeadArrives b s p.id repeat begin received) (spoiled how.spaces how.stores on) heads))
           | inr off ↦
               let r = both_seen laws s p sel class lines repeat begin end page few some fits steady brings how off runs received rule former m
               is_former run long in
-              (r.0, λ heads. r.1 (subst (λ b. LateHeadsArrive b s p.id repeat begin received) (unspoiled how.spaces how.stores off) heads))
+              (r.0, λ heads. r.1 (subst (λ b. EachHeadArrives b s p.id repeat begin received) (unspoiled how.spaces how.stores off) heads))
         ]
 
     -- where no header is spoilt, both rules are one
     kept : spoils_heads how ≡ false → HeadsArrive (spoils_heads how) s p.id repeat begin received →
-        LateHeadsArrive (spoils_heads how) s p.id repeat begin received
-    kept none heads = subst (λ b. LateHeadsArrive b s p.id repeat begin received) (sym none)
+        EachHeadArrives (spoils_heads how) s p.id repeat begin received
+    kept none heads = subst (λ b. EachHeadArrives b s p.id repeat begin received) (sym none)
         (subst (λ b. HeadsArrive b s p.id repeat begin received) none heads)
+
+-- ---- and of receivers that show late, where the last header that was followed arrives
+
+module _ (laws : LawsOfRows) (s : Stream) (p : Page) (sel : Selection) (class : Class) (lines repeat : ℕ) (begin end : ℤ) (page : IsPage p)
+    (fits : matches sel p.id ≡ true) (steady : IsSteadyFrom s p sel begin)
+    (brings : (item : Item) → needed p item ≡ true → IsBrought s p class lines repeat item begin end) (how : Manner)
+    (received : List (List ℕ)) (rule : ReceivedByRows how s p repeat begin received)
+    (gap : ℕ) (followed : IsFollowedFrom s p.id gap begin) where
+  -- a header of the page that is followed, and the one that follows
+  record Followed : Type 0 where
+    from : ℕ
+    until : ℕ
+    order : from < until
+    inside : until < length received
+    is_mine : heads_page p.id (packet_of (s (begin +ℤ pos from))) ≡ true
+    is_another : heads_another p.id (packet_of (s (begin +ℤ pos until))) ≡ true
+
+  some_followed : (end +ℤ pos gap) ≤ℤ (begin +ℤ pos (length received)) → Followed
+  some_followed long =
+      let h = some_header laws s p sel class lines repeat begin end page fits steady brings how received rule in
+      let f = followed h.slot h.not_before h.is_header in
+      let before = h.before in
+      let low = h.not_before in
+      let next = f.0.next.earlier in
+      let soon = f.1 in
+      let k = offset begin h.slot h.not_before in
+      let u = offset begin f.0.slot (omega (arith, ints)) in
+      let at = k.1 in
+      let then = u.1 in
+      record {
+        from = k.0;
+        until = u.0;
+        order = omega (arith, ints);
+        inside = omega (arith, ints);
+        is_mine = subst (λ j. heads_page p.id (packet_of (s j)) ≡ true) at h.is_header;
+        is_another = subst (λ j. heads_another p.id (packet_of (s j)) ≡ true) then f.0.another;
+      }
+
+  late_head_seen : (end +ℤ pos gap) ≤ℤ (begin +ℤ pos (length received)) → LateHeadsArrive true s p.id repeat begin received →
+      (former d : LateMemory) → IsFormer class former.gathered → RowLateRun how class lines sel former received d → HasHead p d.shown
+  late_head_seen long heads former d is_former run =
+      let f = some_followed long in
+      let u = last_of (λ n. heads_another p.id (packet_of (s (begin +ℤ pos n)))) (length received) f.until f.inside f.is_another in
+      let k = last_of (λ n. heads_page p.id (packet_of (s (begin +ℤ pos n)))) u.place f.from (before_last f u) f.is_mine in
+      late_head laws.below laws.numbered laws.codes p page sel fits class lines how s gap begin followed received begin k.place u.place
+      (omega (arith, ints)) k.below u.below k.holds u.holds
+      (of_page laws s p sel class lines repeat begin end page fits steady brings how received rule)
+      (λ n low lt is_mine. heads n (
+        lt,
+        is_mine,
+        λ i next after order inside header other. none_later u k n low i next after order inside header other,
+      ))
+      former d (former_is_wide class former.gathered is_former) run
+    where
+      before_last : (f : Followed) (u : Last (λ n. heads_another p.id (packet_of (s (begin +ℤ pos n)))) (length received)) → f.from < u.place
+      before_last f u = elim (cases_lt u.place f.until) as (λ _. f.from < u.place) [
+        | inl before ↦ absurd (both_ways _ (u.none f.until before f.inside) f.is_another)
+        | inr past ↦ let order = f.order in omega arith
+      ]
+
+      none_later : (u : Last (λ n. heads_another p.id (packet_of (s (begin +ℤ pos n)))) (length received))
+          (k : Last (λ n. heads_page p.id (packet_of (s (begin +ℤ pos n)))) u.place) (n : ℕ) → k.place ≤ n → (i next : ℕ) → n < i → i < next →
+          next < length received → heads_page p.id (packet_of (s (begin +ℤ pos i))) ≡ true →
+          heads_another p.id (packet_of (s (begin +ℤ pos next))) ≡ true → ⊥
+      none_later u k n low i next after order inside header other = elim (cases_lt u.place next) as (λ _. ⊥) [
+        | inl past ↦ both_ways _ (u.none next past inside) other
+        | inr within ↦ both_ways _ (k.none i (omega arith) (omega arith)) header
+      ]
 
 pub row_runs_are_shown : LawsOfRows → RunsAreShown → RowRunsAreShown
 row_runs_are_shown laws runs s p sel class lines repeat begin end page few some fits steady brings gap followed how former d received is_former
-    rule run long =
-    elim (cases_Bool how.stores) as
-    (λ _. HasViewBelowHead p d.shown × (LateHeadsArrive (spoils_heads how) s p.id repeat begin received → HasView p d.shown)) [
-      | inl on ↦
-          let r = stored_shown laws s p sel class lines repeat begin end page few some fits steady brings how on received rule runs gap followed
-          former d is_former run long in
-          (r.0, λ heads. r.1 (subst (λ b. LateHeadsArrive b s p.id repeat begin received) (spoiled how.spaces how.stores on) heads))
-      | inr off ↦
-          let r = both_shown laws s p sel class lines repeat begin end page few some fits steady brings how off runs gap followed received rule
-          former d is_former run long in
-          (r.0, λ heads. r.1 (subst (λ b. LateHeadsArrive b s p.id repeat begin received) (unspoiled how.spaces how.stores off) heads))
-    ]
+    rule run long = (
+      below.0,
+      elim (cases_Bool (spoils_heads how)) as (λ _. LateHeadsArrive (spoils_heads how) s p.id repeat begin received → HasView p d.shown) [
+        | inl spoils ↦ λ heads. whole_view laws.sees p page d.shown
+            (late_head_seen laws s p sel class lines repeat begin end page fits steady brings how received rule gap followed long
+            (subst (λ b. LateHeadsArrive b s p.id repeat begin received) spoils heads) former d is_former run) below.0
+        | inr none ↦ λ heads. below.1 (kept none heads)
+      ],
+    )
+  where
+    below : HasViewBelowHead p d.shown × (EachHeadArrives (spoils_heads how) s p.id repeat begin received → HasView p d.shown)
+    below = elim (cases_Bool how.stores) as
+        (λ _. HasViewBelowHead p d.shown × (EachHeadArrives (spoils_heads how) s p.id repeat begin received → HasView p d.shown)) [
+          | inl on ↦
+              let r = stored_shown laws s p sel class lines repeat begin end page few some fits steady brings how on received rule runs gap followed
+              former d is_former run long in
+              (r.0, λ heads. r.1 (subst (λ b. EachHeadArrives b s p.id repeat begin received) (spoiled how.spaces how.stores on) heads))
+          | inr off ↦
+              let r = both_shown laws s p sel class lines repeat begin end page few some fits steady brings how off runs gap followed received rule
+              former d is_former run long in
+              (r.0, λ heads. r.1 (subst (λ b. EachHeadArrives b s p.id repeat begin received) (unspoiled how.spaces how.stores off) heads))
+        ]
+
+    -- where no header is spoilt, both rules are one
+    kept : spoils_heads how ≡ false → LateHeadsArrive (spoils_heads how) s p.id repeat begin received →
+        EachHeadArrives (spoils_heads how) s p.id repeat begin received
+    kept none heads = subst (λ b. EachHeadArrives b s p.id repeat begin received) (sym none)
+        (subst (λ b. LateHeadsArrive b s p.id repeat begin received) none heads)
 
 pub accepted_is_seen_by_rows : RowRunsAreSeen → StreamLaws → AcceptedIsSeenByRows
 accepted_is_seen_by_rows runs laws cycle pages w is_cycle are_pages is_certificate accepts n p here = record {

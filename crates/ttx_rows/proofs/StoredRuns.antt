@@ -20,11 +20,11 @@ use Rattle.ttx_page.specs.Steady.{IsChecked}
 use Rattle.ttx_page.specs.Receptions.{IsTextByte, OneIs}
 use Rattle.ttx_receiver.specs.Reading.{IsIgnored}
 use Rattle.ttx_late.specs.LateReceivers.{LateMemory, heads_number, TakesIn, MayShow}
-use Rattle.ttx_rows.specs.RowReceptions.{IsWhole, MayArriveAs, ArrivesWhole, ArrivesRight, AreAmong, RowsArrive, ReceivedByRows, LateHeadsArrive}
+use Rattle.ttx_rows.specs.RowReceptions.{IsWhole, MayArriveAs, ArrivesWhole, ArrivesRight, AreAmong, RowsArrive, ReceivedByRows}
 use Rattle.ttx_rows.specs.RowReceivers.{Manner, may_refuse, RowStep, RowRun, RowLateStep, RowLateRun}
 use Rattle.ttx_rows.proofs.OneSlot.{LawsBelow, packet_at}
 use Rattle.ttx_rows.proofs.OtherStream.{IsRetexted, HaveSameTests, tests_back, moved_successive}
-use Rattle.ttx_rows.proofs.ManySlots.{all_sent, one_map}
+use Rattle.ttx_rows.proofs.ManySlots.{EachHeadArrives, all_sent, one_map}
 use Rattle.ttx_rows.proofs.Owners.{Owner, is_under_since, since_found, since_known}
 use Rattle.ttx_rows.proofs.Alike.{Alike, alike_self}
 use Rattle.ttx_rows.proofs.SameHeads.{SameHead, same_text}
@@ -420,7 +420,7 @@ module _ (p : Page) (s : Stream) (tau : ℤ) (received sends came : List (List �
     pub came_rule : ReceivedByRows (unstored how) new_stream p repeat tau came
     came_rule = record { each = came_arrives; rows = came_rows how.refuses rule.rows; untorn = tt }
 
-    pub came_heads : LateHeadsArrive true s p.id repeat tau received → LateHeadsArrive true new_stream p.id repeat tau came
+    pub came_heads : EachHeadArrives true s p.id repeat tau received → EachHeadArrives true new_stream p.id repeat tau came
     came_heads heads n lt mine x text =
         let inside : n < length received = omega (arith, size) in
         let was : heads_page p.id (packet_of (s (tau +ℤ pos n))) ≡ true =
