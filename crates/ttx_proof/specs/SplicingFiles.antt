@@ -4,8 +4,12 @@
 --   AreTwo, RefusesTwo      what two files of one kind are; the first is refused, or it is right and the second is refused
 --   ReadsCycles, ReadsServices, ReadsWitnesses      the two files of each kind, in their order
 --   RefusesSix              the first of the six files that is refused
---   Splices                 the verdict on the six files, and its line
---   SplicesFiles            what was written at each answer
+--   ReadsSix                all six, or why they are refused
+--   IsSpliceAnswer, IsSentAnswer    the verdict on a splice, and its line; the same where the old cycle has been sent for some periods
+--   AreSixWith              the six files are as they should be, and something is true of their splice
+--   Splices, SplicesSent    the verdict on the six files, and its line
+--   WritesAnswer            what was written at each answer
+--   SplicesFiles, SplicesSentFiles  what is answered and written for the six files
 --   IsRight, RisesInOrder   the second file of a kind is read only where the first is right
 --   CountsPackets, CountsTwoCycles, CountsTwoTexts, CountsSix, CountsSplice       a fault of a device is answered only where one was counted
 use Rattle.std.specs.Prelude.{◌≡◌, ◌⊎◌, ℕ, ◌<◌, List, length, take, ⊤, Option, IfSome, Result, Ok, Err}
@@ -25,12 +29,14 @@ use Rattle.ttx_certify.specs.declared.faults.TextFile.TheVariants as text
 use Rattle.ttx_cycle.specs.declared.faults.CycleFault.TheVariants as cycle
 use Rattle.ttx_proof.specs.Splicing.{splice_at}
 use Rattle.ttx_proof.specs.Splices.{Splice}
-use Rattle.ttx_proof.specs.SpliceLines.{splice_line}
+use Rattle.ttx_proof.specs.SentVerdicts.{IsSentVerdict, SentMeans}
+use Rattle.ttx_proof.specs.SpliceLines.{splice_line, sent_line}
 use Rattle.ttx_proof.specs.Verdicts.{IsSpliceVerdict, SpliceMeans}
-use Rattle.ttx_proof.specs.declared.files.Cycles.{Cycles}
-use Rattle.ttx_proof.specs.declared.files.Services.{Services}
-use Rattle.ttx_proof.specs.declared.files.Witnesses.{Witnesses}
-use Rattle.ttx_proof.specs.declared.files.Six.{Six}
+use Rattle.ttx_proof.specs.declared.reading.Cycles.{Cycles}
+use Rattle.ttx_proof.specs.declared.reading.Services.{Services}
+use Rattle.ttx_proof.specs.declared.reading.Witnesses.{Witnesses}
+use Rattle.ttx_proof.specs.declared.reading.Six.{Six}
+use Rattle.ttx_proof.specs.declared.sent.SentVerdict.{SentVerdict}
 use Rattle.ttx_proof.specs.declared.verdict.SpliceVerdict.{SpliceVerdict}
 
 abbrev pub ReadsCycle : List ℕ → Result (List (List ℕ)) FilesFault → Type 0
@@ -80,7 +86,13 @@ pub record IsSpliceAnswer (c : Splice) (verdict : SpliceVerdict) (line : List �
   pub seen : SpliceMeans c verdict
   pub line_is : line ≡ splice_line verdict
 
-pub record Splices (a b c d e f : Option (List ℕ)) (verdict : SpliceVerdict) (line : List ℕ) : Type 0 where
+pub record IsSentAnswer (c : Splice) (periods : ℕ) (verdict : SentVerdict) (line : List ℕ) : Type 0 where
+  pub exact : IsSentVerdict c periods verdict
+  pub seen : SentMeans c verdict
+  pub line_is : line ≡ sent_line verdict
+
+-- the six files are as they should be, and this is true of the splice of their contents
+pub record AreSixWith (a b c d e f : Option (List ℕ)) (Says : Splice → Type 0) : Type 0 where
   pub old : List (List ℕ)
   pub new : List (List ℕ)
   pub old_service : ServiceFields
@@ -90,7 +102,16 @@ pub record Splices (a b c d e f : Option (List ℕ)) (verdict : SpliceVerdict) (
   pub cycles : AreTwo ReadsCycle a b old new
   pub services : AreTwo ReadsService c d old_service new_service
   pub certificates : AreTwo ReadsWitness e f v w
-  pub told : IsSpliceAnswer (splice_on old new old_service new_service v w) verdict line
+  pub told : Says (splice_on old new old_service new_service v w)
+
+abbrev pub Splices : Option (List ℕ) → Option (List ℕ) → Option (List ℕ) → Option (List ℕ) → Option (List ℕ) → Option (List ℕ) →
+    SpliceVerdict → List ℕ → Type 0
+Splices a b c d e f verdict line = AreSixWith a b c d e f (λ s. IsSpliceAnswer s verdict line)
+
+-- where the old cycle has been sent for so many periods
+abbrev pub SplicesSent : Option (List ℕ) → Option (List ℕ) → Option (List ℕ) → Option (List ℕ) → Option (List ℕ) → Option (List ℕ) → ℕ →
+    SentVerdict → List ℕ → Type 0
+SplicesSent a b c d e f periods verdict line = AreSixWith a b c d e f (λ s. IsSentAnswer s periods verdict line)
 
 -- want of memory aside, the first file that is refused
 abbrev pub IsSixRefused : Option (List ℕ) → Option (List ℕ) → Option (List ℕ) → Option (List ℕ) → Option (List ℕ) → Option (List ℕ) →
@@ -98,13 +119,29 @@ abbrev pub IsSixRefused : Option (List ℕ) → Option (List ℕ) → Option (Li
 IsSixRefused a b c d e f NoMemory = ⊤
 IsSixRefused a b c d e f fault = RefusesSix a b c d e f fault
 
+-- the six files that are read, or the first of them that is refused
+abbrev pub ReadsSix : Option (List ℕ) → Option (List ℕ) → Option (List ℕ) → Option (List ℕ) → Option (List ℕ) → Option (List ℕ) →
+    Result Six FilesFault → Type 0
+ReadsSix a b c d e f (Ok six) =
+    AreTwo ReadsCycle a b (slots_of six.cycles.old) (slots_of six.cycles.new) × AreTwo ReadsService c d six.services.old six.services.new
+    × AreTwo ReadsWitness e f (fields_of six.witnesses.old) (fields_of six.witnesses.new)
+ReadsSix a b c d e f (Err fault) = IsSixRefused a b c d e f fault
+
 -- Ok: the line of the verdict went out. A write fault: its first `written` bytes. Else nothing, and why the files are refused.
+abbrev pub WritesAnswer : {V : Type 0} → (V → List ℕ → Type 0) → (FilesFault → Type 0) → Option (List ℕ) → Option (List ℕ) →
+    Result V FilesFault → Type 0
+WritesAnswer Answers Refused old new (Ok verdict) = (line : List ℕ) × Answers verdict line × Appends old new line
+WritesAnswer {V} Answers Refused old new (Err (Write written)) =
+    (line : List ℕ) × (verdict : V) × Answers verdict line × (written < length line) × Appends old new (take written line)
+WritesAnswer Answers Refused old new (Err fault) = Refused fault × Keeps old new
+
 abbrev pub SplicesFiles : Option (List ℕ) → Option (List ℕ) → Option (List ℕ) → Option (List ℕ) → Option (List ℕ) → Option (List ℕ) →
     Option (List ℕ) → Option (List ℕ) → Result SpliceVerdict FilesFault → Type 0
-SplicesFiles a b c d e f old new (Ok verdict) = (line : List ℕ) × Splices a b c d e f verdict line × Appends old new line
-SplicesFiles a b c d e f old new (Err (Write written)) =
-    (line : List ℕ) × (verdict : SpliceVerdict) × Splices a b c d e f verdict line × (written < length line) × Appends old new (take written line)
-SplicesFiles a b c d e f old new (Err fault) = IsSixRefused a b c d e f fault × Keeps old new
+SplicesFiles a b c d e f old new result = WritesAnswer (Splices a b c d e f) (IsSixRefused a b c d e f) old new result
+
+abbrev pub SplicesSentFiles : Option (List ℕ) → Option (List ℕ) → Option (List ℕ) → Option (List ℕ) → Option (List ℕ) → Option (List ℕ) → ℕ →
+    Option (List ℕ) → Option (List ℕ) → Result SentVerdict FilesFault → Type 0
+SplicesSentFiles a b c d e f periods old new result = WritesAnswer (SplicesSent a b c d e f periods) (IsSixRefused a b c d e f) old new result
 
 -- the first of two files of a kind is as it should be
 abbrev pub IsRight : {T : Type 0} → (List ℕ → Result T FilesFault → Type 0) → Option (List ℕ) → Type 0

@@ -10,6 +10,7 @@ mod lates;
 pub mod laws;
 mod lines;
 mod periods;
+mod reading;
 mod seaming;
 mod seams;
 mod sent;
@@ -18,7 +19,7 @@ mod splicing;
 mod starts;
 mod verdict;
 
-pub use files::splice_files;
+pub use files::{splice_files, splice_files_sent};
 pub use lines::splice_line;
 pub use periods::{sent_line, sent_verdict};
 pub use seams::latest_header;

@@ -5,8 +5,8 @@ ghost use Rattle.ttx_cycle.specs.Cycles.{slots_of};
 ghost use Rattle.ttx_witness.specs.Certificates.{certificate_of};
 ghost use Rattle.ttx_witness.specs.Coverage.{limit};
 ghost use Rattle.ttx_proof.specs.Splices.{Splice};
-ghost use Rattle.ttx_proof.specs.Verdicts.{IsSpliceVerdict};
-ghost use Rattle.ttx_proof.specs.SentVerdicts.{IsSentVerdict};
+ghost use Rattle.ttx_proof.specs.Verdicts.{IsSpliceVerdict, SpliceMeans};
+ghost use Rattle.ttx_proof.specs.SentVerdicts.{IsSentVerdict, SentMeans};
 ghost use Rattle.ttx_proof.specs.SpliceLines.{sent_text, sent_line};
 
 use crate::lines::push_splice_reason;
@@ -36,8 +36,9 @@ pub fn sent_verdict(
     periods: u32,
     verdict: SpliceVerdict,
 ) -> SentVerdict
-    ensures { (c : Splice) → c.old ≡ slots_of old.now → c.old_certificate ≡ certificate_of certificate.now → IsSpliceVerdict c verdict →
+    ensures exact { (c : Splice) → c.old ≡ slots_of old.now → c.old_certificate ≡ certificate_of certificate.now → IsSpliceVerdict c verdict →
         IsSentVerdict c periods result }
+    ensures means { (c : Splice) → SpliceMeans c verdict → SentMeans c result }
 {
     if let SpliceVerdict::No(reason) = verdict {
         return SentVerdict::No(reason);

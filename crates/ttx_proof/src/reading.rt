@@ -1,0 +1,144 @@
+//! What is read for a splice: two packet files, two service definitions and two certificates.
+
+ghost use Rattle.std.specs.Prelude.{IfSome, IfErr};
+ghost use Rattle.ttx_cycle.specs.Counters.{inner_of, faults_of};
+ghost use Rattle.ttx_cycle.specs.Cycles.{slots_of};
+ghost use Rattle.ttx_certify.specs.FileSteps.{viewed_by, ReadsService, ReadsWitness};
+ghost use Rattle.ttx_proof.specs.SplicingFiles.{ReadsCycle, ReadsCycles, ReadsServices, ReadsWitnesses, ReadsSix};
+ghost use Rattle.ttx_proof.specs.SplicingFiles.{IsRight, CountsPackets, CountsTwoCycles, CountsTwoTexts, CountsSix};
+
+use std::alloc::Global;
+use std::io::Read;
+use ttx_certify::{FilesFault, TextFile, read_definition, read_witness};
+use ttx_cycle::{Counted, Cycle, read_cycle};
+use ttx_source::Service;
+use ttx_witness::Certificate;
+
+#[derive(Drop)]
+pub struct Cycles {
+    pub(crate) old: Cycle,
+    pub(crate) new: Cycle,
+}
+
+#[derive(Drop)]
+pub struct Services {
+    pub(crate) old: Service,
+    pub(crate) new: Service,
+}
+
+#[derive(Drop)]
+pub struct Witnesses {
+    pub(crate) old: Certificate,
+    pub(crate) new: Certificate,
+}
+
+// What is read.
+#[derive(Drop)]
+pub struct Six {
+    pub(crate) cycles: Cycles,
+    pub(crate) services: Services,
+    pub(crate) witnesses: Witnesses,
+}
+
+fn read_packets<R: Read>(alloc: Global, reader: &mut Counted<R>) -> Result<Cycle, FilesFault>
+    ensures bytes { IfSome (R.remaining (inner_of reader.old)) (λ bytes. ReadsCycle bytes (viewed_by slots_of result)) }
+    ensures faults { IfErr result (λ fault. CountsPackets fault (faults_of reader.old) (faults_of reader.new)) }
+{
+    match read_cycle(alloc, reader) {
+        Ok(cycle) => Ok(cycle),
+        Err(fault) => Err(FilesFault::Cycle(fault)),
+    }
+}
+
+fn read_cycles<A: Read, B: Read>(
+    alloc: Global,
+    old: &mut Counted<A>,
+    new: &mut Counted<B>,
+) -> Result<Cycles, FilesFault>
+    ensures faults { IfErr result (λ fault. CountsTwoCycles fault (A.remaining (inner_of old.old)) (faults_of old.old) (faults_of old.new)
+        (faults_of new.old) (faults_of new.new)) }
+    ensures bytes { ReadsCycles (A.remaining (inner_of old.old)) (B.remaining (inner_of new.old)) result }
+{
+    let old = match read_packets(alloc, old) {
+        Ok(cycle) => cycle,
+        Err(fault) => return Err(fault),
+    };
+    match read_packets(alloc, new) {
+        Ok(new) => Ok(Cycles { old, new }),
+        Err(fault) => Err(fault),
+    }
+}
+
+fn read_services<A: Read, B: Read>(
+    alloc: Global,
+    old: &mut Counted<A>,
+    new: &mut Counted<B>,
+) -> Result<Services, FilesFault>
+    ensures faults { IfErr result (λ fault. CountsTwoTexts TextFile.Service fault (IsRight ReadsService (A.remaining (inner_of old.old)))
+        (faults_of old.old) (faults_of old.new) (faults_of new.old) (faults_of new.new)) }
+    ensures bytes { ReadsServices (A.remaining (inner_of old.old)) (B.remaining (inner_of new.old)) result }
+{
+    let old = match read_definition(alloc, old) {
+        Ok(service) => service,
+        Err(fault) => return Err(fault),
+    };
+    match read_definition(alloc, new) {
+        Ok(new) => Ok(Services { old, new }),
+        Err(fault) => Err(fault),
+    }
+}
+
+fn read_witnesses<A: Read, B: Read>(
+    alloc: Global,
+    old: &mut Counted<A>,
+    new: &mut Counted<B>,
+) -> Result<Witnesses, FilesFault>
+    ensures faults { IfErr result (λ fault. CountsTwoTexts TextFile.Certificate fault (IsRight ReadsWitness (A.remaining (inner_of old.old)))
+        (faults_of old.old) (faults_of old.new) (faults_of new.old) (faults_of new.new)) }
+    ensures bytes { ReadsWitnesses (A.remaining (inner_of old.old)) (B.remaining (inner_of new.old)) result }
+{
+    let old = match read_witness(alloc, old) {
+        Ok(certificate) => certificate,
+        Err(fault) => return Err(fault),
+    };
+    match read_witness(alloc, new) {
+        Ok(new) => Ok(Witnesses { old, new }),
+        Err(fault) => Err(fault),
+    }
+}
+
+// The six files, in their order: the old one of each kind first.
+pub fn read_six<A: Read, B: Read, C: Read, D: Read, E: Read, F: Read>(
+    alloc: Global,
+    old: &mut Counted<A>,
+    new: &mut Counted<B>,
+    old_service: &mut Counted<C>,
+    new_service: &mut Counted<D>,
+    old_certificate: &mut Counted<E>,
+    new_certificate: &mut Counted<F>,
+) -> Result<Six, FilesFault>
+    ensures faults { IfErr result (λ fault. CountsSix fault (A.remaining (inner_of old.old)) (C.remaining (inner_of old_service.old))
+        (E.remaining (inner_of old_certificate.old)) (faults_of old.old) (faults_of old.new) (faults_of new.old) (faults_of new.new)
+        (faults_of old_service.old) (faults_of old_service.new) (faults_of new_service.old) (faults_of new_service.new)
+        (faults_of old_certificate.old) (faults_of old_certificate.new) (faults_of new_certificate.old) (faults_of new_certificate.new)) }
+    ensures bytes { ReadsSix (A.remaining (inner_of old.old)) (B.remaining (inner_of new.old)) (C.remaining (inner_of old_service.old))
+        (D.remaining (inner_of new_service.old)) (E.remaining (inner_of old_certificate.old)) (F.remaining (inner_of new_certificate.old))
+        result }
+{
+    let cycles = match read_cycles(alloc, old, new) {
+        Ok(two) => two,
+        Err(fault) => return Err(fault),
+    };
+    let services = match read_services(alloc, old_service, new_service) {
+        Ok(two) => two,
+        Err(fault) => return Err(fault),
+    };
+    match read_witnesses(alloc, old_certificate, new_certificate) {
+        Ok(witnesses) => Ok(Six {
+            cycles,
+            services,
+            witnesses,
+        }),
+        Err(fault) => Err(fault),
+    }
+}
