@@ -29,8 +29,8 @@ fn id_in(slot: &[u8; 42]) -> Option<PageId>
     }
 }
 
-// Whether the slot is a header of this magazine.
-fn heads(mag: u8, slot: &[u8; 42]) -> bool
+/// Whether the slot is a header of the magazine.
+pub fn heads(mag: u8, slot: &[u8; 42]) -> bool
     requires { IsSlot slot.now }
     ensures { result ≡ heads mag (packet_of slot.now) }
 {
@@ -40,8 +40,8 @@ fn heads(mag: u8, slot: &[u8; 42]) -> bool
     }
 }
 
-// Whether the slot is a header of the page's magazine with another page number.
-fn heads_another(page: PageId, slot: &[u8; 42]) -> bool
+/// Whether the slot is a header of the page's magazine with another page number.
+pub fn heads_another(page: PageId, slot: &[u8; 42]) -> bool
     requires { IsSlot slot.now }
     ensures { result ≡ heads_another page (packet_of slot.now) }
 {
