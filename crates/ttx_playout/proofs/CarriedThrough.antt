@@ -1,28 +1,24 @@
 -- A page that stays is carried: by one edition, across one change, and through all of a schedule.
 use Rattle.std.proofs.Common.{◌≡◌, ℕ, zero, suc, ◌+◌, ◌*◌, ◌<◌, ◌≤◌, ℤ, pos, ◌+ℤ◌, ◌-ℤ◌, ◌<ℤ◌, ◌≤ℤ◌, true, List, [], ◌∷◌, length}
-use Rattle.std.proofs.Common.{get_or, take, sym, ap, ◌∙◌, subst, inl, inr, arith, eqb-true, eq-eqb}
+use Rattle.std.proofs.Common.{get_or, take, sym, ap, ◌∙◌, subst, arith, eqb-true, eq-eqb}
 use Rattle.std.proofs.lemmas.Int.{ints}
 use Rattle.std.proofs.lemmas.Bool.{and_parts}
 use Rattle.ttx_header.specs.Ids.{Id}
 use Rattle.ttx_page.specs.Packets.{Packet, Empty, Unreadable, Header, Row, Links, Info, Other, packet_of}
 use Rattle.ttx_page.specs.Pages.{Page}
 use Rattle.ttx_page.specs.declared.selection.Selection.{Selection}
-use Rattle.ttx_page.specs.declared.class.Class.{Class}
-use Rattle.ttx_page.specs.declared.class.Class.TheVariants.{Any, Clearing}
-use Rattle.ttx_page.specs.Streams.{Stream, repeated, turned, heads, heads_page, IsSent}
+use Rattle.ttx_page.specs.Streams.{Stream, repeated, turned, heads, heads_page}
+use Rattle.ttx_page.specs.Laws.{EachSlotTurns}
 use Rattle.ttx_witness.specs.Coverage.{Certificate, IsCertificate, Accepts, limit}
-use Rattle.ttx_certify.proofs.AcceptedIsSeen as A
 use Rattle.ttx_proof.specs.Splices.{Splice, stream, NumbersAgree}
 use Rattle.ttx_proof.specs.Laws.{IsSplice}
 use Rattle.ttx_proof.specs.Verdicts.{IsSpliceVerdict}
 use Rattle.ttx_proof.specs.declared.verdict.SpliceVerdict.TheVariants.{Yes}
-use Rattle.ttx_proof.proofs.StreamsOfSides.{StreamLaws}
+use Rattle.ttx_proof.specs.Carried.{Carries, IsCarried, AgreeingStreamsBring, AgreeingStreamsCarry, AcceptedIsCarried, CommonIsCarried}
 use Rattle.ttx_proof.proofs.NamedStarts.{turned_start}
-use Rattle.ttx_proof.proofs.BridgedIsSeen as B
+use Rattle.ttx_proof.proofs.BridgedIsSeen.{place_of}
 use Rattle.ttx_playout.specs.Schedules.{Edition, Showing, span, sent, IsEdition, AreEditions, change, IsHandedOn, Stands}
 use Rattle.ttx_playout.specs.Schedules.{StaysOn, HasBegun}
-use Rattle.ttx_playout.proofs.AgreeingStreams.{OwnerLaws}
-use Rattle.ttx_playout.proofs.CarriedPages.{Carries, carries_on}
 use Rattle.ttx_playout.proofs.Changes.{carries_over}
 use Rattle.ttx_playout.proofs.SentEditions.{above, last_change, next_change, cut_editions, cut_handed}
 
@@ -35,21 +31,23 @@ page_heads page Unreadable h = h
 page_heads page Info h = h
 page_heads page Other h = h
 
-not_clearing : (class : Class) → class ≡ Any → class ≡ Clearing → ⊥
-not_clearing class a b = cc
-
--- with which numbers it is carried
-abbrev pub IsCarried : Stream → Page → Selection → Certificate → ℤ → Type 0
-IsCarried s p sel w begin = Carries s p sel w.lines w.repeat (limit w) begin
+-- the laws that are cited
+pub record CarriedLaws : Type 0 where
+  pub turn : EachSlotTurns
+  pub bring : AgreeingStreamsBring
+  pub carry : AgreeingStreamsCarry
+  pub accepted : AcceptedIsCarried
+  pub common : CommonIsCarried
 
 same_numbers : (s : Stream) (p : Page) (sel : Selection) (v w : Certificate) → NumbersAgree v w → (begin : ℤ) → IsCarried s p sel w begin →
     IsCarried s p sel v begin
 same_numbers s p sel v w a begin carried =
     let e : w.deadline * w.lines ≡ v.deadline * v.lines =
     ap (λ x. x * w.lines) (sym a.deadline) ∙ ap (λ x. v.deadline * x) (sym a.lines) in
-    subst (λ l. Carries s p sel l v.repeat (v.deadline * v.lines) begin) (sym a.lines)
-    (subst (λ r. Carries s p sel w.lines r (v.deadline * v.lines) begin) (sym a.repeat)
-    (subst (λ z. Carries s p sel w.lines w.repeat z begin) e carried))
+    subst (λ k. Carries s p sel k v.lines v.repeat (v.deadline * v.lines) begin) (a.new_class ∙ sym a.old_class)
+    (subst (λ l. Carries s p sel w.class l v.repeat (v.deadline * v.lines) begin) (sym a.lines)
+    (subst (λ r. Carries s p sel w.class w.lines r (v.deadline * v.lines) begin) (sym a.repeat)
+    (subst (λ z. Carries s p sel w.class w.lines w.repeat z begin) e carried)))
 
 pub some_deadline : (w : Certificate) → IsCertificate w → 1 ≤ limit w
 some_deadline w is = product w.deadline w.lines is.some_fields is.some_lines
@@ -63,34 +61,21 @@ pub one_period : (m n limit : ℕ) → 1 ≤ limit → limit ≤ m * n → n ≤
 one_period zero n limit some le = absurd (omega arith)
 one_period (suc m) n limit some le = omega arith
 
-module _ (laws : StreamLaws) (p : Page) (sel : Selection) where
-  abbrev owners : OwnerLaws
-  owners = record { one_owner = laws.one_owner; first = laws.first; fall = laws.fall }
-
-  abbrev alone_laws : A.StreamLaws
-  alone_laws = record { turn = laws.turn; move = laws.move; one_run = laws.one_run; own = laws.own }
-
+module _ (laws : CarriedLaws) (p : Page) (sel : Selection) where
   -- the page is carried wherever a receiver tunes in
   abbrev Throughout : Stream → Certificate → Type 0
   Throughout s w = (tau : ℤ) → IsCarried s p sel w tau
 
-  alone : (e : Edition) → IsEdition e → Accepts e.cycle e.pages e.certificate → e.certificate.class ≡ Any → Stands e p sel →
-      Throughout (repeated e.cycle) e.certificate
-  alone e is accepts any stands tau =
-      let place = B.place_of e.pages p stands.listed in
-      record {
-        steady = A.steady_from alone_laws e.cycle e.pages e.certificate is.cycle is.pages is.certificate accepts place.0 p place.1 sel
-            stands.fits tau;
-        sent = λ item need.
-            (B.covered_sent laws e.cycle p e.certificate item is.cycle.some
-            (B.covered_of e.cycle e.pages e.certificate accepts any place.0 p place.1 item need) tau).0;
-      }
+  alone : (e : Edition) → IsEdition e → Accepts e.cycle e.pages e.certificate → Stands e p sel → Throughout (repeated e.cycle) e.certificate
+  alone e is accepts stands tau =
+      let place = place_of e.pages p stands.listed in
+      laws.accepted e.cycle e.pages e.certificate is.cycle is.pages is.certificate accepts place.0 p place.1 sel stands.fits tau
 
   -- an edition of the page has a header of its magazine in the first period
   pub first_header_of : (e : Edition) → IsEdition e → Accepts e.cycle e.pages e.certificate → Stands e p sel →
       (k : ℕ) × (k < length e.cycle) × (heads p.id.mag (packet_of (repeated e.cycle (pos k))) ≡ true)
   first_header_of e is accepts stands =
-      let y = B.place_of e.pages p stands.listed in
+      let y = place_of e.pages p stands.listed in
       let h = (accepts.steady y.0 p y.1).header in
       let inside = (laws.turn (length e.cycle) h.slot is.cycle.some).inside in
       let same : repeated e.cycle (pos (turned (length e.cycle) h.slot)) ≡ repeated e.cycle h.slot =
@@ -117,18 +102,7 @@ module _ (laws : StreamLaws) (p : Page) (sel : Selection) where
     }
 
     pair : Throughout (stream c) new.certificate
-    pair tau =
-        let x = B.place_of old.pages p before.listed in
-        let y = B.place_of new.pages p after.listed in
-        record {
-          steady = B.common_steady laws c is yes.0 yes.1 p (B.own_old laws c is yes.0 yes.1 x.0 p x.1)
-              (B.own_new laws c is yes.0 yes.1 y.0 p y.1) (yes.2.no_seam p (before.listed, after.listed)) sel before.fits after.fits tau;
-          sent = λ item need. elim (B.bridged_brought laws c is yes.0 yes.1 p item (yes.2.bridged p (before.listed, after.listed) item need) tau) as
-              (λ _. IsSent (stream c) p.id new.certificate.lines new.certificate.repeat item tau (tau +ℤ pos (limit new.certificate))) [
-                | inl s ↦ s
-                | inr clear ↦ absurd (not_clearing new.certificate.class yes.1.new_class clear.0)
-              ];
-        }
+    pair tau = laws.common c is yes.0 yes.1 yes.2 p (before.listed, after.listed) sel before.fits after.fits tau
 
     pub changed : (s rest : Stream) (d until : ℤ) → ((i : ℤ) → i <ℤ until → s i ≡ stream c i) → ((i : ℤ) → pos 0 ≤ℤ i → s i ≡ rest (i -ℤ d)) →
         pos (limit new.certificate) ≤ℤ until → pos (length new.cycle) ≤ℤ until →
@@ -137,8 +111,8 @@ module _ (laws : StreamLaws) (p : Page) (sel : Selection) where
         let h = first_header_of new new_is yes.0.new after in
         let inside = h.1 in
         same_numbers s p sel old.certificate new.certificate yes.1 tau
-        (carries_over owners s (stream c) rest d until low high p sel new.certificate.lines new.certificate.repeat (limit new.certificate)
-        long pair goes_on (pos h.0) (omega (arith, ints)) (omega (arith, ints))
+        (carries_over laws.bring laws.carry s (stream c) rest d until low high p sel new.certificate.class new.certificate.lines
+        new.certificate.repeat (limit new.certificate) long pair goes_on (pos h.0) (omega (arith, ints)) (omega (arith, ints))
         (ap (λ x. heads p.id.mag (packet_of x)) (low (pos h.0) (omega (arith, ints))) ∙ h.2) tau)
 
   -- the page stands in all editions
@@ -148,7 +122,7 @@ module _ (laws : StreamLaws) (p : Page) (sel : Selection) where
 
   pub carried_through : (first : Edition) (later : List Showing) → AreEditions first later → IsHandedOn first later → StandsThrough first later →
       Throughout (sent first later) first.certificate
-  carried_through first [] are handed all = alone first are handed.0 handed.1 all
+  carried_through first [] are handed all = alone first are handed.0 all
   carried_through first (t ∷ []) are handed all =
       changed first t.edition are.0 are.1 handed.0 all.0 all.1 (sent first (t ∷ [])) (sent t.edition []) (pos (span t))
       (pos (limit t.edition.certificate + length t.edition.cycle)) (λ i lt. last_change first t i) (above first t [])
@@ -185,10 +159,10 @@ module _ (laws : StreamLaws) (p : Page) (sel : Selection) where
       let e : (begin -ℤ d) +ℤ d ≡ begin = omega (arith, ints) in
       same_numbers (sent first (t ∷ take to later)) p sel first.certificate t.edition.certificate handed.0.1 begin
       (subst (IsCarried (sent first (t ∷ take to later)) p sel t.edition.certificate) e
-      (carries_on owners (sent t.edition (take to later)) (sent first (t ∷ take to later)) d (begin -ℤ d)
+      (laws.carry (sent t.edition (take to later)) (sent first (t ∷ take to later)) d (begin -ℤ d)
       (λ i low. let f : (i +ℤ d) -ℤ d ≡ i = omega (arith, ints) in
       above first t (take to later) (i +ℤ d) (omega (arith, ints)) ∙ ap (sent t.edition (take to later)) f)
-      p sel t.edition.certificate.lines t.edition.certificate.repeat (limit t.edition.certificate) rest))
+      p sel t.edition.certificate.class t.edition.certificate.lines t.edition.certificate.repeat (limit t.edition.certificate) rest))
     where
       begun_later : (n : ℕ) → HasBegun (t ∷ later) (suc n) begin → HasBegun later n (begin -ℤ pos (span t))
       begun_later zero b = tt

@@ -8,25 +8,27 @@ use Rattle.ttx_page.specs.Pages.{Page, needed}
 use Rattle.ttx_page.specs.declared.selection.Selection.{Selection}
 use Rattle.ttx_page.specs.declared.item.Item.{Item}
 use Rattle.ttx_page.specs.declared.item.Item.TheVariants.{Head as TheHead, Row as TheRow, Links as TheLinks}
-use Rattle.ttx_page.specs.Streams.{Stream, heads, heads_page, heads_matched, IsLatestHeader, IsOwned, IsSent}
+use Rattle.ttx_page.specs.declared.class.Class.{Class}
+use Rattle.ttx_page.specs.Streams.{Stream, heads, heads_page, heads_matched, IsLatestHeader, IsOwned}
 use Rattle.ttx_page.specs.Steady.{IsChecked, IsTrueTo}
 use Rattle.ttx_page.proofs.SlotDistances.{cases_ltz}
-use Rattle.ttx_playout.proofs.AgreeingStreams.{OwnerLaws, owned_on, sent_on}
-use Rattle.ttx_playout.proofs.CarriedPages.{Carries, carries_on}
+use Rattle.ttx_receiver.specs.Laws.{IsBrought}
+use Rattle.ttx_proof.specs.Carried.{Carries, AgreeingStreamsBring, AgreeingStreamsCarry}
+use Rattle.ttx_proof.proofs.AgreeingStreams.{owned_on}
 
 -- s is the pair's stream below slot `until`, and from slot 0 on it is the rest, d slots on
-module _ (laws : OwnerLaws) (s pair rest : Stream) (d until : ℤ) (below : (i : ℤ) → i <ℤ until → s i ≡ pair i)
-    (above : (i : ℤ) → pos 0 ≤ℤ i → s i ≡ rest (i -ℤ d)) (p : Page) (sel : Selection) (lines repeat limit : ℕ)
-    (long : pos limit ≤ℤ until) (carried : (tau : ℤ) → Carries pair p sel lines repeat limit tau)
-    (goes_on : (tau : ℤ) → Carries rest p sel lines repeat limit tau)
+module _ (bring : AgreeingStreamsBring) (carry : AgreeingStreamsCarry) (s pair rest : Stream) (d until : ℤ) (below : (i : ℤ) → i <ℤ until → s i ≡ pair i)
+    (above : (i : ℤ) → pos 0 ≤ℤ i → s i ≡ rest (i -ℤ d)) (p : Page) (sel : Selection) (class : Class) (lines repeat limit : ℕ)
+    (long : pos limit ≤ℤ until) (carried : (tau : ℤ) → Carries pair p sel class lines repeat limit tau)
+    (goes_on : (tau : ℤ) → Carries rest p sel class lines repeat limit tau)
     (head : ℤ) (not_before : pos 0 ≤ℤ head) (soon : head <ℤ until) (is_header : heads p.id.mag (packet_of (s head)) ≡ true) where
-  later : (begin : ℤ) → pos 0 ≤ℤ begin → Carries s p sel lines repeat limit begin
+  later : (begin : ℤ) → pos 0 ≤ℤ begin → Carries s p sel class lines repeat limit begin
   later begin le =
       let e : (begin -ℤ d) +ℤ d ≡ begin = omega (arith, ints) in
-      subst (Carries s p sel lines repeat limit) e
-      (carries_on laws rest s d (begin -ℤ d)
+      subst (Carries s p sel class lines repeat limit) e
+      (carry rest s d (begin -ℤ d)
       (λ i low. let f : (i +ℤ d) -ℤ d ≡ i = omega (arith, ints) in above (i +ℤ d) (omega (arith, ints)) ∙ ap rest f)
-      p sel lines repeat limit (goes_on (begin -ℤ d)))
+      p sel class lines repeat limit (goes_on (begin -ℤ d)))
 
   -- what stands under a header below slot 0 stands before the first header from slot 0 on
   before_head : (mag : ℕ) (h j : ℤ) → mag ≡ p.id.mag → h <ℤ pos 0 → IsLatestHeader s mag h j → j <ℤ until
@@ -72,20 +74,20 @@ module _ (laws : OwnerLaws) (s pair rest : Stream) (d until : ℤ) (below : (i :
     | inr ge ↦ (later (pos 0) (omega (arith, ints))).steady.selected j ge h
   ]
 
-  brought : (tau : ℤ) (item : Item) → needed p item ≡ true → IsSent s p.id lines repeat item tau (tau +ℤ pos limit)
-  brought tau item need = elim (cases_ltz tau (pos 0)) as (λ _. IsSent s p.id lines repeat item tau (tau +ℤ pos limit)) [
-    | inr ge ↦ (later tau ge).sent item need
+  brought : (tau : ℤ) (item : Item) → needed p item ≡ true → IsBrought s p class lines repeat item tau (tau +ℤ pos limit)
+  brought tau item need = elim (cases_ltz tau (pos 0)) as (λ _. IsBrought s p class lines repeat item tau (tau +ℤ pos limit)) [
+    | inr ge ↦ (later tau ge).brought item need
     | inl lt ↦
         let e : tau +ℤ pos 0 ≡ tau = omega (arith, ints) in
         let f : (tau +ℤ pos limit) +ℤ pos 0 ≡ tau +ℤ pos limit = omega (arith, ints) in
-        let there = sent_on laws pair s (pos 0) tau (tau +ℤ pos limit)
-        (λ i a b. let k : i +ℤ pos 0 ≡ i = omega (arith, ints) in ap s k ∙ below i (omega (arith, ints))) p.id lines repeat item
-        ((carried tau).sent item need) in
-        subst (λ z. IsSent s p.id lines repeat item z (tau +ℤ pos limit)) e
-        (subst (λ z. IsSent s p.id lines repeat item (tau +ℤ pos 0) z) f there)
+        let there = bring pair s (pos 0) tau (tau +ℤ pos limit)
+        (λ i a b. let k : i +ℤ pos 0 ≡ i = omega (arith, ints) in ap s k ∙ below i (omega (arith, ints))) p class lines repeat item
+        ((carried tau).brought item need) in
+        subst (λ z. IsBrought s p class lines repeat item z (tau +ℤ pos limit)) e
+        (subst (λ z. IsBrought s p class lines repeat item (tau +ℤ pos 0) z) f there)
   ]
 
-  pub carries_over : (tau : ℤ) → Carries s p sel lines repeat limit tau
+  pub carries_over : (tau : ℤ) → Carries s p sel class lines repeat limit tau
   carries_over tau = record {
     steady = record {
       slots = λ j _. (slots j).0;
@@ -93,5 +95,5 @@ module _ (laws : OwnerLaws) (s pair rest : Stream) (d until : ℤ) (below : (i :
       selected = λ j _ h. selected j h;
       items = λ item checked h j _ o. items item checked h j o;
     };
-    sent = brought tau;
+    brought = brought tau;
   }

@@ -12,12 +12,11 @@ use Rattle.ttx_page.specs.Followers.{heads_another, IsFollowed, IsFollowedWithin
 use Rattle.ttx_page.proofs.SlotDistances.{cases_ltz}
 use Rattle.ttx_late.specs.Laws.{IsFollowedFrom}
 use Rattle.ttx_witness.specs.Coverage.{limit}
-use Rattle.ttx_proof.proofs.StreamsOfSides.{StreamLaws}
+use Rattle.ttx_proof.proofs.AgreeingStreams.{latest_on}
 use Rattle.ttx_playout.specs.Schedules.{Edition, Showing, span, sent, AreEditions, IsHandedOn, HasBegun, StaysOn}
 use Rattle.ttx_playout.specs.LateSchedules.{IsFollowedAcross, IsFollowedWhile}
-use Rattle.ttx_playout.proofs.AgreeingStreams.{latest_on}
 use Rattle.ttx_playout.proofs.SentEditions.{below, above, last_change, next_change, cut_editions, cut_handed}
-use Rattle.ttx_playout.proofs.CarriedThrough.{StandsThrough, stands_through, first_header_of, one_period, some_deadline}
+use Rattle.ttx_playout.proofs.CarriedThrough.{CarriedLaws, StandsThrough, stands_through, first_header_of, one_period, some_deadline}
 
 abbrev pub IsFollowedSoon : Stream → Id → ℕ → ℤ → Type 0
 IsFollowedSoon s page gap h = (f : IsFollowed s page h) × (f.slot ≤ℤ (h +ℤ pos gap))
@@ -83,7 +82,7 @@ module _ (s old pair rest : Stream) (d until : ℤ) (page : Id) (gap : ℕ) (was
         ]
   ]
 
-module _ (laws : StreamLaws) (p : Page) (sel : Selection) (gap : ℕ) where
+module _ (laws : CarriedLaws) (p : Page) (sel : Selection) (gap : ℕ) where
   abbrev FollowsThrough : Edition → List Showing → Type 0
   FollowsThrough first [] = IsFollowedWithin (repeated first.cycle) p.id gap
   FollowsThrough first (t ∷ later) = IsFollowedWithin (repeated first.cycle) p.id gap

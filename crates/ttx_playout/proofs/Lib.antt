@@ -1,8 +1,5 @@
-mod AgreeingStreams
-mod CarriedPages
 mod Changes
 mod SentEditions
-mod ReceivedAlike
 mod CarriedThrough
 mod SeenWhileOn
 pub mod SeenOnAir

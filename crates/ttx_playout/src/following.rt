@@ -1,10 +1,7 @@
 //! Whether pages are followed by other page numbers in an edition and across a change.
 
-ghost use Rattle.std.specs.Prelude.{◌≡◌, ◌↔◌, ◌<◌, IsTrue, MatchOption, map};
-ghost use Rattle.ttx_packet.specs.Slots.{IsSlot};
-ghost use Rattle.ttx_page.specs.Followers.{heads_another};
-ghost use Rattle.ttx_page.specs.Packets.{packet_of};
-ghost use Rattle.ttx_page.specs.Streams.{joined, heads};
+ghost use Rattle.std.specs.Prelude.{◌↔◌, ◌<◌, IsTrue, MatchOption, map};
+ghost use Rattle.ttx_page.specs.Streams.{joined};
 ghost use Rattle.ttx_page.specs.Views.{page_of};
 ghost use Rattle.ttx_cycle.specs.Cycles.{slots_of};
 ghost use Rattle.ttx_late.specs.Followed.{AreFollowedWithin};
@@ -16,32 +13,10 @@ use crate::edition::Edition;
 use crate::late_change::LateChange;
 use ttx_cycle::Cycle;
 use ttx_header::PageId;
-use ttx_late::{first_unshown, greatest_gap};
+use ttx_late::{first_unshown, greatest_gap, heads, heads_another};
 use ttx_page::Page;
 use ttx_proof::latest_header;
-use ttx_witness::{header_in, heads_page};
-
-// Whether the slot is a header of the magazine.
-fn heads(mag: u8, slot: &[u8; 42]) -> bool
-    requires { IsSlot slot.now }
-    ensures { result ≡ heads mag (packet_of slot.now) }
-{
-    match header_in(slot) {
-        Some(header) => header.id().mag() == mag,
-        None => false,
-    }
-}
-
-// Whether the slot is a header of the page's magazine with another page number.
-fn heads_another(page: PageId, slot: &[u8; 42]) -> bool
-    requires { IsSlot slot.now }
-    ensures { result ≡ heads_another page (packet_of slot.now) }
-{
-    match header_in(slot) {
-        Some(header) => header.id().mag() == page.mag() && header.id().page() != page.page(),
-        None => false,
-    }
-}
+use ttx_witness::heads_page;
 
 // The first header of the magazine in the cycle.
 fn first_header(new: &Cycle, mag: u8) -> Option<usize>

@@ -7,15 +7,12 @@ ghost use Rattle.ttx_playout.specs.Laws.{ThroughIsWhile, ThroughGoesOn, SentSoFa
 pub fn sent_so_far_is_seen()
     ensures { SentSoFarIsSeen }
 {
-    ttx_certify::laws::runs_are_seen();
-    ttx_proof::laws::steps_keep_memories();
     ttx_page::laws::each_slot_turns();
-    ttx_page::laws::streams_move();
-    ttx_page::laws::runs_are_unique();
-    ttx_page::laws::steady_sends_its_own();
-    ttx_page::laws::owners_are_unique();
-    ttx_page::laws::owners_come_first();
-    ttx_page::laws::owners_dont_fall();
+    ttx_proof::laws::agreeing_streams_bring();
+    ttx_proof::laws::agreeing_streams_carry();
+    ttx_proof::laws::accepted_is_carried();
+    ttx_proof::laws::common_is_carried();
+    ttx_proof::laws::carried_is_seen();
 }
 
 /// All that a head-end has sent is seen.
@@ -69,14 +66,13 @@ pub fn sent_so_far_is_shown()
     ensures { SentSoFarIsShown }
 {
     ttx_late::laws::runs_are_shown();
-    ttx_proof::laws::steps_keep_memories();
     ttx_page::laws::each_slot_turns();
-    ttx_page::laws::streams_move();
-    ttx_page::laws::runs_are_unique();
-    ttx_page::laws::steady_sends_its_own();
-    ttx_page::laws::owners_are_unique();
-    ttx_page::laws::owners_come_first();
-    ttx_page::laws::owners_dont_fall();
+    ttx_proof::laws::steps_keep_memories();
+    ttx_proof::laws::agreeing_streams_are_received();
+    ttx_proof::laws::agreeing_streams_bring();
+    ttx_proof::laws::agreeing_streams_carry();
+    ttx_proof::laws::accepted_is_carried();
+    ttx_proof::laws::common_is_carried();
 }
 
 /// So is all that a head-end has sent.

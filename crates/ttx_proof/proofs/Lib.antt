@@ -22,3 +22,7 @@ mod VerdictOfFindings
 pub mod SixFiles
 mod OneVerdict
 mod SomeVerdict
+pub mod AgreeingStreams
+mod CarriedPages
+mod ReceivedAlike
+pub mod CarriedIsSeen

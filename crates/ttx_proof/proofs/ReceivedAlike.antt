@@ -8,7 +8,8 @@ use Rattle.ttx_header.specs.Ids.{Id}
 use Rattle.ttx_page.specs.declared.item.Item.{Item}
 use Rattle.ttx_page.specs.Streams.{Stream, IsOwned, IsTransmission, AreSuccessive}
 use Rattle.ttx_page.specs.Receptions.{Received, IsRight, OneIs}
-use Rattle.ttx_playout.proofs.AgreeingStreams.{moved, owned_on, owned_off, successive_on}
+use Rattle.ttx_proof.specs.Carried.{AgreeingStreamsAreReceived}
+use Rattle.ttx_proof.proofs.AgreeingStreams.{moved, owned_on, owned_off, successive_on}
 
 not_moved : (xs : List ℤ) → moved (pos 0) xs ≡ xs
 not_moved [] = refl
@@ -52,9 +53,12 @@ module _ (s t : Stream) (end : ℤ) (same : (i : ℤ) → i <ℤ end → s i ≡
     inside [] all = tt
     inside (j ∷ slots) all = ((let lt = all.0.1 in omega (arith, ints)), inside slots all.1)
 
-    pub received_alike : (repeat : ℕ) → Received s page repeat tau received → Received t page repeat tau received
+    received_alike : (repeat : ℕ) → Received s page repeat tau received → Received t page repeat tau received
     received_alike repeat a = record {
       each = λ n lt. subst (λ z. MayBeReceivedAs z (get_or received n [])) (same (tau +ℤ pos n) (omega (arith, ints))) (a.each n lt);
       one_right = λ item x text slots count follow all.
           right x slots (inside slots all) (a.one_right item x text slots count (successive item slots (inside slots all) follow) all);
     }
+
+pub agreeing_streams_are_received : AgreeingStreamsAreReceived
+agreeing_streams_are_received s t end same page tau received within = received_alike s t end same page tau received within

@@ -1,20 +1,35 @@
--- What a stream carries of a page from a slot on; where another stream is the same from there on, it carries it too.
-use Rattle.std.proofs.Common.{◌≡◌, ℕ, ℤ, pos, ◌+ℤ◌, ◌-ℤ◌, ◌≤ℤ◌, true, sym, ap, ◌∙◌, subst, arith}
+-- What a stream brings and carries of a page; where another stream is the same, it brings and carries the same.
+use Rattle.std.proofs.Common.{◌≡◌, ℕ, ℤ, pos, ◌+ℤ◌, ◌-ℤ◌, ◌<ℤ◌, ◌≤ℤ◌, true, sym, ap, ◌∙◌, subst, inl, inr, arith}
 use Rattle.std.proofs.lemmas.Int.{ints}
 use Rattle.ttx_packet.specs.Slots.{IsSlot, is_clean}
 use Rattle.ttx_page.specs.Packets.{packet_of}
-use Rattle.ttx_page.specs.Pages.{Page, needed}
+use Rattle.ttx_page.specs.Pages.{Page}
 use Rattle.ttx_page.specs.declared.selection.Selection.{Selection}
 use Rattle.ttx_page.specs.declared.item.Item.{Item}
-use Rattle.ttx_page.specs.Streams.{Stream, heads_page, heads_matched, IsOwned, IsSent}
+use Rattle.ttx_page.specs.declared.class.Class.{Class}
+use Rattle.ttx_page.specs.Streams.{Stream, heads_page, heads_matched, IsOwned}
 use Rattle.ttx_page.specs.Steady.{IsTrueTo}
-use Rattle.ttx_receiver.specs.Laws.{IsSteadyFrom}
-use Rattle.ttx_playout.proofs.AgreeingStreams.{OwnerLaws, owned_off, sent_on}
+use Rattle.ttx_receiver.specs.Laws.{IsSteadyFrom, HasHeaderBetween, IsBrought}
+use Rattle.ttx_proof.specs.Carried.{Carries, AgreeingStreamsBring, AgreeingStreamsCarry}
+use Rattle.ttx_proof.proofs.AgreeingStreams.{OwnerLaws, owned_off, sent_on}
 
--- from slot begin on nothing but the page is sent to its receivers, and each item that a viewer needs comes in time
-pub record Carries (s : Stream) (p : Page) (sel : Selection) (lines repeat limit : ℕ) (begin : ℤ) : Type 0 where
-  pub steady : IsSteadyFrom s p sel begin
-  pub sent : (item : Item) → needed p item ≡ true → IsSent s p.id lines repeat item begin (begin +ℤ pos limit)
+pub agreeing_streams_bring : OwnerLaws → AgreeingStreamsBring
+agreeing_streams_bring laws s t d begin end same p class lines repeat item b =
+    elim b as (λ _. IsBrought t p class lines repeat item (begin +ℤ d) (end +ℤ d)) [
+      | inl a ↦ inl (sent_on laws s t d begin end same p.id lines repeat item a)
+      | inr a ↦ inr (a.0, a.1, header a.2)
+    ]
+  where
+    header : HasHeaderBetween s p begin end → HasHeaderBetween t p (begin +ℤ d) (end +ℤ d)
+    header a =
+        let low = a.not_before in
+        let lt = a.before in
+        record {
+          slot = a.slot +ℤ d;
+          not_before = omega (arith, ints);
+          before = omega (arith, ints);
+          is_header = ap (λ x. heads_page p.id (packet_of x)) (same a.slot a.not_before a.before) ∙ a.is_header;
+        }
 
 -- t is s from slot begin on, d slots on
 module _ (laws : OwnerLaws) (s t : Stream) (d begin : ℤ) (same : (i : ℤ) → begin ≤ℤ i → t (i +ℤ d) ≡ s i) where
@@ -40,12 +55,15 @@ module _ (laws : OwnerLaws) (s t : Stream) (d begin : ℤ) (same : (i : ℤ) →
         (a.items item checked (h -ℤ d) (j -ℤ d) (omega (arith, ints)) (owned_back p item h j le owned));
   }
 
-  pub carries_on : (p : Page) (sel : Selection) (lines repeat limit : ℕ) → Carries s p sel lines repeat limit begin →
-      Carries t p sel lines repeat limit (begin +ℤ d)
-  carries_on p sel lines repeat limit a = record {
+  carries_on : (p : Page) (sel : Selection) (class : Class) (lines repeat limit : ℕ) → Carries s p sel class lines repeat limit begin →
+      Carries t p sel class lines repeat limit (begin +ℤ d)
+  carries_on p sel class lines repeat limit a = record {
     steady = steady_on p sel a.steady;
-    sent = λ item need.
+    brought = λ item need.
         let e : (begin +ℤ pos limit) +ℤ d ≡ (begin +ℤ d) +ℤ pos limit = omega (arith, ints) in
-        subst (IsSent t p.id lines repeat item (begin +ℤ d)) e
-        (sent_on laws s t d begin (begin +ℤ pos limit) (λ i low high. same i low) p.id lines repeat item (a.sent item need));
+        subst (IsBrought t p class lines repeat item (begin +ℤ d)) e
+        (agreeing_streams_bring laws s t d begin (begin +ℤ pos limit) (λ i low high. same i low) p class lines repeat item (a.brought item need));
   }
+
+pub agreeing_streams_carry : OwnerLaws → AgreeingStreamsCarry
+agreeing_streams_carry laws s t d begin same = carries_on laws s t d begin same
