@@ -11,9 +11,7 @@ use Rattle.ttx_proof.specs.Meaning.{VerdictsMean}
 use Rattle.ttx_proof.specs.Splices.{Splice, stream}
 use Rattle.ttx_send.specs.Laws.{AirIsReceived, AcceptedIsSeenOnAir}
 use Rattle.ttx_send.specs.YesOnAir.{LateYesIsSeenOnAir, SplicedIsSeenOnAir}
-
-repeated_slots : EachSlotTurns → (cycle : List (List ℕ)) → IsCycle cycle → (j : ℤ) → IsSlot (repeated cycle j)
-repeated_slots turn cycle is j = All-get_or IsSlot cycle (turned (length cycle) j) [] (turn (length cycle) j is.some).inside is.each
+use Rattle.ttx_send.proofs.ReceivedFromAir.{repeated_slots}
 
 joined_slots : EachSlotTurns → (c : Splice) → IsSplice c → (j : ℤ) → IsSlot (stream c j)
 joined_slots turn c is (pos n) = repeated_slots turn c.new is.new (pos n)
