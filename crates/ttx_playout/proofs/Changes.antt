@@ -17,7 +17,8 @@ use Rattle.ttx_proof.specs.Carried.{Carries, AgreeingStreamsBring, AgreeingStrea
 use Rattle.ttx_proof.proofs.AgreeingStreams.{owned_on}
 
 -- s is the pair's stream below slot `until`, and from slot 0 on it is the rest, d slots on
-module _ (bring : AgreeingStreamsBring) (carry : AgreeingStreamsCarry) (s pair rest : Stream) (d until : ℤ) (below : (i : ℤ) → i <ℤ until → s i ≡ pair i)
+module _ (bring : AgreeingStreamsBring) (carry : AgreeingStreamsCarry) (s pair rest : Stream) (d until : ℤ)
+    (below : (i : ℤ) → i <ℤ until → s i ≡ pair i)
     (above : (i : ℤ) → pos 0 ≤ℤ i → s i ≡ rest (i -ℤ d)) (p : Page) (sel : Selection) (class : Class) (lines repeat limit : ℕ)
     (long : pos limit ≤ℤ until) (carried : (tau : ℤ) → Carries pair p sel class lines repeat limit tau)
     (goes_on : (tau : ℤ) → Carries rest p sel class lines repeat limit tau)

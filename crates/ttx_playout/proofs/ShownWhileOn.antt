@@ -19,8 +19,8 @@ use Rattle.ttx_playout.proofs.SeenWhileOn.{edition_is, first_is, same_so_far, ca
 use Rattle.ttx_playout.proofs.HeadEndIsSeen.{log_is_sent}
 
 pub sent_so_far_is_shown : RunsAreShown → StepsKeepMemories → AgreeingStreamsAreReceived → CarriedLaws → SentSoFarIsShown
-sent_so_far_is_shown runs steps receive laws first later are handed s start now same p sel from to le inside stays gap follows tau begin former d received
-    after before begun is_former permitted long until on run =
+sent_so_far_is_shown runs steps receive laws first later are handed s start now same p sel from to le inside stays gap follows tau
+    begin former d received after before begun is_former permitted long until on run =
     let w = first.certificate in
     let cut = sent first (take to later) in
     let mixed = started start s cut in

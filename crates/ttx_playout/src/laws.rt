@@ -1,7 +1,8 @@
 //! The laws of schedules. A call costs nothing and gives the caller's proof the law.
 
 ghost use Rattle.ttx_playout.specs.Laws.{SentSoFarIsSeen, HeadEndIsSeen, HandedOnIsSeen, AlwaysSeen, LatestIsSeen, HandedOnIsSeenOnAir, TimedIsSeen};
-ghost use Rattle.ttx_playout.specs.Laws.{ThroughIsWhile, ThroughGoesOn, SentSoFarIsShown, HeadEndIsShown, HandedOnIsShown, HandedOnIsShownOnAir, AcrossIsDecided, CountedIsHandedOn, EachScheduleRuns, MoreIsSame, PastStays};
+ghost use Rattle.ttx_playout.specs.Laws.{SentSoFarIsShown, HeadEndIsShown, HandedOnIsShown, HandedOnIsShownOnAir, ThroughIsWhile, ThroughGoesOn};
+ghost use Rattle.ttx_playout.specs.Laws.{AcrossIsDecided, CountedIsHandedOn, EachScheduleRuns, MoreIsSame, PastStays};
 
 /// What a head-end sends of a schedule, from some slot on and up to now, is seen a deadline later, whatever was sent before.
 pub fn sent_so_far_is_seen()

@@ -1,6 +1,6 @@
 -- A page that a stream carries is seen.
-use Rattle.std.proofs.Common.{◌≡◌, ◌⊎◌, ℕ, ◌≤◌, ℤ, pos, ◌+ℤ◌, ◌-ℤ◌, ◌<ℤ◌, ◌≤ℤ◌, nat_abs, true, List, length, drop, length-drop, refl, sym, ap, ◌∙◌, subst}
-use Rattle.std.proofs.Common.{inl, inr, arith}
+use Rattle.std.proofs.Common.{◌≡◌, ◌⊎◌, ℕ, ◌≤◌, ℤ, pos, ◌+ℤ◌, ◌-ℤ◌, ◌<ℤ◌, ◌≤ℤ◌, nat_abs, true, List, length, drop, length-drop}
+use Rattle.std.proofs.Common.{refl, sym, ap, ◌∙◌, subst, inl, inr, arith}
 use Rattle.std.proofs.lemmas.Int.{ints}
 use Rattle.ttx_page.specs.Pages.{Page, IsPage, matches}
 use Rattle.ttx_page.specs.declared.selection.Selection.{Selection}
@@ -16,7 +16,7 @@ use Rattle.ttx_certify.specs.Seen.{HasView}
 use Rattle.ttx_certify.proofs.AcceptedIsSeen as A
 use Rattle.ttx_certify.proofs.LaterReceptions.{received_later}
 use Rattle.ttx_proof.specs.Laws.{StepsKeepMemories}
-use Rattle.ttx_proof.specs.Carried.{Carries, AgreeingStreamsCarry, AgreeingStreamsAreReceived, AcceptedIsCarried, IsTunedBy, CarriedIsSeen}
+use Rattle.ttx_proof.specs.Carried.{Carries, AgreeingStreamsCarry, AgreeingStreamsAreReceived, AcceptedIsCarried, CarriedIsSeen}
 use Rattle.ttx_proof.proofs.CutRuns.{run_goes_on}
 
 pub accepted_is_carried : A.StreamLaws → AcceptedIsCarried
@@ -95,15 +95,14 @@ carried_is_seen runs steps carry receive s t start now same p sel Any lines repe
     let go = run_goes_on steps Any lines sel n received former m is_former (λ i lt. (permitted.each i lt).slot) run in
     let size = length-drop n received in
     let late : (begin +ℤ pos limit) ≤ℤ (begin +ℤ pos (length (drop n received))) = omega (arith, ints) in
+    let alike = mixed_received runs steps carry receive s t start now same p sel Any lines repeat limit begin page few fits after carried tau
+    received until permitted in
     seen_from runs steps carry receive s t start now same p sel Any lines repeat limit begin page few fits after carried go.mid m (drop n received)
-    go.is_memory
-    (received_later (started start s t) p.id repeat tau begin n at received some
-    (mixed_received runs steps carry receive s t start now same p sel Any lines repeat limit begin page few fits after carried tau received until permitted))
-    late go.run
+    go.is_memory (received_later (started start s t) p.id repeat tau begin n at received some alike) late go.run
 carried_is_seen runs steps carry receive s t start now same p sel Clearing lines repeat limit begin page few fits after carried tau former m received
     tuned is_former permitted long until run =
     let late : (begin +ℤ pos limit) ≤ℤ (begin +ℤ pos (length received)) = omega (arith, ints) in
-    seen_from runs steps carry receive s t start now same p sel Clearing lines repeat limit begin page few fits after carried former m received is_former
-    (subst (λ z. Received (started start s t) p.id repeat z received) tuned
-    (mixed_received runs steps carry receive s t start now same p sel Clearing lines repeat limit begin page few fits after carried tau received until
-    permitted)) late run
+    let alike = mixed_received runs steps carry receive s t start now same p sel Clearing lines repeat limit begin page few fits after carried tau
+    received until permitted in
+    seen_from runs steps carry receive s t start now same p sel Clearing lines repeat limit begin page few fits after carried former m received
+    is_former (subst (λ z. Received (started start s t) p.id repeat z received) tuned alike) late run

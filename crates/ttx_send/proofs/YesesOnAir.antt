@@ -1,10 +1,8 @@
 -- A yes of `certify --late` and one of `splice`, on the air.
-use Rattle.std.proofs.Common.{ℕ, ℤ, pos, negsuc, List, [], length}
-use Rattle.std.proofs.lemmas.List.Elements.{All-get_or}
+use Rattle.std.proofs.Common.{ℤ, pos, negsuc}
 use Rattle.ttx_packet.specs.Slots.{IsSlot}
-use Rattle.ttx_page.specs.Streams.{turned, repeated}
+use Rattle.ttx_page.specs.Streams.{repeated}
 use Rattle.ttx_page.specs.Laws.{EachSlotTurns}
-use Rattle.ttx_cycle.specs.Files.{IsCycle}
 use Rattle.ttx_late.specs.Laws.{AcceptedIsShown}
 use Rattle.ttx_proof.specs.Laws.{IsSplice}
 use Rattle.ttx_proof.specs.Meaning.{VerdictsMean}

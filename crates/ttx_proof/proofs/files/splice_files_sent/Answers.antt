@@ -14,7 +14,8 @@ returns-clause-bytes g c =
     let d = g.D.Read.remaining (inner_of c.args.new_service.now) in
     let e = g.E.Read.remaining (inner_of c.args.old_certificate.now) in
     let f = g.F.Read.remaining (inner_of c.args.new_certificate.now) in
-    partly_written (SplicesSent a b c' d e f c.args.periods) (IsSixRefused a b c' d e f) _ _ c.in-Ok-tell_sent.sent.verdict _ _ c.as_bytes.ensures.value
+    partly_written (SplicesSent a b c' d e f c.args.periods) (IsSixRefused a b c' d e f) _ _ c.in-Ok-tell_sent.sent.verdict _ _
+    c.as_bytes.ensures.value
     (record {
       old = slots_of six.cycles.old;
       new = slots_of six.cycles.new;
