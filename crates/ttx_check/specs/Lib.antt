@@ -5,6 +5,9 @@ pub mod PageWarnings
 pub mod Warnings
 pub mod WarningLines
 pub mod UnknownKeys
+pub mod Parts
+pub mod PartViews
+pub mod Spots
 pub mod Refusals
 pub mod Reports
 pub mod Checking

@@ -2,14 +2,19 @@
 --
 --   fault_words, error_line the words of a fault; the whole line
 --   position_text, place_text     the line and the column of a place, and the name of what is meant
---   is_toml, IsPlace        the place: of a text that is TOML that of the first value with the path that is meant
---   IsErrorLine             the line of a fault. Which path, name and detail a fault has is only tested
+--   is_toml                 whether a fault is one of a text that is TOML
+--   IsTableLine, IsTomlLine the line of a text that is TOML: the place is that of the first value, element or header of the path that the
+--                           fault speaks of; of another one: the place is one within the text, and the words are those of the reader of TOML
+--   IsErrorLine             the line of a fault in a page, counted from 1, or outside pages, 0
 use Rattle.std.specs.Prelude.{◌≡◌, ℕ, ◌≤◌, Bool, true, false, List, [], ◌∷◌, ◌++◌, codes, length, take, Option, Some, None}
 use Rattle.std.specs.Fmt.{decimal}
 use Rattle.ttx_source.specs.Values.{Fault, not_toml, missing, wrong_kind, wrong_page_number, wrong_subcode, duplicate, too_long, wrong_character}
 use Rattle.ttx_source.specs.Values.{wrong_often, out_of_range, no_memory}
+use Rattle.toml.specs.Data.{Members}
+use Rattle.toml.specs.Parse.{parse_document}
 use Rattle.ttx_places.specs.Places.{place_of}
 use Rattle.ttx_places.specs.Positions.{line_after, column_after}
+use Rattle.ttx_check.specs.Spots.{spot_path, spot_name, IsDetail}
 
 abbrev pub fault_words : Fault → List ℕ
 fault_words not_toml = codes "this isn't TOML"
@@ -44,19 +49,24 @@ abbrev pub is_toml : Fault → Bool
 is_toml not_toml = false
 is_toml _ = true
 
-abbrev pub IsWithinText : List ℕ → Option ℕ → Type 0
-IsWithinText bytes None = ⊥
-IsWithinText bytes (Some place) = place ≤ length bytes
+pub record IsTomlLine (bytes : List ℕ) (fault : Fault) (text : List ℕ) : Type 0 where
+  pub place : ℕ
+  pub words : List ℕ
+  pub within : place ≤ length bytes
+  pub line : text ≡ error_line (place_text bytes (Some place) []) fault (codes ": " ++ words)
 
--- the first value, element or header of this path; of a text that isn't TOML the place that the reader of TOML reports
-abbrev pub IsPlace : Bool → List ℕ → List ℕ → Option ℕ → Type 0
-IsPlace true bytes path place = place_of path bytes ≡ Some place
-IsPlace false bytes path place = IsWithinText bytes place
-
-pub record IsErrorLine (bytes : List ℕ) (fault : Fault) (text : List ℕ) : Type 0 where
-  pub path : List ℕ
+pub record IsTableLine (bytes : List ℕ) (fault : Fault) (page : ℕ) (text : List ℕ) : Type 0 where
+  pub table : Members
   pub place : Option ℕ
-  pub name : List ℕ
   pub detail : List ℕ
-  pub stands : IsPlace (is_toml fault) bytes path place
-  pub line : text ≡ error_line (place_text bytes place name) fault detail
+  pub parsed : parse_document bytes ≡ Some table
+  pub stands : place_of (spot_path table fault page) bytes ≡ Some place
+  pub says : IsDetail table fault page detail
+  pub line : text ≡ error_line (place_text bytes place (spot_name table fault page)) fault detail
+
+abbrev pub IsLineOf : Bool → List ℕ → Fault → ℕ → List ℕ → Type 0
+IsLineOf true bytes fault page text = IsTableLine bytes fault page text
+IsLineOf false bytes fault page text = IsTomlLine bytes fault text
+
+abbrev pub IsErrorLine : List ℕ → Fault → ℕ → List ℕ → Type 0
+IsErrorLine bytes fault page text = IsLineOf (is_toml fault) bytes fault page text

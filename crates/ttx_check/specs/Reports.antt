@@ -30,7 +30,7 @@ pub record IsRead (bytes : List ℕ) (service : ServiceFields) (text : List ℕ)
 -- the status is 0 where the text is read, and 2 where it is refused
 abbrev pub IsReportOf : List ℕ → Result ServiceFields (Fault × ℕ) → List ℕ → ℕ → Type 0
 IsReportOf bytes (Ok service) text status = IsRead bytes service text × (status ≡ 0)
-IsReportOf bytes (Err fault) text status = IsErrorLine bytes fault.0 text × (status ≡ 2)
+IsReportOf bytes (Err fault) text status = IsErrorLine bytes fault.0 fault.1 text × (status ≡ 2)
 
 abbrev pub IsServiceReport : List ℕ → List ℕ → ℕ → Type 0
 IsServiceReport bytes text status = IsReportOf bytes (read_bytes bytes) text status

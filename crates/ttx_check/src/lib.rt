@@ -1,17 +1,19 @@
 //! Checks of service texts for their authors: where a text is refused, and what in a service is likely a mistake.
 #![tactic(auto)]
 
+mod acceptance;
 mod checking;
 mod entries;
 pub mod faults;
 mod links;
 mod page_warnings;
+pub mod parts;
 mod queues;
 mod refusals;
 mod reports;
 mod rows;
 mod service_warnings;
-mod spots;
+pub mod spots;
 mod tallies;
 mod texts;
 mod traffic;

@@ -3,9 +3,9 @@
 ghost use Rattle.std.specs.Prelude.{◌≡◌, ◌++◌, IfOk, OnOk, Some, string_bytes};
 ghost use Rattle.ttx_source.specs.Faults.{fault_of};
 ghost use Rattle.ttx_places.specs.Places.{place_of};
-ghost use Rattle.ttx_check.specs.Refusals.{fault_words, error_line, is_toml, after_space, position_text, place_text, IsPlace, IsWithinText, IsErrorLine};
+ghost use Rattle.ttx_check.specs.Refusals.{fault_words, error_line, is_toml, after_space, position_text, place_text, IsTableLine, IsTomlLine, IsErrorLine};
 
-use crate::spots::{Spot, push_spot};
+use crate::spots::{after_colon, spot_of};
 use crate::texts::push_both;
 use std::alloc::{AllocError, Global};
 use ttx_digits::push_decimal;
@@ -48,20 +48,6 @@ fn is_toml(fault: SourceFault) -> bool
     !matches!(fault, SourceFault::NotToml)
 }
 
-// Where a text isn't TOML, and what is said of it.
-fn push_toml_spot(alloc: Global, spot: &mut Spot, bytes: &[u8]) -> Result<Option<usize>, AllocError>
-    ensures { IfOk result (IsWithinText bytes.now) }
-{
-    let Err(error) = toml::table_from_slice(alloc, bytes) else {
-        return Err(AllocError);
-    };
-    push_both(&mut spot.detail, ": ", error.message())?;
-    match error.span() {
-        Some(span) => Ok(Some(span.start)),
-        None => Err(AllocError),
-    }
-}
-
 // Where in a text a path leads to.
 fn place_in(alloc: Global, bytes: &[u8], path: &str) -> Result<Option<usize>, AllocError>
     ensures { IfOk result (λ place. place_of path.now bytes.now ≡ Some place) }
@@ -69,38 +55,6 @@ fn place_in(alloc: Global, bytes: &[u8], path: &str) -> Result<Option<usize>, Al
     match std::str::from_utf8(bytes) {
         Ok(text) => place_of(alloc, text, path),
         Err(_) => Err(AllocError),
-    }
-}
-
-// What a fault of a text that is TOML means, and where it begins.
-fn push_table_spot(
-    alloc: Global,
-    spot: &mut Spot,
-    bytes: &[u8],
-    error: &SourceError,
-) -> Result<Option<usize>, AllocError>
-    ensures { IfOk result (λ place. place_of (string_bytes spot.new.path) bytes.now ≡ Some place) }
-{
-    let Ok(table) = toml::table_from_slice(alloc, bytes) else {
-        return Err(AllocError);
-    };
-    push_spot(alloc, spot, &table, error)?;
-    place_in(alloc, bytes, spot.path.as_str())
-}
-
-// What a fault means, and where in the text it begins.
-fn push_meant(
-    alloc: Global,
-    spot: &mut Spot,
-    bytes: &[u8],
-    error: &SourceError,
-) -> Result<Option<usize>, AllocError>
-    ensures { IfOk result (IsPlace (is_toml (fault_of error.now.fault)) bytes.now (string_bytes spot.new.path)) }
-{
-    if is_toml(error.fault) {
-        push_table_spot(alloc, spot, bytes, error)
-    } else {
-        push_toml_spot(alloc, spot, bytes)
     }
 }
 
@@ -145,27 +99,55 @@ fn place_text(
     }
 }
 
-// The line of a fault at a place.
+// The line of a fault at a place of this name.
 fn line_of(
     alloc: Global,
-    bytes: &[u8],
-    place: Option<usize>,
-    spot: &Spot,
     fault: SourceFault,
+    place: &str,
+    detail: &str,
 ) -> Result<String, AllocError>
-    ensures { IfOk result (λ line. string_bytes line
-        ≡ error_line (place_text bytes.now place (string_bytes spot.now.name)) (fault_of fault) (string_bytes spot.now.detail)) }
+    ensures { IfOk result (λ line. string_bytes line ≡ error_line place.now (fault_of fault) detail.now) }
 {
-    let mut line = place_text(alloc, bytes, place, spot.name.as_str())?;
-    push_fault(&mut line, fault, spot.detail.as_str())?;
+    let mut line = String::from_str(alloc, place)?;
+    push_fault(&mut line, fault, detail)?;
     Ok(line)
+}
+
+// The line of a fault of a text that is TOML.
+fn table_line(alloc: Global, bytes: &[u8], error: &SourceError) -> Result<String, AllocError>
+    ensures { IfOk result (λ line. IsTableLine bytes.now (fault_of error.now.fault) error.now.page (string_bytes line)) }
+{
+    let Ok(table) = toml::table_from_slice(alloc, bytes) else {
+        return Err(AllocError);
+    };
+    let spot = spot_of(alloc, &table, error)?;
+    let place = place_in(alloc, bytes, spot.path.as_str())?;
+    let place = place_text(alloc, bytes, place, spot.name.as_str())?;
+    line_of(alloc, error.fault, place.as_str(), spot.detail.as_str())
+}
+
+// The line of a text that isn't TOML.
+fn toml_line(alloc: Global, bytes: &[u8], fault: SourceFault) -> Result<String, AllocError>
+    ensures { IfOk result (λ line. IsTomlLine bytes.now (fault_of fault) (string_bytes line)) }
+{
+    let Err(error) = toml::table_from_slice(alloc, bytes) else {
+        return Err(AllocError);
+    };
+    let Some(span) = error.span() else {
+        return Err(AllocError);
+    };
+    let place = place_text(alloc, bytes, Some(span.start), "")?;
+    let detail = after_colon(alloc, error.message())?;
+    line_of(alloc, fault, place.as_str(), detail.as_str())
 }
 
 /// The line of a fault of a text.
 pub fn error_line(alloc: Global, bytes: &[u8], error: &SourceError) -> Result<String, AllocError>
-    ensures { IfOk result (λ line. IsErrorLine bytes.now (fault_of error.now.fault) (string_bytes line)) }
+    ensures { IfOk result (λ line. IsErrorLine bytes.now (fault_of error.now.fault) error.now.page (string_bytes line)) }
 {
-    let mut spot = Spot::new(alloc);
-    let place = push_meant(alloc, &mut spot, bytes, error)?;
-    line_of(alloc, bytes, place, &spot, error.fault)
+    if is_toml(error.fault) {
+        table_line(alloc, bytes, error)
+    } else {
+        toml_line(alloc, bytes, error.fault)
+    }
 }

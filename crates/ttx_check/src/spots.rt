@@ -1,21 +1,24 @@
-//! Which value or key of a service text a fault means.
+//! Which value of a service text a fault speaks of, and what is said of it.
 
+ghost use Rattle.std.specs.Prelude.{◌≡◌, ◌++◌, option_map, codes, IfOk, OnOk, Some, string_bytes};
+ghost use Rattle.toml.specs.Data.{get_member, get_item};
+ghost use Rattle.toml.specs.View.{table_view, items_view, view};
+ghost use Rattle.ttx_source.specs.Faults.{fault_of};
+ghost use Rattle.ttx_check.specs.PartViews.{part_view};
+ghost use Rattle.ttx_check.specs.Parts.{part_path, part_name, text_in, table_in};
+ghost use Rattle.ttx_check.specs.Spots as rule;
+ghost use Rattle.ttx_check.specs.UnknownKeys.{is_one_of, service_keys};
+
+use crate::acceptance::{char_count, is_number_refused, is_sub_refused};
+use crate::parts::{Part, part_of, table_at, text_at, text_part, values_at};
 use crate::texts::push_both;
+use crate::unknown_keys::{is_one_of, service_names};
 use std::alloc::{AllocError, Global};
 use toml::{Table, Value};
-use ttx_digits::{first_number, four_digits, id, push_decimal};
-use ttx_links::Target;
+use ttx_digits::push_decimal;
 use ttx_source::{SourceError, SourceFault};
 
-static ROWS: [&str; 24] = [
-    "1", "2", "3", "4", "5", "6", "7", "8", "9", "10", "11", "12", "13", "14", "15", "16", "17",
-    "18", "19", "20", "21", "22", "23", "24",
-];
-
-// What the parts of a page are called, by how the paths to them begin.
-static PART_NAMES: [(&str, &str); 3] = [("/rows/", " row "), ("/links/", " link "), ("/", " ")];
-
-/// What a fault means: the path to it in the text, its name for people, and what is said in detail.
+/// The value that a fault speaks of: the path to it in the text, its name for people, and what is said of it in detail.
 #[derive(Drop)]
 pub struct Spot {
     pub path: String,
@@ -23,291 +26,30 @@ pub struct Spot {
     pub detail: String,
 }
 
-impl Spot {
-    pub fn new(alloc: Global) -> Spot {
-        Spot {
-            path: String::new(alloc),
-            name: String::new(alloc),
-            detail: String::new(alloc),
-        }
-    }
-}
-
-fn is_row_number(key: &str) -> bool {
-    ROWS.contains(&key)
-}
-
-// The text at a key: this one where the key is missing, and none where its value is no text.
-fn text_or<'a>(table: &'a Table, key: &str, missing: &'a str) -> &'a str {
-    match table.get(key) {
-        Some(Value::String(text)) => text.as_str(),
-        Some(_) => "",
-        None => missing,
-    }
-}
-
-fn table_at<'a>(table: &'a Table, key: &str) -> Option<&'a Table> {
-    match table.get(key) {
-        Some(value) => value.as_table(),
-        None => None,
-    }
-}
-
-// The text at a key of an inner table, or none.
-fn inner_text<'a>(table: &'a Table, inner: &str, key: &str) -> &'a str {
-    match table_at(table, inner) {
-        Some(inner) => text_or(inner, key, ""),
-        None => "",
-    }
-}
-
-fn values_at<'a>(table: &'a Table, key: &str) -> &'a [Value] {
-    match table.get(key) {
-        Some(Value::Array(values)) => values.as_slice(),
-        _ => &[],
-    }
+// The value at an index.
+fn value_at(values: &[Value], index: usize) -> Option<&Value>
+    ensures { option_map (λ v. view v.now) result ≡ get_item index (items_view values.now) }
+{
+    values.get(index)
 }
 
 // The table of a page, counted from 1.
-fn page_table<'a>(table: &'a Table, page: usize) -> Option<&'a Table> {
+fn page_table<'a>(table: &'a Table, page: usize) -> Option<&'a Table>
+    ensures { option_map (λ t. table_view t.now) result ≡ rule.page_table (table_view table.now) page }
+{
     if page == 0 {
         return None;
     }
-    match values_at(table, "page").get(page - 1) {
+    match value_at(values_at(table, "page"), page - 1) {
         Some(value) => value.as_table(),
         None => None,
     }
 }
 
-fn is_number(text: &str) -> bool {
-    text.len() == 3 && first_number(text.as_bytes()).is_some()
-}
-
-fn is_subcode(text: &str) -> bool {
-    if text.len() != 4 {
-        return false;
-    }
-    match four_digits(text.as_bytes(), 0) {
-        Some(sub) => sub < 0x4000 && sub / 128 % 2 == 0 && sub != 0x3f7f,
-        None => false,
-    }
-}
-
-// Whether a text is nothing, MPP or MPP/SSSS.
-fn is_link(text: &str) -> bool {
-    match id(text.as_bytes()) {
-        Some((mag, page, sub)) => page != 0xff && Target::new(mag, page, sub).is_some(),
-        None => text.is_empty() || is_number(text),
-    }
-}
-
-fn is_link_value(value: &Value) -> bool {
-    match value {
-        Value::String(text) => is_link(text.as_str()),
-        _ => false,
-    }
-}
-
-// Whether the value at a key, if there is one, is no text, or one that is too long or has a character that can't be sent.
-fn is_bad_at(table: &Table, key: &str, most: usize) -> bool {
-    match table.get(key) {
-        Some(Value::String(text)) => {
-            text.as_str().chars().count() > most || !text.as_str().is_ascii()
-        }
-        Some(_) => true,
-        None => false,
-    }
-}
-
-// Adds the path to the first of these rows that is bad, or to the rows.
-fn push_bad_row(path: &mut String, rows: &Table) -> Result<(), AllocError> {
-    for number in ROWS.as_slice() {
-        if is_bad_at(rows, *number, 40) {
-            return push_both(path, "/rows/", *number);
-        }
-    }
-    path.push_str("/rows")
-}
-
-// Adds the path to the first text of `head` and `rows` that is bad, or to the rows.
-fn push_bad_text(path: &mut String, page: &Table) -> Result<(), AllocError> {
-    if is_bad_at(page, "head", 24) {
-        return path.push_str("/head");
-    }
-    match table_at(page, "rows") {
-        Some(rows) => push_bad_row(path, rows),
-        None => path.push_str("/rows"),
-    }
-}
-
-// Adds the path to the first key of rows that isn't the number of one, or to the rows.
-fn push_bad_key(path: &mut String, rows: &Table) -> Result<(), AllocError> {
-    for (key, _value) in rows.iter() {
-        if !is_row_number(key.as_str()) {
-            return push_both(path, "/rows/", key.as_str());
-        }
-    }
-    path.push_str("/rows")
-}
-
-// Adds the path to a link, counted from 1.
-fn push_link(path: &mut String, number: usize) -> Result<(), AllocError> {
-    path.push_str("/links/")?;
-    push_decimal(path, number)
-}
-
-// Adds the path to the first link that isn't one, or to the links.
-fn push_bad_link(path: &mut String, page: &Table) -> Result<(), AllocError> {
-    for (index, value) in values_at(page, "links").iter().enumerate() {
-        if !is_link_value(value) {
-            return push_link(path, index.saturating_add(1));
-        }
-    }
-    path.push_str("/links")
-}
-
-// Adds the path to the number of a page, or to a link that is none.
-fn push_bad_number(path: &mut String, page: &Table) -> Result<(), AllocError> {
-    if is_number(text_or(page, "number", "")) {
-        push_bad_link(path, page)
-    } else {
-        path.push_str("/number")
-    }
-}
-
-// Adds the path to the subcode of a page, or to a link that is none.
-fn push_bad_subcode(path: &mut String, page: &Table) -> Result<(), AllocError> {
-    if is_subcode(text_or(page, "sub", "0000")) {
-        push_bad_link(path, page)
-    } else {
-        path.push_str("/sub")
-    }
-}
-
-// Adds the path to a key whose value is of another kind; in `rows` and `links` to the value.
-fn push_bad_kind(path: &mut String, page: &Table, key: &str) -> Result<(), AllocError> {
-    match key {
-        "rows" => push_bad_text(path, page),
-        "links" => push_bad_link(path, page),
-        _ => push_both(path, "/", key),
-    }
-}
-
-// Adds the path to a key whose value is out of range; in `rows` to the key that is.
-fn push_bad_range(path: &mut String, page: &Table, key: &str) -> Result<(), AllocError> {
-    match table_at(page, key) {
-        Some(rows) => push_bad_key(path, rows),
-        None => push_both(path, "/", key),
-    }
-}
-
-// Adds the path in the table of a page to what a fault means: none where a key is missing.
-fn push_part(path: &mut String, page: &Table, fault: SourceFault) -> Result<(), AllocError> {
-    match fault {
-        SourceFault::Missing { .. } => Ok(()),
-        SourceFault::Kind { key } => push_bad_kind(path, page, key),
-        SourceFault::Range { key } => push_bad_range(path, page, key),
-        SourceFault::PageNumber => push_bad_number(path, page),
-        SourceFault::Subcode => push_bad_subcode(path, page),
-        SourceFault::RowTooLong | SourceFault::Character => push_bad_text(path, page),
-        SourceFault::Often => path.push_str("/often"),
-        SourceFault::Duplicate | SourceFault::NotToml | SourceFault::NoMemory => path.push_str(
-            "/number",
-        ),
-    }
-}
-
-// Adds the path to a part of a page.
-fn push_page_path(path: &mut String, order: usize, part: &str) -> Result<(), AllocError> {
-    path.push_str("/page/")?;
-    push_decimal(path, order)?;
-    path.push_str(part)
-}
-
-// Adds the id of a page, or where it has none its number in order.
-fn push_page_id(name: &mut String, page: &Table, order: usize) -> Result<(), AllocError> {
-    let number = text_or(page, "number", "");
-    let sub = text_or(page, "sub", "0000");
-    if !is_number(number) || !is_subcode(sub) {
-        return push_decimal(name, order);
-    }
-    push_both(name, number, "/")?;
-    name.push_str(sub)
-}
-
-// Adds the name of a part of a page by the path to it: nothing where there is none.
-fn push_part_name(name: &mut String, part: &str) -> Result<(), AllocError> {
-    for (start, words) in PART_NAMES.as_slice() {
-        if let Some(key) = part.strip_prefix(*start) {
-            return push_both(name, *words, key);
-        }
-    }
-    Ok(())
-}
-
-// Adds the name of a part of a page, with that of the page.
-fn push_page_name(
-    name: &mut String,
-    page: &Table,
-    order: usize,
-    part: &str,
-) -> Result<(), AllocError> {
-    name.push_str("page ")?;
-    push_page_id(name, page, order)?;
-    push_part_name(name, part)
-}
-
-// Adds how many characters a text has, and how many fit.
-fn push_count(detail: &mut String, text: &str, most: usize) -> Result<(), AllocError> {
-    let count = text.chars().count();
-    write!(detail, ": {count} characters, {most} fit")
-}
-
-// Adds those of a text of a page that is too long.
-fn push_page_count(
-    detail: &mut String,
-    page: &Table,
-    part: &str,
-    fault: SourceFault,
-) -> Result<(), AllocError> {
-    if !matches!(fault, SourceFault::RowTooLong) {
-        return Ok(());
-    }
-    match part.strip_prefix("/rows/") {
-        Some(number) => push_count(detail, inner_text(page, "rows", number), 40),
-        None => push_count(detail, text_or(page, "head", ""), 24),
-    }
-}
-
-// Adds what the words of a fault say after their first colon, which is what a key takes.
-fn push_taken(alloc: Global, detail: &mut String, fault: SourceFault) -> Result<(), AllocError> {
-    let words = match fault {
-        SourceFault::Missing { .. } | SourceFault::Kind { .. } | SourceFault::Range { .. } => {
-            format!(in alloc; "{fault}")?
-        }
-        _ => return Ok(()),
-    };
-    match words.as_str().split_once(": ") {
-        Some((_before, taken)) => push_both(detail, ": ", taken),
-        None => Ok(()),
-    }
-}
-
-fn push_page_spot(
-    alloc: Global,
-    spot: &mut Spot,
-    page: &Table,
-    error: &SourceError,
-) -> Result<(), AllocError> {
-    let mut part = String::new(alloc);
-    push_part(&mut part, page, error.fault)?;
-    push_page_path(&mut spot.path, error.page, part.as_str())?;
-    push_page_name(&mut spot.name, page, error.page, part.as_str())?;
-    push_page_count(&mut spot.detail, page, part.as_str(), error.fault)
-}
-
-// The key outside pages that a fault means.
-fn service_key(fault: SourceFault) -> &'static str {
+// The key outside pages that a fault speaks of.
+fn service_key(fault: SourceFault) -> &'static str
+    ensures { result.now ≡ rule.service_key (fault_of fault) }
+{
     match fault {
         SourceFault::Missing { key } | SourceFault::Kind { key } | SourceFault::Range { key } =>
             key,
@@ -319,23 +61,42 @@ fn service_key(fault: SourceFault) -> &'static str {
 }
 
 // Whether a key stands in the table of the service, and not in `info`.
-fn is_service_key(key: &str) -> bool {
-    matches!(key, "lines" | "serial" | "info" | "page")
+fn is_service_key(key: &str) -> bool
+    ensures { result ≡ is_one_of service_keys key.now }
+{
+    is_one_of(service_names(), key)
+}
+
+// The path of the table that takes a key outside pages.
+fn key_table(key: &str) -> &'static str
+    ensures { result.now ≡ rule.key_table key.now }
+{
+    if is_service_key(key) { "" } else { "/info" }
+}
+
+fn is_missing(fault: SourceFault) -> bool
+    ensures { result ≡ rule.is_missing (fault_of fault) }
+{
+    matches!(fault, SourceFault::Missing { .. })
 }
 
 // Adds the path to a key outside pages, or where it is missing to its table.
-fn push_service_path(path: &mut String, key: &str, fault: SourceFault) -> Result<(), AllocError> {
-    if !is_service_key(key) {
-        path.push_str("/info")?;
-    }
-    match fault {
-        SourceFault::Missing { .. } => Ok(()),
-        _ => push_both(path, "/", key),
+fn push_service_path(path: &mut String, fault: SourceFault) -> Result<(), AllocError>
+    ensures { OnOk result (string_bytes path.new ≡ string_bytes path.old ++ rule.service_path (fault_of fault)) }
+{
+    let key = service_key(fault);
+    path.push_str(key_table(key))?;
+    if is_missing(fault) {
+        Ok(())
+    } else {
+        push_both(path, "/", key)
     }
 }
 
 // Adds the name of a key outside pages.
-fn push_service_name(name: &mut String, key: &str) -> Result<(), AllocError> {
+fn push_service_name(name: &mut String, key: &str) -> Result<(), AllocError>
+    ensures { OnOk result (string_bytes name.new ≡ string_bytes name.old ++ rule.service_name key.now) }
+{
     if is_service_key(key) {
         name.push_str(key)
     } else {
@@ -343,30 +104,220 @@ fn push_service_name(name: &mut String, key: &str) -> Result<(), AllocError> {
     }
 }
 
-fn push_service_spot(spot: &mut Spot, table: &Table, fault: SourceFault) -> Result<(), AllocError> {
-    let key = service_key(fault);
-    push_service_path(&mut spot.path, key, fault)?;
-    push_service_name(&mut spot.name, key)?;
-    match fault {
-        SourceFault::RowTooLong => push_count(
-            &mut spot.detail,
-            inner_text(table, "info", "text"),
-            20,
-        ),
-        _ => Ok(()),
+// Adds the path to a part of a page, below that of the page.
+fn push_part_path(path: &mut String, part: Part<'_>) -> Result<(), AllocError>
+    ensures { OnOk result (string_bytes path.new ≡ string_bytes path.old ++ part_path (part_view part.entry)) }
+{
+    match part {
+        Part::Whole => Ok(()),
+        Part::Key(key) => push_both(path, "/", key),
+        Part::Row(key) => push_both(path, "/rows/", key),
+        Part::Link(number) => {
+            path.push_str("/links/")?;
+            push_decimal(path, number)
+        }
     }
 }
 
-/// Adds what the fault of a text with this table means.
-pub fn push_spot(
-    alloc: Global,
-    spot: &mut Spot,
-    table: &Table,
-    error: &SourceError,
-) -> Result<(), AllocError> {
-    push_taken(alloc, &mut spot.detail, error.fault)?;
-    match page_table(table, error.page) {
-        Some(page) => push_page_spot(alloc, spot, page, error),
-        None => push_service_spot(spot, table, error.fault),
+// Adds the name of a part of a page, after that of the page.
+fn push_part_name(name: &mut String, part: Part<'_>) -> Result<(), AllocError>
+    ensures { OnOk result (string_bytes name.new ≡ string_bytes name.old ++ part_name (part_view part.entry)) }
+{
+    match part {
+        Part::Whole => Ok(()),
+        Part::Key(key) => push_both(name, " ", key),
+        Part::Row(key) => push_both(name, " row ", key),
+        Part::Link(number) => {
+            name.push_str(" link ")?;
+            push_decimal(name, number)
+        }
     }
+}
+
+// The text at a key, or another one where there is none.
+fn text_or<'a>(table: &'a Table, key: &str, other: &'a str) -> &'a str
+    ensures { result.now ≡ rule.text_or other.now (text_in (get_member key.now (table_view table.now))) }
+{
+    match text_at(table, key) {
+        Some(text) => text,
+        None => other,
+    }
+}
+
+// The text at a key of an inner table, or nothing.
+fn inner_text<'a>(table: &'a Table, inner: &str, key: &str) -> &'a str
+    ensures { result.now ≡ rule.text_at key.now (table_in (get_member inner.now (table_view table.now))) }
+{
+    match table_at(table, inner) {
+        Some(inner) => text_or(inner, key, ""),
+        None => "",
+    }
+}
+
+// Adds the id of a page, or where it has none its number in order.
+fn push_page_id(name: &mut String, page: &Table, order: usize) -> Result<(), AllocError>
+    ensures { OnOk result (string_bytes name.new ≡ string_bytes name.old ++ rule.page_id (table_view page.now) order) }
+{
+    if is_number_refused(page) || is_sub_refused(page) {
+        return push_decimal(name, order);
+    }
+    push_both(name, text_or(page, "number", ""), "/")?;
+    name.push_str(text_or(page, "sub", "0000"))
+}
+
+// The path to a part of a page.
+fn page_path(alloc: Global, page: &Table, error: &SourceError) -> Result<String, AllocError>
+    ensures { IfOk result (λ path. string_bytes path
+        ≡ rule.path_in (fault_of error.now.fault) error.now.page (Some (table_view page.now))) }
+{
+    let mut path = String::from_str(alloc, "/page/")?;
+    push_decimal(&mut path, error.page)?;
+    push_part_path(&mut path, part_of(page, error.fault))?;
+    Ok(path)
+}
+
+// The path to a key outside pages.
+fn service_path(alloc: Global, fault: SourceFault) -> Result<String, AllocError>
+    ensures { IfOk result (λ path. string_bytes path ≡ rule.service_path (fault_of fault)) }
+{
+    let mut path = String::new(alloc);
+    push_service_path(&mut path, fault)?;
+    Ok(path)
+}
+
+// The path to what a fault speaks of, in the table of a page or outside pages.
+fn path_in(alloc: Global, page: Option<&Table>, error: &SourceError) -> Result<String, AllocError>
+    ensures { IfOk result (λ path. string_bytes path
+        ≡ rule.path_in (fault_of error.now.fault) error.now.page (option_map (λ t. table_view t.now) page.entry)) }
+{
+    match page {
+        None => service_path(alloc, error.fault),
+        Some(page) => page_path(alloc, page, error),
+    }
+}
+
+// The name of a part of a page.
+fn page_name(alloc: Global, page: &Table, error: &SourceError) -> Result<String, AllocError>
+    ensures { IfOk result (λ name. string_bytes name
+        ≡ rule.name_in (fault_of error.now.fault) error.now.page (Some (table_view page.now))) }
+{
+    let mut name = String::from_str(alloc, "page ")?;
+    push_page_id(&mut name, page, error.page)?;
+    push_part_name(&mut name, part_of(page, error.fault))?;
+    Ok(name)
+}
+
+// The name of a key outside pages.
+fn service_name(alloc: Global, key: &str) -> Result<String, AllocError>
+    ensures { IfOk result (λ name. string_bytes name ≡ rule.service_name key.now) }
+{
+    let mut name = String::new(alloc);
+    push_service_name(&mut name, key)?;
+    Ok(name)
+}
+
+// The name of what a fault speaks of, in the table of a page or outside pages.
+fn name_in(alloc: Global, page: Option<&Table>, error: &SourceError) -> Result<String, AllocError>
+    ensures { IfOk result (λ name. string_bytes name
+        ≡ rule.name_in (fault_of error.now.fault) error.now.page (option_map (λ t. table_view t.now) page.entry)) }
+{
+    match page {
+        None => service_name(alloc, service_key(error.fault)),
+        Some(page) => page_name(alloc, page, error),
+    }
+}
+
+// How many characters there are, and how many fit.
+fn count_words(alloc: Global, count: usize, most: usize) -> Result<String, AllocError>
+    ensures { IfOk result (λ detail. string_bytes detail ≡ rule.count_words most count) }
+{
+    let mut detail = String::from_str(alloc, ": ")?;
+    push_decimal(&mut detail, count)?;
+    detail.push_str(" characters, ")?;
+    push_decimal(&mut detail, most)?;
+    detail.push_str(" fit")?;
+    Ok(detail)
+}
+
+// How many characters a text has, and how many fit.
+fn count_text(alloc: Global, text: &str, most: usize) -> Result<String, AllocError>
+    ensures { IfOk result (λ detail. string_bytes detail ≡ rule.count_text most text.now) }
+{
+    count_words(alloc, char_count(text), most)
+}
+
+// Those of a text of a page that is too long.
+fn part_count(alloc: Global, page: &Table, part: Part<'_>) -> Result<String, AllocError>
+    ensures { IfOk result (λ detail. string_bytes detail ≡ rule.part_count (table_view page.now) (part_view part.entry)) }
+{
+    match part {
+        Part::Row(key) => count_text(alloc, inner_text(page, "rows", key), 40),
+        _ => count_text(alloc, text_or(page, "head", ""), 24),
+    }
+}
+
+// Those of the text that is too long, of a page or of `info`.
+fn long_text(alloc: Global, table: &Table, page: Option<&Table>) -> Result<String, AllocError>
+    ensures { IfOk result (λ detail. string_bytes detail
+        ≡ rule.long_text (table_view table.now) (option_map (λ t. table_view t.now) page.entry)) }
+{
+    match page {
+        None => count_text(alloc, inner_text(table, "info", "text"), 20),
+        Some(page) => part_count(alloc, page, text_part(page)),
+    }
+}
+
+/// The words after a colon.
+pub fn after_colon(alloc: Global, words: &str) -> Result<String, AllocError>
+    ensures { IfOk result (λ detail. string_bytes detail ≡ codes ": " ++ words.now) }
+{
+    let mut detail = String::from_str(alloc, ": ")?;
+    detail.push_str(words)?;
+    Ok(detail)
+}
+
+// What the words of a fault say after their first colon, which is what a key takes.
+fn taken_text(alloc: Global, fault: SourceFault) -> Result<String, AllocError>
+    ensures { IfOk result (λ detail. rule.IsTaken (string_bytes detail)) }
+{
+    let words = format!(in alloc; "{fault}")?;
+    match words.as_str().split_once(": ") {
+        Some((_before, taken)) => {
+            let detail = after_colon(alloc, taken)?;
+            Ok(detail)
+        }
+        None => Ok(String::new(alloc)),
+    }
+}
+
+// What is said in detail of the value that a fault speaks of.
+fn detail_in(
+    alloc: Global,
+    table: &Table,
+    page: Option<&Table>,
+    fault: SourceFault,
+) -> Result<String, AllocError>
+    ensures { IfOk result (λ detail. rule.IsDetailIn (fault_of fault) (table_view table.now)
+        (option_map (λ t. table_view t.now) page.entry) (string_bytes detail)) }
+{
+    match fault {
+        SourceFault::RowTooLong => long_text(alloc, table, page),
+        SourceFault::Missing { .. } | SourceFault::Kind { .. } | SourceFault::Range { .. } =>
+            taken_text(alloc, fault),
+        _ => Ok(String::new(alloc)),
+    }
+}
+
+/// The value that the fault of a text with this table speaks of.
+pub fn spot_of(alloc: Global, table: &Table, error: &SourceError) -> Result<Spot, AllocError>
+    ensures path { IfOk result (λ spot. string_bytes spot.path ≡ rule.spot_path (table_view table.now) (fault_of error.now.fault) error.now.page) }
+    ensures name { IfOk result (λ spot. string_bytes spot.name ≡ rule.spot_name (table_view table.now) (fault_of error.now.fault) error.now.page) }
+    ensures detail { IfOk result (λ spot. rule.IsDetail (table_view table.now) (fault_of error.now.fault) error.now.page (string_bytes spot.detail)) }
+{
+    let page = page_table(table, error.page);
+    Ok(Spot {
+        path: path_in(alloc, page, error)?,
+        name: name_in(alloc, page, error)?,
+        detail: detail_in(alloc, table, page, error.fault)?,
+    })
 }

@@ -54,8 +54,8 @@ fn is_any(names: &[&str], key: &str) -> bool
     names.iter().any(|name| *name == key)
 }
 
-// Whether a key is among these names.
-fn is_one_of(names: &[&str], key: &str) -> bool
+/// Whether a key is among these names.
+pub fn is_one_of(names: &[&str], key: &str) -> bool
     ensures { result ≡ rule.is_one_of (map (λ n. n.now) names.now) key.now }
 {
     is_any(names, key)
@@ -203,14 +203,15 @@ fn push_value(
     }
 }
 
-// The value at a key.
-fn member<'a>(table: &'a Table, key: &str) -> Option<&'a Value>
+/// The value at a key.
+pub fn member<'a>(table: &'a Table, key: &str) -> Option<&'a Value>
     ensures { option_map (λ x. view x.now) result ≡ get_member key.now (table_view table.now) }
 {
     table.get(key)
 }
 
-fn service_names() -> &'static [&'static str]
+/// The keys of a service.
+pub fn service_names() -> &'static [&'static str]
     ensures { map (λ n. n.now) result.now ≡ rule.service_keys }
 {
     &SERVICE_KEYS
