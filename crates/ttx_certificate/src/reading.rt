@@ -1,6 +1,7 @@
 //! Reading certificates.
 
-ghost use Rattle.std.specs.Prelude.{◌≡◌, ◌+◌, ◌<◌, ◌≤◌, ◌^◌, ◌&&◌, true, length, IfOk, Some, None, if◌then◌else◌};
+ghost use Rattle.std.specs.Prelude.{◌≡◌, ◌+◌, ◌<◌, ◌≤◌, ◌^◌, ◌&&◌, true, length, codes, IfOk, Some, None, if◌then◌else◌};
+ghost use Rattle.std.specs.Str.{bytes_eq};
 ghost use Rattle.ttx_header.specs.Ids.{id_at};
 ghost use Rattle.ttx_certificate.specs.Entries.{is_item, is_page_id, rises, entry_places};
 ghost use Rattle.ttx_certificate.specs.EntryViews.{entry_of, entries_of};
@@ -176,13 +177,20 @@ fn numbers(alloc: Global, text: &[u8], line: usize, class: Class) -> Result<Cert
     Ok(Certificate::of(lines as u8, repeat as u8, deadline, entries, class))
 }
 
+// Whether the line of the class names class clearing, the only one that version 2 has.
+fn is_clearing(line: &[u8]) -> bool
+    ensures { result ≡ bytes_eq line.now (codes "class clearing") }
+{
+    line == b"class clearing".as_slice()
+}
+
 // The lines after the first one of version 2: the class, the numbers and the entries.
 fn clearing(alloc: Global, text: &[u8]) -> Result<Certificate, CertFault>
     requires { length text.now + 16 < 2 ^ 64 }
     ensures { IsUnlessMemory result (outcome fields_of result ≡ rule.read_class (lines_in text.now)) }
 {
     let (class, rest) = line_at(text, 2)?;
-    if class != b"class clearing".as_slice() {
+    if !is_clearing(class) {
         return Err(CertFault::Line { line: 2 });
     }
     numbers(alloc, rest, 3, Class::Clearing)

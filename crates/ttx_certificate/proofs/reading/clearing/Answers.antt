@@ -1,5 +1,4 @@
 use Rattle.std.proofs.Common.{◌≡◌, ◌∙◌, true, if◌then◌else◌, Err, codes, bytes_eq, ap, sym, subst}
-use Rattle.std.proofs.lemmas.Bool.{not-false}
 use Rattle.ttx_page.specs.declared.class.Class.TheVariants.{Clearing}
 use Rattle.ttx_certificate.specs.declared.certificate_faults.CertFault.TheVariants.{Line}
 use Rattle.ttx_certificate.specs.Certificates.{fields_of}
@@ -10,7 +9,7 @@ use Rattle.ttx_certificate.proofs.reading.clearing.Goals as goal
 pub returns : goal.returns
 returns c =
     let is : bytes_eq c.in_ok-class.class.now (codes "class clearing") ≡ true =
-    ap (bytes_eq c.in_ok-class.class.now) (sym c.as_slice.ensures) ∙ not-false _ (sym c.ne.ensures ∙ c.if-ne.false) in
+    sym c.is_clearing.ensures ∙ c.if-not-is_clearing.false in
     let rest = lines_in c.in_ok-class.rest.now in
     let text : read_numbers Clearing 3 rest ≡ read_class (lines_in c.args.text.now) =
     sym (ap (λ b. if b then read_numbers Clearing 3 rest else Err (Line 2)) is) ∙ ap (λ line. line >>= read_clearing) c.in_ok-class.ensures.value in
