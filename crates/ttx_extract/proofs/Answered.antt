@@ -4,11 +4,11 @@ use Rattle.ttx_extract.specs.Extracts.{Blames, AnswersFault}
 use Rattle.ttx_extract.specs.declared.faults.ExtractFault.{ExtractFault}
 use Rattle.ttx_extract.specs.declared.faults.ExtractFault.TheVariants.{Conflict, Reason, Info, Service, TooLong, Unsaid, NoMemory}
 
-pub answered : (slots : List (List ℕ)) (fault : ExtractFault) → Blames slots fault → AnswersFault slots fault
-answered slots (Conflict page item first second) b = b
-answered slots (Reason reason) b = b
-answered slots (Info slot) b = absurd b
-answered slots (Service error) b = absurd b
-answered slots TooLong b = absurd b
-answered slots Unsaid b = absurd b
-answered slots NoMemory b = absurd b
+pub answered : (slots : List (List ℕ)) (lines : ℕ) (fault : ExtractFault) → Blames slots lines fault → AnswersFault slots lines fault
+answered slots lines (Conflict page item first second) b = b
+answered slots lines (Reason reason) b = b
+answered slots lines (Info slot) b = absurd b
+answered slots lines (Service error) b = absurd b
+answered slots lines TooLong b = absurd b
+answered slots lines Unsaid b = absurd b
+answered slots lines NoMemory b = absurd b

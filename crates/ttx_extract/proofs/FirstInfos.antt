@@ -1,6 +1,7 @@
 -- The first packet 8/30 of a list of slots.
-use Rattle.std.proofs.Common.{◌≡◌, ℕ, suc, ◌+◌, ◌<◌, ◌≤◌, List, [], ◌∷◌, length, drop, get_or, Option, Some, None, refl, ap, sym, ◌∙◌, arith}
+use Rattle.std.proofs.Common.{◌≡◌, ℕ, suc, ◌+◌, ◌<◌, ◌≤◌, List, [], ◌∷◌, length, drop, get_or, Option, Some, None, refl, ap, sym, ◌∙◌, inl, inr, arith}
 use Rattle.std.specs.Option.{option_map}
+use Rattle.std.proofs.lemmas.Bool.{cases_lt}
 use Rattle.std.proofs.Math.Seq.{drop-cons}
 use Rattle.std.proofs.Math.ListN.{drop_of_length-le}
 use Rattle.ttx_info.specs.Infos.{InfoFields}
@@ -31,6 +32,13 @@ module _ (slots : List (List ℕ)) (i : ℕ) (e : first_info slots ≡ first_inf
 
   pub none : length slots ≤ i → first_info slots ≡ None
   none past = e ∙ ap first_info (drop_of_length-le slots past) ∙ first_none
+
+pub none_more : (slots : List (List ℕ)) (i : ℕ) → ((n : ℕ) → n < i → slot_info (get_or slots n []) ≡ None) → slot_info (get_or slots i []) ≡ None →
+    (n : ℕ) → n < i + 1 → slot_info (get_or slots n []) ≡ None
+none_more slots i before is n lt = elim (cases_lt n i) as (λ _. slot_info (get_or slots n []) ≡ None) [
+  | inl less ↦ before n less
+  | inr ge ↦ let same : n ≡ i = omega arith in ap (λ m. slot_info (get_or slots m [])) same ∙ is
+]
 
 pub info_told : (slots : List (List ℕ)) (o : Option FoundInfo) → TellsInfo slots o → option_map (λ f. f.info) o ≡ first_info slots
 info_told slots None told = sym told

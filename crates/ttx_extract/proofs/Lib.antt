@@ -3,6 +3,12 @@ mod Slots
 mod Packets
 mod Pages
 mod FirstInfos
+mod FirstReasons
+mod FirstSerial
 mod Listed
 mod Answered
 mod AuthoredIds
+mod Rising
+mod SamePages
+mod SameServices
+mod NotSteady

@@ -1,5 +1,5 @@
 -- That the header of a slot is a listed page's.
-use Rattle.std.proofs.Common.{◌≡◌, ℕ, zero, suc, ◌<◌, Bool, true, false, ◌&&◌, eqb, List, [], ◌∷◌, length, slice_get, Some, refl, sym, ◌∙◌, subst}
+use Rattle.std.proofs.Common.{◌≡◌, ℕ, zero, suc, ◌<◌, true, ◌&&◌, eqb, List, [], ◌∷◌, length, slice_get, Some, refl, sym, ◌∙◌, subst}
 use Rattle.std.proofs.Common.{inr, arith, eqb-true, eq-eqb}
 use Rattle.std.specs.List.{Contains}
 use Rattle.std.proofs.lemmas.Option.{get_or_from_slice_get, slice_get_within}
@@ -11,7 +11,7 @@ use Rattle.ttx_witness.specs.sent.Collected.{Finds}
 use Rattle.ttx_witness.specs.faults.Comparing.{HoldsHeader}
 use Rattle.ttx_extract.specs.Extracts.{IsOfPages}
 
-same_one : (a b : Id) → same_id a b ≡ true → a ≡ b
+pub same_one : (a b : Id) → same_id a b ≡ true → a ≡ b
 same_one a b e =
     let front : (eqb a.mag b.mag && eqb a.page b.page) ≡ true = (and_parts _ _ e).0 in
     let mag : a.mag ≡ b.mag = eqb-true a.mag b.mag ((and_parts _ _ front).0) in

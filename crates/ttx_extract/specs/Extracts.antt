@@ -2,29 +2,37 @@
 --
 --   IsOfPages, AreOfPages    a header is a listed page's, or a time-filling one; each header is
 --   slot_info, first_info    the packet 8/30 format 1 of a slot; the first of a cycle
+--   header_serial, first_serial    C11 of a header; of the first header of a cycle
 --   often_for, IsSentOften    how often a page is sent that has so many headers
---   AreSteady, IsExtract    its pages are sent unchanged; the service says what the cycle sends
---   Differs, IsConflict     two packets of an item with different contents; two slots that send them
---   HasReason, IsMinusZero    a page of some list has the reason; an offset that no text says
+--   IsSentService           the service says what the cycle sends first
+--   AreSteady, IsExtract    its pages are sent unchanged; the service of the cycle's text
+--   IsFirstReason           the reason of the first page that isn't sent unchanged
+--   Differs, IsUnlikeFirst  two packets of an item with different contents; an item's first slot, and one that differs from it
+--   NamesItem, IsConflict   the item of a reason; the same of the reason of the first page that isn't sent unchanged
+--   IsMinusZero             the first packet 8/30 has an offset that no text says
 --   Blames, AnswersFault    why pages aren't sent unchanged; why there is no text
 --   Extracts                what is answered for a cycle and lines of a field
-use Rattle.std.specs.Prelude.{◌≡◌, ◌⊎◌, ℕ, pos, true, List, [], ◌∷◌, take, length, Contains, slice_get, slice_index_or, string_bytes, ⊤, Option, Some}
+use Rattle.std.specs.Prelude.{◌≡◌, ◌⊎◌, ℕ, ◌<◌, pos, unsigned_abs, Bool, true, false, List, [], ◌∷◌, take, length, Contains, slice_get, slice_index_or, string_bytes, ⊤, Option, Some}
 use Rattle.std.specs.Prelude.{None, Result, Ok, Err, if◌then◌else◌, nat_le}
 use Rattle.ttx_packet.specs.Slots.{Kind, kind_of, IsInfo}
 use Rattle.ttx_header.specs.Ids.{Id}
+use Rattle.ttx_header.specs.Control.{c11}
 use Rattle.ttx_info.specs.Infos.{InfoFields, info_of}
 use Rattle.ttx_info.specs.declared.faults.InfoFault.{InfoFault}
 use Rattle.ttx_page.specs.Packets.{Packet, Header, Row, Links, packet_of}
 use Rattle.ttx_page.specs.Pages.{Page}
 use Rattle.ttx_page.specs.declared.item.Item.{Item}
-use Rattle.ttx_page.specs.declared.item.Item.TheVariants.{Head as TheHead}
+use Rattle.ttx_page.specs.declared.item.Item.TheVariants.{Head as TheHead, Row as TheRow, Links as TheLinks}
 use Rattle.ttx_page.specs.Streams.{repeated, IsTransmission}
 use Rattle.ttx_page.specs.Steady.{Steady}
-use Rattle.ttx_source.specs.Services.{ServiceFields, Authored, pages_of, authored_ids}
+use Rattle.ttx_source.specs.Services.{ServiceFields, Authored, IsService, pages_of, authored_ids}
 use Rattle.ttx_witness.specs.sent.ItemTransmissions.{sent_in}
 use Rattle.ttx_witness.specs.faults.Faults.{IsPageFault}
+use Rattle.ttx_witness.specs.declared.runs.transmissions.Transmission.{Transmission}
 use Rattle.ttx_witness.specs.declared.faults.reason.Reason.{Reason as WitnessReason}
+use Rattle.ttx_witness.specs.declared.faults.reason.Reason.TheVariants.{HeadDiffers, RowDiffers, LinksDiffer}
 use Rattle.ttx_certify.specs.CertifyingFiles.{IsServiceText}
+use Rattle.ttx_extract.specs.FirstSent.{IsSentPage, AreInOrder}
 use Rattle.ttx_extract.specs.declared.extracting.Extracted.{Extracted}
 use Rattle.ttx_extract.specs.declared.faults.ExtractFault.{ExtractFault}
 use Rattle.ttx_extract.specs.declared.faults.ExtractFault.TheVariants.{Conflict, Reason, Info}
@@ -56,6 +64,20 @@ first_info (slot ∷ slots) = info_or (slot_info slot) (first_info slots)
 abbrev pub often_for : ℕ → ℕ
 often_for n = if nat_le 8 n then 8 else if nat_le 4 n then 4 else if nat_le 2 n then 2 else 1
 
+-- C11 of a header
+abbrev pub header_serial : Packet → Option Bool
+header_serial (Header id control text) = Some (c11 control)
+header_serial packet = None
+
+abbrev pub serial_or : Option Bool → Bool → Bool
+serial_or None b = b
+serial_or (Some a) b = a
+
+-- C11 of the first header, and clear where there is none
+unfoldable pub first_serial : List (List ℕ) → Bool
+first_serial [] = false
+first_serial (slot ∷ slots) = serial_or (header_serial (packet_of slot)) (first_serial slots)
+
 abbrev pub AreSteady : List (List ℕ) → ServiceFields → Type 0
 AreSteady slots service = (n : ℕ) (p : Page) → slice_get (pages_of service) n ≡ Some p → Steady (repeated slots) (pages_of service) p
 
@@ -63,14 +85,22 @@ AreSteady slots service = (n : ℕ) (p : Page) → slice_get (pages_of service) 
 abbrev pub IsSentOften : List (List ℕ) → ℕ → Authored → Type 0
 IsSentOften slots lines a = a.often ≡ often_for (length (sent_in slots a.page.id lines TheHead))
 
--- The service has these lines and the cycle's first packet 8/30; its pages are all that headers name; each is sent unchanged, and as
--- often as it has headers in a period.
-pub record IsExtract (slots : List (List ℕ)) (lines : ℕ) (service : ServiceFields) : Type 0 where
+-- The service says what the cycle sends first: these lines, C11 of the first header, the first packet 8/30, and the pages that headers
+-- name, in the order of their first headers; each page has the first transmission of each item, and as many headers as `often` says.
+pub record IsSentService (slots : List (List ℕ)) (lines : ℕ) (service : ServiceFields) : Type 0 where
+  pub ranges : IsService service
   pub lines_are : service.lines ≡ lines
+  pub serial : service.serial ≡ first_serial slots
   pub info : service.info ≡ first_info slots
   pub listed : AreOfPages (authored_ids service.pages) slots
-  pub steady : AreSteady slots service
+  pub in_order : AreInOrder slots lines (pages_of service)
+  pub pages : (n : ℕ) (p : Page) → slice_get (pages_of service) n ≡ Some p → IsSentPage slots lines p
   pub often : (n : ℕ) (a : Authored) → slice_get service.pages n ≡ Some a → IsSentOften slots lines a
+
+-- and each of its pages is sent unchanged
+pub record IsExtract (slots : List (List ℕ)) (lines : ℕ) (service : ServiceFields) : Type 0 where
+  pub sent : IsSentService slots lines service
+  pub steady : AreSteady slots service
 
 -- other control bits or characters 8 to 31 of headers, other characters of rows, other links
 abbrev pub Differs : Packet → Packet → Type 0
@@ -79,37 +109,64 @@ Differs (Row a m text) (Row b n bytes) = text ≡ bytes → ⊥
 Differs (Links a content) (Links b other) = content ≡ other → ⊥
 Differs a b = ⊥
 
-pub record IsConflict (slots : List (List ℕ)) (page : Id) (item : Item) (a b : ℕ) : Type 0 where
-  pub first : IsTransmission (repeated slots) page item (pos a)
-  pub second : IsTransmission (repeated slots) page item (pos b)
+-- The service that says what is sent first has a page with this reason, and each page before it is sent unchanged.
+pub record IsFirstReason (slots : List (List ℕ)) (lines : ℕ) (page : Id) (reason : WitnessReason) : Type 0 where
+  pub service : ServiceFields
+  pub sent : IsSentService slots lines service
+  pub place : ℕ
+  pub fields : Page
+  pub here : slice_get (pages_of service) place ≡ Some fields
+  pub page_is : page ≡ fields.id
+  pub fault : IsPageFault slots (pages_of service) fields (Some reason)
+  pub earlier : (n : ℕ) (p : Page) → n < place → slice_get (pages_of service) n ≡ Some p → Steady (repeated slots) (pages_of service) p
+
+-- the reason tells of a slot of this item
+abbrev pub NamesItem : WitnessReason → Item → ℕ → Type 0
+NamesItem (HeadDiffers page slot) item other = (item ≡ TheHead) × (slot ≡ other)
+NamesItem (RowDiffers page slot) (TheRow r) other = slot ≡ other
+NamesItem (LinksDiffer page slot) item other = (item ≡ TheLinks) × (slot ≡ other)
+NamesItem reason item other = ⊥
+
+-- slot a is the item's first in the period, and slot b sends something else
+pub record IsUnlikeFirst (slots : List (List ℕ)) (lines : ℕ) (page : Id) (item : Item) (a b : ℕ) : Type 0 where
+  pub transmission : Transmission
+  pub is_first : slice_get (sent_in slots page lines item) 0 ≡ Some transmission
+  pub slot_is : a ≡ unsigned_abs transmission.slot
+  pub sent : IsTransmission (repeated slots) page item (pos a)
+  pub first_within : a < length slots
+  pub second_within : b < length slots
   pub differ : Differs (packet_of (repeated slots (pos a))) (packet_of (repeated slots (pos b)))
 
-pub record HasReason (slots : List (List ℕ)) (reason : WitnessReason) : Type 0 where
-  pub pages : List Page
-  pub page : Page
-  pub listed : Contains pages page
-  pub fault : IsPageFault slots pages page (Some reason)
+-- the first page that isn't sent unchanged, and the item and the slot b of its reason, which differs from the item's first slot a
+pub record IsConflict (slots : List (List ℕ)) (lines : ℕ) (page : Id) (item : Item) (a b : ℕ) : Type 0 where
+  pub reason : WitnessReason
+  pub blamed : IsFirstReason slots lines page reason
+  pub names : NamesItem reason item b
+  pub second : IsTransmission (repeated slots) page item (pos b)
+  pub unlike : IsUnlikeFirst slots lines page item a b
 
--- the slot has a packet 8/30 format 1 with a negative offset of no half-hours
+-- the slot has the first packet 8/30 format 1, with a negative offset of no half-hours
 pub record IsMinusZero (slots : List (List ℕ)) (slot : ℕ) : Type 0 where
   pub fields : InfoFields
+  pub within : slot < length slots
   pub here : slot_info (slice_index_or slots slot []) ≡ Some fields
+  pub none_before : (n : ℕ) → n < slot → slot_info (slice_index_or slots n []) ≡ None
   pub none : fields.halves ≡ 0
   pub negative : fields.west ≡ true
 
--- a page isn't sent as any service has it, or two slots differ
-abbrev pub Blames : List (List ℕ) → ExtractFault → Type 0
-Blames slots (Conflict page item first second) = IsConflict slots page item first second
-Blames slots (Reason reason) = HasReason slots reason
-Blames slots fault = ⊥
+-- the first page that isn't sent unchanged: two slots that differ, or its reason
+abbrev pub Blames : List (List ℕ) → ℕ → ExtractFault → Type 0
+Blames slots lines (Conflict page item first second) = IsConflict slots lines page item first second
+Blames slots lines (Reason reason) = (page : Id) × IsFirstReason slots lines page reason
+Blames slots lines fault = ⊥
 
 -- why there is no text
-abbrev pub AnswersFault : List (List ℕ) → ExtractFault → Type 0
-AnswersFault slots (Conflict page item first second) = IsConflict slots page item first second
-AnswersFault slots (Reason reason) = HasReason slots reason
-AnswersFault slots (Info slot) = IsMinusZero slots slot
-AnswersFault slots fault = ⊤
+abbrev pub AnswersFault : List (List ℕ) → ℕ → ExtractFault → Type 0
+AnswersFault slots lines (Conflict page item first second) = IsConflict slots lines page item first second
+AnswersFault slots lines (Reason reason) = (page : Id) × IsFirstReason slots lines page reason
+AnswersFault slots lines (Info slot) = IsMinusZero slots slot
+AnswersFault slots lines fault = ⊤
 
 abbrev pub Extracts : List (List ℕ) → ℕ → Result Extracted ExtractFault → Type 0
 Extracts slots lines (Ok extracted) = IsServiceText (string_bytes extracted.text) extracted.service × IsExtract slots lines extracted.service
-Extracts slots lines (Err fault) = AnswersFault slots fault
+Extracts slots lines (Err fault) = AnswersFault slots lines fault

@@ -12,9 +12,9 @@ ghost use Rattle.ttx_page.specs.Views.{page_of};
 ghost use Rattle.ttx_source.specs.Services.{Authored};
 ghost use Rattle.ttx_witness.specs.sent.AllSent.{AreAllSent};
 ghost use Rattle.ttx_witness.specs.sent.Collected.{IsIndex};
-ghost use Rattle.ttx_witness.specs.faults.Faults.{IsPageFault};
 ghost use Rattle.ttx_witness.specs.faults.OtherSubpages.{AreOtherSubpages};
 ghost use Rattle.ttx_extract.specs.Extracts.{IsOfPages, AreOfPages, IsSentOften};
+ghost use Rattle.ttx_extract.specs.FirstReasons.{TellsPage};
 
 use crate::page_texts::often_for;
 use ttx_cycle::Cycle;
@@ -72,8 +72,7 @@ pub fn first_reason(
         AreOtherSubpages (slots_of cycle.now) (map page_of pages.now) others.now →
         MatchOption result ((n : ℕ) (p : definitions.Page) → slice_get (map page_of pages.now) n ≡ Some p →
         Steady (repeated (slots_of cycle.now)) (map page_of pages.now) p)
-        (λ told. (p : definitions.Page) × (slice_get (map page_of pages.now) told.index ≡ Some p) × (told.page ≡ p.id)
-        × IsPageFault (slots_of cycle.now) (map page_of pages.now) p (Some told.reason)) }
+        (TellsPage (slots_of cycle.now) (map page_of pages.now)) }
 {
     for index in 0..pages.len() {
         let page = &pages[index];

@@ -1,6 +1,6 @@
 //! Two slots that send different contents of an item.
 
-ghost use Rattle.std.specs.Prelude.{◌≡◌, ℕ, ◌<◌, List, [], IsTrue, IfSome, Some, pos, length, slice_get, unsigned_abs};
+ghost use Rattle.std.specs.Prelude.{◌≡◌, ℕ, List, IsTrue, IfSome, Some, pos, unsigned_abs};
 ghost use Rattle.ttx_cycle.specs.Cycles.{slots_of};
 ghost use Rattle.ttx_packet.specs.Slots.{IsSlot};
 ghost use Rattle.ttx_header.specs.Ids.{Id};
@@ -8,14 +8,16 @@ ghost use Rattle.ttx_page.specs.Packets.{packet_of, Row};
 ghost use Rattle.ttx_page.specs.declared.item.Item.{Item as ItemIs};
 ghost use Rattle.ttx_page.specs.Pages as definitions;
 ghost use Rattle.ttx_page.specs.Streams.{repeated, IsTransmission};
+ghost use Rattle.ttx_source.specs.Services.{ServiceFields, pages_of};
 ghost use Rattle.ttx_witness.specs.sent.AllSent.{AreAllSent};
 ghost use Rattle.ttx_witness.specs.faults.Faults.{IsPageFault};
 ghost use Rattle.ttx_witness.specs.sent.ItemTransmissions.{sent_in};
-ghost use Rattle.ttx_extract.specs.Extracts.{Differs, Blames};
+ghost use Rattle.ttx_extract.specs.Extracts.{Differs, IsUnlikeFirst, NamesItem, IsSentService, Blames};
+ghost use Rattle.ttx_extract.specs.FirstReasons.{TellsPage};
 
+use crate::checking::Told;
 use crate::faults::ExtractFault;
 use ttx_cycle::Cycle;
-use ttx_header::PageId;
 use ttx_links::read_links;
 use ttx_packet::{Slot, slot_of};
 use ttx_page::{Item, RowNumber};
@@ -75,15 +77,14 @@ fn slot_of_first(sent: Transmission) -> u32
 // The slot of a list's first transmission, where this slot differs from it.
 fn first_unlike(cycle: &Cycle, sent: &[Transmission], slot: u32) -> Option<u32>
     ensures { IfSome result (λ first. (page : Id) (lines : ℕ) (item : ItemIs) → sent.now ≡ sent_in (slots_of cycle.now) page lines item →
-        IsTransmission (repeated (slots_of cycle.now)) page item (pos first)
-        × Differs (packet_of (repeated (slots_of cycle.now) (pos first))) (packet_of (repeated (slots_of cycle.now) (pos slot)))) }
+        IsUnlikeFirst (slots_of cycle.now) lines page item first slot) }
 {
     ttx_witness::judging_laws::transmissions_are_listed();
     let slots = cycle.slots();
-    if sent.is_empty() {
+    let Some(earliest) = sent.first() else {
         return None;
-    }
-    let place = slot_of_first(sent[0]);
+    };
+    let place = slot_of_first(*earliest);
     if place as usize >= slots.len() {
         return None;
     }
@@ -121,7 +122,8 @@ struct Blamed {
 
 // The item that differs, and the slot where it does.
 fn unlike_item(cycle: &Cycle, reason: &Reason) -> Option<Blamed>
-    ensures { IfSome result (λ unlike. (pages : List definitions.Page) (p : definitions.Page) →
+    ensures names { IfSome result (λ unlike. NamesItem reason.now unlike.item unlike.slot) }
+    ensures sent { IfSome result (λ unlike. (pages : List definitions.Page) (p : definitions.Page) →
         IsPageFault (slots_of cycle.now) pages p (Some reason.now) →
         IsTransmission (repeated (slots_of cycle.now)) p.id unlike.item (pos unlike.slot)) }
 {
@@ -145,29 +147,23 @@ fn unlike_item(cycle: &Cycle, reason: &Reason) -> Option<Blamed>
     }
 }
 
-/// Why a page of a list isn't sent unchanged: two slots, where what one of them sends differs from the item's first transmission, and
-/// else the reason.
-pub fn why(
-    cycle: &Cycle,
-    page: PageId,
-    collected: &Collected,
-    index: usize,
-    reason: Reason,
-) -> ExtractFault
-    ensures { (pages : List definitions.Page) (lines : ℕ) (p : definitions.Page) → AreAllSent (slots_of cycle.now) pages lines collected.now →
-        slice_get pages index ≡ Some p → page ≡ p.id →
-        IsPageFault (slots_of cycle.now) pages p (Some reason) → Blames (slots_of cycle.now) result }
+/// Why the page that was told isn't sent unchanged: two slots, where what one of them sends differs from the item's first
+/// transmission, and else the reason.
+pub fn why(cycle: &Cycle, collected: &Collected, told: Told) -> ExtractFault
+    ensures { (service : ServiceFields) (lines : ℕ) → AreAllSent (slots_of cycle.now) (pages_of service) lines collected.now →
+        IsSentService (slots_of cycle.now) lines service → TellsPage (slots_of cycle.now) (pages_of service) told →
+        Blames (slots_of cycle.now) lines result }
 {
-    let Some(blamed) = unlike_item(cycle, &reason) else {
-        return ExtractFault::Reason(reason);
+    let Some(blamed) = unlike_item(cycle, &told.reason) else {
+        return ExtractFault::Reason(told.reason);
     };
-    match first_unlike(cycle, collected.sent(index, blamed.item), blamed.slot) {
+    match first_unlike(cycle, collected.sent(told.index, blamed.item), blamed.slot) {
         Some(first) => ExtractFault::Conflict {
-            page,
+            page: told.page,
             item: blamed.item,
             first,
             second: blamed.slot,
         },
-        None => ExtractFault::Reason(reason),
+        None => ExtractFault::Reason(told.reason),
     }
 }

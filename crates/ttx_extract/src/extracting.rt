@@ -6,14 +6,17 @@ ghost use Rattle.ttx_cycle.specs.Cycles.{slots_of};
 ghost use Rattle.ttx_source.specs.Services.{authored_ids, pages_of};
 ghost use Rattle.ttx_witness.specs.sent.AllSent.{AreAllSent};
 ghost use Rattle.ttx_witness.specs.faults.OtherSubpages.{AreOtherSubpages};
-ghost use Rattle.ttx_extract.specs.Extracts.{AnswersFault, AreOfPages, AreSteady, Blames, Extracts, IsExtract, first_info};
+ghost use Rattle.ttx_extract.specs.Extracts.{AnswersFault, AreOfPages, AreSteady, Blames, Extracts, IsExtract, IsSentService};
+ghost use Rattle.ttx_extract.specs.Extracts.{first_info, first_serial};
 ghost use Rattle.ttx_extract.specs.FoundInfos.{MinusZero, OkTrue};
 
 use crate::checking::{are_listed, are_often, first_reason};
 use crate::conflicts::why;
 use crate::faults::ExtractFault;
+use crate::first_sent::{are_in_order, are_sent_pages};
 use crate::gathering::gather;
 use crate::infos::{FoundInfo, first_info, same_info};
+use crate::serial::first_serial;
 use crate::service_texts::service_text;
 use std::alloc::Global;
 use ttx_cycle::{Cycle, MOST_BYTES};
@@ -62,11 +65,12 @@ fn has_info(service: &Service, found: &Option<FoundInfo>) -> bool
     }
 }
 
-// Whether the service has these lines and the packet 8/30.
+// Whether the service has these lines, C11 of the first header and the packet 8/30.
 fn has_head(cycle: &Cycle, service: &Service, lines: u8) -> bool
-    ensures { IsTrue result → (service.now.lines ≡ lines) × (service.now.info ≡ first_info (slots_of cycle.now)) }
+    ensures { IsTrue result → (service.now.lines ≡ lines) × (service.now.serial ≡ first_serial (slots_of cycle.now))
+        × (service.now.info ≡ first_info (slots_of cycle.now)) }
 {
-    if service.lines() != lines {
+    if service.lines() != lines || service.serial() != first_serial(cycle) {
         return false;
     }
     has_info(service, &first_info(cycle))
@@ -97,38 +101,60 @@ fn sent_of(alloc: Global, cycle: &Cycle, service: &Service, lines: u8) -> Result
     Ok(Sent { collected, others })
 }
 
+// Whether the service says what the cycle sends first.
+fn is_sent_service(
+    alloc: Global,
+    cycle: &Cycle,
+    service: &Service,
+    sent: &Sent,
+    lines: u8,
+) -> Result<bool, NoMemory>
+    ensures { AreAllSent (slots_of cycle.now) (pages_of service.now) lines sent.now.collected → OkTrue result →
+        IsSentService (slots_of cycle.now) lines service.now }
+{
+    let pages = service.pages();
+    if !has_head(cycle, service, lines) {
+        return Ok(false);
+    }
+    if !are_often(service, &sent.collected) {
+        return Ok(false);
+    }
+    if !are_in_order(pages.len(), &sent.collected) {
+        return Ok(false);
+    }
+    if !are_sent_pages(cycle, pages, &sent.collected) {
+        return Ok(false);
+    }
+    has_pages(alloc, cycle, service)
+}
+
 // Why the pages of a service aren't sent unchanged; none where they are.
 fn blame(cycle: &Cycle, service: &Service, sent: &Sent) -> Option<ExtractFault>
     ensures { (lines : ℕ) → AreAllSent (slots_of cycle.now) (pages_of service.now) lines sent.now.collected →
-        AreOtherSubpages (slots_of cycle.now) (pages_of service.now) sent.now.others →
-        MatchOption result (AreSteady (slots_of cycle.now) service.now) (λ fault. Blames (slots_of cycle.now) fault) }
+        AreOtherSubpages (slots_of cycle.now) (pages_of service.now) sent.now.others → IsSentService (slots_of cycle.now) lines service.now →
+        MatchOption result (AreSteady (slots_of cycle.now) service.now) (Blames (slots_of cycle.now) lines) }
 {
     match first_reason(cycle, service.pages(), &sent.collected, &sent.others) {
-        Some(told) => Some(why(cycle, told.page, &sent.collected, told.index, told.reason)),
+        Some(told) => Some(why(cycle, &sent.collected, told)),
         None => None,
     }
 }
 
-// Whether the service says what the cycle sends.
+// Whether the service says what the cycle sends first, and each page is sent unchanged.
 fn check(alloc: Global, cycle: &Cycle, service: &Service, lines: u8) -> Result<(), ExtractFault>
-    ensures { MatchResult result (λ _. IsExtract (slots_of cycle.now) lines service.now) (λ fault. AnswersFault (slots_of cycle.now) fault) }
+    ensures { MatchResult result (λ _. IsExtract (slots_of cycle.now) lines service.now) (AnswersFault (slots_of cycle.now) lines) }
 {
     let Ok(sent) = sent_of(alloc, cycle, service, lines) else {
         return Err(ExtractFault::NoMemory);
     };
-    if let Some(fault) = blame(cycle, service, &sent) {
-        return Err(fault);
+    match is_sent_service(alloc, cycle, service, &sent, lines) {
+        Ok(true) => {}
+        Ok(false) => return Err(ExtractFault::Unsaid),
+        Err(_) => return Err(ExtractFault::NoMemory),
     }
-    if !has_head(cycle, service, lines) {
-        return Err(ExtractFault::Unsaid);
-    }
-    if !are_often(service, &sent.collected) {
-        return Err(ExtractFault::Unsaid);
-    }
-    match has_pages(alloc, cycle, service) {
-        Ok(true) => Ok(()),
-        Ok(false) => Err(ExtractFault::Unsaid),
-        Err(_) => Err(ExtractFault::NoMemory),
+    match blame(cycle, service, &sent) {
+        Some(fault) => Err(fault),
+        None => Ok(()),
     }
 }
 
@@ -146,7 +172,7 @@ fn text_with(
 // The text of what the cycle sends.
 fn text_of(alloc: Global, cycle: &Cycle, lines: u8) -> Result<String, ExtractFault>
     ensures most { IfOk result (λ text. length (string_bytes text) ≤ most_bytes) }
-    ensures fault { IfErr result (AnswersFault (slots_of cycle.now)) }
+    ensures fault { IfErr result (AnswersFault (slots_of cycle.now) lines) }
 {
     let found = first_info(cycle);
     if let Some(slot) = minus_zero(&found) {

@@ -5,11 +5,14 @@ mod checking;
 mod conflicts;
 mod extracting;
 pub mod faults;
+mod first_sent;
 mod found;
 mod gathering;
 mod infos;
+pub mod laws;
 mod page_texts;
 mod refusals;
+mod serial;
 mod service_texts;
 mod texts;
 

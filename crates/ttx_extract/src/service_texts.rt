@@ -2,23 +2,13 @@
 
 use crate::gathering::Gathered;
 use crate::page_texts::{push_page, push_target};
+use crate::serial::first_serial;
 use crate::texts::push_characters;
 use std::alloc::{AllocError, Global};
 use ttx_cycle::Cycle;
 use ttx_digits::push_byte;
 use ttx_info::Info;
-use ttx_witness::{NoMemory, header_in};
-
-// Whether the first header says that magazines are sent one after another.
-fn is_serial(cycle: &Cycle) -> bool {
-    let slots = cycle.slots();
-    for j in 0..slots.len() {
-        if let Some(header) = header_in(&slots[j]) {
-            return header.control().is_serial();
-        }
-    }
-    false
-}
+use ttx_witness::NoMemory;
 
 // Adds the local offset, the date and the time.
 fn push_clock(text: &mut String, info: &Info) -> Result<(), AllocError> {
@@ -60,7 +50,7 @@ fn text_of(
     lines: u8,
 ) -> Result<String, AllocError> {
     let mut text = String::new(alloc);
-    let serial = is_serial(cycle);
+    let serial = first_serial(cycle);
     write!(text, "lines = {lines}\nserial = {serial}\n")?;
     if let Some(info) = info {
         push_info(&mut text, info)?;

@@ -41,21 +41,21 @@ pub record IsExtracting (bytes : List ℕ) (lines : ℕ) (text line : List ℕ) 
   pub told : IsExtracted slots lines text line
 
 -- there is no text of the slots, or memory is wanting
-abbrev pub IsExtractFault : List (List ℕ) → ExtractionFault → Type 0
-IsExtractFault slots (Refused fault) = AnswersFault slots fault
-IsExtractFault slots (Tool tool.NoMemory) = ⊤
-IsExtractFault slots (Tool _) = ⊥
+abbrev pub IsExtractFault : List (List ℕ) → ℕ → ExtractionFault → Type 0
+IsExtractFault slots lines (Refused fault) = AnswersFault slots lines fault
+IsExtractFault slots lines (Tool tool.NoMemory) = ⊤
+IsExtractFault slots lines (Tool _) = ⊥
 
 -- of these bytes there is no cycle, or there is and no text of it
-abbrev pub IsNoExtract : List ℕ → ExtractionFault → Type 0
-IsNoExtract bytes (Refused fault) = (slots : List (List ℕ)) × IsPacketFile bytes slots × AnswersFault slots fault
-IsNoExtract bytes (Tool (tool.Cycle fault)) = Judged bytes (Err fault)
-IsNoExtract bytes (Tool tool.NoMemory) = ⊤
-IsNoExtract bytes (Tool _) = ⊥
+abbrev pub IsNoExtract : List ℕ → ℕ → ExtractionFault → Type 0
+IsNoExtract bytes lines (Refused fault) = (slots : List (List ℕ)) × IsPacketFile bytes slots × AnswersFault slots lines fault
+IsNoExtract bytes lines (Tool (tool.Cycle fault)) = Judged bytes (Err fault)
+IsNoExtract bytes lines (Tool tool.NoMemory) = ⊤
+IsNoExtract bytes lines (Tool _) = ⊥
 
 abbrev pub ExtractsText : List ℕ → ℕ → Result Told ExtractionFault → Type 0
 ExtractsText bytes lines (Ok told) = IsExtracting bytes lines (string_bytes told.text) (string_bytes told.line)
-ExtractsText bytes lines (Err fault) = IsNoExtract bytes fault
+ExtractsText bytes lines (Err fault) = IsNoExtract bytes lines fault
 
 -- Ok: the text and the line. A write fault: the first `written` bytes of both. Else nothing, and why there is no text.
 abbrev pub ExtractsFile : List ℕ → ℕ → Option (List ℕ) → Option (List ℕ) → Option (List ℕ) → Option (List ℕ) → Result ℕ ExtractionFault → Type 0
@@ -63,21 +63,26 @@ ExtractsFile bytes lines file_old file_new old new (Ok status) =
     (status ≡ 0) × ((text line : List ℕ) × IsExtracting bytes lines text line × WritesBoth text line file_old file_new old new (Ok status))
 ExtractsFile bytes lines file_old file_new old new (Err (Tool (tool.Write written))) =
     (text line : List ℕ) × IsExtracting bytes lines text line × WritesBoth {U = ℕ} text line file_old file_new old new (Err (tool.Write written))
-ExtractsFile bytes lines file_old file_new old new (Err fault) = IsNoExtract bytes fault × Keeps file_old file_new × Keeps old new
+ExtractsFile bytes lines file_old file_new old new (Err fault) = IsNoExtract bytes lines fault × Keeps file_old file_new × Keeps old new
 
 -- the fault of a write
 abbrev pub is_extraction_write : ExtractionFault → Bool
 is_extraction_write (Tool fault) = files.is_tool_write fault
 is_extraction_write (Refused fault) = false
 
--- the faults counted by the reader, before and after
+-- The faults counted by the reader, before and after. Of the faults of the tool there are those of the cycle and the want of memory.
 abbrev pub CountsCycle : {T : Type 0} → Result T ExtractionFault → ℕ → ℕ → Type 0
 CountsCycle (Err (Tool (tool.Cycle cycle.Read))) old new = HasRisen old new
-CountsCycle (Err (Tool (tool.Write written))) old new = ⊥
+CountsCycle (Err (Tool (tool.Cycle fault))) old new = ⊤
+CountsCycle (Err (Tool tool.NoMemory)) old new = ⊤
+CountsCycle (Err (Tool fault)) old new = ⊥
 CountsCycle result old new = ⊤
 
--- and those of all three
+-- and those of all three, where there are those of writes too
 abbrev pub CountsExtract : {T : Type 0} → Result T ExtractionFault → ℕ → ℕ → ℕ → ℕ → ℕ → ℕ → Type 0
 CountsExtract (Err (Tool (tool.Cycle cycle.Read))) read_old read_new file_old file_new old new = HasRisen read_old read_new
 CountsExtract (Err (Tool (tool.Write written))) read_old read_new file_old file_new old new = HasRisen file_old file_new ⊎ HasRisen old new
+CountsExtract (Err (Tool (tool.Cycle fault))) read_old read_new file_old file_new old new = ⊤
+CountsExtract (Err (Tool tool.NoMemory)) read_old read_new file_old file_new old new = ⊤
+CountsExtract (Err (Tool fault)) read_old read_new file_old file_new old new = ⊥
 CountsExtract result read_old read_new file_old file_new old new = ⊤

@@ -30,7 +30,7 @@ fn extracted_line(alloc: Global, count: usize) -> Result<String, AllocError>
 // The text of what a cycle sends, and its line.
 fn tell(alloc: Global, cycle: &Cycle, lines: u8) -> Result<Told, ExtractionFault>
     ensures told { IfOk result (λ told. IsExtracted (slots_of cycle.now) lines (string_bytes told.text) (string_bytes told.line)) }
-    ensures fault { IfErr result (IsExtractFault (slots_of cycle.now)) }
+    ensures fault { IfErr result (IsExtractFault (slots_of cycle.now) lines) }
 {
     let extracted = match ttx_extract::extract(alloc, cycle, lines) {
         Ok(extracted) => extracted,

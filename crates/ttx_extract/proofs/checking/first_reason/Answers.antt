@@ -16,7 +16,13 @@ returns-in-Some c = λ lines sent others.
     let p = page_of c.index-pages-index.result in
     let at = page_at c.args.pages.now c.loop-index.index c.index-pages-index.result c.loop-index-test.true c.index-pages-index.is in
     let fault = c.fault_of.ensures pages lines sent at (c.first-other_subpage.ensures cycle pages c.loop-index.index p others at c.id.ensures) in
-    (p, at, c.id-in-Some.ensures, subst (IsPageFault cycle pages p) c.in-Some.is fault)
+    record {
+      page = p;
+      here = at;
+      page_is = c.id-in-Some.ensures;
+      fault = subst (IsPageFault cycle pages p) c.in-Some.is fault;
+      earlier = c.loop-index.invariant lines sent others;
+    }
 
 pub loop-index-preserved : goal.loop-index-preserved
 loop-index-preserved c = λ lines sent others.

@@ -1,10 +1,11 @@
-use Rattle.std.proofs.Common.{◌<◌, pos, [], length, get_or, ap, sym, ◌∙◌, subst, arith}
+use Rattle.std.proofs.Common.{◌≡◌, ◌<◌, pos, [], length, get_or, slice_get, Some, ap, sym, ◌∙◌, subst, arith}
+use Rattle.std.specs.Prelude.{option_copied}
 use Rattle.ttx_cycle.specs.Cycles.{slots_of, slots_of-IsCycle}
 use Rattle.ttx_page.specs.Packets.{packet_of}
 use Rattle.ttx_page.specs.Streams.{repeated, IsOwned, IsSure, IsTransmission}
 use Rattle.ttx_witness.specs.runs.Repeating.{AreSent}
 use Rattle.ttx_extract.specs.Extracts.{Differs}
-use Rattle.ttx_extract.proofs.Slots.{slot_is, some_of, first_sent}
+use Rattle.ttx_extract.proofs.Slots.{slot_is, first_sent}
 use Rattle.ttx_extract.proofs.conflicts.first_unlike.Goals as goal
 
 pub returns-then-differ : goal.returns-then-differ
@@ -19,12 +20,19 @@ returns-then-differ c = λ page lines item is.
     let sent = subst (AreSent (IsOwned (repeated slots) page item) (IsSure (repeated slots) lines page.mag item) (pos 0)
     (pos (length slots))) (sym is)
     (c.transmissions_are_listed.ensures slots cycle.some cycle.most page lines item).0 in
-    let some = some_of c.args.sent.now (sym c.is_empty.ensures ∙ c.if-is_empty.false) in
+    let earliest = c.in-Some.earliest.now in
+    let here : slice_get c.args.sent.now 0 ≡ Some earliest = sym c.first.ensures.value ∙ ap option_copied c.in-Some.is in
     let first = subst (λ n. IsTransmission (repeated slots) page item (pos n)) (sym c.slot_of_first-place.ensures)
-    (first_sent slots page lines item c.args.sent.now sent some _) in
+    (first_sent slots page lines item c.args.sent.now sent earliest here) in
     let unlike : Differs (packet_of (get_or slots a [])) (packet_of (get_or slots b [])) =
-    subst (λ s. Differs (packet_of (get_or s a [])) (packet_of (get_or s b []))) c.slots-slots.ensures.slots (c.differ.ensures c.if-differ.true) in (
-      first,
-      subst (λ x. Differs (packet_of x) (packet_of (repeated slots (pos b)))) (sym (slot_is slots a lt_a))
-          (subst (λ x. Differs (packet_of (get_or slots a [])) (packet_of x)) (sym (slot_is slots b lt_b)) unlike),
-    )
+    subst (λ s. Differs (packet_of (get_or s a [])) (packet_of (get_or s b []))) c.slots-slots.ensures.slots (c.differ.ensures c.if-differ.true) in
+    record {
+      transmission = earliest;
+      is_first = subst (λ ts. slice_get ts 0 ≡ Some earliest) is here;
+      slot_is = c.slot_of_first-place.ensures;
+      sent = first;
+      first_within = lt_a;
+      second_within = lt_b;
+      differ = subst (λ x. Differs (packet_of x) (packet_of (repeated slots (pos b)))) (sym (slot_is slots a lt_a))
+          (subst (λ x. Differs (packet_of (get_or slots a [])) (packet_of x)) (sym (slot_is slots b lt_b)) unlike);
+    }
