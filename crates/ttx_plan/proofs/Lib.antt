@@ -37,3 +37,8 @@ mod SteadyPages
 mod PlannedAcceptance
 mod PlannedFollowers
 mod PageLinks
+mod SpreadPlaces
+mod SpreadPasses
+mod SpreadPages
+mod SpreadOnce
+mod SpreadPlans

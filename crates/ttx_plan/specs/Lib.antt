@@ -10,4 +10,6 @@ pub mod Packets
 pub mod Ranges
 pub mod Seen
 pub mod Serial
+pub mod Spread
+pub mod Spreading
 pub mod Turns

@@ -39,7 +39,7 @@ fn count_used(pages: &[Page]) -> usize
 }
 
 // How often the page at an index is sent.
-fn times(service: &Service, index: usize) -> usize
+pub fn times(service: &Service, index: usize) -> usize
     requires { index < length service.now.pages }
     ensures value { option_map (λ p. p.often) (slice_get service.now.pages index) ≡ Some result }
     ensures is { IsOften result }

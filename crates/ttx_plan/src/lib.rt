@@ -19,7 +19,9 @@ mod ranges;
 mod rounds;
 mod serial;
 mod slots;
+mod spread;
 
 pub use asked::Receivers;
 pub use faults::PlanFault;
-pub use planning::{plan, plan_at, plan_for, plan_with};
+pub use planning::{plan, plan_at, plan_for, plan_spread, plan_with};
+pub use spread::spread_places;

@@ -10,6 +10,7 @@ ghost use Rattle.ttx_plan.specs.Carries.{Carries, CarriesAt, blocks_of, blocks_s
 ghost use Rattle.ttx_plan.specs.Ranges.{ArePlaces};
 ghost use Rattle.ttx_plan.specs.Following.{AreFollowed};
 ghost use Rattle.ttx_plan.specs.Seen.{seen};
+ghost use Rattle.ttx_plan.specs.Spread.{IsSpreadPlan, IsTooLongSpread};
 ghost use Rattle.ttx_source.specs.Services.{pages_of};
 
 use crate::asked::Receivers;
@@ -19,6 +20,7 @@ use crate::cycle::cycle_slots;
 use crate::faults::PlanFault;
 use crate::ranges::is_planned;
 use crate::rounds::sent_blocks;
+use crate::spread::spread_places;
 use std::alloc::{AllocError, Global};
 use ttx_cycle::Cycle;
 use ttx_info::write_info;
@@ -106,6 +108,25 @@ pub fn plan_at(
         Ok(cycle) => Ok(cycle),
         Err(_) => Err(PlanFault::NoMemory),
     }
+}
+
+/// The cycle that carries a service to these receivers, each page at its place of `spread_places`, so that the eight rounds are of like
+/// length: a page that is sent more often than another comes as much sooner. Else as `plan_with`, with the same bound.
+pub fn plan_spread(
+    alloc: Global,
+    service: &Service,
+    receivers: Receivers,
+) -> Result<Cycle, PlanFault>
+    ensures carries { IfOk result (λ cycle. IsSpreadPlan receivers.late receivers.class service.now (slots_of cycle)) }
+    ensures planned { IfOk result (λ cycle. IsPlanned receivers.late receivers.class service.now (slots_of cycle)) }
+    ensures accepted { IfOk result (λ cycle. IsAcceptedForEach receivers.class service.now (slots_of cycle)) }
+    ensures followed { IfOk result (λ cycle. receivers.late ≡ true → AreFollowed (slots_of cycle) (pages_of service.now)) }
+    ensures no_pages { (result ≡ Err PlanFault.NoPages) ↔ (service.now.pages ≡ []) }
+    ensures too_long { (result ≡ Err PlanFault.TooLong) ↔ IsTooLongSpread receivers.late receivers.class service.now }
+{
+    let _pages = service.pages();
+    let places = spread_places(service, receivers.class);
+    plan_at(alloc, service, receivers, &places)
 }
 
 // Place 0 is in range for each page.

@@ -1,0 +1,42 @@
+-- Plans at places that are spread: what they carry, and when they are too long.
+use Rattle.std.proofs.Common.{◌≡◌, ℕ, ◌<◌, Bool, List, Ok, Err, subst, inl, inr}
+use Rattle.std.specs.Prelude.{◌↔◌, IfOk}
+use Rattle.std.proofs.lemmas.Bool.{cases_lt}
+use Rattle.ttx_cycle.specs.Cycles.{slots_of}
+use Rattle.ttx_page.specs.declared.class.Class.{Class}
+use Rattle.ttx_source.specs.Services.{ServiceFields, IsService}
+use Rattle.ttx_plan.specs.declared.faults.PlanFault.TheVariants.{TooLong}
+use Rattle.ttx_plan.specs.Blocks.{placed, sent_blocks, length_bound}
+use Rattle.ttx_plan.specs.Carries.{CarriesAt, blocks_of, blocks_sent_at}
+use Rattle.ttx_plan.specs.Spread.{IsSpread, IsSpreadPlan, IsTooLongSpread}
+use Rattle.ttx_plan.proofs.PlanFaults.{Answer, ok_is_other}
+use Rattle.ttx_plan.proofs.SpreadOnce.{spread_once}
+use Rattle.ttx_plan.proofs.SpreadPages.{blocks_often}
+
+abbrev IsLong : List ℕ → Bool → Class → ServiceFields → Type 0
+IsLong places late class service = 65536 < length_bound service.lines (blocks_sent_at places late class service.pages)
+
+pub spread_carried : (places : List ℕ) (late : Bool) (class : Class) (service : ServiceFields) (answer : Answer) →
+    IsSpread (placed places (blocks_of class service.pages)) → IfOk answer (λ cycle. CarriesAt places late class service (slots_of cycle)) →
+    (answer ≡ Err TooLong) ↔ IsLong places late class service → IfOk answer (λ cycle. IsSpreadPlan late class service (slots_of cycle))
+spread_carried places late class service (Ok cycle) spread carries long = record {
+  places = places;
+  spread = spread;
+  carries = carries;
+  fits = elim (cases_lt 65536 (length_bound service.lines (blocks_sent_at places late class service.pages))) [
+    | inl above ↦ absurd (ok_is_other cycle TooLong (long.1 above))
+    | inr fits ↦ fits
+  ];
+}
+spread_carried places late class service (Err fault) spread carries long = tt
+
+pub spread_too_long : (places : List ℕ) (late : Bool) (class : Class) (service : ServiceFields) (answer : Answer) → IsService service →
+    IsSpread (placed places (blocks_of class service.pages)) → (answer ≡ Err TooLong) ↔ IsLong places late class service →
+    (answer ≡ Err TooLong) ↔ IsTooLongSpread late class service
+spread_too_long places late class service answer is spread long = (
+  λ e. record { places = places; spread = spread; long = long.0 e },
+  λ other. long.1 (subst (λ blocks. 65536 < length_bound service.lines (sent_blocks late blocks))
+      (spread_once other.places places (blocks_of class service.pages)
+      (blocks_often class service.serial other.places service.pages is.pages) other.spread spread)
+      other.long),
+)

@@ -1,0 +1,101 @@
+//! Places among the rounds at which the rounds are of like length.
+
+ghost use Rattle.std.specs.Prelude.{◌≡◌, ℕ, ◌+◌, ◌/◌, ◌%◌, ◌^◌, ◌<◌, ◌≤◌, ◌==◌, if◌then◌else◌, length, slice_index};
+ghost use Rattle.ttx_plan.specs.Blocks.{placed};
+ghost use Rattle.ttx_plan.specs.Carries.{blocks_of};
+ghost use Rattle.ttx_plan.specs.Ranges.{ArePlaces, IsOften};
+ghost use Rattle.ttx_plan.specs.Spread.{IsFirstLeast, IsSpread};
+ghost use Rattle.ttx_plan.specs.Spreading.{AreCounted, IsSpreadTo};
+
+use crate::block::block_length;
+use crate::bounds::times;
+use ttx_page::Class;
+use ttx_source::Service;
+
+// The first of so many rounds that has the fewest packets.
+fn first_least(packets: &[usize], count: usize) -> usize
+    requires some { 1 ≤ count }
+    requires few { count ≤ length packets.now }
+    ensures { IsFirstLeast (λ round. slice_index packets.now round) count result }
+{
+    let mut least = 0;
+    for round in 1..count {
+        if packets[round] < packets[least] {
+            least = round;
+        }
+    }
+    least
+}
+
+// Adds the packets of a block to those of the rounds that it stands in.
+fn add_packets(packets: &mut [usize], period: usize, place: usize, count: usize)
+    requires some { 1 ≤ period }
+    requires few { count ≤ 26 }
+    requires room { (round : ℕ) → slice_index packets.old round ≤ 2 ^ 32 }
+    ensures { (round : ℕ) → round < length packets.old →
+        slice_index packets.new round ≡ slice_index packets.old round + (if round % period == place then count else 0) }
+{
+    for round in 0..packets.len() {
+        if round % period == place {
+            packets[round] += count;
+        }
+    }
+}
+
+// Gives each page that is sent so often its place, behind those that are sent more often.
+fn place_pages(
+    service: &Service,
+    class: Class,
+    often: usize,
+    places: &mut [usize],
+    packets: &mut [usize],
+)
+    requires often { IsOften often }
+    requires enough { length service.now.pages ≤ length places.old }
+    requires room { (round : ℕ) → slice_index packets.old round ≤ 2 ^ 31 }
+    requires spread { IsSpreadTo (placed places.old (blocks_of class service.now.pages)) often 0 }
+    requires counted { AreCounted packets.old (placed places.old (blocks_of class service.now.pages)) often 0 }
+    ensures spread { IsSpreadTo (placed places.new (blocks_of class service.now.pages)) often (length service.now.pages) }
+    ensures counted { AreCounted packets.new (placed places.new (blocks_of class service.now.pages)) often (length service.now.pages) }
+    ensures room { (round : ℕ) → slice_index packets.new round ≤ slice_index packets.old round + 52000 }
+{
+    let pages = service.pages();
+    for index in 0..pages.len() {
+        if times(service, index) == often {
+            let place = first_least(&*packets, 8 / often);
+            places[index] = place;
+            add_packets(
+                packets,
+                8 / often,
+                place,
+                block_length(class, &pages[index]),
+            );
+        }
+    }
+}
+
+// A place for each page that a service may have.
+fn no_places() -> [usize; 2000]
+    ensures { length result ≡ 2000 }
+{
+    [0; 2000]
+}
+
+/// The place of each page of the service among the rounds, by its index, at which the rounds are of like length for receivers of the
+/// class. Pages take their places one after another, those that are sent most often first, and of those that are sent as often in authored
+/// order: each takes the first place whose rounds have the fewest packets so far. The packets of a page are its page header, the rows that
+/// are sent and X/27/0. No memory is taken.
+pub fn spread_places(service: &Service, class: Class) -> [usize; 2000]
+    ensures spread { IsSpread (placed result (blocks_of class service.now.pages)) }
+    ensures places { ArePlaces result service.now.pages }
+{
+    let _pages = service.pages();
+    let mut places = no_places();
+    let mut packets = [0; 8];
+    let mut often = 8;
+    while often > 0 {
+        place_pages(service, class, often, &mut places, &mut packets);
+        often /= 2;
+    }
+    places
+}
