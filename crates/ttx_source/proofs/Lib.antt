@@ -5,3 +5,6 @@ mod RowValues
 mod LinkArray
 mod PageList
 mod PageArray
+mod PromiseArray
+mod SourceErrors
+mod OftenChanges

@@ -47,6 +47,7 @@ key_name key.Rows = codes "rows"
 key_name key.Links = codes "links"
 key_name key.Row24 = codes "row24"
 key_name key.Crc = codes "crc"
+key_name key.Within = codes "within"
 
 abbrev pub key_fault_of : KeyFault → Fault
 key_fault_of (Missing k) = missing (key_name k)

@@ -1,12 +1,13 @@
 -- The service in a TOML text, or its first fault. The keys are tested in this order (profile).
 --
 --   Authored, ServiceFields         a page with how often it is sent; a service as contracts see it
+--   often_set, with_often           pages and a service, with one page sent so often
 --   pages_of                        its pages alone
 --   IsService                       the ranges of a service
 --   id_of_table, authored_of        a page from its table
 --   settings_of, with_pages         a service without its pages, and with the pages of some tables added
 --   service_of, read_bytes          the service in a table, and in a text
-use Rattle.std.specs.Prelude.{◌≡◌, ◌≢◌, ℕ, ◌+◌, ◌≤◌, ◌++◌, List, [], ◌∷◌, codes, length, map, Bool, true}
+use Rattle.std.specs.Prelude.{◌≡◌, ◌≢◌, ℕ, zero, suc, ◌+◌, ◌≤◌, ◌++◌, List, [], ◌∷◌, codes, length, map, Bool, true}
 use Rattle.std.specs.Prelude.{◌&&◌, Option, Some, None, Result, Ok, Err, if◌then◌else◌, nat_lt, is_some}
 use Rattle.std.specs.List.{list_any, All, AllPairs}
 use Rattle.std.specs.Str.{is_utf8}
@@ -41,6 +42,16 @@ service_at lines serial info pages = record { lines = lines; serial = serial; in
 -- the service with one more page at its end
 abbrev pub with_page : ServiceFields → Authored → ServiceFields
 with_page service page = service_at service.lines service.serial service.info (service.pages ++ page ∷ [])
+
+-- the pages, the one at an index sent so often
+abbrev pub often_set : List Authored → ℕ → ℕ → List Authored
+often_set [] index often = []
+often_set (page ∷ pages) zero often = authored_at page.page often ∷ pages
+often_set (page ∷ pages) (suc index) often = page ∷ often_set pages index often
+
+-- the service, the page at an index sent so often
+abbrev pub with_often : ServiceFields → ℕ → ℕ → ServiceFields
+with_often service index often = service_at service.lines service.serial service.info (often_set service.pages index often)
 
 abbrev pub pages_of : ServiceFields → List Page
 pages_of service = map (λ p. p.page) service.pages

@@ -32,10 +32,11 @@ pub enum Key {
     Links,
     Row24,
     Crc,
+    Within,
 }
 
 // The name of each key, in the order of `Key`, and what the key takes.
-static KEYS: [(&str, &str); 26] = [
+static KEYS: [(&str, &str); 27] = [
     ("lines", "an integer from 1 to 32"),
     ("serial", "true or false"),
     ("info", "a table"),
@@ -71,6 +72,10 @@ static KEYS: [(&str, &str); 26] = [
     ),
     ("row24", "true or false"),
     ("crc", "a text of four hexadecimal digits"),
+    (
+        "within",
+        "seconds from 0.02 to 20000, an integer or a float",
+    ),
 ];
 
 impl Key {

@@ -8,6 +8,7 @@ mod key_faults;
 mod keys;
 mod links;
 mod page_table;
+mod promises;
 mod reading;
 mod rows;
 pub mod services;
@@ -15,5 +16,6 @@ mod texts;
 mod values;
 
 pub use faults::{SourceError, SourceFault};
+pub use promises::{Promise, read_promises};
 pub use reading::read_service;
 pub use services::Service;

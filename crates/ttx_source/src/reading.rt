@@ -50,8 +50,8 @@ fn are_tables(values: &[Value]) -> bool
     each_is_table(values)
 }
 
-// The tables of the pages, at most 2,000.
-fn page_tables<'a>(table: &'a Table) -> Result<&'a [Value], KeyFault>
+/// The tables of the pages, at most 2,000.
+pub fn page_tables<'a>(table: &'a Table) -> Result<&'a [Value], KeyFault>
     ensures value { key_outcome (λ v. items_view v.now) result ≡ rule.page_tables (table_view table.now) }
     ensures most { IfOk result (λ v. length v.now ≤ 2000) }
 {

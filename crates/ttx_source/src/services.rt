@@ -4,7 +4,7 @@ ghost use Rattle.std.specs.Prelude.{◌≡◌, ◌<◌, ◌≤◌, ◌∷◌, []
 ghost use Rattle.ttx_header.specs.Control.{c11};
 ghost use Rattle.ttx_page.specs.Views.{page_of};
 ghost use Rattle.ttx_source.specs.Keys.{is_often};
-ghost use Rattle.ttx_source.specs.Services.{IsService, authored_at, service_at, with_page, has_id};
+ghost use Rattle.ttx_source.specs.Services.{IsService, authored_at, service_at, with_often, with_page, has_id};
 
 use indexmap::IndexMap;
 use std::alloc::{AllocError, Global};
@@ -89,6 +89,15 @@ impl Service {
         ensures { option_map (λ p. p.often) (slice_get self.now.pages index) ≡ Some result }
     {
         *self.often.get_index(index).unwrap().1
+    }
+
+    /// Sets how often the page at an index is sent: 1, 2, 4 or 8 times.
+    pub fn set_often(&mut self, index: usize, often: u8)
+        requires index { index < length self.old.pages }
+        requires often { is_often often ≡ true }
+        ensures { self.new ≡ with_often self.old index often }
+    {
+        self.often[index] = often;
     }
 
     /// Whether a page of the service has this id.
