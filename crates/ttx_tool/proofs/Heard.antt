@@ -1,5 +1,6 @@
 -- A receiver over the slots of a cycle, slot by slot.
-use Rattle.std.proofs.Common.{◌≡◌, ℕ, zero, suc, ◌+◌, ◌*◌, ◌/◌, ◌%◌, ◌<◌, pos, List, [], ◌∷◌, ◌++◌, length, get_or, sym, ap, ◌∙◌, subst, arith}
+use Rattle.std.proofs.Common.{◌≡◌, ℕ, zero, suc, ◌+◌, ◌*◌, ◌/◌, ◌%◌, ◌<◌, pos, List, [], ◌∷◌, ◌++◌, length, get_or, refl, sym, ap, ◌∙◌, subst, arith}
+use Rattle.std.specs.Prelude.{fold}
 use Rattle.std.proofs.lemmas.Nat.{div-add-mod', mod-mul-add}
 use Rattle.std.proofs.Math.Nat.{add-mod_right}
 use Rattle.ttx_page.specs.Laws.{RunsGoOn, sent_from}
@@ -16,6 +17,23 @@ sent_more s a zero = let same : a ≡ a + 0 = omega arith in ap (λ i. s (pos i)
 sent_more s a (suc n) =
     let later : a + 1 + n ≡ a + suc n = omega arith in
     ap (λ rest. s (pos a) ∷ rest) (sent_more s (a + 1) n ∙ ap (λ i. sent_from s (pos (a + 1)) n ++ s (pos i) ∷ []) later)
+
+-- what is made of the slots, and of one more
+fold_more : {X : Type 0} (next : X → List ℕ → X) (x : X) (slots : List (List ℕ)) (slot : List ℕ) →
+    fold next x (slots ++ slot ∷ []) ≡ next (fold next x slots) slot
+fold_more next x [] slot = refl
+fold_more next x (s ∷ slots) slot = fold_more next (next x s) slots slot
+
+-- the receiver is what it makes of the slot where the cycle stands
+pub next_more : {X : Type 0} (next : X → List ℕ → X) (old mid new : X) (slots : List (List ℕ)) (start count at : ℕ) →
+    at ≡ (start + count) % length slots → mid ≡ fold next old (sent_from (repeated slots) (pos start) count) →
+    new ≡ next mid (get_or slots at []) → new ≡ fold next old (sent_from (repeated slots) (pos start) (count + 1))
+next_more next old mid new slots start count at place before after =
+    let more : count + 1 ≡ suc count = omega arith in
+    let sent = ap (sent_from (repeated slots) (pos start)) more ∙ sent_more (repeated slots) start count in
+    after ∙ ap (λ i. next mid (get_or slots i [])) place ∙ ap (λ x. next x (get_or slots ((start + count) % length slots) [])) before
+    ∙ sym (fold_more next old (sent_from (repeated slots) (pos start) count) (get_or slots ((start + count) % length slots) []))
+    ∙ ap (fold next old) (sym sent)
 
 -- the receiver hears the slot where the cycle stands
 pub hears_more : RunsGoOn → {class class' : Class} {lines lines' : ℕ} {sel sel' : Selection} {mid new : Memory} (old : Memory)

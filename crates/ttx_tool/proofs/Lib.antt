@@ -14,3 +14,5 @@ mod ExtractInputs
 mod ReplayInputs
 mod ReadingBoth
 mod ShownFile
+mod CertificateLengths
+mod NamedSlots

@@ -1,10 +1,12 @@
 -- What is found in a packet file of a plan, and what is certified of what is found.
-use Rattle.std.proofs.Common.{◌≡◌, ◌∙◌, ℕ, pos, ◌≤◌, List, [], Option, Some, None, Ok, refl, sym, ap, subst}
+use Rattle.std.proofs.Common.{◌≡◌, ◌∙◌, ℕ, pos, ◌≤◌, List, [], length, Option, Some, None, Ok, refl, sym, ap, subst}
 use Rattle.std.specs.Prelude.{IfSome}
 use Rattle.std.specs.Io.KnownBytes.{Appends}
+use Rattle.ttx_cycle.specs.Bounded.{most_bytes}
 use Rattle.ttx_cycle.specs.Files.{IsPacketFile}
 use Rattle.ttx_certify.specs.CertifyingFiles.{IsServiceText, IsCertificateText}
-use Rattle.ttx_certify.specs.Verdicts.{IsVerdict}
+use Rattle.ttx_certify.specs.VerdictLines.{verdict_line}
+use Rattle.ttx_certify.specs.Verdicts.{IsVerdict, Means}
 use Rattle.ttx_certify.specs.declared.verdict.Verdict.{Verdict}
 use Rattle.ttx_certify.specs.declared.verdict.Verdict.TheVariants.{Yes, No}
 use Rattle.ttx_late.specs.LateVerdicts.{IsLateVerdict}
@@ -30,7 +32,7 @@ deadline_told : (slots : List (List ℕ)) (service : ServiceFields) (w : Certifi
     (file line : List ℕ) (status : ℕ) →
     answer ≡ Some deadline → TellsFound slots service w answer file line status → status ≡ 0
 deadline_told slots service w None deadline file line status e t = cc
-deadline_told slots service w (Some d) deadline file line status e t = t.2
+deadline_told slots service w (Some d) deadline file line status e t = t.written.2
 
 pub planned_is_found : PlannedIsFound → T.PlannedFilesAreFound
 planned_is_found law a b late class p repeat one eight file line status f =
@@ -54,7 +56,17 @@ accepted_of slots service repeat class w (Some d) file line f t = f.least.1
 text_of : (slots : List (List ℕ)) (service : ServiceFields) (w : CertificateFields) (answer : Option ℕ) (file line : List ℕ) →
     TellsFound slots service w answer file line 0 → file ≡ certificate_text w
 text_of slots service w None file line t = cc
-text_of slots service w (Some d) file line t = t.0
+text_of slots service w (Some d) file line t = t.written.0
+
+short_of : (slots : List (List ℕ)) (service : ServiceFields) (w : CertificateFields) (answer : Option ℕ) (file line : List ℕ) →
+    TellsFound slots service w answer file line 0 → length file ≤ most_bytes
+short_of slots service w None file line t = cc
+short_of slots service w (Some d) file line t = t.most
+
+seen_of : (slots : List (List ℕ)) (service : ServiceFields) (w : CertificateFields) (answer : Option ℕ) (file line : List ℕ) →
+    TellsFound slots service w answer file line 0 → Means slots (pages_of service) (certificate_at w) Yes
+seen_of slots service w None file line t = cc
+seen_of slots service w (Some d) file line t = t.seen
 
 is_yes : (slots : List (List ℕ)) (service : ServiceFields) (w : CertificateFields) (verdict : Verdict) →
     Accepts slots (pages_of service) (certificate_at w) →
@@ -79,9 +91,27 @@ accepted_there law a b class repeat file line f slots service w cycle_is service
     (subst (λ x. Accepts x (pages_of f.service) (certificate_at t.w)) same_cycle accepted))
 
 pub found_is_certified : WrittenTextsAreRead → FoundIsCertified
-found_is_certified law a b class repeat file line f verdict told c =
-    is_yes c.slots c.service c.w verdict
-    (accepted_there law a b class repeat file line f c.slots c.service c.w c.cycle_is c.service_is c.certificate_is) c.exact
+found_is_certified law a b class repeat file line f =
+    let t = f.told in
+    record {
+      line = verdict_line t.w (length f.service.pages) Yes;
+      yes = record {
+        slots = f.slots;
+        service = f.service;
+        w = t.w;
+        cycle_is = f.cycle_is;
+        service_is = f.service_is;
+        certificate_is = record {
+          most = short_of f.slots f.service t.w t.deadline file line t.told;
+          says = ap read_text (text_of f.slots f.service t.w t.deadline file line t.told) ∙ law t.w t.fields;
+        };
+        exact = accepted_of f.slots f.service repeat class t.w t.deadline file line t.found t.told;
+        seen = seen_of f.slots f.service t.w t.deadline file line t.told;
+        line_is = refl;
+      };
+      only = λ verdict said c. is_yes c.slots c.service c.w verdict
+          (accepted_there law a b class repeat file line f c.slots c.service c.w c.cycle_is c.service_is c.certificate_is) c.exact;
+    }
 
 -- ---- for receivers that show a page late
 

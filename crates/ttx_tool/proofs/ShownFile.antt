@@ -15,13 +15,13 @@ keeps_same : (known : Option (List ℕ)) → Keeps known known
 keeps_same None = tt
 keeps_same (Some xs) = refl
 
-module _ (t : Tuning) (start count : ℕ) (look : Look) (held new : Memory) (before : Option (List ℕ)) where
-  pub shows_nothing : (a : Option (List ℕ)) → IfSome a (λ x. ShowsFile t start count look x held before before (Err NoMemory))
+module _ (t : Tuning) (holds : List (List ℕ) → Memory) (start count : ℕ) (look : Look) (held new : Memory) (before : Option (List ℕ)) where
+  pub shows_nothing : (a : Option (List ℕ)) → IfSome a (λ x. ShowsFile t holds start count look x held before before (Err NoMemory))
   shows_nothing (Some a) = (new, keeps_same before)
   shows_nothing None = tt
 
-  told : (after : Option (List ℕ)) (bytes : List ℕ) → IsShownFile t start count bytes held new → (result : Result ℕ ToolFault) →
-      Reports (shown_text look new) (shown_status new) before after result → ShowsFile t start count look bytes held before after result
+  told : (after : Option (List ℕ)) (bytes : List ℕ) → IsShownFile t holds start count bytes held new → (result : Result ℕ ToolFault) →
+      Reports (shown_text look new) (shown_status new) before after result → ShowsFile t holds start count look bytes held before after result
   told after bytes is (Ok status) h = (new, (h.0, is, h.1))
   told after bytes is (Err (Write written)) h = (new, (is, h.0, h.1))
   told after bytes is (Err NoMemory) h = (new, h)
@@ -35,10 +35,10 @@ module _ (t : Tuning) (start count : ℕ) (look : Look) (held new : Memory) (bef
   told after bytes is (Err Same) h = absurd h
   told after bytes is (Err (Counter f)) h = absurd h
 
-  pub shows_of : (after : Option (List ℕ)) (a : Option (List ℕ)) → IfSome a (λ x. IsShownFile t start count x held new) → (memory : Memory) →
+  pub shows_of : (after : Option (List ℕ)) (a : Option (List ℕ)) → IfSome a (λ x. IsShownFile t holds start count x held new) → (memory : Memory) →
       memory ≡ new → (line text : List ℕ) → line ≡ text → text ≡ shown_text look memory → (status : ℕ) → status ≡ shown_status memory →
       (result : Result ℕ ToolFault) → Reports line status before after result →
-      IfSome a (λ x. ShowsFile t start count look x held before after result)
+      IfSome a (λ x. ShowsFile t holds start count look x held before after result)
   shows_of after None is memory m line text l e status s result h = tt
   shows_of after (Some a) is memory m line text l e status s result h =
       let same : line ≡ shown_text look new = l ∙ e ∙ ap (λ x. shown_text look x) m in

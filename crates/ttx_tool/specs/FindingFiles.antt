@@ -1,21 +1,22 @@
 -- What `find` writes for a packet file and the text of a service.
 --
 --   found_line              the line of a deadline
---   TellsDeadline, TellsNo, TellsFound    what goes out where there is a deadline, and where there is none
+--   WritesDeadline, TellsDeadline, TellsNo, TellsFound    what goes out where there is a deadline, and where there is none
 --   TellsVerdict            the same, whatever the verdict
 --   IsFoundAndTold, IsFinding    what is found of a cycle and a service, and of their texts, and what goes out
 --   IsNoFinding, ReadsBoth, FindsText    why nothing is found; what is read of both, what is answered
 --   FindsFiles              what was written to the certificate's file and to the output, at each answer
 --   CountsInputs, CountsFind        faults of devices are answered only where they were counted
-use Rattle.std.specs.Prelude.{◌≡◌, ℕ, List, [], ◌∷◌, ◌++◌, length, codes, string_bytes, ⊤, Option, Some, None, Result, Ok, Err}
+use Rattle.std.specs.Prelude.{◌≡◌, ℕ, ◌≤◌, List, [], ◌∷◌, ◌++◌, length, codes, string_bytes, ⊤, Option, Some, None, Result, Ok, Err}
 use Rattle.std.specs.Fmt.{decimal}
 use Rattle.std.specs.Io.KnownBytes.{Keeps}
+use Rattle.ttx_cycle.specs.Bounded.{most_bytes}
 use Rattle.ttx_cycle.specs.Files.{IsPacketFile}
 use Rattle.ttx_certify.specs.CertifyingFiles.{IsServiceText}
 use Rattle.ttx_certify.specs.VerdictLines.{verdict_line}
-use Rattle.ttx_certify.specs.Verdicts.{IsVerdict}
+use Rattle.ttx_certify.specs.Verdicts.{IsVerdict, Means}
 use Rattle.ttx_certify.specs.declared.verdict.Verdict.{Verdict}
-use Rattle.ttx_certify.specs.declared.verdict.Verdict.TheVariants.{No}
+use Rattle.ttx_certify.specs.declared.verdict.Verdict.TheVariants.{Yes, No}
 use Rattle.ttx_cycle.specs.Counts.{HasRisen}
 use Rattle.ttx_cycle.specs.Cycles.{slots_of}
 use Rattle.ttx_cycle.specs.Reading.{Judged}
@@ -36,8 +37,15 @@ abbrev pub found_line : ℕ → List ℕ
 found_line deadline = codes "found deadline " ++ decimal deadline ++ 10 ∷ []
 
 -- the certificate's text into the file, and the line of its deadline
-abbrev pub TellsDeadline : CertificateFields → ℕ → List ℕ → List ℕ → ℕ → Type 0
-TellsDeadline w deadline file line status = (file ≡ certificate_text w) × (line ≡ found_line deadline) × (status ≡ 0)
+abbrev pub WritesDeadline : CertificateFields → ℕ → List ℕ → List ℕ → ℕ → Type 0
+WritesDeadline w deadline file line status = (file ≡ certificate_text w) × (line ≡ found_line deadline) × (status ≡ 0)
+
+-- the same; the text is short enough to be read, and each page is seen
+pub record TellsDeadline (slots : List (List ℕ)) (service : ServiceFields) (w : CertificateFields) (deadline : ℕ) (file line : List ℕ) (status : ℕ)
+    : Type 0 where
+  pub written : WritesDeadline w deadline file line status
+  pub most : length file ≤ most_bytes
+  pub seen : Means slots (pages_of service) (certificate_at w) Yes
 
 -- a verdict on the certificate, and its line
 pub record IsVerdictLine (slots : List (List ℕ)) (service : ServiceFields) (w : CertificateFields) (verdict : Verdict) (line : List ℕ) : Type 0 where
@@ -53,7 +61,7 @@ abbrev pub TellsVerdict : List (List ℕ) → ServiceFields → CertificateField
 TellsVerdict slots service w file line status = (file ≡ []) × ((verdict : Verdict) × IsVerdictLine slots service w verdict line) × (status ≡ 1)
 
 abbrev pub TellsFound : List (List ℕ) → ServiceFields → CertificateFields → Option ℕ → List ℕ → List ℕ → ℕ → Type 0
-TellsFound slots service w (Some deadline) file line status = TellsDeadline w deadline file line status
+TellsFound slots service w (Some deadline) file line status = TellsDeadline slots service w deadline file line status
 TellsFound slots service w None file line status = TellsNo slots service w file line status
 
 -- the certificate that is found of a cycle and a service, and what goes out
@@ -110,4 +118,5 @@ CountsInputs result cycle_old cycle_new service_old service_new = ⊤
 abbrev pub CountsFind : {T : Type 0} → Result T ToolFault → ℕ → ℕ → ℕ → ℕ → ℕ → ℕ → ℕ → ℕ → Type 0
 CountsFind (Err (Cycle cycle.Read)) cycle_old cycle_new service_old service_new file_old file_new old new = HasRisen cycle_old cycle_new
 CountsFind (Err (Read which)) cycle_old cycle_new service_old service_new file_old file_new old new = HasRisen service_old service_new
+CountsFind (Err (Counter fault)) cycle_old cycle_new service_old service_new file_old file_new old new = ⊥
 CountsFind result cycle_old cycle_new service_old service_new file_old file_new old new = CountsBoth result file_old file_new old new

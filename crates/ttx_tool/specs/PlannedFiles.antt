@@ -25,9 +25,11 @@ pub record IsPlanFile (a b : List ℕ) (late : Bool) (class : Class) : Type 0 wh
   pub plan : IsPlan b late class slots
   pub file : a ≡ file_of slots
 
--- whatever verdict is right for a packet file, the text of a service and that of a certificate: it is Yes
-abbrev pub IsCertified : List ℕ → List ℕ → List ℕ → Type 0
-IsCertified a b c = (verdict : Verdict) (line : List ℕ) → Certifies a b c verdict line → verdict ≡ Yes
+-- a packet file, the text of a service and that of a certificate are inputs of which Yes is right, and nothing else is
+pub record IsCertified (a b c : List ℕ) : Type 0 where
+  pub line : List ℕ
+  pub yes : Certifies a b c Yes line
+  pub only : (verdict : Verdict) (said : List ℕ) → Certifies a b c verdict said → verdict ≡ Yes
 
 -- in a packet file of a plan `find` finds a deadline, for the class of the plan and each repeat count
 abbrev pub PlannedFilesAreFound : Type 0

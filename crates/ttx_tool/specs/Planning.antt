@@ -104,4 +104,6 @@ CountsBoth result file_old file_new old new = ⊤
 -- and those of all three
 abbrev pub CountsPlan : {T : Type 0} → Result T ToolFault → ℕ → ℕ → ℕ → ℕ → ℕ → ℕ → Type 0
 CountsPlan (Err (Read which)) read_old read_new file_old file_new old new = HasRisen read_old read_new
+CountsPlan (Err (Cycle fault)) read_old read_new file_old file_new old new = ⊥
+CountsPlan (Err (Counter fault)) read_old read_new file_old file_new old new = ⊥
 CountsPlan result read_old read_new file_old file_new old new = CountsBoth result file_old file_new old new

@@ -18,7 +18,7 @@ use Rattle.ttx_source.specs.Services.{ServiceFields, pages_of}
 use Rattle.ttx_tool.specs.Planning.{IsNoText}
 use Rattle.ttx_tool.specs.Showing.{no_page_line}
 use Rattle.ttx_tool.specs.declared.faults.ToolFault.{ToolFault}
-use Rattle.ttx_tool.specs.declared.faults.ToolFault.TheVariants.{Read, Write}
+use Rattle.ttx_tool.specs.declared.faults.ToolFault.TheVariants.{Cycle, Read, Write, Counter}
 use Rattle.ttx_tool.specs.declared.commands.writing.Told.{Told}
 use Rattle.ttx_arguments.specs.declared.orders.Look.{Look}
 
@@ -56,5 +56,7 @@ Previews bytes sel look old new (Err fault) = IsNoText bytes fault × Keeps old 
 -- the faults counted by the reader and by the writer, before and after
 abbrev pub CountsPreview : {T : Type 0} → Result T ToolFault → ℕ → ℕ → ℕ → ℕ → Type 0
 CountsPreview (Err (Read which)) read_old read_new write_old write_new = HasRisen read_old read_new
+CountsPreview (Err (Cycle fault)) read_old read_new write_old write_new = ⊥
+CountsPreview (Err (Counter fault)) read_old read_new write_old write_new = ⊥
 CountsPreview (Err (Write written)) read_old read_new write_old write_new = HasRisen write_old write_new
 CountsPreview result read_old read_new write_old write_new = ⊤

@@ -2,6 +2,7 @@
 --
 --   Tuning                  what a receiver is set to: its class, the slots in a field, and its selection
 --   Hears                   what it makes of some slots of a cycle that is sent again and again
+--   IsReceivedFile          the same of a packet file, and which memory that is
 --   Receives                what was written at each answer
 use Rattle.std.specs.Prelude.{◌≡◌, ℕ, ◌<◌, pos, List, length, take, Option, Result, Ok, Err}
 use Rattle.std.specs.Io.KnownBytes.{Appends, Keeps}
@@ -30,20 +31,21 @@ tuned_as class lines selection = record { class = class; lines = lines; selectio
 abbrev pub Hears : Tuning → List (List ℕ) → ℕ → ℕ → Memory → Memory → Type 0
 Hears t slots start count old new = Run t.class t.lines t.selection old (sent_from (repeated slots) (pos start) count) new
 
--- the slots of a packet file, over which the memory became the new one
-pub record IsReceivedFile (t : Tuning) (start count : ℕ) (bytes : List ℕ) (old new : Memory) : Type 0 where
+-- the slots of a packet file, over which the memory became the new one: that which the receiver holds after them
+pub record IsReceivedFile (t : Tuning) (holds : List (List ℕ) → Memory) (start count : ℕ) (bytes : List ℕ) (old new : Memory) : Type 0 where
   pub slots : List (List ℕ)
   pub file : IsPacketFile bytes slots
   pub run : Hears t slots start count old new
+  pub same : new ≡ holds (sent_from (repeated slots) (pos start) count)
 
 -- Ok: the lines of the View of the memory that the receiver then holds went out. A write fault: the first `written` bytes of them. Else nothing, and
 -- the file is refused as it is judged.
-abbrev pub Receives : Tuning → ℕ → ℕ → List ℕ → Memory → Option (List ℕ) → Option (List ℕ) → Result ℕ ToolFault → Type 0
-Receives t start count bytes held before after (Ok status) =
-    (status ≡ 0) × ((new : Memory) × IsReceivedFile t start count bytes held new × Appends before after (view_lines (view_of new)))
-Receives t start count bytes held before after (Err (Write written)) =
-    (new : Memory) × IsReceivedFile t start count bytes held new × (written < length (view_lines (view_of new)))
+abbrev pub Receives : Tuning → (List (List ℕ) → Memory) → ℕ → ℕ → List ℕ → Memory → Option (List ℕ) → Option (List ℕ) → Result ℕ ToolFault → Type 0
+Receives t holds start count bytes held before after (Ok status) =
+    (status ≡ 0) × ((new : Memory) × IsReceivedFile t holds start count bytes held new × Appends before after (view_lines (view_of new)))
+Receives t holds start count bytes held before after (Err (Write written)) =
+    (new : Memory) × IsReceivedFile t holds start count bytes held new × (written < length (view_lines (view_of new)))
     × Appends before after (take written (view_lines (view_of new)))
-Receives t start count bytes held before after (Err (Cycle fault)) = Judged bytes (Err fault) × Keeps before after
-Receives t start count bytes held before after (Err NoMemory) = Keeps before after
-Receives t start count bytes held before after (Err _) = ⊥
+Receives t holds start count bytes held before after (Err (Cycle fault)) = Judged bytes (Err fault) × Keeps before after
+Receives t holds start count bytes held before after (Err NoMemory) = Keeps before after
+Receives t holds start count bytes held before after (Err _) = ⊥

@@ -29,7 +29,7 @@ use Rattle.ttx_tool.specs.FilesFaults.{tool_fault}
 use Rattle.ttx_tool.specs.Planning.{WritesBoth, CountsBoth}
 use Rattle.ttx_tool.specs.declared.commands.refuting.Told.{Told}
 use Rattle.ttx_tool.specs.declared.faults.ToolFault.{ToolFault}
-use Rattle.ttx_tool.specs.declared.faults.ToolFault.TheVariants.{Cycle, Read, Write, NoMemory, Class}
+use Rattle.ttx_tool.specs.declared.faults.ToolFault.TheVariants.{Cycle, Read, Write, NoMemory, Class, Counter}
 use Rattle.ttx_digits.specs.PageIds.{id_text}
 use Rattle.ttx_witness.specs.Entries.{CertificateFields, certificate_at}
 use Rattle.ttx_witness.specs.finding.Finding.{IsSentUnchanged, CanBeAccepted}
@@ -123,6 +123,7 @@ CountsThree (Err (Cycle cycle.Read)) cycle_old cycle_new service_old service_new
 CountsThree (Err (Read text.Service)) cycle_old cycle_new service_old service_new old new = HasRisen service_old service_new
 CountsThree (Err (Read text.Certificate)) cycle_old cycle_new service_old service_new old new = HasRisen old new
 CountsThree (Err (Write written)) cycle_old cycle_new service_old service_new old new = ⊥
+CountsThree (Err (Counter fault)) cycle_old cycle_new service_old service_new old new = ⊥
 CountsThree result cycle_old cycle_new service_old service_new old new = ⊤
 
 -- and those of all five
@@ -133,5 +134,6 @@ CountsRefute (Err (Read text.Service)) cycle_old cycle_new service_old service_n
     HasRisen service_old service_new
 CountsRefute (Err (Read text.Certificate)) cycle_old cycle_new service_old service_new third_old third_new file_old file_new old new =
     HasRisen third_old third_new
+CountsRefute (Err (Counter fault)) cycle_old cycle_new service_old service_new third_old third_new file_old file_new old new = ⊥
 CountsRefute result cycle_old cycle_new service_old service_new third_old third_new file_old file_new old new =
     CountsBoth result file_old file_new old new

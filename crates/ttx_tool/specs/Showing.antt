@@ -42,29 +42,35 @@ shown_text look m = if m.fresh then no_page_line look.page.now else picture_of l
 abbrev pub shown_status : Memory → ℕ
 shown_status m = if m.fresh then 1 else 0
 
--- the slots of a packet file, over which the memory became the new one; it is fresh exactly where no header of the page came
-pub record IsShownFile (t : Tuning) (start count : ℕ) (bytes : List ℕ) (old new : Memory) : Type 0 where
+-- The slots of a packet file, over which the memory became the new one: that which the receiver holds after them. It is fresh exactly where no
+-- header of the page came.
+pub record IsShownFile (t : Tuning) (holds : List (List ℕ) → Memory) (start count : ℕ) (bytes : List ℕ) (old new : Memory) : Type 0 where
   pub slots : List (List ℕ)
   pub file : IsPacketFile bytes slots
   pub run : Hears t slots start count old new
+  pub same : new ≡ holds (sent_from (repeated slots) (pos start) count)
   pub fresh : new.fresh ≡ stays_fresh t.selection old (sent_from (repeated slots) (pos start) count)
 
 -- the same, or why the file is refused
-abbrev pub HearsFile : {U : Type 0} → Tuning → ℕ → ℕ → List ℕ → Memory → Memory → Result U CycleFault → Type 0
-HearsFile t start count bytes old new (Ok _) = IsShownFile t start count bytes old new
-HearsFile t start count bytes old new (Err fault) = Judged bytes (Err fault) × (new ≡ old)
+abbrev pub HearsFile : {U : Type 0} → Tuning → (List (List ℕ) → Memory) → ℕ → ℕ → List ℕ → Memory → Memory → Result U CycleFault → Type 0
+HearsFile t holds start count bytes old new (Ok _) = IsShownFile t holds start count bytes old new
+HearsFile t holds start count bytes old new (Err fault) = Judged bytes (Err fault) × (new ≡ old)
 
 -- Ok: the View of the memory went out, or that no header of the page came. A write fault: the first `written` bytes of that. Else
 -- nothing, and the file is refused as it is judged.
-abbrev pub ShowsAfter : Tuning → ℕ → ℕ → Look → List ℕ → Memory → Memory → Option (List ℕ) → Option (List ℕ) → Result ℕ ToolFault → Type 0
-ShowsAfter t start count look bytes held new before after (Ok status) =
-    (status ≡ shown_status new) × IsShownFile t start count bytes held new × Appends before after (shown_text look new)
-ShowsAfter t start count look bytes held new before after (Err (Write written)) =
-    IsShownFile t start count bytes held new × (written < length (shown_text look new)) × Appends before after (take written (shown_text look new))
-ShowsAfter t start count look bytes held new before after (Err (Cycle fault)) = Judged bytes (Err fault) × (new ≡ held) × Keeps before after
-ShowsAfter t start count look bytes held new before after (Err NoMemory) = Keeps before after
-ShowsAfter t start count look bytes held new before after (Err _) = ⊥
+abbrev pub ShowsAfter : Tuning → (List (List ℕ) → Memory) → ℕ → ℕ → Look → List ℕ → Memory → Memory → Option (List ℕ) → Option (List ℕ) →
+    Result ℕ ToolFault → Type 0
+ShowsAfter t holds start count look bytes held new before after (Ok status) =
+    (status ≡ shown_status new) × IsShownFile t holds start count bytes held new × Appends before after (shown_text look new)
+ShowsAfter t holds start count look bytes held new before after (Err (Write written)) =
+    IsShownFile t holds start count bytes held new × (written < length (shown_text look new))
+    × Appends before after (take written (shown_text look new))
+ShowsAfter t holds start count look bytes held new before after (Err (Cycle fault)) = Judged bytes (Err fault) × (new ≡ held) × Keeps before after
+ShowsAfter t holds start count look bytes held new before after (Err NoMemory) = Keeps before after
+ShowsAfter t holds start count look bytes held new before after (Err _) = ⊥
 
 -- the receiver goes with the call, so its new memory is some memory
-abbrev pub ShowsFile : Tuning → ℕ → ℕ → Look → List ℕ → Memory → Option (List ℕ) → Option (List ℕ) → Result ℕ ToolFault → Type 0
-ShowsFile t start count look bytes held before after result = (new : Memory) × ShowsAfter t start count look bytes held new before after result
+abbrev pub ShowsFile : Tuning → (List (List ℕ) → Memory) → ℕ → ℕ → Look → List ℕ → Memory → Option (List ℕ) → Option (List ℕ) →
+    Result ℕ ToolFault → Type 0
+ShowsFile t holds start count look bytes held before after result =
+    (new : Memory) × ShowsAfter t holds start count look bytes held new before after result

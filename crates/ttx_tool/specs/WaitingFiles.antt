@@ -16,7 +16,7 @@ use Rattle.ttx_source.specs.Services.{ServiceFields, pages_of}
 use Rattle.ttx_tool.specs.FindingFiles.{IsNoFinding}
 use Rattle.ttx_tool.specs.declared.commands.writing.Told.{Told}
 use Rattle.ttx_tool.specs.declared.faults.ToolFault.{ToolFault}
-use Rattle.ttx_tool.specs.declared.faults.ToolFault.TheVariants.{Cycle, Read, Write}
+use Rattle.ttx_tool.specs.declared.faults.ToolFault.TheVariants.{Cycle, Read, Write, Counter}
 use Rattle.ttx_wait.specs.Reports.{IsReportWith}
 use Rattle.ttx_wait.specs.declared.reports.Detail.{Detail}
 
@@ -54,5 +54,6 @@ Waits a b repeat class detail old new (Err fault) = IsNoFinding a b fault × Kee
 abbrev pub CountsWait : {T : Type 0} → Result T ToolFault → ℕ → ℕ → ℕ → ℕ → ℕ → ℕ → Type 0
 CountsWait (Err (Cycle cycle.Read)) cycle_old cycle_new service_old service_new old new = HasRisen cycle_old cycle_new
 CountsWait (Err (Read which)) cycle_old cycle_new service_old service_new old new = HasRisen service_old service_new
+CountsWait (Err (Counter fault)) cycle_old cycle_new service_old service_new old new = ⊥
 CountsWait (Err (Write written)) cycle_old cycle_new service_old service_new old new = HasRisen old new
 CountsWait result cycle_old cycle_new service_old service_new old new = ⊤

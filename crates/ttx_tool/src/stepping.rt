@@ -1,6 +1,6 @@
 //! A receiver over the slots of a cycle that is sent again and again.
 
-ghost use Rattle.std.specs.Prelude.{◌≡◌, ◌<◌, IfSome, length, pos};
+ghost use Rattle.std.specs.Prelude.{◌≡◌, ◌<◌, IfSome, fold, length, pos};
 ghost use Rattle.ttx_cycle.specs.Counters.{inner_of, faults_of};
 ghost use Rattle.ttx_cycle.specs.Reading.{CountsRead};
 ghost use Rattle.ttx_page.specs.Laws.{sent_from};
@@ -16,8 +16,9 @@ use ttx_receiver::Receiver;
 // Steps a receiver over `count` slots from slot `start` on, which counts round the cycle.
 fn step_over<X: Receiver>(receiver: &mut X, slots: &[[u8; 42]], start: usize, count: u32)
     requires { 0 < length slots.now }
-    ensures { Hears (tuned_as (X.kind receiver.old) (X.field receiver.old) (X.tuned receiver.old)) slots.now start count (X.held receiver.old)
+    ensures heard { Hears (tuned_as (X.kind receiver.old) (X.field receiver.old) (X.tuned receiver.old)) slots.now start count (X.held receiver.old)
         (X.held receiver.new) }
+    ensures value { receiver.new ≡ fold X.next receiver.old (sent_from (repeated slots.now) (pos start) count) }
 {
     ttx_page::laws::runs_go_on();
     let mut at = start % slots.len();
@@ -30,11 +31,12 @@ fn step_over<X: Receiver>(receiver: &mut X, slots: &[[u8; 42]], start: usize, co
     }
 }
 
-// The same; whether the receiver stays fresh is told, too.
+// The same; whether the receiver stays fresh is reported, too.
 fn hear<X: Receiver>(receiver: &mut X, slots: &[[u8; 42]], start: usize, count: u32)
     requires { 0 < length slots.now }
     ensures heard { Hears (tuned_as (X.kind receiver.old) (X.field receiver.old) (X.tuned receiver.old)) slots.now start count (X.held receiver.old)
         (X.held receiver.new) }
+    ensures same { X.held receiver.new ≡ X.held (fold X.next receiver.old (sent_from (repeated slots.now) (pos start) count)) }
     ensures fresh { (X.held receiver.new).fresh ≡ stays_fresh (X.tuned receiver.old) (X.held receiver.old)
         (sent_from (repeated slots.now) (pos start) count) }
 {
@@ -50,8 +52,8 @@ pub(crate) fn hear_file<R: Read, X: Receiver>(
     count: u32,
 ) -> Result<(), CycleFault>
     ensures bytes { IfSome (R.remaining (inner_of reader.old))
-        (λ bytes. HearsFile (tuned_as (X.kind receiver.old) (X.field receiver.old) (X.tuned receiver.old)) start count bytes
-        (X.held receiver.old) (X.held receiver.new) result) }
+        (λ bytes. HearsFile (tuned_as (X.kind receiver.old) (X.field receiver.old) (X.tuned receiver.old))
+        (λ sent. X.held (fold X.next receiver.old sent)) start count bytes (X.held receiver.old) (X.held receiver.new) result) }
     ensures faults { CountsRead result (faults_of reader.old) (faults_of reader.new) }
 {
     match read_cycle(alloc, reader) {

@@ -6,7 +6,7 @@ ghost use Rattle.ttx_cycle.specs.Cycles.{slots_of};
 ghost use Rattle.ttx_witness.specs.Certificates.{fields_of};
 ghost use Rattle.ttx_certify.specs.CertifyingFiles.{IsUntouched};
 ghost use Rattle.ttx_tool.specs.FilesFaults.{is_tool_write};
-ghost use Rattle.ttx_tool.specs.FindingFiles.{found_line, TellsDeadline, TellsVerdict, IsFoundAndTold, FindsText, FindsFiles, CountsInputs};
+ghost use Rattle.ttx_tool.specs.FindingFiles.{found_line, WritesDeadline, TellsVerdict, IsFoundAndTold, FindsText, FindsFiles, CountsInputs};
 ghost use Rattle.ttx_tool.specs.FindingFiles.{CountsFind};
 ghost use Rattle.ttx_tool.specs.PlannedFiles.{FindsDeadline, MakesCertified};
 
@@ -38,7 +38,7 @@ fn found_line(alloc: Global, deadline: u32) -> Result<String, AllocError>
 
 // What goes out where there is a deadline.
 fn tell_deadline(alloc: Global, certificate: &Certificate, deadline: u32) -> Result<Told, NoMemory>
-    ensures { IfOk result (λ told. TellsDeadline (fields_of certificate.now) deadline told.file.items (string_bytes told.line) told.status) }
+    ensures { IfOk result (λ told. WritesDeadline (fields_of certificate.now) deadline told.file.items (string_bytes told.line) told.status) }
 {
     let file = write_certificate(alloc, certificate)?;
     let Ok(line) = found_line(alloc, deadline) else {
@@ -86,6 +86,10 @@ fn tell(
         (string_bytes told.line) told.status) }
 {
     ttx_witness::certificate_laws::certificates_keep_their_rules();
+    ttx_certify::laws::accepted_is_seen();
+    ttx_page::laws::pages_keep_their_rules();
+    // This call tells the ranges of the pages.
+    let _pages = service.pages();
     let found = find_service(alloc, cycle, service, repeat, class)?;
     match found.deadline {
         Some(deadline) => tell_deadline(alloc, &found.certificate, deadline),

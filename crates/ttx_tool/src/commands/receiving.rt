@@ -1,6 +1,6 @@
 //! `receive`: what a receiver holds after some slots of a cycle.
 
-ghost use Rattle.std.specs.Prelude.{IfSome};
+ghost use Rattle.std.specs.Prelude.{IfSome, fold};
 ghost use Rattle.ttx_cycle.specs.Counters.{inner_of, faults_of};
 ghost use Rattle.ttx_certify.specs.CertifyingFiles.{IsUntouched};
 ghost use Rattle.ttx_tool.specs.FilesFaults.{is_tool_write};
@@ -30,8 +30,9 @@ pub fn receive<R: Read, X: Receiver + Drop, W: Write>(
     writer: &mut Counted<W>,
 ) -> Result<u8, ToolFault>
     ensures bytes { IfSome (R.remaining (inner_of reader.old))
-        (λ bytes. Receives (tuned_as (X.kind receiver) (X.field receiver) (X.tuned receiver)) start count bytes
-        (X.held receiver) (W.contents (inner_of writer.old)) (W.contents (inner_of writer.new)) result) }
+        (λ bytes. Receives (tuned_as (X.kind receiver) (X.field receiver) (X.tuned receiver))
+        (λ sent. X.held (fold X.next receiver sent)) start count bytes (X.held receiver)
+        (W.contents (inner_of writer.old)) (W.contents (inner_of writer.new)) result) }
     ensures faults { CountsInspect result (faults_of reader.old) (faults_of reader.new) (faults_of writer.old) (faults_of writer.new) }
     ensures untouched { IsUntouched is_tool_write result writer.old writer.new }
 {

@@ -1,9 +1,11 @@
 //! Reports of faults: their lines and their statuses.
 
 ghost use Rattle.std.specs.Prelude.{◌≡◌, [], ◌∷◌, ◌++◌, IfOk, codes, string_bytes};
+ghost use Rattle.ttx_certify.specs.CertifyingFiles.{IsUntouched};
 ghost use Rattle.ttx_cycle.specs.Counters.{inner_of, faults_of};
 ghost use Rattle.ttx_extract.specs.Refusals.{refusal_text};
 ghost use Rattle.ttx_source.specs.Faults.{fault_of};
+ghost use Rattle.ttx_tool.specs.FilesFaults.{is_tool_write};
 ghost use Rattle.ttx_tool.specs.Reports.{service_text, service_status, certificate_refusal, extract_text, extract_status, run_text, run_status};
 ghost use Rattle.ttx_tool.specs.Reports.{refused_service, fault_line, status_of, Reports, ReportsWords, CountsReport};
 
@@ -205,6 +207,8 @@ fn status(fault: &ToolFault) -> u8
 }
 
 /// Writes the line of a fault and answers the status of the program: 2 for what is refused, 3 for a fault.
+///
+/// At `Write` exactly the first `written` bytes of the line went out; at each other fault the writer is as it was.
 pub fn report<W: Write>(
     alloc: Global,
     fault: &ToolFault,
@@ -212,6 +216,7 @@ pub fn report<W: Write>(
 ) -> Result<u8, ToolFault>
     ensures line { Reports (fault_line fault.now) (status_of fault.now) (W.contents (inner_of writer.old)) (W.contents (inner_of writer.new)) result }
     ensures faults { CountsReport result (faults_of writer.old) (faults_of writer.new) }
+    ensures untouched { IsUntouched is_tool_write result writer.old writer.new }
 {
     let Ok(line) = line_of(alloc, fault) else {
         return Err(ToolFault::NoMemory);
@@ -220,6 +225,8 @@ pub fn report<W: Write>(
 }
 
 /// Writes the line that says why no service text is made of a cycle and answers the status of the program.
+///
+/// At `Write` exactly the first `written` bytes of the line went out; at each other fault the writer is as it was.
 pub fn report_extraction<W: Write>(
     alloc: Global,
     fault: &ExtractFault,
@@ -228,6 +235,7 @@ pub fn report_extraction<W: Write>(
     ensures line { Reports (extract_text fault.now ++ 10 ∷ []) (extract_status fault.now) (W.contents (inner_of writer.old))
         (W.contents (inner_of writer.new)) result }
     ensures faults { CountsReport result (faults_of writer.old) (faults_of writer.new) }
+    ensures untouched { IsUntouched is_tool_write result writer.old writer.new }
 {
     let Ok(line) = extract_line(alloc, fault) else {
         return Err(ToolFault::NoMemory);
@@ -236,6 +244,8 @@ pub fn report_extraction<W: Write>(
 }
 
 /// Writes why words are refused and answers the status of the program. Of what `clap` refuses its own text is written.
+///
+/// At `Write` exactly the first `written` bytes of the text went out; at each other fault the writer is as it was.
 pub fn report_words<W: Write>(
     alloc: Global,
     fault: &WordsFault,
@@ -243,6 +253,7 @@ pub fn report_words<W: Write>(
 ) -> Result<u8, ToolFault>
     ensures line { ReportsWords fault.now (W.contents (inner_of writer.old)) (W.contents (inner_of writer.new)) result }
     ensures faults { CountsReport result (faults_of writer.old) (faults_of writer.new) }
+    ensures untouched { IsUntouched is_tool_write result writer.old writer.new }
 {
     match fault {
         WordsFault::Refused(error) => {

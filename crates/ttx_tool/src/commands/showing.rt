@@ -1,6 +1,6 @@
 //! `show`: a page as a receiver shows it after some slots of a cycle.
 
-ghost use Rattle.std.specs.Prelude.{◌≡◌, IfSome, IfOk, string_bytes};
+ghost use Rattle.std.specs.Prelude.{◌≡◌, IfSome, IfOk, fold, string_bytes};
 ghost use Rattle.ttx_cycle.specs.Counters.{inner_of, faults_of};
 ghost use Rattle.ttx_page.specs.Views.{memory_of};
 ghost use Rattle.ttx_picture.specs.Forms.{picture_of};
@@ -70,8 +70,9 @@ pub fn show<R: Read, X: Receiver + Drop, W: Write>(
     writer: &mut Counted<W>,
 ) -> Result<u8, ToolFault>
     ensures bytes { IfSome (R.remaining (inner_of reader.old))
-        (λ bytes. ShowsFile (tuned_as (X.kind receiver) (X.field receiver) (X.tuned receiver)) tuning.now.start tuning.now.slots look.now bytes
-        (X.held receiver) (W.contents (inner_of writer.old)) (W.contents (inner_of writer.new)) result) }
+        (λ bytes. ShowsFile (tuned_as (X.kind receiver) (X.field receiver) (X.tuned receiver))
+        (λ sent. X.held (fold X.next receiver sent)) tuning.now.start tuning.now.slots look.now bytes (X.held receiver)
+        (W.contents (inner_of writer.old)) (W.contents (inner_of writer.new)) result) }
     ensures faults { CountsInspect result (faults_of reader.old) (faults_of reader.new) (faults_of writer.old) (faults_of writer.new) }
     ensures untouched { IsUntouched is_tool_write result writer.old writer.new }
 {

@@ -1,5 +1,5 @@
 use Rattle.std.proofs.Common.{◌≡◌, ◌+◌, ◌<◌, ◌%◌, ◌∙◌, ap, length, arith}
-use Rattle.ttx_tool.proofs.Heard.{hears_more, next_inside, next_round}
+use Rattle.ttx_tool.proofs.Heard.{hears_more, next_more, next_inside, next_round}
 use Rattle.ttx_tool.proofs.stepping.step_over.Goals as goal
 use Rattle.ttx_tool.proofs.stepping.step_over.Goals.{then-at-slots, else-at-slots}
 
@@ -18,6 +18,8 @@ loop-preserved g c =
     record {
       run = hears_more c.runs_go_on.ensures (g.X.Receiver.held c.args.receiver.now) c.args.slots.now c.args.start c.loop.counter
           c.loop.at i.class i.lines i.selection i.at i.run c.step.ensures.step;
+      value = next_more g.X.Receiver.next c.args.receiver.now c.loop.receiver c.step.new.self c.args.slots.now c.args.start c.loop.counter
+          c.loop.at i.at i.value c.step.ensures.value;
       at = place ∙ ap (λ z. z % n) one_more;
       class = c.step.ensures.class ∙ i.class;
       lines = c.step.ensures.lines ∙ i.lines;

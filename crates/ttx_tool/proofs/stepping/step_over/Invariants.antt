@@ -1,4 +1,7 @@
-use Rattle.std.proofs.Common.{◌≡◌, ◌+◌, ◌%◌, length}
+use Rattle.std.proofs.Common.{◌≡◌, ◌+◌, ◌%◌, pos, length}
+use Rattle.std.specs.Prelude.{fold}
+use Rattle.ttx_page.specs.Laws.{sent_from}
+use Rattle.ttx_page.specs.Streams.{repeated}
 use Rattle.ttx_tool.specs.Receiving.{tuned_as, Hears}
 use Rattle.ttx_tool.proofs.stepping.step_over.Given as goal
 
@@ -7,6 +10,7 @@ invariant-loop g l = record {
   run : Hears (tuned_as (g.X.Receiver.kind l.initial.receiver) (g.X.Receiver.field l.initial.receiver)
       (g.X.Receiver.tuned l.initial.receiver)) l.slots l.start l.counter
       (g.X.Receiver.held l.initial.receiver) (g.X.Receiver.held l.receiver);
+  value : l.receiver ≡ fold g.X.Receiver.next l.initial.receiver (sent_from (repeated l.slots) (pos l.start) l.counter);
   at : l.at ≡ (l.start + l.counter) % length l.slots;
   class : g.X.Receiver.kind l.receiver ≡ g.X.Receiver.kind l.initial.receiver;
   lines : g.X.Receiver.field l.receiver ≡ g.X.Receiver.field l.initial.receiver;
