@@ -335,7 +335,8 @@ module _ (laws : LawsBelow) (numbered : RowsAreNumbered) (codes : OddBytesHoldTh
         | inr f ↦ f
         | inl here ↦
             let h = header_was_sent laws p.id sent received of.arrived mag e in
-            let matched : heads_matched sel (packet_of sent) ≡ true = ap (heads_matched sel) h.is_sent ∙ ap (λ id. matches sel id) (sym h.same_id) ∙ here in
+            let matched : heads_matched sel (packet_of sent) ≡ true = ap (heads_matched sel) h.is_sent
+            ∙ ap (λ id. matches sel id) (sym h.same_id) ∙ here in
             absurd (both_ways _ other (of.selected matched))
       ]
       go IsEmpty e = tt
@@ -422,7 +423,8 @@ module _ (laws : LawsBelow) (numbered : RowsAreNumbered) (codes : OddBytesHoldTh
 
     pub head_step : (m new : Memory) → Wide m → RowStep how class lines sel m received new → HasHead p new
     head_step m new w step = elim step as (λ _. HasHead p new) [
-      | inl taken ↦ subst (HasHead p) (sym (taken.is ∙ ap (after class lines sel taken.choice (older m)) h.is_received)) (begins taken.choice m t text w)
+      | inl taken ↦ subst (HasHead p) (sym (taken.is ∙ ap (after class lines sel taken.choice (older m)) h.is_received))
+          (begins taken.choice m t text w)
       | inr more ↦ elim more as (λ _. HasHead p new) [
         | inl r ↦ absurd (both_ways _ (ap may_refuse h.is_received) r.1)
         | inr rest ↦ elim rest as (λ _. HasHead p new) [
@@ -471,7 +473,8 @@ module _ (laws : LawsBelow) (numbered : RowsAreNumbered) (codes : OddBytesHoldTh
       (elim (cases_Bool (heads_page p.id (packet_of (s (tau +ℤ pos 0))))) as (λ _. HasHead p run.0) [
         | inl mine ↦ head_step laws numbered codes p page sel fits class lines how (s (tau +ℤ pos 0)) slot (of 0 (omega arith)) mine
             (right 0 (omega arith) (omega arith) mine) m run.0 w run.1
-        | inr other ↦ other_step laws numbered codes p page sel fits class lines how (s (tau +ℤ pos 0)) slot (of 0 (omega arith)) other m run.0 h run.1
+        | inr other ↦ other_step laws numbered codes p page sel fits class lines how (s (tau +ℤ pos 0)) slot (of 0
+            (omega arith)) other m run.0 h run.1
       ]) (wide_step how class lines sel m slot run.0 w run.1) run.2
 
   -- each one is from a place on

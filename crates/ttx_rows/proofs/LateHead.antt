@@ -85,23 +85,25 @@ stepped : (how : Manner) (class : Class) (lines : ℕ) (sel : Selection) (m : Me
 stepped how class lines sel m received new step =
     elim step as (λ _. ((may_refuse (packet_of received) ≡ true) × (new ≡ older m)) ⊎ Stepped class lines sel m (packet_of received) new) [
       | inl t ↦ inr (record { choice = t.choice; packet = packet_of received; version = own_version (packet_of received); is = t.is })
-      | inr other ↦ elim other as (λ _. ((may_refuse (packet_of received) ≡ true) × (new ≡ older m)) ⊎ Stepped class lines sel m (packet_of received) new) [
-        | inl r ↦ inl (r.1, r.2)
-        | inr more ↦ elim more as (λ _. ((may_refuse (packet_of received) ≡ true) × (new ≡ older m)) ⊎ Stepped class lines sel m (packet_of received) new) [
-          | inl b ↦ inr (record {
-            choice = b.1.0;
-            packet = blanked (packet_of received);
-            version = blank_version (packet_of received);
-            is = b.1.1;
-          })
-          | inr t ↦ inr (record {
-            choice = t.1.1;
-            packet = t.1.0;
-            version = taken_version (packet_of received) t.1.0 t.1.2;
-            is = t.1.3;
-          })
-        ]
-      ]
+      | inr other ↦ elim other as (λ _. ((may_refuse (packet_of received) ≡ true) × (new ≡ older m)) ⊎ Stepped class lines sel m
+          (packet_of received) new) [
+            | inl r ↦ inl (r.1, r.2)
+            | inr more ↦ elim more as (λ _. ((may_refuse (packet_of received) ≡ true) × (new ≡ older m)) ⊎ Stepped class lines sel m
+                (packet_of received) new) [
+                  | inl b ↦ inr (record {
+                    choice = b.1.0;
+                    packet = blanked (packet_of received);
+                    version = blank_version (packet_of received);
+                    is = b.1.1;
+                  })
+                  | inr t ↦ inr (record {
+                    choice = t.1.1;
+                    packet = t.1.0;
+                    version = taken_version (packet_of received) t.1.0 t.1.2;
+                    is = t.1.3;
+                  })
+                ]
+          ]
     ]
 
 version_elsewhere : (sel : Selection) (pkt new : Packet) → IsVersion pkt new → IsElsewhere sel pkt → IsElsewhere sel new
@@ -281,7 +283,8 @@ module _ (laws : LawsBelow) (numbered : RowsAreNumbered) (codes : OddBytesHoldTh
           | inr t ↦ by t (subst (λ pkt. IsVersion pkt t.packet) h.is_received t.version) not_here own
         ]
       where
-        by : (t : Stepped class lines sel m (packet_of received) new) → IsVersion (Header (id_of received) (control_of received) (drop 10 received)) t.packet →
+        by : (t : Stepped class lines sel m (packet_of received) new) →
+            IsVersion (Header (id_of received) (control_of received) (drop 10 received)) t.packet →
             matches sel (id_of received) ≡ false → ((id_of received).mag == selected_mag sel) ≡ true → new.storing ≡ false
         by t v not_here own =
             ap (λ (x : Memory). x.storing) (t.is ∙ ap (after class lines sel t.choice (older m)) v.1)
@@ -327,7 +330,8 @@ module _ (laws : LawsBelow) (numbered : RowsAreNumbered) (codes : OddBytesHoldTh
                   (sym (ap (λ (x : Memory). x.storing) t.is) ∙ stores)
             ]
 
-    gathered_head : IsRightHere p (s j) received → (m new : Memory) → HasHead p m → Wide m → RowStep how class lines sel m received new → HasHead p new
+    gathered_head : IsRightHere p (s j) received → (m new : Memory) → HasHead p m → Wide m → RowStep how class lines sel m received new →
+        HasHead p new
     gathered_head right m new h w step = elim (cases_Bool (heads_page p.id (packet_of (s j)))) as (λ _. HasHead p new) [
       | inl mine ↦ head_step laws numbered codes p page sel fits class lines how (s j) received of mine (right mine) m new w step
       | inr other ↦ other_step laws numbered codes p page sel fits class lines how (s j) received of other m new h step
@@ -371,7 +375,8 @@ module _ (laws : LawsBelow) (numbered : RowsAreNumbered) (codes : OddBytesHoldTh
               ];
             }
           where
-            goes_on : d.gathered.storing ≡ true → (d.gathered.storing && not new.gathered.storing && not (heads_number sel (packet_of received))) ≡ false →
+            goes_on : d.gathered.storing ≡ true → (d.gathered.storing && not new.gathered.storing && not (heads_number sel
+                (packet_of received))) ≡ false →
                 new.gathered.storing ≡ true
             goes_on stores no_show = three d.gathered.storing new.gathered.storing (heads_number sel (packet_of received)) stores
                 (no_number (st.owner stores)) no_show
@@ -390,7 +395,8 @@ module _ (laws : LawsBelow) (numbered : RowsAreNumbered) (codes : OddBytesHoldTh
         let h = page_header_received laws p.id (s j) received of.arrived mine in
         let stores : new.gathered.storing ≡ true = begins h in (
           record {
-            head = head_step laws numbered codes p page sel fits class lines how (s j) received of mine (right mine) r.base new.gathered base_wide r.step;
+            head = head_step laws numbered codes p page sel fits class lines how (s j) received of mine
+                (right mine) r.base new.gathered base_wide r.step;
             wide = wide_step how class lines sel r.base received new.gathered base_wide r.step;
             owner = λ _. record {
               slot = j;
@@ -422,7 +428,8 @@ module _ (laws : LawsBelow) (numbered : RowsAreNumbered) (codes : OddBytesHoldTh
   is_later : (j : ℤ) → begin ≤ℤ j → begin ≤ℤ (j +ℤ pos 1)
   is_later j low = omega (arith, ints)
 
-  at_first : (tau : ℤ) (slot : List ℕ) (received : List (List ℕ)) → AreRightFrom s p.id tau (slot ∷ received) 0 → IsRightHere p (s (tau +ℤ pos 0)) slot
+  at_first : (tau : ℤ) (slot : List ℕ) (received : List (List ℕ)) → AreRightFrom s p.id tau (slot ∷ received) 0 →
+      IsRightHere p (s (tau +ℤ pos 0)) slot
   at_first tau slot received right = right 0 (omega arith) (omega arith)
 
   next_place : (tau : ℤ) (d : LateMemory) → Stands p s begin ((tau +ℤ pos 0) +ℤ pos 1) d → Stands p s begin (tau +ℤ pos 1) d
@@ -441,7 +448,8 @@ module _ (laws : LawsBelow) (numbered : RowsAreNumbered) (codes : OddBytesHoldTh
   stays_shown (slot ∷ received) tau low of right d new st h run =
       let n = late_next (tau +ℤ pos 0) (low_first tau low) slot (of 0 (omega arith)) (at_first tau slot received right) d run.0 (first_place tau d st)
       run.1 in
-      stays_shown received (tau +ℤ pos 1) (is_later tau low) (later sel p s tau slot received of) (right_next s p.id tau slot received right) run.0 new
+      stays_shown received (tau +ℤ pos 1) (is_later tau low) (later sel p s tau slot received of)
+      (right_next s p.id tau slot received right) run.0 new
       (next_place tau run.0 n.stands) (n.shown h) run.2
 
   -- it is, once another page number came
@@ -452,7 +460,8 @@ module _ (laws : LawsBelow) (numbered : RowsAreNumbered) (codes : OddBytesHoldTh
   comes_shown (slot ∷ received) tau zero low lt another of right d new st w run =
       let n = late_next (tau +ℤ pos 0) (low_first tau low) slot (of 0 (omega arith)) (at_first tau slot received right) d run.0 (first_place tau d st)
       run.1 in
-      stays_shown received (tau +ℤ pos 1) (is_later tau low) (later sel p s tau slot received of) (right_next s p.id tau slot received right) run.0 new
+      stays_shown received (tau +ℤ pos 1) (is_later tau low) (later sel p s tau slot received of)
+      (right_next s p.id tau slot received right) run.0 new
       (next_place tau run.0 n.stands)
       (elim (n.will w) as (λ _. HasHead p run.0.shown) [
         | inl h ↦ h
@@ -486,4 +495,5 @@ module _ (laws : LawsBelow) (numbered : RowsAreNumbered) (codes : OddBytesHoldTh
       late_head received (tau +ℤ pos 1) from until (is_later tau low) (omega arith) (omega arith)
       (subst (λ j. heads_page p.id (packet_of (s j)) ≡ true) f mine) (subst (λ j. heads_another p.id (packet_of (s j)) ≡ true) e another)
       (later sel p s tau slot received of) (right_later s p.id tau slot received from right) run.0 new
-      (wide_step how class lines sel run.1.base slot run.0.gathered (base_is_wide class sel d run.1.base (packet_of slot) w run.1.from) run.1.step) run.2
+      (wide_step how class lines sel run.1.base slot run.0.gathered (base_is_wide class sel d run.1.base
+      (packet_of slot) w run.1.from) run.1.step) run.2

@@ -222,7 +222,8 @@ module _ (sees : ShowingIsSeeing) (p : Page) (m n : Memory) (a : Alike m n) (sam
     crc = [];
   }
 
-  held_row : (number : ℕ) → needed held (TheRow number) ≡ true → (k : ℕ) × (number ≡ suc k) × (memory_row n (suc k) ≡ get_or held.rows (number - 1) [])
+  held_row : (number : ℕ) → needed held (TheRow number) ≡ true →
+      (k : ℕ) × (number ≡ suc k) × (memory_row n (suc k) ≡ get_or held.rows (number - 1) [])
   held_row number need =
       let low : 1 ≤ number = leb-true 1 number ((and_parts _ _ (and_parts _ _ (and_parts _ _ need).0).0).0) in
       by number low

@@ -1,5 +1,6 @@
 -- What is accepted is seen by receivers that take rows whole or not at all.
-use Rattle.std.proofs.Common.{◌≡◌, ℕ, ◌<◌, ◌≤◌, ℤ, pos, ◌+ℤ◌, ◌≤ℤ◌, ◌||◌, Bool, true, false, List, [], length, get_or, refl, sym, subst, inl, inr, arith}
+use Rattle.std.proofs.Common.{◌≡◌, ℕ, ◌<◌, ◌≤◌, ℤ, pos, ◌+ℤ◌, ◌≤ℤ◌, ◌||◌, Bool, true, false}
+use Rattle.std.proofs.Common.{List, [], length, get_or, refl, sym, subst, inl, inr, arith}
 use Rattle.std.proofs.lemmas.Bool.{cases_Bool, cases_lt, both_ways}
 use Rattle.std.proofs.lemmas.Int.{ints}
 use Rattle.ttx_code.specs.Laws.{OddBytesHoldTheirCodes}
@@ -132,7 +133,8 @@ module _ (laws : LawsOfRows) (s : Stream) (p : Page) (sel : Selection) (class : 
         λ heads. seen received rule heads runs former m is_former run long,
       )
 
-  both_shown : RunsAreShown → (gap : ℕ) → IsFollowedFrom s p.id gap begin → (received : List (List ℕ)) → ReceivedByRows how s p repeat begin received →
+  both_shown : RunsAreShown → (gap : ℕ) → IsFollowedFrom s p.id gap begin → (received : List (List ℕ)) →
+      ReceivedByRows how s p repeat begin received →
       (former d : LateMemory) → IsFormer class former.gathered → RowLateRun how class lines sel former received d →
       (end +ℤ pos gap) ≤ℤ (begin +ℤ pos (length received)) →
       HasViewBelowHead p d.shown × (EachHeadArrives how.spaces s p.id repeat begin received → HasView p d.shown)
@@ -231,7 +233,8 @@ module _ (laws : LawsOfRows) (s : Stream) (p : Page) (sel : Selection) (class : 
       (like_self Heads former.gathered, like_self Heads former.shown) run in
       let seen_left = both_shown laws (other_stream h.sends h.came h.send_size h.size h.are) p sel class lines repeat begin end page few some fits
       (other_steady h.sends h.came h.send_size h.size h.are) (other_brings h.sends h.came h.send_size h.size h.are) (unstored how) refl runs gap
-      (moved_followed s (other_stream h.sends h.came h.send_size h.size h.are) (other_tests h.sends h.came h.send_size h.size h.are) p gap begin followed)
+      (moved_followed s (other_stream h.sends h.came h.send_size h.size h.are)
+      (other_tests h.sends h.came h.send_size h.size h.are) p gap begin followed)
       h.came (other_rule h.sends h.came h.send_size h.size h.are) former h.left is_former h.run
       (subst (λ n. (end +ℤ pos gap) ≤ℤ (begin +ℤ pos n)) (sym h.size) long) in (
         alike_below d.shown h.left.shown h.like.1.0 p seen_left.0,
@@ -440,7 +443,8 @@ accepted_is_shown_by_rows runs laws cycle pages w is_cycle are_pages is_certific
       (are_pages n p here) is_certificate.few_lines is_certificate.some_repeats
       (fits_matches pages p sel fits)
       (steady_from laws cycle pages w is_cycle are_pages is_certificate accepts n p here sel fits tau)
-      (brought laws cycle pages w is_cycle are_pages is_certificate accepts n p here tau) gap (λ h low head. followed h head) how former d received is_former rule
+      (brought laws cycle pages w is_cycle are_pages is_certificate accepts n p here tau) gap
+      (λ h low head. followed h head) how former d received is_former rule
       run late;
 }
 
