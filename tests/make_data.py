@@ -400,16 +400,30 @@ def unlike():
     }
 
 
-def counter(start, slots, deadline, changed=None, choices=(), six=" 0" * 18):
+def counter(start, slots, deadline, changed=None, choices=(), six=" 0" * 18, code=65, control=128):
     """The text of a counter-run of page 100: the page's memory, but for an A in the first column of a row, and links."""
-    rows = ["65" + " 32" * 39 if number == changed else "32" + " 32" * 39 for number in range(25)]
+    rows = [f"{code}" + " 32" * 39 if number == changed else "32" + " 32" * 39 for number in range(25)]
     bits = [f" {bit}" for bit in choices]
     head = [
         "ttx counter 1", "lines 2", "repeat 1", f"deadline {deadline}", "page 0", "any-subpage 0", f"start {start}", f"slots {slots}",
-        "control 128", "storing 0", "age 64", "fresh 0", "row-24 0", "links" + six,
+        f"control {control}", "storing 0", "age 64", "fresh 0", "row-24 0", "links" + six,
     ]
     lines = [*head, *[f"row {row}" for row in rows], f"choices {len(bits)}" + "".join(bits), "hits 0"]
     return "".join(f"{line}\n" for line in lines)
+
+
+def missed():
+    """Runs from slot 0 on, out of a memory of spaces but for an X in row 1, whose row 1 is missed as the choices say."""
+
+    def run(slots, *choices):
+        return counter(0, slots, 27, 1, choices, code=0x58, control=0)
+
+    return {
+        "missed-twice.counter": run(54, 1, 1),
+        "missed-once.counter": run(54, 1, 0),
+        "missed-never.counter": run(54),
+        "missed-twice-53.counter": run(53, 1, 1),
+    }
 
 
 def main():
@@ -441,6 +455,8 @@ def main():
         "row-5-wrong.t42": with_byte(base(), 7, 2, 0xC1),
         "row-5-wrong-again.t42": with_byte([*base(), *base()], 35, 2, 0xC1),
         "bad-slot.t42": with_byte(base(), 4, 0, 0x03),
+        "bad-slot-1.t42": with_slot(base(), 1, bytes([0xFF] * 42)),
+        "bad-slot-26.t42": with_byte(base(), 26, 2, 0x14),
         "book.t42": book_cycle(),
         "near-text.t42": with_slot(near_row, 2, row(1, 1, b"\xc1" + SPACES[1:])),
         "bad-parity.t42": [*base()[:3], row(1, 1, b"\xc1" + SPACES[1:]), row(1, 1, b"\xc0" + SPACES[1:])],
@@ -468,6 +484,7 @@ def main():
         "row-1-once.cert": certificate(30, more={1: "3"}, at=(0, 28)),
         "planned-info.cert": certificate(28, at=(1,)),
         "found-without-pages.cert": "ttx certificate 1\nlines 2\nrepeat 1\ndeadline 1\n",
+        "one-field.cert": "ttx certificate 1\nlines 1\nrepeat 1\ndeadline 1\n",
         "no-entries.cert": "ttx certificate 1\nlines 2\nrepeat 1\ndeadline 27\n",
         "base-26.counter": counter(1, 52, 26, 23),
         "row-1-near.counter": counter(0, 54, 27, 1, (1, 1)),
@@ -475,7 +492,7 @@ def main():
         "slots-052.counter": counter(1, 52, 26, 23).replace("slots 52", "slots 052"),
         "slots-51.counter": counter(1, 51, 26, 23),
         "clearing.cert": "ttx certificate 2\nclass clearing\nlines 2\nrepeat 1\ndeadline 2\n100/0000 head 0\n",
-    } | services() | refused_services() | checked_services() | certifying_texts() | splicing_texts() | extracted_texts()
+    } | services() | refused_services() | checked_services() | certifying_texts() | splicing_texts() | extracted_texts() | missed()
     for name, text in texts.items():
         (folder / name).write_text(text)
     subpages = [sub for sub in range(0x3F7F) if sub & ~0x3F7F == 0][:1214]

@@ -1,6 +1,6 @@
 //! Bytes of the standard's tables, and a sent text.
 
-use ttx_code::{ham, is_word, odd, odd_of, unham};
+use ttx_code::{all_odd, ham, is_word, odd, odd_of, unham};
 
 // The code word of each number (EN 300 706, 8.2).
 const WORDS: [u8; 16] = [
@@ -42,7 +42,7 @@ fn readable() -> u32 {
 fn one_wrong_bit_is_corrected(rt: HostRuntime) {
     assert!(rt; readable() == 144);
     assert!(rt; unham(0x14) == Some(0) && !is_word(0x14));
-    assert!(rt; unham(0x16).is_none());
+    assert!(rt; unham(0x00) == Some(1) && unham(0x16).is_none());
 }
 
 #[test]
@@ -52,5 +52,26 @@ fn odd_parity_of_a_text(rt: HostRuntime) {
             odd(*character) == *byte && odd_of(*byte) == Some(*character),
             "{character}"
         );
+    }
+}
+
+// A byte in 40 spaces, its place, and whether all are of odd parity. The last eight places aren't in the lanes.
+static PARITIES: [(usize, u8, bool); 6] = [
+    (0, 0x20, true),
+    (31, 0x54, true),
+    (0, 0x00, false),
+    (31, 0xd4, false),
+    (32, 0x45, true),
+    (39, 0xa0, false),
+];
+
+#[test]
+fn odd_parity_of_a_row(rt: HostRuntime) {
+    for (at, byte, is_odd) in &PARITIES {
+        let mut bytes = [0x20; 40];
+        if *at < 40 {
+            bytes[*at] = *byte;
+        }
+        assert!(rt; all_odd(&bytes) == *is_odd, "{at}");
     }
 }

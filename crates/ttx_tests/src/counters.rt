@@ -23,11 +23,10 @@ static RUNS: [(u32, u8, [u32; 2], bool); 4] = [
 ];
 
 // A memory of spaces, but for an X at the begin of row 23.
-fn an_x_in_row_23() -> PageMemory {
+fn an_x_in_row_23() -> Option<PageMemory> {
     let mut rows = [[0x20; 40]; 25];
     rows[23][0] = 0x58;
-    let memory = PageMemory::new(rows, Control(0), [None; 6], false, false, 64, true);
-    memory.unwrap_or(PageMemory::blank())
+    PageMemory::new(rows, Control(0), [None; 6], false, false, 64, true)
 }
 
 // The first character of row 23 is received wrong in these slots, or in the one that is said twice.
@@ -45,14 +44,14 @@ fn hits(alloc: Global, places: [u32; 2]) -> Result<Vec<Hit>, AllocError> {
     Ok(hits)
 }
 
-// A run of page 100 from slot 1 on, without choices.
-fn run(alloc: Global, slots: u32, repeat: u8, hits: Vec<Hit>) -> Counter {
+// A run of page 100 from slot 1 on, out of this memory and without choices.
+fn run(alloc: Global, former: PageMemory, slots: u32, repeat: u8, hits: Vec<Hit>) -> Counter {
     Counter {
         page: 0,
         any_sub: false,
         start: 1,
         slots,
-        former: an_x_in_row_23(),
+        former,
         choices: Vec::new(alloc),
         hits,
         lines: 2,
@@ -73,7 +72,16 @@ fn is_counter_run(alloc: Global, slots: Vec<[u8; 42]>, counter: &Counter) -> boo
 #[test]
 fn a_character_that_is_hit_once(rt: HostRuntime) -> Result<(), Fail> {
     for (slots, repeat, places, wanted) in &RUNS {
-        let run = run(rt.alloc(), *slots, *repeat, hits(rt.alloc(), *places)?);
+        let Some(former) = an_x_in_row_23() else {
+            panic!(rt; "there is no memory");
+        };
+        let run = run(
+            rt.alloc(),
+            former,
+            *slots,
+            *repeat,
+            hits(rt.alloc(), *places)?,
+        );
         let is_run = is_counter_run(rt.alloc(), base::slots(rt.alloc())?, &run);
         assert!(rt; is_run == *wanted, "{slots} {repeat}");
     }

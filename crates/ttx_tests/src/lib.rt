@@ -5,13 +5,21 @@
 #[cfg(test)]
 mod base;
 #[cfg(test)]
-mod characters;
+mod certificates;
 #[cfg(test)]
 mod codes;
 #[cfg(test)]
 mod counters;
 #[cfg(test)]
 mod display;
+#[cfg(test)]
+mod engines;
+#[cfg(test)]
+mod headers;
+#[cfg(test)]
+mod monitors;
+#[cfg(test)]
+mod on_air;
 #[cfg(test)]
 mod packet_files;
 #[cfg(test)]
@@ -21,11 +29,19 @@ mod page_links;
 #[cfg(test)]
 mod pages;
 #[cfg(test)]
+mod places;
+#[cfg(test)]
+mod planned;
+#[cfg(test)]
+mod receivers;
+#[cfg(test)]
 mod seen;
 #[cfg(test)]
 mod service_packets;
 #[cfg(test)]
 mod services;
+#[cfg(test)]
+mod times;
 #[cfg(test)]
 mod walks;
 #[cfg(test)]

@@ -1,24 +1,70 @@
-//! Devices that fail, and a writer that counts above a buffer. What is read and written in pieces, and with faults at each call,
-//! tests/refused_calls.py shows of all commands.
+//! Packet files of each length, devices that fail, and a writer that counts above a buffer. What the commands do where any call of
+//! `read` or `write` fails, tests/refused_calls.py shows.
 
+use crate::base;
 use std::alloc::Global;
 use std::io::{BufWriter, Write};
+use std::test::Fail;
 use ttx_cycle::faulty::{Failure, FaultyReader, FaultyWriter};
-use ttx_cycle::{Counted, CycleFault, read_cycle, write_bytes};
+use ttx_cycle::{Counted, Cycle, CycleFault, read_cycle, write_cycle};
 
-// How a writer fails that takes five bytes a call, at which call, and how many bytes have gone out then.
-static FAILURES: [(Failure, u64, usize); 2] = [
-    (Failure::Error { at: 4 }, 4, 15),
-    (Failure::Nothing { at: 1 }, 1, 0),
+// How a writer of five bytes a call fails, or doesn't, at which call, and how many bytes of the worked cycle have gone out then.
+static WRITINGS: [(Option<Failure>, u64, usize); 3] = [
+    (Some(Failure::Error { at: 4 }), 4, 15),
+    (Some(Failure::Nothing { at: 1 }), 1, 0),
+    (None, 236, 1176),
 ];
 
-fn fails(failure: Failure, call: u64, count: usize) -> bool {
-    let mut room = [0; 40];
-    let mut writer = Counted::new(FaultyWriter::new(&mut room, 5, Some(failure)));
-    match write_bytes(&mut writer, &[0x41; 40]) {
-        Err(fault) => fault.written == count && writer.calls() == call && writer.faults() == 1,
-        Ok(()) => false,
+// Whether the writing of a cycle ends so, and exactly its first bytes have gone out.
+fn writes(cycle: &Cycle, failure: Option<Failure>, call: u64, count: usize) -> bool {
+    let mut room = [0; 1200];
+    let mut writer = Counted::new(FaultyWriter::new(&mut room, 5, failure));
+    let is_told = match write_cycle(&mut writer, cycle) {
+        Err(fault) => failure.is_some() && fault.written == count && writer.faults() == 1,
+        Ok(()) => failure.is_none() && writer.faults() == 0,
+    };
+    let is_called = writer.calls() == call;
+    let inner = writer.into_inner();
+    let wanted = cycle.slots().as_flattened().get(..count);
+    is_told && is_called && wanted == Some(inner.taken())
+}
+
+#[test]
+fn written_in_pieces(rt: HostRuntime) -> Result<(), Fail> {
+    let Some(cycle) = Cycle::of(base::slots(rt.alloc())?) else {
+        panic!(rt; "there is no cycle");
+    };
+    for (failure, call, count) in &WRITINGS {
+        assert!(rt; writes(&cycle, *failure, *call, *count), "call {call}");
     }
+    Ok(())
+}
+
+// Whether bytes of the worked cycle are read as its whole slots, or refused for their rest or for want of one.
+fn is_read(alloc: Global, bytes: &[u8], piece: usize) -> bool {
+    let mut reader = Counted::new(FaultyReader::new(bytes, piece, None));
+    match read_cycle(alloc, &mut reader) {
+        Ok(cycle) => cycle.slots().as_flattened() == bytes,
+        Err(CycleFault::Truncated { rest }) => 0 < rest && rest < 42 && rest == bytes.len() % 42,
+        Err(CycleFault::Empty) => bytes.is_empty(),
+        Err(_) => false,
+    }
+}
+
+#[test]
+fn read_in_pieces(rt: HostRuntime) -> Result<(), Fail> {
+    let slots = base::slots(rt.alloc())?;
+    let bytes = slots.as_slice().as_flattened();
+    assert!(rt; bytes.len() == 1176);
+    for count in 0..=bytes.len() {
+        for piece in 1..44usize {
+            assert!(rt;
+                is_read(rt.alloc(), &bytes[..count], piece),
+                "{count} bytes by {piece}"
+            );
+        }
+    }
+    Ok(())
 }
 
 // Whether a packet file of two slots is refused where its second slot isn't read.
@@ -28,10 +74,7 @@ fn is_refused(alloc: Global) -> bool {
 }
 
 #[test]
-fn devices_that_fail(rt: HostRuntime) {
-    for (failure, call, count) in &FAILURES {
-        assert!(rt; fails(*failure, *call, *count), "call {call}");
-    }
+fn a_reader_that_fails(rt: HostRuntime) {
     assert!(rt; is_refused(rt.alloc()));
 }
 

@@ -35,6 +35,9 @@ fn page(control: u16, tall: [usize; 2], show24: bool) -> Option<Page> {
     }
 }
 
+// Control bits, where C7 is 8 and C10 is 40, and whether the head is needed. The links always are.
+static HEADS: [(u16, bool); 4] = [(0x80, true), (0x08, false), (0x40, true), (0x48, false)];
+
 fn is_needed(page: &Page, number: u8) -> bool {
     match RowNumber::new(number) {
         Some(row) => needed(page, Item::Row(row)),
@@ -49,5 +52,16 @@ fn needed_rows(rt: HostRuntime) {
             panic!(rt; "there is no page");
         };
         assert!(rt; is_needed(&page, *number) == *wanted, "row {number}");
+    }
+}
+
+#[test]
+fn needed_head_and_links(rt: HostRuntime) {
+    for (control, wanted) in &HEADS {
+        let Some(page) = page(*control, [24, 24], false) else {
+            panic!(rt; "there is no page");
+        };
+        assert!(rt; needed(&page, Item::Head) == *wanted, "{control}");
+        assert!(rt; needed(&page, Item::Links), "{control}");
     }
 }

@@ -1,5 +1,5 @@
 //! What is certified is seen: worked cycles, received from each tuning slot by each kind of receiver, out of bad memories and
-//! with errors within the error rule. Turned and spliced ones tests/spliced.py shows.
+//! with errors within the error rule. Spliced ones tests/spliced.py shows.
 
 use crate::base::{self, beginning};
 use std::alloc::Global;
@@ -14,18 +14,21 @@ use ttx_receiver::{Careful, Eager, Receiver, Scripted, Watched};
 use ttx_render::{render, same_but_clock};
 use ttx_witness::find;
 
-// Two slots of the worked cycle, each with the bytes that it begins with instead, how row 5 of the page begins, whether one of two
-// transmissions is right or each, and the least deadline. There is no slot 28.
+// Two slots of the worked cycle, each with the bytes that it begins with instead, by how many slots it is turned then, how row 5 of the
+// page begins, whether one of two transmissions is right or each, and the least deadline. There is no slot 28.
 #[rattlefmt::skip]
-static CYCLES: [(usize, [u8; 10], usize, [u8; 10], u8, bool, u32); 4] = [
-    (28, [0; 10], 28, [0; 10], 0x20, true, 41),
+static CYCLES: [(usize, [u8; 10], usize, [u8; 10], usize, u8, bool, u32); 7] = [
+    (28, [0; 10], 28, [0; 10], 0, 0x20, false, 27),
+    (28, [0; 10], 28, [0; 10], 10, 0x20, false, 27),
+    (28, [0; 10], 28, [0; 10], 0, 0x20, true, 41),
     // in parallel transmission a header of another magazine doesn't end the page
-    (1, [0x49, 0x15, 0x15, 0x15, 0x15, 0x15, 0x15, 0x15, 0x15, 0x15], 28, [0; 10], 0x20, false, 27),
+    (1, [0x49, 0x15, 0x15, 0x15, 0x15, 0x15, 0x15, 0x15, 0x15, 0x15], 28, [0; 10], 0, 0x20, false, 27),
     // a packet 8/30 right after the page header
-    (1, [0x15, 0xea, 0x15, 0x20, 0x20, 0x20, 0x20, 0x20, 0x20, 0x20], 28, [0; 10], 0x20, false, 27),
-    // row 5 is in double height, so that row 6 isn't needed; packet 26 is sent instead of it
+    (1, [0x15, 0xea, 0x15, 0x20, 0x20, 0x20, 0x20, 0x20, 0x20, 0x20], 28, [0; 10], 0, 0x20, false, 27),
+    // row 5 is in double height, so that row 6 isn't needed: it isn't sent, or packet 26 instead of it
+    (7, [0xc7, 0x49, 0x0d, 0x20, 0x20, 0x20, 0x20, 0x20, 0x20, 0x20], 8, [0; 10], 0, 0x0d, false, 27),
     (7, [0xc7, 0x49, 0x0d, 0x20, 0x20, 0x20, 0x20, 0x20, 0x20, 0x20],
-        8, [0x02, 0xb6, 0x15, 0x20, 0x20, 0x20, 0x20, 0x20, 0x20, 0x20], 0x0d, false, 27),
+        8, [0x02, 0xb6, 0x15, 0x20, 0x20, 0x20, 0x20, 0x20, 0x20, 0x20], 0, 0x0d, false, 27),
 ];
 
 // A page of a cycle, and how it is received: after how many slots it is to be seen, and whether one of two successive transmissions
@@ -49,10 +52,14 @@ pub(crate) fn page(first_of_row_5: u8) -> Option<Page> {
     }
 }
 
-// Makes a slot begin with other bytes, where there is such a slot.
+// Makes a slot begin with other bytes, or be empty where they are zero, where there is such a slot.
 fn edit(slots: &mut Vec<[u8; 42]>, at: usize, first: &[u8; 10]) {
     if let Some(slot) = slots.get_mut(at) {
-        *slot = beginning(first);
+        *slot = if *first == [0; 10] {
+            [0; 42]
+        } else {
+            beginning(first)
+        };
     }
 }
 
@@ -139,24 +146,30 @@ fn is_seen<R: Receiver + Drop>(receiver: R, sent: &Sent, tuning: u16) -> bool {
 }
 
 // A memory full of 7F.
-fn former(storing: bool, age: u8, fresh: bool) -> PageMemory {
+fn former(storing: bool, age: u8, fresh: bool) -> Option<PageMemory> {
     let rows = [[0x7f; 40]; 25];
-    let memory = PageMemory::new(rows, Control::C7, [None; 6], true, storing, age, fresh);
-    memory.unwrap_or(PageMemory::blank())
+    PageMemory::new(rows, Control::C7, [None; 6], true, storing, age, fresh)
 }
 
 fn by_eager(sent: &Sent, tuning: u16, storing: bool) -> bool {
-    let any = Selection::AnySub(1, 0);
-    is_seen(Eager::new(any, 2, former(storing, 0, false)), sent, tuning)
+    let Some(memory) = former(storing, 0, false) else {
+        return false;
+    };
+    is_seen(Eager::new(Selection::AnySub(1, 0), 2, memory), sent, tuning)
 }
 
 fn by_careful(sent: &Sent, tuning: u16, storing: bool) -> bool {
+    let Some(memory) = former(storing, 2, true) else {
+        return false;
+    };
     let own = Selection::Exact(sent.page.id());
-    is_seen(Careful::new(own, 2, former(storing, 2, true)), sent, tuning)
+    is_seen(Careful::new(own, 2, memory), sent, tuning)
 }
 
 fn by_scripted(sent: &Sent, tuning: u16, storing: bool) -> bool {
-    let memory = former(storing, 64, true);
+    let Some(memory) = former(storing, 64, true) else {
+        return false;
+    };
     let script = [false, true, true, false, true];
     is_seen(
         Scripted::new(Selection::AnySub(1, 0), 2, memory, &script),
@@ -188,6 +201,7 @@ fn what_is_certified_is_seen(rt: HostRuntime) -> Result<(), Fail> {
         first_of_one,
         other,
         first_of_other,
+        turned,
         first_of_row_5,
         is_half_right,
         fields,
@@ -195,6 +209,9 @@ fn what_is_certified_is_seen(rt: HostRuntime) -> Result<(), Fail> {
         let mut slots = base::slots(rt.alloc())?;
         edit(&mut slots, *one, first_of_one);
         edit(&mut slots, *other, first_of_other);
+        if *turned < slots.len() {
+            slots.rotate_left(*turned);
+        }
         let (Some(page), Some(cycle)) = (page(*first_of_row_5), Cycle::of(slots)) else {
             panic!(rt; "there is no page or cycle");
         };

@@ -1,64 +1,115 @@
 //! Two readings of a file that has changed between them: what is said of the second one, and where none is believed. What is said of
 //! two equal readings the cases of `certify` show.
 
-use crate::base::{self, CERTIFICATE, SERVICE, TIME_FILLING, beginning};
+use crate::base::{self, SERVICE, TIME_FILLING, beginning, certificate_text};
+use crate::seen::page;
 use std::alloc::{AllocError, Global};
 use std::test::Fail;
-use ttx_certify::certify_passes;
-use ttx_cycle::Counted;
+use ttx_certify::{FilesFault, Verdict, Walk, WalkFault, certify_passes};
 use ttx_cycle::faulty::{FaultyReader, FaultyWriter};
+use ttx_cycle::{Counted, CycleFault};
+use ttx_page::Class;
+use ttx_witness::{Certificate, Reason, read_certificate};
 
-// A line of the verdict.
-enum Line {
+// What is answered of two readings: a line, or a fault of a cycle and no line.
+enum Answer {
     Yes,
     Unsteady,
+    BadSlot1,
+    BadSlot4,
+    BadSlot26,
+    NoHeader,
     Erased,
-    Late,
+    LateRow22,
+    LateRow23,
+    LateLinks,
+    Truncated,
+    Empty,
+}
+
+// What is done to a slot of the second reading.
+enum Edit {
+    Nothing,
+    Byte(usize, usize, u8),
+    All(usize, u8),
 }
 
 // The slots are those of the worked cycle, the time-filling header again, and the cycle once more: which of them the first reading
-// has, from one on to before another, and which the second; whether the page is erased in the second; and the line.
+// has, from one on to before another, and which the second; what is done to a slot of the second; the deadline; and the answer.
 #[rattlefmt::skip]
-static READINGS: [(usize, usize, usize, bool, Line); 13] = [
-    (0, 28, 28, false, Line::Yes),
+static READINGS: [(usize, usize, usize, Edit, u32, Answer); 21] = [
+    (0, 28, 28, Edit::Nothing, 27, Answer::Yes),
     // the time-filling header is the last one, whatever stands before
-    (0, 57, 28, false, Line::Yes),
-    (27, 28, 28, false, Line::Yes),
+    (0, 57, 28, Edit::Nothing, 27, Answer::Yes),
+    (27, 28, 28, Edit::Nothing, 27, Answer::Yes),
     // the header of page 100 is the last one, or none, or the last slot is missing
-    (0, 27, 28, false, Line::Unsteady),
-    (0, 1, 28, false, Line::Unsteady),
-    (1, 6, 28, false, Line::Unsteady),
-    (1, 30, 28, false, Line::Unsteady),
-    (0, 28, 27, false, Line::Unsteady),
+    (0, 27, 28, Edit::Nothing, 27, Answer::Unsteady),
+    (0, 1, 28, Edit::Nothing, 27, Answer::Unsteady),
+    (1, 6, 28, Edit::Nothing, 27, Answer::Unsteady),
+    (1, 30, 28, Edit::Nothing, 27, Answer::Unsteady),
+    (0, 28, 27, Edit::Nothing, 27, Answer::Unsteady),
+    (0, 28, 27, Edit::Nothing, 26, Answer::Unsteady),
     // with one slot more in each period the links of slot 26 next come in slot 26 + 29, after 54 slots of 27 fields
-    (0, 28, 29, false, Line::Late),
+    (0, 28, 29, Edit::Nothing, 27, Answer::LateLinks),
+    (0, 28, 29, Edit::Nothing, 26, Answer::LateRow22),
+    (0, 28, 28, Edit::Nothing, 26, Answer::LateRow23),
     // no first reading makes a Yes of a cycle that isn't accepted
-    (0, 28, 28, true, Line::Erased),
-    (27, 28, 28, true, Line::Erased),
-    (0, 27, 28, true, Line::Unsteady),
-    (1, 30, 28, true, Line::Unsteady),
+    (0, 28, 28, Edit::Byte(0, 5, 0xd0), 27, Answer::Erased),
+    (27, 28, 28, Edit::Byte(0, 5, 0xd0), 27, Answer::Erased),
+    (0, 27, 28, Edit::Byte(0, 5, 0xd0), 27, Answer::Unsteady),
+    (1, 30, 28, Edit::Byte(0, 5, 0xd0), 27, Answer::Unsteady),
+    // slots that one wrong bit in each byte may turn into another packet, no header, and a header of subcode 0001 as the last one
+    (0, 28, 28, Edit::Byte(4, 0, 0x03), 27, Answer::BadSlot4),
+    (0, 28, 28, Edit::All(1, 0xff), 27, Answer::BadSlot1),
+    (0, 28, 28, Edit::Byte(26, 2, 0x14), 27, Answer::BadSlot26),
+    (0, 28, 28, Edit::All(0, 0x00), 27, Answer::NoHeader),
+    (0, 28, 28, Edit::Byte(27, 4, 0x02), 27, Answer::Unsteady),
 ];
 
-// The slots, where the page may be erased by its header.
-fn slots(alloc: Global, is_erased: bool) -> Result<Vec<[u8; 42]>, AllocError> {
+// The slots, of which one may be another.
+fn slots(alloc: Global, edit: &Edit) -> Result<Vec<[u8; 42]>, AllocError> {
     let mut slots = base::slots(alloc)?;
     slots.push(beginning(&TIME_FILLING))?;
     let again = base::slots(alloc)?;
     slots.extend_from_slice(again.as_slice())?;
-    if is_erased && let Some(header) = slots.get_mut(0) {
-        header[5] = 0xd0;
+    match edit {
+        Edit::Nothing => {}
+        Edit::Byte(place, at, byte) => {
+            if *at < 42
+                && let Some(slot) = slots.get_mut(*place)
+            {
+                slot[*at] = *byte;
+            }
+        }
+        Edit::All(place, byte) => {
+            if let Some(slot) = slots.get_mut(*place) {
+                *slot = [*byte; 42];
+            }
+        }
     }
     Ok(slots)
 }
 
-// What is written of two readings, with the worked service and certificate: how many bytes of the room.
-fn written(alloc: Global, first: &[u8], second: &[u8], room: &mut [u8]) -> usize {
-    let mut first = Counted::new(FaultyReader::new(first, 41, None));
-    let mut second = Counted::new(FaultyReader::new(second, 43, None));
+// The two packet files, and the certificate's text.
+#[derive(Clone, Copy)]
+struct Files<'a> {
+    first: &'a [u8],
+    second: &'a [u8],
+    certificate: &'a [u8],
+}
+
+// What is answered of two readings with the worked service, and how many bytes of the room are written.
+fn passed(
+    alloc: Global,
+    files: &Files<'_>,
+    room: &mut [u8],
+) -> (Result<Verdict, FilesFault>, usize) {
+    let mut first = Counted::new(FaultyReader::new(files.first, 41, None));
+    let mut second = Counted::new(FaultyReader::new(files.second, 43, None));
     let mut service = Counted::new(FaultyReader::new(SERVICE, 9, None));
-    let mut certificate = Counted::new(FaultyReader::new(CERTIFICATE, 10, None));
+    let mut certificate = Counted::new(FaultyReader::new(files.certificate, 10, None));
     let mut writer = Counted::new(FaultyWriter::new(room, 7, None));
-    let _ = certify_passes(
+    let answer = certify_passes(
         alloc,
         &mut first,
         &mut second,
@@ -66,29 +117,44 @@ fn written(alloc: Global, first: &[u8], second: &[u8], room: &mut [u8]) -> usize
         &mut certificate,
         &mut writer,
     );
-    writer.get_ref().taken().len()
+    (answer, writer.get_ref().taken().len())
 }
 
-fn is_written(room: &[u8; 100], count: usize, line: &Line) -> bool {
-    let wanted: &[u8] = match line {
-        Line::Yes => b"yes lines 2 repeat 1 deadline 27 pages 1\n",
-        Line::Unsteady => b"no 11 unsteady\n",
-        Line::Erased => b"no 4 erased 100/0000 0\n",
-        Line::Late => b"no 10 late 100/0000 links 26\n",
-    };
-    count == wanted.len() && room.starts_with(wanted)
+// The line of an answer.
+fn line_of(answer: &Answer) -> &'static [u8] {
+    match answer {
+        Answer::Yes => b"yes lines 2 repeat 1 deadline 27 pages 1\n",
+        Answer::Unsteady => b"no 11 unsteady\n",
+        Answer::BadSlot1 => b"no 1 bad-slot 1\n",
+        Answer::BadSlot4 => b"no 1 bad-slot 4\n",
+        Answer::BadSlot26 => b"no 1 bad-slot 26\n",
+        Answer::NoHeader => b"no 2 no-header 100/0000\n",
+        Answer::Erased => b"no 4 erased 100/0000 0\n",
+        Answer::LateRow22 => b"no 10 late 100/0000 row 22 24\n",
+        Answer::LateRow23 => b"no 10 late 100/0000 row 23 25\n",
+        Answer::LateLinks => b"no 10 late 100/0000 links 26\n",
+        Answer::Truncated | Answer::Empty => b"",
+    }
 }
 
-// Whether the line is that of these readings.
-fn is_answered(alloc: Global, first: &[[u8; 42]], second: &[[u8; 42]], line: &Line) -> bool {
+// Whether the value that is answered is that of the line.
+fn is_value(value: &Result<Verdict, FilesFault>, answer: &Answer) -> bool {
+    match value {
+        Ok(Verdict::Yes) => matches!(answer, Answer::Yes),
+        Ok(Verdict::No(_)) => line_of(answer).starts_with(b"no "),
+        Err(FilesFault::Cycle(CycleFault::Truncated { rest })) => *rest == 1
+            && matches!(answer, Answer::Truncated),
+        Err(FilesFault::Cycle(CycleFault::Empty)) => matches!(answer, Answer::Empty),
+        Err(_) => false,
+    }
+}
+
+// Whether these readings are answered so, and its line is written.
+fn is_answered(alloc: Global, files: &Files<'_>, answer: &Answer) -> bool {
     let mut room = [0; 100];
-    let count = written(
-        alloc,
-        first.as_flattened(),
-        second.as_flattened(),
-        &mut room,
-    );
-    is_written(&room, count, line)
+    let (value, count) = passed(alloc, files, &mut room);
+    let line = line_of(answer);
+    is_value(&value, answer) && count == line.len() && room.starts_with(line)
 }
 
 // A part of some slots.
@@ -101,14 +167,122 @@ fn part(slots: &Vec<[u8; 42]>, begin: usize, end: usize) -> &[[u8; 42]] {
 
 #[test]
 fn readings_that_differ(rt: HostRuntime) -> Result<(), Fail> {
-    for (begin, end, second_end, is_erased, line) in &READINGS {
-        let first = slots(rt.alloc(), false)?;
-        let second = slots(rt.alloc(), *is_erased)?;
-        let (first, second) = (part(&first, *begin, *end), part(&second, 0, *second_end));
+    for (begin, end, second_end, edit, deadline, answer) in &READINGS {
+        let first = slots(rt.alloc(), &Edit::Nothing)?;
+        let second = slots(rt.alloc(), edit)?;
+        let text = certificate_text(rt.alloc(), *deadline)?;
+        let files = Files {
+            first: part(&first, *begin, *end).as_flattened(),
+            second: part(&second, 0, *second_end).as_flattened(),
+            certificate: text.as_bytes(),
+        };
         assert!(rt;
-            is_answered(rt.alloc(), first, second, line),
-            "{begin} {end}"
+            is_answered(rt.alloc(), &files, answer),
+            "{begin} {end} {second_end}"
         );
+    }
+    Ok(())
+}
+
+// How many bytes the second file has, and the answer: its first slots are those of the worked cycle.
+static SECOND_FILES: [(usize, Answer); 3] = [
+    (1176, Answer::Yes),
+    (1177, Answer::Truncated),
+    (0, Answer::Empty),
+];
+
+#[test]
+fn second_files(rt: HostRuntime) -> Result<(), Fail> {
+    let slots = slots(rt.alloc(), &Edit::Nothing)?;
+    let text = certificate_text(rt.alloc(), 27)?;
+    for (count, answer) in &SECOND_FILES {
+        let bytes = slots.as_slice().as_flattened();
+        let files = Files {
+            first: bytes.get(..1176).unwrap_or(&[]),
+            second: bytes.get(..*count).unwrap_or(&[]),
+            certificate: text.as_bytes(),
+        };
+        assert!(rt; is_answered(rt.alloc(), &files, answer), "{count}");
+    }
+    Ok(())
+}
+
+// How many slots of a time-filling header the first list has and how many the second, and whether the verdict is Yes.
+static LISTS: [(u32, u32, bool); 4] = [
+    (65_536, 65_536, true),
+    // the last slot is refused, and the walk stands as before it
+    (65_537, 65_536, true),
+    (65_536, 65_537, false),
+    (28, 0, false),
+];
+
+// How many slots of the worked cycle the second list has after an empty first one, and whether they are accepted. Where two lists
+// differ, what is accepted may be called unsteady.
+static AFTER_NOTHING: [(u32, bool); 4] = [(28, true), (56, true), (1, false), (0, false)];
+
+// Gives the first list to a walk: whether each slot above 65,536 is refused, and no other.
+fn feeds(walk: &mut Walk<'_>, count: u32) -> bool {
+    let slot = beginning(&TIME_FILLING);
+    for at in 0..count {
+        let is_refused = matches!(walk.first(&slot), Err(WalkFault::TooLong));
+        if is_refused != (at >= 65_536) {
+            return false;
+        }
+    }
+    true
+}
+
+// The verdict where the second list has so many slots, these again and again.
+fn finished(walk: Walk<'_>, slots: &[[u8; 42]], count: u32) -> Verdict {
+    let mut second = walk.begin_second();
+    for at in 0..count {
+        if !slots.is_empty()
+            && let Some(slot) = slots.get(at as usize % slots.len())
+        {
+            second.second(slot);
+        }
+    }
+    second.finish()
+}
+
+#[test]
+fn lists_of_many_slots(rt: HostRuntime) -> Result<(), Fail> {
+    let Some(certificate) = Certificate::new(1, 1, 1, Vec::new(rt.alloc()), Class::Any) else {
+        panic!(rt; "there is no certificate");
+    };
+    for (first, second, is_yes) in &LISTS {
+        let Ok(mut walk) = Walk::new(rt.alloc(), &[], &certificate) else {
+            panic!(rt; "there is no walk");
+        };
+        assert!(rt; feeds(&mut walk, *first), "{first}");
+        let verdict = finished(walk, &[beginning(&TIME_FILLING)], *second);
+        assert!(rt;
+            matches!(verdict, Verdict::Yes) == *is_yes,
+            "{first} {second}"
+        );
+    }
+    Ok(())
+}
+
+#[test]
+fn an_empty_first_list(rt: HostRuntime) -> Result<(), Fail> {
+    let slots = base::slots(rt.alloc())?;
+    let text = certificate_text(rt.alloc(), 27)?;
+    let (Some(page), Ok(certificate)) = (page(0x20), read_certificate(rt.alloc(), text.as_bytes()))
+    else {
+        panic!(rt; "there is no page or certificate");
+    };
+    for (count, is_accepted) in &AFTER_NOTHING {
+        let Ok(walk) = Walk::new(rt.alloc(), std::slice::from_ref(&page), &certificate) else {
+            panic!(rt; "there is no walk");
+        };
+        let verdict = finished(walk, slots.as_slice(), *count);
+        let is_allowed = match verdict {
+            Verdict::Yes | Verdict::No(Reason::Unsteady) => *is_accepted
+                || !matches!(verdict, Verdict::Yes),
+            Verdict::No(_) => !*is_accepted,
+        };
+        assert!(rt; is_allowed, "{count}");
     }
     Ok(())
 }
