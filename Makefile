@@ -5,7 +5,7 @@
 # make install    puts program, man page and completions under PREFIX (/usr/local)
 # make dist       dist/ttx-VERSION-x86_64-linux.tar.gz: program, man page, completions and documents, and its checksum
 # make bench      times the program beside plain tools; writes nothing into the repository
-# make edits      tells whether each wrong body of the must-fail edits is refused; the gate tries those of one file together
+# make edits      tries each wrong body of the must-fail edits by itself, and records what is found in tools/edits.tsv
 # make compare    compares what certify --late says with what libzvbi's decoder shows, where there is one
 
 BUILT = crates/ttx/out/ttx
@@ -18,7 +18,7 @@ JOBS = 4
 
 # what runs the built program, the longest first
 SCRIPTS = $(addprefix tests/, refused_calls.py refute.py memory.sh cli.sh large.py planned.py waits.py spliced.py schedules.py turns.sh sent.py \
-	pages.py checked.py packed.sh extracted.py documents.py refused_texts.py)
+	pages.py checked.py packed.sh extracted.py documents.py refused_texts.py characters.py)
 
 .PHONY: all ttx try test demo bench edits compare helpers install dist $(SCRIPTS)
 
@@ -31,6 +31,8 @@ ttx:
 
 test:
 	python3 tools/progress.py out/test.log rt ci
+	python3 tools/refusals.py out/test.log
+	python3 tools/edits.py --stale
 	$(MAKE) --no-print-directory --jobs $$(nproc) --output-sync $(SCRIPTS)
 
 $(filter %.py,$(SCRIPTS)):
@@ -51,7 +53,7 @@ bench: ttx
 	sh bench/bench.sh ./ttx
 
 edits:
-	python3 tools/edits.py
+	python3 tools/edits.py --jobs $(JOBS)
 
 compare: ttx
 	python3 bench/late.py ./ttx

@@ -1,37 +1,115 @@
 #!/usr/bin/env python3
-"""Tries each wrong body of the must-fail edits: edits.py [CRATE..], in the repository's top folder.
+"""Tries each wrong body of the must-fail edits by itself: edits.py [--jobs N] [--crate NAME].. [--anew], or edits.py --stale
 
-An edit of the gate holds several wrong bodies, parted by a blank line, each under a heading with the functions or definitions that
-it turns; the gate wants such an edit refused as a whole. Here the prover has to refuse each. First all bodies of an edit that turn
-code alone are tried together, over the crate's kept work: such a body is done with where each function that it turns, and no other
-body does, is refused for its own sake. What is left is tried by itself, as an edit of its own. The crate's files come back as they
-were. Before all that it looks whether each heading names what its body turns.
+An edit of the gate may hold several wrong bodies, parted by a blank line, each under a heading: the functions or definitions that it turns,
+or the mistake. The gate wants such an edit refused as a whole. Here the prover has to refuse each of them, in a copy of the crates. Before that the
+written answers of the functions that a crate's bodies turn are taken out of the copy where the search proves the functions without them:
+so what is refused is the contract, and not an answer that fits the former body alone.
+
+What is found is written into tools/edits.tsv at once, a line a body: the crate, the edit, the heading, the checksums of the body and of
+all that it is tried over (the sources of the crate and of those below it, and the logic), the verdict, the function that is refused, and
+how. A later run tries only what that file doesn't have with these checksums; --anew tries all. With --stale nothing is tried: the bodies
+of which the file has no such line are listed.
+
+The status is 1 where a body is not refused for want of a proof, or where a heading of names doesn't name what its body turns.
 """
+import argparse
 import collections
-import contextlib
+import concurrent.futures
+import functools
+import hashlib
 import pathlib
 import re
 import shutil
 import subprocess
 import sys
 import tempfile
+import threading
+from dataclasses import dataclass
 
-CLAUSE = re.compile(r"(old|new): .*\b(ensures|requires|keeps|invariant)\b")
+RECORD = pathlib.Path("tools/edits.tsv")
+HEAD = ["crate", "edit", "heading", "body", "sources", "verdict", "function", "how"]
+PARTS = ("src", "specs", "proofs")
+ENOUGH = {"refused", "refused by an answer"}
+
 ITEM = re.compile(r"\s*(?:pub(?:\([a-z]+\))? )?(?:const |unsafe )?(?:fn|struct|enum|const|static|trait|type)\s+(\w+)")
-DEFINITION = re.compile(r"(?:pub )?(?:record |data )?(?!where\b|unfolding\b|use\b|mod\b|--)([^\s:{})]+)")
-LACKING = re.compile(r"^fn (\S+): no proof: expected answers", re.M)
-NOT_PROVED = re.compile(r"^fn (\w+)::(\S+): not proved$", re.M)
-ANSWER = re.compile(r"^(?:\./)?proofs/(\S+)/Answers\.antt:\d+:\d+: error: (.*)", re.M)
+DEFINITION = re.compile(r"(?:pub )?(?:abbrev |unfoldable |record |data )*(?:pub )?(?!where\b|unfolding\b|use\b|mod\b|--)([^\s:{})]+)")
+
+LACKING = re.compile(r"^fn \w+::(\S+): no proof: expected answers in \S+; (.*)$", re.M)
+NOT_PROVED = re.compile(r"^fn \w+::(\S+): not proved$", re.M)
+WRITTEN = re.compile(r"^(?:\./)?proofs/(\S+)/(?:Answers|Invariants|Proof)\.antt:\d+:\d+: error: (.*)", re.M)
 NAME_GONE = re.compile(r"has no field|is not in scope|has no `|was not admitted")
+LIMIT = re.compile(r"antt ran out of|outgrew the memory limit|stopped at the step limit")
 
 
-def bodies(text):
-    """The wrong bodies of an edit: of each the heading's names, and its lines."""
-    told = []
-    for part in text.strip("\n").split("\n\n"):
-        heading, _, lines = part.partition("\n")
-        told.append((heading.removeprefix("# ").split(", "), lines.split("\n")))
-    return told
+@dataclass(frozen=True)
+class Body:
+    crate: str
+    edit: str
+    heading: str
+    lines: tuple
+
+    @property
+    def sum(self):
+        return checksum("\n".join(self.lines).encode())
+
+    @property
+    def key(self):
+        return self.crate, self.edit, self.heading, self.sum
+
+
+def checksum(data):
+    return hashlib.sha256(data).hexdigest()[:16]
+
+
+def crates():
+    """The crates of the repository, each with those of them that it names."""
+    named = dict(line.split("#")[0].strip().split(":") for line in open("crates.txt") if ":" in line.split("#")[0])
+    return {name: [it for it in rest.split() if it in named] for name, rest in named.items()}
+
+
+def below(known, name):
+    """The crate and all below it."""
+    found = [name]
+    for it in found:
+        found += [dep for dep in known[it] if dep not in found]
+    return sorted(found)
+
+
+def sources(names):
+    """The files of these crates that a check reads."""
+    return [it for name in names for part in PARTS for it in sorted(pathlib.Path("crates", name, part).rglob("*")) if it.is_file()]
+
+
+def sum_of_sources(known, name, logic):
+    """The checksum of all that a crate's bodies are tried over."""
+    names = below(known, name)
+    told = [logic, *[f"{it}: {' '.join(known[it])}" for it in names]]
+    told += [f"{it} {checksum(it.read_bytes())}" for it in sources(names)]
+    return checksum("\n".join(told).encode())
+
+
+def bodies_of(name):
+    """The wrong bodies of a crate's edits."""
+    found = []
+    for edit in sorted(pathlib.Path("crates", name, "must-fail").glob("*.edit")):
+        for part in edit.read_text().strip("\n").split("\n\n"):
+            lines = part.split("\n")
+            heading = " ".join(line.removeprefix("#").strip() for line in lines if line.startswith("#"))
+            found.append(Body(name, edit.name, heading, tuple(line for line in lines if not line.startswith("#"))))
+    return found
+
+
+def steps(lines):
+    """What the lines of a body change: a path, the old text and the new one, each."""
+    path = old = ""
+    for word, _, rest in (line.partition(": ") for line in lines):
+        if word == "file":
+            path = rest
+        elif word == "old":
+            old = rest
+        elif word in ("new", "new:"):
+            yield path, old, rest
 
 
 def name_above(path, text, at):
@@ -41,124 +119,216 @@ def name_above(path, text, at):
     return next((it[1] for it in found if it), "")
 
 
-def turned_names(crate, lines):
-    """The functions and definitions that a body turns, in their order."""
-    names, path = [], ""
-    for line in lines:
-        word, _, rest = line.partition(": ")
-        if word == "file":
-            path = rest
-        elif word == "old" and not rest.startswith("use "):
-            text = (crate / path).read_text()
-            names.append(name_above(path, text, text.find(rest)))
-    return list(dict.fromkeys(names))
+@functools.cache
+def turned(body):
+    """The functions and definitions that a body turns, each with its file."""
+    found = []
+    for path, old, _ in steps(body.lines):
+        file = pathlib.Path("crates", body.crate, path)
+        if file.is_file() and not old.startswith("use "):
+            text = file.read_text()
+            found.append((path, name_above(path, text, text.find(old))))
+    return list(dict.fromkeys(found))
 
 
-def misnamed(crate, edits):
-    """What to say of each body whose heading doesn't name what it turns."""
-    told = [(edit, names, turned_names(crate, lines)) for edit in edits for names, lines in bodies(edit.read_text())]
-    return [f"{edit}: a body under '{', '.join(names)}' turns {', '.join(turned)}" for edit, names, turned in told if names != turned]
+def misnamed(body):
+    """What to say where a heading of names doesn't name what the body turns."""
+    names = ", ".join(dict.fromkeys(name for _, name in turned(body)))
+    is_of_names = re.fullmatch(r"\S+(, \S+)*", body.heading)
+    return [f"{body.crate}/{body.edit}: a body under '{body.heading}' turns {names}"] if is_of_names and body.heading != names else []
 
 
-def turned(folder, told):
-    """The texts of the crate's files with all these bodies, by path, or None where one can't be applied."""
-    texts, path, old = {}, "", ""
-    for line in (line for _, lines in told for line in lines):
-        word, _, rest = line.partition(": ")
-        if word == "file":
-            path = folder / rest
-        elif word == "old":
-            old = rest
-        else:
-            text = texts.get(path) or path.read_text()
-            if text.count(old) != 1:
-                return None
-            texts[path] = text.replace(old, rest)
-    return texts
-
-
-@contextlib.contextmanager
-def in_place(texts):
-    """These texts in the files' place; afterwards as they were."""
-    former = {path: path.read_text() for path in texts}
-    try:
-        for path, text in texts.items():
-            path.write_text(text)
-        yield
-    finally:
-        for path, text in former.items():
-            path.write_text(text)
-
-
-def functions(names, lines):
+def turned_functions(body):
     """The functions that a body turns, each as a pattern of its path in the crate."""
-    modules = {line.removeprefix("file: src/").removesuffix(".rt") for line in lines if line.startswith("file: src/")}
-    among = "|".join(sorted(modules)).replace("/", "::").replace("lib", "")
-    return [rf"\w+::(?:{among})(?:::\w+)*::{re.escape(name)}" for name in names]
+    modules = [(path.removeprefix("src/").removesuffix(".rt"), name) for path, name in turned(body) if path.startswith("src/")]
+    within = lambda module: "" if module == "lib" else re.escape(module.replace("/", "::")) + "::"
+    return [rf"{within(module)}(?:\w+::)*{re.escape(name)}" for module, name in modules]
 
 
-def is_of_code(lines):
-    """Whether a body turns code alone, and no definition or clause, by which other functions are refused too."""
-    return all(line.startswith("file: src/") for line in lines if line.startswith("file: ")) and not any(CLAUSE.match(line) for line in lines)
+def is_turned(body, function):
+    return any(re.fullmatch(it, function) for it in turned_functions(body))
 
 
-def refused_in(told):
-    """The functions that a check refuses for their own sake: no answer is found, or a written one shows something else than what is
-    asked now. One that only names what is gone says nothing of the contract."""
-    wrong = {path.replace("/", "::") for path, why in ANSWER.findall(told) if not NAME_GONE.search(why)}
-    return LACKING.findall(told) + [f"{crate}::{path}" for crate, path in NOT_PROVED.findall(told) if path in wrong]
+class Room:
+    """A copy of the sources in which bodies are tried."""
 
+    def __init__(self, folder, known):
+        self.folder, self.known = folder, known
 
-def left_alone(folder, edit):
-    """The bodies of an edit that are to be tried by themselves, since together with the others it isn't seen that each is refused."""
-    every = bodies(edit.read_text())
-    told = [(names, lines) for names, lines in every if is_of_code(lines)]
-    texts = turned(folder, told) if len(told) > 1 else None
-    if not texts:
-        return every
-    with in_place(texts):
-        ran = subprocess.run(["rt", "check"], cwd=folder, stdout=subprocess.PIPE, stderr=subprocess.STDOUT, text=True, errors="replace", check=False)
-    refused = refused_in(ran.stdout)
-    counts = collections.Counter(it for names, lines in told for it in functions(names, lines))
-    is_seen = lambda it: counts[it] == 1 and any(re.fullmatch(it, path) for path in refused)
-    return [(names, lines) for names, lines in every if not is_of_code(lines) or not all(map(is_seen, functions(names, lines)))]
+    def hold(self, name):
+        """The crate and those below it, as they stand in the repository; what checks kept stays."""
+        names = below(self.known, name)
+        self.crate = self.folder / "crates" / name
+        self.folder.mkdir(parents=True, exist_ok=True)
+        (self.folder / "crates.txt").write_text("".join(line for line in open("crates.txt") if line.split(":")[0].strip() in names))
+        shutil.copy("HANDLES", self.folder)
+        for it in (self.folder / "crates").glob("*"):
+            for part in PARTS:
+                shutil.rmtree(it / part, ignore_errors=True)
+        for it in sources(names):
+            (self.folder / it).parent.mkdir(parents=True, exist_ok=True)
+            shutil.copy2(it, self.folder / it)
 
+    def check(self):
+        """The status of a check of the crate, and what it says."""
+        words = ["nice", "-n", "5", "rt", "check", "--jobs", "1"]
+        ran = subprocess.run(words, cwd=self.crate, stdout=subprocess.PIPE, stderr=subprocess.STDOUT, text=True, errors="replace", check=False)
+        return ran.returncode, ran.stdout
 
-@contextlib.contextmanager
-def each_alone(folder, told):
-    """The folder with an edit for each of these bodies; afterwards as it was."""
-    with tempfile.TemporaryDirectory() as room:
-        kept = pathlib.Path(room, "must-fail")
-        shutil.copytree(folder, kept)
+    def take_answers(self, bodies):
+        """Takes the written answers of the turned functions away, but for those that the search needs. Whether the crate is proved so."""
+        taken = {}
+        for answers in self.crate.glob("proofs/**/Answers.antt"):
+            function = "::".join(answers.parent.relative_to(self.crate / "proofs").parts)
+            if any(is_turned(body, function) for body in bodies):
+                taken[function] = answers, answers.read_text()
+                answers.unlink()
+        while True:
+            status, told = self.check()
+            back = [it for it, _ in LACKING.findall(told) if it in taken] if status else []
+            if status and not back:
+                back = list(taken)
+            for function in back:
+                answers, text = taken.pop(function)
+                answers.write_text(text)
+            if not back:
+                return status == 0
+
+    def attempt(self, body):
+        """The verdict on a body, the function that is refused, and how."""
+        former = {}
+        for path, old, new in steps(body.lines):
+            file = self.crate / path
+            text = file.read_text() if file.is_file() else ""
+            former.setdefault(file, text)
+            if text.count(old) != 1:
+                self.put(former)
+                return "bad", "", f"an old text stands {text.count(old)} times in {path}"
+            file.write_text(text.replace(old, new))
         try:
-            for edit in folder.glob("*.edit"):
-                edit.unlink()
-            for number, (names, lines) in enumerate(told, 1):
-                name = re.sub(r"\W+", "-", "-".join(names))
-                (folder / f"{number:02}.{name}.edit").write_text("\n".join(lines) + "\n")
-            yield
+            return verdict_of(body, *self.check())
         finally:
-            shutil.rmtree(folder)
-            shutil.copytree(kept, folder)
+            self.put(former)
+
+    @staticmethod
+    def put(texts):
+        for file, text in texts.items():
+            if text:
+                file.write_text(text)
+
+
+def verdict_of(body, status, told):
+    """What a check comes to: the verdict, the function that is refused, one that the body turns before others, and how."""
+    if status == 0:
+        return "proved", "", ""
+    if "logic=not-proved" not in told:
+        first = next((it for it in told.split("\n") if LIMIT.search(it) or "error" in it), told.strip().split("\n")[-1])
+        return "limit" if LIMIT.search(told) else "bad", "", first
+    lacking = LACKING.findall(told)
+    misfits = [(path.replace("/", "::"), why) for path, why in WRITTEN.findall(told)]
+    unproved = set(NOT_PROVED.findall(told))
+    answers = [(function, why) for function, why in misfits if function in unproved and not NAME_GONE.search(why)]
+    for verdict, found in (("refused", lacking), ("refused by an answer", answers)):
+        mine = [it for it in found if is_turned(body, it[0])] or ([] if turned_functions(body) and answers else found)
+        if mine:
+            return verdict, *mine[0]
+    if lacking:
+        return "refused", *lacking[0]
+    gone = [it for it in misfits if NAME_GONE.search(it[1])]
+    first = next((it for it in told.split("\n") if ": error" in it), "")
+    return ("names gone", *gone[0]) if gone else ("refused elsewhere", "", first)
+
+
+class Record:
+    """The file of what was found."""
+
+    def __init__(self):
+        lines = RECORD.read_text().split("\n")[1:] if RECORD.exists() else []
+        rows = [line.split("\t") for line in lines if line]
+        self.rows = {tuple(row[:4]): row for row in rows}
+        self.lock = threading.Lock()
+
+    def has(self, body, sources_sum):
+        row = self.rows.get(body.key)
+        return row is not None and row[4] == sources_sum
+
+    def write(self, body, sources_sum, verdict, function, how):
+        with self.lock:
+            tidy = re.sub(r"\s+", " ", how)[:160]
+            self.rows[body.key] = [*body.key, sources_sum, verdict, function, tidy]
+            self.save()
+
+    def keep(self, names, keys):
+        """Forgets the bodies of these crates that are no more."""
+        with self.lock:
+            self.rows = {key: row for key, row in self.rows.items() if key[0] not in names or key in keys}
+            self.save()
+
+    def save(self):
+        text = "".join("\t".join(row) + "\n" for row in [HEAD, *(self.rows[key] for key in sorted(self.rows))])
+        room = RECORD.with_suffix(".new")
+        room.write_text(text)
+        room.replace(RECORD)
+
+
+def logic():
+    told = subprocess.run(["rt", "version"], stdout=subprocess.PIPE, text=True, check=True).stdout
+    return re.search(r"logic (\w+)", told)[1]
+
+
+def try_crate(room, name, bodies, sums, record):
+    """Tries these bodies of a crate."""
+    room.hold(name)
+    if not room.take_answers(bodies):
+        print(f"{name}: not proved as it stands", flush=True)
+        return 1
+    failed = 0
+    for body in bodies:
+        verdict, function, how = room.attempt(body)
+        record.write(body, sums[name], verdict, function, how)
+        failed += verdict not in ENOUGH
+        print(f"{'' if verdict in ENOUGH else 'FAILED '}{name}/{body.edit}: {body.heading}: {verdict} {function}: {how[:100]}", flush=True)
+    return failed
 
 
 def main():
-    names = sys.argv[1:] or sorted(line.split(":")[0].strip() for line in open("crates.txt"))
-    failed = 0
-    for name in names:
-        crate = pathlib.Path("crates", name)
-        folder = crate / "must-fail"
-        edits = sorted(folder.glob("*.edit"))
-        if edits:
-            wrong = misnamed(crate, edits)
-            print("\n".join(wrong), end="\n" if wrong else "")
-            failed += len(wrong)
-            count = sum(len(bodies(edit.read_text())) for edit in edits)
-            left = [body for edit in edits for body in left_alone(crate, edit)]
-            print(f"{name}: {count - len(left)} of {count} wrong bodies refused together; the others by themselves:", flush=True)
-            with each_alone(folder, left):
-                failed += bool(left) and subprocess.run(["rt", "must-fail", name], check=False).returncode != 0
-    return 1 if failed else 0
+    words = argparse.ArgumentParser(description="Tries each wrong body of the must-fail edits by itself.")
+    words.add_argument("--jobs", type=int, default=2, help="so many crates at a time, each in 1 to 4 GB")
+    words.add_argument("--crate", action="append", help="this crate alone; more of them may be named")
+    words.add_argument("--anew", action="store_true", help="also what the record has")
+    words.add_argument("--stale", action="store_true", help="lists the bodies that the record doesn't have as they stand, and tries none")
+    words = words.parse_args()
+    known, record, now = crates(), Record(), logic()
+    names = words.crate or sorted(known)
+    bodies = {name: bodies_of(name) for name in names}
+    sums = {name: sum_of_sources(known, name, now) for name in names if bodies[name]}
+    every = [body for name in names for body in bodies[name]]
+    stale = [body for body in every if words.anew or not record.has(body, sums[body.crate])]
+    wrong = [line for body in every for line in misnamed(body)]
+    print("".join(f"FAILED {line}\n" for line in wrong), end="")
+    if words.stale:
+        counts = collections.Counter(body.crate for body in stale)
+        which = ", ".join(f"{name} {counts[name]}" for name in sorted(counts))
+        print(f"edits: {len(every)} wrong bodies, {len(stale)} not recorded as they stand" + (f": {which} (make edits tries them)" if stale else ""))
+        return 1 if wrong else 0
+    record.keep(set(names), {body.key for body in every})
+    mine = hashlib.sha256(str(pathlib.Path.cwd()).encode()).hexdigest()[:8]
+    top = pathlib.Path(tempfile.gettempdir(), f"ttx-edits-{mine}")
+    rooms = [Room(top / str(n), known) for n in range(words.jobs)]
+
+    def work(name):
+        room = rooms.pop()
+        try:
+            return try_crate(room, name, [body for body in stale if body.crate == name], sums, record)
+        finally:
+            rooms.append(room)
+
+    with concurrent.futures.ThreadPoolExecutor(words.jobs) as pool:
+        failed = sum(pool.map(work, dict.fromkeys(body.crate for body in stale)))
+    shutil.rmtree(top, ignore_errors=True)
+    weak = [row for body in every if (row := record.rows.get(body.key)) and row[5] not in ENOUGH]
+    print(f"edits: {len(every)} wrong bodies, {len(stale)} tried now, {len(weak) + len(wrong)} failed")
+    return 1 if failed or weak or wrong else 0
 
 
 if __name__ == "__main__":
