@@ -276,16 +276,17 @@ def logic():
     return re.search(r"logic (\w+)", told)[1]
 
 
-def try_crate(room, name, bodies, sums, record):
-    """Tries these bodies of a crate."""
+def try_crate(room, name, bodies, now, record):
+    """Tries these bodies of a crate. How many aren't refused for want of a proof."""
     room.hold(name)
+    over = sum_of_sources(room.known, name, now)
     if not room.take_answers(bodies):
         print(f"{name}: not proved as it stands", flush=True)
         return 1
     failed = 0
     for body in bodies:
         verdict, function, how = room.attempt(body)
-        record.write(body, sums[name], verdict, function, how)
+        record.write(body, over, verdict, function, how)
         failed += verdict not in ENOUGH
         print(f"{'' if verdict in ENOUGH else 'FAILED '}{name}/{body.edit}: {body.heading}: {verdict} {function}: {how[:100]}", flush=True)
     return failed
@@ -319,7 +320,7 @@ def main():
     def work(name):
         room = rooms.pop()
         try:
-            return try_crate(room, name, [body for body in stale if body.crate == name], sums, record)
+            return try_crate(room, name, [body for body in stale if body.crate == name], now, record)
         finally:
             rooms.append(room)
 
