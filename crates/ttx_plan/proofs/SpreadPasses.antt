@@ -178,7 +178,8 @@ counted_pass packets blocks often n o a size counted = record {
       ∙ sym split ∙ sym none ∙ sym (counted_in blocks (often / 2) 0 round);
 }
 
-pub often_of : (blocks : List Block) (k : ℕ) (block : Block) → AllByRecursion IsOftenBlock blocks → slice_get blocks k ≡ Some block → IsOften block.often
+pub often_of : (blocks : List Block) (k : ℕ) (block : Block) → AllByRecursion IsOftenBlock blocks → slice_get blocks k ≡ Some block →
+    IsOften block.often
 often_of [] k block a e = let f : None ≡ Some block = e in cc
 often_of (b ∷ blocks) zero block a e = let f : Some b ≡ Some block = e in let g : b ≡ block = cc in subst IsOftenBlock g a.0
 often_of (b ∷ blocks) (suc k) block a e = often_of blocks k block a.1 e

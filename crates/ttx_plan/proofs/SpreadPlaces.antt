@@ -1,5 +1,6 @@
 -- Blocks that take their places one after another: what each place changes, and what it leaves as it was.
-use Rattle.std.proofs.Common.{◌≡◌, ◌⊎◌, ℕ, zero, suc, ◌+◌, ◌/◌, ◌%◌, ◌<◌, ◌≤◌, Bool, true, false, cond, eqb, ltb, List, [], ◌∷◌, ◌++◌, length, set, take}
+use Rattle.std.proofs.Common.{◌≡◌, ◌⊎◌, ℕ, zero, suc, ◌+◌, ◌/◌, ◌%◌, ◌<◌, ◌≤◌, Bool, true, false, cond, eqb, ltb}
+use Rattle.std.proofs.Common.{List, [], ◌∷◌, ◌++◌, length, set, take}
 use Rattle.std.proofs.Common.{get_or, Some, None, refl, sym, ap, ◌∙◌, subst, arith, inl, inr}
 use Rattle.std.specs.Prelude.{slice_get, filter, sum_by}
 use Rattle.std.proofs.lemmas.Bool.{cond-true, cond-false, cases_eq, eq-eqb, ne_eqb, le-ltb}
@@ -170,7 +171,8 @@ spread_more packets blocks n place block e few least counted spread = record {
     | inr apart ↦
         let old : slice_get blocks at ≡ Some other = sym (get_other blocks n at (at_place place block) apart) ∙ there in
         let before : at < n = omega (arith, lt, apart) in
-        let kept = earlier_kept blocks n place block other.often at e (le-ltb other.often block.often (omega (arith, often))) (inr (omega (arith, before))) in
+        let kept = earlier_kept blocks n place block other.often at e (le-ltb other.often block.often (omega (arith, often)))
+        (inr (omega (arith, before))) in
         subst (λ xs. IsFirstIn xs other) (sym kept) (spread.same at other old often before)
   ];
 }

@@ -1,5 +1,6 @@
 -- The promises of the array of pages, table by table.
-use Rattle.std.proofs.Common.{◌≡◌, ◌<◌, ◌≤◌, ◌+◌, ◌++◌, ℕ, suc, List, length, Result, Ok, Err, None, ap, refl, sym, ◌∙◌, map, drop, get_or, arith, append_assoc, append-nil}
+use Rattle.std.proofs.Common.{◌≡◌, ◌<◌, ◌≤◌, ◌+◌, ◌++◌, ℕ, suc, List, length}
+use Rattle.std.proofs.Common.{Result, Ok, Err, None, ap, refl, sym, ◌∙◌, map, drop, get_or, arith, append_assoc, append-nil}
 use Rattle.std.proofs.lemmas.List.{drop_more, drop_all}
 use Rattle.toml.specs.declared.value.Value.{Value}
 use Rattle.toml.specs.View.{view, items_view}
@@ -9,7 +10,8 @@ use Rattle.ttx_source.specs.PromiseViews.{promise_view, promise_list}
 use Rattle.ttx_source.specs.declared.promises.Promise.{Promise}
 use Rattle.ttx_source.proofs.Sequences.{then}
 
-then_all : {A E : Type 0} (before first : List A) (r : Result (List A) E) → then before (r >>= (λ others. Ok (first ++ others))) ≡ then (before ++ first) r
+then_all : {A E : Type 0} (before first : List A) (r : Result (List A) E) →
+    then before (r >>= (λ others. Ok (first ++ others))) ≡ then (before ++ first) r
 then_all before first (Ok others) = ap Ok (sym (append_assoc before first others))
 then_all before first (Err e) = refl
 

@@ -15,7 +15,8 @@ loop-index-preserved c =
     let pages = c.args.service.now.pages in
     let n = c.loop-index.index in
     let was = c.loop-index.invariant in
-    let here : c.loop-index.index < length c.loop-index.places = omega (arith, c.loop-index.invariant.enough, c.pages-pages.ensures.count, c.loop-index-test.true) in
+    let here : c.loop-index.index < length c.loop-index.places =
+    omega (arith, c.loop-index.invariant.enough, c.pages-pages.ensures.count, c.loop-index-test.true) in
     elim c.if-times-often.branch [
       | then-times-often w ↦
           let value = get_there c.pages-pages.result.now c.loop-index.index w.index-pages-index.result w.index-pages-index.result
