@@ -1,17 +1,15 @@
 -- At repeat 1 each text byte of the page comes right, whatever a receiver does with bytes of even parity.
-use Rattle.std.proofs.Common.{◌≡◌, ℕ, suc, ◌<◌, ◌≤◌, ℤ, pos, ◌+ℤ◌, ◌<ℤ◌, ◌≤ℤ◌, Bool, true, false, List, [], ◌∷◌, length, get_or}
+use Rattle.std.proofs.Common.{◌≡◌, ℕ, ◌<◌, ℤ, pos, ◌+ℤ◌, Bool, true, false, List, [], ◌∷◌, length, get_or}
 use Rattle.std.proofs.Common.{refl, sym, ap, ◌∙◌, subst, inl, inr, arith}
 use Rattle.std.proofs.lemmas.Int.{ints}
 use Rattle.ttx_code.specs.Words.{is_odd}
-use Rattle.ttx_packet.specs.Receptions.{MayBeReceivedAs}
-use Rattle.ttx_page.specs.Packets.{packet_of}
 use Rattle.ttx_page.specs.Pages.{Page, needed}
 use Rattle.ttx_page.specs.declared.item.Item.{Item}
 use Rattle.ttx_page.specs.declared.item.Item.TheVariants.{Head as TheHead, Row as TheRow}
-use Rattle.ttx_page.specs.Streams.{Stream, heads_page, repeated, IsTransmission, AreSuccessive}
+use Rattle.ttx_page.specs.Streams.{Stream, repeated, IsTransmission}
 use Rattle.ttx_page.specs.Receptions.{IsTextByte, IsRight, OneIs, Received}
 use Rattle.ttx_page.proofs.SlotDistances.{offset}
-use Rattle.ttx_rows.specs.RowReceptions.{IsWhole, ArrivesWhole, AreAmong, RowsArrive, NoRowIsTorn, ReceivedByRows, HeadsArrive, LateHeadsArrive}
+use Rattle.ttx_rows.specs.RowReceptions.{IsWhole, RowsArrive, NoRowIsTorn, ReceivedByRows, HeadsArrive, LateHeadsArrive}
 use Rattle.ttx_rows.specs.RowReceivers.{Manner, spoils_heads}
 use Rattle.ttx_rows.specs.Laws.{SentRowsAreOdd, AcceptedIsSeenByRows, OnceIsForAll, SeenOnceByAll}
 use Rattle.ttx_rows.proofs.ManySlots.{all_sent, whole_is_right}

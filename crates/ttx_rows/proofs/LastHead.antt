@@ -8,7 +8,7 @@ use Rattle.std.proofs.lemmas.Int.{ints}
 use Rattle.std.proofs.lemmas.List.{get_or-map}
 use Rattle.ttx_code.specs.Words.{Near, is_odd, odd_byte, stored}
 use Rattle.ttx_code.specs.Laws.{OddBytesHoldTheirCodes}
-use Rattle.ttx_packet.specs.Slots.{IsSlot, Kind, IsEmpty, IsUnreadable, IsHeader, IsRow, IsLinks, IsInfo, IsOther, is_empty, kind_of, is_clean}
+use Rattle.ttx_packet.specs.Slots.{Kind, IsEmpty, IsUnreadable, IsHeader, IsRow, IsLinks, IsInfo, IsOther, is_empty, kind_of}
 use Rattle.ttx_packet.specs.Receptions.{IsFree, MayBeReceivedAs}
 use Rattle.ttx_packet.specs.Laws.{RowsAreNumbered}
 use Rattle.ttx_header.specs.Ids.{Id, same_id}

@@ -1,11 +1,11 @@
 -- Row 0 of receivers that show late: it is the page's from a header on whose text arrives, once another page number has followed it, if each
 -- later header's text arrives.
-use Rattle.std.proofs.Common.{◌≡◌, ◌⊎◌, ℕ, zero, suc, ◌<◌, ◌≤◌, ℤ, pos, ◌+ℤ◌, ◌<ℤ◌, ◌≤ℤ◌, ◌==◌, ◌&&◌, not, Bool, true, false, if◌then◌else◌}
+use Rattle.std.proofs.Common.{◌≡◌, ◌⊎◌, ℕ, zero, suc, ◌<◌, ℤ, pos, ◌+ℤ◌, ◌≤ℤ◌, ◌==◌, ◌&&◌, not, Bool, true, false, if◌then◌else◌}
 use Rattle.std.proofs.Common.{List, [], ◌∷◌, Option, Some, None, length, get_or, drop, map}
 use Rattle.std.proofs.Common.{refl, sym, ap, ◌∙◌, subst, inl, inr, arith, eqb-true, eq-eqb}
-use Rattle.std.proofs.lemmas.Bool.{cases_Bool, both_ways, and_parts, and_from, not-true}
+use Rattle.std.proofs.lemmas.Bool.{cases_Bool, both_ways, and_parts, not-true}
 use Rattle.std.proofs.lemmas.Int.{ints}
-use Rattle.ttx_packet.specs.Slots.{Kind, IsEmpty, IsUnreadable, IsHeader, IsRow, IsLinks, IsInfo, IsOther, is_empty, kind_of}
+use Rattle.ttx_packet.specs.Slots.{Kind, IsEmpty, IsUnreadable, IsHeader, IsRow, IsLinks, IsInfo, IsOther, kind_of}
 use Rattle.ttx_packet.specs.Laws.{RowsAreNumbered}
 use Rattle.ttx_code.specs.Laws.{OddBytesHoldTheirCodes}
 use Rattle.ttx_header.specs.Ids.{Id}
@@ -21,17 +21,15 @@ use Rattle.ttx_page.specs.declared.class.Class.{Class}
 use Rattle.ttx_page.specs.declared.class.Class.TheVariants.{Any, Clearing}
 use Rattle.ttx_page.specs.Memories.{Memory, memory_row, IsFormer}
 use Rattle.ttx_page.specs.Receivers.{after, older, erased, erases, begun, with_storing, with_row, with_links, misses, stored_row}
-use Rattle.ttx_page.specs.Streams.{Stream, heads, heads_page, IsLatestHeader}
+use Rattle.ttx_page.specs.Streams.{Stream, heads, heads_page}
 use Rattle.ttx_page.specs.Followers.{heads_another}
 use Rattle.ttx_page.specs.Receptions.{IsTextByte}
-use Rattle.ttx_late.specs.LateReceivers.{LateMemory, heads_number, selected_number, may_forget, TakesIn, MayShow, must_show}
+use Rattle.ttx_late.specs.LateReceivers.{LateMemory, heads_number, selected_number, may_forget, TakesIn}
 use Rattle.ttx_late.specs.Laws.{IsFollowedFrom}
-use Rattle.ttx_rows.specs.RowReceptions.{may_be_lost}
-use Rattle.ttx_rows.specs.RowReceivers.{Manner, may_refuse, blank_byte, blanked, AreTakenAs, IsTakenAs, RowStep, RowLateStep, RowLateRun}
-use Rattle.ttx_rows.proofs.OneSlot.{LawsBelow, packet_is, packet_at, IsHeaderKind, header_of}
+use Rattle.ttx_rows.specs.RowReceivers.{Manner, may_refuse, blank_byte, blanked, IsTakenAs, RowStep, RowLateStep, RowLateRun}
+use Rattle.ttx_rows.proofs.OneSlot.{LawsBelow, packet_is, IsHeaderKind, header_of}
 use Rattle.ttx_rows.proofs.ManySlots.{mag_is}
 use Rattle.ttx_rows.proofs.Owners.{Owner}
-use Rattle.ttx_rows.proofs.Mended.{Arrived}
 use Rattle.ttx_rows.proofs.LastHead.{HasHead, Wide, wide_step, AreRightFrom, OfPage, AllOfPage, HeaderReceived, header_was_sent, mag_header_received}
 use Rattle.ttx_rows.proofs.LastHead.{page_header_received, page_of_mag, page_id_matches}
 use Rattle.ttx_rows.proofs.LastHead.{IsElsewhere, later, right_later, right_next, elsewhere, other_step, head_step}

@@ -15,11 +15,9 @@ use Rattle.ttx_page.specs.declared.item.Item.TheVariants.{Head as TheHead, Row a
 use Rattle.ttx_page.specs.declared.selection.Selection.{Selection}
 use Rattle.ttx_page.specs.declared.class.Class.{Class}
 use Rattle.ttx_page.specs.declared.class.Class.TheVariants.{Any, Clearing}
-use Rattle.ttx_page.specs.Memories.{Memory, memory_row, char_at, Holds, Shows, memory_of_page}
-use Rattle.ttx_page.specs.Receivers.{after, older, erased, erases, begun, misses, with_row, with_storing, with_links, stored_row}
+use Rattle.ttx_page.specs.Memories.{Memory, memory_row, char_at, Holds, Shows}
+use Rattle.ttx_page.specs.Receivers.{after, erased, erases, begun, misses, with_links, stored_row}
 use Rattle.ttx_render.specs.Laws.{ShowingIsSeeing}
-use Rattle.ttx_render.specs.View.{view_of}
-use Rattle.ttx_render.specs.Comparison.{SameButClock}
 use Rattle.ttx_certify.specs.Seen.{HasView}
 use Rattle.ttx_rows.proofs.OtherBytes.{even_zero}
 use Rattle.ttx_rows.proofs.Alike.{Alike}

@@ -50,7 +50,7 @@ use Rattle.ttx_rows.proofs.SameHeads.{same_view}
 use Rattle.ttx_rows.proofs.LastHead.{HasHead, Wide, AreRightFrom, AllOfPage, last_head, Last, last_of, whole_view}
 use Rattle.ttx_rows.proofs.LateHead.{former_is_wide, late_head}
 use Rattle.ttx_rows.proofs.Storing.{unstored}
-use Rattle.ttx_rows.proofs.StoredRuns.{AllPlaced, AreReread, Like, LateLike, like_self, stored_run, stored_late, free_rows, needed_row}
+use Rattle.ttx_rows.proofs.StoredRuns.{AllPlaced, AreReread, like_self, stored_run, stored_late, free_rows, needed_row}
 use Rattle.ttx_rows.proofs.StoredRuns.{sends_stream, Differs, may_differ, differs_row, differs_free, new_good, came_rule, came_heads}
 use Rattle.ttx_rows.proofs.Mended.{AllArrived, mended_run, mended_late, mended_rule, mended_text}
 

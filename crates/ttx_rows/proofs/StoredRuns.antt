@@ -1,14 +1,13 @@
 -- Runs of a receiver that stores characters as they come: the stream that sends, in the rows that are nothing to the page, what was stored.
 use Rattle.std.proofs.Common.{◌≡◌, ◌⊎◌, ℕ, zero, suc, ◌<◌, ◌≤◌, ℤ, pos, negsuc, ◌+ℤ◌, ◌-ℤ◌, ◌<ℤ◌, ◌≤ℤ◌, ◌==◌, ◌&&◌, not, Bool, true, false}
 use Rattle.std.proofs.Common.{List, [], ◌∷◌, length, get_or, refl, sym, ap, ◌∙◌, subst, inl, inr, arith, eqb-true, eq-eqb}
-use Rattle.std.specs.List.{AllByRecursion}
 use Rattle.std.proofs.lemmas.Bool.{cases_lt, both_ways, and_parts, and_from, not-true}
 use Rattle.std.proofs.lemmas.Int.{ints}
 use Rattle.ttx_packet.specs.Slots.{IsSlot, IsRow, kind_of, is_clean}
 use Rattle.ttx_packet.specs.Receptions.{MayBeReceivedAs}
 use Rattle.ttx_packet.specs.Laws.{RowsAreNumbered}
 use Rattle.ttx_header.specs.Ids.{Id}
-use Rattle.ttx_page.specs.Packets.{Packet, Empty, Unreadable, Header, Row, Links, Info, Other, packet_of}
+use Rattle.ttx_page.specs.Packets.{Packet, Row, packet_of}
 use Rattle.ttx_page.specs.Pages.{Page, needed}
 use Rattle.ttx_page.specs.declared.selection.Selection.{Selection}
 use Rattle.ttx_page.specs.declared.item.Item.{Item}
@@ -17,15 +16,13 @@ use Rattle.ttx_page.specs.declared.class.Class.{Class}
 use Rattle.ttx_page.specs.Memories.{Memory, memory_row}
 use Rattle.ttx_page.specs.Streams.{Stream, heads_page, carries, IsOwned, IsTransmission, AreSuccessive}
 use Rattle.ttx_page.specs.Steady.{IsChecked}
-use Rattle.ttx_page.specs.Receptions.{IsTextByte, OneIs}
-use Rattle.ttx_receiver.specs.Reading.{IsIgnored}
-use Rattle.ttx_late.specs.LateReceivers.{LateMemory, heads_number, TakesIn, MayShow}
+use Rattle.ttx_late.specs.LateReceivers.{LateMemory, heads_number, TakesIn}
 use Rattle.ttx_rows.specs.RowReceptions.{IsWhole, MayArriveAs, ArrivesWhole, ArrivesRight, AreAmong, RowsArrive, ReceivedByRows}
 use Rattle.ttx_rows.specs.RowReceivers.{Manner, may_refuse, RowStep, RowRun, RowLateStep, RowLateRun}
 use Rattle.ttx_rows.proofs.OneSlot.{LawsBelow, packet_at}
 use Rattle.ttx_rows.proofs.OtherStream.{IsRetexted, HaveSameTests, tests_back, moved_successive}
 use Rattle.ttx_rows.proofs.ManySlots.{EachHeadArrives, all_sent, one_map}
-use Rattle.ttx_rows.proofs.Owners.{Owner, is_under_since, since_found, since_known}
+use Rattle.ttx_rows.proofs.Owners.{is_under_since, since_found, since_known}
 use Rattle.ttx_rows.proofs.Alike.{Alike, alike_self}
 use Rattle.ttx_rows.proofs.SameHeads.{SameHead, same_text}
 use Rattle.ttx_rows.proofs.Storing.{unstored, IsTorn, IsReread, Placed, stored_as, whole_is_taken}

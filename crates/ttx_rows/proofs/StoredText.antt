@@ -1,19 +1,19 @@
 -- Texts that are taken as they come: what is sent instead of a row, so that a permitted receiver stores the same of it.
-use Rattle.std.proofs.Common.{◌≡◌, ◌⊎◌, ℕ, zero, suc, ◌+◌, ◌%◌, ◌<◌, ◌≤◌, ◌&&◌, ◌||◌, ◌==◌, leb, not, Bool, true, false, if◌then◌else◌}
+use Rattle.std.proofs.Common.{◌≡◌, ℕ, zero, suc, ◌+◌, ◌%◌, ◌<◌, ◌≤◌, ◌&&◌, ◌||◌, ◌==◌, leb, not, Bool, true, false}
 use Rattle.std.proofs.Common.{List, [], ◌∷◌, length, get_or, drop, refl, sym, ap, ◌∙◌, subst, inl, inr, arith}
 use Rattle.std.proofs.Common.{leb-true, eqb-true, get_or-drop, length-drop}
 use Rattle.std.specs.List.{list_all}
-use Rattle.std.proofs.lemmas.Bool.{agree_below, agree_below_at, both_ways, and_parts, cases_lt}
+use Rattle.std.proofs.lemmas.Bool.{agree_below, agree_below_at, both_ways, and_parts}
 use Rattle.ttx_code.specs.Words.{Near, ones, distance, is_odd, odd_byte}
-use Rattle.ttx_packet.specs.Slots.{IsSlot, IsRow, is_empty, kind_of, is_clean}
-use Rattle.ttx_packet.specs.Receptions.{IsFree, MayBeReceivedAs}
+use Rattle.ttx_packet.specs.Slots.{IsSlot, IsRow, kind_of, is_clean}
+use Rattle.ttx_packet.specs.Receptions.{MayBeReceivedAs}
 use Rattle.ttx_packet.specs.Laws.{RowsAreNumbered}
 use Rattle.ttx_page.specs.Packets.{Row, packet_of}
 use Rattle.ttx_page.specs.Pages.{Page}
 use Rattle.ttx_rows.specs.RowReceivers.{MayBeTakenAs, AreTakenAs}
 use Rattle.ttx_rows.proofs.OneSlot.{LawsBelow, packet_at}
 use Rattle.ttx_rows.proofs.OtherStream.{with_text, length-with_text, text_before, text_after}
-use Rattle.ttx_rows.proofs.OtherStream.{texted, texted_slot, texted_kind, row, IsCleanRow, IsRetexted}
+use Rattle.ttx_rows.proofs.OtherStream.{texted, texted_slot, texted_kind, row, IsCleanRow}
 
 -- ---- bytes
 

@@ -1,35 +1,34 @@
 -- A receiver that stores characters as they come does, row 0 aside, as one that doesn't, in a stream with another text in the rows that are
 -- nothing to the page.
-use Rattle.std.proofs.Common.{◌≡◌, ◌⊎◌, ℕ, zero, suc, ◌+◌, ◌-◌, ◌<◌, ◌≤◌, ℤ, pos, ◌+ℤ◌, ◌<ℤ◌, ◌≤ℤ◌, ◌==◌, ◌&&◌, not, Bool, true, false}
-use Rattle.std.proofs.Common.{List, [], ◌∷◌, length, get_or, drop, refl, sym, ap, ◌∙◌, subst, inl, inr, arith, get_or-drop, length-drop}
+use Rattle.std.proofs.Common.{◌≡◌, ◌⊎◌, ℕ, ◌+◌, ◌<◌, ◌≤◌, not, Bool, true, false}
+use Rattle.std.proofs.Common.{List, length, get_or, drop, refl, sym, ap, ◌∙◌, subst, inl, inr, arith, get_or-drop, length-drop}
 use Rattle.std.specs.List.{list_all}
 use Rattle.std.proofs.lemmas.Bool.{cases_Bool, cases_lt, both_ways, not-true, not_from_false}
-use Rattle.std.proofs.lemmas.Int.{ints}
 use Rattle.ttx_code.specs.Words.{Near, is_odd}
 use Rattle.ttx_packet.specs.Slots.{IsSlot, Kind, IsEmpty, IsUnreadable, IsHeader, IsRow, IsLinks, IsInfo, IsOther, is_empty, kind_of, is_clean}
 use Rattle.ttx_packet.specs.Receptions.{IsFree, MayBeReceivedAs}
 use Rattle.ttx_packet.specs.Laws.{RowsAreNumbered}
 use Rattle.ttx_header.specs.Ids.{Id}
 use Rattle.ttx_header.specs.Headers.{id_of, control_of}
-use Rattle.ttx_page.specs.Packets.{Packet, Empty, Unreadable, Header, Row, Links, Info, Other, packet_of, packet_of_kind}
+use Rattle.ttx_page.specs.Packets.{Packet, Header, Row, packet_of, packet_of_kind}
 use Rattle.ttx_page.specs.Pages.{Page, matches}
 use Rattle.ttx_page.specs.declared.item.Item.TheVariants.{Head as TheHead}
 use Rattle.ttx_page.specs.declared.selection.Selection.{Selection}
 use Rattle.ttx_page.specs.declared.class.Class.{Class}
-use Rattle.ttx_page.specs.Memories.{Memory, memory_row}
+use Rattle.ttx_page.specs.Memories.{Memory}
 use Rattle.ttx_page.specs.Receivers.{after, older}
-use Rattle.ttx_page.specs.Streams.{Stream, heads_matched}
+use Rattle.ttx_page.specs.Streams.{heads_matched}
 use Rattle.ttx_page.specs.Receptions.{IsTextByte}
 use Rattle.ttx_receiver.specs.Reading.{IsIgnored}
-use Rattle.ttx_late.specs.LateReceivers.{LateMemory, heads_number, TakesIn}
+use Rattle.ttx_late.specs.LateReceivers.{heads_number}
 use Rattle.ttx_rows.specs.RowReceptions.{MayArriveAs, IsWhole}
-use Rattle.ttx_rows.specs.RowReceivers.{Manner, may_refuse, blanked, AreTakenAs, IsTakenAs, RowStep, RowRun, RowLateStep, RowLateRun}
+use Rattle.ttx_rows.specs.RowReceivers.{Manner, may_refuse, blanked, AreTakenAs, IsTakenAs, RowStep}
 use Rattle.ttx_rows.proofs.OtherBytes.{all_odd}
 use Rattle.ttx_rows.proofs.OneSlot.{LawsBelow, packet_is, packet_at, IsRowKind, IsHeaderKind, row_of, refused_kind}
 use Rattle.ttx_rows.proofs.OtherStream.{IsRetexted}
-use Rattle.ttx_rows.proofs.StoredText.{taken_same, taken_odd, taken_at, TakenRow, taken_row}
-use Rattle.ttx_rows.proofs.Alike.{Alike, alike_self, SameButText, same, headers, older_alike, after_alike}
-use Rattle.ttx_rows.proofs.SameHeads.{SameHead, same_text, LeaveTheSame, header_head, after_head}
+use Rattle.ttx_rows.proofs.StoredText.{taken_same, taken_odd, taken_at, taken_row}
+use Rattle.ttx_rows.proofs.Alike.{Alike, same, headers, older_alike, after_alike}
+use Rattle.ttx_rows.proofs.SameHeads.{SameHead, LeaveTheSame, header_head, after_head}
 
 -- the manner of a receiver that stores no character of even parity
 abbrev pub unstored : Manner → Manner
