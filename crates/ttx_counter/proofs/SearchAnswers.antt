@@ -247,7 +247,7 @@ module _ (cycle : List (List ℕ)) (pages : List Page) (w : Certificate) where
     both_told None e t None u = record { sent = t; plain = u }
     both_told None e t (Some c) u = u
 
-    -- where all is sent unchanged a counter-run is found exactly where no certificate of these numbers is accepted
+    -- where all is sent unchanged a counter-run is found exactly where no certificate of class any with these numbers is accepted
     pub exact_told : FullestNamesAll → FurtherStartsCover → RefutedIsNotAccepted → IsCycle cycle → ArePages pages → IsCertificate w →
         w.class ≡ Any → (o : Option C) → TellsCounter run cycle pages w o →
         IsSentUnchanged cycle pages → (is_some o ≡ true) ↔ (CanBeAccepted cycle pages Any w.lines w.repeat w.deadline → ⊥)

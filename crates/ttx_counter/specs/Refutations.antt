@@ -97,7 +97,8 @@ abbrev pub TellsAllPlainly : {C : Type 0} → (C → CounterRun) → List (List 
 TellsAllPlainly run cycle pages w None = (n : ℕ) (any_sub : Bool) → IsPlainlyRight cycle pages n any_sub w.lines (limit w)
 TellsAllPlainly run cycle pages w (Some c) = IsCounterTo cycle pages w (run c)
 
--- no page without a header; of a clean cycle no steady page that no certificate of these numbers covers; no plain run that ends wrong
+-- no page without a header; of a clean cycle no steady page that no certificate of class any with these numbers covers; no plain run that
+-- ends wrong
 pub record IsUnrefuted (cycle : List (List ℕ)) (pages : List Page) (w : Certificate) : Type 0 where
   pub sent : (n : ℕ) (p : Page) → slice_get pages n ≡ Some p → IsSentWell cycle pages p w
   pub plain : (n : ℕ) (any_sub : Bool) → IsPlainlyRight cycle pages n any_sub w.lines (limit w)

@@ -141,7 +141,8 @@ fn starve_page(
     Ok(None)
 }
 
-// A counter-run of a page without a header, or of a steady page of a clean cycle that no certificate of these numbers covers.
+// A counter-run of a page without a header, or of a steady page of a clean cycle that no certificate of class any with these
+// numbers covers.
 fn refute_page(
     alloc: Global,
     claim: &Claim<'_>,
