@@ -33,8 +33,6 @@ mod places;
 #[cfg(test)]
 mod planned;
 #[cfg(test)]
-mod receivers;
-#[cfg(test)]
 mod seen;
 #[cfg(test)]
 mod service_packets;

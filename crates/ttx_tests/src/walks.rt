@@ -32,7 +32,11 @@ enum Edit {
     Nothing,
     Byte(usize, usize, u8),
     All(usize, u8),
+    Header(usize, [u8; 10]),
 }
+
+// The header of page 100, subcode 0001.
+static OTHER_SUBPAGE: [u8; 10] = [0x02, 0x15, 0x15, 0x15, 0x02, 0x15, 0x15, 0x15, 0x15, 0x02];
 
 // The slots are those of the worked cycle, the time-filling header again, and the cycle once more: which of them the first reading
 // has, from one on to before another, and which the second; what is done to a slot of the second; the deadline; and the answer.
@@ -63,7 +67,7 @@ static READINGS: [(usize, usize, usize, Edit, u32, Answer); 21] = [
     (0, 28, 28, Edit::All(1, 0xff), 27, Answer::BadSlot1),
     (0, 28, 28, Edit::Byte(26, 2, 0x14), 27, Answer::BadSlot26),
     (0, 28, 28, Edit::All(0, 0x00), 27, Answer::NoHeader),
-    (0, 28, 28, Edit::Byte(27, 4, 0x02), 27, Answer::Unsteady),
+    (0, 28, 28, Edit::Header(27, OTHER_SUBPAGE), 27, Answer::Unsteady),
 ];
 
 // The slots, of which one may be another.
@@ -84,6 +88,11 @@ fn slots(alloc: Global, edit: &Edit) -> Result<Vec<[u8; 42]>, AllocError> {
         Edit::All(place, byte) => {
             if let Some(slot) = slots.get_mut(*place) {
                 *slot = [*byte; 42];
+            }
+        }
+        Edit::Header(place, first) => {
+            if let Some(slot) = slots.get_mut(*place) {
+                *slot = beginning(first);
             }
         }
     }

@@ -9,18 +9,19 @@ use ttx_page::{PageMemory, Selection};
 use ttx_receiver::{Careful, Cleared, Eager, Receiver, Scripted, Watched};
 use ttx_render::{View, cell_word, render};
 
-fn page_100() -> Option<Selection> {
+fn page_100() -> Selection {
     match PageId::new(1, 0, 0) {
-        Some(id) => Some(Selection::Exact(id)),
-        None => None,
+        Some(id) => Selection::Exact(id),
+        None => Selection::AnySub(1, 0),
     }
 }
 
 // A memory of spaces, but for an X at the begin of row 1.
-pub(crate) fn holding_an_x(fresh: bool) -> Option<PageMemory> {
+fn holding_an_x(fresh: bool) -> PageMemory {
     let mut rows = [[0x20; 40]; 25];
     rows[1][0] = 0x58;
-    PageMemory::new(rows, Control(0), [None; 6], false, false, 64, fresh)
+    let memory = PageMemory::new(rows, Control(0), [None; 6], false, false, 64, fresh);
+    memory.unwrap_or(PageMemory::blank())
 }
 
 // A row that begins with this byte, and then spaces.
@@ -54,10 +55,7 @@ const HIDDEN: [u32; 3] = [0x00e00020, 0x80e00020, 0x80e00020];
 // 0D is sent as itself, an A as C1: row 5 becomes double height above the A of row 6, then row 4 above both.
 #[test]
 fn a_row_of_double_height_changes_the_next_one(rt: HostRuntime) {
-    let Some(page) = page_100() else {
-        panic!(rt; "there is no page");
-    };
-    let mut watched = Watched::new(Eager::new(page, 2, PageMemory::blank()));
+    let mut watched = Watched::new(Eager::new(page_100(), 2, PageMemory::blank()));
     watched.step(Some(&beginning(&HEADER)));
     watched.step(Some(&row_of(6, 0xc1)));
     assert!(rt; words(watched.view(), 6) == AN_A);
@@ -170,23 +168,20 @@ fn follows<R: Receiver + Drop>(receiver: R, every: u32) -> bool
 
 #[test]
 fn views_follow_1000_slots(rt: HostRuntime) {
-    let (Some(page), Some(fresh), Some(old)) = (page_100(), holding_an_x(true), holding_an_x(false))
-    else {
-        panic!(rt; "there is no page or memory");
-    };
-    assert!(rt; follows(Eager::new(page, 2, fresh), 1));
-    assert!(rt; follows(Careful::new(page, 2, old), 1));
-    assert!(rt; follows(Cleared::new(page, 2, fresh), 1));
-    let scripted = Scripted::new(page, 2, fresh, &[true, false, true]);
+    let eager = Eager::new(page_100(), 2, holding_an_x(true));
+    assert!(rt; follows(eager, 1));
+    let careful = Careful::new(page_100(), 2, holding_an_x(false));
+    assert!(rt; follows(careful, 1));
+    let cleared = Cleared::new(page_100(), 2, holding_an_x(true));
+    assert!(rt; follows(cleared, 1));
+    let scripted = Scripted::new(page_100(), 2, holding_an_x(true), &[true, false, true]);
     assert!(rt; follows(scripted, 1));
 }
 
 #[test]
 fn views_follow_slots_that_are_not_looked_at(rt: HostRuntime) {
-    let any = Selection::AnySub(1, 0);
-    let (Some(fresh), Some(old)) = (holding_an_x(true), holding_an_x(false)) else {
-        panic!(rt; "there is no memory");
-    };
-    assert!(rt; follows(Eager::new(any, 2, fresh), 3));
-    assert!(rt; follows(Careful::new(any, 2, old), 3));
+    let eager = Eager::new(Selection::AnySub(1, 0), 2, holding_an_x(true));
+    assert!(rt; follows(eager, 3));
+    let careful = Careful::new(Selection::AnySub(1, 0), 2, holding_an_x(false));
+    assert!(rt; follows(careful, 3));
 }
