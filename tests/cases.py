@@ -6,7 +6,7 @@ usage: cases.py PROGRAM [NAME..]
 tests/cases/COMMAND.toml has one table a case. With names, as certify or certify/bad-slot, only those run. The keys of a case:
 
     run           the words after the program's name, as a shell takes them apart; \\xHH in a word is a byte
-    data          files of tests/data that lie in the folder that the program runs in; without this key, those that `run` names
+    data          files of tests/data that lie in the folder `in` that the program runs in; without this key, those that `run` names
     padded        NAME = [FROM, SIZE]: the file NAME holds FROM of tests/data, and then # up to SIZE bytes
     repeated      NAME = [FROM, SIZE]: the same, with FROM again and again
     stdin         the file of tests/data that is standard input; without this key there is nothing to read
@@ -97,7 +97,9 @@ def run(program, case, words, folder):
 def differences(program, case):
     """What is wrong after one run of a case, a text each."""
     words = words_of(case)
-    with tempfile.TemporaryDirectory() as folder:
+    with tempfile.TemporaryDirectory() as place:
+        folder = os.path.join(place, "in")
+        os.mkdir(folder)
         lay_out(case, folder)
         status, results = run(program, case, words, folder)
         if status != case.get("status", 0):

@@ -76,7 +76,7 @@ done
 head -c 42 /dev/zero > news.t42
 name="recipe 6"
 count=$((count + 1))
-sh "$work/blocks/6" 2> /dev/null | grep -qx "a page isn't seen: the reason stands above" || fail "a No isn't told"
+sh "$work/blocks/6" 2> /dev/null | grep -qx "not accepted: the reason stands above; ttx refute tells whether a viewer fails" || fail "a no isn't reported"
 rm news.t42
 sh "$work/blocks/6" 2> /dev/null | grep -qx "nothing was judged" || fail "a fault isn't told"
 
