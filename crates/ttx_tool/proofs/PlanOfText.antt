@@ -25,10 +25,10 @@ pub plan_of : (bytes : List ℕ) (late : Bool) (class : Class) (service : Servic
     ((result ≡ Err plan.TooLong) ↔ (65536 < length_bound service.lines (blocks_sent late class service.pages))) →
     IsPlan bytes late class (slots_of cycle)
 plan_of bytes late class service cycle result is text carries planned told = record {
-  service = service
-  ; text = text
-  ; few = within (length_bound service.lines (blocks_sent late class service.pages)) result cycle is told
-  ; carries = carries
-  ; planned = planned
-  ; is_cycle = slots_of-IsCycle cycle
+  service = service;
+  text = text;
+  few = within (length_bound service.lines (blocks_sent late class service.pages)) result cycle is told;
+  carries = carries;
+  planned = planned;
+  is_cycle = slots_of-IsCycle cycle;
 }
