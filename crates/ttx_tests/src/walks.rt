@@ -19,6 +19,7 @@ enum Answer {
     BadSlot4,
     BadSlot26,
     NoHeader,
+    OtherSubpage,
     Erased,
     LateRow22,
     LateRow23,
@@ -67,7 +68,7 @@ static READINGS: [(usize, usize, usize, Edit, u32, Answer); 21] = [
     (0, 28, 28, Edit::All(1, 0xff), 27, Answer::BadSlot1),
     (0, 28, 28, Edit::Byte(26, 2, 0x14), 27, Answer::BadSlot26),
     (0, 28, 28, Edit::All(0, 0x00), 27, Answer::NoHeader),
-    (0, 28, 28, Edit::Header(27, OTHER_SUBPAGE), 27, Answer::Unsteady),
+    (0, 28, 28, Edit::Header(27, OTHER_SUBPAGE), 27, Answer::OtherSubpage),
 ];
 
 // The slots, of which one may be another.
@@ -138,6 +139,7 @@ fn line_of(answer: &Answer) -> &'static [u8] {
         Answer::BadSlot4 => b"no 1 bad-slot 4\n",
         Answer::BadSlot26 => b"no 1 bad-slot 26\n",
         Answer::NoHeader => b"no 2 no-header 100/0000\n",
+        Answer::OtherSubpage => b"no 3 other-subpage 100/0000 27\n",
         Answer::Erased => b"no 4 erased 100/0000 0\n",
         Answer::LateRow22 => b"no 10 late 100/0000 row 22 24\n",
         Answer::LateRow23 => b"no 10 late 100/0000 row 23 25\n",
