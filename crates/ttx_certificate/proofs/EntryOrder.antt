@@ -62,7 +62,7 @@ place_at [] i d e lt = absurd (omega arith)
 place_at (x ∷ es) zero d e lt = refl
 place_at (x ∷ es) (suc i) d e lt = place_at es i d e (omega arith)
 
--- entry_places of entries rise
+-- the places of entries rise
 entries_rise : (es : List Entry) → rises_above None (entry_places (entries_of es)) ≡ true → (i j : ℕ) (d : Entry) → i < j →
     j < length es → place_in (get_or es i d) < place_in (get_or es j d)
 entries_rise es up i j d lt in_range =

@@ -1,4 +1,4 @@
--- All waiting together costs at most a field for each block, so the slots stay within what the length_bound counts.
+-- All waiting together costs at most one field for each block, so the slots stay within the length bound.
 use Rattle.std.proofs.Common.{◌≡◌, ◌≢◌, ℕ, suc, ◌+◌, ◌-◌, ◌*◌, ◌/◌, ◌%◌, ◌<◌, ◌≤◌, Bool, true, false, not, cond, List, [], ◌∷◌, length, take, drop}
 use Rattle.std.proofs.Common.{Option, Some, None, refl, sym, ap, ◌∙◌, subst, arith, inl, inr, eqb, length-append}
 use Rattle.std.specs.List.{list_any, find}
@@ -17,7 +17,7 @@ use Rattle.ttx_plan.proofs.FirstInOrder.{found_ready, none_ready}
 use Rattle.ttx_plan.proofs.MagazineSums.{sum_le, sum_less, sum_some, drop_next, get_left, get_within}
 use Rattle.ttx_plan.proofs.CursorsLookBack.{IsFrom, turn_from_queues}
 
--- a header that has_header a block of any magazine
+-- a page header of any magazine
 abbrev pub has_any_header : Slot → Bool
 has_any_header Empty = false
 has_any_header (Info bytes) = false
@@ -151,7 +151,7 @@ work_less mags before queue packet h =
     (ap (slots_for mags.lines) (rest_sent mags before queue packet h.1))
     (λ m ne. ap (slots_for mags.lines) (rest_other mags before queue m packet ne))
 
--- the slots so far that aren't 8/30, the waiting still owed and the slots_for left
+-- the slots so far that are not packets 8/30, the waiting still owed, and the slots for what is left
 abbrev pub total : Magazines → List Slot → ℕ
 total mags before = others before + until has_any_header mags.lines before + work_of mags before
 

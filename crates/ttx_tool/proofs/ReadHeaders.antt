@@ -28,7 +28,7 @@ header_packet slot mag number =
     (λ _. cond_both (number == 27) _ _ P (λ _ h. absurd (not_links mag (reading (slice_index slot 2)) h))
     (λ _. cond_both ((number == 30) && (mag == 8)) IsInfo (IsOther mag number) P (λ _ h. absurd h) (λ _ h. absurd h))))
 
--- and_from bytes of the address are readable too
+-- and the bytes of the address are readable too
 header_address : (slot : List ℕ) (low high : Option ℕ) → IsHeaderKind (addressed_kind slot low high) →
     (is_some low ≡ true) × (is_some high ≡ true) × ((packet_number (unwrap_or low 0) (unwrap_or high 0) == 0) ≡ true)
     × (are_readable (slice_range slot 2 10) ≡ true)
