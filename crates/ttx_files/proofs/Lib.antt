@@ -1,0 +1,4 @@
+pub mod KnownFiles
+mod RefusedInputs
+pub mod ToldFiles
+pub mod Failures

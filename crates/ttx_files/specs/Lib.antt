@@ -1,0 +1,6 @@
+pub mod Devices
+pub mod Texts
+pub mod Inputs
+pub mod Answers
+pub mod Telling
+pub mod Known

@@ -1,0 +1,15 @@
+//! The files of a command: reading packet files, service definitions and certificates, and writing what is answered.
+#![tactic(auto)]
+
+mod faults;
+mod readers;
+mod told;
+mod writers;
+
+pub use faults::{FilesFault, TextFile};
+pub use readers::{
+    Inputs, Served, Texts, read_definition, read_inputs, read_packets, read_served, read_texts,
+    read_witness,
+};
+pub use told::{Told, write_told};
+pub use writers::{write_both, write_line};

@@ -1,0 +1,186 @@
+//! Readers of packet files, service definitions and certificates, alone and together.
+
+ghost use Rattle.std.specs.Prelude.{◌≡◌, true, IfSome, IfOk, IfErr, ◌∷◌, []};
+ghost use Rattle.ttx_cycle.specs.Counters.{inner_of, faults_of};
+ghost use Rattle.ttx_cycle.specs.Cycles.{slots_of};
+ghost use Rattle.ttx_certificate.specs.Certificates.{fields_of};
+ghost use Rattle.ttx_files.specs.Devices.{AtCycle, AtService, AtCertificate, input, failed_at, IsRight, IsFirstFailure};
+ghost use Rattle.ttx_files.specs.Texts.{viewed_by, of_text, is_of_text, ReadsPackets, ReadsService, ReadsWitness};
+ghost use Rattle.ttx_files.specs.Inputs.{ReadsTexts, ReadsServed, ReadsInputs};
+
+use crate::faults::{FilesFault, TextFile};
+use std::alloc::Global;
+use std::io::Read;
+use ttx_certificate::{Certificate, read_certificate};
+use ttx_cycle::{Counted, Cycle, MOST_BYTES, TextFault, read_cycle, read_text};
+use ttx_source::{Service, read_service};
+
+/// A service definition and a certificate.
+#[derive(Drop)]
+pub struct Texts {
+    pub service: Service,
+    pub certificate: Certificate,
+}
+
+/// A packet file, and the service that it carries.
+#[derive(Drop)]
+pub struct Served {
+    pub cycle: Cycle,
+    pub service: Service,
+}
+
+/// A packet file, the service that it carries, and the certificate of both.
+#[derive(Drop)]
+pub struct Inputs {
+    pub cycle: Cycle,
+    pub service: Service,
+    pub certificate: Certificate,
+}
+
+/// Reads a packet file. Its faults are those of `read_cycle`, as `Cycle`.
+pub fn read_packets<R: Read>(alloc: Global, reader: &mut Counted<R>) -> Result<Cycle, FilesFault>
+    ensures bytes { IfSome (R.remaining (inner_of reader.old)) (λ bytes. ReadsPackets bytes (viewed_by slots_of result)) }
+    ensures faults { IsFirstFailure (input AtCycle (R.remaining (inner_of reader.old)) (faults_of reader.old) (faults_of reader.new) ∷ [])
+        (failed_at result) }
+{
+    match read_cycle(alloc, reader) {
+        Ok(cycle) => Ok(cycle),
+        Err(fault) => Err(FilesFault::Cycle(fault)),
+    }
+}
+
+// Why a text is not read, as a fault of this text.
+fn text_fault(which: TextFile, fault: TextFault) -> FilesFault
+    ensures same { result ≡ of_text which fault }
+    ensures own { is_of_text result ≡ true }
+{
+    match fault {
+        TextFault::Read => FilesFault::Read { which },
+        TextFault::TooLong => FilesFault::TooLong { which },
+        TextFault::NoMemory => FilesFault::NoMemory,
+    }
+}
+
+/// Reads the text of a service definition, of at most 4,194,304 bytes. Its faults are `Service`, `Read`, `TooLong` and `NoMemory`.
+pub fn read_definition<R: Read>(
+    alloc: Global,
+    reader: &mut Counted<R>,
+) -> Result<Service, FilesFault>
+    ensures bytes { IfSome (R.remaining (inner_of reader.old)) (λ bytes. ReadsService bytes result) }
+    ensures own { IfErr result (λ fault. is_of_text fault ≡ true) }
+    ensures faults { IsFirstFailure (input AtService (R.remaining (inner_of reader.old)) (faults_of reader.old) (faults_of reader.new) ∷ [])
+        (failed_at result) }
+{
+    let text = match read_text(alloc, reader, MOST_BYTES) {
+        Ok(text) => text,
+        Err(fault) => return Err(text_fault(TextFile::Service, fault)),
+    };
+    match read_service(alloc, text.as_slice()) {
+        Ok(service) => Ok(service),
+        Err(error) => Err(FilesFault::Service(error)),
+    }
+}
+
+/// Reads the text of a certificate, of at most 4,194,304 bytes. Its faults are `Certificate`, `Read`, `TooLong` and `NoMemory`.
+pub fn read_witness<R: Read>(
+    alloc: Global,
+    reader: &mut Counted<R>,
+) -> Result<Certificate, FilesFault>
+    ensures bytes { IfSome (R.remaining (inner_of reader.old)) (λ bytes. ReadsWitness bytes (viewed_by fields_of result)) }
+    ensures faults { IsFirstFailure (input AtCertificate (R.remaining (inner_of reader.old)) (faults_of reader.old) (faults_of reader.new) ∷ [])
+        (failed_at result) }
+{
+    let text = match read_text(alloc, reader, MOST_BYTES) {
+        Ok(text) => text,
+        Err(fault) => return Err(text_fault(TextFile::Certificate, fault)),
+    };
+    match read_certificate(alloc, text.as_slice()) {
+        Ok(certificate) => Ok(certificate),
+        Err(fault) => Err(FilesFault::Certificate(fault)),
+    }
+}
+
+/// Reads a service definition and then a certificate. The second is not read where the first is refused.
+pub fn read_texts<A: Read, B: Read>(
+    alloc: Global,
+    service: &mut Counted<A>,
+    certificate: &mut Counted<B>,
+) -> Result<Texts, FilesFault>
+    ensures bytes { IfSome (A.remaining (inner_of service.old)) (λ a.
+        IfSome (B.remaining (inner_of certificate.old)) (λ b. ReadsTexts a b result)) }
+    ensures right { IfOk result (λ _. IsRight AtService (A.remaining (inner_of service.old)) × IsRight AtCertificate (B.remaining (inner_of certificate.old))) }
+    ensures faults { IsFirstFailure (input AtService (A.remaining (inner_of service.old)) (faults_of service.old) (faults_of service.new)
+        ∷ input AtCertificate (B.remaining (inner_of certificate.old)) (faults_of certificate.old) (faults_of certificate.new) ∷ [])
+        (failed_at result) }
+{
+    let service = match read_definition(alloc, service) {
+        Ok(service) => service,
+        Err(fault) => return Err(fault),
+    };
+    match read_witness(alloc, certificate) {
+        Ok(certificate) => Ok(Texts {
+            service,
+            certificate,
+        }),
+        Err(fault) => Err(fault),
+    }
+}
+
+/// Reads a packet file and then a service definition. The second is not read where the first is refused.
+pub fn read_served<A: Read, B: Read>(
+    alloc: Global,
+    cycle: &mut Counted<A>,
+    service: &mut Counted<B>,
+) -> Result<Served, FilesFault>
+    ensures bytes { IfSome (A.remaining (inner_of cycle.old)) (λ a.
+        IfSome (B.remaining (inner_of service.old)) (λ b. ReadsServed a b result)) }
+    ensures right { IfOk result (λ _. IsRight AtCycle (A.remaining (inner_of cycle.old)) × IsRight AtService (B.remaining (inner_of service.old))) }
+    ensures faults { IsFirstFailure (input AtCycle (A.remaining (inner_of cycle.old)) (faults_of cycle.old) (faults_of cycle.new)
+        ∷ input AtService (B.remaining (inner_of service.old)) (faults_of service.old) (faults_of service.new) ∷ [])
+        (failed_at result) }
+{
+    let cycle = match read_packets(alloc, cycle) {
+        Ok(cycle) => cycle,
+        Err(fault) => return Err(fault),
+    };
+    match read_definition(alloc, service) {
+        Ok(service) => Ok(Served { cycle, service }),
+        Err(fault) => Err(fault),
+    }
+}
+
+/// Reads a packet file, a service definition and a certificate, in this order. None is read after one that is refused.
+pub fn read_inputs<A: Read, B: Read, C: Read>(
+    alloc: Global,
+    cycle: &mut Counted<A>,
+    service: &mut Counted<B>,
+    certificate: &mut Counted<C>,
+) -> Result<Inputs, FilesFault>
+    ensures bytes { IfSome (A.remaining (inner_of cycle.old)) (λ a.
+        IfSome (B.remaining (inner_of service.old)) (λ b.
+        IfSome (C.remaining (inner_of certificate.old)) (λ c. ReadsInputs a b c result))) }
+    ensures right { IfOk result (λ _. IsRight AtCycle (A.remaining (inner_of cycle.old)) × IsRight AtService (B.remaining (inner_of service.old))
+        × IsRight AtCertificate (C.remaining (inner_of certificate.old))) }
+    ensures faults { IsFirstFailure (input AtCycle (A.remaining (inner_of cycle.old)) (faults_of cycle.old) (faults_of cycle.new)
+        ∷ input AtService (B.remaining (inner_of service.old)) (faults_of service.old) (faults_of service.new)
+        ∷ input AtCertificate (C.remaining (inner_of certificate.old)) (faults_of certificate.old) (faults_of certificate.new) ∷ [])
+        (failed_at result) }
+{
+    let cycle = match read_packets(alloc, cycle) {
+        Ok(cycle) => cycle,
+        Err(fault) => return Err(fault),
+    };
+    match read_texts(alloc, service, certificate) {
+        Ok(
+            Texts {
+                service,
+                certificate,
+            },
+        ) => Ok(Inputs {
+            cycle,
+            service,
+            certificate,
+        }),
+        Err(fault) => Err(fault),
+    }
+}

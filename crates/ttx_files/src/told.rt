@@ -1,0 +1,37 @@
+//! What is told of files: a verdict and its line.
+
+ghost use Rattle.ttx_cycle.specs.Counters.{inner_of, faults_of};
+ghost use Rattle.ttx_files.specs.Answers.{IsUntouched, is_write};
+ghost use Rattle.ttx_files.specs.Telling.{Tells};
+
+use crate::faults::FilesFault;
+use crate::writers::write_line;
+use std::io::Write;
+use ttx_cycle::Counted;
+
+/// A verdict, and the line that tells it.
+#[derive(Drop)]
+pub struct Told<V> {
+    pub verdict: V,
+    pub line: String,
+}
+
+/// Writes the line of what is told, and answers the verdict. Where a fault is told nothing is written, and that fault is answered.
+/// At `Write` exactly the first `written` bytes of the line went out.
+pub fn write_told<V: Drop, W: Write>(
+    told: Result<Told<V>, FilesFault>,
+    writer: &mut Counted<W>,
+) -> Result<V, FilesFault>
+    ensures told { Tells told (W.contents (inner_of writer.old)) (W.contents (inner_of writer.new)) (faults_of writer.old)
+        (faults_of writer.new) result }
+    ensures untouched { IsUntouched is_write result writer.old writer.new }
+{
+    let Told { verdict, line } = match told {
+        Ok(told) => told,
+        Err(fault) => return Err(fault),
+    };
+    match write_line(writer, line.as_bytes()) {
+        Ok(()) => Ok(verdict),
+        Err(fault) => Err(fault),
+    }
+}
