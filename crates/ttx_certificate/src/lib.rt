@@ -1,4 +1,6 @@
 //! Certificates: the starts that are named for the items of pages, and their texts.
+//!
+//! Entries are in the order of one number, made of magazine, page, subcode and item, so looking one up is a binary search.
 #![tactic(auto)]
 
 mod certificate_faults;

@@ -9,7 +9,7 @@ mod OneFile
 mod TwoFiles
 pub mod PageByPage
 pub mod AuthoredIds
-pub mod ThreeInputs
+mod ThreeInputs
 mod CertifiedIsShown
 mod OneVerdict
 pub mod Decisions

@@ -6,43 +6,44 @@ use Rattle.ttx_witness.specs.Coverage.{Certificate, IsCertificate}
 use Rattle.ttx_witness.specs.declared.faults.reason.Reason.TheVariants as R
 use Rattle.ttx_certify.specs.Laws.{AcceptedIsSeen, ArePages}
 use Rattle.ttx_certify.specs.Verdicts.{IsVerdict, Means}
+use Rattle.ttx_witness.specs.passes.Passing.{IsBorneOut}
 use Rattle.ttx_certify.specs.Walking.{IsWalkVerdict}
 use Rattle.ttx_certify.specs.declared.verdict.Verdict.{Verdict}
 use Rattle.ttx_certify.specs.declared.verdict.Verdict.TheVariants.{Yes, No}
 
--- a verdict on the second list is one of the walk
-pub as_walked : (x y : List (List ℕ)) → length y ≤ 65536 → (pages : List Page) (w : Certificate) (v : Verdict) → IsVerdict y pages w v →
+-- a verdict on a second list that bears the first one out is one of the walk
+pub as_walked : (x y : List (List ℕ)) (pages : List Page) (w : Certificate) → IsBorneOut x y pages → (v : Verdict) → IsVerdict y pages w v →
     IsWalkVerdict x y pages w v
-as_walked x y few pages w Yes h = (few, h)
-as_walked x y few pages w (No (R.BadSlot slot)) h = h
-as_walked x y few pages w (No (R.NoHeader page)) h = h
-as_walked x y few pages w (No (R.OtherSubpage page slot)) h = h
-as_walked x y few pages w (No (R.Erased page slot)) h = h
-as_walked x y few pages w (No (R.HeadDiffers page slot)) h = h
-as_walked x y few pages w (No (R.RowDiffers page slot)) h = h
-as_walked x y few pages w (No (R.LinksDiffer page slot)) h = h
-as_walked x y few pages w (No (R.NoWitness page item)) h = h
-as_walked x y few pages w (No (R.WitnessBad page item start)) h = h
-as_walked x y few pages w (No (R.Late page item start)) h = h
-as_walked x y few pages w (No (R.LateBlank page item header)) h = h
-as_walked x y few pages w (No R.Unsteady) h = absurd (elim h.0.1.fault as (λ _. ⊥) [ inl a ↦ a | inr b ↦ b.1 ])
+as_walked x y pages w borne Yes h = (borne, h)
+as_walked x y pages w borne (No (R.BadSlot slot)) h = (borne, h)
+as_walked x y pages w borne (No (R.NoHeader page)) h = (borne, h)
+as_walked x y pages w borne (No (R.OtherSubpage page slot)) h = (borne, h)
+as_walked x y pages w borne (No (R.Erased page slot)) h = (borne, h)
+as_walked x y pages w borne (No (R.HeadDiffers page slot)) h = (borne, h)
+as_walked x y pages w borne (No (R.RowDiffers page slot)) h = (borne, h)
+as_walked x y pages w borne (No (R.LinksDiffer page slot)) h = (borne, h)
+as_walked x y pages w borne (No (R.NoWitness page item)) h = (borne, h)
+as_walked x y pages w borne (No (R.WitnessBad page item start)) h = (borne, h)
+as_walked x y pages w borne (No (R.Late page item start)) h = (borne, h)
+as_walked x y pages w borne (No (R.LateBlank page item header)) h = (borne, h)
+as_walked x y pages w borne (No R.Unsteady) h = absurd (elim h.0.1.fault as (λ _. ⊥) [ inl a ↦ a | inr b ↦ b.1 ])
 
 -- over one list twice the walk's verdict is the list's
 pub walked_same : (y : List (List ℕ)) → 1 ≤ length y → (pages : List Page) (w : Certificate) (v : Verdict) →
     IsWalkVerdict y y pages w v → IsVerdict y pages w v
 walked_same y some pages w Yes h = h.1
-walked_same y some pages w (No (R.BadSlot slot)) h = h
-walked_same y some pages w (No (R.NoHeader page)) h = h
-walked_same y some pages w (No (R.OtherSubpage page slot)) h = h
-walked_same y some pages w (No (R.Erased page slot)) h = h
-walked_same y some pages w (No (R.HeadDiffers page slot)) h = h
-walked_same y some pages w (No (R.RowDiffers page slot)) h = h
-walked_same y some pages w (No (R.LinksDiffer page slot)) h = h
-walked_same y some pages w (No (R.NoWitness page item)) h = h
-walked_same y some pages w (No (R.WitnessBad page item start)) h = h
-walked_same y some pages w (No (R.Late page item start)) h = h
-walked_same y some pages w (No (R.LateBlank page item header)) h = h
-walked_same y some pages w (No R.Unsteady) h = (let e : length y ≡ 0 = ap length (h refl) in absurd (omega arith))
+walked_same y some pages w (No (R.BadSlot slot)) h = h.1
+walked_same y some pages w (No (R.NoHeader page)) h = h.1
+walked_same y some pages w (No (R.OtherSubpage page slot)) h = h.1
+walked_same y some pages w (No (R.Erased page slot)) h = h.1
+walked_same y some pages w (No (R.HeadDiffers page slot)) h = h.1
+walked_same y some pages w (No (R.RowDiffers page slot)) h = h.1
+walked_same y some pages w (No (R.LinksDiffer page slot)) h = h.1
+walked_same y some pages w (No (R.NoWitness page item)) h = h.1
+walked_same y some pages w (No (R.WitnessBad page item start)) h = h.1
+walked_same y some pages w (No (R.Late page item start)) h = h.1
+walked_same y some pages w (No (R.LateBlank page item header)) h = h.1
+walked_same y some pages w (No R.Unsteady) h = (let e : length y ≡ 0 = ap length (h.1 refl) in absurd (omega arith))
 
 -- what a verdict means
 pub seen_by_all : AcceptedIsSeen → (y : List (List ℕ)) → IsCycle y → (pages : List Page) → ArePages pages → (w : Certificate) →

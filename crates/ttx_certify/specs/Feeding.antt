@@ -5,10 +5,8 @@
 --   IsRefusedCycle  why the first of two packet files that isn't one isn't
 --   WalkedFiles     the verdict of a walk over two packet files
 --   WalksTwice      what is answered for two files: the verdict of a walk over two packet files
---   IsFile, RisesInOrder    what a reader gives is a packet file
---   CountsTwice     a read fault is answered only where one was counted: by the first reader, or by the second after a packet file
-use Rattle.std.specs.Prelude.{◌⊎◌, ℕ, List, Option, IfSome, Result, Ok, Err, ⊤}
-use Rattle.ttx_cycle.specs.Counts.{HasRisen}
+--   walk_failed_at  the place of which a walk answers that its reader failed
+use Rattle.std.specs.Prelude.{◌⊎◌, ℕ, List, Option, Some, None, Result, Ok, Err}
 use Rattle.ttx_cycle.specs.Reading.{Judged}
 use Rattle.ttx_cycle.specs.SlotLaws.{IsGiven}
 use Rattle.ttx_cycle.specs.declared.faults.CycleFault.{CycleFault}
@@ -16,6 +14,7 @@ use Rattle.ttx_cycle.specs.declared.faults.CycleFault.TheVariants.{Read}
 use Rattle.ttx_page.specs.Pages.{Page}
 use Rattle.ttx_witness.specs.Coverage.{Certificate}
 use Rattle.ttx_cycle.specs.Files.{IsPacketFile}
+use Rattle.ttx_files.specs.Devices.{Place, AtCycle}
 use Rattle.ttx_certify.specs.Verdicts.{Means}
 use Rattle.ttx_certify.specs.declared.verdict.Verdict.{Verdict}
 use Rattle.ttx_certify.specs.Walking.{IsWalkVerdict}
@@ -46,14 +45,7 @@ abbrev pub WalksTwice : List ℕ → List ℕ → List Page → Certificate → 
 WalksTwice a b pages w (Ok verdict) = WalkedFiles a b pages w verdict
 WalksTwice a b pages w (Err fault) = IsRefusedCycle a b fault
 
--- the bytes that a reader gives, where they are known, are a packet file
-abbrev pub IsFile : Option (List ℕ) → Type 0
-IsFile known = IfSome known (λ bytes. (slots : List (List ℕ)) × IsPacketFile bytes slots)
-
--- a fault of the first reader, or one of the second after a first packet file
-abbrev pub RisesInOrder : Option (List ℕ) → ℕ → ℕ → ℕ → ℕ → Type 0
-RisesInOrder first first_old first_new old new = HasRisen first_old first_new ⊎ (IsFile first × HasRisen old new)
-
-abbrev pub CountsTwice : {T : Type 0} → Result T CycleFault → Option (List ℕ) → ℕ → ℕ → ℕ → ℕ → Type 0
-CountsTwice (Err Read) first first_old first_new old new = RisesInOrder first first_old first_new old new
-CountsTwice result first first_old first_new old new = ⊤
+-- the place of which a walk answers that its reader failed
+abbrev pub walk_failed_at : {T : Type 0} → Result T CycleFault → Option Place
+walk_failed_at (Err Read) = Some AtCycle
+walk_failed_at _ = None

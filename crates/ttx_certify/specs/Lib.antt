@@ -4,9 +4,7 @@ pub mod Verdicts
 pub mod Walking
 pub mod VerdictLines
 pub mod CertifyingFiles
-pub mod FileSteps
 pub mod Feeding
 pub mod CertifyingPasses
-pub mod PassSteps
 pub mod Laws
 pub mod VerdictLaws

@@ -4,14 +4,14 @@
 --   Starts                  a walk after a first list
 --   Stands                  a walk after a first and a second list
 --   IsWalkVerdict           what a walk over two lists says
-use Rattle.std.specs.Prelude.{◌≡◌, ◌≤◌, ℕ, List, [], length}
+use Rattle.std.specs.Prelude.{◌≡◌, ℕ, List, []}
 use Rattle.ttx_page.specs.Pages.{Page}
 use Rattle.ttx_witness.specs.Coverage.{Certificate}
-use Rattle.ttx_witness.specs.passes.Passing.{IsFirstPass, IsSecondPass, pass_pages, certificate, pages_in, certificate_in}
+use Rattle.ttx_witness.specs.passes.Passing.{IsFirstPass, IsSecondPass, IsBorneOut, pass_pages, certificate, pages_in, certificate_in}
 use Rattle.ttx_witness.specs.declared.faults.reason.Reason.TheVariants.{Unsteady}
 use Rattle.ttx_certify.specs.Verdicts.{IsVerdict}
 use Rattle.ttx_certify.specs.declared.verdict.Verdict.{Verdict}
-use Rattle.ttx_certify.specs.declared.verdict.Verdict.TheVariants.{Yes, No}
+use Rattle.ttx_certify.specs.declared.verdict.Verdict.TheVariants.{No}
 use Rattle.ttx_certify.specs.declared.walking.Walk.{Walk}
 use Rattle.ttx_certify.specs.declared.walking.Second.{Second}
 
@@ -33,9 +33,8 @@ Starts walk x = IsFirstPass walk.pass x
 abbrev pub Stands : Second → List (List ℕ) → List (List ℕ) → Type 0
 Stands second x y = IsSecondPass second.pass x y
 
--- Unsteady only where the lists differ or the second is empty; all else is the verdict of the second list. A list of more than
--- 65,536 slots is never accepted.
+-- Unsteady exactly where the second list doesn't bear the first one out, and so only where the lists differ or the second is empty; all
+-- else is the verdict of the second list. A list of more than 65,536 slots is never accepted.
 abbrev pub IsWalkVerdict : List (List ℕ) → List (List ℕ) → List Page → Certificate → Verdict → Type 0
-IsWalkVerdict x y pages w Yes = (length y ≤ 65536) × IsVerdict y pages w Yes
-IsWalkVerdict x y pages w (No Unsteady) = x ≡ y → y ≡ []
-IsWalkVerdict x y pages w verdict = IsVerdict y pages w verdict
+IsWalkVerdict x y pages w (No Unsteady) = (IsBorneOut x y pages → ⊥) × (x ≡ y → y ≡ [])
+IsWalkVerdict x y pages w verdict = IsBorneOut x y pages × IsVerdict y pages w verdict

@@ -1,9 +1,10 @@
 //! A walk that is given the slots of two packet files, one by one.
 
-ghost use Rattle.std.specs.Prelude.{◌≡◌, IfSome, [], List, ℕ};
+ghost use Rattle.std.specs.Prelude.{◌≡◌, IfSome, IfOk, [], ◌∷◌, List, ℕ};
 ghost use Rattle.ttx_cycle.specs.Counters.{inner_of, faults_of};
 ghost use Rattle.ttx_cycle.specs.Reading.{CountsRead};
-ghost use Rattle.ttx_certify.specs.Feeding.{Gave, Walks, WalksTwice, CountsTwice};
+ghost use Rattle.ttx_certify.specs.Feeding.{Gave, Walks, WalksTwice, walk_failed_at};
+ghost use Rattle.ttx_files.specs.Devices.{AtCycle, input, IsRight, IsFirstFailure};
 ghost use Rattle.ttx_certify.specs.Walking.{Starts, Stands, walk_pages, walk_certificate, second_pages, second_certificate};
 
 use crate::verdict::Verdict;
@@ -54,7 +55,9 @@ pub fn walk_twice<A: Read, B: Read>(
 ) -> Result<Verdict, CycleFault>
     ensures walked { Starts walk.entry [] → IfSome (A.remaining (inner_of first.old)) (λ a.
         IfSome (B.remaining (inner_of second.old)) (λ b. WalksTwice a b (walk_pages walk.entry) (walk_certificate walk.entry) result)) }
-    ensures faults { CountsTwice result (A.remaining (inner_of first.old)) (faults_of first.old) (faults_of first.new) (faults_of second.old) (faults_of second.new) }
+    ensures right { IfOk result (λ _. IsRight AtCycle (A.remaining (inner_of first.old)) × IsRight AtCycle (B.remaining (inner_of second.old))) }
+    ensures faults { IsFirstFailure (input AtCycle (A.remaining (inner_of first.old)) (faults_of first.old) (faults_of first.new)
+        ∷ input AtCycle (B.remaining (inner_of second.old)) (faults_of second.old) (faults_of second.new) ∷ []) (walk_failed_at result) }
 {
     let mut walk = walk;
     match feed_first(&mut walk, first) {

@@ -2,7 +2,6 @@
 #![tactic(auto)]
 
 mod certifying;
-mod faults;
 mod feeding;
 mod files;
 mod item_reasons;
@@ -18,11 +17,11 @@ mod verdict_lines;
 mod walking;
 
 pub use certifying::certify;
-pub use faults::{FilesFault, TextFile};
-pub use files::{Inputs, certify_files, read_definition, read_inputs, read_witness, write_line};
+pub use files::certify_files;
 pub use passes::certify_passes;
 pub use receiving::receive;
 pub use services::{certify_service, find_service};
+pub use ttx_files::{FilesFault, TextFile};
 pub use ttx_witness::WalkFault;
 pub use verdict::Verdict;
 pub use verdict_lines::{push_reason, push_yes, verdict_line};

@@ -1,51 +1,20 @@
 //! Certifying two readings of a packet file with a service definition and a certificate. No slot is kept.
 
-ghost use Rattle.std.specs.Prelude.{IfSome};
+ghost use Rattle.std.specs.Prelude.{◌∷◌, [], IfOk, IfSome};
 ghost use Rattle.ttx_cycle.specs.Counters.{inner_of, faults_of};
-ghost use Rattle.ttx_witness.specs.Certificates.{fields_of};
-ghost use Rattle.ttx_certify.specs.CertifyingFiles.{IsUntouched, is_write};
-ghost use Rattle.ttx_certify.specs.CertifyingPasses.{CertifiesPasses, CountsFour, CountsPasses};
-ghost use Rattle.ttx_certify.specs.PassSteps.{ReadsTexts, WalksFiles, JudgesPasses, CountsTexts, CountsCycles};
+ghost use Rattle.ttx_certificate.specs.Certificates.{fields_of};
+ghost use Rattle.ttx_files.specs.Answers.{IsUntouched, is_write};
+ghost use Rattle.ttx_files.specs.Devices.{AtCycle, AtService, AtCertificate, input, output, failed_at, IsRight, IsFirstFailure};
+ghost use Rattle.ttx_certify.specs.CertifyingPasses.{WalksFiles, JudgesPasses, CertifiesPasses};
 
-use crate::faults::FilesFault;
 use crate::feeding::walk_twice;
-use crate::files::{Told, line_of, read_definition, read_witness, write_line};
+use crate::files::line_of;
 use crate::verdict::Verdict;
 use crate::walking::Walk;
 use std::alloc::Global;
 use std::io::{Read, Write};
 use ttx_cycle::Counted;
-use ttx_source::Service;
-use ttx_witness::Certificate;
-
-// What the two texts say.
-#[derive(Drop)]
-struct Texts {
-    service: Service,
-    certificate: Certificate,
-}
-
-// Reads the two texts, in this order.
-fn read_texts<C: Read, D: Read>(
-    alloc: Global,
-    service: &mut Counted<C>,
-    certificate: &mut Counted<D>,
-) -> Result<Texts, FilesFault>
-    ensures bytes { IfSome (C.remaining (inner_of service.old)) (λ c. IfSome (D.remaining (inner_of certificate.old)) (λ d. ReadsTexts c d result)) }
-    ensures faults { CountsTexts result (faults_of service.old) (faults_of service.new) (faults_of certificate.old) (faults_of certificate.new) }
-{
-    let service = match read_definition(alloc, service) {
-        Ok(service) => service,
-        Err(fault) => return Err(fault),
-    };
-    match read_witness(alloc, certificate) {
-        Ok(certificate) => Ok(Texts {
-            service,
-            certificate,
-        }),
-        Err(fault) => Err(fault),
-    }
-}
+use ttx_files::{FilesFault, Texts, Told, read_texts, write_told};
 
 // The verdict of a walk over two packet files.
 fn walk_files<A: Read, B: Read>(
@@ -56,7 +25,9 @@ fn walk_files<A: Read, B: Read>(
 ) -> Result<Verdict, FilesFault>
     ensures bytes { IfSome (A.remaining (inner_of first.old)) (λ a.
         IfSome (B.remaining (inner_of second.old)) (λ b. WalksFiles a b texts.now.service (fields_of texts.now.certificate) result)) }
-    ensures faults { CountsCycles result (A.remaining (inner_of first.old)) (faults_of first.old) (faults_of first.new) (faults_of second.old) (faults_of second.new) }
+    ensures right { IfOk result (λ _. IsRight AtCycle (A.remaining (inner_of first.old)) × IsRight AtCycle (B.remaining (inner_of second.old))) }
+    ensures faults { IsFirstFailure (input AtCycle (A.remaining (inner_of first.old)) (faults_of first.old) (faults_of first.new)
+        ∷ input AtCycle (B.remaining (inner_of second.old)) (faults_of second.old) (faults_of second.new) ∷ []) (failed_at result) }
 {
     let walk = match Walk::new(alloc, texts.service.pages(), &texts.certificate) {
         Ok(walk) => walk,
@@ -75,13 +46,17 @@ fn judge_passes<A: Read, B: Read, C: Read, D: Read>(
     second: &mut Counted<B>,
     service: &mut Counted<C>,
     certificate: &mut Counted<D>,
-) -> Result<Told, FilesFault>
+) -> Result<Told<Verdict>, FilesFault>
     ensures bytes { IfSome (A.remaining (inner_of first.old)) (λ a.
         IfSome (B.remaining (inner_of second.old)) (λ b.
         IfSome (C.remaining (inner_of service.old)) (λ c.
         IfSome (D.remaining (inner_of certificate.old)) (λ d. JudgesPasses a b c d result)))) }
-    ensures faults { CountsFour result (A.remaining (inner_of first.old)) (faults_of first.old) (faults_of first.new)
-        (faults_of second.old) (faults_of second.new) (faults_of service.old) (faults_of service.new) (faults_of certificate.old) (faults_of certificate.new) }
+    ensures right { IfOk result (λ _. IsRight AtService (C.remaining (inner_of service.old)) × IsRight AtCertificate (D.remaining (inner_of certificate.old))
+        × IsRight AtCycle (A.remaining (inner_of first.old)) × IsRight AtCycle (B.remaining (inner_of second.old))) }
+    ensures faults { IsFirstFailure (input AtService (C.remaining (inner_of service.old)) (faults_of service.old) (faults_of service.new)
+        ∷ input AtCertificate (D.remaining (inner_of certificate.old)) (faults_of certificate.old) (faults_of certificate.new)
+        ∷ input AtCycle (A.remaining (inner_of first.old)) (faults_of first.old) (faults_of first.new)
+        ∷ input AtCycle (B.remaining (inner_of second.old)) (faults_of second.old) (faults_of second.new) ∷ []) (failed_at result) }
 {
     let texts = match read_texts(alloc, service, certificate) {
         Ok(texts) => texts,
@@ -117,17 +92,13 @@ pub fn certify_passes<A: Read, B: Read, C: Read, D: Read, W: Write>(
         IfSome (C.remaining (inner_of service.old)) (λ c.
         IfSome (D.remaining (inner_of certificate.old)) (λ d.
         CertifiesPasses a b c d (W.contents (inner_of writer.old)) (W.contents (inner_of writer.new)) result)))) }
-    ensures faults { CountsPasses result (A.remaining (inner_of first.old)) (faults_of first.old) (faults_of first.new)
-        (faults_of second.old) (faults_of second.new) (faults_of service.old) (faults_of service.new) (faults_of certificate.old) (faults_of certificate.new) (faults_of writer.old)
-        (faults_of writer.new) }
+    ensures faults { IsFirstFailure (input AtService (C.remaining (inner_of service.old)) (faults_of service.old) (faults_of service.new)
+        ∷ input AtCertificate (D.remaining (inner_of certificate.old)) (faults_of certificate.old) (faults_of certificate.new)
+        ∷ input AtCycle (A.remaining (inner_of first.old)) (faults_of first.old) (faults_of first.new)
+        ∷ input AtCycle (B.remaining (inner_of second.old)) (faults_of second.old) (faults_of second.new)
+        ∷ output (faults_of writer.old) (faults_of writer.new) ∷ []) (failed_at result) }
     ensures untouched { IsUntouched is_write result writer.old writer.new }
 {
-    let told = match judge_passes(alloc, first, second, service, certificate) {
-        Ok(told) => told,
-        Err(fault) => return Err(fault),
-    };
-    match write_line(writer, told.line.as_bytes()) {
-        Ok(()) => Ok(told.verdict),
-        Err(fault) => Err(fault),
-    }
+    let told = judge_passes(alloc, first, second, service, certificate);
+    write_told(told, writer)
 }

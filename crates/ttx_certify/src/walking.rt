@@ -27,8 +27,8 @@ impl<'a> Walk<'a> {
     ghost use Rattle.ttx_page.specs.Views.{ids_of};
     ghost use Rattle.ttx_certify.specs.Walking.{Starts, Stands, walk_pages, walk_certificate, second_pages, second_certificate};
 
-    /// A walk over the pages, whose ids are distinct, with the certificate. All its growths are made here; what is kept is by
-    /// page, item and named start.
+    /// A walk over the pages, whose ids are distinct, with the certificate. All its growths are made here. No packet is kept, but for
+    /// each slot of the second list which item of which page it sends.
     pub fn new(
         alloc: Global,
         pages: &'a [Page],
@@ -80,8 +80,8 @@ impl<'a> Second<'a> {
         self.pass.second(slot);
     }
 
-    /// The verdict on the second list: `Unsteady` where it is empty, too long, or leaves other owners than it began with, and
-    /// else exactly that of the second list. Where both lists are one, and not empty, it is that of `certify`; where it is Yes,
+    /// The verdict on the second list: `Unsteady` exactly where it is empty, has more than 65,536 slots, or has another owner of some
+    /// page's magazine before its slot 0 than the first list has; and else exactly that of the second list. Where both lists are one, and not empty, it is that of `certify`; where it is Yes,
     /// each page of the second list is seen. Takes no memory.
     pub fn finish(self) -> Verdict
         ensures verdict { (x y : List (List ℕ)) → Stands self.entry x y →

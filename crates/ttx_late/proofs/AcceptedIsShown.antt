@@ -16,7 +16,7 @@ use Rattle.ttx_page.specs.Followers.{IsFollowedWithin}
 use Rattle.ttx_late.specs.Laws.{RunsAreShown, FollowedIsWithin, AcceptedIsShown, EachListRunsLate}
 use Rattle.ttx_late.specs.SeenLate.{SeenLate}
 use Rattle.ttx_certify.proofs.AcceptedIsSeen.{StreamLaws, fits_matches, steady_from, brought}
-use Rattle.ttx_late.proofs.RunsAreShown.{page_heads}
+use Rattle.ttx_page.proofs.Owners.{page_heads}
 
 module _ (laws : StreamLaws) (cycle : List (List ℕ)) (pages : List Page) (w : Certificate) (is_cycle : IsCycle cycle)
     (are_pages : ArePages pages) (is_certificate : IsCertificate w)

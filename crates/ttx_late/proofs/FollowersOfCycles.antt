@@ -18,7 +18,7 @@ use Rattle.ttx_page.specs.Streams.{turned, repeated, heads, heads_page, IsLatest
 use Rattle.ttx_page.specs.Laws.{EachSlotTurns, StreamsMove}
 use Rattle.ttx_page.specs.Followers.{heads_another, IsFollowed, IsFollowedByAnother, IsFollowedWithin}
 use Rattle.ttx_late.specs.Followed.{IsFollowedIn, HoldsId, HoldsNoId, IsFollowedAt, TellsUnfollowed, AllAreFollowed}
-use Rattle.ttx_late.proofs.RunsAreShown.{page_heads}
+use Rattle.ttx_page.proofs.Owners.{page_heads}
 
 packet_is : (slot : List ℕ) (k : Kind) → kind_of slot ≡ k → packet_of slot ≡ packet_of_kind slot k
 unfolding packet_of

@@ -20,7 +20,7 @@ use Rattle.ttx_late.specs.Laws.{NeverFollowedIsUnshown}
 use Rattle.ttx_late.proofs.StoringSteps.{after_quiet}
 use Rattle.ttx_late.proofs.GatheredMemories.{number_heads, matched_number, step_storing}
 use Rattle.ttx_late.proofs.FollowedReceptions.{mag_is, number_is, AreOf, of_received}
-use Rattle.ttx_late.proofs.RunsAreShown.{page_heads}
+use Rattle.ttx_page.proofs.Owners.{page_heads}
 
 -- the next header of the magazine, if it is received at all, has the selection's own page number
 abbrev Stays : Selection → List (List ℕ) → Type 0

@@ -1,6 +1,6 @@
 -- What comes between two slots of a stream is shown soon after the second slot.
 use Rattle.std.proofs.Common.{◌≡◌, ℕ, zero, suc, ◌+◌, ◌<◌, ◌≤◌, ℤ, pos, ◌+ℤ◌, ◌-ℤ◌, ◌<ℤ◌, ◌≤ℤ◌, true, false, ◌&&◌, ◌==◌, List, [], ◌∷◌, ◌++◌, length}
-use Rattle.std.proofs.Common.{get_or, take, drop, refl, sym, ap, ◌∙◌, subst, inl, inr, arith, eqb-true, eq-eqb, nat_abs, length-drop}
+use Rattle.std.proofs.Common.{get_or, take, drop, refl, sym, ap, ◌∙◌, subst, inl, inr, arith, eqb-true, nat_abs, length-drop}
 use Rattle.std.proofs.lemmas.Int.{ints}
 use Rattle.std.proofs.lemmas.List.{length-take-le, take-append-drop}
 use Rattle.std.proofs.lemmas.Bool.{and_parts, both_ways}
@@ -22,6 +22,7 @@ use Rattle.ttx_receiver.specs.Laws.{IsSteadyFrom, IsBrought}
 use Rattle.ttx_render.specs.Laws.{ContentsDecide}
 use Rattle.ttx_certify.specs.Seen.{HasView}
 use Rattle.ttx_certify.specs.Laws.{RunsAreSeen}
+use Rattle.ttx_page.proofs.Owners.{page_heads}
 use Rattle.ttx_late.specs.LateReceivers.{LateMemory, LateRun}
 use Rattle.ttx_late.specs.Laws.{IsFollowedFrom, RunsAreShown}
 use Rattle.ttx_late.proofs.StoringSteps.{same_back, has_view_same}
@@ -51,19 +52,6 @@ page_matched sel page fits Empty h = absurd (both_ways false refl h)
 page_matched sel page fits Unreadable h = absurd (both_ways false refl h)
 page_matched sel page fits Info h = absurd (both_ways false refl h)
 page_matched sel page fits Other h = absurd (both_ways false refl h)
-
-pub page_heads : (page : Id) (pkt : Packet) → heads_page page pkt ≡ true → heads page.mag pkt ≡ true
-page_heads page (Header id control text) h =
-    let mag = eqb-true page.mag id.mag ((and_parts _ _ (and_parts _ _ h).0).0) in subst (λ m. (m == page.mag) ≡ true) mag (same page.mag)
-  where
-    same : (n : ℕ) → (n == n) ≡ true
-    same n = eq-eqb n n refl
-page_heads page (Row m n text) h = absurd (both_ways false refl h)
-page_heads page (Links m content) h = absurd (both_ways false refl h)
-page_heads page Empty h = absurd (both_ways false refl h)
-page_heads page Unreadable h = absurd (both_ways false refl h)
-page_heads page Info h = absurd (both_ways false refl h)
-page_heads page Other h = absurd (both_ways false refl h)
 
 -- a run can be cut and joined
 split : (class : Class) (lines : ℕ) (sel : Selection) (before rest : List (List ℕ)) (d new : LateMemory) →

@@ -2,15 +2,16 @@
 --
 --   CertifiesLate           the verdict on three inputs, and its line
 --   CertifiesFilesLate      what has been written, for each answer
---   IsJudgedLate            the verdict on what was read, with its line
-use Rattle.std.specs.Prelude.{◌≡◌, ℕ, ◌<◌, List, length, take, Option, Result, Ok, Err}
-use Rattle.std.specs.Io.KnownBytes.{Appends, Keeps}
+--   IsJudgedLate, JudgesFilesLate   the verdict on what was read, with its line; on the three inputs
+use Rattle.std.specs.Prelude.{◌≡◌, ℕ, List, length, string_bytes, Option, Result, Ok, Err}
 use Rattle.ttx_source.specs.Services.{ServiceFields, pages_of}
 use Rattle.ttx_witness.specs.Entries.{CertificateFields, certificate_at}
 use Rattle.ttx_cycle.specs.Files.{IsPacketFile}
-use Rattle.ttx_certify.specs.CertifyingFiles.{IsServiceText, IsCertificateText, IsRefused}
-use Rattle.ttx_certify.specs.declared.faults.FilesFault.{FilesFault}
-use Rattle.ttx_certify.specs.declared.faults.FilesFault.TheVariants.{Write}
+use Rattle.ttx_files.specs.Answers.{WritesAnswer}
+use Rattle.ttx_files.specs.Inputs.{IsRefused}
+use Rattle.ttx_files.specs.Texts.{IsServiceText, IsCertificateText}
+use Rattle.ttx_files.specs.declared.faults.FilesFault.{FilesFault}
+use Rattle.ttx_files.specs.declared.told.Told.{Told}
 use Rattle.ttx_late.specs.LateVerdicts.{IsLateVerdict, MeansLate}
 use Rattle.ttx_late.specs.LateVerdictLines.{late_verdict_line}
 use Rattle.ttx_late.specs.declared.verdict.LateVerdict.{LateVerdict}
@@ -32,9 +33,10 @@ pub record CertifiesLate (a b c : List ℕ) (verdict : LateVerdict) (line : List
   pub certificate_is : IsCertificateText c w
   pub judged : IsJudgedLate slots service w verdict line
 
+abbrev pub JudgesFilesLate : List ℕ → List ℕ → List ℕ → Result (Told LateVerdict) FilesFault → Type 0
+JudgesFilesLate a b c (Ok told) = CertifiesLate a b c told.verdict (string_bytes told.line)
+JudgesFilesLate a b c (Err fault) = IsRefused a b c fault
+
 -- Ok: the line of the verdict was written. A write fault: its first `written` bytes. Any other fault: nothing, and why the inputs are refused.
 abbrev pub CertifiesFilesLate : List ℕ → List ℕ → List ℕ → Option (List ℕ) → Option (List ℕ) → Result LateVerdict FilesFault → Type 0
-CertifiesFilesLate a b c old new (Ok verdict) = (line : List ℕ) × CertifiesLate a b c verdict line × Appends old new line
-CertifiesFilesLate a b c old new (Err (Write written)) =
-    (line : List ℕ) × (verdict : LateVerdict) × CertifiesLate a b c verdict line × (written < length line) × Appends old new (take written line)
-CertifiesFilesLate a b c old new (Err fault) = IsRefused a b c fault × Keeps old new
+CertifiesFilesLate a b c old new result = WritesAnswer (CertifiesLate a b c) (IsRefused a b c) old new result

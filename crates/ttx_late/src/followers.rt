@@ -1,7 +1,6 @@
 //! Decides whether the pages of a cycle are followed by other page numbers, and how soon.
 
-ghost use Rattle.std.specs.Prelude.{◌≡◌, ◌↔◌, ◌<◌, ◌≤◌, ℕ, pos, IsTrue, All, MatchOption, Some, length, map, slice_get, slice_index_or, [], true};
-ghost use Rattle.ttx_packet.specs.Slots.{IsSlot};
+ghost use Rattle.std.specs.Prelude.{◌≡◌, ◌↔◌, ◌<◌, ◌≤◌, ℕ, pos, IsTrue, MatchOption, Some, length, map, slice_get, slice_index_or, [], true};
 ghost use Rattle.ttx_page.specs.Packets.{packet_of};
 ghost use Rattle.ttx_page.specs.Streams.{repeated, heads, heads_page};
 ghost use Rattle.ttx_page.specs.Views.{page_of};
@@ -18,9 +17,9 @@ use ttx_page::Page;
 
 // The id in a page header; `None` for other packets.
 fn id_in(slot: &[u8; 42]) -> Option<PageId>
-    requires { IsSlot slot.now }
     ensures { MatchOption result (HoldsNoId (packet_of slot.now)) (λ id. HoldsId id (packet_of slot.now)) }
 {
+    ttx_cycle::arrays::is_slot(slot);
     ttx_header::laws::headers_have_fields();
     ttx_header::laws::headers_are_headers();
     match read_header(slot) {
@@ -31,7 +30,6 @@ fn id_in(slot: &[u8; 42]) -> Option<PageId>
 
 /// Whether the slot is a header of the magazine.
 pub fn heads(mag: u8, slot: &[u8; 42]) -> bool
-    requires { IsSlot slot.now }
     ensures { result ≡ heads mag (packet_of slot.now) }
 {
     match id_in(slot) {
@@ -42,7 +40,6 @@ pub fn heads(mag: u8, slot: &[u8; 42]) -> bool
 
 /// Whether the slot is a header of the page's magazine with another page number.
 pub fn heads_another(page: PageId, slot: &[u8; 42]) -> bool
-    requires { IsSlot slot.now }
     ensures { result ≡ heads_another page (packet_of slot.now) }
 {
     match id_in(slot) {
@@ -56,7 +53,6 @@ pub fn heads_another(page: PageId, slot: &[u8; 42]) -> bool
 fn follower(slots: &[[u8; 42]], at: usize, page: PageId) -> Option<usize>
     requires at { at < length slots.now }
     requires most { length slots.now ≤ 65536 }
-    requires slots { All IsSlot slots.now }
     requires here { heads_page page (packet_of (slice_index_or slots.now at [])) ≡ true }
     ensures { MatchOption result (IsFollowed (repeated slots.now) page (pos at) → ⊥)
         (λ distance. IsFollowedIn (repeated slots.now) page at distance) }
@@ -77,7 +73,6 @@ fn follower(slots: &[[u8; 42]], at: usize, page: PageId) -> Option<usize>
 fn unfollowed_at(slots: &[[u8; 42]], at: usize) -> Option<PageId>
     requires at { at < length slots.now }
     requires most { length slots.now ≤ 65536 }
-    requires slots { All IsSlot slots.now }
     ensures { TellsUnfollowed (repeated slots.now) at result }
 {
     match id_in(&slots[at]) {
@@ -91,7 +86,6 @@ fn unfollowed_at(slots: &[[u8; 42]], at: usize) -> Option<PageId>
 
 // Whether the slot is a header of the page.
 fn heads_page(page: PageId, slot: &[u8; 42]) -> bool
-    requires { IsSlot slot.now }
     ensures { result ≡ heads_page page (packet_of slot.now) }
 {
     match id_in(slot) {
@@ -160,7 +154,6 @@ pub fn first_unshown(cycle: &Cycle, pages: &[Page]) -> Option<Unshown>
 fn widened(slots: &[[u8; 42]], pages: &[Page], at: usize, gap: usize) -> usize
     requires at { at < length slots.now }
     requires most { length slots.now ≤ 65536 }
-    requires slots { All IsSlot slots.now }
     ensures { IsWidened (repeated slots.now) (map page_of pages.now) at gap result }
 {
     match id_in(&slots[at]) {

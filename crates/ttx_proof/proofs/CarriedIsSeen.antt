@@ -15,7 +15,7 @@ use Rattle.ttx_certify.specs.Laws.{RunsAreSeen}
 use Rattle.ttx_certify.specs.Seen.{HasView}
 use Rattle.ttx_certify.proofs.AcceptedIsSeen as A
 use Rattle.ttx_certify.proofs.LaterReceptions.{received_later}
-use Rattle.ttx_proof.specs.Laws.{StepsKeepMemories}
+use Rattle.ttx_receiver.specs.Laws.{StepsKeepMemories}
 use Rattle.ttx_proof.specs.Carried.{Carries, AgreeingStreamsCarry, AgreeingStreamsAreReceived, AcceptedIsCarried, CarriedIsSeen}
 use Rattle.ttx_proof.proofs.CutRuns.{run_goes_on}
 

@@ -5,7 +5,7 @@ use Rattle.ttx_page.specs.declared.selection.Selection.{Selection}
 use Rattle.ttx_page.specs.declared.class.Class.{Class}
 use Rattle.ttx_page.specs.Memories.{Memory, IsMemory}
 use Rattle.ttx_page.specs.Receivers.{Run}
-use Rattle.ttx_proof.specs.Laws.{StepsKeepMemories}
+use Rattle.ttx_receiver.specs.Laws.{StepsKeepMemories}
 
 -- after the first n slots a receiver has some memory, from which it goes on
 pub record GoesOn (class : Class) (lines : ℕ) (sel : Selection) (rest : List (List ℕ)) (m : Memory) : Type 0 where

@@ -1,4 +1,3 @@
-mod KeptMemories
 mod RightWhereNotRefuted
 pub mod StreamsOfSides
 pub mod CutRuns

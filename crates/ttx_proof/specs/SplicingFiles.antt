@@ -1,6 +1,5 @@
 -- What is answered and written where the six files of a splice are read: two packet files, two service definitions, two certificates.
 --
---   ReadsCycle              what is answered for the bytes of a packet file
 --   AreTwo, RefusesTwo      what two files of one kind are; the first is refused, or it is right and the second is refused
 --   ReadsCycles, ReadsServices, ReadsWitnesses      the two files of each kind, in their order
 --   RefusesSix              the first of the six files that is refused
@@ -8,25 +7,16 @@
 --   IsSpliceAnswer, IsSentAnswer    the verdict on a splice, and its line; the same where the old cycle has been sent for some periods
 --   AreSixWith              the six files are as they should be, and something is true of their splice
 --   Splices, SplicesSent    the verdict on the six files, and its line
---   WritesAnswer            what was written at each answer
 --   SplicesFiles, SplicesSentFiles  what is answered and written for the six files
---   IsRight, RisesInOrder   the second file of a kind is read only where the first is right
---   CountsPackets, CountsTwoCycles, CountsTwoTexts, CountsSix, CountsSplice       a fault of a device is answered only where one was counted
-use Rattle.std.specs.Prelude.{◌≡◌, ◌⊎◌, ℕ, ◌<◌, List, length, take, ⊤, Option, IfSome, Result, Ok, Err}
-use Rattle.std.specs.Io.KnownBytes.{Appends, Keeps}
-use Rattle.ttx_cycle.specs.Counts.{HasRisen}
+use Rattle.std.specs.Prelude.{◌≡◌, ◌⊎◌, ℕ, List, ⊤, Option, IfSome, Result, Ok, Err}
 use Rattle.ttx_cycle.specs.Cycles.{slots_of}
-use Rattle.ttx_cycle.specs.Reading.{Judged}
 use Rattle.ttx_source.specs.Services.{ServiceFields, pages_of}
 use Rattle.ttx_witness.specs.Certificates.{fields_of}
 use Rattle.ttx_witness.specs.Entries.{CertificateFields, certificate_at}
-use Rattle.ttx_cycle.specs.Files.{IsPacketFile}
-use Rattle.ttx_certify.specs.FileSteps.{ReadsService, ReadsWitness}
-use Rattle.ttx_certify.specs.declared.faults.FilesFault.{FilesFault}
-use Rattle.ttx_certify.specs.declared.faults.FilesFault.TheVariants.{Cycle, Read, Write, NoMemory}
-use Rattle.ttx_certify.specs.declared.faults.TextFile.{TextFile}
-use Rattle.ttx_certify.specs.declared.faults.TextFile.TheVariants as text
-use Rattle.ttx_cycle.specs.declared.faults.CycleFault.TheVariants as cycle
+use Rattle.ttx_files.specs.Answers.{WritesAnswer}
+use Rattle.ttx_files.specs.Texts.{ReadsPackets, ReadsService, ReadsWitness}
+use Rattle.ttx_files.specs.declared.faults.FilesFault.{FilesFault}
+use Rattle.ttx_files.specs.declared.faults.FilesFault.TheVariants.{NoMemory}
 use Rattle.ttx_proof.specs.Splicing.{splice_at}
 use Rattle.ttx_proof.specs.Splices.{Splice}
 use Rattle.ttx_proof.specs.SentVerdicts.{IsSentVerdict, SentMeans}
@@ -39,11 +29,6 @@ use Rattle.ttx_proof.specs.declared.reading.Six.{Six}
 use Rattle.ttx_proof.specs.declared.sent.SentVerdict.{SentVerdict}
 use Rattle.ttx_proof.specs.declared.verdict.SpliceVerdict.{SpliceVerdict}
 
-abbrev pub ReadsCycle : List ℕ → Result (List (List ℕ)) FilesFault → Type 0
-ReadsCycle bytes (Ok slots) = IsPacketFile bytes slots
-ReadsCycle bytes (Err (Cycle fault)) = Judged bytes (Err fault)
-ReadsCycle bytes (Err _) = ⊥
-
 abbrev pub AreTwo : {T : Type 0} → (List ℕ → Result T FilesFault → Type 0) → Option (List ℕ) → Option (List ℕ) → T → T → Type 0
 AreTwo Reads a b t u = IfSome a (λ x. Reads x (Ok t)) × IfSome b (λ y. Reads y (Ok u))
 
@@ -52,8 +37,8 @@ RefusesTwo {T} Reads a b fault = IfSome a (λ x. Reads x (Err fault))
     ⊎ (((t : T) × IfSome a (λ x. Reads x (Ok t))) × IfSome b (λ y. Reads y (Err fault)))
 
 abbrev pub ReadsCycles : Option (List ℕ) → Option (List ℕ) → Result Cycles FilesFault → Type 0
-ReadsCycles a b (Ok two) = AreTwo ReadsCycle a b (slots_of two.old) (slots_of two.new)
-ReadsCycles a b (Err fault) = RefusesTwo ReadsCycle a b fault
+ReadsCycles a b (Ok two) = AreTwo ReadsPackets a b (slots_of two.old) (slots_of two.new)
+ReadsCycles a b (Err fault) = RefusesTwo ReadsPackets a b fault
 
 abbrev pub ReadsServices : Option (List ℕ) → Option (List ℕ) → Result Services FilesFault → Type 0
 ReadsServices a b (Ok two) = AreTwo ReadsService a b two.old two.new
@@ -71,7 +56,7 @@ Right {T} Reads a b = (t u : T) × AreTwo Reads a b t u
 abbrev pub RefusesSix : Option (List ℕ) → Option (List ℕ) → Option (List ℕ) → Option (List ℕ) → Option (List ℕ) → Option (List ℕ) →
     FilesFault → Type 0
 RefusesSix a b c d e f fault =
-    RefusesTwo ReadsCycle a b fault ⊎ (Right ReadsCycle a b × (RefusesTwo ReadsService c d fault
+    RefusesTwo ReadsPackets a b fault ⊎ (Right ReadsPackets a b × (RefusesTwo ReadsService c d fault
     ⊎ (Right ReadsService c d × RefusesTwo ReadsWitness e f fault)))
 
 abbrev pub splice_on : List (List ℕ) → List (List ℕ) → ServiceFields → ServiceFields → CertificateFields → CertificateFields → Splice
@@ -99,7 +84,7 @@ pub record AreSixWith (a b c d e f : Option (List ℕ)) (Says : Splice → Type 
   pub new_service : ServiceFields
   pub v : CertificateFields
   pub w : CertificateFields
-  pub cycles : AreTwo ReadsCycle a b old new
+  pub cycles : AreTwo ReadsPackets a b old new
   pub services : AreTwo ReadsService c d old_service new_service
   pub certificates : AreTwo ReadsWitness e f v w
   pub told : Says (splice_on old new old_service new_service v w)
@@ -123,17 +108,9 @@ IsSixRefused a b c d e f fault = RefusesSix a b c d e f fault
 abbrev pub ReadsSix : Option (List ℕ) → Option (List ℕ) → Option (List ℕ) → Option (List ℕ) → Option (List ℕ) → Option (List ℕ) →
     Result Six FilesFault → Type 0
 ReadsSix a b c d e f (Ok six) =
-    AreTwo ReadsCycle a b (slots_of six.cycles.old) (slots_of six.cycles.new) × AreTwo ReadsService c d six.services.old six.services.new
+    AreTwo ReadsPackets a b (slots_of six.cycles.old) (slots_of six.cycles.new) × AreTwo ReadsService c d six.services.old six.services.new
     × AreTwo ReadsWitness e f (fields_of six.witnesses.old) (fields_of six.witnesses.new)
 ReadsSix a b c d e f (Err fault) = IsSixRefused a b c d e f fault
-
--- Ok: the line of the verdict went out. A write fault: its first `written` bytes. Else nothing, and why the files are refused.
-abbrev pub WritesAnswer : {V : Type 0} → (V → List ℕ → Type 0) → (FilesFault → Type 0) → Option (List ℕ) → Option (List ℕ) →
-    Result V FilesFault → Type 0
-WritesAnswer Answers Refused old new (Ok verdict) = (line : List ℕ) × Answers verdict line × Appends old new line
-WritesAnswer {V} Answers Refused old new (Err (Write written)) =
-    (line : List ℕ) × (verdict : V) × Answers verdict line × (written < length line) × Appends old new (take written line)
-WritesAnswer Answers Refused old new (Err fault) = Refused fault × Keeps old new
 
 abbrev pub SplicesFiles : Option (List ℕ) → Option (List ℕ) → Option (List ℕ) → Option (List ℕ) → Option (List ℕ) → Option (List ℕ) →
     Option (List ℕ) → Option (List ℕ) → Result SpliceVerdict FilesFault → Type 0
@@ -142,42 +119,3 @@ SplicesFiles a b c d e f old new result = WritesAnswer (Splices a b c d e f) (Is
 abbrev pub SplicesSentFiles : Option (List ℕ) → Option (List ℕ) → Option (List ℕ) → Option (List ℕ) → Option (List ℕ) → Option (List ℕ) → ℕ →
     Option (List ℕ) → Option (List ℕ) → Result SentVerdict FilesFault → Type 0
 SplicesSentFiles a b c d e f periods old new result = WritesAnswer (SplicesSent a b c d e f periods) (IsSixRefused a b c d e f) old new result
-
--- the first of two files of a kind is as it should be
-abbrev pub IsRight : {T : Type 0} → (List ℕ → Result T FilesFault → Type 0) → Option (List ℕ) → Type 0
-IsRight {T} Reads a = (t : T) × IfSome a (λ x. Reads x (Ok t))
-
--- The first of two readers of a kind has counted a fault, or the first file is right and the second has.
-abbrev pub RisesInOrder : Type 0 → ℕ → ℕ → ℕ → ℕ → Type 0
-RisesInOrder first a a' b b' = HasRisen a a' ⊎ (first × HasRisen b b')
-
-abbrev pub CountsPackets : FilesFault → ℕ → ℕ → Type 0
-CountsPackets (Cycle cycle.Read) a a' = HasRisen a a'
-CountsPackets (Cycle fault) a a' = ⊤
-CountsPackets fault a a' = ⊥
-
-abbrev pub CountsTwoCycles : FilesFault → Option (List ℕ) → ℕ → ℕ → ℕ → ℕ → Type 0
-CountsTwoCycles (Cycle cycle.Read) old a a' b b' = RisesInOrder (IsRight ReadsCycle old) a a' b b'
-CountsTwoCycles (Cycle fault) old a a' b b' = ⊤
-CountsTwoCycles fault old a a' b b' = ⊥
-
--- `first` says that the first of the two texts is right
-abbrev pub CountsTwoTexts : TextFile → FilesFault → Type 0 → ℕ → ℕ → ℕ → ℕ → Type 0
-CountsTwoTexts which (Read text) first a a' b b' = (text ≡ which) × RisesInOrder first a a' b b'
-CountsTwoTexts which (Cycle fault) first a a' b b' = ⊥
-CountsTwoTexts which (Write written) first a a' b b' = ⊥
-CountsTwoTexts which fault first a a' b b' = ⊤
-
--- The faults counted by the six readers, before and after. The old file of each kind comes first.
-abbrev pub CountsSix : FilesFault → Option (List ℕ) → Option (List ℕ) → Option (List ℕ) → ℕ → ℕ → ℕ → ℕ → ℕ → ℕ → ℕ → ℕ → ℕ → ℕ → ℕ → ℕ → Type 0
-CountsSix (Cycle cycle.Read) old service certificate a a' b b' c c' d d' e e' f f' = RisesInOrder (IsRight ReadsCycle old) a a' b b'
-CountsSix (Read text.Service) old service certificate a a' b b' c c' d d' e e' f f' = RisesInOrder (IsRight ReadsService service) c c' d d'
-CountsSix (Read text.Certificate) old service certificate a a' b b' c c' d d' e e' f f' = RisesInOrder (IsRight ReadsWitness certificate) e e' f f'
-CountsSix (Write written) old service certificate a a' b b' c c' d d' e e' f f' = ⊥
-CountsSix fault old service certificate a a' b b' c c' d d' e e' f f' = ⊤
-
--- and by the writer
-abbrev pub CountsSplice : FilesFault → Option (List ℕ) → Option (List ℕ) → Option (List ℕ) →
-    ℕ → ℕ → ℕ → ℕ → ℕ → ℕ → ℕ → ℕ → ℕ → ℕ → ℕ → ℕ → ℕ → ℕ → Type 0
-CountsSplice (Write written) old service certificate a a' b b' c c' d d' e e' f f' w w' = HasRisen w w'
-CountsSplice fault old service certificate a a' b b' c c' d d' e e' f f' w w' = CountsSix fault old service certificate a a' b b' c c' d d' e e' f f'

@@ -5,20 +5,13 @@ ghost use Rattle.ttx_proof.specs.Carried.{AcceptedIsCarried, CommonIsCarried, Ca
 ghost use Rattle.ttx_proof.specs.Joining.{JoinedAreListed};
 ghost use Rattle.ttx_proof.specs.Meaning.{VerdictsMean, SpliceVerdictsAreOne, SomeSpliceVerdictIsRight};
 ghost use Rattle.ttx_proof.specs.Seams.{SeamsAreLeft};
-ghost use Rattle.ttx_proof.specs.Laws.{StepsKeepMemories, BridgedIsSeen, WalksDecide};
-
-/// What a slot makes of a memory is a memory.
-pub fn steps_keep_memories()
-    ensures { StepsKeepMemories }
-{
-    ttx_header::laws::headers_have_fields();
-}
+ghost use Rattle.ttx_proof.specs.Laws.{BridgedIsSeen, WalksDecide};
 
 /// A splice of accepted cycles whose common pages have no seam and are bridged is seen.
 pub fn bridged_is_seen()
     ensures { BridgedIsSeen }
 {
-    steps_keep_memories();
+    ttx_receiver::laws::steps_keep_memories();
     ttx_certify::laws::runs_are_seen();
     ttx_page::laws::each_slot_turns();
     ttx_page::laws::streams_move();
@@ -143,7 +136,7 @@ pub fn carried_is_seen()
     ensures { CarriedIsSeen }
 {
     ttx_certify::laws::runs_are_seen();
-    steps_keep_memories();
+    ttx_receiver::laws::steps_keep_memories();
     agreeing_streams_carry();
     agreeing_streams_are_received();
 }

@@ -1,16 +1,14 @@
 //! What is read for a splice: two packet files, two service definitions and two certificates.
 
-ghost use Rattle.std.specs.Prelude.{IfSome, IfErr};
+ghost use Rattle.std.specs.Prelude.{IfOk, ◌∷◌, []};
 ghost use Rattle.ttx_cycle.specs.Counters.{inner_of, faults_of};
-ghost use Rattle.ttx_cycle.specs.Cycles.{slots_of};
-ghost use Rattle.ttx_certify.specs.FileSteps.{viewed_by, ReadsService, ReadsWitness};
-ghost use Rattle.ttx_proof.specs.SplicingFiles.{ReadsCycle, ReadsCycles, ReadsServices, ReadsWitnesses, ReadsSix};
-ghost use Rattle.ttx_proof.specs.SplicingFiles.{IsRight, CountsPackets, CountsTwoCycles, CountsTwoTexts, CountsSix};
+ghost use Rattle.ttx_files.specs.Devices.{AtCycle, AtService, AtCertificate, input, failed_at, IsRight, IsFirstFailure};
+ghost use Rattle.ttx_proof.specs.SplicingFiles.{ReadsCycles, ReadsServices, ReadsWitnesses, ReadsSix};
 
 use std::alloc::Global;
 use std::io::Read;
-use ttx_certify::{FilesFault, TextFile, read_definition, read_witness};
-use ttx_cycle::{Counted, Cycle, read_cycle};
+use ttx_cycle::{Counted, Cycle};
+use ttx_files::{FilesFault, read_definition, read_packets, read_witness};
 use ttx_source::Service;
 use ttx_witness::Certificate;
 
@@ -40,23 +38,14 @@ pub struct Six {
     pub(crate) witnesses: Witnesses,
 }
 
-fn read_packets<R: Read>(alloc: Global, reader: &mut Counted<R>) -> Result<Cycle, FilesFault>
-    ensures bytes { IfSome (R.remaining (inner_of reader.old)) (λ bytes. ReadsCycle bytes (viewed_by slots_of result)) }
-    ensures faults { IfErr result (λ fault. CountsPackets fault (faults_of reader.old) (faults_of reader.new)) }
-{
-    match read_cycle(alloc, reader) {
-        Ok(cycle) => Ok(cycle),
-        Err(fault) => Err(FilesFault::Cycle(fault)),
-    }
-}
-
 fn read_cycles<A: Read, B: Read>(
     alloc: Global,
     old: &mut Counted<A>,
     new: &mut Counted<B>,
 ) -> Result<Cycles, FilesFault>
-    ensures faults { IfErr result (λ fault. CountsTwoCycles fault (A.remaining (inner_of old.old)) (faults_of old.old) (faults_of old.new)
-        (faults_of new.old) (faults_of new.new)) }
+    ensures right { IfOk result (λ _. IsRight AtCycle (A.remaining (inner_of old.old)) × IsRight AtCycle (B.remaining (inner_of new.old))) }
+    ensures faults { IsFirstFailure (input AtCycle (A.remaining (inner_of old.old)) (faults_of old.old) (faults_of old.new)
+        ∷ input AtCycle (B.remaining (inner_of new.old)) (faults_of new.old) (faults_of new.new) ∷ []) (failed_at result) }
     ensures bytes { ReadsCycles (A.remaining (inner_of old.old)) (B.remaining (inner_of new.old)) result }
 {
     let old = match read_packets(alloc, old) {
@@ -74,8 +63,9 @@ fn read_services<A: Read, B: Read>(
     old: &mut Counted<A>,
     new: &mut Counted<B>,
 ) -> Result<Services, FilesFault>
-    ensures faults { IfErr result (λ fault. CountsTwoTexts TextFile.Service fault (IsRight ReadsService (A.remaining (inner_of old.old)))
-        (faults_of old.old) (faults_of old.new) (faults_of new.old) (faults_of new.new)) }
+    ensures right { IfOk result (λ _. IsRight AtService (A.remaining (inner_of old.old)) × IsRight AtService (B.remaining (inner_of new.old))) }
+    ensures faults { IsFirstFailure (input AtService (A.remaining (inner_of old.old)) (faults_of old.old) (faults_of old.new)
+        ∷ input AtService (B.remaining (inner_of new.old)) (faults_of new.old) (faults_of new.new) ∷ []) (failed_at result) }
     ensures bytes { ReadsServices (A.remaining (inner_of old.old)) (B.remaining (inner_of new.old)) result }
 {
     let old = match read_definition(alloc, old) {
@@ -93,8 +83,9 @@ fn read_witnesses<A: Read, B: Read>(
     old: &mut Counted<A>,
     new: &mut Counted<B>,
 ) -> Result<Witnesses, FilesFault>
-    ensures faults { IfErr result (λ fault. CountsTwoTexts TextFile.Certificate fault (IsRight ReadsWitness (A.remaining (inner_of old.old)))
-        (faults_of old.old) (faults_of old.new) (faults_of new.old) (faults_of new.new)) }
+    ensures right { IfOk result (λ _. IsRight AtCertificate (A.remaining (inner_of old.old)) × IsRight AtCertificate (B.remaining (inner_of new.old))) }
+    ensures faults { IsFirstFailure (input AtCertificate (A.remaining (inner_of old.old)) (faults_of old.old) (faults_of old.new)
+        ∷ input AtCertificate (B.remaining (inner_of new.old)) (faults_of new.old) (faults_of new.new) ∷ []) (failed_at result) }
     ensures bytes { ReadsWitnesses (A.remaining (inner_of old.old)) (B.remaining (inner_of new.old)) result }
 {
     let old = match read_witness(alloc, old) {
@@ -117,10 +108,15 @@ pub fn read_six<A: Read, B: Read, C: Read, D: Read, E: Read, F: Read>(
     old_certificate: &mut Counted<E>,
     new_certificate: &mut Counted<F>,
 ) -> Result<Six, FilesFault>
-    ensures faults { IfErr result (λ fault. CountsSix fault (A.remaining (inner_of old.old)) (C.remaining (inner_of old_service.old))
-        (E.remaining (inner_of old_certificate.old)) (faults_of old.old) (faults_of old.new) (faults_of new.old) (faults_of new.new)
-        (faults_of old_service.old) (faults_of old_service.new) (faults_of new_service.old) (faults_of new_service.new)
-        (faults_of old_certificate.old) (faults_of old_certificate.new) (faults_of new_certificate.old) (faults_of new_certificate.new)) }
+    ensures right { IfOk result (λ _. IsRight AtCycle (A.remaining (inner_of old.old)) × IsRight AtCycle (B.remaining (inner_of new.old))
+        × IsRight AtService (C.remaining (inner_of old_service.old)) × IsRight AtService (D.remaining (inner_of new_service.old))
+        × IsRight AtCertificate (E.remaining (inner_of old_certificate.old)) × IsRight AtCertificate (F.remaining (inner_of new_certificate.old))) }
+    ensures faults { IsFirstFailure (input AtCycle (A.remaining (inner_of old.old)) (faults_of old.old) (faults_of old.new)
+        ∷ input AtCycle (B.remaining (inner_of new.old)) (faults_of new.old) (faults_of new.new)
+        ∷ input AtService (C.remaining (inner_of old_service.old)) (faults_of old_service.old) (faults_of old_service.new)
+        ∷ input AtService (D.remaining (inner_of new_service.old)) (faults_of new_service.old) (faults_of new_service.new)
+        ∷ input AtCertificate (E.remaining (inner_of old_certificate.old)) (faults_of old_certificate.old) (faults_of old_certificate.new)
+        ∷ input AtCertificate (F.remaining (inner_of new_certificate.old)) (faults_of new_certificate.old) (faults_of new_certificate.new) ∷ []) (failed_at result) }
     ensures bytes { ReadsSix (A.remaining (inner_of old.old)) (B.remaining (inner_of new.old)) (C.remaining (inner_of old_service.old))
         (D.remaining (inner_of new_service.old)) (E.remaining (inner_of old_certificate.old)) (F.remaining (inner_of new_certificate.old))
         result }

@@ -1,23 +1,16 @@
-use Rattle.ttx_cycle.specs.Counters.{inner_of}
-use Rattle.ttx_certify.proofs.ThreeInputs.{all_refused, counts_refused, all_written, partly_written}
+use Rattle.std.proofs.Common.{[], ◌∷◌}
+use Rattle.ttx_cycle.specs.Counters.{inner_of, faults_of}
+use Rattle.ttx_files.specs.Devices.{AtCycle, AtService, AtCertificate, input}
+use Rattle.ttx_files.proofs.Failures.{told_after}
 use Rattle.ttx_certify.proofs.files.certify_files.Goals as goal
 
-pub returns-in-Err-clause-bytes : goal.returns-in-Err-clause-bytes
-returns-in-Err-clause-bytes g c = all_refused c.in-Err.fault (g.A.Read.remaining (inner_of c.args.cycle.now))
-    (g.B.Read.remaining (inner_of c.args.service.now))
-    (g.C.Read.remaining (inner_of c.args.certificate.now)) _ c.in-Err.ensures.bytes
-
-pub returns-in-Err-clause-faults : goal.returns-in-Err-clause-faults
-returns-in-Err-clause-faults g c = counts_refused c.in-Err.fault _ _ _ _ _ _ _ _ c.in-Err.ensures.faults
-
-pub returns-in-Ok-write_line-clause-bytes : goal.returns-in-Ok-write_line-clause-bytes
-returns-in-Ok-write_line-clause-bytes g c =
-    all_written c.in-Ok.judged.verdict _ _ c.as_bytes.ensures.value (g.A.Read.remaining (inner_of c.args.cycle.now))
-    (g.B.Read.remaining (inner_of c.args.service.now)) (g.C.Read.remaining (inner_of c.args.certificate.now)) _ _
-    c.in-Ok.ensures.bytes c.in-Ok-write_line.ensures.bytes
-
-pub returns-clause-bytes : goal.returns-clause-bytes
-returns-clause-bytes g c =
-    partly_written c.in-Ok.judged.verdict _ _ c.as_bytes.ensures.value (g.A.Read.remaining (inner_of c.args.cycle.now))
-    (g.B.Read.remaining (inner_of c.args.service.now)) (g.C.Read.remaining (inner_of c.args.certificate.now)) _ _
-    c.in-Ok.ensures.bytes c.in-Err-write_line.fault c.in-Err-write_line.ensures.bytes
+pub returns-clause-faults : goal.returns-clause-faults
+returns-clause-faults g c =
+    told_after
+    (input AtCycle (g.A.Read.remaining (inner_of c.args.cycle.now)) (faults_of c.args.cycle.now) (faults_of c.judge_files-told.new.cycle)
+    ∷ input AtService (g.B.Read.remaining (inner_of c.args.service.now)) (faults_of c.args.service.now) (faults_of c.judge_files-told.new.service)
+    ∷ input AtCertificate (g.C.Read.remaining (inner_of c.args.certificate.now)) (faults_of c.args.certificate.now)
+    (faults_of c.judge_files-told.new.certificate) ∷ [])
+    (g.W.Write.contents (inner_of c.args.writer.now)) (g.W.Write.contents (inner_of c.write_told.new.writer)) (faults_of c.args.writer.now)
+    (faults_of c.write_told.new.writer) (λ right. (right.0, (right.1, (right.2, tt)))) c.judge_files-told.result c.write_told.result
+    c.judge_files-told.ensures.faults c.judge_files-told.ensures.right c.write_told.ensures.told

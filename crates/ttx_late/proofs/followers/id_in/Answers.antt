@@ -9,10 +9,10 @@ returns-in-Some c =
     let slot = c.args.slot.now in
     subst (λ id. HoldsId id (packet_of slot)) (sym c.id.ensures.value)
     (subst (λ o. MatchOption o (HoldsNoId (packet_of slot)) (λ h. HoldsId h.id (packet_of slot))) c.in-Some.is
-    (id_told slot c.requires c.headers_have_fields.ensures c.headers_are_headers.ensures c.read_header.result c.read_header.ensures))
+    (id_told slot c.is_slot.ensures c.headers_have_fields.ensures c.headers_are_headers.ensures c.read_header.result c.read_header.ensures))
 
 pub returns-in-None : goal.returns-in-None
 returns-in-None c =
     let slot = c.args.slot.now in
     subst (λ o. MatchOption o (HoldsNoId (packet_of slot)) (λ h. HoldsId h.id (packet_of slot))) c.in-None.is
-    (id_told slot c.requires c.headers_have_fields.ensures c.headers_are_headers.ensures c.read_header.result c.read_header.ensures)
+    (id_told slot c.is_slot.ensures c.headers_have_fields.ensures c.headers_are_headers.ensures c.read_header.result c.read_header.ensures)

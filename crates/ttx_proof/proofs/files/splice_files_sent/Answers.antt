@@ -1,30 +1,34 @@
-use Rattle.ttx_cycle.specs.Counters.{inner_of}
-use Rattle.ttx_cycle.specs.Cycles.{slots_of}
-use Rattle.ttx_witness.specs.Certificates.{fields_of}
+use Rattle.std.proofs.Common.{[], ◌∷◌}
+use Rattle.ttx_cycle.specs.Counters.{inner_of, faults_of}
+use Rattle.ttx_files.specs.Devices.{AtCycle, AtService, AtCertificate, input}
+use Rattle.ttx_files.proofs.Failures.{told_after}
+use Rattle.ttx_files.proofs.ToldFiles.{answers_read}
 use Rattle.ttx_proof.specs.SplicingFiles.{SplicesSent, IsSixRefused}
-use Rattle.ttx_proof.proofs.SixFiles.{partly_written}
 use Rattle.ttx_proof.proofs.files.splice_files_sent.Goals as goal
 
 pub returns-clause-bytes : goal.returns-clause-bytes
 returns-clause-bytes g c =
-    let six = c.in-Ok.six in
-    let a = g.A.Read.remaining (inner_of c.args.old.now) in
-    let b = g.B.Read.remaining (inner_of c.args.new.now) in
-    let c' = g.C.Read.remaining (inner_of c.args.old_service.now) in
-    let d = g.D.Read.remaining (inner_of c.args.new_service.now) in
-    let e = g.E.Read.remaining (inner_of c.args.old_certificate.now) in
-    let f = g.F.Read.remaining (inner_of c.args.new_certificate.now) in
-    partly_written (SplicesSent a b c' d e f c.args.periods) (IsSixRefused a b c' d e f) _ _ c.in-Ok-tell_sent.sent.verdict _ _
-    c.as_bytes.ensures.value
-    (record {
-      old = slots_of six.cycles.old;
-      new = slots_of six.cycles.new;
-      old_service = six.services.old;
-      new_service = six.services.new;
-      v = fields_of six.witnesses.old;
-      w = fields_of six.witnesses.new;
-      cycles = c.in-Ok.ensures.bytes.0;
-      services = c.in-Ok.ensures.bytes.1;
-      certificates = c.in-Ok.ensures.bytes.2;
-      told = c.in-Ok-tell_sent.ensures;
-    }) c.in-Err-write_line.fault c.in-Err-write_line.ensures.bytes
+    answers_read (SplicesSent (g.A.Read.remaining (inner_of c.args.old.now)) (g.B.Read.remaining (inner_of c.args.new.now)) (g.C.Read.remaining (inner_of c.args.old_service.now)) (g.D.Read.remaining (inner_of c.args.new_service.now)) (g.E.Read.remaining (inner_of c.args.old_certificate.now)) (g.F.Read.remaining (inner_of c.args.new_certificate.now)) c.args.periods) (IsSixRefused (g.A.Read.remaining (inner_of c.args.old.now)) (g.B.Read.remaining (inner_of c.args.new.now)) (g.C.Read.remaining (inner_of c.args.old_service.now)) (g.D.Read.remaining (inner_of c.args.new_service.now)) (g.E.Read.remaining (inner_of c.args.old_certificate.now)) (g.F.Read.remaining (inner_of c.args.new_certificate.now)))
+    (input AtCycle (g.A.Read.remaining (inner_of c.args.old.now)) (faults_of c.args.old.now) (faults_of c.judge_sent-told.new.old)
+    ∷ input AtCycle (g.B.Read.remaining (inner_of c.args.new.now)) (faults_of c.args.new.now) (faults_of c.judge_sent-told.new.new)
+    ∷ input AtService (g.C.Read.remaining (inner_of c.args.old_service.now)) (faults_of c.args.old_service.now) (faults_of c.judge_sent-told.new.old_service)
+    ∷ input AtService (g.D.Read.remaining (inner_of c.args.new_service.now)) (faults_of c.args.new_service.now) (faults_of c.judge_sent-told.new.new_service)
+    ∷ input AtCertificate (g.E.Read.remaining (inner_of c.args.old_certificate.now)) (faults_of c.args.old_certificate.now) (faults_of c.judge_sent-told.new.old_certificate)
+    ∷ input AtCertificate (g.F.Read.remaining (inner_of c.args.new_certificate.now)) (faults_of c.args.new_certificate.now) (faults_of c.judge_sent-told.new.new_certificate) ∷ [])
+    (tt, (tt, (tt, (tt, (tt, (tt, tt)))))) (g.W.Write.contents (inner_of c.args.writer.now)) (g.W.Write.contents (inner_of c.write_told.new.writer)) (faults_of c.args.writer.now)
+    (faults_of c.write_told.new.writer)
+    c.judge_sent-told.result c.write_told.result c.judge_sent-told.ensures.faults c.judge_sent-told.ensures.bytes c.write_told.ensures.told
+
+pub returns-clause-faults : goal.returns-clause-faults
+returns-clause-faults g c =
+    told_after
+    (input AtCycle (g.A.Read.remaining (inner_of c.args.old.now)) (faults_of c.args.old.now) (faults_of c.judge_sent-told.new.old)
+    ∷ input AtCycle (g.B.Read.remaining (inner_of c.args.new.now)) (faults_of c.args.new.now) (faults_of c.judge_sent-told.new.new)
+    ∷ input AtService (g.C.Read.remaining (inner_of c.args.old_service.now)) (faults_of c.args.old_service.now) (faults_of c.judge_sent-told.new.old_service)
+    ∷ input AtService (g.D.Read.remaining (inner_of c.args.new_service.now)) (faults_of c.args.new_service.now) (faults_of c.judge_sent-told.new.new_service)
+    ∷ input AtCertificate (g.E.Read.remaining (inner_of c.args.old_certificate.now)) (faults_of c.args.old_certificate.now) (faults_of c.judge_sent-told.new.old_certificate)
+    ∷ input AtCertificate (g.F.Read.remaining (inner_of c.args.new_certificate.now)) (faults_of c.args.new_certificate.now) (faults_of c.judge_sent-told.new.new_certificate) ∷ [])
+    (g.W.Write.contents (inner_of c.args.writer.now)) (g.W.Write.contents (inner_of c.write_told.new.writer)) (faults_of c.args.writer.now)
+    (faults_of c.write_told.new.writer)
+    (λ right. (right.0, (right.1, (right.2, (right.3, (right.4, (right.5, tt))))))) c.judge_sent-told.result c.write_told.result
+    c.judge_sent-told.ensures.faults c.judge_sent-told.ensures.right c.write_told.ensures.told

@@ -16,12 +16,12 @@ returns-in-Some c =
     subst (λ o. IfSome o (λ e. ended_certificate e ≡ second_certificate self)) c.in-Some.is c.end.ensures.certificate in
     record {
       verdict = λ x y st.
-          let is = subst (EndsAs x y) c.in-Some.is (c.end.ensures.ended x y st) in
-          as_walked x y is.cycle.most (second_pages self) (second_certificate self) c.judge.result
+          let (borne, is) = subst (EndsAs x y (second_pages self)) c.in-Some.is (c.end.ensures.ended x y st) in
+          as_walked x y (second_pages self) (second_certificate self) borne c.judge.result
           (subst (λ w. IsVerdict y (second_pages self) w c.judge.result) same
           (subst (λ ps. IsVerdict y ps (ended_certificate ended) c.judge.result) pages (c.judge.ensures y is)));
       seen = λ x y st.
-          let is = subst (EndsAs x y) c.in-Some.is (c.end.ensures.ended x y st) in
+          let (_, is) = subst (EndsAs x y (second_pages self)) c.in-Some.is (c.end.ensures.ended x y st) in
           subst (λ w. Means y (second_pages self) w c.judge.result) same
           (subst (λ ps. Means y ps (ended_certificate ended) c.judge.result) pages
           (seen_by_all c.accepted_is_seen.ensures y is.cycle (ended_pages ended)
@@ -31,6 +31,6 @@ returns-in-Some c =
 
 pub returns-in-None : goal.returns-in-None
 returns-in-None c = record {
-  verdict = λ x y st. subst (EndsAs x y) c.in-None.is (c.end.ensures.ended x y st);
+  verdict = λ x y st. subst (EndsAs x y (second_pages c.args.self)) c.in-None.is (c.end.ensures.ended x y st);
   seen = λ x y st. tt;
 }
