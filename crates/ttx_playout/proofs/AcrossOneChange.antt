@@ -1,5 +1,5 @@
 -- Whether a page is followed across one change, by the last header of its magazine in the old cycle and the first one in the new cycle.
-use Rattle.std.proofs.Common.{◌≡◌, ◌↔◌, ℕ, zero, suc, Bool, ◌+◌, ◌<◌, ℤ, pos, negsuc, ◌+ℤ◌, ◌<ℤ◌, ◌≤ℤ◌, true, false, List, [], length, get_or, Option, None, Some, sym, ap, ◌∙◌}
+use Rattle.std.proofs.Common.{◌≡◌, ◌↔◌, ℕ, zero, suc, Bool, ◌+◌, ◌<◌, ℤ, pos, negsuc, ◌<ℤ◌, true, false, List, [], length, get_or, Option, None, Some, sym, ap, ◌∙◌}
 use Rattle.std.proofs.Common.{◌∷◌, refl, subst, inl, inr, arith}
 use Rattle.std.proofs.lemmas.Int.{ints}
 use Rattle.std.proofs.lemmas.Bool.{both_ways, cases_lt}
@@ -12,7 +12,7 @@ use Rattle.ttx_proof.proofs.LatestHeaderBefore.{latest_same}
 use Rattle.ttx_proof.proofs.NamedStarts.{turned_start}
 use Rattle.ttx_playout.specs.LateSchedules.{IsFollowedAcross}
 use Rattle.ttx_playout.specs.LateChanges.{TellsFirstHeader, EndsInTime}
-use Rattle.ttx_playout.proofs.CarriedThrough.{page_heads}
+use Rattle.ttx_page.proofs.Owners.{page_heads}
 use Rattle.ttx_playout.proofs.FollowedAcross.{another_heads, across_is_decided}
 
 -- each cycle has a first header of the magazine, or none

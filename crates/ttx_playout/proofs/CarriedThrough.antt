@@ -1,13 +1,11 @@
 -- A page that stays is carried: by one edition, across one change, and through all of a schedule.
 use Rattle.std.proofs.Common.{◌≡◌, ℕ, zero, suc, ◌+◌, ◌*◌, ◌<◌, ◌≤◌, ℤ, pos, ◌+ℤ◌, ◌-ℤ◌, ◌<ℤ◌, ◌≤ℤ◌, true, List, [], ◌∷◌, length}
-use Rattle.std.proofs.Common.{get_or, take, sym, ap, ◌∙◌, subst, arith, eqb-true, eq-eqb}
+use Rattle.std.proofs.Common.{get_or, take, sym, ap, ◌∙◌, subst, arith}
 use Rattle.std.proofs.lemmas.Int.{ints}
-use Rattle.std.proofs.lemmas.Bool.{and_parts}
-use Rattle.ttx_header.specs.Ids.{Id}
-use Rattle.ttx_page.specs.Packets.{Packet, Empty, Unreadable, Header, Row, Links, Info, Other, packet_of}
+use Rattle.ttx_page.specs.Packets.{packet_of}
 use Rattle.ttx_page.specs.Pages.{Page}
 use Rattle.ttx_page.specs.declared.selection.Selection.{Selection}
-use Rattle.ttx_page.specs.Streams.{Stream, repeated, turned, heads, heads_page}
+use Rattle.ttx_page.specs.Streams.{Stream, repeated, turned, heads}
 use Rattle.ttx_page.specs.Laws.{EachSlotTurns}
 use Rattle.ttx_witness.specs.Coverage.{Certificate, IsCertificate, Accepts, limit}
 use Rattle.ttx_proof.specs.Splices.{Splice, stream, NumbersAgree}
@@ -17,19 +15,11 @@ use Rattle.ttx_proof.specs.declared.verdict.SpliceVerdict.TheVariants.{Yes}
 use Rattle.ttx_proof.specs.Carried.{Carries, IsCarried, AgreeingStreamsBring, AgreeingStreamsCarry, AcceptedIsCarried, CommonIsCarried}
 use Rattle.ttx_proof.proofs.NamedStarts.{turned_start}
 use Rattle.ttx_proof.proofs.BridgedIsSeen.{place_of}
+use Rattle.ttx_page.proofs.Owners.{page_heads}
 use Rattle.ttx_playout.specs.Schedules.{Edition, Showing, span, sent, IsEdition, AreEditions, change, IsHandedOn, Stands}
 use Rattle.ttx_playout.specs.Schedules.{StaysOn, HasBegun}
 use Rattle.ttx_playout.proofs.Changes.{carries_over}
 use Rattle.ttx_playout.proofs.SentEditions.{above, last_change, next_change, cut_editions, cut_handed}
-
-pub page_heads : (page : Id) (packet : Packet) → heads_page page packet ≡ true → heads page.mag packet ≡ true
-page_heads page (Header id control text) h = eq-eqb id.mag page.mag (sym (eqb-true page.mag id.mag ((and_parts _ _ (and_parts _ _ h).0).0)))
-page_heads page (Row m n text) h = h
-page_heads page (Links m content) h = h
-page_heads page Empty h = h
-page_heads page Unreadable h = h
-page_heads page Info h = h
-page_heads page Other h = h
 
 -- the laws that are cited
 pub record CarriedLaws : Type 0 where

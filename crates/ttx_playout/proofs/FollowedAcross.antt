@@ -8,7 +8,7 @@ use Rattle.ttx_page.specs.Streams.{Stream, heads, heads_page, IsLatestHeader}
 use Rattle.ttx_page.specs.Followers.{heads_another}
 use Rattle.ttx_page.proofs.SlotDistances.{cases_ltz}
 use Rattle.ttx_playout.specs.Laws.{AcrossIsDecided}
-use Rattle.ttx_playout.proofs.CarriedThrough.{page_heads}
+use Rattle.ttx_page.proofs.Owners.{page_heads}
 
 pub another_heads : (page : Id) (packet : Packet) → heads_another page packet ≡ true → heads page.mag packet ≡ true
 another_heads page (Header id control text) h = (and_parts (id.mag == page.mag) _ h).0

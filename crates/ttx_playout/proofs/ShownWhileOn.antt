@@ -6,7 +6,7 @@ use Rattle.ttx_witness.specs.Coverage.{limit}
 use Rattle.ttx_certify.proofs.AcceptedIsSeen.{fits_matches}
 use Rattle.ttx_certify.proofs.LaterReceptions.{received_later}
 use Rattle.ttx_late.specs.Laws.{RunsAreShown, IsFollowedFrom}
-use Rattle.ttx_proof.specs.Laws.{StepsKeepMemories}
+use Rattle.ttx_receiver.specs.Laws.{StepsKeepMemories}
 use Rattle.ttx_proof.specs.Carried.{Carries, AgreeingStreamsAreReceived}
 use Rattle.ttx_proof.proofs.BridgedIsSeen.{place_of}
 use Rattle.ttx_proof.proofs.CarriedIsSeen.{started, started_high, started_is}

@@ -1,11 +1,11 @@
--- What receivers that show late need of a change (profile), and how it is found.
+-- What receivers that show pages late need of a change (profile), and how it is decided.
 --
 --   TellsFirstHeader        the first slot of a cycle that is a header of a magazine
---   EndsInTime              this header has another page number than the page, and stands at most so many slots after the page's last one
---   IsFirstUnfollowed       the first page of the old list that isn't followed across the change
---   IsUnshown               why a page of a cycle isn't followed in time
+--   EndsInTime              this header has another page number, and comes in time after the page's last header
+--   IsFirstUnfollowed       the first page of the old list that is not followed across the change
+--   IsUnshown               why a page of a cycle is not followed in time
 --   IsFollowedChange        whether the pages are followed in time, in the next edition and across the change
---   IsLateChange            the answer to a next edition
+--   IsLateChange            the late verdict on a change
 use Rattle.std.specs.Prelude.{◌≡◌, ℕ, ◌+◌, ◌<◌, true, false, List, [], length, get_or, slice_get, Option, Some, None}
 use Rattle.ttx_header.specs.Ids.{Id}
 use Rattle.ttx_page.specs.Packets.{packet_of}
@@ -26,7 +26,7 @@ TellsFirstHeader cycle mag None = (i : ℕ) → i < length cycle → heads mag (
 TellsFirstHeader cycle mag (Some at) = (at < length cycle) × (heads mag (packet_of (get_or cycle at [])) ≡ true)
     × ((i : ℕ) → i < at → heads mag (packet_of (get_or cycle i [])) ≡ false)
 
--- the page's last header stands so many slots before the old cycle's last one
+-- the page's last header stands `back` slots before the end of the old cycle
 abbrev pub EndsInTime : List (List ℕ) → Id → ℕ → ℕ → Type 0
 EndsInTime new page back gap =
     (at : ℕ) × TellsFirstHeader new page.mag (Some at) × (heads_another page (packet_of (get_or new at [])) ≡ true) × (at + back < gap)
@@ -53,7 +53,7 @@ IsFollowedChange old new gap (TooFar greatest) = IsUnshown new.cycle new.pages g
 IsFollowedChange old new gap (Unfollowed page) =
     AreFollowedWithin new.cycle new.pages gap × IsFirstUnfollowed old.cycle new.cycle old.pages gap page
 
--- the splice's own reason, or what is found of an accepted change
+-- the splice's own reason, or what is decided of an accepted change
 abbrev pub IsLateChange : Edition → Edition → ℕ → LateChange → Type 0
 IsLateChange old new gap (No reason) = IsChangeVerdict old new (splice.No reason)
 IsLateChange old new gap verdict = IsChangeVerdict old new splice.Yes × IsFollowedChange old new gap verdict

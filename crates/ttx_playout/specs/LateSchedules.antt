@@ -1,9 +1,9 @@
 -- Receivers that show a page late, while it stays in the editions of a schedule (profile).
 --
 --   IsFollowedAcross        the last header of a page before a change is followed in time by one of another page number
---   AllAreFollowedAcross, IsFollowedThrough         so is each page of a list; each page of each edition, there and across the change
---   IsFollowedWhile         so is each header of it, in each edition and across each change
---   IsShownWhile            who shows such a page, from when on and how long
+--   AllAreFollowedAcross, IsFollowedThrough         so is each page of a list; so is each page of each edition, within it and across the change
+--   IsFollowedWhile         so is each header of one page, in some editions and across the changes between them
+--   IsShownWhile            who shows such a page, from when on, and for how long
 use Rattle.std.specs.Prelude.{◌≡◌, ℕ, suc, ◌<◌, ◌≤◌, ℤ, pos, ◌+ℤ◌, ◌<ℤ◌, ◌≤ℤ◌, true, false, List, [], ◌∷◌, length, slice_get, Some}
 use Rattle.ttx_header.specs.Ids.{Id}
 use Rattle.ttx_page.specs.Packets.{packet_of}
@@ -20,8 +20,7 @@ use Rattle.ttx_late.specs.LateReceivers.{LateMemory, LateRun}
 use Rattle.ttx_late.specs.Followed.{AreFollowedWithin}
 use Rattle.ttx_playout.specs.Schedules.{Edition, Showing, edition_at, HasBegun, IsStillOn}
 
--- Where the last header of the magazine before slot 0 is one of the page, the next one has another page number, and stands at most so
--- many slots on.
+-- If the last header of the magazine before slot 0 is the page's, the next one has another page number and comes at most `gap` slots later.
 abbrev pub IsFollowedAcross : Stream → Id → ℕ → Type 0
 IsFollowedAcross s page gap = (h : ℤ) → h <ℤ pos 0 → heads_page page (packet_of (s h)) ≡ true →
     ((i : ℤ) → h <ℤ i → i <ℤ pos 0 → heads page.mag (packet_of (s i)) ≡ false) → (f : IsFollowed s page h) × (f.slot ≤ℤ (h +ℤ pos gap))
@@ -30,8 +29,7 @@ IsFollowedAcross s page gap = (h : ℤ) → h <ℤ pos 0 → heads_page page (pa
 abbrev pub AllAreFollowedAcross : List (List ℕ) → List (List ℕ) → List Page → ℕ → Type 0
 AllAreFollowedAcross old new pages gap = (n : ℕ) (p : Page) → slice_get pages n ≡ Some p → IsFollowedAcross (joined old new) p.id gap
 
--- In each edition each of its pages is followed by another page number within so many slots, and across each change each page of the
--- edition that leaves the air.
+-- Each page of each edition is followed by another page number within `gap` slots, in the edition and across the change to the next one.
 abbrev pub IsFollowedThrough : ℕ → Edition → List Showing → Type 0
 IsFollowedThrough gap first [] = AreFollowedWithin first.cycle first.pages gap
 IsFollowedThrough gap first (t ∷ later) =
@@ -43,7 +41,7 @@ pub record IsFollowedWhile (first : Edition) (later : List Showing) (page : Id) 
   pub across : (n : ℕ) → from ≤ n → n < to →
       IsFollowedAcross (joined (edition_at first later n).cycle (edition_at first later (suc n)).cycle) page gap
 
--- As IsSeenWhile, with what is shown in place of what is held: it has the page's View `gap` slots later.
+-- As IsSeenWhile, of what the receiver shows and not of what it holds: it has the page's View `gap` slots later.
 pub record IsShownWhile (s : Stream) (first : Edition) (later : List Showing) (p : Page) (sel : Selection) (from to gap : ℕ) : Type 0 where
   pub shown :
       (tau begin : ℤ) (former d : LateMemory) (received : List (List ℕ)) →

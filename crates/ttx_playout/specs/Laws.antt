@@ -1,18 +1,18 @@
 -- The laws of schedules. Each is proved by the function of its name in `laws`.
 --
---   HandedOnIsSeen          a page that stays is seen as long as it stays
+--   HandedOnIsSeen          a page is seen as long as it stays
 --   SentSoFarIsSeen         the same of a head-end that sends a schedule from some slot on, up to now: whatever was sent before
---   IsLogFrom, HeadEndIsSeen        and so of all that a head-end has sent, whatever it was told to do
---   AcrossIsDecided         the two headers round a change that decide whether a page is followed across it
---   EachScheduleRuns        that speaks of something: of each schedule something is received, and each receiver makes something of it
---   MoreIsSame, PastStays   one more period of the last edition, and a further edition, change nothing of what was sent before
---   AlwaysSeen              a page of all editions is seen by the deadline after tuning, and ever after
---   LatestIsSeen            each page of the last edition is seen by the deadline after tuning or after its begin, and ever after
+--   IsLogFrom, HeadEndIsSeen        the same of all that a head-end has sent, whatever calls it made
+--   AcrossIsDecided         two headers decide whether a page is followed across a change
+--   EachScheduleRuns        the laws are not empty: each schedule has a reception, and each receiver a run over it
+--   MoreIsSame, PastStays   one more period of the last edition, or a further edition, does not change what was sent before
+--   AlwaysSeen              a page of all editions is seen by the deadline after tuning, and from then on
+--   LatestIsSeen            each page of the last edition is seen by the deadline after tuning or after it began, and from then on
 --   HandedOnIsSeenOnAir, TimedIsSeen        the same of what a head-end puts on the air, whatever its clock says
---   HandedOnIsShown, HandedOnIsShownOnAir   and by receivers that show late, where the page is followed by another page number
---   SentSoFarIsShown, HeadEndIsShown        the same of a head-end that has a beginning
+--   HandedOnIsShown, HandedOnIsShownOnAir   the same for receivers that show pages late, if the page is followed by another page number
+--   SentSoFarIsShown, HeadEndIsShown        the same of a head-end that began at some time
 --   CountedIsHandedOn       a script that counts periods keeps a schedule handed on
---   ThroughIsWhile, ThroughGoesOn           what the late form of the judgement asks is what each page needs while it stays
+--   ThroughIsWhile, ThroughGoesOn           what the late verdict asks is what each page needs while it stays
 use Rattle.std.specs.Prelude.{◌≡◌, ◌↔◌, true, ℕ, ◌<◌, ◌≤◌, ℤ, pos, ◌*◌, ◌+ℤ◌, ◌-ℤ◌, ◌<ℤ◌, ◌≤ℤ◌, List, [], length, slice_index_or}
 use Rattle.ttx_header.specs.Ids.{Id}
 use Rattle.ttx_page.specs.declared.class.Class.{Class}
@@ -45,7 +45,7 @@ HandedOnIsSeen =
     (p : Page) (sel : Selection) (from to : ℕ) → from ≤ to → to ≤ length later → StaysOn first later p sel from to →
     IsSeenWhile (sent first later) first later p sel from to
 
--- From slot start on, up to now, the stream is what the schedule sends; before that it is anything: silence, or another service.
+-- From slot `start` on, up to now, the stream is what the schedule sends. Before that it may be anything: silence, or another service.
 abbrev pub SentSoFarIsSeen : Type 0
 SentSoFarIsSeen =
     (first : Edition) (later : List Showing) → AreEditions first later → IsHandedOn first later →
@@ -56,12 +56,12 @@ SentSoFarIsSeen =
     (begin +ℤ pos (limit first.certificate)) ≤ℤ (tau +ℤ pos (length received)) → (tau +ℤ pos (length received)) ≤ℤ now →
     IsStillOn later to (tau +ℤ pos (length received)) → Run Any first.certificate.lines sel former received m → HasView p m
 
--- the slots of the log stand in the stream from slot start on
+-- the slots of the log stand in the stream from slot `start` on
 abbrev pub IsLogFrom : List (List ℕ) → Stream → ℤ → Type 0
 IsLogFrom log s start = (n : ℕ) → n < length log → s (start +ℤ pos n) ≡ slice_index_or log n []
 
--- What a head-end has sent: each page that stays in the editions that it has had on the air is seen, a deadline after tuning or after the
--- page came, by whoever received it from there.
+-- Each page that stays in the editions that a head-end has put on the air is seen, a deadline after tuning or after the page came, by each
+-- receiver of what the head-end has sent.
 abbrev pub HeadEndIsSeen : Type 0
 HeadEndIsSeen =
     (log : List (List ℕ)) (o : OnAir) (first : Edition) (later : List Showing) → (has : HasSent log o first later) →
@@ -73,7 +73,7 @@ HeadEndIsSeen =
     (begin +ℤ pos (limit first.certificate)) ≤ℤ (tau +ℤ pos (length received)) → (tau +ℤ pos (length received)) ≤ℤ has.next →
     IsStillOn later to (tau +ℤ pos (length received)) → Run Any first.certificate.lines sel former received m → HasView p m
 
--- at any slot tau, by whatever receiver, ever after
+-- tuned at any slot tau, by each permitted receiver, and from then on
 abbrev pub AlwaysSeen : Type 0
 AlwaysSeen =
     (first : Edition) (later : List Showing) → AreEditions first later → IsHandedOn first later →
@@ -91,7 +91,7 @@ LatestIsSeen =
     (begin +ℤ pos (limit first.certificate)) ≤ℤ (tau +ℤ pos (length received)) →
     Run Any first.certificate.lines sel former received m → HasView p m
 
--- by any head-end that changes no byte but those that may be received as anything
+-- from any head-end that changes only bytes that may be received as anything
 abbrev pub HandedOnIsSeenOnAir : Type 0
 HandedOnIsSeenOnAir =
     (first : Edition) (later : List Showing) → AreEditions first later → IsHandedOn first later →
@@ -99,7 +99,7 @@ HandedOnIsSeenOnAir =
     (p : Page) (sel : Selection) (from to : ℕ) → from ≤ to → to ≤ length later → StaysOn first later p sel from to →
     IsSeenWhile air first later p sel from to
 
--- what a schedule sends, with the time that a clock tells at each slot
+-- what a schedule sends, with the time that a clock shows at each slot
 abbrev pub timed : (ℤ → Moment) → Stream → Stream
 timed clock s i = at_time (clock i) (s i)
 
@@ -109,7 +109,7 @@ TimedIsSeen =
     (p : Page) (sel : Selection) (from to : ℕ) → from ≤ to → to ≤ length later → StaysOn first later p sel from to →
     IsSeenWhile (timed clock (sent first later)) first later p sel from to
 
--- The same of receivers that show late, of what a head-end sends from slot start on, up to now.
+-- The same for receivers that show pages late, of what a head-end sends from slot `start` on, up to now.
 abbrev pub SentSoFarIsShown : Type 0
 SentSoFarIsShown =
     (first : Edition) (later : List Showing) → AreEditions first later → IsHandedOn first later →
@@ -160,7 +160,7 @@ abbrev pub PastStays : Type 0
 PastStays = (first next : Edition) (later : List Showing) (i : ℤ) → i <ℤ pos (first_slot later (length later)) →
     sent first (taken later next) i ≡ sent first later i
 
--- The last header of the magazine before slot 0 and the first one from it on decide: either the former isn't the page's, or the latter
+-- The last header of the magazine before slot 0 and the first one from slot 0 on decide: either the former is not the page's, or the latter
 -- has another page number and comes in time.
 abbrev pub AcrossIsDecided : Type 0
 AcrossIsDecided =
@@ -169,14 +169,14 @@ AcrossIsDecided =
     IsFollowedAcross s page gap
     ↔ (heads_page page (packet_of (s last)) ≡ true → (heads_another page (packet_of (s first)) ≡ true) × (first ≤ℤ (last +ℤ pos gap)))
 
--- So does a script that counts the periods of the cycle on the air, and changes on a yes alone.
+-- A script that counts the periods of the cycle on the air, and changes only when the splice is accepted, keeps a schedule handed on.
 abbrev pub CountedIsHandedOn : Type 0
 CountedIsHandedOn =
     (first next : Edition) (later : List Showing) (periods : ℕ) → IsHandedOn first later →
     IsSentFor later (periods * length (edition_at first later (length later)).cycle) →
     IsSentVerdict (change (edition_at first later (length later)) next) periods Yes → IsHandedOn first (taken later next)
 
--- What `judge_late` asks of each change, and of the first edition, is what each page needs while it stays.
+-- What `judge_late` asks of each change and of the first edition is what each page needs while it stays.
 abbrev pub ThroughIsWhile : Type 0
 ThroughIsWhile =
     (first : Edition) (later : List Showing) (p : Page) (sel : Selection) (from to : ℕ) → to ≤ length later → StaysOn first later p sel from to →

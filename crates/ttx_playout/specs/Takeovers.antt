@@ -1,11 +1,11 @@
--- What is on the air, and how the next edition takes over.
+-- The edition on the air, and how the next one takes over.
 --
 --   edition_of, current_of, at_of, held_of  the values of the program as schedules see them
 --   IsSentFor                               the last edition has been sent for so many slots
---   IsOnAir                                 a schedule that is handed on leads up to the edition on the air
---   IsPlace, HasSent                        which slot of the schedule comes next; what was sent is a part of what it sends
---   after_slot                              the schedule once the next slot is sent
---   IsStart, IsChange, TakesOver            the answers to a first edition, and to the next one
+--   IsOnAir                                 a handed-on schedule has led to the edition on the air
+--   IsPlace, HasSent                        which slot of the schedule comes next; what was sent is a stretch of what it sends
+--   after_slot                              the schedule after the next slot
+--   IsStart, IsChange, TakesOver            what is answered to a first edition, and to a next one
 use Rattle.std.specs.Prelude.{◌≡◌, ℕ, ◌+◌, ◌-◌, ◌^◌, ◌<◌, ◌≤◌, min, ℤ, pos, ◌-ℤ◌, nat_lt, if◌then◌else◌, List, [], ◌∷◌, length, Result, Ok, Err}
 use Rattle.ttx_page.specs.Streams.{turned}
 use Rattle.ttx_page.specs.Laws.{sent_from}
@@ -37,41 +37,41 @@ current_of o = edition_of o.current
 abbrev pub at_of : OnAir → ℕ
 at_of o = o.at
 
--- for so many slots at least it has been sent
+-- for at least so many slots it has been sent
 abbrev pub held_of : OnAir → ℕ
 held_of o = o.held
 
--- the last edition has been sent for so many slots; the first one has no begin
+-- the last edition has been sent for at least so many slots; the first one has no beginning
 abbrev pub IsSentFor : List Showing → ℕ → Type 0
 IsSentFor [] slots = Unit {0}
 IsSentFor (t ∷ []) slots = slots ≤ span t
 IsSentFor (t ∷ next ∷ later) slots = IsSentFor (next ∷ later) slots
 
--- The schedule led up to what is on the air: it is handed on, and its last edition is the one on the air.
+-- The schedule has led to what is on the air: it is handed on, and its last edition is the one on the air.
 pub record IsOnAir (o : OnAir) (first : Edition) (later : List Showing) : Type 0 where
   pub editions : AreEditions first later
   pub handed : IsHandedOn first later
   pub current : edition_at first later (length later) ≡ current_of o
   pub sent : IsSentFor later (held_of o)
 
--- The slot at this place of the last edition's cycle is slot i of the schedule: it comes next, after the last edition's periods so far.
+-- The slot at this place of the last edition's cycle is slot i of the schedule, the one that comes next.
 abbrev pub IsPlace : Edition → List Showing → ℕ → ℤ → Type 0
 IsPlace first [] at i = turned (length first.cycle) i ≡ at
 IsPlace first (t ∷ later) at i = i ≡ pos (first_slot (t ∷ later) (length (t ∷ later)) + at)
 
--- The slots of the log were sent, one after another up to now: they are what the schedule sends before its slot `next`.
+-- The log holds the slots that were sent up to now, in their order: they are what the schedule sends just before its slot `next`.
 pub record HasSent (log : List (List ℕ)) (o : OnAir) (first : Edition) (later : List Showing) : Type 0 where
   pub on_air : IsOnAir o first later
   pub next : ℤ
   pub place : IsPlace first later (at_of o) next
   pub is_log : sent_from (sent first later) (next -ℤ pos (length log)) (length log) ≡ log
 
--- with the last slot of a period one period more is sent
+-- the last slot of a period adds one period
 abbrev pub after_slot : OnAir → List Showing → List Showing
 after_slot o later = if nat_lt (at_of o + 1) (length (current_of o).cycle) then later else one_more later
 
--- the place of the slot after the next one, and the hold once the next one is sent: with the last slot of a period it grows by the period,
--- and stops at the largest u32
+-- The place of the slot after the next one; and for how many slots the edition has been sent after the next slot: the last slot of a period
+-- adds the period, and the number stops at the largest u32.
 abbrev pub after_place : OnAir → ℕ
 after_place o = if nat_lt (at_of o + 1) (length (current_of o).cycle) then at_of o + 1 else 0
 
@@ -85,7 +85,7 @@ IsCertified e v = IsVerdict e.cycle e.pages e.certificate v
 abbrev pub IsChangeVerdict : Edition → Edition → SpliceVerdict → Type 0
 IsChangeVerdict old new v = IsSpliceVerdict (change old new) v
 
--- a first edition is on the air, or why it isn't
+-- a first edition is on the air, or why it is not
 abbrev pub IsStart : Edition → Result OnAir StartFault → Type 0
 IsStart first (Ok o) = (current_of o ≡ first) × (at_of o ≡ 0) × (held_of o ≡ 2 ^ 32 - 1) × Accepts first.cycle first.pages first.certificate
     × (first.certificate.class ≡ Any)
@@ -98,7 +98,7 @@ pub record IsTime (o : OnAir) : Type 0 where
   pub held : limit (current_of o).certificate ≤ held_of o
   pub between : at_of o ≡ 0
 
--- whether the next edition may take over: at such a time, and where the change is accepted
+-- whether the next edition may take over: at such a time, and if the change is accepted
 abbrev pub IsChange : OnAir → Edition → Result (Unit {0}) ChangeFault → Type 0
 IsChange o next (Ok _) = IsTime o × IsChangeVerdict (current_of o) next Yes
 IsChange o next (Err (TooSoon left)) = (0 < left) × (held_of o + left ≡ limit (current_of o).certificate)

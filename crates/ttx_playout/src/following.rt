@@ -1,4 +1,4 @@
-//! Whether pages are followed by other page numbers in an edition and across a change.
+//! Decides whether pages are followed by other page numbers, in an edition and across a change.
 
 ghost use Rattle.std.specs.Prelude.{◌↔◌, ◌<◌, IsTrue, MatchOption, map};
 ghost use Rattle.ttx_page.specs.Streams.{joined};
@@ -31,8 +31,8 @@ fn first_header(new: &Cycle, mag: u8) -> Option<usize>
     None
 }
 
-// Whether the new cycle's first header of the page's magazine has another page number and comes in time after the page's last header,
-// which stands so many slots before the old cycle's last one.
+// Whether the first header of the page's magazine in the new cycle has another page number and comes at most `gap` slots after the page's last
+// header, which stands `back` slots before the end of the old cycle.
 fn ends_in_time(new: &Cycle, page: PageId, back: usize, gap: usize) -> bool
     requires { back < 65536 }
     ensures { IsTrue result ↔ EndsInTime (slots_of new.now) page back gap }
@@ -48,8 +48,8 @@ fn ends_in_time(new: &Cycle, page: PageId, back: usize, gap: usize) -> bool
     }
 }
 
-/// Whether the page is followed across the change from one cycle to another: where its magazine's last header before the change is the
-/// page's, the next one has another page number and stands at most so many slots on.
+/// Whether the page is followed across the change from one cycle to another: if the last header of its magazine before the change is the
+/// page's, the next one has another page number and comes at most `gap` slots later.
 pub fn is_followed_across(old: &Cycle, new: &Cycle, page: PageId, gap: usize) -> bool
     ensures { IsTrue result ↔ IsFollowedAcross (joined (slots_of old.now) (slots_of new.now)) page gap }
 {
@@ -66,7 +66,7 @@ pub fn is_followed_across(old: &Cycle, new: &Cycle, page: PageId, gap: usize) ->
     }
 }
 
-// The first page of the old list that isn't followed across the change.
+// The first page of the old list that is not followed across the change.
 fn first_unfollowed(old: &Cycle, new: &Cycle, pages: &[Page], gap: usize) -> Option<PageId>
     ensures { MatchOption result (AllAreFollowedAcross (slots_of old.now) (slots_of new.now) (map page_of pages.now) gap)
         (IsFirstUnfollowed (slots_of old.now) (slots_of new.now) (map page_of pages.now) gap) }
@@ -80,7 +80,7 @@ fn first_unfollowed(old: &Cycle, new: &Cycle, pages: &[Page], gap: usize) -> Opt
     None
 }
 
-// Why a page of a cycle isn't followed in time there.
+// The first reason why a page of the cycle is not followed in time within it.
 fn unshown_in(cycle: &Cycle, pages: &[Page], gap: usize) -> Option<LateChange>
     ensures { MatchOption result (AreFollowedWithin (slots_of cycle.now) (map page_of pages.now) gap)
         (IsUnshown (slots_of cycle.now) (map page_of pages.now) gap) }
@@ -97,7 +97,7 @@ fn unshown_in(cycle: &Cycle, pages: &[Page], gap: usize) -> Option<LateChange>
     None
 }
 
-/// What receivers that show late need of a next edition and of the change to it.
+/// Whether a next edition, and the change to it, serve receivers that show pages late, and if not, the first reason.
 pub fn followed_change(old: &Edition, new: &Edition, gap: usize) -> LateChange
     ensures { IsFollowedChange (edition_of old.now) (edition_of new.now) gap result }
 {

@@ -1,4 +1,4 @@
-//! What is said of a change where receivers may show pages late.
+//! Verdicts on changes if receivers may show pages late.
 
 use ttx_header::PageId;
 use ttx_proof::SpliceReason;
@@ -6,14 +6,14 @@ use ttx_proof::SpliceReason;
 /// Whether a change is accepted and the pages are followed by other page numbers in time, and if not, the first reason.
 #[derive(Clone, Copy)]
 pub enum LateChange {
-    /// Both.
+    /// It is, and they are.
     Yes,
-    /// The change isn't accepted.
+    /// The change is not accepted.
     No(SpliceReason),
-    /// In the next edition the header of its page at the slot isn't followed by one of another page number.
+    /// In the next edition the header of a page at this slot is not followed by one with another page number.
     NeverShown { page: PageId, slot: usize },
-    /// In the next edition so many slots lie between a header of a page and the next one of its magazine, and these are too many.
+    /// In the next edition the next header of the magazine comes as late as `gap` slots after a header of a page, which is too late.
     TooFar { gap: usize },
-    /// Across the change the page of the edition on the air isn't followed in time by another page number.
+    /// Across the change this page of the edition on the air is not followed in time by another page number.
     Unfollowed { page: PageId },
 }

@@ -4,7 +4,7 @@ ghost use Rattle.ttx_playout.specs.Laws.{SentSoFarIsSeen, HeadEndIsSeen, HandedO
 ghost use Rattle.ttx_playout.specs.Laws.{SentSoFarIsShown, HeadEndIsShown, HandedOnIsShown, HandedOnIsShownOnAir, ThroughIsWhile, ThroughGoesOn};
 ghost use Rattle.ttx_playout.specs.Laws.{AcrossIsDecided, CountedIsHandedOn, EachScheduleRuns, MoreIsSame, PastStays};
 
-/// What a head-end sends of a schedule, from some slot on and up to now, is seen a deadline later, whatever was sent before.
+/// What a head-end sends of a schedule, from some slot on and up to now, is seen after a deadline, whatever was sent before.
 pub fn sent_so_far_is_seen()
     ensures { SentSoFarIsSeen }
 {
@@ -16,35 +16,35 @@ pub fn sent_so_far_is_seen()
     ttx_proof::laws::carried_is_seen();
 }
 
-/// All that a head-end has sent is seen.
+/// The same of all that a head-end has sent.
 pub fn head_end_is_seen()
     ensures { HeadEndIsSeen }
 {
     sent_so_far_is_seen();
 }
 
-/// A page that stays is seen as long as it stays, by each permitted receiver, through each change.
+/// A page is seen by each permitted receiver as long as it stays, through each change.
 pub fn handed_on_is_seen()
     ensures { HandedOnIsSeen }
 {
     sent_so_far_is_seen();
 }
 
-/// A page of all editions is seen by the deadline after tuning, and ever after.
+/// A page that stands in every edition is seen by the deadline after tuning, and from then on.
 pub fn always_seen()
     ensures { AlwaysSeen }
 {
     handed_on_is_seen();
 }
 
-/// Each page of the last edition is seen by the deadline after tuning or after its begin, and ever after.
+/// Each page of the last edition is seen by the deadline after tuning or after the edition began, and from then on.
 pub fn latest_is_seen()
     ensures { LatestIsSeen }
 {
     handed_on_is_seen();
 }
 
-/// A page that stays is seen from the air, whatever the clock of the head-end says.
+/// A page is seen from the air as long as it stays, whatever the head-end's clock says.
 pub fn handed_on_is_seen_on_air()
     ensures { HandedOnIsSeenOnAir }
 {
@@ -53,7 +53,7 @@ pub fn handed_on_is_seen_on_air()
     handed_on_is_seen();
 }
 
-/// So is what a schedule sends with the time of each slot.
+/// The same of what a schedule sends with the time in each slot.
 pub fn timed_is_seen()
     ensures { TimedIsSeen }
 {
@@ -62,13 +62,13 @@ pub fn timed_is_seen()
     handed_on_is_seen_on_air();
 }
 
-/// What a head-end sends of a schedule is shown by receivers that show it late, where the page is followed by another page number in time.
+/// What a head-end sends of a schedule is shown by receivers that show pages late, if the page is followed by another page number in time.
 pub fn sent_so_far_is_shown()
     ensures { SentSoFarIsShown }
 {
     ttx_late::laws::runs_are_shown();
     ttx_page::laws::each_slot_turns();
-    ttx_proof::laws::steps_keep_memories();
+    ttx_receiver::laws::steps_keep_memories();
     ttx_proof::laws::agreeing_streams_are_received();
     ttx_proof::laws::agreeing_streams_bring();
     ttx_proof::laws::agreeing_streams_carry();
@@ -76,21 +76,21 @@ pub fn sent_so_far_is_shown()
     ttx_proof::laws::common_is_carried();
 }
 
-/// So is all that a head-end has sent.
+/// The same of all that a head-end has sent.
 pub fn head_end_is_shown()
     ensures { HeadEndIsShown }
 {
     sent_so_far_is_shown();
 }
 
-/// A page that stays, and whose headers are followed by another page number in time, is shown by receivers that show it late.
+/// A page that stays, and whose headers are followed by another page number in time, is shown by receivers that show pages late.
 pub fn handed_on_is_shown()
     ensures { HandedOnIsShown }
 {
     sent_so_far_is_shown();
 }
 
-/// And so from the air.
+/// The same from the air.
 pub fn handed_on_is_shown_on_air()
     ensures { HandedOnIsShownOnAir }
 {
@@ -99,7 +99,7 @@ pub fn handed_on_is_shown_on_air()
     handed_on_is_shown();
 }
 
-/// Of each schedule something is received within the error rule, and each receiver makes something of it.
+/// The laws are not empty: of each schedule there is a reception within the error rule, and each receiver has a run over it.
 pub fn each_schedule_runs()
     ensures { EachScheduleRuns }
 {
@@ -108,32 +108,32 @@ pub fn each_schedule_runs()
     ttx_page::laws::exact_is_received();
 }
 
-/// One more period of the last edition changes nothing of what is sent.
+/// One more period of the last edition does not change what is sent.
 pub fn more_is_same()
     ensures { MoreIsSame }
 {}
 
-/// A further edition changes nothing of what was sent before.
+/// A further edition does not change what was sent before.
 pub fn past_stays()
     ensures { PastStays }
 {}
 
-/// The two headers of the magazine round a change decide whether a page is followed across it.
+/// The last header of the magazine before a change and the first one after it decide whether a page is followed across the change.
 pub fn across_is_decided()
     ensures { AcrossIsDecided }
 {}
 
-/// Where each edition and each change is as late receivers need it, each page is followed in time while it stays.
+/// If the late verdict accepts each edition and each change, each page is followed in time while it stays.
 pub fn through_is_while()
     ensures { ThroughIsWhile }
 {}
 
-/// An accepted change to a next edition keeps a schedule so.
+/// A change to a next edition that it accepts keeps a schedule so.
 pub fn through_goes_on()
     ensures { ThroughGoesOn }
 {}
 
-/// An edition that is accepted once the one before has been sent for so many periods keeps a schedule handed on.
+/// A schedule stays handed on if each next edition is accepted after the one before has been sent for enough periods.
 pub fn counted_is_handed_on()
     ensures { CountedIsHandedOn }
 {}

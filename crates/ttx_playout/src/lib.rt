@@ -1,4 +1,4 @@
-//! Editions of a service that follow one another on the air, and what each receiver sees of them.
+//! Playout: editions of a service that follow one another on the air, and what receivers see of them.
 #![tactic(auto)]
 
 mod edition;

@@ -1,4 +1,4 @@
-//! What is on the air: an edition that only an accepted change replaces.
+//! The edition on the air, which only an accepted change replaces.
 
 ghost use Rattle.std.specs.Prelude.{◌≡◌, ℕ, ◌-◌, List, [], ◌∷◌, ◌++◌, ◌+◌, ◌^◌, ◌↔◌, min, length, nat_lt, if◌then◌else◌, IsTrue, IfOk};
 ghost use Rattle.ttx_playout.specs.Schedules as schedule;
@@ -20,7 +20,7 @@ use ttx_page::Class;
 use ttx_proof::{SpliceVerdict, splice};
 use ttx_witness::{NoMemory, limit};
 
-// An edition of the program is in its ranges.
+// The values of an edition are in their ranges.
 fn has_ranges(edition: &Edition)
     ensures { schedule.IsEdition (edition_of edition.now) }
 {
@@ -41,7 +41,7 @@ fn certified(alloc: Global, edition: &Edition) -> Result<Verdict, NoMemory>
     )
 }
 
-// The verdict on a change from one edition to the next one.
+// The verdict on a change from one edition to another.
 fn judged(alloc: Global, old: &Edition, new: &Edition) -> Result<SpliceVerdict, NoMemory>
     ensures { IfOk result (IsChangeVerdict (edition_of old.now) (edition_of new.now)) }
 {
@@ -56,14 +56,14 @@ fn judged(alloc: Global, old: &Edition, new: &Edition) -> Result<SpliceVerdict, 
     )
 }
 
-// So many slots of the edition are left to be sent before another may take over.
+// For how many more slots the edition has to be sent before another may take over, once it has been sent for `held` slots.
 fn left(edition: &Edition, held: u32) -> u32
     ensures { result ≡ limit (edition_of edition.now).certificate - held }
 {
     limit(&edition.certificate).saturating_sub(held)
 }
 
-// Whether the next edition may take over.
+// Whether the next edition may take over now, and if not, why.
 fn permits(alloc: Global, on_air: &OnAir, next: &Edition) -> Result<(), ChangeFault>
     ensures { IsChange on_air.now (edition_of next.now) result }
 {
@@ -85,7 +85,7 @@ fn permits(alloc: Global, on_air: &OnAir, next: &Edition) -> Result<(), ChangeFa
 }
 
 impl OnAir {
-    /// Puts a first edition on the air, if the certifier accepts it.
+    /// Puts a first edition on the air if the certifier accepts it, with a certificate that does not assume that receivers clear pages.
     pub fn start(alloc: Global, first: Edition) -> Result<OnAir, StartFault>
         ensures exact { IsStart (edition_of first) result }
         ensures on_air { IfOk result (λ on_air. HasSent [] on_air (edition_of first) []) }
@@ -120,14 +120,14 @@ impl OnAir {
         self.at == 0
     }
 
-    /// Whether another edition may take over: between two periods, once the edition on the air has been sent for a deadline.
+    /// Whether another edition may take over now: a period has ended, and the edition on the air has been sent for at least a deadline.
     pub fn is_time(&self) -> bool
         ensures { IsTrue result ↔ IsTime self.now }
     {
         self.at == 0 && left(&self.current, self.held) == 0
     }
 
-    /// The slot that goes out next. What goes out is a part of what a schedule sends that is handed on.
+    /// The next slot to send. All slots that were returned so far are a stretch of what a handed-on schedule sends.
     pub fn next_slot(&mut self) -> [u8; 42]
         ensures same { current_of self.new ≡ current_of self.old }
         ensures place { at_of self.new ≡ after_place self.old }
@@ -149,15 +149,15 @@ impl OnAir {
         slot
     }
 
-    /// The verdict on a change to a next edition. It depends on the two editions alone, so it may be asked for at any time.
+    /// The verdict on a change to a next edition. It depends on the two editions alone, so it can be obtained at any time.
     pub fn judge(&self, alloc: Global, next: &Edition) -> Result<SpliceVerdict, NoMemory>
         ensures { IfOk result (IsChangeVerdict (current_of self.now) (edition_of next.now)) }
     {
         judged(alloc, &self.current, next)
     }
 
-    /// The verdict on a change to a next edition where receivers may show pages late: at most so many slots after a header of a page the
-    /// next one of its magazine has to come with another page number, in the next edition and across the change.
+    /// The verdict on a change to a next edition if receivers may show pages late: at most `gap` slots after each header of a page the next
+    /// header of its magazine has to come, with another page number, in the next edition and across the change.
     pub fn judge_late(
         &self,
         alloc: Global,
@@ -172,7 +172,7 @@ impl OnAir {
         }
     }
 
-    /// The next edition takes over, whose change is accepted; answered is the edition that leaves the air.
+    /// Puts the next edition, to which the change is accepted, on the air, and returns the edition that leaves it.
     pub fn take(&mut self, next: Edition) -> Edition
         requires time { IsTime self.old }
         requires accepted { IsChangeVerdict (current_of self.old) (edition_of next) Yes }
@@ -193,8 +193,9 @@ impl OnAir {
         old.current
     }
 
-    /// The next edition takes over between two periods, if the change is accepted and the edition on the air has been sent for a deadline;
-    /// answered is the edition that leaves the air. What goes out stays a part of what a schedule sends that is handed on.
+    /// Puts the next edition on the air and returns the one that leaves it, if a period has ended, the edition on the air has been sent for at
+    /// least a deadline, and the change is accepted. Otherwise nothing changes, and the fault says why. What goes out remains a stretch of what
+    /// a handed-on schedule sends.
     pub fn follow(&mut self, alloc: Global, next: Edition) -> Result<Edition, ChangeFault>
         ensures exact { TakesOver self.old (edition_of next) self.new result }
         ensures on_air { (log : List (List ℕ)) (first : schedule.Edition) (later : List schedule.Showing) → HasSent log self.old first later →

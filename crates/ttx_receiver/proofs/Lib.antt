@@ -17,4 +17,5 @@ mod StarvedFormer
 mod StarvedStays
 mod StarvedScript
 mod StayingShown
+pub mod KeptMemories
 mod FollowedRows

@@ -11,6 +11,7 @@ use Rattle.ttx_page.specs.declared.selection.Selection.TheVariants.{Exact, AnySu
 use Rattle.ttx_page.specs.declared.item.Item.TheVariants.{Head as TheHead, Row as TheRow, Links as TheLinks}
 use Rattle.ttx_page.specs.Streams.{Stream, heads, heads_page, heads_matched, carries, IsLatestHeader}
 use Rattle.ttx_page.specs.Receptions.{Received}
+use Rattle.ttx_page.proofs.Owners.{page_heads}
 use Rattle.ttx_receiver.specs.Laws.{IsSteadyFrom}
 use Rattle.ttx_receiver.proofs.Runs.{packet_at, IsOwnedAt, ReceivesPage}
 use Rattle.ttx_receiver.proofs.TakenItems.{needed_row}
@@ -18,14 +19,7 @@ use Rattle.ttx_receiver.proofs.ReceivedPackets.{LawsBelow, of_slot, IsOfSlot, sa
 use Rattle.ttx_receiver.proofs.ReceivedPackets.{received_row, received_links}
 use Rattle.ttx_receiver.proofs.SlotDistances.{offset, not_before, offset_lt, lt_offset, le_le}
 
--- the page's headers are of its magazine, and the selection matches them
-pub page_heads : (id : Id) (pkt : Packet) → heads_page id pkt ≡ true → heads id.mag pkt ≡ true
-page_heads id (Header other control text) h = let e : id.mag ≡ other.mag = eqb-true _ _ ((and_parts _ _ (and_parts _ _ h).0).0)
-    in eq-eqb other.mag id.mag (sym e)
-page_heads id (Row m n t) h = h
-page_heads id (Links m content) h = h
-page_heads id _ h = h
-
+-- the selection matches the page's headers
 matches_same : (sel : Selection) (id other : Id) → matches sel id ≡ true → same_id id other ≡ true → matches sel other ≡ true
 matches_same (Exact own) id other h k =
     let a = eqb-true _ _ ((and_parts _ _ (and_parts _ _ h).0).0) ∙ eqb-true _ _ ((and_parts _ _ (and_parts _ _ k).0).0) in

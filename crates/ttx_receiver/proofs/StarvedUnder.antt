@@ -15,10 +15,11 @@ use Rattle.ttx_page.specs.declared.class.Class.TheVariants.{Any}
 use Rattle.ttx_page.specs.Memories.{Memory}
 use Rattle.ttx_page.specs.Receivers.{older, after}
 use Rattle.ttx_page.specs.Streams.{Stream, heads, heads_page, heads_matched, ends_serial, carries, IsLatestHeader, IsOwned, IsSure, CannotBeMissed}
+use Rattle.ttx_page.proofs.Owners.{page_heads}
 use Rattle.ttx_receiver.specs.Laws.{IsSteadyFrom}
 use Rattle.ttx_receiver.specs.Starving.{spoilt, is_bound, takes, heard, starved_memory, starved_slots}
 use Rattle.ttx_receiver.proofs.ReceivedPackets.{LawsBelow, same_heads, same_matched, same_ends}
-use Rattle.ttx_receiver.proofs.ReceivedPage.{page_heads, same_mag}
+use Rattle.ttx_receiver.proofs.ReceivedPage.{same_mag}
 use Rattle.ttx_receiver.proofs.SlotDistances.{offset, not_before, offset_lt, lt_offset}
 use Rattle.ttx_receiver.proofs.StarvedBytes.{spoilt_received, received_as_sent}
 use Rattle.ttx_receiver.proofs.StarvedSteps.{stores_since}

@@ -16,13 +16,14 @@ use Rattle.ttx_page.specs.Receivers.{older, after, Run}
 use Rattle.ttx_page.specs.Streams.{Stream, heads, heads_page, heads_matched, carries, IsLatestHeader}
 use Rattle.ttx_page.specs.Steady.{HeadIsRight, RowIsRight, LinksAreRight}
 use Rattle.ttx_page.specs.Laws.{sent_from}
+use Rattle.ttx_page.proofs.Owners.{page_heads}
 use Rattle.ttx_receiver.specs.Staying.{SendsOnly, ShownStaysShown}
 use Rattle.ttx_receiver.proofs.StepsOverPage.{Shape, GoodText, IsHeadOf, IsRowOf, AreLinksOf, shape_after}
 use Rattle.ttx_receiver.proofs.TakenAndKept.{keep_row, keep_head, keep_links}
 use Rattle.ttx_receiver.proofs.Runs.{packet_at, run_keeps, IsOwnedAt, ReceivesPage, IsTuned, tuned_next}
 use Rattle.ttx_receiver.proofs.TakenItems.{needed_row}
 use Rattle.ttx_receiver.proofs.ReceivedPackets.{LawsBelow}
-use Rattle.ttx_receiver.proofs.ReceivedPage.{page_heads, same_mag, no_row_zero}
+use Rattle.ttx_receiver.proofs.ReceivedPage.{same_mag, no_row_zero}
 use Rattle.ttx_receiver.proofs.SlotDistances.{offset, not_before, offset_lt, lt_offset, le_le}
 use Rattle.ttx_receiver.proofs.StarvedStays.{HoldsEach, each_from, each_to}
 

@@ -1,5 +1,6 @@
--- The law of receiving: what is sent between two slots of a stream is held from the second slot on.
+-- The laws of receiving. Each is proved by the function of its name in `laws`.
 --
+--   StepsKeepMemories       what a slot makes of a memory is a memory
 --   IsSteadyFrom            from a slot on, a receiver of the page is sent only the page
 --   HasHeaderBetween, IsBrought    a header of the page, or an item of it, comes between two slots
 --   RunHoldsItsItem         an item that comes is held by every receiver, after every reception within the error rule
@@ -11,11 +12,15 @@ use Rattle.ttx_page.specs.declared.selection.Selection.{Selection}
 use Rattle.ttx_page.specs.declared.item.Item.{Item}
 use Rattle.ttx_page.specs.declared.class.Class.{Class}
 use Rattle.ttx_page.specs.declared.class.Class.TheVariants.{Clearing}
-use Rattle.ttx_page.specs.Memories.{Memory, IsFormer, Holds}
-use Rattle.ttx_page.specs.Receivers.{Run}
+use Rattle.ttx_page.specs.Memories.{Memory, IsMemory, IsFormer, Holds}
+use Rattle.ttx_page.specs.Receivers.{Step, Run}
 use Rattle.ttx_page.specs.Streams.{Stream, IsOwned, IsSent, heads_page, heads_matched}
 use Rattle.ttx_page.specs.Receptions.{Received}
 use Rattle.ttx_page.specs.Steady.{IsChecked, IsTrueTo}
+
+abbrev pub StepsKeepMemories : Type 0
+StepsKeepMemories = (class : Class) (lines : ℕ) (sel : Selection) (m new : Memory) (received : List ℕ) → IsSlot received → IsMemory m →
+    Step class lines sel m received new → IsMemory new
 
 -- From slot `begin` on each slot is clean, the headers that the selection matches are the page's, and what follows them is the page's.
 pub record IsSteadyFrom (s : Stream) (p : Page) (sel : Selection) (begin : ℤ) : Type 0 where

@@ -1,9 +1,16 @@
 //! Laws of receivers. Calling one does nothing at run time; it gives the caller's proof the law.
 
-ghost use Rattle.ttx_receiver.specs.Laws.{RunHoldsItsItem};
+ghost use Rattle.ttx_receiver.specs.Laws.{StepsKeepMemories, RunHoldsItsItem};
 ghost use Rattle.ttx_receiver.specs.Starving.{StarvedStaysWrong, StarvedIsScripted};
 ghost use Rattle.ttx_receiver.specs.Staying.{ShownStaysShown};
 ghost use Rattle.ttx_receiver.specs.Touching.{StepTouches, IdleStepsTouchNothing};
+
+/// What a slot makes of a memory is a memory.
+pub fn steps_keep_memories()
+    ensures { StepsKeepMemories }
+{
+    ttx_header::laws::headers_have_fields();
+}
 
 /// An item that comes between two slots is held from the second slot on.
 pub fn run_holds_its_item()

@@ -1,10 +1,10 @@
--- What a yes says of the air, where receivers may show pages late, and where one cycle follows another. Each law is proved by the function
--- of its name in `laws`.
+-- What acceptance guarantees on the air if receivers may show pages late, and if one cycle follows another. Each law is proved by the
+-- function of its name in `laws`.
 --
 --   SeenLateOnAir           each receiver of the air that shows pages late shows the page from so many slots after the deadline on
---   LateYesIsSeenOnAir      where `certify --late` says yes, both kinds of receivers show each page that they receive from the air
+--   LateYesIsSeenOnAir      if `certify --late` accepts a cycle, receivers of both kinds show each page from the air
 --   IsSeenFromAir, JoinedSeenOnAir  who sees which page of a splice from when on, from the air
---   SplicedIsSeenOnAir      where `splice` says yes, the joined stream is so seen
+--   SplicedIsSeenOnAir      if `splice` accepts a change, the joined stream is so seen
 use Rattle.std.specs.Prelude.{◌≡◌, ℕ, ◌+◌, ◌≤◌, ℤ, pos, ◌+ℤ◌, ◌≤ℤ◌, List, length, slice_get, Some, Contains}
 use Rattle.ttx_page.specs.Pages.{Page, Fits}
 use Rattle.ttx_page.specs.declared.selection.Selection.{Selection}
@@ -25,8 +25,8 @@ use Rattle.ttx_proof.specs.Verdicts.{IsSpliceVerdict}
 use Rattle.ttx_proof.specs.declared.verdict.SpliceVerdict.TheVariants as spliced
 use Rattle.ttx_send.specs.Laws.{IsAiring, SeenOnAir}
 
--- By each selection that fits the page, from each tuning slot, whatever was gathered and shown before, after each reception of the air
--- within the error rule that lasts to the deadline and `gap` slots more: what the receiver shows has the page's View.
+-- For each selection that fits the page, each tuning slot, whatever was gathered and shown before, and each reception of the air within the
+-- error rule that lasts at least `gap` slots beyond the deadline: what the receiver shows has the page's View.
 pub record SeenLateOnAir (air : Stream) (pages : List Page) (p : Page) (w : Certificate) (gap : ℕ) : Type 0 where
   pub shown : (sel : Selection) → Fits pages p sel → (tau : ℤ) (former d : LateMemory) (received : List (List ℕ)) → IsFormer w.class former.gathered →
       Received air p.id w.repeat tau received → limit w + gap ≤ length received → LateRun w.class w.lines sel former received d → HasView p d.shown
@@ -37,15 +37,15 @@ LateYesIsSeenOnAir =
     IsLateVerdict cycle pages w (late.Yes gap) → IsAiring (repeated cycle) air → (n : ℕ) (p : Page) → slice_get pages n ≡ Some p →
     SeenOnAir air pages p w × SeenLateOnAir air pages p w gap
 
--- Tuned to the air at slot tau, with any former memory, a receiver has the page's View after each reception within the error rule that
--- lasts to the deadline after slot begin, or longer.
+-- A receiver that is tuned to the air at slot tau, with any former memory, has the page's View after each reception within the error rule
+-- that lasts at least a deadline beyond slot `begin`.
 abbrev pub IsSeenFromAir : Splice → Stream → Page → Selection → ℤ → ℤ → Type 0
 IsSeenFromAir c air p sel tau begin = let w = c.new_certificate in
     (former m : Memory) (received : List (List ℕ)) → IsFormer w.class former → Received air p.id w.repeat tau received →
     (begin +ℤ pos (limit w)) ≤ℤ (tau +ℤ pos (length received)) → Run w.class w.lines sel former received m → HasView p m
 
--- A common page is seen by the deadline after tuning, through the change and ever after; each page of the new list by the deadline
--- after tuning or after the change, whichever is later.
+-- A common page is seen a deadline after tuning, through the change and from then on; each page of the new list a deadline after tuning or
+-- after the change, whichever is later.
 pub record JoinedSeenOnAir (c : Splice) (air : Stream) : Type 0 where
   pub common : (p : Page) → IsCommon c p → (sel : Selection) → Fits c.old_pages p sel → Fits c.new_pages p sel → (tau : ℤ) →
       IsSeenFromAir c air p sel tau tau

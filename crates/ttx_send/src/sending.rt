@@ -15,7 +15,7 @@ use crate::timing::stamped;
 use std::io::Write;
 use ttx_cycle::{Counted, Cycle, WriteFault, write_bytes};
 
-// The most slots that go out in one piece.
+// The most slots in one write.
 const ROOM: usize = 128;
 
 fn room() -> [u8; 5376]
@@ -33,14 +33,14 @@ fn put_slot(bytes: &mut [u8; 5376], at: usize, slot: &[u8; 42])
     bytes[at..at + 42].copy_from_slice(slot);
 }
 
-// Whole fields of one second that go out in one piece.
+// A number of whole fields within one second that are written together.
 #[derive(Clone, Copy)]
 struct Piece {
     fields: u32,
     slots: usize,
 }
 
-// The next piece, at a field that isn't the last one's end.
+// The next piece, beginning at a field that is still to be sent.
 fn next_piece(field: u32, fields: u32, lines: usize) -> Piece
     requires before { field < fields }
     requires some { 0 < lines }
@@ -59,7 +59,7 @@ fn next_piece(field: u32, fields: u32, lines: usize) -> Piece
     }
 }
 
-// The bytes of so many slots of the repeated cycle from slot `first` on, at one moment.
+// The bytes of `count` slots of the repeated cycle, from slot `first` on, all with the same time.
 fn piece_bytes(slots: &[[u8; 42]], first: usize, count: usize, stamp: &Stamp) -> [u8; 5376]
     requires cycle { IsCycle slots.now }
     requires fits { count ≤ 128 }
@@ -75,10 +75,10 @@ fn piece_bytes(slots: &[[u8; 42]], first: usize, count: usize, stamp: &Stamp) ->
     bytes
 }
 
-/// Sends the cycle for so many fields of 1 to 32 lines, from its field `phase` on, which is sent at the moment `start`.
+/// Sends `fields` fields of the repeated cycle, each of 1 to 32 lines. It begins with field `phase`, which is sent at the moment `start`.
 ///
-/// Each field goes out as one piece, several fields where lines are few. At a fault exactly the first `written` bytes
-/// went out. Takes no memory.
+/// Each field is written at once, and several together if they have few lines. If a write fails, exactly the first `written` bytes
+/// have been written. Allocates nothing.
 pub fn send<W: Write>(
     cycle: &Cycle,
     start: &Moment,

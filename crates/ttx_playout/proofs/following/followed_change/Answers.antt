@@ -1,8 +1,8 @@
-use Rattle.std.proofs.Common.{MatchOption, subst}
+use Rattle.std.proofs.Common.{subst}
 use Rattle.ttx_cycle.specs.Cycles.{slots_of}
 use Rattle.ttx_late.specs.Followed.{AreFollowedWithin}
 use Rattle.ttx_playout.specs.LateSchedules.{AllAreFollowedAcross}
-use Rattle.ttx_playout.specs.LateChanges.{IsFirstUnfollowed, IsUnshown}
+use Rattle.ttx_playout.specs.LateChanges.{IsFirstUnfollowed}
 use Rattle.ttx_playout.proofs.following.followed_change.Goals as goal
 
 pub returns-in-Some-first_unfollowed : goal.returns-in-Some-first_unfollowed
