@@ -330,3 +330,10 @@ not_found cycle pages p index any_sub sel lines low here same none q at fits n f
     let e : q ≡ p = same_page pages index q p at here in
     none n from to (subst (λ z. IsWrongAfter cycle p lines z (memory_of_page p) n) (sym same)
     (subst (λ z. IsWrongAfter cycle z lines (selection_for any_sub z.id) (memory_of_page z) n) e wrong))
+
+-- a run that is found ends wrong
+pub not_right : (cycle : List (List ℕ)) (pages : List Page) (p : Page) (index : ℕ) (any_sub : Bool) (sel : Selection) (lines low n : ℕ) →
+    slice_get pages index ≡ Some p → sel ≡ selection_for any_sub p.id → Fits pages p sel → low ≤ n → n ≤ low + 2 * length cycle →
+    IsWrongAfter cycle p lines sel (memory_of_page p) n → IsPlainlyRight cycle pages index any_sub lines low → ⊥
+not_right cycle pages p index any_sub sel lines low n here same fits from to wrong right =
+    right p here (subst (Fits pages p) same fits) n from to (subst (λ z. IsWrongAfter cycle p lines z (memory_of_page p) n) same wrong)

@@ -29,12 +29,12 @@ use Rattle.ttx_witness.specs.declared.faults.reason.Reason.TheVariants.{BadSlot,
 use Rattle.ttx_witness.specs.declared.faults.reason.Reason.TheVariants.{NoWitness, WitnessBad, Late, Unsteady, LateBlank}
 use Rattle.ttx_counter.specs.Counters.{CounterRun, IsCounterRun}
 use Rattle.ttx_counter.specs.StarvingRuns.{starving_run}
-use Rattle.ttx_counter.specs.Sources.{plain_counter, PlainRunsAreCounterRuns, AbsentPagesAreWrong}
+use Rattle.ttx_counter.specs.Sources.{plain_counter, PlainRunsAreCounterRuns, AbsentPagesAreWrong, IsPlainlyRight}
 use Rattle.ttx_counter.specs.Starving.{fullest, IsCoveredByOne}
 use Rattle.ttx_certify.specs.Verdicts.{IsClean}
-use Rattle.ttx_counter.specs.Completeness.{StarvingIsCounterRun, FullestNamesAll}
+use Rattle.ttx_counter.specs.Completeness.{StarvingIsCounterRun, FullestNamesAll, StarvedIsNotCovered}
 use Rattle.ttx_counter.specs.Refutations.{is_absent, ArePrepared, IsCounterTo, IsSentWell, TellsStart, TellsNeeded, TellsCovered, TellsPage}
-use Rattle.ttx_counter.specs.Refutations.{TellsPages, TellsAllPlainly, TellsCounter}
+use Rattle.ttx_counter.specs.Refutations.{TellsPages, TellsPlainly, TellsAllPlainly, TellsCounter, IsCounterOf, IsFirstUnsent, IsFirstWrong, TellsFirst}
 use Rattle.ttx_counter.proofs.PlainRuns.{numbers_of, plain_to}
 use Rattle.ttx_counter.proofs.StarvedIsUnseen.{other_is}
 
@@ -91,6 +91,21 @@ module _ (cycle : List (List ℕ)) (pages : List Page) (w : Certificate) where
     deadline = ap (λ (x : CounterRun). x.deadline) made ∙ ed;
   }
 
+  -- it is of the page at the index, which no certificate of these numbers covers
+  pub starved_of : StarvingIsCounterRun → (p : Page) (index : ℕ) → slice_get pages index ≡ Some p → IsCycle cycle → IsPage p →
+      IsCertificate w → IsClean cycle → Steady (repeated cycle) pages p →
+      (item : Item) (start : ℕ) → TellsNeeded cycle p w item (Some start) →
+      (run : CounterRun) → run ≡ starving_run cycle index p item start w.lines w.repeat w.deadline → StarvedIsNotCovered →
+      (q : Page) → slice_get pages index ≡ Some q → IsCounterOf cycle pages w index run × (IsCoveredByOne cycle q w → ⊥)
+  starved_of law p index here is_cycle page is clean steady item start starved run made never q at = (
+    (
+      starved_to law p index here is_cycle page is clean steady item start starved w.lines w.repeat w.deadline refl refl refl run made,
+      ap (λ (x : CounterRun). x.page) made,
+    ),
+    (λ one. never cycle (let some = is_cycle.some in omega arith) p w item starved.0 start starved.1
+        (subst (λ x. IsCoveredByOne cycle x w) (one_page pages index q p at here) one)),
+  )
+
   pub named_for : (found : Certificate) (collected : Collected) → ArePrepared cycle pages w found collected → (index : ℕ) (p : Page) →
       slice_get pages index ≡ Some p →
       (item : Item) → IsItem item → needed p item ≡ true → (starts : List ℕ) → starts ≡ found.starts p.id item →
@@ -141,6 +156,21 @@ module _ (cycle : List (List ℕ)) (pages : List Page) (w : Certificate) where
       (subst (IsCounterRun cycle pages) (sym made)
       (plain cycle pages p index false former w.lines w.repeat w.deadline (limit w) is_cycle here refl memory (numbers_of w is) (omega arith)
       (absent (repeated cycle) p former w.lines (limit w) none refl (other_is p.links.six) (pos 0))))
+
+  -- a page without a header isn't sent well
+  pub absent_of : AbsentPagesAreWrong → PlainRunsAreCounterRuns → IsCycle cycle → IsCertificate w → (p : Page) (index : ℕ) →
+      slice_get pages index ≡ Some p → HasNoHeader (repeated cycle) p →
+      IsMemory (wrong_memory p TheLinks) → (run : CounterRun) → run
+      ≡ plain_counter index false (wrong_memory p TheLinks) w.lines w.repeat w.deadline (limit w) →
+      (q : Page) → slice_get pages index ≡ Some q → IsCounterOf cycle pages w index run × (IsSentWell cycle pages q w → ⊥)
+  absent_of absent plain is_cycle is p index here none memory run made q at = (
+    (absent_to absent plain is_cycle is p index here none memory run made, ap (λ (x : CounterRun). x.page) made),
+    (λ well.
+        let same = one_page pages index q p at here in
+        let there = (subst (λ x. IsSentWell cycle pages x w) same well).header in
+        let h : false ≡ true = sym (none there.slot) ∙ there.is_header in
+        differ h),
+  )
 
   module _ (p : Page) where
     pub absent_none : (fault : Option Reason) → IsPageFault cycle pages p fault → is_absent fault ≡ true → HasNoHeader (repeated cycle) p
@@ -206,13 +236,14 @@ module _ (cycle : List (List ℕ)) (pages : List Page) (w : Certificate) where
         no_fault (Some r) e = cc
 
     pub page_told : FullestNamesAll → IsCycle cycle → IsCertificate w → {C : Type 0} → (run : C → CounterRun) → (o : Option C) →
-        (q : Page) → p ≡ q → TellsCovered run cycle pages q w o → TellsPage run cycle pages q w o
-    page_told names is_cycle is_w run None q same covered =
+        is_some fault ≡ false → IsClean cycle → (index : ℕ) (q : Page) → p ≡ q → TellsCovered run cycle pages index q w o →
+        TellsPage run cycle pages index q w o
+    page_told names is_cycle is_w run None none clean index q same covered =
         record {
           header = subst (λ (x : Page). HasHeader (repeated cycle) x.id) same (header_of p fault is there);
           covered = λ _ _. covered_by_one names is_cycle is_w q covered;
         }
-    page_told names is_cycle is_w run (Some c) q same to = to
+    page_told names is_cycle is_w run (Some c) none clean index q same to = (to.0, (λ well. to.1 (well.covered clean (steady_if none q same))))
 
   here_is : (xs : List Page) (i : ℕ) → i < length xs → (p : Page) × (slice_get xs i ≡ Some p)
   here_is [] i lt = absurd (omega arith)
@@ -224,13 +255,18 @@ module _ (cycle : List (List ℕ)) (pages : List Page) (w : Certificate) where
   SentTo index = (n : ℕ) (p : Page) → n < index → slice_get pages n ≡ Some p → IsSentWell cycle pages p w
 
   module _ {C : Type 0} (run : C → CounterRun) where
-    pub first_told : (index : ℕ) → index < length pages → (o : Option C) → is_some o ≡ true →
-        ((p : Page) → slice_get pages index ≡ Some p → TellsPage run cycle pages p w o) → TellsPages run cycle pages w o
-    first_told index lt None e f = absurd (differ e)
-    first_told index lt (Some c) e f = let h = here_is pages index lt in f h.0 h.1
+    pub first_told : (index : ℕ) → index < length pages → SentTo index → (o : Option C) → is_some o ≡ true →
+        ((p : Page) → slice_get pages index ≡ Some p → TellsPage run cycle pages index p w o) → TellsPages run cycle pages w o
+    first_told index lt before None e f = absurd (differ e)
+    first_told index lt before (Some c) e f =
+        let h = here_is pages index lt in
+        let told = f h.0 h.1 in (
+          told.0.0,
+          subst (IsFirstUnsent cycle pages w) (sym told.0.1) (record { page = h.0; here = h.1; unsent = told.1; none_before = before }),
+        )
 
     pub sent_more : (index : ℕ) → SentTo index → (o : Option C) → is_some o ≡ false →
-        ((p : Page) → slice_get pages index ≡ Some p → TellsPage run cycle pages p w o) → SentTo (index + 1)
+        ((p : Page) → slice_get pages index ≡ Some p → TellsPage run cycle pages index p w o) → SentTo (index + 1)
     sent_more index before (Some c) e f = absurd (differ_too e)
     sent_more index before None e f = λ n p lt here. elim (cases_lt n index) as (λ _. IsSentWell cycle pages p w) [
       | inl less ↦ before n p less here
@@ -239,13 +275,39 @@ module _ (cycle : List (List ℕ)) (pages : List Page) (w : Certificate) where
 
     pub counter_told : (o : Option C) → is_some o ≡ true → TellsPages run cycle pages w o → TellsCounter run cycle pages w o
     counter_told None e t = absurd (differ e)
-    counter_told (Some c) e t = t
+    counter_told (Some c) e t = t.0
 
     pub both_told : (a : Option C) → is_some a ≡ false → TellsPages run cycle pages w a → (o : Option C) →
         TellsAllPlainly run cycle pages w o → TellsCounter run cycle pages w o
     both_told (Some c) e t o u = absurd (differ_too e)
     both_told None e t None u = record { sent = t; plain = u }
-    both_told None e t (Some c) u = u
+    both_told None e t (Some c) u = u.0
+
+    -- before the index no plain run ends wrong
+    pub wrong_told : (index : ℕ) (any_sub : Bool) → (any_sub ≡ true → IsPlainlyRight cycle pages index false w.lines (limit w)) →
+        ((n : ℕ) (other : Bool) → n < index → IsPlainlyRight cycle pages n other w.lines (limit w)) →
+        (o : Option C) → is_some o ≡ true → TellsPlainly run cycle pages index any_sub w o → TellsAllPlainly run cycle pages w o
+    wrong_told index any_sub right before None e t = absurd (differ e)
+    wrong_told index any_sub right before (Some c) e t = (
+      t.0.0,
+      subst (λ n. IsFirstWrong cycle pages w n (run c).any_sub) (sym t.0.1)
+          (subst (IsFirstWrong cycle pages w index) (sym t.1) (record { wrong = t.2; right_by_id = right; none_before = before })),
+    )
+
+    pub right_told : (index : ℕ) (any_sub : Bool) (o : Option C) → is_some o ≡ false → TellsPlainly run cycle pages index any_sub w o →
+        IsPlainlyRight cycle pages index any_sub w.lines (limit w)
+    right_told index any_sub (Some c) e t = absurd (differ_too e)
+    right_told index any_sub None e t = t
+
+    pub first_of_pages : (o : Option C) → is_some o ≡ true → TellsPages run cycle pages w o → TellsFirst run cycle pages w o
+    first_of_pages None e t = absurd (differ e)
+    first_of_pages (Some c) e t = inl t.1
+
+    pub first_of_plain : (a : Option C) → is_some a ≡ false → TellsPages run cycle pages w a → (o : Option C) →
+        TellsAllPlainly run cycle pages w o → TellsFirst run cycle pages w o
+    first_of_plain (Some c) e t o u = absurd (differ_too e)
+    first_of_plain None e t None u = tt
+    first_of_plain None e t (Some c) u = inr (t, u.1)
 
     -- where all is sent unchanged a counter-run is found exactly where no certificate of class any with these numbers is accepted
     pub exact_told : FullestNamesAll → FurtherStartsCover → RefutedIsNotAccepted → IsCycle cycle → ArePages pages → IsCertificate w →

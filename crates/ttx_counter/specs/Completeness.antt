@@ -2,6 +2,7 @@
 --
 --   CoveredOrStarved        an item is covered by all its sure runs, or from some tuning slot on none of them comes in time
 --   StartsAreJudged         one pass tells which it is, and from what slot on
+--   StarvedIsNotCovered     then no certificate of these numbers covers it
 --   StarvedIsUnseen         a receiver that is starved of an item hasn't the page's View
 --   StarvedHasCounter       so a steady page of a clean cycle, one of whose items doesn't come in time, has a counter-run
 --   StarvesInPeriod, StarvingIsCounterRun       the tuning slot may be one of the first period, and that run is a counter-run
@@ -61,6 +62,10 @@ pub record AreJudged (cycle : List (List ℕ)) (p : Page) (w : Certificate) (ite
 abbrev pub StartsAreJudged : Type 0
 StartsAreJudged = (cycle : List (List ℕ)) → 0 < length cycle → (p : Page) (w : Certificate) (item : Item) → 1 ≤ w.repeat →
     Rising (w.starts p.id item) → NamesAll cycle p w item → AreJudged cycle p w item
+
+abbrev pub StarvedIsNotCovered : Type 0
+StarvedIsNotCovered = (cycle : List (List ℕ)) → 0 < length cycle → (p : Page) (w : Certificate) (item : Item) → needed p item ≡ true →
+    (start : ℕ) → StarvesFrom cycle p w item start → IsCoveredByOne cycle p w → ⊥
 
 abbrev pub StarvedIsUnseen : Type 0
 StarvedIsUnseen = (s : Stream) (p : Page) (sel : Selection) (lines repeat : ℕ) (item : Item) (tau : ℤ) (n : ℕ) (former m : Memory) (received : List

@@ -3,15 +3,17 @@
 --   TellsStart              the slot from which on a receiver is starved of an item; none where all its sure runs cover it
 --   TellsNeeded             the same of an item that a viewer sees
 --   IsAfterOwner            a slot of the period that follows the owner of the transmission in a slot
---   IsCounterTo             a counter-run with the numbers of a certificate
+--   IsCounterTo, IsCounterOf        a counter-run with the numbers of a certificate; one of the page at a place of the list
 --   ArePrepared             what is kept of a cycle and its pages
 --   is_absent               the fault of a page without a header
 --   TellsCovered            a page each of whose items is covered by all its sure runs; or a counter-run
 --   IsSentWell, TellsPage    a page that is sent, and where it is steady covered by some certificate of these numbers; or a counter-run
 --   TellsPlainly            a counter-run, or a page of which no plain run ends wrong
+--   IsFirstUnsent, IsFirstWrong     the first page that isn't sent well; the first of which a plain run ends wrong
 --   TellsPages, TellsAllPlainly     the same of all pages
 --   IsUnrefuted, TellsCounter       the same of all pages; or a counter-run
-use Rattle.std.specs.Prelude.{◌≡◌, ◌⊎◌, ◌↔◌, ℕ, pos, ◌+ℤ◌, true, false, Bool, List, slice_get, Contains, Option, Some, None}
+--   IsFirstTold, TellsFirst         of which page the counter-run is
+use Rattle.std.specs.Prelude.{◌≡◌, ◌⊎◌, ◌↔◌, ℕ, ◌<◌, pos, ◌+ℤ◌, true, false, Bool, List, slice_get, Contains, Option, Some, None, ⊤}
 use Rattle.ttx_page.specs.Pages.{Page, needed}
 use Rattle.ttx_page.specs.declared.item.Item.{Item}
 use Rattle.ttx_page.specs.Streams.{repeated, turned}
@@ -72,30 +74,48 @@ pub record IsCounterTo (cycle : List (List ℕ)) (pages : List Page) (w : Certif
   pub repeat : c.repeat ≡ w.repeat
   pub deadline : c.deadline ≡ w.deadline
 
+abbrev pub IsCounterOf : List (List ℕ) → List Page → Certificate → ℕ → CounterRun → Type 0
+IsCounterOf cycle pages w index c = IsCounterTo cycle pages w c × (c.page ≡ index)
+
 -- the page has a header; and of a clean cycle, where it is steady, some certificate of these numbers covers it
 pub record IsSentWell (cycle : List (List ℕ)) (pages : List Page) (p : Page) (w : Certificate) : Type 0 where
   pub header : HasHeader (repeated cycle) p.id
   pub covered : IsClean cycle → Steady (repeated cycle) pages p → IsCoveredByOne cycle p w
 
-abbrev pub TellsPage : {C : Type 0} → (C → CounterRun) → List (List ℕ) → List Page → Page → Certificate → Option C → Type 0
-TellsPage run cycle pages p w None = IsSentWell cycle pages p w
-TellsPage run cycle pages p w (Some c) = IsCounterTo cycle pages w (run c)
+-- the page at the index: it is sent well, or it isn't, and there is a counter-run of it
+abbrev pub TellsPage : {C : Type 0} → (C → CounterRun) → List (List ℕ) → List Page → ℕ → Page → Certificate → Option C → Type 0
+TellsPage run cycle pages index p w None = IsSentWell cycle pages p w
+TellsPage run cycle pages index p w (Some c) = IsCounterOf cycle pages w index (run c) × (IsSentWell cycle pages p w → ⊥)
 
-abbrev pub TellsCovered : {C : Type 0} → (C → CounterRun) → List (List ℕ) → List Page → Page → Certificate → Option C → Type 0
-TellsCovered run cycle pages p w None = (item : Item) → needed p item ≡ true → IsCovered cycle p (fullest cycle w) item
-TellsCovered run cycle pages p w (Some c) = IsCounterTo cycle pages w (run c)
+abbrev pub TellsCovered : {C : Type 0} → (C → CounterRun) → List (List ℕ) → List Page → ℕ → Page → Certificate → Option C → Type 0
+TellsCovered run cycle pages index p w None = (item : Item) → needed p item ≡ true → IsCovered cycle p (fullest cycle w) item
+TellsCovered run cycle pages index p w (Some c) = IsCounterOf cycle pages w index (run c) × (IsCoveredByOne cycle p w → ⊥)
+
+-- the first page in the order of the list that isn't sent well
+pub record IsFirstUnsent (cycle : List (List ℕ)) (pages : List Page) (w : Certificate) (index : ℕ) : Type 0 where
+  pub page : Page
+  pub here : slice_get pages index ≡ Some page
+  pub unsent : IsSentWell cycle pages page w → ⊥
+  pub none_before : (n : ℕ) (p : Page) → n < index → slice_get pages n ≡ Some p → IsSentWell cycle pages p w
 
 abbrev pub TellsPages : {C : Type 0} → (C → CounterRun) → List (List ℕ) → List Page → Certificate → Option C → Type 0
 TellsPages run cycle pages w None = (n : ℕ) (p : Page) → slice_get pages n ≡ Some p → IsSentWell cycle pages p w
-TellsPages run cycle pages w (Some c) = IsCounterTo cycle pages w (run c)
+TellsPages run cycle pages w (Some c) = IsCounterTo cycle pages w (run c) × IsFirstUnsent cycle pages w (run c).page
 
 abbrev pub TellsPlainly : {C : Type 0} → (C → CounterRun) → List (List ℕ) → List Page → ℕ → Bool → Certificate → Option C → Type 0
 TellsPlainly run cycle pages index any_sub w None = IsPlainlyRight cycle pages index any_sub w.lines (limit w)
-TellsPlainly run cycle pages index any_sub w (Some c) = IsCounterTo cycle pages w (run c)
+TellsPlainly run cycle pages index any_sub w (Some c) = IsCounterOf cycle pages w index (run c) × ((run c).any_sub ≡ any_sub)
+    × (IsPlainlyRight cycle pages index any_sub w.lines (limit w) → ⊥)
+
+-- the first page in the order of the list of which a plain run ends wrong; it is told by its id, if one by its id does so
+pub record IsFirstWrong (cycle : List (List ℕ)) (pages : List Page) (w : Certificate) (index : ℕ) (any_sub : Bool) : Type 0 where
+  pub wrong : IsPlainlyRight cycle pages index any_sub w.lines (limit w) → ⊥
+  pub right_by_id : any_sub ≡ true → IsPlainlyRight cycle pages index false w.lines (limit w)
+  pub none_before : (n : ℕ) (other : Bool) → n < index → IsPlainlyRight cycle pages n other w.lines (limit w)
 
 abbrev pub TellsAllPlainly : {C : Type 0} → (C → CounterRun) → List (List ℕ) → List Page → Certificate → Option C → Type 0
 TellsAllPlainly run cycle pages w None = (n : ℕ) (any_sub : Bool) → IsPlainlyRight cycle pages n any_sub w.lines (limit w)
-TellsAllPlainly run cycle pages w (Some c) = IsCounterTo cycle pages w (run c)
+TellsAllPlainly run cycle pages w (Some c) = IsCounterTo cycle pages w (run c) × IsFirstWrong cycle pages w (run c).page (run c).any_sub
 
 -- no page without a header; of a clean cycle no steady page that no certificate of class any with these numbers covers; no plain run that
 -- ends wrong
@@ -106,3 +126,13 @@ pub record IsUnrefuted (cycle : List (List ℕ)) (pages : List Page) (w : Certif
 abbrev pub TellsCounter : {C : Type 0} → (C → CounterRun) → List (List ℕ) → List Page → Certificate → Option C → Type 0
 TellsCounter run cycle pages w None = IsUnrefuted cycle pages w
 TellsCounter run cycle pages w (Some c) = IsCounterTo cycle pages w (run c)
+
+-- The counter-run is of the first page that isn't sent well; where all are, of the first page of which a plain run ends wrong.
+abbrev pub IsFirstTold : List (List ℕ) → List Page → Certificate → CounterRun → Type 0
+IsFirstTold cycle pages w c =
+    IsFirstUnsent cycle pages w c.page
+    ⊎ (((n : ℕ) (p : Page) → slice_get pages n ≡ Some p → IsSentWell cycle pages p w) × IsFirstWrong cycle pages w c.page c.any_sub)
+
+abbrev pub TellsFirst : {C : Type 0} → (C → CounterRun) → List (List ℕ) → List Page → Certificate → Option C → Type 0
+TellsFirst run cycle pages w None = ⊤
+TellsFirst run cycle pages w (Some c) = IsFirstTold cycle pages w (run c)

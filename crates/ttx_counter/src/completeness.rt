@@ -1,6 +1,6 @@
 //! Laws of completeness, for receivers of class Any. A call costs nothing and gives the caller's proof the law.
 
-ghost use Rattle.ttx_counter.specs.Completeness.{CoveredOrStarved, StartsAreJudged, StarvedIsUnseen, StarvedHasCounter, StarvesInPeriod};
+ghost use Rattle.ttx_counter.specs.Completeness.{CoveredOrStarved, StartsAreJudged, StarvedIsNotCovered, StarvedIsUnseen, StarvedHasCounter, StarvesInPeriod};
 ghost use Rattle.ttx_counter.specs.Completeness.{StarvingIsCounterRun, CounterIsUnseen, FullestNamesAll, SeenIsCovered, SeenExactlyWhereAccepted};
 ghost use Rattle.ttx_counter.specs.Completeness.{FoundIsLeastSeen, NoneFoundIsUnseen};
 
@@ -30,6 +30,16 @@ pub fn starts_are_judged()
     ttx_page::laws::runs_rise();
     ttx_witness::cycle_laws::coverage_is_decided();
     ttx_witness::cycle_laws::firsts_are_found();
+}
+
+/// No certificate with these numbers covers an item of which no sure run comes in time from some tuning slot on.
+pub fn starved_is_not_covered()
+    ensures { StarvedIsNotCovered }
+{
+    ttx_page::laws::each_slot_turns();
+    ttx_page::laws::streams_move();
+    ttx_page::laws::runs_are_unique();
+    ttx_page::laws::steady_sends_its_own();
 }
 
 /// A receiver that is starved of an item hasn't the page's View.

@@ -20,7 +20,7 @@ ghost use Rattle.ttx_witness.specs.faults.OtherSubpages.{AreOtherSubpages};
 ghost use Rattle.ttx_certify.specs.Verdicts.{IsClean};
 ghost use Rattle.ttx_counter.specs.Counters.{counter_run_of};
 ghost use Rattle.ttx_counter.specs.Magazines.{magazine_of};
-ghost use Rattle.ttx_counter.specs.Refutations.{is_absent, IsCounterTo, ArePrepared, TellsNeeded, TellsCovered, TellsPage, TellsPages};
+ghost use Rattle.ttx_counter.specs.Refutations.{is_absent, ArePrepared, TellsNeeded, TellsCovered, TellsPage, TellsPages, TellsFirst};
 ghost use Rattle.ttx_counter.specs.Refutations.{TellsAllPlainly, TellsPlainly, TellsCounter};
 ghost use Rattle.ttx_counter.specs.Sources.{plain_counter, IsPlainlyRight};
 
@@ -97,9 +97,11 @@ fn starved_counter(
         Steady (repeated (slots_of claim.now.cycle.now)) (map page_of claim.now.pages.now) p }
     requires starved { (p : definitions.Page) → slice_get (map page_of claim.now.pages.now) index ≡ Some p →
         TellsNeeded (slots_of claim.now.cycle.now) p (certificate_of claim.now.certificate.now) item.now (Some start) }
-    ensures { IfOk result (λ c. IsCounterTo (slots_of claim.now.cycle.now) (map page_of claim.now.pages.now)
-        (certificate_of claim.now.certificate.now) (counter_run_of c)) }
+    ensures { IfOk result (λ c. (p : definitions.Page) → slice_get (map page_of claim.now.pages.now) index ≡ Some p →
+        TellsCovered counter_run_of (slots_of claim.now.cycle.now) (map page_of claim.now.pages.now) index p
+        (certificate_of claim.now.certificate.now) (Some c)) }
 {
+    crate::completeness::starved_is_not_covered();
     crate::completeness::starving_is_counter_run();
     ttx_page::laws::pages_keep_their_rules();
     ttx_witness::certificate_laws::certificates_keep_their_rules();
@@ -128,7 +130,8 @@ fn starve_page(
     requires steady { (p : definitions.Page) → slice_get (map page_of claim.now.pages.now) index ≡ Some p →
         Steady (repeated (slots_of claim.now.cycle.now)) (map page_of claim.now.pages.now) p }
     ensures { IfOk result (λ c. (p : definitions.Page) → slice_get (map page_of claim.now.pages.now) index ≡ Some p →
-        TellsCovered counter_run_of (slots_of claim.now.cycle.now) (map page_of claim.now.pages.now) p (certificate_of claim.now.certificate.now) c) }
+        TellsCovered counter_run_of (slots_of claim.now.cycle.now) (map page_of claim.now.pages.now) index p
+        (certificate_of claim.now.certificate.now) c) }
 {
     for number in 0..26u8 {
         let item = item_of(number);
@@ -156,7 +159,8 @@ fn refute_page(
     requires others { AreOtherSubpages (slots_of claim.now.cycle.now) (map page_of claim.now.pages.now) prepared.now.others.now }
     requires clean { IsTrue prepared.now.clean ↔ IsClean (slots_of claim.now.cycle.now) }
     ensures { IfOk result (λ c. (p : definitions.Page) → slice_get (map page_of claim.now.pages.now) index ≡ Some p →
-        TellsPage counter_run_of (slots_of claim.now.cycle.now) (map page_of claim.now.pages.now) p (certificate_of claim.now.certificate.now) c) }
+        TellsPage counter_run_of (slots_of claim.now.cycle.now) (map page_of claim.now.pages.now) index p
+        (certificate_of claim.now.certificate.now) c) }
 {
     crate::completeness::fullest_names_all();
     crate::laws::absent_pages_are_wrong();
@@ -283,6 +287,9 @@ fn refute_all_plainly(alloc: Global, claim: &Claim<'_>, prepared: &Prepared<'_>)
 /// certificate is accepted. It gives one where a page has no header; where a plain run of a page ends wrong; and, in a clean cycle, where a
 /// steady page is covered by no such certificate. Where all pages are sent unchanged in clean slots it gives one exactly where no
 /// such certificate is accepted.
+///
+/// It is of the first page, in their order, that has no header or is steady in a clean cycle and not so covered; where there is no such page,
+/// of the first one of which a plain run ends wrong.
 pub fn refute(
     alloc: Global,
     cycle: &Cycle,
@@ -292,6 +299,7 @@ pub fn refute(
     requires any { (certificate_of certificate.now).class ≡ Any }
     requires distinct { AllPairs (λ a b. a ≢ b) (ids_of pages.now) }
     ensures tells { IfOk result (TellsCounter counter_run_of (slots_of cycle.now) (map page_of pages.now) (certificate_of certificate.now)) }
+    ensures first { IfOk result (TellsFirst counter_run_of (slots_of cycle.now) (map page_of pages.now) (certificate_of certificate.now)) }
     ensures exact { IfOk result (λ c. IsSentUnchanged (slots_of cycle.now) (map page_of pages.now) →
         (is_some c ≡ true) ↔ (CanBeAccepted (slots_of cycle.now) (map page_of pages.now) Any (certificate_of certificate.now).lines
         (certificate_of certificate.now).repeat (certificate_of certificate.now).deadline → ⊥)) }

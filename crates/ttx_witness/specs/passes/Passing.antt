@@ -8,6 +8,7 @@
 --   AreListed, AreNoted, AreTold, AreKept   what the slots of a list send, facts and headers of other subpages, given the owners before it
 --   IsFirstPass             a pass after a first list
 --   IsPassed, IsSecondPass  a second pass after a second list, which follows a first one
+--   IsBorneOut              a second list that bears out what a first one left
 --   IsEnded                 a second pass that has ended with the owners with which it began
 --   EndsAs                  the answer at the end of a second pass
 use Rattle.std.specs.Prelude.{◌≡◌, ◌↔◌, ℕ, ◌*◌, ◌<◌, ◌≤◌, false, List, [], length, map, get_or, slice_get, slice_index_or, Option, Some, None, IsTrue}
@@ -125,7 +126,14 @@ pub record IsEnded (ended : EndedPass) (y : List (List ℕ)) : Type 0 where
   pub facts : AreNoted (ended_pages ended) (ended_certificate ended) (entry_owner y) y ended.facts.items
   pub others : AreTold y ended.others
 
--- None only if the lists differ or the second one is empty
-abbrev pub EndsAs : List (List ℕ) → List (List ℕ) → Option EndedPass → Type 0
-EndsAs x y None = x ≡ y → y ≡ []
-EndsAs x y (Some ended) = IsEnded ended y
+-- The second list is not empty, has at most 65,536 slots, and before its slot 0 the magazine of each page has the owner that it has before
+-- slot 0 of the first one.
+pub record IsBorneOut (x y : List (List ℕ)) (pages : List Page) : Type 0 where
+  pub some : 1 ≤ length y
+  pub few : length y ≤ 65536
+  pub owners : (i : ℕ) (p : Page) → slice_get pages i ≡ Some p → entry_owner x p.id ≡ entry_owner y p.id
+
+-- None exactly where the first list isn't borne out; so only if the lists differ or the second one is empty
+abbrev pub EndsAs : List (List ℕ) → List (List ℕ) → List Page → Option EndedPass → Type 0
+EndsAs x y pages None = (IsBorneOut x y pages → ⊥) × (x ≡ y → y ≡ [])
+EndsAs x y pages (Some ended) = IsBorneOut x y pages × IsEnded ended y

@@ -142,10 +142,10 @@ impl<'a> SecondPass<'a> {
         take_slot(&mut self.pass, slot);
     }
 
-    /// What the second list sends of the pages, if it leaves the owners with which it began. `None` if it does not, is empty, or has
-    /// more than 65,536 slots.
+    /// What the second list sends of the pages, if it leaves the owners with which it began. `None` exactly where it does not, is empty,
+    /// or has more than 65,536 slots.
     pub fn end(self) -> Option<EndedPass<'a>>
-        ensures ended { (x y : List (List ℕ)) → IsSecondPass self.entry x y → EndsAs x y result }
+        ensures ended { (x y : List (List ℕ)) → IsSecondPass self.entry x y → EndsAs x y (pages_in self.entry) result }
         ensures pages { IfSome result (λ ended. ended_pages ended ≡ pages_in self.entry) }
         ensures certificate { IfSome result (λ ended. ended_certificate ended ≡ certificate_in self.entry) }
     {

@@ -7,10 +7,10 @@ use Rattle.ttx_page.specs.Streams.{repeated}
 use Rattle.ttx_cycle.specs.Cycles.{slots_of, slots_of-IsCycle}
 use Rattle.ttx_witness.specs.Certificates.{certificate_of}
 use Rattle.ttx_witness.specs.Coverage.{limit}
-use Rattle.ttx_counter.specs.Counters.{counter_run_of, selection_for}
+use Rattle.ttx_counter.specs.Counters.{CounterRun, counter_run_of, selection_for}
 use Rattle.ttx_counter.specs.Sources.{TellsWrong, IsWrongAfter}
 use Rattle.ttx_counter.proofs.CheckIsExact.{same_page}
-use Rattle.ttx_counter.proofs.PlainRuns.{found, not_found, numbers_of, plain_to}
+use Rattle.ttx_counter.proofs.PlainRuns.{found, not_found, not_right, numbers_of, plain_to}
 use Rattle.ttx_counter.proofs.plain_refuting.refute_plainly.Goals as goal
 
 pub returns-in-Some : goal.returns-in-Some
@@ -20,18 +20,28 @@ returns-in-Some c =
     let pages = map page_of c.args.claim.now.pages.now in
     let here = c.page_at-page.ensures in
     let e = c.in-Some.ensures in
-    plain_to (slots_of c.args.claim.now.cycle.now) pages w c.args.index c.args.any_sub (memory_of c.of-former.result) c.in-Some.slots
+    let w_limit = c.limit-low.ensures.value in
+    let wrong = subst (λ l. IsWrongAfter (slots_of c.args.claim.now.cycle.now) p l c.selection_for-selection.result
+    (memory_of_page p) c.in-Some.slots) c.lines.ensures e.2 in
+    let same = c.selection_for-selection.ensures ∙ ap (selection_for c.args.any_sub) c.id.ensures in
+    let to = plain_to (slots_of c.args.claim.now.cycle.now) pages w c.args.index c.args.any_sub (memory_of c.of-former.result) c.in-Some.slots
     (counter_run_of c.plain_counter.result) c.plain_counter.ensures
     (found c.plain_runs_are_counter_runs.ensures (slots_of c.args.claim.now.cycle.now)
     (slots_of-IsCycle c.args.claim.now.cycle.now) pages p c.args.index c.args.any_sub c.selection_for-selection.result
     (memory_of c.of-former.result)
     w.lines w.repeat w.deadline c.in-Some.slots (counter_run_of c.plain_counter.result) here
-    (c.selection_for-selection.ensures ∙ ap (selection_for c.args.any_sub) c.id.ensures)
+    same
     ((c.fits.ensures p here).0 c.if-not-fits.false) (c.memories_keep_their_rules.ensures c.of-former.result) c.of-former.ensures
     (numbers_of w (c.certificates_keep_their_rules.ensures c.args.claim.now.certificate.now).1)
     (subst (λ z. z ≤ c.in-Some.slots) c.limit-low.ensures.value e.0)
-    (subst (λ l. IsWrongAfter (slots_of c.args.claim.now.cycle.now) p l c.selection_for-selection.result
-    (memory_of_page p) c.in-Some.slots) c.lines.ensures e.2) c.plain_counter.ensures)
+    wrong c.plain_counter.ensures) in (
+      (to, ap (λ (r : CounterRun). r.page) c.plain_counter.ensures),
+      ap (λ (r : CounterRun). r.any_sub) c.plain_counter.ensures,
+      not_right (slots_of c.args.claim.now.cycle.now) pages p c.args.index c.args.any_sub c.selection_for-selection.result w.lines
+          (limit w) c.in-Some.slots here same ((c.fits.ensures p here).0 c.if-not-fits.false)
+          (subst (λ z. z ≤ c.in-Some.slots) w_limit e.0)
+          (subst (λ z. c.in-Some.slots ≤ z + 2 * length (slots_of c.args.claim.now.cycle.now)) w_limit e.1) wrong,
+    )
 
 pub returns-in-None : goal.returns-in-None
 returns-in-None c =

@@ -7,7 +7,7 @@ use Rattle.ttx_cycle.specs.Cycles.{slots_of, slots_of-IsCycle}
 use Rattle.ttx_page.specs.Views.{page_of}
 use Rattle.ttx_witness.specs.Certificates.{certificate_of}
 use Rattle.ttx_counter.specs.Counters.{counter_run_of}
-use Rattle.ttx_counter.proofs.SearchAnswers.{are_pages, counter_told, both_told, exact_told}
+use Rattle.ttx_counter.proofs.SearchAnswers.{are_pages, counter_told, both_told, first_of_pages, first_of_plain, exact_told}
 use Rattle.ttx_counter.proofs.refutation.refute.Goals as goal
 
 pub refute_pages-requires-clause-prepared : goal.refute_pages-requires-clause-prepared
@@ -66,3 +66,14 @@ returns-clause-exact c =
     (both_told cycle pages w counter_run_of c.in_ok-counter.counter
     (sym c.is_some.ensures ∙ c.if-is_some.false) c.in_ok-counter.ensures c.refute_all_plainly.result
     c.refute_all_plainly.ensures)
+
+pub returns-then-is_some-clause-first : goal.returns-then-is_some-clause-first
+returns-then-is_some-clause-first c =
+    first_of_pages (slots_of c.args.cycle.now) (map page_of c.args.pages.now) (certificate_of c.args.certificate.now) counter_run_of
+    c.in_ok-counter.counter (sym c.is_some.ensures ∙ c.if-is_some.true) c.in_ok-counter.ensures
+
+pub returns-clause-first : goal.returns-clause-first
+returns-clause-first c =
+    first_of_plain (slots_of c.args.cycle.now) (map page_of c.args.pages.now) (certificate_of c.args.certificate.now) counter_run_of
+    c.in_ok-counter.counter (sym c.is_some.ensures ∙ c.if-is_some.false) c.in_ok-counter.ensures c.refute_all_plainly.result
+    c.refute_all_plainly.ensures

@@ -6,7 +6,7 @@ use Rattle.ttx_page.specs.Views.{page_of}
 use Rattle.ttx_witness.specs.Certificates.{certificate_of}
 use Rattle.ttx_counter.specs.Counters.{counter_run_of}
 use Rattle.ttx_counter.specs.Refutations.{TellsCovered}
-use Rattle.ttx_counter.proofs.SearchAnswers.{ok_map, absent_to, absent_none, well_unless, steady_if, page_told}
+use Rattle.ttx_counter.proofs.SearchAnswers.{ok_map, absent_of, absent_none, well_unless, steady_if, page_told}
 use Rattle.ttx_counter.proofs.CheckIsExact.{same_page}
 use Rattle.ttx_counter.proofs.refutation.refute_page.Goals.{then-not-clean-via-then-not-clean, then-not-clean-via-else-not-clean+then-is_some}
 use Rattle.ttx_counter.proofs.refutation.refute_page.Goals as goal
@@ -20,11 +20,11 @@ returns-then-is_absent c = λ q at.
     let here = c.page_at-page.ensures in
     let fault = c.fault_of-fault.ensures pages w.lines c.requires.prepared.sent here
     (c.first-other_subpage.ensures cycle pages c.args.index p c.requires.others here c.id.ensures) in
-    absent_to cycle pages w c.absent_pages_are_wrong.ensures c.plain_runs_are_counter_runs.ensures
+    absent_of cycle pages w c.absent_pages_are_wrong.ensures c.plain_runs_are_counter_runs.ensures
     (slots_of-IsCycle c.args.claim.now.cycle.now)
     (c.certificates_keep_their_rules.ensures c.args.claim.now.certificate.now).1 p c.args.index here
     (absent_none cycle pages w p c.fault_of-fault.result fault (sym c.is_absent.ensures ∙ c.if-is_absent.true))
-    c.absent_counter.ensures.former (counter_run_of c.absent_counter.result) c.absent_counter.ensures.run
+    c.absent_counter.ensures.former (counter_run_of c.absent_counter.result) c.absent_counter.ensures.run q at
 
 pub returns-then-not-clean : goal.returns-then-not-clean
 returns-then-not-clean c = λ q at.
@@ -65,9 +65,10 @@ returns c =
     let here = c.page_at-page.ensures in
     let fault = c.fault_of-fault.ensures pages w.lines c.requires.prepared.sent here
     (c.first-other_subpage.ensures cycle pages c.args.index p c.requires.others here c.id.ensures) in
-    ok_map (λ o. (q : Page) → slice_get pages c.args.index ≡ Some q → TellsCovered counter_run_of cycle pages q w o) _ c.starve_page.result
+    ok_map (λ o. (q : Page) → slice_get pages c.args.index ≡ Some q → TellsCovered counter_run_of cycle pages c.args.index q w o) _ c.starve_page.result
     (λ o t q at. page_told cycle pages w c.steady_has_no_fault.ensures p c.fault_of-fault.result fault
     (sym c.is_absent.ensures ∙ c.if-is_absent.false) c.fullest_names_all.ensures (slots_of-IsCycle c.args.claim.now.cycle.now)
     (c.certificates_keep_their_rules.ensures c.args.claim.now.certificate.now).1
-    counter_run_of o q (same_page pages c.args.index p q here at) (t q at))
+    counter_run_of o (sym c.is_some.ensures ∙ c.if-is_some.false) (c.requires.clean.0 c.if-not-clean.false)
+    c.args.index q (same_page pages c.args.index p q here at) (t q at))
     c.starve_page.ensures

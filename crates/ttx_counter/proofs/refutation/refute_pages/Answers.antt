@@ -14,7 +14,7 @@ returns-then-is_some c =
     let pages = map page_of c.args.claim.now.pages.now in
     let w = certificate_of c.args.claim.now.certificate.now in
     first_told cycle pages w counter_run_of c.loop-index.index
-    (let l = length-map c.args.claim.now.pages.now page_of in let t = c.loop-index-test.true in omega arith)
+    (let l = length-map c.args.claim.now.pages.now page_of in let t = c.loop-index-test.true in omega arith) c.loop-index.invariant
     c.in_ok-counter.counter (sym c.is_some.ensures ∙ c.if-is_some.true) c.in_ok-counter.ensures
 
 pub loop-index-preserved : goal.loop-index-preserved

@@ -1,6 +1,8 @@
 -- The end of a second list.
-use Rattle.std.proofs.Common.{◌≡◌, ℕ, ◌-◌, ◌≤◌, pos, ◌-ℤ◌, List, [], ◌∷◌, length, Option, refl, sym, ap, ◌∙◌, arith}
+use Rattle.std.proofs.Common.{◌≡◌, ℕ, zero, suc, ◌-◌, ◌≤◌, pos, ◌-ℤ◌, List, [], ◌∷◌, length, map, slice_get, Option, Some, None, refl, sym, ap, ◌∙◌, arith}
 use Rattle.ttx_page.specs.Pages.{Page}
+use Rattle.ttx_page.specs.Views.{page_of, ids_of}
+use Rattle.ttx_page.specs.declared.page.Page.{Page as PageValue}
 use Rattle.ttx_page.specs.Streams.{run_length}
 use Rattle.ttx_page.specs.declared.item.Item.{Item}
 use Rattle.ttx_witness.specs.runs.Transmissions.{runs}
@@ -31,15 +33,22 @@ pub empty_is : (y : List (List ℕ)) → length y ≡ 0 → y ≡ []
 empty_is [] e = refl
 empty_is (z ∷ y) e = absurd (omega arith)
 
--- the owners before a list that is the first list again
+-- the page whose id stands at an index
+pub page_of_id : (pages : List PageValue) (i : ℕ) (id : Id) → slice_get (ids_of pages) i ≡ Some id →
+    (p : Page) × (slice_get (map page_of pages) i ≡ Some p) × (p.id ≡ id)
+page_of_id [] i id e = let h : None ≡ Some id = e in cc
+page_of_id (q ∷ pages) zero id e = (page_of q, refl, let h : (page_of q).id ≡ id = cc in h)
+page_of_id (q ∷ pages) (suc i) id e = page_of_id pages i id e
+
+-- the owners before a list that has the owners of the first list before it
 module _ (entry owners : List (Option Owner)) (x y : List (List ℕ)) (i : ℕ) (id : Id)
     (seen : owner_for owners i id ≡ owner_scan id (repeated y) (entry_owner x id) (length y))
     (begun : owner_for entry i id ≡ entry_owner x id) (count : ℕ) (is : count ≡ length y) where
-  pub again : x ≡ y → owner_moved (pos 0 -ℤ pos count) (owner_for owners i id) ≡ owner_for entry i id
+  pub again : entry_owner x id ≡ entry_owner y id → owner_moved (pos 0 -ℤ pos count) (owner_for owners i id) ≡ owner_for entry i id
   again e =
       ap (λ n. owner_moved (pos 0 -ℤ pos n) (owner_for owners i id)) is ∙ ap (owner_moved (pos 0 -ℤ pos (length y))) seen
-      ∙ ap (λ z. owner_moved (pos 0 -ℤ pos (length y)) (owner_scan id (repeated y) (entry_owner z id) (length y))) e
-      ∙ own_entry y id ∙ ap (λ z. entry_owner z id) (sym e) ∙ sym begun
+      ∙ ap (λ o. owner_moved (pos 0 -ℤ pos (length y)) (owner_scan id (repeated y) o (length y))) e
+      ∙ own_entry y id ∙ sym e ∙ sym begun
 
   pub own : 1 ≤ length y → owner_moved (pos 0 -ℤ pos count) (owner_for owners i id) ≡ owner_for entry i id → entry_owner x id ≡ entry_owner y id
   own some steady = steady_entry y some id (entry_owner x id)
