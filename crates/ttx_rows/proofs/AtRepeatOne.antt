@@ -11,7 +11,7 @@ use Rattle.ttx_page.specs.Receptions.{IsTextByte, IsRight, OneIs, Received}
 use Rattle.ttx_page.proofs.SlotDistances.{offset}
 use Rattle.ttx_rows.specs.RowReceptions.{IsWhole, RowsArrive, NoRowIsTorn, ReceivedByRows, HeadsArrive, LateHeadsArrive}
 use Rattle.ttx_rows.specs.RowReceivers.{Manner, spoils_heads}
-use Rattle.ttx_rows.specs.Laws.{SentRowsAreOdd, AcceptedIsSeenByRows, OnceIsForAll, SeenOnceByAll}
+use Rattle.ttx_rows.specs.Laws.{SentRowsAreOdd, AcceptedIsSeenByRows, AcceptedIsShownByRows, OnceIsForAll, SeenOnceByAll, ShownOnceByAll}
 use Rattle.ttx_rows.proofs.ManySlots.{all_sent, whole_is_right}
 
 module _ (s : Stream) (p : Page) (repeat : ℕ) (once : repeat ≡ 1) (tau : ℤ) (received : List (List ℕ)) (rule : Received s p.id repeat tau received)
@@ -86,3 +86,10 @@ seen_once_by_all odd seen cycle pages w is_cycle are_pages is_certificate accept
     run =
     let r = once_is_for_all odd cycle pages w is_cycle are_pages accepts once n p here how tau received rule in
     ((seen cycle pages w is_cycle are_pages is_certificate accepts n p here).shown how sel fits tau former m received is_former r.0 long run).1 r.1
+
+pub shown_once_by_all : SentRowsAreOdd → AcceptedIsShownByRows → ShownOnceByAll
+shown_once_by_all odd shown cycle pages w is_cycle are_pages is_certificate accepts once n p here gap followed how sel fits tau former d received
+    is_former rule long run =
+    let r = once_is_for_all odd cycle pages w is_cycle are_pages accepts once n p here how tau received rule in
+    let s = shown cycle pages w is_cycle are_pages is_certificate accepts n p here gap followed in
+    (s.shown how sel fits tau former d received is_former r.0 long run).1 r.2

@@ -40,7 +40,7 @@ use Rattle.ttx_rows.proofs.OneSlot.{LawsBelow, packet_is, packet_at, IsHeaderKin
 use Rattle.ttx_rows.specs.RowReceptions.{may_be_lost}
 use Rattle.ttx_rows.proofs.Mended.{Arrived}
 use Rattle.ttx_receiver.specs.Reading.{IsIgnored}
-use Rattle.ttx_rows.proofs.KeptMemories.{length-stored_row}
+use Rattle.ttx_receiver.proofs.KeptMemories.{length-stored_row}
 use Rattle.ttx_rows.proofs.StoredText.{taken_odd, taken_at}
 
 -- the control bits and the header text of the page

@@ -15,8 +15,7 @@ use Rattle.ttx_page.specs.declared.class.Class.TheVariants.{Any, Clearing}
 use Rattle.ttx_page.specs.Memories.{Memory, IsFormer}
 use Rattle.ttx_page.specs.Streams.{Stream, repeated, heads_page}
 use Rattle.ttx_page.specs.Receptions.{Received}
-use Rattle.ttx_cycle.specs.Files.{IsCycle}
-use Rattle.ttx_witness.specs.Coverage.{Certificate, IsCertificate, limit}
+use Rattle.ttx_witness.specs.Coverage.{limit}
 use Rattle.ttx_receiver.specs.Laws.{IsSteadyFrom, IsBrought, HasHeaderBetween}
 use Rattle.ttx_page.proofs.SlotDistances.{offset}
 use Rattle.ttx_page.specs.Packets.{packet_of}
@@ -24,7 +23,7 @@ use Rattle.ttx_page.specs.Receptions.{IsTextByte}
 use Rattle.ttx_page.specs.Followers.{heads_another}
 use Rattle.ttx_render.specs.Laws.{ShowingIsSeeing}
 use Rattle.ttx_certify.specs.Seen.{HasView}
-use Rattle.ttx_certify.specs.Laws.{ArePages, RunsAreSeen}
+use Rattle.ttx_certify.specs.Laws.{RunsAreSeen}
 use Rattle.ttx_certify.proofs.AcceptedIsSeen.{StreamLaws, fits_matches, steady_from, brought}
 use Rattle.ttx_late.specs.Laws.{IsFollowedFrom, RunsAreShown}
 use Rattle.ttx_late.specs.LateReceivers.{LateMemory}
@@ -33,25 +32,22 @@ use Rattle.ttx_rows.specs.RowReceivers.{Manner, plain, spoils_heads, RowRun, Row
 use Rattle.ttx_rows.specs.SeenByRows.{HasViewBelowHead}
 use Rattle.ttx_rows.specs.Laws.{RowRunsAreSeen, RowRunsAreShown, AcceptedIsSeenByRows}
 use Rattle.ttx_rows.specs.Laws.{AcceptedIsShownByRows, SeenByRowsIsSeen, SeenLateByRowsIsSeenLate}
-use Rattle.ttx_late.specs.LateVerdicts.{IsLateVerdict}
-use Rattle.ttx_late.specs.declared.verdict.LateVerdict.{LateVerdict}
 use Rattle.ttx_late.specs.declared.verdict.LateVerdict.TheVariants.{Yes, No, NeverShown}
-use Rattle.ttx_certify.specs.Verdicts.{IsVerdict}
-use Rattle.ttx_certify.specs.declared.verdict.Verdict.{Verdict}
 use Rattle.ttx_certify.specs.declared.verdict.Verdict.TheVariants as certify
-use Rattle.ttx_rows.specs.RowVerdicts.{MeansByRows, MeansLateByRows}
+use Rattle.ttx_rows.specs.RowVerdicts.{VerdictsMeanByRows, LateVerdictsMeanByRows, FilesMeanByRows, LateFilesMeanByRows}
+use Rattle.ttx_source.specs.Services.{pages_of}
+use Rattle.ttx_witness.specs.Entries.{certificate_at}
 use Rattle.ttx_rows.proofs.OneSlot.{LawsBelow}
 use Rattle.ttx_rows.proofs.OtherStream.{MayDiffer, HaveSameTests, same_texts, same_tests, kept_steady, moved_steady, moved_brought, moved_followed}
 use Rattle.ttx_rows.proofs.ManySlots.{EachHeadArrives, received_is_by_rows, runs_are_row_runs, late_row_run, mag_is, head_bytes}
-use Rattle.ttx_rows.proofs.ManySlots.{AreHeard, AllGiven, all_given, odd_text, heard_run, heard_late}
+use Rattle.ttx_rows.proofs.ManySlots.{AreHeard, AllGiven, all_given, heard_run, heard_late}
 use Rattle.ttx_rows.proofs.ManySlots.{other, other_differs, other_good, other_received}
 use Rattle.ttx_rows.proofs.Alike.{alike_self, alike_below, alike_view}
-use Rattle.ttx_rows.proofs.SameHeads.{same_view}
 use Rattle.ttx_rows.proofs.LastHead.{HasHead, Wide, AreRightFrom, AllOfPage, last_head, Last, last_of, whole_view}
 use Rattle.ttx_rows.proofs.LateHead.{former_is_wide, late_head}
 use Rattle.ttx_rows.proofs.Storing.{unstored}
-use Rattle.ttx_rows.proofs.StoredRuns.{AllPlaced, AreReread, like_self, stored_run, stored_late, free_rows, needed_row}
-use Rattle.ttx_rows.proofs.StoredRuns.{sends_stream, Differs, may_differ, differs_row, differs_free, new_good, came_rule, came_heads}
+use Rattle.ttx_rows.proofs.StoredRuns.{AllPlaced, AreReread, stored_run, stored_late, free_rows, needed_row}
+use Rattle.ttx_rows.proofs.StoredRuns.{sends_stream, Differs, may_differ, differs_row, differs_free, new_good, came_rule}
 use Rattle.ttx_rows.proofs.Mended.{AllArrived, mended_run, mended_late, mended_rule, mended_text}
 
 -- the laws that are cited
@@ -152,23 +148,15 @@ module _ (laws : LawsOfRows) (s : Stream) (p : Page) (sel : Selection) (class : 
 
 -- ---- receivers that store characters as they come
 
-spoiled : (spaces stores : Bool) → stores ≡ true → (spaces || stores) ≡ true
-spoiled true stores on = refl
-spoiled false stores on = on
-
-unspoiled : (spaces stores : Bool) → stores ≡ false → (spaces || stores) ≡ spaces
-unspoiled true stores off = refl
-unspoiled false stores off = off
+neither : (a b : Bool) → (a || b) ≡ false → (a ≡ false) × (b ≡ false)
+neither true b h = absurd (both_ways true h refl)
+neither false b h = (refl, h)
 
 module _ (laws : LawsOfRows) (s : Stream) (p : Page) (sel : Selection) (class : Class) (lines repeat : ℕ) (begin end : ℤ) (page : IsPage p)
     (few : lines ≤ 32) (some : 1 ≤ repeat) (fits : matches sel p.id ≡ true) (steady : IsSteadyFrom s p sel begin)
     (brings : (item : Item) → needed p item ≡ true → IsBrought s p class lines repeat item begin end) (how : Manner) (on : how.stores ≡ true)
     (received : List (List ℕ)) (rule : ReceivedByRows how s p repeat begin received) where
-  -- the condition of row 0
-  abbrev Heads : Type 0
-  Heads = EachHeadArrives true s p.id repeat begin received
-
-  placed : AllPlaced Heads sel p.id (free_rows p s begin) s begin received
+  placed : AllPlaced sel p.id (free_rows p s begin) s begin received
   placed n lt =
       let low : begin ≤ℤ (begin +ℤ pos n) = omega (arith, ints) in
       record {
@@ -178,9 +166,6 @@ module _ (laws : LawsOfRows) (s : Stream) (p : Page) (sel : Selection) (class : 
         untorn = λ mag number kind none.
             let row = needed_row p s begin (begin +ℤ pos n) mag number kind none in
             untorn number row.needs n lt row.sent;
-        text = λ heads matched x text.
-            let mine = steady.selected _ low matched in
-            (heads n lt mine x text, odd_text laws.codes p page (s (begin +ℤ pos n)) (steady.items TheHead tt _ _ low (refl, mine)) x text);
       }
     where
       untorn : NoRowIsTorn true s p begin received
@@ -206,41 +191,30 @@ module _ (laws : LawsOfRows) (s : Stream) (p : Page) (sel : Selection) (class : 
     other_rule : ReceivedByRows (unstored how) other_stream p repeat begin came
     other_rule = came_rule p s begin received sends came send_size size are laws.below other_tests how repeat rule
 
-    other_heads : (spaces : Bool) → Heads → EachHeadArrives spaces other_stream p.id repeat begin came
-    other_heads true heads = came_heads p s begin received sends came send_size size are laws.below other_tests how repeat rule heads
-    other_heads false heads = head_bytes true other_stream p.id repeat begin came some
-        (came_heads p s begin received sends came send_size size are laws.below other_tests how repeat rule heads)
-
   stored_seen : RunsAreSeen → (former m : Memory) → IsFormer class former → RowRun how class lines sel former received m →
-      end ≤ℤ (begin +ℤ pos (length received)) → HasViewBelowHead p m × (Heads → HasView p m)
+      end ≤ℤ (begin +ℤ pos (length received)) → HasViewBelowHead p m
   stored_seen runs former m is_former run long =
-      let h = stored_run Heads laws.below laws.numbered class lines sel p how (free_rows p s begin) s received begin placed former former m
-      (like_self Heads former) run in
+      let h = stored_run laws.below laws.numbered class lines sel p how (free_rows p s begin) s received begin placed former former m
+      (alike_self former) run in
       let seen_left = both_seen laws (other_stream h.sends h.came h.send_size h.size h.are) p sel class lines repeat begin end page few some fits
       (other_steady h.sends h.came h.send_size h.size h.are) (other_brings h.sends h.came h.send_size h.size h.are) (unstored how) refl runs h.came
       (other_rule h.sends h.came h.send_size h.size h.are) former h.left is_former h.run
-      (subst (λ n. end ≤ℤ (begin +ℤ pos n)) (sym h.size) long) in (
-        alike_below m h.left h.like.0 p seen_left.0,
-        λ heads. same_view laws.sees p m h.left h.like.0 (h.like.1 heads)
-            (seen_left.1 (other_heads h.sends h.came h.send_size h.size h.are how.spaces heads)),
-      )
+      (subst (λ n. end ≤ℤ (begin +ℤ pos n)) (sym h.size) long) in
+      alike_below m h.left h.like p seen_left.0
 
   stored_shown : RunsAreShown → (gap : ℕ) → IsFollowedFrom s p.id gap begin → (former d : LateMemory) → IsFormer class former.gathered →
       RowLateRun how class lines sel former received d → (end +ℤ pos gap) ≤ℤ (begin +ℤ pos (length received)) →
-      HasViewBelowHead p d.shown × (Heads → HasView p d.shown)
+      HasViewBelowHead p d.shown
   stored_shown runs gap followed former d is_former run long =
-      let h = stored_late Heads laws.below laws.numbered class lines sel p how (free_rows p s begin) s received begin placed former former d
-      (like_self Heads former.gathered, like_self Heads former.shown) run in
+      let h = stored_late laws.below laws.numbered class lines sel p how (free_rows p s begin) s received begin placed former former d
+      (alike_self former.gathered, alike_self former.shown) run in
       let seen_left = both_shown laws (other_stream h.sends h.came h.send_size h.size h.are) p sel class lines repeat begin end page few some fits
       (other_steady h.sends h.came h.send_size h.size h.are) (other_brings h.sends h.came h.send_size h.size h.are) (unstored how) refl runs gap
       (moved_followed s (other_stream h.sends h.came h.send_size h.size h.are)
       (other_tests h.sends h.came h.send_size h.size h.are) p gap begin followed)
       h.came (other_rule h.sends h.came h.send_size h.size h.are) former h.left is_former h.run
-      (subst (λ n. (end +ℤ pos gap) ≤ℤ (begin +ℤ pos n)) (sym h.size) long) in (
-        alike_below d.shown h.left.shown h.like.1.0 p seen_left.0,
-        λ heads. same_view laws.sees p d.shown h.left.shown h.like.1.0 (h.like.1.1 heads)
-            (seen_left.1 (other_heads h.sends h.came h.send_size h.size h.are how.spaces heads)),
-      )
+      (subst (λ n. (end +ℤ pos gap) ≤ℤ (begin +ℤ pos n)) (sym h.size) long) in
+      alike_below d.shown h.left.shown h.like.1 p seen_left.0
 
 -- ---- row 0 where the last header arrives
 
@@ -297,33 +271,29 @@ module _ (laws : LawsOfRows) (s : Stream) (p : Page) (sel : Selection) (class : 
 
 pub row_runs_are_seen : LawsOfRows → RunsAreSeen → RowRunsAreSeen
 row_runs_are_seen laws runs s p sel class lines repeat begin end page few some fits steady brings how former m received is_former rule run long = (
-  below.0,
+  below,
   elim (cases_Bool (spoils_heads how)) as (λ _. HeadsArrive (spoils_heads how) s p.id repeat begin received → HasView p m) [
     | inl spoils ↦ λ heads. whole_view laws.sees p page m
         (head_seen laws s p sel class lines repeat begin end page fits steady brings how received rule long
-        (subst (λ b. HeadsArrive b s p.id repeat begin received) spoils heads) former m is_former run) below.0
-    | inr none ↦ λ heads. below.1 (kept none heads)
+        (subst (λ b. HeadsArrive b s p.id repeat begin received) spoils heads) former m is_former run) below
+    | inr none ↦ λ heads.
+        let not_so = neither how.spaces how.stores none in
+        (plainly not_so.1).1 (subst (λ b. EachHeadArrives b s p.id repeat begin received) (sym not_so.0)
+        (subst (λ b. HeadsArrive b s p.id repeat begin received) none heads))
   ],
 )
   where
-    below : HasViewBelowHead p m × (EachHeadArrives (spoils_heads how) s p.id repeat begin received → HasView p m)
-    below = elim (cases_Bool how.stores) as
-        (λ _. HasViewBelowHead p m × (EachHeadArrives (spoils_heads how) s p.id repeat begin received → HasView p m)) [
-          | inl on ↦
-              let r = stored_seen laws s p sel class lines repeat begin end page few some fits steady brings how on received rule runs former m
-              is_former run long in
-              (r.0, λ heads. r.1 (subst (λ b. EachHeadArrives b s p.id repeat begin received) (spoiled how.spaces how.stores on) heads))
-          | inr off ↦
-              let r = both_seen laws s p sel class lines repeat begin end page few some fits steady brings how off runs received rule former m
-              is_former run long in
-              (r.0, λ heads. r.1 (subst (λ b. EachHeadArrives b s p.id repeat begin received) (unspoiled how.spaces how.stores off) heads))
-        ]
+    -- of receivers that store no character of even parity
+    plainly : how.stores ≡ false → HasViewBelowHead p m × (EachHeadArrives how.spaces s p.id repeat begin received → HasView p m)
+    plainly off = both_seen laws s p sel class lines repeat begin end page few some fits steady brings how off runs received rule former m is_former
+        run long
 
-    -- where no header is spoilt, both rules are one
-    kept : spoils_heads how ≡ false → HeadsArrive (spoils_heads how) s p.id repeat begin received →
-        EachHeadArrives (spoils_heads how) s p.id repeat begin received
-    kept none heads = subst (λ b. EachHeadArrives b s p.id repeat begin received) (sym none)
-        (subst (λ b. HeadsArrive b s p.id repeat begin received) none heads)
+    below : HasViewBelowHead p m
+    below = elim (cases_Bool how.stores) as (λ _. HasViewBelowHead p m) [
+      | inl on ↦ stored_seen laws s p sel class lines repeat begin end page few some fits steady brings how on received rule runs former m is_former
+          run long
+      | inr off ↦ (plainly off).0
+    ]
 
 -- ---- and of receivers that show late, where the last header that was followed arrives
 
@@ -396,33 +366,29 @@ module _ (laws : LawsOfRows) (s : Stream) (p : Page) (sel : Selection) (class : 
 pub row_runs_are_shown : LawsOfRows → RunsAreShown → RowRunsAreShown
 row_runs_are_shown laws runs s p sel class lines repeat begin end page few some fits steady brings gap followed how former d received is_former
     rule run long = (
-      below.0,
+      below,
       elim (cases_Bool (spoils_heads how)) as (λ _. LateHeadsArrive (spoils_heads how) s p.id repeat begin received → HasView p d.shown) [
         | inl spoils ↦ λ heads. whole_view laws.sees p page d.shown
             (late_head_seen laws s p sel class lines repeat begin end page fits steady brings how received rule gap followed long
-            (subst (λ b. LateHeadsArrive b s p.id repeat begin received) spoils heads) former d is_former run) below.0
-        | inr none ↦ λ heads. below.1 (kept none heads)
+            (subst (λ b. LateHeadsArrive b s p.id repeat begin received) spoils heads) former d is_former run) below
+        | inr none ↦ λ heads.
+            let not_so = neither how.spaces how.stores none in
+            (plainly not_so.1).1 (subst (λ b. EachHeadArrives b s p.id repeat begin received) (sym not_so.0)
+            (subst (λ b. LateHeadsArrive b s p.id repeat begin received) none heads))
       ],
     )
   where
-    below : HasViewBelowHead p d.shown × (EachHeadArrives (spoils_heads how) s p.id repeat begin received → HasView p d.shown)
-    below = elim (cases_Bool how.stores) as
-        (λ _. HasViewBelowHead p d.shown × (EachHeadArrives (spoils_heads how) s p.id repeat begin received → HasView p d.shown)) [
-          | inl on ↦
-              let r = stored_shown laws s p sel class lines repeat begin end page few some fits steady brings how on received rule runs gap followed
-              former d is_former run long in
-              (r.0, λ heads. r.1 (subst (λ b. EachHeadArrives b s p.id repeat begin received) (spoiled how.spaces how.stores on) heads))
-          | inr off ↦
-              let r = both_shown laws s p sel class lines repeat begin end page few some fits steady brings how off runs gap followed received rule
-              former d is_former run long in
-              (r.0, λ heads. r.1 (subst (λ b. EachHeadArrives b s p.id repeat begin received) (unspoiled how.spaces how.stores off) heads))
-        ]
+    -- of receivers that store no character of even parity
+    plainly : how.stores ≡ false → HasViewBelowHead p d.shown × (EachHeadArrives how.spaces s p.id repeat begin received → HasView p d.shown)
+    plainly off = both_shown laws s p sel class lines repeat begin end page few some fits steady brings how off runs gap followed received rule
+        former d is_former run long
 
-    -- where no header is spoilt, both rules are one
-    kept : spoils_heads how ≡ false → LateHeadsArrive (spoils_heads how) s p.id repeat begin received →
-        EachHeadArrives (spoils_heads how) s p.id repeat begin received
-    kept none heads = subst (λ b. EachHeadArrives b s p.id repeat begin received) (sym none)
-        (subst (λ b. LateHeadsArrive b s p.id repeat begin received) none heads)
+    below : HasViewBelowHead p d.shown
+    below = elim (cases_Bool how.stores) as (λ _. HasViewBelowHead p d.shown) [
+      | inl on ↦ stored_shown laws s p sel class lines repeat begin end page few some fits steady brings how on received rule runs gap followed former
+          d is_former run long
+      | inr off ↦ (plainly off).0
+    ]
 
 pub accepted_is_seen_by_rows : RowRunsAreSeen → StreamLaws → AcceptedIsSeenByRows
 accepted_is_seen_by_rows runs laws cycle pages w is_cycle are_pages is_certificate accepts n p here = record {
@@ -464,18 +430,23 @@ seen_late_by_rows_is_seen_late cycle pages p w gap seen = record {
       (seen.shown plain sel fits tau former d received is_former r.0 long (late_row_run plain w.class w.lines sel former d received run)).1 r.1;
 }
 
-pub means_by_rows : AcceptedIsSeenByRows → (cycle : List (List ℕ)) (pages : List Page) (w : Certificate) →
-    IsCycle cycle → ArePages pages → IsCertificate w → (verdict : Verdict) → IsVerdict cycle pages w verdict → MeansByRows cycle pages w verdict
+pub means_by_rows : AcceptedIsSeenByRows → VerdictsMeanByRows
 means_by_rows seen cycle pages w is_cycle are_pages is_certificate certify.Yes v = λ n p here.
     seen cycle pages w is_cycle are_pages is_certificate v n p here
 means_by_rows seen cycle pages w is_cycle are_pages is_certificate (certify.No reason) v = tt
 
-pub means_late_by_rows : AcceptedIsSeenByRows → AcceptedIsShownByRows → (cycle : List (List ℕ)) (pages : List Page) (w : Certificate) →
-    IsCycle cycle → ArePages pages → IsCertificate w → (verdict : LateVerdict) → IsLateVerdict cycle pages w verdict →
-    MeansLateByRows cycle pages w verdict
+pub means_late_by_rows : AcceptedIsSeenByRows → AcceptedIsShownByRows → LateVerdictsMeanByRows
 means_late_by_rows seen shown cycle pages w is_cycle are_pages is_certificate (Yes gap) v = λ n p here. (
   seen cycle pages w is_cycle are_pages is_certificate v.0 n p here,
   shown cycle pages w is_cycle are_pages is_certificate v.0 n p here gap (v.2.within n p here),
 )
 means_late_by_rows seen shown cycle pages w is_cycle are_pages is_certificate (No reason) v = tt
 means_late_by_rows seen shown cycle pages w is_cycle are_pages is_certificate (NeverShown page slot) v = tt
+
+pub files_mean_by_rows : VerdictsMeanByRows → FilesMeanByRows
+files_mean_by_rows mean a b c verdict line told are_pages is_certificate =
+    mean told.slots (pages_of told.service) (certificate_at told.w) told.cycle_is.is_cycle are_pages is_certificate verdict told.exact
+
+pub late_files_mean_by_rows : LateVerdictsMeanByRows → LateFilesMeanByRows
+late_files_mean_by_rows mean a b c verdict line told are_pages is_certificate =
+    mean told.slots (pages_of told.service) (certificate_at told.w) told.cycle_is.is_cycle are_pages is_certificate verdict told.judged.exact

@@ -13,7 +13,7 @@ use Rattle.ttx_page.specs.declared.selection.Selection.{Selection}
 use Rattle.ttx_page.specs.declared.item.Item.{Item}
 use Rattle.ttx_page.specs.declared.item.Item.TheVariants.{Head as TheHead, Row as TheRow, Links as TheLinks}
 use Rattle.ttx_page.specs.declared.class.Class.{Class}
-use Rattle.ttx_page.specs.Memories.{Memory, memory_row}
+use Rattle.ttx_page.specs.Memories.{Memory}
 use Rattle.ttx_page.specs.Streams.{Stream, heads_page, carries, IsOwned, IsTransmission, AreSuccessive}
 use Rattle.ttx_page.specs.Steady.{IsChecked}
 use Rattle.ttx_late.specs.LateReceivers.{LateMemory, heads_number, TakesIn}
@@ -21,22 +21,21 @@ use Rattle.ttx_rows.specs.RowReceptions.{IsWhole, MayArriveAs, ArrivesWhole, Arr
 use Rattle.ttx_rows.specs.RowReceivers.{Manner, may_refuse, RowStep, RowRun, RowLateStep, RowLateRun}
 use Rattle.ttx_rows.proofs.OneSlot.{LawsBelow, packet_at}
 use Rattle.ttx_rows.proofs.OtherStream.{IsRetexted, HaveSameTests, tests_back, moved_successive}
-use Rattle.ttx_rows.proofs.ManySlots.{EachHeadArrives, all_sent, one_map}
+use Rattle.ttx_rows.proofs.ManySlots.{all_sent, one_map}
 use Rattle.ttx_rows.proofs.Owners.{is_under_since, since_found, since_known}
 use Rattle.ttx_rows.proofs.Alike.{Alike, alike_self}
-use Rattle.ttx_rows.proofs.SameHeads.{SameHead, same_text}
 use Rattle.ttx_rows.proofs.Storing.{unstored, IsTorn, IsReread, Placed, stored_as, whole_is_taken}
 
 -- the slots of a list are placed in the stream from slot tau on
-abbrev pub AllPlaced : Type 0 → Selection → Id → (ℤ → Bool) → Stream → ℤ → List (List ℕ) → Type 0
-AllPlaced G sel page free s tau received = (n : ℕ) → n < length received →
-    Placed G sel page (free (tau +ℤ pos n)) (s (tau +ℤ pos n)) (get_or received n [])
+abbrev pub AllPlaced : Selection → Id → (ℤ → Bool) → Stream → ℤ → List (List ℕ) → Type 0
+AllPlaced sel page free s tau received = (n : ℕ) → n < length received →
+    Placed sel page (free (tau +ℤ pos n)) (s (tau +ℤ pos n)) (get_or received n [])
 
-placed_later : (G : Type 0) (sel : Selection) (page : Id) (free : ℤ → Bool) (s : Stream) (tau : ℤ) (slot : List ℕ) (received : List (List ℕ)) →
-    AllPlaced G sel page free s tau (slot ∷ received) → AllPlaced G sel page free s (tau +ℤ pos 1) received
-placed_later G sel page free s tau slot received all n lt =
+placed_later : (sel : Selection) (page : Id) (free : ℤ → Bool) (s : Stream) (tau : ℤ) (slot : List ℕ) (received : List (List ℕ)) →
+    AllPlaced sel page free s tau (slot ∷ received) → AllPlaced sel page free s (tau +ℤ pos 1) received
+placed_later sel page free s tau slot received all n lt =
     let e : tau +ℤ pos (suc n) ≡ (tau +ℤ pos 1) +ℤ pos n = omega (arith, ints) in
-    subst (λ j. Placed G sel page (free j) (s j) (get_or received n [])) e (all (suc n) (omega arith))
+    subst (λ j. Placed sel page (free j) (s j) (get_or received n [])) e (all (suc n) (omega arith))
 
 abbrev pub AreReread : (ℤ → Bool) → Stream → ℤ → List (List ℕ) → List (List ℕ) → List (List ℕ) → Type 0
 AreReread free s tau received sends came = (n : ℕ) → n < length received →
@@ -61,21 +60,14 @@ pub record StoredRun (free : ℤ → Bool) (s : Stream) (tau : ℤ) (received : 
   pub run : IsRunTo came left
   pub like : IsLike left
 
--- alike, and, where the condition is true, with the same characters in row 0
-abbrev pub Like : Type 0 → Memory → Memory → Type 0
-Like G m n = Alike m n × (G → SameHead m n)
+abbrev pub LateAlike : LateMemory → LateMemory → Type 0
+LateAlike d e = Alike d.gathered e.gathered × Alike d.shown e.shown
 
-pub like_self : (G : Type 0) (m : Memory) → Like G m m
-like_self G m = (alike_self m, λ g. same_text (memory_row m 0))
-
-abbrev pub LateLike : Type 0 → LateMemory → LateMemory → Type 0
-LateLike G d e = Like G d.gathered e.gathered × Like G d.shown e.shown
-
-module _ (G : Type 0) (laws : LawsBelow) (numbered : RowsAreNumbered) (class : Class) (lines : ℕ) (sel : Selection) (p : Page) (how : Manner)
+module _ (laws : LawsBelow) (numbered : RowsAreNumbered) (class : Class) (lines : ℕ) (sel : Selection) (p : Page) (how : Manner)
     (free : ℤ → Bool) (s : Stream) where
-  pub stored_run : (received : List (List ℕ)) (tau : ℤ) → AllPlaced G sel p.id free s tau received → (m n new : Memory) → Like G m n →
+  pub stored_run : (received : List (List ℕ)) (tau : ℤ) → AllPlaced sel p.id free s tau received → (m n new : Memory) → Alike m n →
       RowRun how class lines sel m received new →
-      StoredRun free s tau received Memory (λ came left. RowRun (unstored how) class lines sel n came left) (λ left. Like G new left)
+      StoredRun free s tau received Memory (λ came left. RowRun (unstored how) class lines sel n came left) (λ left. Alike new left)
   stored_run [] tau placed m n new a run = record {
     sends = [];
     came = [];
@@ -84,12 +76,12 @@ module _ (G : Type 0) (laws : LawsBelow) (numbered : RowsAreNumbered) (class : C
     are = λ n lt. absurd (omega arith);
     left = n;
     run = refl;
-    like = subst (λ x. Like G x n) (sym run) a;
+    like = subst (λ x. Alike x n) (sym run) a;
   }
   stored_run (slot ∷ received) tau placed m n new a run =
       let j : ℤ = tau +ℤ pos 0 in
-      let h = stored_as G laws numbered class lines sel p how (free j) (s j) slot (placed 0 (omega arith)) m n run.0 a.0 a.1 run.1 in
-      let rest = stored_run received (tau +ℤ pos 1) (placed_later G sel p.id free s tau slot received placed) run.0 h.left new (h.alike, h.head)
+      let h = stored_as laws numbered class lines sel p how (free j) (s j) slot (placed 0 (omega arith)) m n run.0 a run.1 in
+      let rest = stored_run received (tau +ℤ pos 1) (placed_later sel p.id free s tau slot received placed) run.0 h.left new h.alike
       run.2 in
       record {
         sends = h.sends ∷ rest.sends;
@@ -109,28 +101,28 @@ module _ (G : Type 0) (laws : LawsBelow) (numbered : RowsAreNumbered) (class : C
     is : IsReread (free j) (s j) slot sends came
     left : LateMemory
     step : RowLateStep (unstored how) class lines sel e came left
-    like : LateLike G new left
+    like : LateAlike new left
 
-  late_stored : (j : ℤ) (slot : List ℕ) → Placed G sel p.id (free j) (s j) slot → (d e new : LateMemory) → LateLike G d e →
+  late_stored : (j : ℤ) (slot : List ℕ) → Placed sel p.id (free j) (s j) slot → (d e new : LateMemory) → LateAlike d e →
       RowLateStep how class lines sel d slot new → LateStored j slot e new
   late_stored j slot placed d e new a r = elim r.from as (λ _. LateStored j slot e new) [
-    | inl kept ↦ by e.gathered (subst (λ x. Like G x e.gathered) (sym kept) a.0) (λ came number. inl refl)
-    | inr other ↦ by r.base (like_self G r.base) (λ came number. inr (
-      subst (λ b. (e.gathered.storing && b) ≡ true) (sym number) (subst (λ b. (b && heads_number sel (packet_of slot)) ≡ true) a.0.0.storing other.0),
+    | inl kept ↦ by e.gathered (subst (λ x. Alike x e.gathered) (sym kept) a.0) (λ came number. inl refl)
+    | inr other ↦ by r.base (alike_self r.base) (λ came number. inr (
+      subst (λ b. (e.gathered.storing && b) ≡ true) (sym number) (subst (λ b. (b && heads_number sel (packet_of slot)) ≡ true) a.0.storing other.0),
       other.1,
     ))
   ]
     where
-      by : (base : Memory) → Like G r.base base →
+      by : (base : Memory) → Alike r.base base →
           ((came : List ℕ) → heads_number sel (packet_of came) ≡ heads_number sel (packet_of slot) →
           TakesIn class sel e.gathered (packet_of came) base) →
           LateStored j slot e new
       by base like from =
-          let h = stored_as G laws numbered class lines sel p how (free j) (s j) slot placed r.base base new.gathered like.0 like.1 r.step in
-          show h.sends h.came h.is h.left h.step (h.alike, h.head) h.number (from h.came h.number)
+          let h = stored_as laws numbered class lines sel p how (free j) (s j) slot placed r.base base new.gathered like r.step in
+          show h.sends h.came h.is h.left h.step h.alike h.number (from h.came h.number)
         where
           show : (sends came : List ℕ) → IsReread (free j) (s j) slot sends came → (left : Memory) →
-              RowStep (unstored how) class lines sel base came left → Like G new.gathered left →
+              RowStep (unstored how) class lines sel base came left → Alike new.gathered left →
               heads_number sel (packet_of came) ≡ heads_number sel (packet_of slot) →
               TakesIn class sel e.gathered (packet_of came) base → LateStored j slot e new
           show sends came is left step same_left number takes = elim r.shown as (λ _. LateStored j slot e new) [
@@ -140,7 +132,7 @@ module _ (G : Type 0) (laws : LawsBelow) (numbered : RowsAreNumbered) (class : C
               is = is;
               left = record { gathered = left; shown = e.gathered };
               step = record { base = base; from = takes; step = step; shown = inl refl };
-              like = (same_left, subst (λ x. Like G x e.gathered) (sym old) a.0);
+              like = (same_left, subst (λ x. Alike x e.gathered) (sym old) a.0);
             }
             | inr more ↦ elim more as (λ _. LateStored j slot e new) [
               | inl now ↦ record {
@@ -149,7 +141,7 @@ module _ (G : Type 0) (laws : LawsBelow) (numbered : RowsAreNumbered) (class : C
                 is = is;
                 left = record { gathered = left; shown = left };
                 step = record { base = base; from = takes; step = step; shown = inr (inl refl) };
-                like = (same_left, subst (λ x. Like G x left) (sym now) same_left);
+                like = (same_left, subst (λ x. Alike x left) (sym now) same_left);
               }
               | inr stays ↦ record {
                 sends = sends;
@@ -163,18 +155,18 @@ module _ (G : Type 0) (laws : LawsBelow) (numbered : RowsAreNumbered) (class : C
                   shown = inr (inr (
                     refl,
                     subst (λ b. (e.gathered.storing && not left.storing && not b) ≡ false) (sym number)
-                        (subst (λ b. (e.gathered.storing && not b && not (heads_number sel (packet_of slot))) ≡ false) same_left.0.storing
-                        (subst (λ b. (b && not new.gathered.storing && not (heads_number sel (packet_of slot))) ≡ false) a.0.0.storing stays.1)),
+                        (subst (λ b. (e.gathered.storing && not b && not (heads_number sel (packet_of slot))) ≡ false) same_left.storing
+                        (subst (λ b. (b && not new.gathered.storing && not (heads_number sel (packet_of slot))) ≡ false) a.0.storing stays.1)),
                   ));
                 };
-                like = (same_left, subst (λ x. Like G x e.shown) (sym stays.0) a.1);
+                like = (same_left, subst (λ x. Alike x e.shown) (sym stays.0) a.1);
               }
             ]
           ]
 
-  pub stored_late : (received : List (List ℕ)) (tau : ℤ) → AllPlaced G sel p.id free s tau received → (d e new : LateMemory) → LateLike G d e →
+  pub stored_late : (received : List (List ℕ)) (tau : ℤ) → AllPlaced sel p.id free s tau received → (d e new : LateMemory) → LateAlike d e →
       RowLateRun how class lines sel d received new →
-      StoredRun free s tau received LateMemory (λ came left. RowLateRun (unstored how) class lines sel e came left) (λ left. LateLike G new left)
+      StoredRun free s tau received LateMemory (λ came left. RowLateRun (unstored how) class lines sel e came left) (λ left. LateAlike new left)
   stored_late [] tau placed d e new a run = record {
     sends = [];
     came = [];
@@ -183,11 +175,11 @@ module _ (G : Type 0) (laws : LawsBelow) (numbered : RowsAreNumbered) (class : C
     are = λ n lt. absurd (omega arith);
     left = e;
     run = refl;
-    like = subst (λ x. LateLike G x e) (sym run) a;
+    like = subst (λ x. LateAlike x e) (sym run) a;
   }
   stored_late (slot ∷ received) tau placed d e new a run =
       let h = late_stored (tau +ℤ pos 0) slot (placed 0 (omega arith)) d e run.0 a run.1 in
-      let rest = stored_late received (tau +ℤ pos 1) (placed_later G sel p.id free s tau slot received placed) run.0 h.left new h.like run.2 in
+      let rest = stored_late received (tau +ℤ pos 1) (placed_later sel p.id free s tau slot received placed) run.0 h.left new h.like run.2 in
       record {
         sends = h.sends ∷ rest.sends;
         came = h.came ∷ rest.came;
@@ -416,13 +408,3 @@ module _ (p : Page) (s : Stream) (tau : ℤ) (received sends came : List (List �
 
     pub came_rule : ReceivedByRows (unstored how) new_stream p repeat tau came
     came_rule = record { each = came_arrives; rows = came_rows how.refuses rule.rows; untorn = tt }
-
-    pub came_heads : EachHeadArrives true s p.id repeat tau received → EachHeadArrives true new_stream p.id repeat tau came
-    came_heads heads n lt mine x text =
-        let inside : n < length received = omega (arith, size) in
-        let was : heads_page p.id (packet_of (s (tau +ℤ pos n))) ≡ true =
-        sym (tests (heads_page p.id) (λ m number t u. refl) (tau +ℤ pos n)) ∙ mine in
-        elim (came_as n inside) as (λ _. get_or (get_or came n []) x 0 ≡ get_or (new_stream (tau +ℤ pos n)) x 0) [
-          | inl kept ↦ ap (λ slot. get_or slot x 0) kept.1 ∙ heads n inside was x text ∙ ap (λ slot. get_or slot x 0) (sym kept.0)
-          | inr torn ↦ ap (λ slot. get_or slot x 0) torn.0
-        ]

@@ -1,24 +1,21 @@
 -- A receiver that stores characters as they come does, row 0 aside, as one that doesn't, in a stream with another text in the rows that are
 -- nothing to the page.
-use Rattle.std.proofs.Common.{◌≡◌, ◌⊎◌, ℕ, ◌+◌, ◌<◌, ◌≤◌, not, Bool, true, false}
+use Rattle.std.proofs.Common.{◌≡◌, ◌⊎◌, ℕ, ◌+◌, ◌<◌, not, Bool, true, false}
 use Rattle.std.proofs.Common.{List, length, get_or, drop, refl, sym, ap, ◌∙◌, subst, inl, inr, arith, get_or-drop, length-drop}
 use Rattle.std.specs.List.{list_all}
 use Rattle.std.proofs.lemmas.Bool.{cases_Bool, cases_lt, both_ways, not-true, not_from_false}
-use Rattle.ttx_code.specs.Words.{Near, is_odd}
+use Rattle.ttx_code.specs.Words.{is_odd}
 use Rattle.ttx_packet.specs.Slots.{IsSlot, Kind, IsEmpty, IsUnreadable, IsHeader, IsRow, IsLinks, IsInfo, IsOther, is_empty, kind_of, is_clean}
-use Rattle.ttx_packet.specs.Receptions.{IsFree, MayBeReceivedAs}
+use Rattle.ttx_packet.specs.Receptions.{MayBeReceivedAs}
 use Rattle.ttx_packet.specs.Laws.{RowsAreNumbered}
 use Rattle.ttx_header.specs.Ids.{Id}
 use Rattle.ttx_header.specs.Headers.{id_of, control_of}
 use Rattle.ttx_page.specs.Packets.{Packet, Header, Row, packet_of, packet_of_kind}
-use Rattle.ttx_page.specs.Pages.{Page, matches}
-use Rattle.ttx_page.specs.declared.item.Item.TheVariants.{Head as TheHead}
+use Rattle.ttx_page.specs.Pages.{Page}
 use Rattle.ttx_page.specs.declared.selection.Selection.{Selection}
 use Rattle.ttx_page.specs.declared.class.Class.{Class}
 use Rattle.ttx_page.specs.Memories.{Memory}
 use Rattle.ttx_page.specs.Receivers.{after, older}
-use Rattle.ttx_page.specs.Streams.{heads_matched}
-use Rattle.ttx_page.specs.Receptions.{IsTextByte}
 use Rattle.ttx_receiver.specs.Reading.{IsIgnored}
 use Rattle.ttx_late.specs.LateReceivers.{heads_number}
 use Rattle.ttx_rows.specs.RowReceptions.{MayArriveAs, IsWhole}
@@ -26,9 +23,8 @@ use Rattle.ttx_rows.specs.RowReceivers.{Manner, may_refuse, blanked, AreTakenAs,
 use Rattle.ttx_rows.proofs.OtherBytes.{all_odd}
 use Rattle.ttx_rows.proofs.OneSlot.{LawsBelow, packet_is, packet_at, IsRowKind, IsHeaderKind, row_of, refused_kind}
 use Rattle.ttx_rows.proofs.OtherStream.{IsRetexted}
-use Rattle.ttx_rows.proofs.StoredText.{taken_same, taken_odd, taken_at, taken_row}
+use Rattle.ttx_rows.proofs.StoredText.{taken_same, taken_row}
 use Rattle.ttx_rows.proofs.Alike.{Alike, same, headers, older_alike, after_alike}
-use Rattle.ttx_rows.proofs.SameHeads.{SameHead, LeaveTheSame, header_head, after_head}
 
 -- the manner of a receiver that stores no character of even parity
 abbrev pub unstored : Manner → Manner
@@ -47,16 +43,14 @@ pub record IsTorn (free : Bool) (sent received sends came : List ℕ) : Type 0 w
 abbrev pub IsReread : Bool → List ℕ → List ℕ → List ℕ → List ℕ → Type 0
 IsReread free sent received sends came = ((sends ≡ sent) × (came ≡ received)) ⊎ IsTorn free sent received sends came
 
--- What is known of a slot. The rows that aren't free are whole or lost; and, where the condition G is true, headers have their text.
-pub record Placed (G : Type 0) (sel : Selection) (page : Id) (free : Bool) (sent received : List ℕ) : Type 0 where
+-- What is known of a slot: the rows that aren't free are whole or lost.
+pub record Placed (sel : Selection) (page : Id) (free : Bool) (sent received : List ℕ) : Type 0 where
   pub slot : IsSlot sent
   pub clean : is_clean sent ≡ true
   pub arrives : MayArriveAs page.mag sent received
   pub untorn : (mag number : ℕ) → kind_of sent ≡ IsRow mag number → free ≡ false → IsIgnored (packet_of received) ⊎ IsWhole sent received
-  pub text : G → heads_matched sel (packet_of sent) ≡ true → (x : ℕ) → IsTextByte TheHead x →
-      (get_or received x 0 ≡ get_or sent x 0) × (is_odd (get_or sent x 0) ≡ true)
 
-pub record StoredAs (G : Type 0) (how : Manner) (class : Class) (lines : ℕ) (sel : Selection) (free : Bool) (sent received : List ℕ)
+pub record StoredAs (how : Manner) (class : Class) (lines : ℕ) (sel : Selection) (free : Bool) (sent received : List ℕ)
     (n new : Memory) : Type 0 where
   pub sends : List ℕ
   pub came : List ℕ
@@ -64,7 +58,6 @@ pub record StoredAs (G : Type 0) (how : Manner) (class : Class) (lines : ℕ) (s
   pub left : Memory
   pub step : RowStep (unstored how) class lines sel n came left
   pub alike : Alike new left
-  pub head : G → SameHead new left
   pub number : heads_number sel (packet_of came) ≡ heads_number sel (packet_of received)
 
 -- ---- kinds
@@ -95,10 +88,10 @@ whole_is_taken sent received whole h =
       | inr past ↦ let long = whole.may.slot.size in let cut = length-drop 2 received in absurd (omega arith)
     ]
 
-module _ (G : Type 0) (laws : LawsBelow) (numbered : RowsAreNumbered) (class : Class) (lines : ℕ) (sel : Selection) (p : Page) (how : Manner)
-    (free : Bool) (sent received : List ℕ) (placed : Placed G sel p.id free sent received) where
+module _ (laws : LawsBelow) (numbered : RowsAreNumbered) (class : Class) (lines : ℕ) (sel : Selection) (p : Page) (how : Manner)
+    (free : Bool) (sent received : List ℕ) (placed : Placed sel p.id free sent received) where
   abbrev Stored : Memory → Memory → Type 0
-  Stored n new = StoredAs G how class lines sel free sent received n new
+  Stored n new = StoredAs how class lines sel free sent received n new
 
   -- what is received as a row or a header was sent as one
   record Found (k : Kind) : Type 0 where
@@ -124,85 +117,44 @@ module _ (G : Type 0) (laws : LawsBelow) (numbered : RowsAreNumbered) (class : C
   ]
 
   -- a slot that is received as it was
-  reread : (n new left : Memory) → RowStep (unstored how) class lines sel n received left → Alike new left → (G → SameHead new left) → Stored n new
-  reread n new left step alike head = record {
+  reread : (n new left : Memory) → RowStep (unstored how) class lines sel n received left → Alike new left → Stored n new
+  reread n new left step alike = record {
     sends = sent;
     came = received;
     is = inl (refl, refl);
     left = left;
     step = step;
     alike = alike;
-    head = head;
     number = refl;
   }
 
-  older_head : (m n : Memory) → (G → SameHead m n) → G → SameHead (older m) (older n)
-  older_head m n h g = h g
-
   -- a step that both receivers make at one packet
-  both : (m n new : Memory) → Alike m n → (G → SameHead m n) → (choice : Bool) (pkt : Packet) → new ≡ after class lines sel choice (older m) pkt →
-      Alike new (after class lines sel choice (older n) pkt) × (G → SameHead new (after class lines sel choice (older n) pkt))
-  both m n new a h choice pkt is = (
-    subst (λ x. Alike x (after class lines sel choice (older n) pkt)) (sym is)
-        (after_alike class lines sel choice (older m) (older n) _ _ (same pkt) (older_alike m n a)),
-    λ g. subst (λ x. SameHead x (after class lines sel choice (older n) pkt)) (sym is)
-        (after_head class lines sel choice (older m) (older n) pkt (older_alike m n a) (h g)),
-  )
+  both : (m n new : Memory) → Alike m n → (choice : Bool) (pkt : Packet) → new ≡ after class lines sel choice (older m) pkt →
+      Alike new (after class lines sel choice (older n) pkt)
+  both m n new a choice pkt is = subst (λ x. Alike x (after class lines sel choice (older n) pkt)) (sym is)
+      (after_alike class lines sel choice (older m) (older n) _ _ (same pkt) (older_alike m n a))
 
-  as_it_came : (m n new : Memory) → Alike m n → (G → SameHead m n) → (choice : Bool) →
+  as_it_came : (m n new : Memory) → Alike m n → (choice : Bool) →
       new ≡ after class lines sel choice (older m) (packet_of received) → Stored n new
-  as_it_came m n new a h choice is =
-      let b = both m n new a h choice (packet_of received) is in
-      reread n new _ (inl (record { choice = choice; is = refl })) b.0 b.1
+  as_it_came m n new a choice is =
+      reread n new _ (inl (record { choice = choice; is = refl })) (both m n new a choice (packet_of received) is)
 
   -- a header of which characters are stored as they come
-  stored_header : (m n new : Memory) → Alike m n → (G → SameHead m n) → (choice : Bool) (mag : ℕ) → kind_of received ≡ IsHeader mag →
-      (t : List ℕ) → AreTakenAs (drop 10 received) t →
+  stored_header : (m n new : Memory) → Alike m n → (choice : Bool) (mag : ℕ) → kind_of received ≡ IsHeader mag → (t : List ℕ) →
       new ≡ after class lines sel choice (older m) (Header (id_of received) (control_of received) t) → Stored n new
-  stored_header m n new a h choice mag e t are is =
+  stored_header m n new a choice mag e t is =
       reread n new (after class lines sel choice (older n) (packet_of received)) (inl (record { choice = choice; is = refl }))
       (subst (λ x. Alike x (after class lines sel choice (older n) (packet_of received))) (sym is)
       (subst (λ pkt. Alike (after class lines sel choice (older m) (Header (id_of received) (control_of received) t))
-      (after class lines sel choice (older n) pkt)) (sym packet)
+      (after class lines sel choice (older n) pkt)) (sym (packet_at received (IsHeader mag) e))
       (after_alike class lines sel choice (older m) (older n) _ _ (headers (id_of received) (control_of received) t (drop 10 received))
       (older_alike m n a))))
-      (λ g. subst (λ x. SameHead x (after class lines sel choice (older n) (packet_of received))) (sym is)
-      (subst (λ pkt. SameHead (after class lines sel choice (older m) (Header (id_of received) (control_of received) t))
-      (after class lines sel choice (older n) pkt)) (sym packet)
-      (header_head class lines sel choice (older m) (older n) (id_of received) (control_of received) t (drop 10 received) (texts g)
-      (older_alike m n a) (h g))))
-    where
-      packet : packet_of received ≡ Header (id_of received) (control_of received) (drop 10 received)
-      packet = packet_at received (IsHeader mag) e
-
-      f : Found (IsHeader mag)
-      f = found (IsHeader mag) e (inr tt)
-
-      front : (x : ℕ) → x < 10 → Near (get_or sent x 0) (get_or received x 0)
-      front x lt = elim (f.may.near x (omega arith)) as (λ _. Near (get_or sent x 0) (get_or received x 0))
-          [ inl free_byte ↦ let k : 34 ≤ x = subst (λ kind. IsFree kind x) f.kind free_byte in absurd (omega arith) | inr near ↦ near ]
-
-      kept_id : id_of received ≡ id_of sent
-      kept_id = (laws.header sent received mag placed.slot f.may.slot placed.clean f.kind front).0
-
-      texts : G → matches sel (id_of received) ≡ true → LeaveTheSame t (drop 10 received)
-      texts g here = inr (λ c lt. by c lt)
-        where
-          matched : heads_matched sel (packet_of sent) ≡ true
-          matched = ap (heads_matched sel) (packet_at sent (IsHeader mag) f.kind) ∙ ap (λ id. matches sel id) (sym kept_id) ∙ here
-
-          by : (c : ℕ) → c < 24 → (get_or t c 0 ≡ get_or (drop 10 received) c 0) × (is_odd (get_or (drop 10 received) c 0) ≡ true)
-          by c lt =
-              let r = placed.text g matched (10 + c) (omega arith, omega arith) in
-              let odd : is_odd (get_or (drop 10 received) c 0) ≡ true = ap is_odd (get_or-drop 10 received c 0 ∙ r.0) ∙ r.1 in
-              let fits : get_or (drop 10 received) c 0 < 256 = subst (λ b. b < 256) (sym (get_or-drop 10 received c 0)) (f.may.slot.bytes (10 + c)) in
-              (taken_odd _ _ fits (taken_at (drop 10 received) t are c) odd, odd)
 
   -- a row of which characters are stored as they come
-  stored_row_as : (m n new : Memory) → Alike m n → (G → SameHead m n) → (choice : Bool) (mag number : ℕ) → kind_of received ≡ IsRow mag number →
+  stored_row_as : (m n new : Memory) → Alike m n → (choice : Bool) (mag number : ℕ) → kind_of received ≡ IsRow mag number →
       (t : List ℕ) → AreTakenAs (drop 2 received) t → new ≡ after class lines sel choice (older m) (Row mag number t) → Stored n new
-  stored_row_as m n new a h choice mag number e t are is = elim (cases_Bool (list_all is_odd (drop 2 received))) as (λ _. Stored n new) [
-    | inl odd ↦ as_it_came m n new a h choice
+  stored_row_as m n new a choice mag number e t are is = elim (cases_Bool (list_all is_odd (drop 2 received))) as (λ _. Stored n new) [
+    | inl odd ↦ as_it_came m n new a choice
         (is ∙ ap (λ text. after class lines sel choice (older m) (Row mag number text)) (taken_same (drop 2 received) t are fits odd)
         ∙ ap (after class lines sel choice (older m)) (sym packet))
     | inr torn ↦ elim (cases_Bool free) as (λ _. Stored n new) [
@@ -226,7 +178,7 @@ module _ (G : Type 0) (laws : LawsBelow) (numbered : RowsAreNumbered) (class : C
       retexted : free ≡ true → not (list_all is_odd (drop 2 received)) ≡ true → Stored n new
       retexted open_row torn =
           let row = taken_row laws numbered p sent received placed.slot placed.clean f.may mag number f.kind t are in
-          let b = both m n new a h choice (packet_of row.sends) (is ∙ ap (after class lines sel choice (older m)) (sym row.packet)) in
+          let b = both m n new a choice (packet_of row.sends) (is ∙ ap (after class lines sel choice (older m)) (sym row.packet)) in
           record {
             sends = row.sends;
             came = row.sends;
@@ -247,40 +199,36 @@ module _ (G : Type 0) (laws : LawsBelow) (numbered : RowsAreNumbered) (class : C
             });
             left = after class lines sel choice (older n) (packet_of row.sends);
             step = inl (record { choice = choice; is = refl });
-            alike = b.0;
-            head = b.1;
+            alike = b;
             number = ap (heads_number sel) row.packet ∙ sym (ap (heads_number sel) packet);
           }
 
-  stored_packet : (m n new : Memory) → Alike m n → (G → SameHead m n) → (taken : Packet) → IsTakenAs (packet_of received) taken → (choice : Bool) →
+  stored_packet : (m n new : Memory) → Alike m n → (taken : Packet) → IsTakenAs (packet_of received) taken → (choice : Bool) →
       new ≡ after class lines sel choice (older m) taken → Stored n new
-  stored_packet m n new a h taken took choice is = go (kind_of received) refl (subst (λ pkt. IsTakenAs pkt taken) (packet_is received) took)
+  stored_packet m n new a taken took choice is = go (kind_of received) refl (subst (λ pkt. IsTakenAs pkt taken) (packet_is received) took)
     where
       -- no character of it is stored
       idle : (k : Kind) → kind_of received ≡ k → taken ≡ packet_of_kind received k → Stored n new
-      idle k e same_packet = as_it_came m n new a h choice
+      idle k e same_packet = as_it_came m n new a choice
           (is ∙ ap (after class lines sel choice (older m)) (same_packet ∙ sym (packet_at received k e)))
 
       go : (k : Kind) → kind_of received ≡ k → IsTakenAs (packet_of_kind received k) taken → Stored n new
-      go (IsHeader mag) e i = stored_header m n new a h choice mag e i.0 i.1 (is ∙ ap (after class lines sel choice (older m)) i.2)
-      go (IsRow mag number) e i = stored_row_as m n new a h choice mag number e i.0 i.1 (is ∙ ap (after class lines sel choice (older m)) i.2)
+      go (IsHeader mag) e i = stored_header m n new a choice mag e i.0 (is ∙ ap (after class lines sel choice (older m)) i.2)
+      go (IsRow mag number) e i = stored_row_as m n new a choice mag number e i.0 i.1 (is ∙ ap (after class lines sel choice (older m)) i.2)
       go IsEmpty e i = idle IsEmpty e i
       go IsUnreadable e i = idle IsUnreadable e i
       go (IsLinks mag) e i = idle (IsLinks mag) e i
       go IsInfo e i = idle IsInfo e i
       go (IsOther mag number) e i = idle (IsOther mag number) e i
 
-  pub stored_as : (m n new : Memory) → Alike m n → (G → SameHead m n) → RowStep how class lines sel m received new → Stored n new
-  stored_as m n new a h step = elim step as (λ _. Stored n new) [
-    | inl taken ↦ as_it_came m n new a h taken.choice taken.is
+  pub stored_as : (m n new : Memory) → Alike m n → RowStep how class lines sel m received new → Stored n new
+  stored_as m n new a step = elim step as (λ _. Stored n new) [
+    | inl taken ↦ as_it_came m n new a taken.choice taken.is
     | inr other ↦ elim other as (λ _. Stored n new) [
       | inl r ↦ reread n new (older n) (inr (inl (r.0, r.1, refl))) (subst (λ x. Alike x (older n)) (sym r.2) (older_alike m n a))
-          (λ g. subst (λ x. SameHead x (older n)) (sym r.2) (older_head m n h g))
       | inr more ↦ elim more as (λ _. Stored n new) [
-        | inl b ↦
-            let c = both m n new a h b.1.0 (blanked (packet_of received)) b.1.1 in
-            reread n new _ (inr (inr (inl (b.0, (b.1.0, refl))))) c.0 c.1
-        | inr stored ↦ stored_packet m n new a h stored.1.0 stored.1.2 stored.1.1 stored.1.3
+        | inl b ↦ reread n new _ (inr (inr (inl (b.0, (b.1.0, refl))))) (both m n new a b.1.0 (blanked (packet_of received)) b.1.1)
+        | inr stored ↦ stored_packet m n new a stored.1.0 stored.1.2 stored.1.1 stored.1.3
       ]
     ]
   ]

@@ -1,5 +1,5 @@
-//! Receivers that refuse a row with a wrong byte whole, or lose rows: what the certifier accepts is seen by them, too. The error rule by
-//! rows: of k successive transmissions of a row that a viewer sees, one arrives whole.
+//! Receivers that refuse a row with a wrong byte as a whole, or lose rows. They see what the certifier accepts, too, by the error rule by
+//! rows: of k successive transmissions of a row that a viewer sees, at least one arrives whole.
 #![tactic(auto)]
 
 mod certifying;
