@@ -12,3 +12,5 @@ mod Rising
 mod SamePages
 mod SameServices
 mod NotSteady
+mod Trimmed
+mod Stripped

@@ -17,7 +17,8 @@ use Rattle.ttx_witness.specs.laws.JudgingLaws.{TransmissionsAreListed}
 use Rattle.ttx_witness.specs.runs.Repeating.{AreSent}
 use Rattle.ttx_witness.specs.declared.runs.transmissions.Transmission.{Transmission}
 use Rattle.ttx_witness.specs.sent.ItemTransmissions.{sent_in}
-use Rattle.ttx_extract.specs.Extracts.{IsSentService, IsOfPages, IsSentOften, often_for}
+use Rattle.ttx_extract.specs.Extracts.{IsSentService, IsOfPages, IsSentOften}
+use Rattle.ttx_extract.specs.Often.{often_for}
 use Rattle.ttx_extract.specs.FirstSent.{HeadIsSent, IsBefore, first_slot, first_sent}
 use Rattle.ttx_extract.proofs.Listed.{same_one}
 use Rattle.ttx_extract.proofs.Slots.{abs_is, slot_is}

@@ -3,17 +3,18 @@
 --   IsOfPages, AreOfPages    a header is a listed page's, or a time-filling one; each header is
 --   slot_info, first_info    the packet 8/30 format 1 of a slot; the first of a cycle
 --   header_serial, first_serial    C11 of a header; of the first header of a cycle
---   often_for, IsSentOften    how often a page is sent that has so many headers
+--   IsSentOften    how often a page is sent that has so many headers
 --   IsSentService           the service says what the cycle sends first
 --   AreSteady, IsExtract    its pages are sent unchanged; the service of the cycle's text
 --   IsFirstReason           the reason of the first page that isn't sent unchanged
 --   Differs, IsUnlikeFirst  two packets of an item with different contents; an item's first slot, and one that differs from it
 --   NamesItem, IsConflict   the item of a reason; the same of the reason of the first page that isn't sent unchanged
 --   IsMinusZero             the first packet 8/30 has an offset that no text says
+--   IsDraft                 what a text is written of
 --   Blames, AnswersFault    why pages aren't sent unchanged; why there is no text
 --   Extracts                what is answered for a cycle and lines of a field
 use Rattle.std.specs.Prelude.{◌≡◌, ◌⊎◌, ℕ, ◌<◌, pos, unsigned_abs, Bool, true, false, List, [], ◌∷◌, take, length, Contains, slice_get, slice_index_or, string_bytes, ⊤, Option, Some}
-use Rattle.std.specs.Prelude.{None, Result, Ok, Err, if◌then◌else◌, nat_le}
+use Rattle.std.specs.Prelude.{None, Result, Ok, Err}
 use Rattle.ttx_packet.specs.Slots.{Kind, kind_of, IsInfo}
 use Rattle.ttx_header.specs.Ids.{Id}
 use Rattle.ttx_header.specs.Control.{c11}
@@ -32,10 +33,14 @@ use Rattle.ttx_witness.specs.declared.runs.transmissions.Transmission.{Transmiss
 use Rattle.ttx_witness.specs.declared.faults.reason.Reason.{Reason as WitnessReason}
 use Rattle.ttx_witness.specs.declared.faults.reason.Reason.TheVariants.{HeadDiffers, RowDiffers, LinksDiffer}
 use Rattle.ttx_certify.specs.CertifyingFiles.{IsServiceText}
+use Rattle.ttx_extract.specs.Often.{often_for}
 use Rattle.ttx_extract.specs.FirstSent.{IsSentPage, AreInOrder}
+use Rattle.ttx_extract.specs.Made.{IsNotMade}
+use Rattle.ttx_extract.specs.ServiceTexts.{service_text}
+use Rattle.ttx_extract.specs.SentPages.{IsGathered}
 use Rattle.ttx_extract.specs.declared.extracting.Extracted.{Extracted}
 use Rattle.ttx_extract.specs.declared.faults.ExtractFault.{ExtractFault}
-use Rattle.ttx_extract.specs.declared.faults.ExtractFault.TheVariants.{Conflict, Reason, Info}
+use Rattle.ttx_extract.specs.declared.faults.ExtractFault.TheVariants.{Conflict, Reason, Info, Unsaid, NoMemory}
 
 -- page number FF is time-filling (EN 300 706, 9.3.1)
 abbrev pub IsOfPages : List Id → Packet → Type 0
@@ -59,10 +64,6 @@ info_or (Some a) b = Some a
 unfoldable pub first_info : List (List ℕ) → Option InfoFields
 first_info [] = None
 first_info (slot ∷ slots) = info_or (slot_info slot) (first_info slots)
-
--- the most of 1, 2, 4 and 8 times that aren't more than the headers
-abbrev pub often_for : ℕ → ℕ
-often_for n = if nat_le 8 n then 8 else if nat_le 4 n then 4 else if nat_le 2 n then 2 else 1
 
 -- C11 of a header
 abbrev pub header_serial : Packet → Option Bool
@@ -154,18 +155,39 @@ pub record IsMinusZero (slots : List (List ℕ)) (slot : ℕ) : Type 0 where
   pub none : fields.halves ≡ 0
   pub negative : fields.west ≡ true
 
+-- What a text is written of: these lines, C11 of the first header, the first packet 8/30, and pages that say what slots of the cycle
+-- say.
+pub record IsDraft (slots : List (List ℕ)) (lines : ℕ) (d : ServiceFields) : Type 0 where
+  pub lines_are : d.lines ≡ lines
+  pub serial : d.serial ≡ first_serial slots
+  pub info : d.info ≡ first_info slots
+  pub pages : IsGathered slots (first_serial slots) d.pages
+
+-- the text of what the cycle sends
+abbrev pub IsDraftText : List (List ℕ) → ℕ → List ℕ → Type 0
+IsDraftText slots lines text = (d : ServiceFields) × IsDraft slots lines d × (text ≡ service_text d)
+
 -- the first page that isn't sent unchanged: two slots that differ, or its reason
 abbrev pub Blames : List (List ℕ) → ℕ → ExtractFault → Type 0
 Blames slots lines (Conflict page item first second) = IsConflict slots lines page item first second
 Blames slots lines (Reason reason) = (page : Id) × IsFirstReason slots lines page reason
 Blames slots lines fault = ⊥
 
+-- why a service that was read isn't the cycle's: its pages aren't sent unchanged, or it isn't what is sent first
+abbrev pub IsCheckFault : List (List ℕ) → ℕ → ExtractFault → Type 0
+IsCheckFault slots lines (Conflict page item first second) = IsConflict slots lines page item first second
+IsCheckFault slots lines (Reason reason) = (page : Id) × IsFirstReason slots lines page reason
+IsCheckFault slots lines Unsaid = ⊤
+IsCheckFault slots lines NoMemory = ⊤
+IsCheckFault slots lines fault = ⊥
+
 -- why there is no text
 abbrev pub AnswersFault : List (List ℕ) → ℕ → ExtractFault → Type 0
 AnswersFault slots lines (Conflict page item first second) = IsConflict slots lines page item first second
 AnswersFault slots lines (Reason reason) = (page : Id) × IsFirstReason slots lines page reason
 AnswersFault slots lines (Info slot) = IsMinusZero slots slot
-AnswersFault slots lines fault = ⊤
+AnswersFault slots lines NoMemory = ⊤
+AnswersFault slots lines fault = (d : ServiceFields) × IsDraft slots lines d × IsNotMade d fault
 
 abbrev pub Extracts : List (List ℕ) → ℕ → Result Extracted ExtractFault → Type 0
 Extracts slots lines (Ok extracted) = IsServiceText (string_bytes extracted.text) extracted.service × IsExtract slots lines extracted.service

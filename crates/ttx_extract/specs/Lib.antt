@@ -1,6 +1,10 @@
+pub mod Often
 pub mod FirstSent
 pub mod Extracts
 pub mod Refusals
 pub mod FoundInfos
 pub mod FirstReasons
 pub mod OnlyService
+pub mod ServiceTexts
+pub mod SentPages
+pub mod Made

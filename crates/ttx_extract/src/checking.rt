@@ -16,7 +16,7 @@ ghost use Rattle.ttx_witness.specs.faults.OtherSubpages.{AreOtherSubpages};
 ghost use Rattle.ttx_extract.specs.Extracts.{IsOfPages, AreOfPages, IsSentOften};
 ghost use Rattle.ttx_extract.specs.FirstReasons.{TellsPage};
 
-use crate::page_texts::often_for;
+use crate::sent_page::often_for;
 use ttx_cycle::Cycle;
 use ttx_header::PageId;
 use ttx_page::{Item, Page};

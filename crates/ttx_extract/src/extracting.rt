@@ -6,15 +6,19 @@ ghost use Rattle.ttx_cycle.specs.Cycles.{slots_of};
 ghost use Rattle.ttx_source.specs.Services.{authored_ids, pages_of};
 ghost use Rattle.ttx_witness.specs.sent.AllSent.{AreAllSent};
 ghost use Rattle.ttx_witness.specs.faults.OtherSubpages.{AreOtherSubpages};
-ghost use Rattle.ttx_extract.specs.Extracts.{AnswersFault, AreOfPages, AreSteady, Blames, Extracts, IsExtract, IsSentService};
+ghost use Rattle.ttx_extract.specs.Extracts.{IsCheckFault, IsDraft, IsDraftText, AnswersFault, AreOfPages, AreSteady, Blames, Extracts, IsExtract, IsSentService};
 ghost use Rattle.ttx_extract.specs.Extracts.{first_info, first_serial};
 ghost use Rattle.ttx_extract.specs.FoundInfos.{MinusZero, OkTrue};
+ghost use Rattle.ttx_extract.specs.Made.{IsNotMade, Makes};
+ghost use Rattle.ttx_extract.specs.SentPages.{draft_of};
+ghost use Rattle.ttx_extract.specs.ServiceTexts.{service_text};
 
 use crate::checking::{are_listed, are_often, first_reason};
 use crate::conflicts::why;
+use crate::draft::Draft;
 use crate::faults::ExtractFault;
 use crate::first_sent::{are_in_order, are_sent_pages};
-use crate::gathering::gather;
+use crate::gathering::sent_pages;
 use crate::infos::{FoundInfo, first_info, same_info};
 use crate::serial::first_serial;
 use crate::service_texts::service_text;
@@ -47,7 +51,9 @@ fn minus_zero(found: &Option<FoundInfo>) -> Option<u32>
     }
 }
 
-fn info_of(found: Option<FoundInfo>) -> Option<Info> {
+fn info_of(found: Option<FoundInfo>) -> Option<Info>
+    ensures { result ≡ option_map (λ f. f.info) found }
+{
     match found {
         Some(found) => Some(found.info),
         None => None,
@@ -142,7 +148,7 @@ fn blame(cycle: &Cycle, service: &Service, sent: &Sent) -> Option<ExtractFault>
 
 // Whether the service says what the cycle sends first, and each page is sent unchanged.
 fn check(alloc: Global, cycle: &Cycle, service: &Service, lines: u8) -> Result<(), ExtractFault>
-    ensures { MatchResult result (λ _. IsExtract (slots_of cycle.now) lines service.now) (AnswersFault (slots_of cycle.now) lines) }
+    ensures { MatchResult result (λ _. IsExtract (slots_of cycle.now) lines service.now) (IsCheckFault (slots_of cycle.now) lines) }
 {
     let Ok(sent) = sent_of(alloc, cycle, service, lines) else {
         return Err(ExtractFault::NoMemory);
@@ -158,45 +164,48 @@ fn check(alloc: Global, cycle: &Cycle, service: &Service, lines: u8) -> Result<(
     }
 }
 
-// The text of a cycle with this packet 8/30.
-fn text_with(
-    alloc: Global,
-    cycle: &Cycle,
-    info: Option<Info>,
-    lines: u8,
-) -> Result<String, NoMemory> {
-    let gathered = gather(alloc, cycle)?;
-    service_text(alloc, cycle, &gathered, info.as_ref(), lines)
-}
-
-// The text of what the cycle sends.
-fn text_of(alloc: Global, cycle: &Cycle, lines: u8) -> Result<String, ExtractFault>
-    ensures most { IfOk result (λ text. length (string_bytes text) ≤ most_bytes) }
+// What the cycle sends.
+fn draft_of(alloc: Global, cycle: &Cycle, lines: u8) -> Result<Draft, ExtractFault>
+    ensures draft { IfOk result (λ d. IsDraft (slots_of cycle.now) lines (draft_of d)) }
     ensures fault { IfErr result (AnswersFault (slots_of cycle.now) lines) }
 {
     let found = first_info(cycle);
     if let Some(slot) = minus_zero(&found) {
         return Err(ExtractFault::Info { slot });
     }
-    match text_with(alloc, cycle, info_of(found), lines) {
-        Ok(text) => {
-            if text.len() <= MOST_BYTES {
-                Ok(text)
-            } else {
-                Err(ExtractFault::TooLong)
-            }
-        }
+    let serial = first_serial(cycle);
+    match sent_pages(alloc, cycle, serial) {
+        Ok(pages) => Ok(Draft {
+            lines,
+            serial,
+            info: info_of(found),
+            pages,
+        }),
         Err(_) => Err(ExtractFault::NoMemory),
     }
 }
 
-/// The text of a service that says what the cycle sends, with these lines of a field, and the service. Pages stand in the order of
-/// their first headers, with the first transmission of each item; a row that isn't sent is spaces. Before it is answered the text is
-/// read, and the cycle is compared with it as the certifier does.
-pub fn extract(alloc: Global, cycle: &Cycle, lines: u8) -> Result<Extracted, ExtractFault>
-    ensures { Extracts (slots_of cycle.now) lines result }
+// The text of a draft.
+fn text_of(alloc: Global, draft: &Draft) -> Result<String, ExtractFault>
+    ensures text { IfOk result (λ text. string_bytes text ≡ service_text (draft_of draft.now)) }
+    ensures most { IfOk result (λ text. length (string_bytes text) ≤ most_bytes) }
+    ensures fault { IfErr result (IsNotMade (draft_of draft.now)) }
 {
-    let text = match text_of(alloc, cycle, lines) {
+    let Ok(text) = service_text(alloc, draft) else {
+        return Err(ExtractFault::NoMemory);
+    };
+    if text.len() <= MOST_BYTES {
+        Ok(text)
+    } else {
+        Err(ExtractFault::TooLong)
+    }
+}
+
+// The text of a draft, and the service that it says.
+fn make(alloc: Global, draft: &Draft) -> Result<Extracted, ExtractFault>
+    ensures { Makes (draft_of draft.now) result }
+{
+    let text = match text_of(alloc, draft) {
         Ok(text) => text,
         Err(fault) => return Err(fault),
     };
@@ -204,8 +213,26 @@ pub fn extract(alloc: Global, cycle: &Cycle, lines: u8) -> Result<Extracted, Ext
         Ok(service) => service,
         Err(error) => return Err(ExtractFault::Service(error)),
     };
-    match check(alloc, cycle, &service, lines) {
-        Ok(()) => Ok(Extracted { text, service }),
+    Ok(Extracted { text, service })
+}
+
+/// The text of a service that says what the cycle sends, with these lines of a field, and the service. Pages stand in the order of
+/// their first headers, with the first transmission of each item; a row that isn't sent is spaces. Before it is answered the text is
+/// read, and the cycle is compared with it as the certifier does.
+pub fn extract(alloc: Global, cycle: &Cycle, lines: u8) -> Result<Extracted, ExtractFault>
+    ensures answer { Extracts (slots_of cycle.now) lines result }
+    ensures text { IfOk result (λ e. IsDraftText (slots_of cycle.now) lines (string_bytes e.text)) }
+{
+    let draft = match draft_of(alloc, cycle, lines) {
+        Ok(draft) => draft,
+        Err(fault) => return Err(fault),
+    };
+    let made = match make(alloc, &draft) {
+        Ok(made) => made,
+        Err(fault) => return Err(fault),
+    };
+    match check(alloc, cycle, &made.service, lines) {
+        Ok(()) => Ok(made),
         Err(fault) => Err(fault),
     }
 }

@@ -2,14 +2,14 @@
 
 use ttx_header::PageId;
 
-/// A page that headers name: the slot of its first header, how many headers it has in a period, and the slots that send each row and
-/// the links first.
+/// A page that headers name: the slot of its first header, how many headers it has in a period, and the slots that send rows 1 to
+/// 24 and the links first.
 #[derive(Clone, Copy)]
 pub struct Found {
     pub id: PageId,
     pub header: usize,
     pub headers: usize,
-    pub rows: [Option<usize>; 25],
+    pub rows: [Option<usize>; 24],
     pub links: Option<usize>,
 }
 
@@ -20,7 +20,7 @@ impl Found {
             id,
             header,
             headers: 1,
-            rows: [None; 25],
+            rows: [None; 24],
             links: None,
         }
     }
@@ -32,7 +32,10 @@ impl Found {
 
     /// Notes the slot of a row, where it is the row's first.
     pub fn note_row(&mut self, number: u8, slot: usize) {
-        if let Some(row) = self.rows.get_mut(usize::from(number)) {
+        let Some(index) = usize::from(number).checked_sub(1) else {
+            return;
+        };
+        if let Some(row) = self.rows.get_mut(index) {
             if row.is_none() {
                 *row = Some(slot);
             }

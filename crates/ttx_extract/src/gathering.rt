@@ -1,8 +1,13 @@
 //! Gathers the pages of a cycle, in the order of their first headers.
 
+ghost use Rattle.std.specs.Prelude.{◌≡◌, IfOk, map};
+ghost use Rattle.ttx_cycle.specs.Cycles.{slots_of};
+ghost use Rattle.ttx_extract.specs.SentPages.{IsGathered, authored_of, said_page};
+
 use crate::found::Found;
+use crate::sent_page::{SentPage, sent_page};
 use indexmap::IndexMap;
-use std::alloc::Global;
+use std::alloc::{AllocError, Global};
 use ttx_cycle::Cycle;
 use ttx_header::PageId;
 use ttx_packet::{Slot, slot_of};
@@ -11,10 +16,10 @@ use ttx_witness::{NoMemory, header_in};
 // The page number of time-filling headers, which are no page's.
 const TIME_FILLING: u8 = 0xff;
 
-/// The pages that headers name, and the page of the latest header of each magazine.
+// The pages that headers name, and the page of the latest header of each magazine.
 #[derive(Drop)]
-pub struct Gathered {
-    pub pages: IndexMap<PageId, Found>,
+struct Gathered {
+    pages: IndexMap<PageId, Found>,
     owners: [Option<PageId>; 8],
 }
 
@@ -84,8 +89,8 @@ fn note_packet(gathered: &mut Gathered, bytes: &[u8; 42], slot: usize) {
     }
 }
 
-/// The pages of a cycle. Rows and links before the first header of their magazine belong to its last one, a period earlier.
-pub fn gather(alloc: Global, cycle: &Cycle) -> Result<Gathered, NoMemory> {
+// The pages of a cycle. Rows and links before the first header of their magazine belong to its last one, a period earlier.
+fn gather(alloc: Global, cycle: &Cycle) -> Result<Gathered, NoMemory> {
     let slots = cycle.slots();
     let mut gathered = Gathered {
         pages: IndexMap::new(alloc),
@@ -101,6 +106,18 @@ pub fn gather(alloc: Global, cycle: &Cycle) -> Result<Gathered, NoMemory> {
     Ok(gathered)
 }
 
+// The pages of a cycle in the order of their first headers.
+fn found_pages(alloc: Global, cycle: &Cycle) -> Result<Vec<Found>, NoMemory> {
+    let gathered = gather(alloc, cycle)?;
+    let mut found = Vec::new(alloc);
+    for page in gathered.pages.values() {
+        if found.push(*page).is_err() {
+            return Err(NoMemory);
+        }
+    }
+    Ok(found)
+}
+
 // Notes the rows and links of all slots.
 fn note_packets(gathered: &mut Gathered, cycle: &Cycle) {
     let slots = cycle.slots();
@@ -109,5 +126,32 @@ fn note_packets(gathered: &mut Gathered, cycle: &Cycle) {
             Some(header) => note_owner(gathered, header.id()),
             None => note_packet(gathered, &slots[j], j),
         }
+    }
+}
+
+// The pages that were found, each with what its slots say.
+fn said_pages(
+    alloc: Global,
+    cycle: &Cycle,
+    serial: bool,
+    found: &[Found],
+) -> Result<Vec<SentPage>, AllocError>
+    ensures { IfOk result (λ pages. map authored_of pages.items ≡ map (said_page (slots_of cycle.now) serial) found.now) }
+{
+    let mut pages = Vec::new(alloc);
+    for index in 0..found.len() {
+        pages.push(sent_page(cycle, &found[index], serial))?;
+    }
+    Ok(pages)
+}
+
+/// The pages of a cycle, each with what its first header, rows and links say. C11 of each is `serial`.
+pub fn sent_pages(alloc: Global, cycle: &Cycle, serial: bool) -> Result<Vec<SentPage>, NoMemory>
+    ensures { IfOk result (λ pages. IsGathered (slots_of cycle.now) serial (map authored_of pages.items)) }
+{
+    let found = found_pages(alloc, cycle)?;
+    match said_pages(alloc, cycle, serial, found.as_slice()) {
+        Ok(pages) => Ok(pages),
+        Err(_) => Err(NoMemory),
     }
 }

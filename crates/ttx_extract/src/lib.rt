@@ -3,6 +3,7 @@
 
 mod checking;
 mod conflicts;
+mod draft;
 mod extracting;
 pub mod faults;
 mod first_sent;
@@ -12,6 +13,7 @@ mod infos;
 pub mod laws;
 mod page_texts;
 mod refusals;
+mod sent_page;
 mod serial;
 mod service_texts;
 mod texts;

@@ -1,0 +1,29 @@
+-- What is made of a draft: its text, and the service that is read from it.
+--
+--   Makes                   the text and the service, or why there are none
+use Rattle.std.specs.Prelude.{◌≡◌, ℕ, ◌<◌, List, length, string_bytes, ⊤, Result, Ok, Err}
+use Rattle.ttx_cycle.specs.Bounded.{most_bytes}
+use Rattle.ttx_source.specs.Services.{ServiceFields}
+use Rattle.ttx_certify.specs.CertifyingFiles.{IsServiceText, IsServiceFault}
+use Rattle.ttx_extract.specs.ServiceTexts.{service_text}
+use Rattle.ttx_extract.specs.declared.extracting.Extracted.{Extracted}
+use Rattle.ttx_extract.specs.declared.faults.ExtractFault.{ExtractFault}
+use Rattle.ttx_extract.specs.declared.faults.ExtractFault.TheVariants.{Service, TooLong, Unsaid, NoMemory}
+
+-- the text of the draft, and the service that it says
+pub record IsMade (d : ServiceFields) (made : Extracted) : Type 0 where
+  pub text_is : string_bytes made.text ≡ service_text d
+  pub says : IsServiceText (string_bytes made.text) made.service
+
+-- why there is none: the text is too long, it isn't a service definition, or it says a service that isn't
+-- what the cycle sends
+abbrev pub IsNotMade : ServiceFields → ExtractFault → Type 0
+IsNotMade d TooLong = most_bytes < length (service_text d)
+IsNotMade d (Service error) = IsServiceFault (service_text d) error
+IsNotMade d Unsaid = (service : ServiceFields) × IsServiceText (service_text d) service
+IsNotMade d NoMemory = ⊤
+IsNotMade d fault = ⊥
+
+abbrev pub Makes : ServiceFields → Result Extracted ExtractFault → Type 0
+Makes d (Ok made) = IsMade d made
+Makes d (Err fault) = IsNotMade d fault

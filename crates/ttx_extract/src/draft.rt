@@ -1,0 +1,14 @@
+//! What a cycle sends, before a text is written of it.
+
+use crate::sent_page::SentPage;
+use ttx_info::Info;
+
+/// The lines of a field, C11, the packet 8/30 and the pages that a text is written of. It need not be a service: a page may have an
+/// id that no service definition has.
+#[derive(Drop)]
+pub struct Draft {
+    pub lines: u8,
+    pub serial: bool,
+    pub info: Option<Info>,
+    pub pages: Vec<SentPage>,
+}
