@@ -1,11 +1,12 @@
 -- The report on a service text.
 --
 --   lines_or_count, report    what is said of a text that is read: its lines, or that there is nothing to say
---   IsRead, IsServiceReport    the report on a text, and its status
+--   IsRead, IsPromiseReport, IsServiceReport    the report on a text, and its status
 use Rattle.std.specs.Prelude.{◌≡◌, ℕ, List, [], ◌∷◌, ◌++◌, codes, length, Some, Result, Ok, Err}
 use Rattle.std.specs.Fmt.{decimal}
 use Rattle.toml.specs.Data.{Members}
 use Rattle.toml.specs.Parse.{parse_document}
+use Rattle.ttx_source.specs.Promises.{PromiseFields, read_promises}
 use Rattle.ttx_source.specs.Services.{ServiceFields, pages_of, read_bytes}
 use Rattle.ttx_source.specs.Values.{Fault}
 use Rattle.ttx_check.specs.Refusals.{IsErrorLine}
@@ -27,9 +28,14 @@ pub record IsRead (bytes : List ℕ) (service : ServiceFields) (text : List ℕ)
   pub parsed : parse_document bytes ≡ Some table
   pub says : text ≡ report table service
 
+-- the text of a service, whose promises are read or refused
+abbrev pub IsPromiseReport : List ℕ → ServiceFields → Result (List PromiseFields) (Fault × ℕ) → List ℕ → ℕ → Type 0
+IsPromiseReport bytes service (Ok promises) text status = IsRead bytes service text × (status ≡ 0)
+IsPromiseReport bytes service (Err fault) text status = IsErrorLine bytes fault.0 fault.1 text × (status ≡ 2)
+
 -- the status is 0 where the text is read, and 2 where it is refused
 abbrev pub IsReportOf : List ℕ → Result ServiceFields (Fault × ℕ) → List ℕ → ℕ → Type 0
-IsReportOf bytes (Ok service) text status = IsRead bytes service text × (status ≡ 0)
+IsReportOf bytes (Ok service) text status = IsPromiseReport bytes service (read_promises bytes) text status
 IsReportOf bytes (Err fault) text status = IsErrorLine bytes fault.0 fault.1 text × (status ≡ 2)
 
 abbrev pub IsServiceReport : List ℕ → List ℕ → ℕ → Type 0

@@ -22,8 +22,8 @@ info_keys =
 
 unfoldable pub page_keys : List (List ℕ)
 page_keys =
-    codes "number" ∷ codes "sub" ∷ codes "often" ∷ codes "option" ∷ codes "newsflash" ∷ codes "subtitle" ∷ codes "suppress" ∷ codes "update"
-    ∷ codes "interrupted" ∷ codes "inhibit" ∷ codes "head" ∷ codes "rows" ∷ codes "links" ∷ codes "row24" ∷ codes "crc" ∷ []
+    codes "number" ∷ codes "sub" ∷ codes "often" ∷ codes "within" ∷ codes "option" ∷ codes "newsflash" ∷ codes "subtitle" ∷ codes "suppress"
+    ∷ codes "update" ∷ codes "interrupted" ∷ codes "inhibit" ∷ codes "head" ∷ codes "rows" ∷ codes "links" ∷ codes "row24" ∷ codes "crc" ∷ []
 
 abbrev pub is_one_of : List (List ℕ) → List ℕ → Bool
 is_one_of names key = list_any (λ name. bytes_eq name key) names

@@ -2,7 +2,10 @@
 
 ghost use Rattle.std.specs.Prelude.{◌≡◌, ◌++◌, IfOk, IfErr, length, string_bytes, map};
 ghost use Rattle.toml.specs.View.{table_view};
+ghost use Rattle.ttx_check.specs.Refusals.{IsErrorLine};
 ghost use Rattle.ttx_check.specs.Reports as rule;
+ghost use Rattle.ttx_source.specs.Faults.{fault_of};
+ghost use Rattle.ttx_source.specs.Promises.{read_promises};
 
 use crate::refusals::error_line;
 use crate::service_warnings::warnings;
@@ -10,7 +13,7 @@ use crate::unknown_keys::push_keys;
 use crate::warning_lines::push_warnings;
 use std::alloc::{AllocError, Global};
 use toml::Table;
-use ttx_source::{Service, SourceError, SourceFault, read_service};
+use ttx_source::{Service, SourceError, SourceFault, read_promises, read_service};
 
 /// What is said of a text, and whether it is refused.
 #[derive(Drop)]
@@ -55,21 +58,45 @@ fn read_report(alloc: Global, bytes: &[u8], service: &Service) -> Result<Checked
     }
 }
 
-/// What is said of a text: a line where it is refused, else the warnings. The error is want of memory.
-pub fn report(alloc: Global, bytes: &[u8]) -> Result<Checked, AllocError>
-    ensures { IfOk result (λ report. rule.IsServiceReport bytes.now (string_bytes report.text) report.status) }
+// What is said of a text that is refused.
+fn refusal(alloc: Global, bytes: &[u8], error: &SourceError) -> Result<Checked, AllocError>
+    ensures { IfOk result (λ report. IsErrorLine bytes.now (fault_of error.now.fault) error.now.page (string_bytes report.text) × (report.status ≡ 2)) }
 {
-    match read_service(alloc, bytes) {
-        Ok(service) => read_report(alloc, bytes, &service),
+    Ok(Checked {
+        text: error_line(alloc, bytes, error)?,
+        status: 2,
+    })
+}
+
+// The report on a text that is read, whose promises may be refused.
+fn promised_report(alloc: Global, bytes: &[u8], service: &Service) -> Result<Checked, AllocError>
+    ensures { IfOk result (λ report.
+        rule.IsPromiseReport bytes.now service.now (read_promises bytes.now) (string_bytes report.text) report.status) }
+{
+    match read_promises(alloc, bytes) {
+        Ok(_) => read_report(alloc, bytes, service),
         Err(
             SourceError {
                 fault: SourceFault::NoMemory,
                 page: _,
             },
         ) => Err(AllocError),
-        Err(error) => Ok(Checked {
-            text: error_line(alloc, bytes, &error)?,
-            status: 2,
-        }),
+        Err(error) => refusal(alloc, bytes, &error),
+    }
+}
+
+/// What is said of a text: a line where the service or one of its promises is refused, else the warnings. The error is want of memory.
+pub fn report(alloc: Global, bytes: &[u8]) -> Result<Checked, AllocError>
+    ensures { IfOk result (λ report. rule.IsServiceReport bytes.now (string_bytes report.text) report.status) }
+{
+    match read_service(alloc, bytes) {
+        Ok(service) => promised_report(alloc, bytes, &service),
+        Err(
+            SourceError {
+                fault: SourceFault::NoMemory,
+                page: _,
+            },
+        ) => Err(AllocError),
+        Err(error) => refusal(alloc, bytes, &error),
     }
 }

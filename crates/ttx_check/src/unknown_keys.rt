@@ -30,10 +30,11 @@ static INFO_KEYS: [&str; 7] = [
     "text",
 ];
 
-static PAGE_KEYS: [&str; 15] = [
+static PAGE_KEYS: [&str; 16] = [
     "number",
     "sub",
     "often",
+    "within",
     "option",
     "newsflash",
     "subtitle",

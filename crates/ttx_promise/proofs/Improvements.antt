@@ -1,0 +1,51 @@
+-- Plans that are improved step by step.
+use Rattle.std.proofs.Common.{◌≡◌, ℕ, List, [], map, None, sym, subst}
+use Rattle.ttx_source.specs.Promises.{PromiseFields}
+use Rattle.ttx_source.specs.Services.{ServiceFields, pages_of}
+use Rattle.ttx_promise.specs.Deadlines.{AreDeadlines}
+use Rattle.ttx_promise.specs.Lateness.{LateFields, late_of}
+use Rattle.ttx_promise.specs.Promises.{IsRaised, IsSpreadFor, IsMissed, KeepsPromises, RaisesLatest, IsJudged, Improves}
+use Rattle.ttx_promise.specs.Views.{late_view}
+use Rattle.ttx_promise.specs.declared.planning.Improved.{Improved}
+use Rattle.ttx_promise.specs.declared.planning.Improved.TheVariants as improved
+use Rattle.ttx_promise.specs.declared.planning.Viewers.{Viewers}
+use Rattle.ttx_promise.proofs.KeptPromises.{are_kept}
+
+pub judged : (v : Viewers) (promises : List PromiseFields) (old new : ServiceFields) (cycle : List (List ℕ)) (deadlines : List ℕ)
+    (answer : Improved) → IsSpreadFor v.receivers.late v.receivers.class old cycle →
+    AreDeadlines cycle (pages_of old) v.receivers.class v.repeat old.lines deadlines →
+    RaisesLatest v.receivers.late v.receivers.class deadlines promises old new None → IsJudged (pages_of new) deadlines promises answer →
+    Improves v promises old new cycle answer
+judged v promises old new cycle deadlines improved.Kept plan are r j = (
+  r.0,
+  record {
+    plan = plan;
+    kept = are_kept cycle v.receivers.class v.repeat old deadlines promises are
+        (subst (λ (s : ServiceFields). late_of (pages_of s) deadlines promises ≡ []) r.0 j);
+  },
+)
+judged v promises old new cycle deadlines (improved.Raised next) plan are r j = absurd j
+judged v promises old new cycle deadlines (improved.Late pages) plan are r j = (
+  r.0,
+  record {
+    plan = plan;
+    deadlines = deadlines;
+    are = are;
+    pages_are = subst (λ (s : ServiceFields). map late_view pages.items ≡ late_of (pages_of s) deadlines promises) r.0 j.0;
+    some = j.1;
+    end = r.1;
+  },
+)
+
+-- the service as it was
+pub kept_so : (v : Viewers) (promises : List PromiseFields) (old new : ServiceFields) (cycle : List (List ℕ)) → new ≡ old →
+    KeepsPromises v promises old cycle → KeepsPromises v promises new cycle
+kept_so v promises old new cycle e k = subst (λ (s : ServiceFields). KeepsPromises v promises s cycle) (sym e) k
+
+pub missed_so : (v : Viewers) (promises : List PromiseFields) (old new : ServiceFields) (cycle : List (List ℕ)) (pages : List LateFields) →
+    new ≡ old → IsMissed v promises old cycle pages → IsMissed v promises new cycle pages
+missed_so v promises old new cycle pages e k = subst (λ (s : ServiceFields). IsMissed v promises s cycle pages) (sym e) k
+
+pub raised_as_before : (promises : List PromiseFields) (first old new : ServiceFields) → new ≡ old → IsRaised promises first old →
+    IsRaised promises first new
+raised_as_before promises first old new e r = subst (IsRaised promises first) (sym e) r

@@ -1,0 +1,7 @@
+mod PageOften
+mod RaisedPages
+mod LatestPromise
+mod KeptPromises
+mod PlanAnswers
+mod Steps
+mod Improvements

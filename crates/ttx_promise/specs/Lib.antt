@@ -1,0 +1,5 @@
+pub mod Deadlines
+pub mod Lateness
+pub mod Views
+pub mod Promises
+pub mod PromiseLines

@@ -1,0 +1,193 @@
+//! The plan that keeps each promise.
+
+ghost use Rattle.std.specs.Prelude.{◌≡◌, ◌≢◌, ◌<◌, ◌≤◌, length, map, IfOk};
+ghost use Rattle.ttx_cycle.specs.Cycles.{slots_of};
+ghost use Rattle.ttx_promise.specs.Lateness.{often_at};
+ghost use Rattle.ttx_promise.specs.Promises.{Answers, Ends, IsSpreadFor, IsJudged, TriesToRaise, RaisesLatest, Improves};
+ghost use Rattle.ttx_source.specs.PromiseViews.{promise_view};
+ghost use Rattle.ttx_source.specs.Services.{pages_of};
+
+use crate::deadlines::deadlines;
+use crate::faults::{LatePage, PromiseFault};
+use crate::lateness::{late_pages, latest, page_at};
+use std::alloc::Global;
+use ttx_cycle::Cycle;
+use ttx_plan::{PlanFault, Receivers, plan_spread};
+use ttx_source::{Promise, Service};
+use ttx_witness::NoMemory;
+
+/// The viewers that a plan is for.
+#[derive(Clone, Copy)]
+pub struct Viewers {
+    /// Their receivers.
+    pub receivers: Receivers,
+    /// How often a receiver takes in an item before it shows it, 1 to 8.
+    pub repeat: u8,
+}
+
+/// What becomes of a plan in one step.
+#[derive(Drop)]
+pub enum Improved {
+    /// Each promise is kept.
+    Kept,
+    /// The page that is the latest is sent twice as often, in this plan.
+    Raised { cycle: Cycle },
+    /// No page that comes too late can be sent more often; these come too late.
+    Late { pages: Vec<LatePage> },
+}
+
+/// Why a plan doesn't keep each promise.
+#[derive(Drop)]
+pub enum Missed {
+    /// These come too late.
+    Late { pages: Vec<LatePage> },
+    /// A growth was refused.
+    NoMemory,
+}
+
+// Sends a page twice as often, and plans anew; `None`, and the service as it was, where the cycle might then be too long.
+fn raise(
+    alloc: Global,
+    service: &mut Service,
+    receivers: Receivers,
+    page: usize,
+) -> Result<Option<Cycle>, NoMemory>
+    requires page { page < length service.old.pages }
+    requires rare { often_at service.old.pages page < 8 }
+    ensures { IfOk result (λ raised. TriesToRaise receivers.late receivers.class page service.old service.new raised) }
+{
+    let _pages = service.pages();
+    let often = service.often(page);
+    service.set_often(page, 2 * often);
+    match plan_spread(alloc, service, receivers) {
+        Ok(cycle) => Ok(Some(cycle)),
+        Err(PlanFault::TooLong) => {
+            service.set_often(page, often);
+            Ok(None)
+        }
+        Err(_) => Err(NoMemory),
+    }
+}
+
+// What is said of a plan that can't be improved.
+fn judge(
+    alloc: Global,
+    service: &Service,
+    fields: &[u32],
+    promises: &[Promise],
+) -> Result<Improved, NoMemory>
+    ensures { IfOk result (λ improved. IsJudged (pages_of service.now) fields.now (map promise_view promises.now) improved) }
+{
+    let Ok(pages) = late_pages(alloc, service, fields, promises) else {
+        return Err(NoMemory);
+    };
+    if pages.is_empty() {
+        Ok(Improved::Kept)
+    } else {
+        Ok(Improved::Late { pages })
+    }
+}
+
+// Sends the page that is the latest twice as often; `None`, and the service as it was, where no page that is too late can be sent
+// more often.
+fn raise_latest(
+    alloc: Global,
+    service: &mut Service,
+    receivers: Receivers,
+    fields: &[u32],
+    promises: &[Promise],
+) -> Result<Option<Cycle>, NoMemory>
+    ensures { IfOk result (λ raised. RaisesLatest receivers.late receivers.class fields.now (map promise_view promises.now)
+        service.old service.new raised) }
+{
+    let _pages = service.pages();
+    let Some(number) = latest(service, fields, promises) else {
+        return Ok(None);
+    };
+    match raise(alloc, service, receivers, page_at(promises, number)) {
+        Ok(raised) => Ok(raised),
+        Err(_) => Err(NoMemory),
+    }
+}
+
+// Sends the page that is the latest twice as often, where that can be done.
+fn improve(
+    alloc: Global,
+    service: &mut Service,
+    viewers: Viewers,
+    promises: &[Promise],
+    cycle: &Cycle,
+) -> Result<Improved, NoMemory>
+    requires plan { IsSpreadFor viewers.receivers.late viewers.receivers.class service.old (slots_of cycle.now) }
+    requires some_repeats { 1 ≤ viewers.repeat }
+    requires few_repeats { viewers.repeat ≤ 8 }
+    ensures { IfOk result (λ improved. Improves viewers (map promise_view promises.now) service.old service.new (slots_of cycle.now) improved) }
+{
+    let fields = deadlines(
+        alloc,
+        cycle,
+        service,
+        viewers.receivers.class,
+        viewers.repeat,
+    )?;
+    match raise_latest(alloc, service, viewers.receivers, &fields, promises)? {
+        Some(cycle) => Ok(Improved::Raised { cycle }),
+        None => Ok(judge(alloc, service, &fields, promises)?),
+    }
+}
+
+// Improves a plan until each promise is kept, or no page that is too late can be sent more often.
+fn improve_all(
+    alloc: Global,
+    service: &mut Service,
+    viewers: Viewers,
+    promises: &[Promise],
+    first: Cycle,
+) -> Result<Cycle, Missed>
+    requires plan { IsSpreadFor viewers.receivers.late viewers.receivers.class service.old (slots_of first) }
+    requires some_repeats { 1 ≤ viewers.repeat }
+    requires few_repeats { viewers.repeat ≤ 8 }
+    ensures { Ends viewers (map promise_view promises.now) service.old service.new result }
+{
+    let mut cycle = first;
+    loop {
+        match improve(alloc, service, viewers, promises, &cycle) {
+            Ok(Improved::Kept) => return Ok(cycle),
+            Ok(Improved::Raised { cycle: next }) => cycle = next,
+            Ok(Improved::Late { pages }) => return Err(Missed::Late { pages }),
+            Err(_) => return Err(Missed::NoMemory),
+        }
+    }
+}
+
+/// The spread plan of a service that keeps each promise: a viewer of the page sees it within so many fields. Pages that have a promise and
+/// no key `often` are sent as often as that takes: as long as such a page comes too late, the one that comes the most fields too late,
+/// the first of them, is sent twice as often, up to 8 times. The service is then the one that the plan is of.
+///
+/// `Late` where a promise can't be kept: the latest page that may be sent more often would make the cycle too long, or there is none. The
+/// service is that of the last plan. `NoPages` and `TooLong` as `plan_spread` of the service as it was given, which is unchanged. After
+/// `NoMemory` nothing is known of the service.
+///
+/// A plan is made and its waits are found at each step, and a page takes three steps at most.
+pub fn plan_promises(
+    alloc: Global,
+    service: &mut Service,
+    viewers: Viewers,
+    promises: &[Promise],
+) -> Result<Cycle, PromiseFault>
+    requires some_repeats { 1 ≤ viewers.repeat }
+    requires few_repeats { viewers.repeat ≤ 8 }
+    ensures { Answers viewers (map promise_view promises.now) service.old service.new result }
+{
+    let first = match plan_spread(alloc, service, viewers.receivers) {
+        Ok(cycle) => cycle,
+        Err(PlanFault::NoPages) => return Err(PromiseFault::NoPages),
+        Err(PlanFault::TooLong) => return Err(PromiseFault::TooLong),
+        Err(PlanFault::NoMemory) => return Err(PromiseFault::NoMemory),
+    };
+    match improve_all(alloc, service, viewers, promises, first) {
+        Ok(cycle) => Ok(cycle),
+        Err(Missed::Late { pages }) => Err(PromiseFault::Late { pages }),
+        Err(Missed::NoMemory) => Err(PromiseFault::NoMemory),
+    }
+}
