@@ -1,16 +1,12 @@
--- The commands of the program are those of its grammar, and each is found by its name.
-use Rattle.std.proofs.Common.{◌≡◌, ◌∙◌, ◌||◌, Bool, true, false, codes, if◌then◌else◌, refl, sym, subst, ap}
-use Rattle.std.specs.Str.{bytes_eq}
-use Rattle.std.proofs.lemmas.Slice.Eq.{bytes_eq-Decides}
+-- A command with an argument more and a program with a command more are those of the grammar, and so is the program with its table.
+use Rattle.std.proofs.Common.{◌≡◌, ◌∙◌, ◌||◌, Bool, List, Result, false, subst, ap}
 use Rattle.clap.specs.Words.{App, Rule, Text, AddsArg, AddsSubcommand, rule_of, with_rule, with_subcommand, app_of}
 use Rattle.clap.specs.declared.builder.arg.Arg.{Arg}
 use Rattle.clap.specs.declared.builder.command.Command.{Command}
 use Rattle.clap.specs.declared.builder.command.Command.TheViews.{out-Command}
-use Rattle.ttx_arguments.specs.Arguments.{IsBuiltAs, with_commands, named_in}
-use Rattle.ttx_arguments.specs.Grammar.{bare_app, ttx_app}
-use Rattle.ttx_arguments.specs.Orders.{command_named, viewing_command_named, file_command_named}
+use Rattle.ttx_arguments.specs.Arguments.{named_in, command_named}
+use Rattle.ttx_arguments.specs.Grammar.{IsBuiltAs, Builds, with_commands, bare_app, ttx_app}
 use Rattle.ttx_arguments.specs.declared.command_names.CommandName.{CommandName}
-use Rattle.ttx_arguments.specs.declared.command_names.CommandName.TheVariants.{Inspect}
 use Rattle.ttx_arguments.specs.declared.command_names.TheConstants.{COMMANDS}
 use Rattle.ttx_arguments.specs.declared.grammar.Names.{Names}
 
@@ -29,20 +25,12 @@ one_command old sub new app below built own adds = (
   adds.globals ∙ ap (λ (b : Bool). b || (out-Command sub).has_globals) built.1 ∙ own.1,
 )
 
-pub all_commands : (names : Names) → with_commands names COMMANDS bare_app ≡ ttx_app names.kinds names.classes names.forms
+-- the program with the commands of the table, and the command of a name in it
+pub whole : {E : Type 0} (names : Names) (list : List CommandName) (result : Result Command E) → list ≡ COMMANDS →
+    Builds result (with_commands names list bare_app) → Builds result (ttx_app names)
 unfolding ttx_app
-all_commands names = refl
+whole names list result is built = subst (λ (l : List CommandName). Builds result (with_commands names l bare_app)) is built
 
-either : (b : Bool) (x y : CommandName) → (b ≡ true → y ≡ x) → (if b then x else y) ≡ y
-either true x y h = sym (h refl)
-either false x y h = refl
-
-inspect_named : command_named (codes "inspect") ≡ Inspect
-unfolding command_named viewing_command_named file_command_named
-inspect_named = refl
-
-pub all_named : (name : Text) → named_in name COMMANDS ≡ command_named name
-unfolding command_named viewing_command_named file_command_named
-all_named name =
-    either (bytes_eq name (codes "inspect")) Inspect (command_named name) (λ is.
-    subst (λ (t : Text). command_named t ≡ Inspect) (sym ((bytes_eq-Decides name (codes "inspect")).0 is)) inspect_named)
+pub named : (name : Text) (list : List CommandName) → list ≡ COMMANDS → named_in name list ≡ command_named name
+unfolding command_named
+named name list is = ap (λ (l : List CommandName). named_in name l) is

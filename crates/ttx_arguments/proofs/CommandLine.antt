@@ -1,30 +1,33 @@
 -- The program's command line is one whose matches and faults are known exactly, and words without a fault name a command.
-use Rattle.std.proofs.Common.{◌≡◌, ◌≢◌, ◌∙◌, ap, Result, Ok, Err, List, [], ◌∷◌, length, codes, inl, inr, true, false, refl, sym, subst, Bool, ◌&&◌}
-use Rattle.std.proofs.Common.{not, is_some, Some, option_map, arith}
+use Rattle.std.proofs.Common.{◌≡◌, ◌≢◌, ap, Result, Ok, Err, List, [], ◌∷◌, length, codes, inl, inr, true, false, refl, sym, subst, Bool, ◌&&◌}
+use Rattle.std.proofs.Common.{not, is_some, arith}
 use Rattle.std.specs.List.{list_any}
 use Rattle.clap.specs.Words.{App, Shape, Text, built, is_simple, is_simple_and_free, kind_of, subcommand_of, fault_of}
-use Rattle.clap.specs.Walk.{Names, Held, walk, walk_from, settled, finished, nothing_held}
+use Rattle.clap.specs.Walk as walk_words
+use Rattle.clap.specs.Walk.{Held, walk, walk_from, settled, finished, nothing_held}
 use Rattle.clap.specs.Faults.{level_fault, walk_fault, settle_fault, defaults_fault, check_fault, entered_fault}
 use Rattle.clap.specs.Takes.{is_given}
 use Rattle.clap.specs.Facts.{explicit_source}
 use Rattle.clap.specs.Simple.{argument_words, entered, names_of}
 use Rattle.clap.specs.Kinds.{Kinds, HasKind, IsAmong, or_else, check_kinds}
 use Rattle.clap.specs.declared.error.Error.{Error}
-use Rattle.clap.specs.declared.error.kind.ErrorKind.TheVariants.{OutOfMemory}
-use Rattle.ttx_arguments.specs.Grammar.{NameList, ttx_app}
-use Rattle.ttx_arguments.specs.Orders.{OrderView, Unfit, inspect_order, order_view, order_at, Asks, Refuses, IsOrderOf, IsRefusalOf, IsFaultOf}
-use Rattle.ttx_arguments.specs.Orders.{AnswersBy}
+use Rattle.clap.specs.declared.error.kind.ErrorKind.{ErrorKind}
+use Rattle.clap.specs.declared.error.kind.ErrorKind.TheVariants.{OutOfMemory, DisplayVersion}
+use Rattle.ttx_arguments.specs.Grammar.{ttx_app}
+use Rattle.ttx_arguments.specs.declared.grammar.Names.{Names}
+use Rattle.ttx_arguments.specs.Orders.{OrderView, Unfit, inspect_order, version_order, order_view, Asks, AsksByCommand, Refuses, IsOrderOf, IsRefusalOf}
+use Rattle.ttx_arguments.specs.Orders.{AnswersBy, IsFaultOf, IsSettled}
 use Rattle.ttx_arguments.specs.declared.orders.Order.{Order}
 use Rattle.ttx_arguments.specs.declared.orders.WordsFault.{WordsFault}
 use Rattle.ttx_arguments.specs.declared.orders.WordsFault.TheVariants.{Refused, Page, Time, Twice, NoMemory}
 
-pub ttx_is_simple : (kinds classes forms : NameList) → is_simple (ttx_app kinds classes forms) ≡ true
+pub ttx_is_simple : (names : Names) → is_simple (ttx_app names) ≡ true
 unfolding ttx_app
-ttx_is_simple kinds classes forms = refl
+ttx_is_simple names = refl
 
-pub ttx_is_free : (kinds classes forms : NameList) → is_simple_and_free (ttx_app kinds classes forms) ≡ true
+pub ttx_is_free : (names : Names) → is_simple_and_free (ttx_app names) ≡ true
 unfolding ttx_app
-ttx_is_free kinds classes forms = refl
+ttx_is_free names = refl
 
 -- an error that isn't of memory has one of the kinds
 pub among_kinds : (kinds : Kinds) (e : Error) → (kind_of e ≡ OutOfMemory → ⊥) → HasKind kinds e → IsAmong (kind_of e) kinds
@@ -45,34 +48,51 @@ no_words app [] h = refl
 no_words app (word ∷ words) h = absurd (omega (arith, h))
 
 -- what some words ask for, and that they are refused
-asked : (app : App) (words : List Text) (answer : Result OrderView Unfit) → length words ≢ 0 → fault_of app words ≡ []
-    → option_map (λ p. order_at p.0 p.1) (subcommand_of app words) ≡ Some answer → Asks app words answer
+asked : (app : App) (words : List Text) (answer : Result OrderView Unfit) → length words ≢ 0 → AsksByCommand app words answer → Asks app words answer
 unfolding Asks
-asked app [] answer some fault is = absurd (some refl)
-asked app (word ∷ words) answer some fault is = (fault, is)
+asked app [] answer some by = absurd (some refl)
+asked app (word ∷ words) answer some by = inl by
 
-refuses : (app : App) (words : List Text) (error : Error) → length words ≢ 0 → IsAmong (kind_of error) (fault_of app words) → Refuses app words error
+version_asked : (app : App) (words : List Text) (order : Order) → length words ≢ 0 → IsAmong DisplayVersion (fault_of app words) →
+    order_view order ≡ version_order → Asks app words (Ok (order_view order))
+unfolding Asks
+version_asked app [] order some among is = absurd (some refl)
+version_asked app (word ∷ words) order some among is = inr (among, ap Ok is)
+
+refuses : (app : App) (words : List Text) (error : Error) → length words ≢ 0 → IsAmong (kind_of error) (fault_of app words) →
+    (kind_of error ≢ DisplayVersion) → Refuses app words error
 unfolding Refuses
-refuses app [] error some h = absurd (some refl)
-refuses app (word ∷ words) error some h = h
+refuses app [] error some among other = absurd (some refl)
+refuses app (word ∷ words) error some among other = (among, other)
 
 pub answered : (app : App) (words : List Text) (answer : Result OrderView Unfit) (result : Result Order WordsFault) → length words ≢ 0 →
-    fault_of app words ≡ []
-    → option_map (λ p. order_at p.0 p.1) (subcommand_of app words) ≡ Some answer → IsOrderOf result answer → AnswersBy app words result
-answered app words answer (Ok order) some fault is of = asked app words (Ok (order_view order)) some fault (is ∙ ap Some of)
-answered app words answer (Err Page) some fault is of = asked app words _ some fault (is ∙ ap Some of)
-answered app words answer (Err Time) some fault is of = asked app words _ some fault (is ∙ ap Some of)
-answered app words answer (Err Twice) some fault is of = asked app words _ some fault (is ∙ ap Some of)
-answered app words answer (Err (Refused error)) some fault is of = absurd of
-answered app words answer (Err NoMemory) some fault is of = absurd of
+    AsksByCommand app words answer → IsOrderOf result answer → AnswersBy app words result
+answered app words answer (Ok order) some by is = asked app words _ some (subst (λ (a : Result OrderView Unfit). AsksByCommand app words a) is by)
+answered app words answer (Err Page) some by is = asked app words _ some (subst (λ (a : Result OrderView Unfit). AsksByCommand app words a) is by)
+answered app words answer (Err Time) some by is = asked app words _ some (subst (λ (a : Result OrderView Unfit). AsksByCommand app words a) is by)
+answered app words answer (Err Twice) some by is = asked app words _ some (subst (λ (a : Result OrderView Unfit). AsksByCommand app words a) is by)
+answered app words answer (Err (Refused error)) some by is = absurd is
+answered app words answer (Err NoMemory) some by is = absurd is
 
-pub refused : (app : App) (words : List Text) (fault : WordsFault) → length words ≢ 0 → IsRefusalOf fault (fault_of app words) →
-    AnswersBy app words (Err fault)
-refused app words (Refused error) some h = refuses app words error some h
-refused app words Page some h = absurd h
-refused app words Time some h = absurd h
-refused app words Twice some h = absurd h
-refused app words NoMemory some h = tt
+pub refused : (app : App) (words : List Text) (fault : WordsFault) (result : Result Order WordsFault) → length words ≢ 0 →
+    IsRefusalOf fault (fault_of app words) → IsSettled fault result → AnswersBy app words result
+refused app words (Refused error) (Ok order) some h is =
+    version_asked app words order some (subst (λ (k : ErrorKind). IsAmong k (fault_of app words)) is.0 h) is.1
+refused app words (Refused error) (Err (Refused e)) some h is =
+    subst (λ (x : Error). Refuses app words x) (sym is.0) (refuses app words error some h is.1)
+refused app words (Refused error) (Err Page) some h is = absurd is
+refused app words (Refused error) (Err Time) some h is = absurd is
+refused app words (Refused error) (Err Twice) some h is = absurd is
+refused app words (Refused error) (Err NoMemory) some h is = absurd is
+refused app words Page result some h is = absurd h
+refused app words Time result some h is = absurd h
+refused app words Twice result some h is = absurd h
+refused app words NoMemory (Err NoMemory) some h is = tt
+refused app words NoMemory (Ok order) some h is = absurd is
+refused app words NoMemory (Err (Refused e)) some h is = absurd is
+refused app words NoMemory (Err Page) some h is = absurd is
+refused app words NoMemory (Err Time) some h is = absurd is
+refused app words NoMemory (Err Twice) some h is = absurd is
 
 -- ---- words without a fault name a command
 
@@ -87,7 +107,7 @@ needs_command false wants_argument false true n h = cc
 needs_command wants_help wants_argument false false n h = cc
 
 -- a level that needs a command and has no fault has one
-level_has : (s : Shape) (names : Names) (h : Held) (words : List Text) (has : Bool) (below : Kinds) → s.subcommand_required ≡ true →
+level_has : (s : Shape) (names : walk_words.Names) (h : Held) (words : List Text) (has : Bool) (below : Kinds) → s.subcommand_required ≡ true →
     level_fault s names h words has below ≡ [] → has ≡ true
 level_has s names h words has below n fault =
     let end = (walk s.rules names h words).held in
@@ -109,10 +129,10 @@ app_has a ws n fault =
     let stop = (walk (built a).top.rules (names_of (built a)) nothing_held words).stopped in
     level_has (built a).top (names_of (built a)) nothing_held words (is_some (entered (built a) stop)) (entered_fault (built a) stop) n fault
 
-needs : (kinds classes forms : NameList) → (built (ttx_app kinds classes forms)).top.subcommand_required ≡ true
+needs : (names : Names) → (built (ttx_app names)).top.subcommand_required ≡ true
 unfolding ttx_app
-needs kinds classes forms = refl
+needs names = refl
 
-pub has_command : (kinds classes forms : NameList) (ws : List Text) → fault_of (ttx_app kinds classes forms) ws ≡ []
-    → is_some (subcommand_of (ttx_app kinds classes forms) ws) ≡ true
-has_command kinds classes forms ws h = app_has (ttx_app kinds classes forms) ws (needs kinds classes forms) h
+pub has_command : (names : Names) (ws : List Text) → fault_of (ttx_app names) ws ≡ []
+    → is_some (subcommand_of (ttx_app names) ws) ≡ true
+has_command names ws h = app_has (ttx_app names) ws (needs names) h

@@ -1,3 +1,4 @@
 mod CommandLine
 mod Numerals
 mod Building
+mod Written

@@ -1,28 +1,19 @@
--- The arguments of commands as the code has them, and what `clap` is told of them.
+-- The commands and their arguments: the table from which the command line is made and read.
 --
---   id_of, takes_of, is_needed          an argument's name, what it takes, and whether an option has to be there
---   parser_taking            what the value of an option has to be, with the names that options of names take
---   option_rule, rule_taking, rule_of_argument         an option with a value, and any argument, as `clap` reads it
---   with_arguments           a command with arguments
---   name_of, arguments_of, app_of_command              a command's name and arguments, and the command as `clap` reads it
---   with_commands            a program with commands
---   IsBuiltAs                a command that is built of one
---   named_in                 the first command of a name, or `inspect`
-use Rattle.std.specs.Prelude.{◌≡◌, Bool, true, false, List, [], ◌∷◌, fold, Option, Some, None, codes, if◌then◌else◌}
+--   id_of, takes_of, is_needed     an argument's name, what it takes, and whether an option has to be there
+--   is_input                       whether it names an input
+--   name_of, arguments_of          a command's name and arguments
+--   named_in, command_named        the first command of a name in a list, or `inspect`; the same in the table
+use Rattle.std.specs.Prelude.{Bool, true, false, List, [], ◌∷◌, codes, if◌then◌else◌}
 use Rattle.std.specs.Str.{bytes_eq}
-use Rattle.clap.specs.Words.{App, Rule, Text, app_of, new_app, new_rule, with_rule, with_subcommand}
-use Rattle.clap.specs.declared.builder.command.Command.{Command}
-use Rattle.clap.specs.declared.builder.command.Command.TheViews.{out-Command}
-use Rattle.clap.specs.declared.builder.value_parser.ValueParser.{ValueParser}
-use Rattle.clap.specs.declared.builder.value_parser.ValueParser.TheVariants as parser
-use Rattle.ttx_arguments.specs.Grammar.{operand_rule, flag_rule}
+use Rattle.clap.specs.Words.{Text}
 use Rattle.ttx_arguments.specs.declared.arguments.Argument.{Argument}
 use Rattle.ttx_arguments.specs.declared.arguments.Argument.TheVariants as argument
 use Rattle.ttx_arguments.specs.declared.arguments.Takes.{Takes}
 use Rattle.ttx_arguments.specs.declared.arguments.Takes.TheVariants as takes
 use Rattle.ttx_arguments.specs.declared.command_names.CommandName.{CommandName}
 use Rattle.ttx_arguments.specs.declared.command_names.CommandName.TheVariants as command
-use Rattle.ttx_arguments.specs.declared.grammar.Names.{Names}
+use Rattle.ttx_arguments.specs.declared.command_names.TheConstants.{COMMANDS}
 
 abbrev pub id_of : Argument → Text
 id_of argument.File = codes "file"
@@ -60,23 +51,8 @@ id_of argument.Twice = codes "twice"
 id_of argument.Reveal = codes "reveal"
 id_of argument.Items = codes "items"
 
+-- Ranges of numbers are inclusive.
 abbrev pub takes_of : Argument → Takes
-takes_of argument.File = takes.Operand
-takes_of argument.Cycle = takes.Operand
-takes_of argument.Service = takes.Operand
-takes_of argument.Certificate = takes.Operand
-takes_of argument.Counter = takes.Operand
-takes_of argument.Page = takes.Operand
-takes_of argument.Planned = takes.Operand
-takes_of argument.Found = takes.Operand
-takes_of argument.Book = takes.Operand
-takes_of argument.Extracted = takes.Operand
-takes_of argument.Old = takes.Operand
-takes_of argument.New = takes.Operand
-takes_of argument.OldService = takes.Operand
-takes_of argument.NewService = takes.Operand
-takes_of argument.OldCertificate = takes.Operand
-takes_of argument.NewCertificate = takes.Operand
 takes_of argument.Class = takes.Class
 takes_of argument.Kind = takes.Kind
 takes_of argument.Form = takes.Form
@@ -95,69 +71,28 @@ takes_of argument.Late = takes.Nothing
 takes_of argument.Twice = takes.Nothing
 takes_of argument.Reveal = takes.Nothing
 takes_of argument.Items = takes.Nothing
+takes_of _ = takes.Operand
 
+-- an operand always has to be there
 abbrev pub is_needed : Argument → Bool
-is_needed argument.File = false
-is_needed argument.Cycle = false
-is_needed argument.Service = false
-is_needed argument.Certificate = false
-is_needed argument.Counter = false
-is_needed argument.Page = false
-is_needed argument.Planned = false
-is_needed argument.Found = false
-is_needed argument.Book = false
-is_needed argument.Extracted = false
-is_needed argument.Old = false
-is_needed argument.New = false
-is_needed argument.OldService = false
-is_needed argument.NewService = false
-is_needed argument.OldCertificate = false
-is_needed argument.NewCertificate = false
-is_needed argument.Class = false
-is_needed argument.Kind = false
-is_needed argument.Form = false
-is_needed argument.Repeat = false
-is_needed argument.Lines = false
 is_needed argument.NeededLines = true
-is_needed argument.Start = false
-is_needed argument.Slots = false
 is_needed argument.Fields = true
-is_needed argument.Phase = false
-is_needed argument.Offset = false
-is_needed argument.Save = false
 is_needed argument.At = true
-is_needed argument.PlannedLate = false
-is_needed argument.Late = false
-is_needed argument.Twice = false
-is_needed argument.Reveal = false
-is_needed argument.Items = false
+is_needed _ = false
 
-abbrev pub parser_taking : Names → Takes → Option ValueParser
-parser_taking names takes.Operand = None
-parser_taking names takes.Text = None
-parser_taking names (takes.Number low high) = Some (parser.Unsigned low high)
-parser_taking names takes.Kind = Some (parser.Names names.kinds)
-parser_taking names takes.Class = Some (parser.Names names.classes)
-parser_taking names takes.Form = Some (parser.Names names.forms)
-parser_taking names takes.Nothing = None
-
-abbrev pub option_rule : Text → Bool → Option ValueParser → Rule
-option_rule id needed parser = record (new_rule id) { long = Some id; value_names = 1; required = needed; parser = parser }
-
-abbrev pub rule_taking : Names → Text → Bool → Takes → Rule
-rule_taking names id needed takes.Operand = operand_rule id
-rule_taking names id needed takes.Nothing = flag_rule id
-rule_taking names id needed takes.Text = option_rule id needed None
-rule_taking names id needed (takes.Number low high) = option_rule id needed (Some (parser.Unsigned low high))
-rule_taking names id needed takes.Kind = option_rule id needed (Some (parser.Names names.kinds))
-rule_taking names id needed takes.Class = option_rule id needed (Some (parser.Names names.classes))
-rule_taking names id needed takes.Form = option_rule id needed (Some (parser.Names names.forms))
-
-abbrev pub rule_of_argument : Names → Argument → Rule
-rule_of_argument names argument = rule_taking names (id_of argument) (is_needed argument) (takes_of argument)
-
-abbrev pub with_arguments : Names → List Argument → App → App
-with_arguments names arguments app = fold (λ app argument. with_rule app (rule_of_argument names argument)) app arguments
+abbrev pub is_input : Argument → Bool
+is_input argument.File = true
+is_input argument.Cycle = true
+is_input argument.Service = true
+is_input argument.Certificate = true
+is_input argument.Counter = true
+is_input argument.Old = true
+is_input argument.New = true
+is_input argument.OldService = true
+is_input argument.NewService = true
+is_input argument.OldCertificate = true
+is_input argument.NewCertificate = true
+is_input _ = false
 
 abbrev pub name_of : CommandName → Text
 name_of command.Inspect = codes "inspect"
@@ -199,15 +134,10 @@ arguments_of command.Extract = argument.Cycle ∷ argument.Extracted ∷ argumen
 arguments_of command.Check = argument.Service ∷ []
 arguments_of command.Version = []
 
-abbrev pub app_of_command : Names → CommandName → App
-app_of_command names command = with_arguments names (arguments_of command) (new_app (name_of command))
-
-abbrev pub with_commands : Names → List CommandName → App → App
-with_commands names commands app = fold (λ app command. with_subcommand app (app_of_command names command).top) app commands
-
-abbrev pub IsBuiltAs : Command → App → Type 0
-IsBuiltAs c app = (app_of c ≡ app) × ((out-Command c).has_globals ≡ false)
-
 abbrev pub named_in : Text → List CommandName → CommandName
 named_in name [] = command.Inspect
 named_in name (command ∷ commands) = if bytes_eq name (name_of command) then command else named_in name commands
+
+-- `clap` takes no other names
+unfoldable pub command_named : Text → CommandName
+command_named name = named_in name COMMANDS

@@ -3,3 +3,4 @@ pub mod Orders
 pub mod PageNames
 pub mod Moments
 pub mod Arguments
+pub mod Examples

@@ -2,16 +2,15 @@
 --
 --   LookView, look_view      how a page is shown
 --   OrderView, order_view    an order, its texts as bytes
---   text_at, number_at       the text and the number that a parse gives an argument
+--   given_at, text_at, number_at            the text and the number that a parse gives an argument
 --   kind_named, class_named, form_named     a kind of receiver, a class and a form by its name
 --   is_set                   whether an option without a value is given
---   inputs, is_twice         the texts that name inputs; more than one of them is standard input
---   file_command_named, viewing_command_named, command_named        the command of a name, a part of them at a time
---   once, order_by, order_at        the order of a command with its values, or why there is none
+--   is_cycle_twice, is_twice        a cycle that is read twice, or more than one input, is standard input
+--   order_by, order_at       the order of a command with its values, or why there is none
 --   Asks                     what the program is asked for by words
 --   Refuses, Answers         what is answered for words
---   IsFaultOf                an error of `clap` by its own name
-use Rattle.std.specs.Prelude.{◌≡◌, ◌≢◌, ℕ, ◌*◌, Bool, ◌&&◌, List, [], ◌∷◌, ⊤, Option, Some, None, option_map, option_and_then, Result, Ok, Err, codes}
+--   IsFaultOf, IsSettled     an error of `clap` by its own name, and what is made of it
+use Rattle.std.specs.Prelude.{◌≡◌, ◌≢◌, ◌≤◌, ◌⊎◌, ℕ, Bool, ◌&&◌, ◌||◌, List, [], ◌∷◌, ⊤, Option, Some, None, option_map, option_and_then, Result, Ok, Err, codes}
 use Rattle.std.specs.Prelude.{unwrap_or, length, count_by, nat_lt, nat_le, if◌then◌else◌}
 use Rattle.std.specs.List.{list_all}
 use Rattle.std.specs.Str.{bytes_eq}
@@ -19,11 +18,17 @@ use Rattle.std.specs.Str.Parse.{digits_value, without_leading_plus}
 use Rattle.std.specs.Char.{digit_value}
 use Rattle.clap.specs.Words.{App, Row, Text, Kinds, IsAmong, first_of, subcommand_of, fault_of, kind_of}
 use Rattle.clap.specs.declared.error.Error.{Error}
-use Rattle.clap.specs.declared.error.kind.ErrorKind.TheVariants.{OutOfMemory}
+use Rattle.clap.specs.declared.error.kind.ErrorKind.TheVariants.{OutOfMemory, DisplayVersion}
 use Rattle.ttx_page.specs.declared.class.Class.{Class}
 use Rattle.ttx_page.specs.declared.class.Class.TheVariants.{Any, Clearing}
 use Rattle.ttx_page.specs.declared.selection.Selection.{Selection}
-use Rattle.ttx_arguments.specs.Grammar.{NameList, AreNames, kind_names, class_names, form_names, ttx_app}
+use Rattle.ttx_arguments.specs.Arguments.{id_of, takes_of, is_input, arguments_of, command_named}
+use Rattle.ttx_arguments.specs.Grammar.{HasNames, ttx_app}
+use Rattle.ttx_arguments.specs.declared.arguments.Argument.{Argument}
+use Rattle.ttx_arguments.specs.declared.arguments.Argument.TheVariants as argument
+use Rattle.ttx_arguments.specs.declared.arguments.Takes.{Takes}
+use Rattle.ttx_arguments.specs.declared.arguments.Takes.TheVariants as takes
+use Rattle.ttx_arguments.specs.declared.grammar.Names.{Names}
 use Rattle.ttx_arguments.specs.PageNames.{selection_of}
 use Rattle.ttx_arguments.specs.Moments.{moment_of}
 use Rattle.ttx_picture.specs.declared.forms.Form.{Form}
@@ -89,9 +94,13 @@ order_view (Extract cycle out lines) = extract_order cycle.now out.now lines
 order_view (Check service) = check_order service.now
 order_view Version = version_order
 
--- the text that an argument was given; a parse gives one to each operand
-abbrev pub text_at : Text → List Row → Text
-text_at id rows = unwrap_or (first_of id rows) []
+-- the text that an argument was given
+abbrev pub given_at : Argument → List Row → Option Text
+given_at argument rows = first_of (id_of argument) rows
+
+-- A parse gives one to each operand.
+abbrev pub text_at : Argument → List Row → Text
+text_at argument rows = unwrap_or (given_at argument rows) []
 
 -- decimal digits, after a plus or not
 abbrev pub is_numeral : List ℕ → Bool
@@ -103,14 +112,24 @@ numeral text =
     let digits = without_leading_plus text in
     if is_numeral digits && nat_lt (digits_value 10 digits) 4294967296 then Some (digits_value 10 digits) else None
 
--- a number from low to high, or the default
-abbrev pub within : ℕ → ℕ → ℕ → Option ℕ → ℕ
-within low high default None = default
-within low high default (Some number) = if nat_le low number && nat_le number high then number else default
+-- a number in the range that an option takes
+abbrev pub IsInside : Takes → ℕ → Type 0
+IsInside (takes.Number low high) number = (low ≤ number) × (number ≤ high)
+IsInside _ number = ⊤
 
--- The number that an argument was given, or its default. Texts that are no number from low to high are refused by `clap`.
-abbrev pub number_at : Text → ℕ → ℕ → ℕ → List Row → ℕ
-number_at id low high default rows = within low high default (option_and_then numeral (first_of id rows))
+abbrev pub within : Takes → ℕ → Option ℕ → ℕ
+within (takes.Number low high) default (Some number) = if nat_le low number && nat_le number high then number else default
+within _ default _ = default
+
+-- The number that an option was given, or its default. Texts that are no number in its range are refused by `clap`.
+abbrev pub number_at : Argument → ℕ → List Row → ℕ
+number_at argument default rows = within (takes_of argument) default (option_and_then numeral (given_at argument rows))
+
+abbrev pub repeat_at : List Row → ℕ
+repeat_at rows = number_at argument.Repeat 1 rows
+
+abbrev pub lines_at : List Row → ℕ
+lines_at rows = number_at argument.Lines 16 rows
 
 -- eager unless it is another
 abbrev pub kind_named : Text → ReceiverKind
@@ -132,8 +151,8 @@ form_named name =
     else form.Ansi
 
 -- A parse gives `true` to an option without a value where it is there, and else `false`.
-abbrev pub is_set : Text → List Row → Bool
-is_set id rows = bytes_eq (text_at id rows) (codes "true")
+abbrev pub is_set : Argument → List Row → Bool
+is_set argument rows = bytes_eq (text_at argument rows) (codes "true")
 
 -- why words that `clap` takes ask for nothing
 pub data Unfit : Type 0 where
@@ -144,173 +163,124 @@ pub data Unfit : Type 0 where
 abbrev pub tuning_asked : Selection → List Row → Tuning
 tuning_asked selection rows = record {
   selection = selection;
-  lines = number_at (codes "lines") 1 32 16 rows;
-  start = number_at (codes "start") 0 65535 0 rows;
-  slots = number_at (codes "slots") 0 1000000 5000 rows;
-  kind = kind_named (text_at (codes "kind") rows);
+  lines = lines_at rows;
+  start = number_at argument.Start 0 rows;
+  slots = number_at argument.Slots 5000 rows;
+  kind = kind_named (text_at argument.Kind rows);
 }
 
 abbrev pub receive_by : Option Selection → List Row → Result OrderView Unfit
 receive_by None rows = Err no_page
-receive_by (Some selection) rows = Ok (receive_order (text_at (codes "cycle") rows) (tuning_asked selection rows))
+receive_by (Some selection) rows = Ok (receive_order (text_at argument.Cycle rows) (tuning_asked selection rows))
 
 abbrev pub look_at : List Row → LookView
-look_at rows = record { page = text_at (codes "page") rows; form = form_named (text_at (codes "as") rows); reveal = is_set (codes "reveal") rows }
+look_at rows = record { page = text_at argument.Page rows; form = form_named (text_at argument.Form rows); reveal = is_set argument.Reveal rows }
 
 abbrev pub show_by : Option Selection → List Row → Result OrderView Unfit
 show_by None rows = Err no_page
-show_by (Some selection) rows = Ok (show_order (text_at (codes "cycle") rows) (tuning_asked selection rows) (look_at rows))
+show_by (Some selection) rows = Ok (show_order (text_at argument.Cycle rows) (tuning_asked selection rows) (look_at rows))
 
 abbrev pub preview_by : Option Selection → List Row → Result OrderView Unfit
 preview_by None rows = Err no_page
-preview_by (Some selection) rows = Ok (preview_order (text_at (codes "service") rows) selection (look_at rows))
+preview_by (Some selection) rows = Ok (preview_order (text_at argument.Service rows) selection (look_at rows))
 
 abbrev pub inspect_at : List Row → OrderView
-inspect_at rows = inspect_order (text_at (codes "file") rows)
+inspect_at rows = inspect_order (text_at argument.File rows)
 
 abbrev pub plan_at : List Row → OrderView
 plan_at rows =
-    plan_order (text_at (codes "service") rows) (text_at (codes "out") rows) (class_named (text_at (codes "class") rows)) (is_set (codes "late") rows)
+    plan_order (text_at argument.Service rows) (text_at argument.Planned rows) (class_named (text_at argument.Class rows)) (is_set argument.PlannedLate rows)
 
 abbrev pub find_at : List Row → OrderView
 find_at rows =
-    find_order (text_at (codes "cycle") rows) (text_at (codes "service") rows) (text_at (codes "out") rows)
-    (number_at (codes "repeat") 1 8 1 rows) (class_named (text_at (codes "class") rows))
+    find_order (text_at argument.Cycle rows) (text_at argument.Service rows) (text_at argument.Found rows)
+    (repeat_at rows) (class_named (text_at argument.Class rows))
 
 abbrev pub certify_at : List Row → OrderView
 certify_at rows =
-    certify_order (text_at (codes "cycle") rows) (text_at (codes "service") rows) (text_at (codes "certificate") rows)
-    (is_set (codes "late") rows) (is_set (codes "twice") rows)
+    certify_order (text_at argument.Cycle rows) (text_at argument.Service rows) (text_at argument.Certificate rows)
+    (is_set argument.Late rows) (is_set argument.Twice rows)
 
 abbrev pub refute_at : List Row → OrderView
 refute_at rows =
-    refute_order (text_at (codes "cycle") rows) (text_at (codes "service") rows) (text_at (codes "certificate") rows) (first_of (codes "save") rows)
+    refute_order (text_at argument.Cycle rows) (text_at argument.Service rows) (text_at argument.Certificate rows) (given_at argument.Save rows)
 
 abbrev pub replay_at : List Row → OrderView
-replay_at rows = replay_order (text_at (codes "cycle") rows) (text_at (codes "service") rows) (text_at (codes "counter") rows)
+replay_at rows = replay_order (text_at argument.Cycle rows) (text_at argument.Service rows) (text_at argument.Counter rows)
 
 abbrev pub receive_at : List Row → Result OrderView Unfit
-receive_at rows = receive_by (selection_of (text_at (codes "page") rows)) rows
+receive_at rows = receive_by (selection_of (text_at argument.Page rows)) rows
 
 abbrev pub show_at : List Row → Result OrderView Unfit
-show_at rows = show_by (selection_of (text_at (codes "page") rows)) rows
+show_at rows = show_by (selection_of (text_at argument.Page rows)) rows
 
 abbrev pub preview_at : List Row → Result OrderView Unfit
-preview_at rows = preview_by (selection_of (text_at (codes "page") rows)) rows
+preview_at rows = preview_by (selection_of (text_at argument.Page rows)) rows
 
 abbrev pub splice_asked : List Row → OrderView
 splice_asked rows =
-    splice_order (text_at (codes "old") rows) (text_at (codes "new") rows) (text_at (codes "old_service") rows) (text_at (codes "new_service") rows)
-    (text_at (codes "old_certificate") rows) (text_at (codes "new_certificate") rows)
+    splice_order (text_at argument.Old rows) (text_at argument.New rows) (text_at argument.OldService rows) (text_at argument.NewService rows)
+    (text_at argument.OldCertificate rows) (text_at argument.NewCertificate rows)
 
 abbrev pub wait_at : List Row → OrderView
 wait_at rows =
-    wait_order (text_at (codes "cycle") rows) (text_at (codes "service") rows) (number_at (codes "repeat") 1 8 1 rows)
-    (class_named (text_at (codes "class") rows)) (is_set (codes "items") rows)
+    wait_order (text_at argument.Cycle rows) (text_at argument.Service rows) (repeat_at rows)
+    (class_named (text_at argument.Class rows)) (is_set argument.Items rows)
 
 abbrev pub pages_at : List Row → OrderView
-pages_at rows = pages_order (text_at (codes "cycle") rows)
+pages_at rows = pages_order (text_at argument.Cycle rows)
 
 abbrev pub book_at : List Row → OrderView
-book_at rows = book_order (text_at (codes "cycle") rows) (text_at (codes "out") rows)
+book_at rows = book_order (text_at argument.Cycle rows) (text_at argument.Book rows)
 
 abbrev pub extract_at : List Row → OrderView
-extract_at rows = extract_order (text_at (codes "cycle") rows) (text_at (codes "out") rows) (number_at (codes "lines") 1 32 16 rows)
+extract_at rows = extract_order (text_at argument.Cycle rows) (text_at argument.Extracted rows) (lines_at rows)
 
 abbrev pub check_at : List Row → OrderView
-check_at rows = check_order (text_at (codes "service") rows)
+check_at rows = check_order (text_at argument.Service rows)
 
--- an offset counts half hours
 abbrev pub sending_at : ℕ × ℕ → List Row → Sending
-sending_at moment rows = record {
-  mjd = moment.0;
-  second = moment.1;
-  ahead = 1800 * number_at (codes "offset") 0 47 0 rows;
-  lines = number_at (codes "lines") 1 32 16 rows;
-  phase = number_at (codes "phase") 0 4294967295 0 rows;
-  fields = number_at (codes "fields") 0 4294967295 0 rows;
+sending_at start rows = record {
+  start = start;
+  offset = number_at argument.Offset 0 rows;
+  lines = lines_at rows;
+  phase = number_at argument.Phase 0 rows;
+  fields = number_at argument.Fields 0 rows;
 }
 
 abbrev pub send_by : Option (ℕ × ℕ) → List Row → Result OrderView Unfit
 send_by None rows = Err no_time
-send_by (Some moment) rows = Ok (send_order (text_at (codes "cycle") rows) (sending_at moment rows))
+send_by (Some moment) rows = Ok (send_order (text_at argument.Cycle rows) (sending_at moment rows))
 
 abbrev pub send_at : List Row → Result OrderView Unfit
-send_at rows = send_by (moment_of (text_at (codes "at") rows)) rows
+send_at rows = send_by (moment_of (text_at argument.At rows)) rows
 
--- the texts that name inputs
-abbrev pub inputs : OrderView → List Text
-inputs (inspect_order file) = file ∷ []
-inputs (plan_order service out class late) = service ∷ []
-inputs (find_order cycle service out repeat class) = cycle ∷ service ∷ []
-inputs (certify_order cycle service certificate late twice) = cycle ∷ service ∷ certificate ∷ (if twice then cycle ∷ [] else [])
-inputs (refute_order cycle service certificate save) = cycle ∷ service ∷ certificate ∷ []
-inputs (replay_order cycle service counter) = cycle ∷ service ∷ counter ∷ []
-inputs (receive_order cycle tuning) = cycle ∷ []
-inputs (show_order cycle tuning look) = cycle ∷ []
-inputs (preview_order service selection look) = service ∷ []
-inputs (splice_order old new old_service new_service old_certificate new_certificate) =
-    old ∷ new ∷ old_service ∷ new_service ∷ old_certificate ∷ new_certificate ∷ []
-inputs (wait_order cycle service repeat class items) = cycle ∷ service ∷ []
-inputs (send_order cycle sending) = cycle ∷ []
-inputs (pages_order cycle) = cycle ∷ []
-inputs (book_order cycle out) = cycle ∷ []
-inputs (extract_order cycle out lines) = cycle ∷ []
-inputs (check_order service) = service ∷ []
-inputs version_order = []
+abbrev pub is_standard : Argument → List Row → Bool
+is_standard argument rows = bytes_eq (text_at argument rows) (codes "-")
 
--- more than one of them is standard input
-abbrev pub is_twice : OrderView → Bool
-is_twice order = nat_lt 1 (count_by (λ name. bytes_eq name (codes "-")) (inputs order))
+-- With `--twice` the cycle is read twice.
+abbrev pub is_cycle_twice : List Row → Bool
+is_cycle_twice rows = is_set argument.Twice rows && is_standard argument.Cycle rows
 
--- the order of a command with more inputs than one
-abbrev pub once : OrderView → Result OrderView Unfit
-once order = if is_twice order then Err named_twice else Ok order
-
--- the command of a name, of those that take one file as it is, or none
-unfoldable pub file_command_named : Text → CommandName
-file_command_named name =
-    if bytes_eq name (codes "send") then command.Send
-    else if bytes_eq name (codes "pages") then command.Pages
-    else if bytes_eq name (codes "book") then command.Book
-    else if bytes_eq name (codes "extract") then command.Extract
-    else if bytes_eq name (codes "check") then command.Check
-    else if bytes_eq name (codes "version") then command.Version
-    else command.Inspect
-
--- the command of a name, of those that tell what viewers get, or of these
-unfoldable pub viewing_command_named : Text → CommandName
-viewing_command_named name =
-    if bytes_eq name (codes "receive") then command.Receive
-    else if bytes_eq name (codes "show") then command.Show
-    else if bytes_eq name (codes "preview") then command.Preview
-    else if bytes_eq name (codes "splice") then command.Splice
-    else if bytes_eq name (codes "wait") then command.Wait
-    else file_command_named name
-
--- the command of a name; `clap` takes no others
-unfoldable pub command_named : Text → CommandName
-command_named name =
-    if bytes_eq name (codes "plan") then command.Plan
-    else if bytes_eq name (codes "find") then command.Find
-    else if bytes_eq name (codes "certify") then command.Certify
-    else if bytes_eq name (codes "refute") then command.Refute
-    else if bytes_eq name (codes "replay") then command.Replay
-    else viewing_command_named name
+-- more than one input is standard input, or a cycle that is read twice
+abbrev pub is_twice : CommandName → List Row → Bool
+is_twice command rows =
+    nat_lt 1 (count_by (λ a. is_input a && is_standard a rows) (arguments_of command))
+    || is_cycle_twice rows
 
 -- the order of a command with its values
 abbrev pub order_by : CommandName → List Row → Result OrderView Unfit
 order_by command.Inspect rows = Ok (inspect_at rows)
 order_by command.Plan rows = Ok (plan_at rows)
-order_by command.Find rows = once (find_at rows)
-order_by command.Certify rows = once (certify_at rows)
-order_by command.Refute rows = once (refute_at rows)
-order_by command.Replay rows = once (replay_at rows)
+order_by command.Find rows = Ok (find_at rows)
+order_by command.Certify rows = Ok (certify_at rows)
+order_by command.Refute rows = Ok (refute_at rows)
+order_by command.Replay rows = Ok (replay_at rows)
 order_by command.Receive rows = receive_at rows
 order_by command.Show rows = show_at rows
 order_by command.Preview rows = preview_at rows
-order_by command.Splice rows = once (splice_asked rows)
-order_by command.Wait rows = once (wait_at rows)
+order_by command.Splice rows = Ok (splice_asked rows)
+order_by command.Wait rows = Ok (wait_at rows)
 order_by command.Send rows = send_at rows
 order_by command.Pages rows = Ok (pages_at rows)
 order_by command.Book rows = Ok (book_at rows)
@@ -318,20 +288,30 @@ order_by command.Extract rows = Ok (extract_at rows)
 order_by command.Check rows = Ok (check_at rows)
 order_by command.Version rows = Ok version_order
 
-unfoldable pub order_at : Text → List Row → Result OrderView Unfit
-order_at name rows = order_by (command_named name) rows
+abbrev pub once : CommandName → List Row → Result OrderView Unfit
+once command rows = if is_twice command rows then Err named_twice else order_by command rows
 
--- no words at all ask for `inspect -`, and words that `clap` takes for their command with its values
+unfoldable pub order_at : Text → List Row → Result OrderView Unfit
+order_at name rows = once (command_named name) rows
+
+-- words that `clap` takes ask for their command with its values
+abbrev pub AsksByCommand : App → List Text → Result OrderView Unfit → Type 0
+AsksByCommand app words answer =
+    (fault_of app words ≡ []) × (option_map (λ p. order_at p.0 p.1) (subcommand_of app words) ≡ Some answer)
+
+-- `--version` and `-V` ask for what the command `version` does
+abbrev pub AsksForVersion : App → List Text → Result OrderView Unfit → Type 0
+AsksForVersion app words answer = IsAmong DisplayVersion (fault_of app words) × (answer ≡ Ok version_order)
+
+-- no words at all ask for `inspect -`
 unfoldable pub Asks : App → List Text → Result OrderView Unfit → Type 0
 Asks app [] answer = answer ≡ Ok (inspect_order (codes "-"))
-Asks app (word ∷ words) answer =
-    (fault_of app (word ∷ words) ≡ [])
-    × (option_map (λ p. order_at p.0 p.1) (subcommand_of app (word ∷ words)) ≡ Some answer)
+Asks app (word ∷ words) answer = AsksByCommand app (word ∷ words) answer ⊎ AsksForVersion app (word ∷ words) answer
 
 -- the kind of an error of `clap` is one of the faults that it finds in the words, and there are some
 unfoldable pub Refuses : App → List Text → Error → Type 0
 Refuses app [] error = ⊥
-Refuses app (word ∷ words) error = IsAmong (kind_of error) (fault_of app (word ∷ words))
+Refuses app (word ∷ words) error = IsAmong (kind_of error) (fault_of app (word ∷ words)) × (kind_of error ≢ DisplayVersion)
 
 abbrev pub AnswersBy : App → List Text → Result Order WordsFault → Type 0
 AnswersBy app words (Ok order) = Asks app words (Ok (order_view order))
@@ -343,9 +323,7 @@ AnswersBy app words (Err NoMemory) = ⊤
 
 -- The same with the names that `--kind`, `--class` and `--as` take.
 abbrev pub Answers : List Text → Result Order WordsFault → Type 0
-Answers words result =
-    (kinds classes forms : NameList) × AreNames kinds kind_names × AreNames classes class_names × AreNames forms form_names
-    × AnswersBy (ttx_app kinds classes forms) words result
+Answers words result = (names : Names) × HasNames names × AnswersBy (ttx_app names) words result
 
 -- an order, or the fault of words that ask for nothing
 abbrev pub IsOrderOf : Result Order WordsFault → Result OrderView Unfit → Type 0
@@ -371,3 +349,13 @@ IsFaultOf Page e = ⊥
 IsFaultOf Time e = ⊥
 IsFaultOf Twice e = ⊥
 IsFaultOf NoMemory e = kind_of e ≡ OutOfMemory
+
+-- what `clap` refuses stays refused, but for the version, which is an order
+abbrev pub IsSettled : WordsFault → Result Order WordsFault → Type 0
+IsSettled (Refused error) (Ok order) = (kind_of error ≡ DisplayVersion) × (order_view order ≡ version_order)
+IsSettled (Refused error) (Err (Refused e)) = (e ≡ error) × (kind_of error ≢ DisplayVersion)
+IsSettled NoMemory (Err NoMemory) = ⊤
+IsSettled Page (Err Page) = ⊤
+IsSettled Time (Err Time) = ⊤
+IsSettled Twice (Err Twice) = ⊤
+IsSettled _ _ = ⊥

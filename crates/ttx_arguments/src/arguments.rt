@@ -176,22 +176,6 @@ impl Argument {
         ensures { result ≡ rule.takes_of self }
     {
         match self {
-            Argument::File
-            | Argument::Cycle
-            | Argument::Service
-            | Argument::Certificate
-            | Argument::Counter
-            | Argument::Page
-            | Argument::Planned
-            | Argument::Found
-            | Argument::Book
-            | Argument::Extracted
-            | Argument::Old
-            | Argument::New
-            | Argument::OldService
-            | Argument::NewService
-            | Argument::OldCertificate
-            | Argument::NewCertificate => Takes::Operand,
             Argument::Class => Takes::Class,
             Argument::Kind => Takes::Kind,
             Argument::Form => Takes::Form,
@@ -207,15 +191,36 @@ impl Argument {
             | Argument::Twice
             | Argument::Reveal
             | Argument::Items => Takes::Nothing,
+            _ => Takes::Operand,
         }
     }
 
-    /// Whether it has to be there.
+    /// Whether an option has to be there.
     pub(crate) fn is_needed(self) -> bool
         ensures { result ≡ rule.is_needed self }
     {
         match self {
             Argument::At | Argument::Fields | Argument::NeededLines => true,
+            _ => false,
+        }
+    }
+
+    /// Whether it names an input.
+    pub(crate) fn is_input(self) -> bool
+        ensures { result ≡ rule.is_input self }
+    {
+        match self {
+            Argument::File
+            | Argument::Cycle
+            | Argument::Service
+            | Argument::Certificate
+            | Argument::Counter
+            | Argument::Old
+            | Argument::New
+            | Argument::OldService
+            | Argument::NewService
+            | Argument::OldCertificate
+            | Argument::NewCertificate => true,
             _ => false,
         }
     }

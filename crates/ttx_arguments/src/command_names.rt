@@ -78,23 +78,32 @@ impl CommandName {
     /// What help says of it above its arguments.
     pub(crate) fn about<'a>(self) -> &'a str {
         match self {
-            CommandName::Inspect => help::INSPECT,
-            CommandName::Plan => help::PLAN,
-            CommandName::Find => help::FIND,
-            CommandName::Certify => help::CERTIFY,
-            CommandName::Refute => help::REFUTE,
-            CommandName::Replay => help::REPLAY,
-            CommandName::Receive => help::RECEIVE,
-            CommandName::Show => help::SHOW,
-            CommandName::Preview => help::PREVIEW,
-            CommandName::Splice => help::SPLICE,
-            CommandName::Wait => help::WAIT,
-            CommandName::Send => help::SEND,
-            CommandName::Pages => help::PAGES,
-            CommandName::Book => help::BOOK,
-            CommandName::Extract => help::EXTRACT,
-            CommandName::Check => help::CHECK,
-            CommandName::Version => help::VERSION,
+            CommandName::Inspect =>
+                "Writes one line for each slot of a packet file to standard output",
+            CommandName::Plan => "Lays out a service as a cycle of slots, and writes it to OUT",
+            CommandName::Find =>
+                "Finds the certificate with the least deadline, and writes it to OUT",
+            CommandName::Certify => "Judges a cycle and its service by a certificate, yes or no",
+            CommandName::Refute => "Looks for a receiver that fails to show a page (a counter-run)",
+            CommandName::Replay =>
+                "Replays a counter-run of refute, and shows where the page is wrong",
+            CommandName::Receive =>
+                "Receives a page of a cycle, and writes the cells that are displayed",
+            CommandName::Show => "Receives a page of a cycle, and writes it as it is displayed",
+            CommandName::Preview =>
+                "Writes a page of a service as it is displayed when received whole",
+            CommandName::Splice => "Judges the change from an old cycle to a new one, yes or no",
+            CommandName::Wait =>
+                "Says how long viewers of each page wait at most, and for which item",
+            CommandName::Send => "Sends a cycle again and again, with the time, to standard output",
+            CommandName::Pages =>
+                "Lists the pages of a cycle, and what is sent under their headers",
+            CommandName::Book => "Writes all pages of a cycle to OUT, as one HTML file",
+            CommandName::Extract => "Writes the service definition that a cycle sends to OUT",
+            CommandName::Check =>
+                "Reports what is wrong, or probably wrong, in the text of a service",
+            CommandName::Version =>
+                "Writes the version, and the kit and the logic by which it is proved",
         }
     }
 

@@ -1,43 +1,66 @@
 //! The orders of the commands.
 
-ghost use Rattle.std.specs.Prelude.{◌≡◌, nat_lt, count_by, codes};
-ghost use Rattle.std.specs.Str.{bytes_eq};
+ghost use Rattle.std.specs.Prelude.{◌≡◌, count_by, ◌&&◌};
 ghost use Rattle.clap.specs.Words.{rows_of, found_of};
+ghost use Rattle.ttx_arguments.specs.Arguments.{is_input};
+ghost use Rattle.ttx_arguments.specs.Orders as rule;
 ghost use Rattle.ttx_arguments.specs.Orders.{order_view, inspect_at, plan_at, find_at, certify_at, refute_at, replay_at, receive_at, show_at};
-ghost use Rattle.ttx_arguments.specs.Orders.{preview_at, splice_asked, wait_at, send_at, pages_at, book_at, extract_at, check_at, once, IsOrderOf};
-ghost use Rattle.ttx_arguments.specs.Orders.{text_at};
+ghost use Rattle.ttx_arguments.specs.Orders.{preview_at, splice_asked, wait_at, send_at, pages_at, book_at, extract_at, check_at, IsOrderOf};
+ghost use Rattle.ttx_arguments.specs.Orders.{is_standard, is_cycle_twice};
 
-use crate::moments::moment;
+use crate::arguments::Argument;
+use crate::command_names::CommandName;
+use crate::moments::moment_of;
 use crate::orders::{
     CertifyOrder, FindOrder, Order, PlanOrder, RefuteOrder, ReplayOrder, SpliceOrder, WaitOrder,
     WordsFault,
 };
 use crate::page_names::selection;
 use crate::values::{
-    class_of, given, given_number, is_set, look_of, sending_of, text_of, tuning_of, within,
+    class_of, given, is_set, lines_of, look_of, repeat_of, sending_of, text_of, tuning_of,
 };
 use clap::ArgMatches;
 
-// Whether more than one of these inputs is standard input.
-fn is_twice(values: &ArgMatches<'_>, inputs: &[&str]) -> bool
-    ensures { result ≡ nat_lt 1 (count_by (λ id. bytes_eq (text_at id.now (rows_of (found_of values.now))) (codes "-")) inputs.now) }
+fn is_standard(values: &ArgMatches<'_>, argument: Argument) -> bool
+    ensures { result ≡ is_standard argument (rows_of (found_of values.now)) }
+{
+    text_of(values, argument) == "-"
+}
+
+// How many of these arguments are inputs and name standard input.
+fn standard_inputs(values: &ArgMatches<'_>, arguments: &[Argument]) -> usize
+    ensures { result ≡ count_by (λ a. is_input a && is_standard a (rows_of (found_of values.now))) arguments.now }
 {
     let mut count: usize = 0;
-    for id in inputs {
-        if text_of(values, id) == "-" {
+    for argument in arguments {
+        if argument.is_input() && is_standard(values, *argument) {
             count += 1;
         }
     }
-    count > 1
+    count
+}
+
+// Whether a cycle that is read twice is standard input.
+fn is_cycle_twice(values: &ArgMatches<'_>) -> bool
+    ensures { result ≡ is_cycle_twice (rows_of (found_of values.now)) }
+{
+    is_set(values, Argument::Twice) && is_standard(values, Argument::Cycle)
+}
+
+// Whether more than one input of a command is standard input, or a cycle that is read twice.
+pub(crate) fn is_twice(command: CommandName, values: &ArgMatches<'_>) -> bool
+    ensures { result ≡ rule.is_twice command (rows_of (found_of values.now)) }
+{
+    standard_inputs(values, command.arguments()) > 1 || is_cycle_twice(values)
 }
 
 pub(crate) fn receive_of<'a>(values: &ArgMatches<'a>) -> Result<Order<'a>, WordsFault>
     ensures { IsOrderOf result (receive_at (rows_of (found_of values.now))) }
 {
-    match selection(text_of(values, "page")) {
+    match selection(text_of(values, Argument::Page)) {
         None => Err(WordsFault::Page),
         Some(selection) => Ok(Order::Receive {
-            cycle: text_of(values, "cycle"),
+            cycle: text_of(values, Argument::Cycle),
             tuning: tuning_of(values, selection),
         }),
     }
@@ -46,10 +69,10 @@ pub(crate) fn receive_of<'a>(values: &ArgMatches<'a>) -> Result<Order<'a>, Words
 pub(crate) fn show_of<'a>(values: &ArgMatches<'a>) -> Result<Order<'a>, WordsFault>
     ensures { IsOrderOf result (show_at (rows_of (found_of values.now))) }
 {
-    match selection(text_of(values, "page")) {
+    match selection(text_of(values, Argument::Page)) {
         None => Err(WordsFault::Page),
         Some(selection) => Ok(Order::Show {
-            cycle: text_of(values, "cycle"),
+            cycle: text_of(values, Argument::Cycle),
             tuning: tuning_of(values, selection),
             look: look_of(values),
         }),
@@ -59,10 +82,10 @@ pub(crate) fn show_of<'a>(values: &ArgMatches<'a>) -> Result<Order<'a>, WordsFau
 pub(crate) fn preview_of<'a>(values: &ArgMatches<'a>) -> Result<Order<'a>, WordsFault>
     ensures { IsOrderOf result (preview_at (rows_of (found_of values.now))) }
 {
-    match selection(text_of(values, "page")) {
+    match selection(text_of(values, Argument::Page)) {
         None => Err(WordsFault::Page),
         Some(selection) => Ok(Order::Preview {
-            service: text_of(values, "service"),
+            service: text_of(values, Argument::Service),
             selection,
             look: look_of(values),
         }),
@@ -73,10 +96,10 @@ pub(crate) fn plan_of<'a>(values: &ArgMatches<'a>) -> Order<'a>
     ensures { order_view result ≡ plan_at (rows_of (found_of values.now)) }
 {
     Order::Plan(PlanOrder {
-        service: text_of(values, "service"),
-        out: text_of(values, "out"),
+        service: text_of(values, Argument::Service),
+        out: text_of(values, Argument::Planned),
         class: class_of(values),
-        late: is_set(values, "late"),
+        late: is_set(values, Argument::PlannedLate),
     })
 }
 
@@ -84,154 +107,85 @@ pub(crate) fn inspect_of<'a>(values: &ArgMatches<'a>) -> Order<'a>
     ensures { order_view result ≡ inspect_at (rows_of (found_of values.now)) }
 {
     Order::Inspect {
-        file: text_of(values, "file"),
+        file: text_of(values, Argument::File),
     }
 }
 
-fn find_order<'a>(values: &ArgMatches<'a>) -> Order<'a>
+pub(crate) fn find_of<'a>(values: &ArgMatches<'a>) -> Order<'a>
     ensures { order_view result ≡ find_at (rows_of (found_of values.now)) }
 {
     Order::Find(FindOrder {
-        cycle: text_of(values, "cycle"),
-        service: text_of(values, "service"),
-        out: text_of(values, "out"),
-        repeat: within(given_number(values, "repeat"), 1, 8, 1) as u8,
+        cycle: text_of(values, Argument::Cycle),
+        service: text_of(values, Argument::Service),
+        out: text_of(values, Argument::Found),
+        repeat: repeat_of(values),
         class: class_of(values),
     })
 }
 
-pub(crate) fn find_of<'a>(values: &ArgMatches<'a>) -> Result<Order<'a>, WordsFault>
-    ensures { IsOrderOf result (once (find_at (rows_of (found_of values.now)))) }
-{
-    if is_twice(values, &["cycle", "service"]) {
-        return Err(WordsFault::Twice);
-    }
-    Ok(find_order(values))
-}
-
-fn certify_order<'a>(values: &ArgMatches<'a>) -> Order<'a>
+pub(crate) fn certify_of<'a>(values: &ArgMatches<'a>) -> Order<'a>
     ensures { order_view result ≡ certify_at (rows_of (found_of values.now)) }
 {
     Order::Certify(CertifyOrder {
-        cycle: text_of(values, "cycle"),
-        service: text_of(values, "service"),
-        certificate: text_of(values, "certificate"),
-        late: is_set(values, "late"),
-        twice: is_set(values, "twice"),
+        cycle: text_of(values, Argument::Cycle),
+        service: text_of(values, Argument::Service),
+        certificate: text_of(values, Argument::Certificate),
+        late: is_set(values, Argument::Late),
+        twice: is_set(values, Argument::Twice),
     })
 }
 
-pub(crate) fn certify_of<'a>(values: &ArgMatches<'a>) -> Result<Order<'a>, WordsFault>
-    ensures { IsOrderOf result (once (certify_at (rows_of (found_of values.now)))) }
-{
-    let inputs: &[&str] = if is_set(values, "twice") {
-        &["cycle", "service", "certificate", "cycle"]
-    } else {
-        &["cycle", "service", "certificate"]
-    };
-    if is_twice(values, inputs) {
-        return Err(WordsFault::Twice);
-    }
-    Ok(certify_order(values))
-}
-
-fn refute_order<'a>(values: &ArgMatches<'a>) -> Order<'a>
+pub(crate) fn refute_of<'a>(values: &ArgMatches<'a>) -> Order<'a>
     ensures { order_view result ≡ refute_at (rows_of (found_of values.now)) }
 {
     Order::Refute(RefuteOrder {
-        cycle: text_of(values, "cycle"),
-        service: text_of(values, "service"),
-        certificate: text_of(values, "certificate"),
-        save: given(values, "save"),
+        cycle: text_of(values, Argument::Cycle),
+        service: text_of(values, Argument::Service),
+        certificate: text_of(values, Argument::Certificate),
+        save: given(values, Argument::Save),
     })
 }
 
-pub(crate) fn refute_of<'a>(values: &ArgMatches<'a>) -> Result<Order<'a>, WordsFault>
-    ensures { IsOrderOf result (once (refute_at (rows_of (found_of values.now)))) }
-{
-    if is_twice(values, &["cycle", "service", "certificate"]) {
-        return Err(WordsFault::Twice);
-    }
-    Ok(refute_order(values))
-}
-
-fn replay_order<'a>(values: &ArgMatches<'a>) -> Order<'a>
+pub(crate) fn replay_of<'a>(values: &ArgMatches<'a>) -> Order<'a>
     ensures { order_view result ≡ replay_at (rows_of (found_of values.now)) }
 {
     Order::Replay(ReplayOrder {
-        cycle: text_of(values, "cycle"),
-        service: text_of(values, "service"),
-        counter: text_of(values, "counter"),
+        cycle: text_of(values, Argument::Cycle),
+        service: text_of(values, Argument::Service),
+        counter: text_of(values, Argument::Counter),
     })
 }
 
-pub(crate) fn replay_of<'a>(values: &ArgMatches<'a>) -> Result<Order<'a>, WordsFault>
-    ensures { IsOrderOf result (once (replay_at (rows_of (found_of values.now)))) }
-{
-    if is_twice(values, &["cycle", "service", "counter"]) {
-        return Err(WordsFault::Twice);
-    }
-    Ok(replay_order(values))
-}
-
-fn splice_order<'a>(values: &ArgMatches<'a>) -> Order<'a>
+pub(crate) fn splice_of<'a>(values: &ArgMatches<'a>) -> Order<'a>
     ensures { order_view result ≡ splice_asked (rows_of (found_of values.now)) }
 {
     Order::Splice(SpliceOrder {
-        old: text_of(values, "old"),
-        new: text_of(values, "new"),
-        old_service: text_of(values, "old_service"),
-        new_service: text_of(values, "new_service"),
-        old_certificate: text_of(values, "old_certificate"),
-        new_certificate: text_of(values, "new_certificate"),
+        old: text_of(values, Argument::Old),
+        new: text_of(values, Argument::New),
+        old_service: text_of(values, Argument::OldService),
+        new_service: text_of(values, Argument::NewService),
+        old_certificate: text_of(values, Argument::OldCertificate),
+        new_certificate: text_of(values, Argument::NewCertificate),
     })
 }
 
-pub(crate) fn splice_of<'a>(values: &ArgMatches<'a>) -> Result<Order<'a>, WordsFault>
-    ensures { IsOrderOf result (once (splice_asked (rows_of (found_of values.now)))) }
-{
-    if is_twice(
-        values,
-        &[
-            "old",
-            "new",
-            "old_service",
-            "new_service",
-            "old_certificate",
-            "new_certificate",
-        ],
-    ) {
-        return Err(WordsFault::Twice);
-    }
-    Ok(splice_order(values))
-}
-
-fn wait_order<'a>(values: &ArgMatches<'a>) -> Order<'a>
+pub(crate) fn wait_of<'a>(values: &ArgMatches<'a>) -> Order<'a>
     ensures { order_view result ≡ wait_at (rows_of (found_of values.now)) }
 {
     Order::Wait(WaitOrder {
-        cycle: text_of(values, "cycle"),
-        service: text_of(values, "service"),
-        repeat: within(given_number(values, "repeat"), 1, 8, 1) as u8,
+        cycle: text_of(values, Argument::Cycle),
+        service: text_of(values, Argument::Service),
+        repeat: repeat_of(values),
         class: class_of(values),
-        items: is_set(values, "items"),
+        items: is_set(values, Argument::Items),
     })
-}
-
-pub(crate) fn wait_of<'a>(values: &ArgMatches<'a>) -> Result<Order<'a>, WordsFault>
-    ensures { IsOrderOf result (once (wait_at (rows_of (found_of values.now)))) }
-{
-    if is_twice(values, &["cycle", "service"]) {
-        return Err(WordsFault::Twice);
-    }
-    Ok(wait_order(values))
 }
 
 pub(crate) fn pages_of<'a>(values: &ArgMatches<'a>) -> Order<'a>
     ensures { order_view result ≡ pages_at (rows_of (found_of values.now)) }
 {
     Order::Pages {
-        cycle: text_of(values, "cycle"),
+        cycle: text_of(values, Argument::Cycle),
     }
 }
 
@@ -239,8 +193,8 @@ pub(crate) fn book_of<'a>(values: &ArgMatches<'a>) -> Order<'a>
     ensures { order_view result ≡ book_at (rows_of (found_of values.now)) }
 {
     Order::Book {
-        cycle: text_of(values, "cycle"),
-        out: text_of(values, "out"),
+        cycle: text_of(values, Argument::Cycle),
+        out: text_of(values, Argument::Book),
     }
 }
 
@@ -248,9 +202,9 @@ pub(crate) fn extract_of<'a>(values: &ArgMatches<'a>) -> Order<'a>
     ensures { order_view result ≡ extract_at (rows_of (found_of values.now)) }
 {
     Order::Extract {
-        cycle: text_of(values, "cycle"),
-        out: text_of(values, "out"),
-        lines: within(given_number(values, "lines"), 1, 32, 16) as u8,
+        cycle: text_of(values, Argument::Cycle),
+        out: text_of(values, Argument::Extracted),
+        lines: lines_of(values),
     }
 }
 
@@ -258,17 +212,17 @@ pub(crate) fn check_of<'a>(values: &ArgMatches<'a>) -> Order<'a>
     ensures { order_view result ≡ check_at (rows_of (found_of values.now)) }
 {
     Order::Check {
-        service: text_of(values, "service"),
+        service: text_of(values, Argument::Service),
     }
 }
 
 pub(crate) fn send_of<'a>(values: &ArgMatches<'a>) -> Result<Order<'a>, WordsFault>
     ensures { IsOrderOf result (send_at (rows_of (found_of values.now))) }
 {
-    match moment(text_of(values, "at")) {
+    match moment_of(text_of(values, Argument::At)) {
         None => Err(WordsFault::Time),
         Some(moment) => Ok(Order::Send {
-            cycle: text_of(values, "cycle"),
+            cycle: text_of(values, Argument::Cycle),
             sending: sending_of(values, moment),
         }),
     }

@@ -3,8 +3,9 @@
 ghost use Rattle.std.specs.Prelude.{◌≡◌, false};
 ghost use Rattle.clap.specs.Words.{rule_of};
 ghost use Rattle.ttx_arguments.specs.Grammar as rule;
-ghost use Rattle.ttx_arguments.specs.Grammar.{AreNames, Builds, bare_app, ttx_app};
-ghost use Rattle.ttx_arguments.specs.Arguments.{id_of, is_needed, parser_taking, option_rule, rule_of_argument, app_of_command, with_commands};
+ghost use Rattle.ttx_arguments.specs.Grammar.{AreNames, HasNames, Builds, bare_app, ttx_app};
+ghost use Rattle.ttx_arguments.specs.Grammar.{parser_taking, option_rule, rule_of_argument, app_of_command, with_commands};
+ghost use Rattle.ttx_arguments.specs.Arguments.{id_of, is_needed};
 
 use crate::arguments::{Argument, Takes};
 use crate::command_names::{COMMANDS, CommandName};
@@ -95,31 +96,41 @@ fn bare<'a>(alloc: Global) -> Building<'a>
     Command::new(alloc, "ttx")
         .no_binary_name(true)
         .subcommand_required(true)
-        .disable_help_subcommand(true)
-        .about(help::TTX)
-        .after_help(help::TTX_MORE)
+        .version("")
+        .override_help(help::TTX)
         .bin_name("ttx")
 }
 
-/// The names that `--kind` takes.
-pub(crate) fn kind_names<'a>() -> &'a [&'a str]
+// The names that `--kind` takes.
+fn kind_names<'a>() -> &'a [&'a str]
     ensures { AreNames result rule.kind_names }
 {
     &["eager", "careful", "cleared"]
 }
 
-/// The names that `--class` takes.
-pub(crate) fn class_names<'a>() -> &'a [&'a str]
+// The names that `--class` takes.
+fn class_names<'a>() -> &'a [&'a str]
     ensures { AreNames result rule.class_names }
 {
     &["any", "clearing"]
 }
 
-/// The names that `--as` takes.
-pub(crate) fn form_names<'a>() -> &'a [&'a str]
+// The names that `--as` takes.
+fn form_names<'a>() -> &'a [&'a str]
     ensures { AreNames result rule.form_names }
 {
     &["text", "ansi", "svg", "html"]
+}
+
+/// The names that options take.
+pub(crate) fn option_names<'a>() -> Names<'a>
+    ensures { HasNames result }
+{
+    Names {
+        kinds: kind_names(),
+        classes: class_names(),
+        forms: form_names(),
+    }
 }
 
 // `ttx` with these commands.
@@ -133,19 +144,9 @@ fn with_commands<'a>(alloc: Global, commands: &[CommandName], names: Names<'a>) 
     Ok(ttx)
 }
 
-/// `ttx` with its commands, and the names that `--kind`, `--class` and `--as` take.
-pub(crate) fn ttx<'a>(
-    alloc: Global,
-    kinds: &'a [&'a str],
-    classes: &'a [&'a str],
-    forms: &'a [&'a str],
-) -> Building<'a>
-    ensures { Builds result (ttx_app kinds.entry classes.entry forms.entry) }
+/// `ttx` with its commands.
+pub(crate) fn ttx<'a>(alloc: Global, names: Names<'a>) -> Building<'a>
+    ensures { Builds result (ttx_app names.entry) }
 {
-    let names = Names {
-        kinds,
-        classes,
-        forms,
-    };
     with_commands(alloc, COMMANDS.as_slice(), names)
 }

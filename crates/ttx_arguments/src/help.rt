@@ -1,11 +1,49 @@
 //! The texts of help: what a command reads and writes, what its words are, and its statuses.
 
-/// What the program is.
+/// The help of the program: the commands in the order of the work, and what holds for each of them.
 pub(crate) const TTX: &str =
-    "Inserter, decoder and carousel certifier for Level 1 teletext (ETSI EN 300 706)";
+    "Inserter, decoder and carousel certifier for Level 1 teletext (ETSI EN 300 706)
 
-/// What holds for each command.
-pub(crate) const TTX_MORE: &str = "Without arguments, ttx does the same as: ttx inspect -
+Usage: ttx <COMMAND>
+
+Write a service:
+  check    Reports what is wrong, or probably wrong, in the text of a service
+  preview  Writes a page of a service as it is displayed when received whole
+
+Plan and certify:
+  plan     Lays out a service as a cycle of slots, and writes it to OUT
+  find     Finds the certificate with the least deadline, and writes it to OUT
+  certify  Judges a cycle and its service by a certificate, yes or no
+  wait     Says how long viewers of each page wait at most, and for which item
+  refute   Looks for a receiver that fails to show a page (a counter-run)
+  replay   Replays a counter-run of refute, and shows where the page is wrong
+
+Go on air:
+  send     Sends a cycle again and again, with the time, to standard output
+  splice   Judges the change from an old cycle to a new one, yes or no
+
+Look into a packet file:
+  inspect  Writes one line for each slot of a packet file to standard output
+  pages    Lists the pages of a cycle, and what is sent under their headers
+  show     Receives a page of a cycle, and writes it as it is displayed
+  receive  Receives a page of a cycle, and writes the cells that are displayed
+  book     Writes all pages of a cycle to OUT, as one HTML file
+  extract  Writes the service definition that a cycle sends to OUT
+
+About ttx:
+  version  Writes the version, and the kit and the logic by which it is proved
+  help     Writes this help, or that of a command: ttx help plan
+
+Options:
+  -h, --help     Print help
+  -V, --version  Write what version writes
+
+Example:
+  ttx plan service.toml cycle.t42
+  ttx find cycle.t42 service.toml cycle.cert
+  ttx certify cycle.t42 service.toml cycle.cert
+
+Without arguments, ttx does the same as: ttx inspect -
 
 An input named - is standard input; only one input may be. Inputs are opened in
 the order of the arguments, then OUT is created or emptied. So OUT is empty
@@ -19,9 +57,6 @@ Statuses:
      standard error; also after help
   3  fault: file (a file cannot be opened or created), fault: read,
      fault: write, fault: memory on standard error";
-
-pub(crate) const INSPECT: &str =
-    "Writes one line for each slot of a packet file to standard output";
 
 pub(crate) const INSPECT_MORE: &str =
     "Reads FILE to its end, then writes one line for each slot S, counted from 0:
@@ -43,8 +78,6 @@ Statuses:
      refused: cycle 3 empty, refused: cycle 4 too-long
   3  fault: file, fault: read, fault: write, fault: memory";
 
-pub(crate) const PLAN: &str = "Lays out a service as a cycle of slots, and writes it to OUT";
-
 pub(crate) const PLAN_MORE: &str =
     "Reads SERVICE to its end. Writes the cycle to OUT, and then to standard output:
 planned N slots
@@ -62,8 +95,6 @@ Statuses:
 
 pub(crate) const PLANNED_LATE_OPTION: &str = "Plan also for receivers that may show a page late";
 
-pub(crate) const FIND: &str = "Finds the certificate with the least deadline, and writes it to OUT";
-
 pub(crate) const FIND_MORE: &str =
     "Reads CYCLE and SERVICE, in this order, to their ends. Writes the certificate to
 OUT, and then to standard output: found deadline D
@@ -77,8 +108,6 @@ Statuses:
      refused: cycle NUMBER NAME [REST],
      refused: service NUMBER NAME [KEY] page N, refused: service too-long
   3  fault: file, fault: read, fault: write, fault: memory";
-
-pub(crate) const CERTIFY: &str = "Judges a cycle and its service by a certificate, yes or no";
 
 pub(crate) const CERTIFY_MORE: &str =
     "Reads CYCLE, SERVICE and CERT, in this order, to their ends. With --twice it
@@ -107,8 +136,6 @@ Statuses:
 
 pub(crate) const LATE_OPTION: &str = "Judge also for receivers that may show a page late";
 
-pub(crate) const REFUTE: &str = "Looks for a receiver that fails to show a page (a counter-run)";
-
 pub(crate) const REFUTE_MORE: &str =
     "Reads CYCLE, SERVICE and CERT, in this order, to their ends. CERT must
 be of class any; only its lines, repeat and deadline count. Writes one of
@@ -131,9 +158,6 @@ Statuses:
      refused: class (the certificate is for receivers that surely clear)
   3  fault: file, fault: read, fault: write, fault: memory";
 
-pub(crate) const REPLAY: &str =
-    "Replays a counter-run of refute, and shows where the page is wrong";
-
 pub(crate) const REPLAY_MORE: &str =
     "Reads CYCLE, SERVICE and COUNTER, in this order, to their ends. If COUNTER is a
 counter-run of CYCLE and SERVICE, writes the line of refute
@@ -155,9 +179,6 @@ Statuses:
      refused: counter NUMBER NAME [line N], refused: counter too-long
   3  fault: file, fault: read, fault: write, fault: memory";
 
-pub(crate) const RECEIVE: &str =
-    "Receives a page of a cycle, and writes the cells that are displayed";
-
 pub(crate) const RECEIVE_MORE: &str =
     "Reads CYCLE to its end. A receiver that is set to PAGE and has received nothing
 yet receives N slots, from slot S on and round the cycle. Writes 25 lines,
@@ -176,8 +197,6 @@ Statuses:
      refused: cycle 2 truncated REST,
      refused: cycle 3 empty, refused: cycle 4 too-long
   3  fault: file, fault: read, fault: write, fault: memory";
-
-pub(crate) const SHOW: &str = "Receives a page of a cycle, and writes it as it is displayed";
 
 pub(crate) const SHOW_MORE: &str =
     "Reads CYCLE to its end. A receiver that is set to PAGE and has received nothing
@@ -204,9 +223,6 @@ Statuses:
      refused: cycle 3 empty, refused: cycle 4 too-long
   3  fault: file, fault: read, fault: write, fault: memory";
 
-pub(crate) const PREVIEW: &str =
-    "Writes a page of a service as it is displayed when received whole";
-
 pub(crate) const PREVIEW_MORE: &str =
     "Reads SERVICE to its end. Then the first page that PAGE names is written as FORM
 says:
@@ -225,8 +241,6 @@ Statuses:
   2  error: .. (the arguments), refused: page,
      refused: service NUMBER NAME [KEY] page N, refused: service too-long
   3  fault: file, fault: read, fault: write, fault: memory";
-
-pub(crate) const SPLICE: &str = "Judges the change from an old cycle to a new one, yes or no";
 
 pub(crate) const SPLICE_MORE: &str =
     "OLD is sent again and again; then, at the end of a period, NEW is sent again and
@@ -253,8 +267,6 @@ Statuses:
      refused: service NUMBER NAME [KEY] page N, refused: service too-long,
      refused: certificate NUMBER NAME [line N], refused: certificate too-long
   3  fault: file, fault: read, fault: write, fault: memory";
-
-pub(crate) const WAIT: &str = "Says how long viewers of each page wait at most, and for which item";
 
 pub(crate) const WAIT_MORE: &str =
     "Reads CYCLE and SERVICE, in this order, to their ends. Writes a line for each
@@ -291,8 +303,6 @@ Statuses:
 
 pub(crate) const ITEMS_OPTION: &str = "Write a line for each item of each page, too";
 
-pub(crate) const SEND: &str = "Sends a cycle again and again, with the time, to standard output";
-
 pub(crate) const SEND_MORE: &str =
     "Reads CYCLE to its end. Writes N fields of L slots of 42 bytes each: the cycle
 again and again, from its field F on. The first field is sent at MJD/HHMMSS, and
@@ -311,8 +321,6 @@ Statuses:
      refused: cycle 3 empty, refused: cycle 4 too-long
   3  fault: file, fault: read, fault: write (also if the reader of a pipe has
      gone), fault: memory";
-
-pub(crate) const PAGES: &str = "Lists the pages of a cycle, and what is sent under their headers";
 
 pub(crate) const PAGES_MORE: &str =
     "Reads CYCLE to its end, then writes a line for each page that has a header, by
@@ -334,8 +342,6 @@ Statuses:
      refused: cycle 3 empty, refused: cycle 4 too-long
   3  fault: file, fault: read, fault: write, fault: memory";
 
-pub(crate) const BOOK: &str = "Writes all pages of a cycle to OUT, as one HTML file";
-
 pub(crate) const BOOK_MORE: &str =
     "Reads CYCLE to its end. OUT has an index, and each page as a picture with its
 links and its text; it needs no other file and no network. Three typed digits
@@ -349,8 +355,6 @@ Statuses:
      refused: cycle 2 truncated REST,
      refused: cycle 3 empty, refused: cycle 4 too-long
   3  fault: file, fault: read, fault: write, fault: memory";
-
-pub(crate) const EXTRACT: &str = "Writes the service definition that a cycle sends to OUT";
 
 pub(crate) const EXTRACT_MORE: &str =
     "Reads CYCLE to its end. Writes the service to OUT, and then to standard output:
@@ -379,8 +383,6 @@ Statuses:
      refused: unsaid (it is not a service for another reason)
   3  fault: file, fault: read, fault: write, fault: memory";
 
-pub(crate) const CHECK: &str = "Reports what is wrong, or probably wrong, in the text of a service";
-
 pub(crate) const CHECK_MORE: &str =
     "Reads SERVICE to its end. If the text is refused, writes one line to standard
 output that says where the mistake is, and what it is:
@@ -398,9 +400,6 @@ Statuses:
   2  the text is refused; also error: .. (the arguments) and
      refused: service too-long on standard error
   3  fault: file, fault: read, fault: write, fault: memory";
-
-pub(crate) const VERSION: &str =
-    "Writes the version, and the kit and the logic by which it is proved";
 
 pub(crate) const VERSION_MORE: &str =
     "Writes three lines to standard output: ttx, kit and logic, each with its name.

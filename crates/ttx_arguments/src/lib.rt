@@ -6,14 +6,19 @@ mod command_names;
 mod commands;
 mod grammar;
 mod help;
+mod laws;
 mod moments;
 pub mod orders;
 mod page_names;
 mod parsing;
+mod ranges;
 mod values;
 
+pub use laws::{certify_words, repeat_words, send_words, twice_words, version_words};
+pub use moments::Moment;
 pub use orders::{
     CertifyOrder, FindOrder, Look, Order, PlanOrder, ReceiverKind, RefuteOrder, ReplayOrder,
     Sending, SpliceOrder, Tuning, WaitOrder, WordsFault,
 };
 pub use parsing::words;
+pub use ranges::{Lines, Offset, Repeat};

@@ -1,5 +1,7 @@
 //! What words ask for, and why they are refused.
 
+use crate::moments::Moment;
+use crate::ranges::{Lines, Offset, Repeat};
 use ttx_page::{Class, Selection};
 use ttx_picture::Form;
 
@@ -15,8 +17,7 @@ pub enum ReceiverKind {
 #[derive(Clone, Copy)]
 pub struct Tuning {
     pub selection: Selection,
-    /// Lines of a field, 1 to 32.
-    pub lines: u8,
+    pub lines: Lines,
     /// The slot to begin at, modulo the cycle's length.
     pub start: u16,
     /// How many slots are received, up to 1,000,000.
@@ -37,14 +38,11 @@ pub struct Look<'a> {
 /// What `send` is told beside the cycle.
 #[derive(Clone, Copy)]
 pub struct Sending {
-    /// The Modified Julian Date of the first field.
-    pub mjd: u32,
-    /// The second of its day in UTC, below 86,400.
-    pub second: u32,
-    /// By how many seconds the clock in page headers is ahead of UTC, below 86,400.
-    pub ahead: u32,
-    /// Lines of a field, 1 to 32.
-    pub lines: u8,
+    /// When the first field is sent.
+    pub start: Moment,
+    /// By how much the clock in page headers is ahead of UTC.
+    pub offset: Offset,
+    pub lines: Lines,
     /// The field of the repeated cycle to begin at.
     pub phase: u32,
     /// How many fields are sent.
@@ -67,8 +65,7 @@ pub struct FindOrder<'a> {
     pub cycle: &'a str,
     pub service: &'a str,
     pub out: &'a str,
-    /// 1 to 8.
-    pub repeat: u8,
+    pub repeat: Repeat,
     pub class: Class,
 }
 
@@ -118,8 +115,7 @@ pub struct SpliceOrder<'a> {
 pub struct WaitOrder<'a> {
     pub cycle: &'a str,
     pub service: &'a str,
-    /// 1 to 8.
-    pub repeat: u8,
+    pub repeat: Repeat,
     pub class: Class,
     /// Whether each item of a page has a line, too.
     pub items: bool,
@@ -181,8 +177,7 @@ pub enum Order<'a> {
     Extract {
         cycle: &'a str,
         out: &'a str,
-        /// Lines of a field, 1 to 32.
-        lines: u8,
+        lines: Lines,
     },
     /// Tell what is wrong, or likely wrong, in the text of a service.
     Check {

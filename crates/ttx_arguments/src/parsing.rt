@@ -3,16 +3,16 @@
 ghost use Rattle.std.specs.Prelude.{◌≡◌, [], true, IfOk, IfErr, Some, Result, is_some, map, option_map};
 ghost use Rattle.clap.specs.Words.{rows_of, found_of, subcommand_rows_of, subcommand_of, fault_of};
 ghost use Rattle.ttx_arguments.specs.Grammar.{ttx_app};
-ghost use Rattle.ttx_arguments.specs.Orders.{OrderView, Unfit, command_named, order_by, order_at, IsOrderOf, AnswersBy, Answers, IsFaultOf};
-ghost use Rattle.ttx_arguments.specs.Orders.{IsRefusalOf};
-ghost use Rattle.ttx_arguments.specs.Arguments.{named_in};
+ghost use Rattle.ttx_arguments.specs.Orders.{OrderView, Unfit, order_by, order_at, once, IsOrderOf, AnswersBy, Answers, IsFaultOf};
+ghost use Rattle.ttx_arguments.specs.Orders.{IsRefusalOf, IsSettled};
+ghost use Rattle.ttx_arguments.specs.Arguments.{named_in, command_named};
 
 use crate::command_names::{COMMANDS, CommandName};
 use crate::commands::{
-    book_of, certify_of, check_of, extract_of, find_of, inspect_of, pages_of, plan_of, preview_of,
-    receive_of, refute_of, replay_of, send_of, show_of, splice_of, wait_of,
+    book_of, certify_of, check_of, extract_of, find_of, inspect_of, is_twice, pages_of, plan_of,
+    preview_of, receive_of, refute_of, replay_of, send_of, show_of, splice_of, wait_of,
 };
-use crate::grammar::{class_names, form_names, kind_names, ttx};
+use crate::grammar::{Names, option_names, ttx};
 use crate::orders::{Order, WordsFault};
 use clap::ArgMatches;
 use clap::error::ErrorKind;
@@ -45,15 +45,15 @@ fn order_by<'a>(command: CommandName, values: &ArgMatches<'a>) -> Result<Order<'
     match command {
         CommandName::Inspect => Ok(inspect_of(values)),
         CommandName::Plan => Ok(plan_of(values)),
-        CommandName::Find => find_of(values),
-        CommandName::Certify => certify_of(values),
-        CommandName::Refute => refute_of(values),
-        CommandName::Replay => replay_of(values),
+        CommandName::Find => Ok(find_of(values)),
+        CommandName::Certify => Ok(certify_of(values)),
+        CommandName::Refute => Ok(refute_of(values)),
+        CommandName::Replay => Ok(replay_of(values)),
         CommandName::Receive => receive_of(values),
         CommandName::Show => show_of(values),
         CommandName::Preview => preview_of(values),
-        CommandName::Splice => splice_of(values),
-        CommandName::Wait => wait_of(values),
+        CommandName::Splice => Ok(splice_of(values)),
+        CommandName::Wait => Ok(wait_of(values)),
         CommandName::Send => send_of(values),
         CommandName::Pages => Ok(pages_of(values)),
         CommandName::Book => Ok(book_of(values)),
@@ -63,12 +63,22 @@ fn order_by<'a>(command: CommandName, values: &ArgMatches<'a>) -> Result<Order<'
     }
 }
 
+// The same, but only one input may be standard input.
+fn once<'a>(command: CommandName, values: &ArgMatches<'a>) -> Result<Order<'a>, WordsFault>
+    ensures { IsOrderOf result (once command (rows_of (found_of values.now))) }
+{
+    if is_twice(command, values) {
+        return Err(WordsFault::Twice);
+    }
+    order_by(command, values)
+}
+
 // The order of the command of this name.
 #[tactic(auto, unfolding(crate::specs::Orders::order_at))]
 fn order_of<'a>(name: &str, values: &ArgMatches<'a>) -> Result<Order<'a>, WordsFault>
     ensures { IsOrderOf result (order_at name.now (rows_of (found_of values.now))) }
 {
-    order_by(command_of(name), values)
+    once(command_of(name), values)
 }
 
 // The order that the matches stand for.
@@ -91,21 +101,17 @@ fn fault(error: clap::Error) -> WordsFault
     }
 }
 
-// What `clap` makes of the words, with the names that `--kind`, `--class` and `--as` take.
+// What `clap` makes of the words.
 fn parsed<'a>(
     alloc: Global,
-    kinds: &'a [&'a str],
-    classes: &'a [&'a str],
-    forms: &'a [&'a str],
+    names: Names<'a>,
     words: &'a [&'a str],
 ) -> Result<ArgMatches<'a>, WordsFault>
-    ensures rows { IfOk result (λ m. subcommand_rows_of m ≡ subcommand_of (ttx_app kinds.entry classes.entry forms.entry)
-        (map (λ w. w.now) words.entry.now)) }
-    ensures no_fault { IfOk result (λ _. fault_of (ttx_app kinds.entry classes.entry forms.entry) (map (λ w. w.now) words.entry.now) ≡ []) }
-    ensures refused { IfErr result (λ e. IsRefusalOf e (fault_of (ttx_app kinds.entry classes.entry forms.entry)
-        (map (λ w. w.now) words.entry.now))) }
+    ensures rows { IfOk result (λ m. subcommand_rows_of m ≡ subcommand_of (ttx_app names.entry) (map (λ w. w.now) words.entry.now)) }
+    ensures no_fault { IfOk result (λ _. fault_of (ttx_app names.entry) (map (λ w. w.now) words.entry.now) ≡ []) }
+    ensures refused { IfErr result (λ e. IsRefusalOf e (fault_of (ttx_app names.entry) (map (λ w. w.now) words.entry.now))) }
 {
-    let command = match ttx(alloc, kinds, classes, forms) {
+    let command = match ttx(alloc, names) {
         Ok(command) => command,
         Err(_) => return Err(WordsFault::NoMemory),
     };
@@ -115,22 +121,29 @@ fn parsed<'a>(
     }
 }
 
-// What words ask for, with the names that `--kind`, `--class` and `--as` take.
-fn asked<'a>(
-    alloc: Global,
-    kinds: &'a [&'a str],
-    classes: &'a [&'a str],
-    forms: &'a [&'a str],
-    words: &'a [&'a str],
-) -> Result<Order<'a>, WordsFault>
-    ensures { AnswersBy (ttx_app kinds.entry classes.entry forms.entry) (map (λ w. w.now) words.entry.now) result }
+// `--version` is an order, and all else that `clap` refuses stays refused.
+fn settled<'a>(fault: WordsFault) -> Result<Order<'a>, WordsFault>
+    ensures { IsSettled fault result }
+{
+    match fault {
+        WordsFault::Refused(error) => match error.kind() {
+            ErrorKind::DisplayVersion => Ok(Order::Version),
+            _ => Err(WordsFault::Refused(error)),
+        },
+        fault => Err(fault),
+    }
+}
+
+// What words ask for.
+fn asked<'a>(alloc: Global, names: Names<'a>, words: &'a [&'a str]) -> Result<Order<'a>, WordsFault>
+    ensures { AnswersBy (ttx_app names.entry) (map (λ w. w.now) words.entry.now) result }
 {
     if words.is_empty() {
         return Ok(Order::Inspect { file: "-" });
     }
-    match parsed(alloc, kinds, classes, forms, words) {
+    match parsed(alloc, names, words) {
         Ok(matches) => chosen(&matches),
-        Err(fault) => Err(fault),
+        Err(fault) => settled(fault),
     }
 }
 
@@ -138,5 +151,5 @@ fn asked<'a>(
 pub fn words<'a>(alloc: Global, words: &'a [&'a str]) -> Result<Order<'a>, WordsFault>
     ensures { Answers (map (λ w. w.now) words.entry.now) result }
 {
-    asked(alloc, kind_names(), class_names(), form_names(), words)
+    asked(alloc, option_names(), words)
 }

@@ -1,26 +1,32 @@
 //! The values of arguments.
 
-ghost use Rattle.std.specs.Prelude.{◌≡◌, ◌≤◌, option_map, option_and_then, codes};
-ghost use Rattle.clap.specs.Words.{rows_of, first_of, found_of};
+ghost use Rattle.std.specs.Prelude.{◌≡◌, option_map, option_and_then};
+ghost use Rattle.clap.specs.Words.{rows_of, found_of};
+ghost use Rattle.ttx_arguments.specs.Arguments.{takes_of};
 ghost use Rattle.ttx_arguments.specs.Orders as rule;
-ghost use Rattle.ttx_arguments.specs.Orders.{look_view, text_at, kind_named, class_named, form_named, is_set, tuning_asked, look_at, sending_at};
+ghost use Rattle.ttx_arguments.specs.Orders.{look_view, given_at, text_at, kind_named, class_named, form_named, is_set, tuning_asked, look_at, sending_at};
+ghost use Rattle.ttx_arguments.specs.Orders.{IsInside, number_at, lines_at, repeat_at};
+ghost use Rattle.ttx_arguments.specs.declared.arguments.Argument.TheVariants as argument;
 
+use crate::arguments::{Argument, Takes};
+use crate::moments::Moment;
 use crate::orders::{Look, ReceiverKind, Sending, Tuning};
+use crate::ranges::{Lines, Offset, Repeat};
 use clap::ArgMatches;
 use ttx_page::{Class, Selection};
 use ttx_picture::Form;
 
 // The text that an argument was given.
-pub(crate) fn given<'a>(values: &ArgMatches<'a>, id: &str) -> Option<&'a str>
-    ensures { option_map (λ s. s.now) result ≡ first_of id.now (rows_of (found_of values.now)) }
+pub(crate) fn given<'a>(values: &ArgMatches<'a>, argument: Argument) -> Option<&'a str>
+    ensures { option_map (λ s. s.now) result ≡ given_at argument (rows_of (found_of values.now)) }
 {
-    values.get_str(id)
+    values.get_str(argument.id())
 }
 
-pub(crate) fn text_of<'a>(values: &ArgMatches<'a>, id: &str) -> &'a str
-    ensures { result.now ≡ text_at id.now (rows_of (found_of values.now)) }
+pub(crate) fn text_of<'a>(values: &ArgMatches<'a>, argument: Argument) -> &'a str
+    ensures { result.now ≡ text_at argument (rows_of (found_of values.now)) }
 {
-    match given(values, id) {
+    match given(values, argument) {
         Some(text) => text,
         None => "",
     }
@@ -34,31 +40,59 @@ fn numeral(text: &str) -> Option<u32>
 }
 
 // The number that an argument was given.
-pub(crate) fn given_number(values: &ArgMatches<'_>, id: &str) -> Option<u32>
-    ensures { result ≡ option_and_then rule.numeral (first_of id.now (rows_of (found_of values.now))) }
+fn given_number(values: &ArgMatches<'_>, argument: Argument) -> Option<u32>
+    ensures { result ≡ option_and_then rule.numeral (given_at argument (rows_of (found_of values.now))) }
 {
-    match given(values, id) {
+    match given(values, argument) {
         Some(text) => numeral(text),
         None => None,
     }
 }
 
-// A number from low to high, or the default.
-pub(crate) fn within(number: Option<u32>, low: u32, high: u32, default: u32) -> u32
-    requires { (low ≤ default) × (default ≤ high) }
-    ensures value { result ≡ rule.within low high default number }
-    ensures range { (low ≤ result) × (result ≤ high) }
+// A number in the range that an option takes, or the default.
+fn within(takes: Takes, default: u32, number: Option<u32>) -> u32
+    requires { IsInside takes default }
+    ensures value { result ≡ rule.within takes default number }
+    ensures inside { IsInside takes result }
 {
-    match number {
-        Some(number) if low <= number && number <= high => number,
+    match (takes, number) {
+        (Takes::Number(low, high), Some(number))
+            if low <= u64::from(number) && u64::from(number) <= high => { number }
         _ => default,
     }
 }
 
-fn kind_of(values: &ArgMatches<'_>) -> ReceiverKind
-    ensures { result ≡ kind_named (text_at (codes "kind") (rows_of (found_of values.now))) }
+// The number that an option was given, or its default.
+fn number_of(values: &ArgMatches<'_>, argument: Argument, default: u32) -> u32
+    requires { IsInside (takes_of argument) default }
+    ensures value { result ≡ number_at argument default (rows_of (found_of values.now)) }
+    ensures inside { IsInside (takes_of argument) result }
 {
-    let name = text_of(values, "kind");
+    within(argument.takes(), default, given_number(values, argument))
+}
+
+pub(crate) fn repeat_of(values: &ArgMatches<'_>) -> Repeat
+    ensures { result ≡ repeat_at (rows_of (found_of values.now)) }
+{
+    Repeat::new(number_of(values, Argument::Repeat, 1) as u8)
+}
+
+pub(crate) fn lines_of(values: &ArgMatches<'_>) -> Lines
+    ensures { result ≡ lines_at (rows_of (found_of values.now)) }
+{
+    Lines::new(number_of(values, Argument::Lines, 16) as u8)
+}
+
+fn offset_of(values: &ArgMatches<'_>) -> Offset
+    ensures { result ≡ number_at argument.Offset 0 (rows_of (found_of values.now)) }
+{
+    Offset::new(number_of(values, Argument::Offset, 0) as u8)
+}
+
+fn kind_of(values: &ArgMatches<'_>) -> ReceiverKind
+    ensures { result ≡ kind_named (text_at argument.Kind (rows_of (found_of values.now))) }
+{
+    let name = text_of(values, Argument::Kind);
     if name == "careful" {
         ReceiverKind::Careful
     } else if name == "cleared" {
@@ -69,9 +103,9 @@ fn kind_of(values: &ArgMatches<'_>) -> ReceiverKind
 }
 
 pub(crate) fn class_of(values: &ArgMatches<'_>) -> Class
-    ensures { result ≡ class_named (text_at (codes "class") (rows_of (found_of values.now))) }
+    ensures { result ≡ class_named (text_at argument.Class (rows_of (found_of values.now))) }
 {
-    if text_of(values, "class") == "clearing" {
+    if text_of(values, Argument::Class) == "clearing" {
         Class::Clearing
     } else {
         Class::Any
@@ -79,9 +113,9 @@ pub(crate) fn class_of(values: &ArgMatches<'_>) -> Class
 }
 
 fn form_of(values: &ArgMatches<'_>) -> Form
-    ensures { result ≡ form_named (text_at (codes "as") (rows_of (found_of values.now))) }
+    ensures { result ≡ form_named (text_at argument.Form (rows_of (found_of values.now))) }
 {
-    let name = text_of(values, "as");
+    let name = text_of(values, Argument::Form);
     if name == "text" {
         Form::Text
     } else if name == "svg" {
@@ -93,10 +127,10 @@ fn form_of(values: &ArgMatches<'_>) -> Form
     }
 }
 
-pub(crate) fn is_set(values: &ArgMatches<'_>, id: &str) -> bool
-    ensures { result ≡ is_set id.now (rows_of (found_of values.now)) }
+pub(crate) fn is_set(values: &ArgMatches<'_>, argument: Argument) -> bool
+    ensures { result ≡ is_set argument (rows_of (found_of values.now)) }
 {
-    text_of(values, id) == "true"
+    text_of(values, argument) == "true"
 }
 
 // How a page is asked for.
@@ -104,9 +138,9 @@ pub(crate) fn look_of<'a>(values: &ArgMatches<'a>) -> Look<'a>
     ensures { look_view result ≡ look_at (rows_of (found_of values.now)) }
 {
     Look {
-        page: text_of(values, "page"),
+        page: text_of(values, Argument::Page),
         form: form_of(values),
-        reveal: is_set(values, "reveal"),
+        reveal: is_set(values, Argument::Reveal),
     }
 }
 
@@ -116,23 +150,22 @@ pub(crate) fn tuning_of(values: &ArgMatches<'_>, selection: Selection) -> Tuning
 {
     Tuning {
         selection,
-        lines: within(given_number(values, "lines"), 1, 32, 16) as u8,
-        start: within(given_number(values, "start"), 0, 65_535, 0) as u16,
-        slots: within(given_number(values, "slots"), 0, 1_000_000, 5000),
+        lines: lines_of(values),
+        start: number_of(values, Argument::Start, 0) as u16,
+        slots: number_of(values, Argument::Slots, 5000),
         kind: kind_of(values),
     }
 }
 
 // What `send` is told of a sending that starts at this moment.
-pub(crate) fn sending_of(values: &ArgMatches<'_>, moment: (u32, u32)) -> Sending
-    ensures { result ≡ sending_at moment (rows_of (found_of values.now)) }
+pub(crate) fn sending_of(values: &ArgMatches<'_>, start: Moment) -> Sending
+    ensures { result ≡ sending_at start (rows_of (found_of values.now)) }
 {
     Sending {
-        mjd: moment.0,
-        second: moment.1,
-        ahead: 1800 * within(given_number(values, "offset"), 0, 47, 0),
-        lines: within(given_number(values, "lines"), 1, 32, 16) as u8,
-        phase: within(given_number(values, "phase"), 0, u32::MAX, 0),
-        fields: within(given_number(values, "fields"), 0, u32::MAX, 0),
+        start,
+        offset: offset_of(values),
+        lines: lines_of(values),
+        phase: number_of(values, Argument::Phase, 0),
+        fields: number_of(values, Argument::Fields, 0),
     }
 }

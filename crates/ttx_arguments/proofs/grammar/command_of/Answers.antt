@@ -2,7 +2,8 @@ use Rattle.std.proofs.Common.{◌∙◌, List, sym, subst, rules}
 use Rattle.std.proofs.lemmas.List.{take_all}
 use Rattle.std.proofs.lemmas.List.Sums.{fold_more}
 use Rattle.clap.specs.Words.{App, Text, new_app, with_rule}
-use Rattle.ttx_arguments.specs.Arguments.{IsBuiltAs, name_of, rule_of_argument, with_arguments}
+use Rattle.ttx_arguments.specs.Arguments.{name_of}
+use Rattle.ttx_arguments.specs.Grammar.{IsBuiltAs, rule_of_argument, with_arguments}
 use Rattle.ttx_arguments.specs.declared.arguments.Argument.{Argument}
 use Rattle.ttx_arguments.proofs.Building.{one_argument}
 use Rattle.ttx_arguments.proofs.grammar.command_of.Goals as goal

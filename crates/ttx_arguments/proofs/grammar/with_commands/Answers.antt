@@ -1,8 +1,7 @@
 use Rattle.std.proofs.Common.{sym, subst}
 use Rattle.std.proofs.lemmas.List.Sums.{fold_more}
 use Rattle.clap.specs.Words.{App, with_subcommand}
-use Rattle.ttx_arguments.specs.Arguments.{IsBuiltAs, app_of_command}
-use Rattle.ttx_arguments.specs.Grammar.{bare_app}
+use Rattle.ttx_arguments.specs.Grammar.{IsBuiltAs, app_of_command, bare_app}
 use Rattle.ttx_arguments.specs.declared.command_names.CommandName.{CommandName}
 use Rattle.ttx_arguments.proofs.Building.{one_command}
 use Rattle.ttx_arguments.proofs.grammar.with_commands.Goals as goal

@@ -1,6 +1,5 @@
 use Rattle.std.proofs.Common.{take}
-use Rattle.ttx_arguments.specs.Arguments.{with_commands, IsBuiltAs}
-use Rattle.ttx_arguments.specs.Grammar.{bare_app}
+use Rattle.ttx_arguments.specs.Grammar.{with_commands, bare_app, IsBuiltAs}
 use Rattle.ttx_arguments.proofs.grammar.with_commands.Given as goal
 
 abbrev pub invariant-loop-name : goal.invariant-loop-name

@@ -8,15 +8,15 @@ pub returns-then-is_empty : goal.returns-then-is_empty
 returns-then-is_empty c = no_words _ _ (grind (arith, length-map))
 
 pub chosen-requires : goal.chosen-requires
-chosen-requires c = ap is_some c.in-Ok.ensures.rows ∙ has_command c.args.kinds c.args.classes c.args.forms _ c.in-Ok.ensures.no_fault
+chosen-requires c = ap is_some c.in-Ok.ensures.rows ∙ has_command c.args.names _ c.in-Ok.ensures.no_fault
 
 pub returns-in-Ok : goal.returns-in-Ok
 returns-in-Ok c =
     let some : length (map (λ w. w.now) c.args.words.now) ≢ 0 = grind (arith, length-map) in
-    answered _ _ c.chosen.ensures.0 c.chosen.result some c.in-Ok.ensures.no_fault
-    (ap (option_map (λ p. order_at p.0 p.1)) (sym c.in-Ok.ensures.rows) ∙ c.chosen.ensures.1) c.chosen.ensures.2
+    answered _ _ c.chosen.ensures.0 c.chosen.result some
+    (c.in-Ok.ensures.no_fault, ap (option_map (λ p. order_at p.0 p.1)) (sym c.in-Ok.ensures.rows) ∙ c.chosen.ensures.1) c.chosen.ensures.2
 
 pub returns-in-Err : goal.returns-in-Err
 returns-in-Err c =
     let some : length (map (λ w. w.now) c.args.words.now) ≢ 0 = grind (arith, length-map) in
-    refused _ _ c.in-Err.fault some c.in-Err.ensures.refused
+    refused _ _ c.in-Err.fault c.settled.result some c.in-Err.ensures.refused c.settled.ensures

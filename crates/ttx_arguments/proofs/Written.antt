@@ -1,0 +1,33 @@
+-- The examples, by computing.
+use Rattle.std.proofs.Common.{refl, inl}
+use Rattle.std.specs.Char.{encode_utf8}
+use Rattle.std.specs.Str.{chars}
+use Rattle.clap.specs.Faults.{defaults_fault, flags_fault, walk_fault}
+use Rattle.clap.specs.Takes.{flags_pass, walk_passes}
+use Rattle.clap.specs.Walk.{bundle_met, walked}
+use Rattle.ttx_digits.specs.Digits.{decimal_in, two_decimals}
+use Rattle.ttx_arguments.specs.Arguments.{command_named}
+use Rattle.ttx_arguments.specs.Grammar.{ttx_app}
+use Rattle.ttx_arguments.specs.Orders.{Asks, order_at}
+use Rattle.ttx_arguments.specs.Moments.{moment_of}
+use Rattle.ttx_arguments.specs.Examples.{VersionWords, CertifyWords, SendWords, RepeatWords, TwiceWords}
+
+pub version_words : VersionWords
+unfolding ttx_app walked bundle_met chars encode_utf8 flags_pass walk_passes flags_fault walk_fault defaults_fault
+version_words names = (refl, refl)
+
+pub certify_words : CertifyWords
+unfolding ttx_app walked bundle_met chars encode_utf8 flags_pass walk_passes flags_fault walk_fault defaults_fault Asks order_at command_named
+certify_words names = inl (refl, refl)
+
+pub send_words : SendWords
+unfolding ttx_app walked bundle_met chars encode_utf8 flags_pass walk_passes flags_fault walk_fault defaults_fault Asks order_at command_named moment_of decimal_in two_decimals
+send_words names = (inl (refl, refl), inl (refl, refl))
+
+pub repeat_words : RepeatWords
+unfolding ttx_app walked bundle_met chars encode_utf8 flags_pass walk_passes flags_fault walk_fault defaults_fault Asks order_at command_named
+repeat_words names = (inl (refl, refl), refl)
+
+pub twice_words : TwiceWords
+unfolding ttx_app walked bundle_met chars encode_utf8 flags_pass walk_passes flags_fault walk_fault defaults_fault Asks order_at command_named
+twice_words names = (inl (refl, refl), inl (refl, refl))

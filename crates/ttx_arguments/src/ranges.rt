@@ -1,0 +1,115 @@
+//! Numbers of options, each inside its range.
+
+ghost use Rattle.std.specs.Prelude.{◌≡◌, ◌≤◌, ◌*◌};
+
+use std::marker::Model;
+
+/// How many lines of a field carry teletext, 1 to 32.
+#[derive(Clone, Copy)]
+pub struct Lines {
+    count: u8,
+}
+
+impl Model for Lines {
+    ghost use Rattle.std.specs.Prelude.{◌≤◌, ℕ};
+
+    ghost Value = { ℕ };
+
+    ghost view = { λ l. l.count };
+
+    ghost inverse = { λ n. record { count = n } };
+
+    ghost invariant = { λ l. (1 ≤ l.count) × (l.count ≤ 32) };
+}
+
+impl Lines {
+    // So many lines.
+    pub(crate) fn new(count: u8) -> Lines
+        requires { (1 ≤ count) × (count ≤ 32) }
+        ensures { result ≡ count }
+    {
+        Lines { count }
+    }
+
+    /// The number of lines, 1 to 32.
+    pub fn count(&self) -> u8
+        ensures value { result ≡ self.now }
+        ensures from { 1 ≤ result }
+        ensures to { result ≤ 32 }
+    {
+        self.count
+    }
+}
+
+/// The repeat count: of so many successive transmissions of a character one at least is received right, 1 to 8.
+#[derive(Clone, Copy)]
+pub struct Repeat {
+    times: u8,
+}
+
+impl Model for Repeat {
+    ghost use Rattle.std.specs.Prelude.{◌≤◌, ℕ};
+
+    ghost Value = { ℕ };
+
+    ghost view = { λ r. r.times };
+
+    ghost inverse = { λ n. record { times = n } };
+
+    ghost invariant = { λ r. (1 ≤ r.times) × (r.times ≤ 8) };
+}
+
+impl Repeat {
+    // So many transmissions.
+    pub(crate) fn new(times: u8) -> Repeat
+        requires { (1 ≤ times) × (times ≤ 8) }
+        ensures { result ≡ times }
+    {
+        Repeat { times }
+    }
+
+    /// The number of transmissions, 1 to 8.
+    pub fn count(&self) -> u8
+        ensures value { result ≡ self.now }
+        ensures from { 1 ≤ result }
+        ensures to { result ≤ 8 }
+    {
+        self.times
+    }
+}
+
+/// By how many half hours the clock in page headers is ahead of UTC, 0 to 47.
+#[derive(Clone, Copy)]
+pub struct Offset {
+    half_hours: u8,
+}
+
+impl Model for Offset {
+    ghost use Rattle.std.specs.Prelude.{◌≤◌, ℕ};
+
+    ghost Value = { ℕ };
+
+    ghost view = { λ o. o.half_hours };
+
+    ghost inverse = { λ n. record { half_hours = n } };
+
+    ghost invariant = { λ o. o.half_hours ≤ 47 };
+}
+
+impl Offset {
+    // So many half hours.
+    pub(crate) fn new(half_hours: u8) -> Offset
+        requires { half_hours ≤ 47 }
+        ensures { result ≡ half_hours }
+    {
+        Offset { half_hours }
+    }
+
+    /// The same in seconds, below 86,400.
+    pub fn seconds(&self) -> u32
+        ensures value { result ≡ 1800 * self.now }
+        ensures to { result ≤ 84600 }
+    {
+        1800 * u32::from(self.half_hours)
+    }
+}
