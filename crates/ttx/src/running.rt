@@ -20,7 +20,7 @@ type Outcome = io::Result<u8>;
 // Tells which program this is.
 fn version(rt: &HostRuntime) -> Result<u8, ToolFault> {
     let mut writer = Counted::new(io::writer(rt));
-    commands::version(&mut writer).map(|()| 0)
+    commands::version::run(&mut writer).map(|()| 0)
 }
 
 /// Opens the inputs in the order of the arguments, makes the output file anew where it is none of them, and runs the command. An
@@ -49,7 +49,7 @@ pub fn run_order(rt: &HostRuntime, order: &Order<'_>) -> Outcome {
         Order::Send { cycle, sending } => cycles::send(rt, cycle, sending),
         Order::Pages { cycle } => cycles::pages(rt, cycle),
         Order::Book { cycle, out } => cycles::book(rt, cycle, out),
-        Order::Extract { cycle, out, lines } => cycles::extract(rt, cycle, out, *lines),
+        Order::Extract { cycle, out, lines } => cycles::extract(rt, cycle, out, lines.count()),
         Order::Check { service } => services::check(rt, service),
         Order::Version => Ok(status_of(rt, version(rt))),
     }

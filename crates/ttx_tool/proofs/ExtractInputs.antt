@@ -2,7 +2,7 @@
 use Rattle.std.proofs.Common.{◌≡◌, ℕ, List, Option, Some, None}
 use Rattle.std.specs.Prelude.{IfSome}
 use Rattle.ttx_cycle.specs.Files.{IsCycle, file_of}
-use Rattle.ttx_tool.specs.ExtractingFiles.{IsExtracted, IsExtracting}
+use Rattle.ttx_tool.specs.Extract.{IsExtracted, IsExtracting}
 
 module _ (slots : List (List ℕ)) (is_cycle : IsCycle slots) where
   pub extracting_of : (lines : ℕ) (text line : List ℕ) → IsExtracted slots lines text line → (a : Option (List ℕ)) →

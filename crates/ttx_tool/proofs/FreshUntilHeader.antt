@@ -9,7 +9,7 @@ use Rattle.ttx_page.specs.declared.class.Class.{Class}
 use Rattle.ttx_page.specs.declared.selection.Selection.{Selection}
 use Rattle.ttx_page.specs.Receivers.{older, erased, begun, erases, misses, with_row, with_storing, with_links, stored_row, after, Run}
 use Rattle.ttx_page.specs.Streams.{heads_matched}
-use Rattle.ttx_tool.specs.Showing.{has_matching_header, stays_fresh}
+use Rattle.ttx_tool.specs.Show.{has_matching_header, stays_fresh}
 
 and_true : (b : Bool) → b ≡ (b && not false)
 and_true true = refl

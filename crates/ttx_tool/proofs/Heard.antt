@@ -9,7 +9,7 @@ use Rattle.ttx_page.specs.Receivers.{Step, Run}
 use Rattle.ttx_page.specs.Streams.{Stream, repeated}
 use Rattle.ttx_page.specs.declared.class.Class.{Class}
 use Rattle.ttx_page.specs.declared.selection.Selection.{Selection}
-use Rattle.ttx_tool.specs.Receiving.{tuned_as, Hears}
+use Rattle.ttx_tool.specs.Receive.{tuned_as, Hears}
 
 -- the slots that are sent, and one more
 sent_more : (s : Stream) (a n : ℕ) → sent_from s (pos a) (suc n) ≡ sent_from s (pos a) n ++ s (pos (a + n)) ∷ []

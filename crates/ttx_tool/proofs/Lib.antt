@@ -1,3 +1,5 @@
+mod AnsweredFaults
+mod AskedReceivers
 mod ReadHeaders
 mod FieldLines
 mod Heard
@@ -16,3 +18,4 @@ mod ReadingBoth
 mod ShownFile
 mod CertificateLengths
 mod NamedSlots
+mod FailedDevices

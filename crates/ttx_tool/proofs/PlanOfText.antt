@@ -10,7 +10,7 @@ use Rattle.ttx_plan.specs.Carries.{Carries, blocks_sent}
 use Rattle.ttx_plan.specs.declared.faults.PlanFault.{PlanFault}
 use Rattle.ttx_plan.specs.declared.faults.PlanFault.TheVariants as plan
 use Rattle.ttx_source.specs.Services.{ServiceFields}
-use Rattle.ttx_tool.specs.Planning.{IsPlan}
+use Rattle.ttx_tool.specs.Plan.{IsPlan}
 
 -- a plan that is answered is not above the bound
 within : (bound : ℕ) (result : Result CycleValue PlanFault) (cycle : CycleValue) → result ≡ Ok cycle →

@@ -16,7 +16,7 @@ use Rattle.ttx_page.specs.declared.class.Class.{Class}
 use Rattle.ttx_plan.specs.Acceptance.{IsPlanned, PlannedIsFound}
 use Rattle.ttx_plan.specs.Following.{AreFollowed, PlannedIsFollowed}
 use Rattle.ttx_source.specs.Services.{ServiceFields, pages_of, read_bytes}
-use Rattle.ttx_tool.specs.FindingFiles.{TellsFound, IsFinding}
+use Rattle.ttx_tool.specs.Find.{TellsFound, IsFinding}
 use Rattle.ttx_tool.specs.PlannedFiles as T
 use Rattle.ttx_tool.specs.PlannedFiles.{IsCertified, FoundIsCertified, SaysYes, LateIsCertified, FindsDeadline, MakesCertified}
 use Rattle.ttx_tool.proofs.SameInputs.{same_slots, same_ok}

@@ -4,8 +4,8 @@ use Rattle.std.specs.Prelude.{IfSome}
 use Rattle.ttx_certify.specs.CertifyingFiles.{IsServiceText}
 use Rattle.ttx_cycle.specs.Files.{IsCycle, IsPacketFile, file_of}
 use Rattle.ttx_source.specs.Services.{ServiceFields}
-use Rattle.ttx_tool.specs.FindingFiles.{IsNoFinding, CountsInputs}
-use Rattle.ttx_tool.specs.Planning.{IsNoText, CountsDefinition}
+use Rattle.ttx_tool.specs.Find.{IsNoFinding, CountsInputs}
+use Rattle.ttx_tool.specs.Plan.{IsNoText, CountsDefinition}
 use Rattle.ttx_tool.specs.declared.faults.ToolFault.{ToolFault}
 use Rattle.ttx_tool.specs.declared.faults.ToolFault.TheVariants.{Cycle, Service, Certificate, Read, TooLong, Write, NoMemory, Plan, Class, Same}
 use Rattle.ttx_tool.specs.declared.faults.ToolFault.TheVariants.{Counter}

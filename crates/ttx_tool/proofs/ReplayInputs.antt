@@ -6,8 +6,8 @@ use Rattle.ttx_counter.specs.Counters.{CounterRun}
 use Rattle.ttx_cycle.specs.Files.{IsPacketFile}
 use Rattle.ttx_source.specs.Services.{ServiceFields, pages_of}
 use Rattle.ttx_cycle.specs.declared.faults.CycleFault.TheVariants as cycle
-use Rattle.ttx_tool.specs.FindingFiles.{CountsInputs}
-use Rattle.ttx_tool.specs.ReplayingFiles.{IsCounterText, IsReplay, IsReplaying, CountsReplayInputs}
+use Rattle.ttx_tool.specs.Find.{CountsInputs}
+use Rattle.ttx_tool.specs.Replay.{IsCounterText, IsReplay, IsReplaying, CountsReplayInputs}
 use Rattle.ttx_tool.specs.declared.faults.ToolFault.{ToolFault}
 use Rattle.ttx_tool.specs.declared.faults.ToolFault.TheVariants.{Cycle, Service, Certificate, Read, TooLong, Write, NoMemory, Plan, Class, Same}
 use Rattle.ttx_tool.specs.declared.faults.ToolFault.TheVariants.{Counter}

@@ -4,9 +4,9 @@ use Rattle.std.specs.Io.KnownBytes.{Keeps}
 use Rattle.std.specs.Prelude.{IfSome}
 use Rattle.ttx_arguments.specs.declared.orders.Look.{Look}
 use Rattle.ttx_page.specs.Memories.{Memory}
-use Rattle.ttx_tool.specs.Receiving.{Tuning}
+use Rattle.ttx_tool.specs.Receive.{Tuning}
 use Rattle.ttx_tool.specs.Reports.{Reports}
-use Rattle.ttx_tool.specs.Showing.{shown_text, shown_status, IsShownFile, ShowsFile}
+use Rattle.ttx_tool.specs.Show.{shown_text, shown_status, IsShownFile, ShowsFile}
 use Rattle.ttx_tool.specs.declared.faults.ToolFault.{ToolFault}
 use Rattle.ttx_tool.specs.declared.faults.ToolFault.TheVariants.{Cycle, Service, Certificate, Read, TooLong, Write, NoMemory, Plan, Class, Same}
 use Rattle.ttx_tool.specs.declared.faults.ToolFault.TheVariants.{Counter}

@@ -13,7 +13,7 @@ use Rattle.ttx_page.specs.declared.class.Class.TheVariants.{Any}
 use Rattle.ttx_page.specs.declared.page.Page.{Page as PageValue}
 use Rattle.ttx_source.specs.Services as S
 use Rattle.ttx_source.specs.Services.{ServiceFields, pages_of}
-use Rattle.ttx_tool.specs.RefutingFiles.{TellsAnswer, IsRefutation, IsRefutingFiles}
+use Rattle.ttx_tool.specs.Refute.{TellsAnswer, IsRefutation, IsRefutingFiles}
 use Rattle.ttx_witness.specs.Entries.{CertificateFields}
 use Rattle.ttx_witness.specs.finding.Finding.{IsSentUnchanged, CanBeAccepted}
 

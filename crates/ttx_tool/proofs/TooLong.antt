@@ -3,7 +3,7 @@ use Rattle.std.proofs.Common.{◌≡◌, ◌<◌, Ok, sym, ◌∙◌, subst, ari
 use Rattle.ttx_plan.specs.Blocks.{length_bound}
 use Rattle.ttx_plan.specs.Carries.{blocks_sent}
 use Rattle.ttx_source.specs.Services.{ServiceFields}
-use Rattle.ttx_tool.specs.PlanningLaws.{PlannedIsNotTooLong}
+use Rattle.ttx_tool.specs.PlanLaws.{PlannedIsNotTooLong}
 
 pub planned_is_not_too_long : PlannedIsNotTooLong
 planned_is_not_too_long bytes late class slots planned refused =

@@ -5,8 +5,8 @@ use Rattle.ttx_certify.specs.CertifyingFiles.{IsServiceText}
 use Rattle.ttx_cycle.specs.Files.{IsPacketFile}
 use Rattle.ttx_page.specs.declared.class.Class.{Class}
 use Rattle.ttx_source.specs.Services.{ServiceFields}
-use Rattle.ttx_tool.specs.FindingFiles.{IsFoundAndTold, IsFinding}
-use Rattle.ttx_tool.specs.WaitingFiles.{IsWaitOf, IsWaiting}
+use Rattle.ttx_tool.specs.Find.{IsFoundAndTold, IsFinding}
+use Rattle.ttx_tool.specs.Wait.{IsWaitOf, IsWaiting}
 use Rattle.ttx_wait.specs.declared.reports.Detail.{Detail}
 
 -- what follows of two inputs whose bytes are known

@@ -15,8 +15,8 @@ use Rattle.ttx_late.specs.CertifyingLate.{CertifiesLate}
 use Rattle.ttx_late.specs.declared.verdict.LateVerdict.{LateVerdict}
 use Rattle.ttx_late.specs.declared.verdict.LateVerdict.TheVariants as late
 use Rattle.ttx_page.specs.declared.class.Class.{Class}
-use Rattle.ttx_tool.specs.FindingFiles.{IsFinding}
-use Rattle.ttx_tool.specs.Planning.{IsPlan}
+use Rattle.ttx_tool.specs.Find.{IsFinding}
+use Rattle.ttx_tool.specs.Plan.{IsPlan}
 use Rattle.ttx_tool.specs.declared.faults.ToolFault.{ToolFault}
 
 -- a packet file that `plan` writes for the text of a service and receivers of the class

@@ -21,7 +21,7 @@ use Rattle.ttx_source.specs.Values.{Fault, not_toml, missing, wrong_kind, wrong_
 use Rattle.ttx_source.specs.Values.{wrong_often, out_of_range, no_memory}
 use Rattle.ttx_certificate.specs.declared.certificate_faults.CertFault.{CertFault}
 use Rattle.ttx_certificate.specs.declared.certificate_faults.CertFault.TheVariants as cert
-use Rattle.ttx_certify.specs.declared.faults.TextFile.TheVariants as text
+use Rattle.ttx_files.specs.declared.faults.TextFile.TheVariants as text
 use Rattle.ttx_arguments.specs.declared.orders.WordsFault.{WordsFault}
 use Rattle.ttx_arguments.specs.declared.orders.WordsFault.TheVariants as words
 use Rattle.ttx_tool.specs.declared.faults.ToolFault.{ToolFault}

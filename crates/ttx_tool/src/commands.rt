@@ -1,31 +1,26 @@
-//! The commands, over readers and writers, and the reports of what goes wrong.
+//! The commands, one module each, over readers and writers, and the reports of what goes wrong.
+//!
+//! `run` of a module is its command. `certify` has `run_twice` beside it, for a cycle that is read twice.
 
-mod extracting;
-mod finding;
+pub mod book;
+pub mod certify;
+pub mod check;
+pub mod extract;
+pub mod find;
 mod inputs;
-mod inspecting;
-mod planning;
-mod previewing;
-mod receiving;
-mod refuting;
-mod replaying;
-mod reporting;
-mod sending;
-mod showing;
-mod versions;
-mod waiting;
+pub mod inspect;
+pub mod pages;
+pub mod plan;
+pub mod preview;
+pub mod receive;
+pub mod refute;
+pub mod replay;
+mod reports;
+pub mod send;
+pub mod show;
+pub mod splice;
+pub mod version;
+pub mod wait;
 mod writing;
 
-pub use extracting::extract;
-pub use finding::find;
-pub use inspecting::inspect;
-pub use planning::plan;
-pub use previewing::preview;
-pub use receiving::receive;
-pub use refuting::refute;
-pub use replaying::replay;
-pub use reporting::{report, report_extraction, report_words};
-pub use sending::send;
-pub use showing::show;
-pub use versions::version;
-pub use waiting::wait;
+pub use reports::{report, report_extraction, report_words};

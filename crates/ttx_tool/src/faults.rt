@@ -1,12 +1,14 @@
 //! Why a command fails.
 
 ghost use Rattle.std.specs.Prelude.{◌≡◌};
-ghost use Rattle.ttx_tool.specs.FilesFaults.{tool_fault};
+ghost use Rattle.ttx_tool.specs.FilesFaults.{tool_fault, pages_tool_fault, check_tool_fault};
 
-use ttx_certify::{FilesFault, TextFile};
+use ttx_check::CheckFault;
 use ttx_counter::CounterFault;
 use ttx_cycle::CycleFault;
 use ttx_extract::ExtractFault;
+use ttx_files::{FilesFault, TextFile};
+use ttx_pages::PagesFault;
 use ttx_plan::PlanFault;
 use ttx_source::SourceError;
 use ttx_witness::CertFault;
@@ -73,6 +75,29 @@ impl ToolFault {
             FilesFault::TooLong { which } => ToolFault::TooLong { which },
             FilesFault::Write { written } => ToolFault::Write { written },
             FilesFault::NoMemory => ToolFault::NoMemory,
+        }
+    }
+    /// The fault of the same name of a list of pages.
+    pub fn from_pages(fault: PagesFault) -> ToolFault
+        ensures { result ≡ pages_tool_fault fault }
+    {
+        match fault {
+            PagesFault::Cycle(fault) => ToolFault::Cycle(fault),
+            PagesFault::Write { written } => ToolFault::Write { written },
+            PagesFault::NoMemory => ToolFault::NoMemory,
+        }
+    }
+
+    /// The fault of the same name of a service text that is checked.
+    pub fn from_check(fault: CheckFault) -> ToolFault
+        ensures { result ≡ check_tool_fault fault }
+    {
+        let which = TextFile::Service;
+        match fault {
+            CheckFault::Read => ToolFault::Read { which },
+            CheckFault::TooLong => ToolFault::TooLong { which },
+            CheckFault::Write { written } => ToolFault::Write { written },
+            CheckFault::NoMemory => ToolFault::NoMemory,
         }
     }
 }

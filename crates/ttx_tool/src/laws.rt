@@ -1,7 +1,7 @@
 //! Laws of what the commands answer, also where they follow one another. A call costs nothing and gives the caller's proof the law.
 
 ghost use Rattle.ttx_tool.specs.PlannedFiles.{FoundIsCertified, LateIsCertified, PlannedFilesAreFound};
-ghost use Rattle.ttx_tool.specs.PlanningLaws.{PlannedIsNotTooLong};
+ghost use Rattle.ttx_tool.specs.PlanLaws.{PlannedIsNotTooLong};
 
 /// In a packet file that `plan` writes for the text of a service, `find` finds a deadline for the class of the plan and each
 /// repeat count.

@@ -12,4 +12,4 @@ mod views;
 
 pub use faults::{CounterFileFault, ExtractionFault, ToolFault};
 pub use ttx_arguments::{Look, Order, ReceiverKind, Tuning, WordsFault, words};
-pub use ttx_certify::TextFile;
+pub use ttx_files::TextFile;

@@ -5,8 +5,8 @@ ghost use Rattle.ttx_cycle.specs.Counters.{inner_of, faults_of};
 ghost use Rattle.ttx_cycle.specs.Reading.{CountsRead};
 ghost use Rattle.ttx_page.specs.Laws.{sent_from};
 ghost use Rattle.ttx_page.specs.Streams.{repeated};
-ghost use Rattle.ttx_tool.specs.Receiving.{tuned_as, Hears};
-ghost use Rattle.ttx_tool.specs.Showing.{stays_fresh, HearsFile};
+ghost use Rattle.ttx_tool.specs.Receive.{tuned_as, Hears};
+ghost use Rattle.ttx_tool.specs.Show.{stays_fresh, HearsFile};
 
 use std::alloc::Global;
 use std::io::Read;

@@ -8,33 +8,31 @@ use std::fs::File;
 use std::io;
 use std::io::BufReader;
 use ttx_arguments::{CertifyOrder, FindOrder, WaitOrder};
-use ttx_certify::{Verdict, certify_files, certify_passes};
 use ttx_cycle::Counted;
-use ttx_late::{LateVerdict, certify_files_late};
 use ttx_tool::{ToolFault, commands};
 use ttx_wait::Detail;
 
-// The status is 0 where the verdict is Yes, else 1.
-fn certify_readers(rt: &HostRuntime, readers: &mut ClaimReaders) -> Result<u8, ToolFault> {
+fn certify_readers(
+    rt: &HostRuntime,
+    readers: &mut ClaimReaders,
+    late: bool,
+) -> Result<u8, ToolFault> {
     let mut writer = Counted::new(io::writer(rt));
-    match certify_files(
+    commands::certify::run(
         rt.alloc(),
         &mut readers.cycle,
         &mut readers.service,
         &mut readers.text,
+        late,
         &mut writer,
-    ) {
-        Ok(Verdict::Yes) => Ok(0),
-        Ok(Verdict::No(_)) => Ok(1),
-        Err(fault) => Err(ToolFault::from_files(fault)),
-    }
+    )
 }
 
-fn certify_claim(rt: &HostRuntime, claim: Claim) -> Result<u8, ToolFault> {
+fn certify_claim(rt: &HostRuntime, claim: Claim, late: bool) -> Result<u8, ToolFault> {
     let Ok(mut readers) = claim.readers(rt) else {
         return Err(ToolFault::NoMemory);
     };
-    certify_readers(rt, &mut readers)
+    certify_readers(rt, &mut readers, late)
 }
 
 // The same for a cycle that is read twice.
@@ -44,18 +42,14 @@ fn certify_readers_twice(
     readers: &mut ClaimReaders,
 ) -> Result<u8, ToolFault> {
     let mut writer = Counted::new(io::writer(rt));
-    match certify_passes(
+    commands::certify::run_twice(
         rt.alloc(),
         first,
         &mut readers.cycle,
         &mut readers.service,
         &mut readers.text,
         &mut writer,
-    ) {
-        Ok(Verdict::Yes) => Ok(0),
-        Ok(Verdict::No(_)) => Ok(1),
-        Err(fault) => Err(ToolFault::from_files(fault)),
-    }
+    )
 }
 
 fn certify_twice(rt: &HostRuntime, first: Input, claim: Claim) -> Result<u8, ToolFault> {
@@ -68,29 +62,6 @@ fn certify_twice(rt: &HostRuntime, first: Input, claim: Claim) -> Result<u8, Too
     certify_readers_twice(rt, &mut first, &mut readers)
 }
 
-// The same where receivers may show pages late.
-fn certify_readers_late(rt: &HostRuntime, readers: &mut ClaimReaders) -> Result<u8, ToolFault> {
-    let mut writer = Counted::new(io::writer(rt));
-    match certify_files_late(
-        rt.alloc(),
-        &mut readers.cycle,
-        &mut readers.service,
-        &mut readers.text,
-        &mut writer,
-    ) {
-        Ok(LateVerdict::Yes { .. }) => Ok(0),
-        Ok(_) => Ok(1),
-        Err(fault) => Err(ToolFault::from_files(fault)),
-    }
-}
-
-fn certify_late(rt: &HostRuntime, claim: Claim) -> Result<u8, ToolFault> {
-    let Ok(mut readers) = claim.readers(rt) else {
-        return Err(ToolFault::NoMemory);
-    };
-    certify_readers_late(rt, &mut readers)
-}
-
 /// Opens the cycle, once more where it is read twice, the service and the certificate, and judges the cycle by the certificate.
 pub fn certify(rt: &HostRuntime, order: &CertifyOrder<'_>) -> Outcome {
     if order.twice && !order.late {
@@ -99,11 +70,7 @@ pub fn certify(rt: &HostRuntime, order: &CertifyOrder<'_>) -> Outcome {
         return Ok(status_of(rt, certify_twice(rt, first, claim)));
     }
     let claim = Claim::open(rt, order.cycle, order.service, order.certificate)?;
-    if order.late {
-        Ok(status_of(rt, certify_late(rt, claim)))
-    } else {
-        Ok(status_of(rt, certify_claim(rt, claim)))
-    }
+    Ok(status_of(rt, certify_claim(rt, claim, order.late)))
 }
 
 // The status is 0 where there is a deadline, else 1.
@@ -114,13 +81,11 @@ fn find_in(
     file: &mut Counted<File>,
 ) -> Result<u8, ToolFault> {
     let mut writer = Counted::new(io::writer(rt));
-    // The arguments have it in this range.
-    let repeat = order.repeat.clamp(1, 8);
-    commands::find(
+    commands::find::run(
         rt.alloc(),
         &mut readers.cycle,
         &mut readers.service,
-        repeat,
+        order.repeat.count(),
         order.class,
         file,
         &mut writer,
@@ -156,18 +121,16 @@ fn wait_in(
     order: &WaitOrder<'_>,
 ) -> Result<u8, ToolFault> {
     let mut writer = Counted::new(io::writer(rt));
-    // The arguments have it in this range.
-    let repeat = order.repeat.clamp(1, 8);
     let detail = if order.items {
         Detail::Items
     } else {
         Detail::Pages
     };
-    commands::wait(
+    commands::wait::run(
         rt.alloc(),
         &mut readers.cycle,
         &mut readers.service,
-        repeat,
+        order.repeat.count(),
         order.class,
         detail,
         &mut writer,

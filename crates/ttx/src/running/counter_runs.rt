@@ -18,7 +18,7 @@ fn refute_readers<O: Write>(
     file: &mut Counted<O>,
 ) -> Result<u8, ToolFault> {
     let mut writer = Counted::new(io::writer(rt));
-    commands::refute(
+    commands::refute::run(
         rt.alloc(),
         &mut readers.cycle,
         &mut readers.service,
@@ -58,7 +58,7 @@ pub fn refute(rt: &HostRuntime, order: &RefuteOrder<'_>) -> Outcome {
 // The status is 0 where the text is that of a counter-run, else 1.
 fn replay_readers(rt: &HostRuntime, readers: &mut ClaimReaders) -> Result<u8, ToolFault> {
     let mut writer = Counted::new(io::writer(rt));
-    commands::replay(
+    commands::replay::run(
         rt.alloc(),
         &mut readers.cycle,
         &mut readers.service,

@@ -6,9 +6,8 @@ use crate::devices::{Input, create_out, open_input};
 use crate::reports::{report, status_of};
 use std::fs::File;
 use std::io;
-use ttx_arguments::{Sending, WordsFault};
+use ttx_arguments::Sending;
 use ttx_cycle::Counted;
-use ttx_pages::PagesFault;
 use ttx_send::Moment;
 use ttx_tool::{ExtractionFault, ToolFault, commands};
 
@@ -17,7 +16,7 @@ fn inspect_input(rt: &HostRuntime, input: Input) -> Result<u8, ToolFault> {
         return Err(ToolFault::NoMemory);
     };
     let mut writer = Counted::new(io::writer(rt));
-    commands::inspect(rt.alloc(), &mut reader, &mut writer).map(|()| 0)
+    commands::inspect::run(rt.alloc(), &mut reader, &mut writer).map(|()| 0)
 }
 
 /// Shows the slots of a packet file.
@@ -25,23 +24,12 @@ pub fn inspect(rt: &HostRuntime, file: &str) -> Outcome {
     Ok(status_of(rt, inspect_input(rt, open_input(rt, file)?)))
 }
 
-// The fault of the same name.
-fn from_pages(fault: PagesFault) -> ToolFault {
-    match fault {
-        PagesFault::Cycle(fault) => ToolFault::Cycle(fault),
-        PagesFault::Write { written } => ToolFault::Write { written },
-        PagesFault::NoMemory => ToolFault::NoMemory,
-    }
-}
-
 fn pages_of(rt: &HostRuntime, input: Input) -> Result<u8, ToolFault> {
     let Ok(mut reader) = buffered(rt, input) else {
         return Err(ToolFault::NoMemory);
     };
     let mut writer = Counted::new(io::writer(rt));
-    ttx_pages::pages(rt.alloc(), &mut reader, &mut writer)
-        .map(|()| 0)
-        .map_err(from_pages)
+    commands::pages::run(rt.alloc(), &mut reader, &mut writer)
 }
 
 /// Tells which pages a cycle has.
@@ -54,9 +42,7 @@ fn book_of(rt: &HostRuntime, input: Input, out: File) -> Result<u8, ToolFault> {
         return Err(ToolFault::NoMemory);
     };
     let mut file = Counted::new(out);
-    ttx_book::book(rt.alloc(), &mut reader, &mut file)
-        .map(|()| 0)
-        .map_err(from_pages)
+    commands::book::run(rt.alloc(), &mut reader, &mut file)
 }
 
 /// Opens the cycle, makes the book's file anew, and writes all pages of the cycle to it.
@@ -74,7 +60,7 @@ fn extract_from(rt: &HostRuntime, input: Input, lines: u8, out: File) -> Result<
     };
     let mut file = Counted::new(out);
     let mut writer = Counted::new(io::writer(rt));
-    match commands::extract(rt.alloc(), &mut reader, lines, &mut file, &mut writer) {
+    match commands::extract::run(rt.alloc(), &mut reader, lines, &mut file, &mut writer) {
         Ok(status) => Ok(status),
         Err(ExtractionFault::Tool(fault)) => Err(fault),
         Err(ExtractionFault::Refused(fault)) => {
@@ -95,21 +81,17 @@ pub fn extract(rt: &HostRuntime, cycle: &str, out: &str, lines: u8) -> Outcome {
 
 // Sends a cycle, from the moment on that the arguments name.
 fn send_input(rt: &HostRuntime, input: Input, sending: &Sending) -> Result<u8, ToolFault> {
-    let Some(start) = Moment::new(sending.mjd, sending.second, sending.ahead) else {
-        let mut errors = Counted::new(rt.stderr());
-        return commands::report_words(rt.alloc(), &WordsFault::Time, &mut errors);
-    };
+    let (start, offset) = (&sending.start, &sending.offset);
+    let start = Moment::new(start.mjd(), start.second(), offset.seconds()).unwrap();
     let Ok(mut reader) = buffered(rt, input) else {
         return Err(ToolFault::NoMemory);
     };
     let mut writer = Counted::new(io::writer(rt));
-    // The arguments have it in this range.
-    let lines = sending.lines.clamp(1, 32);
-    commands::send(
+    commands::send::run(
         rt.alloc(),
         &mut reader,
         &start,
-        lines,
+        sending.lines.count(),
         sending.phase,
         sending.fields,
         &mut writer,

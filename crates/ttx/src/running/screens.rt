@@ -5,17 +5,15 @@ use super::inputs::buffered;
 use crate::devices::{Input, open_input};
 use crate::reports::status_of;
 use std::io;
-use ttx_arguments::{Look, ReceiverKind, Tuning};
+use ttx_arguments::{Look, Tuning};
 use ttx_cycle::Counted;
-use ttx_page::{PageMemory, Selection};
-use ttx_receiver::{Careful, Cleared, Eager, Receiver};
+use ttx_page::Selection;
 use ttx_tool::{ToolFault, commands};
 
 // Shows a page as it is asked for, or writes what is held of it word by word.
-fn receive_by<X: Receiver + Drop>(
+fn receive_input(
     rt: &HostRuntime,
     input: Input,
-    receiver: X,
     tuning: &Tuning,
     look: Option<&Look<'_>>,
 ) -> Result<u8, ToolFault> {
@@ -24,48 +22,8 @@ fn receive_by<X: Receiver + Drop>(
     };
     let mut writer = Counted::new(io::writer(rt));
     match look {
-        Some(look) => commands::show(rt.alloc(), &mut reader, receiver, tuning, look, &mut writer),
-        None => commands::receive(
-            rt.alloc(),
-            &mut reader,
-            receiver,
-            tuning.start,
-            tuning.slots,
-            &mut writer,
-        ),
-    }
-}
-
-// By a receiver of the kind that is asked for, with nothing received before.
-fn receive_input(
-    rt: &HostRuntime,
-    input: Input,
-    tuning: &Tuning,
-    look: Option<&Look<'_>>,
-) -> Result<u8, ToolFault> {
-    let (selection, lines, blank) = (tuning.selection, tuning.lines, PageMemory::blank());
-    match tuning.kind {
-        ReceiverKind::Eager => receive_by(
-            rt,
-            input,
-            Eager::new(selection, lines, blank),
-            tuning,
-            look,
-        ),
-        ReceiverKind::Careful => receive_by(
-            rt,
-            input,
-            Careful::new(selection, lines, blank),
-            tuning,
-            look,
-        ),
-        ReceiverKind::Cleared => receive_by(
-            rt,
-            input,
-            Cleared::new(selection, lines, blank),
-            tuning,
-            look,
-        ),
+        Some(look) => commands::show::run(rt.alloc(), &mut reader, tuning, look, &mut writer),
+        None => commands::receive::run(rt.alloc(), &mut reader, tuning, &mut writer),
     }
 }
 
@@ -84,7 +42,7 @@ fn preview_input(
         return Err(ToolFault::NoMemory);
     };
     let mut writer = Counted::new(io::writer(rt));
-    commands::preview(rt.alloc(), &mut reader, selection, look, &mut writer)
+    commands::preview::run(rt.alloc(), &mut reader, selection, look, &mut writer)
 }
 
 /// Opens the service, and shows a page of it before it is sent.

@@ -8,29 +8,16 @@ use std::fs::File;
 use std::io;
 use std::io::BufReader;
 use ttx_arguments::PlanOrder;
-use ttx_certify::TextFile;
-use ttx_check::CheckFault;
 use ttx_cycle::Counted;
 use ttx_plan::Receivers;
 use ttx_tool::{ToolFault, commands};
-
-// The fault of the same name.
-fn from_check(fault: CheckFault) -> ToolFault {
-    let which = TextFile::Service;
-    match fault {
-        CheckFault::Read => ToolFault::Read { which },
-        CheckFault::TooLong => ToolFault::TooLong { which },
-        CheckFault::Write { written } => ToolFault::Write { written },
-        CheckFault::NoMemory => ToolFault::NoMemory,
-    }
-}
 
 fn check_input(rt: &HostRuntime, input: Input) -> Result<u8, ToolFault> {
     let Ok(mut reader) = buffered(rt, input) else {
         return Err(ToolFault::NoMemory);
     };
     let mut writer = Counted::new(io::writer(rt));
-    ttx_check::check(rt.alloc(), &mut reader, &mut writer).map_err(from_check)
+    commands::check::run(rt.alloc(), &mut reader, &mut writer)
 }
 
 /// Opens the service, and tells what is wrong, or likely wrong, in its text.
@@ -45,7 +32,7 @@ fn plan_to(
     file: &mut Counted<File>,
 ) -> Result<u8, ToolFault> {
     let mut writer = Counted::new(io::writer(rt));
-    commands::plan(rt.alloc(), reader, receivers, file, &mut writer)
+    commands::plan::run(rt.alloc(), reader, receivers, file, &mut writer)
 }
 
 fn plan_input(

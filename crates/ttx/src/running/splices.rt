@@ -9,8 +9,7 @@ use std::io;
 use std::io::BufReader;
 use ttx_arguments::SpliceOrder;
 use ttx_cycle::Counted;
-use ttx_proof::{SpliceVerdict, splice_files};
-use ttx_tool::ToolFault;
+use ttx_tool::{ToolFault, commands};
 
 // The inputs of a splice, the old one of each kind first.
 #[derive(Drop)]
@@ -52,10 +51,9 @@ fn buffered_all(rt: &HostRuntime, inputs: SpliceInputs) -> Result<SpliceReaders,
     })
 }
 
-// The status is 0 where the verdict is Yes, else 1.
 fn splice_readers(rt: &HostRuntime, readers: &mut SpliceReaders) -> Result<u8, ToolFault> {
     let mut writer = Counted::new(io::writer(rt));
-    match splice_files(
+    commands::splice::run(
         rt.alloc(),
         &mut readers.cycles.old,
         &mut readers.cycles.new,
@@ -64,11 +62,7 @@ fn splice_readers(rt: &HostRuntime, readers: &mut SpliceReaders) -> Result<u8, T
         &mut readers.certificates.old,
         &mut readers.certificates.new,
         &mut writer,
-    ) {
-        Ok(SpliceVerdict::Yes) => Ok(0),
-        Ok(SpliceVerdict::No(_)) => Ok(1),
-        Err(fault) => Err(ToolFault::from_files(fault)),
-    }
+    )
 }
 
 fn splice_inputs(rt: &HostRuntime, inputs: SpliceInputs) -> Result<u8, ToolFault> {

@@ -2,8 +2,8 @@
 
 ghost use Rattle.std.specs.Prelude.{IfSome};
 ghost use Rattle.ttx_cycle.specs.Counters.{inner_of, faults_of};
-ghost use Rattle.ttx_tool.specs.FindingFiles.{ReadsBoth, CountsInputs};
-ghost use Rattle.ttx_tool.specs.Planning.{Defines, CountsDefinition};
+ghost use Rattle.ttx_tool.specs.Find.{ReadsBoth, CountsInputs};
+ghost use Rattle.ttx_tool.specs.Plan.{Defines, CountsDefinition};
 
 use crate::faults::ToolFault;
 use std::alloc::Global;
@@ -26,7 +26,7 @@ pub(super) fn read_definition<R: Read>(
     ensures bytes { IfSome (R.remaining (inner_of reader.old)) (λ bytes. Defines bytes result) }
     ensures faults { CountsDefinition result (faults_of reader.old) (faults_of reader.new) }
 {
-    match ttx_certify::read_definition(alloc, reader) {
+    match ttx_files::read_definition(alloc, reader) {
         Ok(service) => Ok(service),
         Err(fault) => Err(ToolFault::from_files(fault)),
     }

@@ -3,7 +3,7 @@
 ghost use Rattle.ttx_certify.specs.CertifyingFiles.{IsUntouched};
 ghost use Rattle.ttx_cycle.specs.Counters.{inner_of, faults_of};
 ghost use Rattle.ttx_tool.specs.FilesFaults.{is_tool_write};
-ghost use Rattle.ttx_tool.specs.Planning.{WritesBoth, CountsBoth};
+ghost use Rattle.ttx_tool.specs.Plan.{WritesBoth, CountsBoth};
 ghost use Rattle.ttx_tool.specs.Reports.{Reports, CountsReport};
 
 use crate::faults::ToolFault;

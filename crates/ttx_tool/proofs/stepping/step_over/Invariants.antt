@@ -2,7 +2,7 @@ use Rattle.std.proofs.Common.{◌≡◌, ◌+◌, ◌%◌, pos, length}
 use Rattle.std.specs.Prelude.{fold}
 use Rattle.ttx_page.specs.Laws.{sent_from}
 use Rattle.ttx_page.specs.Streams.{repeated}
-use Rattle.ttx_tool.specs.Receiving.{tuned_as, Hears}
+use Rattle.ttx_tool.specs.Receive.{tuned_as, Hears}
 use Rattle.ttx_tool.proofs.stepping.step_over.Given as goal
 
 abbrev pub invariant-loop : goal.invariant-loop

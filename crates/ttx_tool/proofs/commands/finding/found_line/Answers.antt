@@ -1,5 +1,0 @@
-use Rattle.std.proofs.Common.{rules}
-use Rattle.ttx_tool.proofs.commands.finding.found_line.Goals as goal
-
-pub returns : goal.returns
-returns c = search rules

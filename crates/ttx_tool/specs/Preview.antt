@@ -1,0 +1,62 @@
+-- What `preview` writes for the text of a service.
+--
+--   first_match             the first page that a selection matches
+--   preview_text, preview_status    what is shown of it, and the status
+--   IsPreview, PreviewsText the same of the text of a service; what is answered for a text
+--   Previews                what was written at each answer
+--   CountsPreview           faults of devices are answered only where they were counted
+use Rattle.std.specs.Prelude.{◌≡◌, ℕ, ◌<◌, List, [], ◌∷◌, length, take, string_bytes, ⊤, if◌then◌else◌, Option, Some, None, Result, Ok, Err}
+use Rattle.std.specs.Io.KnownBytes.{Appends, Keeps}
+use Rattle.ttx_certify.specs.CertifyingFiles.{IsServiceText}
+use Rattle.ttx_cycle.specs.Counts.{HasRisen}
+use Rattle.ttx_page.specs.Memories.{memory_of_page}
+use Rattle.ttx_page.specs.Pages.{Page, matches}
+use Rattle.ttx_page.specs.declared.selection.Selection.{Selection}
+use Rattle.ttx_picture.specs.Forms.{picture_of}
+use Rattle.ttx_render.specs.View.{view_of}
+use Rattle.ttx_source.specs.Services.{ServiceFields, pages_of}
+use Rattle.ttx_tool.specs.Plan.{IsNoText}
+use Rattle.ttx_tool.specs.Show.{no_page_line}
+use Rattle.ttx_tool.specs.declared.faults.ToolFault.{ToolFault}
+use Rattle.ttx_tool.specs.declared.faults.ToolFault.TheVariants.{Cycle, Read, Write, Counter}
+use Rattle.ttx_tool.specs.declared.commands.writing.Told.{Told}
+use Rattle.ttx_arguments.specs.declared.orders.Look.{Look}
+
+abbrev pub first_match : Selection → List Page → Option Page
+first_match sel [] = None
+first_match sel (p ∷ pages) = if matches sel p.id then Some p else first_match sel pages
+
+-- the View of the page as it is received whole, which is that of the headline
+abbrev pub preview_text : Look → Option Page → List ℕ
+preview_text look None = no_page_line look.page.now
+preview_text look (Some p) = picture_of look.form look.reveal (view_of (memory_of_page p))
+
+abbrev pub preview_status : Option Page → ℕ
+preview_status None = 1
+preview_status (Some p) = 0
+
+-- what is shown of the first page that the selection matches in the service of a text
+pub record IsPreview (bytes : List ℕ) (sel : Selection) (look : Look) (text : List ℕ) (status : ℕ) : Type 0 where
+  pub service : ServiceFields
+  pub says : IsServiceText bytes service
+  pub text_is : text ≡ preview_text look (first_match sel (pages_of service))
+  pub status_is : status ≡ preview_status (first_match sel (pages_of service))
+
+abbrev pub PreviewsText : List ℕ → Selection → Look → Result Told ToolFault → Type 0
+PreviewsText bytes sel look (Ok preview) = IsPreview bytes sel look (string_bytes preview.text) preview.status
+PreviewsText bytes sel look (Err fault) = IsNoText bytes fault
+
+-- Ok: the text went out. A write fault: its first `written` bytes. Else nothing, and why there is no service.
+abbrev pub Previews : List ℕ → Selection → Look → Option (List ℕ) → Option (List ℕ) → Result ℕ ToolFault → Type 0
+Previews bytes sel look old new (Ok status) = (text : List ℕ) × IsPreview bytes sel look text status × Appends old new text
+Previews bytes sel look old new (Err (Write written)) =
+    (text : List ℕ) × (status : ℕ) × IsPreview bytes sel look text status × (written < length text) × Appends old new (take written text)
+Previews bytes sel look old new (Err fault) = IsNoText bytes fault × Keeps old new
+
+-- the faults counted by the reader and by the writer, before and after
+abbrev pub CountsPreview : {T : Type 0} → Result T ToolFault → ℕ → ℕ → ℕ → ℕ → Type 0
+CountsPreview (Err (Read which)) read_old read_new write_old write_new = HasRisen read_old read_new
+CountsPreview (Err (Cycle fault)) read_old read_new write_old write_new = ⊥
+CountsPreview (Err (Counter fault)) read_old read_new write_old write_new = ⊥
+CountsPreview (Err (Write written)) read_old read_new write_old write_new = HasRisen write_old write_new
+CountsPreview result read_old read_new write_old write_new = ⊤

@@ -1,0 +1,59 @@
+-- What `wait` writes for a packet file and the text of a service.
+--
+--   wait_status             0 where there is a deadline for all pages, else 1
+--   IsWaitOf, IsWaiting     what is told of a cycle and a service, and of their texts
+--   WaitsText               what is answered for them
+--   Waits                   what was written at each answer
+--   CountsWait              faults of devices are answered only where they were counted
+use Rattle.std.specs.Prelude.{◌≡◌, ℕ, ◌<◌, List, length, take, string_bytes, ⊤, Option, Some, None, Result, Ok, Err}
+use Rattle.std.specs.Io.KnownBytes.{Appends, Keeps}
+use Rattle.ttx_cycle.specs.Files.{IsPacketFile}
+use Rattle.ttx_certify.specs.CertifyingFiles.{IsServiceText}
+use Rattle.ttx_cycle.specs.Counts.{HasRisen}
+use Rattle.ttx_cycle.specs.declared.faults.CycleFault.TheVariants as cycle
+use Rattle.ttx_page.specs.declared.class.Class.{Class}
+use Rattle.ttx_source.specs.Services.{ServiceFields, pages_of}
+use Rattle.ttx_tool.specs.Find.{IsNoFinding}
+use Rattle.ttx_tool.specs.declared.commands.writing.Told.{Told}
+use Rattle.ttx_tool.specs.declared.faults.ToolFault.{ToolFault}
+use Rattle.ttx_tool.specs.declared.faults.ToolFault.TheVariants.{Cycle, Read, Write, Counter}
+use Rattle.ttx_wait.specs.Reports.{IsReportWith}
+use Rattle.ttx_wait.specs.declared.reports.Detail.{Detail}
+
+abbrev pub wait_status : Option ℕ → ℕ
+wait_status None = 1
+wait_status (Some deadline) = 0
+
+-- the lines of a report on the slots and the pages of the service, and the status of its deadline
+pub record IsWaitOf (slots : List (List ℕ)) (service : ServiceFields) (repeat : ℕ) (class : Class) (detail : Detail) (text : List ℕ) (status : ℕ)
+    : Type 0 where
+  pub deadline : Option ℕ
+  pub report : IsReportWith detail slots (pages_of service) class repeat service.lines text deadline
+  pub status_is : status ≡ wait_status deadline
+
+-- the same of a packet file and the text of a service
+pub record IsWaiting (a b : List ℕ) (repeat : ℕ) (class : Class) (detail : Detail) (text : List ℕ) (status : ℕ) : Type 0 where
+  pub slots : List (List ℕ)
+  pub service : ServiceFields
+  pub cycle_is : IsPacketFile a slots
+  pub service_is : IsServiceText b service
+  pub told : IsWaitOf slots service repeat class detail text status
+
+abbrev pub WaitsText : List ℕ → List ℕ → ℕ → Class → Detail → Result Told ToolFault → Type 0
+WaitsText a b repeat class detail (Ok told) = IsWaiting a b repeat class detail (string_bytes told.text) told.status
+WaitsText a b repeat class detail (Err fault) = IsNoFinding a b fault
+
+-- Ok: the lines went out. A write fault: their first `written` bytes. Else nothing, and why there is no cycle or no service.
+abbrev pub Waits : List ℕ → List ℕ → ℕ → Class → Detail → Option (List ℕ) → Option (List ℕ) → Result ℕ ToolFault → Type 0
+Waits a b repeat class detail old new (Ok status) = (text : List ℕ) × IsWaiting a b repeat class detail text status × Appends old new text
+Waits a b repeat class detail old new (Err (Write written)) =
+    (text : List ℕ) × (status : ℕ) × IsWaiting a b repeat class detail text status × (written < length text) × Appends old new (take written text)
+Waits a b repeat class detail old new (Err fault) = IsNoFinding a b fault × Keeps old new
+
+-- the faults counted by the readers of the cycle and of the service, and by the writer
+abbrev pub CountsWait : {T : Type 0} → Result T ToolFault → ℕ → ℕ → ℕ → ℕ → ℕ → ℕ → Type 0
+CountsWait (Err (Cycle cycle.Read)) cycle_old cycle_new service_old service_new old new = HasRisen cycle_old cycle_new
+CountsWait (Err (Read which)) cycle_old cycle_new service_old service_new old new = HasRisen service_old service_new
+CountsWait (Err (Counter fault)) cycle_old cycle_new service_old service_new old new = ⊥
+CountsWait (Err (Write written)) cycle_old cycle_new service_old service_new old new = HasRisen old new
+CountsWait result cycle_old cycle_new service_old service_new old new = ⊤

@@ -1,0 +1,96 @@
+//! `extract`: the service definition that a cycle sends.
+
+ghost use Rattle.std.specs.Prelude.{◌≡◌, IfSome, IfOk, IfErr, string_bytes};
+ghost use Rattle.ttx_cycle.specs.Counters.{inner_of, faults_of};
+ghost use Rattle.ttx_cycle.specs.Cycles.{slots_of};
+ghost use Rattle.ttx_certify.specs.CertifyingFiles.{IsUntouched};
+ghost use Rattle.ttx_tool.specs.Extract.{extracted_line, IsExtracted, IsExtractFault, ExtractsText, ExtractsFile, is_extraction_write};
+ghost use Rattle.ttx_tool.specs.Extract.{CountsCycle, CountsExtract};
+
+use super::writing::write_both;
+use crate::faults::{ExtractionFault, ToolFault};
+use std::alloc::{AllocError, Global};
+use std::io::{Read, Write};
+use ttx_cycle::{Counted, Cycle, read_cycle};
+
+// What goes out: the text, and the line.
+#[derive(Drop)]
+struct Told {
+    text: String,
+    line: String,
+}
+
+// The line that says how many pages there are.
+fn extracted_line(alloc: Global, count: usize) -> Result<String, AllocError>
+    ensures { IfOk result (λ line. string_bytes line ≡ extracted_line count) }
+{
+    format!(in alloc; "extracted {count} pages\n")
+}
+
+// The text of what a cycle sends, and its line.
+fn tell(alloc: Global, cycle: &Cycle, lines: u8) -> Result<Told, ExtractionFault>
+    ensures told { IfOk result (λ told. IsExtracted (slots_of cycle.now) lines (string_bytes told.text) (string_bytes told.line)) }
+    ensures fault { IfErr result (IsExtractFault (slots_of cycle.now) lines) }
+{
+    let extracted = match ttx_extract::extract(alloc, cycle, lines) {
+        Ok(extracted) => extracted,
+        Err(fault) => return Err(ExtractionFault::Refused(fault)),
+    };
+    let count = extracted.service.pages().len();
+    match extracted_line(alloc, count) {
+        Ok(line) => Ok(Told {
+            text: extracted.text,
+            line,
+        }),
+        Err(_) => Err(ExtractionFault::Tool(ToolFault::NoMemory)),
+    }
+}
+
+// The same of a packet file.
+fn extract_text<R: Read>(
+    alloc: Global,
+    reader: &mut Counted<R>,
+    lines: u8,
+) -> Result<Told, ExtractionFault>
+    ensures bytes { IfSome (R.remaining (inner_of reader.old)) (λ bytes. ExtractsText bytes lines result) }
+    ensures faults { CountsCycle result (faults_of reader.old) (faults_of reader.new) }
+{
+    let cycle = match read_cycle(alloc, reader) {
+        Ok(cycle) => cycle,
+        Err(fault) => return Err(ExtractionFault::Tool(ToolFault::Cycle(fault))),
+    };
+    match tell(alloc, &cycle, lines) {
+        Ok(told) => Ok(told),
+        Err(fault) => Err(fault),
+    }
+}
+
+/// Reads a packet file, and writes the text of the service that says what its cycle sends, with these lines of a field; then the
+/// number of its pages to the other writer. `read_service` reads the text, and each of its pages is sent unchanged: none of the
+/// certifier's reasons 2 to 7 is true of it.
+///
+/// Nothing is written before the text is compared with the cycle. At `Write` exactly the first `written` bytes of both went out, the
+/// file's before the line's; at each other fault both writers are as they were. The status is 0. `report_extraction` has the lines of faults.
+pub fn run<R: Read, O: Write, W: Write>(
+    alloc: Global,
+    reader: &mut Counted<R>,
+    lines: u8,
+    file: &mut Counted<O>,
+    writer: &mut Counted<W>,
+) -> Result<u8, ExtractionFault>
+    ensures bytes { IfSome (R.remaining (inner_of reader.old)) (λ bytes. ExtractsFile bytes lines
+        (O.contents (inner_of file.old)) (O.contents (inner_of file.new)) (W.contents (inner_of writer.old)) (W.contents (inner_of writer.new))
+        result) }
+    ensures faults { CountsExtract result (faults_of reader.old) (faults_of reader.new) (faults_of file.old) (faults_of file.new)
+        (faults_of writer.old) (faults_of writer.new) }
+    ensures untouched { IsUntouched is_extraction_write result file.old file.new × IsUntouched is_extraction_write result writer.old writer.new }
+{
+    let told = match extract_text(alloc, reader, lines) {
+        Ok(told) => told,
+        Err(fault) => return Err(fault),
+    };
+    match write_both(file, told.text.as_bytes(), writer, told.line.as_str()) {
+        Ok(()) => Ok(0),
+        Err(fault) => Err(ExtractionFault::Tool(fault)),
+    }
+}

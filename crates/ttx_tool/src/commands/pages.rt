@@ -1,0 +1,44 @@
+//! `pages`: the pages of a packet file.
+
+ghost use Rattle.std.specs.Prelude.{◌≡◌, IfSome};
+ghost use Rattle.ttx_cycle.specs.Counters.{inner_of, faults_of};
+ghost use Rattle.ttx_certify.specs.CertifyingFiles.{IsUntouched};
+ghost use Rattle.ttx_pages.specs.Listing.{pages_text};
+ghost use Rattle.ttx_pages.specs.Paging.{WritesTextOf, CountsPages};
+ghost use Rattle.ttx_tool.specs.Answers.{pages_answer, IsAnswered};
+ghost use Rattle.ttx_tool.specs.FilesFaults.{is_tool_write};
+
+use crate::faults::ToolFault;
+use std::alloc::Global;
+use std::io::{Read, Write};
+use ttx_cycle::Counted;
+use ttx_pages::{PagesFault, pages};
+
+// The answer of the command.
+pub(super) fn pages_answer(listed: Result<(), PagesFault>) -> Result<u8, ToolFault>
+    ensures { result ≡ pages_answer listed }
+{
+    match listed {
+        Ok(()) => Ok(0),
+        Err(fault) => Err(ToolFault::from_pages(fault)),
+    }
+}
+
+/// Reads a packet file and writes a line for each page that has a header in it, by rising page numbers, and a line for what belongs to
+/// no page. The status is 0.
+///
+/// Nothing is written before the whole file has been read. At a `Write` fault exactly the first `written` bytes of the text have
+/// been written; at any other fault the writer is unchanged.
+pub fn run<R: Read, W: Write>(
+    alloc: Global,
+    reader: &mut Counted<R>,
+    writer: &mut Counted<W>,
+) -> Result<u8, ToolFault>
+    ensures bytes { IsAnswered pages_answer (λ answer. IfSome (R.remaining (inner_of reader.old))
+        (λ bytes. WritesTextOf pages_text bytes (W.contents (inner_of writer.old)) (W.contents (inner_of writer.new)) answer)) result }
+    ensures faults { IsAnswered pages_answer (λ answer. CountsPages answer (faults_of reader.old) (faults_of reader.new)
+        (faults_of writer.old) (faults_of writer.new)) result }
+    ensures untouched { IsUntouched is_tool_write result writer.old writer.new }
+{
+    pages_answer(pages(alloc, reader, writer))
+}

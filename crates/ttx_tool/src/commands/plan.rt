@@ -1,0 +1,74 @@
+//! `plan`: the cycle that carries a service.
+
+ghost use Rattle.std.specs.Prelude.{◌≡◌, IfSome, IfOk, string_bytes};
+ghost use Rattle.ttx_cycle.specs.Counters.{inner_of, faults_of};
+ghost use Rattle.ttx_certify.specs.CertifyingFiles.{IsUntouched};
+ghost use Rattle.ttx_tool.specs.FilesFaults.{is_tool_write};
+ghost use Rattle.ttx_tool.specs.Plan.{PlansText, CountsDefinition, planned_line, Plans, CountsPlan};
+
+use super::inputs::read_definition;
+use super::writing::write_both;
+use crate::faults::ToolFault;
+use std::alloc::{AllocError, Global};
+use std::io::{Read, Write};
+use ttx_cycle::{Counted, Cycle};
+use ttx_plan::{Receivers, plan_with};
+
+// The cycle that carries the service of a text.
+fn plan_text<R: Read>(
+    alloc: Global,
+    reader: &mut Counted<R>,
+    receivers: Receivers,
+) -> Result<Cycle, ToolFault>
+    ensures bytes { IfSome (R.remaining (inner_of reader.old)) (λ bytes. PlansText bytes receivers.late receivers.class result) }
+    ensures faults { CountsDefinition result (faults_of reader.old) (faults_of reader.new) }
+{
+    let service = match read_definition(alloc, reader) {
+        Ok(service) => service,
+        Err(fault) => return Err(fault),
+    };
+    match plan_with(alloc, &service, receivers) {
+        Ok(cycle) => Ok(cycle),
+        Err(fault) => Err(ToolFault::Plan(fault)),
+    }
+}
+
+// The line that says how many slots a cycle has.
+fn planned_line(alloc: Global, count: usize) -> Result<String, AllocError>
+    ensures { IfOk result (λ line. string_bytes line ≡ planned_line count) }
+{
+    format!(in alloc; "planned {count} slots\n")
+}
+
+/// Reads the text of a service, and writes the packet file of a cycle that carries it to these receivers; then the
+/// number of its slots to the other writer.
+///
+/// Nothing is written before the whole plan is made. At `Write` exactly the first `written` bytes of both went out, the
+/// file's before the line's; at each other fault both writers are as they were. The status is 0.
+pub fn run<R: Read, O: Write, W: Write>(
+    alloc: Global,
+    reader: &mut Counted<R>,
+    receivers: Receivers,
+    file: &mut Counted<O>,
+    writer: &mut Counted<W>,
+) -> Result<u8, ToolFault>
+    ensures bytes { IfSome (R.remaining (inner_of reader.old)) (λ bytes. Plans bytes receivers.late receivers.class
+        (O.contents (inner_of file.old)) (O.contents (inner_of file.new)) (W.contents (inner_of writer.old)) (W.contents (inner_of writer.new))
+        result) }
+    ensures faults { CountsPlan result (faults_of reader.old) (faults_of reader.new) (faults_of file.old) (faults_of file.new)
+        (faults_of writer.old) (faults_of writer.new) }
+    ensures untouched { IsUntouched is_tool_write result file.old file.new × IsUntouched is_tool_write result writer.old writer.new }
+{
+    let cycle = match plan_text(alloc, reader, receivers) {
+        Ok(cycle) => cycle,
+        Err(fault) => return Err(fault),
+    };
+    let slots = cycle.slots();
+    let Ok(line) = planned_line(alloc, slots.len()) else {
+        return Err(ToolFault::NoMemory);
+    };
+    match write_both(file, slots.as_flattened(), writer, line.as_str()) {
+        Ok(()) => Ok(0),
+        Err(fault) => Err(fault),
+    }
+}

@@ -1,0 +1,114 @@
+//! `preview`: a page of a service as it is shown once it is received whole.
+
+ghost use Rattle.std.specs.Prelude.{◌≡◌, IfSome, IfOk, map, option_map, string_bytes};
+ghost use Rattle.ttx_cycle.specs.Counters.{inner_of, faults_of};
+ghost use Rattle.ttx_page.specs.Views.{page_of};
+ghost use Rattle.ttx_certify.specs.CertifyingFiles.{IsUntouched};
+ghost use Rattle.ttx_source.specs.Services.{pages_of};
+ghost use Rattle.ttx_tool.specs.FilesFaults.{is_tool_write};
+ghost use Rattle.ttx_tool.specs.Preview.{first_match, preview_text, preview_status, PreviewsText, Previews, CountsPreview};
+ghost use Rattle.ttx_tool.specs.Plan.{CountsDefinition};
+
+use super::inputs::read_definition;
+use super::show::{no_page_line, picture};
+use super::writing::{Told, write_text};
+use crate::faults::ToolFault;
+use std::alloc::{AllocError, Global};
+use std::io::{Read, Write};
+use ttx_arguments::Look;
+use ttx_cycle::Counted;
+use ttx_page::{Page, PageMemory, Selection};
+use ttx_render::render;
+use ttx_source::Service;
+
+// The first page that the selection matches.
+fn first_match<'a>(pages: &'a [Page], selection: &Selection) -> Option<&'a Page>
+    ensures { option_map (λ p. page_of p.now) result ≡ first_match selection.now (map page_of pages.now) }
+{
+    for page in pages {
+        if selection.matches(page.id()) {
+            return Some(page);
+        }
+    }
+    None
+}
+
+// What is shown of a page.
+fn preview_text(alloc: Global, look: &Look<'_>, page: Option<&Page>) -> Result<String, AllocError>
+    ensures { IfOk result (λ text. string_bytes text ≡ preview_text look.now (option_map (λ p. page_of p.now) page.entry)) }
+{
+    match page {
+        None => no_page_line(alloc, look.page),
+        Some(page) => picture(alloc, look, &render(&PageMemory::of(page))),
+    }
+}
+
+fn preview_status(page: Option<&Page>) -> u8
+    ensures { result ≡ preview_status (option_map (λ p. page_of p.now) page.entry) }
+{
+    match page {
+        None => 1,
+        Some(_) => 0,
+    }
+}
+
+// What is shown of a service.
+fn shown(
+    alloc: Global,
+    service: &Service,
+    selection: &Selection,
+    look: &Look<'_>,
+) -> Result<Told, AllocError>
+    ensures { IfOk result (λ preview. (string_bytes preview.text ≡ preview_text look.now (first_match selection.now (pages_of service.now)))
+        × (preview.status ≡ preview_status (first_match selection.now (pages_of service.now)))) }
+{
+    let page = first_match(service.pages(), selection);
+    Ok(Told {
+        text: preview_text(alloc, look, page)?,
+        status: preview_status(page),
+    })
+}
+
+// What is shown of the service of a text.
+fn preview_service<R: Read>(
+    alloc: Global,
+    reader: &mut Counted<R>,
+    selection: &Selection,
+    look: &Look<'_>,
+) -> Result<Told, ToolFault>
+    ensures bytes { IfSome (R.remaining (inner_of reader.old)) (λ bytes. PreviewsText bytes selection.now look.now result) }
+    ensures faults { CountsDefinition result (faults_of reader.old) (faults_of reader.new) }
+{
+    let service = match read_definition(alloc, reader) {
+        Ok(service) => service,
+        Err(fault) => return Err(fault),
+    };
+    match shown(alloc, &service, selection, look) {
+        Ok(preview) => Ok(preview),
+        Err(_) => Err(ToolFault::NoMemory),
+    }
+}
+
+/// Reads the text of a service, and writes the View of the first page that the selection matches, as it is asked for: the status
+/// is 0. Where there is no such page, writes a line that says so: the status is 1.
+///
+/// Nothing is written before the text is read. At `Write` exactly the first `written` bytes went out; at each other fault the
+/// writer is as it was.
+pub fn run<R: Read, W: Write>(
+    alloc: Global,
+    reader: &mut Counted<R>,
+    selection: &Selection,
+    look: &Look<'_>,
+    writer: &mut Counted<W>,
+) -> Result<u8, ToolFault>
+    ensures bytes { IfSome (R.remaining (inner_of reader.old))
+        (λ bytes. Previews bytes selection.now look.now (W.contents (inner_of writer.old)) (W.contents (inner_of writer.new)) result) }
+    ensures faults { CountsPreview result (faults_of reader.old) (faults_of reader.new) (faults_of writer.old) (faults_of writer.new) }
+    ensures untouched { IsUntouched is_tool_write result writer.old writer.new }
+{
+    let preview = match preview_service(alloc, reader, selection, look) {
+        Ok(preview) => preview,
+        Err(fault) => return Err(fault),
+    };
+    write_text(writer, preview.text.as_str(), preview.status)
+}

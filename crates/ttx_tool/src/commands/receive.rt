@@ -1,0 +1,81 @@
+//! `receive`: what a receiver holds after some slots of a cycle.
+
+ghost use Rattle.std.specs.Prelude.{IfSome, fold};
+ghost use Rattle.ttx_cycle.specs.Counters.{inner_of, faults_of};
+ghost use Rattle.ttx_certify.specs.CertifyingFiles.{IsUntouched};
+ghost use Rattle.ttx_page.specs.Memories.{blank_memory};
+ghost use Rattle.ttx_tool.specs.FilesFaults.{is_tool_write};
+ghost use Rattle.ttx_tool.specs.Inspect.{CountsInspect};
+ghost use Rattle.ttx_tool.specs.Receive.{tuned_as, tuned_to, held_by, Receives};
+
+use super::writing::write_text;
+use crate::faults::ToolFault;
+use crate::stepping::hear_file;
+use crate::views::view_lines;
+use std::alloc::Global;
+use std::io::{Read, Write};
+use ttx_arguments::{ReceiverKind, Tuning};
+use ttx_cycle::Counted;
+use ttx_page::PageMemory;
+use ttx_receiver::{Careful, Cleared, Eager, Receiver, Watched};
+
+// What this receiver holds after `count` slots from slot `start` on.
+fn receive_by<R: Read, X: Receiver + Drop, W: Write>(
+    alloc: Global,
+    reader: &mut Counted<R>,
+    receiver: X,
+    start: u16,
+    count: u32,
+    writer: &mut Counted<W>,
+) -> Result<u8, ToolFault>
+    ensures bytes { IfSome (R.remaining (inner_of reader.old))
+        (λ bytes. Receives (tuned_as (X.kind receiver) (X.field receiver) (X.tuned receiver))
+        (λ sent. X.held (fold X.next receiver sent)) start count bytes (X.held receiver)
+        (W.contents (inner_of writer.old)) (W.contents (inner_of writer.new)) result) }
+    ensures faults { CountsInspect result (faults_of reader.old) (faults_of reader.new) (faults_of writer.old) (faults_of writer.new) }
+    ensures untouched { IsUntouched is_tool_write result writer.old writer.new }
+{
+    let mut receiver = Watched::new(receiver);
+    if let Err(fault) = hear_file(alloc, reader, &mut receiver, start, count) {
+        return Err(ToolFault::Cycle(fault));
+    }
+    let Ok(text) = view_lines(alloc, receiver.view()) else {
+        return Err(ToolFault::NoMemory);
+    };
+    write_text(writer, text.as_str(), 0)
+}
+
+/// Reads a packet file, gives a receiver of the kind that is asked for, which has received nothing before, the slots that the tuning
+/// says, counted round the cycle, and writes the View of what it then holds. The status is 0.
+///
+/// Nothing is written before the whole file is read. At `Write` exactly the first `written` bytes of the text went out; at each
+/// other fault the writer is as it was.
+pub fn run<R: Read, W: Write>(
+    alloc: Global,
+    reader: &mut Counted<R>,
+    tuning: &Tuning,
+    writer: &mut Counted<W>,
+) -> Result<u8, ToolFault>
+    ensures bytes { IfSome (R.remaining (inner_of reader.old))
+        (λ bytes. Receives (tuned_to tuning.now) (held_by tuning.now) tuning.now.start tuning.now.slots bytes blank_memory
+        (W.contents (inner_of writer.old)) (W.contents (inner_of writer.new)) result) }
+    ensures faults { CountsInspect result (faults_of reader.old) (faults_of reader.new) (faults_of writer.old) (faults_of writer.new) }
+    ensures untouched { IsUntouched is_tool_write result writer.old writer.new }
+{
+    let (selection, lines, blank) = (tuning.selection, tuning.lines.count(), PageMemory::blank());
+    let (start, slots) = (tuning.start, tuning.slots);
+    match tuning.kind {
+        ReceiverKind::Eager => {
+            let receiver = Eager::new(selection, lines, blank);
+            receive_by(alloc, reader, receiver, start, slots, writer)
+        }
+        ReceiverKind::Careful => {
+            let receiver = Careful::new(selection, lines, blank);
+            receive_by(alloc, reader, receiver, start, slots, writer)
+        }
+        ReceiverKind::Cleared => {
+            let receiver = Cleared::new(selection, lines, blank);
+            receive_by(alloc, reader, receiver, start, slots, writer)
+        }
+    }
+}

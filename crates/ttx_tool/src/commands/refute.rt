@@ -1,0 +1,225 @@
+//! `refute`: a viewer whom a cycle fails, by the numbers of a certificate.
+
+ghost use Rattle.std.specs.Prelude.{◌≡◌, ◌<◌, ◌∷◌, ◌++◌, [], Some, IfSome, IfOk, IfErr, OnOk};
+ghost use Rattle.std.specs.Prelude.{codes, length, map, slice_get, string_bytes};
+ghost use Rattle.ttx_counter.specs.Counters.{counter_run_of};
+ghost use Rattle.ttx_cycle.specs.Counters.{inner_of, faults_of};
+ghost use Rattle.ttx_cycle.specs.Cycles.{slots_of};
+ghost use Rattle.ttx_witness.specs.Certificates.{fields_of};
+ghost use Rattle.ttx_page.specs.Pages as definitions;
+ghost use Rattle.ttx_page.specs.declared.class.Class.TheVariants.{Any};
+ghost use Rattle.ttx_page.specs.Views.{page_of};
+ghost use Rattle.ttx_certify.specs.CertifyingFiles.{IsUntouched};
+ghost use Rattle.ttx_tool.specs.FilesFaults.{is_tool_write};
+ghost use Rattle.ttx_tool.specs.Refute.{counter_line, counter_numbers, saved, IsRefutation, IsClassFault, RefutesText, RefutesFiles};
+ghost use Rattle.ttx_tool.specs.Refute.{CountsThree, CountsRefute};
+
+use super::writing::write_both;
+use crate::faults::ToolFault;
+use crate::texts::push_numbered;
+use std::alloc::{AllocError, Global};
+use std::io::{Read, Write};
+use ttx_counter::{Counter, refute as counter_to, write_counter};
+use ttx_cycle::{Counted, Cycle};
+use ttx_digits::push_id;
+use ttx_files::{Inputs, read_inputs};
+use ttx_header::PageId;
+use ttx_page::{Class, Page};
+use ttx_source::Service;
+use ttx_witness::{Certificate, NoMemory};
+
+// What goes out: the bytes of the counter-run's file, the line, and the status.
+#[derive(Drop)]
+struct Told {
+    file: Vec<u8>,
+    line: String,
+    status: u8,
+}
+
+// Adds the numbers of a counter-run.
+fn push_counter(line: &mut String, counter: &Counter) -> Result<(), AllocError>
+    ensures { OnOk result (string_bytes line.new ≡ string_bytes line.old ++ counter_numbers (counter_run_of counter.now)) }
+{
+    push_numbered(line, " start ", counter.start as usize)?;
+    push_numbered(line, " slots ", counter.slots as usize)?;
+    push_numbered(line, " hits ", counter.hits.len())?;
+    push_numbered(line, " choices ", counter.choices.len())
+}
+
+// The line of a counter-run.
+pub(super) fn counter_line(
+    alloc: Global,
+    id: PageId,
+    counter: &Counter,
+) -> Result<String, AllocError>
+    ensures { IfOk result (λ line. string_bytes line ≡ counter_line id (counter_run_of counter.now)) }
+{
+    let mut line = String::from_str(alloc, "counter ")?;
+    push_id(&mut line, id)?;
+    push_counter(&mut line, counter)?;
+    line.push('\n')?;
+    Ok(line)
+}
+
+// The text of a counter-run, where it is asked for.
+fn saved(alloc: Global, counter: &Counter, save: bool) -> Result<Vec<u8>, NoMemory>
+    ensures text { IfOk result (λ file. file.items ≡ saved save (counter_run_of counter.now)) }
+{
+    if !save {
+        return Ok(Vec::new(alloc));
+    }
+    write_counter(alloc, counter)
+}
+
+// The id of the page in a place of the list.
+fn id_at(pages: &[Page], index: u32) -> PageId
+    requires { index < length pages.now }
+    ensures { (p : definitions.Page) → slice_get (map page_of pages.now) index ≡ Some p → result ≡ p.id }
+{
+    pages[index as usize].id()
+}
+
+// What goes out of a counter-run.
+fn tell_counter(
+    alloc: Global,
+    pages: &[Page],
+    counter: &Counter,
+    save: bool,
+) -> Result<Told, NoMemory>
+    requires { counter.now.page < length pages.now }
+    ensures line { IfOk result (λ told. (p : definitions.Page) → slice_get (map page_of pages.now) counter.now.page ≡ Some p →
+        string_bytes told.line ≡ counter_line p.id (counter_run_of counter.now)) }
+    ensures file { IfOk result (λ told. told.file.items ≡ saved save (counter_run_of counter.now)) }
+    ensures status { IfOk result (λ told. told.status ≡ 1) }
+{
+    let Ok(line) = counter_line(alloc, id_at(pages, counter.page), counter) else {
+        return Err(NoMemory);
+    };
+    Ok(Told {
+        file: saved(alloc, counter, save)?,
+        line,
+        status: 1,
+    })
+}
+
+// What goes out where there is none.
+fn tell_none(alloc: Global) -> Result<Told, NoMemory>
+    ensures line { IfOk result (λ told. string_bytes told.line ≡ codes "none" ++ 10 ∷ []) }
+    ensures file { IfOk result (λ told. told.file.items ≡ []) }
+    ensures status { IfOk result (λ told. told.status ≡ 0) }
+{
+    match String::from_str(alloc, "none\n") {
+        Ok(line) => Ok(Told {
+            file: Vec::new(alloc),
+            line,
+            status: 0,
+        }),
+        Err(_) => Err(NoMemory),
+    }
+}
+
+// What is found of a cycle, the pages of a service and a certificate for receivers of any class, and what goes out.
+fn tell_any(
+    alloc: Global,
+    cycle: &Cycle,
+    service: &Service,
+    certificate: &Certificate,
+    save: bool,
+) -> Result<Told, NoMemory>
+    requires { (fields_of certificate.now).class ≡ Any }
+    ensures { IfOk result (λ told. IsRefutation (slots_of cycle.now) service.now (fields_of certificate.now) save told.file.items
+        (string_bytes told.line) told.status) }
+{
+    let pages = service.pages();
+    let counter = counter_to(alloc, cycle, pages, certificate)?;
+    match counter {
+        Some(counter) => tell_counter(alloc, pages, &counter, save),
+        None => tell_none(alloc),
+    }
+}
+
+// The same of a certificate of any class.
+fn tell(
+    alloc: Global,
+    cycle: &Cycle,
+    service: &Service,
+    certificate: &Certificate,
+    save: bool,
+) -> Result<Told, ToolFault>
+    ensures told { IfOk result (λ told. IsRefutation (slots_of cycle.now) service.now (fields_of certificate.now) save told.file.items
+        (string_bytes told.line) told.status) }
+    ensures fault { IfErr result (IsClassFault (fields_of certificate.now).class) }
+{
+    match certificate.class() {
+        Class::Any => match tell_any(alloc, cycle, service, certificate, save) {
+            Ok(told) => Ok(told),
+            Err(_) => Err(ToolFault::NoMemory),
+        },
+        Class::Clearing => Err(ToolFault::Class),
+    }
+}
+
+// The same of a packet file and the two texts.
+fn refute_text<A: Read, B: Read, C: Read>(
+    alloc: Global,
+    cycle: &mut Counted<A>,
+    service: &mut Counted<B>,
+    certificate: &mut Counted<C>,
+    save: bool,
+) -> Result<Told, ToolFault>
+    ensures bytes { IfSome (A.remaining (inner_of cycle.old))
+        (λ a. IfSome (B.remaining (inner_of service.old)) (λ b. IfSome (C.remaining (inner_of certificate.old))
+        (λ c. RefutesText a b c save result))) }
+    ensures faults { CountsThree result (faults_of cycle.old) (faults_of cycle.new) (faults_of service.old) (faults_of service.new)
+        (faults_of certificate.old) (faults_of certificate.new) }
+{
+    let inputs = match read_inputs(alloc, cycle, service, certificate) {
+        Ok(inputs) => inputs,
+        Err(fault) => return Err(ToolFault::from_files(fault)),
+    };
+    match tell(
+        alloc,
+        &inputs.cycle,
+        &inputs.service,
+        &inputs.certificate,
+        save,
+    ) {
+        Ok(told) => Ok(told),
+        Err(fault) => Err(fault),
+    }
+}
+
+/// Reads a packet file, the text of a service and that of a certificate, in this order, and looks for a counter-run to the
+/// certificates of class any with the numbers of this one. Where there is one, writes its text to the file if it is to be
+/// saved, and its line to the other writer: the status is 1. Where there is none, writes nothing to the file, and that there is
+/// none to the other writer: the status is 0. Of a certificate of class clearing the answer is `Class`.
+///
+/// Nothing is written before all is found. At `Write` exactly the first `written` bytes of both went out, the file's before the
+/// line's; at each other fault both writers are as they were.
+pub fn run<A: Read, B: Read, C: Read, O: Write, W: Write>(
+    alloc: Global,
+    cycle: &mut Counted<A>,
+    service: &mut Counted<B>,
+    certificate: &mut Counted<C>,
+    save: bool,
+    file: &mut Counted<O>,
+    writer: &mut Counted<W>,
+) -> Result<u8, ToolFault>
+    ensures bytes { IfSome (A.remaining (inner_of cycle.old))
+        (λ a. IfSome (B.remaining (inner_of service.old)) (λ b. IfSome (C.remaining (inner_of certificate.old)) (λ c. RefutesFiles a b c save
+        (O.contents (inner_of file.old)) (O.contents (inner_of file.new)) (W.contents (inner_of writer.old)) (W.contents (inner_of writer.new))
+        result))) }
+    ensures faults { CountsRefute result (faults_of cycle.old) (faults_of cycle.new) (faults_of service.old) (faults_of service.new)
+        (faults_of certificate.old) (faults_of certificate.new)
+        (faults_of file.old) (faults_of file.new) (faults_of writer.old) (faults_of writer.new) }
+    ensures untouched { IsUntouched is_tool_write result file.old file.new × IsUntouched is_tool_write result writer.old writer.new }
+{
+    let told = match refute_text(alloc, cycle, service, certificate, save) {
+        Ok(told) => told,
+        Err(fault) => return Err(fault),
+    };
+    match write_both(file, told.file.as_slice(), writer, told.line.as_str()) {
+        Ok(()) => Ok(told.status),
+        Err(fault) => Err(fault),
+    }
+}

@@ -1,0 +1,165 @@
+//! `replay`: what a viewer sees after a counter-run.
+
+ghost use Rattle.std.specs.Prelude.{◌≡◌, ◌<◌, Some, IfSome, IfOk, length, map, slice_get, string_bytes};
+ghost use Rattle.ttx_certify.specs.CertifyingFiles.{IsUntouched};
+ghost use Rattle.ttx_counter.specs.Counters.{counter_run_of};
+ghost use Rattle.ttx_cycle.specs.Counters.{inner_of, faults_of};
+ghost use Rattle.ttx_cycle.specs.Cycles.{slots_of};
+ghost use Rattle.ttx_page.specs.Pages as definitions;
+ghost use Rattle.ttx_page.specs.Views.{page_of, memory_of};
+ghost use Rattle.ttx_source.specs.Services.{pages_of};
+ghost use Rattle.ttx_tool.specs.FilesFaults.{is_tool_write};
+ghost use Rattle.ttx_tool.specs.Replay.{replay_text, none_text, IsReplay, ReadsCounter, ReplaysText, Replays, CountsCounter};
+ghost use Rattle.ttx_tool.specs.Replay.{CountsReplayInputs, CountsReplay};
+
+use super::inputs::read_inputs;
+use super::refute::counter_line;
+use super::writing::{Told, write_text};
+use crate::faults::{CounterFileFault, ToolFault};
+use crate::unlike_views::push_unlike_lines;
+use std::alloc::{AllocError, Global};
+use std::io::{Read, Write};
+use ttx_counter::{Counter, read_counter, replay as replay_counter};
+use ttx_cycle::{Counted, Cycle, MOST_BYTES, TextFault, read_text};
+use ttx_page::{Page, PageMemory};
+use ttx_render::render;
+use ttx_source::Service;
+use ttx_witness::NoMemory;
+
+// Reads the text of a counter-run.
+fn read_run<R: Read>(alloc: Global, reader: &mut Counted<R>) -> Result<Counter, ToolFault>
+    ensures bytes { IfSome (R.remaining (inner_of reader.old)) (λ bytes. ReadsCounter bytes result) }
+    ensures faults { CountsCounter result (faults_of reader.old) (faults_of reader.new) }
+{
+    let text = match read_text(alloc, reader, MOST_BYTES) {
+        Ok(text) => text,
+        Err(TextFault::Read) => return Err(ToolFault::Counter(CounterFileFault::Read)),
+        Err(TextFault::TooLong) => return Err(ToolFault::Counter(CounterFileFault::TooLong)),
+        Err(TextFault::NoMemory) => return Err(ToolFault::NoMemory),
+    };
+    match read_counter(alloc, text.as_slice()) {
+        Ok(counter) => Ok(counter),
+        Err(fault) => Err(ToolFault::Counter(CounterFileFault::Text(fault))),
+    }
+}
+
+// What goes out of a counter-run of a page whose receiver holds this after it.
+fn replay_text(
+    alloc: Global,
+    page: &Page,
+    counter: &Counter,
+    memory: &PageMemory,
+) -> Result<String, AllocError>
+    ensures { IfOk result (λ text. string_bytes text ≡ replay_text (page_of page.now) (counter_run_of counter.now) (memory_of memory.now)) }
+{
+    let mut text = counter_line(alloc, page.id(), counter)?;
+    push_unlike_lines(
+        alloc,
+        &mut text,
+        &render(memory),
+        &render(&PageMemory::of(page)),
+    )?;
+    Ok(text)
+}
+
+// The same with the status, for the counter-run's page of a list.
+fn tell_shown(
+    alloc: Global,
+    pages: &[Page],
+    counter: &Counter,
+    memory: &PageMemory,
+) -> Result<Told, NoMemory>
+    requires { counter.now.page < length pages.now }
+    ensures text { IfOk result (λ told. (p : definitions.Page) → slice_get (map page_of pages.now) counter.now.page ≡ Some p →
+        string_bytes told.text ≡ replay_text p (counter_run_of counter.now) (memory_of memory.now)) }
+    ensures status { IfOk result (λ told. told.status ≡ 0) }
+{
+    match replay_text(alloc, &pages[counter.page as usize], counter, memory) {
+        Ok(text) => Ok(Told { text, status: 0 }),
+        Err(_) => Err(NoMemory),
+    }
+}
+
+// What goes out where there is no counter-run.
+fn tell_none(alloc: Global) -> Result<Told, NoMemory>
+    ensures text { IfOk result (λ told. string_bytes told.text ≡ none_text) }
+    ensures status { IfOk result (λ told. told.status ≡ 1) }
+{
+    match String::from_str(alloc, "not a counter-run\n") {
+        Ok(text) => Ok(Told { text, status: 1 }),
+        Err(_) => Err(NoMemory),
+    }
+}
+
+// What goes out for a cycle, the pages of a service and what may be a counter-run.
+fn tell(
+    alloc: Global,
+    cycle: &Cycle,
+    service: &Service,
+    counter: &Counter,
+) -> Result<Told, NoMemory>
+    ensures { IfOk result (λ told. IsReplay (slots_of cycle.now) (pages_of service.now) (counter_run_of counter.now)
+        (string_bytes told.text) told.status) }
+{
+    let pages = service.pages();
+    let held = replay_counter(alloc, cycle, pages, counter)?;
+    match held {
+        Some(memory) => tell_shown(alloc, pages, counter, &memory),
+        None => tell_none(alloc),
+    }
+}
+
+// The same of a packet file and the two texts.
+fn replay_files<A: Read, B: Read, C: Read>(
+    alloc: Global,
+    cycle: &mut Counted<A>,
+    service: &mut Counted<B>,
+    counter: &mut Counted<C>,
+) -> Result<Told, ToolFault>
+    ensures bytes { IfSome (A.remaining (inner_of cycle.old))
+        (λ a. IfSome (B.remaining (inner_of service.old)) (λ b. IfSome (C.remaining (inner_of counter.old))
+        (λ c. ReplaysText a b c result))) }
+    ensures faults { CountsReplayInputs result (faults_of cycle.old) (faults_of cycle.new) (faults_of service.old) (faults_of service.new)
+        (faults_of counter.old) (faults_of counter.new) }
+{
+    let inputs = match read_inputs(alloc, cycle, service) {
+        Ok(inputs) => inputs,
+        Err(fault) => return Err(fault),
+    };
+    let counter = match read_run(alloc, counter) {
+        Ok(counter) => counter,
+        Err(fault) => return Err(fault),
+    };
+    match tell(alloc, &inputs.cycle, &inputs.service, &counter) {
+        Ok(told) => Ok(told),
+        Err(_) => Err(ToolFault::NoMemory),
+    }
+}
+
+/// Reads a packet file, the text of a service and that of a counter-run, in this order, and writes the line of the counter-run, and
+/// each row and the links that its receiver shows otherwise than the page: the status is 0. Where it is no counter-run of the cycle
+/// and the service, writes a line that says so: the status is 1.
+///
+/// Nothing is written before all is replayed. At `Write` exactly the first `written` bytes of the lines went out; at each other
+/// fault the writer is as it was.
+pub fn run<A: Read, B: Read, C: Read, W: Write>(
+    alloc: Global,
+    cycle: &mut Counted<A>,
+    service: &mut Counted<B>,
+    counter: &mut Counted<C>,
+    writer: &mut Counted<W>,
+) -> Result<u8, ToolFault>
+    ensures bytes { IfSome (A.remaining (inner_of cycle.old))
+        (λ a. IfSome (B.remaining (inner_of service.old)) (λ b. IfSome (C.remaining (inner_of counter.old)) (λ c. Replays a b c
+        (W.contents (inner_of writer.old)) (W.contents (inner_of writer.new)) result))) }
+    ensures faults { CountsReplay result (faults_of cycle.old) (faults_of cycle.new) (faults_of service.old) (faults_of service.new)
+        (faults_of counter.old) (faults_of counter.new)
+        (faults_of writer.old) (faults_of writer.new) }
+    ensures untouched { IsUntouched is_tool_write result writer.old writer.new }
+{
+    let told = match replay_files(alloc, cycle, service, counter) {
+        Ok(told) => told,
+        Err(fault) => return Err(fault),
+    };
+    write_text(writer, told.text.as_str(), told.status)
+}

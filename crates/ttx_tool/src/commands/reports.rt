@@ -1,0 +1,270 @@
+//! Reports of faults: their lines and their statuses.
+
+ghost use Rattle.std.specs.Prelude.{◌≡◌, [], ◌∷◌, ◌++◌, IfOk, codes, string_bytes};
+ghost use Rattle.ttx_certify.specs.CertifyingFiles.{IsUntouched};
+ghost use Rattle.ttx_cycle.specs.Counters.{inner_of, faults_of};
+ghost use Rattle.ttx_extract.specs.Refusals.{refusal_text};
+ghost use Rattle.ttx_source.specs.Faults.{fault_of};
+ghost use Rattle.ttx_tool.specs.FilesFaults.{is_tool_write};
+ghost use Rattle.ttx_tool.specs.Reports.{service_text, service_status, certificate_refusal, extract_text, extract_status, run_text, run_status};
+ghost use Rattle.ttx_tool.specs.Reports.{refused_service, fault_line, status_of, Reports, ReportsWords, CountsReport};
+
+use super::writing::write_text;
+use crate::faults::{CounterFileFault, ToolFault};
+use std::alloc::{AllocError, Global};
+use std::io::Write;
+use ttx_arguments::WordsFault;
+use ttx_counter::CounterFault;
+use ttx_cycle::{Counted, CycleFault};
+use ttx_extract::{ExtractFault, push_refusal};
+use ttx_files::TextFile;
+use ttx_plan::PlanFault;
+use ttx_source::{SourceError, SourceFault};
+use ttx_witness::CertFault;
+
+// The line of a refused service definition whose fault names a key.
+fn keyed_line(alloc: Global, name: &str, key: &str, page: usize) -> Result<String, AllocError>
+    ensures { IfOk result (λ line. string_bytes line ≡ refused_service (name.now ++ 32 ∷ key.now) page ++ 10 ∷ []) }
+{
+    format!(in alloc; "refused: service {name} {key} page {page}\n")
+}
+
+// The line of a refused service definition whose fault names no key.
+fn unkeyed_line(alloc: Global, name: &str, page: usize) -> Result<String, AllocError>
+    ensures { IfOk result (λ line. string_bytes line ≡ refused_service name.now page ++ 10 ∷ []) }
+{
+    format!(in alloc; "refused: service {name} page {page}\n")
+}
+
+// The line of a refused service definition.
+fn service_line(alloc: Global, error: &SourceError) -> Result<String, AllocError>
+    ensures { IfOk result (λ line. string_bytes line ≡ service_text (fault_of error.now.fault) error.now.page ++ 10 ∷ []) }
+{
+    let page = error.page;
+    match error.fault {
+        SourceFault::NotToml => unkeyed_line(alloc, "1 not-toml", page),
+        SourceFault::Missing { key } => keyed_line(alloc, "2 missing", key, page),
+        SourceFault::Kind { key } => keyed_line(alloc, "3 kind", key, page),
+        SourceFault::PageNumber => unkeyed_line(alloc, "4 page-number", page),
+        SourceFault::Subcode => unkeyed_line(alloc, "5 subcode", page),
+        SourceFault::Duplicate => unkeyed_line(alloc, "6 duplicate", page),
+        SourceFault::RowTooLong => unkeyed_line(alloc, "7 row-too-long", page),
+        SourceFault::Character => unkeyed_line(alloc, "8 character", page),
+        SourceFault::Often => unkeyed_line(alloc, "9 often", page),
+        SourceFault::Range { key } => keyed_line(alloc, "10 range", key, page),
+        SourceFault::NoMemory => String::from_str(alloc, "fault: memory\n"),
+    }
+}
+
+// The line of a refused certificate.
+fn certificate_line(alloc: Global, fault: &CertFault) -> Result<String, AllocError>
+    ensures { IfOk result (λ line. string_bytes line ≡ certificate_refusal fault.now ++ 10 ∷ []) }
+{
+    match fault {
+        CertFault::Title => String::from_str(alloc, "refused: certificate 1 title\n"),
+        CertFault::Line { line } => format!(in alloc; "refused: certificate 2 line line {line}\n"),
+        CertFault::Order { line } => format!(in alloc;
+            "refused: certificate 3 order line {line}\n"
+        ),
+        CertFault::Range { line } => format!(in alloc;
+            "refused: certificate 4 range line {line}\n"
+        ),
+        CertFault::NoMemory => String::from_str(alloc, "fault: memory\n"),
+    }
+}
+
+// The line of what is said of a cycle.
+fn refusal_line(alloc: Global, fault: &ExtractFault) -> Result<String, AllocError>
+    ensures { IfOk result (λ line. string_bytes line ≡ codes "refused: " ++ refusal_text fault.now ++ 10 ∷ []) }
+{
+    let mut line = String::from_str(alloc, "refused: ")?;
+    push_refusal(&mut line, fault)?;
+    line.push('\n')?;
+    Ok(line)
+}
+
+// The line of a cycle of which no service text is made.
+fn extract_line(alloc: Global, fault: &ExtractFault) -> Result<String, AllocError>
+    ensures { IfOk result (λ line. string_bytes line ≡ extract_text fault.now ++ 10 ∷ []) }
+{
+    match fault {
+        ExtractFault::Service(error) => service_line(alloc, error),
+        ExtractFault::TooLong => String::from_str(alloc, "refused: service too-long\n"),
+        ExtractFault::NoMemory => String::from_str(alloc, "fault: memory\n"),
+        ExtractFault::Conflict { .. }
+        | ExtractFault::Reason(_)
+        | ExtractFault::Info { slot: _ }
+        | ExtractFault::Unsaid => refusal_line(alloc, fault),
+    }
+}
+
+// The line of a counter-run's text that isn't read.
+fn run_line(alloc: Global, fault: &CounterFileFault) -> Result<String, AllocError>
+    ensures { IfOk result (λ line. string_bytes line ≡ run_text fault.now ++ 10 ∷ []) }
+{
+    match fault {
+        CounterFileFault::Read => String::from_str(alloc, "fault: read\n"),
+        CounterFileFault::TooLong => String::from_str(alloc, "refused: counter too-long\n"),
+        CounterFileFault::Text(CounterFault::Title) => {
+            String::from_str(alloc, "refused: counter 1 title\n")
+        }
+        CounterFileFault::Text(CounterFault::Line { line }) => format!(in alloc;
+            "refused: counter 2 line line {line}\n"
+        ),
+        CounterFileFault::Text(CounterFault::NoMemory) => {
+            String::from_str(alloc, "fault: memory\n")
+        }
+    }
+}
+
+// The line of a fault.
+fn line_of(alloc: Global, fault: &ToolFault) -> Result<String, AllocError>
+    ensures { IfOk result (λ line. string_bytes line ≡ fault_line fault.now) }
+{
+    match fault {
+        ToolFault::Cycle(CycleFault::Read) => String::from_str(alloc, "fault: read\n"),
+        ToolFault::Cycle(CycleFault::Truncated { rest }) => {
+            format!(in alloc; "refused: cycle 2 truncated {rest}\n")
+        }
+        ToolFault::Cycle(CycleFault::Empty) => String::from_str(alloc, "refused: cycle 3 empty\n"),
+        ToolFault::Cycle(CycleFault::TooLong) => {
+            String::from_str(alloc, "refused: cycle 4 too-long\n")
+        }
+        ToolFault::Cycle(CycleFault::NoMemory) => String::from_str(alloc, "fault: memory\n"),
+        ToolFault::Service(error) => service_line(alloc, error),
+        ToolFault::Certificate(fault) => certificate_line(alloc, fault),
+        ToolFault::Read { which: _ } => String::from_str(alloc, "fault: read\n"),
+        ToolFault::TooLong {
+            which: TextFile::Service,
+        } => { String::from_str(alloc, "refused: service too-long\n") }
+        ToolFault::TooLong {
+            which: TextFile::Certificate,
+        } => { String::from_str(alloc, "refused: certificate too-long\n") }
+        ToolFault::Write { written: _ } => String::from_str(alloc, "fault: write\n"),
+        ToolFault::NoMemory => String::from_str(alloc, "fault: memory\n"),
+        ToolFault::Plan(PlanFault::NoPages) => String::from_str(
+            alloc,
+            "refused: plan 1 no-pages\n",
+        ),
+        ToolFault::Plan(PlanFault::TooLong) => String::from_str(
+            alloc,
+            "refused: plan 2 too-long\n",
+        ),
+        ToolFault::Plan(PlanFault::NoMemory) => String::from_str(alloc, "fault: memory\n"),
+        ToolFault::Class => String::from_str(alloc, "refused: class\n"),
+        ToolFault::Same => String::from_str(alloc, "refused: same\n"),
+        ToolFault::Counter(fault) => run_line(alloc, fault),
+    }
+}
+
+// The status of the program after a fault of a service definition.
+fn service_status(fault: &SourceFault) -> u8
+    ensures { result ≡ service_status (fault_of fault.now) }
+{
+    match fault {
+        SourceFault::NoMemory => 3,
+        _ => 2,
+    }
+}
+
+// The status of the program where no service text is made of a cycle.
+fn extract_status(fault: &ExtractFault) -> u8
+    ensures { result ≡ extract_status fault.now }
+{
+    match fault {
+        ExtractFault::Service(error) => service_status(&error.fault),
+        ExtractFault::NoMemory => 3,
+        _ => 2,
+    }
+}
+
+// The status of the program where a counter-run's text isn't read.
+fn run_status(fault: &CounterFileFault) -> u8
+    ensures { result ≡ run_status fault.now }
+{
+    match fault {
+        CounterFileFault::Read | CounterFileFault::Text(CounterFault::NoMemory) => 3,
+        CounterFileFault::TooLong | CounterFileFault::Text(_) => 2,
+    }
+}
+
+// The status of the program after a fault.
+fn status(fault: &ToolFault) -> u8
+    ensures { result ≡ status_of fault.now }
+{
+    match fault {
+        ToolFault::Cycle(CycleFault::Read | CycleFault::NoMemory) => 3,
+        ToolFault::Cycle(_) => 2,
+        ToolFault::Service(error) => service_status(&error.fault),
+        ToolFault::Certificate(CertFault::NoMemory) => 3,
+        ToolFault::Certificate(_) => 2,
+        ToolFault::TooLong { which: _ } => 2,
+        ToolFault::Plan(PlanFault::NoMemory) => 3,
+        ToolFault::Plan(_) | ToolFault::Class | ToolFault::Same => 2,
+        ToolFault::Counter(fault) => run_status(fault),
+        ToolFault::Read { .. } | ToolFault::Write { .. } | ToolFault::NoMemory => 3,
+    }
+}
+
+/// Writes the line of a fault and answers the status of the program: 2 for what is refused, 3 for a fault.
+///
+/// At `Write` exactly the first `written` bytes of the line went out; at each other fault the writer is as it was.
+pub fn report<W: Write>(
+    alloc: Global,
+    fault: &ToolFault,
+    writer: &mut Counted<W>,
+) -> Result<u8, ToolFault>
+    ensures line { Reports (fault_line fault.now) (status_of fault.now) (W.contents (inner_of writer.old)) (W.contents (inner_of writer.new)) result }
+    ensures faults { CountsReport result (faults_of writer.old) (faults_of writer.new) }
+    ensures untouched { IsUntouched is_tool_write result writer.old writer.new }
+{
+    let Ok(line) = line_of(alloc, fault) else {
+        return Err(ToolFault::NoMemory);
+    };
+    write_text(writer, line.as_str(), status(fault))
+}
+
+/// Writes the line that says why no service text is made of a cycle and answers the status of the program.
+///
+/// At `Write` exactly the first `written` bytes of the line went out; at each other fault the writer is as it was.
+pub fn report_extraction<W: Write>(
+    alloc: Global,
+    fault: &ExtractFault,
+    writer: &mut Counted<W>,
+) -> Result<u8, ToolFault>
+    ensures line { Reports (extract_text fault.now ++ 10 ∷ []) (extract_status fault.now) (W.contents (inner_of writer.old))
+        (W.contents (inner_of writer.new)) result }
+    ensures faults { CountsReport result (faults_of writer.old) (faults_of writer.new) }
+    ensures untouched { IsUntouched is_tool_write result writer.old writer.new }
+{
+    let Ok(line) = extract_line(alloc, fault) else {
+        return Err(ToolFault::NoMemory);
+    };
+    write_text(writer, line.as_str(), extract_status(fault))
+}
+
+/// Writes why words are refused and answers the status of the program. Of what `clap` refuses its own text is written.
+///
+/// At `Write` exactly the first `written` bytes of the text went out; at each other fault the writer is as it was.
+pub fn report_words<W: Write>(
+    alloc: Global,
+    fault: &WordsFault,
+    writer: &mut Counted<W>,
+) -> Result<u8, ToolFault>
+    ensures line { ReportsWords fault.now (W.contents (inner_of writer.old)) (W.contents (inner_of writer.new)) result }
+    ensures faults { CountsReport result (faults_of writer.old) (faults_of writer.new) }
+    ensures untouched { IsUntouched is_tool_write result writer.old writer.new }
+{
+    match fault {
+        WordsFault::Refused(error) => {
+            let Ok(text) = error.to_string(alloc) else {
+                return Err(ToolFault::NoMemory);
+            };
+            write_text(writer, text.as_str(), 2)
+        }
+        WordsFault::Page => write_text(writer, "refused: page\n", 2),
+        WordsFault::Time => write_text(writer, "refused: time\n", 2),
+        WordsFault::Twice => write_text(writer, "refused: twice\n", 2),
+        WordsFault::NoMemory => report(alloc, &ToolFault::NoMemory, writer),
+    }
+}

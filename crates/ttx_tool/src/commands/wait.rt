@@ -1,0 +1,123 @@
+//! `wait`: how long viewers of each page of a service wait.
+
+ghost use Rattle.std.specs.Prelude.{◌≡◌, ◌≤◌, IfSome, IfOk, string_bytes};
+ghost use Rattle.ttx_cycle.specs.Counters.{inner_of, faults_of};
+ghost use Rattle.ttx_cycle.specs.Cycles.{slots_of};
+ghost use Rattle.ttx_certify.specs.CertifyingFiles.{IsUntouched};
+ghost use Rattle.ttx_tool.specs.FilesFaults.{is_tool_write};
+ghost use Rattle.ttx_tool.specs.Find.{CountsInputs};
+ghost use Rattle.ttx_tool.specs.Wait.{wait_status, IsWaitOf, WaitsText, Waits, CountsWait};
+
+use super::inputs::read_inputs;
+use super::writing::{Told, write_text};
+use crate::faults::ToolFault;
+use std::alloc::Global;
+use std::io::{Read, Write};
+use ttx_cycle::{Counted, Cycle};
+use ttx_page::Class;
+use ttx_source::Service;
+use ttx_wait::{Detail, report_with};
+use ttx_witness::NoMemory;
+
+// For receivers of which class, with which repeat count, and in which lines it is told.
+#[derive(Clone, Copy)]
+struct Question {
+    repeat: u8,
+    class: Class,
+    detail: Detail,
+}
+
+fn wait_status(deadline: Option<u32>) -> u8
+    ensures { result ≡ wait_status deadline }
+{
+    match deadline {
+        Some(_) => 0,
+        None => 1,
+    }
+}
+
+// What is told of a cycle and a service.
+fn tell(
+    alloc: Global,
+    cycle: &Cycle,
+    service: &Service,
+    question: Question,
+) -> Result<Told, NoMemory>
+    requires some { 1 ≤ question.repeat }
+    requires few { question.repeat ≤ 8 }
+    ensures { IfOk result (λ told. IsWaitOf (slots_of cycle.now) service.now question.repeat question.class question.detail
+        (string_bytes told.text) told.status) }
+{
+    let report = report_with(
+        alloc,
+        cycle,
+        service.pages(),
+        question.class,
+        question.repeat,
+        service.lines(),
+        question.detail,
+    )?;
+    let status = wait_status(report.deadline);
+    Ok(Told {
+        text: report.text,
+        status,
+    })
+}
+
+// The same for a packet file and the text of a service.
+fn wait_text<A: Read, B: Read>(
+    alloc: Global,
+    cycle: &mut Counted<A>,
+    service: &mut Counted<B>,
+    question: Question,
+) -> Result<Told, ToolFault>
+    requires some { 1 ≤ question.repeat }
+    requires few { question.repeat ≤ 8 }
+    ensures bytes { IfSome (A.remaining (inner_of cycle.old))
+        (λ a. IfSome (B.remaining (inner_of service.old)) (λ b. WaitsText a b question.repeat question.class question.detail result)) }
+    ensures faults { CountsInputs result (faults_of cycle.old) (faults_of cycle.new) (faults_of service.old) (faults_of service.new) }
+{
+    let inputs = match read_inputs(alloc, cycle, service) {
+        Ok(inputs) => inputs,
+        Err(fault) => return Err(fault),
+    };
+    match tell(alloc, &inputs.cycle, &inputs.service, question) {
+        Ok(told) => Ok(told),
+        Err(_) => Err(ToolFault::NoMemory),
+    }
+}
+
+/// Reads a packet file and the text of a service, and writes how long viewers of each page of the service wait, and what they
+/// wait for, to receivers of the class, in the lines that `detail` asks for; `repeat` is 1 to 8. The status is 0 where there is a
+/// deadline for all pages, else 1.
+///
+/// Nothing is written before all is told. At `Write` exactly the first `written` bytes of the lines went out; at each other
+/// fault the writer is as it was.
+pub fn run<A: Read, B: Read, W: Write>(
+    alloc: Global,
+    cycle: &mut Counted<A>,
+    service: &mut Counted<B>,
+    repeat: u8,
+    class: Class,
+    detail: Detail,
+    writer: &mut Counted<W>,
+) -> Result<u8, ToolFault>
+    requires some { 1 ≤ repeat }
+    requires few { repeat ≤ 8 }
+    ensures bytes { IfSome (A.remaining (inner_of cycle.old)) (λ a. IfSome (B.remaining (inner_of service.old)) (λ b. Waits a b repeat class detail
+        (W.contents (inner_of writer.old)) (W.contents (inner_of writer.new)) result)) }
+    ensures faults { CountsWait result (faults_of cycle.old) (faults_of cycle.new) (faults_of service.old) (faults_of service.new)
+        (faults_of writer.old) (faults_of writer.new) }
+    ensures untouched { IsUntouched is_tool_write result writer.old writer.new }
+{
+    let question = Question {
+        repeat,
+        class,
+        detail,
+    };
+    let told = match wait_text(alloc, cycle, service, question) {
+        Ok(told) => told,
+        Err(fault) => return Err(fault),
+    };
+    write_text(writer, told.text.as_str(), told.status)
+}
