@@ -27,7 +27,7 @@ offered() {
 [ "$(offered ttx show x 100 --as s)" = "svg" ] || fail "bash: --as s: $(offered ttx show x 100 --as s)"
 
 count=0
-for command in $("$program" --help | sed -n 's/^  \([a-z]*\)  .*/\1/p' | sort -u); do
+for command in $("$program" --help | sed -n 's/^  \([a-z]*\)  .*/\1/p' | grep -vx help | sort -u); do
     for option in $("$program" "$command" --help | sed -n 's/^ *\(-h, \)*--\([a-z]*\).*/\2/p'); do
         count=$((count + 1))
         grep -q "^        $command) .*'--$option\\[" "$work/_ttx" || fail "zsh: $command --$option"

@@ -17,7 +17,7 @@ cp "$top/examples/broadcast.toml" "$work/news/news.toml"
 cd "$work/news" || exit 1
 count=0
 name=blocks
-[ "$(find "$work/blocks" -type f | wc -l)" = 8 ] || fail "docs/RECIPES.md has other blocks than these eight"
+[ "$(find "$work/blocks" -type f | wc -l)" = 10 ] || fail "docs/RECIPES.md has other blocks than these ten"
 
 # a block of the document, and what it has to print
 expect() {
@@ -73,10 +73,40 @@ for recipe in 7 8; do
 done
 # the deadline of the carousel is the same for the service that it was planned for
 [ "$(sed -n 2p "$work/printed-8")" = "$("$program" find news.t42 news.toml heard.cert)" ] || fail "$(cat "$work/printed-8")"
+# on the air: the change is made ready while the second shift is sent, and the third one is the last
+count=$((count + 2))
+name="recipes 9 and 10"
+sed 's/0001Storm /0003Sunny /' news.toml > tomorrow.toml
+cp tomorrow.toml changed.toml
+cat > "$work/bin/sender" <<E
+#!/bin/sh
+head -c 4000000
+sh "$work/blocks/10" > judged 2>&1
+head -c 3000000
+touch stop
+cat
+E
+sh "$work/blocks/9" > "$work/aired" || fail "status $?"
+[ "$(tail -n 1 judged)" = yes ] || fail "the change is judged $(tail -n 1 judged)"
+cmp -s air.toml changed.toml || fail "the change isn't on the air"
+python3 - "$work/aired" <<'P' || fail "something else is on the air"
+import sys
+aired = open(sys.argv[1], "rb").read()
+slots = len(open("news.t42", "rb").read()) // 42
+shift = 50 * slots * 42
+assert len(aired) == 3 * shift, len(aired)
+text = bytes(b & 0x7f for b in aired)
+for at, here, gone in (0, b"\x01Storm ", b"\x03Sunny "), (shift, b"\x01Storm ", b"\x03Sunny "), (2 * shift, b"\x03Sunny ", b"\x01Storm "):
+    assert here in text[at:at + shift] and gone not in text[at:at + shift], at
+# slot 1 is a page header: its clock goes on by as many seconds as the period has fields
+clocks = [text[at + 42 + 34:at + 42 + 42].split(b":") for at in range(0, 3 * shift, shift)]
+seconds = [int(h) * 3600 + int(m) * 60 + int(s) for h, m, s in clocks]
+assert [(b - a) % 86400 for a, b in zip(seconds, seconds[1:])] == [slots // 12] * 2, clocks
+P
 head -c 42 /dev/zero > news.t42
 name="recipe 6"
 count=$((count + 1))
-sh "$work/blocks/6" 2> /dev/null | grep -qx "not accepted: the reason stands above; ttx refute tells whether a viewer fails" || fail "a no isn't reported"
+sh "$work/blocks/6" 2> /dev/null | grep -qx "not accepted, for the reason above: ttx refute looks for a viewer that fails" || fail "a no isn't reported"
 rm news.t42
 sh "$work/blocks/6" 2> /dev/null | grep -qx "nothing was judged" || fail "a fault isn't told"
 

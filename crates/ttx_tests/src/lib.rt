@@ -7,6 +7,8 @@ mod base;
 #[cfg(test)]
 mod certificates;
 #[cfg(test)]
+mod changes;
+#[cfg(test)]
 mod codes;
 #[cfg(test)]
 mod counters;
@@ -16,6 +18,8 @@ mod display;
 mod engines;
 #[cfg(test)]
 mod headers;
+#[cfg(test)]
+mod lost_rows;
 #[cfg(test)]
 mod monitors;
 #[cfg(test)]
@@ -32,6 +36,8 @@ mod pages;
 mod places;
 #[cfg(test)]
 mod planned;
+#[cfg(test)]
+mod promised;
 #[cfg(test)]
 mod seen;
 #[cfg(test)]
