@@ -1,4 +1,7 @@
 //! Page headers: the ids of pages, the control bits, and the 42 bytes of a page header.
+//!
+//! `bitflags!` writes operators without contracts, so `Control` has its constants and its `impl Flags` written out. Use `union`,
+//! `insert` and `contains`.
 #![tactic(auto)]
 
 pub mod control;

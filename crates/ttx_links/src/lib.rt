@@ -1,4 +1,6 @@
 //! Packets X/27/0 (EN 300 706, 9.6.1): the six links of a page.
+//!
+//! Profile: D1 to D3 of byte 39 are written 1 and ignored when read.
 #![tactic(auto)]
 
 pub mod laws;

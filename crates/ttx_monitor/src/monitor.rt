@@ -1,4 +1,4 @@
-//! Monitors: whether a feed of received slots keeps the error rule for each page of a service, with no slot kept.
+//! Monitors: whether a feed of received slots stays within the error rule for each page of a service. No slot is stored.
 
 ghost use Rattle.std.specs.Prelude.{◌≡◌, ◌<◌, ℕ, length, slice_index_or, None, [], ◌+◌, ◌-◌, ◌%◌, ◌^◌, min};
 ghost use Rattle.ttx_packet.specs.Slots.{IsSlot};
@@ -17,7 +17,7 @@ use ttx_page::Page;
 use ttx_source::Service;
 use ttx_witness::{Certificate, NoMemory, limit};
 
-/// What is kept of a feed: where it stands in the cycle, the streak of each text byte, and whether all was within the error rule.
+/// The state of a monitor: its place in the cycle, the streak of each text byte, and whether the feed has stayed within the error rule so far.
 #[derive(Drop)]
 pub struct Monitor<'a> {
     cycle: &'a Cycle,
@@ -29,7 +29,7 @@ pub struct Monitor<'a> {
     count: u64,
 }
 
-// The slot of a cycle in a place, and its first one where there is none.
+// The slot of the cycle at a place, or its first slot if the place is past its end.
 fn slot_at(cycle: &Cycle, at: usize) -> &[u8; 42]
     ensures slot { IsSlot result.now }
     ensures is { at < length (slots_of cycle.now) → result.now ≡ slice_index_or (slots_of cycle.now) at [] }
@@ -42,14 +42,14 @@ fn slot_at(cycle: &Cycle, at: usize) -> &[u8; 42]
     }
 }
 
-// The row in a place of a table.
+// The entry at a place of the table.
 fn place_at(table: &[Option<RowPlace>], at: usize) -> Option<RowPlace>
     ensures { result ≡ slice_index_or table.now at None }
 {
     if at < table.len() { table[at] } else { None }
 }
 
-/// The place after one of so many.
+/// The place after `at` in a cycle of `count` slots. After the last one comes the first.
 pub fn next(at: usize, count: usize) -> usize
     ensures { at < count → result ≡ (at + 1) % count }
 {
@@ -60,14 +60,14 @@ pub fn next(at: usize, count: usize) -> usize
     }
 }
 
-// One more slot, up to the largest count.
+// Counts one more slot, up to the largest number.
 fn one_more(count: u64) -> u64
     ensures { result ≡ min (count + 1) (2 ^ 64 - 1) }
 {
     count.saturating_add(1)
 }
 
-// What is told of a slot: what breaks the rule in it by itself, or else what it makes repeated.
+// What is reported of a slot: how it breaks the rule by itself, or else the byte that has now been wrong too often.
 fn first_told(alone: Option<Breach>, repeated: Option<TextByte>) -> Option<Breach>
     ensures { result ≡ first_told alone repeated }
 {
@@ -95,8 +95,8 @@ impl<'a> Monitor<'a> {
     ghost use Rattle.ttx_monitor.specs.Breaches.{IsHeard};
     ghost use Rattle.ttx_monitor.specs.Standing.{Stands};
 
-    /// A monitor of a feed that begins with slot `start` of the cycle, for the pages of a service, with the certificate's repeat count.
-    /// All memory is taken here.
+    /// A monitor for the pages of a service, with the certificate's repeat count. The feed begins with slot `start` of the cycle.
+    /// All memory is allocated here.
     pub fn new(
         alloc: Global,
         cycle: &'a Cycle,
@@ -111,7 +111,7 @@ impl<'a> Monitor<'a> {
         Monitor::over(alloc, cycle, service.pages(), certificate.repeat(), start)
     }
 
-    // A monitor for pages whose ids are distinct.
+    // A monitor for pages with distinct ids.
     fn over(
         alloc: Global,
         cycle: &'a Cycle,
@@ -138,7 +138,7 @@ impl<'a> Monitor<'a> {
         })
     }
 
-    /// The next slot of the feed: what breaks the error rule in it. Takes no memory.
+    /// Takes the next slot of the feed, and returns how it breaks the error rule, if it does. Allocates nothing.
     pub fn hear(&mut self, slot: &[u8; 42]) -> Option<Breach>
         ensures stands { (w : Watched) (feed : List (List ℕ)) → Stands self.old w feed → Stands self.new w (feed ++ slot.now ∷ []) }
         ensures heard { (w : Watched) (feed : List (List ℕ)) → Stands self.old w feed → IsHeard w feed slot.now result }
@@ -164,7 +164,7 @@ impl<'a> Monitor<'a> {
         breach
     }
 
-    /// Whether the feed is within the error rule for each page. Takes no memory.
+    /// Whether the feed is within the error rule for each page. Allocates nothing.
     pub fn within(&self) -> bool
         ensures within { (w : Watched) (feed : List (List ℕ)) → Stands self.now w feed → IsTrue result ↔ IsWithin w feed }
         ensures received { (w : Watched) (feed : List (List ℕ)) → Stands self.now w feed → 0 < length w.pages → IsTrue result ↔ AllReceived w feed }
@@ -176,15 +176,15 @@ impl<'a> Monitor<'a> {
         self.within
     }
 
-    /// How many slots the feed has; from 2^64 - 1 on no more are counted. Takes no memory.
+    /// How many slots have been taken. The count stops at 2^64 - 1. Allocates nothing.
     pub fn count(&self) -> u64
         ensures { (w : Watched) (feed : List (List ℕ)) → Stands self.now w feed → result ≡ min (length feed) (2 ^ 64 - 1) }
     {
         self.count
     }
 
-    /// Whether the feed is within the error rule and has lasted to the certificate's deadline. If so, and the cycle is accepted with the
-    /// certificate, each permitted receiver that got this feed has the View of each page. Takes no memory.
+    /// Whether the feed is within the error rule and at least as long as the certificate's deadline. If it is, and the cycle is accepted with
+    /// the certificate, each permitted receiver of this feed has the View of each page. Allocates nothing.
     pub fn lasts(&self, certificate: &Certificate) -> bool
         ensures exact { (w : Watched) (feed : List (List ℕ)) → Stands self.now w feed →
             IsTrue result ↔ (IsWithin w feed × (limit (certificate_of certificate.now) ≤ length feed)) }

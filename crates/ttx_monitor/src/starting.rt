@@ -1,4 +1,4 @@
-//! Where in the cycle a feed begins.
+//! Finds where in the cycle a feed begins.
 
 ghost use Rattle.std.specs.Prelude.{◌≡◌, ◌<◌, ◌≤◌, ℕ, true, false, All, MatchOption, IsSome, length, ◌^◌};
 ghost use Rattle.ttx_packet.specs.Slots.{IsSlot};
@@ -11,7 +11,7 @@ use crate::monitor::next;
 use ttx_cycle::Cycle;
 use ttx_cycle::arrays::are_slots;
 
-// Whether a slot may be received of what was sent.
+// Whether `sent` may be received as `received`.
 fn fits(sent: &[u8; 42], received: &[u8; 42]) -> bool
     requires { IsSlot received.now }
     ensures fit { result ≡ true → MayBeReceivedAs sent.now received.now }
@@ -20,7 +20,7 @@ fn fits(sent: &[u8; 42], received: &[u8; 42]) -> bool
     slot_breach(sent, received).is_none()
 }
 
-// How many slots can't be received where the feed begins with this slot of the cycle; `None` where they are not below a limit.
+// How many slots of the feed cannot have been received if it begins with this slot of the cycle. `None` if there are `limit` or more.
 fn misfits_below(cycle: &Cycle, head: &[[u8; 42]], start: usize, limit: usize) -> Option<usize>
     requires inside { start < length (slots_of cycle.now) }
     requires slots { All IsSlot head.now }
@@ -47,8 +47,8 @@ fn misfits_below(cycle: &Cycle, head: &[[u8; 42]], start: usize, limit: usize) -
     Some(misfits)
 }
 
-/// The slot of the cycle with which a feed begins, by its first slots, as many as the cycle has or as there are: the least of those
-/// with the fewest slots that can't be received.
+/// The slot of the cycle with which a feed most likely begins. It is judged by the feed's first period, or by as much as there is of it: the
+/// start with the fewest slots that cannot have been received, and the first one of several.
 pub fn find_start(cycle: &Cycle, head: &[[u8; 42]]) -> u32
     requires few { length head.now < 2 ^ 32 }
     ensures { IsBestStart (slots_of cycle.now) head.now result }

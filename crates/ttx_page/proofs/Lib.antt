@@ -11,7 +11,7 @@ mod ExactReception
 mod RunsOneSlotOn
 mod MovedStreams
 mod OwnContents
-mod Owners
+pub mod Owners
 mod Runs
 mod Turns
 mod Examples

@@ -40,7 +40,7 @@ no_head mag item (Links m content) h k = cc
 no_head mag item _ h k = cc
 
 -- a header of the page is one of its magazine
-page_heads : (page : Id) (packet : Packet) → heads_page page packet ≡ true → heads page.mag packet ≡ true
+pub page_heads : (page : Id) (packet : Packet) → heads_page page packet ≡ true → heads page.mag packet ≡ true
 page_heads page (Header id control text) h = swapped ((and_parts _ _ (and_parts _ _ h).0).0)
   where
     swapped : (page.mag == id.mag) ≡ true → (id.mag == page.mag) ≡ true

@@ -1,4 +1,7 @@
 //! The Level 1 display: what a viewer sees of the memory of a page (EN 300 706, 12.2).
+//!
+//! `View` has its rows as a type parameter, with `[[Cell; 40]; 25]` as default, because the checker cannot build nested arrays of
+//! structs in a literal. For a caller it is a plain struct.
 #![tactic(auto)]
 
 mod attributes;
