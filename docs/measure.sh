@@ -1,9 +1,8 @@
 #!/bin/sh
-# Prints the lines of source, specs and proofs of each crate (the source of ttx_tests is tests) and its wrong bodies, as
-# docs/MEASURED.md has them.
+# Prints the lines of source, specs and proofs of each crate (the source of ttx_tests is tests) and its mutants.
 cd "$(dirname "$0")/.." || exit 1
 lines() { find "$@" 2>/dev/null -type f | xargs cat 2>/dev/null | wc -l; }
-printf '| crate | source | specs | proofs | wrong bodies |\n|---|---|---|---|---|\n'
+printf '| crate | source | specs | proofs | mutants |\n|---|---|---|---|---|\n'
 for crate in $(sed -n 's/^\([a-z_]*\):.*/\1/p' crates.txt); do
     folder=crates/$crate
     source=$(lines "$folder/src" -name '*.rt')

@@ -74,10 +74,10 @@ def command_of(program, name, text):
 
 def read(program):
     lines = help_of(program, [])
-    at = lines.index("Commands:") + 1
-    end = lines.index("", at)
-    commands = [command_of(program, *line.split(None, 1)) for line in lines[at:end]]
-    after = lines.index("", lines.index("Options:", end)) + 1
+    end = lines.index("Options:")
+    listed = [found.groups() for line in lines[:end] if (found := re.match(r"  ([a-z]+) {2,}(.+)", line))]
+    commands = [command_of(program, name, said) for name, said in listed if name != "help"]
+    after = lines.index("", end) + 1
     return lines[0], commands, lines[after:]
 
 
@@ -113,7 +113,7 @@ def bash(commands):
     return f"""_ttx() {{
     local current=${{COMP_WORDS[COMP_CWORD]}} before=${{COMP_WORDS[COMP_CWORD-1]}} words=
     if [ "$COMP_CWORD" = 1 ]; then
-        words='{' '.join(c.name for c in commands)} --help'
+        words='{' '.join(c.name for c in commands)} help --help --version'
         COMPREPLY=($(compgen -W "$words" -- "$current"))
         return
     fi
