@@ -7,7 +7,7 @@ written answers of the functions that a crate's bodies turn are taken out of the
 so what is refused is the contract, and not an answer that fits the former body alone.
 
 What is found is written into tools/edits.tsv at once, a line a body: the crate, the edit, the heading, the checksums of the body and of
-all that it is tried over (the sources of the crate and of those below it, and the logic), the verdict, the function that is refused, and
+all that it is tried over (the sources of the crate and of those below it, without comments, and the logic), the verdict, the function that is refused, and
 how. A later run tries only what that file doesn't have with these checksums; --anew tries all. With --stale nothing is tried: the bodies
 of which the file has no such line are listed.
 
@@ -30,6 +30,7 @@ from dataclasses import dataclass
 RECORD = pathlib.Path("tools/edits.tsv")
 HEAD = ["crate", "edit", "heading", "body", "sources", "verdict", "function", "how"]
 PARTS = ("src", "specs", "proofs")
+COMMENTS = {".rt": "//", ".antt": "--"}
 ENOUGH = {"refused", "refused by an answer"}
 
 ITEM = re.compile(r"\s*(?:pub(?:\([a-z]+\))? )?(?:const |unsafe )?(?:fn|struct|enum|const|static|trait|type)\s+(\w+)")
@@ -81,11 +82,18 @@ def sources(names):
     return [it for name in names for part in PARTS for it in sorted(pathlib.Path("crates", name, part).rglob("*")) if it.is_file()]
 
 
+@functools.cache
+def sum_of_file(path):
+    """The checksum of a file without its comment lines, so that a reworded comment asks for no new trial."""
+    lines = path.read_text().split("\n")
+    return checksum("\n".join(line for line in lines if not line.lstrip().startswith(COMMENTS[path.suffix])).encode())
+
+
 def sum_of_sources(known, name, logic):
     """The checksum of all that a crate's bodies are tried over."""
     names = below(known, name)
     told = [logic, *[f"{it}: {' '.join(known[it])}" for it in names]]
-    told += [f"{it} {checksum(it.read_bytes())}" for it in sources(names)]
+    told += [f"{it} {sum_of_file(it)}" for it in sources(names)]
     return checksum("\n".join(told).encode())
 
 
