@@ -15,6 +15,8 @@ mod counters;
 #[cfg(test)]
 mod display;
 #[cfg(test)]
+mod early_row;
+#[cfg(test)]
 mod engines;
 #[cfg(test)]
 mod headers;
@@ -44,6 +46,8 @@ mod seen;
 mod service_packets;
 #[cfg(test)]
 mod services;
+#[cfg(test)]
+mod steady;
 #[cfg(test)]
 mod times;
 #[cfg(test)]

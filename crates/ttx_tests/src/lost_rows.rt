@@ -19,7 +19,7 @@ const AN_A: u32 = 0x41;
 const AN_X: u32 = 0x58;
 
 // Spaces, except for an X in column 0 of row 1, of a page that is not fresh.
-fn marked() -> PageMemory {
+pub(crate) fn marked() -> PageMemory {
     let mut rows = [[0x20; 40]; 25];
     rows[1][0] = 0x58;
     let memory = PageMemory::new(rows, Control(0), [None; 6], false, false, 64, false);
