@@ -4,6 +4,7 @@
 What the command prints goes to LOG. Its status is that of the command; where it fails, the faults and the last lines of LOG follow.
 How much is left is told by the lines of the crates that are still to come.
 """
+import os
 import pathlib
 import re
 import subprocess
@@ -91,7 +92,8 @@ def main():
         print("\n".join([*faults[:MOST_FAULTS], *text[-LAST_LINES:]]))
     else:
         print(last, end="")
-    print(f"{' '.join(command)}: {'failed' if status else 'done'} after {span(time.time() - progress.start)}; the whole text is in {log}")
+    took = f"{span(time.time() - progress.start)} on {len(os.sched_getaffinity(0))} processors"
+    print(f"{' '.join(command)}: {'failed' if status else 'done'} after {took}; the whole text is in {log}")
     return status if status >= 0 else 1
 
 
