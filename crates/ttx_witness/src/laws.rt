@@ -1,4 +1,4 @@
-//! The laws. Each is a public call with an empty body: calling it does nothing at run time; it gives the caller's proof the law.
+//! The laws. Each is a public function with an empty body: a call does nothing at run time, and gives the law to the caller's proof.
 
 pub mod cycle_laws;
 pub mod fault_laws;

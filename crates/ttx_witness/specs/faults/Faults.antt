@@ -34,7 +34,7 @@ abbrev pub TellsFirst : List (List ℕ) → (ℤ → Type 0) → Option ℕ → 
 TellsFirst cycle P None = Never P
 TellsFirst cycle P (Some slot) = IsFirstAt cycle P slot
 
--- This reason is true, no reason with a smaller number is, and the slot is the first one where it is true; None if no reason is true.
+-- This reason is true, none with a smaller number is, and the slot is the first one where it is true. None if no reason is true.
 abbrev pub IsPageFault : List (List ℕ) → List Page → Page → Option Reason → Type 0
 IsPageFault cycle pages p None = Steady (repeated cycle) pages p
 IsPageFault cycle pages p (Some (NoHeader page)) = (page ≡ p.id) × HasNoHeader (repeated cycle) p
@@ -74,7 +74,7 @@ pub record AreFirst (cycle : List (List ℕ)) (pages : List Page) (p : Page) (fi
   pub row : TellsFirst cycle (RowDiffersAt (repeated cycle) p) first.row
   pub links : TellsFirst cycle (LinksDifferAt (repeated cycle) p) first.links
 
--- the earlier of two slots, if there are any
+-- the earlier of two slots; None stands for no slot
 abbrev pub earlier : Option ℕ → Option ℕ → Option ℕ
 earlier None b = b
 earlier (Some a) None = Some a

@@ -59,7 +59,7 @@ heads_other table mag number packet = false
 abbrev pub HeadsOtherAt : List Subcodes → Stream → ℕ → ℕ → ℤ → Type 0
 HeadsOtherAt table s mag number j = heads_other table mag number (packet_of (s j)) ≡ true
 
--- slot j if it is one and there was none before
+-- the first slot so far: an earlier one, or j if the flag is true
 abbrev pub first_of : Option ℕ → Bool → ℕ → Option ℕ
 first_of None is j = if is then Some j else None
 first_of (Some i) is j = Some i

@@ -109,7 +109,7 @@ pub record IsSentUnchanged (cycle : List (List ℕ)) (pages : List Page) : Type 
   pub clean : (n : ℕ) → n < length cycle → is_clean (slice_index_or cycle n []) ≡ true
   pub steady : (n : ℕ) (p : Page) → slice_get pages n ≡ Some p → Steady (repeated cycle) pages p
 
--- the least number of fields, from 1 to 1,000,000, that holds so many slots
+-- the least number of fields, from 1 to 1,000,000, in which that many slots are sent; None if it is larger
 abbrev pub IsLeastField : ℕ → ℕ → Option ℕ → Type 0
 IsLeastField slots lines None = (d : ℕ) → 1 ≤ d → d ≤ 1000000 → slots ≤ d * lines → ⊥
 IsLeastField slots lines (Some d) = (1 ≤ d) × (d ≤ 1000000) × (slots ≤ d * lines) × ((e : ℕ) → 1 ≤ e → slots ≤ e * lines → d ≤ e)

@@ -1,8 +1,8 @@
 -- A cycle is accepted if each item has a sure run: laws for those who lay out cycles.
 --
 --   HasSureStart            a sure run of the item begins in a slot of the period
---   AllSureHaveStarts       an item that is sent, and never such that a receiver may miss it, has one
---   IsLongEnough            so many fields hold nine periods
+--   AllSureHaveStarts       an item that is sent, and that a receiver never may miss, has one
+--   IsLongEnough            a deadline in fields that holds nine periods
 --   SureItemsAreAccepted    if all is sent unchanged and each item has a sure run, some certificate is accepted
 use Rattle.std.specs.Prelude.{◌≡◌, ◌⊎◌, ℕ, ◌*◌, ◌≤◌, ℤ, true, List, length, slice_get, Some}
 use Rattle.ttx_header.specs.Ids.{Id}

@@ -3,7 +3,7 @@
 --   greatest                the greatest of the pages' deadlines, 1 if there are no pages; None if a page has no deadline
 --   DeadlineIsGreatest      if no slot is bad, the deadline of the certificate that is found is the greatest
 --   IsNear, IsCut           a transmission at most L slots after its header; a later one that a header of another magazine cuts off
---   LossesAreTold           a transmission that is counted as near or cut off is so in the stream
+--   LossesAreTold           a transmission that is counted as near or cut off is near or cut off in the stream
 use Rattle.std.specs.Prelude.{◌≡◌, ◌≢◌, ◌↔◌, ℕ, ◌<◌, ◌≤◌, ℤ, pos, ◌+ℤ◌, ◌<ℤ◌, ◌≤ℤ◌, true, List, [], ◌∷◌, length, map, slice_index_or, Option, Some}
 use Rattle.std.specs.List.{AllByRecursion, AllPairs}
 use Rattle.ttx_header.specs.Ids.{Id}

@@ -133,7 +133,7 @@ pub record IsBorneOut (x y : List (List ℕ)) (pages : List Page) : Type 0 where
   pub few : length y ≤ 65536
   pub owners : (i : ℕ) (p : Page) → slice_get pages i ≡ Some p → entry_owner x p.id ≡ entry_owner y p.id
 
--- None exactly where the first list isn't borne out; so only if the lists differ or the second one is empty
+-- None exactly if the second list does not bear out the first. For two equal lists that is so only if they are empty.
 abbrev pub EndsAs : List (List ℕ) → List (List ℕ) → List Page → Option EndedPass → Type 0
 EndsAs x y pages None = (IsBorneOut x y pages → ⊥) × (x ≡ y → y ≡ [])
 EndsAs x y pages (Some ended) = IsBorneOut x y pages × IsEnded ended y

@@ -1,6 +1,6 @@
 -- What is kept of the transmissions of one item while a period is read.
 --
---   keep_last               the last elements of a list, at most so many
+--   keep_last               the last elements of a list, at most the given number
 --   ended                   the runs that have ended after some transmissions
 --   Held, held_in, held_in_ring   what is held: how many transmissions a run has, the last ones and the first ones
 --   IsRecent                what is held of a list of transmissions

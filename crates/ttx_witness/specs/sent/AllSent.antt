@@ -1,7 +1,7 @@
 -- The transmissions of all items of all pages in one period of a cycle.
 --
 --   AreSentAfter            for each item of each page, the list kept has its transmissions in a first period after another cycle
---   AreAllSent              the same after the cycle itself
+--   AreAllSent              the same where the cycle follows itself
 use Rattle.std.specs.Prelude.{◌≡◌, ℕ, ◌*◌, List, length, slice_get, Some}
 use Rattle.ttx_page.specs.Pages.{Page}
 use Rattle.ttx_page.specs.declared.item.Item.{Item}

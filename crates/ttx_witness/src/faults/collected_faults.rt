@@ -57,7 +57,7 @@ pub fn first_wrong_sent(
     None
 }
 
-// Whether the list of the page's headers is not empty.
+// Whether the cycle has a header of the page, that is, whether the list of its headers is not empty.
 fn has_header(sent: &[Transmission]) -> bool
     ensures { (cycle : List (List ℕ)) (page : Id) (lines : ℕ) → 1 ≤ length cycle → sent.now ≡ sent_in cycle page lines TheHead →
         IsTrue result ↔ HasHeader (repeated cycle) page }
@@ -65,7 +65,7 @@ fn has_header(sent: &[Transmission]) -> bool
     !sent.is_empty()
 }
 
-// The first slot that sends something else for this row, if a viewer sees the row.
+// The first slot that differs from the page in this row. `None` if there is none, or if no viewer sees the row.
 fn first_wrong_in(
     cycle: &Cycle,
     page: &Page,
@@ -87,7 +87,7 @@ fn first_wrong_in(
     first_wrong_sent(cycle, page, &check, collected.sent(index, Item::Row(row)))
 }
 
-// The first slot that sends something else for a row that a viewer sees.
+// The first slot that differs from the page in a row that a viewer sees.
 fn first_wrong_row(cycle: &Cycle, page: &Page, collected: &Collected, index: usize) -> Option<u32>
     ensures { (pages : List definitions.Page) (lines : ℕ) → AreAllSent (slots_of cycle.now) pages lines collected.now →
         slice_get pages index ≡ Some (page_of page.now) →
@@ -100,7 +100,7 @@ fn first_wrong_row(cycle: &Cycle, page: &Page, collected: &Collected, index: usi
     first
 }
 
-// The first slot for each reason.
+// For each reason about the page's contents, the first slot where it is true.
 fn first_slots(
     cycle: &Cycle,
     page: &Page,

@@ -1,4 +1,4 @@
-//! The first slot for each reason, and the first of the reasons.
+//! For each reason about a page's contents the first slot where it is true, and the first of these reasons.
 
 ghost use Rattle.std.specs.Prelude.{◌≡◌, ℕ, List};
 ghost use Rattle.ttx_page.specs.Pages as definitions;
@@ -7,8 +7,8 @@ ghost use Rattle.ttx_witness.specs.faults.Faults.{AreFirst, IsPageFault, earlier
 use crate::faults::reason::Reason;
 use ttx_header::PageId;
 
-/// Whether a page has a header, and for each of the other reasons that concern only a page and a cycle, the first slot where it
-/// is true.
+/// Whether the cycle has a header of the page, and for each other reason that concerns only a page and a cycle, the first slot
+/// where it is true.
 #[derive(Clone, Copy)]
 pub struct FirstSlots {
     pub has_header: bool,
@@ -19,7 +19,7 @@ pub struct FirstSlots {
     pub links: Option<u32>,
 }
 
-/// The earlier of two slots, if there are any.
+/// The earlier of two slots. `None` stands for no slot.
 pub fn earlier(a: Option<u32>, b: Option<u32>) -> Option<u32>
     ensures { result ≡ earlier a b }
 {

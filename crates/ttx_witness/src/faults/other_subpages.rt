@@ -21,7 +21,7 @@ pub struct OtherSubpages {
     first: Vec<Option<u32>>,
 }
 
-/// Slot `j` if `is` is true and there was none before.
+/// The first slot so far where a property holds: the earlier one, or slot `j` if `is` says that the property holds there.
 pub fn first_of(first: Option<u32>, is: bool, j: u32) -> Option<u32>
     ensures { result ≡ first_of first is j }
 {
@@ -31,7 +31,7 @@ pub fn first_of(first: Option<u32>, is: bool, j: u32) -> Option<u32>
     }
 }
 
-/// Notes slot `j` if it is a header.
+/// Notes slot `j` if it is a header with another subcode than the one that is listed for its number.
 pub fn note_slot(first: &mut Vec<Option<u32>>, subcodes: &[Subcodes], slot: &[u8; 42], j: u32)
     requires slot { IsSlot slot.now }
     requires first { length first.old.items ≡ 2048 }
@@ -49,7 +49,7 @@ pub fn note_slot(first: &mut Vec<Option<u32>>, subcodes: &[Subcodes], slot: &[u8
     first[at] = first_of(first[at], is_other(subcodes[at], id.sub()), j);
 }
 
-/// A table in which no header is noted.
+/// A table of all page numbers, without any header yet. `Err` if memory runs out.
 pub fn none_told(alloc: Global) -> Result<Vec<Option<u32>>, NoMemory>
     ensures { IfOk result (λ first. first.items ≡ replicate 2048 None) }
 {
@@ -90,7 +90,7 @@ impl OtherSubpages {
     ghost use Rattle.ttx_witness.specs.faults.Faults.{TellsFirst};
     ghost use Rattle.ttx_witness.specs.faults.OtherSubpages.{AreOtherSubpages};
 
-    /// Finds the headers of other subpages of these pages, in time linear in the slots and the pages. `Err` if memory runs out.
+    /// Finds the first headers of other subpages for these pages, in time linear in the slots and the pages. `Err` if memory runs out.
     pub fn of(alloc: Global, cycle: &Cycle, pages: &[Page]) -> Result<OtherSubpages, NoMemory>
         ensures { IfOk result (λ others. AreOtherSubpages (slots_of cycle.now) (map page_of pages.now) others) }
     {

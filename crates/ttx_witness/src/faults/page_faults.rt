@@ -72,7 +72,7 @@ fn is_mine_at_end(cycle: &Cycle, page: PageId) -> bool
     mine
 }
 
-// Whether the slot is a transmission that differs from the page. `mine` says whether the magazine's latest header is the page's.
+// Whether the slot is a transmission that differs from the page. `mine` says whether the magazine's latest header is one of the page.
 fn differs(page: &Page, check: &Check, slot: &[u8; 42], mine: bool) -> bool
     requires { IsSlot slot.now }
     ensures { IsTrue result ↔ ((sends (page_of page.now).id (compared_item check.now) (packet_of slot.now) mine ≡ true)
@@ -81,7 +81,7 @@ fn differs(page: &Page, check: &Check, slot: &[u8; 42], mine: bool) -> bool
     sends(page.id(), check.item(), slot, mine) && is_wrong(page, check, slot)
 }
 
-// The first transmission that differs from the page. `mine` says whether the magazine's latest header before the period is the page's.
+// The first transmission that differs from the page. `mine` says the same of the magazine's latest header before the period.
 fn first_wrong(cycle: &Cycle, page: &Page, check: &Check, mine: bool) -> Option<u32>
     requires { mine ≡ is_mine (entry_owner (slots_of cycle.now) (page_of page.now).id) }
     ensures { TellsFirst (slots_of cycle.now) (WrongAt (repeated (slots_of cycle.now)) (page_of page.now) check.now) result }
@@ -97,7 +97,7 @@ fn first_wrong(cycle: &Cycle, page: &Page, check: &Check, mine: bool) -> Option<
     None
 }
 
-// The first slot that sends something else for this row, if a viewer sees the row.
+// The first slot that differs from the page in this row. `None` if there is none, or if no viewer sees the row.
 fn first_wrong_in(cycle: &Cycle, page: &Page, number: u8, mine: bool) -> Option<u32>
     requires { mine ≡ is_mine (entry_owner (slots_of cycle.now) (page_of page.now).id) }
     ensures { TellsFirst (slots_of cycle.now) (RowWrongAt (repeated (slots_of cycle.now)) (page_of page.now) number) result }
@@ -112,7 +112,7 @@ fn first_wrong_in(cycle: &Cycle, page: &Page, number: u8, mine: bool) -> Option<
     first_wrong(cycle, page, &check, mine)
 }
 
-// The first slot that sends something else for a row that a viewer sees.
+// The first slot that differs from the page in a row that a viewer sees.
 fn first_wrong_row(cycle: &Cycle, page: &Page, mine: bool) -> Option<u32>
     requires { mine ≡ is_mine (entry_owner (slots_of cycle.now) (page_of page.now).id) }
     ensures { TellsFirst (slots_of cycle.now) (RowDiffersAt (repeated (slots_of cycle.now)) (page_of page.now)) result }
@@ -124,7 +124,7 @@ fn first_wrong_row(cycle: &Cycle, page: &Page, mine: bool) -> Option<u32>
     first
 }
 
-// The first slot for each reason.
+// For each reason about the page's contents, the first slot where it is true.
 fn first_slots(cycle: &Cycle, pages: &[Page], index: usize) -> FirstSlots
     requires { index < length pages.now }
     ensures { (p : definitions.Page) → slice_get (map page_of pages.now) index ≡ Some p →

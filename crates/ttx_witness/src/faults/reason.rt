@@ -57,9 +57,9 @@ pub enum Reason {
         item: Item,
         start: u32,
     },
-    /// The two passes over the cycle differ.
+    /// The second pass over the slots does not match the first.
     Unsteady,
-    /// The next header comes too late after this one, for a blank item without named starts.
+    /// The header after this one comes too late, for a blank item without named starts.
     LateBlank {
         page: PageId,
         item: Item,

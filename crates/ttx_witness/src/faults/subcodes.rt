@@ -10,7 +10,7 @@ use ttx_certificate::NoMemory;
 use ttx_header::PageId;
 use ttx_page::Page;
 
-/// The number of page numbers: eight magazines and two hexadecimal digits.
+/// How many page numbers there are: eight magazines times 256.
 pub const NUMBERS: usize = 2048;
 
 /// The subcodes of the listed pages of a number: none, one, or several.
@@ -29,7 +29,7 @@ pub fn place(page: PageId) -> usize
     256 * (usize::from(page.mag()) - 1) + usize::from(page.page())
 }
 
-// The subcodes with one more.
+// The subcodes of a number after a page with subcode `sub` is added.
 fn with_subcode(subcodes: Subcodes, sub: u16) -> Subcodes
     ensures { result ≡ with_subcode subcodes sub }
 {
@@ -57,7 +57,7 @@ pub fn is_other(subcodes: Subcodes, sub: u16) -> bool
     }
 }
 
-// Notes a page.
+// Adds a page to the table.
 fn note_page(table: &mut Vec<Subcodes>, page: PageId)
     requires { length table.old.items ≡ 2048 }
     ensures size { length table.new.items ≡ 2048 }
@@ -70,7 +70,7 @@ fn note_page(table: &mut Vec<Subcodes>, page: PageId)
     table[at] = with_subcode(table[at], page.sub());
 }
 
-// A table without pages.
+// The table before any page is added.
 fn unlisted(alloc: Global) -> Result<Vec<Subcodes>, NoMemory>
     ensures { IfOk result (λ table. table.items ≡ replicate 2048 Unlisted) }
 {
@@ -80,7 +80,7 @@ fn unlisted(alloc: Global) -> Result<Vec<Subcodes>, NoMemory>
     }
 }
 
-/// The subcodes of the listed pages of each number. `Err` if memory runs out.
+/// The subcodes of the listed pages, for each page number. `Err` if memory runs out.
 pub fn subcodes_of(alloc: Global, pages: &[Page]) -> Result<Vec<Subcodes>, NoMemory>
     ensures size { IfOk result (λ table. length table.items ≡ 2048) }
     ensures subcodes { IfOk result (λ table. AreAllSubcodes (map page_of pages.now) (length pages.now) table.items) }

@@ -1,4 +1,4 @@
-//! Finds certificates.
+//! Searches for the certificate with the least deadline.
 
 ghost use Rattle.std.specs.Prelude.{◌≡◌, ◌≢◌, [], ◌≤◌, ◌<◌, ◌*◌, ◌↔◌, ℕ, IfOk, OnOk, IsTrue, List, map, length, Some, true, false};
 ghost use Rattle.std.specs.List.{AllPairs};
@@ -23,16 +23,16 @@ use ttx_certificate::{Certificate, Entry, NoMemory};
 use ttx_cycle::Cycle;
 use ttx_page::{Class, Page};
 
-/// A certificate that is found.
+/// The result of a search.
 #[derive(Drop)]
 pub struct Found {
-    /// Names every start of a sure run. If there is no `deadline` it has the largest one, 1,000,000 fields.
+    /// Names every start of a sure run. Has the largest deadline, 1,000,000 fields, if there is no `deadline`.
     pub certificate: Certificate,
     /// The least deadline, in fields, with which the cycle is accepted; `None` if there is none.
     pub deadline: Option<u32>,
 }
 
-// The least number of fields, from 1 to 1,000,000, that holds so many slots.
+// The least number of fields, from 1 to 1,000,000, in which `slots` slots are sent. `None` if it is larger.
 fn least_field(slots: u64, lines: u8) -> Option<u32>
     requires some { 1 ≤ lines }
     ensures { IsLeastField slots lines result }

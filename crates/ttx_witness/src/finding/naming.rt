@@ -43,7 +43,7 @@ fn width(period: u32, spread: Spread) -> u64
     u64::from(spread.widest).max(distance(i64::from(spread.previous), end))
 }
 
-// The same; `None` if there is no sure run.
+// The same, or `None` if there is no sure run.
 fn limit_of(period: u32, spread: Option<Spread>) -> Option<u64>
     ensures { result ≡ limit_of period spread }
 {
@@ -53,7 +53,7 @@ fn limit_of(period: u32, spread: Option<Spread>) -> Option<u64>
     }
 }
 
-// The least limit that is enough for both, if both exist.
+// The least limit that is enough for both. `None` if one of them has none.
 fn wider(a: Option<u64>, b: Option<u64>) -> Option<u64>
     ensures { result ≡ wider a b }
 {
@@ -63,7 +63,7 @@ fn wider(a: Option<u64>, b: Option<u64>) -> Option<u64>
     }
 }
 
-// Appends an entry for the item, if it has a start.
+// Appends an entry with the starts of the item, unless there are none.
 fn add_entry(
     entries: &mut Vec<Entry>,
     page: PageId,
@@ -187,8 +187,8 @@ fn name_seen(
     name_item(alloc, surveyed, entries, item)
 }
 
-/// Names the starts of the items of a page. `least` is the least limit that is enough for the pages before it, the result also for
-/// this page.
+/// Names the starts of the items of a page. `least` is the least limit that is enough for the pages before it. Returns the least
+/// limit that is enough for this page too.
 pub(crate) fn name_page(
     alloc: Global,
     surveyed: &SurveyedPage,

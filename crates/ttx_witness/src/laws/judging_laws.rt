@@ -17,7 +17,7 @@ pub fn items_are_judged()
     ensures { ItemsAreJudged }
 {}
 
-/// The list of a page's headers shows whether each is followed by the next in time.
+/// The list of a page's headers decides whether each header is followed by the next in time.
 pub fn headers_are_judged()
     ensures { HeadersAreJudged }
 {

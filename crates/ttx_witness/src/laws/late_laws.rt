@@ -2,7 +2,7 @@
 
 ghost use Rattle.ttx_witness.specs.laws.LateLaws.{LateBlankIsUnserved, LateIsUnserved};
 
-/// If each named start of an item is sure: some start is late if and only if some tuning slot is served by none of their runs.
+/// If every named start of an item is sure: some start is late if and only if there is a tuning slot that none of their runs serves.
 pub fn late_is_unserved()
     ensures { LateIsUnserved }
 {
@@ -14,7 +14,7 @@ pub fn late_is_unserved()
     ttx_page::laws::streams_move();
 }
 
-/// For receivers that surely clear: some header is late if and only if after some tuning slot no header of the page comes in time.
+/// For receivers that surely clear: some header is late if and only if, after some tuning slot, no header of the page comes in time.
 pub fn late_blank_is_unserved()
     ensures { LateBlankIsUnserved }
 {

@@ -2,7 +2,7 @@
 
 ghost use Rattle.ttx_witness.specs.laws.SureItems.{AllSureHaveStarts, SureItemsAreAccepted};
 
-/// An item that is sent, and never such that a receiver may miss it, has a sure run.
+/// An item that is sent, and that a receiver never may miss, has a sure run.
 pub fn all_sure_have_starts()
     ensures { AllSureHaveStarts }
 {

@@ -15,8 +15,8 @@ pub fn deadline_is_greatest()
     crate::laws::cycle_laws::least_limit_is_found();
 }
 
-/// The deadline of a page that is sent unchanged is the greatest of its items' deadlines, and it has none if and only if one of the
-/// items has none.
+/// The deadline of a page that is sent unchanged is the greatest of its items' deadlines. It has no deadline if and only if one of
+/// the items has none.
 pub fn page_is_greatest()
     ensures { PageIsGreatest }
 {
@@ -28,7 +28,7 @@ pub fn page_is_greatest()
     crate::laws::cycle_laws::least_limit_is_found();
 }
 
-/// A transmission that is counted as near its header, or as cut off, is so in the stream.
+/// A transmission that is counted as near its header, or as cut off, is near or cut off in the stream too.
 pub fn losses_are_told()
     ensures { LossesAreTold }
 {}

@@ -16,7 +16,7 @@ use std::alloc::Global;
 use ttx_certificate::{Certificate, NoMemory};
 use ttx_page::Page;
 
-// No facts yet, for so many pages.
+// Empty facts for `count` pages.
 fn no_facts(alloc: Global, count: usize) -> Result<Vec<Facts>, NoMemory>
     ensures { IfOk result (λ all. all.items ≡ replicate count (record { heads = None; erased = None; head = None; row = None; links = None })) }
 {

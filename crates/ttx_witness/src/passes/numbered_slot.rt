@@ -17,7 +17,7 @@ fn told(slot: &[u8; 42])
     ensures { IsSlot slot.now }
 {}
 
-/// An array of 42 bytes is a slot. Calling this does nothing at run time; it gives the caller's proof the fact.
+/// An array of 42 bytes is a slot. A call does nothing at run time, and gives this fact to the caller's proof.
 pub fn is_slot(slot: &[u8; 42])
     ensures { IsSlot slot.now }
 {

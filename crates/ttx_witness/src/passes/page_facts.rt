@@ -35,7 +35,7 @@ pub struct Facts {
     pub links: Option<u32>,
 }
 
-// The headers of a page after one more in slot `j`.
+// The headers of a page after one more header, in slot `j`.
 fn next_head(heads: Option<Heads>, j: i32, limit: u32) -> Heads
     ensures { result ≡ next_head limit j heads }
 {
@@ -59,7 +59,7 @@ fn next_head(heads: Option<Heads>, j: i32, limit: u32) -> Heads
     }
 }
 
-// The headers of a page after slot `j`, which is one of them if `sent` is true.
+// The headers of a page after slot `j`. `sent` says whether that slot is a header of the page.
 fn heads_after(heads: Option<Heads>, j: i32, limit: u32, sent: bool) -> Option<Heads>
     ensures { result ≡ heads_after limit j sent heads }
 {
@@ -70,7 +70,7 @@ fn heads_after(heads: Option<Heads>, j: i32, limit: u32, sent: bool) -> Option<H
     }
 }
 
-// The first slot that differs from the page. `sent` says whether this slot sends the item.
+// The first slot that differs from the page, after one more slot. `sent` says whether this slot sends the item.
 fn noted(
     first: Option<u32>,
     page: &Page,
@@ -83,7 +83,7 @@ fn noted(
     first_of(first, sent && is_wrong(page, check, slot.bytes), slot.at)
 }
 
-// Whether the slot sends something else for the row of this number, and a viewer sees the row.
+// Whether the slot differs from the page in the row with this number, and a viewer sees the row.
 fn is_row_wrong(page: &Page, number: u8, slot: &[u8; 42]) -> bool
     requires { IsSlot slot.now }
     ensures { IsTrue result ↔ RowWrong (page_of page.now) (λ item. item_number item == number) slot.now }
@@ -108,7 +108,7 @@ fn facts_after(facts: Facts, page: &Page, number: u8, slot: &NumberedSlot, limit
     }
 }
 
-/// Notes what a slot sends.
+/// Adds what a slot sends to the facts of its page.
 pub fn note_sent(
     all: &mut Vec<Facts>,
     pages: &[Page],
@@ -130,7 +130,7 @@ pub fn note_sent(
     }
 }
 
-/// The first header that the next one follows too late. After the last header comes the first one, a period later.
+/// The first header that the next one follows too late. The header after the last one is the first one, a period later.
 pub fn late_of(heads: Option<Heads>, period: u32, limit: u32) -> Option<u32>
     ensures { result ≡ late_of limit period heads }
 {

@@ -23,7 +23,7 @@ use ttx_certificate::{Certificate, limit};
 use ttx_packet::clean;
 use ttx_page::Page;
 
-/// Why a slot is not taken.
+/// Why a pass refuses a slot.
 #[derive(Clone, Copy, PartialEq, Eq, Debug, Error)]
 pub enum WalkFault {
     /// Fault 1: the first list already has 65,536 slots.
@@ -45,8 +45,8 @@ pub struct Pass<'a> {
     pub(crate) count: u32,
 }
 
-/// The second pass. It also keeps the owners before its slot 0, the first bad slot, and whether it was given more than 65,536
-/// slots.
+/// The second pass. It also keeps the owners before its slot 0, the first bad slot, and whether the second list has more than
+/// 65,536 slots.
 #[derive(Drop)]
 pub struct SecondPass<'a> {
     pub(crate) pass: Pass<'a>,
@@ -55,7 +55,7 @@ pub struct SecondPass<'a> {
     pub(crate) over: bool,
 }
 
-// Takes one more slot: what it sends, the facts, and the owners after it.
+// Takes one more slot: records what it sends, updates the facts, and then the owners.
 fn take_slot(pass: &mut Pass, slot: &[u8; 42])
     requires slot { IsSlot slot.now }
     requires few { pass.old.count < 65536 }
@@ -142,8 +142,8 @@ impl<'a> SecondPass<'a> {
         take_slot(&mut self.pass, slot);
     }
 
-    /// What the second list sends of the pages, if it leaves the owners with which it began. `None` exactly where it does not, is empty,
-    /// or has more than 65,536 slots.
+    /// The results, if the second list leaves the same owners as it began with. `None` exactly if it does not, is empty, or has more
+    /// than 65,536 slots.
     pub fn end(self) -> Option<EndedPass<'a>>
         ensures ended { (x y : List (List ℕ)) → IsSecondPass self.entry x y → EndsAs x y (pages_in self.entry) result }
         ensures pages { IfSome result (λ ended. ended_pages ended ≡ pages_in self.entry) }

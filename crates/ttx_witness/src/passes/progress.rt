@@ -50,14 +50,14 @@ pub fn take_all(track: &mut Track, sent: &SentSlots, place: usize, starts: &[u32
     }
 }
 
-// Whether the numbers of a transmission are small.
+// Whether the slot and owner of a transmission are in the range in which no sum overflows.
 fn is_small(t: Transmission) -> bool
     ensures { IsTrue result ↔ IsWithin 65536 t }
 {
     -65536 <= t.slot && t.slot <= 65536 && -65536 <= t.owner && t.owner <= 65536
 }
 
-// Whether the numbers of all transmissions are small.
+// The same for all transmissions.
 fn are_small(ts: &[Transmission]) -> bool
     ensures { IsTrue result ↔ All (IsWithin 65536) ts.now }
 {

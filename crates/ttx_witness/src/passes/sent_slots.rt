@@ -29,7 +29,7 @@ fn nothing(alloc: Global, count: usize) -> Result<Vec<Option<u16>>, NoMemory>
     }
 }
 
-// The element at this index of a list; `None` beyond its end.
+// The element of a list at an index; `None` beyond its end.
 fn slot_in(list: &[Option<u16>], at: usize) -> Option<u16>
     ensures { result ≡ get_or list.now at None }
 {
@@ -43,7 +43,7 @@ impl SentSlots {
     ghost use Rattle.std.specs.Prelude.{◌≡◌, ◌<◌, ◌+◌, ◌*◌, ◌++◌, ◌∷◌, [], ℕ, None, length, get_or, IfOk};
     ghost use Rattle.ttx_witness.specs.passes.SentSlots.{IsLinked};
 
-    /// No slots yet, with places for the items of so many pages. All memory is allocated here.
+    /// The state before the first slot, with places for the items of `pages` pages. Allocates all memory.
     pub fn new(alloc: Global, pages: usize) -> Result<SentSlots, NoMemory>
         ensures slots { IfOk result (λ sent. sent.slots.items ≡ []) }
         ensures places { IfOk result (λ sent. length sent.firsts.items ≡ 26 * pages) }
@@ -64,7 +64,7 @@ impl SentSlots {
         })
     }
 
-    /// Appends what the next slot sends, unless there are 65,536 slots already.
+    /// Appends what the next slot sends. Does nothing after 65,536 slots.
     pub fn note(&mut self, sent: Option<Sent>)
         ensures slots { length self.old.slots.items < 65536 → self.new.slots.items ≡ self.old.slots.items ++ sent ∷ [] }
         ensures firsts { self.new.firsts ≡ self.old.firsts }
@@ -74,7 +74,7 @@ impl SentSlots {
         }
     }
 
-    // Links a slot before the later slots that send the same item.
+    // Links a slot to the next slot that sends the same item, and makes it the first one of its item.
     fn link_slot(&mut self, at: usize)
         requires { at < length self.old.slots.items }
         ensures slots { self.new.slots ≡ self.old.slots }

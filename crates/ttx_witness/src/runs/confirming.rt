@@ -29,7 +29,7 @@ fn is_past(slot: i32, limit: u32, end: i64) -> bool
     i64::from(slot) + i64::from(limit) < end
 }
 
-// The least named start so far whose next run ends more than `limit` slots after its owner; the next run ends at `end`.
+// The least named start so far whose next run ends more than `limit` slots after its owner. The run that comes next ends at `end`.
 fn late_after(limit: u32, starts: &[u32], progress: Progress, end: i64) -> Option<u32>
     requires { progress.next ≤ length starts.now }
     ensures { result ≡ late_after limit starts.now progress end }
@@ -66,8 +66,8 @@ pub fn confirm(progress: Progress, run: Run, starts: &[u32], limit: u32) -> Prog
     }
 }
 
-/// The least named start whose next run ends more than `limit` slots after its owner. After the last start comes the first one, a
-/// period later.
+/// The least named start whose next run ends more than `limit` slots after its owner. The start after the last one is the first one,
+/// a period later.
 pub fn late_at_end(progress: Progress, period: u32, starts: &[u32], limit: u32) -> Option<u32>
     requires { progress.next ≤ length starts.now }
     ensures { result ≡ late_after limit starts.now progress (progress.first_end +ℤ pos period) }

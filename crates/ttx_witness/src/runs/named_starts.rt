@@ -17,7 +17,7 @@ pub struct Track {
     pub progress: Progress,
 }
 
-// The progress after a run, if one has ended.
+// The progress after `run`; unchanged if no run has ended.
 #[tactic(auto, unfolding(crate::specs::runs::Confirming::after_runs))]
 fn progress_after(progress: Progress, run: Option<Run>, starts: &[u32], limit: u32) -> Progress
     ensures { result ≡ after_runs limit starts.now progress (listed run) }

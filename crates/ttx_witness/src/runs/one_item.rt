@@ -17,7 +17,7 @@ use arrayvec::ArrayVec;
 use std::alloc::Global;
 use ttx_certificate::NoMemory;
 
-// No transmissions taken yet, of an item whose runs have `repeat` transmissions.
+// The state before the first transmission of an item whose runs have `repeat` transmissions.
 fn nothing_sent(repeat: usize) -> Recent
     requires some { 1 ≤ repeat }
     ensures { IsRecent (repeat - 1) [] (held_in result) }
@@ -29,7 +29,7 @@ fn nothing_sent(repeat: usize) -> Recent
     }
 }
 
-/// A track of an item whose runs have `repeat` transmissions, with none taken yet.
+/// The track of an item before its first transmission. Its runs have `repeat` transmissions.
 pub fn nothing_confirmed(repeat: usize) -> Track
     requires some { 1 ≤ repeat }
     ensures { (limit : ℕ) (starts : List ℕ) → IsTrack (repeat - 1) limit starts [] result }
@@ -77,7 +77,7 @@ pub fn search_item(
     Ok(SureRuns { starts, spread })
 }
 
-/// How far the named starts are confirmed by the transmissions of a period. Allocates no memory.
+/// How many of the named starts the transmissions of a period confirm, and which are late. Allocates no memory.
 pub fn judge_item(
     sent: &[Transmission],
     starts: &[u32],

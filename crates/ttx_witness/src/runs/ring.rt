@@ -19,7 +19,7 @@ pub struct Ring {
     pub firsts: ArrayVec<Transmission, 7>,
 }
 
-/// A ring for runs of `repeat` transmissions, with none taken yet. All memory is allocated here.
+/// The ring before the first transmission, for runs of `repeat` transmissions. Allocates all memory.
 pub fn empty_ring(alloc: Global, repeat: usize) -> Result<Ring, NoMemory>
     requires some { 1 ≤ repeat }
     ensures held { IfOk result (λ ring. IsRecent (repeat - 1) [] (held_in_ring ring)) }

@@ -78,7 +78,7 @@ fn keep_sure(
     Ok(Some(widened(spread, run)))
 }
 
-// Keeps the start of the run that has ended, if there is one.
+// Keeps the start of the run that has just ended, if one has.
 #[tactic(auto, unfolding(crate::specs::runs::SureStarts::sure_runs, crate::specs::runs::SureStarts::spread_of))]
 fn keep_start(
     starts: &mut Vec<u32>,

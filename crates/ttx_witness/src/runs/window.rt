@@ -62,7 +62,7 @@ pub fn push(recent: &mut Recent, t: Transmission) -> Option<Run>
     take_next(&mut recent.window, recent.repeat, t)
 }
 
-// The transmission, one period later.
+// The same transmission one period later.
 fn later(t: Transmission, period: u32) -> Transmission
     requires small { IsWithin (8 * 65536) t }
     requires short { period ≤ 65536 }

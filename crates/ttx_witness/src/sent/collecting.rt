@@ -19,7 +19,7 @@ use ttx_certificate::{NoMemory, item_number};
 use ttx_cycle::Cycle;
 use ttx_page::{Item, Page};
 
-// So many empty lists.
+// `count` empty lists.
 fn empty_lists(alloc: Global, count: usize) -> Result<Vec<Vec<Transmission>>, NoMemory>
     ensures count { IfOk result (λ lists. length lists.items ≡ count) }
     ensures empty { IfOk result (λ lists. (n : ℕ) → held lists.items n ≡ []) }
@@ -50,7 +50,7 @@ fn add_sent(lists: &mut Vec<Vec<Transmission>>, sent: Option<Sent>) -> Result<()
     Ok(())
 }
 
-// Fills the lists, which are empty, with the transmissions of the items of the pages in the index.
+// Fills the empty lists with the transmissions of the pages in the index.
 fn fill_lists(
     lists: &mut Vec<Vec<Transmission>>,
     before: &Cycle,
@@ -74,7 +74,7 @@ fn fill_lists(
     Ok(())
 }
 
-/// The transmissions of each item of the pages in the first period of a cycle after another cycle. The ids of the pages are distinct.
+/// Collects the transmissions of each item in the first period of a cycle that follows another cycle. The ids of the pages are distinct.
 /// `Err` if memory runs out.
 pub fn collect_after(
     alloc: Global,
@@ -94,7 +94,7 @@ pub fn collect_after(
     Ok(Collected { lists })
 }
 
-/// The transmissions of each item of the pages in one period of the cycle. The ids of the pages are distinct. `Err` if memory runs out.
+/// Collects the transmissions of each item in one period of the cycle. The ids of the pages are distinct. `Err` if memory runs out.
 pub fn collect(
     alloc: Global,
     cycle: &Cycle,

@@ -35,7 +35,7 @@ fn transmission_under(owner: Owner, j: i32, lines: u8) -> Transmission
     }
 }
 
-// What slot `j` sends of item `number`, if its owner is a header of a page.
+// What slot `j` sends of item `number`, if its owner is a header of a listed page.
 fn sent_under(owner: Option<Owner>, number: u8, j: i32, lines: u8) -> Option<Sent>
     requires { number < 26 }
     ensures number { IfSome result (λ s. s.number < 26) }
@@ -50,7 +50,7 @@ fn sent_under(owner: Option<Owner>, number: u8, j: i32, lines: u8) -> Option<Sen
     })
 }
 
-// What a header in slot `j` sends, if it is a header of a page.
+// What a header in slot `j` sends, if it is the header of a listed page.
 fn sent_head(page: Option<u32>, j: i32) -> Option<Sent>
     ensures number { IfSome result (λ s. s.number < 26) }
     ensures sent { (i : ℕ) (item : Item) →
@@ -68,7 +68,7 @@ fn sent_head(page: Option<u32>, j: i32) -> Option<Sent>
     })
 }
 
-/// What slot `j` sends of the items of the pages, under the owners before it. `lines` is the number of slots in a field.
+/// What slot `j` sends of the items of the pages, with the owners before it. `lines` is the number of slots in a field.
 pub fn sent_in_slot(
     owners: &[Option<Owner>; 8],
     index: &PageIndex,
@@ -95,7 +95,7 @@ pub fn sent_in_slot(
     }
 }
 
-/// The place of the item that is sent, if it is below `places`.
+/// The place of the item that is sent, or `None` if it is not below `places`.
 pub fn place_in(sent: Sent, places: usize) -> Option<usize>
     ensures { MatchOption result ((place : ℕ) → place < places → sends_place place (Some sent) ≡ false)
         (λ place. (place < places) × (sends_place place (Some sent) ≡ true)) }

@@ -19,11 +19,11 @@ pub struct Owner {
     pub slot: i32,
     /// The index of its page in the list of pages, if it is listed.
     pub page: Option<u32>,
-    /// Whether a header of another magazine has ended the page since then.
+    /// Whether a header of another magazine has ended its page since then.
     pub tainted: bool,
 }
 
-// The owner after its header has come.
+// The owner that a header becomes.
 fn owner_at(slot: i32, page: Option<u32>) -> Owner
     ensures { result ≡ record { slot = slot; page = page; tainted = false } }
 {
@@ -48,7 +48,7 @@ fn taint(owner: Option<Owner>, ends: bool) -> Option<Owner>
     }
 }
 
-/// Notes a header: it becomes the owner of its magazine, and may end the pages of the other magazines.
+/// Notes a header: it becomes the owner of its magazine, and ends the pages of the other magazines if `ends` is true.
 pub fn note_header(owners: &mut [Option<Owner>; 8], mag: usize, header: Owner, ends: bool)
     requires { mag < 8 }
     ensures { (m : ℕ) → m < 8 → get_or owners.new m None ≡ (if m == mag then Some header else taint ends (get_or owners.old m None)) }

@@ -78,7 +78,7 @@ pub fn heads_other_subpage(page: PageId, slot: &[u8; 42]) -> bool
     }
 }
 
-/// Whether the latest header of the page's magazine is the page's after this slot; `mine` says whether it was before.
+/// Whether, after this slot, the latest header of the page's magazine is one of the page. `mine` says whether it was before.
 pub fn mine_after(page: PageId, slot: &[u8; 42], mine: bool) -> bool
     requires { IsSlot slot.now }
     ensures { result ≡ mine_after page (packet_of slot.now) mine }
@@ -115,8 +115,8 @@ fn carries_links(mag: u8, slot: &[u8; 42]) -> bool
     }
 }
 
-/// Whether the slot is a transmission of the item. `mine` says whether the latest header of the page's magazine before it is the
-/// page's.
+/// Whether the slot is a transmission of the item. `mine` says whether the latest header of the page's magazine before the slot is
+/// one of the page.
 pub fn sends(page: PageId, item: Item, slot: &[u8; 42], mine: bool) -> bool
     requires { IsSlot slot.now }
     ensures { result ≡ sends page item (packet_of slot.now) mine }

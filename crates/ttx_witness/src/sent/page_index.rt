@@ -44,7 +44,7 @@ fn insert(by_key: &mut HashMap<u32, u32>, key: u32, place: u32) -> Result<(), No
     Ok(())
 }
 
-/// The index of all these pages, whose ids are distinct. `Err` if memory runs out.
+/// Builds the index of these pages, whose ids are distinct. `Err` if memory runs out.
 pub fn index_of(alloc: Global, pages: &[Page]) -> Result<PageIndex, NoMemory>
     requires distinct { AllPairs (λ a b. a ≢ b) (ids_of pages.now) }
     ensures { IfOk result (λ index. IsIndex (ids_of pages.now) index) }

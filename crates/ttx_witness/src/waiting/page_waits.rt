@@ -43,7 +43,7 @@ fn near_ones(sent: &[Transmission], lines: u8) -> usize
     count
 }
 
-// How many transmissions are not near but cut off.
+// How many transmissions are not near, and cut off.
 fn cut_ones(sent: &[Transmission], lines: u8) -> usize
     ensures { result ≡ length (filter (is_cut lines) sent.now) }
 {
@@ -68,7 +68,7 @@ pub(crate) fn losses_of(sent: &[Transmission], lines: u8) -> Losses
     }
 }
 
-/// The least number of fields, at least 1, that holds so many slots.
+/// The least number of fields, at least 1, in which `slots` slots are sent.
 pub(crate) fn fields_for(slots: u64, lines: u8) -> u32
     requires some { 1 ≤ lines }
     requires small { slots ≤ 655360 }
@@ -77,7 +77,7 @@ pub(crate) fn fields_for(slots: u64, lines: u8) -> u32
     slots.div_ceil(u64::from(lines)).max(1) as u32
 }
 
-// The first item of the page that needs the most fields, or that has no sure run.
+// The first item of the page that needs the most fields; or the first that has no sure run.
 fn longest_item(alloc: Global, surveyed: &SurveyedPage) -> Result<Wait, NoMemory>
     ensures { IfOk result (λ wait. IsByLimitsIn surveyed.now wait) }
 {
@@ -146,7 +146,7 @@ fn waits_in(
 }
 
 /// How long a viewer waits for each page of the list: the least deadline in fields with which the page alone is accepted, and the
-/// first item that needs it; or why there is no deadline. `repeat` is 1 to 8, `lines` (slots in a field) 1 to 32. `Err` if memory
+/// first item that needs it; if there is none, the reason. `repeat` is 1 to 8, `lines` (slots in a field) 1 to 32. `Err` if memory
 /// runs out.
 pub fn waits(
     alloc: Global,

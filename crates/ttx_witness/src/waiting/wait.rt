@@ -9,7 +9,7 @@ use ttx_page::Item;
 pub struct Losses {
     /// How many there are.
     pub sent: usize,
-    /// How many are near: at most as many slots after their header as a field has lines.
+    /// How many are near: in one of the `lines` slots after their header.
     pub near: usize,
     /// How many of the others are cut off by a header of another magazine.
     pub cut: usize,

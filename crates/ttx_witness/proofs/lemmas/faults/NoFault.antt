@@ -1,4 +1,4 @@
--- A page with a fault is not steady.
+-- If a page has a fault, it is not steady.
 use Rattle.std.proofs.Common.{ℕ, pos, List, Some, None, refl}
 use Rattle.std.proofs.lemmas.Bool.{both_ways}
 use Rattle.ttx_page.specs.Pages.{Page}

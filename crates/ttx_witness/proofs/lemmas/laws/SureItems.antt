@@ -37,7 +37,7 @@ few_length repeat TheHead h = h
 few_length repeat (TheRow r) h = h
 few_length repeat TheLinks h = omega arith
 
----- if all is sure, the first window of a period is a sure run
+-- if all is sure, the first window of a period is a sure run
 
 all_sure_append : (ts us : List Transmission) → all_sure ts ≡ true → all_sure us ≡ true → all_sure (ts ++ us) ≡ true
 all_sure_append [] us a b = b
@@ -84,7 +84,7 @@ told_sure Owned Sure all low high [] l = refl
 told_sure Owned Sure all low high (t ∷ ts) l = and_from _ _ (l.0.sure.1 (all t.owner t.slot l.0.owned))
     (told_sure Owned Sure all (t.slot +ℤ pos 1) high ts l.4)
 
--- ---- periods
+-- periods
 
 module _ (turns : EachSlotTurns) (move : StreamsMove) (cycle : List (List ℕ)) (some : 1 ≤ length cycle) where
   same_on : (i : ℤ) (t : Turn (length cycle) i) → IsSameOn (repeated cycle) t.by
@@ -131,7 +131,7 @@ module _ (turns : EachSlotTurns) (move : StreamsMove) (cycle : List (List ℕ)) 
 pub all_sure_have_starts : EachSlotTurns → StreamsMove → AllSureHaveStarts
 all_sure_have_starts turns move cycle some = has_start turns move cycle some
 
--- ---- one start covers an item
+-- one start covers an item
 
 only_one : (a x : ℕ) → Contains (a ∷ []) x → a ≡ x
 only_one a x h = at h.0 h.1 h.2

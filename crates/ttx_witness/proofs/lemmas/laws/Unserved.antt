@@ -31,7 +31,7 @@ pub record StartLaws : Type 0 where
   pub period : CyclesRepeat
   pub move : StreamsMove
 
--- ---- the next named start
+-- the next named start
 
 module _ (n : ℕ) (starts : List ℕ) (rising : Rising starts) (within : (i : ℕ) → i < length starts → slice_index_or starts i 0 < n) where
   abbrev at : ℕ → ℕ
@@ -84,7 +84,7 @@ module _ (n : ℕ) (starts : List ℕ) (rising : Rising starts) (within : (i : �
           let whole : n * 1 ≤ n * (m / n) = mul-le-mul_left n one in
           omega arith
 
--- ---- named starts
+-- named starts
 
 -- what is below an end is below a later one
 all_below : (end later : ℤ) → end ≤ℤ later → (xs : List ℤ) → AllByRecursion (λ x. x <ℤ end) xs → AllByRecursion (λ x. x <ℤ later) xs
@@ -187,7 +187,7 @@ late_is_unserved laws cycle some p w item repeats rising need named sure = (
   (λ t. late laws cycle some p w item repeats rising need named sure t.0 t.1),
 )
 
--- ---- headers
+-- headers
 
 pub late_blank_is_unserved : HeadersAreJudged → LateBlankIsUnserved
 late_blank_is_unserved judged cycle some p w item header need clearing blank none = (

@@ -1,4 +1,4 @@
--- A list of slots that grows by one: what was seen of its first slots stays the same.
+-- A list of slots that grows by one: what is known of its first slots stays the same.
 use Rattle.std.proofs.Common.{◌≡◌, ◌↔◌, ℕ, zero, suc, ◌+◌, ◌<◌, ◌≤◌, ℤ, pos, Bool, true, false, List, [], ◌∷◌, ◌++◌, length, get_or, slice_index_or}
 use Rattle.std.proofs.Common.{Option, Some, None, refl, sym, ap, ◌∙◌, subst, inl, inr, arith, mod-eq_of_lt, length-append}
 use Rattle.std.proofs.lemmas.Bool.{cases_lt}

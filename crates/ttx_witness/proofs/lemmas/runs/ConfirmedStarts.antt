@@ -1,4 +1,5 @@
--- The cursor confirms every named start, or stops at the least that has no good run; what is late is the least start whose next one comes too late.
+-- The cursor confirms every named start, or stops at the least one without a sure run. The late start is the least one whose next
+-- start comes too late.
 use Rattle.std.proofs.Common.{◌≡◌, ◌↔◌, ℕ, suc, ◌+◌, ◌-◌, ◌<◌, ◌≤◌, ℤ, pos, ◌+ℤ◌, ◌<ℤ◌, ◌≤ℤ◌, true, false, ◌&&◌, if◌then◌else◌, ◌==◌, int_lt, nat_lt}
 use Rattle.std.proofs.Common.{is_none, List, [], ◌∷◌, ◌++◌, length, slice_index_or, Option, Some, None, refl, sym, ap, ◌∙◌, subst, inl, inr, arith}
 use Rattle.std.proofs.Common.{eqb-true}
