@@ -1,4 +1,4 @@
--- Warnings are the same where counts are.
+-- Equal counts give equal warnings.
 use Rattle.std.proofs.Common.{◌≡◌, ℕ, ◌+◌, List, [], ◌∷◌, ◌++◌, refl, ap}
 use Rattle.ttx_page.specs.Pages.{Page}
 use Rattle.ttx_source.specs.Services.{ServiceFields, pages_of}

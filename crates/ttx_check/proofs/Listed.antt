@@ -1,4 +1,4 @@
--- The pages of a service one by one, with how often they are sent.
+-- The pages of a service one by one, with how often each is sent.
 use Rattle.std.proofs.Common.{◌≡◌, ℕ, zero, suc, ◌+◌, ◌<◌, List, [], ◌∷◌, ◌++◌, map, length, take, Some, None, sym, ap, ◌∙◌, arith, get_or}
 use Rattle.std.specs.Prelude.{slice_get, option_map}
 use Rattle.std.proofs.lemmas.List.{map-append}
@@ -13,7 +13,7 @@ get_there [] i x d lt e = absurd (omega arith)
 get_there (y ∷ xs) zero x d lt e = ap Some (sym e)
 get_there (y ∷ xs) (suc i) x d lt e = get_there xs i x d (omega arith) e
 
--- the page at an index, of values that a function shows as pages
+-- the page at an index of a list, as a function shows it
 at_index : {A : Type 0} (view : A → Page) (values : List A) (pages : List Authored) (i often : ℕ) (value : A) → map view values
     ≡ map (λ p. p.page) pages → slice_get values i ≡ Some value →
     option_map (λ p. p.often) (slice_get pages i) ≡ Some often → slice_get pages i ≡ Some (authored_at (view value) often)
@@ -43,7 +43,7 @@ take_next [] n x h = let e : None ≡ Some x = h in cc
 take_next (y ∷ ys) zero x h = let e : Some y ≡ Some x = h in let g : y ≡ x = cc in ap (λ z. z ∷ []) g
 take_next (y ∷ ys) (suc n) x h = ap (λ z. y ∷ z) (take_next ys n x h)
 
--- one page more
+-- one more page
 pub entries_next : (pages : List Authored) (i : ℕ) (page : Authored) → slice_get pages i ≡ Some page →
     map queue_entry (take (i + 1) pages) ≡ map queue_entry (take i pages) ++ queue_entry page ∷ []
 entries_next pages i page e =

@@ -1,10 +1,10 @@
 -- What `check` writes for the text of a service.
 --
 --   check_fault             the fault of the same name
---   Told                    the report on a text that isn't too long
+--   Told                    the report on a text that is not too long
 --   Checks                  what was written at each answer
---   CountsCheck             faults of devices are answered only where they were counted
---   IsUntouchedByCheck      at each fault but that of a write, what could be written to is as it was
+--   CountsCheck             a device fault is returned only if one was counted
+--   IsUntouchedByCheck      after any fault except a failed write the writer is unchanged
 use Rattle.std.specs.Prelude.{ℕ, ◌≡◌, ◌<◌, ◌≤◌, List, length, take, ⊤, Option, Result, Ok, Err}
 use Rattle.std.specs.Io.KnownBytes.{Appends, Keeps}
 use Rattle.ttx_cycle.specs.Bounded.{most_bytes}
@@ -15,7 +15,7 @@ use Rattle.ttx_check.specs.Reports.{IsServiceReport}
 use Rattle.ttx_check.specs.declared.faults.CheckFault.{CheckFault}
 use Rattle.ttx_check.specs.declared.faults.CheckFault.TheVariants.{Read, TooLong, Write, NoMemory}
 
--- a fault of reading a text
+-- the fault for a failed read of a text
 abbrev pub check_fault : TextFault → CheckFault
 check_fault text.Read = Read
 check_fault text.TooLong = TooLong
@@ -25,7 +25,7 @@ pub record Told (bytes text : List ℕ) (status : ℕ) : Type 0 where
   pub most : length bytes ≤ most_bytes
   pub report : IsServiceReport bytes text status
 
--- Ok: the report went out. A write fault: its first `written` bytes. Else nothing.
+-- Ok: the report went out. After a failed write: its first `written` bytes. Otherwise nothing.
 abbrev pub Checks : List ℕ → Option (List ℕ) → Option (List ℕ) → Result ℕ CheckFault → Type 0
 Checks bytes old new (Ok status) = (text : List ℕ) × Told bytes text status × Appends old new text
 Checks bytes old new (Err (Write written)) =
@@ -34,7 +34,7 @@ Checks bytes old new (Err TooLong) = (most_bytes < length bytes) × Keeps old ne
 Checks bytes old new (Err Read) = Keeps old new
 Checks bytes old new (Err NoMemory) = Keeps old new
 
--- the faults counted by the reader and by the writer, before and after
+-- the faults counted by the reader and the writer, before and after
 abbrev pub CountsCheck : {T : Type 0} → Result T CheckFault → ℕ → ℕ → ℕ → ℕ → Type 0
 CountsCheck (Err Read) read_old read_new write_old write_new = HasRisen read_old read_new
 CountsCheck (Err (Write written)) read_old read_new write_old write_new = HasRisen write_old write_new
@@ -42,7 +42,7 @@ CountsCheck (Err TooLong) read_old read_new write_old write_new = ⊤
 CountsCheck (Err NoMemory) read_old read_new write_old write_new = ⊤
 CountsCheck (Ok answer) read_old read_new write_old write_new = ⊤
 
--- also where the writer doesn't tell what was written
+-- holds also for writers of which it is not known what was written
 abbrev pub IsUntouchedByCheck : {T W : Type 0} → Result T CheckFault → W → W → Type 0
 IsUntouchedByCheck (Ok answer) old new = ⊤
 IsUntouchedByCheck (Err (Write written)) old new = ⊤

@@ -1,4 +1,4 @@
--- What the warnings on the traffic of a service need of its pages.
+-- What the warnings about the traffic of a service need to know of its pages.
 --
 --   shown_rows, packets_of_page    the rows that a viewer sees; the packets of one copy of a page
 --   queue_entry, queue_entries    a page with how often it is sent and its packets in a cycle; those of a service
@@ -14,7 +14,7 @@ abbrev pub shown_rows : Page → ℕ → ℕ
 shown_rows p zero = 0
 shown_rows p (suc n) = shown_rows p n + (if needed p (TheRow (suc n)) then 1 else 0)
 
--- the page header, the rows, and X/27/0
+-- the page header, the rows that a viewer sees, and X/27/0
 abbrev pub packets_of_page : Page → ℕ
 packets_of_page p = shown_rows p 24 + 2
 

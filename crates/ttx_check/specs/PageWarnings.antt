@@ -1,11 +1,11 @@
--- The warnings on a page, in their order.
+-- The warnings about a page, in their order.
 --
 --   leads_to, is_dead, link_warnings        links to no page of the service
 --   has_stray, is_stray_tab, is_stray_break codes that do nothing where they stand
---   row_warnings, row_warnings_to    the warnings on rows 1 to 24
---   has_box, lacks_box      two start box codes; a page that shows boxed text alone, and has none
---   order_warnings          on a page that comes directly behind another
---   page_warnings, pages_from       those on a page, and on all pages
+--   row_warnings, row_warnings_to    the warnings about rows 1 to 24
+--   has_box, lacks_box      two start box codes; a page that shows only boxed text, and has no box
+--   order_warnings          those about a page that comes directly behind another
+--   page_warnings, pages_from       those about a page, and about all pages
 use Rattle.std.specs.Prelude.{ℕ, zero, suc, ◌+◌, Bool, false, not, ◌&&◌, ◌||◌, ◌==◌, if◌then◌else◌, List, [], ◌∷◌, ◌++◌, Option, Some, None}
 use Rattle.std.specs.List.{list_any}
 use Rattle.ttx_header.specs.Control.{c5, c6}
@@ -26,12 +26,12 @@ abbrev pub is_dead : List Entry → Option Id → Bool
 is_dead entries None = false
 is_dead entries (Some target) = not (list_any (leads_to target) entries)
 
--- the dead ones of the links of a page, the first of which has this number
+-- those links of a page that lead to no page; the first link of the list has this number
 abbrev pub link_warnings : List Entry → Id → ℕ → List (Option Id) → List Warning
 link_warnings entries id n [] = []
 link_warnings entries id n (link ∷ links) = (if is_dead entries link then DeadLink id n ∷ [] else []) ++ link_warnings entries id (n + 1) links
 
--- the code stands in the row, with none that gives it something to end before it
+-- the code stands in the row, and no opener before it
 abbrev pub has_stray : ℕ → ℕ → List ℕ → Bool
 has_stray code opener [] = false
 has_stray code opener (c ∷ row) = (c == code) || (not (c == opener) && has_stray code opener row)
@@ -44,11 +44,11 @@ is_stray_tab row = has_stray 9 8 row
 abbrev pub is_stray_break : List ℕ → Bool
 is_stray_break row = has_stray 10 11 row
 
--- a row that isn't blank, below one in double height
+-- a row that is not blank, below a row in double height
 abbrev pub is_lost : Page → ℕ → Bool
 is_lost p number = is_hidden (page_row p) number && not (is_blank p (TheRow number))
 
--- row 24, not blank, on a page whose links don't ask for it
+-- row 24, not blank, on a page whose links do not ask for it
 abbrev pub is_unshown : Page → ℕ → Bool
 is_unshown p number = (number == 24) && not p.links.show24 && not (is_blank p (TheRow number))
 
@@ -60,7 +60,7 @@ row_warnings p number =
     only_if (is_lost p number) (HiddenRow p.id number) ++ only_if (is_unshown p number) (UnshownRow p.id)
     ++ only_if (is_stray_tab (page_row p number)) (StrayTab p.id number) ++ only_if (is_stray_break (page_row p number)) (StrayBreak p.id number)
 
--- those on rows 1 to n
+-- those about rows 1 to n
 unfoldable pub row_warnings_to : Page → ℕ → List Warning
 row_warnings_to p zero = []
 row_warnings_to p (suc n) = row_warnings_to p n ++ row_warnings p (suc n)
@@ -73,15 +73,15 @@ has_box_after started (c ∷ row) = (started && (c == 11)) || has_box_after (c =
 abbrev pub has_box : List ℕ → Bool
 has_box row = has_box_after false row
 
--- a newsflash or subtitle page, of which nothing is shown
+-- a newsflash or subtitle page without a box, of which nothing is shown
 abbrev pub lacks_box : Page → Bool
 lacks_box p = (c5 p.control || c6 p.control) && not (has_box p.head || list_any has_box p.rows)
 
 abbrev pub order_warnings : ℕ → ℕ → Id → List Warning
 order_warnings subpages copies id = only_if (not (subpages == 0)) (BehindSubpage id) ++ only_if (not (copies == 0)) (BehindItself id copies)
 
--- Those on the page at this place of the service. Two functions say how often a page is sent directly behind another subpage, and
--- directly behind itself.
+-- Those about the page at this place of the service. Two functions give how often a page is sent directly behind another subpage,
+-- and directly behind itself.
 abbrev pub page_warnings : List Entry → (ℕ → ℕ) → (ℕ → ℕ) → ℕ → Page → List Warning
 page_warnings entries subpages copies place p =
     link_warnings entries p.id 1 p.links.six ++ row_warnings_to p 24 ++ only_if (lacks_box p) (NoBox p.id)

@@ -1,4 +1,4 @@
--- The parts of the program as those of the definitions.
+-- The parts of the program's type as parts of the definitions.
 use Rattle.ttx_check.specs.Parts as rule
 use Rattle.ttx_check.specs.declared.parts.Part.{Part}
 use Rattle.ttx_check.specs.declared.parts.Part.TheVariants.{Whole, Key, Row, Link}

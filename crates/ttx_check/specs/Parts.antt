@@ -1,11 +1,11 @@
--- Which part of a page a fault speaks of: the first value that is refused, in the order in which they are read (profile).
+-- Which part of a page a fault concerns: the first refused value, in the order in which they are read (profile).
 --
---   Part, part_path, part_name    all of a page, the value at a key, a row by its key, or a link, counted from 1; the path to it, and its name
---   table_in, items_in, text_in   the table, the array or the text that a value is, if there is one
+--   Part, part_path, part_name    the whole page, the value at a key, a row by its key, or a link, counted from 1; its path, and its name
+--   table_in, items_in, text_in   the table, the array or the text in a value; None if the value is not one
 --   number_of, sub_of             what is read at the keys of a page's id
---   refused_row, wrong_key        the first row that is refused; the first key of rows that is the number of none
---   refused_link                  the first link that is refused
---   part_of                       the part of a page that a fault speaks of
+--   refused_row, wrong_key        the first refused row; the first key of rows that is not a row number
+--   refused_link                  the first refused link
+--   part_of                       the part of a page that a fault concerns
 use Rattle.std.specs.Prelude.{ℕ, ◌+◌, Bool, List, [], ◌++◌, codes, find, Option, Some, None, Result, is_err, if◌then◌else◌}
 use Rattle.std.specs.Fmt.{decimal}
 use Rattle.std.specs.Str.{bytes_eq}
@@ -20,14 +20,14 @@ pub data Part : Type 0 where
   at_row : (key : List ℕ) → Part
   at_link : (number : ℕ) → Part
 
--- below the path of the page
+-- the path below that of the page
 abbrev pub part_path : Part → List ℕ
 part_path whole = []
 part_path (at_key key) = codes "/" ++ key
 part_path (at_row key) = codes "/rows/" ++ key
 part_path (at_link number) = codes "/links/" ++ decimal number
 
--- after the name of the page
+-- the name after that of the page
 abbrev pub part_name : Part → List ℕ
 part_name whole = []
 part_name (at_key key) = codes " " ++ key
@@ -67,12 +67,12 @@ abbrev pub wrong_key : Members → Option (List ℕ)
 wrong_key no_members = None
 wrong_key (member key value rows) = if is_row_key key then wrong_key rows else Some key
 
--- where the first of the links has this number
+-- the first link of the list has this number
 abbrev pub refused_link : ℕ → Items → Option ℕ
 refused_link number no_items = None
 refused_link number (item value values) = if is_err (link_of value) then Some number else refused_link (number + 1) values
 
--- a row, or `rows` where none is meant
+-- a row, or `rows` if there is none
 abbrev pub row_or_rows : Option (List ℕ) → Part
 row_or_rows None = at_key (codes "rows")
 row_or_rows (Some key) = at_row key
@@ -88,7 +88,7 @@ wrong_in (Some rows) = wrong_key rows
 abbrev pub rows_part : Members → Part
 rows_part page = row_or_rows (refused_in (table_in (get_member (codes "rows") page)))
 
--- a link, or `links` where none is meant
+-- a link, or `links` if there is none
 abbrev pub link_or_links : Option ℕ → Part
 link_or_links None = at_key (codes "links")
 link_or_links (Some number) = at_link number
@@ -96,7 +96,7 @@ link_or_links (Some number) = at_link number
 abbrev pub links_part : Members → Part
 links_part page = link_or_links (refused_link 1 (items_in (get_member (codes "links") page)))
 
--- of the texts of a page, and of its page numbers and subcodes with those of its links
+-- the refused text of a page; the next two: the refused page number or subcode, of the page or of a link
 abbrev pub text_part : Members → Part
 text_part page = if is_err (head page) then at_key (codes "head") else rows_part page
 
@@ -106,12 +106,12 @@ number_part page = if is_err (number_of page) then at_key (codes "number") else 
 abbrev pub sub_part : Members → Part
 sub_part page = if is_err (sub_of page) then at_key (codes "sub") else links_part page
 
--- of a key whose value, or a value inside it, is of another kind
+-- the value of a wrong kind at this key, or in it
 abbrev pub kind_part : List ℕ → Members → Part
 kind_part key page =
     if bytes_eq key (codes "rows") then rows_part page else if bytes_eq key (codes "links") then links_part page else at_key key
 
--- of a key whose value is out of range; in `rows` a key is
+-- the value out of range at this key; in `rows` the key out of range
 abbrev pub range_part : List ℕ → Members → Part
 range_part key page =
     if bytes_eq key (codes "rows") then row_or_rows (wrong_in (table_in (get_member (codes "rows") page))) else at_key key

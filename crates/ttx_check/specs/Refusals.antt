@@ -1,11 +1,11 @@
--- What is said of a service text that is refused.
+-- The line about a service text that is refused.
 --
 --   fault_words, error_line the words of a fault; the whole line
---   position_text, place_text     the line and the column of a place, and the name of what is meant
---   is_toml                 whether a fault is one of a text that is TOML
---   IsTableLine, IsTomlLine the line of a text that is TOML: the place is that of the first value, element or header of the path that the
---                           fault speaks of; of another one: the place is one within the text, and the words are those of the reader of TOML
---   IsErrorLine             the line of a fault in a page, counted from 1, or outside pages, 0
+--   position_text, place_text     the line and the column of a place, and the name of the value there
+--   is_toml                 whether a fault occurs only in texts that are TOML
+--   IsTableLine, IsTomlLine the line about a text that is TOML: its place is that of the first value, element or header of the path that
+--                           the fault concerns; about any other text: its place is within the text, its words are those of the TOML reader
+--   IsErrorLine             the line about a fault in a page, counted from 1, or outside pages, 0
 use Rattle.std.specs.Prelude.{◌≡◌, ℕ, ◌≤◌, Bool, true, false, List, [], ◌∷◌, ◌++◌, codes, length, take, Option, Some, None}
 use Rattle.std.specs.Fmt.{decimal}
 use Rattle.ttx_source.specs.Values.{Fault, not_toml, missing, wrong_kind, wrong_page_number, wrong_subcode, duplicate, too_long, wrong_character}
@@ -39,7 +39,7 @@ after_space (c ∷ name) = 32 ∷ c ∷ name
 abbrev pub position_text : ℕ → ℕ → List ℕ
 position_text line column = codes "line " ++ decimal line ++ codes " column " ++ decimal column
 
--- of a place in a text, if there is one, and what stands there
+-- a place in a text, if it is known, and the name of the value there
 abbrev pub place_text : List ℕ → Option ℕ → List ℕ → List ℕ
 place_text bytes None name = name
 place_text bytes (Some place) name =

@@ -1,6 +1,6 @@
 -- The report on a service text.
 --
---   lines_or_count, report    what is said of a text that is read: its lines, or that there is nothing to say
+--   lines_or_count, report    the report on an accepted text: its lines, or the number of pages if there are none
 --   IsRead, IsPromiseReport, IsServiceReport    the report on a text, and its status
 use Rattle.std.specs.Prelude.{◌≡◌, ℕ, List, [], ◌∷◌, ◌++◌, codes, length, Some, Result, Ok, Err}
 use Rattle.std.specs.Fmt.{decimal}
@@ -14,7 +14,7 @@ use Rattle.ttx_check.specs.UnknownKeys.{key_lines}
 use Rattle.ttx_check.specs.WarningLines.{warning_lines}
 use Rattle.ttx_check.specs.Warnings.{warnings}
 
--- lines, or where there are none how many pages there are
+-- the lines; if there are none, a line with the number of pages
 abbrev pub lines_or_count : ℕ → List ℕ → List ℕ
 lines_or_count count [] = codes "ok pages " ++ decimal count ++ 10 ∷ []
 lines_or_count count (c ∷ lines) = c ∷ lines
@@ -22,18 +22,18 @@ lines_or_count count (c ∷ lines) = c ∷ lines
 abbrev pub report : Members → ServiceFields → List ℕ
 report table service = lines_or_count (length service.pages) (key_lines table (pages_of service) ++ warning_lines (warnings service))
 
--- the report on a text that is read, and on its table
+-- the report on an accepted text, from its service and its table
 pub record IsRead (bytes : List ℕ) (service : ServiceFields) (text : List ℕ) : Type 0 where
   pub table : Members
   pub parsed : parse_document bytes ≡ Some table
   pub says : text ≡ report table service
 
--- the text of a service, whose promises are read or refused
+-- the text of an accepted service, whose promises are accepted or refused
 abbrev pub IsPromiseReport : List ℕ → ServiceFields → Result (List PromiseFields) (Fault × ℕ) → List ℕ → ℕ → Type 0
 IsPromiseReport bytes service (Ok promises) text status = IsRead bytes service text × (status ≡ 0)
 IsPromiseReport bytes service (Err fault) text status = IsErrorLine bytes fault.0 fault.1 text × (status ≡ 2)
 
--- the status is 0 where the text is read, and 2 where it is refused
+-- the status is 0 if the text is accepted, and 2 if it is refused
 abbrev pub IsReportOf : List ℕ → Result ServiceFields (Fault × ℕ) → List ℕ → ℕ → Type 0
 IsReportOf bytes (Ok service) text status = IsPromiseReport bytes service (read_promises bytes) text status
 IsReportOf bytes (Err fault) text status = IsErrorLine bytes fault.0 fault.1 text × (status ≡ 2)

@@ -1,10 +1,10 @@
--- Which value of a service text a fault speaks of: the path to it, its name for people, and what is said of it in detail (profile).
+-- Which value of a service text a fault concerns: its path in the text, its name for people, and the detail in the line (profile).
 --
---   page_table              the table of a page, counted from 1; none where the fault isn't in a page
---   service_key, service_path, service_name    the key outside pages that a fault speaks of
---   spot_path, spot_name    the path and the name of the value that a fault speaks of; of a key that is missing those of its table
+--   page_table              the table of a page, counted from 1; None if the fault is not in a page
+--   service_key, service_path, service_name    the key outside pages that a fault concerns
+--   spot_path, spot_name    the path and the name of the value that a fault concerns; if its key is missing, those of its table
 --   count_words, count_text, long_text    how many characters a text has that is too long, and how many fit
---   IsDetail                what is said in detail. What a key takes is only tested
+--   IsDetail                the detail about the value. What a key takes is only tested.
 use Rattle.std.specs.Prelude.{◌≡◌, ◌⊎◌, ℕ, ◌-◌, Bool, true, false, ◌||◌, ◌==◌, List, [], ◌++◌, codes, length, Option, Some, None, is_err, if◌then◌else◌}
 use Rattle.std.specs.Fmt.{decimal}
 use Rattle.std.specs.Str.{chars}
@@ -19,7 +19,7 @@ use Rattle.ttx_check.specs.UnknownKeys.{is_one_of, service_keys}
 abbrev pub page_table : Members → ℕ → Option Members
 page_table table page = if page == 0 then None else table_in (get_item (page - 1) (items_in (get_member (codes "page") table)))
 
--- the key outside pages: a link there is that of `initial`, and a text that of `text`
+-- the key outside pages: a refused link there is that of `initial`, a refused text that of `text`
 abbrev pub service_key : Fault → List ℕ
 service_key (missing key) = key
 service_key (wrong_kind key) = key
@@ -33,7 +33,7 @@ service_key duplicate = codes "page"
 service_key not_toml = []
 service_key no_memory = []
 
--- the path of the table that takes a key outside pages
+-- the path of the table that a key outside pages belongs to
 abbrev pub key_table : List ℕ → List ℕ
 key_table key = if is_one_of service_keys key then [] else codes "/info"
 
@@ -51,7 +51,7 @@ abbrev pub text_or : List ℕ → Option (List ℕ) → List ℕ
 text_or other None = other
 text_or other (Some text) = text
 
--- the id of a page, where it has one, else its number in order
+-- the id of a page; if it has none, its number in the text
 abbrev pub page_id : Members → ℕ → List ℕ
 page_id members page =
     if is_err (number_of members) || is_err (sub_of members) then decimal page

@@ -1,10 +1,10 @@
--- The keys of a service text that mean nothing (profile).
+-- Unknown keys of a service text (profile).
 --
---   service_keys, info_keys, page_keys      the keys that mean something, in the order of docs/SERVICE.md
---   edits, far_name, meant    how far a key is from a name, and the name that it is near
---   visible_code, key_line    a key as it is shown; its line
---   unknown_lines           those of a table
---   key_lines               those of a text, whose pages are given
+--   service_keys, info_keys, page_keys      the known keys, in the order of docs/SERVICE.md
+--   edits, far_name, meant    how far a key is from a name; the name that was probably meant
+--   visible_code, key_line    a key as it is printed; its line
+--   unknown_lines           the lines about a table
+--   key_lines               the lines about a text with these pages
 use Rattle.std.specs.Prelude.{ℕ, Bool, ◌&&◌, nat_le, nat_lt, nat_eq, if◌then◌else◌, List, [], ◌∷◌, ◌++◌, codes, length, map, find, Option, Some, None}
 use Rattle.std.specs.List.{list_any}
 use Rattle.std.specs.Str.{bytes_eq, chars}
@@ -28,7 +28,7 @@ page_keys =
 abbrev pub is_one_of : List (List ℕ) → List ℕ → Bool
 is_one_of names key = list_any (λ name. bytes_eq name key) names
 
--- characters put in, left out or changed
+-- characters inserted, left out or changed
 abbrev pub edits : List ℕ → List ℕ → ℕ
 edits a b = levenshtein_row nat_eq (chars a) (chars b) (length (chars b))
 
@@ -39,15 +39,15 @@ abbrev pub or_else : {A : Type 0} → Option A → Option A → Option A
 or_else None b = b
 or_else (Some a) b = Some a
 
--- for a key of five bytes or more the first name that is two edits away
+-- for a key of five bytes or more the first name that is at most two edits away
 abbrev pub far_name : List (List ℕ) → List ℕ → Option (List ℕ)
 far_name names key = if nat_lt (length key) 5 then None else find (is_near_name 2 key) names
 
--- the first name that is one edit away, else that; none for a key of more than 16 bytes
+-- the first name that is at most one edit away, otherwise that of far_name; None for a key of more than 16 bytes
 unfoldable pub meant : List (List ℕ) → List ℕ → Option (List ℕ)
 meant names key = if nat_lt 16 (length key) then None else or_else (find (is_near_name 1 key) names) (far_name names key)
 
--- a byte of a key: a question mark where it isn't a visible character of ASCII
+-- a byte of a key, as it is printed: a question mark unless it is a visible ASCII character
 abbrev pub visible_code : ℕ → ℕ
 visible_code code = if nat_le 33 code && nat_le code 126 then code else 63
 
@@ -55,14 +55,14 @@ abbrev pub meant_text : Option (List ℕ) → List ℕ
 meant_text None = []
 meant_text (Some name) = codes ": is it " ++ name ++ codes "?"
 
--- the line of a key that isn't among these names
+-- the line about a key that is not one of these names
 unfoldable pub key_line : List ℕ → List (List ℕ) → List ℕ → List ℕ
 key_line place names key = codes "warning " ++ place ++ codes ": no key " ++ map visible_code key ++ meant_text (meant names key) ++ 10 ∷ []
 
 unfoldable pub key_text : List ℕ → List (List ℕ) → List ℕ → List ℕ
 key_text place names key = if is_one_of names key then [] else key_line place names key
 
--- the lines of a table at a place, which takes keys of these names; keys rise by their bytes
+-- the lines about the table at a place, whose known keys are these names; the keys are in the order of their bytes
 abbrev pub unknown_lines : List ℕ → List (List ℕ) → Members → List ℕ
 unknown_lines place names no_members = []
 unknown_lines place names (member key value table) = key_text place names key ++ unknown_lines place names table
@@ -75,7 +75,7 @@ abbrev pub value_lines : List ℕ → List (List ℕ) → Option Data → List �
 value_lines place names None = []
 value_lines place names (Some value) = table_lines place names (as_table value)
 
--- the lines of the tables of pages
+-- the lines about the tables of pages
 abbrev pub items_lines : Items → List Page → List ℕ
 items_lines no_items pages = []
 items_lines (item value values) [] = []

@@ -1,9 +1,9 @@
 -- The lines of warnings (profile): each begins with `warning` and its place, and ends with 0A.
 --
 --   page_text, row_text, magazine_text      the place of a page, of a row, of a magazine
---   dead_link_text, itself_text    what is said of a link, and of a page behind itself
---   warning_text            what is said after `warning`
---   warning_line, warning_lines     the line of a warning, and those of some
+--   dead_link_text, itself_text    the words about a link, and about a page behind itself
+--   warning_text            the place and the words of a warning
+--   warning_line, warning_lines     the line of a warning, and those of a list
 use Rattle.std.specs.Prelude.{ℕ, List, [], ◌∷◌, ◌++◌, codes}
 use Rattle.std.specs.Fmt.{decimal}
 use Rattle.ttx_header.specs.Ids.{Id}

@@ -1,6 +1,6 @@
--- The warnings on a service, in their order: on the page to show first, on its pages in authored order, on its magazines.
+-- The warnings about a service, in their order: about the initial page, about its pages in authored order, about its magazines.
 --
---   initial_link, initial_warnings          the page of packet 8/30
+--   initial_link, initial_warnings          the initial page of packet 8/30
 --   is_most, serial_warnings        a magazine with more than half of the packets, in serial transmission
 --   times_among             how often a page comes directly behind another
 --   warnings                all of them
@@ -26,7 +26,7 @@ initial_warnings entries info = only_if (is_dead entries (initial_link info)) De
 abbrev pub is_most : List Entry → ℕ → Bool
 is_most entries mag = nat_lt (all_traffic entries) (2 * traffic mag entries) && nat_lt (traffic mag entries) (all_traffic entries)
 
--- that of the first n magazines
+-- those about the first n magazines
 abbrev pub most_to : List Entry → ℕ → List Warning
 most_to entries zero = []
 most_to entries (suc n) = most_to entries n ++ only_if (is_most entries (suc n)) (MostTraffic (suc n))
@@ -34,11 +34,11 @@ most_to entries (suc n) = most_to entries n ++ only_if (is_most entries (suc n))
 abbrev pub serial_warnings : Bool → List Entry → List Warning
 serial_warnings serial entries = if serial then most_to entries 8 else []
 
--- how often a place is among some
+-- how often a place occurs in a list
 abbrev pub times_among : List ℕ → ℕ → ℕ
 times_among places place = count_by (λ k. k == place) places
 
--- all, by how often a page is sent directly behind another subpage, and behind itself
+-- all of them, from how often a page is sent directly behind another subpage, and directly behind itself
 abbrev pub warnings_by : ServiceFields → List Entry → (ℕ → ℕ) → (ℕ → ℕ) → List Warning
 warnings_by service entries subpages copies =
     initial_warnings entries service.info ++ pages_from entries subpages copies 0 (pages_of service) ++ serial_warnings service.serial entries

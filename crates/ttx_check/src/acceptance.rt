@@ -1,4 +1,4 @@
-//! Which values of a page are refused, and the first of several.
+//! Which values of a page are refused, and which of them comes first.
 
 ghost use Rattle.std.specs.Prelude.{◌≡◌, ◌+◌, length, nat_lt, map, option_map, find, is_err, Some};
 ghost use Rattle.std.specs.List.{list_all};
@@ -24,14 +24,14 @@ pub fn char_count(text: &str) -> usize
     text.chars().count()
 }
 
-// Whether each byte is a code below 128.
+// Whether each byte is below 128.
 fn is_plain(text: &str) -> bool
     ensures { result ≡ list_all (λ b. nat_lt b 128) text.now }
 {
     text.as_bytes().iter().all(|b| *b < 128)
 }
 
-// Whether a text has more characters than fit, or one that can't be sent.
+// Whether a text has more characters than fit, or one that cannot be sent.
 #[tactic(auto, unfolding(ttx_source::specs::Values::characters))]
 fn is_text_refused(text: &str, most: usize) -> bool
     ensures { result ≡ is_err (characters most text.now) }
@@ -42,7 +42,7 @@ fn is_text_refused(text: &str, most: usize) -> bool
     !is_plain(text)
 }
 
-// Whether a text isn't the number of a page, MPP.
+// Whether a text is not a page number, MPP.
 #[tactic(auto, unfolding(ttx_source::specs::Values::page_number))]
 fn is_number_text_refused(text: &str) -> bool
     ensures { result ≡ is_err (page_number text.now) }
@@ -54,14 +54,14 @@ fn is_number_text_refused(text: &str) -> bool
     first_number(text).is_none()
 }
 
-// Whether a number is inside 3F7F.
+// Whether a subcode has only bits of 3F7F.
 fn is_inside_mask(sub: u16) -> bool
     ensures { result ≡ is_inside_mask sub }
 {
     sub < 0x4000 && sub / 128 % 2 == 0
 }
 
-// Whether a text isn't the subcode of a page, SSSS.
+// Whether a text is not a subcode, SSSS.
 #[tactic(auto, unfolding(ttx_source::specs::Values::subcode))]
 fn is_subcode_refused(text: &str) -> bool
     ensures { result ≡ is_err (subcode text.now) }
@@ -76,7 +76,7 @@ fn is_subcode_refused(text: &str) -> bool
     }
 }
 
-// Whether the two parts of a link name no target.
+// Whether the number and the subcode of a link do not name a target.
 fn is_target_refused(number: Option<(u8, u8)>, sub: Option<u16>) -> bool
     ensures { result ≡ is_err (link_to number sub) }
 {
@@ -86,7 +86,7 @@ fn is_target_refused(number: Option<(u8, u8)>, sub: Option<u16>) -> bool
     !is_inside_mask(sub)
 }
 
-// Whether a text isn't nothing, MPP or MPP/SSSS.
+// Whether a text is not a link: neither empty, nor MPP, nor MPP/SSSS.
 #[tactic(auto, unfolding(ttx_source::specs::Values::link))]
 fn is_link_text_refused(text: &str) -> bool
     ensures { result ≡ is_err (link text.now) }
@@ -100,7 +100,7 @@ fn is_link_text_refused(text: &str) -> bool
     }
 }
 
-// Whether a value isn't a link.
+// Whether a value is not a link.
 fn is_link_refused(value: &Value) -> bool
     ensures { result ≡ is_err (link_of (view value.now)) }
 {
@@ -110,7 +110,7 @@ fn is_link_refused(value: &Value) -> bool
     }
 }
 
-/// Whether the number of a page is missing, or is none.
+/// Whether `number` of a page is missing or refused.
 pub fn is_number_refused(page: &Table) -> bool
     ensures { result ≡ is_err (rule.number_of (table_view page.now)) }
 {
@@ -123,7 +123,7 @@ pub fn is_number_refused(page: &Table) -> bool
     }
 }
 
-/// Whether the subcode of a page is none.
+/// Whether `sub` of a page is refused.
 pub fn is_sub_refused(page: &Table) -> bool
     ensures { result ≡ is_err (rule.sub_of (table_view page.now)) }
 {
@@ -136,7 +136,7 @@ pub fn is_sub_refused(page: &Table) -> bool
     }
 }
 
-/// Whether `head` of a page isn't a text of at most 24 characters that can be sent.
+/// Whether `head` of a page is not a text of at most 24 characters that can be sent.
 pub fn is_head_refused(page: &Table) -> bool
     ensures { result ≡ is_err (head (table_view page.now)) }
 {
@@ -149,7 +149,7 @@ pub fn is_head_refused(page: &Table) -> bool
     }
 }
 
-// Whether the row at a key, if there is one, isn't a text of at most 40 characters that can be sent.
+// Whether the row at a key, if there is one, is not a text of at most 40 characters that can be sent.
 fn is_row_refused(rows: &Table, key: &str) -> bool
     ensures { result ≡ rule.is_row_refused (table_view rows.now) key.now }
 {
@@ -168,7 +168,7 @@ fn row_names() -> &'static [&'static str]
     &ROWS
 }
 
-// The first of the rows at these keys that is refused.
+// The key of the first refused row, among these keys.
 fn first_refused<'a>(rows: &Table, keys: &[&'a str]) -> Option<&'a str>
     ensures { option_map (λ k. k.now) result ≡ find (rule.is_row_refused (table_view rows.now)) (map (λ k. k.now) keys.now) }
 {
@@ -180,7 +180,7 @@ fn first_refused<'a>(rows: &Table, keys: &[&'a str]) -> Option<&'a str>
     None
 }
 
-/// The key of the first row that is refused.
+/// The key of the first refused row.
 #[tactic(auto, unfolding(crate::specs::Parts::refused_row))]
 pub fn refused_row(rows: &Table) -> Option<&'static str>
     ensures { option_map (λ k. k.now) result ≡ rule.refused_row (table_view rows.now) }
@@ -195,7 +195,7 @@ fn is_row_key(key: &str) -> bool
     is_one_of(row_names(), key)
 }
 
-/// The first key that isn't the number of a row.
+/// The first key that is not the number of a row.
 pub fn wrong_key(rows: &Table) -> Option<&str>
     ensures { option_map (λ k. k.now) result ≡ rule.wrong_key (table_view rows.now) }
 {
@@ -207,7 +207,7 @@ pub fn wrong_key(rows: &Table) -> Option<&str>
     None
 }
 
-/// The first link that is refused, counted from 1.
+/// The first refused link, counted from 1.
 pub fn refused_link(values: &[Value]) -> Option<usize>
     ensures { result ≡ rule.refused_link 1 (items_view values.now) }
 {

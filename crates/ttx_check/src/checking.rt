@@ -1,4 +1,4 @@
-//! `check`: what is wrong, or likely wrong, in the text of a service.
+//! `check`: reports what is wrong, or probably wrong, in the text of a service.
 
 ghost use Rattle.std.specs.Prelude.{◌≡◌, IfSome, IfOk, string_bytes};
 ghost use Rattle.ttx_cycle.specs.Counters.{inner_of, faults_of};
@@ -10,11 +10,11 @@ use std::alloc::Global;
 use std::io::{Read, Write};
 use ttx_cycle::{Counted, MOST_BYTES, read_text, write_bytes};
 
-/// Reads the text of a service, of at most 4,194,304 bytes, and writes the report on it: the status is 2 where the text is
-/// refused, else 0.
+/// Reads the text of a service, of at most 4,194,304 bytes, and writes the report on it. Returns the status: 2 if the text is
+/// refused, otherwise 0.
 ///
-/// Nothing is written before the text is read. At `Write` exactly the first `written` bytes went out; at each other fault the
-/// writer is as it was.
+/// Nothing is written before the whole text has been read. After `Write` exactly the first `written` bytes went out; after any other
+/// fault the writer is unchanged.
 pub fn check<R: Read, W: Write>(
     alloc: Global,
     reader: &mut Counted<R>,

@@ -1,4 +1,4 @@
-//! What the warnings on the traffic of a service need of its pages.
+//! What the warnings about the traffic of a service need to know of its pages.
 
 ghost use Rattle.std.specs.Prelude.{◌≡◌, ◌≤◌, IfOk};
 ghost use Rattle.ttx_page.specs.declared.item.Item.TheVariants.{Row as TheRow};
@@ -12,7 +12,7 @@ use ttx_header::PageId;
 use ttx_page::{Item, Page, RowNumber, needed};
 use ttx_source::Service;
 
-/// A page: its id, how often it is sent, and its packets in a cycle.
+/// A page: its id, how often it is sent in a cycle, and how many packets it has in a cycle.
 #[derive(Clone, Copy)]
 pub struct Entry {
     pub id: PageId,
@@ -43,7 +43,7 @@ fn shown_rows(page: &Page) -> u32
     count
 }
 
-// The entry of a page that is sent so often.
+// The entry of a page that is sent `often` times in a cycle.
 fn entry_for(page: &Page, often: u8) -> Entry
     ensures { result ≡ queue_entry (authored_at (page_of page.now) often) }
 {

@@ -1,25 +1,25 @@
-//! Why a service text isn't checked.
+//! Why `check` could not finish.
 
 ghost use Rattle.std.specs.Prelude.{◌≡◌};
 ghost use Rattle.ttx_check.specs.Checking.{check_fault};
 
 use ttx_cycle::{TextFault, WriteFault};
 
-/// Why a service text isn't checked.
+/// Why `check` could not finish.
 #[derive(Clone, Copy)]
 pub enum CheckFault {
     /// A read failed.
     Read,
     /// The text is longer than 4,194,304 bytes.
     TooLong,
-    /// A write failed. The first `written` bytes went out, and no more.
+    /// A write failed after exactly the first `written` bytes.
     Write { written: usize },
-    /// A growth was refused.
+    /// An allocation failed.
     NoMemory,
 }
 
 impl CheckFault {
-    /// The same fault of reading a text.
+    /// The fault for a failed read of a text.
     pub fn from_text(fault: TextFault) -> CheckFault
         ensures { result ≡ check_fault fault }
     {
@@ -30,7 +30,7 @@ impl CheckFault {
         }
     }
 
-    /// The same fault of a write.
+    /// The fault for a failed write.
     pub fn from_write(fault: WriteFault) -> CheckFault
         ensures { result ≡ CheckFault.Write fault.written }
     {

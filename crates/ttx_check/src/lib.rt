@@ -1,4 +1,4 @@
-//! Checks of service texts for their authors: where a text is refused, and what in a service is likely a mistake.
+//! Checks service texts for their authors: where a text is refused, and what in a service is probably a mistake.
 #![tactic(auto)]
 
 mod acceptance;

@@ -1,4 +1,4 @@
-//! Links to pages that a service doesn't have.
+//! Links to pages that the service does not have.
 
 ghost use Rattle.std.specs.Prelude.{◌≡◌, ◌+◌, ◌≤◌, ◌++◌, OnOk, length};
 ghost use Rattle.std.specs.List.{list_any};
@@ -10,7 +10,7 @@ use std::alloc::AllocError;
 use ttx_header::PageId;
 use ttx_links::Target;
 
-// The subcode that in a link stands for any subpage.
+// The subcode that stands for any subpage in a link.
 const ANY_SUBCODE: u16 = 0x3f7f;
 
 fn leads_to(target: &Target, entry: &Entry) -> bool
@@ -27,7 +27,7 @@ fn has_target(entries: &[Entry], target: &Target) -> bool
     entries.iter().any(|entry| leads_to(target, entry))
 }
 
-/// Whether a link leads to none of these pages.
+/// Whether there is a link, and it leads to none of these pages.
 pub fn is_dead(entries: &[Entry], link: &Option<Target>) -> bool
     ensures { result ≡ is_dead entries.now link.now }
 {
@@ -37,7 +37,7 @@ pub fn is_dead(entries: &[Entry], link: &Option<Target>) -> bool
     }
 }
 
-/// Adds the warnings on the links of a page.
+/// Adds the warnings about the links of a page.
 pub fn push_links(
     found: &mut Vec<Warning>,
     entries: &[Entry],

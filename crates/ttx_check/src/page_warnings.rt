@@ -1,4 +1,4 @@
-//! The warnings on pages.
+//! The warnings about pages.
 
 ghost use Rattle.std.specs.Prelude.{◌≡◌, ◌++◌, ◌||◌, OnOk, map};
 ghost use Rattle.std.specs.List.{list_any};
@@ -15,17 +15,18 @@ use std::alloc::AllocError;
 use std::collections::BTreeMap;
 use ttx_page::Page;
 
-// The code that starts a box where it stands twice.
+// Two of these codes in succession start a box.
 const START_BOX: u8 = 0x0b;
 
-/// How often the page at each place of a service is sent directly behind another subpage of its number, and behind itself.
+/// For each page, by its place in the service: how often it is sent directly behind another subpage of its number, and how often
+/// directly behind itself.
 #[derive(Drop)]
 pub struct Order {
     pub subpages: BTreeMap<usize, usize>,
     pub copies: BTreeMap<usize, usize>,
 }
 
-// Whether a box starts among these characters.
+// Whether a box starts in these characters.
 fn has_box(row: &[u8]) -> bool
     ensures { result ≡ has_box row.now }
 {
@@ -39,7 +40,7 @@ fn has_box(row: &[u8]) -> bool
     false
 }
 
-// Whether a box starts in one of the rows.
+// Whether a box starts in any of the rows.
 fn have_box(rows: &[[u8; 40]]) -> bool
     ensures { result ≡ list_any has_box rows.now }
 {
@@ -55,7 +56,7 @@ fn lacks_box(page: &Page) -> bool
         && !(has_box(page.head()) || have_box(page.rows()))
 }
 
-// Adds the warnings on the pages before the page at the place.
+// Adds the warnings about the order in which the page at this place is sent.
 fn push_order(
     found: &mut Vec<Warning>,
     order: &Order,
@@ -72,7 +73,7 @@ fn push_order(
     push_if(found, times != 0, Warning::BehindItself { page: id, times })
 }
 
-// Adds the warnings on the page at the place.
+// Adds the warnings about the page at this place.
 fn push_page(
     found: &mut Vec<Warning>,
     entries: &[Entry],
@@ -89,7 +90,7 @@ fn push_page(
     push_order(found, order, place, page)
 }
 
-/// Adds the warnings on the pages of a service.
+/// Adds the warnings about the pages of a service.
 pub fn push_pages(
     found: &mut Vec<Warning>,
     entries: &[Entry],

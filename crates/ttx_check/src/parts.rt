@@ -1,4 +1,4 @@
-//! Which part of a page a fault speaks of.
+//! Which part of a page a fault concerns.
 
 ghost use Rattle.std.specs.Prelude.{◌≡◌, codes, option_map};
 ghost use Rattle.toml.specs.Data.{get_member};
@@ -14,7 +14,7 @@ use crate::unknown_keys::member;
 use toml::{Table, Value};
 use ttx_source::SourceFault;
 
-/// A part of a page: all of it, the value at a key, a row by its key, or a link, counted from 1.
+/// A part of a page: the whole page, the value at a key, a row by its key, or a link, counted from 1.
 #[derive(Clone, Copy)]
 pub enum Part<'a> {
     Whole,
@@ -23,7 +23,7 @@ pub enum Part<'a> {
     Link(usize),
 }
 
-/// The text at a key, if its value is one.
+/// The text at a key; `None` if the value there is not a text.
 pub fn text_at<'a>(table: &'a Table, key: &str) -> Option<&'a str>
     ensures { option_map (λ t. t.now) result ≡ rule.text_in (get_member key.now (table_view table.now)) }
 {
@@ -33,7 +33,7 @@ pub fn text_at<'a>(table: &'a Table, key: &str) -> Option<&'a str>
     }
 }
 
-/// The table at a key, if its value is one.
+/// The table at a key; `None` if the value there is not a table.
 pub fn table_at<'a>(table: &'a Table, key: &str) -> Option<&'a Table>
     ensures { option_map (λ t. table_view t.now) result ≡ rule.table_in (get_member key.now (table_view table.now)) }
 {
@@ -43,7 +43,7 @@ pub fn table_at<'a>(table: &'a Table, key: &str) -> Option<&'a Table>
     }
 }
 
-/// The values of the array at a key: none if its value is no array.
+/// The values of the array at a key; empty if the value there is not an array.
 pub fn values_at<'a>(table: &'a Table, key: &str) -> &'a [Value]
     ensures { items_view result.now ≡ rule.items_in (get_member key.now (table_view table.now)) }
 {
@@ -56,7 +56,7 @@ pub fn values_at<'a>(table: &'a Table, key: &str) -> &'a [Value]
     }
 }
 
-// The first row that is refused.
+// The first refused row.
 fn rows_part<'a>(page: &'a Table) -> Part<'a>
     ensures { part_view result ≡ rule.rows_part (table_view page.now) }
 {
@@ -69,7 +69,7 @@ fn rows_part<'a>(page: &'a Table) -> Part<'a>
     }
 }
 
-// The first key of `rows` that is the number of none.
+// The first key of `rows` that is not a row number.
 fn key_part<'a>(page: &'a Table) -> Part<'a>
     ensures { part_view result ≡ rule.row_or_rows (rule.wrong_in (rule.table_in (get_member (codes "rows") (table_view page.now)))) }
 {
@@ -82,7 +82,7 @@ fn key_part<'a>(page: &'a Table) -> Part<'a>
     }
 }
 
-// The first link that is refused.
+// The first refused link.
 fn links_part<'a>(page: &'a Table) -> Part<'a>
     ensures { part_view result ≡ rule.links_part (table_view page.now) }
 {
@@ -92,7 +92,7 @@ fn links_part<'a>(page: &'a Table) -> Part<'a>
     }
 }
 
-/// The text that is refused: `head`, or a row.
+/// The refused text: `head`, or a row.
 pub fn text_part<'a>(page: &'a Table) -> Part<'a>
     ensures { part_view result ≡ rule.text_part (table_view page.now) }
 {
@@ -103,7 +103,7 @@ pub fn text_part<'a>(page: &'a Table) -> Part<'a>
     }
 }
 
-// `number`, or a link.
+// The refused page number: `number`, or a link.
 fn number_part<'a>(page: &'a Table) -> Part<'a>
     ensures { part_view result ≡ rule.number_part (table_view page.now) }
 {
@@ -114,7 +114,7 @@ fn number_part<'a>(page: &'a Table) -> Part<'a>
     }
 }
 
-// `sub`, or a link.
+// The refused subcode: `sub`, or a link.
 fn sub_part<'a>(page: &'a Table) -> Part<'a>
     ensures { part_view result ≡ rule.sub_part (table_view page.now) }
 {
@@ -125,7 +125,7 @@ fn sub_part<'a>(page: &'a Table) -> Part<'a>
     }
 }
 
-// A key whose value is of another kind; of `rows` and `links` the value inside that is.
+// The value of a wrong kind at a key. For `rows` and `links`: the value of a wrong kind in it.
 fn kind_part<'a>(page: &'a Table, key: &'a str) -> Part<'a>
     ensures { part_view result ≡ rule.kind_part key.now (table_view page.now) }
 {
@@ -138,7 +138,7 @@ fn kind_part<'a>(page: &'a Table, key: &'a str) -> Part<'a>
     }
 }
 
-// A key whose value is out of range; of `rows` the key inside that is.
+// The value out of range at a key. For `rows`: the key out of range in it.
 fn range_part<'a>(page: &'a Table, key: &'a str) -> Part<'a>
     ensures { part_view result ≡ rule.range_part key.now (table_view page.now) }
 {
@@ -149,7 +149,7 @@ fn range_part<'a>(page: &'a Table, key: &'a str) -> Part<'a>
     }
 }
 
-/// The part of a page that a fault speaks of: the first value that is refused.
+/// The part of a page that a fault concerns: the first refused value.
 pub fn part_of<'a>(page: &'a Table, fault: SourceFault) -> Part<'a>
     ensures { part_view result ≡ rule.part_of (fault_of fault) (table_view page.now) }
 {

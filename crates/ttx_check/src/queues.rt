@@ -1,4 +1,4 @@
-//! The order in which pages are sent, and the pages in it that come directly behind certain others.
+//! The order in which pages are sent, and which pages come directly behind certain others.
 
 ghost use Rattle.std.specs.Prelude.{◌≡◌, ◌++◌, ◌<◌, ◌≤◌, IfOk, OnOk};
 ghost use Rattle.ttx_header.specs.Ids.{same_id};
@@ -9,14 +9,14 @@ use crate::entries::Entry;
 use std::alloc::{AllocError, Global};
 use ttx_header::PageId;
 
-/// A page that is sent: its place in the service, and its id.
+/// A transmission of a page: the page's place in the service, and its id.
 #[derive(Clone, Copy)]
 pub struct Sent {
     pub place: usize,
     pub id: PageId,
 }
 
-/// Which page a page is sent directly behind.
+/// What a page is sent directly behind.
 #[derive(Clone, Copy)]
 pub enum Behind {
     /// Another subpage of its number.
@@ -25,14 +25,14 @@ pub enum Behind {
     Itself,
 }
 
-// Whether a page belongs to a queue: 0 has all pages, 1 to 8 those of a magazine.
+// Whether a page belongs to a queue. Queue 0 has all pages, queues 1 to 8 those of a magazine.
 fn is_in_queue(queue: u8, id: PageId) -> bool
     ensures { result ≡ is_in_queue queue id }
 {
     queue == 0 || id.mag() == queue
 }
 
-// Whether a page that is sent so often is sent in the round.
+// Whether a page that is sent `often` times in a cycle is sent in this round.
 fn is_in_round(round: u32, often: u8) -> bool
     requires { round < 8 }
     ensures { result ≡ is_in_round round often }
@@ -47,7 +47,7 @@ fn is_sent_in_round(queue: u8, round: u32, entry: &Entry) -> bool
     is_in_queue(queue, entry.id) && is_in_round(round, entry.often)
 }
 
-// Adds a round of a queue.
+// Adds one round of a queue.
 fn push_round(
     sent: &mut Vec<Sent>,
     queue: u8,
@@ -85,7 +85,7 @@ fn same_id(a: PageId, b: PageId) -> bool
     a.mag() == b.mag() && a.page() == b.page() && a.sub() == b.sub()
 }
 
-// Whether `b` follows `a` so.
+// Whether page `b` follows page `a` in the way of `kind`.
 fn follows(kind: Behind, a: PageId, b: PageId) -> bool
     ensures { result ≡ follows kind a b }
 {
@@ -95,14 +95,14 @@ fn follows(kind: Behind, a: PageId, b: PageId) -> bool
     }
 }
 
-// What goes before the first page of a queue.
+// The page before the first page of a queue.
 fn filler() -> PageId
     ensures { result ≡ filler }
 {
     PageId::new(1, 0xff, 0x3f7f).unwrap()
 }
 
-// Adds the places of the pages of a queue that follow the one before them so.
+// Adds the places of those pages of a queue that follow the page before them in the way of `kind`.
 fn push_followers(places: &mut Vec<usize>, kind: Behind, queue: &[Sent]) -> Result<(), AllocError>
     ensures { OnOk result (places.new.items ≡ places.old.items ++ followers kind filler queue.now) }
 {
@@ -116,7 +116,7 @@ fn push_followers(places: &mut Vec<usize>, kind: Behind, queue: &[Sent]) -> Resu
     Ok(())
 }
 
-// Adds those of one queue.
+// The same for the queue with this number.
 fn push_queue(
     alloc: Global,
     places: &mut Vec<usize>,
@@ -130,7 +130,7 @@ fn push_queue(
     push_followers(places, kind, &sent)
 }
 
-// Those of all magazines.
+// The places of such pages in the queues of all magazines.
 fn followers(alloc: Global, kind: Behind, entries: &[Entry]) -> Result<Vec<usize>, AllocError>
     ensures { IfOk result (λ places. places.items ≡ followers_to kind entries.now 8) }
 {
@@ -141,14 +141,14 @@ fn followers(alloc: Global, kind: Behind, entries: &[Entry]) -> Result<Vec<usize
     Ok(places)
 }
 
-/// The places of the pages that come directly behind another subpage of their number, once for each time.
+/// The places of the pages that come directly behind another subpage of their number, once for each time this happens.
 pub fn behind_subpages(alloc: Global, entries: &[Entry]) -> Result<Vec<usize>, AllocError>
     ensures { IfOk result (λ places. places.items ≡ behind_subpages entries.now) }
 {
     followers(alloc, Behind::Subpage, entries)
 }
 
-/// The places of the pages that come directly behind themselves, once for each time.
+/// The places of the pages that come directly behind themselves, once for each time this happens.
 pub fn behind_copies(
     alloc: Global,
     serial: bool,

@@ -1,4 +1,4 @@
-//! The line of a text that is refused.
+//! The line about a text that is refused.
 
 ghost use Rattle.std.specs.Prelude.{◌≡◌, ◌++◌, IfOk, OnOk, Some, string_bytes};
 ghost use Rattle.ttx_source.specs.Faults.{fault_of};
@@ -31,7 +31,7 @@ fn push_words(text: &mut String, fault: SourceFault) -> Result<(), AllocError>
     }
 }
 
-// Adds what is said of a fault after its place.
+// Adds the text about a fault that follows its place.
 fn push_fault(line: &mut String, fault: SourceFault, detail: &str) -> Result<(), AllocError>
     ensures { OnOk result (string_bytes line.new ≡ error_line (string_bytes line.old) (fault_of fault) detail.now) }
 {
@@ -41,14 +41,14 @@ fn push_fault(line: &mut String, fault: SourceFault, detail: &str) -> Result<(),
     line.push('\n')
 }
 
-// Whether a fault is one of a text that is TOML.
+// Whether a fault occurs only in texts that are TOML.
 fn is_toml(fault: SourceFault) -> bool
     ensures { result ≡ is_toml (fault_of fault) }
 {
     !matches!(fault, SourceFault::NotToml)
 }
 
-// Where in a text a path leads to.
+// The place in a text where a path leads.
 fn place_in(alloc: Global, bytes: &[u8], path: &str) -> Result<Option<usize>, AllocError>
     ensures { IfOk result (λ place. place_of path.now bytes.now ≡ Some place) }
 {
@@ -58,7 +58,7 @@ fn place_in(alloc: Global, bytes: &[u8], path: &str) -> Result<Option<usize>, Al
     }
 }
 
-// Adds the name of what is meant, if it has one.
+// Adds the name of the value, if it has one.
 fn push_name(text: &mut String, name: &str) -> Result<(), AllocError>
     ensures { OnOk result (string_bytes text.new ≡ string_bytes text.old ++ after_space name.now) }
 {
@@ -80,7 +80,7 @@ fn position_text(alloc: Global, at: Position) -> Result<String, AllocError>
     Ok(text)
 }
 
-// The text of a place: the line and the column, where there are any, and the name.
+// The text of a place: line and column, if they are known, and the name of the value.
 fn place_text(
     alloc: Global,
     bytes: &[u8],
@@ -99,7 +99,7 @@ fn place_text(
     }
 }
 
-// The line of a fault at a place of this name.
+// The line about a fault, at the place with this name.
 fn line_of(
     alloc: Global,
     fault: SourceFault,
@@ -113,7 +113,7 @@ fn line_of(
     Ok(line)
 }
 
-// The line of a fault of a text that is TOML.
+// The line about a fault in a text that is TOML.
 fn table_line(alloc: Global, bytes: &[u8], error: &SourceError) -> Result<String, AllocError>
     ensures { IfOk result (λ line. IsTableLine bytes.now (fault_of error.now.fault) error.now.page (string_bytes line)) }
 {
@@ -126,7 +126,7 @@ fn table_line(alloc: Global, bytes: &[u8], error: &SourceError) -> Result<String
     line_of(alloc, error.fault, place.as_str(), spot.detail.as_str())
 }
 
-// The line of a text that isn't TOML.
+// The line about a text that is not TOML.
 fn toml_line(alloc: Global, bytes: &[u8], fault: SourceFault) -> Result<String, AllocError>
     ensures { IfOk result (λ line. IsTomlLine bytes.now (fault_of fault) (string_bytes line)) }
 {
@@ -141,7 +141,7 @@ fn toml_line(alloc: Global, bytes: &[u8], fault: SourceFault) -> Result<String, 
     line_of(alloc, fault, place.as_str(), detail.as_str())
 }
 
-/// The line of a fault of a text.
+/// The line about a fault in a text.
 pub fn error_line(alloc: Global, bytes: &[u8], error: &SourceError) -> Result<String, AllocError>
     ensures { IfOk result (λ line. IsErrorLine bytes.now (fault_of error.now.fault) error.now.page (string_bytes line)) }
 {

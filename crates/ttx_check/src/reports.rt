@@ -15,15 +15,15 @@ use std::alloc::{AllocError, Global};
 use toml::Table;
 use ttx_source::{Service, SourceError, SourceFault, read_promises, read_service};
 
-/// What is said of a text, and whether it is refused.
+/// The report on a text, and the status.
 #[derive(Drop)]
 pub struct Checked {
     pub text: String,
-    /// 0, or 2 where the text is refused.
+    /// 2 if the text is refused, otherwise 0.
     pub status: u8,
 }
 
-// The lines, or that there is nothing to say.
+// The lines; if there are none, a line with the number of pages.
 fn lines_or_count(alloc: Global, count: usize, lines: String) -> Result<String, AllocError>
     ensures { IfOk result (λ text. string_bytes text ≡ rule.lines_or_count count (string_bytes lines)) }
 {
@@ -45,7 +45,7 @@ fn service_report(alloc: Global, table: &Table, service: &Service) -> Result<Str
     lines_or_count(alloc, service.pages().len(), lines)
 }
 
-// The report on a text that is read. It is read a second time for its keys, so that only memory can be wanting.
+// The report on an accepted text. The text is read a second time for its keys, so this read can fail only for want of memory.
 fn read_report(alloc: Global, bytes: &[u8], service: &Service) -> Result<Checked, AllocError>
     ensures { IfOk result (λ report. rule.IsRead bytes.now service.now (string_bytes report.text) × (report.status ≡ 0)) }
 {
@@ -58,7 +58,7 @@ fn read_report(alloc: Global, bytes: &[u8], service: &Service) -> Result<Checked
     }
 }
 
-// What is said of a text that is refused.
+// The report on a refused text.
 fn refusal(alloc: Global, bytes: &[u8], error: &SourceError) -> Result<Checked, AllocError>
     ensures { IfOk result (λ report. IsErrorLine bytes.now (fault_of error.now.fault) error.now.page (string_bytes report.text) × (report.status ≡ 2)) }
 {
@@ -68,7 +68,7 @@ fn refusal(alloc: Global, bytes: &[u8], error: &SourceError) -> Result<Checked, 
     })
 }
 
-// The report on a text that is read, whose promises may be refused.
+// The report on a text whose service is accepted, and whose promises may be refused.
 fn promised_report(alloc: Global, bytes: &[u8], service: &Service) -> Result<Checked, AllocError>
     ensures { IfOk result (λ report.
         rule.IsPromiseReport bytes.now service.now (read_promises bytes.now) (string_bytes report.text) report.status) }
@@ -85,7 +85,7 @@ fn promised_report(alloc: Global, bytes: &[u8], service: &Service) -> Result<Che
     }
 }
 
-/// What is said of a text: a line where the service or one of its promises is refused, else the warnings. The error is want of memory.
+/// The report on a text: one line if the service or one of its promises is refused, otherwise the warnings. `Err` if memory runs out.
 pub fn report(alloc: Global, bytes: &[u8]) -> Result<Checked, AllocError>
     ensures { IfOk result (λ report. rule.IsServiceReport bytes.now (string_bytes report.text) report.status) }
 {

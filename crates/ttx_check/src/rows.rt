@@ -1,4 +1,4 @@
-//! The warnings on the rows of a page.
+//! The warnings about the rows of a page.
 
 ghost use Rattle.std.specs.Prelude.{◌≡◌, ◌≤◌, ◌++◌, suc, OnOk};
 ghost use Rattle.ttx_page.specs.declared.item.Item.TheVariants.{Row as TheRow};
@@ -10,7 +10,7 @@ use crate::warning::Warning;
 use std::alloc::AllocError;
 use ttx_page::{Item, Page, RowNumber, is_blank};
 
-// The row of a number from 1 to 24.
+// The row with a number from 1 to 24.
 fn row(page: &Page, number: u8) -> &[u8; 40]
     requires from { 1 ≤ number }
     requires to { number ≤ 24 }
@@ -19,7 +19,7 @@ fn row(page: &Page, number: u8) -> &[u8; 40]
     &page.rows()[usize::from(number) - 1]
 }
 
-// Whether the code stands in the row before any of the opener.
+// Whether the code stands in the row before the first `opener`.
 fn has_stray(code: u8, opener: u8, row: &[u8; 40]) -> bool
     ensures { result ≡ has_stray code opener row.now }
 {
@@ -42,7 +42,7 @@ fn is_blank_row(page: &Page, number: u8) -> bool
     is_blank(page, Item::Row(RowNumber::new(number).unwrap()))
 }
 
-// Whether row 24 isn't blank, and isn't shown.
+// Whether row 24 is not blank but not shown.
 fn is_unshown(page: &Page, number: u8) -> bool
     requires from { 1 ≤ number }
     requires to { number ≤ 24 }
@@ -51,7 +51,7 @@ fn is_unshown(page: &Page, number: u8) -> bool
     number == 24 && !page.links().show24() && !is_blank_row(page, number)
 }
 
-// Adds a warning where it holds.
+// Adds a warning if `is` is true.
 pub(crate) fn push_if(
     found: &mut Vec<Warning>,
     holds: bool,
@@ -65,7 +65,7 @@ pub(crate) fn push_if(
     Ok(())
 }
 
-// Adds the warnings on a row that a row above hides or doesn't.
+// Adds the warnings about a row. `hidden` says whether the row above hides it.
 #[tactic(auto, unfolding(crate::specs::PageWarnings::row_warnings))]
 fn push_row(
     found: &mut Vec<Warning>,
@@ -123,7 +123,7 @@ fn hides(page: &Page, number: u8, hidden: bool) -> bool
     number <= 22 && !hidden && row(page, number).contains(&0x0d)
 }
 
-/// Adds the warnings on the rows of a page.
+/// Adds the warnings about the rows of a page.
 pub fn push_rows(found: &mut Vec<Warning>, page: &Page) -> Result<(), AllocError>
     ensures { OnOk result (found.new.items ≡ found.old.items ++ row_warnings_to (page_of page.now) 24) }
 {

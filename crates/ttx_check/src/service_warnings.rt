@@ -1,4 +1,4 @@
-//! The warnings on a service.
+//! The warnings about a service.
 
 ghost use Rattle.std.specs.Prelude.{◌≡◌, ◌++◌, ℕ, IfOk, OnOk};
 ghost use Rattle.ttx_check.specs.Counting.{times_in};
@@ -16,7 +16,7 @@ use crate::warning::Warning;
 use std::alloc::{AllocError, Global};
 use ttx_source::Service;
 
-// Adds the warning on the page to show first.
+// Adds the warning about the initial page of packet 8/30.
 fn push_initial(
     found: &mut Vec<Warning>,
     entries: &[Entry],
@@ -31,7 +31,7 @@ fn push_initial(
     push_if(found, dead, Warning::DeadInitial)
 }
 
-// How often each page is sent directly behind others.
+// How often each page is sent directly behind another subpage, and directly behind itself.
 fn order_of(alloc: Global, serial: bool, entries: &[Entry]) -> Result<Order, AllocError>
     ensures subpages { IfOk result (λ order. (q : ℕ) → times_in order.subpages q ≡ rule.times_among (behind_subpages entries.now) q) }
     ensures copies { IfOk result (λ order. (q : ℕ) → times_in order.copies q ≡ rule.times_among (behind_copies serial entries.now) q) }
@@ -44,7 +44,7 @@ fn order_of(alloc: Global, serial: bool, entries: &[Entry]) -> Result<Order, All
     })
 }
 
-// Adds the warnings on a service with these entries and this order.
+// Adds the warnings about a service with these entries and this order.
 fn push_all(
     found: &mut Vec<Warning>,
     service: &Service,
@@ -59,7 +59,7 @@ fn push_all(
     push_most(found, service.serial(), entries)
 }
 
-// The warnings on a service with these entries.
+// The warnings about a service with these entries.
 fn warnings_of(
     alloc: Global,
     service: &Service,
@@ -73,8 +73,8 @@ fn warnings_of(
     Ok(found)
 }
 
-/// What in a service is likely a mistake: first the page to show first, then page after page its links, its rows, its boxes and
-/// the pages that it is sent behind, then the magazines. The error is want of memory.
+/// What in a service is probably a mistake: first the initial page of packet 8/30, then for each page its links, its rows, its boxes
+/// and the pages that it is sent behind, then the magazines. `Err` if memory runs out.
 pub fn warnings(alloc: Global, service: &Service) -> Result<Vec<Warning>, AllocError>
     ensures { IfOk result (λ found. found.items ≡ rule.warnings service.now) }
 {

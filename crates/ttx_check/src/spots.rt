@@ -1,4 +1,4 @@
-//! Which value of a service text a fault speaks of, and what is said of it.
+//! Which value of a service text a fault concerns, and the detail in its line.
 
 ghost use Rattle.std.specs.Prelude.{◌≡◌, ◌++◌, option_map, codes, IfOk, OnOk, Some, string_bytes};
 ghost use Rattle.toml.specs.Data.{get_member, get_item};
@@ -18,7 +18,7 @@ use toml::{Table, Value};
 use ttx_digits::push_decimal;
 use ttx_source::{SourceError, SourceFault};
 
-/// The value that a fault speaks of: the path to it in the text, its name for people, and what is said of it in detail.
+/// The value that a fault concerns: its path in the text, its name for people, and the detail in the line.
 #[derive(Drop)]
 pub struct Spot {
     pub path: String,
@@ -46,7 +46,7 @@ fn page_table<'a>(table: &'a Table, page: usize) -> Option<&'a Table>
     }
 }
 
-// The key outside pages that a fault speaks of.
+// The key outside pages that a fault concerns.
 fn service_key(fault: SourceFault) -> &'static str
     ensures { result.now ≡ rule.service_key (fault_of fault) }
 {
@@ -60,14 +60,14 @@ fn service_key(fault: SourceFault) -> &'static str
     }
 }
 
-// Whether a key stands in the table of the service, and not in `info`.
+// Whether a key belongs to the table of the service, and not to `info`.
 fn is_service_key(key: &str) -> bool
     ensures { result ≡ is_one_of service_keys key.now }
 {
     is_one_of(service_names(), key)
 }
 
-// The path of the table that takes a key outside pages.
+// The path of the table that a key outside pages belongs to.
 fn key_table(key: &str) -> &'static str
     ensures { result.now ≡ rule.key_table key.now }
 {
@@ -80,7 +80,7 @@ fn is_missing(fault: SourceFault) -> bool
     matches!(fault, SourceFault::Missing { .. })
 }
 
-// Adds the path to a key outside pages, or where it is missing to its table.
+// Adds the path to a key outside pages, or to its table if the key is missing.
 fn push_service_path(path: &mut String, fault: SourceFault) -> Result<(), AllocError>
     ensures { OnOk result (string_bytes path.new ≡ string_bytes path.old ++ rule.service_path (fault_of fault)) }
 {
@@ -104,7 +104,7 @@ fn push_service_name(name: &mut String, key: &str) -> Result<(), AllocError>
     }
 }
 
-// Adds the path to a part of a page, below that of the page.
+// Adds the path to a part of a page, after that of the page.
 fn push_part_path(path: &mut String, part: Part<'_>) -> Result<(), AllocError>
     ensures { OnOk result (string_bytes path.new ≡ string_bytes path.old ++ part_path (part_view part.entry)) }
 {
@@ -134,7 +134,7 @@ fn push_part_name(name: &mut String, part: Part<'_>) -> Result<(), AllocError>
     }
 }
 
-// The text at a key, or another one where there is none.
+// The text at a key, or `other` if there is none.
 fn text_or<'a>(table: &'a Table, key: &str, other: &'a str) -> &'a str
     ensures { result.now ≡ rule.text_or other.now (text_in (get_member key.now (table_view table.now))) }
 {
@@ -144,7 +144,7 @@ fn text_or<'a>(table: &'a Table, key: &str, other: &'a str) -> &'a str
     }
 }
 
-// The text at a key of an inner table, or nothing.
+// The text at a key of an inner table, or an empty one.
 fn inner_text<'a>(table: &'a Table, inner: &str, key: &str) -> &'a str
     ensures { result.now ≡ rule.text_at key.now (table_in (get_member inner.now (table_view table.now))) }
 {
@@ -154,7 +154,7 @@ fn inner_text<'a>(table: &'a Table, inner: &str, key: &str) -> &'a str
     }
 }
 
-// Adds the id of a page, or where it has none its number in order.
+// Adds the id of a page, or its number in the text if it has no id.
 fn push_page_id(name: &mut String, page: &Table, order: usize) -> Result<(), AllocError>
     ensures { OnOk result (string_bytes name.new ≡ string_bytes name.old ++ rule.page_id (table_view page.now) order) }
 {
@@ -185,7 +185,7 @@ fn service_path(alloc: Global, fault: SourceFault) -> Result<String, AllocError>
     Ok(path)
 }
 
-// The path to what a fault speaks of, in the table of a page or outside pages.
+// The path to the value that a fault concerns, in a page or outside pages.
 fn path_in(alloc: Global, page: Option<&Table>, error: &SourceError) -> Result<String, AllocError>
     ensures { IfOk result (λ path. string_bytes path
         ≡ rule.path_in (fault_of error.now.fault) error.now.page (option_map (λ t. table_view t.now) page.entry)) }
@@ -216,7 +216,7 @@ fn service_name(alloc: Global, key: &str) -> Result<String, AllocError>
     Ok(name)
 }
 
-// The name of what a fault speaks of, in the table of a page or outside pages.
+// The name of the value that a fault concerns, in a page or outside pages.
 fn name_in(alloc: Global, page: Option<&Table>, error: &SourceError) -> Result<String, AllocError>
     ensures { IfOk result (λ name. string_bytes name
         ≡ rule.name_in (fault_of error.now.fault) error.now.page (option_map (λ t. table_view t.now) page.entry)) }
@@ -246,7 +246,7 @@ fn count_text(alloc: Global, text: &str, most: usize) -> Result<String, AllocErr
     count_words(alloc, char_count(text), most)
 }
 
-// Those of a text of a page that is too long.
+// The same for a text of a page that is too long.
 fn part_count(alloc: Global, page: &Table, part: Part<'_>) -> Result<String, AllocError>
     ensures { IfOk result (λ detail. string_bytes detail ≡ rule.part_count (table_view page.now) (part_view part.entry)) }
 {
@@ -256,7 +256,7 @@ fn part_count(alloc: Global, page: &Table, part: Part<'_>) -> Result<String, All
     }
 }
 
-// Those of the text that is too long, of a page or of `info`.
+// The same for the text that is too long, in a page or in `info`.
 fn long_text(alloc: Global, table: &Table, page: Option<&Table>) -> Result<String, AllocError>
     ensures { IfOk result (λ detail. string_bytes detail
         ≡ rule.long_text (table_view table.now) (option_map (λ t. table_view t.now) page.entry)) }
@@ -267,7 +267,7 @@ fn long_text(alloc: Global, table: &Table, page: Option<&Table>) -> Result<Strin
     }
 }
 
-/// The words after a colon.
+/// A colon, a space, and the words.
 pub fn after_colon(alloc: Global, words: &str) -> Result<String, AllocError>
     ensures { IfOk result (λ detail. string_bytes detail ≡ codes ": " ++ words.now) }
 {
@@ -276,7 +276,7 @@ pub fn after_colon(alloc: Global, words: &str) -> Result<String, AllocError>
     Ok(detail)
 }
 
-// What the words of a fault say after their first colon, which is what a key takes.
+// What a key takes: the words of the fault from their first colon on. Empty if they have no colon.
 fn taken_text(alloc: Global, fault: SourceFault) -> Result<String, AllocError>
     ensures { IfOk result (λ detail. rule.IsTaken (string_bytes detail)) }
 {
@@ -290,7 +290,7 @@ fn taken_text(alloc: Global, fault: SourceFault) -> Result<String, AllocError>
     }
 }
 
-// What is said in detail of the value that a fault speaks of.
+// The detail about the value that a fault concerns.
 fn detail_in(
     alloc: Global,
     table: &Table,
@@ -308,7 +308,7 @@ fn detail_in(
     }
 }
 
-/// The value that the fault of a text with this table speaks of.
+/// The value that a fault concerns, in a text with this table.
 pub fn spot_of(alloc: Global, table: &Table, error: &SourceError) -> Result<Spot, AllocError>
     ensures path { IfOk result (λ spot. string_bytes spot.path ≡ rule.spot_path (table_view table.now) (fault_of error.now.fault) error.now.page) }
     ensures name { IfOk result (λ spot. string_bytes spot.name ≡ rule.spot_name (table_view table.now) (fault_of error.now.fault) error.now.page) }

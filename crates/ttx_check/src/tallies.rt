@@ -1,4 +1,4 @@
-//! How often a place stands in a list.
+//! How often each place occurs in a list.
 
 ghost use Rattle.std.specs.Prelude.{◌≡◌, ℕ, IfOk};
 ghost use Rattle.ttx_check.specs.Counting.{times_in};
@@ -7,7 +7,7 @@ ghost use Rattle.ttx_check.specs.Warnings.{times_among};
 use std::alloc::{AllocError, Global};
 use std::collections::BTreeMap;
 
-/// How often each place stands in the list.
+/// How often each place occurs in the list.
 #[tactic(auto, using(std::proofs::lemmas::Grind::common_steps))]
 pub fn tally(alloc: Global, places: &[usize]) -> Result<BTreeMap<usize, usize>, AllocError>
     ensures { IfOk result (λ counts. (q : ℕ) → times_in counts q ≡ times_among places.now q) }

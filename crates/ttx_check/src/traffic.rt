@@ -1,4 +1,4 @@
-//! A magazine with more than half of all packets.
+//! The warning about a magazine with more than half of all packets.
 
 ghost use Rattle.std.specs.Prelude.{◌≡◌, ◌<◌, ◌^◌, ◌++◌, OnOk};
 ghost use Rattle.ttx_check.specs.Entries.{packets_of_magazine, traffic, all_traffic};
@@ -19,7 +19,7 @@ fn packets_of_magazine(mag: u8, entry: &Entry) -> u32
     }
 }
 
-// The packets of a magazine in a cycle. A sum of 64 bits would have to be bounded.
+// The packets of a magazine in a cycle. The sum has 128 bits; one of 64 bits would need a bound.
 fn traffic(mag: u8, entries: &[Entry]) -> u128
     ensures value { result ≡ traffic mag entries.now }
     ensures most { result < 2 ^ 127 }
@@ -50,7 +50,7 @@ fn is_most(entries: &[Entry], mag: u8) -> bool
     all < 2 * own && own < all
 }
 
-/// Adds the warning on a magazine that has most of the packets, in serial transmission.
+/// Adds the warning about a magazine with most of the packets, in serial transmission.
 pub fn push_most(
     found: &mut Vec<Warning>,
     serial: bool,

@@ -1,4 +1,4 @@
-//! The keys of a service text that mean nothing.
+//! Unknown keys in a service text.
 
 ghost use Rattle.std.specs.Prelude.{◌≡◌, ◌++◌, ◌≤◌, length, map, find, nat_lt, if◌then◌else◌, option_map, option_copied, IfOk, OnOk, None, codes};
 ghost use Rattle.std.specs.Prelude.{string_bytes};
@@ -17,7 +17,7 @@ use strsim::levenshtein;
 use toml::{Table, Value};
 use ttx_page::Page;
 
-// The keys that mean something.
+// The known keys.
 static SERVICE_KEYS: [&str; 4] = ["lines", "serial", "info", "page"];
 
 static INFO_KEYS: [&str; 7] = [
@@ -62,14 +62,14 @@ pub fn is_one_of(names: &[&str], key: &str) -> bool
     is_any(names, key)
 }
 
-// Whether a key is at most so many edits away from a name.
+// Whether a key is at most `most` edits away from a name.
 fn is_near_name(alloc: Global, most: usize, key: &str, name: &str) -> Result<bool, AllocError>
     ensures { IfOk result (λ b. b ≡ rule.is_near_name most key.now name.now) }
 {
     Ok(levenshtein(alloc, key, name)? <= most)
 }
 
-// The first name that a key is near.
+// The first name that is near a key.
 fn first_near<'a>(
     alloc: Global,
     most: usize,
@@ -86,7 +86,7 @@ fn first_near<'a>(
     Ok(None)
 }
 
-// The name that a key is near.
+// The name that was probably meant by a key.
 #[tactic(auto, unfolding(crate::specs::UnknownKeys::meant))]
 fn meant<'a>(alloc: Global, key: &str, names: &[&'a str]) -> Result<Option<&'a str>, AllocError>
     ensures { IfOk result (λ name. option_map (λ n. n.now) name ≡ rule.meant (map (λ n. n.now) names.now) key.now) }
@@ -101,7 +101,7 @@ fn meant<'a>(alloc: Global, key: &str, names: &[&'a str]) -> Result<Option<&'a s
     }
 }
 
-// A byte of a key as it is shown.
+// A byte of a key, as it is printed.
 fn visible_code(code: u8) -> char
     ensures { result ≡ rule.visible_code code }
 {
@@ -112,7 +112,7 @@ fn visible_code(code: u8) -> char
     }
 }
 
-// Adds a key as it is shown.
+// Adds a key, as it is printed.
 fn push_shown(text: &mut String, key: &str) -> Result<(), AllocError>
     ensures { OnOk result (string_bytes text.new ≡ string_bytes text.old ++ map rule.visible_code key.now) }
 {
@@ -122,7 +122,7 @@ fn push_shown(text: &mut String, key: &str) -> Result<(), AllocError>
     Ok(())
 }
 
-// Adds the name that is meant.
+// Adds the name that was probably meant.
 fn push_meant(alloc: Global, text: &mut String, names: &[&str], key: &str) -> Result<(), AllocError>
     ensures { OnOk result (string_bytes text.new ≡ string_bytes text.old ++ rule.meant_text (rule.meant (map (λ n. n.now) names.now) key.now)) }
 {
@@ -135,7 +135,7 @@ fn push_meant(alloc: Global, text: &mut String, names: &[&str], key: &str) -> Re
     }
 }
 
-// Adds the line of a key.
+// Adds the line about a key.
 #[tactic(auto, unfolding(crate::specs::UnknownKeys::key_line))]
 fn push_key_line(
     alloc: Global,
@@ -153,7 +153,7 @@ fn push_key_line(
     text.push('\n')
 }
 
-// Adds the line of a key, if it means nothing.
+// Adds the line about a key, if the key is unknown.
 #[tactic(auto, unfolding(crate::specs::UnknownKeys::key_text))]
 fn push_key(
     alloc: Global,
@@ -170,7 +170,7 @@ fn push_key(
     push_key_line(alloc, text, place, names, key)
 }
 
-// Adds the lines of a table.
+// Adds the lines about a table.
 fn push_unknown(
     alloc: Global,
     text: &mut String,
@@ -187,7 +187,7 @@ fn push_unknown(
     Ok(())
 }
 
-// Adds those of a value, if it is a table.
+// The same for a value, if it is a table.
 fn push_value(
     alloc: Global,
     text: &mut String,
@@ -230,7 +230,7 @@ fn page_names() -> &'static [&'static str]
     &PAGE_KEYS
 }
 
-// Adds those of the table of a page.
+// Adds the lines about the table of a page.
 fn push_page_keys(
     alloc: Global,
     text: &mut String,
@@ -245,7 +245,7 @@ fn push_page_keys(
     push_value(alloc, text, place.as_str(), page_names(), value)
 }
 
-// Adds those of the tables of pages.
+// The same for the tables of all pages.
 fn push_items(
     alloc: Global,
     text: &mut String,
@@ -263,7 +263,7 @@ fn push_items(
     Ok(())
 }
 
-// Adds those of the pages.
+// The same for the value of `page`.
 fn push_pages(
     alloc: Global,
     text: &mut String,
@@ -282,7 +282,7 @@ fn push_pages(
     }
 }
 
-// Adds those of `info`.
+// The same for the value of `info`.
 fn push_info(alloc: Global, text: &mut String, value: Option<&Value>) -> Result<(), AllocError>
     ensures { OnOk result (string_bytes text.new
         ≡ string_bytes text.old ++ rule.value_lines (codes "info") rule.info_keys (option_map (λ v. view v.now) value.entry)) }
@@ -293,7 +293,7 @@ fn push_info(alloc: Global, text: &mut String, value: Option<&Value>) -> Result<
     }
 }
 
-/// Adds the lines of the keys of a service text that mean nothing: of the service, of `info`, and of page after page.
+/// Adds the lines about unknown keys of a service text: those of the service, of `info`, and of page after page.
 pub fn push_keys(
     alloc: Global,
     text: &mut String,

@@ -1,17 +1,17 @@
-//! What in a service is likely a mistake.
+//! What in a service is probably a mistake.
 
 use ttx_header::PageId;
 
-/// What in a service that is read is likely a mistake.
+/// What in an accepted service is probably a mistake.
 #[derive(Clone, Copy)]
 pub enum Warning {
-    /// The page to show first isn't in the service.
+    /// The initial page of packet 8/30 is not in the service.
     DeadInitial,
     /// A link, 1 to 6, leads to no page of the service.
     DeadLink { page: PageId, link: usize },
-    /// A row that isn't blank is hidden by double height in the row above.
+    /// Double height in the row above hides a row that is not blank.
     HiddenRow { page: PageId, row: u8 },
-    /// Row 24 isn't blank, and isn't shown.
+    /// Row 24 is not blank, but not shown.
     UnshownRow { page: PageId },
     /// A row has the code 09 before any 08.
     StrayTab { page: PageId, row: u8 },
@@ -21,7 +21,7 @@ pub enum Warning {
     NoBox { page: PageId },
     /// The page is sent directly behind another subpage of its number.
     BehindSubpage { page: PageId },
-    /// The page is sent directly behind itself, so often in a cycle.
+    /// The page is sent directly behind itself, `times` times in a cycle.
     BehindItself { page: PageId, times: usize },
     /// The magazine has more than half of all packets, in serial transmission.
     MostTraffic { mag: u8 },

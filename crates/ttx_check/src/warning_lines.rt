@@ -10,7 +10,7 @@ use std::alloc::AllocError;
 use ttx_digits::{push_decimal, push_id};
 use ttx_header::PageId;
 
-// What is said of warnings, after their places.
+// The words of warnings, after their places.
 const DEAD_INITIAL: &str = "info initial: the service has no such page";
 
 const HIDDEN_ROW: &str = ": double height in the row above hides it";
@@ -53,7 +53,7 @@ fn push_counted(
     text.push_str(after)
 }
 
-// Adds the place of a row, and what is said of it.
+// Adds the place of a row, and the words about it.
 #[tactic(auto, unfolding(crate::specs::WarningLines::row_text))]
 fn push_row(text: &mut String, page: PageId, row: u8, says: &str) -> Result<(), AllocError>
     ensures { OnOk result (string_bytes text.new ≡ string_bytes text.old ++ row_text page row ++ says.now) }
@@ -62,7 +62,7 @@ fn push_row(text: &mut String, page: PageId, row: u8, says: &str) -> Result<(), 
     push_counted(text, " row ", usize::from(row), says)
 }
 
-// Adds the place of a page, and what is said of it.
+// Adds the place of a page, and the words about it.
 fn push_page(text: &mut String, page: PageId, says: &str) -> Result<(), AllocError>
     ensures { OnOk result (string_bytes text.new ≡ string_bytes text.old ++ page_text page ++ says.now) }
 {
@@ -86,7 +86,7 @@ fn push_itself(text: &mut String, page: PageId, times: usize) -> Result<(), Allo
     push_counted(text, BEHIND_ITSELF, times, " times")
 }
 
-// Adds the place of a magazine, and what is said of it.
+// Adds the place of a magazine, and the words about it.
 #[tactic(auto, unfolding(crate::specs::WarningLines::magazine_text))]
 fn push_magazine(text: &mut String, mag: u8, says: &str) -> Result<(), AllocError>
     ensures { OnOk result (string_bytes text.new ≡ string_bytes text.old ++ magazine_text mag ++ says.now) }
@@ -94,7 +94,7 @@ fn push_magazine(text: &mut String, mag: u8, says: &str) -> Result<(), AllocErro
     push_counted(text, "magazine ", usize::from(mag), says)
 }
 
-// Adds what is said of a warning.
+// Adds the place and the words of a warning.
 fn push_text(text: &mut String, warning: Warning) -> Result<(), AllocError>
     ensures { OnOk result (string_bytes text.new ≡ string_bytes text.old ++ warning_text warning) }
 {
