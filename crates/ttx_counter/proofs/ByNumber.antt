@@ -1,4 +1,4 @@
--- Where a cycle has no other subpage of a page, a receiver that is set to the page's number makes the same of it.
+-- If a cycle has no other subpage of a page, a receiver that is set to the page's number does the same as one set to its id.
 use Rattle.std.proofs.Common.{◌≡◌, ℕ, zero, suc, ℤ, pos, ◌+ℤ◌, Bool, true, false, ◌&&◌, ◌==◌, if◌then◌else◌, List, slice_get, Some, refl, sym, ap}
 use Rattle.std.proofs.Common.{◌∙◌, subst}
 use Rattle.std.proofs.lemmas.Bool.{and_parts, true_from_ne_false}
@@ -31,7 +31,7 @@ numbered p (Links mag content) h = h
 numbered p Info h = h
 numbered p Other h = h
 
--- where the packet is a header of the number exactly where it is one of the page
+-- the packet is a header of the number if and only if it is one of the page
 same_after : (p : Page) (lines : ℕ) (m : Memory) (packet : Packet) → heads_matched (AnySub p.id.mag p.id.page) packet ≡ heads_page p.id packet →
     after Any lines (AnySub p.id.mag p.id.page) false m packet ≡ after Any lines (Exact p.id) false m packet
 same_after p lines m (Header id control text) e =

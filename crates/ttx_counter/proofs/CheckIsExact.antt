@@ -50,7 +50,7 @@ module _ (itself : EachByteIsNearItself) (turns : EachSlotTurns) (cycle : List (
   refuting_keeps r = E.keeps (repeated cycle) (slots_are turns cycle is) p.id c.start c.slots c.repeat keys each r.received
       r.with_hits.count (heard r) r.permitted
 
-  -- where they hold, the judgment decides
+  -- if they hold, the judgment decides
   decided : (wrong : Bool) → AreHitOnce keys → KeepsRule (repeated cycle) p.id c.start c.slots c.repeat keys →
       IsJudgedRun (repeated cycle) keys p c wrong → (wrong ≡ true) ↔ IsRefuting cycle p c
   decided wrong apart rule j = (
@@ -67,7 +67,7 @@ module _ (itself : EachByteIsNearItself) (turns : EachSlotTurns) (cycle : List (
         r.with_hits.count j.each (heard r)) v))),
   )
 
-  -- and where one of them doesn't, nothing is refuted
+  -- if one of them does not hold, nothing is refuted
   pub decided_within : (wrong : Bool) → AreHitOnce keys → IsJudgedWithin (repeated cycle) keys p c wrong → (wrong ≡ true) ↔ IsRefuting cycle p c
   decided_within wrong apart j = (
     (λ w. let rule = j.keeps w in (decided wrong apart rule (j.judged rule)).0 w),
@@ -104,7 +104,7 @@ pub refuting : (cycle : List (List ℕ)) (pages : List Page) (p : Page) (c : Cou
 refuting cycle pages p c here r = subst (λ q. IsRefuting cycle q c) (same_page pages c.page r.page p r.here here)
     (record { once = r.hits.once; received = r.received; with_hits = r.with_hits; permitted = r.permitted; wrong = r.wrong })
 
--- a page of the program in its list
+-- a page of the program, in its list
 pub page_here : (pages : List PageValue) (i : ℕ) (x : PageValue) → i < length pages → x ≡ get_or pages i x →
     slice_get (map page_of pages) i ≡ Some (page_of x)
 page_here [] i x lt e = absurd (omega arith)

@@ -15,7 +15,7 @@ use Rattle.ttx_certify.specs.Laws.{AcceptedIsSeen}
 use Rattle.ttx_counter.specs.Counters.{selection_for}
 use Rattle.ttx_counter.specs.Laws.{CounterRunsRefute, RefutedIsNotAccepted}
 
--- a page that stands at a place of a list is one
+-- a page at a place of a list is one of the list
 one_page : (pages : List Page) (n : ℕ) (p q : Page) → slice_get pages n ≡ Some p → slice_get pages n ≡ Some q → p ≡ q
 one_page pages n p q a b = cc
 

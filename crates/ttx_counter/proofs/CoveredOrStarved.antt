@@ -1,4 +1,4 @@
--- An item whose sure runs are all named is covered, or from some tuning slot on no sure run comes in time.
+-- If all sure runs of an item are named, they cover it, or from some tuning slot on none of them comes in time.
 use Rattle.std.proofs.Common.{◌≡◌, ◌⊎◌, ℕ, suc, ◌+◌, ◌-◌, ◌<◌, ◌≤◌, ℤ, pos, ◌+ℤ◌, ◌-ℤ◌, ◌<ℤ◌, ◌≤ℤ◌, List, [], ◌∷◌, length, get_or, Option, Some, None}
 use Rattle.std.proofs.Common.{refl, ap, subst, inl, inr, arith}
 use Rattle.std.specs.Prelude.{nat_lt}
@@ -87,7 +87,7 @@ module _ (laws : DecidingLaws) (cycle : List (List ℕ)) (some : 0 < length cycl
       (λ e. (start_at (i + 1) (grind (arith, nat_tests))).1)
       (λ e. (laws.move s (pos n) (laws.again cycle some)).run p.id w.lines w.repeat item (pos (get_or starts 0 0)) (start_at 0 (omega arith)).1)
 
-  -- where the next run comes too late after a named start, none comes in time from the slot after its owner on
+  -- if the next run comes too late after a named start, none comes in time from the slot after its owner on
   pub late_none : (i : ℕ) → (late : IsLate (IsOwned s p.id item) n (suc k) (limit w) starts i) →
       IsSent s p.id w.lines w.repeat item (late.owner +ℤ pos 1) ((late.owner +ℤ pos 1) +ℤ pos (limit w)) → ⊥
   late_none i late = none
@@ -138,7 +138,7 @@ module _ (laws : DecidingLaws) (cycle : List (List ℕ)) (some : 0 < length cycl
                 }
           ]))
 
-  -- with no sure run there is none from slot 0 on
+  -- without a sure run there is none from slot 0 on
   pub start_none : length starts ≡ 0 → IsSent s p.id w.lines w.repeat item (pos 0) (pos 0 +ℤ pos (limit w)) → ⊥
   start_none empty x = let c = named_at x.first (sure_of _ _ x) in let lt = c.1 in omega arith
 

@@ -1,4 +1,4 @@
--- What is received with hits is within the error rule exactly where the hits keep the rule of k.
+-- What is received with hits is within the error rule if and only if the hits keep the rule of k.
 use Rattle.std.proofs.Common.{◌≡◌, ℕ, ◌<◌, ◌^◌, ℤ, pos, ◌+ℤ◌, true, false, List, [], ◌∷◌, length, get_or, sym, ◌∙◌, subst, inl, inr, arith}
 use Rattle.std.specs.List.{AllByRecursion}
 use Rattle.std.proofs.lemmas.Int.{ints}

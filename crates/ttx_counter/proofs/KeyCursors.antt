@@ -41,7 +41,7 @@ module _ (keys : List ℕ) where
   pub cursor_begins : IsCursor keys 0 0
   cursor_begins = record { within = omega arith; before = λ i lt. absurd (omega arith); after = λ i a b. omega arith }
 
-  -- no byte of a slot stands twice
+  -- no byte of a slot is hit twice
   pub own_bytes : AreHitOnce keys → (n from to : ℕ) → AreSlotKeys keys n from to → (i j : ℕ) → from ≤ i → i < j → j < to →
       byte_in (key_at keys i) ≡ byte_in (key_at keys j) → ⊥
   own_bytes apart n from to s i j low lt high e =

@@ -1,4 +1,4 @@
--- Named starts in their order: none lies between one and the next.
+-- Named starts in order: none is between one and the next.
 use Rattle.std.proofs.Common.{◌≡◌, ℕ, zero, suc, ◌+◌, ◌-◌, ◌%◌, ◌<◌, ◌≤◌, ℤ, pos, negsuc, ◌+ℤ◌, ◌<ℤ◌, ◌≤ℤ◌, Bool, true, false, if◌then◌else◌}
 use Rattle.std.proofs.Common.{List, length, get_or, refl, sym, ap, ◌∙◌, inl, inr, arith}
 use Rattle.std.specs.Prelude.{nat_lt}
@@ -12,7 +12,7 @@ use Rattle.ttx_page.specs.Streams.{turned}
 use Rattle.ttx_witness.specs.runs.Confirming.{Rising}
 use Rattle.ttx_witness.specs.runs.Repeating.{next_start}
 
--- a list's places of a rising list are in the order of what stands there
+-- in a rising list, places are in the order of the elements
 below_at : (starts : List ℕ) → Rising starts → (i j : ℕ) → i < length starts → get_or starts i 0 < get_or starts j 0 → i < j
 below_at starts rising i j inside lt = elim (cases_lt i j) as (λ _. i < j) [
   | inl h ↦ h
@@ -74,7 +74,7 @@ module _ (n : ℕ) (starts : List ℕ) (rising : Rising starts) (i : ℕ) (insid
         | inr ge ↦ omega (arith, ints)
       ])
 
-  -- what stands after a named start in the place of a named start isn't before the next one
+  -- a named start after another one is not before the next one
   pub next_at_most : ((j : ℕ) → j < length starts → at j < n) → (z : ℤ) → pos (at i) <ℤ z → Contains starts (turned n z) → next_start n starts i ≤ℤ z
   next_at_most all (pos a) lt c = at_number a (omega (arith, ints)) all c
   next_at_most all (negsuc a) lt c = absurd (omega (arith, ints))

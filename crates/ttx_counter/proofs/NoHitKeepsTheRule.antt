@@ -1,4 +1,4 @@
--- Where no bit is hit, the rule of k is kept.
+-- If no bit is hit, the rule of k is kept.
 use Rattle.std.proofs.Common.{◌≡◌, ℕ, ◌≤◌, ℤ, pos, ◌-ℤ◌, false, List, [], ◌∷◌, length, nat_abs, refl, inl, arith}
 use Rattle.std.proofs.lemmas.Int.{ints}
 use Rattle.ttx_header.specs.Ids.{Id}

@@ -1,4 +1,4 @@
--- What a receiver doesn't take leaves what it shows.
+-- A packet that a receiver does not take does not change what it shows.
 use Rattle.std.proofs.Common.{◌≡◌, ℕ, Bool, true, false, ◌&&◌, ◌||◌, if◌then◌else◌, not, ◌==◌, List, refl, ap, ◌∙◌}
 use Rattle.std.proofs.lemmas.Bool.{or_parts, both_ways}
 use Rattle.ttx_header.specs.Control.{c11}
@@ -14,7 +14,7 @@ use Rattle.ttx_render.specs.Laws.{ContentsDecide}
 use Rattle.ttx_render.specs.View.{view_of}
 use Rattle.ttx_counter.specs.Sources.{is_under, takes_from}
 
--- what is shown of two memories is alike
+-- two memories show the same
 pub record IsAlike (m n : Memory) : Type 0 where
   pub rows : n.rows ≡ m.rows
   pub control : n.control ≡ m.control
@@ -23,7 +23,7 @@ pub record IsAlike (m n : Memory) : Type 0 where
 same : (m : Memory) → IsAlike m (older m)
 same m = record { rows = refl; control = refl; links = refl }
 
--- a test that fails leaves the memory
+-- a failed test leaves the memory unchanged
 left : (b c : Bool) (x m : Memory) → b ≡ false → IsAlike m (if b && c then x else older m)
 left true c x m h = absurd (both_ways _ h refl)
 left false c x m h = same m
@@ -47,12 +47,12 @@ pub untaken : (lines : ℕ) (sel : Selection) (m : Memory) (packet : Packet) →
     IsAlike m (after Any lines sel false (older m) packet)
 untaken lines sel m packet h = by_kind lines sel m packet ((or_parts (heads_matched sel packet) _ h).0) ((or_parts (heads_matched sel packet) _ h).1)
 
--- so its View is the same
+-- then its View is unchanged
 pub unseen : ContentsDecide → (lines : ℕ) (sel : Selection) (m new : Memory) (packet : Packet) → takes_from sel m packet ≡ false → new
     ≡ after Any lines sel false (older m) packet → view_of new ≡ view_of m
 unseen law lines sel m new packet h e = let a = untaken lines sel m packet h in ap view_of e ∙ law _ m a.rows a.control a.links
 
--- the packet of a slot by its kind
+-- the packet of a slot, by its kind
 pub packet_from : (slot : List ℕ) (k : Kind) → kind_of slot ≡ k → packet_of slot ≡ packet_of_kind slot k
 unfolding packet_of
 packet_from slot k e = ap (packet_of_kind slot) e

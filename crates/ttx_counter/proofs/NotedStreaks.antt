@@ -13,7 +13,7 @@ use Rattle.ttx_counter.specs.declared.streaks.Streak.{Streak}
 abbrev pub byte_at : List ℕ → ℕ → ℕ
 byte_at keys i = byte_in (key_at keys i)
 
--- below the next number: below this one, or it
+-- below the next number: below this one, or equal to it
 cases_next : (a i : ℕ) → a < i + 1 → (a < i) ⊎ (i ≡ a)
 cases_next a i lt = elim (cases_lt a i) as (λ _. (a < i) ⊎ (i ≡ a)) [ inl h ↦ inl h | inr h ↦ inr (omega arith) ]
 
@@ -158,7 +158,7 @@ module _ (sent wrong : ℕ → ℕ → Bool) (k n : ℕ) (latest : List ℕ) (ce
   unfolding streak_to
   missed r x e f = let s : n + 1 ≡ suc n = omega arith in ap (λ z. streak_to (sent r) (wrong x) z) s ∙ rw (e, f) refl
 
-  -- a row that isn't sent keeps its streaks
+  -- a row that is not sent keeps its streaks
   kept : (new : List ℕ) (more : List Streak) (r x : ℕ) → r < 25 → is_text r x ≡ true → AreStreaks sent wrong k n latest cells → sent r n
       ≡ false → get_or new r 0 ≡ get_or latest r 0 → cell_at more r x ≡ cell_at cells r x →
       IsCell (streak_to (sent r) (wrong x) (n + 1)) (get_or new r 0) (cell_at more r x)

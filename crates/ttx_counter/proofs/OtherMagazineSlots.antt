@@ -1,4 +1,4 @@
--- A slot that doesn't concern a receiver's magazine is to it as an empty one.
+-- A slot of another magazine has the same effect on a receiver as an empty one.
 use Rattle.std.proofs.Common.{◌≡◌, ℕ, Bool, true, false, ◌&&◌, if◌then◌else◌, not, ◌==◌, replicate, refl, sym, ap, ◌∙◌, ne_eqb}
 use Rattle.ttx_header.specs.Control.{c11}
 use Rattle.ttx_packet.specs.Slots.{kind_of}
@@ -13,7 +13,7 @@ use Rattle.ttx_page.specs.Streams.{heads_matched}
 use Rattle.ttx_counter.specs.Magazines.{magazine_in}
 use Rattle.ttx_counter.specs.Sources.{is_under, takes_from}
 
--- a header of another magazine isn't matched
+-- a header of another magazine does not match
 unmatched : (sel : Selection) (packet : Packet) → (magazine_in packet ≡ selected_mag sel → ⊥) → heads_matched sel packet ≡ false
 unmatched (Exact page) (Header id control text) ne = let e : (page.mag == id.mag) ≡ false = ne_eqb page.mag id.mag (λ e. ne (sym e))
     in ap (λ b. b && (page.page == id.page) && (page.sub == id.sub)) e
@@ -35,7 +35,7 @@ not_of sel Unreadable ne = refl
 not_of sel Info ne = refl
 not_of sel Other ne = refl
 
--- nothing is taken of it
+-- nothing of it is taken
 pub not_taken : (sel : Selection) (m : Memory) (packet : Packet) → (magazine_in packet ≡ selected_mag sel → ⊥) → takes_from sel m packet ≡ false
 not_taken sel m packet ne = rw (unmatched sel packet ne) (rw (not_of sel packet ne) refl)
 

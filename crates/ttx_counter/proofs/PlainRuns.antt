@@ -88,7 +88,7 @@ unchanged : (m x : Memory) (b : Bool) → b ≡ false → m.storing ≡ false �
 unchanged m x true h off = absurd (both_ways _ h refl)
 unchanged m x false h off = (off, refl)
 
--- one slot that is no header of the page
+-- a slot that is not a header of the page
 still : (p : Page) (lines : ℕ) (m : Memory) (pk : Packet) → heads_page p.id pk ≡ false → m.storing ≡ false → let new =
     after Any lines (Exact p.id) false m pk in (new.storing ≡ false) × (new.links ≡ m.links)
 still p lines m (Header id control text) no_head off = rw no_head (other (id.mag == p.id.mag) (c11 control))
@@ -200,7 +200,7 @@ from_period repeat cycle some lines sel m q n =
     sym (ap (λ t. plain_from lines sel m (repeated cycle) t n) e)
     ∙ plain_later lines sel (repeated cycle) (pos (q * length cycle)) (same_on repeat cycle some q) n m (pos 0)
 
--- one period more
+-- one more period
 pub period_more : (lines : ℕ) (sel : Selection) (s : Stream) (m now : Memory) (i n : ℕ) → now
     ≡ plain_from lines sel m s (pos 0) (i * n) → plain_from lines sel now s (pos (i * n)) n
     ≡ plain_from lines sel m s (pos 0) ((i + 1) * n)
@@ -214,7 +214,7 @@ dist a b n = omega arith
 mul_rest : (i q n : ℕ) → i ≤ q → i * n + (q - i) * n ≡ q * n
 mul_rest i q n le = let e : i + (q - i) ≡ q = omega arith in dist i (q - i) n ∙ ap (λ x. x * n) e
 
--- where a period gives the memory back, so do all later ones
+-- if a period leaves the memory as it was, so do all later ones
 pub settled : CyclesRepeat → (cycle : List (List ℕ)) → 0 < length cycle →
     (lines : ℕ) (sel : Selection) (m now next : Memory) (i q : ℕ) → i ≤ q → now
     ≡ plain_from lines sel m (repeated cycle) (pos 0) (i * length cycle) →
@@ -243,7 +243,7 @@ plain_step old now new s tau i slot at memory selection lines step =
     ∙ ap (λ x. after Any old.lines old.selection false (older (plain_from old.lines old.selection old.memory s tau i)) (packet_of x)) (sym at)
     ∙ sym (plain_next old.lines old.selection s old.memory tau i)
 
--- the same with the period as the code has it, and the settings as they are after some slots
+-- the same, with the period and the settings as the code has them
 pub settled_at : CyclesRepeat → (cycle : List (List ℕ)) → 0 < length cycle → (old now : Tuned) (next : Memory) (i q n : ℕ) → n
     ≡ length cycle → i ≤ q → now.selection ≡ old.selection → now.lines ≡ old.lines →
     now.memory ≡ plain_from old.lines old.selection old.memory (repeated cycle) (pos 0) (i * n) →
@@ -298,7 +298,7 @@ numbers_of w is = record {
   few_fields = is.few_fields;
 }
 
--- a run without hits and choices is one with the certificate's numbers
+-- a run without hits and choices, with the certificate's numbers
 pub plain_to : (cycle : List (List ℕ)) (pages : List Page) (w : Certificate) (index : ℕ) (any_sub : Bool) (former : Memory) (n : ℕ)
     (run : CounterRun) →
     run ≡ plain_counter index any_sub former w.lines w.repeat w.deadline n → IsCounterRun cycle pages run → IsCounterTo cycle pages w run
@@ -309,7 +309,7 @@ plain_to cycle pages w index any_sub former n run made is = record {
   deadline = ap (λ (r : CounterRun). r.deadline) made;
 }
 
--- what a search for plain runs gives
+-- what a search for plain runs returns
 pub found : PlainRunsAreCounterRuns → (cycle : List (List ℕ)) → IsCycle cycle →
     (pages : List Page) (p : Page) (index : ℕ) (any_sub : Bool) (sel : Selection) (former : Memory) (lines repeat deadline n : ℕ)
     (run : CounterRun) →

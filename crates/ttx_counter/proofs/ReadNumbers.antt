@@ -48,7 +48,7 @@ over : (n b : ℕ) (rest : List ℕ) → is_digit b ≡ false → numbers_after 
 unfolding numbers_after
 over n b rest h = rw h refl
 
--- a number that a space or the end of the line follows
+-- a number that is followed by a space or the end of the line
 ended : (n b : ℕ) (rest : List ℕ) → n < 2 ^ 32 → is_digit b ≡ false → line_numbers (decimal n ++ (b ∷ rest)) ≡ n ∷ line_numbers (b ∷ rest)
 ended n b rest small h =
     let same : at_most 4294967295 n ≡ n = omega arith in
@@ -63,7 +63,7 @@ numbers (n ∷ m ∷ ns) rest small =
     ∙ ended n 32 ((decimal m ++ numbers_text ns) ++ (10 ∷ rest)) small.0 refl
     ∙ ap (λ xs. n ∷ xs) (numbers (m ∷ ns) rest small.1)
 
--- a word without digits says nothing
+-- a word without digits has no number
 abbrev IsPlain : List ℕ → Type 0
 IsPlain key = (rest : List ℕ) → line_numbers (key ++ rest) ≡ line_numbers rest
 
@@ -125,7 +125,7 @@ state m rest c a =
     (line (codes "age") (m.age ∷ []) (ld ++ rest) (λ t. refl) (omega arith, tt)
     ∙ ap (λ xs. m.age ∷ xs) (line (codes "fresh") (yes_as_one m.fresh ∷ []) rest (λ t. refl) (bit_small m.fresh, tt))))
 
--- the word `row-24` holds a number
+-- the word `row-24` has a number
 row_24 : (m : Memory) (rest : List ℕ) → line_numbers (line_text (codes "row-24") (yes_as_one m.links.show24 ∷ []) ++ rest) ≡ 24
     ∷ yes_as_one m.links.show24 ∷ line_numbers rest
 unfolding numbers_after
@@ -143,7 +143,7 @@ links m rest small =
     ∙ row_24 m (line_text (codes "links") (links_numbers m.links.six) ++ rest)
     ∙ ap (λ xs. 24 ∷ yes_as_one m.links.show24 ∷ xs) (line (codes "links") (links_numbers m.links.six) rest (λ t. refl) small)
 
--- rows one after another
+-- row after row
 abbrev pub joined : List (List ℕ) → List ℕ
 joined [] = []
 joined (row ∷ rows) = row ++ joined rows
@@ -182,7 +182,7 @@ hits : (hs : List Hit) (rest : List ℕ) → length hs < 2 ^ 32 → AreSmall (hi
     ≡ length hs ∷ (hits_numbers hs ++ line_numbers rest)
 hits hs rest few small = line (codes "hits") (length hs ∷ hits_numbers hs) rest hits_plain (few, small)
 
--- what the numbers of a counter-run's text are
+-- the numbers in a counter-run's text
 abbrev pub numbers_of : CounterRun → List ℕ
 numbers_of c =
     1 ∷ c.lines ∷ c.repeat ∷ c.deadline ∷ c.page ∷ yes_as_one c.any_sub ∷ c.start ∷ c.slots ∷ c.former.control

@@ -8,7 +8,7 @@ use Rattle.ttx_links.specs.Sets.{LinkSet}
 use Rattle.ttx_counter.specs.Counters.{Hit}
 use Rattle.ttx_counter.specs.CounterReading.{at_most, closed, characters_in, read_rows, hit_of, hits_in}
 
--- a number that has ended stands before the others
+-- a number that has ended comes before the others
 pub closed_more : (begun : Option ℕ) (xs : List ℕ) → closed begun xs ≡ closed begun [] ++ xs
 closed_more None xs = refl
 closed_more (Some n) xs = refl
@@ -103,7 +103,7 @@ unfolding hits_in
 no_hits zero ns e = refl
 no_hits (suc n) ns e = absurd (omega arith)
 
--- hits, three numbers after three numbers
+-- hits, three numbers each
 pub hits_begin : (count : ℕ) (ns : List ℕ) (done : List Hit) → done ≡ [] → hits_in count ns ≡ done ++ hits_in (count - 0) (drop (3 * 0) ns)
 hits_begin count ns done is =
     let e : count - 0 ≡ count = omega arith in

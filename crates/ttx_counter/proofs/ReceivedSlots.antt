@@ -30,7 +30,7 @@ unfolding script_after
 script_more r [] slot = refl
 script_more r (x ∷ received) slot = script_more (script_step r x) received slot
 
--- a receiver's script is that of the definitions
+-- the program's receiver with a script is that of the definitions
 pub script_memory : (r : Script) (received : List (List ℕ)) → (script_after r received).tuned.memory
     ≡ scripted Any r.tuned.lines r.tuned.selection r.choices r.tuned.memory received
 unfolding script_after

@@ -21,7 +21,7 @@ use Rattle.ttx_counter.specs.declared.streaks.Streak.{Streak}
 use Rattle.ttx_counter.proofs.SentRows.{IsMine, IsNumbered, numbered, mine_right, sent_right}
 use Rattle.ttx_counter.proofs.KeyCursors.{hit_here, not_hit}
 
--- what one slot tells
+-- what one slot sends and which of its bytes are wrong
 pub tells : (keys : List ℕ) → IsNonDecreasing keys → (n from to : ℕ) → IsCursor keys n from → AreSlotKeys keys n from to →
     (page : Id) (s : Stream) (tau : ℤ) (mine : Bool) (row : Option ℕ) → row ≡ row_from page s tau mine n →
     TellsSlot (sends_row page s tau mine) (is_hit keys) row keys from to n
@@ -50,7 +50,7 @@ module _ (law : RowsAreNumbered) (decide : StreaksDecide) (s : Stream) (page : I
   told r i lt = sent_right s page (pos start +ℤ pos i) (mine_from page s (pos start) mine i)
       (mine_right s page (pos start) mine known i) (numbered law (s (pos start +ℤ pos i))) r
 
-  -- no packet carries a row that has no number
+  -- no packet carries a row whose number is out of range
   carries_number : (r : ℕ) (p : Packet) → IsNumbered p → carries page.mag (TheRow r) p ≡ true → (1 ≤ r) × (r ≤ 24)
   carries_number r (Row m number text) a h = let e : number ≡ r = eqb-true number r (use_and (m == page.mag) (number == r) h)
       in (let b = a.0 in omega arith, let b = a.1 in omega arith)

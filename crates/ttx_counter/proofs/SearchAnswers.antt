@@ -1,4 +1,4 @@
--- What the search for counter-runs answers, page by page.
+-- The answers of the search for counter-runs, page by page.
 use Rattle.std.proofs.Common.{◌≡◌, ◌⊎◌, ◌↔◌, ℕ, zero, suc, ◌+◌, ◌<◌, pos, Bool, true, false, ◌&&◌, List, [], ◌∷◌, length, map, slice_get, Option}
 use Rattle.std.proofs.Common.{Some, None, Result, Ok, Err, IfOk, refl, sym, ap, ◌∙◌, subst, inl, inr, arith, leb-true}
 use Rattle.std.specs.List.{Contains}
@@ -48,7 +48,7 @@ pub ok_map : {A E : Type 0} (P Q : A → Type 0) (r : Result A E) → ((a : A) �
 ok_map P Q (Ok a) f h = f a h
 ok_map P Q (Err e) f h = h
 
--- a page that stands at a place of a list is one
+-- a page at a place of a list is one of the list
 one_page : (pages : List Page) (n : ℕ) (p q : Page) → slice_get pages n ≡ Some p → slice_get pages n ≡ Some q → p ≡ q
 one_page pages n p q a b = cc
 
@@ -91,7 +91,7 @@ module _ (cycle : List (List ℕ)) (pages : List Page) (w : Certificate) where
     deadline = ap (λ (x : CounterRun). x.deadline) made ∙ ed;
   }
 
-  -- it is of the page at the index, which no certificate of these numbers covers
+  -- it is of the page at the index, which no certificate with these numbers covers
   pub starved_of : StarvingIsCounterRun → (p : Page) (index : ℕ) → slice_get pages index ≡ Some p → IsCycle cycle → IsPage p →
       IsCertificate w → IsClean cycle → Steady (repeated cycle) pages p →
       (item : Item) (start : ℕ) → TellsNeeded cycle p w item (Some start) →
@@ -157,7 +157,7 @@ module _ (cycle : List (List ℕ)) (pages : List Page) (w : Certificate) where
       (plain cycle pages p index false former w.lines w.repeat w.deadline (limit w) is_cycle here refl memory (numbers_of w is) (omega arith)
       (absent (repeated cycle) p former w.lines (limit w) none refl (other_is p.links.six) (pos 0))))
 
-  -- a page without a header isn't sent well
+  -- a page without a header is not sent well
   pub absent_of : AbsentPagesAreWrong → PlainRunsAreCounterRuns → IsCycle cycle → IsCertificate w → (p : Page) (index : ℕ) →
       slice_get pages index ≡ Some p → HasNoHeader (repeated cycle) p →
       IsMemory (wrong_memory p TheLinks) → (run : CounterRun) → run
@@ -217,7 +217,7 @@ module _ (cycle : List (List ℕ)) (pages : List Page) (w : Certificate) where
   }
 
   module _ (law : SteadyHasNoFault) (p : Page) (fault : Option Reason) (is : IsPageFault cycle pages p fault) (there : is_absent fault ≡ false) where
-    -- a fault, or a slot that isn't clean: nothing is asked of its coverage
+    -- with a fault, or a slot that is not clean, coverage is not asked for
     pub well_unless : (clean : Bool) → (clean ≡ true) ↔ IsClean cycle → (clean ≡ false) ⊎ (is_some fault ≡ true) → (q : Page) → p ≡ q →
         IsSentWell cycle pages q w
     well_unless clean told why q same = subst (λ x. IsSentWell cycle pages x w) same (record {
@@ -309,7 +309,7 @@ module _ (cycle : List (List ℕ)) (pages : List Page) (w : Certificate) where
     first_of_plain None e t None u = tt
     first_of_plain None e t (Some c) u = inr (t, u.1)
 
-    -- where all is sent unchanged a counter-run is found exactly where no certificate of class any with these numbers is accepted
+    -- if all is sent unchanged, a counter-run is found if and only if no certificate of class any with these numbers is accepted
     pub exact_told : FullestNamesAll → FurtherStartsCover → RefutedIsNotAccepted → IsCycle cycle → ArePages pages → IsCertificate w →
         w.class ≡ Any → (o : Option C) → TellsCounter run cycle pages w o →
         IsSentUnchanged cycle pages → (is_some o ≡ true) ↔ (CanBeAccepted cycle pages Any w.lines w.repeat w.deadline → ⊥)
@@ -340,7 +340,7 @@ module _ (cycle : List (List ℕ)) (pages : List Page) (w : Certificate) where
       }))),
     )
       where
-        -- what one certificate covers, the fullest one does
+        -- what some certificate covers, the fullest one covers
         by_fullest : (p : Page) (item : Item) → needed p item ≡ true → IsCoveredByOne cycle p w → IsCovered cycle p (fullest cycle w) item
         by_fullest p item need one =
             let f = names cycle is_cycle w is in

@@ -1,4 +1,4 @@
--- Of a clean cycle, a steady page that is seen is covered.
+-- In a clean cycle, a steady page that is seen is covered.
 use Rattle.std.proofs.Common.{◌≡◌, ℕ, ◌*◌, ◌≤◌, ℤ, Bool, true, false, ◌&&◌, List, [], length, refl, sym, ap, ◌∙◌, subst, inl, inr, arith, eq-eqb}
 use Rattle.std.proofs.lemmas.List.Elements.{All-get_or}
 use Rattle.std.proofs.lemmas.Bool.{and_from}
@@ -109,7 +109,7 @@ seen_is_covered laws cycle pages p w is_cycle page is any clean steady seen = re
   covered = fullest_covers laws cycle pages p w is_cycle page is any clean steady seen;
 }
 
--- what is seen with some numbers is seen with the same numbers, whatever starts are named
+-- what is seen with some numbers is seen with these numbers, whatever starts are named
 seen_same : (cycle : List (List ℕ)) (pages : List Page) (p : Page) (v w : Certificate) → v.class ≡ w.class → v.lines ≡ w.lines →
     v.repeat ≡ w.repeat → v.deadline ≡ w.deadline →
     Seen cycle pages p v → Seen cycle pages p w
@@ -142,7 +142,7 @@ seen_exactly_where_accepted laws headline cycle pages w is_cycle are_pages is an
       (headline cycle pages can.w is_cycle are_pages can.is can.accepted n p here)),
 )
 
--- a certificate, with another deadline
+-- a certificate with another deadline
 with_deadline : (w : Certificate) (d : ℕ) → IsCertificate w → 1 ≤ d → d ≤ 1000000 → IsCertificate (record w { deadline = d })
 with_deadline w d is some few = record {
   some_lines = is.some_lines;

@@ -69,7 +69,7 @@ module _ (s : Stream) (page : Id) where
         (λ ge. let e : o.slot ≡ j = let a = o.latest.earlier in omega (arith, ints) in subst (λ x. heads_page page (pk x) ≡ true) e o.own)),
   )
 
-  -- no header of it
+  -- a packet that is not a header of it
   pub later : (j : ℤ) → heads page.mag (pk j) ≡ false → HasOwner s page j ↔ HasOwner s page (j +ℤ pos 1)
   later j isnt = (
     (λ o. record {
@@ -110,7 +110,7 @@ module _ (s : Stream) (page : Id) where
       let e : (tau +ℤ pos n) +ℤ pos 1 ≡ tau +ℤ pos (suc n) = omega (arith, ints) in
       subst (λ x. IsMine x (mine_from page s tau mine (suc n))) e (mine_step (tau +ℤ pos n) (mine_from page s tau mine n) (mine_right tau mine a n))
 
-  -- from a slot on where the owner isn't known
+  -- from a slot on at which the owner is not known
   pub record IsNone (tau : ℤ) (n : ℕ) (mine : Bool) : Type 0 where
     pub unset : mine ≡ false
     pub none : (i : ℤ) → tau ≤ℤ i → i <ℤ (tau +ℤ pos n) → heads page.mag (pk i) ≡ false
@@ -134,7 +134,7 @@ module _ (s : Stream) (page : Id) where
         | inr a ↦ inr (subst (λ x. IsMine x (mine_from page s tau false (suc n))) e1 (mine_step (tau +ℤ pos n) (mine_from page s tau false n) a))
       ]
 
-  -- a whole period later it is known
+  -- a whole period later, when it is known
   pub known : (n : ℕ) → ((i : ℤ) → s (i +ℤ pos n) ≡ s i) → 1 ≤ n → (tau : ℤ) → IsMine (tau +ℤ pos n) (mine_from page s tau false n)
   known n period some tau = elim (scanned tau n) as (λ _. IsMine (tau +ℤ pos n) (mine_from page s tau false n)) [
     | inr a ↦ a
@@ -199,7 +199,7 @@ slot_at cycle start i place e =
     let q : pos start +ℤ pos i ≡ pos (start + i) = omega (arith, ints) in
     ap (repeated cycle) q ∙ ap (λ n. get_or cycle n []) (sym e)
 
--- and a period before
+-- and those of the period before
 pub slot_before : CyclesRepeat → (cycle : List (List ℕ)) → 0 < length cycle → (start i place : ℕ) → place ≡ (start + i) % length cycle →
     repeated cycle ((pos start -ℤ pos (length cycle)) +ℤ pos i) ≡ get_or cycle place []
 slot_before repeat cycle some start i place e =

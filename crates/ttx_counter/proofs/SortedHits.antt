@@ -1,4 +1,4 @@
--- Hits and their sorted numbers say the same.
+-- Hits and their sorted numbers describe the same bits.
 use Rattle.std.proofs.Common.{◌≡◌, ◌⊎◌, ℕ, ◌+◌, ◌*◌, ◌<◌, List, length, get_or, map, refl, sym, ap, ◌∙◌, subst, inl, inr, arith}
 use Rattle.std.specs.List.{All, AllPairs, Contains, swap}
 use Rattle.std.specs.Prelude.{IsPermutation}
@@ -15,7 +15,7 @@ use Rattle.ttx_counter.proofs.KeyCursors.{parts}
 no_hit : Hit
 no_hit = record { index = 0; byte = 0; bit = 0 }
 
--- the places of any two differ, whichever comes first
+-- any two differ in place, whichever comes first
 AreAll : List ℕ → Type 0
 AreAll l = (i j : ℕ) → i < length l → j < length l → (i ≡ j → ⊥) → byte_place (get_or l i 0) ≡ byte_place (get_or l j 0) → ⊥
 
@@ -27,7 +27,7 @@ apart_from : (l : List ℕ) → AreAll l → AreHitOnce l
 unfolding AreAll
 apart_from l a i j lt q e = a i j (omega arith) q (λ h. absurd (omega arith)) e
 
--- where a place of a swapped list stood before
+-- the place in the list before a swap
 moved : (l : List ℕ) (a b : ℕ) → a < length l → b < length l → (i : ℕ) → i < length l → (k : ℕ) × (k < length l)
     × (get_or (swap l a b) i 0 ≡ get_or l k 0)
     × (((i ≡ a) × (k ≡ b)) ⊎ ((i ≡ b) × (k ≡ a)) ⊎ ((i ≡ a → ⊥) × (i ≡ b → ⊥) × (k ≡ i)))

@@ -26,7 +26,7 @@ use Rattle.ttx_counter.specs.Completeness.{StarvesFrom, StarvesInPeriod, Starvin
 use Rattle.ttx_counter.proofs.FullestCertificate.{any_to, any_from}
 use Rattle.ttx_counter.proofs.SeenIsCovered.{SeeingLaws, steady_from, exact_matches}
 
--- from a tuning slot that is taken into the first period
+-- from a tuning slot that is moved into the first period
 pub starves_turned : EachSlotTurns → StreamsMove → (cycle : List (List ℕ)) → 0 < length cycle → (p : Page) (w : Certificate) (item : Item) (tau : ℤ) →
     (IsSent (repeated cycle) p.id w.lines w.repeat item tau (tau +ℤ pos (limit w)) → ⊥) → StarvesFrom cycle p w item (turned (length cycle) tau)
 starves_turned turn move cycle some p w item tau none =

@@ -1,4 +1,4 @@
--- Where a receiver is starved of an item from, as one pass over a period tells it.
+-- From which slot on a receiver is starved of an item, as one pass over a period finds it.
 use Rattle.std.proofs.Common.{◌≡◌, ◌↔◌, ℕ, zero, suc, ◌-◌, ◌<◌, ◌≤◌, ℤ, pos, ◌+ℤ◌, ◌<ℤ◌, ◌≤ℤ◌, Bool, true, false, ◌==◌, List, [], ◌∷◌, length, Some}
 use Rattle.std.proofs.Common.{None, refl, sym, ap, ◌∙◌, subst, inl, inr, arith, eqb-true}
 use Rattle.std.specs.List.{Contains, AllByRecursion}
@@ -44,7 +44,7 @@ starts_are_judged laws cycle some p w item repeats rising names = record {
       (starves_turned laws.turn laws.move cycle some p w item (l.2.owner +ℤ pos 1) (late_none laws cycle some p w item repeats rising names l.0 l.2));
 }
 
--- each of a list is told, and the list has each
+-- each element of a list, and the list of all
 lists_tell : (P : ℤ → Type 0) (Is : Transmission → Type 0) (low high : ℤ) (ts : List Transmission) → Lists slot_of P Is low high ts →
     (t : Transmission) → Contains ts t → Is t
 lists_tell P Is low high [] l t c = absurd (let lt = c.1 in omega arith)

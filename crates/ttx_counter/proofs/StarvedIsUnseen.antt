@@ -1,4 +1,4 @@
--- A receiver that is starved of an item hasn't the page's View.
+-- A receiver that is starved of an item does not have the page's View.
 use Rattle.std.proofs.Common.{◌≡◌, ◌≢◌, ℕ, ◌≤◌, zero, suc, ◌<◌, Bool, true, false, ◌==◌, List, [], ◌∷◌, Option, Some, None, get_or, refl, sym, ap}
 use Rattle.std.proofs.Common.{◌∙◌, subst, inl, inr, arith, eqb-true, eq-eqb, leb-true}
 use Rattle.std.specs.Prelude.{◌&&◌}
@@ -55,7 +55,7 @@ starved_is_unseen shown seen s p sel lines repeat (TheRow (suc r)) tau n former 
 starved_is_unseen shown seen s p sel lines repeat TheLinks tau n former m received page need st view =
     other_is p.links.six (sym (ap (λ l. l.six) st.wrong) ∙ view.links)
 
--- A counter-run refutes that a page is seen.
+-- a counter-run refutes that a page is seen
 pub counter_is_unseen : CounterIsUnseen
 counter_is_unseen cycle pages p w c seen =
     c.wrong (seen.shown c.sel c.fits c.tau c.former c.memory c.received c.is_former c.permitted (omega (arith, c.size)) c.run)

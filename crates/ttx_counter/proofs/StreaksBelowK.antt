@@ -1,4 +1,4 @@
--- Streaks below k say the rule of k.
+-- Streaks below k are equivalent to the rule of k.
 use Rattle.std.proofs.Common.{◌≡◌, ◌⊎◌, ◌↔◌, ℕ, zero, suc, ◌+◌, ◌-◌, ◌<◌, ◌≤◌, ℤ, pos, ◌+ℤ◌, ◌-ℤ◌, ◌<ℤ◌, ◌≤ℤ◌, Bool, true, false, List, [], ◌∷◌}
 use Rattle.std.proofs.Common.{length, refl, ap, ◌∙◌, subst, inl, inr, arith}
 use Rattle.std.specs.List.{AllByRecursion}
@@ -51,7 +51,7 @@ module _ (s : Stream) (page : Id) (item : Item) (tau : ℤ) (sent wrong : ℕ �
   unsent : (i : ℕ) → i < n → (P (tau +ℤ pos i) → ⊥) → sent i ≡ false
   unsent i lt none = elim (cases_Bool (sent i)) as (λ _. sent i ≡ false) [ inl e ↦ absurd (none ((told i lt).0 e)) | inr e ↦ e ]
 
-  -- where nothing is sent it stays
+  -- where nothing is sent, the streak stays
   quiet : (d i : ℕ) → i + d ≤ n → ((x : ℕ) → i ≤ x → x < i + d → P (tau +ℤ pos x) → ⊥) → streak (i + d) ≡ streak i
   quiet zero i le none = ap (λ m. streak_to sent wrong m) (let e : i + 0 ≡ i = omega arith in e)
   quiet (suc d) i le none =
@@ -60,7 +60,7 @@ module _ (s : Stream) (page : Id) (item : Item) (tau : ℤ) (sent wrong : ℕ �
       ∙ stay (i + d) (unsent (i + d) (omega arith) (none (i + d) (omega arith) (omega arith)))
       ∙ quiet d i (omega arith) (λ x a b. none x a (omega arith))
 
-  -- each is wrong, or one is right
+  -- all are wrong, or one is right
   split : (slots : List ℤ) → AllByRecursion (IsInside tau n) slots → OneIs (IsRightAmong tau n wrong) slots ⊎ AllByRecursion IsWrong slots
   split [] a = inr tt
   split (j ∷ slots) a =
@@ -75,7 +75,7 @@ module _ (s : Stream) (page : Id) (item : Item) (tau : ℤ) (sent wrong : ℕ �
         | inr e ↦ inl (inl (record { index = w.0; below = below; place = at; told = e }))
       ]
 
-  -- wrong ones in a row make a streak of as many
+  -- n wrong ones in a row make a streak of n
   climb : (j : ℤ) (rest : List ℤ) → AreSuccessive s page item (j ∷ rest) → AllByRecursion IsWrong (j ∷ rest) → (i : ℕ) → j
       ≡ tau +ℤ pos i → (c : ℕ) → c ≤ streak i →
       (m : ℕ) × (m ≤ n) × (c + length (j ∷ rest) ≤ streak m)
@@ -114,7 +114,7 @@ module _ (s : Stream) (page : Id) (item : Item) (tau : ℤ) (sent wrong : ℕ �
         absurd (let h = r.2 in omega arith)
   ]
 
-  -- slot m or later, with none sent before it
+  -- slot m or a later one, with no transmission before it
   abbrev Follows : ℕ → List ℤ → Type 0
   Follows m [] = Unit {0}
   Follows m (j ∷ rest) = ((tau +ℤ pos m) ≤ℤ j) × ((x : ℤ) → (tau +ℤ pos m) ≤ℤ x → x <ℤ j → P x → ⊥)
@@ -133,7 +133,7 @@ module _ (s : Stream) (page : Id) (item : Item) (tau : ℤ) (sent wrong : ℕ �
   onto m [] p f a = p
   onto m (j ∷ acc) p f a = (p, (let b = f.0 in omega (arith, ints)), (λ x low high q. f.1 x (omega (arith, ints)) high q), a)
 
-  -- a streak of d and more is the end of d wrong ones in a row
+  -- a streak of d or more ends with d wrong ones in a row
   pub record Streak (k : ℕ) : Type 0 where
     pub slots : List ℤ
     pub count : length slots ≡ k

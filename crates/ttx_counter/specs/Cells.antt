@@ -1,9 +1,9 @@
 -- What is kept of the streaks of all text bytes of a page while slots pass: for each row the number of slots up to its latest
--- transmission, and for each byte of it the same for its latest wrong one, with the length of that streak.
+-- transmission, and for each of its bytes the same for its latest wrong transmission, with the length of that streak.
 --
 --   is_text, IsTextByteOf    the bytes of rows that are text, row 0 being that of headers
 --   cell_at, streak_of      what is kept of a byte
---   running                 the streak of a byte, whose row was last sent so many slots ago
+--   running                 the length of a byte's streak; the number is that of its row's latest transmission
 --   AreCounted, IsStreakReached    the wrong bytes of one transmission are counted; one of them makes a streak of k
 --   is_row, TellsSlot       what is sent and wrong in one slot
 --   AreStreaks, IsBroken    what is kept of n slots; a streak of k
@@ -22,11 +22,11 @@ streak_of last count = record { last = last; count = count }
 abbrev pub cell_at : List Streak → ℕ → ℕ → Streak
 cell_at cells r x = slice_index_or cells (42 * r + x) (streak_of 0 0)
 
--- a streak that the latest transmission didn't go on with is over
+-- a streak ends with a transmission in which the byte is right
 abbrev pub running : ℕ → Streak → ℕ
 running latest cell = if cell.last == latest then cell.count else 0
 
--- each byte that is hit goes on with its streak, which stays below k; all others are as they were
+-- each byte that is hit continues its streak, which stays below k; all others are unchanged
 pub record AreCounted (row latest now k : ℕ) (keys : List ℕ) (from to : ℕ) (old new : List Streak) : Type 0 where
   pub hit : (i : ℕ) → from ≤ i → i < to → is_text row (byte_in (key_at keys i)) ≡ true →
       (cell_at new row (byte_in (key_at keys i)) ≡ streak_of now (suc (running latest (cell_at old row (byte_in (key_at keys i))))))
@@ -45,7 +45,7 @@ abbrev pub is_row : ℕ → Option ℕ → Bool
 is_row r None = false
 is_row r (Some row) = row == r
 
--- slot n sends this row, if any, and the bytes of these keys are wrong in it
+-- slot n sends this row, if any, and exactly the bytes of these keys are wrong in it
 pub record TellsSlot (sent wrong : ℕ → ℕ → Bool) (row : Option ℕ) (keys : List ℕ) (from to n : ℕ) : Type 0 where
   pub sent_is : (r : ℕ) → r < 25 → sent r n ≡ is_row r row
   pub hit : (i : ℕ) → from ≤ i → i < to → wrong (byte_in (key_at keys i)) n ≡ true
@@ -67,7 +67,7 @@ pub record IsBroken (sent wrong : ℕ → ℕ → Bool) (k n : ℕ) : Type 0 whe
   pub text : is_text row byte ≡ true
   pub long : k ≤ streak_to (sent row) (wrong byte) n
 
--- after one more slot the streaks are kept, or one has reached k
+-- after one more slot: true, the streaks are those of n slots; false, one has reached k
 abbrev pub StreaksAfter : Bool → (ℕ → ℕ → Bool) → (ℕ → ℕ → Bool) → ℕ → ℕ → List ℕ → List Streak → Type 0
 StreaksAfter true sent wrong k n latest cells = AreStreaks sent wrong k n latest cells
 StreaksAfter false sent wrong k n latest cells = IsBroken sent wrong k n

@@ -1,8 +1,8 @@
--- What is checked of a counter-run, part by part.
+-- What is checked of a counter-run, step by step.
 --
---   IsInRange               the numbers, the selection and the hits, but for bytes that are hit twice
---   IsJudgedRun             the receiver's View is wrong, or it isn't
---   IsJudgedWithin          the hits keep the rule and it is wrong, or not
+--   IsInRange               the numbers, the selection and the hits are in range; bytes that are hit twice are checked later
+--   IsJudgedRun             whether the receiver's View is wrong after the run
+--   IsJudgedWithin          whether the hits keep the rule of k, and the View is wrong
 --   IsRefuting              what is received is within the rules, and the View is wrong
 use Rattle.std.specs.Prelude.{◌≡◌, ◌↔◌, ℕ, ◌*◌, ◌<◌, ◌≤◌, pos, ◌+ℤ◌, Bool, true, List, [], length, slice_index_or, All}
 use Rattle.ttx_page.specs.Pages.{Page, Fits}
@@ -28,12 +28,12 @@ pub record IsJudgedRun (s : Stream) (keys : List ℕ) (p : Page) (c : CounterRun
   pub each : (i : ℕ) → i < c.slots → IsHitBy keys i (s (pos c.start +ℤ pos i)) (slice_index_or received i [])
   pub told : (wrong ≡ true) ↔ (HasView p (scripted Any c.lines (selection_for c.any_sub p.id) c.choices c.former received) → ⊥)
 
--- true: the hits keep the rule, and the View is wrong; false: they don't, or it isn't
+-- true: the hits keep the rule of k, and the View is wrong; false: one of the two does not hold
 pub record IsJudgedWithin (s : Stream) (keys : List ℕ) (p : Page) (c : CounterRun) (wrong : Bool) : Type 0 where
   pub judged : KeepsRule s p.id c.start c.slots c.repeat keys → IsJudgedRun s keys p c wrong
   pub keeps : wrong ≡ true → KeepsRule s p.id c.start c.slots c.repeat keys
 
--- the hits keep every rule, and the receiver's View is wrong after them
+-- the hits keep every rule, and the receiver's View is wrong after the run
 pub record IsRefuting (cycle : List (List ℕ)) (p : Page) (c : CounterRun) : Type 0 where
   pub once : AllPairs (λ a b. a.index ≡ b.index → a.byte ≡ b.byte → ⊥) c.hits
   pub received : List (List ℕ)

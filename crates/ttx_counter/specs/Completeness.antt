@@ -1,17 +1,17 @@
--- The laws of completeness, for receivers of class Any. Each is proved by the function of its name in `laws`.
+-- The laws of completeness, for receivers of class any. Each is proved by the function of its name in `completeness`.
 --
---   CoveredOrStarved        an item is covered by all its sure runs, or from some tuning slot on none of them comes in time
---   StartsAreJudged         one pass tells which it is, and from what slot on
---   StarvedIsNotCovered     then no certificate of these numbers covers it
---   StarvedIsUnseen         a receiver that is starved of an item hasn't the page's View
---   StarvedHasCounter       so a steady page of a clean cycle, one of whose items doesn't come in time, has a counter-run
---   StarvesInPeriod, StarvingIsCounterRun       the tuning slot may be one of the first period, and that run is a counter-run
+--   CoveredOrStarved        all its sure runs cover an item, or from some tuning slot on none of them comes in time
+--   StartsAreJudged         one pass decides which, and finds the slot
+--   StarvedIsNotCovered     then no certificate with these numbers covers it
+--   StarvedIsUnseen         a receiver that is starved of an item does not have the page's View
+--   StarvedHasCounter       so a steady page of a clean cycle has a counter-run if one of its items does not come in time
+--   StarvesInPeriod, StarvingIsCounterRun       the tuning slot may be taken from the first period; the starved run is a counter-run
 --   CounterIsUnseen         a counter-run refutes that the page is seen
---   FullestNamesAll         the fullest certificate is one, and names all
---   SeenIsCovered           a steady page of a clean cycle that is seen is covered by a certificate of these numbers
---   SeenExactlyWhereAccepted        where no reason 1 to 7 is true: all pages are seen exactly where some certificate is accepted
---   AllSeen, FoundIsLeastSeen       so the deadline that is found is the least for which all pages are seen
---   NoneFoundIsUnseen       and where none is found, there is none for which all pages are seen
+--   FullestNamesAll         the fullest certificate is a certificate, and names all sure starts
+--   SeenIsCovered           if a steady page of a clean cycle is seen, a certificate with these numbers covers it
+--   SeenExactlyWhereAccepted        if none of reasons 1 to 7 is true: all pages are seen if and only if some certificate is accepted
+--   AllSeen, FoundIsLeastSeen       so the deadline that is found is the least with which all pages are seen
+--   NoneFoundIsUnseen       and if none is found, there is no deadline with which all pages are seen
 use Rattle.std.specs.Prelude.{◌≡◌, ◌⊎◌, ◌↔◌, ℕ, ◌-◌, ◌<◌, ◌≤◌, ℤ, pos, ◌+ℤ◌, true, List, [], length, slice_get, slice_index_or, Option, Some, None}
 use Rattle.ttx_page.specs.Pages.{Page, IsPage, needed}
 use Rattle.ttx_page.specs.declared.selection.Selection.{Selection}
@@ -37,18 +37,18 @@ abbrev pub CoveredOrStarved : Type 0
 CoveredOrStarved = (cycle : List (List ℕ)) → 0 < length cycle → (p : Page) (w : Certificate) (item : Item) → 1 ≤ w.repeat →
     Rising (w.starts p.id item) → NamesAll cycle p w item → IsCovered cycle p w item ⊎ Starves (repeated cycle) p.id w.lines w.repeat item (limit w)
 
--- no all-sure run comes in time from a slot of the first period on
+-- no sure run of the item comes in time from a slot of the first period on
 pub record StarvesFrom (cycle : List (List ℕ)) (p : Page) (w : Certificate) (item : Item) (start : ℕ) : Type 0 where
   pub inside : start < length cycle
   pub none : IsSent (repeated cycle) p.id w.lines w.repeat item (pos start) (pos start +ℤ pos (limit w)) → ⊥
 
--- the first named start whose next run comes too late, as one pass tells it
+-- the first named start whose next run comes too late, as one pass finds it
 abbrev pub late_start : List (List ℕ) → Page → Certificate → Item → Option ℕ
 late_start cycle p w item =
     let m = progress_of cycle p w item (run_length w.repeat item - 1) in late_after (limit w) (w.starts p.id item) m (m.first_end +ℤ pos
     (length cycle))
 
--- what one pass tells where all sure starts are named
+-- what one pass finds if all sure starts are named
 pub record AreJudged (cycle : List (List ℕ)) (p : Page) (w : Certificate) (item : Item) : Type 0 where
   pub next : (progress_of cycle p w item (run_length w.repeat item - 1)).next ≤ length (w.starts p.id item)
   pub none : length (w.starts p.id item) ≡ 0 → StarvesFrom cycle p w item 0
@@ -95,7 +95,7 @@ abbrev pub FullestNamesAll : Type 0
 FullestNamesAll = (cycle : List (List ℕ)) → IsCycle cycle → (w : Certificate) → IsCertificate w →
     IsCertificate (fullest cycle w) × ((p : Page) (item : Item) → NamesAll cycle p (fullest cycle w) item)
 
--- whatever is true of other pages
+-- whatever holds for other pages
 abbrev pub SeenIsCovered : Type 0
 SeenIsCovered = (cycle : List (List ℕ)) (pages : List Page) (p : Page) (w : Certificate) → IsCycle cycle → IsPage p → IsCertificate w →
     w.class ≡ Any →
@@ -111,14 +111,14 @@ SeenExactlyWhereAccepted = (cycle : List (List ℕ)) (pages : List Page) (w : Ce
 abbrev pub AllSeen : List (List ℕ) → List Page → Certificate → Type 0
 AllSeen cycle pages w = (n : ℕ) (p : Page) → slice_get pages n ≡ Some p → Seen cycle pages p w
 
--- the deadline that is found is the least for which all pages are seen
+-- the deadline that is found is the least with which all pages are seen
 abbrev pub FoundIsLeastSeen : Type 0
 FoundIsLeastSeen = (cycle : List (List ℕ)) (pages : List Page) (w : Certificate) (d : ℕ) → IsCycle cycle → ArePages pages → IsCertificate w →
     w.class ≡ Any →
     IsSentUnchanged cycle pages → IsLeastDeadline cycle pages w (Some d) →
     AllSeen cycle pages w × (w.deadline ≡ d) × ((e : ℕ) → 1 ≤ e → e ≤ 1000000 → AllSeen cycle pages (record w { deadline = e }) → d ≤ e)
 
--- where no deadline is found, some page isn't seen, whatever the deadline
+-- if no deadline is found, some page is not seen, whatever the deadline
 abbrev pub NoneFoundIsUnseen : Type 0
 NoneFoundIsUnseen = (cycle : List (List ℕ)) (pages : List Page) (w : Certificate) → IsCycle cycle → ArePages pages → IsCertificate w →
     w.class ≡ Any →

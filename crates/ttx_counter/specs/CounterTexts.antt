@@ -2,7 +2,7 @@
 -- decimal without leading zeros.
 --
 --   numbers_text, line_text         numbers, each after a space; a line
---   yes_as_one, bits, target_numbers, links_numbers, hits_numbers    what is no number, as numbers
+--   yes_as_one, bits, target_numbers, links_numbers, hits_numbers    flags, links and hits as numbers
 --   row_lines, state_text, links_lines, memory_text         the lines of rows, and of a memory
 --   choices_text, hits_text, title, head_lines, tuning_text, counter_text    the lines after the memory and before it; the whole text
 use Rattle.std.specs.Prelude.{ℕ, Bool, List, [], ◌∷◌, ◌++◌, codes, length, Option, Some, None, if◌then◌else◌}
@@ -20,7 +20,7 @@ numbers_text (n ∷ ns) = (32 ∷ decimal n) ++ numbers_text ns
 abbrev pub line_text : List ℕ → List ℕ → List ℕ
 line_text word ns = word ++ numbers_text ns ++ 10 ∷ []
 
--- 1 for yes
+-- 1 for true, 0 for false
 abbrev pub yes_as_one : Bool → ℕ
 yes_as_one b = if b then 1 else 0
 
@@ -37,7 +37,7 @@ abbrev pub links_numbers : List (Option Id) → List ℕ
 links_numbers [] = []
 links_numbers (link ∷ links) = target_numbers link ++ links_numbers links
 
--- slot, byte and yes_as_one
+-- slot, byte and bit
 abbrev pub hits_numbers : List Hit → List ℕ
 hits_numbers [] = []
 hits_numbers (h ∷ hits) = h.index ∷ h.byte ∷ h.bit ∷ hits_numbers hits
@@ -47,7 +47,7 @@ abbrev pub row_lines : List (List ℕ) → List ℕ
 row_lines [] = []
 row_lines (row ∷ rows) = line_text (codes "row") row ++ row_lines rows
 
--- control bits as one number, C4 its lowest yes_as_one
+-- control bits as one number, with C4 as its lowest bit
 unfoldable pub state_text : Memory → List ℕ
 state_text m =
     line_text (codes "control") (m.control ∷ []) ++ line_text (codes "storing") (yes_as_one m.storing ∷ []) ++ line_text (codes "age") (m.age ∷ [])
@@ -60,7 +60,7 @@ links_lines m = line_text (codes "row-24") (yes_as_one m.links.show24 ∷ []) ++
 abbrev pub memory_text : Memory → List ℕ
 memory_text m = state_text m ++ links_lines m ++ row_lines m.rows
 
--- how many there are, and a yes_as_one for each
+-- how many there are, and a bit for each
 abbrev pub choices_text : List Bool → List ℕ
 choices_text choices = line_text (codes "choices") (length choices ∷ bits choices)
 

@@ -1,9 +1,9 @@
--- Counter-runs: a reception within every rule after which a receiver hasn't the page's View (profile).
+-- Counter-runs: receptions that keep every rule, after which a receiver does not have the page's View (profile).
 --
---   CounterRun, counter_run_of      what a counter-run says, and that of a `Counter`
+--   CounterRun, counter_run_of      the parts of a counter-run, and those of a `Counter`
 --   selection_for           what the receiver is set to
 --   flipped                 a byte with one bit wrong
---   IsHitIn, IsHitList      what is received of a slot, and of slots of a stream, where bits are hit
+--   IsHitIn, IsHitList      what is received of a slot, and of slots of a stream, if these bits are hit
 --   IsHit, AreHits          bits that may be hit
 --   IsCounterRun            a counter-run of a cycle and pages
 use Rattle.std.specs.Prelude.{◌≡◌, ℕ, ◌-◌, ◌*◌, ◌^◌, ◌<◌, ◌≤◌, pos, ◌+ℤ◌, bit_xor, Bool, true, false, List, [], length, slice_get, slice_index}
@@ -50,7 +50,7 @@ counter_run_of c = record {
   deadline = c.deadline;
 }
 
--- the page's number or its id
+-- the page's number (any subpage), or its id
 abbrev pub selection_for : Bool → Id → Selection
 selection_for true id = AnySub id.mag id.page
 selection_for false id = Exact id
@@ -59,18 +59,18 @@ selection_for false id = Exact id
 abbrev pub flipped : ℕ → ℕ → ℕ
 flipped bit byte = bit_xor byte (2 ^ (bit - 1))
 
--- slot n is received with the bits flipped that are hit in it, and all else as it was sent
+-- slot n is received with its hit bits flipped, and otherwise as it was sent
 pub record IsHitIn (hits : List Hit) (n : ℕ) (sent received : List ℕ) : Type 0 where
   pub size : length received ≡ length sent
   pub hit : (h : Hit) → Contains hits h → h.index ≡ n → slice_index received h.byte ≡ flipped h.bit (slice_index sent h.byte)
   pub other : (x : ℕ) → ((h : Hit) → Contains hits h → h.index ≡ n → h.byte ≡ x → ⊥) → slice_index received x ≡ slice_index sent x
 
--- so many slots of the stream from slot start on
+-- `slots` slots of the stream from slot start on
 pub record IsHitList (s : Stream) (start slots : ℕ) (hits : List Hit) (received : List (List ℕ)) : Type 0 where
   pub count : length received ≡ slots
   pub each : (n : ℕ) → n < slots → IsHitIn hits n (s (pos start +ℤ pos n)) (slice_index_or received n [])
 
--- a bit of a slot of the run that isn't empty
+-- a bit of a slot of the run that is not empty
 pub record IsHit (s : Stream) (start slots : ℕ) (h : Hit) : Type 0 where
   pub index : h.index < slots
   pub byte : h.byte < 42
@@ -93,7 +93,7 @@ pub record AreCertificateNumbers (lines repeat deadline : ℕ) : Type 0 where
   pub few_fields : deadline ≤ 1000000
 
 -- What is received of the cycle from the start on, with the hit bits wrong, is within the error rule and lasts to the deadline or
--- longer; and a receiver that is set to the page and takes its choices from the script hasn't the page's View after it.
+-- longer. A receiver that is set to the page and takes its choices from the script does not have the page's View at the end.
 pub record IsCounterRun (cycle : List (List ℕ)) (pages : List Page) (c : CounterRun) : Type 0 where
   pub page : Page
   pub here : slice_get pages c.page ≡ Some page

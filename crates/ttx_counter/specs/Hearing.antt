@@ -1,8 +1,8 @@
--- What a receiver with a script makes of the slots of a run.
+-- What a receiver with a script does with the slots of a run.
 --
---   IsHitBy                 what is received of a slot, where bits are hit
+--   IsHitBy                 what is received of a slot, if these bits are hit
 --   script_after            a receiver with a script after a list of slots
---   IsHeard                 what a receiver is given of a stream, and how it stands then
+--   IsHeard                 a receiver before and after it is given slots of a stream
 use Rattle.std.specs.Prelude.{◌≡◌, ℕ, ◌<◌, pos, ◌+ℤ◌, List, [], ◌∷◌, length, slice_index, slice_index_or}
 use Rattle.ttx_page.specs.Streams.{Stream}
 use Rattle.ttx_receiver.specs.Tuning.{Script, script_step}

@@ -3,9 +3,9 @@
 --   hit_key                 a hit as one number: the slot, the byte, the bit
 --   slot_in, byte_in, bit_in, byte_place    the parts of such a number; slot and byte together
 --   key_at                  the number at a place of a list
---   AreHitOnce              no byte is hit twice
---   AreSlotKeys             the numbers of one slot: those from one place to below another
---   AreOfOtherBytes         no byte is hit twice by those from one place to below another
+--   AreHitOnce              no byte of a slot is hit twice
+--   AreSlotKeys             the numbers of one slot: those from one place to before another
+--   AreOfOtherBytes         the numbers from one place to before another hit different bytes
 --   AreFlipped              a slot with those bits flipped
 --   is_hit                  whether a byte of a slot is hit
 use Rattle.std.specs.Prelude.{◌≡◌, ℕ, ◌+◌, ◌*◌, ◌/◌, ◌%◌, ◌<◌, ◌≤◌, Bool, ◌==◌, List, length, slice_index}
@@ -30,28 +30,28 @@ byte_place key = key / 256
 abbrev pub key_at : List ℕ → ℕ → ℕ
 key_at keys i = slice_index keys i
 
--- of any two the places differ
+-- any two differ in slot or byte
 abbrev pub AreHitOnce : List ℕ → Type 0
 AreHitOnce keys = (i j : ℕ) → i < j → j < length keys → byte_place (key_at keys i) ≡ byte_place (key_at keys j) → ⊥
 
--- bits of bytes of a slot
+-- the byte is one of a slot, and the bit one of a byte
 pub record IsKey (key : ℕ) : Type 0 where
   pub byte : byte_in key < 42
   pub some : 1 ≤ bit_in key
   pub bit : bit_in key ≤ 8
 
--- those from place `from` to below `to` are the slot's; and so is none after them
+-- the numbers from place `from` to before place `to` are those of the slot, and the next one is not
 pub record AreSlotKeys (keys : List ℕ) (n from to : ℕ) : Type 0 where
   pub up : from ≤ to
   pub within : to ≤ length keys
   pub own : (i : ℕ) → from ≤ i → i < to → slot_in (key_at keys i) ≡ n
   pub ended : to < length keys → slot_in (key_at keys to) ≡ n → ⊥
 
--- of any two of those from place `from` to below `to` the bytes differ
+-- any two of the numbers from place `from` to before place `to` hit different bytes
 abbrev pub AreOfOtherBytes : List ℕ → ℕ → ℕ → Type 0
 AreOfOtherBytes keys from to = (i j : ℕ) → from ≤ i → i < j → j < to → byte_in (key_at keys i) ≡ byte_in (key_at keys j) → ⊥
 
--- the bits in these places are flipped
+-- the bits of the numbers in these places are flipped
 pub record AreFlipped (keys : List ℕ) (from to : ℕ) (sent received : List ℕ) : Type 0 where
   pub size : length received ≡ length sent
   pub hit : (i : ℕ) → from ≤ i → i < to → slice_index received (byte_in (key_at keys i)) ≡ flipped (bit_in (key_at keys i)) (slice_index sent

@@ -2,7 +2,7 @@
 --
 --   Refutes                 a certificate of class any with the numbers of a counter-run
 --   CounterRunsRefute       a counter-run refutes that its page is seen
---   RefutedIsNotAccepted    so no such certificate is accepted
+--   RefutedIsNotAccepted    then no such certificate is accepted
 use Rattle.std.specs.Prelude.{◌≡◌, ℕ, List, slice_get, Some}
 use Rattle.ttx_page.specs.Pages.{Page}
 use Rattle.ttx_page.specs.declared.class.Class.TheVariants.{Any}

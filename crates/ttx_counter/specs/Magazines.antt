@@ -1,6 +1,6 @@
 -- Which magazine a slot concerns.
 --
---   magazine_in, magazine_of        the magazine of a header, a row or an X/27/0; 0 for all else
+--   magazine_in, magazine_of        the magazine of a header, a row or an X/27/0; 0 for any other packet
 use Rattle.std.specs.Prelude.{ℕ, List}
 use Rattle.ttx_page.specs.Packets.{Packet, Header, Row, Links, packet_of}
 

@@ -1,7 +1,7 @@
--- What the reader answers, as the definitions see it.
+-- The answers of the reader, in terms of the definitions.
 --
---   counter_outcome                 a value, seen by a function, or its fault
---   IsCounterUnlessMemory          a fact, but where memory ran out
+--   counter_outcome                 a value as a function shows it, or its fault
+--   IsCounterUnlessMemory          a fact that holds unless memory ran out
 use Rattle.std.specs.Prelude.{◌≡◌, ◌⊎◌, Result, Ok, Err}
 use Rattle.ttx_counter.specs.declared.counter_faults.CounterFault.{CounterFault}
 use Rattle.ttx_counter.specs.declared.counter_faults.CounterFault.TheVariants.{NoMemory}

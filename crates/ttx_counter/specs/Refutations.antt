@@ -1,18 +1,18 @@
--- What is told of a cycle, pages and a certificate by counter-runs, or by none.
+-- What the search for counter-runs answers about a cycle, pages and a certificate. Some answers carry a counter-run, None carries a claim.
 --
---   TellsStart              the slot from which on a receiver is starved of an item; none where all its sure runs cover it
---   TellsNeeded             the same of an item that a viewer sees
---   IsAfterOwner            a slot of the period that follows the owner of the transmission in a slot
+--   TellsStart              the slot from which on a receiver is starved of an item; None if all its sure runs cover it
+--   TellsNeeded             the same for an item that a viewer sees
+--   IsAfterOwner            the slot of the period that follows the owner of the transmission in a slot
 --   IsCounterTo, IsCounterOf        a counter-run with the numbers of a certificate; one of the page at a place of the list
---   ArePrepared             what is kept of a cycle and its pages
+--   ArePrepared             what is computed once from a cycle and its pages
 --   is_absent               the fault of a page without a header
---   TellsCovered            a page each of whose items is covered by all its sure runs; or a counter-run
---   IsSentWell, TellsPage    a page that is sent, and where it is steady covered by some certificate of these numbers; or a counter-run
---   TellsPlainly            a counter-run, or a page of which no plain run ends wrong
---   IsFirstUnsent, IsFirstWrong     the first page that isn't sent well; the first of which a plain run ends wrong
---   TellsPages, TellsAllPlainly     the same of all pages
---   IsUnrefuted, TellsCounter       the same of all pages; or a counter-run
---   IsFirstTold, TellsFirst         of which page the counter-run is
+--   TellsCovered            a counter-run of a page that no certificate covers; None if all its sure runs cover each item
+--   IsSentWell, TellsPage    the page has a header, and is covered if it is steady; a counter-run, or None if so
+--   TellsPlainly            a counter-run of a page; None if no plain run of it ends wrong
+--   IsFirstUnsent, IsFirstWrong     the first page that is not sent well; the first of which a plain run ends wrong
+--   TellsPages, TellsAllPlainly     the same answers for all pages
+--   IsUnrefuted, TellsCounter       all pages are sent well, and no plain run ends wrong; a counter-run, or None if so
+--   IsFirstTold, TellsFirst         which page the counter-run concerns
 use Rattle.std.specs.Prelude.{◌≡◌, ◌⊎◌, ◌↔◌, ℕ, ◌<◌, pos, ◌+ℤ◌, true, false, Bool, List, slice_get, Contains, Option, Some, None, ⊤}
 use Rattle.ttx_page.specs.Pages.{Page, needed}
 use Rattle.ttx_page.specs.declared.item.Item.{Item}
@@ -40,13 +40,13 @@ abbrev pub TellsNeeded : List (List ℕ) → Page → Certificate → Item → O
 TellsNeeded cycle p w item None = needed p item ≡ true → IsCovered cycle p (fullest cycle w) item
 TellsNeeded cycle p w item (Some start) = (needed p item ≡ true) × StarvesFrom cycle p w item start
 
--- a transmission in slot `at`, and the slot after its owner taken into the period; or no transmission is there
+-- the slot of the period that follows the owner of a transmission in slot `at`; or no transmission is in that slot
 abbrev pub IsAfterOwner : List Transmission → ℕ → ℕ → ℕ → Type 0
 IsAfterOwner sent period at start =
     ((t : Transmission) × Contains sent t × (t.slot ≡ pos at) × (start ≡ turned period (t.owner +ℤ pos 1)))
     ⊎ ((t : Transmission) → Contains sent t → t.slot ≡ pos at → ⊥)
 
--- what is kept of a cycle and its pages: the transmissions of their items, and the starts of the sure runs of all items that a viewer sees
+-- the transmissions of the pages' items, and the starts of the sure runs of all items that a viewer sees
 pub record ArePrepared (cycle : List (List ℕ)) (pages : List Page) (w found : Certificate) (collected : Collected) : Type 0 where
   pub sent : AreAllSent cycle pages w.lines collected
   pub named : (n : ℕ) (p : Page) → slice_get pages n ≡ Some p → (item : Item) → IsItem item →
@@ -77,12 +77,12 @@ pub record IsCounterTo (cycle : List (List ℕ)) (pages : List Page) (w : Certif
 abbrev pub IsCounterOf : List (List ℕ) → List Page → Certificate → ℕ → CounterRun → Type 0
 IsCounterOf cycle pages w index c = IsCounterTo cycle pages w c × (c.page ≡ index)
 
--- the page has a header; and of a clean cycle, where it is steady, some certificate of these numbers covers it
+-- the page has a header; in a clean cycle, if the page is steady, some certificate with these numbers covers it
 pub record IsSentWell (cycle : List (List ℕ)) (pages : List Page) (p : Page) (w : Certificate) : Type 0 where
   pub header : HasHeader (repeated cycle) p.id
   pub covered : IsClean cycle → Steady (repeated cycle) pages p → IsCoveredByOne cycle p w
 
--- the page at the index: it is sent well, or it isn't, and there is a counter-run of it
+-- None: the page at the index is sent well; Some: it is not, and this is a counter-run of it
 abbrev pub TellsPage : {C : Type 0} → (C → CounterRun) → List (List ℕ) → List Page → ℕ → Page → Certificate → Option C → Type 0
 TellsPage run cycle pages index p w None = IsSentWell cycle pages p w
 TellsPage run cycle pages index p w (Some c) = IsCounterOf cycle pages w index (run c) × (IsSentWell cycle pages p w → ⊥)
@@ -91,7 +91,7 @@ abbrev pub TellsCovered : {C : Type 0} → (C → CounterRun) → List (List ℕ
 TellsCovered run cycle pages index p w None = (item : Item) → needed p item ≡ true → IsCovered cycle p (fullest cycle w) item
 TellsCovered run cycle pages index p w (Some c) = IsCounterOf cycle pages w index (run c) × (IsCoveredByOne cycle p w → ⊥)
 
--- the first page in the order of the list that isn't sent well
+-- the first page in the order of the list that is not sent well
 pub record IsFirstUnsent (cycle : List (List ℕ)) (pages : List Page) (w : Certificate) (index : ℕ) : Type 0 where
   pub page : Page
   pub here : slice_get pages index ≡ Some page
@@ -107,7 +107,7 @@ TellsPlainly run cycle pages index any_sub w None = IsPlainlyRight cycle pages i
 TellsPlainly run cycle pages index any_sub w (Some c) = IsCounterOf cycle pages w index (run c) × ((run c).any_sub ≡ any_sub)
     × (IsPlainlyRight cycle pages index any_sub w.lines (limit w) → ⊥)
 
--- the first page in the order of the list of which a plain run ends wrong; it is told by its id, if one by its id does so
+-- the first page in the order of the list of which a plain run ends wrong; the run by its number counts only if none by its id does
 pub record IsFirstWrong (cycle : List (List ℕ)) (pages : List Page) (w : Certificate) (index : ℕ) (any_sub : Bool) : Type 0 where
   pub wrong : IsPlainlyRight cycle pages index any_sub w.lines (limit w) → ⊥
   pub right_by_id : any_sub ≡ true → IsPlainlyRight cycle pages index false w.lines (limit w)
@@ -117,8 +117,8 @@ abbrev pub TellsAllPlainly : {C : Type 0} → (C → CounterRun) → List (List 
 TellsAllPlainly run cycle pages w None = (n : ℕ) (any_sub : Bool) → IsPlainlyRight cycle pages n any_sub w.lines (limit w)
 TellsAllPlainly run cycle pages w (Some c) = IsCounterTo cycle pages w (run c) × IsFirstWrong cycle pages w (run c).page (run c).any_sub
 
--- no page without a header; of a clean cycle no steady page that no certificate of class any with these numbers covers; no plain run that
--- ends wrong
+-- no page lacks a header; in a clean cycle some certificate of class any with these numbers covers each steady page; no plain run ends
+-- wrong
 pub record IsUnrefuted (cycle : List (List ℕ)) (pages : List Page) (w : Certificate) : Type 0 where
   pub sent : (n : ℕ) (p : Page) → slice_get pages n ≡ Some p → IsSentWell cycle pages p w
   pub plain : (n : ℕ) (any_sub : Bool) → IsPlainlyRight cycle pages n any_sub w.lines (limit w)
@@ -127,7 +127,7 @@ abbrev pub TellsCounter : {C : Type 0} → (C → CounterRun) → List (List ℕ
 TellsCounter run cycle pages w None = IsUnrefuted cycle pages w
 TellsCounter run cycle pages w (Some c) = IsCounterTo cycle pages w (run c)
 
--- The counter-run is of the first page that isn't sent well; where all are, of the first page of which a plain run ends wrong.
+-- The first page that is not sent well. If all are, the first page of which a plain run ends wrong.
 abbrev pub IsFirstTold : List (List ℕ) → List Page → Certificate → CounterRun → Type 0
 IsFirstTold cycle pages w c =
     IsFirstUnsent cycle pages w c.page

@@ -1,8 +1,8 @@
--- What is left of a counter-run in its receiver.
+-- What the receiver of a counter-run holds after it.
 --
 --   IsLeft                  the memory of the receiver with the script, after slots in which these bits are hit
 --   IsReplayed              the memory after a counter-run
---   TellsReplayed           the memory, or that it is no counter-run
+--   TellsReplayed           the memory; None if it is not a counter-run
 use Rattle.std.specs.Prelude.{◌≡◌, ℕ, ◌<◌, pos, ◌+ℤ◌, List, [], length, slice_index_or, Option, Some, None}
 use Rattle.ttx_page.specs.Pages.{Page}
 use Rattle.ttx_page.specs.declared.class.Class.TheVariants.{Any}

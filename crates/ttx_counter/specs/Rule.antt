@@ -1,8 +1,8 @@
--- The rule of k for bits that are hit, and what is known while the slots of a run pass.
+-- The rule of k for bits that are hit, and what is known of it while the slots of a run pass.
 --
---   IsCursor                the keys of earlier slots stand before a place, all others from it on
+--   IsCursor                the keys of earlier slots are before a place, all others at it or after it
 --   sends_row               whether a slot sends a row of the page
---   KeepsRule               of any k successive transmissions of a text byte inside the run one isn't hit
+--   KeepsRule               of any k successive transmissions of a text byte inside the run, one is not hit
 use Rattle.std.specs.Prelude.{◌≡◌, ℕ, ◌<◌, ◌≤◌, ℤ, pos, Bool, List, length}
 use Rattle.std.specs.List.{AllByRecursion}
 use Rattle.ttx_header.specs.Ids.{Id}

@@ -1,14 +1,14 @@
--- Two sources of counter-runs, neither of which needs hits or choices.
+-- Two kinds of counter-runs that need neither hits nor choices.
 --
---   plain_from              the memory of a receiver that takes no choice, over slots of a stream
---   plain_counter           a counter-run from slot 0 on without hits and choices
---   PlainRunsAreCounterRuns where such a run ends in a wrong View
---   AbsentPagesAreWrong     where the page has no header, a receiver that isn't storing keeps wrong links
---   SteadyPagesStay         of a page that is sent unchanged none ends wrong
+--   plain_from              the memory of a receiver that takes no choice, after slots of a stream
+--   plain_counter           the counter-run from slot 0 on without hits and choices
+--   PlainRunsAreCounterRuns if it ends in a wrong View
+--   AbsentPagesAreWrong     if the page has no header, a receiver that is not storing keeps wrong links
+--   SteadyPagesStay         if a page is sent unchanged, no plain run of it ends wrong
 --   IsPlainlyRight          no plain run ends wrong
 --   is_under, takes_from    whether a receiver takes something from a packet that it may show
---   IsWrongAfter, TellsWrong        the View is wrong after n slots; the first such number
---   PeriodsRepeat           a period that gives the memory back gives it back ever after
+--   IsWrongAfter, TellsWrong        the View is wrong after n slots; such a number between two others, None if there is none
+--   PeriodsRepeat           if a period leaves the memory as it was, any number of periods does
 use Rattle.std.specs.Prelude.{◌≡◌, ◌≢◌, ℕ, zero, suc, ◌+◌, ◌*◌, ◌≤◌, ◌<◌, ℤ, pos, ◌+ℤ◌, Bool, false, ◌&&◌, ◌||◌, ◌==◌, List, [], length, slice_get}
 use Rattle.std.specs.Prelude.{Option, Some, None}
 use Rattle.ttx_cycle.specs.Files.{IsCycle}
@@ -65,7 +65,7 @@ SteadyPagesStay =
     Fits pages p sel → Steady s pages p →
     HasView p (plain_from lines sel (memory_of_page p) s tau n)
 
--- q periods of a cycle after one that gave the memory back
+-- q periods of a cycle, if one leaves the memory as it was
 abbrev pub PeriodsRepeat : Type 0
 PeriodsRepeat =
     (cycle : List (List ℕ)) (lines : ℕ) (sel : Selection) (m : Memory) (q : ℕ) → 0 < length cycle →
@@ -78,11 +78,11 @@ is_under mag (Row m number text) = m == mag
 is_under mag (Links m content) = m == mag
 is_under mag _ = false
 
--- a header that the selection matches; or, of a page that is being stored, a row or an X/27/0 of its magazine
+-- a header that the selection matches; or, while a page is being stored, a row or an X/27/0 of its magazine
 abbrev pub takes_from : Selection → Memory → Packet → Bool
 takes_from sel m packet = heads_matched sel packet || (is_under (selected_mag sel) packet && m.storing)
 
--- the first number of slots from low to high after which the View is wrong, if one is
+-- the View is wrong after n slots
 abbrev pub IsWrongAfter : List (List ℕ) → Page → ℕ → Selection → Memory → ℕ → Type 0
 IsWrongAfter cycle p lines sel former n = HasView p (plain_from lines sel former (repeated cycle) (pos 0) n) → ⊥
 
@@ -90,7 +90,7 @@ abbrev pub TellsWrong : List (List ℕ) → Page → ℕ → Selection → Memor
 TellsWrong cycle p lines sel former low high None = (n : ℕ) → low ≤ n → n ≤ high → IsWrongAfter cycle p lines sel former n → ⊥
 TellsWrong cycle p lines sel former low high (Some n) = (low ≤ n) × (n ≤ high) × IsWrongAfter cycle p lines sel former n
 
--- by this selection, where it fits, no plain run from the page's own memory ends wrong
+-- with this selection, if it fits, no plain run from the page's own memory ends wrong
 abbrev pub IsPlainlyRight : List (List ℕ) → List Page → ℕ → Bool → ℕ → ℕ → Type 0
 IsPlainlyRight cycle pages index any_sub lines low =
     (p : Page) → slice_get pages index ≡ Some p → Fits pages p (selection_for any_sub p.id) → (n : ℕ) → low ≤ n → n ≤ low + 2 * length cycle →

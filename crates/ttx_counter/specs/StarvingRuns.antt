@@ -1,6 +1,6 @@
--- The counter-run of a page that is starved of an item.
+-- The counter-run of a receiver that is starved of an item.
 --
---   with_other_links        a memory with one link that isn't the page's
+--   with_other_links        a memory with one link that is not the page's
 --   hit_at                  a wrong bit of the item in a slot
 --   starving_run            the counter-run from slot start on
 use Rattle.std.specs.Prelude.{ℕ, ◌*◌, pos, false, List, map}

@@ -1,4 +1,4 @@
-//! Checking a counter-run.
+//! Checks counter-runs.
 
 ghost use Rattle.std.specs.Prelude.{◌≡◌, ℕ, ◌*◌, ◌<◌, ◌≤◌, ◌↔◌, IsTrue, IfOk, true, Some, length, map, slice_get, All, IsPermutation};
 ghost use Rattle.std.specs.List.Sorted.{IsNonDecreasing};
@@ -38,7 +38,7 @@ pub fn selection_for(any_sub: bool, id: PageId) -> Selection
     }
 }
 
-// Whether the numbers are those of a certificate.
+// Whether the numbers are in the ranges of a certificate.
 fn are_numbers(lines: u8, repeat: u8, deadline: u32) -> bool
     ensures { IsTrue result ↔ AreCertificateNumbers lines repeat deadline }
 {
@@ -50,7 +50,7 @@ fn are_numbers(lines: u8, repeat: u8, deadline: u32) -> bool
         && deadline <= 1_000_000
 }
 
-// Whether so many slots are the deadline or more.
+// Whether `slots` slots are the deadline or longer.
 fn lasts(lines: u8, deadline: u32, slots: u32) -> bool
     ensures { IsTrue result ↔ (deadline * lines ≤ slots) }
 {
@@ -63,7 +63,7 @@ fn is_empty(slot: &[u8; 42]) -> bool
     slot.iter().all(|b| *b == 0)
 }
 
-// Whether a hit is one of a bit of a slot of the run that isn't empty.
+// Whether a hit is a bit of a slot of the run that is not empty.
 fn is_hit(cycle: &Cycle, start: u32, count: u32, hit: Hit) -> bool
     ensures { IsTrue result ↔ IsHit (repeated (slots_of cycle.now)) start count hit }
 {
@@ -75,7 +75,7 @@ fn is_hit(cycle: &Cycle, start: u32, count: u32, hit: Hit) -> bool
         && !is_empty(&slots[place(start, hit.index, slots.len())])
 }
 
-// Whether each hit is such.
+// The same for all hits.
 fn are_hits(cycle: &Cycle, start: u32, count: u32, hits: &[Hit]) -> bool
     ensures { IsTrue result ↔ All (IsHit (repeated (slots_of cycle.now)) start count) hits.now }
 {
@@ -100,21 +100,21 @@ fn is_in_range(cycle: &Cycle, pages: &[Page], index: usize, counter: &Counter) -
         && are_hits(cycle, counter.start, counter.slots, &counter.hits)
 }
 
-/// Whether the memory's View isn't this one, the header clock aside.
+/// Whether the memory's View differs from `own`, ignoring the header clock.
 pub fn is_unlike(own: &View, memory: &PageMemory) -> bool
     ensures { IsTrue result ↔ (SameButClock (view_of (memory_of memory.now)) own.now → ⊥) }
 {
     !same_but_clock(&render(memory), own)
 }
 
-// Whether the memory's View isn't the page's.
+// Whether the memory does not have the page's View.
 fn is_wrong(page: &Page, memory: &PageMemory) -> bool
     ensures { IsTrue result ↔ (HasView (page_of page.now) (memory_of memory.now) → ⊥) }
 {
     is_unlike(&render(&PageMemory::of(page)), memory)
 }
 
-// Whether the hits keep the rule and the receiver's View is wrong after the run.
+// Whether the hits keep the rule of k, and the receiver's View is wrong after the run.
 fn ends_wrong(
     alloc: Global,
     cycle: &Cycle,
@@ -140,7 +140,7 @@ fn ends_wrong(
     Ok(keeps && is_wrong(page, receiver.memory()))
 }
 
-// Whether the hits of these keys keep every rule and the receiver's View is wrong after them.
+// Whether these hits, as sorted keys, keep every rule, and the receiver's View is wrong after the run.
 fn check_keys(
     alloc: Global,
     cycle: &Cycle,
@@ -163,7 +163,7 @@ fn check_keys(
     ends_wrong(alloc, cycle, page, counter, keys)
 }
 
-// Whether the hits keep every rule and the receiver's View is wrong after them.
+// Whether the hits keep every rule, and the receiver's View is wrong after the run.
 fn check_hits(
     alloc: Global,
     cycle: &Cycle,
@@ -179,8 +179,9 @@ fn check_hits(
     check_keys(alloc, cycle, page, counter, &keys)
 }
 
-/// Whether the counter-run keeps every rule, lasts to its deadline or longer, and ends in a wrong View. One pass over its slots, and time
-/// linear in its hits but for their sort; memory for a copy of the hits.
+/// Whether the counter-run keeps every rule, lasts to its deadline or longer, and ends in a wrong View. `Err` if memory runs out.
+///
+/// Takes one pass over the slots of the run, and the time to sort its hits. Allocates memory for a copy of the hits.
 pub fn check_counter(
     alloc: Global,
     cycle: &Cycle,

@@ -1,10 +1,10 @@
-//! Laws of completeness, for receivers of class Any. A call costs nothing and gives the caller's proof the law.
+//! Laws of completeness, for receivers of class any. A call does nothing at run time, and gives the law to the caller's proof.
 
 ghost use Rattle.ttx_counter.specs.Completeness.{CoveredOrStarved, StartsAreJudged, StarvedIsNotCovered, StarvedIsUnseen, StarvedHasCounter, StarvesInPeriod};
 ghost use Rattle.ttx_counter.specs.Completeness.{StarvingIsCounterRun, CounterIsUnseen, FullestNamesAll, SeenIsCovered, SeenExactlyWhereAccepted};
 ghost use Rattle.ttx_counter.specs.Completeness.{FoundIsLeastSeen, NoneFoundIsUnseen};
 
-/// An item is covered by its sure runs, or from some tuning slot on none of them comes in time.
+/// Either its sure runs cover an item, or from some tuning slot on none of them comes in time.
 pub fn covered_or_starved()
     ensures { CoveredOrStarved }
 {
@@ -18,7 +18,7 @@ pub fn covered_or_starved()
     ttx_witness::cycle_laws::firsts_are_found();
 }
 
-/// One pass over a period tells from what slot on an item is starved whose sure starts are all named.
+/// If all sure starts of an item are named, one pass over a period finds from which slot on a receiver is starved of it, if any.
 pub fn starts_are_judged()
     ensures { StartsAreJudged }
 {
@@ -32,7 +32,7 @@ pub fn starts_are_judged()
     ttx_witness::cycle_laws::firsts_are_found();
 }
 
-/// No certificate with these numbers covers an item of which no sure run comes in time from some tuning slot on.
+/// If from some tuning slot on no sure run of an item comes in time, no certificate with these numbers covers it.
 pub fn starved_is_not_covered()
     ensures { StarvedIsNotCovered }
 {
@@ -42,7 +42,7 @@ pub fn starved_is_not_covered()
     ttx_page::laws::steady_sends_its_own();
 }
 
-/// A receiver that is starved of an item hasn't the page's View.
+/// A receiver that is starved of an item does not have the page's View.
 pub fn starved_is_unseen()
     ensures { StarvedIsUnseen }
 {
@@ -50,7 +50,7 @@ pub fn starved_is_unseen()
     ttx_render::laws::wrong_letter_is_seen();
 }
 
-/// A steady page of a clean cycle, one of whose items doesn't come in time, has a counter-run.
+/// A steady page of a clean cycle has a counter-run if one of its items does not come in time.
 pub fn starved_has_counter()
     ensures { StarvedHasCounter }
 {
@@ -60,7 +60,7 @@ pub fn starved_has_counter()
     starved_is_unseen();
 }
 
-/// Where no sure run comes in time from some tuning slot on, none does from some slot of the first period on.
+/// If no sure run comes in time from some tuning slot on, none does from some slot of the first period on.
 pub fn starves_in_period()
     ensures { StarvesInPeriod }
 {
@@ -84,14 +84,14 @@ pub fn counter_is_unseen()
     ensures { CounterIsUnseen }
 {}
 
-/// The certificate that names the starts of all sure runs.
+/// The fullest certificate names exactly the starts of all sure runs.
 pub fn fullest_names_all()
     ensures { FullestNamesAll }
 {
     ttx_witness::cycle_laws::sure_starts_are_found();
 }
 
-/// A steady page of a clean cycle that is seen is covered by some certificate of these numbers.
+/// If a steady page of a clean cycle is seen, some certificate with these numbers covers it.
 pub fn seen_is_covered()
     ensures { SeenIsCovered }
 {
@@ -101,7 +101,7 @@ pub fn seen_is_covered()
     fullest_names_all();
 }
 
-/// Where all is sent unchanged, all pages are seen exactly where some certificate of these numbers is accepted.
+/// If all pages are sent unchanged: all pages are seen if and only if some certificate with these numbers is accepted.
 pub fn seen_exactly_where_accepted()
     ensures { SeenExactlyWhereAccepted }
 {
@@ -112,7 +112,7 @@ pub fn seen_exactly_where_accepted()
     ttx_certify::laws::accepted_is_seen();
 }
 
-/// The deadline that is found is the least for which all pages are seen.
+/// The deadline that `find` finds is the least with which all pages are seen.
 pub fn found_is_least_seen()
     ensures { FoundIsLeastSeen }
 {
@@ -120,7 +120,7 @@ pub fn found_is_least_seen()
     ttx_certify::laws::accepted_is_seen();
 }
 
-/// Where no deadline is found, none shows all pages.
+/// If `find` finds no deadline, there is none with which all pages are seen.
 pub fn none_found_is_unseen()
     ensures { NoneFoundIsUnseen }
 {

@@ -1,12 +1,12 @@
-//! Why the text of a counter-run isn't read.
+//! Why the text of a counter-run is refused.
 
-/// The fault of the text of a counter-run. Lines are counted from 1.
+/// Why the text of a counter-run is refused. Lines are counted from 1.
 #[derive(Clone, Copy)]
 pub enum CounterFault {
-    /// The first line is no counter-run's.
+    /// The first line is not the title of a counter-run.
     Title,
-    /// The line is the first that isn't as in the text of the counter-run that the numbers say.
+    /// The first line that differs from the text of the counter-run that the numbers describe.
     Line { line: usize },
-    /// A growth was refused.
+    /// An allocation failed.
     NoMemory,
 }

@@ -1,4 +1,4 @@
-//! Reading counter-runs.
+//! Reads the text of a counter-run.
 
 ghost use Rattle.std.specs.Prelude.{◌≡◌, ◌<◌, ◌≤◌, ◌∷◌, [], ◌++◌, ◌+◌, ◌-◌, ◌^◌, ◌==◌, if◌then◌else◌, true, length, map, take, slice_index, IfOk};
 ghost use Rattle.std.specs.Prelude.{OnOk};
@@ -21,7 +21,7 @@ use ttx_links::Target;
 use ttx_page::PageMemory;
 use ttx_witness::NoMemory;
 
-// A number, or the largest of its place.
+// A number, limited to `most`.
 fn small(number: u32, most: u8) -> u8
     ensures value { result ≡ at_most most number }
     ensures small { result ≤ most }
@@ -33,7 +33,7 @@ fn small(number: u32, most: u8) -> u8
     }
 }
 
-// 40 characters.
+// The first 40 numbers as the characters of a row.
 fn row_in(numbers: &[u32]) -> [u8; 40]
     ensures { result ≡ characters_in 40 numbers.now }
 {
@@ -44,7 +44,7 @@ fn row_in(numbers: &[u32]) -> [u8; 40]
     row
 }
 
-// 25 rows.
+// The first 1,000 numbers as 25 rows.
 fn read_rows(numbers: &[u32]) -> [[u8; 40]; 25]
     ensures { result ≡ read_rows 25 numbers.now }
 {
@@ -77,7 +77,7 @@ fn read_link(mag: u32, page: u32, sub: u32) -> Option<Target>
     }
 }
 
-// The link that three numbers say.
+// The link that the first three numbers describe.
 fn first_link(numbers: &[u32]) -> Option<Target>
     ensures { result ≡ read_link (slice_index numbers.now 0) (slice_index numbers.now 1) (slice_index numbers.now 2) }
 {
@@ -88,7 +88,7 @@ fn first_link(numbers: &[u32]) -> Option<Target>
     )
 }
 
-// Six links.
+// The six links that the first 18 numbers describe.
 #[tactic(auto, unfolding(crate::specs::CounterReading::read_links))]
 fn read_links(numbers: &[u32]) -> [Option<Target>; 6]
     ensures { result ≡ read_links 6 numbers.now }
@@ -107,7 +107,7 @@ fn read_links(numbers: &[u32]) -> [Option<Target>; 6]
     ]
 }
 
-// Control bits, or all of them where the number has more.
+// Control bits from a number, limited to all eleven of them.
 fn control_of(number: u32) -> Control
     ensures { result.0 ≡ at_most 2047 number }
 {
@@ -118,7 +118,7 @@ fn control_of(number: u32) -> Control
     }
 }
 
-// The memory that the numbers of a text say.
+// The memory that the numbers of a text describe.
 fn memory_in(numbers: &[u32]) -> PageMemory
     ensures { memory_of result ≡ memory_in numbers.now }
 {
@@ -143,7 +143,7 @@ fn memory_in(numbers: &[u32]) -> PageMemory
     }
 }
 
-// A bit for each number.
+// A bit for each number: whether it is not 0.
 fn bits_of(alloc: Global, numbers: &[u32]) -> Result<Vec<bool>, NoMemory>
     ensures { IfOk result (λ v. v.items ≡ map is_one numbers.now) }
 {
@@ -176,7 +176,7 @@ fn push_hit(hits: &mut Vec<Hit>, hit: Hit) -> Result<(), NoMemory>
     Ok(())
 }
 
-// So many hits, or as many as there are.
+// The first `count` hits, or fewer if the numbers end before.
 fn hits_in(alloc: Global, numbers: &[u32], count: u32) -> Result<Vec<Hit>, NoMemory>
     ensures { IfOk result (λ v. v.items ≡ hits_in count numbers.now) }
 {
@@ -191,7 +191,7 @@ fn hits_in(alloc: Global, numbers: &[u32], count: u32) -> Result<Vec<Hit>, NoMem
     Ok(hits)
 }
 
-// The counter-run that the numbers of a text say.
+// The counter-run that the numbers of a text describe.
 fn counter_in(alloc: Global, numbers: &[u32]) -> Result<Counter, NoMemory>
     ensures { IfOk result (λ c. counter_run_of c ≡ counter_in numbers.now) }
 {
@@ -215,7 +215,7 @@ fn counter_in(alloc: Global, numbers: &[u32]) -> Result<Counter, NoMemory>
     })
 }
 
-// The number of the line after a byte.
+// The number of the line of the next byte: one more after 0A.
 fn line_after(line: usize, byte: u8) -> usize
     requires { line < 2 ^ 64 - 1 }
     ensures value { result ≡ (if byte == 10 then line + 1 else line) }
@@ -252,7 +252,7 @@ fn fault_in_line(line: usize) -> CounterFault
     }
 }
 
-// The counter-run of the text, where it is that one's.
+// The counter-run, if the text is that of this counter-run.
 fn judged(alloc: Global, bytes: &[u8], counter: Counter) -> Result<Counter, CounterFault>
     ensures { IsCounterUnlessMemory result (counter_outcome counter_run_of result ≡ rule.judged bytes.now (counter_run_of counter)) }
 {
@@ -268,8 +268,8 @@ fn judged(alloc: Global, bytes: &[u8], counter: Counter) -> Result<Counter, Coun
     }
 }
 
-/// The counter-run that a text is. Else the first line that is another than in the text of the counter-run that its numbers say.
-/// Memory for the numbers, and for that text.
+/// Reads a counter-run. The numbers in the text describe a counter-run, and the text is accepted only if it is the text of that
+/// counter-run, byte for byte. Otherwise the fault names the first line that differs. Allocates memory for the numbers and for that text.
 pub fn read_counter(alloc: Global, bytes: &[u8]) -> Result<Counter, CounterFault>
     ensures { IsCounterUnlessMemory result (counter_outcome counter_run_of result ≡ read_counter_text bytes.now) }
 {

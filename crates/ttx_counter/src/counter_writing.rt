@@ -1,4 +1,4 @@
-//! Writing counter-runs.
+//! Writes the text of a counter-run.
 
 ghost use Rattle.std.specs.Prelude.{◌≡◌, ◌∷◌, ◌++◌, [], OnOk, IfOk, string_bytes, codes, length};
 ghost use Rattle.ttx_page.specs.Views.{memory_of};
@@ -21,7 +21,7 @@ fn push_number(text: &mut String, word: &str, number: u32) -> Result<(), AllocEr
     write!(text, " {number}\n")
 }
 
-// 1 for yes.
+// 1 for true, 0 for false.
 fn yes_as_one(yes: bool) -> u32
     ensures { result ≡ yes_as_one yes }
 {
@@ -92,7 +92,7 @@ fn push_rows(text: &mut String, rows: &[[u8; 40]]) -> Result<(), AllocError>
     Ok(())
 }
 
-// Adds the lines of a memory that stand before its links.
+// Adds the lines of a memory before its links.
 #[tactic(auto, unfolding(crate::specs::CounterTexts::state_text))]
 fn push_state(text: &mut String, memory: &PageMemory) -> Result<(), AllocError>
     ensures { OnOk result (string_bytes text.new ≡ string_bytes text.old ++ state_text (memory_of memory.now)) }
@@ -103,7 +103,7 @@ fn push_state(text: &mut String, memory: &PageMemory) -> Result<(), AllocError>
     push_number(text, "fresh", yes_as_one(memory.fresh()))
 }
 
-// Adds the lines of its links.
+// Adds the lines of the links of a memory.
 #[tactic(auto, unfolding(crate::specs::CounterTexts::links_lines))]
 fn push_link_lines(text: &mut String, memory: &PageMemory) -> Result<(), AllocError>
     ensures { OnOk result (string_bytes text.new ≡ string_bytes text.old ++ links_lines (memory_of memory.now)) }
@@ -114,7 +114,7 @@ fn push_link_lines(text: &mut String, memory: &PageMemory) -> Result<(), AllocEr
     text.push('\n')
 }
 
-// Adds the lines of a memory.
+// Adds all lines of a memory.
 fn push_memory(text: &mut String, memory: &PageMemory) -> Result<(), AllocError>
     ensures { OnOk result (string_bytes text.new ≡ string_bytes text.old ++ memory_text (memory_of memory.now)) }
 {
@@ -179,7 +179,7 @@ fn push_title(text: &mut String) -> Result<(), AllocError>
     text.push_str("ttx counter 1\n")
 }
 
-// Adds the first line and those of the certificate's numbers.
+// Adds the title, and the lines of the certificate's numbers.
 #[tactic(auto, unfolding(crate::specs::CounterTexts::head_lines))]
 fn push_head(text: &mut String, counter: &Counter) -> Result<(), AllocError>
     ensures { OnOk result (string_bytes text.new ≡ string_bytes text.old ++ head_lines (counter_run_of counter.now)) }
@@ -214,7 +214,7 @@ fn text_of(alloc: Global, counter: &Counter) -> Result<String, AllocError>
     Ok(text)
 }
 
-/// The text of a counter-run. Only a refused growth is an error.
+/// The text of a counter-run. `Err` if memory runs out.
 pub fn write_counter(alloc: Global, counter: &Counter) -> Result<Vec<u8>, NoMemory>
     ensures { IfOk result (λ text. text.items ≡ counter_text (counter_run_of counter.now)) }
 {

@@ -1,4 +1,4 @@
-//! The memory of a page but for one character, or for one link.
+//! The memory of a page with one wrong character, or one wrong link.
 
 ghost use Rattle.std.specs.Prelude.{◌≡◌, ◌<◌, slice_index, slice_set};
 ghost use Rattle.ttx_page.specs.Pages.{IsRow};
@@ -9,7 +9,7 @@ ghost use Rattle.ttx_counter.specs.StarvingRuns.{with_other_links};
 use ttx_links::{Links, Target};
 use ttx_page::{Item, Page, PageMemory};
 
-// A, or B in the place of A.
+// The letter A, or B if the character is A.
 fn other_letter_of(c: u8) -> u8
     ensures value { result ≡ other_letter c }
     ensures low { result < 128 }
@@ -17,7 +17,7 @@ fn other_letter_of(c: u8) -> u8
     if c == b'A' { b'B' } else { b'A' }
 }
 
-// The row with another letter in a column.
+// The row with another letter at column `c`.
 fn with_other_letter(row: &[u8; 40], c: usize) -> [u8; 40]
     requires column { c < 40 }
     requires row { IsRow row.now }
@@ -38,7 +38,7 @@ fn letter_at(memory: PageMemory, r: usize, c: usize) -> PageMemory
     memory.with_row(r, &row)
 }
 
-// None in the place of a link, and a link to page 00 of magazine 1 in the place of none.
+// No link where there was one; a link to page 00 of magazine 1 where there was none.
 fn other_link_of(link: Option<Target>) -> Option<Target>
     ensures { result ≡ other_link link }
 {
@@ -66,7 +66,7 @@ fn read_links(memory: PageMemory, links: &Links) -> PageMemory
     wrong
 }
 
-/// The memory of the page but for the item's first character, or the first link.
+/// The memory of the page with the item's first character wrong, or with the first link wrong.
 pub fn wrong_memory_of(page: &Page, item: &Item) -> PageMemory
     ensures { memory_of result ≡ wrong_memory (page_of page.now) item.now }
 {

@@ -1,4 +1,4 @@
-//! A receiver with a script over the slots of a run.
+//! Gives the slots of a run to a receiver that follows a script.
 
 ghost use Rattle.std.specs.Prelude.{◌≡◌, ℕ, ◌<◌, ◌≤◌, length};
 ghost use Rattle.std.specs.List.Sorted.{IsNonDecreasing};
@@ -12,7 +12,7 @@ use crate::listening::place;
 use ttx_cycle::Cycle;
 use ttx_receiver::{Receiver, Scripted};
 
-/// What is received in a run: `count` slots of the cycle from `start` on, with the bits of the keys flipped.
+/// What is received in a run: `count` slots of the cycle from slot `start` on, with the bits of the keys flipped.
 #[derive(Clone, Copy)]
 pub struct Run<'a> {
     pub cycle: &'a Cycle,
@@ -21,7 +21,7 @@ pub struct Run<'a> {
     pub keys: &'a [u64],
 }
 
-/// Gives the receiver what is received in a run.
+/// Gives the receiver what is received in the run.
 pub fn hear(receiver: &mut Scripted<'_>, run: &Run<'_>)
     requires sorted { IsNonDecreasing run.now.keys.now }
     requires apart { AreHitOnce run.now.keys.now }

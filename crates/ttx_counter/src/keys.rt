@@ -10,7 +10,7 @@ use crate::counter::Hit;
 use std::alloc::Global;
 use ttx_witness::NoMemory;
 
-/// The hits of one slot: the keys from place `from` to below `to`.
+/// The hits of one slot: the keys from place `from` to before place `to`.
 #[derive(Clone, Copy)]
 pub struct SlotKeys<'a> {
     pub keys: &'a [u64],
@@ -25,7 +25,7 @@ fn hit_key(hit: Hit) -> u64
     u64::from(hit.index) * 65536 + u64::from(hit.byte) * 256 + u64::from(hit.bit)
 }
 
-// The numbers of the hits, in their order.
+// The numbers of the hits, in the order of the list.
 fn keys_of(alloc: Global, hits: &[Hit]) -> Result<Vec<u64>, NoMemory>
     ensures { IfOk result (λ keys. keys.items ≡ map hit_key hits.now) }
 {
@@ -48,7 +48,7 @@ pub fn sorted_keys(alloc: Global, hits: &[Hit]) -> Result<Vec<u64>, NoMemory>
     Ok(keys)
 }
 
-/// Whether no byte of a slot is hit twice.
+/// Whether no byte of any slot is hit twice.
 pub fn are_apart(keys: &[u64]) -> bool
     requires { IsNonDecreasing keys.now }
     ensures { IsTrue result ↔ AreHitOnce keys.now }
@@ -61,14 +61,14 @@ pub fn are_apart(keys: &[u64]) -> bool
     true
 }
 
-/// The byte of a hit.
+/// The byte of a hit's number.
 pub fn byte_in(key: u64) -> usize
     ensures { result ≡ byte_in key }
 {
     (key / 256 % 256) as usize
 }
 
-/// The place after the keys of slot n, which begin at `from`.
+/// The place after the keys of slot `n`, which begin at place `from`.
 pub fn end_of(keys: &[u64], from: usize, n: u32) -> usize
     requires { from ≤ length keys.now }
     ensures { AreSlotKeys keys.now n from result }
@@ -81,7 +81,7 @@ pub fn end_of(keys: &[u64], from: usize, n: u32) -> usize
     keys.len()
 }
 
-// A byte with one bit wrong.
+// A byte with one bit flipped.
 fn flipped(byte: u8, bit: u8) -> u8
     requires some { 1 ≤ bit }
     requires few { bit ≤ 8 }
@@ -90,7 +90,7 @@ fn flipped(byte: u8, bit: u8) -> u8
     byte ^ (1u8 << (bit - 1))
 }
 
-// The bit of a hit.
+// The bit of a hit's number.
 fn bit_in(key: u64) -> u8
     ensures { result ≡ bit_in key }
 {

@@ -1,4 +1,4 @@
-//! The laws of counter-runs. A call costs nothing and gives the caller's proof the law.
+//! The laws of counter-runs. A call does nothing at run time, and gives the law to the caller's proof.
 
 ghost use Rattle.ttx_counter.specs.CounterReading.{AcceptedCounterTextsAreWritten, WrittenCounterTextsAreRead};
 ghost use Rattle.ttx_counter.specs.Laws.{CounterRunsRefute, RefutedIsNotAccepted};
@@ -12,7 +12,7 @@ pub fn counter_runs_refute()
     ttx_page::laws::scripted_runs();
 }
 
-/// So no certificate of class any with its lines, repeat count and deadline is accepted.
+/// Then no certificate of class any with its lines, repeat count and deadline is accepted.
 pub fn refuted_is_not_accepted()
     ensures { RefutedIsNotAccepted }
 {
@@ -20,12 +20,12 @@ pub fn refuted_is_not_accepted()
     ttx_certify::laws::accepted_is_seen();
 }
 
-/// Streaks of wrong bytes that stay below k say that of any k successive transmissions one is right.
+/// Of any k successive transmissions of a text byte one is right, if and only if each streak of wrong ones stays below k.
 pub fn streaks_decide()
     ensures { StreaksDecide }
 {}
 
-/// A run from slot 0 on without hits and choices is a counter-run where it ends in a wrong View.
+/// A run from slot 0 on, without hits and choices, is a counter-run if it ends in a wrong View.
 pub fn plain_runs_are_counter_runs()
     ensures { PlainRunsAreCounterRuns }
 {
@@ -33,12 +33,12 @@ pub fn plain_runs_are_counter_runs()
     ttx_page::laws::each_slot_turns();
 }
 
-/// Where no header of the page is sent, a receiver that isn't storing keeps links that aren't the page's.
+/// If no header of the page is sent, a receiver that is not storing keeps links that differ from the page's.
 pub fn absent_pages_are_wrong()
     ensures { AbsentPagesAreWrong }
 {}
 
-/// A page that is sent unchanged stays in the View of a receiver that holds it at first, takes no choice and hears no error.
+/// A page that is sent unchanged stays in the View of a receiver that holds it at first, takes no choice and receives no error.
 pub fn steady_pages_stay()
     ensures { SteadyPagesStay }
 {
@@ -49,19 +49,19 @@ pub fn steady_pages_stay()
     ttx_render::laws::showing_is_seeing();
 }
 
-/// A period that gives the memory back gives it back however often it is repeated.
+/// If a period leaves the memory as it was, any number of periods does.
 pub fn periods_repeat()
     ensures { PeriodsRepeat }
 {
     ttx_page::laws::cycles_repeat();
 }
 
-/// A text that is read is the text that is written of its counter-run: each counter-run has one text.
+/// An accepted text is the text that is written for its counter-run. So each counter-run has one text.
 pub fn accepted_texts_are_written()
     ensures { AcceptedCounterTextsAreWritten }
 {}
 
-/// The text that is written of a counter-run is read as the counter-run.
+/// The text that is written for a counter-run is read back as this counter-run.
 pub fn written_texts_are_read()
     ensures { WrittenCounterTextsAreRead }
 {}

@@ -1,4 +1,5 @@
-//! Counter-runs: receptions within every rule that end in a wrong view, and so refute that a page is seen.
+//! Counter-runs: failing receptions. What is received keeps every rule, and the receiver ends with a wrong View, so the page is not
+//! seen.
 #![tactic(auto)]
 
 mod checking;

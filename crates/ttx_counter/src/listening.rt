@@ -1,4 +1,4 @@
-//! The slots of a run: where they stand in the cycle, and which rows of a page they send.
+//! The slots of a run: which slots of the cycle they are, and which rows of a page they send.
 
 ghost use Rattle.std.specs.Prelude.{◌≡◌, ◌+◌, ◌%◌, ◌<◌, pos, length, MatchOption, ⊤, IsTrue, ◌↔◌};
 ghost use Rattle.ttx_packet.specs.Slots.{IsSlot};
@@ -11,7 +11,7 @@ use ttx_cycle::Cycle;
 use ttx_header::PageId;
 use ttx_witness::{heads_page, mine_after, row_in};
 
-/// Where slot i of a run stands in a cycle of so many slots.
+/// The index in a cycle of `period` slots of slot `i` of a run that starts at `start`.
 pub fn place(start: u32, i: u32, period: usize) -> usize
     requires { 0 < period }
     ensures value { result ≡ (start + i) % period }
@@ -20,7 +20,7 @@ pub fn place(start: u32, i: u32, period: usize) -> usize
     ((u64::from(start) + u64::from(i)) % period as u64) as usize
 }
 
-/// The row of the page that a slot sends, 0 for a header; `mine` says whether the latest header of the magazine is the page's.
+/// The row of the page that a slot sends, 0 for a header. `mine` says whether the latest header of the magazine is one of the page.
 pub fn row_sent(page: PageId, slot: &[u8; 42], mine: bool) -> Option<u8>
     requires { IsSlot slot.now }
     ensures row { result ≡ row_sent page (packet_of slot.now) mine }
@@ -42,7 +42,7 @@ pub fn row_sent(page: PageId, slot: &[u8; 42], mine: bool) -> Option<u8>
     }
 }
 
-/// Whether the latest header of the page's magazine before a slot is the page's.
+/// Whether the latest header of the page's magazine before a slot is one of the page.
 pub fn is_owned(cycle: &Cycle, page: PageId, start: u32) -> bool
     ensures { IsTrue result ↔ HasOwner (repeated (slots_of cycle.now)) page (pos start) }
 {

@@ -1,4 +1,4 @@
-//! Which magazine the slots of a cycle concern, so that a receiver need not read those of others.
+//! Which magazine each slot of a cycle concerns, so that a receiver need not read the slots of others.
 
 ghost use Rattle.std.specs.Prelude.{◌≡◌, ◌<◌, [], IfOk, map, length, slice_index_or, true, false};
 ghost use Rattle.ttx_header.specs.Headers.{is_header, id_of};
@@ -16,7 +16,7 @@ use ttx_page::Selection;
 use ttx_receiver::{Eager, Receiver};
 use ttx_witness::NoMemory;
 
-/// A cycle, and the magazine of each of its slots that is a header, a row or an X/27/0; 0 for all others.
+/// A cycle, and for each of its slots the magazine if it is a header, a row or an X/27/0, otherwise 0.
 #[derive(Clone, Copy)]
 pub struct Sorted<'a> {
     pub cycle: &'a Cycle,
@@ -33,7 +33,7 @@ fn header_magazine(bytes: &[u8; 42]) -> u8
     }
 }
 
-// The magazine of a header, a row or an X/27/0; 0 for all else.
+// The magazine of a header, a row or an X/27/0; 0 for any other slot.
 fn magazine_of(slot: &[u8; 42]) -> u8
     ensures { result ≡ magazine_of slot.now }
 {
@@ -49,7 +49,7 @@ fn magazine_of(slot: &[u8; 42]) -> u8
     }
 }
 
-/// The magazine of each slot of a cycle.
+/// The magazine that each slot of a cycle concerns. `Err` if memory runs out.
 pub fn magazines_of(alloc: Global, cycle: &Cycle) -> Result<Vec<u8>, NoMemory>
     ensures { IfOk result (λ magazines. magazines.items ≡ map magazine_of (slots_of cycle.now)) }
 {
@@ -63,7 +63,7 @@ pub fn magazines_of(alloc: Global, cycle: &Cycle) -> Result<Vec<u8>, NoMemory>
     Ok(magazines)
 }
 
-/// The magazine that a receiver listens to.
+/// The magazine to which a receiver is set.
 pub fn selected(selection: &Selection) -> u8
     ensures { result ≡ selected_mag selection.now }
 {
@@ -73,7 +73,7 @@ pub fn selected(selection: &Selection) -> u8
     }
 }
 
-/// The magazine of the slot in a place.
+/// The magazine of the slot at an index.
 pub fn magazine_at(sorted: &Sorted<'_>, at: usize) -> u8
     requires magazines { sorted.now.magazines.now ≡ map magazine_of (slots_of sorted.now.cycle.now) }
     requires at { at < length (slots_of sorted.now.cycle.now) }
@@ -82,7 +82,7 @@ pub fn magazine_at(sorted: &Sorted<'_>, at: usize) -> u8
     sorted.magazines[at]
 }
 
-/// Gives the receiver the slot in a place; one that doesn't concern its magazine is as an empty one.
+/// Gives the receiver the slot at an index. A slot of another magazine has the same effect as an empty one.
 pub fn hear_at(receiver: &mut Eager, sorted: &Sorted<'_>, at: usize)
     requires magazines { sorted.now.magazines.now ≡ map magazine_of (slots_of sorted.now.cycle.now) }
     requires at { at < length (slots_of sorted.now.cycle.now) }

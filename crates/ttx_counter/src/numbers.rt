@@ -12,7 +12,7 @@ fn is_digit(byte: u8) -> bool
     b'0' <= byte && byte <= b'9'
 }
 
-// A number, or 2^32 - 1 where it is larger.
+// A number, limited to 2^32 - 1.
 fn clipped(number: u64) -> u32
     ensures { result ≡ at_most 4294967295 number }
 {
@@ -23,7 +23,7 @@ fn clipped(number: u64) -> u32
     }
 }
 
-// The number once one more digit is read, at most 2^32 - 1.
+// The number after one more digit, limited to 2^32 - 1.
 fn digit_after(begun: Option<u32>, byte: u8) -> u32
     requires { is_digit byte ≡ true }
     ensures { result ≡ digit_after begun byte }
@@ -35,7 +35,7 @@ fn digit_after(begun: Option<u32>, byte: u8) -> u32
     }
 }
 
-// Keeps the number that has ended, where one has.
+// Appends the number that has ended, if one has.
 fn keep(numbers: &mut Vec<u32>, ended: Option<u32>) -> Result<(), NoMemory>
     ensures { OnOk result (numbers.new.items ≡ numbers.old.items ++ closed ended []) }
 {
@@ -47,7 +47,7 @@ fn keep(numbers: &mut Vec<u32>, ended: Option<u32>) -> Result<(), NoMemory>
     Ok(())
 }
 
-/// The numbers in a text: runs of digits, each of 2^32 or more as 2^32 - 1.
+/// The numbers in a text: its runs of digits. A number of 2^32 or more becomes 2^32 - 1.
 #[tactic(auto, unfolding(crate::specs::CounterReading::numbers_after), using(crate::proofs::ReadParts::closed_more))]
 pub fn line_numbers(alloc: Global, bytes: &[u8]) -> Result<Vec<u32>, NoMemory>
     ensures { IfOk result (λ numbers. numbers.items ≡ line_numbers bytes.now) }
@@ -66,7 +66,7 @@ pub fn line_numbers(alloc: Global, bytes: &[u8]) -> Result<Vec<u32>, NoMemory>
     Ok(numbers)
 }
 
-/// The number in a place, and 0 where there is none.
+/// The number at an index; 0 beyond the end.
 pub fn number_at(numbers: &[u32], place: usize) -> u32
     ensures { result ≡ slice_index numbers.now place }
 {
@@ -77,7 +77,7 @@ pub fn number_at(numbers: &[u32], place: usize) -> u32
     }
 }
 
-/// The first numbers, as many as there are.
+/// The first `count` numbers, or all if there are fewer.
 #[tactic(auto, using(crate::proofs::ReadParts::all_of))]
 pub fn first_of(numbers: &[u32], count: usize) -> &[u32]
     ensures { result.now ≡ take count numbers.now }
@@ -89,7 +89,7 @@ pub fn first_of(numbers: &[u32], count: usize) -> &[u32]
     }
 }
 
-/// The numbers after so many.
+/// The numbers after the first `count`.
 #[tactic(auto, using(crate::proofs::ReadParts::past_end))]
 pub fn after_first(numbers: &[u32], count: usize) -> &[u32]
     ensures { result.now ≡ drop count numbers.now }
@@ -101,7 +101,7 @@ pub fn after_first(numbers: &[u32], count: usize) -> &[u32]
     }
 }
 
-/// Whether a number says yes.
+/// Whether a number is not 0.
 pub fn is_one(number: u32) -> bool
     ensures { result ≡ is_one number }
 {

@@ -1,4 +1,4 @@
-//! Plain runs: a receiver that takes no choice, from slot 0 on and without hits.
+//! Plain runs: runs from slot 0 on, without hits, of a receiver that takes no choice.
 
 ghost use Rattle.std.specs.Prelude.{◌≡◌, ℕ, ◌+◌, ◌-◌, ◌*◌, ◌<◌, ◌≤◌, ◌^◌, ◌==◌, ◌&&◌, pos, true, IsTrue, ◌↔◌, MatchOption, [], map, length};
 ghost use Rattle.std.specs.Prelude.{slice_index_or};
@@ -71,7 +71,7 @@ fn are_same(a: &PageMemory, b: &PageMemory) -> bool
         && a.fresh() == b.fresh()
 }
 
-// Gives the receiver `count` slots of the cycle from slot `begin` on.
+// Gives the receiver `count` slots of the cycle, from slot `begin` of the run on.
 fn advance(receiver: &mut Eager, sorted: &Sorted<'_>, begin: u32, count: u32)
     requires magazines { sorted.now.magazines.now ≡ map magazine_of (slots_of sorted.now.cycle.now) }
     ensures memory { receiver.new.memory ≡ plain_from receiver.old.lines receiver.old.selection receiver.old.memory
@@ -85,7 +85,7 @@ fn advance(receiver: &mut Eager, sorted: &Sorted<'_>, begin: u32, count: u32)
     }
 }
 
-// Gives the receiver so many periods of the cycle; it stops early where a period gives the memory back.
+// Gives the receiver `periods` periods of the cycle. Stops early once a period leaves the memory as it was.
 fn settle(receiver: &mut Eager, sorted: &Sorted<'_>, periods: u32, period: u32)
     requires magazines { sorted.now.magazines.now ≡ map magazine_of (slots_of sorted.now.cycle.now) }
     requires period { period ≡ length (slots_of sorted.now.cycle.now) }
@@ -146,7 +146,7 @@ fn is_under(mag: u8, slot: &[u8; 42]) -> bool
     }
 }
 
-// Whether the receiver takes something from the slot in a place that it may show.
+// Whether the receiver takes anything from the slot at an index that it may show.
 fn takes_from(memory: &PageMemory, selection: &Selection, sorted: &Sorted<'_>, at: usize) -> bool
     requires magazines { sorted.now.magazines.now ≡ map magazine_of (slots_of sorted.now.cycle.now) }
     requires at { at < length (slots_of sorted.now.cycle.now) }
@@ -160,8 +160,8 @@ fn takes_from(memory: &PageMemory, selection: &Selection, sorted: &Sorted<'_>, a
     begins(selection, slot) || is_under(mag, slot) && memory.storing()
 }
 
-// The first number of slots, `low` or up to `more` above it, after which the receiver's View isn't this one. Views are compared only
-// after slots that the receiver takes.
+// A number of slots, from `low` to `low + more`, after which the receiver's View differs from `own`. Views are compared only after
+// slots that the receiver takes.
 fn first_wrong(
     receiver: &mut Eager,
     sorted: &Sorted<'_>,
@@ -193,8 +193,8 @@ fn first_wrong(
     None
 }
 
-/// The first number of slots, `low` or up to two periods more, after which a receiver has not the View of a page that it holds at
-/// first, if it takes no choice. It jumps over periods that give its memory back.
+/// A number of slots, from `low` to two periods more, after which a receiver that takes no choice no longer has the View of a page
+/// that it holds at first. `None` if there is none. Skips periods that leave the memory as it was.
 pub fn plain_run(
     sorted: &Sorted<'_>,
     page: &Page,

@@ -1,4 +1,4 @@
-//! Counter-runs of one page by plain runs.
+//! Counter-runs of one page from plain runs.
 
 ghost use Rattle.std.specs.Prelude.{◌≡◌, ◌<◌, IsTrue, Some, length, map, slice_get};
 ghost use Rattle.ttx_page.specs.Pages as definitions;
@@ -22,8 +22,8 @@ use std::alloc::Global;
 use ttx_page::PageMemory;
 use ttx_witness::Certificate;
 
-/// A run from slot 0 on without hits and choices: the place of its page in the list, whether any subpage is taken, what the receiver
-/// holds at first, and of how many slots.
+/// A run from slot 0 on without hits and choices: the place of its page in the list, whether any subpage is taken, the receiver's
+/// former memory, and the number of slots.
 #[derive(Clone, Copy)]
 pub struct PlainRun {
     pub page: u32,
@@ -32,7 +32,7 @@ pub struct PlainRun {
     pub slots: u32,
 }
 
-/// The counter-run that a plain run is, with the numbers of the certificate.
+/// A plain run as a counter-run, with the numbers of the certificate.
 pub fn plain_counter(alloc: Global, run: PlainRun, certificate: &Certificate) -> Counter
     ensures { counter_run_of result ≡ plain_counter run.page run.any_sub (memory_of run.former)
         (certificate_of certificate.now).lines (certificate_of certificate.now).repeat (certificate_of certificate.now).deadline run.slots }
@@ -51,8 +51,8 @@ pub fn plain_counter(alloc: Global, run: PlainRun, certificate: &Certificate) ->
     }
 }
 
-/// A counter-run of the page at the index by this selection, where a plain run from the page's own memory ends wrong. A page that is
-/// sent unchanged has none, and isn't run.
+/// A counter-run of the page at `index`, with this selection, if a plain run from the page's own memory ends wrong. A page that is sent
+/// unchanged has none, so it is not run.
 pub fn refute_plainly(
     alloc: Global,
     claim: &Claim<'_>,

@@ -1,4 +1,4 @@
-//! Counter-runs to certificates.
+//! Searches for a counter-run that refutes certificates.
 
 ghost use Rattle.std.specs.Prelude.{◌≡◌, ◌≢◌, ◌<◌, ◌^◌, ◌↔◌, ℕ, IsTrue, IfOk, Some, Bool, false, true, is_some, length, map, slice_get};
 ghost use Rattle.std.specs.List.{AllPairs};
@@ -45,7 +45,7 @@ fn is_absent(fault: Option<Reason>) -> bool
     matches!(fault, Some(Reason::NoHeader { .. }))
 }
 
-// A counter-run of a page that has no header: a link that isn't the page's stays.
+// A counter-run of a page that has no header: a link that is not the page's stays.
 fn absent_counter(alloc: Global, page: &Page, index: u32, certificate: &Certificate) -> Counter
     ensures run { counter_run_of result ≡ plain_counter index false (wrong_memory (page_of page.now) items.Links)
         (certificate_of certificate.now).lines
@@ -62,7 +62,7 @@ fn absent_counter(alloc: Global, page: &Page, index: u32, certificate: &Certific
     plain_counter(alloc, run, certificate)
 }
 
-// The slot from which on a receiver is starved of the item, where a viewer sees it and there is one.
+// The slot from which on a receiver is starved of the item. `None` if there is none, or if no viewer sees the item.
 fn start_for(claim: &Claim<'_>, prepared: &Prepared<'_>, index: u32, item: &Item) -> Option<u32>
     requires index { index < length claim.now.pages.now }
     requires prepared { ArePrepared (slots_of claim.now.cycle.now) (map page_of claim.now.pages.now)
@@ -83,7 +83,7 @@ fn start_for(claim: &Claim<'_>, prepared: &Prepared<'_>, index: u32, item: &Item
     starving_start(claim.cycle, page, claim.certificate, &sent_item)
 }
 
-// The counter-run of the page that is starved of the item from a slot on.
+// The counter-run of a receiver that is starved of the item from slot `start` on.
 fn starved_counter(
     alloc: Global,
     claim: &Claim<'_>,
@@ -115,7 +115,7 @@ fn starved_counter(
     counter_for(alloc, claim.cycle, &starved, claim.certificate)
 }
 
-// A counter-run of a steady page of a clean cycle, by the first item that doesn't come in time.
+// A counter-run of a steady page of a clean cycle, from the first item that does not come in time.
 fn starve_page(
     alloc: Global,
     claim: &Claim<'_>,
@@ -186,7 +186,7 @@ fn refute_page(
     starve_page(alloc, claim, prepared, index)
 }
 
-// The same of the first page that has one.
+// The counter-run of the first page that has one.
 fn refute_pages(
     alloc: Global,
     claim: &Claim<'_>,
@@ -210,7 +210,7 @@ fn refute_pages(
     Ok(None)
 }
 
-// Whether the cycle sends the page at the index unchanged.
+// Whether the cycle sends the page at `index` unchanged.
 fn is_steady(claim: &Claim<'_>, prepared: &Prepared<'_>, index: u32) -> bool
     requires index { index < length claim.now.pages.now }
     requires sent { AreAllSent (slots_of claim.now.cycle.now) (map page_of claim.now.pages.now) (certificate_of claim.now.certificate.now).lines
@@ -232,8 +232,8 @@ fn is_steady(claim: &Claim<'_>, prepared: &Prepared<'_>, index: u32) -> bool
     fault.is_none()
 }
 
-// A counter-run of the page by its number, where there is none by its own id. Where the cycle has no other subpage of it, a receiver
-// makes the same of both, and isn't run again.
+// A counter-run of a receiver set to the page's number, when there is none for its id. If the cycle has no other subpage of this
+// number, both receivers do the same, and the run is not repeated.
 fn refute_by_number(
     alloc: Global,
     claim: &Claim<'_>,
@@ -258,7 +258,7 @@ fn refute_by_number(
     }
 }
 
-// A counter-run of the first page of which a plain run ends wrong, by its own id or by its number.
+// A counter-run of the first page of which a plain run ends wrong, with the receiver set to its id or to its number.
 fn refute_all_plainly(alloc: Global, claim: &Claim<'_>, prepared: &Prepared<'_>) -> Option<Counter>
     requires few { length claim.now.pages.now < 2 ^ 32 }
     requires sent { AreAllSent (slots_of claim.now.cycle.now) (map page_of claim.now.pages.now) (certificate_of claim.now.certificate.now).lines
@@ -283,13 +283,14 @@ fn refute_all_plainly(alloc: Global, claim: &Claim<'_>, prepared: &Prepared<'_>)
     None
 }
 
-/// A counter-run to certificates of class any with these lines, repeat count and deadline: `check_counter` accepts it, and so no such
-/// certificate is accepted. It gives one where a page has no header; where a plain run of a page ends wrong; and, in a clean cycle, where a
-/// steady page is covered by no such certificate. Where all pages are sent unchanged in clean slots it gives one exactly where no
-/// such certificate is accepted.
+/// Searches for a counter-run that refutes all certificates of class any with these lines, repeat count and deadline: `check_counter`
+/// accepts it, so no such certificate is accepted. `Err` if memory runs out.
 ///
-/// It is of the first page, in their order, that has no header or is steady in a clean cycle and not so covered; where there is no such page,
-/// of the first one of which a plain run ends wrong.
+/// There is one if a page has no header; if a plain run of a page ends wrong; and if, in a clean cycle, no such certificate covers some
+/// steady page. If all pages are sent unchanged in clean slots, there is one if and only if no such certificate is accepted.
+///
+/// It concerns the first page that has no header, or is steady in a clean cycle and not covered. If there is no such page, it concerns
+/// the first page of which a plain run ends wrong.
 pub fn refute(
     alloc: Global,
     cycle: &Cycle,

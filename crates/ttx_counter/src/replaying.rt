@@ -1,4 +1,4 @@
-//! Counter-runs replayed.
+//! Replays counter-runs.
 
 ghost use Rattle.std.specs.Prelude.{◌≡◌, ℕ, ◌<◌, IfOk, length, map};
 ghost use Rattle.std.specs.List.Sorted.{IsNonDecreasing};
@@ -41,7 +41,7 @@ fn memory_after(cycle: &Cycle, page: &Page, counter: &Counter, keys: &[u64]) -> 
     *receiver.memory()
 }
 
-/// What the receiver of a counter-run holds after it. None where it isn't a counter-run of the cycle and the pages.
+/// The memory of the receiver after a counter-run. `None` if this is not a counter-run of the cycle and the pages.
 pub fn replay(
     alloc: Global,
     cycle: &Cycle,

@@ -1,4 +1,4 @@
-//! The rule of k: of any k successive transmissions of a text byte at least one is received right.
+//! The rule of k: of any k successive transmissions of a text byte, at least one is received right.
 
 ghost use Rattle.std.specs.Prelude.{◌≡◌, ℕ, ◌<◌, ◌≤◌, ◌↔◌, IsTrue, IfOk, length};
 ghost use Rattle.std.specs.List.Sorted.{IsNonDecreasing};
@@ -17,8 +17,8 @@ use ttx_header::PageId;
 use ttx_receiver::{Receiver, Scripted};
 use ttx_witness::{NoMemory, mine_after};
 
-/// Gives the receiver what is received in a run, as long as the hits keep the rule for the page; whether they do so to the end. One pass
-/// over the slots of the run, with a fixed number of counters; none where there are no hits.
+/// Gives the receiver what is received in a run, as long as the hits keep the rule for the page. Returns whether they keep it to the end.
+/// Takes one pass over the slots of the run with a fixed number of counters, and no counters if there are no hits.
 pub fn hear_within_rule(
     alloc: Global,
     receiver: &mut Scripted<'_>,

@@ -1,4 +1,4 @@
-//! The slot from which on a receiver is starved of an item.
+//! From which slot on a receiver is starved of an item.
 
 ghost use Rattle.std.specs.Prelude.{◌≡◌, ◌≤◌, ◌<◌, ◌↔◌, ◌+ℤ◌, ◌≤ℤ◌, pos, ℕ, MatchOption, length, Contains};
 ghost use Rattle.std.specs.List.{AllByRecursion};
@@ -40,7 +40,7 @@ fn in_slot(sent: &[Transmission], slot: u32) -> Option<Transmission>
     None
 }
 
-// The slot of the period in which a slot of the stream stands.
+// The slot of the period that sends the same as a slot of the stream.
 fn turned(slot: i32, period: u32) -> u32
     requires { 0 < period }
     ensures { result ≡ turned period slot }
@@ -52,7 +52,7 @@ fn turned(slot: i32, period: u32) -> u32
     }
 }
 
-// The slot of the period after the owner of a transmission.
+// The slot of the period that follows the owner of a transmission.
 fn slot_after(t: Transmission, period: u32) -> u32
     requires some { 0 < period }
     requires small { t.owner ≤ℤ pos 65536 }
@@ -61,7 +61,7 @@ fn slot_after(t: Transmission, period: u32) -> u32
     turned(t.owner + 1, period)
 }
 
-// The slot of the period after the owner of the transmission in a slot.
+// The slot of the period that follows the owner of the transmission in a slot.
 fn after_owner(sent: &[Transmission], slot: u32, period: u32) -> u32
     requires some { 0 < period }
     requires within { AllByRecursion (IsWithin 65536) sent.now }
@@ -81,7 +81,7 @@ pub struct SentItem<'a> {
     pub sent: &'a [Transmission],
 }
 
-/// The slot of the period from which on no sure run of the item comes in time, where there is one.
+/// The slot of the period from which on no sure run of the item comes in time. `None` if its sure runs cover the item.
 pub fn starving_start(
     cycle: &Cycle,
     page: &Page,

@@ -1,4 +1,4 @@
-//! The run that starves a receiver of an item of a page.
+//! The run in which a receiver is starved of an item of a page.
 
 ghost use Rattle.std.specs.Prelude.{◌≡◌, ◌≤◌, ◌<◌, ◌+◌, ◌%◌, ◌∷◌, ◌++◌, [], true, if◌then◌else◌, map, pos, IfOk, OnOk};
 ghost use Rattle.ttx_page.specs.Streams.{repeated};
@@ -19,14 +19,14 @@ use ttx_page::{Item, Page, PageMemory, Selection};
 use ttx_receiver::starving::{first_byte_of, starve};
 use ttx_witness::{Certificate, NoMemory};
 
-/// The choices that are taken, and the bits that are received wrong.
+/// The choices that the receiver takes, and the bits that are received wrong.
 #[derive(Drop)]
 pub struct Starved {
     pub choices: Vec<bool>,
     pub hits: Vec<Hit>,
 }
 
-// Keeps a bit for a choice, where there is one.
+// Appends a taken choice, if `choice` is true.
 fn keep_choice(choices: &mut Vec<bool>, choice: bool) -> Result<(), NoMemory>
     ensures { OnOk result (choices.new.items ≡ (if choice then choices.old.items ++ true ∷ [] else choices.old.items)) }
 {
@@ -36,7 +36,7 @@ fn keep_choice(choices: &mut Vec<bool>, choice: bool) -> Result<(), NoMemory>
     Ok(())
 }
 
-// Keeps a hit of the lowest bit, where there is one.
+// Appends a hit of the lowest bit of a byte, if `hit` is true.
 fn keep_hit(hits: &mut Vec<Hit>, hit: bool, index: u32, byte: u8) -> Result<(), NoMemory>
     ensures { OnOk result (hits.new.items ≡ (if hit then hits.old.items ++ record { index = index; byte = byte; bit = 1 } ∷ [] else hits.old.items)) }
 {
@@ -51,7 +51,7 @@ fn keep_hit(hits: &mut Vec<Hit>, hit: bool, index: u32, byte: u8) -> Result<(), 
     Ok(())
 }
 
-/// A receiver that is starved of an item: what it is set to, the lines of a field, the item, and what it holds at first.
+/// A receiver that is starved of an item: its selection, the lines of a field, the item, and its former memory.
 #[derive(Clone, Copy)]
 pub struct StarvedReceiver<'a> {
     pub selection: Selection,
@@ -60,7 +60,7 @@ pub struct StarvedReceiver<'a> {
     pub former: PageMemory,
 }
 
-/// The choices and hits of a starved receiver over so many slots from slot `start` on.
+/// The choices and hits of a starved receiver over `count` slots from slot `start` on.
 pub fn starve_over(
     alloc: Global,
     cycle: &Cycle,
@@ -90,7 +90,7 @@ pub fn starve_over(
     Ok(Starved { choices, hits })
 }
 
-/// A page that is starved of an item: its place in the list, the item, and the slot from which on.
+/// A page, the item of which its receiver is starved, and the slot from which on; also the page's place in the list.
 #[derive(Clone, Copy)]
 pub struct StarvedPage<'a> {
     pub index: u32,
@@ -99,7 +99,7 @@ pub struct StarvedPage<'a> {
     pub start: u32,
 }
 
-/// The counter-run of a starved page, with the numbers of the certificate.
+/// The counter-run of a receiver that is starved of an item, with the numbers of the certificate.
 pub fn counter_for(
     alloc: Global,
     cycle: &Cycle,

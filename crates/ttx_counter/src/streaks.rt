@@ -1,4 +1,4 @@
-//! How often in a row each text byte of a page has been received wrong.
+//! Streaks: in how many successive transmissions each text byte of a page has been received wrong.
 
 ghost use Rattle.std.specs.Prelude.{◌≡◌, ℕ, ◌+◌, ◌<◌, ◌≤◌, ◌^◌, Bool, true, false, IsTrue, MatchOption, ⊤, List, length, slice_index};
 ghost use Rattle.std.specs.Prelude.{slice_index_or, IfOk};
@@ -9,21 +9,21 @@ use crate::keys::{SlotKeys, byte_in};
 use std::alloc::Global;
 use ttx_witness::NoMemory;
 
-/// The streak of a byte: the slots up to the latest transmission in which it was wrong, and in how many in a row.
+/// The streak of a byte: the number of slots up to the latest transmission in which it was wrong, and the length of the streak.
 #[derive(Clone, Copy)]
 pub struct Streak {
     pub last: u32,
     pub count: u32,
 }
 
-/// The streaks of the 42 bytes of 25 rows, and the slots up to the latest transmission of each row.
+/// The streaks of the 42 bytes of 25 rows, and for each row the number of slots up to its latest transmission.
 #[derive(Drop)]
 pub struct Streaks {
     pub latest: Vec<u32>,
     pub cells: Vec<Streak>,
 }
 
-// A transmission of a row: the slots up to the row's latest one before it, and up to itself.
+// A transmission of a row, with the number of slots up to the row's previous transmission, and up to this one.
 #[derive(Clone, Copy)]
 struct RowTransmission {
     row: usize,
@@ -31,7 +31,7 @@ struct RowTransmission {
     now: u32,
 }
 
-// Whether the byte is one of the row's text.
+// Whether the byte is a text byte of the row.
 fn is_text(row: usize, x: usize) -> bool
     ensures { result ≡ is_text row x }
 {
@@ -42,14 +42,14 @@ fn is_text(row: usize, x: usize) -> bool
     }
 }
 
-// The streak of a byte.
+// The length of a byte's streak; 0 if it was right in the latest transmission of its row.
 fn running(latest: u32, cell: Streak) -> u32
     ensures { result ≡ running latest cell }
 {
     if cell.last == latest { cell.count } else { 0 }
 }
 
-// Counts the wrong bytes of one transmission of a row. False where a streak has reached `repeat`.
+// Counts the wrong bytes of one transmission of a row. `false` if a streak has reached `repeat`.
 fn count_hits(
     cells: &mut Vec<Streak>,
     sent: RowTransmission,
@@ -86,7 +86,7 @@ fn count_hits(
     true
 }
 
-/// Notes slot n: the row that it sends, if any, and its wrong bytes. False where a streak has reached `repeat`.
+/// Notes slot `n`: the row that it sends, if any, and its wrong bytes. `false` if a streak has reached `repeat`.
 pub fn note(streaks: &mut Streaks, row: Option<u8>, n: u32, hits: &SlotKeys<'_>, repeat: u8) -> bool
     requires row { MatchOption row ⊤ (λ r. r < 25) }
     requires rows { length streaks.old.latest.items ≡ 25 }
@@ -117,7 +117,7 @@ pub fn note(streaks: &mut Streaks, row: Option<u8>, n: u32, hits: &SlotKeys<'_>,
     count_hits(&mut streaks.cells, sent, hits, repeat)
 }
 
-// So many zeros.
+// `count` zeros.
 fn zeros(alloc: Global, count: usize) -> Result<Vec<u32>, NoMemory>
     ensures count { IfOk result (λ v. length v.items ≡ count) }
     ensures zero { IfOk result (λ v. (i : ℕ) → slice_index v.items i ≡ 0) }
@@ -131,7 +131,7 @@ fn zeros(alloc: Global, count: usize) -> Result<Vec<u32>, NoMemory>
     Ok(zeros)
 }
 
-// So many bytes that were never wrong.
+// `count` bytes that were never wrong.
 fn empty_cells(alloc: Global, count: usize) -> Result<Vec<Streak>, NoMemory>
     ensures count { IfOk result (λ v. length v.items ≡ count) }
     ensures none { IfOk result (λ v. (i : ℕ) → slice_index_or v.items i (streak_of 0 0) ≡ streak_of 0 0) }

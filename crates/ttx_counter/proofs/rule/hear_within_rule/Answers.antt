@@ -16,7 +16,7 @@ use Rattle.ttx_counter.proofs.RuleFromStreaks.{tells, row_is, keeps, breaks}
 use Rattle.ttx_counter.proofs.rule.hear_within_rule.Goals as goal
 use Rattle.ttx_counter.proofs.rule.hear_within_rule.Goals.{After-note}
 
--- what the slot at i tells
+-- what slot i sends
 noted_here : (c : After-note) → StreaksAfter c.note.result
     (sends_row c.args.page (repeated c.slots-slots.result.now) (pos c.args.run.now.start) c.is_owned-mine.result)
     (is_hit c.args.run.now.keys.now) c.args.repeat (c.loop-i.i + 1) c.note.new.streaks.latest.items c.note.new.streaks.cells.items
