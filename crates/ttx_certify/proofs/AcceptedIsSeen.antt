@@ -1,4 +1,4 @@
--- What is accepted is seen.
+-- If a cycle is accepted, its pages are seen.
 use Rattle.std.proofs.Common.{◌≡◌, ℕ, zero, suc, ◌<◌, ℤ, pos, ◌+ℤ◌, ◌≤ℤ◌, true, List, [], ◌∷◌, length, get_or, refl, sym, ap}
 use Rattle.std.proofs.Common.{subst, inl, inr, arith, slice_get, Some, eq-eqb}
 use Rattle.std.proofs.lemmas.Int.{ints}
@@ -36,7 +36,7 @@ pub record StreamLaws : Type 0 where
   pub one_run : RunsAreUnique
   pub own : SteadySendsItsOwn
 
--- the run from a slot whose place in the first period is named is all sure
+-- the run from a slot whose place in the first period is named is sure
 pub sure_run : StreamLaws → (cycle : List (List ℕ)) (page : Id) (lines repeat : ℕ) (item : Item) (i : ℤ) (rest : List ℤ) → 0 < length cycle →
     HasSureRun (repeated cycle) page lines repeat item (pos (turned (length cycle) i)) → IsRun (repeated cycle) page repeat item i rest →
     AllByRecursion (IsSureTransmission (repeated cycle) page lines item) (i ∷ rest)

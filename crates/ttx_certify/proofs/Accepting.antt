@@ -1,4 +1,4 @@
--- Where no page has a fault the cycle is accepted, and where one has it isn't.
+-- A cycle is accepted if no page has a fault, and not accepted if a page has one.
 use Rattle.std.proofs.Common.{◌≡◌, ◌⊎◌, ℕ, suc, ◌-◌, ◌≤◌, pos, ◌+ℤ◌, ◌<ℤ◌, ◌≤ℤ◌, true, List, [], length, slice_get, Some, None, ap}
 use Rattle.std.proofs.Common.{subst, inl, inr, arith}
 use Rattle.std.specs.List.{Contains}

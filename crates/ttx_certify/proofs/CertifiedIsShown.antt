@@ -1,4 +1,4 @@
--- What a Yes is worth, after exactly the deadline.
+-- What a yes guarantees after exactly the deadline.
 use Rattle.std.proofs.Common.{◌≡◌, true, refl, arith}
 use Rattle.ttx_page.specs.declared.class.Class.{Class}
 use Rattle.ttx_page.specs.declared.class.Class.TheVariants.{Any, Clearing}

@@ -1,5 +1,5 @@
--- Facts that are decided: each is true, or refuted. Equality of what pages and packets hold, searches below a number, and items by
--- their numbers.
+-- Decidable facts: each is true or refuted. Equality of the contents of pages and packets, searches below a number, and items by their
+-- numbers.
 use Rattle.std.proofs.Common.{◌≡◌, ℕ, zero, suc, ◌<◌, false, List, [], ◌∷◌, Option, Some, None, refl, ap, subst, inl, inr, arith}
 use Rattle.std.proofs.lemmas.Bool.{cases_lt, cases_eq}
 use Rattle.ttx_header.specs.Ids.{Id}
@@ -47,7 +47,7 @@ same_class Clearing Clearing = inl refl
 same_class Any Clearing = inr (λ e. cc)
 same_class Clearing Any = inr (λ e. cc)
 
--- what a packet carries of a page
+-- the part of a page that a packet sends
 pub like_head : (p : Page) (packet : Packet) → Decided (IsLikeHead p packet)
 like_head p (Header id control text) = both (same_nat _ _) (same_numbers _ _)
 like_head p Empty = inr (λ e. e)
@@ -84,7 +84,7 @@ links_right p slot (Row mag number text) = inr (λ e. e)
 links_right p slot Info = inr (λ e. e)
 links_right p slot Other = inr (λ e. e)
 
--- what an authored page is
+-- the contents of an authored page
 pub blank : (p : Page) (item : Item) → Decided (IsBlank p item)
 blank p TheHead = inr (λ e. e)
 blank p (TheRow number) = same_numbers _ _
@@ -101,7 +101,7 @@ alone (x ∷ xs) p = elim (both (same_bool (is_other_subpage p x) false) (alone 
     rest first others zero q e = let same : x ≡ q = cc in subst (λ y. is_other_subpage p y ≡ false) same first
     rest first others (suc n) q e = others n q e
 
--- the first number below n of which something is true
+-- the first number below n with a property
 pub least_below : (P : ℕ → Type 0) (n : ℕ) → ((i : ℕ) → i < n → Decided (P i)) → (first : Option ℕ) × FirstBelow P n first
 least_below P zero each = (None, λ i lt p. absurd (omega arith))
 least_below P (suc n) each =
@@ -119,7 +119,7 @@ least_below P (suc n) each =
       )
     ]
 
--- some number below n has it, or none
+-- some number below n has the property, or none has
 pub any_below : (P : ℕ → Type 0) (n : ℕ) → ((i : ℕ) → i < n → Decided (P i)) → Decided ((i : ℕ) × (i < n) × P i)
 any_below P n each = let r = least_below P n each in told r.0 r.1
   where

@@ -1,4 +1,4 @@
--- The first reason that is true of the items of a page, one item after the other.
+-- The first true reason of the items of a page, item by item.
 use Rattle.std.proofs.Common.{◌≡◌, ◌⊎◌, ℕ, ◌+◌, ◌<◌, ◌≤◌, nat_lt, Bool, true, false, if◌then◌else◌, Option, Some, None, List, refl, sym, ap, subst}
 use Rattle.std.proofs.Common.{inl, inr, arith, leb-true}
 use Rattle.std.proofs.lemmas.Bool.{cases_lt, and_parts}
@@ -53,7 +53,7 @@ module _ (cycle : List (List ℕ)) (p : Page) (w : Certificate) where
   need_of : (item : Item) (reason : Reason) → T item reason → needed p item ≡ true
   need_of = true_needed cycle p w
 
-  -- an item that isn't one of the page
+  -- an item that is not one of the page
   not_fine : (item : Item) → (needed p item ≡ true → Fine item) → Fine item
   not_fine item f = record {
     none = λ reason t. (f (need_of item reason t)).none reason t;
@@ -61,7 +61,7 @@ module _ (cycle : List (List ℕ)) (p : Page) (w : Certificate) where
   }
 
   module _ (n : ℕ) (own : Item) (is : IsItem own) (place : item_number own ≡ n) where
-    -- an item whose number is below n + 1 is below n, or it is this one
+    -- an item whose number is below n + 1 is this one, or its number is below n
     abbrev At : Item → Type 0
     At item = (item_number item < n) ⊎ (needed p item ≡ true → own ≡ item)
 
@@ -124,7 +124,7 @@ module _ (cycle : List (List ℕ)) (p : Page) (w : Certificate) where
   pub no_reason : IsReasonBelow cycle p w 0 None
   no_reason = λ item lt. absurd (omega arith)
 
-  -- no reason of a smaller number is true of any item
+  -- no reason with a smaller number is true of any item
   none_less : (reason : Reason) → IsFirstBelow cycle p w 26 reason → (item : Item) (other : Reason) → T item other →
       reason_number other < reason_number reason → ⊥
   none_less reason a item other t lt = a.no_number item other t (item_within item (needed_item p item (need_of item other t))) lt
@@ -193,7 +193,7 @@ module _ (cycle : List (List ℕ)) (p : Page) (w : Certificate) where
             },
           )
 
-  -- the first reason that is true of all items is the page's first fault
+  -- the first true reason of all items is the page's first fault
   pub witness_fault : (reason : Option Reason) → IsReasonBelow cycle p w 26 reason → IsWitnessFault cycle p w reason
   witness_fault None a = λ item need. (a item (item_within item (needed_item p item need))).covered need
   witness_fault (Some reason) a = first_fault reason a

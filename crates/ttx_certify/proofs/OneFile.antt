@@ -1,4 +1,4 @@
--- Passes over one file are certified as the file is.
+-- Two readings of one file have the verdict of the file.
 use Rattle.std.proofs.Common.{◌≡◌, ℕ, zero, suc, List, [], ◌∷◌, ◌++◌, length, take, drop, refl, sym, ap, ◌∙◌, subst, arith, length-append}
 use Rattle.std.specs.List.{All}
 use Rattle.std.proofs.Math.Seq.{take-append_seam, drop-append_seam}
@@ -10,7 +10,7 @@ use Rattle.ttx_certify.specs.CertifyingPasses.{PassesAreFiles}
 use Rattle.ttx_certify.specs.Walking.{IsWalkVerdict}
 use Rattle.ttx_certify.proofs.WalkVerdicts.{walked_same}
 
--- a file is the file of one list of slots alone
+-- a file holds only one list of slots
 pub same_slots : (xs ys : List (List ℕ)) → All IsSlot xs → All IsSlot ys → file_of xs ≡ file_of ys → xs ≡ ys
 same_slots [] [] a b e = refl
 same_slots [] (y ∷ ys) a b e =

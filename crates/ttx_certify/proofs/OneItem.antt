@@ -1,4 +1,4 @@
--- The first reason that is true of one item, from what one pass tells of the starts that are named for it.
+-- The first true reason of one item, from what one pass finds about its named starts.
 use Rattle.std.proofs.Common.{◌≡◌, ℕ, ◌-◌, ◌<◌, ◌≤◌, pos, ◌+ℤ◌, true, false, List, [], length, slice_index_or, Option, Some, None, refl, sym, ap}
 use Rattle.std.proofs.Common.{subst, inl, inr, arith}
 use Rattle.std.specs.List.{Contains}
@@ -36,7 +36,7 @@ module _ (cycle : List (List ℕ)) (p : Page) (w : Certificate) (item : Item) wh
   abbrev T : Reason → Type 0
   T = IsTrueOf cycle p w item
 
-  -- what is so of the four reasons that can be true of an item is so of each that is
+  -- what holds for each of the four reasons that can be true of an item holds for each true one
   pub of_four : (P : Reason → Type 0) →
       ((page : Id) (of : Item) → page ≡ p.id → of ≡ item → HasNoWitness p w item → P (NoWitness page of)) →
       ((page : Id) (of : Item) (start : ℕ) → page ≡ p.id → of ≡ item → WitnessBadAt cycle p w item start → P (WitnessBad page of start)) →
@@ -66,7 +66,7 @@ module _ (cycle : List (List ℕ)) (p : Page) (w : Certificate) (item : Item) wh
   not_empty : (xs : List ℕ) → 0 < length xs → xs ≡ [] → ⊥
   not_empty xs lt e = let z : length xs ≡ 0 = ap length e in omega arith
 
-  -- what is told of the named starts once all runs of a period are seen
+  -- what is known of the named starts after all runs of a period
   pub record AreJudged (starts : List ℕ) (bound period : ℕ) (m : Progress) : Type 0 where
     pub next : m.next ≤ length starts
     pub bad : m.next < length starts → IsItemReason cycle p w item (Some (WitnessBad p.id item (slice_index_or starts m.next 0)))
@@ -155,6 +155,6 @@ module _ (cycle : List (List ℕ)) (p : Page) (w : Certificate) (item : Item) (n
             (λ page of start i j h lt. no_index h.index h.within) (λ page of header i j h lt. omega arith);
       }
 
--- an item that a viewer doesn't see
+-- an item that no viewer sees
 pub unseen_fine : (cycle : List (List ℕ)) (p : Page) (w : Certificate) (item : Item) → needed p item ≡ false → IsFine cycle p w item
 unseen_fine cycle p w item not = record { none = λ reason t. let need = true_needed cycle p w item reason t in cc; covered = λ need. cc }

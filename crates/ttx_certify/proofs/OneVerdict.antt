@@ -1,4 +1,4 @@
--- Of a cycle, pages and a certificate one verdict is right.
+-- For a cycle, pages and a certificate at most one verdict is right.
 use Rattle.std.proofs.Common.{◌≡◌, ◌⊎◌, ℕ, zero, suc, ◌<◌, ◌≤◌, pos, true, List, length, slice_get, Some, None, refl, sym, ap, ◌∙◌, subst, inl, inr}
 use Rattle.std.proofs.Common.{arith}
 use Rattle.std.proofs.lemmas.Bool.{cases_lt}
@@ -20,7 +20,7 @@ use Rattle.ttx_certify.specs.declared.verdict.Verdict.{Verdict}
 use Rattle.ttx_certify.specs.declared.verdict.Verdict.TheVariants.{Yes, No}
 use Rattle.ttx_certify.proofs.Accepting.{CoverLaws, fault_not}
 
--- ---- the first of what is true, by a number, an item's number and a slot
+-- the first true one, by number, item number and slot
 
 pub record IsFirst (True : ℕ → ℕ → ℕ → Type 0) (number item slot : ℕ) : Type 0 where
   pub here : True number item slot
@@ -47,7 +47,7 @@ module _ (True : ℕ → ℕ → ℕ → Type 0) where
     | inr ge ↦ let e : k ≡ n = omega arith in here i j (subst (λ x. True x i j) e t)
   ]
 
--- ---- the reasons that speak of a page and a cycle alone
+-- the reasons that concern only a page and a cycle
 
 module _ (cycle : List (List ℕ)) (pages : List Page) (p : Page) where
   PageTrue : ℕ → ℕ → ℕ → Type 0
@@ -72,7 +72,7 @@ module _ (cycle : List (List ℕ)) (pages : List Page) (p : Page) where
     is : reason ≡ page_reason number slot
     first : IsFirst PageTrue number 0 slot
 
-  -- of a page's reasons no item is told
+  -- such a reason does not name an item
   first_at : (number slot : ℕ) → PageTrue number 0 slot → ((j : ℕ) → j < slot → PageTrue number 0 j → ⊥) →
       ((k i j : ℕ) → k < number → PageTrue k i j → ⊥) → IsFirst PageTrue number 0 slot
   first_at number slot here slots numbers = record { here = here; no_slot = slots; no_item = λ i j lt t. omega arith; no_number = numbers }
@@ -133,7 +133,7 @@ module _ (cycle : List (List ℕ)) (pages : List Page) (p : Page) where
       let same = firsts_agree PageTrue x.number 0 x.slot y.number 0 y.slot x.first y.first in
       x.is ∙ ap (λ n. page_reason n x.slot) same.0 ∙ ap (page_reason y.number) same.2 ∙ sym y.is
 
--- ---- the reasons that speak of named starts
+-- the reasons that concern named starts
 
 -- an item that a viewer sees, by its number
 item_at : (p : Page) (a b : Item) → needed p a ≡ true → needed p b ≡ true → item_number a ≡ item_number b → a ≡ b
@@ -178,7 +178,7 @@ module _ (cycle : List (List ℕ)) (p : Page) (w : Certificate) where
     need : needed p item ≡ true
     first : IsFirst StartTrue number (item_number item) slot
 
-  -- of an item and its start, no smaller start of the item, and no start of an item before it
+  -- for an item and its start: no smaller start of this item, and no start of an item before it
   first_start : (number : ℕ) (item : Item) (slot : ℕ) → ItemTrue number item slot → ((j : ℕ) → j < slot → ItemTrue number item j → ⊥) →
       ((other : Item) (j : ℕ) → item_number other < item_number item → ItemTrue number other j → ⊥) →
       ((k i j : ℕ) → k < number → StartTrue k i j → ⊥) → IsFirst StartTrue number (item_number item) slot
@@ -254,7 +254,7 @@ module _ (cycle : List (List ℕ)) (p : Page) (w : Certificate) where
       ∙ ap (λ i. start_reason y.number i x.slot) (item_at p x.item y.item x.need y.need same.1)
       ∙ ap (start_reason y.number y.item) same.2 ∙ sym y.is
 
--- ---- verdicts
+-- verdicts
 
 module _ (laws : CoverLaws) (cycle : List (List ℕ)) (some : 1 ≤ length cycle) (pages : List Page) (w : Certificate) (is : IsCertificate w) where
   faults_agree : (p : Page) (a b : Reason) → IsFault cycle pages p w (Some a) → IsFault cycle pages p w (Some b) → a ≡ b

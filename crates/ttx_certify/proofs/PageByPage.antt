@@ -25,12 +25,12 @@ here_is [] i lt = absurd (omega arith)
 here_is (x ∷ xs) zero lt = (x, refl)
 here_is (x ∷ xs) (suc i) lt = here_is xs i (omega arith)
 
--- one place of a list has one page
+-- a place of a list has one page
 pub same_page : {o : Option Page} (p q : Page) → o ≡ Some p → o ≡ Some q → p ≡ q
 same_page p q e f = cc
 
 module _ (cycle : List (List ℕ)) (pages : List Page) (w : Certificate) where
-  -- a steady page has the faults of its named starts
+  -- a steady page has only the faults of its named starts
   pub fault_from : (p : Page) → Steady (repeated cycle) pages p → (o : Option Reason) → IsWitnessFault cycle p w o → IsFault cycle pages p w o
   fault_from p steady None f = (steady, f)
   fault_from p steady (Some r) f = inr (steady, f)

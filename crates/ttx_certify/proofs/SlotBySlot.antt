@@ -1,4 +1,4 @@
--- A walk that is given the slots of a packet file, one by one.
+-- A walk over the slots of a packet file, one by one.
 use Rattle.std.proofs.Common.{◌≡◌, ℕ, ◌+◌, ◌<◌, List, [], ◌∷◌, ◌++◌, length, Option, Some, None, IfSome, true, false, Result, Ok, Err, MatchResult}
 use Rattle.std.proofs.Common.{arith}
 use Rattle.ttx_packet.specs.Slots.{IsSlot}
@@ -7,12 +7,12 @@ use Rattle.ttx_cycle.specs.SlotLaws.{NoneIsGiven, OneMoreIsGiven, AllAreGiven, F
 use Rattle.ttx_cycle.specs.declared.faults.CycleFault.{CycleFault}
 use Rattle.ttx_certify.specs.Feeding.{Gave, Walks}
 
--- none is given yet
+-- no slot has been given yet
 pub gave_none : NoneIsGiven → (P : List (List ℕ) → Type 0) (known : Option (List ℕ)) → P [] → Gave P 0 known known
 gave_none law P known p = record { slots = []; given_are = law known; is = p }
 
 module _ (P : List (List ℕ) → Type 0) (given : ℕ) (old mid new : Option (List ℕ)) (z : List ℕ) (gave : Gave P given old mid) where
-  -- one more is given
+  -- one more slot is given
   pub gave_more : OneMoreIsGiven → (Q : List (List ℕ) → Type 0) → AnswersNext given mid new z (Ok true) → IsSlot z →
       ((x : List (List ℕ)) → length x < 65536 → P x → Q (x ++ z ∷ [])) → Gave Q (given + 1) old new
   gave_more law Q answer slot step = record {
@@ -25,7 +25,7 @@ module _ (P : List (List ℕ) → Type 0) (given : ℕ) (old mid new : Option (L
   whole None R S f h = h
   whole (Some r) R S f h = f r h
 
-  -- all are given
+  -- all slots have been given
   pub gave_all : AllAreGiven → AnswersNext given mid new z (Ok false) → IfSome old (λ bytes. Walks {T = Unit {0}} P bytes (Ok tt))
   gave_all law answer = whole old _ (λ bytes. Walks {T = Unit {0}} P bytes (Ok tt))
       (λ bytes h. (gave.slots, record { is_cycle = h.0; same = h.1 }, gave.is))

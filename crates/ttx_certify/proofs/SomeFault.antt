@@ -26,7 +26,7 @@ use Rattle.ttx_certify.proofs.Decisions.{Decided, both, refuted, alike, same_boo
 use Rattle.ttx_certify.proofs.ItemByItem.{needed_item}
 use Rattle.ttx_page.proofs.SlotDistances.{cases_ltz}
 
--- whether a slot is one of those that a list has
+-- whether a slot is in a list
 pub listed : (P : ℤ → Type 0) (Is : Transmission → Type 0) → ((t : Transmission) → Is t → P t.slot) →
     (low high : ℤ) (ts : List Transmission) → Lists slot_of P Is low high ts →
     (x : ℤ) → low ≤ℤ x → x <ℤ high → Decided (P x)
@@ -79,7 +79,7 @@ module _ (laws : FaultLaws) (cycle : List (List ℕ)) (is : IsCycle cycle) where
       (sent_in cycle page 0 item)
       (laws.list cycle (let some = is.some in omega arith) is.most page 0 item).0 (pos j) (omega (arith, ints)) (omega (arith, ints)))
 
-  -- the first slot of a period, where the stream is the same in each
+  -- the first slot of a period, if the stream repeats
   first_slot : (P : ℤ → Type 0) → ((j : ℤ) → P j → P (pos (turned n j))) → ((j : ℕ) → j < n → Decided (P (pos j))) → (first : Option ℕ)
       × TellsFirst cycle P first
   first_slot P fold each = let r = least_below (λ j. P (pos j)) n each in told r.0 r.1
@@ -134,7 +134,7 @@ module _ (laws : FaultLaws) (cycle : List (List ℕ)) (is : IsCycle cycle) where
         })
         (λ j lt. alike (λ e. record { header = e.0; differs = e.1 }) (λ o. (o.header, o.differs)) (both (same_bool _ true) (refuted (like_head p _))))
 
-    -- row r is needed, and the slot sends another in its place
+    -- row r is needed, and the slot sends a different one
     abbrev WrongRow : ℤ → ℕ → Type 0
     WrongRow j r = (needed p (TheRow r) ≡ true) × (IsTransmission s p.id (TheRow r) j × (RowIsRight p r (packet_of (s j)) → ⊥))
 

@@ -1,4 +1,4 @@
--- Of each cycle, pages and certificate some verdict is right.
+-- For each cycle, pages and certificate some verdict is right.
 use Rattle.std.proofs.Common.{◌≡◌, ◌⊎◌, ℕ, zero, suc, ◌+◌, ◌-◌, ◌<◌, ◌≤◌, pos, ◌+ℤ◌, true, false, Bool, List, [], ◌∷◌, length, slice_get}
 use Rattle.std.proofs.Common.{slice_index_or, Option, Some, None, refl, ap, subst, inl, inr, arith}
 use Rattle.std.proofs.lemmas.Bool.{cases_lt}
@@ -54,7 +54,7 @@ module _ (laws : SomeLaws) (cycle : List (List ℕ)) (is : IsCycle cycle) (w : C
       | inr ne ↦ (Some (NoWitness p.id item), unnamed_first cycle p w item need none (λ clearing is_blank. ne (clearing, is_blank)))
     ]
 
-    -- an item for which some are
+    -- an item for which some starts are named
     judged : (item : Item) → needed p item ≡ true → 0 < length (w.starts p.id item) → SomeReason item
     judged item need any =
         let starts = w.starts p.id item in

@@ -1,4 +1,4 @@
--- The verdict on three inputs that were read.
+-- The verdict on three inputs, once they have been read.
 use Rattle.std.proofs.Common.{ℕ, List, [], ◌∷◌, string_bytes, Option, IfSome, Ok}
 use Rattle.ttx_certificate.specs.Certificates.{fields_of}
 use Rattle.ttx_cycle.specs.Cycles.{slots_of}

@@ -1,4 +1,4 @@
--- What a walk over two packet files answers.
+-- The answer of a walk over two packet files.
 use Rattle.std.proofs.Common.{ℕ, List, Option, Some, None, IfSome, Ok}
 use Rattle.ttx_page.specs.Pages.{Page}
 use Rattle.ttx_witness.specs.Coverage.{Certificate}

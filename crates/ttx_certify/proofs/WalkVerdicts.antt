@@ -1,4 +1,4 @@
--- What a walk says of two lists, and what that is worth.
+-- The verdict of a walk over two lists, and what it guarantees.
 use Rattle.std.proofs.Common.{◌≡◌, ℕ, ◌≤◌, List, length, inl, inr, refl, ap, arith}
 use Rattle.ttx_cycle.specs.Files.{IsCycle}
 use Rattle.ttx_page.specs.Pages.{Page}
@@ -11,7 +11,7 @@ use Rattle.ttx_certify.specs.Walking.{IsWalkVerdict}
 use Rattle.ttx_certify.specs.declared.verdict.Verdict.{Verdict}
 use Rattle.ttx_certify.specs.declared.verdict.Verdict.TheVariants.{Yes, No}
 
--- a verdict on a second list that bears the first one out is one of the walk
+-- a verdict on a second list that bears out the first is a verdict of the walk
 pub as_walked : (x y : List (List ℕ)) (pages : List Page) (w : Certificate) → IsBorneOut x y pages → (v : Verdict) → IsVerdict y pages w v →
     IsWalkVerdict x y pages w v
 as_walked x y pages w borne Yes h = (borne, h)
@@ -28,7 +28,7 @@ as_walked x y pages w borne (No (R.Late page item start)) h = (borne, h)
 as_walked x y pages w borne (No (R.LateBlank page item header)) h = (borne, h)
 as_walked x y pages w borne (No R.Unsteady) h = absurd (elim h.0.1.fault as (λ _. ⊥) [ inl a ↦ a | inr b ↦ b.1 ])
 
--- over one list twice the walk's verdict is the list's
+-- a walk over one list twice has the verdict on that list
 pub walked_same : (y : List (List ℕ)) → 1 ≤ length y → (pages : List Page) (w : Certificate) (v : Verdict) →
     IsWalkVerdict y y pages w v → IsVerdict y pages w v
 walked_same y some pages w Yes h = h.1

@@ -1,11 +1,11 @@
--- What is answered and written where a packet file, a service definition and a certificate are certified.
+-- What is answered and written when a packet file, a service definition and a certificate are certified.
 --
---   IsServiceText, IsCertificateText, IsServiceFault, IsCertificateFault    what the two texts are, and why a text is none (ttx_files)
+--   IsServiceText, IsCertificateText, IsServiceFault, IsCertificateFault    what the two texts are, and why a text is refused (ttx_files)
 --   IsRefused               why inputs are refused (ttx_files)
---   IsUntouched, is_write   at each fault but that of a write what could be written to is as it was, whatever readers tell (ttx_files)
---   IsJudged, JudgesFiles   the verdict on what was read, with its line; on the three inputs
+--   IsUntouched, is_write   after any fault except a failed write the writer is unchanged, whether or not its contents are known (ttx_files)
+--   IsJudged, JudgesFiles   the verdict on the inputs that were read, with its line; on the three inputs
 --   Certifies               the verdict on three inputs, and its line
---   CertifiesFiles          what was written at each answer
+--   CertifiesFiles          what has been written, for each answer
 use Rattle.std.specs.Prelude.{◌≡◌, ℕ, List, length, string_bytes, Option, Result, Ok, Err}
 use Rattle.ttx_cycle.specs.Files.{IsPacketFile}
 use Rattle.ttx_source.specs.Services.{ServiceFields, pages_of}
@@ -42,6 +42,6 @@ abbrev pub JudgesFiles : List ℕ → List ℕ → List ℕ → Result (Told Ver
 JudgesFiles a b c (Ok judged) = Certifies a b c judged.verdict (string_bytes judged.line)
 JudgesFiles a b c (Err fault) = IsRefused a b c fault
 
--- Ok: the line of the verdict went out. A write fault: its first `written` bytes. Else nothing, and why the inputs are refused.
+-- Ok: the line of the verdict went out. A write fault: its first `written` bytes. Otherwise nothing, and why the inputs are refused.
 abbrev pub CertifiesFiles : List ℕ → List ℕ → List ℕ → Option (List ℕ) → Option (List ℕ) → Result Verdict FilesFault → Type 0
 CertifiesFiles a b c old new result = WritesAnswer (Certifies a b c) (IsRefused a b c) old new result

@@ -1,11 +1,11 @@
--- What is answered and written where two readings of a packet file, a service definition and a certificate are certified.
+-- What is answered and written when two readings of a packet file are certified, with a service definition and a certificate.
 --
 --   CertifiesTwice  the verdict on four inputs, and its line
 --   IsRefusedTwice  why four inputs are refused
 --   WalksFiles      the verdict on two packet files, with the pages of a service and a certificate
---   JudgesPasses    the verdict on four inputs, and its line; or why they are refused
---   CertifiesPasses what was written at each answer
---   PassesAreFiles  the law that two readings of one file are certified as the file is
+--   JudgesPasses    the verdict on four inputs, and its line, or why they are refused
+--   CertifiesPasses what has been written, for each answer
+--   PassesAreFiles  the law that two readings of one file have the verdict of the file
 use Rattle.std.specs.Prelude.{◌≡◌, ℕ, List, length, string_bytes, ⊤, Option, Result, Ok, Err}
 use Rattle.ttx_source.specs.Services.{ServiceFields, pages_of}
 use Rattle.ttx_witness.specs.Entries.{CertificateFields, certificate_at}
@@ -28,7 +28,7 @@ pub record CertifiesTwice (a b c d : List ℕ) (verdict : Verdict) (line : List 
   pub walked : WalkedFiles a b (pages_of service) (certificate_at w) verdict
   pub line_is : line ≡ verdict_line w (length service.pages) verdict
 
--- why the inputs are refused: a text, or, where both texts are as they should be, a packet file
+-- why the inputs are refused: one of the texts; or, if both texts are accepted, a packet file
 abbrev pub IsRefusedTwice : List ℕ → List ℕ → List ℕ → List ℕ → FilesFault → Type 0
 IsRefusedTwice a b c d (Cycle fault) = (service : ServiceFields) × (w : CertificateFields) × IsServiceText c service × IsCertificateText d w
     × IsRefusedCycle a b fault
@@ -44,7 +44,7 @@ abbrev pub JudgesPasses : List ℕ → List ℕ → List ℕ → List ℕ → Re
 JudgesPasses a b c d (Ok told) = CertifiesTwice a b c d told.verdict (string_bytes told.line)
 JudgesPasses a b c d (Err fault) = IsRefusedTwice a b c d fault
 
--- Ok: the line of the verdict went out. A write fault: its first `written` bytes. Else nothing, and why the inputs are refused.
+-- Ok: the line of the verdict went out. A write fault: its first `written` bytes. Otherwise nothing, and why the inputs are refused.
 abbrev pub CertifiesPasses : List ℕ → List ℕ → List ℕ → List ℕ → Option (List ℕ) → Option (List ℕ) → Result Verdict FilesFault → Type 0
 CertifiesPasses a b c d old new result = WritesAnswer (CertifiesTwice a b c d) (IsRefusedTwice a b c d) old new result
 

@@ -1,11 +1,11 @@
--- Slots that are given one by one, and what a walk over two packet files answers.
+-- Slots that are given one by one, and the answer of a walk over two packet files.
 --
---   Gave            the slots that a slot reader gave so far, of which P is true
---   Walks           the whole packet file was given, and P is true of its slots; or why it isn't one
---   IsRefusedCycle  why the first of two packet files that isn't one isn't
+--   Gave            a slot reader has given some slots so far, and P holds for them
+--   Walks           the whole packet file was given, and P holds for its slots; or why the file is refused
+--   IsRefusedCycle  why the first faulty one of two packet files is refused
 --   WalkedFiles     the verdict of a walk over two packet files
---   WalksTwice      what is answered for two files: the verdict of a walk over two packet files
---   walk_failed_at  the place of which a walk answers that its reader failed
+--   WalksTwice      the answer for two files: this verdict, or why one of them is refused
+--   walk_failed_at  the place of a failed read in the answer of a walk
 use Rattle.std.specs.Prelude.{◌⊎◌, ℕ, List, Option, Some, None, Result, Ok, Err}
 use Rattle.ttx_cycle.specs.Reading.{Judged}
 use Rattle.ttx_cycle.specs.SlotLaws.{IsGiven}
@@ -28,7 +28,7 @@ abbrev pub Walks : {T : Type 0} → (List (List ℕ) → Type 0) → List ℕ �
 Walks P bytes (Ok _) = (slots : List (List ℕ)) × IsPacketFile bytes slots × P slots
 Walks P bytes (Err fault) = Judged bytes (Err fault)
 
--- the first of two packet files isn't one, or it is one and the second isn't
+-- the first of two packet files is refused, or it is accepted and the second is refused
 abbrev pub IsRefusedCycle : List ℕ → List ℕ → CycleFault → Type 0
 IsRefusedCycle a b fault = Judged a (Err fault) ⊎ ((x : List (List ℕ)) × IsPacketFile a x × Judged b (Err fault))
 
@@ -45,7 +45,7 @@ abbrev pub WalksTwice : List ℕ → List ℕ → List Page → Certificate → 
 WalksTwice a b pages w (Ok verdict) = WalkedFiles a b pages w verdict
 WalksTwice a b pages w (Err fault) = IsRefusedCycle a b fault
 
--- the place of which a walk answers that its reader failed
+-- the place of a failed read in the answer of a walk
 abbrev pub walk_failed_at : {T : Type 0} → Result T CycleFault → Option Place
 walk_failed_at (Err Read) = Some AtCycle
 walk_failed_at _ = None

@@ -1,12 +1,12 @@
--- The reasons 8 to 10 and 12, which speak of the starts that are named for a page's items: the first of them that is true.
+-- The reasons 8 to 10 and 12, which concern the starts that are named for a page's items, and the first true one.
 --
---   reason_number, start_in     the number of a reason; the start or header that it names, and else 0
+--   reason_number, start_in     the number of a reason; the start or header that it names, otherwise 0
 --   IsTrueOf                one of these reasons is true of an item
 --   IsFine                  none of them is
---   IsFirstReason, IsItemReason     the first that is true of an item
---   IsFirstBelow, IsReasonBelow     the first that is true of the items of small numbers
---   IsReasonAt              the first that is true of the item of a number
---   told_first              the one of two reasons that is told first
+--   IsFirstReason, IsItemReason     the first true one for an item
+--   IsFirstBelow, IsReasonBelow     the first true one for the items with smaller numbers
+--   IsReasonAt              the first true one for the item with a number
+--   told_first              the first of two reasons
 --   judged_page, judged_certificate, IsReady        what the items of a page are judged by
 --   IsReadyAt               the same for a page of a pass that has ended
 use Rattle.std.specs.Prelude.{◌≡◌, ◌⊎◌, ℕ, ◌<◌, ◌≤◌, nat_lt, true, if◌then◌else◌, List, length, slice_get, Option, Some, None}
@@ -46,7 +46,7 @@ start_in (Late page item start) = start
 start_in (LateBlank page item header) = header
 start_in reason = 0
 
--- the reason speaks of this item of the page, and is true
+-- the reason concerns this item of the page, and is true
 abbrev pub IsTrueOf : List (List ℕ) → Page → Certificate → Item → Reason → Type 0
 IsTrueOf cycle p w item (NoWitness page of) = (page ≡ p.id) × (of ≡ item) × HasNoWitness p w item
 IsTrueOf cycle p w item (WitnessBad page of start) = (page ≡ p.id) × (of ≡ item) × WitnessBadAt cycle p w item start
@@ -58,7 +58,7 @@ pub record IsFine (cycle : List (List ℕ)) (p : Page) (w : Certificate) (item :
   pub none : (reason : Reason) → IsTrueOf cycle p w item reason → ⊥
   pub covered : needed p item ≡ true → IsCovered cycle p w item ⊎ IsLeftOut cycle p w item
 
--- the reason is true, the same reason isn't at a smaller start, and none of a smaller number is
+-- the reason is true, no reason with a smaller number is, and it is not true at a smaller start
 pub record IsFirstReason (cycle : List (List ℕ)) (p : Page) (w : Certificate) (item : Item) (reason : Reason) : Type 0 where
   pub here : IsTrueOf cycle p w item reason
   pub no_start : (other : Reason) → IsTrueOf cycle p w item other → reason_number other ≡ reason_number reason → start_in other < start_in reason → ⊥
@@ -68,7 +68,7 @@ abbrev pub IsItemReason : List (List ℕ) → Page → Certificate → Item → 
 IsItemReason cycle p w item None = IsFine cycle p w item
 IsItemReason cycle p w item (Some reason) = IsFirstReason cycle p w item reason
 
--- the same of the items whose numbers are below count: and the same reason isn't true of an item before it
+-- the same for the items whose numbers are below count; the reason is not true of an item before its own
 pub record IsFirstBelow (cycle : List (List ℕ)) (p : Page) (w : Certificate) (count : ℕ) (reason : Reason) : Type 0 where
   pub item : Item
   pub within : item_number item < count
@@ -88,7 +88,7 @@ pub record IsReasonAt (cycle : List (List ℕ)) (p : Page) (w : Certificate) (nu
   pub place : item_number item ≡ number
   pub first : IsItemReason cycle p w item reason
 
--- the earlier item's reason, where the later one's isn't of a smaller number
+-- the earlier item's reason, unless the later item's has a smaller number
 abbrev pub told_first : Option Reason → Option Reason → Option Reason
 told_first earlier None = earlier
 told_first None (Some next) = Some next
@@ -100,7 +100,7 @@ judged_page judged = page_of judged.page.now
 abbrev pub judged_certificate : JudgedPage → Certificate
 judged_certificate judged = certificate_of judged.certificate.now
 
--- what is kept beside the page is that of a list of slots
+-- what is kept beside the page comes from this list of slots
 pub record IsReady (judged : JudgedPage) (y : List (List ℕ)) : Type 0 where
   pub some : 1 ≤ length y
   pub period : judged.period ≡ length y

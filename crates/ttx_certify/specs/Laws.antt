@@ -1,9 +1,9 @@
 -- The laws of the headline. Each is proved by the function of its name in `laws`.
 --
---   RunsAreSeen             in any stream: where each needed item comes between two slots, the page is seen from the second on
+--   RunsAreSeen             in any stream: if each needed item comes between two slots, the page is seen from the second slot on
 --   ArePages                the pages of a list are in their ranges
---   AcceptedIsSeen          what a cycle sends that is accepted, each receiver sees by the deadline and ever after
---   EachTuningRuns          from each tuning slot something is received, and each kind of receiver makes something of it
+--   AcceptedIsSeen          each receiver sees the pages of an accepted cycle by the deadline and ever after
+--   EachTuningRuns          from each tuning slot there is a reception, and each kind of receiver has a run over it
 use Rattle.std.specs.Prelude.{◌≡◌, ℕ, ◌≤◌, ℤ, pos, ◌+ℤ◌, ◌≤ℤ◌, true, List, length, slice_get, Some}
 use Rattle.ttx_header.specs.Ids.{Id}
 use Rattle.ttx_page.specs.Pages.{Page, IsPage, matches, needed}
@@ -19,10 +19,10 @@ use Rattle.ttx_cycle.specs.Files.{IsCycle}
 use Rattle.ttx_witness.specs.Coverage.{Certificate, IsCertificate, Accepts}
 use Rattle.ttx_certify.specs.Seen.{HasView, Seen, SomeRun}
 
--- From slot begin on each slot is clean, the headers that the selection matches are the page's, and what stands under them is the page's
--- own; and each needed item comes between begin and end, by an all-sure run under headers at begin or later, or, where receivers surely
--- clear and it is blank, by a header alone. Then after any reception within the error rule from begin to end or longer the receiver has
--- the page's View, whatever it held before and whatever it chooses.
+-- From slot begin on each slot is clean, the headers that the selection matches are the page's, and what is sent under them is the page's
+-- own. Each needed item comes between begin and end: by a sure run under headers at begin or later, or, if it is blank and receivers
+-- surely clear, by a header alone. Then, after any reception within the error rule from begin to end or longer, the receiver has the
+-- page's View, whatever it held before and whatever it chooses.
 abbrev pub RunsAreSeen : Type 0
 RunsAreSeen =
     (s : Stream) (p : Page) (sel : Selection) (class : Class) (lines repeat : ℕ) (begin end : ℤ) →
@@ -40,7 +40,7 @@ AcceptedIsSeen =
     (cycle : List (List ℕ)) (pages : List Page) (w : Certificate) → IsCycle cycle → ArePages pages → IsCertificate w →
     Accepts cycle pages w → (n : ℕ) (p : Page) → slice_get pages n ≡ Some p → Seen cycle pages p w
 
--- The headline speaks of something: each tuning slot, former memory, selection and length has a reception and a run.
+-- The headline is not empty: each tuning slot, former memory, selection and length has a reception and a run.
 abbrev pub EachTuningRuns : Type 0
 EachTuningRuns =
     (cycle : List (List ℕ)) → IsCycle cycle → (page : Id) (class : Class) (lines repeat : ℕ) → 1 ≤ repeat →

@@ -1,8 +1,8 @@
--- What it means that a page is seen in the stream of a cycle, whoever receives it (profile).
+-- What it means that a page is seen in the stream of a cycle, by every receiver (profile).
 --
---   HasView                 a memory has the View of a page, the header clock and the receiver's own columns aside
+--   HasView                 a memory has the View of a page, ignoring the header clock and the receiver's own columns
 --   Seen                    each receiver that is tuned to the page has its View from the deadline on
---   SomeRun                 something is received, and a receiver makes something of it
+--   SomeRun                 something is received, and a receiver has a run over it
 use Rattle.std.specs.Prelude.{◌≡◌, ℕ, ◌≤◌, ℤ, List, length}
 use Rattle.ttx_header.specs.Ids.{Id}
 use Rattle.ttx_page.specs.Pages.{Page, Fits}
@@ -16,12 +16,12 @@ use Rattle.ttx_render.specs.View.{view_of}
 use Rattle.ttx_render.specs.Comparison.{SameButClock}
 use Rattle.ttx_witness.specs.Coverage.{Certificate, limit}
 
--- equal links, and equal cells but for columns 0 to 7 and 32 to 39 of row 0
+-- equal links, and equal cells except columns 0 to 7 and 32 to 39 of row 0
 abbrev pub HasView : Page → Memory → Type 0
 HasView p m = SameButClock (view_of m) (view_of (memory_of_page p))
 
--- By each selection that fits the page, from each tuning slot and each former memory, after each reception within the error rule that
--- lasts to the deadline or longer, and by whatever run of a permitted receiver: the receiver has the page's View.
+-- For each selection that fits the page, each tuning slot and each former memory, each reception within the error rule that lasts to
+-- the deadline or longer, and each run of a permitted receiver: at its end the receiver has the page's View.
 pub record Seen (cycle : List (List ℕ)) (pages : List Page) (p : Page) (w : Certificate) : Type 0 where
   pub shown :
       (sel : Selection) →

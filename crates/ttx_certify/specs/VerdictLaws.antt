@@ -1,8 +1,8 @@
 -- Laws of verdicts.
 --
---   CertifiedIsShown        what a Yes is worth, with its numbers written out
---   VerdictsAreOne          of a cycle, pages and a certificate one verdict is right
---   SomeVerdictIsRight      and there is one
+--   CertifiedIsShown        what a yes guarantees, with its numbers written out
+--   VerdictsAreOne          for a cycle, pages and a certificate at most one verdict is right
+--   SomeVerdictIsRight      and one is
 use Rattle.std.specs.Prelude.{◌≡◌, ℕ, ◌*◌, ◌<◌, ℤ, true, List, length, slice_get, Some}
 use Rattle.ttx_page.specs.Pages.{Page, Fits}
 use Rattle.ttx_page.specs.declared.selection.Selection.{Selection}
@@ -22,8 +22,8 @@ use Rattle.ttx_certify.specs.Verdicts.{IsVerdict}
 use Rattle.ttx_certify.specs.declared.verdict.Verdict.{Verdict}
 
 -- A cycle is accepted with a deadline of D fields of L slots. A receiver set to a page of the list, by a selection that fits it, begins
--- at any slot with any memory of the program, a fresh one where receivers surely clear, and receives exactly D times L slots within the
--- error rule. Then it has the page's View, the header clock aside.
+-- at any slot with any memory of the program (a fresh one if receivers surely clear), and receives exactly D times L slots within the
+-- error rule. Then it has the page's View, ignoring the header clock.
 abbrev pub CertifiedIsShown : Type 0
 CertifiedIsShown =
     (cycle : List (List ℕ)) (pages : List Page) (w : Certificate) → IsCycle cycle → ArePages pages → IsCertificate w → Accepts cycle pages w →
@@ -32,7 +32,7 @@ CertifiedIsShown =
     (former : PageMemory) → (w.class ≡ Clearing → (memory_of former).fresh ≡ true) →
     (m : Memory) → Run w.class w.lines sel (memory_of former) received m → SameButClock (view_of m) (view_of (memory_of_page p))
 
--- two verdicts that are right of the same cycle, pages and certificate are equal
+-- two right verdicts on the same cycle, pages and certificate are equal
 abbrev pub VerdictsAreOne : Type 0
 VerdictsAreOne = (cycle : List (List ℕ)) (pages : List Page) (w : Certificate) → 0 < length cycle → IsCertificate w → (a b : Verdict) →
     IsVerdict cycle pages w a → IsVerdict cycle pages w b → a ≡ b

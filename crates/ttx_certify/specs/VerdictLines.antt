@@ -1,7 +1,7 @@
--- The line of a verdict (profile): words and numbers with one space between, ended by 0A.
+-- The line of a verdict (profile): words and numbers separated by one space, ended by 0A.
 --
 --   reason_text             a reason: its number, its name and what it names
---   class_words             the class of receivers, where they surely clear
+--   class_words             the class of receivers, if they surely clear
 --   verdict_line            the line
 use Rattle.std.specs.Prelude.{ℕ, List, [], ◌∷◌, ◌++◌, codes}
 use Rattle.std.specs.Fmt.{decimal}
@@ -58,6 +58,6 @@ abbrev pub verdict_text : CertificateFields → ℕ → Verdict → List ℕ
 verdict_text w pages Yes = yes_text w pages
 verdict_text w pages (No reason) = codes "no " ++ reason_text reason
 
--- the verdict on so many pages
+-- the verdict on this many pages
 abbrev pub verdict_line : CertificateFields → ℕ → Verdict → List ℕ
 verdict_line w pages verdict = verdict_text w pages verdict ++ 10 ∷ []

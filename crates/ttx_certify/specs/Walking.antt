@@ -1,9 +1,9 @@
--- For which two lists of slots a walk stands, and what it says of them.
+-- What a walk keeps of its two lists of slots, and its verdict on them.
 --
 --   walk_pages, walk_certificate, second_pages, second_certificate    the pages and the certificate of a walk, in each of its passes
 --   Starts                  a walk after a first list
 --   Stands                  a walk after a first and a second list
---   IsWalkVerdict           what a walk over two lists says
+--   IsWalkVerdict           the verdict of a walk over two lists
 use Rattle.std.specs.Prelude.{◌≡◌, ℕ, List, []}
 use Rattle.ttx_page.specs.Pages.{Page}
 use Rattle.ttx_witness.specs.Coverage.{Certificate}
@@ -33,8 +33,8 @@ Starts walk x = IsFirstPass walk.pass x
 abbrev pub Stands : Second → List (List ℕ) → List (List ℕ) → Type 0
 Stands second x y = IsSecondPass second.pass x y
 
--- Unsteady exactly where the second list doesn't bear the first one out, and so only where the lists differ or the second is empty; all
--- else is the verdict of the second list. A list of more than 65,536 slots is never accepted.
+-- Unsteady exactly if the second list does not bear out the first; for two equal lists, only if they are empty. Any other verdict is that
+-- on the second list. A list of more than 65,536 slots is never accepted.
 abbrev pub IsWalkVerdict : List (List ℕ) → List (List ℕ) → List Page → Certificate → Verdict → Type 0
 IsWalkVerdict x y pages w (No Unsteady) = (IsBorneOut x y pages → ⊥) × (x ≡ y → y ≡ [])
 IsWalkVerdict x y pages w verdict = IsBorneOut x y pages × IsVerdict y pages w verdict

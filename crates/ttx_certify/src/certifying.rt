@@ -1,4 +1,4 @@
-//! Whether a cycle is accepted with a certificate: a walk that is given its slots twice.
+//! Decides whether a cycle is accepted with a certificate, by a walk over its slots, twice.
 
 ghost use Rattle.std.specs.Prelude.{◌≡◌, ◌≢◌, IfOk, [], map};
 ghost use Rattle.std.specs.List.{AllPairs};
@@ -15,7 +15,7 @@ use ttx_cycle::Cycle;
 use ttx_page::Page;
 use ttx_witness::{Certificate, NoMemory};
 
-// The first pass over a cycle.
+// The first pass over the cycle.
 fn first_pass(walk: &mut Walk, cycle: &Cycle)
     ensures stands { Starts walk.old [] → Starts walk.new (slots_of cycle.now) }
     ensures pages { walk_pages walk.new ≡ walk_pages walk.old }
@@ -27,7 +27,7 @@ fn first_pass(walk: &mut Walk, cycle: &Cycle)
     }
 }
 
-// The second pass over a cycle.
+// The second pass over the cycle.
 fn second_pass(second: &mut Second, cycle: &Cycle)
     ensures stands { Stands second.old (slots_of cycle.now) [] → Stands second.new (slots_of cycle.now) (slots_of cycle.now) }
     ensures pages { second_pages second.new ≡ second_pages second.old }
@@ -39,10 +39,11 @@ fn second_pass(second: &mut Second, cycle: &Cycle)
     }
 }
 
-/// Whether the cycle is accepted with the certificate for each of the pages, whose ids are distinct; if not, the first reason:
-/// a bad slot before all else, then page by page as they are listed, the least number, and the least slot or item and start.
-/// Where it says Yes, each page is seen: whoever tunes to it, at whatever slot and with whatever memory, shows it by the deadline
-/// and ever after, under each reception within the error rule, the header clock aside.
+/// Decides whether the cycle is accepted with the certificate for all pages, whose ids are distinct. If not, names the first reason: a bad
+/// slot first of all, then page by page in the order of the list, the smallest number, and the smallest slot or item and start.
+///
+/// If the verdict is `Yes`, each page is seen: a receiver that is tuned to it, at any slot and with any former memory, shows it by the
+/// deadline and ever after, under each reception within the error rule, ignoring the header clock.
 pub fn certify(
     alloc: Global,
     cycle: &Cycle,

@@ -1,4 +1,4 @@
-//! A walk that is given the slots of two packet files, one by one.
+//! Gives the slots of two packet files to a walk, one by one.
 
 ghost use Rattle.std.specs.Prelude.{◌≡◌, IfSome, IfOk, [], ◌∷◌, List, ℕ};
 ghost use Rattle.ttx_cycle.specs.Counters.{inner_of, faults_of};
@@ -12,7 +12,7 @@ use crate::walking::{Second, Walk};
 use std::io::Read;
 use ttx_cycle::{Counted, CycleFault, SlotReader};
 
-// Gives a walk the slots of its first list.
+// Gives the slots of the first file to a walk.
 fn feed_first<R: Read>(walk: &mut Walk, reader: &mut Counted<R>) -> Result<(), CycleFault>
     ensures walked { IfSome (R.remaining (inner_of reader.old)) (λ bytes. Walks (λ x. Starts walk.old [] → Starts walk.new x) bytes result) }
     ensures pages { walk_pages walk.new ≡ walk_pages walk.old }
@@ -28,7 +28,7 @@ fn feed_first<R: Read>(walk: &mut Walk, reader: &mut Counted<R>) -> Result<(), C
     Ok(())
 }
 
-// Gives a walk the slots of its second list.
+// Gives the slots of the second file to a walk.
 fn feed_second<R: Read>(second: &mut Second, reader: &mut Counted<R>) -> Result<(), CycleFault>
     ensures walked { IfSome (R.remaining (inner_of reader.old)) (λ bytes. Walks (λ y. (x : List (List ℕ)) → Stands second.old x [] →
         Stands second.new x y) bytes result) }
@@ -45,9 +45,9 @@ fn feed_second<R: Read>(second: &mut Second, reader: &mut Counted<R>) -> Result<
     Ok(())
 }
 
-/// The verdict of a walk that is given the slots of two packet files, or why the first of the two that isn't one isn't.
+/// The verdict of a walk over two packet files, or why the first faulty one of the two is refused.
 ///
-/// No slot is kept, and no memory is taken.
+/// Keeps no slot, and allocates no memory.
 pub fn walk_twice<A: Read, B: Read>(
     walk: Walk,
     first: &mut Counted<A>,

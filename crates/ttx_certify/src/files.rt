@@ -1,4 +1,4 @@
-//! Certifying files: a packet file, a service definition and a certificate.
+//! Certifies files: a packet file, a service definition and a certificate.
 
 ghost use Rattle.std.specs.Prelude.{◌≡◌, ◌∷◌, [], IfSome, IfOk, string_bytes};
 ghost use Rattle.ttx_cycle.specs.Counters.{inner_of, faults_of};
@@ -18,7 +18,7 @@ use ttx_cycle::Counted;
 use ttx_files::{FilesFault, Inputs, Told, read_inputs, write_told};
 use ttx_witness::{Certificate, NoMemory};
 
-/// The line of a verdict on so many pages.
+/// The line of a verdict on `pages` pages.
 pub fn line_of(
     alloc: Global,
     certificate: &Certificate,
@@ -30,7 +30,7 @@ pub fn line_of(
     verdict_line(alloc, certificate, pages, *verdict)
 }
 
-// The verdict on what was read, and its line.
+// The verdict on the inputs, and its line.
 fn judge(alloc: Global, inputs: &Inputs) -> Result<Told<Verdict>, NoMemory>
     ensures { IfOk result (λ judged. IsJudged (slots_of inputs.now.cycle) inputs.now.service (fields_of inputs.now.certificate)
         judged.verdict (string_bytes judged.line)) }
@@ -72,11 +72,11 @@ fn judge_files<A: Read, B: Read, C: Read>(
     }
 }
 
-/// Reads a packet file, the text of a service and that of a certificate, in this order, certifies the pages of the service and
-/// writes the line of the verdict. Where the verdict is Yes each page is seen, as `certify` says.
+/// Reads a packet file, a service definition and a certificate, in this order, certifies the pages of the service, and writes the line
+/// of the verdict. If the verdict is `Yes`, each page is seen, as `certify` says.
 ///
-/// Nothing is written before all is judged. At `Write` exactly the first `written` bytes of the line went out; at each other
-/// fault the writer is as it was, whatever the readers tell.
+/// Nothing is written before everything is judged. After a `Write` fault exactly the first `written` bytes of the line went out; after any
+/// other fault the writer is unchanged, whether or not the contents of the readers are known.
 pub fn certify_files<A: Read, B: Read, C: Read, W: Write>(
     alloc: Global,
     cycle: &mut Counted<A>,

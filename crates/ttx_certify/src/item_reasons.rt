@@ -1,4 +1,4 @@
-//! The first reason that is true of an item of a page, by the starts that are named for it.
+//! The first true reason of an item of a page, from the starts that are named for it.
 
 use ttx_page::{Class, Item, Page, is_blank, needed};
 use ttx_witness::{Certificate, Progress, Reason, late_at_end, limit};
@@ -10,7 +10,7 @@ pub struct JudgedPage<'a> {
     pub certificate: &'a Certificate,
     /// How many slots the list has.
     pub period: u32,
-    /// The first header of the page that the next one follows too late, where receivers surely clear.
+    /// The first header of the page that the next one follows too late. Computed only for receivers that surely clear.
     pub late_header: Option<u32>,
 }
 
@@ -21,7 +21,7 @@ impl<'a> JudgedPage<'a> {
     ghost use Rattle.ttx_witness.specs.passes.ItemProgress.{IsProgress};
     ghost use Rattle.ttx_certify.specs.ItemReasons.{IsItemReason, IsReady, judged_page, judged_certificate};
 
-    // Whether a receiver has the item once it has cleared the page.
+    // Whether a receiver holds the item once it has cleared the page.
     fn is_cleared(&self, item: &Item) -> bool
         ensures { IsTrue result ↔ (((judged_certificate self.now).class ≡ Clearing) × (definitions.is_blank (judged_page self.now) item.now ≡ true)) }
     {
@@ -31,7 +31,7 @@ impl<'a> JudgedPage<'a> {
         }
     }
 
-    // The reason that is true of an item for which no start is named.
+    // The true reason of an item for which no start is named, if there is one.
     fn unnamed(&self, item: &Item) -> Option<Reason>
         requires needed { definitions.needed (judged_page self.now) item.now ≡ true }
         requires none { (judged_certificate self.now).starts (judged_page self.now).id item.now ≡ [] }
@@ -54,7 +54,7 @@ impl<'a> JudgedPage<'a> {
         }
     }
 
-    // The first reason that is true of an item for which some starts are named; `progress` is how far the list confirms them.
+    // The first true reason of an item for which some starts are named. `progress` says how far the list confirms them.
     fn named(&self, item: &Item, starts: &[u32], progress: Progress) -> Option<Reason>
         requires needed { definitions.needed (judged_page self.now) item.now ≡ true }
         requires starts { starts.now ≡ (judged_certificate self.now).starts (judged_page self.now).id item.now }
@@ -88,8 +88,8 @@ impl<'a> JudgedPage<'a> {
         }
     }
 
-    /// The starts that are named for the item, and where in the certificate the next item is looked for first. `near` is where this
-    /// one is: it changes no starts. None where a viewer doesn't need the item.
+    /// The starts that are named for the item, and the place in the certificate where the search for the next item begins. `near` is that
+    /// place for this item; it does not change the starts. `None` if no viewer needs the item.
     pub fn starts(&self, item: &Item, near: usize) -> Option<(usize, &'a [u32])>
         ensures { MatchOption result (definitions.needed (judged_page self.now) item.now ≡ false)
             (λ found. (definitions.needed (judged_page self.now) item.now ≡ true)
@@ -102,7 +102,7 @@ impl<'a> JudgedPage<'a> {
         }
     }
 
-    /// The first reason that is true of the item; `starts` are named for it, and `progress` is how far the list confirms them.
+    /// The first true reason of the item. `starts` are named for it, and `progress` says how far the list confirms them.
     pub fn item_reason(
         &self,
         item: &Item,

@@ -1,4 +1,4 @@
-//! The verdict on a list of slots that two passes have seen.
+//! The verdict on a list of slots, after two passes over it.
 
 ghost use Rattle.std.specs.Prelude.{◌≡◌, ◌<◌, ℕ, List, Some, None, MatchOption, length, slice_get};
 ghost use Rattle.ttx_page.specs.Pages as definitions;
@@ -10,7 +10,7 @@ use crate::page_reasons::witness_fault;
 use crate::verdict::Verdict;
 use ttx_witness::{EndedPass, Reason};
 
-// The first fault of the page at the index.
+// The first fault of the page at `index`.
 fn fault_at(ended: &EndedPass, index: usize) -> Option<Reason>
     requires { index < length ended.now.pages.now }
     ensures { (y : List (List ℕ)) (p : definitions.Page) → IsEnded ended.now y → slice_get (ended_pages ended.now) index ≡ Some p →
@@ -37,8 +37,8 @@ fn first_fault(ended: &EndedPass) -> Option<Reason>
     None
 }
 
-/// The verdict on a list that ended as it began: a slot that isn't clean before all else, then page by page as they are listed,
-/// the least number, and the least slot or item and start.
+/// The verdict on a list that ended with the owners with which it began: a slot that is not clean first of all, then page by page in the
+/// order of the list, the smallest number, and the smallest slot or item and start.
 pub fn judge(ended: &EndedPass) -> Verdict
     ensures { (y : List (List ℕ)) → IsEnded ended.now y → IsVerdict y (ended_pages ended.now) (ended_certificate ended.now) result }
 {

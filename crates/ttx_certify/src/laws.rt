@@ -1,9 +1,10 @@
-//! The laws of the headline, and what passes over one file say. A call costs nothing and gives the caller's proof the law.
+//! The laws of the headline, and the law of two readings of one file. A call does nothing at run time, and gives the law to the
+//! caller's proof.
 
 ghost use Rattle.ttx_certify.specs.CertifyingPasses.{PassesAreFiles};
 ghost use Rattle.ttx_certify.specs.Laws.{RunsAreSeen, AcceptedIsSeen, EachTuningRuns};
 
-/// In any stream: where each item that a viewer needs comes between two slots, the page is seen from the second on.
+/// In any stream: if each item that a viewer needs comes between two slots, the page is seen from the second slot on.
 pub fn runs_are_seen()
     ensures { RunsAreSeen }
 {
@@ -11,7 +12,7 @@ pub fn runs_are_seen()
     ttx_render::laws::showing_is_seeing();
 }
 
-/// What an accepted cycle sends, each permitted receiver sees by the deadline and ever after.
+/// Each permitted receiver sees the pages of an accepted cycle by the deadline and ever after.
 pub fn accepted_is_seen()
     ensures { AcceptedIsSeen }
 {
@@ -22,7 +23,7 @@ pub fn accepted_is_seen()
     ttx_page::laws::steady_sends_its_own();
 }
 
-/// From each tuning slot something is received within the error rule, and each receiver makes something of it.
+/// From each tuning slot, some reception is within the error rule, and each kind of receiver has a run over it.
 pub fn each_tuning_runs()
     ensures { EachTuningRuns }
 {
@@ -31,7 +32,7 @@ pub fn each_tuning_runs()
     ttx_page::laws::exact_is_received();
 }
 
-/// Where both packet files are one, the verdict and its line are those that `certify_files` promises of it.
+/// If both packet files are the same, the verdict and its line are those that `certify_files` promises for this file.
 pub fn passes_are_files()
     ensures { PassesAreFiles }
 {}

@@ -1,4 +1,4 @@
-//! Certifying: whether each page of a cycle is seen by every permitted receiver in time, and the laws that say what a Yes is worth.
+//! The certifier: whether every permitted receiver sees each page of a cycle in time, and the laws that say what a yes guarantees.
 #![tactic(auto)]
 
 mod certifying;

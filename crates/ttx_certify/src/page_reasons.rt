@@ -1,4 +1,4 @@
-//! The first reason that speaks of named starts and is true of a page.
+//! The first true reason of a page, among those that concern named starts.
 
 ghost use Rattle.std.specs.Prelude.{◌≡◌, ◌<◌, ℕ, List, Some, None, length, slice_get};
 ghost use Rattle.ttx_page.specs.declared.class.Class.TheVariants.{Clearing};
@@ -34,7 +34,7 @@ fn number(reason: &Reason) -> u8
     }
 }
 
-// The one of two reasons that is told first.
+// The first of two reasons: the one with the smaller number, and the earlier one if the numbers are equal.
 fn told_first(earlier: &Option<Reason>, next: &Option<Reason>) -> Option<Reason>
     ensures { result ≡ told_first earlier.now next.now }
 {
@@ -51,7 +51,7 @@ fn told_first(earlier: &Option<Reason>, next: &Option<Reason>) -> Option<Reason>
     }
 }
 
-// The first header of the page at the index that the next one follows too late, where receivers surely clear.
+// The first header of the page at `index` that the next one follows too late. Computed only for receivers that surely clear.
 fn late_header(ended: &EndedPass, index: usize) -> Option<u32>
     ensures { (y : List (List ℕ)) (p : definitions.Page) → IsEnded ended.now y → slice_get (ended_pages ended.now) index ≡ Some p →
         HasHeader (repeated y) p.id → (ended_certificate ended.now).class ≡ Clearing → IsHeaderAnswer y p (ended_certificate ended.now) result }
@@ -62,8 +62,8 @@ fn late_header(ended: &EndedPass, index: usize) -> Option<u32>
     }
 }
 
-// The first reason that is true of the item of this number, of the page at the index, and where in the certificate the next item is
-// looked for first. `near` is where this one is: it changes no reason.
+// The first true reason of the item with this number, of the page at `index`, and the place in the certificate where the search for the
+// next item begins. `near` is that place for this item; it does not change the reason.
 fn reason_at(
     ended: &EndedPass,
     index: usize,
@@ -83,7 +83,7 @@ fn reason_at(
     (next, judged.item_reason(&item, starts, progress))
 }
 
-// The first reason that is true of the items of the page at the index.
+// The first true reason of the items of the page at `index`.
 fn first_reason(ended: &EndedPass, index: usize, judged: &JudgedPage) -> Option<Reason>
     requires { index < length ended.now.pages.now }
     ensures { (y : List (List ℕ)) → IsReadyAt ended.now index judged.now y →
@@ -99,7 +99,7 @@ fn first_reason(ended: &EndedPass, index: usize, judged: &JudgedPage) -> Option<
     first
 }
 
-/// The first of the reasons that speak of named starts, of the page at the index, which has a header.
+/// The first true reason that concerns named starts, of the page at `index`, which has a header.
 pub fn witness_fault(ended: &EndedPass, index: usize) -> Option<Reason>
     requires { index < length ended.now.pages.now }
     ensures { (y : List (List ℕ)) (p : definitions.Page) → IsEnded ended.now y → slice_get (ended_pages ended.now) index ≡ Some p →

@@ -1,4 +1,4 @@
-//! Certifying two readings of a packet file with a service definition and a certificate. No slot is kept.
+//! Certifies two readings of a packet file, without keeping its slots.
 
 ghost use Rattle.std.specs.Prelude.{◌∷◌, [], IfOk, IfSome};
 ghost use Rattle.ttx_cycle.specs.Counters.{inner_of, faults_of};
@@ -73,12 +73,13 @@ fn judge_passes<A: Read, B: Read, C: Read, D: Read>(
     }
 }
 
-/// Reads the text of a service, that of a certificate, and then a packet file twice, in this order, slot by slot. Certifies the
-/// pages of the service for the second reading and writes the line of the verdict. Where the verdict is Yes each page is seen in
-/// the second reading; where both are the same, the verdict is that of `certify_files`.
+/// Reads a service definition, a certificate, and then a packet file twice, in this order, slot by slot. Certifies the pages of the
+/// service for the second reading, and writes the line of the verdict. If the verdict is `Yes`, each page is seen in the second reading.
+/// If both readings are equal, the verdict is that of `certify_files`.
 ///
-/// Nothing is written before all is judged. At `Write` exactly the first `written` bytes of the line went out; at each other fault the
-/// writer is as it was, whatever the readers tell. The first packet file that isn't one is answered by `Cycle`.
+/// Nothing is written before everything is judged. After a `Write` fault exactly the first `written` bytes of the line went out; after any
+/// other fault the writer is unchanged, whether or not the contents of the readers are known. `Cycle` is the fault of the first faulty
+/// packet file.
 pub fn certify_passes<A: Read, B: Read, C: Read, D: Read, W: Write>(
     alloc: Global,
     first: &mut Counted<A>,

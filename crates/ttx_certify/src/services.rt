@@ -1,4 +1,4 @@
-//! Certifying and finding for the pages of a service, whose ids are distinct.
+//! Certifies, and finds certificates for, the pages of a service, whose ids are distinct.
 
 ghost use Rattle.std.specs.Prelude.{◌≤◌, IfOk};
 ghost use Rattle.ttx_cycle.specs.Cycles.{slots_of};
@@ -28,7 +28,7 @@ pub fn certify_service(
     certify(alloc, cycle, service.pages(), certificate)
 }
 
-/// The certificate that `find_for` finds for the pages of a service and its lines of a field. `repeat` is 1 to 8.
+/// The certificate that `find_for` finds for the pages of a service, with its lines of a field. `repeat` is 1 to 8.
 pub fn find_service(
     alloc: Global,
     cycle: &Cycle,

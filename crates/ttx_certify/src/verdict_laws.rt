@@ -1,9 +1,9 @@
-//! Laws of verdicts. A call costs nothing and gives the caller's proof the law.
+//! Laws of verdicts. A call does nothing at run time, and gives the law to the caller's proof.
 
 ghost use Rattle.ttx_certify.specs.VerdictLaws.{CertifiedIsShown, VerdictsAreOne, SomeVerdictIsRight};
 
-/// After exactly D times L slots a receiver has the View of each page that is certified with D fields of L slots, from whatever slot
-/// and memory it began.
+/// After exactly D times L slots a receiver has the View of each page of a cycle that is certified with D fields of L slots, whatever
+/// its first slot and former memory.
 pub fn certified_is_shown()
     ensures { CertifiedIsShown }
 {
@@ -11,7 +11,7 @@ pub fn certified_is_shown()
     ttx_page::laws::memories_are_former();
 }
 
-/// Of a cycle, pages and a certificate one verdict is right.
+/// For a cycle, pages and a certificate, at most one verdict is right.
 pub fn verdicts_are_one()
     ensures { VerdictsAreOne }
 {
@@ -20,7 +20,7 @@ pub fn verdicts_are_one()
     ttx_witness::judging_laws::items_are_judged();
 }
 
-/// Of each cycle, pages and certificate some verdict is right, whatever memory there is to find it.
+/// For each cycle, pages and certificate, some verdict is right. This does not depend on the memory needed to find it.
 pub fn some_verdict_is_right()
     ensures { SomeVerdictIsRight }
 {

@@ -46,7 +46,7 @@ fn push_start(
     write!(text, " {start}")
 }
 
-/// Adds a reason: its number, its name and what it names.
+/// Adds a reason: its number, its name, and the page, slot, item or start that it names.
 pub fn push_reason(text: &mut String, reason: Reason) -> Result<(), AllocError>
     ensures { OnOk result (string_bytes text.new ≡ string_bytes text.old ++ reason_text reason) }
 {
@@ -79,7 +79,7 @@ fn push_class(text: &mut String, class: Class) -> Result<(), AllocError>
     }
 }
 
-/// Adds the words of a Yes on so many pages, without an end of line.
+/// Adds the words of a yes for `pages` pages, without the end of the line.
 pub fn push_yes(
     text: &mut String,
     certificate: &Certificate,
@@ -115,7 +115,7 @@ fn push_verdict(
     text.push('\n')
 }
 
-/// The line of a verdict on so many pages, ended by 0A.
+/// The line of a verdict on `pages` pages. It ends with the byte 0A.
 pub fn verdict_line(
     alloc: Global,
     certificate: &Certificate,

@@ -1,5 +1,5 @@
-//! The streaming walk: whether a cycle is accepted, slot by slot in two passes, with no slot kept. The first pass is believed in
-//! nothing: where the second doesn't bear it out, the verdict is `Unsteady`.
+//! The streaming walk: decides slot by slot, in two passes, whether a cycle is accepted, and keeps no slot. The verdict does not depend
+//! on the first pass being right: if the second pass does not bear it out, the verdict is `Unsteady`.
 
 use crate::judging::judge;
 use crate::verdict::Verdict;
@@ -27,8 +27,8 @@ impl<'a> Walk<'a> {
     ghost use Rattle.ttx_page.specs.Views.{ids_of};
     ghost use Rattle.ttx_certify.specs.Walking.{Starts, Stands, walk_pages, walk_certificate, second_pages, second_certificate};
 
-    /// A walk over the pages, whose ids are distinct, with the certificate. All its growths are made here. No packet is kept, but for
-    /// each slot of the second list which item of which page it sends.
+    /// A walk over the pages, whose ids are distinct, with the certificate. Allocates all memory of the walk. The walk keeps no packet, only
+    /// which item of which page each slot of the second list sends.
     pub fn new(
         alloc: Global,
         pages: &'a [Page],
@@ -43,7 +43,7 @@ impl<'a> Walk<'a> {
         Ok(Walk { pass })
     }
 
-    /// The next slot of the first list, of at most 65,536: after `TooLong` the walk is as it was. Takes no memory.
+    /// Takes the next slot of the first list, of at most 65,536. After `TooLong` the walk is unchanged. Allocates no memory.
     pub fn first(&mut self, slot: &[u8; 42]) -> Result<(), WalkFault>
         ensures kept { IfErr result (λ _. self.new ≡ self.old) }
         ensures stands { (x : List (List ℕ)) → Starts self.old x →
@@ -54,7 +54,7 @@ impl<'a> Walk<'a> {
         self.pass.first(slot)
     }
 
-    /// Before the second list. Takes no memory.
+    /// Ends the first list and begins the second. Allocates no memory.
     pub fn begin_second(self) -> Second<'a>
         ensures stands { (x : List (List ℕ)) → Starts self.entry x → Stands result x [] }
         ensures pages { second_pages result ≡ walk_pages self.entry }
@@ -71,7 +71,7 @@ impl<'a> Second<'a> {
     ghost use Rattle.ttx_certify.specs.Verdicts.{Means};
     ghost use Rattle.ttx_certify.specs.Walking.{Stands, IsWalkVerdict, second_pages, second_certificate};
 
-    /// The next slot of the second list, of any length. Takes no memory.
+    /// Takes the next slot of the second list, of any length. Allocates no memory.
     pub fn second(&mut self, slot: &[u8; 42])
         ensures stands { (x y : List (List ℕ)) → Stands self.old x y → Stands self.new x (y ++ slot.now ∷ []) }
         ensures pages { second_pages self.new ≡ second_pages self.old }
@@ -80,9 +80,9 @@ impl<'a> Second<'a> {
         self.pass.second(slot);
     }
 
-    /// The verdict on the second list: `Unsteady` exactly where it is empty, has more than 65,536 slots, or has another owner of some
-    /// page's magazine before its slot 0 than the first list has; and else exactly that of the second list. Where both lists are one, and not empty, it is that of `certify`; where it is Yes,
-    /// each page of the second list is seen. Takes no memory.
+    /// The verdict on the second list. `Unsteady` exactly if that list is empty, has more than 65,536 slots, or has another owner of some
+    /// page's magazine before its slot 0 than the first list has. Otherwise the verdict on the second list; if both lists are equal and not
+    /// empty, it is that of `certify`. If it is `Yes`, each page of the second list is seen. Allocates no memory.
     pub fn finish(self) -> Verdict
         ensures verdict { (x y : List (List ℕ)) → Stands self.entry x y →
             IsWalkVerdict x y (second_pages self.entry) (second_certificate self.entry) result }
