@@ -1,4 +1,4 @@
--- What is accepted, and followed by another page number, is shown.
+-- A page of an accepted cycle that is followed by another page number is shown.
 use Rattle.std.proofs.Common.{◌≡◌, ℕ, pos, ◌+ℤ◌, ◌<ℤ◌, ◌≤ℤ◌, true, false, List, [], ◌∷◌, length, refl, sym, subst, inl, inr, arith, slice_get, Some}
 use Rattle.std.proofs.lemmas.Int.{ints}
 use Rattle.std.proofs.lemmas.Bool.{both_ways, cases_Bool}
@@ -51,7 +51,7 @@ followed_is_within repeat cycle page some followed h head =
       ],
     )
 
--- the receiver that takes no choice and shows only where it must
+-- the receiver that takes no choice, and shows a page only when it must
 pub each_list_runs_late : EachListRunsLate
 each_list_runs_late class lines sel d [] = (d, refl)
 each_list_runs_late class lines sel d (slot ∷ received) =

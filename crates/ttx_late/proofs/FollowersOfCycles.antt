@@ -143,7 +143,7 @@ another_heads page Info h = absurd (both_ways false refl h)
 another_heads page Other h = absurd (both_ways false refl h)
 
 module _ (cycle : List (List ℕ)) (page : Id) (at : ℕ) (inside : at < length cycle) where
-  -- the slot that is so many slots after the next one
+  -- the slot that many slots after the next one
   abbrev pub slot_on : ℕ → List ℕ
   slot_on k = get_or cycle ((at + 1 + k) % length cycle) []
 

@@ -65,7 +65,7 @@ module _ (class : Class) (lines : ℕ) (sel : Selection) where
       (heads_matched sel (packet_of slot) ≡ true) ⊎ ((m.storing ≡ true) × (heads (selected_mag sel) (packet_of slot) ≡ false))
   step_storing m new slot step st = after_storing class lines sel step.choice (older m) (packet_of slot) (subst (λ x. x.storing ≡ true) step.is st)
 
-  -- where nothing may be forgotten, what was gathered takes the slot
+  -- if nothing may be forgotten, what was gathered takes the slot
   pub kept_base : (m base : Memory) (pkt : Packet) → may_forget sel m pkt ≡ false → TakesIn class sel m pkt base → base ≡ m
   kept_base m base pkt none from = elim from as (λ _. base ≡ m) [ inl e ↦ e | inr d ↦ absurd (both_ways _ none d.0) ]
 

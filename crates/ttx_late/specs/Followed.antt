@@ -3,11 +3,11 @@
 --   HoldsId, HoldsNoId      the id in a packet, if it is a page header
 --   IsFollowedAt            a header of the page, if the slot is one, is followed by another page number
 --   IsUnfollowedAt          a header of the page after which the next one of its magazine has the page's own number
---   IsFollowedIn            the next header of the magazine has another page number, and comes so many slots later
+--   IsFollowedIn            the next header of the magazine has another page number, and comes a given number of slots later
 --   IsGap                   the most slots from a header of the page to the next of its magazine, which has another page number
 --   TellsUnfollowed         the page whose header is in a slot, if it is not followed
 --   AllAreFollowed          each page of a list is followed by another page number
---   AreFollowedWithin, IsGreatestGap        and at most so many slots later; the most slots for all pages
+--   AreFollowedWithin, IsGreatestGap        each, at most a given number of slots later; the most slots for all pages
 --   IsWidened               the same for the headers at one slot
 --   IsFirstUnshown          the first slot at which a page is not followed, with the page's index in the list
 use Rattle.std.specs.Prelude.{◌+◌, ◌≤◌, ◌≡◌, ◌⊎◌, ℕ, ◌<◌, pos, ◌≤ℤ◌, List, length, slice_get, Option, Some, None, true}

@@ -34,7 +34,7 @@ heads_number sel _ = false
 abbrev pub may_forget : Selection → Memory → Packet → Bool
 may_forget sel m packet = m.storing && heads_number sel packet
 
--- The memory that takes the slot: what was gathered; or, where this may be forgotten, anything that a receiver may hold before it is
+-- The memory that takes the slot: what was gathered; or, if this may be forgotten, anything that a receiver may hold before it is
 -- tuned (for class any that is any memory: what is shown, a blank page, or what was gathered earlier).
 abbrev pub TakesIn : Class → Selection → Memory → Packet → Memory → Type 0
 TakesIn class sel gathered packet base = (base ≡ gathered) ⊎ ((may_forget sel gathered packet ≡ true) × IsFormer class base)

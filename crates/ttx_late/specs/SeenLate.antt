@@ -1,6 +1,6 @@
 -- What it means that a page of a cycle is seen on receivers that show it late (profile).
 --
---   SeenLate                each such receiver shows the page's View from so many slots after the deadline on
+--   SeenLate                each such receiver shows the page's View from `gap` slots after the deadline on
 use Rattle.std.specs.Prelude.{ℕ, ◌+◌, ◌≤◌, ℤ, List, length}
 use Rattle.ttx_page.specs.Pages.{Page, Fits}
 use Rattle.ttx_page.specs.declared.selection.Selection.{Selection}

@@ -1,4 +1,4 @@
-//! Certifying for receivers that show pages late.
+//! Certifies cycles for receivers that show pages late.
 
 ghost use Rattle.std.specs.Prelude.{map, IfOk};
 ghost use Rattle.ttx_cycle.specs.Cycles.{slots_of};
@@ -31,13 +31,13 @@ fn followed_verdict(cycle: &Cycle, pages: &[Page]) -> LateVerdict
     }
 }
 
-/// Certifies a cycle also for receivers that show pages late: the verdict of `certify` on the pages of a service, and if it is Yes,
-/// whether each page is followed by another page number. `Yes` gives the greatest gap in slots, `NeverShown` the first header that is
-/// not followed.
+/// Certifies a cycle also for receivers that show pages late: gives the verdict of `certify` on the pages of a service, and if that is
+/// `Yes`, decides whether each page is followed by another page number. `Yes` gives the greatest gap in slots, `NeverShown` the first
+/// header that is not followed.
 ///
-/// If the verdict is Yes, each page is seen on two kinds of receivers, from any tuning slot, with any former memory and with any reception
-/// within the error rule, the header clock aside: on every permitted receiver from the deadline on, and on every receiver that
-/// gathers pages by permitted steps and shows them late from `gap` slots after the deadline on.
+/// If the verdict is `Yes`, each page is seen on two kinds of receivers, from any tuning slot, with any former memory and with any
+/// reception within the error rule, ignoring the header clock: on every permitted receiver from the deadline on, and on every receiver
+/// that gathers pages by permitted steps and shows them late, from `gap` slots after the deadline on.
 pub fn certify_late(
     alloc: Global,
     cycle: &Cycle,

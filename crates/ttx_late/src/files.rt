@@ -72,7 +72,7 @@ fn judge_files<A: Read, B: Read, C: Read>(
 }
 
 /// Reads a packet file, a service definition and a certificate, in this order, certifies the pages of the service also for receivers
-/// that show pages late, and writes the line of the verdict. If the verdict is Yes, each page is seen on both kinds of receivers, as
+/// that show pages late, and writes the line of the verdict. If the verdict is `Yes`, each page is seen on both kinds of receivers, as
 /// `certify_late` says.
 ///
 /// Nothing is written before everything is judged. At a `Write` fault exactly the first `written` bytes of the line have been

@@ -1,4 +1,4 @@
-//! Laws of receivers that show a page late. Calling one does nothing at run time; it gives the caller's proof the law.
+//! Laws of receivers that show a page late. A call does nothing at run time, and gives the law to the caller's proof.
 
 ghost use Rattle.ttx_late.specs.Laws.{RunsAreShown, FollowedIsWithin, AcceptedIsShown, NeverFollowedIsUnshown, EachListRunsLate};
 
@@ -19,8 +19,8 @@ pub fn followed_is_within()
     ttx_page::laws::cycles_repeat();
 }
 
-/// Each page of an accepted cycle that is followed by another page number is shown by the deadline and the slots up to the next
-/// header.
+/// A page of an accepted cycle whose headers are followed by another page number within `gap` slots is shown from `gap` slots after the
+/// deadline on.
 pub fn accepted_is_shown()
     ensures { AcceptedIsShown }
 {
@@ -31,7 +31,7 @@ pub fn accepted_is_shown()
     ttx_page::laws::steady_sends_its_own();
 }
 
-/// A page that is never followed by another page number is never shown by some receiver.
+/// If a page is never followed by another page number, some receiver never shows it.
 pub fn never_followed_is_unshown()
     ensures { NeverFollowedIsUnshown }
 {

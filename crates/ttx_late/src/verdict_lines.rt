@@ -70,7 +70,7 @@ fn slot_line(alloc: Global, name: &str, page: PageId, slot: usize) -> Result<Str
     }
 }
 
-/// The line of a verdict on so many pages. It ends with the byte 0A. `Err` if memory runs out.
+/// The line of a verdict on `pages` pages. It ends with the byte 0A. `Err` if memory runs out.
 pub fn late_verdict_line(
     alloc: Global,
     certificate: &Certificate,
