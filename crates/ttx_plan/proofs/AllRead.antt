@@ -1,4 +1,4 @@
--- Each slot of a planned cycle is read as what it is.
+-- The program reads each slot of a planned cycle as the packet that was put there.
 use Rattle.std.proofs.Common.{◌≡◌, ℕ, zero, suc, ◌+◌, ◌-◌, ◌<◌, ◌≤◌, Bool, true, false, cond, eqb, List, [], ◌∷◌, map, length, replicate, get_or}
 use Rattle.std.proofs.Common.{Option, Some, None, refl, sym, ap, ◌∙◌, subst, inl, inr, arith}
 use Rattle.std.specs.Prelude.{All, slice_get, flat_map, option_map}
@@ -226,7 +226,7 @@ queue_read laws spread late class pages a queue lt =
     (all_if (λ packet. Reads pages false (Sent queue packet)) (has_pages blocks queue) (time_filling_packet false queue)
     (λ _. filling_slot laws pages false queue lt))
 
--- packet 8/30 is what the magazines have
+-- packet 8/30, the same for all magazines
 info_from : (mags : Magazines) (before : List Slot) (bytes : List ℕ) → Info bytes ≡ slot_after mags before → mags.info ≡ Some bytes
 info_from mags before bytes e = at_info mags.info (is_info_due mags.lines (length before)) e
   where

@@ -1,4 +1,4 @@
--- In a queue that is made for receivers that show a page late no two headers of one page number, time-filling ones aside, stand side by side.
+-- In a queue for receivers that show a page late, two successive headers never have the same page number, unless one is time-filling.
 use Rattle.std.proofs.Common.{◌≡◌, ℕ, suc, ◌<◌, Bool, true, false, cond, eqb, List, [], ◌∷◌, ◌++◌, map, refl, sym, ap, ◌∙◌, subst, arith}
 use Rattle.std.proofs.Common.{append_assoc}
 use Rattle.std.specs.Prelude.{flat_map}
@@ -15,7 +15,7 @@ use Rattle.ttx_plan.specs.Blocks.{Block, header_packet, rest_packet, packets_of,
 use Rattle.ttx_plan.specs.Packets.{is_row_or_links}
 use Rattle.ttx_plan.proofs.Readable.{LawsBelow, packet_from}
 
--- the page number in a header, 255 in all else
+-- the page number in a header, 255 for other packets
 abbrev pub number_in : P.Packet → ℕ
 number_in (P.Header id control text) = id.page
 number_in _ = 255
@@ -28,12 +28,12 @@ abbrev pub Leads : ℕ → List Packet → Type 0
 Leads n [] = ⊥
 Leads n (p ∷ ps) = MatchBool (is_row_or_links p.kind) (Leads n ps) (number p.bytes ≡ n → ⊥)
 
--- so it is after each header but time-filling ones
+-- this holds after each header except time-filling ones
 abbrev pub Alternates : List Packet → Type 0
 Alternates [] = Unit {0}
 Alternates (p ∷ ps) = (is_row_or_links p.kind ≡ false → (number p.bytes ≡ 255 → ⊥) → Leads (number p.bytes) ps) × Alternates ps
 
--- ---- the numbers of headers
+-- the numbers of headers
 
 pub header_number : LawsBelow → (h : HeaderFields) → IsHeaderFields h → number (header_bytes h) ≡ h.id.page
 header_number laws h ranges =
@@ -69,7 +69,7 @@ filler_number laws false queue lt = header_number laws (time_filling (suc queue)
 apart : true ≡ false → ⊥
 apart e = cc
 
--- ---- rows and X/27/0 stand between headers
+-- rows and X/27/0 between headers
 
 rows_lead : (n : ℕ) (rows : List (List ℕ)) (ps : List Packet) → Leads n ps → Leads n (map rest_packet rows ++ ps)
 rows_lead n [] ps l = l
@@ -79,7 +79,7 @@ rows_alternate : (rows : List (List ℕ)) (ps : List Packet) → Alternates ps �
 rows_alternate [] ps a = a
 rows_alternate (bytes ∷ rows) ps a = (λ early. absurd (apart early), rows_alternate rows ps a)
 
--- ---- a queue
+-- a queue
 
 -- a block whose header has its number, and whose queue has pages
 pub record IsNumbered (sent : List Block) (block : Block) : Type 0 where

@@ -1,4 +1,4 @@
--- The cursors say what looking back says.
+-- The cursors agree with the rule that looks back at the slots sent.
 use Rattle.std.proofs.Common.{◌≡◌, ℕ, suc, ◌+◌, ◌-◌, ◌<◌, ◌≤◌, Bool, true, false, not, ◌&&◌, cond, List, [], ◌∷◌, length, take, Option, Some, None}
 use Rattle.std.proofs.Common.{refl, sym, ap, ◌∙◌, subst, arith, inl, inr, ltb, eqb, get_or, set, get_or-set_other}
 use Rattle.std.specs.Prelude.{slice_get, Vec}
@@ -48,7 +48,7 @@ free_is_ready lines info queues cursors before t m lt =
     same None w = refl
     same (Some packet) w = ap (λ x. not (is_row_or_links packet.kind && x)) w
 
--- the slot that the cursors say is the one that the rule says
+-- the slot that follows from the cursors is the one of the rule
 pub sends_turn : (lines : ℕ) (info : Option (List ℕ)) (queues : List (Vec Packet Global)) (cursors : Cursors) (before : List Slot) →
     Tracks lines cursors before →
     or_info info (is_info_due lines (length before)) (slot_by_cursors queues cursors (length before))
@@ -77,7 +77,7 @@ tracks_none lines cursors s f sent free from = record {
   from_most = omega arith;
 }
 
--- what a slot by the rule of turns may be
+-- what a slot by the rule of turns can be
 abbrev pub IsFrom : Magazines → List Slot → Slot → Type 0
 IsFrom mags before Empty = Unit {0}
 IsFrom mags before (Info bytes) = Unit {0}

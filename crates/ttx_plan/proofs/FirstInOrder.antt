@@ -1,4 +1,4 @@
--- The first that passes, in an order given by steps.
+-- The first element that passes a test, in an order given by steps.
 use Rattle.std.proofs.Common.{◌≡◌, ℕ, zero, suc, ◌+◌, ◌-◌, ◌%◌, ◌<◌, ◌≤◌, Bool, true, false, cond, Some, None, refl, sym, ap, ◌∙◌, subst, arith, inl}
 use Rattle.std.proofs.Common.{inr, mod-lt, lit<}
 use Rattle.std.specs.List.{find}
@@ -47,7 +47,7 @@ none_of p f s (suc n) none k lt = elim (cases_Bool (p (f s))) as (λ _. p (f (s 
     at zero lt y later = let e : s + 0 ≡ s = omega arith in ap (λ x. p (f x)) e ∙ y
     at (suc k) lt y later = let e : s + suc k ≡ suc s + k = omega arith in ap (λ x. p (f x)) e ∙ later k (omega arith)
 
--- where none is found, none of the eight passes
+-- if none is found, none of the eight passes
 pub none_ready : (p : ℕ → Bool) (from : ℕ) → from ≤ 8 → find p (order from) ≡ None → (m : ℕ) → m < 8 → p m ≡ false
 none_ready p from h none m lt =
     let k = (m + 16 - from) % 8 in

@@ -1,4 +1,4 @@
--- Lists that grow by what is sent of one element more.
+-- Lists that grow by what one more element sends.
 use Rattle.std.proofs.Common.{◌≡◌, ℕ, ◌+◌, ◌<◌, ◌≤◌, List, [], ◌∷◌, ◌++◌, false, cond, eqb, map, length, take, get_or, replicate, sym, ap, ◌∙◌, subst}
 use Rattle.std.proofs.Common.{append_assoc, append-nil, take_all}
 use Rattle.std.specs.Prelude.{flat_map}
@@ -10,7 +10,7 @@ use Rattle.ttx_plan.specs.declared.packet.Packet.{Packet}
 use Rattle.ttx_plan.specs.Blocks.{Block, packets_of}
 use Rattle.ttx_plan.specs.Seen.{seen_sent}
 
--- ---- a first element, the same some times, and then the others
+-- a first element, the same several times, and then the others
 
 pub same_more : {B : Type 0} (list : List B) (first again : B) (n : ℕ) → (list ++ first ∷ replicate n again) ++ again ∷ [] ≡ list
     ++ first ∷ replicate (n + 1) again
@@ -36,7 +36,7 @@ pub others_end : {A B : Type 0} (list : List B) (first : B) (between : List B) (
 others_end list first between sent xs ys i same past =
     ap (λ z. list ++ first ∷ (between ++ map sent z)) (take_all i xs (subst (λ zs. length zs ≤ i) same past))
 
--- ---- the packets of a queue, block by block
+-- the packets of a queue, block by block
 
 abbrev pub of_queue : ℕ → Block → List Packet
 of_queue queue b = cond (eqb b.queue queue) (packets_of false b) []

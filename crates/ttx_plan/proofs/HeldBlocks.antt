@@ -1,4 +1,4 @@
--- Where the packets of a block stand in a list of slots: behind the block's header, with no other header of the magazine between.
+-- Where the packets of a block are in a list of slots: after the block's header, with no other header of the magazine between.
 use Rattle.std.proofs.Common.{◌≡◌, ℕ, zero, suc, ◌+◌, ◌-◌, ◌<◌, Bool, true, false, eqb, List, [], ◌∷◌, ◌++◌, map, length, replicate, get_or, Option}
 use Rattle.std.proofs.Common.{Some, None, refl, sym, ap, ◌∙◌, subst, arith, append_assoc, length-append}
 use Rattle.std.specs.Prelude.{slice_get, flat_map}
@@ -21,7 +21,7 @@ pub record HoldsHead (block : Block) (slots : List Slot) : Type 0 where
   pub after : List Slot
   pub is : slots ≡ before ++ Sent block.queue (head_of block) ∷ after
 
--- and a row or X/27/0 of the block behind it
+-- and a row or X/27/0 of the block after it
 pub record Holds (block : Block) (bytes : List ℕ) (slots : List Slot) : Type 0 where
   pub before : List Slot
   pub between : List Slot
@@ -29,7 +29,7 @@ pub record Holds (block : Block) (bytes : List ℕ) (slots : List Slot) : Type 0
   pub is : slots ≡ before ++ Sent block.queue (head_of block) ∷ (between ++ Sent block.queue (rest_packet bytes) ∷ after)
   pub quiet : AllByRecursion (λ slot. heads block.queue slot ≡ false) between
 
--- an element of a list, with what stands before and after it
+-- an element of a list, with what comes before and after it
 pub record Splits {A : Type 0} (x : A) (xs : List A) : Type 0 where
   pub before : List A
   pub after : List A
@@ -40,7 +40,7 @@ split_at [] k x e = let f : None ≡ Some x = e in cc
 split_at (y ∷ xs) zero x e = let f : Some y ≡ Some x = e in let g : y ≡ x = cc in record { before = []; after = xs; is = ap (λ z. z ∷ xs) g }
 split_at (y ∷ xs) (suc k) x e = let s = split_at xs k x e in record { before = y ∷ s.before; after = s.after; is = ap (λ z. y ∷ z) s.is }
 
--- ---- more slots around
+-- more slots around
 
 pub head_more : (block : Block) (xs slots ys : List Slot) → HoldsHead block slots → HoldsHead block (xs ++ (slots ++ ys))
 head_more block xs slots ys h = record {
@@ -65,7 +65,7 @@ holds_more block bytes xs slots ys h = record {
   quiet = h.quiet;
 }
 
--- ---- packet 8/30 put in
+-- packet 8/30 inserted
 
 module _ (lines : ℕ) (info : Option (List ℕ)) where
   abbrev due_at : ℕ → List Slot
@@ -88,7 +88,7 @@ module _ (lines : ℕ) (info : Option (List ℕ)) where
   with_info_quiet queue at (slot ∷ rest) a = all_append (λ slot. heads queue slot ≡ false) (due_at at)
       (slot ∷ with_info lines info (past at) rest) (info_quiet queue at) (a.0, with_info_quiet queue (past at) rest a.1)
 
-  -- a slot keeps its place among those before and after it
+  -- a slot has its place in a longer list
   pub informed : (at : ℕ) (xs : List Slot) (slot : Slot) (ys : List Slot) → (place : ℕ) ×
       (with_info lines info at (xs ++ slot ∷ ys) ≡ (with_info lines info at xs ++ due_at place) ++ slot ∷ with_info lines info (past place) ys)
   informed at xs slot ys =
@@ -123,7 +123,7 @@ module _ (lines : ℕ) (info : Option (List ℕ)) where
             (with_info_quiet block.queue (past i.0) h.between h.quiet) (info_quiet block.queue k.0);
       }
 
--- ---- serial transmission
+-- serial transmission
 
 abbrev rest_slot : Block → List ℕ → Slot
 rest_slot block bytes = Sent block.queue (rest_packet bytes)
@@ -146,7 +146,7 @@ page_holds lines block bytes s = record {
       (all_replicate (λ slot. heads block.queue slot ≡ false) lines Empty refl) (rows_quiet block s.before);
 }
 
--- the list of a member stands in the list of all
+-- the list of a member is part of the whole list
 pub record Stands {A : Type 0} (part whole : List A) : Type 0 where
   pub before : List A
   pub after : List A
@@ -199,7 +199,7 @@ serial_holds lines info blocks k block e bytes split =
     (subst (Holds block bytes) (sym s.is)
     (holds_more block bytes s.before (serial_page lines block) s.after (page_holds lines block bytes split))))
 
--- ---- places
+-- places
 
 pub record HasPlace (block : Block) (bytes : List ℕ) (slots : List Slot) : Type 0 where
   pub place : ℕ

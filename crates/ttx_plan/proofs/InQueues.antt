@@ -1,4 +1,4 @@
--- In a magazine's queue each row and X/27/0 stands behind its own block's header.
+-- In a magazine's queue each row and X/27/0 comes after its own block's header.
 use Rattle.std.proofs.Common.{◌≡◌, ◌⊎◌, ℕ, zero, suc, ◌+◌, ◌<◌, Bool, true, false, cond, List, [], ◌∷◌, ◌++◌, map, length, take, Option, Some, None}
 use Rattle.std.proofs.Common.{refl, sym, ap, ◌∙◌, subst, arith, inl, inr, eqb, get_or}
 use Rattle.std.specs.Prelude.{slice_get, flat_map}
@@ -17,11 +17,11 @@ use Rattle.ttx_plan.proofs.Owners.{last_header, packets_by, in_order, aged, head
 abbrev pub head_of : Block → Packet
 head_of block = header_packet block.header
 
--- the packets of a block, where it belongs to the queue
+-- the packets of a block, if it belongs to the queue
 abbrev pub in_queue : ℕ → Block → List Packet
 in_queue queue block = cond (eqb block.queue queue) (packets_of false block) []
 
--- a packet of a listed block, behind its header
+-- a packet of a listed block, after its header
 pub record IsOf (blocks : List Block) (mag : ℕ) (packet header : Packet) : Type 0 where
   pub block : Block
   pub index : ℕ
@@ -115,7 +115,7 @@ in_block mag (block ∷ blocks) tail n packet found early h late =
           | inr r ↦ let q = again r.0 (Some (head_of block)) r.1 in (q.0, r.2 ∙ q.1, further block blocks mag packet q.0 q.2)
         ]
 
-    -- behind a time-filling header or not
+    -- with or without a time-filling header before it
     led_by : (b : Bool) (n : ℕ) (found : Option Packet) → block.queue ≡ mag →
         slice_get (cond b (time_filling_packet false block.queue ∷ []) [] ++ head_of block
         ∷ (map rest_packet block.rest ++ (flat_map (in_queue mag) blocks ++ tail))) n ≡ Some packet →
@@ -151,7 +151,7 @@ queue_at_is blocks (suc (suc (suc (suc (suc (suc zero)))))) lt = refl
 queue_at_is blocks (suc (suc (suc (suc (suc (suc (suc zero))))))) lt = refl
 queue_at_is blocks (suc (suc (suc (suc (suc (suc (suc (suc m)))))))) lt = absurd (omega arith)
 
--- where the owner of the slot at place j stands, in a list of places: in the same period and more than a field before it
+-- the place of the owner of the slot at place j, in a list of places: in the same period and more than a field before it
 pub record HasOwner (lines : ℕ) (blocks : List Block) (at : ℕ → Slot) (mag : ℕ) (packet : Packet) (j : ℕ) : Type 0 where
   pub place : ℕ
   pub header : Packet

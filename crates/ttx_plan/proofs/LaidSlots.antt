@@ -75,7 +75,7 @@ pub laid_least : (lines : ℕ) (info : Option (List ℕ)) (list : List Slot) (sl
 laid_least lines info list slots l = omega
     (arith, ap length l.slots_are, length-map (with_info lines info 0 list) bytes_of, with_info_least lines info 0 list)
 
--- ---- a block's page, behind a time-filling header or not
+-- a block's page, with or without a time-filling header before it
 
 pub if_ok : {A E : Type 0} {P Q : A → Type 0} (result : Result A E) → ((x : A) → P x → Q x) → IfOk result P → IfOk result Q
 if_ok (Ok x) f p = f x p

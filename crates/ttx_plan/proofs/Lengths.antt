@@ -1,4 +1,4 @@
--- The queues hold what the bound on the length counts, and the slots of a serial cycle are within it.
+-- The packets of the queues add up to the count in the length bound, and the slots of a serial cycle are within it.
 use Rattle.std.proofs.Common.{◌≡◌, ℕ, zero, suc, ◌+◌, ◌*◌, ◌<◌, ◌≤◌, Bool, true, false, cond, List, [], ◌∷◌, ◌++◌, map, length, replicate, Option}
 use Rattle.std.proofs.Common.{refl, sym, ap, ◌∙◌, subst, arith, inl, inr, eqb, length-append, get_or}
 use Rattle.std.specs.Prelude.{flat_map, sum_by}
@@ -19,7 +19,7 @@ use Rattle.ttx_plan.specs.Turns.{missing}
 use Rattle.ttx_plan.proofs.MagazineSums.{sum_same, sum_less}
 use Rattle.ttx_plan.proofs.LaidSlots.{laid_length, laid_least}
 
--- ---- each block belongs to one of the eight queues
+-- each block belongs to one of the eight queues
 
 abbrev pub AreQueued : List Block → Type 0
 AreQueued [] = Unit {0}
@@ -29,7 +29,7 @@ pub queued_sent : (sent : List SentBlock) → AreQueued (map seen_sent sent)
 queued_sent [] = tt
 queued_sent (b ∷ sent) = (b.block.now.queue_to, queued_sent sent)
 
--- ---- what the queues hold
+-- the packets of the queues
 
 slots_for-append : (lines : ℕ) (xs ys : List Packet) → slots_for lines (xs ++ ys) ≡ slots_for lines xs + slots_for lines ys
 slots_for-append lines [] ys = omega arith
@@ -136,12 +136,12 @@ queues_some (block ∷ blocks) a h =
     (cond (has_pages (block ∷ blocks) block.queue) (time_filling_packet false block.queue ∷ []) []) in
     omega (arith, one, most, size)
 
--- the same over queues as lists
+-- the same with queues as lists
 pub over_queues : (f : List Packet → ℕ) (blocks : List Block) (lists : List (List Packet)) → lists ≡ queues_to blocks 8 →
     sum_to 8 (λ m. f (get_or lists m [])) ≡ sum_to 8 (λ m. f (queue_packets false blocks m))
 over_queues f blocks lists e = subst (λ x. sum_to 8 (λ m. f (get_or x m [])) ≡ sum_to 8 (λ m. f (queue_packets false blocks m))) (sym e) refl
 
--- ---- serial transmission
+-- serial transmission
 
 empties : (n : ℕ) → map bytes_of (replicate n Empty) ≡ replicate n (replicate 42 0)
 empties zero = refl
@@ -224,7 +224,7 @@ filled_most lines info blocks slots new some l e few =
     bound : (n s m l lines : ℕ) → n ≡ s + m → m ≤ lines → s ≤ 2 * l → 2 * l + 2 * lines ≤ 65536 → n ≤ 65536
     bound n s m l lines a b c d = omega arith
 
--- ---- a cycle has a slot
+-- a cycle has at least one slot
 
 used_some : (blocks : List Block) (n queue : ℕ) → queue < n → has_pages blocks queue ≡ true → 0 < length (used_to blocks n)
 used_some blocks zero queue lt e = absurd (omega arith)

@@ -1,4 +1,4 @@
--- What holds of each element of a list.
+-- What holds for each element of a list.
 use Rattle.std.proofs.Common.{◌≡◌, ℕ, zero, suc, Bool, true, false, cond, List, [], ◌∷◌, ◌++◌, map, replicate, Some, None, refl, sym, subst, inl, inr}
 use Rattle.std.specs.Prelude.{slice_get, flat_map, filter}
 use Rattle.std.specs.List.{AllByRecursion}

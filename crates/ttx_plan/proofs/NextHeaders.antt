@@ -1,4 +1,4 @@
--- The header that follows a header of a page in a cycle that is planned for receivers that show a page late.
+-- The header that follows a header of a page, in a cycle that is planned for receivers that show a page late.
 use Rattle.std.proofs.Common.{◌≡◌, ℕ, zero, suc, ◌+◌, ◌<◌, Bool, true, false, not, ◌&&◌, cond, eqb, List, [], ◌∷◌, ◌++◌, map, length, replicate}
 use Rattle.std.proofs.Common.{get_or, Option, Some, None, refl, sym, ap, ◌∙◌, subst, arith, inl, inr}
 use Rattle.std.specs.Prelude.{flat_map}
@@ -18,7 +18,7 @@ use Rattle.ttx_plan.proofs.Owners.{heads}
 use Rattle.ttx_plan.proofs.SendingOrder.{of_queue}
 use Rattle.std.proofs.Math.Bool.{and-false}
 
--- ---- the packets of a queue in a serial cycle
+-- the packets of a queue in a serial cycle
 
 queue_append : (queue : ℕ) (xs ys : List Slot) → of_queue queue (xs ++ ys) ≡ of_queue queue xs ++ of_queue queue ys
 queue_append queue [] ys = refl
@@ -35,7 +35,7 @@ queue_empty : (queue n : ℕ) → of_queue queue (replicate n Empty) ≡ []
 queue_empty queue zero = refl
 queue_empty queue (suc n) = queue_empty queue n
 
--- filling adds none
+-- filling adds none of them
 pub queue_filled : (queue n : ℕ) (slots : List Slot) → of_queue queue (slots ++ replicate n Empty) ≡ of_queue queue slots
 queue_filled queue n slots = queue_append queue slots (replicate n Empty) ∙ ap (λ z. of_queue queue slots ++ z) (queue_empty queue n)
     ∙ append-nil (of_queue queue slots)
@@ -161,7 +161,7 @@ serial_queue queue lt lines info sent =
     ∙ ap (λ z. z ++ of_queue queue fillings) (queue_blocks queue lines sent)
     ∙ ap (λ z. flat_map (λ block. cond (eqb block.queue queue) (packets_of true block) []) sent ++ z) (used_queue queue sent 8 lt)
 
--- ---- the next header
+-- the next header
 
 pub record HasNext (queue n : ℕ) (slots : List Slot) : Type 0 where
   pub place : ℕ

@@ -1,4 +1,4 @@
--- Each X/27/0 of a planned cycle has the links of the page whose header it stands under.
+-- Each X/27/0 of a planned cycle has the links of the page whose header it is under.
 use Rattle.std.proofs.Common.{◌≡◌, ℕ, zero, suc, ◌≤◌, true, cond, List, [], ◌∷◌, map, get_or, Option, Some, refl, sym, ap, ◌∙◌, arith}
 use Rattle.std.specs.List.{AllByRecursion}
 use Rattle.std.proofs.lemmas.Bool.{eq-eqb}

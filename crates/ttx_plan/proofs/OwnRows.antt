@@ -1,4 +1,4 @@
--- Each row of a planned cycle is that of the page whose header it stands under.
+-- Each row of a planned cycle is that of the page whose header it is under.
 use Rattle.std.proofs.Common.{◌≡◌, ℕ, zero, suc, ◌≤◌, true, cond, List, [], ◌∷◌, map, get_or, Option, refl, sym, ap, ◌∙◌, arith}
 use Rattle.std.specs.Prelude.{drop}
 use Rattle.std.specs.List.{AllByRecursion}

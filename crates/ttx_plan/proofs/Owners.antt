@@ -1,4 +1,4 @@
--- Each row and X/27/0 of a parallel cycle stands more than a field behind the header of its own block.
+-- Each row and X/27/0 of a parallel cycle comes more than a field after the header of its own block.
 use Rattle.std.proofs.Common.{◌≡◌, ℕ, zero, suc, ◌+◌, ◌<◌, Bool, true, false, not, ◌&&◌, cond, List, [], ◌∷◌, ◌++◌, length, take, Option, Some, None}
 use Rattle.std.proofs.Common.{refl, sym, ap, ◌∙◌, subst, arith, inl, inr, eqb}
 use Rattle.std.specs.List.{list_any, find}
@@ -41,7 +41,7 @@ in_order mags (Sent mag packet ∷ before) t m =
           ∙ ap (λ n. take n (queue_of mags m)) (sym (cond-false (eqb mag m) (suc (sent_by m before)) (sent_by m before) (ne_eqb mag m ne)))
     ]
 
--- a row or X/27/0 is sent only where no block of its magazine was opened in the last field
+-- a row or X/27/0 is sent only if the last field has no header of a block of its magazine
 pub aged : (mags : Magazines) (before : List Slot) (mag : ℕ) (packet : Packet) → Sent mag packet ≡ slot_after mags before →
     is_row_or_links packet.kind ≡ true → list_any (has_header mag) (take mags.lines before) ≡ false
 aged mags before mag packet h late = at_info mags.info (is_info_due mags.lines (length before)) h
@@ -92,7 +92,7 @@ pub last_header_push : (packets : List Packet) (packet : Packet) (found : Option
 last_header_push [] packet found = refl
 last_header_push (p ∷ rest) packet found = last_header_push rest packet (cond (is_row_or_links p.kind) found (Some p))
 
--- where the magazine's latest header stands
+-- the place of the magazine's latest header
 pub record IsLatest (mag : ℕ) (before : List Slot) (header : Packet) : Type 0 where
   pub place : ℕ
   pub within : place < length before

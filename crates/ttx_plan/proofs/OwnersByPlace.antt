@@ -1,4 +1,4 @@
--- Owners by places, in serial and in parallel cycles.
+-- Owners by place, in serial and in parallel cycles.
 use Rattle.std.proofs.Common.{◌≡◌, ℕ, zero, suc, ◌+◌, ◌<◌, Bool, true, false, not, ◌&&◌, List, [], ◌∷◌, length, Option, Some, None, refl, sym, ap}
 use Rattle.std.proofs.Common.{◌∙◌, subst, arith, inl, inr, eqb, get_or}
 use Rattle.std.specs.Bool.{MatchBool}

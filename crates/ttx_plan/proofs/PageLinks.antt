@@ -1,4 +1,4 @@
--- The links of a service's pages, by those of the program's pages.
+-- The links of a service's pages are those of the program's pages.
 use Rattle.std.proofs.Common.{◌≡◌, ℕ, zero, suc, List, [], ◌∷◌, map, Option, Some, None, refl, subst}
 use Rattle.std.specs.Prelude.{slice_get}
 use Rattle.ttx_header.specs.Ids.{Id}

@@ -1,4 +1,4 @@
--- The blocks that are sent, one by one: the page number in the latest header of each queue.
+-- The blocks that are sent, one by one, with the page number in the latest header of each queue.
 use Rattle.std.proofs.Common.{◌≡◌, ℕ, zero, suc, ◌+◌, ◌/◌, ◌%◌, ◌<◌, Bool, true, false, ◌&&◌, cond, eqb, List, [], ◌∷◌, ◌++◌, map, length, take}
 use Rattle.std.proofs.Common.{get_or, set, refl, sym, ap, ◌∙◌, subst, arith, inl, inr, append_assoc, append-nil}
 use Rattle.std.specs.Prelude.{replicate}
@@ -10,7 +10,7 @@ use Rattle.ttx_plan.specs.Blocks.{Block, led, round_of, rounds_to, latest, with_
 use Rattle.ttx_plan.specs.declared.block.PageBlock.{PageBlock}
 use Rattle.ttx_plan.specs.Seen.{seen, fillers_in}
 
--- the blocks that are passed, latest first
+-- the blocks that have been passed, latest first
 abbrev pub passed : List Block → List Block → List Block
 passed before [] = before
 passed before (block ∷ blocks) = passed (block ∷ before) blocks
@@ -28,7 +28,7 @@ fillers_next late before [] block = refl
 fillers_next late before (b ∷ blocks) block = ap (λ z. led (late && eqb (latest b.queue before) b.page) b ∷ z)
     (fillers_next late (b ∷ before) blocks block)
 
--- ---- what is kept of the blocks that are passed
+-- what is kept of the blocks that have been passed
 
 pub record KeepsLatest (pages : List ℕ) (blocks : List Block) : Type 0 where
   pub size : length pages ≡ 8
@@ -74,7 +74,7 @@ pub again_is : (pages : List ℕ) (blocks : List Block) (block : Block) → bloc
     eqb (get_or pages block.queue 0) block.page ≡ is_again blocks block
 again_is pages blocks block lt k = ap (λ n. eqb n block.page) (k.kept block.queue lt)
 
--- ---- a round goes on
+-- a round continues
 
 abbrev pub in_round : ℕ → Block → Bool
 in_round round block = eqb (round % (8 / block.often)) block.place
@@ -95,7 +95,7 @@ sent_same all some round block e =
     ∙ ap (λ z. round_of some round ++ z) (cond-false (in_round round block) (block ∷ []) [] e)
     ∙ append-nil (round_of some round))
 
--- ---- the blocks that are sent, and how many go behind a time-filling header
+-- the blocks that are sent, and how many of them follow a time-filling header
 
 pub list_next : (late : Bool) (all some : List Block) (round : ℕ) (block : Block) → in_round round block ≡ true →
     with_fillers late [] (rounds_to all round ++ round_of (some ++ block ∷ []) round)
@@ -117,7 +117,7 @@ count_next late all some round block e =
     one : (x : Block) → fillers_in (x ∷ []) ≡ cond x.filler 1 0
     one x = omega (arith, sum_by-cons (λ (y : Block). cond y.filler 1 0) x [])
 
--- the lists are those after one block more: `next` is `some` with the block
+-- the lists after one more block: `next` is `some` with the block
 pub sent_then : (late : Bool) (all some next : List Block) (round : ℕ) (block : Block) (filler : Bool) (pages : List ℕ)
     (sent : List Block) → next ≡ some ++ block ∷ [] → block.queue < 8 → round % (8 / block.often) ≡ block.place →
     KeepsLatest pages (rounds_to all round ++ round_of some round) → filler ≡ (late && eqb (get_or pages block.queue 0) block.page) →
@@ -152,14 +152,14 @@ keeps_then all some next round block pages more lt due k =
     (sym (sent_more all some round block e) ∙ ap (λ x. rounds_to all round ++ round_of x round) (sym more))
     (keeps_next pages (rounds_to all round ++ round_of some round) block lt k)
 
--- and where the block isn't sent in the round they stay
+-- if the block is not sent in the round, the lists stay
 pub list_else : (all some next : List Block) (round : ℕ) (block : Block) → next ≡ some ++ block ∷ [] →
     (round % (8 / block.often) ≡ block.place → ⊥) → rounds_to all round ++ round_of some round ≡ rounds_to all round ++ round_of next round
 list_else all some next round block more off = sym
     (ap (λ x. rounds_to all round ++ round_of x round) more
     ∙ sent_same all some round block (ne_eqb (round % (8 / block.often)) block.place off))
 
--- the program's blocks, one more
+-- one more of the program's blocks
 pub seen_next : (blocks : List PageBlock) (i : ℕ) (block : PageBlock) → i < length blocks → block ≡ get_or blocks i block →
     map seen (take (i + 1) blocks) ≡ map seen (take i blocks) ++ seen block ∷ []
 seen_next blocks i block lt is =

@@ -1,4 +1,4 @@
--- Blocks with their places among the rounds: what holds of them, and in which rounds they stand.
+-- Blocks with their places among the rounds: what holds for them, and in which rounds they are sent.
 use Rattle.std.proofs.Common.{◌≡◌, ◌⊎◌, ℕ, zero, suc, ◌+◌, ◌/◌, ◌%◌, ◌<◌, Bool, true, false, cond, eqb, List, [], ◌∷◌, ◌++◌, length}
 use Rattle.std.proofs.Common.{get_or, Some, None, refl, sym, ap, ◌∙◌, subst, arith, inl, inr, ◌||◌, mod-eq_of_lt, append-nil}
 use Rattle.std.specs.Prelude.{slice_get, filter, sum_by}
@@ -13,7 +13,7 @@ pub record IsInRounds (block : Block) : Type 0 where
   pub often : IsOften block.often
   pub place : block.place < 8 / block.often
 
--- ---- places do not change the rest
+-- places change nothing else
 
 pub placed_all : (P : Block → Type 0) → ((place : ℕ) (block : Block) → P block → P (at_place place block)) →
     (places : List ℕ) (blocks : List Block) → AllByRecursion P blocks → AllByRecursion P (placed places blocks)
@@ -62,7 +62,7 @@ placed_any p same (place ∷ places) [] = refl
 placed_any p same (place ∷ places) (b ∷ blocks) = ap (λ x. x || list_any p (placed places blocks)) (same place b)
     ∙ ap (λ x. p b || x) (placed_any p same places blocks)
 
--- ---- a block stands in the round of its place
+-- a block is sent in the round of its place
 
 get_left : {A : Type 0} (xs ys : List A) (k : ℕ) (x : A) → slice_get xs k ≡ Some x → slice_get (xs ++ ys) k ≡ Some x
 get_left [] ys k x e = let g : None ≡ Some x = e in cc
@@ -128,7 +128,7 @@ pub in_its_round : (blocks : List Block) (k : ℕ) (block : Block) → IsInRound
 in_its_round blocks k block r e = in_rounds blocks 8 block.place k block (below_eight block.often block.place r.often r.place)
     (eq-eqb (block.place % (8 / block.often)) block.place (mod-eq_of_lt r.place)) e
 
--- ---- one of the blocks that are sent is such where one of the blocks is
+-- one of the blocks that are sent comes from one of the blocks
 
 any_get : (p : Block → Bool) (xs : List Block) → list_any p xs ≡ true → (k : ℕ) × ((x : Block) × ((slice_get xs k ≡ Some x) × (p x ≡ true)))
 any_get p [] e = cc

@@ -1,4 +1,4 @@
--- Each row and X/27/0 of a planned cycle stands behind its header, by how the bytes are read.
+-- Each row and X/27/0 of a planned cycle comes after its header, by how the bytes are read.
 use Rattle.std.proofs.Common.{◌≡◌, ℕ, zero, suc, ◌+◌, ◌-◌, ◌<◌, ◌≤◌, Bool, true, false, not, ◌&&◌, eqb, List, [], ◌∷◌, ◌++◌, map, length, replicate}
 use Rattle.std.proofs.Common.{get_or, Option, Some, None, refl, sym, ap, ◌∙◌, subst, arith, append_assoc, length-append, inl, inr}
 use Rattle.std.specs.Bool.{MatchBool}
@@ -55,7 +55,7 @@ placed_by pages lines serial blocks cycle at some bytes reads owned = record {
     header : (i m : ℕ) (h : Packet) → at i ≡ Sent m h → heads m (Sent m h) ≡ true → heads m (at i) ≡ true
     header i m h e t = ap (heads m) e ∙ t
 
--- filling goes on in the same way
+-- filling continues in the same way
 follows_empty : (lines : ℕ) (blocks : List Block) (mag : ℕ) (header : Option Packet) (age : ℕ) (slots : List Slot) (n : ℕ) →
     Follows lines blocks mag header age slots → Follows lines blocks mag header age (slots ++ replicate n Empty)
 follows_empty lines blocks mag header age [] zero f = tt

@@ -1,4 +1,4 @@
--- What the two faults say of each answer of a plan.
+-- What the two faults say about each answer of a plan.
 use Rattle.std.proofs.Common.{◌≡◌, ℕ, ◌<◌, ◌≤◌, Bool, false, true, List, [], ◌∷◌, Result, Ok, Err, length, eqb, ap, sym, arith}
 use Rattle.std.specs.Prelude.{◌↔◌}
 use Rattle.std.proofs.lemmas.Bool.{eqb-true}
@@ -34,7 +34,7 @@ long_is_not_pages e = cc
 pub pages_are_not_long : ◌≡◌ {A = Answer} (Err NoPages) (Err TooLong) → ⊥
 pages_are_not_long e = cc
 
--- the program's list of pages is empty where the service's is
+-- the program's list of pages is empty if and only if the service's is
 pub empty_alike : {A : Type 0} (values : List A) (pages : List Authored) → length values ≡ length pages → true ≡ eqb (length values) 0 → pages ≡ []
 empty_alike values [] same e = ap (λ _. []) same
 empty_alike [] (p ∷ pages) same e = absurd (omega (arith, same))

@@ -1,4 +1,4 @@
--- Each slot of a planned cycle is clean, each header a page's own, and each transmission is sure.
+-- Each slot of a planned cycle is clean, each header is a page's own, and each transmission is sure.
 use Rattle.std.proofs.Common.{◌≡◌, ℕ, ◌<◌, Bool, true, false, List, [], length, get_or, Option, sym, ap, ◌∙◌}
 use Rattle.std.specs.Prelude.{All, option_map}
 use Rattle.ttx_info.specs.Infos.{InfoFields, info_bytes}

@@ -19,7 +19,7 @@ use Rattle.ttx_plan.proofs.Readable.{LawsBelow}
 use Rattle.ttx_plan.proofs.SentItems.{page_there, planned_items_are_sent}
 use Rattle.ttx_plan.proofs.SteadyPages.{planned_is_steady}
 
--- an item that a viewer sees is sent, or it is blank and receivers surely clear
+-- an item that a viewer sees is sent; or it is blank, and receivers surely clear
 sent_or_blank : (blank : BlankIsTested) (class : Class) (p : Page) (item : Item) → IsPage p → HasLinks p → needed p item ≡ true →
     (is_sent_to class p item ≡ true) ⊎ ((class ≡ Clearing) × IsBlank p item)
 sent_or_blank blank Any p item is l need = inl need

@@ -1,4 +1,4 @@
--- In a cycle that is planned for receivers that show a page late each page is followed by another page number.
+-- In a cycle that is planned for receivers that show a page late, each page is followed by another page number.
 use Rattle.std.proofs.Common.{◌≡◌, ℕ, suc, ◌-◌, ◌<◌, ℤ, pos, ◌+ℤ◌, ◌<ℤ◌, Bool, true, false, not, ◌&&◌, eqb, List, [], ◌∷◌, map, length, get_or, refl}
 use Rattle.std.proofs.Common.{sym, ap, ◌∙◌, subst, arith, mod-eq_of_lt}
 use Rattle.std.specs.Prelude.{All, replicate}
@@ -38,7 +38,7 @@ use Rattle.ttx_plan.proofs.ServicePages.{blocks_in_rounds}
 use Rattle.ttx_plan.proofs.SentItems.{page_there, heads_its}
 use Rattle.ttx_plan.proofs.UnderHeaders.{authored_at}
 
--- ---- the queues of a service
+-- the queues of a service
 
 have_own : (all some : List Block) → ((queue : ℕ) → has_pages some queue ≡ true → has_pages all queue ≡ true) →
     AllByRecursion (λ b. has_pages all b.queue ≡ true) some
@@ -83,7 +83,7 @@ queue_alternates laws serial spread class pages a range cycle l queue lt =
     (placed_all (IsNumbered sent) (λ place b n. record { number_is = n.number_is; used = n.used }) spread (blocks_of class pages)
     (numbered laws serial class pages a sent used))))
 
--- ---- headers, by their slots and by how they are read
+-- headers, by their slots and by how they are read
 
 pub record IsHeaderOf (queue : ℕ) (slot : Slot) : Type 0 where
   pub packet : Packet
@@ -122,7 +122,7 @@ another_is page (P.Links mag content) e ne = e
 another_is page P.Info e ne = e
 another_is page P.Other e ne = e
 
--- ---- a header of a page
+-- a header of a page
 
 module _ (laws : LawsBelow) (class : Class) (service : ServiceFields) (cycle : List (List ℕ)) (c : IsPlanned true class service cycle)
     (own : Authored) (a : IsAuthored service.serial own) (h : ℤ) (is : S.heads_page own.page.id (packet_of (repeated cycle h)) ≡ true) where

@@ -1,4 +1,4 @@
--- The slots of a planned cycle, serial or parallel: each is read as what it is, and they hold each packet of each page.
+-- The slots of a planned cycle, serial or parallel: each is read as what it is, and together they have each packet of each page.
 use Rattle.std.proofs.Common.{◌≡◌, ℕ, zero, suc, ◌<◌, ◌≤◌, Bool, true, false, cond, List, [], ◌∷◌, ◌++◌, map, length, replicate, get_or, Option, Some}
 use Rattle.std.proofs.Common.{None, refl, sym, ap, ◌∙◌, subst, inl, inr, arith, append_assoc}
 use Rattle.std.specs.Prelude.{All, slice_get, option_map}
@@ -42,7 +42,7 @@ pub record IsLaidOut (pages : List Authored) (serial : Bool) (spread : List ℕ)
   pub holds : (i : ℕ) (authored : Authored) → slice_get pages i ≡ Some authored → (bytes : List ℕ) →
       Splits bytes (rest_of class authored.page) → Holds (block_at class authored) bytes slots
 
--- ---- blocks of pages
+-- blocks of pages
 
 queues_below : (class : Class) (serial : Bool) (pages : List Authored) → All (IsAuthored serial) pages →
     AllByRecursion (λ block. block.queue < 8) (blocks_of class pages)
@@ -61,14 +61,14 @@ queue_below spread late class serial pages a k block e =
     (placed spread (blocks_of class pages))
     (placed_all (λ b. b.queue < 8) (λ place b lt. lt) spread (blocks_of class pages) (queues_below class serial pages a))) e
 
--- ---- each page has a block among those that are sent
+-- each page has a block among those that are sent
 
 pub get_map : {A B : Type 0} (f : A → B) (xs : List A) (k : ℕ) (x : A) → slice_get xs k ≡ Some x → slice_get (map f xs) k ≡ Some (f x)
 get_map f [] k x e = let g : None ≡ Some x = e in cc
 get_map f (y ∷ xs) zero x e = let g : Some y ≡ Some x = e in let h : y ≡ x = cc in ap (λ z. Some (f z)) h
 get_map f (y ∷ xs) (suc k) x e = get_map f xs k x e
 
--- the block is one of those that are sent, behind a time-filling header or not, and at its place among the rounds
+-- the block is one of those that are sent, with or without a time-filling header before it, at its place among the rounds
 pub record HasSent (sent : List Block) (block : Block) : Type 0 where
   pub index : ℕ
   pub filler : Bool
@@ -96,9 +96,9 @@ some_sent spread late class serial (p ∷ pages) a range sent e some =
     let one = get_within (blocks_sent_at spread late class (p ∷ pages)) there.index _ there.listed in
     omega (arith, one, ap length e, length-map sent seen_sent)
 
--- ---- the cycle
+-- the cycle
 
--- a time-filling header before the block doesn't change what it holds
+-- a time-filling header before the block does not change its packets
 unled_head : (filler : Bool) (place : ℕ) (block : Block) (slots : List Slot) → HoldsHead (led filler (at_place place block)) slots →
     HoldsHead block slots
 unled_head filler place block slots h = record { before = h.before; after = h.after; is = h.is }
@@ -161,7 +161,7 @@ laid_out laws false lines info spread late class pages cycle said a range carrie
     empties zero = refl
     empties (suc n) = ap (λ z. bytes_of Empty ∷ z) (empties n)
 
--- ---- the packets of a page
+-- the packets of a page
 
 splits_left : {A : Type 0} (x : A) (xs ys : List A) → Splits x xs → Splits x (xs ++ ys)
 splits_left x xs ys s = record { before = s.before; after = s.after ++ ys; is = ap (λ z. z ++ ys) s.is ∙ append_assoc s.before (x ∷ s.after) ys }

@@ -1,4 +1,4 @@
--- The slots of a planned cycle are read as what they are.
+-- The program reads the slots of a planned cycle as what they are.
 use Rattle.std.proofs.Common.{◌≡◌, ℕ, suc, ◌≤◌, Bool, true, false, not, ◌&&◌, ◌||◌, eqb, leb, List, ◌++◌, replicate, Option, Some, refl, sym, ap, ◌∙◌}
 use Rattle.std.proofs.Common.{inl, inr, arith, subst}
 use Rattle.std.specs.Prelude.{slice_index, slice_range, drop, take}
@@ -92,7 +92,7 @@ row_no_header mag number row id control text e = cc
 links_no_header : (mag : ℕ) (content : Option LinkSet) (id : Id) (control : ℕ) (text : List ℕ) → P.Links mag content ≡ P.Header id control text → ⊥
 links_no_header mag content id control text e = cc
 
--- the fields of a header are told by its packet
+-- the fields of a header follow from its packet
 same_header : (pages : List Authored) (id other : Id) (control bits : ℕ) (text characters : List ℕ) → P.Header id control text
     ≡ P.Header other bits characters → IsHeadOf pages id control text → IsHeadOf pages other bits characters
 same_header pages id other control bits text characters e h =
@@ -109,7 +109,7 @@ not_or : (a b : Bool) → a ≡ false → (not a || b) ≡ true
 not_or true b e = absurd (apart (sym e))
 not_or false b e = refl
 
--- a slot of an address of code words whose number isn't that of a header, nor of a packet 27 without a code word in byte 2
+-- a slot with an address in code words, which is not that of a header nor that of a packet 27 without a code word in byte 2
 addressed_clean : (slot : List ℕ) (number : ℕ) → are_words (slice_range slot 0 2) ≡ true → read_number slot ≡ number →
     (number ≡ 0 → ⊥) → (not (eqb (read_number slot) 27) || is_word (slice_index slot 2)) ≡ true → is_clean slot ≡ true
 unfolding is_clean

@@ -1,4 +1,4 @@
--- A block that is sent so often in eight rounds counts so often in a sum over the blocks that are sent.
+-- A block that is sent n times in eight rounds counts n times in a sum over the blocks that are sent.
 use Rattle.std.proofs.Common.{◌≡◌, ℕ, zero, suc, ◌+◌, ◌*◌, ◌/◌, ◌%◌, Bool, true, false, cond, List, [], ◌∷◌, length, refl, sym, ap, ◌∙◌, arith, eqb}
 use Rattle.std.specs.Prelude.{sum_by, filter, ◌<◌}
 use Rattle.std.specs.List.{AllByRecursion}
@@ -47,7 +47,7 @@ sum_rounds f blocks (suc n) =
     ∙ ap (λ x. sum_by (λ b. in_rounds b.often b.place n (f b)) blocks + x) (sum_filter f (λ b. eqb (n % (8 / b.often)) b.place) blocks)
     ∙ sum_both (λ b. in_rounds b.often b.place n (f b)) (λ b. cond (eqb (n % (8 / b.often)) b.place) (f b) 0) blocks
 
--- in eight rounds a block is sent as often as it says, whatever its place
+-- in eight rounds a block is sent `often` times, whatever its place
 once : (place w : ℕ) → place < 8 → in_rounds 1 place 8 w ≡ 1 * w
 once zero w lt = omega arith
 once (suc zero) w lt = omega arith

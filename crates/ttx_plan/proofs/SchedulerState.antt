@@ -114,7 +114,7 @@ more lines info queues old new slots at left after_left slot s here some is_slot
     ends_now (Info bytes) e z = absurd (omega arith)
     ends_now (Sent queue packet) e z = refl
 
--- the end: everything is sent
+-- the end: everything has been sent
 pub finish : (mags : Magazines) (cursors : Cursors) (slots filled : List (List ℕ)) → State mags cursors slots 0 → filled ≡ slots
     ++ replicate (missing mags.lines (length slots)) (replicate 42 0) → IsParallel mags filled
 finish mags cursors slots filled s is_filled = record {

@@ -1,4 +1,4 @@
--- The slots of a parallel cycle in the order of sending, and where the packets of a block stand in them.
+-- The slots of a parallel cycle in the order of sending, and where the packets of a block are among them.
 use Rattle.std.proofs.Common.{◌≡◌, ℕ, ◌<◌, Bool, true, false, not, ◌&&◌, cond, eqb, List, [], ◌∷◌, ◌++◌, map, take, replicate, Option, Some, refl}
 use Rattle.std.proofs.Common.{sym, ap, ◌∙◌, subst, append_assoc}
 use Rattle.std.specs.Prelude.{slice_get}
@@ -18,7 +18,7 @@ use Rattle.ttx_plan.proofs.InQueues.{head_of, in_queue, queue_at_is}
 use Rattle.ttx_plan.proofs.ListElements.{all_append}
 use Rattle.ttx_plan.proofs.Owners.{packets_by, in_order, heads}
 
--- latest last
+-- the latest at the end
 abbrev pub timed : List Slot → List Slot
 timed [] = []
 timed (slot ∷ before) = timed before ++ slot ∷ []
@@ -144,7 +144,7 @@ late_quiet queue (Sent n p ∷ slots) a = by (eqb n queue) a (λ b. late_quiet q
     by true a again = (ap not a.0, again a.1)
     by false a again = (refl, again a)
 
--- ---- the queue of a block
+-- the queue of a block
 
 all_rest : (rows : List (List ℕ)) → AllByRecursion (λ p. is_row_or_links p.kind ≡ true) (map rest_packet rows)
 all_rest [] = tt

@@ -1,4 +1,4 @@
--- The blocks that are sent are those of the rounds, behind time-filling headers or not.
+-- The blocks that are sent are those of the rounds, with or without time-filling headers before them.
 use Rattle.std.proofs.Common.{◌≡◌, ℕ, zero, suc, ◌+◌, Bool, true, false, ◌&&◌, ◌||◌, cond, eqb, List, [], ◌∷◌, ◌++◌, length, Some, None}
 use Rattle.std.proofs.Common.{refl, sym, ap, ◌∙◌, arith, inl, inr}
 use Rattle.std.specs.Prelude.{slice_get, filter, sum_by}
@@ -10,7 +10,7 @@ use Rattle.ttx_plan.specs.Seen.{fillers_in}
 use Rattle.ttx_plan.proofs.ListElements.{all_append, all_filter}
 use Rattle.ttx_plan.proofs.PlacedBlocks.{IsInRounds, any_sent}
 
--- ---- what holds of each
+-- what holds for each
 
 pub rounds_all : (P : Block → Type 0) (blocks : List Block) (n : ℕ) → AllByRecursion P blocks → AllByRecursion P (rounds_to blocks n)
 rounds_all P blocks zero a = tt
@@ -21,12 +21,12 @@ pub led_all : (P : Block → Type 0) → ((filler : Bool) (block : Block) → P 
 led_all P keeps late before [] a = tt
 led_all P keeps late before (block ∷ blocks) a = (keeps _ block a.0, led_all P keeps late (block ∷ before) blocks a.1)
 
--- what a time-filling header doesn't change holds of the blocks that are sent
+-- what does not depend on a time-filling header holds for the blocks that are sent
 pub order_all : (P : Block → Type 0) → ((filler : Bool) (block : Block) → P block → P (led filler block)) →
     (late : Bool) (blocks : List Block) → AllByRecursion P blocks → AllByRecursion P (sent_blocks late blocks)
 order_all P keeps late blocks a = led_all P keeps late [] (rounds_to blocks 8) (rounds_all P blocks 8 a)
 
--- ---- a block by its place
+-- a block by its place
 
 pub led_get : (late : Bool) (before blocks : List Block) (k : ℕ) (block : Block) → slice_get blocks k ≡ Some block → (filler : Bool)
     × (slice_get (with_fillers late before blocks) k ≡ Some (led filler block))
@@ -35,7 +35,7 @@ led_get late before (b ∷ blocks) zero block e = let f : Some b ≡ Some block 
     && eqb (latest b.queue before) b.page in (filler, ap (λ x. Some (led (late && eqb (latest b.queue before) b.page) x)) g)
 led_get late before (b ∷ blocks) (suc k) block e = led_get late (b ∷ before) blocks k block e
 
--- ---- the queues that have pages
+-- the queues that have pages
 
 abbrev of_queue : ℕ → Block → Bool
 of_queue queue block = eqb block.queue queue
@@ -65,7 +65,7 @@ any_filter p test (x ∷ xs) e = by (test x) (p x) e (any_filter p test xs)
         tail true e = refl
         tail false e = e
 
--- those of the rounds are some of the blocks
+-- the blocks of the rounds are among the blocks
 any_of_rounds : (p : Block → Bool) (blocks : List Block) (n : ℕ) → list_any p (rounds_to blocks n) ≡ true → list_any p blocks ≡ true
 any_of_rounds p blocks zero e = cc
 any_of_rounds p blocks (suc n) e = elim (or_cases (list_any p (rounds_to blocks n)) (list_any p (round_of blocks n))
@@ -96,7 +96,7 @@ same_used late blocks a zero = refl
 same_used late blocks a (suc n) = ap (λ x. x ++ cond (has_pages (sent_blocks late blocks) n) (n ∷ []) []) (same_used late blocks a n)
     ∙ ap (λ b. used_to blocks n ++ cond b (n ∷ []) []) (same_queues late blocks a n)
 
--- ---- how many there are
+-- how many there are
 
 pub led_length : (late : Bool) (before blocks : List Block) → length (with_fillers late before blocks) ≡ length blocks
 led_length late before [] = refl

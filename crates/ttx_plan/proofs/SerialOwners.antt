@@ -1,4 +1,4 @@
--- In a serial cycle each row and X/27/0 stands more than a field behind its own header, with no other header between.
+-- In a serial cycle each row and X/27/0 comes more than a field after its own header, with no other header between.
 use Rattle.std.proofs.Common.{◌≡◌, ℕ, zero, suc, ◌+◌, ◌<◌, ◌≤◌, Bool, true, false, cond, List, [], ◌∷◌, ◌++◌, map, length, replicate, Option, Some}
 use Rattle.std.proofs.Common.{None, refl, sym, ap, ◌∙◌, subst, arith, append_assoc}
 use Rattle.std.specs.Prelude.{slice_get, flat_map}
@@ -12,7 +12,7 @@ use Rattle.ttx_plan.specs.Turns.{is_info_due}
 use Rattle.ttx_plan.specs.Serial.{serial_page, serial_block, serial_list, info_if, with_info}
 use Rattle.ttx_plan.proofs.InQueues.{IsOf, head_of}
 
--- a late packet after the header h of magazine m, which stands `age` slots before
+-- a late packet after the header h of magazine m, which is `age` slots before
 pub record IsBehind (lines : ℕ) (blocks : List Block) (mag : ℕ) (header : Option Packet) (age m : ℕ) (packet : Packet) : Type 0 where
   pub h : Packet
   pub header_is : header ≡ Some h
@@ -82,7 +82,7 @@ informed_follows lines blocks mag header age info every at (slot ∷ rest) f =
         by true f = (f.0, again mag header (suc age) f.1)
         by false f = again m (Some packet) 1 f
 
--- whatever came before
+-- whatever comes before
 abbrev AnyFollows : ℕ → List Block → List Slot → Type 0
 AnyFollows lines blocks slots = (mag : ℕ) (header : Option Packet) (age : ℕ) → Follows lines blocks mag header age slots
 

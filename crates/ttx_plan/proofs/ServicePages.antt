@@ -50,7 +50,7 @@ get_there [] i x d lt e = absurd (omega arith)
 get_there (y ∷ xs) zero x d lt e = ap Some (sym e)
 get_there (y ∷ xs) (suc i) x d lt e = get_there xs i x d (omega arith) e
 
--- the page at an index, of values that a function shows as pages
+-- the page at an index of a list, as a function shows it
 at_index : {A : Type 0} (view : A → Page) (values : List A) (pages : List Authored) (i often : ℕ) (value : A) → map view values
     ≡ map (λ p. p.page) pages → slice_get values i ≡ Some value →
     option_map (λ p. p.often) (slice_get pages i) ≡ Some often → slice_get pages i ≡ Some (authored_at (view value) often)
@@ -112,7 +112,7 @@ blocks_in_rounds class serial (place ∷ spread) (p ∷ pages) a range =
       blocks_in_rounds class serial spread pages (λ k d lt. a (suc k) d (omega arith)) (λ i q e. range (suc i) q e),
     )
 
--- one page more
+-- one more page
 pub take_next : {A : Type 0} (xs : List A) (n : ℕ) (x : A) → slice_get xs n ≡ Some x → take (suc n) xs ≡ take n xs ++ x ∷ []
 take_next [] n x h = let e : None ≡ Some x = h in cc
 take_next (y ∷ ys) zero x h = let e : Some y ≡ Some x = h in let g : y ≡ x = cc in ap (λ z. z ∷ []) g
@@ -148,7 +148,7 @@ sum_next f class pages i page e =
     one : (b : Block) → sum_by f (b ∷ []) ≡ f b
     one b = omega (arith, sum_by-cons f b [])
 
--- ---- the queues that have pages
+-- the queues that have pages
 
 any_value : (n : ℕ) (values : List PageValue) → list_any (λ p. eqb ((page_of p).id.mag - 1) n) values
     ≡ list_any (λ p. eqb (p.id.mag - 1) n) (map page_of values)
@@ -168,7 +168,7 @@ used_same class values pages (suc n) same =
     ∙ ap (λ b. used_to (blocks_of class pages) n ++ cond b (n ∷ []) [])
     (any_value n values ∙ ap (list_any (λ p. eqb (p.id.mag - 1) n)) same ∙ any_page class n pages)
 
--- places leave the queues that are used as they are
+-- places do not change the queues that are used
 pub same_used_by : (blocks : List Block) (spread : List ℕ) (n : ℕ) → used_to blocks n ≡ used_to (placed spread blocks) n
 same_used_by blocks spread zero = refl
 same_used_by blocks spread (suc n) =

@@ -1,4 +1,4 @@
--- There is one way to spread blocks: two lists of them that are alike but for their places, and are both spread, are equal.
+-- There is one way to spread blocks: two lists that differ only in their places, and are both spread, are equal.
 use Rattle.std.proofs.Common.{◌≡◌, ℕ, zero, suc, ◌/◌, ◌<◌, ◌≤◌, Bool, true, eqb, ltb, List, [], ◌∷◌, ◌++◌, length, take}
 use Rattle.std.proofs.Common.{Some, None, refl, sym, ap, ◌∙◌, subst, arith, inl, inr}
 use Rattle.std.specs.Prelude.{slice_get, filter}
@@ -11,17 +11,17 @@ use Rattle.ttx_plan.specs.Spread.{earlier, packets_so_far, IsFirstLeast, IsSprea
 use Rattle.ttx_plan.proofs.SpreadPages.{placed_size}
 use Rattle.ttx_plan.proofs.SpreadPasses.{IsOftenBlock, at_most_half, often_of}
 
--- the same blocks at places of their own
+-- the same blocks with other places
 record AreAlike (xs ys : List Block) : Type 0 where
   size : length xs ≡ length ys
   each : (k : ℕ) (x y : Block) → slice_get xs k ≡ Some x → slice_get ys k ≡ Some y → at_place 0 x ≡ at_place 0 y
 
--- the places agree of the blocks that are sent more often, and of those that are sent so often of the ones before the index
+-- the places agree for the blocks that are sent more often, and for those before the index that are sent just as often
 record Agree (xs ys : List Block) (often index : ℕ) : Type 0 where
   more : (k : ℕ) (x y : Block) → slice_get xs k ≡ Some x → slice_get ys k ≡ Some y → often < x.often → x ≡ y
   same : (k : ℕ) (x y : Block) → slice_get xs k ≡ Some x → slice_get ys k ≡ Some y → x.often ≡ often → k < index → x ≡ y
 
--- ---- the blocks before one agree
+-- the blocks before one agree
 
 filter_alike : (test : Block → Bool) (xs ys : List Block) → length xs ≡ length ys →
     ((k : ℕ) (x y : Block) → slice_get xs k ≡ Some x → slice_get ys k ≡ Some y → (test x ≡ test y) × (test x ≡ true → x ≡ y)) →
@@ -72,7 +72,7 @@ earlier_alike xs ys often n alike agree =
       λ t. agree.same k x y there.1 other.1 (eqb-true x.often often t) there.0,
     )))
 
--- ---- one block after another
+-- block after block
 
 first_least_once : (value : ℕ → ℕ) (count a b : ℕ) → IsFirstLeast value count a → IsFirstLeast value count b → a ≡ b
 first_least_once value count a b l m = elim (cases_order a b) [
@@ -154,7 +154,7 @@ spread_alike xs ys a alike spread_x spread_y =
     all_equal xs ys alike.size
     (λ k x y e f. let o : IsOften x.often = often_of xs k x a e in at_0.more k x y e f (omega (arith, o.some)))
 
--- ---- places of the same blocks
+-- places of the same blocks
 
 first_place : (places : List ℕ) (blocks : List Block) (k : ℕ) (x : Block) → slice_get (placed places blocks) k ≡ Some x → (b : Block)
     × ((slice_get blocks k ≡ Some b) × (at_place 0 x ≡ at_place 0 b))

@@ -1,4 +1,4 @@
--- The blocks of a service's pages with their places: one place changed, and places in range.
+-- The blocks of a service's pages with their places: one place is changed, and places are in range.
 use Rattle.std.proofs.Common.{◌≡◌, ℕ, zero, suc, ◌+◌, ◌/◌, ◌%◌, ◌<◌, ◌≤◌, Bool, true, false, cond, eqb}
 use Rattle.std.proofs.Common.{List, [], ◌∷◌, length, set, get_or, replicate, Option}
 use Rattle.std.proofs.Common.{Some, None, refl, sym, ap, ◌∙◌, subst, arith, inl, inr}
@@ -82,7 +82,7 @@ pub spread_in_range : (class : Class) (places : List ℕ) (pages : List Authored
 spread_in_range class places pages spread = λ i page e. (spread i (at_place (get_or places i 0) (block_at class page))
     (page_block class places pages i page e)).within
 
--- ---- one page more
+-- one more page
 
 pub listed_page : (page : Option Authored) (often : ℕ) → option_map (λ (p : Authored). p.often) page ≡ Some often → (p : Authored)
     × ((page ≡ Some p) × (p.often ≡ often))
@@ -125,7 +125,7 @@ page_counted class places pages n often place count packets after page lt e is m
     subst (λ o. AreCounted after (placed (set places n place) (blocks_of class pages)) o (n + 1)) is
     (subst (λ blocks. AreCounted after blocks page.often (n + 1)) (sym (page_placed class places pages n place page lt e)) more)
 
--- the page at the index is sent otherwise
+-- the page at the index is sent more or less often
 pub page_passed : (class : Class) (places : List ℕ) (pages : List Authored) (n often : ℕ) (packets : List ℕ) (page : Authored) →
     slice_get pages n ≡ Some page → (page.often ≡ often → ⊥) →
     IsSpreadTo (placed places (blocks_of class pages)) often n → AreCounted packets (placed places (blocks_of class pages)) often n →
@@ -138,7 +138,7 @@ page_passed class places pages n often packets page e other spread counted =
           (page_block class places pages n page e) other counted,
     )
 
--- ---- bounds on the packets of a round
+-- bounds on the packets of a round
 
 pub added_most : (packets after : List ℕ) (period place count round : ℕ) → length after ≡ length packets → count ≤ 26 →
     ((r : ℕ) → r < length packets → get_or after r 0 ≡ get_or packets r 0 + cond (eqb (r % period) place) count 0) →

@@ -1,4 +1,4 @@
--- All blocks that are sent so often have their places: those that are sent half as often come next.
+-- All blocks that are sent `often` times have their places; those that are sent half as often come next.
 use Rattle.std.proofs.Common.{◌≡◌, ◌⊎◌, ℕ, zero, suc, ◌+◌, ◌/◌, ◌%◌, ◌<◌, ◌≤◌, Bool, true, false, cond, eqb, ltb, List, [], ◌∷◌, ◌++◌, length, take}
 use Rattle.std.proofs.Common.{Some, None, refl, sym, ap, ◌∙◌, subst, arith, inl, inr, replicate}
 use Rattle.std.specs.Prelude.{slice_get, filter, sum_by}
@@ -13,7 +13,7 @@ use Rattle.ttx_plan.specs.Spread.{earlier, packets_so_far, IsSpread}
 use Rattle.ttx_plan.specs.Spreading.{IsSpreadTo, AreCounted}
 use Rattle.ttx_plan.proofs.SpreadPlaces.{weight}
 
--- ---- 1, 2, 4 and 8
+-- 1, 2, 4 and 8
 
 often_cases : (n : ℕ) → IsOften n → ((n ≡ 1) ⊎ (n ≡ 2)) ⊎ ((n ≡ 4) ⊎ (n ≡ 8))
 often_cases zero o = absurd (omega (arith, o.some))
@@ -52,7 +52,7 @@ at_most_half n m o p lt = by (often_cases n o) (often_cases m p)
     by (inr (inr e)) (inr (inl f)) = let h : n / 2 ≡ 4 = half_of n 8 e in omega (arith, h, f)
     by (inr (inr e)) (inr (inr f)) = absurd (omega (arith, lt, e, f))
 
--- the next pass: a half, or none
+-- the next pass: half as often, or the last one
 pub half_again : (n : ℕ) → IsOften n → (n / 2 ≡ 0) ⊎ IsOften (n / 2)
 half_again n o = by (often_cases n o)
   where
@@ -71,7 +71,7 @@ half_again n o = by (often_cases n o)
     by (inr (inl e)) = inr (subst IsOften (sym (half_of n 4 e)) twice)
     by (inr (inr e)) = inr (subst IsOften (sym (half_of n 8 e)) four)
 
--- how many rounds a page's places are among
+-- the number of rounds from which a page takes its place
 pub period_range : (n : ℕ) → IsOften n → (1 ≤ 8 / n) × (8 / n ≤ 8)
 period_range n o = by (often_cases n o)
   where
@@ -84,7 +84,7 @@ period_range n o = by (often_cases n o)
     by (inr (inl e)) = let h : 8 / n ≡ 2 = period_of 4 e in (omega (arith, h), omega (arith, h))
     by (inr (inr e)) = let h : 8 / n ≡ 1 = period_of 8 e in (omega (arith, h), omega (arith, h))
 
--- ---- sums over what passes a test
+-- sums over the elements that pass a test
 
 abbrev pub IsOftenBlock : Block → Type 0
 IsOftenBlock block = IsOften block.often
@@ -101,7 +101,7 @@ sum_passed f test (x ∷ xs) = by (test x) (sum_passed f test xs) ∙ sym (sum_b
     by true rest = sum_by-cons f x (filter test xs) ∙ ap (λ n. f x + n) rest
     by false rest = omega (arith, rest)
 
--- where each element passes the first test as often as the other two
+-- where each element passes the first test as often as the other two together
 sum_split : (f : Block → ℕ) (p q s : Block → Bool) (xs : List Block) →
     AllByRecursion (λ b. cond (p b) (f b) 0 ≡ cond (q b) (f b) 0 + cond (s b) (f b) 0) xs →
     sum_by f (filter p xs) ≡ sum_by f (filter q xs) + sum_by f (filter s xs)
@@ -124,7 +124,7 @@ sum_split f p q s xs a =
           sum_by-cons (λ b. cond (s b) (f b) 0) y ys,
         )
 
--- sent more often than half so often: more often, or so often
+-- sent more often than half of `often`: more often than `often`, or `often` times
 split_here : (often n w : ℕ) → IsOften often → IsOften n →
     cond (ltb (often / 2) n) w 0 ≡ cond (ltb often n) w 0 + cond (eqb n often) w 0
 split_here often n w o p = elim (cases_order often n) [
@@ -161,7 +161,7 @@ counted_in blocks often n round =
     sum_passed weight (λ b. eqb (round % (8 / b.often)) b.place) (earlier blocks often n)
     ∙ sum_by-append (weighed round) (filter (λ b. ltb often b.often) blocks) (filter (λ b. eqb b.often often) (take n blocks))
 
--- ---- the passes
+-- the passes
 
 pub counted_pass : (packets : List ℕ) (blocks : List Block) (often n : ℕ) → IsOften often → AllByRecursion IsOftenBlock blocks → length blocks ≡ n →
     AreCounted packets blocks often n → AreCounted packets blocks (often / 2) 0
@@ -199,7 +199,7 @@ spread_pass blocks often n o a size spread = record {
   same = λ at block e often lt. absurd (omega (arith, lt));
 }
 
--- ---- the beginning and the end
+-- the beginning and the end
 
 none_more : (blocks : List Block) → AllByRecursion IsOftenBlock blocks → filter (λ b. ltb 8 b.often) blocks ≡ []
 none_more [] a = refl

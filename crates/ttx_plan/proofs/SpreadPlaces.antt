@@ -1,4 +1,4 @@
--- Blocks that take their places one after another: what each place changes, and what it leaves as it was.
+-- Blocks that take their places one after another: what each place changes, and what it does not change.
 use Rattle.std.proofs.Common.{◌≡◌, ◌⊎◌, ℕ, zero, suc, ◌+◌, ◌/◌, ◌%◌, ◌<◌, ◌≤◌, Bool, true, false, cond, eqb, ltb}
 use Rattle.std.proofs.Common.{List, [], ◌∷◌, ◌++◌, length, set, take}
 use Rattle.std.proofs.Common.{get_or, Some, None, refl, sym, ap, ◌∙◌, subst, arith, inl, inr}
@@ -12,7 +12,7 @@ use Rattle.ttx_plan.specs.Blocks.{Block, at_place, round_of, packets_in}
 use Rattle.ttx_plan.specs.Spread.{earlier, packets_so_far, IsFirstLeast, IsAtPlace}
 use Rattle.ttx_plan.specs.Spreading.{IsSpreadTo, AreCounted}
 
--- ---- the tests of the definitions
+-- the tests of the definitions
 
 abbrev is_more : ℕ → Block → Bool
 is_more often block = ltb often block.often
@@ -26,7 +26,7 @@ stands round block = eqb (round % (8 / block.often)) block.place
 abbrev pub weight : Block → ℕ
 weight block = cond block.filler 1 0 + (length block.rest + 1)
 
--- ---- a list with one element changed
+-- a list with one element changed
 
 one : {A : Type 0} (x y : A) → Some x ≡ Some y → x ≡ y
 one x y e = cc
@@ -64,9 +64,9 @@ filter_take_set test (suc m) (z ∷ xs) zero x y e old new =
 filter_take_set test (suc m) (z ∷ xs) (suc n) x y e old new =
     ap (λ rest. cond (test z) (z ∷ rest) rest) (filter_take_set test m xs n x y e old new)
 
--- ---- the blocks before one
+-- the blocks before one
 
--- a place leaves the blocks as they were that take theirs before
+-- a place does not change the blocks that take theirs before
 earlier_kept : (blocks : List Block) (n place : ℕ) (block : Block) (often at : ℕ) → slice_get blocks n ≡ Some block →
     ltb often block.often ≡ false → (eqb block.often often ≡ false) ⊎ (at ≤ n) →
     earlier (set blocks n (at_place place block)) often at ≡ earlier blocks often at
@@ -80,7 +80,7 @@ earlier_kept blocks n place block often at e less same =
     by (inl other) = filter_take_set (is_as often) at blocks n block (at_place place block) e other other
     by (inr le) = ap (filter (is_as often)) (take-set-le at blocks n (at_place place block) le)
 
--- a block that takes its place comes behind those before
+-- a block that takes its place is added to those before
 earlier_more : (blocks : List Block) (n place : ℕ) (block : Block) → slice_get blocks n ≡ Some block →
     earlier (set blocks n (at_place place block)) block.often (n + 1) ≡ earlier blocks block.often n ++ at_place place block ∷ []
 earlier_more blocks n place block e =
@@ -97,7 +97,7 @@ earlier_more blocks n place block e =
     (cond-true (eqb block.often block.often) (at_place place block ∷ []) [] (eq-eqb block.often block.often refl)))
     ∙ sym (append_assoc (filter (is_more block.often) blocks) (filter (is_as block.often) (take n blocks)) (at_place place block ∷ []))
 
--- a block that is sent otherwise is passed over
+-- a block that is sent more or less often is skipped
 earlier_else : (blocks : List Block) (n : ℕ) (block : Block) (often : ℕ) → slice_get blocks n ≡ Some block → eqb block.often often ≡ false →
     earlier blocks often (n + 1) ≡ earlier blocks often n
 earlier_else blocks n block often e other =
@@ -108,7 +108,7 @@ earlier_else blocks n block often e other =
     (cond-false (is_as often (get_or blocks n block)) (get_or blocks n block ∷ []) [] (ap (is_as often) here ∙ other))
     ∙ append-nil (filter (is_as often) (take n blocks)))
 
--- ---- the packets of a round
+-- the packets of a round
 
 packets_more : (xs : List Block) (block : Block) (round : ℕ) → packets_in (round_of (xs ++ block ∷ []) round)
     ≡ packets_in (round_of xs round) + cond (stands round block) (weight block) 0
@@ -133,9 +133,9 @@ first_least_same f g count number few same l =
           omega (arith, here, there, l.first other lt);
     }
 
--- ---- a block takes its place
+-- a block takes its place
 
--- the blocks before one as they are counted
+-- the packets of the blocks before one
 abbrev value_in : List Block → ℕ → ℕ
 value_in blocks round = packets_in (round_of blocks round)
 
@@ -190,7 +190,7 @@ counted_more packets after blocks n place block e eight added counted = record {
       ∙ ap (λ xs. packets_in (round_of xs round)) (sym (earlier_more blocks n place block e));
 }
 
--- ---- a block is passed over that is sent more often or less often
+-- a block is skipped that is sent more often or less often
 
 pub spread_else : (blocks : List Block) (n : ℕ) (block : Block) (often : ℕ) → slice_get blocks n ≡ Some block → (block.often ≡ often → ⊥) →
     IsSpreadTo blocks often n → IsSpreadTo blocks often (n + 1)

@@ -1,4 +1,4 @@
--- Plans at places that are spread: what they carry, and when they are too long.
+-- Plans with spread places: what they carry, and when they are too long.
 use Rattle.std.proofs.Common.{◌≡◌, ℕ, ◌<◌, Bool, List, Ok, Err, subst, inl, inr}
 use Rattle.std.specs.Prelude.{◌↔◌, IfOk}
 use Rattle.std.proofs.lemmas.Bool.{cases_lt}

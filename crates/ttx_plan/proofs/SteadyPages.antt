@@ -31,7 +31,7 @@ use Rattle.ttx_plan.proofs.Planned.{planned_headers_are_own}
 use Rattle.ttx_plan.proofs.Readable.{LawsBelow}
 use Rattle.ttx_plan.proofs.SentItems.{page_there, heads_its, planned_items_are_sent}
 
--- ---- ids
+-- ids
 
 pub same_is : (a b : Id) → same_id a b ≡ true → a ≡ b
 same_is a b e =
@@ -75,7 +75,7 @@ one_page pages distinct i j a b e f same = elim (cases_lt i j) as (λ _. a ≡ b
 not_filling : (p : Page) → IsPage p → is_time_filling p.id ≡ true → ⊥
 not_filling p is e = is.page (eqb-true p.id.page 255 (and_parts (eqb p.id.page 255) (eqb p.id.sub 16255) e).0)
 
--- ---- the header of a slot
+-- the header of a slot
 
 latest_here : EachSlotTurns → (cycle : List (List ℕ)) (mag : ℕ) (j : ℤ) → 1 ≤ length cycle → (t : Turn (length cycle) j) (header : ℕ) →
     header < turned (length cycle) j → heads mag (packet_of (get_or cycle header [])) ≡ true →

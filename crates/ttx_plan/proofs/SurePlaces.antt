@@ -1,4 +1,4 @@
--- Where the packets of a planned cycle stand, and that each transmission is sure there.
+-- Where the packets of a planned cycle are, and that each transmission there is sure.
 use Rattle.std.proofs.Common.{◌≡◌, ℕ, ◌+◌, ◌<◌, ℤ, pos, ◌+ℤ◌, ◌-ℤ◌, ◌<ℤ◌, nat_abs, true, false, List, [], length, get_or, sym, ap, ◌∙◌, subst, inl}
 use Rattle.std.proofs.Common.{inr, arith, mod-eq_of_lt}
 use Rattle.std.proofs.lemmas.Int.{ints}
@@ -10,7 +10,7 @@ use Rattle.ttx_page.specs.declared.item.Item.TheVariants.{Head as TheHead, Row a
 use Rattle.ttx_page.specs.Streams.{Stream, turned, repeated, heads, ends_serial, carries, IsLatestHeader, IsOwned, IsSure}
 use Rattle.ttx_page.proofs.SlotDistances.{cases_ltz}
 
--- the slot at place j has a header of its magazine more than a field before it in the same period, and nothing between ends the page
+-- the slot at place j has its magazine's header more than a field before it in the same period, and nothing between ends the page
 pub record IsPlaced (lines : ℕ) (cycle : List (List ℕ)) (mag j : ℕ) : Type 0 where
   pub place : ℕ
   pub late : place + lines < j
@@ -18,7 +18,7 @@ pub record IsPlaced (lines : ℕ) (cycle : List (List ℕ)) (mag j : ℕ) : Type
   pub none_between : (i : ℕ) → place < i → i < j → heads mag (packet_of (get_or cycle i [])) ≡ false
   pub untainted : (i : ℕ) → place < i → i < j → ends_serial mag (packet_of (get_or cycle i [])) ≡ false
 
--- each row and X/27/0 of the cycle stands so
+-- this holds for each row and X/27/0 of the cycle
 pub record ArePlaced (lines : ℕ) (cycle : List (List ℕ)) : Type 0 where
   pub some : 0 < length cycle
   pub placed : (mag j : ℕ) (item : Item) → j < length cycle → carries mag item (packet_of (get_or cycle j [])) ≡ true → IsPlaced lines cycle mag j
@@ -35,7 +35,7 @@ one_latest s mag g h j a b = elim (cases_ltz g h) as (λ _. g ≡ h) [
     apart : true ≡ false → ⊥
     apart e = cc
 
--- the place of i, where place j of the period stands at pos j + by
+-- the place of slot i, if place j of the period is slot j + by
 pub between : (by i : ℤ) (place j : ℕ) → (pos place +ℤ by) <ℤ i → i <ℤ (pos j +ℤ by) → (k : ℕ) × (i ≡ pos k +ℤ by) × (place < k) × (k < j)
 between by i place j low high = (nat_abs (i -ℤ by), omega (arith, ints), omega (arith, ints), omega (arith, ints))
 

@@ -1,4 +1,4 @@
--- Each row and X/27/0 of a planned cycle is one of the packets of the page whose header it stands under.
+-- Each row and X/27/0 of a planned cycle is a packet of the page whose header it is under.
 use Rattle.std.proofs.Common.{◌≡◌, ℕ, zero, suc, ◌+◌, ◌-◌, ◌<◌, ◌≤◌, Bool, true, false, List, [], ◌∷◌, map, length, replicate, get_or, Option, Some}
 use Rattle.std.proofs.Common.{None, refl, sym, ap, ◌∙◌, subst, arith}
 use Rattle.std.specs.Prelude.{All, slice_get, option_map}
@@ -44,7 +44,7 @@ header_says laws h ranges =
     let w = laws.header h ranges in
     ap (S.heads_page h.id) (packet_from (header_bytes h) (IsHeader h.id.mag) w.kind) ∙ ap (λ f. same_id h.id f.id) w.fields ∙ same h.id
 
--- the packet in slot n is one of a page's, more than a field behind the page's header, which is the latest of the magazine
+-- the packet in slot n is one of a page's, more than a field after the page's header, which is the latest of the magazine
 pub record IsUnder (pages : List Authored) (class : Class) (cycle : List (List ℕ)) (lines n mag : ℕ) : Type 0 where
   pub index : ℕ
   pub authored : Authored
@@ -57,7 +57,7 @@ pub record IsUnder (pages : List Authored) (class : Class) (cycle : List (List �
   pub is_header : S.heads_page authored.page.id (packet_of (get_or cycle header [])) ≡ true
   pub none_between : (i : ℕ) → header < i → i < n → S.heads mag (packet_of (get_or cycle i [])) ≡ false
 
--- the block is that of a page of the list, behind a time-filling header or not, at some place among the rounds
+-- the block is that of a page of the list, with or without a time-filling header before it, at some place among the rounds
 record IsBlockOf (pages : List Authored) (serial : Bool) (class : Class) (block : Block) : Type 0 where
   pub index : ℕ
   pub authored : Authored
@@ -176,7 +176,7 @@ under laws false lines info spread late class pages cycle said a known n lt mag 
     (parallel_at lines sent blocks cycle known) reads n l.queue l.packet lt l.slot_is
     (parallel_owner lines sent blocks cycle known n l.queue l.packet l.slot_is l.late) mag l.mag_is
 
--- ---- the packets of a page
+-- the packets of a page
 
 pub row_is : LawsBelow → (p : Page) → IsPage p → (r : ℕ) → 1 ≤ r → r ≤ 24 → packet_of (page_row_bytes p r)
     ≡ P.Row p.id.mag r (map odd_byte (page_row p r))

@@ -57,7 +57,7 @@ ends_info (Empty ∷ before) = false
 ends_info (Info bytes ∷ before) = true
 ends_info (Sent m packet ∷ before) = false
 
--- an 8/30 packet stands only where it is due
+-- a packet 8/30 is only where it is due
 info_due : (info : Option (List ℕ)) (due : Bool) (slot : Slot) (bytes : List ℕ) → ((b : List ℕ) → Info b ≡ slot → ⊥) → Info bytes
     ≡ or_info info due slot → due ≡ true
 info_due None due slot bytes never h = absurd (never bytes h)
@@ -151,11 +151,11 @@ work_less mags before queue packet h =
     (ap (slots_for mags.lines) (rest_sent mags before queue packet h.1))
     (λ m ne. ap (slots_for mags.lines) (rest_other mags before queue m packet ne))
 
--- the slots so far that are not packets 8/30, the waiting still owed, and the slots for what is left
+-- the slots so far without packets 8/30, the waiting that may still come, and the slots for what is left
 abbrev pub total : Magazines → List Slot → ℕ
 total mags before = others before + until has_any_header mags.lines before + work_of mags before
 
--- where a gap stands though a packet is left, some magazine waits
+-- if a slot is empty though a packet is left, some magazine waits
 empty_waits : (mags : Magazines) (before : List Slot) → turn_from before ≤ 8 → Empty ≡ slot_after mags before →
     0 < left_of mags before → 0 < until has_any_header mags.lines before
 empty_waits mags before most h some =

@@ -5,7 +5,7 @@ use Rattle.std.proofs.lemmas.Bool.{cond-true, cond-false, cases_Bool, cond_both,
 use Rattle.std.proofs.lemmas.Bool.Decides.{nat_tests}
 use Rattle.ttx_plan.specs.declared.packet.Slot.{Slot}
 
--- how many of the next slots come before the field after the latest block of those that count has passed
+-- how many of the next slots come before the field after the latest counted block has passed
 abbrev pub until : (Slot → Bool) → ℕ → List Slot → ℕ
 until counts lines [] = 0
 until counts lines (slot ∷ before) = cond (counts slot) lines (until counts lines before - 1)
@@ -29,13 +29,13 @@ recent counts lines (suc k) (slot ∷ before) le =
     step true h = sym (lt-ltb _ _ (omega arith))
     step false h = h ∙ grind (arith, nat_tests)
 
--- a block of the last field is one that is still waited for
+-- a block in the last field is still waited for
 pub recent_until : (counts : Slot → Bool) (lines : ℕ) (before : List Slot) → list_any counts (take lines before) ≡ ltb 0 (until counts lines before)
 recent_until counts lines before =
     let e : lines - lines ≡ 0 = omega arith in
     recent counts lines lines before (omega arith) ∙ ap (λ x. ltb x (until counts lines before)) e
 
--- fewer that count wait less
+-- if fewer count, the wait is shorter
 pub until_more : (some all : Slot → Bool) (lines : ℕ) (before : List Slot) → ((slot : Slot) → some slot ≡ true → all slot ≡ true) →
     until some lines before ≤ until all lines before
 until_more some all lines [] h = omega arith

@@ -1,11 +1,11 @@
--- Laws of planned cycles that lead to an accepted certificate.
+-- The laws that planned cycles have accepted certificates.
 --
---   AreLinked, IsPlanned    pages whose links lead to targets; a cycle that carries a service in its ranges
---   IsOwnLinks, PlannedLinksAreOwn      each X/27/0 stands under the header of its own page
---   PlannedItemsAreSent     each page has a header, and what is sent of it to receivers of the class is transmitted
+--   AreLinked, IsPlanned    pages with six links that lead to targets; a cycle that carries a service in its ranges
+--   IsOwnLinks, PlannedLinksAreOwn      each X/27/0 is under the header of its own page
+--   PlannedItemsAreSent     each page has a header, and each item that is sent to receivers of the class is transmitted
 --   PlannedIsSteady         each page is sent unchanged
 --   IsAcceptedForEach, PlannedIsAccepted    for each repeat count some certificate is accepted
---   PlannedIsFound          and the search for the least deadline finds one
+--   PlannedIsFound          and the search finds the least deadline
 use Rattle.std.specs.Prelude.{◌≡◌, ℕ, ◌+◌, ◌<◌, ◌≤◌, ℤ, Bool, true, false, List, [], length, slice_get, slice_index_or, Option, Some}
 use Rattle.ttx_links.specs.Sets.{LinkSet, is_exact}
 use Rattle.ttx_page.specs.declared.class.Class.{Class}
@@ -38,8 +38,8 @@ pub record IsPlanned (late : Bool) (class : Class) (service : ServiceFields) (cy
   pub some : 1 ≤ length cycle
   pub few : length cycle ≤ 65536
 
--- The X/27/0 in slot n has the links of a page of the list, in code words; the page's header, the latest of the magazine, stands
--- more than a field before.
+-- The X/27/0 in slot n has the links of a page of the list, in code words. The page's header is the latest of the magazine, more than a
+-- field before slot n.
 pub record IsOwnLinks (pages : List Authored) (cycle : List (List ℕ)) (lines n mag : ℕ) (content : Option LinkSet) : Type 0 where
   pub index : ℕ
   pub authored : Authored
@@ -52,7 +52,7 @@ pub record IsOwnLinks (pages : List Authored) (cycle : List (List ℕ)) (lines n
   pub is_header : heads_page authored.page.id (packet_of (slice_index_or cycle header [])) ≡ true
   pub none_between : (i : ℕ) → header < i → i < n → heads mag (packet_of (slice_index_or cycle i [])) ≡ false
 
--- so it is with each X/27/0 in a planned cycle
+-- this holds for each X/27/0 in a planned cycle
 abbrev pub PlannedLinksAreOwn : Type 0
 PlannedLinksAreOwn = (late : Bool) (class : Class) (service : ServiceFields) (cycle : List (List ℕ)) → IsPlanned late class service cycle →
     (n : ℕ) → n < length cycle → (mag : ℕ) (content : Option LinkSet) → packet_of (slice_index_or cycle n []) ≡ Links mag content →
@@ -71,7 +71,7 @@ abbrev pub PlannedIsSteady : Type 0
 PlannedIsSteady = (late : Bool) (class : Class) (service : ServiceFields) (cycle : List (List ℕ)) → IsPlanned late class service cycle →
     (n : ℕ) (p : Page) → slice_get (pages_of service) n ≡ Some p → Steady (repeated cycle) (pages_of service) p
 
--- for receivers of the class, the service's lines and each repeat count some certificate is accepted
+-- some certificate for receivers of the class, with the service's lines, is accepted for each repeat count
 abbrev pub IsAcceptedForEach : Class → ServiceFields → List (List ℕ) → Type 0
 IsAcceptedForEach class service cycle = (repeat : ℕ) → 1 ≤ repeat → repeat ≤ 8 →
     CanBeAccepted cycle (pages_of service) class service.lines repeat 1000000

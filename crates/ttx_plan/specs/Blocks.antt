@@ -1,15 +1,15 @@
 -- The blocks of a cycle, and the magazine queues that they make (profile).
 --
---   Block, led              a page's block, and behind a time-filling header or not
+--   Block, led              a page's block; the same with or without a time-filling header before it
 --   at_place, placed        a block with its place among the rounds, and blocks with theirs
 --   round_of, rounds_to     the blocks that are sent, over eight rounds
 --   latest, with_fillers    a time-filling header between two headers of one page number
 --   sent_blocks             the blocks of a cycle in the order of sending
---   time_filling_packet     the time-filling header of a magazine
+--   time_filling_packet     the time-filling header of a queue's magazine
 --   page_packets, filler_of, packets_of     the packets of a block
 --   has_pages, used_queues  the magazines that have pages
 --   queue_packets, queues_to            magazine queues
---   length_bound            what the length of a cycle is judged by
+--   length_bound            the bound on the length of a cycle
 use Rattle.std.specs.Prelude.{ℕ, zero, suc, ◌+◌, ◌*◌, ◌/◌, ◌%◌, Bool, false, ◌&&◌, if◌then◌else◌, List, [], ◌∷◌, ◌++◌, map, length, filter, flat_map}
 use Rattle.std.specs.Prelude.{sum_by, ◌==◌}
 use Rattle.std.specs.List.{list_any}
@@ -28,7 +28,7 @@ pub record Block : Type 0 where
   pub header : List ℕ
   pub rest : List (List ℕ)
 
--- the block, behind a time-filling header or not
+-- the block with or without a time-filling header before it
 abbrev pub led : Bool → Block → Block
 led filler block = record {
   queue = block.queue;
@@ -52,13 +52,13 @@ at_place place block = record {
   rest = block.rest;
 }
 
--- the blocks with these places; those behind the last place keep theirs
+-- the blocks with these places; blocks beyond the end of the places keep theirs
 abbrev pub placed : List ℕ → List Block → List Block
 placed [] blocks = blocks
 placed (place ∷ places) [] = []
 placed (place ∷ places) (block ∷ blocks) = at_place place block ∷ placed places blocks
 
--- the blocks of a round, in authored order: a block that is sent o times stands in every (8 / o)th round, from its place on
+-- the blocks of a round, in authored order: a block that is sent o times is in every (8 / o)th round, from its place on
 abbrev pub round_of : List Block → ℕ → List Block
 round_of blocks round = filter (λ block. round % (8 / block.often) == block.place) blocks
 
@@ -72,7 +72,7 @@ abbrev pub latest : ℕ → List Block → ℕ
 latest queue [] = 255
 latest queue (block ∷ before) = if block.queue == queue then block.page else latest queue before
 
--- for receivers that show a page late each block whose page number its queue's latest header has goes behind a time-filling header
+-- for receivers that show a page late: a time-filling header before each block with the page number of its queue's latest header
 abbrev pub with_fillers : Bool → List Block → List Block → List Block
 with_fillers late before [] = []
 with_fillers late before (block ∷ blocks) = led (late && (latest block.queue before == block.page)) block ∷ with_fillers late (block ∷ before) blocks
@@ -95,7 +95,7 @@ rest_packet bytes = record { kind = RowOrLinks; bytes = bytes }
 abbrev pub page_packets : Block → List Packet
 page_packets block = header_packet block.header ∷ map rest_packet block.rest
 
--- the time-filling header before it
+-- the time-filling header before it, if it has one
 abbrev pub filler_of : Bool → Block → List Packet
 filler_of serial block = if block.filler then time_filling_packet serial block.queue ∷ [] else []
 
@@ -103,11 +103,11 @@ filler_of serial block = if block.filler then time_filling_packet serial block.q
 abbrev pub packets_of : Bool → Block → List Packet
 packets_of serial block = filler_of serial block ++ page_packets block
 
--- the magazine has pages
+-- whether the queue has a block
 abbrev pub has_pages : List Block → ℕ → Bool
 has_pages sent queue = list_any (λ block. block.queue == queue) sent
 
--- those of the first n queues that have pages, rising
+-- those of the first n queues that have blocks, rising
 abbrev pub used_to : List Block → ℕ → List ℕ
 used_to sent zero = []
 used_to sent (suc n) = used_to sent n ++ (if has_pages sent n then n ∷ [] else [])
@@ -115,7 +115,7 @@ used_to sent (suc n) = used_to sent n ++ (if has_pages sent n then n ∷ [] else
 abbrev pub used_queues : List Block → List ℕ
 used_queues sent = used_to sent 8
 
--- a magazine's packets: its blocks and one time-filling header
+-- a queue's packets: its blocks, and a time-filling header at the end if it has any
 abbrev pub queue_packets : Bool → List Block → ℕ → List Packet
 queue_packets serial sent queue =
     flat_map (λ block. if block.queue == queue then packets_of serial block else []) sent
@@ -130,6 +130,6 @@ queues_to sent (suc n) = queues_to sent n ++ queue_packets false sent n ∷ []
 abbrev pub packets_in : List Block → ℕ
 packets_in sent = sum_by (λ block. (if block.filler then 1 else 0) + (length block.rest + 1)) sent
 
--- twice the packets, a field for each block and a time-filling header for each magazine, and two fields more
+-- twice the sum of the packets, a field for each block and a time-filling header for each used magazine, plus two fields
 abbrev pub length_bound : ℕ → List Block → ℕ
 length_bound lines sent = 2 * (packets_in sent + length sent * lines + length (used_queues sent)) + 2 * lines

@@ -1,10 +1,10 @@
 -- What a planned cycle carries.
 --
---   magazines_for           what the magazines send in parallel transmission
+--   magazines_for           the queues of the magazines in parallel transmission
 --   CarriesBlocks           a cycle of blocks, in serial or in parallel transmission
 --   blocks_of, blocks_sent  the blocks of a service's pages, for receivers of a class, and as they are sent
---   blocks_sent_at          the same with these places among the rounds
---   CarriesAt, Carries      a cycle that carries a service, with these places and with place 0 for each page
+--   blocks_sent_at          the same with given places among the rounds
+--   CarriesAt, Carries      a cycle that carries a service, with given places, and with place 0 for each page
 use Rattle.std.specs.Prelude.{◌≡◌, ℕ, Bool, true, false, List, [], map, Option, option_map}
 use Rattle.ttx_info.specs.Infos.{info_bytes}
 use Rattle.ttx_page.specs.declared.class.Class.{Class}
@@ -19,7 +19,7 @@ use Rattle.ttx_plan.specs.Turns.{Magazines, IsParallel}
 abbrev pub magazines_for : ℕ → Option (List ℕ) → List Block → Magazines
 magazines_for lines info sent = record { lines = lines; info = info; queues = queues_to sent 8 }
 
--- serial: the cycle is the one list; parallel: it keeps the rule of turns
+-- serial: the cycle is the serial list; parallel: it keeps the rule of turns
 abbrev pub CarriesBlocks : Bool → ℕ → Option (List ℕ) → List Block → List (List ℕ) → Type 0
 CarriesBlocks true lines info sent cycle = cycle ≡ map bytes_of (serial_slots lines info sent)
 CarriesBlocks false lines info sent cycle = IsParallel (magazines_for lines info sent) cycle
@@ -36,11 +36,11 @@ blocks_of class pages = map (block_at class) pages
 abbrev pub blocks_sent : Bool → Class → List Authored → List Block
 blocks_sent late class pages = sent_blocks late (blocks_of class pages)
 
--- the same where the pages have these places among the rounds, in authored order
+-- the same with these places among the rounds, in authored order
 abbrev pub blocks_sent_at : List ℕ → Bool → Class → List Authored → List Block
 blocks_sent_at places late class pages = sent_blocks late (placed places (blocks_of class pages))
 
--- the cycle carries the service, its pages at these places, to receivers of the class; late: also to those that show a page late
+-- the cycle carries the service to receivers of the class, with its pages at these places; late: also to those that show a page late
 abbrev pub CarriesAt : List ℕ → Bool → Class → ServiceFields → List (List ℕ) → Type 0
 CarriesAt places late class service cycle =
     CarriesBlocks service.serial service.lines (option_map info_bytes service.info) (blocks_sent_at places late class service.pages) cycle

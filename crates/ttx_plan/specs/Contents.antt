@@ -1,8 +1,8 @@
--- What the block of a page holds (EN 300 706, 9.3.1 for the page header, 9.3.2 for rows, 9.6.1 for X/27/0; which items: profile).
+-- The contents of a page's block (EN 300 706, 9.3.1 for the page header, 9.3.2 for rows, 9.6.1 for X/27/0; which items: profile).
 --
 --   page_header_bytes, page_row_bytes, page_links_bytes         the bytes of a page's packets
 --   is_sent_to              the items that are sent to a class of receivers
---   sent_rows, rest_of      rows and X/27/0 of a block
+--   sent_rows, rest_of      the rows of a block; its rows and X/27/0
 --   block_of                the block
 use Rattle.std.specs.Prelude.{ℕ, zero, suc, ◌-◌, Bool, false, not, ◌&&◌, if◌then◌else◌, List, [], ◌∷◌, ◌++◌, map, replicate}
 use Rattle.ttx_code.specs.Words.{odd_byte}
@@ -29,7 +29,7 @@ page_row_bytes p number = address_bytes p.id.mag number ++ map odd_byte (page_ro
 abbrev pub page_links_bytes : Page → List ℕ
 page_links_bytes p = links_bytes p.id.mag (links_at p.links.six p.links.show24 p.crc)
 
--- what a viewer sees, and for receivers that surely clear the page nothing that is blank
+-- what a viewer sees; for receivers that surely clear the page, only what is not blank
 abbrev pub is_sent_to : Class → Page → Item → Bool
 is_sent_to Any p item = needed p item
 is_sent_to Clearing p item = needed p item && not (is_blank p item)
@@ -39,11 +39,11 @@ abbrev pub sent_rows : Class → Page → ℕ → List (List ℕ)
 sent_rows class p zero = []
 sent_rows class p (suc n) = sent_rows class p n ++ (if is_sent_to class p (TheRow (suc n)) then page_row_bytes p (suc n) ∷ [] else [])
 
--- the rows, and X/27/0
+-- the rows, and X/27/0 if it is sent
 abbrev pub rest_of : Class → Page → List (List ℕ)
 rest_of class p = sent_rows class p 24 ++ (if is_sent_to class p TheLinks then page_links_bytes p ∷ [] else [])
 
--- the block of a page that is sent so often; magazine 1 has queue 0
+-- the block of a page that is sent a given number of times; magazine 1 has queue 0
 abbrev pub block_of : Class → Page → ℕ → Block
 block_of class p often = record {
   queue = p.id.mag - 1;

@@ -9,7 +9,7 @@ abbrev pub sum_to : ℕ → (ℕ → ℕ) → ℕ
 sum_to zero f = 0
 sum_to (suc n) f = sum_to n f + f n
 
--- the slots that packets take, with a field of waiting for each block
+-- the slots that packets take, with a field for each block in which its rows wait
 abbrev pub slots_for : ℕ → List Packet → ℕ
 slots_for lines [] = 0
 slots_for lines (packet ∷ rest) = (if is_page_header packet.kind then suc lines else 1) + slots_for lines rest

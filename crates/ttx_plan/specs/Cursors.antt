@@ -1,4 +1,4 @@
--- What the cursors of the scheduler say.
+-- The cursors of the scheduler, and the slot that follows from them.
 use Rattle.std.specs.Prelude.{ℕ, ◌+◌, Bool, false, not, ◌&&◌, if◌then◌else◌, List, [], Option, Some, None, Vec, map, nat_lt, slice_get, slice_index}
 use Rattle.std.specs.Prelude.{slice_index_or, slice_set, find}
 use Rattle.std.specs.declared.alloc.Global.{Global}
@@ -36,7 +36,7 @@ abbrev pub picked : List (Vec Packet Global) → Cursors → Option ℕ → Slot
 picked queues cursors None = Empty
 picked queues cursors (Some queue) = sending queue (slice_get (queue_at queues queue) (slice_index cursors.sent queue))
 
--- what the slot holds by the cursors
+-- the contents of slot `at`, from the cursors
 abbrev pub slot_by_cursors : List (Vec Packet Global) → Cursors → ℕ → Slot
 slot_by_cursors queues cursors at = picked queues cursors (find (is_free queues cursors at) (order cursors.from))
 

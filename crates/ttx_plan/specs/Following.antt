@@ -1,7 +1,7 @@
--- Laws of cycles that are planned for receivers that show a page late, too.
+-- The law of cycles that are planned for receivers that show a page late.
 --
 --   AreFollowed             each of these pages is followed by another page number
---   PlannedIsFollowed       so is each page of a service that is planned so
+--   PlannedIsFollowed       each page of a service that is planned for such receivers is
 use Rattle.std.specs.Prelude.{◌≡◌, ℕ, true, List, slice_get, Some}
 use Rattle.ttx_page.specs.declared.class.Class.{Class}
 use Rattle.ttx_page.specs.Followers.{IsFollowedByAnother}
@@ -10,7 +10,7 @@ use Rattle.ttx_page.specs.Streams.{repeated}
 use Rattle.ttx_plan.specs.Acceptance.{IsPlanned}
 use Rattle.ttx_source.specs.Services.{ServiceFields, pages_of}
 
--- In the cycle sent again and again the next header of the magazine after each header of one of these pages has another page number.
+-- When the cycle repeats, the next header of the magazine after each header of one of these pages has another page number.
 abbrev pub AreFollowed : List (List ℕ) → List Page → Type 0
 AreFollowed cycle pages = (n : ℕ) (p : Page) → slice_get pages n ≡ Some p → IsFollowedByAnother (repeated cycle) p.id
 

@@ -1,9 +1,9 @@
--- Laws of planned cycles, which the layers above may use: the clauses of `laws::planned_cycles_keep_their_rules`.
+-- Laws of planned cycles: the clauses of `laws::planned_cycles_keep_their_rules`.
 --
 --   IsSaid                  the fields of packet 8/30 are in their ranges
 --   PlannedIsClean          one wrong bit in each byte makes no other packet of a slot
 --   IsOwnHeader, IsHeadOf, PlannedHeadersAreOwn     each header is of a page of the service, or a time-filling one
---   IsOwnRow, PlannedRowsAreOwn     each row stands under the header of its own page
+--   IsOwnRow, PlannedRowsAreOwn     each row is under the header of its own page
 --   PlannedIsSure           each transmission of a planned cycle is sure
 use Rattle.std.specs.Prelude.{◌≡◌, ◌⊎◌, ℕ, ◌+◌, ◌<◌, ℤ, Bool, true, false, List, [], length, map, take, slice_get, slice_index_or, Option, Some, None}
 use Rattle.ttx_code.specs.Words.{odd_byte}
@@ -19,7 +19,7 @@ use Rattle.ttx_page.specs.Streams.{repeated, heads, heads_page, IsOwned, IsSure}
 use Rattle.ttx_plan.specs.Carries.{CarriesAt}
 use Rattle.ttx_source.specs.Services.{Authored, ServiceFields, IsService}
 
--- packet 8/30, where there is one, is in its ranges
+-- packet 8/30, if there is one, is in its ranges
 abbrev pub IsSaid : Option InfoFields → Type 0
 IsSaid None = Unit {0}
 IsSaid (Some info) = IsInfoFields info × IsLink info.initial
@@ -51,7 +51,7 @@ PlannedHeadersAreOwn =
     (n : ℕ) → n < length cycle → (id : Id) (control : ℕ) (text : List ℕ) → packet_of (slice_index_or cycle n []) ≡ Header id control text →
     IsHeadOf service.pages id control text
 
--- the row in slot n is that of a page of the list, whose header, the latest of the magazine, stands more than a field before
+-- The row in slot n is that of a page of the list. The page's header is the latest of the magazine, more than a field before slot n.
 pub record IsOwnRow (pages : List Authored) (cycle : List (List ℕ)) (lines n mag number : ℕ) (text : List ℕ) : Type 0 where
   pub index : ℕ
   pub authored : Authored
@@ -63,7 +63,7 @@ pub record IsOwnRow (pages : List Authored) (cycle : List (List ℕ)) (lines n m
   pub is_header : heads_page authored.page.id (packet_of (slice_index_or cycle header [])) ≡ true
   pub none_between : (i : ℕ) → header < i → i < n → heads mag (packet_of (slice_index_or cycle i [])) ≡ false
 
--- so it is with each row in a cycle that carries a service
+-- this holds for each row in a cycle that carries a service
 abbrev pub PlannedRowsAreOwn : Type 0
 PlannedRowsAreOwn =
     (places : List ℕ) (late : Bool) (class : Class) (service : ServiceFields) (cycle : List (List ℕ)) → IsService service → IsSaid service.info →
@@ -71,8 +71,8 @@ PlannedRowsAreOwn =
     (n : ℕ) → n < length cycle → (mag number : ℕ) (text : List ℕ) → packet_of (slice_index_or cycle n []) ≡ Row mag number text →
     IsOwnRow service.pages cycle service.lines n mag number text
 
--- In a cycle that carries a service, sent again and again, each row and each X/27/0 stands more than a field after its header,
--- and no header between ends the page.
+-- When a cycle that carries a service repeats, each row and each X/27/0 comes more than a field after its header, and no header between
+-- them ends the page.
 abbrev pub PlannedIsSure : Type 0
 PlannedIsSure =
     (places : List ℕ) (late : Bool) (class : Class) (service : ServiceFields) (cycle : List (List ℕ)) → IsService service → IsSaid service.info →

@@ -1,7 +1,8 @@
--- Packets as the scheduler sees them, and the slots of a cycle. Magazine queues are counted from 0: queue 0 is that of magazine 1.
+-- Packets with what the scheduler has to know of them, and the slots of a cycle. Magazine queues are counted from 0: queue 0 is that of
+-- magazine 1.
 --
---   is_page_header, is_row_or_links     what a packet is
---   holds_packet, has_header     a slot of a packet, and one of the page header of a queue's block
+--   is_page_header, is_row_or_links     the kind of a packet
+--   holds_packet, has_header     a slot with a packet of a queue; a slot with the page header of a block of this queue
 --   bytes_of, sent_bytes    the bytes of a slot, and of slots
 use Rattle.std.specs.Prelude.{ℕ, Bool, true, false, List, [], ◌∷◌, ◌++◌, ◌==◌, ◌&&◌, replicate}
 use Rattle.ttx_plan.specs.declared.packet.Kind.{Kind}
@@ -39,7 +40,7 @@ bytes_of Empty = replicate 42 0
 bytes_of (Info bytes) = bytes
 bytes_of (Sent queue packet) = packet.bytes
 
--- the bytes of slots that are given latest first, in the order of sending
+-- the bytes of slots, in the order of sending; the slots are given latest first
 abbrev pub sent_bytes : List Slot → List (List ℕ)
 sent_bytes [] = []
 sent_bytes (slot ∷ before) = sent_bytes before ++ bytes_of slot ∷ []

@@ -8,6 +8,6 @@ pub record IsOften (often : ℕ) : Type 0 where
   pub most : often ≤ 8
   pub divides : 8 % often ≡ 0
 
--- the place of each page, 0 where the list has none for it, is in range
+-- the place of each page, 0 if the list is shorter, is in range
 abbrev pub ArePlaces : List ℕ → List Authored → Type 0
 ArePlaces places pages = (i : ℕ) (page : Authored) → slice_get pages i ≡ Some page → slice_index_or places i 0 < 8 / page.often

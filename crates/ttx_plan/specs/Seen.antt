@@ -1,7 +1,7 @@
--- The program's blocks as the definitions see them.
+-- The program's blocks in terms of the definitions.
 --
---   seen, seen_sent         a block, and a block as it is sent
---   fillers_in              how many blocks go behind a time-filling header
+--   seen, seen_sent         a block, and a transmission of a block
+--   fillers_in              how many blocks follow a time-filling header
 --   used_by                 the queues that have pages
 use Rattle.std.specs.Prelude.{ℕ, zero, suc, ◌-◌, false, List, [], ◌∷◌, ◌++◌, ◌==◌, if◌then◌else◌, sum_by}
 use Rattle.std.specs.List.{list_any}
@@ -23,11 +23,11 @@ seen block = record {
   rest = block.rest.items;
 }
 
--- a block as it is sent
+-- a transmission of a block
 abbrev pub seen_sent : SentBlock → Block
 seen_sent sent = led sent.filler (seen sent.block.now)
 
--- how many blocks go behind a time-filling header
+-- how many blocks follow a time-filling header
 abbrev pub fillers_in : List Block → ℕ
 fillers_in sent = sum_by (λ block. if block.filler then 1 else 0) sent
 

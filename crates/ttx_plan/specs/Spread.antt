@@ -1,46 +1,46 @@
--- Places among the rounds at which the rounds are of like length (profile). Pages take their places one after another: those that are
--- sent most often first, and of those that are sent as often in authored order.
+-- Places of pages among the rounds that make the rounds similar in length (profile). Pages take their places one after another, those that
+-- are sent most often first, and equal ones in authored order.
 --
 --   earlier, packets_so_far     the blocks that take their places before one, and their packets in a round
---   IsFirstLeast            the first of the least of so many numbers
+--   IsFirstLeast            the first number below a count with the least value
 --   IsAtPlace, IsSpread     a block at the place whose rounds have the fewest packets so far; each block at such a place
---   IsSpreadPlan, IsTooLongSpread   a cycle whose pages are at such places; such places at which the cycle might be too long
+--   IsSpreadPlan, IsTooLongSpread   a cycle with its pages at such places; such places with which the cycle might be too long
 use Rattle.std.specs.Prelude.{◌≡◌, ℕ, ◌/◌, ◌<◌, ◌≤◌, Bool, List, ◌++◌, filter, take, ◌==◌, nat_lt, slice_get, Some}
 use Rattle.ttx_page.specs.declared.class.Class.{Class}
 use Rattle.ttx_source.specs.Services.{ServiceFields}
 use Rattle.ttx_plan.specs.Blocks.{Block, placed, round_of, packets_in, length_bound}
 use Rattle.ttx_plan.specs.Carries.{CarriesAt, blocks_of, blocks_sent_at}
 
--- the blocks that take their places before one that is sent so often and stands at this index
+-- the blocks that take their places before the one at this index, which is sent this often
 abbrev pub earlier : List Block → ℕ → ℕ → List Block
 earlier blocks often index = filter (λ block. nat_lt often block.often) blocks ++ filter (λ block. block.often == often) (take index blocks)
 
--- how many packets of these stand in a round; neither empty slots nor time-filling headers count
+-- how many packets these blocks have in a round; neither empty slots nor time-filling headers count
 abbrev pub packets_so_far : List Block → ℕ → ℕ → ℕ → ℕ
 packets_so_far blocks often index round = packets_in (round_of (earlier blocks often index) round)
 
--- the first of the numbers below a count at which a value is the least
+-- the first of the numbers below a count with the least value
 pub record IsFirstLeast (value : ℕ → ℕ) (count number : ℕ) : Type 0 where
   pub within : number < count
   pub least : (other : ℕ) → other < count → value number ≤ value other
   pub first : (other : ℕ) → other < number → value number < value other
 
--- The block stands at the first place whose rounds have the fewest packets so far. The first round of a place stands for all of them: the
--- blocks before are sent as often or more often, so they stand in each round of a place alike.
+-- The block is at the first place whose rounds have the fewest packets so far. The first round of a place stands for all of them: the
+-- blocks before are sent as often or more often, so each round of a place has the same ones.
 abbrev pub IsAtPlace : List Block → ℕ → Block → Type 0
 IsAtPlace blocks index block = IsFirstLeast (packets_so_far blocks block.often index) (8 / block.often) block.place
 
 abbrev pub IsSpread : List Block → Type 0
 IsSpread blocks = (index : ℕ) (block : Block) → slice_get blocks index ≡ Some block → IsAtPlace blocks index block
 
--- the cycle carries the service with its pages at such places, and keeps to the bound
+-- the cycle carries the service with its pages at such places, and the bound holds for them
 pub record IsSpreadPlan (late : Bool) (class : Class) (service : ServiceFields) (cycle : List (List ℕ)) : Type 0 where
   pub places : List ℕ
   pub spread : IsSpread (placed places (blocks_of class service.pages))
   pub carries : CarriesAt places late class service cycle
   pub fits : length_bound service.lines (blocks_sent_at places late class service.pages) ≤ 65536
 
--- with the pages at such places the cycle is above the bound
+-- with the pages at such places the bound does not hold
 pub record IsTooLongSpread (late : Bool) (class : Class) (service : ServiceFields) : Type 0 where
   pub places : List ℕ
   pub spread : IsSpread (placed places (blocks_of class service.pages))

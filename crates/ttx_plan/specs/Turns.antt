@@ -1,11 +1,11 @@
--- Parallel transmission (profile): the rule of turns, between a slot and the slots before it. Those are given latest first.
--- Magazine queues are counted from 0: queue 0 is that of magazine 1.
+-- Parallel transmission (profile): the rule of turns, between a slot and the slots before it, which are given latest first. Magazine
+-- queues are counted from 0: queue 0 is that of magazine 1.
 --
---   Magazines, queue_of     what there is to send
---   sent_by, next_of        how much of a queue is sent, and its next packet
---   waits, is_ready         a row or X/27/0 waits in the field after its page header
---   turn_from, order        whose turn is looked at first, and after it
---   next_slot               the slot of the queue whose turn it is
+--   Magazines, queue_of     what is to be sent
+--   sent_by, next_of        how many packets of a queue have been sent, and its next one
+--   waits, is_ready         a row or X/27/0 waits for a field after its page header; a queue with a packet that does not wait
+--   turn_from, order        the queue that is tried first, and the order of the others
+--   next_slot               the slot of the queue that sends next
 --   is_info_due, or_info    packet 8/30 at each multiple of 50 fields
 --   slot_after, KeepsTurns  the rule at one slot, and at every slot
 --   missing, IsParallel     the whole cycle
@@ -17,17 +17,17 @@ use Rattle.ttx_plan.specs.declared.packet.Slot.{Slot}
 use Rattle.ttx_plan.specs.declared.packet.Slot.TheVariants.{Empty, Info, Sent}
 use Rattle.ttx_plan.specs.Packets.{sent_bytes, has_header, is_row_or_links}
 
--- the lines of a field, packet 8/30 where there is one, and the packets of the eight magazines in their order
+-- the lines of a field, packet 8/30 if there is one, and the packets of the eight magazines
 pub record Magazines : Type 0 where
   pub lines : ℕ
   pub info : Option (List ℕ)
   pub queues : List (List Packet)
 
--- the packets of a magazine
+-- the packets of a queue
 abbrev pub queue_of : Magazines → ℕ → List Packet
 queue_of mags queue = slice_index_or mags.queues queue []
 
--- how many packets of a queue are sent
+-- how many packets of a queue have been sent
 abbrev pub sent_by : ℕ → List Slot → ℕ
 sent_by queue [] = 0
 sent_by queue (Empty ∷ before) = sent_by queue before
@@ -46,11 +46,11 @@ abbrev pub may_go : Magazines → ℕ → List Slot → Option Packet → Bool
 may_go mags queue before None = false
 may_go mags queue before (Some packet) = not (waits mags queue before packet)
 
--- the queue has a packet left that doesn't wait
+-- the queue has a packet left that does not wait
 abbrev pub is_ready : Magazines → List Slot → ℕ → Bool
 is_ready mags before queue = may_go mags queue before (next_of mags queue before)
 
--- the queue from which turns are looked for: the one after the queue that sent last, 0 at the beginning (8 is 0 again)
+-- the queue that is tried first: the one after the queue that sent last, 0 at the beginning (8 is 0 again)
 abbrev pub turn_from : List Slot → ℕ
 turn_from [] = 0
 turn_from (Empty ∷ before) = turn_from before
@@ -62,7 +62,7 @@ abbrev pub steps : (ℕ → ℕ) → ℕ → ℕ → List ℕ
 steps f s zero = []
 steps f s (suc n) = f s ∷ steps f (suc s) n
 
--- the eight queues, rising from one on and round
+-- the eight queues, rising from a first one and round
 abbrev pub order : ℕ → List ℕ
 order from = steps (λ k. (from + k) % 8) 0 8
 
@@ -76,7 +76,7 @@ abbrev pub chosen : Magazines → List Slot → Option ℕ → Slot
 chosen mags before None = Empty
 chosen mags before (Some queue) = sending queue (next_of mags queue before)
 
--- the first queue that is ready has its turn; with none the slot is empty
+-- the first queue that is ready sends; if none is, the slot is empty
 abbrev pub next_slot : Magazines → List Slot → Slot
 next_slot mags before = chosen mags before (find (is_ready mags before) (order (turn_from before)))
 
@@ -84,12 +84,12 @@ next_slot mags before = chosen mags before (find (is_ready mags before) (order (
 abbrev pub is_info_due : ℕ → ℕ → Bool
 is_info_due lines at = at % (50 * lines) == 0
 
--- packet 8/30 where it is due, else this slot
+-- packet 8/30 if it is due, otherwise this slot
 abbrev pub or_info : Option (List ℕ) → Bool → Slot → Slot
 or_info None due slot = slot
 or_info (Some bytes) due slot = if due then Info bytes else slot
 
--- what the slot after these holds
+-- the contents of the slot after these
 abbrev pub slot_after : Magazines → List Slot → Slot
 slot_after mags before = or_info mags.info (is_info_due mags.lines (length before)) (next_slot mags before)
 
@@ -105,11 +105,11 @@ ends_sent (Empty ∷ before) = false
 ends_sent (Info bytes ∷ before) = false
 ends_sent (Sent queue packet ∷ before) = true
 
--- how many slots are wanting to a whole field
+-- how many slots are missing to the end of a field
 abbrev pub missing : ℕ → ℕ → ℕ
 missing lines n = (lines - n % lines) % lines
 
--- The cycle sends all packets by turns, up to the last of them, and goes on with empty slots to a whole field.
+-- The cycle sends all packets in turns, up to the last of them, and then empty slots to the end of a field.
 pub record IsParallel (mags : Magazines) (cycle : List (List ℕ)) : Type 0 where
   pub before : List Slot
   pub turns : KeepsTurns mags before

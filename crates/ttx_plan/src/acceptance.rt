@@ -1,10 +1,10 @@
-//! Laws of planned cycles that lead to an accepted certificate. A call costs nothing and gives the caller's proof the laws.
+//! The law that planned cycles have accepted certificates. A call does nothing at run time, and gives the law to the caller's proof.
 
 ghost use Rattle.ttx_plan.specs.Acceptance.{PlannedIsAccepted, PlannedIsFound, PlannedIsSteady, PlannedItemsAreSent, PlannedLinksAreOwn};
 
-/// Of a planned cycle: each X/27/0 carries the links of the page whose header is the latest of its magazine; each page has a
-/// header, and what is sent of it is transmitted; each page is sent unchanged; for each repeat count some certificate is
-/// accepted, and the search for the least deadline finds one.
+/// In a planned cycle each X/27/0 carries the links of the page whose header is the latest of its magazine; each page has a header, and
+/// each of its items that is sent to the class is transmitted; each page is sent unchanged; for each repeat count some certificate is
+/// accepted, and the search finds the least deadline.
 pub fn planned_cycles_are_accepted()
     ensures links { PlannedLinksAreOwn }
     ensures sent { PlannedItemsAreSent }

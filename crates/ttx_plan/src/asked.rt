@@ -5,8 +5,8 @@ use ttx_page::Class;
 /// The receivers that a cycle is planned for.
 #[derive(Clone, Copy)]
 pub struct Receivers {
-    /// What surely clears a page on them.
+    /// Receivers of this class: what surely clears a page on them.
     pub class: Class,
-    /// Also those that show a page late: when the next header of its magazine has another page number.
+    /// Also receivers that show a page late, when the next header of its magazine has another page number.
     pub late: bool,
 }

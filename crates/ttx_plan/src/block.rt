@@ -16,20 +16,20 @@ pub struct PageBlock {
     pub queue: usize,
     /// In how many of the eight rounds the block is sent.
     pub often: usize,
-    /// The first of these rounds.
+    /// The first of these rounds, counted from 0.
     pub place: usize,
     /// The page number in its page header.
     pub page: u8,
     /// The page header.
     pub header: [u8; 42],
-    /// The rows that are sent, rising, and X/27/0.
+    /// The rows that are sent, from the lowest number, and X/27/0 if it is sent.
     pub rest: Vec<[u8; 42]>,
     ghost queue_to: { queue < 8 },
     ghost often_is: { IsOften often },
     ghost few: { length rest.items ≤ 25 },
 }
 
-/// How many packets the block of a page has, for receivers of the class.
+/// How many packets the block of a page has for receivers of the class.
 pub fn block_length(class: Class, page: &Page) -> usize
     ensures length { result ≡ length (rest_of class (page_of page.now)) + 1 }
     ensures few { result ≤ 26 }
@@ -46,7 +46,7 @@ pub fn block_length(class: Class, page: &Page) -> usize
     count
 }
 
-// The rows that are sent to receivers of the class, rising, and X/27/0.
+// The rows that are sent to receivers of the class, from the lowest number, and X/27/0 if it is sent.
 fn rest_packets(alloc: Global, class: Class, page: &Page) -> Result<Vec<[u8; 42]>, AllocError>
     ensures rest { IfOk result (λ rest. rest.items ≡ rest_of class (page_of page.now)) }
     ensures few { IfOk result (λ rest. length rest.items ≤ 25) }
@@ -67,7 +67,7 @@ impl PageBlock {
     ghost use Rattle.ttx_plan.specs.Blocks.{at_place};
     ghost use Rattle.ttx_plan.specs.Seen.{seen};
 
-    /// The block of a page that is sent so often, from this round on, for receivers of the class.
+    /// The block of a page that is sent `often` times, from round `place` on, to receivers of the class.
     pub fn new(
         alloc: Global,
         class: Class,

@@ -1,4 +1,4 @@
-//! What the length of a cycle is judged by, before anything is laid out.
+//! The bound on the length of a cycle, computed before anything is laid out.
 
 ghost use Rattle.std.specs.Prelude.{◌≡◌, ◌-◌, ◌<◌, ◌≤◌, ◌*◌, ◌==◌, length, option_map, slice_get, slice_index_or, Some};
 ghost use Rattle.std.specs.List.{list_any};
@@ -14,7 +14,7 @@ use crate::fillers::Fillers;
 use ttx_page::Page;
 use ttx_source::Service;
 
-// Whether a page belongs to the queue.
+// Whether a page is in the queue.
 fn has_pages(pages: &[Page], queue: usize) -> bool
     requires { queue < 8 }
     ensures { result ≡ list_any (λ p. (page_of p).id.mag - 1 == queue) pages.now }
@@ -38,7 +38,7 @@ fn count_used(pages: &[Page]) -> usize
     count
 }
 
-// How often the page at an index is sent.
+// How often the page at `index` is sent.
 pub fn times(service: &Service, index: usize) -> usize
     requires { index < length service.now.pages }
     ensures value { option_map (λ p. p.often) (slice_get service.now.pages index) ≡ Some result }
@@ -48,7 +48,7 @@ pub fn times(service: &Service, index: usize) -> usize
     usize::from(service.often(index))
 }
 
-/// The place of the page at an index among the rounds, 0 where the list has none for it.
+/// The place of the page at `index` among the rounds; 0 if the list is shorter.
 pub fn place_at(places: &[usize], index: usize) -> usize
     ensures { result ≡ slice_index_or places.now index 0 }
 {
@@ -59,7 +59,7 @@ pub fn place_at(places: &[usize], index: usize) -> usize
     }
 }
 
-// How many blocks go behind a time-filling header.
+// How many blocks follow a time-filling header.
 fn count_fillers(receivers: Receivers, service: &Service, places: &[usize]) -> usize
     ensures count { result ≡ fillers_in (blocks_sent_at places.now receivers.late receivers.class service.now.pages) }
     ensures few { result ≤ 8 * 2000 }
@@ -80,8 +80,8 @@ fn count_fillers(receivers: Receivers, service: &Service, places: &[usize]) -> u
     count
 }
 
-/// Twice the slots of all packets, with a field for each block and a time-filling header for each magazine, and two fields
-/// more. No memory is taken.
+/// Twice the sum of all packets, a field for each block and a time-filling header for each magazine that has pages, plus two fields.
+/// Allocates no memory.
 pub fn length_bound(receivers: Receivers, service: &Service, places: &[usize]) -> usize
     requires { ArePlaces places.now service.now.pages }
     ensures { result ≡ length_bound service.now.lines (blocks_sent_at places.now receivers.late receivers.class service.now.pages) }

@@ -34,7 +34,7 @@ pub fn header_packet(page: &Page) -> [u8; 42]
     write_header(&header)
 }
 
-/// Row 1 to 24.
+/// The packet of row 1 to 24.
 pub fn row_packet(page: &Page, number: u8) -> [u8; 42]
     requires from { 1 ≤ number }
     requires to { number ≤ 24 }
@@ -57,7 +57,7 @@ pub fn links_packet(page: &Page) -> [u8; 42]
     write_links(page.id().mag(), page.links())
 }
 
-/// Whether row 1 to 24 is sent to receivers of the class.
+/// Whether a row, 1 to 24, is sent to receivers of the class.
 pub fn is_row_sent_to(class: Class, page: &Page, number: u8) -> bool
     requires from { 1 ≤ number }
     requires to { number ≤ 24 }

@@ -1,4 +1,4 @@
-//! Whose turn it is in parallel transmission, by one cursor for each magazine queue.
+//! Which queue sends next in parallel transmission, from one cursor for each magazine queue.
 
 ghost use Rattle.std.specs.Prelude.{◌≡◌, ◌+◌, ◌*◌, ◌<◌, ◌≤◌, ◌^◌, length, find, slice_index, slice_get, replicate, Option, IfSome};
 ghost use Rattle.ttx_plan.specs.Cursors.{cursors_after, is_free, cursors_past, queue_at, slot_by_cursors};
@@ -6,14 +6,14 @@ ghost use Rattle.ttx_plan.specs.Turns.{is_info_due, or_info, order};
 
 use crate::packet::{Packet, Slot};
 
-/// Where each magazine queue stands.
+/// How far each magazine queue has come.
 #[derive(Clone, Copy)]
 pub struct Cursors {
-    /// How many packets of the queue are sent.
+    /// How many packets of the queue have been sent.
     pub sent: [usize; 8],
-    /// The first slot in which a row or X/27/0 of the queue may stand.
+    /// The first slot in which the queue may send a row or X/27/0.
     pub free_at: [usize; 8],
-    /// One past the queue that sent last, 0 before the first.
+    /// One more than the queue that sent last; 0 before the first.
     pub from: usize,
 }
 
@@ -36,7 +36,7 @@ impl Cursors {
         }
     }
 
-    // Whether the queue has a packet left that may stand in this slot.
+    // Whether the queue has a packet left and may send it in this slot.
     fn is_ready(&self, queues: &[Vec<Packet>], at: usize, queue: usize) -> bool
         requires queues { length queues.now ≡ 8 }
         requires queue { queue < 8 }
@@ -48,7 +48,7 @@ impl Cursors {
         }
     }
 
-    /// The queue whose turn it is: the first that is ready, rising from the one after the queue that sent last.
+    /// The queue that sends next: the first one that is ready, in rising order round from the queue after the one that sent last.
     pub fn turn(&self, queues: &[Vec<Packet>], at: usize) -> Option<usize>
         requires queues { length queues.now ≡ 8 }
         requires from { self.now.from ≤ 8 }

@@ -11,7 +11,7 @@ use crate::serial::serial_slots;
 use crate::slots::fill;
 use std::alloc::{AllocError, Global};
 
-/// The slots of a cycle that carries these blocks.
+/// The slots of a cycle that carries these blocks. `Err` if memory runs out.
 pub fn cycle_slots(
     alloc: Global,
     serial: bool,

@@ -1,4 +1,4 @@
-//! Why there is no plan.
+//! Why a service has no planned cycle.
 
 use thiserror::Error;
 
@@ -11,7 +11,7 @@ pub enum PlanFault {
     /// The cycle might have more than 65,536 slots.
     #[error("the service is too long for a cycle of 65536 slots")]
     TooLong,
-    /// A growth was refused.
+    /// An allocation failed.
     #[error("out of memory")]
     NoMemory,
 }

@@ -1,13 +1,13 @@
-//! Before which blocks a time-filling header goes.
+//! Which blocks follow a time-filling header.
 
 ghost use Rattle.std.specs.Prelude.{◌≡◌, ◌<◌, ◌&&◌, ◌==◌, replicate, slice_index, slice_set};
 
-/// The blocks that are passed, by their headers.
+/// The blocks passed so far, by their headers.
 #[derive(Clone, Copy)]
 pub struct Fillers {
-    /// For receivers that show a page late, too.
+    /// Whether the cycle is also for receivers that show a page late.
     pub late: bool,
-    /// The page number in the latest header of each magazine queue, FF before the first.
+    /// The page number in the latest header of each magazine queue; FF before the first.
     pub latest: [u8; 8],
 }
 
@@ -21,8 +21,8 @@ impl Fillers {
         }
     }
 
-    /// Passes a block. A time-filling header goes before it where pages are shown late and the latest header of its magazine has
-    /// its page number.
+    /// Passes a block. Returns whether a time-filling header is sent before it: if pages may be shown late, and the latest header of its
+    /// magazine has the same page number.
     pub fn pass(&mut self, queue: usize, page: u8) -> bool
         requires { queue < 8 }
         ensures filler { result ≡ (self.old.late && (slice_index self.old.latest queue == page)) }

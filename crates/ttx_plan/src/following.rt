@@ -1,9 +1,10 @@
-//! A law of cycles that are planned for receivers that show a page late. A call costs nothing and gives the caller's proof the law.
+//! The law of cycles that are planned for receivers that show a page late. A call does nothing at run time, and gives the law to the
+//! caller's proof.
 
 ghost use Rattle.ttx_plan.specs.Following.{PlannedIsFollowed};
 
-/// In a cycle that is planned so each page is followed by another page number: the next header of its magazine after each of its
-/// headers, in the cycle sent again and again, has another one.
+/// In such a cycle each page is followed by another page number: when the cycle repeats, the next header of its magazine after each of
+/// its headers has another page number.
 pub fn late_cycles_are_followed()
     ensures { PlannedIsFollowed }
 {

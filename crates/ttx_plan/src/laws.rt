@@ -1,10 +1,10 @@
-//! Laws of planned cycles. A call costs nothing and gives the caller's proof the laws.
+//! The laws of planned cycles. A call does nothing at run time, and gives the laws to the caller's proof.
 
 ghost use Rattle.ttx_plan.specs.Laws.{PlannedHeadersAreOwn, PlannedIsClean, PlannedIsSure, PlannedRowsAreOwn};
 
-/// Of a cycle that carries a service: one wrong bit in each byte of a slot makes no other packet of it; each header is a
-/// page's own, with its control bits and characters, or a time-filling one; each row carries the characters of the page whose
-/// header is the latest of its magazine; and no receiver may miss a row or an X/27/0 under its header.
+/// In a cycle that carries a service: no slot turns into another packet if one bit in each byte is wrong; each header is a page's own,
+/// with its control bits and characters, or a time-filling one; each row carries the characters of the page whose header is the latest of
+/// its magazine; and no receiver may miss a row or an X/27/0 under its header.
 pub fn planned_cycles_keep_their_rules()
     ensures clean { PlannedIsClean }
     ensures headers { PlannedHeadersAreOwn }

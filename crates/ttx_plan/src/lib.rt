@@ -1,4 +1,4 @@
-//! The scheduler: it lays the packets of a service out in a cycle, in magazine serial or parallel transmission.
+//! The scheduler. It lays out the packets of a service in a cycle of eight rounds, in serial or parallel magazine transmission.
 #![tactic(auto)]
 
 pub mod acceptance;

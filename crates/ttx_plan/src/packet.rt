@@ -1,16 +1,16 @@
-//! Packets as the scheduler sees them, and the slots of a cycle.
+//! Packets with what the scheduler has to know of them, and the slots of a cycle.
 
 ghost use Rattle.std.specs.Prelude.{◌≡◌};
 ghost use Rattle.ttx_plan.specs.Packets.{bytes_of, is_page_header, is_row_or_links, holds_packet};
 
-/// What a packet is to the rule of turns.
+/// How the rule of turns treats a packet.
 #[derive(Clone, Copy)]
 pub enum Kind {
     /// The page header of a block.
     PageHeader,
     /// A row or X/27/0 of a block.
     RowOrLinks,
-    /// The time-filling header after a magazine's blocks.
+    /// The time-filling header after a magazine's blocks, or between two blocks.
     TimeFilling,
 }
 
@@ -21,7 +21,7 @@ pub struct Packet {
     pub bytes: [u8; 42],
 }
 
-/// What a slot of a cycle holds.
+/// The contents of a slot.
 #[derive(Clone, Copy)]
 pub enum Slot {
     Empty,

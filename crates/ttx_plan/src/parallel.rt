@@ -10,7 +10,7 @@ use crate::packet::Packet;
 use crate::slots::fill;
 use std::alloc::{AllocError, Global};
 
-// How many packets there are.
+// How many packets all queues have.
 fn count_packets(queues: &[Vec<Packet>]) -> usize
     requires queues { length queues.now ≡ 8 }
     requires few { sum_to 8 (λ n. length (queue_at queues.now n)) ≤ 65536 }
@@ -23,7 +23,7 @@ fn count_packets(queues: &[Vec<Packet>]) -> usize
     count
 }
 
-/// The cycle that sends the packets of these queues by turns.
+/// The slots of a cycle in which these queues send in turns. `Err` if memory runs out.
 pub fn parallel_slots(
     alloc: Global,
     queues: &[Vec<Packet>],

@@ -1,4 +1,4 @@
-//! The cycle that carries a service.
+//! Plans the cycle that carries a service.
 
 ghost use Rattle.std.specs.Prelude.{◌≡◌, ◌≢◌, ◌↔◌, ◌<◌, ◌≤◌, false, true, [], IfOk, map, option_map};
 ghost use Rattle.ttx_cycle.specs.Cycles.{slots_of};
@@ -27,7 +27,7 @@ use ttx_info::write_info;
 use ttx_page::Class;
 use ttx_source::Service;
 
-/// The blocks of the service's pages, at these places, in authored order.
+/// The blocks of the service's pages, at these places, in authored order. `Err` if memory runs out.
 pub fn blocks_of(
     alloc: Global,
     class: Class,
@@ -45,7 +45,7 @@ pub fn blocks_of(
     Ok(blocks)
 }
 
-/// Packet 8/30, where the service sends it.
+/// Packet 8/30, if the service sends it.
 pub fn info_packet(service: &Service) -> Option<[u8; 42]>
     ensures { result ≡ option_map info_bytes service.now.info }
 {
@@ -55,7 +55,7 @@ pub fn info_packet(service: &Service) -> Option<[u8; 42]>
     }
 }
 
-// The cycle that carries a service of at least one page, each at its place.
+// The cycle that carries a service with at least one page, each at its place.
 fn cycle_of(
     alloc: Global,
     receivers: Receivers,
@@ -79,8 +79,8 @@ fn cycle_of(
     Ok(cycle)
 }
 
-/// The cycle that carries a service to these receivers, each page at its place among the rounds (0 where the list has none for it):
-/// a page that is sent `often` times stands in every (8 / often)th round, from the round of its place on. Else as `plan_with`.
+/// A cycle that carries a service to these receivers, with each page at its place among the eight rounds (0 if the list is shorter): a page
+/// that is sent `often` times is in every (8 / often)th round, from the round of its place on. In all else as `plan_with`.
 pub fn plan_at(
     alloc: Global,
     service: &Service,
@@ -110,8 +110,8 @@ pub fn plan_at(
     }
 }
 
-/// The cycle that carries a service to these receivers, each page at its place of `spread_places`, so that the eight rounds are of like
-/// length: a page that is sent more often than another comes as much sooner. Else as `plan_with`, with the same bound.
+/// A cycle that carries a service to these receivers, with each page at its place of `spread_places`, meant to make the eight rounds
+/// similar in length. In all else as `plan_with`, with the bound for these places.
 pub fn plan_spread(
     alloc: Global,
     service: &Service,
@@ -136,10 +136,11 @@ fn first_places(service: &Service)
     let _pages = service.pages();
 }
 
-/// The cycle that carries a service to these receivers: to those that surely clear a page no blank row and no empty X/27/0 is
-/// sent; and where pages are shown late, a time-filling header stands between two headers of a magazine that have one page number.
-/// `NoPages` where the service has no pages. `TooLong` where twice the slots of all blocks (each with an empty field) and
-/// time-filling headers, and two fields more, are above 65,536. Both are told before any memory is taken.
+/// A cycle that carries a service to these receivers. Blank rows and empty X/27/0 are not sent to receivers that surely clear a page. For
+/// receivers that show pages late, a time-filling header is sent between two headers of a magazine with the same page number.
+///
+/// `NoPages` if the service has no pages. `TooLong` if twice the slots of all blocks (each with an empty field) and time-filling headers,
+/// plus two fields, is more than 65,536. Both are decided before any memory is allocated.
 pub fn plan_with(alloc: Global, service: &Service, receivers: Receivers) -> Result<Cycle, PlanFault>
     ensures carries { IfOk result (λ cycle. Carries receivers.late receivers.class service.now (slots_of cycle)) }
     ensures planned { IfOk result (λ cycle. IsPlanned receivers.late receivers.class service.now (slots_of cycle)) }
@@ -153,7 +154,7 @@ pub fn plan_with(alloc: Global, service: &Service, receivers: Receivers) -> Resu
     plan_at(alloc, service, receivers, &[])
 }
 
-/// The cycle that carries a service to receivers of a class: `plan_with`, and pages aren't shown late.
+/// A cycle that carries a service to receivers of a class that do not show pages late: `plan_with`.
 pub fn plan_for(alloc: Global, service: &Service, class: Class) -> Result<Cycle, PlanFault>
     ensures carries { IfOk result (λ cycle. Carries false class service.now (slots_of cycle)) }
     ensures planned { IfOk result (λ cycle. IsPlanned false class service.now (slots_of cycle)) }

@@ -1,4 +1,4 @@
-//! What is known of a service and of the cycle that carries it, from the types of their parts. Nothing is done to them.
+//! What the types of its parts say about a service and the cycle that carries it. These functions do nothing at run time.
 
 ghost use Rattle.ttx_cycle.specs.Cycles.{slots_of};
 ghost use Rattle.ttx_plan.specs.Acceptance.{IsPlanned};
@@ -10,7 +10,7 @@ use crate::asked::Receivers;
 use ttx_cycle::Cycle;
 use ttx_source::Service;
 
-// Packet 8/30 is in its ranges.
+// The fields of packet 8/30 are in their ranges.
 fn is_said(service: &Service)
     ensures { IsSaid service.now.info }
 {
@@ -20,7 +20,7 @@ fn is_said(service: &Service)
     }
 }
 
-/// A cycle that carries a service, each page at a place in range, is a planned one.
+/// A cycle that carries a service, with each page at a place in range, is a planned one.
 pub fn is_planned(receivers: Receivers, service: &Service, places: &[usize], cycle: &Cycle)
     requires places { ArePlaces places.now service.now.pages }
     requires carries { CarriesAt places.now receivers.late receivers.class service.now (slots_of cycle.now) }

@@ -1,4 +1,4 @@
-//! The order of blocks, and the magazine queues that they make.
+//! The order of blocks, and the magazine queues made from them.
 
 ghost use Rattle.std.specs.Prelude.{◌≡◌, ◌++◌, ◌<◌, ◌==◌, false, map, IfOk};
 ghost use Rattle.std.specs.List.{list_any};
@@ -12,16 +12,16 @@ use crate::packet::{Kind, Packet};
 use std::alloc::{AllocError, Global};
 use ttx_header::time_fill;
 
-/// A block as it is sent.
+/// A transmission of a block.
 #[derive(Clone, Copy)]
 pub struct SentBlock<'a> {
-    /// Whether a time-filling header of the magazine goes before it.
+    /// Whether a time-filling header of its magazine is sent before it.
     pub filler: bool,
     pub block: &'a PageBlock,
 }
 
-/// The blocks in the order of sending, over eight rounds, each from the round of its place on. For receivers that show a page late a
-/// time-filling header goes before each block whose page number its magazine's latest header has.
+/// The blocks in the order of sending, over eight rounds, each from the round of its place on. For receivers that show a page late, a
+/// time-filling header is sent before each block with the same page number as the latest header of its magazine.
 pub fn sent_blocks<'a>(
     alloc: Global,
     late: bool,
@@ -60,7 +60,7 @@ pub fn time_filling(queue: usize, serial: bool) -> Packet
     }
 }
 
-// Puts the packets of a block's page behind the others.
+// Appends the packets of a block's page.
 fn push_page(packets: &mut Vec<Packet>, block: &PageBlock) -> Result<(), AllocError>
     ensures { IfOk result (λ _. packets.new.items ≡ packets.old.items ++ page_packets (seen block.now)) }
 {
@@ -77,7 +77,7 @@ fn push_page(packets: &mut Vec<Packet>, block: &PageBlock) -> Result<(), AllocEr
     Ok(())
 }
 
-// Puts the packets of a block behind the others.
+// Appends the packets of a block.
 fn push_block(packets: &mut Vec<Packet>, sent: &SentBlock) -> Result<(), AllocError>
     ensures { IfOk result (λ _. packets.new.items ≡ packets.old.items ++ packets_of false (seen_sent sent.now)) }
 {
@@ -87,7 +87,7 @@ fn push_block(packets: &mut Vec<Packet>, sent: &SentBlock) -> Result<(), AllocEr
     push_page(packets, sent.block)
 }
 
-// A magazine's packets.
+// The packets of a queue.
 fn queue_packets(alloc: Global, sent: &[SentBlock], queue: usize) -> Result<Vec<Packet>, AllocError>
     requires queue { queue < 8 }
     ensures { IfOk result (λ packets. packets.items ≡ queue_packets false (map seen_sent sent.now) queue) }
@@ -104,7 +104,7 @@ fn queue_packets(alloc: Global, sent: &[SentBlock], queue: usize) -> Result<Vec<
     Ok(packets)
 }
 
-/// The packets of the eight magazines.
+/// The packets of the eight magazine queues. `Err` if memory runs out.
 pub fn queues(alloc: Global, sent: &[SentBlock]) -> Result<Vec<Vec<Packet>>, AllocError>
     ensures { IfOk result (λ queues. lists_of queues.items ≡ queues_to (map seen_sent sent.now) 8) }
 {

@@ -12,7 +12,7 @@ use crate::packet::{Kind, Packet, Slot};
 use crate::rounds::{SentBlock, has_pages, time_filling};
 use std::alloc::{AllocError, Global};
 
-// Puts packet 8/30 behind the others where it is due.
+// Appends packet 8/30 if it is due.
 fn put_info(
     slots: &mut Vec<[u8; 42]>,
     lines: usize,
@@ -29,7 +29,7 @@ fn put_info(
     Ok(())
 }
 
-// Puts a slot behind the others, and packet 8/30 before it where it is due.
+// Appends a slot, and packet 8/30 before it if that is due.
 fn put(
     slots: &mut Vec<[u8; 42]>,
     lines: usize,
@@ -44,7 +44,7 @@ fn put(
     Ok(())
 }
 
-// Puts a block's page behind the others: its page header, an empty field, its rows and X/27/0.
+// Appends a block's page: its page header, an empty field, its rows and X/27/0.
 fn put_page(
     slots: &mut Vec<[u8; 42]>,
     lines: usize,
@@ -73,7 +73,7 @@ fn put_page(
     Ok(())
 }
 
-// Puts a block behind the others, after its time-filling header if it has one.
+// Appends a block, after its time-filling header if it has one.
 fn put_block(
     slots: &mut Vec<[u8; 42]>,
     lines: usize,
@@ -96,7 +96,7 @@ fn put_block(
     put_page(slots, lines, info, sent.block)
 }
 
-/// The slots up to the last time-filling header.
+/// The slots up to the last time-filling header. `Err` if memory runs out.
 pub fn serial_slots(
     alloc: Global,
     sent: &[SentBlock],

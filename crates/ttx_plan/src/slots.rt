@@ -1,11 +1,11 @@
-//! Slots put behind one another.
+//! Empty slots.
 
 ghost use Rattle.std.specs.Prelude.{◌≡◌, ◌≤◌, ◌++◌, replicate, length, IfOk};
 ghost use Rattle.ttx_plan.specs.Turns.{missing};
 
 use std::alloc::AllocError;
 
-/// Puts empty slots behind the others, up to a whole field.
+/// Appends empty slots up to the end of a field.
 pub fn fill(slots: &mut Vec<[u8; 42]>, lines: usize) -> Result<(), AllocError>
     requires { (1 ≤ lines) × (lines ≤ 32) }
     ensures { IfOk result (λ _. slots.new.items ≡ slots.old.items ++ replicate (missing lines (length slots.old.items)) (replicate 42 0)) }

@@ -1,4 +1,4 @@
-//! Places among the rounds at which the rounds are of like length.
+//! Places of pages among the rounds that make the rounds similar in length.
 
 ghost use Rattle.std.specs.Prelude.{◌≡◌, ℕ, ◌+◌, ◌/◌, ◌%◌, ◌^◌, ◌<◌, ◌≤◌, ◌==◌, if◌then◌else◌, length, slice_index};
 ghost use Rattle.ttx_plan.specs.Blocks.{placed};
@@ -12,7 +12,7 @@ use crate::bounds::times;
 use ttx_page::Class;
 use ttx_source::Service;
 
-// The first of so many rounds that has the fewest packets.
+// The first of the first `count` rounds with the fewest packets.
 fn first_least(packets: &[usize], count: usize) -> usize
     requires some { 1 ≤ count }
     requires few { count ≤ length packets.now }
@@ -27,7 +27,7 @@ fn first_least(packets: &[usize], count: usize) -> usize
     least
 }
 
-// Adds the packets of a block to those of the rounds that it stands in.
+// Adds the packets of a block to the rounds in which it is sent.
 fn add_packets(packets: &mut [usize], period: usize, place: usize, count: usize)
     requires some { 1 ≤ period }
     requires few { count ≤ 26 }
@@ -42,7 +42,7 @@ fn add_packets(packets: &mut [usize], period: usize, place: usize, count: usize)
     }
 }
 
-// Gives each page that is sent so often its place, behind those that are sent more often.
+// Gives a place to each page that is sent `often` times, after those that are sent more often.
 fn place_pages(
     service: &Service,
     class: Class,
@@ -74,17 +74,17 @@ fn place_pages(
     }
 }
 
-// A place for each page that a service may have.
+// Place 0 for each page that a service may have.
 fn no_places() -> [usize; 2000]
     ensures { length result ≡ 2000 }
 {
     [0; 2000]
 }
 
-/// The place of each page of the service among the rounds, by its index, at which the rounds are of like length for receivers of the
-/// class. Pages take their places one after another, those that are sent most often first, and of those that are sent as often in authored
-/// order: each takes the first place whose rounds have the fewest packets so far. The packets of a page are its page header, the rows that
-/// are sent and X/27/0. No memory is taken.
+/// The place of each page of the service among the eight rounds, by its index, for receivers of the class. These places make the rounds
+/// similar in length. Pages take their places one after another, those that are sent most often first, and equal ones in authored order.
+/// Each takes the first place whose rounds have the fewest packets so far. The packets of a page are its page header, the rows that are
+/// sent and X/27/0. Allocates no memory.
 pub fn spread_places(service: &Service, class: Class) -> [usize; 2000]
     ensures spread { IsSpread (placed result (blocks_of class service.now.pages)) }
     ensures places { ArePlaces result service.now.pages }
