@@ -25,7 +25,7 @@ accepted_is_carried laws cycle pages w is_cycle are_pages is_certificate accepts
   brought = A.brought laws cycle pages w is_cycle are_pages is_certificate accepts n p here tau;
 }
 
--- s below slot start, t from it on
+-- s before slot start, t from it on
 module _ (start : ℤ) (s t : Stream) where
   picked : (i : ℤ) → (i <ℤ start) ⊎ (start ≤ℤ i) → List ℕ
   picked i (inl low) = s i
@@ -52,7 +52,7 @@ module _ (start : ℤ) (s t : Stream) where
   unfolding started
   started_high i le = picked_high i (cases_ltz i start) le
 
-  -- where s is t from slot start on, up to now
+  -- if s is t from slot start on, up to now
   pub started_is : (now : ℤ) → ((i : ℤ) → start ≤ℤ i → i <ℤ now → s i ≡ t i) → (i : ℤ) → i <ℤ now → s i ≡ started i
   started_is now same i lt = elim (cases_ltz i start) as (λ _. s i ≡ started i) [
     | inl low ↦ sym (started_low i low)

@@ -1,4 +1,4 @@
--- What a stream brings and carries of a page; where another stream is the same, it brings and carries the same.
+-- What a stream brings and carries of a page; another stream that is the same there brings and carries the same.
 use Rattle.std.proofs.Common.{◌≡◌, ℕ, ℤ, pos, ◌+ℤ◌, ◌-ℤ◌, ◌≤ℤ◌, sym, ap, ◌∙◌, subst, inl, inr, arith}
 use Rattle.std.proofs.lemmas.Int.{ints}
 use Rattle.ttx_packet.specs.Slots.{IsSlot, is_clean}
@@ -31,7 +31,7 @@ agreeing_streams_bring laws s t d begin end same p class lines repeat item b =
           is_header = ap (λ x. heads_page p.id (packet_of x)) (same a.slot a.not_before a.before) ∙ a.is_header;
         }
 
--- t is s from slot begin on, d slots on
+-- from slot begin on, t is s moved by d slots
 module _ (laws : OwnerLaws) (s t : Stream) (d begin : ℤ) (same : (i : ℤ) → begin ≤ℤ i → t (i +ℤ d) ≡ s i) where
   here : (i : ℤ) → (begin +ℤ d) ≤ℤ i → t i ≡ s (i -ℤ d)
   here i le = let e : i ≡ (i -ℤ d) +ℤ d = omega (arith, ints) in ap t e ∙ same (i -ℤ d) (omega (arith, ints))

@@ -102,7 +102,7 @@ module _ (named : ℤ → Bool) (k : ℕ) where
         ∙ filter_no (run_of (take (suc k) (t ∷ ts))) (map run_of (windows (suc k) ts)) (sym (counts_long t ts ge) ∙ e)
   ]
 
--- where a run ends
+-- the end of a run
 pub end_is : (k : ℕ) (t : Transmission) (ts : List Transmission) (d : Transmission) → suc k ≤ length (t ∷ ts) →
     last_slot t.slot (take k ts) ≡ (get_or (t ∷ ts) k d).slot
 end_is zero t ts d le = refl
@@ -121,7 +121,7 @@ counts_at named k sent at d lt le here =
     (counts_long named k (get_or sent at d) (drop (at + 1) sent) (omega arith)
     ∙ ap (λ x. x && list_all (λ t. t.sure) (take (suc k) (get_or sent at d ∷ drop (at + 1) sent))) here)
 
--- the owner of the run before takes its place
+-- the owner of the previous run is replaced
 pub follow_in : (limit : ℕ) (r : Run) (rs : List Run) → FollowInTime limit r rs ↔ FollowsAfter limit (Some r.owner) rs
 follow_in limit r [] = (λ a. a, λ a. a)
 follow_in limit r (q ∷ rs) = (λ a. a, λ a. a)
@@ -142,7 +142,7 @@ pub follow_end : (limit : ℕ) (previous : Option ℤ) → FollowsAfter limit pr
 follow_end limit None = tt
 follow_end limit (Some owner) = tt
 
--- one more place is done: the run that begins there counts and isn't late, or it doesn't count
+-- after one more place: the run that begins there counts and is not late, or it does not count
 module _ (named : ℤ → Bool) (k limit : ℕ) (sent : List Transmission) (at : ℕ) (d : Transmission) (lt : at < length sent) where
   left_is : drop at sent ≡ get_or sent at d ∷ drop (at + 1) sent
   left_is = drop_more sent at d lt
@@ -187,6 +187,6 @@ pub no_run : (named : ℤ → Bool) (k limit : ℕ) (previous : Option ℤ) → 
 unfolding windows
 no_run named k limit previous = follow_end limit previous
 
--- what stands past the end of a list
+-- what is past the end of a list
 abbrev pub nothing : Transmission
 nothing = record { slot = pos 0; owner = pos 0; sure = false }

@@ -7,7 +7,7 @@ use Rattle.ttx_page.specs.Memories.{Memory, IsMemory}
 use Rattle.ttx_page.specs.Receivers.{Run}
 use Rattle.ttx_receiver.specs.Laws.{StepsKeepMemories}
 
--- after the first n slots a receiver has some memory, from which it goes on
+-- after the first n slots a receiver has some memory, and continues from it
 pub record GoesOn (class : Class) (lines : ℕ) (sel : Selection) (rest : List (List ℕ)) (m : Memory) : Type 0 where
   pub mid : Memory
   pub is_memory : IsMemory mid

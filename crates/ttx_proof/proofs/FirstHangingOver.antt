@@ -1,4 +1,4 @@
--- The first slot that hangs over and isn't the page's.
+-- The first slot that hangs over and differs from the page.
 use Rattle.std.proofs.Common.{◌≡◌, ℕ, ◌+◌, ◌<◌, ◌≤◌, ℤ, pos, negsuc, ◌<ℤ◌, ◌≤ℤ◌, true, false, List, [], length, get_or, ◌==◌, sym, ap, ◌∙◌, subst}
 use Rattle.std.proofs.Common.{inl, inr, arith, eqb-true, mod-eq_of_lt}
 use Rattle.std.proofs.lemmas.Int.{ints}
@@ -39,12 +39,12 @@ no_header_carries mag TheLinks Unreadable h e = cc
 no_header_carries mag TheLinks Info h e = cc
 no_header_carries mag TheLinks Other h e = cc
 
--- a row carries itself alone
+-- a row carries only itself
 its_row : (mag r m n : ℕ) (text : List ℕ) (packet : Packet) → packet ≡ Row m n text → carries mag (TheRow r) packet ≡ true → r ≡ n
 its_row mag r m n text packet e h = let k : carries mag (TheRow r) (Row m n text) ≡ true =
     subst (λ x. carries mag (TheRow r) x ≡ true) e h in sym (eqb-true n r ((and_parts (m == mag) _ k).1))
 
--- what isn't a row carries none
+-- what is not a row carries none
 no_row : (mag r : ℕ) (packet : Packet) → HoldsNoRow packet → carries mag (TheRow r) packet ≡ true → ⊥
 no_row mag r (Row m n text) h e = absurd h
 no_row mag r (Header id control text) h e = cc
@@ -54,7 +54,7 @@ no_row mag r Unreadable h e = cc
 no_row mag r Info h e = cc
 no_row mag r Other h e = cc
 
--- a slot that is a row is wrong by this row, if its links aren't
+-- a slot that is a row is wrong by this row, unless by its links
 pub only_row : (p : Page) (slot : List ℕ) (m n : ℕ) (text : List ℕ) → packet_of slot ≡ Row m n text → (IsWrongAs p slot TheLinks → ⊥) →
     IsWrongSlot p slot → IsWrongAs p slot (TheRow n)
 only_row p slot m n text e links w = go w.0 w.1
@@ -64,7 +64,7 @@ only_row p slot m n text e links w = go w.0 w.1
     go (TheRow r) v = subst (λ x. IsWrongAs p slot (TheRow x)) (its_row p.id.mag r m n text (packet_of slot) e v.1) v
     go TheLinks v = absurd (links v)
 
--- and one that isn't, by its links
+-- and one that is not a row, by its links
 pub only_links : (p : Page) (slot : List ℕ) → HoldsNoRow (packet_of slot) → (IsWrongAs p slot TheLinks → ⊥) → IsWrongSlot p slot → ⊥
 only_links p slot none links w = go w.0 w.1
   where

@@ -22,7 +22,7 @@ use Rattle.ttx_proof.proofs.NamedStarts.{same_more}
 use Rattle.ttx_proof.proofs.StreamsOfSides as J
 use Rattle.ttx_proof.proofs.StreamsOfSides.{StreamLaws}
 
--- lists of what lies between two slots
+-- lists of what is between two slots
 module _ (P : ℤ → Type 0) (Is : Transmission → Type 0) where
   lists_lower : (low mid high : ℤ) (bs : List Transmission) → low ≤ℤ mid → mid ≤ℤ high → ((x : ℤ) → low ≤ℤ x → x <ℤ mid → P x → ⊥) →
       Lists slot_of P Is mid high bs → Lists slot_of P Is low high bs
@@ -74,7 +74,7 @@ module _ (laws : StreamLaws) (near : OwnersAreNear) (again : CyclesRepeat) (c : 
   abbrev Told : Stream → Transmission → Type 0
   Told s = Tells (IsOwned s page item) (IsSure s lines page.mag item)
 
-  -- the same, some slots on
+  -- the same, some slots later
   told_moved : (s : Stream) (d : ℤ) → IsSameOn s d → (t : Transmission) → Told s t → Told s (shifted d t)
   told_moved s d same t a =
       let m = laws.move s d same in
@@ -143,7 +143,7 @@ module _ (laws : StreamLaws) (near : OwnersAreNear) (again : CyclesRepeat) (c : 
       of_page Info h = cc
       of_page Other h = cc
 
-  -- behind the first new period no slot belongs to an old header
+  -- after the first new period no slot belongs to an old header
   owner_above : (item : Item) (h j : ℤ) → pos (length c.new) ≤ℤ j → IsOwned (stream c) page item h j → pos 0 ≤ℤ h
   owner_above TheHead h j le a = let e = a.0 in omega (arith, ints)
   owner_above (TheRow r) h j le a = elim (cases_ltz h (pos 0)) as (λ _. pos 0 ≤ℤ h) [

@@ -1,4 +1,4 @@
--- The latest header before slot 0, looked for backwards.
+-- The latest header before slot 0, searched backwards.
 use Rattle.std.proofs.Common.{◌≡◌, ◌↔◌, ℕ, ◌-◌, ◌<◌, ℤ, pos, negsuc, ◌<ℤ◌, Bool, true, false, List, [], length, get_or, sym, ap, ◌∙◌, subst, inl, inr}
 use Rattle.std.proofs.Common.{arith, mod-eq_of_lt}
 use Rattle.std.proofs.lemmas.Int.{ints}
@@ -20,14 +20,14 @@ latest_same s mag h k j a b = elim (cases_ltz h k) as (λ _. h ≡ k) [
 ]
 
 module _ (cycle : List (List ℕ)) (mag : ℕ) where
-  -- the slot so many places before slot 0
+  -- the slot a number of places before slot 0
   pub back_is : (back : ℕ) → back < length cycle → repeated cycle (negsuc back) ≡ get_or cycle (length cycle - 1 - back) []
   back_is back lt = ap (λ m. get_or cycle (length cycle - 1 - m) []) (mod-eq_of_lt lt)
 
   abbrev NoneSince : ℕ → Type 0
   NoneSince back = (i : ℕ) → i < back → heads mag (packet_of (get_or cycle (length cycle - 1 - i) [])) ≡ false
 
-  -- the first header that is met is the latest
+  -- the first header found is the latest
   pub latest_at : (back : ℕ) → back < length cycle → heads mag (packet_of (get_or cycle (length cycle - 1 - back) [])) ≡ true →
       NoneSince back → IsLatestHeader (repeated cycle) mag (negsuc back) (pos 0)
   latest_at back lt here none = record {
@@ -40,7 +40,7 @@ module _ (cycle : List (List ℕ)) (mag : ℕ) where
       between (pos i) a b = absurd (omega (arith, ints))
       between (negsuc i) a b = let le : i < back = omega (arith, ints) in ap (λ x. heads mag (packet_of x)) (back_is i (omega arith)) ∙ none i le
 
-  -- and where none is met there is none
+  -- if none is found there is none
   pub none_met : EachSlotTurns → 0 < length cycle → NoneSince (length cycle) → (h : ℤ) → IsLatestHeader (repeated cycle) mag h (pos 0) → ⊥
   none_met turn some none h l =
       let inside = (turn (length cycle) h some).inside in
@@ -48,7 +48,7 @@ module _ (cycle : List (List ℕ)) (mag : ℕ) where
       let e : length cycle - 1 - (length cycle - 1 - at) ≡ at = omega arith in
       both_ways _ (ap (λ m. heads mag (packet_of (get_or cycle m []))) (sym e) ∙ none (length cycle - 1 - at) (omega arith)) l.is_header
 
--- the latest header tells to which page a magazine is left
+-- the latest header decides to which page a magazine is left
 pub left_by : (cycle : List (List ℕ)) (page : Id) (h : ℤ) → IsLatestHeader (repeated cycle) page.mag h (pos 0) → (answer : Bool) →
     answer ≡ heads_page page (packet_of (repeated cycle h)) →
     (answer ≡ true) ↔ IsLeftTo (repeated cycle) page

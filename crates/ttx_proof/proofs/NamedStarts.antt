@@ -1,4 +1,4 @@
--- Named starts: the test, and what it says some periods on.
+-- Named starts: the test, and the same test some periods later.
 use Rattle.std.proofs.Common.{◌≡◌, ◌⊎◌, ◌↔◌, ℕ, zero, suc, ◌+◌, ◌-◌, ◌*◌, ◌%◌, ◌<◌, ℤ, pos, negsuc, ◌+ℤ◌, ◌-ℤ◌, ◌<ℤ◌, ◌≤ℤ◌, Bool, true, false, ◌||◌}
 use Rattle.std.proofs.Common.{◌==◌, List, [], ◌∷◌, length, get_or, refl, sym, ap, ◌∙◌, subst, inl, inr, arith, eq-eqb, eqb-true, mod-eq_of_lt}
 use Rattle.std.specs.List.{Contains}

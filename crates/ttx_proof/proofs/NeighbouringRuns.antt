@@ -1,4 +1,4 @@
--- Every tuning slot is served exactly where the runs that count in a part of the stream follow one another in time.
+-- Every tuning slot is served if and only if the runs that count in a part of the stream follow one another in time.
 use Rattle.std.proofs.Common.{◌≡◌, ◌↔◌, ℕ, suc, ℤ, pos, ◌+ℤ◌, ◌<ℤ◌, ◌≤ℤ◌, Bool, List, [], ◌∷◌, length, inl, inr, arith}
 use Rattle.std.specs.List.{AllByRecursion}
 use Rattle.std.proofs.lemmas.Int.{ints}
@@ -11,7 +11,7 @@ use Rattle.ttx_proof.specs.Bridging.{counted, AllFollow}
 use Rattle.ttx_proof.proofs.RunsInWindows as W
 use Rattle.ttx_proof.proofs.RunsInWindows.{Counting}
 
--- owners don't fall, and there is one a slot
+-- owners do not fall, and a slot has one
 pub record IsOrdered (Owned : ℤ → ℤ → Type 0) : Type 0 where
   pub one_owner : (h k j : ℤ) → Owned h j → Owned k j → h ≡ k
   pub order : (h k i j : ℤ) → i ≤ℤ j → Owned h i → Owned k j → h ≤ℤ k
@@ -25,7 +25,7 @@ pub record IsServed (Owned Sure : ℤ → ℤ → Type 0) (k limit : ℕ) (named
   pub not_before : tau ≤ℤ owner
   pub ends : RunEndsBelow Owned k start (tau +ℤ pos limit)
 
--- a run that counts, from slot low to below slot high
+-- a run that counts, between slot low and slot high
 pub record IsInside (Owned Sure : ℤ → ℤ → Type 0) (k : ℕ) (named : ℤ → Bool) (low high : ℤ) : Type 0 where
   pub start : ℤ
   pub owner : ℤ
@@ -64,7 +64,7 @@ module _ (Owned Sure : ℤ → ℤ → Type 0) (k limit : ℕ) (named : ℤ → 
     ends = (a.run.ends (tau +ℤ pos limit)).0 lt;
   }
 
-  -- the first of the list isn't behind a run inside, and the last isn't before it
+  -- the first of the list is not after a run inside, and the last is not before it
   first_low : (from : ℤ) (r : Run) (rs : List Run) → AreListed from (r ∷ rs) → (x h : ℤ) → from ≤ℤ x → x <ℤ high → Here x → Owned h x → r.owner ≤ℤ h
   first_low from r rs l x h a b here owned = elim (cases_ltz x r.start) as (λ _. r.owner ≤ℤ h) [
     | inl lt ↦ absurd (l.3 x a lt here)
@@ -74,7 +74,7 @@ module _ (Owned Sure : ℤ → ℤ → Type 0) (k limit : ℕ) (named : ℤ → 
   starts_below : (a : Inside) → a.start <ℤ high
   starts_below a = a.ends.ends.0
 
-  -- behind the owner of a run of the list each slot is served by the next run, and behind the last one without it
+  -- after the owner of a run of the list each slot is served by the next run; after the last one even without the list
   from_run : (last : Inside) → ((tau : ℤ) → last.owner <ℤ tau → Served tau) → (from : ℤ) (r : Run) (rs : List Run) →
       AreListed from (r ∷ rs) → FollowInTime limit r rs →
       (tau : ℤ) → r.owner <ℤ tau → Served tau
@@ -118,7 +118,7 @@ module _ (Owned Sure : ℤ → ℤ → Type 0) (k limit : ℕ) (named : ℤ → 
     ends = let c = x.run.count in let d = y.run.count in ends_rise i j e x.rest y.rest (omega arith) le x.run.successive y.run.successive y.ends;
   }
 
-  -- where the next run comes too late, the slot after the owner isn't served
+  -- if the next run comes too late, the slot after the owner is not served
   unserved : (r q : Run) → Counted r → Counted q → ((x : ℤ) → r.start <ℤ x → x <ℤ q.start → Here x → ⊥) →
       (r.owner +ℤ pos limit) <ℤ q.end → Served (r.owner +ℤ pos 1) → ⊥
   unserved r q a b none late t =

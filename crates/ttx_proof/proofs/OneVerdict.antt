@@ -1,4 +1,4 @@
--- One verdict on a splice is right.
+-- At most one verdict on a splice is right.
 use Rattle.std.proofs.Common.{◌≡◌, ℕ, ◌<◌, slice_get, Some, refl, ap, subst, inl, inr, arith}
 use Rattle.std.proofs.lemmas.Bool.{cases_lt}
 use Rattle.ttx_page.specs.Pages.{Page}
@@ -17,7 +17,7 @@ use Rattle.ttx_proof.specs.declared.verdict.SpliceReason.TheVariants.{Old, New, 
 use Rattle.ttx_proof.specs.declared.verdict.SpliceVerdict.TheVariants.{Yes, No}
 use Rattle.ttx_certify.proofs.ItemByItem.{one_item}
 
--- two numbers, neither of which is below the other
+-- two numbers, neither of them smaller
 one_number : (a b : ℕ) → (a < b → ⊥) → (b < a → ⊥) → a ≡ b
 one_number a b f g = elim (cases_lt a b) as (λ _. a ≡ b) [
   | inl lt ↦ absurd (f lt)
@@ -25,7 +25,7 @@ one_number a b f g = elim (cases_lt a b) as (λ _. a ≡ b) [
 ]
 
 module _ (c : Splice) where
-  -- two first common pages are one
+  -- two first common pages are the same
   one_page : (P : Page → Type 0) (p q : Page) → IsFirstCommon c P p → IsFirstCommon c P q → p ≡ q
   one_page P p q a b =
       let same = one_number a.index b.index (λ lt. b.none_before a.index p lt a.place a.common a.here)

@@ -1,4 +1,4 @@
--- Pages in their places in the two lists.
+-- Pages at their places in the two lists.
 use Rattle.std.proofs.Common.{◌≡◌, ℕ, zero, suc, ◌+◌, ◌<◌, ◌≤◌, List, [], ◌∷◌, length, map, slice_get, true, Option, Some, None, Result, Ok, Err}
 use Rattle.std.proofs.Common.{IfOk, refl, sym, ap, ◌∙◌, subst, inl, inr, arith, eqb-true, eq-eqb}
 use Rattle.std.specs.List.{Contains}
@@ -39,7 +39,7 @@ pub late_told : (c : Splice) (p : Page) → IsCommon c p → (o : Option Item) �
 late_told c p common None h = λ _. h
 late_told c p common (Some item) h = (common, h)
 
--- Q is true of each common page before the place
+-- Q holds for each common page before the place
 abbrev pub AllBefore : Splice → (Page → Type 0) → ℕ → Type 0
 AllBefore c Q index = (i : ℕ) (q : Page) → i < index → slice_get c.new_pages i ≡ Some q → IsCommon c q → Q q
 
@@ -70,7 +70,7 @@ module _ (c : Splice) (Q : Page → Type 0) (index : ℕ) where
       let a = place_of c.new_pages p common.1 in
       all a.0 p (let lt = slice_get_within c.new_pages a.0 p a.1 in omega arith) a.1 common
 
--- the id of a page in its place
+-- the id of a page at its place
 pub id_there : (pages : List PageValue) (i : ℕ) (p : Page) → slice_get (map page_of pages) i ≡ Some p → slice_get (ids_of pages) i ≡ Some p.id
 id_there [] i p e = cc
 id_there (x ∷ xs) zero p e = let same : page_of x ≡ p = cc in ap (λ q. Some q.id) same
@@ -83,7 +83,7 @@ is_there : (i : ℕ) (answer : Option ℕ) → is_page i answer ≡ true → ans
 is_there i None e = cc
 is_there i (Some j) e = ap Some (eqb-true j i e)
 
--- what an index says of the id of a page of the list
+-- what an index answers for the id of a page of the list
 found : (pages : List PageValue) (p : Page) (answer : Option ℕ) → Finds (ids_of pages) p.id answer → Contains (map page_of pages) p →
     (i : ℕ) × (answer ≡ Some i) × (slice_get (map page_of pages) i ≡ Some p)
 found pages p answer f among =

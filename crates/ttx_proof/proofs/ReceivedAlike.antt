@@ -1,4 +1,4 @@
--- Where two streams are the same up to the end of a reception, what is received of one within the error rule is so received of the other.
+-- If two streams are the same up to the end of a reception, a reception of one within the error rule is one of the other.
 use Rattle.std.proofs.Common.{◌≡◌, ℕ, ℤ, pos, ◌+ℤ◌, ◌-ℤ◌, ◌<ℤ◌, ◌≤ℤ◌, List, [], ◌∷◌, length, get_or, refl, ap, ◌∙◌, subst, inl, inr, arith}
 use Rattle.std.proofs.lemmas.Int.{ints}
 use Rattle.std.specs.Prelude.{slice_index}

@@ -1,4 +1,4 @@
--- The runs of a list of transmissions that count are all runs that count between its two slots.
+-- The runs that count in a list of transmissions are all runs that count between its two slots.
 use Rattle.std.proofs.Common.{◌≡◌, ℕ, zero, suc, ◌≤◌, ℤ, pos, ◌+ℤ◌, ◌<ℤ◌, ◌≤ℤ◌, Bool, true, ◌&&◌, List, [], ◌∷◌, map, take, length, sym, subst, inl}
 use Rattle.std.proofs.Common.{inr, arith}
 use Rattle.std.specs.List.{filter, AllByRecursion}
@@ -16,7 +16,7 @@ use Rattle.ttx_witness.proofs.StreamRuns as R
 pub use Rattle.ttx_witness.proofs.Windows.{windows_yes, windows_no}
 use Rattle.ttx_proof.specs.Bridging.{counted}
 
--- a named start with an all-sure run
+-- a named start with a sure run
 abbrev pub Counting : (ℤ → ℤ → Type 0) → (ℤ → ℤ → Type 0) → ℕ → (ℤ → Bool) → ℤ → Type 0
 Counting Owned Sure k named i = (named i ≡ true) × BeginsSureRun Owned Sure k i
 
@@ -53,7 +53,7 @@ module _ (Owned Sure : ℤ → ℤ → Type 0) (one_owner : (h k j : ℤ) → Ow
   last_below (suc k) low high [] z lt l = lt
   last_below (suc k) low high (t ∷ ts) z lt l = last_below k (t.slot +ℤ pos 1) high ts t.slot l.2 l.4
 
-  -- successive transmissions between two slots aren't more than those of the list
+  -- successive transmissions between two slots are not more than those of the list
   few : (low high : ℤ) (ts : List Transmission) (xs : List ℤ) → AreSent Owned Sure low high ts → Successive Sent xs →
       AllByRecursion (λ j. low ≤ℤ j) xs → AllByRecursion (λ j. j <ℤ high) xs → length xs ≤ length ts
   few low high ts [] l s a b = omega arith
@@ -79,13 +79,13 @@ module _ (Owned Sure : ℤ → ℤ → Type 0) (one_owner : (h k j : ℤ) → Ow
       above x [] s z le = tt
       above x (y ∷ xs) s z le = (let k = s.1 in omega (arith, ints), above y xs s.3 z (let k = s.1 in omega (arith, ints)))
 
-  -- the members of a run aren't before its first
+  -- the members of a run are not before its first one
   after_first : (z : ℤ) (x : ℤ) (xs : List ℤ) → Successive Sent (x ∷ xs) → z ≤ℤ x → AllByRecursion (λ j. z ≤ℤ j) (x ∷ xs)
   after_first z x [] s le = (le, tt)
   after_first z x (y ∷ xs) s le = (le, after_first z y xs s.3 (let k = s.1 in omega (arith, ints)))
 
   module _ (named : ℤ → Bool) (k : ℕ) (high : ℤ) where
-    -- a start that counts, and whose run ends below the last slot
+    -- a start that counts, and whose run ends before the last slot
     abbrev pub Here : ℤ → Type 0
     Here x = Counting Owned Sure (suc k) named x × RunEndsBelow Owned (suc k) x high
 
@@ -102,7 +102,7 @@ module _ (Owned Sure : ℤ → ℤ → Type 0) (one_owner : (h k j : ℤ) → Ow
         first x [] s = s
         first x (y ∷ xs) s = s.0
 
-    -- nothing below the first
+    -- nothing before the first
     lower : (low mid : ℤ) (rs : List Run) → low ≤ℤ mid → mid ≤ℤ high → ((x : ℤ) → low ≤ℤ x → x <ℤ mid → Here x → ⊥) →
         Lists start_of Here IsCounted mid high rs → Lists start_of Here IsCounted low high rs
     lower low mid [] a b none l = λ x c d p. elim (cases_ltz x mid) as (λ _. ⊥) [ inl lt ↦ none x c lt p | inr ge ↦ l x ge d p ]

@@ -1,4 +1,4 @@
--- Near both ends of the walk stand runs that count: an old one that ends before slot 0, and a new one under an owner behind slot 0.
+-- Runs that count near both ends of the walk: an old one that ends before slot 0, and a new one whose owner is after slot 0.
 use Rattle.std.proofs.Common.{◌≡◌, ◌↔◌, ℕ, suc, ◌*◌, ◌≤◌, ℤ, pos, ◌+ℤ◌, ◌-ℤ◌, ◌<ℤ◌, ◌≤ℤ◌, true, List, [], ◌∷◌, length, sym, ap, ◌∙◌, subst, inl, inr}
 use Rattle.std.proofs.Common.{arith}
 use Rattle.std.specs.List.{Contains, AllByRecursion}
@@ -24,7 +24,7 @@ use Rattle.ttx_proof.proofs.BridgedIsSeen.{covered_sent, covered_of, place_of}
 use Rattle.ttx_proof.proofs.NeighbouringRuns as N
 use Rattle.ttx_proof.proofs.NeighbouringRuns.{IsOrdered, IsServed, IsInside}
 
--- the words of streams are those of transmissions that repeat
+-- definitions for streams agree with those for repeating transmissions
 module _ (s : Stream) (page : Id) (lines repeat : ℕ) (item : Item) (k : ℕ) (len : run_length repeat item ≡ k) where
   abbrev Owned : ℤ → ℤ → Type 0
   Owned = IsOwned s page item
@@ -62,7 +62,7 @@ module _ (s : Stream) (page : Id) (lines repeat : ℕ) (item : Item) (k : ℕ) (
   pub run_from : (i : ℤ) (rest : List ℤ) → R.IsRunFrom Owned k i rest → S.IsRun s page repeat item i rest
   run_from i rest r = record { count = r.count ∙ sym len; successive = successive_from (i ∷ rest) r.successive }
 
--- the members of a run of a stream of period n lie at most a period apart
+-- successive members of a run in a stream with period n are at most a period apart
 run_short : (s : Stream) (page : Id) (item : Item) (n : ℕ) → 1 ≤ n →
     ((j : ℤ) → IsTransmission s page item j → IsTransmission s page item (j +ℤ pos n)) →
     (first : ℤ) (rest : List ℤ) → AreSuccessive s page item (first ∷ rest) → (bound : ℤ) → (first +ℤ pos (length rest * n)) ≤ℤ bound →
@@ -98,7 +98,7 @@ further : (xs : List ℤ) (a b : ℤ) → a ≤ℤ b → AllByRecursion (λ j. j
 further [] a b le h = tt
 further (x ∷ xs) a b le h = (let k = h.0 in omega (arith, ints), further xs a b le h.1)
 
--- a certificate with the numbers of the other one
+-- a certificate with the numbers of another
 abbrev alike_to : Certificate → Certificate → Certificate
 alike_to w v = record { lines = w.lines; repeat = w.repeat; deadline = w.deadline; class = w.class; starts = v.starts }
 
@@ -298,7 +298,7 @@ module _ (laws : StreamLaws) (near : OwnersAreNear) (again : CyclesRepeat) (c : 
         }
       ]
 
-  -- the last anchor: a named start of the new cycle, a period behind its first place
+  -- the last anchor: a named start of the new cycle, a period after its first place
   abbrev last_start : ℤ
   last_start = pos new.named.0 +ℤ pos (length c.new)
 
@@ -348,7 +348,7 @@ module _ (laws : StreamLaws) (near : OwnersAreNear) (again : CyclesRepeat) (c : 
       last_high : (last_start +ℤ pos (k * length c.new)) <ℤ high c k
       last_high = let lt = (new.sure new.named.0 new.named.1).0 in omega (arith, ints)
 
-  -- behind its owner each slot is served by the new cycle
+  -- after its owner each slot is served by the new cycle
   pub last_serves : (tau : ℤ) → last_anchor.owner <ℤ tau → Served tau
   unfolding last_anchor
   last_serves tau lt =

@@ -1,4 +1,4 @@
--- Of each splice some verdict is right.
+-- For each splice some verdict is right.
 use Rattle.std.proofs.Common.{◌≡◌, ◌⊎◌, ℕ, zero, suc, ◌+◌, ◌-◌, ◌<◌, ◌≤◌, pos, negsuc, ◌≤ℤ◌, ◌+ℤ◌, true, false, Bool, List, [], ◌∷◌, length, get_or}
 use Rattle.std.proofs.Common.{slice_get, Option, Some, None, refl, ap, subst, inl, inr, arith}
 use Rattle.std.specs.List.{Contains}
@@ -47,7 +47,7 @@ use Rattle.ttx_proof.proofs.PlacesOfPages.{contains_at}
 use Rattle.ttx_proof.proofs.SeamAnswers.{seam_told, no_seam_told}
 use Rattle.ttx_proof.proofs.BridgedIsSeen.{place_of}
 
--- ---- pages and lists of pages
+-- pages and lists of pages
 
 same_page : (a b : Page) → Decided (a ≡ b)
 same_page a b =
@@ -78,11 +78,11 @@ page_there (x ∷ xs) (suc i) lt = page_there xs i (omega arith)
 is_common : (c : Splice) (p : Page) → Decided (IsCommon c p)
 is_common c p = both (holds c.old_pages p) (holds c.new_pages p)
 
--- such a page stands in a place of the new list
+-- such a page is at a place of the new list
 abbrev IsAt : Splice → (Page → Type 0) → ℕ → Type 0
 IsAt c P i = (p : Page) × (slice_get c.new_pages i ≡ Some p) × (IsCommon c p × P p)
 
--- the first common page of which something is true, or there is none
+-- the first common page with a property, or there is none
 some_common : (c : Splice) (P : Page → Type 0) → ((p : Page) → Decided (IsCommon c p × P p)) → ((p : Page) × IsFirstCommon c P p)
     ⊎ ((p : Page) → IsCommon c p → P p → ⊥)
 some_common c P each = let r = least_below (IsAt c P) (length c.new_pages) decide in told r.0 r.1
@@ -109,7 +109,7 @@ some_common c P each = let r = least_below (IsAt c P) (length c.new_pages) decid
     told None none = inr (λ p common h. let at = place_of c.new_pages p common.1
         in none at.0 (slice_get_within c.new_pages at.0 p at.1) (p, at.1, (common, h)))
 
--- ---- seams
+-- seams
 
 true_to : (p : Page) (item : Item) (slot : List ℕ) → Decided (IsTrueTo p item slot)
 true_to p TheHead slot = head_right p (packet_of slot)
@@ -137,7 +137,7 @@ is_false : (b : Bool) → (b ≡ true → ⊥) → b ≡ false
 is_false false h = refl
 is_false true h = absurd (h refl)
 
--- a header of the magazine so many slots before the last one
+-- a header of the magazine a number of slots before the last one
 abbrev IsBack : List (List ℕ) → ℕ → ℕ → Type 0
 IsBack cycle mag back = heads mag (packet_of (get_or cycle (length cycle - 1 - back) [])) ≡ true
 
@@ -153,11 +153,11 @@ is_left turn cycle some page = let r = least_below (IsBack cycle page.mag) (leng
     told None none = let never = left_to_none cycle page (none_met cycle page.mag turn some (λ i lt. is_false _ (none i lt)))
         in inr (λ l. let h = never.1 l in cc)
 
--- a header of the magazine, or a slot that isn't the page's
+-- a header of the magazine, or a slot that differs from the page
 abbrev Ends : List (List ℕ) → Page → ℕ → Type 0
 Ends cycle p j = (heads p.id.mag (packet_of (get_or cycle j [])) ≡ true) ⊎ IsWrongSlot p (get_or cycle j [])
 
--- the first slot that hangs over and isn't the page's
+-- the first slot that hangs over and differs from the page
 first_over : EachSlotTurns → (cycle : List (List ℕ)) → 0 < length cycle → (p : Page) → (first : Option ℕ) × TellsOver (repeated cycle) p first
 first_over turn cycle some p = let r = least_below (Ends cycle p) (length cycle) (λ j lt. ends j) in told r.0 r.1
   where
@@ -183,7 +183,7 @@ first_over turn cycle some p = let r = least_below (Ends cycle p) (length cycle)
     told (Some j) f = ended_at j f.0 f.2 f.1
     told None none = (None, none_over cycle p turn some (λ i lt w. none i lt (inr w)))
 
--- ---- bridges
+-- bridges
 
 follows : (limit : ℕ) (r : Run) (rs : List Run) → Decided (FollowInTime limit r rs)
 follows limit r [] = inl tt
@@ -315,7 +315,7 @@ module _ (laws : SpliceLaws) (c : Splice) where
         seam p first (Some slot) f = (No (Seam p.id slot), (known.accepted, known.alike, (p, refl, first, f)))
         seam p first None none = absurd (none first.here)
 
-  -- ---- verdicts
+  -- verdicts
 
   are_alike : (v w : Certificate) → Decided (NumbersAgree v w)
   are_alike v w =

@@ -1,13 +1,13 @@
 -- What a stream carries of a page, and who sees it. Each law is proved by the function of its name in `laws`.
 --
---   Carries, IsCarried      from a slot on receivers of a page are sent the page alone, and each needed item comes in time
---   AgreeingStreamsBring    where two streams are the same between two slots, one of them some slots on, both bring the same
---   AgreeingStreamsCarry    where they are the same from a slot on, both carry the same pages
---   AgreeingStreamsAreReceived      where they are the same up to a slot, what is received of one may be received of the other
---   AcceptedIsCarried       an accepted cycle carries each of its pages, wherever a receiver tunes in
---   CommonIsCarried         so does an accepted splice each page that stays
+--   Carries, IsCarried      from a slot on, receivers of a page are sent only the page, and each needed item comes in time
+--   AgreeingStreamsBring    if two streams are the same between two slots, one of them some slots later, both bring the same there
+--   AgreeingStreamsCarry    if they are the same from a slot on, both carry the same pages
+--   AgreeingStreamsAreReceived      if they are the same up to a slot, a reception of one is a reception of the other
+--   AcceptedIsCarried       an accepted cycle carries each of its pages, from any tuning slot on
+--   CommonIsCarried         an accepted splice carries each page that stays
 --   IsTunedBy               from when on a receiver is tuned to the page
---   CarriedIsSeen           a page that is carried is seen, whatever was sent before it was and whatever comes later
+--   CarriedIsSeen           a page that is carried is seen, whatever was sent before and whatever comes later
 use Rattle.std.specs.Prelude.{◌≡◌, ℕ, ◌≤◌, ℤ, pos, ◌+ℤ◌, ◌<ℤ◌, ◌≤ℤ◌, true, List, length, slice_get, Some}
 use Rattle.ttx_header.specs.Ids.{Id}
 use Rattle.ttx_page.specs.Pages.{Page, IsPage, Fits, matches, needed}
@@ -27,30 +27,30 @@ use Rattle.ttx_certify.specs.Laws.{ArePages}
 use Rattle.ttx_proof.specs.Splices.{Splice, stream, IsCommon, NumbersAgree, Joins}
 use Rattle.ttx_proof.specs.Laws.{IsSplice, BothAccepted}
 
--- From slot begin on, receivers of the page are sent nothing but the page, and each item that a viewer needs comes within `limit` slots.
+-- From slot begin on, receivers of the page are sent only the page, and each item that a viewer needs comes within `limit` slots.
 pub record Carries (s : Stream) (p : Page) (sel : Selection) (class : Class) (lines repeat limit : ℕ) (begin : ℤ) : Type 0 where
   pub steady : IsSteadyFrom s p sel begin
   pub brought : (item : Item) → needed p item ≡ true → IsBrought s p class lines repeat item begin (begin +ℤ pos limit)
 
--- by the numbers of a certificate
+-- with the numbers of a certificate
 abbrev pub IsCarried : Stream → Page → Selection → Certificate → ℤ → Type 0
 IsCarried s p sel w begin = Carries s p sel w.class w.lines w.repeat (limit w) begin
 
--- t is s from slot begin on up to slot end, d slots on
+-- from slot begin to slot end, t is s moved by d slots
 abbrev pub AgreeingStreamsBring : Type 0
 AgreeingStreamsBring =
     (s t : Stream) (d begin end : ℤ) → ((i : ℤ) → begin ≤ℤ i → i <ℤ end → t (i +ℤ d) ≡ s i) →
     (p : Page) (class : Class) (lines repeat : ℕ) (item : Item) → IsBrought s p class lines repeat item begin end →
     IsBrought t p class lines repeat item (begin +ℤ d) (end +ℤ d)
 
--- t is s from slot begin on, d slots on
+-- from slot begin on, t is s moved by d slots
 abbrev pub AgreeingStreamsCarry : Type 0
 AgreeingStreamsCarry =
     (s t : Stream) (d begin : ℤ) → ((i : ℤ) → begin ≤ℤ i → t (i +ℤ d) ≡ s i) →
     (p : Page) (sel : Selection) (class : Class) (lines repeat limit : ℕ) → Carries s p sel class lines repeat limit begin →
     Carries t p sel class lines repeat limit (begin +ℤ d)
 
--- both are the same before slot end, where the reception ends or sooner
+-- both are the same before slot end, and the reception ends there or sooner
 abbrev pub AgreeingStreamsAreReceived : Type 0
 AgreeingStreamsAreReceived =
     (s t : Stream) (end : ℤ) → ((i : ℤ) → i <ℤ end → s i ≡ t i) →
@@ -69,14 +69,14 @@ CommonIsCarried =
     (p : Page) → IsCommon c p → (sel : Selection) → Fits c.old_pages p sel → Fits c.new_pages p sel →
     (tau : ℤ) → IsCarried (stream c) p sel c.new_certificate tau
 
--- Tuned at slot tau, a receiver may have heard anything before slot begin. One that is taken to clear pages is tuned at begin itself.
+-- Tuned at slot tau, a receiver may have received anything before slot begin. One that surely clears pages is tuned at begin itself.
 abbrev pub IsTunedBy : Class → ℤ → ℤ → Type 0
 IsTunedBy Any tau begin = tau ≤ℤ begin
 IsTunedBy Clearing tau begin = tau ≡ begin
 
--- From slot start on, up to now, the stream s is t, which carries the page from slot begin on. Before that s is anything: silence, or another
--- service. Once the page had its time, each receiver of s has its View: whatever it held before, and after each reception within the error
--- rule that ends by now.
+-- From slot start on, up to now, the stream s is t, which carries the page from slot begin on. Before that, s is anything: silence, or
+-- another service. Once the deadline after begin has passed, each receiver of s has the page's View: whatever it held before, and after
+-- each reception within the error rule that ends by now.
 abbrev pub CarriedIsSeen : Type 0
 CarriedIsSeen =
     (s t : Stream) (start now : ℤ) → ((i : ℤ) → start ≤ℤ i → i <ℤ now → s i ≡ t i) →

@@ -1,8 +1,8 @@
--- What a verdict on a splice is worth.
+-- What a verdict on a splice guarantees.
 --
---   VerdictsMean            Yes: the joined stream is seen; No: not Yes, whatever the reason
---   SpliceVerdictsAreOne    of a splice one verdict is right
---   SomeSpliceVerdictIsRight        and there is one
+--   VerdictsMean            Yes: the joined stream is seen; No: Yes is not right, whatever the reason
+--   SpliceVerdictsAreOne    at most one verdict on a splice is right
+--   SomeSpliceVerdictIsRight        and one is
 use Rattle.std.specs.Prelude.{◌≡◌}
 use Rattle.ttx_proof.specs.Splices.{Splice, JoinedSeen}
 use Rattle.ttx_proof.specs.Laws.{IsSplice}
@@ -15,7 +15,7 @@ abbrev pub VerdictsMean : Type 0
 VerdictsMean = (c : Splice) → IsSplice c →
     (IsSpliceVerdict c Yes → JoinedSeen c) × ((reason : SpliceReason) → IsSpliceVerdict c (No reason) → IsSpliceVerdict c Yes → ⊥)
 
--- two verdicts that are right of the same splice are equal
+-- two right verdicts on the same splice are equal
 abbrev pub SpliceVerdictsAreOne : Type 0
 SpliceVerdictsAreOne = (c : Splice) → IsSplice c → (v w : SpliceVerdict) → IsSpliceVerdict c v → IsSpliceVerdict c w → v ≡ w
 

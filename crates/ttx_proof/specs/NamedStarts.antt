@@ -1,7 +1,7 @@
--- The starts that are named on either side of a splice, and what is sent of an item there, as the walk is given them.
+-- The starts that are named on either side of a splice, and the transmissions of an item there, as the walk gets them.
 --
---   stands_at_start         a slot stands at a named start
---   AreSentOf, AreStartsOf  what is sent is the item's, and the starts are
+--   stands_at_start         whether a slot is at a named start
+--   AreSentOf, AreStartsOf  the transmissions are those of the item, and the starts too
 use Rattle.std.specs.Prelude.{ℕ, ℤ, Bool}
 use Rattle.ttx_page.specs.Pages.{Page}
 use Rattle.ttx_page.specs.declared.item.Item.{Item}
@@ -17,6 +17,6 @@ stands_at_start starts i = is_start starts.olds.now starts.news.now starts.old_p
 abbrev pub AreSentOf : Splice → Page → Item → ItemSent → Type 0
 AreSentOf c p item sent = AreGiven c p item sent.olds.now sent.middle.now sent.news.now
 
--- a run has so many transmissions, and the deadline so many slots
+-- a run has `repeat` transmissions, and the deadline `limit` slots
 abbrev pub AreStartsOf : Splice → Page → Item → NamedStarts → ℕ → ℕ → Type 0
 AreStartsOf c p item starts repeat limit = AreOf c p item starts.olds.now starts.news.now starts.old_period starts.new_period repeat limit

@@ -1,10 +1,10 @@
--- How the seam of a page is found: only where the old cycle leaves its magazine to the page, and before the new cycle's first header of it.
+-- How the seam of a page is found: only if the old cycle leaves its magazine to the page, and before the new cycle's first header of it.
 --
---   IsLeftTo                the latest header of the magazine before slot 0 is the page's
---   TellsLatest, AreLatest  where the latest header of a magazine stands in the old cycle; of all eight
---   IsWrongAs, IsWrongSlot  a slot that carries a needed item which isn't the page's
---   HangsOver, TellsOver    no header of the magazine has come since then, and the slot is such; the first of them
---   SeamsAreLeft            the seam of a page is this
+--   IsLeftTo                the latest header of the magazine before slot 0 is one of the page
+--   TellsLatest, AreLatest  the place of the latest header of a magazine in the old cycle; of all eight
+--   IsWrongAs, IsWrongSlot  a slot that carries a needed item and differs from the page
+--   HangsOver, TellsOver    such a slot before the first new header of the magazine; the first of them
+--   SeamsAreLeft            this is the seam of a page
 use Rattle.std.specs.Prelude.{◌≡◌, ◌↔◌, ℕ, ◌-◌, ◌<◌, ◌≤◌, List, length, get_or, Option, Some, None, ℤ, pos, negsuc, ◌<ℤ◌, ◌≤ℤ◌, true, false}
 use Rattle.ttx_header.specs.Ids.{Id}
 use Rattle.ttx_page.specs.Packets.{packet_of}
@@ -19,7 +19,7 @@ pub record IsLeftTo (old : Stream) (page : Id) : Type 0 where
   pub latest : IsLatestHeader old page.mag owner (pos 0)
   pub mine : heads_page page (packet_of (old owner)) ≡ true
 
--- so many slots before the last one of the period; None where the cycle has no header of the magazine
+-- the number of slots before the last one of the period; None if the cycle has no header of the magazine
 abbrev pub TellsLatest : List (List ℕ) → ℕ → Option ℕ → Type 0
 TellsLatest cycle mag None = (h : ℤ) → IsLatestHeader (repeated cycle) mag h (pos 0) → ⊥
 TellsLatest cycle mag (Some back) = (back < length cycle) × IsLatestHeader (repeated cycle) mag (negsuc back) (pos 0)
@@ -27,7 +27,7 @@ TellsLatest cycle mag (Some back) = (back < length cycle) × IsLatestHeader (rep
 abbrev pub AreLatest : List (List ℕ) → List (Option ℕ) → Type 0
 AreLatest cycle latest = (mag : ℕ) → 1 ≤ mag → mag ≤ 8 → TellsLatest cycle mag (get_or latest (mag - 1) None)
 
--- the slot carries the item, a viewer sees it, and it isn't the page's
+-- the slot carries the item, a viewer sees the item, and the slot differs from the page
 abbrev pub IsWrongAs : Page → List ℕ → Item → Type 0
 IsWrongAs p slot item = (needed p item ≡ true) × (carries p.id.mag item (packet_of slot) ≡ true) × (IsTrueTo p item slot → ⊥)
 
@@ -39,7 +39,7 @@ pub record HangsOver (new : Stream) (p : Page) (j : ℤ) : Type 0 where
   pub no_header : (i : ℤ) → pos 0 ≤ℤ i → i <ℤ j → heads p.id.mag (packet_of (new i)) ≡ false
   pub wrong : IsWrongSlot p (new j)
 
--- the answer is the first such slot, and None where there is none
+-- the first such slot; None if there is none
 abbrev pub TellsOver : Stream → Page → Option ℕ → Type 0
 TellsOver new p None = (j : ℤ) → HangsOver new p j → ⊥
 TellsOver new p (Some slot) = HangsOver new p (pos slot) × ((i : ℕ) → i < slot → HangsOver new p (pos i) → ⊥)

@@ -1,7 +1,7 @@
--- What a verdict on a splice says where the old cycle has been sent for some periods (profile).
+-- What a verdict on a splice says when the old cycle has been sent for some periods (profile).
 --
---   IsSentVerdict           the splice's own verdict first; of an accepted one, whether the old cycle has been sent for a deadline
---   SentMeans               the joined stream is seen, where the verdict is Yes
+--   IsSentVerdict           first the splice's own verdict; for an accepted one, whether the old cycle has been sent for a deadline
+--   SentMeans               the joined stream is seen, if the verdict is Yes
 use Rattle.std.specs.Prelude.{◌≡◌, ℕ, ◌+◌, ◌*◌, ◌<◌, ◌≤◌, length}
 use Rattle.ttx_witness.specs.Coverage.{limit}
 use Rattle.ttx_proof.specs.Splices.{Splice, JoinedSeen}

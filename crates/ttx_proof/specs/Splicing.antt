@@ -3,10 +3,10 @@
 --   splice_of               the splice of two cycles, two lists of pages and two certificates
 --   splice_between          that of two sides
 --   AreKnown                what is known of a splice once the first three reasons are false
---   TellsPlace, TellsPlaceAt        the place of a page in a list; whether it stands in a place
---   TellsSeams, TellsLates  the first common page that has a seam, or an item that isn't bridged
+--   TellsPlace, TellsPlaceAt        the place of a page in a list; whether the page is at a place
+--   TellsSeams, TellsLates  the first common page with a seam; the first with an item that is not bridged
 --   AreSentOn               the transmissions of all items of all pages on either side, and in the first new period
---   AreBridged, TellsBridged, TellsLate     the items of a page; one item; the first one that isn't bridged
+--   AreBridged, TellsBridged, TellsLate     all items of a page are bridged; whether one is; the first that is not
 use Rattle.std.specs.Prelude.{◌≡◌, ℕ, List, Contains, slice_get, map, Option, Some, None, Bool, true, false}
 use Rattle.ttx_cycle.specs.Cycles.{slots_of}
 use Rattle.ttx_cycle.specs.declared.cycles.Cycle.{Cycle}
@@ -49,17 +49,17 @@ pub record AreKnown (c : Splice) : Type 0 where
   pub accepted : BothAccepted c
   pub alike : NumbersAgree c.old_certificate c.new_certificate
 
--- where an equal page stands
+-- the place of an equal page
 abbrev pub TellsPlace : List Page → Page → Option ℕ → Type 0
 TellsPlace pages p None = Contains pages p → ⊥
 TellsPlace pages p (Some place) = slice_get pages place ≡ Some p
 
--- whether an equal page stands in this place
+-- whether an equal page is at this place
 abbrev pub TellsPlaceAt : List Page → Page → ℕ → Option ℕ → Type 0
 TellsPlaceAt pages p place None = slice_get pages place ≡ Some p → ⊥
 TellsPlaceAt pages p place (Some at) = (at ≡ place) × (slice_get pages place ≡ Some p)
 
--- a seam of a page, where it is common
+-- the seam of a page, if it is common
 abbrev pub TellsSeamOf : Splice → Page → Option ℕ → Type 0
 TellsSeamOf c p None = IsCommon c p → HasSeam c p → ⊥
 TellsSeamOf c p (Some slot) = IsCommon c p × IsFirstSeam c p slot
@@ -73,7 +73,7 @@ pub record AreSentOn (c : Splice) (sent : Sent) : Type 0 where
   pub middle : AreSentAfter c.old c.new c.new_pages c.new_certificate.lines sent.middle
   pub new : AreAllSent c.new c.new_pages c.new_certificate.lines sent.news
 
--- where a common page stands in the two lists
+-- the places of a common page in the two lists
 pub record StandsAt (c : Splice) (p : Page) (at index : ℕ) : Type 0 where
   pub old : slice_get c.old_pages at ≡ Some p
   pub new : slice_get c.new_pages index ≡ Some p
@@ -85,17 +85,17 @@ StandsIn c common = StandsAt c (page_of common.page.now) common.old_place common
 abbrev pub AreBridged : Splice → Page → Type 0
 AreBridged c p = (item : Item) → needed p item ≡ true → IsBridged c p item
 
--- an item isn't bridged, though a viewer sees it; or else it is bridged, if a viewer sees it
+-- true: a viewer sees the item, and it is not bridged; false: it is bridged, if a viewer sees it
 abbrev pub TellsBridged : Splice → Page → Item → Bool → Type 0
 TellsBridged c p item true = IsUnbridged c p item
 TellsBridged c p item false = needed p item ≡ true → IsBridged c p item
 
--- the first item of a page that isn't bridged
+-- the first item of a page that is not bridged
 abbrev pub TellsLate : Splice → Page → Option Item → Type 0
 TellsLate c p None = AreBridged c p
 TellsLate c p (Some item) = IsFirstLate c p item
 
--- the same where the page is common
+-- the same if the page is common
 abbrev pub TellsLateOf : Splice → Page → Option Item → Type 0
 TellsLateOf c p None = IsCommon c p → AreBridged c p
 TellsLateOf c p (Some item) = IsCommon c p × IsFirstLate c p item

@@ -1,11 +1,11 @@
--- What is answered and written where the six files of a splice are read: two packet files, two service definitions, two certificates.
+-- What is answered and written when the six files of a splice are judged: two packet files, two service definitions, two certificates.
 --
---   AreTwo, RefusesTwo      what two files of one kind are; the first is refused, or it is right and the second is refused
+--   AreTwo, RefusesTwo      what two files of one kind are; the first is refused, or it is accepted and the second is refused
 --   ReadsCycles, ReadsServices, ReadsWitnesses      the two files of each kind, in their order
 --   RefusesSix              the first of the six files that is refused
 --   ReadsSix                all six, or why they are refused
---   IsSpliceAnswer, IsSentAnswer    the verdict on a splice, and its line; the same where the old cycle has been sent for some periods
---   AreSixWith              the six files are as they should be, and something is true of their splice
+--   IsSpliceAnswer, IsSentAnswer    the verdict on a splice, and its line; the same when the old cycle has been sent for some periods
+--   AreSixWith              the six files are accepted, and a property holds for their splice
 --   Splices, SplicesSent    the verdict on the six files, and its line
 --   SplicesFiles, SplicesSentFiles  what is answered and written for the six files
 use Rattle.std.specs.Prelude.{◌≡◌, ◌⊎◌, ℕ, List, ⊤, Option, IfSome, Result, Ok, Err}
@@ -48,7 +48,7 @@ abbrev pub ReadsWitnesses : Option (List ℕ) → Option (List ℕ) → Result W
 ReadsWitnesses a b (Ok two) = AreTwo ReadsWitness a b (fields_of two.old) (fields_of two.new)
 ReadsWitnesses a b (Err fault) = RefusesTwo ReadsWitness a b fault
 
--- the two files of a kind are as they should be
+-- the two files of a kind are accepted
 abbrev pub Right : {T : Type 0} → (List ℕ → Result T FilesFault → Type 0) → Option (List ℕ) → Option (List ℕ) → Type 0
 Right {T} Reads a b = (t u : T) × AreTwo Reads a b t u
 
@@ -76,7 +76,7 @@ pub record IsSentAnswer (c : Splice) (periods : ℕ) (verdict : SentVerdict) (li
   pub seen : SentMeans c verdict
   pub line_is : line ≡ sent_line verdict
 
--- the six files are as they should be, and this is true of the splice of their contents
+-- the six files are accepted, and the property holds for the splice of their contents
 pub record AreSixWith (a b c d e f : Option (List ℕ)) (Says : Splice → Type 0) : Type 0 where
   pub old : List (List ℕ)
   pub new : List (List ℕ)
@@ -93,18 +93,18 @@ abbrev pub Splices : Option (List ℕ) → Option (List ℕ) → Option (List �
     SpliceVerdict → List ℕ → Type 0
 Splices a b c d e f verdict line = AreSixWith a b c d e f (λ s. IsSpliceAnswer s verdict line)
 
--- where the old cycle has been sent for so many periods
+-- the same when the old cycle has been sent for this many periods
 abbrev pub SplicesSent : Option (List ℕ) → Option (List ℕ) → Option (List ℕ) → Option (List ℕ) → Option (List ℕ) → Option (List ℕ) → ℕ →
     SentVerdict → List ℕ → Type 0
 SplicesSent a b c d e f periods verdict line = AreSixWith a b c d e f (λ s. IsSentAnswer s periods verdict line)
 
--- want of memory aside, the first file that is refused
+-- the first file that is refused, or memory ran out
 abbrev pub IsSixRefused : Option (List ℕ) → Option (List ℕ) → Option (List ℕ) → Option (List ℕ) → Option (List ℕ) → Option (List ℕ) →
     FilesFault → Type 0
 IsSixRefused a b c d e f NoMemory = ⊤
 IsSixRefused a b c d e f fault = RefusesSix a b c d e f fault
 
--- the six files that are read, or the first of them that is refused
+-- the contents of the six files, or the first of them that is refused
 abbrev pub ReadsSix : Option (List ℕ) → Option (List ℕ) → Option (List ℕ) → Option (List ℕ) → Option (List ℕ) → Option (List ℕ) →
     Result Six FilesFault → Type 0
 ReadsSix a b c d e f (Ok six) =

@@ -1,4 +1,4 @@
-//! Pages that are equal in both lists.
+//! Common pages: pages that are equal in both lists.
 
 ghost use Rattle.std.specs.Prelude.{◌≡◌, ◌↔◌, IsTrue, map};
 ghost use Rattle.ttx_page.specs.Views.{page_of, ids_of};
@@ -16,7 +16,7 @@ fn same_id(a: PageId, b: PageId) -> bool
     a == b
 }
 
-// Whether the characters, or bytes, are equal.
+// Whether the characters or bytes are equal.
 fn same_codes(a: &[u8], b: &[u8]) -> bool
     ensures { IsTrue result ↔ (a.now ≡ b.now) }
 {
@@ -42,7 +42,7 @@ fn same_crc(a: [u8; 2], b: [u8; 2]) -> bool
     same_codes(&a, &b)
 }
 
-// Whether the pages are equal, the bytes of the page CRC too.
+// Whether the pages are equal, including the bytes of the page CRC.
 fn is_same(page: &Page, other: &Page) -> bool
     ensures { IsTrue result ↔ (page_of page.now ≡ page_of other.now) }
 {
@@ -54,7 +54,7 @@ fn is_same(page: &Page, other: &Page) -> bool
         && same_crc(page.links().crc(), other.links().crc())
 }
 
-// The place, where an equal page stands there.
+// The place, if an equal page is there.
 fn same_at(pages: &[Page], place: usize, page: &Page) -> Option<usize>
     ensures { TellsPlaceAt (map page_of pages.now) (page_of page.now) place result }
 {
@@ -67,7 +67,7 @@ fn same_at(pages: &[Page], place: usize, page: &Page) -> Option<usize>
     None
 }
 
-/// Where an equal page stands in the list, whose index this is.
+/// The place of an equal page in the list that the index belongs to.
 pub fn equal_place(pages: &[Page], index: &PageIndex, page: &Page) -> Option<usize>
     requires { IsIndex (ids_of pages.now) index.now }
     ensures { TellsPlace (map page_of pages.now) (page_of page.now) result }

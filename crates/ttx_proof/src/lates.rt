@@ -1,4 +1,4 @@
-//! The first common page that has an item that isn't bridged.
+//! Finds the first common page with an item that is not bridged.
 
 ghost use Rattle.std.specs.Prelude.{◌≡◌, ◌<◌, IfOk, Some, map, slice_get, length};
 ghost use Rattle.ttx_page.specs.Pages as definitions;
@@ -18,7 +18,7 @@ use ttx_witness::{
     Collected, NoMemory, PageIndex, collect, collect_after, item_of, limit, run_length,
 };
 
-/// The transmissions of all items of all pages: of the old cycle, of the first new period, of the new cycle.
+/// The transmissions of all items of all pages: in the old cycle, in the first new period, and in the new cycle.
 #[derive(Drop)]
 pub struct Sent {
     olds: Collected,
@@ -26,7 +26,7 @@ pub struct Sent {
     news: Collected,
 }
 
-/// A page that stands in both lists, at a place of the old one and of the new one.
+/// A common page, with its places in the old and the new list.
 #[derive(Clone, Copy)]
 pub struct CommonPage<'a> {
     page: &'a Page,
@@ -46,7 +46,7 @@ fn collect_all(alloc: Global, sides: &Sides) -> Result<Sent, NoMemory>
     Ok(Sent { olds, middle, news })
 }
 
-// Whether the item of a common page isn't bridged, though a viewer sees it.
+// Whether a viewer sees the item of a common page, and it is not bridged.
 fn is_late(
     alloc: Global,
     sides: &Sides,
@@ -80,7 +80,7 @@ fn is_late(
     Ok(!bridged)
 }
 
-// The first item of a common page that isn't bridged.
+// The first item of a common page that is not bridged.
 fn late_item(
     alloc: Global,
     sides: &Sides,
@@ -98,7 +98,7 @@ fn late_item(
     Ok(None)
 }
 
-// The same for the page in this place of the new list, where it is common. The index is that of the old pages.
+// The same for the page at this place of the new list, if it is common. The index is that of the old pages.
 fn late_of(
     alloc: Global,
     sides: &Sides,
@@ -145,8 +145,8 @@ fn late_among(
     Ok(None)
 }
 
-/// The first item of the first common page that has an item that isn't bridged, though a viewer sees it. The index is that of the
-/// old pages.
+/// For the first common page with an item that a viewer sees and that is not bridged, the first such item. The index is that of the old
+/// pages.
 pub fn find_late(
     alloc: Global,
     sides: &Sides,

@@ -1,4 +1,4 @@
-//! The laws of splices. A call costs nothing and gives the caller's proof the law.
+//! The laws of splices. A call does nothing at run time, and gives the law to the caller's proof.
 
 ghost use Rattle.ttx_proof.specs.Carried.{AgreeingStreamsBring, AgreeingStreamsCarry, AgreeingStreamsAreReceived};
 ghost use Rattle.ttx_proof.specs.Carried.{AcceptedIsCarried, CommonIsCarried, CarriedIsSeen};
@@ -7,7 +7,7 @@ ghost use Rattle.ttx_proof.specs.Meaning.{VerdictsMean, SpliceVerdictsAreOne, So
 ghost use Rattle.ttx_proof.specs.Seams.{SeamsAreLeft};
 ghost use Rattle.ttx_proof.specs.Laws.{BridgedIsSeen, WalksDecide};
 
-/// A splice of accepted cycles whose common pages have no seam and are bridged is seen.
+/// If both cycles of a splice are accepted, and its common pages have no seam and are bridged, the joined stream is seen.
 pub fn bridged_is_seen()
     ensures { BridgedIsSeen }
 {
@@ -37,7 +37,7 @@ pub fn walks_decide()
     ttx_page::laws::owners_are_near();
 }
 
-/// The transmissions of one period on either side tell those of the part of the joined stream that a walk reads.
+/// The part of the joined stream that a walk reads follows from the transmissions of one period on either side.
 pub fn joined_are_listed()
     ensures { JoinedAreListed }
 {
@@ -52,19 +52,20 @@ pub fn joined_are_listed()
     ttx_page::laws::owners_are_near();
 }
 
-/// A Yes says that the joined stream is seen, and where there is a reason, there is no Yes.
+/// `Yes` means that the joined stream is seen; `No` means that `Yes` is not right.
 pub fn verdicts_mean()
     ensures { VerdictsMean }
 {
     bridged_is_seen();
 }
 
-/// Where a page has a seam: under its own last header in the old cycle, before the new one's first of the magazine.
+/// A page has a seam only if the latest header of its magazine before slot 0 is its own, and only before the first new header of the
+/// magazine.
 pub fn seams_are_left()
     ensures { SeamsAreLeft }
 {}
 
-/// Two verdicts that are right of the same splice are equal.
+/// Two right verdicts on the same splice are equal.
 pub fn verdicts_are_one()
     ensures { SpliceVerdictsAreOne }
 {
@@ -72,7 +73,7 @@ pub fn verdicts_are_one()
     ttx_certify::verdict_laws::verdicts_are_one();
 }
 
-/// Of each splice some verdict is right, whatever memory there is to find it.
+/// For each splice some verdict is right. This does not depend on the memory needed to find it.
 pub fn some_verdict_is_right()
     ensures { SomeSpliceVerdictIsRight }
 {
@@ -85,7 +86,7 @@ pub fn some_verdict_is_right()
     ttx_page::laws::each_slot_turns();
 }
 
-/// What a stream brings of a page between two slots, a stream that is the same there brings too, so many slots on.
+/// If two streams are the same between two slots, one of them some slots later, both bring the same items of a page there.
 pub fn agreeing_streams_bring()
     ensures { AgreeingStreamsBring }
 {
@@ -94,7 +95,7 @@ pub fn agreeing_streams_bring()
     ttx_page::laws::owners_dont_fall();
 }
 
-/// What a stream carries from a slot on, a stream that is the same from there on carries too, so many slots on.
+/// If two streams are the same from a slot on, one of them some slots later, both carry the same pages from there on.
 pub fn agreeing_streams_carry()
     ensures { AgreeingStreamsCarry }
 {
@@ -103,12 +104,12 @@ pub fn agreeing_streams_carry()
     ttx_page::laws::owners_dont_fall();
 }
 
-/// What is received of a stream within the error rule is so received of each stream that is the same up to the end of the reception.
+/// If two streams are the same up to the end of a reception, a reception of one within the error rule is one of the other.
 pub fn agreeing_streams_are_received()
     ensures { AgreeingStreamsAreReceived }
 {}
 
-/// An accepted cycle carries each of its pages, wherever a receiver tunes in.
+/// An accepted cycle carries each of its pages, from any tuning slot on.
 pub fn accepted_is_carried()
     ensures { AcceptedIsCarried }
 {
@@ -118,7 +119,7 @@ pub fn accepted_is_carried()
     ttx_page::laws::steady_sends_its_own();
 }
 
-/// An accepted splice carries each page that stays, wherever a receiver tunes in.
+/// An accepted splice carries each page that stays, from any tuning slot on.
 pub fn common_is_carried()
     ensures { CommonIsCarried }
 {
@@ -131,7 +132,7 @@ pub fn common_is_carried()
     ttx_page::laws::owners_dont_fall();
 }
 
-/// A page that is carried is seen, whatever was sent before it was, and whatever comes after what was received.
+/// A page that is carried is seen, whatever was sent before, and whatever comes after what was received.
 pub fn carried_is_seen()
     ensures { CarriedIsSeen }
 {

@@ -1,4 +1,5 @@
-//! Splices: an old cycle that gives way to a new one, and what each receiver sees of it.
+//! Splices: an old cycle is replaced by a new one, and each receiver must keep seeing the pages that stay. (The specification requires
+//! the crate's name.)
 #![tactic(auto)]
 
 mod bridging;

@@ -1,4 +1,4 @@
-//! The verdict on a splice where the old cycle has been sent for some periods: it has to be sent for a deadline at least.
+//! The verdict on a splice when the old cycle has been sent for some periods. It has to be sent for at least a deadline.
 
 ghost use Rattle.std.specs.Prelude.{◌≡◌, ◌*◌, ◌-◌, ◌++◌, OnOk, IfOk, length, string_bytes};
 ghost use Rattle.ttx_cycle.specs.Cycles.{slots_of};
@@ -16,7 +16,7 @@ use std::alloc::{AllocError, Global};
 use ttx_cycle::Cycle;
 use ttx_witness::{Certificate, NoMemory, limit};
 
-// For so many slots the cycle has to be sent still, once it has been sent for so many periods.
+// How many slots are missing to the deadline, after `periods` periods of the old cycle.
 fn slots_left(old: &Cycle, certificate: &Certificate, periods: u32) -> u32
     ensures { result ≡ limit (certificate_of certificate.now) - periods * length (slots_of old.now) }
 {
@@ -29,7 +29,7 @@ fn slots_left(old: &Cycle, certificate: &Certificate, periods: u32) -> u32
     }
 }
 
-/// The verdict on a change that comes after so many periods of the old cycle, whose splice has this verdict.
+/// The verdict on a change after `periods` periods of the old cycle, from the verdict on its splice.
 pub fn sent_verdict(
     old: &Cycle,
     certificate: &Certificate,
@@ -65,7 +65,7 @@ fn push_sent(text: &mut String, verdict: SentVerdict) -> Result<(), AllocError>
     }
 }
 
-/// The line of a verdict on a change that comes after some periods, ended by 0A.
+/// The line of a verdict on a change after some periods. It ends with the byte 0A.
 pub fn sent_line(alloc: Global, verdict: SentVerdict) -> Result<String, NoMemory>
     ensures { IfOk result (λ line. string_bytes line ≡ sent_line verdict) }
 {

@@ -1,4 +1,4 @@
-//! What is read for a splice: two packet files, two service definitions and two certificates.
+//! Reads the files of a splice: two packet files, two service definitions and two certificates.
 
 ghost use Rattle.std.specs.Prelude.{IfOk, ◌∷◌, []};
 ghost use Rattle.ttx_cycle.specs.Counters.{inner_of, faults_of};
@@ -30,7 +30,7 @@ pub struct Witnesses {
     pub(crate) new: Certificate,
 }
 
-// What is read.
+// The contents of the six files.
 #[derive(Drop)]
 pub struct Six {
     pub(crate) cycles: Cycles,
@@ -98,7 +98,7 @@ fn read_witnesses<A: Read, B: Read>(
     }
 }
 
-// The six files, in their order: the old one of each kind first.
+// Reads the six files in their order: the old one of each kind first.
 pub fn read_six<A: Read, B: Read, C: Read, D: Read, E: Read, F: Read>(
     alloc: Global,
     old: &mut Counted<A>,

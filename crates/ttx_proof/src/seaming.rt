@@ -1,4 +1,4 @@
-//! The first common page that has a seam.
+//! Finds the first common page with a seam.
 
 ghost use Rattle.std.specs.Prelude.{Contains};
 ghost use Rattle.ttx_cycle.specs.Cycles.{slots_of};
@@ -14,7 +14,7 @@ use crate::verdict::SpliceReason;
 use ttx_page::Page;
 use ttx_witness::PageIndex;
 
-// The first seam of a page of the new list, where it is common.
+// The first seam of the page at a place of the new list, if it is common.
 fn seam_of(
     sides: &Sides,
     index: &PageIndex,
@@ -32,7 +32,7 @@ fn seam_of(
     }
 }
 
-/// The seam of the first common page that has one. The index is that of the old pages.
+/// The first seam of the first common page that has one. The index is that of the old pages.
 pub fn find_seam(sides: &Sides, index: &PageIndex) -> Option<SpliceReason>
     requires { IsIndex (ids_of sides.now.old.pages.now) index.now }
     ensures { TellsSeams (splice_between sides.now) result }

@@ -1,4 +1,4 @@
-//! What hangs over from the old cycle.
+//! Finds the seam of a page: a slot of the new cycle that is still stored under an old header, and differs from the page.
 
 ghost use Rattle.std.specs.Prelude.{◌≡◌, ◌<◌, ◌↔◌, IsTrue, true, negsuc, length};
 ghost use Rattle.ttx_page.specs.Pages.{needed};
@@ -29,7 +29,7 @@ fn heads(mag: u8, slot: &[u8; 42]) -> bool
     }
 }
 
-/// The latest header of the magazine before slot 0, counted back from the last slot of the period.
+/// The latest header of the magazine before slot 0, as a number of slots before the last one of the period.
 pub fn latest_header(old: &Cycle, mag: u8) -> Option<usize>
     ensures { TellsLatest (slots_of old.now) mag result }
 {
@@ -43,7 +43,7 @@ pub fn latest_header(old: &Cycle, mag: u8) -> Option<usize>
     None
 }
 
-/// The latest headers of the eight magazines before slot 0, each counted back from the last slot of the period.
+/// The same for all eight magazines.
 pub fn latest_headers(old: &Cycle) -> [Option<usize>; 8]
     ensures { AreLatest (slots_of old.now) result }
 {
@@ -54,7 +54,7 @@ pub fn latest_headers(old: &Cycle) -> [Option<usize>; 8]
     latest
 }
 
-// Whether the slot so many before the last one of the period is a header of the page.
+// Whether the slot `back` slots before the last one of the period is a header of the page.
 fn is_its_header(old: &Cycle, back: usize, page: PageId) -> bool
     requires { back < length (slots_of old.now) }
     ensures { result ≡ heads_page page (packet_of (repeated (slots_of old.now) (negsuc back))) }
@@ -63,8 +63,8 @@ fn is_its_header(old: &Cycle, back: usize, page: PageId) -> bool
     heads_page(page, &slots[slots.len() - 1 - back])
 }
 
-// Whether the latest header of the page's magazine before slot 0 is the page's: then what the new cycle sends in the magazine before
-// its first header there would still be stored in the page.
+// Whether the latest header of the page's magazine before slot 0 is one of the page. Then whatever the new cycle sends in this magazine
+// before its first header there is still stored in the page.
 fn is_left(old: &Cycle, latest: &[Option<usize>; 8], page: PageId) -> bool
     requires { AreLatest (slots_of old.now) latest.now }
     ensures { IsTrue result ↔ IsLeftTo (repeated (slots_of old.now)) page }
@@ -75,7 +75,7 @@ fn is_left(old: &Cycle, latest: &[Option<usize>; 8], page: PageId) -> bool
     }
 }
 
-// Whether the slot carries what is compared, a viewer sees it, and it isn't the page's.
+// Whether the slot carries the item of the check, a viewer sees this item, and the slot differs from the page.
 fn is_wrong_slot(page: &Page, check: &Check, slot: &[u8; 42]) -> bool
     requires slot { IsSlot slot.now }
     ensures { IsTrue result ↔ ((sends (page_of page.now).id (compared_item check.now) (packet_of slot.now) true ≡ true)
@@ -86,7 +86,7 @@ fn is_wrong_slot(page: &Page, check: &Check, slot: &[u8; 42]) -> bool
         && is_wrong(page, check, slot)
 }
 
-// Whether the slot carries the row of this number, a viewer sees it, and it isn't the page's.
+// The same for the row with this number.
 fn is_wrong_row(page: &Page, number: u8, slot: &[u8; 42]) -> bool
     requires { IsSlot slot.now }
     ensures { IsTrue result ↔ IsWrongAs (page_of page.now) slot.now (TheRow number) }
@@ -98,7 +98,7 @@ fn is_wrong_row(page: &Page, number: u8, slot: &[u8; 42]) -> bool
     is_wrong_slot(page, &check, slot)
 }
 
-// Whether the slot carries the links, and they aren't the page's.
+// The same for the links.
 fn are_wrong_links(page: &Page, slot: &[u8; 42]) -> bool
     requires { IsSlot slot.now }
     ensures { IsTrue result ↔ IsWrongAs (page_of page.now) slot.now TheLinks }
@@ -107,7 +107,7 @@ fn are_wrong_links(page: &Page, slot: &[u8; 42]) -> bool
     is_wrong_slot(page, &check, slot)
 }
 
-// Whether the slot carries an item that a viewer sees and that isn't the page's.
+// Whether the slot carries any item that a viewer sees, and differs from the page.
 fn is_wrong_any(page: &Page, slot: &[u8; 42]) -> bool
     requires { IsSlot slot.now }
     ensures { IsTrue result ↔ IsWrongSlot (page_of page.now) slot.now }
@@ -121,8 +121,8 @@ fn is_wrong_any(page: &Page, slot: &[u8; 42]) -> bool
     }
 }
 
-// The first slot of the new cycle, before the first header of the page's magazine, that carries an item of a viewer's and isn't the
-// page's. Where the old cycle leaves its magazine to the page, it is the seam.
+// The first slot of the new cycle, before the first header of the page's magazine, that carries an item which a viewer sees, and differs
+// from the page. If the old cycle leaves its magazine to the page, this is the seam.
 fn first_over(new: &Cycle, page: &Page) -> Option<u32>
     ensures { TellsOver (repeated (slots_of new.now)) (page_of page.now) result }
 {
@@ -139,7 +139,7 @@ fn first_over(new: &Cycle, page: &Page) -> Option<u32>
     None
 }
 
-/// The first seam slot of the page, `None` where it has no seam. The latest headers are those of the old cycle.
+/// The first seam slot of the page; `None` if it has no seam. `latest` are the latest headers of the old cycle.
 pub fn first_seam(old: &Cycle, new: &Cycle, latest: &[Option<usize>; 8], page: &Page) -> Option<u32>
     requires { AreLatest (slots_of old.now) latest.now }
     ensures { (c : Splice) → c.old ≡ slots_of old.now → c.new ≡ slots_of new.now → TellsSeam c (page_of page.now) result }

@@ -17,7 +17,7 @@ pub struct Side<'a> {
     ghost distinct: { AllPairs (λ a b. a ≢ b) (ids_of pages.now) },
 }
 
-/// An old cycle that gives way to a new one.
+/// An old cycle, and the new one that replaces it.
 #[derive(Clone, Copy)]
 pub struct Sides<'a> {
     pub old: Side<'a>,

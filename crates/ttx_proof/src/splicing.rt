@@ -1,4 +1,4 @@
-//! Whether a splice is accepted.
+//! Decides whether a splice is accepted.
 
 ghost use Rattle.std.specs.Prelude.{◌≡◌, ◌≢◌, ◌↔◌, IsTrue, IfOk};
 ghost use Rattle.std.specs.List.{AllPairs};
@@ -20,7 +20,7 @@ use ttx_cycle::Cycle;
 use ttx_page::{Class, Page};
 use ttx_witness::{Certificate, NoMemory, PageIndex, index_of};
 
-// Whether no receiver is taken to clear pages.
+// Whether the class is any: receivers need not clear pages.
 fn is_any(certificate: &Certificate) -> bool
     ensures { IsTrue result ↔ ((certificate_of certificate.now).class ≡ Any) }
 {
@@ -30,7 +30,7 @@ fn is_any(certificate: &Certificate) -> bool
     }
 }
 
-// Whether lines, repeat count and deadline agree, and no receiver is taken to clear pages.
+// Whether lines, repeat count and deadline are equal, and both classes are any.
 fn numbers_agree(old: &Certificate, new: &Certificate) -> bool
     ensures { IsTrue result ↔ NumbersAgree (certificate_of old.now) (certificate_of new.now) }
 {
@@ -41,7 +41,7 @@ fn numbers_agree(old: &Certificate, new: &Certificate) -> bool
         && is_any(new)
 }
 
-// The first seam, or else the first late item, where both cycles are accepted and the numbers agree. The index is that of the old
+// The first seam, otherwise the first late item, if both cycles are accepted and the numbers agree. The index is that of the old
 // pages.
 fn found_verdict(alloc: Global, sides: &Sides, index: &PageIndex) -> Result<SpliceVerdict, NoMemory>
     requires { IsIndex (ids_of sides.now.old.pages.now) index.now }
@@ -56,7 +56,7 @@ fn found_verdict(alloc: Global, sides: &Sides, index: &PageIndex) -> Result<Spli
     }
 }
 
-// The same, once the old pages have an index.
+// The same, with the index built here.
 fn joined_verdict(alloc: Global, sides: &Sides) -> Result<SpliceVerdict, NoMemory>
     ensures { IfOk result (λ verdict. AreKnown (splice_between sides.now) → IsSpliceVerdict (splice_between sides.now) verdict) }
 {
@@ -64,11 +64,12 @@ fn joined_verdict(alloc: Global, sides: &Sides) -> Result<SpliceVerdict, NoMemor
     found_verdict(alloc, sides, &index)
 }
 
-/// Whether the splice is accepted; the ids in each of the two lists of pages are distinct. The old cycle repeats, then at a period's
-/// end the new one does. If not, the first reason: the old cycle, the new cycle, the numbers of the certificates, the first common
-/// page that has a seam, the first that has an item that isn't bridged; pages as the new list has them, then the least slot or item.
+/// Decides whether the splice is accepted: the old cycle repeats, and then, from the end of a period on, the new one. The ids in each of
+/// the two lists of pages are distinct. If it is not accepted, names the first reason: the old cycle, the new cycle, the numbers of the
+/// certificates, the first common page with a seam, the first with an item that is not bridged; pages in the order of the new list, then
+/// the smallest slot or item.
 ///
-/// Where it says Yes, the joined stream is seen: each common page by the deadline after tuning, through the change and ever after,
+/// If the verdict is `Yes`, the joined stream is seen: each common page by the deadline after tuning, through the change and ever after;
 /// each other new page by the deadline after tuning or after the change, whichever is later.
 pub fn splice<'a>(
     alloc: Global,
