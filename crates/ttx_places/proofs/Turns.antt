@@ -1,4 +1,4 @@
--- The turns of the readers.
+-- The program's readers agree with the definitions, step by step.
 use Rattle.std.proofs.Common.{◌≡◌, ℕ, zero, suc, ◌+◌, ◌-◌, ◌<◌, true, false, ◌==◌, List, [], ◌∷◌, length, drop, Option, Some, None, refl, arith}
 use Rattle.std.specs.Fmt.{decimal}
 use Rattle.toml_parser.specs.Lexical.{Read, first, skip_blank}

@@ -1,7 +1,7 @@
--- Paths of values in a TOML text, as texts: a stroke before each key and before the number of each element, as /page/3/rows/4.
+-- Paths of values in a TOML text, as texts: a slash before each key and before the number of each element, as in /page/3/rows/4.
 --
---   below                   a part more
---   under, key_path         what stands at a key, which may have dots
+--   below                   a path with one more part
+--   under, key_path         the path of the value at a key, which may have dots
 --   named, all_named, table_path      the table that a header names
 use Rattle.std.specs.Prelude.{ℕ, List, [], ◌∷◌, ◌++◌, codes, if◌then◌else◌}
 use Rattle.std.specs.Fmt.{decimal}
@@ -18,7 +18,7 @@ under path (part ∷ parts) = under (below path part) parts
 abbrev pub key_path : List ℕ → Key → List ℕ
 key_path path key = below (under path key.0) key.1
 
--- a part of the name of a table after so many tables [[page]]: page stands for the latest of them
+-- a part of the name of a table after a number of tables [[page]]: page means the latest of them
 abbrev pub named : ℕ → List ℕ → List ℕ → List ℕ
 named pages path part = below (if bytes_eq path (codes "/page") then below path (decimal pages) else path) part
 

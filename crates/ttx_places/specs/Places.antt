@@ -1,9 +1,9 @@
--- Where the value of a path stands in a TOML text: the first value, element or header with this path, by the grammar of the kit's
--- crate toml. Within, a place is told by the number of bytes from it to the end of the text.
+-- The place of a path in a TOML text: the first value, element or header with this path, by the grammar of the kit's crate toml. Only
+-- `place_of` counts from the beginning of the text; in all other definitions a place is the number of bytes from it to the end.
 --
---   here                    whether what begins here has the path that is looked for
+--   here                    whether the value that begins here has the target's path
 --   value, elements, members, pair    a value, the elements of an array, the members of an inline table, a key and its value
---   Tables                  the path of the table of the latest header, and how many tables [[page]] there are
+--   Tables                  the path of the table of the latest header, and the number of tables [[page]]
 --   next_table, header, line      a header, or a key and its value
 --   lines, place_of         all lines of a text
 use Rattle.std.specs.Prelude.{ℕ, zero, suc, ◌+◌, ◌-◌, ◌==◌, if◌then◌else◌, List, [], length, drop, slice_index, codes, Option, Some, None, option_map, option_and_then}
@@ -26,11 +26,11 @@ Place = Option ℕ
 abbrev pub first_of : Place → Place → Place
 first_of one later = option_or one later
 
--- a place before what was read
+-- a place that was found before, and what was read after it
 abbrev pub after_place : Place → Read Place → Read Place
 after_place place r = read_map (first_of place) r
 
--- the place that was found, or the later one
+-- the place that was found, otherwise the later one
 abbrev pub or_later : Place → Option Place → Option Place
 or_later None later = later
 or_later (Some place) later = Some (Some place)
@@ -38,14 +38,14 @@ or_later (Some place) later = Some (Some place)
 abbrev pub here : List ℕ → List ℕ → List ℕ → Place
 here target path text = if bytes_eq path target then Some (length text) else None
 
--- what comes after a string, a number, a boolean or a date
+-- the text after a string, a number, a boolean or a date
 abbrev pub after_atom : List ℕ → Option (List ℕ)
 after_atom text = option_map (λ a. a.1) (atom text)
 
 abbrev pub plain : List ℕ → List ℕ → List ℕ → Read Place
 plain target path text = option_map (λ rest. (here target path text, rest)) (after_atom text)
 
--- a key, and the value whose path it makes
+-- a key with its value; the key extends the path
 abbrev pub pair : (List ℕ → List ℕ → Read Place) → List ℕ → List ℕ → Read Place
 pair value path text = key_equals text >>= (λ k. value (key_path path k.0) k.1)
 
@@ -66,7 +66,7 @@ members value (suc n) path found text =
     if first start == right_brace then Some (found, drop 1 start)
     else pair value path start >>= (λ v. after_element right_brace v.1 >>= members value n path (first_of found v.0))
 
--- a value of this path, with arrays and inline tables at most this deep
+-- a value with this path, with arrays and inline tables at most this deep
 unfoldable pub value : List ℕ → ℕ → List ℕ → List ℕ → Read Place
 value target zero path text = plain target path text
 value target (suc depth) path text =
@@ -76,11 +76,11 @@ value target (suc depth) path text =
     then after_place (here target path text) (members (value target depth) (length text) path None (drop 1 text))
     else plain target path text
 
--- the path of the table of the latest header, and how many tables [[page]] there are so far
+-- the path of the table of the latest header, and the number of tables [[page]] so far
 abbrev pub Tables : Type 0
 Tables = List ℕ × ℕ
 
--- [[name]]: another table of this name; those of pages are counted
+-- [[name]]: another table with this name; those of pages are counted
 abbrev pub next_table : ℕ → List ℕ → Tables
 next_table pages path = if bytes_eq path (codes "/page") then (below path (decimal (pages + 1)), pages + 1) else (path, pages)
 
@@ -97,7 +97,7 @@ line target tables text =
     if first text == left_bracket then read_map (λ next. (here target next.0 text, next)) (header tables.1 text)
     else read_map (λ place. (place, tables)) (pair (value target recursion_limit) tables.0 text)
 
--- the first place in the lines from here on, of which fewer than n are left
+-- the first place in the lines from here on; n is more than their number
 unfoldable pub lines : List ℕ → ℕ → Tables → List ℕ → Option Place
 lines target zero tables text = None
 lines target (suc n) tables text =
@@ -105,7 +105,7 @@ lines target (suc n) tables text =
     if length start == 0 then Some None
     else line target tables start >>= (λ l. or_later l.0.0 (lines target n l.0.1 l.1))
 
--- the place of this path, if the text has one; None: the text can't be read so far
+-- the place of this path, if the text has one; None: the text cannot be read that far
 unfoldable pub place_of : List ℕ → List ℕ → Option Place
 place_of target text =
     option_map (option_map (λ left. length text - left)) (lines target (suc (length (skip_bom text))) ([], 0) (skip_bom text))

@@ -1,4 +1,4 @@
--- The tables of the program as those of the definitions.
+-- The tables of the program in terms of the definitions.
 use Rattle.std.specs.Prelude.{string_bytes}
 use Rattle.ttx_places.specs.Places as rule
 use Rattle.ttx_places.specs.declared.documents.Tables.{Tables}

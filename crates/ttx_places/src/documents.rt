@@ -1,4 +1,4 @@
-//! Places in a whole text.
+//! Finds places in a whole text.
 
 ghost use Rattle.std.specs.Prelude.{◌≡◌, ◌<◌, ◌≤◌, suc, length, [], IfOk, Some, string_bytes};
 ghost use Rattle.toml.specs.Parse.{skip_bom};
@@ -12,14 +12,14 @@ use std::alloc::{AllocError, Global};
 use toml_parser::RECURSION_LIMIT;
 use toml_parser::text::{byte_at, first, skip, skip_blank};
 
-/// The path of the table of the latest header, and how many tables `[[page]]` there are so far.
+/// The path of the table of the latest header, and the number of tables `[[page]]` so far.
 #[derive(Drop)]
 pub struct Tables {
     pub path: String,
     pub pages: usize,
 }
 
-// Another table of a name: those of pages are counted.
+// The tables after another table `[[..]]` with this path; those of pages are counted.
 fn next_table(alloc: Global, pages: usize, path: String) -> Result<Tables, AllocError>
     ensures { IfOk result (λ tables. tables_of tables ≡ rule.next_table pages (string_bytes path)) }
 {
@@ -35,7 +35,7 @@ fn next_table(alloc: Global, pages: usize, path: String) -> Result<Tables, Alloc
     }
 }
 
-// The table of a header `[name]` or `[[name]]`, and what comes after the header.
+// The table of a header `[name]` or `[[name]]`, and the text after the header.
 #[tactic(auto, unfolding(crate::specs::Places::header))]
 fn header<'a>(alloc: Global, pages: usize, s: &'a str) -> Result<(Tables, &'a str), AllocError>
     requires { first s.now ≡ 91 }
@@ -55,7 +55,7 @@ fn header<'a>(alloc: Global, pages: usize, s: &'a str) -> Result<(Tables, &'a st
     Ok((next_table(alloc, pages, path)?, skip(rest, 1)))
 }
 
-// A line: a header, or a key with its value.
+// One line: a header, or a key with its value.
 #[tactic(auto, unfolding(crate::specs::Places::line))]
 fn line<'a>(
     alloc: Global,
@@ -75,7 +75,7 @@ fn line<'a>(
     Ok((here(target, tables.path.as_str(), s), rest))
 }
 
-// What comes after a byte order mark.
+// The text after a byte order mark, if there is one.
 fn skip_bom(s: &str) -> &str
     ensures rest { result.now ≡ skip_bom s.now }
     ensures within { length result.now ≤ length s.now }
@@ -87,7 +87,7 @@ fn skip_bom(s: &str) -> &str
     }
 }
 
-// The first place in the lines of a text, as the number of bytes from it to the end.
+// The first place in the lines of a text, as the number of bytes from there to the end.
 fn lines(alloc: Global, target: &str, s: &str) -> Result<Option<usize>, AllocError>
     ensures { IfOk result (λ left. rule.lines target.now (suc (length s.now)) ([], 0) s.now ≡ Some left) }
 {
@@ -109,8 +109,8 @@ fn lines(alloc: Global, target: &str, s: &str) -> Result<Option<usize>, AllocErr
     }
 }
 
-/// The place of the value, of the element or of the header of a path, the first if there are more: none if the text has none. The
-/// error is want of memory, or a text that isn't TOML.
+/// The place of the first value, element or header with a path. `None` if the text has none. `Err` if memory runs out, or if the text
+/// is not TOML.
 #[tactic(auto, unfolding(crate::specs::Places::place_of))]
 pub fn place_of(alloc: Global, text: &str, target: &str) -> Result<Option<usize>, AllocError>
     ensures { IfOk result (λ place. rule.place_of target.now text.now ≡ Some place) }

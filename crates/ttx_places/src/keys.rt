@@ -1,4 +1,4 @@
-//! Paths, and the keys that lengthen them.
+//! Paths, and the keys that extend them.
 
 ghost use Rattle.std.specs.Prelude.{◌≡◌, ◌<◌, length, map, IfOk, OnOk, Some, string_bytes};
 ghost use Rattle.std.specs.Fmt.{decimal};
@@ -44,7 +44,7 @@ fn push_parts(path: &mut String, parts: &[String]) -> Result<(), AllocError>
     Ok(())
 }
 
-/// The path of what stands at a key of the table at a path.
+/// The path of the value at a key of the table at a path.
 pub fn key_path(alloc: Global, path: &str, key: &Key) -> Result<String, AllocError>
     ensures { IfOk result (λ p. string_bytes p ≡ rule.key_path path.now (key_view key.now)) }
 {
@@ -54,7 +54,7 @@ pub fn key_path(alloc: Global, path: &str, key: &Key) -> Result<String, AllocErr
     Ok(whole)
 }
 
-// Adds a part of the name of a table: `page` stands for the latest of the tables `[[page]]`.
+// Adds a part of the name of a table. `page` means the latest of the tables `[[page]]`.
 fn push_name(path: &mut String, pages: usize, part: &str) -> Result<(), AllocError>
     ensures { OnOk result (string_bytes path.new ≡ rule.named pages (string_bytes path.old) part.now) }
 {
@@ -73,7 +73,7 @@ fn push_names(path: &mut String, pages: usize, parts: &[String]) -> Result<(), A
     Ok(())
 }
 
-/// The path of the table that a header names, after so many tables `[[page]]`.
+/// The path of the table that a header names, after `pages` tables `[[page]]`.
 pub fn table_path(alloc: Global, pages: usize, key: &Key) -> Result<String, AllocError>
     ensures { IfOk result (λ p. string_bytes p ≡ rule.table_path pages (key_view key.now)) }
 {

@@ -1,4 +1,4 @@
-//! Where in a TOML text a value stands: its line and its column, by its path.
+//! The place of a value in a TOML text, as line and column, from its path.
 //!
 //! A path is `/page/3/rows/4`: the value at `rows`, `4` of the third table `[[page]]`. Elements of arrays are counted from 1.
 #![tactic(auto)]

@@ -1,4 +1,4 @@
-//! Where in a text a byte stands, for people.
+//! Lines and columns of bytes in a text, for people.
 
 ghost use Rattle.std.specs.Prelude.{◌≡◌, ◌+◌, ◌<◌, ◌^◌, if◌then◌else◌, take};
 ghost use Rattle.ttx_places.specs.Positions.{is_line_feed, begins_character, line_after, column_after};
@@ -10,7 +10,7 @@ pub struct Position {
     pub column: usize,
 }
 
-// The position of what comes after a byte that stands at a position.
+// The position after a byte, given the position of the byte.
 fn after_byte(at: Position, byte: u8) -> Position
     requires line { at.line < 2 ^ 63 }
     requires column { at.column < 2 ^ 63 }
@@ -33,7 +33,7 @@ fn after_byte(at: Position, byte: u8) -> Position
     }
 }
 
-// The position of what comes after this text.
+// The position of the first byte after this text.
 fn position_after(text: &[u8]) -> Position
     ensures line { result.line ≡ line_after text.now }
     ensures column { result.column ≡ column_after text.now }

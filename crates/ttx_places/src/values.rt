@@ -1,4 +1,4 @@
-//! Places in values.
+//! Finds places in values.
 
 ghost use Rattle.std.specs.Prelude.{◌≡◌, ℕ, ◌<◌, ◌≤◌, length, IfOk, Some, None};
 ghost use Rattle.toml.specs.Parse.{after_element};
@@ -9,14 +9,14 @@ use std::alloc::{AllocError, Global};
 use toml_parser::text::{first, skip, skip_blank};
 use toml_parser::{quoted, starts_string, unquoted};
 
-/// The place of what begins here, if its path is the one.
+/// The place of the value that begins here, if its path is the target.
 pub fn here(target: &str, path: &str, s: &str) -> Option<usize>
     ensures { result ≡ rule.here target.now path.now s.now }
 {
     if path == target { Some(s.len()) } else { None }
 }
 
-// What comes after a string, a number, a boolean or a date.
+// The text after a string, a number, a boolean or a date.
 #[tactic(auto, unfolding(toml::specs::Parse::atom))]
 fn after_atom<'a>(alloc: Global, s: &'a str) -> Result<&'a str, AllocError>
     ensures value { IfOk result (λ rest. rule.after_atom s.now ≡ Some rest.now) }
@@ -107,7 +107,7 @@ fn members<'a>(
     }
 }
 
-/// A key, and the value whose path it makes.
+/// A key with its value. The key extends the path of the value.
 #[cycle(value)]
 pub fn pair<'a>(
     alloc: Global,
@@ -124,7 +124,7 @@ pub fn pair<'a>(
     value(alloc, target, below.as_str(), at_value, depth)
 }
 
-/// A value of a path, with arrays and inline tables at most `depth` deep: the place of the target in it, and what comes after it.
+/// A value with a path, with arrays and inline tables at most `depth` deep: the place of the target in it, and the text after it.
 #[cycle(value)]
 pub fn value<'a>(
     alloc: Global,
