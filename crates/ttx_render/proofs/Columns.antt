@@ -45,7 +45,7 @@ pub held_after-more : (tall : Bool) (row : List ℕ) (c : ℕ) → held_after (a
     ≡ held_left tall row (c + 1)
 held_after-more tall row c = ap (held_left tall row) (sym (add-one c))
 
--- ---- the cells of a row
+-- the cells of a row
 
 module _ (tall : Bool) (row : List ℕ) (option : ℕ) (boxes : Bool) where
   pub cells_to-zero : cells_to tall row 0 option boxes ≡ []

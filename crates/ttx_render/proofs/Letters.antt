@@ -9,13 +9,13 @@ use Rattle.ttx_render.specs.declared.attributes.Attributes.{Attributes}
 use Rattle.ttx_render.specs.Cells.{glyph_of}
 use Rattle.ttx_render.specs.Mosaics.{mosaic_of, held_at, has_blocks, same}
 
--- ---- the national sets
+-- the national sets
 
 only-of : LettersStandAlone → (letter : ℕ) → IsLetter letter → ShowsOnly letter
 only-of alone letter (inl a) = subst ShowsOnly (sym a) alone.0
 only-of alone letter (inr b) = subst ShowsOnly (sym b) alone.1
 
----- held mosaics are not letters
+-- held mosaics are not letters
 
 by_if : {A : Type 0} (b : Bool) (x y g : Glyph) → (x ≡ g → A) → (y ≡ g → A) → (if b then x else y) ≡ g → A
 by_if true x y g f h e = f e
@@ -32,7 +32,7 @@ held-letter tall row letter zero e = space-letter letter e
 held-letter tall row letter (suc d) e =
     by_if _ _ _ (Char letter) (by_if _ _ _ (Char letter) (mosaic-letter letter _ _) (held-letter tall row letter d)) (space-letter letter) e
 
--- ---- a cell's glyph
+-- a cell's glyph
 
 char-letter : (a b : ℕ) → Char a ≡ Char b → a ≡ b
 char-letter a b e = cc

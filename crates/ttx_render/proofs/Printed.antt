@@ -25,7 +25,7 @@ by_if : {X : Type 0} (P : X → Type 0) (b : Bool) (x y : X) → (b ≡ true →
 by_if P true x y f g = f refl
 by_if P false x y f g = g refl
 
--- ---- glyphs
+-- glyphs
 
 abbrev is_right : ℕ → ℕ → Bool
 is_right option code = nat_lt code 0x20 || not (is_control (glyph option code))
@@ -59,7 +59,7 @@ shown_printed now held option code h o c =
     by_if IsPrinted (nat_lt code 0x20) _ _ (λ _. by_if IsPrinted now.hold _ _ (λ _. h) (λ _. refl))
     (λ low. by_if IsPrinted (now.mosaic && has_blocks code) _ _ (λ _. tt) (λ _. glyph_printed option code o c low))
 
--- ---- rows
+-- rows
 
 abbrev pub Printed : List Cell → Type 0
 Printed cells = AllByRecursion (λ (cell : Cell). IsPrinted cell.glyph) cells

@@ -18,7 +18,7 @@ use Rattle.ttx_render.proofs.Prefix.{cell_at-same}
 use Rattle.ttx_render.proofs.ShownRows.{and-left, step-shut, is_shown-suc, codes_of-shown, codes_of-not_shown, tall-not24, shown-bool, codes_of-head}
 use Rattle.ttx_render.proofs.ShownRows.{front-same, at_most, needed-bool, page_row-suc, is_hidden-same}
 
----- rows of a page that are shown and not hidden
+-- rows of a page that are shown and not hidden
 
 module _ (p : Page) where
   -- where rows are shown, the rows hidden by the displayed codes are those hidden by the page's own rows
@@ -39,7 +39,7 @@ module _ (p : Page) where
       (at_most 1 (suc d) (omega arith)) (at_most (suc d) 24 (omega arith)) s
       (λ _. sym (hidden-same (suc d) (and-left _ _ s)) ∙ e)
 
----- a memory that has the page's control bits, its links, and the needed rows above some row
+-- a memory that has the page's control bits, its links, and the needed rows above some row
 
 module _ (p : Page) (m : Memory) (control : m.control ≡ p.control) (links : m.links ≡ p.links) (top : ℕ) (fits : top ≤ 25)
     (rows : (k : ℕ) → k < top → needed p (TheRow k) ≡ true → memory_row m k ≡ page_row p k) where
@@ -69,7 +69,7 @@ module _ (p : Page) (m : Memory) (control : m.control ≡ p.control) (links : m.
       (has_double_height (codes_of (memory_of_page p) k))
       (is_below-same k (omega arith)) (λ t e. ap has_double_height (open-codes k (omega arith) t e))
 
--- ---- a memory that shows the page
+-- a memory that shows the page
 
 module _ (p : Page) (m : Memory) (shows : Shows p m) where
   links-held : m.links ≡ p.links
@@ -109,7 +109,7 @@ module _ (p : Page) (m : Memory) (shows : Shows p m) where
   pub row-same : (d : ℕ) → suc d < 25 → view_row m (suc d) ≡ view_row (memory_of_page p) (suc d)
   row-same d l = row-by d (is_below (memory_of_page p) (suc d)) l refl
 
-  -- ---- row 0
+  -- row 0
   head-by : (b : Bool) → length p.head ≡ 24 → is_shown (memory_of_page p) 0 ≡ b → (k : ℕ) → k < 32 → get_or (codes_of m 0) k 0
       ≡ get_or (codes_of (memory_of_page p) 0) k 0
   head-by false long s k l = ap (λ (row : List ℕ). get_or row k 0)

@@ -10,7 +10,7 @@ use Rattle.ttx_page.specs.Pages.{is_hidden, has_double_height, Page, page_row, i
 use Rattle.ttx_render.specs.Mosaics.{same}
 use Rattle.ttx_render.specs.View.{is_shown, codes_of}
 
--- ---- tests
+-- tests
 
 pub and-left : (a b : Bool) → a && b ≡ true → a ≡ true
 and-left true b e = refl
@@ -37,7 +37,7 @@ step-shut true a true x y e f = rw e
 step-shut true a false x y e f = rw (e, f refl refl)
 step-shut false a b x y e f = refl
 
--- ---- codes
+-- codes
 
 pub nonzero : (d : ℕ) → (suc d == 0) ≡ false
 nonzero d = eqb-suc-zero d

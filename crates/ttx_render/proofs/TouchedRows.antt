@@ -56,7 +56,7 @@ module _ (m n : Memory) (r : ℕ) (control : m.control ≡ n.control) (others : 
     pub lower-stays : (k : ℕ) → stop ≤ k → view_row m k ≡ view_row n k
     lower-stays k l = row-by k (is_below n k) refl (below-lower k l) (λ e. omega arith) (not-first k l)
 
----- the same for memories that differ in one row
+-- the same for memories that differ in one row
 
 module _ (m n : Memory) (r : ℕ) (differs : DiffersAt m n r) where
   codes-local : (k : ℕ) → (k ≡ r → ⊥) → codes_of m k ≡ codes_of n k
@@ -72,7 +72,7 @@ module _ (m n : Memory) (r : ℕ) (differs : DiffersAt m n r) where
   pub touched-lower : (stop k : ℕ) → r < stop → is_below m stop ≡ false → is_below n stop ≡ false → stop ≤ k → view_row m k ≡ view_row n k
   touched-lower stop k l e f h = lower-stays m n r differs.control codes-local stop l e f k h
 
----- Views as lists
+-- Views as lists
 
 pub cut : (k n : ℕ) → (k < n) ⊎ (n ≤ k)
 cut k zero = inr (omega arith)

@@ -87,7 +87,7 @@ module _ (m : Memory) where
   unfolding own_cells
   own-row n codes tall option boxes e i j k h = rw (i, j, k, h) (sym (view_row-own n e))
 
--- ---- what a View depends on
+-- what a View depends on
 
 -- the memory reduced to what is shown
 contents_of : Memory → Memory

@@ -1,4 +1,4 @@
-//! Laws of the display. Calling one does nothing at run time; it gives the caller's proof the law.
+//! Laws of the display. A call does nothing at run time, and gives the law to the caller's proof.
 
 ghost use Rattle.ttx_render.specs.Laws.{AttributesAreInForce, HeldIsFromLatest, ContentsDecide, ShowingIsSeeing};
 ghost use Rattle.ttx_render.specs.Laws.{LetterIsShown, LetterIsSeen, WrongLetterIsSeen, ViewsArePrinted};
@@ -20,7 +20,7 @@ pub fn contents_decide()
     ensures { ContentsDecide }
 {}
 
-/// A memory with a page's control bits and needed items has the page's View, the receiver's own columns and the clock aside.
+/// A memory with a page's control bits and needed items has the page's View, except the receiver's own columns and the clock.
 pub fn showing_is_seeing()
     ensures { ShowingIsSeeing }
 {}
