@@ -33,7 +33,7 @@ and_false : (a b : Bool) → a ≡ true → (a && b) ≡ false → b ≡ false
 and_false true b h k = k
 and_false false b h k = cc
 
--- the receiver goes on storing: it was storing before, and the packet does not end this
+-- the receiver is still storing: it was storing before, and the packet does not end this
 pub record HasGoneOn (m new : Memory) (sel : Selection) (pkt : Packet) : Type 0 where
   pub was : m.storing ≡ true
   pub no_header : heads (selected_mag sel) pkt ≡ false

@@ -1,4 +1,4 @@
--- A receiver that shows a page goes on showing it if nothing else is sent of the page.
+-- A receiver that shows a page continues to show it if nothing else is sent of the page.
 use Rattle.std.proofs.Common.{◌≡◌, ℕ, zero, suc, ◌+◌, ◌%◌, ◌<◌, ◌≤◌, ℤ, pos, ◌+ℤ◌, ◌<ℤ◌, ◌≤ℤ◌, Bool, true, false, List, [], length, get_or, take, map}
 use Rattle.std.proofs.Common.{refl, sym, ap, ◌∙◌, subst, arith, get_or-take}
 use Rattle.std.proofs.lemmas.Int.{ints}

@@ -160,7 +160,7 @@ module _ (class : Class) (lines : ℕ) (sel : Selection) where
       (λ _ h. inr (h, refl)) st
   after_storing choice m _ h = inr (h, refl)
 
-  -- without a header of the magazine, and without an end in serial transmission, the receiver goes on storing
+  -- without a header of the magazine, and without an end in serial transmission, the receiver continues to store
   pub after_ready : (choice : Bool) (m : Memory) (pkt : Packet) → heads (selected_mag sel) pkt ≡ false → ends_serial (selected_mag sel) pkt ≡ false →
       m.storing ≡ true → ((after class lines sel choice m pkt).storing ≡ true) × ((after class lines sel choice m pkt).age ≡ m.age)
   after_ready choice m (Header id control text) other on st =

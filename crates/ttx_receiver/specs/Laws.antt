@@ -1,6 +1,6 @@
 -- The laws of receiving. Each is proved by the function of its name in `laws`.
 --
---   StepsKeepMemories       what a slot makes of a memory is a memory
+--   StepsKeepMemories       a step turns a memory into a memory
 --   IsSteadyFrom            from a slot on, a receiver of the page is sent only the page
 --   HasHeaderBetween, IsBrought    a header of the page, or an item of it, comes between two slots
 --   RunHoldsItsItem         an item that comes is held by every receiver, after every reception within the error rule

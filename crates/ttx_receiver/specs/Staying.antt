@@ -1,7 +1,7 @@
 -- A page that a stream sends unchanged, and a receiver that already has it.
 --
 --   SendsOnly               the headers that a selection matches are the page's, and what follows them is the page's own
---   ShownStaysShown         a receiver that shows the page goes on showing it, whatever it chooses
+--   ShownStaysShown         a receiver that shows the page continues to show it, whatever it chooses
 use Rattle.std.specs.Prelude.{◌≡◌, ℕ, ℤ, true, false}
 use Rattle.ttx_page.specs.Packets.{packet_of}
 use Rattle.ttx_page.specs.Pages.{Page, IsPage, matches}

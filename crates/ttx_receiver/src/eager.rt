@@ -11,7 +11,7 @@ use crate::tuned::Tuned;
 use std::marker::Model;
 use ttx_page::{Class, PageMemory, Selection};
 
-/// A receiver of class any that stores all that it may, never erases by choice, and goes on storing where it may end.
+/// A receiver of class any that stores all that it may, never erases by choice, and continues to store where it may end.
 #[derive(Drop)]
 pub struct Eager {
     tuned: Tuned,

@@ -1,11 +1,11 @@
-//! Laws of receivers. Calling one does nothing at run time; it gives the caller's proof the law.
+//! Laws of receivers. A call does nothing at run time, and gives the law to the caller's proof.
 
 ghost use Rattle.ttx_receiver.specs.Laws.{StepsKeepMemories, RunHoldsItsItem};
 ghost use Rattle.ttx_receiver.specs.Starving.{StarvedStaysWrong, StarvedIsScripted};
 ghost use Rattle.ttx_receiver.specs.Staying.{ShownStaysShown};
 ghost use Rattle.ttx_receiver.specs.Touching.{StepTouches, IdleStepsTouchNothing};
 
-/// What a slot makes of a memory is a memory.
+/// A step turns a memory into a memory: all values stay in their ranges.
 pub fn steps_keep_memories()
     ensures { StepsKeepMemories }
 {
@@ -38,14 +38,14 @@ pub fn starved_stays_wrong()
     ttx_page::laws::runs_go_on();
 }
 
-/// What such a receiver receives and chooses, as hits and as a script.
+/// The reception and the choices of such a receiver, as hits and as a script.
 pub fn starved_is_scripted()
     ensures { StarvedIsScripted }
 {
     ttx_page::laws::choices_are_choices();
 }
 
-/// A receiver that shows a page goes on showing it if nothing else is sent of the page.
+/// A receiver that shows a page continues to show it if nothing else is sent of the page.
 pub fn shown_stays_shown()
     ensures { ShownStaysShown }
 {
