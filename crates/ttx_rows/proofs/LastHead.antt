@@ -1,5 +1,5 @@
--- Row 0 of receivers that spoil it with wrong characters: it is the page's from a header of the page on whose text arrives, if each later one's
--- does.
+-- Row 0 of receivers that spoil it with wrong characters: it is the page's from the header on whose text arrives, if the text of each later
+-- header arrives too.
 use Rattle.std.proofs.Common.{◌≡◌, ◌⊎◌, ℕ, zero, suc, ◌+◌, ◌-◌, ◌%◌, ◌<◌, ◌≤◌, ℤ, pos, ◌+ℤ◌, ◌==◌, ◌&&◌, not, Bool, true, false, if◌then◌else◌}
 use Rattle.std.proofs.Common.{List, [], ◌∷◌, ◌++◌, Option, Some, None, length, get_or, take, drop, map, replicate, set}
 use Rattle.std.proofs.Common.{refl, sym, ap, ◌∙◌, subst, inl, inr, arith, leb-true, eqb-true, eq-eqb, get_or-drop, get_or-take, length-drop}
@@ -52,7 +52,7 @@ pub record HasHead (p : Page) (m : Memory) : Type 0 where
 abbrev pub Wide : Memory → Type 0
 Wide m = length (memory_row m 0) ≡ 40
 
--- ---- row 0 stays as wide as it is
+-- row 0 keeps its length
 
 wide_set : (rows : List (List ℕ)) (k : ℕ) (a : List ℕ) → length (get_or rows 0 []) ≡ 40 → (k ≡ 0 → length a ≡ 40) →
     length (get_or (set rows k a) 0 []) ≡ 40
@@ -113,7 +113,7 @@ wide_step how class lines sel m received new w step = elim step as (λ _. Wide n
   ]
 ]
 
--- ---- what other packets leave
+-- what other packets leave unchanged
 
 -- a packet that no receiver of the selection takes into row 0
 abbrev pub IsElsewhere : Selection → Packet → Type 0
@@ -161,7 +161,7 @@ head_kept p class lines sel choice m Unreadable other h = h
 head_kept p class lines sel choice m Info other h = h
 head_kept p class lines sel choice m Other other h = h
 
--- ---- what a header of the page leaves
+-- what a header of the page leaves
 
 stored_here : (row t : List ℕ) (c : ℕ) → c < length row → is_odd (get_or t c 0) ≡ true → get_or (stored_row row t) c 0 ≡ get_or t c 0 % 128
 stored_here [] t c lt odd = absurd (omega arith)
@@ -208,7 +208,7 @@ head_set codes p page class lines sel choice m id control t here is text w =
     if_true P true m n e x = x
     if_true P false m n e x = absurd (both_ways false refl e)
 
--- ---- headers
+-- headers
 
 pub page_of_mag : (page : Id) (pkt : Packet) → heads_page page pkt ≡ true → heads page.mag pkt ≡ true
 page_of_mag page (Header id control t) h =
@@ -230,7 +230,7 @@ mag_kind mag slot IsUnreadable h = absurd (both_ways false refl h)
 mag_kind mag slot IsInfo h = absurd (both_ways false refl h)
 mag_kind mag slot (IsOther m number) h = absurd (both_ways false refl h)
 
--- a header of the magazine isn't lost
+-- a header of the magazine is not lost
 header_arrives : (mag : ℕ) (pkt : Packet) → heads mag pkt ≡ true → may_be_lost mag pkt ≡ true → ⊥
 header_arrives mag (Header id control t) h lost = both_ways _ (not-true _ lost) h
 header_arrives mag (Row m number t) h lost = both_ways false refl h
@@ -309,9 +309,9 @@ page_id_matches (AnySub mag number) page id h k =
     let b = eqb-true _ _ ((and_parts _ _ h).1) ∙ eqb-true _ _ ((and_parts _ _ (and_parts _ _ k).0).1) in
     and_from _ _ (eq-eqb mag id.mag a) (eq-eqb number id.page b)
 
--- ---- one slot
+-- one slot
 
--- from place from of the slots received on, each header of the page has its whole text right
+-- from place `from` of the slots received on, each header of the page has its whole text right
 abbrev pub AreRightFrom : Stream → Id → ℤ → List (List ℕ) → ℕ → Type 0
 AreRightFrom s page tau received from =
     (n : ℕ) → from ≤ n → n < length received → heads_page page (packet_of (s (tau +ℤ pos n))) ≡ true → (x : ℕ) → IsTextByte TheHead x →
@@ -325,7 +325,7 @@ pub record OfPage (sel : Selection) (p : Page) (sent received : List ℕ) : Type
 
 module _ (laws : LawsBelow) (numbered : RowsAreNumbered) (codes : OddBytesHoldTheirCodes) (p : Page) (page : IsPage p) (sel : Selection)
     (fits : matches sel p.id ≡ true) (class : Class) (lines : ℕ) (how : Manner) (sent received : List ℕ) (of : OfPage sel p sent received) where
-  -- a slot that doesn't send a header of the page
+  -- a slot that does not send a header of the page
   pub elsewhere : heads_page p.id (packet_of sent) ≡ false → IsElsewhere sel (packet_of received)
   elsewhere other = subst (IsElsewhere sel) (sym (packet_is received)) (go (kind_of received) refl)
     where
@@ -440,7 +440,7 @@ module _ (laws : LawsBelow) (numbered : RowsAreNumbered) (codes : OddBytesHoldTh
       ]
     ]
 
--- ---- runs
+-- runs
 
 abbrev pub AllOfPage : Selection → Page → Stream → ℤ → List (List ℕ) → Type 0
 AllOfPage sel p s tau received = (n : ℕ) → n < length received → OfPage sel p (s (tau +ℤ pos n)) (get_or received n [])
@@ -477,7 +477,7 @@ module _ (laws : LawsBelow) (numbered : RowsAreNumbered) (codes : OddBytesHoldTh
             (omega arith)) other m run.0 h run.1
       ]) (wide_step how class lines sel m slot run.0 w run.1) run.2
 
-  -- each one is from a place on
+  -- each one from a place on is right
   pub last_head : (received : List (List ℕ)) (tau : ℤ) (from : ℕ) → AllOfPage sel p s tau received → from < length received →
       heads_page p.id (packet_of (s (tau +ℤ pos from))) ≡ true → AreRightFrom s p.id tau received from → (m new : Memory) →
       Wide m → RowRun how class lines sel m received new → HasHead p new
@@ -493,9 +493,9 @@ module _ (laws : LawsBelow) (numbered : RowsAreNumbered) (codes : OddBytesHoldTh
       (subst (λ j. heads_page p.id (packet_of (s j)) ≡ true) e mine) (right_later s p.id tau slot received from right) run.0 new
       (wide_step how class lines sel m slot run.0 w run.1) run.2
 
--- ---- Views
+-- Views
 
--- a page with rows and links of its own, and the head of another
+-- a page with its own rows and links, and the head of another
 abbrev held : Page → Memory → Page
 held p m = record { id = p.id; control = p.control; head = p.head; rows = drop 1 m.rows; links = m.links; crc = [] }
 
@@ -537,7 +537,7 @@ whole_view sees p page m h below = record { links = below.links; cells = by }
         (first_of (memory_of_page (held p m)) ∙ first_view p m ∙ sym (first_of (memory_of_page p)))
     by (suc d) c is = below.cells (suc d) c (omega arith) is
 
--- ---- the last of several
+-- the last of several
 
 -- the last place below n where a test holds
 pub record Last (test : ℕ → Bool) (n : ℕ) : Type 0 where

@@ -1,5 +1,5 @@
--- Row 0 of receivers that show late: it is the page's from a header on whose text arrives, once another page number has followed it, if each
--- later header's text arrives.
+-- Row 0 of receivers that show late: it is the page's from the header on whose text arrives, once another page number has followed it, if the
+-- text of each later header arrives too.
 use Rattle.std.proofs.Common.{◌≡◌, ◌⊎◌, ℕ, zero, suc, ◌<◌, ℤ, pos, ◌+ℤ◌, ◌≤ℤ◌, ◌==◌, ◌&&◌, not, Bool, true, false, if◌then◌else◌}
 use Rattle.std.proofs.Common.{List, [], ◌∷◌, Option, Some, None, length, get_or, drop, map}
 use Rattle.std.proofs.Common.{refl, sym, ap, ◌∙◌, subst, inl, inr, arith, eqb-true, eq-eqb}
@@ -35,7 +35,7 @@ use Rattle.ttx_rows.proofs.LastHead.{page_header_received, page_of_mag, page_id_
 use Rattle.ttx_rows.proofs.LastHead.{IsElsewhere, later, right_later, right_next, elsewhere, other_step, head_step}
 use Rattle.ttx_page.proofs.SlotDistances.{cases_ltz}
 
--- ---- where storing begins and ends
+-- where storing begins and ends
 
 -- the packet with some text
 abbrev IsVersion : Packet → Packet → Type 0
@@ -43,7 +43,7 @@ IsVersion (Header id control t) new = (u : List ℕ) × (new ≡ Header id contr
 IsVersion (Row mag number t) new = (u : List ℕ) × (new ≡ Row mag number u)
 IsVersion packet new = new ≡ packet
 
--- what a step does: nothing, or what it does with such a packet
+-- what a step does: nothing, or the same as with such a packet
 record Stepped (class : Class) (lines : ℕ) (sel : Selection) (m : Memory) (received : Packet) (new : Memory) : Type 0 where
   pub choice : Bool
   pub packet : Packet
@@ -113,7 +113,7 @@ version_elsewhere sel Unreadable new v e = subst (IsElsewhere sel) (sym v) e
 version_elsewhere sel Info new v e = subst (IsElsewhere sel) (sym v) e
 version_elsewhere sel Other new v e = subst (IsElsewhere sel) (sym v) e
 
--- where one of two memories is storing only if a third is, so is the choice of them
+-- if one of two memories is storing only if a third is, the same holds for the choice between them
 if_storing : (m : Memory) (b : Bool) (x y : Memory) → (b ≡ true → x.storing ≡ true → m.storing ≡ true) → (y.storing ≡ true → m.storing ≡ true) →
     (if b then x else y).storing ≡ true → m.storing ≡ true
 if_storing m true x y f g h = f refl h
@@ -123,7 +123,7 @@ linked_storing : (m : Memory) (content : Option LinkSet) → (with_links m conte
 linked_storing m None = refl
 linked_storing m (Some content) = refl
 
--- storing doesn't begin at other packets
+-- storing does not begin at other packets
 storing_was : (class : Class) (lines : ℕ) (sel : Selection) (choice : Bool) (m : Memory) (pkt : Packet) → IsElsewhere sel pkt →
     (after class lines sel choice m pkt).storing ≡ true → m.storing ≡ true
 storing_was class lines sel choice m (Header id control t) other h =
@@ -144,7 +144,7 @@ storing_was class lines sel choice m Unreadable other h = h
 storing_was class lines sel choice m Info other h = h
 storing_was class lines sel choice m Other other h = h
 
--- it ends at a header of the magazine that doesn't match, and begins at one that does
+-- it ends at a header of the magazine that does not match, and begins at one that does
 if_true : (b : Bool) (x y : Memory) → b ≡ true → (if b then x else y) ≡ x
 if_true true x y e = refl
 if_true false x y e = absurd (both_ways false refl e)
@@ -166,7 +166,7 @@ storing_begins class lines sel choice m id control t here =
     ap (λ (x : Memory). x.storing) (if_true (matches sel id) (begun (if erases class choice m control then erased m else m) control t)
     (if id.mag == selected_mag sel then with_storing m false else (if c11 control && choice then with_storing m false else m)) here)
 
--- ---- headers
+-- headers
 
 another_heads : (page : Id) (pkt : Packet) → heads_another page pkt ≡ true → heads page.mag pkt ≡ true
 another_heads page (Header id control t) h = (and_parts _ _ h).0
@@ -217,11 +217,11 @@ base_is_wide : (class : Class) (sel : Selection) (d : LateMemory) (base : Memory
 base_is_wide class sel d base pkt w from =
     elim from as (λ _. Wide base) [ inl kept ↦ subst Wide (sym kept) w | inr other ↦ former_is_wide class base other.1 ]
 
--- the header text of the slot arrives, where it is the page's
+-- the header text of the slot arrives, if it is a header of the page
 abbrev IsRightHere : Page → List ℕ → List ℕ → Type 0
 IsRightHere p sent received = heads_page p.id (packet_of sent) ≡ true → (x : ℕ) → IsTextByte TheHead x → get_or received x 0 ≡ get_or sent x 0
 
--- what the receiver holds before slot j, the last header having arrived
+-- what the receiver holds before slot j, if the text of the last header has arrived
 record Stands (p : Page) (s : Stream) (begin j : ℤ) (d : LateMemory) : Type 0 where
   pub head : HasHead p d.gathered
   pub wide : Wide d.gathered
@@ -266,7 +266,7 @@ module _ (laws : LawsBelow) (numbered : RowsAreNumbered) (codes : OddBytesHoldTh
           ]
         ]
 
-    -- a header of the magazine that isn't the page's ends storing
+    -- a header of the magazine that is not the page's ends storing
     ends : heads p.id.mag (packet_of (s j)) ≡ true → heads_page p.id (packet_of (s j)) ≡ false → (m new : Memory) →
         RowStep how class lines sel m received new → new.storing ≡ false
     ends mine other m new step =
@@ -288,7 +288,7 @@ module _ (laws : LawsBelow) (numbered : RowsAreNumbered) (codes : OddBytesHoldTh
             ap (λ (x : Memory). x.storing) (t.is ∙ ap (after class lines sel t.choice (older m)) v.1)
             ∙ storing_ends class lines sel t.choice (older m) (id_of received) (control_of received) v.0 not_here own
 
-    -- storing goes on, or begins, under a header of the page
+    -- storing continues, or begins, under a header of the page
     owner_next : (m new : Memory) → (m.storing ≡ true → Owner p.id s begin j) → RowStep how class lines sel m received new →
         new.storing ≡ true → Owner p.id s begin (j +ℤ pos 1)
     owner_next m new owner step stores = elim (cases_Bool (heads p.id.mag (packet_of (s j)))) as (λ _. Owner p.id s begin (j +ℤ pos 1)) [
@@ -385,7 +385,7 @@ module _ (laws : LawsBelow) (numbered : RowsAreNumbered) (codes : OddBytesHoldTh
                 three true false false x y z = absurd (both_ways true z refl)
                 three false false c x y z = absurd (both_ways false refl x)
 
-    -- at a header of the page whose text arrives storing begins
+    -- storing begins at a header of the page whose text arrives
     late_begins : heads_page p.id (packet_of (s j)) ≡ true → IsRightHere p (s j) received → (d new : LateMemory) → Wide d.gathered →
         RowLateStep how class lines sel d received new → Stands p s begin (j +ℤ pos 1) new × WillShow p new
     late_begins mine right d new w r =
@@ -421,7 +421,7 @@ module _ (laws : LawsBelow) (numbered : RowsAreNumbered) (codes : OddBytesHoldTh
               ∙ storing_begins class lines sel t.choice (older r.base) (id_of received) (control_of received) v.0 here
         ]
 
-  -- ---- runs
+  -- runs
 
   is_later : (j : ℤ) → begin ≤ℤ j → begin ≤ℤ (j +ℤ pos 1)
   is_later j low = omega (arith, ints)
@@ -450,7 +450,7 @@ module _ (laws : LawsBelow) (numbered : RowsAreNumbered) (codes : OddBytesHoldTh
       (right_next s p.id tau slot received right) run.0 new
       (next_place tau run.0 n.stands) (n.shown h) run.2
 
-  -- it is, once another page number came
+  -- it is shown once another page number has come
   comes_shown : (received : List (List ℕ)) (tau : ℤ) (until : ℕ) → begin ≤ℤ tau → until < length received →
       heads_another p.id (packet_of (s (tau +ℤ pos until))) ≡ true → AllOfPage sel p s tau received → AreRightFrom s p.id tau received 0 →
       (d new : LateMemory) → Stands p s begin tau d → WillShow p d → RowLateRun how class lines sel d received new → HasHead p new.shown

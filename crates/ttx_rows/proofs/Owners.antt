@@ -1,4 +1,4 @@
--- Whether a slot stands under a header of the page that came since a slot of the stream: told by looking back slot by slot.
+-- Whether a slot is under a header of the page that came since a slot of the stream, decided by looking back slot by slot.
 use Rattle.std.proofs.Common.{◌≡◌, ℕ, zero, suc, ℤ, pos, negsuc, ◌+ℤ◌, ◌-ℤ◌, ◌≤ℤ◌, Bool, true, false, if◌then◌else◌}
 use Rattle.std.proofs.Common.{refl, sym, ap, ◌∙◌, subst, inl, inr, arith}
 use Rattle.std.proofs.lemmas.Bool.{cases_Bool, both_ways}
@@ -79,7 +79,7 @@ owner_known page s tau (suc n) o = elim (cases_ltz o.slot (tau +ℤ pos n)) as (
       ∙ subst (λ k. heads_page page (packet_of (s k)) ≡ true) e o.is_page
 ]
 
--- the same by the slot's place
+-- the same, by the place of the slot
 abbrev pub under_at : Id → Stream → ℤ → ℤ → Bool
 under_at page s tau (pos n) = is_under page s tau n
 under_at page s tau (negsuc n) = false

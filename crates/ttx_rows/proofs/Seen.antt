@@ -1,4 +1,4 @@
--- What is accepted is seen by receivers that take rows whole or not at all.
+-- Receivers that take rows whole or not at all see what is accepted.
 use Rattle.std.proofs.Common.{◌≡◌, ℕ, ◌<◌, ◌≤◌, ℤ, pos, ◌+ℤ◌, ◌≤ℤ◌, ◌||◌, Bool, true, false}
 use Rattle.std.proofs.Common.{List, [], length, get_or, refl, sym, subst, inl, inr, arith}
 use Rattle.std.proofs.lemmas.Bool.{cases_Bool, cases_lt, both_ways}
@@ -96,7 +96,7 @@ module _ (laws : LawsOfRows) (s : Stream) (p : Page) (sel : Selection) (class : 
       permitted : Received sends p.id repeat begin heard
       permitted = other_received how laws.below laws.numbered s p repeat some begin slots_are received heard size rule text are
 
-    -- where the headers' text arrives
+    -- if the text of the headers arrives
     seen : RunsAreSeen → (former m : Memory) → IsFormer class former → RowRun how class lines sel former received m →
         end ≤ℤ (begin +ℤ pos (length received)) → HasView p m
     seen runs former m is_former run long =
@@ -115,7 +115,7 @@ module _ (laws : LawsOfRows) (s : Stream) (p : Page) (sel : Selection) (class : 
         (permitted h.heard h.size h.are) h.run
         (subst (λ n. (end +ℤ pos gap) ≤ℤ (begin +ℤ pos n)) (sym h.size) long)
 
-  -- and whatever becomes of it
+  -- whatever becomes of that text
   both_seen : RunsAreSeen → (received : List (List ℕ)) → ReceivedByRows how s p repeat begin received → (former m : Memory) → IsFormer class former →
       RowRun how class lines sel former received m → end ≤ℤ (begin +ℤ pos (length received)) →
       HasViewBelowHead p m × (EachHeadArrives how.spaces s p.id repeat begin received → HasView p m)
@@ -146,7 +146,7 @@ module _ (laws : LawsOfRows) (s : Stream) (p : Page) (sel : Selection) (class : 
         λ heads. shown received rule heads runs gap followed former d is_former run long,
       )
 
--- ---- receivers that store characters as they come
+-- receivers that store characters as they come
 
 neither : (a b : Bool) → (a || b) ≡ false → (a ≡ false) × (b ≡ false)
 neither true b h = absurd (both_ways true h refl)
@@ -216,7 +216,7 @@ module _ (laws : LawsOfRows) (s : Stream) (p : Page) (sel : Selection) (class : 
       (subst (λ n. (end +ℤ pos gap) ≤ℤ (begin +ℤ pos n)) (sym h.size) long) in
       alike_below d.shown h.left.shown h.like.1 p seen_left.0
 
--- ---- row 0 where the last header arrives
+-- row 0, if the text of the last header arrives
 
 module _ (laws : LawsOfRows) (s : Stream) (p : Page) (sel : Selection) (class : Class) (lines repeat : ℕ) (begin end : ℤ) (page : IsPage p)
     (fits : matches sel p.id ≡ true) (steady : IsSteadyFrom s p sel begin)
@@ -231,7 +231,7 @@ module _ (laws : LawsOfRows) (s : Stream) (p : Page) (sel : Selection) (class : 
         head = λ mine. steady.items TheHead tt _ _ low (refl, mine);
       }
 
-  -- a header of the page comes: its links do
+  -- a header of the page comes if its links do
   some_header : HasHeaderBetween s p begin end
   some_header = elim (brings TheLinks refl) as (λ _. HasHeaderBetween s p begin end) [
     | inl sent ↦
@@ -283,7 +283,7 @@ row_runs_are_seen laws runs s p sel class lines repeat begin end page few some f
   ],
 )
   where
-    -- of receivers that store no character of even parity
+    -- for receivers that store no character of even parity
     plainly : how.stores ≡ false → HasViewBelowHead p m × (EachHeadArrives how.spaces s p.id repeat begin received → HasView p m)
     plainly off = both_seen laws s p sel class lines repeat begin end page few some fits steady brings how off runs received rule former m is_former
         run long
@@ -295,7 +295,7 @@ row_runs_are_seen laws runs s p sel class lines repeat begin end page few some f
       | inr off ↦ (plainly off).0
     ]
 
--- ---- and of receivers that show late, where the last header that was followed arrives
+-- receivers that show late, if the text of the last header that was followed arrives
 
 module _ (laws : LawsOfRows) (s : Stream) (p : Page) (sel : Selection) (class : Class) (lines repeat : ℕ) (begin end : ℤ) (page : IsPage p)
     (fits : matches sel p.id ≡ true) (steady : IsSteadyFrom s p sel begin)
@@ -378,7 +378,7 @@ row_runs_are_shown laws runs s p sel class lines repeat begin end page few some 
       ],
     )
   where
-    -- of receivers that store no character of even parity
+    -- for receivers that store no character of even parity
     plainly : how.stores ≡ false → HasViewBelowHead p d.shown × (EachHeadArrives how.spaces s p.id repeat begin received → HasView p d.shown)
     plainly off = both_shown laws s p sel class lines repeat begin end page few some fits steady brings how off runs gap followed received rule
         former d is_former run long
@@ -414,7 +414,7 @@ accepted_is_shown_by_rows runs laws cycle pages w is_cycle are_pages is_certific
       run late;
 }
 
--- ---- the headline is a case
+-- the headline is a special case
 
 pub seen_by_rows_is_seen : SeenByRowsIsSeen
 seen_by_rows_is_seen cycle pages p w seen = record {

@@ -1,4 +1,4 @@
--- Runs of a receiver that stores characters as they come: the stream that sends, in the rows that are nothing to the page, what was stored.
+-- Runs of a receiver that stores characters as they come: the stream sends what was stored, in the rows that do not matter to the page.
 use Rattle.std.proofs.Common.{◌≡◌, ◌⊎◌, ℕ, zero, suc, ◌<◌, ◌≤◌, ℤ, pos, negsuc, ◌+ℤ◌, ◌-ℤ◌, ◌<ℤ◌, ◌≤ℤ◌, ◌==◌, ◌&&◌, not, Bool, true, false}
 use Rattle.std.proofs.Common.{List, [], ◌∷◌, length, get_or, refl, sym, ap, ◌∙◌, subst, inl, inr, arith, eqb-true, eq-eqb}
 use Rattle.std.proofs.lemmas.Bool.{cases_lt, both_ways, and_parts, and_from, not-true}
@@ -191,9 +191,9 @@ module _ (laws : LawsBelow) (numbered : RowsAreNumbered) (class : Class) (lines 
         like = rest.like;
       }
 
--- ---- the rows that are free
+-- the free rows
 
--- a packet but a row that the page needs, under a header of the page that came since
+-- a packet that is not a needed row of the page under a header of the page that came since
 abbrev pub is_nothing : Page → Bool → Packet → Bool
 is_nothing p under (Row mag number text) = not (under && ((mag == p.id.mag) && needed p (TheRow number)))
 is_nothing p under _ = true
@@ -201,7 +201,7 @@ is_nothing p under _ = true
 abbrev pub free_rows : Page → Stream → ℤ → ℤ → Bool
 free_rows p s tau j = is_nothing p (is_under_since p.id s tau j) (packet_of (s j))
 
--- a row that isn't free is a transmission of one that the page needs
+-- a row that is not free is a transmission of a row that the page needs
 pub record IsNeededRow (p : Page) (s : Stream) (number : ℕ) (j : ℤ) : Type 0 where
   pub needs : needed p (TheRow number) ≡ true
   pub sent : IsTransmission s p.id (TheRow number) j
@@ -234,7 +234,7 @@ needed_row p s tau j mag number kind none =
     same_number : (number : ℕ) → (number == number) ≡ true
     same_number number = eq-eqb number number refl
 
--- what the page owns isn't free
+-- what the page owns is not free
 owned_is_needed : (p : Page) (s : Stream) (begin : ℤ) (item : Item) → IsChecked p item → (h j : ℤ) → begin ≤ℤ h → IsOwned s p.id item h j →
     (mag number : ℕ) (t : List ℕ) → packet_of (s j) ≡ Row mag number t → free_rows p s begin j ≡ true → ⊥
 owned_is_needed p s begin TheHead checked h j low owned mag number t packet free = both_ways _ (ap (heads_page p.id) packet) owned.1
@@ -246,7 +246,7 @@ owned_is_needed p s begin (TheRow r) checked h j low owned mag number t packet f
     let need : needed p (TheRow number) ≡ true = subst (λ k. needed p (TheRow k) ≡ true) (sym same_number) checked in
     both_ways _ (not-true _ (ap (is_nothing p (is_under_since p.id s begin j)) (sym packet) ∙ free)) (and_from _ _ under (and_from _ _ parts.0 need))
 
--- ---- the stream
+-- the stream
 
 abbrev sends_at : List ℕ → List (List ℕ) → ℤ → List ℕ
 sends_at sent sends (pos n) = get_or sends n sent
@@ -334,7 +334,7 @@ module _ (p : Page) (s : Stream) (tau : ℤ) (received sends came : List (List �
         | inr torn ↦ inr (torn.as_sent ∙ sym (at_place n here), torn.refusable, torn_differs n here torn)
       ]
 
-  -- ---- the rule
+  -- the rule
 
   module _ (laws : LawsBelow) (tests : HaveSameTests s new_stream) (how : Manner) (repeat : ℕ)
       (rule : ReceivedByRows how s p repeat tau received) where

@@ -1,4 +1,4 @@
--- Texts that are taken as they come: what is sent instead of a row, so that a permitted receiver stores the same of it.
+-- Texts that are taken as they come: what is sent instead of a row, so that a permitted receiver stores the same.
 use Rattle.std.proofs.Common.{◌≡◌, ℕ, zero, suc, ◌+◌, ◌%◌, ◌<◌, ◌≤◌, ◌&&◌, ◌||◌, ◌==◌, leb, not, Bool, true, false}
 use Rattle.std.proofs.Common.{List, [], ◌∷◌, length, get_or, drop, refl, sym, ap, ◌∙◌, subst, inl, inr, arith}
 use Rattle.std.proofs.Common.{leb-true, eqb-true, get_or-drop, length-drop}
@@ -15,7 +15,7 @@ use Rattle.ttx_rows.proofs.OneSlot.{LawsBelow, packet_at}
 use Rattle.ttx_rows.proofs.OtherStream.{with_text, length-with_text, text_before, text_after}
 use Rattle.ttx_rows.proofs.OtherStream.{texted, texted_slot, texted_kind, row, IsCleanRow}
 
--- ---- bytes
+-- bytes
 
 abbrev is_taken : ℕ → Bool
 is_taken b = leb (odd_byte (b % 128)) 255 && leb (distance b (odd_byte (b % 128))) 1 && (not (is_odd b) || (odd_byte (b % 128) == b))
@@ -52,7 +52,7 @@ taken_odd b t lt may odd = elim may as (λ _. t ≡ b) [
       ((and_parts (leb (odd_byte (b % 128)) 255 && leb (distance b (odd_byte (b % 128))) 1) _ (taken_facts b lt)).1) odd)
 ]
 
--- ---- texts
+-- texts
 
 pub length-taken : (text taken : List ℕ) → AreTakenAs text taken → length taken ≡ length text
 length-taken [] [] are = refl
@@ -84,7 +84,7 @@ drop_text (suc n) [] (c ∷ heard) e = absurd (omega arith)
 drop_text (suc n) (b ∷ sent) [] e = absurd (omega arith)
 drop_text (suc n) (b ∷ sent) (c ∷ heard) e = drop_text n sent heard (omega arith)
 
--- ---- rows
+-- rows
 
 -- a row with the text as it is taken
 pub record TakenRow (sent : List ℕ) (mag number : ℕ) (taken : List ℕ) : Type 0 where
@@ -96,7 +96,7 @@ pub record TakenRow (sent : List ℕ) (mag number : ℕ) (taken : List ℕ) : Ty
 module _ (laws : LawsBelow) (numbered : RowsAreNumbered) (p : Page) (sent received : List ℕ) (s : IsSlot sent) (clean : is_clean sent ≡ true)
     (h : MayBeReceivedAs sent received) (mag number : ℕ) (kind : kind_of sent ≡ IsRow mag number)
     (taken : List ℕ) (are : AreTakenAs (drop 2 received) taken) where
-  -- the address as it is sent, the text as it is received
+  -- the address as it is sent, and the text as it is received
   abbrev first : List ℕ
   first = texted laws numbered p sent received s clean h
 
@@ -109,7 +109,7 @@ module _ (laws : LawsBelow) (numbered : RowsAreNumbered) (p : Page) (sent receiv
   first_kind : kind_of first ≡ IsRow mag number
   first_kind = texted_kind laws numbered p sent received s clean h mag number kind
 
-  -- and with the text as it is taken
+  -- the same with the text as it is taken
   abbrev heard : List ℕ
   heard = with_text 2 sent (0 ∷ 0 ∷ taken)
 
@@ -133,7 +133,7 @@ module _ (laws : LawsBelow) (numbered : RowsAreNumbered) (p : Page) (sent receiv
   heard_at : (c : ℕ) → get_or heard (2 + c) 0 ≡ get_or taken c 0
   heard_at c = text_after 2 sent (0 ∷ 0 ∷ taken) (2 + c) long (omega arith) ∙ sym (get_or-drop 2 (0 ∷ 0 ∷ taken) c 0)
 
-  -- each place is one of the address, or of the text
+  -- each place is in the address or in the text
   by_place : (P : ℕ → Type 0) → ((x : ℕ) → x < 2 → P x) → ((c : ℕ) → P (2 + c)) → (x : ℕ) → P x
   by_place P low high zero = low 0 (omega arith)
   by_place P low high (suc zero) = low 1 (omega arith)

@@ -1,5 +1,5 @@
--- A receiver that stores characters as they come does, row 0 aside, as one that doesn't, in a stream with another text in the rows that are
--- nothing to the page.
+-- Except in row 0, a receiver that stores characters as they come does the same as one that does not, in a stream with another text in the
+-- rows that do not matter to the page.
 use Rattle.std.proofs.Common.{◌≡◌, ◌⊎◌, ℕ, ◌+◌, ◌<◌, not, Bool, true, false}
 use Rattle.std.proofs.Common.{List, length, get_or, drop, refl, sym, ap, ◌∙◌, subst, inl, inr, arith, get_or-drop, length-drop}
 use Rattle.std.specs.List.{list_all}
@@ -30,7 +30,7 @@ use Rattle.ttx_rows.proofs.Alike.{Alike, same, headers, older_alike, after_alike
 abbrev pub unstored : Manner → Manner
 unstored how = record { refuses = how.refuses; spaces = how.spaces; stores = false }
 
--- a row of which such characters were stored: it is nothing to the page, and is sent, and received, with the text that was taken
+-- a row of which such characters were stored: it does not matter to the page, and is sent, and received, with the text that was taken
 pub record IsTorn (free : Bool) (sent received sends came : List ℕ) : Type 0 where
   pub free_row : free ≡ true
   pub refusable : may_refuse (packet_of received) ≡ true
@@ -39,11 +39,11 @@ pub record IsTorn (free : Bool) (sent received sends came : List ℕ) : Type 0 w
   pub clean : is_clean sends ≡ true
   pub as_sent : came ≡ sends
 
--- any other slot is sent, and received, as it was
+-- any other slot is sent, and received, unchanged
 abbrev pub IsReread : Bool → List ℕ → List ℕ → List ℕ → List ℕ → Type 0
 IsReread free sent received sends came = ((sends ≡ sent) × (came ≡ received)) ⊎ IsTorn free sent received sends came
 
--- What is known of a slot: the rows that aren't free are whole or lost.
+-- What is known of a slot: the rows that are not free are whole or lost.
 pub record Placed (sel : Selection) (page : Id) (free : Bool) (sent received : List ℕ) : Type 0 where
   pub slot : IsSlot sent
   pub clean : is_clean sent ≡ true
@@ -60,7 +60,7 @@ pub record StoredAs (how : Manner) (class : Class) (lines : ℕ) (sel : Selectio
   pub alike : Alike new left
   pub number : heads_number sel (packet_of came) ≡ heads_number sel (packet_of received)
 
--- ---- kinds
+-- kinds
 
 abbrev IsTextKind : Kind → Type 0
 IsTextKind k = IsRowKind k ⊎ IsHeaderKind k
@@ -74,7 +74,7 @@ not_ignored slot (IsLinks mag) t i = elim t as (λ _. ⊥) [ inl r ↦ r | inr h
 not_ignored slot IsInfo t i = elim t as (λ _. ⊥) [ inl r ↦ r | inr h ↦ h ]
 not_ignored slot (IsOther mag number) t i = elim t as (λ _. ⊥) [ inl r ↦ r | inr h ↦ h ]
 
--- a row that is whole isn't refused
+-- a row that is whole is not refused
 pub whole_is_taken : (sent received : List ℕ) → IsWhole sent received → may_refuse (packet_of received) ≡ true → ⊥
 whole_is_taken sent received whole h =
     let here : may_refuse (packet_of_kind received (kind_of received)) ≡ true = ap may_refuse (sym (packet_is received)) ∙ h in
@@ -116,7 +116,7 @@ module _ (laws : LawsBelow) (numbered : RowsAreNumbered) (class : Class) (lines 
     ]
   ]
 
-  -- a slot that is received as it was
+  -- a slot that is received unchanged
   reread : (n new left : Memory) → RowStep (unstored how) class lines sel n received left → Alike new left → Stored n new
   reread n new left step alike = record {
     sends = sent;

@@ -3,7 +3,7 @@
 --   MeansByRows             if the verdict is Yes, they see each page
 --   MeansLateByRows         if the late verdict is Yes, they see each page at once, and those that show pages late show it
 --   VerdictsMeanByRows, LateVerdictsMeanByRows      this is what each answer of `certify` and of `certify_late` means
---   FilesMeanByRows, LateFilesMeanByRows    and each answer of `certify_files` and of `certify_files_late`
+--   FilesMeanByRows, LateFilesMeanByRows    the same for each answer of `certify_files` and of `certify_files_late`
 use Rattle.std.specs.Prelude.{◌≡◌, ℕ, List, slice_get, Some}
 use Rattle.ttx_page.specs.Pages.{Page}
 use Rattle.ttx_witness.specs.Coverage.{Certificate, IsCertificate}
@@ -37,14 +37,14 @@ VerdictsMeanByRows =
     (cycle : List (List ℕ)) (pages : List Page) (w : Certificate) → IsCycle cycle → ArePages pages → IsCertificate w →
     (verdict : Verdict) → IsVerdict cycle pages w verdict → MeansByRows cycle pages w verdict
 
--- and here what that of `certify_late` says
+-- the same for the clause of `certify_late`
 abbrev pub LateVerdictsMeanByRows : Type 0
 LateVerdictsMeanByRows =
     (cycle : List (List ℕ)) (pages : List Page) (w : Certificate) → IsCycle cycle → ArePages pages → IsCertificate w →
     (verdict : LateVerdict) → IsLateVerdict cycle pages w verdict → MeansLateByRows cycle pages w verdict
 
--- Here the premise is what the clause `bytes` of `certify_files` says was read and judged. That the pages of the service and the certificate
--- are in their ranges is a premise of its own: the clause does not say it, although it holds of all that is read.
+-- Here the premise is what the clause `bytes` of `certify_files` says was read and judged. A premise of its own says that the pages of the
+-- service and the certificate are in their ranges: the clause does not say it, although it holds for all that is read.
 abbrev pub FilesMeanByRows : Type 0
 FilesMeanByRows =
     (a b c : List ℕ) (verdict : Verdict) (line : List ℕ) (told : Certifies a b c verdict line) → ArePages (pages_of told.service) →

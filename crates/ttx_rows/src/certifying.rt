@@ -1,4 +1,4 @@
-//! Certifying for receivers that take a row whole or not at all: the verdicts of `certify_service` and `certify_late`, and what acceptance
+//! Certifies for receivers that take a row whole or not at all: the verdicts of `certify_service` and `certify_late`, and what acceptance
 //! guarantees beyond them.
 
 ghost use Rattle.std.specs.Prelude.{IfOk};
@@ -16,8 +16,8 @@ use ttx_late::{LateVerdict, certify_late};
 use ttx_source::Service;
 use ttx_witness::{Certificate, NoMemory};
 
-/// The verdict of `certify_service`. If it is Yes, each page is also seen, under the error rule by rows, by receivers that refuse a row with a
-/// byte of even parity, lose rows, or show a space for a wrong character of a header.
+/// The verdict of `certify_service`. If it is `Yes`, each page is also seen, under the error rule by rows, by receivers that refuse a row with
+/// a byte of even parity, lose rows, or show a space for a wrong character of a header.
 pub fn certify_by_rows(
     alloc: Global,
     cycle: &Cycle,
@@ -35,7 +35,7 @@ pub fn certify_by_rows(
     certify_service(alloc, cycle, service, certificate)
 }
 
-/// The verdict of `certify_late`. If it is Yes, such receivers see each page at once, and those that show pages late show it.
+/// The verdict of `certify_late`. If it is `Yes`, such receivers see each page at once, and those that show pages late show it.
 pub fn certify_late_by_rows(
     alloc: Global,
     cycle: &Cycle,

@@ -1,5 +1,5 @@
-//! Receivers that refuse a row with a wrong byte as a whole, or lose rows. They see what the certifier accepts, too, by the error rule by
-//! rows: of k successive transmissions of a row that a viewer sees, at least one arrives whole.
+//! Receivers that refuse a whole row for one wrong byte, or lose rows. They too see what the certifier accepts, under the error rule by rows:
+//! of k successive transmissions of a row that a viewer sees, at least one arrives whole.
 #![tactic(auto)]
 
 mod certifying;
