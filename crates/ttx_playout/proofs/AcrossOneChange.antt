@@ -80,7 +80,7 @@ module _ (old new : List (List ℕ)) (page : Id) (gap : ℕ) where
             let f = across (negsuc back) (omega (arith, ints)) own none_since in
             no_header f.0.slot f.0.next.earlier (another_heads page (packet_of (s f.0.slot)) f.0.another)
 
-      -- or its first one stands here
+      -- or its first one is here
       module _ (at : ℕ) (first : TellsFirstHeader new page.mag (Some at)) where
         here : (i : ℕ) → i < length new → s (pos i) ≡ get_or new i []
         here i lt = ap (λ n. get_or new n []) (turned_start (length new) i lt)

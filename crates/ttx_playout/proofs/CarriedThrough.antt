@@ -46,13 +46,13 @@ some_deadline w is = product w.deadline w.lines is.some_fields is.some_lines
     product zero n a b = absurd (omega arith)
     product (suc m) n a b = omega arith
 
--- what lasts to a deadline lasts a period
+-- what lasts as long as a deadline lasts as long as a period
 pub one_period : (m n limit : ℕ) → 1 ≤ limit → limit ≤ m * n → n ≤ m * n
 one_period zero n limit some le = absurd (omega arith)
 one_period (suc m) n limit some le = omega arith
 
 module _ (laws : CarriedLaws) (p : Page) (sel : Selection) where
-  -- the page is carried wherever a receiver tunes in
+  -- the page is carried from any tuning slot on
   abbrev Throughout : Stream → Certificate → Type 0
   Throughout s w = (tau : ℤ) → IsCarried s p sel w tau
 
@@ -105,7 +105,7 @@ module _ (laws : CarriedLaws) (p : Page) (sel : Selection) where
         new.certificate.repeat (limit new.certificate) long pair goes_on (pos h.0) (omega (arith, ints)) (omega (arith, ints))
         (ap (λ x. heads p.id.mag (packet_of x)) (low (pos h.0) (omega (arith, ints))) ∙ h.2) tau)
 
-  -- the page stands in all editions
+  -- the page is in all editions
   abbrev pub StandsThrough : Edition → List Showing → Type 0
   StandsThrough first [] = Stands first p sel
   StandsThrough first (t ∷ later) = Stands first p sel × StandsThrough t.edition later
@@ -133,7 +133,7 @@ module _ (laws : CarriedLaws) (p : Page) (sel : Selection) where
     stands_through t.edition later to (λ n low high. stays (suc n) (omega arith) (omega arith)),
   )
 
-  -- the page is carried from the begin of edition `from` on, where the schedule is cut after edition `to`
+  -- the page is carried from the beginning of edition `from` on, if the schedule is cut after edition `to`
   pub carried_from : (first : Edition) (later : List Showing) (from to : ℕ) → AreEditions first later → IsHandedOn first later →
       from ≤ to → to ≤ length later → StaysOn first later p sel from to → (begin : ℤ) → HasBegun later from begin →
       IsCarried (sent first (take to later)) p sel first.certificate begin

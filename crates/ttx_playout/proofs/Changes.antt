@@ -1,4 +1,4 @@
--- One change: a stream that is a pair of cycles up to some slot, and another stream from slot 0 on, carries what both of them carry.
+-- One change: a stream that is a pair of cycles up to some slot, and from slot 0 on another stream, carries what both of them carry.
 use Rattle.std.proofs.Common.{◌≡◌, ℕ, ℤ, pos, ◌+ℤ◌, ◌-ℤ◌, ◌<ℤ◌, ◌≤ℤ◌, true, refl, sym, ap, ◌∙◌, subst, inl, inr, arith}
 use Rattle.std.proofs.lemmas.Int.{ints}
 use Rattle.std.proofs.lemmas.Bool.{both_ways}
@@ -16,7 +16,7 @@ use Rattle.ttx_receiver.specs.Laws.{IsBrought}
 use Rattle.ttx_proof.specs.Carried.{Carries, AgreeingStreamsBring, AgreeingStreamsCarry}
 use Rattle.ttx_proof.proofs.AgreeingStreams.{owned_on}
 
--- s is the pair's stream below slot `until`, and from slot 0 on it is the rest, d slots on
+-- s is the pair's stream before slot `until`; from slot 0 on it is the rest, moved by d slots
 module _ (bring : AgreeingStreamsBring) (carry : AgreeingStreamsCarry) (s pair rest : Stream) (d until : ℤ)
     (below : (i : ℤ) → i <ℤ until → s i ≡ pair i)
     (above : (i : ℤ) → pos 0 ≤ℤ i → s i ≡ rest (i -ℤ d)) (p : Page) (sel : Selection) (class : Class) (lines repeat limit : ℕ)
@@ -31,7 +31,7 @@ module _ (bring : AgreeingStreamsBring) (carry : AgreeingStreamsCarry) (s pair r
       (λ i low. let f : (i +ℤ d) -ℤ d ≡ i = omega (arith, ints) in above (i +ℤ d) (omega (arith, ints)) ∙ ap rest f)
       p sel class lines repeat limit (goes_on (begin -ℤ d)))
 
-  -- what stands under a header below slot 0 stands before the first header from slot 0 on
+  -- what is under a header before slot 0 comes before the first header from slot 0 on
   before_head : (mag : ℕ) (h j : ℤ) → mag ≡ p.id.mag → h <ℤ pos 0 → IsLatestHeader s mag h j → j <ℤ until
   before_head mag h j e lt a = elim (cases_ltz j until) as (λ _. j <ℤ until) [
     | inl low ↦ low

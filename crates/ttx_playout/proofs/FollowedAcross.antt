@@ -1,4 +1,4 @@
--- Across a change one header decides: the last one of the magazine before it.
+-- One header decides across a change: the last one of the magazine before it.
 use Rattle.std.proofs.Common.{◌≡◌, ℕ, ℤ, pos, ◌+ℤ◌, ◌<ℤ◌, ◌≤ℤ◌, true, false, ◌==◌, sym, subst, inl, inr, arith}
 use Rattle.std.proofs.lemmas.Int.{ints}
 use Rattle.std.proofs.lemmas.Bool.{both_ways, and_parts}
@@ -19,7 +19,7 @@ another_heads page Unreadable h = h
 another_heads page Info h = h
 another_heads page Other h = h
 
--- of two slots, one of which is a header, and none stands before the other one after the same slot
+-- there is only one first header of the magazine after a slot
 same_place : (s : Stream) (mag : ℕ) (low x y : ℤ) → low <ℤ x → low <ℤ y →
     heads mag (packet_of (s x)) ≡ true → heads mag (packet_of (s y)) ≡ true →
     ((i : ℤ) → low <ℤ i → i <ℤ x → heads mag (packet_of (s i)) ≡ false) → ((i : ℤ) → low <ℤ i → i <ℤ y → heads mag (packet_of (s i)) ≡ false) → x ≡ y

@@ -1,4 +1,4 @@
--- Each page of a schedule whose editions and changes are as late receivers need them is followed while it stays.
+-- If the editions and changes of a schedule are as late receivers need them, each of its pages is followed while it stays.
 use Rattle.std.proofs.Common.{ℕ, zero, suc, ◌<◌, ◌≤◌, List, [], ◌∷◌, length, arith}
 use Rattle.ttx_late.specs.Followed.{AreFollowedWithin}
 use Rattle.ttx_proof.proofs.BridgedIsSeen.{place_of}

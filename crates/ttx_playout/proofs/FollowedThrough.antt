@@ -1,4 +1,4 @@
--- Headers of a page that are followed by another page number in each edition and across each change are so in all that is sent.
+-- If the headers of a page are followed by another page number in each edition and across each change, they are so in all that is sent.
 use Rattle.std.proofs.Common.{◌≡◌, ℕ, zero, suc, ◌≤◌, ℤ, pos, ◌+ℤ◌, ◌-ℤ◌, ◌<ℤ◌, ◌≤ℤ◌, true, List, [], ◌∷◌, length, take, sym, ap, ◌∙◌, subst}
 use Rattle.std.proofs.Common.{inl, inr, arith}
 use Rattle.std.proofs.lemmas.Int.{ints}
@@ -21,7 +21,7 @@ use Rattle.ttx_playout.proofs.CarriedThrough.{CarriedLaws, StandsThrough, stands
 abbrev pub IsFollowedSoon : Stream → Id → ℕ → ℤ → Type 0
 IsFollowedSoon s page gap h = (f : IsFollowed s page h) × (f.slot ≤ℤ (h +ℤ pos gap))
 
--- a header that is followed in one stream is so in another that is the same up to its follower, d slots on
+-- a header that is followed in one stream is followed in another that is the same up to its follower, moved by d slots
 followed_on : (s t : Stream) (d h : ℤ) (page : Id) (gap : ℕ) (f : IsFollowedSoon s page gap h) →
     ((i : ℤ) → h ≤ℤ i → i ≤ℤ f.0.slot → t (i +ℤ d) ≡ s i) → IsFollowedSoon t page gap (h +ℤ d)
 followed_on s t d h page gap f same =
@@ -35,7 +35,7 @@ followed_on s t d h page gap f same =
       omega (arith, ints),
     )
 
--- t is s from slot begin on, d slots on
+-- from slot begin on, t is s moved by d slots
 pub followed_later : (s t : Stream) (d begin : ℤ) → ((i : ℤ) → begin ≤ℤ i → t (i +ℤ d) ≡ s i) → (page : Id) (gap : ℕ) →
     IsFollowedFrom s page gap begin → IsFollowedFrom t page gap (begin +ℤ d)
 followed_later s t d begin same page gap followed h le head =
@@ -54,7 +54,7 @@ module _ (s old pair rest : Stream) (d until : ℤ) (page : Id) (gap : ℕ) (was
       subst (IsFollowedSoon s page gap) e
       (followed_on t s (pos 0) h page gap f (λ i a b. let k : i +ℤ pos 0 ≡ i = omega (arith, ints) in ap s k ∙ same i b))
 
-  -- the next header in the pair stands before the one that is known
+  -- the next header in the pair comes before the known one
   follower_near : (h : ℤ) → h <ℤ pos 0 → (f : IsFollowedSoon pair page gap h) → f.0.slot <ℤ until
   follower_near h lt f = elim (cases_ltz f.0.slot until) as (λ _. f.0.slot <ℤ until) [
     | inl near ↦ near

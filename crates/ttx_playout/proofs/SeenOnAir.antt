@@ -1,4 +1,4 @@
--- What is handed on is seen from the air.
+-- What is handed on is seen on the air.
 use Rattle.std.proofs.Common.{◌≡◌, ℕ, zero, suc, refl, ap, ◌+ℤ◌, ℤ, pos, ◌-ℤ◌, negsuc, List, [], ◌∷◌, length}
 use Rattle.std.proofs.lemmas.List.Elements.{All-get_or}
 use Rattle.ttx_packet.specs.Slots.{IsSlot}

@@ -1,4 +1,4 @@
--- What is handed on is seen, as long as it stays.
+-- What is handed on is seen as long as it stays.
 use Rattle.std.proofs.Common.{◌≡◌, ℕ, zero, suc, ◌≤◌, ℤ, pos, ◌+ℤ◌, ◌<ℤ◌, ◌≤ℤ◌, List, [], ◌∷◌, length, take, refl, sym, ◌∙◌, subst, arith}
 use Rattle.std.proofs.lemmas.Int.{ints}
 use Rattle.ttx_page.specs.Pages.{Page}
@@ -24,19 +24,19 @@ pub first_is : (first : Edition) (later : List Showing) → AreEditions first la
 first_is first [] are = are
 first_is first (t ∷ later) are = are.0
 
--- the first edition takes no receiver to clear pages
+-- the class of the first edition is any
 pub first_class : (first : Edition) (later : List Showing) → IsHandedOn first later → first.certificate.class ≡ Any
 first_class first [] handed = handed.1
 first_class first (t ∷ later) handed = handed.0.1.old_class
 
--- up to the end of a reception the stream is the schedule, cut after edition `to`
+-- up to the end of a reception the stream is that of the schedule, cut after edition `to`
 pub same_so_far : (first : Edition) (later : List Showing) (s : Stream) (start now : ℤ) →
     ((i : ℤ) → start ≤ℤ i → i <ℤ now → s i ≡ sent first later i) → (to : ℕ) (end : ℤ) → end ≤ℤ now → IsStillOn later to end →
     (i : ℤ) → start ≤ℤ i → i <ℤ end → s i ≡ sent first (take to later) i
 same_so_far first later s start now same to end until on i low lt =
     same i low (omega (arith, ints)) ∙ sym (cut_same first later to i (λ more. let k = on more in omega (arith, ints)))
 
--- what receivers of class any are sent
+-- what is sent to receivers of class any
 pub carried_any : CarriedLaws → (first : Edition) (later : List Showing) (p : Page) (sel : Selection) (from to : ℕ) → AreEditions first later →
     IsHandedOn first later → from ≤ to → to ≤ length later → StaysOn first later p sel from to → (begin : ℤ) → HasBegun later from begin →
     Carries (sent first (take to later)) p sel Any first.certificate.lines first.certificate.repeat (limit first.certificate) begin

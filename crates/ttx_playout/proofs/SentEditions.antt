@@ -1,4 +1,4 @@
--- What a schedule sends, edition by edition; a schedule that is cut after an edition.
+-- What a schedule sends, edition by edition, and a schedule that is cut after an edition.
 use Rattle.std.proofs.Common.{◌≡◌, ℕ, zero, suc, ◌+◌, ◌<◌, ℤ, pos, negsuc, ◌-ℤ◌, ◌<ℤ◌, ◌≤ℤ◌, List, [], ◌∷◌, length, get_or, take, refl, sym, ap, ◌∙◌, arith}
 use Rattle.std.proofs.lemmas.Int.{ints}
 use Rattle.ttx_page.specs.Streams.{repeated, joined}
@@ -25,7 +25,7 @@ pub last_change : (first : Edition) (t : Showing) (i : ℤ) → sent first (t �
 last_change first t (pos i) = periods_back t (pos i)
 last_change first t (negsuc i) = refl
 
--- and so is any other up to the next one
+-- any other change is, up to the next one
 pub next_change : (first : Edition) (t : Showing) (later : List Showing) (i : ℤ) → i <ℤ pos (span t) →
     sent first (t ∷ later) i ≡ joined first.cycle t.edition.cycle i
 next_change first t later (pos i) lt = below t.edition later (pos i -ℤ pos (span t)) (omega (arith, ints)) ∙ periods_back t (pos i)

@@ -1,4 +1,4 @@
--- What was sent so far: the slots of a schedule up to now, one slot more, and another edition.
+-- What was sent so far: the slots of a schedule up to now, with one more slot, and with another edition.
 use Rattle.std.proofs.Common.{◌≡◌, ℕ, zero, suc, ◌+◌, ◌*◌, ◌<◌, ℤ, pos, ◌+ℤ◌, ◌-ℤ◌, ◌<ℤ◌, List, [], ◌∷◌, ◌++◌, length, get_or}
 use Rattle.std.proofs.Common.{refl, sym, ap, ◌∙◌, arith, length-append}
 use Rattle.std.proofs.lemmas.Int.{ints}
@@ -9,7 +9,7 @@ use Rattle.ttx_playout.specs.Schedules.{Edition, Showing, span, edition_at, firs
 use Rattle.ttx_playout.specs.Takeovers.{IsPlace}
 use Rattle.ttx_playout.proofs.SentEditions.{below, more_is_same, past_stays}
 
--- one slot more of a stream
+-- one more slot of a stream
 sent_from_more : (s : Stream) (a : ℤ) (n : ℕ) → sent_from s a (suc n) ≡ sent_from s a n ++ s (a +ℤ pos n) ∷ []
 sent_from_more s a zero = let e : a ≡ a +ℤ pos 0 = omega (arith, ints) in ap (λ z. s z ∷ []) e
 sent_from_more s a (suc n) =
@@ -49,7 +49,7 @@ pub log_same : (s t : Stream) (i : ℤ) (log : List (List ℕ)) → ((j : ℤ) �
     sent_from s (i -ℤ pos (length log)) (length log) ≡ log → sent_from t (i -ℤ pos (length log)) (length log) ≡ log
 log_same s t i log same is = sent_from_same t s (i -ℤ pos (length log)) (length log) (λ j lt. same j (omega (arith, ints))) ∙ is
 
--- the slot that comes next stands in its place of the last edition's cycle
+-- the next slot is at its place of the last edition's cycle
 end_slot : (first : Edition) (t : Showing) (later : List Showing) (at : ℕ) →
     at < length (edition_at first (t ∷ later) (length (t ∷ later))).cycle →
     sent first (t ∷ later) (pos (first_slot (t ∷ later) (length (t ∷ later)) + at))

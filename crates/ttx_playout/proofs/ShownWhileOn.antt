@@ -1,4 +1,4 @@
--- What is handed on, and followed, is shown late, as long as it stays.
+-- What is handed on and followed is shown late, as long as it stays.
 use Rattle.std.proofs.Common.{◌≡◌, ◌≤◌, ℤ, pos, ◌+ℤ◌, ◌-ℤ◌, ◌≤ℤ◌, nat_abs, length, take, drop, length-drop, refl, ap, ◌∙◌, subst, arith}
 use Rattle.std.proofs.lemmas.Int.{ints}
 use Rattle.ttx_page.specs.declared.class.Class.TheVariants.{Any}

@@ -26,7 +26,7 @@ TellsFirstHeader cycle mag None = (i : ℕ) → i < length cycle → heads mag (
 TellsFirstHeader cycle mag (Some at) = (at < length cycle) × (heads mag (packet_of (get_or cycle at [])) ≡ true)
     × ((i : ℕ) → i < at → heads mag (packet_of (get_or cycle i [])) ≡ false)
 
--- the page's last header stands `back` slots before the end of the old cycle
+-- the page's last header is `back` slots before the end of the old cycle
 abbrev pub EndsInTime : List (List ℕ) → Id → ℕ → ℕ → Type 0
 EndsInTime new page back gap =
     (at : ℕ) × TellsFirstHeader new page.mag (Some at) × (heads_another page (packet_of (get_or new at [])) ≡ true) × (at + back < gap)
@@ -39,7 +39,7 @@ pub record IsFirstUnfollowed (old new : List (List ℕ)) (pages : List Page) (ga
   pub here : IsFollowedAcross (joined old new) first.id gap → ⊥
   pub none_before : (i : ℕ) (q : Page) → i < index → slice_get pages i ≡ Some q → IsFollowedAcross (joined old new) q.id gap
 
--- never, or not within so many slots
+-- a header is not followed, or not within that many slots
 abbrev pub IsUnshown : List (List ℕ) → List Page → ℕ → LateChange → Type 0
 IsUnshown cycle pages gap (NeverShown page slot) = IsNeverShown cycle pages page slot
 IsUnshown cycle pages gap (TooFar greatest) = IsGreatestGap cycle pages greatest × (gap < greatest)
@@ -53,7 +53,7 @@ IsFollowedChange old new gap (TooFar greatest) = IsUnshown new.cycle new.pages g
 IsFollowedChange old new gap (Unfollowed page) =
     AreFollowedWithin new.cycle new.pages gap × IsFirstUnfollowed old.cycle new.cycle old.pages gap page
 
--- the splice's own reason, or what is decided of an accepted change
+-- the splice's own reason, or the decision on an accepted change
 abbrev pub IsLateChange : Edition → Edition → ℕ → LateChange → Type 0
 IsLateChange old new gap (No reason) = IsChangeVerdict old new (splice.No reason)
 IsLateChange old new gap verdict = IsChangeVerdict old new splice.Yes × IsFollowedChange old new gap verdict

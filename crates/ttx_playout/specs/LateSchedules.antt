@@ -1,9 +1,9 @@
 -- Receivers that show a page late, while it stays in the editions of a schedule (profile).
 --
 --   IsFollowedAcross        the last header of a page before a change is followed in time by one of another page number
---   AllAreFollowedAcross, IsFollowedThrough         so is each page of a list; so is each page of each edition, within it and across the change
---   IsFollowedWhile         so is each header of one page, in some editions and across the changes between them
---   IsShownWhile            who shows such a page, from when on, and for how long
+--   AllAreFollowedAcross, IsFollowedThrough         the same for each page of a list; each page of each edition, within it and across the change
+--   IsFollowedWhile         each header of one page is followed, in some editions and across the changes between them
+--   IsShownWhile            which receiver shows such a page, from when on, and for how long
 use Rattle.std.specs.Prelude.{◌≡◌, ℕ, suc, ◌<◌, ◌≤◌, ℤ, pos, ◌+ℤ◌, ◌<ℤ◌, ◌≤ℤ◌, true, false, List, [], ◌∷◌, length, slice_get, Some}
 use Rattle.ttx_header.specs.Ids.{Id}
 use Rattle.ttx_page.specs.Packets.{packet_of}
@@ -25,7 +25,7 @@ abbrev pub IsFollowedAcross : Stream → Id → ℕ → Type 0
 IsFollowedAcross s page gap = (h : ℤ) → h <ℤ pos 0 → heads_page page (packet_of (s h)) ≡ true →
     ((i : ℤ) → h <ℤ i → i <ℤ pos 0 → heads page.mag (packet_of (s i)) ≡ false) → (f : IsFollowed s page h) × (f.slot ≤ℤ (h +ℤ pos gap))
 
--- so is each page of a list
+-- the same for each page of a list
 abbrev pub AllAreFollowedAcross : List (List ℕ) → List (List ℕ) → List Page → ℕ → Type 0
 AllAreFollowedAcross old new pages gap = (n : ℕ) (p : Page) → slice_get pages n ≡ Some p → IsFollowedAcross (joined old new) p.id gap
 
@@ -41,7 +41,7 @@ pub record IsFollowedWhile (first : Edition) (later : List Showing) (page : Id) 
   pub across : (n : ℕ) → from ≤ n → n < to →
       IsFollowedAcross (joined (edition_at first later n).cycle (edition_at first later (suc n)).cycle) page gap
 
--- As IsSeenWhile, of what the receiver shows and not of what it holds: it has the page's View `gap` slots later.
+-- As IsSeenWhile, for what the receiver shows instead of what it holds: it has the page's View `gap` slots later.
 pub record IsShownWhile (s : Stream) (first : Edition) (later : List Showing) (p : Page) (sel : Selection) (from to gap : ℕ) : Type 0 where
   pub shown :
       (tau begin : ℤ) (former d : LateMemory) (received : List (List ℕ)) →

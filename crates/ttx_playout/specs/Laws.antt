@@ -1,18 +1,18 @@
 -- The laws of schedules. Each is proved by the function of its name in `laws`.
 --
 --   HandedOnIsSeen          a page is seen as long as it stays
---   SentSoFarIsSeen         the same of a head-end that sends a schedule from some slot on, up to now: whatever was sent before
---   IsLogFrom, HeadEndIsSeen        the same of all that a head-end has sent, whatever calls it made
+--   SentSoFarIsSeen         the same for a head-end that sends a schedule from some slot on, up to now, whatever was sent before
+--   IsLogFrom, HeadEndIsSeen        the same for all that a head-end has sent, whatever calls it made
 --   AcrossIsDecided         two headers decide whether a page is followed across a change
 --   EachScheduleRuns        the laws are not empty: each schedule has a reception, and each receiver a run over it
 --   MoreIsSame, PastStays   one more period of the last edition, or a further edition, does not change what was sent before
 --   AlwaysSeen              a page of all editions is seen by the deadline after tuning, and from then on
 --   LatestIsSeen            each page of the last edition is seen by the deadline after tuning or after it began, and from then on
---   HandedOnIsSeenOnAir, TimedIsSeen        the same of what a head-end puts on the air, whatever its clock says
+--   HandedOnIsSeenOnAir, TimedIsSeen        the same for what a head-end puts on the air, whatever its clock says
 --   HandedOnIsShown, HandedOnIsShownOnAir   the same for receivers that show pages late, if the page is followed by another page number
---   SentSoFarIsShown, HeadEndIsShown        the same of a head-end that began at some time
+--   SentSoFarIsShown, HeadEndIsShown        the same for a head-end that began at some time
 --   CountedIsHandedOn       a script that counts periods keeps a schedule handed on
---   ThroughIsWhile, ThroughGoesOn           what the late verdict asks is what each page needs while it stays
+--   ThroughIsWhile, ThroughGoesOn           what the late verdict requires is what each page needs while it stays
 use Rattle.std.specs.Prelude.{◌≡◌, ◌↔◌, true, ℕ, ◌<◌, ◌≤◌, ℤ, pos, ◌*◌, ◌+ℤ◌, ◌-ℤ◌, ◌<ℤ◌, ◌≤ℤ◌, List, [], length, slice_index_or}
 use Rattle.ttx_header.specs.Ids.{Id}
 use Rattle.ttx_page.specs.declared.class.Class.{Class}
@@ -56,12 +56,12 @@ SentSoFarIsSeen =
     (begin +ℤ pos (limit first.certificate)) ≤ℤ (tau +ℤ pos (length received)) → (tau +ℤ pos (length received)) ≤ℤ now →
     IsStillOn later to (tau +ℤ pos (length received)) → Run Any first.certificate.lines sel former received m → HasView p m
 
--- the slots of the log stand in the stream from slot `start` on
+-- the slots of the log are those of the stream from slot `start` on
 abbrev pub IsLogFrom : List (List ℕ) → Stream → ℤ → Type 0
 IsLogFrom log s start = (n : ℕ) → n < length log → s (start +ℤ pos n) ≡ slice_index_or log n []
 
--- Each page that stays in the editions that a head-end has put on the air is seen, a deadline after tuning or after the page came, by each
--- receiver of what the head-end has sent.
+-- Each page that stays in the editions that a head-end has put on the air is seen by each receiver of what the head-end has sent, a deadline
+-- after tuning or after the page came.
 abbrev pub HeadEndIsSeen : Type 0
 HeadEndIsSeen =
     (log : List (List ℕ)) (o : OnAir) (first : Edition) (later : List Showing) → (has : HasSent log o first later) →
@@ -109,7 +109,7 @@ TimedIsSeen =
     (p : Page) (sel : Selection) (from to : ℕ) → from ≤ to → to ≤ length later → StaysOn first later p sel from to →
     IsSeenWhile (timed clock (sent first later)) first later p sel from to
 
--- The same for receivers that show pages late, of what a head-end sends from slot `start` on, up to now.
+-- The same for receivers that show pages late, and for what a head-end sends from slot `start` on, up to now.
 abbrev pub SentSoFarIsShown : Type 0
 SentSoFarIsShown =
     (first : Edition) (later : List Showing) → AreEditions first later → IsHandedOn first later →
@@ -176,13 +176,13 @@ CountedIsHandedOn =
     IsSentFor later (periods * length (edition_at first later (length later)).cycle) →
     IsSentVerdict (change (edition_at first later (length later)) next) periods Yes → IsHandedOn first (taken later next)
 
--- What `judge_late` asks of each change and of the first edition is what each page needs while it stays.
+-- What `judge_late` requires of each change and of the first edition is what each page needs while it stays.
 abbrev pub ThroughIsWhile : Type 0
 ThroughIsWhile =
     (first : Edition) (later : List Showing) (p : Page) (sel : Selection) (from to : ℕ) → to ≤ length later → StaysOn first later p sel from to →
     (gap : ℕ) → IsFollowedThrough gap first later → IsFollowedWhile first later p.id gap from to
 
--- a change that it accepts keeps a schedule so
+-- after a change that it accepts, this still holds
 abbrev pub ThroughGoesOn : Type 0
 ThroughGoesOn =
     (first next : Edition) (later : List Showing) (gap : ℕ) → IsFollowedThrough gap first later →

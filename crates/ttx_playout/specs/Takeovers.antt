@@ -1,11 +1,11 @@
 -- The edition on the air, and how the next one takes over.
 --
---   edition_of, current_of, at_of, held_of  the values of the program as schedules see them
---   IsSentFor                               the last edition has been sent for so many slots
+--   edition_of, current_of, at_of, held_of  the values of the program in terms of schedules
+--   IsSentFor                               the last edition has been sent for at least a number of slots
 --   IsOnAir                                 a handed-on schedule has led to the edition on the air
---   IsPlace, HasSent                        which slot of the schedule comes next; what was sent is a stretch of what it sends
+--   IsPlace, HasSent                        which slot of the schedule is next; the slots sent so far are part of what it sends
 --   after_slot                              the schedule after the next slot
---   IsStart, IsChange, TakesOver            what is answered to a first edition, and to a next one
+--   IsStart, IsChange, TakesOver            the answer to a first edition, and to a next one
 use Rattle.std.specs.Prelude.{◌≡◌, ℕ, ◌+◌, ◌-◌, ◌^◌, ◌<◌, ◌≤◌, min, ℤ, pos, ◌-ℤ◌, nat_lt, if◌then◌else◌, List, [], ◌∷◌, length, Result, Ok, Err}
 use Rattle.ttx_page.specs.Streams.{turned}
 use Rattle.ttx_page.specs.Laws.{sent_from}
@@ -37,11 +37,11 @@ current_of o = edition_of o.current
 abbrev pub at_of : OnAir → ℕ
 at_of o = o.at
 
--- for at least so many slots it has been sent
+-- the number of slots for which it has been sent, or fewer
 abbrev pub held_of : OnAir → ℕ
 held_of o = o.held
 
--- the last edition has been sent for at least so many slots; the first one has no beginning
+-- the last edition has been sent for at least that many slots; the first one has no beginning
 abbrev pub IsSentFor : List Showing → ℕ → Type 0
 IsSentFor [] slots = Unit {0}
 IsSentFor (t ∷ []) slots = slots ≤ span t
@@ -54,12 +54,12 @@ pub record IsOnAir (o : OnAir) (first : Edition) (later : List Showing) : Type 0
   pub current : edition_at first later (length later) ≡ current_of o
   pub sent : IsSentFor later (held_of o)
 
--- The slot at this place of the last edition's cycle is slot i of the schedule, the one that comes next.
+-- The slot at this place of the last edition's cycle is slot i of the schedule, the next one.
 abbrev pub IsPlace : Edition → List Showing → ℕ → ℤ → Type 0
 IsPlace first [] at i = turned (length first.cycle) i ≡ at
 IsPlace first (t ∷ later) at i = i ≡ pos (first_slot (t ∷ later) (length (t ∷ later)) + at)
 
--- The log holds the slots that were sent up to now, in their order: they are what the schedule sends just before its slot `next`.
+-- The log has the slots sent up to now, in order. They are what the schedule sends just before its slot `next`.
 pub record HasSent (log : List (List ℕ)) (o : OnAir) (first : Edition) (later : List Showing) : Type 0 where
   pub on_air : IsOnAir o first later
   pub next : ℤ
@@ -70,8 +70,8 @@ pub record HasSent (log : List (List ℕ)) (o : OnAir) (first : Edition) (later 
 abbrev pub after_slot : OnAir → List Showing → List Showing
 after_slot o later = if nat_lt (at_of o + 1) (length (current_of o).cycle) then later else one_more later
 
--- The place of the slot after the next one; and for how many slots the edition has been sent after the next slot: the last slot of a period
--- adds the period, and the number stops at the largest u32.
+-- The place of the slot after the next one; and the number of slots for which the edition has been sent after the next slot. The last slot of
+-- a period adds the period, and the number stops at the largest u32.
 abbrev pub after_place : OnAir → ℕ
 after_place o = if nat_lt (at_of o + 1) (length (current_of o).cycle) then at_of o + 1 else 0
 

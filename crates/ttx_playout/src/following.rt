@@ -32,7 +32,7 @@ fn first_header(new: &Cycle, mag: u8) -> Option<usize>
 }
 
 // Whether the first header of the page's magazine in the new cycle has another page number and comes at most `gap` slots after the page's last
-// header, which stands `back` slots before the end of the old cycle.
+// header, which is `back` slots before the end of the old cycle.
 fn ends_in_time(new: &Cycle, page: PageId, back: usize, gap: usize) -> bool
     requires { back < 65536 }
     ensures { IsTrue result ↔ EndsInTime (slots_of new.now) page back gap }
@@ -48,8 +48,8 @@ fn ends_in_time(new: &Cycle, page: PageId, back: usize, gap: usize) -> bool
     }
 }
 
-/// Whether the page is followed across the change from one cycle to another: if the last header of its magazine before the change is the
-/// page's, the next one has another page number and comes at most `gap` slots later.
+/// Whether the page is followed across the change from one cycle to another: if the last header of its magazine before the change is one of
+/// the page, the next one has another page number and comes at most `gap` slots later.
 pub fn is_followed_across(old: &Cycle, new: &Cycle, page: PageId, gap: usize) -> bool
     ensures { IsTrue result ↔ IsFollowedAcross (joined (slots_of old.now) (slots_of new.now)) page gap }
 {

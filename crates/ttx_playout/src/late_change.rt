@@ -1,12 +1,12 @@
-//! Verdicts on changes if receivers may show pages late.
+//! Verdicts on changes for receivers that may show pages late.
 
 use ttx_header::PageId;
 use ttx_proof::SpliceReason;
 
-/// Whether a change is accepted and the pages are followed by other page numbers in time, and if not, the first reason.
+/// Whether a change is accepted and the pages are followed by other page numbers in time; if not, the first reason.
 #[derive(Clone, Copy)]
 pub enum LateChange {
-    /// It is, and they are.
+    /// Both hold.
     Yes,
     /// The change is not accepted.
     No(SpliceReason),

@@ -1,10 +1,10 @@
-//! The laws of schedules. A call costs nothing and gives the caller's proof the law.
+//! The laws of schedules. A call does nothing at run time, and gives the law to the caller's proof.
 
 ghost use Rattle.ttx_playout.specs.Laws.{SentSoFarIsSeen, HeadEndIsSeen, HandedOnIsSeen, AlwaysSeen, LatestIsSeen, HandedOnIsSeenOnAir, TimedIsSeen};
 ghost use Rattle.ttx_playout.specs.Laws.{SentSoFarIsShown, HeadEndIsShown, HandedOnIsShown, HandedOnIsShownOnAir, ThroughIsWhile, ThroughGoesOn};
 ghost use Rattle.ttx_playout.specs.Laws.{AcrossIsDecided, CountedIsHandedOn, EachScheduleRuns, MoreIsSame, PastStays};
 
-/// What a head-end sends of a schedule, from some slot on and up to now, is seen after a deadline, whatever was sent before.
+/// A page of the part of a schedule that a head-end sends, from some slot on and up to now, is seen after a deadline, whatever was sent before.
 pub fn sent_so_far_is_seen()
     ensures { SentSoFarIsSeen }
 {
@@ -16,7 +16,7 @@ pub fn sent_so_far_is_seen()
     ttx_proof::laws::carried_is_seen();
 }
 
-/// The same of all that a head-end has sent.
+/// The same for all that a head-end has sent.
 pub fn head_end_is_seen()
     ensures { HeadEndIsSeen }
 {
@@ -30,7 +30,7 @@ pub fn handed_on_is_seen()
     sent_so_far_is_seen();
 }
 
-/// A page that stands in every edition is seen by the deadline after tuning, and from then on.
+/// A page of every edition is seen by the deadline after tuning, and from then on.
 pub fn always_seen()
     ensures { AlwaysSeen }
 {
@@ -53,7 +53,7 @@ pub fn handed_on_is_seen_on_air()
     handed_on_is_seen();
 }
 
-/// The same of what a schedule sends with the time in each slot.
+/// The same for what a schedule sends with the time in each slot.
 pub fn timed_is_seen()
     ensures { TimedIsSeen }
 {
@@ -62,7 +62,7 @@ pub fn timed_is_seen()
     handed_on_is_seen_on_air();
 }
 
-/// What a head-end sends of a schedule is shown by receivers that show pages late, if the page is followed by another page number in time.
+/// Receivers that show pages late show a page that a head-end sends of a schedule, if another page number follows it in time.
 pub fn sent_so_far_is_shown()
     ensures { SentSoFarIsShown }
 {
@@ -76,21 +76,21 @@ pub fn sent_so_far_is_shown()
     ttx_proof::laws::common_is_carried();
 }
 
-/// The same of all that a head-end has sent.
+/// The same for all that a head-end has sent.
 pub fn head_end_is_shown()
     ensures { HeadEndIsShown }
 {
     sent_so_far_is_shown();
 }
 
-/// A page that stays, and whose headers are followed by another page number in time, is shown by receivers that show pages late.
+/// Receivers that show pages late show a page that stays, if another page number follows each of its headers in time.
 pub fn handed_on_is_shown()
     ensures { HandedOnIsShown }
 {
     sent_so_far_is_shown();
 }
 
-/// The same from the air.
+/// The same on the air.
 pub fn handed_on_is_shown_on_air()
     ensures { HandedOnIsShownOnAir }
 {
@@ -99,7 +99,7 @@ pub fn handed_on_is_shown_on_air()
     handed_on_is_shown();
 }
 
-/// The laws are not empty: of each schedule there is a reception within the error rule, and each receiver has a run over it.
+/// The laws are not empty: each schedule has a reception within the error rule, and each receiver has a run over it.
 pub fn each_schedule_runs()
     ensures { EachScheduleRuns }
 {
@@ -123,12 +123,12 @@ pub fn across_is_decided()
     ensures { AcrossIsDecided }
 {}
 
-/// If the late verdict accepts each edition and each change, each page is followed in time while it stays.
+/// If the late verdict accepts the first edition and each change, each page is followed in time while it stays.
 pub fn through_is_while()
     ensures { ThroughIsWhile }
 {}
 
-/// A change to a next edition that it accepts keeps a schedule so.
+/// After a change to a next edition that it accepts, this still holds.
 pub fn through_goes_on()
     ensures { ThroughGoesOn }
 {}

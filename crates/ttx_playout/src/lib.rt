@@ -1,4 +1,4 @@
-//! Playout: editions of a service that follow one another on the air, and what receivers see of them.
+//! Playout: editions of a service that are sent one after another, and what receivers see of them.
 #![tactic(auto)]
 
 mod edition;

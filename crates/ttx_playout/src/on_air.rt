@@ -20,7 +20,7 @@ use ttx_page::Class;
 use ttx_proof::{SpliceVerdict, splice};
 use ttx_witness::{NoMemory, limit};
 
-// The values of an edition are in their ranges.
+// The parts of an edition are in their ranges.
 fn has_ranges(edition: &Edition)
     ensures { schedule.IsEdition (edition_of edition.now) }
 {
@@ -56,14 +56,14 @@ fn judged(alloc: Global, old: &Edition, new: &Edition) -> Result<SpliceVerdict, 
     )
 }
 
-// For how many more slots the edition has to be sent before another may take over, once it has been sent for `held` slots.
+// How many more slots the edition has to be sent before another may take over, when it has been sent for `held` slots.
 fn left(edition: &Edition, held: u32) -> u32
     ensures { result ≡ limit (edition_of edition.now).certificate - held }
 {
     limit(&edition.certificate).saturating_sub(held)
 }
 
-// Whether the next edition may take over now, and if not, why.
+// Whether the next edition may take over now; if not, why.
 fn permits(alloc: Global, on_air: &OnAir, next: &Edition) -> Result<(), ChangeFault>
     ensures { IsChange on_air.now (edition_of next.now) result }
 {
@@ -127,7 +127,7 @@ impl OnAir {
         self.at == 0 && left(&self.current, self.held) == 0
     }
 
-    /// The next slot to send. All slots that were returned so far are a stretch of what a handed-on schedule sends.
+    /// The next slot to send. All slots returned so far are part of what a handed-on schedule sends.
     pub fn next_slot(&mut self) -> [u8; 42]
         ensures same { current_of self.new ≡ current_of self.old }
         ensures place { at_of self.new ≡ after_place self.old }
@@ -149,15 +149,15 @@ impl OnAir {
         slot
     }
 
-    /// The verdict on a change to a next edition. It depends on the two editions alone, so it can be obtained at any time.
+    /// The verdict on a change to a next edition. It depends only on the two editions, so it can be obtained at any time.
     pub fn judge(&self, alloc: Global, next: &Edition) -> Result<SpliceVerdict, NoMemory>
         ensures { IfOk result (IsChangeVerdict (current_of self.now) (edition_of next.now)) }
     {
         judged(alloc, &self.current, next)
     }
 
-    /// The verdict on a change to a next edition if receivers may show pages late: at most `gap` slots after each header of a page the next
-    /// header of its magazine has to come, with another page number, in the next edition and across the change.
+    /// The verdict on a change to a next edition, for receivers that may show pages late: in the next edition and across the change, at most `gap`
+    /// slots after each header of a page the next header of its magazine has to come, with another page number.
     pub fn judge_late(
         &self,
         alloc: Global,
@@ -172,7 +172,7 @@ impl OnAir {
         }
     }
 
-    /// Puts the next edition, to which the change is accepted, on the air, and returns the edition that leaves it.
+    /// Puts on the air the next edition, the change to which is accepted. Returns the edition that leaves the air.
     pub fn take(&mut self, next: Edition) -> Edition
         requires time { IsTime self.old }
         requires accepted { IsChangeVerdict (current_of self.old) (edition_of next) Yes }
@@ -194,8 +194,8 @@ impl OnAir {
     }
 
     /// Puts the next edition on the air and returns the one that leaves it, if a period has ended, the edition on the air has been sent for at
-    /// least a deadline, and the change is accepted. Otherwise nothing changes, and the fault says why. What goes out remains a stretch of what
-    /// a handed-on schedule sends.
+    /// least a deadline, and the change is accepted. Otherwise nothing changes, and the fault says why. What is sent remains part of what a
+    /// handed-on schedule sends.
     pub fn follow(&mut self, alloc: Global, next: Edition) -> Result<Edition, ChangeFault>
         ensures exact { TakesOver self.old (edition_of next) self.new result }
         ensures on_air { (log : List (List ℕ)) (first : schedule.Edition) (later : List schedule.Showing) → HasSent log self.old first later →
