@@ -1,4 +1,4 @@
--- What a monitor keeps says whether a feed is within the rule.
+-- The state of a monitor decides whether a feed is within the rule.
 use Rattle.std.proofs.Common.{◌≡◌, ◌↔◌, ℕ, zero, suc, ◌+◌, ◌%◌, ◌<◌, ◌≤◌, ℤ, pos, ◌+ℤ◌, ◌-ℤ◌, Bool, true, false, not, ◌&&◌, ◌==◌}
 use Rattle.std.proofs.Common.{List, [], ◌∷◌, ◌++◌, length, get_or, slice_get, Option, Some, None, refl, sym, ap, ◌∙◌, subst, inl, inr, arith, eqb-true, eq-eqb}
 use Rattle.std.specs.List.{AllByRecursion}
@@ -86,7 +86,7 @@ placed turns move cycle some page item m =
 
 module _ (numbers : RowsAreNumbered) (turns : EachSlotTurns) (move : StreamsMove) (decide : StreaksDecide) (w : Watched)
     (cyc : 0 < length w.cycle) (some : 1 ≤ w.repeat) (table : List (Option RowPlace)) (t : IsTable w.cycle w.pages table) where
-  -- the table tells the transmissions
+  -- the transmissions are those of the table
   pub told : (i r : ℕ) (p : Page) → slice_get w.pages i ≡ Some p → r < 25 → (m : ℕ) →
       (sends_at w table i r m ≡ true) ↔ IsTransmission (repeated w.cycle) p.id (item_of r) (pos w.start +ℤ pos m)
   told i r p is low m =
@@ -109,7 +109,7 @@ module _ (numbers : RowsAreNumbered) (turns : EachSlotTurns) (move : StreamsMove
     is_right : (x m : ℕ) → get_or (get_or feed m []) x 0 ≡ get_or (sent_at w m) x 0 → wrong_at w feed x m ≡ false
     is_right x m e = ap not (eq-eqb _ _ e)
 
-    -- streaks below k are the rule for the byte
+    -- streaks below k are equivalent to the rule for the byte
     pub byte_decides : (i r x : ℕ) (p : Page) → slice_get w.pages i ≡ Some p → r < 25 →
         ((m : ℕ) → m ≤ length feed → streak w table feed i r x m < w.repeat) ↔ KeepsByte w feed p.id (item_of r) x
     byte_decides i r x p is low =
@@ -165,7 +165,7 @@ module _ (numbers : RowsAreNumbered) (turns : EachSlotTurns) (move : StreamsMove
           (byte_decides i r x here.0 here.1 low).1 (λ slots. (in_rule.pages i here.0 here.1).one_right (item_of r) x (text_of r x text) slots) m le;
     }
 
-  -- one slot more
+  -- one more slot
   module _ (feed : List (List ℕ)) (slot : List ℕ) where
     pub kept_on : IsKept w table feed → MayBeReceivedAs (sent_at w (length feed)) slot → IsNoted w table (feed ++ slot ∷ []) (length feed) None →
         IsKept w table (feed ++ slot ∷ [])

@@ -47,7 +47,7 @@ row_under ids owners apart i id is of_id mag number text low high r = elim (case
 same_mag : (a b : Id) → same_id a b ≡ true → a.mag ≡ b.mag
 same_mag a b h = eqb-true _ _ (and_parts _ _ (and_parts _ _ h).0).0
 
--- a header's page is the owner in its own magazine
+-- the page of a header becomes the owner of its own magazine
 pub stay_apart : (ids : List Id) (owners new : List (Option ℕ)) → length owners ≡ 8 → AreApart ids owners → (header : Id) → 1 ≤ header.mag →
     header.mag ≤ 8 → (page : Option ℕ) → Finds ids header page → new ≡ set owners (header.mag - 1) page → AreApart ids new
 stay_apart ids owners new size apart header low high page finds e m i id lt is of_id other =
@@ -76,7 +76,7 @@ no_owner i (suc (suc (suc (suc (suc (suc zero)))))) = refl
 no_owner i (suc (suc (suc (suc (suc (suc (suc zero))))))) = refl
 no_owner i (suc (suc (suc (suc (suc (suc (suc (suc m)))))))) = refl
 
--- one slot more
+-- one more slot
 pub few_more : (P : RowPlace → Type 0) (old : List (Option RowPlace)) (place : Option RowPlace) → ((j : ℕ) → IfSome (get_or old j None) P) →
     IfSome place P → (j : ℕ) → IfSome (get_or (old ++ place ∷ []) j None) P
 few_more P old place all here j = elim (cases_lt j (length old)) as (λ _. IfSome (get_or (old ++ place ∷ []) j None) P) [

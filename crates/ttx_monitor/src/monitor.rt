@@ -67,7 +67,7 @@ fn one_more(count: u64) -> u64
     count.saturating_add(1)
 }
 
-// What is reported of a slot: how it breaks the rule by itself, or else the byte that has now been wrong too often.
+// How a slot breaks the rule: by itself; otherwise by the byte that has now been wrong too often.
 fn first_told(alone: Option<Breach>, repeated: Option<TextByte>) -> Option<Breach>
     ensures { result ≡ first_told alone repeated }
 {
@@ -95,8 +95,8 @@ impl<'a> Monitor<'a> {
     ghost use Rattle.ttx_monitor.specs.Breaches.{IsHeard};
     ghost use Rattle.ttx_monitor.specs.Standing.{Stands};
 
-    /// A monitor for the pages of a service, with the certificate's repeat count. The feed begins with slot `start` of the cycle.
-    /// All memory is allocated here.
+    /// A monitor for the pages of a service, with the certificate's repeat count. The feed begins with slot `start` of the cycle. Allocates all
+    /// memory of the monitor. `Err` if memory runs out.
     pub fn new(
         alloc: Global,
         cycle: &'a Cycle,
@@ -138,7 +138,7 @@ impl<'a> Monitor<'a> {
         })
     }
 
-    /// Takes the next slot of the feed, and returns how it breaks the error rule, if it does. Allocates nothing.
+    /// Takes the next slot of the feed, and returns how it breaks the error rule, if it does. Allocates no memory.
     pub fn hear(&mut self, slot: &[u8; 42]) -> Option<Breach>
         ensures stands { (w : Watched) (feed : List (List ℕ)) → Stands self.old w feed → Stands self.new w (feed ++ slot.now ∷ []) }
         ensures heard { (w : Watched) (feed : List (List ℕ)) → Stands self.old w feed → IsHeard w feed slot.now result }
@@ -164,7 +164,7 @@ impl<'a> Monitor<'a> {
         breach
     }
 
-    /// Whether the feed is within the error rule for each page. Allocates nothing.
+    /// Whether the feed so far is within the error rule for each page. Allocates no memory.
     pub fn within(&self) -> bool
         ensures within { (w : Watched) (feed : List (List ℕ)) → Stands self.now w feed → IsTrue result ↔ IsWithin w feed }
         ensures received { (w : Watched) (feed : List (List ℕ)) → Stands self.now w feed → 0 < length w.pages → IsTrue result ↔ AllReceived w feed }
@@ -176,15 +176,15 @@ impl<'a> Monitor<'a> {
         self.within
     }
 
-    /// How many slots have been taken. The count stops at 2^64 - 1. Allocates nothing.
+    /// How many slots have been taken. The count stops at 2^64 - 1. Allocates no memory.
     pub fn count(&self) -> u64
         ensures { (w : Watched) (feed : List (List ℕ)) → Stands self.now w feed → result ≡ min (length feed) (2 ^ 64 - 1) }
     {
         self.count
     }
 
-    /// Whether the feed is within the error rule and at least as long as the certificate's deadline. If it is, and the cycle is accepted with
-    /// the certificate, each permitted receiver of this feed has the View of each page. Allocates nothing.
+    /// Whether the feed is within the error rule and at least as long as the certificate's deadline. If so, and if the cycle is accepted with
+    /// the certificate, each permitted receiver of this feed has the View of each page. Allocates no memory.
     pub fn lasts(&self, certificate: &Certificate) -> bool
         ensures exact { (w : Watched) (feed : List (List ℕ)) → Stands self.now w feed →
             IsTrue result ↔ (IsWithin w feed × (limit (certificate_of certificate.now) ≤ length feed)) }

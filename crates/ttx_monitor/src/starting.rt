@@ -11,7 +11,7 @@ use crate::monitor::next;
 use ttx_cycle::Cycle;
 use ttx_cycle::arrays::are_slots;
 
-// Whether `sent` may be received as `received`.
+// Whether `sent` may arrive as `received`, one slot by itself.
 fn fits(sent: &[u8; 42], received: &[u8; 42]) -> bool
     requires { IsSlot received.now }
     ensures fit { result ≡ true → MayBeReceivedAs sent.now received.now }
@@ -20,7 +20,7 @@ fn fits(sent: &[u8; 42], received: &[u8; 42]) -> bool
     slot_breach(sent, received).is_none()
 }
 
-// How many slots of the feed cannot have been received if it begins with this slot of the cycle. `None` if there are `limit` or more.
+// How many slots of the feed cannot have been received if it begins with slot `start` of the cycle. `None` if there are `limit` or more.
 fn misfits_below(cycle: &Cycle, head: &[[u8; 42]], start: usize, limit: usize) -> Option<usize>
     requires inside { start < length (slots_of cycle.now) }
     requires slots { All IsSlot head.now }
@@ -47,8 +47,8 @@ fn misfits_below(cycle: &Cycle, head: &[[u8; 42]], start: usize, limit: usize) -
     Some(misfits)
 }
 
-/// The slot of the cycle with which a feed most likely begins. It is judged by the feed's first period, or by as much as there is of it: the
-/// start with the fewest slots that cannot have been received, and the first one of several.
+/// The slot of the cycle with which a feed most likely begins: the start with the fewest slots that cannot have been received, and the lowest
+/// of several. It is judged by the feed's first period, or by all of the feed if that is shorter.
 pub fn find_start(cycle: &Cycle, head: &[[u8; 42]]) -> u32
     requires few { length head.now < 2 ^ 32 }
     ensures { IsBestStart (slots_of cycle.now) head.now result }

@@ -6,7 +6,7 @@ use Rattle.ttx_witness.specs.Certificates.{certificate_of}
 use Rattle.ttx_witness.specs.Coverage.{limit}
 use Rattle.ttx_monitor.proofs.monitor.Monitor.lasts.Goals as goal
 
--- a number that is small is below the shorter of two where it is below the first
+-- a small number is below the minimum of two if it is below the first
 long : (x n count big : ℕ) → count ≡ min n big → x ≤ count → x ≤ n
 long x n count big e le = omega arith
 
