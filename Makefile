@@ -5,18 +5,18 @@
 # make install    puts program, man page and completions under PREFIX (/usr/local)
 # make dist       dist/ttx-VERSION-x86_64-linux.tar.gz: program, man page, completions and documents, and its checksum
 # make bench      times the program beside plain tools; writes nothing into the repository
-# make edits      tries each wrong body of the must-fail edits by itself, and records what is found in tools/edits.tsv
-# make compare    compares what certify --late says with what libzvbi's decoder shows, where there is one
+# make edits      tries each mutant of the must-fail edits by itself, and records the results in tools/edits.tsv
+# make compare    compares the verdicts of certify --late with what libzvbi's decoder shows, if it is installed
 
 BUILT = crates/ttx/out/ttx
 VERSION = 1.0.0
 PACKED = ttx-$(VERSION)-x86_64-linux
 PREFIX = /usr/local
 
-# so many crates are proved at a time, each in 1 to 4 GB
+# how many crates are proved at a time; each takes 1 to 4 GB
 JOBS = 4
 
-# what runs the built program, the longest first
+# scripts that run the built program, the longest first
 SCRIPTS = $(addprefix tests/, refused_calls.py refute.py memory.sh cases.py shipped.sh large.py planned.py waits.py spliced.py schedules.py turns.sh sent.py \
 	pages.py checked.py packed.sh extracted.py documents.py refused_texts.py characters.py)
 
@@ -60,7 +60,7 @@ compare: ttx
 helpers: ttx
 	python3 tools/helpers.py ./ttx out/helpers
 
-# program, man page and completions under a folder
+# puts program, man page and completions under a folder
 define place
 	install -D ttx $(1)/bin/ttx
 	install -D -m 644 out/helpers/ttx.1 $(1)/share/man/man1/ttx.1

@@ -1,10 +1,10 @@
 #!/bin/sh
-# Times the program beside plain tools on the same files in the same run, and prints tables. Where pkg-config finds libzvbi
-# (zvbi-0.2), its teletext decoder is given the same packets.
+# Times the program beside plain tools on the same files in the same run, and prints tables. If pkg-config finds libzvbi
+# (zvbi-0.2), its teletext decoder gets the same packets.
 #
 # usage: bench.sh PROGRAM
 #
-# The files are made in a folder of their own, which is removed at the end. A time is the least of five runs, in milliseconds.
+# The files are made in a folder that is removed at the end. A time is the least of five runs, in milliseconds.
 set -u
 case ${1:--} in -*) sed -n '2,/^[^#]/s/^# \{0,1\}//p' "$0" >&2; exit 2 ;; esac
 . "$(dirname "$0")/../tests/workplace.sh"
@@ -26,7 +26,7 @@ least() {
 
 tenths() { echo "$(($1 / 1000)).$(($1 / 100 % 10))"; }
 
-# the time that libzvbi's decoder takes for so many slots of a cycle, in milliseconds
+# the time that libzvbi's decoder takes for a number of slots of a cycle, in milliseconds
 decoded() { if [ -x vbi ]; then tenths "$(least ./vbi "$1" "$2")"; else echo -; fi; }
 
 if flags=$(pkg-config --cflags --libs zvbi-0.2 2> /dev/null); then
@@ -68,7 +68,7 @@ for slots in 8192 65536; do
     "$program" certify "$cycle" inhibited.toml "$slots.cert"
     [ "$slots" = 8192 ] && first_find=$find && first_certify=$certify
 done
-# over one empty slot little is left to do but to read the service
+# with one empty slot as the cycle, nearly all the time goes into reading the service
 head -c 42 /dev/zero > one-slot.t42
 service=$(least "$program" find one-slot.t42 inhibited.toml none.cert)
 beyond() { echo "$((($1 - service) * 10 / hash / 10)).$((($1 - service) * 10 / hash % 10))"; }
@@ -102,7 +102,7 @@ printf '%-34s %10s %12s %18s\n' 'splice' 'splice, ms' 'certify, ms' 'splice of c
 for service in inhibited sent; do
     case $service in sent) cycle=65536.t42 ;; *) cycle=inhibited-65536.t42 ;; esac
     files="$service.toml $service.toml $service.cert $service.cert"
-    # the names of files stand one by one
+    # the list of files is split into names here
     # shellcheck disable=SC2086
     splice=$(least "$program" splice "$cycle" "$cycle" $files)
     certify=$(least "$program" certify "$cycle" "$service.toml" "$service.cert")
@@ -115,7 +115,7 @@ echo "splice: time over that of certify (goal: at most 4)"
 
 echo
 printf '%-34s %10s %12s\n' 'refute' 'refute, ms' 'certify, ms'
-# none of the pages is sent unchanged, and each is shown: so each is run, at the longest deadline
+# no page is sent unchanged, but each is shown, so the search runs each page up to the longest deadline
 cp sent.toml corrected.toml
 sed 's/^deadline .*/deadline 1000000/' sent.cert > corrected.cert
 for service in inhibited sent corrected; do

@@ -3,8 +3,8 @@
 
 usage: inputs.py FOLDER
 
-It writes nothing outside FOLDER. Packet files are written here byte by byte, since a planned cycle is at most half as
-long as the longest packet file.
+Writes nothing outside FOLDER. Packet files are written byte by byte, since a planned cycle is at most half as long as the longest
+packet file.
 """
 import sys
 from pathlib import Path
@@ -38,7 +38,7 @@ def links(mag):
 
 
 def corrected(slots):
-    """The same slots with one wrong bit in each X/27/0: its page is shown all the same, but isn't sent unchanged."""
+    """The same slots with one wrong bit in each X/27/0. The pages are still shown, but not sent unchanged."""
     out = bytearray(slots)
     packets = {address(mag, 27) for mag in range(1, 9)}
     for at in range(0, len(out), 42):
@@ -85,7 +85,7 @@ def cycle(slots, pages, lines, inhibit=False, text_of=body):
 
 
 def service(pages, lines, inhibit, text_of=body):
-    """A service of pages of 23 rows; where their display is inhibited no row is sent."""
+    """A service of pages with 23 rows. If their display is inhibited, no row is sent."""
     out = [f"lines = {lines}", "serial = true", ""]
     for number, (mag, page, sub) in enumerate(page_ids(pages)):
         out += ["[[page]]", f'number = "{mag}{page:02X}"', f'sub = "{sub:04X}"', f'head = "PAGE {number}"']
@@ -108,10 +108,10 @@ def main():
         (folder / f"inhibited-{slots}.t42").write_bytes(cycle(slots, 2000, 1, True))
     (folder / "inhibited.toml").write_text(service(2000, 1, True))
     (folder / "sent.toml").write_text(service(2000, 1, False))
-    # blank rows are sent, so nearly each item has a start of its own, and there is little text to read
+    # blank rows are sent, so nearly every item has its own start, and there is little text to read
     (folder / "blank-65536.t42").write_bytes(cycle(65536, 2000, 1, text_of=blank))
     (folder / "blank.toml").write_text(service(2000, 1, False, blank))
-    # one page, whose header comes each 28 slots
+    # one page, whose header comes every 28 slots
     (folder / "one-page.t42").write_bytes(cycle(28, 1, 3))
     (folder / "one-page.toml").write_text(service(1, 1, False))
     (folder / "42-mb").write_bytes(bytes(42_000_000))

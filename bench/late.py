@@ -1,12 +1,12 @@
 #!/usr/bin/env python3
-"""Compares what `ttx certify --late` says of planned services with what libzvbi's decoder shows.
+"""Compares the verdicts of `ttx certify --late` on planned services with what libzvbi's decoder shows.
 
 usage: late.py PROGRAM [SERVICES [SEED]]
 
-Random services (200, seed 1) are planned, found and certified, each as it is and, where the program's `plan` takes it, with
-`--late`. A model of its own tells from the packets by which headers each page is followed. Where pkg-config finds libzvbi
-(zvbi-0.2), its decoder is given the cycle from some tuning slots on: for three periods, and for D times L and G slots. The
-status is 1 if the certifier and the model differ, or if a page that is promised is missing or has other rows than authored.
+Plans, finds and certifies random services (200, seed 1), each as it is and, if the program's `plan` has the option, with `--late`. A
+model in this script finds from the packets which headers follow each page. If pkg-config finds libzvbi (zvbi-0.2), its decoder gets the
+cycle from some tuning slots on: for three periods, and for D times L plus G slots. The status is 1 if the certifier and the model differ,
+or if a promised page is missing or has other rows than authored.
 """
 import random
 import re
@@ -62,7 +62,7 @@ def headers(cycle):
 
 
 def followers(cycle, pages):
-    """For each page the most slots to the header that follows one of its own, or None; and the first header that isn't followed."""
+    """For each page the most slots to the header that follows one of its own, or None; and the first header that is not followed."""
     listed = {page[:2] for page in pages}
     gaps, first, slots = dict.fromkeys(listed, 0), None, len(cycle) // 42
     in_magazine = {}
@@ -83,7 +83,7 @@ def followers(cycle, pages):
 
 
 def shown(decoder, cycle, start, count, pages):
-    """The rows that the decoder shows of each page after so many slots, or None."""
+    """The rows of each page that the decoder shows after this many slots, or None."""
     words = [f"{number}/{sub}" for number, sub, _, _ in pages]
     told = subprocess.run([decoder, cycle, str(start), str(count), *words], capture_output=True, text=True, check=True).stdout.split("\n")
     answer = {}

@@ -1,9 +1,9 @@
-/* Gives packets of a file to a new teletext decoder of libzvbi, 24 slots a frame, and prints what it then shows of some pages.
+/* Gives packets of a file to a new teletext decoder of libzvbi, 24 slots in a frame, and prints what it then shows of some pages.
  *
  * usage: shown FILE START COUNT MPP/SSSS..
  *
  * COUNT slots are taken from slot START on, round the file. A slot of 42 zero bytes is a line without teletext. For each page
- * the output has rows 1 to 24, a line each, or one line `-` where the decoder has stored no such page. */
+ * the output has rows 1 to 24, one line each, or one line `-` if the decoder has not stored the page. */
 #include <libzvbi.h>
 #include <stdio.h>
 #include <stdlib.h>
@@ -13,7 +13,7 @@ enum { PACKET = 42, LINES = 24, LONGEST = 65536 };
 
 static unsigned char packets[LONGEST][PACKET];
 
-/* The lines of the frame that begins at a slot; answers how many of them hold a packet. */
+/* The lines of the frame that begins at a slot; returns how many of them have a packet. */
 static int fill_frame(vbi_sliced *frame, size_t first, size_t end, size_t length) {
     static const unsigned char empty[PACKET];
     int filled = 0;

@@ -1,4 +1,4 @@
-/* Gives the packets of a file to libzvbi's teletext decoder, 24 slots a frame, and prints how many pages it has told of.
+/* Gives the packets of a file to libzvbi's teletext decoder, 24 slots in a frame, and prints how many pages it has reported.
  *
  * usage: vbi FILE SLOTS
  *
@@ -17,7 +17,7 @@ static void count_page(vbi_event *event, void *pages) {
     ++*(long *)pages;
 }
 
-/* The lines of the frame that begins at a slot; answers how many of them hold a packet. */
+/* The lines of the frame that begins at a slot; returns how many of them have a packet. */
 static int fill_frame(vbi_sliced *frame, size_t first, size_t end, size_t length) {
     static const unsigned char empty[PACKET];
     int filled = 0;

@@ -1,5 +1,5 @@
 #!/bin/sh
-# Tells the story of a service from its text to the air on shipped files. Each command stands before its output.
+# Takes a service from its text to the air, on shipped files. Prints each command before its output.
 #
 # usage: demo.sh PROGRAM
 set -u
@@ -8,7 +8,7 @@ cp "$top/examples/broadcast.toml" "$top/tests/data/often-3.toml" "$work"
 cp "$top/tests/data/bad-slot.t42" "$top/tests/data/83-bytes" "$work"
 cd "$work" || exit 1
 
-# a command, and all that it writes
+# runs a command, with all its output
 run() {
     echo "\$ ttx $*"
     "$program" "$@" 2>&1
@@ -17,27 +17,27 @@ run() {
     echo
 }
 
-# a page, with a terminal's colours where there is a terminal
+# shows a page, with colours on a terminal
 look() {
     echo "\$ ttx $*"
     if [ -t 1 ]; then "$program" "$@" --as ansi; else "$program" "$@" --as text; fi
     echo
 }
 
-# a plain tool, and all that it writes
+# runs another tool, with all its output
 show() {
     echo "\$ $*"
     "$@"
 }
 
-# leaves a file for a browser where there is a terminal, and says where
+# on a terminal, keeps a file for a browser, and prints where it is
 keep() {
     if [ -t 1 ]; then
         kept=$(mktemp -d) && cp "$1" "$kept" && echo "It stays as $kept/$1."
     fi
 }
 
-# a command, and the front of the first lines that it writes
+# runs a command, with the beginning of its first lines
 front() {
     lines=$1
     shift
@@ -46,7 +46,7 @@ front() {
     echo
 }
 
-# a command, and the end of what it writes
+# runs a command, with the end of its output
 back() {
     lines=$1
     shift

@@ -1,12 +1,12 @@
 #!/bin/sh
-# Shows the main job on shipped files without any proof: a page as an author sees it, and the verdict on a carousel.
+# Does the main job on shipped files without any proof: a page as an author sees it, and the verdict on a carousel.
 #
 # usage: try.sh
 set -u
 cd "$(dirname "$0")/../crates/ttx" || exit 1
 data=../../tests/data
 
-# a command, before its output
+# prints a command before its output
 say() {
     echo "\$ ttx $*"
 }

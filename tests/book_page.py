@@ -1,7 +1,7 @@
 #!/usr/bin/env python3
-"""The book of a cycle of letters, by a writer of its own: pages whose rows have characters, colours and new backgrounds alone.
+"""Writes the book of a cycle of letters without the program: pages whose rows have only characters, colours and new backgrounds.
 
-`make_data.py` makes a cycle and its book by it. The sheets, the script and the heads are those that docs/FORMATS.md speaks of.
+`make_data.py` makes a cycle and its book with it. The sheets, the script and the heads are those that docs/FORMATS.md describes.
 """
 HEAD = (
     '<!DOCTYPE html>\n<html lang="en"><head><meta charset="utf-8"/><meta name="viewport" '
@@ -46,7 +46,7 @@ KEYS = (("Red", 1), ("Green", 2), ("Yellow", 3), ("Cyan", 6), ("Next", 7), ("Ind
 
 
 def cells(codes):
-    """The cells of a row: character, foreground and background. A colour counts from the next cell on, a background at once."""
+    """The cells of a row: character, foreground and background. A colour acts from the next cell on, a background at once."""
     fore, back, out = 7, 0, []
     for code in codes:
         if code == 0x1D:
@@ -62,7 +62,7 @@ def escaped(text):
 
 
 def ground(row):
-    """The strokes of what isn't black, a path for each colour that comes after another."""
+    """The strokes of everything that is not black, with a path wherever the colour changes."""
     out, pen, start = "", 0, 0
     for at, back in enumerate([*(back for _, _, back in row), 0]):
         before = row[at - 1][2] if at else 0
@@ -116,7 +116,7 @@ def leaf(number, sub, rows, links, first):
 
 
 def book(pages):
-    """The book of pages by rising numbers: each is its number, its subcode, the codes of its rows by number, its links by key."""
+    """The book of pages in the order of their numbers. A page is its number, its subcode, the codes of its rows by number, its links by key."""
     index = "".join(f'<a href="#{number}/{sub}">{number}/{sub}</a>' for number, sub, _, _ in pages)
     leaves, former = "", None
     for number, sub, codes, links in pages:

@@ -1,19 +1,19 @@
 #!/usr/bin/env python3
-"""Runs the built program on the cases of tests/cases, on all processors, and compares what it does.
+"""Runs the built program on the cases of tests/cases, on all processors, and compares the results.
 
 usage: cases.py PROGRAM [NAME..]
 
-tests/cases/COMMAND.toml has one table a case. With names, as certify or certify/bad-slot, only those run. The keys of a case:
+tests/cases/COMMAND.toml has a table for each case. Given names, such as certify or certify/bad-slot, only those cases run. The keys of a case:
 
-    run           the words after the program's name, as a shell takes them apart; \\xHH in a word is a byte
-    data          files of tests/data that lie in the folder `in` that the program runs in; without this key, those that `run` names
-    padded        NAME = [FROM, SIZE]: the file NAME holds FROM of tests/data, and then # up to SIZE bytes
+    run           the words after the program's name, split as a shell does; \\xHH in a word is a byte
+    data          files of tests/data in the folder `in`, in which the program runs; without this key, those that `run` names
+    padded        NAME = [FROM, SIZE]: the file NAME has the bytes of FROM of tests/data, and then # up to SIZE bytes
     repeated      NAME = [FROM, SIZE]: the same, with FROM again and again
     stdin         the file of tests/data that is standard input; without this key there is nothing to read
     status        the exit status; without this key 0
     stdout        what the program prints, byte for byte; without this key nothing. stdout-file names a file of tests/cases/expected
     stderr        the same of standard error, with stderr-file
-    stdout-to     what takes standard output in place of a file: a device, closed-pipe, or closed for nothing at all
+    stdout-to     where standard output goes in place of a file: a device, closed-pipe, or closed for no stream at all
     stderr-to     the same of standard error
     out           NAME = WANTED: the file NAME afterwards, as a file of tests/data
     absent        files that must not be there afterwards
@@ -66,7 +66,7 @@ def lay_out(case, folder):
 
 
 def run(program, case, words, folder):
-    """Runs the program; gives its status and what it wrote to both streams, None for one that goes elsewhere."""
+    """Runs the program; returns its status and what it wrote to both streams, None for a stream that goes elsewhere."""
     results = {}
     streams, closed = {}, ""
     for number, stream in (1, "stdout"), (2, "stderr"):
@@ -95,7 +95,7 @@ def run(program, case, words, folder):
 
 
 def differences(program, case):
-    """What is wrong after one run of a case, a text each."""
+    """What is wrong after one run of a case, as a list of texts."""
     words = words_of(case)
     with tempfile.TemporaryDirectory() as place:
         folder = os.path.join(place, "in")
@@ -114,7 +114,7 @@ def differences(program, case):
         for name in case.get("absent", []):
             if os.path.exists(os.path.join(folder, name)):
                 yield f"there is a file {name}"
-        # what certify says of a cycle it says of two equal readings of it; with --late it reads the cycle once
+        # certify gives two equal readings of a cycle the verdict of the cycle; with --late it reads the cycle once
         twice = words[:1] == [b"certify"] and b"--late" not in words and not {"stdin", "stdout-to", "stderr-to"} & case.keys()
         if twice and case.get("status", 0) < 2:
             status, results = run(program, case, words + [b"--twice"], folder)
@@ -123,7 +123,7 @@ def differences(program, case):
 
 
 def tables():
-    """All cases, by the names of their command and their own."""
+    """All cases, by the name of their command and their own name."""
     found = {}
     for file in sorted(os.listdir(os.path.join(TESTS, "cases"))):
         if not file.endswith(".toml"):
@@ -137,7 +137,7 @@ def tables():
 
 
 def unused(cases):
-    """Files of tests/cases/expected that no case names."""
+    """The files of tests/cases/expected that no case names."""
     named = {case[key] for case in cases.values() for key in ("stdout-file", "stderr-file") if key in case}
     return sorted(set(os.listdir(os.path.join(TESTS, "cases", "expected"))) - named)
 

@@ -1,9 +1,9 @@
 #!/usr/bin/env python3
 """Compares the characters of each national option with those that libzvbi's decoder shows: characters.py PROGRAM
 
-For each option a page with the codes 20 to 7F goes to `preview`. national_options.txt has what libzvbi shows. Two things differ by
-profile: code 60 of option 0 is the horizontal bar U+2015 and not the dash U+2014, and option 7, which the standard leaves open, is
-option 0.
+For each option `preview` shows a page with the codes 20 to 7F. national_options.txt has what libzvbi shows. The profile differs in two
+points: code 60 of option 0 is the horizontal bar U+2015 instead of the dash U+2014, and option 7, which the standard leaves open, is
+the same as option 0.
 """
 import subprocess
 import sys
@@ -16,19 +16,19 @@ PLACES = bytes.fromhex("232440 5b5c5d5e5f60 7b7c7d7e")
 
 
 def shown_by_libzvbi():
-    """The characters of the codes by option."""
+    """The characters of the codes, by option."""
     lines = [line.split() for line in (HERE / "national_options.txt").read_text().splitlines() if not line.startswith("#")]
     return {int(option): [chr(int(point, 16)) for point in points] for option, *points in lines}
 
 
 def wanted_of(shown):
-    """The characters by option, as this project's profile has them."""
+    """The same in this project's profile."""
     english = ["\u2015" if code == 0x60 else character for code, character in zip(CODES, shown[0])]
     return shown | {0: english, 7: english}
 
 
 def previewed(program, option):
-    """The characters that the program shows of the codes."""
+    """The characters that the program shows for the codes."""
     escapes = ["\\u%04X" % code for code in CODES]
     rows = "".join('%d = "%s"\n' % (row, "".join(escapes[32 * row - 32 : 32 * row])) for row in (1, 2, 3))
     service = f'lines = 2\nserial = true\n[[page]]\nnumber = "100"\noption = {option}\n[page.rows]\n{rows}'
@@ -37,7 +37,7 @@ def previewed(program, option):
         file.flush()
         ran = subprocess.run([program, "preview", file.name, "100", "--as", "text"], stdout=subprocess.PIPE, check=True)
     lines = ran.stdout.decode().split("\n")
-    # the text forms leave spaces at the end of a row out
+    # the text form leaves out spaces at the end of a row
     return list("".join(line.ljust(32) for line in lines[1:4]))
 
 
@@ -50,7 +50,7 @@ def main():
         if len(shown[option]) != len(CODES) or found != wanted[option]:
             failed += 1
             print(f"FAILED option {option}: {''.join(found)}, not {''.join(wanted[option])}")
-        # what isn't national is the same under each option
+        # characters that are not national are the same under each option
         if any(found[code - 0x20] != wanted[1][code - 0x20] for code in CODES if code not in PLACES):
             failed += 1
             print(f"FAILED option {option}: a character that isn't national is another")

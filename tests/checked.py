@@ -1,6 +1,6 @@
 #!/usr/bin/env python3
-"""Runs `check` over random service texts. The warnings are those of a plain reader of its own, which knows what it wrote; of a text with
-one mistake the line names the place at which it was written.
+"""Runs `check` over random service texts. The expected warnings come from a plain reader in this script, which knows what it wrote. For a
+text with one mistake, the line must name the place where the mistake was written.
 
 usage: checked.py PROGRAM [COUNT]
 """
@@ -29,7 +29,7 @@ def value_text(value):
 
 
 class Text:
-    """A text that is written, and where its values stand."""
+    """A text, and the places of its values."""
 
     def __init__(self):
         self.text, self.places = "", {}
@@ -145,7 +145,7 @@ def identity(page):
 
 
 def filled(page):
-    """Rows 1 to 24 by their numbers, and which of them double height hides."""
+    """Rows 1 to 24 by number, and the rows that double height hides."""
     rows = {number: page.get("rows", {}).get(str(number), "").ljust(40) for number in range(1, 25)}
     hidden = set()
     for number in range(1, 23):
@@ -235,7 +235,7 @@ def report(service):
 
 
 def misspelt(service):
-    """A key more that means nothing."""
+    """Adds an unknown key."""
     where, kind = random.choice([(service, "service")] + [(page, "page") for page in service.get("page", [])] + ([(service["info"], "info")] if "info" in service else []))
     key = list(random.choice(TAKES[kind]))
     for _edit in range(random.randrange(1, 4)):
@@ -246,7 +246,7 @@ def misspelt(service):
 
 
 def mistake(service):
-    """One mistake: the path to it, what its line calls it, and what it says."""
+    """One mistake: its path, its name in the line, and the words of the line."""
     pages = service["page"]
     at = random.randrange(len(pages))
     page = pages[at]

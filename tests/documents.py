@@ -1,6 +1,7 @@
 #!/usr/bin/env python3
-"""Runs each example of README.md and of docs/, as it stands there, and compares what it prints; and looks whether the
-links, files, calls, commands and options that the documents name are there, and each figure that they take from docs/MEASURED.md. The blocks of docs/RECIPES.md recipes.sh runs, and the loop of docs/SPLICES.md turns.sh.
+"""Runs each example of README.md and docs/ word for word, and compares its output. Checks that the links, files, calls, commands and
+options that the documents name exist, and that figures quoted from docs/MEASURED.md are there. (recipes.sh runs the blocks of
+docs/RECIPES.md, and turns.sh the loop of docs/SPLICES.md.)
 
 usage: documents.py PROGRAM
 """
@@ -14,7 +15,7 @@ from pathlib import Path
 
 TOP = Path(__file__).resolve().parent.parent
 
-# what `make demo` does to its files, so far as the examples need it
+# what `make demo` does to its files, as far as the examples need it
 BEFORE = """
 set -e
 ttx plan broadcast.toml broadcast.t42
@@ -61,7 +62,7 @@ def run(command, folder, words):
 
 
 def dead_links(document):
-    """The links of a document to files that aren't there."""
+    """The links of a document to files that do not exist."""
     links = re.findall(r"\]\(([^)#\s]+)[^)]*\)", document.read_text())
     return [link for link in links if "://" not in link and not (document.parent / link).exists()]
 
@@ -86,7 +87,7 @@ def named_calls(document):
 
 
 def is_defined(crate, name):
-    """Whether a crate has a function, type, module or file of definitions of this name."""
+    """Whether a crate has a function, type or module with this name."""
     item = re.compile(rf"\b(?:fn|struct|enum|trait|mod|const|use .*::)\s*{name}\b")
     return any(item.search(file.read_text()) for file in (TOP / "crates" / crate / "src").rglob("*.rt"))
 
@@ -100,7 +101,7 @@ def named_options(document):
 
 
 def unknown_names(document, helps):
-    """What a document names that isn't there."""
+    """The names in a document that do not exist."""
     told = [f"no file {name}" for name, path in named_files(document) if not path.exists()]
     told += [f"no call {crate}::{name}" for crate, name in named_calls(document) if not is_defined(crate, name)]
     told += [f"{command} has no {option}" for command, option in named_options(document)
@@ -109,7 +110,7 @@ def unknown_names(document, helps):
 
 
 def unmeasured(document):
-    """The figures of a line that refers to MEASURED.md which aren't there."""
+    """The figures in lines that refer to MEASURED.md, if MEASURED.md does not have them."""
     measured = (TOP / "docs/MEASURED.md").read_text()
     for line in document.read_text().splitlines():
         if "(docs/MEASURED.md)" in line or "](MEASURED.md)" in line:
@@ -119,7 +120,7 @@ def unmeasured(document):
 
 
 def help_texts(program):
-    """Of each command its help."""
+    """The help text of each command."""
     def told(words):
         return subprocess.run([program, *words, "--help"], capture_output=True, text=True, timeout=60).stdout
     commands = re.findall(r"^  ([a-z]+)  ", told([]), re.M)
@@ -142,7 +143,7 @@ def main():
                 count += 1
                 done = run(command, folder, words)
                 printed = (done.stdout + done.stderr).splitlines()
-                # an answer that is no has status 1, a mistake that check reports status 2: each has a line
+                # a no has status 1, and a mistake that check reports has status 2: both print a line
                 if printed != lines or done.returncode > 2 or (done.returncode and not lines) or (done.returncode == 2 and "check" not in command):
                     failed += 1
                     print(f"FAILED {command}: status {done.returncode}, it prints {printed[:3]}, and {document.name} has {lines[:3]}")

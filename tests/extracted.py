@@ -1,12 +1,12 @@
 #!/usr/bin/env python3
-"""Runs `extract` of the built program over planned cycles: what comes back is the service that was planned.
+"""Runs `extract` of the built program over planned cycles: the result must be the service that was planned.
 
 usage: extracted.py PROGRAM [COUNT]
 
-The services are the shipped examples and COUNT generated ones (200 unless it is given), planned in each way. A judge of its own
-reads both texts as TOML: lines, serial, packet 8/30, pages, how often they are sent, control bits, header texts, links, and each
-row that a viewer sees. Both texts look the same page by page, have the same deadline, and a plan of what came back gives it back.
-Cycles of which a packet is then changed, and such as no service says, are refused by name.
+The services are the shipped examples and COUNT generated ones (default 200), planned in each way. This script reads both texts as TOML
+and compares lines, serial, packet 8/30, pages, how often they are sent, control bits, header texts, links, and each row that a viewer
+sees. Both texts must look the same page by page, have the same deadline, and a plan of the result must give the result back. Cycles
+with a changed packet, and cycles that no service describes, must be refused by name.
 """
 import random
 import subprocess
@@ -26,13 +26,13 @@ WAYS = [[], ["--class", "clearing"], ["--late"]]
 
 
 def link(text):
-    """A link with its subcode, or none."""
+    """A link with its subcode, or None."""
     page, _, sub = text.partition("/")
     return (page, sub or "3F7F") if page else None
 
 
 def seen_rows(table):
-    """The rows that a viewer sees, by their numbers."""
+    """The rows that a viewer sees, by number."""
     texts = {int(number): text for number, text in table.get("rows", {}).items()}
     rows = {number: texts.get(number, "").ljust(40) for number in range(1, 25)}
     hidden = set()
@@ -45,7 +45,7 @@ def seen_rows(table):
 
 
 def said(text):
-    """What a service says, apart from the order of its pages."""
+    """The contents of a service, without the order of its pages."""
     table = tomllib.loads(text)
     info = table.get("info")
     if info is not None:
@@ -78,13 +78,13 @@ class Place:
         return done.returncode, done.stdout.decode(), done.stderr.decode()
 
     def extract(self, lines):
-        """What `extract` says of the cycle, and the text."""
+        """The line that `extract` prints for the cycle, and the text."""
         told = self.run("extract", "cycle", "extracted", "--lines", str(lines))
         return told, (self.folder / "extracted").read_text()
 
 
 def wrong(place, text, way, draw):
-    """What is wrong with what comes back of a service, or None."""
+    """What is wrong with the result for a service, or None."""
     (place.folder / "service").write_text(text)
     told = place.run("plan", "service", "cycle", *way)
     if told[0] != 0:
@@ -131,7 +131,7 @@ def name(page):
 
 
 def changed(draw, cycle):
-    """A cycle in which a later transmission of an item says something else, and the refusal; or none where each is sent once."""
+    """A cycle in which a later transmission of an item differs, and the expected refusal. None if each item is sent once."""
     choices = [(page, item, slots) for (page, item), slots in transmissions(cycle).items() if len(slots) > 1]
     if not choices:
         return None
@@ -149,7 +149,7 @@ def changed(draw, cycle):
 
 
 def erasing(draw, cycle):
-    """A cycle in which a header has C4, and the refusal."""
+    """A cycle in which a header has C4, and the expected refusal."""
     page, at = draw.choice([(page, at) for (page, item), slots in transmissions(cycle).items() if item == "head" for at in slots])
     slot = bytearray(cycle[at])
     slot[5] = WORDS[WORDS.index(slot[5]) | 8]
@@ -157,7 +157,7 @@ def erasing(draw, cycle):
 
 
 def many_pages(count, rows):
-    """A cycle of so many pages with these rows."""
+    """A cycle of `count` pages with these rows."""
     cycle = []
     for number in range(count):
         cycle += [header(1 + number // 255, number % 255), EMPTY, *[row(1 + number // 255, at, text) for at, text in rows]]
@@ -165,12 +165,12 @@ def many_pages(count, rows):
 
 
 def refusals(draw, cycle):
-    """Cycles that no service says, with the refusals."""
+    """Cycles that no service describes, with the expected refusals."""
     return [case for case in (changed(draw, cycle), erasing(draw, cycle)) if case]
 
 
 def refused_otherwise(place, cycle, lines, refusal):
-    """How a cycle is refused that no service says, where it isn't so."""
+    """How a cycle that no service describes is refused, if not as expected."""
     (place.folder / "cycle").write_bytes(b"".join(cycle))
     told, text = place.extract(lines)
     return None if (told, text) == ((2, "", f"refused: {refusal}\n"), "") else f"{refusal}: {told}"

@@ -1,9 +1,9 @@
 #!/usr/bin/env python3
-"""Runs the built program on inputs that are large, and on long runs, and compares all that it does.
+"""Runs the built program on large inputs, and for many slots, and compares all results.
 
 usage: large.py PROGRAM
 
-What is wanted is laid out here, with the encoder of make_data.py, which shares nothing with the program.
+The expected results are computed here with the encoder of make_data.py, which shares nothing with the program.
 """
 import os
 import subprocess
@@ -26,7 +26,7 @@ def text(letter):
 
 
 def view(letters, shown_links=NO_LINKS):
-    """The lines of a view that is blank but for a letter at the beginning of rows."""
+    """The lines of a View that is blank except for a letter at the beginning of some rows."""
     rows = [list(cells) for cells in BLANK]
     for number, letter in letters.items():
         rows[number][0] = letter
@@ -35,7 +35,7 @@ def view(letters, shown_links=NO_LINKS):
 
 
 def placed(size, packets):
-    """A cycle of so many slots, empty but for the packets at their places."""
+    """A cycle of empty slots, with packets at some places."""
     slots = [EMPTY] * size
     for at, slot in packets.items():
         slots[at] = slot
@@ -43,7 +43,7 @@ def placed(size, packets):
 
 
 def many_pages():
-    """2,000 pages in fields of one slot that send no row: the service, its cycle, and the certificate with the least deadline."""
+    """2,000 pages without rows, one slot in a field: the service, its cycle, and the certificate with the least deadline."""
     ids = [(mag, page) for mag in range(1, 9) for page in range(250)]
     service = ["lines = 1", "serial = true"]
     slots = []
@@ -53,7 +53,7 @@ def many_pages():
         named.append(f"{mag}{page:02X}/0000 links {len(slots) + 2}")
         slots += [header(mag, page, 0, 1 << 3 | 1 << 6, 1), EMPTY, links(mag)]
     slots += [time_filling(mag) for mag in range(1, 9)]
-    # from a header to its page's links in the next period, these included
+    # from a header to and including its page's links in the next period
     deadline = len(slots) + 2
 
     def text_with(fields):
@@ -62,14 +62,14 @@ def many_pages():
 
 
 def inspected(slots):
-    """The lines of slots of the worked cycle, sent again and again."""
+    """The lines of `inspect` for slots of the worked cycle, which repeats."""
     period = ["1/0 header 100/0000 C11", "empty", "empty", *[f"1/{r} row" for r in range(1, 24)]]
     period += ["1/27 links" + NO_LINKS, "1/0 header 1FF/3F7F C11"]
     return "".join(f"{at} {period[at % 28]}\n" for at in range(slots))
 
 
 def inputs(folder):
-    """The files of all cases, and the cases: words, what is printed, its status, and the files afterwards."""
+    """The files of all cases, and the cases: words, output, status, and the files afterwards."""
     service, slots, deadline, text_with = many_pages()
     longest = (base() * 2341)[:65536]
     late = placed(65536, {65000: header(1, 0), 65003: LINK, 65004: row(1, 1, text(0x41))})
@@ -113,7 +113,7 @@ def close_all():
 
 
 def run(program, folder, words, wanted, status, out, closed=False):
-    """Whether the program does what is wanted; with all three streams closed it prints nothing."""
+    """Whether the program behaves as expected. With all three streams closed it prints nothing."""
     made = folder / "out"
     made.write_bytes(b"")
     if closed:
@@ -134,7 +134,7 @@ def main():
         folder = Path(name)
         cases = inputs(folder)
         results = [run(program, folder, *case) for case in cases]
-        # with no stream to print to OUT gets its own bytes alone, and the line fails
+        # with no stream to print to, OUT gets only its own bytes, and writing the line fails
         streams = ["certify pages.t42 pages.toml pages.cert", "inspect base.t42", "inspect missing"]
         results += [run(program, folder, words, "", 3, None, True) for words in streams]
         results += [run(program, folder, *case[:2], 3, case[3], True) for case in cases if case[3]]

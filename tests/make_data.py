@@ -1,9 +1,9 @@
 #!/usr/bin/env python3
-"""Makes the files of tests/data, by an encoder that shares nothing with the program.
+"""Makes the files of tests/data, with an encoder that shares nothing with the program.
 
 usage: make_data.py FOLDER
 
-The words are those of EN 300 706, 8.2; a character has odd parity (8.1).
+Code words are those of EN 300 706, 8.2; characters have odd parity (8.1).
 """
 import sys
 from pathlib import Path
@@ -34,7 +34,7 @@ def row(mag, number, text=SPACES):
 
 
 def links(mag, first=None, control=7):
-    """A packet X/27/0 whose first link is the six numbers given, or none."""
+    """A packet X/27/0 whose first link has the six numbers given, if any."""
     none = (15, 15, 15, 7, 15, 3)
     numbers = [0, *(first or none), *none * 5, control]
     return packet(mag, 27, bytes(WORDS[n] for n in numbers) + bytes(2))
@@ -87,7 +87,7 @@ BOOK_MORE = {3: b"it's second", 23: b"\x06end"}
 
 
 def book_cycle():
-    """Pages 100 and 101: rows with colours, a link from the first to the second, and a subpage of this that is sent first."""
+    """Pages 100 and 101: rows with colours, a link from the first to the second, and a subpage of the second that is sent first."""
     out = [header(1, 0, text=odd(BOOK_TOPS[0][8:])), EMPTY, *[text_row(1, n, codes) for n, codes in BOOK_ROWS.items()]]
     out += [links(1, (1, 0, 15, 7, 15, 3), 15), time_filling(1)]
     for sub in (2, 1):
@@ -142,7 +142,7 @@ utc = 123045
 text = "TEST"
 """
 
-# packet 8/30 of these fields, from its worked example
+# packet 8/30 with these fields, from its worked example
 INFO = bytes.fromhex("15ea151515eaeaea5e12348505711123415600000000" "5445d354") + SPACES[:16]
 
 
@@ -207,7 +207,7 @@ def edits_of_base():
 
 
 def refused_services():
-    """A service for each fault that a value of a page or of the service can have."""
+    """A service for each fault in a value of a page or of the service."""
     serial = "lines = 2\nserial = true\n"
     page = serial + '[[page]]\nnumber = "100"\n'
     return {
@@ -224,8 +224,8 @@ def refused_services():
 
 
 def checked_services():
-    """Services with mistakes for their author: a row of 47 characters, a quotation that isn't ended, keys that mean nothing, and a
-    service for each warning."""
+    """Services with an author's mistakes: a row of 47 characters, a quotation that is not closed, unknown keys, and a service for each
+    warning."""
     head = "lines = 2\nserial = false\n"
     page = '[[page]]\nnumber = "{}"\n'
     long = head + "\n# the pages\n\n" + page.format(100) + "\n[page.rows]\n"
@@ -245,7 +245,7 @@ def checked_services():
 
 
 def certificate(deadline, repeat=1, rows=range(1, 24), more=None, at=(0,)):
-    """A certificate of blank pages whose headers are sent at these slots, a field before their rows."""
+    """A certificate for blank pages whose headers are sent in these slots, a field before their rows."""
 
     def starts(place):
         return " ".join(str(slot + place) for slot in at)
@@ -257,7 +257,7 @@ def certificate(deadline, repeat=1, rows=range(1, 24), more=None, at=(0,)):
 
 
 def subpages_certificate(deadline, second):
-    """That of two blank subpages, of which the second begins at this slot."""
+    """The same for two blank subpages, the second of which begins at this slot."""
     entries = certificate(deadline, at=(second,)).split("\n", 4)[4].replace("/0000 ", "/0001 ")
     return certificate(deadline) + entries
 
@@ -270,7 +270,7 @@ def turned_certificate(deadline):
 
 
 def two_pages():
-    """Pages 100, blank, and 101, whose row 8 is A, as a plan sends them; turned so that this row is slot 0."""
+    """Pages 100 (blank) and 101 (row 8 is A), as a plan sends them, turned so that this row is slot 0."""
     rows = [row(1, r, b"\xc1" + SPACES[1:] if r == 8 else SPACES) for r in range(1, 24)]
     second = [header(1, 1), EMPTY, EMPTY, *rows, links(1)]
     slots = [*block(1), *second, time_filling(1), EMPTY]
@@ -278,7 +278,7 @@ def two_pages():
 
 
 def two_pages_certificate(deadline):
-    """The certificate of these two pages."""
+    """The certificate for these two pages."""
     lines = ["ttx certificate 1", "lines 2", "repeat 1", f"deadline {deadline}"]
     for page, at in (("100", 19), ("101", 46)):
         lines += [f"{page}/0000 head {at}"]
@@ -308,7 +308,7 @@ def clearing_certificate(deadline, repeat=1, entries="100/0000 head 0\n"):
 
 
 def certifying_texts():
-    """Certificates and services of further verdicts and refusals."""
+    """Certificates and services for further verdicts and refusals."""
     head = "ttx certificate 1\nlines 2\n"
     page = 'lines = 2\nserial = true\n[[page]]\nnumber = "100"\n'
     return {
@@ -362,7 +362,7 @@ sub = "0002"
 
 
 def quoted(codes):
-    """Codes as a text of TOML."""
+    """Codes as a TOML string."""
     named = {0x22: '\\"', 0x5C: "\\\\"}
     return '"' + "".join(named.get(c, chr(c) if 0x20 <= c < 0x7F else f"\\u00{c:02X}") for c in codes) + '"'
 
@@ -374,7 +374,7 @@ def extracted(number, keys="", rows=None):
 
 
 def extracted_texts():
-    """What `extract` writes of cycles."""
+    """What `extract` writes for cycles."""
     serial, parallel = "lines = 2\nserial = true\n", "lines = 2\nserial = false\n"
     quiet, head = "suppress = true\ninhibit = true\n", 'head = "Attributes <&>"\n'
     info = TEST_INFO.replace("[info]\n", "\n[info]\ndesignation = 0\n")
@@ -392,7 +392,7 @@ def extracted_texts():
 
 
 def unlike():
-    """Cycles that no service says."""
+    """Cycles that no service describes."""
     return {
         "row-5-unlike.t42": [*base(), *with_byte(base(), 7, 2, 0xC1)],
         "even-parity.t42": with_byte(base(), 5, 41, 0xA0),
@@ -401,7 +401,7 @@ def unlike():
 
 
 def counter(start, slots, deadline, changed=None, choices=(), six=" 0" * 18, code=65, control=128):
-    """The text of a counter-run of page 100: the page's memory, but for an A in the first column of a row, and links."""
+    """The text of a counter-run of page 100. The memory is the page's, with an A in the first column of a row, and with links."""
     rows = [f"{code}" + " 32" * 39 if number == changed else "32" + " 32" * 39 for number in range(25)]
     bits = [f" {bit}" for bit in choices]
     head = [
@@ -413,7 +413,7 @@ def counter(start, slots, deadline, changed=None, choices=(), six=" 0" * 18, cod
 
 
 def missed():
-    """Runs from slot 0 on, out of a memory of spaces but for an X in row 1, whose row 1 is missed as the choices say."""
+    """Runs from slot 0 on, with a former memory of spaces and an X in row 1. Choices decide which transmissions of row 1 are missed."""
 
     def run(slots, *choices):
         return counter(0, slots, 27, 1, choices, code=0x58, control=0)

@@ -1,5 +1,5 @@
 #!/usr/bin/env python3
-"""Reads SVG and HTML as XML, and looks whether ids are unique and each link of a book leads to one of them.
+"""Reads SVG and HTML as XML, and checks that ids are unique and that each link of a book leads to one of them.
 
 usage: markup.py FILE..
 """

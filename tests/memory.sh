@@ -1,7 +1,7 @@
 #!/bin/sh
-# Runs the built program in less and less memory (for data, in KiB: all that is allocated, but not the stack), over a cycle of
-# 65,520 slots and a service of 25 pages. Each command either does what it does with enough memory, or ends with `fault: memory`, status 3, and OUT empty or
-# not made; and each does both somewhere.
+# Runs the built program with less and less memory (for data, in KiB: all that is allocated, without the stack), on a cycle of 65,520 slots
+# and a service of 25 pages. Each command either does what it does with enough memory, or ends with `fault: memory`, status 3, and OUT
+# empty or not made. Each command does both at some size.
 #
 # usage: memory.sh PROGRAM
 set -u
@@ -15,7 +15,7 @@ for _ in $(seq $((65536 * 42 / $(wc -c < "$base")))); do cat "$base"; done > lon
 cp "$top/tests/data/base-26.counter" long.counter
 runs=0
 
-# What a command did in its room: status 127 is that of a program that can't even be loaded.
+# Judges what a command did. Status 127: the program could not even be loaded.
 judge() {
     case $status in
     0)
@@ -41,7 +41,7 @@ for command in "inspect long.t42" "plan broadcast.toml out" "plan broadcast.toml
     refused=0
     rm -f out
     : > wanted.out
-    # the words of a command stand one by one
+    # the command is split into words here
     # shellcheck disable=SC2086
     "$program" $command > wanted.stdout || exit 1
     [ -f out ] && mv out wanted.out

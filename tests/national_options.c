@@ -1,5 +1,5 @@
-/* Prints what libzvbi's teletext decoder shows of the character codes 20 to 7F under each national option: a line an option, with
- * the code points in the order of the codes. The region is Western Europe, libzvbi's 0. Where national_options.txt comes from:
+/* Prints what libzvbi's teletext decoder shows for the character codes 20 to 7F under each national option: one line for each option,
+ * with the code points in the order of the codes. The region is Western Europe, libzvbi's 0. national_options.txt was made with it:
  *
  *     cc national_options.c $(pkg-config --cflags --libs zvbi-0.2) && ./a.out */
 #include <libzvbi.h>
@@ -13,7 +13,7 @@ static unsigned char odd(unsigned char code) {
 }
 
 static void header(unsigned char *packet, int page, int option) {
-    /* C11 serial, and C12 to C14 from the upper bit of the option down: D1 is C11 */
+    /* C11: serial. C12 to C14: the option, upper bit first. D1 is C11. */
     int last = 1 | (option >> 2 & 1) << 1 | (option >> 1 & 1) << 2 | (option & 1) << 3;
     int numbers[10] = {1, 0, page % 16, page / 16, 0, 0, 0, 0, 0, last};
     for (int i = 0; i < 10; i++) packet[i] = WORDS[numbers[i]];

@@ -8,7 +8,7 @@ name=packed
 
 python3 "$top/tools/helpers.py" "$program" "$work" || fail "helpers.py: status $?"
 
-# the text of find, laid out where there is a groff
+# the man page of find, laid out if groff is installed
 if command -v groff > /dev/null; then
     groff -man -ww -Tutf8 "$work/ttx.1" > "$work/page" 2> "$work/said" || fail "the man page: groff, status $?"
     [ -s "$work/said" ] && fail "the man page: $(head -n 3 "$work/said")"
@@ -18,7 +18,7 @@ else
 fi
 grep -q 'Reads CYCLE and SERVICE, in this order' "$work/page" || fail "the man page: no text of find"
 
-# what bash offers after these words
+# the completions that bash offers after these words
 offered() {
     bash -c 'source "$1"; shift; COMP_WORDS=("$@"); COMP_CWORD=$(($# - 1)); compopt() { :; }; _ttx; echo "${COMPREPLY[@]}"' bash "$work/ttx.bash" "$@"
 }

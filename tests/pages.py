@@ -1,6 +1,7 @@
 #!/usr/bin/env python3
-"""Runs `pages` and `book` over the cycles of tests/data and over cycles of random slots. The lines of `pages` are those that a plain
-reader of its own tells; a book is XML, has each page but time-filling ones once and in this order, and its index leads to each.
+"""Runs `pages` and `book` over the cycles of tests/data and over cycles of random slots. The lines of `pages` are
+those of a plain reader in this script. A book must be XML and have each page except time-filling ones once, in this order, and its
+index must lead to each of them.
 
 usage: pages.py PROGRAM [COUNT]
 """
@@ -18,7 +19,7 @@ DATA = Path(__file__).resolve().parent / "data"
 
 
 def kind(slot):
-    """What a slot is, its magazine, and of a header its id, control bits and characters."""
+    """The kind of a slot, its magazine, and for a header its id, control bits and characters."""
     if not any(slot):
         return ("empty", 0)
     low, high = number(slot[0]), number(slot[1])
@@ -65,7 +66,7 @@ def page_name(page):
 
 
 def plain_pages(cycle):
-    """The lines of a cycle, and the names of the pages that a viewer can see."""
+    """The lines for a cycle, and the names of the pages that a viewer can see."""
     kinds = [kind(slot) for slot in cycle]
     owners, firsts, counts = {}, {}, Counter()
     for turn in range(2):
@@ -87,7 +88,7 @@ def plain_pages(cycle):
 
 
 def random_cycle(chance):
-    """Random slots, of which some are sent again and some are rows and X/27/0 of the eight magazines."""
+    """Random slots, some of them repeated, some of them rows and X/27/0 of the eight magazines."""
     cycle = [random_slot(chance) for _ in range(chance.randrange(1, 80))]
     for at in range(len(cycle)):
         other = chance.randrange(4)

@@ -1,5 +1,5 @@
-"""A plain certifier of small cycles, written apart from the program: the first reason against the certificate that names every sure
-start, and the least deadline with which that certificate is accepted. Pages hold letters and spaces alone, and no links."""
+"""A plain certifier for small cycles, independent of the program: the first reason against the certificate that names every sure
+start, and the least deadline with which that certificate is accepted. Pages have only letters and spaces, and no links."""
 from make_data import WORDS
 from plain_receiver import packet_in
 
@@ -25,7 +25,7 @@ def needed(page):
 
 
 class Sent:
-    """What a cycle sends of a page: where its headers and items are, and of each item how far back its header is and whether it is
+    """What a cycle sends of a page: the slots of its headers and items, and for each item how far back its header is and whether it is
     sure."""
 
     def __init__(self, cycle, page, lines):
@@ -62,7 +62,7 @@ class Sent:
 
 
 def contents_fault(cycle, sent, alone):
-    """The first reason for which what is sent of a page isn't the page, or nothing."""
+    """The first reason why what is sent of a page differs from the page, or None."""
     page = sent.page
     if not sent.headers:
         return "2 no-header", None
@@ -91,7 +91,7 @@ def page_name(page):
 
 
 def first_reason(cycle, pages, lines, repeat):
-    """The words of the first reason against the certificate that names every sure start, or nothing."""
+    """The words of the first reason against the certificate that names every sure start, or None."""
     for at, slot in enumerate(cycle):
         if not is_clean(slot):
             return f"1 bad-slot {at}"
@@ -108,7 +108,7 @@ def first_reason(cycle, pages, lines, repeat):
 
 
 def least_deadline(cycle, pages, lines, repeat):
-    """The least number of fields with which the certificate that names every sure start is accepted, where nothing is against it."""
+    """The least number of fields with which the certificate that names every sure start is accepted, if no other reason is against it."""
     slots = 1
     for page in pages:
         sent = Sent(cycle, page, lines)

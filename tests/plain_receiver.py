@@ -1,5 +1,5 @@
-"""A plain receiver of Level 1 pages, written apart from the program: what each slot says, what a permitted receiver makes of it by
-the choices of a script, and what is displayed where there are letters and spaces alone."""
+"""A plain receiver of Level 1 pages, independent of the program: the contents of each slot, what a permitted receiver with the choices of
+a script does with it, and what is displayed if there are only letters and spaces."""
 from make_data import WORDS
 
 SPACES = [32] * 40
@@ -15,7 +15,7 @@ def numbers_in(some):
 
 
 def packet_in(slot):
-    """What a slot says: its kind, its magazine, and what goes with the kind."""
+    """The contents of a slot: its kind, its magazine, and the fields of that kind."""
     address = numbers_in(slot[:2])
     if not any(slot) or address is None:
         return "nothing", 0, None
@@ -51,7 +51,7 @@ def store(held, received):
 
 
 class Receiver:
-    """Set to one page's id, its choices those of a script."""
+    """A receiver set to one page's id, with the choices of a script."""
 
     def __init__(self, counter, page):
         self.id, self.lines, self.script = page["id"], counter["lines"][0], list(counter["choices"][1:])
@@ -89,7 +89,7 @@ class Receiver:
 
 
 def shown(rows, control, six, row_24):
-    """What is displayed where there are letters and spaces alone, in the columns that are compared."""
+    """What is displayed in the columns that are compared, if there are only letters and spaces."""
     first = SPACES[:24] if control >> 3 & 1 else rows[0][8:32]
     middle = [SPACES if control >> 6 & 1 or (n == 24 and not row_24) else rows[n] for n in range(1, 25)]
     return first, middle, six

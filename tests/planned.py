@@ -1,14 +1,14 @@
 #!/usr/bin/env python3
-"""Runs the built program on services of one to eight magazines: what `plan` writes has a least deadline, and no smaller one.
+"""Runs the built program on services of one to eight magazines: the cycle of `plan` has a least deadline, and is refused with less.
 
 usage: planned.py PROGRAM
 
-The services are serial and parallel, with and without packet 8/30, of lines and pages drawn with a fixed seed: pages are sent
+The services are serial and parallel, with and without packet 8/30, with lines and pages drawn from a fixed seed. Pages are sent
 1, 2, 4 or 8 times a cycle, and some have subpages, blank rows, rows in double height, boxes, links, or a suppressed header.
-For both classes of receivers and repeat counts 1, 2 and 8: `find` on the plan ends with a deadline D, `certify` says yes to
-what it found, and no to the same with D - 1, where that is at least 1; and of the items of each page that `wait --items` tells,
-the first that needs the most is the page's. And parallel cycles of one to eight magazines are slot by slot those of a plain
-program of the rule of turns.
+For both classes of receivers and repeat counts 1, 2 and 8: `find` finds a deadline D for the plan, `certify` says yes to the
+certificate found, and no to the same with D - 1, if that is at least 1. Of the items of each page that `wait --items` lists, the first
+that needs the most is the page's. Parallel cycles of one to eight magazines are compared slot by slot with a plain program of the rule
+of turns.
 """
 import collections
 import itertools
@@ -39,7 +39,7 @@ def page(draw, number, sub):
 
 
 def service(draw, magazines, serial, info):
-    """The text of a service whose pages lie in so many magazines."""
+    """The text of a service with pages in this many magazines."""
     text = f"lines = {draw.choice([1, 2, 3, 8, 12, 16, 32])}\nserial = {'true' if serial else 'false'}\n"
     text += INFO if info else ""
     for magazine in sorted(draw.sample(range(1, 9), magazines)):
@@ -55,7 +55,7 @@ def run(program, *words):
 
 
 def wait_lines(program, *words):
-    """What `wait` tells of each page: its fields and item; and with `--items` the fields of its items, in their order."""
+    """For each page the fields and item that `wait` prints; with `--items` also the fields of its items, in order."""
     status, text = run(program, "wait", "cycle", "service", *words, "--items")
     assert status == 0, text
     pages, items = {}, {}
@@ -71,7 +71,7 @@ def wait_lines(program, *words):
 
 
 def wrong_items(program, kind, repeat):
-    """A page whose fields and item aren't those of the first of its items that need the most, or None."""
+    """A page whose fields and item differ from those of its first item that needs the most, or None."""
     pages, items = wait_lines(program, "--repeat", str(repeat), "--class", kind)
     for page, told in pages.items():
         if told != max(items[page], key=lambda one: one[0]):
@@ -80,7 +80,7 @@ def wrong_items(program, kind, repeat):
 
 
 def wrong(program, kind, repeat):
-    """What is wrong with what is found for a planned cycle, or None."""
+    """What is wrong with the certificate found for a planned cycle, or None."""
     status, line = run(program, "find", "cycle", "service", "cert", "--repeat", str(repeat), "--class", kind)
     if status != 0 or not line.startswith("found deadline "):
         return f"find: {status} {line}"
@@ -100,7 +100,7 @@ def wrong(program, kind, repeat):
 
 
 def failures(program, name, kind):
-    """Plans the service for a class, and looks at what is found for each repeat count."""
+    """Plans the service for a class, and checks what `find` finds for each repeat count."""
     status, line = run(program, "plan", "service", "cycle", "--class", kind)
     if status != 0 or not line.startswith("planned "):
         return [f"{name}, class {kind}: plan: {status} {line}"]
@@ -134,9 +134,9 @@ def packets(magazine):
 
 
 def by_turns(lines, most):
-    """The slots of the cycle. It is the turn of the first magazine that has a packet left which doesn't wait, looked for rising
-    from the one after the magazine that sent last; a row, or X/27/0, waits while one of the last slots of a field has a page
-    header of its magazine. Packet 8/30 stands at each multiple of 50 fields."""
+    """The slots of the cycle. The next magazine to send is the first one with a packet left that need not wait, in rising order round from
+    the one after the magazine that sent last. A row or X/27/0 waits while one of the last `lines` slots has a page header of its
+    magazine. Packet 8/30 is sent at each multiple of 50 fields."""
     left = {magazine: packets(magazine) for magazine in range(1, most + 1)}
     slots, latest, headed = [], 0, {}
     while any(left.values()):
@@ -160,7 +160,7 @@ def by_turns(lines, most):
 
 
 def wrong_turns(program, lines, most):
-    """The first slot of such a cycle that isn't as the rule has it, or None."""
+    """The first slot of such a cycle that breaks the rule, or None."""
     with open("service", "w", encoding="ascii") as file:
         file.write(parallel_text(lines, most))
     run(program, "plan", "service", "cycle")

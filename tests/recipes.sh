@@ -1,12 +1,12 @@
 #!/bin/sh
-# Runs each block of docs/RECIPES.md over the shipped example, as it stands there.
+# Runs each block of docs/RECIPES.md word for word, on the shipped example.
 #
 # usage: recipes.sh PROGRAM
 set -u
 . "$(dirname "$0")/workplace.sh"
 mkdir "$work/bin" "$work/blocks" "$work/news"
 ln -s "$program" "$work/bin/ttx"
-# a sender that counts what it is given
+# a sender that counts the bytes it gets
 printf '#!/bin/sh\nwc -c\n' > "$work/bin/sender"
 chmod +x "$work/bin/sender"
 PATH=$work/bin:$PATH
@@ -19,7 +19,7 @@ count=0
 name=blocks
 [ "$(find "$work/blocks" -type f | wc -l)" = 10 ] || fail "docs/RECIPES.md has other blocks than these ten"
 
-# a block of the document, and what it has to print
+# runs a block of the document; its output must be the second argument
 expect() {
     name="recipe $1"
     count=$((count + 1))
@@ -31,7 +31,7 @@ name="recipe 1"
 count=$((count + 1))
 make -s -f "$work/blocks/1" > /dev/null || fail "make fails"
 cut -d ' ' -f 1 news.yes | grep -qx yes || fail "no verdict"
-# a service that is refused leaves what there is
+# after a refused service the old files are still there
 cp news.t42 kept
 echo 'serial' >> news.toml
 make -s -f "$work/blocks/1" > /dev/null 2>&1 && fail "make goes on"
@@ -53,7 +53,7 @@ name="recipe 4"
 count=$((count + 1))
 sh "$work/blocks/4" > "$work/printed" 2>&1 || fail "status $?"
 [ "$(grep -cE '^all [0-9]+ fields [0-9]+\.[0-9]{2} s$' "$work/printed")" = 2 ] || fail "$(cat "$work/printed")"
-# what wait tells for all pages, find finds
+# `wait` prints for all pages the deadline that `find` finds
 for way in serial parallel; do
     deadline=$("$program" find $way.t42 $way.toml $way.cert)
     grep -q "^all ${deadline#found deadline } fields " "$work/printed" || fail "$way: $deadline"
@@ -73,7 +73,7 @@ for recipe in 7 8; do
 done
 # the deadline of the carousel is the same for the service that it was planned for
 [ "$(sed -n 2p "$work/printed-8")" = "$("$program" find news.t42 news.toml heard.cert)" ] || fail "$(cat "$work/printed-8")"
-# on the air: the change is made ready while the second shift is sent, and the third one is the last
+# on the air: the change is prepared while the second shift is sent, and the third shift is the last
 count=$((count + 2))
 name="recipes 9 and 10"
 sed 's/0001Storm /0003Sunny /' news.toml > tomorrow.toml
@@ -98,7 +98,7 @@ assert len(aired) == 3 * shift, len(aired)
 text = bytes(b & 0x7f for b in aired)
 for at, here, gone in (0, b"\x01Storm ", b"\x03Sunny "), (shift, b"\x01Storm ", b"\x03Sunny "), (2 * shift, b"\x03Sunny ", b"\x01Storm "):
     assert here in text[at:at + shift] and gone not in text[at:at + shift], at
-# slot 1 is a page header: its clock goes on by as many seconds as the period has fields
+# slot 1 is a page header: its clock advances by as many seconds as the period has fields
 clocks = [text[at + 42 + 34:at + 42 + 42].split(b":") for at in range(0, 3 * shift, shift)]
 seconds = [int(h) * 3600 + int(m) * 60 + int(s) for h, m, s in clocks]
 assert [(b - a) % 86400 for a, b in zip(seconds, seconds[1:])] == [slots // 12] * 2, clocks
@@ -110,7 +110,7 @@ sh "$work/blocks/6" 2> /dev/null | grep -qx "not accepted, for the reason above:
 rm news.t42
 sh "$work/blocks/6" 2> /dev/null | grep -qx "nothing was judged" || fail "a fault isn't told"
 
-# an input by another name, or as standard input, is left alone
+# an input under another name, or as standard input, is not overwritten
 cp "$top/tests/data/base.toml" same.toml
 ln same.toml linked.toml
 ln -s same.toml named.toml

@@ -1,13 +1,13 @@
 #!/usr/bin/env python3
-"""Runs the built program while one of its calls of the C library is refused: each growth in turn, and each read and each write, in
-pieces of some bytes. Then it ends with `fault: memory`, `fault: read` or `fault: write`, and with no byte written except the first
-ones of what it was to write. Where a growth is refused it may also do what it does otherwise, but not at each growth of a command:
-one at least ends in `fault: memory`. A command that makes no growth, no read or no write fails the test, except where it is said.
+"""Runs the built program while one of its calls of the C library fails: each allocation in turn, and each read and each write, in pieces of
+some bytes. Then the program must end with `fault: memory`, `fault: read` or `fault: write`, and have written only the first bytes of its
+usual output. After a failed allocation it may also do what it does otherwise, but at least one allocation of each command must end in
+`fault: memory`. A command without any allocation, read or write fails the test, except where the table below says so.
 
 usage: refused_calls.py PROGRAM
 
-The calls are refused by refusing.c, which is built with the clang of the kit that `rt` belongs to and loaded before the program. It
-runs a command as often as it is asked to, each time from the begin of main, in a process of its own.
+refusing.c makes the calls fail. It is built with the clang of the kit that `rt` belongs to, and loaded before the program. It runs a
+command as often as needed, each time from the beginning of main, in a process of its own.
 """
 import os
 import shutil
@@ -23,10 +23,10 @@ from make_data import counter  # noqa: E402
 TOP = Path(__file__).resolve().parent.parent
 PIECES = (1, 7, 41, 42, 43)
 
-# what reads no file
+# commands that read no file
 WITHOUT_READS = {"version"}
 
-# words, and whether their growths alone are refused
+# words, and whether only their allocations are made to fail
 COMMANDS = [
     ("inspect small.t42", False),
     ("plan small.toml out", False),
@@ -100,7 +100,7 @@ def make_inputs(folder):
 
 
 class Runs:
-    """Runs of one command, with what it does when nothing is refused."""
+    """Runs of one command, and what it does when no call fails."""
 
     def __init__(self, program, folder, words):
         self.folder, self.words, self.made = folder, words, 0
@@ -121,7 +121,7 @@ class Runs:
         return status, *told, out.read_bytes() if out.exists() else b""
 
     def counted(self, **calls):
-        """The same, and how many growths, reads and writes there were."""
+        """The same, and how many allocations, reads and writes there were."""
         answer = self.run(counted=1, **calls)
         return answer, [int(count) for count in (self.folder / "counts").read_text().split()]
 
@@ -135,7 +135,7 @@ class Runs:
             self.failures.append(f"{self.words}, {call}: status {answer[0]}, {answer[1][:80]!r}, {answer[2][:80]!r}, OUT of {len(answer[3])} bytes")
 
     def refuse_growths(self):
-        """How many growths there are, and how many of them, refused, end in want of memory."""
+        """How many allocations there are, and how many of them end in `fault: memory` when they fail."""
         ample, (growths, _, _) = self.counted()
         told = 0
         for n in range(1, growths + 2):
@@ -175,7 +175,7 @@ def build(folder):
 
 
 def refuse_all(program, folder, words, growths_alone):
-    """All runs of one command in a folder of its own, and how many growths, answers of want of memory, reads and writes there were."""
+    """All runs of one command in a folder of its own: how many allocations, `fault: memory` answers, reads and writes there were."""
     runs = Runs(program, folder, words)
     growths, told = runs.refuse_growths()
     ample = runs.run()

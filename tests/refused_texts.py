@@ -1,5 +1,5 @@
 #!/usr/bin/env python3
-"""Gives the built program texts with one mistake each, and compares the line by which it refuses them, or what it makes of them.
+"""Gives the built program texts with one mistake each, and compares the line with which it refuses them, or what it does with them.
 
 usage: refused_texts.py PROGRAM
 
@@ -81,11 +81,11 @@ CERTIFICATES = [
 
 
 def subpages(count):
-    """A service of so many subpages of page 100."""
+    """A service with this many subpages of page 100."""
     return HEAD + "".join(f'[[page]]\nnumber = "100"\nsub = "{n // 128:02X}{n % 128:02X}"\n' for n in range(count))
 
 
-# services, further words of `plan`, and its line: as many pages as fit
+# services, further words of `plan`, and its line: the largest number of pages that fits
 PLANS = [
     (HEAD, "", "refused: plan 1 no-pages"),
     (HEAD, "--late", "refused: plan 1 no-pages"),
@@ -97,8 +97,8 @@ PLANS = [
 
 
 def fails(done, line, out):
-    """What is wrong with how it ends: a refusal is told on standard error, with status 2, and leaves OUT empty or not made; else the
-    line is told on standard output, and OUT holds as many slots as it says."""
+    """What is wrong with the result. A refusal goes to standard error, with status 2, and OUT is empty or not made. Otherwise the line goes
+    to standard output, and OUT has as many slots as it says."""
     if line.startswith("refused: "):
         wanted, size = (2, "", f"{line}\n"), 0
     else:
@@ -108,7 +108,7 @@ def fails(done, line, out):
 
 
 def cases():
-    """Words, the text that stands in the file `text`, and the line."""
+    """Words, the contents of the file `text`, and the line."""
     services = [(text, f"{fault} page 0") for text, fault in SERVICES]
     for front, page in ((FIRST, 1), (SECOND, 2)):
         services += [(front + keys, f"{fault} page {page}") for keys, fault in PAGES]

@@ -1,19 +1,19 @@
-/* Loaded before the program (LD_PRELOAD): it runs the program again and again, and in each run one growth is refused, one read or
- * write fails, or all of them move few bytes.
+/* Loaded before the program (LD_PRELOAD). Runs the program again and again; in each run one allocation fails, one read or write fails, or
+ * all reads and writes move only few bytes.
  *
- * It takes orders from standard input, a line of five numbers each:
+ * It reads orders from standard input, each a line of five numbers:
  *
  *   GROWTH    this call of malloc, calloc, realloc, aligned_alloc, memalign and posix_memalign, counted from 1 when main begins,
- *             answers no memory (0: none)
+ *             returns no memory (0: none)
  *   READ      this call of read fails (0: none)
  *   WRITE     this call of write fails (0: none)
- *   PIECE     reads and writes move at most so many bytes a call (0: as many as they are asked to)
- *   COUNTED   not 0: at the end the file counts holds how many growths, reads and writes there were
+ *   PIECE     each read and write moves at most this many bytes (0: as many as asked for)
+ *   COUNTED   not 0: at the end the file `counts` has the numbers of allocations, reads and writes
  *
- * For each the program runs once, from the begin of main, with nothing on standard input and with standard output and standard error
- * in the files stdout and stderr. Then its status, as wait gives it, goes to standard output in a line.
+ * For each order the program runs once, from the beginning of main, with empty standard input, and with standard output and standard
+ * error in the files stdout and stderr. Then its status, as wait returns it, is printed as a line.
  *
- * It needs no header, so that a compiler alone builds it. */
+ * It includes no header, so a compiler alone is enough to build it. */
 typedef unsigned long size;
 
 extern void *__libc_malloc(size);
@@ -39,7 +39,7 @@ static int begun;
 static unsigned long piece, counted;
 static struct calls growths, reads, writes;
 
-/* The number at a place of a line; the place is then behind it. */
+/* The number at a place of a line. Moves the place past the number. */
 static unsigned long number(const char **at) {
     unsigned long n = 0;
     while (**at == ' ') ++*at;
@@ -76,7 +76,7 @@ static void begin(const char *order) {
     begun = 1;
 }
 
-/* Comes back in the process of each run, and nowhere else. */
+/* Returns only in the process of a run, once for each run. */
 __attribute__((constructor)) static void serve(void) {
     char order[120], answer[24];
     for (;;) {
@@ -102,7 +102,7 @@ __attribute__((destructor)) static void tell(void) {
     syscall(CLOSE, file);
 }
 
-/* Whether this call is the one. */
+/* Whether this call is the one that fails. */
 static int is_refused(struct calls *calls, int error) {
     if (!begun || ++calls->made != calls->at) return 0;
     *__errno_location() = error;

@@ -1,12 +1,12 @@
 #!/usr/bin/env python3
-"""Runs find and refute of the built program over small generated cycles, and judges what they say by a plain receiver of its own.
+"""Runs find and refute of the built program over small generated cycles, and checks the answers with a plain receiver.
 
 usage: refute.py PROGRAM [CASES]
 
-What find says, a deadline or a reason, is what the plain certifier of tests/plain_certifier.py says.
-With the deadline of find there is no counter-run, with one field less there is one. Where find finds nothing and each slot is clean
-and each page sent unchanged, there is one. Each counter-run is replayed: its wrong bits keep the error rule, and what is then shown
-isn't the page; and so says replay, row by row. Pages hold letters and spaces alone, so that what is shown is what is held.
+The answer of find, a deadline or a reason, must be that of the plain certifier of tests/plain_certifier.py. With the deadline of find
+there is no counter-run, with one field less there is one. If find finds nothing, each slot is clean and each page is sent unchanged,
+there is one. Each counter-run is replayed: its wrong bits keep the error rule, what is then shown is not the page, and replay says the
+same, row by row. Pages have only letters and spaces, so what is shown is what is held.
 """
 import random
 import re
@@ -47,7 +47,7 @@ def owners(cycle, mag):
 
 
 def wrong_of(counter, cycle, page):
-    """Why it is no counter-run, or nothing."""
+    """Why it is not a counter-run, or None."""
     lines, repeat, deadline = (counter[word][0] for word in ("lines", "repeat", "deadline"))
     start, slots, places = counter["start"][0], counter["slots"][0], counter["hits"][1:]
     hits = [tuple(places[i : i + 3]) for i in range(0, len(places), 3)]
@@ -91,7 +91,7 @@ def link_name(link):
 
 
 def unlike(held, own):
-    """What a replay has to tell: the rows and links that differ, with what is compared of them."""
+    """What a replay has to print: the rows and links that differ, with the compared parts."""
     told = []
     for number, both in enumerate(zip([held[0], *held[1]], [own[0], *own[1]])):
         if both[0] != both[1]:
@@ -103,7 +103,7 @@ def unlike(held, own):
 
 
 def replayed(line):
-    """A line of a replay: what it is of, and what is compared of it."""
+    """A line of a replay: its row or links, and the compared part."""
     words = line.split()
     if words[1] == "links":
         return " ".join(words[:2]), words[2:]
@@ -111,7 +111,7 @@ def replayed(line):
 
 
 def replay_fails(program, names, line, counter, cycle, page):
-    """What is wrong with what replay says of a counter-run, or nothing."""
+    """What is wrong with the output of replay for a counter-run, or None."""
     start, slots, places = counter["start"][0], counter["slots"][0], counter["hits"][1:]
     hits = [tuple(places[i : i + 3]) for i in range(0, len(places), 3)]
     received = [cycle[(start + i) % len(cycle)] for i in range(slots)]
@@ -152,7 +152,7 @@ def some_text(rng, size):
 
 
 def made(rng):
-    """A service's text, its pages, and a cycle that sends them more or less well."""
+    """The text of a service, its pages, and a cycle that sends them, more or less well."""
     lines, serial = rng.choice([1, 1, 2, 3]), rng.random() < 0.5
     text, pages = f"lines = {lines}\nserial = {str(serial).lower()}\n", []
     for mag in rng.choice([(1,), (1,), (1, 2), (1, 1)]):
@@ -193,7 +193,7 @@ def block(rng, lines, serial, page):
 
 
 def spoiled(rng, cycle):
-    """The cycle with something done to it that a head-end may do."""
+    """The cycle after a mistake that a head-end may make."""
     cycle, at = list(cycle), rng.randrange(len(cycle))
     what = rng.randrange(6)
     if what == 0:
@@ -201,7 +201,7 @@ def spoiled(rng, cycle):
     elif what == 1:
         slot, place = bytearray(cycle[at]), rng.randrange(42)
         slot[place] ^= 1 << rng.randrange(8)
-        # one wrong bit in an empty slot, or a second one in a byte of text, would make a character that may be no letter
+        # one wrong bit in an empty slot, or a second one in a text byte, could make a character that is not a letter
         text = {"header": 10, "row": 2}.get(packet_in(bytes(slot))[0], 42)
         cycle[at] = cycle[at] if place >= text and bin(slot[place]).count("1") % 2 else bytes(slot)
     elif what == 2:
@@ -225,7 +225,7 @@ def certificate(lines, repeat, deadline):
 
 
 def refuted(program, folder, case, repeat, deadline):
-    """What refute says with these numbers; a counter-run is replayed."""
+    """The answer of refute with these numbers; a counter-run is replayed."""
     _, pages, cycle, lines = case
     (folder / "numbers.cert").write_text(certificate(lines, repeat, deadline))
     names = [str(folder / name) for name in ("cycle.t42", "service.toml", "numbers.cert")]
@@ -245,14 +245,14 @@ def refuted(program, folder, case, repeat, deadline):
 
 
 def short_is_one(program, names, folder, text, least):
-    """What is wrong with what replay says of the same run with a slot too few, or nothing."""
+    """What is wrong with the output of replay for the same run with one slot too few, or None."""
     (folder / "short").write_text(re.sub("(?m)^slots .*$", f"slots {least - 1}", text))
     told = run(program, "replay", *names[:2], str(folder / "short"))
     return None if told == (1, "not a counter-run", "") else f"replay of too few slots says {told}"
 
 
 def judged(program, folder, case, repeat):
-    """What fails of a case, and of what kind it is."""
+    """What fails in a case, and the kind of the case."""
     text, pages, cycle, lines = case
     (folder / "cycle.t42").write_bytes(b"".join(cycle))
     (folder / "service.toml").write_text(text)

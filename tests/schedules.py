@@ -1,10 +1,10 @@
 #!/usr/bin/env python3
-"""What a schedule of editions sends is seen: 500 random schedules, each change of which the program accepts and each of whose editions
-lasts a deadline at least, received from random slots, out of random memories, by plain receivers with random choices and with errors
-within the error rule. From the deadline on, and as long as a page stays, it is displayed as its service has it.
+"""Checks that the pages of a schedule of editions are seen: 500 random schedules, in which the program accepts each change and each edition
+lasts at least a deadline, received from random slots, with random former memories, by plain receivers with random choices and with errors
+within the error rule. From the deadline on, and as long as a page stays, it must be displayed as its service has it.
 
-Where an edition lasts one period alone, though both changes are accepted, some pages are missed: the hold can't be dropped. One such
-schedule is shown slot by slot, and others are looked for.
+If an edition lasts only one period, some pages are missed even though both changes are accepted, so the hold is needed. One such schedule
+is laid out slot by slot, and others are searched for.
 
 usage: schedules.py PROGRAM
 """
@@ -69,7 +69,7 @@ class Family:
             self.least[edition] = int(answer[2])
 
     def grow(self, rng):
-        """Random editions, of which those stay that keep to the deadline of the middle one."""
+        """Random editions; those that keep to the deadline of the middle one are kept."""
         while len(self.least) < EDITIONS:
             letters = "".join(rng.choice("HKFEKEHKEGK") for _ in range(rng.randrange(4, 11)))
             if "H" in letters and "K" in letters:
@@ -78,7 +78,7 @@ class Family:
         self.least = {e: least for e, least in self.least.items() if least <= self.deadline}
 
     def verdict(self, old, new):
-        """What the program says of the change; the certificates have the deadline of the family."""
+        """The program's verdict on the change; the certificates have the deadline of the family."""
         if (old, new) not in self.known:
             for edition in (old, new):
                 text = (self.folder / f"{edition.name}.cert").read_text().split("\n")
@@ -89,7 +89,7 @@ class Family:
         return self.known[old, new]
 
     def schedule(self, rng, count, periods):
-        """A random schedule of at most so many editions, each change accepted, or None."""
+        """A random schedule of at most this many editions with accepted changes, or None."""
         editions = [rng.choice(list(self.least))]
         while len(editions) < count:
             after = [e for e in self.least if e is not editions[-1] and self.verdict(editions[-1], e) == "yes\n"]
@@ -117,7 +117,7 @@ class Schedule:
         return slots[(at - (self.begins[n] or 0)) % len(slots)]
 
     def stays(self, page, n):
-        """The first and the last of the editions round this one in which the page stands alike."""
+        """The first and the last of the successive editions around this one that have the same page."""
         alike = lambda i: self.editions[i].pages.get(page) == self.editions[n].pages[page]
         low = high = n
         while low > 0 and alike(low - 1):
@@ -127,12 +127,12 @@ class Schedule:
         return low, high
 
     def end(self, n):
-        """Where the next edition begins, or far on."""
+        """The first slot of the next edition, or a slot far away."""
         return self.begins[n + 1] if n + 1 < len(self.editions) else (self.begins[-1] or 0) + 5 * self.family.limit
 
 
 class Errors:
-    """What becomes of slots on the way: at most one wrong bit in a byte, and of a text's successive transmissions one in K is right."""
+    """Errors on the way: at most one wrong bit in a byte, and of K successive transmissions of a text at least one is right."""
 
     def __init__(self, rng, repeat):
         self.rng, self.repeat, self.owner, self.wrong = rng, repeat, {}, {}
@@ -166,12 +166,12 @@ def receiver(rng, lines, page, choices):
 
 
 def displays(told, text):
-    """Whether the page is displayed: its text in row 0, rows that aren't shown, no links."""
+    """Whether the page is displayed: its text in row 0, no other rows, no links."""
     return shown(told.rows, told.control, told.six, told.row_24) == ([*text.encode().ljust(24)], [SPACES] * 24, [None] * 6)
 
 
 def misses(schedule, page, n, tau, told, errors):
-    """How many slots long the page isn't displayed, from the deadline on and as long as it stays; None where it has no such slot."""
+    """For how many slots the page is not displayed, from the deadline on and as long as it stays; None if there is no such slot."""
     first, last = schedule.stays(page, n)
     begin = tau if first == 0 else max(tau, schedule.begins[first])
     end, missed = begin + schedule.family.limit, 0
@@ -184,7 +184,7 @@ def misses(schedule, page, n, tau, told, errors):
 
 
 def held_misses(rng, schedule):
-    """Receptions of a schedule that keeps the hold: how many there were, and how many of them missed a page."""
+    """Receptions of a schedule that keeps the hold: their number, and how many of them missed a page."""
     heard = missed = 0
     family = schedule.family
     for _ in range(12):
@@ -199,7 +199,7 @@ def held_misses(rng, schedule):
 
 
 def short_misses(rng, schedule):
-    """The same of a schedule whose middle editions last one period, from each slot, by receivers that miss what they may."""
+    """The same for a schedule whose middle editions last one period, from each slot, with receivers that miss what they may."""
     family, missed = schedule.family, 0
     for page, text in schedule.editions[0].pages.items():
         if schedule.stays(page, 0)[1] == len(schedule.editions) - 1 and text:
@@ -210,11 +210,11 @@ def short_misses(rng, schedule):
 
 
 def worked_example(program, folder):
-    """One line a field, a deadline of 9 fields, so 9 slots. The links are sent two slots or more after the header that they belong to.
+    """One line in a field, and a deadline of 9 fields, so 9 slots. Links are sent at least two slots after their header.
 
-    Slot 0 is the first of the middle edition, of 5 slots, which is sent once. Whoever tunes in at slot -1 hears K of the first edition,
-    E K F K H of the middle one and H E E of the last one: no K comes after a header of the page before slot 8, and the deadline ends with
-    slot 7. Where the middle edition is sent twice, its K of slot 6 comes in time.
+    Slot 0 is the first of the middle edition, which has 5 slots and is sent once. A receiver that is tuned at slot -1 gets K of the first
+    edition, E K F K H of the middle one and H E E of the last one. No K comes after a header of the page before slot 8, but the deadline
+    ends with slot 7. If the middle edition is sent twice, its K in slot 6 comes in time.
     """
     editions = [Edition(letters, 0) for letters in ("HEEKHK", "EKFKH", "HEEKHK")]
     family = Family(program, folder, 1, 1, editions, 9)

@@ -1,7 +1,7 @@
 #!/usr/bin/env python3
-"""Runs `send` over cycles of random slots, and compares what goes out with what a plain sender of its own makes of them, byte for
-byte: damaged page headers, packets 8/30 of all designations, phases up to 2^32 - 1, midnight, and the last date of five digits.
-Then 100,000 fields of the shipped example, over midnight, of which `receive` and `show` tell the right clock.
+"""Runs `send` over cycles of random slots, and compares its output byte for byte with that of a plain sender in this script: damaged page
+headers, packets 8/30 of all designations, phases up to 2^32 - 1, midnight, and the last date with five digits. Then sends 100,000 fields
+of the shipped example, over midnight, and checks the clock that `receive` and `show` show.
 
 usage: sent.py PROGRAM [COUNT]
 """
@@ -16,7 +16,7 @@ WORDS = [0x15, 0x02, 0x49, 0x5E, 0x64, 0x73, 0x38, 0x2F, 0xD0, 0xC7, 0x8C, 0x9B,
 
 
 def number(byte):
-    """The number that a byte reads as, with at most one wrong bit."""
+    """The number in a byte, with at most one wrong bit."""
     for n, word in enumerate(WORDS):
         if bin(word ^ byte).count("1") <= 1:
             return n
@@ -28,7 +28,7 @@ def odd(code):
 
 
 def digits(value, count):
-    """Decimal digits, each plus one, two to a byte (EN 300 706, 9.8.1)."""
+    """Decimal digits, each plus one, two in a byte (EN 300 706, 9.8.1)."""
     text = [int(c) + 1 for c in str(value).zfill(count)]
     if count % 2:
         text = [0] + text
@@ -36,7 +36,7 @@ def digits(value, count):
 
 
 def timed(slot, mjd, second, ahead):
-    """The slot as it is sent at a moment."""
+    """The slot as it is sent at a given time."""
     low, high = number(slot[0]), number(slot[1])
     if not any(slot) or low is None or high is None:
         return slot
@@ -71,7 +71,7 @@ def random_slot(chance):
 
 
 def clock_at_end(stream, lines, second):
-    """The clock of the last header of page 100, by the field in which it stands."""
+    """The clock of the last header of page 100, from the field in which it is sent."""
     for at in range(len(stream) // 42 - 1, -1, -1):
         if bytes(stream[42 * at : 42 * at + 8]) == bytes(WORDS[n] for n in (1, 0, 0, 0, 0, 0, 0, 0)):
             now = (second + at // lines // 50) % 86400
@@ -80,7 +80,7 @@ def clock_at_end(stream, lines, second):
 
 
 def long_sending(program, folder):
-    """What is wrong with the clock that is shown at the end of 100,000 fields, or nothing."""
+    """What is wrong with the clock shown after 100,000 fields, or None."""
     lines, second, kept = 12, 23 * 3600 + 40 * 60, 5400
     service = Path(__file__).resolve().parent.parent / "examples/broadcast.toml"
     subprocess.run([program, "plan", service, folder / "news.t42", "--late"], capture_output=True, check=True)

@@ -1,5 +1,6 @@
 #!/bin/sh
-# Whether what lies beside the program agrees with it: the test data, the pictures, the demo, the recipes, the logic that `version` names.
+# Checks that what is shipped with the program agrees with it: the test data, the pictures, the demo, the recipes, and the logic that
+# `version` names.
 #
 # usage: shipped.sh PROGRAM
 set -u
@@ -21,7 +22,7 @@ name=recipes
 sh "$here/recipes.sh" "$program" > "$work/recipes" 2>&1 || fail "$(tail -n 3 "$work/recipes")"
 
 name=logic
-# a kit of another name may have the same logic
+# a kit with another name may have the same logic
 logic=$("$program" version | sed -n 's/^logic //p')
 [ -n "$logic" ] || fail "version names no logic"
 rt version | head -n 1 | grep -q " logic $logic$" || fail "it is proved by another logic, or there is no rt"

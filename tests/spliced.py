@@ -1,8 +1,8 @@
 #!/usr/bin/env python3
-"""What is spliced is seen: pairs of cycles that the program accepts as a splice are joined, and received around the change from every
-slot of a period on either side, by each kind of receiver that the program has, out of a memory full of another page, and with errors
-within the error rule; and by plain receivers that take their choices from scripts, out of memories of any kind. At the deadline and
-later the page is displayed as from its own cycle, the header clock aside.
+"""Checks that the pages of a splice are seen: pairs of cycles that the program accepts as a splice are joined, and received around the change
+from every slot of a period on either side, by each kind of receiver that the program has, with a former memory full of another page, and
+with errors within the error rule; and by plain receivers with scripts, with former memories of any kind. At the deadline and later the
+page must be displayed as from its own cycle, ignoring the header clock.
 
 usage: spliced.py PROGRAM
 """
@@ -22,7 +22,7 @@ EMPTY = bytes(42)
 LINES = 2
 KINDS = ("eager", "careful", "cleared")
 
-# old and new cycle with the slots by which each is turned, repeat, deadline
+# the old and the new cycle, each with the slots by which it is turned; repeat; deadline
 PAIRS = [
     ("base", 0, "base", 0, 1, 27), ("base", 0, "base", 10, 1, 36), ("base", 10, "base", 0, 1, 54), ("base", 5, "base", 5, 1, 27),
     ("base", 0, "base", 27, 1, 54), ("base", 27, "base", 1, 1, 54), ("base", 13, "base", 20, 1, 54), ("base", 0, "base", 0, 2, 41),
@@ -38,13 +38,13 @@ def slots_of(name, turn):
 
 
 def is_text(slot, at):
-    """Whether the byte is text, of which one in so many successive transmissions is received right."""
+    """Whether the byte is a text byte, for which the repeat count holds."""
     number = WORDS.index(slot[0]) // 8 + 2 * WORDS.index(slot[1])
     return 10 <= at < 34 if number == 0 else number < 25 and at >= 2
 
 
 def with_errors(slot, text_is_right):
-    """One wrong bit in each byte, but for text where it is to be right."""
+    """One wrong bit in each byte, except in text bytes that must be right."""
     if slot == EMPTY:
         return slot
     wrong = (byte ^ 1 << at % 8 for at, byte in enumerate(slot))
@@ -52,7 +52,7 @@ def with_errors(slot, text_is_right):
 
 
 def full_page(page):
-    """A page of 7F in all places, whose transmission goes on."""
+    """A memory with 7F at all places, which is storing."""
     address = lambda number: bytes([WORDS[1 + 8 * (number % 2)], WORDS[number // 2]])
     head = address(0) + bytes(WORDS[n] for n in (page % 16, page // 16, 0, 0, 0, 0, 8, 15))
     link = bytes(WORDS[n] for n in (0, 0, 15, 7, 15, 3))
@@ -62,7 +62,7 @@ def full_page(page):
 
 
 def scripted(rng, page):
-    """A receiver set to the page, its former memory and its choices by chance."""
+    """A receiver set to the page, with a random former memory and random choices."""
     links = [rng.choice([(0, 0, 0), (1, rng.randrange(255), 0)]) for _ in range(6)]
     former = {
         "lines": [LINES], "rows": [[rng.choice((32, 65, 90)) for _ in range(40)] for _ in range(25)], "control": [rng.randrange(1024) << 1],
@@ -77,7 +77,7 @@ def displayed(receiver):
 
 
 class Spliced:
-    """A pair that is accepted, and what is received of it."""
+    """An accepted pair, and what is received of it."""
 
     def __init__(self, program, folder, pair):
         self.program, self.folder = program, folder
@@ -96,19 +96,19 @@ class Spliced:
         self.verdict = self.run("splice", "old.t42", "new.t42", *words, "old.cert", "new.cert")
 
     def run(self, *words):
-        """What the program prints; a status or an error ends the test."""
+        """What the program prints. A status other than 0 or an error ends the test."""
         done = subprocess.run([self.program, *words], cwd=self.folder, capture_output=True, text=True, check=False)
         if done.returncode or done.stderr:
             sys.exit(f"FAILED {self.names}: {' '.join(map(str, words))}: status {done.returncode}, {done.stdout[:80]!r} {done.stderr[:200]!r}")
         return done.stdout
 
     def sent(self, at):
-        """The slot of the joined stream; of two transmissions of a text byte every other one is right."""
+        """A slot of the joined stream; every other transmission of a text byte is right."""
         side = self.new if at >= 0 else self.old
         return with_errors(side[at % len(side)], self.repeat == 1 or at // len(side) % 2 == 0)
 
     def view(self, name, page, slots, kind):
-        """What is displayed after so many slots, without the receiver's own columns and the clock."""
+        """What is displayed after this many slots, without the receiver's own columns and the clock."""
         lines = self.run("receive", name, page, "--lines", str(LINES), "--slots", str(slots), "--kind", kind).splitlines()
         if [line.split(" ")[0] for line in lines] != ["row"] * 25 + ["links"]:
             sys.exit(f"FAILED {self.names}: receive {page} prints {lines[:2]}")
@@ -116,19 +116,19 @@ class Spliced:
         return [first[:2] + first[10:34], *lines[1:]]
 
     def misses(self, page, wanted, tuning, begin):
-        """How often the page isn't displayed, at the deadline after slot `begin` and later."""
+        """How often the page is not displayed, at the deadline after slot `begin` and later."""
         last = begin + self.deadline * LINES + 17
         ends = (last - 17 - tuning, last - tuning)
         full = full_page(int(page[1:], 16))
         missed = 0
-        # rows are stored when it is tuned, or not until a header of the page comes
+        # the receiver is storing when it is tuned, or not until a header of the page comes
         for former in (full, [*full, *full_page(0xFE)[:1]]):
             (self.folder / "joined.t42").write_bytes(b"".join([*former, *(self.sent(at) for at in range(tuning, last))]))
             missed += sum(self.view("joined.t42", page, len(former) + n, kind) != wanted for kind in KINDS for n in ends)
         return missed
 
     def scripted_misses(self, page, tuning, begin):
-        """The same of three receivers with scripts, after each slot from the deadline on."""
+        """The same for three receivers with scripts, after each slot from the deadline on."""
         own = scripted(random.Random(0), page)
         for at in range(3 * len(self.new)):
             own.hear(self.new[at % len(self.new)])

@@ -1,6 +1,6 @@
 #!/bin/sh
-# Runs the loop of docs/SPLICES.md, word by word, over the worked page 100: the old cycle, and the same cycle turned by ten slots as the
-# new one. With the deadline of the cycle alone it ends at the turn that goes on where the old period ended.
+# Runs the loop of docs/SPLICES.md word for word on the worked page 100: the old cycle, and as the new one the same cycle turned by ten
+# slots. With the deadline of the cycle alone, it ends at the turn that continues where the old period ended.
 #
 # usage: turns.sh PROGRAM
 set -u
@@ -15,7 +15,7 @@ cp "$top/tests/data/base.cert" old.cert
 ttx() { "$program" "$@"; }
 sed -n '/^ *for t in/,/^ *done$/p' "$top/docs/SPLICES.md" > loop
 [ -s loop ] || fail "docs/SPLICES.md has no loop"
-# the loop's own names
+# the names that the loop uses
 # shellcheck disable=SC2034
 slots=28 deadline=27 t=none
 . ./loop > said

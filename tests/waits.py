@@ -3,9 +3,9 @@
 
 usage: waits.py PROGRAM
 
-The model reads a packet file as a list of slots and knows of each magazine its latest header, through two periods. An item that
-stands under its own page's header, more than L slots on, with no header of another magazine with C11 between, can't be missed; a
-header can't at all. A viewer who tunes in just after the owner of a run of K such packets waits to the end of the next one.
+The model reads a packet file as a list of slots and follows the latest header of each magazine, through two periods. An item cannot be
+missed if it comes more than L slots after its own page's header, with no header of another magazine with C11 between; a header can never
+be missed. A viewer who tunes in just after the owner of a run of K such packets waits until the end of the next run.
 """
 import math
 import subprocess
@@ -23,7 +23,7 @@ CYCLES = [
 
 
 def packet(slot):
-    """A slot as its magazine, its number, and where it is a header the page and C11."""
+    """A slot as its magazine, its number, and for a header the page and C11."""
     if slot[0] not in WORDS or slot[1] not in WORDS:
         return None
     low, high = WORDS.index(slot[0]), WORDS.index(slot[1])
@@ -36,7 +36,7 @@ def packet(slot):
 
 
 def sent(slots, lines):
-    """For each page and item the transmissions of the second period: slot, owner's slot, and whether it is sure."""
+    """For each page and item the transmissions of the second period: slot, slot of the owner, and whether it is sure."""
     owners, found = {}, {}
     for at in range(2 * len(slots)):
         one = packet(slots[at % len(slots)])
@@ -59,7 +59,7 @@ def sent(slots, lines):
 
 
 def item_line(found, page, number, period, lines, repeat):
-    """The line of an item: the least deadline, or what becomes of its transmissions."""
+    """The line of an item: the least deadline, or what happens to its transmissions."""
     name = {0: "head", 27: "links"}.get(number, f"row {number}")
     once = found.get((page, number), [])
     repeat = 1 if number == 27 else repeat

@@ -1,5 +1,5 @@
-# For scripts that are given a program as their first word: finds the program and the repository's top, and makes a folder
-# of the script's own, which is removed at the end. `fail` says what fails of the case `name`, and counts.
+# Sourced by scripts whose first argument is a program: finds the program and the top of the repository, and makes a folder for the
+# script, which is removed at the end. `fail` reports and counts a failure in the case `name`.
 [ -x "$1" ] || { echo "no program at $1" >&2; exit 1; }
 program=$(realpath "$1")
 top=$(cd "$(dirname "$0")/.." && pwd)

@@ -1,17 +1,17 @@
 #!/usr/bin/env python3
-"""Tries each wrong body of the must-fail edits by itself: edits.py [--jobs N] [--crate NAME].. [--anew], or edits.py --stale
+"""Tries each mutant of the must-fail edits by itself: edits.py [--jobs N] [--crate NAME].. [--anew], or edits.py --stale
 
-An edit of the gate may hold several wrong bodies, parted by a blank line, each under a heading: the functions or definitions that it turns,
-or the mistake. The gate wants such an edit refused as a whole. Here the prover has to refuse each of them, in a copy of the crates. Before that the
-written answers of the functions that a crate's bodies turn are taken out of the copy where the search proves the functions without them:
-so what is refused is the contract, and not an answer that fits the former body alone.
+An edit of the gate may hold several mutants (deliberate mistakes), separated by blank lines, each under a heading: the functions or
+definitions that it changes, or the mistake. The gate wants such an edit refused as a whole. Here the prover has to refuse each mutant, in a
+copy of the crates. Before that, the written proofs of the changed functions are removed from the copy if the search proves the functions
+without them. So the mutant is refused by the contract, and not because a proof written for the original body no longer fits.
 
-What is found is written into tools/edits.tsv at once, a line a body: the crate, the edit, the heading, the checksums of the body and of
-all that it is tried over (the sources of the crate and of those below it, without comments, and the logic), the verdict, the function that is refused, and
-how. A later run tries only what that file doesn't have with these checksums; --anew tries all. With --stale nothing is tried: the bodies
-of which the file has no such line are listed.
+Each result is written to tools/edits.tsv at once, one line for a mutant: the crate, the edit, the heading, the checksums of the mutant and
+of all that it is tried on (the sources of the crate and of those below it, without comments, and the logic), the verdict, the refused
+function, and how. A later run tries only mutants for which that file has no line with these checksums; --anew tries all. --stale tries nothing, and lists the
+mutants without such a line.
 
-The status is 1 where a body is not refused for want of a proof, or where a heading of names doesn't name what its body turns.
+The status is 1 if a mutant is not refused for want of a proof, or if a heading does not name the functions that its mutant changes.
 """
 import argparse
 import collections
@@ -64,7 +64,7 @@ def checksum(data):
 
 
 def crates():
-    """The crates of the repository, each with those of them that it names."""
+    """The crates of the repository, each with the crates that it uses."""
     named = dict(line.split("#")[0].strip().split(":") for line in open("crates.txt") if ":" in line.split("#")[0])
     return {name: [it for it in rest.split() if it in named] for name, rest in named.items()}
 
@@ -90,7 +90,7 @@ def sum_of_file(path):
 
 
 def sum_of_sources(known, name, logic):
-    """The checksum of all that a crate's bodies are tried over."""
+    """The checksum of all that a crate's mutants are tried on."""
     names = below(known, name)
     told = [logic, *[f"{it}: {' '.join(known[it])}" for it in names]]
     told += [f"{it} {sum_of_file(it)}" for it in sources(names)]
@@ -98,7 +98,7 @@ def sum_of_sources(known, name, logic):
 
 
 def bodies_of(name):
-    """The wrong bodies of a crate's edits."""
+    """The mutants in a crate's edits."""
     found = []
     for edit in sorted(pathlib.Path("crates", name, "must-fail").glob("*.edit")):
         for part in edit.read_text().strip("\n").split("\n\n"):
@@ -109,7 +109,7 @@ def bodies_of(name):
 
 
 def steps(lines):
-    """What the lines of a body change: a path, the old text and the new one, each."""
+    """The changes of a mutant: for each the path, the old text and the new one."""
     path = old = ""
     for word, _, rest in (line.partition(": ") for line in lines):
         if word == "file":
@@ -121,7 +121,7 @@ def steps(lines):
 
 
 def name_above(path, text, at):
-    """The function or definition in which a place of a file stands: that of the nearest line above which begins one."""
+    """The function or definition at a place of a file: the one whose first line is the nearest above."""
     begins = ITEM if path.endswith(".rt") else DEFINITION
     found = (begins.match(line) for line in reversed(text[: text.find("\n", at)].split("\n")))
     return next((it[1] for it in found if it), "")
@@ -129,7 +129,7 @@ def name_above(path, text, at):
 
 @functools.cache
 def turned(body):
-    """The functions and definitions that a body turns, each with its file."""
+    """The functions and definitions that a mutant changes, each with its file."""
     found = []
     for path, old, _ in steps(body.lines):
         file = pathlib.Path("crates", body.crate, path)
@@ -140,14 +140,14 @@ def turned(body):
 
 
 def misnamed(body):
-    """What to say where a heading of names doesn't name what the body turns."""
+    """A message, if a heading does not name the functions that the mutant changes."""
     names = ", ".join(dict.fromkeys(name for _, name in turned(body)))
     is_of_names = re.fullmatch(r"\S+(, \S+)*", body.heading)
     return [f"{body.crate}/{body.edit}: a body under '{body.heading}' turns {names}"] if is_of_names and body.heading != names else []
 
 
 def turned_functions(body):
-    """The functions that a body turns, each as a pattern of its path in the crate."""
+    """The functions that a mutant changes, each as a pattern of its path in the crate."""
     modules = [(path.removeprefix("src/").removesuffix(".rt"), name) for path, name in turned(body) if path.startswith("src/")]
     within = lambda module: "" if module == "lib" else re.escape(module.replace("/", "::")) + "::"
     return [rf"{within(module)}(?:\w+::)*{re.escape(name)}" for module, name in modules]
@@ -158,13 +158,13 @@ def is_turned(body, function):
 
 
 class Room:
-    """A copy of the sources in which bodies are tried."""
+    """A copy of the sources in which mutants are tried."""
 
     def __init__(self, folder, known):
         self.folder, self.known = folder, known
 
     def hold(self, name):
-        """The crate and those below it, as they stand in the repository; what checks kept stays."""
+        """Copies the crate and those below it from the repository; keeps the kept work of checks."""
         names = below(self.known, name)
         self.crate = self.folder / "crates" / name
         self.folder.mkdir(parents=True, exist_ok=True)
@@ -178,13 +178,13 @@ class Room:
             shutil.copy2(it, self.folder / it)
 
     def check(self):
-        """The status of a check of the crate, and what it says."""
+        """The status of a check of the crate, and its output."""
         words = ["nice", "-n", "5", "rt", "check", "--jobs", "1"]
         ran = subprocess.run(words, cwd=self.crate, stdout=subprocess.PIPE, stderr=subprocess.STDOUT, text=True, errors="replace", check=False)
         return ran.returncode, ran.stdout
 
     def take_answers(self, bodies):
-        """Takes the written answers of the turned functions away, but for those that the search needs. Whether the crate is proved so."""
+        """Removes the written proofs of the changed functions, except those that the search needs. Returns whether the crate is still proved."""
         taken = {}
         for answers in self.crate.glob("proofs/**/Answers.antt"):
             function = "::".join(answers.parent.relative_to(self.crate / "proofs").parts)
@@ -203,7 +203,7 @@ class Room:
                 return status == 0
 
     def attempt(self, body):
-        """The verdict on a body, the function that is refused, and how."""
+        """The verdict on a mutant, the refused function, and how."""
         former = {}
         for path, old, new in steps(body.lines):
             file = self.crate / path
@@ -226,7 +226,7 @@ class Room:
 
 
 def verdict_of(body, status, told):
-    """What a check comes to: the verdict, the function that is refused, one that the body turns before others, and how."""
+    """The result of a check: the verdict, the refused function (first one that the mutant changes), and how."""
     if status == 0:
         return "proved", "", ""
     if "logic=not-proved" not in told:
@@ -248,7 +248,7 @@ def verdict_of(body, status, told):
 
 
 class Record:
-    """The file of what was found."""
+    """The file of results."""
 
     def __init__(self):
         lines = RECORD.read_text().split("\n")[1:] if RECORD.exists() else []
@@ -267,7 +267,7 @@ class Record:
             self.save()
 
     def keep(self, names, keys):
-        """Forgets the bodies of these crates that are no more."""
+        """Drops the lines of mutants of these crates that no longer exist."""
         with self.lock:
             self.rows = {key: row for key, row in self.rows.items() if key[0] not in names or key in keys}
             self.save()
@@ -285,7 +285,7 @@ def logic():
 
 
 def try_crate(room, name, bodies, now, record):
-    """Tries these bodies of a crate. How many aren't refused for want of a proof."""
+    """Tries these mutants of a crate. Returns how many are not refused for want of a proof."""
     room.hold(name)
     over = sum_of_sources(room.known, name, now)
     if not room.take_answers(bodies):

@@ -1,8 +1,8 @@
 #!/usr/bin/env python3
 """Runs a command of rt over all crates and prints a line a crate: progress.py LOG COMMAND..
 
-What the command prints goes to LOG. Its status is that of the command; where it fails, the faults and the last lines of LOG follow.
-How much is left is told by the lines of the crates that are still to come.
+The output of the command goes to LOG. The status is that of the command; if it fails, the faults and the last lines of LOG follow. The
+estimate of what is left comes from the lines of the crates that are still to be done.
 """
 import os
 import pathlib
@@ -21,14 +21,14 @@ def lines_of(folder, endings):
 
 
 def weights(with_edits):
-    """What there is to do by name, in lines: each crate, and its wrong bodies where they are tried."""
+    """The work by name, in lines: each crate, and its mutants if they are tried."""
     told = {}
     for line in open("crates.txt"):
         name = line.split(":")[0].strip()
         folder = pathlib.Path("crates", name)
         told[name] = lines_of(folder, {".rt", ".antt"})
         if with_edits:
-            # with its wrong bodies in it a crate takes as long as without
+            # a crate with its mutants takes as long as without
             told[f"{name} edits"] = told[name] * any(folder.glob("must-fail/*.edit"))
     return told
 

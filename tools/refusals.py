@@ -1,9 +1,9 @@
 #!/usr/bin/env python3
-"""Looks in the log of a whole run of the gate whether each must-fail edit was refused for want of a proof: refusals.py LOG [CRATE..]
+"""Checks in the log of a whole run of the gate that each must-fail edit was refused for want of a proof: refusals.py LOG [CRATE..]
 
-The gate itself counts neither an edit that it can't apply nor one that only a limit of the prover stops. Here each file
-crates/CRATE/must-fail/*.edit (of these crates, or of all) has to stand in the log as tried and refused, neither by a limit of the prover
-alone nor only because a written proof names what the edit takes away. The status is 1 where one doesn't.
+The gate does not count an edit that it cannot apply, or one that only a limit of the prover stops. Here each file
+crates/CRATE/must-fail/*.edit (of these crates, or of all) must be in the log as tried and refused, neither only by a limit of the prover
+nor only because a written proof names what the edit removes. The status is 1 if one is not.
 """
 import pathlib
 import re
@@ -13,7 +13,7 @@ TOLD = re.compile(r"rt: must-fail (\w+)/(\S+?\.edit): (.*)")
 STRAY = re.compile(r"rt: (\S+\.edit|\S*must-fail/\S+): BAD EDIT: (.*)")
 REFUSED = "refused, as it must be"
 
-# what the gate says of an edit that shows nothing, or less, of a contract
+# what the gate prints for an edit that shows nothing about a contract, or less
 FAULTS = {
     "NOT TRIED": "it was not tried",
     "BAD EDIT": "it is a bad edit",
@@ -24,7 +24,7 @@ FAULTS = {
 
 
 def fault_of(said):
-    """What is wrong with what the gate says of an edit; nothing where it is refused for want of a proof."""
+    """What is wrong with the gate's line for an edit; None if it is refused for want of a proof."""
     for begin, fault in FAULTS.items():
         if said.startswith(begin):
             return fault
