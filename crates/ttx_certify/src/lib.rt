@@ -1,4 +1,7 @@
 //! The certifier: whether every permitted receiver sees each page of a cycle in time, and the laws that say what a yes guarantees.
+//!
+//! With two passes (`Walk`, `certify_passes`) the verdict is about the second reading. The first one contributes only the headers at its
+//! end. If the second one ends with other headers, the verdict is `Unsteady`.
 #![tactic(auto)]
 
 mod certifying;

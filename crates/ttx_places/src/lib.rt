@@ -1,6 +1,8 @@
 //! The place of a value in a TOML text, as line and column, from its path.
 //!
 //! A path is `/page/3/rows/4`: the value at `rows`, `4` of the third table `[[page]]`. Elements of arrays are counted from 1.
+//!
+//! The crate `toml` keeps no positions of values, so this crate finds a value again in the text, by the grammar of that crate.
 #![tactic(auto)]
 
 mod documents;

@@ -1,5 +1,8 @@
 //! Splices: an old cycle is replaced by a new one, and each receiver must keep seeing the pages that stay. (The specification requires
 //! the crate's name.)
+//!
+//! A splice is judged over the joined stream. The starts of the old certificate count before the change, those of the new one after it,
+//! each under the header that it has in the joined stream.
 #![tactic(auto)]
 
 mod bridging;

@@ -11,6 +11,12 @@
 //! - `finding`: the starts to name, and the least deadline.
 //! - `waiting`: the least deadline of each page and of each item.
 //! - `laws`: what holds for one period holds for the endless stream. Each law is a public call with an empty body.
+//!
+//! Two choices:
+//! - `find` names every start of a sure run. A further start never hurts, so its deadline is the least of any certificate with the same
+//!   class, lines and repeat count. To name starts for a blank item of class clearing is never better than to leave its entry out.
+//! - `judge_item` holds a window of transmissions in an `ArrayVec` and allocates nothing. The search of `find` holds a ring
+//!   (`circular_buffer`) as long as a run, which is allocated before the first transmission.
 #![tactic(auto)]
 
 mod faults;
