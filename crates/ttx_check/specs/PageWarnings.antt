@@ -31,7 +31,7 @@ abbrev pub link_warnings : List Entry → Id → ℕ → List (Option Id) → Li
 link_warnings entries id n [] = []
 link_warnings entries id n (link ∷ links) = (if is_dead entries link then DeadLink id n ∷ [] else []) ++ link_warnings entries id (n + 1) links
 
--- the code stands in the row, and no opener before it
+-- the row has the code before any opener
 abbrev pub has_stray : ℕ → ℕ → List ℕ → Bool
 has_stray code opener [] = false
 has_stray code opener (c ∷ row) = (c == code) || (not (c == opener) && has_stray code opener row)

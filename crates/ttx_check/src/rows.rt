@@ -19,7 +19,7 @@ fn row(page: &Page, number: u8) -> &[u8; 40]
     &page.rows()[usize::from(number) - 1]
 }
 
-// Whether the code stands in the row before the first `opener`.
+// Whether the row has the code before its first `opener`.
 fn has_stray(code: u8, opener: u8, row: &[u8; 40]) -> bool
     ensures { result ≡ has_stray code opener row.now }
 {

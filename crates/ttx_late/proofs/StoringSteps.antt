@@ -1,4 +1,4 @@
--- What one slot does to a memory: when storing begins, goes on and ends, and what is left when it has ended.
+-- What one slot does to a memory: when storing begins, continues and ends, and what is left when it has ended.
 use Rattle.std.proofs.Common.{◌≡◌, ◌⊎◌, ℕ, Bool, true, false, not, ◌&&◌, ◌==◌, [], Some, None, get_or, refl, sym, ◌∙◌, subst, inl, inr}
 use Rattle.std.proofs.lemmas.Bool.{and_parts, cond_both, both_ways}
 use Rattle.ttx_header.specs.Control.{c11}

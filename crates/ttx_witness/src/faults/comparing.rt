@@ -86,7 +86,7 @@ fn same_bits(a: Control, b: Control) -> bool
     a.0 / 2 == b.0 / 2
 }
 
-// Whether the slot is a header with the page's control bits, C4 aside, and its characters.
+// Whether the slot is a header with the page's control bits, except C4, and its characters.
 fn is_like_head(page: &Page, slot: &[u8; 42]) -> bool
     requires { IsSlot slot.now }
     ensures { IsTrue result ↔ IsLikeHead (page_of page.now) (packet_of slot.now) }

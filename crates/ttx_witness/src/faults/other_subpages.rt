@@ -31,7 +31,7 @@ pub fn first_of(first: Option<u32>, is: bool, j: u32) -> Option<u32>
     }
 }
 
-/// Notes slot `j` if it is a header with another subcode than the one that is listed for its number.
+/// Notes slot `j` if it is the first header with another subcode than the one that is listed for its number.
 pub fn note_slot(first: &mut Vec<Option<u32>>, subcodes: &[Subcodes], slot: &[u8; 42], j: u32)
     requires slot { IsSlot slot.now }
     requires first { length first.old.items ≡ 2048 }

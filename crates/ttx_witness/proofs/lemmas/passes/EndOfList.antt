@@ -33,7 +33,7 @@ pub empty_is : (y : List (List ℕ)) → length y ≡ 0 → y ≡ []
 empty_is [] e = refl
 empty_is (z ∷ y) e = absurd (omega arith)
 
--- the page whose id stands at an index
+-- the page whose id is at an index
 pub page_of_id : (pages : List PageValue) (i : ℕ) (id : Id) → slice_get (ids_of pages) i ≡ Some id →
     (p : Page) × (slice_get (map page_of pages) i ≡ Some p) × (p.id ≡ id)
 page_of_id [] i id e = let h : None ≡ Some id = e in cc
