@@ -100,7 +100,7 @@ fn first_wrong_row(cycle: &Cycle, page: &Page, collected: &Collected, index: usi
     first
 }
 
-// For each reason about the page's contents, the first slot where it is true.
+// For each reason about the page, the first slot where it is true.
 fn first_slots(
     cycle: &Cycle,
     page: &Page,

@@ -1,4 +1,4 @@
-//! For each reason about a page's contents the first slot where it is true, and the first of these reasons.
+//! For each reason about a page the first slot where it is true, and the first of these reasons.
 
 ghost use Rattle.std.specs.Prelude.{◌≡◌, ℕ, List};
 ghost use Rattle.ttx_page.specs.Pages as definitions;

@@ -124,7 +124,7 @@ fn first_wrong_row(cycle: &Cycle, page: &Page, mine: bool) -> Option<u32>
     first
 }
 
-// For each reason about the page's contents, the first slot where it is true.
+// For each reason about the page, the first slot where it is true.
 fn first_slots(cycle: &Cycle, pages: &[Page], index: usize) -> FirstSlots
     requires { index < length pages.now }
     ensures { (p : definitions.Page) → slice_get (map page_of pages.now) index ≡ Some p →
