@@ -8,8 +8,8 @@ without them. So the mutant is refused by the contract, and not because a proof 
 
 Each result is written to tools/edits.tsv at once, one line for a mutant: the crate, the edit, the heading, the checksums of the mutant and
 of all that it is tried on (the sources of the crate and of those below it, without comments, and the logic), the verdict, the refused
-function, and how. A later run tries only mutants for which that file has no line with these checksums; --anew tries all. --stale tries nothing, and lists the
-mutants without such a line.
+function, and how. A later run tries only mutants for which that file has no line with these checksums; --anew tries all. --stale tries
+nothing, and lists the mutants without such a line.
 
 The status is 1 if a mutant is not refused for want of a proof, or if a heading does not name the functions that its mutant changes.
 """
