@@ -40,7 +40,7 @@ header_number laws h ranges =
     let w = laws.header h ranges in
     ap number_in (packet_from (header_bytes h) (IsHeader h.id.mag) w.kind) ∙ ap (λ f. f.id.page) w.fields
 
-filler_number : LawsBelow → (serial : Bool) (queue : ℕ) → queue < 8 → number (header_bytes (time_filling (suc queue) serial)) ≡ 255
+pub filler_number : LawsBelow → (serial : Bool) (queue : ℕ) → queue < 8 → number (header_bytes (time_filling (suc queue) serial)) ≡ 255
 filler_number laws true queue lt = header_number laws (time_filling (suc queue) true)
     (record {
       id = record {

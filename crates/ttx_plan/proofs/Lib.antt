@@ -42,3 +42,4 @@ mod SpreadPasses
 mod SpreadPages
 mod SpreadOnce
 mod SpreadPlans
+mod WholeBlocks

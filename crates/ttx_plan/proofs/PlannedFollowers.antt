@@ -90,14 +90,14 @@ pub record IsHeaderOf (queue : ℕ) (slot : Slot) : Type 0 where
   pub is : slot ≡ Sent queue packet
   pub early : is_row_or_links packet.kind ≡ false
 
-header_of : (queue : ℕ) (slot : Slot) → heads queue slot ≡ true → IsHeaderOf queue slot
+pub header_of : (queue : ℕ) (slot : Slot) → heads queue slot ≡ true → IsHeaderOf queue slot
 header_of queue Empty e = cc
 header_of queue (Info bytes) e = cc
 header_of queue (Sent m packet) e =
     let two = and_parts (eqb m queue) (not (is_row_or_links packet.kind)) e in
     record { packet = packet; is = ap (λ q. Sent q packet) (eqb-true m queue two.0); early = not-true (is_row_or_links packet.kind) two.1 }
 
-its_number : (page : Id) (x : P.Packet) → S.heads_page page x ≡ true → number_in x ≡ page.page
+pub its_number : (page : Id) (x : P.Packet) → S.heads_page page x ≡ true → number_in x ≡ page.page
 its_number page P.Empty e = cc
 its_number page P.Unreadable e = cc
 its_number page (P.Header id control text) e = sym

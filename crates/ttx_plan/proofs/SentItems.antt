@@ -51,11 +51,11 @@ heads_its page (P.Links mag content) e = e
 heads_its page P.Info e = e
 heads_its page P.Other e = e
 
-row_carried : (mag r : ℕ) (text : List ℕ) → carries mag (TheRow r) (P.Row mag r text) ≡ true
+pub row_carried : (mag r : ℕ) (text : List ℕ) → carries mag (TheRow r) (P.Row mag r text) ≡ true
 row_carried mag r text = and_from _ _ (eq-eqb mag mag refl) (eq-eqb r r refl)
 
 -- rows that are sent to a class have their numbers
-sent_needed : (class : Class) (p : Page) (item : Item) → is_sent_to class p item ≡ true → needed p item ≡ true
+pub sent_needed : (class : Class) (p : Page) (item : Item) → is_sent_to class p item ≡ true → needed p item ≡ true
 sent_needed Any p item e = e
 sent_needed Clearing p item e = (and_parts _ _ e).0
 

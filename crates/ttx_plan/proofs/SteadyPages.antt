@@ -41,7 +41,7 @@ same_is a b e =
     ∙ ap (λ s. id_at b.mag b.page s) (eqb-true a.sub b.sub two.1)
 
 -- one header has one id
-one_id : (a b : Id) (x : Packet) → heads_page a x ≡ true → heads_page b x ≡ true → a ≡ b
+pub one_id : (a b : Id) (x : Packet) → heads_page a x ≡ true → heads_page b x ≡ true → a ≡ b
 one_id a b P.Empty e f = cc
 one_id a b P.Unreadable e f = cc
 one_id a b (P.Header id control text) e f = same_is a id e ∙ sym (same_is b id f)
@@ -51,7 +51,7 @@ one_id a b P.Info e f = cc
 one_id a b P.Other e f = cc
 
 -- a page of a service by its id
-one_page : (pages : List Authored) → AllPairs (λ a b. a ≡ b → ⊥) (authored_ids pages) → (i j : ℕ) (a b : Authored) → slice_get pages i
+pub one_page : (pages : List Authored) → AllPairs (λ a b. a ≡ b → ⊥) (authored_ids pages) → (i j : ℕ) (a b : Authored) → slice_get pages i
     ≡ Some a → slice_get pages j ≡ Some b → a.page.id ≡ b.page.id → a ≡ b
 one_page pages distinct i j a b e f same = elim (cases_lt i j) as (λ _. a ≡ b) [
   | inl lt ↦ absurd (distinct i j a.page.id lt (slice_get_within (authored_ids pages) j b.page.id (at j b f))

@@ -58,7 +58,7 @@ pub record IsUnder (pages : List Authored) (class : Class) (cycle : List (List �
   pub none_between : (i : ℕ) → header < i → i < n → S.heads mag (packet_of (get_or cycle i [])) ≡ false
 
 -- the block is that of a page of the list, with or without a time-filling header before it, at some place among the rounds
-record IsBlockOf (pages : List Authored) (serial : Bool) (class : Class) (block : Block) : Type 0 where
+pub record IsBlockOf (pages : List Authored) (serial : Bool) (class : Class) (block : Block) : Type 0 where
   pub index : ℕ
   pub authored : Authored
   pub listed : slice_get pages index ≡ Some authored
@@ -67,7 +67,7 @@ record IsBlockOf (pages : List Authored) (serial : Bool) (class : Class) (block 
   pub place : ℕ
   pub is : block ≡ led filler (at_place place (block_at class authored))
 
-are_blocks : (pages : List Authored) (serial : Bool) (class : Class) (some : List Authored) (at : ℕ) →
+pub are_blocks : (pages : List Authored) (serial : Bool) (class : Class) (some : List Authored) (at : ℕ) →
     ((k : ℕ) (p : Authored) → slice_get some k ≡ Some p → slice_get pages (at + k) ≡ Some p) → All (IsAuthored serial) some →
     AllByRecursion (IsBlockOf pages serial class) (blocks_of class some)
 are_blocks pages serial class [] at listed a = tt
@@ -87,20 +87,11 @@ are_blocks pages serial class (p ∷ some) at listed a =
           (λ k d lt. a (suc k) d (omega arith)),
     )
 
-pub head_says : LawsBelow → (serial : Bool) (authored : Authored) → IsAuthored serial authored → (class : Class) →
-    S.heads_page authored.page.id (packet_of (block_at class authored).header) ≡ true
-head_says laws serial authored a class =
-    header_says laws (fields_at authored.page.id authored.page.control (map odd_byte authored.page.head) (replicate 8 32))
-    (record { id = a.page.id; control = a.page.control; text = length-map authored.page.head odd_byte ∙ a.page.head_length; clock = refl })
-
-under_at : LawsBelow → (serial : Bool) (lines : ℕ) (spread : List ℕ) (late : Bool) (class : Class) (pages : List Authored) →
-    All (IsAuthored serial) pages → (cycle : List (List ℕ)) (at : ℕ → Slot) →
-    ((i : ℕ) → i < length cycle → get_or cycle i [] ≡ bytes_of (at i)) → ((i : ℕ) → Reads pages serial (at i)) →
-    (n queue : ℕ) (packet : Packet) → n < length cycle → at n ≡ Sent queue packet →
-    HasOwner lines (blocks_sent_at spread late class pages) at queue packet n → (mag : ℕ) → mag ≡ suc queue → IsUnder pages class cycle lines n mag
-under_at laws serial lines spread late class pages a cycle at bytes reads n queue packet lt here o mag mag_is =
+-- each block that is sent is that of a page of the list
+pub sent_are_blocks : (serial : Bool) (spread : List ℕ) (late : Bool) (class : Class) (pages : List Authored) → All (IsAuthored serial) pages →
+    AllByRecursion (IsBlockOf pages serial class) (blocks_sent_at spread late class pages)
+sent_are_blocks serial spread late class pages a =
     let z : (k : ℕ) → 0 + k ≡ k = λ k. omega arith in
-    let all : AllByRecursion (IsBlockOf pages serial class) (blocks_sent_at spread late class pages) =
     order_all (IsBlockOf pages serial class)
     (λ filler x q. record {
       index = q.index;
@@ -123,7 +114,21 @@ under_at laws serial lines spread late class pages a cycle at bytes reads n queu
       is = ap (at_place place) q.is;
     })
     spread (blocks_of class pages)
-    (are_blocks pages serial class pages 0 (λ k p q. ap (slice_get pages) (z k) ∙ q) a)) in
+    (are_blocks pages serial class pages 0 (λ k p q. ap (slice_get pages) (z k) ∙ q) a))
+
+pub head_says : LawsBelow → (serial : Bool) (authored : Authored) → IsAuthored serial authored → (class : Class) →
+    S.heads_page authored.page.id (packet_of (block_at class authored).header) ≡ true
+head_says laws serial authored a class =
+    header_says laws (fields_at authored.page.id authored.page.control (map odd_byte authored.page.head) (replicate 8 32))
+    (record { id = a.page.id; control = a.page.control; text = length-map authored.page.head odd_byte ∙ a.page.head_length; clock = refl })
+
+under_at : LawsBelow → (serial : Bool) (lines : ℕ) (spread : List ℕ) (late : Bool) (class : Class) (pages : List Authored) →
+    All (IsAuthored serial) pages → (cycle : List (List ℕ)) (at : ℕ → Slot) →
+    ((i : ℕ) → i < length cycle → get_or cycle i [] ≡ bytes_of (at i)) → ((i : ℕ) → Reads pages serial (at i)) →
+    (n queue : ℕ) (packet : Packet) → n < length cycle → at n ≡ Sent queue packet →
+    HasOwner lines (blocks_sent_at spread late class pages) at queue packet n → (mag : ℕ) → mag ≡ suc queue → IsUnder pages class cycle lines n mag
+under_at laws serial lines spread late class pages a cycle at bytes reads n queue packet lt here o mag mag_is =
+    let all = sent_are_blocks serial spread late class pages a in
     let b : IsBlockOf pages serial class o.own.block =
     all_get (IsBlockOf pages serial class) (blocks_sent_at spread late class pages) o.own.index o.own.block all o.own.listed in
     let before : o.place < length cycle = omega (arith, o.late) in

@@ -13,3 +13,4 @@ pub mod Serial
 pub mod Spread
 pub mod Spreading
 pub mod Turns
+pub mod WholeBlocks

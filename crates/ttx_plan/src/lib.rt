@@ -20,6 +20,7 @@ mod rounds;
 mod serial;
 mod slots;
 mod spread;
+pub mod whole_blocks;
 
 pub use asked::Receivers;
 pub use faults::PlanFault;
