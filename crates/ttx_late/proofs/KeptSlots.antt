@@ -1,4 +1,5 @@
--- What wrong bits do not change about a slot: whether it is a header of the magazine, of the selection, of the page number.
+-- What wrong bits do not change about a slot: whether it is a header of the magazine, of the selection, of the page number, and whether it
+-- ends pages of the magazine in serial transmission.
 use Rattle.std.proofs.Common.{◌≡◌, ℕ, ◌<◌, ◌≤◌, true, List, [], get_or, refl, sym, ap, ◌∙◌, subst, inl, inr, arith}
 use Rattle.std.proofs.lemmas.Bool.{cond_both, both_ways, cases_Bool}
 use Rattle.ttx_code.specs.Words.{Near}
@@ -9,7 +10,7 @@ use Rattle.ttx_header.specs.Headers.{id_of, control_of}
 use Rattle.ttx_header.specs.Laws.{HeaderIsKept}
 use Rattle.ttx_page.specs.Packets.{Packet, Empty, Unreadable, Header, Row, Links, Info, Other, packet_of, packet_of_kind}
 use Rattle.ttx_page.specs.declared.selection.Selection.{Selection}
-use Rattle.ttx_page.specs.Streams.{heads, heads_matched}
+use Rattle.ttx_page.specs.Streams.{heads, heads_matched, ends_serial}
 use Rattle.ttx_late.specs.LateReceivers.{heads_number}
 
 -- the header in a packet; all other packets are the same
@@ -26,7 +27,7 @@ packet_is : (slot : List ℕ) → packet_of slot ≡ packet_of_kind slot (kind_o
 unfolding packet_of
 packet_is slot = refl
 
-packet_empty : (slot : List ℕ) → is_empty slot ≡ true → packet_of slot ≡ Empty
+pub packet_empty : (slot : List ℕ) → is_empty slot ≡ true → packet_of slot ≡ Empty
 unfolding kind_of
 packet_empty slot e =
     packet_is slot ∙ ap (packet_of_kind slot) (cond_both (is_empty slot) IsEmpty _ (λ k. k ≡ IsEmpty) (λ _. refl) (λ f. absurd (both_ways _ f e)))
@@ -88,11 +89,21 @@ number_outline sel Unreadable = refl
 number_outline sel Info = refl
 number_outline sel Other = refl
 
+ends_outline : (mag : ℕ) (pkt : Packet) → ends_serial mag (outline pkt) ≡ ends_serial mag pkt
+ends_outline mag (Header id control text) = refl
+ends_outline mag (Row m number text) = refl
+ends_outline mag (Links m content) = refl
+ends_outline mag Empty = refl
+ends_outline mag Unreadable = refl
+ends_outline mag Info = refl
+ends_outline mag Other = refl
+
 -- what is received passes the same tests as what was sent
 pub record SameTests (sent received : List ℕ) : Type 0 where
   pub heads : (mag : ℕ) → heads mag (packet_of received) ≡ heads mag (packet_of sent)
   pub matched : (sel : Selection) → heads_matched sel (packet_of received) ≡ heads_matched sel (packet_of sent)
   pub number : (sel : Selection) → heads_number sel (packet_of received) ≡ heads_number sel (packet_of sent)
+  pub ends : (mag : ℕ) → ends_serial mag (packet_of received) ≡ ends_serial mag (packet_of sent)
 
 pub same_tests : KindIsKept → HeaderIsKept → (sent received : List ℕ) → IsSlot sent → is_clean sent ≡ true →
     MayBeReceivedAs sent received → SameTests sent received
@@ -102,4 +113,5 @@ same_tests kind header sent received s clean h =
       heads = λ mag. sym (heads_outline mag (packet_of received)) ∙ ap (heads mag) e ∙ heads_outline mag (packet_of sent);
       matched = λ sel. sym (matched_outline sel (packet_of received)) ∙ ap (heads_matched sel) e ∙ matched_outline sel (packet_of sent);
       number = λ sel. sym (number_outline sel (packet_of received)) ∙ ap (heads_number sel) e ∙ number_outline sel (packet_of sent);
+      ends = λ mag. sym (ends_outline mag (packet_of received)) ∙ ap (ends_serial mag) e ∙ ends_outline mag (packet_of sent);
     }

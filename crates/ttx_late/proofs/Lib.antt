@@ -1,9 +1,9 @@
-mod KeptSlots
-mod StoringSteps
-mod GatheredMemories
+pub mod KeptSlots
+pub mod StoringSteps
+pub mod GatheredMemories
 mod ShownIsGathered
-mod FollowedReceptions
-mod RunsAreShown
+pub mod FollowedReceptions
+pub mod RunsAreShown
 mod AcceptedIsShown
 mod FollowersOfCycles
 mod GreatestGap

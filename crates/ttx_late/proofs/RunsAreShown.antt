@@ -32,7 +32,7 @@ use Rattle.ttx_certify.proofs.LaterReceptions.{received_later}
 use Rattle.ttx_late.proofs.FollowedReceptions.{mag_is, number_is, AreOf, of_received, all_end, received_before}
 
 -- a header of a page is matched by each selection that matches the page
-page_matched : (sel : Selection) (page : Id) → matches sel page ≡ true → (pkt : Packet) → heads_page page pkt ≡ true → heads_matched sel pkt ≡ true
+pub page_matched : (sel : Selection) (page : Id) → matches sel page ≡ true → (pkt : Packet) → heads_page page pkt ≡ true → heads_matched sel pkt ≡ true
 page_matched sel page fits (Header id control text) h =
     let mag = eqb-true page.mag id.mag ((and_parts _ _ (and_parts _ _ h).0).0) in
     let number = eqb-true page.page id.page ((and_parts (page.mag == id.mag) _ (and_parts _ _ h).0).1) in
@@ -70,7 +70,7 @@ take_nothing : (A : Type 0) (k : ℕ) → take {A = A} k [] ≡ []
 take_nothing A zero = refl
 take_nothing A (suc k) = refl
 
-take_more : (n k : ℕ) (xs : List (List ℕ)) → take n xs ++ take k (drop n xs) ≡ take (n + k) xs
+pub take_more : (n k : ℕ) (xs : List (List ℕ)) → take n xs ++ take k (drop n xs) ≡ take (n + k) xs
 take_more zero k xs = let e : k ≡ 0 + k = omega arith in ap (λ m. take m xs) e
 take_more (suc n) k [] = take_nothing (List ℕ) k ∙ sym (take_nothing (List ℕ) (suc n + k))
 take_more (suc n) k (x ∷ xs) = let e : suc (n + k) ≡ suc n + k = omega arith in ap (λ ys. x ∷ ys) (take_more n k xs) ∙ ap (λ m. take m (x ∷ xs)) e
@@ -82,7 +82,7 @@ record UnderHeader (s : Stream) (page : Id) (begin end : ℤ) : Type 0 where
   before : slot <ℤ end
   is_header : heads_page page (packet_of (s slot)) ≡ true
 
-owner_heads : (s : Stream) (page : Id) (item : Item) (h j : ℤ) → IsOwned s page item h j → (h ≤ℤ j) × (heads_page page (packet_of (s h)) ≡ true)
+pub owner_heads : (s : Stream) (page : Id) (item : Item) (h j : ℤ) → IsOwned s page item h j → (h ≤ℤ j) × (heads_page page (packet_of (s h)) ≡ true)
 owner_heads s page TheHead h j o = let e = o.0 in (omega (arith, ints), subst (λ z. heads_page page (packet_of (s z)) ≡ true) (sym o.0) o.1)
 owner_heads s page (TheRow r) h j o = let e = o.0.earlier in (omega (arith, ints), o.1)
 owner_heads s page TheLinks h j o = let e = o.0.earlier in (omega (arith, ints), o.1)

@@ -118,8 +118,8 @@ pub fn gap_after(cycle: &Cycle, page: PageId) -> Option<usize>
     Some(gap)
 }
 
-// The index of the first page with this id.
-fn place_of(pages: &[Page], id: PageId) -> Option<usize>
+/// The index of a page with this id; `None` if there is none.
+pub fn place_of(pages: &[Page], id: PageId) -> Option<usize>
     ensures { MatchOption result ((n : ℕ) (p : definitions.Page) → slice_get (map page_of pages.now) n ≡ Some p → p.id ≡ id → ⊥)
         (λ n. (p : definitions.Page) × (slice_get (map page_of pages.now) n ≡ Some p) × (p.id ≡ id)) }
 {

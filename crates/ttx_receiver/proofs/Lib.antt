@@ -1,5 +1,5 @@
 mod StoredRows
-mod StepsOverPage
+pub mod StepsOverPage
 mod TakenAndKept
 mod ReceivedPackets
 mod Runs
