@@ -1,0 +1,10 @@
+mod PartsOfStreams
+mod OneClass
+mod EndedBlocks
+mod BlocksReceived
+mod SubpagesInTurn
+mod AcceptedSubpages
+mod HeldBlocks
+mod PlannedSubpages
+mod SomeEndedRun
+mod RepeatTwo

@@ -1,0 +1,75 @@
+//! The laws of subpages. A call costs nothing and gives the caller's proof the law.
+
+ghost use Rattle.ttx_subpages.specs.PlannedSubpages.{PlannedSendWhole, PlannedAreSeen};
+ghost use Rattle.ttx_subpages.specs.RepeatTwo.{IsMixed};
+ghost use Rattle.ttx_subpages.specs.Laws.{BlocksAreSeen, AcceptedAreSeen, BlocksAreHeld, AcceptedAreHeld, EachListRunsEnded};
+
+/// In any stream: subpages of a number that are sent whole are seen in turn.
+pub fn blocks_are_seen()
+    ensures { BlocksAreSeen }
+{
+    ttx_certify::laws::runs_are_seen();
+    ttx_packet::laws::kind_is_kept();
+    ttx_header::laws::header_is_kept();
+    ttx_receiver::laws::steps_keep_memories();
+}
+
+/// So are those of an accepted cycle whose pages are followed by other page numbers.
+pub fn accepted_are_seen()
+    ensures { AcceptedAreSeen }
+{
+    blocks_are_seen();
+    ttx_page::laws::each_slot_turns();
+    ttx_page::laws::streams_move();
+    ttx_page::laws::runs_are_unique();
+    ttx_page::laws::steady_sends_its_own();
+}
+
+/// On every permitted receiver a subpage is seen from where its block is whole to the next header of the number, in any stream.
+pub fn blocks_are_held()
+    ensures { BlocksAreHeld }
+{
+    ttx_certify::laws::runs_are_seen();
+    ttx_receiver::laws::steps_keep_memories();
+}
+
+/// The same of an accepted cycle.
+pub fn accepted_are_held()
+    ensures { AcceptedAreHeld }
+{
+    blocks_are_held();
+    ttx_page::laws::each_slot_turns();
+    ttx_page::laws::streams_move();
+    ttx_page::laws::runs_are_unique();
+    ttx_page::laws::steady_sends_its_own();
+}
+
+/// A planned cycle sends each subpage whole, to receivers that do not surely clear a page.
+pub fn planned_send_whole()
+    ensures { PlannedSendWhole }
+{
+    ttx_page::laws::each_slot_turns();
+    ttx_plan::laws::planned_cycles_keep_their_rules();
+    ttx_plan::whole_blocks::planned_blocks_are_whole();
+}
+
+/// So the subpages of a cycle that is planned for receivers which show a page late, too, are seen in turn.
+pub fn planned_are_seen()
+    ensures { PlannedAreSeen }
+{
+    accepted_are_seen();
+    planned_send_whole();
+}
+
+/// Each receiver that shows a page only where it ends makes something of each list of slots.
+pub fn each_list_runs_ended()
+    ensures { EachListRunsEnded }
+{}
+
+/// Where the repeat count is 2, what is shown may be a mixture: a worked example.
+pub fn repeat_two_may_mix()
+    ensures { IsMixed }
+{
+    ttx_page::laws::exact_is_received();
+    ttx_render::laws::letter_is_seen();
+}
