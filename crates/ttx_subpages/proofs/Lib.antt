@@ -8,3 +8,5 @@ mod HeldBlocks
 mod PlannedSubpages
 mod SomeEndedRun
 mod RepeatTwo
+mod ComingItems
+mod HeadersOfNumbers

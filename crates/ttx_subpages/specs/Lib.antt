@@ -4,3 +4,5 @@ pub mod SeenInTurn
 pub mod Laws
 pub mod PlannedSubpages
 pub mod RepeatTwo
+pub mod Numbers
+pub mod Lacks

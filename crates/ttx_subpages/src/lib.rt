@@ -2,4 +2,11 @@
 //! page only where it ends show each subpage in turn, and whole.
 #![tactic(auto)]
 
+mod lack;
+mod lacks;
 pub mod laws;
+mod numbers;
+
+pub use lack::Lack;
+pub use lacks::first_lack;
+pub use numbers::count_of;
