@@ -1,6 +1,6 @@
 //! Sends a cycle, field by field.
 
-ghost use Rattle.std.specs.Prelude.{◌≡◌, ℕ, ◌+◌, ◌*◌, ◌/◌, ◌≤◌, ◌<◌, pos, ◌++◌, ◌^◌, length, take, MatchResult};
+ghost use Rattle.std.specs.Prelude.{◌≡◌, ◌*◌, ◌≤◌, ◌<◌, pos, ◌^◌, length, take, MatchResult};
 ghost use Rattle.ttx_cycle.specs.Counters.{inner_of, faults_of};
 ghost use Rattle.ttx_cycle.specs.Counts.{HasRisen};
 ghost use Rattle.ttx_cycle.specs.Cycles.{slots_of};
@@ -10,54 +10,11 @@ ghost use Rattle.ttx_page.specs.Laws.{sent_from};
 ghost use Rattle.ttx_send.specs.Airing.{at_moment, broadcast_of, sent_slots};
 
 use crate::moments::Moment;
+use crate::pieces::{next_piece, put_slot, room};
 use crate::stamps::{Stamp, stamp_of};
 use crate::timing::stamped;
 use std::io::Write;
 use ttx_cycle::{Counted, Cycle, WriteFault, write_bytes};
-
-// The most slots in one write.
-const ROOM: usize = 128;
-
-fn room() -> [u8; 5376]
-    ensures { length result ≡ 5376 }
-{
-    [0; 5376]
-}
-
-// Writes a slot, from byte `at` on. The bytes before it stay.
-#[tactic(auto, using(std::proofs::lemmas::Slice::overwrites))]
-fn put_slot(bytes: &mut [u8; 5376], at: usize, slot: &[u8; 42])
-    requires { at + 42 ≤ 5376 }
-    ensures { take (at + 42) bytes.new ≡ take at bytes.old ++ slot.now }
-{
-    bytes[at..at + 42].copy_from_slice(slot);
-}
-
-// A number of whole fields within one second that are written together.
-#[derive(Clone, Copy)]
-struct Piece {
-    fields: u32,
-    slots: usize,
-}
-
-// The next piece, beginning at a field that is still to be sent.
-fn next_piece(field: u32, fields: u32, lines: usize) -> Piece
-    requires before { field < fields }
-    requires some { 0 < lines }
-    requires most { lines ≤ 32 }
-    ensures some { 0 < result.fields }
-    ensures inside { field + result.fields ≤ fields }
-    ensures second { (n : ℕ) → n < result.fields → (field + n) / 50 ≡ field / 50 }
-    ensures slots { result.slots ≡ result.fields * lines }
-    ensures fits { result.slots ≤ 128 }
-{
-    let left = (50 - field % 50).min(fields - field);
-    let fields = left.min((ROOM / lines) as u32);
-    Piece {
-        fields,
-        slots: fields as usize * lines,
-    }
-}
 
 // The bytes of `count` slots of the repeated cycle, from slot `first` on, all with the same time.
 fn piece_bytes(slots: &[[u8; 42]], first: usize, count: usize, stamp: &Stamp) -> [u8; 5376]
