@@ -1,7 +1,7 @@
 -- A writer that a call left as it was, but for the fault of a write, was left so by the command.
 use Rattle.std.proofs.Common.{◌≡◌, ◌∙◌, ℕ, true, false, Result, Ok, Err, refl, sym, ap}
 use Rattle.std.specs.Prelude.{⊤}
-use Rattle.ttx_certify.specs.CertifyingFiles.{IsUntouched, is_write}
+use Rattle.ttx_files.specs.Answers.{IsUntouched, is_write}
 use Rattle.ttx_files.specs.declared.faults.FilesFault.{FilesFault}
 use Rattle.ttx_files.specs.declared.faults.FilesFault.TheVariants as files
 use Rattle.ttx_check.specs.Checking.{IsUntouchedByCheck}

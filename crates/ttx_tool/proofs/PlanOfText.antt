@@ -1,6 +1,6 @@
 -- The plan of a text, from what `plan_with` answers.
 use Rattle.std.proofs.Common.{◌≡◌, ℕ, ◌<◌, ◌≤◌, ◌↔◌, Bool, List, Result, Ok, Err, sym, ◌∙◌, arith}
-use Rattle.ttx_certify.specs.CertifyingFiles.{IsServiceText}
+use Rattle.ttx_files.specs.Texts.{IsServiceText}
 use Rattle.ttx_cycle.specs.Cycles.{slots_of, slots_of-IsCycle}
 use Rattle.ttx_cycle.specs.declared.cycles.Cycle.{Cycle as CycleValue}
 use Rattle.ttx_page.specs.declared.class.Class.{Class}

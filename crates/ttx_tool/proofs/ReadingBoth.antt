@@ -1,7 +1,7 @@
 -- What is read of a packet file and the text of a service, one after the other.
 use Rattle.std.proofs.Common.{◌≡◌, ℕ, List, Option, Some, None, Err}
 use Rattle.std.specs.Prelude.{IfSome}
-use Rattle.ttx_certify.specs.CertifyingFiles.{IsServiceText}
+use Rattle.ttx_files.specs.Texts.{IsServiceText}
 use Rattle.ttx_cycle.specs.Files.{IsCycle, IsPacketFile, file_of}
 use Rattle.ttx_source.specs.Services.{ServiceFields}
 use Rattle.ttx_tool.specs.Find.{IsNoFinding, CountsInputs}

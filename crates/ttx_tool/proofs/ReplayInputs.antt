@@ -1,7 +1,7 @@
 -- What is told of a counter-run once the three inputs are read.
 use Rattle.std.proofs.Common.{ℕ, List, Option, Some, None, Result, Ok, Err, IfOk}
 use Rattle.std.specs.Prelude.{IfSome}
-use Rattle.ttx_certify.specs.CertifyingFiles.{IsServiceText}
+use Rattle.ttx_files.specs.Texts.{IsServiceText}
 use Rattle.ttx_counter.specs.Counters.{CounterRun}
 use Rattle.ttx_cycle.specs.Files.{IsPacketFile}
 use Rattle.ttx_source.specs.Services.{ServiceFields, pages_of}

@@ -7,7 +7,7 @@
 --   CountsPreview           faults of devices are answered only where they were counted
 use Rattle.std.specs.Prelude.{◌≡◌, ℕ, ◌<◌, List, [], ◌∷◌, length, take, string_bytes, ⊤, if◌then◌else◌, Option, Some, None, Result, Ok, Err}
 use Rattle.std.specs.Io.KnownBytes.{Appends, Keeps}
-use Rattle.ttx_certify.specs.CertifyingFiles.{IsServiceText}
+use Rattle.ttx_files.specs.Texts.{IsServiceText}
 use Rattle.ttx_cycle.specs.Counts.{HasRisen}
 use Rattle.ttx_page.specs.Memories.{memory_of_page}
 use Rattle.ttx_page.specs.Pages.{Page, matches}

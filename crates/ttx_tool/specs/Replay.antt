@@ -9,7 +9,7 @@
 use Rattle.std.specs.Prelude.{◌≡◌, ◌⊎◌, ℕ, ◌<◌, ◌≤◌, List, [], ◌∷◌, ◌++◌, length, take, codes, string_bytes, ⊤, Option, Result, Ok, Err}
 use Rattle.std.specs.Io.KnownBytes.{Appends, Keeps}
 use Rattle.ttx_cycle.specs.Files.{IsPacketFile}
-use Rattle.ttx_certify.specs.CertifyingFiles.{IsServiceText}
+use Rattle.ttx_files.specs.Texts.{IsServiceText}
 use Rattle.ttx_cycle.specs.Bounded.{most_bytes}
 use Rattle.ttx_counter.specs.CounterReading.{read_counter_text}
 use Rattle.ttx_counter.specs.Counters.{CounterRun, counter_run_of, IsCounterRun}

@@ -8,7 +8,7 @@
 use Rattle.std.specs.Prelude.{◌≡◌, ℕ, ◌<◌, List, length, take, string_bytes, ⊤, Option, Some, None, Result, Ok, Err}
 use Rattle.std.specs.Io.KnownBytes.{Appends, Keeps}
 use Rattle.ttx_cycle.specs.Files.{IsPacketFile}
-use Rattle.ttx_certify.specs.CertifyingFiles.{IsServiceText}
+use Rattle.ttx_files.specs.Texts.{IsServiceText}
 use Rattle.ttx_cycle.specs.Counts.{HasRisen}
 use Rattle.ttx_cycle.specs.declared.faults.CycleFault.TheVariants as cycle
 use Rattle.ttx_page.specs.declared.class.Class.{Class}

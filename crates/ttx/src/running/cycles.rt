@@ -8,7 +8,6 @@ use std::fs::File;
 use std::io;
 use ttx_arguments::Sending;
 use ttx_cycle::Counted;
-use ttx_send::Moment;
 use ttx_tool::{ExtractionFault, ToolFault, commands};
 
 fn inspect_input(rt: &HostRuntime, input: Input) -> Result<u8, ToolFault> {
@@ -79,24 +78,12 @@ pub fn extract(rt: &HostRuntime, cycle: &str, out: &str, lines: u8) -> Outcome {
     }
 }
 
-// Sends a cycle, from the moment on that the arguments name.
 fn send_input(rt: &HostRuntime, input: Input, sending: &Sending) -> Result<u8, ToolFault> {
-    let (start, offset) = (&sending.start, &sending.offset);
-    let start = Moment::new(start.mjd(), start.second(), offset.seconds()).unwrap();
     let Ok(mut reader) = buffered(rt, input) else {
         return Err(ToolFault::NoMemory);
     };
     let mut writer = Counted::new(io::writer(rt));
-    commands::send::run(
-        rt.alloc(),
-        &mut reader,
-        &start,
-        sending.lines.count(),
-        sending.phase,
-        sending.fields,
-        &mut writer,
-    )
-    .map(|()| 0)
+    commands::send::run(rt.alloc(), &mut reader, sending, &mut writer).map(|()| 0)
 }
 
 /// Opens the cycle, and sends it again and again, with the time.

@@ -3,7 +3,7 @@
 ghost use Rattle.std.specs.Prelude.{◌≡◌, IfSome, IfOk, IfErr, string_bytes};
 ghost use Rattle.ttx_cycle.specs.Counters.{inner_of, faults_of};
 ghost use Rattle.ttx_cycle.specs.Cycles.{slots_of};
-ghost use Rattle.ttx_certify.specs.CertifyingFiles.{IsUntouched};
+ghost use Rattle.ttx_files.specs.Answers.{IsUntouched};
 ghost use Rattle.ttx_tool.specs.Extract.{extracted_line, IsExtracted, IsExtractFault, ExtractsText, ExtractsFile, is_extraction_write};
 ghost use Rattle.ttx_tool.specs.Extract.{CountsCycle, CountsExtract};
 

@@ -2,7 +2,7 @@
 
 ghost use Rattle.std.specs.Prelude.{◌≡◌, IfSome};
 ghost use Rattle.ttx_cycle.specs.Counters.{inner_of, faults_of};
-ghost use Rattle.ttx_certify.specs.CertifyingFiles.{IsUntouched};
+ghost use Rattle.ttx_files.specs.Answers.{IsUntouched};
 ghost use Rattle.ttx_pages.specs.Listing.{pages_text};
 ghost use Rattle.ttx_pages.specs.Paging.{WritesTextOf, CountsPages};
 ghost use Rattle.ttx_tool.specs.Answers.{pages_answer, IsAnswered};

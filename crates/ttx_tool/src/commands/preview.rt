@@ -3,7 +3,7 @@
 ghost use Rattle.std.specs.Prelude.{◌≡◌, IfSome, IfOk, map, option_map, string_bytes};
 ghost use Rattle.ttx_cycle.specs.Counters.{inner_of, faults_of};
 ghost use Rattle.ttx_page.specs.Views.{page_of};
-ghost use Rattle.ttx_certify.specs.CertifyingFiles.{IsUntouched};
+ghost use Rattle.ttx_files.specs.Answers.{IsUntouched};
 ghost use Rattle.ttx_source.specs.Services.{pages_of};
 ghost use Rattle.ttx_tool.specs.FilesFaults.{is_tool_write};
 ghost use Rattle.ttx_tool.specs.Preview.{first_match, preview_text, preview_status, PreviewsText, Previews, CountsPreview};

@@ -9,7 +9,7 @@ ghost use Rattle.ttx_witness.specs.Certificates.{fields_of};
 ghost use Rattle.ttx_page.specs.Pages as definitions;
 ghost use Rattle.ttx_page.specs.declared.class.Class.TheVariants.{Any};
 ghost use Rattle.ttx_page.specs.Views.{page_of};
-ghost use Rattle.ttx_certify.specs.CertifyingFiles.{IsUntouched};
+ghost use Rattle.ttx_files.specs.Answers.{IsUntouched};
 ghost use Rattle.ttx_tool.specs.FilesFaults.{is_tool_write};
 ghost use Rattle.ttx_tool.specs.Refute.{counter_line, counter_numbers, saved, IsRefutation, IsClassFault, RefutesText, RefutesFiles};
 ghost use Rattle.ttx_tool.specs.Refute.{CountsThree, CountsRefute};

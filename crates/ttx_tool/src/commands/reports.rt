@@ -1,7 +1,7 @@
 //! Reports of faults: their lines and their statuses.
 
 ghost use Rattle.std.specs.Prelude.{◌≡◌, [], ◌∷◌, ◌++◌, IfOk, codes, string_bytes};
-ghost use Rattle.ttx_certify.specs.CertifyingFiles.{IsUntouched};
+ghost use Rattle.ttx_files.specs.Answers.{IsUntouched};
 ghost use Rattle.ttx_cycle.specs.Counters.{inner_of, faults_of};
 ghost use Rattle.ttx_extract.specs.Refusals.{refusal_text};
 ghost use Rattle.ttx_source.specs.Faults.{fault_of};

@@ -5,7 +5,7 @@ ghost use Rattle.ttx_cycle.specs.Counters.{inner_of, faults_of};
 ghost use Rattle.ttx_page.specs.Memories.{blank_memory};
 ghost use Rattle.ttx_page.specs.Views.{memory_of};
 ghost use Rattle.ttx_picture.specs.Forms.{picture_of};
-ghost use Rattle.ttx_certify.specs.CertifyingFiles.{IsUntouched};
+ghost use Rattle.ttx_files.specs.Answers.{IsUntouched};
 ghost use Rattle.ttx_tool.specs.FilesFaults.{is_tool_write};
 ghost use Rattle.ttx_tool.specs.Inspect.{CountsInspect};
 ghost use Rattle.ttx_tool.specs.Receive.{tuned_as, tuned_to, held_by};

@@ -1,5 +1,5 @@
 use Rattle.std.proofs.Common.{sym, subst}
-use Rattle.ttx_certify.specs.CertifyingFiles.{IsUntouched}
+use Rattle.ttx_files.specs.Answers.{IsUntouched}
 use Rattle.ttx_tool.proofs.AnsweredFaults.{pages_untouched}
 use Rattle.ttx_tool.specs.FilesFaults.{is_tool_write}
 use Rattle.ttx_tool.proofs.commands.book.run.Goals as goal
