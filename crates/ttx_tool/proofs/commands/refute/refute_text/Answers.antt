@@ -3,6 +3,7 @@ use Rattle.ttx_cycle.specs.Counters.{inner_of}
 use Rattle.ttx_cycle.specs.Cycles.{slots_of}
 use Rattle.ttx_witness.specs.Certificates.{fields_of}
 use Rattle.ttx_tool.proofs.ThreeInputs.{refuting_of}
+use Rattle.ttx_files.specs.declared.readers.Inputs.{Inputs}
 use Rattle.ttx_tool.proofs.FailedDevices.{counts_three}
 use Rattle.ttx_tool.specs.declared.commands.refute.Told.{Told}
 use Rattle.ttx_tool.proofs.commands.refute.refute_text.Goals as goal
@@ -17,4 +18,4 @@ returns-in-Ok-tell-clause-bytes g c =
 
 pub returns-in-Err-clause-faults : goal.returns-in-Err-clause-faults
 returns-in-Err-clause-faults g c =
-    counts_three _ Told _ _ _ _ _ _ _ _ _ c.in-Err.fault _ c.from_files.ensures c.in-Err.ensures.faults
+    counts_three Inputs Told _ _ _ _ _ _ _ _ _ c.in-Err.fault _ c.from_files.ensures c.in-Err.ensures.faults

@@ -13,7 +13,7 @@ returns-in-Eager-clause-bytes g c =
     (λ bytes. ShowsFile t holds c.args.tuning.now.start c.args.tuning.now.slots c.args.look.now bytes held
     (g.W.Write.contents (inner_of c.args.writer.now)) (g.W.Write.contents (inner_of c.show_by.new.writer)) c.show_by.result))
     Eager c.in-Eager.is _ c.blank-blank.ensures c.new-receiver.result
-    (c.new-receiver.ensures ∙ ap (λ (n : ℕ). tuned_at c.args.tuning.now.selection n (memory_of c.blank-blank.result)) c.count.ensures.value)
+    (c.new-receiver.ensures ∙ ap (λ (n : ℕ). tuned_at c.args.tuning.now.selection n (memory_of c.blank-blank.result)) c.count-lines.ensures.value)
     c.show_by.ensures.bytes
 
 pub returns-in-Careful-clause-bytes : goal.returns-in-Careful-clause-bytes
@@ -22,7 +22,7 @@ returns-in-Careful-clause-bytes g c =
     (λ bytes. ShowsFile t holds c.args.tuning.now.start c.args.tuning.now.slots c.args.look.now bytes held
     (g.W.Write.contents (inner_of c.args.writer.now)) (g.W.Write.contents (inner_of c.show_by-in-Careful.new.writer)) c.show_by-in-Careful.result))
     Careful c.in-Careful.is _ c.blank-blank.ensures c.new-receiver-in-Careful.result
-    (c.new-receiver-in-Careful.ensures ∙ ap (λ (n : ℕ). tuned_at c.args.tuning.now.selection n (memory_of c.blank-blank.result)) c.count.ensures.value)
+    (c.new-receiver-in-Careful.ensures ∙ ap (λ (n : ℕ). tuned_at c.args.tuning.now.selection n (memory_of c.blank-blank.result)) c.count-lines.ensures.value)
     c.show_by-in-Careful.ensures.bytes
 
 pub returns-in-Cleared-clause-bytes : goal.returns-in-Cleared-clause-bytes
@@ -31,5 +31,5 @@ returns-in-Cleared-clause-bytes g c =
     (λ bytes. ShowsFile t holds c.args.tuning.now.start c.args.tuning.now.slots c.args.look.now bytes held
     (g.W.Write.contents (inner_of c.args.writer.now)) (g.W.Write.contents (inner_of c.show_by-in-Cleared.new.writer)) c.show_by-in-Cleared.result))
     Cleared c.in-Cleared.is _ c.blank-blank.ensures c.new-receiver-in-Cleared.result
-    (c.new-receiver-in-Cleared.ensures ∙ ap (λ (n : ℕ). tuned_at c.args.tuning.now.selection n (memory_of c.blank-blank.result)) c.count.ensures.value)
+    (c.new-receiver-in-Cleared.ensures ∙ ap (λ (n : ℕ). tuned_at c.args.tuning.now.selection n (memory_of c.blank-blank.result)) c.count-lines.ensures.value)
     c.show_by-in-Cleared.ensures.bytes
