@@ -10,3 +10,5 @@ mod SomeEndedRun
 mod RepeatTwo
 mod ComingItems
 mod HeadersOfNumbers
+mod ShownStays
+mod NextHeaders

@@ -1,6 +1,8 @@
 pub mod EndedReceivers
 pub mod WholeBlocks
 pub mod SeenInTurn
+pub mod Distances
+pub mod Stays
 pub mod Laws
 pub mod PlannedSubpages
 pub mod RepeatTwo

@@ -2,7 +2,7 @@
 
 ghost use Rattle.ttx_subpages.specs.PlannedSubpages.{PlannedSendWhole, PlannedAreSeen};
 ghost use Rattle.ttx_subpages.specs.RepeatTwo.{IsMixed};
-ghost use Rattle.ttx_subpages.specs.Laws.{BlocksAreSeen, AcceptedAreSeen, BlocksAreHeld, AcceptedAreHeld, EachListRunsEnded};
+ghost use Rattle.ttx_subpages.specs.Laws.{BlocksAreSeen, AcceptedAreSeen, BlocksAreHeld, AcceptedAreHeld, StaysAreShown, EachListRunsEnded};
 
 /// In any stream: subpages of a number that are sent whole are seen in turn.
 pub fn blocks_are_seen()
@@ -60,6 +60,11 @@ pub fn planned_are_seen()
     accepted_are_seen();
     planned_send_whole();
 }
+
+/// A subpage that is seen in turn is shown from the end of its block for as many slots as `least_stay` says of the number.
+pub fn stays_are_shown()
+    ensures { StaysAreShown }
+{}
 
 /// Each receiver that shows a page only where it ends makes something of each list of slots.
 pub fn each_list_runs_ended()

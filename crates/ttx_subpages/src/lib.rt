@@ -6,7 +6,10 @@ mod lack;
 mod lacks;
 pub mod laws;
 mod numbers;
+mod sought;
+mod stays;
 
 pub use lack::Lack;
 pub use lacks::first_lack;
 pub use numbers::count_of;
+pub use stays::{greatest_interval, least_stay};
