@@ -8,3 +8,4 @@ pub mod PlannedSubpages
 pub mod RepeatTwo
 pub mod Numbers
 pub mod Lacks
+pub mod NumbersVerdicts

@@ -1,0 +1,41 @@
+-- What a verdict on all numbers with several pages says (profile).
+--
+--   IsYes                   a Yes of the certifier for receivers that show a page late
+--   IsNumbersVerdict        the verdict on a cycle, pages and a certificate
+--   MeansNumbers            if it is Yes, the subpages of each such number are seen in turn, and each stays
+use Rattle.std.specs.Prelude.{ℕ, ◌+◌, List}
+use Rattle.ttx_page.specs.Pages.{Page}
+use Rattle.ttx_page.specs.declared.selection.Selection.TheVariants.{AnySub}
+use Rattle.ttx_page.specs.Streams.{repeated}
+use Rattle.ttx_witness.specs.Coverage.{Certificate, limit}
+use Rattle.ttx_late.specs.LateVerdicts.{IsLateVerdict}
+use Rattle.ttx_late.specs.declared.verdict.LateVerdict.{LateVerdict}
+use Rattle.ttx_late.specs.declared.verdict.LateVerdict.TheVariants as late
+use Rattle.ttx_subpages.specs.WholeBlocks.{IsSubpage}
+use Rattle.ttx_subpages.specs.SeenInTurn.{SeenInTurn}
+use Rattle.ttx_subpages.specs.Numbers.{HasSeveral, AllSendWhole}
+use Rattle.ttx_subpages.specs.Lacks.{IsFirstLack}
+use Rattle.ttx_subpages.specs.Stays.{StaysFor, ShowsFor}
+use Rattle.ttx_subpages.specs.declared.verdict.NumbersVerdict.{NumbersVerdict}
+use Rattle.ttx_subpages.specs.declared.verdict.NumbersVerdict.TheVariants.{Yes, No, Lacking}
+
+abbrev pub IsYes : LateVerdict → Type 0
+IsYes (late.Yes gap) = Unit {0}
+IsYes (late.No reason) = ⊥
+IsYes (late.NeverShown page slot) = ⊥
+
+abbrev pub IsNumbersVerdict : List (List ℕ) → List Page → Certificate → NumbersVerdict → Type 0
+IsNumbersVerdict cycle pages w (Yes gap) = IsLateVerdict cycle pages w (late.Yes gap) × AllSendWhole (repeated cycle) pages w.lines
+IsNumbersVerdict cycle pages w (No verdict) = IsLateVerdict cycle pages w verdict × (IsYes verdict → ⊥)
+IsNumbersVerdict cycle pages w (Lacking lack) = (gap : ℕ) × IsLateVerdict cycle pages w (late.Yes gap) × IsFirstLack cycle pages w.lines lack
+
+-- seen in turn from the deadline and the gap on, and for as many slots as each block of the number stays
+pub record IsSeenByNumber (cycle : List (List ℕ)) (pages : List Page) (w : Certificate) (gap mag number : ℕ) (p : Page) : Type 0 where
+  pub turn : SeenInTurn (repeated cycle) pages w.class w.lines (limit w + gap) mag number p
+  pub stays : (n : ℕ) → StaysFor (repeated cycle) (AnySub mag number) n → ShowsFor (repeated cycle) pages w.class w.lines mag number p n
+
+abbrev pub MeansNumbers : List (List ℕ) → List Page → Certificate → NumbersVerdict → Type 0
+MeansNumbers cycle pages w (Yes gap) = (mag number : ℕ) → HasSeveral pages mag number → (p : Page) → IsSubpage pages mag number p →
+    IsSeenByNumber cycle pages w gap mag number p
+MeansNumbers cycle pages w (No verdict) = Unit {0}
+MeansNumbers cycle pages w (Lacking lack) = Unit {0}

@@ -1,0 +1,45 @@
+//! Certifying for viewers who key page numbers alone.
+
+ghost use Rattle.std.specs.Prelude.{IfOk};
+ghost use Rattle.ttx_cycle.specs.Cycles.{slots_of};
+ghost use Rattle.ttx_source.specs.Services.{pages_of};
+ghost use Rattle.ttx_witness.specs.Certificates.{certificate_of};
+ghost use Rattle.ttx_subpages.specs.NumbersVerdicts.{IsNumbersVerdict, MeansNumbers};
+
+use crate::lacks::first_lack;
+use crate::verdict::NumbersVerdict;
+use std::alloc::Global;
+use ttx_cycle::Cycle;
+use ttx_late::{LateVerdict, certify_late};
+use ttx_source::Service;
+use ttx_witness::{Certificate, NoMemory};
+
+/// The verdict of `certify_late`, and if that is Yes, whether the subpages of each number with several pages are sent whole.
+///
+/// If this verdict is Yes, then for each such number each of its subpages is seen in turn, whole, by whoever keys the number alone, and
+/// nothing else is: on each receiver that shows a page only where it ends, from any tuning slot, with any former memory, under each
+/// reception in which the text of the subpages comes right once a sending, whatever the certificate's repeat count. And each stays as
+/// long as `least_stay` says.
+pub fn certify_numbers(
+    alloc: Global,
+    cycle: &Cycle,
+    service: &Service,
+    certificate: &Certificate,
+) -> Result<NumbersVerdict, NoMemory>
+    ensures exact { IfOk result (IsNumbersVerdict (slots_of cycle.now) (pages_of service.now) (certificate_of certificate.now)) }
+    ensures seen { IfOk result (MeansNumbers (slots_of cycle.now) (pages_of service.now) (certificate_of certificate.now)) }
+{
+    crate::laws::accepted_are_seen();
+    crate::laws::stays_are_shown();
+    ttx_page::laws::pages_keep_their_rules();
+    ttx_witness::certificate_laws::certificates_keep_their_rules();
+    match certify_late(alloc, cycle, service, certificate)? {
+        LateVerdict::Yes { gap } => {
+            match first_lack(alloc, cycle, service.pages(), certificate.lines())? {
+                Some(lack) => Ok(NumbersVerdict::Lacking(lack)),
+                None => Ok(NumbersVerdict::Yes { gap }),
+            }
+        }
+        verdict => Ok(NumbersVerdict::No(verdict)),
+    }
+}
