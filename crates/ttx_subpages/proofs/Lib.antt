@@ -12,3 +12,4 @@ mod ComingItems
 mod HeadersOfNumbers
 mod ShownStays
 mod NextHeaders
+mod FirstPages

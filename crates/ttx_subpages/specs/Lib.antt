@@ -9,3 +9,4 @@ pub mod RepeatTwo
 pub mod Numbers
 pub mod Lacks
 pub mod NumbersVerdicts
+pub mod NumberReports

@@ -2,9 +2,11 @@
 --
 --   has_number, count_of    a page has this number; how many of a list have it
 --   HasSeveral              a number with two pages or more
+--   is_first, leads, firsts_of      the first page of a number; of one with several; all of these
 --   AllSendWholeAt, AllSendWhole    what a stream sends of all these numbers, at a slot and at each
-use Rattle.std.specs.Prelude.{ℕ, ◌≤◌, ℤ, Bool, ◌&&◌, ◌==◌, List}
-use Rattle.std.specs.List.{count_by}
+use Rattle.std.specs.Prelude.{ℕ, ◌≤◌, ℤ, Bool, false, ◌&&◌, ◌==◌, nat_le, List, filter, Option, Some, None}
+use Rattle.std.specs.List.{count_by, find}
+use Rattle.ttx_header.specs.Ids.{Id, same_id}
 use Rattle.ttx_page.specs.Pages.{Page}
 use Rattle.ttx_page.specs.Streams.{Stream}
 use Rattle.ttx_subpages.specs.WholeBlocks.{SendsWholeAt, SendsWhole}
@@ -23,3 +25,18 @@ AllSendWholeAt s pages lines h = (mag number : ℕ) → HasSeveral pages mag num
 
 abbrev pub AllSendWhole : Stream → List Page → ℕ → Type 0
 AllSendWhole s pages lines = (mag number : ℕ) → HasSeveral pages mag number → SendsWhole s pages lines mag number
+
+abbrev pub is_id : Id → Option Page → Bool
+is_id id None = false
+is_id id (Some p) = same_id p.id id
+
+-- the page is the first of the list with its number
+abbrev pub is_first : List Page → Page → Bool
+is_first pages p = is_id p.id (find (has_number p.id.mag p.id.page) pages)
+
+-- and the number has several
+abbrev pub leads : List Page → Page → Bool
+leads pages p = is_first pages p && nat_le 2 (count_of pages p.id.mag p.id.page)
+
+abbrev pub firsts_of : List Page → List Page
+firsts_of pages = filter (leads pages) pages
