@@ -33,7 +33,7 @@ mod SendingOrder
 mod PlannedSlots
 mod OwnLinks
 mod SentItems
-mod SteadyPages
+pub mod SteadyPages
 mod PlannedAcceptance
 mod PlannedFollowers
 mod PageLinks
