@@ -1,0 +1,10 @@
+mod AddedLines
+mod EndedPeriods
+mod OneSlotMore
+mod PiecesOfAir
+mod SeenFromAir
+mod TakenEditions
+mod ServedReceivers
+mod DecidedEndings
+mod OneJudgement
+mod FirstEditions

@@ -1,0 +1,9 @@
+pub mod Newsrooms
+pub mod Judgements
+pub mod Endings
+pub mod LogLines
+pub mod Airings
+pub mod Entries
+pub mod Steps
+pub mod Listings
+pub mod Laws

@@ -1,0 +1,93 @@
+-- The as-run log: what happened, and before which field (profile).
+--
+--   lists, lacking          whether a page with this id is in a list; how many of the pages have an id that no page of the other list has
+--   pages_text, seconds_text, deadline_text         a number of pages; a number of fields in seconds; a deadline
+--   field_text, at_field    the field before which something happens
+--   reason_line             why a next edition does not take over, as `splice` says it
+--   edition_text, change_text       what is said of a first edition, and of a change
+--   first_line, changed_line, kept_line, end_line   the lines of the log
+--   ending_line, lines_of   the line of an ending, and of many
+use Rattle.std.specs.Prelude.{ℕ, ◌+◌, ◌*◌, ◌/◌, ◌%◌, ◌==◌, Bool, ◌||◌, false, if◌then◌else◌, List, [], ◌∷◌, ◌++◌, length, codes}
+use Rattle.std.specs.Fmt.{decimal}
+use Rattle.ttx_header.specs.Ids.{Id, same_id}
+use Rattle.ttx_page.specs.Pages.{Page}
+use Rattle.ttx_certify.specs.VerdictLines.{page_words, slot_words}
+use Rattle.ttx_proof.specs.SpliceLines.{splice_line}
+use Rattle.ttx_proof.specs.declared.verdict.SpliceVerdict.TheVariants as splice
+use Rattle.ttx_playout.specs.Schedules.{Edition}
+use Rattle.ttx_playout.specs.declared.late_change.LateChange.{LateChange}
+use Rattle.ttx_playout.specs.declared.late_change.LateChange.TheVariants.{Yes, No, NeverShown, TooFar, Unfollowed}
+use Rattle.ttx_air.specs.Newsrooms.{Candidate}
+use Rattle.ttx_air.specs.Judgements.{is_yes}
+use Rattle.ttx_air.specs.Endings.{Ending, Held, Quiet, Unfit, Judged, Unjudged, playout_after, field_after}
+
+abbrev pub lists : List Page → Id → Bool
+lists [] id = false
+lists (p ∷ pages) id = same_id p.id id || lists pages id
+
+abbrev pub lacking : List Page → List Page → ℕ
+lacking others [] = 0
+lacking others (p ∷ pages) = if lists others p.id then lacking others pages else lacking others pages + 1
+
+abbrev pub pages_text : ℕ → List ℕ
+pages_text n = decimal n ++ (if n == 1 then codes " page" else codes " pages")
+
+-- 50 fields a second, to a hundredth of a second
+abbrev pub seconds_text : ℕ → List ℕ
+seconds_text fields = decimal (fields / 50) ++ 46 ∷ (48 + fields % 50 / 5) ∷ (48 + fields % 5 * 2) ∷ []
+
+-- where late receivers are not served: with numbers above those of `splice`
+abbrev pub reason_line : LateChange → List ℕ
+reason_line Yes = splice_line splice.Yes
+reason_line (No reason) = splice_line (splice.No reason)
+reason_line (NeverShown page slot) = slot_words (codes "no 7 never-shown") page slot ++ 10 ∷ []
+reason_line (TooFar gap) = codes "no 8 too-far " ++ decimal gap ++ 10 ∷ []
+reason_line (Unfollowed page) = page_words (codes "no 9 unfollowed") page ++ 10 ∷ []
+
+abbrev pub deadline_text : ℕ → List ℕ
+deadline_text fields = codes ", deadline " ++ decimal fields ++ codes " fields (" ++ seconds_text fields ++ codes " s)"
+
+abbrev pub field_text : ℕ → List ℕ
+field_text field = codes "field " ++ decimal field
+
+-- what happened before this field
+abbrev pub at_field : ℕ → List ℕ → List ℕ
+at_field field event = field_text field ++ event
+
+-- a first edition
+abbrev pub edition_text : Edition → List ℕ
+edition_text e =
+    pages_text (length e.pages) ++ deadline_text e.certificate.deadline ++ codes ", " ++ decimal (length e.cycle) ++ codes " slots\n"
+
+-- the pages that are new, those that are gone, and the deadline
+abbrev pub change_text : Edition → Edition → List ℕ
+change_text old new =
+    pages_text (lacking old.pages new.pages) ++ codes " new, " ++ decimal (lacking new.pages old.pages) ++ codes " gone, deadline "
+    ++ decimal new.certificate.deadline ++ codes "\n"
+
+abbrev pub first_line : List ℕ → Edition → List ℕ
+first_line mark first = at_field 0 (codes " on air" ++ mark ++ codes ": " ++ edition_text first)
+
+abbrev pub changed_line : ℕ → Edition → Candidate → List ℕ
+changed_line field old new = at_field field (codes " changed" ++ new.mark ++ codes ": " ++ change_text old new.edition)
+
+-- the reason ends the line
+abbrev pub kept_line : ℕ → List ℕ → List ℕ → List ℕ
+kept_line field mark reason = at_field field (codes " kept" ++ mark ++ codes ": " ++ reason)
+
+abbrev pub end_line : ℕ → List ℕ
+end_line field = at_field field (codes " end\n")
+
+-- of the edition that was on the air in the period that ended
+abbrev pub ending_line : ℕ → Edition → Ending → List ℕ
+ending_line field current Held = []
+ending_line field current Quiet = []
+ending_line field current (Unfit mark words) = kept_line field mark (words ++ codes "\n")
+ending_line field current (Judged next verdict) =
+    if is_yes verdict then changed_line field current next else kept_line field next.mark (reason_line verdict)
+ending_line field current (Unjudged next) = kept_line field next.mark (codes "out of memory\n")
+
+-- the newest one last
+abbrev pub lines_of : Edition → List Ending → List ℕ
+lines_of first [] = []
+lines_of first (ending ∷ past) = lines_of first past ++ ending_line (field_after first past) (playout_after first past).current ending

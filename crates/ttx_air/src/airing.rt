@@ -1,0 +1,111 @@
+//! An airing.
+
+ghost use Rattle.std.specs.Prelude.{◌≡◌, ℕ, ◌+◌, ◌*◌, ◌<◌, ◌≤◌, ◌^◌, List, length, take};
+ghost use Rattle.ttx_cycle.specs.Counters.{inner_of};
+ghost use Rattle.ttx_air.specs.Newsrooms as offers;
+ghost use Rattle.ttx_air.specs.Newsrooms.{candidate_of};
+ghost use Rattle.ttx_air.specs.Endings.{Ending};
+ghost use Rattle.ttx_air.specs.Airings.{Written, written_of, scene, Airs};
+ghost use Rattle.ttx_air.specs.Steps.{SoFar, SentMore};
+
+use crate::airtime::Airtime;
+use crate::candidate::Candidate;
+use crate::faults::AirFault;
+use crate::lines::{Entry, note_end};
+use crate::log::Outputs;
+use crate::newsroom::Newsroom;
+use crate::opening::opened;
+use crate::station::{Station, Terms, next_sent};
+use std::alloc::Global;
+use std::io::Write;
+use ttx_cycle::{Counted, WriteFault, write_bytes};
+use ttx_send::{Stamp, next_piece, put_slot, room, stamp_of, stamped};
+
+// The slots of one piece, and the time in them.
+#[derive(Drop)]
+struct Load {
+    slots: usize,
+    stamp: Stamp,
+}
+
+// The bytes of the next slots, which are sent at one moment.
+fn piece_bytes<N: Newsroom, L: Write>(
+    alloc: Global,
+    terms: Terms,
+    station: &mut Station,
+    load: &Load,
+    newsroom: &mut N,
+    log: &mut Counted<L>,
+) -> [u8; 5376]
+    requires some { 0 < terms.lines }
+    requires fits { load.now.slots ≤ 128 }
+    requires before { station.old.sent < 2 ^ 62 }
+    ensures long { length result ≡ 5376 }
+    ensures sent { station.new.sent ≡ station.old.sent + load.now.slots }
+    ensures so_far { (gone : N) (first : offers.Candidate) (begin : Written) (past : List Ending) (slots : List (List ℕ)) →
+        station.old.sent ≡ length slots →
+        SoFar N.gives terms.receivers terms.lines terms.started first gone begin station.old.on_air newsroom.old (written_of L.contents log.old) past slots →
+        SentMore N.gives terms.receivers terms.lines terms.started first gone begin station.new.on_air newsroom.new (written_of L.contents log.new)
+        slots load.now.stamp.moment load.now.slots (take (42 * load.now.slots) result) }
+{
+    let mut bytes = room();
+    for at in 0..load.slots {
+        let slot = next_sent(alloc, terms, station, newsroom, log);
+        put_slot(&mut bytes, 42 * at, &stamped(&slot, &load.stamp));
+    }
+    bytes
+}
+
+/// Puts a service on the air, for so many fields: the first edition, period after period, until the newsroom hands out one that takes over.
+///
+/// Fields have as many lines as the first certificate says, and page headers and packets 8/30 carry the time of their field. At the end of each
+/// period, once the edition on the air has been sent for a deadline, the newsroom is asked. What it hands out takes over if the change serves
+/// the receivers; otherwise the edition on the air stays. The log has a line for each. A log that fails, or want of memory at a change, does not
+/// stop the air. If a write of packets fails, exactly the first `written` bytes have been written.
+pub fn air<N: Newsroom, L: Write, W: Write>(
+    alloc: Global,
+    first: Candidate,
+    airtime: &Airtime,
+    newsroom: &mut N,
+    outputs: &mut Outputs<L, W>,
+) -> Result<(), AirFault>
+    ensures { Airs N.gives airtime.now (candidate_of first)
+        (scene newsroom.old (written_of L.contents outputs.old.log) (W.contents (inner_of outputs.old.packets)))
+        (scene newsroom.new (written_of L.contents outputs.new.log) (W.contents (inner_of outputs.new.packets))) result }
+{
+    let started = outputs.log.faults();
+    let on_air = opened(alloc, first, airtime.receivers, &mut outputs.log)?;
+    let lines = usize::from(on_air.current().certificate.lines());
+    let terms = Terms {
+        receivers: airtime.receivers,
+        lines,
+        started,
+    };
+    let mut station = Station { on_air, sent: 0 };
+    let mut field = 0;
+    while field < airtime.fields {
+        let piece = next_piece(field, airtime.fields, lines);
+        let load = Load {
+            slots: piece.slots,
+            stamp: stamp_of(airtime.start.later(field)),
+        };
+        let sent = station.sent;
+        let bytes = piece_bytes(
+            alloc,
+            terms,
+            &mut station,
+            &load,
+            newsroom,
+            &mut outputs.log,
+        );
+        if let Err(fault) = write_bytes(&mut outputs.packets, &bytes[..42 * piece.slots]) {
+            return Err(AirFault::Write(WriteFault {
+                written: 42 * sent + fault.written,
+            }));
+        }
+        field += piece.fields;
+    }
+    let field = airtime.fields as usize;
+    note_end(&mut outputs.log, Entry { started, field });
+    Ok(())
+}
