@@ -213,3 +213,11 @@ air_refused gives airtime first before after (Start refusal) is same = (is, same
 air_refused gives airtime first before after (NeverShown page slot) is same = (is, same)
 air_refused gives airtime first before after (TooFar gap) is same = (is, same)
 air_refused gives airtime first before after (Write fault) is same = absurd is
+
+pub so_far_at : {N : Type 0} {gives : N → Edition → ℕ → News → N → Type 0} {receivers : Receivers} {lines started : ℕ} {first : Candidate} {gone : N}
+    {begin : Written} {o : OnAir} {news : N} {log : Written} {start : Moment} {before after : Option (List ℕ)} {n m : ℕ} → n ≡ m →
+    AirSoFar gives receivers lines started first gone begin o news log start before after n →
+    AirSoFar gives receivers lines started first gone begin o news log start before after m
+so_far_at {gives = gives} {receivers = receivers} {lines = lines} {started = started} {first = first} {gone = gone} {begin = begin} {o = o} {news = news}
+    {log = log} {start = start} {before = before} {after = after} e s =
+    subst (AirSoFar gives receivers lines started first gone begin o news log start before after) e s
