@@ -1,12 +1,12 @@
 -- What happens at each end of a period follows from what the newsroom answers.
-use Rattle.std.proofs.Common.{◌≡◌, ◌⊎◌, inl, inr, ℕ, ◌<◌, ◌≤◌, true, false, Bool, if◌then◌else◌, List, [], ◌∷◌, Option, None, Some, refl, sym, ap, ◌∙◌, subst, arith}
+use Rattle.std.proofs.Common.{◌≡◌, ◌⊎◌, inl, inr, ℕ, ◌<◌, ◌≤◌, true, if◌then◌else◌, List, [], ◌∷◌, None, Some, refl, sym, ap, ◌∙◌, subst, arith}
 use Rattle.ttx_witness.specs.Coverage.{limit}
 use Rattle.ttx_playout.specs.Schedules.{Edition, IsEdition}
 use Rattle.ttx_playout.specs.declared.late_change.LateChange.{LateChange}
 use Rattle.ttx_air.specs.declared.airtime.Receivers.{Receivers}
-use Rattle.ttx_air.specs.Newsrooms.{Candidate, News, Nothing, Next, Refused}
+use Rattle.ttx_air.specs.Newsrooms.{News, Nothing, Next, Refused}
 use Rattle.ttx_air.specs.Judgements.{is_yes, IsJudgement}
-use Rattle.ttx_air.specs.Endings.{Ending, Held, Quiet, Unfit, Judged, Unjudged, taken_by, current_after, with_period, playout_after, IsEnding, AreEndings, answer_at}
+use Rattle.ttx_air.specs.Endings.{Ending, Held, Quiet, Unfit, Judged, Unjudged, taken_by, current_after, with_period, playout_after, IsEnding}
 use Rattle.ttx_air.specs.Laws.{IsAnswer, HasMemory, AreAnswers, IsNews, AreNews, EndingsAreDecided}
 use Rattle.ttx_air.proofs.OneJudgement.{JudgementsAreOne}
 

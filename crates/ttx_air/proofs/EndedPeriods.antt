@@ -1,9 +1,9 @@
 -- What happened at the end of a period.
-use Rattle.std.proofs.Common.{◌≡◌, ◌⊎◌, inl, inr, ℕ, ◌<◌, ◌≤◌, Bool, true, false, Option, Some, None, if◌then◌else◌, List, refl, sym, ap, ◌∙◌, subst, arith}
+use Rattle.std.proofs.Common.{◌≡◌, inl, inr, ℕ, ◌<◌, Bool, true, false, Option, Some, None, if◌then◌else◌, List, refl, sym, ap, ◌∙◌, subst}
 use Rattle.std.proofs.lemmas.Bool.{cases_lt}
 use Rattle.ttx_witness.specs.Coverage.{limit}
 use Rattle.ttx_proof.specs.declared.verdict.SpliceVerdict.TheVariants as splice
-use Rattle.ttx_playout.specs.Schedules.{Edition, Showing, taken}
+use Rattle.ttx_playout.specs.Schedules.{Edition}
 use Rattle.ttx_playout.specs.Takeovers.{current_of, at_of, held_of, IsTime, IsChangeVerdict, HasSent}
 use Rattle.ttx_playout.specs.declared.state.OnAir.{OnAir}
 use Rattle.ttx_playout.specs.declared.late_change.LateChange.{LateChange}
@@ -12,7 +12,7 @@ use Rattle.ttx_air.specs.declared.airtime.Receivers.{Receivers}
 use Rattle.ttx_air.specs.declared.airtime.Receivers.TheVariants.{AtOnce, Late}
 use Rattle.ttx_air.specs.Newsrooms.{Candidate, News, Next}
 use Rattle.ttx_air.specs.Judgements.{is_yes, IsJudgement}
-use Rattle.ttx_air.specs.Endings.{Ending, Held, Quiet, Unfit, Judged, Unjudged, taken_by, current_after, held_after, later_after, IsEnding, answer_at, Asked}
+use Rattle.ttx_air.specs.Endings.{Ending, Judged, Unjudged, taken_by, current_after, held_after, later_after, IsEnding, answer_at, Asked}
 use Rattle.ttx_air.specs.LogLines.{reason_line, changed_line, kept_line, ending_line}
 use Rattle.ttx_air.specs.Airings.{Written}
 use Rattle.ttx_air.specs.Entries.{Adds}

@@ -1,15 +1,14 @@
 -- Of two judgements of the same change that are right, each is the other.
-use Rattle.std.proofs.Common.{◌≡◌, ◌⊎◌, inl, inr, ℕ, ◌<◌, ◌≤◌, ◌==◌, ◌&&◌, true, false, Bool, pos, List, length, slice_get, slice_index_or, Some, []}
+use Rattle.std.proofs.Common.{◌≡◌, ◌⊎◌, inl, inr, ℕ, ◌<◌, ◌==◌, ◌&&◌, true, false, pos, List, slice_get, Some}
 use Rattle.std.proofs.Common.{refl, sym, ap, ◌∙◌, subst, arith, eqb-true}
 use Rattle.std.proofs.lemmas.Bool.{cases_order, and_parts}
 use Rattle.ttx_header.specs.Ids.{Id, same_id}
 use Rattle.ttx_page.specs.Packets.{Packet, Empty, Unreadable, Header, Row, Links, Info, Other, packet_of}
 use Rattle.ttx_page.specs.Pages.{Page}
 use Rattle.ttx_page.specs.Streams.{repeated, heads_page}
-use Rattle.ttx_late.specs.Followed.{AreFollowedWithin, IsGreatestGap, IsFirstUnshown}
+use Rattle.ttx_late.specs.Followed.{AreFollowedWithin, IsGreatestGap}
 use Rattle.ttx_late.specs.LateVerdicts.{IsNeverShown}
 use Rattle.ttx_proof.specs.declared.verdict.SpliceReason.{SpliceReason}
-use Rattle.ttx_proof.specs.declared.verdict.SpliceVerdict.{SpliceVerdict}
 use Rattle.ttx_proof.specs.declared.verdict.SpliceVerdict.TheVariants as splice
 use Rattle.ttx_proof.specs.Laws.{IsSplice}
 use Rattle.ttx_proof.specs.Meaning.{SpliceVerdictsAreOne}

@@ -1,14 +1,12 @@
 -- Where late receivers are served, each page that stays is followed by another page number in time.
-use Rattle.std.proofs.Common.{◌≡◌, ℕ, true, false, List, [], ◌∷◌, length, Option, None, Some, sym, ap, ◌∙◌, subst}
+use Rattle.std.proofs.Common.{◌≡◌, ℕ, List, [], ◌∷◌, length, sym, ◌∙◌, subst}
 use Rattle.ttx_playout.specs.Schedules.{Edition, Showing, edition_at, one_more}
 use Rattle.ttx_playout.specs.LateSchedules.{IsFollowedThrough, AllAreFollowedAcross}
 use Rattle.ttx_playout.specs.Laws.{ThroughIsWhile, ThroughGoesOn}
-use Rattle.ttx_late.specs.Followed.{AreFollowedWithin}
-use Rattle.ttx_playout.specs.declared.late_change.LateChange.{LateChange}
 use Rattle.ttx_playout.specs.declared.late_change.LateChange.TheVariants.{Yes, No, NeverShown, TooFar, Unfollowed}
 use Rattle.ttx_air.specs.declared.airtime.Receivers.TheVariants.{Late}
 use Rattle.ttx_air.specs.Newsrooms.{News}
-use Rattle.ttx_air.specs.Judgements.{IsJudgement, IsServed}
+use Rattle.ttx_air.specs.Judgements.{IsServed}
 use Rattle.ttx_air.specs.Endings.{Ending, Held, Quiet, Unfit, Judged, Unjudged, taken_by, playout_after, later_after, IsEnding, AreEndings}
 use Rattle.ttx_air.specs.Laws.{EditionsAreTaken, AirIsShown, AiringIsShown}
 use Rattle.ttx_air.proofs.TakenEditions.{last_more}

@@ -1,5 +1,5 @@
 -- Which editions take over.
-use Rattle.std.proofs.Common.{◌≡◌, ℕ, List, [], ◌∷◌, ◌++◌, length, map, Option, None, Some, refl, sym, ap, ◌∙◌}
+use Rattle.std.proofs.Common.{◌≡◌, List, [], ◌∷◌, ◌++◌, length, map, Option, None, Some, refl, sym, ap, ◌∙◌}
 use Rattle.ttx_playout.specs.Schedules.{Edition, Showing, edition_at, one_more, taken}
 use Rattle.ttx_air.specs.Endings.{Ending, taken_by, taken_in, with_taken, playout_after, later_after, current_after}
 use Rattle.ttx_air.specs.Laws.{EditionsAreTaken}

@@ -4,7 +4,7 @@
 --   IsAtOnceChange, IsJudgement     the verdict on a change for receivers that show rows as they come; for the receivers that have to be served
 --   IsServed                the first edition serves them, once the certifier has accepted it
 --   IsRefused               why a first edition is not put on the air
-use Rattle.std.specs.Prelude.{◌≡◌, ℕ, ◌<◌, Bool, true, false, Err}
+use Rattle.std.specs.Prelude.{◌≡◌, ◌<◌, Bool, true, false, Err}
 use Rattle.ttx_page.specs.declared.class.Class.TheVariants.{Any}
 use Rattle.ttx_witness.specs.Coverage.{Accepts}
 use Rattle.ttx_late.specs.Followed.{AreFollowedWithin, IsGreatestGap}

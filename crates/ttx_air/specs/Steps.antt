@@ -5,7 +5,7 @@
 --   IsEnded                 the end of a period, of what is on the air
 --   SoFar                   the head-end so far, with its log
 --   SentMore                slots that go out in one piece
-use Rattle.std.specs.Prelude.{◌≡◌, ◌⊎◌, ℕ, true, false, codes, List, [], ◌++◌, length, map, Option, Result, Ok, Err}
+use Rattle.std.specs.Prelude.{◌≡◌, ◌⊎◌, ℕ, true, false, codes, List, [], ◌++◌, length, map, Result, Ok, Err}
 use Rattle.ttx_cycle.specs.Files.{file_of}
 use Rattle.ttx_send.specs.Times.{Moment}
 use Rattle.ttx_send.specs.Airing.{at_time}

@@ -1,4 +1,4 @@
-use Rattle.std.proofs.Common.{sym, ◌∙◌, subst}
+use Rattle.std.proofs.Common.{◌∙◌, subst}
 use Rattle.ttx_air.specs.Judgements.{IsServed}
 use Rattle.ttx_air.specs.LogLines.{first_line}
 use Rattle.ttx_air.proofs.AddedLines.{adds_same, adds_since}
