@@ -5,8 +5,9 @@ use Rattle.std.proofs.lemmas.Bool.{cases_lt}
 use Rattle.std.proofs.Math.Seq.{drop-cons}
 use Rattle.std.proofs.Math.ListN.{drop_of_length-le}
 use Rattle.ttx_info.specs.Infos.{InfoFields}
-use Rattle.ttx_extract.specs.Extracts.{slot_info, first_info, info_or}
-use Rattle.ttx_extract.specs.FoundInfos.{TellsInfo}
+use Rattle.ttx_extract.specs.FirstPackets.{slot_info, first_info, info_or}
+use Rattle.ttx_extract.specs.Extracts.{HasOffset}
+use Rattle.ttx_extract.specs.FoundInfos.{TellsInfo, MinusZero}
 use Rattle.ttx_extract.specs.declared.infos.FoundInfo.{FoundInfo}
 
 first_of : (slot : List ℕ) (slots : List (List ℕ)) → first_info (slot ∷ slots) ≡ info_or (slot_info slot) (first_info slots)
@@ -43,3 +44,10 @@ none_more slots i before is n lt = elim (cases_lt n i) as (λ _. slot_info (get_
 pub info_told : (slots : List (List ℕ)) (o : Option FoundInfo) → TellsInfo slots o → option_map (λ f. f.info) o ≡ first_info slots
 info_told slots None told = sym told
 info_told slots (Some found) told = sym told.0
+
+-- where what was found has no minus zero, the first packet 8/30 has none
+pub offset_told : (slots : List (List ℕ)) (o : Option FoundInfo) → TellsInfo slots o → ((slot : ℕ) → MinusZero o slot → ⊥) → HasOffset slots
+offset_told slots None told none = λ fields first halves west. absurd (let h : None ≡ Some fields = sym told ∙ first in cc)
+offset_told slots (Some found) told none = λ fields first halves west.
+    let same : found.info ≡ fields = let h : Some found.info ≡ Some fields = sym told.0 ∙ first in cc in
+    none found.slot (refl, ap (λ f. f.halves) same ∙ halves, ap (λ f. f.west) same ∙ west)

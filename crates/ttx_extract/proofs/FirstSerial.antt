@@ -3,7 +3,7 @@ use Rattle.std.proofs.Common.{◌≡◌, ℕ, suc, ◌+◌, ◌<◌, ◌≤◌, 
 use Rattle.std.proofs.Math.Seq.{drop-cons}
 use Rattle.std.proofs.Math.ListN.{drop_of_length-le}
 use Rattle.ttx_page.specs.Packets.{packet_of}
-use Rattle.ttx_extract.specs.Extracts.{header_serial, first_serial, serial_or}
+use Rattle.ttx_extract.specs.FirstPackets.{header_serial, first_serial, serial_or}
 
 first_of : (slot : List ℕ) (slots : List (List ℕ)) → first_serial (slot ∷ slots) ≡ serial_or (header_serial (packet_of slot)) (first_serial slots)
 unfolding first_serial

@@ -6,7 +6,13 @@ mod FirstInfos
 mod FirstReasons
 mod FirstSerial
 mod Listed
-mod Answered
+mod BlankPages
+mod Blaming
+mod NamedIds
+mod SentRows
+mod SentDrafts
+mod SentAgain
+mod SameLists
 mod AuthoredIds
 mod Rising
 mod SamePages

@@ -1,7 +1,19 @@
 -- What is true of each element of a list, place by place.
-use Rattle.std.proofs.Common.{◌≡◌, ℕ, ◌+◌, ◌<◌, ◌≤◌, List, length, slice_get, Some, subst, inl, inr, arith}
+use Rattle.std.proofs.Common.{◌≡◌, ℕ, ◌+◌, ◌<◌, ◌≤◌, List, length, map, slice_get, Option, Some, None, refl, sym, ◌∙◌, subst, inl, inr, arith}
+use Rattle.std.specs.Option.{option_map}
 use Rattle.std.proofs.lemmas.Bool.{cases_lt}
-use Rattle.std.proofs.lemmas.Option.{slice_get_within}
+use Rattle.std.proofs.lemmas.Option.{slice_get_within, slice_get-map}
+
+some_value : {B : Type 0} (a b : B) → Some a ≡ Some b → a ≡ b
+some_value a b h = cc
+
+pub mapped : {A B : Type 0} (f : A → B) (o : Option A) (y : B) → option_map f o ≡ Some y → (x : A) × (o ≡ Some x) × (f x ≡ y)
+mapped f None y e = absurd (let h : None ≡ Some y = e in cc)
+mapped f (Some x) y e = (x, refl, some_value (f x) y e)
+
+-- the place of an element of a list that a function made
+pub made_at : {A B : Type 0} (f : A → B) (xs : List A) (n : ℕ) (y : B) → slice_get (map f xs) n ≡ Some y → (x : A) × (slice_get xs n ≡ Some x) × (f x ≡ y)
+made_at f xs n y at = mapped f (slice_get xs n) y (sym (slice_get-map f xs n) ∙ at)
 
 module _ {A : Type 0} (P : A → Type 0) (xs : List A) where
   abbrev pub Before : ℕ → Type 0

@@ -21,16 +21,10 @@ use Rattle.ttx_extract.specs.Extracts.{IsSentService, IsOfPages, IsSentOften}
 use Rattle.ttx_extract.specs.Often.{often_for}
 use Rattle.ttx_extract.specs.FirstSent.{HeadIsSent, IsBefore, first_slot, first_sent}
 use Rattle.ttx_extract.proofs.Listed.{same_one}
+use Rattle.ttx_extract.proofs.Lists.{mapped}
 use Rattle.ttx_extract.proofs.Slots.{abs_is, slot_is}
 use Rattle.ttx_extract.proofs.Rising.{Rises, Within, same_rising}
 use Rattle.ttx_extract.proofs.SamePages.{same_page}
-
-some_value : {B : Type 0} (a b : B) → Some a ≡ Some b → a ≡ b
-some_value a b h = cc
-
-mapped : {A B : Type 0} (f : A → B) (o : Option A) (y : B) → option_map f o ≡ Some y → (x : A) × (o ≡ Some x) × (f x ≡ y)
-mapped f None y e = absurd (let h : None ≡ Some y = e in cc)
-mapped f (Some x) y e = (x, refl, some_value (f x) y e)
 
 -- the page in a place is an authored one's
 authored_at : (service : ServiceFields) (n : ℕ) (p : Page) → slice_get (pages_of service) n ≡ Some p →

@@ -23,3 +23,11 @@ pub pushed : {A B C : Type 0} (f : A → C) (g : B → C) (xs : List A) (i : ℕ
 pushed f g xs i d ys zs y lt before made grown =
     ap (map g) grown ∙ map-append g ys (y ∷ []) ∙ ap (λ l. l ++ g y ∷ []) before ∙ ap (λ z. map f (take i xs) ++ z ∷ []) made
     ∙ sym (map_more f xs i d lt)
+
+-- the same where the list is as g sees it
+pub pushed_as : {B C : Type 0} (g : B → C) (xs : List C) (i : ℕ) (d : C) (ys zs : List B) (y : B) → i < length xs → map g ys ≡ take i xs →
+    g y ≡ get_or xs i d → zs ≡ ys ++ y ∷ [] → map g zs ≡ take (i + 1) xs
+pushed_as g xs i d ys zs y lt before made grown =
+    let one : suc i ≡ i + 1 = omega arith in
+    ap (map g) grown ∙ map-append g ys (y ∷ []) ∙ ap (λ l. l ++ g y ∷ []) before ∙ ap (λ z. take i xs ++ z ∷ []) made
+    ∙ sym (take-suc xs i d lt) ∙ ap (λ n. take n xs) one

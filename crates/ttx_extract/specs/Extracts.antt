@@ -1,25 +1,21 @@
 -- What a service says of a cycle (profile), and why a cycle has no service text.
 --
 --   IsOfPages, AreOfPages    a header is a listed page's, or a time-filling one; each header is
---   slot_info, first_info    the packet 8/30 format 1 of a slot; the first of a cycle
---   header_serial, first_serial    C11 of a header; of the first header of a cycle
 --   IsSentOften    how often a page is sent that has so many headers
 --   IsSentService           the service says what the cycle sends first
 --   AreSteady, IsExtract    its pages are sent unchanged; the service of the cycle's text
 --   IsFirstReason           the reason of the first page that isn't sent unchanged
 --   Differs, IsUnlikeFirst  two packets of an item with different contents; an item's first slot, and one that differs from it
 --   NamesItem, IsConflict   the item of a reason; the same of the reason of the first page that isn't sent unchanged
---   IsMinusZero             the first packet 8/30 has an offset that no text says
---   IsDraft                 what a text is written of
+--   IsMinusZero, HasOffset  the first packet 8/30 has an offset that no text says; it has none
+--   IsWritten, IsSaid       the offset and the ids are such as a service has; the text of what the cycle sends says just that
+--   IsNotSaid               why the text doesn't
 --   Blames, AnswersFault    why pages aren't sent unchanged; why there is no text
 --   Extracts                what is answered for a cycle and lines of a field
-use Rattle.std.specs.Prelude.{◌≡◌, ◌⊎◌, ℕ, ◌<◌, pos, unsigned_abs, Bool, true, false, List, [], ◌∷◌, take, length, Contains, slice_get, slice_index_or, string_bytes, ⊤, Option, Some}
-use Rattle.std.specs.Prelude.{None, Result, Ok, Err}
-use Rattle.ttx_packet.specs.Slots.{Kind, kind_of, IsInfo}
+use Rattle.std.specs.Prelude.{◌≡◌, ◌⊎◌, ℕ, ◌+◌, ◌<◌, ◌≤◌, pos, unsigned_abs, true, List, [], ◌∷◌, take, length, Contains, slice_get, slice_index_or}
+use Rattle.std.specs.Prelude.{string_bytes, ⊤, Option, Some, None, Result, Ok, Err}
 use Rattle.ttx_header.specs.Ids.{Id}
-use Rattle.ttx_header.specs.Control.{c11}
-use Rattle.ttx_info.specs.Infos.{InfoFields, info_of}
-use Rattle.ttx_info.specs.declared.faults.InfoFault.{InfoFault}
+use Rattle.ttx_info.specs.Infos.{InfoFields}
 use Rattle.ttx_page.specs.Packets.{Packet, Header, Row, Links, packet_of}
 use Rattle.ttx_page.specs.Pages.{Page}
 use Rattle.ttx_page.specs.declared.item.Item.{Item}
@@ -34,13 +30,16 @@ use Rattle.ttx_witness.specs.declared.faults.reason.Reason.{Reason as WitnessRea
 use Rattle.ttx_witness.specs.declared.faults.reason.Reason.TheVariants.{HeadDiffers, RowDiffers, LinksDiffer}
 use Rattle.ttx_certify.specs.CertifyingFiles.{IsServiceText}
 use Rattle.ttx_extract.specs.Often.{often_for}
+use Rattle.ttx_extract.specs.FirstPackets.{slot_info, first_info, first_serial}
 use Rattle.ttx_extract.specs.FirstSent.{IsSentPage, AreInOrder}
+use Rattle.ttx_extract.specs.NamedPages.{named}
+use Rattle.ttx_extract.specs.Naming.{IsNamingFault}
+use Rattle.ttx_extract.specs.Drafts.{sent_draft}
 use Rattle.ttx_extract.specs.Made.{IsNotMade}
 use Rattle.ttx_extract.specs.ServiceTexts.{service_text}
-use Rattle.ttx_extract.specs.SentPages.{IsGathered}
 use Rattle.ttx_extract.specs.declared.extracting.Extracted.{Extracted}
 use Rattle.ttx_extract.specs.declared.faults.ExtractFault.{ExtractFault}
-use Rattle.ttx_extract.specs.declared.faults.ExtractFault.TheVariants.{Conflict, Reason, Info, Unsaid, NoMemory}
+use Rattle.ttx_extract.specs.declared.faults.ExtractFault.TheVariants.{Conflict, Reason, Info, Service, TooLong, Unsaid, NoMemory}
 
 -- page number FF is time-filling (EN 300 706, 9.3.1)
 abbrev pub IsOfPages : List Id → Packet → Type 0
@@ -49,35 +48,6 @@ IsOfPages ids packet = ⊤
 
 abbrev pub AreOfPages : List Id → List (List ℕ) → Type 0
 AreOfPages ids slots = (n : ℕ) (slot : List ℕ) → slice_get slots n ≡ Some slot → IsOfPages ids (packet_of slot)
-
-abbrev pub read_fields : Kind → Result InfoFields InfoFault → Option InfoFields
-read_fields IsInfo (Ok fields) = Some fields
-read_fields kind result = None
-
-unfoldable pub slot_info : List ℕ → Option InfoFields
-slot_info slot = read_fields (kind_of slot) (info_of slot)
-
-abbrev pub info_or : Option InfoFields → Option InfoFields → Option InfoFields
-info_or None b = b
-info_or (Some a) b = Some a
-
-unfoldable pub first_info : List (List ℕ) → Option InfoFields
-first_info [] = None
-first_info (slot ∷ slots) = info_or (slot_info slot) (first_info slots)
-
--- C11 of a header
-abbrev pub header_serial : Packet → Option Bool
-header_serial (Header id control text) = Some (c11 control)
-header_serial packet = None
-
-abbrev pub serial_or : Option Bool → Bool → Bool
-serial_or None b = b
-serial_or (Some a) b = a
-
--- C11 of the first header, and clear where there is none
-unfoldable pub first_serial : List (List ℕ) → Bool
-first_serial [] = false
-first_serial (slot ∷ slots) = serial_or (header_serial (packet_of slot)) (first_serial slots)
 
 abbrev pub AreSteady : List (List ℕ) → ServiceFields → Type 0
 AreSteady slots service = (n : ℕ) (p : Page) → slice_get (pages_of service) n ≡ Some p → Steady (repeated slots) (pages_of service) p
@@ -155,17 +125,24 @@ pub record IsMinusZero (slots : List (List ℕ)) (slot : ℕ) : Type 0 where
   pub none : fields.halves ≡ 0
   pub negative : fields.west ≡ true
 
--- What a text is written of: these lines, C11 of the first header, the first packet 8/30, and pages that say what slots of the cycle
--- say.
-pub record IsDraft (slots : List (List ℕ)) (lines : ℕ) (d : ServiceFields) : Type 0 where
-  pub lines_are : d.lines ≡ lines
-  pub serial : d.serial ≡ first_serial slots
-  pub info : d.info ≡ first_info slots
-  pub pages : IsGathered slots (first_serial slots) d.pages
+-- the offset of the first packet 8/30, if there is one, is no minus zero
+abbrev pub HasOffset : List (List ℕ) → Type 0
+HasOffset slots = (fields : InfoFields) → first_info slots ≡ Some fields → fields.halves ≡ 0 → fields.west ≡ true → ⊥
 
--- the text of what the cycle sends
-abbrev pub IsDraftText : List (List ℕ) → ℕ → List ℕ → Type 0
-IsDraftText slots lines text = (d : ServiceFields) × IsDraft slots lines d × (text ≡ service_text d)
+-- the pages that headers name can be those of a service, and so can the offset
+pub record IsWritten (slots : List (List ℕ)) : Type 0 where
+  pub offset : HasOffset slots
+  pub few : length (named slots) ≤ 2000
+  pub subs : (n : ℕ) (id : Id) → slice_get (named slots) n ≡ Some id → id.sub ≡ 0x3f7f → ⊥
+
+-- the text of what the cycle sends says just that
+pub record IsSaid (slots : List (List ℕ)) (lines : ℕ) : Type 0 where
+  pub written : IsWritten slots
+  pub says : IsServiceText (service_text (sent_draft slots lines)) (sent_draft slots lines)
+
+-- the text of what the cycle sends is too long, or no service definition, or says something else
+abbrev pub IsNotSaid : List (List ℕ) → ℕ → ExtractFault → Type 0
+IsNotSaid slots lines fault = IsWritten slots × IsNotMade (sent_draft slots lines) fault
 
 -- the first page that isn't sent unchanged: two slots that differ, or its reason
 abbrev pub Blames : List (List ℕ) → ℕ → ExtractFault → Type 0
@@ -173,21 +150,14 @@ Blames slots lines (Conflict page item first second) = IsConflict slots lines pa
 Blames slots lines (Reason reason) = (page : Id) × IsFirstReason slots lines page reason
 Blames slots lines fault = ⊥
 
--- why a service that was read isn't the cycle's: its pages aren't sent unchanged, or it isn't what is sent first
-abbrev pub IsCheckFault : List (List ℕ) → ℕ → ExtractFault → Type 0
-IsCheckFault slots lines (Conflict page item first second) = IsConflict slots lines page item first second
-IsCheckFault slots lines (Reason reason) = (page : Id) × IsFirstReason slots lines page reason
-IsCheckFault slots lines Unsaid = ⊤
-IsCheckFault slots lines NoMemory = ⊤
-IsCheckFault slots lines fault = ⊥
-
--- why there is no text
+-- why there is no text; of these answers, but for that of wanting memory, one is true at most, and none where there is a text
 abbrev pub AnswersFault : List (List ℕ) → ℕ → ExtractFault → Type 0
-AnswersFault slots lines (Conflict page item first second) = IsConflict slots lines page item first second
-AnswersFault slots lines (Reason reason) = (page : Id) × IsFirstReason slots lines page reason
 AnswersFault slots lines (Info slot) = IsMinusZero slots slot
+AnswersFault slots lines (Service error) = (HasOffset slots × IsNamingFault (named slots) (Service error)) ⊎ IsNotSaid slots lines (Service error)
+AnswersFault slots lines TooLong = IsNotSaid slots lines TooLong
+AnswersFault slots lines Unsaid = IsNotSaid slots lines Unsaid
 AnswersFault slots lines NoMemory = ⊤
-AnswersFault slots lines fault = (d : ServiceFields) × IsDraft slots lines d × IsNotMade d fault
+AnswersFault slots lines fault = IsSaid slots lines × Blames slots lines fault
 
 abbrev pub Extracts : List (List ℕ) → ℕ → Result Extracted ExtractFault → Type 0
 Extracts slots lines (Ok extracted) = IsServiceText (string_bytes extracted.text) extracted.service × IsExtract slots lines extracted.service

@@ -4,7 +4,7 @@
 --   MinusZero               the slot of one with an offset that no text says
 --   OkTrue                  the answer is yes
 use Rattle.std.specs.Prelude.{◌≡◌, ℕ, ◌<◌, List, [], length, Bool, true, slice_index_or, Option, Some, None, Result, Ok, Err}
-use Rattle.ttx_extract.specs.Extracts.{slot_info, first_info}
+use Rattle.ttx_extract.specs.FirstPackets.{slot_info, first_info}
 use Rattle.ttx_extract.specs.declared.infos.FoundInfo.{FoundInfo}
 
 pub record IsFirstInfo (slots : List (List ℕ)) (found : FoundInfo) : Type 0 where

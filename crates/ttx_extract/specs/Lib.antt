@@ -1,10 +1,14 @@
 pub mod Often
+pub mod FirstPackets
 pub mod FirstSent
+pub mod NamedPages
+pub mod Naming
+pub mod Drafts
 pub mod Extracts
 pub mod Refusals
 pub mod FoundInfos
 pub mod FirstReasons
 pub mod OnlyService
 pub mod ServiceTexts
-pub mod SentPages
 pub mod Made
+pub mod Gathering

@@ -10,17 +10,17 @@ use Rattle.ttx_extract.specs.declared.extracting.Extracted.{Extracted}
 use Rattle.ttx_extract.specs.declared.faults.ExtractFault.{ExtractFault}
 use Rattle.ttx_extract.specs.declared.faults.ExtractFault.TheVariants.{Service, TooLong, Unsaid, NoMemory}
 
--- the text of the draft, and the service that it says
+-- the text of the draft, and the service that it says, which is the draft
 pub record IsMade (d : ServiceFields) (made : Extracted) : Type 0 where
   pub text_is : string_bytes made.text ≡ service_text d
   pub says : IsServiceText (string_bytes made.text) made.service
+  pub same : made.service ≡ d
 
--- why there is none: the text is too long, it isn't a service definition, or it says a service that isn't
--- what the cycle sends
+-- why there is none: the text is too long, or it isn't a service definition, or it says another service
 abbrev pub IsNotMade : ServiceFields → ExtractFault → Type 0
 IsNotMade d TooLong = most_bytes < length (service_text d)
 IsNotMade d (Service error) = IsServiceFault (service_text d) error
-IsNotMade d Unsaid = (service : ServiceFields) × IsServiceText (service_text d) service
+IsNotMade d Unsaid = (service : ServiceFields) × IsServiceText (service_text d) service × (service ≡ d → ⊥)
 IsNotMade d NoMemory = ⊤
 IsNotMade d fault = ⊥
 

@@ -1,157 +1,136 @@
-//! Gathers the pages of a cycle, in the order of their first headers.
+//! Gathers what a cycle sends.
 
-ghost use Rattle.std.specs.Prelude.{◌≡◌, IfOk, map};
+ghost use Rattle.std.specs.Prelude.{◌≡◌, ℕ, IfOk, IfErr, MatchOption, map, option_map};
 ghost use Rattle.ttx_cycle.specs.Cycles.{slots_of};
-ghost use Rattle.ttx_extract.specs.SentPages.{IsGathered, authored_of, said_page};
+ghost use Rattle.ttx_page.specs.Views.{page_of, ids_of};
+ghost use Rattle.ttx_witness.specs.sent.AllSent.{AreAllSent};
+ghost use Rattle.ttx_extract.specs.Drafts.{authored_of, draft_of, said_page, sent_draft};
+ghost use Rattle.ttx_extract.specs.FirstPackets.{first_info};
+ghost use Rattle.ttx_extract.specs.Gathering.{AreSentOf, IsGatherFault, IsOffsetFault};
+ghost use Rattle.ttx_extract.specs.NamedPages as names;
+ghost use Rattle.ttx_extract.specs.Extracts.{HasOffset, IsWritten};
+ghost use Rattle.ttx_extract.specs.FoundInfos.{MinusZero};
 
-use crate::found::Found;
+use crate::draft::Draft;
+use crate::faults::ExtractFault;
+use crate::infos::{FoundInfo, first_info};
+use crate::naming::named_pages;
 use crate::sent_page::{SentPage, sent_page};
-use indexmap::IndexMap;
+use crate::serial::first_serial;
 use std::alloc::{AllocError, Global};
 use ttx_cycle::Cycle;
-use ttx_header::PageId;
-use ttx_packet::{Slot, slot_of};
-use ttx_witness::{NoMemory, header_in};
+use ttx_info::Info;
+use ttx_page::Page;
+use ttx_witness::{Collected, NoMemory, collect};
 
-// The page number of time-filling headers, which are no page's.
-const TIME_FILLING: u8 = 0xff;
-
-// The pages that headers name, and the page of the latest header of each magazine.
+/// A draft, and the transmissions of each item of its pages.
 #[derive(Drop)]
-struct Gathered {
-    pages: IndexMap<PageId, Found>,
-    owners: [Option<PageId>; 8],
+pub struct Gathered {
+    pub draft: Draft,
+    pub collected: Collected,
 }
 
-// The page of a header; none where it is a time-filling one.
-fn page_of_header(id: PageId) -> Option<PageId> {
-    if id.page() == TIME_FILLING {
-        None
-    } else {
-        Some(id)
-    }
-}
-
-// Notes that the latest header of a magazine is this one.
-fn note_owner(gathered: &mut Gathered, id: PageId) {
-    if let Some(owner) = gathered.owners.get_mut(usize::from(id.mag() - 1)) {
-        *owner = page_of_header(id);
-    }
-}
-
-// Notes a header of a page.
-fn note_page(gathered: &mut Gathered, id: PageId, slot: usize) -> Result<(), NoMemory> {
-    if id.page() == TIME_FILLING {
-        return Ok(());
-    }
-    if let Some(found) = gathered.pages.get_mut(&id) {
-        found.note_header();
-        return Ok(());
-    }
-    match gathered.pages.insert(id, Found::new(id, slot)) {
-        Ok(_) => Ok(()),
-        Err(_) => Err(NoMemory),
-    }
-}
-
-// The page that owns the magazine.
-fn owner_in(gathered: &Gathered, mag: u8) -> Option<PageId> {
-    match gathered.owners.get(usize::from(mag.saturating_sub(1))) {
-        Some(owner) => *owner,
+// The slot of a packet 8/30 whose local offset is minus zero, which no text says.
+fn minus_zero(found: &Option<FoundInfo>) -> Option<u32>
+    ensures { MatchOption result ((slot : ℕ) → MinusZero found.now slot → ⊥) (MinusZero found.now) }
+{
+    match found {
+        Some(found) => {
+            if found.info.halves() == 0 && found.info.west() {
+                Some(found.slot)
+            } else {
+                None
+            }
+        }
         None => None,
     }
 }
 
-// Notes a row of the page that owns its magazine.
-fn note_row(gathered: &mut Gathered, mag: u8, number: u8, slot: usize) {
-    if let Some(id) = owner_in(gathered, mag) {
-        if let Some(found) = gathered.pages.get_mut(&id) {
-            found.note_row(number, slot);
-        }
+fn info_of(found: Option<FoundInfo>) -> Option<Info>
+    ensures { result ≡ option_map (λ f. f.info) found }
+{
+    match found {
+        Some(found) => Some(found.info),
+        None => None,
     }
 }
 
-// Notes an X/27/0 of the page that owns its magazine.
-fn note_links(gathered: &mut Gathered, mag: u8, slot: usize) {
-    if let Some(id) = owner_in(gathered, mag) {
-        if let Some(found) = gathered.pages.get_mut(&id) {
-            found.note_links(slot);
-        }
+// The first packet 8/30.
+fn offset_info(cycle: &Cycle) -> Result<Option<Info>, ExtractFault>
+    ensures info { IfOk result (λ info. info ≡ first_info (slots_of cycle.now)) }
+    ensures offset { IfOk result (λ _. HasOffset (slots_of cycle.now)) }
+    ensures fault { IfErr result (IsOffsetFault (slots_of cycle.now)) }
+{
+    let found = first_info(cycle);
+    match minus_zero(&found) {
+        Some(slot) => Err(ExtractFault::Info { slot }),
+        None => Ok(info_of(found)),
     }
 }
 
-// Notes what a slot that isn't a header sends of a page.
-fn note_packet(gathered: &mut Gathered, bytes: &[u8; 42], slot: usize) {
-    match slot_of(bytes) {
-        Slot::Row(at, _) => note_row(gathered, at.mag, at.number, slot),
-        Slot::Links(at, _) => note_links(gathered, at.mag, slot),
-        _ => {}
-    }
-}
-
-// The pages of a cycle. Rows and links before the first header of their magazine belong to its last one, a period earlier.
-fn gather(alloc: Global, cycle: &Cycle) -> Result<Gathered, NoMemory> {
-    let slots = cycle.slots();
-    let mut gathered = Gathered {
-        pages: IndexMap::new(alloc),
-        owners: [None; 8],
-    };
-    for j in 0..slots.len() {
-        if let Some(header) = header_in(&slots[j]) {
-            note_page(&mut gathered, header.id(), j)?;
-            note_owner(&mut gathered, header.id());
-        }
-    }
-    note_packets(&mut gathered, cycle);
-    Ok(gathered)
-}
-
-// The pages of a cycle in the order of their first headers.
-fn found_pages(alloc: Global, cycle: &Cycle) -> Result<Vec<Found>, NoMemory> {
-    let gathered = gather(alloc, cycle)?;
-    let mut found = Vec::new(alloc);
-    for page in gathered.pages.values() {
-        if found.push(*page).is_err() {
-            return Err(NoMemory);
-        }
-    }
-    Ok(found)
-}
-
-// Notes the rows and links of all slots.
-fn note_packets(gathered: &mut Gathered, cycle: &Cycle) {
-    let slots = cycle.slots();
-    for j in 0..slots.len() {
-        match header_in(&slots[j]) {
-            Some(header) => note_owner(gathered, header.id()),
-            None => note_packet(gathered, &slots[j], j),
-        }
-    }
-}
-
-// The pages that were found, each with what its slots say.
-fn said_pages(
+// The pages with these ids, each with what is sent first of its items.
+fn sent_pages(
     alloc: Global,
     cycle: &Cycle,
+    named: &[Page],
+    collected: &Collected,
     serial: bool,
-    found: &[Found],
 ) -> Result<Vec<SentPage>, AllocError>
-    ensures { IfOk result (λ pages. map authored_of pages.items ≡ map (said_page (slots_of cycle.now) serial) found.now) }
+    ensures { IfOk result (λ pages. (lines : ℕ) → AreAllSent (slots_of cycle.now) (map page_of named.now) lines collected.now →
+        map authored_of pages.items ≡ map (said_page (slots_of cycle.now) lines serial) (ids_of named.now)) }
 {
     let mut pages = Vec::new(alloc);
-    for index in 0..found.len() {
-        pages.push(sent_page(cycle, &found[index], serial))?;
+    for index in 0..named.len() {
+        pages.push(sent_page(cycle, collected, index, named[index].id(), serial))?;
     }
     Ok(pages)
 }
 
-/// The pages of a cycle, each with what its first header, rows and links say. C11 of each is `serial`.
-pub fn sent_pages(alloc: Global, cycle: &Cycle, serial: bool) -> Result<Vec<SentPage>, NoMemory>
-    ensures { IfOk result (λ pages. IsGathered (slots_of cycle.now) serial (map authored_of pages.items)) }
+// What a cycle sends of these pages, whose packet 8/30 this is.
+fn gather_pages(
+    alloc: Global,
+    cycle: &Cycle,
+    lines: u8,
+    info: Option<Info>,
+    named: &[Page],
+) -> Result<Gathered, NoMemory>
+    requires { ids_of named.now ≡ names.named (slots_of cycle.now) }
+    ensures draft { IfOk result (λ g. info ≡ first_info (slots_of cycle.now) → draft_of g.draft ≡ sent_draft (slots_of cycle.now) lines) }
+    ensures sent { IfOk result (λ g. AreSentOf (slots_of cycle.now) lines g.collected) }
 {
-    let found = found_pages(alloc, cycle)?;
-    match said_pages(alloc, cycle, serial, found.as_slice()) {
-        Ok(pages) => Ok(pages),
+    let serial = first_serial(cycle);
+    let collected = collect(alloc, cycle, named, lines)?;
+    match sent_pages(alloc, cycle, named, &collected, serial) {
+        Ok(pages) => Ok(Gathered {
+            draft: Draft {
+                lines,
+                serial,
+                info,
+                pages,
+            },
+            collected,
+        }),
         Err(_) => Err(NoMemory),
+    }
+}
+
+/// What a cycle sends, with these lines of a field.
+pub fn gather(alloc: Global, cycle: &Cycle, lines: u8) -> Result<Gathered, ExtractFault>
+    ensures draft { IfOk result (λ g. draft_of g.draft ≡ sent_draft (slots_of cycle.now) lines) }
+    ensures sent { IfOk result (λ g. AreSentOf (slots_of cycle.now) lines g.collected) }
+    ensures written { IfOk result (λ _. IsWritten (slots_of cycle.now)) }
+    ensures fault { IfErr result (IsGatherFault (slots_of cycle.now)) }
+{
+    let info = match offset_info(cycle) {
+        Ok(info) => info,
+        Err(fault) => return Err(fault),
+    };
+    let named = match named_pages(alloc, cycle) {
+        Ok(named) => named,
+        Err(fault) => return Err(fault),
+    };
+    match gather_pages(alloc, cycle, lines, info, named.as_slice()) {
+        Ok(gathered) => Ok(gathered),
+        Err(_) => Err(ExtractFault::NoMemory),
     }
 }

@@ -1,8 +1,8 @@
 //! The packet 8/30 of a cycle.
 
-ghost use Rattle.std.specs.Prelude.{◌≡◌, IsTrue};
+ghost use Rattle.std.specs.Prelude.{◌≡◌, ◌↔◌, IsTrue};
 ghost use Rattle.ttx_cycle.specs.Cycles.{slots_of};
-ghost use Rattle.ttx_extract.specs.Extracts.{slot_info};
+ghost use Rattle.ttx_extract.specs.FirstPackets.{slot_info};
 ghost use Rattle.ttx_extract.specs.FoundInfos.{TellsInfo};
 
 use ttx_cycle::Cycle;
@@ -13,11 +13,11 @@ use ttx_packet::{Slot, slot_of};
 #[derive(Clone, Copy)]
 pub struct FoundInfo {
     pub info: Info,
-    pub slot: usize,
+    pub slot: u32,
 }
 
 // The packet 8/30 format 1 of a slot.
-#[tactic(auto, unfolding(crate::specs::Extracts::slot_info))]
+#[tactic(auto, unfolding(crate::specs::FirstPackets::slot_info))]
 fn slot_info(bytes: &[u8; 42]) -> Option<Info>
     ensures { result ≡ slot_info bytes.now }
 {
@@ -42,7 +42,10 @@ pub fn first_info(cycle: &Cycle) -> Option<FoundInfo>
     let slots = cycle.slots();
     for slot in 0..slots.len() {
         if let Some(info) = slot_info(&slots[slot]) {
-            return Some(FoundInfo { info, slot });
+            return Some(FoundInfo {
+                info,
+                slot: slot as u32,
+            });
         }
     }
     None
@@ -50,7 +53,7 @@ pub fn first_info(cycle: &Cycle) -> Option<FoundInfo>
 
 /// Whether two packets 8/30 say the same.
 pub fn same_info(a: &Info, b: &Info) -> bool
-    ensures { IsTrue result → a.now ≡ b.now }
+    ensures { IsTrue result ↔ (a.now ≡ b.now) }
 {
     ttx_info::laws::written_infos_are_read();
     ttx_info::laws::initial_page_is_a_target(a);

@@ -2,15 +2,15 @@
 #![tactic(auto)]
 
 mod checking;
+mod comparing;
 mod conflicts;
 mod draft;
 mod extracting;
 pub mod faults;
-mod first_sent;
-mod found;
 mod gathering;
 mod infos;
 pub mod laws;
+mod naming;
 mod page_texts;
 mod refusals;
 mod sent_page;

@@ -4,7 +4,7 @@ ghost use Rattle.std.specs.Prelude.{◌≡◌, ◌++◌, ◌∷◌, ◌≤◌, �
 ghost use Rattle.std.specs.Fmt.{decimal};
 ghost use Rattle.std.specs.List.{list_all};
 ghost use Rattle.ttx_links.specs.Sets.{links_at, IsLink};
-ghost use Rattle.ttx_extract.specs.SentPages.{authored_of};
+ghost use Rattle.ttx_extract.specs.Drafts.{authored_of};
 ghost use Rattle.ttx_extract.specs.ServiceTexts.{link_word, name_text, lower_flags_text, upper_flags_text, links_text, six_text, crc_text, rows_text, page_text, separated, text_line, sub_of_link, sub_line, sub_text, sub_word, next_link, is_zero, target_word, page_heading, number_text, rows_heading, rows_table, c8, c9};
 
 use crate::sent_page::SentPage;

@@ -1,17 +1,20 @@
 //! A page as a cycle sends it first.
 
-ghost use Rattle.std.specs.Prelude.{◌≡◌, ◌≤◌, ◌+◌, ◌*◌, ◌/◌, ◌%◌, drop, length, option_map, replicate, Some};
+ghost use Rattle.std.specs.Prelude.{◌≡◌, ◌≤◌, ◌+◌, ◌*◌, ◌/◌, ◌%◌, ℕ, List, drop, length, option_map, replicate, slice_get, Some, unsigned_abs};
 ghost use Rattle.ttx_source.specs.Keys.{bit_at};
 ghost use Rattle.ttx_cycle.specs.Cycles.{slots_of};
+ghost use Rattle.ttx_page.specs.Pages.{Page};
+ghost use Rattle.ttx_page.specs.declared.item.Item.TheVariants.{Row as TheRow};
+ghost use Rattle.ttx_witness.specs.sent.AllSent.{AreAllSent};
 ghost use Rattle.ttx_extract.specs.Often.{often_for};
-ghost use Rattle.ttx_extract.specs.FirstSent.{characters, links_of_slot, no_links_fields, row_of};
-ghost use Rattle.ttx_extract.specs.SentPages.{authored_of, said_control, said_head, said_page, said_rows, slot_at};
+ghost use Rattle.ttx_extract.specs.FirstSent.{characters, first_sent, first_slot, links_of_slot, no_links_fields, row_of};
+ghost use Rattle.ttx_extract.specs.Drafts.{authored_of, said_control, said_head, said_page, said_rows};
 
-use crate::found::Found;
 use ttx_cycle::Cycle;
 use ttx_header::{Control, Header, PageId};
 use ttx_links::{Links, read_links};
-use ttx_witness::header_in;
+use ttx_page::{Item, RowNumber};
+use ttx_witness::{Collected, Transmission, header_in};
 
 /// A page: what is sent first of each of its items, and how often it is sent.
 #[derive(Clone, Copy)]
@@ -64,29 +67,61 @@ fn said_row(slot: Option<&[u8; 42]>) -> [u8; 40]
     row
 }
 
-// The slot at a place.
-fn slot_at<'a>(cycle: &'a Cycle, place: Option<usize>) -> Option<&'a [u8; 42]>
-    ensures { option_map (λ s. s.now) result ≡ slot_at (slots_of cycle.now) place }
+// The slot of a transmission in the period.
+fn slot_of(sent: Transmission) -> usize
+    ensures { result ≡ unsigned_abs sent.slot }
 {
-    match place {
-        Some(slot) => cycle.slots().get(slot),
+    sent.slot.unsigned_abs() as usize
+}
+
+// The slot of the first transmission of a list; none where there is none.
+fn first_slot<'a>(cycle: &'a Cycle, sent: &[Transmission]) -> Option<&'a [u8; 42]>
+    ensures { option_map (λ s. s.now) result ≡ first_slot (slots_of cycle.now) sent.now }
+{
+    match sent.first() {
+        Some(first) => cycle.slots().get(slot_of(*first)),
         None => None,
     }
 }
 
-fn blank_rows() -> [[u8; 40]; 24]
+/// The spaces of row 0.
+pub fn blank_head() -> [u8; 24]
+    ensures { result ≡ replicate 24 32 }
+{
+    [b' '; 24]
+}
+
+/// The spaces of rows 1 to 24.
+pub fn blank_rows() -> [[u8; 40]; 24]
     ensures { result ≡ replicate 24 (replicate 40 32) }
 {
     [[b' '; 40]; 24]
 }
 
-// The rows whose first slots are at these places.
-fn said_rows(cycle: &Cycle, places: &[Option<usize>; 24]) -> [[u8; 40]; 24]
-    ensures { result ≡ said_rows (slots_of cycle.now) places.now }
+// The row of the page at `index` as it is sent first.
+fn sent_row(cycle: &Cycle, collected: &Collected, index: usize, row: RowNumber) -> [u8; 40]
+    ensures { (pages : List Page) (lines : ℕ) (p : Page) → AreAllSent (slots_of cycle.now) pages lines collected.now →
+        slice_get pages index ≡ Some p → result ≡ row_of (first_sent (slots_of cycle.now) lines p.id (TheRow row)) }
+{
+    said_row(first_slot(cycle, collected.sent(index, Item::Row(row))))
+}
+
+fn row_number(number: u8) -> RowNumber
+    requires from { 1 ≤ number }
+    requires to { number ≤ 24 }
+    ensures { result ≡ number }
+{
+    RowNumber::new(number).unwrap()
+}
+
+// Rows 1 to 24 of the page at `index` as they are sent first.
+fn sent_rows(cycle: &Cycle, collected: &Collected, index: usize) -> [[u8; 40]; 24]
+    ensures { (pages : List Page) (lines : ℕ) (p : Page) → AreAllSent (slots_of cycle.now) pages lines collected.now →
+        slice_get pages index ≡ Some p → result ≡ said_rows (slots_of cycle.now) lines p.id }
 {
     let mut rows = blank_rows();
-    for i in 0..24usize {
-        rows[i] = said_row(slot_at(cycle, places[i]));
+    for i in 0..24u8 {
+        rows[usize::from(i)] = sent_row(cycle, collected, index, row_number(i + 1));
     }
     rows
 }
@@ -101,7 +136,7 @@ fn control_of(header: &Header, serial: bool) -> Control
 }
 
 // The control bits of the header in a slot.
-#[tactic(auto, unfolding(crate::specs::SentPages::said_control))]
+#[tactic(auto, unfolding(crate::specs::Drafts::said_control))]
 fn said_control(slot: Option<&[u8; 42]>, serial: bool) -> Control
     ensures { result.0 ≡ said_control serial (option_map (λ s. s.now) slot.entry) }
 {
@@ -116,7 +151,7 @@ fn said_control(slot: Option<&[u8; 42]>, serial: bool) -> Control
 }
 
 // The characters of the header in a slot.
-#[tactic(auto, unfolding(crate::specs::SentPages::said_head))]
+#[tactic(auto, unfolding(crate::specs::Drafts::said_head))]
 fn said_head(slot: Option<&[u8; 42]>) -> [u8; 24]
     ensures { result ≡ said_head (option_map (λ s. s.now) slot.entry) }
 {
@@ -152,17 +187,27 @@ fn said_links(slot: Option<&[u8; 42]>, mag: u8) -> Links
     }
 }
 
-/// The page that was found, with what its first header, rows and links say.
-pub fn sent_page(cycle: &Cycle, found: &Found, serial: bool) -> SentPage
-    ensures { authored_of result ≡ said_page (slots_of cycle.now) serial found.now }
+/// The page at `index` of those whose transmissions are collected: what is sent first of each of its items, and how often it is sent.
+/// C11 is `serial`.
+pub fn sent_page(
+    cycle: &Cycle,
+    collected: &Collected,
+    index: usize,
+    id: PageId,
+    serial: bool,
+) -> SentPage
+    ensures { (pages : List Page) (lines : ℕ) (p : Page) → AreAllSent (slots_of cycle.now) pages lines collected.now →
+        slice_get pages index ≡ Some p → p.id ≡ id → authored_of result ≡ said_page (slots_of cycle.now) lines serial id }
 {
-    let header = slot_at(cycle, Some(found.header));
+    let heads = collected.sent(index, Item::Head);
+    let links = collected.sent(index, Item::Links);
+    let header = first_slot(cycle, heads);
     SentPage {
-        id: found.id,
-        often: often_for(found.headers),
+        id,
+        often: often_for(heads.len()),
         control: said_control(header, serial),
         head: said_head(header),
-        rows: said_rows(cycle, &found.rows),
-        links: said_links(slot_at(cycle, found.links), found.id.mag()),
+        rows: sent_rows(cycle, collected, index),
+        links: said_links(first_slot(cycle, links), id.mag()),
     }
 }

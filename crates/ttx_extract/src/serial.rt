@@ -3,7 +3,7 @@
 ghost use Rattle.std.specs.Prelude.{◌≡◌};
 ghost use Rattle.ttx_cycle.specs.Cycles.{slots_of};
 ghost use Rattle.ttx_page.specs.Packets.{packet_of};
-ghost use Rattle.ttx_extract.specs.Extracts.{header_serial, first_serial};
+ghost use Rattle.ttx_extract.specs.FirstPackets.{header_serial, first_serial};
 
 use ttx_cycle::Cycle;
 use ttx_witness::header_in;

@@ -1,7 +1,7 @@
 //! The text of a service.
 
 ghost use Rattle.std.specs.Prelude.{◌≡◌, ◌++◌, ◌∷◌, [], OnOk, codes, option_map, string_bytes, map, IfOk};
-ghost use Rattle.ttx_extract.specs.SentPages.{authored_of, draft_of};
+ghost use Rattle.ttx_extract.specs.Drafts.{authored_of, draft_of};
 ghost use Rattle.std.specs.Fmt.{decimal};
 ghost use Rattle.ttx_extract.specs.ServiceTexts.{clock_text, designation_text, info_heading, info_part, info_text, network_text, settings_text, pages_text, service_text, status_text, trimmed};
 

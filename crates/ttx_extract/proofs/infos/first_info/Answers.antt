@@ -1,6 +1,6 @@
 use Rattle.std.proofs.Common.{◌≡◌, ◌<◌, ◌≤◌, [], length, get_or, Some, None, sym, ap, ◌∙◌, subst, arith}
 use Rattle.ttx_cycle.specs.Cycles.{slots_of}
-use Rattle.ttx_extract.specs.Extracts.{slot_info}
+use Rattle.ttx_extract.specs.FirstPackets.{slot_info}
 use Rattle.ttx_extract.proofs.FirstInfos.{found, none_yet, none, none_more}
 use Rattle.ttx_extract.proofs.infos.first_info.Goals as goal
 

@@ -1,6 +1,6 @@
 use Rattle.std.proofs.Common.{◌≡◌, ℕ, ◌<◌, [], None, drop, slice_index_or}
 use Rattle.ttx_cycle.specs.Cycles.{slots_of}
-use Rattle.ttx_extract.specs.Extracts.{slot_info, first_info}
+use Rattle.ttx_extract.specs.FirstPackets.{slot_info, first_info}
 use Rattle.ttx_extract.proofs.infos.first_info.Given as goal
 
 abbrev pub invariant-loop-slot : goal.invariant-loop-slot

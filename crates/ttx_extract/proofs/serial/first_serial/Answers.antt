@@ -1,7 +1,7 @@
 use Rattle.std.proofs.Common.{◌≡◌, ◌<◌, ◌≤◌, [], length, get_or, Some, None, sym, ap, ◌∙◌, subst, arith}
 use Rattle.ttx_cycle.specs.Cycles.{slots_of}
 use Rattle.ttx_page.specs.Packets.{packet_of}
-use Rattle.ttx_extract.specs.Extracts.{header_serial}
+use Rattle.ttx_extract.specs.FirstPackets.{header_serial}
 use Rattle.ttx_extract.proofs.FirstSerial.{found, none_yet, none}
 use Rattle.ttx_extract.proofs.serial.first_serial.Goals as goal
 

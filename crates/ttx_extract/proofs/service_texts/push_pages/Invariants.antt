@@ -1,5 +1,5 @@
 use Rattle.std.proofs.Common.{◌≡◌, ◌++◌, drop, map, string_bytes}
-use Rattle.ttx_extract.specs.SentPages.{authored_of}
+use Rattle.ttx_extract.specs.Drafts.{authored_of}
 use Rattle.ttx_extract.specs.ServiceTexts.{pages_text}
 use Rattle.ttx_extract.proofs.service_texts.push_pages.Given as goal
 
