@@ -1,10 +1,10 @@
 -- A page that says nothing is a page.
-use Rattle.std.proofs.Common.{◌≡◌, ◌≢◌, ◌↔◌, ℕ, zero, suc, ◌-◌, ◌<◌, ◌≤◌, List, [], get_or, replicate, Option, Some, None, IsSome, IfSome, MatchOption, refl, sym, ap}
-use Rattle.std.proofs.Common.{◌∙◌, subst, arith}
+use Rattle.std.proofs.Common.{◌≡◌, ◌≢◌, ◌↔◌, ℕ, zero, suc, ◌-◌, ◌<◌, List, [], get_or, replicate, Option, Some, None, IsSome, IfSome, MatchOption, refl, sym, ap}
+use Rattle.std.proofs.Common.{subst, arith}
 use Rattle.std.proofs.lemmas.List.{get_or-replicate}
 use Rattle.ttx_header.specs.Ids.{Id, IsId}
 use Rattle.ttx_links.specs.Sets.{LinkSet}
-use Rattle.ttx_page.specs.Pages.{Page, IsPage, IsRow, page_at, page_row, blank_row}
+use Rattle.ttx_page.specs.Pages.{Page, IsPage, IsRow, page_at, blank_row}
 use Rattle.ttx_page.specs.declared.page.Page.{Page as PageValue}
 use Rattle.ttx_page.specs.Views.{page_of}
 

@@ -1,5 +1,5 @@
 -- The first packet 8/30 of a list of slots.
-use Rattle.std.proofs.Common.{◌≡◌, ℕ, suc, ◌+◌, ◌<◌, ◌≤◌, List, [], ◌∷◌, length, drop, get_or, Option, Some, None, refl, ap, sym, ◌∙◌, inl, inr, arith}
+use Rattle.std.proofs.Common.{◌≡◌, ℕ, zero, suc, ◌+◌, ◌<◌, ◌≤◌, List, [], ◌∷◌, length, drop, get_or, Option, Some, None, refl, ap, sym, ◌∙◌, inl, inr, arith}
 use Rattle.std.specs.Option.{option_map}
 use Rattle.std.proofs.lemmas.Bool.{cases_lt}
 use Rattle.std.proofs.Math.Seq.{drop-cons}
@@ -51,3 +51,16 @@ offset_told slots None told none = λ fields first halves west. absurd (let h : 
 offset_told slots (Some found) told none = λ fields first halves west.
     let same : found.info ≡ fields = let h : Some found.info ≡ Some fields = sym told.0 ∙ first in cc in
     none found.slot (refl, ap (λ f. f.halves) same ∙ halves, ap (λ f. f.west) same ∙ west)
+
+-- a slot before which no slot has a packet 8/30 has the first
+rest_is : (slots : List (List ℕ)) (i : ℕ) → i ≤ length slots → ((n : ℕ) → n < i → slot_info (get_or slots n []) ≡ None) →
+    first_info slots ≡ first_info (drop i slots)
+rest_is slots zero le none = refl
+rest_is slots (suc i) le none =
+    let before = rest_is slots i (omega arith) (λ n lt. none n (omega arith)) in
+    let one : i + 1 ≡ suc i = omega arith in
+    none_yet slots i before (omega arith) (none i (omega arith)) ∙ ap (λ n. first_info (drop n slots)) one
+
+pub first_is : (slots : List (List ℕ)) (i : ℕ) (fields : InfoFields) → i < length slots → slot_info (get_or slots i []) ≡ Some fields →
+    ((n : ℕ) → n < i → slot_info (get_or slots n []) ≡ None) → first_info slots ≡ Some fields
+first_is slots i fields lt here none = found slots i (rest_is slots i (omega arith) none) lt fields here

@@ -18,5 +18,6 @@ mod Rising
 mod SamePages
 mod SameServices
 mod NotSteady
+mod OneAnswer
 mod Trimmed
 mod Stripped

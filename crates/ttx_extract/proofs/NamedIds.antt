@@ -1,8 +1,8 @@
 -- The ids that headers name: each header's id is listed, each id has a first header, and the first headers rise.
 use Rattle.std.proofs.Common.{◌≡◌, ◌≢◌, ℕ, zero, suc, ◌+◌, ◌<◌, ◌≤◌, Bool, true, false, List, [], ◌∷◌, ◌++◌, length, get_or, slice_get, Some, refl, sym, ap, ◌∙◌}
 use Rattle.std.proofs.Common.{subst, inl, inr, arith, eqb, eqb-true, if◌then◌else◌}
-use Rattle.std.specs.List.{AllPairs, Contains, list_any}
-use Rattle.std.proofs.lemmas.Bool.{cases_lt, cases_Bool, false≢true}
+use Rattle.std.specs.List.{AllPairs, list_any}
+use Rattle.std.proofs.lemmas.Bool.{cases_lt, false≢true}
 use Rattle.std.proofs.lemmas.List.{get_or_push, get_or_append_left, length-append}
 use Rattle.std.proofs.lemmas.List.Elements.{Contains-append_left, Contains-push}
 use Rattle.std.proofs.lemmas.List.Folds.{list_any_at}
@@ -13,7 +13,7 @@ use Rattle.ttx_header.specs.Ids.{Id, same_id}
 use Rattle.ttx_page.specs.Packets.{Packet, Empty, Unreadable, Header, Row, Links, Info, Other, packet_of}
 use Rattle.ttx_page.specs.Streams.{heads_page}
 use Rattle.ttx_extract.specs.Extracts.{IsOfPages}
-use Rattle.ttx_extract.specs.NamedPages.{with_id, with_name, named_after}
+use Rattle.ttx_extract.specs.NamedPages.{with_name, named_after}
 use Rattle.ttx_extract.proofs.Listed.{same_one, same_self}
 
 -- slot k is the first with a header of the id

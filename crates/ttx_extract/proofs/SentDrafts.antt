@@ -1,15 +1,15 @@
 -- A service that is what a cycle sends as a draft of it says: it says what the cycle sends first.
-use Rattle.std.proofs.Common.{◌≡◌, ℕ, zero, suc, ◌+◌, ◌-◌, ◌*◌, ◌/◌, ◌%◌, ◌<◌, ◌≤◌, ℤ, pos, ◌<ℤ◌, Bool, true, false, List, [], ◌∷◌, length, map, get_or, slice_get}
-use Rattle.std.proofs.Common.{Option, Some, None, refl, sym, ap, ◌∙◌, subst, arith, inl, inr, unsigned_abs}
+use Rattle.std.proofs.Common.{◌≡◌, ℕ, ◌+◌, ◌-◌, ◌*◌, ◌/◌, ◌%◌, ◌<◌, ◌≤◌, pos, ◌<ℤ◌, Bool, true, false, List, [], ◌∷◌, length, map, get_or, slice_get}
+use Rattle.std.proofs.Common.{Option, Some, refl, sym, ap, ◌∙◌, subst, arith, inl, inr, unsigned_abs}
 use Rattle.std.proofs.lemmas.Bool.{cases_lt, false≢true}
 use Rattle.std.proofs.lemmas.Int.{ints}
 use Rattle.std.proofs.lemmas.Option.{slice_get_within, slice_get-get_or, get_or_from_slice_get}
 use Rattle.ttx_header.specs.Ids.{Id}
 use Rattle.ttx_info.specs.Infos.{InfoFields}
 use Rattle.ttx_page.specs.Packets.{Packet, Empty, Unreadable, Header, Row, Links, Info, Other, packet_of}
-use Rattle.ttx_page.specs.Pages.{Page, page_row}
+use Rattle.ttx_page.specs.Pages.{Page}
 use Rattle.ttx_page.specs.Streams.{repeated, heads_page, IsOwned, IsSure}
-use Rattle.ttx_page.specs.declared.item.Item.TheVariants.{Head as TheHead, Row as TheRow, Links as TheLinks}
+use Rattle.ttx_page.specs.declared.item.Item.TheVariants.{Head as TheHead, Row as TheRow}
 use Rattle.ttx_source.specs.Keys.{bit_at}
 use Rattle.ttx_source.specs.Services.{ServiceFields, Authored, IsService, service_at, authored_ids, pages_of}
 use Rattle.ttx_witness.specs.laws.JudgingLaws.{TransmissionsAreListed}
@@ -18,7 +18,7 @@ use Rattle.ttx_witness.specs.declared.runs.transmissions.Transmission.{Transmiss
 use Rattle.ttx_witness.specs.sent.ItemTransmissions.{sent_in}
 use Rattle.ttx_extract.specs.Extracts.{IsSentService, AreOfPages, IsOfPages, IsSentOften}
 use Rattle.ttx_extract.specs.FirstPackets.{first_serial, first_info}
-use Rattle.ttx_extract.specs.FirstSent.{HeadSays, HeadIsSent, SaysRow, IsSentPage, IsEarlier, AreInOrder, first_sent, first_slot, slot_in, row_of, IsBefore}
+use Rattle.ttx_extract.specs.FirstSent.{HeadSays, HeadIsSent, IsSentPage, IsEarlier, AreInOrder, first_sent, slot_in, row_of, IsBefore}
 use Rattle.ttx_extract.specs.NamedPages.{named}
 use Rattle.ttx_extract.specs.Drafts.{control_in, head_in, said_control, said_head, said_rows, said_page, sent_draft}
 use Rattle.ttx_extract.proofs.Lists.{made_at}

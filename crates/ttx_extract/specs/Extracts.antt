@@ -12,8 +12,8 @@
 --   IsNotSaid               why the text doesn't
 --   Blames, AnswersFault    why pages aren't sent unchanged; why there is no text
 --   Extracts                what is answered for a cycle and lines of a field
-use Rattle.std.specs.Prelude.{◌≡◌, ◌⊎◌, ℕ, ◌+◌, ◌<◌, ◌≤◌, pos, unsigned_abs, true, List, [], ◌∷◌, take, length, Contains, slice_get, slice_index_or}
-use Rattle.std.specs.Prelude.{string_bytes, ⊤, Option, Some, None, Result, Ok, Err}
+use Rattle.std.specs.Prelude.{◌≡◌, ◌⊎◌, ℕ, ◌<◌, ◌≤◌, pos, unsigned_abs, true, List, [], take, length, Contains, slice_get, slice_index_or}
+use Rattle.std.specs.Prelude.{string_bytes, ⊤, Some, None, Result, Ok, Err}
 use Rattle.ttx_header.specs.Ids.{Id}
 use Rattle.ttx_info.specs.Infos.{InfoFields}
 use Rattle.ttx_page.specs.Packets.{Packet, Header, Row, Links, packet_of}

@@ -1,7 +1,7 @@
 -- What is made of a draft: its text, and the service that is read from it.
 --
 --   Makes                   the text and the service, or why there are none
-use Rattle.std.specs.Prelude.{◌≡◌, ℕ, ◌<◌, List, length, string_bytes, ⊤, Result, Ok, Err}
+use Rattle.std.specs.Prelude.{◌≡◌, ◌<◌, length, string_bytes, ⊤, Result, Ok, Err}
 use Rattle.ttx_cycle.specs.Bounded.{most_bytes}
 use Rattle.ttx_source.specs.Services.{ServiceFields}
 use Rattle.ttx_certify.specs.CertifyingFiles.{IsServiceText, IsServiceFault}

@@ -7,7 +7,7 @@
 --   name_text, control_text, links_text, rows_text, page_text      the table of a page
 --   info_text               the table of the packet 8/30
 --   service_text            the whole text
-use Rattle.std.specs.Prelude.{ℕ, ◌+◌, ◌/◌, ◌%◌, List, [], ◌∷◌, ◌++◌, codes, flat_map, map, slice_index, Bool, true, false, not, ◌&&◌, ◌||◌, ◌==◌}
+use Rattle.std.specs.Prelude.{ℕ, ◌+◌, ◌/◌, ◌%◌, List, [], ◌∷◌, ◌++◌, codes, flat_map, slice_index, Bool, true, false, ◌&&◌, ◌||◌, ◌==◌}
 use Rattle.std.specs.Prelude.{Option, Some, None, is_none, if◌then◌else◌}
 use Rattle.std.specs.List.{list_all}
 use Rattle.std.specs.Fmt.{decimal}

@@ -3,7 +3,7 @@ use Rattle.std.specs.Option.{option_map}
 use Rattle.std.proofs.lemmas.Bool.{false≢true}
 use Rattle.std.proofs.lemmas.List.{length-map}
 use Rattle.std.proofs.lemmas.Option.{slice_get-map}
-use Rattle.ttx_source.specs.Services.{Authored, authored_at}
+use Rattle.ttx_source.specs.Services.{authored_at}
 use Rattle.ttx_page.specs.Views.{page_of}
 use Rattle.ttx_extract.specs.Drafts.{authored_of}
 use Rattle.ttx_extract.proofs.SameLists.{one_same, all_same, authored_here, same_value, some_at}

@@ -1,4 +1,4 @@
-use Rattle.std.proofs.Common.{◌≡◌, ◌≤◌, length, sym, refl, ◌∙◌, arith}
+use Rattle.std.proofs.Common.{◌≤◌, length, sym, refl, ◌∙◌, arith}
 use Rattle.ttx_extract.proofs.SameLists.{all_same}
 use Rattle.ttx_extract.proofs.comparing.same_rows.Goals as goal
 

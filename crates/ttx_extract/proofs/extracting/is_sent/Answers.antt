@@ -1,4 +1,4 @@
-use Rattle.std.proofs.Common.{◌≡◌, ◌≤◌, length, ap, subst, arith}
+use Rattle.std.proofs.Common.{◌≤◌, length, ap, arith}
 use Rattle.ttx_cycle.specs.Cycles.{slots_of}
 use Rattle.ttx_extract.proofs.SentDrafts.{draft_is_sent}
 use Rattle.ttx_extract.proofs.extracting.is_sent.Goals as goal

@@ -1,4 +1,4 @@
-use Rattle.std.proofs.Common.{◌≡◌, ap, sym, ◌∙◌, subst, slice_get}
+use Rattle.std.proofs.Common.{◌≡◌, ap, ◌∙◌, subst, slice_get}
 use Rattle.ttx_page.specs.Views.{page_of}
 use Rattle.ttx_extract.proofs.Lists.{made_at}
 use Rattle.ttx_extract.proofs.gathering.gather.Goals as goal

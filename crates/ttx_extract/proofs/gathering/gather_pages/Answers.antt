@@ -1,8 +1,7 @@
-use Rattle.std.proofs.Common.{◌≡◌, ◌≢◌, List, length, map, sym, ap, ◌∙◌, subst}
+use Rattle.std.proofs.Common.{◌≢◌, length, map, sym, ◌∙◌, subst}
 use Rattle.std.specs.List.{AllPairs}
 use Rattle.std.proofs.lemmas.Simd.{map-map}
 use Rattle.ttx_cycle.specs.Cycles.{slots_of}
-use Rattle.ttx_header.specs.Ids.{Id}
 use Rattle.ttx_page.specs.Views.{page_of, ids_of}
 use Rattle.ttx_extract.specs.Drafts.{authored_of}
 use Rattle.ttx_extract.proofs.NamedIds.{are_named}

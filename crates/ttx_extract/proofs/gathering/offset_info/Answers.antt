@@ -1,4 +1,3 @@
-use Rattle.std.proofs.Common.{◌≡◌}
 use Rattle.ttx_cycle.specs.Cycles.{slots_of}
 use Rattle.ttx_extract.proofs.FirstInfos.{offset_told}
 use Rattle.ttx_extract.proofs.gathering.offset_info.Goals as goal

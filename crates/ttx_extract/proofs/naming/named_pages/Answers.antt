@@ -1,4 +1,4 @@
-use Rattle.std.proofs.Common.{◌≡◌, List, length, slice_get, Some, sym, ap, subst, ◌∙◌}
+use Rattle.std.proofs.Common.{length, slice_get, sym, ap, ◌∙◌}
 use Rattle.ttx_cycle.specs.Cycles.{slots_of}
 use Rattle.ttx_extract.proofs.NamedIds.{are_named}
 use Rattle.ttx_extract.proofs.naming.named_pages.Goals as goal

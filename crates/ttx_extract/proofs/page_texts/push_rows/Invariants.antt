@@ -1,4 +1,4 @@
-use Rattle.std.proofs.Common.{◌≡◌, ◌+◌, ◌++◌, drop, length, string_bytes}
+use Rattle.std.proofs.Common.{◌≡◌, ◌+◌, ◌++◌, drop, string_bytes}
 use Rattle.ttx_extract.specs.ServiceTexts.{rows_text}
 use Rattle.ttx_extract.proofs.page_texts.push_rows.Given as goal
 

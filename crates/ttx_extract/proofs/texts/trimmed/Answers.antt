@@ -1,4 +1,4 @@
-use Rattle.std.proofs.Common.{◌≡◌, ◌<◌, ◌==◌, suc, zero, ◌-◌, true, false, length, take, get_or, sym, ap, ◌∙◌, subst, arith}
+use Rattle.std.proofs.Common.{◌≡◌, ◌<◌, ◌==◌, suc, ◌-◌, length, take, sym, ap, ◌∙◌, subst, arith}
 use Rattle.ttx_extract.specs.ServiceTexts.{trimmed}
 use Rattle.ttx_extract.proofs.Trimmed.{one_less, ends_here, none_left}
 use Rattle.ttx_extract.proofs.texts.trimmed.Goals as goal
