@@ -1,15 +1,19 @@
 -- Plans that are improved step by step.
-use Rattle.std.proofs.Common.{◌≡◌, ℕ, List, [], map, None, sym, subst}
+use Rattle.std.proofs.Common.{◌≡◌, ℕ, List, [], map, None, Result, Ok, Err, sym, subst}
+use Rattle.ttx_cycle.specs.declared.cycles.Cycle.{Cycle}
 use Rattle.ttx_source.specs.Promises.{PromiseFields}
 use Rattle.ttx_source.specs.Services.{ServiceFields, pages_of}
 use Rattle.ttx_promise.specs.Deadlines.{AreDeadlines}
 use Rattle.ttx_promise.specs.Lateness.{LateFields, late_of}
-use Rattle.ttx_promise.specs.Promises.{IsRaised, IsSpreadFor, IsMissed, KeepsPromises, RaisesLatest, IsJudged, Improves}
+use Rattle.ttx_promise.specs.Promises.{IsRaised, IsSpreadFor, IsMissed, KeepsPromises, RaisesLatest, IsJudged, Improves, Ends}
 use Rattle.ttx_promise.specs.Views.{late_view}
 use Rattle.ttx_promise.specs.declared.planning.Improved.{Improved}
 use Rattle.ttx_promise.specs.declared.planning.Improved.TheVariants as improved
+use Rattle.ttx_promise.specs.declared.planning.Missed.{Missed}
+use Rattle.ttx_promise.specs.declared.planning.Missed.TheVariants as missed
 use Rattle.ttx_promise.specs.declared.planning.Viewers.{Viewers}
 use Rattle.ttx_promise.proofs.KeptPromises.{are_kept}
+use Rattle.ttx_promise.proofs.RaisedPages.{further_raised}
 
 pub judged : (v : Viewers) (promises : List PromiseFields) (old new : ServiceFields) (cycle : List (List ℕ)) (deadlines : List ℕ)
     (answer : Improved) → IsSpreadFor v.receivers.late v.receivers.class old cycle →
@@ -49,3 +53,9 @@ missed_so v promises old new cycle pages e k = subst (λ (s : ServiceFields). Is
 pub raised_as_before : (promises : List PromiseFields) (first old new : ServiceFields) → new ≡ old → IsRaised promises first old →
     IsRaised promises first new
 raised_as_before promises first old new e r = subst (IsRaised promises first) (sym e) r
+
+pub ends_from : (v : Viewers) (promises : List PromiseFields) (first old new : ServiceFields) (answer : Result Cycle Missed) →
+    IsRaised promises first old → Ends v promises old new answer → Ends v promises first new answer
+ends_from v promises first old new (Ok cycle) r e = (further_raised promises first old new r e.0, e.1)
+ends_from v promises first old new (Err (missed.Late pages)) r e = (further_raised promises first old new r e.0, e.1)
+ends_from v promises first old new (Err missed.NoMemory) r e = tt

@@ -5,3 +5,4 @@ mod KeptPromises
 mod PlanAnswers
 mod Steps
 mod Improvements
+mod RestoredOftens

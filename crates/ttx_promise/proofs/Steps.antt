@@ -1,5 +1,5 @@
 -- One step towards a plan that keeps each promise.
-use Rattle.std.proofs.Common.{◌≡◌, ℕ, ◌*◌, ◌<◌, ◌≤◌, Bool, true, List, length, Option, Some, None, refl, sym, ap, subst, arith, inr}
+use Rattle.std.proofs.Common.{◌≡◌, ℕ, ◌*◌, ◌<◌, ◌≤◌, Bool, true, false, List, length, Option, Some, None, refl, sym, ap, subst, arith, inr}
 use Rattle.std.specs.Prelude.{slice_get}
 use Rattle.std.proofs.lemmas.Option.{slice_get_within}
 use Rattle.ttx_cycle.specs.declared.cycles.Cycle.{Cycle}
@@ -10,6 +10,7 @@ use Rattle.ttx_source.specs.Promises.{PromiseFields}
 use Rattle.ttx_source.specs.Services.{Authored, ServiceFields, IsService}
 use Rattle.ttx_promise.specs.Lateness.{often_or, often_at, page_or_none, page_at, IsLatest}
 use Rattle.ttx_promise.specs.Promises.{MayRise, IsRaised, raised, room, TriesToRaise, RaisesLatest}
+use Rattle.ttx_promise.specs.Searching.{MayBeRaised, GoesOn}
 use Rattle.ttx_promise.proofs.LatestPromise.{latest_weighs, is_free, is_rare}
 use Rattle.ttx_promise.proofs.PageOften.{IsSentSo, authored_there, at_least_once, room_less}
 use Rattle.ttx_promise.proofs.RaisedPages.{one_raised}
@@ -78,3 +79,10 @@ raises_latest late class deadlines promises old new number None is latest t = (
 raises_latest late class deadlines promises old new number (Some cycle) is latest t =
     let so = raised_so deadlines promises old number is latest in
     (subst (IsRaised promises old) (sym t.0) so.0, subst (λ (s : ServiceFields). room s.pages < room old.pages) (sym t.0) so.1, t.1)
+
+pub goes_on : (deadlines : List ℕ) (promises : List PromiseFields) (old new : ServiceFields) (number : ℕ) (answer : Bool) → IsService old →
+    IsLatest old.pages deadlines promises number → MayBeRaised (page_at promises number) old new answer → GoesOn promises old new answer
+goes_on deadlines promises old new number false is latest m = m
+goes_on deadlines promises old new number true is latest m =
+    let so = raised_so deadlines promises old number is latest in
+    (subst (IsRaised promises old) (sym m) so.0, subst (λ (s : ServiceFields). room s.pages < room old.pages) (sym m) so.1)

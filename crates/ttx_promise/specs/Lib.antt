@@ -3,3 +3,4 @@ pub mod Lateness
 pub mod Views
 pub mod Promises
 pub mod PromiseLines
+pub mod Searching

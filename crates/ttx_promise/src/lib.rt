@@ -4,8 +4,13 @@
 mod deadlines;
 mod faults;
 mod lateness;
+mod layout;
+mod parallel_layout;
 mod planning;
 mod promise_lines;
+mod searching;
+mod serial_layout;
+mod waits_by_layout;
 
 pub use faults::{LatePage, PromiseFault};
 pub use planning::{Viewers, plan_promises};

@@ -4,12 +4,14 @@ ghost use Rattle.std.specs.Prelude.{◌≡◌, ◌≢◌, ◌<◌, ◌≤◌, le
 ghost use Rattle.ttx_cycle.specs.Cycles.{slots_of};
 ghost use Rattle.ttx_promise.specs.Lateness.{often_at};
 ghost use Rattle.ttx_promise.specs.Promises.{Answers, Ends, IsSpreadFor, IsJudged, TriesToRaise, RaisesLatest, Improves};
+ghost use Rattle.ttx_promise.specs.Searching.{Begins};
 ghost use Rattle.ttx_source.specs.PromiseViews.{promise_view};
 ghost use Rattle.ttx_source.specs.Services.{pages_of};
 
 use crate::deadlines::deadlines;
 use crate::faults::{LatePage, PromiseFault};
 use crate::lateness::{late_pages, latest, page_at};
+use crate::searching::{oftens, search, set_oftens};
 use std::alloc::Global;
 use ttx_cycle::Cycle;
 use ttx_plan::{PlanFault, Receivers, plan_spread};
@@ -160,6 +162,54 @@ fn improve_all(
     }
 }
 
+// The plan from which the improvement begins, with pages sent as often as the search found: the given one, and the service as it was, where
+// the cycle of the other might be too long after all.
+fn begin(
+    alloc: Global,
+    service: &mut Service,
+    viewers: Viewers,
+    promises: &[Promise],
+    first: Cycle,
+) -> Result<Cycle, NoMemory>
+    requires plan { IsSpreadFor viewers.receivers.late viewers.receivers.class service.old (slots_of first) }
+    ensures { IfOk result (λ cycle. Begins viewers (map promise_view promises.now) service.old service.new (slots_of cycle)) }
+{
+    let _pages = service.pages();
+    let Ok(oftens) = oftens(alloc, service) else {
+        return Err(NoMemory);
+    };
+    let Ok(()) = search(alloc, service, viewers, promises) else {
+        return Err(NoMemory);
+    };
+    match plan_spread(alloc, service, viewers.receivers) {
+        Ok(cycle) => Ok(cycle),
+        Err(PlanFault::NoMemory) => Err(NoMemory),
+        Err(_) => {
+            set_oftens(service, &oftens);
+            Ok(first)
+        }
+    }
+}
+
+// The plan that keeps each promise, from the given one on.
+fn keep_promises(
+    alloc: Global,
+    service: &mut Service,
+    viewers: Viewers,
+    promises: &[Promise],
+    first: Cycle,
+) -> Result<Cycle, Missed>
+    requires plan { IsSpreadFor viewers.receivers.late viewers.receivers.class service.old (slots_of first) }
+    requires some_repeats { 1 ≤ viewers.repeat }
+    requires few_repeats { viewers.repeat ≤ 8 }
+    ensures { Ends viewers (map promise_view promises.now) service.old service.new result }
+{
+    match begin(alloc, service, viewers, promises, first) {
+        Ok(cycle) => improve_all(alloc, service, viewers, promises, cycle),
+        Err(_) => Err(Missed::NoMemory),
+    }
+}
+
 /// The spread plan of a service that keeps each promise: a viewer of the page sees it within so many fields. Pages that have a promise and
 /// no key `often` are sent as often as that takes: as long as such a page comes too late, the one that comes the most fields too late,
 /// the first of them, is sent twice as often, up to 8 times. The service is then the one that the plan is of.
@@ -168,7 +218,8 @@ fn improve_all(
 /// service is that of the last plan. `NoPages` and `TooLong` as `plan_spread` of the service as it was given, which is unchanged. After
 /// `NoMemory` nothing is known of the service.
 ///
-/// A plan is made and its waits are found at each step, and a page takes three steps at most.
+/// The waits at each step are those of the layout of the plan. The plan is made and judged by its waits at the end, and the steps go on with
+/// those as long as a page comes too late.
 pub fn plan_promises(
     alloc: Global,
     service: &mut Service,
@@ -185,7 +236,7 @@ pub fn plan_promises(
         Err(PlanFault::TooLong) => return Err(PromiseFault::TooLong),
         Err(PlanFault::NoMemory) => return Err(PromiseFault::NoMemory),
     };
-    match improve_all(alloc, service, viewers, promises, first) {
+    match keep_promises(alloc, service, viewers, promises, first) {
         Ok(cycle) => Ok(cycle),
         Err(Missed::Late { pages }) => Err(PromiseFault::Late { pages }),
         Err(Missed::NoMemory) => Err(PromiseFault::NoMemory),
