@@ -1,0 +1,3 @@
+pub mod Deadlines
+pub mod Requirements
+pub mod RequiredLines

@@ -1,0 +1,59 @@
+//! The certificate that is found, with a deadline that is asked for.
+
+ghost use Rattle.std.specs.Prelude.{◌≡◌, ◌≤◌, IfOk};
+ghost use Rattle.ttx_cycle.specs.Cycles.{slots_of};
+ghost use Rattle.ttx_source.specs.Services.{pages_of};
+ghost use Rattle.ttx_certificate.specs.Certificates.{fields_of};
+ghost use Rattle.ttx_deadline.specs.Deadlines.{IsFoundWith};
+
+use crate::copies::with_deadline;
+use std::alloc::Global;
+use ttx_certify::{Verdict, certify_service, find_service};
+use ttx_cycle::Cycle;
+use ttx_page::Class;
+use ttx_source::Service;
+use ttx_witness::{Certificate, NoMemory};
+
+/// What certificate is asked for.
+#[derive(Clone, Copy)]
+pub struct Asked {
+    /// The class of receivers.
+    pub class: Class,
+    /// How often an item is sent for one right reception, 1 to 8.
+    pub repeat: u8,
+    /// The deadline in fields, 1 to 1,000,000.
+    pub deadline: u32,
+}
+
+/// A certificate with the deadline that was asked for, and what the certifier says of it.
+#[derive(Drop)]
+pub struct FoundWith {
+    pub certificate: Certificate,
+    pub verdict: Verdict,
+}
+
+/// The certificate that `find_service` finds, with the deadline that is asked for in the place of the least, and the verdict on it: Yes
+/// exactly where the least deadline is at most the one that is asked for, else the first reason why the cycle isn't accepted with it. So two
+/// certificates can have one deadline. `Err` if memory runs out.
+pub fn find_with(
+    alloc: Global,
+    cycle: &Cycle,
+    service: &Service,
+    asked: Asked,
+) -> Result<FoundWith, NoMemory>
+    requires some { 1 ≤ asked.repeat }
+    requires few { asked.repeat ≤ 8 }
+    requires some_fields { 1 ≤ asked.deadline }
+    requires few_fields { asked.deadline ≤ 1000000 }
+    ensures { IfOk result (λ found. IsFoundWith (slots_of cycle.now) (pages_of service.now) service.now.lines asked
+        (fields_of found.certificate) found.verdict) }
+{
+    ttx_witness::certificate_laws::certificates_keep_their_rules();
+    let found = find_service(alloc, cycle, service, asked.repeat, asked.class)?;
+    let certificate = with_deadline(alloc, &found.certificate, asked.deadline)?;
+    let verdict = certify_service(alloc, cycle, service, &certificate)?;
+    Ok(FoundWith {
+        certificate,
+        verdict,
+    })
+}

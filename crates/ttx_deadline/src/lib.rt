@@ -1,0 +1,11 @@
+//! Certificates with a deadline that is asked for: a cycle is found to be accepted with it, or a certificate has to promise it.
+#![tactic(auto)]
+
+mod copies;
+mod finding;
+mod required_lines;
+mod requirements;
+
+pub use finding::{Asked, FoundWith, find_with};
+pub use required_lines::required_line;
+pub use requirements::{RequiredVerdict, Unmet, certify_required, first_unmet};
