@@ -8,9 +8,8 @@ use Rattle.std.proofs.lemmas.Fmt.{length-decimal-le}
 use Rattle.ttx_certificate.specs.CertificateTexts.{item_text, starts_text, entry_text, entries_text, class_text, number_text}
 use Rattle.ttx_certificate.specs.CertificateTexts.{head_text, certificate_text}
 use Rattle.ttx_certificate.specs.Entries.{EntryFields, CertificateFields, IsEntry, IsCertificateFields, is_item, are_none, are_slots, rises}
-use Rattle.ttx_certificate.specs.Entries.{are_starts, are_numbers}
+use Rattle.ttx_certificate.specs.Entries.{are_numbers}
 use Rattle.ttx_digits.specs.PageIds.{id_text}
-use Rattle.ttx_header.specs.Ids.{Id}
 use Rattle.ttx_page.specs.declared.class.Class.{Class}
 use Rattle.ttx_page.specs.declared.class.Class.TheVariants.{Any, Clearing}
 use Rattle.ttx_page.specs.declared.item.Item.{Item}

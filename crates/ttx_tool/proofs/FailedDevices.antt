@@ -1,7 +1,7 @@
 -- What the first device that failed says of the faults of a command that reads texts.
-use Rattle.std.proofs.Common.{◌≡◌, ℕ, Bool, true, false, List, [], ◌∷◌, Option, Some, None, Result, Err, inl, inr, refl, sym, subst}
+use Rattle.std.proofs.Common.{◌≡◌, ℕ, Bool, true, false, List, [], ◌∷◌, Option, Err, inl, inr, refl, sym, subst}
 use Rattle.ttx_cycle.specs.declared.faults.CycleFault.TheVariants as cycle
-use Rattle.ttx_files.specs.Devices.{Place, AtCycle, AtService, AtCertificate, AtCounter, AtOutput, input, IsFirstFailure, failed_at}
+use Rattle.ttx_files.specs.Devices.{Place, AtCycle, AtService, AtCertificate, input, IsFirstFailure, failed_at}
 use Rattle.ttx_files.specs.Texts.{is_of_text}
 use Rattle.ttx_files.specs.declared.faults.FilesFault.{FilesFault}
 use Rattle.ttx_files.specs.declared.faults.FilesFault.TheVariants.{Cycle, Service, Certificate, Read, TooLong, Write, NoMemory}

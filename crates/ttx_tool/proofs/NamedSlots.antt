@@ -1,9 +1,9 @@
 -- A certificate that is found names each slot of a cycle once at most, so that its text is short.
-use Rattle.std.proofs.Common.{◌≡◌, ◌⊎◌, ℕ, zero, suc, ◌+◌, ◌*◌, ◌<◌, ◌≤◌, ℤ, pos, ◌<ℤ◌, ◌≤ℤ◌, Bool, true, false, ◌&&◌, ◌==◌, nat_lt, nat_le}
-use Rattle.std.proofs.Common.{if◌then◌else◌, List, [], ◌∷◌, ◌++◌, length, get_or, slice_get, Option, Some, None, refl, sym, ap, ◌∙◌, subst, inl, inr}
+use Rattle.std.proofs.Common.{◌≡◌, ◌⊎◌, ℕ, zero, suc, ◌+◌, ◌*◌, ◌<◌, ◌≤◌, ℤ, pos, Bool, true, false, ◌&&◌, ◌==◌, nat_lt, nat_le}
+use Rattle.std.proofs.Common.{List, [], ◌∷◌, ◌++◌, length, slice_get, Option, Some, None, refl, sym, ap, ◌∙◌, subst, inl, inr}
 use Rattle.std.proofs.Common.{arith, eqb-true, eq-eqb}
 use Rattle.std.specs.Prelude.{All, Contains}
-use Rattle.std.specs.List.{AllByRecursion, IsDistinct, list_any, flat_map}
+use Rattle.std.specs.List.{AllByRecursion, IsDistinct, list_any}
 use Rattle.std.proofs.Math.Dec.{eqb}
 use Rattle.std.proofs.lemmas.Bool.{and_parts, and_from, both_ways, cases_Bool, ltb-true, leb-true, ne_eqb, or_cases, cond-true, cond-false}
 use Rattle.std.proofs.lemmas.Int.{ints}
@@ -12,13 +12,13 @@ use Rattle.std.proofs.lemmas.Map.Keys.{IsDistinct-head, IsDistinct-tail, IsDisti
 use Rattle.std.proofs.lemmas.Map.Steps.{length-le_from_distinct_below}
 use Rattle.ttx_certificate.proofs.EntryOrder.{rising_pairs}
 use Rattle.ttx_certificate.specs.CertificateTexts.{certificate_text}
-use Rattle.ttx_certificate.specs.Entries.{EntryFields, CertificateFields, IsEntry, IsCertificateFields, is_item, are_none, are_slots, is_above, rises}
+use Rattle.ttx_certificate.specs.Entries.{EntryFields, CertificateFields, IsEntry, IsCertificateFields, is_item, rises}
 use Rattle.ttx_certificate.specs.Entries.{rises_above, place_of, entry_places, same_item, starts_in, certificate_at}
 use Rattle.ttx_certificate.specs.ItemPlaces.{IsItem, item_number, key_of}
 use Rattle.ttx_cycle.specs.Bounded.{most_bytes}
 use Rattle.ttx_header.specs.Ids.{Id, same_id}
 use Rattle.ttx_page.proofs.SlotDistances.{cases_ltz}
-use Rattle.ttx_page.specs.Packets.{Packet, Empty, Unreadable, Header, Row, Links, packet_of}
+use Rattle.ttx_page.specs.Packets.{Packet, Header, Row, Links, packet_of}
 use Rattle.ttx_page.specs.Pages.{Page}
 use Rattle.ttx_page.specs.Streams.{Stream, repeated, heads_page, carries, IsLatestHeader, IsOwned, IsTransmission, AreSuccessive}
 use Rattle.ttx_page.specs.declared.class.Class.{Class}
