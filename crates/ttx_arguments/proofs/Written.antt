@@ -10,7 +10,7 @@ use Rattle.ttx_arguments.specs.Arguments.{command_named}
 use Rattle.ttx_arguments.specs.Grammar.{ttx_app}
 use Rattle.ttx_arguments.specs.Orders.{Asks, order_at}
 use Rattle.ttx_arguments.specs.Moments.{moment_of}
-use Rattle.ttx_arguments.specs.Examples.{VersionWords, CertifyWords, SendWords, RepeatWords, TwiceWords}
+use Rattle.ttx_arguments.specs.Examples.{VersionWords, CertifyWords, SendWords, RepeatWords, SpliceWords, TwiceWords}
 
 pub version_words : VersionWords
 unfolding ttx_app walked bundle_met chars encode_utf8 flags_pass walk_passes flags_fault walk_fault defaults_fault
@@ -27,6 +27,10 @@ send_words names = (inl (refl, refl), inl (refl, refl))
 pub repeat_words : RepeatWords
 unfolding ttx_app walked bundle_met chars encode_utf8 flags_pass walk_passes flags_fault walk_fault defaults_fault Asks order_at command_named
 repeat_words names = (inl (refl, refl), refl)
+
+pub splice_words : SpliceWords
+unfolding ttx_app walked bundle_met chars encode_utf8 flags_pass walk_passes flags_fault walk_fault defaults_fault Asks order_at command_named
+splice_words names = (inl (refl, refl), inl (refl, refl), inl (refl, refl), refl)
 
 pub twice_words : TwiceWords
 unfolding ttx_app walked bundle_met chars encode_utf8 flags_pass walk_passes flags_fault walk_fault defaults_fault Asks order_at command_named

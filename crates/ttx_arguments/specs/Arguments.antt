@@ -43,6 +43,7 @@ id_of argument.Slots = codes "slots"
 id_of argument.Fields = codes "fields"
 id_of argument.Phase = codes "phase"
 id_of argument.Offset = codes "offset"
+id_of argument.Sent = codes "sent"
 id_of argument.Save = codes "save"
 id_of argument.At = codes "at"
 id_of argument.PlannedLate = codes "late"
@@ -63,6 +64,7 @@ takes_of argument.Start = takes.Number 0 65535
 takes_of argument.Slots = takes.Number 0 1000000
 takes_of argument.Fields = takes.Number 0 4294967295
 takes_of argument.Phase = takes.Number 0 4294967295
+takes_of argument.Sent = takes.Number 0 4294967295
 takes_of argument.Offset = takes.Number 0 47
 takes_of argument.Save = takes.Text
 takes_of argument.At = takes.Text
@@ -125,7 +127,7 @@ arguments_of command.Show =
     argument.Cycle ∷ argument.Page ∷ argument.Lines ∷ argument.Start ∷ argument.Slots ∷ argument.Kind ∷ argument.Form ∷ argument.Reveal ∷ []
 arguments_of command.Preview = argument.Service ∷ argument.Page ∷ argument.Form ∷ argument.Reveal ∷ []
 arguments_of command.Splice =
-    argument.Old ∷ argument.New ∷ argument.OldService ∷ argument.NewService ∷ argument.OldCertificate ∷ argument.NewCertificate ∷ []
+    argument.Old ∷ argument.New ∷ argument.OldService ∷ argument.NewService ∷ argument.OldCertificate ∷ argument.NewCertificate ∷ argument.Sent ∷ []
 arguments_of command.Wait = argument.Cycle ∷ argument.Service ∷ argument.Repeat ∷ argument.Class ∷ argument.Items ∷ []
 arguments_of command.Send = argument.Cycle ∷ argument.At ∷ argument.Fields ∷ argument.Lines ∷ argument.Phase ∷ argument.Offset ∷ []
 arguments_of command.Pages = argument.Cycle ∷ []

@@ -2,7 +2,7 @@
 --
 --   LookView, look_view      how a page is shown
 --   OrderView, order_view    an order, its texts as bytes
---   given_at, text_at, number_at            the text and the number that a parse gives an argument
+--   given_at, text_at, number_given, number_at      the text and the number that a parse gives an argument
 --   kind_named, class_named, form_named     a kind of receiver, a class and a form by its name
 --   is_set                   whether an option without a value is given
 --   is_cycle_twice, is_twice        a cycle that is read twice, or more than one input, is standard input
@@ -66,7 +66,7 @@ pub data OrderView : Type 0 where
   receive_order : (cycle : Text) → (tuning : Tuning) → OrderView
   show_order : (cycle : Text) → (tuning : Tuning) → (look : LookView) → OrderView
   preview_order : (service : Text) → (selection : Selection) → (look : LookView) → OrderView
-  splice_order : (old new old_service new_service old_certificate new_certificate : Text) → OrderView
+  splice_order : (old new old_service new_service old_certificate new_certificate : Text) → (sent : Option ℕ) → OrderView
   wait_order : (cycle service : Text) → (repeat : ℕ) → (class : Class) → (items : Bool) → OrderView
   send_order : (cycle : Text) → (sending : Sending) → OrderView
   pages_order : (cycle : Text) → OrderView
@@ -85,7 +85,8 @@ order_view (Replay o) = replay_order o.cycle.now o.service.now o.counter.now
 order_view (Receive cycle tuning) = receive_order cycle.now tuning
 order_view (Show cycle tuning look) = show_order cycle.now tuning (look_view look)
 order_view (Preview service selection look) = preview_order service.now selection (look_view look)
-order_view (Splice o) = splice_order o.old.now o.new.now o.old_service.now o.new_service.now o.old_certificate.now o.new_certificate.now
+order_view (Splice o) =
+    splice_order o.old.now o.new.now o.old_service.now o.new_service.now o.old_certificate.now o.new_certificate.now o.sent
 order_view (Wait o) = wait_order o.cycle.now o.service.now o.repeat o.class o.items
 order_view (Send cycle sending) = send_order cycle.now sending
 order_view (Pages cycle) = pages_order cycle.now
@@ -121,9 +122,13 @@ abbrev pub within : Takes → ℕ → Option ℕ → ℕ
 within (takes.Number low high) default (Some number) = if nat_le low number && nat_le number high then number else default
 within _ default _ = default
 
--- The number that an option was given, or its default. Texts that are no number in its range are refused by `clap`.
+-- The number that an option was given. Texts that are no number in its range are refused by `clap`.
+abbrev pub number_given : Argument → List Row → Option ℕ
+number_given argument rows = option_and_then numeral (given_at argument rows)
+
+-- the same, or the default
 abbrev pub number_at : Argument → ℕ → List Row → ℕ
-number_at argument default rows = within (takes_of argument) default (option_and_then numeral (given_at argument rows))
+number_at argument default rows = within (takes_of argument) default (number_given argument rows)
 
 abbrev pub repeat_at : List Row → ℕ
 repeat_at rows = number_at argument.Repeat 1 rows
@@ -220,7 +225,7 @@ preview_at rows = preview_by (selection_of (text_at argument.Page rows)) rows
 abbrev pub splice_asked : List Row → OrderView
 splice_asked rows =
     splice_order (text_at argument.Old rows) (text_at argument.New rows) (text_at argument.OldService rows) (text_at argument.NewService rows)
-    (text_at argument.OldCertificate rows) (text_at argument.NewCertificate rows)
+    (text_at argument.OldCertificate rows) (text_at argument.NewCertificate rows) (number_given argument.Sent rows)
 
 abbrev pub wait_at : List Row → OrderView
 wait_at rows =

@@ -47,6 +47,7 @@ pub enum Argument {
     Fields,
     Phase,
     Offset,
+    Sent,
     Save,
     At,
     PlannedLate,
@@ -85,6 +86,7 @@ impl Argument {
             Argument::Fields => "fields",
             Argument::Phase => "phase",
             Argument::Offset => "offset",
+            Argument::Sent => "sent",
             Argument::Save => "save",
             Argument::At => "at",
             Argument::PlannedLate | Argument::Late => "late",
@@ -123,6 +125,7 @@ impl Argument {
             Argument::Slots | Argument::Fields => "N",
             Argument::Phase => "F",
             Argument::Offset => "HALVES",
+            Argument::Sent => "PERIODS",
             Argument::At => "MJD/HHMMSS",
             Argument::PlannedLate
             | Argument::Late
@@ -161,6 +164,7 @@ impl Argument {
             Argument::Fields => help::FIELDS_OPTION,
             Argument::Phase => help::PHASE_OPTION,
             Argument::Offset => help::OFFSET_OPTION,
+            Argument::Sent => help::SENT_OPTION,
             Argument::Save => help::SAVE_OPTION,
             Argument::At => help::AT_OPTION,
             Argument::PlannedLate => help::PLANNED_LATE_OPTION,
@@ -183,7 +187,7 @@ impl Argument {
             Argument::Lines | Argument::NeededLines => Takes::Number(1, 32),
             Argument::Start => Takes::Number(0, 65_535),
             Argument::Slots => Takes::Number(0, 1_000_000),
-            Argument::Fields | Argument::Phase => Takes::Number(0, 4_294_967_295),
+            Argument::Fields | Argument::Phase | Argument::Sent => Takes::Number(0, 4_294_967_295),
             Argument::Offset => Takes::Number(0, 47),
             Argument::Save | Argument::At => Takes::Text,
             Argument::PlannedLate

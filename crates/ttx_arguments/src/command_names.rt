@@ -150,7 +150,7 @@ impl CommandName {
             CommandName::Preview => &[Argument::Service, Argument::Page, Argument::Form, Argument::Reveal],
             CommandName::Splice => &[
                 Argument::Old, Argument::New, Argument::OldService,
-                Argument::NewService, Argument::OldCertificate, Argument::NewCertificate,
+                Argument::NewService, Argument::OldCertificate, Argument::NewCertificate, Argument::Sent,
             ],
             CommandName::Wait => &[Argument::Cycle, Argument::Service, Argument::Repeat, Argument::Class, Argument::Items],
             CommandName::Send => &[Argument::Cycle, Argument::At, Argument::Fields, Argument::Lines, Argument::Phase, Argument::Offset],

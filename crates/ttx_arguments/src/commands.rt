@@ -17,7 +17,8 @@ use crate::orders::{
 };
 use crate::page_names::selection;
 use crate::values::{
-    class_of, given, is_set, lines_of, look_of, repeat_of, sending_of, text_of, tuning_of,
+    class_of, given, given_number, is_set, lines_of, look_of, repeat_of, sending_of, text_of,
+    tuning_of,
 };
 use clap::ArgMatches;
 
@@ -166,6 +167,7 @@ pub(crate) fn splice_of<'a>(values: &ArgMatches<'a>) -> Order<'a>
         new_service: text_of(values, Argument::NewService),
         old_certificate: text_of(values, Argument::OldCertificate),
         new_certificate: text_of(values, Argument::NewCertificate),
+        sent: given_number(values, Argument::Sent),
     })
 }
 

@@ -258,6 +258,12 @@ NEWCERT, in this order, to their ends. Writes the verdict to standard output:
                             differs from it
   no 5 seam-late PAGE ITEM  through the change, ITEM of PAGE does not come in
                             time
+  no 6 too-soon SLOTS       with --sent: D fields are SLOTS slots more than OLD
+                            has been sent for
+
+With --sent, OLD may itself have begun with a change. If the answer to each
+change of a service is yes, a page is seen right from D fields after tuning, or
+after the change that brought it, until a change does not have it alike.
 
 Statuses:
   0  yes
@@ -487,6 +493,9 @@ pub(crate) const REVEAL_OPTION: &str = "Show concealed characters";
 pub(crate) const TWICE_OPTION: &str =
     "Read CYCLE twice, slot by slot, and keep none of it; with --late
 it is kept";
+
+pub(crate) const SENT_OPTION: &str = "Whole periods for which OLD has been on the air, 0 to
+4294967295; without it, OLD has always been";
 
 pub(crate) const SAVE_OPTION: &str = "Counter-run to write, a text; created or emptied, and left
 empty if there is none";

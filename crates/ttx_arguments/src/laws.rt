@@ -1,6 +1,6 @@
 //! What some words ask for, computed from the definitions: examples that hold the grammar and the orders to what a user types.
 
-ghost use Rattle.ttx_arguments.specs.Examples.{VersionWords, CertifyWords, SendWords, RepeatWords, TwiceWords};
+ghost use Rattle.ttx_arguments.specs.Examples.{VersionWords, CertifyWords, SendWords, RepeatWords, SpliceWords, TwiceWords};
 
 /// `--version` and `-V` ask for the version, also before other words.
 pub fn version_words()
@@ -20,6 +20,11 @@ pub fn send_words()
 /// A repeat count of 8 is taken, and one of 9 is refused.
 pub fn repeat_words()
     ensures { RepeatWords }
+{}
+
+/// `splice` takes the periods for which OLD has been on the air, and no number of them is not 0.
+pub fn splice_words()
+    ensures { SpliceWords }
 {}
 
 /// Two inputs cannot both be standard input, nor can a cycle that is read twice.

@@ -14,7 +14,7 @@ mod parsing;
 mod ranges;
 mod values;
 
-pub use laws::{certify_words, repeat_words, send_words, twice_words, version_words};
+pub use laws::{certify_words, repeat_words, send_words, splice_words, twice_words, version_words};
 pub use moments::Moment;
 pub use orders::{
     CertifyOrder, FindOrder, Look, Order, PlanOrder, ReceiverKind, RefuteOrder, ReplayOrder,

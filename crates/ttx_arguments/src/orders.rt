@@ -108,6 +108,8 @@ pub struct SpliceOrder<'a> {
     pub new_service: &'a str,
     pub old_certificate: &'a str,
     pub new_certificate: &'a str,
+    /// For how many whole periods OLD has been on the air; without it nothing is asked of how long it has been.
+    pub sent: Option<u32>,
 }
 
 /// What `wait` is asked for.

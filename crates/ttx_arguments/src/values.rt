@@ -1,11 +1,11 @@
 //! The values of arguments.
 
-ghost use Rattle.std.specs.Prelude.{◌≡◌, option_map, option_and_then};
+ghost use Rattle.std.specs.Prelude.{◌≡◌, option_map};
 ghost use Rattle.clap.specs.Words.{rows_of, found_of};
 ghost use Rattle.ttx_arguments.specs.Arguments.{takes_of};
 ghost use Rattle.ttx_arguments.specs.Orders as rule;
 ghost use Rattle.ttx_arguments.specs.Orders.{look_view, given_at, text_at, kind_named, class_named, form_named, is_set, tuning_asked, look_at, sending_at};
-ghost use Rattle.ttx_arguments.specs.Orders.{IsInside, number_at, lines_at, repeat_at};
+ghost use Rattle.ttx_arguments.specs.Orders.{IsInside, number_given, number_at, lines_at, repeat_at};
 ghost use Rattle.ttx_arguments.specs.declared.arguments.Argument.TheVariants as argument;
 
 use crate::arguments::{Argument, Takes};
@@ -40,8 +40,8 @@ fn numeral(text: &str) -> Option<u32>
 }
 
 // The number that an argument was given.
-fn given_number(values: &ArgMatches<'_>, argument: Argument) -> Option<u32>
-    ensures { result ≡ option_and_then rule.numeral (given_at argument (rows_of (found_of values.now))) }
+pub(crate) fn given_number(values: &ArgMatches<'_>, argument: Argument) -> Option<u32>
+    ensures { result ≡ number_given argument (rows_of (found_of values.now)) }
 {
     match given(values, argument) {
         Some(text) => numeral(text),
