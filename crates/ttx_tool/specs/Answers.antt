@@ -12,6 +12,8 @@ use Rattle.ttx_check.specs.declared.faults.CheckFault.{CheckFault}
 use Rattle.ttx_late.specs.declared.verdict.LateVerdict.{LateVerdict}
 use Rattle.ttx_late.specs.declared.verdict.LateVerdict.TheVariants as late
 use Rattle.ttx_pages.specs.declared.faults.PagesFault.{PagesFault}
+use Rattle.ttx_proof.specs.declared.sent.SentVerdict.{SentVerdict}
+use Rattle.ttx_proof.specs.declared.sent.SentVerdict.TheVariants as sent
 use Rattle.ttx_proof.specs.declared.verdict.SpliceVerdict.{SpliceVerdict}
 use Rattle.ttx_proof.specs.declared.verdict.SpliceVerdict.TheVariants as splice
 use Rattle.ttx_tool.specs.FilesFaults.{tool_fault, pages_tool_fault, check_tool_fault}
@@ -30,6 +32,11 @@ abbrev pub splice_status : SpliceVerdict → ℕ
 splice_status splice.Yes = 0
 splice_status (splice.No reason) = 1
 
+abbrev pub sent_status : SentVerdict → ℕ
+sent_status sent.Yes = 0
+sent_status (sent.No reason) = 1
+sent_status (sent.TooSoon left) = 1
+
 abbrev pub certify_answer : Result Verdict FilesFault → Result ℕ ToolFault
 certify_answer (Ok verdict) = Ok (verdict_status verdict)
 certify_answer (Err fault) = Err (tool_fault fault)
@@ -41,6 +48,10 @@ late_answer (Err fault) = Err (tool_fault fault)
 abbrev pub splice_answer : Result SpliceVerdict FilesFault → Result ℕ ToolFault
 splice_answer (Ok verdict) = Ok (splice_status verdict)
 splice_answer (Err fault) = Err (tool_fault fault)
+
+abbrev pub sent_answer : Result SentVerdict FilesFault → Result ℕ ToolFault
+sent_answer (Ok verdict) = Ok (sent_status verdict)
+sent_answer (Err fault) = Err (tool_fault fault)
 
 abbrev pub pages_answer : Result ⊤ PagesFault → Result ℕ ToolFault
 pages_answer (Ok _) = Ok 0

@@ -19,6 +19,7 @@ mod reports;
 pub mod send;
 pub mod show;
 pub mod splice;
+pub mod splice_sent;
 pub mod version;
 pub mod wait;
 mod writing;

@@ -65,11 +65,37 @@ fn splice_readers(rt: &HostRuntime, readers: &mut SpliceReaders) -> Result<u8, T
     )
 }
 
-fn splice_inputs(rt: &HostRuntime, inputs: SpliceInputs) -> Result<u8, ToolFault> {
+fn splice_readers_sent(
+    rt: &HostRuntime,
+    readers: &mut SpliceReaders,
+    periods: u32,
+) -> Result<u8, ToolFault> {
+    let mut writer = Counted::new(io::writer(rt));
+    commands::splice_sent::run(
+        rt.alloc(),
+        &mut readers.cycles.old,
+        &mut readers.cycles.new,
+        &mut readers.services.old,
+        &mut readers.services.new,
+        &mut readers.certificates.old,
+        &mut readers.certificates.new,
+        periods,
+        &mut writer,
+    )
+}
+
+fn splice_inputs(
+    rt: &HostRuntime,
+    inputs: SpliceInputs,
+    sent: Option<u32>,
+) -> Result<u8, ToolFault> {
     let Ok(mut readers) = buffered_all(rt, inputs) else {
         return Err(ToolFault::NoMemory);
     };
-    splice_readers(rt, &mut readers)
+    match sent {
+        None => splice_readers(rt, &mut readers),
+        Some(periods) => splice_readers_sent(rt, &mut readers, periods),
+    }
 }
 
 // Opens two inputs.
@@ -89,5 +115,5 @@ pub fn splice(rt: &HostRuntime, order: &SpliceOrder<'_>) -> Outcome {
         services,
         certificates,
     };
-    Ok(status_of(rt, splice_inputs(rt, inputs)))
+    Ok(status_of(rt, splice_inputs(rt, inputs, order.sent)))
 }
