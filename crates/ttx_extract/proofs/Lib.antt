@@ -1,6 +1,7 @@
 mod Lists
 mod Slots
 mod Packets
+mod NeededRows
 mod Pages
 mod FirstInfos
 mod FirstReasons

@@ -37,5 +37,5 @@ module _ (listed : TransmissionsAreListed) (slots : List (List ℕ)) (some : 1 �
 
   pub blamed_has_none : (fault : ExtractFault) → Blames slots lines fault → (service : ServiceFields) → IsExtract slots lines service → ⊥
   blamed_has_none (Conflict page item first second) b service is = none_is_steady page b.reason b.blamed service is
-  blamed_has_none (FaultReason reason) b service is = none_is_steady b.0 reason b.1 service is
+  blamed_has_none (FaultReason reason) b service is = none_is_steady b.page reason b.blamed service is
   blamed_has_none fault b service is = absurd b

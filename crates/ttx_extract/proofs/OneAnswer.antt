@@ -105,7 +105,7 @@ module _ (slots : List (List ℕ)) (lines : ℕ) where
   is_kind (Err Unsaid) is m kind = subst IsKind (some_same other_text m kind) is.answer
   is_kind (Err (Conflict page item first second)) is m kind =
       subst IsKind (some_same unsteady m kind) (is.answer.0, (page, is.answer.1.reason, is.answer.1.blamed))
-  is_kind (Err (Reason reason)) is m kind = subst IsKind (some_same unsteady m kind) (is.answer.0, (is.answer.1.0, reason, is.answer.1.1))
+  is_kind (Err (Reason reason)) is m kind = subst IsKind (some_same unsteady m kind) (is.answer.0, (is.answer.1.page, reason, is.answer.1.blamed))
   is_kind (Err NoMemory) is m kind = absurd (none_some m kind)
 
   -- the text is too long, or refused, or says something else: not what is said

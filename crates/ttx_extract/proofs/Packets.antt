@@ -1,21 +1,18 @@
--- Packets that differ, and the number of a row.
-use Rattle.std.proofs.Common.{◌≡◌, ℕ, Bool, true, false, not, List, Option, Some, None, SomeIff, IfSome, sym, ap, ◌∙◌, subst}
-use Rattle.ttx_packet.specs.Slots.{Kind, IsLinks, kind_of}
-use Rattle.ttx_links.specs.Sets.{LinkSet, links_of}
-use Rattle.ttx_page.specs.Packets.{Packet, Row, Links, packet_of, packet_of_kind}
-use Rattle.ttx_extract.specs.Extracts.{Differs}
+-- The packets of slots, and the number of a row.
+use Rattle.std.proofs.Common.{◌≡◌, ℕ, ◌≤◌, true, List, Option, Some, None, SomeIff, IfSome, IfNone, sym, ap, ◌∙◌, subst, arith, eqb, eqb-true}
+use Rattle.std.proofs.lemmas.Bool.{and_parts, false≢true}
+use Rattle.ttx_packet.specs.Slots.{Kind, kind_of}
+use Rattle.ttx_page.specs.Packets.{Packet, Empty, Unreadable, Header, Row, Links, Info, Other, packet_of, packet_of_kind}
+use Rattle.ttx_page.specs.Streams.{carries}
+use Rattle.ttx_page.specs.declared.item.Item.TheVariants.{Row as TheRow}
+use Rattle.ttx_witness.specs.faults.Comparing.{HoldsNoLinks}
 
-packet_is : (slot : List ℕ) (k : Kind) → kind_of slot ≡ k → packet_of slot ≡ packet_of_kind slot k
+pub packet_is : (slot : List ℕ) (k : Kind) → kind_of slot ≡ k → packet_of slot ≡ packet_of_kind slot k
 unfolding packet_of
 packet_is slot k e = ap (packet_of_kind slot) e
 
-pub links_unlike : (a b : List ℕ) (m n : ℕ) (x y : Option LinkSet) → kind_of a ≡ IsLinks m → kind_of b ≡ IsLinks n → links_of m a ≡ x →
-    links_of n b ≡ y →
-    (x ≡ y → ⊥) → Differs (packet_of a) (packet_of b)
-links_unlike a b m n x y ka kb ex ey unlike =
-    let p : packet_of a ≡ Links m x = packet_is a (IsLinks m) ka ∙ ap (Links m) ex in
-    let q : packet_of b ≡ Links n y = packet_is b (IsLinks n) kb ∙ ap (Links n) ey in
-    subst (λ z. Differs z (packet_of b)) (sym p) (subst (Differs (Links m x)) (sym q) unlike)
+pub no_links_in : (slot : List ℕ) (k : Kind) → kind_of slot ≡ k → HoldsNoLinks (packet_of_kind slot k) → HoldsNoLinks (packet_of slot)
+no_links_in slot k e none = subst HoldsNoLinks (sym (packet_is slot k e)) none
 
 same_number : (m n k l : ℕ) (t u : List ℕ) → Row m k t ≡ Row n l u → k ≡ l
 same_number m n k l t u e = cc
@@ -25,9 +22,22 @@ pub row_is : (o : Option ℕ) (P : Type 0) (n : ℕ) → SomeIff o P n → (pack
 row_is None P n s packet mag text e = tt
 row_is (Some row) P n s packet mag text e = λ m k t f. same_number m mag k n t text (sym f ∙ e) ∙ sym s.1
 
-pub not_same : (b : Bool) → not b ≡ true → b ≡ true → ⊥
-not_same true e t = let h : false ≡ true = e in cc
-not_same false e t = let h : false ≡ true = t in cc
+-- a row's number is that of a row of a page, or it isn't in its range
+pub row_none : (o : Option ℕ) (n : ℕ) (Within : Type 0) → SomeIff o ((1 ≤ n) × (n ≤ 24)) n → (packet : Packet) (mag : ℕ) (text : List ℕ) →
+    packet ≡ Row mag n text → IfNone o (Within → (m k : ℕ) (t : List ℕ) → packet ≡ Row m k t → 1 ≤ k → k ≤ 24 → ⊥)
+row_none None n Within s packet mag text e = λ w m k t f from to.
+    let same : k ≡ n = same_number m mag k n t text (sym f ∙ e) in
+    s (omega arith, omega arith)
+row_none (Some row) n Within s packet mag text e = tt
 
-pub some_same : (x y : LinkSet) → Some x ≡ Some y → x ≡ y
-some_same x y e = cc
+-- the packet that carries a row
+pub carried : (mag r : ℕ) (packet : Packet) → carries mag (TheRow r) packet ≡ true → (m : ℕ) × (text : List ℕ) × (packet ≡ Row m r text)
+carried mag r Empty e = absurd (false≢true e)
+carried mag r Unreadable e = absurd (false≢true e)
+carried mag r (Header id control text) e = absurd (false≢true e)
+carried mag r (Row m number text) e =
+    let same : number ≡ r = eqb-true number r ((and_parts (eqb m mag) (eqb number r) e).1) in
+    (m, text, ap (λ n. Row m n text) same)
+carried mag r (Links m content) e = absurd (false≢true e)
+carried mag r Info e = absurd (false≢true e)
+carried mag r Other e = absurd (false≢true e)

@@ -5,8 +5,10 @@
 --   IsSentService           the service says what the cycle sends first
 --   AreSteady, IsExtract    its pages are sent unchanged; the service of the cycle's text
 --   IsFirstReason           the reason of the first page that isn't sent unchanged
---   Differs, IsUnlikeFirst  two packets of an item with different contents; an item's first slot, and one that differs from it
+--   UnlikeHeads, UnlikeRows, UnlikeLinks, Differs   two packets of an item with different contents
+--   IsUnlikeFirst           an item's first slot, and one that differs from it
 --   NamesItem, IsConflict   the item of a reason; the same of the reason of the first page that isn't sent unchanged
+--   IsBlamed                that reason, where no two slots differ
 --   IsMinusZero, HasOffset  the first packet 8/30 has an offset that no text says; it has none
 --   IsWritten, IsSaid       the offset and the ids are such as a service has; the text of what the cycle sends says just that
 --   IsNotSaid               why the text doesn't
@@ -73,12 +75,23 @@ pub record IsExtract (slots : List (List ℕ)) (lines : ℕ) (service : ServiceF
   pub sent : IsSentService slots lines service
   pub steady : AreSteady slots service
 
--- other control bits or characters 8 to 31 of headers, other characters of rows, other links
+-- headers with other control bits or characters 8 to 31
+abbrev pub UnlikeHeads : Packet → Packet → Type 0
+UnlikeHeads (Header a control text) (Header b other bytes) = (control ≡ other) × (take 24 text ≡ take 24 bytes) → ⊥
+UnlikeHeads a b = ⊥
+
+-- rows with other characters
+abbrev pub UnlikeRows : Packet → Packet → Type 0
+UnlikeRows (Row a m text) (Row b n bytes) = text ≡ bytes → ⊥
+UnlikeRows a b = ⊥
+
+-- X/27/0 with other links, or one of them has a byte that can't be read
+abbrev pub UnlikeLinks : Packet → Packet → Type 0
+UnlikeLinks (Links a content) (Links b other) = content ≡ other → ⊥
+UnlikeLinks a b = ⊥
+
 abbrev pub Differs : Packet → Packet → Type 0
-Differs (Header a control text) (Header b other bytes) = (control ≡ other) × (take 24 text ≡ take 24 bytes) → ⊥
-Differs (Row a m text) (Row b n bytes) = text ≡ bytes → ⊥
-Differs (Links a content) (Links b other) = content ≡ other → ⊥
-Differs a b = ⊥
+Differs a b = UnlikeHeads a b ⊎ UnlikeRows a b ⊎ UnlikeLinks a b
 
 -- The service that says what is sent first has a page with this reason, and each page before it is sent unchanged.
 pub record IsFirstReason (slots : List (List ℕ)) (lines : ℕ) (page : Id) (reason : WitnessReason) : Type 0 where
@@ -116,6 +129,13 @@ pub record IsConflict (slots : List (List ℕ)) (lines : ℕ) (page : Id) (item 
   pub second : IsTransmission (repeated slots) page item (pos b)
   pub unlike : IsUnlikeFirst slots lines page item a b
 
+-- the first page that isn't sent unchanged, and its reason; a slot of this reason says what the item's first slot says
+pub record IsBlamed (slots : List (List ℕ)) (lines : ℕ) (reason : WitnessReason) : Type 0 where
+  pub page : Id
+  pub blamed : IsFirstReason slots lines page reason
+  pub alike : (item : Item) (a b : ℕ) → NamesItem reason item b → IsTransmission (repeated slots) page item (pos b) →
+      IsUnlikeFirst slots lines page item a b → ⊥
+
 -- the slot has the first packet 8/30 format 1, with a negative offset of no half-hours
 pub record IsMinusZero (slots : List (List ℕ)) (slot : ℕ) : Type 0 where
   pub fields : InfoFields
@@ -147,7 +167,7 @@ IsNotSaid slots lines fault = IsWritten slots × IsNotMade (sent_draft slots lin
 -- the first page that isn't sent unchanged: two slots that differ, or its reason
 abbrev pub Blames : List (List ℕ) → ℕ → ExtractFault → Type 0
 Blames slots lines (Conflict page item first second) = IsConflict slots lines page item first second
-Blames slots lines (Reason reason) = (page : Id) × IsFirstReason slots lines page reason
+Blames slots lines (Reason reason) = IsBlamed slots lines reason
 Blames slots lines fault = ⊥
 
 -- why there is no text; of these answers, but for that of wanting memory, one is true at most, and none where there is a text

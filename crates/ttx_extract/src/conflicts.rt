@@ -1,6 +1,6 @@
 //! Two slots that send different contents of an item.
 
-ghost use Rattle.std.specs.Prelude.{◌≡◌, ℕ, List, IsTrue, IfSome, Some, pos, unsigned_abs};
+ghost use Rattle.std.specs.Prelude.{◌≡◌, ◌↔◌, ◌<◌, ◌≤◌, ℕ, List, IsTrue, IfNone, IfSome, MatchOption, Some, length, option_map, pos, unsigned_abs};
 ghost use Rattle.ttx_cycle.specs.Cycles.{slots_of};
 ghost use Rattle.ttx_packet.specs.Slots.{IsSlot};
 ghost use Rattle.ttx_header.specs.Ids.{Id};
@@ -10,15 +10,16 @@ ghost use Rattle.ttx_page.specs.Pages as definitions;
 ghost use Rattle.ttx_page.specs.Streams.{repeated, IsTransmission};
 ghost use Rattle.ttx_source.specs.Services.{ServiceFields, pages_of};
 ghost use Rattle.ttx_witness.specs.sent.AllSent.{AreAllSent};
+ghost use Rattle.ttx_witness.specs.faults.Comparing.{HoldsNoRow, HoldsNoLinks};
 ghost use Rattle.ttx_witness.specs.faults.Faults.{IsPageFault};
 ghost use Rattle.ttx_witness.specs.sent.ItemTransmissions.{sent_in};
-ghost use Rattle.ttx_extract.specs.Extracts.{Differs, IsUnlikeFirst, NamesItem, IsSentService, Blames};
-ghost use Rattle.ttx_extract.specs.FirstReasons.{TellsPage};
+ghost use Rattle.ttx_extract.specs.Extracts.{Differs, UnlikeHeads, UnlikeRows, UnlikeLinks, IsUnlikeFirst, NamesItem, IsSentService, Blames};
+ghost use Rattle.ttx_extract.specs.FirstReasons.{TellsPage, HoldsText, HoldsContent};
 
 use crate::checking::Told;
 use crate::faults::ExtractFault;
 use ttx_cycle::Cycle;
-use ttx_links::read_links;
+use ttx_links::{Links, read_links};
 use ttx_packet::{Slot, slot_of};
 use ttx_page::{Item, RowNumber};
 use ttx_witness::{Collected, Reason, Transmission, header_in, row_in, same_links};
@@ -27,43 +28,75 @@ use ttx_witness::{Collected, Reason, Transmission, header_in, row_in, same_links
 fn heads_differ(a: &[u8; 42], b: &[u8; 42]) -> bool
     requires a { IsSlot a.now }
     requires b { IsSlot b.now }
-    ensures { IsTrue result → Differs (packet_of a.now) (packet_of b.now) }
+    ensures { IsTrue result ↔ UnlikeHeads (packet_of a.now) (packet_of b.now) }
 {
-    match (header_in(a), header_in(b)) {
-        (Some(a), Some(b)) => a.control().0 != b.control().0 || a.text() != b.text(),
-        _ => false,
+    let (Some(a), Some(b)) = (header_in(a), header_in(b)) else {
+        return false;
+    };
+    a.control().0 != b.control().0 || a.text() != b.text()
+}
+
+// The characters of the row in a slot.
+fn row_text(slot: &[u8; 42]) -> Option<&[u8; 40]>
+    ensures { MatchOption result (HoldsNoRow (packet_of slot.now)) (λ text. HoldsText text.now (packet_of slot.now)) }
+{
+    match row_in(slot) {
+        Some(_) => slot.last_chunk::<40>(),
+        None => None,
     }
 }
 
 // Whether two slots are rows with other characters.
 fn rows_differ(a: &[u8; 42], b: &[u8; 42]) -> bool
-    ensures { IsTrue result → Differs (packet_of a.now) (packet_of b.now) }
+    ensures { IsTrue result ↔ UnlikeRows (packet_of a.now) (packet_of b.now) }
 {
-    match (row_in(a), row_in(b)) {
-        (Some(_), Some(_)) => a[2..] != b[2..],
+    let (Some(a), Some(b)) = (row_text(a), row_text(b)) else {
+        return false;
+    };
+    a != b
+}
+
+// The links of the X/27/0 in a slot; none of them where a byte can't be read.
+fn content_in(slot: &[u8; 42]) -> Option<Option<Links>>
+    ensures { MatchOption result (HoldsNoLinks (packet_of slot.now))
+        (λ content. HoldsContent (option_map (λ l. l.set) content) (packet_of slot.now)) }
+{
+    match slot_of(slot) {
+        Slot::Links(at, bytes) => Some(read_links(at.mag, bytes)),
+        Slot::Empty => None,
+        Slot::Unreadable => None,
+        Slot::Header(_, _) => None,
+        Slot::Row(_, _) => None,
+        Slot::Info(_, _) => None,
+        Slot::Other(_) => None,
+    }
+}
+
+fn same_content(a: &Option<Links>, b: &Option<Links>) -> bool
+    ensures { IsTrue result ↔ (option_map (λ l. l.set) a.now ≡ option_map (λ l. l.set) b.now) }
+{
+    match (a, b) {
+        (Some(a), Some(b)) => same_links(a, b),
+        (None, None) => true,
         _ => false,
     }
 }
 
-// Whether two slots are X/27/0 with other links, or one of them can't be read.
+// Whether two slots are X/27/0 with other links, or a byte of one of them can't be read.
 fn links_differ(a: &[u8; 42], b: &[u8; 42]) -> bool
-    ensures { IsTrue result → Differs (packet_of a.now) (packet_of b.now) }
+    ensures { IsTrue result ↔ UnlikeLinks (packet_of a.now) (packet_of b.now) }
 {
-    let (Slot::Links(at, first), Slot::Links(other, second)) = (slot_of(a), slot_of(b)) else {
+    let (Some(a), Some(b)) = (content_in(a), content_in(b)) else {
         return false;
     };
-    match (read_links(at.mag, first), read_links(other.mag, second)) {
-        (Some(a), Some(b)) => !same_links(&a, &b),
-        (None, None) => false,
-        _ => true,
-    }
+    !same_content(&a, &b)
 }
 
 // Whether two slots send different contents.
 fn differ(a: &[u8; 42], b: &[u8; 42]) -> bool
     requires a { IsSlot a.now }
     requires b { IsSlot b.now }
-    ensures { IsTrue result → Differs (packet_of a.now) (packet_of b.now) }
+    ensures { IsTrue result ↔ Differs (packet_of a.now) (packet_of b.now) }
 {
     heads_differ(a, b) || rows_differ(a, b) || links_differ(a, b)
 }
@@ -76,8 +109,9 @@ fn slot_of_first(sent: Transmission) -> u32
 
 // The slot of a list's first transmission, where this slot differs from it.
 fn first_unlike(cycle: &Cycle, sent: &[Transmission], slot: u32) -> Option<u32>
-    ensures { IfSome result (λ first. (page : Id) (lines : ℕ) (item : ItemIs) → sent.now ≡ sent_in (slots_of cycle.now) page lines item →
-        IsUnlikeFirst (slots_of cycle.now) lines page item first slot) }
+    ensures { (page : Id) (lines : ℕ) (item : ItemIs) → sent.now ≡ sent_in (slots_of cycle.now) page lines item →
+        MatchOption result ((a : ℕ) → IsUnlikeFirst (slots_of cycle.now) lines page item a slot → ⊥)
+        (λ first. IsUnlikeFirst (slots_of cycle.now) lines page item first slot) }
 {
     ttx_witness::judging_laws::transmissions_are_listed();
     let slots = cycle.slots();
@@ -100,8 +134,10 @@ fn first_unlike(cycle: &Cycle, sent: &[Transmission], slot: u32) -> Option<u32>
 
 // The row in a slot of the cycle.
 fn row_at(cycle: &Cycle, slot: u32) -> Option<RowNumber>
-    ensures { IfSome result (λ row. (mag number : ℕ) (text : List ℕ) → packet_of (repeated (slots_of cycle.now) (pos slot)) ≡ Row mag number text →
+    ensures row { IfSome result (λ row. (mag number : ℕ) (text : List ℕ) → packet_of (repeated (slots_of cycle.now) (pos slot)) ≡ Row mag number text →
         number ≡ row) }
+    ensures none { IfNone result (slot < length (slots_of cycle.now) → (mag number : ℕ) (text : List ℕ) →
+        packet_of (repeated (slots_of cycle.now) (pos slot)) ≡ Row mag number text → 1 ≤ number → number ≤ 24 → ⊥) }
 {
     let slots = cycle.slots();
     if slot as usize >= slots.len() {
@@ -126,6 +162,9 @@ fn unlike_item(cycle: &Cycle, reason: &Reason) -> Option<Blamed>
     ensures sent { IfSome result (λ unlike. (pages : List definitions.Page) (p : definitions.Page) →
         IsPageFault (slots_of cycle.now) pages p (Some reason.now) →
         IsTransmission (repeated (slots_of cycle.now)) p.id unlike.item (pos unlike.slot)) }
+    ensures only { (pages : List definitions.Page) (p : definitions.Page) → IsPageFault (slots_of cycle.now) pages p (Some reason.now) →
+        (item : ItemIs) (b : ℕ) → NamesItem reason.now item b → IsTransmission (repeated (slots_of cycle.now)) p.id item (pos b) →
+        MatchOption result ⊥ (λ unlike. (item ≡ unlike.item) × (b ≡ unlike.slot)) }
 {
     match reason {
         Reason::HeadDiffers { page: _, slot } => Some(Blamed {
