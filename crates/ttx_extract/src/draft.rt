@@ -1,10 +1,10 @@
-//! What a cycle sends, before a text is written of it.
+//! What a text is written of.
 
 use crate::sent_page::SentPage;
 use ttx_info::Info;
 
-/// The lines of a field, C11, the packet 8/30 and the pages that a text is written of. It need not be a service: a page may have an
-/// id that no service definition has.
+/// The lines of a field, C11, the packet 8/30 and the pages that a text is written of. It need not be a service: the lines may be out
+/// of range.
 #[derive(Drop)]
 pub struct Draft {
     pub lines: u8,

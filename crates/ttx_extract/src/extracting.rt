@@ -123,6 +123,9 @@ fn make(alloc: Global, draft: &Draft) -> Result<Extracted, ExtractFault>
 /// The text of the service that a cycle sends, with these lines of a field, and the service. Pages stand in the order of their first
 /// headers, with the first transmission of each item; a row that isn't sent is spaces. Before it is answered the text is read, and
 /// the cycle is compared with it as the certifier does.
+///
+/// The first of these that holds is answered: `Info`, a minus zero in the packet 8/30; `Service`, more than 2,000 pages or one with
+/// subcode 3F7F; `TooLong`, `Service` and `Unsaid`, of the text; `Conflict` or `Reason`, the first page that isn't sent unchanged.
 pub fn extract(alloc: Global, cycle: &Cycle, lines: u8) -> Result<Extracted, ExtractFault>
     ensures answer { Extracts (slots_of cycle.now) lines result }
     ensures sent { IfOk result (λ e. e.service ≡ sent_draft (slots_of cycle.now) lines) }

@@ -8,24 +8,25 @@ use ttx_witness::Reason;
 /// Why a cycle has no service text.
 #[derive(Clone, Copy)]
 pub enum ExtractFault {
-    /// Two slots send an item of a page with different contents.
+    /// The first page that isn't sent unchanged: slot `second` sends the item with other contents than its first slot, `first`.
     Conflict {
         page: PageId,
         item: Item,
         first: u32,
         second: u32,
     },
-    /// A page isn't sent as any service has it: one of the certifier's reasons 2 to 7, and no two slots differ.
+    /// The first page that isn't sent unchanged has this reason, one of the certifier's reasons 2 to 7, and no two slots differ.
     Reason(Reason),
     /// The packet 8/30 in the slot has a local offset of minus zero.
     Info {
         slot: u32,
     },
-    /// The text of what the cycle sends isn't a service definition.
+    /// Headers name more than 2,000 pages, or one with subcode 3F7F, which no page has; or the text of what the cycle sends isn't a
+    /// service definition.
     Service(SourceError),
     /// The text is longer than 4,194,304 bytes.
     TooLong,
-    /// The text says something else than the cycle.
+    /// The text is read as another service than it was written of.
     Unsaid,
     /// A growth was refused.
     NoMemory,

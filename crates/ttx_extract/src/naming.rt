@@ -100,7 +100,7 @@ fn blank_pages(alloc: Global, ids: &[PageId]) -> Result<Vec<Page>, ExtractFault>
     Ok(pages)
 }
 
-/// Pages that say nothing, with the ids that headers name, in the order of their first headers.
+/// Pages that say nothing, with the ids that headers name, in the order of their first headers; at most 2,000.
 pub fn named_pages(alloc: Global, cycle: &Cycle) -> Result<Vec<Page>, ExtractFault>
     ensures pages { IfOk result (λ pages. ids_of pages.items ≡ named (slots_of cycle.now)) }
     ensures few { IfOk result (λ pages. length (named (slots_of cycle.now)) ≤ 2000) }
