@@ -30,6 +30,11 @@ distinct_ids pages authored e distinct =
     (sym (map-map (λ (p : Page). p.id) (λ (a : Authored). a.page) authored) ∙ ap (map (λ (p : Page). p.id)) (sym e)
     ∙ map-map (λ (p : Page). p.id) page_of pages) distinct
 
+pub same_ids : (pages : List PageValue) (authored : List Authored) → map page_of pages ≡ map (λ (p : Authored). p.page) authored →
+    ids_of pages ≡ authored_ids authored
+same_ids pages authored e =
+    sym (map-map (λ (p : Page). p.id) page_of pages) ∙ ap (map (λ (p : Page). p.id)) e ∙ map-map (λ (p : Page). p.id) (λ (a : Authored). a.page) authored
+
 -- a wait that has a deadline tells it
 told_is : (P : ℕ → Type 0) (d : ℕ) (wait : Wait) → P d → IsLeast P (fields_told wait) → IsLeast P (Some (fields_of wait))
 told_is P d (Fields fields item) some least = least

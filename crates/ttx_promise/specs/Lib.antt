@@ -4,3 +4,7 @@ pub mod Views
 pub mod Promises
 pub mod PromiseLines
 pub mod Searching
+pub mod PromisedWaits
+pub mod OtherPages
+pub mod PromisedLines
+pub mod PromisedReports

@@ -1,6 +1,8 @@
 //! Spread plans that keep the promises of a service: each page that is to be seen within some seconds is sent as often as that takes.
+//! And reports on how long viewers wait, beside what is promised.
 #![tactic(auto)]
 
+mod absent_pages;
 mod deadlines;
 mod faults;
 mod lateness;
@@ -8,10 +10,16 @@ mod layout;
 mod parallel_layout;
 mod planning;
 mod promise_lines;
+mod promised_lines;
+mod promised_reports;
 mod searching;
 mod serial_layout;
+mod waits_and_promises;
 mod waits_by_layout;
 
+pub use absent_pages::other_pages;
 pub use faults::{LatePage, PromiseFault};
 pub use planning::{Viewers, plan_promises};
 pub use promise_lines::late_lines;
+pub use promised_reports::{PromisedReport, report_promises};
+pub use waits_and_promises::{PromisedWait, promised_waits, some_late};
