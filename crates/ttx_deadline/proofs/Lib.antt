@@ -1,1 +1,2 @@
 mod LaterDeadlines
+mod JudgedInputs

@@ -1,3 +1,4 @@
 pub mod Deadlines
 pub mod Requirements
 pub mod RequiredLines
+pub mod RequiredFiles

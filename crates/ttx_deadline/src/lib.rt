@@ -3,9 +3,11 @@
 
 mod copies;
 mod finding;
+mod required_files;
 mod required_lines;
 mod requirements;
 
 pub use finding::{Asked, FoundWith, find_with};
+pub use required_files::certify_files_required;
 pub use required_lines::required_line;
 pub use requirements::{RequiredVerdict, Unmet, certify_required, first_unmet};

@@ -89,7 +89,7 @@ pub fn outlines(
     Ok(outlines)
 }
 
-// A page stands in every so manieth round.
+// How many rounds there are from one that a page is sent in to the next.
 fn rounds_between(often: u8) -> usize
     ensures { 1 ≤ result }
 {
