@@ -1,17 +1,20 @@
 -- The subpages of an accepted cycle.
-use Rattle.std.proofs.Common.{◌≡◌, ℕ, ℤ, pos, ◌+ℤ◌, ◌<ℤ◌, ◌≤ℤ◌, true, List, refl, inl, inr, arith, slice_get, Some}
+use Rattle.std.proofs.Common.{◌≡◌, ℕ, zero, suc, ℤ, pos, ◌+ℤ◌, ◌-ℤ◌, ◌<ℤ◌, ◌≤ℤ◌, true, List, refl, sym, ◌∙◌, inl, inr, arith, slice_get, Some}
 use Rattle.std.proofs.lemmas.Int.{ints}
-use Rattle.ttx_page.specs.Packets.{packet_of}
+use Rattle.ttx_header.specs.Ids.{Id}
+use Rattle.ttx_page.proofs.SlotDistances.{cases_ltz}
+use Rattle.ttx_page.specs.Packets.{Packet, Empty, Unreadable, Header, Row, Links, Info, Other, packet_of}
 use Rattle.ttx_page.specs.Pages.{Page}
 use Rattle.ttx_page.specs.declared.selection.Selection.TheVariants.{Exact}
 use Rattle.ttx_page.specs.declared.item.Item.TheVariants.{Links as TheLinks}
-use Rattle.ttx_page.specs.Streams.{repeated, heads_page}
+use Rattle.ttx_page.specs.Streams.{Stream, repeated, heads_page, heads_matched}
 use Rattle.ttx_cycle.specs.Files.{IsCycle}
 use Rattle.ttx_witness.specs.Coverage.{Certificate, IsCertificate, Accepts, limit}
 use Rattle.ttx_certify.specs.Laws.{ArePages}
 use Rattle.ttx_certify.proofs.AcceptedIsSeen.{StreamLaws, steady_from, brought}
 use Rattle.ttx_subpages.specs.WholeBlocks.{IsSubpage, SendsUnchanged}
-use Rattle.ttx_subpages.specs.Laws.{HasHeaders, BlocksAreSeen, AcceptedAreSeen, BlocksAreHeld, AcceptedAreHeld}
+use Rattle.ttx_subpages.specs.Stays.{ComesAgainWithin}
+use Rattle.ttx_subpages.specs.Laws.{HasHeaders, BlocksAreSeen, AcceptedAreSeen, AcceptedAreSeenAgain, BlocksAreHeld, AcceptedAreHeld}
 use Rattle.ttx_late.proofs.RunsAreShown.{owner_heads}
 
 module _ (laws : StreamLaws) (cycle : List (List ℕ)) (pages : List Page) (w : Certificate) (is_cycle : IsCycle cycle)
@@ -38,6 +41,48 @@ module _ (laws : StreamLaws) (cycle : List (List ℕ)) (pages : List Page) (w : 
         are_pages = λ p sub. are_pages sub.index p sub.listed;
         items = λ p sub item checked h j owned. (steady p sub h).items item checked h j (omega (arith, ints)) owned;
       }
+
+-- a header of the subpage is matched by its own selection, and no other
+exact_heads : (page : Id) (pkt : Packet) → heads_matched (Exact page) pkt ≡ heads_page page pkt
+exact_heads page (Header id control text) = refl
+exact_heads page (Row mag number text) = refl
+exact_heads page (Links mag content) = refl
+exact_heads page Empty = refl
+exact_heads page Unreadable = refl
+exact_heads page Info = refl
+exact_heads page Other = refl
+
+-- from a header before a slot on, one of the next comes soon after it
+module _ (s : Stream) (p : Page) (n : ℕ) (again : ComesAgainWithin s (Exact p.id) n) (tau : ℤ) where
+  reach : (left : ℕ) (h : ℤ) → h <ℤ tau → tau ≤ℤ (h +ℤ pos left) → heads_page p.id (packet_of (s h)) ≡ true →
+      (k : ℤ) × (tau ≤ℤ k) × (k <ℤ (tau +ℤ pos n)) × (heads_page p.id (packet_of (s k)) ≡ true)
+  reach zero h before far head = absurd (omega (arith, ints))
+  reach (suc left) h before far head =
+      let a = again h (exact_heads p.id (packet_of (s h)) ∙ head) in
+      let later = a.1 in
+      let near = a.2 in
+      let next : heads_page p.id (packet_of (s a.0)) ≡ true = sym (exact_heads p.id (packet_of (s a.0))) ∙ a.3 in
+      elim (cases_ltz a.0 tau) as (λ _. (k : ℤ) × (tau ≤ℤ k) × (k <ℤ (tau +ℤ pos n)) × (heads_page p.id (packet_of (s k)) ≡ true)) [
+        | inl lt ↦ reach left a.0 lt (omega (arith, ints)) next
+        | inr ge ↦ (a.0, ge, omega (arith, ints), next)
+      ]
+
+has_again : (s : Stream) (p : Page) (most n : ℕ) → HasHeaders s p most → ComesAgainWithin s (Exact p.id) n → HasHeaders s p n
+has_again s p most n has again tau =
+    let first = has (tau -ℤ pos most) in
+    let low = first.1 in
+    let high = first.2 in
+    reach s p n again tau most first.0 (omega (arith, ints)) (omega (arith, ints)) first.3
+
+pub accepted_are_seen_again : BlocksAreSeen → StreamLaws → AcceptedAreSeenAgain
+accepted_are_seen_again blocks laws cycle pages w is_cycle are_pages is_certificate accepts gap followed mag number sends p sub n again =
+    blocks (repeated cycle) pages w.class w.lines n gap mag number is_certificate.few_lines
+    (record {
+      unchanged = unchanged laws cycle pages w is_cycle are_pages is_certificate accepts mag number (p, sub);
+      followed = λ q sub'. followed sub'.index q sub'.listed;
+      sends = sends;
+    }) p sub
+    (has_again (repeated cycle) p (limit w) n (has_headers laws cycle pages w is_cycle are_pages is_certificate accepts sub.index p sub.listed) again)
 
 pub accepted_are_seen : BlocksAreSeen → StreamLaws → AcceptedAreSeen
 accepted_are_seen blocks laws cycle pages w is_cycle are_pages is_certificate accepts gap followed mag number sends p sub =

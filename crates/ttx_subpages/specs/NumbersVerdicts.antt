@@ -5,7 +5,7 @@
 --   MeansNumbers            if it is Yes, the subpages of each such number are seen in turn, and each stays
 use Rattle.std.specs.Prelude.{ℕ, ◌+◌, List}
 use Rattle.ttx_page.specs.Pages.{Page}
-use Rattle.ttx_page.specs.declared.selection.Selection.TheVariants.{AnySub}
+use Rattle.ttx_page.specs.declared.selection.Selection.TheVariants.{Exact, AnySub}
 use Rattle.ttx_page.specs.Streams.{repeated}
 use Rattle.ttx_witness.specs.Coverage.{Certificate, limit}
 use Rattle.ttx_late.specs.LateVerdicts.{IsLateVerdict}
@@ -15,7 +15,7 @@ use Rattle.ttx_subpages.specs.WholeBlocks.{IsSubpage}
 use Rattle.ttx_subpages.specs.SeenInTurn.{SeenInTurn}
 use Rattle.ttx_subpages.specs.Numbers.{HasSeveral, AllSendWhole}
 use Rattle.ttx_subpages.specs.Lacks.{IsFirstLack}
-use Rattle.ttx_subpages.specs.Stays.{StaysFor, ShowsFor}
+use Rattle.ttx_subpages.specs.Stays.{StaysFor, ComesAgainWithin, ShowsFor}
 use Rattle.ttx_subpages.specs.declared.verdict.NumbersVerdict.{NumbersVerdict}
 use Rattle.ttx_subpages.specs.declared.verdict.NumbersVerdict.TheVariants.{Yes, No, Lacking}
 
@@ -29,9 +29,10 @@ IsNumbersVerdict cycle pages w (Yes gap) = IsLateVerdict cycle pages w (late.Yes
 IsNumbersVerdict cycle pages w (No verdict) = IsLateVerdict cycle pages w verdict × (IsYes verdict → ⊥)
 IsNumbersVerdict cycle pages w (Lacking lack) = (gap : ℕ) × IsLateVerdict cycle pages w (late.Yes gap) × IsFirstLack cycle pages w.lines lack
 
--- seen in turn from the deadline and the gap on, and for as many slots as each block of the number stays
+-- seen in turn within the deadline and the gap, and within its own interval and the gap, and for as many slots as the blocks of the number stay
 pub record IsSeenByNumber (cycle : List (List ℕ)) (pages : List Page) (w : Certificate) (gap mag number : ℕ) (p : Page) : Type 0 where
   pub turn : SeenInTurn (repeated cycle) pages w.class w.lines (limit w + gap) mag number p
+  pub again : (n : ℕ) → ComesAgainWithin (repeated cycle) (Exact p.id) n → SeenInTurn (repeated cycle) pages w.class w.lines (n + gap) mag number p
   pub stays : (n : ℕ) → StaysFor (repeated cycle) (AnySub mag number) n → ShowsFor (repeated cycle) pages w.class w.lines mag number p n
 
 abbrev pub MeansNumbers : List (List ℕ) → List Page → Certificate → NumbersVerdict → Type 0

@@ -18,8 +18,8 @@ use ttx_witness::{Certificate, NoMemory};
 ///
 /// If this verdict is Yes, then for each such number each of its subpages is seen in turn, whole, by whoever keys the number alone, and
 /// nothing else is: on each receiver that shows a page only where it ends, from any tuning slot, with any former memory, under each
-/// reception in which the text of the subpages comes right once a sending, whatever the certificate's repeat count. And each stays as
-/// long as `least_stay` says.
+/// reception in which the text of the subpages comes right once a sending, whatever the certificate's repeat count. Each comes again
+/// within `greatest_interval` and the gap, and stays as long as `least_stay` says.
 pub fn certify_numbers(
     alloc: Global,
     cycle: &Cycle,
@@ -30,6 +30,7 @@ pub fn certify_numbers(
     ensures seen { IfOk result (MeansNumbers (slots_of cycle.now) (pages_of service.now) (certificate_of certificate.now)) }
 {
     crate::laws::accepted_are_seen();
+    crate::laws::accepted_are_seen_again();
     crate::laws::stays_are_shown();
     ttx_page::laws::pages_keep_their_rules();
     ttx_witness::certificate_laws::certificates_keep_their_rules();

@@ -2,7 +2,7 @@
 
 ghost use Rattle.ttx_subpages.specs.PlannedSubpages.{PlannedSendWhole, PlannedAreSeen};
 ghost use Rattle.ttx_subpages.specs.RepeatTwo.{IsMixed};
-ghost use Rattle.ttx_subpages.specs.Laws.{BlocksAreSeen, AcceptedAreSeen, BlocksAreHeld, AcceptedAreHeld, StaysAreShown, EachListRunsEnded};
+ghost use Rattle.ttx_subpages.specs.Laws.{BlocksAreSeen, AcceptedAreSeen, BlocksAreHeld, AcceptedAreHeld, AcceptedAreSeenAgain, StaysAreShown, EachListRunsEnded};
 
 /// In any stream: subpages of a number that are sent whole are seen in turn.
 pub fn blocks_are_seen()
@@ -17,6 +17,17 @@ pub fn blocks_are_seen()
 /// So are those of an accepted cycle whose pages are followed by other page numbers.
 pub fn accepted_are_seen()
     ensures { AcceptedAreSeen }
+{
+    blocks_are_seen();
+    ttx_page::laws::each_slot_turns();
+    ttx_page::laws::streams_move();
+    ttx_page::laws::runs_are_unique();
+    ttx_page::laws::steady_sends_its_own();
+}
+
+/// The same of an accepted cycle, within the slots that `greatest_interval` says of the subpage, and the slots to the header behind it.
+pub fn accepted_are_seen_again()
+    ensures { AcceptedAreSeenAgain }
 {
     blocks_are_seen();
     ttx_page::laws::each_slot_turns();

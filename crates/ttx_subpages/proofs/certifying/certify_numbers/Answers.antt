@@ -29,10 +29,14 @@ returns-in-None-clause-seen c = λ mag number several p sub.
     (IsFirstLack cycle (map page_of c.pages.result.now) c.lines.result)) c.in-None.is c.in_ok-lack-in-Yes.ensures in
     let sends = subst (λ n. AllSendWhole (repeated cycle) pages n) c.lines.ensures
     (subst (λ ps. AllSendWhole (repeated cycle) ps c.lines.result) same whole) in
-    let turn = c.accepted_are_seen.ensures cycle pages w (slots_of-IsCycle c.args.cycle.now)
-    (subst ArePages same (are_pages c.pages_keep_their_rules.ensures c.pages.result.now))
-    (c.certificates_keep_their_rules.ensures c.args.certificate.now).1 told.0 c.in-Yes.gap told.2.within mag number (sends mag number several) p sub in
+    let is_cycle = slots_of-IsCycle c.args.cycle.now in
+    let are = subst ArePages same (are_pages c.pages_keep_their_rules.ensures c.pages.result.now) in
+    let is_certificate = (c.certificates_keep_their_rules.ensures c.args.certificate.now).1 in
+    let turn = c.accepted_are_seen.ensures cycle pages w is_cycle are is_certificate told.0 c.in-Yes.gap told.2.within mag number
+    (sends mag number several) p sub in
     record {
       turn = turn;
+      again = c.accepted_are_seen_again.ensures cycle pages w is_cycle are is_certificate told.0 c.in-Yes.gap told.2.within mag number
+          (sends mag number several) p sub;
       stays = c.stays_are_shown.ensures (repeated cycle) pages w.class w.lines (limit w + c.in-Yes.gap) mag number p sub turn;
     }
