@@ -1,8 +1,7 @@
 -- What the header in a slot decides of a number with several pages.
-use Rattle.std.proofs.Common.{◌≡◌, ◌≢◌, ℕ, ◌+◌, ◌<◌, ◌≤◌, ℤ, pos, ◌+ℤ◌, Bool, true, false, ◌==◌, List, [], length, map, get_or, slice_get, Option, Some, None, MatchOption, refl, sym, ap}
+use Rattle.std.proofs.Common.{◌≡◌, ◌≢◌, ℕ, ◌+◌, ◌<◌, ◌≤◌, ℤ, pos, true, false, ◌==◌, List, [], length, map, get_or, slice_get, Option, Some, None, MatchOption, refl, sym, ap}
 use Rattle.std.proofs.Common.{◌∙◌, subst, inl, inr, arith, eqb-true, eq-eqb, mod-eq_of_lt}
-use Rattle.std.proofs.lemmas.Bool.{and_from, and_parts, both_ways, cases_Bool, cases_lt}
-use Rattle.std.proofs.lemmas.List.{length-map}
+use Rattle.std.proofs.lemmas.Bool.{and_from, and_parts, both_ways, cases_lt}
 use Rattle.std.proofs.lemmas.Option.{slice_get_within, get_or_from_slice_get, slice_get-map}
 use Rattle.std.proofs.lemmas.Simd.{map-map}
 use Rattle.std.specs.List.{AllPairs}
@@ -19,9 +18,8 @@ use Rattle.ttx_page.specs.Streams.{Stream, repeated, turned, heads_page, heads_m
 use Rattle.ttx_witness.specs.faults.Comparing.{HoldsHeader, HoldsNoHeader}
 use Rattle.ttx_header.specs.Fields.{HeaderFields}
 use Rattle.ttx_plan.proofs.SteadyPages.{one_id}
-use Rattle.ttx_page.specs.declared.item.Item.{Item}
-use Rattle.ttx_subpages.specs.WholeBlocks.{IsSubpage, ComesUnder, IsWhole, SendsWholeAt}
-use Rattle.ttx_subpages.specs.Numbers.{count_of, HasSeveral, AllSendWholeAt, AllSendWhole}
+use Rattle.ttx_subpages.specs.WholeBlocks.{ComesUnder, IsWhole}
+use Rattle.ttx_subpages.specs.Numbers.{count_of, AllSendWholeAt, AllSendWhole}
 use Rattle.ttx_subpages.specs.declared.lack.Lack.{Lack}
 use Rattle.ttx_subpages.proofs.ComingItems.{moved}
 

@@ -1,5 +1,5 @@
 -- The next header after a slot, read round the cycle.
-use Rattle.std.proofs.Common.{◌≡◌, ◌⊎◌, ℕ, ◌+◌, ◌-◌, ◌%◌, ◌<◌, ◌≤◌, ℤ, pos, ◌+ℤ◌, ◌-ℤ◌, ◌<ℤ◌, ◌≤ℤ◌, nat_abs, true, false, ◌==◌, List, [], length, get_or}
+use Rattle.std.proofs.Common.{◌≡◌, ℕ, ◌+◌, ◌-◌, ◌%◌, ◌<◌, ◌≤◌, ℤ, pos, ◌+ℤ◌, ◌-ℤ◌, ◌<ℤ◌, ◌≤ℤ◌, nat_abs, true, false, ◌==◌, List, [], length, get_or}
 use Rattle.std.proofs.Common.{nat_lt, Option, Some, None, MatchOption, refl, sym, ap, ◌∙◌, subst, inl, inr, arith, mod-eq_of_lt}
 use Rattle.std.proofs.lemmas.Int.{ints}
 use Rattle.std.proofs.lemmas.Bool.{and_from, and_parts, both_ways, cases_lt, cases_Bool, ltb-true, lt-ltb}
@@ -17,8 +17,8 @@ use Rattle.ttx_late.proofs.GatheredMemories.{number_heads, matched_number}
 use Rattle.ttx_subpages.specs.declared.sought.Sought.{Sought}
 use Rattle.ttx_subpages.specs.declared.sought.Sought.TheVariants.{Magazine, Matched}
 use Rattle.ttx_subpages.specs.Distances.{seeks, IsDistance}
-use Rattle.ttx_subpages.specs.Stays.{HeadsAt, HasNone, IsNextInMagazine, IsStayAfter, IsStayOfOne, StayBelow, lesser_of, StaysAfter, StaysFor, IsLeastStay}
-use Rattle.ttx_subpages.specs.Stays.{ComesAgainWithin, IntervalBelow, IsGreatestInterval}
+use Rattle.ttx_subpages.specs.Stays.{HeadsAt, HasNone, IsNextInMagazine, IsStayAfter, StayBelow, lesser_of, StaysAfter, IsLeastStay}
+use Rattle.ttx_subpages.specs.Stays.{IntervalBelow, IsGreatestInterval}
 
 module _ (cycle : List (List ℕ)) (sought : Sought) (at : ℕ) where
   -- the slot that is so many slots after the next one

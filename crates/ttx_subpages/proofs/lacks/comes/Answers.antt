@@ -1,4 +1,4 @@
-use Rattle.std.proofs.Common.{◌≡◌, ◌∙◌, ◌<ℤ◌, ◌≤ℤ◌, ℕ, pos, length, map, sym, ap, arith, w32}
+use Rattle.std.proofs.Common.{◌≡◌, ◌∙◌, ◌<ℤ◌, ◌≤ℤ◌, pos, length, map, sym, ap, arith, w32}
 use Rattle.std.proofs.lemmas.Int.{ints, to_z_pos}
 use Rattle.std.specs.List.{list_any}
 use Rattle.ttx_cycle.specs.Cycles.{slots_of, slots_of-IsCycle}

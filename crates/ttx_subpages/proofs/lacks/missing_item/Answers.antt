@@ -1,7 +1,7 @@
-use Rattle.std.proofs.Common.{◌≡◌, ◌∙◌, ◌<◌, true, map, pos, sym, ap, subst}
+use Rattle.std.proofs.Common.{◌≡◌, ◌∙◌, ◌<◌, true, pos, sym, ap, subst}
 use Rattle.std.proofs.lemmas.Bool.{both_ways}
 use Rattle.ttx_cycle.specs.Cycles.{slots_of}
-use Rattle.ttx_page.specs.Pages.{Page, needed}
+use Rattle.ttx_page.specs.Pages.{needed}
 use Rattle.ttx_page.specs.Streams.{repeated}
 use Rattle.ttx_page.specs.Views.{page_of}
 use Rattle.ttx_witness.specs.sent.Collected.{item_number}

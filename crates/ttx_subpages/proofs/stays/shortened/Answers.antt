@@ -1,4 +1,4 @@
-use Rattle.std.proofs.Common.{◌≡◌, ◌∙◌, ◌+◌, Some, true, false, pos, sym, ap, subst}
+use Rattle.std.proofs.Common.{◌∙◌, ◌+◌, Some, sym, ap, subst}
 use Rattle.ttx_page.specs.Packets.{packet_of}
 use Rattle.ttx_page.specs.Streams.{repeated, heads_matched}
 use Rattle.ttx_subpages.specs.Stays.{StayBelow}

@@ -1,9 +1,6 @@
-use Rattle.std.proofs.Common.{◌≡◌, ◌-◌, [], true, get_or, pos, refl, sym, subst}
+use Rattle.std.proofs.Common.{◌≡◌, ◌-◌, true, refl, sym, subst}
 use Rattle.ttx_page.specs.Packets.{packet_of}
-use Rattle.ttx_page.specs.Pages.{selected_mag}
 use Rattle.ttx_page.specs.Streams.{repeated, heads_matched}
-use Rattle.ttx_page.specs.declared.selection.Selection.TheVariants.{AnySub}
-use Rattle.ttx_late.specs.LateReceivers.{selected_number}
 use Rattle.ttx_subpages.specs.Distances.{IsDistance}
 use Rattle.ttx_subpages.specs.declared.sought.Sought.TheVariants.{Magazine, Matched}
 use Rattle.ttx_subpages.proofs.HeadersOfNumbers.{slot_here}
