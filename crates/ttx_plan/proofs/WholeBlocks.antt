@@ -1,10 +1,10 @@
 -- Under each header of a page of a planned cycle comes each item that is sent of it: the packets of a queue, the slots, the stream.
-use Rattle.std.proofs.Common.{◌≡◌, ◌⊎◌, ℕ, zero, suc, ◌+◌, ◌-◌, ◌<◌, ◌≤◌, ℤ, pos, ◌+ℤ◌, ◌<ℤ◌, Bool, true, false, not, ◌&&◌, cond, eqb, List, [], ◌∷◌, ◌++◌, map}
+use Rattle.std.proofs.Common.{◌≡◌, ◌⊎◌, ℕ, zero, suc, ◌+◌, ◌-◌, ◌<◌, ℤ, pos, ◌+ℤ◌, ◌<ℤ◌, Bool, true, false, not, ◌&&◌, cond, eqb, List, [], ◌∷◌, ◌++◌, map}
 use Rattle.std.proofs.Common.{length, get_or, Some, refl, sym, ap, ◌∙◌, subst, inl, inr, arith, append_assoc, mod-eq_of_lt}
 use Rattle.std.specs.Prelude.{All, slice_get, flat_map}
 use Rattle.std.specs.Bool.{MatchBool}
 use Rattle.std.specs.List.{AllByRecursion, AllPairs}
-use Rattle.std.proofs.lemmas.Bool.{cond-true, eq-eqb, eqb-true, and_from}
+use Rattle.std.proofs.lemmas.Bool.{cond-true, eq-eqb, eqb-true}
 use Rattle.std.proofs.lemmas.Int.{ints}
 use Rattle.std.proofs.lemmas.List.{get_or-map, length-map}
 use Rattle.std.proofs.Math.Bool.{and-false}
@@ -15,7 +15,6 @@ use Rattle.ttx_page.specs.declared.item.Item.{Item}
 use Rattle.ttx_page.specs.declared.item.Item.TheVariants.{Head as TheHead, Row as TheRow, Links as TheLinks}
 use Rattle.ttx_page.specs.PageLinks.{HasLinks}
 use Rattle.ttx_page.specs.Packets.{packet_of}
-use Rattle.ttx_page.specs.Packets as P
 use Rattle.ttx_page.specs.Pages.{page_row}
 use Rattle.ttx_page.specs.Streams as S
 use Rattle.ttx_page.specs.Streams.{repeated, turned, IsLatestHeader, IsOwned, IsSure}
@@ -24,8 +23,8 @@ use Rattle.ttx_plan.specs.declared.packet.Packet.{Packet}
 use Rattle.ttx_plan.specs.declared.packet.Slot.{Slot}
 use Rattle.ttx_plan.specs.declared.packet.Slot.TheVariants.{Empty, Info, Sent}
 use Rattle.ttx_plan.specs.Acceptance.{IsPlanned}
-use Rattle.ttx_plan.specs.Blocks.{Block, led, header_packet, rest_packet, packets_of, has_pages, time_filling_packet, queue_packets}
-use Rattle.ttx_plan.specs.Carries.{block_at, blocks_sent_at}
+use Rattle.ttx_plan.specs.Blocks.{Block, header_packet, rest_packet, packets_of, has_pages, time_filling_packet, queue_packets}
+use Rattle.ttx_plan.specs.Carries.{blocks_sent_at}
 use Rattle.ttx_plan.specs.Contents.{page_row_bytes, page_links_bytes, is_sent_to, rest_of}
 use Rattle.ttx_plan.specs.Laws.{PlannedIsSure}
 use Rattle.ttx_plan.specs.Packets.{is_row_or_links, bytes_of}
