@@ -172,18 +172,19 @@ module _ {N : Type 0} {gives : N → Edition → ℕ → News → N → Type 0} 
       logged = subst (Logs begin log') (sym (append-nil (first_line first.mark first.edition ++ lines_of first.edition piece.past))) piece.so_far.logged;
     }
 
-    pub air_cut : (n : ℕ) → n < length part → Appends w w' (take n part) →
+    pub air_cut : (n total : ℕ) → total ≡ 42 * number + n → n < length part → Appends w w' (take n part) →
         (a : Aired gives receivers first (scene gone begin before) (scene news' log' w') [])
-        × (42 * number + n < length (air_of start first.edition a.slots)) × Appends before w' (take (42 * number + n) (air_of start first.edition a.slots))
+        × (total < length (air_of start first.edition a.slots)) × Appends before w' (take total (air_of start first.edition a.slots))
     unfolding aired_cut
-    air_cut n lt out = (
+    air_cut n total e lt out = (
       aired_cut,
-      omega (arith, ap length air_more, length-append (air_of start first.edition s.slots) part, s.size, lt),
-      (let e : take (42 * number + n) (air_of start first.edition (s.slots ++ piece.more)) ≡ air_of start first.edition s.slots ++ take n part =
-          ap (take (42 * number + n)) air_more ∙ ap (λ k. take (k + n) (air_of start first.edition s.slots ++ part)) (sym s.size)
+      omega (arith, ap length air_more, length-append (air_of start first.edition s.slots) part, s.size, lt, e),
+      (let cut : take total (air_of start first.edition (s.slots ++ piece.more)) ≡ air_of start first.edition s.slots ++ take n part =
+          ap (λ k. take k (air_of start first.edition (s.slots ++ piece.more))) e
+          ∙ ap (take (42 * number + n)) air_more ∙ ap (λ k. take (k + n) (air_of start first.edition s.slots ++ part)) (sym s.size)
           ∙ take-append-add (air_of start first.edition s.slots) part n
           in
-          subst (Appends before w') (sym e) (Appends-trans before w w' (air_of start first.edition s.slots) (take n part) s.bytes out)),
+          subst (Appends before w') (sym cut) (Appends-trans before w w' (air_of start first.edition s.slots) (take n part) s.bytes out)),
     )
 
 -- all fields went out, and the last line was added

@@ -2,6 +2,7 @@
 
 ghost use Rattle.std.specs.Prelude.{◌≡◌, ℕ, ◌+◌, ◌*◌, ◌<◌, ◌≤◌, ◌^◌, List, length, take};
 ghost use Rattle.ttx_cycle.specs.Counters.{inner_of};
+ghost use Rattle.ttx_send.specs.Times.{fields_later};
 ghost use Rattle.ttx_air.specs.Newsrooms as offers;
 ghost use Rattle.ttx_air.specs.Newsrooms.{candidate_of};
 ghost use Rattle.ttx_air.specs.Endings.{Ending};
@@ -19,13 +20,33 @@ use crate::station::{Station, Terms, next_sent};
 use std::alloc::Global;
 use std::io::Write;
 use ttx_cycle::{Counted, WriteFault, write_bytes};
-use ttx_send::{Stamp, next_piece, put_slot, room, stamp_of, stamped};
+use ttx_send::{Piece, Stamp, next_piece, put_slot, room, stamp_of, stamped};
 
 // The slots of one piece, and the time in them.
 #[derive(Drop)]
 struct Load {
     slots: usize,
     stamp: Stamp,
+}
+
+// The slots of a piece, with the time of the field in which they go out.
+fn load_of(piece: &Piece, airtime: &Airtime, field: u32) -> Load
+    ensures slots { result.slots ≡ piece.now.slots }
+    ensures time { result.stamp.moment ≡ fields_later airtime.now.start field }
+{
+    Load {
+        slots: piece.slots,
+        stamp: stamp_of(airtime.start.later(field)),
+    }
+}
+
+// How many bytes were written, if the write of the piece failed that begins with this slot.
+fn written(slot: usize, fault: WriteFault) -> usize
+    requires before { slot < 2 ^ 40 }
+    requires few { fault.written < 5376 }
+    ensures { result ≡ 42 * slot + fault.written }
+{
+    42 * slot + fault.written
 }
 
 // The bytes of the next slots, which are sent at one moment.
@@ -85,10 +106,7 @@ pub fn air<N: Newsroom, L: Write, W: Write>(
     let mut field = 0;
     while field < airtime.fields {
         let piece = next_piece(field, airtime.fields, lines);
-        let load = Load {
-            slots: piece.slots,
-            stamp: stamp_of(airtime.start.later(field)),
-        };
+        let load = load_of(&piece, airtime, field);
         let sent = station.sent;
         let bytes = piece_bytes(
             alloc,
@@ -98,9 +116,9 @@ pub fn air<N: Newsroom, L: Write, W: Write>(
             newsroom,
             &mut outputs.log,
         );
-        if let Err(fault) = write_bytes(&mut outputs.packets, &bytes[..42 * piece.slots]) {
+        if let Err(fault) = write_bytes(&mut outputs.packets, &bytes[..42 * load.slots]) {
             return Err(AirFault::Write(WriteFault {
-                written: 42 * sent + fault.written,
+                written: written(sent, fault),
             }));
         }
         field += piece.fields;

@@ -16,7 +16,7 @@ use crate::judging::{is_yes, judged};
 use crate::lines::{Entry, note_change, note_kept, note_refused};
 use crate::newsroom::Newsroom;
 use crate::reasons::reason_line;
-use crate::station::{Station, Terms};
+use crate::station::{Station, Terms, next_field};
 use std::alloc::Global;
 use std::io::Write;
 use ttx_cycle::Counted;
@@ -110,7 +110,7 @@ fn decided<L: Write>(
 {
     let entry = Entry {
         started: terms.started,
-        field: station.sent / terms.lines,
+        field: next_field(station, terms.lines),
     };
     let Ok(verdict) = judged(alloc, &station.on_air, &next.edition, terms.receivers) else {
         note_unjudged(log, entry, &next);
@@ -136,7 +136,7 @@ pub(crate) fn period_ended<N: Newsroom, L: Write>(
         (ending_line (station.old.sent / terms.lines) (current_of station.old.on_air) ending) }
 {
     if station.on_air.is_time() {
-        let field = station.sent / terms.lines;
+        let field = next_field(station, terms.lines);
         let started = terms.started;
         match newsroom.next(alloc, station.on_air.current(), field) {
             News::Next(next) => decided(alloc, terms, station, next, log),

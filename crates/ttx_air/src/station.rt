@@ -1,6 +1,6 @@
 //! What is on the air while it is sent.
 
-ghost use Rattle.std.specs.Prelude.{◌≡◌, ℕ, ◌<◌, ◌^◌, ◌++◌, ◌∷◌, [], suc, List, length};
+ghost use Rattle.std.specs.Prelude.{◌≡◌, ℕ, ◌<◌, ◌/◌, ◌^◌, ◌++◌, ◌∷◌, [], suc, List, length};
 ghost use Rattle.ttx_playout.specs.Takeovers.{edition_of};
 ghost use Rattle.ttx_air.specs.Newsrooms as offers;
 ghost use Rattle.ttx_air.specs.Endings.{Ending};
@@ -28,6 +28,14 @@ pub(crate) struct Terms {
 pub(crate) struct Station {
     pub(crate) on_air: OnAir,
     pub(crate) sent: usize,
+}
+
+// The field in which the next slot goes out.
+pub(crate) fn next_field(station: &Station, lines: usize) -> usize
+    requires { 0 < lines }
+    ensures { result ≡ station.now.sent / lines }
+{
+    station.sent / lines
 }
 
 // The next slot. At the end of a period the newsroom may be asked.

@@ -34,17 +34,20 @@ loop-field-preserved g c =
     let some : 0 < lines = omega (arith, is_lines, edition.certificate.some_lines) in
     let most : lines ≤ 32 = omega (arith, is_lines, edition.certificate.few_lines) in
     let wide : m * lines ≤ m * 32 = mul-le-mul_left m most in
-    let long = piece_long c.piece_bytes-bytes.result piece.slots c.piece_bytes-bytes.ensures.long c.next_piece-piece.ensures.fits in
+    let load = c.load_of-load.result in
+    let count : load.slots ≡ m * lines = c.load_of-load.ensures.slots ∙ c.next_piece-piece.ensures.slots in
+    let fits : load.slots ≤ 128 = omega (arith, c.load_of-load.ensures.slots, c.next_piece-piece.ensures.fits) in
+    let long = piece_long c.piece_bytes-bytes.result load.slots c.piece_bytes-bytes.ensures.long fits in
     let s = c.loop-field.invariant.so_far in
     let sends = c.piece_bytes-bytes.ensures.so_far c.args.newsroom.now (candidate_of c.args.first) (written_of g.L.Write.contents c.args.outputs.now.log)
     s.past s.slots (sym s.long) s.so_far in
     record {
-      count = omega (arith, c.loop-field.invariant.count, c.piece_bytes-bytes.ensures.sent, c.next_piece-piece.ensures.slots, add-mul field m lines);
-      few = omega (arith, c.loop-field.invariant.few, c.piece_bytes-bytes.ensures.sent, wide, c.next_piece-piece.ensures.slots);
+      count = omega (arith, c.loop-field.invariant.count, c.piece_bytes-bytes.ensures.sent, count, add-mul field m lines);
+      few = omega (arith, c.loop-field.invariant.few, c.piece_bytes-bytes.ensures.sent, wide, count);
       inside = c.next_piece-piece.ensures.inside;
       so_far = so_far_at (sym c.piece_bytes-bytes.ensures.sent)
-          (air_so_far_more _ field m s some c.loop-field.invariant.count c.next_piece-piece.ensures.slots c.next_piece-piece.ensures.second
-          (c.stamp_of.ensures ∙ c.later.ensures) sends long c.in_default.ensures.bytes);
+          (air_so_far_more _ field m s some c.loop-field.invariant.count count c.next_piece-piece.ensures.second
+          c.load_of-load.ensures.time sends long c.in_default.ensures.bytes);
     }
 
 pub returns-in-Err : goal.returns-in-Err
@@ -58,12 +61,15 @@ returns-in-Err g c =
     let is_lines : lines ≡ (candidate_of c.args.first).edition.certificate.lines =
     c.from-lines.ensures ∙ c.lines.ensures ∙ ap (λ e. e.certificate.lines) (c.current.ensures ∙ opening.start.0) in
     let some : 0 < lines = omega (arith, is_lines, edition.certificate.some_lines) in
-    let long = piece_long c.piece_bytes-bytes.result piece.slots c.piece_bytes-bytes.ensures.long c.next_piece-piece.ensures.fits in
+    let load = c.load_of-load.result in
+    let count : load.slots ≡ m * lines = c.load_of-load.ensures.slots ∙ c.next_piece-piece.ensures.slots in
+    let fits : load.slots ≤ 128 = omega (arith, c.load_of-load.ensures.slots, c.next_piece-piece.ensures.fits) in
+    let long = piece_long c.piece_bytes-bytes.result load.slots c.piece_bytes-bytes.ensures.long fits in
     let s = c.loop-field.invariant.so_far in
     let sends = c.piece_bytes-bytes.ensures.so_far c.args.newsroom.now (candidate_of c.args.first) (written_of g.L.Write.contents c.args.outputs.now.log)
     s.past s.slots (sym s.long) s.so_far in
-    air_cut _ field m s some c.loop-field.invariant.count c.next_piece-piece.ensures.slots c.next_piece-piece.ensures.second
-    (c.stamp_of.ensures ∙ c.later.ensures) sends long opening.served c.in-Err.fault.written c.in-Err.ensures.bytes.0 c.in-Err.ensures.bytes.1
+    air_cut _ field m s some c.loop-field.invariant.count count c.next_piece-piece.ensures.second
+    c.load_of-load.ensures.time sends long opening.served c.in-Err.fault.written c.written.result c.written.ensures c.in-Err.ensures.bytes.0 c.in-Err.ensures.bytes.1
 
 pub returns : goal.returns
 returns g c =

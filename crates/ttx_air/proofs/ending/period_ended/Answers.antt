@@ -10,6 +10,7 @@ use Rattle.ttx_air.proofs.ending.period_ended.Goals as goal
 pub returns-in-Refused-clause-ending : goal.returns-in-Refused-clause-ending
 returns-in-Refused-clause-ending g c =
     let o = c.args.station.now.on_air in
+    let at = c.next_field-field.ensures in
     let field = c.args.station.now.sent / c.args.terms.lines in
     let gives = g.N.Newsroom.gives in
     let mark = string_bytes c.in-Refused.mark in
@@ -20,6 +21,7 @@ returns-in-Refused-clause-ending g c =
       Unfit mark words,
       ended_same c.args.terms.receivers (Unfit mark words) o o refl c.requires.between time.held refl,
       subst (λ e. gives c.args.newsroom.now e field (Refused mark words) c.next.new.self) c.current.ensures
-          (subst (λ n. gives c.args.newsroom.now (edition_of c.current.result.now) field (news_of n) c.next.new.self) c.in-Refused.is c.next.ensures),
-      adds_same (λ i. kept_line field (mark_is i) (words_are i ++ codes "\n")) c.note_refused.ensures,
+          (subst (λ n. gives c.args.newsroom.now (edition_of c.current.result.now) field (news_of n) c.next.new.self) c.in-Refused.is
+          (subst (λ f. gives c.args.newsroom.now (edition_of c.current.result.now) f (news_of c.next.result) c.next.new.self) at c.next.ensures)),
+      adds_same (λ i. kept_line (at i) (mark_is i) (words_are i ++ codes "\n")) c.note_refused.ensures,
     )
