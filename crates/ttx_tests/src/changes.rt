@@ -93,7 +93,11 @@ static TURNED: &str = "100/0000 head 18\n100/0000 row 1 21\n100/0000 row 2 22\n1
       100/0000 row 22 14\n100/0000 row 23 15\n100/0000 links 16\n";
 
 // The worked cycle, or the turned one, with a deadline in fields.
-fn edition(alloc: Global, is_turned: bool, deadline: u32) -> Result<Option<Edition>, AllocError> {
+pub(crate) fn edition(
+    alloc: Global,
+    is_turned: bool,
+    deadline: u32,
+) -> Result<Option<Edition>, AllocError> {
     let mut slots = base::slots(alloc)?;
     let mut text = certificate_text(alloc, deadline)?;
     if is_turned && slots.len() > 10 {

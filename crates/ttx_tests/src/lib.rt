@@ -3,6 +3,8 @@
 #![tactic(auto)]
 
 #[cfg(test)]
+mod airing;
+#[cfg(test)]
 mod base;
 #[cfg(test)]
 mod certificates;
@@ -18,6 +20,8 @@ mod display;
 mod early_row;
 #[cfg(test)]
 mod engines;
+#[cfg(test)]
+mod extracted;
 #[cfg(test)]
 mod headers;
 #[cfg(test)]
@@ -41,6 +45,8 @@ mod planned;
 #[cfg(test)]
 mod promised;
 #[cfg(test)]
+mod required;
+#[cfg(test)]
 mod seen;
 #[cfg(test)]
 mod service_packets;
@@ -48,6 +54,8 @@ mod service_packets;
 mod services;
 #[cfg(test)]
 mod steady;
+#[cfg(test)]
+mod subpages;
 #[cfg(test)]
 mod times;
 #[cfg(test)]

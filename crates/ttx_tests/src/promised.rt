@@ -2,15 +2,18 @@
 
 use std::test::Fail;
 use ttx_page::Class;
-use ttx_plan::Receivers;
-use ttx_promise::{LatePage, PromiseFault, Viewers, late_lines, plan_promises};
+use ttx_plan::{Receivers, plan_spread};
+use ttx_promise::{
+    LatePage, PromiseFault, Viewers, late_lines, plan_promises, promised_waits, report_promises,
+    some_late,
+};
 use ttx_source::{read_promises, read_service};
 
 // Three pages: one that any cycle sends in time, one that none does, and one that none does and is sent twice.
 static TEXT: &[u8] = b"lines = 4\nserial = true\n[[page]]\nnumber = \"100\"\nwithin = 20000\n\
     [[page]]\nnumber = \"101\"\nwithin = 0.02\n[[page]]\nnumber = \"102\"\nwithin = 0.02\noften = 2\n";
 
-static VIEWERS: Viewers = Viewers {
+pub(crate) static VIEWERS: Viewers = Viewers {
     receivers: Receivers {
         class: Class::Any,
         late: false,
@@ -62,5 +65,59 @@ fn lines_of_late_pages(rt: HostRuntime) -> Result<(), Fail> {
     }];
     let text = late_lines(rt.alloc(), &late)?;
     assert!(rt; text.as_str() == "late 100/0000 200 fields of 150\n");
+    Ok(())
+}
+
+// Two pages laid out by hand: a block has a page header, 4 empty slots, 23 rows and X/27/0, 29 slots; two of them and the time-filling header
+// make 59, so a period has 60 slots. From a page header to the end of the page's next block it is 60 + 28 slots, 22 fields.
+pub(crate) static TWO: &[u8] =
+    b"lines = 4\nserial = true\n[[page]]\nnumber = \"100\"\nwithin = 20000\n\
+    [[page]]\nnumber = \"101\"\nwithin = 0.02\n";
+
+static ONE: &[u8] = b"lines = 4\nserial = true\n[[page]]\nnumber = \"100\"\nwithin = 1\n";
+
+#[test]
+fn waits_stand_beside_promises(rt: HostRuntime) -> Result<(), Fail> {
+    let Ok(service) = read_service(rt.alloc(), TWO) else {
+        panic!(rt; "there is no service");
+    };
+    let Ok(promises) = read_promises(rt.alloc(), TWO) else {
+        panic!(rt; "there are no promises");
+    };
+    let Ok(cycle) = plan_spread(rt.alloc(), &service, VIEWERS.receivers) else {
+        panic!(rt; "there is no plan");
+    };
+    let Ok(report) = report_promises(rt.alloc(), &cycle, &service, Class::Any, 1, &promises) else {
+        panic!(rt; "there is no report");
+    };
+    assert!(rt;
+        report.text.as_str()
+            == "100/0000 22 fields 0.44 s of 1000000\n101/0000 22 fields 0.44 s late: 0.02 s\nall 22 fields 0.44 s\n"
+    );
+    assert!(rt; report.late && report.deadline == Some(22));
+    let Ok(all) = promised_waits(rt.alloc(), &cycle, &service, Class::Any, 1, &promises) else {
+        panic!(rt; "there are no waits");
+    };
+    assert!(rt; all.len() == 2 && !all[0].is_late() && all[1].is_late() && some_late(&all));
+    Ok(())
+}
+
+#[test]
+fn pages_on_the_air_alone_are_named(rt: HostRuntime) -> Result<(), Fail> {
+    let (Ok(planned), Ok(service)) = (read_service(rt.alloc(), TWO), read_service(rt.alloc(), ONE))
+    else {
+        panic!(rt; "there is no service");
+    };
+    let Ok(cycle) = plan_spread(rt.alloc(), &planned, VIEWERS.receivers) else {
+        panic!(rt; "there is no plan");
+    };
+    let Ok(report) = report_promises(rt.alloc(), &cycle, &service, Class::Any, 1, &[]) else {
+        panic!(rt; "there is no report");
+    };
+    assert!(rt;
+        report.text.as_str()
+            == "100/0000 22 fields 0.44 s row 21\nall 22 fields 0.44 s\nnot in the service: 101/0000\n"
+    );
+    assert!(rt; !report.late);
     Ok(())
 }
