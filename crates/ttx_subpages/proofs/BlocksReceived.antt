@@ -1,5 +1,5 @@
 -- A block of a subpage as it is received: when a header ends it, all has come.
-use Rattle.std.proofs.Common.{◌≡◌, ◌⊎◌, ℕ, suc, ◌+◌, ◌<◌, ◌≤◌, ℤ, pos, ◌+ℤ◌, ◌<ℤ◌, true, false, ◌==◌, List, [], ◌∷◌, length, get_or, take}
+use Rattle.std.proofs.Common.{◌≡◌, ◌⊎◌, ℕ, suc, ◌+◌, ◌<◌, ◌≤◌, ℤ, pos, ◌+ℤ◌, ◌<ℤ◌, ◌≤ℤ◌, true, false, ◌==◌, List, [], ◌∷◌, length, get_or, take}
 use Rattle.std.proofs.Common.{refl, sym, ap, ◌∙◌, subst, inl, inr, arith, eq-eqb}
 use Rattle.std.proofs.lemmas.Int.{ints}
 use Rattle.std.proofs.lemmas.Bool.{and_from, and_parts, both_ways, cases_Bool}
@@ -25,12 +25,13 @@ use Rattle.ttx_page.specs.Followers.{IsFollowed, heads_another}
 use Rattle.ttx_certify.specs.Seen.{HasView}
 use Rattle.ttx_certify.specs.Laws.{RunsAreSeen}
 use Rattle.ttx_late.specs.LateReceivers.{LateMemory, heads_number}
+use Rattle.ttx_subpages.specs.SeenInTurn.{MayEnd}
 use Rattle.ttx_subpages.specs.EndedReceivers.{EndedRun}
 use Rattle.ttx_subpages.specs.WholeBlocks.{IsSubpage, IsWhole, SendsInTurn}
 use Rattle.ttx_late.proofs.KeptSlots.{SameTests, same_tests}
 use Rattle.ttx_late.proofs.FollowedReceptions.{received_before}
 use Rattle.ttx_subpages.proofs.PartsOfStreams.{block_has_view}
-use Rattle.ttx_subpages.proofs.EndedBlocks.{IsEnd, AtPlace, AtPlaces, IsOpen, IsShut, block_is_shown}
+use Rattle.ttx_subpages.proofs.EndedBlocks.{AtPlace, AtPlaces, IsOpen, IsShut, block_is_shown}
 
 -- a header that is not matched has another number
 no_number : (mag number : ℕ) (pkt : Packet) → heads_matched (AnySub mag number) pkt ≡ false → heads_number (AnySub mag number) pkt ≡ false
@@ -58,7 +59,7 @@ another_heads page Info h = absurd (both_ways false refl h)
 another_heads page Other h = absurd (both_ways false refl h)
 
 -- a row or an X/27/0 ends nothing
-row_no_end : (own mag r : ℕ) (pkt : Packet) → carries own (TheRow r) pkt ≡ true → IsEnd mag pkt → ⊥
+row_no_end : (own mag r : ℕ) (pkt : Packet) → carries own (TheRow r) pkt ≡ true → MayEnd mag pkt → ⊥
 row_no_end own mag r (Row m n text) c e = elim e as (λ _. ⊥) [ inl h ↦ both_ways _ refl h | inr h ↦ both_ways _ refl h ]
 row_no_end own mag r (Header id control text) c e = both_ways _ refl c
 row_no_end own mag r (Links m content) c e = both_ways _ refl c
@@ -67,7 +68,7 @@ row_no_end own mag r Unreadable c e = both_ways _ refl c
 row_no_end own mag r Info c e = both_ways _ refl c
 row_no_end own mag r Other c e = both_ways _ refl c
 
-links_no_end : (own mag : ℕ) (pkt : Packet) → carries own TheLinks pkt ≡ true → IsEnd mag pkt → ⊥
+links_no_end : (own mag : ℕ) (pkt : Packet) → carries own TheLinks pkt ≡ true → MayEnd mag pkt → ⊥
 links_no_end own mag (Links m content) c e = elim e as (λ _. ⊥) [ inl h ↦ both_ways _ refl h | inr h ↦ both_ways _ refl h ]
 links_no_end own mag (Header id control text) c e = both_ways _ refl c
 links_no_end own mag (Row m n text) c e = both_ways _ refl c
@@ -77,9 +78,9 @@ links_no_end own mag Info c e = both_ways _ refl c
 links_no_end own mag Other c e = both_ways _ refl c
 
 -- what comes under the header at slot h comes before each later header that may end the page
-module _ (s : Stream) (page : Id) (lines : ℕ) (h z : ℤ) (after : h <ℤ z) (end : IsEnd page.mag (packet_of (s z))) where
+module _ (s : Stream) (page : Id) (lines : ℕ) (h z : ℤ) (after : h <ℤ z) (end : MayEnd page.mag (packet_of (s z))) where
   not_past : (j : ℤ) → IsLatestHeader s page.mag h j → ((i : ℤ) → h <ℤ i → i <ℤ j → ends_serial page.mag (packet_of (s i)) ≡ false) →
-      (IsEnd page.mag (packet_of (s j)) → ⊥) → j <ℤ z
+      (MayEnd page.mag (packet_of (s j)) → ⊥) → j <ℤ z
   not_past j latest on none = elim (cases_ltz j z) as (λ _. j <ℤ z) [
     | inl lt ↦ lt
     | inr ge ↦ elim (cases_ltz z j) as (λ _. j <ℤ z) [
@@ -87,7 +88,7 @@ module _ (s : Stream) (page : Id) (lines : ℕ) (h z : ℤ) (after : h <ℤ z) (
         | inl head ↦ absurd (both_ways _ (latest.none_between z after lt) head)
         | inr serial ↦ absurd (both_ways _ (on z after lt) serial)
       ]
-      | inr le ↦ let e : z ≡ j = omega (arith, ints) in absurd (none (subst (λ x. IsEnd page.mag (packet_of (s x))) e end))
+      | inr le ↦ let e : z ≡ j = omega (arith, ints) in absurd (none (subst (λ x. MayEnd page.mag (packet_of (s x))) e end))
     ]
   ]
 
@@ -114,12 +115,16 @@ module _ (runs : RunsAreSeen) (kind : KindIsKept) (header : HeaderIsKept) (s : S
   abbrev sel : Selection
   sel = AnySub mag number
 
-  -- each item has come below the slot t places on
+  -- each item has come below the slot t places on, and a header that may end the page by then
   abbrev Done : ℕ → Type 0
-  Done t = (item : Item) (need : needed p item ≡ true) → (whole item need).slot <ℤ (h +ℤ pos t)
+  Done t = ((item : Item) (need : needed p item ≡ true) → (whole item need).slot <ℤ (h +ℤ pos t))
+      × ((z : ℤ) × (h <ℤ z) × (z ≤ℤ (h +ℤ pos t)) × MayEnd mag (packet_of (s z)))
 
   more : (t : ℕ) → Done t → Done (suc t)
-  more t done item need = let lt = done item need in omega (arith, ints)
+  more t done = (
+    λ item need. let lt = done.0 item need in omega (arith, ints),
+    (done.1.0, done.1.1, (let le = done.1.2 in omega (arith, ints)), done.1.3),
+  )
 
   fits : matches sel p.id ≡ true
   fits = and_from (mag == p.id.mag) (number == p.id.page) (eq-eqb mag p.id.mag (sym sub.mag_is)) (eq-eqb number p.id.page (sym sub.number_is))
@@ -138,12 +143,14 @@ module _ (runs : RunsAreSeen) (kind : KindIsKept) (header : HeaderIsKept) (s : S
         let before : z <ℤ (h +ℤ pos (suc (length rest))) = omega (arith, ints) in
         record {
           quiet = t.number sel ∙ no_number mag number (packet_of (s z)) (none z after before);
-          done = λ end item need.
-              let c = whole item need in
-              comes_before s p.id lines h z after
-              (subst (λ m. IsEnd m (packet_of (s z))) (sym sub.mag_is) (elim end as (λ _. IsEnd mag (packet_of (s z)))
-              [ inl e ↦ inl (sym (t.heads mag) ∙ e) | inr e ↦ inr (sym (t.ends mag) ∙ e) ]))
-              item c.slot c.owned c.sure;
+          done = λ end.
+              let own : MayEnd mag (packet_of (s z)) = elim end as (λ _. MayEnd mag (packet_of (s z)))
+              [ inl e ↦ inl (sym (t.heads mag) ∙ e) | inr e ↦ inr (sym (t.ends mag) ∙ e) ] in (
+                λ item need.
+                    let c = whole item need in
+                    comes_before s p.id lines h z after (subst (λ m. MayEnd m (packet_of (s z))) (sym sub.mag_is) own) item c.slot c.owned c.sure,
+                (z, after, omega (arith, ints), own),
+              );
           here = λ e.
               t.heads mag ∙ subst (λ m. heads m (packet_of (s z)) ≡ true) sub.mag_is
               (subst (λ x. heads p.id.mag (packet_of (s x)) ≡ true) (at ∙ ap (λ n. h +ℤ pos n) (sym e))
@@ -156,7 +163,7 @@ module _ (runs : RunsAreSeen) (kind : KindIsKept) (header : HeaderIsKept) (s : S
         let e : 1 + k ≡ suc (length (take k rest)) = omega (arith, length-take-le k rest le) in
         block_has_view runs s p sel lines h (sends.unchanged.are_pages p sub) few fits sends.unchanged.slots sends.unchanged.clean (sends.unchanged.items p sub) head (slot ∷ take k rest)
         (λ j after before. none j after (omega (arith, ints)))
-        (λ item need. (whole item need, subst (λ n. (whole item need).slot <ℤ (h +ℤ pos n)) e (done item need)))
+        (λ item need. (whole item need, subst (λ n. (whole item need).slot <ℤ (h +ℤ pos n)) e (done.0 item need)))
         (received_before s p.id 1 h (suc k) (slot ∷ rest) (omega arith) permitted) base x is run
 
     pub block_shown : heads_matched sel (packet_of (s h)) ≡ true → (d new : LateMemory) → IsMemory d.gathered →

@@ -1,5 +1,5 @@
 -- What is shown while a block comes, and after it: what was shown before, until the page ends; then the page.
-use Rattle.std.proofs.Common.{◌≡◌, ◌⊎◌, ℕ, zero, suc, ◌+◌, ◌≤◌, true, false, not, ◌&&◌, ◌||◌, List, [], ◌∷◌, length, take, refl, sym, ap, ◌∙◌, subst}
+use Rattle.std.proofs.Common.{◌≡◌, ◌⊎◌, ℕ, zero, suc, ◌+◌, ◌<◌, ◌≤◌, true, false, not, ◌&&◌, ◌||◌, List, [], ◌∷◌, length, take, refl, sym, ap, ◌∙◌, subst}
 use Rattle.std.proofs.Common.{inl, inr, arith}
 use Rattle.std.proofs.lemmas.Bool.{and_from, and_left, and_right, not_from_false, both_ways, cases_Bool, cases_lt}
 use Rattle.ttx_page.specs.Packets.{Packet, packet_of}
@@ -15,18 +15,15 @@ use Rattle.ttx_late.proofs.StoringSteps.{after_matched}
 use Rattle.ttx_late.proofs.GatheredMemories.{matched_number, step_storing, kept_base}
 use Rattle.ttx_certify.specs.Seen.{HasView}
 use Rattle.ttx_late.specs.LateReceivers.{LateMemory, heads_number, must_show}
+use Rattle.ttx_subpages.specs.SeenInTurn.{MayEnd}
 use Rattle.ttx_subpages.specs.EndedReceivers.{ends_page, EndedStep, EndedRun}
 use Rattle.ttx_subpages.proofs.OneClass.{any_step, former_memory}
-
--- a header that ends a page in its magazine, or in serial transmission
-abbrev pub IsEnd : ℕ → Packet → Type 0
-IsEnd mag pkt = (heads mag pkt ≡ true) ⊎ (ends_serial mag pkt ≡ true)
 
 -- A slot t places after the page's header: no header of the number; where it may end the page, all has come; and the header that follows stands
 -- there if anywhere.
 pub record AtPlace (sel : Selection) (Done : ℕ → Type 0) (follower t : ℕ) (pkt : Packet) : Type 0 where
   pub quiet : heads_number sel pkt ≡ false
-  pub done : IsEnd (selected_mag sel) pkt → Done t
+  pub done : MayEnd (selected_mag sel) pkt → Done t
   pub here : t ≡ follower → heads (selected_mag sel) pkt ≡ true
 
 abbrev pub AtPlaces : Selection → (ℕ → Type 0) → ℕ → ℕ → List (List ℕ) → Type 0
@@ -49,7 +46,9 @@ pub record IsOpen (follower : ℕ) (Kept : Type 0) (old : Memory) (t : ℕ) (d :
 pub record IsShut (Done : ℕ → Type 0) (p : Page) (t : ℕ) (d : LateMemory) : Type 0 where
   pub idle : d.gathered.storing ≡ false
   pub view : HasView p d.shown
-  pub done : Done t
+  pub place : ℕ
+  pub earlier : place < t
+  pub done : Done place
 
 module _ (class : Class) (lines : ℕ) (sel : Selection) where
   -- a step at a slot that is no header of the number is one from what was gathered
@@ -62,10 +61,10 @@ module _ (class : Class) (lines : ℕ) (sel : Selection) where
 
   -- where storing ends the slot is a header that ends a page
   ends : (m new : Memory) (slot : List ℕ) → Step class lines sel m slot new → m.storing ≡ true → new.storing ≡ false →
-      IsEnd (selected_mag sel) (packet_of slot)
-  ends m new slot step st idle = elim (cases_Bool (heads (selected_mag sel) (packet_of slot))) as (λ _. IsEnd (selected_mag sel) (packet_of slot)) [
+      MayEnd (selected_mag sel) (packet_of slot)
+  ends m new slot step st idle = elim (cases_Bool (heads (selected_mag sel) (packet_of slot))) as (λ _. MayEnd (selected_mag sel) (packet_of slot)) [
     | inl head ↦ inl head
-    | inr none ↦ elim (cases_Bool (ends_serial (selected_mag sel) (packet_of slot))) as (λ _. IsEnd (selected_mag sel) (packet_of slot)) [
+    | inr none ↦ elim (cases_Bool (ends_serial (selected_mag sel) (packet_of slot))) as (λ _. MayEnd (selected_mag sel) (packet_of slot)) [
       | inl end ↦ inr end
       | inr on ↦ absurd (both_ways _ (subst (λ x. x.storing ≡ false) step.is idle)
           (after_ready class lines sel step.choice (older m) (packet_of slot) none on st).0)
@@ -137,7 +136,9 @@ module _ (class : Class) (lines : ℕ) (sel : Selection) where
       goes_on t slot rest d mid at views step (inr shut) = inr (record {
         idle = stays_idle t slot d mid at (taken d mid slot at.quiet step) shut.idle;
         view = subst (HasView p) (sym (step.waits (and_left d.gathered.storing _ shut.idle))) shut.view;
-        done = more t shut.done;
+        place = shut.place;
+        earlier = let lt = shut.earlier in omega arith;
+        done = shut.done;
       })
       goes_on t slot rest d mid at views step (inl yet) =
           let step' = taken d mid slot at.quiet step in
@@ -152,7 +153,13 @@ module _ (class : Class) (lines : ℕ) (sel : Selection) where
             ]
             | inr idle ↦
                 let done = at.done (ends d.gathered mid.gathered slot step' yet.storing idle) in
-                inr (record { idle = idle; view = shows t slot rest d mid at views step yet.storing idle done; done = more t done })
+                inr (record {
+                  idle = idle;
+                  view = shows t slot rest d mid at views step yet.storing idle done;
+                  place = t;
+                  earlier = omega arith;
+                  done = done;
+                })
           ]
 
       pub ended : (rest : List (List ℕ)) (t : ℕ) (d new : LateMemory) → AtPlaces sel Done follower t rest → Views t d rest → State t d →

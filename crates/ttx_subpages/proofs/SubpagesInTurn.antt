@@ -26,7 +26,7 @@ use Rattle.ttx_late.specs.LateReceivers.{LateMemory}
 use Rattle.ttx_receiver.specs.Laws.{StepsKeepMemories}
 use Rattle.ttx_subpages.specs.EndedReceivers.{EndedRun}
 use Rattle.ttx_subpages.specs.WholeBlocks.{IsSubpage, IsWholeBefore, SendsInTurn}
-use Rattle.ttx_subpages.specs.SeenInTurn.{Tunes, ShowsOne, ShowsBetween, IsLatestWhole}
+use Rattle.ttx_subpages.specs.SeenInTurn.{MayHaveEnded, IsLatestEnded, Tunes, ShowsOne, ShowsBetween, IsLatestWhole}
 use Rattle.ttx_subpages.specs.Laws.{HasHeaders, BlocksAreSeen}
 use Rattle.ttx_late.proofs.FollowedReceptions.{received_before}
 use Rattle.ttx_late.proofs.GatheredMemories.{number_heads, matched_number}
@@ -187,6 +187,7 @@ module _ (runs : RunsAreSeen) (kind : KindIsKept) (header : HeaderIsKept) (keep 
       pub idle : d.gathered.storing ≡ false
       pub view : HasView p d.shown
       pub whole : IsWholeBefore s p lines h (h +ℤ pos (length received))
+      pub ended : MayHaveEnded s mag h (h +ℤ pos (length received))
 
     block : StillOpen ⊎ HasShut
     block =
@@ -207,7 +208,12 @@ module _ (runs : RunsAreSeen) (kind : KindIsKept) (header : HeaderIsKept) (keep 
           | inr shut ↦ inr (record {
             idle = shut.idle;
             view = shut.view;
-            whole = λ item need. (w item need, (let done = shut.done item need in omega (arith, ints)));
+            whole = λ item need. (w item need, (let done = shut.done.0 item need in let lt = shut.earlier in omega (arith, ints)));
+            ended =
+                let z = shut.done.1 in
+                let le = z.2 in
+                let lt = shut.earlier in
+                (z.0, z.1, omega (arith, ints), z.3);
           })
         ]
 
@@ -217,7 +223,8 @@ module _ (runs : RunsAreSeen) (kind : KindIsKept) (header : HeaderIsKept) (keep 
 
   -- what is shown is of the block under this header: of whichever page of the list it is
   abbrev pub ShowsBlock : ℤ → ℤ → LateMemory → Type 0
-  ShowsBlock c now d = (q : Page) → IsSubpage pages mag number q → Heads q c → HasView q d.shown × IsWholeBefore s q lines c now
+  ShowsBlock c now d =
+      (q : Page) → IsSubpage pages mag number q → Heads q c → HasView q d.shown × IsWholeBefore s q lines c now × MayHaveEnded s mag c now
 
   pub record ShowsFrom (h now : ℤ) (d : LateMemory) : Type 0 where
     pub place : ℤ
@@ -297,7 +304,11 @@ module _ (runs : RunsAreSeen) (kind : KindIsKept) (header : HeaderIsKept) (keep 
           not_before = l.not_before;
           before = below;
           matched = l.head;
-          shows = λ q sub head. ((shut q sub head).view, subst (IsWholeBefore s q lines c) e (shut q sub head).whole);
+          shows = λ q sub head. (
+            (shut q sub head).view,
+            subst (IsWholeBefore s q lines c) e (shut q sub head).whole,
+            subst (MayHaveEnded s mag c) e (shut q sub head).ended,
+          );
         };
       }
 
@@ -327,9 +338,9 @@ module _ (runs : RunsAreSeen) (kind : KindIsKept) (header : HeaderIsKept) (keep 
           not_before = l.not_before;
           before = below;
           matched = l.head;
-          shows = λ q sub' head'. elim (state q sub' head') as (λ _. HasView q d.shown × IsWholeBefore s q lines c now) [
+          shows = λ q sub' head'. elim (state q sub' head') as (λ _. HasView q d.shown × IsWholeBefore s q lines c now × MayHaveEnded s mag c now) [
             | inl yet ↦ absurd (both_ways _ shut.idle yet.storing)
-            | inr s' ↦ (s'.view, subst (IsWholeBefore s q lines c) e s'.whole)
+            | inr s' ↦ (s'.view, subst (IsWholeBefore s q lines c) e s'.whole, subst (MayHaveEnded s mag c) e s'.ended)
           ];
         }
         | inl yet ↦
@@ -355,6 +366,7 @@ module _ (runs : RunsAreSeen) (kind : KindIsKept) (header : HeaderIsKept) (keep 
                   let b = r.from.shows q sub' head' in (
                     subst (HasView q) (sym same) b.0,
                     whole_later q r.from.place (tau +ℤ pos (length (take l.index received))) now (omega (arith, ints)) b.1,
+                    (b.2.0, b.2.1, (let lt = b.2.2 in omega (arith, ints)), b.2.3),
                   );
             }
       ]
@@ -393,6 +405,24 @@ module _ (runs : RunsAreSeen) (kind : KindIsKept) (header : HeaderIsKept) (keep 
           | inl later ↦
               let own = (sends.sends r.place).own r.matched in
               absurd (l.none_later own.0 own.1 r.place later r.before own.2 (r.shows own.0 own.1 own.2).1)
+          | inr le ↦
+              let not_before = r.not_before in
+              let same : h ≡ r.place = omega (arith, ints) in
+              (r.shows p sub (subst (Heads p) same l.header)).0
+        ]
+
+    kept : (tau : ℤ) (former d : LateMemory) (received : List (List ℕ)) → Tuning tau former received d →
+        (h : ℤ) → tau ≤ℤ h → IsLatestEnded s pages mag number p h (tau +ℤ pos (length received)) → HasView p d.shown
+    kept tau former d received t h low l =
+        let now = tau +ℤ pos (length received) in
+        let near = one_follower p.id h (follows p sub h l.header) l.followed in
+        let ended = l.ended in
+        let r = shows_from tau former received d t p sub h l.header low (omega (arith, ints)) in
+        elim (cases_ltz h r.place) as (λ _. HasView p d.shown) [
+          | inl later ↦
+              let own = sends.sends r.place in
+              let q = own.own r.matched in
+              absurd (l.none_later q.0 q.1 r.place later r.before q.2 (r.shows q.0 q.1 q.2).2)
           | inr le ↦
               let not_before = r.not_before in
               let same : h ≡ r.place = omega (arith, ints) in
@@ -467,4 +497,5 @@ blocks_are_seen runs kind header keep s pages class lines most gap mag number fe
   one = one runs kind header keep s pages class lines gap mag number few sends p sub most has;
   each = each runs kind header keep s pages class lines gap mag number few sends p sub most has;
   stays = stays runs kind header keep s pages class lines gap mag number few sends p sub;
+  kept = kept runs kind header keep s pages class lines gap mag number few sends p sub;
 }
