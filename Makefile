@@ -6,7 +6,7 @@
 # make dist       dist/ttx-VERSION-x86_64-linux.tar.gz: program, man page, completions and documents, and its checksum
 # make bench      times the program beside plain tools; writes nothing into the repository
 # make edits      tries each mutant of the must-fail edits by itself, and records the results in tools/edits.tsv
-# make compare    compares the verdicts of certify --late with what libzvbi's decoder shows, if it is installed
+# make compare    compares what certify --late says with what libzvbi's decoder shows, where there is one, also under damaged receptions
 
 BUILT = crates/ttx/out/ttx
 VERSION = 1.0.0
@@ -56,6 +56,7 @@ edits:
 
 compare: ttx
 	python3 bench/late.py ./ttx
+	python3 bench/rows.py ./ttx
 
 helpers: ttx
 	python3 tools/helpers.py ./ttx out/helpers

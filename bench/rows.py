@@ -20,7 +20,7 @@ from collections import Counter
 from dataclasses import dataclass
 from pathlib import Path
 
-from late import WORDS, build_decoder, followers, make_pages, shown, write_service
+from late import WORDS, build_decoder, make_pages, shown, write_service
 
 EMPTY = bytes(42)
 NEVER = 10**9
